@@ -1,0 +1,2 @@
+//! What expressions and formulas mean on intervals: definitions, and their laws.
+#![tactic(auto)]
