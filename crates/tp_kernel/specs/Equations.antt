@@ -1,6 +1,7 @@
 -- The plain tree of each kind of expression and of formula.
 use Rattle.std.proofs.Common.{◌≡◌, ℕ, ℤ, Bool, List, map, ap, sym, ◌∙◌, Global}
 use Rattle.std.specs.declared.rc.Rc.{Rc}
+use Rattle.std.proofs.lemmas.Simd.{map-map}
 use Rattle.tp_value.specs.Read.{tree}
 use Rattle.tp_value.specs.declared.value.Value.{Value}
 use Rattle.tp_value.specs.declared.path.VarId.{VarId}
@@ -69,7 +70,7 @@ expr_call p es = ap expr_tree (sym (expr.rolls-Call p es)) ∙ (fold-roll-Expr E
 
 -- several formulas
 pub formula_trees_is : (ws : Formulas) → formula_trees ws ≡ formulas_of (map (λ w. formula_tree w.value) ws.items.items)
-formula_trees_is ws = fold_out-Formulas FormulaTree FormulaTrees formula_step formulas_step ws
+formula_trees_is ws = fold_out-Formulas FormulaTree FormulaTrees formula_step formulas_step ws ∙ ap formulas_of (map-map (λ w. w.value) _ ws.items.items)
 
 pub formula_true : formula_tree formula.True ≡ trivial
 formula_true = ap formula_tree (sym formula.rolls-True) ∙ fold-roll-Formula FormulaTree FormulaTrees formula_step formulas_step Formula-F.True
