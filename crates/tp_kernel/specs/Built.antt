@@ -11,62 +11,73 @@ pub record IsStateVariable (names : List (List ℕ)) (x : VarId) : Type 0 where
   pub is : x ≡ variable name x.number
   pub changing : is_lower name ≡ false
 
--- Sums of numbers and of state variables.
-abbrev pub IsSum : List (List ℕ) → ExprTree → Type 0
-IsSum names (numeral n) = Unit {0}
-IsSum names (global x) = IsStateVariable names x
-IsSum names (binary Plus a b) = IsSum names a × IsSum names b
-IsSum names (binary Equal a b) = ⊥
-IsSum names (binary Differs a b) = ⊥
-IsSum names (binary Less a b) = ⊥
-IsSum names (binary LessEqual a b) = ⊥
-IsSum names (binary Greater a b) = ⊥
-IsSum names (binary GreaterEqual a b) = ⊥
-IsSum names (binary Minus a b) = ⊥
-IsSum names (binary Times a b) = ⊥
-IsSum names (binary Div a b) = ⊥
-IsSum names (binary Mod a b) = ⊥
-IsSum names (boolean b) = ⊥
-IsSum names (known t) = ⊥
-IsSum names (bound i) = ⊥
-IsSum names (listing es) = ⊥
-IsSum names (size e) = ⊥
-IsSum names (index e i) = ⊥
-IsSum names (minus e) = ⊥
-IsSum names (negation e) = ⊥
-IsSum names (both es) = ⊥
-IsSum names (either a b) = ⊥
-IsSum names (choice b x y) = ⊥
-IsSum names (invoke p es) = ⊥
+-- Sums of numbers and of variables that meet P.
+abbrev pub IsSum : (VarId → Type 0) → ExprTree → Type 0
+IsSum P (numeral n) = Unit {0}
+IsSum P (global x) = P x
+IsSum P (binary Plus a b) = IsSum P a × IsSum P b
+IsSum P (binary Equal a b) = ⊥
+IsSum P (binary Differs a b) = ⊥
+IsSum P (binary Less a b) = ⊥
+IsSum P (binary LessEqual a b) = ⊥
+IsSum P (binary Greater a b) = ⊥
+IsSum P (binary GreaterEqual a b) = ⊥
+IsSum P (binary Minus a b) = ⊥
+IsSum P (binary Times a b) = ⊥
+IsSum P (binary Div a b) = ⊥
+IsSum P (binary Mod a b) = ⊥
+IsSum P (boolean b) = ⊥
+IsSum P (known t) = ⊥
+IsSum P (bound i) = ⊥
+IsSum P (listing es) = ⊥
+IsSum P (size e) = ⊥
+IsSum P (index e i) = ⊥
+IsSum P (minus e) = ⊥
+IsSum P (negation e) = ⊥
+IsSum P (both es) = ⊥
+IsSum P (either a b) = ⊥
+IsSum P (choice b x y) = ⊥
+IsSum P (invoke p es) = ⊥
 
 abbrev mutual
-  -- Equations of sums, with `next` or without, `empty`, `more`, `next` and conjunctions, over the variables with these names.
-  pub IsBuilt : List (List ℕ) → FormulaTree → Type 0
-  IsBuilt names (equation l r) = IsSum names l × IsSum names r
-  IsBuilt names (next_equation n t e) = (1 ≤ n) × IsSum names t × IsSum names e
-  IsBuilt names empty = Unit {0}
-  IsBuilt names more = Unit {0}
-  IsBuilt names (next w) = IsBuilt names w
-  IsBuilt names (conjunction ws) = AreBuilt names ws
-  IsBuilt names trivial = ⊥
-  IsBuilt names (test e) = ⊥
-  IsBuilt names (weak_next w) = ⊥
-  IsBuilt names (if_more w) = ⊥
-  IsBuilt names (if_empty w) = ⊥
-  IsBuilt names (always w) = ⊥
-  IsBuilt names (branch b w v) = ⊥
-  IsBuilt names (len e) = ⊥
-  IsBuilt names (assign t e) = ⊥
-  IsBuilt names (chop w v) = ⊥
-  IsBuilt names (while b w) = ⊥
-  IsBuilt names (for_from name from to body) = ⊥
-  IsBuilt names (forall_from name from to body) = ⊥
-  IsBuilt names (project w v) = ⊥
-  IsBuilt names (exists name lasting body) = ⊥
-  IsBuilt names (call p es) = ⊥
-  IsBuilt names (input e port) = ⊥
-  IsBuilt names (display es) = ⊥
+  -- Equations of such sums, with `next` or without, `empty`, `more`, `next` and conjunctions.
+  pub IsBuiltOver : (VarId → Type 0) → FormulaTree → Type 0
+  IsBuiltOver P (equation l r) = IsSum P l × IsSum P r
+  IsBuiltOver P (next_equation n t e) = (1 ≤ n) × IsSum P t × IsSum P e
+  IsBuiltOver P empty = Unit {0}
+  IsBuiltOver P more = Unit {0}
+  IsBuiltOver P (next w) = IsBuiltOver P w
+  IsBuiltOver P (conjunction ws) = AreBuiltOver P ws
+  IsBuiltOver P trivial = ⊥
+  IsBuiltOver P (test e) = ⊥
+  IsBuiltOver P (weak_next w) = ⊥
+  IsBuiltOver P (if_more w) = ⊥
+  IsBuiltOver P (if_empty w) = ⊥
+  IsBuiltOver P (always w) = ⊥
+  IsBuiltOver P (branch b w v) = ⊥
+  IsBuiltOver P (len e) = ⊥
+  IsBuiltOver P (assign t e) = ⊥
+  IsBuiltOver P (chop w v) = ⊥
+  IsBuiltOver P (while b w) = ⊥
+  IsBuiltOver P (for_from name from to body) = ⊥
+  IsBuiltOver P (forall_from name from to body) = ⊥
+  IsBuiltOver P (project w v) = ⊥
+  IsBuiltOver P (exists name lasting body) = ⊥
+  IsBuiltOver P (call p es) = ⊥
+  IsBuiltOver P (input e port) = ⊥
+  IsBuiltOver P (display es) = ⊥
 
-  pub AreBuilt : List (List ℕ) → FormulaTrees → Type 0
-  AreBuilt names no_formula = Unit {0}
-  AreBuilt names (formula_then w ws) = IsBuilt names w × AreBuilt names ws
+  pub AreBuiltOver : (VarId → Type 0) → FormulaTrees → Type 0
+  AreBuiltOver P no_formula = Unit {0}
+  AreBuiltOver P (formula_then w ws) = IsBuiltOver P w × AreBuiltOver P ws
+
+-- a formula of the kinds that run today, whatever its variables
+abbrev pub HasSumKinds : ExprTree → Type 0
+HasSumKinds = IsSum (λ x. Unit {0})
+
+abbrev pub HasBuiltKinds : FormulaTree → Type 0
+HasBuiltKinds = IsBuiltOver (λ x. Unit {0})
+
+-- a formula that runs today, over the state variables with these names
+abbrev pub IsBuilt : List (List ℕ) → FormulaTree → Type 0
+IsBuilt names = IsBuiltOver (IsStateVariable names)
