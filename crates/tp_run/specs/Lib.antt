@@ -1,2 +1,3 @@
 pub mod Residual
 pub mod Rules
+pub mod Answers

@@ -11,6 +11,10 @@ pub data Duty : Type 0 where
   Do : FormulaTree → Duty
   Later : FormulaTree → Duty
 
+abbrev pub formula_in : Duty → FormulaTree
+formula_in (Do w) = w
+formula_in (Later w) = w
+
 -- what is known of the state: a number for each variable, by its own number, or none
 abbrev pub Known : Type 0
 Known = List (Option ℤ)

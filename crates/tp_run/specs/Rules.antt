@@ -138,16 +138,16 @@ both_wait None (Some z) x y = waits (cell_of x) (Some (cell_of y))
 both_wait None None x y = waits (cell_of y) (Some (cell_of x))
 both_wait (Some z) right x y = waits (cell_of y) (Some (cell_of x))
 
--- An equation: a passed limit comes first, the right side's before the left's; then the right side's number goes to the
--- left, then the left side's to the right.
-abbrev pub equate : Known → ExprTree → ExprTree → Found → Found → Outcome
+-- An equation, of whose sides each is a variable or none: a passed limit comes first, the right side's before the left's;
+-- then the right side's number goes to the left, then the left side's to the right.
+abbrev pub equate : Known → (left right : Option VarId) → Found → Found → Outcome
 equate k l r left over = passes limit.Number
 equate k l r over (value n) = passes limit.Number
 equate k l r over (waits_for y) = passes limit.Number
-equate k l r (value m) (value n) = meets (variable_in l) (value m) n k
-equate k l r (waits_for x) (value n) = meets (variable_in l) (waits_for x) n k
-equate k l r (value m) (waits_for y) = meets (variable_in r) (waits_for y) m k
-equate k l r (waits_for x) (waits_for y) = both_wait (variable_in l) (variable_in r) x y
+equate k l r (value m) (value n) = meets l (value m) n k
+equate k l r (waits_for x) (value n) = meets l (waits_for x) n k
+equate k l r (value m) (waits_for y) = meets r (waits_for y) m k
+equate k l r (waits_for x) (waits_for y) = both_wait l r x y
 equate k l r left unbuilt = not_built
 equate k l r unbuilt right = not_built
 
@@ -177,7 +177,7 @@ each_do (formula_then w ws) = Do w ∷ each_do ws
 
 -- The kinds that no program has today are `not_built`.
 abbrev pub reduction : (ends goes : Bool) → Known → FormulaTree → Outcome
-reduction ends goes k (equation l r) = equate k l r (found_in k l) (found_in k r)
+reduction ends goes k (equation l r) = equate k (variable_in l) (variable_in r) (found_in k l) (found_in k r)
 reduction ends goes k (next_equation n t e) = carried ends n t (found_in k e)
 reduction ends goes k empty = ending goes []
 reduction ends goes k more = going ends []

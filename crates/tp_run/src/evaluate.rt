@@ -1,9 +1,9 @@
 // Sums, as far as the state is known.
 ghost use Rattle.std.specs.Prelude.{◌≡◌};
 ghost use Rattle.tp_kernel.specs.Read.{expr_tree};
-ghost use Rattle.tp_kernel.specs.Built.{IsSum};
+ghost use Rattle.tp_kernel.specs.Built.{HasSumKinds};
 ghost use Rattle.tp_run.specs.Residual.{kept};
-ghost use Rattle.tp_run.specs.Rules.{found_in, sum_of};
+ghost use Rattle.tp_run.specs.Rules.{found_in, sum_of, within};
 ghost use Rattle.tp_run.specs.Answers.{found_of};
 
 use tp_kernel::{Expr, Op2};
@@ -27,8 +27,8 @@ pub fn kept_number(known: &[Option<Number>], x: VarId) -> Option<Number>
     }
 }
 
-fn within(n: Number) -> Found
-    ensures { found_of result ≡ Rattle.tp_run.specs.Rules.within n }
+fn within_limit(n: Number) -> Found
+    ensures { found_of result ≡ within n }
 {
     if is_number(n) {
         Found::Value(n)
@@ -51,12 +51,12 @@ fn add(a: Found, b: Found) -> Found
 }
 
 /// What a sum is, as far as the state is known.
-pub fn evaluate(expr: &Expr, known: &[Option<Number>], names: &Globals) -> Found
-    requires { IsSum names.now (expr_tree expr.now) }
+pub fn evaluate(expr: &Expr, known: &[Option<Number>]) -> Found
+    requires { HasSumKinds (expr_tree expr.now) }
     ensures { found_of result ≡ found_in known.now (expr_tree expr.now) }
 {
     match expr {
-        Expr::Number(n) => within(*n),
+        Expr::Number(n) => within_limit(*n),
         Expr::Global(x) => match kept_number(known, *x) {
             Some(n) => Found::Value(n),
             None => Found::WaitsFor(*x),

@@ -1,12 +1,9 @@
 //! The run of a program over its states.
 #![tactic(auto)]
 
-mod closure;
 mod decide;
 mod evaluate;
-mod run;
 mod scene;
 mod turn;
 
-pub use run::Run;
 pub use turn::{Cell, Clash, Picture, Turn};
