@@ -1,15 +1,17 @@
 -- The formulas that the interpreter runs today.
-use Rattle.std.specs.Prelude.{◌≡◌, ◌≤◌, ℕ, Bool, false, List, Some, slice_get}
+use Rattle.std.specs.Prelude.{◌≤◌, ◌<◌, ℕ, not, List, [], ◌∷◌, length, IsTrue}
 use Rattle.tp_value.specs.declared.path.VarId.{VarId}
-use Rattle.tp_value.specs.Globals.{variable, is_lower}
+use Rattle.tp_value.specs.Globals.{is_lower}
 use Rattle.tp_meaning.specs.Syntax.{Operator, Equal, Differs, Less, LessEqual, Greater, GreaterEqual, Plus, Minus, Times, Div, Mod, ExprTree, numeral, boolean, known, bound, global, listing, size, index, minus, negation, both, either, binary, choice, invoke, FormulaTree, FormulaTrees, no_formula, formula_then, trivial, test, equation, next_equation, empty, more, next, weak_next, if_more, if_empty, always, conjunction, branch, len, assign, chop, while, for_from, forall_from, project, exists, call, input, display}
 
--- one of the variables with these names, and one that may change from state to state
-pub record IsStateVariable (names : List (List ℕ)) (x : VarId) : Type 0 where
-  pub name : List ℕ
-  pub listed : slice_get names x.number ≡ Some name
-  pub is : x ≡ variable name x.number
-  pub changing : is_lower name ≡ false
+-- one of so many variables, and one that may change from state to state
+abbrev pub IsStateVariable : ℕ → VarId → Type 0
+IsStateVariable count x = (x.number < count) × IsTrue (not x.lasting)
+
+-- no name is one of a static variable
+abbrev pub NoneStatic : List (List ℕ) → Type 0
+NoneStatic [] = Unit {0}
+NoneStatic (name ∷ names) = IsTrue (not (is_lower name)) × NoneStatic names
 
 -- Sums of numbers and of variables that meet P.
 abbrev pub IsSum : (VarId → Type 0) → ExprTree → Type 0
@@ -78,6 +80,6 @@ HasSumKinds = IsSum (λ x. Unit {0})
 abbrev pub HasBuiltKinds : FormulaTree → Type 0
 HasBuiltKinds = IsBuiltOver (λ x. Unit {0})
 
--- a formula that runs today, over the state variables with these names
+-- a formula that runs today over the variables with these names, of which none is static
 abbrev pub IsBuilt : List (List ℕ) → FormulaTree → Type 0
-IsBuilt names = IsBuiltOver (IsStateVariable names)
+IsBuilt names w = NoneStatic names × IsBuiltOver (IsStateVariable (length names)) w
