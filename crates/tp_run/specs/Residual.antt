@@ -3,6 +3,7 @@ use Rattle.std.specs.Prelude.{ℤ, ℕ, zero, suc, ◌+◌, ◌≤◌, Bool, Lis
 use Rattle.tp_value.specs.declared.path.VarId.{VarId}
 use Rattle.tp_meaning.specs.Syntax.{FormulaTree}
 use Rattle.tp_kernel.specs.Read.{formula_tree}
+use Rattle.tp_run.specs.declared.scene.Scene.{Scene}
 use Rattle.tp_run.specs.declared.scene.Item.{Item}
 use Rattle.tp_run.specs.declared.scene.Item.TheVariants as item
 
@@ -44,3 +45,7 @@ duty_of (item.Later w) = Later (formula_tree w.value)
 
 abbrev pub duties_of : List Item → List Duty
 duties_of items = map duty_of items
+
+-- what a scene is: its tried items in order, and those still to be tried, the next one last
+abbrev pub residual_of : Scene → Residual
+residual_of s = record { ends = s.ends; goes = s.goes; duties = duties_of s.done.items ++ duties_of (reverse s.todo.items); known = s.known.items }

@@ -1,6 +1,7 @@
 //! The run of a program over its states.
 #![tactic(auto)]
 
+mod closure;
 mod decide;
 mod evaluate;
 mod scene;
