@@ -1,3 +1,4 @@
 mod DutyLemmas
 mod SceneLemmas
 mod Steps
+mod PassLemmas

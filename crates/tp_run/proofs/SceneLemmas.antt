@@ -56,7 +56,7 @@ finds_idle s t decision d w idle =
     let same : d.next ≡ w.next = (last_same d.rest t.todo.items d.next w.next (sym d.todo ∙ w.todo)).1 in
     record { shelves = w; idle = subst (λ (x : Item). IsIdle (outcome_of s.ends s.goes s.known.items (duty_of x))) same (subst IsIdle d.outcome idle) }
 
-weight-append : (xs ys : List Duty) → weight_of (xs ++ ys) ≡ weight_of xs + weight_of ys
+pub weight-append : (xs ys : List Duty) → weight_of (xs ++ ys) ≡ weight_of xs + weight_of ys
 weight-append [] ys = omega arith
 weight-append (x ∷ xs) ys = omega (arith, weight-append xs ys)
 
@@ -69,7 +69,7 @@ weight-reverse (x ∷ xs) =
 abbrev pub residual : Bool → Bool → List Duty → Known → Residual
 residual ends goes duties known = record { ends = ends; goes = goes; duties = duties; known = known }
 
-residual_same : {a b c d : Bool} {xs ys : List Duty} {k l : Known} → a ≡ b → c ≡ d → xs ≡ ys → k ≡ l → residual a c xs k ≡ residual b d ys l
+pub residual_same : {a b c d : Bool} {xs ys : List Duty} {k l : Known} → a ≡ b → c ≡ d → xs ≡ ys → k ≡ l → residual a c xs k ≡ residual b d ys l
 residual_same {a = a} {b = b} {c = c} {d = d} {xs = xs} {ys = ys} {k = k} {l = l} p q r s = ap₂ (λ e g. residual e g xs k) p q ∙ ap₂ (residual b d) r s
 
 -- the items that are left where the last one was replaced by others, the first of them last
