@@ -2,3 +2,4 @@ mod DutyLemmas
 mod SceneLemmas
 mod Steps
 mod PassLemmas
+mod SettleLemmas

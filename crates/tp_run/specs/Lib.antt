@@ -4,3 +4,5 @@ pub mod Answers
 pub mod Picks
 pub mod Weight
 pub mod Tries
+pub mod States
+pub mod Settles

@@ -5,6 +5,7 @@ mod closure;
 mod decide;
 mod evaluate;
 mod scene;
+mod settle;
 mod turn;
 
 pub use turn::{Cell, Clash, Picture, Turn};
