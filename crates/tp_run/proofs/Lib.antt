@@ -3,3 +3,4 @@ mod SceneLemmas
 mod Steps
 mod PassLemmas
 mod SettleLemmas
+mod RunLemmas

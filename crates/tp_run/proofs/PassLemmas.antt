@@ -1,20 +1,17 @@
 -- What a pass keeps from item to item, and a closure from pass to pass.
-use Rattle.std.proofs.Common.{◌≡◌, ℕ, zero, suc, ◌+◌, ◌<◌, ◌≤◌, Bool, List, [], ◌∷◌, ◌++◌, reverse, Option, None, Some, refl, ap, ap₂, sym, ◌∙◌, subst, inl, inr, arith, append_assoc}
+use Rattle.std.proofs.Common.{◌≡◌, ℕ, zero, suc, ◌+◌, ◌<◌, ◌≤◌, Bool, List, [], ◌∷◌, ◌++◌, reverse, None, Some, refl, ap, sym, ◌∙◌, subst, inl, inr, arith, append_assoc}
 use Rattle.std.proofs.lemmas.List.{append-nil}
 use Rattle.tp_value.specs.declared.path.VarId.{VarId}
 use Rattle.tp_run.specs.declared.scene.Item.{Item}
 use Rattle.tp_run.specs.declared.scene.Scene.{Scene}
 use Rattle.tp_run.specs.declared.closure.Ending.{Ending}
 use Rattle.tp_run.specs.declared.closure.Ending.TheVariants.{Rest, Clash, Limit}
-use Rattle.tp_run.specs.declared.turn.Clash as T
-use Rattle.tp_kernel.specs.declared.formula.LimitKind.{LimitKind}
 use Rattle.tp_run.specs.Residual.{Duty, formula_in, duty_of, duties_of, Residual, residual_of, Known}
-use Rattle.tp_run.specs.Rules.{becomes, outcome_of}
-use Rattle.tp_run.specs.Picks.{Reduces, Picks, MeetsClash, MeetsLimit, IsIdle, AllIdle, AtRest}
+use Rattle.tp_run.specs.Picks.{Reduces, Picks, MeetsClash, MeetsLimit, AllIdle}
 use Rattle.tp_run.specs.Weight.{size_of, weight_of}
-use Rattle.tp_run.specs.Tries.{AllBuiltOver, AllBuiltKinds, Shelves, FindsIdle, ReducesNext, CountsTry, Leads, PassEnds, PassesOnce, Closes}
+use Rattle.tp_run.specs.Tries.{AllBuiltOver, AllBuiltKinds, Shelves, CountsTry, Leads, PassEnds, Closes}
 use Rattle.tp_run.proofs.Steps.{IfBecomes, duty_lighter, duty_keeps_kinds, size_positive}
-use Rattle.tp_run.proofs.SceneLemmas.{residual, residual_same, duties-append, next_stands, weight-append}
+use Rattle.tp_run.proofs.SceneLemmas.{residual_same, duties-append, next_stands, weight-append}
 
 built-append : (P : VarId → Type 0) (xs ys : List Duty) → AllBuiltOver P xs → AllBuiltOver P ys → AllBuiltOver P (xs ++ ys)
 built-append P [] ys h g = g
@@ -41,7 +38,7 @@ reduced_lighter r s w =
     let lighter : weight_of w.duties < size_of (formula_in w.picked) = subst (IfBecomes (λ ds. weight_of ds < size_of (formula_in w.picked))) w.gives.outcome (duty_lighter r.ends r.goes r.known w.picked) in
     let old : weight_of r.duties ≡ weight_of w.before + (size_of (formula_in w.picked) + weight_of w.behind) = ap weight_of w.gives.stands ∙ weight-append w.before (w.picked ∷ w.behind) in
     let new : weight_of s.duties ≡ weight_of w.before + weight_of w.duties + weight_of w.behind =
-        ap (λ (t : Residual). weight_of t.duties) w.after ∙ weight-append (w.before ++ w.duties) w.behind ∙ ap (λ n. n + weight_of w.behind) (weight-append w.before w.duties) in
+    ap (λ (t : Residual). weight_of t.duties) w.after ∙ weight-append (w.before ++ w.duties) w.behind ∙ ap (λ n. n + weight_of w.behind) (weight-append w.before w.duties) in
     omega (arith, lighter, old, new)
 
 pub picks_built : (P : VarId → Type 0) (n : ℕ) (r s : Residual) → Picks n r s → AllBuiltOver P r.duties → AllBuiltOver P s.duties
@@ -61,8 +58,8 @@ picks_join m (suc n) r s t p q = let more : suc n + m ≡ suc (n + m) = omega ar
 pub shelved_same : (s t : Scene) → Shelves s t → residual_of t ≡ residual_of s
 shelved_same s t w =
     residual_same w.ends w.goes
-        (ap (λ xs. duties_of xs ++ duties_of (reverse t.todo.items)) w.done ∙ ap (λ ds. ds ++ duties_of (reverse t.todo.items)) (duties-append s.done.items (w.next ∷ []))
-            ∙ append_assoc (duties_of s.done.items) (duty_of w.next ∷ []) (duties_of (reverse t.todo.items)) ∙ sym (next_stands (duties_of s.done.items) s.todo.items t.todo.items w.next w.todo)) w.known
+    (ap (λ xs. duties_of xs ++ duties_of (reverse t.todo.items)) w.done ∙ ap (λ ds. ds ++ duties_of (reverse t.todo.items)) (duties-append s.done.items (w.next ∷ []))
+    ∙ append_assoc (duties_of s.done.items) (duty_of w.next ∷ []) (duties_of (reverse t.todo.items)) ∙ sym (next_stands (duties_of s.done.items) s.todo.items t.todo.items w.next w.todo)) w.known
 
 idle-append : (e g : Bool) (k : Known) (xs ys : List Duty) → AllIdle e g k xs → AllIdle e g k ys → AllIdle e g k (xs ++ ys)
 idle-append e g k [] ys h i = i
@@ -99,7 +96,7 @@ pass_goes_on a s t m k n p (inr (f, e)) =
       built = subst (λ (r : Residual). AllBuiltKinds r.duties) (sym same) p.built;
       idle = λ now. subst (λ (xs : List Item). AllIdle t.ends t.goes t.known.items (duties_of xs)) (sym w.done)
           (idle_same (duties_of (s.done.items ++ w.next ∷ [])) (sym w.ends) (sym w.goes) (sym w.known) (subst (AllIdle s.ends s.goes s.known.items) (sym (duties-append s.done.items (w.next ∷ [])))
-              (idle-append s.ends s.goes s.known.items (duties_of s.done.items) (duty_of w.next ∷ []) (p.idle (sym e ∙ now)) (f.idle, tt))));
+          (idle-append s.ends s.goes s.known.items (duties_of s.done.items) (duty_of w.next ∷ []) (p.idle (sym e ∙ now)) (f.idle, tt))));
     }
 
 -- after a pass that reduced nothing the scene is at rest
@@ -119,7 +116,7 @@ pass_ends a s t m k n (Limit limit) p h = (leads_same a s t m k n p.leads h.0 h.
 weight_shelved : (s t : Scene) → Shelves s t → weight_of (duties_of t.todo.items) < weight_of (duties_of s.todo.items)
 weight_shelved s t w =
     let old : weight_of (duties_of s.todo.items) ≡ weight_of (duties_of t.todo.items) + (size_of (formula_in (duty_of w.next)) + 0) =
-        ap (λ xs. weight_of (duties_of xs)) w.todo ∙ ap weight_of (duties-append t.todo.items (w.next ∷ [])) ∙ weight-append (duties_of t.todo.items) (duty_of w.next ∷ []) in
+    ap (λ xs. weight_of (duties_of xs)) w.todo ∙ ap weight_of (duties-append t.todo.items (w.next ∷ [])) ∙ weight-append (duties_of t.todo.items) (duty_of w.next ∷ []) in
     omega (arith, old, size_positive (formula_in (duty_of w.next)))
 
 pub try_falls : (s t : Scene) (m n : ℕ) → CountsTry s t m n None → weight_of (duties_of t.todo.items) < weight_of (duties_of s.todo.items)

@@ -1,19 +1,18 @@
 -- The next item of a pass: the last of the list of those to be tried.
-use Rattle.std.proofs.Common.{◌≡◌, ℕ, suc, ◌+◌, ◌-◌, ◌<◌, ◌≤◌, List, [], ◌∷◌, ◌++◌, length, take, map, reverse, Some, slice_get, get_or, refl, ap, sym, ◌∙◌, subst, arith, append_assoc, length-append, Option, Bool, ap₂}
+use Rattle.std.proofs.Common.{◌≡◌, ℕ, suc, ◌+◌, ◌-◌, ◌<◌, List, [], ◌∷◌, ◌++◌, length, take, reverse, Some, slice_get, get_or, refl, ap, sym, ◌∙◌, subst, arith, append_assoc, length-append, Option, Bool, ap₂}
 use Rattle.std.proofs.Math.Seq.{take-length, take-append_seam}
 use Rattle.std.proofs.lemmas.Option.{slice_get_within}
-use Rattle.std.proofs.lemmas.List.{reverse-append, take_more, append-nil, reverse-reverse}
+use Rattle.std.proofs.lemmas.List.{reverse-append, take_more, reverse-reverse}
 use Rattle.tp_kernel.specs.Built.{HasBuiltKinds}
 use Rattle.std.specs.Option.{option_map}
 use Rattle.tp_run.specs.declared.scene.Item.{Item}
 use Rattle.tp_run.specs.declared.scene.Scene.{Scene}
 use Rattle.tp_run.specs.declared.decide.Decision.{Decision}
-use Rattle.tp_run.specs.declared.decide.Decision.TheVariants.{Becomes}
 use Rattle.tp_run.specs.declared.decide.Mark as M
 use Rattle.tp_run.specs.declared.decide.Setting as S
 use Rattle.tp_run.specs.Residual.{Duty, formula_in, duty_of, duties_of}
-use Rattle.tp_run.specs.Residual.{Residual, residual_of, Known}
-use Rattle.tp_run.specs.Rules.{Outcome, becomes, outcome_of}
+use Rattle.tp_run.specs.Residual.{Residual, Known}
+use Rattle.tp_run.specs.Rules.{becomes, outcome_of}
 use Rattle.tp_run.specs.Answers.{decided, mark_of, setting_of}
 use Rattle.tp_run.specs.Picks.{ends_after, goes_after, known_after, IsIdle}
 use Rattle.tp_run.specs.Weight.{size_of, weight_of}
@@ -95,11 +94,11 @@ reduces_next s t decision items mark fact d is w =
     let todo : t.todo.items ≡ d.rest ++ reverse items = w.todo ∙ todo_after s.todo.items d.rest items d.next d.todo in
     let outcome : outcome_of s.ends s.goes s.known.items (duty_of d.next) ≡ becomes (duties_of items) (mark_of mark) (option_map setting_of fact) = sym d.outcome ∙ is in
     let lighter : weight_of (duties_of items) < size_of (formula_in (duty_of d.next)) =
-        subst (IfBecomes (λ ds. weight_of ds < size_of (formula_in (duty_of d.next)))) outcome (duty_lighter s.ends s.goes s.known.items (duty_of d.next)) in
+    subst (IfBecomes (λ ds. weight_of ds < size_of (formula_in (duty_of d.next)))) outcome (duty_lighter s.ends s.goes s.known.items (duty_of d.next)) in
     let new_weight : weight_of (duties_of t.todo.items) ≡ weight_of (duties_of d.rest) + weight_of (duties_of items) =
-        ap (λ xs. weight_of (duties_of xs)) todo ∙ ap weight_of (duties-append d.rest (reverse items)) ∙ weight-append (duties_of d.rest) (duties_of (reverse items)) ∙ ap (λ n. weight_of (duties_of d.rest) + n) (weight-reverse items) in
+    ap (λ xs. weight_of (duties_of xs)) todo ∙ ap weight_of (duties-append d.rest (reverse items)) ∙ weight-append (duties_of d.rest) (duties_of (reverse items)) ∙ ap (λ n. weight_of (duties_of d.rest) + n) (weight-reverse items) in
     let old_weight : weight_of (duties_of s.todo.items) ≡ weight_of (duties_of d.rest) + (size_of (formula_in (duty_of d.next)) + 0) =
-        ap (λ xs. weight_of (duties_of xs)) d.todo ∙ ap weight_of (duties-append d.rest (d.next ∷ [])) ∙ weight-append (duties_of d.rest) (duty_of d.next ∷ []) in
+    ap (λ xs. weight_of (duties_of xs)) d.todo ∙ ap weight_of (duties-append d.rest (d.next ∷ [])) ∙ weight-append (duties_of d.rest) (duty_of d.next ∷ []) in
     record {
       reduces = record {
         before = duties_of s.done.items;

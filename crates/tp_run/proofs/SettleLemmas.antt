@@ -1,14 +1,13 @@
 -- The first item that is due in a state at rest.
-use Rattle.std.proofs.Common.{◌≡◌, ℕ, zero, suc, ◌+◌, ◌<◌, Bool, List, [], ◌∷◌, ◌++◌, length, take, drop, map, reverse, Option, None, Some, get_or, refl, ap, ap₂, sym, ◌∙◌, subst, inl, arith, append_assoc, slice_set}
-use Rattle.std.proofs.lemmas.List.{take_more, take-append-drop}
+use Rattle.std.proofs.Common.{◌≡◌, ℕ, zero, suc, ◌+◌, ◌<◌, Bool, List, [], ◌∷◌, ◌++◌, length, take, drop, map, reverse, None, get_or, refl, ap, ap₂, sym, ◌∙◌, subst, inl, arith, append_assoc, slice_set}
+use Rattle.std.proofs.lemmas.List.{take_more}
 use Rattle.tp_meaning.specs.Syntax.{FormulaTree}
 use Rattle.tp_kernel.specs.Built.{HasBuiltKinds}
-use Rattle.tp_kernel.specs.Read.{formula_tree}
 use Rattle.tp_run.specs.declared.turn.Cell.{Cell}
 use Rattle.tp_run.specs.declared.scene.Item.{Item}
 use Rattle.tp_run.specs.declared.scene.Scene.{Scene}
-use Rattle.tp_run.specs.Residual.{Duty, Do, Later, formula_in, duty_of, duties_of, Known, residual_of}
-use Rattle.tp_run.specs.Rules.{waits, outcome_of}
+use Rattle.tp_run.specs.Residual.{Duty, Later, formula_in, duty_of, duties_of, Known, residual_of}
+use Rattle.tp_run.specs.Rules.{outcome_of}
 use Rattle.tp_run.specs.Picks.{IsIdle, AllIdle, AtRest}
 use Rattle.tp_run.specs.Tries.{AllBuiltKinds}
 use Rattle.tp_run.specs.States.{nothing_known, IsOpenCell}

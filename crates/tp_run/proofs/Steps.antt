@@ -1,12 +1,11 @@
 -- What a step leaves: its new duties are lighter than what they replace, and of the same kinds.
-use Rattle.std.proofs.Common.{◌≡◌, ℤ, ℕ, zero, suc, ◌+◌, ◌-◌, ◌<◌, ◌≤◌, Bool, true, false, cond, List, [], ◌∷◌, ◌++◌, Option, None, Some, refl, ap, sym, ◌∙◌, subst, arith}
+use Rattle.std.proofs.Common.{◌≡◌, ℤ, ℕ, zero, suc, ◌+◌, ◌-◌, ◌<◌, Bool, true, false, cond, List, [], ◌∷◌, Option, None, Some, refl, ap, arith}
 use Rattle.std.specs.Ordering.{int_eq}
 use Rattle.tp_value.specs.declared.path.VarId.{VarId}
 use Rattle.tp_meaning.specs.Syntax.{ExprTree, numeral, FormulaTree, FormulaTrees, no_formula, formula_then, equation, next_equation, empty, more, next, conjunction}
-use Rattle.tp_kernel.specs.Built.{IsSum, IsBuiltOver, AreBuiltOver}
-use Rattle.tp_kernel.specs.declared.formula.LimitKind.TheVariants as limit
-use Rattle.tp_run.specs.declared.turn.Clash.TheVariants.{Facts, Marks, False}
-use Rattle.tp_run.specs.Residual.{Duty, Do, Later, formula_in, Known, kept, Residual}
+use Rattle.tp_kernel.specs.Built.{IsBuiltOver, AreBuiltOver}
+use Rattle.tp_run.specs.declared.turn.Clash.TheVariants.{Facts, False}
+use Rattle.tp_run.specs.Residual.{Duty, Do, Later, formula_in, Known, kept}
 use Rattle.tp_run.specs.Rules.{Found, value, waits_for, over, unbuilt, Outcome, becomes, waits, rests, clashes, passes, not_built, nothing, set_variable, fact_of, meets, both_wait, equate, ending, going, carried, under_nexts, each_do, reduction, outcome_of, found_in, variable_in}
 use Rattle.tp_run.specs.Weight.{size_of, sizes_of, weight_of}
 use Rattle.tp_run.specs.Tries.{AllBuiltOver}

@@ -6,3 +6,6 @@ pub mod Weight
 pub mod Tries
 pub mod States
 pub mod Settles
+pub mod Ready
+pub mod ReadyProps
+pub mod Runs

@@ -1,5 +1,5 @@
 -- What a state at rest has come to.
-use Rattle.std.specs.Prelude.{◌≡◌, ◌⊎◌, Bool, true, List, [], ◌∷◌, ◌++◌, map, Option}
+use Rattle.std.specs.Prelude.{◌≡◌, List, ◌∷◌, ◌++◌, map, Option}
 use Rattle.tp_meaning.specs.Syntax.{FormulaTree}
 use Rattle.tp_kernel.specs.Built.{HasBuiltKinds}
 use Rattle.tp_run.specs.declared.scene.Item.{Item}

@@ -1,9 +1,11 @@
 -- A run over its states.
-use Rattle.std.specs.Prelude.{◌≡◌, ◌⊎◌, ◌+◌, ℤ, ℕ, zero, suc, Bool, true, false, List, [], ◌∷◌, map, Option, None, Some}
+use Rattle.std.specs.Prelude.{◌≡◌, ◌⊎◌, ◌+◌, ℕ, false, List, [], ◌∷◌, map, None, Some}
 use Rattle.tp_value.specs.declared.path.Fact.{Fact}
 use Rattle.tp_value.specs.declared.path.VarId.{VarId}
 use Rattle.tp_meaning.specs.Syntax.{FormulaTree}
 use Rattle.tp_run.specs.declared.turn.Cell.{Cell}
+use Rattle.tp_run.specs.declared.turn.Clash.{Clash}
+use Rattle.tp_kernel.specs.declared.formula.LimitKind.{LimitKind}
 use Rattle.tp_run.specs.declared.turn.Picture.{Picture}
 use Rattle.tp_run.specs.declared.turn.Turn.{Turn}
 use Rattle.tp_run.specs.declared.turn.Turn.TheVariants.{Went, Finished, Contradictory, Undetermined, Over}
@@ -50,24 +52,43 @@ pub data Standing : Type 0 where
 abbrev pub picture_of : ℕ → Residual → ℕ → Picture
 picture_of n r reductions = record { state = n; facts = facts_of r.known; reductions = reductions }
 
--- so many picks lead to a rest
-pub record Closed (r s : Residual) (reductions : ℕ) : Type 0 where
-  pub picks : Picks reductions r s
-  pub rest : AtRest s
-
 abbrev pub IsOpenCell : Residual → Cell → Type 0
 IsOpenCell s cell = OpenAtItem s cell ⊎ OpenAtEnd s cell
 
--- What becomes of state n, which begins with this residual: the picture, what the run then stands at, and the answer. Where
--- the state isn't settled the picture stays.
+-- What becomes of state n, where so many picks led to this rest: the picture, where the run then stands, and the answer.
+-- Where the state isn't settled the picture stays.
+abbrev pub RestBecomes : ℕ → Residual → ℕ → Picture → Picture → Standing → Turn → Type 0
+RestBecomes n s k old new standing Went = SettledToGo s × (new ≡ picture_of n s k) × (standing ≡ open_at (advanced s))
+RestBecomes n s k old new standing (Finished length) = SettledToEnd s × (length ≡ n) × (new ≡ picture_of n s k) × (standing ≡ answered (Finished length))
+RestBecomes n s k old new standing (Undetermined state cell) = IsOpenCell s cell × (state ≡ n) × (new ≡ old) × (standing ≡ answered (Undetermined state cell))
+RestBecomes n s k old new standing (Contradictory state clash) = ⊥
+RestBecomes n s k old new standing (Over state limit) = ⊥
+
+-- so many picks lead to a rest, of which this becomes
+pub record Rests (n : ℕ) (r : Residual) (old new : Picture) (standing : Standing) (turn : Turn) : Type 0 where
+  pub at : Residual
+  pub count : ℕ
+  pub picks : Picks count r at
+  pub rest : AtRest at
+  pub becomes : RestBecomes n at count old new standing turn
+
+-- so many picks lead to a clash, or to a limit
+pub record Clashes (r : Residual) (clash : Clash) : Type 0 where
+  pub at : Residual
+  pub count : ℕ
+  pub picks : Picks count r at
+  pub meets : MeetsClash at clash
+
+pub record PassesLimit (r : Residual) (limit : LimitKind) : Type 0 where
+  pub at : Residual
+  pub count : ℕ
+  pub picks : Picks count r at
+  pub meets : MeetsLimit at limit
+
+-- What becomes of state n, which begins with this residual.
 abbrev pub StateBecomes : ℕ → Residual → Picture → Picture → Standing → Turn → Type 0
-StateBecomes n r old new standing Went =
-    (s : Residual) × (k : ℕ) × Closed r s k × SettledToGo s × (new ≡ picture_of n s k) × (standing ≡ open_at (advanced s))
-StateBecomes n r old new standing (Finished length) =
-    (s : Residual) × (k : ℕ) × Closed r s k × SettledToEnd s × (length ≡ n) × (new ≡ picture_of n s k) × (standing ≡ answered (Finished length))
-StateBecomes n r old new standing (Contradictory state clash) =
-    (s : Residual) × (k : ℕ) × Picks k r s × MeetsClash s clash × (state ≡ n) × (new ≡ old) × (standing ≡ answered (Contradictory state clash))
-StateBecomes n r old new standing (Undetermined state cell) =
-    (s : Residual) × (k : ℕ) × Closed r s k × IsOpenCell s cell × (state ≡ n) × (new ≡ old) × (standing ≡ answered (Undetermined state cell))
-StateBecomes n r old new standing (Over state limit) =
-    (s : Residual) × (k : ℕ) × Picks k r s × MeetsLimit s limit × (state ≡ n) × (new ≡ old) × (standing ≡ answered (Over state limit))
+StateBecomes n r old new standing Went = Rests n r old new standing Went
+StateBecomes n r old new standing (Finished length) = Rests n r old new standing (Finished length)
+StateBecomes n r old new standing (Undetermined state cell) = Rests n r old new standing (Undetermined state cell)
+StateBecomes n r old new standing (Contradictory state clash) = Clashes r clash × (state ≡ n) × (new ≡ old) × (standing ≡ answered (Contradictory state clash))
+StateBecomes n r old new standing (Over state limit) = PassesLimit r limit × (state ≡ n) × (new ≡ old) × (standing ≡ answered (Over state limit))

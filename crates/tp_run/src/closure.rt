@@ -226,11 +226,7 @@ fn pass_once(
 }
 
 /// Picks items, pass by pass, until nothing comes of any or one meets a clash or a limit, and counts the reductions.
-pub fn close(
-    alloc: Global,
-    scene: &mut Scene,
-    reductions: &mut u64,
-) -> Result<Ending, NoMemory>
+pub fn close(alloc: Global, scene: &mut Scene, reductions: &mut u64) -> Result<Ending, NoMemory>
     requires start { scene.old.done.items ≡ [] }
     requires built { AllBuiltKinds (residual_of scene.old).duties }
     ensures ok { IfOk result (Closes scene.old scene.new reductions.old reductions.new) }

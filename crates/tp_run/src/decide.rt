@@ -161,18 +161,19 @@ fn equate_found(
     }
 }
 
-fn decide_equation(
-    alloc: Global,
-    left: &Expr,
-    right: &Expr,
-    known: &[Option<Number>],
-) -> Decision
+fn decide_equation(alloc: Global, left: &Expr, right: &Expr, known: &[Option<Number>]) -> Decision
     requires left { HasSumKinds (expr_tree left.now) }
     requires right { HasSumKinds (expr_tree right.now) }
     ensures { decided result ≡ equate known.now (variable_in (expr_tree left.now)) (variable_in (expr_tree right.now)) (found_in known.now (expr_tree left.now)) (found_in known.now (expr_tree right.now)) }
 {
     let sides = (variable(left), variable(right));
-    equate_found(alloc, sides, evaluate(left, known), evaluate(right, known), known)
+    equate_found(
+        alloc,
+        sides,
+        evaluate(left, known),
+        evaluate(right, known),
+        known,
+    )
 }
 
 // These items, and a mark that the interval goes on.

@@ -1,4 +1,4 @@
-use Rattle.std.proofs.Common.{◌≡◌, ap, sym, ◌∙◌, take, drop, suc, subst, arith, ◌+◌}
+use Rattle.std.proofs.Common.{ap, take, drop, suc}
 use Rattle.tp_kernel.specs.Read.{formula_tree}
 use Rattle.tp_run.specs.Residual.{duty_of}
 use Rattle.tp_run.proofs.SettleLemmas.{split_at, one_later_more}

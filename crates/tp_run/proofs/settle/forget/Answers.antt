@@ -1,4 +1,4 @@
-use Rattle.std.proofs.Common.{◌≡◌, ℕ, ◌<◌, ◌+◌, suc, None, slice_set, take, drop, ◌++◌, length, ap, ◌∙◌, arith}
+use Rattle.std.proofs.Common.{◌≡◌, ◌<◌, ◌+◌, suc, None, slice_set, take, drop, ◌++◌, length, ap, ◌∙◌, arith}
 use Rattle.tp_run.specs.Residual.{Known}
 use Rattle.tp_run.specs.States.{nothing_known}
 use Rattle.tp_run.proofs.SettleLemmas.{forgotten}

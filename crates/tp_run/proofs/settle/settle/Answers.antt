@@ -1,4 +1,4 @@
-use Rattle.std.proofs.Common.{◌≡◌, List, sym, ◌∙◌, subst}
+use Rattle.std.proofs.Common.{List, subst}
 use Rattle.tp_run.specs.declared.scene.Item.{Item}
 use Rattle.tp_run.specs.Settles.{FirstDo}
 use Rattle.tp_run.proofs.SettleLemmas.{first_stays, first_open}
