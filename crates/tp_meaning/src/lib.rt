@@ -1,2 +1,7 @@
-//! What expressions and formulas mean on intervals: definitions, and their laws.
+//! What expressions and formulas mean on intervals: definitions, and their laws. Each law is the contract of a function that
+//! does nothing; a proof elsewhere uses it by a call.
 #![tactic(auto)]
+
+mod laws;
+
+pub use laws::{meanings_deepen, values_deepen};
