@@ -4,7 +4,7 @@ use Rattle.tp_value.specs.Tree.{Tree}
 use Rattle.tp_meaning.specs.Syntax.{ExprTree, FormulaTree, trivial, test, equation, next_equation, empty, more, next, weak_next, if_more, if_empty, always, conjunction, branch, len, assign, chop, while, for_from, forall_from, project, exists, call, input, display, FormulaTrees, no_formula, formula_then}
 use Rattle.tp_meaning.specs.Course.{Part, Course, Shows}
 use Rattle.tp_meaning.specs.Value.{Env, Calls, calls_at}
-use Rattle.tp_meaning.specs.Holds.{Setting, Pieces, Together, CallMeanings, env_at_cuts, Has, HoldsBy, AllHoldBy, CallHolds, Holds}
+use Rattle.tp_meaning.specs.Holds.{Context, Pieces, Together, CallMeanings, env_at_cuts, Has, HoldsBy, AllHoldBy, CallHolds, Holds}
 use Rattle.tp_meaning.proofs.Deeper.{Keeps, same, bind_keeps, value_keeps, values_keep, arguments_keep, calls_keep}
 
 -- parts may say less
@@ -16,7 +16,7 @@ pub together_map : (P Q : ℤ → Part) → ((k : ℤ) (i j : ℕ) (T : Shows) �
 together_map P Q f zero k a b S h = h
 together_map P Q f (suc m) k a b S h = (h.0, h.1, f k a b h.0 h.2, together_map P Q f m (k +ℤ pos 1) a b h.1 h.3, h.4)
 
-module _ (w : Setting) (calls calls' : Calls) (meanings meanings' : CallMeanings)
+module _ (w : Context) (calls calls' : Calls) (meanings meanings' : CallMeanings)
     (more_values : (p : ℕ) (args : Env) (s : Course) (j : ℕ) → Keeps (calls p args s j) (calls' p args s j))
     (more_meanings : (p : ℕ) (args : Env) (s : Course) (a b : ℕ) (S : Shows) → meanings p args s a b S → meanings' p args s a b S) where
   has_keeps : (e : ExprTree) (env : Env) (s : Course) (j : ℕ) (v : Tree) → Has w calls meanings e env s j v → Has w calls' meanings' e env s j v
@@ -56,10 +56,10 @@ module _ (w : Setting) (calls calls' : Calls) (meanings meanings' : CallMeanings
     all_hold_keep no_formula env s a b S h = h
     all_hold_keep (formula_then f fs) env s a b S h = (h.0, h.1, holds_keeps f env s a b h.0 h.2, all_hold_keep fs env s a b h.1 h.3, h.4)
 
-pub meanings_keep : (w : Setting) (d d' : ℕ) → d ≤ d' → (p : ℕ) (args : Env) (s : Course) (a b : ℕ) (S : Shows) → CallHolds w d p args s a b S → CallHolds w d' p args s a b S
+pub meanings_keep : (w : Context) (d d' : ℕ) → d ≤ d' → (p : ℕ) (args : Env) (s : Course) (a b : ℕ) (S : Shows) → CallHolds w d p args s a b S → CallHolds w d' p args s a b S
 meanings_keep w zero d' h p args s a b S m = elim m [ ]
 meanings_keep w (suc d) zero h p args s a b S m = absurd (omega arith)
 meanings_keep w (suc d) (suc d') h p args s a b S m = (m.0, m.1, holds_keeps w (calls_at w.defs d) (calls_at w.defs d') (CallHolds w d) (CallHolds w d') (calls_keep w.defs d d' (omega arith)) (meanings_keep w d d' (omega arith)) m.0.formula args s a b S m.2)
 
-pub holds_deeper : (w : Setting) (d d' : ℕ) → d ≤ d' → (f : FormulaTree) (env : Env) (s : Course) (a b : ℕ) (S : Shows) → Holds w d f env s a b S → Holds w d' f env s a b S
+pub holds_deeper : (w : Context) (d d' : ℕ) → d ≤ d' → (f : FormulaTree) (env : Env) (s : Course) (a b : ℕ) (S : Shows) → Holds w d f env s a b S → Holds w d' f env s a b S
 holds_deeper w d d' h = holds_keeps w (calls_at w.defs d) (calls_at w.defs d') (CallHolds w d) (CallHolds w d') (calls_keep w.defs d d' h) (meanings_keep w d d' h)

@@ -4,18 +4,18 @@ use Rattle.tp_value.specs.Tree.{Tree, Trees, num, truth, list, items_of}
 use Rattle.tp_meaning.specs.Syntax.{ExprTree, FormulaTree}
 use Rattle.tp_meaning.specs.Course.{Course, Shows, Part, blank, ◌⊕◌, total}
 use Rattle.tp_meaning.specs.Value.{Env, value}
-use Rattle.tp_meaning.specs.Holds.{Setting, Holds}
+use Rattle.tp_meaning.specs.Holds.{Context, Holds}
 
--- what is said of an interval and its shows, in a setting, at a depth, under an environment
+-- what is said of an interval and its shows, in a context, at a depth, under an environment
 abbrev pub DirectMeaning : Type 1
-DirectMeaning = Setting → ℕ → Env → Course → Part
+DirectMeaning = Context → ℕ → Env → Course → Part
 
 -- The formula holds, with these shows, exactly on the intervals of the meaning.
 unfoldable pub Means : FormulaTree → DirectMeaning → Type 0
-Means f M = (w : Setting) (d : ℕ) (env : Env) (s : Course) (a b : ℕ) (S : Shows) → a ≤ b → Holds w d f env s a b S ↔ M w d env s a b S
+Means f M = (w : Context) (d : ℕ) (env : Env) (s : Course) (a b : ℕ) (S : Shows) → a ≤ b → Holds w d f env s a b S ↔ M w d env s a b S
 
 -- v is the value of e at position j
-abbrev pub ValueIs : Setting → ℕ → Env → Course → ExprTree → ℕ → Tree → Type 0
+abbrev pub ValueIs : Context → ℕ → Env → Course → ExprTree → ℕ → Tree → Type 0
 ValueIs w d env s e j v = value w.defs d e env s j ≡ Some v
 
 -- the length is 1

@@ -7,7 +7,7 @@ use Rattle.tp_meaning.specs.Value.{◌>>=◌, Meaning, fixed, varying, Env, Call
 use Rattle.tp_meaning.specs.Inputs.{InputLines, input_at}
 
 -- what a formula is read with: the program's definitions, and the inputs
-pub record Setting : Type 0 where
+pub record Context : Type 0 where
   pub defs : List Definition
   pub inputs : InputLines
 
@@ -69,7 +69,7 @@ env_at_cuts c (m ∷ env) = meaning_at_cuts c m ∷ env_at_cuts c env
 abbrev pub CallMeanings : Type 1
 CallMeanings = ℕ → Env → Course → Part
 
-module _ (w : Setting) (calls : Calls) (meanings : CallMeanings) where
+module _ (w : Context) (calls : Calls) (meanings : CallMeanings) where
   -- v is the value of e at position j
   abbrev pub Has : ExprTree → Env → Course → ℕ → Tree → Type 0
   Has e env s j v = value_by w.defs calls e env s j ≡ Some v
@@ -115,10 +115,10 @@ module _ (w : Setting) (calls : Calls) (meanings : CallMeanings) where
     AllHoldBy (formula_then f fs) env s a b S = Joined (HoldsBy f env s) (AllHoldBy fs env s) a b S
 
 -- A called definition's formula holds at one depth less, with its bindings alone. At depth 0 no call holds.
-abbrev pub CallHolds : Setting → ℕ → CallMeanings
+abbrev pub CallHolds : Context → ℕ → CallMeanings
 CallHolds w zero p args s a b S = ⊥
 CallHolds w (suc d) p args s a b S = (f : Definition) × (slice_get w.defs p ≡ Some f) × HoldsBy w (calls_at w.defs d) (CallHolds w d) f.formula args s a b S
 
 -- The formula holds from position a to position b at depth d, and shows S.
-abbrev pub Holds : Setting → ℕ → FormulaTree → Env → Course → Part
+abbrev pub Holds : Context → ℕ → FormulaTree → Env → Course → Part
 Holds w d = HoldsBy w (calls_at w.defs d) (CallHolds w d)
