@@ -1,2 +1,4 @@
 pub mod Deeper
 pub mod DeeperHolds
+pub mod Shows
+pub mod Means

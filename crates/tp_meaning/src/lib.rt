@@ -2,6 +2,11 @@
 //! does nothing; a proof elsewhere uses it by a call.
 #![tactic(auto)]
 
+mod derived;
 mod laws;
 
+pub use derived::{
+    becomes_means, fin_means, gets_means, halt_means, keep_means, list_means, next_equals_means,
+    skip_means, stable_means,
+};
 pub use laws::{meanings_deepen, values_deepen};
