@@ -1,11 +1,11 @@
 -- The direct meanings of the derived operators.
-use Rattle.std.proofs.Common.{◌≡◌, pos, ℕ, zero, suc, ◌+◌, ◌-◌, ◌≤◌, ◌<◌, refl, ap, sym, ◌∙◌, subst, arith, inl, inr, ◌⊎◌, Bool, true, false, not, Option, Some, None, List, length, ◌↔◌}
+use Rattle.std.proofs.Common.{◌≡◌, pos, ℕ, zero, suc, ◌+◌, ◌-◌, ◌≤◌, ◌<◌, refl, ap, sym, ◌∙◌, subst, arith, inl, inr, ◌⊎◌, true, Option, Some, None, length}
 use Rattle.std.specs.Option.{option_and_then}
 use Rattle.std.proofs.lemmas.Bool.{cases_lt}
 use Rattle.tp_value.specs.Tree.{Tree, Trees, num, truth, list, items_of}
-use Rattle.tp_meaning.specs.Syntax.{ExprTree, FormulaTree, negation}
+use Rattle.tp_meaning.specs.Syntax.{ExprTree, FormulaTree}
 use Rattle.tp_meaning.specs.Course.{Course, Shows, blank, ◌⊕◌, total}
-use Rattle.tp_meaning.specs.Value.{Env, value, truth_of, list_of}
+use Rattle.tp_meaning.specs.Value.{Env, value, list_of}
 use Rattle.tp_meaning.specs.Holds.{Context, Holds}
 use Rattle.tp_meaning.specs.Derived.{skip_of, halt_of, keep_of, fin_of, gets_of, stable_of, becomes_of, list_of_length, next_equals_of}
 use Rattle.tp_meaning.specs.Direct.{Means, ValueIs, Skip, Halt, Keep, Fin, Gets, Stable, Becomes, ListOf, NextEquals}

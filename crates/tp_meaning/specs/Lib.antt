@@ -9,3 +9,4 @@ pub mod Interval
 pub mod Bindings
 pub mod Fits
 pub mod Laws
+pub mod Cuts

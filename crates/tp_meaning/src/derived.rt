@@ -48,3 +48,8 @@ pub fn list_means()
 pub fn next_equals_means()
     ensures { (k : ℕ) → (t e : ExprTree) → Means (next_equals_of k t e) (NextEquals k t e) }
 {}
+
+/// `repeat f until e`: f once, and then along strictly rising cuts until e is true.
+pub fn repeat_means()
+    ensures { (f : FormulaTree) (e : ExprTree) → Means (repeat_of f e) (Repeat f e) }
+{}
