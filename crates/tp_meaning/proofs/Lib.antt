@@ -3,3 +3,8 @@ pub mod DeeperHolds
 pub mod Shows
 pub mod Means
 pub mod Pieces
+pub mod Rising
+pub mod MoveValue
+pub mod Move
+pub mod Within
+pub mod MovePart

@@ -10,3 +10,4 @@ pub mod Bindings
 pub mod Fits
 pub mod Laws
 pub mod Cuts
+pub mod Moving

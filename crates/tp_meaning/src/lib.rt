@@ -5,6 +5,7 @@
 mod cuts;
 mod derived;
 mod laws;
+mod moving;
 
 pub use cuts::{for_by_cuts, forall_by_instances, while_by_cuts};
 pub use derived::{
@@ -12,3 +13,4 @@ pub use derived::{
     repeat_means, skip_means, stable_means,
 };
 pub use laws::{meanings_deepen, values_deepen};
+pub use moving::{meanings_move, meanings_read_their_part, nothing_shown_outside};

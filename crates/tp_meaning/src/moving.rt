@@ -1,0 +1,17 @@
+// What a formula reads.
+ghost use Rattle.tp_meaning.specs.Moving.{MeaningsMove, MeaningsReadTheirPart, NothingShownOutside};
+
+/// A formula holds where its part of the course and of the environment is moved to.
+pub fn meanings_move()
+    ensures { MeaningsMove }
+{}
+
+/// What lies outside of an interval plays no part.
+pub fn meanings_read_their_part()
+    ensures { MeaningsReadTheirPart }
+{}
+
+/// Nothing is shown outside of an interval.
+pub fn nothing_shown_outside()
+    ensures { NothingShownOutside }
+{}
