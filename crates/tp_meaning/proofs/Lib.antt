@@ -8,3 +8,6 @@ pub mod MoveValue
 pub mod Move
 pub mod Within
 pub mod MovePart
+pub mod Unfold
+pub mod Project
+pub mod ByCuts

@@ -112,7 +112,7 @@ narrow f a b a' b' u v [] (m ∷ ms) h = elim h [ ]
 narrow f a b a' b' u v (m ∷ ms) [] h = elim h [ ]
 narrow f a b a' b' u v (m ∷ ms) (n ∷ ns) h = (narrow_one f a b a' b' u v m n h.0, narrow f a b a' b' u v ms ns h.1)
 
-append_moved : (f : ℕ → ℕ) (a b : ℕ) (x y : Env) (m n : Meaning) → EnvMoved f a b x y → MeaningMoved f a b m n → EnvMoved f a b (x ++ m ∷ []) (y ++ n ∷ [])
+pub append_moved : (f : ℕ → ℕ) (a b : ℕ) (x y : Env) (m n : Meaning) → EnvMoved f a b x y → MeaningMoved f a b m n → EnvMoved f a b (x ++ m ∷ []) (y ++ n ∷ [])
 append_moved f a b [] [] m n h k = (k, tt)
 append_moved f a b [] (y ∷ ys) m n h k = elim h [ ]
 append_moved f a b (x ∷ xs) [] m n h k = elim h [ ]

@@ -11,3 +11,4 @@ pub mod Fits
 pub mod Laws
 pub mod Cuts
 pub mod Moving
+pub mod Unfolding

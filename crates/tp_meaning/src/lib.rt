@@ -6,11 +6,18 @@ mod cuts;
 mod derived;
 mod laws;
 mod moving;
+mod unfolding;
 
-pub use cuts::{for_by_cuts, forall_by_instances, while_by_cuts};
+pub use cuts::{
+    exists_by_values, for_by_cuts, forall_by_instances, project_by_cuts, while_by_cuts,
+};
 pub use derived::{
     becomes_means, fin_means, gets_means, halt_means, keep_means, list_means, next_equals_means,
     repeat_means, skip_means, stable_means,
 };
 pub use laws::{meanings_deepen, values_deepen};
 pub use moving::{meanings_move, meanings_read_their_part, nothing_shown_outside};
+pub use unfolding::{
+    always_unfolds, assign_unfolds, for_unfolds, forall_unfolds, input_unfolds, len_unfolds,
+    next_equation_unfolds, project_unfolds, while_unfolds,
+};
