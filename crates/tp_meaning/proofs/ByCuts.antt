@@ -67,7 +67,7 @@ meaning_self : (a b : ℕ) (x : Meaning) → MeaningMoved (λ j. j) a b x x
 meaning_self a b (fixed t) = refl
 meaning_self a b (varying f) = λ j u v. refl
 
-env_self : (a b : ℕ) (x : Env) → EnvMoved (λ j. j) a b x x
+pub env_self : (a b : ℕ) (x : Env) → EnvMoved (λ j. j) a b x x
 env_self a b [] = tt
 env_self a b (x ∷ xs) = (meaning_self a b x, env_self a b xs)
 

@@ -11,3 +11,4 @@ pub mod MovePart
 pub mod Unfold
 pub mod Project
 pub mod ByCuts
+pub mod ReadVariables

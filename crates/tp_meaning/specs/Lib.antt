@@ -12,3 +12,4 @@ pub mod Laws
 pub mod Cuts
 pub mod Moving
 pub mod Unfolding
+pub mod Reading

@@ -16,7 +16,9 @@ pub use derived::{
     repeat_means, skip_means, stable_means,
 };
 pub use laws::{meanings_deepen, values_deepen};
-pub use moving::{meanings_move, meanings_read_their_part, nothing_shown_outside};
+pub use moving::{
+    meanings_move, meanings_read_their_part, meanings_read_variables, nothing_shown_outside,
+};
 pub use unfolding::{
     always_unfolds, assign_unfolds, for_unfolds, forall_unfolds, input_unfolds, len_unfolds,
     next_equation_unfolds, project_unfolds, while_unfolds,

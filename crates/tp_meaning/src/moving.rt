@@ -1,4 +1,5 @@
 // What a formula reads.
+ghost use Rattle.tp_meaning.specs.Reading.{MeaningsReadVariables};
 ghost use Rattle.tp_meaning.specs.Moving.{MeaningsMove, MeaningsReadTheirPart, NothingShownOutside};
 
 /// A formula holds where its part of the course and of the environment is moved to.
@@ -14,4 +15,9 @@ pub fn meanings_read_their_part()
 /// Nothing is shown outside of an interval.
 pub fn nothing_shown_outside()
     ensures { NothingShownOutside }
+{}
+
+/// A formula that fits reads the states' own numbers and its variables alone.
+pub fn meanings_read_variables()
+    ensures { MeaningsReadVariables }
 {}
