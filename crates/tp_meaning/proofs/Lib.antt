@@ -12,3 +12,4 @@ pub mod Unfold
 pub mod Project
 pub mod ByCuts
 pub mod ReadVariables
+pub mod ExampleShows

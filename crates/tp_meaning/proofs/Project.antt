@@ -8,15 +8,10 @@ use Rattle.tp_meaning.specs.Value.{Meaning, fixed, varying, Env}
 use Rattle.tp_meaning.specs.Holds.{Context, meaning_at_cuts, env_at_cuts, Holds}
 use Rattle.tp_meaning.specs.Moving.{MeaningMoved, EnvMoved}
 use Rattle.tp_meaning.specs.Unfolding.{ProjectEnds, ProjectRuns, ProjectGoes}
+use Rattle.tp_meaning.proofs.Shows.{shown_there, shown_else}
 use Rattle.tp_meaning.proofs.Rising.{rises_less}
 use Rattle.tp_meaning.proofs.Within.{holds_silent}
 use Rattle.tp_meaning.proofs.MovePart.{meanings_move}
-
-shown_there : (a : ℕ) (vs : List (List Tree)) (j : ℕ) → j ≡ a → shown_at a vs j ≡ vs
-shown_there a vs j e = cond_both (eqb j a) vs [] (λ x. x ≡ vs) (λ _. refl) (λ n. absurd (both_ways (eqb j a) n (eq-eqb j a e)))
-
-shown_else : (a : ℕ) (vs : List (List Tree)) (j : ℕ) → (j ≡ a → ⊥) → shown_at a vs j ≡ []
-shown_else a vs j n = cond_both (eqb j a) vs [] (λ x. x ≡ []) (λ e. absurd (n (eqb-true j a e))) (λ _. refl)
 
 -- an environment at the cuts, moved to the cuts' own positions and back
 module _ (c at : ℕ → ℕ) (k l : ℕ) where

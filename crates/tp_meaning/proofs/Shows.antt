@@ -1,7 +1,8 @@
 -- Shows put after one another.
-use Rattle.std.proofs.Common.{◌≡◌, ℕ, zero, suc, ◌+◌, ◌≤◌, ◌<◌, cond, eqb, refl, ap, sym, ◌∙◌, arith, append-nil, append_assoc}
+use Rattle.std.proofs.Common.{◌≡◌, List, [], ℕ, zero, suc, ◌+◌, ◌≤◌, ◌<◌, cond, eqb, refl, ap, sym, ◌∙◌, arith, append-nil, append_assoc}
 use Rattle.std.proofs.lemmas.Bool.{cond_both, eqb-true, both_ways, eq-eqb}
-use Rattle.tp_meaning.specs.Course.{Shows, blank, ◌⊕◌, total}
+use Rattle.tp_value.specs.Tree.{Tree}
+use Rattle.tp_meaning.specs.Course.{Shows, blank, ◌⊕◌, shown_at, total}
 
 pub join-blank : (S : Shows) → S ⊕ blank ≡ S
 join-blank S = λ i j. append-nil (S j) i
@@ -47,3 +48,9 @@ put_there a V T i h = cond_both (eqb i a) V (T i) (λ x. x ≡ V) (λ _. refl) (
 
 pub put_else : (a : ℕ) (V : Shows) (T : ℕ → Shows) (i : ℕ) → (i ≡ a → ⊥) → put_at a V T i ≡ T i
 put_else a V T i h = cond_both (eqb i a) V (T i) (λ x. x ≡ T i) (λ e. absurd (h (eqb-true i a e))) (λ _. refl)
+
+pub shown_there : (a : ℕ) (vs : List (List Tree)) (j : ℕ) → j ≡ a → shown_at a vs j ≡ vs
+shown_there a vs j e = cond_both (eqb j a) vs [] (λ x. x ≡ vs) (λ _. refl) (λ n. absurd (both_ways (eqb j a) n (eq-eqb j a e)))
+
+pub shown_else : (a : ℕ) (vs : List (List Tree)) (j : ℕ) → (j ≡ a → ⊥) → shown_at a vs j ≡ []
+shown_else a vs j n = cond_both (eqb j a) vs [] (λ x. x ≡ []) (λ e. absurd (n (eqb-true j a e))) (λ _. refl)

@@ -13,3 +13,4 @@ pub mod Cuts
 pub mod Moving
 pub mod Unfolding
 pub mod Reading
+pub mod Examples
