@@ -13,3 +13,5 @@ pub mod Project
 pub mod ByCuts
 pub mod ReadVariables
 pub mod ExampleShows
+pub mod ExampleTurns
+pub mod ExampleProject

@@ -1,10 +1,10 @@
 // The least intervals on which formulas of each kind hold, and some on which they do not. In the states 0, 1, .. the variable A has
 // the values 0, 1, ..
 ghost use Rattle.std.specs.Prelude.{◌≡◌, pos, ℕ, Bool, List, [], ◌∷◌};
-ghost use Rattle.tp_meaning.specs.Syntax.{Equal, Plus, Div, boolean, binary, bound, FormulaTree, trivial, test, next_equation, empty, more, next, weak_next, if_more, if_empty, always, conjunction, branch, len, assign, chop, while, for_from, forall_from, project, exists, input, formulas_of};
+ghost use Rattle.tp_meaning.specs.Syntax.{Equal, Less, Plus, Div, boolean, binary, bound, FormulaTree, trivial, test, equation, next_equation, empty, more, next, weak_next, if_more, if_empty, always, conjunction, branch, len, assign, chop, while, for_from, forall_from, project, exists, input, formulas_of};
 ghost use Rattle.tp_meaning.specs.Course.{Shows, blank};
 ghost use Rattle.tp_meaning.specs.Holds.{Holds};
-ghost use Rattle.tp_meaning.specs.Derived.{skip_of};
+ghost use Rattle.tp_meaning.specs.Derived.{skip_of, fin_of};
 ghost use Rattle.tp_meaning.specs.Examples.{nothing_given, counting, A, number, A_is, display_of, shown, HoldsTo, FailsTo};
 
 /// `true`, tests, equations, displays, conjunctions and choices.
@@ -42,4 +42,46 @@ pub fn next_formulas()
     ensures if_empty_fails { FailsTo 0 (if_empty (A_is 5)) }
     ensures always_holds { HoldsTo 1 (always (display_of A)) ((shown 0 ∷ []) ∷ (shown 1 ∷ []) ∷ []) }
     ensures always_fails { FailsTo 1 (always (A_is 0)) }
+{}
+
+/// Lengths, `<-`, and chops: at the state that two parts share, the earlier part's displays come first.
+pub fn length_formulas()
+    ensures len_holds { HoldsTo 1 (len (number 1)) [] }
+    ensures len_fails { FailsTo 0 (len (number 1)) }
+    ensures assign_holds { HoldsTo 1 (assign A (binary Plus A (number 1))) [] }
+    ensures assign_fails { FailsTo 0 (assign A (binary Plus A (number 1))) }
+    ensures chop_holds { HoldsTo 0 (chop (display_of (number 1)) (display_of (number 2))) ((shown 1 ∷ shown 2 ∷ []) ∷ []) }
+    ensures chop_shares_a_state { HoldsTo 2 (chop (next (display_of (number 1))) (conjunction (formulas_of (len (number 1) ∷ display_of A ∷ [])))) ([] ∷ (shown 1 ∷ shown 1 ∷ []) ∷ []) }
+    ensures chop_fails { FailsTo 1 (chop empty empty) }
+{}
+
+/// Loops, with turns and without.
+pub fn loop_formulas()
+    ensures while_without_turn { HoldsTo 0 (while (binary Equal A (number 1)) skip_of) [] }
+    ensures while_holds { HoldsTo 2 (while (binary Less A (number 2)) (conjunction (formulas_of (skip_of ∷ display_of A ∷ [])))) ((shown 0 ∷ []) ∷ (shown 1 ∷ []) ∷ []) }
+    ensures while_fails { FailsTo 1 (while (binary Equal A (number 1)) skip_of) }
+    ensures turn_without_length_fails { FailsTo 0 (while (boolean Bool.true) empty) }
+    ensures for_without_turn { HoldsTo 0 (for_from [] (pos 0) (number 0) skip_of) [] }
+    ensures for_without_turn_fails { FailsTo 1 (for_from [] (pos 0) (number 0) skip_of) }
+    ensures for_holds { HoldsTo 2 (for_from [] (pos 0) (number 2) (conjunction (formulas_of (skip_of ∷ display_of (bound 0) ∷ [])))) ((shown 0 ∷ []) ∷ (shown 1 ∷ []) ∷ []) }
+    ensures for_turns_may_be_empty { HoldsTo 0 (for_from [] (pos 0) (number 2) (display_of (bound 0))) ((shown 0 ∷ shown 1 ∷ []) ∷ []) }
+    ensures forall_without_instance { HoldsTo 1 (forall_from [] (pos 0) (number 0) empty) [] }
+    ensures forall_holds { HoldsTo 0 (forall_from [] (pos 0) (number 2) (display_of (bound 0))) ((shown 0 ∷ shown 1 ∷ []) ∷ []) }
+    ensures forall_fails { FailsTo 0 (forall_from [] (pos 0) (number 2) (equation A (bound 0))) }
+{}
+
+/// Projections: at a cut the displays of the piece that ends come first, then those of the outer formula, then those of the piece that
+/// begins.
+pub fn project_formulas()
+    ensures holds { HoldsTo 2 (project (conjunction (formulas_of (skip_of ∷ display_of (number 1) ∷ fin_of (display_of (number 3)) ∷ []))) (always (display_of (number 2)))) ((shown 2 ∷ shown 1 ∷ []) ∷ (shown 3 ∷ shown 2 ∷ shown 1 ∷ []) ∷ (shown 3 ∷ shown 2 ∷ []) ∷ []) }
+    ensures holds_on_one_state { HoldsTo 0 (project skip_of (A_is 0)) [] }
+    ensures fails { FailsTo 1 (project skip_of empty) }
+{}
+
+/// `exists`, for state variables and for static ones.
+pub fn exists_formulas()
+    ensures holds { HoldsTo 0 (exists [] Bool.false (equation (bound 0) (number 7))) [] }
+    ensures fails { FailsTo 0 (exists [] Bool.false (conjunction (formulas_of (equation (bound 0) (number 0) ∷ equation (bound 0) (number 1) ∷ [])))) }
+    ensures changing_holds { HoldsTo 1 (exists [] Bool.false (always (equation (bound 0) A))) [] }
+    ensures static_fails { FailsTo 1 (exists [] Bool.true (always (equation (bound 0) A))) }
 {}

@@ -16,7 +16,10 @@ pub use derived::{
     becomes_means, fin_means, gets_means, halt_means, keep_means, list_means, next_equals_means,
     repeat_means, skip_means, stable_means,
 };
-pub use examples::{next_formulas, state_formulas};
+pub use examples::{
+    exists_formulas, length_formulas, loop_formulas, next_formulas, project_formulas,
+    state_formulas,
+};
 pub use laws::{meanings_deepen, values_deepen};
 pub use moving::{
     meanings_move, meanings_read_their_part, meanings_read_variables, nothing_shown_outside,
