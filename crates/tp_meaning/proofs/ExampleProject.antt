@@ -1,5 +1,5 @@
 -- What is shown at the cuts of a projection.
-use Rattle.std.proofs.Common.{◌≡◌, pos, ℕ, zero, suc, [], ◌∷◌, ◌++◌, refl, sym, arith, ◌<◌}
+use Rattle.std.proofs.Common.{◌≡◌, ℕ, zero, suc, [], ◌∷◌, ◌++◌, refl, sym, arith, ◌<◌}
 use Rattle.tp_meaning.specs.Syntax.{conjunction, always, formulas_of}
 use Rattle.tp_meaning.specs.Course.{Course, Shows, blank, ◌⊕◌, shown_at, total, woven}
 use Rattle.tp_meaning.specs.Holds.{Holds}

@@ -1,7 +1,7 @@
 -- Shows that are listed, spelled position by position.
 use Rattle.std.proofs.Common.{◌≡◌, ℕ, zero, suc, ◌+◌, ◌<◌, List, [], ◌∷◌, ◌++◌, Bool, refl, ap, sym, ◌∙◌, arith, append-nil, cond, eqb}
 use Rattle.tp_value.specs.Tree.{Tree}
-use Rattle.tp_meaning.specs.Course.{Shows, blank, ◌⊕◌, shown_at}
+use Rattle.tp_meaning.specs.Course.{Shows, blank, ◌⊕◌, shown_at, woven}
 use Rattle.tp_meaning.specs.Examples.{listed}
 use Rattle.tp_meaning.proofs.Shows.{shown_there, shown_else}
 
@@ -41,3 +41,7 @@ shown_nothing a = λ i j. by (eqb j a) i
 
 pub nothing_first : (a : ℕ) (S T : Shows) → T ≡ S → shown_at a [] ⊕ T ≡ S
 nothing_first a S T e = λ i. shown_nothing a i ⊕ e i
+
+pub nothing_woven : (m k : ℕ) (c : ℕ → ℕ) → blank ≡ woven m k c blank (λ j. blank)
+nothing_woven zero k c = sym (shown_nothing (c k))
+nothing_woven (suc m) k c = nothing_woven m (suc k) c ∙ (λ i. sym (shown_nothing (c k)) i ⊕ woven m (suc k) c blank (λ j. blank))

@@ -1,7 +1,7 @@
 -- Turns of length 1 that display a number in their first state.
 use Rattle.std.proofs.Common.{◌≡◌, pos, ℕ, suc, Some, [], ◌∷◌, refl, ap, sym, arith}
 use Rattle.tp_meaning.specs.Syntax.{ExprTree, conjunction, formulas_of}
-use Rattle.tp_meaning.specs.Course.{Shows, blank, ◌⊕◌, shown_at}
+use Rattle.tp_meaning.specs.Course.{blank, shown_at}
 use Rattle.tp_meaning.specs.Value.{Env}
 use Rattle.tp_meaning.specs.Holds.{Holds}
 use Rattle.tp_meaning.specs.Derived.{skip_of}

@@ -15,3 +15,4 @@ pub mod ReadVariables
 pub mod ExampleShows
 pub mod ExampleTurns
 pub mod ExampleProject
+pub mod ExampleCounting

@@ -2,11 +2,10 @@
 use Rattle.std.proofs.Common.{◌≡◌, ℕ, zero, suc, ◌+◌, ◌-◌, ◌≤◌, ◌<◌, Bool, List, [], ◌∷◌, ◌++◌, refl, ap, sym, ◌∙◌, subst, arith, ◌⊎◌, inl, inr, cond, eqb}
 use Rattle.std.proofs.lemmas.Bool.{cond_both, cond-true, cases_lt, eqb-true, eq-eqb, both_ways}
 use Rattle.tp_value.specs.Tree.{Tree}
-use Rattle.tp_meaning.specs.Syntax.{FormulaTree}
-use Rattle.tp_meaning.specs.Course.{Course, Shows, blank, ◌⊕◌, shown_at}
+use Rattle.tp_meaning.specs.Course.{Shows, blank, ◌⊕◌, shown_at}
 use Rattle.tp_meaning.specs.Value.{Meaning, fixed, varying, Env}
-use Rattle.tp_meaning.specs.Holds.{Context, Holds}
-use Rattle.tp_meaning.specs.Moving.{InStep, MeaningMoved, EnvMoved, CourseMoved, IsWithin, ShowsMoved, MeaningsMove, MeaningsReadTheirPart}
+use Rattle.tp_meaning.specs.Holds.{Holds}
+use Rattle.tp_meaning.specs.Moving.{InStep, MeaningMoved, EnvMoved, ShowsMoved, MeaningsMove, MeaningsReadTheirPart}
 use Rattle.tp_meaning.proofs.Move.{Move, stay, holds_moved}
 use Rattle.tp_meaning.proofs.Within.{holds_silent}
 

@@ -1,9 +1,8 @@
 -- Projections: on one state, on more, and by cuts that rise to the end alone.
-use Rattle.std.proofs.Common.{◌≡◌, ℕ, zero, suc, ◌+◌, ◌-◌, ◌≤◌, ◌<◌, List, [], ◌∷◌, cond, eqb, refl, ap, sym, ◌∙◌, subst, arith, inl, inr}
+use Rattle.std.proofs.Common.{◌≡◌, ℕ, zero, suc, ◌+◌, ◌≤◌, ◌<◌, [], ◌∷◌, eqb, refl, ap, sym, ◌∙◌, subst, arith, inl, inr}
 use Rattle.std.proofs.lemmas.Bool.{cases_lt, cond_both, eqb-true, eq-eqb, both_ways}
-use Rattle.tp_value.specs.Tree.{Tree}
 use Rattle.tp_meaning.specs.Syntax.{FormulaTree, project}
-use Rattle.tp_meaning.specs.Course.{Course, Shows, blank, ◌⊕◌, shown_at, woven, Rising}
+use Rattle.tp_meaning.specs.Course.{Course, Shows, blank, shown_at, woven, Rising}
 use Rattle.tp_meaning.specs.Value.{Meaning, fixed, varying, Env}
 use Rattle.tp_meaning.specs.Holds.{Context, meaning_at_cuts, env_at_cuts, Holds}
 use Rattle.tp_meaning.specs.Moving.{MeaningMoved, EnvMoved}

@@ -1,14 +1,14 @@
 -- A formula that fits reads the states' own numbers and its variables alone.
-use Rattle.std.proofs.Common.{◌≡◌, ℤ, pos, ℕ, zero, suc, ◌≤◌, ◌<◌, Bool, true, false, not, List, [], ◌∷◌, ◌++◌, length, Option, Some, None, refl, ap, sym, ◌∙◌, subst, arith, inl, inr, slice_get, if◌then◌else◌, cond, eqb, ◌-◌}
+use Rattle.std.proofs.Common.{◌≡◌, pos, ℕ, zero, suc, Bool, true, false, not, List, [], ◌∷◌, length, Option, Some, None, refl, ap, sym, ◌∙◌, arith, inl, inr, slice_get, if◌then◌else◌, cond, eqb, ◌-◌}
 use Rattle.std.specs.Prelude.{neg_ℤ}
 use Rattle.std.proofs.lemmas.Option.{slice_get_within}
-use Rattle.std.proofs.lemmas.Bool.{cond_both, cond-true, eqb-true, eq-eqb, both_ways}
+use Rattle.std.proofs.lemmas.Bool.{cond_both, cond-true, eqb-true, eq-eqb}
 use Rattle.tp_value.specs.Tree.{Tree, num, truth, list, of_items}
 use Rattle.tp_value.specs.declared.path.VarId.{VarId}
 use Rattle.tp_meaning.specs.Syntax.{ExprTree, ExprTrees, numeral, boolean, known, bound, global, listing, size, index, minus, negation, both, either, binary, choice, invoke, no_expr, expr_then, Definition, FormulaTree, trivial, test, equation, next_equation, empty, more, next, weak_next, if_more, if_empty, always, conjunction, branch, len, assign, chop, while, for_from, forall_from, project, exists, call, input, display, FormulaTrees, no_formula, formula_then}
 use Rattle.tp_meaning.specs.Course.{State, Course, Shows}
 use Rattle.tp_meaning.specs.Inputs.{input_at}
-use Rattle.tp_meaning.specs.Value.{◌>>=◌, Meaning, fixed, varying, Env, Calls, element, item, number_of, list_of, truth_of, operate, is_upper, value_by, values_by, all_by, place_by, arguments_by, calls_at}
+use Rattle.tp_meaning.specs.Value.{◌>>=◌, fixed, varying, Env, Calls, element, item, number_of, list_of, truth_of, operate, is_upper, value_by, values_by, all_by, place_by, arguments_by, calls_at}
 use Rattle.tp_meaning.specs.Holds.{Context, CallMeanings, Has, HoldsBy, AllHoldBy, CallHolds, Holds}
 use Rattle.tp_meaning.specs.Fits.{IsVariable, ExprFits, ExprsFit, FormulaFits, FormulasFit, DefinitionsFit}
 use Rattle.tp_meaning.specs.Reading.{ReadTheSame, MeaningsReadVariables}

@@ -1,6 +1,6 @@
 -- Sequences that rise everywhere.
-use Rattle.std.proofs.Common.{◌≡◌, ℕ, zero, suc, ◌+◌, ◌≤◌, ◌<◌, cond, eqb, ap, sym, subst, arith, inl, inr}
-use Rattle.std.proofs.lemmas.Bool.{cond_both, eqb-true, both_ways, eq-eqb, cases_lt}
+use Rattle.std.proofs.Common.{◌≡◌, ℕ, zero, suc, ◌<◌, sym, subst, arith, inl, inr}
+use Rattle.std.proofs.lemmas.Bool.{cases_lt}
 use Rattle.tp_meaning.specs.Course.{Rising}
 
 pub rises_less : (c : ℕ → ℕ) → Rising c → (i j : ℕ) → i < j → c i < c j

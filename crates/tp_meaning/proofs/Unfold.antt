@@ -4,13 +4,12 @@ use Rattle.std.specs.Prelude.{◌≤ℤ◌, ◌<ℤ◌}
 use Rattle.std.proofs.lemmas.Int.{ints}
 use Rattle.std.proofs.lemmas.Bool.{cases_lt}
 use Rattle.tp_value.specs.Tree.{Tree, num, truth}
-use Rattle.tp_meaning.specs.Syntax.{ExprTree, known, numeral, FormulaTree, equation, next_equation, empty, more, next, weak_next, always, conjunction, branch, len, assign, chop, while, for_from, forall_from, input, formulas_of}
+use Rattle.tp_meaning.specs.Syntax.{ExprTree, known, numeral, FormulaTree, equation, empty, more, conjunction, branch, chop, while, for_from, forall_from, formulas_of}
 use Rattle.tp_meaning.specs.Course.{Part, Course, Shows, blank, ◌⊕◌, total}
 use Rattle.tp_meaning.specs.Value.{Env, fixed}
 use Rattle.tp_meaning.specs.Holds.{Context, Pieces, Together, count_to, OnEachSuffix, Holds}
-use Rattle.tp_meaning.specs.Derived.{fin_of}
 use Rattle.tp_meaning.specs.Direct.{Means, ValueIs}
-use Rattle.tp_meaning.specs.Unfolding.{Says, AlwaysUnfolds, WhileUnfolds, ForUnfolds, ForallUnfolds, LenUnfolds, nexts, NextEquationUnfolds, AssignUnfolds, InputUnfolds}
+use Rattle.tp_meaning.specs.Unfolding.{AlwaysUnfolds, WhileUnfolds, ForUnfolds, ForallUnfolds, LenUnfolds, nexts, NextEquationUnfolds, AssignUnfolds, InputUnfolds}
 use Rattle.tp_meaning.proofs.Shows.{join-blank, total_same, put_at, put_there, put_else}
 use Rattle.tp_meaning.proofs.Means.{fin_means}
 

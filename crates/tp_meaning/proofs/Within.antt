@@ -6,7 +6,7 @@ use Rattle.tp_meaning.specs.Syntax.{FormulaTree, trivial, test, equation, next_e
 use Rattle.tp_meaning.specs.Course.{Part, Course, Shows, blank, ◌⊕◌, shown_at, total, woven}
 use Rattle.tp_meaning.specs.Value.{Env, Calls, calls_at}
 use Rattle.tp_meaning.specs.Holds.{Context, Pieces, Together, CallMeanings, HoldsBy, AllHoldBy, CallHolds, Holds}
-use Rattle.tp_meaning.specs.Moving.{IsWithin, NothingShownOutside}
+use Rattle.tp_meaning.specs.Moving.{NothingShownOutside}
 use Rattle.tp_meaning.proofs.Move.{cut_within}
 
 -- the position is outside

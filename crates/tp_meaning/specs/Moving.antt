@@ -1,7 +1,7 @@
 -- What a formula reads: its own part of the course and of the environment, wherever that part lies, and nothing else.
-use Rattle.std.specs.Prelude.{◌≡◌, ℕ, suc, ◌≤◌, ◌<◌, List, [], ◌∷◌, length}
+use Rattle.std.specs.Prelude.{◌≡◌, ℕ, suc, ◌≤◌, ◌<◌, [], ◌∷◌}
 use Rattle.tp_meaning.specs.Syntax.{FormulaTree}
-use Rattle.tp_meaning.specs.Course.{State, Course, Shows}
+use Rattle.tp_meaning.specs.Course.{Course, Shows}
 use Rattle.tp_meaning.specs.Value.{Meaning, fixed, varying, Env}
 use Rattle.tp_meaning.specs.Holds.{Context, Holds}
 

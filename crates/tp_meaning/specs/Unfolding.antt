@@ -2,7 +2,7 @@
 use Rattle.std.specs.Prelude.{◌≡◌, ℤ, pos, ◌+ℤ◌, ◌≤ℤ◌, ◌<ℤ◌, ℕ, zero, suc, ◌≤◌, ◌<◌, List, [], ◌∷◌, ◌++◌, Some, ◌↔◌}
 use Rattle.tp_value.specs.Tree.{Tree, num}
 use Rattle.tp_meaning.specs.Syntax.{ExprTree, known, numeral, FormulaTree, equation, next_equation, empty, more, next, weak_next, always, conjunction, branch, len, assign, chop, while, for_from, forall_from, project, input, formulas_of}
-use Rattle.tp_meaning.specs.Course.{Course, Shows, Part, blank, woven, Rising}
+use Rattle.tp_meaning.specs.Course.{Course, Shows, blank, woven, Rising}
 use Rattle.tp_meaning.specs.Value.{Env, fixed}
 use Rattle.tp_meaning.specs.Inputs.{input_at}
 use Rattle.tp_meaning.specs.Holds.{Context, Holds, Joined, Chopped, env_at_cuts}

@@ -1,11 +1,11 @@
 // The least intervals on which formulas of each kind hold, and some on which they do not. In the states 0, 1, .. the variable A has
 // the values 0, 1, ..
 ghost use Rattle.std.specs.Prelude.{◌≡◌, pos, ℕ, Bool, List, [], ◌∷◌};
-ghost use Rattle.tp_meaning.specs.Syntax.{Equal, Less, Plus, Div, boolean, binary, bound, FormulaTree, trivial, test, equation, next_equation, empty, more, next, weak_next, if_more, if_empty, always, conjunction, branch, len, assign, chop, while, for_from, forall_from, project, exists, input, formulas_of};
+ghost use Rattle.tp_meaning.specs.Syntax.{Equal, Less, Plus, Div, boolean, binary, bound, index, FormulaTree, trivial, test, equation, next_equation, empty, more, next, weak_next, if_more, if_empty, always, conjunction, branch, len, assign, chop, while, for_from, forall_from, project, exists, input, formulas_of};
 ghost use Rattle.tp_meaning.specs.Course.{Shows, blank};
 ghost use Rattle.tp_meaning.specs.Holds.{Holds};
 ghost use Rattle.tp_meaning.specs.Derived.{skip_of, fin_of};
-ghost use Rattle.tp_meaning.specs.Examples.{nothing_given, counting, A, number, A_is, display_of, shown, HoldsTo, FailsTo};
+ghost use Rattle.tp_meaning.specs.Examples.{nothing_given, counting, A, I, number, A_is, display_of, shown, HoldsTo, FailsTo, CountsToThree, with_definition, call_it, on_and_on, upper_parameter, lower_parameter, indexed, with_inputs, port, port_is};
 
 /// `true`, tests, equations, displays, conjunctions and choices.
 pub fn state_formulas()
@@ -84,4 +84,34 @@ pub fn exists_formulas()
     ensures fails { FailsTo 0 (exists [] Bool.false (conjunction (formulas_of (equation (bound 0) (number 0) ∷ equation (bound 0) (number 1) ∷ [])))) }
     ensures changing_holds { HoldsTo 1 (exists [] Bool.false (always (equation (bound 0) A))) [] }
     ensures static_fails { FailsTo 1 (exists [] Bool.true (always (equation (bound 0) A))) }
+{}
+
+/// `len(3) and A=0 and A gets A+1` holds where A is 0, 1, 2, 3, and nowhere else.
+pub fn counting_to_three()
+    ensures { CountsToThree }
+{}
+
+/// A recursion holds at the depth that it needs and above, and at none below.
+pub fn recursive_calls()
+    ensures one_state_at_depth_1 { Holds on_and_on 1 (call_it []) [] counting 0 0 blank }
+    ensures no_state_at_depth_0 { (S : Shows) → Holds on_and_on 0 (call_it []) [] counting 0 0 S → ⊥ }
+    ensures two_states_at_depth_2 { Holds on_and_on 2 (call_it []) [] counting 0 1 blank }
+    ensures not_two_states_at_depth_1 { (S : Shows) → Holds on_and_on 1 (call_it []) [] counting 0 1 S → ⊥ }
+{}
+
+/// A place that is handed to an upper-case parameter varies, while its index is read in the call's first state; a lower-case parameter
+/// keeps the value that its argument has there.
+pub fn parameters()
+    ensures upper_holds { Holds (with_definition upper_parameter (next (equation (bound 0) (number 5)))) 1 (call_it (index A I ∷ [])) [] indexed 0 1 blank }
+    ensures index_in_the_next_state { Holds nothing_given 0 (next (equation (index A I) (number 7))) [] indexed 0 1 blank }
+    ensures lower_holds { Holds (with_definition lower_parameter (next (equation (bound 0) (number 4)))) 1 (call_it (index A I ∷ [])) [] indexed 0 1 blank }
+    ensures upper_takes_places { (d : ℕ) (S : Shows) → Holds (with_definition upper_parameter trivial) d (call_it (number 1 ∷ [])) [] indexed 0 1 S → ⊥ }
+{}
+
+/// An input is read by the state's own number, in a projection too.
+pub fn inputs()
+    ensures holds { Holds (with_inputs ((port_is 0 ∷ []) ∷ [])) 0 (input A port) [] counting 0 0 blank }
+    ensures fails_without { FailsTo 0 (input A port) }
+    ensures fails_with_another { (d : ℕ) (S : Shows) → Holds (with_inputs ((port_is 1 ∷ []) ∷ [])) d (input A port) [] counting 0 0 S → ⊥ }
+    ensures own_number { Holds (with_inputs ([] ∷ (port_is 9 ∷ []) ∷ (port_is 2 ∷ []) ∷ [])) 0 (project (len (number 2)) (next (input A port))) [] counting 0 2 blank }
 {}

@@ -1,6 +1,6 @@
-use Rattle.std.proofs.Common.{◌≡◌, pos, refl, sym, [], ◌∷◌, ◌∙◌, arith}
+use Rattle.std.proofs.Common.{pos, refl, sym, [], ◌∷◌, ◌∙◌, arith}
 use Rattle.tp_value.specs.Tree.{num}
-use Rattle.tp_meaning.specs.Course.{blank, ◌⊕◌, shown_at}
+use Rattle.tp_meaning.specs.Course.{blank, shown_at}
 use Rattle.tp_meaning.specs.Examples.{shown}
 use Rattle.tp_meaning.proofs.Shows.{join-blank}
 use Rattle.tp_meaning.proofs.ExampleShows.{spelled_is, nothing_first, shown_join}

@@ -1,12 +1,12 @@
-use Rattle.std.proofs.Common.{◌≡◌, pos, refl, sym, [], ◌∷◌, ◌∙◌, arith}
-use Rattle.tp_value.specs.Tree.{num, truth}
+use Rattle.std.proofs.Common.{pos, refl, sym, [], ◌∷◌, ◌∙◌, arith}
+use Rattle.tp_value.specs.Tree.{num}
 use Rattle.tp_meaning.specs.Course.{blank, ◌⊕◌, shown_at}
 use Rattle.tp_meaning.specs.Syntax.{bound}
 use Rattle.tp_meaning.specs.Value.{fixed}
 use Rattle.tp_meaning.specs.Examples.{A, shown}
 use Rattle.tp_meaning.proofs.ExampleTurns.{turn_shows}
 use Rattle.tp_meaning.proofs.Shows.{join-blank}
-use Rattle.tp_meaning.proofs.ExampleShows.{spelled_is, nothing_first, shown_join}
+use Rattle.tp_meaning.proofs.ExampleShows.{spelled_is, shown_join}
 use Rattle.tp_meaning.proofs.examples.loop_formulas.Goals as goal
 
 pub returns-clause-for_turns_may_be_empty : goal.returns-clause-for_turns_may_be_empty

@@ -1,4 +1,4 @@
-use Rattle.std.proofs.Common.{◌≡◌, pos, refl, [], ◌∷◌, ◌∙◌}
+use Rattle.std.proofs.Common.{pos, refl, [], ◌∷◌, ◌∙◌}
 use Rattle.tp_value.specs.Tree.{num}
 use Rattle.tp_meaning.specs.Course.{blank, ◌⊕◌, shown_at}
 use Rattle.tp_meaning.specs.Examples.{shown}
