@@ -1,5 +1,5 @@
 -- Trees are equal exactly where they are found the same.
-use Rattle.std.proofs.Common.{◌≡◌, ◌↔◌, Bool, true, false, refl, ap, ap₂}
+use Rattle.std.proofs.Common.{◌≡◌, Bool, true, false, refl, ap, ap₂}
 use Rattle.std.specs.Bool.{Decides}
 use Rattle.std.proofs.lemmas.Bool.Decides.{Decides-int_eq, Decides-and, Decides-like}
 use Rattle.tp_value.specs.Tree.{Tree, Trees, num, truth, list, nil, cons, same_truth, same_tree, same_trees, SameTreeIsEquality}
