@@ -16,3 +16,5 @@ pub mod ExampleShows
 pub mod ExampleTurns
 pub mod ExampleProject
 pub mod ExampleCounting
+pub mod ReadStates
+pub mod BindingsAre

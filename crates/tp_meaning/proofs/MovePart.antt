@@ -11,7 +11,7 @@ use Rattle.tp_meaning.proofs.Within.{holds_silent}
 
 -- positions from a on go to those from k on
 module _ (a k : ℕ) where
-  abbrev to : ℕ → ℕ
+  abbrev pub to : ℕ → ℕ
   to j = (j - a) + k
 
   abbrev push : Shows → Shows
@@ -58,12 +58,12 @@ env_same f g a b e (m ∷ ms) [] h = elim h [ ]
 env_same f g a b e (m ∷ ms) (n ∷ ns) h = (one_same f g a b e m n h.0, env_same f g a b e ms ns h.1)
 
 module _ (at : ℕ → ℕ) (a b : ℕ) (step : InStep at a b) where
-  at_sum : (n : ℕ) → n + a ≤ b → at (n + a) ≡ n + at a
+  pub at_sum : (n : ℕ) → n + a ≤ b → at (n + a) ≡ n + at a
   at_sum zero h = (let e : 0 + a ≡ a = omega arith in ap at e) ∙ (let e : at a ≡ 0 + at a = omega arith in e)
   at_sum (suc n) h =
       (let e : suc n + a ≡ suc (n + a) = omega arith in ap at e) ∙ step (n + a) (omega arith) (omega arith) ∙ ap suc (at_sum n (omega arith)) ∙ (let e : suc (n + at a) ≡ suc n + at a = omega arith in e)
 
-  at_is : (j : ℕ) → a ≤ j → j ≤ b → at j ≡ to a (at a) j
+  pub at_is : (j : ℕ) → a ≤ j → j ≤ b → at j ≡ to a (at a) j
   at_is j u v = (let e : j ≡ (j - a) + a = omega arith in ap at e) ∙ at_sum (j - a) (omega arith)
 
 -- what the shows that were moved are

@@ -14,3 +14,4 @@ pub mod Moving
 pub mod Unfolding
 pub mod Reading
 pub mod Examples
+pub mod BindingsLaw

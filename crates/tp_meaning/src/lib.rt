@@ -22,7 +22,8 @@ pub use examples::{
 };
 pub use laws::{meanings_deepen, values_deepen};
 pub use moving::{
-    meanings_move, meanings_read_their_part, meanings_read_variables, nothing_shown_outside,
+    bindings_mean, meanings_move, meanings_read_their_part, meanings_read_variables,
+    nothing_shown_outside, satisfying_reads_states,
 };
 pub use unfolding::{
     always_unfolds, assign_unfolds, for_unfolds, forall_unfolds, input_unfolds, len_unfolds,
