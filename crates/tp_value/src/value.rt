@@ -1,5 +1,6 @@
 ghost use Rattle.std.specs.Prelude.{◌≡◌, ◌↔◌, IfOk, IsTrue};
 ghost use Rattle.tp_value.specs.Read.{tree};
+ghost use Rattle.tp_value.specs.Tree.{SameTreeIsEquality};
 ghost use Rattle.tp_value.specs.Shape.{shape_of, item_of, shape_at_path, HasShortLists};
 ghost use Rattle.std.specs.Option.{option_map};
 
@@ -124,3 +125,8 @@ pub fn same(a: &Value, b: &Value) -> bool
         },
     }
 }
+
+/// `same_tree` of the specifications tells equal trees.
+pub fn same_tree_is_equality()
+    ensures { SameTreeIsEquality }
+{}
