@@ -4,3 +4,6 @@ mod Steps
 mod PassLemmas
 mod SettleLemmas
 mod RunLemmas
+mod Numbers
+mod StepMeans
+mod KeepsLemmas

@@ -9,3 +9,4 @@ pub mod Settles
 pub mod Ready
 pub mod ReadyProps
 pub mod Runs
+pub mod StandsFor
