@@ -10,3 +10,4 @@ pub mod Ready
 pub mod ReadyProps
 pub mod Runs
 pub mod StandsFor
+pub mod Meaning

@@ -10,4 +10,4 @@ returns-in_ok-made-in-Open-clause-less c =
     let ready = c.in-Open.ready in
     let stand = c.in_ok-made-in-Open.made.stand in
     let turn = c.in_ok-made-in-Open.made.turn in
-    subst (λ (z : Standing). LessToDo z (stands_at stand) turn) (ap stands_at c.in-Open.ensures.value) (becomes_less _ (residual_of ready.scene) _ _ (stands_at stand) turn ready.unmarked c.in_ok-made-in-Open.ensures.made)
+    subst (λ (z : Standing). LessToDo z (stands_at stand) turn) (ap stands_at c.in-Open.ensures.value) (becomes_less _ (residual_of ready.scene) _ _ (stands_at stand) turn ready.fresh.no_next c.in_ok-made-in-Open.ensures.made)
