@@ -1,24 +1,23 @@
 -- Picks keep what a residual stands for, and what meets a clash stands for nothing.
-use Rattle.std.proofs.Common.{◌≡◌, ℤ, ℕ, zero, suc, ◌+◌, ◌-◌, ◌<◌, ◌≤◌, Bool, true, false, cond, List, [], ◌∷◌, ◌++◌, length, Option, None, Some, slice_get, slice_set, refl, ap, ap₂, sym, ◌∙◌, subst, arith, ◌⊎◌, inl, inr, eqb}
+use Rattle.std.proofs.Common.{◌≡◌, ℤ, ℕ, zero, suc, ◌<◌, ◌≤◌, Bool, true, false, cond, List, [], ◌∷◌, ◌++◌, length, Option, None, Some, slice_get, slice_set, refl, ap, sym, ◌∙◌, subst, arith, ◌⊎◌, inl, inr, eqb}
 use Rattle.std.proofs.lemmas.Bool.Decides.{nat_tests}
-use Rattle.tp_value.specs.Tree.{Tree, num}
+use Rattle.tp_value.specs.Tree.{num}
 use Rattle.tp_value.specs.declared.path.VarId.{VarId}
 use Rattle.tp_meaning.specs.Course.{State, Course, Shows, blank, ◌⊕◌}
-use Rattle.tp_meaning.specs.Holds.{Joined}
-use Rattle.tp_meaning.proofs.Shows.{join-blank, blank-join, join-assoc}
+use Rattle.tp_meaning.proofs.Shows.{blank-join, join-assoc}
 use Rattle.tp_kernel.specs.Built.{IsSum, IsBuiltOver, IsStateVariable}
 use Rattle.tp_run.specs.Residual.{Duty, Do, Later, formula_in, Known, kept, joined_option, with_number, Residual}
 use Rattle.std.specs.Ordering.{int_eq}
 use Rattle.tp_meaning.specs.Syntax.{ExprTree, global, FormulaTree, equation, next_equation, empty, more, next, conjunction}
 use Rattle.tp_run.specs.declared.turn.Clash.{Clash}
-use Rattle.tp_run.specs.declared.turn.Clash.TheVariants.{Facts, Marks, False}
+use Rattle.tp_run.specs.declared.turn.Clash.TheVariants.{Facts, False}
 use Rattle.tp_run.specs.Rules.{Mark, no_mark, ends_here, goes_on, Setting, Outcome, becomes, waits, rests, clashes, passes, not_built, nothing, outcome_of, reduction, Found, value, waits_for, over, unbuilt, found_in, fact_of, set_variable, meets, both_wait, equate, ending, going, carried, variable_in}
 use Rattle.tp_run.proofs.RunLemmas.{picks_runnable}
 use Rattle.tp_run.specs.Picks.{Reduces, Picks, MeetsClash, ends_after, goes_after, known_after}
 use Rattle.tp_run.specs.Tries.{AllBuiltOver}
 use Rattle.tp_run.specs.Ready.{IsRunnable}
 use Rattle.tp_run.specs.StandsFor.{Agrees, DutyHolds, DutiesHold, IsMarked, StandsFor}
-use Rattle.tp_run.proofs.StepMeans.{MarkHolds, SettingHolds, Leaves, SaysSame, duty_says}
+use Rattle.tp_run.proofs.StepMeans.{MarkHolds, SettingHolds, SaysSame, duty_says}
 
 -- duties one list after the other
 pub hold_join : (d : ℕ) (xs ys : List Duty) (s : Course) (a b : ℕ) (T U : Shows) → DutiesHold d xs s a b T → DutiesHold d ys s a b U → DutiesHold d (xs ++ ys) s a b (T ⊕ U)
@@ -181,36 +180,37 @@ pub step_keeps : (r t : Residual) → IsRunnable r → Reduces r t → (s : Cour
 step_keeps r t run w s a b S within =
     let n = length r.known in
     let built = built_there (IsStateVariable n) w.before w.picked w.behind (subst (AllBuiltOver (IsStateVariable n)) w.gives.stands run) in
-    let new : IsNew r.known w.fact = subst (AddsNew r.known) w.gives.outcome (duty_new r.ends r.goes r.known w.picked built) in
-    (λ h.
-      let d = h.depth in
-      let p = hold_part d w.before (w.picked ∷ w.behind) s a b S (subst (λ ds. DutiesHold d ds s a b S) w.gives.stands h.holds) in
-      let law = subst (SaysSame d s a b (λ V. DutyHolds d w.picked s a b V)) w.gives.outcome (duty_says d s a b r.known h.agrees within (IsStateVariable n) r.ends r.goes h.marked w.picked built) in
-      let l = (law p.back.0).0 p.back.2 in
-      subst (λ (u : Residual). StandsFor u s a b S) (sym w.after) (record {
-        marked = marked_more r.ends r.goes w.mark a b h.marked l.marked;
-        agrees = agrees_more (s a) r.known w.fact h.agrees l.true_fact;
-        depth = d;
-        holds = subst (DutiesHold d ((w.before ++ w.duties) ++ w.behind) s a b) (join-assoc p.first p.back.0 p.back.1 ∙ ap (λ (V : Shows). p.first ⊕ V) (sym p.back.4) ∙ sym p.shows)
-            (hold_join d (w.before ++ w.duties) w.behind s a b (p.first ⊕ p.back.0) p.back.1 (hold_join d w.before w.duties s a b p.first p.back.0 p.front l.all) p.back.3);
-      }),
-    λ h'.
-      let h = subst (λ (u : Residual). StandsFor u s a b S) w.after h' in
-      let d = h.depth in
-      let m = marked_less r.ends r.goes w.mark a b h.marked in
-      let known = agrees_less (s a) r.known w.fact new h.agrees in
-      let p = hold_part d (w.before ++ w.duties) w.behind s a b S h.holds in
-      let q = hold_part d w.before w.duties s a b p.first p.front in
-      let law = subst (SaysSame d s a b (λ V. DutyHolds d w.picked s a b V)) w.gives.outcome (duty_says d s a b r.known known.0 within (IsStateVariable n) r.ends r.goes m.0 w.picked built) in
-      let back = (law q.second).1 (record { all = q.back; marked = m.1; true_fact = known.1 }) in
-      record {
-        marked = m.0;
-        agrees = known.0;
-        depth = d;
-        holds = subst (λ ds. DutiesHold d ds s a b S) (sym w.gives.stands)
-            (subst (DutiesHold d (w.before ++ w.picked ∷ w.behind) s a b) (sym (join-assoc q.first q.second p.second) ∙ ap (λ (V : Shows). V ⊕ p.second) (sym q.shows) ∙ sym p.shows)
+    let new : IsNew r.known w.fact = subst (AddsNew r.known) w.gives.outcome (duty_new r.ends r.goes r.known w.picked built) in (
+      λ h.
+          let d = h.depth in
+          let p = hold_part d w.before (w.picked ∷ w.behind) s a b S (subst (λ ds. DutiesHold d ds s a b S) w.gives.stands h.holds) in
+          let law = subst (SaysSame d s a b (λ V. DutyHolds d w.picked s a b V)) w.gives.outcome (duty_says d s a b r.known h.agrees within (IsStateVariable n) r.ends r.goes h.marked w.picked built) in
+          let l = (law p.back.0).0 p.back.2 in
+          subst (λ (u : Residual). StandsFor u s a b S) (sym w.after) (record {
+            marked = marked_more r.ends r.goes w.mark a b h.marked l.marked;
+            agrees = agrees_more (s a) r.known w.fact h.agrees l.true_fact;
+            depth = d;
+            holds = subst (DutiesHold d ((w.before ++ w.duties) ++ w.behind) s a b) (join-assoc p.first p.back.0 p.back.1 ∙ ap (λ (V : Shows). p.first ⊕ V) (sym p.back.4) ∙ sym p.shows)
+                (hold_join d (w.before ++ w.duties) w.behind s a b (p.first ⊕ p.back.0) p.back.1 (hold_join d w.before w.duties s a b p.first p.back.0 p.front l.all) p.back.3);
+          }),
+      λ h'.
+          let h = subst (λ (u : Residual). StandsFor u s a b S) w.after h' in
+          let d = h.depth in
+          let m = marked_less r.ends r.goes w.mark a b h.marked in
+          let known = agrees_less (s a) r.known w.fact new h.agrees in
+          let p = hold_part d (w.before ++ w.duties) w.behind s a b S h.holds in
+          let q = hold_part d w.before w.duties s a b p.first p.front in
+          let law = subst (SaysSame d s a b (λ V. DutyHolds d w.picked s a b V)) w.gives.outcome (duty_says d s a b r.known known.0 within (IsStateVariable n) r.ends r.goes m.0 w.picked built) in
+          let back = (law q.second).1 (record { all = q.back; marked = m.1; true_fact = known.1 }) in
+          record {
+            marked = m.0;
+            agrees = known.0;
+            depth = d;
+            holds = subst (λ ds. DutiesHold d ds s a b S) (sym w.gives.stands)
+                (subst (DutiesHold d (w.before ++ w.picked ∷ w.behind) s a b) (sym (join-assoc q.first q.second p.second) ∙ ap (λ (V : Shows). V ⊕ p.second) (sym q.shows) ∙ sym p.shows)
                 (hold_join d w.before (w.picked ∷ w.behind) s a b q.first (q.second ⊕ p.second) q.front (q.second, p.second, back, p.back, refl)));
-      })
+          },
+    )
 
 pub picks_keep : (n : ℕ) (r t : Residual) → IsRunnable r → Picks n r t → (s : Course) (a b : ℕ) (S : Shows) → a ≤ b → (StandsFor r s a b S → StandsFor t s a b S) × (StandsFor t s a b S → StandsFor r s a b S)
 picks_keep zero r t run p s a b S within = (λ h. subst (λ (u : Residual). StandsFor u s a b S) (sym p) h, λ h. subst (λ (u : Residual). StandsFor u s a b S) p h)

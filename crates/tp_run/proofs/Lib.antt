@@ -7,3 +7,5 @@ mod RunLemmas
 mod Numbers
 mod StepMeans
 mod KeepsLemmas
+mod FitsLemmas
+mod AnswerMeans

@@ -1,10 +1,10 @@
 -- What is found of a sum is its value in each state that has the known numbers.
-use Rattle.std.proofs.Common.{◌≡◌, ℤ, ◌+ℤ◌, ℕ, Bool, true, false, cond, List, [], Option, None, Some, refl, ap, ap₂, sym, ◌∙◌, subst}
+use Rattle.std.proofs.Common.{◌≡◌, ℤ, ◌+ℤ◌, ℕ, Bool, true, false, cond, List, Option, None, Some, refl, ap, ap₂, ◌∙◌}
 use Rattle.tp_value.specs.Number.{is_within_limit}
 use Rattle.tp_value.specs.Tree.{Tree, num}
 use Rattle.tp_value.specs.declared.path.VarId.{VarId}
 use Rattle.tp_meaning.specs.Syntax.{Plus, ExprTree, numeral, global, binary, Definition}
-use Rattle.tp_meaning.specs.Course.{State, Course}
+use Rattle.tp_meaning.specs.Course.{Course}
 use Rattle.tp_meaning.specs.Value.{◌>>=◌, Env, Calls, value_by, operate}
 use Rattle.tp_run.specs.Residual.{Known, kept}
 use Rattle.tp_run.specs.Rules.{Found, value, waits_for, over, unbuilt, within, found_at, sum_of, found_in}

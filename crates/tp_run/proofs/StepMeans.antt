@@ -1,17 +1,16 @@
 -- What an item says, its step says too.
-use Rattle.std.proofs.Common.{◌≡◌, ℤ, ℕ, zero, suc, ◌+◌, ◌-◌, ◌<◌, ◌≤◌, Bool, true, false, cond, List, [], ◌∷◌, ◌++◌, Option, None, Some, refl, ap, ap₂, sym, ◌∙◌, subst, arith}
+use Rattle.std.proofs.Common.{◌≡◌, ℤ, ℕ, zero, suc, ◌+◌, ◌-◌, ◌<◌, ◌≤◌, Bool, true, false, cond, List, [], ◌∷◌, Option, None, Some, refl, ap, sym, ◌∙◌, subst, arith}
 use Rattle.std.specs.Ordering.{int_eq}
 use Rattle.std.proofs.lemmas.Bool.Decides.{Decides-int_eq}
 use Rattle.tp_value.specs.Tree.{Tree, num}
 use Rattle.tp_value.specs.declared.path.VarId.{VarId}
 use Rattle.tp_meaning.specs.Syntax.{ExprTree, global, numeral, FormulaTree, FormulaTrees, no_formula, formula_then, equation, next_equation, empty, more, next, conjunction}
 use Rattle.tp_meaning.specs.Course.{State, Course, Shows, blank, ◌⊕◌}
-use Rattle.tp_meaning.specs.Value.{Env, calls_at, value_by}
-use Rattle.tp_meaning.specs.Holds.{Holds, HoldsBy, AllHoldBy, CallHolds, Joined}
+use Rattle.tp_meaning.specs.Value.{calls_at, value_by}
+use Rattle.tp_meaning.specs.Holds.{Holds, AllHoldBy, CallHolds}
 use Rattle.tp_meaning.specs.Unfolding.{nexts}
 use Rattle.tp_meaning.proofs.Shows.{join-blank}
-use Rattle.tp_kernel.specs.declared.formula.LimitKind.TheVariants as limit
-use Rattle.tp_run.specs.declared.turn.Clash.TheVariants.{Facts, Marks, False}
+use Rattle.tp_run.specs.declared.turn.Clash.TheVariants.{Facts, False}
 use Rattle.tp_kernel.specs.Built.{IsBuiltOver}
 use Rattle.tp_run.specs.Residual.{Duty, Do, Later, formula_in, Known, kept}
 use Rattle.tp_run.specs.Rules.{Found, value, waits_for, over, unbuilt, found_in, Mark, no_mark, ends_here, goes_on, Setting, Outcome, becomes, waits, rests, clashes, passes, not_built, nothing, set_variable, fact_of, variable_in, meets, both_wait, equate, ending, going, carried, each_do, reduction, outcome_of}
@@ -67,9 +66,9 @@ module _ (d : ℕ) (s : Course) (a b : ℕ) (k : Known) (agrees : Agrees (s a) k
       let P : Shows → Type 0 = λ S. ((s a).values x.number ≡ num n) × (S ≡ blank) in
       let same : int_eq m n ≡ true → SaysSame d s a b P nothing = λ t S. (λ p. record { all = p.1; marked = tt; true_fact = tt }, λ l. (has ∙ ap num ((Decides-int_eq m n).0 t), l.all)) in
       let other : int_eq m n ≡ false → SaysSame d s a b P (clashes (Facts (fact_of x m) (fact_of x n))) =
-          λ f S p. let equal : num m ≡ num n = sym has ∙ p.0 in let number : m ≡ n = cc in let yes_ : int_eq m n ≡ true = (Decides-int_eq m n).1 number in absurd (cc) in
+      λ f S p. let equal : num m ≡ num n = sym has ∙ p.0 in let number : m ≡ n = cc in let yes_ : int_eq m n ≡ true = (Decides-int_eq m n).1 number in absurd (cc) in
       let by : (t : Bool) → int_eq m n ≡ t → SaysSame d s a b P (cond t nothing (clashes (Facts (fact_of x m) (fact_of x n)))) =
-          λ t. elim t as (λ t. int_eq m n ≡ t → SaysSame d s a b P (cond t nothing (clashes (Facts (fact_of x m) (fact_of x n))))) [ true ↦ same | false ↦ other ] in
+      λ t. elim t as (λ t. int_eq m n ≡ t → SaysSame d s a b P (cond t nothing (clashes (Facts (fact_of x m) (fact_of x n))))) [ true ↦ same | false ↦ other ] in
       by (int_eq m n) refl
 
   -- one side of an equation has the value x, and the other side the number n
@@ -78,17 +77,17 @@ module _ (d : ℕ) (s : Course) (a b : ℕ) (k : Known) (agrees : Agrees (s a) k
   meets_says (Some v) f n x y ey ex ef =
       let at = ex v refl in
       says_alike d s a b (set_variable v n (kept k v))
-          (λ S p. (num n, at ∙ ap Some p.0, ey, p.1))
-          (λ S p. (let left : Some ((s a).values v.number) ≡ Some p.0 = sym at ∙ p.1 in let right : Some (num n) ≡ Some p.0 = sym ey ∙ p.2 in let u : (s a).values v.number ≡ p.0 = cc in let w : num n ≡ p.0 = cc in u ∙ sym w, p.3))
-          (set_says v n (kept k v) refl)
+      (λ S p. (num n, at ∙ ap Some p.0, ey, p.1))
+      (λ S p. (let left : Some ((s a).values v.number) ≡ Some p.0 = sym at ∙ p.1 in let right : Some (num n) ≡ Some p.0 = sym ey ∙ p.2 in let u : (s a).values v.number ≡ p.0 = cc in let w : num n ≡ p.0 = cc in u ∙ sym w, p.3))
+      (set_says v n (kept k v) refl)
   meets_says None (value m) n x y ey ex ef =
       let at = ef m refl in
       let same : int_eq m n ≡ true → SaysSame d s a b (Agree x y) nothing = λ t S. (λ p. record { all = p.3; marked = tt; true_fact = tt }, λ l. (num n, at ∙ ap (λ z. Some (num z)) ((Decides-int_eq m n).0 t), ey, l.all)) in
       let other : int_eq m n ≡ false → SaysSame d s a b (Agree x y) (clashes False) =
-          λ f S p. let left : Some (num m) ≡ Some p.0 = sym at ∙ p.1 in let right : Some (num n) ≡ Some p.0 = sym ey ∙ p.2 in let u : num m ≡ p.0 = cc in let w : num n ≡ p.0 = cc in let equal : num m ≡ num n = u ∙ sym w in let number : m ≡ n = cc in
-              let is : int_eq m n ≡ true = (Decides-int_eq m n).1 number in absurd (cc) in
+      λ f S p. let left : Some (num m) ≡ Some p.0 = sym at ∙ p.1 in let right : Some (num n) ≡ Some p.0 = sym ey ∙ p.2 in let u : num m ≡ p.0 = cc in let w : num n ≡ p.0 = cc in let equal : num m ≡ num n = u ∙ sym w in let number : m ≡ n = cc in
+      let is : int_eq m n ≡ true = (Decides-int_eq m n).1 number in absurd (cc) in
       let by : (t : Bool) → int_eq m n ≡ t → SaysSame d s a b (Agree x y) (cond t nothing (clashes False)) =
-          λ t. elim t as (λ t. int_eq m n ≡ t → SaysSame d s a b (Agree x y) (cond t nothing (clashes False))) [ true ↦ same | false ↦ other ] in
+      λ t. elim t as (λ t. int_eq m n ≡ t → SaysSame d s a b (Agree x y) (cond t nothing (clashes False))) [ true ↦ same | false ↦ other ] in
       by (int_eq m n) refl
   meets_says None (waits_for z) n x y ey ex ef = tt
   meets_says None over n x y ey ex ef = tt
@@ -137,9 +136,10 @@ module _ (d : ℕ) (s : Course) (a b : ℕ) (k : Known) (agrees : Agrees (s a) k
 
 -- one duty alone
 pub one_duty : (d : ℕ) (s : Course) (a b : ℕ) (duty : Duty) (S : Shows) → (DutyHolds d duty s a b S → DutiesHold d (duty ∷ []) s a b S) × (DutiesHold d (duty ∷ []) s a b S → DutyHolds d duty s a b S)
-one_duty d s a b duty S =
-    (λ h. (S, blank, h, refl, sym (join-blank S)),
-    λ h. subst (DutyHolds d duty s a b) (sym (h.4 ∙ ap (λ (U : Shows). h.0 ⊕ U) h.3 ∙ join-blank h.0)) h.2)
+one_duty d s a b duty S = (
+  λ h. (S, blank, h, refl, sym (join-blank S)),
+  λ h. subst (DutyHolds d duty s a b) (sym (h.4 ∙ ap (λ (U : Shows). h.0 ⊕ U) h.3 ∙ join-blank h.0)) h.2,
+)
 
 -- the target's value at a position, with nothing shown
 abbrev HasLater : ℕ → Course → ExprTree → ℤ → ℕ → ℕ → Shows → Type 0
@@ -153,9 +153,10 @@ nexts_say d s zero t v a b p S e h =
     let At : ℕ → Type 0 = λ q. value_by [] (calls_at [] d) t [] s q ≡ Some (num v) in
     (λ f. (omega arith, subst At (sym here) (f.1 ∙ sym f.2), f.3), λ f. (num v, subst At here f.1, refl, f.2))
 nexts_say d s (suc n) t v a b p S e h =
-    let further : p ≡ n + suc a = omega arith in
-    (λ f. (nexts_say d s n t v (suc a) b p S further f.0).0 f.1,
-    λ f. let less : a < b = omega (arith, f.0) in (less, (nexts_say d s n t v (suc a) b p S further less).1 f))
+    let further : p ≡ n + suc a = omega arith in (
+      λ f. (nexts_say d s n t v (suc a) b p S further f.0).0 f.1,
+      λ f. let less : a < b = omega (arith, f.0) in (less, (nexts_say d s n t v (suc a) b p S further less).1 f),
+    )
 
 module _ (d : ℕ) (s : Course) (a b : ℕ) (k : Known) (agrees : Agrees (s a) k) (within : a ≤ b) where
   -- a number that is carried on
@@ -167,16 +168,16 @@ module _ (d : ℕ) (s : Course) (a b : ℕ) (k : Known) (agrees : Agrees (s a) k
       let place : n + a ≡ n - 1 + suc a = omega arith in
       let At : Tree → Type 0 = λ u. value_by [] (calls_at [] d) t [] s (n + a) ≡ Some u in
       says_alike d s a b (going ends (later ∷ []))
-          (λ S p.
-            let q = (one_duty d s a b later S).1 p.1 in
-            let r = (nexts_say d s (n - 1) t v (suc a) b (n + a) S place q.0).0 q.1 in
-            (num v, r.0, r.1, has, r.2))
-          (λ S p.
-            let equal : Some (num v) ≡ Some p.0 = sym has ∙ p.3 in
-            let number : num v ≡ p.0 = cc in
-            let less : a < b = omega (arith, p.1, some) in
-            (less, (one_duty d s a b later S).0 (less, (nexts_say d s (n - 1) t v (suc a) b (n + a) S place less).1 (p.1, subst At (sym number) p.2, p.4))))
-          (going_says d s a b k agrees ends (later ∷ []) here)
+      (λ S p.
+      let q = (one_duty d s a b later S).1 p.1 in
+      let r = (nexts_say d s (n - 1) t v (suc a) b (n + a) S place q.0).0 q.1 in
+      (num v, r.0, r.1, has, r.2))
+      (λ S p.
+      let equal : Some (num v) ≡ Some p.0 = sym has ∙ p.3 in
+      let number : num v ≡ p.0 = cc in
+      let less : a < b = omega (arith, p.1, some) in
+      (less, (one_duty d s a b later S).0 (less, (nexts_say d s (n - 1) t v (suc a) b (n + a) S place less).1 (p.1, subst At (sym number) p.2, p.4))))
+      (going_says d s a b k agrees ends (later ∷ []) here)
   carried_says ends n t e (waits_for x) here is some = tt
   carried_says ends n t e over here is some = tt
   carried_says ends n t e unbuilt here is some = tt
@@ -190,13 +191,13 @@ module _ (d : ℕ) (s : Course) (a b : ℕ) (k : Known) (agrees : Agrees (s a) k
   formula_says : (P : VarId → Type 0) (ends goes : Bool) → IsMarked ends goes a b → (w : FormulaTree) → IsBuiltOver P w → SaysSame d s a b (λ S. Holds no_context d w [] s a b S) (reduction ends goes k w)
   formula_says P ends goes m (equation l r) built =
       equate_says d s a b k agrees (variable_in l) (variable_in r) (found_in k l) (found_in k r) (value_by [] (calls_at [] d) l [] s a) (value_by [] (calls_at [] d) r [] s a)
-          (side_is l) (side_is r) (found_is_value [] (calls_at [] d) s a k agrees l []) (found_is_value [] (calls_at [] d) s a k agrees r [])
+      (side_is l) (side_is r) (found_is_value [] (calls_at [] d) s a k agrees l []) (found_is_value [] (calls_at [] d) s a k agrees r [])
   formula_says P ends goes m (next_equation n t e) built = carried_says ends n t e (found_in k e) m.ends_here (found_is_value [] (calls_at [] d) s a k agrees e []) built.0
   formula_says P ends goes m empty built = ending_says d s a b k agrees goes [] m.goes_on
   formula_says P ends goes m more built = going_says d s a b k agrees ends [] m.ends_here
   formula_says P ends goes m (next w) built =
       says_alike d s a b (going ends (Later w ∷ []))
-          (λ S p. (one_duty d s a b (Later w) S).1 p.1) (λ S p. (p.0, (one_duty d s a b (Later w) S).0 p)) (going_says d s a b k agrees ends (Later w ∷ []) m.ends_here)
+      (λ S p. (one_duty d s a b (Later w) S).1 p.1) (λ S p. (p.0, (one_duty d s a b (Later w) S).0 p)) (going_says d s a b k agrees ends (Later w ∷ []) m.ends_here)
   formula_says P ends goes m (conjunction ws) built = λ S. (λ h. record { all = (each_say d s a b k agrees ws S).0 h; marked = tt; true_fact = tt }, λ l. (each_say d s a b k agrees ws S).1 l.all)
   formula_says P ends goes m w built = tt
 

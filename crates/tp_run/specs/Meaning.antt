@@ -1,12 +1,11 @@
 -- What a run stands for, and what its answers say of every interval.
-use Rattle.std.specs.Prelude.{◌≡◌, ◌↔◌, ℕ, suc, ◌<◌, ◌≤◌, Bool, true, List, [], ◌∷◌}
+use Rattle.std.specs.Prelude.{◌≡◌, ◌↔◌, ℕ, suc, ◌<◌, ◌≤◌, []}
 use Rattle.tp_meaning.specs.Syntax.{FormulaTree}
 use Rattle.tp_meaning.specs.Course.{Course, Shows, Part, blank}
 use Rattle.tp_meaning.specs.Holds.{Holds}
 use Rattle.tp_run.specs.declared.turn.Picture.{Picture}
 use Rattle.tp_run.specs.declared.turn.Turn.{Turn}
 use Rattle.tp_run.specs.declared.turn.Turn.TheVariants.{Went, Finished, Contradictory, Undetermined, Over}
-use Rattle.tp_run.specs.Residual.{Duty, Do, Later}
 use Rattle.tp_run.specs.States.{Standing, open_at, answered, spent}
 use Rattle.tp_run.specs.StandsFor.{no_context, AgreesWithAll, StandsFor}
 

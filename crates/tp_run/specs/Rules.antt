@@ -1,5 +1,5 @@
 -- What each item of a residual becomes.
-use Rattle.std.specs.Prelude.{ℤ, ◌+ℤ◌, ℕ, zero, suc, ◌-◌, Bool, true, false, List, [], ◌∷◌, Option, None, Some, if◌then◌else◌}
+use Rattle.std.specs.Prelude.{ℤ, ◌+ℤ◌, ℕ, ◌-◌, Bool, true, false, List, [], ◌∷◌, Option, None, Some, if◌then◌else◌}
 use Rattle.std.specs.Ordering.{int_eq}
 use Rattle.tp_value.specs.Number.{is_within_limit}
 use Rattle.tp_value.specs.declared.path.VarId.{VarId}

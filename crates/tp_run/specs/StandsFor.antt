@@ -1,10 +1,9 @@
 -- What a residual says of an interval.
 use Rattle.std.specs.Prelude.{◌≡◌, ℤ, ℕ, suc, ◌<◌, Bool, true, List, [], ◌∷◌, Some}
-use Rattle.tp_value.specs.Tree.{Tree, num}
+use Rattle.tp_value.specs.Tree.{num}
 use Rattle.tp_value.specs.Shape.{shape_at_path}
 use Rattle.tp_value.specs.declared.path.VarId.{VarId}
 use Rattle.tp_value.specs.declared.path.Fact.{Fact}
-use Rattle.tp_meaning.specs.Syntax.{FormulaTree}
 use Rattle.tp_meaning.specs.Course.{State, Course, Shows, Part, blank}
 use Rattle.tp_meaning.specs.Holds.{Context, Holds, Joined}
 use Rattle.tp_run.specs.Residual.{Duty, Do, Later, Known, kept, Residual}

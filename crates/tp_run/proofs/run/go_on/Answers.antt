@@ -1,6 +1,6 @@
-use Rattle.std.proofs.Common.{List, length, Bool, not, IsTrue, sym, ap, ◌∙◌, subst, refl}
+use Rattle.std.proofs.Common.{List, length, sym, ap, ◌∙◌, subst}
 use Rattle.tp_run.specs.declared.scene.Item.{Item}
-use Rattle.tp_run.specs.Residual.{residual_of, Residual}
+use Rattle.tp_run.specs.Residual.{residual_of}
 use Rattle.tp_run.specs.Ready.{IsRunnable, IsFresh}
 use Rattle.tp_run.proofs.RunLemmas.{advanced_runnable, advanced_fresh}
 use Rattle.tp_run.proofs.run.go_on.Goals as goal
