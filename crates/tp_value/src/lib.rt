@@ -5,6 +5,8 @@ mod globals;
 mod number;
 mod path;
 mod refusal;
+#[cfg(test)]
+mod tests;
 mod text;
 mod value;
 
