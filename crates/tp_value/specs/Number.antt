@@ -1,5 +1,5 @@
 -- The limit of the language's numbers.
-use Rattle.std.specs.Prelude.{ℤ, pos, negsuc, ℕ, ◌-◌, ◌^◌, ◌≤◌, ◌<◌}
+use Rattle.std.specs.Prelude.{ℤ, pos, negsuc, ℕ, ◌≤◌, ◌<◌}
 
 -- the greatest number; the least is its negation
 abbrev pub number_limit : ℕ
