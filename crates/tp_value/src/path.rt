@@ -1,5 +1,9 @@
 // Variables, places in their values, and facts.
+ghost use Rattle.std.specs.Prelude.{◌≡◌, [], IfOk};
+
+use crate::NoMemory;
 use crate::value::Shape;
+use std::alloc::Global;
 use std::marker::Model;
 
 /// A variable. `lasting` says that it is static: it keeps one value over the whole interval.
@@ -23,6 +27,25 @@ impl Model for Indices {
     ghost view = { λ a. a.items.items };
 }
 
+impl Indices {
+    /// No index.
+    pub fn new(alloc: Global) -> Indices
+        ensures { result ≡ [] }
+    {
+        Indices {
+            items: Vec::new(alloc),
+        }
+    }
+
+    /// Equal indices.
+    pub fn copy(&self) -> Result<Indices, NoMemory>
+        ensures { IfOk result (λ indices. indices ≡ self.now) }
+    {
+        let items = self.items.clone()?;
+        Ok(Indices { items })
+    }
+}
+
 /// A place: a variable, and indices into its value.
 #[derive(Debug, Drop)]
 pub struct Path {
@@ -30,11 +53,34 @@ pub struct Path {
     pub at: Indices,
 }
 
+impl Path {
+    /// An equal path.
+    pub fn copy(&self) -> Result<Path, NoMemory>
+        ensures { IfOk result (λ path. path ≡ self.now) }
+    {
+        let at = self.at.copy()?;
+        Ok(Path { var: self.var, at })
+    }
+}
+
 /// A fact gives the place of a path a shape.
 #[derive(Debug, Drop)]
 pub struct Fact {
     pub path: Path,
     pub shape: Shape,
+}
+
+impl Fact {
+    /// An equal fact.
+    pub fn copy(&self) -> Result<Fact, NoMemory>
+        ensures { IfOk result (λ fact. fact ≡ self.now) }
+    {
+        let path = self.path.copy()?;
+        Ok(Fact {
+            path,
+            shape: self.shape,
+        })
+    }
 }
 
 /// A list of facts.
