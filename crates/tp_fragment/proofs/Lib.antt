@@ -1,1 +1,4 @@
+pub mod BuildLemmas
 pub mod GrammarLemmas
+pub mod HeightLemmas
+pub mod NameLemmas

@@ -1,3 +1,6 @@
+pub mod Building
 pub mod Grammar
+pub mod Height
+pub mod Program
 pub mod Reading
 pub mod Terminal

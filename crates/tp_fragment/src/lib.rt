@@ -9,8 +9,10 @@
 //! ```
 #![tactic(auto)]
 
+mod height;
 mod parse;
 mod phrase;
+mod program;
 mod reading;
 mod terminal;
 
