@@ -8,7 +8,7 @@ use Rattle.tp_fragment.specs.declared.phrase.Operand.{Operand}
 use Rattle.tp_fragment.specs.declared.phrase.Operand.TheVariants as operand
 use Rattle.tp_fragment.specs.declared.phrase.Item.{Item}
 use Rattle.tp_fragment.specs.declared.phrase.Item.TheVariants as item
-use Rattle.tp_fragment.specs.Grammar.{operand_terminal, more_operands, nexts, item_terminals, more_items, conj_terminals, IsConj}
+use Rattle.tp_fragment.specs.Grammar.{operand_terminal, more_operands, nexts, item_terminals, more_items, conj_terminals, IsConj, IsSource}
 use Rattle.tp_fragment.specs.Reading.{operand_in, with_operand, more_of, with_others, sum_of, nexts_of, item_after, item_of, follow_of}
 
 some_is : {A : Type 0} (x y : A) → Some x ≡ Some y → x ≡ y
@@ -228,3 +228,33 @@ module _ (ts rest : List Terminal) (found : List Item) (keeps : Keeps ts found r
     -- fewer terminals are left
     pub fewer : (next : List Terminal) → follow_of after ≡ Some (Some next) → length next < length rest
     fewer next e = let whole = ap length spelled in let parts = length-append (item_terminals i) after in let left = ap length (follow_and after next e) in omega arith
+
+-- ---- one source has one list of items
+
+more_one : (is js : List Item) → more_items is ++ Stop ∷ [] ≡ more_items js ++ Stop ∷ [] → is ≡ js
+more_one [] [] e = refl
+more_one [] (j ∷ js) e = absurd cc
+more_one (i ∷ is) [] e = absurd cc
+more_one (i ∷ is) (j ∷ js) e =
+    let rest : (item_terminals i ++ more_items is) ++ Stop ∷ [] ≡ (item_terminals j ++ more_items js) ++ Stop ∷ [] = cc in
+    let here = ap item_of (append_assoc (item_terminals i) (more_items is) (Stop ∷ [])) ∙ item_found i (more_items is ++ Stop ∷ []) (closed is) in
+    let there = ap item_of (append_assoc (item_terminals j) (more_items js) (Stop ∷ [])) ∙ item_found j (more_items js ++ Stop ∷ []) (closed js) in
+    let same = some_is (i, more_items is ++ Stop ∷ []) (j, more_items js ++ Stop ∷ []) (sym here ∙ (ap item_of rest ∙ there)) in
+    let one : i ≡ j = ap (λ (q : Item × List Terminal). q.0) same in
+    let others : is ≡ js = more_one is js (ap (λ (q : Item × List Terminal). q.1) same) in
+    cc
+
+conj_one : (ts : List Terminal) (xs ys : List Item) → IsConj ts xs → IsConj ts ys → xs ≡ ys
+conj_one ts xs ys a b =
+    let x = first_item ts xs a in
+    let y = first_item ts ys b in
+    let same = some_is (x.0, more_items x.1 ++ Stop ∷ []) (y.0, more_items y.1 ++ Stop ∷ []) (sym x.3 ∙ y.3) in
+    let one : x.0 ≡ y.0 = ap (λ (q : Item × List Terminal). q.0) same in
+    let others : x.1 ≡ y.1 = more_one x.1 y.1 (ap (λ (q : Item × List Terminal). q.1) same) in
+    x.2 ∙ (ap (λ i. i ∷ x.1) one ∙ (ap (λ is. y.0 ∷ is) others ∙ sym y.2))
+
+pub source_one : (ts : List Terminal) (xs ys : List Item) → IsSource ts xs → IsSource ts ys → xs ≡ ys
+source_one ts xs ys (rest, e, a) (left, f, b) =
+    let same : Run ∷ rest ≡ Run ∷ left = sym e ∙ f in
+    let tail : rest ≡ left = cc in
+    conj_one left xs ys (subst (λ (zs : List Terminal). IsConj zs xs) tail a) b

@@ -2,3 +2,4 @@ pub mod BuildLemmas
 pub mod GrammarLemmas
 pub mod HeightLemmas
 pub mod NameLemmas
+pub mod ProgramLemmas

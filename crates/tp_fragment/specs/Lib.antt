@@ -3,4 +3,5 @@ pub mod Grammar
 pub mod Height
 pub mod Program
 pub mod Reading
+pub mod Refusal
 pub mod Terminal

@@ -14,7 +14,9 @@ mod parse;
 mod phrase;
 mod program;
 mod reading;
+mod refusal;
 mod terminal;
 
-pub use phrase::{Item, Items, Operand, Operands};
-pub use terminal::Terminal;
+pub use program::Program;
+pub use reading::{programs_are_unique, read};
+pub use refusal::ReadRefusal;

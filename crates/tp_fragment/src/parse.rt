@@ -129,7 +129,7 @@ fn conj(alloc: Global, terminals: &[Terminal]) -> Result<Option<Items>, NoMemory
 }
 
 /// The items of a source, or `None` where the terminals are none.
-pub fn source(alloc: Global, terminals: &[Terminal]) -> Result<Option<Items>, NoMemory>
+pub fn source_items(alloc: Global, terminals: &[Terminal]) -> Result<Option<Items>, NoMemory>
     ensures found { IfOk result (λ r. IfSome r (λ items. IsSource terminals.now items)) }
     ensures none { IfOk result (λ r. IfNone r ((items : List ItemType) → ¬ IsSource terminals.now items)) }
 {
