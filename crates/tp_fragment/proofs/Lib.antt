@@ -1,4 +1,5 @@
 pub mod BuildLemmas
+pub mod BuiltLemmas
 pub mod GrammarLemmas
 pub mod HeightLemmas
 pub mod NameLemmas

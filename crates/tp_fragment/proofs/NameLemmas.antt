@@ -15,7 +15,7 @@ place_at p i k x xs ys true t below e = let same : i ≡ k = cc in omega arith
 place_at p i k x xs ys false t below e = let later = below e in omega arith
 
 -- the first place stays, whatever comes behind
-place_stays : {A : Type 0} (p : A → Bool) (i k : ℕ) (xs ys : List A) → position_from p i xs ≡ Some k → i + position_or_len p (xs ++ ys) ≡ k
+pub place_stays : {A : Type 0} (p : A → Bool) (i k : ℕ) (xs ys : List A) → position_from p i xs ≡ Some k → i + position_or_len p (xs ++ ys) ≡ k
 place_stays p i k [] ys e = absurd cc
 place_stays p i k (x ∷ xs) ys e = place_at p i k x xs ys (p x) refl (place_stays p (i + 1) k xs ys) e
 

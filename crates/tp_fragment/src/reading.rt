@@ -3,6 +3,7 @@ ghost use Rattle.std.specs.Prelude.{◌≡◌, ◌≤◌, length, List, ℕ, IfO
 ghost use Rattle.tp_lex.specs.Tokens.{AreTokens};
 ghost use Rattle.tp_lex.specs.declared.token.Token.{Token as TokenType};
 ghost use Rattle.tp_kernel.specs.Read.{formula_tree};
+ghost use Rattle.tp_kernel.specs.Built.{IsBuilt};
 ghost use Rattle.tp_meaning.specs.Syntax.{FormulaTree};
 ghost use Rattle.tp_fragment.specs.Program.{Names, IsProgram, OneProgram};
 
@@ -28,6 +29,7 @@ fn source_tokens(alloc: Global, source: &[u8]) -> Result<Tokens, ReadRefusal>
 pub fn read(alloc: Global, source: &[u8]) -> Result<Program, ReadRefusal>
     requires { length source.now ≤ 1048576 }
     ensures program { IfOk result (λ p. IsProgram source.now (formula_tree p.main.value) p.globals) }
+    ensures built { IfOk result (λ p. IsBuilt p.globals (formula_tree p.main.value)) }
     ensures refused { result ≡ Err ReadRefusal.NotProgram → (main : FormulaTree) (names : Names) → ¬ IsProgram source.now main names }
 {
     readings_are_unique();

@@ -1,7 +1,7 @@
 -- Readings are determined, and there is one of each text.
 use Rattle.std.proofs.Common.{refl, ap, sym, subst, ◌∙◌, ◌≡◌, ℕ, zero, suc, ◌+◌, ◌-◌, ◌<◌, ◌≤◌, ◌==◌, Bool, true, false, cond, inl, inr, List, [], ◌∷◌, ◌++◌, length, length-append, slice_index, take, drop, arith, length-drop, length-take-le, fold}
-use Rattle.std.specs.Char.{is_ascii_alphabetic}
-use Rattle.std.proofs.lemmas.Bool.Decides.{eqb_tells}
+use Rattle.std.specs.Char.{is_ascii_alphabetic, is_ascii_uppercase, is_ascii_lowercase}
+use Rattle.std.proofs.lemmas.Bool.Decides.{eqb_tells, nat_tests}
 use Rattle.tp_lex.specs.declared.token.Symbol.{Symbol}
 use Rattle.tp_lex.specs.Spelling.{symbol_spelling}
 use Rattle.tp_lex.proofs.SpellingLemmas.{some}
@@ -16,8 +16,8 @@ use Rattle.tp_lex.specs.First.{is_blank, is_digit, first_piece}
 use Rattle.tp_lex.specs.Place.{place_of, place_from, place_after, start, token_at}
 use Rattle.tp_lex.specs.Pieces.{Begins, blank, comment, word, upper, lower, number, symbol, bad_byte, open_comment, large_number, long_name}
 use Rattle.tp_lex.specs.Tokens.{Reads, Ending, Whole, Fails, whole, gap, lexeme, fails, refusal_at, IsRefused, AreTokens}
-use Rattle.tp_lex.specs.Laws.{EachTextIsRead, OneTokenList, OneRefusal, NeverBoth, PlacesCount}
-use Rattle.tp_lex.proofs.PieceLemmas.{piece_is, piece_one, piece_found, Takes}
+use Rattle.tp_lex.specs.Laws.{EachTextIsRead, OneTokenList, OneRefusal, NeverBoth, PlacesCount, HasItsCase, HaveTheirCase, NamesHaveTheirCase}
+use Rattle.tp_lex.proofs.PieceLemmas.{piece_is, piece_one, piece_found, some_name, Takes}
 
 nothing : (s : Symbol) (rest : List ℕ) → [] ≡ symbol_spelling s ++ rest → 0 < length {A = ℕ} []
 nothing s rest e = let parts = length-append (symbol_spelling s) rest in let none = ap length e in let one = some s in omega arith
@@ -130,3 +130,42 @@ place_counts p (b ∷ bytes) = let below = place_counts (place_after p b) bytes 
 
 pub places_count : PlacesCount
 places_count bytes at within = place_counts start (take at bytes) ∙ (let taken = length-take-le at bytes within in omega arith)
+
+-- ---- cases
+
+first_stays : (z : List ℕ) (n : ℕ) → 0 < n → slice_index (take n z) 0 ≡ slice_index z 0
+first_stays [] zero some = absurd (omega arith)
+first_stays [] (suc n) some = refl
+first_stays (b ∷ z) zero some = absurd (omega arith)
+first_stays (b ∷ z) (suc n) some = refl
+
+not_upper : (b : ℕ) → is_ascii_alphabetic b ≡ true → is_ascii_uppercase b ≡ false → is_ascii_lowercase b ≡ true
+not_upper b letter e = grind (arith, nat_tests)
+
+-- the case of a token that stands first
+abbrev PieceHasItsCase : Piece → Type 0
+PieceHasItsCase (Gap n) = Unit {0}
+PieceHasItsCase (Lexeme kind n) = HasItsCase kind
+PieceHasItsCase (Refused fault) = Unit {0}
+
+piece_case : (z : List ℕ) (p : Piece) → Begins z p → PieceHasItsCase p
+piece_case z _ (blank e) = tt
+piece_case z _ (comment opens here before) = tt
+piece_case z _ (word is e) = tt
+piece_case z _ (upper {n = n} is low never u) = let some = some_name z n is in ap is_ascii_uppercase (first_stays z n some.0) ∙ u
+piece_case z _ (lower {n = n} is low never u) = let some = some_name z n is in ap is_ascii_lowercase (first_stays z n some.0) ∙ not_upper (slice_index z 0) is.letter u
+piece_case z _ (number are low) = tt
+piece_case z _ (symbol is) = tt
+piece_case z _ (bad_byte is) = tt
+piece_case z _ (open_comment opens nowhere) = tt
+piece_case z _ (large_number are high) = tt
+piece_case z _ (long_name is long) = tt
+
+cases_from : (bytes : List ℕ) (at : ℕ) (ts : List Token) (end : Ending) → Reads bytes at ts end → HaveTheirCase ts
+cases_from bytes at _ _ (whole e) = tt
+cases_from bytes at ts end (gap {n = n} is r) = cases_from bytes (at + n) ts end r
+cases_from bytes at _ end (lexeme {n = n} {ts = ts} is r) = (piece_case (drop at bytes) _ is, cases_from bytes (at + n) ts end r)
+cases_from bytes at _ _ (fails is) = tt
+
+pub names_have_their_case : NamesHaveTheirCase
+names_have_their_case bytes ts are = cases_from bytes 0 ts Whole are

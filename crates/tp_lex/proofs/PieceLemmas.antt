@@ -221,7 +221,7 @@ Takes (Gap n) most = (0 < n) × (n ≤ most)
 Takes (Lexeme kind n) most = (0 < n) × (n ≤ most)
 Takes (Refused fault) most = Unit {0}
 
-some_name : (z : List ℕ) (n : ℕ) → IsName z n → (0 < n) × (n ≤ length z)
+pub some_name : (z : List ℕ) (n : ℕ) → IsName z n → (0 < n) × (n ≤ length z)
 some_name [] n is = let e = is.letter in absurd cc
 some_name (b ∷ rest) n is =
     let e : is_name_byte b ≡ true = letter_name b is.letter in

@@ -1,5 +1,5 @@
 // Laws of readings.
-ghost use Rattle.tp_lex.specs.Laws.{EachTextIsRead, OneTokenList, OneRefusal, NeverBoth, PlacesCount};
+ghost use Rattle.tp_lex.specs.Laws.{EachTextIsRead, OneTokenList, OneRefusal, NeverBoth, PlacesCount, NamesHaveTheirCase};
 
 /// A text has exactly one reading: its tokens, or its first fault.
 pub fn readings_are_unique()
@@ -8,4 +8,5 @@ pub fn readings_are_unique()
     ensures refusal { OneRefusal }
     ensures never_both { NeverBoth }
     ensures places { PlacesCount }
+    ensures cases { NamesHaveTheirCase }
 {}
