@@ -1,23 +1,20 @@
 -- Readings are determined, and there is one of each text.
-use Rattle.std.proofs.Common.{refl, ap, sym, subst, ◌∙◌, ◌≡◌, ℕ, zero, suc, ◌+◌, ◌-◌, ◌<◌, ◌≤◌, ◌==◌, Bool, true, false, cond, inl, inr, List, [], ◌∷◌, ◌++◌, length, length-append, slice_index, take, drop, arith, length-drop, length-take-le, fold}
+use Rattle.std.proofs.Common.{refl, ap, sym, subst, ◌∙◌, ◌≡◌, ℕ, zero, suc, ◌+◌, ◌-◌, ◌<◌, ◌≤◌, ◌==◌, Bool, true, false, cond, inl, inr, List, [], ◌∷◌, ◌++◌, length, length-append, slice_index, take, drop, arith, length-drop, length-take-le}
 use Rattle.std.specs.Char.{is_ascii_alphabetic, is_ascii_uppercase, is_ascii_lowercase}
 use Rattle.std.proofs.lemmas.Bool.Decides.{eqb_tells, nat_tests}
 use Rattle.tp_lex.specs.declared.token.Symbol.{Symbol}
 use Rattle.tp_lex.specs.Spelling.{symbol_spelling}
 use Rattle.tp_lex.proofs.SpellingLemmas.{some}
 use Rattle.tp_lex.specs.declared.token.Token.{Token}
-use Rattle.tp_lex.specs.declared.token.Kind.{Kind}
 use Rattle.tp_lex.specs.declared.place.Place.{Place}
-use Rattle.tp_lex.specs.declared.first.Fault.{Fault}
 use Rattle.tp_lex.specs.declared.first.Piece.{Piece}
 use Rattle.tp_lex.specs.declared.first.Piece.TheVariants.{Gap, Lexeme, Refused}
-use Rattle.tp_lex.specs.declared.refusal.LexRefusal.{LexRefusal}
-use Rattle.tp_lex.specs.First.{is_blank, is_digit, first_piece}
+use Rattle.tp_lex.specs.First.{first_piece}
 use Rattle.tp_lex.specs.Place.{place_of, place_from, place_after, start, token_at}
 use Rattle.tp_lex.specs.Pieces.{Begins, blank, comment, word, upper, lower, number, symbol, bad_byte, open_comment, large_number, long_name}
-use Rattle.tp_lex.specs.Tokens.{Reads, Ending, Whole, Fails, whole, gap, lexeme, fails, refusal_at, IsRefused, AreTokens}
+use Rattle.tp_lex.specs.Tokens.{Reads, Ending, Whole, Fails, whole, gap, lexeme, fails, refusal_at}
 use Rattle.tp_lex.specs.Laws.{EachTextIsRead, OneTokenList, OneRefusal, NeverBoth, PlacesCount, HasItsCase, HaveTheirCase, NamesHaveTheirCase}
-use Rattle.tp_lex.proofs.PieceLemmas.{piece_is, piece_one, piece_found, some_name, Takes}
+use Rattle.tp_lex.proofs.PieceLemmas.{piece_one, piece_found, some_name, Takes}
 
 nothing : (s : Symbol) (rest : List ℕ) → [] ≡ symbol_spelling s ++ rest → 0 < length {A = ℕ} []
 nothing s rest e = let parts = length-append (symbol_spelling s) rest in let none = ap length e in let one = some s in omega arith

@@ -1,25 +1,24 @@
 -- The function that finds the first piece answers the one piece that the text begins with.
-use Rattle.std.proofs.Common.{refl, ap, sym, subst, ◌∙◌, ◌≡◌, ◌≢◌, ℕ, ℤ, pos, zero, suc, ◌+◌, ◌-◌, ◌*◌, ◌<◌, ◌≤◌, Bool, true, false, cond, ◌⊎◌, inl, inr, List, [], ◌∷◌, ◌++◌, length, slice_index, take, drop, nat_eq, nat_le, Option, Some, None, arith, codes, length-drop, length-append, length-take-le}
+use Rattle.std.proofs.Common.{refl, ap, sym, subst, ◌≡◌, ◌≢◌, ℕ, pos, zero, suc, ◌+◌, ◌<◌, ◌≤◌, Bool, true, false, cond, List, [], ◌∷◌, ◌++◌, length, slice_index, take, drop, nat_eq, nat_le, Option, Some, None, arith, codes, length-drop, length-append, length-take-le}
 use Rattle.std.specs.Option.{option_map}
 use Rattle.std.specs.List.{starts_with, prefix_len}
-use Rattle.std.specs.Char.{is_ascii_alphabetic, is_ascii_uppercase, is_ascii_alphanumeric}
+use Rattle.std.specs.Char.{is_ascii_alphabetic, is_ascii_uppercase}
 use Rattle.std.proofs.lemmas.Bool.Decides.{nat_tests}
-use Rattle.std.proofs.lemmas.Bool.{le-leb}
 use Rattle.std.proofs.lemmas.List.Sums.{prefix_len-le-length}
 use Rattle.tp_value.specs.Number.{number_limit}
 use Rattle.tp_lex.specs.declared.token.Word.{Word}
 use Rattle.tp_lex.specs.declared.token.Symbol.{Symbol}
 use Rattle.tp_lex.specs.declared.token.Kind.{Kind}
 use Rattle.tp_lex.specs.declared.token.Kind.TheVariants as k
-use Rattle.tp_lex.specs.declared.first.Fault.TheVariants.{BadByte, OpenComment, NumberTooLarge, NameTooLong}
+use Rattle.tp_lex.specs.declared.first.Fault.TheVariants.{BadByte, NameTooLong}
 use Rattle.tp_lex.specs.declared.first.Piece.{Piece}
 use Rattle.tp_lex.specs.declared.first.Piece.TheVariants.{Gap, Lexeme, Refused}
 use Rattle.tp_lex.specs.Spelling.{word_spelling, symbol_spelling, spelled_word, longest_symbol}
 use Rattle.tp_lex.specs.First as f
 use Rattle.tp_lex.specs.First.{is_blank, is_name_byte, is_digit, value, name_limit, first_close, first_piece}
-use Rattle.tp_lex.specs.Pieces.{BeginsWith, Opens, ClosesAt, IsName, AreDigits, IsNoWord, IsLongestSymbol, IsBad, Begins, blank, comment, word, upper, lower, number, symbol, bad_byte, open_comment, large_number, long_name}
+use Rattle.tp_lex.specs.Pieces.{Opens, ClosesAt, IsName, AreDigits, IsLongestSymbol, IsBad, Begins, blank, comment, word, upper, lower, number, symbol, bad_byte, open_comment, large_number, long_name}
 use Rattle.tp_lex.proofs.Lists.{begins_from, starts_from, no_start, starts_not}
-use Rattle.tp_lex.proofs.SpellingLemmas.{word_found, word_is, word_from, no_word, word_none, longest_is, longest_from, no_symbol, symbol_none, symbol_byte, some, word_short}
+use Rattle.tp_lex.proofs.SpellingLemmas.{word_is, word_from, no_word, word_none, longest_is, longest_from, no_symbol, symbol_none, symbol_byte, some, word_short}
 
 -- ---- where a comment closes
 

@@ -1,5 +1,5 @@
 -- Which word and which symbol stand in a text.
-use Rattle.std.proofs.Common.{refl, ap, sym, subst, ◌∙◌, ◌≡◌, ◌≢◌, ℕ, ◌+◌, ◌-◌, ◌<◌, ◌≤◌, Bool, true, false, ◌⊎◌, inl, inr, List, [], ◌∷◌, ◌++◌, length, slice_index, take, drop, find, nat_eq, Option, Some, None, arith, lit≤, length-append, codes}
+use Rattle.std.proofs.Common.{refl, ap, sym, ◌∙◌, ◌≡◌, ℕ, ◌≤◌, Bool, true, false, inl, inr, List, [], ◌∷◌, ◌++◌, length, slice_index, take, drop, find, nat_eq, Option, Some, None, arith, lit≤, codes}
 use Rattle.std.specs.Str.{bytes_eq}
 use Rattle.std.specs.List.{starts_with}
 use Rattle.std.specs.Char.{is_ascii_alphabetic}
@@ -13,7 +13,7 @@ use Rattle.tp_lex.specs.declared.spelling.TheConstants.{WORDS, SYMBOLS}
 use Rattle.tp_lex.specs.Spelling.{word_spelling, symbol_spelling, spelled_word, longest_symbol}
 use Rattle.tp_lex.specs.First.{is_blank, is_digit}
 use Rattle.tp_lex.specs.Pieces.{BeginsWith, IsNoWord, IsLongestSymbol}
-use Rattle.tp_lex.proofs.Lists.{AllFail, AllHave, find_passes, find_none, find_early, begins_from, starts_from}
+use Rattle.tp_lex.proofs.Lists.{AllFail, find_passes, find_none, find_early, begins_from, starts_from}
 
 -- ---- words
 

@@ -1,5 +1,5 @@
 -- How words and symbols are written.
-use Rattle.std.specs.Prelude.{ℕ, Bool, List, [], ◌∷◌, codes, nat_eq, bytes_eq, Option, find}
+use Rattle.std.specs.Prelude.{ℕ, List, codes, nat_eq, bytes_eq, Option, find}
 use Rattle.std.specs.List.{starts_with}
 use Rattle.tp_lex.specs.declared.token.Word.{Word}
 use Rattle.tp_lex.specs.declared.token.Word.TheVariants as w

@@ -1,4 +1,4 @@
-use Rattle.std.proofs.Common.{◌≡◌, ℕ, suc, ◌+◌, ◌<◌, false, List, length, get_or, take, drop, refl, ap, sym, ◌∙◌, arith, rules, nat_eq, codes, subst, ◌∷◌, ◌-◌, ◌≤◌, Some, None, Option, add_assoc}
+use Rattle.std.proofs.Common.{◌≡◌, ℕ, suc, ◌+◌, ◌<◌, false, List, length, get_or, take, drop, refl, ap, ◌∙◌, arith, nat_eq, codes, subst, ◌∷◌, ◌-◌, Some, None, Option}
 use Rattle.std.specs.List.{starts_with}
 use Rattle.std.specs.Option.{option_map}
 use Rattle.std.proofs.lemmas.List.{drop_more}

@@ -1,15 +1,13 @@
-use Rattle.std.proofs.Common.{◌≡◌, ℕ, ◌+◌, ◌-◌, ◌<◌, ◌≤◌, ◌∙◌, ◌++◌, ◌∷◌, List, [], length, take, drop, arith, rules, subst, sym, ap, refl, length-drop, length-take-le}
+use Rattle.std.proofs.Common.{◌≡◌, ℕ, ◌+◌, ◌<◌, ◌≤◌, ◌∙◌, ◌++◌, ◌∷◌, List, [], length, take, drop, arith, rules, subst, sym, ap, length-drop, length-take-le}
 use Rattle.std.proofs.lemmas.List.{take_rest}
 use Rattle.std.proofs.lemmas.Grind.{common_steps}
-use Rattle.tp_lex.specs.declared.first.Piece.{Piece}
 use Rattle.tp_lex.specs.declared.first.Piece.TheVariants as v
 use Rattle.tp_lex.specs.declared.token.Token.{Token}
-use Rattle.tp_lex.specs.declared.token.Kind.{Kind}
 use Rattle.tp_lex.specs.declared.place.Place.{Place}
 use Rattle.tp_lex.specs.First.{first_piece}
 use Rattle.tp_lex.specs.Pieces.{Begins}
 use Rattle.tp_lex.specs.Place.{place_of, place_from, token_at}
-use Rattle.tp_lex.specs.Tokens.{refusal_at, IsRefused, IsRefusedUnlessMemory}
+use Rattle.tp_lex.specs.Tokens.{IsRefusedUnlessMemory}
 use Rattle.tp_lex.proofs.PieceLemmas.{gap_takes, lexeme_takes, piece_found}
 use Rattle.tp_lex.proofs.ReadingLemmas.{Continues, past_gap, past_lexeme, at_fault, at_end, place_later, rest_later, refused_so}
 use Rattle.tp_lex.proofs.reading.tokens.Goals as goal

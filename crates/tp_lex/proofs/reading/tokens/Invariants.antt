@@ -1,4 +1,4 @@
-use Rattle.std.proofs.Common.{◌≡◌, ◌+◌, ◌≤◌, ◌++◌, List, length, take, drop}
+use Rattle.std.proofs.Common.{◌≡◌, ◌+◌, ◌≤◌, ◌++◌, List, length, drop}
 use Rattle.tp_lex.specs.declared.token.Token.{Token}
 use Rattle.tp_lex.specs.Tokens.{Reads, Ending}
 use Rattle.tp_lex.specs.Place.{place_of}

@@ -1,4 +1,4 @@
-use Rattle.std.proofs.Common.{◌≡◌, ℕ, ◌+◌, ◌<◌, Bool, false, List, length, get_or, drop, find, nat_eq, ap, sym, ◌∙◌, arith, rules}
+use Rattle.std.proofs.Common.{◌≡◌, ℕ, ◌<◌, false, List, length, get_or, drop, find, nat_eq, ◌∙◌, arith, rules}
 use Rattle.std.specs.List.{starts_with}
 use Rattle.tp_lex.specs.declared.token.Symbol.TheVariants.{Less}
 use Rattle.tp_lex.specs.declared.spelling.TheConstants.{SYMBOLS}
