@@ -146,7 +146,7 @@ impl<'a> Parser<'a> {
 
     /// Takes the next token, or its first half where it is read as two.
     #[tactic(auto, unfolding(crate::specs::Input::past))]
-    fn pass(&mut self)
+    pub fn pass(&mut self)
         ensures { self.new ≡ spec.past self.old }
     {
         if same(self.due(), self.mark()) {
