@@ -1,3 +1,4 @@
 pub mod Marks
 pub mod Input
 pub mod Head
+pub mod Found

@@ -4,6 +4,7 @@
 mod head;
 mod mark;
 mod parser;
+mod phrases;
 mod refusal;
 
 pub use refusal::ParseRefusal;
