@@ -1,5 +1,5 @@
 -- A phrase with its height, and how phrases are made of their operands.
-use Rattle.std.specs.Prelude.{ℕ, ◌+◌, max, List, [], ◌∷◌, ◌++◌, map}
+use Rattle.std.specs.Prelude.{ℕ, ◌+◌, max, Bool, List, [], ◌∷◌, ◌++◌, map}
 use Rattle.tp_lex.specs.declared.token.Word.TheVariants as word
 use Rattle.tp_lex.specs.declared.token.Symbol.TheVariants as symbol
 use Rattle.tp_tree.specs.declared.operator.Op.{Op}
@@ -30,6 +30,9 @@ found t h = record { tree = t; height = h }
 -- what was read, without where it lies in memory
 abbrev pub seen : Measured → Found
 seen r = found (tree r.phrase) r.height
+
+abbrev pub turn_seen : Measured × Bool → Found × Bool
+turn_seen x = (seen x.0, x.1)
 
 -- operands in order, and the greatest of their heights, or 0
 pub record Operands : Type 0 where

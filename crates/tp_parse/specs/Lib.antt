@@ -2,3 +2,4 @@ pub mod Marks
 pub mod Input
 pub mod Head
 pub mod Found
+pub mod Reading

@@ -4,6 +4,7 @@
 mod head;
 mod mark;
 mod parser;
+mod phrase;
 mod phrases;
 mod refusal;
 

@@ -16,17 +16,17 @@ use tp_value::{NoMemory, Texts};
 #[derive(Drop)]
 pub struct Measured {
     pub phrase: Phrase,
-    pub height: u8,
+    pub height: u32,
 }
 
 /// Operands that were read, and the greatest of their heights.
 #[derive(Drop)]
 pub struct Operands {
     pub items: Vec<Phrase>,
-    pub height: u8,
+    pub height: u32,
 }
 
-fn make(at: u32, kind: PhraseKind, height: u8) -> Measured
+fn make(at: u32, kind: PhraseKind, height: u32) -> Measured
     ensures { result ≡ record { phrase = record { at = at; kind = kind }; height = height } }
 {
     Measured {
@@ -67,7 +67,7 @@ fn listed_kind(listed: Listed, items: Vec<Phrase>) -> PhraseKind
 }
 
 pub fn of_operands(at: u32, listed: Listed, operands: Operands) -> Measured
-    requires { operands.height < 255 }
+    requires { operands.height < 1000 }
     ensures { seen result ≡ spec.of_operands at listed (all_seen operands) }
 {
     let height = operands.height + 1;
@@ -80,7 +80,7 @@ pub fn of_enclosed(
     enclosure: Enclosure,
     operand: Measured,
 ) -> Result<Measured, NoMemory>
-    requires { operand.height < 255 }
+    requires { operand.height < 1000 }
     ensures { IfOk result (λ r. seen r ≡ spec.of_enclosed at enclosure (seen operand)) }
 {
     let height = operand.height + 1;
@@ -102,7 +102,7 @@ pub fn of_choice(
     condition: Measured,
     first: Measured,
 ) -> Result<Measured, NoMemory>
-    requires { (condition.height < 255) × (first.height < 255) }
+    requires { (condition.height < 1000) × (first.height < 1000) }
     ensures { IfOk result (λ r. seen r ≡ spec.of_choice at (seen condition) (seen first)) }
 {
     let height = condition.height.max(first.height) + 1;
@@ -118,7 +118,7 @@ pub fn of_choice_else(
     first: Measured,
     second: Measured,
 ) -> Result<Measured, NoMemory>
-    requires { (condition.height < 255) × (first.height < 255) × (second.height < 255) }
+    requires { (condition.height < 1000) × (first.height < 1000) × (second.height < 1000) }
     ensures { IfOk result (λ r. seen r
         ≡ spec.of_choice_else at (seen condition) (seen first) (seen second)) }
 {
@@ -151,7 +151,7 @@ pub fn of_pair(
     first: Measured,
     second: Measured,
 ) -> Result<Measured, NoMemory>
-    requires { (first.height < 255) × (second.height < 255) }
+    requires { (first.height < 1000) × (second.height < 1000) }
     ensures { IfOk result (λ r. seen r ≡ spec.of_pair at pair (seen first) (seen second)) }
 {
     let height = first.height.max(second.height) + 1;
@@ -166,7 +166,7 @@ pub fn of_exists(
     names: Texts,
     operand: Measured,
 ) -> Result<Measured, NoMemory>
-    requires { operand.height < 255 }
+    requires { operand.height < 1000 }
     ensures { IfOk result (λ r. seen r ≡ spec.of_exists at names (seen operand)) }
 {
     let height = operand.height + 1;
@@ -190,7 +190,7 @@ pub fn of_prefix(
     mark: Mark,
     operand: Measured,
 ) -> Result<Measured, NoMemory>
-    requires { operand.height < 255 }
+    requires { operand.height < 1000 }
     ensures { IfOk result (λ r. seen r ≡ spec.of_prefix at mark (seen operand)) }
 {
     let height = operand.height + 1;
@@ -205,7 +205,7 @@ pub fn of_infix(
     left: Measured,
     right: Measured,
 ) -> Result<Measured, NoMemory>
-    requires { (left.height < 255) × (right.height < 255) }
+    requires { (left.height < 1000) × (right.height < 1000) }
     ensures { IfOk result (λ r. seen r ≡ spec.of_infix at op (seen left) (seen right)) }
 {
     let height = left.height.max(right.height) + 1;
@@ -220,7 +220,7 @@ pub fn of_index(
     whole: Measured,
     index: Measured,
 ) -> Result<Measured, NoMemory>
-    requires { (whole.height < 255) × (index.height < 255) }
+    requires { (whole.height < 1000) × (index.height < 1000) }
     ensures { IfOk result (λ r. seen r ≡ spec.of_index at (seen whole) (seen index)) }
 {
     let height = whole.height.max(index.height) + 1;
@@ -230,7 +230,7 @@ pub fn of_index(
 }
 
 pub fn of_chain(at: u32, operands: Operands) -> Measured
-    requires { operands.height < 255 }
+    requires { operands.height < 1000 }
     ensures { seen result ≡ spec.of_chain at (all_seen operands) }
 {
     let height = operands.height + 1;
