@@ -3,3 +3,4 @@ pub mod Input
 pub mod Head
 pub mod Found
 pub mod Reading
+pub mod Source

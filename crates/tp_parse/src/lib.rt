@@ -7,5 +7,7 @@ mod parser;
 mod phrase;
 mod phrases;
 mod refusal;
+mod source;
 
 pub use refusal::ParseRefusal;
+pub use source::parse;
