@@ -4,7 +4,7 @@ use Rattle.tp_lex.specs.declared.token.Word.TheVariants as word
 use Rattle.tp_lex.specs.declared.token.Symbol.TheVariants as symbol
 use Rattle.tp_tree.specs.declared.operator.Op.{Op}
 use Rattle.tp_tree.specs.Tree as t
-use Rattle.tp_tree.specs.Tree.{PhraseTree, phrase, KindTree, PhraseTrees, no_phrase, phrases_of}
+use Rattle.tp_tree.specs.Tree.{PhraseTree, phrase, KindTree, PhraseTrees, no_phrase, phrases_of, DefinitionTree, SourceTree}
 use Rattle.tp_tree.specs.Read.{tree}
 use Rattle.tp_parse.specs.declared.mark.Mark.{Mark}
 use Rattle.tp_parse.specs.declared.mark.Mark.TheVariants as m
@@ -117,3 +117,13 @@ of_index at a i = found (phrase at (t.index a.tree i.tree)) (max a.height i.heig
 
 abbrev pub of_chain : ℕ → Operands → Found
 of_chain at all = found (phrase at (t.conjunction (phrases_of all.trees))) (all.height + 1)
+
+-- the greatest height of a phrase
+abbrev pub limit : ℕ
+limit = 200
+
+abbrev pub defined : List ℕ → ℕ → List (List ℕ) → PhraseTree → DefinitionTree
+defined x at xs body = record { name = x; at = at; parameters = xs; body = body }
+
+abbrev pub source_of : List DefinitionTree → PhraseTree → SourceTree
+source_of ds main = record { definitions = ds; main = main }

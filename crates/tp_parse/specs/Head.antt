@@ -6,14 +6,10 @@ use Rattle.tp_parse.specs.declared.mark.Mark.{Mark}
 use Rattle.tp_parse.specs.declared.mark.Mark.TheVariants as m
 use Rattle.tp_parse.specs.declared.mark.Start.{Start}
 use Rattle.tp_parse.specs.declared.mark.Start.TheVariants as s
-use Rattle.tp_parse.specs.declared.mark.Enclosure.{Enclosure}
-use Rattle.tp_parse.specs.declared.mark.Enclosure.TheVariants as enclosure
 use Rattle.tp_parse.specs.declared.head.Head.{Head}
 use Rattle.tp_parse.specs.declared.head.Head.TheVariants.{Atom, Listed, Enclosed, If, Paired, Exists}
 use Rattle.tp_parse.specs.declared.head.Atom.TheVariants as atom
-use Rattle.tp_parse.specs.declared.head.Listed as all
 use Rattle.tp_parse.specs.declared.head.Listed.TheVariants as listed
-use Rattle.tp_parse.specs.declared.head.Pair.{Pair}
 use Rattle.tp_parse.specs.declared.head.Pair.TheVariants as pair
 use Rattle.tp_parse.specs.declared.refusal.Refusal.{Refusal}
 use Rattle.tp_parse.specs.declared.refusal.Refusal.TheVariants.{TooDeep}
@@ -91,28 +87,3 @@ begins level x = if before x == 0 then not (is_nothing (start_of x)) else nat_le
 -- why no phrase of the level stands here where none may be 1 high
 unfoldable pub unfit : ℕ → Tokens → Refusal
 unfit level ts = if begins level (mark ts) then TooDeep (length ts) else refusal ts
-
--- the level of the operands, and the mark after them
-abbrev pub listed_level : all.Listed → ℕ
-listed_level listed.List = 4
-listed_level _ = 10
-
-abbrev pub listed_close : all.Listed → Mark
-listed_close listed.List = m.Symbol symbol.Greater
-listed_close _ = m.Symbol symbol.CloseRound
-
-abbrev pub enclosed_level : Enclosure → ℕ
-enclosed_level enclosure.Size = 4
-enclosed_level _ = 10
-
-abbrev pub enclosed_close : Enclosure → Mark
-enclosed_close enclosure.Round = m.Symbol symbol.CloseRound
-enclosed_close enclosure.Curly = m.Symbol symbol.CloseCurly
-enclosed_close enclosure.Size = m.Symbol symbol.Bar
-
--- the mark between the operands
-abbrev pub middle : Pair → Mark
-middle pair.While = m.Word word.Do
-middle pair.Repeat = m.Word word.Until
-middle (pair.For x) = m.Word word.Do
-middle (pair.Forall x) = m.Symbol symbol.Colon

@@ -18,9 +18,14 @@ use Rattle.tp_parse.specs.declared.mark.Mark.TheVariants as m
 use Rattle.tp_parse.specs.declared.mark.Role.{Role}
 use Rattle.tp_parse.specs.declared.mark.Role.TheVariants.{Ends, Infix, Opens, Joins}
 use Rattle.tp_parse.specs.declared.mark.Way.TheVariants.{Left, Single, Right}
+use Rattle.tp_parse.specs.declared.mark.Enclosure.{Enclosure}
 use Rattle.tp_parse.specs.declared.mark.Enclosure.TheVariants.{Round, Curly, Size}
 use Rattle.tp_parse.specs.declared.mark.Start.{Start}
 use Rattle.tp_parse.specs.declared.mark.Start.TheVariants as s
+use Rattle.tp_parse.specs.declared.head.Listed.{Listed}
+use Rattle.tp_parse.specs.declared.head.Listed.TheVariants as listed
+use Rattle.tp_parse.specs.declared.head.Pair.{Pair}
+use Rattle.tp_parse.specs.declared.head.Pair.TheVariants as pair
 
 abbrev pub mark_of : Kind → Mark
 mark_of (kind.Upper t) = m.Upper
@@ -131,3 +136,38 @@ start_of m.Lower = s.NameOrCall
 start_of m.Number = s.Number
 start_of (m.Word w) = word_start w
 start_of (m.Symbol x) = symbol_start x
+
+-- the levels of `;` and of sums
+abbrev pub chop : ℕ
+chop = 10
+
+abbrev pub sum : ℕ
+sum = 4
+
+abbrev pub comma : Mark
+comma = m.Symbol symbol.Comma
+
+-- the level of the operands, and the mark after them
+abbrev pub listed_level : Listed → ℕ
+listed_level listed.List = sum
+listed_level _ = chop
+
+abbrev pub listed_close : Listed → Mark
+listed_close listed.List = m.Symbol symbol.Greater
+listed_close _ = m.Symbol symbol.CloseRound
+
+abbrev pub enclosed_level : Enclosure → ℕ
+enclosed_level Size = sum
+enclosed_level _ = chop
+
+abbrev pub enclosed_close : Enclosure → Mark
+enclosed_close Round = m.Symbol symbol.CloseRound
+enclosed_close Curly = m.Symbol symbol.CloseCurly
+enclosed_close Size = m.Symbol symbol.Bar
+
+-- the mark between the operands
+abbrev pub middle : Pair → Mark
+middle pair.While = m.Word word.Do
+middle pair.Repeat = m.Word word.Until
+middle (pair.For x) = m.Word word.Do
+middle (pair.Forall x) = m.Symbol symbol.Colon

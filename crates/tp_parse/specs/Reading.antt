@@ -11,16 +11,10 @@ use Rattle.tp_parse.specs.declared.mark.Way.{Way}
 use Rattle.tp_parse.specs.declared.mark.Way.TheVariants.{Left, Right}
 use Rattle.tp_parse.specs.declared.head.Head.{Head}
 use Rattle.tp_parse.specs.declared.head.Head.TheVariants as h
-use Rattle.tp_parse.specs.Marks.{before, role_at, start_of, same}
+use Rattle.tp_parse.specs.Marks.{before, role_at, start_of, same, chop, comma, listed_level, listed_close, enclosed_level, enclosed_close, middle}
 use Rattle.tp_parse.specs.Input.{Tokens, Reader, ◌>>=◌, pure, mark, from, refuse, too_deep, sees, due, take, past, expect, deepen}
-use Rattle.tp_parse.specs.Head.{head_by, admit, unfit, listed_level, listed_close, enclosed_level, enclosed_close, middle}
+use Rattle.tp_parse.specs.Head.{head_by, admit, unfit}
 use Rattle.tp_parse.specs.Found.{Found, Operands, no_operand, operand_then, then_operand, operands_of, of_atom, of_operands, of_enclosed, of_choice, of_choice_else, of_pair, of_exists, of_prefix, of_infix, of_index, of_chain}
-
-abbrev pub chop : ℕ
-chop = 10
-
-abbrev pub comma : Mark
-comma = m.Symbol symbol.Comma
 
 abbrev pub operand_level : ℕ → Way → ℕ
 operand_level k Right = k

@@ -12,11 +12,9 @@ use Rattle.tp_parse.specs.declared.refusal.Refusal.TheVariants as r
 use Rattle.tp_parse.specs.declared.refusal.ParseRefusal.{ParseRefusal}
 use Rattle.tp_parse.specs.declared.refusal.ParseRefusal.TheVariants as named_at
 use Rattle.tp_parse.specs.Input.{Tokens, Outcome, Reader, ◌>>=◌, pure, from, refusal, sees, take, expect, lower, names}
-use Rattle.tp_parse.specs.Reading.{read, chop}
-
--- the greatest height of a phrase
-abbrev pub limit : ℕ
-limit = 200
+use Rattle.tp_parse.specs.Marks.{chop}
+use Rattle.tp_parse.specs.Found.{limit, defined, source_of}
+use Rattle.tp_parse.specs.Reading.{read}
 
 abbrev pub definition_trees : Definitions → List DefinitionTree
 definition_trees ds = map definition_tree ds.items.items
@@ -34,9 +32,6 @@ parameters = λ ts. if sees (m.Symbol symbol.CloseRound) ts then Ok ([], drop 1 
     xs ← names
     _close ← expect (m.Symbol symbol.CloseRound)
     pure xs) ts
-
-abbrev pub defined : List ℕ → ℕ → List (List ℕ) → PhraseTree → DefinitionTree
-defined x at xs body = record { name = x; at = at; parameters = xs; body = body }
 
 unfoldable pub definition : Reader DefinitionTree
 definition = λ ts. (do
@@ -57,9 +52,6 @@ definitions_from (suc n) ds = λ ts. if sees (m.Word word.Define) ts then (do
 
 unfoldable pub definitions : Reader (List DefinitionTree)
 definitions = λ ts. definitions_from (length ts) [] ts
-
-abbrev pub source_of : List DefinitionTree → PhraseTree → SourceTree
-source_of ds main = record { definitions = ds; main = main }
 
 -- nothing is left
 unfoldable pub ended : SourceTree → Reader SourceTree

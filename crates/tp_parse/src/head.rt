@@ -1,5 +1,6 @@
 // What a primary begins with, up to its first operand.
 ghost use Rattle.std.specs.Prelude.{◌≡◌, OnOk, ◌<◌, IsTrue, drop};
+ghost use Rattle.tp_parse.specs.Marks as marks;
 ghost use Rattle.tp_parse.specs.Head as spec;
 ghost use Rattle.tp_parse.specs.Input.{Reads};
 
@@ -198,7 +199,7 @@ fn begins(level: u8, mark: Mark) -> bool
 
 /// The level of the operands.
 pub fn listed_level(listed: &Listed) -> u8
-    ensures { result ≡ spec.listed_level listed.now }
+    ensures { result ≡ marks.listed_level listed.now }
 {
     match listed {
         Listed::List => 4,
@@ -208,7 +209,7 @@ pub fn listed_level(listed: &Listed) -> u8
 
 /// The mark after the operands.
 pub fn listed_close(listed: &Listed) -> Mark
-    ensures { result ≡ spec.listed_close listed.now }
+    ensures { result ≡ marks.listed_close listed.now }
 {
     match listed {
         Listed::List => Mark::Symbol(Symbol::Greater),
@@ -217,7 +218,7 @@ pub fn listed_close(listed: &Listed) -> Mark
 }
 
 pub fn enclosed_level(enclosure: Enclosure) -> u8
-    ensures { result ≡ spec.enclosed_level enclosure }
+    ensures { result ≡ marks.enclosed_level enclosure }
 {
     match enclosure {
         Enclosure::Size => 4,
@@ -226,7 +227,7 @@ pub fn enclosed_level(enclosure: Enclosure) -> u8
 }
 
 pub fn enclosed_close(enclosure: Enclosure) -> Mark
-    ensures { result ≡ spec.enclosed_close enclosure }
+    ensures { result ≡ marks.enclosed_close enclosure }
 {
     match enclosure {
         Enclosure::Round => Mark::Symbol(Symbol::CloseRound),
@@ -237,7 +238,7 @@ pub fn enclosed_close(enclosure: Enclosure) -> Mark
 
 /// The mark between the operands.
 pub fn middle(pair: &Pair) -> Mark
-    ensures { result ≡ spec.middle pair.now }
+    ensures { result ≡ marks.middle pair.now }
 {
     match pair {
         Pair::While => Mark::Word(Word::Do),
