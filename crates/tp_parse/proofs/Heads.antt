@@ -109,11 +109,11 @@ any_name_is ts (inr e) = elim (sees m.Upper ts) as (λ b. cond (b || sees m.Lowe
     | false ↦ rw (same_yes (mark ts) m.Lower e) refl
   ]
 
-lower_then : {B : Type 0} (ts : Tokens) (f : List ℕ → Reader B) (y : B × Tokens) → and_then (lower ts) f ≡ Ok y → (mark ts ≡ m.Lower) × (f (name ts) (drop 1 ts) ≡ Ok y)
+pub lower_then : {B : Type 0} (ts : Tokens) (f : List ℕ → Reader B) (y : B × Tokens) → and_then (lower ts) f ≡ Ok y → (mark ts ≡ m.Lower) × (f (name ts) (drop 1 ts) ≡ Ok y)
 unfolding lower
 lower_then ts f y e = let g = gate (sees m.Lower ts) (name ts, drop 1 ts) _ f y e in (same_is _ _ g.0, g.1)
 
-lower_is : (ts : Tokens) → mark ts ≡ m.Lower → lower ts ≡ Ok (name ts, drop 1 ts)
+pub lower_is : (ts : Tokens) → mark ts ≡ m.Lower → lower ts ≡ Ok (name ts, drop 1 ts)
 unfolding lower
 lower_is ts e = rw (same_yes (mark ts) m.Lower e) refl
 

@@ -63,7 +63,7 @@ unfolding mark
 role_taken k [] r e some = absurd (some (sym e ∙ role_end k))
 role_taken k (t ∷ ts) r e some = omega arith
 
-names_shorter : {ts rest : Tokens} {xs : List (List ℕ)} → Names ts xs rest → length rest ≤ length ts
+pub names_shorter : {ts rest : Tokens} {xs : List (List ℕ)} → Names ts xs rest → length rest ≤ length ts
 names_shorter {ts} (last_name n e) = dropped ts
 names_shorter {ts} (name_then n e d) = omega (arith, dropped ts, dropped (drop 1 ts), names_shorter d)
 

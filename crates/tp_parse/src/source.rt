@@ -1,9 +1,12 @@
 // Definitions and whole sources.
-ghost use Rattle.std.specs.Prelude.{◌≡◌, []};
+ghost use Rattle.std.specs.Prelude.{◌≡◌, ◌≢◌, [], IfOk, IfErr};
 ghost use Rattle.tp_parse.specs.Input.{Reads};
 ghost use Rattle.tp_parse.specs.Source as spec;
 ghost use Rattle.tp_parse.specs.Source.{outcome_of, IsOutcome, definition_trees};
 ghost use Rattle.tp_tree.specs.Read.{tree, definition_tree, source_tree};
+ghost use Rattle.tp_tree.specs.Tree.{SourceTree};
+ghost use Rattle.tp_parse.specs.Grammar.{Accepts};
+ghost use Rattle.tp_parse.specs.declared.refusal.ParseRefusal.TheVariants.{NoMemory};
 
 use crate::mark::Mark;
 use crate::parser::Parser;
@@ -21,6 +24,15 @@ const MAX_HEIGHT: u8 = 200;
 /// list, and a call or a form without operands are 1 high, any other phrase is 1 higher than its highest operand, and a pair of
 /// `( )` or `{ }` adds 1.
 pub fn parse(alloc: Global, tokens: &Tokens) -> Result<Source, ParseRefusal>
+    ensures accepted { IfOk result (λ s. Accepts tokens.now (source_tree s)) }
+    ensures only { IfOk result (λ s. (t : SourceTree) → Accepts tokens.now t → t ≡ source_tree s) }
+    ensures refused { IfErr result (λ e. e ≢ NoMemory → (t : SourceTree) → ¬ Accepts tokens.now t) }
+    ensures outcome { IsOutcome (outcome_of tokens.now) result }
+{
+    outcome(alloc, tokens)
+}
+
+fn outcome(alloc: Global, tokens: &Tokens) -> Result<Source, ParseRefusal>
     ensures { IsOutcome (outcome_of tokens.now) result }
 {
     match source(alloc, tokens) {
