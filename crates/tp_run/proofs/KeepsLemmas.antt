@@ -4,7 +4,7 @@ use Rattle.std.proofs.lemmas.Bool.Decides.{nat_tests}
 use Rattle.tp_value.specs.Tree.{num}
 use Rattle.tp_value.specs.declared.path.VarId.{VarId}
 use Rattle.tp_meaning.specs.Course.{State, Course, Shows, blank, ◌⊕◌}
-use Rattle.tp_meaning.proofs.Shows.{blank-join, join-assoc}
+use Rattle.tp_meaning.proofs.Shows.{join-assoc}
 use Rattle.tp_kernel.specs.Built.{IsSum, IsBuiltOver, IsStateVariable}
 use Rattle.tp_run.specs.Residual.{Duty, Do, Later, formula_in, Known, kept, joined_option, with_number, Residual}
 use Rattle.std.specs.Ordering.{int_eq}
@@ -21,7 +21,7 @@ use Rattle.tp_run.proofs.StepMeans.{MarkHolds, SettingHolds, SaysSame, duty_says
 
 -- duties one list after the other
 pub hold_join : (d : ℕ) (xs ys : List Duty) (s : Course) (a b : ℕ) (T U : Shows) → DutiesHold d xs s a b T → DutiesHold d ys s a b U → DutiesHold d (xs ++ ys) s a b (T ⊕ U)
-hold_join d [] ys s a b T U h g = subst (DutiesHold d ys s a b) (sym (ap (λ (V : Shows). V ⊕ U) h ∙ blank-join U)) g
+hold_join d [] ys s a b T U h g = subst (DutiesHold d ys s a b) (sym (ap (λ (V : Shows). V ⊕ U) h)) g
 hold_join d (x ∷ xs) ys s a b T U h g = (h.0, h.1 ⊕ U, h.2, hold_join d xs ys s a b h.1 U h.3 g, ap (λ (V : Shows). V ⊕ U) h.4 ∙ join-assoc h.0 h.1 U)
 
 pub record Parted (d : ℕ) (xs ys : List Duty) (s : Course) (a b : ℕ) (S : Shows) : Type 0 where
@@ -32,7 +32,7 @@ pub record Parted (d : ℕ) (xs ys : List Duty) (s : Course) (a b : ℕ) (S : Sh
   pub shows : S ≡ first ⊕ second
 
 pub hold_part : (d : ℕ) (xs ys : List Duty) (s : Course) (a b : ℕ) (S : Shows) → DutiesHold d (xs ++ ys) s a b S → Parted d xs ys s a b S
-hold_part d [] ys s a b S h = record { first = blank; second = S; front = refl; back = h; shows = sym (blank-join S) }
+hold_part d [] ys s a b S h = record { first = blank; second = S; front = refl; back = h; shows = refl }
 hold_part d (x ∷ xs) ys s a b S h =
     let p = hold_part d xs ys s a b h.1 h.3 in
     record { first = h.0 ⊕ p.first; second = p.second; front = (h.0, p.first, h.2, p.front, refl); back = p.back; shows = h.4 ∙ ap (λ (V : Shows). h.0 ⊕ V) p.shows ∙ sym (join-assoc h.0 p.first p.second) }

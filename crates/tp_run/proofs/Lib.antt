@@ -9,3 +9,4 @@ mod StepMeans
 mod KeepsLemmas
 mod FitsLemmas
 mod AnswerMeans
+pub mod HistoryLemmas

@@ -11,3 +11,4 @@ pub mod ReadyProps
 pub mod Runs
 pub mod StandsFor
 pub mod Meaning
+pub mod History
