@@ -3,10 +3,10 @@
 
 mod derived;
 mod formula;
+#[cfg(test)]
+mod tests;
 
-pub use derived::{
-    becomes, fin, gets, halt, keep, list, next_equals, repeat, skip, stable,
-};
+pub use derived::{becomes, fin, gets, halt, keep, list, next_equals, repeat, skip, stable};
 pub use formula::{
     Binding, Def, Defs, Env, Expr, Exprs, FaultKind, Formula, Formulas, LimitKind, Op2,
 };
