@@ -151,8 +151,12 @@ module _ (inner : ℕ → Reader Found) (room : ℕ) (complete : (k : ℕ) (ts :
   levels_complete {rest = rest} (if_then {then = then} {x = x} b d f g i) low =
       primary_is b (λ q. omega (arith, tall d)) ∙ rw (part_is (m.Word word.Then) d (omega arith) f, complete chop (past then) x rest g (omega arith), same_no (mark rest) (m.Word word.Else) i) refl
   levels_complete {rest = rest} (if_else {then = then} {else = else} {x = x} {y = y} b d f g i j) low =
-      primary_is b (λ q. omega (arith, tall d)) ∙ rw (part_is (m.Word word.Then) d (omega arith) f, complete chop (past then) x else g (omega arith), same_yes (mark else) (m.Word word.Else) i,
-      complete chop (drop 1 else) y rest j (omega arith)) refl
+      primary_is b (λ q. omega (arith, tall d)) ∙ rw (
+        part_is (m.Word word.Then) d (omega arith) f,
+        complete chop (past then) x else g (omega arith),
+        same_yes (mark else) (m.Word word.Else) i,
+        complete chop (drop 1 else) y rest j (omega arith),
+      ) refl
   levels_complete {rest = rest} (paired {next = next} {q = q} {y = y} b d f g) low =
       primary_is b (λ z. omega (arith, tall d)) ∙ rw (part_is (middle q) d (omega arith) f, complete chop (past next) y rest g (omega arith)) refl
   levels_complete {rest = rest} (quantified {mid = mid} {x = x} b d) low = primary_is b (λ q. omega (arith, tall d)) ∙ rw (complete chop mid x rest d (omega arith)) refl

@@ -97,9 +97,13 @@ definitions_sound : (n : ℕ) (ds : List DefinitionTree) (ts : Tokens) (q : List
     → (more : List DefinitionTree) × (h : ℕ) × Definitions ts more h q.1 × (q.0 ≡ ds ++ more) × (h ≤ limit)
 unfolding s.definitions_from
 definitions_sound zero ds ts q few e =
-    let is = ok_is (ds, ts) q e in
-    ([], 0, subst (λ (z : List DefinitionTree × Tokens). Definitions ts [] 0 z.1) is (no_definition (λ at. absurd (omega (arith, taken ts _ at (λ w. cc))))),
-    ap (λ (z : List DefinitionTree × Tokens). z.0) (sym is) ∙ sym (append-nil ds), omega arith)
+    let is = ok_is (ds, ts) q e in (
+      [],
+      0,
+      subst (λ (z : List DefinitionTree × Tokens). Definitions ts [] 0 z.1) is (no_definition (λ at. absurd (omega (arith, taken ts _ at (λ w. cc))))),
+      ap (λ (z : List DefinitionTree × Tokens). z.0) (sym is) ∙ sym (append-nil ds),
+      omega arith,
+    )
 definitions_sound (suc n) ds ts q few e =
     elim (chosen (sees (m.Word word.Define) ts) _ _ _ e) [
       | inl w ↦
@@ -107,9 +111,13 @@ definitions_sound (suc n) ds ts q few e =
           let others = definitions_sound n (ds ++ d.0 ∷ []) d.2 q (omega (arith, defines_shorter d.3.0)) d.4 in
           (d.0 ∷ others.0, max d.1 others.1, definition_then d.3.0 others.2, others.3 ∙ append_assoc ds (d.0 ∷ []) others.0, omega (arith, d.3.1, others.4))
       | inr w ↦
-          let is = ok_is (ds, ts) q w.1 in
-          ([], 0, subst (λ (z : List DefinitionTree × Tokens). Definitions ts [] 0 z.1) is (no_definition (same_not _ _ w.0)),
-          ap (λ (z : List DefinitionTree × Tokens). z.0) (sym is) ∙ sym (append-nil ds), omega arith)
+          let is = ok_is (ds, ts) q w.1 in (
+            [],
+            0,
+            subst (λ (z : List DefinitionTree × Tokens). Definitions ts [] 0 z.1) is (no_definition (same_not _ _ w.0)),
+            ap (λ (z : List DefinitionTree × Tokens). z.0) (sym is) ∙ sym (append-nil ds),
+            omega arith,
+          )
     ]
 
 definitions_complete : {ts rest : Tokens} {more : List DefinitionTree} {h : ℕ} → Definitions ts more h rest → h ≤ limit → (n : ℕ) (ds : List DefinitionTree) → length ts ≤ n
@@ -122,8 +130,8 @@ definitions_complete {ts} {rest} (definition_then {d = x} {ds = more} d e) low (
     let others = definitions_complete e (omega arith) n (ds ++ x ∷ []) (omega (arith, defines_shorter d)) in
     rw (same_yes (mark ts) (m.Word word.Define) (begins d), definition_is d (omega arith)) (others ∙ ap (λ z. fine (z, rest)) (append_assoc ds (x ∷ []) more))
   where
-  begins : {us end : Tokens} {z : DefinitionTree} {h : ℕ} → Defines us z h end → mark us ≡ m.Word word.Define
-  begins (defines at n o xs q b) = at
+    begins : {us end : Tokens} {z : DefinitionTree} {h : ℕ} → Defines us z h end → mark us ≡ m.Word word.Define
+    begins (defines at n o xs q b) = at
 
 ended_ok : (x : SourceTree) (ts : Tokens) (q : SourceTree × Tokens) → s.ended x ts ≡ Ok q → (ts ≡ []) × (q ≡ (x, []))
 unfolding s.ended
@@ -154,9 +162,9 @@ source_complete ts x is = source_is is.source is.low
 pub read_accepted : (ts : Tokens) (x : SourceTree) → s.outcome_of ts ≡ Ok x → Accepts ts x
 read_accepted ts x e = by (s.source ts) refl e
   where
-  by : (o : Outcome SourceTree) → s.source ts ≡ o → s.outcome_by (length ts) o ≡ Ok x → Accepts ts x
-  by (Ok q) is made = let same : q.0 ≡ x = cc in subst (Accepts ts) same (source_sound ts q is)
-  by (Err d) is made = absurd cc
+    by : (o : Outcome SourceTree) → s.source ts ≡ o → s.outcome_by (length ts) o ≡ Ok x → Accepts ts x
+    by (Ok q) is made = let same : q.0 ≡ x = cc in subst (Accepts ts) same (source_sound ts q is)
+    by (Err d) is made = absurd cc
 
 pub accepted_read : (ts : Tokens) (x : SourceTree) → Accepts ts x → s.outcome_of ts ≡ Ok x
 accepted_read ts x is = ap (s.outcome_by (length ts)) (source_complete ts x is)

@@ -99,15 +99,15 @@ any_name_then : {B : Type 0} (ts : Tokens) (f : List ℕ → Reader B) (y : B ×
 unfolding any_name
 any_name_then ts f y e =
     let g = gate (sees m.Upper ts || sees m.Lower ts) (name ts, drop 1 ts) _ f y e in
-    (elim (or_is (sees m.Upper ts) (sees m.Lower ts) g.0) [ | inl q ↦ inl (same_is _ _ q) | inr q ↦ inr (same_is _ _ q) ], g.1)
+    (elim (or_is (sees m.Upper ts) (sees m.Lower ts) g.0) [ inl q ↦ inl (same_is _ _ q) | inr q ↦ inr (same_is _ _ q) ], g.1)
 
 any_name_is : (ts : Tokens) → IsName ts → any_name ts ≡ Ok (name ts, drop 1 ts)
 unfolding any_name
 any_name_is ts (inl e) = rw (same_yes (mark ts) m.Upper e) refl
 any_name_is ts (inr e) = elim (sees m.Upper ts) as (λ b. cond (b || sees m.Lower ts) (taken_name ts) (Err (input.refusal ts)) ≡ Ok (name ts, drop 1 ts)) [
-    | true ↦ refl
-    | false ↦ rw (same_yes (mark ts) m.Lower e) refl
-  ]
+  | true ↦ refl
+  | false ↦ rw (same_yes (mark ts) m.Lower e) refl
+]
 
 pub lower_then : {B : Type 0} (ts : Tokens) (f : List ℕ → Reader B) (y : B × Tokens) → and_then (lower ts) f ≡ Ok y → (mark ts ≡ m.Lower) × (f (name ts) (drop 1 ts) ≡ Ok y)
 unfolding lower
@@ -156,9 +156,9 @@ names_from_complete {ts} {rest} is (name_then {xs = xs} n e d) (suc k) ys few =
     let others = names_from_complete first d k (ys ++ name ts ∷ []) (omega (arith, taken (drop 1 ts) _ e (λ w. cc), dropped (drop 1 (drop 1 ts)))) in
     rw (same_yes (mark (drop 1 ts)) comma e, any_name_is (drop 1 (drop 1 ts)) first) (others ∙ ap (λ z. fine (z, rest)) (append_assoc ys (name ts ∷ []) xs))
   where
-  names_begin : {us end : Tokens} {zs : List (List ℕ)} → Names us zs end → IsName us
-  names_begin (last_name n e) = n
-  names_begin (name_then n e d) = n
+    names_begin : {us end : Tokens} {zs : List (List ℕ)} → Names us zs end → IsName us
+    names_begin (last_name n e) = n
+    names_begin (name_then n e d) = n
 
 pub names_complete : {ts rest : Tokens} {xs : List (List ℕ)} → Names ts xs rest → names ts ≡ Ok (xs, rest)
 unfolding names
@@ -190,9 +190,9 @@ head_sound s.Nothing ts y is e = absurd cc
 head_sound s.Number ts y is e = moved _ y e (number is)
 head_sound s.Name ts y is e = moved _ y e (upper_name is)
 head_sound s.NameOrCall ts y is e = elim (chosen (sees (m.Symbol symbol.OpenRound) (drop 1 ts)) _ _ _ e) [
-    | inl w ↦ moved _ y w.1 (call is (same_is _ _ w.0))
-    | inr w ↦ moved _ y w.1 (lower_name is (same_not _ _ w.0))
-  ]
+  | inl w ↦ moved _ y w.1 (call is (same_is _ _ w.0))
+  | inr w ↦ moved _ y w.1 (lower_name is (same_not _ _ w.0))
+]
 head_sound (s.Truth b) ts y is e = moved _ y e (truth is)
 head_sound (s.Bare w) ts y is e = moved _ y e (bare is)
 head_sound s.EmptyList ts y is e = moved _ y e (empty_list is)

@@ -45,9 +45,9 @@ pub passed : (ts : Tokens) → length (past ts) ≤ length ts
 unfolding past
 passed ts = elim (same (due ts) (mark ts)) as (λ b. length (cond b (drop 1 ts) (left_of true ts)) ≤ length ts) [ true ↦ dropped ts | false ↦ halved_length ts ]
   where
-  halved_length : (us : Tokens) → length (left_of true us) ≤ length us
-  halved_length [] = omega arith
-  halved_length (t ∷ us) = omega arith
+    halved_length : (us : Tokens) → length (left_of true us) ≤ length us
+    halved_length [] = omega arith
+    halved_length (t ∷ us) = omega arith
 
 pub taken : (ts : Tokens) (x : Mark) → mark ts ≡ x → x ≢ m.End → length (drop 1 ts) < length ts
 unfolding mark

@@ -64,9 +64,12 @@ module _ (inner : ℕ → Reader Found) (room : ℕ) (sound : (k : ℕ) (ts : To
       → r.others_from inner room k separator n all ts ≡ Ok p → (more : Operands) × Others k separator ts more p.1 × (p.0 ≡ joined all more) × (more.height ≤ room)
   unfolding r.others_from
   others_sound k separator zero all ts p some few low e =
-      let is = ok_is (all, ts) p e in
-      (no_operand, subst (λ (q : Operands × Tokens). Others k separator ts no_operand q.1) is (no_more (λ at. absurd (omega (arith, taken ts _ at some)))),
-      ap (λ (q : Operands × Tokens). q.0) (sym is) ∙ sym (joined_none all), omega arith)
+      let is = ok_is (all, ts) p e in (
+        no_operand,
+        subst (λ (q : Operands × Tokens). Others k separator ts no_operand q.1) is (no_more (λ at. absurd (omega (arith, taken ts _ at some)))),
+        ap (λ (q : Operands × Tokens). q.0) (sym is) ∙ sym (joined_none all),
+        omega arith,
+      )
   others_sound k separator (suc n) all ts p some few low e =
       elim (chosen (sees separator ts) _ _ _ e) [
         | inl w ↦
@@ -76,9 +79,12 @@ module _ (inner : ℕ → Reader Found) (room : ℕ) (sound : (k : ℕ) (ts : To
             let rest = others_sound k separator n (then_operand all b.0.0) b.0.1 p some (omega (arith, shorter is.0, taken ts _ here some)) (omega (arith, is.1)) b.2 in
             (operand_then b.0.0 rest.0, one_more here is.0 rest.1, rest.2 ∙ joined_more all b.0.0 rest.0, omega (arith, is.1, rest.3))
         | inr w ↦
-            let is = ok_is (all, ts) p w.1 in
-            (no_operand, subst (λ (q : Operands × Tokens). Others k separator ts no_operand q.1) is (no_more (same_not _ _ w.0)),
-            ap (λ (q : Operands × Tokens). q.0) (sym is) ∙ sym (joined_none all), omega arith)
+            let is = ok_is (all, ts) p w.1 in (
+              no_operand,
+              subst (λ (q : Operands × Tokens). Others k separator ts no_operand q.1) is (no_more (same_not _ _ w.0)),
+              ap (λ (q : Operands × Tokens). q.0) (sym is) ∙ sym (joined_none all),
+              omega arith,
+            )
       ]
 
   operands_sound : (k : ℕ) (close : Mark) (ts : Tokens) (p : Operands × Tokens) → r.operands inner room k close ts ≡ Ok p → Listing k close ts p.0 p.1 × (p.0.height ≤ room)
@@ -159,11 +165,11 @@ module _ (inner : ℕ → Reader Found) (room : ℕ) (sound : (k : ℕ) (ts : To
       let made = ok_is (of_infix at o a b.0.0, b.0.1) x.0 b.2 in
       subst (HasTurned k at a ts) (ap (λ (q : Found × Tokens). ((q.0, goes_on way), q.1)) made ∙ ok_is _ p x.2) (by way role is.0 is.1 f.0)
     where
-    by : (way : Way) {b : Found} {rest : Tokens} → role_at k (mark ts) ≡ Infix l way o → Parses (operand_level k way) (drop 1 ts) b rest → b.height ≤ room → a.height ≤ room
-        → HasTurned k at a ts ((of_infix at o a b, goes_on way), rest)
-    by Left role d low low2 = record { stops = λ q. absurd cc; goes = λ q t last g. left role d g; fewer = λ q. omega (arith, shorter d, role_taken k ts _ role (λ q. cc)); low = λ q. omega arith }
-    by Single role d low low2 = record { stops = λ q. single role d; goes = λ q. absurd cc; fewer = λ q. absurd cc; low = λ q. omega arith }
-    by Right role d low low2 = record { stops = λ q. right role d; goes = λ q. absurd cc; fewer = λ q. absurd cc; low = λ q. omega arith }
+      by : (way : Way) {b : Found} {rest : Tokens} → role_at k (mark ts) ≡ Infix l way o → Parses (operand_level k way) (drop 1 ts) b rest → b.height ≤ room → a.height ≤ room
+          → HasTurned k at a ts ((of_infix at o a b, goes_on way), rest)
+      by Left role d low low2 = record { stops = λ q. absurd cc; goes = λ q t last g. left role d g; fewer = λ q. omega (arith, shorter d, role_taken k ts _ role (λ q. cc)); low = λ q. omega arith }
+      by Single role d low low2 = record { stops = λ q. single role d; goes = λ q. absurd cc; fewer = λ q. absurd cc; low = λ q. omega arith }
+      by Right role d low low2 = record { stops = λ q. right role d; goes = λ q. absurd cc; fewer = λ q. absurd cc; low = λ q. omega arith }
 
   indexed_sound : (k at : ℕ) (a : Found) (ts : Tokens) (p : (Found × Bool) × Tokens) → role_at k (mark ts) ≡ Opens
       → (r.indexed inner room at a >>= λ x. pure (x, true)) ts ≡ Ok p → HasTurned k at a ts p
@@ -177,7 +183,7 @@ module _ (inner : ℕ → Reader Found) (room : ℕ) (sound : (k : ℕ) (ts : To
         stops = λ q. absurd cc;
         goes = λ q t last g. indexed role i.1.0 i.2 g;
         fewer = λ q. omega (arith, shorter i.1.0, role_taken k ts _ role (λ q. cc), passed i.0.1);
-        low = λ q. omega (arith, i.1.1, f.0)
+        low = λ q. omega (arith, i.1.1, f.0);
       })
 
   chained_sound : (k at : ℕ) (a : Found) (ts : Tokens) (p : (Found × Bool) × Tokens) → role_at k (mark ts) ≡ Joins
@@ -194,7 +200,7 @@ module _ (inner : ℕ → Reader Found) (room : ℕ) (sound : (k : ℕ) (ts : To
         stops = λ q. joins role are.1;
         goes = λ q. absurd cc;
         fewer = λ q. absurd cc;
-        low = λ q. omega (arith, f.0, are.3)
+        low = λ q. omega (arith, f.0, are.3);
       })
 
   turn_by_sound : (k at : ℕ) (a : Found) (role : Role) (ts : Tokens) (p : (Found × Bool) × Tokens) → role_at k (mark ts) ≡ role → r.turn_by inner room k at a role ts ≡ Ok p → HasTurned k at a ts p

@@ -124,9 +124,9 @@ any_name = λ ts. if sees m.Upper ts || sees m.Lower ts then taken_name ts else 
 unfoldable pub names_from : ℕ → List (List ℕ) → Reader (List (List ℕ))
 names_from zero xs = pure xs
 names_from (suc n) xs = λ ts. if sees (m.Symbol symbol.Comma) ts then (do
-    _comma ← take
-    x ← any_name
-    names_from n (xs ++ x ∷ [])) ts else pure xs ts
+  _comma ← take
+  x ← any_name
+  names_from n (xs ++ x ∷ [])) ts else pure xs ts
 
 -- names with commas between them, at least one
 unfoldable pub names : Reader (List (List ℕ))

@@ -47,9 +47,9 @@ module _ (inner : ℕ → Reader Found) (room : ℕ) where
   unfoldable pub others_from : ℕ → Mark → ℕ → Operands → Reader Operands
   others_from k separator zero all = pure all
   others_from k separator (suc n) all = λ ts. if sees separator ts then (do
-      _separator ← take
-      a ← inner k
-      others_from k separator n (then_operand all a)) ts else pure all ts
+    _separator ← take
+    a ← inner k
+    others_from k separator n (then_operand all a)) ts else pure all ts
 
   unfoldable pub others : ℕ → Mark → Found → Reader Operands
   others k separator first = λ ts. others_from k separator (length ts) (operands_of (first.tree ∷ []) first.height) ts
@@ -57,17 +57,17 @@ module _ (inner : ℕ → Reader Found) (room : ℕ) where
   -- any number of operands, with commas between them and the mark after them
   unfoldable pub operands : ℕ → Mark → Reader Operands
   operands k close = λ ts. if same (due ts) close then Ok (no_operand, past ts) else (do
-      first ← inner k
-      all ← others k comma first
-      _closed ← expect close
-      pure all) ts
+    first ← inner k
+    all ← others k comma first
+    _closed ← expect close
+    pure all) ts
 
   -- after the first two parts
   unfoldable pub else_part : ℕ → Found → Found → Reader Found
   else_part at b p = λ ts. if sees (m.Word word.Else) ts then (do
-      _else ← take
-      q ← inner chop
-      pure (of_choice_else at b p q)) ts else pure (of_choice at b p) ts
+    _else ← take
+    q ← inner chop
+    pure (of_choice_else at b p q)) ts else pure (of_choice at b p) ts
 
   unfoldable pub choice : ℕ → Reader Found
   choice at = do

@@ -29,9 +29,9 @@ sentence = do
 -- the parameters of a definition and the `)` after them
 unfoldable pub parameters : Reader (List (List ℕ))
 parameters = λ ts. if sees (m.Symbol symbol.CloseRound) ts then Ok ([], drop 1 ts) else (do
-    xs ← names
-    _close ← expect (m.Symbol symbol.CloseRound)
-    pure xs) ts
+  xs ← names
+  _close ← expect (m.Symbol symbol.CloseRound)
+  pure xs) ts
 
 unfoldable pub definition : Reader DefinitionTree
 definition = λ ts. (do
@@ -47,8 +47,8 @@ definition = λ ts. (do
 unfoldable pub definitions_from : ℕ → List DefinitionTree → Reader (List DefinitionTree)
 definitions_from zero ds = pure ds
 definitions_from (suc n) ds = λ ts. if sees (m.Word word.Define) ts then (do
-    d ← definition
-    definitions_from n (ds ++ d ∷ [])) ts else pure ds ts
+  d ← definition
+  definitions_from n (ds ++ d ∷ [])) ts else pure ds ts
 
 unfoldable pub definitions : Reader (List DefinitionTree)
 definitions = λ ts. definitions_from (length ts) [] ts

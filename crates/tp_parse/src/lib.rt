@@ -11,3 +11,6 @@ mod source;
 
 pub use refusal::ParseRefusal;
 pub use source::parse;
+
+#[cfg(test)]
+mod tests;

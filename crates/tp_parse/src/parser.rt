@@ -54,7 +54,11 @@ impl<'a> Parser<'a> {
             [] => Mark::End,
             [token, ..] => {
                 let mark = mark_of(&token.kind);
-                if self.halved { without_half(mark) } else { mark }
+                if self.halved {
+                    without_half(mark)
+                } else {
+                    mark
+                }
             }
         }
     }

@@ -133,13 +133,7 @@ impl Parser<'_> {
     /// A phrase, and the mark after it.
     #[cycle(phrase)]
     #[tactic(auto, unfolding(crate::specs::Reading::part))]
-    fn part(
-        &mut self,
-        alloc: Global,
-        level: u8,
-        close: Mark,
-        room: u8,
-    ) -> Result<Measured, Refusal>
+    fn part(&mut self, alloc: Global, level: u8, close: Mark, room: u8) -> Result<Measured, Refusal>
         requires { level ≤ 10 }
         ensures reads { Reads seen (spec.part (spec.read room) room level close self.old) result self.new }
         ensures low { IfOk result (λ r. r.height ≤ room) }

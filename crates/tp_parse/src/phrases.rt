@@ -126,11 +126,7 @@ pub fn of_choice_else(
     let condition = Box::new(alloc, condition.phrase)?;
     let first = Box::new(alloc, first.phrase)?;
     let second = Box::new(alloc, second.phrase)?;
-    Ok(make(
-        at,
-        PhraseKind::If(condition, first, Some(second)),
-        height,
-    ))
+    Ok(make(at, PhraseKind::If(condition, first, Some(second)), height))
 }
 
 fn pair_kind(pair: Pair, first: Box<Phrase>, second: Box<Phrase>) -> PhraseKind

@@ -83,7 +83,7 @@ phrase-returns-then-room-eq0-clause-reads t c = let none : c.args.room ≡ 0 = o
 pub phrase-loop-lower-init : goal.phrase-loop-lower-init
 phrase-loop-lower-init t c = record {
   reads = levels_first (read (c.args.room - 1)) (c.args.room - 1) c.start_level-start.result c.args.self.now (λ q. ap before (sym c.mark.ensures) ∙ c.start_level-start.ensures.own q) ∙ c.in_ok-left.ensures.reads;
-  low = omega (arith, c.in_ok-left.ensures.low)
+  low = omega (arith, c.in_ok-left.ensures.low);
 }
 
 pub phrase-returns-in_err-left-clause-reads : goal.phrase-returns-in_err-left-clause-reads
@@ -114,7 +114,7 @@ phrase-loop-lower-preserved t c =
     let next = level_next (read room) room c.loop-lower.lower c.args.level ts c.loop-lower.self (seen c.loop-lower.left) others c.loop-lower-test.true c.loop-lower.invariant.reads in
     record {
       reads = next ∙ ap (λ a. operations (read room) room (c.loop-lower.lower + 1) a (seen c.loop-lower.left) c.loop-lower.self) (sym c.from-at.ensures) ∙ c.in_ok-left-2.ensures.reads;
-      low = omega (arith, c.in_ok-left-2.ensures.low)
+      low = omega (arith, c.in_ok-left-2.ensures.low);
     }
 
 pub phrase-returns-clause-reads : goal.phrase-returns-clause-reads

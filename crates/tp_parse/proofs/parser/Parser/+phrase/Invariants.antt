@@ -46,17 +46,17 @@ decreases-part l = l.room * 16 + 4
 abbrev pub invariant-operations-loop-turn : goal.invariant-operations-loop-turn
 invariant-operations-loop-turn l = record {
   reads : operations (read l.room) l.room l.level l.at (seen l.fn.first) l.fn.self ≡ go (read l.room) l.room l.level l.at (l._turn-end - l._turn) (seen l.left) l.self;
-  low : l.left.height ≤ l.room + 1
+  low : l.left.height ≤ l.room + 1;
 }
 
 abbrev pub invariant-others-loop-turn : goal.invariant-others-loop-turn
 invariant-others-loop-turn l = record {
   reads : others (read l.room) l.room l.level l.separator (seen l.fn.first) l.fn.self ≡ others_from (read l.room) l.room l.level l.separator (l._turn-end - l._turn) (operands_of (map tree l.items.items) l.height) l.self;
-  low : l.height ≤ l.room
+  low : l.height ≤ l.room;
 }
 
 abbrev pub invariant-phrase-loop-lower : goal.invariant-phrase-loop-lower
 invariant-phrase-loop-lower l = record {
   reads : levels (read (l.room - 1)) (l.room - 1) l.lower l.fn.self ≡ Ok (seen l.left, l.self);
-  low : l.left.height ≤ l.room
+  low : l.left.height ≤ l.room;
 }
