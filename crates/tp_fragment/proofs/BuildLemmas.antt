@@ -1,9 +1,8 @@
 -- Formulas of items that are built one after the other.
-use Rattle.std.proofs.Common.{refl, ap, sym, subst, ◌∙◌, ◌≡◌, ℕ, zero, suc, ◌+◌, ◌<◌, ◌≤◌, List, [], ◌∷◌, ◌++◌, length, get_or, take, map, flat_map, arith}
-use Rattle.std.proofs.lemmas.List.{take_more, take_all, map_more, append-nil}
+use Rattle.std.proofs.Common.{refl, ap, ◌∙◌, ◌≡◌, ℕ, zero, suc, ◌+◌, ◌<◌, ◌≤◌, List, [], ◌∷◌, ◌++◌, length, get_or, take, flat_map, arith}
+use Rattle.std.proofs.lemmas.List.{take_more, append-nil}
 use Rattle.std.proofs.lemmas.Grind.{flat_map-append}
 use Rattle.tp_meaning.specs.Syntax.{ExprTree, FormulaTree, conjunction, formulas_of, next, more, next_equation}
-use Rattle.tp_fragment.specs.declared.phrase.Operand.{Operand}
 use Rattle.tp_fragment.specs.declared.phrase.Item.{Item}
 use Rattle.tp_fragment.specs.Height.{item_height, greatest_height, conj_height, height_limit}
 use Rattle.tp_fragment.specs.Program.{joined, empty_tree, equation_tree}

@@ -10,6 +10,6 @@ returns c =
     let n = c.args.nexts in
     let first : formula_tree c.in_ok-new.field-0.value ≡ more = ap formula_tree c.in_ok-new.ensures.ok ∙ formula_more in
     let second : formula_tree c.in_ok-new-2.field-0.value ≡ next_equation n (expr_tree c.args.left) (expr_tree c.args.right) =
-        ap formula_tree c.in_ok-new-2.ensures.ok ∙ (formula_next_eq n _ _ ∙ ap₂ (next_equation n) (ap expr_tree c.in_ok-left.ensures.ok) (ap expr_tree c.in_ok-right.ensures.ok)) in
+    ap formula_tree c.in_ok-new-2.ensures.ok ∙ (formula_next_eq n _ _ ∙ ap₂ (next_equation n) (ap expr_tree c.in_ok-left.ensures.ok) (ap expr_tree c.in_ok-right.ensures.ok)) in
     formula_and _ ∙ (ap (λ ws. conjunction (formulas_of (map (λ w. formula_tree w.value) ws))) c.in_ok-items.ensures.items
     ∙ (ap₂ (λ v w. conjunction (formulas_of (v ∷ w ∷ []))) first second ∙ sym (equation_later n _ _ (λ none. omega arith))))
