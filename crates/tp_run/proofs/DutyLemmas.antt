@@ -1,7 +1,7 @@
 -- The operands of a conjunction, as duties.
 use Rattle.std.proofs.Common.{◌≡◌, List, [], ◌∷◌, map, refl, ap, ◌∙◌, Global}
 use Rattle.std.specs.declared.rc.Rc.{Rc}
-use Rattle.tp_meaning.specs.Syntax.{FormulaTree, formulas_of}
+use Rattle.tp_meaning.specs.Syntax.{formulas_of}
 use Rattle.tp_kernel.specs.declared.formula.Formula.{Formula}
 use Rattle.tp_kernel.specs.declared.formula.Formulas.{Formulas}
 use Rattle.tp_kernel.specs.Read.{formula_tree, formula_trees}

@@ -1,3 +1,11 @@
 mod DutyLemmas
 mod SceneLemmas
 mod Steps
+mod PassLemmas
+mod SettleLemmas
+mod RunLemmas
+mod Numbers
+mod StepMeans
+mod KeepsLemmas
+mod FitsLemmas
+mod AnswerMeans

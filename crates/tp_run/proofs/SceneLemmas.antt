@@ -1,19 +1,18 @@
 -- The next item of a pass: the last of the list of those to be tried.
-use Rattle.std.proofs.Common.{◌≡◌, ℕ, suc, ◌+◌, ◌-◌, ◌<◌, ◌≤◌, List, [], ◌∷◌, ◌++◌, length, take, map, reverse, Some, slice_get, get_or, refl, ap, sym, ◌∙◌, subst, arith, append_assoc, length-append, Option, Bool, ap₂}
+use Rattle.std.proofs.Common.{◌≡◌, ℕ, suc, ◌+◌, ◌-◌, ◌<◌, List, [], ◌∷◌, ◌++◌, length, take, reverse, Some, slice_get, get_or, refl, ap, sym, ◌∙◌, subst, arith, append_assoc, length-append, Option, Bool, ap₂}
 use Rattle.std.proofs.Math.Seq.{take-length, take-append_seam}
 use Rattle.std.proofs.lemmas.Option.{slice_get_within}
-use Rattle.std.proofs.lemmas.List.{reverse-append, take_more, append-nil, reverse-reverse}
+use Rattle.std.proofs.lemmas.List.{reverse-append, take_more, reverse-reverse}
 use Rattle.tp_kernel.specs.Built.{HasBuiltKinds}
 use Rattle.std.specs.Option.{option_map}
 use Rattle.tp_run.specs.declared.scene.Item.{Item}
 use Rattle.tp_run.specs.declared.scene.Scene.{Scene}
 use Rattle.tp_run.specs.declared.decide.Decision.{Decision}
-use Rattle.tp_run.specs.declared.decide.Decision.TheVariants.{Becomes}
 use Rattle.tp_run.specs.declared.decide.Mark as M
 use Rattle.tp_run.specs.declared.decide.Setting as S
 use Rattle.tp_run.specs.Residual.{Duty, formula_in, duty_of, duties_of}
-use Rattle.tp_run.specs.Residual.{Residual, residual_of, Known}
-use Rattle.tp_run.specs.Rules.{Outcome, becomes, outcome_of}
+use Rattle.tp_run.specs.Residual.{Residual, Known}
+use Rattle.tp_run.specs.Rules.{becomes, outcome_of}
 use Rattle.tp_run.specs.Answers.{decided, mark_of, setting_of}
 use Rattle.tp_run.specs.Picks.{ends_after, goes_after, known_after, IsIdle}
 use Rattle.tp_run.specs.Weight.{size_of, weight_of}
@@ -56,7 +55,7 @@ finds_idle s t decision d w idle =
     let same : d.next ≡ w.next = (last_same d.rest t.todo.items d.next w.next (sym d.todo ∙ w.todo)).1 in
     record { shelves = w; idle = subst (λ (x : Item). IsIdle (outcome_of s.ends s.goes s.known.items (duty_of x))) same (subst IsIdle d.outcome idle) }
 
-weight-append : (xs ys : List Duty) → weight_of (xs ++ ys) ≡ weight_of xs + weight_of ys
+pub weight-append : (xs ys : List Duty) → weight_of (xs ++ ys) ≡ weight_of xs + weight_of ys
 weight-append [] ys = omega arith
 weight-append (x ∷ xs) ys = omega (arith, weight-append xs ys)
 
@@ -69,7 +68,7 @@ weight-reverse (x ∷ xs) =
 abbrev pub residual : Bool → Bool → List Duty → Known → Residual
 residual ends goes duties known = record { ends = ends; goes = goes; duties = duties; known = known }
 
-residual_same : {a b c d : Bool} {xs ys : List Duty} {k l : Known} → a ≡ b → c ≡ d → xs ≡ ys → k ≡ l → residual a c xs k ≡ residual b d ys l
+pub residual_same : {a b c d : Bool} {xs ys : List Duty} {k l : Known} → a ≡ b → c ≡ d → xs ≡ ys → k ≡ l → residual a c xs k ≡ residual b d ys l
 residual_same {a = a} {b = b} {c = c} {d = d} {xs = xs} {ys = ys} {k = k} {l = l} p q r s = ap₂ (λ e g. residual e g xs k) p q ∙ ap₂ (residual b d) r s
 
 -- the items that are left where the last one was replaced by others, the first of them last
@@ -95,11 +94,11 @@ reduces_next s t decision items mark fact d is w =
     let todo : t.todo.items ≡ d.rest ++ reverse items = w.todo ∙ todo_after s.todo.items d.rest items d.next d.todo in
     let outcome : outcome_of s.ends s.goes s.known.items (duty_of d.next) ≡ becomes (duties_of items) (mark_of mark) (option_map setting_of fact) = sym d.outcome ∙ is in
     let lighter : weight_of (duties_of items) < size_of (formula_in (duty_of d.next)) =
-        subst (IfBecomes (λ ds. weight_of ds < size_of (formula_in (duty_of d.next)))) outcome (duty_lighter s.ends s.goes s.known.items (duty_of d.next)) in
+    subst (IfBecomes (λ ds. weight_of ds < size_of (formula_in (duty_of d.next)))) outcome (duty_lighter s.ends s.goes s.known.items (duty_of d.next)) in
     let new_weight : weight_of (duties_of t.todo.items) ≡ weight_of (duties_of d.rest) + weight_of (duties_of items) =
-        ap (λ xs. weight_of (duties_of xs)) todo ∙ ap weight_of (duties-append d.rest (reverse items)) ∙ weight-append (duties_of d.rest) (duties_of (reverse items)) ∙ ap (λ n. weight_of (duties_of d.rest) + n) (weight-reverse items) in
+    ap (λ xs. weight_of (duties_of xs)) todo ∙ ap weight_of (duties-append d.rest (reverse items)) ∙ weight-append (duties_of d.rest) (duties_of (reverse items)) ∙ ap (λ n. weight_of (duties_of d.rest) + n) (weight-reverse items) in
     let old_weight : weight_of (duties_of s.todo.items) ≡ weight_of (duties_of d.rest) + (size_of (formula_in (duty_of d.next)) + 0) =
-        ap (λ xs. weight_of (duties_of xs)) d.todo ∙ ap weight_of (duties-append d.rest (d.next ∷ [])) ∙ weight-append (duties_of d.rest) (duty_of d.next ∷ []) in
+    ap (λ xs. weight_of (duties_of xs)) d.todo ∙ ap weight_of (duties-append d.rest (d.next ∷ [])) ∙ weight-append (duties_of d.rest) (duty_of d.next ∷ []) in
     record {
       reduces = record {
         before = duties_of s.done.items;

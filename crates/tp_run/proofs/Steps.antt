@@ -1,14 +1,15 @@
 -- What a step leaves: its new duties are lighter than what they replace, and of the same kinds.
-use Rattle.std.proofs.Common.{◌≡◌, ℤ, ℕ, zero, suc, ◌+◌, ◌-◌, ◌<◌, ◌≤◌, Bool, true, false, cond, List, [], ◌∷◌, ◌++◌, Option, None, Some, refl, ap, sym, ◌∙◌, subst, arith}
+use Rattle.std.proofs.Common.{◌≡◌, ℤ, ℕ, zero, suc, ◌+◌, ◌-◌, ◌<◌, Bool, true, false, cond, List, [], ◌∷◌, Option, None, Some, refl, ap, arith}
 use Rattle.std.specs.Ordering.{int_eq}
 use Rattle.tp_value.specs.declared.path.VarId.{VarId}
 use Rattle.tp_meaning.specs.Syntax.{ExprTree, numeral, FormulaTree, FormulaTrees, no_formula, formula_then, equation, next_equation, empty, more, next, conjunction}
-use Rattle.tp_kernel.specs.Built.{IsSum, IsBuiltOver, AreBuiltOver}
-use Rattle.tp_kernel.specs.declared.formula.LimitKind.TheVariants as limit
-use Rattle.tp_run.specs.declared.turn.Clash.TheVariants.{Facts, Marks, False}
-use Rattle.tp_run.specs.Residual.{Duty, Do, Later, formula_in, Known, kept, Residual}
-use Rattle.tp_run.specs.Rules.{Found, value, waits_for, over, unbuilt, Outcome, becomes, waits, rests, clashes, passes, not_built, nothing, set_variable, fact_of, meets, both_wait, equate, ending, going, carried, under_nexts, each_do, reduction, outcome_of, found_in, variable_in}
+use Rattle.tp_kernel.specs.Built.{IsBuiltOver, AreBuiltOver}
+use Rattle.tp_meaning.specs.Unfolding.{nexts}
+use Rattle.tp_run.specs.declared.turn.Clash.TheVariants.{Facts, False}
+use Rattle.tp_run.specs.Residual.{Duty, Do, Later, formula_in, Known, kept}
+use Rattle.tp_run.specs.Rules.{Found, value, waits_for, over, unbuilt, Outcome, becomes, waits, rests, clashes, passes, not_built, nothing, set_variable, fact_of, meets, both_wait, equate, ending, going, carried, each_do, reduction, outcome_of, found_in, variable_in}
 use Rattle.tp_run.specs.Weight.{size_of, sizes_of, weight_of}
+use Rattle.tp_run.specs.Tries.{AllBuiltOver}
 
 -- what becomes of an item is so and so
 abbrev pub IfBecomes : (List Duty → Type 0) → Outcome → Type 0
@@ -62,13 +63,13 @@ going_leaves : (Q : List Duty → Type 0) (ends : Bool) (ds : List Duty) → Q d
 going_leaves Q true ds q = tt
 going_leaves Q false ds q = q
 
-carried_leaves : (Q : List Duty → Type 0) (ends : Bool) (n : ℕ) (t : ExprTree) (f : Found) → ((v : ℤ) → Q (Later (under_nexts (n - 1) (equation t (numeral v))) ∷ [])) → IfBecomes Q (carried ends n t f)
+carried_leaves : (Q : List Duty → Type 0) (ends : Bool) (n : ℕ) (t : ExprTree) (f : Found) → ((v : ℤ) → Q (Later (nexts (n - 1) (equation t (numeral v))) ∷ [])) → IfBecomes Q (carried ends n t f)
 carried_leaves Q ends n t (value v) q = going_leaves Q ends _ (q v)
 carried_leaves Q ends n t (waits_for x) q = tt
 carried_leaves Q ends n t over q = tt
 carried_leaves Q ends n t unbuilt q = tt
 
-size_under : (n : ℕ) (w : FormulaTree) → size_of (under_nexts n w) ≡ n + size_of w
+size_under : (n : ℕ) (w : FormulaTree) → size_of (nexts n w) ≡ n + size_of w
 size_under zero w = omega arith
 size_under (suc n) w = omega (arith, size_under n w)
 
@@ -90,12 +91,7 @@ pub duty_lighter : (ends goes : Bool) (k : Known) (d : Duty) → IfBecomes (λ d
 duty_lighter ends goes k (Do w) = formula_lighter ends goes k w
 duty_lighter ends goes k (Later w) = tt
 
--- duties of kinds that run, over variables that meet P
-abbrev pub AllBuiltOver : (VarId → Type 0) → List Duty → Type 0
-AllBuiltOver P [] = Unit {0}
-AllBuiltOver P (d ∷ ds) = IsBuiltOver P (formula_in d) × AllBuiltOver P ds
-
-built_under : (P : VarId → Type 0) (n : ℕ) (w : FormulaTree) → IsBuiltOver P w → IsBuiltOver P (under_nexts n w)
+built_under : (P : VarId → Type 0) (n : ℕ) (w : FormulaTree) → IsBuiltOver P w → IsBuiltOver P (nexts n w)
 built_under P zero w h = h
 built_under P (suc n) w h = built_under P n w h
 
@@ -115,3 +111,10 @@ formula_keeps_kinds P ends goes k w h = tt
 pub duty_keeps_kinds : (P : VarId → Type 0) (ends goes : Bool) (k : Known) (d : Duty) → IsBuiltOver P (formula_in d) → IfBecomes (AllBuiltOver P) (outcome_of ends goes k d)
 duty_keeps_kinds P ends goes k (Do w) h = formula_keeps_kinds P ends goes k w h
 duty_keeps_kinds P ends goes k (Later w) h = tt
+
+-- there is something to do in each duty
+pub size_positive : (w : FormulaTree) → 0 < size_of w
+size_positive (next w) = omega arith
+size_positive (next_equation n t e) = omega arith
+size_positive (conjunction ws) = omega arith
+size_positive w = omega arith

@@ -1,5 +1,5 @@
 -- What the code's answers stand for.
-use Rattle.std.specs.Prelude.{ℕ, List, Option, None, Some}
+use Rattle.std.specs.Prelude.{Option, None, Some}
 use Rattle.std.specs.Option.{option_map}
 use Rattle.tp_run.specs.declared.evaluate.Found as code
 use Rattle.tp_run.specs.declared.evaluate.Found.TheVariants.{Value, WaitsFor, Over}

@@ -4,3 +4,10 @@ pub mod Answers
 pub mod Picks
 pub mod Weight
 pub mod Tries
+pub mod States
+pub mod Settles
+pub mod Ready
+pub mod ReadyProps
+pub mod Runs
+pub mod StandsFor
+pub mod Meaning

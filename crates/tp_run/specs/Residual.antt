@@ -1,5 +1,5 @@
 -- What is left to do in a state, and what is known of it.
-use Rattle.std.specs.Prelude.{ℤ, ℕ, zero, suc, ◌+◌, ◌≤◌, Bool, List, [], ◌∷◌, ◌++◌, map, reverse, Option, None, Some, slice_get, slice_set}
+use Rattle.std.specs.Prelude.{ℤ, Bool, List, ◌++◌, map, reverse, Option, None, Some, slice_get, slice_set}
 use Rattle.tp_value.specs.declared.path.VarId.{VarId}
 use Rattle.tp_meaning.specs.Syntax.{FormulaTree}
 use Rattle.tp_kernel.specs.Read.{formula_tree}

@@ -1,5 +1,5 @@
 -- How much there is to do: it falls with each pick, so that a closure and a run of states end.
-use Rattle.std.specs.Prelude.{ℕ, suc, ◌+◌, List, [], ◌∷◌}
+use Rattle.std.specs.Prelude.{ℕ, ◌+◌, List, [], ◌∷◌}
 use Rattle.tp_meaning.specs.Syntax.{FormulaTree, FormulaTrees, no_formula, formula_then, next_equation, next, conjunction}
 use Rattle.tp_run.specs.Residual.{Duty, formula_in}
 

@@ -1,16 +1,17 @@
 // The closure of a state: items are picked until nothing comes of any.
-ghost use Rattle.std.specs.Prelude.{◌≡◌, ◌≤◌, ◌<◌, ◌-◌, ◌++◌, ◌∷◌, [], IfOk, OnErr, OnOk, vec_len, reverse, take};
+ghost use Rattle.std.specs.Prelude.{◌≡◌, ◌≤◌, ◌<◌, ◌-◌, ◌+◌, ◌++◌, ◌∷◌, [], IfOk, IfNone, OnErr, OnOk, vec_len, reverse, take};
 ghost use Rattle.tp_run.specs.declared.scene.Item.{Item};
 ghost use Rattle.std.specs.Option.{option_map};
 ghost use Rattle.tp_run.specs.Residual.{residual_of, duties_of, duty_of, with_number};
 ghost use Rattle.tp_run.specs.Answers.{decided, mark_of, setting_of};
 ghost use Rattle.tp_run.specs.Picks.{ends_after, goes_after, known_after};
-ghost use Rattle.tp_run.specs.Tries.{AllBuiltKinds, DecidesNext, Shelves, TriesNext};
+ghost use Rattle.tp_run.specs.Tries.{AllBuiltKinds, DecidesNext, Shelves, TriesNext, CountsTry, PassEnds, PassesOnce, Closes};
 
 use crate::decide::{Decision, Mark, Setting, decide};
 use crate::scene::{Item, Scene};
 use crate::turn::Clash;
 use std::alloc::Global;
+use std::mem;
 use tp_kernel::LimitKind;
 use tp_value::{NoMemory, Number};
 
@@ -21,6 +22,14 @@ pub enum Tried {
     Idle,
     Clashes(Clash),
     Passes(LimitKind),
+}
+
+/// What a closure ends with: nothing comes of any item, or an item met a clash or a limit.
+#[derive(Drop)]
+pub enum Ending {
+    Rest,
+    Clash(Clash),
+    Limit(LimitKind),
 }
 
 fn set_known(known: &mut Vec<Option<Number>>, fact: Setting)
@@ -137,5 +146,95 @@ fn try_next(alloc: Global, scene: &mut Scene) -> Result<Tried, NoMemory>
         }
         Decision::Clashes(clash) => Ok(Tried::Clashes(clash)),
         Decision::Passes(limit) => Ok(Tried::Passes(limit)),
+    }
+}
+
+fn one_more(count: u64) -> Result<u64, NoMemory>
+    ensures { IfOk result (λ n. n ≡ count + 1) }
+{
+    if count == u64::MAX {
+        return Err(NoMemory);
+    }
+    Ok(count + 1)
+}
+
+// Tries the next item and counts a reduction.
+fn try_and_count(
+    alloc: Global,
+    scene: &mut Scene,
+    reductions: &mut u64,
+) -> Result<Option<Ending>, NoMemory>
+    requires some { 0 < vec_len scene.old.todo }
+    requires built { AllBuiltKinds (residual_of scene.old).duties }
+    ensures ok { IfOk result (CountsTry scene.old scene.new reductions.old reductions.new) }
+{
+    let next = one_more(*reductions)?;
+    match try_next(alloc, scene)? {
+        Tried::Reduced => {
+            *reductions = next;
+            Ok(None)
+        }
+        Tried::Idle => Ok(None),
+        Tried::Clashes(clash) => Ok(Some(Ending::Clash(clash))),
+        Tried::Passes(limit) => Ok(Some(Ending::Limit(limit))),
+    }
+}
+
+// Tries each item once, new ones too.
+fn pass(alloc: Global, scene: &mut Scene, reductions: &mut u64) -> Result<Ending, NoMemory>
+    requires start { scene.old.done.items ≡ [] }
+    requires built { AllBuiltKinds (residual_of scene.old).duties }
+    ensures ok { IfOk result (PassEnds scene.old scene.new reductions.old reductions.new) }
+{
+    'items: while !scene.todo.is_empty() {
+        match try_and_count(alloc, scene, reductions)? {
+            Some(ending) => return Ok(ending),
+            None => {}
+        }
+    }
+    Ok(Ending::Rest)
+}
+
+// The items that were tried are to be tried again.
+fn restart(scene: &mut Scene)
+    requires { scene.old.todo.items ≡ [] }
+    ensures same { residual_of scene.new ≡ residual_of scene.old }
+    ensures start { scene.new.done.items ≡ [] }
+{
+    mem::swap(&mut scene.done, &mut scene.todo);
+    scene.todo.reverse();
+}
+
+// One pass: the closure ends with it, or an item was reduced.
+fn pass_once(
+    alloc: Global,
+    scene: &mut Scene,
+    reductions: &mut u64,
+) -> Result<Option<Ending>, NoMemory>
+    requires start { scene.old.done.items ≡ [] }
+    requires built { AllBuiltKinds (residual_of scene.old).duties }
+    ensures ok { IfOk result (PassesOnce scene.old scene.new reductions.old reductions.new) }
+    ensures again { IfOk result (λ ending. IfNone ending (scene.new.done.items ≡ [])) }
+{
+    let before = *reductions;
+    let ending = pass(alloc, scene, reductions)?;
+    if matches!(ending, Ending::Rest) && *reductions != before {
+        restart(scene);
+        return Ok(None);
+    }
+    Ok(Some(ending))
+}
+
+/// Picks items, pass by pass, until nothing comes of any or one meets a clash or a limit, and counts the reductions.
+pub fn close(alloc: Global, scene: &mut Scene, reductions: &mut u64) -> Result<Ending, NoMemory>
+    requires start { scene.old.done.items ≡ [] }
+    requires built { AllBuiltKinds (residual_of scene.old).duties }
+    ensures ok { IfOk result (Closes scene.old scene.new reductions.old reductions.new) }
+{
+    'passes: loop {
+        match pass_once(alloc, scene, reductions)? {
+            Some(ending) => return Ok(ending),
+            None => {}
+        }
     }
 }

@@ -4,7 +4,11 @@
 mod closure;
 mod decide;
 mod evaluate;
+mod ready;
+mod run;
 mod scene;
+mod settle;
 mod turn;
 
+pub use run::Run;
 pub use turn::{Cell, Clash, Picture, Turn};

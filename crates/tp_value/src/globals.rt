@@ -80,14 +80,14 @@ impl Globals {
         self.names.len() as u64
     }
 
-    /// The name of the variable with that number.
+    /// The name of the variable with that number, or none where the number is not below `len`.
     pub fn name(&self, number: u64) -> Option<&Text>
         ensures { option_copied result ≡ slice_get self.now number }
     {
         self.names.get(number as usize)
     }
 
-    /// The variable of that name.
+    /// The variable of that name, or none where the name is not there.
     pub fn find(&self, name: &Text) -> Option<VarId>
         ensures { result ≡ variable_of self.now name.now }
     {

@@ -15,7 +15,7 @@ pub fn is_number(n: Number) -> bool
     n >= -NUMBER_LIMIT
 }
 
-/// The number, where it is within the limit.
+// The number, where it is within the limit.
 fn within(n: Number) -> Option<Number>
     ensures { result ≡ within_limit n }
 {

@@ -6,7 +6,8 @@ use crate::value::Shape;
 use std::alloc::Global;
 use std::marker::Model;
 
-/// A variable. `lasting` says that it is static: it keeps one value over the whole interval.
+/// A variable, by its number. `lasting` says that it is static: it keeps one value over the whole interval. Else it is a state
+/// variable, with a value of its own in each state.
 #[derive(Clone, Copy, Debug, PartialEq, Eq)]
 pub struct VarId {
     pub number: u64,
@@ -46,7 +47,7 @@ impl Indices {
     }
 }
 
-/// A place: a variable, and indices into its value.
+/// A place: a variable, and indices into its value; with no index it is the whole value.
 #[derive(Debug, Drop)]
 pub struct Path {
     pub var: VarId,
@@ -63,7 +64,7 @@ impl Path {
     }
 }
 
-/// A fact gives the place of a path a shape.
+/// A fact gives the place of a path a shape, in one state.
 #[derive(Debug, Drop)]
 pub struct Fact {
     pub path: Path,
@@ -83,7 +84,7 @@ impl Fact {
     }
 }
 
-/// A list of facts.
+/// Facts, in order.
 #[derive(Debug, Drop)]
 pub struct Facts {
     pub items: Vec<Fact>,

@@ -1,4 +1,4 @@
-use Rattle.std.proofs.Common.{◌≡◌, ap, ◌∙◌, List, ◌++◌, ◌∷◌, []}
+use Rattle.std.proofs.Common.{ap, ◌∙◌, List, ◌++◌, ◌∷◌, []}
 use Rattle.tp_run.specs.declared.scene.Item.{Item}
 use Rattle.tp_run.proofs.closure.move_last.Goals as goal
 

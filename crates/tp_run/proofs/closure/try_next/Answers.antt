@@ -1,4 +1,4 @@
-use Rattle.std.proofs.Common.{◌≡◌, ap, sym, ◌∙◌, refl, subst, inl, inr, take, reverse, ◌-◌, ◌++◌}
+use Rattle.std.proofs.Common.{ap, sym, ◌∙◌, subst, inl, inr, take, reverse, ◌-◌, ◌++◌}
 use Rattle.tp_run.specs.Answers.{decided}
 use Rattle.tp_run.specs.Picks.{IsIdle}
 use Rattle.tp_run.specs.declared.decide.Decision.{Decision}
@@ -14,4 +14,4 @@ pub returns-in-Becomes-clause-ok : goal.returns-in-Becomes-clause-ok
 returns-in-Becomes-clause-ok c =
     let e = c.in_ok-reduce-in-Becomes.ensures in
     reduces_next c.args.scene.now c.reduce.new.scene c.in_ok-items.field-0 c.in-Becomes.items.items c.in-Becomes.mark c.in-Becomes.fact c.in_ok-items.ensures (ap decided c.in-Becomes.is)
-        (record { ends = e.ends; goes = e.goes; todo = e.todo ∙ ap (λ n. take (n - 1) c.args.scene.now.todo.items ++ reverse c.in-Becomes.items.items) c.args.scene.now.todo.ok.0; known = e.known; done = e.done })
+    (record { ends = e.ends; goes = e.goes; todo = e.todo ∙ ap (λ n. take (n - 1) c.args.scene.now.todo.items ++ reverse c.in-Becomes.items.items) c.args.scene.now.todo.ok.0; known = e.known; done = e.done })
