@@ -1,9 +1,9 @@
 -- Formulas of items that are built one after the other.
-use Rattle.std.proofs.Common.{refl, ap, sym, subst, ◌∙◌, ◌≡◌, ℕ, zero, suc, ◌+◌, ◌<◌, ◌≤◌, List, [], ◌∷◌, ◌++◌, length, get_or, take, map, flat_map, arith}
-use Rattle.std.proofs.lemmas.List.{take_more, take_all, map_more, append-nil}
+use Rattle.std.proofs.Common.{refl, ap, ◌∙◌, ◌≡◌, ℕ, zero, suc, ◌+◌, ◌<◌, ◌≤◌, List, [], ◌∷◌, ◌++◌, length, get_or, take, flat_map, arith}
+use Rattle.std.proofs.lemmas.List.{take_more, append-nil}
 use Rattle.std.proofs.lemmas.Grind.{flat_map-append}
-use Rattle.tp_meaning.specs.Syntax.{ExprTree, FormulaTree, conjunction, formulas_of, next, more, next_equation}
-use Rattle.tp_fragment.specs.declared.phrase.Operand.{Operand}
+use Rattle.tp_meaning.specs.Syntax.{ExprTree, FormulaTree, conjunction, formulas_of, next}
+use Rattle.tp_meaning.specs.Derived.{next_equals_of}
 use Rattle.tp_fragment.specs.declared.phrase.Item.{Item}
 use Rattle.tp_fragment.specs.Height.{item_height, greatest_height, conj_height, height_limit}
 use Rattle.tp_fragment.specs.Program.{joined, empty_tree, equation_tree}
@@ -34,6 +34,6 @@ item_low items i d h low = let a = greatest_at items i d h in let b = greatest_l
 pub flat_map_more : {A B : Type 0} (f : A → List B) (xs : List A) (i : ℕ) (d : A) → i < length xs → flat_map f (take (i + 1) xs) ≡ flat_map f (take i xs) ++ f (get_or xs i d)
 flat_map_more f xs i d h = ap (flat_map f) (take_more xs i d h) ∙ (flat_map-append f (take i xs) (get_or xs i d ∷ []) ∙ ap (λ ys. flat_map f (take i xs) ++ ys) (append-nil (f (get_or xs i d))))
 
-pub equation_later : (n : ℕ) (t e : ExprTree) → (n ≡ 0 → ⊥) → equation_tree n t e ≡ conjunction (formulas_of (more ∷ next_equation n t e ∷ []))
+pub equation_later : (n : ℕ) (t e : ExprTree) → (n ≡ 0 → ⊥) → equation_tree n t e ≡ next_equals_of n t e
 equation_later zero t e some = absurd (some refl)
 equation_later (suc n) t e some = refl

@@ -1,5 +1,5 @@
 -- A program of the fragment is of the kind that runs today, over its own variables.
-use Rattle.std.proofs.Common.{refl, ap, sym, subst, ◌∙◌, ◌≡◌, ℕ, zero, suc, ◌+◌, ◌<◌, ◌≤◌, Bool, true, false, not, cond, nat_lt, IsTrue, List, [], ◌∷◌, ◌++◌, length, length-append, slice_index, append_assoc, map, flat_map, Option, None, Some, arith, rules}
+use Rattle.std.proofs.Common.{refl, ap, sym, subst, ◌∙◌, ◌≡◌, ℕ, zero, suc, ◌+◌, ◌<◌, Bool, true, false, not, cond, nat_lt, IsTrue, List, [], ◌∷◌, ◌++◌, length, length-append, slice_index, map, flat_map, Option, None, Some, arith, rules}
 use Rattle.std.specs.List.{position_or_len, position_from}
 use Rattle.std.specs.Option.{option_map}
 use Rattle.std.specs.Str.{bytes_eq}
@@ -27,7 +27,7 @@ use Rattle.tp_fragment.specs.declared.phrase.Item.{Item}
 use Rattle.tp_fragment.specs.declared.phrase.Item.TheVariants as item
 use Rattle.tp_fragment.specs.Terminal.{terminal_of, word_terminal, symbol_terminal, terminals_of}
 use Rattle.tp_fragment.specs.Grammar.{operand_terminal, more_operands, nexts, item_terminals, more_items, conj_terminals}
-use Rattle.tp_fragment.specs.Program.{Names, variable_in, operand_tree, sum_tree, empty_tree, equation_tree, item_tree, joined, conj_tree, operand_names, item_names, names_with, names_of, IsProgram}
+use Rattle.tp_fragment.specs.Program.{Names, operand_tree, sum_tree, empty_tree, equation_tree, item_tree, joined, conj_tree, operand_names, item_names, names_with, names_of, IsProgram}
 use Rattle.tp_fragment.proofs.NameLemmas.{names_grow, place_stays}
 
 -- ---- no name is static

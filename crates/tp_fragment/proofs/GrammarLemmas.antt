@@ -1,14 +1,14 @@
 -- Reading the front of some terminals and spelling a phrase are inverse.
-use Rattle.std.proofs.Common.{refl, ap, sym, subst, ◌∙◌, ◌≡◌, ◌≢◌, ℕ, zero, suc, ◌+◌, ◌<◌, ◌≤◌, List, [], ◌∷◌, ◌++◌, length, length-append, append_assoc, Option, None, Some, arith}
+use Rattle.std.proofs.Common.{refl, ap, sym, subst, ◌∙◌, ◌≡◌, ℕ, zero, suc, ◌+◌, ◌<◌, List, [], ◌∷◌, ◌++◌, length, length-append, append_assoc, Option, None, Some, arith}
 use Rattle.std.proofs.lemmas.List.{append-nil}
 use Rattle.std.specs.Option.{option_map}
 use Rattle.tp_fragment.specs.declared.terminal.Terminal.{Terminal}
-use Rattle.tp_fragment.specs.declared.terminal.Terminal.TheVariants.{Run, And, Next, Empty, Upper, Number, Equal, Plus, Stop, Other}
+use Rattle.tp_fragment.specs.declared.terminal.Terminal.TheVariants.{Run, And, Next, Empty, Upper, Number, Equal, Plus, Stop}
 use Rattle.tp_fragment.specs.declared.phrase.Operand.{Operand}
 use Rattle.tp_fragment.specs.declared.phrase.Operand.TheVariants as operand
 use Rattle.tp_fragment.specs.declared.phrase.Item.{Item}
 use Rattle.tp_fragment.specs.declared.phrase.Item.TheVariants as item
-use Rattle.tp_fragment.specs.Grammar.{operand_terminal, more_operands, nexts, item_terminals, more_items, conj_terminals, IsConj, IsSource}
+use Rattle.tp_fragment.specs.Grammar.{operand_terminal, more_operands, nexts, item_terminals, more_items, IsConj, IsSource}
 use Rattle.tp_fragment.specs.Reading.{operand_in, with_operand, more_of, with_others, sum_of, nexts_of, item_after, item_of, follow_of}
 
 some_is : {A : Type 0} (x y : A) → Some x ≡ Some y → x ≡ y
@@ -222,7 +222,7 @@ module _ (ts rest : List Terminal) (found : List Item) (keeps : Keeps ts found r
       complete = λ items is.
           let more = keeps.complete items is in
           let first = first_is more.0 more.2 in
-          (first.0, more.1 ∙ (ap (λ xs. found ++ xs) first.1 ∙ sym (append_assoc found (i ∷ []) first.0)), later_is next (follow_and after next e) first.0 first.2)
+          (first.0, more.1 ∙ (ap (λ xs. found ++ xs) first.1 ∙ sym (append_assoc found (i ∷ []) first.0)), later_is next (follow_and after next e) first.0 first.2);
     }
 
     -- fewer terminals are left

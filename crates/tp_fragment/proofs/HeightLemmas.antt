@@ -1,8 +1,7 @@
 -- Heights by counting.
-use Rattle.std.proofs.Common.{refl, ap, sym, ◌∙◌, ◌≡◌, ℕ, ◌+◌, ◌≤◌, max, List, [], ◌∷◌, length, fold, arith}
+use Rattle.std.proofs.Common.{◌≡◌, ℕ, ◌+◌, ◌≤◌, max, List, [], ◌∷◌, length, fold, arith}
 use Rattle.tp_fragment.specs.declared.phrase.Operand.{Operand}
-use Rattle.tp_fragment.specs.declared.phrase.Item.{Item}
-use Rattle.tp_fragment.specs.Height.{sum_height, item_height, greatest_height, conj_height, height_limit}
+use Rattle.tp_fragment.specs.Height.{sum_height}
 
 sum_height_from : (h : ℕ) (os : List Operand) → 1 ≤ h → fold (λ h o. 1 + max h 1) h os ≡ h + length os
 sum_height_from h [] some = omega arith

@@ -1,5 +1,5 @@
 -- Formulas that are built while names are still added.
-use Rattle.std.specs.Prelude.{◌≡◌, List, ◌++◌}
+use Rattle.std.specs.Prelude.{◌≡◌, ◌++◌}
 use Rattle.tp_meaning.specs.Syntax.{ExprTree, FormulaTree}
 use Rattle.tp_fragment.specs.Program.{Names}
 

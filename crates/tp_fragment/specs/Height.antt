@@ -1,5 +1,5 @@
 -- Heights of phrases: a number, a name and `empty` have height 1, every other phrase has 1 plus the greatest height of its operands.
-use Rattle.std.specs.Prelude.{ℕ, ◌+◌, ◌≤◌, max, List, [], ◌∷◌, fold}
+use Rattle.std.specs.Prelude.{ℕ, ◌+◌, max, List, [], ◌∷◌, fold}
 use Rattle.tp_fragment.specs.declared.phrase.Operand.{Operand}
 use Rattle.tp_fragment.specs.declared.phrase.Item.{Item}
 use Rattle.tp_fragment.specs.declared.phrase.Item.TheVariants.{Empty, Equation}

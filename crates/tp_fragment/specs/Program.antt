@@ -1,12 +1,13 @@
 -- The formula of a source of the fragment, and the names of its variables.
-use Rattle.std.specs.Prelude.{◌≡◌, ℕ, zero, suc, ℤ, ◌≤◌, List, [], ◌∷◌, ◌++◌, map, flat_map, fold}
+use Rattle.std.specs.Prelude.{◌≡◌, ℕ, zero, suc, ◌≤◌, List, [], ◌∷◌, ◌++◌, map, flat_map, fold}
 use Rattle.std.specs.List.{position_or_len}
 use Rattle.std.specs.Str.{bytes_eq}
 use Rattle.tp_value.specs.declared.path.VarId.{VarId}
 use Rattle.tp_value.specs.Globals.{variable, with_name}
 use Rattle.tp_lex.specs.declared.token.Token.{Token}
 use Rattle.tp_lex.specs.Tokens.{AreTokens}
-use Rattle.tp_meaning.specs.Syntax.{Plus, ExprTree, numeral, global, binary, FormulaTree, equation, next_equation, empty, more, next, conjunction, formulas_of}
+use Rattle.tp_meaning.specs.Syntax.{Plus, ExprTree, numeral, global, binary, FormulaTree, equation, empty, next, conjunction, formulas_of}
+use Rattle.tp_meaning.specs.Derived.{next_equals_of}
 use Rattle.tp_fragment.specs.declared.phrase.Operand.{Operand}
 use Rattle.tp_fragment.specs.declared.phrase.Operand.TheVariants as operand
 use Rattle.tp_fragment.specs.declared.phrase.Item.{Item}
@@ -42,7 +43,7 @@ empty_tree (suc n) = next (empty_tree n)
 -- `t = e` with so many `next` in front: the interval goes on, and t has in a later state the value that e has now
 abbrev pub equation_tree : ℕ → ExprTree → ExprTree → FormulaTree
 equation_tree zero t e = equation t e
-equation_tree (suc n) t e = conjunction (formulas_of (more ∷ next_equation (suc n) t e ∷ []))
+equation_tree (suc n) t e = next_equals_of (suc n) t e
 
 abbrev pub item_tree : Names → Item → FormulaTree
 item_tree names (item.Empty n) = empty_tree n

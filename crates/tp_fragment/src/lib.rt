@@ -20,3 +20,6 @@ mod terminal;
 pub use program::Program;
 pub use reading::{programs_are_unique, read};
 pub use refusal::ReadRefusal;
+
+#[cfg(test)]
+mod tests;

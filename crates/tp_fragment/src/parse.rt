@@ -2,14 +2,13 @@
 ghost use Rattle.std.specs.Prelude.{◌≡◌, ◌+◌, [], ◌∷◌, ◌++◌, length, None, Some, IfOk, IfSome, IfNone, List};
 ghost use Rattle.std.specs.Option.{option_map};
 ghost use Rattle.tp_fragment.specs.declared.phrase.Item.{Item as ItemType};
+ghost use Rattle.tp_fragment.specs.Grammar.{IsConj, IsSource};
+ghost use Rattle.tp_fragment.specs.Reading.{operand_in, more_of, sum_of, item_of, nexts_of, follow_of, follow_in};
 
 use crate::phrase::{Item, Items, Operand, Operands};
 use crate::terminal::Terminal;
 use std::alloc::Global;
 use tp_value::NoMemory;
-
-ghost use Rattle.tp_fragment.specs.Grammar.{IsConj, IsSource};
-ghost use Rattle.tp_fragment.specs.Reading.{operand_in, more_of, sum_of, item_of, nexts_of, follow_of, follow_in};
 
 fn operand(terminal: &Terminal) -> Result<Option<Operand>, NoMemory>
     ensures { IfOk result (λ r. r ≡ operand_in terminal.now) }

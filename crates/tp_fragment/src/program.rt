@@ -8,7 +8,7 @@ ghost use Rattle.tp_fragment.specs.Building.{ExprStays, FormulaStays};
 use crate::phrase::{Item, Items, Operand, Operands};
 use std::alloc::Global;
 use std::rc::Rc;
-use tp_kernel::{Expr, Formula, Formulas, Op2};
+use tp_kernel::{Expr, Formula, Formulas, Op2, next_equals};
 use tp_value::{Globals, NoMemory, Text};
 
 /// A formula, and the names of its variables.
@@ -72,9 +72,8 @@ fn equation_formula(
     if nexts == 0 {
         return Ok(Formula::Eq(left, right));
     }
-    let later = Formula::NextEq(nexts as u32, left, right);
-    let items = vec![in alloc; Rc::new(alloc, Formula::More)?, Rc::new(alloc, later)?]?;
-    Ok(Formula::And(Formulas { items }))
+    let later = next_equals(alloc, nexts as u32, left, right)?;
+    Ok(later)
 }
 
 fn item_formula(alloc: Global, item: &Item, globals: &mut Globals) -> Result<Formula, NoMemory>

@@ -1,7 +1,7 @@
-use Rattle.std.proofs.Common.{◌≡◌, ◌++◌, ◌∷◌, [], List, Some, None, sym, subst, ap, ◌∙◌}
+use Rattle.std.proofs.Common.{◌≡◌, List, Some, None, sym, subst}
 use Rattle.tp_fragment.specs.declared.phrase.Item.{Item}
 use Rattle.tp_fragment.specs.Grammar.{IsConj}
-use Rattle.tp_fragment.specs.Reading.{item_of, follow_of}
+use Rattle.tp_fragment.specs.Reading.{item_of}
 use Rattle.tp_fragment.proofs.GrammarLemmas.{Keeps, keeps_none, keeps_end, keeps_more, keeps_other, fewer}
 use Rattle.tp_fragment.proofs.parse.conj.Goals as goal
 

@@ -1,4 +1,4 @@
-use Rattle.std.proofs.Common.{◌≡◌, ◌++◌, length}
+use Rattle.std.proofs.Common.{◌≡◌, length}
 use Rattle.tp_fragment.specs.Reading.{more_of, behind}
 use Rattle.tp_fragment.proofs.parse.more.Given as goal
 

@@ -11,6 +11,6 @@ returns-in_ok-formula-in-Equation-clause-tree c = λ more.
     let x = c.in_ok-variable-in-Equation.variable in
     let others = operand_names c.in-Equation.first ++ flat_map operand_names c.in-Equation.others in
     let variable : variable_in (c.sum_expr.new.globals ++ more) name ≡ x =
-        ap (λ ns. variable_in (ns ++ more) name) c.in_ok-sum-in-Equation.ensures.names ∙ variable_kept c.add.new.self others more name x c.in_ok-variable-in-Equation.ensures.variable in
+    ap (λ ns. variable_in (ns ++ more) name) c.in_ok-sum-in-Equation.ensures.names ∙ variable_kept c.add.new.self others more name x c.in_ok-variable-in-Equation.ensures.variable in
     ap (item_tree (c.sum_expr.new.globals ++ more)) c.in-Equation.is
     ∙ (ap₂ (equation_tree c.in-Equation.nexts) (ap global variable ∙ sym (expr_global x)) (c.in_ok-sum-in-Equation.ensures.tree more) ∙ sym c.in_ok-formula-in-Equation.ensures)

@@ -1,4 +1,4 @@
-use Rattle.std.proofs.Common.{◌≡◌, ◌≤◌, ◌<◌, ◌+◌, ◌++◌, ◌∷◌, [], ◌∙◌, ℕ, List, sym, ap, ap₂, subst, length, get_or, take, map, flat_map, arith}
+use Rattle.std.proofs.Common.{◌≡◌, ◌≤◌, ◌<◌, ◌++◌, ◌∷◌, [], ◌∙◌, ℕ, List, sym, ap, ap₂, subst, length, get_or, take, map, flat_map, arith}
 use Rattle.std.proofs.lemmas.List.{map_more, map-append, take_all, append-nil}
 use Rattle.std.proofs.Common.{Global}
 use Rattle.std.specs.declared.rc.Rc.{Rc}
@@ -41,8 +41,8 @@ loop-item-preserved c =
           let earlier : map meant (take i items) ≡ map tree c.loop-item.formulas.items = ap (λ ns. map (item_tree (ns ++ more)) (take i items)) names ∙ before in
           let last : meant (get_or items i item) ≡ tree c.in_ok-new.field-0 = ap meant here ∙ (c.in_ok-formula.ensures.tree more ∙ ap formula_tree (sym c.in_ok-new.ensures.ok)) in
           let pushed : map tree c.push.new.self.items ≡ map tree c.loop-item.formulas.items ++ tree c.in_ok-new.field-0 ∷ [] =
-              ap (map tree) c.in_ok-push.ensures.items ∙ map-append tree c.loop-item.formulas.items (c.in_ok-new.field-0 ∷ []) in
-          map_more meant items i item within ∙ (ap₂ (λ ws w. ws ++ w ∷ []) earlier last ∙ sym pushed)
+          ap (map tree) c.in_ok-push.ensures.items ∙ map-append tree c.loop-item.formulas.items (c.in_ok-new.field-0 ∷ []) in
+          map_more meant items i item within ∙ (ap₂ (λ ws w. ws ++ w ∷ []) earlier last ∙ sym pushed);
     }
 
 pub returns-clause-main : goal.returns-clause-main
@@ -51,5 +51,5 @@ returns-clause-main c =
     let same : c.deref-item-items.result.now ≡ items = cc in
     let all : take c.loop-item.item-index items ≡ items = take_all c.loop-item.item-index items (omega (arith, ap length same)) in
     let trees : map (item_tree c.loop-item.globals) items ≡ map (λ v. formula_tree v.value) c.loop-item.formulas.items =
-        ap₂ (λ ns xs. map (item_tree ns) xs) (sym (append-nil c.loop-item.globals)) (sym all) ∙ c.loop-item.invariant.trees [] in
+    ap₂ (λ ns xs. map (item_tree ns) xs) (sym (append-nil c.loop-item.globals)) (sym all) ∙ c.loop-item.invariant.trees [] in
     c.in_ok-main.ensures ∙ ap joined (sym trees)

@@ -7,5 +7,5 @@ use Rattle.tp_fragment.proofs.program.make_program.Given as goal
 abbrev pub invariant-loop-item : goal.invariant-loop-item
 invariant-loop-item l = record {
   names : l.globals ≡ names_with [] (flat_map item_names (take l.item-index l.items));
-  trees : (more : Names) → map (item_tree (l.globals ++ more)) (take l.item-index l.items) ≡ map (λ v. formula_tree v.value) l.formulas.items
+  trees : (more : Names) → map (item_tree (l.globals ++ more)) (take l.item-index l.items) ≡ map (λ v. formula_tree v.value) l.formulas.items;
 }

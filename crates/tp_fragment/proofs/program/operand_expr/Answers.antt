@@ -1,4 +1,4 @@
-use Rattle.std.proofs.Common.{◌≡◌, ◌++◌, ◌∙◌, sym, ap}
+use Rattle.std.proofs.Common.{◌++◌, ◌∙◌, sym, ap}
 use Rattle.tp_meaning.specs.Syntax.{global}
 use Rattle.tp_kernel.specs.Equations.{expr_global}
 use Rattle.tp_fragment.specs.Program.{operand_tree}

@@ -7,5 +7,5 @@ use Rattle.tp_fragment.proofs.program.sum_expr.Given as goal
 abbrev pub invariant-loop-operand : goal.invariant-loop-operand
 invariant-loop-operand l = record {
   names : l.globals ≡ names_with l.fn.globals (operand_names l.first ++ flat_map operand_names (take l.operand-index l.others));
-  tree : (more : Names) → sum_tree (l.globals ++ more) (operand_tree (l.globals ++ more) l.first) l.others ≡ sum_tree (l.globals ++ more) (expr_tree l.sum) (drop l.operand-index l.others)
+  tree : (more : Names) → sum_tree (l.globals ++ more) (operand_tree (l.globals ++ more) l.first) l.others ≡ sum_tree (l.globals ++ more) (expr_tree l.sum) (drop l.operand-index l.others);
 }

@@ -1,4 +1,4 @@
-use Rattle.std.proofs.Common.{◌≡◌, ◌≤◌, List, ap, sym, subst, ◌∙◌, arith, rules}
+use Rattle.std.proofs.Common.{◌≡◌, ◌≤◌, List, subst, ◌∙◌, arith, rules}
 use Rattle.std.proofs.lemmas.Grind.{common_steps}
 use Rattle.tp_fragment.specs.declared.terminal.Terminal.{Terminal}
 use Rattle.tp_fragment.specs.declared.phrase.Item.{Item}
@@ -37,5 +37,5 @@ returns-clause-built c =
       is_source = subst (λ (xs : List Terminal). IsSource xs c.in-Some.items) terminals found;
       is_low = low;
       is_main = c.in_ok-program.ensures.main;
-      are_names = c.in_ok-program.ensures.names
+      are_names = c.in_ok-program.ensures.names;
     })
