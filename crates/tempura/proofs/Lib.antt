@@ -1,0 +1,7 @@
+pub mod WordsLemmas
+pub mod AskedLemmas
+pub mod SourceLemmas
+pub mod RunLemmas
+pub mod AnswerLemmas
+pub mod ClauseLemmas
+pub mod ReadBackLemmas
