@@ -2,6 +2,7 @@
 use Rattle.std.proofs.Common.{◌≡◌, ◌+◌, inl, inr, ℕ, List, [], ◌∷◌, ◌++◌, length, take, Option, Ok, Err, refl, sym, ap, subst}
 use Rattle.std.proofs.Math.Seq.{take-append-add}
 use Rattle.tp_io.specs.Devices.{Held}
+use Rattle.tp_kernel.specs.Built.{IsBuilt}
 use Rattle.tp_io.specs.declared.devices.WriteRefusal.TheVariants as sink
 use Rattle.tp_run.specs.declared.turn.Picture.{Picture}
 use Rattle.tp_run.specs.declared.turn.Turn.{Turn}
@@ -15,6 +16,7 @@ use Rattle.tempura.specs.Run.{ProgramTree, Stops, RunEnds, Settles}
 use Rattle.tempura.specs.Progress.{Place, Turned, EndMade, IsSettled, PartMade, HasWritten, ProgramMade}
 use Rattle.tempura.specs.Answer.{Sourced, HoldsProgram, Refuses, RunsTo, Ends, Answers}
 use Rattle.tempura.specs.Parts.{IsRefusal, Closes}
+use Rattle.tempura.proofs.HeadlineLemmas.{end_says}
 use Rattle.tempura.proofs.RunLemmas.{Wrote-both, Wrote-nothing, lines_more, becomes_by, goes_with}
 
 -- a part of what is written second, after all of what is written first
@@ -79,9 +81,9 @@ settles_by program pictures status e = absurd e
 pub not_write_fault : (program : ProgramTree) (before after : Option (List ℕ)) (status : Status) → Ended program before after status → status ≡ WriteFault → ⊥
 not_write_fault program before after status e is = subst (RunEnds program e.pictures) is e.run
 
-module _ (words : List (List ℕ)) (held : Option Held) (program : ProgramTree) (source : Sourced words held (HoldsProgram program)) (old : Option (List ℕ)) where
+module _ (words : List (List ℕ)) (held : Option Held) (program : ProgramTree) (built : IsBuilt program.names program.main) (source : Sourced words held (HoldsProgram program)) (old : Option (List ℕ)) where
   runs_to : (mid : Option (List ℕ)) (status : Status) → (e : Ended program old mid status) → RunsTo words held status (state_lines program.names e.pictures ++ end_line program.names status)
-  runs_to mid status e = record { program = program; pictures = e.pictures; source = source; run = e.run; written = refl }
+  runs_to mid status e = record { program = program; pictures = e.pictures; source = source; run = e.run; says = end_says program e.pictures status built e.run; written = refl }
 
   closed_whole : (mid new : Option (List ℕ)) (status result : Status) → Ended program old mid status → result ≡ status → Wrote mid new (end_line program.names status)
       → (text : List ℕ) × Ends words held result text × Wrote old new text

@@ -12,7 +12,7 @@ use Rattle.tempura.specs.declared.status.SourceKind.{SourceKind}
 use Rattle.tempura.specs.declared.status.SourceKind.TheVariants.{Unexpected}
 use Rattle.tempura.specs.Words.{wanted_of}
 use Rattle.tempura.specs.Written.{Wrote}
-use Rattle.tempura.specs.Run.{ProgramTree, RunEnds}
+use Rattle.tempura.specs.Run.{ProgramTree, RunEnds, EndSays}
 use Rattle.tempura.specs.Answer.{Sourced, HoldsProgram, HoldsNoProgram, IsTooLong, IsTold, Refuses, Ends, Answers, Prints, IsOrStopped, IsOrFailed, IsEndOfRun, HasFailed}
 
 -- what the source has where the files tell it
@@ -23,8 +23,8 @@ both_told words held P Q s t =
 
 module _ (words : List (List ℕ)) (held : Option Held) (old new : Option (List ℕ)) where
   -- an answer with an end line is that of a run, or a refusal
-  run_alone : (status : Status) → (Refuses words held status → ⊥) → (text : List ℕ) × Ends words held status text × Wrote old new text → Prints words held old new status
-  run_alone status never (text, inl run, wrote) = (text, run, wrote)
+  run_alone : (status : Status) → (Refuses words held status → ⊥) → (text : List ℕ) × Ends words held status text × Wrote old new text → Prints words held old new status (λ p printed. EndSays p printed status)
+  run_alone status never (text, inl run, wrote) = record { program = run.program; pictures = run.pictures; source = run.source; run = run.run; appended = subst (Wrote old new) run.written wrote; says = run.says }
   run_alone status never (text, inr refused, wrote) = absurd (never refused.0)
 
   refusal_alone : (status : Status) → ((program : ProgramTree) (pictures : List Picture) → RunEnds program pictures status → ⊥) → (text : List ℕ) × Ends words held status text × Wrote old new text
@@ -32,16 +32,16 @@ module _ (words : List (List ℕ)) (held : Option Held) (old new : Option (List 
   refusal_alone status never (text, inl run, wrote) = absurd (never run.program run.pictures run.run)
   refusal_alone status never (text, inr refused, wrote) = refused.0
 
-  pub finished : (result : Status) → Answers words held old new result → (length : ℕ) → result ≡ Finished length → Prints words held old new (Finished length)
+  pub finished : (result : Status) → Answers words held old new result → (length : ℕ) → result ≡ Finished length → Prints words held old new (Finished length) (λ p printed. EndSays p printed (Finished length))
   finished result a n is = run_alone (Finished n) (λ r. r) (subst (Answers words held old new) is a)
 
-  pub contradictory : (result : Status) → Answers words held old new result → (state : ℕ) (clash : Clash) → result ≡ Contradictory state clash → Prints words held old new (Contradictory state clash)
+  pub contradictory : (result : Status) → Answers words held old new result → (state : ℕ) (clash : Clash) → result ≡ Contradictory state clash → Prints words held old new (Contradictory state clash) (λ p printed. EndSays p printed (Contradictory state clash))
   contradictory result a state clash is = run_alone (Contradictory state clash) (λ r. r) (subst (Answers words held old new) is a)
 
-  pub undetermined : (result : Status) → Answers words held old new result → (state : ℕ) (cell : Cell) → result ≡ Undetermined state cell → Prints words held old new (Undetermined state cell)
+  pub undetermined : (result : Status) → Answers words held old new result → (state : ℕ) (cell : Cell) → result ≡ Undetermined state cell → Prints words held old new (Undetermined state cell) (λ p printed. EndSays p printed (Undetermined state cell))
   undetermined result a state cell is = run_alone (Undetermined state cell) (λ r. r) (subst (Answers words held old new) is a)
 
-  pub number_limit : (result : Status) → Answers words held old new result → (state : ℕ) → result ≡ NumberLimit state → Prints words held old new (NumberLimit state)
+  pub number_limit : (result : Status) → Answers words held old new result → (state : ℕ) → result ≡ NumberLimit state → Prints words held old new (NumberLimit state) (λ p printed. EndSays p printed (NumberLimit state))
   number_limit result a state is = run_alone (NumberLimit state) (λ r. r) (subst (Answers words held old new) is a)
 
   pub words_refused_only : (result : Status) → Answers words held old new result → result ≡ WordsRefused → wanted_of words ≡ None
@@ -64,19 +64,19 @@ module _ (words : List (List ℕ)) (held : Option Held) (old new : Option (List 
   words_refused (SourceRefused line column kind) a none = accepted_is _ _ (refusal_alone (SourceRefused line column kind) (λ p ps r. r) a).3 none
   words_refused (TooLong Source) a none = accepted_is _ _ (refusal_alone (TooLong Source) (λ p ps r. r) a) none
   words_refused (ReadFault Source) a none = accepted_is _ _ (refusal_alone (ReadFault Source) (λ p ps r. r) a) none
-  words_refused (Finished n) a none = accepted_is _ _ (run_alone (Finished n) (λ r. r) a).1.source none
-  words_refused (Contradictory state clash) a none = accepted_is _ _ (run_alone (Contradictory state clash) (λ r. r) a).1.source none
-  words_refused (Undetermined state cell) a none = accepted_is _ _ (run_alone (Undetermined state cell) (λ r. r) a).1.source none
-  words_refused (NumberLimit state) a none = accepted_is _ _ (run_alone (NumberLimit state) (λ r. r) a).1.source none
+  words_refused (Finished n) a none = accepted_is _ _ (run_alone (Finished n) (λ r. r) a).source none
+  words_refused (Contradictory state clash) a none = accepted_is _ _ (run_alone (Contradictory state clash) (λ r. r) a).source none
+  words_refused (Undetermined state cell) a none = accepted_is _ _ (run_alone (Undetermined state cell) (λ r. r) a).source none
+  words_refused (NumberLimit state) a none = accepted_is _ _ (run_alone (NumberLimit state) (λ r. r) a).source none
 
   told_accepted : (P : List ℕ → Type 0) (T : Type 0) → IsTold words held P → wanted_of words ≡ None → T
   told_accepted P T t none = let bad : Some t.wanted ≡ None = sym t.accepted ∙ none in cc
 
   -- a source that a run has is within the limit, and a program
-  ran_told : (status : Status) (Q : List ℕ → Type 0) → Prints words held old new status → IsTold words held Q → (program : ProgramTree) × ((source : List ℕ) × HoldsProgram program source × Q source)
-  ran_told status Q p t = (p.1.program, both_told words held _ Q p.1.source t)
+  ran_told : (status : Status) (Q : List ℕ → Type 0) → Prints words held old new status (λ p printed. EndSays p printed status) → IsTold words held Q → (program : ProgramTree) × ((source : List ℕ) × HoldsProgram program source × Q source)
+  ran_told status Q p t = (p.program, both_told words held _ Q p.source t)
 
-  long_ran : (T : Type 0) (status : Status) → Prints words held old new status → IsTold words held IsTooLong → T
+  long_ran : (T : Type 0) (status : Status) → Prints words held old new status (λ p printed. EndSays p printed status) → IsTold words held IsTooLong → T
   long_ran T status p t = let told = ran_told status IsTooLong p t in absurd (omega (arith, told.1.1.0, told.1.2))
 
   -- a source past the limit
@@ -93,7 +93,7 @@ module _ (words : List (List ℕ)) (held : Option Held) (old new : Option (List 
   too_long (Undetermined state cell) a t = long_ran _ (Undetermined state cell) (run_alone (Undetermined state cell) (λ r. r) a) t
   too_long (NumberLimit state) a t = long_ran _ (NumberLimit state) (run_alone (NumberLimit state) (λ r. r) a) t
 
-  no_program_ran : (T : Type 0) (status : Status) → Prints words held old new status → IsTold words held HoldsNoProgram → T
+  no_program_ran : (T : Type 0) (status : Status) → Prints words held old new status (λ p printed. EndSays p printed status) → IsTold words held HoldsNoProgram → T
   no_program_ran T status p t = let told = ran_told status HoldsNoProgram p t in absurd (told.1.2.1 told.0.main told.0.names told.1.1.1)
 
   -- a source that is no program

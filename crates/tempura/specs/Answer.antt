@@ -4,6 +4,7 @@ use Rattle.std.specs.Option.{option_map}
 use Rattle.tp_io.specs.Devices.{Held, bytes_of}
 use Rattle.tp_run.specs.declared.turn.Picture.{Picture}
 use Rattle.tp_meaning.specs.Syntax.{FormulaTree}
+use Rattle.tp_meaning.specs.Interval.{ProgramTree as Meant}
 use Rattle.tp_fragment.specs.Program.{IsProgram}
 use Rattle.tempura.specs.declared.status.Status.{Status}
 use Rattle.tempura.specs.declared.status.Status.TheVariants.{Finished, Contradictory, Undetermined, NumberLimit, SourceRefused, WordsRefused, TooLong, ReadFault, WriteFault, NoMemory}
@@ -13,7 +14,7 @@ use Rattle.tempura.specs.declared.status.SourceKind.TheVariants.{Unexpected}
 use Rattle.tempura.specs.Words.{Wanted, wanted_of, files_of}
 use Rattle.tempura.specs.Texts.{state_lines}
 use Rattle.tempura.specs.EndLine.{end_line}
-use Rattle.tempura.specs.Run.{ProgramTree, RunEnds, Settles}
+use Rattle.tempura.specs.Run.{ProgramTree, meant_by, EndSays, RunEnds, Settles}
 use Rattle.tempura.specs.Written.{Wrote}
 
 -- where the value is told, it has P
@@ -50,6 +51,7 @@ pub record RunsTo (words : List (List ℕ)) (held : Option Held) (status : Statu
   pub pictures : List Picture
   pub source : Sourced words held (HoldsProgram program)
   pub run : RunEnds program pictures status
+  pub says : EndSays (meant_by program) pictures status
   pub written : text ≡ state_lines program.names pictures ++ end_line program.names status
 
 -- The cause of a refusal.
@@ -88,9 +90,15 @@ Answers words held old new WriteFault = (text : List ℕ) × (IsPart words held 
 Answers words held old new NoMemory = (text : List ℕ) × IsPart words held text × Wrote old new text
 Answers words held old new status = (text : List ℕ) × Ends words held status text × Wrote old new text
 
--- a run of the source's program ended with this status, and its text was appended
-abbrev pub Prints : List (List ℕ) → Option Held → Option (List ℕ) → Option (List ℕ) → Status → Type 0
-Prints words held old new status = (text : List ℕ) × RunsTo words held status text × Wrote old new text
+-- A run of the source's program ended with this status; the text of its settled states and the end line were appended; and of the program
+-- and these states P holds.
+pub record Prints (words : List (List ℕ)) (held : Option Held) (old new : Option (List ℕ)) (status : Status) (P : Meant → List Picture → Type 0) : Type 0 where
+  pub program : ProgramTree
+  pub pictures : List Picture
+  pub source : Sourced words held (HoldsProgram program)
+  pub run : RunEnds program pictures status
+  pub appended : Wrote old new (state_lines program.names pictures ++ end_line program.names status)
+  pub says : P (meant_by program) pictures
 
 -- the place of a file among those that the words name
 abbrev pub place : Which → ℕ

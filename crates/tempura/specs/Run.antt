@@ -7,6 +7,8 @@ use Rattle.tp_run.specs.declared.turn.Turn.{Turn}
 use Rattle.tp_run.specs.declared.turn.Turn.TheVariants as turn
 use Rattle.tp_run.specs.Residual.{Residual}
 use Rattle.tp_run.specs.States.{Standing, open_at, first_residual, StateBecomes}
+use Rattle.tp_meaning.specs.Interval.{ProgramTree as Meant}
+use Rattle.tp_run.specs.History.{program_of, SatisfiedExactly, Satisfiable, Unsatisfiable, ContinuesEach}
 use Rattle.tempura.specs.declared.status.Status.{Status}
 use Rattle.tempura.specs.declared.status.Status.TheVariants.{Finished, Contradictory, Undetermined, NumberLimit, SourceRefused, WordsRefused, TooLong, ReadFault, WriteFault, NoMemory}
 
@@ -14,6 +16,10 @@ use Rattle.tempura.specs.declared.status.Status.TheVariants.{Finished, Contradic
 pub record ProgramTree : Type 0 where
   pub main : FormulaTree
   pub names : List (List ℕ)
+
+-- the program, as the logic has it: without definitions
+abbrev pub meant_by : ProgramTree → Meant
+meant_by program = program_of program.names program.main
 
 -- what a run of the program begins with
 abbrev pub beginning : ProgramTree → Residual
@@ -55,3 +61,18 @@ RunEnds program pictures NoMemory = ⊥
 -- a run of the program settles these states, and goes on or finishes with the last of them
 abbrev pub Settles : ProgramTree → List Picture → Type 0
 Settles program pictures = GoesOn program pictures ⊎ ((length : ℕ) × RunEnds program pictures (Finished length))
+
+-- What the end of a run whose settled states have these pictures says of every interval. Finished: an interval satisfies the program, and
+-- shows this or that, exactly where it is an interval of the program with the printed length that agrees with each printed state, and it shows
+-- nothing; and there is one. Contradictory: none does. Else: each one that does agrees with the printed states and has more states.
+abbrev pub EndSays : Meant → List Picture → Status → Type 0
+EndSays p pictures (Finished length) = SatisfiedExactly p pictures length × Satisfiable p
+EndSays p pictures (Contradictory state clash) = Unsatisfiable p
+EndSays p pictures (Undetermined state cell) = ContinuesEach p pictures
+EndSays p pictures (NumberLimit state) = ContinuesEach p pictures
+EndSays p pictures (SourceRefused line column kind) = Unit {0}
+EndSays p pictures WordsRefused = Unit {0}
+EndSays p pictures (TooLong which) = Unit {0}
+EndSays p pictures (ReadFault which) = Unit {0}
+EndSays p pictures WriteFault = Unit {0}
+EndSays p pictures NoMemory = Unit {0}
