@@ -52,6 +52,9 @@ equation_of (suc n) zero at l r = both (λ t e. next_equals_of (suc n) t e) l r
 equation_of zero (suc n) at l r = both (λ e t. next_equals_of (suc n) t e) l r
 equation_of (suc n) (suc m) at l r = both equation l (not_run at)
 
+abbrev pub equation_in : Names → (l r : PhraseTree) → Outcome FormulaTree
+equation_in names l r = equation_of (nexts_of l) (nexts_of r) (place_of r) (expr_of names (behind_nexts l)) (expr_of names (behind_nexts r))
+
 abbrev pub bare_of : Bare → FormulaTree
 bare_of Empty = empty
 bare_of More = more
@@ -66,8 +69,7 @@ abbrev mutual
   formula_of_kind names at (k.conjunction ps) = mapped (λ ws. conjunction (formulas_of ws)) (formulas_in names ps)
   formula_of_kind names at (k.bare word) = Ok (bare_of word)
   formula_of_kind names at (k.next p) = mapped next (formula_of names p)
-  formula_of_kind names at (k.binary op.Equal l r) =
-      equation_of (nexts_of l) (nexts_of r) (place_of r) (expr_of names (behind_nexts l)) (expr_of names (behind_nexts r))
+  formula_of_kind names at (k.binary op.Equal l r) = equation_in names l r
   -- no other phrase is run yet as a formula
   formula_of_kind names at kind = not_run at
 

@@ -1,13 +1,11 @@
 // Formulas.
 ghost use Rattle.std.specs.Prelude.{◌≡◌, ◌+◌, ◌++◌, ℕ, ◌⊎◌, IfOk, OnOk, Ok};
-ghost use Rattle.tp_tree.specs.Tree.{binary};
-ghost use Rattle.tp_tree.specs.declared.operator.Op.TheVariants.{Equal};
 ghost use Rattle.tp_tree.specs.Read.{tree, trees};
 ghost use Rattle.tp_kernel.specs.Read.{expr_tree, formula_tree};
 ghost use Rattle.tp_check.specs.Names.{names_with, names_in, names_in_all};
 ghost use Rattle.tp_check.specs.Outcome.{Answers};
 ghost use Rattle.tp_check.specs.Building.{formulas_seen};
-ghost use Rattle.tp_check.specs.Positions.{nexts_of, behind_nexts, bare_of, equation_of, formula_of, formula_of_kind, formulas_in};
+ghost use Rattle.tp_check.specs.Positions.{nexts_of, behind_nexts, bare_of, equation_of, equation_in, formula_of, formulas_in};
 
 use crate::expression::expression;
 use crate::refusal::CheckRefusal;
@@ -77,7 +75,7 @@ fn equation(
     globals: &mut Globals,
 ) -> Result<Formula, CheckRefusal>
     ensures names { OnOk result (globals.new ≡ names_with globals.old (names_in (tree left.now) ++ names_in (tree right.now))) }
-    ensures outcome { Answers formula_tree (names_with globals.old (names_in (tree left.now) ++ names_in (tree right.now))) (λ names. formula_of_kind names 0 (binary Equal (tree left.now) (tree right.now))) result }
+    ensures outcome { Answers formula_tree (names_with globals.old (names_in (tree left.now) ++ names_in (tree right.now))) (λ names. equation_in names (tree left.now) (tree right.now)) result }
 {
     let (left_nexts, left_side) = without_nexts(left)?;
     let (right_nexts, right_side) = without_nexts(right)?;
@@ -107,7 +105,10 @@ pub fn formula(
             let items = formulas(alloc, operands, globals)?;
             Ok(Formula::And(Formulas { items }))
         }
-        PhraseKind::Bare(word) => Ok(bare(alloc, *word)?),
+        PhraseKind::Bare(word) => {
+            let formula = bare(alloc, *word)?;
+            Ok(formula)
+        }
         PhraseKind::Next(operand) => {
             let later = formula(alloc, operand, globals)?;
             let later = Rc::new(alloc, later)?;

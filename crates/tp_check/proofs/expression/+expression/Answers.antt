@@ -1,6 +1,7 @@
 use Rattle.std.proofs.Common.{◌≡◌, ◌++◌, ◌∙◌, sym, ap, ap₂, subst, refl, Ok, Err}
 use Rattle.std.proofs.lemmas.Result.{err_from_is_err_and}
 use Rattle.tp_tree.specs.declared.operator.Op.TheVariants.{Plus}
+use Rattle.tp_tree.specs.declared.phrase.PhraseKind.TheVariants as kind
 use Rattle.tp_tree.specs.Tree.{PhraseTree, phrase, binary}
 use Rattle.tp_tree.specs.Read.{tree}
 use Rattle.tp_meaning.specs.Syntax as m
@@ -19,7 +20,7 @@ returns-in_err-left-in-Binary-Plus-default-default-clause-outcome t c =
     let k = c.in-Binary-Plus-default-default in
     let l = tree k.left.value in
     let r = tree k.right.value in
-    let seen : tree c.args.phrase.now ≡ phrase c.args.phrase.now.at (binary Plus l r) = tree_of_binary c.args.phrase.now Plus k.left k.right k.is in
+    let seen : tree c.args.phrase.now ≡ phrase c.args.phrase.now.at (binary Plus l r) = tree_of_binary c.args.phrase.now Plus k.left k.right (k.is ∙ ap (λ o. kind.Binary o k.left k.right) k.field-0-is) in
     subst (λ (s : PhraseTree). Answers expr_tree (names_with c.args.globals.now (names_in s)) (λ names. expr_of names s) c.from_residual.result) (sym seen)
     (rw (p.1, p.2) (λ q more. ap (λ o. both (m.binary m.Plus) o (expr_of (names_with c.args.globals.now (names_in l ++ names_in r) ++ more) r))
     (first_stays c.args.globals.now (names_in l) (names_in r) (λ ns. expr_of ns l) _ (c.in_err-left-in-Binary-Plus-default-default.ensures.outcome q) more)))
@@ -31,7 +32,7 @@ returns-in_err-right-in-Binary-Plus-default-default-clause-outcome t c =
     let l = tree k.left.value in
     let r = tree k.right.value in
     let first = c.in_ok-left-in-Binary-Plus-default-default.ensures in
-    let seen : tree c.args.phrase.now ≡ phrase c.args.phrase.now.at (binary Plus l r) = tree_of_binary c.args.phrase.now Plus k.left k.right k.is in
+    let seen : tree c.args.phrase.now ≡ phrase c.args.phrase.now.at (binary Plus l r) = tree_of_binary c.args.phrase.now Plus k.left k.right (k.is ∙ ap (λ o. kind.Binary o k.left k.right) k.field-0-is) in
     subst (λ (s : PhraseTree). Answers expr_tree (names_with c.args.globals.now (names_in s)) (λ names. expr_of names s) c.from_residual-in_err-right-in-Binary-Plus-default-default.result) (sym seen)
     (rw (p.1, p.2) (λ q more. ap₂ (both (m.binary m.Plus))
     (first_stays c.args.globals.now (names_in l) (names_in r) (λ ns. expr_of ns l) _ first.outcome more)
@@ -42,7 +43,7 @@ returns-in_ok-right-in-Binary-Plus-default-default-2-clause-names t c =
     let k = c.in-Binary-Plus-default-default in
     let l = tree k.left.value in
     let r = tree k.right.value in
-    let seen : tree c.args.phrase.now ≡ phrase c.args.phrase.now.at (binary Plus l r) = tree_of_binary c.args.phrase.now Plus k.left k.right k.is in
+    let seen : tree c.args.phrase.now ≡ phrase c.args.phrase.now.at (binary Plus l r) = tree_of_binary c.args.phrase.now Plus k.left k.right (k.is ∙ ap (λ o. kind.Binary o k.left k.right) k.field-0-is) in
     names_twice c.args.globals.now _ _ (names_in l) (names_in r) c.in_ok-left-in-Binary-Plus-default-default.ensures.names c.in_ok-right-in-Binary-Plus-default-default.ensures.names
     ∙ ap (λ s. names_with c.args.globals.now (names_in s)) (sym seen)
 
@@ -53,7 +54,7 @@ returns-in_ok-right-in-Binary-Plus-default-default-2-clause-outcome t c = λ mor
     let r = tree k.right.value in
     let first = c.in_ok-left-in-Binary-Plus-default-default.ensures in
     let second = c.in_ok-right-in-Binary-Plus-default-default.ensures in
-    let seen : tree c.args.phrase.now ≡ phrase c.args.phrase.now.at (binary Plus l r) = tree_of_binary c.args.phrase.now Plus k.left k.right k.is in
+    let seen : tree c.args.phrase.now ≡ phrase c.args.phrase.now.at (binary Plus l r) = tree_of_binary c.args.phrase.now Plus k.left k.right (k.is ∙ ap (λ o. kind.Binary o k.left k.right) k.field-0-is) in
     let both_are = ap₂ (both (m.binary m.Plus))
         (first_stays c.args.globals.now (names_in l) (names_in r) (λ ns. expr_of ns l) _ first.outcome more)
         (second_stays c.args.globals.now _ (names_in l) (names_in r) (λ ns. expr_of ns r) _ first.names second.outcome more) in
