@@ -21,6 +21,12 @@ use Rattle.tp_tree.specs.Tree as k
 pub tree_of_binary : (p : Phrase) (o : Op) (l r : Box Phrase Global) → p.kind ≡ kind.Binary o l r → tree p ≡ phrase p.at (binary o (tree l.value) (tree r.value))
 tree_of_binary p o l r e = tree_is p ∙ ap (phrase p.at) (ap kind_tree e ∙ tree_binary o l r)
 
+-- the same, where the operator and the operands were read
+pub seen_binary : (p : Phrase) (o q : Op) (l r : Box Phrase Global) (left right : Phrase) → q ≡ o → p.kind ≡ kind.Binary q l r → left ≡ l.value → right ≡ r.value
+    → tree p ≡ phrase p.at (binary o (tree left) (tree right))
+seen_binary p o q l r left right same e at_left at_right =
+    tree_of_binary p q l r e ∙ (ap (λ (x : Op). phrase p.at (binary x (tree l.value) (tree r.value))) same ∙ ap₂ (λ (x y : Phrase). phrase p.at (binary o (tree x) (tree y))) (sym at_left) (sym at_right))
+
 pub tree_of_next : (p : Phrase) (q : Box Phrase Global) → p.kind ≡ kind.Next q → tree p ≡ phrase p.at (k.next (tree q.value))
 tree_of_next p q e = tree_is p ∙ ap (phrase p.at) (ap kind_tree e ∙ tree_next q)
 
