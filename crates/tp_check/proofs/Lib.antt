@@ -1,0 +1,4 @@
+pub mod NameLemmas
+pub mod TreeLemmas
+pub mod BuiltLemmas
+pub mod ProgramLemmas
