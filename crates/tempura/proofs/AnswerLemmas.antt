@@ -12,7 +12,8 @@ use Rattle.tempura.specs.declared.status.Status.TheVariants.{Finished, Contradic
 use Rattle.tempura.specs.Texts.{state_line, state_lines}
 use Rattle.tempura.specs.EndLine.{end_line}
 use Rattle.tempura.specs.Written.{Wrote}
-use Rattle.tempura.specs.Run.{ProgramTree, Stops, RunEnds, Settles}
+use Rattle.tp_check.specs.Program.{ProgramTree}
+use Rattle.tempura.specs.Run.{Stops, RunEnds, Settles}
 use Rattle.tempura.specs.Progress.{Place, Turned, EndMade, IsSettled, PartMade, HasWritten, ProgramMade}
 use Rattle.tempura.specs.Answer.{Sourced, HoldsProgram, Refuses, RunsTo, Ends, Answers}
 use Rattle.tempura.specs.Parts.{IsRefusal, Closes}

@@ -1,5 +1,5 @@
 -- What the table of the answers says of each answer.
-use Rattle.std.proofs.Common.{◌≡◌, ◌⊎◌, inl, inr, ℕ, List, Option, None, Some, refl, sym, ◌∙◌, subst, arith}
+use Rattle.std.proofs.Common.{◌≡◌, ◌⊎◌, inl, inr, ℕ, List, Option, None, Some, refl, ap, sym, ◌∙◌, subst, arith}
 use Rattle.tp_io.specs.Devices.{Held, bytes_of}
 use Rattle.tp_run.specs.declared.turn.Picture.{Picture}
 use Rattle.tp_run.specs.declared.turn.Cell.{Cell}
@@ -9,11 +9,14 @@ use Rattle.tempura.specs.declared.status.Status.TheVariants.{Finished, Contradic
 use Rattle.tempura.specs.declared.status.Which.{Which}
 use Rattle.tempura.specs.declared.status.Which.TheVariants.{Source}
 use Rattle.tempura.specs.declared.status.SourceKind.{SourceKind}
-use Rattle.tempura.specs.declared.status.SourceKind.TheVariants.{Unexpected}
+use Rattle.tempura.specs.declared.refused.Refused.{Refused}
+use Rattle.tempura.specs.Parts.{status_of}
+use Rattle.tempura.proofs.ProgramLemmas.{program_or_refused, refused_once}
 use Rattle.tempura.specs.Words.{wanted_of}
 use Rattle.tempura.specs.Written.{Wrote}
-use Rattle.tempura.specs.Run.{ProgramTree, RunEnds, EndSays}
-use Rattle.tempura.specs.Answer.{Sourced, HoldsProgram, HoldsNoProgram, IsTooLong, IsTold, Refuses, Ends, Answers, Prints, IsOrStopped, IsOrFailed, IsEndOfRun, HasFailed}
+use Rattle.tp_check.specs.Program.{ProgramTree}
+use Rattle.tempura.specs.Run.{RunEnds, EndSays}
+use Rattle.tempura.specs.Answer.{Sourced, HoldsProgram, HoldsRefused, IsTooLong, IsTold, Refuses, Ends, Answers, Prints, IsOrStopped, IsOrFailed, IsEndOfRun, HasFailed}
 
 -- what the source has where the files tell it
 both_told : (words : List (List ℕ)) (held : Option Held) (P Q : List ℕ → Type 0) → Sourced words held P → IsTold words held Q → (source : List ℕ) × P source × Q source
@@ -50,8 +53,8 @@ module _ (words : List (List ℕ)) (held : Option Held) (old new : Option (List 
   pub too_long_only : (result : Status) → Answers words held old new result → (which : Which) → result ≡ TooLong which → Sourced words held IsTooLong
   too_long_only result a Source is = refusal_alone (TooLong Source) (λ p ps r. r) (subst (Answers words held old new) is a)
 
-  pub source_refused_only : (result : Status) → Answers words held old new result → (line column : ℕ) (kind : SourceKind) → result ≡ SourceRefused line column kind → Sourced words held HoldsNoProgram
-  source_refused_only result a line column kind is = (refusal_alone (SourceRefused line column kind) (λ p ps r. r) (subst (Answers words held old new) is a)).3
+  pub source_refused_only : (result : Status) → Answers words held old new result → (line column : ℕ) (kind : SourceKind) → result ≡ SourceRefused line column kind → Sourced words held (HoldsRefused (record { line = line; column = column; kind = kind }))
+  source_refused_only result a line column kind is = refusal_alone (SourceRefused line column kind) (λ p ps r. r) (subst (Answers words held old new) is a)
 
   accepted_is : (P : List ℕ → Type 0) (T : Type 0) → Sourced words held P → wanted_of words ≡ None → T
   accepted_is P T s none = let bad : Some s.wanted ≡ None = sym s.accepted ∙ none in cc
@@ -61,7 +64,7 @@ module _ (words : List (List ℕ)) (held : Option Held) (old new : Option (List 
   words_refused WordsRefused a none = inl refl
   words_refused WriteFault a none = inr (inl refl)
   words_refused NoMemory a none = inr (inr refl)
-  words_refused (SourceRefused line column kind) a none = accepted_is _ _ (refusal_alone (SourceRefused line column kind) (λ p ps r. r) a).3 none
+  words_refused (SourceRefused line column kind) a none = accepted_is _ _ (refusal_alone (SourceRefused line column kind) (λ p ps r. r) a) none
   words_refused (TooLong Source) a none = accepted_is _ _ (refusal_alone (TooLong Source) (λ p ps r. r) a) none
   words_refused (ReadFault Source) a none = accepted_is _ _ (refusal_alone (ReadFault Source) (λ p ps r. r) a) none
   words_refused (Finished n) a none = accepted_is _ _ (run_alone (Finished n) (λ r. r) a).source none
@@ -87,30 +90,31 @@ module _ (words : List (List ℕ)) (held : Option Held) (old new : Option (List 
   too_long NoMemory a t = inr (inr (inr refl))
   too_long WordsRefused a t = told_accepted _ _ t (refusal_alone WordsRefused (λ p ps r. r) a)
   too_long (SourceRefused line column kind) a t =
-      let told = both_told words held HoldsNoProgram IsTooLong (refusal_alone (SourceRefused line column kind) (λ p ps r. r) a).3 t in absurd (omega (arith, told.1.0, told.2))
+      let told = both_told words held _ IsTooLong (refusal_alone (SourceRefused line column kind) (λ p ps r. r) a) t in absurd (omega (arith, told.1.0, told.2))
   too_long (Finished n) a t = long_ran _ (Finished n) (run_alone (Finished n) (λ r. r) a) t
   too_long (Contradictory state clash) a t = long_ran _ (Contradictory state clash) (run_alone (Contradictory state clash) (λ r. r) a) t
   too_long (Undetermined state cell) a t = long_ran _ (Undetermined state cell) (run_alone (Undetermined state cell) (λ r. r) a) t
   too_long (NumberLimit state) a t = long_ran _ (NumberLimit state) (run_alone (NumberLimit state) (λ r. r) a) t
 
-  no_program_ran : (T : Type 0) (status : Status) → Prints words held old new status (λ p printed. EndSays p printed status) → IsTold words held HoldsNoProgram → T
-  no_program_ran T status p t = let told = ran_told status HoldsNoProgram p t in absurd (told.1.2.1 told.0.main told.0.names told.1.1.1)
+  refused_ran : (T : Type 0) (status : Status) (refused : Refused) → Prints words held old new status (λ p printed. EndSays p printed status) → IsTold words held (HoldsRefused refused) → T
+  refused_ran T status refused p t = let told = ran_told status (HoldsRefused refused) p t in absurd (program_or_refused told.1.0 told.0 refused told.1.1.1 told.1.2.1)
 
-  -- a source that is no program
-  pub source_refused : (result : Status) → Answers words held old new result → IsTold words held HoldsNoProgram → IsOrFailed (SourceRefused 1 1 Unexpected) result
-  source_refused (SourceRefused line column kind) a t =
+  -- a source that is refused
+  pub source_refused : (result : Status) → Answers words held old new result → (refused : Refused) → IsTold words held (HoldsRefused refused) → IsOrFailed (status_of refused) result
+  source_refused (SourceRefused line column kind) a refused t =
       let r = refusal_alone (SourceRefused line column kind) (λ p ps r. r) a in
-      inl (rw (r.0, r.1, r.2) refl)
-  source_refused (ReadFault Source) a t = inr (inl refl)
-  source_refused WriteFault a t = inr (inr (inl refl))
-  source_refused NoMemory a t = inr (inr (inr refl))
-  source_refused WordsRefused a t = told_accepted _ _ t (refusal_alone WordsRefused (λ p ps r. r) a)
-  source_refused (TooLong Source) a t =
-      let told = both_told words held IsTooLong HoldsNoProgram (refusal_alone (TooLong Source) (λ p ps r. r) a) t in absurd (omega (arith, told.1, told.2.0))
-  source_refused (Finished n) a t = no_program_ran _ (Finished n) (run_alone (Finished n) (λ r. r) a) t
-  source_refused (Contradictory state clash) a t = no_program_ran _ (Contradictory state clash) (run_alone (Contradictory state clash) (λ r. r) a) t
-  source_refused (Undetermined state cell) a t = no_program_ran _ (Undetermined state cell) (run_alone (Undetermined state cell) (λ r. r) a) t
-  source_refused (NumberLimit state) a t = no_program_ran _ (NumberLimit state) (run_alone (NumberLimit state) (λ r. r) a) t
+      let told = both_told words held _ (HoldsRefused refused) r t in
+      inl (ap status_of (refused_once told.0 (record { line = line; column = column; kind = kind }) refused told.1.1 told.2.1))
+  source_refused (ReadFault Source) a refused t = inr (inl refl)
+  source_refused WriteFault a refused t = inr (inr (inl refl))
+  source_refused NoMemory a refused t = inr (inr (inr refl))
+  source_refused WordsRefused a refused t = told_accepted _ _ t (refusal_alone WordsRefused (λ p ps r. r) a)
+  source_refused (TooLong Source) a refused t =
+      let told = both_told words held IsTooLong (HoldsRefused refused) (refusal_alone (TooLong Source) (λ p ps r. r) a) t in absurd (omega (arith, told.1, told.2.0))
+  source_refused (Finished n) a refused t = refused_ran _ (Finished n) refused (run_alone (Finished n) (λ r. r) a) t
+  source_refused (Contradictory state clash) a refused t = refused_ran _ (Contradictory state clash) refused (run_alone (Contradictory state clash) (λ r. r) a) t
+  source_refused (Undetermined state cell) a refused t = refused_ran _ (Undetermined state cell) refused (run_alone (Undetermined state cell) (λ r. r) a) t
+  source_refused (NumberLimit state) a refused t = refused_ran _ (NumberLimit state) refused (run_alone (NumberLimit state) (λ r. r) a) t
 
   -- a source that is a program
   pub program_runs : (program : ProgramTree) (result : Status) → Answers words held old new result → IsTold words held (HoldsProgram program) → IsEndOfRun result ⊎ HasFailed result
@@ -125,5 +129,5 @@ module _ (words : List (List ℕ)) (held : Option Held) (old new : Option (List 
   program_runs program (TooLong Source) a t =
       let told = both_told words held IsTooLong (HoldsProgram program) (refusal_alone (TooLong Source) (λ p ps r. r) a) t in absurd (omega (arith, told.1, told.2.0))
   program_runs program (SourceRefused line column kind) a t =
-      let told = both_told words held HoldsNoProgram (HoldsProgram program) (refusal_alone (SourceRefused line column kind) (λ p ps r. r) a).3 t in
-      absurd (told.1.1 program.main program.names told.2.1)
+      let told = both_told words held _ (HoldsProgram program) (refusal_alone (SourceRefused line column kind) (λ p ps r. r) a) t in
+      absurd (program_or_refused told.0 program (record { line = line; column = column; kind = kind }) told.2.1 told.1.1)

@@ -11,7 +11,8 @@ use Rattle.tp_run.specs.History as history
 use Rattle.tp_run.proofs.HistoryLemmas.{end_means}
 use Rattle.tempura.specs.declared.status.Status.{Status}
 use Rattle.tempura.specs.declared.status.Status.TheVariants.{Finished, Contradictory, Undetermined, NumberLimit, SourceRefused, WordsRefused, TooLong, ReadFault, WriteFault, NoMemory}
-use Rattle.tempura.specs.Run.{ProgramTree, meant_by, beginning, Goes, Stops, RunEnds, EndSays}
+use Rattle.tp_check.specs.Program.{ProgramTree}
+use Rattle.tempura.specs.Run.{meant_by, beginning, Goes, Stops, RunEnds, EndSays}
 
 -- a state that goes on
 one_goes : (n : ℕ) (r next : Residual) (earlier picture : Picture) → StateBecomes n r earlier picture (open_at next) turn.Went → history.GoesOn n r picture next

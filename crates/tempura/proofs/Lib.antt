@@ -1,6 +1,7 @@
 pub mod WordsLemmas
 pub mod AskedLemmas
 pub mod SourceLemmas
+pub mod ProgramLemmas
 pub mod RunLemmas
 pub mod HeadlineLemmas
 pub mod AnswerLemmas

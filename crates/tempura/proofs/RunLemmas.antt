@@ -10,7 +10,8 @@ use Rattle.tp_run.specs.States.{Standing, open_at, StateBecomes, advanced}
 use Rattle.tp_run.specs.Runs.{Answers, work_of, LessToDo}
 use Rattle.tempura.specs.Texts.{state_line, state_lines}
 use Rattle.tempura.specs.Written.{Wrote}
-use Rattle.tempura.specs.Run.{ProgramTree, beginning, Goes}
+use Rattle.tp_check.specs.Program.{ProgramTree}
+use Rattle.tempura.specs.Run.{beginning, Goes}
 use Rattle.tempura.specs.Progress.{Place, Turned, HasWritten}
 
 -- two writes, one after the other

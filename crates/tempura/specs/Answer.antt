@@ -3,18 +3,18 @@ use Rattle.std.specs.Prelude.{◌≡◌, ◌⊎◌, ◌≤◌, ◌<◌, ◌+◌,
 use Rattle.std.specs.Option.{option_map}
 use Rattle.tp_io.specs.Devices.{Held, bytes_of}
 use Rattle.tp_run.specs.declared.turn.Picture.{Picture}
-use Rattle.tp_meaning.specs.Syntax.{FormulaTree}
 use Rattle.tp_meaning.specs.Interval.{ProgramTree as Meant}
-use Rattle.tp_fragment.specs.Program.{IsProgram}
+use Rattle.tempura.specs.declared.refused.Refused.{Refused}
+use Rattle.tempura.specs.Source.{IsProgram, IsRefusedAt}
 use Rattle.tempura.specs.declared.status.Status.{Status}
 use Rattle.tempura.specs.declared.status.Status.TheVariants.{Finished, Contradictory, Undetermined, NumberLimit, SourceRefused, WordsRefused, TooLong, ReadFault, WriteFault, NoMemory}
 use Rattle.tempura.specs.declared.status.Which.{Which}
 use Rattle.tempura.specs.declared.status.Which.TheVariants.{Source}
-use Rattle.tempura.specs.declared.status.SourceKind.TheVariants.{Unexpected}
 use Rattle.tempura.specs.Words.{Wanted, wanted_of, files_of}
 use Rattle.tempura.specs.Texts.{state_lines}
 use Rattle.tempura.specs.EndLine.{end_line}
-use Rattle.tempura.specs.Run.{ProgramTree, meant_by, EndSays, RunEnds, Settles}
+use Rattle.tp_check.specs.Program.{ProgramTree}
+use Rattle.tempura.specs.Run.{meant_by, EndSays, RunEnds, Settles}
 use Rattle.tempura.specs.Written.{Wrote}
 
 -- where the value is told, it has P
@@ -30,17 +30,13 @@ pub record Sourced (words : List (List ℕ)) (held : Option Held) (P : List ℕ 
   pub accepted : wanted_of words ≡ Some wanted
   pub source : WhereTold held (λ files. P (bytes_of files wanted.file))
 
--- the source is no program
-abbrev pub IsNoProgram : List ℕ → Type 0
-IsNoProgram source = (main : FormulaTree) (names : List (List ℕ)) → ¬ IsProgram source main names
-
 -- the source has at most so many bytes, and is this program
 abbrev pub HoldsProgram : ProgramTree → List ℕ → Type 0
-HoldsProgram program source = (length source ≤ source_limit) × IsProgram source program.main program.names
+HoldsProgram program source = (length source ≤ source_limit) × IsProgram source program
 
--- the source has at most so many bytes, and is no program
-abbrev pub HoldsNoProgram : List ℕ → Type 0
-HoldsNoProgram source = (length source ≤ source_limit) × IsNoProgram source
+-- the source has at most so many bytes, and is refused there for this cause
+abbrev pub HoldsRefused : Refused → List ℕ → Type 0
+HoldsRefused refused source = (length source ≤ source_limit) × IsRefusedAt source refused
 
 abbrev pub IsTooLong : List ℕ → Type 0
 IsTooLong source = source_limit < length source
@@ -56,7 +52,7 @@ pub record RunsTo (words : List (List ℕ)) (held : Option Held) (status : Statu
 
 -- The cause of a refusal.
 abbrev pub Refuses : List (List ℕ) → Option Held → Status → Type 0
-Refuses words held (SourceRefused line column kind) = (line ≡ 1) × (column ≡ 1) × (kind ≡ Unexpected) × Sourced words held HoldsNoProgram
+Refuses words held (SourceRefused line column kind) = Sourced words held (HoldsRefused (record { line = line; column = column; kind = kind }))
 Refuses words held WordsRefused = wanted_of words ≡ None
 Refuses words held (TooLong Source) = Sourced words held IsTooLong
 Refuses words held (ReadFault Source) = Sourced words held (λ source. Unit {0})

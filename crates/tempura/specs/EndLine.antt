@@ -6,14 +6,21 @@ use Rattle.tempura.specs.declared.status.Status.TheVariants.{Finished, Contradic
 use Rattle.tempura.specs.declared.status.Which.{Which}
 use Rattle.tempura.specs.declared.status.Which.TheVariants.{Source}
 use Rattle.tempura.specs.declared.status.SourceKind.{SourceKind}
-use Rattle.tempura.specs.declared.status.SourceKind.TheVariants.{Unexpected}
+use Rattle.tempura.specs.declared.status.SourceKind.TheVariants.{BadByte, OpenComment, NumberTooLarge, NameTooLong, Unexpected, Unfinished, TooDeep, NotExecutable}
 use Rattle.tempura.specs.Texts.{cell_text, clash_text}
 
 abbrev pub which_text : Which → List ℕ
 which_text Source = codes "source"
 
 abbrev pub kind_text : SourceKind → List ℕ
+kind_text BadByte = codes "bad byte"
+kind_text OpenComment = codes "open comment"
+kind_text NumberTooLarge = codes "number too large"
+kind_text NameTooLong = codes "name too long"
 kind_text Unexpected = codes "unexpected"
+kind_text Unfinished = codes "unfinished"
+kind_text TooDeep = codes "too deep"
+kind_text NotExecutable = codes "not executable"
 
 abbrev pub place_text : ℕ → ℕ → List ℕ
 place_text line column = codes "source refused: line " ++ decimal line ++ codes " column " ++ decimal column

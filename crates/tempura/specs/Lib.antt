@@ -9,3 +9,4 @@ pub mod Places
 pub mod Answer
 pub mod Parts
 pub mod ReadBack
+pub mod Source

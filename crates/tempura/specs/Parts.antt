@@ -1,22 +1,22 @@
 -- What the parts of a call answer.
 use Rattle.std.specs.Prelude.{◌≡◌, ◌⊎◌, ℕ, List, take, Option}
 use Rattle.tp_io.specs.Devices.{Held}
-use Rattle.tp_kernel.specs.Read.{formula_tree}
-use Rattle.tp_fragment.specs.declared.program.Program.{Program}
 use Rattle.tempura.specs.declared.status.Status.{Status}
 use Rattle.tempura.specs.declared.status.Status.TheVariants.{SourceRefused, WriteFault, NoMemory}
-use Rattle.tempura.specs.declared.status.SourceKind.TheVariants.{Unexpected}
+use Rattle.tempura.specs.declared.refused.Refused.{Refused}
 use Rattle.tempura.specs.EndLine.{end_line}
-use Rattle.tempura.specs.Run.{ProgramTree}
+use Rattle.tp_check.specs.Program.{ProgramTree}
 use Rattle.tempura.specs.Written.{Wrote}
-use Rattle.tempura.specs.Answer.{Refuses, IsNoProgram}
+use Rattle.tempura.specs.Answer.{Refuses}
+use Rattle.tempura.specs.Source.{IsRefusedAt}
 
-abbrev pub program_tree : Program → ProgramTree
-program_tree p = record { main = formula_tree p.main.value; names = p.globals }
+-- the status of a refusal
+abbrev pub status_of : Refused → Status
+status_of refused = SourceRefused refused.line refused.column refused.kind
 
--- a source is no program, or memory was wanted
+-- memory was wanted, or a source is refused there for this cause
 abbrev pub IsReadRefusal : List ℕ → Status → Type 0
-IsReadRefusal source status = (status ≡ NoMemory) ⊎ ((status ≡ SourceRefused 1 1 Unexpected) × IsNoProgram source)
+IsReadRefusal source status = (status ≡ NoMemory) ⊎ ((refused : Refused) × (status ≡ status_of refused) × IsRefusedAt source refused)
 
 -- there is no program for this cause, or memory was wanted
 abbrev pub IsRefusal : List (List ℕ) → Option Held → Status → Type 0

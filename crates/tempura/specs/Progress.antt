@@ -13,7 +13,8 @@ use Rattle.tempura.specs.declared.status.Status.{Status}
 use Rattle.tempura.specs.declared.status.Status.TheVariants.{Finished, Contradictory, Undetermined, NumberLimit, SourceRefused, WordsRefused, TooLong, ReadFault, WriteFault, NoMemory}
 use Rattle.tempura.specs.Texts.{state_line, state_lines}
 use Rattle.tempura.specs.Written.{Wrote}
-use Rattle.tempura.specs.Run.{ProgramTree, beginning, Goes}
+use Rattle.tp_check.specs.Program.{ProgramTree}
+use Rattle.tempura.specs.Run.{beginning, Goes}
 
 -- where a run stands, and the number of the state that it makes next
 pub record Place : Type 0 where

@@ -9,13 +9,9 @@ use Rattle.tp_run.specs.Residual.{Residual}
 use Rattle.tp_run.specs.States.{Standing, open_at, first_residual, StateBecomes}
 use Rattle.tp_meaning.specs.Interval.{ProgramTree as Meant}
 use Rattle.tp_run.specs.History.{program_of, SatisfiedExactly, Satisfiable, Unsatisfiable, ContinuesEach}
+use Rattle.tp_check.specs.Program.{ProgramTree}
 use Rattle.tempura.specs.declared.status.Status.{Status}
 use Rattle.tempura.specs.declared.status.Status.TheVariants.{Finished, Contradictory, Undetermined, NumberLimit, SourceRefused, WordsRefused, TooLong, ReadFault, WriteFault, NoMemory}
-
--- a formula, and the names of its global variables in order
-pub record ProgramTree : Type 0 where
-  pub main : FormulaTree
-  pub names : List (List ℕ)
 
 -- the program, as the logic has it: without definitions
 abbrev pub meant_by : ProgramTree → Meant

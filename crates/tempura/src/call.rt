@@ -6,41 +6,61 @@ ghost use Rattle.tp_kernel.specs.Built.{IsBuilt};
 ghost use Rattle.tp_run.specs.declared.turn.Cell.{Cell};
 ghost use Rattle.tp_run.specs.declared.turn.Clash.{Clash};
 ghost use Rattle.tp_run.specs.History.{SatisfiedExactly, Satisfiable, Unsatisfiable, ContinuesEach};
-ghost use Rattle.tp_fragment.specs.Program.{IsProgram};
+ghost use Rattle.std.specs.Option.{option_map_or};
+ghost use Rattle.tp_check.specs.Program.{program_tree};
+ghost use Rattle.tempura.specs.declared.refused.Refused.{Refused};
+ghost use Rattle.tempura.specs.Source.{IsProgram};
 ghost use Rattle.tempura.specs.declared.status.Which.{Which};
 ghost use Rattle.tempura.specs.declared.status.SourceKind.{SourceKind};
 ghost use Rattle.tempura.specs.Words.{wanted_of};
-ghost use Rattle.tempura.specs.Run.{ProgramTree};
-ghost use Rattle.tempura.specs.Answer.{source_limit, HoldsProgram, HoldsNoProgram, IsTooLong, Sourced, Answers, AsksOnly, IsOrStopped, IsOrFailed, IsEndOfRun, HasFailed, IsTold, Prints};
-ghost use Rattle.tempura.specs.Parts.{program_tree, IsReadRefusal, IsRefusal, Closes};
+ghost use Rattle.tp_check.specs.Program.{ProgramTree};
+ghost use Rattle.tempura.specs.Answer.{source_limit, HoldsProgram, HoldsRefused, IsTooLong, Sourced, Answers, AsksOnly, IsOrStopped, IsOrFailed, IsEndOfRun, HasFailed, IsTold, Prints};
+ghost use Rattle.tempura.specs.Parts.{status_of, IsReadRefusal, IsRefusal, Closes};
 
 use crate::end_line::end_text;
+use crate::refused::{Refused, by_checker, by_lexer, by_parser};
 use crate::run::run_program;
 use crate::source::{ReadRefusal, read_limited};
-use crate::status::{SourceKind, Status, Which};
+use crate::status::{Status, Which};
 use crate::words::read_words;
 use std::alloc::Global;
-use tp_fragment::Program;
+use tp_check::{Program, check};
 use tp_io::{Files, Sink, WriteRefusal};
+use tp_lex::tokens;
+use tp_parse::parse;
 use tp_value::{Globals, Text};
 
 // The greatest length of a source, in bytes.
 const SOURCE_LIMIT: usize = 65_536;
 
+// The status for a refusal; none stands for want of memory.
+fn refusal_status(refused: Option<Refused>) -> Status
+    ensures { result ≡ option_map_or status_of Status.NoMemory refused }
+{
+    match refused {
+        Some(Refused { line, column, kind }) => Status::SourceRefused { line, column, kind },
+        None => Status::NoMemory,
+    }
+}
+
+// Reads a program from its source.
 fn read_program(alloc: Global, source: &[u8]) -> Result<Program, Status>
     requires { length source.now ≤ source_limit }
-    ensures program { IfOk result (λ p. IsProgram source.now (formula_tree p.main.value) p.globals) }
+    ensures program { IfOk result (λ p. IsProgram source.now (program_tree p)) }
     ensures built { IfOk result (λ p. IsBuilt p.globals (formula_tree p.main.value)) }
     ensures refused { IfErr result (IsReadRefusal source.now) }
 {
-    match tp_fragment::read(alloc, source) {
+    let tokens = match tokens(alloc, source) {
+        Ok(tokens) => tokens,
+        Err(refusal) => return Err(refusal_status(by_lexer(source, refusal))),
+    };
+    let tree = match parse(alloc, &tokens) {
+        Ok(tree) => tree,
+        Err(refusal) => return Err(refusal_status(by_parser(source, &tokens, refusal))),
+    };
+    match check(alloc, &tree) {
         Ok(program) => Ok(program),
-        Err(tp_fragment::ReadRefusal::NotProgram) => Err(Status::SourceRefused {
-            line: 1,
-            column: 1,
-            kind: SourceKind::Unexpected,
-        }),
-        Err(tp_fragment::ReadRefusal::NoMemory) => Err(Status::NoMemory),
+        Err(refusal) => Err(refusal_status(by_checker(source, refusal))),
     }
 }
 
@@ -152,8 +172,8 @@ pub fn tempura<F: Files, K: Sink>(
     ensures too_long_only { (which : Which) → result ≡ Status.TooLong which → Sourced words.now (F.held files.old) IsTooLong }
     ensures too_long { IsTold words.now (F.held files.old) IsTooLong → IsOrFailed (Status.TooLong Which.Source) result }
     ensures source_refused_only { (line column : ℕ) (kind : SourceKind) → result ≡ Status.SourceRefused line column kind
-        → Sourced words.now (F.held files.old) HoldsNoProgram }
-    ensures source_refused { IsTold words.now (F.held files.old) HoldsNoProgram → IsOrFailed (Status.SourceRefused 1 1 SourceKind.Unexpected) result }
+        → Sourced words.now (F.held files.old) (HoldsRefused (record { line = line; column = column; kind = kind })) }
+    ensures source_refused { (refused : Refused) → IsTold words.now (F.held files.old) (HoldsRefused refused) → IsOrFailed (status_of refused) result }
 
     // Faults.
     ensures asked { AsksOnly words.now (F.asked files.old) (F.asked files.new) (λ which. result ≡ Status.ReadFault which) }

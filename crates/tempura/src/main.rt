@@ -4,6 +4,7 @@
 mod call;
 mod end_line;
 mod laws;
+mod refused;
 mod run;
 mod source;
 mod status;

@@ -23,7 +23,14 @@ impl Which {
 /// Why a source is refused.
 #[derive(Clone, Copy, Debug, PartialEq, Eq)]
 pub enum SourceKind {
+    BadByte,
+    OpenComment,
+    NumberTooLarge,
+    NameTooLong,
     Unexpected,
+    Unfinished,
+    TooDeep,
+    NotExecutable,
 }
 
 impl SourceKind {
@@ -31,7 +38,14 @@ impl SourceKind {
         ensures { result.now ≡ kind_text self }
     {
         match self {
+            SourceKind::BadByte => "bad byte",
+            SourceKind::OpenComment => "open comment",
+            SourceKind::NumberTooLarge => "number too large",
+            SourceKind::NameTooLong => "name too long",
             SourceKind::Unexpected => "unexpected",
+            SourceKind::Unfinished => "unfinished",
+            SourceKind::TooDeep => "too deep",
+            SourceKind::NotExecutable => "not executable",
         }
     }
 }

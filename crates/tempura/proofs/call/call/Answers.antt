@@ -1,4 +1,4 @@
-use Rattle.tempura.specs.Parts.{program_tree}
+use Rattle.tp_check.specs.Program.{program_tree}
 use Rattle.tempura.proofs.AnswerLemmas.{ended, closed, write_failed, memory_wanted, refused}
 use Rattle.tempura.proofs.call.call.Goals as goal
 
