@@ -38,13 +38,16 @@ pub fn expression(
     match &phrase.kind {
         PhraseKind::Number(n) => Ok(Expr::Number(*n)),
         PhraseKind::Name(name) => variable(phrase.at, name, globals),
-        PhraseKind::Binary(Op::Plus, left, right) => {
-            let left = expression(alloc, left, globals)?;
-            let right = expression(alloc, right, globals)?;
-            let left = Rc::new(alloc, left)?;
-            let right = Rc::new(alloc, right)?;
-            Ok(Expr::Op(Op2::Plus, left, right))
-        }
+        PhraseKind::Binary(op, left, right) => match op {
+            Op::Plus => {
+                let left = expression(alloc, left, globals)?;
+                let right = expression(alloc, right, globals)?;
+                let left = Rc::new(alloc, left)?;
+                let right = Rc::new(alloc, right)?;
+                Ok(Expr::Op(Op2::Plus, left, right))
+            }
+            _ => Err(CheckRefusal::NotExecutable { at: phrase.at }),
+        },
         _ => Err(CheckRefusal::NotExecutable { at: phrase.at }),
     }
 }

@@ -114,7 +114,10 @@ pub fn formula(
             let later = Rc::new(alloc, later)?;
             Ok(Formula::Next(later))
         }
-        PhraseKind::Binary(Op::Equal, left, right) => equation(alloc, left, right, globals),
+        PhraseKind::Binary(op, left, right) => match op {
+            Op::Equal => equation(alloc, left, right, globals),
+            _ => Err(CheckRefusal::NotExecutable { at: phrase.at }),
+        },
         _ => Err(CheckRefusal::NotExecutable { at: phrase.at }),
     }
 }
