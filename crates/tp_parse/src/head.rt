@@ -61,10 +61,7 @@ impl Parser<'_> {
                 let value = self.number();
                 Ok(self.taken(Head::Atom(Atom::Number(value))))
             }
-            Start::Name => {
-                let name = self.taken_name(alloc)?;
-                Ok(Head::Atom(Atom::Name(name)))
-            }
+            Start::Name => Ok(Head::Atom(Atom::Name(self.taken_name(alloc)?))),
             Start::NameOrCall => self.name_or_call(alloc),
             Start::Truth(value) => Ok(self.taken(Head::Atom(Atom::Truth(value)))),
             Start::Bare(word) => Ok(self.taken(Head::Atom(Atom::Bare(word)))),
@@ -82,14 +79,8 @@ impl Parser<'_> {
             Start::If => Ok(self.taken(Head::If)),
             Start::While => Ok(self.taken(Head::Paired(Pair::While))),
             Start::Repeat => Ok(self.taken(Head::Paired(Pair::Repeat))),
-            Start::For => {
-                let name = self.counter(alloc)?;
-                Ok(Head::Paired(Pair::For(name)))
-            }
-            Start::Forall => {
-                let name = self.counter(alloc)?;
-                Ok(Head::Paired(Pair::Forall(name)))
-            }
+            Start::For => Ok(Head::Paired(Pair::For(self.counter(alloc)?))),
+            Start::Forall => Ok(Head::Paired(Pair::Forall(self.counter(alloc)?))),
             Start::Exists => {
                 self.take();
                 let names = self.names(alloc)?;

@@ -83,15 +83,15 @@ pub fn of_enclosed(
     requires { operand.height < 1000 }
     ensures { IfOk result (λ r. seen r ≡ spec.of_enclosed at enclosure (seen operand)) }
 {
-    let height = operand.height + 1;
+    let raised = operand.height + 1;
     match enclosure {
         Enclosure::Size => {
             let operand = Box::new(alloc, operand.phrase)?;
-            Ok(make(at, PhraseKind::Size(operand), height))
+            Ok(make(at, PhraseKind::Size(operand), raised))
         }
         _ => Ok(Measured {
             phrase: operand.phrase,
-            height,
+            height: raised,
         }),
     }
 }
