@@ -21,13 +21,13 @@ returns-clause-chop_holds c = (
 pub returns-clause-chop_shares_a_state : goal.returns-clause-chop_shares_a_state
 returns-clause-chop_shares_a_state c = (
   1,
-  shown_at 1 (shown 1 ∷ []),
+  shown_at 1 (shown 7 ∷ []),
   shown_at 1 (shown 1 ∷ []),
   omega arith,
   omega arith,
-  (omega arith, (shown 1, refl, refl)),
+  (omega arith, (shown 7, refl, refl)),
   (blank, shown_at 1 (shown 1 ∷ []), (1, refl, omega arith, refl), (shown_at 1 (shown 1 ∷ []), blank, (shown 1, refl, refl), refl, sym (join-blank (shown_at 1 (shown 1 ∷ [])))), refl),
-  spelled_is ([] ∷ (shown 1 ∷ shown 1 ∷ []) ∷ []) ∙ nothing_first 0 _ _ (join-blank (shown_at 1 (shown 1 ∷ shown 1 ∷ []))) ∙ shown_join 1 (shown 1 ∷ []) (shown 1 ∷ []),
+  spelled_is ([] ∷ (shown 7 ∷ shown 1 ∷ []) ∷ []) ∙ nothing_first 0 _ _ (join-blank (shown_at 1 (shown 7 ∷ shown 1 ∷ []))) ∙ shown_join 1 (shown 7 ∷ []) (shown 1 ∷ []),
 )
 
 pub returns-clause-assign_holds : goal.returns-clause-assign_holds

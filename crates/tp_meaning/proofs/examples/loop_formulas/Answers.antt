@@ -4,7 +4,7 @@ use Rattle.tp_meaning.specs.Course.{blank, ◌⊕◌, shown_at}
 use Rattle.tp_meaning.specs.Syntax.{bound}
 use Rattle.tp_meaning.specs.Value.{fixed}
 use Rattle.tp_meaning.specs.Examples.{A, shown}
-use Rattle.tp_meaning.proofs.ExampleTurns.{turn_shows}
+use Rattle.tp_meaning.proofs.ExampleTurns.{turn_shows, shows_once}
 use Rattle.tp_meaning.proofs.Shows.{join-blank}
 use Rattle.tp_meaning.proofs.ExampleShows.{spelled_is, shown_join}
 use Rattle.tp_meaning.proofs.examples.loop_formulas.Goals as goal
@@ -75,3 +75,22 @@ returns-clause-forall_holds c = (
     spelled_is ((shown 0 ∷ shown 1 ∷ []) ∷ []) ∙ join-blank (shown_at 0 (shown 0 ∷ shown 1 ∷ [])) ∙ shown_join 0 (shown 0 ∷ []) (shown 1 ∷ []),
   ),
 )
+
+pub returns-clause-turns_have_length : goal.returns-clause-turns_have_length
+returns-clause-turns_have_length c = (
+  1,
+  (
+    1,
+    shown_at 0 (shown 0 ∷ []),
+    blank,
+    omega arith,
+    omega arith,
+    (omega arith, refl, (shown 0, refl, refl)),
+    (refl, refl),
+    spelled_is ((shown 0 ∷ []) ∷ []),
+  ),
+  refl,
+)
+
+pub returns-clause-no_turn_without_length : goal.returns-clause-no_turn_without_length
+returns-clause-no_turn_without_length c = shows_once
