@@ -18,3 +18,4 @@ pub mod ExampleProject
 pub mod ExampleCounting
 pub mod ReadStates
 pub mod BindingsAre
+pub mod Division
