@@ -19,3 +19,4 @@ pub mod ExampleCounting
 pub mod ReadStates
 pub mod BindingsAre
 pub mod Division
+pub mod ProjectSplit
