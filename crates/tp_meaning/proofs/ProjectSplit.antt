@@ -8,7 +8,7 @@ use Rattle.tp_meaning.specs.Value.{Meaning, fixed, varying, Env}
 use Rattle.tp_meaning.specs.Holds.{Context, Projected, meaning_at_cuts, env_at_cuts, Holds}
 use Rattle.tp_meaning.specs.Direct.{Means}
 use Rattle.tp_meaning.specs.Moving.{MeaningMoved, EnvMoved}
-use Rattle.tp_meaning.specs.Unfolding.{RunsProjected, cut_then, lists_then, AfterCut, SplitProjected, SaidAtCuts, ProjectSplits, ProjectNext}
+use Rattle.tp_meaning.specs.Unfolding.{RunsProjected, cut_then, lists_then, AfterCut, SplitProjected, SaidAtCuts, ProjectSplits, GoesOnAs, ProjectGoesOn, ProjectNext}
 use Rattle.tp_meaning.proofs.Shows.{join-blank}
 use Rattle.tp_meaning.proofs.ExampleShows.{shown_nothing}
 use Rattle.tp_meaning.proofs.Rising.{rises_less}
@@ -101,10 +101,19 @@ module _ (first piece : Part) (outer : (ℕ → ℕ) → Part) (a b : ℕ) (S : 
       at_most zero = omega arith
       at_most (suc n) = let q = at_most n in let z = r (suc n) in omega (arith, q, z)
 
--- what the later part says may be said otherwise
-pub split_map : (first piece : Part) (outer outer' : (ℕ → ℕ) → Part) (vs : List (List Tree)) (a b : ℕ) (S : Shows) → ((c : ℕ → ℕ) (m : ℕ) (V : Shows) → Rising c → a < c 0 → outer c 0 m V → outer' c 0 m V) → SplitProjected first piece outer vs a b S → SplitProjected first piece outer' vs a b S
-split_map first piece outer outer' vs a b S f (i, T, U, l, h, p, (c, m, V, X, r, start, end, pieces, rest, is'), is) =
-    (i, T, U, l, h, p, (c, m, V, X, r, start, end, pieces, f c m V r (omega arith) rest, is'), is)
+  -- where the outer part goes on as `later` says
+  pub runs_on : (vs : List (List Tree)) (later : (ℕ → ℕ) → Part) → GoesOnAs a vs outer later → RunsProjected first piece outer a b S ↔ SplitProjected first piece later vs a b S
+  runs_on vs later on = (there, split_runs vs later (λ c m r l V z. (on c m vs V r l).1 (refl, z)))
+    where
+      go : (ws : List (List Tree)) → SplitProjected first piece (AfterCut a ws outer) ws a b S → SplitProjected first piece later vs a b S
+      go ws (i, T, U, l, h, p, (c, m, V, X, r, start, end, pieces, rest, is'), is) = let q = (on c m ws V r (omega arith)).0 rest in
+          (i, T, U, l, h, p, (c, m, V, X, r, start, end, pieces, q.1, is'), is ∙ (λ k. shown_at a (q.0 k) ⊕ (T ⊕ U)))
+
+      there : RunsProjected first piece outer a b S → SplitProjected first piece later vs a b S
+      there h = let q = runs_split h in go q.0 q.1
+
+pub project_goes_on : ProjectGoesOn
+project_goes_on h f g g' w d inner env env' s a b S vs = runs_on (Holds w d h inner s) (Holds w d f env s) (SaidAtCuts g w d env s) a b S vs (SaidAtCuts g' w d env' s)
 
 pub project_splits : ProjectSplits
 project_splits h f g w d inner env s a b S = (
@@ -180,29 +189,25 @@ pub project_next : ProjectNext
 unfolding Means
 project_next f g w d env s a b S le = (there, back)
   where
-    first : (vs : List (List Tree)) → SplitProjected (Holds w d f env s) (Holds w d f env s) (AfterCut a vs (SaidAtCuts (next g) w d env s)) vs a b S → Holds w d (chop (conjunction (formulas_of (f ∷ more ∷ []))) (project f g)) env s a b S
-    first vs (i, T, U, l, h, p, (c, m, V, X, r, start, end, pieces, outer, is'), is) = let q = next_back g w d env s a c m V vs outer in (
-      i,
-      T,
-      U,
-      omega arith,
-      h,
-      (T, blank, p, (blank, blank, (l, refl), refl, refl), sym (join-blank T)),
-      (c, m, V, X, r, start, end, pieces, q.1, is'),
-      is ∙ (λ k. shown_at a (q.0 k) ⊕ (T ⊕ U)) ∙ (λ k. shown_nothing a k ⊕ (T ⊕ U)),
-    )
+    on : RunsProjected (Holds w d f env s) (Holds w d f env s) (SaidAtCuts (next g) w d env s) a b S ↔ SplitProjected (Holds w d f env s) (Holds w d f env s) (SaidAtCuts g w d env s) [] a b S
+    on = runs_on (Holds w d f env s) (Holds w d f env s) (SaidAtCuts (next g) w d env s) a b S [] (SaidAtCuts g w d env s)
+        (λ c m ws V r l. (next_back g w d env s a c m V ws, (λ q. subst (λ (x : List (List Tree)). SaidAtCuts (next g) w d env s (cut_then a c) 0 (suc m) (lists_then x V)) (sym q.0) (next_there g w d env s a c m V q.1))))
 
     there : Holds w d (project f (next g)) env s a b S → Holds w d (chop (conjunction (formulas_of (f ∷ more ∷ []))) (project f g)) env s a b S
     there (c, zero, V, T, r, start, end, pieces, (l, h), is) = absurd (omega arith)
     there (c, suc m, V, T, r, start, end, pieces, outer, is) =
-        let q = runs_split (Holds w d f env s) (Holds w d f env s) (SaidAtCuts (next g) w d env s) a b S (c, m, V, T, r, start, end, pieces 0 (omega arith), (λ j u v. pieces j v), outer, is) in
-        first q.0 q.1
-
-    runs_back : RunsProjected (Holds w d f env s) (Holds w d f env s) (SaidAtCuts (next g) w d env s) a b S → Holds w d (project f (next g)) env s a b S
-    runs_back q = run_back f (next g) w d env s a b S q
+        let q = on.0 (c, m, V, T, r, start, end, pieces 0 (omega arith), (λ j u v. pieces j v), outer, is) in
+        (q.0, q.1, q.2, (let l = q.3 in omega arith), q.4, (q.1, blank, q.5, (blank, blank, (q.3, refl), refl, refl), sym (join-blank q.1)), q.6, q.7 ∙ (λ k. shown_nothing a k ⊕ (q.1 ⊕ q.2)))
 
     back : Holds w d (chop (conjunction (formulas_of (f ∷ more ∷ []))) (project f g)) env s a b S → Holds w d (project f (next g)) env s a b S
     back (i, T, U, l, h, (T', N, p, (M, N', (low, none), none', is''), is'), rest, is) =
-        let q = split_runs (Holds w d f env s) (Holds w d f env s) (SaidAtCuts (next g) w d env s) a b S [] (SaidAtCuts g w d env s) (λ c m r u V z. next_there g w d env s a c m V z)
-        (i, T', U, low, h, p, rest, is ∙ (λ k. (is' ∙ (λ n. T' ⊕ (is'' ∙ (λ o. none o ⊕ none' o)) n) ∙ join-blank T') k ⊕ U) ∙ (λ k. sym (shown_nothing a) k ⊕ (T' ⊕ U))) in
-        runs_back q
+        run_back f (next g) w d env s a b S (on.1 (
+          i,
+          T',
+          U,
+          low,
+          h,
+          p,
+          rest,
+          is ∙ (λ k. (is' ∙ (λ n. T' ⊕ (is'' ∙ (λ o. none o ⊕ none' o)) n) ∙ join-blank T') k ⊕ U) ∙ (λ k. sym (shown_nothing a) k ⊕ (T' ⊕ U)),
+        ))

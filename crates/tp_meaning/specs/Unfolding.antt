@@ -121,6 +121,18 @@ ProjectSplits = (h f g : FormulaTree) (w : Context) (d : ℕ) (inner env : Env) 
     RunsProjected (Holds w d h inner s) (Holds w d f env s) (SaidAtCuts g w d env s) a b S
     ↔ ((vs : List (List Tree)) × SplitProjected (Holds w d h inner s) (Holds w d f env s) (AfterCut a vs (SaidAtCuts g w d env s)) vs a b S)
 
+-- After a first cut at a, where it shows vs, the outer part is as `later` says of the cuts after it.
+abbrev pub GoesOnAs : ℕ → List (List Tree) → (outer later : (ℕ → ℕ) → Part) → Type 0
+GoesOnAs a vs outer later = (c : ℕ → ℕ) (m : ℕ) (ws : List (List Tree)) (V : Shows) → Rising c → a < c 0 →
+    outer (cut_then a c) 0 (suc m) (lists_then ws V) ↔ ((ws ≡ vs) × later c 0 m V)
+
+-- Where the outer formula goes on as another one, so does the projection.
+abbrev pub ProjectGoesOn : Type 0
+ProjectGoesOn = (h f g g' : FormulaTree) (w : Context) (d : ℕ) (inner env env' : Env) (s : Course) (a b : ℕ) (S : Shows) (vs : List (List Tree)) →
+    GoesOnAs a vs (SaidAtCuts g w d env s) (SaidAtCuts g' w d env' s) →
+    RunsProjected (Holds w d h inner s) (Holds w d f env s) (SaidAtCuts g w d env s) a b S
+    ↔ SplitProjected (Holds w d h inner s) (Holds w d f env s) (SaidAtCuts g' w d env' s) vs a b S
+
 -- f proj next g: a first piece of length 1 or more, and then f proj g
 abbrev pub ProjectNext : Type 0
 ProjectNext = (f g : FormulaTree) → Means (project f (next g)) (SaidBy (chop (conjunction (formulas_of (f ∷ more ∷ []))) (project f g)))
