@@ -5,7 +5,7 @@ use Rattle.std.specs.Int.{int_div_euclid}
 use Rattle.std.proofs.lemmas.Int.{ints}
 use Rattle.std.proofs.Math.IntN.{pos-*ℤ-pos, negsuc-*ℤ-pos, *ℤ-negsuc}
 use Rattle.tp_meaning.specs.Value.{floor_div}
-use Rattle.tp_meaning.specs.Laws.{IsRemainder, DivisionRoundsDown}
+use Rattle.tp_meaning.specs.Laws.{DivisionRoundsDown}
 
 -- what remains of a number by a divisor above 0
 remains : (a : ℤ) (n : ℕ) → (r : ℕ) × (r ≤ n) × (a -ℤ (int_div_euclid a (pos (suc n)) *ℤ pos (suc n)) ≡ pos r)

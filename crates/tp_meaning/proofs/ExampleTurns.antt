@@ -1,6 +1,6 @@
 -- Turns of length 1 that display a number in their first state.
-use Rattle.std.proofs.Common.{◌≡◌, pos, ℕ, zero, suc, List, Some, [], ◌∷◌, refl, ap, sym, ◌∙◌, ◌≤◌, arith}
-use Rattle.tp_meaning.specs.Syntax.{ExprTree, Less, bound, binary, equation, conjunction, while, exprs_of, formulas_of}
+use Rattle.std.proofs.Common.{◌≡◌, Bool, subst, pos, ℕ, zero, suc, List, Some, [], ◌∷◌, refl, ap, sym, ◌∙◌, ◌≤◌, arith}
+use Rattle.tp_meaning.specs.Syntax.{ExprTree, Equal, Less, bound, binary, equation, conjunction, while, exprs_of, formulas_of}
 use Rattle.tp_meaning.specs.Course.{Shows, blank, ◌⊕◌, shown_at}
 use Rattle.tp_meaning.specs.Value.{Env, values_by, calls_at}
 use Rattle.tp_meaning.specs.Holds.{running, Holds}
@@ -10,7 +10,7 @@ use Rattle.tp_meaning.proofs.Shows.{join-blank}
 use Rattle.tp_meaning.proofs.ExampleShows.{spelled_is}
 use Rattle.tp_meaning.specs.Direct.{Means, ValueIs}
 use Rattle.tp_meaning.proofs.Means.{fin_means}
-use Rattle.tp_value.specs.Tree.{Tree, num}
+use Rattle.tp_value.specs.Tree.{Tree, num, truth}
 use Rattle.std.specs.Option.{option_and_then}
 
 pub turn_shows : (e : ExprTree) (env : Env) (i j n : ℕ) → suc i ≡ j → ValueIs nothing_given 0 env counting e i (num (pos n)) → Holds nothing_given 0 (conjunction (formulas_of (skip_of ∷ display_of e ∷ []))) env counting i j (shown_at i (shown n ∷ []))
@@ -48,3 +48,13 @@ last_shows b i le = (
   ),
   refl,
 )
+
+-- the first turn leads to state 1, where A is not 0
+pub no_second_turn : (d : ℕ) (S : Shows) → Holds nothing_given d (while (binary Equal A (number 0)) skip_of) [] counting 0 2 S → ⊥
+no_second_turn d S (zero, h, last) = absurd (let e = h.0 in omega arith)
+no_second_turn d S (suc zero, (i, T, U, low, high, (more, true, (l, (step, none))), (end, none'), is), last) = absurd (omega arith)
+no_second_turn d S (suc (suc m), (i, T, U, low, high, (more, true, (l, (step, none))), (j, T', U', low', high', (more', true', held'), others, is'), is), last) =
+    not_there d (subst (λ (k : ℕ). ValueIs nothing_given d [] counting (binary Equal A (number 0)) k (truth Bool.true)) (sym step) true')
+  where
+    not_there : (d : ℕ) → ValueIs nothing_given d [] counting (binary Equal A (number 0)) 1 (truth Bool.true) → ⊥
+    not_there d e = absurd (cc)

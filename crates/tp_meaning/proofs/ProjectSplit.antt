@@ -1,17 +1,15 @@
 -- A projection is a first piece, and a projection again from its end on.
-use Rattle.std.proofs.Common.{◌≡◌, ℕ, zero, suc, ◌+◌, ◌-◌, ◌≤◌, ◌<◌, List, [], ◌∷◌, refl, ap, sym, ◌∙◌, subst, arith, inl, inr, ◌↔◌}
-use Rattle.std.proofs.lemmas.Bool.{cases_lt}
+use Rattle.std.proofs.Common.{◌≡◌, ℕ, zero, suc, ◌-◌, ◌≤◌, ◌<◌, List, [], ◌∷◌, refl, ap, sym, ◌∙◌, subst, arith, inl, inr, ◌↔◌}
 use Rattle.tp_value.specs.Tree.{Tree}
 use Rattle.tp_meaning.specs.Syntax.{FormulaTree, more, next, conjunction, chop, project, formulas_of}
 use Rattle.tp_meaning.specs.Course.{Part, Course, Shows, blank, ◌⊕◌, shown_at, woven, Rising}
 use Rattle.tp_meaning.specs.Value.{Meaning, fixed, varying, Env}
-use Rattle.tp_meaning.specs.Holds.{Context, Projected, meaning_at_cuts, env_at_cuts, Holds}
+use Rattle.tp_meaning.specs.Holds.{Context, meaning_at_cuts, env_at_cuts, Holds}
 use Rattle.tp_meaning.specs.Direct.{Means}
 use Rattle.tp_meaning.specs.Moving.{MeaningMoved, EnvMoved}
 use Rattle.tp_meaning.specs.Unfolding.{RunsProjected, cut_then, lists_then, AfterCut, SplitProjected, SaidAtCuts, ProjectSplits, GoesOnAs, ProjectGoesOn, ProjectNext}
 use Rattle.tp_meaning.proofs.Shows.{join-blank}
 use Rattle.tp_meaning.proofs.ExampleShows.{shown_nothing}
-use Rattle.tp_meaning.proofs.Rising.{rises_less}
 use Rattle.tp_meaning.proofs.Within.{Silent, holds_silent}
 use Rattle.tp_meaning.proofs.Project.{run_back}
 use Rattle.tp_meaning.proofs.MovePart.{meanings_move}

@@ -37,6 +37,7 @@ pub fn state_formulas()
     ensures and_holds { HoldsTo 0 (conjunction (formulas_of (display_of (number 1) ∷ A_is 0 ∷ display_of (number 2) ∷ []))) ((shown 1 ∷ shown 2 ∷ []) ∷ []) }
     ensures and_fails { FailsTo 0 (conjunction (formulas_of (A_is 0 ∷ A_is 1 ∷ []))) }
     ensures if_holds { HoldsTo 0 (branch (binary Equal A (number 0)) empty more) [] }
+    ensures if_needs_a_truth_value { FailsTo 0 (branch (number 1) trivial trivial) }
     ensures if_fails { FailsTo 1 (branch (binary Equal A (number 0)) empty more) }
 {}
 
@@ -68,6 +69,8 @@ pub fn next_formulas()
 pub fn length_formulas()
     ensures len_holds { HoldsTo 1 (len (number 1)) [] }
     ensures len_fails { FailsTo 0 (len (number 1)) }
+    ensures len_reads_the_first_state { HoldsTo 0 (len A) [] }
+    ensures len_reads_no_later_state { FailsTo 1 (len A) }
     ensures assign_holds { HoldsTo 1 (assign A (binary Plus A (number 1))) [] }
     ensures assign_fails { FailsTo 0 (assign A (binary Plus A (number 1))) }
     ensures chop_holds { HoldsTo 0 (chop (display_of (number 1)) (display_of (number 2))) ((shown 1 ∷ shown 2 ∷ []) ∷ []) }
@@ -80,6 +83,7 @@ pub fn loop_formulas()
     ensures while_without_turn { HoldsTo 0 (while (binary Equal A (number 1)) skip_of) [] }
     ensures while_holds { HoldsTo 2 (while (binary Less A (number 2)) (conjunction (formulas_of (skip_of ∷ display_of A ∷ [])))) ((shown 0 ∷ []) ∷ (shown 1 ∷ []) ∷ []) }
     ensures while_fails { FailsTo 1 (while (binary Equal A (number 1)) skip_of) }
+    ensures each_turn_begins_where_it_is_true { FailsTo 2 (while (binary Equal A (number 0)) skip_of) }
     ensures while_true_fails { FailsTo 0 (while (boolean Bool.true) empty) }
     ensures turns_have_length { HoldsTo 1 (while (binary Less A (number 1)) (display_of A)) ((shown 0 ∷ []) ∷ []) }
     ensures no_turn_without_length { (d : ℕ) (S : Shows) → Holds nothing_given d (while (binary Less A (number 1)) (display_of A)) [] counting 0 1 S → S ≡ listed ((shown 0 ∷ []) ∷ []) }
@@ -87,6 +91,8 @@ pub fn loop_formulas()
     ensures for_without_turn_fails { FailsTo 1 (for_from [] (pos 0) (number 0) skip_of) }
     ensures for_holds { HoldsTo 2 (for_from [] (pos 0) (number 2) (conjunction (formulas_of (skip_of ∷ display_of (bound 0) ∷ [])))) ((shown 0 ∷ []) ∷ (shown 1 ∷ []) ∷ []) }
     ensures for_turns_may_be_empty { HoldsTo 0 (for_from [] (pos 0) (number 2) (display_of (bound 0))) ((shown 0 ∷ shown 1 ∷ []) ∷ []) }
+    ensures for_counts_from_its_number { HoldsTo 0 (for_from [] (negsuc 0) (number 1) (display_of (bound 0))) (((num (negsuc 0) ∷ []) ∷ shown 0 ∷ []) ∷ []) }
+    ensures number_is_bound_last { HoldsTo 0 (exists [] Bool.true (conjunction (formulas_of (equation (bound 0) (number 3) ∷ for_from [] (pos 0) (number 1) (conjunction (formulas_of (equation (bound 0) (number 3) ∷ equation (bound 1) (number 0) ∷ []))) ∷ [])))) [] }
     ensures forall_without_instance { HoldsTo 1 (forall_from [] (pos 0) (number 0) empty) [] }
     ensures forall_holds { HoldsTo 0 (forall_from [] (pos 0) (number 2) (display_of (bound 0))) ((shown 0 ∷ shown 1 ∷ []) ∷ []) }
     ensures forall_fails { FailsTo 0 (forall_from [] (pos 0) (number 2) (equation A (bound 0))) }
@@ -98,12 +104,14 @@ pub fn project_formulas()
     ensures holds { HoldsTo 2 (project (conjunction (formulas_of (skip_of ∷ display_of (number 1) ∷ fin_of (display_of (number 3)) ∷ []))) (always (display_of (number 2)))) ((shown 2 ∷ shown 1 ∷ []) ∷ (shown 3 ∷ shown 2 ∷ shown 1 ∷ []) ∷ (shown 3 ∷ shown 2 ∷ []) ∷ []) }
     ensures holds_on_one_state { HoldsTo 0 (project skip_of (A_is 0)) [] }
     ensures fails { FailsTo 1 (project skip_of empty) }
+    ensures names_of_the_outer_formula { HoldsTo 2 (project (len (number 2)) (exists [] Bool.false (conjunction (formulas_of (always (equation (bound 0) A) ∷ next (display_of (bound 0)) ∷ []))))) ([] ∷ [] ∷ (shown 2 ∷ []) ∷ []) }
     ensures names_change_with_the_cuts { HoldsTo 2 (exists [] Bool.false (conjunction (formulas_of (always (equation (bound 0) A) ∷ project (len (number 2)) (next (equation (bound 0) (number 2))) ∷ [])))) [] }
 {}
 
 /// `exists`, for state variables and for static ones.
 pub fn exists_formulas()
     ensures holds { HoldsTo 0 (exists [] Bool.false (equation (bound 0) (number 7))) [] }
+    ensures later_names_come_after { HoldsTo 0 (exists [] Bool.true (conjunction (formulas_of (equation (bound 0) (number 3) ∷ exists [] Bool.true (conjunction (formulas_of (equation (bound 0) (number 3) ∷ equation (bound 1) (number 2) ∷ []))) ∷ [])))) [] }
     ensures fails { FailsTo 0 (exists [] Bool.false (conjunction (formulas_of (equation (bound 0) (number 0) ∷ equation (bound 0) (number 1) ∷ [])))) }
     ensures changing_holds { HoldsTo 1 (exists [] Bool.false (always (equation (bound 0) A))) [] }
     ensures static_fails { FailsTo 1 (exists [] Bool.true (always (equation (bound 0) A))) }

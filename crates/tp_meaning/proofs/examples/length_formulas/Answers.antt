@@ -32,3 +32,6 @@ returns-clause-chop_shares_a_state c = (
 
 pub returns-clause-assign_holds : goal.returns-clause-assign_holds
 returns-clause-assign_holds c = (num (pos 1), refl, refl, refl)
+
+pub returns-clause-len_reads_the_first_state : goal.returns-clause-len_reads_the_first_state
+returns-clause-len_reads_the_first_state c = (0, refl, omega arith, refl)

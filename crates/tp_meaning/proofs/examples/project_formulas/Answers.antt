@@ -1,8 +1,9 @@
-use Rattle.std.proofs.Common.{pos, ◌*◌, refl, sym, arith}
+use Rattle.std.proofs.Common.{pos, [], ◌∷◌, ◌*◌, ◌∙◌, refl, sym, arith}
 use Rattle.tp_value.specs.Tree.{num}
-use Rattle.tp_meaning.specs.Course.{blank}
-use Rattle.tp_meaning.specs.Examples.{counting}
-use Rattle.tp_meaning.proofs.ExampleShows.{shown_nothing, nothing_woven, nothing_listed}
+use Rattle.tp_meaning.specs.Course.{blank, ◌⊕◌, shown_at}
+use Rattle.tp_meaning.specs.Examples.{counting, shown}
+use Rattle.tp_meaning.proofs.Shows.{join-blank}
+use Rattle.tp_meaning.proofs.ExampleShows.{spelled_is, nothing_first, shown_nothing, nothing_woven, nothing_listed}
 use Rattle.tp_meaning.proofs.ExampleProject.{piece_from, piece_shows, outer_shows, outer_holds, cuts_show}
 use Rattle.tp_meaning.proofs.examples.project_formulas.Goals as goal
 
@@ -40,4 +41,28 @@ returns-clause-names_change_with_the_cuts c = (
     ),
     nothing_listed,
   ),
+)
+
+pub returns-clause-names_of_the_outer_formula : goal.returns-clause-names_of_the_outer_formula
+returns-clause-names_of_the_outer_formula c = (
+  (λ k. 2 * k),
+  1,
+  shown_at 1 (shown 2 ∷ []),
+  (λ j. blank),
+  (λ k. omega arith),
+  refl,
+  refl,
+  (λ j v. (2, refl, omega arith, refl)),
+  (
+    (λ k. num (pos (2 * k))),
+    tt,
+    (
+      blank,
+      shown_at 1 (shown 2 ∷ []),
+      (2, (λ i. blank), omega arith, (λ i u v. (num (pos (2 * i)), refl, refl, refl)), refl),
+      (shown_at 1 (shown 2 ∷ []), blank, (omega arith, (shown 2, refl, refl)), refl, sym (join-blank (shown_at 1 (shown 2 ∷ [])))),
+      refl,
+    ),
+  ),
+  spelled_is ([] ∷ [] ∷ (shown 2 ∷ []) ∷ []) ∙ (λ i. shown_at 0 [] ⊕ nothing_first 1 (shown_at 2 (shown 2 ∷ [])) _ (join-blank (shown_at 2 (shown 2 ∷ []))) i),
 )
