@@ -23,6 +23,9 @@ spelled_at (x ∷ xs) k (suc j) =
 pub spelled_is : (xs : List (List (List Tree))) → listed xs ≡ spelled 0 xs
 spelled_is xs = λ i j. (sym (spelled_at xs 0 j) ∙ (let e : j + 0 ≡ j = omega arith in ap (spelled 0 xs) e)) i
 
+pub nothing_listed : listed [] ≡ blank
+nothing_listed = refl
+
 -- two at one position
 pub shown_join : (a : ℕ) (vs ws : List (List Tree)) → shown_at a (vs ++ ws) ≡ shown_at a vs ⊕ shown_at a ws
 shown_join a vs ws = λ i j. by (eqb j a) i

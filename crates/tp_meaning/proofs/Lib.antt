@@ -18,3 +18,5 @@ pub mod ExampleProject
 pub mod ExampleCounting
 pub mod ReadStates
 pub mod BindingsAre
+pub mod Division
+pub mod ProjectSplit

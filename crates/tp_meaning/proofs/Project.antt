@@ -81,7 +81,7 @@ module _ (f g : FormulaTree) (w : Context) (d : ℕ) (env : Env) (s : Course) wh
   run_there a b S l (c, zero, V, T, r, start, end, pieces, outer, is) = absurd (omega arith)
   run_there a b S l (c, suc m, V, T, r, start, end, pieces, outer, is) = (c, m, V, T, r, start, end, pieces 0 (omega arith), (λ j u v. pieces j v), outer, is)
 
-  run_back : (a b : ℕ) (S : Shows) → ProjectRuns f g w d env s a b S → Holds w d (project f g) env s a b S
+  pub run_back : (a b : ℕ) (S : Shows) → ProjectRuns f g w d env s a b S → Holds w d (project f g) env s a b S
   run_back a b S (c, m, V, T, r, start, end, first, pieces, outer, is) = (
     c,
     suc m,

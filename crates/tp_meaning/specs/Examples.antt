@@ -1,9 +1,10 @@
 -- What the examples speak of.
-use Rattle.std.specs.Prelude.{◌≡◌, ◌↔◌, pos, ℕ, zero, suc, ◌+◌, ◌≤◌, false, List, [], ◌∷◌, None}
+use Rattle.std.specs.Prelude.{◌≡◌, ◌↔◌, pos, ℕ, zero, suc, ◌+◌, ◌≤◌, false, List, [], ◌∷◌, Option, None}
 use Rattle.tp_value.specs.Tree.{Tree, num, list, of_items}
 use Rattle.tp_meaning.specs.Syntax.{Plus, ExprTree, global, numeral, binary, FormulaTree, equation, weak_next, conjunction, len, call, display, exprs_of, formulas_of, Definition}
 use Rattle.tp_meaning.specs.Derived.{gets_of}
 use Rattle.tp_meaning.specs.Course.{Course, Shows, blank}
+use Rattle.tp_meaning.specs.Value.{value}
 use Rattle.tp_meaning.specs.Inputs.{InputPair, InputLines}
 use Rattle.tp_meaning.specs.Holds.{Context, Holds}
 
@@ -27,6 +28,10 @@ A_is n = equation A (number n)
 
 abbrev pub display_of : ExprTree → FormulaTree
 display_of e = display (exprs_of (e ∷ []))
+
+-- the value of an expression in state 0
+abbrev pub value_of : ExprTree → Option Tree
+value_of e = value [] 0 e [] counting 0
 
 -- these lists are shown at the positions 0, 1, .., and nothing further on
 abbrev pub listed : List (List (List Tree)) → Shows

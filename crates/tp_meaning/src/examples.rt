@@ -1,11 +1,26 @@
 // The least intervals on which formulas of each kind hold, and some on which they do not. In the states 0, 1, .. the variable A has
 // the values 0, 1, ..
-ghost use Rattle.std.specs.Prelude.{◌≡◌, pos, ℕ, Bool, List, [], ◌∷◌};
-ghost use Rattle.tp_meaning.specs.Syntax.{Equal, Less, Plus, Div, boolean, binary, bound, index, FormulaTree, trivial, test, equation, next_equation, empty, more, next, weak_next, if_more, if_empty, always, conjunction, branch, len, assign, chop, while, for_from, forall_from, project, exists, input, formulas_of};
+ghost use Rattle.std.specs.Prelude.{◌≡◌, pos, negsuc, ℕ, Bool, List, [], ◌∷◌, Some, None};
+ghost use Rattle.tp_value.specs.Tree.{num, truth};
+ghost use Rattle.tp_meaning.specs.Syntax.{Equal, Less, Plus, Div, Mod, numeral, boolean, bound, index, both, either, binary, FormulaTree, trivial, test, equation, next_equation, empty, more, next, weak_next, if_more, if_empty, always, conjunction, branch, len, assign, chop, while, for_from, forall_from, project, exists, input, display, exprs_of, formulas_of};
 ghost use Rattle.tp_meaning.specs.Course.{Shows, blank};
+ghost use Rattle.tp_meaning.specs.Value.{fixed};
 ghost use Rattle.tp_meaning.specs.Holds.{Holds};
 ghost use Rattle.tp_meaning.specs.Derived.{skip_of, fin_of};
-ghost use Rattle.tp_meaning.specs.Examples.{nothing_given, counting, A, I, number, A_is, display_of, shown, HoldsTo, FailsTo, CountsToThree, with_definition, call_it, on_and_on, upper_parameter, lower_parameter, indexed, with_inputs, port, port_is};
+ghost use Rattle.tp_meaning.specs.Examples.{nothing_given, counting, A, I, number, A_is, display_of, value_of, listed, shown, HoldsTo, FailsTo, CountsToThree, with_definition, call_it, on_and_on, upper_parameter, lower_parameter, indexed, with_inputs, port, port_is};
+
+/// Values of expressions: quotients are rounded down, and `and` and `or` look at no more than they need.
+pub fn expressions()
+    ensures div_rounds_down { value_of (binary Div (number 7) (numeral (negsuc 1))) ≡ Some (num (negsuc 3)) }
+    ensures mod_lies_on_the_divisors_side { value_of (binary Mod (number 7) (numeral (negsuc 1))) ≡ Some (num (negsuc 0)) }
+    ensures mod_of_a_negative { value_of (binary Mod (numeral (negsuc 6)) (number 2)) ≡ Some (num (pos 1)) }
+    ensures div_by_0 { value_of (binary Div (number 7) (number 0)) ≡ None }
+    ensures mod_by_0 { value_of (binary Mod (number 7) (number 0)) ≡ None }
+    ensures and_stops_at_false { value_of (both (exprs_of (boolean Bool.false ∷ number 1 ∷ []))) ≡ Some (truth Bool.false) }
+    ensures and_needs_truth_values { value_of (both (exprs_of (boolean Bool.true ∷ number 1 ∷ []))) ≡ None }
+    ensures or_stops_at_true { value_of (either (boolean Bool.true) (number 1)) ≡ Some (truth Bool.true) }
+    ensures or_needs_truth_values { value_of (either (boolean Bool.false) (number 1)) ≡ None }
+{}
 
 /// `true`, tests, equations, displays, conjunctions and choices.
 pub fn state_formulas()
@@ -17,10 +32,12 @@ pub fn state_formulas()
     ensures equation_holds { HoldsTo 0 (A_is 0) [] }
     ensures equation_fails { FailsTo 0 (A_is 1) }
     ensures display_holds { HoldsTo 0 (display_of A) ((shown 0 ∷ []) ∷ []) }
+    ensures display_of_two_holds { HoldsTo 0 (display (exprs_of (number 1 ∷ number 2 ∷ []))) (((num (pos 1) ∷ num (pos 2) ∷ []) ∷ []) ∷ []) }
     ensures display_fails { FailsTo 0 (display_of (binary Div A (number 0))) }
     ensures and_holds { HoldsTo 0 (conjunction (formulas_of (display_of (number 1) ∷ A_is 0 ∷ display_of (number 2) ∷ []))) ((shown 1 ∷ shown 2 ∷ []) ∷ []) }
     ensures and_fails { FailsTo 0 (conjunction (formulas_of (A_is 0 ∷ A_is 1 ∷ []))) }
     ensures if_holds { HoldsTo 0 (branch (binary Equal A (number 0)) empty more) [] }
+    ensures if_needs_a_truth_value { FailsTo 0 (branch (number 1) trivial trivial) }
     ensures if_fails { FailsTo 1 (branch (binary Equal A (number 0)) empty more) }
 {}
 
@@ -33,14 +50,18 @@ pub fn next_formulas()
     ensures next_holds { HoldsTo 1 (next (display_of A)) ([] ∷ (shown 1 ∷ []) ∷ []) }
     ensures next_fails { FailsTo 0 (next trivial) }
     ensures weak_next_holds { HoldsTo 0 (weak_next (A_is 5)) [] }
+    ensures weak_next_goes_on { HoldsTo 1 (weak_next (display_of A)) ([] ∷ (shown 1 ∷ []) ∷ []) }
     ensures weak_next_fails { FailsTo 1 (weak_next (A_is 5)) }
     ensures next_equation_holds { HoldsTo 1 (next_equation 1 A (binary Plus A (number 1))) [] }
     ensures next_equation_fails { FailsTo 0 (next_equation 1 A (binary Plus A (number 1))) }
     ensures if_more_holds { HoldsTo 0 (if_more (A_is 5)) [] }
+    ensures if_more_with_more { HoldsTo 1 (if_more (display_of A)) ((shown 0 ∷ []) ∷ []) }
     ensures if_more_fails { FailsTo 1 (if_more (A_is 5)) }
     ensures if_empty_holds { HoldsTo 1 (if_empty (A_is 5)) [] }
+    ensures if_empty_at_the_end { HoldsTo 0 (if_empty (display_of A)) ((shown 0 ∷ []) ∷ []) }
     ensures if_empty_fails { FailsTo 0 (if_empty (A_is 5)) }
     ensures always_holds { HoldsTo 1 (always (display_of A)) ((shown 0 ∷ []) ∷ (shown 1 ∷ []) ∷ []) }
+    ensures older_suffix_first { HoldsTo 1 (always (exists [] Bool.true (conjunction (formulas_of (equation (bound 0) A ∷ fin_of (display_of (bound 0)) ∷ []))))) ([] ∷ (shown 0 ∷ shown 1 ∷ []) ∷ []) }
     ensures always_fails { FailsTo 1 (always (A_is 0)) }
 {}
 
@@ -48,10 +69,12 @@ pub fn next_formulas()
 pub fn length_formulas()
     ensures len_holds { HoldsTo 1 (len (number 1)) [] }
     ensures len_fails { FailsTo 0 (len (number 1)) }
+    ensures len_reads_the_first_state { HoldsTo 0 (len A) [] }
+    ensures len_reads_no_later_state { FailsTo 1 (len A) }
     ensures assign_holds { HoldsTo 1 (assign A (binary Plus A (number 1))) [] }
     ensures assign_fails { FailsTo 0 (assign A (binary Plus A (number 1))) }
     ensures chop_holds { HoldsTo 0 (chop (display_of (number 1)) (display_of (number 2))) ((shown 1 ∷ shown 2 ∷ []) ∷ []) }
-    ensures chop_shares_a_state { HoldsTo 2 (chop (next (display_of (number 1))) (conjunction (formulas_of (len (number 1) ∷ display_of A ∷ [])))) ([] ∷ (shown 1 ∷ shown 1 ∷ []) ∷ []) }
+    ensures chop_shares_a_state { HoldsTo 2 (chop (next (display_of (number 7))) (conjunction (formulas_of (len (number 1) ∷ display_of A ∷ [])))) ([] ∷ (shown 7 ∷ shown 1 ∷ []) ∷ []) }
     ensures chop_fails { FailsTo 1 (chop empty empty) }
 {}
 
@@ -60,11 +83,16 @@ pub fn loop_formulas()
     ensures while_without_turn { HoldsTo 0 (while (binary Equal A (number 1)) skip_of) [] }
     ensures while_holds { HoldsTo 2 (while (binary Less A (number 2)) (conjunction (formulas_of (skip_of ∷ display_of A ∷ [])))) ((shown 0 ∷ []) ∷ (shown 1 ∷ []) ∷ []) }
     ensures while_fails { FailsTo 1 (while (binary Equal A (number 1)) skip_of) }
-    ensures turn_without_length_fails { FailsTo 0 (while (boolean Bool.true) empty) }
+    ensures each_turn_begins_where_it_is_true { FailsTo 2 (while (binary Equal A (number 0)) skip_of) }
+    ensures while_true_fails { FailsTo 0 (while (boolean Bool.true) empty) }
+    ensures turns_have_length { HoldsTo 1 (while (binary Less A (number 1)) (display_of A)) ((shown 0 ∷ []) ∷ []) }
+    ensures no_turn_without_length { (d : ℕ) (S : Shows) → Holds nothing_given d (while (binary Less A (number 1)) (display_of A)) [] counting 0 1 S → S ≡ listed ((shown 0 ∷ []) ∷ []) }
     ensures for_without_turn { HoldsTo 0 (for_from [] (pos 0) (number 0) skip_of) [] }
     ensures for_without_turn_fails { FailsTo 1 (for_from [] (pos 0) (number 0) skip_of) }
     ensures for_holds { HoldsTo 2 (for_from [] (pos 0) (number 2) (conjunction (formulas_of (skip_of ∷ display_of (bound 0) ∷ [])))) ((shown 0 ∷ []) ∷ (shown 1 ∷ []) ∷ []) }
     ensures for_turns_may_be_empty { HoldsTo 0 (for_from [] (pos 0) (number 2) (display_of (bound 0))) ((shown 0 ∷ shown 1 ∷ []) ∷ []) }
+    ensures for_counts_from_its_number { HoldsTo 0 (for_from [] (negsuc 0) (number 1) (display_of (bound 0))) (((num (negsuc 0) ∷ []) ∷ shown 0 ∷ []) ∷ []) }
+    ensures number_is_bound_last { HoldsTo 0 (exists [] Bool.true (conjunction (formulas_of (equation (bound 0) (number 3) ∷ for_from [] (pos 0) (number 1) (conjunction (formulas_of (equation (bound 0) (number 3) ∷ equation (bound 1) (number 0) ∷ []))) ∷ [])))) [] }
     ensures forall_without_instance { HoldsTo 1 (forall_from [] (pos 0) (number 0) empty) [] }
     ensures forall_holds { HoldsTo 0 (forall_from [] (pos 0) (number 2) (display_of (bound 0))) ((shown 0 ∷ shown 1 ∷ []) ∷ []) }
     ensures forall_fails { FailsTo 0 (forall_from [] (pos 0) (number 2) (equation A (bound 0))) }
@@ -76,11 +104,14 @@ pub fn project_formulas()
     ensures holds { HoldsTo 2 (project (conjunction (formulas_of (skip_of ∷ display_of (number 1) ∷ fin_of (display_of (number 3)) ∷ []))) (always (display_of (number 2)))) ((shown 2 ∷ shown 1 ∷ []) ∷ (shown 3 ∷ shown 2 ∷ shown 1 ∷ []) ∷ (shown 3 ∷ shown 2 ∷ []) ∷ []) }
     ensures holds_on_one_state { HoldsTo 0 (project skip_of (A_is 0)) [] }
     ensures fails { FailsTo 1 (project skip_of empty) }
+    ensures names_of_the_outer_formula { HoldsTo 2 (project (len (number 2)) (exists [] Bool.false (conjunction (formulas_of (always (equation (bound 0) A) ∷ next (display_of (bound 0)) ∷ []))))) ([] ∷ [] ∷ (shown 2 ∷ []) ∷ []) }
+    ensures names_change_with_the_cuts { HoldsTo 2 (exists [] Bool.false (conjunction (formulas_of (always (equation (bound 0) A) ∷ project (len (number 2)) (next (equation (bound 0) (number 2))) ∷ [])))) [] }
 {}
 
 /// `exists`, for state variables and for static ones.
 pub fn exists_formulas()
     ensures holds { HoldsTo 0 (exists [] Bool.false (equation (bound 0) (number 7))) [] }
+    ensures later_names_come_after { HoldsTo 0 (exists [] Bool.true (conjunction (formulas_of (equation (bound 0) (number 3) ∷ exists [] Bool.true (conjunction (formulas_of (equation (bound 0) (number 3) ∷ equation (bound 1) (number 2) ∷ []))) ∷ [])))) [] }
     ensures fails { FailsTo 0 (exists [] Bool.false (conjunction (formulas_of (equation (bound 0) (number 0) ∷ equation (bound 0) (number 1) ∷ [])))) }
     ensures changing_holds { HoldsTo 1 (exists [] Bool.false (always (equation (bound 0) A))) [] }
     ensures static_fails { FailsTo 1 (exists [] Bool.true (always (equation (bound 0) A))) }
@@ -105,6 +136,9 @@ pub fn parameters()
     ensures upper_holds { Holds (with_definition upper_parameter (next (equation (bound 0) (number 5)))) 1 (call_it (index A I ∷ [])) [] indexed 0 1 blank }
     ensures index_in_the_next_state { Holds nothing_given 0 (next (equation (index A I) (number 7))) [] indexed 0 1 blank }
     ensures lower_holds { Holds (with_definition lower_parameter (next (equation (bound 0) (number 4)))) 1 (call_it (index A I ∷ [])) [] indexed 0 1 blank }
+    ensures element_of_a_path_needs_no_value { Holds (with_definition upper_parameter trivial) 1 (call_it (index A (number 0) ∷ [])) [] counting 0 0 blank }
+    ensures element_of_a_known_value_needs_one { (d : ℕ) (S : Shows) → Holds (with_definition upper_parameter trivial) d (call_it (index (bound 0) (number 0) ∷ [])) (fixed (num (pos 1)) ∷ []) counting 0 0 S → ⊥ }
+    ensures bindings_alone { Holds (with_definition lower_parameter (equation (bound 0) (number 2))) 1 (exists [] Bool.true (conjunction (formulas_of (equation (bound 0) (number 3) ∷ call_it (number 2 ∷ []) ∷ [])))) [] counting 0 0 blank }
     ensures upper_takes_places { (d : ℕ) (S : Shows) → Holds (with_definition upper_parameter trivial) d (call_it (number 1 ∷ [])) [] indexed 0 1 S → ⊥ }
 {}
 

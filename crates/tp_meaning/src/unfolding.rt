@@ -1,7 +1,7 @@
 // How formulas unfold, one turn or one state at a time.
 ghost use Rattle.std.specs.Prelude.{ℤ, ℕ, List};
 ghost use Rattle.tp_meaning.specs.Syntax.{ExprTree, FormulaTree};
-ghost use Rattle.tp_meaning.specs.Unfolding.{AlwaysUnfolds, WhileUnfolds, ForUnfolds, ForallUnfolds, LenUnfolds, NextEquationUnfolds, AssignUnfolds, InputUnfolds, ProjectEnds, ProjectGoes};
+ghost use Rattle.tp_meaning.specs.Unfolding.{AlwaysUnfolds, WhileUnfolds, ForUnfolds, ForallUnfolds, LenUnfolds, NextEquationUnfolds, AssignUnfolds, InputUnfolds, ProjectEnds, ProjectGoes, ProjectSplits, ProjectGoesOn, ProjectNext};
 
 /// `always(f)`: f now, and `always(f)` from the next state on.
 pub fn always_unfolds()
@@ -43,8 +43,12 @@ pub fn input_unfolds()
     ensures { InputUnfolds }
 {}
 
-/// `f proj g`: g alone on one state, and a first piece on more.
+/// `f proj g`: g alone on one state; on more a first piece, and from its end on a projection again, of what g goes on as.
+/// `f proj next g` is `(f and more) ; (f proj g)`.
 pub fn project_unfolds()
     ensures ends { ProjectEnds }
     ensures goes { ProjectGoes }
+    ensures splits { ProjectSplits }
+    ensures goes_on { ProjectGoesOn }
+    ensures next { ProjectNext }
 {}

@@ -21,14 +21,17 @@ returns-clause-chop_holds c = (
 pub returns-clause-chop_shares_a_state : goal.returns-clause-chop_shares_a_state
 returns-clause-chop_shares_a_state c = (
   1,
-  shown_at 1 (shown 1 ∷ []),
+  shown_at 1 (shown 7 ∷ []),
   shown_at 1 (shown 1 ∷ []),
   omega arith,
   omega arith,
-  (omega arith, (shown 1, refl, refl)),
+  (omega arith, (shown 7, refl, refl)),
   (blank, shown_at 1 (shown 1 ∷ []), (1, refl, omega arith, refl), (shown_at 1 (shown 1 ∷ []), blank, (shown 1, refl, refl), refl, sym (join-blank (shown_at 1 (shown 1 ∷ [])))), refl),
-  spelled_is ([] ∷ (shown 1 ∷ shown 1 ∷ []) ∷ []) ∙ nothing_first 0 _ _ (join-blank (shown_at 1 (shown 1 ∷ shown 1 ∷ []))) ∙ shown_join 1 (shown 1 ∷ []) (shown 1 ∷ []),
+  spelled_is ([] ∷ (shown 7 ∷ shown 1 ∷ []) ∷ []) ∙ nothing_first 0 _ _ (join-blank (shown_at 1 (shown 7 ∷ shown 1 ∷ []))) ∙ shown_join 1 (shown 7 ∷ []) (shown 1 ∷ []),
 )
 
 pub returns-clause-assign_holds : goal.returns-clause-assign_holds
 returns-clause-assign_holds c = (num (pos 1), refl, refl, refl)
+
+pub returns-clause-len_reads_the_first_state : goal.returns-clause-len_reads_the_first_state
+returns-clause-len_reads_the_first_state c = (0, refl, omega arith, refl)

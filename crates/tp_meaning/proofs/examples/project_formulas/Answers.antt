@@ -1,8 +1,9 @@
-use Rattle.std.proofs.Common.{pos, refl, sym, arith}
+use Rattle.std.proofs.Common.{pos, [], ◌∷◌, ◌*◌, ◌∙◌, refl, sym, arith}
 use Rattle.tp_value.specs.Tree.{num}
-use Rattle.tp_meaning.specs.Course.{blank}
-use Rattle.tp_meaning.specs.Examples.{counting}
-use Rattle.tp_meaning.proofs.ExampleShows.{shown_nothing}
+use Rattle.tp_meaning.specs.Course.{blank, ◌⊕◌, shown_at}
+use Rattle.tp_meaning.specs.Examples.{counting, shown}
+use Rattle.tp_meaning.proofs.Shows.{join-blank}
+use Rattle.tp_meaning.proofs.ExampleShows.{spelled_is, nothing_first, shown_nothing, nothing_woven, nothing_listed}
 use Rattle.tp_meaning.proofs.ExampleProject.{piece_from, piece_shows, outer_shows, outer_holds, cuts_show}
 use Rattle.tp_meaning.proofs.examples.project_formulas.Goals as goal
 
@@ -11,3 +12,57 @@ returns-clause-holds c = ((λ k. k), 2, outer_shows, piece_from, (λ k. omega ar
 
 pub returns-clause-holds_on_one_state : goal.returns-clause-holds_on_one_state
 returns-clause-holds_on_one_state c = ((λ k. k), 0, blank, (λ j. blank), (λ k. omega arith), refl, refl, (λ j v. absurd (omega arith)), (num (pos 0), refl, refl, refl), sym (shown_nothing 0))
+
+pub returns-clause-names_change_with_the_cuts : goal.returns-clause-names_change_with_the_cuts
+returns-clause-names_change_with_the_cuts c = (
+  (λ j. num (pos j)),
+  tt,
+  (
+    blank,
+    blank,
+    (3, (λ i. blank), omega arith, (λ i u v. (num (pos i), refl, refl, refl)), refl),
+    (
+      blank,
+      blank,
+      (
+        (λ k. 2 * k),
+        1,
+        blank,
+        (λ j. blank),
+        (λ k. omega arith),
+        refl,
+        refl,
+        (λ j v. (2, refl, omega arith, refl)),
+        (omega arith, (num (pos 2), refl, refl, refl)),
+        nothing_woven 1 0 (λ k. 2 * k),
+      ),
+      refl,
+      refl,
+    ),
+    nothing_listed,
+  ),
+)
+
+pub returns-clause-names_of_the_outer_formula : goal.returns-clause-names_of_the_outer_formula
+returns-clause-names_of_the_outer_formula c = (
+  (λ k. 2 * k),
+  1,
+  shown_at 1 (shown 2 ∷ []),
+  (λ j. blank),
+  (λ k. omega arith),
+  refl,
+  refl,
+  (λ j v. (2, refl, omega arith, refl)),
+  (
+    (λ k. num (pos (2 * k))),
+    tt,
+    (
+      blank,
+      shown_at 1 (shown 2 ∷ []),
+      (2, (λ i. blank), omega arith, (λ i u v. (num (pos (2 * i)), refl, refl, refl)), refl),
+      (shown_at 1 (shown 2 ∷ []), blank, (omega arith, (shown 2, refl, refl)), refl, sym (join-blank (shown_at 1 (shown 2 ∷ [])))),
+      refl,
+    ),
+  ),
+  spelled_is ([] ∷ [] ∷ (shown 2 ∷ []) ∷ []) ∙ (λ i. shown_at 0 [] ⊕ nothing_first 1 (shown_at 2 (shown 2 ∷ [])) _ (join-blank (shown_at 2 (shown 2 ∷ []))) i),
+)

@@ -20,3 +20,6 @@ returns-clause-and_holds c = (
   (blank, shown_at 0 (shown 2 ∷ []) ⊕ blank, (num (pos 0), refl, refl, refl), (shown_at 0 (shown 2 ∷ []), blank, (shown 2, refl, refl), refl, refl), refl),
   spelled_is ((shown 1 ∷ shown 2 ∷ []) ∷ []) ∙ (λ i. shown_join 0 (shown 1 ∷ []) (shown 2 ∷ []) i ⊕ blank) ∙ join-assoc (shown_at 0 (shown 1 ∷ [])) (shown_at 0 (shown 2 ∷ [])) blank,
 )
+
+pub returns-clause-display_of_two_holds : goal.returns-clause-display_of_two_holds
+returns-clause-display_of_two_holds c = (num (pos 1) ∷ num (pos 2) ∷ [], refl, spelled_is (((num (pos 1) ∷ num (pos 2) ∷ []) ∷ []) ∷ []) ∙ join-blank (shown_at 0 ((num (pos 1) ∷ num (pos 2) ∷ []) ∷ [])))
