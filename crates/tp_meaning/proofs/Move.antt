@@ -1,7 +1,7 @@
 -- A part of a course may be moved, and what lies outside of it changed: a formula holds there as well.
 use Rattle.tp_meaning.specs.Inputs.{input_at}
-use Rattle.std.proofs.Common.{slice_get, ◌≡◌, ℤ, pos, ◌+ℤ◌, ℕ, zero, suc, ◌+◌, ◌-◌, ◌≤◌, ◌<◌, Bool, true, false, List, [], ◌∷◌, ◌++◌, Option, Some, None, refl, ap, sym, ◌∙◌, subst, arith, inl, inr, cond, eqb}
-use Rattle.std.proofs.lemmas.Bool.{cases_lt, cond_both, cond-true, eqb-true, eq-eqb, both_ways}
+use Rattle.std.proofs.Common.{slice_get, ◌≡◌, ℤ, pos, ◌+ℤ◌, ℕ, zero, suc, ◌+◌, ◌-◌, ◌≤◌, ◌<◌, Bool, true, false, List, [], ◌∷◌, ◌++◌, Option, Some, None, refl, ap, sym, ◌∙◌, subst, arith, inl, inr}
+use Rattle.std.proofs.lemmas.Bool.{cases_lt}
 use Rattle.tp_value.specs.Tree.{Tree, num}
 use Rattle.tp_meaning.specs.Syntax.{ExprTree, FormulaTree, trivial, test, equation, next_equation, empty, more, next, weak_next, if_more, if_empty, always, conjunction, branch, len, assign, chop, while, for_from, forall_from, project, exists, call, input, display, FormulaTrees, no_formula, formula_then}
 use Rattle.tp_meaning.specs.Course.{Part, State, Course, Shows, blank, ◌⊕◌, shown_at, total, woven, Rising}
@@ -11,7 +11,7 @@ use Rattle.tp_meaning.proofs.Rising.{rises_less}
 use Rattle.tp_meaning.specs.Moving.{MeaningMoved, EnvMoved, CourseMoved}
 use Rattle.tp_meaning.proofs.MoveValue.{MaybeAll, value_moved, values_moved, arguments_moved, calls_moved}
 
--- where places from `low` on go, and what is shown at them
+-- where the positions from `low` on go, and what is shown at them
 pub record Move : Type 0 where
   pub low : ℕ
   pub at : ℕ → ℕ
@@ -24,41 +24,6 @@ pub record Move : Type 0 where
 abbrev pub stay : Move
 stay = record { low = 0; at = λ j. j; step = λ j u. refl; push = λ S. S; push_blank = refl; push_join = λ S T. refl; push_at = λ a u vs. refl }
 
--- one place later
-abbrev pub later_shows : Shows → Shows
-later_shows S zero = []
-later_shows S (suc j) = S j
-
-pub later_blank_at : (j : ℕ) → later_shows blank j ≡ []
-later_blank_at zero = refl
-later_blank_at (suc j) = refl
-
-pub later_join_at : (S T : Shows) (j : ℕ) → later_shows (S ⊕ T) j ≡ (later_shows S ⊕ later_shows T) j
-later_join_at S T zero = refl
-later_join_at S T (suc j) = refl
-
-pub succ_eqb : (a : ℕ) (vs : List (List Tree)) (j : ℕ) → cond (eqb j a) vs [] ≡ cond (eqb (suc j) (suc a)) vs []
-succ_eqb a vs j = cond_both (eqb j a) vs [] (λ x. x ≡ cond (eqb (suc j) (suc a)) vs [])
-    (λ e. sym (cond-true (eqb (suc j) (suc a)) vs [] (eq-eqb (suc j) (suc a) (ap suc (eqb-true j a e)))))
-    (λ e. cond_both (eqb (suc j) (suc a)) vs [] (λ x. [] ≡ x) (λ y. absurd (let q = eqb-true (suc j) (suc a) y in let z : j ≡ a = omega (arith, q) in both_ways (eqb j a) e (eq-eqb j a z))) (λ _. refl))
-
-pub later_at_at : (a : ℕ) (vs : List (List Tree)) (j : ℕ) → later_shows (shown_at a vs) j ≡ shown_at (suc a) vs j
-later_at_at a vs zero = cond_both (eqb 0 (suc a)) vs [] (λ x. [] ≡ x) (λ e. absurd (let q = eqb-true 0 (suc a) e in omega (arith, q))) (λ _. refl)
-later_at_at a vs (suc j) = cond_both (eqb j a) vs [] (λ x. x ≡ cond (eqb (suc j) (suc a)) vs [])
-    (λ e. sym (cond-true (eqb (suc j) (suc a)) vs [] (eq-eqb (suc j) (suc a) (ap suc (eqb-true j a e)))))
-    (λ e. cond_both (eqb (suc j) (suc a)) vs [] (λ x. [] ≡ x) (λ y. absurd (let q = eqb-true (suc j) (suc a) y in let z : j ≡ a = omega (arith, q) in both_ways (eqb j a) e (eq-eqb j a z))) (λ _. refl))
-
-abbrev pub later_move : Move
-later_move = record {
-  low = 0;
-  at = suc;
-  step = λ j u. refl;
-  push = later_shows;
-  push_blank = λ i j. later_blank_at j i;
-  push_join = λ S T i j. later_join_at S T j i;
-  push_at = λ a u vs i j. later_at_at a vs j i;
-}
-
 module _ (M : Move) where
   pub at_sum : (k j : ℕ) → M.low ≤ j → M.at (k + j) ≡ k + M.at j
   at_sum zero j w = let e : 0 + j ≡ j = omega arith in ap M.at e ∙ (let z : M.at j ≡ 0 + M.at j = omega arith in z)
@@ -70,7 +35,7 @@ module _ (M : Move) where
   pub at_less : (a b : ℕ) → M.low ≤ a → a < b → M.at a < M.at b
   at_less a b w h = let q = at_le (suc a) b (omega arith) h in let s = M.step a w in omega (arith, q, s)
 
-  -- the place that goes to a place from `at a` on
+  -- the position that goes to a position from `at a` on
   abbrev pub origin : ℕ → ℕ → ℕ
   origin a j = (j - M.at a) + a
 
@@ -118,7 +83,7 @@ append_moved f a b [] (y ∷ ys) m n h k = elim h [ ]
 append_moved f a b (x ∷ xs) [] m n h k = elim h [ ]
 append_moved f a b (x ∷ xs) (y ∷ ys) m n h k = (h.0, append_moved f a b xs ys m n h.1 k)
 
--- at cuts, which go where their places go
+-- at cuts, which go where their positions go
 cuts_one : (f : ℕ → ℕ) (a b k l : ℕ) (c : ℕ → ℕ) → ((j : ℕ) → k ≤ j → j ≤ l → (a ≤ c j) × (c j ≤ b)) → (m n : Meaning) → MeaningMoved f a b m n → MeaningMoved (λ j. j) k l (meaning_at_cuts c m) (meaning_at_cuts (λ j. f (c j)) n)
 cuts_one f a b k l c r (fixed t) (fixed t') h = h
 cuts_one f a b k l c r (fixed t) (varying g) h = elim h [ ]

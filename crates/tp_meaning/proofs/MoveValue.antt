@@ -1,4 +1,4 @@
--- The value of an expression at a place depends on the state, and on what is bound, at that place alone.
+-- The value of an expression at a position depends on the state, and on what is bound, at that position alone.
 use Rattle.std.proofs.Common.{◌≡◌, ℤ, pos, ℕ, zero, suc, ◌≤◌, Bool, true, false, not, List, [], ◌∷◌, length, Option, Some, None, refl, ap, sym, subst, slice_get, if◌then◌else◌}
 use Rattle.std.specs.Prelude.{neg_ℤ}
 use Rattle.tp_value.specs.Tree.{Tree, num, truth, list, of_items}

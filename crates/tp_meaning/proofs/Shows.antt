@@ -7,9 +7,6 @@ use Rattle.tp_meaning.specs.Course.{Shows, blank, ◌⊕◌, shown_at, total}
 pub join-blank : (S : Shows) → S ⊕ blank ≡ S
 join-blank S = λ i j. append-nil (S j) i
 
-pub blank-join : (S : Shows) → blank ⊕ S ≡ S
-blank-join S = refl
-
 pub join-assoc : (S T U : Shows) → (S ⊕ T) ⊕ U ≡ S ⊕ (T ⊕ U)
 join-assoc S T U = λ i j. append_assoc (S j) (T j) (U j) i
 

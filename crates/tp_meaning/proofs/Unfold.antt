@@ -163,20 +163,17 @@ forall_unfolds name k e f n = record {
 same_length : (m n : ℕ) → Some (num (pos m)) ≡ Some (num (pos n)) → m ≡ n
 same_length m n e = cc
 
-pub len_unfolds : LenUnfolds
-len_unfolds e = (
-  (λ w d env s a b S le v. (
+pub len_unfolds : (e : ExprTree) → LenUnfolds e
+len_unfolds e = record {
+  ends = λ w d env s a b S le v. (
     (λ h. let m = same_length h.0 0 (sym h.1 ∙ v) in let e = h.2 in (omega arith, h.3)),
     (λ g. let e = g.0 in (0, v, omega arith, g.1)),
-  )),
-  (λ k w d env s a b S le v. (
+  );
+  goes = λ k w d env s a b S le v. (
     (λ h. let m = same_length h.0 (suc k) (sym h.1 ∙ v) in let e = h.2 in (omega arith, (k, refl, omega arith, h.3))),
     (λ g. let m = same_length k g.1.0 g.1.1 in let e = g.1.2 in (suc k, v, omega arith, g.1.3)),
-  )),
-)
-
-same_value : (u v : Tree) → Some u ≡ Some v → u ≡ v
-same_value u v e = cc
+  );
+}
 
 -- under so many `next`, an equation with a known value
 module _ (w : Context) (d : ℕ) (env : Env) (s : Course) (t : ExprTree) (v : Tree) where

@@ -9,53 +9,55 @@ use Rattle.tp_meaning.specs.Holds.{Context, Holds, Joined, Chopped, env_at_cuts}
 use Rattle.tp_meaning.specs.Derived.{fin_of}
 use Rattle.tp_meaning.specs.Direct.{DirectMeaning, Means, ValueIs}
 
--- what a formula says
-abbrev pub Says : FormulaTree → DirectMeaning
-Says f w d env s a b S = Holds w d f env s a b S
+-- what f says
+abbrev pub SaidBy : FormulaTree → DirectMeaning
+SaidBy f w d env s a b S = Holds w d f env s a b S
 
 -- always(f): f now, and always(f) from the next state on
 abbrev pub AlwaysUnfolds : Type 0
-AlwaysUnfolds = (f : FormulaTree) → Means (always f) (Says (conjunction (formulas_of (f ∷ weak_next (always f) ∷ []))))
+AlwaysUnfolds = (f : FormulaTree) → Means (always f) (SaidBy (conjunction (formulas_of (f ∷ weak_next (always f) ∷ []))))
 
 -- a loop: where e is true, a turn of length 1 or more and then the loop again; else the end
 abbrev pub WhileUnfolds : Type 0
-WhileUnfolds = (e : ExprTree) (f : FormulaTree) → Means (while e f) (Says (branch e (chop (conjunction (formulas_of (f ∷ more ∷ []))) (while e f)) empty))
+WhileUnfolds = (e : ExprTree) (f : FormulaTree) → Means (while e f) (SaidBy (branch e (chop (conjunction (formulas_of (f ∷ more ∷ []))) (while e f)) empty))
 
 -- The formula says what M says wherever e has the value v in the first state.
 abbrev pub MeansWhere : FormulaTree → ExprTree → Tree → DirectMeaning → Type 0
 MeansWhere f e v M = (w : Context) (d : ℕ) (env : Env) (s : Course) (a b : ℕ) (S : Shows) → a ≤ b → ValueIs w d env s e a v → Holds w d f env s a b S ↔ M w d env s a b S
 
 -- what f says with the number k bound last
-abbrev pub SaysWith : ℤ → FormulaTree → DirectMeaning
-SaysWith k f w d env s a b S = Holds w d f (env ++ fixed (num k) ∷ []) s a b S
+abbrev pub SaidWith : ℤ → FormulaTree → DirectMeaning
+SaidWith k f w d env s a b S = Holds w d f (env ++ fixed (num k) ∷ []) s a b S
 
 -- a loop of turns numbered from k to below n: the turn k, and then the loop from k + 1 on
 pub record ForUnfolds (name : List ℕ) (k : ℤ) (e : ExprTree) (f : FormulaTree) (n : ℤ) : Type 0 where
-  pub ends : n ≤ℤ k → MeansWhere (for_from name k e f) e (num n) (Says empty)
+  pub ends : n ≤ℤ k → MeansWhere (for_from name k e f) e (num n) (SaidBy empty)
   pub turns : k <ℤ n → MeansWhere (for_from name k e f) e (num n)
-      (λ w d env s. Chopped (SaysWith k f w d env s) (Says (for_from name (k +ℤ pos 1) (numeral n) f) w d env s))
+      (λ w d env s. Chopped (SaidWith k f w d env s) (SaidBy (for_from name (k +ℤ pos 1) (numeral n) f) w d env s))
 
 -- the instances numbered from k to below n: that of k, and those from k + 1 on
 pub record ForallUnfolds (name : List ℕ) (k : ℤ) (e : ExprTree) (f : FormulaTree) (n : ℤ) : Type 0 where
   pub ends : n ≤ℤ k → MeansWhere (forall_from name k e f) e (num n) (λ w d env s a b S. S ≡ blank)
   pub goes : k <ℤ n → MeansWhere (forall_from name k e f) e (num n)
-      (λ w d env s. Joined (SaysWith k f w d env s) (Says (forall_from name (k +ℤ pos 1) (numeral n) f) w d env s))
+      (λ w d env s. Joined (SaidWith k f w d env s) (SaidBy (forall_from name (k +ℤ pos 1) (numeral n) f) w d env s))
 
 -- a length of 0, and one of k + 1
-abbrev pub LenUnfolds : Type 0
-LenUnfolds = (e : ExprTree) → MeansWhere (len e) e (num (pos 0)) (Says empty) × ((k : ℕ) → MeansWhere (len e) e (num (pos (suc k))) (Says (next (len (numeral (pos k))))))
+pub record LenUnfolds (e : ExprTree) : Type 0 where
+  pub ends : MeansWhere (len e) e (num (pos 0)) (SaidBy empty)
+  pub goes : (k : ℕ) → MeansWhere (len e) e (num (pos (suc k))) (SaidBy (next (len (numeral (pos k)))))
 
 -- under n times `next`
 abbrev pub nexts : ℕ → FormulaTree → FormulaTree
 nexts zero f = f
 nexts (suc n) f = next (nexts n f)
 
--- the value now is that of t in the n-th state from now, and in the last state
+-- t has the value v of e in the n-th state from now
 abbrev pub NextEquationUnfolds : Type 0
-NextEquationUnfolds = (n : ℕ) (t e : ExprTree) (v : Tree) → MeansWhere (next_equation n t e) e v (Says (nexts n (equation t (known v))))
+NextEquationUnfolds = (n : ℕ) (t e : ExprTree) (v : Tree) → MeansWhere (next_equation n t e) e v (SaidBy (nexts n (equation t (known v))))
 
+-- t has the value v of e in the last state
 abbrev pub AssignUnfolds : Type 0
-AssignUnfolds = (t e : ExprTree) (v : Tree) → MeansWhere (assign t e) e v (Says (fin_of (equation t (known v))))
+AssignUnfolds = (t e : ExprTree) (v : Tree) → MeansWhere (assign t e) e v (SaidBy (fin_of (equation t (known v))))
 
 -- an input is an equation with the value that the table has for the state's own number
 abbrev pub InputUnfolds : Type 0

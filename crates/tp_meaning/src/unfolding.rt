@@ -25,7 +25,7 @@ pub fn forall_unfolds()
 
 /// `len(e)`: the end, or one state less from the next state on.
 pub fn len_unfolds()
-    ensures { LenUnfolds }
+    ensures { (e : ExprTree) → LenUnfolds e }
 {}
 
 /// `next .. next t = e`: an equation with a known value in a later state.

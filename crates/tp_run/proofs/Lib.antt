@@ -4,3 +4,9 @@ mod Steps
 mod PassLemmas
 mod SettleLemmas
 mod RunLemmas
+mod Numbers
+mod StepMeans
+mod KeepsLemmas
+mod FitsLemmas
+mod AnswerMeans
+pub mod HistoryLemmas

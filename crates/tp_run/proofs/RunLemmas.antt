@@ -1,5 +1,5 @@
 -- What can run goes on to run, with less to do.
-use Rattle.std.proofs.Common.{◌≡◌, ℕ, zero, suc, ◌+◌, ◌<◌, Bool, true, false, not, IsTrue, List, [], ◌∷◌, ◌++◌, length, take, map, Option, None, Some, refl, ap, sym, ◌∙◌, subst, arith}
+use Rattle.std.proofs.Common.{◌≡◌, ℕ, zero, suc, ◌+◌, ◌<◌, false, List, [], ◌∷◌, ◌++◌, length, take, map, Option, None, Some, refl, ap, sym, ◌∙◌, subst, arith}
 use Rattle.std.proofs.Math.ListN.{length-set}
 use Rattle.std.proofs.lemmas.List.{length-map}
 use Rattle.tp_value.specs.declared.path.VarId.{VarId}
@@ -9,7 +9,7 @@ use Rattle.tp_run.specs.Residual.{Duty, Do, Later, formula_in, Known, Residual}
 use Rattle.tp_run.specs.Rules.{Setting}
 use Rattle.tp_run.specs.Picks.{Picks, known_after, SettledToGo}
 use Rattle.tp_run.specs.Tries.{AllBuiltOver, AllBuiltKinds}
-use Rattle.tp_run.specs.Ready.{IsRunnable}
+use Rattle.tp_run.specs.Ready.{IsRunnable, AllDue, IsFresh}
 use Rattle.tp_run.specs.declared.turn.Turn.{Turn}
 use Rattle.tp_run.specs.declared.turn.Turn.TheVariants.{Went, Finished, Contradictory, Undetermined, Over}
 use Rattle.tp_run.specs.declared.turn.Picture.{Picture}
@@ -57,13 +57,14 @@ pub advanced_lighter : (n : ℕ) (r s : Residual) → Picks n r s → SettledToG
 advanced_lighter zero r s p g unmarked = absurd (let same : s.goes ≡ r.goes = ap (λ (t : Residual). t.goes) p in let goes = g.goes in cc)
 advanced_lighter (suc n) r s p g unmarked = omega (arith, due_weight s.duties, picks_lighter (suc n) r s p)
 
-not_true : (b : Bool) → IsTrue (not b) → b ≡ false
-not_true true h = absurd (cc)
-not_true false h = refl
+all_due : (ds : List Duty) → AllDue (map due_next ds)
+all_due [] = tt
+all_due (Do w ∷ ds) = all_due ds
+all_due (Later w ∷ ds) = all_due ds
 
-pub becomes_less : (n : ℕ) (r : Residual) (old new : Picture) (standing : Standing) (turn : Turn) → IsTrue (not r.goes) → StateBecomes n r old new standing turn → LessToDo (open_at r) standing turn
+pub becomes_less : (n : ℕ) (r : Residual) (old new : Picture) (standing : Standing) (turn : Turn) → r.goes ≡ false → StateBecomes n r old new standing turn → LessToDo (open_at r) standing turn
 becomes_less n r old new standing Went unmarked b =
-    subst (λ (z : Standing). LessToDo (open_at r) z Went) (sym b.becomes.2) (advanced_lighter b.count r b.at b.picks b.becomes.0 (not_true r.goes unmarked))
+    subst (λ (z : Standing). LessToDo (open_at r) z Went) (sym b.becomes.2) (advanced_lighter b.count r b.at b.picks b.becomes.0 unmarked)
 becomes_less n r old new standing (Finished length) unmarked b = tt
 becomes_less n r old new standing (Contradictory state clash) unmarked b = tt
 becomes_less n r old new standing (Undetermined state cell) unmarked b = tt
@@ -73,3 +74,6 @@ pub nothing_more : {A : Type 0} (xs : List A) (i : ℕ) → i < length xs → no
 nothing_more [] i h = absurd (omega arith)
 nothing_more (x ∷ xs) zero h = refl
 nothing_more (x ∷ xs) (suc i) h = ap (λ (k : Known). None ∷ k) (nothing_more xs i (omega arith)) ∙ ap (λ n. nothing_known (take n (x ∷ xs))) (let next : suc (i + 1) ≡ suc i + 1 = omega arith in next)
+
+pub advanced_fresh : (r : Residual) → IsFresh (advanced r)
+advanced_fresh r = record { due = all_due r.duties; no_end = refl; no_next = refl }

@@ -4,9 +4,10 @@ use Rattle.std.specs.Ordering.{int_eq}
 use Rattle.tp_value.specs.declared.path.VarId.{VarId}
 use Rattle.tp_meaning.specs.Syntax.{ExprTree, numeral, FormulaTree, FormulaTrees, no_formula, formula_then, equation, next_equation, empty, more, next, conjunction}
 use Rattle.tp_kernel.specs.Built.{IsBuiltOver, AreBuiltOver}
+use Rattle.tp_meaning.specs.Unfolding.{nexts}
 use Rattle.tp_run.specs.declared.turn.Clash.TheVariants.{Facts, False}
 use Rattle.tp_run.specs.Residual.{Duty, Do, Later, formula_in, Known, kept}
-use Rattle.tp_run.specs.Rules.{Found, value, waits_for, over, unbuilt, Outcome, becomes, waits, rests, clashes, passes, not_built, nothing, set_variable, fact_of, meets, both_wait, equate, ending, going, carried, under_nexts, each_do, reduction, outcome_of, found_in, variable_in}
+use Rattle.tp_run.specs.Rules.{Found, value, waits_for, over, unbuilt, Outcome, becomes, waits, rests, clashes, passes, not_built, nothing, set_variable, fact_of, meets, both_wait, equate, ending, going, carried, each_do, reduction, outcome_of, found_in, variable_in}
 use Rattle.tp_run.specs.Weight.{size_of, sizes_of, weight_of}
 use Rattle.tp_run.specs.Tries.{AllBuiltOver}
 
@@ -62,13 +63,13 @@ going_leaves : (Q : List Duty → Type 0) (ends : Bool) (ds : List Duty) → Q d
 going_leaves Q true ds q = tt
 going_leaves Q false ds q = q
 
-carried_leaves : (Q : List Duty → Type 0) (ends : Bool) (n : ℕ) (t : ExprTree) (f : Found) → ((v : ℤ) → Q (Later (under_nexts (n - 1) (equation t (numeral v))) ∷ [])) → IfBecomes Q (carried ends n t f)
+carried_leaves : (Q : List Duty → Type 0) (ends : Bool) (n : ℕ) (t : ExprTree) (f : Found) → ((v : ℤ) → Q (Later (nexts (n - 1) (equation t (numeral v))) ∷ [])) → IfBecomes Q (carried ends n t f)
 carried_leaves Q ends n t (value v) q = going_leaves Q ends _ (q v)
 carried_leaves Q ends n t (waits_for x) q = tt
 carried_leaves Q ends n t over q = tt
 carried_leaves Q ends n t unbuilt q = tt
 
-size_under : (n : ℕ) (w : FormulaTree) → size_of (under_nexts n w) ≡ n + size_of w
+size_under : (n : ℕ) (w : FormulaTree) → size_of (nexts n w) ≡ n + size_of w
 size_under zero w = omega arith
 size_under (suc n) w = omega (arith, size_under n w)
 
@@ -90,7 +91,7 @@ pub duty_lighter : (ends goes : Bool) (k : Known) (d : Duty) → IfBecomes (λ d
 duty_lighter ends goes k (Do w) = formula_lighter ends goes k w
 duty_lighter ends goes k (Later w) = tt
 
-built_under : (P : VarId → Type 0) (n : ℕ) (w : FormulaTree) → IsBuiltOver P w → IsBuiltOver P (under_nexts n w)
+built_under : (P : VarId → Type 0) (n : ℕ) (w : FormulaTree) → IsBuiltOver P w → IsBuiltOver P (nexts n w)
 built_under P zero w h = h
 built_under P (suc n) w h = built_under P n w h
 

@@ -9,3 +9,6 @@ pub mod Settles
 pub mod Ready
 pub mod ReadyProps
 pub mod Runs
+pub mod StandsFor
+pub mod Meaning
+pub mod History

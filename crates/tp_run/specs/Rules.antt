@@ -1,5 +1,5 @@
 -- What each item of a residual becomes.
-use Rattle.std.specs.Prelude.{ℤ, ◌+ℤ◌, ℕ, zero, suc, ◌-◌, Bool, true, false, List, [], ◌∷◌, Option, None, Some, if◌then◌else◌}
+use Rattle.std.specs.Prelude.{ℤ, ◌+ℤ◌, ℕ, ◌-◌, Bool, true, false, List, [], ◌∷◌, Option, None, Some, if◌then◌else◌}
 use Rattle.std.specs.Ordering.{int_eq}
 use Rattle.tp_value.specs.Number.{is_within_limit}
 use Rattle.tp_value.specs.declared.path.VarId.{VarId}
@@ -7,6 +7,7 @@ use Rattle.tp_value.specs.declared.path.Path.{Path}
 use Rattle.tp_value.specs.declared.path.Fact.{Fact}
 use Rattle.tp_value.specs.declared.value.Shape.TheVariants.{Num}
 use Rattle.tp_meaning.specs.Syntax.{Equal, Differs, Less, LessEqual, Greater, GreaterEqual, Plus, Minus, Times, Div, Mod, ExprTree, numeral, boolean, known, bound, global, listing, size, index, minus, negation, both, either, binary, choice, invoke, FormulaTree, FormulaTrees, no_formula, formula_then, trivial, test, equation, next_equation, empty, more, next, weak_next, if_more, if_empty, always, conjunction, branch, len, assign, chop, while, for_from, forall_from, project, exists, call, input, display}
+use Rattle.tp_meaning.specs.Unfolding.{nexts}
 use Rattle.tp_kernel.specs.declared.formula.LimitKind.{LimitKind}
 use Rattle.tp_kernel.specs.declared.formula.LimitKind.TheVariants as limit
 use Rattle.tp_run.specs.declared.turn.Cell.{Cell}
@@ -159,13 +160,9 @@ abbrev pub going : (ends : Bool) → List Duty → Outcome
 going true duties = clashes (Marks 0)
 going false duties = becomes duties goes_on None
 
-abbrev pub under_nexts : ℕ → FormulaTree → FormulaTree
-under_nexts zero w = w
-under_nexts (suc n) w = next (under_nexts n w)
-
 -- The number of e now is t's number in a later state.
 abbrev pub carried : (ends : Bool) → ℕ → ExprTree → Found → Outcome
-carried ends n t (value v) = going ends (Later (under_nexts (n - 1) (equation t (numeral v))) ∷ [])
+carried ends n t (value v) = going ends (Later (nexts (n - 1) (equation t (numeral v))) ∷ [])
 carried ends n t (waits_for x) = waits (cell_of x) None
 carried ends n t over = passes limit.Number
 carried ends n t unbuilt = not_built

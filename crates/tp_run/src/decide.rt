@@ -4,8 +4,9 @@ ghost use Rattle.std.specs.Option.{option_map};
 ghost use Rattle.tp_meaning.specs.Syntax.{equation, numeral};
 ghost use Rattle.tp_kernel.specs.Read.{expr_tree, formula_tree, formula_trees};
 ghost use Rattle.tp_kernel.specs.Built.{HasSumKinds, HasBuiltKinds};
+ghost use Rattle.tp_meaning.specs.Unfolding.{nexts};
 ghost use Rattle.tp_run.specs.Residual.{duty_of, duties_of, formula_in};
-ghost use Rattle.tp_run.specs.Rules.{found_in, set_variable, meets, both_wait, equate, variable_in, ending, going, carried, under_nexts, each_do, reduction, outcome_of, cell_of as cell_at, fact_of as fact_at, path_of as path_at, nothing as becomes_nothing};
+ghost use Rattle.tp_run.specs.Rules.{found_in, set_variable, meets, both_wait, equate, variable_in, ending, going, carried, each_do, reduction, outcome_of, cell_of as cell_at, fact_of as fact_at, path_of as path_at, nothing as becomes_nothing};
 ghost use Rattle.tp_run.specs.Answers.{found_of, decided};
 
 use crate::evaluate::{Found, evaluate, kept_number};
@@ -214,11 +215,11 @@ fn one(alloc: Global, item: Item) -> Result<Vec<Item>, NoMemory>
 }
 
 // The formula under so many `next`.
-fn under(alloc: Global, nexts: u32, formula: Formula) -> Result<Rc<Formula>, NoMemory>
-    ensures { IfOk result (λ w. formula_tree w.value ≡ under_nexts nexts (formula_tree formula)) }
+fn under(alloc: Global, count: u32, formula: Formula) -> Result<Rc<Formula>, NoMemory>
+    ensures { IfOk result (λ w. formula_tree w.value ≡ nexts count (formula_tree formula)) }
 {
     let mut whole = Rc::new(alloc, formula)?;
-    for _ in 0..nexts {
+    for _ in 0..count {
         whole = Rc::new(alloc, Formula::Next(whole))?;
     }
     Ok(whole)

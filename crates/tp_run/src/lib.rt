@@ -4,11 +4,13 @@
 mod closure;
 mod decide;
 mod evaluate;
+mod laws;
 mod ready;
 mod run;
 mod scene;
 mod settle;
 mod turn;
 
+pub use laws::{runs_advance, runs_mean};
 pub use run::Run;
 pub use turn::{Cell, Clash, Picture, Turn};

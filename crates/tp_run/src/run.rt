@@ -7,6 +7,7 @@ ghost use Rattle.tp_run.specs.Picks.{AtRest};
 ghost use Rattle.tp_run.specs.Ready.{IsRunnable};
 ghost use Rattle.tp_run.specs.States.{open_at, answered, spent, first_residual, nothing_known, picture_of, advanced, StateBecomes, RestBecomes};
 ghost use Rattle.tp_run.specs.Runs.{stands_at, standing_of, next_state_of, LessToDo, Answers};
+ghost use Rattle.tp_run.specs.Meaning.{BeginsWith, AnswerMeans};
 
 use crate::closure::{Ending, close};
 use crate::ready::Ready;
@@ -176,6 +177,7 @@ impl Run {
         requires { IsBuilt globals.now (formula_tree main.value) }
         ensures stand { IfOk result (λ run. standing_of run ≡ open_at (first_residual globals.now (formula_tree main.value))) }
         ensures state { IfOk result (λ run. next_state_of run ≡ 0) }
+        ensures stands { IfOk result (λ run. BeginsWith (formula_tree main.value) (standing_of run)) }
     {
         let scene = first_scene(alloc, main, globals)?;
         let ready = Ready { scene };
@@ -190,6 +192,7 @@ impl Run {
     /// stays. After want of memory the run answers nothing else.
     pub fn state(&mut self, picture: &mut Picture) -> Result<Turn, NoMemory>
         ensures made { IfOk result (λ turn. Answers (standing_of self.old) (next_state_of self.old) picture.old picture.new (standing_of self.new) (next_state_of self.new) turn) }
+        ensures means { IfOk result (AnswerMeans (standing_of self.old) (standing_of self.new) picture.new) }
         ensures less { IfOk result (LessToDo (standing_of self.old) (standing_of self.new)) }
         ensures err { OnErr result ((standing_of self.new ≡ spent) × (picture.new ≡ picture.old)) }
     {

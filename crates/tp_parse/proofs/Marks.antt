@@ -1,0 +1,72 @@
+-- Tests of marks, and what begins a phrase.
+use Rattle.std.proofs.Common.{◌≡◌, ◌≢◌, ℕ, ◌⊎◌, inl, inr, true, false, refl, sym, ap, ◌∙◌, rules}
+use denote.Enum.Bare.{same_true, same_false, true_same, false_same}
+use Rattle.tp_lex.specs.contracts.token.Word as word_type
+use Rattle.tp_lex.specs.contracts.token.Symbol as symbol_type
+use Rattle.tp_lex.specs.declared.token.Word.{Word}
+use Rattle.tp_lex.specs.declared.token.Word.TheVariants as word
+use Rattle.tp_lex.specs.declared.token.Symbol.{Symbol}
+use Rattle.tp_lex.specs.declared.token.Symbol.TheVariants as symbol
+use Rattle.tp_parse.specs.declared.mark.Mark.{Mark}
+use Rattle.tp_parse.specs.declared.mark.Mark.TheVariants as m
+use Rattle.tp_parse.specs.declared.mark.Start.TheVariants as s
+use Rattle.tp_parse.specs.Marks.{same, before, start_of}
+use Rattle.tp_parse.specs.Input.{half_mark}
+
+pub same_is : (a b : Mark) → same a b ≡ true → a ≡ b
+unfolding same
+same_is (m.Word v) (m.Word w) e = ap m.Word (same_true word_type.the_type (search rules) _ _ e)
+same_is (m.Symbol v) (m.Symbol w) e = ap m.Symbol (same_true symbol_type.the_type (search rules) _ _ e)
+same_is m.End m.End e = refl
+same_is m.Upper m.Upper e = refl
+same_is m.Lower m.Lower e = refl
+same_is m.Number m.Number e = refl
+same_is _ _ e = absurd cc
+
+pub same_yes : (a b : Mark) → a ≡ b → same a b ≡ true
+unfolding same
+same_yes (m.Word v) (m.Word w) e = let q : v ≡ w = cc in true_same word_type.the_type v w q
+same_yes (m.Symbol v) (m.Symbol w) e = let q : v ≡ w = cc in true_same symbol_type.the_type v w q
+same_yes m.End m.End e = refl
+same_yes m.Upper m.Upper e = refl
+same_yes m.Lower m.Lower e = refl
+same_yes m.Number m.Number e = refl
+same_yes _ _ e = absurd cc
+
+pub same_not : (a b : Mark) → same a b ≡ false → a ≢ b
+same_not a b e is = let yes = same_yes a b is in cc
+
+pub same_no : (a b : Mark) → a ≢ b → same a b ≡ false
+same_no a b not = elim (same a b) as (λ r. same a b ≡ r → r ≡ false) [ true ↦ λ e. absurd (not (same_is a b e)) | false ↦ λ e. refl ] refl
+
+-- what begins a primary is no operator before an operand
+word_start_plain : (w : Word) → start_of (m.Word w) ≢ s.Nothing → before (m.Word w) ≡ 0
+word_start_plain word.Not some = absurd (some refl)
+word_start_plain word.Next some = absurd (some refl)
+word_start_plain _ some = refl
+
+symbol_start_plain : (x : Symbol) → start_of (m.Symbol x) ≢ s.Nothing → before (m.Symbol x) ≡ 0
+symbol_start_plain symbol.Minus some = absurd (some refl)
+symbol_start_plain _ some = refl
+
+pub start_plain : (x : Mark) → start_of x ≢ s.Nothing → before x ≡ 0
+start_plain (m.Word w) some = word_start_plain w some
+start_plain (m.Symbol x) some = symbol_start_plain x some
+start_plain _ some = refl
+
+-- no phrase begins with the mark
+abbrev pub BeginsNone : Mark → Type 0
+BeginsNone x = (start_of x ≡ s.Nothing) × (before x ≡ 0)
+
+close_begins_none : (x : Symbol) → (half_mark (m.Symbol x) ≡ m.Symbol symbol.Greater) ⊎ (half_mark (m.Symbol x) ≡ m.Symbol symbol.CloseRound) → BeginsNone (m.Symbol x)
+close_begins_none symbol.Greater e = (refl, refl)
+close_begins_none symbol.GreaterEqual e = (refl, refl)
+close_begins_none symbol.CloseRound e = (refl, refl)
+close_begins_none _ (inl e) = absurd cc
+close_begins_none _ (inr e) = absurd cc
+
+-- no phrase begins where the end of a list or of operands in parentheses is due
+pub due_begins_none : (x : Mark) → (half_mark x ≡ m.Symbol symbol.Greater) ⊎ (half_mark x ≡ m.Symbol symbol.CloseRound) → BeginsNone x
+due_begins_none (m.Symbol x) e = close_begins_none x e
+due_begins_none _ (inl e) = absurd cc
+due_begins_none _ (inr e) = absurd cc

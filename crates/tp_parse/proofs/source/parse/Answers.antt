@@ -1,0 +1,32 @@
+use Rattle.std.proofs.Common.{◌≡◌, ◌≢◌, Result, Ok, Err, sym, ◌∙◌, IfOk, IfErr}
+use Rattle.tp_tree.specs.declared.phrase.Source.{Source}
+use Rattle.tp_tree.specs.Tree.{SourceTree}
+use Rattle.tp_tree.specs.Read.{source_tree}
+use Rattle.tp_parse.specs.declared.refusal.ParseRefusal.{ParseRefusal}
+use Rattle.tp_parse.specs.declared.refusal.ParseRefusal.TheVariants.{NoMemory}
+use Rattle.tp_parse.specs.Input.{Tokens}
+use Rattle.tp_parse.specs.Source.{outcome_of, IsOutcome}
+use Rattle.tp_parse.specs.Grammar.{Accepts}
+use Rattle.tp_parse.proofs.Exact.{read_accepted, accepted_read}
+use Rattle.tp_parse.proofs.source.parse.Goals as goal
+
+accepted : (ts : Tokens) (r : Result Source ParseRefusal) → IsOutcome (outcome_of ts) r → IfOk r (λ s. Accepts ts (source_tree s))
+accepted ts (Ok x) is = read_accepted ts (source_tree x) is
+accepted ts (Err e) is = tt
+
+only : (ts : Tokens) (r : Result Source ParseRefusal) → IsOutcome (outcome_of ts) r → IfOk r (λ s. (t : SourceTree) → Accepts ts t → t ≡ source_tree s)
+only ts (Ok x) is = λ t a. let read = accepted_read ts t a in cc
+only ts (Err e) is = tt
+
+refused : (ts : Tokens) (r : Result Source ParseRefusal) → IsOutcome (outcome_of ts) r → IfErr r (λ e. e ≢ NoMemory → (t : SourceTree) → ¬ Accepts ts t)
+refused ts (Ok x) is = tt
+refused ts (Err e) is = λ some t a. let refused_by = is some in let read = accepted_read ts t a in cc
+
+pub returns-clause-accepted : goal.returns-clause-accepted
+returns-clause-accepted c = accepted c.args.tokens.now c.outcome.result c.outcome.ensures
+
+pub returns-clause-only : goal.returns-clause-only
+returns-clause-only c = only c.args.tokens.now c.outcome.result c.outcome.ensures
+
+pub returns-clause-refused : goal.returns-clause-refused
+returns-clause-refused c = refused c.args.tokens.now c.outcome.result c.outcome.ensures

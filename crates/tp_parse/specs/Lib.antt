@@ -1,0 +1,7 @@
+pub mod Marks
+pub mod Input
+pub mod Found
+pub mod Grammar
+pub mod Head
+pub mod Reading
+pub mod Source

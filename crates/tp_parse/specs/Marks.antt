@@ -1,0 +1,173 @@
+-- What a token is without its text, and what it does in a phrase. Levels count up from the primaries, 0: index 1, prefix 2,
+-- product 3, sum 4, relation 5, `not` 6, `and` 7, `or` 8, `proj` 9, `;` 10.
+use Rattle.std.specs.Prelude.{ℕ, Bool, true, false, ◌==◌, if◌then◌else◌}
+use denote.Enum.Bare.{sameb}
+use Rattle.tp_lex.specs.declared.token.Kind.{Kind}
+use Rattle.tp_lex.specs.declared.token.Kind.TheVariants as kind
+use Rattle.tp_lex.specs.declared.token.Word.{Word}
+use Rattle.tp_lex.specs.declared.token.Word.TheVariants as word
+use Rattle.tp_lex.specs.declared.token.Symbol.{Symbol}
+use Rattle.tp_lex.specs.declared.token.Symbol.TheVariants as symbol
+use Rattle.tp_lex.specs.contracts.token.Word as word_type
+use Rattle.tp_lex.specs.contracts.token.Symbol as symbol_type
+use Rattle.tp_tree.specs.declared.operator.Op.TheVariants as op
+use Rattle.tp_tree.specs.declared.operator.Bare.TheVariants as bare
+use Rattle.tp_tree.specs.declared.operator.Form.TheVariants as form
+use Rattle.tp_parse.specs.declared.mark.Mark.{Mark}
+use Rattle.tp_parse.specs.declared.mark.Mark.TheVariants as m
+use Rattle.tp_parse.specs.declared.mark.Role.{Role}
+use Rattle.tp_parse.specs.declared.mark.Role.TheVariants.{Ends, Infix, Opens, Joins}
+use Rattle.tp_parse.specs.declared.mark.Way.TheVariants.{Left, Single, Right}
+use Rattle.tp_parse.specs.declared.mark.Enclosure.{Enclosure}
+use Rattle.tp_parse.specs.declared.mark.Enclosure.TheVariants.{Round, Curly, Size}
+use Rattle.tp_parse.specs.declared.mark.Start.{Start}
+use Rattle.tp_parse.specs.declared.mark.Start.TheVariants as s
+use Rattle.tp_parse.specs.declared.head.Listed.{Listed}
+use Rattle.tp_parse.specs.declared.head.Listed.TheVariants as listed
+use Rattle.tp_parse.specs.declared.head.Pair.{Pair}
+use Rattle.tp_parse.specs.declared.head.Pair.TheVariants as pair
+
+abbrev pub mark_of : Kind → Mark
+mark_of (kind.Upper t) = m.Upper
+mark_of (kind.Lower t) = m.Lower
+mark_of (kind.Number n) = m.Number
+mark_of (kind.Word w) = m.Word w
+mark_of (kind.Symbol s) = m.Symbol s
+
+-- whether two marks are one
+unfoldable pub same : Mark → Mark → Bool
+same (m.Word v) (m.Word w) = sameb word_type.the_type v w
+same (m.Symbol s) (m.Symbol t) = sameb symbol_type.the_type s t
+same m.End m.End = true
+same m.Upper m.Upper = true
+same m.Lower m.Lower = true
+same m.Number m.Number = true
+same _ _ = false
+
+-- Where `<` or `>` is due, `<-` and `>=` are read as two symbols; others stay whole.
+abbrev pub first_half : Symbol → Symbol
+first_half symbol.Arrow = symbol.Less
+first_half symbol.GreaterEqual = symbol.Greater
+first_half x = x
+
+abbrev pub second_half : Symbol → Symbol
+second_half symbol.Arrow = symbol.Minus
+second_half symbol.GreaterEqual = symbol.Equal
+second_half x = x
+
+-- the level of an operator before its operand, or 0
+abbrev pub before : Mark → ℕ
+before (m.Word word.Not) = 6
+before (m.Word word.Next) = 2
+before (m.Symbol symbol.Minus) = 2
+before _ = 0
+
+-- what a token does after an operand
+abbrev pub role_of : Mark → Role
+role_of (m.Symbol symbol.Semicolon) = Infix 10 Right op.Chop
+role_of (m.Word word.Proj) = Infix 9 Right op.Proj
+role_of (m.Word word.Or) = Infix 8 Left op.Or
+role_of (m.Word word.And) = Joins
+role_of (m.Symbol symbol.Equal) = Infix 5 Single op.Equal
+role_of (m.Symbol symbol.Differs) = Infix 5 Single op.Differs
+role_of (m.Symbol symbol.Less) = Infix 5 Single op.Less
+role_of (m.Symbol symbol.LessEqual) = Infix 5 Single op.LessEqual
+role_of (m.Symbol symbol.Greater) = Infix 5 Single op.Greater
+role_of (m.Symbol symbol.GreaterEqual) = Infix 5 Single op.GreaterEqual
+role_of (m.Word word.Gets) = Infix 5 Single op.Gets
+role_of (m.Symbol symbol.Arrow) = Infix 5 Single op.Arrow
+role_of (m.Symbol symbol.Becomes) = Infix 5 Single op.Becomes
+role_of (m.Symbol symbol.Plus) = Infix 4 Left op.Plus
+role_of (m.Symbol symbol.Minus) = Infix 4 Left op.Minus
+role_of (m.Symbol symbol.Times) = Infix 3 Left op.Times
+role_of (m.Word word.Div) = Infix 3 Left op.Div
+role_of (m.Word word.Mod) = Infix 3 Left op.Mod
+role_of (m.Symbol symbol.OpenSquare) = Opens
+role_of _ = Ends
+
+abbrev pub level_of : Role → ℕ
+level_of Ends = 0
+level_of (Infix level way o) = level
+level_of Opens = 1
+level_of Joins = 7
+
+-- what a token does after an operand at this level
+unfoldable pub role_at : ℕ → Mark → Role
+role_at level mark = if level_of (role_of mark) == level then role_of mark else Ends
+
+abbrev pub word_start : Word → Start
+word_start word.True = s.Truth true
+word_start word.False = s.Truth false
+word_start word.Empty = s.Bare bare.Empty
+word_start word.More = s.Bare bare.More
+word_start word.Skip = s.Bare bare.Skip
+word_start word.Always = s.Form form.Always
+word_start word.Keep = s.Form form.Keep
+word_start word.Fin = s.Form form.Fin
+word_start word.Halt = s.Form form.Halt
+word_start word.Stable = s.Form form.Stable
+word_start word.Sometimes = s.Form form.Sometimes
+word_start word.Len = s.Form form.Len
+word_start word.List = s.Form form.List
+word_start word.Input = s.Form form.Input
+word_start word.Display = s.Form form.Display
+word_start word.If = s.If
+word_start word.While = s.While
+word_start word.Repeat = s.Repeat
+word_start word.For = s.For
+word_start word.Forall = s.Forall
+word_start word.Exists = s.Exists
+word_start _ = s.Nothing
+
+abbrev pub symbol_start : Symbol → Start
+symbol_start symbol.OpenRound = s.Enclosed Round
+symbol_start symbol.OpenCurly = s.Enclosed Curly
+symbol_start symbol.Bar = s.Enclosed Size
+symbol_start symbol.Less = s.List
+symbol_start symbol.Arrow = s.List
+symbol_start symbol.Differs = s.EmptyList
+symbol_start _ = s.Nothing
+
+-- what a token begins where an operand is due
+abbrev pub start_of : Mark → Start
+start_of m.End = s.Nothing
+start_of m.Upper = s.Name
+start_of m.Lower = s.NameOrCall
+start_of m.Number = s.Number
+start_of (m.Word w) = word_start w
+start_of (m.Symbol x) = symbol_start x
+
+-- the levels of `;` and of sums
+abbrev pub chop : ℕ
+chop = 10
+
+abbrev pub sum : ℕ
+sum = 4
+
+abbrev pub comma : Mark
+comma = m.Symbol symbol.Comma
+
+-- the level of the operands, and the mark after them
+abbrev pub listed_level : Listed → ℕ
+listed_level listed.List = sum
+listed_level _ = chop
+
+abbrev pub listed_close : Listed → Mark
+listed_close listed.List = m.Symbol symbol.Greater
+listed_close _ = m.Symbol symbol.CloseRound
+
+abbrev pub enclosed_level : Enclosure → ℕ
+enclosed_level Size = sum
+enclosed_level _ = chop
+
+abbrev pub enclosed_close : Enclosure → Mark
+enclosed_close Round = m.Symbol symbol.CloseRound
+enclosed_close Curly = m.Symbol symbol.CloseCurly
+enclosed_close Size = m.Symbol symbol.Bar
+
+-- the mark between the operands
+abbrev pub middle : Pair → Mark
+middle pair.While = m.Word word.Do
+middle pair.Repeat = m.Word word.Until
+middle (pair.For x) = m.Word word.Do
+middle (pair.Forall x) = m.Symbol symbol.Colon

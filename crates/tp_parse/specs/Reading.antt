@@ -1,0 +1,163 @@
+-- Phrases from tokens, from left to right.
+use Rattle.std.specs.Prelude.{ℕ, zero, suc, ◌-◌, Bool, if◌then◌else◌, ◌==◌, nat_le, List, [], ◌∷◌, length, true, false, Ok, Err}
+use Rattle.tp_lex.specs.declared.token.Word.TheVariants as word
+use Rattle.tp_lex.specs.declared.token.Symbol.TheVariants as symbol
+use Rattle.tp_tree.specs.declared.operator.Op.{Op}
+use Rattle.tp_parse.specs.declared.mark.Mark.{Mark}
+use Rattle.tp_parse.specs.declared.mark.Mark.TheVariants as m
+use Rattle.tp_parse.specs.declared.mark.Role.{Role}
+use Rattle.tp_parse.specs.declared.mark.Role.TheVariants.{Ends, Infix, Opens, Joins}
+use Rattle.tp_parse.specs.declared.mark.Way.{Way}
+use Rattle.tp_parse.specs.declared.mark.Way.TheVariants.{Left, Right}
+use Rattle.tp_parse.specs.declared.head.Head.{Head}
+use Rattle.tp_parse.specs.declared.head.Head.TheVariants as h
+use Rattle.tp_parse.specs.Marks.{before, role_at, start_of, same, chop, comma, listed_level, listed_close, enclosed_level, enclosed_close, middle}
+use Rattle.tp_parse.specs.Input.{Tokens, Reader, ◌>>=◌, pure, mark, from, refuse, too_deep, sees, due, take, past, expect, deepen}
+use Rattle.tp_parse.specs.Head.{head_by, admit, unfit}
+use Rattle.tp_parse.specs.Found.{Found, Operands, no_operand, operand_then, then_operand, operands_of, of_atom, of_operands, of_enclosed, of_choice, of_choice_else, of_pair, of_exists, of_prefix, of_infix, of_index, of_chain}
+
+abbrev pub operand_level : ℕ → Way → ℕ
+operand_level k Right = k
+operand_level k _ = k - 1
+
+-- whether more operators of the level may follow
+abbrev pub goes_on : Way → Bool
+goes_on Left = true
+goes_on _ = false
+
+-- the level at which the operator before the phrase stands, where it is no higher than k
+abbrev pub start_level : ℕ → Mark → ℕ
+start_level k x = if nat_le (before x) k then before x else 0
+
+-- whether an operator may stand after an operand of a height, where operands have this room
+unfoldable pub fits : ℕ → ℕ → Reader (Unit {0})
+fits zero left = too_deep
+fits (suc n) left = λ ts. if nat_le left (suc n) then Ok (tt, ts) else too_deep ts
+
+-- `inner` reads an operand of a level, and `room` is the greatest height that it may have
+module _ (inner : ℕ → Reader Found) (room : ℕ) where
+  -- a phrase, and the mark after it
+  unfoldable pub part : ℕ → Mark → Reader Found
+  part k close = do
+    a ← inner k
+    _closed ← expect close
+    pure a
+
+  -- the operands after those that were read, each after a separator
+  unfoldable pub others_from : ℕ → Mark → ℕ → Operands → Reader Operands
+  others_from k separator zero all = pure all
+  others_from k separator (suc n) all = λ ts. if sees separator ts then (do
+      _separator ← take
+      a ← inner k
+      others_from k separator n (then_operand all a)) ts else pure all ts
+
+  unfoldable pub others : ℕ → Mark → Found → Reader Operands
+  others k separator first = λ ts. others_from k separator (length ts) (operands_of (first.tree ∷ []) first.height) ts
+
+  -- any number of operands, with commas between them and the mark after them
+  unfoldable pub operands : ℕ → Mark → Reader Operands
+  operands k close = λ ts. if same (due ts) close then Ok (no_operand, past ts) else (do
+      first ← inner k
+      all ← others k comma first
+      _closed ← expect close
+      pure all) ts
+
+  -- after the first two parts
+  unfoldable pub else_part : ℕ → Found → Found → Reader Found
+  else_part at b p = λ ts. if sees (m.Word word.Else) ts then (do
+      _else ← take
+      q ← inner chop
+      pure (of_choice_else at b p q)) ts else pure (of_choice at b p) ts
+
+  unfoldable pub choice : ℕ → Reader Found
+  choice at = do
+    b ← part chop (m.Word word.Then)
+    p ← inner chop
+    else_part at b p
+
+  -- what follows a head
+  abbrev pub primary_by : ℕ → Head → Reader Found
+  primary_by at (h.Atom a) = pure (of_atom at a)
+  primary_by at (h.Listed l) = do
+    all ← operands (listed_level l) (listed_close l)
+    pure (of_operands at l all)
+  primary_by at (h.Enclosed e) = do
+    a ← part (enclosed_level e) (enclosed_close e)
+    pure (of_enclosed at e a)
+  primary_by at h.If = choice at
+  primary_by at (h.Paired p) = do
+    a ← part chop (middle p)
+    b ← inner chop
+    pure (of_pair at p a b)
+  primary_by at (h.Exists xs) = do
+    a ← inner chop
+    pure (of_exists at xs a)
+
+  unfoldable pub primary : Reader Found
+  primary = λ ts. (do
+    _admitted ← admit room (start_of (mark ts))
+    head ← head_by (start_of (mark ts))
+    primary_by (from ts) head) ts
+
+  unfoldable pub operated : ℕ → Way → Op → ℕ → Found → Reader Found
+  operated k way o at left = do
+    _fits ← fits room left.height
+    _operator ← take
+    right ← inner (operand_level k way)
+    pure (of_infix at o left right)
+
+  unfoldable pub indexed : ℕ → Found → Reader Found
+  indexed at left = do
+    _fits ← fits room left.height
+    _open ← take
+    i ← part chop (m.Symbol symbol.CloseSquare)
+    pure (of_index at left i)
+
+  unfoldable pub chained : ℕ → ℕ → Found → Reader Found
+  chained k at left = do
+    _fits ← fits room left.height
+    all ← others (k - 1) (m.Word word.And) left
+    pure (of_chain at all)
+
+  -- what goes on with an operand, and whether more may
+  abbrev pub turn_by : ℕ → ℕ → Found → Role → Reader (Found × Bool)
+  turn_by k at left Ends = pure (left, false)
+  turn_by k at left (Infix level way o) = operated k way o at left >>= λ x. pure (x, goes_on way)
+  turn_by k at left Opens = indexed at left >>= λ x. pure (x, true)
+  turn_by k at left Joins = chained k at left >>= λ x. pure (x, false)
+
+  unfoldable pub turn : ℕ → ℕ → Found → Reader (Found × Bool)
+  turn k at left = λ ts. turn_by k at left (role_at k (mark ts)) ts
+
+  unfoldable pub go : ℕ → ℕ → ℕ → Found → Reader Found
+  go k at zero left = pure left
+  go k at (suc n) left = do
+    x ← turn k at left
+    if x.1 then go k at n x.0 else pure x.0
+
+  unfoldable pub operations : ℕ → ℕ → Found → Reader Found
+  operations k at left = λ ts. go k at (length ts) left ts
+
+  unfoldable pub prefix : ℕ → Reader Found
+  prefix k = λ ts. (do
+    _deeper ← deepen room
+    _operator ← take
+    a ← inner k
+    pure (of_prefix (from ts) (mark ts) a)) ts
+
+  unfoldable pub level : ℕ → Reader Found → Reader Found
+  level k lower = λ ts. if before (mark ts) == k then prefix k ts else (lower >>= operations k (from ts)) ts
+
+  unfoldable pub levels : ℕ → Reader Found
+  levels zero = primary
+  levels (suc k) = level (suc k) (levels k)
+
+  -- a primary, or at another level an operator and its operand
+  unfoldable pub first : ℕ → Reader Found
+  first zero = primary
+  first (suc k) = prefix (suc k)
+
+-- a phrase of a level, no higher than the room
+unfoldable pub read : ℕ → ℕ → Reader Found
+read zero k = λ ts. Err (unfit k ts)
+read (suc room) k = levels (read room) room k

@@ -1,0 +1,216 @@
+// What a token is without its text, and what it does in a phrase. Levels count up from the primaries, 0: index 1, prefix 2,
+// product 3, sum 4, relation 5, `not` 6, `and` 7, `or` 8, `proj` 9, `;` 10.
+ghost use Rattle.std.specs.Prelude.{◌≡◌};
+ghost use Rattle.tp_parse.specs.Marks as spec;
+
+use tp_lex::{Kind, Symbol, Word};
+use tp_tree::{Bare, Form, Op};
+
+/// A token without its text, or the end of the tokens.
+#[derive(Clone, Copy, Debug, PartialEq, Eq)]
+pub enum Mark {
+    End,
+    Upper,
+    Lower,
+    Number,
+    Word(Word),
+    Symbol(Symbol),
+}
+
+/// How operators of one level group: to the left, not at all, or to the right.
+#[derive(Clone, Copy, Debug, PartialEq, Eq)]
+pub enum Way {
+    Left,
+    Single,
+    Right,
+}
+
+/// What a token does after an operand: nothing, an operator of a level, the `[` of an index, or the `and` of a chain.
+#[derive(Clone, Copy, Debug, PartialEq, Eq)]
+pub enum Role {
+    Ends,
+    Infix(u8, Way, Op),
+    Opens,
+    Joins,
+}
+
+/// Marks round one operand: `( )`, `{ }` and `| |`.
+#[derive(Clone, Copy, Debug, PartialEq, Eq)]
+pub enum Enclosure {
+    Round,
+    Curly,
+    Size,
+}
+
+/// What a token begins where an operand is due.
+#[derive(Clone, Copy, Debug, PartialEq, Eq)]
+pub enum Start {
+    Nothing,
+    Number,
+    /// A name that is no call.
+    Name,
+    /// A name, or a call where `(` follows.
+    NameOrCall,
+    Truth(bool),
+    Bare(Bare),
+    EmptyList,
+    List,
+    Form(Form),
+    Enclosed(Enclosure),
+    If,
+    While,
+    Repeat,
+    For,
+    Forall,
+    Exists,
+}
+
+pub fn mark_of(kind: &Kind) -> Mark
+    ensures { result ≡ spec.mark_of kind.now }
+{
+    match kind {
+        Kind::Upper(_) => Mark::Upper,
+        Kind::Lower(_) => Mark::Lower,
+        Kind::Number(_) => Mark::Number,
+        Kind::Word(word) => Mark::Word(*word),
+        Kind::Symbol(symbol) => Mark::Symbol(*symbol),
+    }
+}
+
+#[tactic(auto, unfolding(crate::specs::Marks::same))]
+pub fn same(a: Mark, b: Mark) -> bool
+    ensures { result ≡ spec.same a b }
+{
+    a == b
+}
+
+/// Where `<` or `>` is due, `<-` and `>=` are read as two symbols; others stay whole.
+pub fn first_half(symbol: Symbol) -> Symbol
+    ensures { result ≡ spec.first_half symbol }
+{
+    match symbol {
+        Symbol::Arrow => Symbol::Less,
+        Symbol::GreaterEqual => Symbol::Greater,
+        _ => symbol,
+    }
+}
+
+pub fn second_half(symbol: Symbol) -> Symbol
+    ensures { result ≡ spec.second_half symbol }
+{
+    match symbol {
+        Symbol::Arrow => Symbol::Minus,
+        Symbol::GreaterEqual => Symbol::Equal,
+        _ => symbol,
+    }
+}
+
+/// The level of an operator before its operand, or 0.
+pub fn before(mark: Mark) -> u8
+    ensures { result ≡ spec.before mark }
+{
+    match mark {
+        Mark::Word(Word::Not) => 6,
+        Mark::Word(Word::Next) => 2,
+        Mark::Symbol(Symbol::Minus) => 2,
+        _ => 0,
+    }
+}
+
+pub fn role_of(mark: Mark) -> Role
+    ensures { result ≡ spec.role_of mark }
+{
+    match mark {
+        Mark::Symbol(Symbol::Semicolon) => Role::Infix(10, Way::Right, Op::Chop),
+        Mark::Word(Word::Proj) => Role::Infix(9, Way::Right, Op::Proj),
+        Mark::Word(Word::Or) => Role::Infix(8, Way::Left, Op::Or),
+        Mark::Word(Word::And) => Role::Joins,
+        Mark::Symbol(Symbol::Equal) => Role::Infix(5, Way::Single, Op::Equal),
+        Mark::Symbol(Symbol::Differs) => Role::Infix(5, Way::Single, Op::Differs),
+        Mark::Symbol(Symbol::Less) => Role::Infix(5, Way::Single, Op::Less),
+        Mark::Symbol(Symbol::LessEqual) => Role::Infix(5, Way::Single, Op::LessEqual),
+        Mark::Symbol(Symbol::Greater) => Role::Infix(5, Way::Single, Op::Greater),
+        Mark::Symbol(Symbol::GreaterEqual) => Role::Infix(5, Way::Single, Op::GreaterEqual),
+        Mark::Word(Word::Gets) => Role::Infix(5, Way::Single, Op::Gets),
+        Mark::Symbol(Symbol::Arrow) => Role::Infix(5, Way::Single, Op::Arrow),
+        Mark::Symbol(Symbol::Becomes) => Role::Infix(5, Way::Single, Op::Becomes),
+        Mark::Symbol(Symbol::Plus) => Role::Infix(4, Way::Left, Op::Plus),
+        Mark::Symbol(Symbol::Minus) => Role::Infix(4, Way::Left, Op::Minus),
+        Mark::Symbol(Symbol::Times) => Role::Infix(3, Way::Left, Op::Times),
+        Mark::Word(Word::Div) => Role::Infix(3, Way::Left, Op::Div),
+        Mark::Word(Word::Mod) => Role::Infix(3, Way::Left, Op::Mod),
+        Mark::Symbol(Symbol::OpenSquare) => Role::Opens,
+        _ => Role::Ends,
+    }
+}
+
+/// What the token does at this level.
+#[tactic(auto, unfolding(crate::specs::Marks::role_at))]
+pub fn role_at(level: u8, mark: Mark) -> Role
+    ensures { result ≡ spec.role_at level mark }
+{
+    let role = role_of(mark);
+    let own = match role {
+        Role::Ends => 0,
+        Role::Infix(level, _, _) => level,
+        Role::Opens => 1,
+        Role::Joins => 7,
+    };
+    if own == level { role } else { Role::Ends }
+}
+
+pub fn start_of(mark: Mark) -> Start
+    ensures { result ≡ spec.start_of mark }
+{
+    match mark {
+        Mark::End => Start::Nothing,
+        Mark::Upper => Start::Name,
+        Mark::Lower => Start::NameOrCall,
+        Mark::Number => Start::Number,
+        Mark::Word(word) => word_start(word),
+        Mark::Symbol(symbol) => symbol_start(symbol),
+    }
+}
+
+fn word_start(word: Word) -> Start
+    ensures { result ≡ spec.word_start word }
+{
+    match word {
+        Word::True => Start::Truth(true),
+        Word::False => Start::Truth(false),
+        Word::Empty => Start::Bare(Bare::Empty),
+        Word::More => Start::Bare(Bare::More),
+        Word::Skip => Start::Bare(Bare::Skip),
+        Word::Always => Start::Form(Form::Always),
+        Word::Keep => Start::Form(Form::Keep),
+        Word::Fin => Start::Form(Form::Fin),
+        Word::Halt => Start::Form(Form::Halt),
+        Word::Stable => Start::Form(Form::Stable),
+        Word::Sometimes => Start::Form(Form::Sometimes),
+        Word::Len => Start::Form(Form::Len),
+        Word::List => Start::Form(Form::List),
+        Word::Input => Start::Form(Form::Input),
+        Word::Display => Start::Form(Form::Display),
+        Word::If => Start::If,
+        Word::While => Start::While,
+        Word::Repeat => Start::Repeat,
+        Word::For => Start::For,
+        Word::Forall => Start::Forall,
+        Word::Exists => Start::Exists,
+        _ => Start::Nothing,
+    }
+}
+
+fn symbol_start(symbol: Symbol) -> Start
+    ensures { result ≡ spec.symbol_start symbol }
+{
+    match symbol {
+        Symbol::OpenRound => Start::Enclosed(Enclosure::Round),
+        Symbol::OpenCurly => Start::Enclosed(Enclosure::Curly),
+        Symbol::Bar => Start::Enclosed(Enclosure::Size),
+        Symbol::Less => Start::List,
+        Symbol::Arrow => Start::List,
+        Symbol::Differs => Start::EmptyList,
+        _ => Start::Nothing,
+    }
+}

@@ -1,0 +1,369 @@
+// Phrases, read by recursive descent. `room` is the greatest height that a phrase, or each operand, may have.
+ghost use Rattle.std.specs.Prelude.{◌≡◌, ◌+◌, ◌≤◌, ◌<◌, ◌≢◌, ℕ, IfOk, OnOk};
+ghost use Rattle.tp_parse.specs.Marks as marks;
+ghost use Rattle.tp_parse.specs.Input as input;
+ghost use Rattle.tp_parse.specs.Input.{Reads};
+ghost use Rattle.tp_parse.specs.Found.{seen, turn_seen, all_seen};
+ghost use Rattle.tp_parse.specs.Reading as spec;
+
+use crate::head::{Head, enclosed_close, enclosed_level, listed_close, listed_level, middle};
+use crate::mark::{Mark, Role, Way, before, role_at, same, start_of};
+use crate::parser::Parser;
+use crate::phrases::{
+    Measured, Operands, of_atom, of_chain, of_choice, of_choice_else, of_enclosed, of_exists,
+    of_index, of_infix, of_operands, of_pair, of_prefix,
+};
+use crate::refusal::Refusal;
+use std::alloc::Global;
+use tp_lex::{Symbol, Word};
+use tp_tree::Op;
+
+/// The level of `;`, the weakest operator.
+pub const CHOP: u8 = 10;
+
+impl Parser<'_> {
+    /// A phrase of this level.
+    #[cycle(phrase)]
+    pub fn phrase(&mut self, alloc: Global, level: u8, room: u8) -> Result<Measured, Refusal>
+        requires { level ≤ 10 }
+        ensures reads { Reads seen (spec.read room level self.old) result self.new }
+        ensures low { IfOk result (λ r. r.height ≤ room) }
+    {
+        if room == 0 {
+            return Err(self.unfit(level));
+        }
+        let at = self.from();
+        let start = start_level(level, self.mark());
+        let mut left = self.first(alloc, start, room - 1)?;
+        for lower in start..level {
+            left = self.operations(alloc, lower + 1, room - 1, at, left)?;
+        }
+        Ok(left)
+    }
+
+    /// A primary, or a phrase with an operator before it, which is of this level.
+    #[cycle(phrase)]
+    #[tactic(auto, using(crate::proofs::Steps::first_above), unfolding(crate::specs::Reading::prefix))]
+    fn first(&mut self, alloc: Global, level: u8, room: u8) -> Result<Measured, Refusal>
+        requires low { level ≤ 10 }
+        requires own { 0 < level → marks.before (input.mark self.old) ≡ level }
+        ensures reads { Reads seen (spec.first (spec.read room) room level self.old) result self.new }
+        ensures low { IfOk result (λ r. r.height ≤ room + 1) }
+    {
+        if level == 0 {
+            return self.primary(alloc, room);
+        }
+        let at = self.from();
+        let mark = self.mark();
+        self.deepen(room)?;
+        self.take();
+        let operand = self.phrase(alloc, level, room)?;
+        Ok(of_prefix(alloc, at, mark, operand)?)
+    }
+
+    #[cycle(phrase)]
+    #[tactic(auto, unfolding(crate::specs::Reading::primary))]
+    fn primary(&mut self, alloc: Global, room: u8) -> Result<Measured, Refusal>
+        ensures reads { Reads seen (spec.primary (spec.read room) room self.old) result self.new }
+        ensures low { IfOk result (λ r. r.height ≤ room + 1) }
+    {
+        let at = self.from();
+        let start = start_of(self.mark());
+        self.admit(room, start)?;
+        let head = self.head(alloc, start)?;
+        self.primary_by(alloc, room, at, head)
+    }
+
+    /// The primary that begins with this head.
+    #[cycle(phrase)]
+    fn primary_by(
+        &mut self,
+        alloc: Global,
+        room: u8,
+        at: u32,
+        head: Head,
+    ) -> Result<Measured, Refusal>
+        ensures reads { Reads seen (spec.primary_by (spec.read room) room at head self.old) result self.new }
+        ensures low { IfOk result (λ r. r.height ≤ room + 1) }
+    {
+        match head {
+            Head::Atom(atom) => Ok(of_atom(alloc, at, atom)),
+            Head::Listed(listed) => {
+                let level = listed_level(&listed);
+                let close = listed_close(&listed);
+                let all = self.operands(alloc, level, close, room)?;
+                Ok(of_operands(at, listed, all))
+            }
+            Head::Enclosed(enclosure) => {
+                let level = enclosed_level(enclosure);
+                let operand = self.part(alloc, level, enclosed_close(enclosure), room)?;
+                Ok(of_enclosed(alloc, at, enclosure, operand)?)
+            }
+            Head::If => self.choice(alloc, room, at),
+            Head::Paired(pair) => {
+                let first = self.part(alloc, CHOP, middle(&pair), room)?;
+                let second = self.phrase(alloc, CHOP, room)?;
+                Ok(of_pair(alloc, at, pair, first, second)?)
+            }
+            Head::Exists(names) => {
+                let operand = self.phrase(alloc, CHOP, room)?;
+                Ok(of_exists(alloc, at, names, operand)?)
+            }
+        }
+    }
+
+    /// The condition and the parts of an `if`.
+    #[cycle(phrase)]
+    #[tactic(auto, unfolding(crate::specs::Reading::choice, crate::specs::Reading::else_part))]
+    fn choice(&mut self, alloc: Global, room: u8, at: u32) -> Result<Measured, Refusal>
+        ensures reads { Reads seen (spec.choice (spec.read room) room at self.old) result self.new }
+        ensures low { IfOk result (λ r. r.height ≤ room + 1) }
+    {
+        let condition = self.part(alloc, CHOP, Mark::Word(Word::Then), room)?;
+        let first = self.phrase(alloc, CHOP, room)?;
+        if self.sees(Mark::Word(Word::Else)) {
+            self.take();
+            let second = self.phrase(alloc, CHOP, room)?;
+            Ok(of_choice_else(alloc, at, condition, first, second)?)
+        } else {
+            Ok(of_choice(alloc, at, condition, first)?)
+        }
+    }
+
+    /// A phrase, and the mark after it.
+    #[cycle(phrase)]
+    #[tactic(auto, unfolding(crate::specs::Reading::part))]
+    fn part(
+        &mut self,
+        alloc: Global,
+        level: u8,
+        close: Mark,
+        room: u8,
+    ) -> Result<Measured, Refusal>
+        requires { level ≤ 10 }
+        ensures reads { Reads seen (spec.part (spec.read room) room level close self.old) result self.new }
+        ensures low { IfOk result (λ r. r.height ≤ room) }
+    {
+        let operand = self.phrase(alloc, level, room)?;
+        self.expect(close)?;
+        Ok(operand)
+    }
+
+    /// Any number of operands with commas between them, and the mark after them.
+    #[cycle(phrase)]
+    #[tactic(auto, unfolding(crate::specs::Reading::operands))]
+    fn operands(
+        &mut self,
+        alloc: Global,
+        level: u8,
+        close: Mark,
+        room: u8,
+    ) -> Result<Operands, Refusal>
+        requires { level ≤ 10 }
+        ensures reads { Reads all_seen (spec.operands (spec.read room) room level close self.old) result self.new }
+        ensures low { IfOk result (λ r. r.height ≤ room) }
+    {
+        if same(self.due(), close) {
+            self.pass();
+            return Ok(Operands {
+                items: Vec::new(alloc),
+                height: 0,
+            });
+        }
+        let first = self.phrase(alloc, level, room)?;
+        let all = self.others(alloc, level, Mark::Symbol(Symbol::Comma), room, first)?;
+        self.expect(close)?;
+        Ok(all)
+    }
+
+    /// The operand, and those after it, each after a separator.
+    #[cycle(phrase)]
+    fn others(
+        &mut self,
+        alloc: Global,
+        level: u8,
+        separator: Mark,
+        room: u8,
+        first: Measured,
+    ) -> Result<Operands, Refusal>
+        requires level { level ≤ 10 }
+        requires low { first.height ≤ room }
+        ensures reads { Reads all_seen (spec.others (spec.read room) room level separator (seen first) self.old) result self.new }
+        ensures low { IfOk result (λ r. r.height ≤ room) }
+    {
+        let mut height = first.height;
+        let mut items = Vec::new(alloc);
+        items.push(first.phrase)?;
+        for _turn in 0..self.remaining() {
+            if !self.sees(separator) {
+                return Ok(Operands { items, height });
+            }
+            self.take();
+            let next = self.phrase(alloc, level, room)?;
+            height = height.max(next.height);
+            items.push(next.phrase)?;
+        }
+        Ok(Operands { items, height })
+    }
+
+    /// The operand, and what goes on with it at this level.
+    #[cycle(phrase)]
+    fn operations(
+        &mut self,
+        alloc: Global,
+        level: u8,
+        room: u8,
+        at: u32,
+        first: Measured,
+    ) -> Result<Measured, Refusal>
+        requires level { (0 < level) × (level ≤ 10) }
+        requires low { first.height ≤ room + 1 }
+        ensures reads { Reads seen (spec.operations (spec.read room) room level at (seen first) self.old) result self.new }
+        ensures low { IfOk result (λ r. r.height ≤ room + 1) }
+    {
+        let mut left = first;
+        for _turn in 0..self.remaining() {
+            let (next, more) = self.turn(alloc, level, room, at, left)?;
+            left = next;
+            if !more {
+                return Ok(left);
+            }
+        }
+        Ok(left)
+    }
+
+    /// The operand with what comes next at this level, and whether more may come.
+    #[cycle(phrase)]
+    #[tactic(auto, unfolding(crate::specs::Reading::turn))]
+    fn turn(
+        &mut self,
+        alloc: Global,
+        level: u8,
+        room: u8,
+        at: u32,
+        left: Measured,
+    ) -> Result<(Measured, bool), Refusal>
+        requires level { (0 < level) × (level ≤ 10) }
+        requires low { left.height ≤ room + 1 }
+        ensures reads { Reads turn_seen (spec.turn (spec.read room) room level at (seen left) self.old) result self.new }
+        ensures low { IfOk result (λ r. r.0.height ≤ room + 1) }
+    {
+        match role_at(level, self.mark()) {
+            Role::Ends => Ok((left, false)),
+            Role::Infix(_, way, op) => {
+                let whole = self.operated(alloc, level, way, op, room, at, left)?;
+                Ok((whole, goes_on(way)))
+            }
+            Role::Opens => {
+                let whole = self.indexed(alloc, room, at, left)?;
+                Ok((whole, true))
+            }
+            Role::Joins => {
+                let whole = self.chained(alloc, level, room, at, left)?;
+                Ok((whole, false))
+            }
+        }
+    }
+
+    #[cycle(phrase)]
+    #[tactic(auto, unfolding(crate::specs::Reading::operated))]
+    fn operated(
+        &mut self,
+        alloc: Global,
+        level: u8,
+        way: Way,
+        op: Op,
+        room: u8,
+        at: u32,
+        left: Measured,
+    ) -> Result<Measured, Refusal>
+        requires { (0 < level) × (level ≤ 10) }
+        ensures reads { Reads seen (spec.operated (spec.read room) room level way op at (seen left) self.old) result self.new }
+        ensures low { IfOk result (λ r. r.height ≤ room + 1) }
+    {
+        self.fits(room, left.height)?;
+        self.take();
+        let right = self.phrase(alloc, operand_level(level, way), room)?;
+        Ok(of_infix(alloc, at, op, left, right)?)
+    }
+
+    #[cycle(phrase)]
+    #[tactic(auto, unfolding(crate::specs::Reading::indexed))]
+    fn indexed(
+        &mut self,
+        alloc: Global,
+        room: u8,
+        at: u32,
+        left: Measured,
+    ) -> Result<Measured, Refusal>
+        ensures reads { Reads seen (spec.indexed (spec.read room) room at (seen left) self.old) result self.new }
+        ensures low { IfOk result (λ r. r.height ≤ room + 1) }
+    {
+        self.fits(room, left.height)?;
+        self.take();
+        let index = self.part(alloc, CHOP, Mark::Symbol(Symbol::CloseSquare), room)?;
+        Ok(of_index(alloc, at, left, index)?)
+    }
+
+    #[cycle(phrase)]
+    #[tactic(auto, unfolding(crate::specs::Reading::chained))]
+    fn chained(
+        &mut self,
+        alloc: Global,
+        level: u8,
+        room: u8,
+        at: u32,
+        left: Measured,
+    ) -> Result<Measured, Refusal>
+        requires { (0 < level) × (level ≤ 10) }
+        ensures reads { Reads seen (spec.chained (spec.read room) room level at (seen left) self.old) result self.new }
+        ensures low { IfOk result (λ r. r.height ≤ room + 1) }
+    {
+        self.fits(room, left.height)?;
+        let all = self.others(alloc, level - 1, Mark::Word(Word::And), room, left)?;
+        Ok(of_chain(at, all))
+    }
+
+    /// Refuses the next token where one operand more can't go round the left one.
+    #[tactic(auto, unfolding(crate::specs::Reading::fits))]
+    fn fits(&self, room: u8, left: u32) -> Result<(), Refusal>
+        ensures reads { Reads (λ u. u) (spec.fits room left self.now) result self.now }
+        ensures low { OnOk result ((0 < room) × (left ≤ room)) }
+    {
+        if room == 0 || left > u32::from(room) {
+            return Err(self.too_deep());
+        }
+        Ok(())
+    }
+}
+
+/// The level at which the operator before the phrase stands, where it is no higher than `level`.
+fn start_level(level: u8, mark: Mark) -> u8
+    ensures value { result ≡ spec.start_level level mark }
+    ensures low { result ≤ level }
+    ensures own { 0 < result → marks.before mark ≡ result }
+    ensures others { (j : ℕ) → result ≤ j → j < level → marks.before mark ≢ j + 1 }
+{
+    let own = before(mark);
+    if own <= level { own } else { 0 }
+}
+
+fn operand_level(level: u8, way: Way) -> u8
+    requires { 0 < level }
+    ensures value { result ≡ spec.operand_level level way }
+    ensures within { result ≤ level }
+{
+    match way {
+        Way::Right => level,
+        _ => level - 1,
+    }
+}
+
+fn goes_on(way: Way) -> bool
+    ensures { result ≡ spec.goes_on way }
+{
+    match way {
+        Way::Left => true,
+        _ => false,
+    }
+}

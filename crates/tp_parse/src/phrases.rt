@@ -1,0 +1,241 @@
+// Phrases with their heights, and how they are made of their operands.
+ghost use Rattle.std.specs.Prelude.{◌≡◌, ◌<◌, IfOk, map};
+ghost use Rattle.tp_parse.specs.Found as spec;
+ghost use Rattle.tp_parse.specs.Found.{seen, all_seen};
+ghost use Rattle.tp_tree.specs.Read.{tree, kind_tree};
+ghost use Rattle.tp_tree.specs.Tree.{phrases_of};
+
+use crate::head::{Atom, Listed, Pair};
+use crate::mark::{Enclosure, Mark};
+use std::alloc::Global;
+use tp_lex::{Symbol, Word};
+use tp_tree::{Op, Phrase, PhraseKind, Phrases};
+use tp_value::{NoMemory, Texts};
+
+/// A phrase that was read, and its height with its parentheses.
+#[derive(Drop)]
+pub struct Measured {
+    pub phrase: Phrase,
+    pub height: u32,
+}
+
+/// Operands that were read, and the greatest of their heights.
+#[derive(Drop)]
+pub struct Operands {
+    pub items: Vec<Phrase>,
+    pub height: u32,
+}
+
+fn make(at: u32, kind: PhraseKind, height: u32) -> Measured
+    ensures { result ≡ record { phrase = record { at = at; kind = kind }; height = height } }
+{
+    Measured {
+        phrase: Phrase { at, kind },
+        height,
+    }
+}
+
+fn atom_kind(alloc: Global, atom: Atom) -> PhraseKind
+    ensures { kind_tree result ≡ spec.atom_kind atom }
+{
+    match atom {
+        Atom::Number(value) => PhraseKind::Number(value),
+        Atom::Truth(value) => PhraseKind::Truth(value),
+        Atom::Name(name) => PhraseKind::Name(name),
+        Atom::Bare(word) => PhraseKind::Bare(word),
+        Atom::EmptyList => PhraseKind::List(Phrases {
+            items: Vec::new(alloc),
+        }),
+    }
+}
+
+pub fn of_atom(alloc: Global, at: u32, atom: Atom) -> Measured
+    ensures { seen result ≡ spec.of_atom at atom }
+{
+    make(at, atom_kind(alloc, atom), 1)
+}
+
+fn listed_kind(listed: Listed, items: Vec<Phrase>) -> PhraseKind
+    ensures { kind_tree result ≡ spec.listed_kind listed (phrases_of (map tree items.items)) }
+{
+    let phrases = Phrases { items };
+    match listed {
+        Listed::List => PhraseKind::List(phrases),
+        Listed::Form(form) => PhraseKind::Form(form, phrases),
+        Listed::Call(name) => PhraseKind::Call(name, phrases),
+    }
+}
+
+pub fn of_operands(at: u32, listed: Listed, operands: Operands) -> Measured
+    requires { operands.height < 1000 }
+    ensures { seen result ≡ spec.of_operands at listed (all_seen operands) }
+{
+    let height = operands.height + 1;
+    make(at, listed_kind(listed, operands.items), height)
+}
+
+pub fn of_enclosed(
+    alloc: Global,
+    at: u32,
+    enclosure: Enclosure,
+    operand: Measured,
+) -> Result<Measured, NoMemory>
+    requires { operand.height < 1000 }
+    ensures { IfOk result (λ r. seen r ≡ spec.of_enclosed at enclosure (seen operand)) }
+{
+    let height = operand.height + 1;
+    match enclosure {
+        Enclosure::Size => {
+            let operand = Box::new(alloc, operand.phrase)?;
+            Ok(make(at, PhraseKind::Size(operand), height))
+        }
+        _ => Ok(Measured {
+            phrase: operand.phrase,
+            height,
+        }),
+    }
+}
+
+pub fn of_choice(
+    alloc: Global,
+    at: u32,
+    condition: Measured,
+    first: Measured,
+) -> Result<Measured, NoMemory>
+    requires { (condition.height < 1000) × (first.height < 1000) }
+    ensures { IfOk result (λ r. seen r ≡ spec.of_choice at (seen condition) (seen first)) }
+{
+    let height = condition.height.max(first.height) + 1;
+    let condition = Box::new(alloc, condition.phrase)?;
+    let first = Box::new(alloc, first.phrase)?;
+    Ok(make(at, PhraseKind::If(condition, first, None), height))
+}
+
+pub fn of_choice_else(
+    alloc: Global,
+    at: u32,
+    condition: Measured,
+    first: Measured,
+    second: Measured,
+) -> Result<Measured, NoMemory>
+    requires { (condition.height < 1000) × (first.height < 1000) × (second.height < 1000) }
+    ensures { IfOk result (λ r. seen r
+        ≡ spec.of_choice_else at (seen condition) (seen first) (seen second)) }
+{
+    let height = condition.height.max(first.height).max(second.height) + 1;
+    let condition = Box::new(alloc, condition.phrase)?;
+    let first = Box::new(alloc, first.phrase)?;
+    let second = Box::new(alloc, second.phrase)?;
+    Ok(make(
+        at,
+        PhraseKind::If(condition, first, Some(second)),
+        height,
+    ))
+}
+
+fn pair_kind(pair: Pair, first: Box<Phrase>, second: Box<Phrase>) -> PhraseKind
+    ensures { kind_tree result ≡ spec.pair_kind pair (tree first.value) (tree second.value) }
+{
+    match pair {
+        Pair::While => PhraseKind::While(first, second),
+        Pair::Repeat => PhraseKind::Repeat(first, second),
+        Pair::For(name) => PhraseKind::For(name, first, second),
+        Pair::Forall(name) => PhraseKind::Forall(name, first, second),
+    }
+}
+
+pub fn of_pair(
+    alloc: Global,
+    at: u32,
+    pair: Pair,
+    first: Measured,
+    second: Measured,
+) -> Result<Measured, NoMemory>
+    requires { (first.height < 1000) × (second.height < 1000) }
+    ensures { IfOk result (λ r. seen r ≡ spec.of_pair at pair (seen first) (seen second)) }
+{
+    let height = first.height.max(second.height) + 1;
+    let first = Box::new(alloc, first.phrase)?;
+    let second = Box::new(alloc, second.phrase)?;
+    Ok(make(at, pair_kind(pair, first, second), height))
+}
+
+pub fn of_exists(
+    alloc: Global,
+    at: u32,
+    names: Texts,
+    operand: Measured,
+) -> Result<Measured, NoMemory>
+    requires { operand.height < 1000 }
+    ensures { IfOk result (λ r. seen r ≡ spec.of_exists at names (seen operand)) }
+{
+    let height = operand.height + 1;
+    let operand = Box::new(alloc, operand.phrase)?;
+    Ok(make(at, PhraseKind::Exists(names, operand), height))
+}
+
+fn prefixed_kind(mark: Mark, operand: Box<Phrase>) -> PhraseKind
+    ensures { kind_tree result ≡ spec.prefixed_kind mark (tree operand.value) }
+{
+    match mark {
+        Mark::Word(Word::Not) => PhraseKind::Not(operand),
+        Mark::Symbol(Symbol::Minus) => PhraseKind::Minus(operand),
+        _ => PhraseKind::Next(operand),
+    }
+}
+
+pub fn of_prefix(
+    alloc: Global,
+    at: u32,
+    mark: Mark,
+    operand: Measured,
+) -> Result<Measured, NoMemory>
+    requires { operand.height < 1000 }
+    ensures { IfOk result (λ r. seen r ≡ spec.of_prefix at mark (seen operand)) }
+{
+    let height = operand.height + 1;
+    let operand = Box::new(alloc, operand.phrase)?;
+    Ok(make(at, prefixed_kind(mark, operand), height))
+}
+
+pub fn of_infix(
+    alloc: Global,
+    at: u32,
+    op: Op,
+    left: Measured,
+    right: Measured,
+) -> Result<Measured, NoMemory>
+    requires { (left.height < 1000) × (right.height < 1000) }
+    ensures { IfOk result (λ r. seen r ≡ spec.of_infix at op (seen left) (seen right)) }
+{
+    let height = left.height.max(right.height) + 1;
+    let left = Box::new(alloc, left.phrase)?;
+    let right = Box::new(alloc, right.phrase)?;
+    Ok(make(at, PhraseKind::Binary(op, left, right), height))
+}
+
+pub fn of_index(
+    alloc: Global,
+    at: u32,
+    whole: Measured,
+    index: Measured,
+) -> Result<Measured, NoMemory>
+    requires { (whole.height < 1000) × (index.height < 1000) }
+    ensures { IfOk result (λ r. seen r ≡ spec.of_index at (seen whole) (seen index)) }
+{
+    let height = whole.height.max(index.height) + 1;
+    let whole = Box::new(alloc, whole.phrase)?;
+    let index = Box::new(alloc, index.phrase)?;
+    Ok(make(at, PhraseKind::Index(whole, index), height))
+}
+
+pub fn of_chain(at: u32, operands: Operands) -> Measured
+    requires { operands.height < 1000 }
+    ensures { seen result ≡ spec.of_chain at (all_seen operands) }
+{
+    let height = operands.height + 1;
+    let kind = PhraseKind::And(Phrases {
+        items: operands.items,
+    });
+    make(at, kind, height)
+}

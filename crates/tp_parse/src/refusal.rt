@@ -1,0 +1,51 @@
+// Why tokens are refused.
+ghost use Rattle.std.specs.Prelude.{◌≡◌};
+ghost use Rattle.tp_parse.specs.declared.refusal.Refusal.TheVariants.{NoMemory};
+
+use std::alloc::{AllocError, AllocFailed};
+use tp_value::NoMemory;
+
+/// Why tokens are no source. A token is named by its number, counted from 0.
+#[derive(Clone, Copy, Debug, PartialEq, Eq)]
+pub enum ParseRefusal {
+    /// No source goes on with this token.
+    Unexpected { token: usize },
+    /// The tokens end before the source does.
+    Unfinished,
+    /// A source may go on with this token, but not one whose phrases are at most 200 high.
+    TooDeep { token: usize },
+    NoMemory,
+}
+
+/// Why no phrase was read. A token is named by how many tokens there are from it to the end.
+#[derive(Clone, Copy, Debug, PartialEq, Eq)]
+pub enum Refusal {
+    Unexpected(usize),
+    Unfinished,
+    TooDeep(usize),
+    NoMemory,
+}
+
+impl From<AllocError> for Refusal {
+    ghost from_gives = { λ _ e. e ≡ NoMemory };
+
+    fn from(_: AllocError) -> Refusal {
+        Refusal::NoMemory
+    }
+}
+
+impl<T: Drop> From<AllocFailed<T>> for Refusal {
+    ghost from_gives = { λ _ e. e ≡ NoMemory };
+
+    fn from(_: AllocFailed<T>) -> Refusal {
+        Refusal::NoMemory
+    }
+}
+
+impl From<NoMemory> for Refusal {
+    ghost from_gives = { λ _ e. e ≡ NoMemory };
+
+    fn from(_: NoMemory) -> Refusal {
+        Refusal::NoMemory
+    }
+}

@@ -1,0 +1,5 @@
+pub mod Tree
+pub mod Read
+pub mod Equations
+pub mod Places
+pub mod Height

@@ -1,0 +1,47 @@
+// The operators and words of phrases.
+
+/// An operator between two operands: `;`, `proj`, `or`, the relations `=` `<>` `<` `<=` `>` `>=` `gets` `<-` `:=`, and `+` `-` `*`
+/// `div` `mod`.
+#[derive(Clone, Copy, Debug, PartialEq, Eq)]
+pub enum Op {
+    Chop,
+    Proj,
+    Or,
+    Equal,
+    Differs,
+    Less,
+    LessEqual,
+    Greater,
+    GreaterEqual,
+    Gets,
+    Arrow,
+    Becomes,
+    Plus,
+    Minus,
+    Times,
+    Div,
+    Mod,
+}
+
+/// A word that is a phrase by itself.
+#[derive(Clone, Copy, Debug, PartialEq, Eq)]
+pub enum Bare {
+    Empty,
+    More,
+    Skip,
+}
+
+/// A word that takes its operands in parentheses.
+#[derive(Clone, Copy, Debug, PartialEq, Eq)]
+pub enum Form {
+    Always,
+    Keep,
+    Fin,
+    Halt,
+    Stable,
+    Sometimes,
+    Len,
+    List,
+    Input,
+    Display,
+}
