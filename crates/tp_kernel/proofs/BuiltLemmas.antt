@@ -1,5 +1,5 @@
 -- A formula of the kinds that run today, with less asked of its variables.
-use Rattle.std.proofs.Common.{List, ℕ, Bool, true, false, not, IsTrue}
+use Rattle.std.proofs.Common.{ℕ, Bool, not, IsTrue}
 use Rattle.std.proofs.Props.{props}
 use Rattle.std.specs.Coded.{×_prop, Unit-prop, le_prop}
 use Rattle.tp_value.specs.declared.path.VarId.{VarId}

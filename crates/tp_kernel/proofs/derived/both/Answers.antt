@@ -1,4 +1,4 @@
-use Rattle.std.proofs.Common.{◌≡◌, ap, ◌∙◌, map, [], ◌∷◌}
+use Rattle.std.proofs.Common.{ap, ◌∙◌, map}
 use Rattle.tp_kernel.specs.Read.{formula_tree}
 use Rattle.tp_kernel.specs.Equations.{formula_and}
 use Rattle.tp_meaning.specs.Syntax.{conjunction, formulas_of}
