@@ -1,5 +1,5 @@
 -- What the parts of a call answer.
-use Rattle.std.specs.Prelude.{◌≡◌, ◌⊎◌, ℕ, List, take, Option}
+use Rattle.std.specs.Prelude.{◌≡◌, ◌⊎◌, ℕ, List, take, Option, None, Some}
 use Rattle.tp_io.specs.Devices.{Held}
 use Rattle.tempura.specs.declared.status.Status.{Status}
 use Rattle.tempura.specs.declared.status.Status.TheVariants.{SourceRefused, WriteFault, NoMemory}
@@ -13,6 +13,11 @@ use Rattle.tempura.specs.Source.{IsRefusedAt}
 -- the status of a refusal
 abbrev pub status_of : Refused → Status
 status_of refused = SourceRefused refused.line refused.column refused.kind
+
+-- and of the want of memory
+abbrev pub refusal_end : Option Refused → Status
+refusal_end None = NoMemory
+refusal_end (Some refused) = status_of refused
 
 -- memory was wanted, or a source is refused there for this cause
 abbrev pub IsReadRefusal : List ℕ → Status → Type 0

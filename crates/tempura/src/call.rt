@@ -6,7 +6,6 @@ ghost use Rattle.tp_kernel.specs.Built.{IsBuilt};
 ghost use Rattle.tp_run.specs.declared.turn.Cell.{Cell};
 ghost use Rattle.tp_run.specs.declared.turn.Clash.{Clash};
 ghost use Rattle.tp_run.specs.History.{SatisfiedExactly, Satisfiable, Unsatisfiable, ContinuesEach};
-ghost use Rattle.std.specs.Option.{option_map_or};
 ghost use Rattle.tp_check.specs.Program.{program_tree};
 ghost use Rattle.tempura.specs.declared.refused.Refused.{Refused};
 ghost use Rattle.tempura.specs.Source.{IsProgram};
@@ -15,7 +14,7 @@ ghost use Rattle.tempura.specs.declared.status.SourceKind.{SourceKind};
 ghost use Rattle.tempura.specs.Words.{wanted_of};
 ghost use Rattle.tp_check.specs.Program.{ProgramTree};
 ghost use Rattle.tempura.specs.Answer.{source_limit, HoldsProgram, HoldsRefused, IsTooLong, Sourced, Answers, AsksOnly, IsOrStopped, IsOrFailed, IsEndOfRun, HasFailed, IsTold, Prints};
-ghost use Rattle.tempura.specs.Parts.{status_of, IsReadRefusal, IsRefusal, Closes};
+ghost use Rattle.tempura.specs.Parts.{status_of, refusal_end, IsReadRefusal, IsRefusal, Closes};
 
 use crate::end_line::end_text;
 use crate::refused::{Refused, by_checker, by_lexer, by_parser};
@@ -35,7 +34,7 @@ const SOURCE_LIMIT: usize = 65_536;
 
 // The status for a refusal; none stands for want of memory.
 fn refusal_status(refused: Option<Refused>) -> Status
-    ensures { result ≡ option_map_or status_of Status.NoMemory refused }
+    ensures { result ≡ refusal_end refused }
 {
     match refused {
         Some(Refused { line, column, kind }) => Status::SourceRefused { line, column, kind },

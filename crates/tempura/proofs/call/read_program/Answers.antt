@@ -1,0 +1,8 @@
+use Rattle.std.proofs.Common.{IfOk, IfErr, sym, ◌∙◌}
+use Rattle.tempura.proofs.SourceLemmas.{read_refused, not_run}
+use Rattle.tempura.proofs.call.read_program.Goals as goal
+
+pub returns-clause-refused : goal.returns-clause-refused
+returns-clause-refused c =
+    read_refused c.args.source.now _ c.by_checker.result c.refusal_status-in-Err-check.ensures
+    (λ r is. not_run c.args.source.now _ _ c.in-Err-check.refusal c.in-Ok.ensures.tokens c.in-Ok-parse.ensures.accepted c.in-Err-check.ensures.refused r (sym c.by_checker.ensures ∙ is))
