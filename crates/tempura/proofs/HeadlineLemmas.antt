@@ -46,7 +46,7 @@ end_says program pictures (Undetermined state cell) built e =
     let s = e.1 in
     let b = s.becomes in
     end_means program.names program.main built pictures (turn.Undetermined state cell)
-        (s.last, leads 0 (beginning program) pictures s.last s.settles, record { at = b.at; count = b.count; picks = b.picks; rest = b.rest; open_cell = b.becomes.0 }, b.becomes.1)
+    (s.last, leads 0 (beginning program) pictures s.last s.settles, record { at = b.at; count = b.count; picks = b.picks; rest = b.rest; open_cell = b.becomes.0 }, b.becomes.1)
 end_says program pictures (NumberLimit state) built e =
     let s = e.1 in end_means program.names program.main built pictures (turn.Over state Number) (s.last, leads 0 (beginning program) pictures s.last s.settles, s.becomes.0, s.becomes.1)
 end_says program pictures (SourceRefused line column kind) built e = tt

@@ -43,7 +43,6 @@ fn expect(
 
 #[test]
 fn sources_are_run(rt: HostRuntime) -> Result<(), Fail> {
-    let refused = "source refused: line 1 column 1: unexpected\n";
     let rows = [
         ("run empty.", 0, "state 0:\nfinished: length 0\n"),
         (
@@ -83,11 +82,54 @@ fn sources_are_run(rt: HostRuntime) -> Result<(), Fail> {
             5,
             "number limit: state 0\n",
         ),
-        ("run A=1 or empty.", 10, refused),
-        ("", 10, refused),
+        (
+            "run empty and skip.",
+            1,
+            "contradictory: state 0: ends and goes on at depth 0\n",
+        ),
+        (
+            "run (A=1 and skip).",
+            0,
+            "state 0: A=1\nstate 1:\nfinished: length 1\n",
+        ),
+        (
+            "run 1 = A and skip and next (2 = A).",
+            0,
+            "state 0: A=1\nstate 1: A=2\nfinished: length 1\n",
+        ),
     ];
     for (source, code, text) in rows {
         expect(&rt, &["run", "a.t"], source.as_bytes(), code, text)?;
+    }
+    Ok(())
+}
+
+#[test]
+fn sources_are_refused(rt: HostRuntime) -> Result<(), Fail> {
+    let rows = [
+        ("", "line 1 column 1: unfinished"),
+        ("run A=1 @ skip.", "line 1 column 9: bad byte"),
+        ("run empty /* and", "line 1 column 11: open comment"),
+        (
+            "run A=9223372036854775808 and empty.",
+            "line 1 column 7: number too large",
+        ),
+        (
+            "run AAAAAAAAAAAAAAAAAAAAAAAAAAAAAAAAAAAAAAAAAAAAAAAAAAAAAAAAAAAAAAAAA=1.",
+            "line 1 column 5: name too long",
+        ),
+        ("run A=1 and\n  and skip.", "line 2 column 3: unexpected"),
+        ("run A=1 and skip", "line 1 column 17: unfinished"),
+        ("run A=1 and len(2).", "line 1 column 13: not executable"),
+        ("run A=1 or empty.", "line 1 column 5: not executable"),
+        (
+            "define p() = empty.\nrun p().",
+            "line 1 column 1: not executable",
+        ),
+    ];
+    for (source, about) in rows {
+        let text = format!(in rt.alloc(); "source refused: {about}\n")?;
+        expect(&rt, &["run", "a.t"], source.as_bytes(), 10, text.as_str())?;
     }
     Ok(())
 }
@@ -104,7 +146,7 @@ fn words_are_refused(rt: HostRuntime) -> Result<(), Fail> {
 
 #[test]
 fn long_sources_are_refused(rt: HostRuntime) -> Result<(), Fail> {
-    let refused = "source refused: line 1 column 1: unexpected\n";
+    let refused = "source refused: line 1 column 65537: unfinished\n";
     let source = vec![in rt.alloc(); b' '; 65537]?;
     expect(
         &rt,
