@@ -15,5 +15,5 @@ returns-clause-outcome c = λ more.
     let upper : is_lower name ≡ false = sym (lasting_is c.add.new.self name x c.in_ok-variable.ensures.variable) ∙ c.if-variable.false in
     let names = with_name c.args.globals.now name in
     let variable : variable_in (names ++ more) name ≡ x =
-        ap (λ ns. variable_in (ns ++ more) name) (sym c.in_ok-variable.ensures.names) ∙ variable_stays c.add.new.self more name x c.in_ok-variable.ensures.variable in
+    ap (λ ns. variable_in (ns ++ more) name) (sym c.in_ok-variable.ensures.names) ∙ variable_stays c.add.new.self more name x c.in_ok-variable.ensures.variable in
     ap (λ b. if b then not_run c.args.at else Ok (global (variable_in (names ++ more) name))) upper ∙ ap Ok (ap global variable ∙ sym (expr_global x))
