@@ -1,6 +1,6 @@
 -- The plain trees of phrases of the kinds that run.
 use Rattle.std.proofs.lemmas.List.{append-nil}
-use Rattle.std.proofs.Common.{refl, ap₂, zero, suc, ◌<◌, ◌⊎◌, inl, inr, length, get_or, take, drop, arith, ap, sym, ◌∙◌, ◌≡◌, ℕ, ◌+◌, List, [], ◌∷◌, ◌++◌, append_assoc, map, Ok, Err, Global}
+use Rattle.std.proofs.Common.{refl, ap₂, zero, suc, ◌<◌, ◌⊎◌, inl, inr, length, get_or, take, drop, arith, ap, sym, ◌∙◌, ◌≡◌, ℕ, List, [], ◌∷◌, ◌++◌, append_assoc, map, Ok, Err, Global}
 use Rattle.std.specs.declared.boxed.Box.{Box}
 use Rattle.tp_tree.specs.declared.operator.Op.{Op}
 use Rattle.tp_tree.specs.declared.operator.Bare.{Bare}

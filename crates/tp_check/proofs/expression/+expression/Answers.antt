@@ -6,7 +6,7 @@ use Rattle.tp_tree.specs.Read.{tree}
 use Rattle.tp_meaning.specs.Syntax as m
 use Rattle.tp_kernel.specs.Read.{expr_tree}
 use Rattle.tp_kernel.specs.Equations.{expr_op}
-use Rattle.tp_check.specs.Names.{Names, names_with, names_in}
+use Rattle.tp_check.specs.Names.{names_with, names_in}
 use Rattle.tp_check.specs.Outcome.{Answers, both}
 use Rattle.tp_check.specs.Positions.{expr_of}
 use Rattle.tp_check.proofs.NameLemmas.{first_stays, second_stays, names_twice}

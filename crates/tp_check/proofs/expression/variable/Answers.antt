@@ -1,7 +1,6 @@
 use Rattle.std.proofs.Common.{◌≡◌, ◌++◌, ◌∙◌, sym, ap, false, if◌then◌else◌, Ok}
 use Rattle.tp_value.specs.Globals.{is_lower, with_name}
 use Rattle.tp_meaning.specs.Syntax.{global}
-use Rattle.tp_kernel.specs.Read.{expr_tree}
 use Rattle.tp_kernel.specs.Equations.{expr_global}
 use Rattle.tp_check.specs.Names.{variable_in}
 use Rattle.tp_check.specs.Outcome.{not_run}

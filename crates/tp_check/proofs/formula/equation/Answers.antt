@@ -1,9 +1,9 @@
-use Rattle.std.proofs.Common.{◌≡◌, ◌++◌, ◌⊎◌, ◌∙◌, sym, ap, ap₂, subst, Ok, Err, rules, arith}
+use Rattle.std.proofs.Common.{◌≡◌, ◌++◌, ◌⊎◌, ◌∙◌, sym, ap, ap₂, Ok, rules, arith}
 use Rattle.std.proofs.lemmas.Grind.{common_steps}
 use Rattle.std.proofs.lemmas.Result.{err_from_is_err_and}
 use Rattle.tp_tree.specs.Read.{tree}
 use Rattle.tp_kernel.specs.Read.{expr_tree}
-use Rattle.tp_check.specs.Names.{Names, names_with, names_in}
+use Rattle.tp_check.specs.Names.{names_with, names_in}
 use Rattle.tp_check.specs.Outcome.{not_run}
 use Rattle.tp_check.specs.Positions.{nexts_of, behind_nexts, place_of, equation_of, expr_of}
 use Rattle.tp_check.proofs.NameLemmas.{first_stays, second_stays, names_twice}
