@@ -4,9 +4,9 @@ use Rattle.std.proofs.lemmas.List.{append-nil}
 use Rattle.tp_tree.specs.Tree.{PhraseTree}
 use Rattle.tp_meaning.specs.Syntax.{FormulaTree}
 use Rattle.tp_check.specs.Names.{Names, names_with, names_in}
-use Rattle.tp_check.specs.Outcome.{Outcome, mapped}
+use Rattle.tp_check.specs.Outcome.{Outcome}
 use Rattle.tp_check.specs.Positions.{formula_of}
-use Rattle.tp_check.specs.Program.{names_of, program, program_with}
+use Rattle.tp_check.specs.Program.{names_of}
 
 pub none_first : {A : Type 0} (xs : List A) → None ≡ slice_get xs 0 → xs ≡ []
 none_first [] e = refl

@@ -1,6 +1,6 @@
 -- The plain trees of phrases of the kinds that run.
 use Rattle.std.proofs.lemmas.List.{append-nil}
-use Rattle.std.proofs.Common.{refl, ap₂, zero, suc, ◌<◌, ◌⊎◌, inl, inr, length, get_or, take, drop, arith, ap, sym, ◌∙◌, ◌≡◌, ℕ, ◌+◌, List, [], ◌∷◌, ◌++◌, append_assoc, map, Ok, Err, Global}
+use Rattle.std.proofs.Common.{refl, ap₂, zero, suc, ◌<◌, ◌⊎◌, inl, inr, length, get_or, take, drop, arith, ap, sym, ◌∙◌, ◌≡◌, ℕ, List, [], ◌∷◌, ◌++◌, append_assoc, map, Ok, Err, Global}
 use Rattle.std.specs.declared.boxed.Box.{Box}
 use Rattle.tp_tree.specs.declared.operator.Op.{Op}
 use Rattle.tp_tree.specs.declared.operator.Bare.{Bare}
@@ -136,8 +136,8 @@ first_refused names between ts us t ws e same before here more =
     let c = names_in_all (phrases_of us) in
     let all : Names = names_with names (a ++ (b ++ c)) ++ more in
     let earlier : formulas_in all (phrases_of ts) ≡ Ok ws =
-        first_stays names a (b ++ c) (λ ns. formulas_in ns (phrases_of ts)) (Ok ws) (λ later. ap (λ (ns : Names). formulas_in (ns ++ later) (phrases_of ts)) (sym same) ∙ before later) more in
+    first_stays names a (b ++ c) (λ ns. formulas_in ns (phrases_of ts)) (Ok ws) (λ later. ap (λ (ns : Names). formulas_in (ns ++ later) (phrases_of ts)) (sym same) ∙ before later) more in
     let refused : formula_of all t ≡ Err e =
-        second_stays names between a (b ++ c) (λ ns. formula_of ns t) (Err e) same (first_stays between b c (λ ns. formula_of ns t) (Err e) here) more in
+    second_stays names between a (b ++ c) (λ ns. formula_of ns t) (Err e) same (first_stays between b c (λ ns. formula_of ns t) (Err e) here) more in
     ap (λ (ns : Names). formulas_in (names_with names ns ++ more) (phrases_of (ts ++ t ∷ us))) (all_names_join ts (t ∷ us))
     ∙ (formulas_join all ts (t ∷ us) ∙ ap₂ join earlier (ap (λ o. both (λ v vs. v ∷ vs) o (formulas_in all (phrases_of us))) refused))

@@ -5,6 +5,8 @@ mod expression;
 mod formula;
 mod program;
 mod refusal;
+#[cfg(test)]
+mod tests;
 
 pub use program::{Program, check};
 pub use refusal::CheckRefusal;

@@ -6,7 +6,7 @@ use Rattle.tp_tree.specs.Read.{tree}
 use Rattle.tp_meaning.specs.Syntax as m
 use Rattle.tp_kernel.specs.Read.{expr_tree}
 use Rattle.tp_kernel.specs.Equations.{expr_op}
-use Rattle.tp_check.specs.Names.{Names, names_with, names_in}
+use Rattle.tp_check.specs.Names.{names_with, names_in}
 use Rattle.tp_check.specs.Outcome.{Answers, both}
 use Rattle.tp_check.specs.Positions.{expr_of}
 use Rattle.tp_check.proofs.NameLemmas.{first_stays, second_stays, names_twice}
@@ -55,7 +55,7 @@ returns-in_ok-right-in-Plus-2-clause-outcome t c = λ more.
     let second = c.in_ok-right-in-Plus.ensures in
     let seen : tree c.args.phrase.now ≡ phrase c.args.phrase.now.at (binary Plus l r) = seen_binary c.args.phrase.now Plus _ k.left k.right _ _ (search rules) k.is (search rules) (search rules) in
     let both_are = ap₂ (both (m.binary m.Plus))
-        (first_stays c.args.globals.now (names_in l) (names_in r) (λ ns. expr_of ns l) _ first.outcome more)
-        (second_stays c.args.globals.now _ (names_in l) (names_in r) (λ ns. expr_of ns r) _ first.names second.outcome more) in
+    (first_stays c.args.globals.now (names_in l) (names_in r) (λ ns. expr_of ns l) _ first.outcome more)
+    (second_stays c.args.globals.now _ (names_in l) (names_in r) (λ ns. expr_of ns r) _ first.names second.outcome more) in
     ap (λ s. expr_of (names_with c.args.globals.now (names_in s) ++ more) s) seen ∙ (both_are
     ∙ ap Ok (ap₂ (m.binary m.Plus) (ap expr_tree (sym c.in_ok-left-in-Plus-2.ensures.ok)) (ap expr_tree (sym c.in_ok-right-in-Plus-2.ensures.ok)) ∙ sym (expr_op _ _ _)))

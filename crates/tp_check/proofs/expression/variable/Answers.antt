@@ -1,7 +1,6 @@
 use Rattle.std.proofs.Common.{◌≡◌, ◌++◌, ◌∙◌, sym, ap, false, if◌then◌else◌, Ok}
 use Rattle.tp_value.specs.Globals.{is_lower, with_name}
 use Rattle.tp_meaning.specs.Syntax.{global}
-use Rattle.tp_kernel.specs.Read.{expr_tree}
 use Rattle.tp_kernel.specs.Equations.{expr_global}
 use Rattle.tp_check.specs.Names.{variable_in}
 use Rattle.tp_check.specs.Outcome.{not_run}
@@ -15,5 +14,5 @@ returns-clause-outcome c = λ more.
     let upper : is_lower name ≡ false = sym (lasting_is c.add.new.self name x c.in_ok-variable.ensures.variable) ∙ c.if-variable.false in
     let names = with_name c.args.globals.now name in
     let variable : variable_in (names ++ more) name ≡ x =
-        ap (λ ns. variable_in (ns ++ more) name) (sym c.in_ok-variable.ensures.names) ∙ variable_stays c.add.new.self more name x c.in_ok-variable.ensures.variable in
+    ap (λ ns. variable_in (ns ++ more) name) (sym c.in_ok-variable.ensures.names) ∙ variable_stays c.add.new.self more name x c.in_ok-variable.ensures.variable in
     ap (λ b. if b then not_run c.args.at else Ok (global (variable_in (names ++ more) name))) upper ∙ ap Ok (ap global variable ∙ sym (expr_global x))

@@ -1,4 +1,4 @@
-use Rattle.std.proofs.Common.{◌≡◌, ◌+◌, ◌<◌, ◌++◌, ◌∷◌, [], ◌∙◌, ℕ, List, sym, ap, ap₂, subst, map, take, suc, Global, drop, length, get_or, Ok, arith}
+use Rattle.std.proofs.Common.{◌≡◌, ◌+◌, ◌++◌, ◌∷◌, [], ◌∙◌, ℕ, List, sym, ap, ap₂, subst, map, take, suc, Global, drop, get_or, Ok, arith}
 use Rattle.std.proofs.lemmas.List.{map-append, map_more, take_all}
 use Rattle.std.proofs.lemmas.Result.{err_from_is_err_and}
 use Rattle.std.specs.declared.rc.Rc.{Rc}
@@ -42,7 +42,7 @@ formulas-returns-in_err-one-clause-outcome t c =
     let here : get_or xs i x ≡ x = sym c.phrase-item.is in
     let seen : trees c.args.phrases.now ≡ phrases_of (map tree xs) = trees_are c.args.phrases.now ∙ ap (λ (ys : List Phrase). phrases_of (map tree ys)) (sym c.deref-phrase-items.ensures.value) in
     let parts : map tree xs ≡ map tree (take i xs) ++ tree x ∷ map tree (drop (suc i) xs) =
-        split_at tree xs i x c.loop-phrase-test.true ∙ ap (λ (y : Phrase). map tree (take i xs) ++ tree y ∷ map tree (drop (suc i) xs)) here in
+    split_at tree xs i x c.loop-phrase-test.true ∙ ap (λ (y : Phrase). map tree (take i xs) ++ tree y ∷ map tree (drop (suc i) xs)) here in
     subst (λ (s : PhraseTrees). Answers formulas_seen (names_with g (names_in_all s)) (λ names. formulas_in names s) c.from_residual.result) (sym (seen ∙ ap phrases_of parts))
     (rw (p.1, p.2) (λ q. first_refused g c.loop-phrase.globals (map tree (take i xs)) (map tree (drop (suc i) xs)) (tree x) _ _ c.loop-phrase.invariant.names c.loop-phrase.invariant.formulas (c.in_err-one.ensures.outcome q)))
 
@@ -55,15 +55,15 @@ formulas-loop-phrase-preserved t c =
     let here : get_or xs i x ≡ x = sym c.phrase-item.is in
     let view : Rc Formula Global → FormulaTree = λ w. formula_tree w.value in
     let further : map tree (take (i + 1) xs) ≡ map tree (take i xs) ++ tree x ∷ [] =
-        map_more tree xs i x c.loop-phrase-test.true ∙ ap (λ (y : Phrase). map tree (take i xs) ++ tree y ∷ []) here in
+    map_more tree xs i x c.loop-phrase-test.true ∙ ap (λ (y : Phrase). map tree (take i xs) ++ tree y ∷ []) here in
     let pushed : map view c.push.new.self.items ≡ map view c.loop-phrase.items.items ++ formula_tree c.in_ok-one.one ∷ [] =
-        ap (map view) c.in_ok-push.ensures.items
-        ∙ (map-append view c.loop-phrase.items.items (c.in_ok-new.field-0 ∷ []) ∙ ap (λ w. map view c.loop-phrase.items.items ++ formula_tree w ∷ []) c.in_ok-new.ensures.ok) in
+    ap (map view) c.in_ok-push.ensures.items
+    ∙ (map-append view c.loop-phrase.items.items (c.in_ok-new.field-0 ∷ []) ∙ ap (λ w. map view c.loop-phrase.items.items ++ formula_tree w ∷ []) c.in_ok-new.ensures.ok) in
     record {
       names = one_more_name g c.loop-phrase.globals c.formula.new.globals (map tree (take i xs)) (tree x) c.loop-phrase.invariant.names c.in_ok-one.ensures.names
           ∙ ap (λ ts. names_with g (names_in_all (phrases_of ts))) (sym further);
       formulas = λ more. ap₂ (λ (ns : Names) ts. formulas_in (ns ++ more) (phrases_of ts)) c.in_ok-one.ensures.names further
-          ∙ (one_more_formula c.loop-phrase.globals (map tree (take i xs)) (tree x) _ _ c.loop-phrase.invariant.formulas c.in_ok-one.ensures.outcome more ∙ ap Ok (sym pushed))
+          ∙ (one_more_formula c.loop-phrase.globals (map tree (take i xs)) (tree x) _ _ c.loop-phrase.invariant.formulas c.in_ok-one.ensures.outcome more ∙ ap Ok (sym pushed));
     }
 
 pub formulas-returns-clause-names : goal.formulas-returns-clause-names

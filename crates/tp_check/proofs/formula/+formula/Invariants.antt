@@ -10,5 +10,5 @@ use Rattle.tp_check.proofs.formula.+formula.Given as goal
 abbrev pub invariant-formulas-loop-phrase : goal.invariant-formulas-loop-phrase
 invariant-formulas-loop-phrase l = record {
   names : l.globals ≡ names_with l.fn.globals (names_in_all (phrases_of (map tree (take l.phrase-index l.phrase-items))));
-  formulas : (more : Names) → formulas_in (l.globals ++ more) (phrases_of (map tree (take l.phrase-index l.phrase-items))) ≡ Ok (map (λ w. formula_tree w.value) l.items.items)
+  formulas : (more : Names) → formulas_in (l.globals ++ more) (phrases_of (map tree (take l.phrase-index l.phrase-items))) ≡ Ok (map (λ w. formula_tree w.value) l.items.items);
 }

@@ -1,9 +1,9 @@
-use Rattle.std.proofs.Common.{◌≡◌, ◌++◌, ◌⊎◌, ◌∙◌, sym, ap, ap₂, subst, Ok, Err, rules, arith}
+use Rattle.std.proofs.Common.{◌≡◌, ◌++◌, ◌⊎◌, ◌∙◌, sym, ap, ap₂, Ok, rules, arith}
 use Rattle.std.proofs.lemmas.Grind.{common_steps}
 use Rattle.std.proofs.lemmas.Result.{err_from_is_err_and}
 use Rattle.tp_tree.specs.Read.{tree}
 use Rattle.tp_kernel.specs.Read.{expr_tree}
-use Rattle.tp_check.specs.Names.{Names, names_with, names_in}
+use Rattle.tp_check.specs.Names.{names_with, names_in}
 use Rattle.tp_check.specs.Outcome.{not_run}
 use Rattle.tp_check.specs.Positions.{nexts_of, behind_nexts, place_of, equation_of, expr_of}
 use Rattle.tp_check.proofs.NameLemmas.{first_stays, second_stays, names_twice}
@@ -20,7 +20,7 @@ returns-in_err-left_expr-clause-outcome c =
     let b = names_in r in
     rw (p.1, p.2) (λ q more.
     ap (λ o. equation_of (nexts_of l) (nexts_of r) (place_of r) o (expr_of (names_with g (a ++ b) ++ more) (behind_nexts r)))
-        (first_stays g a b (λ ns. expr_of ns (behind_nexts l)) _ (side_stays g l (tree c.in_ok-left_nexts.left_side.now) _ c.in_ok-left_nexts.ensures.behind (c.in_err-left_expr.ensures.outcome q)) more)
+    (first_stays g a b (λ ns. expr_of ns (behind_nexts l)) _ (side_stays g l (tree c.in_ok-left_nexts.left_side.now) _ c.in_ok-left_nexts.ensures.behind (c.in_err-left_expr.ensures.outcome q)) more)
     ∙ left_refused (nexts_of l) (nexts_of r) (place_of r) _ _)
 
 pub returns-then-right_nexts-gt0-clause-outcome : goal.returns-then-right_nexts-gt0-clause-outcome
@@ -48,9 +48,9 @@ returns-in_err-right_expr-clause-outcome c =
     let between = side_names g c.expression.new.globals l (tree c.in_ok-left_nexts.left_side.now) c.in_ok-left_nexts.ensures.behind c.in_ok-left_expr.ensures.names in
     rw (p.1, p.2) (λ q more.
     ap₂ (equation_of (nexts_of l) (nexts_of r) (place_of r))
-        (first_stays g a b (λ ns. expr_of ns (behind_nexts l)) (Ok (expr_tree c.in_ok-left_expr.left_expr)) (side_stays g l (tree c.in_ok-left_nexts.left_side.now) _ c.in_ok-left_nexts.ensures.behind c.in_ok-left_expr.ensures.outcome) more)
-        (second_stays g c.expression.new.globals a b (λ ns. expr_of ns (behind_nexts r)) _ between
-        (side_stays c.expression.new.globals r (tree c.in_ok-right_nexts.right_side.now) _ c.in_ok-right_nexts.ensures.behind (c.in_err-right_expr.ensures.outcome q)) more)
+    (first_stays g a b (λ ns. expr_of ns (behind_nexts l)) (Ok (expr_tree c.in_ok-left_expr.left_expr)) (side_stays g l (tree c.in_ok-left_nexts.left_side.now) _ c.in_ok-left_nexts.ensures.behind c.in_ok-left_expr.ensures.outcome) more)
+    (second_stays g c.expression.new.globals a b (λ ns. expr_of ns (behind_nexts r)) _ between
+    (side_stays c.expression.new.globals r (tree c.in_ok-right_nexts.right_side.now) _ c.in_ok-right_nexts.ensures.behind (c.in_err-right_expr.ensures.outcome q)) more)
     ∙ right_refused (nexts_of l) (nexts_of r) (place_of r) _ _ none)
 
 pub returns-clause-names : goal.returns-clause-names
@@ -62,7 +62,7 @@ returns-clause-names c =
     let b = names_in r in
     let between = side_names g c.expression.new.globals l (tree c.in_ok-left_nexts.left_side.now) c.in_ok-left_nexts.ensures.behind c.in_ok-left_expr.ensures.names in
     names_twice g c.expression.new.globals c.expression-2.new.globals a b between
-        (side_names c.expression.new.globals c.expression-2.new.globals r (tree c.in_ok-right_nexts.right_side.now) c.in_ok-right_nexts.ensures.behind c.in_ok-right_expr.ensures.names)
+    (side_names c.expression.new.globals c.expression-2.new.globals r (tree c.in_ok-right_nexts.right_side.now) c.in_ok-right_nexts.ensures.behind c.in_ok-right_expr.ensures.names)
 
 pub returns-clause-outcome : goal.returns-clause-outcome
 returns-clause-outcome c = λ more.
@@ -73,10 +73,10 @@ returns-clause-outcome c = λ more.
     let b = names_in r in
     let between = side_names g c.expression.new.globals l (tree c.in_ok-left_nexts.left_side.now) c.in_ok-left_nexts.ensures.behind c.in_ok-left_expr.ensures.names in
     let sides = ap₂ (equation_of (nexts_of l) (nexts_of r) (place_of r))
-        (first_stays g a b (λ ns. expr_of ns (behind_nexts l)) (Ok (expr_tree c.in_ok-left_expr.left_expr)) (side_stays g l (tree c.in_ok-left_nexts.left_side.now) _ c.in_ok-left_nexts.ensures.behind c.in_ok-left_expr.ensures.outcome) more)
-        (second_stays g c.expression.new.globals a b (λ ns. expr_of ns (behind_nexts r)) (Ok (expr_tree c.in_ok-right_expr.right_expr)) between
-        (side_stays c.expression.new.globals r (tree c.in_ok-right_nexts.right_side.now) _ c.in_ok-right_nexts.ensures.behind c.in_ok-right_expr.ensures.outcome) more) in
+    (first_stays g a b (λ ns. expr_of ns (behind_nexts l)) (Ok (expr_tree c.in_ok-left_expr.left_expr)) (side_stays g l (tree c.in_ok-left_nexts.left_side.now) _ c.in_ok-left_nexts.ensures.behind c.in_ok-left_expr.ensures.outcome) more)
+    (second_stays g c.expression.new.globals a b (λ ns. expr_of ns (behind_nexts r)) (Ok (expr_tree c.in_ok-right_expr.right_expr)) between
+    (side_stays c.expression.new.globals r (tree c.in_ok-right_nexts.right_side.now) _ c.in_ok-right_nexts.ensures.behind c.in_ok-right_expr.ensures.outcome) more) in
     let made = ap₂ (λ e f. equation_of (nexts_of l) (nexts_of r) (place_of r) (Ok (expr_tree e)) (Ok (expr_tree f))) (sym c.in_ok-left_expr-2.ensures.ok) (sym c.in_ok-right_expr-2.ensures.ok) in
     let counts = ap₂ (λ n m. equation_of n m (place_of r) (Ok (expr_tree c.in_ok-left_expr-2.left_expr.value)) (Ok (expr_tree c.in_ok-right_expr-2.right_expr.value)))
-        (sym c.in_ok-left_nexts.ensures.count) (sym c.in_ok-right_nexts.ensures.count) in
+    (sym c.in_ok-left_nexts.ensures.count) (sym c.in_ok-right_nexts.ensures.count) in
     sides ∙ (made ∙ (counts ∙ c.in_ok-formula.ensures (place_of r)))

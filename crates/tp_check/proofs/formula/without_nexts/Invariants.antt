@@ -7,5 +7,5 @@ use Rattle.tp_check.proofs.formula.without_nexts.Given as goal
 abbrev pub invariant-loop-behind : goal.invariant-loop-behind
 invariant-loop-behind l = record {
   count : l.count + nexts_of (tree l.behind) ≡ nexts_of (tree l.fn.phrase);
-  behind : behind_nexts (tree l.behind) ≡ behind_nexts (tree l.fn.phrase)
+  behind : behind_nexts (tree l.behind) ≡ behind_nexts (tree l.fn.phrase);
 }

@@ -1,4 +1,4 @@
-use Rattle.std.proofs.Common.{◌≡◌, ◌∙◌, [], sym, ap, ap₂, subst, map, None, slice_get, Ok, rules}
+use Rattle.std.proofs.Common.{◌≡◌, ◌∙◌, [], sym, ap, ap₂, subst, map, Ok, rules}
 use Rattle.std.proofs.lemmas.Result.{err_from_is_err_and}
 use Rattle.tp_tree.specs.Read.{tree, definition_tree}
 use Rattle.tp_kernel.specs.Read.{formula_tree}
