@@ -1,1 +1,17 @@
 pub mod Syntax
+pub mod Derived
+pub mod Course
+pub mod Inputs
+pub mod Value
+pub mod Holds
+pub mod Direct
+pub mod Interval
+pub mod Bindings
+pub mod Fits
+pub mod Laws
+pub mod Cuts
+pub mod Moving
+pub mod Unfolding
+pub mod Reading
+pub mod Examples
+pub mod BindingsLaw

@@ -1,5 +1,6 @@
 -- The variables of a list of names.
-use Rattle.std.specs.Prelude.{ℕ, ◌&&◌, Bool, false, nat_le, List, [], ◌∷◌, ◌++◌, Option, None, Some, position}
+use Rattle.std.specs.Prelude.{ℕ, ◌&&◌, Bool, false, nat_le, List, [], ◌∷◌, ◌++◌, Option, None, Some}
+use Rattle.std.specs.List.{position_from}
 use Rattle.std.specs.Option.{option_map}
 use Rattle.std.specs.Str.{bytes_eq}
 use Rattle.tp_value.specs.declared.path.VarId.{VarId}
@@ -15,7 +16,7 @@ variable name i = record { number = i; lasting = is_lower name }
 
 -- the variable of this name, if it is one of the list
 abbrev pub variable_of : List (List ℕ) → List ℕ → Option VarId
-variable_of names name = option_map (variable name) (position (bytes_eq name) names)
+variable_of names name = option_map (variable name) (position_from (bytes_eq name) 0 names)
 
 -- the list with the name: as it is where the name is there, else with the name at its end
 abbrev pub with_name : List (List ℕ) → List ℕ → List (List ℕ)

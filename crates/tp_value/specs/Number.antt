@@ -1,11 +1,19 @@
 -- The limit of the language's numbers.
-use Rattle.std.specs.Prelude.{ℤ, pos, negsuc, ℕ, ◌≤◌, ◌<◌}
+use Rattle.std.specs.Prelude.{ℤ, pos, negsuc, ℕ, Bool, nat_le, nat_lt, IsTrue, Option, Some, None, if◌then◌else◌}
 
 -- the greatest number; the least is its negation
 abbrev pub number_limit : ℕ
 number_limit = 9223372036854775807
 
--- the number is within the limit
+-- whether a whole number is within the limit
+abbrev pub is_within_limit : ℤ → Bool
+is_within_limit (pos n) = nat_le n number_limit
+is_within_limit (negsuc n) = nat_lt n number_limit
+
+-- a number of the language
 abbrev pub IsNumber : ℤ → Type 0
-IsNumber (pos n) = n ≤ number_limit
-IsNumber (negsuc n) = n < number_limit
+IsNumber n = IsTrue (is_within_limit n)
+
+-- the number, where it is within the limit
+abbrev pub within_limit : ℤ → Option ℤ
+within_limit n = if is_within_limit n then Some n else None

@@ -1,5 +1,6 @@
 // The global variables of a program.
-ghost use Rattle.std.specs.Prelude.{◌≡◌, [], IfOk, OnOk, OnErr, length, slice_get, position, Some, bytes_eq};
+ghost use Rattle.std.specs.Prelude.{◌≡◌, [], IfOk, OnOk, OnErr, length, slice_get, Some, bytes_eq};
+ghost use Rattle.std.specs.List.{position_from};
 ghost use Rattle.std.specs.Option.{option_copied};
 ghost use Rattle.tp_value.specs.Globals.{is_lower, variable_of, variable, with_name};
 
@@ -43,7 +44,7 @@ fn make_variable(name: &[u8], place: usize) -> VarId
 }
 
 fn place_of(names: &[Text], name: &[u8]) -> Option<usize>
-    ensures { result ≡ position (bytes_eq name.now) names.now }
+    ensures { result ≡ position_from (bytes_eq name.now) 0 names.now }
 {
     names.iter().position(|known| name == known.as_slice())
 }
@@ -79,14 +80,14 @@ impl Globals {
         self.names.len() as u64
     }
 
-    /// The name of the variable with that number.
+    /// The name of the variable with that number, or none where the number is not below `len`.
     pub fn name(&self, number: u64) -> Option<&Text>
         ensures { option_copied result ≡ slice_get self.now number }
     {
         self.names.get(number as usize)
     }
 
-    /// The variable of that name.
+    /// The variable of that name, or none where the name is not there.
     pub fn find(&self, name: &Text) -> Option<VarId>
         ensures { result ≡ variable_of self.now name.now }
     {

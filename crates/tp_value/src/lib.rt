@@ -5,6 +5,8 @@ mod globals;
 mod number;
 mod path;
 mod refusal;
+#[cfg(test)]
+mod tests;
 mod text;
 mod value;
 
@@ -13,4 +15,4 @@ pub use number::{NUMBER_LIMIT, Number, is_number, sum};
 pub use path::{Fact, Facts, Indices, Path, VarId};
 pub use refusal::NoMemory;
 pub use text::{Bytes, Text, Texts};
-pub use value::{Items, Shape, Value, same, shape_at};
+pub use value::{Items, Shape, Value, same, same_tree_is_equality, shape_at};

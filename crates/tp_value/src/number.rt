@@ -1,7 +1,6 @@
 // The numbers of the language.
-ghost use Rattle.std.specs.Prelude.{◌↔◌, ◌+ℤ◌, IsTrue};
-ghost use Rattle.std.specs.Option.{SomeIff};
-ghost use Rattle.tp_value.specs.Number.{IsNumber};
+ghost use Rattle.std.specs.Prelude.{◌≡◌, ◌+ℤ◌};
+ghost use Rattle.tp_value.specs.Number.{is_within_limit, within_limit};
 
 /// A number of the language, from `-NUMBER_LIMIT` to `NUMBER_LIMIT`.
 pub type Number = i64;
@@ -11,14 +10,24 @@ pub const NUMBER_LIMIT: Number = i64::MAX;
 
 /// Whether the number is within the limit.
 pub fn is_number(n: Number) -> bool
-    ensures { IsTrue result ↔ IsNumber n }
+    ensures { result ≡ is_within_limit n }
 {
     n >= -NUMBER_LIMIT
 }
 
+// The number, where it is within the limit.
+fn within(n: Number) -> Option<Number>
+    ensures { result ≡ within_limit n }
+{
+    if is_number(n) { Some(n) } else { None }
+}
+
 /// The sum, where it is within the limit.
 pub fn sum(a: Number, b: Number) -> Option<Number>
-    ensures { SomeIff result (IsNumber (a +ℤ b)) (a +ℤ b) }
+    ensures { result ≡ within_limit (a +ℤ b) }
 {
-    a.checked_add(b).filter(|n| is_number(*n))
+    match a.checked_add(b) {
+        Some(n) => within(n),
+        None => None,
+    }
 }

@@ -1,8 +1,13 @@
 // Variables, places in their values, and facts.
+ghost use Rattle.std.specs.Prelude.{◌≡◌, [], IfOk};
+
+use crate::NoMemory;
 use crate::value::Shape;
+use std::alloc::Global;
 use std::marker::Model;
 
-/// A variable. `lasting` says that it is static: it keeps one value over the whole interval.
+/// A variable, by its number. `lasting` says that it is static: it keeps one value over the whole interval. Else it is a state
+/// variable, with a value of its own in each state.
 #[derive(Clone, Copy, Debug, PartialEq, Eq)]
 pub struct VarId {
     pub number: u64,
@@ -23,21 +28,63 @@ impl Model for Indices {
     ghost view = { λ a. a.items.items };
 }
 
-/// A place: a variable, and indices into its value.
+impl Indices {
+    /// No index.
+    pub fn new(alloc: Global) -> Indices
+        ensures { result ≡ [] }
+    {
+        Indices {
+            items: Vec::new(alloc),
+        }
+    }
+
+    /// Equal indices.
+    pub fn copy(&self) -> Result<Indices, NoMemory>
+        ensures { IfOk result (λ indices. indices ≡ self.now) }
+    {
+        let items = self.items.clone()?;
+        Ok(Indices { items })
+    }
+}
+
+/// A place: a variable, and indices into its value; with no index it is the whole value.
 #[derive(Debug, Drop)]
 pub struct Path {
     pub var: VarId,
     pub at: Indices,
 }
 
-/// A fact gives the place of a path a shape.
+impl Path {
+    /// An equal path.
+    pub fn copy(&self) -> Result<Path, NoMemory>
+        ensures { IfOk result (λ path. path ≡ self.now) }
+    {
+        let at = self.at.copy()?;
+        Ok(Path { var: self.var, at })
+    }
+}
+
+/// A fact gives the place of a path a shape, in one state.
 #[derive(Debug, Drop)]
 pub struct Fact {
     pub path: Path,
     pub shape: Shape,
 }
 
-/// A list of facts.
+impl Fact {
+    /// An equal fact.
+    pub fn copy(&self) -> Result<Fact, NoMemory>
+        ensures { IfOk result (λ fact. fact ≡ self.now) }
+    {
+        let path = self.path.copy()?;
+        Ok(Fact {
+            path,
+            shape: self.shape,
+        })
+    }
+}
+
+/// Facts, in order.
 #[derive(Debug, Drop)]
 pub struct Facts {
     pub items: Vec<Fact>,

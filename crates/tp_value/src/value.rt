@@ -1,5 +1,7 @@
+// Values, their shapes, and their equality.
 ghost use Rattle.std.specs.Prelude.{◌≡◌, ◌↔◌, IfOk, IsTrue};
 ghost use Rattle.tp_value.specs.Read.{tree};
+ghost use Rattle.tp_value.specs.Tree.{SameTreeIsEquality};
 ghost use Rattle.tp_value.specs.Shape.{shape_of, item_of, shape_at_path, HasShortLists};
 ghost use Rattle.std.specs.Option.{option_map};
 
@@ -15,7 +17,7 @@ pub enum Value {
     List(Items),
 }
 
-/// The items of a list.
+/// The items of a list, in order.
 #[derive(Drop)]
 #[cycle(value)]
 pub struct Items {
@@ -42,7 +44,7 @@ impl Value {
     }
 }
 
-/// What a value is at one place.
+/// What a value is at one place: a number, a truth value, or a list of so many items.
 #[derive(Clone, Copy, Debug, PartialEq, Eq)]
 pub enum Shape {
     Num(Number),
@@ -50,7 +52,7 @@ pub enum Shape {
     Items(u32),
 }
 
-/// The shape of a whole value.
+// The shape of a whole value.
 fn whole_shape(value: &Value) -> Shape
     requires { HasShortLists (tree value.now) }
     ensures { result ≡ shape_of (tree value.now) }
@@ -62,7 +64,7 @@ fn whole_shape(value: &Value) -> Shape
     }
 }
 
-/// The item of a list at an index.
+// The item of a list at an index.
 fn item(value: &Value, at: u32) -> Option<&Value>
     ensures { option_map (λ v. tree v.now) result ≡ item_of (tree value.now) at }
 {
@@ -79,7 +81,8 @@ fn item(value: &Value, at: u32) -> Option<&Value>
     }
 }
 
-/// The shape at a path of indices, or none where there is no such element.
+/// The shape at a path of indices from the outermost list inwards, or none where there is no such element. Each list of the
+/// value has fewer than 2^32 items.
 pub fn shape_at(value: &Value, at: &[u32]) -> Option<Shape>
     requires { HasShortLists (tree value.now) }
     ensures { result ≡ shape_at_path at.now (tree value.now) }
@@ -94,7 +97,7 @@ pub fn shape_at(value: &Value, at: &[u32]) -> Option<Shape>
     Some(whole_shape(here))
 }
 
-/// Whether two values are equal.
+/// Whether two values are equal: of one kind, with the same number or truth value, or with equal items in order.
 #[tactic(auto, using(crate::specs::Equations::tree_list, crate::specs::Equations::tree_num, crate::specs::Equations::tree_truth))]
 pub fn same(a: &Value, b: &Value) -> bool
     ensures { IsTrue result ↔ tree a.now ≡ tree b.now }
@@ -124,3 +127,8 @@ pub fn same(a: &Value, b: &Value) -> bool
         },
     }
 }
+
+/// `same_tree` of the specifications tells equal trees.
+pub fn same_tree_is_equality()
+    ensures { SameTreeIsEquality }
+{}

@@ -1,0 +1,52 @@
+-- The end line of each status, and its code.
+use Rattle.std.specs.Prelude.{ℕ, List, [], ◌++◌, codes}
+use Rattle.std.specs.Fmt.{decimal}
+use Rattle.tempura.specs.declared.status.Status.{Status}
+use Rattle.tempura.specs.declared.status.Status.TheVariants.{Finished, Contradictory, Undetermined, NumberLimit, SourceRefused, WordsRefused, TooLong, ReadFault, WriteFault, NoMemory}
+use Rattle.tempura.specs.declared.status.Which.{Which}
+use Rattle.tempura.specs.declared.status.Which.TheVariants.{Source}
+use Rattle.tempura.specs.declared.status.SourceKind.{SourceKind}
+use Rattle.tempura.specs.declared.status.SourceKind.TheVariants.{Unexpected}
+use Rattle.tempura.specs.Texts.{cell_text, clash_text}
+
+abbrev pub which_text : Which → List ℕ
+which_text Source = codes "source"
+
+abbrev pub kind_text : SourceKind → List ℕ
+kind_text Unexpected = codes "unexpected"
+
+abbrev pub place_text : ℕ → ℕ → List ℕ
+place_text line column = codes "source refused: line " ++ decimal line ++ codes " column " ++ decimal column
+
+-- a word for a status, and the state that it speaks of
+abbrev pub state_text : List ℕ → ℕ → List ℕ
+state_text word state = word ++ codes ": state " ++ decimal state
+
+-- what the end line of a call says that ran a program with these global variables, or none; two answers have no end line
+abbrev pub last_words : List (List ℕ) → Status → List ℕ
+last_words names (Finished length) = codes "finished: length " ++ decimal length
+last_words names (Contradictory state clash) = state_text (codes "contradictory") state ++ codes ": " ++ clash_text names clash
+last_words names (Undetermined state cell) = state_text (codes "undetermined") state ++ codes ": " ++ cell_text names cell
+last_words names (NumberLimit state) = state_text (codes "number limit") state
+last_words names (SourceRefused line column kind) = place_text line column ++ codes ": " ++ kind_text kind
+last_words names WordsRefused = codes "words refused"
+last_words names (TooLong which) = codes "too long: " ++ which_text which
+last_words names (ReadFault which) = codes "read fault: " ++ which_text which
+last_words names WriteFault = []
+last_words names NoMemory = []
+
+abbrev pub end_line : List (List ℕ) → Status → List ℕ
+end_line names status = last_words names status ++ codes "\n"
+
+-- the exit status of the program
+abbrev pub code_of : Status → ℕ
+code_of (Finished length) = 0
+code_of (Contradictory state clash) = 1
+code_of (Undetermined state cell) = 2
+code_of (NumberLimit state) = 5
+code_of (SourceRefused line column kind) = 10
+code_of WordsRefused = 12
+code_of (TooLong which) = 13
+code_of (ReadFault which) = 14
+code_of WriteFault = 15
+code_of NoMemory = 16

@@ -1,0 +1,11 @@
+pub mod Words
+pub mod Reading
+pub mod Texts
+pub mod EndLine
+pub mod Written
+pub mod Run
+pub mod Progress
+pub mod Places
+pub mod Answer
+pub mod Parts
+pub mod ReadBack

@@ -1,0 +1,164 @@
+// The top call.
+ghost use Rattle.std.specs.Prelude.{◌≡◌, ◌≢◌, ◌≤◌, ◌⊎◌, ℕ, [], length, None, IfOk, IfErr};
+ghost use Rattle.tp_io.specs.Devices.{Rose};
+ghost use Rattle.tp_kernel.specs.Read.{formula_tree};
+ghost use Rattle.tp_kernel.specs.Built.{IsBuilt};
+ghost use Rattle.tp_run.specs.declared.turn.Cell.{Cell};
+ghost use Rattle.tp_run.specs.declared.turn.Clash.{Clash};
+ghost use Rattle.tp_run.specs.History.{SatisfiedExactly, Satisfiable, Unsatisfiable, ContinuesEach};
+ghost use Rattle.tp_fragment.specs.Program.{IsProgram};
+ghost use Rattle.tempura.specs.declared.status.Which.{Which};
+ghost use Rattle.tempura.specs.declared.status.SourceKind.{SourceKind};
+ghost use Rattle.tempura.specs.Words.{wanted_of};
+ghost use Rattle.tempura.specs.Run.{ProgramTree};
+ghost use Rattle.tempura.specs.Answer.{source_limit, HoldsProgram, HoldsNoProgram, IsTooLong, Sourced, Answers, AsksOnly, IsOrStopped, IsOrFailed, IsEndOfRun, HasFailed, IsTold, Prints};
+ghost use Rattle.tempura.specs.Parts.{program_tree, IsReadRefusal, IsRefusal, Closes};
+
+use crate::end_line::end_text;
+use crate::run::run_program;
+use crate::source::{ReadRefusal, read_limited};
+use crate::status::{SourceKind, Status, Which};
+use crate::words::read_words;
+use std::alloc::Global;
+use tp_fragment::Program;
+use tp_io::{Files, Sink, WriteRefusal};
+use tp_value::{Globals, Text};
+
+// The greatest length of a source, in bytes.
+const SOURCE_LIMIT: usize = 65_536;
+
+fn read_program(alloc: Global, source: &[u8]) -> Result<Program, Status>
+    requires { length source.now ≤ source_limit }
+    ensures program { IfOk result (λ p. IsProgram source.now (formula_tree p.main.value) p.globals) }
+    ensures built { IfOk result (λ p. IsBuilt p.globals (formula_tree p.main.value)) }
+    ensures refused { IfErr result (IsReadRefusal source.now) }
+{
+    match tp_fragment::read(alloc, source) {
+        Ok(program) => Ok(program),
+        Err(tp_fragment::ReadRefusal::NotProgram) => Err(Status::SourceRefused {
+            line: 1,
+            column: 1,
+            kind: SourceKind::Unexpected,
+        }),
+        Err(tp_fragment::ReadRefusal::NoMemory) => Err(Status::NoMemory),
+    }
+}
+
+// Reads the words, the source and the program.
+fn program_for<F: Files>(alloc: Global, words: &[Text], files: &mut F) -> Result<Program, Status>
+    ensures program { IfOk result (λ p. Sourced words.now (F.held files.old) (HoldsProgram (program_tree p))) }
+    ensures built { IfOk result (λ p. IsBuilt p.globals (formula_tree p.main.value)) }
+    ensures refused { IfErr result (IsRefusal words.now (F.held files.old)) }
+    ensures asked { AsksOnly words.now (F.asked files.old) (F.asked files.new) (λ which. result ≡ Err (Status.ReadFault which)) }
+    ensures held { F.held files.new ≡ F.held files.old }
+    ensures later { F.faults files.old ≤ F.faults files.new }
+    ensures read_fault { (which : Which) → result ≡ Err (Status.ReadFault which) → Rose F.greatest (F.faults files.old) (F.faults files.new) }
+{
+    let Some(command) = read_words(words) else {
+        return Err(Status::WordsRefused);
+    };
+    match read_limited(alloc, files, command.file, SOURCE_LIMIT) {
+        Err(ReadRefusal::TooLong) => Err(Status::TooLong {
+            which: Which::Source,
+        }),
+        Err(ReadRefusal::Failed) => Err(Status::ReadFault {
+            which: Which::Source,
+        }),
+        Err(ReadRefusal::NoMemory) => Err(Status::NoMemory),
+        Ok(source) => read_program(alloc, source.as_slice()),
+    }
+}
+
+// Writes the end line, by one write.
+fn close<K: Sink>(alloc: Global, globals: &Globals, status: Status, out: &mut K) -> Status
+    requires { status ≢ Status.WriteFault }
+    ensures written { Closes globals.now status (K.written out.old) (K.written out.new) result }
+    ensures memory { status ≡ Status.NoMemory → result ≡ Status.NoMemory }
+    ensures later { K.faults out.old ≤ K.faults out.new }
+    ensures write_fault { result ≡ Status.WriteFault → Rose K.greatest (K.faults out.old) (K.faults out.new) }
+{
+    if let Status::NoMemory = &status {
+        return status;
+    }
+    let Ok(line) = end_text(alloc, globals, &status) else {
+        return Status::NoMemory;
+    };
+    match out.write(alloc, line.as_slice()) {
+        Ok(()) => status,
+        Err(WriteRefusal::Failed) => Status::WriteFault,
+        Err(WriteRefusal::NoMemory) => Status::NoMemory,
+    }
+}
+
+// The end line where no program ran.
+fn refuse<K: Sink>(alloc: Global, status: Status, out: &mut K) -> Status
+    requires { status ≢ Status.WriteFault }
+    ensures written { Closes [] status (K.written out.old) (K.written out.new) result }
+    ensures memory { status ≡ Status.NoMemory → result ≡ Status.NoMemory }
+    ensures later { K.faults out.old ≤ K.faults out.new }
+    ensures write_fault { result ≡ Status.WriteFault → Rose K.greatest (K.faults out.old) (K.faults out.new) }
+{
+    match Globals::new(alloc) {
+        Ok(globals) => close(alloc, &globals, status, out),
+        Err(_) => Status::NoMemory,
+    }
+}
+
+// The whole call, by the table of its answers.
+fn call<F: Files, K: Sink>(alloc: Global, words: &[Text], files: &mut F, out: &mut K) -> Status
+    ensures answer { Answers words.now (F.held files.old) (K.written out.old) (K.written out.new) result }
+    ensures asked { AsksOnly words.now (F.asked files.old) (F.asked files.new) (λ which. result ≡ Status.ReadFault which) }
+    ensures held { F.held files.new ≡ F.held files.old }
+    ensures read_fault { (which : Which) → result ≡ Status.ReadFault which → Rose F.greatest (F.faults files.old) (F.faults files.new) }
+    ensures write_fault { result ≡ Status.WriteFault → Rose K.greatest (K.faults out.old) (K.faults out.new) }
+{
+    match program_for(alloc, words, files) {
+        Err(status) => refuse(alloc, status, out),
+        Ok(Program { main, globals }) => match run_program(alloc, main, &globals, out) {
+            Err(WriteRefusal::Failed) => Status::WriteFault,
+            Err(WriteRefusal::NoMemory) => Status::NoMemory,
+            Ok(status) => close(alloc, &globals, status, out),
+        },
+    }
+}
+
+/// Runs the program of the file that the words name: `run` and a file. Each settled state is written by one write, and
+/// the end line by one more; nothing is written after a write that failed, nor where memory is wanted.
+pub fn tempura<F: Files, K: Sink>(
+    alloc: Global,
+    words: &[Text],
+    files: &mut F,
+    out: &mut K,
+) -> Status
+    ensures answer { Answers words.now (F.held files.old) (K.written out.old) (K.written out.new) result }
+    ensures held { F.held files.new ≡ F.held files.old }
+
+    // The headline: where a run finishes, an interval satisfies the program exactly where it has the printed length and agrees with each
+    // printed state, with nothing shown, and there is one. Where it is contradictory there is none. Where it is undetermined, or a number
+    // is past the limit, each one that satisfies agrees with the printed states and has more states than these.
+    ensures finished { (length : ℕ) → result ≡ Status.Finished length
+        → Prints words.now (F.held files.old) (K.written out.old) (K.written out.new) (Status.Finished length) (λ p printed. SatisfiedExactly p printed length × Satisfiable p) }
+    ensures contradictory { (state : ℕ) (clash : Clash) → result ≡ Status.Contradictory state clash
+        → Prints words.now (F.held files.old) (K.written out.old) (K.written out.new) (Status.Contradictory state clash) (λ p printed. Unsatisfiable p) }
+    ensures undetermined { (state : ℕ) (cell : Cell) → result ≡ Status.Undetermined state cell
+        → Prints words.now (F.held files.old) (K.written out.old) (K.written out.new) (Status.Undetermined state cell) (λ p printed. ContinuesEach p printed) }
+    ensures number_limit { (state : ℕ) → result ≡ Status.NumberLimit state
+        → Prints words.now (F.held files.old) (K.written out.old) (K.written out.new) (Status.NumberLimit state) (λ p printed. ContinuesEach p printed) }
+    ensures program_runs { (program : ProgramTree) → IsTold words.now (F.held files.old) (HoldsProgram program) → IsEndOfRun result ⊎ HasFailed result }
+
+    // Refusals, each exactly, but for failed reads and writes and want of memory.
+    ensures words_refused_only { result ≡ Status.WordsRefused → wanted_of words.now ≡ None }
+    ensures words_refused { wanted_of words.now ≡ None → IsOrStopped Status.WordsRefused result }
+    ensures too_long_only { (which : Which) → result ≡ Status.TooLong which → Sourced words.now (F.held files.old) IsTooLong }
+    ensures too_long { IsTold words.now (F.held files.old) IsTooLong → IsOrFailed (Status.TooLong Which.Source) result }
+    ensures source_refused_only { (line column : ℕ) (kind : SourceKind) → result ≡ Status.SourceRefused line column kind
+        → Sourced words.now (F.held files.old) HoldsNoProgram }
+    ensures source_refused { IsTold words.now (F.held files.old) HoldsNoProgram → IsOrFailed (Status.SourceRefused 1 1 SourceKind.Unexpected) result }
+
+    // Faults.
+    ensures asked { AsksOnly words.now (F.asked files.old) (F.asked files.new) (λ which. result ≡ Status.ReadFault which) }
+    ensures read_fault { (which : Which) → result ≡ Status.ReadFault which → Rose F.greatest (F.faults files.old) (F.faults files.new) }
+    ensures write_fault { result ≡ Status.WriteFault → Rose K.greatest (K.faults out.old) (K.faults out.new) }
+{
+    call(alloc, words, files, out)
+}

@@ -1,0 +1,54 @@
+//! Runs a program of interval temporal logic.
+#![tactic(auto)]
+
+mod call;
+mod end_line;
+mod laws;
+mod run;
+mod source;
+mod status;
+#[cfg(test)]
+mod tests;
+mod text;
+mod words;
+
+use std::alloc::Global;
+use std::env::Env;
+use std::process::ExitCode;
+use std::{env, io};
+use tp_io::{RealFiles, RealSink};
+use tp_value::{NoMemory, Text};
+
+// The words could not be had, for another cause than memory.
+const NO_WORDS: u8 = 20;
+
+const NO_MEMORY: u8 = 16;
+
+fn text_of(alloc: Global, word: &str) -> Result<Text, NoMemory> {
+    Text::from_slice(alloc, word.as_bytes())
+}
+
+// The words after the program's name; at `Err` the exit status.
+fn given_words<R: Env + AllocGlobal>(rt: &R) -> Result<Vec<Text>, u8> {
+    let mut words = Vec::new(rt.alloc());
+    let args = env::args(rt).map_err(|e| match e.kind() {
+        io::ErrorKind::OutOfMemory => NO_MEMORY,
+        _ => NO_WORDS,
+    })?;
+    for word in args.skip(1) {
+        let text = text_of(rt.alloc(), word.as_str()).map_err(|_| NO_MEMORY)?;
+        words.push(text).map_err(|_| NO_MEMORY)?;
+    }
+    Ok(words)
+}
+
+fn main(rt: HostRuntime) -> ExitCode {
+    let words = match given_words(&rt) {
+        Ok(words) => words,
+        Err(code) => return ExitCode::from(code),
+    };
+    let mut files = RealFiles::new(&rt);
+    let mut out = RealSink::new(io::writer(&rt));
+    let status = call::tempura(rt.alloc(), words.as_slice(), &mut files, &mut out);
+    ExitCode::from(status.code())
+}

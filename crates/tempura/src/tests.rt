@@ -1,0 +1,138 @@
+// Whole calls over files and pages in memory.
+use crate::call::tempura;
+use std::alloc::Global;
+use std::process::Abort;
+use std::test::Fail;
+use tp_io::{Content, Failure, Page, Shelf, SurePage, SureShelf};
+use tp_value::Text;
+
+fn texts(alloc: Global, words: &[&str]) -> Result<Vec<Text>, Fail> {
+    let mut texts = Vec::new(alloc);
+    for word in words {
+        texts.push(Text::from_slice(alloc, word.as_bytes())?)?;
+    }
+    Ok(texts)
+}
+
+fn contents(alloc: Global, source: &[u8]) -> Result<Vec<Content>, Fail> {
+    let mut contents = Vec::new(alloc);
+    contents.push(Content {
+        name: Text::from_slice(alloc, b"a.t".as_slice())?,
+        bytes: Text::from_slice(alloc, source)?,
+    })?;
+    Ok(contents)
+}
+
+// The exit status and the text of a call with these words, where `a.t` holds the source.
+fn expect(
+    rt: &(impl Abort + AllocGlobal),
+    words: &[&str],
+    source: &[u8],
+    code: u8,
+    text: &str,
+) -> Result<(), Fail> {
+    let alloc = rt.alloc();
+    let mut files = SureShelf::new(alloc, contents(alloc, source)?);
+    let mut page = SurePage::new(alloc);
+    let words = texts(alloc, words)?;
+    let status = tempura(alloc, words.as_slice(), &mut files, &mut page);
+    assert_eq!(rt; page.text(), text.as_bytes());
+    assert_eq!(rt; status.code(), code);
+    Ok(())
+}
+
+#[test]
+fn sources_are_run(rt: HostRuntime) -> Result<(), Fail> {
+    let refused = "source refused: line 1 column 1: unexpected\n";
+    let rows = [
+        ("run empty.", 0, "state 0:\nfinished: length 0\n"),
+        (
+            "run A=1 and A=2 and empty.",
+            1,
+            "contradictory: state 0: A=1 and A=2\n",
+        ),
+        (
+            "run A=2 and A=1 and empty.",
+            1,
+            "contradictory: state 0: A=1 and A=2\n",
+        ),
+        (
+            "run empty and next empty.",
+            1,
+            "contradictory: state 0: ends and goes on at depth 0\n",
+        ),
+        ("run empty and A=B.", 2, "undetermined: state 0: B\n"),
+        ("run A=1.", 2, "undetermined: state 0: end at depth 0\n"),
+        (
+            "run A=B and B=C and C=3 and empty.",
+            0,
+            "state 0: A=3 B=3 C=3\nfinished: length 0\n",
+        ),
+        (
+            "run A=0 and next A = A+1 and next empty.",
+            0,
+            "state 0: A=0\nstate 1: A=1\nfinished: length 1\n",
+        ),
+        (
+            "run A=3 and A=B and empty.",
+            0,
+            "state 0: A=3 B=3\nfinished: length 0\n",
+        ),
+        (
+            "run A=9223372036854775807 and B=A+1 and empty.",
+            5,
+            "number limit: state 0\n",
+        ),
+        ("run A=1 or empty.", 10, refused),
+        ("", 10, refused),
+    ];
+    for (source, code, text) in rows {
+        expect(&rt, &["run", "a.t"], source.as_bytes(), code, text)?;
+    }
+    Ok(())
+}
+
+#[test]
+fn words_are_refused(rt: HostRuntime) -> Result<(), Fail> {
+    let text = "words refused\n";
+    let source = b"run empty.".as_slice();
+    expect(&rt, &[], source, 12, text)?;
+    expect(&rt, &["run"], source, 12, text)?;
+    expect(&rt, &["print", "a.t"], source, 12, text)?;
+    expect(&rt, &["run", "a.t", "--states", "x"], source, 12, text)
+}
+
+#[test]
+fn long_sources_are_refused(rt: HostRuntime) -> Result<(), Fail> {
+    let refused = "source refused: line 1 column 1: unexpected\n";
+    let source = vec![in rt.alloc(); b' '; 65537]?;
+    expect(
+        &rt,
+        &["run", "a.t"],
+        source.as_slice(),
+        13,
+        "too long: source\n",
+    )?;
+    expect(&rt, &["run", "a.t"], &source[..65536], 10, refused)
+}
+
+#[test]
+fn faults_are_told(rt: HostRuntime) -> Result<(), Fail> {
+    let alloc = rt.alloc();
+    let source = b"run A=0 and next A = A+1 and next empty.".as_slice();
+    let words = texts(alloc, &["run", "a.t"])?;
+    let mut shelf = Shelf::new(alloc, contents(alloc, source)?, vec![in alloc; 1u64]?);
+    let mut page = SurePage::new(alloc);
+    let status = tempura(alloc, words.as_slice(), &mut shelf, &mut page);
+    assert_eq!(rt; status.code(), 14);
+    assert_eq!(rt; page.text(), b"read fault: source\n".as_slice());
+    let failing = vec![in alloc; Failure { call: 2, kept: 4 }]?;
+    let mut page = Page::new(alloc, failing);
+    let status = tempura(alloc, words.as_slice(), &mut shelf, &mut page);
+    assert_eq!(rt; status.code(), 15);
+    assert_eq!(rt;
+        page.text(alloc)?.as_slice(),
+        b"state 0: A=0\nstat".as_slice()
+    );
+    Ok(())
+}

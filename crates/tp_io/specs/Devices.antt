@@ -1,0 +1,64 @@
+-- What the calls of a set of files and of a sink do.
+use Rattle.std.specs.Prelude.{◌≡◌, ◌≤◌, ◌+◌, ◌-◌, ◌^◌, ℕ, min, List, [], ◌∷◌, ◌++◌, length, take, Option, None, Some, Result, Ok, Err, unwrap_or, IfSome}
+use Rattle.std.specs.Option.{option_map}
+use Rattle.std.specs.Ordering.{nat_cmp}
+use Rattle.std.specs.Cmp.Lexicographic.{slice_cmp}
+use Rattle.std.specs.FinMap.{FinMap, get}
+use Rattle.tp_io.specs.declared.devices.FileRefusal.{FileRefusal}
+use Rattle.tp_io.specs.declared.devices.WriteRefusal.{WriteRefusal}
+use Rattle.tp_io.specs.declared.devices.FileRefusal.TheVariants as file
+use Rattle.tp_io.specs.declared.devices.WriteRefusal.TheVariants as sink
+
+-- the least number that a count has after it rose; a count stands still at its greatest number
+abbrev pub next_count : Option ℕ → ℕ → ℕ
+next_count None count = count + 1
+next_count (Some greatest) count = min (count + 1) greatest
+
+-- the greatest number of the real files' count and of the real sink's, which have 64 bits
+abbrev pub last_count : Option ℕ
+last_count = Some (2 ^ 64 - 1)
+
+-- the count rose, or it stands at its greatest number
+abbrev pub Rose : Option ℕ → ℕ → ℕ → Type 0
+Rose greatest before now = next_count greatest before ≤ now
+
+-- a map from names to the bytes that they hold
+abbrev pub Held : Type 0
+Held = FinMap (slice_cmp nat_cmp) (List ℕ)
+
+-- what a name holds; a name that is not in the map holds nothing
+abbrev pub bytes_of : Held → List ℕ → List ℕ
+bytes_of files name = unwrap_or (get files name) []
+
+-- the list with one more, where the list is told
+abbrev pub and_one_more : {X : Type 0} → Option (List X) → X → Option (List X)
+and_one_more told x = option_map (λ xs. xs ++ x ∷ []) told
+
+-- the names asked for after a read: one more, unless memory is wanted
+abbrev pub asked_after : {T : Type 0} → Option (List (List ℕ)) → List ℕ → Result T FileRefusal → Option (List (List ℕ))
+asked_after told name (Ok x) = and_one_more told name
+asked_after told name (Err file.Failed) = and_one_more told name
+asked_after told name (Err file.NoMemory) = told
+
+-- a read gave no more than this many bytes, and the first bytes of what the name holds
+pub record Reads (held : Option Held) (name : List ℕ) (most : ℕ) (bytes : List ℕ) : Type 0 where
+  pub within : length bytes ≤ most
+  pub first : IfSome held (λ files. bytes ≡ take most (bytes_of files name))
+
+-- a write appended the piece at `Ok`, a part of it from its start at `Failed`, and nothing at `NoMemory`
+abbrev pub Writes : {T : Type 0} → Option (List ℕ) → Option (List ℕ) → List ℕ → Result T WriteRefusal → Type 0
+Writes old new piece (Ok x) = new ≡ option_map (λ bytes. bytes ++ piece) old
+Writes old new piece (Err sink.Failed) = (kept : ℕ) × (kept ≤ length piece) × (new ≡ option_map (λ bytes. bytes ++ take kept piece) old)
+Writes old new piece (Err sink.NoMemory) = new ≡ old
+
+-- a count of failed reads after one more read: it rises where that failed, and at its greatest number it stands still
+abbrev pub reads_failed_after : {T : Type 0} → Option ℕ → ℕ → Result T FileRefusal → ℕ
+reads_failed_after greatest count (Ok x) = count
+reads_failed_after greatest count (Err file.Failed) = next_count greatest count
+reads_failed_after greatest count (Err file.NoMemory) = count
+
+-- the same for writes
+abbrev pub writes_failed_after : {T : Type 0} → Option ℕ → ℕ → Result T WriteRefusal → ℕ
+writes_failed_after greatest count (Ok x) = count
+writes_failed_after greatest count (Err sink.Failed) = next_count greatest count
+writes_failed_after greatest count (Err sink.NoMemory) = count

@@ -1,0 +1,104 @@
+// What a run asks of its files and of its sink.
+ghost use Rattle.std.specs.Prelude.{◌≡◌, ◌≤◌, ℕ, List, Option, IfOk, IsErrOf};
+ghost use Rattle.tp_io.specs.Devices.{Held, Reads, Writes, Rose, asked_after};
+ghost use Rattle.tp_io.specs.declared.devices.FileRefusal.TheVariants as file;
+ghost use Rattle.tp_io.specs.declared.devices.WriteRefusal.TheVariants as sink;
+
+use std::alloc::{AllocError, AllocFailed, Global};
+use tp_value::{Bytes, NoMemory};
+
+/// Why a read gave no bytes.
+#[derive(Clone, Copy, Debug, PartialEq, Eq)]
+pub enum FileRefusal {
+    Failed,
+    NoMemory,
+}
+
+impl From<NoMemory> for FileRefusal {
+    ghost from_gives = { λ _ e. e ≡ file.NoMemory };
+
+    fn from(_: NoMemory) -> Self {
+        FileRefusal::NoMemory
+    }
+}
+
+impl From<AllocError> for FileRefusal {
+    ghost from_gives = { λ _ e. e ≡ file.NoMemory };
+
+    fn from(_: AllocError) -> Self {
+        FileRefusal::NoMemory
+    }
+}
+
+impl<T: Drop> From<AllocFailed<T>> for FileRefusal {
+    ghost from_gives = { λ _ e. e ≡ file.NoMemory };
+
+    fn from(_: AllocFailed<T>) -> Self {
+        FileRefusal::NoMemory
+    }
+}
+
+/// Why a piece was not written.
+#[derive(Clone, Copy, Debug, PartialEq, Eq)]
+pub enum WriteRefusal {
+    Failed,
+    NoMemory,
+}
+
+impl From<NoMemory> for WriteRefusal {
+    ghost from_gives = { λ _ e. e ≡ sink.NoMemory };
+
+    fn from(_: NoMemory) -> Self {
+        WriteRefusal::NoMemory
+    }
+}
+
+impl<T: Drop> From<AllocFailed<T>> for WriteRefusal {
+    ghost from_gives = { λ _ e. e ≡ sink.NoMemory };
+
+    fn from(_: AllocFailed<T>) -> Self {
+        WriteRefusal::NoMemory
+    }
+}
+
+/// Files that are read by name.
+pub trait Files {
+    /// What each name holds, where it is told. A name outside of the map holds no bytes.
+    ghost held: { Self → Option Held };
+
+    /// The names asked for so far, in order, where they are told.
+    ghost asked: { Self → Option (List (List ℕ)) };
+
+    /// How often a read has failed.
+    ghost faults: { Self → ℕ };
+
+    /// The greatest number that this count can have, if there is one.
+    ghost greatest: { Option ℕ };
+
+    /// Reads the first bytes of what the name holds, at most so many. A read that wants memory asks for no name.
+    fn read(&mut self, alloc: Global, name: &str, most: usize) -> Result<Bytes, FileRefusal>
+        ensures bytes { IfOk result (Reads (held self.old) name.now most) }
+        ensures held { held self.new ≡ held self.old }
+        ensures asked { asked self.new ≡ asked_after (asked self.old) name.now result }
+        ensures later { faults self.old ≤ faults self.new }
+        ensures cause { IsErrOf result FileRefusal.Failed → Rose greatest (faults self.old) (faults self.new) };
+}
+
+/// Where a run writes to.
+pub trait Sink {
+    /// The bytes written so far, where they are told.
+    ghost written: { Self → Option (List ℕ) };
+
+    /// How often a write has failed.
+    ghost faults: { Self → ℕ };
+
+    /// The greatest number that this count can have, if there is one.
+    ghost greatest: { Option ℕ };
+
+    /// Appends the piece. A write that fails may have appended a part of it, from its start; one that wants memory
+    /// appends nothing.
+    fn write(&mut self, alloc: Global, piece: &[u8]) -> Result<(), WriteRefusal>
+        ensures written { Writes (written self.old) (written self.new) piece.now result }
+        ensures later { faults self.old ≤ faults self.new }
+        ensures cause { IsErrOf result WriteRefusal.Failed → Rose greatest (faults self.old) (faults self.new) };
+}

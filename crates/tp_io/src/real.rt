@@ -1,0 +1,128 @@
+// The real files, and any writer of std. They tell no content and no names asked for.
+ghost use Rattle.std.specs.Prelude.{◌≡◌, ◌≤◌, length, take, None, Some, IfOk, IfSome, OnOk, IsErrOf};
+ghost use Rattle.std.specs.Io.KnownBytes.{Appends};
+ghost use Rattle.tp_io.specs.Devices.{Reads, Rose, reads_failed_after, writes_failed_after, last_count};
+
+use crate::{FileRefusal, Files, Sink, WriteRefusal};
+use std::alloc::Global;
+use std::io::{Read, Write};
+use std::{fs, io, rt};
+use tp_value::{Bytes, Text};
+
+/// The files of a runtime. A name that is not there, or that cannot be read to the end, is a fault; each fault raises the count.
+#[derive(Drop)]
+pub struct RealFiles<R: rt::Files> {
+    runtime: R,
+    faults: u64,
+}
+
+/// A writer of std. An error is a fault, and so is a write that takes nothing of a piece that is not empty;
+/// each fault raises the count.
+#[derive(Drop)]
+pub struct RealSink<W: Write> {
+    pub writer: W,
+    faults: u64,
+}
+
+impl<R: rt::Files> RealFiles<R> {
+    pub fn new(runtime: R) -> Self
+        ensures { ⟦<RealFiles<R> as Files>⟧.faults result ≡ 0 }
+    {
+        RealFiles { runtime, faults: 0 }
+    }
+}
+
+impl<W: Write> RealSink<W> {
+    pub fn new(writer: W) -> Self
+        ensures writer { result.writer ≡ writer }
+        ensures faults { ⟦<RealSink<W> as Sink>⟧.faults result ≡ 0 }
+    {
+        RealSink { writer, faults: 0 }
+    }
+}
+
+fn file_refusal(error: &io::Error) -> FileRefusal {
+    match error.kind() {
+        io::ErrorKind::OutOfMemory => FileRefusal::NoMemory,
+        _ => FileRefusal::Failed,
+    }
+}
+
+fn write_refusal(error: &io::Error) -> WriteRefusal {
+    match error.kind() {
+        io::ErrorKind::OutOfMemory => WriteRefusal::NoMemory,
+        _ => WriteRefusal::Failed,
+    }
+}
+
+// Reads until the source gives nothing or so many bytes were read.
+fn read_first<S: Read + Drop>(alloc: Global, source: S, most: usize) -> Result<Bytes, FileRefusal>
+    ensures within { IfOk result (λ bytes. length bytes ≤ most) }
+    ensures first { IfOk result (λ bytes. IfSome (S.remaining source) (λ all. bytes ≡ take most all)) }
+{
+    let mut items = Vec::new(alloc);
+    source
+        .take(most as u64)
+        .read_to_end(&mut items)
+        .map_err(|e| file_refusal(&e))?;
+    items.truncate(most);
+    Ok(Text { items })
+}
+
+fn open_and_read<R: rt::Files>(
+    alloc: Global,
+    runtime: &R,
+    name: &str,
+    most: usize,
+) -> Result<Bytes, FileRefusal>
+    ensures { IfOk result (λ bytes. length bytes ≤ most) }
+{
+    let file = fs::open(runtime, name).map_err(|e| file_refusal(&e))?;
+    read_first(alloc, file, most)
+}
+
+impl<R: rt::Files> Files for RealFiles<R> {
+    ghost held = { λ _. None };
+
+    ghost asked = { λ _. None };
+
+    ghost faults = { λ s. s.faults };
+
+    ghost greatest = { last_count };
+
+    fn read(&mut self, alloc: Global, name: &str, most: usize) -> Result<Bytes, FileRefusal>
+        ensures bytes { IfOk result (Reads None name.now most) }
+        ensures later { self.old.faults ≤ self.new.faults }
+        ensures cause { IsErrOf result FileRefusal.Failed → Rose last_count self.old.faults self.new.faults }
+
+        ensures count { self.new.faults ≡ reads_failed_after last_count self.old.faults result }
+    {
+        let outcome = open_and_read(alloc, &self.runtime, name, most);
+        if let Err(FileRefusal::Failed) = &outcome {
+            self.faults = self.faults.saturating_add(1);
+        }
+        outcome
+    }
+}
+
+impl<W: Write> Sink for RealSink<W> {
+    ghost written = { λ _. None };
+
+    ghost faults = { λ s. s.faults };
+
+    ghost greatest = { last_count };
+
+    fn write(&mut self, _alloc: Global, piece: &[u8]) -> Result<(), WriteRefusal>
+        ensures later { self.old.faults ≤ self.new.faults }
+        ensures cause { IsErrOf result WriteRefusal.Failed → Rose last_count self.old.faults self.new.faults }
+
+        ensures appended { OnOk result (Appends (W.contents self.old.writer) (W.contents self.new.writer) piece.now) }
+        ensures count { self.new.faults ≡ writes_failed_after last_count self.old.faults result }
+    {
+        let outcome = self.writer.write_all(piece).map_err(|e| write_refusal(&e));
+        if let Err(WriteRefusal::Failed) = &outcome {
+            self.faults = self.faults.saturating_add(1);
+        }
+        outcome
+    }
+}

@@ -1,0 +1,13 @@
+use Rattle.std.proofs.Common.{sym, subst, ap, ◌∙◌}
+use Rattle.tp_kernel.specs.Read.{formula_tree}
+use Rattle.tp_kernel.specs.Equations.{formula_always, formula_if_empty}
+use Rattle.tp_meaning.specs.Syntax.{FormulaTree, always}
+use Rattle.tp_meaning.specs.Direct.{Means, Fin}
+use Rattle.tp_meaning.proofs.Means.{fin_means}
+use Rattle.tp_kernel.proofs.derived.fin.Goals as goal
+
+pub returns-clause-formula : goal.returns-clause-formula
+returns-clause-formula c = formula_always _ ∙ ap (λ w. always (formula_tree w)) c.in_ok-end.ensures.ok ∙ ap always (formula_if_empty _)
+
+pub returns-clause-meaning : goal.returns-clause-meaning
+returns-clause-meaning c = subst (λ (f : FormulaTree). Means f (Fin (formula_tree c.args.w.value))) (sym (returns-clause-formula c)) (fin_means (formula_tree c.args.w.value))

@@ -1,0 +1,140 @@
+// Expressions, formulas and definitions.
+use std::rc::Rc;
+use tp_value::{Number, Path, Text, Texts, Value, VarId};
+
+/// An operator on two values: `= <> < <= > >= + - * div mod` in this order.
+#[derive(Clone, Copy, Debug, PartialEq, Eq)]
+pub enum Op2 {
+    Equal,
+    Differs,
+    Less,
+    LessEqual,
+    Greater,
+    GreaterEqual,
+    Plus,
+    Minus,
+    Times,
+    Div,
+    Mod,
+}
+
+/// An expression. `Bound(i)` is entry i of the environment, counted from 0; `Call` has the number of a definition.
+#[derive(Drop)]
+#[cycle(expr)]
+pub enum Expr {
+    Number(Number),
+    Truth(bool),
+    Known(Rc<Value>),
+    Bound(u32),
+    Global(VarId),
+    List(Exprs),
+    Size(Rc<Expr>),
+    Index(Rc<Expr>, Rc<Expr>),
+    Minus(Rc<Expr>),
+    Not(Rc<Expr>),
+    Both(Exprs),
+    Either(Rc<Expr>, Rc<Expr>),
+    Op(Op2, Rc<Expr>, Rc<Expr>),
+    If(Rc<Expr>, Rc<Expr>, Rc<Expr>),
+    Call(u32, Exprs),
+}
+
+/// Expressions in order.
+#[derive(Drop)]
+#[cycle(expr)]
+pub struct Exprs {
+    pub items: Vec<Expr>,
+}
+
+/// A formula. In `NextEq` stands the number of `next`; `For`, `Forall` and `Exists` bind one name more in their bodies.
+#[derive(Drop)]
+#[cycle(formula)]
+pub enum Formula {
+    True,
+    Test(Rc<Expr>),
+    Eq(Rc<Expr>, Rc<Expr>),
+    NextEq(u32, Rc<Expr>, Rc<Expr>),
+    Empty,
+    More,
+    Next(Rc<Formula>),
+    WeakNext(Rc<Formula>),
+    IfMore(Rc<Formula>),
+    IfEmpty(Rc<Formula>),
+    Always(Rc<Formula>),
+    And(Formulas),
+    If(Rc<Expr>, Rc<Formula>, Rc<Formula>),
+    Len(Rc<Expr>),
+    Assign(Rc<Expr>, Rc<Expr>),
+    Chop(Rc<Formula>, Rc<Formula>),
+    While(Rc<Expr>, Rc<Formula>),
+    For {
+        name: Text,
+        from: Number,
+        to: Rc<Expr>,
+        body: Rc<Formula>,
+    },
+    Forall {
+        name: Text,
+        from: Number,
+        to: Rc<Expr>,
+        body: Rc<Formula>,
+    },
+    Proj(Rc<Formula>, Rc<Formula>),
+    Exists {
+        name: Text,
+        lasting: bool,
+        body: Rc<Formula>,
+    },
+    Call(u32, Exprs),
+    Input(Rc<Expr>, Text),
+    Display(Exprs),
+}
+
+/// Formulas in order.
+#[derive(Drop)]
+#[cycle(formula)]
+pub struct Formulas {
+    pub items: Vec<Rc<Formula>>,
+}
+
+/// A definition, with an expression where its body is one of a single state.
+#[derive(Drop)]
+pub struct Def {
+    pub name: Text,
+    pub parameters: Texts,
+    pub formula: Rc<Formula>,
+    pub expr: Option<Rc<Expr>>,
+}
+
+/// Definitions, by their numbers from 0.
+#[derive(Drop)]
+pub struct Defs {
+    pub items: Vec<Def>,
+}
+
+/// What a bound name stands for.
+#[derive(Drop)]
+pub enum Binding {
+    Place(Path),
+    Known(Rc<Value>),
+}
+
+/// What the bound names stand for, the outermost first.
+#[derive(Drop)]
+pub struct Env {
+    pub items: Vec<Binding>,
+}
+
+/// Why an expression has no value.
+#[derive(Clone, Copy, Debug, PartialEq, Eq)]
+pub enum FaultKind {
+    WrongKind,
+    ZeroDivisor,
+    NoElement,
+}
+
+/// A limit that a run passes.
+#[derive(Clone, Copy, Debug, PartialEq, Eq)]
+pub enum LimitKind {
+    Number,
+}

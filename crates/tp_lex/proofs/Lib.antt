@@ -1,0 +1,5 @@
+pub mod LawLemmas
+pub mod Lists
+pub mod PieceLemmas
+pub mod ReadingLemmas
+pub mod SpellingLemmas

@@ -1,0 +1,118 @@
+use Rattle.std.proofs.Common.{◌≡◌, ℕ, ◌+◌, ◌<◌, ◌≤◌, ◌∙◌, ◌++◌, ◌∷◌, List, [], length, take, drop, arith, rules, subst, sym, ap, length-drop, length-take-le}
+use Rattle.std.proofs.lemmas.List.{take_rest}
+use Rattle.std.proofs.lemmas.Grind.{common_steps}
+use Rattle.tp_lex.specs.declared.first.Piece.TheVariants as v
+use Rattle.tp_lex.specs.declared.token.Token.{Token}
+use Rattle.tp_lex.specs.declared.place.Place.{Place}
+use Rattle.tp_lex.specs.First.{first_piece}
+use Rattle.tp_lex.specs.Pieces.{Begins}
+use Rattle.tp_lex.specs.Place.{place_of, place_from, token_at}
+use Rattle.tp_lex.specs.Tokens.{IsRefusedUnlessMemory}
+use Rattle.tp_lex.proofs.PieceLemmas.{gap_takes, lexeme_takes, piece_found}
+use Rattle.tp_lex.proofs.ReadingLemmas.{Continues, past_gap, past_lexeme, at_fault, at_end, place_later, rest_later, refused_so}
+use Rattle.tp_lex.proofs.reading.tokens.Goals as goal
+use Rattle.tp_lex.proofs.reading.tokens.Goals.{in-Gap, in-Lexeme+in_ok-push-in-Lexeme}
+
+pub token-requires : goal.token-requires
+token-requires c =
+    let e : v.Lexeme c.in-Lexeme.kind c.in-Lexeme.len ≡ first_piece c.loop-rest.rest.now = sym c.in-Lexeme.is ∙ c.in_ok-len.ensures in
+    let found = piece_found c.loop-rest.rest.now _ (grind (arith, common_steps)) e in
+    let left = ap length c.loop-rest.invariant.rest in
+    omega (arith, length-drop c.loop-rest.place.at c.args.bytes.now)
+
+pub returns-in-Refused-clause-refused : goal.returns-in-Refused-clause-refused
+returns-in-Refused-clause-refused c =
+    let e : v.Refused c.in-Refused.fault ≡ first_piece c.loop-rest.rest.now = sym c.in-Refused.is ∙ c.in_ok-len.ensures in
+    let found = piece_found c.loop-rest.rest.now _ (grind (arith, common_steps)) e in
+    let here : Begins (drop c.loop-rest.place.at c.args.bytes.now) (v.Refused c.in-Refused.fault) = subst (λ (z : List ℕ). Begins z (v.Refused c.in-Refused.fault)) c.loop-rest.invariant.rest found.0 in
+    subst (IsRefusedUnlessMemory c.args.bytes.now) (sym c.refusal.ensures) (refused_so c.args.bytes.now c.in-Refused.fault c.loop-rest.place.at (at_fault c.args.bytes.now c.loop-rest.place.at c.in-Refused.fault c.loop-rest.found.items c.loop-rest.invariant.reads here))
+
+pub slice_bounds-after-end : goal.slice_bounds-after-end
+slice_bounds-after-end c =
+    let rest : List ℕ = c.loop-rest.rest.now in
+    let len : ℕ = c.match-branch-2.len in
+    let found = piece_found rest c.in_ok-len.field-0 (grind (arith, common_steps)) c.in_ok-len.ensures in
+    let taken : (0 < len) × (len ≤ length rest) = elim c.match-branch-2.branch [
+      | in-Gap w ↦ gap_takes (length rest) w.in-Gap.len len c.in_ok-len.field-0 found.1 w.in-Gap.is w.len-is
+      | in-Lexeme+in_ok-push-in-Lexeme w ↦ lexeme_takes (length rest) w.in-Lexeme.len len w.in-Lexeme.kind c.in_ok-len.field-0 found.1 w.in-Lexeme.is w.len-is
+    ] in
+    omega (arith, length-take-le len rest taken.1)
+
+pub slice_bounds-rest-count : goal.slice_bounds-rest-count
+slice_bounds-rest-count c =
+    let rest : List ℕ = c.loop-rest.rest.now in
+    let len : ℕ = c.match-branch-2.len in
+    let found = piece_found rest c.in_ok-len.field-0 (grind (arith, common_steps)) c.in_ok-len.ensures in
+    let taken : (0 < len) × (len ≤ length rest) = elim c.match-branch-2.branch [
+      | in-Gap w ↦ gap_takes (length rest) w.in-Gap.len len c.in_ok-len.field-0 found.1 w.in-Gap.is w.len-is
+      | in-Lexeme+in_ok-push-in-Lexeme w ↦ lexeme_takes (length rest) w.in-Lexeme.len len w.in-Lexeme.kind c.in_ok-len.field-0 found.1 w.in-Lexeme.is w.len-is
+    ] in
+    taken.1
+
+pub slice_bounds-rest-start : goal.slice_bounds-rest-start
+slice_bounds-rest-start c =
+    let rest : List ℕ = c.loop-rest.rest.now in
+    let len : ℕ = c.match-branch-2.len in
+    let found = piece_found rest c.in_ok-len.field-0 (grind (arith, common_steps)) c.in_ok-len.ensures in
+    let taken : (0 < len) × (len ≤ length rest) = elim c.match-branch-2.branch [
+      | in-Gap w ↦ gap_takes (length rest) w.in-Gap.len len c.in_ok-len.field-0 found.1 w.in-Gap.is w.len-is
+      | in-Lexeme+in_ok-push-in-Lexeme w ↦ lexeme_takes (length rest) w.in-Lexeme.len len w.in-Lexeme.kind c.in_ok-len.field-0 found.1 w.in-Lexeme.is w.len-is
+    ] in
+    search rules
+
+pub loop-rest-smaller : goal.loop-rest-smaller
+loop-rest-smaller c =
+    let rest : List ℕ = c.loop-rest.rest.now in
+    let len : ℕ = c.match-branch-2.len in
+    let found = piece_found rest c.in_ok-len.field-0 (grind (arith, common_steps)) c.in_ok-len.ensures in
+    let taken : (0 < len) × (len ≤ length rest) = elim c.match-branch-2.branch [
+      | in-Gap w ↦ gap_takes (length rest) w.in-Gap.len len c.in_ok-len.field-0 found.1 w.in-Gap.is w.len-is
+      | in-Lexeme+in_ok-push-in-Lexeme w ↦ lexeme_takes (length rest) w.in-Lexeme.len len w.in-Lexeme.kind c.in_ok-len.field-0 found.1 w.in-Lexeme.is w.len-is
+    ] in
+    let less = take_rest rest len in
+    omega (arith, length-drop len rest, ap length less)
+
+pub loop-rest-preserved : goal.loop-rest-preserved
+loop-rest-preserved c =
+    let rest : List ℕ = c.loop-rest.rest.now in
+    let len : ℕ = c.match-branch-2.len in
+    let found = piece_found rest c.in_ok-len.field-0 (grind (arith, common_steps)) c.in_ok-len.ensures in
+    let taken : (0 < len) × (len ≤ length rest) = elim c.match-branch-2.branch [
+      | in-Gap w ↦ gap_takes (length rest) w.in-Gap.len len c.in_ok-len.field-0 found.1 w.in-Gap.is w.len-is
+      | in-Lexeme+in_ok-push-in-Lexeme w ↦ lexeme_takes (length rest) w.in-Lexeme.len len w.in-Lexeme.kind c.in_ok-len.field-0 found.1 w.in-Lexeme.is w.len-is
+    ] in
+    let bytes : List ℕ = c.args.bytes.now in
+    let at : ℕ = c.loop-rest.place.at in
+    let left = ap length c.loop-rest.invariant.rest in
+    let advanced : c.after-place.result.at ≡ at + len = omega (arith, length-take-le len rest taken.1) in
+    let place : c.after-place.result ≡ place_of bytes (at + len) = c.after-place.ensures.place ∙ (ap (λ (q : Place). place_from q (take len rest)) c.loop-rest.invariant.place ∙ (ap (λ (z : List ℕ). place_from (place_of bytes at) (take len z)) c.loop-rest.invariant.rest ∙ place_later bytes at len)) in
+    let here : Begins (drop at bytes) c.in_ok-len.field-0 = subst (λ (z : List ℕ). Begins z c.in_ok-len.field-0) c.loop-rest.invariant.rest found.0 in
+    let old : List Token = c.loop-rest.found.items in
+    let new : List Token = c.match-branch-2.found.items in
+    let so_far : Continues bytes at old = c.loop-rest.invariant.reads in
+    let more : Continues bytes (at + len) new = elim c.match-branch-2.branch [
+      | in-Gap w ↦
+          let kept : new ≡ old = cc in
+          past_gap bytes at w.in-Gap.len len c.in_ok-len.field-0 old new so_far here w.in-Gap.is w.len-is kept
+      | in-Lexeme+in_ok-push-in-Lexeme w ↦
+          let pushed : new ≡ old ++ token_at w.in-Lexeme.kind w.in-Lexeme.len c.loop-rest.place ∷ [] =
+          ap (λ v. v.items) w.found-is ∙ (w.in_ok-push-in-Lexeme.ensures.items ∙ ap (λ (q : Token). old ++ q ∷ []) w.token.ensures) in
+          let longer : new ≡ old ++ token_at w.in-Lexeme.kind w.in-Lexeme.len (place_of bytes at) ∷ [] =
+          pushed ∙ ap (λ (q : Place). old ++ token_at w.in-Lexeme.kind w.in-Lexeme.len q ∷ []) c.loop-rest.invariant.place in
+          past_lexeme bytes at w.in-Lexeme.len len w.in-Lexeme.kind c.in_ok-len.field-0 old new so_far here w.in-Lexeme.is w.len-is longer
+    ] in
+    record {
+      within = omega (arith, length-drop at bytes);
+      rest = rest_later bytes rest at len c.loop-rest.invariant.rest ∙ ap (λ (n : ℕ). drop n bytes) (sym advanced);
+      place = place ∙ ap (place_of bytes) (sym advanced);
+      line = c.after-place.ensures.line;
+      column = c.after-place.ensures.column;
+      reads = subst (λ (k : ℕ). Continues bytes k c.match-branch-2.found.items) (sym advanced) more;
+    }
+
+pub returns-clause-tokens : goal.returns-clause-tokens
+returns-clause-tokens c =
+    let none : length c.loop-rest.rest.now ≡ 0 = grind (arith, common_steps) in
+    let left = ap length c.loop-rest.invariant.rest in
+    let end : c.loop-rest.place.at ≡ length c.args.bytes.now = omega (arith, length-drop c.loop-rest.place.at c.args.bytes.now) in
+    at_end c.args.bytes.now c.loop-rest.place.at c.loop-rest.found.items c.loop-rest.invariant.reads end

@@ -1,0 +1,94 @@
+-- What a text begins with, as a function of the text.
+use Rattle.std.specs.Prelude.{ℕ, suc, ℤ, pos, ◌+◌, ◌-◌, ◌*◌, Bool, ◌||◌, if◌then◌else◌, ◌==◌, nat_eq, nat_le, List, [], ◌∷◌, length, take, drop, fold, slice_index, codes, Option, Some, None}
+use Rattle.std.specs.Option.{option_map}
+use Rattle.std.specs.List.{prefix_len, starts_with}
+use Rattle.std.specs.Char.{is_ascii_digit, is_ascii_alphabetic, is_ascii_alphanumeric, is_ascii_uppercase}
+use Rattle.tp_value.specs.Number.{number_limit}
+use Rattle.tp_lex.specs.declared.token.Word.{Word}
+use Rattle.tp_lex.specs.declared.token.Symbol.{Symbol}
+use Rattle.tp_lex.specs.declared.token.Kind.{Kind}
+use Rattle.tp_lex.specs.declared.token.Kind.TheVariants as k
+use Rattle.tp_lex.specs.declared.first.Fault.TheVariants.{BadByte, OpenComment, NumberTooLarge, NameTooLong}
+use Rattle.tp_lex.specs.declared.first.Piece.{Piece}
+use Rattle.tp_lex.specs.declared.first.Piece.TheVariants.{Gap, Lexeme, Refused}
+use Rattle.tp_lex.specs.Spelling.{symbol_spelling, spelled_word, longest_symbol}
+
+-- space, tab, carriage return and line feed
+abbrev pub is_blank : ℕ → Bool
+is_blank b = b == 32 || b == 9 || b == 13 || b == 10
+
+-- letters, digits and `_`
+abbrev pub is_name_byte : ℕ → Bool
+is_name_byte b = is_ascii_alphanumeric b || b == 95
+
+abbrev pub is_digit : ℕ → Bool
+is_digit b = is_ascii_digit b
+
+-- the number that digits spell
+abbrev pub value : List ℕ → ℕ
+value digits = fold (λ n b. 10 * n + (b - 48)) 0 digits
+
+-- the number, where it is within the limit
+abbrev pub within_limit : ℕ → Option ℤ
+within_limit n = if nat_le n number_limit then Some (pos n) else None
+
+-- how many bytes stand before the first `*/`
+abbrev pub first_close : List ℕ → Option ℕ
+first_close [] = None
+first_close (b ∷ z) = if starts_with nat_eq (b ∷ z) (codes "*/") then Some 0 else option_map suc (first_close z)
+
+-- how many bytes a name has at most
+abbrev pub name_limit : ℕ
+name_limit = 64
+
+-- the kind of a text's first n bytes, a name that is no word
+abbrev pub name_kind : ℕ → List ℕ → Kind
+name_kind n z = if is_ascii_uppercase (slice_index z 0) then k.Upper (take n z) else k.Lower (take n z)
+
+abbrev pub named : Option Word → ℕ → List ℕ → Piece
+named (Some word) n z = Lexeme (k.Word word) n
+named None n z = Lexeme (name_kind n z) n
+
+abbrev pub name_of_len : ℕ → List ℕ → Piece
+name_of_len n z = if nat_le n name_limit then named (spelled_word (take n z)) n z else Refused NameTooLong
+
+-- what begins with a letter
+unfoldable pub name : List ℕ → Piece
+name z = name_of_len (prefix_len is_name_byte z) z
+
+abbrev pub numbered : ℕ → Option ℤ → Piece
+numbered n (Some v) = Lexeme (k.Number v) n
+numbered n None = Refused NumberTooLarge
+
+abbrev pub number_of_len : ℕ → List ℕ → Piece
+number_of_len n z = numbered n (within_limit (value (take n z)))
+
+-- what begins with a digit
+unfoldable pub number : List ℕ → Piece
+number z = number_of_len (prefix_len is_digit z) z
+
+abbrev pub closed : Option ℕ → Piece
+closed (Some n) = Gap (n + 4)
+closed None = Refused OpenComment
+
+-- what begins with `/*`
+unfoldable pub comment : List ℕ → Piece
+comment z = closed (first_close (drop 2 z))
+
+abbrev pub marked : Option Symbol → Piece
+marked (Some s) = Lexeme (k.Symbol s) (length (symbol_spelling s))
+marked None = Refused BadByte
+
+-- what begins otherwise
+unfoldable pub symbol : List ℕ → Piece
+symbol z = marked (longest_symbol z)
+
+-- what a text that is not empty begins with
+unfoldable pub first_piece : List ℕ → Piece
+first_piece z =
+    let b = slice_index z 0 in
+    if is_blank b then Gap 1
+    else (if is_ascii_alphabetic b then name z
+    else (if is_digit b then number z
+    else (if starts_with nat_eq z (codes "/*") then comment z
+    else symbol z)))

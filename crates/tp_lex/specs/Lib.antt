@@ -1,0 +1,6 @@
+pub mod First
+pub mod Laws
+pub mod Pieces
+pub mod Place
+pub mod Spelling
+pub mod Tokens

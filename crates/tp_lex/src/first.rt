@@ -1,0 +1,169 @@
+// What a text begins with.
+ghost use Rattle.std.specs.Prelude.{◌≡◌, ◌+◌, ◌<◌, ◌≤◌, ◌≢◌, [], length, slice_index, FitsSigned, IfOk, IfSome};
+ghost use Rattle.std.specs.List.{prefix_len};
+ghost use Rattle.std.specs.Int.{w64};
+ghost use Rattle.tp_lex.specs.First as spec;
+
+use crate::spelling::{first_symbol, word_of};
+use crate::token::Kind;
+use std::alloc::Global;
+use tp_value::{NUMBER_LIMIT, NoMemory, Number, Text};
+
+/// Why a text begins with no token.
+#[derive(Clone, Copy, Debug, PartialEq, Eq)]
+pub enum Fault {
+    BadByte,
+    OpenComment,
+    NumberTooLarge,
+    NameTooLong,
+}
+
+/// What a text begins with, and how many bytes that has.
+#[derive(Debug, Drop)]
+pub enum Piece {
+    /// A blank or a comment.
+    Gap(usize),
+    Lexeme(Kind, usize),
+    Refused(Fault),
+}
+
+/// How many bytes a name has at most.
+pub const NAME_LIMIT: usize = 64;
+
+fn is_blank(byte: u8) -> bool
+    ensures { result ≡ spec.is_blank byte }
+{
+    byte == b' ' || byte == b'\t' || byte == b'\r' || byte == b'\n'
+}
+
+fn is_name_byte(byte: u8) -> bool
+    ensures { result ≡ spec.is_name_byte byte }
+{
+    byte.is_ascii_alphanumeric() || byte == b'_'
+}
+
+fn name_len(text: &[u8]) -> usize
+    ensures value { result ≡ prefix_len spec.is_name_byte text.now }
+    ensures within { result ≤ length text.now }
+{
+    let mut end = 0;
+    while end < text.len() && is_name_byte(text[end]) {
+        end += 1;
+    }
+    end
+}
+
+fn digits_len(text: &[u8]) -> usize
+    ensures value { result ≡ prefix_len spec.is_digit text.now }
+    ensures within { result ≤ length text.now }
+{
+    let mut end = 0;
+    while end < text.len() && text[end].is_ascii_digit() {
+        end += 1;
+    }
+    end
+}
+
+/// The number that the digits spell, where it is within the limit.
+fn value_of(digits: &[u8]) -> Option<Number>
+    ensures value { result ≡ spec.within_limit (spec.value digits.now) }
+    ensures low { IfSome result (λ n. FitsSigned w64 n) }
+{
+    let past_limit = NUMBER_LIMIT as u128 + 1;
+    let mut n: u128 = 0;
+    for digit in digits {
+        n = (10 * n + u128::from(digit.saturating_sub(b'0'))).min(past_limit);
+    }
+    if n < past_limit {
+        Some(n as Number)
+    } else {
+        None
+    }
+}
+
+/// How many bytes stand before the first `*/`.
+fn comment_len(text: &[u8]) -> Option<usize>
+    ensures value { result ≡ spec.first_close text.now }
+    ensures within { IfSome result (λ n. n + 2 ≤ length text.now) }
+{
+    for at in 0..text.len() {
+        if text[at..].starts_with(b"*/".as_slice()) {
+            return Some(at);
+        }
+    }
+    None
+}
+
+#[tactic(auto, unfolding(crate::specs::First::name))]
+fn name(alloc: Global, text: &[u8]) -> Result<Piece, NoMemory>
+    requires { text.now ≢ [] }
+    ensures { IfOk result (λ piece. piece ≡ spec.name text.now) }
+{
+    let len = name_len(text);
+    if len > NAME_LIMIT {
+        return Ok(Piece::Refused(Fault::NameTooLong));
+    }
+    let name = &text[..len];
+    if let Some(word) = word_of(name) {
+        return Ok(Piece::Lexeme(Kind::Word(word), len));
+    }
+    let copy = Text::from_slice(alloc, name)?;
+    if text[0].is_ascii_uppercase() {
+        Ok(Piece::Lexeme(Kind::Upper(copy), len))
+    } else {
+        Ok(Piece::Lexeme(Kind::Lower(copy), len))
+    }
+}
+
+#[tactic(auto, unfolding(crate::specs::First::number))]
+fn number(text: &[u8]) -> Piece
+    ensures { result ≡ spec.number text.now }
+{
+    let len = digits_len(text);
+    match value_of(&text[..len]) {
+        Some(value) => Piece::Lexeme(Kind::Number(value), len),
+        None => Piece::Refused(Fault::NumberTooLarge),
+    }
+}
+
+/// The piece that begins with `/*`.
+#[tactic(auto, unfolding(crate::specs::First::comment))]
+fn comment(text: &[u8]) -> Piece
+    requires { 2 ≤ length text.now }
+    ensures { result ≡ spec.comment text.now }
+{
+    match comment_len(&text[2..]) {
+        Some(len) => Piece::Gap(len + 4),
+        None => Piece::Refused(Fault::OpenComment),
+    }
+}
+
+#[tactic(auto, unfolding(crate::specs::First::symbol))]
+fn symbol(text: &[u8]) -> Piece
+    ensures { result ≡ spec.symbol text.now }
+{
+    match first_symbol(text) {
+        Some(symbol) => Piece::Lexeme(Kind::Symbol(symbol), symbol.spelling().len()),
+        None => Piece::Refused(Fault::BadByte),
+    }
+}
+
+/// What the text begins with.
+#[tactic(auto, unfolding(crate::specs::First::first_piece))]
+pub fn first_piece(alloc: Global, text: &[u8]) -> Result<Piece, NoMemory>
+    requires { text.now ≢ [] }
+    ensures { IfOk result (λ piece. piece ≡ spec.first_piece text.now) }
+{
+    let first = text[0];
+    if is_blank(first) {
+        Ok(Piece::Gap(1))
+    } else if first.is_ascii_alphabetic() {
+        name(alloc, text)
+    } else if first.is_ascii_digit() {
+        Ok(number(text))
+    } else if text.starts_with(b"/*".as_slice()) {
+        Ok(comment(text))
+    } else {
+        Ok(symbol(text))
+    }
+}

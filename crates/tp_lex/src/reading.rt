@@ -1,0 +1,44 @@
+// Tokens from bytes, from left to right.
+ghost use Rattle.std.specs.Prelude.{◌≡◌, ◌≤◌, length, IfOk, IfErr};
+ghost use Rattle.tp_lex.specs.Tokens.{AreTokens, IsRefusedUnlessMemory, refusal_at};
+
+use crate::first::{Fault, Piece, first_piece};
+use crate::place::Place;
+use crate::refusal::LexRefusal;
+use crate::token::Tokens;
+use std::alloc::Global;
+
+fn refusal(fault: Fault, at: usize) -> LexRefusal
+    ensures { result ≡ refusal_at fault at }
+{
+    match fault {
+        Fault::BadByte => LexRefusal::BadByte { at },
+        Fault::OpenComment => LexRefusal::OpenComment { at },
+        Fault::NumberTooLarge => LexRefusal::NumberTooLarge { at },
+        Fault::NameTooLong => LexRefusal::NameTooLong { at },
+    }
+}
+
+/// The tokens of the text in order, or its first fault.
+pub fn tokens(alloc: Global, bytes: &[u8]) -> Result<Tokens, LexRefusal>
+    requires { length bytes.now ≤ 1048576 }
+    ensures tokens { IfOk result (λ tokens. AreTokens bytes.now tokens) }
+    ensures refused { IfErr result (λ refusal. IsRefusedUnlessMemory bytes.now refusal) }
+{
+    let mut found = Vec::new(alloc);
+    let mut place = Place::START;
+    let mut rest = bytes;
+    while !rest.is_empty() {
+        let len = match first_piece(alloc, rest)? {
+            Piece::Gap(len) => len,
+            Piece::Lexeme(kind, len) => {
+                found.push(place.token(kind, len))?;
+                len
+            }
+            Piece::Refused(fault) => return Err(refusal(fault, place.at as usize)),
+        };
+        place = place.after(&rest[..len]);
+        rest = &rest[len..];
+    }
+    Ok(Tokens { items: found })
+}

@@ -1,0 +1,173 @@
+// How words and symbols are written.
+ghost use Rattle.std.specs.Prelude.{◌≡◌};
+ghost use Rattle.tp_lex.specs.Spelling.{word_spelling, symbol_spelling, spelled_word, longest_symbol};
+
+use crate::token::{Symbol, Word};
+
+/// The words, in the order of their type.
+pub const WORDS: [Word; 35] = [
+    Word::If,
+    Word::Then,
+    Word::Else,
+    Word::While,
+    Word::Do,
+    Word::Repeat,
+    Word::Until,
+    Word::For,
+    Word::Forall,
+    Word::Exists,
+    Word::Define,
+    Word::Run,
+    Word::True,
+    Word::False,
+    Word::And,
+    Word::Or,
+    Word::Not,
+    Word::Div,
+    Word::Mod,
+    Word::Empty,
+    Word::More,
+    Word::Skip,
+    Word::Next,
+    Word::Always,
+    Word::Keep,
+    Word::Fin,
+    Word::Halt,
+    Word::Stable,
+    Word::Sometimes,
+    Word::Gets,
+    Word::Len,
+    Word::List,
+    Word::Input,
+    Word::Display,
+    Word::Proj,
+];
+
+/// The symbols, those of two bytes first.
+pub const SYMBOLS: [Symbol; 22] = [
+    Symbol::LessEqual,
+    Symbol::GreaterEqual,
+    Symbol::Differs,
+    Symbol::Becomes,
+    Symbol::Arrow,
+    Symbol::OpenRound,
+    Symbol::CloseRound,
+    Symbol::OpenCurly,
+    Symbol::CloseCurly,
+    Symbol::OpenSquare,
+    Symbol::CloseSquare,
+    Symbol::Less,
+    Symbol::Greater,
+    Symbol::Equal,
+    Symbol::Plus,
+    Symbol::Minus,
+    Symbol::Times,
+    Symbol::Semicolon,
+    Symbol::Comma,
+    Symbol::Stop,
+    Symbol::Colon,
+    Symbol::Bar,
+];
+
+impl Word {
+    /// The bytes that spell the word.
+    pub fn spelling(self) -> &'static [u8]
+        ensures { result.now ≡ word_spelling self }
+    {
+        match self {
+            Word::If => b"if".as_slice(),
+            Word::Then => b"then".as_slice(),
+            Word::Else => b"else".as_slice(),
+            Word::While => b"while".as_slice(),
+            Word::Do => b"do".as_slice(),
+            Word::Repeat => b"repeat".as_slice(),
+            Word::Until => b"until".as_slice(),
+            Word::For => b"for".as_slice(),
+            Word::Forall => b"forall".as_slice(),
+            Word::Exists => b"exists".as_slice(),
+            Word::Define => b"define".as_slice(),
+            Word::Run => b"run".as_slice(),
+            Word::True => b"true".as_slice(),
+            Word::False => b"false".as_slice(),
+            Word::And => b"and".as_slice(),
+            Word::Or => b"or".as_slice(),
+            Word::Not => b"not".as_slice(),
+            Word::Div => b"div".as_slice(),
+            Word::Mod => b"mod".as_slice(),
+            Word::Empty => b"empty".as_slice(),
+            Word::More => b"more".as_slice(),
+            Word::Skip => b"skip".as_slice(),
+            Word::Next => b"next".as_slice(),
+            Word::Always => b"always".as_slice(),
+            Word::Keep => b"keep".as_slice(),
+            Word::Fin => b"fin".as_slice(),
+            Word::Halt => b"halt".as_slice(),
+            Word::Stable => b"stable".as_slice(),
+            Word::Sometimes => b"sometimes".as_slice(),
+            Word::Gets => b"gets".as_slice(),
+            Word::Len => b"len".as_slice(),
+            Word::List => b"list".as_slice(),
+            Word::Input => b"input".as_slice(),
+            Word::Display => b"display".as_slice(),
+            Word::Proj => b"proj".as_slice(),
+        }
+    }
+}
+
+impl Symbol {
+    /// The bytes that spell the symbol.
+    pub fn spelling(self) -> &'static [u8]
+        ensures { result.now ≡ symbol_spelling self }
+    {
+        match self {
+            Symbol::OpenRound => b"(".as_slice(),
+            Symbol::CloseRound => b")".as_slice(),
+            Symbol::OpenCurly => b"{".as_slice(),
+            Symbol::CloseCurly => b"}".as_slice(),
+            Symbol::OpenSquare => b"[".as_slice(),
+            Symbol::CloseSquare => b"]".as_slice(),
+            Symbol::Less => b"<".as_slice(),
+            Symbol::Greater => b">".as_slice(),
+            Symbol::LessEqual => b"<=".as_slice(),
+            Symbol::GreaterEqual => b">=".as_slice(),
+            Symbol::Differs => b"<>".as_slice(),
+            Symbol::Equal => b"=".as_slice(),
+            Symbol::Plus => b"+".as_slice(),
+            Symbol::Minus => b"-".as_slice(),
+            Symbol::Times => b"*".as_slice(),
+            Symbol::Semicolon => b";".as_slice(),
+            Symbol::Comma => b",".as_slice(),
+            Symbol::Stop => b".".as_slice(),
+            Symbol::Colon => b":".as_slice(),
+            Symbol::Becomes => b":=".as_slice(),
+            Symbol::Arrow => b"<-".as_slice(),
+            Symbol::Bar => b"|".as_slice(),
+        }
+    }
+}
+
+/// The word that the whole text spells.
+#[tactic(auto, unfolding(crate::specs::Spelling::spelled_word))]
+pub fn word_of(text: &[u8]) -> Option<Word>
+    ensures { result ≡ spelled_word text.now }
+{
+    for word in WORDS {
+        if word.spelling() == text {
+            return Some(word);
+        }
+    }
+    None
+}
+
+/// The longest symbol that the text begins with.
+#[tactic(auto, unfolding(crate::specs::Spelling::longest_symbol))]
+pub fn first_symbol(text: &[u8]) -> Option<Symbol>
+    ensures { result ≡ longest_symbol text.now }
+{
+    for symbol in SYMBOLS {
+        if text.starts_with(symbol.spelling()) {
+            return Some(symbol);
+        }
+    }
+    None
+}

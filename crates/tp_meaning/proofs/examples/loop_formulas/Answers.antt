@@ -1,0 +1,77 @@
+use Rattle.std.proofs.Common.{pos, refl, sym, [], ◌∷◌, ◌∙◌, arith}
+use Rattle.tp_value.specs.Tree.{num}
+use Rattle.tp_meaning.specs.Course.{blank, ◌⊕◌, shown_at}
+use Rattle.tp_meaning.specs.Syntax.{bound}
+use Rattle.tp_meaning.specs.Value.{fixed}
+use Rattle.tp_meaning.specs.Examples.{A, shown}
+use Rattle.tp_meaning.proofs.ExampleTurns.{turn_shows}
+use Rattle.tp_meaning.proofs.Shows.{join-blank}
+use Rattle.tp_meaning.proofs.ExampleShows.{spelled_is, shown_join}
+use Rattle.tp_meaning.proofs.examples.loop_formulas.Goals as goal
+
+pub returns-clause-for_turns_may_be_empty : goal.returns-clause-for_turns_may_be_empty
+returns-clause-for_turns_may_be_empty c = (
+  pos 2,
+  refl,
+  (
+    0,
+    shown_at 0 (shown 0 ∷ []),
+    shown_at 0 (shown 1 ∷ []),
+    omega arith,
+    omega arith,
+    (shown 0, refl, refl),
+    (0, shown_at 0 (shown 1 ∷ []), blank, omega arith, omega arith, (shown 1, refl, refl), (refl, refl), sym (join-blank (shown_at 0 (shown 1 ∷ [])))),
+    spelled_is ((shown 0 ∷ shown 1 ∷ []) ∷ []) ∙ join-blank (shown_at 0 (shown 0 ∷ shown 1 ∷ [])) ∙ shown_join 0 (shown 0 ∷ []) (shown 1 ∷ []),
+  ),
+)
+
+pub returns-clause-while_holds : goal.returns-clause-while_holds
+returns-clause-while_holds c = (
+  2,
+  (
+    1,
+    shown_at 0 (shown 0 ∷ []),
+    shown_at 1 (shown 1 ∷ []) ⊕ blank,
+    omega arith,
+    omega arith,
+    (omega arith, refl, turn_shows A [] 0 1 0 refl refl),
+    (2, shown_at 1 (shown 1 ∷ []), blank, omega arith, omega arith, (omega arith, refl, turn_shows A [] 1 2 1 refl refl), (refl, refl), refl),
+    spelled_is ((shown 0 ∷ []) ∷ (shown 1 ∷ []) ∷ []),
+  ),
+  refl,
+)
+
+pub returns-clause-for_without_turn : goal.returns-clause-for_without_turn
+returns-clause-for_without_turn c = (pos 0, refl, (refl, refl))
+
+pub returns-clause-for_holds : goal.returns-clause-for_holds
+returns-clause-for_holds c = (
+  pos 2,
+  refl,
+  (
+    1,
+    shown_at 0 (shown 0 ∷ []),
+    shown_at 1 (shown 1 ∷ []) ⊕ blank,
+    omega arith,
+    omega arith,
+    turn_shows (bound 0) (fixed (num (pos 0)) ∷ []) 0 1 0 refl refl,
+    (2, shown_at 1 (shown 1 ∷ []), blank, omega arith, omega arith, turn_shows (bound 0) (fixed (num (pos 1)) ∷ []) 1 2 1 refl refl, (refl, refl), refl),
+    spelled_is ((shown 0 ∷ []) ∷ (shown 1 ∷ []) ∷ []),
+  ),
+)
+
+pub returns-clause-forall_without_instance : goal.returns-clause-forall_without_instance
+returns-clause-forall_without_instance c = (pos 0, refl, refl)
+
+pub returns-clause-forall_holds : goal.returns-clause-forall_holds
+returns-clause-forall_holds c = (
+  pos 2,
+  refl,
+  (
+    shown_at 0 (shown 0 ∷ []),
+    shown_at 0 (shown 1 ∷ []),
+    (shown 0, refl, refl),
+    (shown_at 0 (shown 1 ∷ []), blank, (shown 1, refl, refl), refl, sym (join-blank (shown_at 0 (shown 1 ∷ [])))),
+    spelled_is ((shown 0 ∷ shown 1 ∷ []) ∷ []) ∙ join-blank (shown_at 0 (shown 0 ∷ shown 1 ∷ [])) ∙ shown_join 0 (shown 0 ∷ []) (shown 1 ∷ []),
+  ),
+)

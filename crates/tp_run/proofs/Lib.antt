@@ -1,0 +1,12 @@
+mod DutyLemmas
+mod SceneLemmas
+mod Steps
+mod PassLemmas
+mod SettleLemmas
+mod RunLemmas
+mod Numbers
+mod StepMeans
+mod KeepsLemmas
+mod FitsLemmas
+mod AnswerMeans
+pub mod HistoryLemmas

@@ -1,0 +1,16 @@
+//! The run of a program over its states.
+#![tactic(auto)]
+
+mod closure;
+mod decide;
+mod evaluate;
+mod laws;
+mod ready;
+mod run;
+mod scene;
+mod settle;
+mod turn;
+
+pub use laws::{runs_advance, runs_mean};
+pub use run::Run;
+pub use turn::{Cell, Clash, Picture, Turn};
