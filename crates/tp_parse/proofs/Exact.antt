@@ -1,5 +1,5 @@
 -- Sources: what is read is accepted, and what is accepted is read.
-use Rattle.std.proofs.Common.{◌≡◌, ◌≢◌, ℕ, zero, suc, ◌-◌, ◌<◌, ◌≤◌, max, Bool, true, false, cond, ◌⊎◌, inl, inr, List, [], ◌∷◌, ◌++◌, length, drop, Result, Ok, Err, refl, sym, ap, subst, ◌∙◌, arith, append_assoc}
+use Rattle.std.proofs.Common.{◌≡◌, ◌≢◌, ℕ, zero, suc, ◌<◌, ◌≤◌, max, inl, inr, List, [], ◌∷◌, ◌++◌, length, drop, Ok, Err, refl, sym, ap, subst, ◌∙◌, arith, append_assoc}
 use Rattle.std.proofs.lemmas.List.{append-nil}
 use Rattle.tp_lex.specs.declared.token.Word.TheVariants as word
 use Rattle.tp_lex.specs.declared.token.Symbol.TheVariants as symbol
@@ -8,8 +8,8 @@ use Rattle.tp_parse.specs.declared.mark.Mark.TheVariants as m
 use Rattle.tp_parse.specs.declared.refusal.Refusal.{Refusal}
 use Rattle.tp_parse.specs.declared.refusal.Refusal.TheVariants.{Unexpected, Unfinished, TooDeep, NoMemory}
 use Rattle.tp_parse.specs.declared.refusal.ParseRefusal.{ParseRefusal}
-use Rattle.tp_parse.specs.Marks.{same, chop}
-use Rattle.tp_parse.specs.Input.{Tokens, Outcome, Reader, and_then, ◌>>=◌, pure, mark, from, due, past, sees, name, lower, names, expect}
+use Rattle.tp_parse.specs.Marks.{chop}
+use Rattle.tp_parse.specs.Input.{Tokens, Outcome, Reader, and_then, mark, from, past, sees, name, names}
 use Rattle.tp_parse.specs.Found.{Found, limit, defined, source_of}
 use Rattle.tp_parse.specs.Reading.{read}
 use Rattle.tp_parse.specs.Source as s
@@ -181,6 +181,6 @@ named_token n NoMemory is = tt
 pub refusal_named : (ts : Tokens) (e : ParseRefusal) → s.outcome_of ts ≡ Err e → s.NamesToken (length ts) e
 refusal_named ts e is = by (s.source ts) (source_within ts) is
   where
-  by : (o : Outcome SourceTree) → Within ts o → s.outcome_by (length ts) o ≡ Err e → s.NamesToken (length ts) e
-  by (Ok q) w made = absurd cc
-  by (Err d) w made = let same : s.named (length ts) d ≡ e = cc in subst (s.NamesToken (length ts)) same (named_token (length ts) d (refusal_within w))
+    by : (o : Outcome SourceTree) → Within ts o → s.outcome_by (length ts) o ≡ Err e → s.NamesToken (length ts) e
+    by (Ok q) w made = absurd cc
+    by (Err d) w made = let same : s.named (length ts) d ≡ e = cc in subst (s.NamesToken (length ts)) same (named_token (length ts) d (refusal_within w))

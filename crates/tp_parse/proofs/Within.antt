@@ -1,5 +1,5 @@
 -- A reader leaves no more tokens than there were, and a refusal names one of them.
-use Rattle.std.proofs.Common.{◌≡◌, ◌≢◌, ℕ, zero, suc, ◌-◌, ◌<◌, ◌≤◌, Bool, true, false, cond, ◌||◌, leb, eqb, List, [], ◌∷◌, ◌++◌, length, drop, Result, Ok, Err, refl, sym, ap, subst, ◌∙◌, arith}
+use Rattle.std.proofs.Common.{◌≡◌, ◌≢◌, ℕ, zero, suc, ◌-◌, ◌<◌, ◌≤◌, Bool, true, false, cond, ◌||◌, leb, eqb, List, [], ◌∷◌, ◌++◌, length, drop, Ok, Err, refl, arith}
 use Rattle.std.proofs.lemmas.Bool.{eqb-true}
 use Rattle.tp_lex.specs.declared.token.Word.TheVariants as word
 use Rattle.tp_lex.specs.declared.token.Symbol.TheVariants as symbol
@@ -21,8 +21,8 @@ use Rattle.tp_parse.specs.declared.head.Listed.TheVariants as listed
 use Rattle.tp_parse.specs.Marks.{same, before, role_at, start_of, chop, comma, listed_level, listed_close, enclosed_level, enclosed_close, middle}
 use Rattle.tp_parse.specs.Input as input
 use Rattle.tp_parse.specs.Input.{Tokens, Outcome, Reader, and_then, ◌>>=◌, pure, mark, from, name, refuse, too_deep, due, past, sees, take, taken_name, lower, any_name, names, names_from, expect, deepen}
-use Rattle.tp_parse.specs.Head.{name_or_call, counter, head_by, is_high, is_nothing, admit, begins, unfit}
-use Rattle.tp_parse.specs.Found.{Found, Operands, no_operand, then_operand, operands_of, of_choice, of_choice_else, of_infix, of_index, of_prefix, limit, defined, source_of}
+use Rattle.tp_parse.specs.Head.{name_or_call, counter, head_by, is_high, admit, begins, unfit}
+use Rattle.tp_parse.specs.Found.{Found, Operands, then_operand, operands_of, of_choice, of_choice_else, of_infix, of_index, of_prefix, limit, defined, source_of}
 use Rattle.tp_parse.specs.Reading as r
 use Rattle.tp_parse.specs.Reading.{fits, operand_level, goes_on}
 use Rattle.tp_parse.specs.Source as source
@@ -148,17 +148,17 @@ high_some _ e q = absurd cc
 admitted : (room : ℕ) (ts : Tokens) → Within ts (admit room (start_of (mark ts)) ts)
 unfolding admit
 admitted room ts = elim (is_high (start_of (mark ts))) as (λ b. (b ≡ true → 0 < length ts) → Within ts (cond b (deepen room) (pure tt) ts)) [
-    | true ↦ λ some. deepened room ts (some refl)
-    | false ↦ λ some. stays ts
-  ] (λ q. some_by_start ts (high_some (start_of (mark ts)) q))
+  | true ↦ λ some. deepened room ts (some refl)
+  | false ↦ λ some. stays ts
+] (λ q. some_by_start ts (high_some (start_of (mark ts)) q))
 
 unfitted : {A : Type 0} (k : ℕ) (ts : Tokens) → Within {A = A} ts (Err (unfit k ts))
 unfolding unfit begins mark input.refusal
 unfitted k [] = err tt
 unfitted {A} k (t ∷ ts) = elim (begins k (mark (t ∷ ts))) as (λ b. Within {A = A} (t ∷ ts) (Err (cond b (TooDeep (length (t ∷ ts))) (input.refusal (t ∷ ts))))) [
-    | true ↦ err (omega arith, omega arith)
-    | false ↦ err (omega arith, omega arith)
-  ]
+  | true ↦ err (omega arith, omega arith)
+  | false ↦ err (omega arith, omega arith)
+]
 
 -- ---- phrases
 
@@ -234,9 +234,9 @@ module _ (inner : ℕ → Reader Found) (room : ℕ) (within : (k : ℕ) (ts : T
   levels_within zero ts = primary_within ts
   levels_within (suc k) ts = elim (eqb (before (mark ts)) (suc k)) as (λ b. (b ≡ true → 0 < length ts)
       → Within ts (cond b (r.prefix inner room (suc k) ts) (and_then (r.levels inner room k ts) (r.operations inner room (suc k) (from ts))))) [
-    | true ↦ λ some. bind _ (deepened room ts (some refl)) (λ u us. bind _ (took_one us) (λ v vs. bind _ (within (suc k) vs) (λ x ws. stays {x = of_prefix (from ts) (mark ts) x} ws)))
-    | false ↦ λ some. bind _ (levels_within k ts) (λ x us. go_within (suc k) (from ts) (length us) x us)
-  ] (some_by_before k ts)
+        | true ↦ λ some. bind _ (deepened room ts (some refl)) (λ u us. bind _ (took_one us) (λ v vs. bind _ (within (suc k) vs) (λ x ws. stays {x = of_prefix (from ts) (mark ts) x} ws)))
+        | false ↦ λ some. bind _ (levels_within k ts) (λ x us. go_within (suc k) (from ts) (length us) x us)
+      ] (some_by_before k ts)
 
 read_within : (room k : ℕ) (ts : Tokens) → Within ts (r.read room k ts)
 unfolding r.read
