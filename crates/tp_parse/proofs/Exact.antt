@@ -1,13 +1,15 @@
 -- Sources: what is read is accepted, and what is accepted is read.
-use Rattle.std.proofs.Common.{◌≡◌, ◌≢◌, ℕ, zero, suc, ◌-◌, ◌<◌, ◌≤◌, max, Bool, true, false, cond, ◌⊎◌, inl, inr, List, [], ◌∷◌, ◌++◌, length, drop, Result, Ok, Err, refl, sym, ap, subst, ◌∙◌, arith, append_assoc}
+use Rattle.std.proofs.Common.{◌≡◌, ◌≢◌, ℕ, zero, suc, ◌<◌, ◌≤◌, max, inl, inr, List, [], ◌∷◌, ◌++◌, length, drop, Ok, Err, refl, sym, ap, subst, ◌∙◌, arith, append_assoc}
 use Rattle.std.proofs.lemmas.List.{append-nil}
 use Rattle.tp_lex.specs.declared.token.Word.TheVariants as word
 use Rattle.tp_lex.specs.declared.token.Symbol.TheVariants as symbol
 use Rattle.tp_tree.specs.Tree.{PhraseTree, DefinitionTree, SourceTree}
 use Rattle.tp_parse.specs.declared.mark.Mark.TheVariants as m
 use Rattle.tp_parse.specs.declared.refusal.Refusal.{Refusal}
-use Rattle.tp_parse.specs.Marks.{same, chop}
-use Rattle.tp_parse.specs.Input.{Tokens, Outcome, Reader, and_then, ◌>>=◌, pure, mark, from, due, past, sees, name, lower, names, expect}
+use Rattle.tp_parse.specs.declared.refusal.Refusal.TheVariants.{Unexpected, Unfinished, TooDeep, NoMemory}
+use Rattle.tp_parse.specs.declared.refusal.ParseRefusal.{ParseRefusal}
+use Rattle.tp_parse.specs.Marks.{chop}
+use Rattle.tp_parse.specs.Input.{Tokens, Outcome, Reader, and_then, mark, from, past, sees, name, names}
 use Rattle.tp_parse.specs.Found.{Found, limit, defined, source_of}
 use Rattle.tp_parse.specs.Reading.{read}
 use Rattle.tp_parse.specs.Source as s
@@ -17,6 +19,7 @@ use Rattle.tp_parse.proofs.Shapes.{taken, dropped, passed, shorter, names_shorte
 use Rattle.tp_parse.proofs.Heads.{bind_ok, fine, ok_is, chosen, expect_then, expect_is, lower_then, lower_is, names_sound, names_complete}
 use Rattle.tp_parse.proofs.Sound.{read_sound}
 use Rattle.tp_parse.proofs.Complete.{read_complete}
+use Rattle.tp_parse.proofs.Within.{Names as Leaves, Within, refusal_within, source_within}
 
 -- a sentence whose phrase is low enough
 abbrev LowSentence : Tokens → Found → Tokens → Type 0
@@ -168,3 +171,16 @@ read_accepted ts x e = by (s.source ts) refl e
 
 pub accepted_read : (ts : Tokens) (x : SourceTree) → Accepts ts x → s.outcome_of ts ≡ Ok x
 accepted_read ts x is = ap (s.outcome_by (length ts)) (source_complete ts x is)
+
+named_token : (n : ℕ) (e : Refusal) → Leaves n e → s.NamesToken n (s.named n e)
+named_token n (Unexpected k) is = omega (arith, is.0, is.1)
+named_token n (TooDeep k) is = omega (arith, is.0, is.1)
+named_token n Unfinished is = tt
+named_token n NoMemory is = tt
+
+pub refusal_named : (ts : Tokens) (e : ParseRefusal) → s.outcome_of ts ≡ Err e → s.NamesToken (length ts) e
+refusal_named ts e is = by (s.source ts) (source_within ts) is
+  where
+    by : (o : Outcome SourceTree) → Within ts o → s.outcome_by (length ts) o ≡ Err e → s.NamesToken (length ts) e
+    by (Ok q) w made = absurd cc
+    by (Err d) w made = let same : s.named (length ts) d ≡ e = cc in subst (s.NamesToken (length ts)) same (named_token (length ts) d (refusal_within w))

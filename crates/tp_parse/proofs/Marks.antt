@@ -1,6 +1,6 @@
 -- Tests of marks, and what begins a phrase.
-use Rattle.std.proofs.Common.{◌≡◌, ◌≢◌, ℕ, ◌⊎◌, inl, inr, true, false, refl, sym, ap, ◌∙◌, rules}
-use denote.Enum.Bare.{same_true, same_false, true_same, false_same}
+use Rattle.std.proofs.Common.{◌≡◌, ◌≢◌, ◌⊎◌, inl, inr, true, false, refl, ap, rules}
+use denote.Enum.Bare.{same_true, true_same}
 use Rattle.tp_lex.specs.contracts.token.Word as word_type
 use Rattle.tp_lex.specs.contracts.token.Symbol as symbol_type
 use Rattle.tp_lex.specs.declared.token.Word.{Word}

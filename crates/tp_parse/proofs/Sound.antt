@@ -1,11 +1,10 @@
 -- What is read is in the grammar.
-use Rattle.std.proofs.Common.{◌≡◌, ◌≢◌, ℕ, zero, suc, ◌-◌, ◌<◌, ◌≤◌, max, Bool, true, false, cond, ◌⊎◌, inl, inr, leb, eqb, List, [], ◌∷◌, ◌++◌, length, drop, Ok, Err, refl, sym, ap, subst, ◌∙◌, arith, append_assoc}
+use Rattle.std.proofs.Common.{◌≡◌, ◌≢◌, ℕ, zero, suc, ◌-◌, ◌<◌, ◌≤◌, max, Bool, true, false, inl, inr, eqb, [], ◌∷◌, ◌++◌, length, drop, Ok, refl, sym, ap, subst, ◌∙◌, arith, append_assoc}
 use Rattle.std.proofs.lemmas.Bool.{eqb-true}
 use Rattle.std.proofs.lemmas.List.{append-nil}
 use Rattle.tp_lex.specs.declared.token.Word.TheVariants as word
 use Rattle.tp_lex.specs.declared.token.Symbol.TheVariants as symbol
 use Rattle.tp_tree.specs.declared.operator.Op.{Op}
-use Rattle.tp_tree.specs.Tree.{PhraseTree}
 use Rattle.tp_parse.specs.declared.mark.Mark.{Mark}
 use Rattle.tp_parse.specs.declared.mark.Mark.TheVariants as m
 use Rattle.tp_parse.specs.declared.mark.Role.{Role}
@@ -15,7 +14,7 @@ use Rattle.tp_parse.specs.declared.mark.Way.TheVariants.{Left, Single, Right}
 use Rattle.tp_parse.specs.declared.head.Head.{Head}
 use Rattle.tp_parse.specs.declared.head.Head.TheVariants as h
 use Rattle.tp_parse.specs.Marks.{role_at, before, same, start_of, chop, comma, listed_level, listed_close, enclosed_level, enclosed_close, middle}
-use Rattle.tp_parse.specs.Input.{Tokens, Outcome, Reader, and_then, ◌>>=◌, pure, mark, from, due, past, sees}
+use Rattle.tp_parse.specs.Input.{Tokens, Reader, and_then, ◌>>=◌, pure, mark, from, due, past, sees}
 use Rattle.tp_parse.specs.Head.{head_by}
 use Rattle.tp_parse.specs.Found.{Found, Operands, no_operand, operand_then, then_operand, operands_of, of_atom, of_operands, of_enclosed, of_choice, of_choice_else, of_pair, of_exists, of_prefix, of_infix, of_index, of_chain}
 use Rattle.tp_parse.specs.Reading as r

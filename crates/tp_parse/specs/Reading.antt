@@ -1,5 +1,5 @@
 -- Phrases from tokens, from left to right.
-use Rattle.std.specs.Prelude.{ℕ, zero, suc, ◌-◌, Bool, if◌then◌else◌, ◌==◌, nat_le, List, [], ◌∷◌, length, true, false, Ok, Err}
+use Rattle.std.specs.Prelude.{ℕ, zero, suc, ◌-◌, Bool, if◌then◌else◌, ◌==◌, nat_le, [], ◌∷◌, length, true, false, Ok, Err}
 use Rattle.tp_lex.specs.declared.token.Word.TheVariants as word
 use Rattle.tp_lex.specs.declared.token.Symbol.TheVariants as symbol
 use Rattle.tp_tree.specs.declared.operator.Op.{Op}
@@ -12,9 +12,9 @@ use Rattle.tp_parse.specs.declared.mark.Way.TheVariants.{Left, Right}
 use Rattle.tp_parse.specs.declared.head.Head.{Head}
 use Rattle.tp_parse.specs.declared.head.Head.TheVariants as h
 use Rattle.tp_parse.specs.Marks.{before, role_at, start_of, same, chop, comma, listed_level, listed_close, enclosed_level, enclosed_close, middle}
-use Rattle.tp_parse.specs.Input.{Tokens, Reader, ◌>>=◌, pure, mark, from, refuse, too_deep, sees, due, take, past, expect, deepen}
+use Rattle.tp_parse.specs.Input.{Reader, ◌>>=◌, pure, mark, from, too_deep, sees, due, take, past, expect, deepen}
 use Rattle.tp_parse.specs.Head.{head_by, admit, unfit}
-use Rattle.tp_parse.specs.Found.{Found, Operands, no_operand, operand_then, then_operand, operands_of, of_atom, of_operands, of_enclosed, of_choice, of_choice_else, of_pair, of_exists, of_prefix, of_infix, of_index, of_chain}
+use Rattle.tp_parse.specs.Found.{Found, Operands, no_operand, then_operand, operands_of, of_atom, of_operands, of_enclosed, of_choice, of_choice_else, of_pair, of_exists, of_prefix, of_infix, of_index, of_chain}
 
 abbrev pub operand_level : ℕ → Way → ℕ
 operand_level k Right = k

@@ -1,5 +1,5 @@
 -- Sources from tokens, from left to right.
-use Rattle.std.specs.Prelude.{◌≡◌, ◌≢◌, ℕ, zero, suc, ◌-◌, if◌then◌else◌, List, [], ◌∷◌, ◌++◌, length, drop, map, Result, Ok, Err}
+use Rattle.std.specs.Prelude.{◌≡◌, ◌≢◌, ◌<◌, ℕ, zero, suc, ◌-◌, if◌then◌else◌, List, [], ◌∷◌, ◌++◌, length, drop, map, Result, Ok, Err}
 use Rattle.tp_lex.specs.declared.token.Word.TheVariants as word
 use Rattle.tp_lex.specs.declared.token.Symbol.TheVariants as symbol
 use Rattle.tp_tree.specs.declared.phrase.Definitions.{Definitions}
@@ -84,3 +84,9 @@ outcome_of ts = outcome_by (length ts) (source ts)
 abbrev pub IsOutcome : Result SourceTree ParseRefusal → Result Source ParseRefusal → Type 0
 IsOutcome outcome (Ok s) = outcome ≡ Ok (source_tree s)
 IsOutcome outcome (Err e) = e ≢ named_at.NoMemory → outcome ≡ Err e
+
+-- a refusal names one of so many tokens, if it names any
+abbrev pub NamesToken : ℕ → ParseRefusal → Type 0
+NamesToken n (named_at.Unexpected i) = i < n
+NamesToken n (named_at.TooDeep i) = i < n
+NamesToken n _ = Unit {0}

@@ -1,8 +1,8 @@
 // Definitions and whole sources.
-ghost use Rattle.std.specs.Prelude.{◌≡◌, ◌≢◌, [], IfOk, IfErr};
+ghost use Rattle.std.specs.Prelude.{◌≡◌, ◌≢◌, [], length, IfOk, IfErr};
 ghost use Rattle.tp_parse.specs.Input.{Reads};
 ghost use Rattle.tp_parse.specs.Source as spec;
-ghost use Rattle.tp_parse.specs.Source.{outcome_of, IsOutcome, definition_trees};
+ghost use Rattle.tp_parse.specs.Source.{outcome_of, IsOutcome, NamesToken, definition_trees};
 ghost use Rattle.tp_tree.specs.Read.{tree, definition_tree, source_tree};
 ghost use Rattle.tp_tree.specs.Tree.{SourceTree};
 ghost use Rattle.tp_parse.specs.Grammar.{Accepts};
@@ -28,6 +28,7 @@ pub fn parse(alloc: Global, tokens: &Tokens) -> Result<Source, ParseRefusal>
     ensures only { IfOk result (λ s. (t : SourceTree) → Accepts tokens.now t → t ≡ source_tree s) }
     ensures refused { IfErr result (λ e. e ≢ NoMemory → (t : SourceTree) → ¬ Accepts tokens.now t) }
     ensures outcome { IsOutcome (outcome_of tokens.now) result }
+    ensures token { IfErr result (NamesToken (length tokens.now)) }
 {
     outcome(alloc, tokens)
 }

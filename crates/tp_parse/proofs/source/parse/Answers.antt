@@ -1,13 +1,13 @@
-use Rattle.std.proofs.Common.{◌≡◌, ◌≢◌, Result, Ok, Err, sym, ◌∙◌, IfOk, IfErr}
+use Rattle.std.proofs.Common.{◌≡◌, ◌≢◌, Result, Ok, Err, length, IfOk, IfErr}
 use Rattle.tp_tree.specs.declared.phrase.Source.{Source}
 use Rattle.tp_tree.specs.Tree.{SourceTree}
 use Rattle.tp_tree.specs.Read.{source_tree}
 use Rattle.tp_parse.specs.declared.refusal.ParseRefusal.{ParseRefusal}
-use Rattle.tp_parse.specs.declared.refusal.ParseRefusal.TheVariants.{NoMemory}
+use Rattle.tp_parse.specs.declared.refusal.ParseRefusal.TheVariants.{Unexpected, Unfinished, TooDeep, NoMemory}
 use Rattle.tp_parse.specs.Input.{Tokens}
-use Rattle.tp_parse.specs.Source.{outcome_of, IsOutcome}
+use Rattle.tp_parse.specs.Source.{outcome_of, IsOutcome, NamesToken}
 use Rattle.tp_parse.specs.Grammar.{Accepts}
-use Rattle.tp_parse.proofs.Exact.{read_accepted, accepted_read}
+use Rattle.tp_parse.proofs.Exact.{read_accepted, accepted_read, refusal_named}
 use Rattle.tp_parse.proofs.source.parse.Goals as goal
 
 accepted : (ts : Tokens) (r : Result Source ParseRefusal) → IsOutcome (outcome_of ts) r → IfOk r (λ s. Accepts ts (source_tree s))
@@ -22,6 +22,13 @@ refused : (ts : Tokens) (r : Result Source ParseRefusal) → IsOutcome (outcome_
 refused ts (Ok x) is = tt
 refused ts (Err e) is = λ some t a. let refused_by = is some in let read = accepted_read ts t a in cc
 
+token : (ts : Tokens) (r : Result Source ParseRefusal) → IsOutcome (outcome_of ts) r → IfErr r (NamesToken (length ts))
+token ts (Ok x) is = tt
+token ts (Err NoMemory) is = tt
+token ts (Err Unfinished) is = tt
+token ts (Err (Unexpected i)) is = refusal_named ts (Unexpected i) (is (λ q. cc))
+token ts (Err (TooDeep i)) is = refusal_named ts (TooDeep i) (is (λ q. cc))
+
 pub returns-clause-accepted : goal.returns-clause-accepted
 returns-clause-accepted c = accepted c.args.tokens.now c.outcome.result c.outcome.ensures
 
@@ -30,3 +37,6 @@ returns-clause-only c = only c.args.tokens.now c.outcome.result c.outcome.ensure
 
 pub returns-clause-refused : goal.returns-clause-refused
 returns-clause-refused c = refused c.args.tokens.now c.outcome.result c.outcome.ensures
+
+pub returns-clause-token : goal.returns-clause-token
+returns-clause-token c = token c.args.tokens.now c.outcome.result c.outcome.ensures

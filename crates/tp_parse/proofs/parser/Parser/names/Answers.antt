@@ -1,4 +1,4 @@
-use Rattle.std.proofs.Common.{rules, arith, List, ℕ}
+use Rattle.std.proofs.Common.{rules, arith}
 use Rattle.std.proofs.lemmas.Grind.{common_steps}
 use Rattle.tp_parse.specs.Input.{names, names_from}
 use Rattle.tp_parse.proofs.Steps.{one_more, no_more}
