@@ -17,7 +17,7 @@ variable_in names x = variable x (position_or_len (bytes_eq x) names)
 abbrev pub names_with : Names → Names → Names
 names_with names others = fold with_name names others
 
--- The names in a phrase in the order of the text. A kind of phrase that isn't run has no row.
+-- The names in a phrase in the order of the text. Phrases of other kinds aren't run, so their names play no part.
 abbrev mutual
   pub names_in : PhraseTree → Names
   names_in (phrase at kind) = names_in_kind kind

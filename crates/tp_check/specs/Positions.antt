@@ -21,7 +21,8 @@ abbrev mutual
   -- static variables, whose names begin with a lower-case letter, aren't run yet
   expr_of_kind names at (k.name x) = if is_lower x then not_run at else Ok (global (variable_in names x))
   expr_of_kind names at (k.binary op.Plus l r) = both (binary Plus) (expr_of names l) (expr_of names r)
-  -- no other phrase is run yet as an expression
+  -- No other phrase is run yet as an expression: not truth values, lists, sizes, indices, `-`, `*`, `div`, `mod`, relations, `and`, `or`, `not`,
+  -- `if` and calls, and none that is a formula alone.
   expr_of_kind names at kind = not_run at
 
 -- how many `next` stand in front of a phrase, and the phrase behind them
@@ -70,7 +71,8 @@ abbrev mutual
   formula_of_kind names at (k.bare word) = Ok (bare_of word)
   formula_of_kind names at (k.next p) = mapped next (formula_of names p)
   formula_of_kind names at (k.binary op.Equal l r) = equation_in names l r
-  -- no other phrase is run yet as a formula
+  -- No other phrase is run yet as a formula: not truth values, places and other tests, other relations, `;`, `proj`, forms, `if`, loops,
+  -- `forall`, `exists` and calls.
   formula_of_kind names at kind = not_run at
 
   -- of each of the phrases
