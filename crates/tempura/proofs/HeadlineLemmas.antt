@@ -1,18 +1,18 @@
 -- What the end of a run says of every interval.
-use Rattle.std.proofs.Common.{◌≡◌, ◌+◌, ℕ, suc, List, [], ◌∷◌, ◌++◌, length, refl, ap, sym, ◌∙◌, subst, arith}
+use Rattle.std.proofs.Common.{◌≡◌, ◌+◌, ℕ, suc, List, [], ◌∷◌, sym, subst, arith}
 use Rattle.tp_kernel.specs.Built.{IsBuilt}
 use Rattle.tp_kernel.specs.declared.formula.LimitKind.TheVariants.{Number}
 use Rattle.tp_run.specs.declared.turn.Picture.{Picture}
 use Rattle.tp_run.specs.declared.turn.Turn.TheVariants as turn
 use Rattle.tp_run.specs.Residual.{Residual}
-use Rattle.tp_run.specs.States.{Standing, open_at, advanced, StateBecomes}
+use Rattle.tp_run.specs.States.{open_at, advanced, StateBecomes}
 use Rattle.tp_run.specs.History.{StatesLead, RunEndsWith}
 use Rattle.tp_run.specs.History as history
 use Rattle.tp_run.proofs.HistoryLemmas.{end_means}
 use Rattle.tempura.specs.declared.status.Status.{Status}
 use Rattle.tempura.specs.declared.status.Status.TheVariants.{Finished, Contradictory, Undetermined, NumberLimit, SourceRefused, WordsRefused, TooLong, ReadFault, WriteFault, NoMemory}
 use Rattle.tp_check.specs.Program.{ProgramTree}
-use Rattle.tempura.specs.Run.{meant_by, beginning, Goes, Stops, RunEnds, EndSays}
+use Rattle.tempura.specs.Run.{meant_by, beginning, Goes, RunEnds, EndSays}
 
 -- a state that goes on
 one_goes : (n : ℕ) (r next : Residual) (earlier picture : Picture) → StateBecomes n r earlier picture (open_at next) turn.Went → history.GoesOn n r picture next

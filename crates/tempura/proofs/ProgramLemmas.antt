@@ -1,17 +1,15 @@
 -- A source is one program, or is refused at one place for one cause.
-use Rattle.std.proofs.Common.{◌≡◌, ◌⊎◌, inl, inr, List, ℕ, Option, Some, None, Result, Ok, Err, refl, ap, sym, ◌∙◌, subst}
+use Rattle.std.proofs.Common.{◌≡◌, inl, inr, List, ℕ, Option, Some, Ok, Err, ap, sym, ◌∙◌}
 use Rattle.tp_lex.specs.declared.token.Token.{Token}
-use Rattle.tp_lex.specs.Tokens.{AreTokens}
 use Rattle.tp_lex.proofs.LawLemmas.{one_list, one_refusal, never_both}
 use Rattle.tp_tree.specs.Tree.{SourceTree}
 use Rattle.tp_parse.specs.declared.refusal.ParseRefusal.{ParseRefusal}
 use Rattle.tp_parse.specs.Grammar.{Accepts}
 use Rattle.tp_parse.specs.Source.{outcome_of}
 use Rattle.tp_parse.proofs.Exact.{accepted_read}
-use Rattle.tp_check.specs.declared.refusal.CheckRefusal.{CheckRefusal}
 use Rattle.tp_check.specs.Program.{ProgramTree, program_of}
 use Rattle.tempura.specs.declared.refused.Refused.{Refused}
-use Rattle.tempura.specs.Source.{IsProgram, IsRefusedAt, HasNoTokens, HasNoTree, IsNotRun, lexer_refusal, parser_refusal, checker_refusal}
+use Rattle.tempura.specs.Source.{IsProgram, IsRefusedAt, lexer_refusal, parser_refusal, checker_refusal}
 
 -- tokens that are a source, and the same tokens refused
 tree_or_refused : (ts us : List Token) (t : SourceTree) (e : ParseRefusal) → ts ≡ us → Accepts ts t → outcome_of us ≡ Err e → ⊥

@@ -5,7 +5,6 @@ use Rattle.tempura.specs.declared.status.Status.{Status}
 use Rattle.tempura.specs.declared.status.Status.TheVariants.{SourceRefused, WriteFault, NoMemory}
 use Rattle.tempura.specs.declared.refused.Refused.{Refused}
 use Rattle.tempura.specs.EndLine.{end_line}
-use Rattle.tp_check.specs.Program.{ProgramTree}
 use Rattle.tempura.specs.Written.{Wrote}
 use Rattle.tempura.specs.Answer.{Refuses}
 use Rattle.tempura.specs.Source.{IsRefusedAt}

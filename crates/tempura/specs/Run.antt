@@ -1,6 +1,5 @@
 -- The runs of a program.
 use Rattle.std.specs.Prelude.{◌≡◌, ◌⊎◌, ◌+◌, ℕ, List, [], ◌∷◌, ◌++◌, length}
-use Rattle.tp_meaning.specs.Syntax.{FormulaTree}
 use Rattle.tp_kernel.specs.declared.formula.LimitKind.TheVariants.{Number}
 use Rattle.tp_run.specs.declared.turn.Picture.{Picture}
 use Rattle.tp_run.specs.declared.turn.Turn.{Turn}

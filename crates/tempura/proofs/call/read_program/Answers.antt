@@ -1,4 +1,4 @@
-use Rattle.std.proofs.Common.{IfOk, IfErr, sym, ◌∙◌}
+use Rattle.std.proofs.Common.{sym, ◌∙◌}
 use Rattle.tempura.proofs.SourceLemmas.{read_refused, not_run}
 use Rattle.tempura.proofs.call.read_program.Goals as goal
 
