@@ -7,7 +7,7 @@ ghost use Rattle.tempura.specs.Texts.{name_of, index_text, path_text, shaped_tex
 use itoa::Buffer;
 use std::alloc::Global;
 use tp_run::{Cell, Clash, Picture};
-use tp_value::{Fact, Globals, NoMemory, Path, Shape, Text};
+use tp_value::{Fact, Globals, NoMemory, Number, Path, Shape, Text};
 
 fn append_number(out: &mut Text, n: u64) -> Result<(), NoMemory>
     ensures { OnOk result (out.new ≡ out.old ++ decimal n) }
@@ -24,7 +24,7 @@ pub fn append_counted(out: &mut Text, words: &[u8], n: u64) -> Result<(), NoMemo
     append_number(out, n)
 }
 
-fn append_signed(out: &mut Text, n: i64) -> Result<(), NoMemory>
+fn append_signed(out: &mut Text, n: Number) -> Result<(), NoMemory>
     ensures { OnOk result (out.new ≡ out.old ++ signed_decimal n) }
 {
     let mut buffer = Buffer::new();
