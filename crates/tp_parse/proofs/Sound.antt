@@ -213,6 +213,10 @@ module _ (inner : ℕ → Reader Found) (room : ℕ) (sound : (k : ℕ) (ts : To
   unfolding r.turn
   turn_sound k at a ts p e = turn_by_sound k at a (role_at k (mark ts)) ts p refl e
 
+  -- where more may follow, the turn took a token
+  pub turn_fewer : (k at : ℕ) (a : Found) (ts : Tokens) (p : (Found × Bool) × Tokens) → r.turn inner room k at a ts ≡ Ok p → p.0.1 ≡ true → length p.1 < length ts
+  turn_fewer k at a ts p e more = (turn_sound k at a ts p e).fewer more
+
   go_sound : (k at n : ℕ) (a : Found) (ts : Tokens) (p : Found × Tokens) → length ts ≤ n → a.height ≤ suc room → r.go inner room k at n a ts ≡ Ok p
       → Goes k at a ts p.0 p.1 × (p.0.height ≤ suc room)
   unfolding r.go

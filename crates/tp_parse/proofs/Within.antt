@@ -42,87 +42,94 @@ pub data Within {A : Type 0} (ts : Tokens) : Outcome A → Type 0 where
 pub refusal_within : {A : Type 0} {ts : Tokens} {e : Refusal} → Within {A = A} ts (Err e) → Names (length ts) e
 refusal_within (err is) = is
 
-names_more : (k n : ℕ) (e : Refusal) → k ≤ n → Names k e → Names n e
+pub left_over : {A : Type 0} {ts rest : Tokens} {x : A} → Within ts (Ok (x, rest)) → length rest ≤ length ts
+left_over (ok is) = is
+
+pub names_more : (k n : ℕ) (e : Refusal) → k ≤ n → Names k e → Names n e
 names_more k n (Unexpected i) le is = (is.0, omega (arith, is.1))
 names_more k n (TooDeep i) le is = (is.0, omega (arith, is.1))
 names_more k n Unfinished le is = tt
 names_more k n NoMemory le is = tt
 
-more : {A : Type 0} {o : Outcome A} {ts us : Tokens} → length us ≤ length ts → Within us o → Within ts o
+pub more : {A : Type 0} {o : Outcome A} {ts us : Tokens} → length us ≤ length ts → Within us o → Within ts o
 more le (ok is) = ok (omega arith)
 more {ts = ts} {us = us} le (err {e = e} is) = err (names_more (length us) (length ts) e le is)
 
-bind : {A B : Type 0} {o : Outcome A} {ts : Tokens} (f : A → Reader B) → Within ts o → ((x : A) (us : Tokens) → Within us (f x us)) → Within ts (and_then o f)
+pub bind : {A B : Type 0} {o : Outcome A} {ts : Tokens} (f : A → Reader B) → Within ts o → ((x : A) (us : Tokens) → Within us (f x us)) → Within ts (and_then o f)
 bind f (ok {x = x} {rest = rest} is) then = more is (then x rest)
 bind f (err is) then = err is
 
-refused : {A : Type 0} (ts : Tokens) → Within {A = A} ts (refuse ts)
+pub refused : {A : Type 0} (ts : Tokens) → Within {A = A} ts (refuse ts)
 unfolding input.refusal
 refused [] = err tt
 refused (t ∷ ts) = err (omega arith, omega arith)
 
-deep : {A : Type 0} (ts : Tokens) → 0 < length ts → Within {A = A} ts (too_deep ts)
+pub deep : {A : Type 0} (ts : Tokens) → 0 < length ts → Within {A = A} ts (too_deep ts)
 deep ts some = err (some, omega arith)
 
-choose : {A : Type 0} {ts : Tokens} (b : Bool) {x y : Outcome A} → Within ts x → Within ts y → Within ts (cond b x y)
+pub choose : {A : Type 0} {ts : Tokens} (b : Bool) {x y : Outcome A} → Within ts x → Within ts y → Within ts (cond b x y)
 choose true p q = p
 choose false p q = q
 
-took : {A : Type 0} {x : A} (ts : Tokens) → Within ts (Ok (x, drop 1 ts))
+pub took : {A : Type 0} {x : A} (ts : Tokens) → Within ts (Ok (x, drop 1 ts))
 took ts = ok (dropped ts)
 
-took_one : (ts : Tokens) → Within ts (take ts)
+pub choose_at : {A : Type 0} {ts : Tokens} (b : Bool) (f g : Reader A) → Within ts (f ts) → Within ts (g ts) → Within ts (cond b f g ts)
+choose_at true f g p q = p
+choose_at false f g p q = q
+
+pub took_one : (ts : Tokens) → Within ts (take ts)
 took_one ts = took ts
 
-took_name : (ts : Tokens) → Within ts (taken_name ts)
+pub took_name : (ts : Tokens) → Within ts (taken_name ts)
 took_name ts = took ts
 
-stays : {A : Type 0} {x : A} (ts : Tokens) → Within ts (Ok (x, ts))
+pub stays : {A : Type 0} {x : A} (ts : Tokens) → Within ts (Ok (x, ts))
 stays ts = ok (omega arith)
 
-expected : (x : Mark) (ts : Tokens) → Within ts (expect x ts)
+pub expected : (x : Mark) (ts : Tokens) → Within ts (expect x ts)
 unfolding expect
 expected x ts = choose (same (due ts) x) (ok (passed ts)) (refused ts)
 
-deepened : (room : ℕ) (ts : Tokens) → 0 < length ts → Within ts (deepen room ts)
+pub deepened : (room : ℕ) (ts : Tokens) → 0 < length ts → Within ts (deepen room ts)
 unfolding deepen
 deepened zero ts some = deep ts some
 deepened (suc n) ts some = stays ts
 
-fitted : (room left : ℕ) (ts : Tokens) → 0 < length ts → Within ts (fits room left ts)
+pub fitted : (room left : ℕ) (ts : Tokens) → 0 < length ts → Within ts (fits room left ts)
 unfolding fits
 fitted zero left ts some = deep ts some
 fitted (suc n) left ts some = choose (leb left (suc n)) (stays ts) (deep ts some)
 
-lowered : (ts : Tokens) → Within ts (lower ts)
+pub lowered : (ts : Tokens) → Within ts (lower ts)
 unfolding lower
 lowered ts = choose (sees m.Lower ts) (took ts) (refused ts)
 
-any_named : (ts : Tokens) → Within ts (any_name ts)
+pub any_named : (ts : Tokens) → Within ts (any_name ts)
 unfolding any_name
 any_named ts = choose (sees m.Upper ts || sees m.Lower ts) (took ts) (refused ts)
 
-named_from : (n : ℕ) (xs : List (List ℕ)) (ts : Tokens) → Within ts (names_from n xs ts)
+pub named_from : (n : ℕ) (xs : List (List ℕ)) (ts : Tokens) → Within ts (names_from n xs ts)
 unfolding names_from
 named_from zero xs ts = stays ts
 named_from (suc n) xs ts = choose (sees comma ts) (bind _ (took_one ts) (λ u us. bind _ (any_named us) (λ x vs. named_from n (xs ++ x ∷ []) vs))) (stays ts)
 
-named : (ts : Tokens) → Within ts (names ts)
+pub named : (ts : Tokens) → Within ts (names ts)
 unfolding names
 named ts = bind _ (any_named ts) (λ x us. named_from (length us) (x ∷ []) us)
 
 -- ---- heads
 
-some_by_start : (ts : Tokens) → start_of (mark ts) ≢ s.Nothing → 0 < length ts
+pub some_by_start : (ts : Tokens) → start_of (mark ts) ≢ s.Nothing → 0 < length ts
 unfolding mark
 some_by_start [] not = absurd (not refl)
 some_by_start (t ∷ ts) not = omega arith
 
-counted : (ts : Tokens) → Within ts (counter ts)
+pub counted : (ts : Tokens) → Within ts (counter ts)
 unfolding counter
 counted ts = bind _ (took_one ts) (λ u us. bind _ (lowered us) (λ x vs. bind _ (expected (m.Symbol symbol.Less) vs) (λ w ws. stays {x = x} ws)))
 
-headed : (x : Start) (ts : Tokens) → Within ts (head_by x ts)
+pub headed : (x : Start) (ts : Tokens) → Within ts (head_by x ts)
 unfolding name_or_call
 headed s.Nothing ts = refused ts
 headed s.Number ts = took ts
@@ -141,18 +148,18 @@ headed s.For ts = bind _ (counted ts) (λ x us. stays us)
 headed s.Forall ts = bind _ (counted ts) (λ x us. stays us)
 headed s.Exists ts = bind _ (took_one ts) (λ u us. bind _ (named us) (λ xs vs. bind _ (expected (m.Symbol symbol.Colon) vs) (λ w ws. stays {x = h.Exists xs} ws)))
 
-high_some : (x : Start) → is_high x ≡ true → x ≢ s.Nothing
+pub high_some : (x : Start) → is_high x ≡ true → x ≢ s.Nothing
 high_some s.Nothing e q = absurd cc
 high_some _ e q = absurd cc
 
-admitted : (room : ℕ) (ts : Tokens) → Within ts (admit room (start_of (mark ts)) ts)
+pub admitted : (room : ℕ) (ts : Tokens) → Within ts (admit room (start_of (mark ts)) ts)
 unfolding admit
 admitted room ts = elim (is_high (start_of (mark ts))) as (λ b. (b ≡ true → 0 < length ts) → Within ts (cond b (deepen room) (pure tt) ts)) [
   | true ↦ λ some. deepened room ts (some refl)
   | false ↦ λ some. stays ts
 ] (λ q. some_by_start ts (high_some (start_of (mark ts)) q))
 
-unfitted : {A : Type 0} (k : ℕ) (ts : Tokens) → Within {A = A} ts (Err (unfit k ts))
+pub unfitted : {A : Type 0} (k : ℕ) (ts : Tokens) → Within {A = A} ts (Err (unfit k ts))
 unfolding unfit begins mark input.refusal
 unfitted k [] = err tt
 unfitted {A} k (t ∷ ts) = elim (begins k (mark (t ∷ ts))) as (λ b. Within {A = A} (t ∷ ts) (Err (cond b (TooDeep (length (t ∷ ts))) (input.refusal (t ∷ ts))))) [
@@ -162,37 +169,40 @@ unfitted {A} k (t ∷ ts) = elim (begins k (mark (t ∷ ts))) as (λ b. Within {
 
 -- ---- phrases
 
-some_by_role : (k : ℕ) (ts : Tokens) → role_at k (mark ts) ≢ Ends → 0 < length ts
+pub some_by_role : (k : ℕ) (ts : Tokens) → role_at k (mark ts) ≢ Ends → 0 < length ts
 unfolding mark
 some_by_role k [] not = absurd (not (role_end k))
 some_by_role k (t ∷ ts) not = omega arith
 
-some_by_before : (k : ℕ) (ts : Tokens) → eqb (before (mark ts)) (suc k) ≡ true → 0 < length ts
+pub some_by_before : (k : ℕ) (ts : Tokens) → eqb (before (mark ts)) (suc k) ≡ true → 0 < length ts
 unfolding mark
 some_by_before k [] e = absurd (omega (arith, eqb-true 0 (suc k) e))
 some_by_before k (t ∷ ts) e = omega arith
 
 module _ (inner : ℕ → Reader Found) (room : ℕ) (within : (k : ℕ) (ts : Tokens) → Within ts (inner k ts)) where
-  parted : (k : ℕ) (close : Mark) (ts : Tokens) → Within ts (r.part inner room k close ts)
+  pub parted : (k : ℕ) (close : Mark) (ts : Tokens) → Within ts (r.part inner room k close ts)
   unfolding r.part
   parted k close ts = bind _ (within k ts) (λ x us. bind _ (expected close us) (λ w ws. stays ws))
 
-  othered : (k : ℕ) (separator : Mark) (n : ℕ) (all : Operands) (ts : Tokens) → Within ts (r.others_from inner room k separator n all ts)
+  pub othered : (k : ℕ) (separator : Mark) (n : ℕ) (all : Operands) (ts : Tokens) → Within ts (r.others_from inner room k separator n all ts)
   unfolding r.others_from
   othered k separator zero all ts = stays ts
   othered k separator (suc n) all ts = choose (sees separator ts) (bind _ (took_one ts) (λ u us. bind _ (within k us) (λ x vs. othered k separator n (then_operand all x) vs))) (stays ts)
 
-  operanded : (k : ℕ) (close : Mark) (ts : Tokens) → Within ts (r.operands inner room k close ts)
+  pub operanded : (k : ℕ) (close : Mark) (ts : Tokens) → Within ts (r.operands inner room k close ts)
   unfolding r.operands r.others
   operanded k close ts = choose (same (due ts) close) (ok (passed ts))
       (bind _ (within k ts) (λ x us. bind _ (othered k comma (length us) (operands_of (x.tree ∷ []) x.height) us) (λ all vs. bind _ (expected close vs) (λ w ws. stays ws))))
 
-  chosen : (at : ℕ) (ts : Tokens) → Within ts (r.choice inner room at ts)
-  unfolding r.choice r.else_part
-  chosen at ts = bind _ (parted chop (m.Word word.Then) ts) (λ b us. bind _ (within chop us) (λ x vs.
-      choose (sees (m.Word word.Else) vs) (bind _ (took_one vs) (λ u ws. bind _ (within chop ws) (λ y zs. stays {x = of_choice_else at b x y} zs))) (stays {x = of_choice at b x} vs)))
+  pub elsed : (at : ℕ) (b x : Found) (ts : Tokens) → Within ts (r.else_part inner room at b x ts)
+  unfolding r.else_part
+  elsed at b x ts = choose (sees (m.Word word.Else) ts) (bind _ (took_one ts) (λ u ws. bind _ (within chop ws) (λ y zs. stays {x = of_choice_else at b x y} zs))) (stays {x = of_choice at b x} ts)
 
-  primary_by_within : (at : ℕ) (x : Head) (ts : Tokens) → Within ts (r.primary_by inner room at x ts)
+  pub chosen : (at : ℕ) (ts : Tokens) → Within ts (r.choice inner room at ts)
+  unfolding r.choice
+  chosen at ts = bind _ (parted chop (m.Word word.Then) ts) (λ b us. bind _ (within chop us) (λ x vs. elsed at b x vs))
+
+  pub primary_by_within : (at : ℕ) (x : Head) (ts : Tokens) → Within ts (r.primary_by inner room at x ts)
   primary_by_within at (h.Atom a) ts = stays ts
   primary_by_within at (h.Listed l) ts = bind _ (operanded (listed_level l) (listed_close l) ts) (λ all us. stays us)
   primary_by_within at (h.Enclosed e) ts = bind _ (parted (enclosed_level e) (enclosed_close e) ts) (λ x us. stays us)
@@ -200,36 +210,36 @@ module _ (inner : ℕ → Reader Found) (room : ℕ) (within : (k : ℕ) (ts : T
   primary_by_within at (h.Paired p) ts = bind _ (parted chop (middle p) ts) (λ x us. bind _ (within chop us) (λ y vs. stays vs))
   primary_by_within at (h.Exists xs) ts = bind _ (within chop ts) (λ x us. stays us)
 
-  primary_within : (ts : Tokens) → Within ts (r.primary inner room ts)
+  pub primary_within : (ts : Tokens) → Within ts (r.primary inner room ts)
   unfolding r.primary
   primary_within ts = bind _ (admitted room ts) (λ u us. bind _ (headed (start_of (mark ts)) us) (λ x vs. primary_by_within (from ts) x vs))
 
-  operated_within : (k : ℕ) (way : Way) (o : Op) (at : ℕ) (left : Found) (ts : Tokens) → 0 < length ts → Within ts (r.operated inner room k way o at left ts)
+  pub operated_within : (k : ℕ) (way : Way) (o : Op) (at : ℕ) (left : Found) (ts : Tokens) → 0 < length ts → Within ts (r.operated inner room k way o at left ts)
   unfolding r.operated
   operated_within k way o at left ts some = bind _ (fitted room left.height ts some) (λ u us. bind _ (took_one us) (λ v vs. bind _ (within (operand_level k way) vs) (λ x ws. stays {x = of_infix at o left x} ws)))
 
-  indexed_within : (at : ℕ) (left : Found) (ts : Tokens) → 0 < length ts → Within ts (r.indexed inner room at left ts)
+  pub indexed_within : (at : ℕ) (left : Found) (ts : Tokens) → 0 < length ts → Within ts (r.indexed inner room at left ts)
   unfolding r.indexed
   indexed_within at left ts some = bind _ (fitted room left.height ts some) (λ u us. bind _ (took_one us) (λ v vs. bind _ (parted chop (m.Symbol symbol.CloseSquare) vs) (λ x ws. stays {x = of_index at left x} ws)))
 
-  chained_within : (k at : ℕ) (left : Found) (ts : Tokens) → 0 < length ts → Within ts (r.chained inner room k at left ts)
+  pub chained_within : (k at : ℕ) (left : Found) (ts : Tokens) → 0 < length ts → Within ts (r.chained inner room k at left ts)
   unfolding r.chained r.others
   chained_within k at left ts some =
       bind _ (fitted room left.height ts some) (λ u us. bind _ (othered (k - 1) (m.Word word.And) (length us) (operands_of (left.tree ∷ []) left.height) us) (λ all vs. stays vs))
 
-  turn_by_within : (k at : ℕ) (left : Found) (role : Role) (ts : Tokens) → (role ≢ Ends → 0 < length ts) → Within ts (r.turn_by inner room k at left role ts)
+  pub turn_by_within : (k at : ℕ) (left : Found) (role : Role) (ts : Tokens) → (role ≢ Ends → 0 < length ts) → Within ts (r.turn_by inner room k at left role ts)
   turn_by_within k at left Ends ts some = stays ts
   turn_by_within k at left (Infix l way o) ts some = bind _ (operated_within k way o at left ts (some (λ q. cc))) (λ x us. stays us)
   turn_by_within k at left Opens ts some = bind _ (indexed_within at left ts (some (λ q. cc))) (λ x us. stays us)
   turn_by_within k at left Joins ts some = bind _ (chained_within k at left ts (some (λ q. cc))) (λ x us. stays us)
 
-  go_within : (k at n : ℕ) (left : Found) (ts : Tokens) → Within ts (r.go inner room k at n left ts)
+  pub go_within : (k at n : ℕ) (left : Found) (ts : Tokens) → Within ts (r.go inner room k at n left ts)
   unfolding r.go r.turn
   go_within k at zero left ts = stays ts
   go_within k at (suc n) left ts = bind _ (turn_by_within k at left (role_at k (mark ts)) ts (some_by_role k ts)) (λ x us.
       elim x.1 as (λ b. Within us (cond b (r.go inner room k at n x.0) (pure x.0) us)) [ true ↦ go_within k at n x.0 us | false ↦ stays us ])
 
-  levels_within : (k : ℕ) (ts : Tokens) → Within ts (r.levels inner room k ts)
+  pub levels_within : (k : ℕ) (ts : Tokens) → Within ts (r.levels inner room k ts)
   unfolding r.levels r.level r.prefix r.operations
   levels_within zero ts = primary_within ts
   levels_within (suc k) ts = elim (eqb (before (mark ts)) (suc k)) as (λ b. (b ≡ true → 0 < length ts)
@@ -238,32 +248,32 @@ module _ (inner : ℕ → Reader Found) (room : ℕ) (within : (k : ℕ) (ts : T
         | false ↦ λ some. bind _ (levels_within k ts) (λ x us. go_within (suc k) (from ts) (length us) x us)
       ] (some_by_before k ts)
 
-read_within : (room k : ℕ) (ts : Tokens) → Within ts (r.read room k ts)
+pub read_within : (room k : ℕ) (ts : Tokens) → Within ts (r.read room k ts)
 unfolding r.read
 read_within zero k ts = unfitted k ts
 read_within (suc room) k ts = levels_within (r.read room) room (read_within room) k ts
 
 -- ---- sources
 
-sentence_within : (ts : Tokens) → Within ts (source.sentence ts)
+pub sentence_within : (ts : Tokens) → Within ts (source.sentence ts)
 unfolding source.sentence
 sentence_within ts = bind _ (read_within limit chop ts) (λ x us. bind _ (expected (m.Symbol symbol.Stop) us) (λ w ws. stays {x = x.tree} ws))
 
-parameters_within : (ts : Tokens) → Within ts (source.parameters ts)
+pub parameters_within : (ts : Tokens) → Within ts (source.parameters ts)
 unfolding source.parameters
 parameters_within ts = choose (sees (m.Symbol symbol.CloseRound) ts) (took ts) (bind _ (named ts) (λ xs us. bind _ (expected (m.Symbol symbol.CloseRound) us) (λ w ws. stays {x = xs} ws)))
 
-definition_within : (ts : Tokens) → Within ts (source.definition ts)
+pub definition_within : (ts : Tokens) → Within ts (source.definition ts)
 unfolding source.definition
 definition_within ts = bind _ (took_one ts) (λ u us. bind _ (lowered us) (λ x vs. bind _ (expected (m.Symbol symbol.OpenRound) vs) (λ o ws. bind _ (parameters_within ws) (λ xs ps.
     bind _ (expected (m.Symbol symbol.Equal) ps) (λ q qs. bind _ (sentence_within qs) (λ b bs. stays {x = defined x (from ts) xs b} bs))))))
 
-definitions_within : (n : ℕ) (ds : List DefinitionTree) (ts : Tokens) → Within ts (source.definitions_from n ds ts)
+pub definitions_within : (n : ℕ) (ds : List DefinitionTree) (ts : Tokens) → Within ts (source.definitions_from n ds ts)
 unfolding source.definitions_from
 definitions_within zero ds ts = stays ts
 definitions_within (suc n) ds ts = choose (sees (m.Word word.Define) ts) (bind _ (definition_within ts) (λ d us. definitions_within n (ds ++ d ∷ []) us)) (stays ts)
 
-ended_within : (x : SourceTree) (ts : Tokens) → Within ts (source.ended x ts)
+pub ended_within : (x : SourceTree) (ts : Tokens) → Within ts (source.ended x ts)
 unfolding source.ended
 ended_within x [] = stays []
 ended_within x (t ∷ ts) = refused (t ∷ ts)

@@ -5,3 +5,4 @@ pub mod Grammar
 pub mod Head
 pub mod Reading
 pub mod Source
+pub mod Place

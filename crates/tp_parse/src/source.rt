@@ -6,6 +6,7 @@ ghost use Rattle.tp_parse.specs.Source.{outcome_of, IsOutcome, NamesToken, defin
 ghost use Rattle.tp_tree.specs.Read.{tree, definition_tree, source_tree};
 ghost use Rattle.tp_tree.specs.Tree.{SourceTree};
 ghost use Rattle.tp_parse.specs.Grammar.{Accepts};
+ghost use Rattle.tp_parse.specs.Place.{NoneGoesOn};
 ghost use Rattle.tp_parse.specs.declared.refusal.ParseRefusal.TheVariants.{NoMemory};
 
 use crate::mark::Mark;
@@ -29,6 +30,7 @@ pub fn parse(alloc: Global, tokens: &Tokens) -> Result<Source, ParseRefusal>
     ensures refused { IfErr result (λ e. e ≢ NoMemory → (t : SourceTree) → ¬ Accepts tokens.now t) }
     ensures outcome { IsOutcome (outcome_of tokens.now) result }
     ensures token { IfErr result (NamesToken (length tokens.now)) }
+    ensures place { IfErr result (NoneGoesOn tokens.now) }
 {
     outcome(alloc, tokens)
 }

@@ -7,7 +7,9 @@ use Rattle.tp_parse.specs.declared.refusal.ParseRefusal.TheVariants.{Unexpected,
 use Rattle.tp_parse.specs.Input.{Tokens}
 use Rattle.tp_parse.specs.Source.{outcome_of, IsOutcome, NamesToken}
 use Rattle.tp_parse.specs.Grammar.{Accepts}
+use Rattle.tp_parse.specs.Place.{NoneGoesOn}
 use Rattle.tp_parse.proofs.Exact.{read_accepted, accepted_read, refusal_named}
+use Rattle.tp_parse.proofs.Rests.{refusal_is_first}
 use Rattle.tp_parse.proofs.source.parse.Goals as goal
 
 accepted : (ts : Tokens) (r : Result Source ParseRefusal) → IsOutcome (outcome_of ts) r → IfOk r (λ s. Accepts ts (source_tree s))
@@ -29,6 +31,13 @@ token ts (Err Unfinished) is = tt
 token ts (Err (Unexpected i)) is = refusal_named ts (Unexpected i) (is (λ q. cc))
 token ts (Err (TooDeep i)) is = refusal_named ts (TooDeep i) (is (λ q. cc))
 
+place : (ts : Tokens) (r : Result Source ParseRefusal) → IsOutcome (outcome_of ts) r → IfErr r (NoneGoesOn ts)
+place ts (Ok x) is = tt
+place ts (Err NoMemory) is = tt
+place ts (Err Unfinished) is = tt
+place ts (Err (Unexpected i)) is = refusal_is_first ts (Unexpected i) (is (λ q. cc))
+place ts (Err (TooDeep i)) is = refusal_is_first ts (TooDeep i) (is (λ q. cc))
+
 pub returns-clause-accepted : goal.returns-clause-accepted
 returns-clause-accepted c = accepted c.args.tokens.now c.outcome.result c.outcome.ensures
 
@@ -40,3 +49,6 @@ returns-clause-refused c = refused c.args.tokens.now c.outcome.result c.outcome.
 
 pub returns-clause-token : goal.returns-clause-token
 returns-clause-token c = token c.args.tokens.now c.outcome.result c.outcome.ensures
+
+pub returns-clause-place : goal.returns-clause-place
+returns-clause-place c = place c.args.tokens.now c.outcome.result c.outcome.ensures
