@@ -1,8 +1,6 @@
 -- Runs over tokens that agree at the front: a refusal rests on the tokens up to the one that it names.
-use Rattle.std.proofs.Common.{◌≡◌, ◌≢◌, ℕ, zero, suc, ◌+◌, ◌-◌, ◌<◌, ◌≤◌, Bool, true, false, cond, ◌||◌, leb, eqb, List, [], ◌∷◌, ◌++◌, length, drop, Result, Ok, Err, refl, sym, ap, subst, ◌∙◌, arith}
+use Rattle.std.proofs.Common.{◌≡◌, ℕ, zero, suc, ◌+◌, ◌<◌, ◌≤◌, Bool, true, false, cond, ◌||◌, leb, List, [], ◌∷◌, length, drop, Ok, Err, refl, ap, subst, arith}
 use Rattle.tp_lex.specs.declared.token.Token.{Token}
-use Rattle.tp_lex.specs.declared.token.Word.TheVariants as word
-use Rattle.tp_lex.specs.declared.token.Symbol.TheVariants as symbol
 use Rattle.tp_parse.specs.declared.refusal.Refusal.{Refusal}
 use Rattle.tp_parse.specs.declared.refusal.Refusal.TheVariants.{Unexpected, Unfinished, TooDeep, NoMemory}
 use Rattle.tp_parse.specs.declared.mark.Mark.{Mark}
@@ -11,7 +9,7 @@ use Rattle.tp_parse.specs.Marks.{same, mark_of}
 use Rattle.tp_parse.specs.Input as input
 use Rattle.tp_parse.specs.Input.{Tokens, Outcome, Reader, and_then, mark, from, number, name, refuse, too_deep, half_mark, due, past, left_of, halved, sees, lower, any_name, expect, deepen}
 use Rattle.tp_parse.specs.Reading.{fits}
-use Rattle.tp_parse.proofs.Within.{Names, Within, ok, err}
+use Rattle.tp_parse.proofs.Within.{Within, ok, err}
 
 -- the first n tokens are the same; where a list ends before, both do
 pub data Agrees : ℕ → Tokens → Tokens → Type 0 where

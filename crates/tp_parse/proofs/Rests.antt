@@ -1,5 +1,5 @@
 -- A source that is refused is refused by the tokens up to the one that the refusal names.
-use Rattle.std.proofs.Common.{◌≡◌, ◌≢◌, ℕ, zero, suc, ◌+◌, ◌-◌, ◌<◌, ◌≤◌, Bool, true, false, cond, eqb, List, [], ◌∷◌, ◌++◌, length, take, drop, Result, Ok, Err, refl, sym, ap, subst, ◌∙◌, arith}
+use Rattle.std.proofs.Common.{◌≡◌, ◌≢◌, ℕ, zero, suc, ◌+◌, ◌-◌, ◌<◌, ◌≤◌, true, false, cond, eqb, List, [], ◌∷◌, ◌++◌, length, take, drop, Ok, Err, refl, sym, ap, subst, ◌∙◌, arith}
 use Rattle.tp_lex.specs.declared.token.Word.TheVariants as word
 use Rattle.tp_lex.specs.declared.token.Symbol.TheVariants as symbol
 use Rattle.tp_tree.specs.declared.operator.Op.{Op}
@@ -19,11 +19,11 @@ use Rattle.tp_parse.specs.Marks.{same, mark_of, before, role_at, start_of, chop,
 use Rattle.tp_parse.specs.Input as input
 use Rattle.tp_parse.specs.Input.{Tokens, Outcome, Reader, and_then, ◌>>=◌, pure, mark, from, number, name, due, half_mark, past, sees, lower, any_name, names, names_from, expect, deepen}
 use Rattle.tp_parse.specs.Head.{name_or_call, counter, head_by, is_high, admit, begins, unfit}
-use Rattle.tp_parse.specs.Found.{Found, Operands, no_operand, then_operand, operands_of, of_choice, of_choice_else, of_infix, of_index, of_chain, of_pair, of_prefix, limit, defined, source_of}
+use Rattle.tp_parse.specs.Found.{Found, Operands, then_operand, operands_of, of_choice, of_choice_else, of_infix, of_index, of_chain, of_pair, of_prefix, limit, defined, source_of}
 use Rattle.tp_parse.specs.Reading as r
 use Rattle.tp_parse.specs.Reading.{operand_level, goes_on, fits}
 use Rattle.tp_parse.proofs.Marks.{same_no}
-use Rattle.tp_parse.proofs.Shapes.{taken, dropped, role_end}
+use Rattle.tp_parse.proofs.Shapes.{role_end}
 use Rattle.tp_parse.proofs.Within as w
 use Rattle.tp_parse.proofs.Within.{Within, left_over}
 use Rattle.tp_parse.proofs.Sound.{Is, turn_fewer, read_sound}
@@ -35,7 +35,7 @@ use Rattle.tp_parse.specs.declared.refusal.Refusal.TheVariants.{Unexpected, Unfi
 use Rattle.tp_parse.specs.declared.refusal.ParseRefusal.{ParseRefusal}
 use Rattle.tp_parse.specs.declared.refusal.ParseRefusal.TheVariants as named_at
 use Rattle.tp_lex.specs.declared.token.Token.{Token}
-use Rattle.tp_parse.proofs.Alike.{Agrees, unseen, ended, agreed, Alike, beyond, goes, unexpected, deep, both, lifted, same_mark, same_from, same_number, same_name, refused_alike, deep_alike, stays_alike, took_alike, passed_alike, chosen_alike, after_take, expected_alike, deepened_alike, fitted_alike, saw_alike, took_name_alike, lowered_alike, any_named_alike}
+use Rattle.tp_parse.proofs.Alike.{Agrees, unseen, ended, agreed, Alike, beyond, goes, unexpected, deep, both, same_mark, same_from, same_number, same_name, refused_alike, stays_alike, took_alike, passed_alike, chosen_alike, after_take, expected_alike, deepened_alike, fitted_alike, saw_alike, lowered_alike, any_named_alike}
 
 short : {A : Type 0} {ts r : Tokens} {x : A} (o : Outcome A) → Within ts o → o ≡ Ok (x, r) → length r ≤ length ts
 short o is e = left_over (subst (Within _) e is)
@@ -56,8 +56,8 @@ named_from (suc i) zero xs some (agreed a) few few2 = absurd (omega arith)
 named_from (suc i) (suc j) xs {ts = ts} {us = us} some (agreed a) few few2 =
     chosen_alike (sees comma ts) (sees comma us) (saw_alike comma some (agreed a))
     (after_take some (agreed a) (w.bind _ (w.any_named (drop 1 ts)) (λ x vs. w.named_from i (xs ++ x ∷ []) vs)) (λ k pos b e.
-      both _ _ (any_named_alike pos b) (λ x vs. w.named_from i (xs ++ x ∷ []) vs) (λ x l r q eq lens pos2 b2.
-        let le = short (any_name (drop 1 ts)) (w.any_named (drop 1 ts)) eq in named_from i j (xs ++ x ∷ []) pos2 b2 (omega arith) (omega arith))))
+    both _ _ (any_named_alike pos b) (λ x vs. w.named_from i (xs ++ x ∷ []) vs) (λ x l r q eq lens pos2 b2.
+    let le = short (any_name (drop 1 ts)) (w.any_named (drop 1 ts)) eq in named_from i j (xs ++ x ∷ []) pos2 b2 (omega arith) (omega arith))))
     (stays_alike some (agreed a))
 
 named : {n : ℕ} {ts us : Tokens} → 0 < n → Agrees n ts us → Alike n ts us (names ts) (names us)
@@ -70,8 +70,8 @@ counted : {n : ℕ} {ts us : Tokens} → 0 < n → Agrees n ts us → Alike n ts
 unfolding counter
 counted {ts = ts} some a =
     after_take some a (w.bind _ (w.lowered (drop 1 ts)) (λ x vs. w.bind _ (w.expected (m.Symbol symbol.Less) vs) (λ u ws. w.stays {x = x} ws))) (λ k pos b e.
-      both _ _ (lowered_alike pos b) (λ x vs. w.bind _ (w.expected (m.Symbol symbol.Less) vs) (λ u ws. w.stays {x = x} ws)) (λ x l r q eq lens pos2 b2.
-        both _ _ (expected_alike (m.Symbol symbol.Less) pos2 b2) (λ u ws. w.stays {x = x} ws) (λ u l2 r2 q2 eq2 lens2 pos3 b3. stays_alike {x = x} pos3 b3)))
+    both _ _ (lowered_alike pos b) (λ x vs. w.bind _ (w.expected (m.Symbol symbol.Less) vs) (λ u ws. w.stays {x = x} ws)) (λ x l r q eq lens pos2 b2.
+    both _ _ (expected_alike (m.Symbol symbol.Less) pos2 b2) (λ u ws. w.stays {x = x} ws) (λ u l2 r2 q2 eq2 lens2 pos3 b3. stays_alike {x = x} pos3 b3)))
 
 number_head : {n : ℕ} {ts us : Tokens} → 0 < n → Agrees n ts us → Alike n ts us (head_by s.Number ts) (head_by s.Number us)
 number_head {n} {ts} {us} some a = rw (sym (same_number some a)) (took_alike {x = h.Atom (atom.Number (number ts))} some a)
@@ -83,8 +83,8 @@ call_head : {n : ℕ} {ts us : Tokens} → 0 < n → Agrees n ts us → Alike n 
 unfolding name_or_call
 call_head {n} {ts} {us} some a = rw (sym (same_name some a))
     (after_take some a (w.choose (sees (m.Symbol symbol.OpenRound) (drop 1 ts)) (w.took {x = h.Listed (listed.Call (name ts))} (drop 1 ts)) (w.stays {x = h.Atom (atom.Name (name ts))} (drop 1 ts))) (λ k pos b e.
-      chosen_alike (sees (m.Symbol symbol.OpenRound) (drop 1 ts)) (sees (m.Symbol symbol.OpenRound) (drop 1 us)) (saw_alike (m.Symbol symbol.OpenRound) pos b)
-      (took_alike {x = h.Listed (listed.Call (name ts))} pos b) (stays_alike {x = h.Atom (atom.Name (name ts))} pos b)))
+    chosen_alike (sees (m.Symbol symbol.OpenRound) (drop 1 ts)) (sees (m.Symbol symbol.OpenRound) (drop 1 us)) (saw_alike (m.Symbol symbol.OpenRound) pos b)
+    (took_alike {x = h.Listed (listed.Call (name ts))} pos b) (stays_alike {x = h.Atom (atom.Name (name ts))} pos b)))
 
 headed : (x : Start) {n : ℕ} {ts us : Tokens} → 0 < n → Agrees n ts us → Alike n ts us (head_by x ts) (head_by x us)
 headed s.Nothing some a = refused_alike some a
@@ -97,7 +97,7 @@ headed s.EmptyList some a = took_alike some a
 headed s.List some a = passed_alike some a
 headed (s.Form f) {ts = ts} some a =
     after_take some a (w.bind _ (w.expected (m.Symbol symbol.OpenRound) (drop 1 ts)) (λ u vs. w.stays {x = h.Listed (listed.Form f)} vs)) (λ k pos b e.
-      both _ _ (expected_alike (m.Symbol symbol.OpenRound) pos b) (λ u vs. w.stays {x = h.Listed (listed.Form f)} vs) (λ u l r q eq lens pos2 b2. stays_alike {x = h.Listed (listed.Form f)} pos2 b2))
+    both _ _ (expected_alike (m.Symbol symbol.OpenRound) pos b) (λ u vs. w.stays {x = h.Listed (listed.Form f)} vs) (λ u l r q eq lens pos2 b2. stays_alike {x = h.Listed (listed.Form f)} pos2 b2))
 headed (s.Enclosed x) some a = took_alike some a
 headed s.If some a = took_alike some a
 headed s.While some a = took_alike some a
@@ -106,8 +106,8 @@ headed s.For some a = both _ _ (counted some a) (λ x vs. w.stays vs) (λ x l r 
 headed s.Forall some a = both _ _ (counted some a) (λ x vs. w.stays vs) (λ x l r q eq lens pos b. stays_alike pos b)
 headed s.Exists {ts = ts} some a =
     after_take some a (w.bind _ (w.named (drop 1 ts)) (λ xs vs. w.bind _ (w.expected (m.Symbol symbol.Colon) vs) (λ u ws. w.stays {x = h.Exists xs} ws))) (λ k pos b e.
-      both _ _ (named pos b) (λ xs vs. w.bind _ (w.expected (m.Symbol symbol.Colon) vs) (λ u ws. w.stays {x = h.Exists xs} ws)) (λ xs l r q eq lens pos2 b2.
-        both _ _ (expected_alike (m.Symbol symbol.Colon) pos2 b2) (λ u ws. w.stays {x = h.Exists xs} ws) (λ u l2 r2 q2 eq2 lens2 pos3 b3. stays_alike {x = h.Exists xs} pos3 b3)))
+    both _ _ (named pos b) (λ xs vs. w.bind _ (w.expected (m.Symbol symbol.Colon) vs) (λ u ws. w.stays {x = h.Exists xs} ws)) (λ xs l r q eq lens pos2 b2.
+    both _ _ (expected_alike (m.Symbol symbol.Colon) pos2 b2) (λ u ws. w.stays {x = h.Exists xs} ws) (λ u l2 r2 q2 eq2 lens2 pos3 b3. stays_alike {x = h.Exists xs} pos3 b3)))
 
 admitted : (room : ℕ) (x : Start) {n : ℕ} {ts us : Tokens} → 0 < n → Agrees n ts us → Alike n ts us (admit room x ts) (admit room x us)
 unfolding admit
@@ -119,9 +119,9 @@ unfit_alike : {A : Type 0} (k : ℕ) {n : ℕ} {ts us : Tokens} → 0 < n → Ag
 unfolding unfit mark input.refusal
 unfit_alike k some unseen = absurd (omega arith)
 unfit_alike {A} k some (ended {n = n}) = elim (begins k m.End) as (λ b. Alike {A = A} (suc n) [] [] (Err (cond b (TooDeep 0) (input.refusal []))) (Err (cond b (TooDeep 0) (input.refusal [])))) [
-    | true ↦ deep (omega arith)
-    | false ↦ beyond tt
-  ]
+  | true ↦ deep (omega arith)
+  | false ↦ beyond tt
+]
 unfit_alike {A} k some (agreed {n = n} {t = t} {ts = ts} {us = us} a) =
     elim (begins k (mark_of t.kind)) as (λ b. Alike {A = A} (suc n) (t ∷ ts) (t ∷ us) (Err (cond b (TooDeep (length (t ∷ ts))) (input.refusal (t ∷ ts)))) (Err (cond b (TooDeep (length (t ∷ us))) (input.refusal (t ∷ us))))) [
       | true ↦ deep (omega arith)
@@ -150,8 +150,8 @@ module _ (inner : ℕ → Reader Found) (room : ℕ) (within : (k : ℕ) (ts : T
   othered k separator (suc i) (suc j) all {ts = ts} {us = us} real some (agreed a) few few2 =
       chosen_alike (sees separator ts) (sees separator us) (saw_alike separator some (agreed a))
       (after_take some (agreed a) (w.bind _ (within k (drop 1 ts)) (λ x vs. w.othered inner room within k separator i (then_operand all x) vs)) (λ c pos b e.
-        both _ _ (alike k _ _ _ pos b) (λ x vs. w.othered inner room within k separator i (then_operand all x) vs) (λ x l r q eq lens pos2 b2.
-          let le = short (inner k (drop 1 ts)) (within k (drop 1 ts)) eq in othered k separator i j (then_operand all x) real pos2 b2 (omega arith) (omega arith))))
+      both _ _ (alike k _ _ _ pos b) (λ x vs. w.othered inner room within k separator i (then_operand all x) vs) (λ x l r q eq lens pos2 b2.
+      let le = short (inner k (drop 1 ts)) (within k (drop 1 ts)) eq in othered k separator i j (then_operand all x) real pos2 b2 (omega arith) (omega arith))))
       (stays_alike some (agreed a))
 
   operanded : (k : ℕ) (close : Mark) {n : ℕ} {ts us : Tokens} → 0 < n → Agrees n ts us → Alike n ts us (r.operands inner room k close ts) (r.operands inner room k close us)
@@ -159,22 +159,22 @@ module _ (inner : ℕ → Reader Found) (room : ℕ) (within : (k : ℕ) (ts : T
   operanded k close {ts = ts} {us = us} some a =
       chosen_alike (same (due ts) close) (same (due us) close) (ap (λ q. same (half_mark q) close) (same_mark some a)) (passed_alike some a)
       (both _ _ (alike k _ _ _ some a) (λ x vs. w.bind _ (w.othered inner room within k comma (length vs) (operands_of (x.tree ∷ []) x.height) vs) (λ all ws. w.bind _ (w.expected close ws) (λ u zs. w.stays {x = all} zs))) (λ x l r q eq lens pos b.
-        both _ _ (othered k comma (length r) (length q) (operands_of (x.tree ∷ []) x.height) (λ z. cc) pos b (omega arith) (omega arith)) (λ all ws. w.bind _ (w.expected close ws) (λ u zs. w.stays {x = all} zs)) (λ all l2 r2 q2 eq2 lens2 pos2 b2.
-          both _ _ (expected_alike close pos2 b2) (λ u zs. w.stays {x = all} zs) (λ u l3 r3 q3 eq3 lens3 pos3 b3. stays_alike {x = all} pos3 b3))))
+      both _ _ (othered k comma (length r) (length q) (operands_of (x.tree ∷ []) x.height) (λ z. cc) pos b (omega arith) (omega arith)) (λ all ws. w.bind _ (w.expected close ws) (λ u zs. w.stays {x = all} zs)) (λ all l2 r2 q2 eq2 lens2 pos2 b2.
+      both _ _ (expected_alike close pos2 b2) (λ u zs. w.stays {x = all} zs) (λ u l3 r3 q3 eq3 lens3 pos3 b3. stays_alike {x = all} pos3 b3))))
 
   elsed : (at : ℕ) (b x : Found) {n : ℕ} {ts us : Tokens} → 0 < n → Agrees n ts us → Alike n ts us (r.else_part inner room at b x ts) (r.else_part inner room at b x us)
   unfolding r.else_part
   elsed at b x {ts = ts} {us = us} some a =
       chosen_alike (sees (m.Word word.Else) ts) (sees (m.Word word.Else) us) (saw_alike (m.Word word.Else) some a)
       (after_take some a (w.bind _ (within chop (drop 1 ts)) (λ y zs. w.stays {x = of_choice_else at b x y} zs)) (λ c pos d e.
-        both _ _ (alike chop _ _ _ pos d) (λ y zs. w.stays {x = of_choice_else at b x y} zs) (λ y l r q eq lens pos2 d2. stays_alike {x = of_choice_else at b x y} pos2 d2)))
+      both _ _ (alike chop _ _ _ pos d) (λ y zs. w.stays {x = of_choice_else at b x y} zs) (λ y l r q eq lens pos2 d2. stays_alike {x = of_choice_else at b x y} pos2 d2)))
       (stays_alike {x = of_choice at b x} some a)
 
   chosen : (at : ℕ) {n : ℕ} {ts us : Tokens} → 0 < n → Agrees n ts us → Alike n ts us (r.choice inner room at ts) (r.choice inner room at us)
   unfolding r.choice
   chosen at some a =
       both _ _ (parted chop (m.Word word.Then) some a) (λ b vs. w.bind _ (within chop vs) (λ x zs. w.elsed inner room within at b x zs)) (λ b l r q eq lens pos c.
-        both _ _ (alike chop _ _ _ pos c) (λ x zs. w.elsed inner room within at b x zs) (λ x l2 r2 q2 eq2 lens2 pos2 c2. elsed at b x pos2 c2))
+      both _ _ (alike chop _ _ _ pos c) (λ x zs. w.elsed inner room within at b x zs) (λ x l2 r2 q2 eq2 lens2 pos2 c2. elsed at b x pos2 c2))
 
   primary_by_alike : (at : ℕ) (x : Head) {n : ℕ} {ts us : Tokens} → 0 < n → Agrees n ts us → Alike n ts us (r.primary_by inner room at x ts) (r.primary_by inner room at x us)
   primary_by_alike at (h.Atom x) some a = stays_alike some a
@@ -192,7 +192,7 @@ module _ (inner : ℕ → Reader Found) (room : ℕ) (within : (k : ℕ) (ts : T
   begun_alike : (at : ℕ) (x : Start) {n : ℕ} {ts us : Tokens} → 0 < n → Agrees n ts us → Alike n ts us (begun at x ts) (begun at x us)
   begun_alike at x some a =
       both _ _ (admitted room x some a) (λ u vs. w.bind _ (w.headed x vs) (λ head zs. w.primary_by_within inner room within at head zs)) (λ u l r q eq lens pos b.
-        both _ _ (headed x pos b) (λ head zs. w.primary_by_within inner room within at head zs) (λ head l2 r2 q2 eq2 lens2 pos2 b2. primary_by_alike at head pos2 b2))
+      both _ _ (headed x pos b) (λ head zs. w.primary_by_within inner room within at head zs) (λ head l2 r2 q2 eq2 lens2 pos2 b2. primary_by_alike at head pos2 b2))
 
   primary_alike : {n : ℕ} {ts us : Tokens} → 0 < n → Agrees n ts us → Alike n ts us (r.primary inner room ts) (r.primary inner room us)
   unfolding r.primary
@@ -205,22 +205,22 @@ module _ (inner : ℕ → Reader Found) (room : ℕ) (within : (k : ℕ) (ts : T
   unfolding r.operated
   operated_alike k way o at left some a =
       both _ _ (fitted_alike room left.height some a) (λ u vs. w.bind _ (w.took_one vs) (λ v zs. w.bind _ (within (operand_level k way) zs) (λ x ys. w.stays {x = of_infix at o left x} ys))) (λ u l r q eq lens pos b.
-        after_take pos b (w.bind _ (within (operand_level k way) (drop 1 r)) (λ x ys. w.stays {x = of_infix at o left x} ys)) (λ c pos2 d e.
-          both _ _ (alike (operand_level k way) _ _ _ pos2 d) (λ x ys. w.stays {x = of_infix at o left x} ys) (λ x l2 r2 q2 eq2 lens2 pos3 b3. stays_alike {x = of_infix at o left x} pos3 b3)))
+      after_take pos b (w.bind _ (within (operand_level k way) (drop 1 r)) (λ x ys. w.stays {x = of_infix at o left x} ys)) (λ c pos2 d e.
+      both _ _ (alike (operand_level k way) _ _ _ pos2 d) (λ x ys. w.stays {x = of_infix at o left x} ys) (λ x l2 r2 q2 eq2 lens2 pos3 b3. stays_alike {x = of_infix at o left x} pos3 b3)))
 
   indexed_alike : (at : ℕ) (left : Found) {n : ℕ} {ts us : Tokens} → 0 < n → Agrees n ts us → Alike n ts us (r.indexed inner room at left ts) (r.indexed inner room at left us)
   unfolding r.indexed
   indexed_alike at left some a =
       both _ _ (fitted_alike room left.height some a) (λ u vs. w.bind _ (w.took_one vs) (λ v zs. w.bind _ (w.parted inner room within chop (m.Symbol symbol.CloseSquare) zs) (λ x ys. w.stays {x = of_index at left x} ys))) (λ u l r q eq lens pos b.
-        after_take pos b (w.bind _ (w.parted inner room within chop (m.Symbol symbol.CloseSquare) (drop 1 r)) (λ x ys. w.stays {x = of_index at left x} ys)) (λ c pos2 d e.
-          both _ _ (parted chop (m.Symbol symbol.CloseSquare) pos2 d) (λ x ys. w.stays {x = of_index at left x} ys) (λ x l2 r2 q2 eq2 lens2 pos3 b3. stays_alike {x = of_index at left x} pos3 b3)))
+      after_take pos b (w.bind _ (w.parted inner room within chop (m.Symbol symbol.CloseSquare) (drop 1 r)) (λ x ys. w.stays {x = of_index at left x} ys)) (λ c pos2 d e.
+      both _ _ (parted chop (m.Symbol symbol.CloseSquare) pos2 d) (λ x ys. w.stays {x = of_index at left x} ys) (λ x l2 r2 q2 eq2 lens2 pos3 b3. stays_alike {x = of_index at left x} pos3 b3)))
 
   chained_alike : (k at : ℕ) (left : Found) {n : ℕ} {ts us : Tokens} → 0 < n → Agrees n ts us → Alike n ts us (r.chained inner room k at left ts) (r.chained inner room k at left us)
   unfolding r.chained r.others
   chained_alike k at left some a =
       both _ _ (fitted_alike room left.height some a) (λ u vs. w.bind _ (w.othered inner room within (k - 1) (m.Word word.And) (length vs) (operands_of (left.tree ∷ []) left.height) vs) (λ all zs. w.stays {x = of_chain at all} zs)) (λ u l r q eq lens pos b.
-        both _ _ (othered (k - 1) (m.Word word.And) (length r) (length q) (operands_of (left.tree ∷ []) left.height) (λ z. cc) pos b (omega arith) (omega arith)) (λ all zs. w.stays {x = of_chain at all} zs)
-        (λ all l2 r2 q2 eq2 lens2 pos2 b2. stays_alike {x = of_chain at all} pos2 b2))
+      both _ _ (othered (k - 1) (m.Word word.And) (length r) (length q) (operands_of (left.tree ∷ []) left.height) (λ z. cc) pos b (omega arith) (omega arith)) (λ all zs. w.stays {x = of_chain at all} zs)
+      (λ all l2 r2 q2 eq2 lens2 pos2 b2. stays_alike {x = of_chain at all} pos2 b2))
 
   turn_by_alike : (k at : ℕ) (left : Found) (role : Role) {n : ℕ} {ts us : Tokens} → 0 < n → Agrees n ts us → Alike n ts us (r.turn_by inner room k at left role ts) (r.turn_by inner room k at left role us)
   turn_by_alike k at left Ends some a = stays_alike some a
@@ -246,10 +246,10 @@ module _ (inner : ℕ → Reader Found) (room : ℕ) (within : (k : ℕ) (ts : T
   go_alike k at (suc i) zero left some (agreed a) few few2 = absurd (omega arith)
   go_alike k at (suc i) (suc j) left {ts = ts} {us = us} some (agreed a) few few2 =
       both _ _ (turn_alike k at left some (agreed a)) (λ x vs. w.choose_at x.1 (r.go inner room k at i x.0) (pure x.0) (w.go_within inner room within k at i x.0 vs) (w.stays {x = x.0} vs)) (λ x l v z eq lens pos b.
-        elim x.1 as (λ c. (c ≡ true → length v < length ts) → Alike l v z (cond c (r.go inner room k at i x.0) (pure x.0) v) (cond c (r.go inner room k at j x.0) (pure x.0) z)) [
-          | true ↦ λ fewer. let less = fewer refl in go_alike k at i j x.0 pos b (omega arith) (omega arith)
-          | false ↦ λ fewer. stays_alike {x = x.0} pos b
-        ] (turn_fewer inner room sound k at left ts (x, v) eq))
+      elim x.1 as (λ c. (c ≡ true → length v < length ts) → Alike l v z (cond c (r.go inner room k at i x.0) (pure x.0) v) (cond c (r.go inner room k at j x.0) (pure x.0) z)) [
+        | true ↦ λ fewer. let less = fewer refl in go_alike k at i j x.0 pos b (omega arith) (omega arith)
+        | false ↦ λ fewer. stays_alike {x = x.0} pos b
+      ] (turn_fewer inner room sound k at left ts (x, v) eq))
 
   -- an operator before its operand, at a place
   abbrev before_at : ℕ → Mark → ℕ → Reader Found
@@ -258,8 +258,8 @@ module _ (inner : ℕ → Reader Found) (room : ℕ) (within : (k : ℕ) (ts : T
   before_alike : (at : ℕ) (x : Mark) (i : ℕ) {n : ℕ} {ts us : Tokens} → 0 < n → Agrees n ts us → Alike n ts us (before_at at x i ts) (before_at at x i us)
   before_alike at x i some a =
       both _ _ (deepened_alike room some a) (λ u vs. w.bind _ (w.took_one vs) (λ v zs. w.bind _ (within i zs) (λ y ys. w.stays {x = of_prefix at x y} ys))) (λ u l r q eq lens pos b.
-        after_take pos b (w.bind _ (within i (drop 1 r)) (λ y ys. w.stays {x = of_prefix at x y} ys)) (λ c pos2 d e.
-          both _ _ (alike i _ _ _ pos2 d) (λ y ys. w.stays {x = of_prefix at x y} ys) (λ y l2 r2 q2 eq2 lens2 pos3 b3. stays_alike {x = of_prefix at x y} pos3 b3)))
+      after_take pos b (w.bind _ (within i (drop 1 r)) (λ y ys. w.stays {x = of_prefix at x y} ys)) (λ c pos2 d e.
+      both _ _ (alike i _ _ _ pos2 d) (λ y ys. w.stays {x = of_prefix at x y} ys) (λ y l2 r2 q2 eq2 lens2 pos3 b3. stays_alike {x = of_prefix at x y} pos3 b3)))
 
   prefix_alike : (i : ℕ) {n : ℕ} {ts us : Tokens} → 0 < n → Agrees n ts us → Alike n ts us (before_at (from ts) (mark ts) i ts) (before_at (from us) (mark us) i us)
   prefix_alike i {n} {ts} {us} some a =
@@ -272,7 +272,7 @@ module _ (inner : ℕ → Reader Found) (room : ℕ) (within : (k : ℕ) (ts : T
   levels_alike (suc k) {n} {ts} {us} some a =
       chosen_alike (eqb (before (mark ts)) (suc k)) (eqb (before (mark us)) (suc k)) (ap (λ q. eqb (before q) (suc k)) (same_mark some a)) (prefix_alike (suc k) some a)
       (both _ _ (levels_alike k some a) (λ x vs. w.go_within inner room within (suc k) (from ts) (length vs) x vs) (λ x l v z eq lens pos b.
-        subst (λ (at : ℕ). Alike l v z (r.go inner room (suc k) (from ts) (length v) x v) (r.go inner room (suc k) at (length z) x z)) (same_from some a) (go_alike (suc k) (from ts) (length v) (length z) x pos b (omega arith) (omega arith))))
+      subst (λ (at : ℕ). Alike l v z (r.go inner room (suc k) (from ts) (length v) x v) (r.go inner room (suc k) at (length z) x z)) (same_from some a) (go_alike (suc k) (from ts) (length v) (length z) x pos b (omega arith) (omega arith))))
 
 read_alike : (room k : ℕ) {n : ℕ} {ts us : Tokens} → 0 < n → Agrees n ts us → Alike n ts us (r.read room k ts) (r.read room k us)
 unfolding r.read
@@ -291,7 +291,7 @@ unfolding source.parameters
 parameters_alike {ts = ts} {us = us} some a =
     chosen_alike (sees (m.Symbol symbol.CloseRound) ts) (sees (m.Symbol symbol.CloseRound) us) (saw_alike (m.Symbol symbol.CloseRound) some a) (took_alike some a)
     (both _ _ (named some a) (λ xs vs. w.bind _ (w.expected (m.Symbol symbol.CloseRound) vs) (λ u zs. w.stays {x = xs} zs)) (λ xs l r q eq lens pos b.
-      both _ _ (expected_alike (m.Symbol symbol.CloseRound) pos b) (λ u zs. w.stays {x = xs} zs) (λ u l2 r2 q2 eq2 lens2 pos2 b2. stays_alike {x = xs} pos2 b2)))
+    both _ _ (expected_alike (m.Symbol symbol.CloseRound) pos b) (λ u zs. w.stays {x = xs} zs) (λ u l2 r2 q2 eq2 lens2 pos2 b2. stays_alike {x = xs} pos2 b2)))
 
 abbrev body_at : ℕ → List ℕ → List (List ℕ) → Reader DefinitionTree
 body_at at x xs = λ ts. and_then (source.sentence ts) (λ b bs. Ok (defined x at xs b, bs))
@@ -364,7 +364,7 @@ definitions_alike (suc i) zero ds some (agreed a) few few2 = absurd (omega arith
 definitions_alike (suc i) (suc j) ds {ts = ts} {us = us} some (agreed a) few few2 =
     chosen_alike (sees (m.Word word.Define) ts) (sees (m.Word word.Define) us) (saw_alike (m.Word word.Define) some (agreed a))
     (both _ _ (definition_alike some (agreed a)) (λ d vs. w.definitions_within i (ds ++ d ∷ []) vs) (λ d l r q eq lens pos b.
-      let le = short (source.definition ts) (definition_within ts) eq in definitions_alike i j (ds ++ d ∷ []) pos b (omega arith) (omega arith)))
+    let le = short (source.definition ts) (definition_within ts) eq in definitions_alike i j (ds ++ d ∷ []) pos b (omega arith) (omega arith)))
     (stays_alike some (agreed a))
 
 ended_alike : (x : SourceTree) {n : ℕ} {ts us : Tokens} → 0 < n → Agrees n ts us → Alike n ts us (source.ended x ts) (source.ended x us)
@@ -377,8 +377,8 @@ source_alike : {n : ℕ} {ts us : Tokens} → 0 < n → Agrees n ts us → Alike
 unfolding source.source source.definitions
 source_alike {ts = ts} {us = us} some a =
     both _ _ (definitions_alike (length ts) (length us) [] some a (omega arith) (omega arith)) (λ ds vs. w.bind _ (w.expected (m.Word word.Run) vs) (λ u zs. w.bind _ (w.sentence_within zs) (λ x ys. w.ended_within (source_of ds x) ys))) (λ ds l r q eq lens pos b.
-      both _ _ (expected_alike (m.Word word.Run) pos b) (λ u zs. w.bind _ (w.sentence_within zs) (λ x ys. w.ended_within (source_of ds x) ys)) (λ u l2 r2 q2 eq2 lens2 pos2 b2.
-        both _ _ (sentence_alike pos2 b2) (λ x ys. w.ended_within (source_of ds x) ys) (λ x l3 r3 q3 eq3 lens3 pos3 b3. ended_alike (source_of ds x) pos3 b3)))
+    both _ _ (expected_alike (m.Word word.Run) pos b) (λ u zs. w.bind _ (w.sentence_within zs) (λ x ys. w.ended_within (source_of ds x) ys)) (λ u l2 r2 q2 eq2 lens2 pos2 b2.
+    both _ _ (sentence_alike pos2 b2) (λ x ys. w.ended_within (source_of ds x) ys) (λ x l3 r3 q3 eq3 lens3 pos3 b3. ended_alike (source_of ds x) pos3 b3)))
 
 -- ---- no source goes on with the token
 
@@ -413,17 +413,17 @@ none_goes_on i ts us x named e is =
 pub refusal_is_first : (ts : Tokens) (e : ParseRefusal) → source.outcome_of ts ≡ Err e → NoneGoesOn ts e
 refusal_is_first ts e is = by (source.source ts) refl (w.source_within ts) is
   where
-  by : (o : Outcome SourceTree) → source.source ts ≡ o → Within ts o → source.outcome_by (length ts) o ≡ Err e → NoneGoesOn ts e
-  by (Ok q) at within made = absurd cc
-  by (Err (Unexpected k)) at within made =
-      let bounds = w.refusal_within within in
-      let named : Names (length ts - k) ts (Err (Unexpected k)) = unexpected_at (omega (arith, bounds.0, bounds.1)) in
-      let made_is : named_at.Unexpected (length ts - k) ≡ e = cc in
-      subst (NoneGoesOn ts) made_is (λ us x front. none_goes_on (length ts - k) ts us x (subst (Names (length ts - k) ts) (sym at) named) front)
-  by (Err (TooDeep k)) at within made =
-      let bounds = w.refusal_within within in
-      let named : Names (length ts - k) ts (Err (TooDeep k)) = too_deep_at (omega (arith, bounds.0, bounds.1)) in
-      let made_is : named_at.TooDeep (length ts - k) ≡ e = cc in
-      subst (NoneGoesOn ts) made_is (λ us x front. none_goes_on (length ts - k) ts us x (subst (Names (length ts - k) ts) (sym at) named) front)
-  by (Err Unfinished) at within made = let made_is : named_at.Unfinished ≡ e = cc in subst (NoneGoesOn ts) made_is tt
-  by (Err NoMemory) at within made = let made_is : named_at.NoMemory ≡ e = cc in subst (NoneGoesOn ts) made_is tt
+    by : (o : Outcome SourceTree) → source.source ts ≡ o → Within ts o → source.outcome_by (length ts) o ≡ Err e → NoneGoesOn ts e
+    by (Ok q) at within made = absurd cc
+    by (Err (Unexpected k)) at within made =
+        let bounds = w.refusal_within within in
+        let named : Names (length ts - k) ts (Err (Unexpected k)) = unexpected_at (omega (arith, bounds.0, bounds.1)) in
+        let made_is : named_at.Unexpected (length ts - k) ≡ e = cc in
+        subst (NoneGoesOn ts) made_is (λ us x front. none_goes_on (length ts - k) ts us x (subst (Names (length ts - k) ts) (sym at) named) front)
+    by (Err (TooDeep k)) at within made =
+        let bounds = w.refusal_within within in
+        let named : Names (length ts - k) ts (Err (TooDeep k)) = too_deep_at (omega (arith, bounds.0, bounds.1)) in
+        let made_is : named_at.TooDeep (length ts - k) ≡ e = cc in
+        subst (NoneGoesOn ts) made_is (λ us x front. none_goes_on (length ts - k) ts us x (subst (Names (length ts - k) ts) (sym at) named) front)
+    by (Err Unfinished) at within made = let made_is : named_at.Unfinished ≡ e = cc in subst (NoneGoesOn ts) made_is tt
+    by (Err NoMemory) at within made = let made_is : named_at.NoMemory ≡ e = cc in subst (NoneGoesOn ts) made_is tt

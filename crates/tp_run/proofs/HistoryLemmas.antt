@@ -35,9 +35,10 @@ goes_on_says : (n : ℕ) (r next : Residual) (p : Picture) → IsRunnable r → 
 goes_on_says n r next p run fresh w s a b S within =
     let keep = picks_keep w.count r w.at run w.picks s a b S within in
     let go = go_says w.at (picks_fit w.count r w.at fresh w.picks) w.settled s a b S in
-    let facts : p.facts ≡ facts_of w.at.known = ap (λ (q : Picture). q.facts) w.picture_is in
-    (λ h. let g = go.0 (keep.0 h) in (g.0, subst (AgreesWithAll (s a)) (sym facts) g.1, subst (λ (z : Residual). StandsFor z s (suc a) b S) (sym w.next_is) g.2),
-    λ q. keep.1 (go.1 (q.0, subst (AgreesWithAll (s a)) facts q.1, subst (λ (z : Residual). StandsFor z s (suc a) b S) w.next_is q.2)))
+    let facts : p.facts ≡ facts_of w.at.known = ap (λ (q : Picture). q.facts) w.picture_is in (
+      λ h. let g = go.0 (keep.0 h) in (g.0, subst (AgreesWithAll (s a)) (sym facts) g.1, subst (λ (z : Residual). StandsFor z s (suc a) b S) (sym w.next_is) g.2),
+      λ q. keep.1 (go.1 (q.0, subst (AgreesWithAll (s a)) facts q.1, subst (λ (z : Residual). StandsFor z s (suc a) b S) w.next_is q.2)),
+    )
 
 next_runnable : (n : ℕ) (r next : Residual) (p : Picture) → IsRunnable r → GoesOn n r p next → IsRunnable next
 next_runnable n r next p run w = subst IsRunnable (sym w.next_is) (advanced_runnable w.at (picks_runnable w.count r w.at w.picks run))
@@ -58,20 +59,22 @@ lead_later n r (p ∷ ps) last run fresh h = lead_later (suc n) h.0 ps last (nex
 states_say : (n : ℕ) (r : Residual) (ps : List Picture) (last : Residual) → IsRunnable r → IsFresh r → StatesLead n r ps last → (s : Course) (a b : ℕ) (S : Shows) → a ≤ b
     → StandsFor r s a b S ↔ ((length ps + a ≤ b) × AgreesWithPictures s a ps × StandsFor last s (length ps + a) b S)
 states_say n r [] last run fresh h s a b S within =
-    let none : 0 + a ≡ a = omega arith in
-    (λ g. (omega arith, tt, subst (λ p. StandsFor last s p b S) (sym none) (subst (λ (z : Residual). StandsFor z s a b S) (sym h) g)),
-    λ g. subst (λ (z : Residual). StandsFor z s a b S) h (subst (λ p. StandsFor last s p b S) none g.2))
+    let none : 0 + a ≡ a = omega arith in (
+      λ g. (omega arith, tt, subst (λ p. StandsFor last s p b S) (sym none) (subst (λ (z : Residual). StandsFor z s a b S) (sym h) g)),
+      λ g. subst (λ (z : Residual). StandsFor z s a b S) h (subst (λ p. StandsFor last s p b S) none g.2),
+    )
 states_say n r (p ∷ ps) last run fresh h s a b S within =
     let one = goes_on_says n r h.0 p run fresh h.1 s a b S within in
     let place : length ps + suc a ≡ length (p ∷ ps) + a = omega arith in
-    let rest = λ (less : a < b). states_say (suc n) h.0 ps last (next_runnable n r h.0 p run h.1) (next_fresh n r h.0 p h.1) h.2 s (suc a) b S less in
-    (λ g.
-      let x = one.0 g in
-      let y = (rest x.0).0 x.2 in
-      (omega (arith, y.0), (x.1, y.1), subst (λ q. StandsFor last s q b S) place y.2),
-    λ g.
-      let less : a < b = omega (arith, g.0) in
-      one.1 (less, g.1.0, (rest less).1 (omega (arith, g.0), g.1.1, subst (λ q. StandsFor last s q b S) (sym place) g.2)))
+    let rest = λ (less : a < b). states_say (suc n) h.0 ps last (next_runnable n r h.0 p run h.1) (next_fresh n r h.0 p h.1) h.2 s (suc a) b S less in (
+      λ g.
+          let x = one.0 g in
+          let y = (rest x.0).0 x.2 in
+          (omega (arith, y.0), (x.1, y.1), subst (λ q. StandsFor last s q b S) place y.2),
+      λ g.
+          let less : a < b = omega (arith, g.0) in
+          one.1 (less, g.1.0, (rest less).1 (omega (arith, g.0), g.1.1, subst (λ q. StandsFor last s q b S) (sym place) g.2)),
+    )
 
 -- a program's first residual
 first_later : (names : List (List ℕ)) (main : FormulaTree) → IsBuilt names main → Later (first_residual names main)
@@ -116,20 +119,21 @@ finish_says names main ps n built w s a b S =
     let later = λ (h : a ≤ b). leads_say names main w.before w.residual built w.leads s a b S h in
     let first = first_later names main built in
     let here = lead_later 0 (first_residual names main) w.before w.residual first.runnable first.fresh w.leads in
-    let end = λ (h : length w.before + a ≤ b). ends_here_says (length w.before) w.residual w.final here.runnable here.fresh w.ends s (length w.before + a) b S h in
-    (λ h.
-      let within = h.0.nonempty in
-      let x = (later within).0 h.1 in
-      let y = (end x.0).0 x.2 in
-      let length_is : b ≡ n + a = omega (arith, y.0, w.count) in
-      (h.0, length_is, subst (AgreesWithPictures s a) (sym w.pictures) (agree_join s a w.before (w.final ∷ []) x.1 (y.1, tt)), y.2),
-    λ h.
-      let within = h.0.nonempty in
-      let agrees = subst (AgreesWithPictures s a) w.pictures h.2 in
-      let last = agree_back s a w.before (w.final ∷ []) agrees in
-      let place : length w.before + a ≡ b = omega (arith, h.1, w.count) in
-      let fits : length w.before + a ≤ b = omega (arith, place) in
-      (h.0, (later within).1 (fits, agree_front s a w.before (w.final ∷ []) agrees, (end fits).1 (place, last.0, h.3))))
+    let end = λ (h : length w.before + a ≤ b). ends_here_says (length w.before) w.residual w.final here.runnable here.fresh w.ends s (length w.before + a) b S h in (
+      λ h.
+          let within = h.0.nonempty in
+          let x = (later within).0 h.1 in
+          let y = (end x.0).0 x.2 in
+          let length_is : b ≡ n + a = omega (arith, y.0, w.count) in
+          (h.0, length_is, subst (AgreesWithPictures s a) (sym w.pictures) (agree_join s a w.before (w.final ∷ []) x.1 (y.1, tt)), y.2),
+      λ h.
+          let within = h.0.nonempty in
+          let agrees = subst (AgreesWithPictures s a) w.pictures h.2 in
+          let last = agree_back s a w.before (w.final ∷ []) agrees in
+          let place : length w.before + a ≡ b = omega (arith, h.1, w.count) in
+          let fits : length w.before + a ≤ b = omega (arith, place) in
+          (h.0, (later within).1 (fits, agree_front s a w.before (w.final ∷ []) agrees, (end fits).1 (place, last.0, h.3))),
+    )
 
 -- the states that some pictures show, with 0 for what they leave open
 abbrev tree_of_shape : Shape → Tree
@@ -145,9 +149,10 @@ facts_hold : (st : State) (i : ℕ) (k : Known) → ((x : ℕ) → i ≤ x → s
 facts_hold st i [] h = tt
 facts_hold st i (None ∷ k) h = facts_hold st (i + 1) k (λ x g. h x (omega (arith, g)))
 facts_hold st i (Some n ∷ k) h =
-    let at : eqb i i ≡ true = grind (arith, nat_tests) in
-    (ap (λ t. Some (shape_of t)) (h i (omega arith) ∙ ap (λ c. cond c (num n) (value_in (facts_from (i + 1) k) i)) at),
-    facts_hold st (i + 1) k (λ x g. let other : eqb x i ≡ false = grind (arith, nat_tests) in h x (omega (arith, g)) ∙ ap (λ c. cond c (num n) (value_in (facts_from (i + 1) k) x)) other))
+    let at : eqb i i ≡ true = grind (arith, nat_tests) in (
+      ap (λ t. Some (shape_of t)) (h i (omega arith) ∙ ap (λ c. cond c (num n) (value_in (facts_from (i + 1) k) i)) at),
+      facts_hold st (i + 1) k (λ x g. let other : eqb x i ≡ false = grind (arith, nat_tests) in h x (omega (arith, g)) ∙ ap (λ c. cond c (num n) (value_in (facts_from (i + 1) k) x)) other),
+    )
 
 -- a state with this number
 abbrev state_of : ℕ → List Fact → State
@@ -184,9 +189,10 @@ shown_agrees s a n (p ∷ ps) h e =
     let facts : p.facts ≡ facts_of k = h.0.1 in
     let place : 0 + a ≡ a = omega arith in
     let at : s a ≡ state_of n p.facts = ap s (sym place) ∙ e 0 in
-    let values : (x : ℕ) → 0 ≤ x → (state_of n (facts_of k)).values x ≡ value_in (facts_from 0 k) x = λ x g. refl in
-    (subst (λ (st : State). AgreesWithAll st p.facts) (sym at) (subst (λ fs. AgreesWithAll (state_of n fs) fs) (sym facts) (facts_hold (state_of n (facts_of k)) 0 k values)),
-    shown_agrees s (suc a) (suc n) ps h.1 (λ j. let next : j + suc a ≡ suc j + a = omega arith in ap s next ∙ e (suc j)))
+    let values : (x : ℕ) → 0 ≤ x → (state_of n (facts_of k)).values x ≡ value_in (facts_from 0 k) x = λ x g. refl in (
+      subst (λ (st : State). AgreesWithAll st p.facts) (sym at) (subst (λ fs. AgreesWithAll (state_of n fs) fs) (sym facts) (facts_hold (state_of n (facts_of k)) 0 k values)),
+      shown_agrees s (suc a) (suc n) ps h.1 (λ j. let next : j + suc a ≡ suc j + a = omega arith in ap s next ∙ e (suc j)),
+    )
 
 -- no variable is static
 no_statics : (names : List (List ℕ)) (x : ℕ) → NoneStatic names → slice_get (kinds_of names) x ≡ Some true → ⊥
@@ -237,9 +243,10 @@ advance_by : (names : List (List ℕ)) (main : FormulaTree) (ps : List Picture) 
     → Answers (open_at r) (length ps) old new standing next turn → Advances names main ps old new standing next turn
 advance_by names main ps r leads old new standing next Went w = went names main ps r leads old new standing next w
 advance_by names main ps r leads old new standing next (Finished n) w =
-    let b = w.0 in
-    (record { before = ps; final = new; residual = r; pictures = refl; leads = leads; ends = record { at = b.at; count = b.count; picks = b.picks; rest = b.rest; settled = b.becomes.0; picture_is = b.becomes.2 }; count = b.becomes.1 },
-    ap (λ (p : Picture). p.state) b.becomes.2)
+    let b = w.0 in (
+      record { before = ps; final = new; residual = r; pictures = refl; leads = leads; ends = record { at = b.at; count = b.count; picks = b.picks; rest = b.rest; settled = b.becomes.0; picture_is = b.becomes.2 }; count = b.becomes.1 },
+      ap (λ (p : Picture). p.state) b.becomes.2,
+    )
 advance_by names main ps r leads old new standing next (Contradictory state clash) w = ((r, leads, w.0.0, w.0.1), w.0.2)
 advance_by names main ps r leads old new standing next (Undetermined state cell) w =
     let b = w.0 in ((r, leads, record { at = b.at; count = b.count; picks = b.picks; rest = b.rest; open_cell = b.becomes.0 }, b.becomes.1), b.becomes.2)
