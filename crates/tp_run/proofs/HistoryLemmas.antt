@@ -1,5 +1,5 @@
 -- What whole runs say of every interval.
-use Rattle.std.proofs.Common.{◌≡◌, ◌↔◌, ℤ, ℕ, zero, suc, ◌+◌, ◌<◌, ◌≤◌, Bool, true, false, cond, eqb, List, [], ◌∷◌, ◌++◌, length, Option, None, Some, refl, ap, sym, ◌∙◌, subst, arith, length-append, slice_get, not}
+use Rattle.std.proofs.Common.{◌≡◌, ◌↔◌, ℕ, zero, suc, ◌+◌, ◌<◌, ◌≤◌, true, false, cond, eqb, List, [], ◌∷◌, ◌++◌, length, None, Some, refl, ap, sym, ◌∙◌, subst, arith, length-append, slice_get, not}
 use Rattle.std.proofs.lemmas.Bool.Decides.{nat_tests}
 use Rattle.tp_value.specs.Tree.{Tree, num, truth, list, nil}
 use Rattle.tp_value.specs.Shape.{shape_of}
@@ -9,7 +9,7 @@ use Rattle.tp_value.specs.declared.path.Fact.{Fact}
 use Rattle.tp_meaning.specs.Syntax.{FormulaTree}
 use Rattle.tp_meaning.specs.Course.{State, Course, Shows, blank}
 use Rattle.tp_meaning.specs.Holds.{Holds}
-use Rattle.tp_meaning.specs.Interval.{ProgramTree, IsInterval, Satisfies, kinds_of}
+use Rattle.tp_meaning.specs.Interval.{IsInterval, kinds_of}
 use Rattle.tp_kernel.specs.Built.{IsBuilt, IsBuiltOver, IsStateVariable, NoneStatic}
 use Rattle.tp_run.specs.declared.turn.Clash.{Clash}
 use Rattle.tp_value.specs.Globals.{is_lower}
@@ -17,11 +17,10 @@ use Rattle.tp_run.specs.declared.turn.Picture.{Picture}
 use Rattle.tp_run.specs.declared.turn.Turn.{Turn}
 use Rattle.tp_run.specs.declared.turn.Turn.TheVariants.{Went, Finished, Contradictory, Undetermined, Over}
 use Rattle.tp_run.specs.Residual.{Residual, Known}
-use Rattle.tp_run.specs.Rules.{fact_of}
 use Rattle.tp_run.specs.Ready.{IsRunnable, IsFresh}
-use Rattle.tp_run.specs.States.{first_residual, advanced, variable_at, facts_from, facts_of, picture_of, Standing, open_at, answered, spent, StateBecomes, Clashes}
-use Rattle.tp_run.specs.StandsFor.{AgreesWith, AgreesWithAll, StandsFor, no_context}
-use Rattle.tp_run.specs.History.{GoesOn, EndsHere, RestsOpen, StatesLead, LeadsTo, FinishesAt, RunEndsWith, program_of, AgreesWithPictures, SatisfiedExactly, Satisfiable, Unsatisfiable, ContinuesEach, EndMeans, Advances, RunsAdvance}
+use Rattle.tp_run.specs.States.{first_residual, advanced, facts_from, facts_of, Standing, open_at, Clashes}
+use Rattle.tp_run.specs.StandsFor.{AgreesWithAll, StandsFor, no_context}
+use Rattle.tp_run.specs.History.{GoesOn, EndsHere, StatesLead, LeadsTo, FinishesAt, RunEndsWith, program_of, AgreesWithPictures, SatisfiedExactly, Satisfiable, Unsatisfiable, ContinuesEach, EndMeans, Advances, RunsAdvance}
 use Rattle.tp_run.specs.Runs.{Answers}
 use Rattle.tp_run.proofs.KeepsLemmas.{picks_keep, clash_stands_for_none}
 use Rattle.tp_run.proofs.RunLemmas.{picks_runnable, advanced_runnable, advanced_fresh}

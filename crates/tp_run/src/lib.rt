@@ -9,6 +9,8 @@ mod ready;
 mod run;
 mod scene;
 mod settle;
+#[cfg(test)]
+mod tests;
 mod turn;
 
 pub use laws::{runs_advance, runs_mean};
