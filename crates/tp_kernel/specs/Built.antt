@@ -2,6 +2,8 @@
 use Rattle.std.specs.Prelude.{◌≤◌, ◌<◌, ℕ, not, List, [], ◌∷◌, length, IsTrue}
 use Rattle.tp_value.specs.declared.path.VarId.{VarId}
 use Rattle.tp_value.specs.Globals.{is_lower}
+use Rattle.tp_meaning.specs.Fits.{FormulaFits}
+use Rattle.tp_meaning.specs.Interval.{kinds_of}
 use Rattle.tp_meaning.specs.Syntax.{Equal, Differs, Less, LessEqual, Greater, GreaterEqual, Plus, Minus, Times, Div, Mod, ExprTree, numeral, boolean, known, bound, global, listing, size, index, minus, negation, both, either, binary, choice, invoke, FormulaTree, FormulaTrees, no_formula, formula_then, trivial, test, equation, next_equation, empty, more, next, weak_next, if_more, if_empty, always, conjunction, branch, len, assign, chop, while, for_from, forall_from, project, exists, call, input, display}
 
 -- one of so many variables, and one that may change from state to state
@@ -83,3 +85,41 @@ HasBuiltKinds = IsBuiltOver (λ x. Unit {0})
 -- a formula that runs today over the variables with these names, of which none is static
 abbrev pub IsBuilt : List (List ℕ) → FormulaTree → Type 0
 IsBuilt names w = NoneStatic names × IsBuiltOver (IsStateVariable (length names)) w
+
+-- ---- what runs once every state phrase and the derived operators run
+
+abbrev mutual
+  -- No chop, loop, projection, `exists`, call, `input` or `display`, at any depth.
+  pub HasRunnableKinds : FormulaTree → Type 0
+  HasRunnableKinds trivial = Unit {0}
+  HasRunnableKinds (test e) = Unit {0}
+  HasRunnableKinds (equation l r) = Unit {0}
+  HasRunnableKinds (next_equation n t e) = Unit {0}
+  HasRunnableKinds empty = Unit {0}
+  HasRunnableKinds more = Unit {0}
+  HasRunnableKinds (next w) = HasRunnableKinds w
+  HasRunnableKinds (weak_next w) = HasRunnableKinds w
+  HasRunnableKinds (if_more w) = HasRunnableKinds w
+  HasRunnableKinds (if_empty w) = HasRunnableKinds w
+  HasRunnableKinds (always w) = HasRunnableKinds w
+  HasRunnableKinds (conjunction ws) = HaveRunnableKinds ws
+  HasRunnableKinds (branch b w v) = HasRunnableKinds w × HasRunnableKinds v
+  HasRunnableKinds (len e) = Unit {0}
+  HasRunnableKinds (assign t e) = Unit {0}
+  HasRunnableKinds (chop w v) = ⊥
+  HasRunnableKinds (while b w) = ⊥
+  HasRunnableKinds (for_from name from to body) = ⊥
+  HasRunnableKinds (forall_from name from to body) = ⊥
+  HasRunnableKinds (project w v) = ⊥
+  HasRunnableKinds (exists name lasting body) = ⊥
+  HasRunnableKinds (call p es) = ⊥
+  HasRunnableKinds (input e port) = ⊥
+  HasRunnableKinds (display es) = ⊥
+
+  pub HaveRunnableKinds : FormulaTrees → Type 0
+  HaveRunnableKinds no_formula = Unit {0}
+  HaveRunnableKinds (formula_then w ws) = HasRunnableKinds w × HaveRunnableKinds ws
+
+-- a formula that runs over the variables with these names: it has only such kinds, and no bound name, no call, and no other variable
+abbrev pub IsRunnable : List (List ℕ) → FormulaTree → Type 0
+IsRunnable names w = HasRunnableKinds w × FormulaFits [] (kinds_of names) w 0

@@ -133,8 +133,13 @@ pub enum FaultKind {
     NoElement,
 }
 
-/// A limit that a run passes.
+/// A limit that a run passes: on reductions in a state, numbers, lists and places, calls and the depth of an evaluation, or
+/// the depth of regions.
 #[derive(Clone, Copy, Debug, PartialEq, Eq)]
 pub enum LimitKind {
+    Reductions,
     Number,
+    List,
+    Calls,
+    Nest,
 }

@@ -4,7 +4,7 @@ use Rattle.std.specs.Prelude.{◌≤ℤ◌, ◌<ℤ◌}
 use Rattle.std.specs.Int.{int_div_euclid}
 use Rattle.std.proofs.lemmas.Int.{ints}
 use Rattle.std.proofs.Math.IntN.{pos-*ℤ-pos, negsuc-*ℤ-pos, *ℤ-negsuc}
-use Rattle.tp_meaning.specs.Value.{floor_div}
+use Rattle.tp_value.specs.Number.{floor_div}
 use Rattle.tp_meaning.specs.Laws.{DivisionRoundsDown}
 
 -- what remains of a number by a divisor above 0

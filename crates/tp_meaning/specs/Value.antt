@@ -1,8 +1,8 @@
 -- What bound names mean, and the value of an expression.
 use Rattle.std.specs.Prelude.{ℤ, pos, negsuc, ◌+ℤ◌, ◌-ℤ◌, ◌*ℤ◌, neg_ℤ, int_lt, int_le, ℕ, zero, suc, nat_le, ◌&&◌, Bool, true, false, not, List, [], ◌∷◌, ◌++◌, length, Option, Some, None, slice_get, if◌then◌else◌}
-use Rattle.std.specs.Int.{int_div_euclid}
 use Rattle.std.specs.Option.{option_and_then}
 use Rattle.tp_value.specs.Tree.{Tree, num, truth, list, items_of, of_items, same_tree}
+use Rattle.tp_value.specs.Number.{floor_div}
 use Rattle.tp_value.specs.Shape.{item_of}
 use Rattle.tp_meaning.specs.Syntax.{Operator, Equal, Differs, Less, LessEqual, Greater, GreaterEqual, Plus, Minus, Times, Div, Mod, ExprTree, ExprTrees, numeral, boolean, known, bound, global, listing, size, index, minus, negation, both, either, binary, choice, invoke, no_expr, expr_then, Definition}
 use Rattle.tp_meaning.specs.Course.{Course}
@@ -41,10 +41,6 @@ item t i = do
 abbrev pub item_at : List ℕ → Tree → Option Tree
 item_at [] t = Some t
 item_at (k ∷ ks) t = item_of t k >>= item_at ks
-
--- the quotient rounded down, for a divisor that is not 0
-abbrev pub floor_div : ℤ → ℤ → ℤ
-floor_div a b = if int_lt (pos 0) b then int_div_euclid a b else int_div_euclid (neg_ℤ a) (neg_ℤ b)
 
 abbrev pub on_numbers : (ℤ → ℤ → Tree) → Tree → Tree → Option Tree
 on_numbers f (num a) (num b) = Some (f a b)

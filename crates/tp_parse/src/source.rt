@@ -1,10 +1,11 @@
 // Definitions and whole sources.
-ghost use Rattle.std.specs.Prelude.{◌≡◌, ◌≢◌, [], length, IfOk, IfErr};
+ghost use Rattle.std.specs.Prelude.{◌≡◌, ◌≢◌, ◌≤◌, [], length, IfOk, IfErr};
 ghost use Rattle.tp_parse.specs.Input.{Reads};
 ghost use Rattle.tp_parse.specs.Source as spec;
 ghost use Rattle.tp_parse.specs.Source.{outcome_of, IsOutcome, NamesToken, definition_trees};
 ghost use Rattle.tp_tree.specs.Read.{tree, definition_tree, source_tree};
 ghost use Rattle.tp_tree.specs.Tree.{SourceTree};
+ghost use Rattle.tp_tree.specs.Height.{source_height};
 ghost use Rattle.tp_parse.specs.Grammar.{Accepts};
 ghost use Rattle.tp_parse.specs.Place.{NoneGoesOn};
 ghost use Rattle.tp_parse.specs.declared.refusal.ParseRefusal.TheVariants.{NoMemory};
@@ -27,6 +28,7 @@ const MAX_HEIGHT: u8 = 200;
 pub fn parse(alloc: Global, tokens: &Tokens) -> Result<Source, ParseRefusal>
     ensures accepted { IfOk result (λ s. Accepts tokens.now (source_tree s)) }
     ensures only { IfOk result (λ s. (t : SourceTree) → Accepts tokens.now t → t ≡ source_tree s) }
+    ensures low { IfOk result (λ s. source_height (source_tree s) ≤ 200) }
     ensures refused { IfErr result (λ e. e ≢ NoMemory → (t : SourceTree) → ¬ Accepts tokens.now t) }
     ensures outcome { IsOutcome (outcome_of tokens.now) result }
     ensures token { IfErr result (NamesToken (length tokens.now)) }

@@ -1,6 +1,6 @@
 -- How high a phrase is, the parentheses round it and in it apart.
-use Rattle.std.specs.Prelude.{ℕ, ◌+◌, max}
-use Rattle.tp_tree.specs.Tree.{PhraseTree, phrase, KindTree, number, truth, name, list, size, index, minus, next, negation, binary, conjunction, choice, choice_else, while, repeat, for, forall, exists, bare, form, call, PhraseTrees, no_phrase, phrase_then}
+use Rattle.std.specs.Prelude.{ℕ, ◌+◌, max, List, [], ◌∷◌}
+use Rattle.tp_tree.specs.Tree.{PhraseTree, phrase, KindTree, number, truth, name, list, size, index, minus, next, negation, binary, conjunction, choice, choice_else, while, repeat, for, forall, exists, bare, form, call, PhraseTrees, no_phrase, phrase_then, DefinitionTree, SourceTree}
 
 -- A phrase is one higher than the highest of its operands, and 1 high where it has none.
 abbrev mutual
@@ -34,3 +34,12 @@ abbrev mutual
   pub greatest : PhraseTrees → ℕ
   greatest no_phrase = 0
   greatest (phrase_then p ps) = max (height p) (greatest ps)
+
+-- the greatest height of the definitions' bodies, or 0
+abbrev pub highest : List DefinitionTree → ℕ
+highest [] = 0
+highest (d ∷ ds) = max (height d.body) (highest ds)
+
+-- the greatest height of a source's phrases
+abbrev pub source_height : SourceTree → ℕ
+source_height s = max (highest s.definitions) (height s.main)

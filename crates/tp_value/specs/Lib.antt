@@ -3,4 +3,8 @@ pub mod Read
 pub mod Equations
 pub mod Shape
 pub mod Number
+pub mod Limits
 pub mod Globals
+pub mod Written
+pub mod Spelling
+pub mod Reading

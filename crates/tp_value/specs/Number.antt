@@ -1,5 +1,6 @@
 -- The limit of the language's numbers.
-use Rattle.std.specs.Prelude.{ℤ, pos, negsuc, ℕ, Bool, nat_le, nat_lt, IsTrue, Option, Some, None, if◌then◌else◌}
+use Rattle.std.specs.Prelude.{ℤ, pos, negsuc, neg_ℤ, ◌-ℤ◌, ◌*ℤ◌, int_lt, ℕ, Bool, nat_le, nat_lt, IsTrue, Option, Some, None, if◌then◌else◌}
+use Rattle.std.specs.Int.{int_div_euclid}
 
 -- the greatest number; the least is its negation
 abbrev pub number_limit : ℕ
@@ -17,3 +18,11 @@ IsNumber n = IsTrue (is_within_limit n)
 -- the number, where it is within the limit
 abbrev pub within_limit : ℤ → Option ℤ
 within_limit n = if is_within_limit n then Some n else None
+
+-- the quotient rounded down, for a divisor that is not 0
+abbrev pub floor_div : ℤ → ℤ → ℤ
+floor_div a b = if int_lt (pos 0) b then int_div_euclid a b else int_div_euclid (neg_ℤ a) (neg_ℤ b)
+
+-- what the quotient leaves of the dividend
+abbrev pub floor_mod : ℤ → ℤ → ℤ
+floor_mod a b = a -ℤ (floor_div a b *ℤ b)

@@ -2,17 +2,28 @@
 #![tactic(auto)]
 
 mod globals;
+mod limits;
 mod number;
 mod path;
+mod reading;
 mod refusal;
+mod scan;
 #[cfg(test)]
 mod tests;
 mod text;
 mod value;
+mod writing;
 
 pub use globals::Globals;
-pub use number::{NUMBER_LIMIT, Number, is_number, sum};
+pub use limits::{
+    DEPTH_LIMIT, INDEX_LIMIT, ITEM_LIMIT, LENGTH_LIMIT, PATH_LIMIT, is_within_list_limit,
+};
+pub use number::{
+    NUMBER_LIMIT, Number, difference, is_number, negated, product, quotient, remainder, sum,
+};
 pub use path::{Fact, Facts, Indices, Path, VarId};
+pub use reading::ReadValue;
 pub use refusal::NoMemory;
 pub use text::{Bytes, Text, Texts};
 pub use value::{Items, Shape, Value, same, same_tree_is_equality, shape_at};
+pub use writing::write_value;

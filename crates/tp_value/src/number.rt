@@ -1,6 +1,6 @@
 // The numbers of the language.
-ghost use Rattle.std.specs.Prelude.{◌≡◌, ◌+ℤ◌};
-ghost use Rattle.tp_value.specs.Number.{is_within_limit, within_limit};
+ghost use Rattle.std.specs.Prelude.{◌≡◌, ◌≢◌, pos, ◌+ℤ◌, ◌-ℤ◌, ◌*ℤ◌, neg_ℤ};
+ghost use Rattle.tp_value.specs.Number.{is_within_limit, within_limit, floor_div, floor_mod};
 
 /// A number of the language, from `-NUMBER_LIMIT` to `NUMBER_LIMIT`.
 pub type Number = i64;
@@ -22,6 +22,18 @@ fn within(n: Number) -> Option<Number>
     if is_number(n) { Some(n) } else { None }
 }
 
+/// The number, where it is within the limit.
+pub fn narrow(n: i128) -> Option<Number>
+    ensures { result ≡ within_limit n }
+{
+    let limit = i128::from(NUMBER_LIMIT);
+    if -limit <= n && n <= limit {
+        Some(n as i64)
+    } else {
+        None
+    }
+}
+
 /// The sum, where it is within the limit.
 pub fn sum(a: Number, b: Number) -> Option<Number>
     ensures { result ≡ within_limit (a +ℤ b) }
@@ -29,5 +41,63 @@ pub fn sum(a: Number, b: Number) -> Option<Number>
     match a.checked_add(b) {
         Some(n) => within(n),
         None => None,
+    }
+}
+
+/// The difference, where it is within the limit.
+pub fn difference(a: Number, b: Number) -> Option<Number>
+    ensures { result ≡ within_limit (a -ℤ b) }
+{
+    match a.checked_sub(b) {
+        Some(n) => within(n),
+        None => None,
+    }
+}
+
+/// The product, where it is within the limit.
+pub fn product(a: Number, b: Number) -> Option<Number>
+    ensures { result ≡ within_limit (a *ℤ b) }
+{
+    match a.checked_mul(b) {
+        Some(n) => within(n),
+        None => None,
+    }
+}
+
+/// The number with the other sign, where it is within the limit.
+pub fn negated(n: Number) -> Option<Number>
+    ensures { result ≡ within_limit (neg_ℤ n) }
+{
+    match n.checked_neg() {
+        Some(m) => within(m),
+        None => None,
+    }
+}
+
+/// The quotient rounded down, where it is within the limit. The divisor is not 0.
+pub fn quotient(a: Number, b: Number) -> Option<Number>
+    requires { b ≢ pos 0 }
+    ensures { result ≡ within_limit (floor_div a b) }
+{
+    // The negation of the least `i64` is none, so the quotient is taken among wider numbers.
+    let (dividend, divisor) = (i128::from(a), i128::from(b));
+    if 0 < divisor {
+        narrow(dividend.div_euclid(divisor))
+    } else {
+        narrow((-dividend).div_euclid(-divisor))
+    }
+}
+
+/// What the quotient leaves of the dividend, where it is within the limit: it has the sign of the divisor, or is 0. The divisor is
+/// not 0.
+pub fn remainder(a: Number, b: Number) -> Option<Number>
+    requires { b ≢ pos 0 }
+    ensures { result ≡ within_limit (floor_mod a b) }
+{
+    let (dividend, divisor) = (i128::from(a), i128::from(b));
+    if 0 < divisor {
+        narrow(dividend.rem_euclid(divisor))
+    } else {
+        narrow(-(-dividend).rem_euclid(-divisor))
     }
 }

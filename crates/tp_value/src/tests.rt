@@ -1,5 +1,8 @@
 // Each call that takes memory succeeds where there is enough, with the right value.
-use crate::{Fact, Globals, Indices, Items, Path, Shape, Text, Value, VarId, is_number, same, sum};
+use crate::{
+    Fact, Globals, Indices, Items, Path, Shape, Text, Value, VarId, difference, is_number,
+    is_within_list_limit, negated, product, quotient, remainder, same, sum,
+};
 use std::alloc::Global;
 use std::test::Fail;
 
@@ -103,4 +106,79 @@ fn numbers_have_a_limit(rt: HostRuntime) {
     }
     assert!(rt; is_number(-most));
     assert!(rt; !is_number(-most - 1));
+}
+
+#[test]
+fn numbers_are_divided(rt: HostRuntime) {
+    let most = 9_223_372_036_854_775_807;
+    let table = [
+        (7, 2, Some(3), Some(1)),
+        (-7, 2, Some(-4), Some(1)),
+        (7, -2, Some(-4), Some(-1)),
+        (-7, -2, Some(3), Some(-1)),
+        (6, -3, Some(-2), Some(0)),
+        (-most, -1, Some(most), Some(0)),
+        (-most - 1, -1, None, Some(0)),
+        (1, -most - 1, Some(-1), Some(-most)),
+    ];
+    for (a, b, whole, rest) in table {
+        assert_eq!(rt; quotient(a, b), whole, "at {a} and {b}");
+        assert_eq!(rt; remainder(a, b), rest, "at {a} and {b}");
+    }
+}
+
+#[test]
+fn numbers_are_reckoned(rt: HostRuntime) {
+    let most = 9_223_372_036_854_775_807;
+    let table = [
+        (5, 7, Some(-2), Some(35)),
+        (-most, 1, None, Some(-most)),
+        (most, -1, None, Some(-most)),
+        (3_037_000_500, 3_037_000_500, Some(0), None),
+        (
+            -2,
+            4_611_686_018_427_387_904,
+            Some(-4_611_686_018_427_387_906),
+            None,
+        ),
+    ];
+    for (a, b, left, times) in table {
+        assert_eq!(rt; difference(a, b), left, "at {a} and {b}");
+        assert_eq!(rt; product(a, b), times, "at {a} and {b}");
+    }
+    assert_eq!(rt; negated(3), Some(-3));
+    assert_eq!(rt; negated(-most), Some(most));
+    assert_eq!(rt; negated(-most - 1), None);
+}
+
+// A number in so many lists.
+fn nested(alloc: Global, depth: usize) -> Result<Value, Fail> {
+    let mut value = Value::Num(0);
+    for _ in 0..depth {
+        let items = vec![in alloc; value]?;
+        value = Value::List(Items { items });
+    }
+    Ok(value)
+}
+
+// A list of so many numbers.
+fn long(alloc: Global, length: usize) -> Result<Value, Fail> {
+    let mut items = Vec::new(alloc);
+    for _ in 0..length {
+        items.push(Value::Num(1))?;
+    }
+    Ok(Value::List(Items { items }))
+}
+
+#[test]
+fn lists_have_limits(rt: HostRuntime) -> Result<(), Fail> {
+    assert!(rt; is_within_list_limit(&nested(rt.alloc(), 100)?));
+    assert!(rt; !is_within_list_limit(&nested(rt.alloc(), 101)?));
+    assert!(rt; is_within_list_limit(&long(rt.alloc(), 65_536)?));
+    assert!(rt; !is_within_list_limit(&long(rt.alloc(), 65_537)?));
+    let items = vec![in rt.alloc(); long(rt.alloc(), 65_535)?]?;
+    assert!(rt; is_within_list_limit(&Value::List(Items { items })));
+    let items = vec![in rt.alloc(); long(rt.alloc(), 65_536)?]?;
+    assert!(rt; !is_within_list_limit(&Value::List(Items { items })));
+    Ok(())
 }

@@ -1,4 +1,4 @@
-use Rattle.std.proofs.Common.{◌≡◌, ◌≢◌, Result, Ok, Err, length, IfOk, IfErr}
+use Rattle.std.proofs.Common.{◌≡◌, ◌≢◌, ◌≤◌, Result, Ok, Err, length, IfOk, IfErr}
 use Rattle.tp_tree.specs.declared.phrase.Source.{Source}
 use Rattle.tp_tree.specs.Tree.{SourceTree}
 use Rattle.tp_tree.specs.Read.{source_tree}
@@ -9,7 +9,9 @@ use Rattle.tp_parse.specs.Source.{outcome_of, IsOutcome, NamesToken}
 use Rattle.tp_parse.specs.Grammar.{Accepts}
 use Rattle.tp_parse.specs.Place.{NoneGoesOn}
 use Rattle.tp_parse.proofs.Exact.{read_accepted, accepted_read, refusal_named}
+use Rattle.tp_tree.specs.Height.{source_height}
 use Rattle.tp_parse.proofs.Rests.{refusal_is_first}
+use Rattle.tp_parse.proofs.Heights.{accepted_low}
 use Rattle.tp_parse.proofs.source.parse.Goals as goal
 
 accepted : (ts : Tokens) (r : Result Source ParseRefusal) → IsOutcome (outcome_of ts) r → IfOk r (λ s. Accepts ts (source_tree s))
@@ -38,6 +40,10 @@ place ts (Err Unfinished) is = tt
 place ts (Err (Unexpected i)) is = refusal_is_first ts (Unexpected i) (is (λ q. cc))
 place ts (Err (TooDeep i)) is = refusal_is_first ts (TooDeep i) (is (λ q. cc))
 
+low : (ts : Tokens) (r : Result Source ParseRefusal) → IsOutcome (outcome_of ts) r → IfOk r (λ s. source_height (source_tree s) ≤ 200)
+low ts (Ok x) is = accepted_low ts (source_tree x) (read_accepted ts (source_tree x) is)
+low ts (Err e) is = tt
+
 pub returns-clause-accepted : goal.returns-clause-accepted
 returns-clause-accepted c = accepted c.args.tokens.now c.outcome.result c.outcome.ensures
 
@@ -52,3 +58,6 @@ returns-clause-token c = token c.args.tokens.now c.outcome.result c.outcome.ensu
 
 pub returns-clause-place : goal.returns-clause-place
 returns-clause-place c = place c.args.tokens.now c.outcome.result c.outcome.ensures
+
+pub returns-clause-low : goal.returns-clause-low
+returns-clause-low c = low c.args.tokens.now c.outcome.result c.outcome.ensures

@@ -1,0 +1,4 @@
+pub mod Reached
+pub mod Evaluate
+pub mod Outcome
+pub mod Right

@@ -1,0 +1,5 @@
+//! Stub.
+#![tactic(auto)]
+
+/// Stub.
+pub fn stub() {}

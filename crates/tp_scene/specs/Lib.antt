@@ -1,0 +1,11 @@
+pub mod Scene
+pub mod Says
+pub mod Step
+pub mod Pick
+pub mod Rest
+pub mod Advance
+pub mod StandsFor
+pub mod Fits
+pub mod Laws
+pub mod Built
+pub mod Replay

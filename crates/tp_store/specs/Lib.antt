@@ -1,0 +1,5 @@
+pub mod Facts
+pub mod Known
+pub mod Entries
+pub mod Changes
+pub mod Answers

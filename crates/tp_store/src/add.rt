@@ -1,0 +1,165 @@
+// Adding facts.
+ghost use Rattle.std.specs.Prelude.{◌≡◌, ◌++◌, ◌∷◌, [], IfOk, IfErr, OnOk, OnErr};
+ghost use Rattle.tp_value.specs.Read.{tree};
+ghost use Rattle.tp_value.specs.Shape.{HasShortLists};
+ghost use Rattle.tp_value.specs.declared.value.Shape.TheVariants as shape;
+ghost use Rattle.tp_store.specs.Facts.{facts_at, fact};
+ghost use Rattle.tp_store.specs.Known.{addition, adds, IsVariableOf, NoClash};
+ghost use Rattle.tp_store.specs.Entries.{AreOf};
+ghost use Rattle.tp_store.specs.Answers.{IsRefusal};
+ghost use Rattle.tp_store.specs.Changes.{IsSound, HasAdded};
+
+use crate::full::item_path;
+use crate::listing::{copy_facts, find_clash, keep_new};
+use crate::store::Store;
+use std::alloc::{AllocError, AllocFailed, Global};
+use tp_value::{Fact, Facts, NoMemory, Path, Shape, Value, VarId};
+
+/// Why facts weren't added: the first new one that clashes, with the kept one that it clashes with, or want of memory.
+#[derive(Debug, Drop)]
+pub enum AddRefusal {
+    Clash { kept: Fact, new: Fact },
+    NoMemory,
+}
+
+impl From<NoMemory> for AddRefusal {
+    ghost use Rattle.std.specs.Prelude.{◌≡◌};
+    ghost use Rattle.tp_store.specs.declared.add.AddRefusal.{AddRefusal};
+    ghost use Rattle.tp_store.specs.declared.add.AddRefusal.TheVariants as refusal;
+
+    ghost from_gives = { λ e r. r ≡ refusal.NoMemory };
+
+    fn from(_: NoMemory) -> AddRefusal {
+        AddRefusal::NoMemory
+    }
+}
+
+impl From<AllocError> for AddRefusal {
+    ghost use Rattle.std.specs.Prelude.{◌≡◌};
+    ghost use Rattle.tp_store.specs.declared.add.AddRefusal.{AddRefusal};
+    ghost use Rattle.tp_store.specs.declared.add.AddRefusal.TheVariants as refusal;
+
+    ghost from_gives = { λ e r. r ≡ refusal.NoMemory };
+
+    fn from(_: AllocError) -> AddRefusal {
+        AddRefusal::NoMemory
+    }
+}
+
+impl<T: Drop> From<AllocFailed<T>> for AddRefusal {
+    ghost use Rattle.std.specs.Prelude.{◌≡◌};
+    ghost use Rattle.tp_store.specs.declared.add.AddRefusal.{AddRefusal};
+    ghost use Rattle.tp_store.specs.declared.add.AddRefusal.TheVariants as refusal;
+
+    ghost from_gives = { λ e r. r ≡ refusal.NoMemory };
+
+    fn from(_: AllocFailed<T>) -> AddRefusal {
+        AddRefusal::NoMemory
+    }
+}
+
+fn fact_at(path: &Path, shape: Shape) -> Result<Fact, NoMemory>
+    ensures { IfOk result (λ f. f ≡ fact path.now shape) }
+{
+    let path = path.copy()?;
+    Ok(Fact { path, shape })
+}
+
+// Appends the facts of the value at the path: its shape there, then the facts of its items in order.
+fn append_facts(path: &Path, value: &Value, out: &mut Vec<Fact>) -> Result<(), NoMemory>
+    requires { HasShortLists (tree value.now) }
+    ensures { OnOk result (out.new.items ≡ out.old.items ++ facts_at path.now (tree value.now)) }
+{
+    match value {
+        Value::Num(n) => {
+            let fact = fact_at(path, Shape::Num(*n))?;
+            out.push(fact)?;
+        }
+        Value::Truth(b) => {
+            let fact = fact_at(path, Shape::Truth(*b))?;
+            out.push(fact)?;
+        }
+        Value::List(all) => {
+            let fact = fact_at(path, Shape::Items(all.items.len() as u32))?;
+            out.push(fact)?;
+            for k in 0..all.items.len() {
+                let inner = item_path(path, k as u32)?;
+                append_facts(&inner, &all.items[k], out)?;
+            }
+        }
+    }
+    Ok(())
+}
+
+// Adds facts of one variable to those that are kept of it.
+fn add_in(alloc: Global, kept: &mut Vec<Fact>, facts: Vec<Fact>) -> Result<Facts, AddRefusal>
+    ensures added { IfOk result (λ news. addition kept.old.items facts.items ≡ adds news) }
+    ensures refused { IfErr result (IsRefusal (addition kept.old.items facts.items)) }
+    ensures ok { IfOk result (λ news. kept.new.items ≡ kept.old.items ++ news) }
+    ensures err { OnErr result (kept.new.items ≡ kept.old.items) }
+{
+    if let Some((old, new)) = find_clash(kept.as_slice(), facts.as_slice()) {
+        let kept = old.copy()?;
+        let new = new.copy()?;
+        return Err(AddRefusal::Clash { kept, new });
+    }
+    let mut news = facts;
+    keep_new(kept.as_slice(), &mut news);
+    let mut copies = copy_facts(alloc, news.as_slice())?;
+    kept.append(&mut copies)?;
+    Ok(Facts { items: news })
+}
+
+impl Store {
+    /// Adds the facts of a value at a path, and gives those that are new, in order: a list's length before the facts of its items. The
+    /// path's variable is one of the store's, and each list of the value has fewer than 2^32 items. The first new fact that clashes is
+    /// refused with the kept one that has the fewest indices of those that it clashes with, and among these the least index where their
+    /// paths first differ; nothing is added then.
+    pub fn add(&mut self, path: &Path, value: &Value) -> Result<Facts, AddRefusal>
+        requires variable { IsVariableOf self.old.variables path.now.var }
+        requires short { HasShortLists (tree value.now) }
+        ensures news { IfOk result (λ news. addition self.old.facts (facts_at path.now (tree value.now)) ≡ adds news) }
+        ensures refused { IfErr result (IsRefusal (addition self.old.facts (facts_at path.now (tree value.now)))) }
+        ensures added { IfOk result (λ news. HasAdded self.old news self.new) }
+        ensures err { OnErr result (self.new ≡ self.old) }
+        ensures sound { IsSound self.new }
+    {
+        let mut facts = Vec::new(self.alloc);
+        append_facts(path, value, &mut facts)?;
+        let news = self.add_facts(path.var, facts)?;
+        Ok(news)
+    }
+
+    /// Adds the one fact that the path is a list of that length, by the rules of `add`.
+    pub fn add_length(&mut self, path: &Path, length: u32) -> Result<Facts, AddRefusal>
+        requires { IsVariableOf self.old.variables path.now.var }
+        ensures news { IfOk result (λ news. addition self.old.facts (fact path.now (shape.Items length) ∷ []) ≡ adds news) }
+        ensures refused { IfErr result (IsRefusal (addition self.old.facts (fact path.now (shape.Items length) ∷ []))) }
+        ensures added { IfOk result (λ news. HasAdded self.old news self.new) }
+        ensures err { OnErr result (self.new ≡ self.old) }
+        ensures sound { IsSound self.new }
+    {
+        let mut facts = Vec::new(self.alloc);
+        let fact = fact_at(path, Shape::Items(length))?;
+        facts.push(fact)?;
+        let news = self.add_facts(path.var, facts)?;
+        Ok(news)
+    }
+
+    // Adds facts of one variable, which don't clash with each other.
+    fn add_facts(&mut self, var: VarId, facts: Vec<Fact>) -> Result<Facts, AddRefusal>
+        requires variable { IsVariableOf self.old.variables var }
+        requires filed { AreOf var facts.items }
+        requires apart { NoClash facts.items }
+        ensures news { IfOk result (λ news. addition self.old.facts facts.items ≡ adds news) }
+        ensures refused { IfErr result (IsRefusal (addition self.old.facts facts.items)) }
+        ensures added { IfOk result (λ news. HasAdded self.old news self.new) }
+        ensures err { OnErr result (self.new ≡ self.old) }
+        ensures sound { IsSound self.new }
+    {
+        let alloc = self.alloc;
+        let entry = &mut self.entries[var.number as usize];
+        let news = add_in(alloc, &mut entry.facts, facts)?;
+        Ok(news)
+    }
+}

@@ -1,0 +1,122 @@
+// What is known of the value at a path.
+ghost use Rattle.std.specs.Prelude.{◌≡◌, IfOk};
+ghost use Rattle.tp_store.specs.Known.{full, whole, list_of_items, items_known};
+ghost use Rattle.tp_store.specs.Changes.{IsSound};
+ghost use Rattle.tp_store.specs.Facts.{item_path};
+ghost use Rattle.tp_store.specs.Answers.{full_of, whole_of};
+
+use crate::listing::{deepest, is_excluded, shape_in};
+use crate::store::Store;
+use std::alloc::Global;
+use tp_value::{Fact, Items, NoMemory, Path, Shape, Value, is_within_list_limit};
+
+/// What is known of the value at a path: there is no such element, the shape of this path isn't kept yet, it is longer than a list may be,
+/// or it is this value.
+#[derive(Drop)]
+pub enum Known {
+    Absent,
+    Open(Path),
+    TooLong,
+    Value(Value),
+}
+
+// The whole value, or the first path without a shape.
+#[derive(Drop)]
+pub enum Found {
+    Whole(Value),
+    Open(Path),
+}
+
+/// The path of an item of what stands at the path.
+pub fn item_path(path: &Path, index: u32) -> Result<Path, NoMemory>
+    ensures { IfOk result (λ inner. inner ≡ item_path path.now index) }
+{
+    let mut inner = path.copy()?;
+    inner.at.items.push(index)?;
+    Ok(inner)
+}
+
+fn open(path: &Path) -> Result<Found, NoMemory>
+    ensures { IfOk result (λ found. found ≡ Found.Open path.now) }
+{
+    let path = path.copy()?;
+    Ok(Found::Open(path))
+}
+
+// The items of the list at the path, of which there are so many.
+#[cycle(whole)]
+fn items_at(alloc: Global, facts: &[Fact], path: &Path, count: u32, deeper: usize) -> Result<Found, NoMemory>
+    ensures { IfOk result (λ found. whole_of found ≡ list_of_items (items_known (whole deeper facts.now) path.now count 0)) }
+{
+    let mut items = Vec::new(alloc);
+    for k in 0..count {
+        let inner = item_path(path, k)?;
+        match whole_at(alloc, facts, &inner, deeper)? {
+            Found::Whole(v) => items.push(v)?,
+            Found::Open(q) => return Ok(Found::Open(q)),
+        }
+    }
+    Ok(Found::Whole(Value::List(Items { items })))
+}
+
+// The whole value at the path, where no path of the list has as many indices more.
+#[cycle(whole)]
+fn whole_at(alloc: Global, facts: &[Fact], path: &Path, deeper: usize) -> Result<Found, NoMemory>
+    ensures { IfOk result (λ found. whole_of found ≡ whole deeper facts.now path.now) }
+{
+    if deeper == 0 {
+        let found = open(path)?;
+        return Ok(found);
+    }
+    match shape_in(facts, path) {
+        Some(Shape::Num(n)) => Ok(Found::Whole(Value::Num(n))),
+        Some(Shape::Truth(b)) => Ok(Found::Whole(Value::Truth(b))),
+        Some(Shape::Items(count)) => {
+            let found = items_at(alloc, facts, path, count, deeper - 1)?;
+            Ok(found)
+        }
+        None => {
+            let found = open(path)?;
+            Ok(found)
+        }
+    }
+}
+
+fn full_in(alloc: Global, facts: &[Fact], path: &Path) -> Result<Known, NoMemory>
+    ensures { IfOk result (λ known. full_of known ≡ full facts.now path.now) }
+{
+    if is_excluded(facts, path) {
+        return Ok(Known::Absent);
+    }
+    let deeper = deepest(facts) + 1;
+    match whole_at(alloc, facts, path, deeper)? {
+        Found::Open(q) => Ok(Known::Open(q)),
+        Found::Whole(v) => {
+            if is_within_list_limit(&v) {
+                Ok(Known::Value(v))
+            } else {
+                Ok(Known::TooLong)
+            }
+        }
+    }
+}
+
+impl Store {
+    /// What is known of the value at the path: it has no such element where the shape of a proper prefix leaves none; else the first path,
+    /// from this one downwards in the order of the items, whose shape isn't kept; else whether the whole value is within the limit of lists.
+    pub fn full(&self, path: &Path) -> Result<Known, NoMemory>
+        ensures value { IfOk result (λ known. full_of known ≡ full self.now.facts path.now) }
+        ensures sound { IsSound self.now }
+    {
+        match self.entries.get(path.var.number as usize) {
+            Some(entry) => {
+                let known = full_in(self.alloc, entry.facts.as_slice(), path)?;
+                Ok(known)
+            }
+            None => {
+                let path = path.copy()?;
+                Ok(Known::Open(path))
+            }
+        }
+    }
+}

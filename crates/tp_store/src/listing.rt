@@ -1,0 +1,91 @@
+// Look-ups and changes of the facts of one variable.
+ghost use Rattle.std.specs.Prelude.{◌≡◌, ◌++◌, ◌∷◌, [], length, IfOk, OnOk, OnErr, filter, MatchOption, vec_len};
+ghost use Rattle.std.specs.Option.{option_copied};
+ghost use Rattle.tp_store.specs.Facts.{kept_shape, is_excluded};
+ghost use Rattle.tp_store.specs.Known.{first_clash, new_facts, deepest, Addition, checked, refuses};
+
+use crate::clash::{clashes, excludes, is_earlier, same_path};
+use std::alloc::Global;
+use tp_value::{Fact, NoMemory, Path, Shape};
+
+/// The shape that a fact of the list gives to the path.
+pub fn shape_in(facts: &[Fact], path: &Path) -> Option<Shape>
+    ensures { result ≡ kept_shape facts.now path.now }
+{
+    for fact in facts {
+        if same_path(&fact.path, path) {
+            return Some(fact.shape);
+        }
+    }
+    None
+}
+
+/// Whether some fact of the list excludes the path.
+pub fn is_excluded(facts: &[Fact], path: &Path) -> bool
+    ensures { result ≡ is_excluded facts.now path.now }
+{
+    for fact in facts {
+        if excludes(fact, path) {
+            return true;
+        }
+    }
+    false
+}
+
+/// The greatest number of indices of a path of the list.
+pub fn deepest(facts: &[Fact]) -> usize
+    ensures { result ≡ deepest facts.now }
+{
+    let mut most = 0;
+    for fact in facts {
+        most = most.max(fact.path.at.items.len());
+    }
+    most
+}
+
+// Of the facts that clash with this one, that with the fewest indices, and among these with the lesser ones.
+fn first_clash<'a>(facts: &'a [Fact], fact: &Fact) -> Option<&'a Fact>
+    ensures { option_copied result ≡ first_clash facts.now fact.now }
+{
+    let mut first: Option<&Fact> = None;
+    for i in (0..facts.len()).rev() {
+        let kept = &facts[i];
+        if clashes(kept, fact) {
+            first = match first {
+                Some(best) if is_earlier(best, kept) => Some(best),
+                _ => Some(kept),
+            };
+        }
+    }
+    first
+}
+
+/// The first of the new facts that clashes with a kept one, after that one.
+pub fn find_clash<'a>(kept: &'a [Fact], news: &'a [Fact]) -> Option<(&'a Fact, &'a Fact)>
+    ensures { MatchOption result ((o : Addition) → checked kept.now news.now o ≡ o) (λ c. (o : Addition) → checked kept.now news.now o ≡ refuses c.0.now c.1.now) }
+{
+    for fact in news {
+        if let Some(first) = first_clash(kept, fact) {
+            return Some((first, fact));
+        }
+    }
+    None
+}
+
+/// Drops the facts that are kept already.
+pub fn keep_new(kept: &[Fact], news: &mut Vec<Fact>)
+    ensures { news.new.items ≡ new_facts kept.now news.old.items }
+{
+    news.retain(|fact| shape_in(kept, &fact.path).is_none());
+}
+
+/// Equal facts.
+pub fn copy_facts(alloc: Global, facts: &[Fact]) -> Result<Vec<Fact>, NoMemory>
+    ensures { IfOk result (λ copies. copies.items ≡ facts.now) }
+{
+    let mut copies = Vec::new(alloc);
+    for fact in facts {
+        copies.push(fact.copy()?)?;
+    }
+    Ok(copies)
+}

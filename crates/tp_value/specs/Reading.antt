@@ -1,0 +1,204 @@
+-- How a value's text is read, byte by byte.
+use Rattle.std.specs.Prelude.{ℕ, suc, ◌+◌, ◌-◌, ◌==◌, nat_lt, ℤ, pos, ◌+ℤ◌, ◌-ℤ◌, ◌*ℤ◌, Bool, true, false, ◌&&◌, ◌||◌, not, if◌then◌else◌, List, [], ◌∷◌, ◌++◌, length, slice_index, codes, map, reverse, Option, Some, None, Result, Ok, Err}
+use Rattle.std.specs.Char.{is_ascii_digit}
+use Rattle.tp_value.specs.declared.reading.ReadValue.{ReadValue}
+use Rattle.tp_value.specs.declared.reading.ReadValue.TheVariants.{NoValue, TooLarge, TooLong, TooDeep}
+use Rattle.tp_value.specs.declared.reading.Reader.{Reader}
+use Rattle.tp_value.specs.declared.reading.Taken.{Taken}
+use Rattle.tp_value.specs.declared.reading.Taken.TheVariants.{More, Done}
+use Rattle.tp_value.specs.declared.scan.Last.{Last}
+use Rattle.tp_value.specs.declared.scan.Last.TheVariants.{Bracket, Item, Comma}
+use Rattle.tp_value.specs.declared.scan.Phase.{Phase}
+use Rattle.tp_value.specs.declared.scan.Phase.TheVariants.{Start, Between, Minus, Digits, Word as InWord}
+use Rattle.tp_value.specs.declared.scan.Move.{Move}
+use Rattle.tp_value.specs.declared.scan.Move.TheVariants.{Go, Open, Close, Word}
+use Rattle.tp_value.specs.declared.value.Items.{Items}
+use Rattle.tp_value.specs.Number.{within_limit}
+use Rattle.tp_value.specs.Limits.{item_limit, depth_limit}
+use Rattle.tp_value.specs.Spelling.{is_blank, spelling}
+use Rattle.tp_value.specs.Tree.{Tree, num, truth, list, of_items}
+use Rattle.tp_value.specs.Read.{tree}
+
+abbrev pub digit_of : ℕ → Option ℕ
+digit_of b = if is_ascii_digit b then Some (b - 48) else None
+
+-- whether a value's text may begin with the byte: `<`, `-`, `t`, `f` or a digit
+abbrev pub begins_value : ℕ → Bool
+begins_value b = b == 60 || b == 45 || b == 116 || b == 102 || is_ascii_digit b
+
+-- the number with one digit more
+abbrev pub continued : Bool → ℤ → ℕ → ℤ
+continued negative n d = if negative then n *ℤ pos 10 -ℤ pos d else n *ℤ pos 10 +ℤ pos d
+
+-- what the first byte of a value does
+abbrev pub started : ℕ → ℕ → ℕ → ℕ → Result Move ReadValue
+started at depth begun b =
+    if b == 60 then (if nat_lt depth depth_limit then Ok (Open begun) else Err (TooDeep at))
+    else (if b == 45 then Ok (Go (Minus at) begun)
+    else (if b == 116 then Ok (Go (InWord true 1) begun)
+    else (if b == 102 then Ok (Go (InWord false 1) begun)
+    else number (digit_of b))))
+  where
+    number : Option ℕ → Result Move ReadValue
+    number (Some d) = Ok (Go (Digits at false (pos d)) begun)
+    number None = Err (NoValue at)
+
+-- what the first byte of an item does
+abbrev pub item_started : ℕ → ℕ → ℕ → ℕ → Result Move ReadValue
+item_started at depth begun b =
+    if begins_value b then (if nat_lt begun item_limit then started at depth (begun + 1) b else Err (TooLong at))
+    else Err (NoValue at)
+
+-- what a byte does between the parts of a list
+abbrev pub within_list : ℕ → ℕ → ℕ → Last → ℕ → Result Move ReadValue
+within_list at depth begun last b =
+    if is_blank b then Ok (Go (Between last) begun)
+    else (if b == 44 then comma last
+    else (if b == 62 then close last
+    else other last))
+  where
+    comma : Last → Result Move ReadValue
+    comma Bracket = Err (NoValue at)
+    comma Item = Ok (Go (Between Comma) begun)
+    comma Comma = Err (NoValue at)
+
+    close : Last → Result Move ReadValue
+    close Bracket = Ok Close
+    close Item = Ok Close
+    close Comma = Err (NoValue at)
+
+    other : Last → Result Move ReadValue
+    other Bracket = item_started at depth begun b
+    other Item = Err (NoValue at)
+    other Comma = item_started at depth begun b
+
+-- the longer number, where it is within the limit
+abbrev pub lengthened : ℕ → ℕ → Bool → Option ℤ → Result Move ReadValue
+lengthened begun begin negative (Some n) = Ok (Go (Digits begin negative n) begun)
+lengthened begun begin negative None = Err (TooLarge begin)
+
+abbrev pub digit_read : ℕ → ℕ → ℕ → Bool → ℤ → Option ℕ → Result Move ReadValue
+digit_read at begun begin negative n (Some d) = lengthened begun begin negative (within_limit (continued negative n d))
+digit_read at begun begin negative n None = Err (NoValue at)
+
+-- what a byte of a number does that is no first digit
+abbrev pub digits_go_on : ℕ → ℕ → ℕ → Bool → ℤ → ℕ → Result Move ReadValue
+digits_go_on at begun begin negative n b = digit_read at begun begin negative n (digit_of b)
+
+-- what a byte of a word does that is not its first
+abbrev pub letters_go_on : ℕ → ℕ → Bool → ℕ → ℕ → Result Move ReadValue
+letters_go_on at begun word k b =
+    if nat_lt k (length (spelling word)) && slice_index (spelling word) k == b then
+        (if k + 1 == length (spelling word) then Ok (Word word) else Ok (Go (InWord word (k + 1)) begun))
+    else Err (NoValue at)
+
+-- what the byte at a place does
+abbrev pub decided : ℕ → ℕ → ℕ → Phase → ℕ → Result Move ReadValue
+decided at depth begun Start b = started at depth begun b
+decided at depth begun (Between last) b = within_list at depth begun last b
+decided at depth begun (Minus begin) b = digits_go_on at begun begin true (pos 0) b
+decided at depth begun (Digits begin negative n) b = digits_go_on at begun begin negative n b
+decided at depth begun (InWord word k) b = letters_go_on at begun word k b
+
+-- where reading stands: the items of the open lists, the innermost list first, how many items have begun, and what was read last
+pub record State : Type 0 where
+  pub lists : List (List Tree)
+  pub begun : ℕ
+  pub phase : Phase
+
+pub data Step : Type 0 where
+  goes : State → Step
+  ends : Tree → ℕ → Step
+  refuses : ReadValue → Step
+
+-- a value ends in front of a place: it is an item of the innermost list, or the whole
+abbrev pub finished : List (List Tree) → ℕ → Tree → ℕ → Step
+finished [] begun t after = ends t after
+finished (ts ∷ lists) begun t after = goes (record { lists = (ts ++ t ∷ []) ∷ lists; begun = begun; phase = Between Item })
+
+abbrev pub closed : ℕ → List (List Tree) → ℕ → Step
+closed at [] begun = refuses (NoValue at)
+closed at (ts ∷ lists) begun = finished lists begun (list (of_items ts)) (at + 1)
+
+abbrev pub opened : List (List Tree) → ℕ → State
+opened lists begun = record { lists = [] ∷ lists; begun = begun; phase = Between Bracket }
+
+abbrev pub carried : ℕ → State → Result Move ReadValue → Step
+carried at s (Ok (Go phase begun)) = goes (record { lists = s.lists; begun = begun; phase = phase })
+carried at s (Ok (Open begun)) = goes (opened s.lists begun)
+carried at s (Ok Close) = closed at s.lists s.begun
+carried at s (Ok (Word word)) = finished s.lists s.begun (truth word) (at + 1)
+carried at s (Err e) = refuses e
+
+abbrev pub moved : ℕ → State → ℕ → Step
+moved at s b = carried at s (decided at (length s.lists) s.begun s.phase b)
+
+-- the number that was read last
+abbrev pub number_read : Phase → Option ℤ
+number_read (Digits begin negative n) = Some n
+number_read Start = None
+number_read (Between last) = None
+number_read (Minus begin) = None
+number_read (InWord word k) = None
+
+-- the number that ends in front of a byte
+abbrev pub number_before : Phase → ℕ → Option ℤ
+number_before (Digits begin negative n) b = if is_ascii_digit b then None else Some n
+number_before Start b = None
+number_before (Between last) b = None
+number_before (Minus begin) b = None
+number_before (InWord word k) b = None
+
+abbrev pub then_step : Step → (State → Step) → Step
+then_step (goes s) f = f s
+then_step (ends t after) f = ends t after
+then_step (refuses e) f = refuses e
+
+-- what the byte at a place does, behind the number that ends in front of it
+abbrev pub step_behind : ℕ → State → ℕ → Option ℤ → Step
+step_behind at s b None = moved at s b
+step_behind at s b (Some n) = then_step (finished s.lists s.begun (num n) at) (λ t. moved at t b)
+
+abbrev pub step : ℕ → State → ℕ → Step
+step at s b = step_behind at s b (number_before s.phase b)
+
+-- a value with the place after it, or a refusal
+pub data Answer : Type 0 where
+  found : Tree → ℕ → Answer
+  refused : ReadValue → Answer
+
+abbrev pub answered : Step → (State → Answer) → Answer
+answered (goes s) f = f s
+answered (ends t after) f = found t after
+answered (refuses e) f = refused e
+
+-- what the end of the bytes gives
+abbrev pub at_end : ℕ → State → Answer
+at_end at s = after (number_read s.phase)
+  where
+    after : Option ℤ → Answer
+    after None = refused (NoValue at)
+    after (Some n) = answered (finished s.lists s.begun (num n) at) (λ t. refused (NoValue at))
+
+-- what the bytes from a place on give
+abbrev pub reading : ℕ → State → List ℕ → Answer
+reading at s [] = at_end at s
+reading at s (b ∷ z) = answered (step at s b) (λ t. reading (at + 1) t z)
+
+-- where reading begins
+abbrev pub start_state : State
+start_state = record { lists = []; begun = 0; phase = Start }
+
+abbrev pub items_seen : Items → List Tree
+items_seen all = map tree all.items.items
+
+-- the items of the open lists, the innermost list first
+abbrev pub lists_of : List Items → List (List Tree)
+lists_of all = reverse (map items_seen all)
+
+abbrev pub state_of : Reader → State
+state_of r = record { lists = lists_of r.unclosed.items; begun = r.begun; phase = r.phase }
+
+abbrev pub taken : Taken → Step
+taken (More r) = goes (state_of r)
+taken (Done v after) = ends (tree v) after
