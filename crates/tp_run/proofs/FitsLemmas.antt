@@ -2,7 +2,7 @@
 use Rattle.std.proofs.Common.{◌≡◌, ℤ, ℕ, zero, suc, Bool, true, false, cond, List, [], ◌∷◌, ◌++◌, Option, None, Some, refl, sym, subst}
 use Rattle.std.specs.Ordering.{int_eq}
 use Rattle.tp_value.specs.declared.path.VarId.{VarId}
-use Rattle.tp_run.specs.declared.turn.Clash.TheVariants.{Facts, False}
+use Rattle.tp_scene.specs.declared.answer.Clash.TheVariants.{Facts, False}
 use Rattle.tp_meaning.specs.Syntax.{ExprTree, FormulaTree, FormulaTrees, no_formula, formula_then, equation, next_equation, empty, more, next, conjunction}
 use Rattle.tp_run.specs.Residual.{Duty, Do, Later, Known, kept, Residual}
 use Rattle.tp_run.specs.Rules.{Found, value, waits_for, over, unbuilt, found_in, variable_in, Mark, no_mark, ends_here, goes_on, Outcome, becomes, waits, rests, clashes, passes, not_built, nothing, fact_of, set_variable, meets, both_wait, equate, ending, going, carried, each_do, reduction, outcome_of}

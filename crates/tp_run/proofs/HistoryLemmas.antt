@@ -11,7 +11,7 @@ use Rattle.tp_meaning.specs.Course.{State, Course, Shows, blank}
 use Rattle.tp_meaning.specs.Holds.{Holds}
 use Rattle.tp_meaning.specs.Interval.{IsInterval, kinds_of}
 use Rattle.tp_kernel.specs.Built.{IsBuilt, IsBuiltOver, IsStateVariable, NoneStatic}
-use Rattle.tp_run.specs.declared.turn.Clash.{Clash}
+use Rattle.tp_scene.specs.declared.answer.Clash.{Clash}
 use Rattle.tp_value.specs.Globals.{is_lower}
 use Rattle.tp_run.specs.declared.turn.Picture.{Picture}
 use Rattle.tp_run.specs.declared.turn.Turn.{Turn}

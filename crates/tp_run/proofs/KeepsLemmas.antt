@@ -9,8 +9,8 @@ use Rattle.tp_kernel.specs.Built.{IsSum, IsBuiltOver, IsStateVariable}
 use Rattle.tp_run.specs.Residual.{Duty, Do, Later, formula_in, Known, kept, joined_option, with_number, Residual}
 use Rattle.std.specs.Ordering.{int_eq}
 use Rattle.tp_meaning.specs.Syntax.{ExprTree, global, FormulaTree, equation, next_equation, empty, more, next, conjunction}
-use Rattle.tp_run.specs.declared.turn.Clash.{Clash}
-use Rattle.tp_run.specs.declared.turn.Clash.TheVariants.{Facts, False}
+use Rattle.tp_scene.specs.declared.answer.Clash.{Clash}
+use Rattle.tp_scene.specs.declared.answer.Clash.TheVariants.{Facts, False}
 use Rattle.tp_run.specs.Rules.{Mark, no_mark, ends_here, goes_on, Setting, Outcome, becomes, waits, rests, clashes, passes, not_built, nothing, outcome_of, reduction, Found, value, waits_for, over, unbuilt, found_in, fact_of, set_variable, meets, both_wait, equate, ending, going, carried, variable_in}
 use Rattle.tp_run.proofs.RunLemmas.{picks_runnable}
 use Rattle.tp_run.specs.Picks.{Reduces, Picks, MeetsClash, ends_after, goes_after, known_after}

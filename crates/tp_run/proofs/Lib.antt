@@ -3,7 +3,7 @@ mod SceneLemmas
 mod Steps
 mod PassLemmas
 mod SettleLemmas
-mod RunLemmas
+pub mod RunLemmas
 mod Numbers
 mod StepMeans
 mod KeepsLemmas

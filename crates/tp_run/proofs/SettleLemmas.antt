@@ -3,7 +3,7 @@ use Rattle.std.proofs.Common.{◌≡◌, ℕ, zero, suc, ◌+◌, ◌<◌, Bool,
 use Rattle.std.proofs.lemmas.List.{take_more}
 use Rattle.tp_meaning.specs.Syntax.{FormulaTree}
 use Rattle.tp_kernel.specs.Built.{HasBuiltKinds}
-use Rattle.tp_run.specs.declared.turn.Cell.{Cell}
+use Rattle.tp_scene.specs.declared.answer.Cell.{Cell}
 use Rattle.tp_run.specs.declared.scene.Item.{Item}
 use Rattle.tp_run.specs.declared.scene.Scene.{Scene}
 use Rattle.tp_run.specs.Residual.{Duty, Later, formula_in, duty_of, duties_of, Known, residual_of}

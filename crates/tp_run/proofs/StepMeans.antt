@@ -10,7 +10,7 @@ use Rattle.tp_meaning.specs.Value.{calls_at, value_by}
 use Rattle.tp_meaning.specs.Holds.{Holds, AllHoldBy, CallHolds}
 use Rattle.tp_meaning.specs.Unfolding.{nexts}
 use Rattle.tp_meaning.proofs.Shows.{join-blank}
-use Rattle.tp_run.specs.declared.turn.Clash.TheVariants.{Facts, False}
+use Rattle.tp_scene.specs.declared.answer.Clash.TheVariants.{Facts, False}
 use Rattle.tp_kernel.specs.Built.{IsBuiltOver}
 use Rattle.tp_run.specs.Residual.{Duty, Do, Later, formula_in, Known, kept}
 use Rattle.tp_run.specs.Rules.{Found, value, waits_for, over, unbuilt, found_in, Mark, no_mark, ends_here, goes_on, Setting, Outcome, becomes, waits, rests, clashes, passes, not_built, nothing, set_variable, fact_of, variable_in, meets, both_wait, equate, ending, going, carried, each_do, reduction, outcome_of}

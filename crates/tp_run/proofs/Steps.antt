@@ -5,7 +5,7 @@ use Rattle.tp_value.specs.declared.path.VarId.{VarId}
 use Rattle.tp_meaning.specs.Syntax.{ExprTree, numeral, FormulaTree, FormulaTrees, no_formula, formula_then, equation, next_equation, empty, more, next, conjunction}
 use Rattle.tp_kernel.specs.Built.{IsBuiltOver, AreBuiltOver}
 use Rattle.tp_meaning.specs.Unfolding.{nexts}
-use Rattle.tp_run.specs.declared.turn.Clash.TheVariants.{Facts, False}
+use Rattle.tp_scene.specs.declared.answer.Clash.TheVariants.{Facts, False}
 use Rattle.tp_run.specs.Residual.{Duty, Do, Later, formula_in, Known, kept}
 use Rattle.tp_run.specs.Rules.{Found, value, waits_for, over, unbuilt, Outcome, becomes, waits, rests, clashes, passes, not_built, nothing, set_variable, fact_of, meets, both_wait, equate, ending, going, carried, each_do, reduction, outcome_of, found_in, variable_in}
 use Rattle.tp_run.specs.Weight.{size_of, sizes_of, weight_of}

@@ -3,7 +3,7 @@ use Rattle.std.specs.Prelude.{◌≡◌, ◌↔◌, ℕ, suc, ◌+◌, ◌≤◌
 use Rattle.tp_meaning.specs.Syntax.{FormulaTree}
 use Rattle.tp_meaning.specs.Course.{Course, Shows, blank}
 use Rattle.tp_meaning.specs.Interval.{ProgramTree, IsInterval, Satisfies}
-use Rattle.tp_run.specs.declared.turn.Cell.{Cell}
+use Rattle.tp_scene.specs.declared.answer.Cell.{Cell}
 use Rattle.tp_run.specs.declared.turn.Picture.{Picture}
 use Rattle.tp_run.specs.declared.turn.Turn.{Turn}
 use Rattle.tp_run.specs.declared.turn.Turn.TheVariants.{Went, Finished, Contradictory, Undetermined, Over}

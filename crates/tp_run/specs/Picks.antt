@@ -2,9 +2,9 @@
 use Rattle.std.specs.Prelude.{◌≡◌, ℕ, zero, suc, Bool, true, false, List, [], ◌∷◌, ◌++◌, map, Option, None, Some}
 use Rattle.tp_meaning.specs.Syntax.{FormulaTree}
 use Rattle.tp_kernel.specs.declared.formula.LimitKind.{LimitKind}
-use Rattle.tp_run.specs.declared.turn.Cell.{Cell}
-use Rattle.tp_run.specs.declared.turn.Cell.TheVariants.{End}
-use Rattle.tp_run.specs.declared.turn.Clash.{Clash}
+use Rattle.tp_scene.specs.declared.answer.Cell.{Cell}
+use Rattle.tp_scene.specs.declared.answer.Cell.TheVariants.{End}
+use Rattle.tp_scene.specs.declared.answer.Clash.{Clash}
 use Rattle.tp_run.specs.Residual.{Duty, Do, Later, Known, with_number, Residual}
 use Rattle.tp_run.specs.Rules.{Mark, no_mark, ends_here, goes_on, Setting, Outcome, becomes, waits, rests, clashes, passes, not_built, outcome_of}
 

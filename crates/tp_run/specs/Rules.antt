@@ -10,10 +10,10 @@ use Rattle.tp_meaning.specs.Syntax.{Equal, Differs, Less, LessEqual, Greater, Gr
 use Rattle.tp_meaning.specs.Unfolding.{nexts}
 use Rattle.tp_kernel.specs.declared.formula.LimitKind.{LimitKind}
 use Rattle.tp_kernel.specs.declared.formula.LimitKind.TheVariants as limit
-use Rattle.tp_run.specs.declared.turn.Cell.{Cell}
-use Rattle.tp_run.specs.declared.turn.Cell.TheVariants.{Part}
-use Rattle.tp_run.specs.declared.turn.Clash.{Clash}
-use Rattle.tp_run.specs.declared.turn.Clash.TheVariants.{Facts, Marks, False}
+use Rattle.tp_scene.specs.declared.answer.Cell.{Cell}
+use Rattle.tp_scene.specs.declared.answer.Cell.TheVariants.{Part}
+use Rattle.tp_scene.specs.declared.answer.Clash.{Clash}
+use Rattle.tp_scene.specs.declared.answer.Clash.TheVariants.{Facts, Marks, False}
 use Rattle.tp_run.specs.Residual.{Duty, Do, Later, Known, kept}
 
 -- what an expression is, as far as the state is known: a number, open for want of a variable's number, or past the limit

@@ -6,7 +6,7 @@ use Rattle.tp_run.specs.declared.scene.Item.{Item}
 use Rattle.tp_run.specs.declared.scene.Scene.{Scene}
 use Rattle.tp_run.specs.declared.settle.Settled.{Settled}
 use Rattle.tp_run.specs.declared.settle.Settled.TheVariants.{Ends, Goes, Open}
-use Rattle.tp_run.specs.declared.turn.Cell.{Cell}
+use Rattle.tp_scene.specs.declared.answer.Cell.{Cell}
 use Rattle.tp_run.specs.Residual.{Duty, Do, Later, duty_of, duties_of, Residual}
 use Rattle.tp_run.specs.Rules.{waits, outcome_of}
 use Rattle.tp_run.specs.Picks.{IsIdle, SettledToEnd, SettledToGo}

@@ -3,8 +3,8 @@ use Rattle.std.specs.Prelude.{◌≡◌, ◌⊎◌, ◌+◌, ℕ, false, List, [
 use Rattle.tp_value.specs.declared.path.Fact.{Fact}
 use Rattle.tp_value.specs.declared.path.VarId.{VarId}
 use Rattle.tp_meaning.specs.Syntax.{FormulaTree}
-use Rattle.tp_run.specs.declared.turn.Cell.{Cell}
-use Rattle.tp_run.specs.declared.turn.Clash.{Clash}
+use Rattle.tp_scene.specs.declared.answer.Cell.{Cell}
+use Rattle.tp_scene.specs.declared.answer.Clash.{Clash}
 use Rattle.tp_kernel.specs.declared.formula.LimitKind.{LimitKind}
 use Rattle.tp_run.specs.declared.turn.Picture.{Picture}
 use Rattle.tp_run.specs.declared.turn.Turn.{Turn}

@@ -9,10 +9,10 @@ ghost use Rattle.tp_run.specs.Tries.{AllBuiltKinds, DecidesNext, Shelves, TriesN
 
 use crate::decide::{Decision, Mark, Setting, decide};
 use crate::scene::{Item, Scene};
-use crate::turn::Clash;
 use std::alloc::Global;
 use std::mem;
 use tp_kernel::LimitKind;
+use tp_scene::Clash;
 use tp_value::{NoMemory, Number};
 
 /// What became of an item that was tried: it was reduced, nothing comes of it in this state, or it met a clash or a limit.

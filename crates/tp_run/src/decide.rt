@@ -11,10 +11,10 @@ ghost use Rattle.tp_run.specs.Answers.{found_of, decided};
 
 use crate::evaluate::{Found, evaluate, kept_number};
 use crate::scene::Item;
-use crate::turn::{Cell, Clash};
 use std::alloc::Global;
 use std::rc::Rc;
 use tp_kernel::{Expr, Formula, Formulas, LimitKind};
+use tp_scene::{Cell, Clash};
 use tp_value::{Fact, Indices, NoMemory, Number, Path, Shape, VarId};
 
 /// A mark on the interval: that it ends with this state, or goes on.

@@ -15,4 +15,5 @@ mod turn;
 
 pub use laws::{runs_advance, runs_mean};
 pub use run::Run;
-pub use turn::{Cell, Clash, Picture, Turn};
+pub use tp_scene::{Cell, Clash};
+pub use turn::{Picture, Turn};

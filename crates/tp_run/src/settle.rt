@@ -9,8 +9,8 @@ ghost use Rattle.tp_run.specs.Settles.{AllLater, FirstDo, Stays, WaitsAt, Settle
 
 use crate::decide::{Decision, decide};
 use crate::scene::{Item, Scene};
-use crate::turn::Cell;
 use std::alloc::Global;
+use tp_scene::Cell;
 use tp_value::{Fact, Facts, Indices, NoMemory, Number, Path, Shape, VarId};
 
 /// What a state at rest has come to: its interval ends, or goes on, or it is open at a cell.

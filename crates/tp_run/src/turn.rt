@@ -2,23 +2,8 @@
 ghost use Rattle.std.specs.Prelude.{◌≡◌, IfOk};
 
 use tp_kernel::LimitKind;
-use tp_value::{Fact, Facts, NoMemory, Path};
-
-/// What an item waits for: the value of a path, or the end of a region with its depth.
-#[derive(Debug, Drop)]
-pub enum Cell {
-    Part(Path),
-    End { region: u64, depth: u32 },
-}
-
-/// Why no interval satisfies: two facts that no state has both, a region that is to end and to go on, or two values that
-/// are said to be equal and are not.
-#[derive(Debug, Drop)]
-pub enum Clash {
-    Facts { kept: Fact, new: Fact },
-    Marks { depth: u32 },
-    False,
-}
+use tp_scene::{Cell, Clash};
+use tp_value::{Facts, NoMemory};
 
 /// A settled state: its number, the facts of the global variables, and how many reductions it took.
 #[derive(Debug, Drop)]
@@ -36,41 +21,6 @@ pub enum Turn {
     Contradictory { state: u64, clash: Clash },
     Undetermined { state: u64, cell: Cell },
     Over { state: u64, limit: LimitKind },
-}
-
-impl Cell {
-    /// An equal cell.
-    pub fn copy(&self) -> Result<Cell, NoMemory>
-        ensures { IfOk result (λ cell. cell ≡ self.now) }
-    {
-        match self {
-            Cell::Part(path) => {
-                let path = path.copy()?;
-                Ok(Cell::Part(path))
-            }
-            Cell::End { region, depth } => Ok(Cell::End {
-                region: *region,
-                depth: *depth,
-            }),
-        }
-    }
-}
-
-impl Clash {
-    /// An equal clash.
-    pub fn copy(&self) -> Result<Clash, NoMemory>
-        ensures { IfOk result (λ clash. clash ≡ self.now) }
-    {
-        match self {
-            Clash::Facts { kept, new } => {
-                let kept = kept.copy()?;
-                let new = new.copy()?;
-                Ok(Clash::Facts { kept, new })
-            }
-            Clash::Marks { depth } => Ok(Clash::Marks { depth: *depth }),
-            Clash::False => Ok(Clash::False),
-        }
-    }
 }
 
 impl Turn {
