@@ -8,8 +8,8 @@ use Rattle.tp_run.specs.declared.turn.Picture.{Picture}
 use Rattle.tp_run.specs.declared.turn.Turn.{Turn}
 use Rattle.tp_run.specs.declared.turn.Turn.TheVariants as turn
 use Rattle.tempura.specs.declared.status.Status.{Status}
-use Rattle.tempura.specs.declared.status.Status.TheVariants.{Finished, Contradictory, Undetermined, NumberLimit, WriteFault, NoMemory}
-use Rattle.tempura.specs.Texts.{state_line, state_lines}
+use Rattle.tempura.specs.declared.status.Status.TheVariants.{Finished, Contradictory, Undetermined, StateLimit, ReductionLimit, NumberLimit, ListLimit, CallLimit, NestLimit, InputMissing, WriteFault, NoMemory}
+use Rattle.tempura.specs.Line.{state_line, state_lines}
 use Rattle.tempura.specs.EndLine.{end_line}
 use Rattle.tempura.specs.Written.{Wrote}
 use Rattle.tp_check.specs.Program.{ProgramTree}
@@ -53,7 +53,15 @@ ended_by program from to before now after (Contradictory state clash) h (picture
     record { pictures = h.pictures; run = (picture, stops program from to before now _ picture h turned); wrote = rw wrote h.wrote }
 ended_by program from to before now after (Undetermined state cell) h (picture, turned, wrote) =
     record { pictures = h.pictures; run = (picture, stops program from to before now _ picture h turned); wrote = rw wrote h.wrote }
+ended_by program from to before now after (ReductionLimit state) h (picture, turned, wrote) =
+    record { pictures = h.pictures; run = (picture, stops program from to before now _ picture h turned); wrote = rw wrote h.wrote }
 ended_by program from to before now after (NumberLimit state) h (picture, turned, wrote) =
+    record { pictures = h.pictures; run = (picture, stops program from to before now _ picture h turned); wrote = rw wrote h.wrote }
+ended_by program from to before now after (ListLimit state) h (picture, turned, wrote) =
+    record { pictures = h.pictures; run = (picture, stops program from to before now _ picture h turned); wrote = rw wrote h.wrote }
+ended_by program from to before now after (CallLimit state) h (picture, turned, wrote) =
+    record { pictures = h.pictures; run = (picture, stops program from to before now _ picture h turned); wrote = rw wrote h.wrote }
+ended_by program from to before now after (NestLimit state) h (picture, turned, wrote) =
     record { pictures = h.pictures; run = (picture, stops program from to before now _ picture h turned); wrote = rw wrote h.wrote }
 ended_by program from to before now after status h e = absurd e
 
@@ -75,7 +83,11 @@ settles_by : (program : ProgramTree) (pictures : List Picture) (status : Status)
 settles_by program pictures (Finished n) e = inr (n, e)
 settles_by program pictures (Contradictory state clash) e = inl (record { last = e.1.last; settles = e.1.settles })
 settles_by program pictures (Undetermined state cell) e = inl (record { last = e.1.last; settles = e.1.settles })
+settles_by program pictures (ReductionLimit state) e = inl (record { last = e.1.last; settles = e.1.settles })
 settles_by program pictures (NumberLimit state) e = inl (record { last = e.1.last; settles = e.1.settles })
+settles_by program pictures (ListLimit state) e = inl (record { last = e.1.last; settles = e.1.settles })
+settles_by program pictures (CallLimit state) e = inl (record { last = e.1.last; settles = e.1.settles })
+settles_by program pictures (NestLimit state) e = inl (record { last = e.1.last; settles = e.1.settles })
 settles_by program pictures status e = absurd e
 
 -- an end of a run is no failed write

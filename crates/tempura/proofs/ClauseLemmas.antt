@@ -2,10 +2,10 @@
 use Rattle.std.proofs.Common.{◌≡◌, ◌⊎◌, inl, inr, ℕ, List, Option, None, Some, refl, ap, sym, ◌∙◌, subst, arith}
 use Rattle.tp_io.specs.Devices.{Held, bytes_of}
 use Rattle.tp_run.specs.declared.turn.Picture.{Picture}
-use Rattle.tp_run.specs.declared.turn.Cell.{Cell}
-use Rattle.tp_run.specs.declared.turn.Clash.{Clash}
+use Rattle.tp_scene.specs.declared.answer.Cell.{Cell}
+use Rattle.tp_scene.specs.declared.answer.Clash.{Clash}
 use Rattle.tempura.specs.declared.status.Status.{Status}
-use Rattle.tempura.specs.declared.status.Status.TheVariants.{Finished, Contradictory, Undetermined, NumberLimit, SourceRefused, WordsRefused, TooLong, ReadFault, WriteFault, NoMemory}
+use Rattle.tempura.specs.declared.status.Status.TheVariants.{Finished, Contradictory, Undetermined, StateLimit, ReductionLimit, NumberLimit, ListLimit, CallLimit, NestLimit, InputMissing, SourceRefused, WordsRefused, TooLong, ReadFault, WriteFault, NoMemory}
 use Rattle.tempura.specs.declared.status.Which.{Which}
 use Rattle.tempura.specs.declared.status.Which.TheVariants.{Source}
 use Rattle.tempura.specs.declared.status.SourceKind.{SourceKind}
@@ -44,8 +44,20 @@ module _ (words : List (List ℕ)) (held : Option Held) (old new : Option (List 
   pub undetermined : (result : Status) → Answers words held old new result → (state : ℕ) (cell : Cell) → result ≡ Undetermined state cell → Prints words held old new (Undetermined state cell) (λ p printed. EndSays p printed (Undetermined state cell))
   undetermined result a state cell is = run_alone (Undetermined state cell) (λ r. r) (subst (Answers words held old new) is a)
 
+  pub reduction_limit : (result : Status) → Answers words held old new result → (state : ℕ) → result ≡ ReductionLimit state → Prints words held old new (ReductionLimit state) (λ p printed. EndSays p printed (ReductionLimit state))
+  reduction_limit result a state is = run_alone (ReductionLimit state) (λ r. r) (subst (Answers words held old new) is a)
+
   pub number_limit : (result : Status) → Answers words held old new result → (state : ℕ) → result ≡ NumberLimit state → Prints words held old new (NumberLimit state) (λ p printed. EndSays p printed (NumberLimit state))
   number_limit result a state is = run_alone (NumberLimit state) (λ r. r) (subst (Answers words held old new) is a)
+
+  pub list_limit : (result : Status) → Answers words held old new result → (state : ℕ) → result ≡ ListLimit state → Prints words held old new (ListLimit state) (λ p printed. EndSays p printed (ListLimit state))
+  list_limit result a state is = run_alone (ListLimit state) (λ r. r) (subst (Answers words held old new) is a)
+
+  pub call_limit : (result : Status) → Answers words held old new result → (state : ℕ) → result ≡ CallLimit state → Prints words held old new (CallLimit state) (λ p printed. EndSays p printed (CallLimit state))
+  call_limit result a state is = run_alone (CallLimit state) (λ r. r) (subst (Answers words held old new) is a)
+
+  pub nest_limit : (result : Status) → Answers words held old new result → (state : ℕ) → result ≡ NestLimit state → Prints words held old new (NestLimit state) (λ p printed. EndSays p printed (NestLimit state))
+  nest_limit result a state is = run_alone (NestLimit state) (λ r. r) (subst (Answers words held old new) is a)
 
   pub words_refused_only : (result : Status) → Answers words held old new result → result ≡ WordsRefused → wanted_of words ≡ None
   words_refused_only result a is = refusal_alone WordsRefused (λ p ps r. r) (subst (Answers words held old new) is a)
@@ -70,7 +82,13 @@ module _ (words : List (List ℕ)) (held : Option Held) (old new : Option (List 
   words_refused (Finished n) a none = accepted_is _ _ (run_alone (Finished n) (λ r. r) a).source none
   words_refused (Contradictory state clash) a none = accepted_is _ _ (run_alone (Contradictory state clash) (λ r. r) a).source none
   words_refused (Undetermined state cell) a none = accepted_is _ _ (run_alone (Undetermined state cell) (λ r. r) a).source none
+  words_refused (ReductionLimit state) a none = accepted_is _ _ (run_alone (ReductionLimit state) (λ r. r) a).source none
+  words_refused (StateLimit states) a none = accepted_is _ _ (run_alone (StateLimit states) (λ r. r) a).source none
+  words_refused (InputMissing state port) a none = accepted_is _ _ (run_alone (InputMissing state port) (λ r. r) a).source none
   words_refused (NumberLimit state) a none = accepted_is _ _ (run_alone (NumberLimit state) (λ r. r) a).source none
+  words_refused (ListLimit state) a none = accepted_is _ _ (run_alone (ListLimit state) (λ r. r) a).source none
+  words_refused (CallLimit state) a none = accepted_is _ _ (run_alone (CallLimit state) (λ r. r) a).source none
+  words_refused (NestLimit state) a none = accepted_is _ _ (run_alone (NestLimit state) (λ r. r) a).source none
 
   told_accepted : (P : List ℕ → Type 0) (T : Type 0) → IsTold words held P → wanted_of words ≡ None → T
   told_accepted P T t none = let bad : Some t.wanted ≡ None = sym t.accepted ∙ none in cc
@@ -94,7 +112,13 @@ module _ (words : List (List ℕ)) (held : Option Held) (old new : Option (List 
   too_long (Finished n) a t = long_ran _ (Finished n) (run_alone (Finished n) (λ r. r) a) t
   too_long (Contradictory state clash) a t = long_ran _ (Contradictory state clash) (run_alone (Contradictory state clash) (λ r. r) a) t
   too_long (Undetermined state cell) a t = long_ran _ (Undetermined state cell) (run_alone (Undetermined state cell) (λ r. r) a) t
+  too_long (ReductionLimit state) a t = long_ran _ (ReductionLimit state) (run_alone (ReductionLimit state) (λ r. r) a) t
+  too_long (StateLimit states) a t = long_ran _ (StateLimit states) (run_alone (StateLimit states) (λ r. r) a) t
+  too_long (InputMissing state port) a t = long_ran _ (InputMissing state port) (run_alone (InputMissing state port) (λ r. r) a) t
   too_long (NumberLimit state) a t = long_ran _ (NumberLimit state) (run_alone (NumberLimit state) (λ r. r) a) t
+  too_long (ListLimit state) a t = long_ran _ (ListLimit state) (run_alone (ListLimit state) (λ r. r) a) t
+  too_long (CallLimit state) a t = long_ran _ (CallLimit state) (run_alone (CallLimit state) (λ r. r) a) t
+  too_long (NestLimit state) a t = long_ran _ (NestLimit state) (run_alone (NestLimit state) (λ r. r) a) t
 
   refused_ran : (T : Type 0) (status : Status) (refused : Refused) → Prints words held old new status (λ p printed. EndSays p printed status) → IsTold words held (HoldsRefused refused) → T
   refused_ran T status refused p t = let told = ran_told status (HoldsRefused refused) p t in absurd (program_or_refused told.1.0 told.0 refused told.1.1.1 told.1.2.1)
@@ -114,14 +138,26 @@ module _ (words : List (List ℕ)) (held : Option Held) (old new : Option (List 
   source_refused (Finished n) a refused t = refused_ran _ (Finished n) refused (run_alone (Finished n) (λ r. r) a) t
   source_refused (Contradictory state clash) a refused t = refused_ran _ (Contradictory state clash) refused (run_alone (Contradictory state clash) (λ r. r) a) t
   source_refused (Undetermined state cell) a refused t = refused_ran _ (Undetermined state cell) refused (run_alone (Undetermined state cell) (λ r. r) a) t
+  source_refused (ReductionLimit state) a refused t = refused_ran _ (ReductionLimit state) refused (run_alone (ReductionLimit state) (λ r. r) a) t
+  source_refused (StateLimit states) a refused t = refused_ran _ (StateLimit states) refused (run_alone (StateLimit states) (λ r. r) a) t
+  source_refused (InputMissing state port) a refused t = refused_ran _ (InputMissing state port) refused (run_alone (InputMissing state port) (λ r. r) a) t
   source_refused (NumberLimit state) a refused t = refused_ran _ (NumberLimit state) refused (run_alone (NumberLimit state) (λ r. r) a) t
+  source_refused (ListLimit state) a refused t = refused_ran _ (ListLimit state) refused (run_alone (ListLimit state) (λ r. r) a) t
+  source_refused (CallLimit state) a refused t = refused_ran _ (CallLimit state) refused (run_alone (CallLimit state) (λ r. r) a) t
+  source_refused (NestLimit state) a refused t = refused_ran _ (NestLimit state) refused (run_alone (NestLimit state) (λ r. r) a) t
 
   -- a source that is a program
   pub program_runs : (program : ProgramTree) (result : Status) → Answers words held old new result → IsTold words held (HoldsProgram program) → IsEndOfRun result ⊎ HasFailed result
   program_runs program (Finished n) a t = inl tt
   program_runs program (Contradictory state clash) a t = inl tt
   program_runs program (Undetermined state cell) a t = inl tt
+  program_runs program (ReductionLimit state) a t = inl tt
+  program_runs program (StateLimit states) a t = inl tt
+  program_runs program (InputMissing state port) a t = inl tt
   program_runs program (NumberLimit state) a t = inl tt
+  program_runs program (ListLimit state) a t = inl tt
+  program_runs program (CallLimit state) a t = inl tt
+  program_runs program (NestLimit state) a t = inl tt
   program_runs program (ReadFault Source) a t = inr (inl refl)
   program_runs program WriteFault a t = inr (inr (inl refl))
   program_runs program NoMemory a t = inr (inr (inr refl))

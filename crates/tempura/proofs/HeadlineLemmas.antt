@@ -1,7 +1,7 @@
 -- What the end of a run says of every interval.
 use Rattle.std.proofs.Common.{◌≡◌, ◌+◌, ℕ, suc, List, [], ◌∷◌, sym, subst, arith}
 use Rattle.tp_kernel.specs.Built.{IsBuilt}
-use Rattle.tp_kernel.specs.declared.formula.LimitKind.TheVariants.{Number}
+use Rattle.tp_kernel.specs.declared.formula.LimitKind.TheVariants as limit
 use Rattle.tp_run.specs.declared.turn.Picture.{Picture}
 use Rattle.tp_run.specs.declared.turn.Turn.TheVariants as turn
 use Rattle.tp_run.specs.Residual.{Residual}
@@ -10,7 +10,7 @@ use Rattle.tp_run.specs.History.{StatesLead, RunEndsWith}
 use Rattle.tp_run.specs.History as history
 use Rattle.tp_run.proofs.HistoryLemmas.{end_means}
 use Rattle.tempura.specs.declared.status.Status.{Status}
-use Rattle.tempura.specs.declared.status.Status.TheVariants.{Finished, Contradictory, Undetermined, NumberLimit, SourceRefused, WordsRefused, TooLong, ReadFault, WriteFault, NoMemory}
+use Rattle.tempura.specs.declared.status.Status.TheVariants.{Finished, Contradictory, Undetermined, StateLimit, ReductionLimit, NumberLimit, ListLimit, CallLimit, NestLimit, InputMissing, SourceRefused, WordsRefused, TooLong, ReadFault, WriteFault, NoMemory}
 use Rattle.tp_check.specs.Program.{ProgramTree}
 use Rattle.tempura.specs.Run.{meant_by, beginning, Goes, RunEnds, EndSays}
 
@@ -47,8 +47,18 @@ end_says program pictures (Undetermined state cell) built e =
     let b = s.becomes in
     end_means program.names program.main built pictures (turn.Undetermined state cell)
     (s.last, leads 0 (beginning program) pictures s.last s.settles, record { at = b.at; count = b.count; picks = b.picks; rest = b.rest; open_cell = b.becomes.0 }, b.becomes.1)
+end_says program pictures (ReductionLimit state) built e =
+    let s = e.1 in end_means program.names program.main built pictures (turn.Over state limit.Reductions) (s.last, leads 0 (beginning program) pictures s.last s.settles, s.becomes.0, s.becomes.1)
 end_says program pictures (NumberLimit state) built e =
-    let s = e.1 in end_means program.names program.main built pictures (turn.Over state Number) (s.last, leads 0 (beginning program) pictures s.last s.settles, s.becomes.0, s.becomes.1)
+    let s = e.1 in end_means program.names program.main built pictures (turn.Over state limit.Number) (s.last, leads 0 (beginning program) pictures s.last s.settles, s.becomes.0, s.becomes.1)
+end_says program pictures (ListLimit state) built e =
+    let s = e.1 in end_means program.names program.main built pictures (turn.Over state limit.List) (s.last, leads 0 (beginning program) pictures s.last s.settles, s.becomes.0, s.becomes.1)
+end_says program pictures (CallLimit state) built e =
+    let s = e.1 in end_means program.names program.main built pictures (turn.Over state limit.Calls) (s.last, leads 0 (beginning program) pictures s.last s.settles, s.becomes.0, s.becomes.1)
+end_says program pictures (NestLimit state) built e =
+    let s = e.1 in end_means program.names program.main built pictures (turn.Over state limit.Nest) (s.last, leads 0 (beginning program) pictures s.last s.settles, s.becomes.0, s.becomes.1)
+end_says program pictures (StateLimit states) built e = absurd e
+end_says program pictures (InputMissing state port) built e = absurd e
 end_says program pictures (SourceRefused line column kind) built e = tt
 end_says program pictures WordsRefused built e = tt
 end_says program pictures (TooLong which) built e = tt

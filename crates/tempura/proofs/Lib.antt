@@ -1,3 +1,6 @@
+pub mod FactLemmas
+pub mod LineLemmas
+pub mod LineExampleLemmas
 pub mod WordsLemmas
 pub mod AskedLemmas
 pub mod SourceLemmas

@@ -1,22 +1,86 @@
 -- Reading a text back: words end where another byte comes, lines where a line feed comes.
-use Rattle.std.proofs.Common.{◌≡◌, ◌<◌, ◌+◌, ◌^◌, ◌%◌, ℤ, pos, negsuc, ℕ, suc, true, false, IsTrue, List, [], ◌∷◌, ◌++◌, drop, All, codes, refl, sym, ap, ◌∙◌, subst, arith, tests, append_assoc}
+use Rattle.std.proofs.Common.{◌≡◌, ◌<◌, ◌+◌, ◌^◌, ◌%◌, ◌&&◌, inl, inr, ℤ, pos, negsuc, ℕ, suc, nat_lt, length, Bool, true, false, cond, IsTrue, List, [], ◌∷◌, ◌++◌, drop, All, Option, None, Some, codes, refl, sym, ap, ◌∙◌, subst, arith, tests, append_assoc}
 use Rattle.std.specs.List.{flat_map}
 use Rattle.std.specs.Fmt.{decimal, signed_decimal}
+use Rattle.std.proofs.lemmas.Bool.{or_from, and_left, and_right}
+use Rattle.std.proofs.Math.Bool.{and-false}
 use Rattle.std.proofs.lemmas.List.{append-nil}
 use Rattle.std.proofs.lemmas.List.Elements.{All-head, All-tail}
 use Rattle.std.proofs.lemmas.Fmt.{decimal_by_steps, decimal_injective, signed_decimal_injective}
 use lib.Signed.{mag}
 use Rattle.tp_value.specs.Number.{IsNumber}
 use Rattle.tp_value.specs.Globals.{variable}
+use Rattle.tp_value.specs.Tree.{num}
+use Rattle.tp_value.specs.declared.path.VarId.{VarId}
+use Rattle.tp_value.specs.declared.path.Path.{Path}
 use Rattle.tp_value.specs.declared.path.Fact.{Fact}
+use Rattle.tp_value.specs.declared.value.Shape.{Shape}
 use Rattle.tp_value.specs.declared.value.Shape.TheVariants.{Num}
+use Rattle.tp_store.specs.Facts.{same_variable, leaves_out, kept_shape, is_excluded}
+use Rattle.tp_store.specs.Known.{NoClash, Full, absent, value, full, limited, whole, with_shape, deepest}
+use Rattle.tp_store.proofs.Members.{In, in_kept}
 use Rattle.tp_run.specs.declared.turn.Picture.{Picture}
 use Rattle.tempura.specs.declared.status.Status.{Status}
-use Rattle.tempura.specs.declared.status.Status.TheVariants.{Finished, Contradictory, Undetermined, NumberLimit}
-use Rattle.tempura.specs.Texts.{name_of, part_text, state_line, state_lines}
+use Rattle.tempura.specs.declared.status.Status.TheVariants.{Finished, Contradictory, Undetermined, StateLimit, ReductionLimit, NumberLimit, ListLimit, CallLimit, NestLimit, InputMissing}
+use Rattle.tempura.specs.Texts.{name_of, path_text, fact_text}
+use Rattle.tempura.specs.Line.{is_written, is_value, known_text, parts_after, parts_text, state_line, state_lines}
 use Rattle.tempura.specs.EndLine.{end_line}
 use Rattle.tempura.specs.Answer.{IsEndOfRun}
 use Rattle.tempura.specs.ReadBack.{is_word_byte, IsWord, AreNames, IsNumeric, IsNumericState, shown}
+
+-- a fact in a state's line stands after a space
+abbrev part_text : List (List ℕ) → Fact → List ℕ
+part_text names fact = codes " " ++ fact_text names fact
+
+-- a variable as a whole is inside of nothing
+excludes_none : (at : List ℕ) (sh : Shape) → leaves_out at sh [] ≡ false
+excludes_none [] sh = refl
+excludes_none (j ∷ js) sh = refl
+
+not_excluded : (all : List Fact) (x : VarId) → is_excluded all (record { var = x; at = [] }) ≡ false
+not_excluded [] x = refl
+not_excluded (f ∷ fs) x =
+    or_from _ _ (ap (λ b. same_variable f.path.var x && b) (excludes_none f.path.at f.shape) ∙ and-false (same_variable f.path.var x)) (not_excluded fs x)
+
+not_less : (n : ℕ) → nat_lt n 0 ≡ false
+not_less n = grind (arith, tests)
+
+not_inside : (last : Option Path) (x : VarId) → is_written last (record { var = x; at = [] }) ≡ false
+not_inside None x = refl
+not_inside (Some p) x = and_right (same_variable p.var x) _ (and_left _ _ (not_less (length p.at)))
+
+-- so a variable that is kept with a number has this value
+full_number : (all : List Fact) (x : VarId) (n : ℤ) → kept_shape all (record { var = x; at = [] }) ≡ Some (Num n) → full all (record { var = x; at = [] }) ≡ value (num n)
+full_number all x n h =
+    let p : Path = record { var = x; at = [] } in
+    ap (λ b. cond b absent (limited (whole (suc (deepest all)) all p))) (not_excluded all x) ∙ ap (λ o. limited (with_shape (whole (deepest all) all) p o)) h
+
+numeric_known : (names : List (List ℕ)) (all : List Fact) (f : Fact) → NoClash all → In f all → IsNumeric names f → known_text names f (full all f.path) ≡ fact_text names f
+numeric_known names all f n i p =
+    let x = variable (name_of names p.place) p.place in
+    let kept : kept_shape all (record { var = x; at = [] }) ≡ Some (Num p.number) = subst (λ (g : Fact). kept_shape all g.path ≡ Some g.shape) p.is (in_kept all f n i) in
+    let g : Fact = record { path = record { var = x; at = [] }; shape = Num p.number } in
+    let here : known_text names g (full all g.path) ≡ fact_text names g = ap (known_text names g) (full_number all x p.number kept) ∙ sym (append_assoc (path_text names g.path) (codes "=") (signed_decimal p.number)) in
+    subst (λ (g : Fact). known_text names g (full all g.path) ≡ fact_text names g) (sym p.is) here
+
+numeric_apart : (names : List (List ℕ)) (last : Option Path) (f : Fact) → IsNumeric names f → is_written last f.path ≡ false
+numeric_apart names last f p = subst (λ (g : Fact). is_written last g.path ≡ false) (sym p.is) (not_inside last (variable (name_of names p.place) p.place))
+
+-- the parts of numeric facts are those of each
+numeric_parts : (names : List (List ℕ)) (all : List Fact) (last : Option Path) (fs : List Fact) → NoClash all → ((f : Fact) → In f fs → In f all) → All (IsNumeric names) fs
+    → parts_after names all last fs ≡ flat_map (part_text names) fs
+numeric_parts names all last [] n i p = refl
+numeric_parts names all last (f ∷ fs) n i p =
+    let known = full all f.path in
+    let numeric = All-head (IsNumeric names) f fs p in
+    let next : Option Path = cond (is_value known) (Some f.path) last in
+    let rest : parts_after names all next fs ≡ flat_map (part_text names) fs = numeric_parts names all next fs n (λ g h. i g (inr h)) (All-tail (IsNumeric names) f fs p) in
+    ap (λ b. cond b (parts_after names all last fs) (codes " " ++ known_text names f known ++ parts_after names all next fs)) (numeric_apart names last f numeric)
+    ∙ (ap (λ t. codes " " ++ t ++ parts_after names all next fs) (numeric_known names all f n (i f (inl refl)) numeric)
+    ∙ ap (λ t. codes " " ++ fact_text names f ++ t) rest)
+
+numeric_line : (names : List (List ℕ)) (p : Picture) → IsNumericState names p → parts_text names p.facts ≡ flat_map (part_text names) p.facts
+numeric_line names p n = numeric_parts names p.facts None p.facts n.no_clash (λ f i. i) n.facts
 
 -- the text does not begin with a byte of a word
 abbrev EndsWord : List ℕ → Type 0
@@ -105,7 +169,7 @@ parts_read names (f ∷ fs) (g ∷ gs) r s are p q e =
     (cc (one.0, more.0), more.1)
 
 -- a state's line in pieces
-line_is : (names : List (List ℕ)) (p : Picture) (r : List ℕ) → state_line names p ++ r ≡ codes "state " ++ (decimal p.state ++ (58 ∷ (flat_map (part_text names) p.facts ++ (10 ∷ r))))
+line_is : (names : List (List ℕ)) (p : Picture) (r : List ℕ) → state_line names p ++ r ≡ codes "state " ++ (decimal p.state ++ (58 ∷ (parts_text names p.facts ++ (10 ∷ r))))
 line_is names p r = simp append_assoc
 
 -- a state's line, and what follows it
@@ -114,25 +178,48 @@ line_read : (names : List (List ℕ)) (p q : Picture) (r s : List ℕ) → AreNa
 line_read names p q r s are n m e =
     let pieces = sym (line_is names p r) ∙ (e ∙ line_is names q s) in
     let numbered = word_read (decimal p.state) (decimal q.state) _ _ (decimal_is_word p.state n.state) (decimal_is_word q.state m.state) refl refl (ap (drop 6) pieces) in
-    let read = parts_read names p.facts q.facts r s are n.facts m.facts (rest_is _ _ _ _ numbered.1) in
+    let parts = sym (ap (λ l. l ++ (10 ∷ r)) (numeric_line names p n)) ∙ (rest_is _ _ _ _ numbered.1 ∙ ap (λ l. l ++ (10 ∷ s)) (numeric_line names q m)) in
+    let read = parts_read names p.facts q.facts r s are n.facts m.facts parts in
     (decimal_injective p.state q.state n.state m.state numbered.0, read.0, read.1)
 
 head_is : (x y : ℕ) (xs ys : List ℕ) → x ∷ xs ≡ y ∷ ys → x ≡ y
 head_is x y xs ys e = cc
 
--- an end line is no state's line, which begins with `s`
-end_apart : (names : List (List ℕ)) (s : Status) (p : Picture) (r : List ℕ) → IsEndOfRun s → end_line names s ≡ state_line names p ++ r → ⊥
-end_apart names (Finished n) p r h e = let bad : 102 ≡ 115 = head_is _ _ _ _ (e ∙ line_is names p r) in absurd (omega (arith, bad))
-end_apart names (Contradictory n clash) p r h e = let bad : 99 ≡ 115 = head_is _ _ _ _ (e ∙ line_is names p r) in absurd (omega (arith, bad))
-end_apart names (Undetermined n cell) p r h e = let bad : 117 ≡ 115 = head_is _ _ _ _ (e ∙ line_is names p r) in absurd (omega (arith, bad))
-end_apart names (NumberLimit n) p r h e = let bad : 110 ≡ 115 = head_is _ _ _ _ (e ∙ line_is names p r) in absurd (omega (arith, bad))
-end_apart names s p r h e = absurd h
+-- a decimal begins with no letter
+abbrev BeginsLow : List ℕ → Type 0
+BeginsLow [] = ⊥
+BeginsLow (c ∷ cs) = c < 58
+
+BeginsLow-snoc : (ds : List ℕ) (c : ℕ) → BeginsLow ds → BeginsLow (ds ++ c ∷ [])
+BeginsLow-snoc [] c h = absurd h
+BeginsLow-snoc (d ∷ ds) c h = h
+
+decimal_low : (n : ℕ) → n < 2 ^ 64 → BeginsLow (decimal n)
+decimal_low n h = decimal_by_steps (λ n ds. BeginsLow ds) (λ n low. omega arith) (λ n ds high p. BeginsLow-snoc ds (48 + n % 10) p) n h
+
+low_apart : (ds r xs : List ℕ) → BeginsLow ds → 108 ∷ xs ≡ ds ++ r → ⊥
+low_apart [] r xs h e = h
+low_apart (d ∷ ds) r xs h e = let bad : 108 ≡ d = head_is _ _ _ _ e in absurd (omega (arith, h, bad))
+
+-- an end line is no state's line, which begins with `state ` and a number
+end_apart : (names : List (List ℕ)) (s : Status) (p : Picture) (r : List ℕ) → p.state < 2 ^ 64 → IsEndOfRun s → end_line names s ≡ state_line names p ++ r → ⊥
+end_apart names (Finished n) p r low h e = let bad : 102 ≡ 115 = head_is _ _ _ _ (e ∙ line_is names p r) in absurd (omega (arith, bad))
+end_apart names (Contradictory n clash) p r low h e = let bad : 99 ≡ 115 = head_is _ _ _ _ (e ∙ line_is names p r) in absurd (omega (arith, bad))
+end_apart names (Undetermined n cell) p r low h e = let bad : 117 ≡ 115 = head_is _ _ _ _ (e ∙ line_is names p r) in absurd (omega (arith, bad))
+end_apart names (ReductionLimit n) p r low h e = let bad : 114 ≡ 115 = head_is _ _ _ _ (e ∙ line_is names p r) in absurd (omega (arith, bad))
+end_apart names (NumberLimit n) p r low h e = let bad : 110 ≡ 115 = head_is _ _ _ _ (e ∙ line_is names p r) in absurd (omega (arith, bad))
+end_apart names (ListLimit n) p r low h e = let bad : 108 ≡ 115 = head_is _ _ _ _ (e ∙ line_is names p r) in absurd (omega (arith, bad))
+end_apart names (CallLimit n) p r low h e = let bad : 99 ≡ 115 = head_is _ _ _ _ (e ∙ line_is names p r) in absurd (omega (arith, bad))
+end_apart names (NestLimit n) p r low h e = let bad : 110 ≡ 115 = head_is _ _ _ _ (e ∙ line_is names p r) in absurd (omega (arith, bad))
+end_apart names (InputMissing n port) p r low h e = let bad : 105 ≡ 115 = head_is _ _ _ _ (e ∙ line_is names p r) in absurd (omega (arith, bad))
+end_apart names (StateLimit n) p r low h e = low_apart (decimal p.state) _ _ (decimal_low p.state low) (ap (drop 6) (e ∙ line_is names p r))
+end_apart names s p r low h e = absurd h
 
 pub text_read : (names : List (List ℕ)) (ps qs : List Picture) (s t : Status) → AreNames names → All (IsNumericState names) ps → All (IsNumericState names) qs → IsEndOfRun s → IsEndOfRun t
     → state_lines names ps ++ end_line names s ≡ state_lines names qs ++ end_line names t → (shown ps ≡ shown qs) × (end_line names s ≡ end_line names t)
 text_read names [] [] s t are n m h k e = (refl, e)
-text_read names [] (q ∷ qs) s t are n m h k e = absurd (end_apart names s q _ h (e ∙ append_assoc (state_line names q) _ _))
-text_read names (p ∷ ps) [] s t are n m h k e = absurd (end_apart names t p _ k (sym e ∙ append_assoc (state_line names p) _ _))
+text_read names [] (q ∷ qs) s t are n m h k e = absurd (end_apart names s q _ (All-head (IsNumericState names) q qs m).state h (e ∙ append_assoc (state_line names q) _ _))
+text_read names (p ∷ ps) [] s t are n m h k e = absurd (end_apart names t p _ (All-head (IsNumericState names) p ps n).state k (sym e ∙ append_assoc (state_line names p) _ _))
 text_read names (p ∷ ps) (q ∷ qs) s t are n m h k e =
     let whole = sym (append_assoc (state_line names p) _ _) ∙ (e ∙ append_assoc (state_line names q) _ _) in
     let one = line_read names p q _ _ are (All-head (IsNumericState names) p ps n) (All-head (IsNumericState names) q qs m) whole in

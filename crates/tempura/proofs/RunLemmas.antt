@@ -8,7 +8,7 @@ use Rattle.tp_run.specs.declared.turn.Turn.TheVariants as turn
 use Rattle.tp_run.specs.Residual.{Residual}
 use Rattle.tp_run.specs.States.{Standing, open_at, StateBecomes, advanced}
 use Rattle.tp_run.specs.Runs.{Answers, work_of, LessToDo}
-use Rattle.tempura.specs.Texts.{state_line, state_lines}
+use Rattle.tempura.specs.Line.{state_line, state_lines}
 use Rattle.tempura.specs.Written.{Wrote}
 use Rattle.tp_check.specs.Program.{ProgramTree}
 use Rattle.tempura.specs.Run.{beginning, Goes}

@@ -10,11 +10,14 @@ use Rattle.tp_lex.specs.declared.refusal.LexRefusal.{LexRefusal}
 use Rattle.tp_lex.specs.declared.refusal.LexRefusal.TheVariants as lex
 use Rattle.tp_lex.specs.Tokens.{AreTokens, IsRefusedUnlessMemory}
 use Rattle.tp_tree.specs.Tree.{SourceTree}
+use Rattle.tp_parse.specs.declared.refusal.ParseRefusal.{ParseRefusal}
+use Rattle.tp_parse.specs.declared.refusal.ParseRefusal.TheVariants as parse
 use Rattle.tp_parse.specs.Grammar.{Accepts}
+use Rattle.tp_parse.specs.Source.{outcome_of}
 use Rattle.tp_check.specs.Program.{program_of}
 use Rattle.tp_check.specs.declared.refusal.CheckRefusal.{CheckRefusal}
 use Rattle.tp_check.specs.declared.refusal.CheckRefusal.TheVariants as check
-use Rattle.tempura.specs.Source.{IsRefusedAt, lexer_refusal, checker_refusal}
+use Rattle.tempura.specs.Source.{IsRefusedAt, lexer_refusal, parser_refusal, checker_refusal}
 use Rattle.tempura.specs.Parts.{refusal_end, IsReadRefusal, IsRefusal}
 
 -- the source is what was read
@@ -43,6 +46,13 @@ no_tokens source (lex.OpenComment at) g r is = inl (record { refusal = lex.OpenC
 no_tokens source (lex.NumberTooLarge at) g r is = inl (record { refusal = lex.NumberTooLarge at; is_refused = g; answer = is })
 no_tokens source (lex.NameTooLong at) g r is = inl (record { refusal = lex.NameTooLong at; is_refused = g; answer = is })
 no_tokens source lex.NoMemory g r is = absurd (cc (is))
+
+pub no_tree : (source : List ℕ) (tokens : List Token) (refusal : ParseRefusal) → AreTokens source tokens → (refusal ≢ parse.NoMemory → outcome_of tokens ≡ Err refusal)
+    → (r : Refused) → parser_refusal source tokens refusal ≡ Some r → IsRefusedAt source r
+no_tree source tokens (parse.Unexpected i) are g r is = inr (inl (record { tokens = tokens; refusal = parse.Unexpected i; are_tokens = are; outcome = g (λ e. cc (e)); answer = is }))
+no_tree source tokens parse.Unfinished are g r is = inr (inl (record { tokens = tokens; refusal = parse.Unfinished; are_tokens = are; outcome = g (λ e. cc (e)); answer = is }))
+no_tree source tokens (parse.TooDeep i) are g r is = inr (inl (record { tokens = tokens; refusal = parse.TooDeep i; are_tokens = are; outcome = g (λ e. cc (e)); answer = is }))
+no_tree source tokens parse.NoMemory are g r is = absurd (cc (is))
 
 pub not_run : (source : List ℕ) (tokens : List Token) (tree : SourceTree) (refusal : CheckRefusal) → AreTokens source tokens → Accepts tokens tree → (refusal ≢ check.NoMemory → program_of tree ≡ Err refusal)
     → (r : Refused) → checker_refusal source refusal ≡ Some r → IsRefusedAt source r

@@ -7,11 +7,11 @@ use Rattle.tp_meaning.specs.Interval.{ProgramTree as Meant}
 use Rattle.tempura.specs.declared.refused.Refused.{Refused}
 use Rattle.tempura.specs.Source.{IsProgram, IsRefusedAt}
 use Rattle.tempura.specs.declared.status.Status.{Status}
-use Rattle.tempura.specs.declared.status.Status.TheVariants.{Finished, Contradictory, Undetermined, NumberLimit, SourceRefused, WordsRefused, TooLong, ReadFault, WriteFault, NoMemory}
+use Rattle.tempura.specs.declared.status.Status.TheVariants.{Finished, Contradictory, Undetermined, StateLimit, ReductionLimit, NumberLimit, ListLimit, CallLimit, NestLimit, InputMissing, SourceRefused, WordsRefused, TooLong, ReadFault, WriteFault, NoMemory}
 use Rattle.tempura.specs.declared.status.Which.{Which}
 use Rattle.tempura.specs.declared.status.Which.TheVariants.{Source}
 use Rattle.tempura.specs.Words.{Wanted, wanted_of, files_of}
-use Rattle.tempura.specs.Texts.{state_lines}
+use Rattle.tempura.specs.Line.{state_lines}
 use Rattle.tempura.specs.EndLine.{end_line}
 use Rattle.tp_check.specs.Program.{ProgramTree}
 use Rattle.tempura.specs.Run.{meant_by, EndSays, RunEnds, Settles}
@@ -59,7 +59,13 @@ Refuses words held (ReadFault Source) = Sourced words held (λ source. Unit {0})
 Refuses words held (Finished length) = ⊥
 Refuses words held (Contradictory state clash) = ⊥
 Refuses words held (Undetermined state cell) = ⊥
+Refuses words held (StateLimit states) = ⊥
+Refuses words held (ReductionLimit state) = ⊥
 Refuses words held (NumberLimit state) = ⊥
+Refuses words held (ListLimit state) = ⊥
+Refuses words held (CallLimit state) = ⊥
+Refuses words held (NestLimit state) = ⊥
+Refuses words held (InputMissing state port) = ⊥
 Refuses words held WriteFault = ⊥
 Refuses words held NoMemory = ⊥
 
@@ -124,7 +130,13 @@ abbrev pub IsEndOfRun : Status → Type 0
 IsEndOfRun (Finished length) = Unit {0}
 IsEndOfRun (Contradictory state clash) = Unit {0}
 IsEndOfRun (Undetermined state cell) = Unit {0}
+IsEndOfRun (StateLimit states) = Unit {0}
+IsEndOfRun (ReductionLimit state) = Unit {0}
 IsEndOfRun (NumberLimit state) = Unit {0}
+IsEndOfRun (ListLimit state) = Unit {0}
+IsEndOfRun (CallLimit state) = Unit {0}
+IsEndOfRun (NestLimit state) = Unit {0}
+IsEndOfRun (InputMissing state port) = Unit {0}
 IsEndOfRun (SourceRefused line column kind) = ⊥
 IsEndOfRun WordsRefused = ⊥
 IsEndOfRun (TooLong which) = ⊥

@@ -1,6 +1,8 @@
 pub mod Words
 pub mod Reading
 pub mod Texts
+pub mod Line
+pub mod LineExamples
 pub mod EndLine
 pub mod Written
 pub mod Run

@@ -1,8 +1,10 @@
 -- What the parts of a call answer.
 use Rattle.std.specs.Prelude.{◌≡◌, ◌⊎◌, ℕ, List, take, Option, None, Some}
+use Rattle.tp_kernel.specs.declared.formula.LimitKind.{LimitKind}
+use Rattle.tp_kernel.specs.declared.formula.LimitKind.TheVariants as limit
 use Rattle.tp_io.specs.Devices.{Held}
 use Rattle.tempura.specs.declared.status.Status.{Status}
-use Rattle.tempura.specs.declared.status.Status.TheVariants.{SourceRefused, WriteFault, NoMemory}
+use Rattle.tempura.specs.declared.status.Status.TheVariants.{ReductionLimit, NumberLimit, ListLimit, CallLimit, NestLimit, SourceRefused, WriteFault, NoMemory}
 use Rattle.tempura.specs.declared.refused.Refused.{Refused}
 use Rattle.tempura.specs.EndLine.{end_line}
 use Rattle.tempura.specs.Written.{Wrote}
@@ -17,6 +19,14 @@ status_of refused = SourceRefused refused.line refused.column refused.kind
 abbrev pub refusal_end : Option Refused → Status
 refusal_end None = NoMemory
 refusal_end (Some refused) = status_of refused
+
+-- the status of a run that passes a limit in this state
+abbrev pub limit_end : ℕ → LimitKind → Status
+limit_end state limit.Reductions = ReductionLimit state
+limit_end state limit.Number = NumberLimit state
+limit_end state limit.List = ListLimit state
+limit_end state limit.Calls = CallLimit state
+limit_end state limit.Nest = NestLimit state
 
 -- memory was wanted, or a source is refused there for this cause
 abbrev pub IsReadRefusal : List ℕ → Status → Type 0

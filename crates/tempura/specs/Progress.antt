@@ -1,6 +1,6 @@
 -- What a run has written, state by state.
 use Rattle.std.specs.Prelude.{◌≡◌, ◌⊎◌, ℕ, List, length, take, Option, Some, None, Result, Ok, Err}
-use Rattle.tp_kernel.specs.declared.formula.LimitKind.TheVariants.{Number}
+use Rattle.tp_kernel.specs.declared.formula.LimitKind.TheVariants as limit
 use Rattle.tp_io.specs.declared.devices.WriteRefusal.{WriteRefusal}
 use Rattle.tp_io.specs.declared.devices.WriteRefusal.TheVariants as sink
 use Rattle.tp_run.specs.declared.turn.Picture.{Picture}
@@ -10,8 +10,8 @@ use Rattle.tp_run.specs.Residual.{Residual}
 use Rattle.tp_run.specs.States.{Standing, open_at}
 use Rattle.tp_run.specs.Runs.{Answers}
 use Rattle.tempura.specs.declared.status.Status.{Status}
-use Rattle.tempura.specs.declared.status.Status.TheVariants.{Finished, Contradictory, Undetermined, NumberLimit, SourceRefused, WordsRefused, TooLong, ReadFault, WriteFault, NoMemory}
-use Rattle.tempura.specs.Texts.{state_line, state_lines}
+use Rattle.tempura.specs.declared.status.Status.TheVariants.{Finished, Contradictory, Undetermined, StateLimit, ReductionLimit, NumberLimit, ListLimit, CallLimit, NestLimit, InputMissing, SourceRefused, WordsRefused, TooLong, ReadFault, WriteFault, NoMemory}
+use Rattle.tempura.specs.Line.{state_line, state_lines}
 use Rattle.tempura.specs.Written.{Wrote}
 use Rattle.tp_check.specs.Program.{ProgramTree}
 use Rattle.tempura.specs.Run.{beginning, Goes}
@@ -43,7 +43,13 @@ abbrev pub EndMade : List (List ℕ) → Place → Place → Option (List ℕ) �
 EndMade names from to before after (Finished length) = LineMade names from to (turn.Finished length) before after
 EndMade names from to before after (Contradictory state clash) = NoLineMade from to (turn.Contradictory state clash) before after
 EndMade names from to before after (Undetermined state cell) = NoLineMade from to (turn.Undetermined state cell) before after
-EndMade names from to before after (NumberLimit state) = NoLineMade from to (turn.Over state Number) before after
+EndMade names from to before after (StateLimit states) = ⊥
+EndMade names from to before after (ReductionLimit state) = NoLineMade from to (turn.Over state limit.Reductions) before after
+EndMade names from to before after (NumberLimit state) = NoLineMade from to (turn.Over state limit.Number) before after
+EndMade names from to before after (ListLimit state) = NoLineMade from to (turn.Over state limit.List) before after
+EndMade names from to before after (CallLimit state) = NoLineMade from to (turn.Over state limit.Calls) before after
+EndMade names from to before after (NestLimit state) = NoLineMade from to (turn.Over state limit.Nest) before after
+EndMade names from to before after (InputMissing state port) = ⊥
 EndMade names from to before after (SourceRefused line column kind) = ⊥
 EndMade names from to before after WordsRefused = ⊥
 EndMade names from to before after (TooLong which) = ⊥

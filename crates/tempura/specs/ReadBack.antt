@@ -4,9 +4,11 @@ use Rattle.tp_value.specs.Number.{IsNumber}
 use Rattle.tp_value.specs.Globals.{variable}
 use Rattle.tp_value.specs.declared.path.Fact.{Fact}
 use Rattle.tp_value.specs.declared.value.Shape.TheVariants.{Num}
+use Rattle.tp_store.specs.Known.{NoClash}
 use Rattle.tp_run.specs.declared.turn.Picture.{Picture}
 use Rattle.tempura.specs.declared.status.Status.{Status}
-use Rattle.tempura.specs.Texts.{name_of, state_lines}
+use Rattle.tempura.specs.Texts.{name_of}
+use Rattle.tempura.specs.Line.{state_lines}
 use Rattle.tempura.specs.EndLine.{end_line}
 use Rattle.tempura.specs.Answer.{IsEndOfRun}
 
@@ -31,9 +33,10 @@ pub record IsNumeric (names : List (List ℕ)) (fact : Fact) : Type 0 where
   pub named : place < length names
   pub is : fact ≡ record { path = record { var = variable (name_of names place) place; at = [] }; shape = Num number }
 
--- a state whose facts say which numbers variables have
+-- a state whose facts say, without a clash, which numbers variables have
 pub record IsNumericState (names : List (List ℕ)) (picture : Picture) : Type 0 where
   pub state : picture.state < 2 ^ 64
+  pub no_clash : NoClash picture.facts
   pub facts : All (IsNumeric names) picture.facts
 
 -- what a state's line says: its number and its facts

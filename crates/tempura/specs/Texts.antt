@@ -1,4 +1,4 @@
--- How paths, facts, settled states, cells and clashes are written.
+-- How paths, facts, cells and clashes are written.
 use Rattle.std.specs.Prelude.{ℕ, nat_lt, nat_le, int_le, Bool, true, false, List, [], ◌++◌, length, slice_get, unwrap_or, if◌then◌else◌, codes}
 use Rattle.std.specs.List.{flat_map}
 use Rattle.std.specs.Fmt.{decimal, signed_decimal}
@@ -6,11 +6,12 @@ use Rattle.tp_value.specs.declared.path.Path.{Path}
 use Rattle.tp_value.specs.declared.path.Fact.{Fact}
 use Rattle.tp_value.specs.declared.value.Shape.{Shape}
 use Rattle.tp_value.specs.declared.value.Shape.TheVariants.{Num, Truth, Items}
-use Rattle.tp_run.specs.declared.turn.Picture.{Picture}
-use Rattle.tp_run.specs.declared.turn.Cell.{Cell}
-use Rattle.tp_run.specs.declared.turn.Cell.TheVariants.{Part, End}
-use Rattle.tp_run.specs.declared.turn.Clash.{Clash}
-use Rattle.tp_run.specs.declared.turn.Clash.TheVariants.{Facts, Marks, False}
+use Rattle.tp_kernel.specs.declared.formula.FaultKind.{FaultKind}
+use Rattle.tp_kernel.specs.declared.formula.FaultKind.TheVariants.{WrongKind, ZeroDivisor, NoElement}
+use Rattle.tp_scene.specs.declared.answer.Cell.{Cell}
+use Rattle.tp_scene.specs.declared.answer.Cell.TheVariants.{Part, End}
+use Rattle.tp_scene.specs.declared.answer.Clash.{Clash}
+use Rattle.tp_scene.specs.declared.answer.Clash.TheVariants.{Facts, Marks, False, NoValue}
 
 -- the name of the global variable with that number; a number that no variable has is not written
 abbrev pub name_of : List (List ℕ) → ℕ → List ℕ
@@ -35,17 +36,6 @@ shaped_text path (Items n) = codes "|" ++ path ++ codes "|=" ++ decimal n
 
 abbrev pub fact_text : List (List ℕ) → Fact → List ℕ
 fact_text names fact = shaped_text (path_text names fact.path) fact.shape
-
--- a fact in a state's line stands after a space
-abbrev pub part_text : List (List ℕ) → Fact → List ℕ
-part_text names fact = codes " " ++ fact_text names fact
-
--- The line of a settled state: its number and its facts in order.
-abbrev pub state_line : List (List ℕ) → Picture → List ℕ
-state_line names picture = codes "state " ++ decimal picture.state ++ codes ":" ++ flat_map (part_text names) picture.facts ++ codes "\n"
-
-abbrev pub state_lines : List (List ℕ) → List Picture → List ℕ
-state_lines names pictures = flat_map (state_line names) pictures
 
 abbrev pub cell_text : List (List ℕ) → Cell → List ℕ
 cell_text names (Part path) = path_text names path
@@ -73,7 +63,14 @@ comes_first a b =
 abbrev pub pair_text : List ℕ → List ℕ → List ℕ
 pair_text first second = first ++ codes " and " ++ second
 
+-- why an expression has no value
+abbrev pub fault_text : FaultKind → List ℕ
+fault_text WrongKind = codes "wrong kind"
+fault_text ZeroDivisor = codes "zero divisor"
+fault_text NoElement = codes "no element"
+
 abbrev pub clash_text : List (List ℕ) → Clash → List ℕ
 clash_text names (Facts a b) = if comes_first a b then pair_text (fact_text names a) (fact_text names b) else pair_text (fact_text names b) (fact_text names a)
 clash_text names (Marks depth) = codes "ends and goes on at depth " ++ decimal depth
 clash_text names False = codes "false"
+clash_text names (NoValue fault) = codes "no value: " ++ fault_text fault

@@ -3,8 +3,8 @@ ghost use Rattle.std.specs.Prelude.{◌≡◌, ◌≢◌, ◌≤◌, ◌⊎◌, 
 ghost use Rattle.tp_io.specs.Devices.{Rose};
 ghost use Rattle.tp_kernel.specs.Read.{formula_tree};
 ghost use Rattle.tp_kernel.specs.Built.{IsBuilt};
-ghost use Rattle.tp_run.specs.declared.turn.Cell.{Cell};
-ghost use Rattle.tp_run.specs.declared.turn.Clash.{Clash};
+ghost use Rattle.tp_scene.specs.declared.answer.Cell.{Cell};
+ghost use Rattle.tp_scene.specs.declared.answer.Clash.{Clash};
 ghost use Rattle.tp_run.specs.History.{SatisfiedExactly, Satisfiable, Unsatisfiable, ContinuesEach};
 ghost use Rattle.tp_check.specs.Program.{program_tree};
 ghost use Rattle.tempura.specs.declared.refused.Refused.{Refused};
@@ -153,16 +153,24 @@ pub fn tempura<F: Files, K: Sink>(
     ensures held { F.held files.new ≡ F.held files.old }
 
     // The headline: where a run finishes, an interval satisfies the program exactly where it has the printed length and agrees with each
-    // printed state, with nothing shown, and there is one. Where it is contradictory there is none. Where it is undetermined, or a number
-    // is past the limit, each one that satisfies agrees with the printed states and has more states than these.
+    // printed state, with nothing shown, and there is one. Where it is contradictory there is none. Where it is undetermined, or past a
+    // limit, each one that satisfies agrees with the printed states and has more states than these.
     ensures finished { (length : ℕ) → result ≡ Status.Finished length
         → Prints words.now (F.held files.old) (K.written out.old) (K.written out.new) (Status.Finished length) (λ p printed. SatisfiedExactly p printed length × Satisfiable p) }
     ensures contradictory { (state : ℕ) (clash : Clash) → result ≡ Status.Contradictory state clash
         → Prints words.now (F.held files.old) (K.written out.old) (K.written out.new) (Status.Contradictory state clash) (λ p printed. Unsatisfiable p) }
     ensures undetermined { (state : ℕ) (cell : Cell) → result ≡ Status.Undetermined state cell
         → Prints words.now (F.held files.old) (K.written out.old) (K.written out.new) (Status.Undetermined state cell) (λ p printed. ContinuesEach p printed) }
+    ensures reduction_limit { (state : ℕ) → result ≡ Status.ReductionLimit state
+        → Prints words.now (F.held files.old) (K.written out.old) (K.written out.new) (Status.ReductionLimit state) (λ p printed. ContinuesEach p printed) }
     ensures number_limit { (state : ℕ) → result ≡ Status.NumberLimit state
         → Prints words.now (F.held files.old) (K.written out.old) (K.written out.new) (Status.NumberLimit state) (λ p printed. ContinuesEach p printed) }
+    ensures list_limit { (state : ℕ) → result ≡ Status.ListLimit state
+        → Prints words.now (F.held files.old) (K.written out.old) (K.written out.new) (Status.ListLimit state) (λ p printed. ContinuesEach p printed) }
+    ensures call_limit { (state : ℕ) → result ≡ Status.CallLimit state
+        → Prints words.now (F.held files.old) (K.written out.old) (K.written out.new) (Status.CallLimit state) (λ p printed. ContinuesEach p printed) }
+    ensures nest_limit { (state : ℕ) → result ≡ Status.NestLimit state
+        → Prints words.now (F.held files.old) (K.written out.old) (K.written out.new) (Status.NestLimit state) (λ p printed. ContinuesEach p printed) }
     ensures program_runs { (program : ProgramTree) → IsTold words.now (F.held files.old) (HoldsProgram program) → IsEndOfRun result ⊎ HasFailed result }
 
     // Refusals, each exactly, but for failed reads and writes and want of memory.

@@ -1,7 +1,8 @@
 // The end line of each status.
 ghost use Rattle.std.specs.Prelude.{◌≡◌, ◌++◌, IfOk, OnOk};
-ghost use Rattle.tempura.specs.EndLine.{end_line, last_words, state_text, place_text, which_text};
+ghost use Rattle.tempura.specs.EndLine.{end_line, last_words, state_text, reductions_text, place_text, which_text};
 
+use crate::run::REDUCTIONS;
 use crate::status::{Status, Which};
 use crate::text::{append_cell, append_clash, append_counted};
 use std::alloc::Global;
@@ -29,6 +30,14 @@ fn append_about(out: &mut Text, words: &[u8], which: Which) -> Result<(), NoMemo
     out.append(which.text().as_bytes())
 }
 
+fn append_reductions(out: &mut Text, state: u64) -> Result<(), NoMemory>
+    ensures { OnOk result (out.new ≡ out.old ++ reductions_text state) }
+{
+    append_state(out, b"reduction limit", state)?;
+    append_counted(out, b": ", REDUCTIONS)?;
+    out.append(b" reductions")
+}
+
 // The end line without its line feed.
 fn append_last_words(out: &mut Text, globals: &Globals, status: &Status) -> Result<(), NoMemory>
     ensures { OnOk result (out.new ≡ out.old ++ last_words globals.now status.now) }
@@ -45,7 +54,17 @@ fn append_last_words(out: &mut Text, globals: &Globals, status: &Status) -> Resu
             out.append(b": ")?;
             append_cell(out, globals, cell)
         }
+        Status::StateLimit { states } => append_counted(out, b"state limit: ", *states),
+        Status::ReductionLimit { state } => append_reductions(out, *state),
         Status::NumberLimit { state } => append_state(out, b"number limit", *state),
+        Status::ListLimit { state } => append_state(out, b"list limit", *state),
+        Status::CallLimit { state } => append_state(out, b"call limit", *state),
+        Status::NestLimit { state } => append_state(out, b"nest limit", *state),
+        Status::InputMissing { state, port } => {
+            append_state(out, b"input missing", *state)?;
+            out.append(b": port ")?;
+            out.append(port.as_slice())
+        }
         Status::SourceRefused { line, column, kind } => {
             append_place(out, *line, *column)?;
             out.append(b": ")?;

@@ -1,7 +1,13 @@
 // Laws of the texts.
+ghost use Rattle.tempura.specs.LineExamples.{LineExamples};
 ghost use Rattle.tempura.specs.ReadBack.{TextShowsStates};
 
 /// A text shows the states of its run: their numbers and their facts can be read back in one way only.
 pub fn text_shows_states()
     ensures { TextShowsStates }
+{}
+
+/// How the lines of some states read: a value known as a whole, a list known in part, and an item alone.
+pub fn line_examples()
+    ensures { LineExamples }
 {}

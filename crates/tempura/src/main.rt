@@ -4,6 +4,7 @@
 mod call;
 mod end_line;
 mod laws;
+mod line;
 mod refused;
 mod run;
 mod source;

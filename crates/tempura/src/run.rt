@@ -2,20 +2,24 @@
 ghost use Rattle.std.specs.Prelude.{◌≡◌, ◌≤◌, None, IfOk, IsErrOf};
 ghost use Rattle.tp_io.specs.Devices.{Rose, Writes};
 ghost use Rattle.tp_kernel.specs.Read.{formula_tree};
-ghost use Rattle.tp_kernel.specs.Built.{IsBuilt};
+ghost use Rattle.tp_kernel.specs.Built.{IsBuilt, NoneStatic};
 ghost use Rattle.tp_run.specs.Runs.{standing_of, LessToDo};
-ghost use Rattle.tempura.specs.Texts.{state_line};
+ghost use Rattle.tempura.specs.Line.{AreFactsOf, state_line};
 ghost use Rattle.tempura.specs.Progress.{TurnMade, ProgramMade};
-ghost use Rattle.tempura.specs.Places.{place_of};
+ghost use Rattle.tempura.specs.Parts.{limit_end};
+ghost use Rattle.tempura.specs.Places.{place_of, IsOver};
 
+use crate::line::state_text;
 use crate::status::Status;
-use crate::text::state_text;
 use std::alloc::Global;
 use std::rc::Rc;
 use tp_io::{Sink, WriteRefusal};
 use tp_kernel::{Formula, LimitKind};
 use tp_run::{Picture, Run, Turn};
 use tp_value::{Facts, Globals, NoMemory};
+
+/// How many reductions a state takes at most.
+pub const REDUCTIONS: u64 = 100_000;
 
 // Writes a settled state, by one write.
 fn write_state<K: Sink>(
@@ -24,12 +28,26 @@ fn write_state<K: Sink>(
     globals: &Globals,
     out: &mut K,
 ) -> Result<(), WriteRefusal>
+    requires { AreFactsOf globals.now picture.now.facts }
     ensures written { Writes (K.written out.old) (K.written out.new) (state_line globals.now picture.now) result }
     ensures later { K.faults out.old ≤ K.faults out.new }
     ensures cause { IsErrOf result WriteRefusal.Failed → Rose K.greatest (K.faults out.old) (K.faults out.new) }
 {
     let line = state_text(alloc, picture, globals)?;
     out.write(alloc, line.as_slice())
+}
+
+// The status of a run that passes a limit in this state.
+fn limit_status(state: u64, limit: LimitKind) -> Status
+    ensures { result ≡ limit_end state limit }
+{
+    match limit {
+        LimitKind::Reductions => Status::ReductionLimit { state },
+        LimitKind::Number => Status::NumberLimit { state },
+        LimitKind::List => Status::ListLimit { state },
+        LimitKind::Calls => Status::CallLimit { state },
+        LimitKind::Nest => Status::NestLimit { state },
+    }
 }
 
 // Makes the next state, and writes it where it is settled; gives the status where the run ends with it.
@@ -40,6 +58,9 @@ fn make_state<K: Sink>(
     globals: &Globals,
     out: &mut K,
 ) -> Result<Option<Status>, WriteRefusal>
+    requires states { NoneStatic globals.now }
+    requires over { IsOver globals.now (standing_of run.old) }
+    ensures over { IfOk result (λ end. end ≡ None → IsOver globals.now (standing_of run.new)) }
     ensures made { TurnMade globals.now (place_of run.old) (place_of run.new) (K.written out.old) (K.written out.new) result }
     ensures less { IfOk result (λ end. end ≡ None → LessToDo (standing_of run.old) (standing_of run.new) Turn.Went) }
     ensures later { K.faults out.old ≤ K.faults out.new }
@@ -56,10 +77,7 @@ fn make_state<K: Sink>(
         }
         Turn::Contradictory { state, clash } => Ok(Some(Status::Contradictory { state, clash })),
         Turn::Undetermined { state, cell } => Ok(Some(Status::Undetermined { state, cell })),
-        Turn::Over {
-            state,
-            limit: LimitKind::Number,
-        } => Ok(Some(Status::NumberLimit { state })),
+        Turn::Over { state, limit } => Ok(Some(limit_status(state, limit))),
     }
 }
 

@@ -3,6 +3,7 @@ ghost use Rattle.std.specs.Prelude.{◌≡◌};
 ghost use Rattle.tempura.specs.EndLine.{code_of, which_text, kind_text};
 
 use tp_run::{Cell, Clash};
+use tp_value::Text;
 
 /// A file that the words name.
 #[derive(Clone, Copy, Debug, PartialEq, Eq)]
@@ -30,6 +31,9 @@ pub enum SourceKind {
     Unexpected,
     Unfinished,
     TooDeep,
+    WrongCount,
+    NotExpression,
+    NotPlace,
     NotExecutable,
 }
 
@@ -45,6 +49,9 @@ impl SourceKind {
             SourceKind::Unexpected => "unexpected",
             SourceKind::Unfinished => "unfinished",
             SourceKind::TooDeep => "too deep",
+            SourceKind::WrongCount => "wrong count",
+            SourceKind::NotExpression => "not an expression",
+            SourceKind::NotPlace => "not a place",
             SourceKind::NotExecutable => "not executable",
         }
     }
@@ -64,8 +71,27 @@ pub enum Status {
         state: u64,
         cell: Cell,
     },
+    StateLimit {
+        states: u64,
+    },
+    ReductionLimit {
+        state: u64,
+    },
     NumberLimit {
         state: u64,
+    },
+    ListLimit {
+        state: u64,
+    },
+    CallLimit {
+        state: u64,
+    },
+    NestLimit {
+        state: u64,
+    },
+    InputMissing {
+        state: u64,
+        port: Text,
     },
     SourceRefused {
         line: u64,
@@ -92,7 +118,13 @@ impl Status {
             Status::Finished { .. } => 0,
             Status::Contradictory { .. } => 1,
             Status::Undetermined { .. } => 2,
+            Status::StateLimit { .. } => 3,
+            Status::ReductionLimit { .. } => 4,
             Status::NumberLimit { .. } => 5,
+            Status::ListLimit { .. } => 6,
+            Status::CallLimit { .. } => 7,
+            Status::NestLimit { .. } => 8,
+            Status::InputMissing { .. } => 9,
             Status::SourceRefused { .. } => 10,
             Status::WordsRefused => 12,
             Status::TooLong { .. } => 13,

@@ -1,10 +1,14 @@
 // Whole calls over files and pages in memory.
 use crate::call::tempura;
+use crate::end_line::end_text;
+use crate::status::{SourceKind, Status};
 use std::alloc::Global;
 use std::process::Abort;
 use std::test::Fail;
 use tp_io::{Content, Failure, Page, Shelf, SurePage, SureShelf};
-use tp_value::Text;
+use tp_kernel::FaultKind;
+use tp_run::Clash;
+use tp_value::{Globals, Text};
 
 fn texts(alloc: Global, words: &[&str]) -> Result<Vec<Text>, Fail> {
     let mut texts = Vec::new(alloc);
@@ -132,6 +136,71 @@ fn sources_are_refused(rt: HostRuntime) -> Result<(), Fail> {
         expect(&rt, &["run", "a.t"], source.as_bytes(), 10, text.as_str())?;
     }
     Ok(())
+}
+
+fn expect_end(
+    rt: &(impl Abort + AllocGlobal),
+    status: Status,
+    code: u8,
+    text: &str,
+) -> Result<(), Fail> {
+    let globals = Globals::new(rt.alloc())?;
+    let line = end_text(rt.alloc(), &globals, &status)?;
+    assert_eq!(rt; line.as_slice(), text.as_bytes());
+    assert_eq!(rt; status.code(), code);
+    Ok(())
+}
+
+fn expect_refusal(
+    rt: &(impl Abort + AllocGlobal),
+    kind: SourceKind,
+    text: &str,
+) -> Result<(), Fail> {
+    let status = Status::SourceRefused {
+        line: 2,
+        column: 9,
+        kind,
+    };
+    expect_end(rt, status, 10, text)
+}
+
+fn expect_no_value(
+    rt: &(impl Abort + AllocGlobal),
+    fault: FaultKind,
+    text: &str,
+) -> Result<(), Fail> {
+    let clash = Clash::NoValue(fault);
+    expect_end(rt, Status::Contradictory { state: 1, clash }, 1, text)
+}
+
+#[test]
+fn limits_are_told(rt: HostRuntime) -> Result<(), Fail> {
+    let port = Text::from_slice(rt.alloc(), b"p".as_slice())?;
+    let missing = "input missing: state 1: port p\n";
+    let reductions = "reduction limit: state 0: 100000 reductions\n";
+    expect_end(&rt, Status::StateLimit { states: 3 }, 3, "state limit: 3\n")?;
+    expect_end(&rt, Status::ReductionLimit { state: 0 }, 4, reductions)?;
+    expect_end(&rt, Status::NumberLimit { state: 0 }, 5, "number limit: state 0\n")?;
+    expect_end(&rt, Status::ListLimit { state: 0 }, 6, "list limit: state 0\n")?;
+    expect_end(&rt, Status::CallLimit { state: 2 }, 7, "call limit: state 2\n")?;
+    expect_end(&rt, Status::NestLimit { state: 0 }, 8, "nest limit: state 0\n")?;
+    expect_end(&rt, Status::InputMissing { state: 1, port }, 9, missing)
+}
+
+#[test]
+fn causes_are_told(rt: HostRuntime) -> Result<(), Fail> {
+    let count = "source refused: line 2 column 9: wrong count\n";
+    let expression = "source refused: line 2 column 9: not an expression\n";
+    let place = "source refused: line 2 column 9: not a place\n";
+    expect_refusal(&rt, SourceKind::WrongCount, count)?;
+    expect_refusal(&rt, SourceKind::NotExpression, expression)?;
+    expect_refusal(&rt, SourceKind::NotPlace, place)?;
+    let kind = "contradictory: state 1: no value: wrong kind\n";
+    let divisor = "contradictory: state 1: no value: zero divisor\n";
+    let element = "contradictory: state 1: no value: no element\n";
+    expect_no_value(&rt, FaultKind::WrongKind, kind)?;
+    expect_no_value(&rt, FaultKind::ZeroDivisor, divisor)?;
+    expect_no_value(&rt, FaultKind::NoElement, element)
 }
 
 #[test]

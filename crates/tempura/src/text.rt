@@ -1,12 +1,12 @@
-// How paths, facts, settled states, cells and clashes are written.
+// How paths, facts, cells and clashes are written.
 ghost use Rattle.std.specs.Prelude.{◌≡◌, ◌++◌, List, ℕ, IfOk, OnOk, codes};
 ghost use Rattle.std.specs.Fmt.{decimal, signed_decimal};
 ghost use Rattle.std.specs.List.{flat_map};
-ghost use Rattle.tempura.specs.Texts.{name_of, index_text, path_text, shaped_text, fact_text, part_text, state_line, cell_text, shape_comes_first, comes_first, pair_text, clash_text};
+ghost use Rattle.tempura.specs.Texts.{name_of, index_text, path_text, shaped_text, fact_text, cell_text, shape_comes_first, comes_first, pair_text, fault_text, clash_text};
 
 use itoa::Buffer;
-use std::alloc::Global;
-use tp_run::{Cell, Clash, Picture};
+use tp_kernel::FaultKind;
+use tp_run::{Cell, Clash};
 use tp_value::{Fact, Globals, NoMemory, Number, Path, Shape, Text};
 
 fn append_number(out: &mut Text, n: u64) -> Result<(), NoMemory>
@@ -48,7 +48,7 @@ fn append_index(out: &mut Text, index: u32) -> Result<(), NoMemory>
     out.append(b"]")
 }
 
-fn append_path(out: &mut Text, globals: &Globals, path: &Path) -> Result<(), NoMemory>
+pub fn append_path(out: &mut Text, globals: &Globals, path: &Path) -> Result<(), NoMemory>
     ensures { OnOk result (out.new ≡ out.old ++ path_text globals.now path.now) }
 {
     append_name(out, globals, path.var.number)?;
@@ -58,7 +58,7 @@ fn append_path(out: &mut Text, globals: &Globals, path: &Path) -> Result<(), NoM
     Ok(())
 }
 
-fn append_fact(out: &mut Text, globals: &Globals, fact: &Fact) -> Result<(), NoMemory>
+pub fn append_fact(out: &mut Text, globals: &Globals, fact: &Fact) -> Result<(), NoMemory>
     ensures { OnOk result (out.new ≡ out.old ++ fact_text globals.now fact.now) }
 {
     match fact.shape {
@@ -82,21 +82,6 @@ fn append_fact(out: &mut Text, globals: &Globals, fact: &Fact) -> Result<(), NoM
             append_number(out, u64::from(length))
         }
     }
-}
-
-/// The line of a settled state.
-pub fn state_text(alloc: Global, picture: &Picture, globals: &Globals) -> Result<Text, NoMemory>
-    ensures { IfOk result (λ text. text ≡ state_line globals.now picture.now) }
-{
-    let mut out = Text::new(alloc);
-    append_counted(&mut out, b"state ", picture.state)?;
-    out.append(b":")?;
-    for fact in &picture.facts.items {
-        out.append(b" ")?;
-        append_fact(&mut out, globals, fact)?;
-    }
-    out.append(b"\n")?;
-    Ok(out)
 }
 
 pub fn append_cell(out: &mut Text, globals: &Globals, cell: &Cell) -> Result<(), NoMemory>
@@ -142,6 +127,16 @@ fn append_pair(
     append_fact(out, globals, second)
 }
 
+fn fault_name(fault: FaultKind) -> &'static str
+    ensures { result.now ≡ fault_text fault }
+{
+    match fault {
+        FaultKind::WrongKind => "wrong kind",
+        FaultKind::ZeroDivisor => "zero divisor",
+        FaultKind::NoElement => "no element",
+    }
+}
+
 pub fn append_clash(out: &mut Text, globals: &Globals, clash: &Clash) -> Result<(), NoMemory>
     ensures { OnOk result (out.new ≡ out.old ++ clash_text globals.now clash.now) }
 {
@@ -157,5 +152,9 @@ pub fn append_clash(out: &mut Text, globals: &Globals, clash: &Clash) -> Result<
             append_counted(out, b"ends and goes on at depth ", u64::from(*depth))
         }
         Clash::False => out.append(b"false"),
+        Clash::NoValue(fault) => {
+            out.append(b"no value: ")?;
+            out.append(fault_name(*fault).as_bytes())
+        }
     }
 }

@@ -1,4 +1,4 @@
-use Rattle.tempura.proofs.ClauseLemmas.{finished, contradictory, undetermined, number_limit, program_runs, words_refused_only, words_refused, too_long_only, too_long, source_refused_only, source_refused}
+use Rattle.tempura.proofs.ClauseLemmas.{finished, contradictory, undetermined, reduction_limit, number_limit, list_limit, call_limit, nest_limit, program_runs, words_refused_only, words_refused, too_long_only, too_long, source_refused_only, source_refused}
 use Rattle.tempura.proofs.call.tempura.Goals as goal
 
 pub returns-clause-finished : goal.returns-clause-finished
@@ -10,8 +10,20 @@ returns-clause-contradictory g c = contradictory _ _ _ _ _ c.call.ensures.answer
 pub returns-clause-undetermined : goal.returns-clause-undetermined
 returns-clause-undetermined g c = undetermined _ _ _ _ _ c.call.ensures.answer
 
+pub returns-clause-reduction_limit : goal.returns-clause-reduction_limit
+returns-clause-reduction_limit g c = reduction_limit _ _ _ _ _ c.call.ensures.answer
+
 pub returns-clause-number_limit : goal.returns-clause-number_limit
 returns-clause-number_limit g c = number_limit _ _ _ _ _ c.call.ensures.answer
+
+pub returns-clause-list_limit : goal.returns-clause-list_limit
+returns-clause-list_limit g c = list_limit _ _ _ _ _ c.call.ensures.answer
+
+pub returns-clause-call_limit : goal.returns-clause-call_limit
+returns-clause-call_limit g c = call_limit _ _ _ _ _ c.call.ensures.answer
+
+pub returns-clause-nest_limit : goal.returns-clause-nest_limit
+returns-clause-nest_limit g c = nest_limit _ _ _ _ _ c.call.ensures.answer
 
 pub returns-clause-program_runs : goal.returns-clause-program_runs
 returns-clause-program_runs g c = λ program. program_runs _ _ _ _ program _ c.call.ensures.answer

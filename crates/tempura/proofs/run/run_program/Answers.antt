@@ -30,5 +30,6 @@ loop-picture-preserved g c =
     let made = rw c.in_default.is at c.in_ok-status.ensures.made in
     record {
       written = HasWritten-more _ (place_of c.loop-picture.run) (place_of c.make_state.new.run) _ _ _ made.0 c.loop-picture.invariant.written made.1 made.2;
+      over = c.in_ok-status.ensures.over c.in_default.is;
       later = omega arith;
     }
