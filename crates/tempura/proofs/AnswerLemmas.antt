@@ -8,7 +8,7 @@ use Rattle.tp_run.specs.declared.turn.Picture.{Picture}
 use Rattle.tp_run.specs.declared.turn.Turn.{Turn}
 use Rattle.tp_run.specs.declared.turn.Turn.TheVariants as turn
 use Rattle.tempura.specs.declared.status.Status.{Status}
-use Rattle.tempura.specs.declared.status.Status.TheVariants.{Finished, Contradictory, Undetermined, StateLimit, ReductionLimit, NumberLimit, ListLimit, CallLimit, NestLimit, InputMissing, WriteFault, NoMemory}
+use Rattle.tempura.specs.declared.status.Status.TheVariants.{Finished, Contradictory, Undetermined, ReductionLimit, NumberLimit, ListLimit, CallLimit, NestLimit, WriteFault, NoMemory}
 use Rattle.tempura.specs.Line.{state_line, state_lines}
 use Rattle.tempura.specs.EndLine.{end_line}
 use Rattle.tempura.specs.Written.{Wrote}

@@ -1,20 +1,20 @@
 -- The facts of a settled state: in order, without a clash, of the variables that the run has.
-use Rattle.std.proofs.Common.{◌≡◌, ◌⊎◌, inl, inr, ℤ, ℕ, zero, suc, ◌+◌, ◌<◌, ◌≤◌, Bool, true, false, IsTrue, not, nat_lt, ◌||◌, ◌&&◌, eqb, List, [], ◌∷◌, length, map, All, Option, None, Some, slice_get, refl, ap, sym, ◌∙◌, subst, arith, tests}
-use Rattle.std.proofs.lemmas.Bool.{false_from_ne_true, or_left}
+use Rattle.std.proofs.Common.{◌≡◌, inl, inr, ℤ, ℕ, zero, suc, ◌+◌, ◌<◌, ◌≤◌, Bool, true, false, IsTrue, not, List, [], ◌∷◌, length, map, All, None, Some, slice_get, refl, ap, sym, ◌∙◌, subst, arith, tests}
+use Rattle.std.proofs.lemmas.Bool.{false_from_ne_true}
 use Rattle.std.proofs.lemmas.List.{length-map}
 use Rattle.std.proofs.lemmas.List.Elements.{All-nil, All-cons}
 use Rattle.tp_value.specs.Globals.{is_lower}
 use Rattle.tp_value.specs.declared.path.Fact.{Fact}
 use Rattle.tp_kernel.specs.Built.{NoneStatic}
 use Rattle.tp_store.specs.Facts.{same_path, clash}
-use Rattle.tp_store.specs.Known.{NoClash, Variable, AreOfVariables, IsVariableOf, global_variable}
+use Rattle.tp_store.specs.Known.{NoClash, Variable, AreOfVariables, global_variable}
 use Rattle.tp_store.proofs.Members.{In, kept_none, meets_none}
 use Rattle.tp_store.proofs.Paths.{same_path-decides}
 use Rattle.tp_store.proofs.Same.{clash-variable}
 use Rattle.tp_run.specs.declared.turn.Picture.{Picture}
 use Rattle.tp_run.specs.declared.turn.Turn.{Turn}
 use Rattle.tp_run.specs.declared.turn.Turn.TheVariants as turn
-use Rattle.tp_run.specs.Residual.{Known, Residual}
+use Rattle.tp_run.specs.Residual.{Known}
 use Rattle.tp_run.specs.Rules.{fact_of}
 use Rattle.tp_run.specs.States.{Standing, open_at, answered, spent, variable_at, facts_from, facts_of}
 use Rattle.tp_run.specs.Runs.{Answers}
@@ -46,8 +46,8 @@ in_order i (Some n ∷ k) = (before_all i (i + 1) n k (omega arith), in_order (i
 
 apart : (i : ℕ) (n : ℤ) (g : Fact) → i < g.path.var.number → (same_path g.path (fact_of (variable_at i) n).path ≡ false) × (clash g (fact_of (variable_at i) n) ≡ false)
 apart i n g h = (
-    false_from_ne_true _ (λ t. let e : g.path.var.number ≡ i = ap (λ p. p.var.number) ((same_path-decides g.path (fact_of (variable_at i) n).path).0 t) in omega arith),
-    false_from_ne_true _ (λ t. let e : g.path.var.number ≡ i = ap (λ x. x.number) (clash-variable g (fact_of (variable_at i) n) t) in omega arith),
+  false_from_ne_true _ (λ t. let e : g.path.var.number ≡ i = ap (λ p. p.var.number) ((same_path-decides g.path (fact_of (variable_at i) n).path).0 t) in omega arith),
+  false_from_ne_true _ (λ t. let e : g.path.var.number ≡ i = ap (λ x. x.number) (clash-variable g (fact_of (variable_at i) n) t) in omega arith),
 )
 
 no_clash : (i : ℕ) (k : Known) → NoClash (facts_from i k)
@@ -56,7 +56,6 @@ no_clash i (None ∷ k) = no_clash (i + 1) k
 no_clash i (Some n ∷ k) =
     let each : (g : Fact) → In g (facts_from (i + 1) k) → i < g.path.var.number = λ g h. let l = later (i + 1) k g h in omega arith in
     (kept_none _ _ (λ g h. (apart i n g (each g h)).0), meets_none _ _ (λ g h. (apart i n g (each g h)).1), no_clash (i + 1) k)
-
 
 none_lasting : (names : List (List ℕ)) (i : ℕ) → NoneStatic names → i < length names → slice_get (map (λ (v : Variable). v.lasting) (map global_variable names)) i ≡ Some false
 none_lasting [] i s h = absurd (omega arith)
@@ -97,4 +96,3 @@ stays_over names spent to n m old new o a = absurd o
 stays_over names (open_at r) to n m old new o a =
     let b = a.0 in
     subst (IsOver names) (sym b.becomes.2) (length-map b.at.known (λ x. None) ∙ (picks_length b.count r b.at b.picks ∙ o))
-

@@ -1,13 +1,13 @@
 -- A store of a state's facts, and what it knows.
-use Rattle.std.proofs.Common.{◌≡◌, ◌⊎◌, inl, inr, ℕ, suc, ◌+◌, ◌<◌, Bool, true, false, ◌||◌, cond, List, [], ◌∷◌, ◌++◌, map, length, get_or, take, drop, codes, Option, None, Some, refl, ap, sym, ◌∙◌, subst, arith, append_assoc}
+use Rattle.std.proofs.Common.{◌≡◌, inl, inr, ℕ, suc, ◌+◌, ◌<◌, Bool, true, false, cond, List, [], ◌∷◌, ◌++◌, map, length, get_or, take, drop, codes, Option, None, Some, refl, ap, sym, ◌∙◌, subst, arith, append_assoc}
 use Rattle.std.proofs.Math.Seq.{take-suc, drop-cons}
 use Rattle.std.proofs.lemmas.List.{take-append-drop}
 use Rattle.std.proofs.lemmas.Bool.{or_parts}
 use Rattle.tp_value.specs.declared.value.Shape.{Shape}
 use Rattle.tp_value.specs.declared.path.Path.{Path}
 use Rattle.tp_value.specs.declared.path.Fact.{Fact}
-use Rattle.tp_store.specs.Facts.{same_path, clash, kept_shape, fact}
-use Rattle.tp_store.specs.Known.{Contents, Variable, NoClash, meets, is_none, earlier_of, first_clash, Addition, adds, refuses, refused_or, addition, Full, full, IsVariableOf, AreOfVariables, global_variable}
+use Rattle.tp_store.specs.Facts.{same_path, clash, kept_shape}
+use Rattle.tp_store.specs.Known.{Contents, Variable, NoClash, meets, is_none, earlier_of, first_clash, adds, refuses, refused_or, addition, Full, full, IsVariableOf, AreOfVariables, global_variable}
 use Rattle.tp_store.specs.Changes.{HaveSameShapes, HasAdded, IsSound}
 use Rattle.tp_store.proofs.Paths.{same_path-sym, clash-sym}
 use Rattle.tp_store.proofs.Members.{In, in_left, in_right, kept_in, in_kept, kept_none, none_kept, meets_none, none_meets}
@@ -37,10 +37,10 @@ before_path (x ∷ xs) f ys n g (inr i) = before_path xs f ys n.2 g i
 NoClash-before : (xs ys : List Fact) → NoClash (xs ++ ys) → NoClash xs
 NoClash-before [] ys n = tt
 NoClash-before (x ∷ xs) ys n = (
-    kept_none xs x.path (λ g i. none_kept (xs ++ ys) x.path n.0 g (in_left g xs ys i)),
-    meets_none xs x (λ g i. none_meets (xs ++ ys) x n.1 g (in_left g xs ys i)),
-    NoClash-before xs ys n.2,
-  )
+  kept_none xs x.path (λ g i. none_kept (xs ++ ys) x.path n.0 g (in_left g xs ys i)),
+  meets_none xs x (λ g i. none_meets (xs ++ ys) x n.1 g (in_left g xs ys i)),
+  NoClash-before xs ys n.2,
+)
 
 -- so the next fact is new to a store of those before it
 pub is_new : (names : List (List ℕ)) (store : Contents) (xs : List Fact) (f : Fact) (ys : List Fact) → NoClash (xs ++ f ∷ ys) → Keeps names store xs → IsNew store.facts f

@@ -1,5 +1,5 @@
 -- Reading a text back: words end where another byte comes, lines where a line feed comes.
-use Rattle.std.proofs.Common.{◌≡◌, ◌<◌, ◌+◌, ◌^◌, ◌%◌, ◌&&◌, inl, inr, ℤ, pos, negsuc, ℕ, suc, nat_lt, length, Bool, true, false, cond, IsTrue, List, [], ◌∷◌, ◌++◌, drop, All, Option, None, Some, codes, refl, sym, ap, ◌∙◌, subst, arith, tests, append_assoc}
+use Rattle.std.proofs.Common.{◌≡◌, ◌<◌, ◌+◌, ◌^◌, ◌%◌, ◌&&◌, inl, inr, ℤ, pos, negsuc, ℕ, suc, nat_lt, length, true, false, cond, IsTrue, List, [], ◌∷◌, ◌++◌, drop, All, Option, None, Some, codes, refl, sym, ap, ◌∙◌, subst, arith, tests, append_assoc}
 use Rattle.std.specs.List.{flat_map}
 use Rattle.std.specs.Fmt.{decimal, signed_decimal}
 use Rattle.std.proofs.lemmas.Bool.{or_from, and_left, and_right}
@@ -17,7 +17,7 @@ use Rattle.tp_value.specs.declared.path.Fact.{Fact}
 use Rattle.tp_value.specs.declared.value.Shape.{Shape}
 use Rattle.tp_value.specs.declared.value.Shape.TheVariants.{Num}
 use Rattle.tp_store.specs.Facts.{same_variable, leaves_out, kept_shape, is_excluded}
-use Rattle.tp_store.specs.Known.{NoClash, Full, absent, value, full, limited, whole, with_shape, deepest}
+use Rattle.tp_store.specs.Known.{NoClash, absent, value, full, limited, whole, with_shape, deepest}
 use Rattle.tp_store.proofs.Members.{In, in_kept}
 use Rattle.tp_run.specs.declared.turn.Picture.{Picture}
 use Rattle.tempura.specs.declared.status.Status.{Status}

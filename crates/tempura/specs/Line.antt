@@ -2,7 +2,6 @@
 use Rattle.std.specs.Prelude.{◌≡◌, ℕ, Bool, true, false, nat_lt, eqb, ◌&&◌, ◌||◌, IsTrue, List, [], ◌∷◌, ◌++◌, map, All, length, Option, None, Some, if◌then◌else◌, codes}
 use Rattle.std.specs.List.{flat_map, starts_with}
 use Rattle.std.specs.Fmt.{decimal}
-use Rattle.tp_value.specs.Tree.{Tree}
 use Rattle.tp_value.specs.Written.{text_of}
 use Rattle.tp_value.specs.declared.path.Path.{Path}
 use Rattle.tp_value.specs.declared.path.Fact.{Fact}

@@ -180,10 +180,30 @@ fn limits_are_told(rt: HostRuntime) -> Result<(), Fail> {
     let reductions = "reduction limit: state 0: 100000 reductions\n";
     expect_end(&rt, Status::StateLimit { states: 3 }, 3, "state limit: 3\n")?;
     expect_end(&rt, Status::ReductionLimit { state: 0 }, 4, reductions)?;
-    expect_end(&rt, Status::NumberLimit { state: 0 }, 5, "number limit: state 0\n")?;
-    expect_end(&rt, Status::ListLimit { state: 0 }, 6, "list limit: state 0\n")?;
-    expect_end(&rt, Status::CallLimit { state: 2 }, 7, "call limit: state 2\n")?;
-    expect_end(&rt, Status::NestLimit { state: 0 }, 8, "nest limit: state 0\n")?;
+    expect_end(
+        &rt,
+        Status::NumberLimit { state: 0 },
+        5,
+        "number limit: state 0\n",
+    )?;
+    expect_end(
+        &rt,
+        Status::ListLimit { state: 0 },
+        6,
+        "list limit: state 0\n",
+    )?;
+    expect_end(
+        &rt,
+        Status::CallLimit { state: 2 },
+        7,
+        "call limit: state 2\n",
+    )?;
+    expect_end(
+        &rt,
+        Status::NestLimit { state: 0 },
+        8,
+        "nest limit: state 0\n",
+    )?;
     expect_end(&rt, Status::InputMissing { state: 1, port }, 9, missing)
 }
 

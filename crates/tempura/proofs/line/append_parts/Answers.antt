@@ -17,9 +17,9 @@ loop-fact-preserved c =
     let f = c.fact-item.result in
     let whole = c.in_ok-append_part.field-0 in
     let next : option_copied c.if-branch.last ≡ cond whole (Some f.path) (option_copied c.loop-fact.last) = elim c.if-branch.branch [
-        then-branch w ↦ ap option_copied w.last-is ∙ ap (λ b. cond b (Some f.path) (option_copied c.loop-fact.last)) (sym w.if-branch.true)
+      | then-branch w ↦ ap option_copied w.last-is ∙ ap (λ b. cond b (Some f.path) (option_copied c.loop-fact.last)) (sym w.if-branch.true)
       | else-branch w ↦ ap option_copied w.last-is ∙ ap (λ b. cond b (Some f.path) (option_copied c.loop-fact.last)) (sym w.if-branch.false)
-      ] in
+    ] in
     parts_added c.args.globals.now c.args.store.now c.args.facts.now c.loop-fact.fact-index f (option_copied c.loop-fact.last) (option_copied c.if-branch.last) whole c.loop-fact.out c.append_part.new.out c.requires.kept
     c.requires.facts.no_clash c.loop-fact-test.true c.fact-item.is (sym c.is_written.ensures ∙ c.if-is_written.false) c.in_ok-append_part.ensures.whole next c.in_ok-append_part.ensures.text
     ∙ c.loop-fact.invariant
