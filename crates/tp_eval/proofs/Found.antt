@@ -1,5 +1,5 @@
 -- Elements, sizes and operators: what is reached is what is meant.
-use Rattle.std.proofs.Common.{◌≡◌, ℤ, pos, negsuc, ℕ, zero, suc, ◌<◌, Bool, true, false, List, [], ◌∷◌, ◌++◌, length, Option, Some, None, refl, ap, sym, ◌∙◌, arith, slice_get, if◌then◌else◌}
+use Rattle.std.proofs.Common.{◌≡◌, ℤ, pos, negsuc, ℕ, zero, suc, ◌<◌, Bool, List, [], ◌∷◌, ◌++◌, length, Option, Some, None, refl, ap, ◌∙◌, arith, slice_get, get_or, drop}
 use Rattle.tp_value.specs.Tree.{Tree, Trees, num, truth, list, items_of, of_items}
 use Rattle.std.specs.Prelude.{◌+ℤ◌, ◌-ℤ◌, ◌*ℤ◌}
 use Rattle.tp_value.specs.Number.{is_within_limit, floor_div}
@@ -14,7 +14,7 @@ use Rattle.tp_meaning.specs.Value as meaning
 use Rattle.tp_meaning.specs.Value.{◌>>=◌, item_at, item, list_of, truth_of, number_of, Meaning, fixed, varying, element}
 use Rattle.tp_eval.specs.Reached.{Reached, with_reached, number, limited}
 use Rattle.tp_eval.specs.Evaluate.{operate, truth_in, number_in, items_in, item_in, element_in, length_of}
-use Rattle.tp_eval.proofs.Agree.{Agrees, limit_agrees, then_agrees}
+use Rattle.tp_eval.proofs.Agree.{Agrees, limit_agrees}
 
 -- the length of a list, as a value
 abbrev pub sized : Tree → Option Tree
@@ -53,7 +53,7 @@ element_further (k ∷ at) ks t = further (element_further at ks) (item_of t k)
     further h None = refl
     further h (Some u) = h u
 
-one_element : (t : Tree) (k : ℕ) → item_at (k ∷ []) t ≡ item_of t k
+pub one_element : (t : Tree) (k : ℕ) → item_at (k ∷ []) t ≡ item_of t k
 one_element t k = found (item_of t k)
   where
     found : (o : Option Tree) → (o >>= item_at []) ≡ o
@@ -143,3 +143,9 @@ module _ (facts : List Fact) (Agreeing : Type 0) where
   operate_agrees Mod (num a) (num (pos (suc b))) c = number_agrees (a -ℤ (floor_div a (pos (suc b)) *ℤ pos (suc b))) c
   operate_agrees Mod (num a) (num (negsuc b)) c = number_agrees (a -ℤ (floor_div a (negsuc b) *ℤ negsuc b)) c
   operate_agrees o t u c = λ w. refl
+
+-- one index further down a path
+pub one_further : (at : List ℕ) (i k : ℕ) (t : Tree) → i < length at → get_or at i 0 ≡ k → item_at (drop i at) t ≡ (item_of t k >>= item_at (drop (suc i) at))
+one_further [] i k t h e = absurd (omega arith)
+one_further (x ∷ at) zero k t h e = ap (λ j. item_of t j >>= item_at at) e
+one_further (x ∷ at) (suc i) k t h e = one_further at i k t (omega arith) e

@@ -1,5 +1,11 @@
 pub mod Agree
 pub mod Found
-pub mod Places
+pub mod PlaceLemmas
 pub mod Operands
 pub mod Meanings
+pub mod Steps
+pub mod Kept
+pub mod Levels
+pub mod OutcomesAre
+pub mod Answered
+pub mod Bound

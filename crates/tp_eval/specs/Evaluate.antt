@@ -1,8 +1,8 @@
 -- The evaluation of expressions where these facts are known.
-use Rattle.std.specs.Prelude.{ℤ, pos, negsuc, ◌+ℤ◌, ◌-ℤ◌, ◌*ℤ◌, neg_ℤ, int_lt, int_le, ℕ, zero, suc, ◌+◌, nat_le, nat_lt, Bool, true, false, not, List, [], ◌∷◌, ◌++◌, length, Option, Some, None, slice_get, if◌then◌else◌}
+use Rattle.std.specs.Prelude.{ℤ, pos, negsuc, ◌+ℤ◌, ◌-ℤ◌, ◌*ℤ◌, neg_ℤ, int_lt, int_le, ℕ, zero, suc, nat_le, nat_lt, Bool, true, false, not, List, [], ◌∷◌, ◌++◌, length, Option, Some, None, slice_get, if◌then◌else◌}
 use Rattle.tp_value.specs.Tree.{Tree, num, truth, list, items_of, of_items, same_tree}
-use Rattle.tp_value.specs.Number.{floor_div}
-use Rattle.tp_value.specs.Shape.{item_of}
+use Rattle.tp_value.specs.Number.{floor_div, floor_mod}
+use Rattle.tp_value.specs.Limits.{index_limit, path_limit}
 use Rattle.tp_value.specs.declared.value.Shape.{Shape}
 use Rattle.tp_value.specs.declared.value.Shape.TheVariants.{Num, Truth, Items}
 use Rattle.tp_value.specs.declared.path.Path.{Path}
@@ -14,7 +14,7 @@ use Rattle.tp_meaning.specs.Value.{item_at, is_upper}
 use Rattle.tp_store.specs.Facts.{kept_shape, is_excluded, item_path}
 use Rattle.tp_store.specs.Known as store
 use Rattle.tp_store.specs.Known.{full}
-use Rattle.tp_eval.specs.Reached.{Stop, waits, faults, passes, reaches, stops, Evaluation, ◌>>=◌, gives, stop, fault, number, limited}
+use Rattle.tp_eval.specs.Reached.{waits, passes, reaches, stops, Evaluation, ◌>>=◌, gives, stop, fault, number, limited}
 
 -- the number, the truth value and the items, where the value is of that kind
 abbrev pub number_in : Tree → Evaluation ℤ
@@ -34,27 +34,37 @@ abbrev pub element_in : Option Tree → Evaluation Tree
 element_in (Some t) = gives t
 element_in None = fault NoElement
 
--- the item of a list, both of which are evaluated; the kinds of both are looked at before the item
+-- the item at an index from 0
 abbrev pub item_in : List Tree → ℤ → Evaluation Tree
 item_in ts (pos k) = element_in (slice_get ts k)
 item_in ts (negsuc k) = fault NoElement
+
+-- the item of a value at another value; the kinds of both are looked at before the item
+abbrev pub item_between : (whole at : Tree) → Evaluation Tree
+item_between t u = do
+  ts ← items_in t
+  n ← number_in u
+  item_in ts n
 
 abbrev pub on_divisor : (ℤ → ℤ → ℤ) → ℤ → ℤ → Evaluation Tree
 on_divisor f a (pos zero) = fault ZeroDivisor
 on_divisor f a b = number (f a b)
 
+-- numbers are needed on both sides
 abbrev pub on_numbers : (ℤ → ℤ → Evaluation Tree) → Tree → Tree → Evaluation Tree
-on_numbers f (num a) (num b) = f a b
-on_numbers f _ _ = fault WrongKind
+on_numbers f s t = do
+  a ← number_in s
+  b ← number_in t
+  f a b
 
 abbrev pub compared : (ℤ → ℤ → Bool) → Tree → Tree → Evaluation Tree
 compared f = on_numbers (λ a b. gives (truth (f a b)))
 
 -- the sum of numbers, and a list after a list
 abbrev pub sum_in : Tree → Tree → Evaluation Tree
-sum_in (num a) (num b) = number (a +ℤ b)
-sum_in (list s) (list t) = limited (list (of_items (items_of s ++ items_of t)))
-sum_in _ _ = fault WrongKind
+sum_in (num a) t = number_in t >>= λ b. number (a +ℤ b)
+sum_in (list s) t = items_in t >>= λ us. limited (list (of_items (items_of s ++ us)))
+sum_in (truth b) t = fault WrongKind
 
 abbrev pub operate : Operator → Tree → Tree → Evaluation Tree
 operate Equal s t = gives (truth (same_tree s t))
@@ -67,7 +77,13 @@ operate Plus s t = sum_in s t
 operate Minus s t = on_numbers (λ a b. number (a -ℤ b)) s t
 operate Times s t = on_numbers (λ a b. number (a *ℤ b)) s t
 operate Div s t = on_numbers (on_divisor floor_div) s t
-operate Mod s t = on_numbers (on_divisor (λ a b. a -ℤ (floor_div a b *ℤ b))) s t
+operate Mod s t = on_numbers (on_divisor floor_mod) s t
+
+abbrev pub negated_in : Tree → Evaluation Tree
+negated_in t = truth_in t >>= λ b. gives (truth (not b))
+
+abbrev pub negative_in : Tree → Evaluation Tree
+negative_in t = number_in t >>= λ n. number (neg_ℤ n)
 
 -- What a place is, a name followed by indices: a path, or an element of a known value, at these indices.
 pub data Place : Type 0 where
@@ -87,13 +103,7 @@ bound_place (Some (place_binding p)) = gives (at_path p)
 bound_place (Some (known_binding t)) = gives (inside t [])
 bound_place None = fault NoElement
 
--- the greatest index, the most indices of a path, the greatest depth of an evaluation, and the most calls in one
-abbrev pub index_limit : ℕ
-index_limit = 65535
-
-abbrev pub path_limit : ℕ
-path_limit = 100
-
+-- the greatest depth of an evaluation, and the most calls in one
 abbrev pub depth_limit : ℕ
 depth_limit = 2000
 
@@ -142,6 +152,9 @@ module _ (facts : List Fact) where
   value_at (at_path p) = of_full (full facts p)
   value_at (inside t at) = element_in (item_at at t)
 
+  abbrev pub read_at : Evaluation Place → Evaluation Tree
+  read_at o = o >>= value_at
+
   -- the size of a place, for which its shape is enough
   abbrev pub size_at : Place → Evaluation Tree
   size_at (at_path p) = if is_excluded facts p then fault NoElement else length_in p (kept_shape facts p)
@@ -172,16 +185,10 @@ module _ (operand : ExprTree → Evaluation Tree) where
     if x then gives (truth true) else (operand b >>= truth_in >>= λ y. gives (truth y))
 
   abbrev pub negated : ExprTree → Evaluation Tree
-  negated e = do
-    t ← operand e
-    b ← truth_in t
-    gives (truth (not b))
+  negated e = operand e >>= negated_in
 
   abbrev pub negative : ExprTree → Evaluation Tree
-  negative e = do
-    t ← operand e
-    n ← number_in t
-    number (neg_ℤ n)
+  negative e = operand e >>= negative_in
 
   abbrev pub operated : Operator → ExprTree → ExprTree → Evaluation Tree
   operated o a b = do
@@ -200,9 +207,7 @@ module _ (operand : ExprTree → Evaluation Tree) where
   element_of e i = do
     t ← operand e
     u ← operand i
-    ts ← items_in t
-    n ← number_in u
-    item_in ts n
+    item_between t u
 
 -- `operand` and `place` evaluate one level deeper
 module _ (operand : ExprTree → Evaluation Tree) (place : ExprTree → Evaluation Place) where

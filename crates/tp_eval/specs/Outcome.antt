@@ -1,5 +1,5 @@
 -- The outcome of an expression, and of a place, where these facts are known.
-use Rattle.std.specs.Prelude.{ℕ, List}
+use Rattle.std.specs.Prelude.{List}
 use Rattle.tp_value.specs.Tree.{Tree}
 use Rattle.tp_value.specs.declared.path.Path.{Path}
 use Rattle.tp_value.specs.declared.path.Fact.{Fact}

@@ -54,7 +54,7 @@ module _ (facts : List Fact) (defs : List Definition) (kinds : List Bool) (s : C
 -- Outcomes are right in each state that agrees with the facts, where the definitions and the expression fit the program's variables.
 abbrev pub OutcomesMean : Type 0
 OutcomesMean = (facts : List Fact) (defs : List Definition) (kinds : List Bool) (s : Course) (locals : Locals) (a : ℕ) (e : ExprTree) (env : List BindingTree)
-    → DefinitionsFit defs kinds → ExprFits defs kinds e (length env)
+    → NoClash facts → DefinitionsFit defs kinds → ExprFits defs kinds e (length env)
     → AgreesWithAll (values_at (length kinds) s locals a) facts → OutcomesAreRight facts defs kinds s locals a e env
 
 -- A path that is waited for has no shape yet, and none is excluded there.

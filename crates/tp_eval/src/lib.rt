@@ -1,5 +1,18 @@
-//! Stub.
+//! The evaluation of expressions as far as a state is known.
 #![tactic(auto)]
 
-/// Stub.
-pub fn stub() {}
+mod calls;
+mod evaluate;
+mod halt;
+mod kinds;
+mod laws;
+mod operate;
+mod outcome;
+mod places;
+#[cfg(test)]
+mod tests;
+
+pub use calls::{eval, place};
+pub use evaluate::is_place;
+pub use laws::{outcomes_mean, places_mean, waits_are_undecided};
+pub use outcome::{Outcome, PlaceOutcome};

@@ -1,8 +1,8 @@
 -- The next state.
-use Rattle.std.specs.Prelude.{◌≡◌, ℕ, suc, ◌+◌, Bool, List, [], ◌∷◌, ◌++◌}
+use Rattle.std.specs.Prelude.{ℕ, suc, ◌+◌, List, [], ◌∷◌, ◌++◌}
 use Rattle.tp_value.specs.Tree.{Tree}
 use Rattle.tp_store.specs.Known.{Contents, lasting_facts}
-use Rattle.tp_scene.specs.Scene.{Head, new_head, no_region, Leaf, Do, Later, Shown, Holder, Split, SplitProject, Closed, Opened, Running, Entries, none, leaf, node, Region, Scene, second_lives, only_if}
+use Rattle.tp_scene.specs.Scene.{Head, new_head, Do, Later, Shown, Holder, Split, SplitProject, Closed, Opened, Running, Entries, none, leaf, node, Scene, second_lives, only_if}
 
 abbrev pub unmarked : Head → Head
 unmarked h = new_head h.number

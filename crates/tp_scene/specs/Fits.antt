@@ -2,8 +2,8 @@
 use Rattle.std.specs.Prelude.{◌≡◌, ◌≢◌, ℕ, ◌+◌, ◌≤◌, ◌<◌, Bool, false, List, [], ◌∷◌, ◌++◌, map, length, IsTrue, ◌⊎◌}
 use Rattle.tp_meaning.specs.Syntax.{Definition, FormulaTree, more}
 use Rattle.tp_meaning.specs.Fits.{FormulaFits, BindingsFit}
-use Rattle.tp_store.specs.Known.{Contents, Variable}
-use Rattle.tp_scene.specs.Scene.{Side, Ending, Going, Bindings, Head, Leaf, Do, Later, Shown, Holder, Split, SplitProject, Closed, Opened, Running, Entries, none, leaf, node, Scene, Place, root_place, held_place, second_place}
+use Rattle.tp_store.specs.Known.{Variable}
+use Rattle.tp_scene.specs.Scene.{Ending, Going, Bindings, Head, Leaf, Do, Later, Shown, Holder, Split, SplitProject, Closed, Opened, Running, Entries, none, leaf, node, Place, root_place, held_place, second_place}
 use Rattle.tp_scene.specs.Step.{region_limit}
 use Rattle.tp_scene.specs.Pick.{Moment}
 
@@ -61,9 +61,11 @@ HasMore (leaf id (Do more env) rest) = Unit {0}
 HasMore (leaf id l rest) = HasMore rest
 HasMore (node id k h held g second rest) = HasMore rest
 
-module _ (defs : List Definition) (variables : List Variable) where
+-- `kinds` says of each global variable whether it is static
+module _ (defs : List Definition) (kinds : List Bool) (variables : List Variable) where
+  -- A formula names globals alone, and its bindings any variable of the store.
   abbrev pub PhraseFits : FormulaTree → Bindings → Type 0
-  PhraseFits f env = FormulaFits defs (kinds_in variables) f (length env) × BindingsFit (kinds_in variables) env
+  PhraseFits f env = FormulaFits defs kinds f (length env) × BindingsFit (kinds_in variables) env
 
   abbrev pub LeafFits : Leaf → Place → Type 0
   LeafFits (Do f env) p = PhraseFits f env
@@ -95,8 +97,8 @@ InnersGo (node id (Running f env) h held g second rest) p =
 InnersGo (node id k h held g second rest) p = InnersGo held (held_place k h held p) × InnersGo rest p
 
 -- The scene of a moment fits its store.
-pub record MomentFits (defs : List Definition) (m : Moment) : Type 0 where
-  pub entries : EntriesFit defs m.store.variables m.scene.root.entries (root_place m.scene.root)
+pub record MomentFits (defs : List Definition) (kinds : List Bool) (m : Moment) : Type 0 where
+  pub entries : EntriesFit defs kinds m.store.variables m.scene.root.entries (root_place m.scene.root)
   pub items : AreNumbers m.scene.next_item (item_numbers m.scene.root.entries)
   pub regions : AreNumbers m.scene.next_region (m.scene.root.head.number ∷ region_numbers m.scene.root.entries)
   pub inners : InnersGo m.scene.root.entries (root_place m.scene.root)

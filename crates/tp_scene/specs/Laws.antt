@@ -1,14 +1,13 @@
 -- What steps and the next state keep.
-use Rattle.std.specs.Prelude.{◌≡◌, ◌↔◌, ℕ, suc, ◌≤◌, ◌<◌, true, Bool, List, [], ◌∷◌, length, slice_get, Some}
+use Rattle.std.specs.Prelude.{◌≡◌, ◌↔◌, ℕ, suc, ◌≤◌, ◌<◌, true, Bool, List, [], length, slice_get, Some}
 use Rattle.tp_value.specs.declared.path.Path.{Path}
-use Rattle.tp_value.specs.declared.path.Fact.{Fact}
 use Rattle.tp_meaning.specs.Syntax.{FormulaTree}
 use Rattle.tp_meaning.specs.Course.{Course, Shows, ◌⊕◌, shown_at}
 use Rattle.tp_meaning.specs.Holds.{Holds}
 use Rattle.tp_meaning.specs.Interval.{kinds_of, KeepsStatics}
 use Rattle.tp_meaning.specs.Fits.{FormulaFits, DefinitionsFit}
 use Rattle.tp_store.specs.Facts.{kept_shape}
-use Rattle.tp_store.specs.Known.{Contents, Variable, NoClash, IsVariableOf, lasting_facts}
+use Rattle.tp_store.specs.Known.{Contents, NoClash, AreOfVariables, lasting_facts}
 use Rattle.tp_scene.specs.declared.answer.Clash.{Clash}
 use Rattle.tp_scene.specs.Scene.{has}
 use Rattle.tp_scene.specs.Step.{Reduction, clashes, misses}
@@ -17,11 +16,6 @@ use Rattle.tp_scene.specs.Rest.{ends, goes, settled}
 use Rattle.tp_scene.specs.Advance.{advanced, shown_in}
 use Rattle.tp_scene.specs.StandsFor.{StandsFor, context_of, first_moment, AgreesWithGlobals}
 use Rattle.tp_scene.specs.Fits.{MomentFits, kinds_in}
-
--- each fact is of a variable of the store
-abbrev pub AreOfVariables : List Variable → List Fact → Type 0
-AreOfVariables xs [] = Unit {0}
-AreOfVariables xs (f ∷ fs) = IsVariableOf xs f.path.var × AreOfVariables xs fs
 
 -- A store keeps facts of its variables without a clash, and its first variables are the globals.
 pub record StoreFits (kinds : List Bool) (k : Contents) : Type 0 where
@@ -32,7 +26,7 @@ pub record StoreFits (kinds : List Bool) (k : Contents) : Type 0 where
 -- What a run has between its steps, over global variables of these kinds.
 pub record IsSound (w : Setting) (kinds : List Bool) (m : Moment) : Type 0 where
   pub definitions : DefinitionsFit w.defs kinds
-  pub moment : MomentFits w.defs m
+  pub moment : MomentFits w.defs kinds m
   pub store : StoreFits kinds m.store
 
 -- A reduction keeps what a moment stands for, of the intervals whose first state has the state's own number.

@@ -1,9 +1,9 @@
 -- Rest, and what a scene at rest has come to.
-use Rattle.std.specs.Prelude.{◌≡◌, ℕ, ◌&&◌, Bool, true, false, not, List, [], ◌∷◌, ◌++◌, Option, Some, None, if◌then◌else◌}
+use Rattle.std.specs.Prelude.{◌≡◌, ℕ, Bool, true, false, not, List, [], ◌∷◌, ◌++◌, Option, if◌then◌else◌}
 use Rattle.tp_scene.specs.declared.answer.Cell.{Cell}
 use Rattle.tp_scene.specs.declared.answer.Cell.TheVariants.{End}
-use Rattle.tp_scene.specs.Scene.{Side, Ending, Going, Head, Leaf, Do, Later, Shown, Holder, Split, SplitProject, Closed, Opened, Running, Entries, none, leaf, node, Region, Scene, second_lives, only_if, has, Place, root_place, held_place, second_place}
-use Rattle.tp_scene.specs.Step.{Outcome, waits}
+use Rattle.tp_scene.specs.Scene.{Ending, Going, Leaf, Do, Later, Shown, Holder, Split, SplitProject, Closed, Opened, Running, Entries, none, leaf, node, Scene, second_lives, only_if, has, Place, root_place, held_place, second_place}
+use Rattle.tp_scene.specs.Step.{waits}
 use Rattle.tp_scene.specs.Pick.{Setting, Moment, outcome_of, IsIdle}
 
 -- At rest: no live item reduces, clashes, misses an input or passes a limit.

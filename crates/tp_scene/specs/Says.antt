@@ -1,8 +1,7 @@
 -- What a scene says of an interval and of what is shown on it.
-use Rattle.std.specs.Prelude.{◌≡◌, ℕ, suc, ◌≤◌, ◌<◌, Bool, IsTrue, List, [], ◌∷◌}
-use Rattle.tp_value.specs.Tree.{Tree}
+use Rattle.std.specs.Prelude.{◌≡◌, ℕ, suc, ◌<◌, IsTrue, [], ◌∷◌}
 use Rattle.tp_meaning.specs.Syntax.{FormulaTree}
-use Rattle.tp_meaning.specs.Course.{Course, Shows, Part, blank, ◌⊕◌, shown_at, woven, Rising}
+use Rattle.tp_meaning.specs.Course.{Course, Shows, Part, blank, shown_at, woven, Rising}
 use Rattle.tp_meaning.specs.Bindings.{Locals, meanings_of}
 use Rattle.tp_meaning.specs.Holds.{Context, Holds, Joined, Chopped, Projected}
 use Rattle.tp_scene.specs.Scene.{Bindings, Side, Ending, Going, Head, marked, Leaf, Do, Later, Shown, Holder, Split, SplitProject, Closed, Opened, Running, Entries, none, leaf, node, Region}

@@ -1,13 +1,12 @@
 -- What a scene and a store stand for.
 use Rattle.std.specs.Prelude.{ℕ, suc, ◌≤◌, List, [], ◌∷◌, drop}
-use Rattle.tp_value.specs.Tree.{Tree}
 use Rattle.tp_value.specs.declared.path.Fact.{Fact}
 use Rattle.tp_meaning.specs.Syntax.{FormulaTree}
-use Rattle.tp_meaning.specs.Course.{Course, Shows, ◌⊕◌, shown_at}
+use Rattle.tp_meaning.specs.Course.{Course, Shows}
 use Rattle.tp_meaning.specs.Bindings.{Locals}
-use Rattle.tp_meaning.specs.Holds.{Context, Holds, Lasts}
+use Rattle.tp_meaning.specs.Holds.{Context, Lasts}
 use Rattle.tp_store.specs.Facts.{AgreesWithAll}
-use Rattle.tp_store.specs.Known.{Contents, Variable, new_store, facts_below}
+use Rattle.tp_store.specs.Known.{Variable, new_store, facts_below}
 use Rattle.tp_eval.specs.Right.{values_at}
 use Rattle.tp_scene.specs.Scene.{Do, none, leaf, new_head, Scene}
 use Rattle.tp_scene.specs.Says.{RegionSays}

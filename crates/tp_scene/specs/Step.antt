@@ -1,15 +1,14 @@
 -- What each item becomes.
-use Rattle.std.specs.Prelude.{ℤ, pos, negsuc, ◌+ℤ◌, ◌-ℤ◌, int_le, ℕ, zero, suc, ◌+◌, ◌-◌, nat_lt, Bool, true, false, ◌&&◌, not, List, [], ◌∷◌, ◌++◌, Option, Some, None, slice_get, if◌then◌else◌}
+use Rattle.std.specs.Prelude.{ℤ, pos, negsuc, ◌+ℤ◌, int_le, ℕ, zero, suc, ◌-◌, nat_lt, Bool, true, false, ◌&&◌, not, List, [], ◌∷◌, ◌++◌, Option, Some, None, slice_get, if◌then◌else◌}
 use Rattle.tp_value.specs.Tree.{Tree, num, truth, list, same_tree}
 use Rattle.tp_value.specs.Limits.{length_limit}
 use Rattle.tp_value.specs.declared.path.Path.{Path}
 use Rattle.tp_value.specs.declared.path.Fact.{Fact}
 use Rattle.tp_value.specs.declared.value.Shape.TheVariants.{Items}
-use Rattle.tp_kernel.specs.declared.formula.FaultKind.{FaultKind}
 use Rattle.tp_kernel.specs.declared.formula.FaultKind.TheVariants.{WrongKind, NoElement}
 use Rattle.tp_kernel.specs.declared.formula.LimitKind.{LimitKind}
 use Rattle.tp_kernel.specs.declared.formula.LimitKind.TheVariants as limit
-use Rattle.tp_meaning.specs.Syntax.{ExprTree, ExprTrees, no_expr, expr_then, numeral, boolean, known, bound, global, listing, size, index, minus, negation, both, either, binary, choice, invoke, FormulaTree, FormulaTrees, trivial, test, equation, next_equation, empty, more, next, weak_next, if_more, if_empty, always, conjunction, branch, len, assign, chop, while, for_from, forall_from, project, exists, call, input, display, no_formula, formula_then, formulas_of, Definition, BindingTree, place_binding, known_binding}
+use Rattle.tp_meaning.specs.Syntax.{ExprTree, ExprTrees, no_expr, expr_then, numeral, known, size, FormulaTree, FormulaTrees, trivial, test, equation, next_equation, empty, more, next, weak_next, if_more, if_empty, always, conjunction, branch, len, assign, chop, while, for_from, forall_from, project, exists, call, input, display, no_formula, formula_then, formulas_of, Definition, BindingTree, place_binding, known_binding}
 use Rattle.tp_meaning.specs.Unfolding.{nexts}
 use Rattle.tp_meaning.specs.Value.{is_upper}
 use Rattle.tp_meaning.specs.Inputs.{InputLines, input_at}
@@ -22,7 +21,7 @@ use Rattle.tp_scene.specs.declared.answer.Cell.{Cell}
 use Rattle.tp_scene.specs.declared.answer.Cell.TheVariants.{Part, End}
 use Rattle.tp_scene.specs.declared.answer.Clash.{Clash}
 use Rattle.tp_scene.specs.declared.answer.Clash.TheVariants.{Facts, Marks, False, NoValue}
-use Rattle.tp_scene.specs.Scene.{Bindings, Side, Ending, Going, Head, Leaf, Do, Later, Shown, Holder, Split, SplitProject, Closed, Opened, Running, Entries, none, leaf, node, Region, new_head, no_region, split_then, closed_then, opened_then, running_then, Place, held_place}
+use Rattle.tp_scene.specs.Scene.{Bindings, Side, Ending, Going, Leaf, Do, Later, Shown, Holder, Split, SplitProject, Closed, Opened, Running, Entries, none, leaf, Region, new_head, split_then, closed_then, opened_then, running_then, Place}
 
 -- What a reduction gives in place of the item: new entries, of which so many items and regions took new numbers; perhaps a new local variable;
 -- perhaps a mark on the region where the item stands; and new facts.
@@ -268,8 +267,14 @@ module _ (defs : List Definition) (inputs : InputLines) (state : ℕ) (facts : L
   formula_step (forall_from name k e f) env p n = with_number (value_of e env) (λ m. instances name k m f env n)
   formula_step (project f g) env p n = with_region p.depth (opened_then (n.item 1) (region_of n.region (n.item 0) g env) f env none) 2
   formula_step (exists name lasting f) env p n =
-      reduces (record { news = leaf (n.item 0) (Do f (env ++ place_binding (record { var = record { number = n.local; lasting = lasting }; at = [] }) ∷ [])) none; items = 1; regions = 0
-      ; local = Some (record { name = name; lasting = lasting }); mark = None; facts = [] })
+      reduces (record {
+        news = leaf (n.item 0) (Do f (env ++ place_binding (record { var = record { number = n.local; lasting = lasting }; at = [] }) ∷ [])) none;
+        items = 1;
+        regions = 0;
+        local = Some (record { name = name; lasting = lasting });
+        mark = None;
+        facts = [];
+      })
   formula_step (call i es) env p n = called (slice_get defs i) es env n
   formula_step (input x port) env p n = from_port (input_at inputs state port) port (side_of x env)
   formula_step (display es) env p n = with_values es env (λ vs. becomes (leaf (n.item 0) (Shown vs) none) 1)

@@ -3,5 +3,12 @@
 #![tactic(auto)]
 
 mod answer;
+mod laws;
+#[cfg(test)]
+mod tests;
 
 pub use answer::{Cell, Clash};
+pub use laws::{
+    advances_fit, advances_keep, ends_stand, flat_scenes_stay_flat, refusals_stand_for_none,
+    runs_begin, steps_fit, steps_keep,
+};

@@ -1,7 +1,6 @@
 -- Of the facts that clash with one, the first.
-use Rattle.std.proofs.Common.{◌≡◌, ◌⊎◌, inl, inr, ℕ, suc, ◌+◌, ◌<◌, ◌≤◌, Bool, true, false, ◌&&◌, ◌||◌, cond, eqb, ltb, List, [], ◌∷◌, length, Option, Some, None, refl, ap, ap₂, sym, ◌∙◌, subst, arith}
-use Rattle.std.proofs.lemmas.Bool.{both_ways, or_parts, or_from, and_cases, and_left, and_right, ltb-false, le-ltb, ltb-true, lt-ltb, eqb-true, eq-eqb, ne_eqb, cases_order, cases_Bool, false≢true, or_cases, and_parts, false_from_ne_true}
-use Rattle.tp_value.specs.declared.path.Path.{Path}
+use Rattle.std.proofs.Common.{◌≡◌, inl, inr, ℕ, ◌<◌, ◌≤◌, Bool, true, false, ◌&&◌, ◌||◌, cond, eqb, ltb, List, [], ◌∷◌, length, Option, Some, None, refl, ap, ap₂, sym, ◌∙◌, arith}
+use Rattle.std.proofs.lemmas.Bool.{both_ways, ltb-false, le-ltb, ltb-true, eqb-true, eq-eqb, or_cases, and_parts}
 use Rattle.tp_value.specs.declared.path.Fact.{Fact}
 use Rattle.tp_store.specs.Facts.{clash}
 use Rattle.tp_store.specs.Known.{is_lesser, is_earlier, earlier_of, first_clash}
@@ -62,8 +61,8 @@ lesser-asym [] (y ∷ b) h = refl
 lesser-asym (x ∷ a) [] h = absurd (cc)
 lesser-asym (x ∷ a) (y ∷ b) h =
     elim (or_cases (ltb x y) (eqb x y && is_lesser a b) h) [
-      inl t ↦ (let lt : x < y = ltb-true x y t in not_lesser-from y x b a (record { heads = omega arith; tails = λ e. absurd (omega arith) }))
-    | inr t ↦ (let r = and_parts (eqb x y) (is_lesser a b) t in let e : x ≡ y = eqb-true x y r.0 in not_lesser-from y x b a (record { heads = omega arith; tails = λ f. lesser-asym a b r.1 }))
+      | inl t ↦ (let lt : x < y = ltb-true x y t in not_lesser-from y x b a (record { heads = omega arith; tails = λ e. absurd (omega arith) }))
+      | inr t ↦ (let r = and_parts (eqb x y) (is_lesser a b) t in let e : x ≡ y = eqb-true x y r.0 in not_lesser-from y x b a (record { heads = omega arith; tails = λ f. lesser-asym a b r.1 }))
     ]
 
 lesser-irrefl : (a : List ℕ) → is_lesser a a ≡ false
@@ -113,8 +112,8 @@ earlier-asym f g h =
     let m = length f.path.at in
     let n = length g.path.at in
     elim (or_cases (ltb m n) (eqb m n && is_lesser f.path.at g.path.at) h) [
-      inl t ↦ (let lt : m < n = ltb-true m n t in not_earlier-from g f (record { lengths = omega arith; indices = λ e. absurd (omega arith) }))
-    | inr t ↦ (let r = and_parts (eqb m n) (is_lesser f.path.at g.path.at) t in let e : m ≡ n = eqb-true m n r.0 in not_earlier-from g f (record { lengths = omega arith; indices = λ q. lesser-asym f.path.at g.path.at r.1 }))
+      | inl t ↦ (let lt : m < n = ltb-true m n t in not_earlier-from g f (record { lengths = omega arith; indices = λ e. absurd (omega arith) }))
+      | inr t ↦ (let r = and_parts (eqb m n) (is_lesser f.path.at g.path.at) t in let e : m ≡ n = eqb-true m n r.0 in not_earlier-from g f (record { lengths = omega arith; indices = λ q. lesser-asym f.path.at g.path.at r.1 }))
     ]
 
 earlier-irrefl : (f : Fact) → is_earlier f f ≡ false

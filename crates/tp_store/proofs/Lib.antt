@@ -4,4 +4,11 @@ pub mod Paths
 pub mod Members
 pub mod First
 pub mod Same
+pub mod Adding
 pub mod Filing
+pub mod EntryLemmas
+pub mod Meaning
+pub mod ValueFacts
+pub mod Separate
+pub mod States
+pub mod Chosen

@@ -1,8 +1,6 @@
 -- Tests of paths and shapes tell equal ones, and a clash goes both ways.
-use Rattle.std.proofs.Common.{◌≡◌, ℕ, Bool, true, false, not, ◌&&◌, ◌||◌, eqb, List, [], ◌∷◌, refl, ap, ap₂, sym, ◌∙◌, arith}
+use Rattle.std.proofs.Common.{◌≡◌, ℕ, Bool, true, false, not, ◌&&◌, ◌||◌, List, [], ◌∷◌, refl, ap, ap₂, sym}
 use Rattle.std.specs.Bool.{Decides}
-use Rattle.std.specs.Ordering.{int_eq}
-use Rattle.std.proofs.lemmas.Bool.{both_ways, or_cases, and_parts}
 use Rattle.std.proofs.lemmas.Bool.Decides.{Decides-eqb, Decides-int_eq, Decides-and, Decides-like, same_from_decides}
 use Rattle.tp_value.specs.Tree.{same_truth}
 use Rattle.tp_value.specs.declared.value.Shape.{Shape}
@@ -17,7 +15,6 @@ same_truth-decides true true = (λ e. refl, λ e. refl)
 same_truth-decides true false = (λ e. absurd (cc), λ e. absurd (cc))
 same_truth-decides false true = (λ e. absurd (cc), λ e. absurd (cc))
 same_truth-decides false false = (λ e. refl, λ e. refl)
-
 
 pub same_variable-decides : (x y : VarId) → Decides (same_variable x y) (x ≡ y)
 same_variable-decides x y =

@@ -1,21 +1,19 @@
 -- What is known of a variable depends on which facts of it there are, and not on their order.
-use Rattle.std.proofs.Common.{◌≡◌, ◌⊎◌, inl, inr, ℕ, zero, suc, ◌+◌, ◌<◌, ◌≤◌, max, Bool, true, false, not, ◌&&◌, ◌||◌, cond, eqb, List, [], ◌∷◌, ◌++◌, length, filter, Option, Some, None, refl, ap, ap₂, sym, ◌∙◌, subst, arith}
+use Rattle.std.proofs.Common.{◌≡◌, inl, inr, ℕ, zero, suc, ◌+◌, ◌<◌, ◌≤◌, max, true, not, ◌&&◌, ◌||◌, cond, List, [], ◌∷◌, ◌++◌, length, Option, Some, None, refl, ap, ap₂, sym, ◌∙◌, subst, arith}
 use Rattle.std.specs.Bool.{Decides}
-use Rattle.std.proofs.lemmas.Bool.{both_ways, or_cases, and_parts, false_from_ne_true, true≢false}
+use Rattle.std.proofs.lemmas.Bool.{both_ways, or_cases, and_parts, false_from_ne_true}
 use Rattle.std.proofs.lemmas.Bool.Decides.{same_from_decides}
-use Rattle.std.proofs.lemmas.Option.{none-some}
 use Rattle.std.proofs.lemmas.List.{length-append}
-use Rattle.tp_value.specs.Limits.{is_within_list_limit}
 use Rattle.tp_value.specs.declared.value.Shape.{Shape}
 use Rattle.tp_value.specs.declared.value.Shape.TheVariants.{Num, Truth, Items}
 use Rattle.tp_value.specs.declared.path.VarId.{VarId}
 use Rattle.tp_value.specs.declared.path.Path.{Path}
 use Rattle.tp_value.specs.declared.path.Fact.{Fact}
 use Rattle.tp_store.specs.Facts.{same_variable, same_path, same_shape, leaves_out, excludes, clash, kept_shape, is_excluded, item_path, fact}
-use Rattle.tp_store.specs.Known.{NoClash, is_none, is_earlier, first_clash, Addition, refused_or, checked, new_facts, addition, adds, Whole, known, open_at, WholeItems, and_items, list_of_items, items_known, with_shape, whole, deepest, Full, absent, limited, full}
+use Rattle.tp_store.specs.Known.{NoClash, is_none, first_clash, Addition, refused_or, checked, new_facts, addition, adds, Whole, open_at, and_items, list_of_items, items_known, with_shape, whole, deepest, absent, limited, full}
 use Rattle.tp_store.proofs.Paths.{same_variable-decides, same_path-decides, fact_from}
 use Rattle.tp_store.proofs.Members.{In, kept_in, kept_none, none_kept, in_kept, excluded_by, excluded_from}
-use Rattle.tp_store.proofs.First.{IsFirst, FirstOf, first_is, not_earlier-same}
+use Rattle.tp_store.proofs.First.{FirstOf, first_is, not_earlier-same}
 
 -- The two lists have the same facts of the variables with this number.
 pub record AgreeAt (n : ℕ) (fs gs : List Fact) : Type 0 where
@@ -35,8 +33,8 @@ excludes-variable f p h = (same_variable-decides f.path.var p.var).0 (and_parts 
 pub clash-variable : (f g : Fact) → clash f g ≡ true → f.path.var ≡ g.path.var
 clash-variable f g h =
     elim (or_cases (same_path f.path g.path && not (same_shape f.shape g.shape)) (excludes f g.path || excludes g f.path) h) [
-      inl t ↦ ap (λ (r : Path). r.var) ((same_path-decides f.path g.path).0 (and_parts (same_path f.path g.path) (not (same_shape f.shape g.shape)) t).0)
-    | inr t ↦ elim (or_cases (excludes f g.path) (excludes g f.path) t) [ inl e ↦ excludes-variable f g.path e | inr e ↦ sym (excludes-variable g f.path e) ]
+      | inl t ↦ ap (λ (r : Path). r.var) ((same_path-decides f.path g.path).0 (and_parts (same_path f.path g.path) (not (same_shape f.shape g.shape)) t).0)
+      | inr t ↦ elim (or_cases (excludes f g.path) (excludes g f.path) t) [ inl e ↦ excludes-variable f g.path e | inr e ↦ sym (excludes-variable g f.path e) ]
     ]
 
 kept_there : (fs gs : List Fact) (p : Path) → NoClash gs → AgreeAt p.var.number fs gs → (o : Option Shape) → kept_shape fs p ≡ o → kept_shape gs p ≡ o

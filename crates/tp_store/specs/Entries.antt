@@ -1,20 +1,50 @@
 -- What a store keeps of each variable.
-use Rattle.std.specs.Prelude.{◌≡◌, ℕ, suc, List, [], ◌∷◌, map}
+use Rattle.std.specs.Prelude.{◌≡◌, ℕ, zero, suc, List, [], ◌∷◌, ◌++◌, map, Option, Some, None, if◌then◌else◌}
 use Rattle.std.specs.List.{flat_map}
 use Rattle.tp_value.specs.declared.path.VarId.{VarId}
 use Rattle.tp_value.specs.declared.path.Fact.{Fact}
 use Rattle.tp_store.specs.Known.{Contents, Variable, NoClash}
 use Rattle.tp_store.specs.declared.entry.Entry.{Entry}
 
-abbrev pub variable_in : Entry → Variable
-variable_in e = record { name = e.name; lasting = e.lasting }
+-- a variable with the facts that are kept of it
+pub record Part : Type 0 where
+  pub variable : Variable
+  pub facts : List Fact
+
+abbrev pub part_in : Entry → Part
+part_in e = record { variable = record { name = e.name; lasting = e.lasting }; facts = e.facts.items }
+
+abbrev pub parts_in : List Entry → List Part
+parts_in es = map part_in es
 
 -- the facts of all variables
-abbrev pub facts_in : List Entry → List Fact
-facts_in es = flat_map (λ e. e.facts.items) es
+abbrev pub facts_in : List Part → List Fact
+facts_in ps = flat_map (λ p. p.facts) ps
 
-abbrev pub contents_of : List Entry → Contents
-contents_of es = record { facts = facts_in es; variables = map variable_in es }
+abbrev pub contents_of : List Part → Contents
+contents_of ps = record { facts = facts_in ps; variables = map (λ p. p.variable) ps }
+
+-- the facts of a variable, none where there is no such variable
+abbrev pub facts_there : Option Part → List Fact
+facts_there None = []
+facts_there (Some p) = p.facts
+
+-- a variable without facts
+abbrev pub without_facts : Variable → Part
+without_facts v = record { variable = v; facts = [] }
+
+-- what is kept of a variable in the next state
+abbrev pub next_part : Part → Part
+next_part p = if p.variable.lasting then p else without_facts p.variable
+
+abbrev pub with_facts : Part → List Fact → Part
+with_facts p news = record { variable = p.variable; facts = p.facts ++ news }
+
+-- more facts are kept of the variable with this number
+abbrev pub grown : List Part → ℕ → List Fact → List Part
+grown [] k news = []
+grown (p ∷ ps) zero news = with_facts p news ∷ ps
+grown (p ∷ ps) (suc k) news = p ∷ grown ps k news
 
 -- each fact is of this variable
 abbrev pub AreOf : VarId → List Fact → Type 0
@@ -22,11 +52,11 @@ AreOf x [] = Unit {0}
 AreOf x (f ∷ fs) = (f.path.var ≡ x) × AreOf x fs
 
 -- what is kept of the variable with this number: facts of it without a clash
-pub record IsEntry (i : ℕ) (e : Entry) : Type 0 where
-  pub filed : AreOf (record { number = i; lasting = e.lasting }) e.facts.items
-  pub apart : NoClash e.facts.items
+pub record IsPart (i : ℕ) (p : Part) : Type 0 where
+  pub filed : AreOf (record { number = i; lasting = p.variable.lasting }) p.facts
+  pub apart : NoClash p.facts
 
--- the entries of the variables from this number on
-abbrev pub AreEntries : ℕ → List Entry → Type 0
-AreEntries i [] = Unit {0}
-AreEntries i (e ∷ es) = IsEntry i e × AreEntries (suc i) es
+-- what is kept of the variables from this number on
+abbrev pub AreParts : ℕ → List Part → Type 0
+AreParts i [] = Unit {0}
+AreParts i (p ∷ ps) = IsPart i p × AreParts (suc i) ps

@@ -1,5 +1,5 @@
 -- What is known of a state: facts without a clash, and the names of its variables.
-use Rattle.std.specs.Prelude.{◌≡◌, ℕ, zero, suc, ◌+◌, Bool, true, false, ◌||◌, nat_lt, max, List, [], ◌∷◌, ◌++◌, filter, length, map, Option, Some, None, if◌then◌else◌, slice_get, eqb, ◌&&◌}
+use Rattle.std.specs.Prelude.{◌≡◌, ℕ, zero, suc, Bool, true, false, ◌||◌, nat_lt, max, List, [], ◌∷◌, filter, length, map, Option, Some, None, if◌then◌else◌, slice_get, eqb, ◌&&◌}
 use Rattle.tp_value.specs.Tree.{Tree, num, truth, list, of_items, same_truth}
 use Rattle.tp_value.specs.Globals.{is_lower}
 use Rattle.tp_value.specs.Limits.{is_within_list_limit}
@@ -8,7 +8,7 @@ use Rattle.tp_value.specs.declared.value.Shape.TheVariants.{Num, Truth, Items}
 use Rattle.tp_value.specs.declared.path.VarId.{VarId}
 use Rattle.tp_value.specs.declared.path.Path.{Path}
 use Rattle.tp_value.specs.declared.path.Fact.{Fact}
-use Rattle.tp_store.specs.Facts.{clash, kept_shape, is_excluded, item_path, facts_at}
+use Rattle.tp_store.specs.Facts.{clash, kept_shape, is_excluded, item_path}
 
 -- some fact of the list clashes with this one
 abbrev pub meets : List Fact → Fact → Bool

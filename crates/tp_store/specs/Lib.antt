@@ -3,3 +3,4 @@ pub mod Known
 pub mod Entries
 pub mod Changes
 pub mod Answers
+pub mod Laws

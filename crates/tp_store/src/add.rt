@@ -1,16 +1,17 @@
 // Adding facts.
-ghost use Rattle.std.specs.Prelude.{◌≡◌, ◌++◌, ◌∷◌, [], IfOk, IfErr, OnOk, OnErr};
+ghost use Rattle.std.specs.Prelude.{◌≡◌, ◌<◌, length, slice_get, ◌++◌, ◌∷◌, [], IfOk, IfErr, OnOk, OnErr};
 ghost use Rattle.tp_value.specs.Read.{tree};
 ghost use Rattle.tp_value.specs.Shape.{HasShortLists};
 ghost use Rattle.tp_value.specs.declared.value.Shape.TheVariants as shape;
 ghost use Rattle.tp_store.specs.Facts.{facts_at, fact};
-ghost use Rattle.tp_store.specs.Known.{addition, adds, IsVariableOf, NoClash};
-ghost use Rattle.tp_store.specs.Entries.{AreOf};
-ghost use Rattle.tp_store.specs.Answers.{IsRefusal};
+ghost use Rattle.tp_store.specs.Known.{addition, adds, new_facts, IsVariableOf, NoClash};
+ghost use Rattle.tp_store.specs.Entries.{AreOf, parts_in, facts_there, grown};
+ghost use Rattle.tp_store.specs.Answers.{Adds, IsRefusal};
 ghost use Rattle.tp_store.specs.Changes.{IsSound, HasAdded};
 
+use crate::entry::{Entry, facts_of};
 use crate::full::item_path;
-use crate::listing::{copy_facts, find_clash, keep_new};
+use crate::listing::{copy_facts, copy_new, find_clash};
 use crate::store::Store;
 use std::alloc::{AllocError, AllocFailed, Global};
 use tp_value::{Fact, Facts, NoMemory, Path, Shape, Value, VarId};
@@ -91,6 +92,39 @@ fn append_facts(path: &Path, value: &Value, out: &mut Vec<Fact>) -> Result<(), N
     Ok(())
 }
 
+// The facts of the value at the path.
+fn value_facts(alloc: Global, path: &Path, value: &Value) -> Result<Vec<Fact>, NoMemory>
+    requires { HasShortLists (tree value.now) }
+    ensures { IfOk result (λ facts. facts.items ≡ facts_at path.now (tree value.now)) }
+{
+    let mut facts = Vec::new(alloc);
+    append_facts(path, value, &mut facts)?;
+    Ok(facts)
+}
+
+// The one fact that the path is a list of that length.
+fn length_facts(alloc: Global, path: &Path, length: u32) -> Result<Vec<Fact>, NoMemory>
+    ensures { IfOk result (λ facts. facts.items ≡ fact path.now (shape.Items length) ∷ []) }
+{
+    let mut facts = Vec::new(alloc);
+    let fact = fact_at(path, Shape::Items(length))?;
+    facts.push(fact)?;
+    Ok(facts)
+}
+
+// Whether facts can be added to those that are kept of their variable.
+fn check_in(kept: &[Fact], facts: &[Fact]) -> Result<(), AddRefusal>
+    ensures ok { OnOk result (addition kept.now facts.now ≡ adds (new_facts kept.now facts.now)) }
+    ensures refused { IfErr result (IsRefusal (addition kept.now facts.now)) }
+{
+    if let Some((old, new)) = find_clash(kept, facts) {
+        let kept = old.copy()?;
+        let new = new.copy()?;
+        return Err(AddRefusal::Clash { kept, new });
+    }
+    Ok(())
+}
+
 // Adds facts of one variable to those that are kept of it.
 fn add_in(alloc: Global, kept: &mut Vec<Fact>, facts: Vec<Fact>) -> Result<Facts, AddRefusal>
     ensures added { IfOk result (λ news. addition kept.old.items facts.items ≡ adds news) }
@@ -98,16 +132,29 @@ fn add_in(alloc: Global, kept: &mut Vec<Fact>, facts: Vec<Fact>) -> Result<Facts
     ensures ok { IfOk result (λ news. kept.new.items ≡ kept.old.items ++ news) }
     ensures err { OnErr result (kept.new.items ≡ kept.old.items) }
 {
-    if let Some((old, new)) = find_clash(kept.as_slice(), facts.as_slice()) {
-        let kept = old.copy()?;
-        let new = new.copy()?;
-        return Err(AddRefusal::Clash { kept, new });
-    }
-    let mut news = facts;
-    keep_new(kept.as_slice(), &mut news);
+    check_in(kept.as_slice(), facts.as_slice())?;
+    let news = copy_new(alloc, kept.as_slice(), facts.as_slice())?;
     let mut copies = copy_facts(alloc, news.as_slice())?;
     kept.append(&mut copies)?;
     Ok(Facts { items: news })
+}
+
+// Adds facts of the variable with that number.
+fn add_at(
+    alloc: Global,
+    entries: &mut [Entry],
+    number: u64,
+    facts: Vec<Fact>,
+) -> Result<Facts, AddRefusal>
+    requires { number < length entries.old }
+    ensures added { IfOk result (λ news. addition (facts_there (slice_get (parts_in entries.old) number)) facts.items ≡ adds news) }
+    ensures refused { IfErr result (IsRefusal (addition (facts_there (slice_get (parts_in entries.old) number)) facts.items)) }
+    ensures ok { IfOk result (λ news. parts_in entries.new ≡ grown (parts_in entries.old) number news) }
+    ensures err { OnErr result (parts_in entries.new ≡ parts_in entries.old) }
+{
+    let entry = &mut entries[number as usize];
+    let news = add_in(alloc, &mut entry.facts, facts)?;
+    Ok(news)
 }
 
 impl Store {
@@ -124,8 +171,7 @@ impl Store {
         ensures err { OnErr result (self.new ≡ self.old) }
         ensures sound { IsSound self.new }
     {
-        let mut facts = Vec::new(self.alloc);
-        append_facts(path, value, &mut facts)?;
+        let facts = value_facts(self.alloc, path, value)?;
         let news = self.add_facts(path.var, facts)?;
         Ok(news)
     }
@@ -139,11 +185,39 @@ impl Store {
         ensures err { OnErr result (self.new ≡ self.old) }
         ensures sound { IsSound self.new }
     {
-        let mut facts = Vec::new(self.alloc);
-        let fact = fact_at(path, Shape::Items(length))?;
-        facts.push(fact)?;
+        let facts = length_facts(self.alloc, path, length)?;
         let news = self.add_facts(path.var, facts)?;
         Ok(news)
+    }
+
+    /// Whether `add` of this value at this path would add its facts, or the refusal that it would give; the store stays as it is.
+    pub fn check(&self, path: &Path, value: &Value) -> Result<(), AddRefusal>
+        requires variable { IsVariableOf self.now.variables path.now.var }
+        requires short { HasShortLists (tree value.now) }
+        ensures ok { OnOk result (Adds (addition self.now.facts (facts_at path.now (tree value.now)))) }
+        ensures refused { IfErr result (IsRefusal (addition self.now.facts (facts_at path.now (tree value.now)))) }
+    {
+        let facts = value_facts(self.alloc, path, value)?;
+        self.check_facts(path.var, facts.as_slice())
+    }
+
+    /// Whether `add_length` of this path would add its fact, or the refusal that it would give; the store stays as it is.
+    pub fn check_length(&self, path: &Path, length: u32) -> Result<(), AddRefusal>
+        requires { IsVariableOf self.now.variables path.now.var }
+        ensures ok { OnOk result (Adds (addition self.now.facts (fact path.now (shape.Items length) ∷ []))) }
+        ensures refused { IfErr result (IsRefusal (addition self.now.facts (fact path.now (shape.Items length) ∷ []))) }
+    {
+        let facts = length_facts(self.alloc, path, length)?;
+        self.check_facts(path.var, facts.as_slice())
+    }
+
+    // Whether facts of one variable can be added.
+    fn check_facts(&self, var: VarId, facts: &[Fact]) -> Result<(), AddRefusal>
+        requires { AreOf var facts.now }
+        ensures ok { OnOk result (Adds (addition self.now.facts facts.now)) }
+        ensures refused { IfErr result (IsRefusal (addition self.now.facts facts.now)) }
+    {
+        check_in(facts_of(self.entries.as_slice(), var.number), facts)
     }
 
     // Adds facts of one variable, which don't clash with each other.
@@ -158,8 +232,7 @@ impl Store {
         ensures sound { IsSound self.new }
     {
         let alloc = self.alloc;
-        let entry = &mut self.entries[var.number as usize];
-        let news = add_in(alloc, &mut entry.facts, facts)?;
+        let news = add_at(alloc, self.entries.as_mut_slice(), var.number, facts)?;
         Ok(news)
     }
 }

@@ -72,7 +72,11 @@ pub fn excludes(fact: &Fact, path: &Path) -> bool
     ensures { result ≡ excludes fact.now path.now }
 {
     same_variable(fact.path.var, path.var)
-        && leaves_out(fact.path.at.items.as_slice(), fact.shape, path.at.items.as_slice())
+        && leaves_out(
+            fact.path.at.items.as_slice(),
+            fact.shape,
+            path.at.items.as_slice(),
+        )
 }
 
 /// Whether the facts give one path two shapes, or one excludes the other's path.

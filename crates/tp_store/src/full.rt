@@ -5,6 +5,7 @@ ghost use Rattle.tp_store.specs.Changes.{IsSound};
 ghost use Rattle.tp_store.specs.Facts.{item_path};
 ghost use Rattle.tp_store.specs.Answers.{full_of, whole_of};
 
+use crate::entry::facts_of;
 use crate::listing::{deepest, is_excluded, shape_in};
 use crate::store::Store;
 use std::alloc::Global;
@@ -45,7 +46,13 @@ fn open(path: &Path) -> Result<Found, NoMemory>
 
 // The items of the list at the path, of which there are so many.
 #[cycle(whole)]
-fn items_at(alloc: Global, facts: &[Fact], path: &Path, count: u32, deeper: usize) -> Result<Found, NoMemory>
+fn items_at(
+    alloc: Global,
+    facts: &[Fact],
+    path: &Path,
+    count: u32,
+    deeper: u64,
+) -> Result<Found, NoMemory>
     ensures { IfOk result (λ found. whole_of found ≡ list_of_items (items_known (whole deeper facts.now) path.now count 0)) }
 {
     let mut items = Vec::new(alloc);
@@ -61,7 +68,7 @@ fn items_at(alloc: Global, facts: &[Fact], path: &Path, count: u32, deeper: usiz
 
 // The whole value at the path, where no path of the list has as many indices more.
 #[cycle(whole)]
-fn whole_at(alloc: Global, facts: &[Fact], path: &Path, deeper: usize) -> Result<Found, NoMemory>
+fn whole_at(alloc: Global, facts: &[Fact], path: &Path, deeper: u64) -> Result<Found, NoMemory>
     ensures { IfOk result (λ found. whole_of found ≡ whole deeper facts.now path.now) }
 {
     if deeper == 0 {
@@ -108,15 +115,8 @@ impl Store {
         ensures value { IfOk result (λ known. full_of known ≡ full self.now.facts path.now) }
         ensures sound { IsSound self.now }
     {
-        match self.entries.get(path.var.number as usize) {
-            Some(entry) => {
-                let known = full_in(self.alloc, entry.facts.as_slice(), path)?;
-                Ok(known)
-            }
-            None => {
-                let path = path.copy()?;
-                Ok(Known::Open(path))
-            }
-        }
+        let facts = facts_of(self.entries.as_slice(), path.var.number);
+        let known = full_in(self.alloc, facts, path)?;
+        Ok(known)
     }
 }

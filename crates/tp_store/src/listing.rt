@@ -1,8 +1,8 @@
 // Look-ups and changes of the facts of one variable.
-ghost use Rattle.std.specs.Prelude.{◌≡◌, ◌++◌, ◌∷◌, [], length, IfOk, OnOk, OnErr, filter, MatchOption, vec_len};
+ghost use Rattle.std.specs.Prelude.{◌≡◌, ◌<◌, ◌^◌, ◌++◌, ◌∷◌, [], length, IfOk, OnOk, OnErr, filter, MatchOption, vec_len};
 ghost use Rattle.std.specs.Option.{option_copied};
 ghost use Rattle.tp_store.specs.Facts.{kept_shape, is_excluded};
-ghost use Rattle.tp_store.specs.Known.{first_clash, new_facts, deepest, Addition, checked, refuses};
+ghost use Rattle.tp_store.specs.Known.{first_clash, new_facts, deepest, Addition, checked, refuses, is_none};
 
 use crate::clash::{clashes, excludes, is_earlier, same_path};
 use std::alloc::Global;
@@ -33,12 +33,13 @@ pub fn is_excluded(facts: &[Fact], path: &Path) -> bool
 }
 
 /// The greatest number of indices of a path of the list.
-pub fn deepest(facts: &[Fact]) -> usize
-    ensures { result ≡ deepest facts.now }
+pub fn deepest(facts: &[Fact]) -> u64
+    ensures value { result ≡ deepest facts.now }
+    ensures bound { result < 2 ^ 63 }
 {
-    let mut most = 0;
+    let mut most = 0u64;
     for fact in facts {
-        most = most.max(fact.path.at.items.len());
+        most = most.max(fact.path.at.items.len() as u64);
     }
     most
 }
@@ -72,11 +73,24 @@ pub fn find_clash<'a>(kept: &'a [Fact], news: &'a [Fact]) -> Option<(&'a Fact, &
     None
 }
 
-/// Drops the facts that are kept already.
-pub fn keep_new(kept: &[Fact], news: &mut Vec<Fact>)
-    ensures { news.new.items ≡ new_facts kept.now news.old.items }
+// No fact of the list has the path of this one.
+fn is_new(kept: &[Fact], fact: &Fact) -> bool
+    ensures { result ≡ is_none (kept_shape kept.now fact.now.path) }
 {
-    news.retain(|fact| shape_in(kept, &fact.path).is_none());
+    shape_in(kept, &fact.path).is_none()
+}
+
+/// Equal facts to those that aren't kept yet.
+pub fn copy_new(alloc: Global, kept: &[Fact], facts: &[Fact]) -> Result<Vec<Fact>, NoMemory>
+    ensures { IfOk result (λ news. news.items ≡ new_facts kept.now facts.now) }
+{
+    let mut news = Vec::new(alloc);
+    for fact in facts {
+        if is_new(kept, fact) {
+            news.push(fact.copy()?)?;
+        }
+    }
+    Ok(news)
 }
 
 /// Equal facts.

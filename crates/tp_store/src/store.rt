@@ -1,13 +1,12 @@
 // What is known of a state, by variable.
 ghost use Rattle.std.specs.Prelude.{◌≡◌, ◌++◌, ◌∷◌, [], length, IfOk, OnOk, OnErr};
 ghost use Rattle.std.specs.Option.{option_copied};
-ghost use Rattle.tp_value.specs.Globals.{is_lower};
 ghost use Rattle.tp_store.specs.Facts.{kept_shape};
 ghost use Rattle.tp_store.specs.Known.{new_store, name_of, lasting_facts, facts_below};
 ghost use Rattle.tp_store.specs.Changes.{IsSound, HaveSameShapes, HasAppended};
 
-use crate::entry::Entry;
-use crate::listing::{copy_facts, shape_in};
+use crate::entry::{Entry, copy_below, drop_state_facts, facts_of, global_entries, name_of};
+use crate::listing::shape_in;
 use std::alloc::Global;
 use std::marker::Model;
 use tp_value::{Facts, Globals, NoMemory, Path, Shape, Text, VarId};
@@ -25,21 +24,11 @@ impl Model for Store {
 
     ghost Value = { Contents };
 
-    ghost use Rattle.tp_store.specs.Entries.{contents_of, AreEntries};
+    ghost use Rattle.tp_store.specs.Entries.{contents_of, parts_in, AreParts};
 
-    ghost view = { λ s. contents_of s.entries.items };
+    ghost view = { λ s. contents_of (parts_in s.entries.items) };
 
-    ghost invariant = { λ s. AreEntries 0 s.entries.items };
-}
-
-// Whether variables of this name are static.
-fn is_lower(name: &[u8]) -> bool
-    ensures { result ≡ is_lower name.now }
-{
-    match name {
-        [first, ..] => first.is_ascii_lowercase(),
-        [] => false,
-    }
+    ghost invariant = { λ s. AreParts 0 (parts_in s.entries.items) };
 }
 
 impl Store {
@@ -47,17 +36,7 @@ impl Store {
     pub fn new(alloc: Global, globals: &Globals) -> Result<Store, NoMemory>
         ensures { IfOk result (λ store. store ≡ new_store globals.now) }
     {
-        let mut entries = Vec::new(alloc);
-        for number in 0..globals.len() {
-            if let Some(name) = globals.name(number) {
-                let lasting = is_lower(name.as_slice());
-                entries.push(Entry {
-                    name: name.copy()?,
-                    lasting,
-                    facts: Vec::new(alloc),
-                })?;
-            }
-        }
+        let entries = global_entries(alloc, globals)?;
         Ok(Store { alloc, entries })
     }
 
@@ -66,10 +45,7 @@ impl Store {
         ensures value { result ≡ kept_shape self.now.facts path.now }
         ensures sound { IsSound self.now }
     {
-        match self.entries.get(path.var.number as usize) {
-            Some(entry) => shape_in(entry.facts.as_slice(), path),
-            None => None,
-        }
+        shape_in(facts_of(self.entries.as_slice(), path.var.number), path)
     }
 
     /// The next number, for a new variable of that name.
@@ -94,10 +70,7 @@ impl Store {
     pub fn name(&self, var: VarId) -> Option<&Text>
         ensures { option_copied result ≡ name_of self.now.variables var }
     {
-        match self.entries.get(var.number as usize) {
-            Some(entry) if entry.lasting == var.lasting => Some(&entry.name),
-            _ => None,
-        }
+        name_of(self.entries.as_slice(), var)
     }
 
     /// Appends the kept facts whose variable has a number less than `below`, each once, or nothing where it refuses.
@@ -106,13 +79,7 @@ impl Store {
         ensures err { OnErr result (out.new ≡ out.old) }
         ensures sound { IsSound self.now }
     {
-        let mut copies = Vec::new(self.alloc);
-        for (number, entry) in self.entries.iter().enumerate() {
-            if (number as u64) < below {
-                let mut own = copy_facts(self.alloc, entry.facts.as_slice())?;
-                copies.append(&mut own)?;
-            }
-        }
+        let mut copies = copy_below(self.alloc, self.entries.as_slice(), below)?;
         out.items.append(&mut copies)?;
         Ok(())
     }
@@ -123,10 +90,6 @@ impl Store {
         ensures variables { self.new.variables ≡ self.old.variables }
         ensures sound { IsSound self.new }
     {
-        for entry in self.entries.iter_mut() {
-            if !entry.lasting {
-                entry.facts.clear();
-            }
-        }
+        drop_state_facts(self.entries.as_mut_slice());
     }
 }

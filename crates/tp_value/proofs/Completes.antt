@@ -1,19 +1,19 @@
 -- What spells a value is read to it, or passes a limit.
-use Rattle.std.proofs.Common.{◌≡◌, ◌≢◌, ℕ, zero, suc, ◌+◌, ◌-◌, ◌*◌, ◌<◌, ◌≤◌, ◌⊎◌, max, inl, inr, ℤ, pos, negsuc, neg_ℤ, Bool, true, false, List, [], ◌∷◌, ◌++◌, length, fold, Option, Some, None, Result, Ok, Err, cond, IsTrue, refl, sym, ap, ◌∙◌, subst, arith, append_assoc, length-append}
+use Rattle.std.proofs.Common.{◌≡◌, ℕ, ◌+◌, ◌-◌, ◌<◌, ◌≤◌, ◌⊎◌, max, inl, inr, ℤ, pos, neg_ℤ, Bool, true, false, List, [], ◌∷◌, ◌++◌, length, fold, Some, None, cond, refl, sym, ap, ◌∙◌, subst, arith, append_assoc, length-append}
 use Rattle.std.specs.Prelude.{codes}
 use Rattle.std.specs.Char.{is_ascii_digit}
 use Rattle.std.proofs.lemmas.Bool.{cases_lt}
 use Rattle.std.proofs.lemmas.Bool.Decides.{nat_tests}
 use Rattle.tp_value.specs.declared.scan.Last.{Last}
 use Rattle.tp_value.specs.declared.scan.Last.TheVariants.{Bracket, Item, Comma}
-use Rattle.tp_value.specs.declared.scan.Phase.TheVariants.{Start, Between, Minus, Digits}
-use Rattle.tp_value.specs.declared.scan.Move.TheVariants.{Go}
-use Rattle.tp_value.specs.declared.reading.ReadValue.TheVariants.{NoValue, TooLarge, TooLong, TooDeep, NoMemory}
-use Rattle.tp_value.specs.Number.{number_limit, is_within_limit, within_limit}
-use Rattle.tp_value.specs.Tree.{Tree, Trees, num, truth, list, nil, cons, of_items}
+use Rattle.tp_value.specs.declared.scan.Phase.TheVariants.{Start, Between}
+use Rattle.tp_value.specs.declared.reading.ReadValue.TheVariants.{TooLong, TooDeep}
+use Rattle.tp_value.specs.Number.{number_limit}
+use Rattle.tp_value.specs.Tree.{Tree, num, truth, list, of_items}
 use Rattle.tp_value.specs.Limits.{item_limit, depth_limit, items_in, items_within, depth_of, greatest_depth, HasNumbers, HaveNumbers}
-use Rattle.tp_value.specs.Spelling.{is_blank, AllDigits, AreDigits, with_digit, decimal_value, spelling, CanClose, TakesItem, Spells, digits, minus, word, closed, Unfinished, bracket, blank, item, comma}
-use Rattle.tp_value.specs.Reading.{State, Answer, found, refused, answered, begins_value, digit_of, started, item_started, within_list, carried, moved, finished, step_behind, step, reading}
+use Rattle.tp_value.specs.Spelling.{is_blank, AreDigits, with_digit, decimal_value, spelling, CanClose, TakesItem, Spells, digits, minus, word, closed, Unfinished, bracket, blank, item, comma}
+use Rattle.tp_value.specs.Reading.{State, Answer, refused, answered, begins_value, carried, finished, step_behind, reading}
+use Rattle.tp_value.specs.Answers.{EndsNumber, CannotContinue}
 use Rattle.tp_value.proofs.Digits.{IsOver, signed, in_digits, digits_read, Read, digit_starts, a_number, no_number}
 
 -- a value is due
@@ -23,17 +23,6 @@ due lists begun = record { lists = lists; begun = begun; phase = Start }
 -- within the innermost list, which has these items
 abbrev pub within : List (List Tree) → ℕ → List Tree → Last → State
 within lists begun ts last = record { lists = ts ∷ lists; begun = begun; phase = Between last }
-
--- the bytes go on with no digit
-abbrev pub EndsNumber : List ℕ → Type 0
-EndsNumber [] = Unit {0}
-EndsNumber (b ∷ z) = is_ascii_digit b ≡ false
-
--- the bytes do not make the value a longer number
-abbrev pub Follows : Tree → List ℕ → Type 0
-Follows (num n) rest = EndsNumber rest
-Follows (truth b) rest = Unit {0}
-Follows (list ts) rest = Unit {0}
 
 abbrev pub FollowsPart : Last → List ℕ → Type 0
 FollowsPart Bracket rest = Unit {0}
@@ -63,7 +52,7 @@ list_begins (blank s ts last b u e) = let r = list_begins u in (r.0 ++ b ∷ [],
 list_begins (item s ts last r t u k h) = let q = list_begins u in (q.0 ++ r, ap (λ z. z ++ r) q.1)
 list_begins (comma s ts u) = let r = list_begins u in (r.0 ++ codes ",", ap (λ z. z ++ codes ",") r.1)
 
-digit_begins : (b : ℕ) → is_ascii_digit b ≡ true → begins_value b ≡ true
+pub digit_begins : (b : ℕ) → is_ascii_digit b ≡ true → begins_value b ≡ true
 digit_begins b h = grind (arith, nat_tests)
 
 pub first_byte : {s : List ℕ} {t : Tree} → Spells s t → (b : ℕ) × (z : List ℕ) × (s ≡ b ∷ z) × (begins_value b ≡ true)
@@ -121,28 +110,33 @@ number_goes_by : (n m : ℕ) (lists : List (List Tree)) (begun : ℕ) (negative 
 number_goes_by n m lists begun negative v s ds rest here place ends k d (inl r) =
     let all = fold with_digit v ds in
     let none : begun ≡ begun + 0 = omega arith in
-    inl (here ∙ r.0 ∙ number_ends (m + length ds) lists begun n negative (signed negative all) rest ends ∙ ap (λ p. behind p lists begun (num (signed negative all)) rest) place ∙ ap (λ c. behind (n + length s) lists c (num (signed negative all)) rest) none,
-      record { items = omega arith; depth = omega arith; numbers = a_number negative all r.1 })
+    inl (
+      here ∙ r.0 ∙ number_ends (m + length ds) lists begun n negative (signed negative all) rest ends ∙ ap (λ p. behind p lists begun (num (signed negative all)) rest) place ∙ ap (λ c. behind (n + length s) lists c (num (signed negative all)) rest) none,
+      record { items = omega arith; depth = omega arith; numbers = a_number negative all r.1 },
+    )
 number_goes_by n m lists begun negative v s ds rest here place ends k d (inr r) = inr (subst IsOver (sym here) r.0, λ f. no_number negative _ r.1 f.numbers)
 
-digit_small : (b : ℕ) → is_ascii_digit b ≡ true → with_digit 0 b ≤ number_limit
+pub digit_small : (b : ℕ) → is_ascii_digit b ≡ true → with_digit 0 b ≤ number_limit
 digit_small b h = grind (arith, nat_tests)
+
+pub digits_start : (n : ℕ) (lists : List (List Tree)) (begun b : ℕ) (z rest : List ℕ) → is_ascii_digit b ≡ true → reading n (due lists begun) (b ∷ (z ++ rest)) ≡ reading (n + 1) (in_digits lists begun n false (pos (with_digit 0 b))) (z ++ rest)
+digits_start n lists begun b z rest h =
+    let first : b - 48 ≡ with_digit 0 b = omega arith in
+    ap (λ x. answered (carried n (due lists begun) x) (λ t. reading (n + 1) t (z ++ rest))) (digit_starts n (length lists) begun b h) ∙ ap (λ v. reading (n + 1) (in_digits lists begun n false (pos v)) (z ++ rest)) first
 
 digits_go : (n : ℕ) (lists : List (List Tree)) (begun : ℕ) (ds rest : List ℕ) → AreDigits ds → EndsNumber rest → begun ≤ item_limit → length lists ≤ depth_limit → Goes n lists begun ds (num (pos (decimal_value ds))) rest
 digits_go n lists begun [] rest a ends k d = absurd a
 digits_go n lists begun (b ∷ z) rest a ends k d =
-    let first : b - 48 ≡ with_digit 0 b = omega arith in
-    let here : reading n (due lists begun) (b ∷ (z ++ rest)) ≡ reading (n + 1) (in_digits lists begun n false (pos (with_digit 0 b))) (z ++ rest) =
-        ap (λ x. answered (carried n (due lists begun) x) (λ t. reading (n + 1) t (z ++ rest))) (digit_starts n (length lists) begun b a.0) ∙ ap (λ v. reading (n + 1) (in_digits lists begun n false (pos v)) (z ++ rest)) first in
-    number_goes_by n (n + 1) lists begun false (with_digit 0 b) (b ∷ z) z rest here (omega arith) ends k d (digits_read z a.1 (n + 1) lists begun n false (with_digit 0 b) rest (digit_small b a.0))
+    number_goes_by n (n + 1) lists begun false (with_digit 0 b) (b ∷ z) z rest (digits_start n lists begun b z rest a.0) (omega arith) ends k d (digits_read z a.1 (n + 1) lists begun n false (with_digit 0 b) rest (digit_small b a.0))
+
+pub minus_start : (n : ℕ) (lists : List (List Tree)) (begun b : ℕ) (z rest : List ℕ) → is_ascii_digit b ≡ true → reading n (due lists begun) (45 ∷ (b ∷ (z ++ rest))) ≡ reading (n + 1) (in_digits lists begun n true (pos 0)) (b ∷ (z ++ rest))
+minus_start n lists begun b z rest h =
+    sym (ap (λ x. answered (step_behind (n + 1) (in_digits lists begun n true (pos 0)) b x) (λ t. reading ((n + 1) + 1) t (z ++ rest))) (ap (λ c. cond c None (Some (pos 0))) h))
 
 minus_goes : (n : ℕ) (lists : List (List Tree)) (begun : ℕ) (ds rest : List ℕ) → AreDigits ds → EndsNumber rest → begun ≤ item_limit → length lists ≤ depth_limit → Goes n lists begun (codes "-" ++ ds) (num (neg_ℤ (pos (decimal_value ds)))) rest
 minus_goes n lists begun [] rest a ends k d = absurd a
 minus_goes n lists begun (b ∷ z) rest a ends k d =
-    let s : State = in_digits lists begun n true (pos 0) in
-    let here : reading n (due lists begun) (45 ∷ (b ∷ (z ++ rest))) ≡ reading (n + 1) s (b ∷ (z ++ rest)) =
-        sym (ap (λ x. answered (step_behind (n + 1) s b x) (λ t. reading ((n + 1) + 1) t (z ++ rest))) (ap (λ c. cond c None (Some (pos 0))) a.0)) in
-    number_goes_by n (n + 1) lists begun true 0 (45 ∷ (b ∷ z)) (b ∷ z) rest here (omega arith) ends k d (digits_read (b ∷ z) a (n + 1) lists begun n true 0 rest (omega arith))
+    number_goes_by n (n + 1) lists begun true 0 (45 ∷ (b ∷ z)) (b ∷ z) rest (minus_start n lists begun b z rest a.0) (omega arith) ends k d (digits_read (b ∷ z) a (n + 1) lists begun n true 0 rest (omega arith))
 
 -- words
 word_goes : (n : ℕ) (lists : List (List Tree)) (begun : ℕ) (b : Bool) (rest : List ℕ) → begun ≤ item_limit → length lists ≤ depth_limit → Goes n lists begun (spelling b) (truth b) rest
@@ -210,8 +204,11 @@ item_goes_on : (n : ℕ) (lists : List (List Tree)) (begun : ℕ) (s : List ℕ)
 item_goes_on n lists begun s ts r t rest here f (inl g) =
     let place : (n + length s) + length r ≡ n + length (s ++ r) = omega (arith, length-append s r) in
     let count : (begun + items_within (of_items ts) + 1) + items_in t ≡ begun + items_within (of_items (ts ++ t ∷ [])) = omega (arith, items_more ts t) in
-    inl (here ∙ g.0 ∙ ap (λ p. reading p (within lists ((begun + items_within (of_items ts) + 1) + items_in t) (ts ++ t ∷ []) Item) rest) place
-        ∙ ap (λ c. reading (n + length (s ++ r)) (within lists c (ts ++ t ∷ []) Item) rest) count, one_more_fits lists begun ts t f g.1)
+    inl (
+      here ∙ g.0 ∙ ap (λ p. reading p (within lists ((begun + items_within (of_items ts) + 1) + items_in t) (ts ++ t ∷ []) Item) rest) place
+          ∙ ap (λ c. reading (n + length (s ++ r)) (within lists c (ts ++ t ∷ []) Item) rest) count,
+      one_more_fits lists begun ts t f g.1,
+    )
 item_goes_on n lists begun s ts r t rest here f (inr g) = inr (subst IsOver (sym here) g.0, λ w. g.1 (last_fits lists begun ts t w))
 
 item_goes_in : (n : ℕ) (lists : List (List Tree)) (begun : ℕ) (s : List ℕ) (ts : List Tree) (last : Last) (r : List ℕ) (t : Tree) (rest : List ℕ) (b : ℕ) (z : List ℕ) → r ≡ b ∷ z → begins_value b ≡ true → TakesItem last
@@ -221,12 +218,12 @@ item_goes_in : (n : ℕ) (lists : List (List Tree)) (begun : ℕ) (s : List ℕ)
 item_goes_in n lists begun s ts last r t rest b z e h k here f (inl room) more =
     let c = begun + items_within (of_items ts) in
     let begins : reading (n + length s) (within lists c ts last) (r ++ rest) ≡ reading (n + length s) (due (ts ∷ lists) (c + 1)) (r ++ rest) =
-        ap (λ x. reading (n + length s) (within lists c ts last) (x ++ rest)) e ∙ item_begins (n + length s) lists c ts last b (z ++ rest) k h room ∙ ap (λ x. reading (n + length s) (due (ts ∷ lists) (c + 1)) (x ++ rest)) (sym e) in
+    ap (λ x. reading (n + length s) (within lists c ts last) (x ++ rest)) e ∙ item_begins (n + length s) lists c ts last b (z ++ rest) k h room ∙ ap (λ x. reading (n + length s) (due (ts ∷ lists) (c + 1)) (x ++ rest)) (sym e) in
     item_goes_on n lists begun s ts r t rest (here ∙ begins) f (more (omega arith) (omega (arith, f.depth)))
 item_goes_in n lists begun s ts last r t rest b z e h k here f (inr full) more =
     let c = begun + items_within (of_items ts) in
     let refusal : reading (n + length s) (within lists c ts last) (r ++ rest) ≡ refused (TooLong (n + length s)) =
-        ap (λ x. reading (n + length s) (within lists c ts last) (x ++ rest)) e ∙ item_refused (n + length s) lists c ts last b (z ++ rest) k h full in
+    ap (λ x. reading (n + length s) (within lists c ts last) (x ++ rest)) e ∙ item_refused (n + length s) lists c ts last b (z ++ rest) k h full in
     inr (subst IsOver (sym (here ∙ refusal)) tt, λ w. absurd (omega (arith, w.items, items_more ts t)))
 
 item_goes : (n : ℕ) (lists : List (List Tree)) (begun : ℕ) (s : List ℕ) (ts : List Tree) (last : Last) (r : List ℕ) (t : Tree) (rest : List ℕ) → Spells r t → TakesItem last → GoesIn n lists begun s ts last (r ++ rest)
@@ -236,7 +233,7 @@ item_goes n lists begun s ts last r t rest h k (inl q) more =
     item_goes_in n lists begun s ts last r t rest f.0 f.1 f.2 f.3 k (ap (reading n (due lists begun)) (append_assoc s r rest) ∙ q.0) q.1 (cases_lt (begun + items_within (of_items ts)) item_limit) more
 item_goes n lists begun s ts last r t rest h k (inr q) more = inr (subst IsOver (sym (ap (reading n (due lists begun)) (append_assoc s r rest))) q.0, λ w. q.1 (fewer lists begun ts t w))
 
-follows : (t : Tree) (rest : List ℕ) → EndsNumber rest → Follows t rest
+follows : (t : Tree) (rest : List ℕ) → EndsNumber rest → CannotContinue t rest
 follows (num n) rest e = e
 follows (truth b) rest e = tt
 follows (list ts) rest e = tt
@@ -255,7 +252,7 @@ blank_is_no_digit : (b : ℕ) → is_blank b ≡ true → is_ascii_digit b ≡ f
 blank_is_no_digit b h = grind (arith, nat_tests)
 
 mutual
-  pub value_goes : {s : List ℕ} {t : Tree} → Spells s t → (n : ℕ) (lists : List (List Tree)) (begun : ℕ) (rest : List ℕ) → Follows t rest → begun ≤ item_limit → length lists ≤ depth_limit → Goes n lists begun s t rest
+  pub value_goes : {s : List ℕ} {t : Tree} → Spells s t → (n : ℕ) (lists : List (List Tree)) (begun : ℕ) (rest : List ℕ) → CannotContinue t rest → begun ≤ item_limit → length lists ≤ depth_limit → Goes n lists begun s t rest
   value_goes (digits ds a) n lists begun rest f k d = digits_go n lists begun ds rest a f k d
   value_goes (minus ds a) n lists begun rest f k d = minus_goes n lists begun ds rest a f k d
   value_goes (word b) n lists begun rest f k d = word_goes n lists begun b rest k d
@@ -266,5 +263,5 @@ mutual
   list_goes (blank s ts last b u e) n lists begun rest f k d = blank_goes n lists begun s ts last b rest e (list_goes u n lists begun (b ∷ rest) (no_digit_first last b rest (blank_is_no_digit b e)) k d)
   list_goes (item s ts last r t u c h) n lists begun rest f k d =
       item_goes n lists begun s ts last r t rest h c (list_goes u n lists begun (r ++ rest) (any_first last (r ++ rest) c) k d)
-          (λ room depth. value_goes h (n + length s) (ts ∷ lists) (begun + items_within (of_items ts) + 1) rest (follows t rest f) room depth)
+      (λ room depth. value_goes h (n + length s) (ts ∷ lists) (begun + items_within (of_items ts) + 1) rest (follows t rest f) room depth)
   list_goes (comma s ts u) n lists begun rest f k d = comma_goes n lists begun s ts rest (list_goes u n lists begun (44 ∷ rest) refl k d)

@@ -1,16 +1,16 @@
 -- Reading digits.
-use Rattle.std.proofs.Common.{◌≡◌, ◌≢◌, ℕ, zero, suc, ◌+◌, ◌-◌, ◌*◌, ◌<◌, ◌≤◌, ◌⊎◌, inl, inr, ℤ, pos, negsuc, neg_ℤ, Bool, true, false, List, [], ◌∷◌, ◌++◌, length, fold, Option, Some, None, Result, Ok, Err, cond, IsTrue, refl, sym, ap, ◌∙◌, subst, arith, rules}
+use Rattle.std.proofs.Common.{◌≡◌, ℕ, zero, suc, ◌+◌, ◌-◌, ◌*◌, ◌<◌, ◌≤◌, ◌⊎◌, inl, inr, ℤ, pos, neg_ℤ, Bool, true, false, List, [], ◌∷◌, ◌++◌, length, fold, Option, Some, None, Ok, cond, IsTrue, refl, sym, ap, ◌∙◌, subst, arith}
 use Rattle.std.specs.Char.{is_ascii_digit}
 use Rattle.std.proofs.lemmas.Int.{ints}
 use Rattle.std.proofs.lemmas.Bool.{cases_lt}
 use Rattle.std.proofs.lemmas.Bool.Decides.{nat_tests}
-use Rattle.tp_value.specs.declared.scan.Phase.TheVariants.{Start, Between, Minus, Digits}
+use Rattle.tp_value.specs.declared.scan.Phase.TheVariants.{Digits}
 use Rattle.tp_value.specs.declared.scan.Move.TheVariants.{Go}
 use Rattle.tp_value.specs.declared.reading.ReadValue.TheVariants.{NoValue, TooLarge, TooLong, TooDeep, NoMemory}
 use Rattle.tp_value.specs.Number.{number_limit, is_within_limit, within_limit}
-use Rattle.tp_value.specs.Tree.{Tree, num}
-use Rattle.tp_value.specs.Spelling.{AllDigits, AreDigits, with_digit, decimal_value}
-use Rattle.tp_value.specs.Reading.{State, Answer, found, refused, answered, digit_of, continued, started, lengthened, digit_read, digits_go_on, carried, step_behind, reading}
+use Rattle.tp_value.specs.Tree.{Tree}
+use Rattle.tp_value.specs.Spelling.{AllDigits, with_digit}
+use Rattle.tp_value.specs.Reading.{State, Answer, found, refused, answered, digit_of, continued, started, lengthened, digit_read, carried, step_behind, reading}
 
 -- a refusal for a limit
 abbrev pub IsOver : Answer → Type 0
@@ -63,13 +63,13 @@ digit_starts at depth begun b h = grind (arith, nat_tests)
 abbrev pub in_digits : List (List Tree) → ℕ → ℕ → Bool → ℤ → State
 in_digits lists begun begin negative n = record { lists = lists; begun = begun; phase = Digits begin negative n }
 
-digit_steps : (n : ℕ) (lists : List (List Tree)) (begun begin : ℕ) (negative : Bool) (m : ℤ) (b : ℕ) (z : List ℕ) (o : Option ℤ) → is_ascii_digit b ≡ true → within_limit (continued negative m (b - 48)) ≡ o
+pub digit_steps : (n : ℕ) (lists : List (List Tree)) (begun begin : ℕ) (negative : Bool) (m : ℤ) (b : ℕ) (z : List ℕ) (o : Option ℤ) → is_ascii_digit b ≡ true → within_limit (continued negative m (b - 48)) ≡ o
     → reading n (in_digits lists begun begin negative m) (b ∷ z) ≡ answered (carried n (in_digits lists begun begin negative m) (lengthened begun begin negative o)) (λ t. reading (n + 1) t z)
 digit_steps n lists begun begin negative m b z o h e =
     let s : State = in_digits lists begun begin negative m in
     ap (λ x. answered (step_behind n s b x) (λ t. reading (n + 1) t z)) (ap (λ c. cond c None (Some m)) h)
-        ∙ ap (λ x. answered (carried n s (digit_read n begun begin negative m x)) (λ t. reading (n + 1) t z)) (digit_is b h)
-        ∙ ap (λ x. answered (carried n s (lengthened begun begin negative x)) (λ t. reading (n + 1) t z)) e
+    ∙ ap (λ x. answered (carried n s (digit_read n begun begin negative m x)) (λ t. reading (n + 1) t z)) (digit_is b h)
+    ∙ ap (λ x. answered (carried n s (lengthened begun begin negative x)) (λ t. reading (n + 1) t z)) e
 
 -- where reading stands behind some digits
 abbrev pub Read : ℕ → List (List Tree) → ℕ → ℕ → Bool → ℕ → List ℕ → List ℕ → Type 0
@@ -90,7 +90,7 @@ read_first : (b : ℕ) (ds : List ℕ) (n : ℕ) (lists : List (List Tree)) (beg
     → (with_digit v b ≤ number_limit → Read (n + 1) lists begun begin negative (with_digit v b) ds rest) → (number_limit < with_digit v b) ⊎ (with_digit v b ≤ number_limit) → Read n lists begun begin negative v (b ∷ ds) rest
 read_first b ds n lists begun begin negative v rest h more (inr small) =
     read_later b ds n lists begun begin negative v rest
-        (digit_steps n lists begun begin negative (signed negative v) b (ds ++ rest) _ h (ap within_limit (continued_signed negative v (b - 48)) ∙ signed_small negative (with_digit v b) small)) (more small)
+    (digit_steps n lists begun begin negative (signed negative v) b (ds ++ rest) _ h (ap within_limit (continued_signed negative v (b - 48)) ∙ signed_small negative (with_digit v b) small)) (more small)
 read_first b ds n lists begun begin negative v rest h more (inl large) =
     let here = digit_steps n lists begun begin negative (signed negative v) b (ds ++ rest) None h (ap within_limit (continued_signed negative v (b - 48)) ∙ signed_large negative (with_digit v b) large) in
     let grows = digits_grow ds (with_digit v b) in

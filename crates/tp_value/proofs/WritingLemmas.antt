@@ -3,7 +3,7 @@ use Rattle.std.proofs.Common.{◌≡◌, ℕ, zero, suc, ◌+◌, ◌<◌, ◌�
 use Rattle.std.specs.Result.{OnOk, OnErr}
 use Rattle.std.proofs.lemmas.List.{append-nil}
 use Rattle.std.specs.Prelude.{codes}
-use Rattle.tp_value.specs.Tree.{Tree, Trees, of_items}
+use Rattle.tp_value.specs.Tree.{Tree, of_items}
 use Rattle.tp_value.specs.Written.{text_of, items_text, later_text}
 
 -- the text of the items from the i-th on

@@ -8,3 +8,4 @@ pub mod Globals
 pub mod Written
 pub mod Spelling
 pub mod Reading
+pub mod Answers

@@ -1,5 +1,5 @@
 -- How a value's text is read, byte by byte.
-use Rattle.std.specs.Prelude.{ℕ, suc, ◌+◌, ◌-◌, ◌==◌, nat_lt, ℤ, pos, ◌+ℤ◌, ◌-ℤ◌, ◌*ℤ◌, Bool, true, false, ◌&&◌, ◌||◌, not, if◌then◌else◌, List, [], ◌∷◌, ◌++◌, length, slice_index, codes, map, reverse, Option, Some, None, Result, Ok, Err}
+use Rattle.std.specs.Prelude.{ℕ, ◌+◌, ◌-◌, ◌==◌, nat_lt, ℤ, pos, ◌+ℤ◌, ◌-ℤ◌, ◌*ℤ◌, Bool, true, false, ◌&&◌, ◌||◌, if◌then◌else◌, List, [], ◌∷◌, ◌++◌, length, slice_index, map, reverse, Option, Some, None, Result, Ok, Err}
 use Rattle.std.specs.Char.{is_ascii_digit}
 use Rattle.tp_value.specs.declared.reading.ReadValue.{ReadValue}
 use Rattle.tp_value.specs.declared.reading.ReadValue.TheVariants.{NoValue, TooLarge, TooLong, TooDeep}
@@ -19,6 +19,7 @@ use Rattle.tp_value.specs.Spelling.{is_blank, spelling}
 use Rattle.tp_value.specs.Tree.{Tree, num, truth, list, of_items}
 use Rattle.tp_value.specs.Read.{tree}
 
+-- the digit that a byte is, if any
 abbrev pub digit_of : ℕ → Option ℕ
 digit_of b = if is_ascii_digit b then Some (b - 48) else None
 
@@ -30,6 +31,11 @@ begins_value b = b == 60 || b == 45 || b == 116 || b == 102 || is_ascii_digit b
 abbrev pub continued : Bool → ℤ → ℕ → ℤ
 continued negative n d = if negative then n *ℤ pos 10 -ℤ pos d else n *ℤ pos 10 +ℤ pos d
 
+-- what the first digit of a number does
+abbrev pub number_started : ℕ → ℕ → Option ℕ → Result Move ReadValue
+number_started at begun (Some d) = Ok (Go (Digits at false (pos d)) begun)
+number_started at begun None = Err (NoValue at)
+
 -- what the first byte of a value does
 abbrev pub started : ℕ → ℕ → ℕ → ℕ → Result Move ReadValue
 started at depth begun b =
@@ -37,11 +43,7 @@ started at depth begun b =
     else (if b == 45 then Ok (Go (Minus at) begun)
     else (if b == 116 then Ok (Go (InWord true 1) begun)
     else (if b == 102 then Ok (Go (InWord false 1) begun)
-    else number (digit_of b))))
-  where
-    number : Option ℕ → Result Move ReadValue
-    number (Some d) = Ok (Go (Digits at false (pos d)) begun)
-    number None = Err (NoValue at)
+    else number_started at begun (digit_of b))))
 
 -- what the first byte of an item does
 abbrev pub item_started : ℕ → ℕ → ℕ → ℕ → Result Move ReadValue
@@ -77,6 +79,7 @@ abbrev pub lengthened : ℕ → ℕ → Bool → Option ℤ → Result Move Read
 lengthened begun begin negative (Some n) = Ok (Go (Digits begin negative n) begun)
 lengthened begun begin negative None = Err (TooLarge begin)
 
+-- what a digit, or none, does to a number
 abbrev pub digit_read : ℕ → ℕ → ℕ → Bool → ℤ → Option ℕ → Result Move ReadValue
 digit_read at begun begin negative n (Some d) = lengthened begun begin negative (within_limit (continued negative n d))
 digit_read at begun begin negative n None = Err (NoValue at)
@@ -89,7 +92,7 @@ digits_go_on at begun begin negative n b = digit_read at begun begin negative n 
 abbrev pub letters_go_on : ℕ → ℕ → Bool → ℕ → ℕ → Result Move ReadValue
 letters_go_on at begun word k b =
     if nat_lt k (length (spelling word)) && slice_index (spelling word) k == b then
-        (if k + 1 == length (spelling word) then Ok (Word word) else Ok (Go (InWord word (k + 1)) begun))
+    (if k + 1 == length (spelling word) then Ok (Word word) else Ok (Go (InWord word (k + 1)) begun))
     else Err (NoValue at)
 
 -- what the byte at a place does
@@ -106,6 +109,7 @@ pub record State : Type 0 where
   pub begun : ℕ
   pub phase : Phase
 
+-- reading goes on, a value has ended in front of a place, or the bytes are refused
 pub data Step : Type 0 where
   goes : State → Step
   ends : Tree → ℕ → Step
@@ -116,13 +120,16 @@ abbrev pub finished : List (List Tree) → ℕ → Tree → ℕ → Step
 finished [] begun t after = ends t after
 finished (ts ∷ lists) begun t after = goes (record { lists = (ts ++ t ∷ []) ∷ lists; begun = begun; phase = Between Item })
 
+-- the innermost list ends
 abbrev pub closed : ℕ → List (List Tree) → ℕ → Step
 closed at [] begun = refuses (NoValue at)
 closed at (ts ∷ lists) begun = finished lists begun (list (of_items ts)) (at + 1)
 
+-- a list begins
 abbrev pub opened : List (List Tree) → ℕ → State
 opened lists begun = record { lists = [] ∷ lists; begun = begun; phase = Between Bracket }
 
+-- what a move does
 abbrev pub carried : ℕ → State → Result Move ReadValue → Step
 carried at s (Ok (Go phase begun)) = goes (record { lists = s.lists; begun = begun; phase = phase })
 carried at s (Ok (Open begun)) = goes (opened s.lists begun)
@@ -130,6 +137,7 @@ carried at s (Ok Close) = closed at s.lists s.begun
 carried at s (Ok (Word word)) = finished s.lists s.begun (truth word) (at + 1)
 carried at s (Err e) = refuses e
 
+-- what the byte at a place does, where no number ends in front of it
 abbrev pub moved : ℕ → State → ℕ → Step
 moved at s b = carried at s (decided at (length s.lists) s.begun s.phase b)
 
@@ -149,6 +157,7 @@ number_before (Between last) b = None
 number_before (Minus begin) b = None
 number_before (InWord word k) b = None
 
+-- what comes after a step that goes on
 abbrev pub then_step : Step → (State → Step) → Step
 then_step (goes s) f = f s
 then_step (ends t after) f = ends t after
@@ -167,6 +176,7 @@ pub data Answer : Type 0 where
   found : Tree → ℕ → Answer
   refused : ReadValue → Answer
 
+-- what a step gives, and what reading gives after it
 abbrev pub answered : Step → (State → Answer) → Answer
 answered (goes s) f = f s
 answered (ends t after) f = found t after
@@ -189,6 +199,7 @@ reading at s (b ∷ z) = answered (step at s b) (λ t. reading (at + 1) t z)
 abbrev pub start_state : State
 start_state = record { lists = []; begun = 0; phase = Start }
 
+-- the trees of the items of an open list
 abbrev pub items_seen : Items → List Tree
 items_seen all = map tree all.items.items
 
@@ -199,6 +210,7 @@ lists_of all = reverse (map items_seen all)
 abbrev pub state_of : Reader → State
 state_of r = record { lists = lists_of r.unclosed.items; begun = r.begun; phase = r.phase }
 
+-- the step that the code took
 abbrev pub taken : Taken → Step
 taken (More r) = goes (state_of r)
 taken (Done v after) = ends (tree v) after

@@ -1,5 +1,5 @@
 -- Which bytes spell a value.
-use Rattle.std.specs.Prelude.{◌≡◌, ℕ, ◌+◌, ◌-◌, ◌*◌, ◌==◌, ℤ, pos, neg_ℤ, Bool, true, false, ◌||◌, List, [], ◌∷◌, ◌++◌, codes, fold}
+use Rattle.std.specs.Prelude.{◌≡◌, ℕ, ◌+◌, ◌-◌, ◌*◌, ◌==◌, pos, neg_ℤ, Bool, true, false, ◌||◌, List, [], ◌∷◌, ◌++◌, codes, fold}
 use Rattle.std.specs.Char.{is_ascii_digit}
 use Rattle.tp_value.specs.declared.scan.Last.{Last}
 use Rattle.tp_value.specs.declared.scan.Last.TheVariants.{Bracket, Item, Comma}
@@ -9,6 +9,7 @@ use Rattle.tp_value.specs.Tree.{Tree, num, truth, list, of_items}
 abbrev pub is_blank : ℕ → Bool
 is_blank b = b == 32 || b == 9
 
+-- no byte but digits
 abbrev pub AllDigits : List ℕ → Type 0
 AllDigits [] = Unit {0}
 AllDigits (b ∷ z) = (is_ascii_digit b ≡ true) × AllDigits z
@@ -18,6 +19,7 @@ abbrev pub AreDigits : List ℕ → Type 0
 AreDigits [] = ⊥
 AreDigits (b ∷ z) = AllDigits (b ∷ z)
 
+-- the number with one digit more, a byte
 abbrev pub with_digit : ℕ → ℕ → ℕ
 with_digit n b = 10 * n + (b - 48)
 
@@ -25,6 +27,7 @@ with_digit n b = 10 * n + (b - 48)
 abbrev pub decimal_value : List ℕ → ℕ
 decimal_value ds = fold with_digit 0 ds
 
+-- the words for the truth values
 abbrev pub spelling : Bool → List ℕ
 spelling true = codes "true"
 spelling false = codes "false"

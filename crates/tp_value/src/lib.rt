@@ -22,7 +22,7 @@ pub use number::{
     NUMBER_LIMIT, Number, difference, is_number, negated, product, quotient, remainder, sum,
 };
 pub use path::{Fact, Facts, Indices, Path, VarId};
-pub use reading::ReadValue;
+pub use reading::{ReadValue, read_value};
 pub use refusal::NoMemory;
 pub use text::{Bytes, Text, Texts};
 pub use value::{Items, Shape, Value, same, same_tree_is_equality, shape_at};

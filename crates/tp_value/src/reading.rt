@@ -1,7 +1,11 @@
 // Values from their texts, in one pass over the bytes and without recursion.
-ghost use Rattle.std.specs.Prelude.{◌≡◌, ◌≢◌, ◌+◌, ◌^◌, ◌<◌, ◌≤◌, length, drop, IfOk, IfErr};
+ghost use Rattle.std.specs.Prelude.{◌≡◌, ◌≢◌, ◌+◌, ◌^◌, ◌<◌, ◌≤◌, ℕ, List, ◌++◌, length, drop, IfOk, IfErr};
 ghost use Rattle.tp_value.specs.declared.reading.ReadValue.TheVariants.{NoMemory as refused_memory};
 ghost use Rattle.tp_value.specs.Read.{tree};
+ghost use Rattle.tp_value.specs.Tree.{Tree};
+ghost use Rattle.tp_value.specs.Limits.{IsWithinLimits};
+ghost use Rattle.tp_value.specs.Written.{text_of};
+ghost use Rattle.tp_value.specs.Answers.{IsRead, IsRefused, CannotContinue, IsReadBack};
 ghost use Rattle.tp_value.specs.Reading.{found, refused, start_state, lists_of, state_of, taken, refuses, finished, closed, opened, moved, step, number_before, number_read, at_end, reading};
 
 use crate::scan::{Last, Move, Phase, decide};
@@ -71,7 +75,11 @@ fn finish(unclosed: Vec<Items>, begun: usize, value: Value, after: usize) -> Res
             list.items.push(value)?;
             unclosed.push(list)?;
             let phase = Phase::Between(Last::Item);
-            Ok(Taken::More(Reader { unclosed, begun, phase }))
+            Ok(Taken::More(Reader {
+                unclosed,
+                begun,
+                phase,
+            }))
         }
         None => Ok(Taken::Done(value, after)),
     }
@@ -101,7 +109,11 @@ fn open_list(alloc: Global, unclosed: Vec<Items>, begun: usize) -> Result<Reader
         items: Vec::new(alloc),
     })?;
     let phase = Phase::Between(Last::Bracket);
-    Ok(Reader { unclosed, begun, phase })
+    Ok(Reader {
+        unclosed,
+        begun,
+        phase,
+    })
 }
 
 // What the byte at `at` does, which ends no number before it.
@@ -110,9 +122,17 @@ fn advance(alloc: Global, reader: Reader, at: usize, byte: u8) -> Result<Taken, 
     ensures ok { IfOk result (λ t. taken t ≡ moved at (state_of reader) byte) }
     ensures err { IfErr result (λ e. e ≢ refused_memory → refuses e ≡ moved at (state_of reader) byte) }
 {
-    let Reader { unclosed, begun, phase } = reader;
+    let Reader {
+        unclosed,
+        begun,
+        phase,
+    } = reader;
     match decide(at, unclosed.len(), begun, phase, byte)? {
-        Move::Go { phase, begun } => Ok(Taken::More(Reader { unclosed, begun, phase })),
+        Move::Go { phase, begun } => Ok(Taken::More(Reader {
+            unclosed,
+            begun,
+            phase,
+        })),
         Move::Open { begun } => {
             let reader = open_list(alloc, unclosed, begun)?;
             Ok(Taken::More(reader))
@@ -190,4 +210,19 @@ fn read(alloc: Global, bytes: &[u8], from: usize) -> Result<(Value, usize), Read
         }
     }
     end(reader, bytes.len())
+}
+
+/// The value of the longest value text that begins at `from`, and the place after it. A value text is a number in decimal, perhaps
+/// with a `-` before it and with leading zeros, `true`, `false`, or items in `<` and `>` with commas between them, where spaces
+/// and tabs may stand between the parts of a list. A number and a word end as soon as the next byte does not continue them,
+/// whatever it is. Nothing is kept on a refusal.
+pub fn read_value(alloc: Global, bytes: &[u8], from: usize) -> Result<(Value, usize), ReadValue>
+    requires { from ≤ length bytes.now }
+    ensures value { IfOk result (λ p. IsRead bytes.now from (tree p.0) p.1) }
+    ensures refused { IfErr result (λ e. IsRefused bytes.now from e) }
+
+    // The text that is written for a value is read back to it.
+    ensures read_back { (t : Tree) (rest : List ℕ) → IsWithinLimits t → CannotContinue t rest → drop from bytes.now ≡ text_of t ++ rest → IsReadBack t (from + length (text_of t)) result }
+{
+    read(alloc, bytes, from)
 }

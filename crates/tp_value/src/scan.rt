@@ -4,10 +4,10 @@ ghost use Rattle.tp_value.specs.Number.{within_limit};
 ghost use Rattle.tp_value.specs.Spelling.{spelling as word_spelling};
 ghost use Rattle.tp_value.specs.Reading.{digit_of, begins_value as begins, continued, started, within_list, digits_go_on, letters_go_on, decided};
 
+use crate::Number;
 use crate::limits::{DEPTH_LIMIT, ITEM_LIMIT};
 use crate::number::narrow;
 use crate::reading::ReadValue;
-use crate::Number;
 
 /// What stands last in an open list, blanks aside.
 #[derive(Clone, Copy)]
@@ -25,7 +25,9 @@ pub enum Phase {
     /// A part of the innermost open list, or blanks after it.
     Between(Last),
     /// The `-` of the number that begins at `begin`.
-    Minus { begin: usize },
+    Minus {
+        begin: usize,
+    },
     /// A digit of that number, which is `number` so far.
     Digits {
         begin: usize,
@@ -33,7 +35,10 @@ pub enum Phase {
         number: Number,
     },
     /// So many bytes of `true` or `false`.
-    Word { truth: bool, read: usize },
+    Word {
+        truth: bool,
+        read: usize,
+    },
 }
 
 /// What a byte does. `begun` counts the items that have begun.
@@ -97,7 +102,10 @@ fn start(at: usize, depth: usize, begun: usize, byte: u8) -> Result<Move, ReadVa
         b'<' if depth < DEPTH_LIMIT => return Ok(Move::Open { begun }),
         b'<' => return Err(ReadValue::TooDeep { at }),
         b'-' => Phase::Minus { begin: at },
-        b't' => Phase::Word { truth: true, read: 1 },
+        b't' => Phase::Word {
+            truth: true,
+            read: 1,
+        },
         b'f' => Phase::Word {
             truth: false,
             read: 1,

@@ -1,7 +1,8 @@
 // Each call that takes memory succeeds where there is enough, with the right value.
 use crate::{
-    Fact, Globals, Indices, Items, Path, Shape, Text, Value, VarId, difference, is_number,
-    is_within_list_limit, negated, product, quotient, remainder, same, sum,
+    Fact, Globals, Indices, Items, Path, ReadValue, Shape, Text, Value, VarId, difference,
+    is_number, is_within_list_limit, negated, product, quotient, read_value, remainder, same, sum,
+    write_value,
 };
 use std::alloc::Global;
 use std::test::Fail;
@@ -180,5 +181,93 @@ fn lists_have_limits(rt: HostRuntime) -> Result<(), Fail> {
     assert!(rt; is_within_list_limit(&Value::List(Items { items })));
     let items = vec![in rt.alloc(); long(rt.alloc(), 65_536)?]?;
     assert!(rt; !is_within_list_limit(&Value::List(Items { items })));
+    Ok(())
+}
+
+#[test]
+fn values_are_read_and_written(rt: HostRuntime) -> Result<(), Fail> {
+    let table = [
+        ("12", 0, "12", 2),
+        ("-0;", 0, "0", 2),
+        ("X=-007 Y=1", 2, "-7", 6),
+        ("9223372036854775807", 0, "9223372036854775807", 19),
+        ("-9223372036854775807", 0, "-9223372036854775807", 20),
+        ("true1", 0, "true", 4),
+        ("false\n", 0, "false", 5),
+        ("<>>", 0, "<>", 2),
+        ("< 1 ,\t<\t> , false,<-2>>", 0, "<1,<>,false,<-2>>", 23),
+    ];
+    for (text, from, canonical, after) in table {
+        let (value, place) = match read_value(rt.alloc(), text.as_bytes(), from) {
+            Ok(read) => read,
+            Err(_) => return Err("no value")?,
+        };
+        let mut out = Text::from_slice(rt.alloc(), b"so: ")?;
+        write_value(&value, &mut out)?;
+        assert_eq!(rt; &out.as_slice()[4..], canonical.as_bytes(), "at {text}");
+        assert_eq!(rt; place, after, "at {text}");
+    }
+    Ok(())
+}
+
+#[test]
+fn texts_of_no_value_are_refused(rt: HostRuntime) -> Result<(), Fail> {
+    let table = [
+        ("", ReadValue::NoValue { at: 0 }),
+        (" 1", ReadValue::NoValue { at: 0 }),
+        ("+1", ReadValue::NoValue { at: 0 }),
+        ("tru", ReadValue::NoValue { at: 3 }),
+        ("truth", ReadValue::NoValue { at: 3 }),
+        ("- 1", ReadValue::NoValue { at: 1 }),
+        ("<1 2>", ReadValue::NoValue { at: 3 }),
+        ("<1,>", ReadValue::NoValue { at: 3 }),
+        ("<,1>", ReadValue::NoValue { at: 1 }),
+        ("<1\n>", ReadValue::NoValue { at: 2 }),
+        ("<1,<2>", ReadValue::NoValue { at: 6 }),
+        ("9223372036854775808", ReadValue::TooLarge { at: 0 }),
+        ("<1,-9223372036854775808;", ReadValue::TooLarge { at: 3 }),
+    ];
+    for (text, refusal) in table {
+        match read_value(rt.alloc(), text.as_bytes(), 0) {
+            Ok(_) => return Err("a value")?,
+            Err(answer) => assert_eq!(rt; answer, refusal, "at {text}"),
+        }
+    }
+    Ok(())
+}
+
+// A first text, and so many times another one.
+fn repeated(alloc: Global, first: &str, more: &str, times: usize) -> Result<Text, Fail> {
+    let mut text = Text::from_slice(alloc, first.as_bytes())?;
+    for _ in 0..times {
+        text.append(more.as_bytes())?;
+    }
+    Ok(text)
+}
+
+#[test]
+fn texts_past_the_limits_are_refused(rt: HostRuntime) -> Result<(), Fail> {
+    let mut deep = repeated(rt.alloc(), "", "<", 100)?;
+    for _ in 0..100 {
+        deep.append(b">")?;
+    }
+    let mut wide = repeated(rt.alloc(), "<1", ",1", 65_535)?;
+    wide.append(b">")?;
+    for text in [&deep, &wide] {
+        let read = read_value(rt.alloc(), text.as_slice(), 0);
+        assert!(rt; read.is_ok());
+    }
+    let deeper = repeated(rt.alloc(), "", "<", 101)?;
+    let wider = repeated(rt.alloc(), "<1", ",<>", 65_536)?;
+    let table = [
+        (&deeper, ReadValue::TooDeep { at: 100 }),
+        (&wider, ReadValue::TooLong { at: 196_608 }),
+    ];
+    for (text, refusal) in table {
+        match read_value(rt.alloc(), text.as_slice(), 0) {
+            Ok(_) => return Err("a value")?,
+            Err(answer) => assert_eq!(rt; answer, refusal),
+        }
+    }
     Ok(())
 }

@@ -49,7 +49,7 @@ fn append_value(value: &Value, out: &mut Text) -> Result<(), NoMemory>
 }
 
 /// Appends the text of any value: a number in decimal, `true`, `false`, or the items of a list in `<` and `>` with commas and no
-/// blanks. On a refusal the text is unchanged.
+/// blanks. It goes down as deep as the value is, whatever the limits. On a refusal the text is unchanged.
 pub fn write_value(value: &Value, out: &mut Text) -> Result<(), NoMemory>
     ensures ok { OnOk result (out.new ≡ out.old ++ text_of (tree value.now)) }
     ensures err { OnErr result (out.new ≡ out.old) }

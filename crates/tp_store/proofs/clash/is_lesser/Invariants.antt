@@ -1,5 +1,4 @@
 use Rattle.std.proofs.Common.{◌≡◌, drop}
-use Rattle.tp_store.specs.Facts.{same_indices, leaves_out}
 use Rattle.tp_store.specs.Known.{is_lesser}
 use Rattle.tp_store.proofs.clash.is_lesser.Given as goal
 

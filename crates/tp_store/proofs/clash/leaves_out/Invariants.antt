@@ -1,6 +1,5 @@
 use Rattle.std.proofs.Common.{◌≡◌, drop}
-use Rattle.tp_store.specs.Facts.{same_indices, leaves_out}
-use Rattle.tp_store.specs.Known.{is_lesser}
+use Rattle.tp_store.specs.Facts.{leaves_out}
 use Rattle.tp_store.proofs.clash.leaves_out.Given as goal
 
 abbrev pub invariant-loop-i : goal.invariant-loop-i

@@ -1,6 +1,5 @@
 use Rattle.std.proofs.Common.{◌≡◌, drop}
-use Rattle.tp_store.specs.Facts.{same_indices, leaves_out}
-use Rattle.tp_store.specs.Known.{is_lesser}
+use Rattle.tp_store.specs.Facts.{same_indices}
 use Rattle.tp_store.proofs.clash.same_indices.Given as goal
 
 abbrev pub invariant-loop-i : goal.invariant-loop-i

@@ -20,14 +20,14 @@ loop-i-preserved t c =
     let here : map tree (drop c.loop-i.i items) ≡ tree item ∷ left = items_left tree items c.loop-i.i item (omega arith) ∙ ap (λ x. tree x ∷ left) (sym c.item-item.is) in
     let writes : Writes c.args.out.now c.loop-i.out c.loop-i.i (tree item ∷ left) (map tree items) = subst (λ ts. Writes c.args.out.now c.loop-i.out c.loop-i.i ts (map tree items)) here c.loop-i.invariant in
     elim c.if-i-gt0.branch [
-    | then-i-gt0+in_ok-append-in-List-2 w ↦
-        later_written _ _ _ _ _ _ _ w.if-i-gt0.true writes (c.in_ok-append_value-in-List.ensures.ok ∙ ap (λ z. z ++ text_of (tree item)) (w.out-is ∙ w.in_ok-append-in-List-2.ensures.ok))
-    | else-i-gt0 w ↦
-        let none : c.loop-i.i ≡ 0 = omega arith in
-        let first : Writes c.args.out.now c.loop-i.out 0 (tree item ∷ left) (map tree items) = subst (λ n. Writes c.args.out.now c.loop-i.out n (tree item ∷ left) (map tree items)) none writes in
-        let next : 1 ≡ c.loop-i.i + 1 = omega arith in
-        subst (λ n. Writes c.args.out.now c.append_value.new.out n left (map tree items)) next
-            (first_written _ _ _ _ _ _ first (c.in_ok-append_value-in-List.ensures.ok ∙ ap (λ z. z ++ text_of (tree item)) w.out-is))
+      | then-i-gt0+in_ok-append-in-List-2 w ↦
+          later_written _ _ _ _ _ _ _ w.if-i-gt0.true writes (c.in_ok-append_value-in-List.ensures.ok ∙ ap (λ z. z ++ text_of (tree item)) (w.out-is ∙ w.in_ok-append-in-List-2.ensures.ok))
+      | else-i-gt0 w ↦
+          let none : c.loop-i.i ≡ 0 = omega arith in
+          let first : Writes c.args.out.now c.loop-i.out 0 (tree item ∷ left) (map tree items) = subst (λ n. Writes c.args.out.now c.loop-i.out n (tree item ∷ left) (map tree items)) none writes in
+          let next : 1 ≡ c.loop-i.i + 1 = omega arith in
+          subst (λ n. Writes c.args.out.now c.append_value.new.out n left (map tree items)) next
+          (first_written _ _ _ _ _ _ first (c.in_ok-append_value-in-List.ensures.ok ∙ ap (λ z. z ++ text_of (tree item)) w.out-is))
     ]
 
 pub returns-in_err-append-in-List-2-clause-err : goal.returns-in_err-append-in-List-2-clause-err

@@ -1,23 +1,16 @@
-use Rattle.std.proofs.Common.{rules, ◌≡◌, ◌++◌, ◌∷◌, [], length, IfOk, OnOk, OnErr, ℕ, ◌+◌, ◌-◌, ◌*◌, ◌<◌, ◌≤◌, ◌/◌, ◌%◌, Bool, true, false, nat_eq, nat_lt, List, slice_index_or, slice_set, bit_and, bit_or, Fits, w8, w32, w64, Bor, MutBor}
-use Rattle.std.specs.Option.{option_copied}
-use Rattle.tp_value.specs.Globals.{is_lower}
-use Rattle.tp_store.specs.Facts.{kept_shape}
-use Rattle.tp_store.specs.Known.{new_store, name_of, lasting_facts, facts_below}
-use Rattle.tp_store.specs.Changes.{IsSound, HaveSameShapes, HasAppended}
+use Rattle.tp_store.specs.Entries.{parts_in}
+use Rattle.tp_store.proofs.Filing.{sound, sound_view}
+use Rattle.tp_store.proofs.EntryLemmas.{fresh_entry, parts_of}
 use Rattle.tp_store.proofs.store.Store.fresh.Goals as goal
 
--- src/store.rt:84:20
 pub returns-in_err-name-clause-sound : goal.returns-in_err-name-clause-sound
-returns-in_err-name-clause-sound c = ?
+returns-in_err-name-clause-sound c = sound_view (parts_in c.self.inside.entries.items) _ c.self.view_is c.self.invariant
 
--- src/store.rt:85:9
 pub returns-in_err-push-clause-sound : goal.returns-in_err-push-clause-sound
-returns-in_err-push-clause-sound c = ?
+returns-in_err-push-clause-sound c = sound (parts_in c.push.new.self.items) (parts_of c.self.inside.entries.items c.push.new.self.items c.in_err-push.ensures.items c.self.invariant)
 
--- src/store.rt:76:5
 pub invariant_of-self-2 : goal.invariant_of-self-2
-invariant_of-self-2 c = ?
+invariant_of-self-2 c = fresh_entry c.self.inside.entries.items c.push.new.self.items _ c.in_ok-push.ensures.items c.new.ensures.items c.self.invariant
 
--- src/store.rt:76:5
 pub returns-clause-sound : goal.returns-clause-sound
-returns-clause-sound c = ?
+returns-clause-sound c = sound (parts_in c.push.new.self.items) (fresh_entry c.self.inside.entries.items c.push.new.self.items _ c.in_ok-push.ensures.items c.new.ensures.items c.self.invariant)

@@ -1,0 +1,67 @@
+-- What the calls of the crate answer, as evaluations and outcomes.
+use Rattle.std.specs.Prelude.{◌≡◌, ℤ, ℕ, [], Option, Some, None, Result, MatchResult}
+use Rattle.tp_value.specs.Tree.{Tree, num}
+use Rattle.tp_value.specs.Read.{tree}
+use Rattle.tp_value.specs.declared.value.Value.{Value}
+use Rattle.tp_kernel.specs.declared.formula.LimitKind.TheVariants as limit
+use Rattle.tp_kernel.specs.declared.formula.Env.{Env}
+use Rattle.tp_kernel.specs.Read.{bindings_of}
+use Rattle.tp_meaning.specs.Syntax.{ExprTree}
+use Rattle.tp_store.specs.Known.{Contents}
+use Rattle.tp_eval.specs.Evaluate.{Place, evaluate, find_place}
+use Rattle.tp_eval.specs.Reached.{Evaluation, gives, stop, waits, faults, passes}
+use Rattle.tp_eval.specs.declared.halt.Halt.{Halt}
+use Rattle.tp_eval.specs.declared.halt.Halt.TheVariants.{Waits, Faults, Passes, NoMemory}
+use Rattle.tp_eval.specs.declared.outcome.Outcome.{Outcome}
+use Rattle.tp_eval.specs.declared.outcome.Outcome.TheVariants as outcome
+use Rattle.tp_eval.specs.declared.outcome.PlaceOutcome.{PlaceOutcome}
+use Rattle.tp_eval.specs.declared.outcome.PlaceOutcome.TheVariants as place
+use Rattle.tp_eval.specs.Outcome as found
+
+-- The evaluation stops as this says; nothing is said for want of memory.
+abbrev pub Halts : {A : Type 0} → Evaluation A → Halt → Type 0
+Halts o (Waits p) = o ≡ stop (waits p)
+Halts o (Faults k) = o ≡ stop (faults k)
+Halts o (Passes k) = o ≡ stop (passes k)
+Halts o NoMemory = Unit {0}
+
+-- The evaluation gives what `read` makes of the answer, or stops as the answer says.
+abbrev pub Answers : {A B : Type 0} → (read : A → B) → Result A Halt → Evaluation B → Type 0
+Answers read answer o = MatchResult answer (λ x. o ≡ gives (read x)) (Halts o)
+
+abbrev pub as_it_is : {A : Type 0} → A → A
+as_it_is x = x
+
+-- the number, where there is one within the limit
+abbrev pub number_within : Option ℤ → Evaluation Tree
+number_within (Some n) = gives (num n)
+number_within None = stop (passes limit.Number)
+
+-- an outcome with its value's tree
+abbrev pub outcome_of : Outcome → found.Outcome
+outcome_of (outcome.Value v) = found.value (tree v)
+outcome_of (outcome.Wait p) = found.wait p
+outcome_of (outcome.Fault k) = found.fault k
+outcome_of (outcome.Over k) = found.over k
+
+abbrev pub place_outcome_of : PlaceOutcome → found.PlaceOutcome
+place_outcome_of (place.Place p) = found.path p
+place_outcome_of (place.Other o) = found.other (outcome_of o)
+
+-- The evaluation of an expression, and of a place, where so many levels are left and there are no definitions.
+abbrev pub operand_in : Contents → Env → (levels : ℕ) → ExprTree → Evaluation Tree
+operand_in s env levels e = evaluate s.facts [] levels e (bindings_of env)
+
+abbrev pub place_at : Contents → Env → (levels : ℕ) → ExprTree → Evaluation Place
+place_at s env levels e = find_place s.facts [] levels e (bindings_of env)
+
+-- The outcome is that of an evaluation which stops as this says; want of memory has none.
+abbrev pub IsHalt : Halt → found.Outcome → Type 0
+IsHalt (Waits p) o = o ≡ found.wait p
+IsHalt (Faults k) o = o ≡ found.fault k
+IsHalt (Passes k) o = o ≡ found.over k
+IsHalt NoMemory o = ⊥
+
+-- the outcome is that of an evaluation with this answer
+abbrev pub IsAnswer : Result Value Halt → found.Outcome → Type 0
+IsAnswer answer o = MatchResult answer (λ v. o ≡ found.value (tree v)) (λ h. IsHalt h o)

@@ -1,0 +1,66 @@
+// The kinds of values, and the limits on them.
+ghost use Rattle.tp_value.specs.Read.{tree};
+ghost use Rattle.std.specs.Prelude.{map, IfOk, FitsSigned};
+ghost use Rattle.std.specs.Int.{w64};
+ghost use Rattle.tp_eval.specs.Reached.{limited};
+ghost use Rattle.tp_eval.specs.Evaluate.{number_in, truth_in, items_in};
+ghost use Rattle.tp_eval.specs.Answers.{Answers, number_within, as_it_is};
+
+use crate::halt::Halt;
+use tp_kernel::{FaultKind, LimitKind};
+use tp_value::{Items, Number, Value, is_within_list_limit};
+
+/// The number, where the value is one.
+pub fn number_of(value: Value) -> Result<Number, Halt>
+    ensures value { Answers as_it_is result (number_in (tree value)) }
+    ensures fits { IfOk result (λ n. FitsSigned w64 n) }
+{
+    match value {
+        Value::Num(n) => Ok(n),
+        Value::Truth(_) => Err(Halt::Faults(FaultKind::WrongKind)),
+        Value::List(_) => Err(Halt::Faults(FaultKind::WrongKind)),
+    }
+}
+
+/// The truth value, where the value is one.
+pub fn truth_of(value: Value) -> Result<bool, Halt>
+    ensures { Answers as_it_is result (truth_in (tree value)) }
+{
+    match value {
+        Value::Num(_) => Err(Halt::Faults(FaultKind::WrongKind)),
+        Value::Truth(b) => Ok(b),
+        Value::List(_) => Err(Halt::Faults(FaultKind::WrongKind)),
+    }
+}
+
+/// The items, where the value is a list.
+pub fn items_of(value: Value) -> Result<Items, Halt>
+    ensures { Answers (λ all. map tree all.items.items) result (items_in (tree value)) }
+{
+    match value {
+        Value::Num(_) => Err(Halt::Faults(FaultKind::WrongKind)),
+        Value::Truth(_) => Err(Halt::Faults(FaultKind::WrongKind)),
+        Value::List(all) => Ok(all),
+    }
+}
+
+/// A number that was found within the limit, or the limit that is passed.
+pub fn within(n: Option<Number>) -> Result<Value, Halt>
+    ensures { Answers tree result (number_within n) }
+{
+    match n {
+        Some(n) => Ok(Value::Num(n)),
+        None => Err(Halt::Passes(LimitKind::Number)),
+    }
+}
+
+/// The value, where it is within the limit on lists.
+pub fn limited(value: Value) -> Result<Value, Halt>
+    ensures { Answers tree result (limited (tree value)) }
+{
+    if is_within_list_limit(&value) {
+        Ok(value)
+    } else {
+        Err(Halt::Passes(LimitKind::List))
+    }
+}

@@ -1,0 +1,220 @@
+// Places: names followed by indices, as far as they are evaluated.
+ghost use Rattle.std.specs.Prelude.{◌≡◌, [], slice_get};
+ghost use Rattle.std.specs.Option.{option_map};
+ghost use Rattle.tp_value.specs.Tree.{num};
+ghost use Rattle.tp_value.specs.Read.{tree};
+ghost use Rattle.tp_value.specs.Shape.{item_of};
+ghost use Rattle.tp_meaning.specs.Value.{item_at};
+ghost use Rattle.tp_kernel.specs.Read.{binding_of, bindings_of};
+ghost use Rattle.tp_store.specs.Facts.{kept_shape};
+ghost use Rattle.tp_store.specs.Answers.{full_of};
+ghost use Rattle.tp_eval.specs.Evaluate.{at_path, inside, bound_place, element_in, farther, index_in, of_full, value_at, size_at, length_of};
+ghost use Rattle.tp_eval.specs.Places.{place_in};
+ghost use Rattle.tp_eval.specs.Answers.{Answers, as_it_is};
+
+use crate::halt::Halt;
+use std::alloc::Global;
+use std::rc::Rc;
+use tp_kernel::{Binding, Env, FaultKind, LimitKind};
+use tp_store::{Known, Store};
+use tp_value::{INDEX_LIMIT, Indices, Number, PATH_LIMIT, Path, Shape, Value, VarId};
+
+/// What a name followed by indices is: a path, or an element of a known value at these indices.
+#[derive(Drop)]
+pub enum Place {
+    At(Path),
+    Inside(Rc<Value>, Indices),
+}
+
+/// The variable itself.
+pub fn whole(alloc: Global, var: VarId) -> Place
+    ensures { place_in result ≡ at_path (record { var = var; at = [] }) }
+{
+    let at = Indices::new(alloc);
+    Place::At(Path { var, at })
+}
+
+fn place_of_binding(alloc: Global, binding: &Binding) -> Result<Place, Halt>
+    ensures { Answers place_in result (bound_place (Some (binding_of binding.now))) }
+{
+    match binding {
+        Binding::Place(path) => Ok(Place::At(path.copy()?)),
+        Binding::Known(value) => Ok(Place::Inside(value.clone()?, Indices::new(alloc))),
+    }
+}
+
+/// What the bound name with this number is.
+pub fn named(alloc: Global, env: &Env, number: u32) -> Result<Place, Halt>
+    ensures { Answers place_in result (bound_place (slice_get (bindings_of env.now) number)) }
+{
+    match env.items.get(number as usize) {
+        Some(binding) => place_of_binding(alloc, binding),
+        None => Err(Halt::Faults(FaultKind::NoElement)),
+    }
+}
+
+/// An index of a place: a number that is at least 0 and within the limit.
+pub fn index_of(value: Value) -> Result<u32, Halt>
+    ensures { Answers as_it_is result (index_in (tree value)) }
+{
+    match value {
+        Value::Num(n) => index_from(n),
+        Value::Truth(_) => Err(Halt::Faults(FaultKind::WrongKind)),
+        Value::List(_) => Err(Halt::Faults(FaultKind::WrongKind)),
+    }
+}
+
+fn index_from(n: Number) -> Result<u32, Halt>
+    ensures { Answers as_it_is result (index_in (num n)) }
+{
+    if n < 0 {
+        return Err(Halt::Faults(FaultKind::NoElement));
+    }
+    if n > i64::from(INDEX_LIMIT) {
+        return Err(Halt::Passes(LimitKind::List));
+    }
+    Ok(n as u32)
+}
+
+fn farther_path(mut path: Path, index: u32) -> Result<Path, Halt>
+    ensures { Answers at_path result (farther (at_path path) index) }
+{
+    if path.at.items.len() >= PATH_LIMIT {
+        return Err(Halt::Passes(LimitKind::List));
+    }
+    path.at.items.push(index)?;
+    Ok(path)
+}
+
+/// The place with one index more.
+pub fn farther(place: Place, index: u32) -> Result<Place, Halt>
+    ensures { Answers place_in result (farther (place_in place) index) }
+{
+    match place {
+        Place::At(path) => {
+            let path = farther_path(path, index)?;
+            Ok(Place::At(path))
+        }
+        Place::Inside(value, mut at) => {
+            at.items.push(index)?;
+            Ok(Place::Inside(value, at))
+        }
+    }
+}
+
+fn item(value: &Value, at: u32) -> Option<&Value>
+    ensures { option_map (λ v. tree v.now) result ≡ item_of (tree value.now) at }
+{
+    match value {
+        Value::List(all) => {
+            let place = at as usize;
+            if place < all.items.len() {
+                Some(&all.items[place])
+            } else {
+                None
+            }
+        }
+        _ => None,
+    }
+}
+
+// The element of a value at these indices.
+fn element<'a>(value: &'a Value, at: &[u32]) -> Option<&'a Value>
+    ensures { option_map (λ v. tree v.now) result ≡ item_at at.now (tree value.now) }
+{
+    let mut here = value;
+    for index in at {
+        match item(here, *index) {
+            Some(inner) => here = inner,
+            None => return None,
+        }
+    }
+    Some(here)
+}
+
+/// An equal value to the element at these indices.
+pub fn copy_element(alloc: Global, value: &Value, at: &[u32]) -> Result<Value, Halt>
+    ensures { Answers tree result (element_in (item_at at.now (tree value.now))) }
+{
+    match element(value, at) {
+        Some(inner) => Ok(inner.copy(alloc)?),
+        None => Err(Halt::Faults(FaultKind::NoElement)),
+    }
+}
+
+fn whole_value(known: Known) -> Result<Value, Halt>
+    ensures { Answers tree result (of_full (full_of known)) }
+{
+    match known {
+        Known::Absent => Err(Halt::Faults(FaultKind::NoElement)),
+        Known::Open(path) => Err(Halt::Waits(path)),
+        Known::TooLong => Err(Halt::Passes(LimitKind::List)),
+        Known::Value(value) => Ok(value),
+    }
+}
+
+/// The value of a place.
+pub fn value_at(alloc: Global, place: &Place, store: &Store) -> Result<Value, Halt>
+    ensures { Answers tree result (value_at store.now.facts (place_in place.now)) }
+{
+    match place {
+        Place::At(path) => {
+            let known = store.full(path)?;
+            whole_value(known)
+        }
+        Place::Inside(value, at) => copy_element(alloc, value, at.items.as_slice()),
+    }
+}
+
+fn length_at(path: &Path, store: &Store) -> Result<Value, Halt>
+    ensures { Answers tree result (size_at store.now.facts (at_path path.now)) }
+{
+    match store.shape(path) {
+        Some(Shape::Items(count)) => Ok(Value::Num(i64::from(count))),
+        Some(Shape::Num(_)) => Err(Halt::Faults(FaultKind::WrongKind)),
+        Some(Shape::Truth(_)) => Err(Halt::Faults(FaultKind::WrongKind)),
+        None => unkept_length(path, store),
+    }
+}
+
+// Where no shape is kept for the path, its length is open, or there is no such element.
+fn unkept_length(path: &Path, store: &Store) -> Result<Value, Halt>
+    requires { kept_shape store.now.facts path.now ≡ None }
+    ensures { Answers tree result (size_at store.now.facts (at_path path.now)) }
+{
+    match store.full(path)? {
+        Known::Absent => Err(Halt::Faults(FaultKind::NoElement)),
+        Known::Open(path) => Err(Halt::Waits(path)),
+        _ => unreachable!(),
+    }
+}
+
+/// The length of a list, where the value is one.
+pub fn length_of(value: &Value) -> Result<Value, Halt>
+    ensures { Answers tree result (length_of (tree value.now)) }
+{
+    match value {
+        Value::Num(_) => Err(Halt::Faults(FaultKind::WrongKind)),
+        Value::Truth(_) => Err(Halt::Faults(FaultKind::WrongKind)),
+        Value::List(all) => Ok(Value::Num(all.items.len() as i64)),
+    }
+}
+
+fn element_length(value: &Value, at: &[u32]) -> Result<Value, Halt>
+    ensures { Answers tree result (size_at [] (inside (tree value.now) at.now)) }
+{
+    match element(value, at) {
+        Some(inner) => length_of(inner),
+        None => Err(Halt::Faults(FaultKind::NoElement)),
+    }
+}
+
+/// The size of a place, for which its shape is enough.
+pub fn size_at(place: &Place, store: &Store) -> Result<Value, Halt>
+    ensures { Answers tree result (size_at store.now.facts (place_in place.now)) }
+{
+    match place {
+        Place::At(path) => length_at(path, store),
+        Place::Inside(value, at) => element_length(value, at.items.as_slice()),
+    }
+}

@@ -1,0 +1,195 @@
+-- The facts of a reduction stand apart from each other and from those that are kept.
+use Rattle.std.proofs.Common.{◌≡◌, ℤ, pos, negsuc, int_le, ℕ, zero, suc, nat_lt, Bool, true, false, ◌&&◌, not, List, [], ◌∷◌, ◌++◌, eqb, refl, sym, subst, append-nil, if◌then◌else◌, slice_get}
+use Rattle.std.specs.Prelude.{Option, Some, None}
+use Rattle.std.proofs.lemmas.Bool.{cond_both}
+use Rattle.tp_value.specs.Tree.{Tree, num, truth, list, same_tree}
+use Rattle.tp_value.specs.Limits.{length_limit}
+use Rattle.tp_value.specs.declared.path.Path.{Path}
+use Rattle.tp_value.specs.declared.path.Fact.{Fact}
+use Rattle.tp_value.specs.declared.value.Shape.TheVariants.{Items}
+use Rattle.tp_meaning.specs.Syntax.{ExprTree, ExprTrees, no_expr, expr_then, FormulaTree, trivial, test, equation, next_equation, empty, more, next, weak_next, if_more, if_empty, always, conjunction, branch, len, assign, chop, while, for_from, forall_from, project, exists, call, input, display, Definition, BindingTree, known_binding}
+use Rattle.tp_meaning.specs.Value.{is_upper}
+use Rattle.tp_meaning.specs.Inputs.{InputLines, input_at}
+use Rattle.tp_store.specs.Facts.{fact, facts_at}
+use Rattle.tp_store.specs.Known.{NoClash, Addition, adds, refuses, addition}
+use Rattle.tp_eval.specs.Outcome as found
+use Rattle.tp_eval.specs.Outcome.{PlaceOutcome, outcome, place_outcome}
+use Rattle.tp_scene.specs.Scene.{Bindings, Side, Ending, Going, Leaf, Do, Later, Shown, Holder, Split, SplitProject, Closed, Opened, Running, Entries, none, leaf, node, Region, second_lives, has, Place, held_place, second_place}
+use Rattle.tp_scene.specs.Step.{region_limit, Outcome, reduces, waits, rests, clashes, misses, passes, Numbers, marking, by_status, with_value, with_truth, with_number, Target, value_at, length_at, set, added, SideOf, meets, both_wait, equate, side_of, side_with, with_values, with_place, with_argument, with_arguments, called, length_left, from_port, formula_step, leaf_step, holder_step}
+use Rattle.tp_scene.specs.Pick.{Setting, pick}
+use Rattle.tp_scene.proofs.Frame.{region}
+
+-- the facts of a value stand apart
+abbrev pub ValuesApart : Type 0
+ValuesApart = (p : Path) (t : Tree) → NoClash (facts_at p t)
+
+-- and so do the new facts of an addition
+abbrev pub AdditionsApart : Type 0
+AdditionsApart = (kept facts news : List Fact) → NoClash kept → NoClash facts → addition kept facts ≡ adds news → NoClash (kept ++ news)
+
+module _ (facts : List Fact) (kept : NoClash facts) where
+  abbrev pub IsApart : Outcome → Type 0
+  IsApart (reduces r) = NoClash (facts ++ r.facts)
+  IsApart (waits first other) = Unit {0}
+  IsApart rests = Unit {0}
+  IsApart (clashes c) = Unit {0}
+  IsApart (misses port) = Unit {0}
+  IsApart (passes k) = Unit {0}
+
+  nothing_new : NoClash (facts ++ [])
+  nothing_new = subst (λ (fs : List Fact). NoClash fs) (sym (append-nil facts)) kept
+
+  if_apart : (b : Bool) (o o' : Outcome) → IsApart o → IsApart o' → IsApart (if b then o else o')
+  if_apart true o o' h h' = h
+  if_apart false o o' h h' = h'
+
+  marking_apart : (z : Side) (b : Bool) (depth : ℕ) (news : Entries) (items : ℕ) → IsApart (marking z b depth news items)
+  marking_apart z true depth news items = tt
+  marking_apart z false depth news items = nothing_new
+
+  status_apart : (p : Place) (o o' : Outcome) → IsApart o → IsApart o' → IsApart (by_status p o o')
+  status_apart p o o' h h' = cond_both (p.is Going) _ _ IsApart (λ _. h) (λ _. cond_both (p.is Ending) _ _ IsApart (λ _. h') (λ _. tt))
+
+  value_apart : (o : found.Outcome) (f : Tree → Outcome) → ((t : Tree) → IsApart (f t)) → IsApart (with_value o f)
+  value_apart (found.value t) f h = h t
+  value_apart (found.wait p) f h = tt
+  value_apart (found.fault k) f h = tt
+  value_apart (found.over k) f h = tt
+
+  truth_apart : (o : found.Outcome) (f : Bool → Outcome) → ((b : Bool) → IsApart (f b)) → IsApart (with_truth o f)
+  truth_apart (found.value (truth b)) f h = h b
+  truth_apart (found.value (num n)) f h = tt
+  truth_apart (found.value (list ts)) f h = tt
+  truth_apart (found.wait p) f h = tt
+  truth_apart (found.fault k) f h = tt
+  truth_apart (found.over k) f h = tt
+
+  number_apart : (o : found.Outcome) (f : ℤ → Outcome) → ((n : ℤ) → IsApart (f n)) → IsApart (with_number o f)
+  number_apart (found.value (num n)) f h = h n
+  number_apart (found.value (truth b)) f h = tt
+  number_apart (found.value (list ts)) f h = tt
+  number_apart (found.wait p) f h = tt
+  number_apart (found.fault k) f h = tt
+  number_apart (found.over k) f h = tt
+
+  module _ (values : ValuesApart) (additions : AdditionsApart) where
+    added_apart : (xs : List Fact) → NoClash xs → (o : Addition) → addition facts xs ≡ o → IsApart (added o)
+    added_apart xs n (adds news) e = additions facts xs news kept n e
+    added_apart xs n (refuses old new) e = tt
+
+    set_apart : (t : Target) (v : Tree) → IsApart (set facts t v)
+    set_apart (value_at p) v = added_apart (facts_at p v) (values p v) (addition facts (facts_at p v)) refl
+    set_apart (length_at p) (num (pos n)) = if_apart (nat_lt length_limit n) _ _ tt (added_apart (fact p (Items n) ∷ []) (refl, refl, tt) (addition facts (fact p (Items n) ∷ [])) refl)
+    set_apart (length_at p) (num (negsuc n)) = tt
+    set_apart (length_at p) (truth b) = tt
+    set_apart (length_at p) (list ts) = tt
+
+    meets_apart : (side : SideOf) (v : Tree) → IsApart (meets facts side v)
+    meets_apart side v = go side.target side.found where
+      go : (target : Option Target) (o : found.Outcome) → IsApart (meets facts (record { placed = side.placed; target = target; found = o }) v)
+      go (Some t) o = set_apart t v
+      go None (found.value u) = if_apart (same_tree u v) _ _ nothing_new tt
+      go None (found.wait p) = tt
+      go None (found.fault k) = tt
+      go None (found.over k) = tt
+
+    wait_apart : (l r : Bool) (p q : Path) → IsApart (both_wait facts l r p q)
+    wait_apart l r p q = if_apart (r && not l) _ _ tt tt
+
+    equate_apart : (l r : SideOf) → IsApart (equate facts l r)
+    equate_apart l r = go l.found r.found where
+      go : (a b : found.Outcome) → IsApart (equate facts (record { placed = l.placed; target = l.target; found = a }) (record { placed = r.placed; target = r.target; found = b }))
+      go (found.value t) (found.fault k) = tt
+      go (found.wait p) (found.fault k) = tt
+      go (found.fault j) (found.fault k) = tt
+      go (found.over j) (found.fault k) = tt
+      go (found.fault j) (found.value u) = tt
+      go (found.fault j) (found.wait q) = tt
+      go (found.fault j) (found.over k) = tt
+      go (found.value t) (found.over k) = tt
+      go (found.wait p) (found.over k) = tt
+      go (found.over j) (found.over k) = tt
+      go (found.over j) (found.value u) = tt
+      go (found.over j) (found.wait q) = tt
+      go (found.value t) (found.value u) = meets_apart (record { placed = l.placed; target = l.target; found = found.value t }) u
+      go (found.wait p) (found.value u) = meets_apart (record { placed = l.placed; target = l.target; found = found.wait p }) u
+      go (found.value t) (found.wait q) = meets_apart (record { placed = r.placed; target = r.target; found = found.wait q }) t
+      go (found.wait p) (found.wait q) = wait_apart l.placed r.placed p q
+
+    module _ (defs : List Definition) (inputs : InputLines) (state : ℕ) where
+      values_apart : (es : ExprTrees) (env : Bindings) (f : List Tree → Outcome) → ((vs : List Tree) → IsApart (f vs)) → IsApart (with_values defs inputs state facts es env f)
+      values_apart no_expr env f h = h []
+      values_apart (expr_then e es) env f h = value_apart (outcome facts defs e env) _ (λ v. values_apart es env _ (λ vs. h (v ∷ vs)))
+
+      place_apart : (o : PlaceOutcome) (f : BindingTree → Outcome) → ((b : BindingTree) → IsApart (f b)) → IsApart (with_place defs inputs state facts o f)
+      place_apart (found.path p) f h = h _
+      place_apart (found.other o) f h = value_apart o _ (λ v. h (known_binding v))
+
+      argument_apart : (x : List ℕ) (e : ExprTree) (env : Bindings) (f : BindingTree → Outcome) → ((b : BindingTree) → IsApart (f b)) → IsApart (with_argument defs inputs state facts x e env f)
+      argument_apart x e env f h = if_apart (is_upper x) _ _ (place_apart (place_outcome facts defs e env) f h) (value_apart (outcome facts defs e env) _ (λ v. h (known_binding v)))
+
+      arguments_apart : (es : ExprTrees) (xs : List (List ℕ)) (env : Bindings) (f : Bindings → Outcome) → ((bs : Bindings) → IsApart (f bs)) → IsApart (with_arguments defs inputs state facts es xs env f)
+      arguments_apart no_expr [] env f h = h []
+      arguments_apart (expr_then e es) (x ∷ xs) env f h = argument_apart x e env _ (λ b. arguments_apart es xs env _ (λ bs. h (b ∷ bs)))
+      arguments_apart no_expr (x ∷ xs) env f h = tt
+      arguments_apart (expr_then e es) [] env f h = tt
+
+      called_apart : (d : Option Definition) (es : ExprTrees) (env : Bindings) (n : Numbers) → IsApart (called defs inputs state facts d es env n)
+      called_apart (Some d) es env n = arguments_apart es d.parameters env _ (λ bs. nothing_new)
+      called_apart None es env n = tt
+
+      length_apart : (k : ℤ) (env : Bindings) (n : Numbers) → IsApart (length_left defs inputs state facts k env n)
+      length_apart (pos zero) env n = nothing_new
+      length_apart (pos (suc k)) env n = nothing_new
+      length_apart (negsuc k) env n = tt
+
+      port_apart : (v : Option Tree) (port : List ℕ) (side : SideOf) → IsApart (from_port defs inputs state facts v port side)
+      port_apart None port side = tt
+      port_apart (Some v) port side = equate_apart side (side_with defs inputs state facts v)
+
+      formula_apart : (f : FormulaTree) (env : Bindings) (p : Place) (n : Numbers) → IsApart (formula_step defs inputs state facts f env p n)
+      formula_apart trivial env p n = nothing_new
+      formula_apart (test e) env p n = truth_apart (outcome facts defs e env) _ (λ b. if_apart b _ _ nothing_new tt)
+      formula_apart (equation l r) env p n = equate_apart (side_of defs inputs state facts l env) (side_of defs inputs state facts r env)
+      formula_apart (next_equation k t e) env p n = value_apart (outcome facts defs e env) _ (λ v. marking_apart Going (p.is Ending) p.depth _ _)
+      formula_apart empty env p n = marking_apart Ending (p.is Going) p.depth _ _
+      formula_apart more env p n = marking_apart Going (p.is Ending) p.depth _ _
+      formula_apart (next f) env p n = marking_apart Going (p.is Ending) p.depth _ _
+      formula_apart (weak_next f) env p n = status_apart p _ _ nothing_new nothing_new
+      formula_apart (if_more f) env p n = status_apart p _ _ nothing_new nothing_new
+      formula_apart (if_empty f) env p n = status_apart p _ _ nothing_new nothing_new
+      formula_apart (always f) env p n = nothing_new
+      formula_apart (conjunction fs) env p n = nothing_new
+      formula_apart (branch e f g) env p n = truth_apart (outcome facts defs e env) _ (λ b. nothing_new)
+      formula_apart (len e) env p n = number_apart (outcome facts defs e env) _ (λ k. length_apart k env n)
+      formula_apart (assign t e) env p n = value_apart (outcome facts defs e env) _ (λ v. nothing_new)
+      formula_apart (chop f g) env p n = if_apart (nat_lt p.depth region_limit) _ _ nothing_new tt
+      formula_apart (while e f) env p n = nothing_new
+      formula_apart (for_from name k e f) env p n = number_apart (outcome facts defs e env) _ (λ m. if_apart (int_le m k) _ _ nothing_new (if_apart (nat_lt p.depth region_limit) _ _ nothing_new tt))
+      formula_apart (forall_from name k e f) env p n = number_apart (outcome facts defs e env) _ (λ m. if_apart (int_le m k) _ _ nothing_new nothing_new)
+      formula_apart (project f g) env p n = if_apart (nat_lt p.depth region_limit) _ _ nothing_new tt
+      formula_apart (exists name lasting f) env p n = nothing_new
+      formula_apart (call i es) env p n = called_apart (slice_get defs i) es env n
+      formula_apart (input x port) env p n = port_apart (input_at inputs state port) port (side_of defs inputs state facts x env)
+      formula_apart (display es) env p n = values_apart es env _ (λ vs. nothing_new)
+
+      leaf_apart : (l : Leaf) (p : Place) (n : Numbers) → IsApart (leaf_step defs inputs state facts l p n)
+      leaf_apart (Do f env) p n = formula_apart f env p n
+      leaf_apart (Later f env) p n = tt
+      leaf_apart (Shown vs) p n = tt
+
+      holder_apart : (k : Holder) (held second : Region) (q : Place) (n : Numbers) → IsApart (holder_step defs inputs state facts k held second q n)
+      holder_apart (Split f env) held second q n = status_apart q _ _ tt nothing_new
+      holder_apart (SplitProject f env) held second q n = status_apart q _ _ tt nothing_new
+      holder_apart Closed held second q n = tt
+      holder_apart (Opened f env) held second q n = status_apart q _ _ nothing_new tt
+      holder_apart (Running f env) held second q n = tt
+
+pub picked_apart : ValuesApart → AdditionsApart → (w : Setting) (facts : List Fact) (kept : NoClash facts) (t : ℕ) (es : Entries) (p : Place) (n : Numbers) → IsApart facts kept (pick w facts t es p n)
+picked_apart values additions w facts kept t none p n = tt
+picked_apart values additions w facts kept t (leaf id l rest) p n =
+    if_apart facts kept (eqb id t) _ _ (leaf_apart facts kept values additions w.defs w.inputs w.state l p n) (picked_apart values additions w facts kept t rest p n)
+picked_apart values additions w facts kept t (node id k h held g second rest) p n =
+    if_apart facts kept (eqb id t) _ _ (holder_apart facts kept values additions w.defs w.inputs w.state k (region h held) (region g second) (held_place k h held p) n)
+    (if_apart facts kept (second_lives k && has t second) _ _ (picked_apart values additions w facts kept t second (second_place g second p) n)
+    (if_apart facts kept (has t held) _ _ (picked_apart values additions w facts kept t held (held_place k h held p) n) (picked_apart values additions w facts kept t rest p n)))

@@ -1,0 +1,80 @@
+-- A value that is found is the one that an expression has, at each depth where it has one.
+use Rattle.std.proofs.Common.{◌≡◌, ℤ, ℕ, ◌+◌, ◌≤◌, ◌<◌, Bool, List, length, Some, None, arith}
+use Rattle.tp_value.specs.Tree.{Tree, num, truth}
+use Rattle.tp_value.specs.declared.path.Fact.{Fact}
+use Rattle.tp_kernel.specs.declared.formula.FaultKind.{FaultKind}
+use Rattle.tp_meaning.specs.Syntax.{ExprTree}
+use Rattle.tp_meaning.specs.Course.{Course, Shows}
+use Rattle.tp_meaning.specs.Bindings.{Locals, meanings_of}
+use Rattle.tp_meaning.specs.Value.{value}
+use Rattle.tp_meaning.specs.Fits.{ExprFits}
+use Rattle.tp_meaning.specs.Holds.{Context}
+use Rattle.tp_meaning.proofs.Deeper.{value_deeper}
+use Rattle.tp_eval.specs.Evaluate.{depth_limit}
+use Rattle.tp_eval.specs.Outcome as found
+use Rattle.tp_eval.specs.Outcome.{outcome}
+use Rattle.tp_eval.specs.Right.{OutcomesAreRight}
+use Rattle.tp_scene.specs.Scene.{Bindings}
+use Rattle.tp_scene.specs.Says.{Claim}
+use Rattle.tp_scene.specs.Step.{Outcome, with_value, with_truth, with_number}
+use Rattle.tp_scene.proofs.Frame.{Keeps}
+use Rattle.tp_scene.proofs.RowForms.{Agrees, with_value_row, with_truth_row, with_number_row}
+
+-- outcomes are right in each state that agrees with the facts
+abbrev pub AreRight : (w : Context) (kinds : List Bool) → List Fact → Type 0
+AreRight w kinds facts = (σ : Locals) (s : Course) (a : ℕ) (x : ExprTree) (env : Bindings) → ExprFits w.defs kinds x (length env) → Agrees (length kinds) facts σ s a
+    → OutcomesAreRight facts w.defs kinds s σ a x env
+
+module _ (w : Context) (kinds : List Bool) (facts : List Fact) (n e : ℕ) (deep : depth_limit < e) (right : AreRight w kinds facts) where
+  abbrev pub HasValue : ExprTree → Bindings → ℕ → Locals → Course → ℕ → Tree → Type 0
+  HasValue x env d σ s a t = value w.defs d x (meanings_of (length kinds) s σ env) s a ≡ Some t
+
+  abbrev pub Meets : Locals → Course → ℕ → Type 0
+  Meets = Agrees (length kinds) facts
+
+  abbrev pub Finds : ExprTree → Bindings → Tree → Type 0
+  Finds x env t = outcome facts w.defs x env ≡ found.value t
+
+  pub deep_enough : (d : ℕ) → depth_limit ≤ e + d
+  deep_enough d = omega (arith, deep)
+
+  module _ (x : ExprTree) (env : Bindings) (fit : ExprFits w.defs kinds x (length env)) where
+    pub value_found : (t : Tree) → Finds x env t → (d : ℕ) (σ : Locals) (s : Course) (a : ℕ) → Meets σ s a → HasValue x env (e + d) σ s a t
+    value_found t q d σ s a ag = (right σ s a x env fit ag).values t q (e + d) (deep_enough d)
+
+    pub one_value : (t : Tree) → Finds x env t → (d : ℕ) (σ : Locals) (s : Course) (a : ℕ) → Meets σ s a → (u : Tree) → HasValue x env d σ s a u → u ≡ t
+    one_value t q d σ s a ag u h =
+        let r : HasValue x env (e + d) σ s a u = value_deeper w.defs d (e + d) (omega arith) x (meanings_of (length kinds) s σ env) s a u h in
+        let r' : HasValue x env (e + d) σ s a t = value_found t q d σ s a ag in cc
+
+    -- so at that depth it has the value too
+    pub same_value : (t : Tree) → Finds x env t → (d : ℕ) (σ : Locals) (s : Course) (a : ℕ) → Meets σ s a → (u : Tree) → HasValue x env d σ s a u → HasValue x env d σ s a t
+    same_value t q d σ s a ag u h = let r : u ≡ t = one_value t q d σ s a ag u h in cc
+
+    pub no_value : (k : FaultKind) → outcome facts w.defs x env ≡ found.fault k → (d : ℕ) (σ : Locals) (s : Course) (a : ℕ) → Meets σ s a → (u : Tree) → HasValue x env d σ s a u → ⊥
+    no_value k q d σ s a ag u h = let r : value w.defs d x (meanings_of (length kinds) s σ env) s a ≡ None = (right σ s a x env fit ag).faults k q d in absurd (cc)
+
+    module _ (Old : Claim) (s : Course) (a b : ℕ) where
+      abbrev pub RowOf : Outcome → Type 0
+      RowOf o = Keeps w (length kinds) facts n e o Old s a b
+
+      -- where the item holds, the expression has a value
+      pub value_row : (f : Tree → Outcome)
+          → ((d : ℕ) (σ : Locals) (S : Shows) → Old d σ s a b S → (u : Tree) × HasValue x env d σ s a u)
+          → ((t : Tree) → Finds x env t → RowOf (f t)) → RowOf (with_value (outcome facts w.defs x env) f)
+      value_row f needs h = with_value_row w (length kinds) facts n e Old s a b (outcome facts w.defs x env) f
+          (λ k q d σ S ag y. let u = needs d σ S y in no_value k q d σ s a ag u.0 u.1) h
+
+      pub truth_row : (f : Bool → Outcome)
+          → ((d : ℕ) (σ : Locals) (S : Shows) → Old d σ s a b S → (c : Bool) × HasValue x env d σ s a (truth c))
+          → ((c : Bool) → Finds x env (truth c) → RowOf (f c)) → RowOf (with_truth (outcome facts w.defs x env) f)
+      truth_row f needs h = with_truth_row w (length kinds) facts n e Old s a b (outcome facts w.defs x env) f
+          (λ k q d σ S ag y. let u = needs d σ S y in no_value k q d σ s a ag (truth u.0) u.1)
+          (λ t q differs d σ S ag y. let u = needs d σ S y in differs u.0 (one_value t q d σ s a ag (truth u.0) u.1)) h
+
+      pub number_row : (f : ℤ → Outcome)
+          → ((d : ℕ) (σ : Locals) (S : Shows) → Old d σ s a b S → (k : ℤ) × HasValue x env d σ s a (num k))
+          → ((k : ℤ) → Finds x env (num k) → RowOf (f k)) → RowOf (with_number (outcome facts w.defs x env) f)
+      number_row f needs h = with_number_row w (length kinds) facts n e Old s a b (outcome facts w.defs x env) f
+          (λ k q d σ S ag y. let u = needs d σ S y in no_value k q d σ s a ag (num u.0) u.1)
+          (λ t q differs d σ S ag y. let u = needs d σ S y in differs u.0 (one_value t q d σ s a ag (num u.0) u.1)) h

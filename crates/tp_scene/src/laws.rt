@@ -1,0 +1,45 @@
+// Laws of steps, of the next state, and of how a state begins and ends.
+ghost use Rattle.tp_scene.specs.Laws.{StepsKeep, StepsFit, RefusalsStandForNone, AdvancesKeep, AdvancesFit, EndsStand, RunsBegin};
+ghost use Rattle.tp_scene.specs.Built.{StepsStayFlat, AdvancesStayFlat};
+
+/// A reduction keeps what a moment stands for, of the intervals whose first state has the state's own number.
+pub fn steps_keep()
+    ensures { StepsKeep }
+{}
+
+/// A reduction leaves a sound moment.
+pub fn steps_fit()
+    ensures { StepsFit }
+{}
+
+/// Where an item meets a clash, or misses an input, no such interval is stood for.
+pub fn refusals_stand_for_none()
+    ensures { RefusalsStandForNone }
+{}
+
+/// A settled moment that goes on stands for the intervals whose first state agrees with the facts of the globals and shows what is shown,
+/// and whose rest the next moment stands for.
+pub fn advances_keep()
+    ensures { AdvancesKeep }
+{}
+
+/// The next state begins with a sound moment.
+pub fn advances_fit()
+    ensures { AdvancesFit }
+{}
+
+/// A settled moment that ends stands for the intervals of one state that agrees with the facts of the globals and shows what is shown.
+pub fn ends_stand()
+    ensures { EndsStand }
+{}
+
+/// A run begins with a sound moment, which stands for the intervals on which the formula holds.
+pub fn runs_begin()
+    ensures { RunsBegin }
+{}
+
+/// Scenes of one region, with formulas of the kinds that are run today, stay so.
+pub fn flat_scenes_stay_flat()
+    ensures steps { StepsStayFlat }
+    ensures advances { AdvancesStayFlat }
+{}

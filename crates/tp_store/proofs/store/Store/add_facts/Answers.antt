@@ -1,0 +1,64 @@
+use Rattle.std.proofs.Common.{◌≡◌, ap, sym, ◌∙◌, subst, length, slice_get}
+use Rattle.std.proofs.lemmas.Result.{err_from_is_err_and}
+use Rattle.tp_store.specs.Known.{addition, Addition, Contents}
+use Rattle.tp_store.specs.Answers.{IsRefusal}
+use Rattle.tp_store.specs.Changes.{HasAdded}
+use Rattle.tp_store.specs.Entries.{parts_in, facts_there, grown, contents_of}
+use Rattle.tp_store.proofs.Filing.{sound, moved_parts, addition_view, grows}
+use Rattle.tp_store.proofs.EntryLemmas.{written}
+use Rattle.tp_store.proofs.store.Store.add_facts.Goals as goal
+
+pub returns-in_err-news-clause-refused : goal.returns-in_err-news-clause-refused
+returns-in_err-news-clause-refused c =
+    let es = c.self.inside.entries.items in
+    let same : addition (facts_there (slice_get (parts_in c.as_mut_slice.result.now) c.args.var.number)) c.args.facts.items ≡ addition c.args.self.now.facts c.args.facts.items =
+    ap (λ xs. addition (facts_there (slice_get (parts_in xs) c.args.var.number)) c.args.facts.items) c.as_mut_slice.ensures.value
+    ∙ addition_view (parts_in es) _ c.args.var c.args.facts.items c.self.view_is c.self.invariant c.requires.filed in
+    let refused = subst (λ (o : Addition). IsRefusal o c.in_err-news.field-0.0) same c.in_err-news.ensures.refused in
+    let p = err_from_is_err_and c.from_residual.result c.from_residual.ensures.1 in
+    rw (p.1, p.2) refused
+
+pub returns-in_err-news-clause-sound : goal.returns-in_err-news-clause-sound
+returns-in_err-news-clause-sound c =
+    let es = c.self.inside.entries.items in
+    let fs = c.add_at.new.entries in
+    let lengths : length fs ≡ length es = c.add_at.auto.entries ∙ ap length c.as_mut_slice.ensures.value in
+    let same = ap parts_in (written es fs c.self.inside.entries.len c.self.inside.entries.ok.0 lengths) ∙ c.in_err-news.ensures.err ∙ ap parts_in c.as_mut_slice.ensures.value in
+    sound _ (moved_parts _ _ same c.self.invariant)
+
+pub invariant_of-self-2 : goal.invariant_of-self-2
+invariant_of-self-2 c =
+    let es = c.self.inside.entries.items in
+    let fs = c.add_at.new.entries in
+    let lengths : length fs ≡ length es = c.add_at.auto.entries ∙ ap length c.as_mut_slice.ensures.value in
+    let same = ap parts_in (written es fs c.self.inside.entries.len c.self.inside.entries.ok.0 lengths) ∙ c.in_ok-news.ensures.ok ∙ ap (λ xs. grown (parts_in xs) c.args.var.number c.in_ok-news.news) c.as_mut_slice.ensures.value in
+    let added = ap (λ xs. addition (facts_there (slice_get (parts_in xs) c.args.var.number)) c.args.facts.items) (sym c.as_mut_slice.ensures.value) ∙ c.in_ok-news.ensures.added in
+    let all = grows (parts_in es) _ c.args.var c.args.facts.items c.in_ok-news.news c.self.view_is c.self.invariant c.requires.variable c.requires.filed c.requires.apart added in
+    moved_parts _ _ same all.parts
+
+pub returns-clause-news : goal.returns-clause-news
+returns-clause-news c =
+    let es = c.self.inside.entries.items in
+    sym (ap (λ xs. addition (facts_there (slice_get (parts_in xs) c.args.var.number)) c.args.facts.items) c.as_mut_slice.ensures.value
+    ∙ addition_view (parts_in es) _ c.args.var c.args.facts.items c.self.view_is c.self.invariant c.requires.filed) ∙ c.in_ok-news.ensures.added
+
+pub returns-clause-added : goal.returns-clause-added
+returns-clause-added c =
+    let es = c.self.inside.entries.items in
+    let fs = c.add_at.new.entries in
+    let lengths : length fs ≡ length es = c.add_at.auto.entries ∙ ap length c.as_mut_slice.ensures.value in
+    let same = ap parts_in (written es fs c.self.inside.entries.len c.self.inside.entries.ok.0 lengths) ∙ c.in_ok-news.ensures.ok ∙ ap (λ xs. grown (parts_in xs) c.args.var.number c.in_ok-news.news) c.as_mut_slice.ensures.value in
+    let added = ap (λ xs. addition (facts_there (slice_get (parts_in xs) c.args.var.number)) c.args.facts.items) (sym c.as_mut_slice.ensures.value) ∙ c.in_ok-news.ensures.added in
+    let all = grows (parts_in es) _ c.args.var c.args.facts.items c.in_ok-news.news c.self.view_is c.self.invariant c.requires.variable c.requires.filed c.requires.apart added in
+    let P : Contents → Type 0 = λ s. HasAdded c.args.self.now c.in_ok-news.news s in
+    subst P (ap contents_of (sym same)) all.added
+
+pub returns-clause-sound : goal.returns-clause-sound
+returns-clause-sound c =
+    let es = c.self.inside.entries.items in
+    let fs = c.add_at.new.entries in
+    let lengths : length fs ≡ length es = c.add_at.auto.entries ∙ ap length c.as_mut_slice.ensures.value in
+    let same = ap parts_in (written es fs c.self.inside.entries.len c.self.inside.entries.ok.0 lengths) ∙ c.in_ok-news.ensures.ok ∙ ap (λ xs. grown (parts_in xs) c.args.var.number c.in_ok-news.news) c.as_mut_slice.ensures.value in
+    let added = ap (λ xs. addition (facts_there (slice_get (parts_in xs) c.args.var.number)) c.args.facts.items) (sym c.as_mut_slice.ensures.value) ∙ c.in_ok-news.ensures.added in
+    let all = grows (parts_in es) _ c.args.var c.args.facts.items c.in_ok-news.news c.self.view_is c.self.invariant c.requires.variable c.requires.filed c.requires.apart added in
+    sound _ (moved_parts _ _ same all.parts)
