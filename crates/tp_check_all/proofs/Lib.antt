@@ -1,0 +1,4 @@
+pub mod Several
+pub mod Sides
+pub mod Fitting
+pub mod Known

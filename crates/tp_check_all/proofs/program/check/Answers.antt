@@ -1,0 +1,11 @@
+use Rattle.std.proofs.Common.{subst, IfOk}
+use Rattle.tp_tree.specs.Read.{tree}
+use Rattle.tp_meaning.specs.Syntax.{FormulaTree}
+use Rattle.tp_kernel.specs.Built.{IsRunnable}
+use Rattle.tp_check_all.specs.Outcome.{Outcome}
+use Rattle.tp_check_all.proofs.Fitting.{formula_fits}
+use Rattle.tp_check_all.proofs.program.check.Goals as goal
+
+pub returns-clause-built : goal.returns-clause-built
+returns-clause-built c =
+    subst (λ (o : Outcome FormulaTree). IfOk o (IsRunnable c.add_names.new.globals)) c.in_ok-main.ensures (formula_fits c.add_names.new.globals (tree c.args.source.now.main))

@@ -1,0 +1,44 @@
+// Why a source is no program.
+ghost use Rattle.std.specs.Prelude.{◌≡◌};
+ghost use Rattle.tp_check_all.specs.declared.refusal.CheckRefusal.TheVariants.{NoMemory};
+
+use std::alloc::{AllocError, AllocFailed};
+use tp_value::NoMemory;
+
+/// Why a source is no program. A phrase is named by the place of the first byte of its text.
+#[derive(Clone, Copy, Debug, PartialEq, Eq)]
+pub enum CheckRefusal {
+    /// The form at this place has too few operands or too many.
+    WrongCount { at: u32 },
+    /// The phrase at this place stands where an expression is due, and is none.
+    NotExpression { at: u32 },
+    /// The phrase at this place stands where a place is due, and is none.
+    NotPlace { at: u32 },
+    /// The phrase, or the definition, at this place isn't run.
+    NotExecutable { at: u32 },
+    NoMemory,
+}
+
+impl From<AllocError> for CheckRefusal {
+    ghost from_gives = { λ _ e. e ≡ NoMemory };
+
+    fn from(_: AllocError) -> CheckRefusal {
+        CheckRefusal::NoMemory
+    }
+}
+
+impl<T: Drop> From<AllocFailed<T>> for CheckRefusal {
+    ghost from_gives = { λ _ e. e ≡ NoMemory };
+
+    fn from(_: AllocFailed<T>) -> CheckRefusal {
+        CheckRefusal::NoMemory
+    }
+}
+
+impl From<NoMemory> for CheckRefusal {
+    ghost from_gives = { λ _ e. e ≡ NoMemory };
+
+    fn from(_: NoMemory) -> CheckRefusal {
+        CheckRefusal::NoMemory
+    }
+}
