@@ -1,4 +1,4 @@
-pub mod NameLemmas
-pub mod TreeLemmas
-pub mod BuiltLemmas
-pub mod ProgramLemmas
+pub mod Several
+pub mod Sides
+pub mod Fitting
+pub mod Known

@@ -1,5 +1,6 @@
 pub mod Names
 pub mod Outcome
+pub mod Phrases
 pub mod Positions
-pub mod Program
 pub mod Building
+pub mod Program

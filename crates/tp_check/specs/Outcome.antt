@@ -1,15 +1,26 @@
 -- What is made of a phrase, or why it is refused.
-use Rattle.std.specs.Prelude.{◌≡◌, ◌≢◌, ℕ, ◌++◌, Result, Ok, Err}
+use Rattle.std.specs.Prelude.{◌≡◌, ◌≢◌, ℕ, Result, Ok, Err}
 use Rattle.tp_check.specs.declared.refusal.CheckRefusal.{CheckRefusal}
-use Rattle.tp_check.specs.declared.refusal.CheckRefusal.TheVariants.{NotExecutable, NoMemory}
-use Rattle.tp_check.specs.Names.{Names}
+use Rattle.tp_check.specs.declared.refusal.CheckRefusal.TheVariants.{NotExecutable, NotExpression, NotPlace, WrongCount, NoMemory}
 
 abbrev pub Outcome : Type 0 → Type 0
 Outcome A = Result A CheckRefusal
 
--- a phrase at this place that isn't run
-abbrev pub not_run : {A : Type 0} → ℕ → Outcome A
+-- the phrase at this place isn't run
+abbrev pub not_run : {A : Type 0} → (at : ℕ) → Outcome A
 not_run at = Err (NotExecutable at)
+
+-- it is no expression
+abbrev pub not_expression : {A : Type 0} → (at : ℕ) → Outcome A
+not_expression at = Err (NotExpression at)
+
+-- it is no place
+abbrev pub not_place : {A : Type 0} → (at : ℕ) → Outcome A
+not_place at = Err (NotPlace at)
+
+-- it has too few operands or too many
+abbrev pub wrong_count : {A : Type 0} → (at : ℕ) → Outcome A
+wrong_count at = Err (WrongCount at)
 
 abbrev pub mapped : {A B : Type 0} → (A → B) → Outcome A → Outcome B
 mapped f (Ok a) = Ok (f a)
@@ -20,7 +31,12 @@ abbrev pub both : {A B C : Type 0} → (A → B → C) → Outcome A → Outcome
 both f (Ok a) b = mapped (f a) b
 both f (Err e) b = Err e
 
--- What a function answered, seen by view, is the outcome over these names, also where others are added behind them, unless memory ran out.
-abbrev pub Answers : {X T : Type 0} → (X → T) → Names → (Names → Outcome T) → Result X CheckRefusal → Type 0
-Answers view names outcome (Ok x) = (more : Names) → outcome (names ++ more) ≡ Ok (view x)
-Answers view names outcome (Err e) = e ≢ NoMemory → (more : Names) → outcome (names ++ more) ≡ Err e
+-- and of three
+abbrev pub three : {A B C D : Type 0} → (A → B → C → D) → Outcome A → Outcome B → Outcome C → Outcome D
+three f (Ok a) b c = both (f a) b c
+three f (Err e) b c = Err e
+
+-- What a function answered, seen by view, is the outcome, unless memory ran out.
+abbrev pub Answers : {X T : Type 0} → (X → T) → Outcome T → Result X CheckRefusal → Type 0
+Answers view outcome (Ok x) = outcome ≡ Ok (view x)
+Answers view outcome (Err e) = e ≢ NoMemory → outcome ≡ Err e

@@ -1,15 +1,59 @@
 -- From phrases to formulas and expressions, by the position in which a phrase stands.
-use Rattle.std.specs.Prelude.{ℕ, zero, suc, ◌+◌, List, [], ◌∷◌, if◌then◌else◌, Ok}
-use Rattle.tp_value.specs.Globals.{is_lower}
+use Rattle.std.specs.Prelude.{ℕ, zero, suc, ◌&&◌, Bool, true, false, List, [], ◌∷◌, if◌then◌else◌, Option, Some, None, Ok, Err}
+use Rattle.tp_value.specs.declared.path.VarId.{VarId}
+use Rattle.tp_value.specs.Globals.{variable_of}
+use Rattle.tp_tree.specs.declared.operator.Op.{Op}
 use Rattle.tp_tree.specs.declared.operator.Op.TheVariants as op
 use Rattle.tp_tree.specs.declared.operator.Bare.{Bare}
 use Rattle.tp_tree.specs.declared.operator.Bare.TheVariants.{Empty, More, Skip}
+use Rattle.tp_tree.specs.declared.operator.Form.{Form}
+use Rattle.tp_tree.specs.declared.operator.Form.TheVariants as f
 use Rattle.tp_tree.specs.Tree.{PhraseTree, phrase, KindTree, PhraseTrees, no_phrase, phrase_then}
 use Rattle.tp_tree.specs.Tree as k
-use Rattle.tp_meaning.specs.Syntax.{Plus, ExprTree, numeral, global, binary, FormulaTree, equation, empty, more, next, conjunction, formulas_of}
-use Rattle.tp_meaning.specs.Derived.{skip_of, next_equals_of}
-use Rattle.tp_check.specs.Names.{Names, variable_in}
-use Rattle.tp_check.specs.Outcome.{Outcome, not_run, mapped, both}
+use Rattle.tp_meaning.specs.Syntax.{Equal, Differs, Less, LessEqual, Greater, GreaterEqual, Plus, Minus, Times, Div, Mod, ExprTree, numeral, boolean, global, listing, size, index, minus, negation, either, binary, choice, exprs_of, FormulaTree, trivial, test, equation, empty, more, next, always, conjunction, branch, len, assign, formulas_of}
+use Rattle.tp_meaning.specs.Syntax as m
+use Rattle.tp_meaning.specs.Derived.{skip_of, halt_of, keep_of, fin_of, gets_of, stable_of, becomes_of, list_of_length, next_equals_of}
+use Rattle.tp_check.specs.declared.refusal.CheckRefusal.{CheckRefusal}
+use Rattle.tp_check.specs.declared.refusal.CheckRefusal.TheVariants.{NotExecutable, NotExpression, NotPlace, WrongCount}
+use Rattle.tp_check.specs.Names.{Names}
+use Rattle.tp_check.specs.Outcome.{Outcome, not_run, not_expression, mapped, both, three}
+use Rattle.tp_check.specs.Phrases.{is_state_phrase, is_place_phrase, is_place_kind, takes, count_of, nexts_of, behind_nexts, at_of}
+
+-- ---- expressions
+
+-- no name of a program is missing among its names, so none is refused there
+abbrev pub variable_at : ℕ → Option VarId → Outcome ExprTree
+variable_at at (Some x) = Ok (global x)
+variable_at at None = not_run at
+
+-- what an operator makes of two expressions; `;`, `proj`, `gets`, `<-` and `:=` make no expression
+abbrev pub operation_of : Op → Option (ExprTree → ExprTree → ExprTree)
+operation_of op.Or = Some either
+operation_of op.Equal = Some (binary Equal)
+operation_of op.Differs = Some (binary Differs)
+operation_of op.Less = Some (binary Less)
+operation_of op.LessEqual = Some (binary LessEqual)
+operation_of op.Greater = Some (binary Greater)
+operation_of op.GreaterEqual = Some (binary GreaterEqual)
+operation_of op.Plus = Some (binary Plus)
+operation_of op.Minus = Some (binary Minus)
+operation_of op.Times = Some (binary Times)
+operation_of op.Div = Some (binary Div)
+operation_of op.Mod = Some (binary Mod)
+operation_of op.Chop = None
+operation_of op.Proj = None
+operation_of op.Gets = None
+operation_of op.Arrow = None
+operation_of op.Becomes = None
+
+-- two expressions with an operator between them, whose phrase stands at this place
+abbrev pub operation_at : ℕ → Option (ExprTree → ExprTree → ExprTree) → (l r : Outcome ExprTree) → Outcome ExprTree
+operation_at at (Some make) l r = both make l r
+operation_at at None l r = not_expression at
+
+-- the refusal of a form at this place: where the number of its operands is wrong, that comes first
+abbrev pub form_refusal : (at : ℕ) → Form → PhraseTrees → CheckRefusal → CheckRefusal
+form_refusal at form ps other = if takes form (count_of ps) then other else WrongCount at
 
 -- Expressions, over the variables with these names.
 abbrev mutual
@@ -18,32 +62,40 @@ abbrev mutual
 
   pub expr_of_kind : Names → (at : ℕ) → KindTree → Outcome ExprTree
   expr_of_kind names at (k.number n) = Ok (numeral n)
-  -- static variables, whose names begin with a lower-case letter, aren't run yet
-  expr_of_kind names at (k.name x) = if is_lower x then not_run at else Ok (global (variable_in names x))
-  expr_of_kind names at (k.binary op.Plus l r) = both (binary Plus) (expr_of names l) (expr_of names r)
-  -- No other phrase is run yet as an expression: not truth values, lists, sizes, indices, `-`, `*`, `div`, `mod`, relations, `and`, `or`, `not`,
-  -- `if` and calls, and none that is a formula alone.
-  expr_of_kind names at kind = not_run at
+  expr_of_kind names at (k.truth b) = Ok (boolean b)
+  expr_of_kind names at (k.name x) = variable_at at (variable_of names x)
+  expr_of_kind names at (k.list ps) = mapped (λ es. listing (exprs_of es)) (exprs_in names ps)
+  expr_of_kind names at (k.size p) = mapped size (expr_of names p)
+  expr_of_kind names at (k.index p i) = both index (expr_of names p) (expr_of names i)
+  expr_of_kind names at (k.minus p) = mapped minus (expr_of names p)
+  expr_of_kind names at (k.negation p) = mapped negation (expr_of names p)
+  expr_of_kind names at (k.binary o l r) = operation_at at (operation_of o) (expr_of names l) (expr_of names r)
+  expr_of_kind names at (k.conjunction ps) = mapped (λ es. m.both (exprs_of es)) (exprs_in names ps)
+  expr_of_kind names at (k.choice_else b p q) = three choice (expr_of names b) (expr_of names p) (expr_of names q)
+  expr_of_kind names at (k.form form ps) = Err (form_refusal at form ps (NotExpression at))
+  -- calls aren't run yet
+  expr_of_kind names at (k.call x ps) = not_run at
+  -- `next`, `if` without `else`, loops, `forall`, `exists` and bare words
+  expr_of_kind names at kind = not_expression at
 
--- how many `next` stand in front of a phrase, and the phrase behind them
-abbrev mutual
-  pub nexts_of : PhraseTree → ℕ
-  nexts_of (phrase at kind) = nexts_of_kind kind
+  -- of each of the phrases
+  pub exprs_in : Names → PhraseTrees → Outcome (List ExprTree)
+  exprs_in names no_phrase = Ok []
+  exprs_in names (phrase_then p ps) = both (λ e es. e ∷ es) (expr_of names p) (exprs_in names ps)
 
-  pub nexts_of_kind : KindTree → ℕ
-  nexts_of_kind (k.next p) = nexts_of p + 1
-  nexts_of_kind kind = 0
+-- ---- places
 
-abbrev mutual
-  pub behind_nexts : PhraseTree → PhraseTree
-  behind_nexts (phrase at kind) = behind_nexts_of at kind
+-- why a phrase at this place, which is no place phrase, is refused as a place
+abbrev pub place_refusal : (at : ℕ) → KindTree → CheckRefusal
+place_refusal at (k.form form ps) = form_refusal at form ps (NotPlace at)
+place_refusal at (k.call x ps) = NotExecutable at
+place_refusal at kind = NotPlace at
 
-  pub behind_nexts_of : ℕ → KindTree → PhraseTree
-  behind_nexts_of at (k.next p) = behind_nexts p
-  behind_nexts_of at kind = phrase at kind
+-- a place phrase as an expression; any other is refused
+abbrev pub place_in : Names → PhraseTree → Outcome ExprTree
+place_in names (phrase at kind) = if is_place_kind kind then expr_of_kind names at kind else Err (place_refusal at kind)
 
-abbrev pub place_of : PhraseTree → ℕ
-place_of (phrase at kind) = at
+-- ---- formulas
 
 -- `l = r`, where l and r are the sides without the `next` in front of them, and that many stand in front of either. With `next` on both
 -- sides the left one is taken whole, and the right one, which is at this place, is refused.
@@ -51,10 +103,37 @@ abbrev pub equation_of : (left_nexts right_nexts right_at : ℕ) → (l r : Outc
 equation_of zero zero at l r = both equation l r
 equation_of (suc n) zero at l r = both (λ t e. next_equals_of (suc n) t e) l r
 equation_of zero (suc n) at l r = both (λ e t. next_equals_of (suc n) t e) l r
-equation_of (suc n) (suc m) at l r = both equation l (not_run at)
+equation_of (suc n) (suc m) at l r = both equation l (not_expression at)
 
 abbrev pub equation_in : Names → (l r : PhraseTree) → Outcome FormulaTree
-equation_in names l r = equation_of (nexts_of l) (nexts_of r) (place_of r) (expr_of names (behind_nexts l)) (expr_of names (behind_nexts r))
+equation_in names l r = equation_of (nexts_of l) (nexts_of r) (at_of r) (expr_of names (behind_nexts l)) (expr_of names (behind_nexts r))
+
+-- the place has this truth value
+abbrev pub place_is : Bool → ExprTree → FormulaTree
+place_is b p = equation p (boolean b)
+
+-- a phrase that is an expression: a place is true, anything else is tested
+abbrev pub state_in : Names → (at : ℕ) → KindTree → Outcome FormulaTree
+state_in names at kind = if is_place_kind kind then mapped (place_is true) (expr_of_kind names at kind) else mapped test (expr_of_kind names at kind)
+
+-- `not p`: a place is false; else p is a state phrase
+abbrev pub negation_in : Names → (at : ℕ) → PhraseTree → Outcome FormulaTree
+negation_in names at p =
+    if is_place_phrase p then mapped (place_is false) (expr_of names p)
+    else if is_state_phrase p then state_in names at (k.negation p)
+    else not_run at
+
+-- two phrases with an operator between them
+abbrev pub binary_in : Names → (at : ℕ) → Op → (l r : PhraseTree) → Outcome FormulaTree
+binary_in names at op.Equal l r = equation_in names l r
+binary_in names at op.Gets l r = both gets_of (place_in names l) (expr_of names r)
+binary_in names at op.Arrow l r = both assign (place_in names l) (expr_of names r)
+binary_in names at op.Becomes l r = both becomes_of (place_in names l) (expr_of names r)
+binary_in names at op.Or l r = if is_state_phrase l && is_state_phrase r then state_in names at (k.binary op.Or l r) else not_run at
+-- chop and projection aren't run yet
+binary_in names at op.Chop l r = not_run at
+binary_in names at op.Proj l r = not_run at
+binary_in names at o l r = state_in names at (k.binary o l r)
 
 abbrev pub bare_of : Bare → FormulaTree
 bare_of Empty = empty
@@ -68,14 +147,33 @@ abbrev mutual
 
   pub formula_of_kind : Names → (at : ℕ) → KindTree → Outcome FormulaTree
   formula_of_kind names at (k.conjunction ps) = mapped (λ ws. conjunction (formulas_of ws)) (formulas_in names ps)
+  formula_of_kind names at (k.truth true) = Ok trivial
+  formula_of_kind names at (k.negation p) = negation_in names at p
+  formula_of_kind names at (k.binary o l r) = binary_in names at o l r
   formula_of_kind names at (k.bare word) = Ok (bare_of word)
-  formula_of_kind names at (k.next p) = mapped next (formula_of names p)
-  formula_of_kind names at (k.binary op.Equal l r) = equation_in names l r
-  -- No other phrase is run yet as a formula: not truth values, places and other tests, other relations, `;`, `proj`, forms, `if`, loops,
-  -- `forall`, `exists` and calls.
-  formula_of_kind names at kind = not_run at
+  formula_of_kind names at (k.next w) = mapped next (formula_of names w)
+  formula_of_kind names at (k.form f.Always (phrase_then w no_phrase)) = mapped always (formula_of names w)
+  formula_of_kind names at (k.form f.Keep (phrase_then w no_phrase)) = mapped keep_of (formula_of names w)
+  formula_of_kind names at (k.form f.Fin (phrase_then w no_phrase)) = mapped fin_of (formula_of names w)
+  formula_of_kind names at (k.form f.Halt (phrase_then b no_phrase)) = mapped halt_of (expr_of names b)
+  formula_of_kind names at (k.form f.Stable (phrase_then p no_phrase)) = mapped stable_of (place_in names p)
+  formula_of_kind names at (k.form f.Len (phrase_then e no_phrase)) = mapped len (expr_of names e)
+  formula_of_kind names at (k.form f.List (phrase_then l (phrase_then e no_phrase))) = both list_of_length (place_in names l) (expr_of names e)
+  -- `sometimes` is never run, `input` and `display` aren't run yet
+  formula_of_kind names at (k.form form ps) = Err (form_refusal at form ps (NotExecutable at))
+  formula_of_kind names at (k.choice b w) = both (λ c x. branch c x trivial) (expr_of names b) (formula_of names w)
+  formula_of_kind names at (k.choice_else b w v) = three branch (expr_of names b) (formula_of names w) (formula_of names v)
+  -- loops, `forall`, `exists` and calls aren't run yet
+  formula_of_kind names at (k.while b w) = not_run at
+  formula_of_kind names at (k.repeat w b) = not_run at
+  formula_of_kind names at (k.for x e w) = not_run at
+  formula_of_kind names at (k.forall x e w) = not_run at
+  formula_of_kind names at (k.exists xs w) = not_run at
+  formula_of_kind names at (k.call x ps) = not_run at
+  -- numbers, `false`, names, lists, sizes, indices and unary minus
+  formula_of_kind names at kind = state_in names at kind
 
   -- of each of the phrases
   pub formulas_in : Names → PhraseTrees → Outcome (List FormulaTree)
   formulas_in names no_phrase = Ok []
-  formulas_in names (phrase_then p ps) = both (λ w ws. w ∷ ws) (formula_of names p) (formulas_in names ps)
+  formulas_in names (phrase_then w ws) = both (λ x xs. x ∷ xs) (formula_of names w) (formulas_in names ws)

@@ -1,5 +1,5 @@
 -- The program that a source is.
-use Rattle.std.specs.Prelude.{List, [], ◌∷◌}
+use Rattle.std.specs.Prelude.{◌≡◌, List, [], ◌∷◌, ◌++◌}
 use Rattle.tp_tree.specs.Tree.{PhraseTree, DefinitionTree, SourceTree}
 use Rattle.tp_kernel.specs.Read.{formula_tree}
 use Rattle.tp_meaning.specs.Syntax.{FormulaTree}
@@ -19,6 +19,10 @@ program names main = record { main = main; names = names }
 -- the names of a program with this main phrase, each once and in the order of their first occurrences
 abbrev pub names_of : PhraseTree → Names
 names_of main = names_with [] (names_in main)
+
+-- no name of the main phrase is missing among its names: with others behind them it becomes the same
+abbrev pub NamesSuffice : PhraseTree → Type 0
+NamesSuffice main = (more : Names) → formula_of (names_of main ++ more) main ≡ formula_of (names_of main) main
 
 -- definitions aren't run yet: the first is refused
 abbrev pub program_with : List DefinitionTree → PhraseTree → Outcome ProgramTree

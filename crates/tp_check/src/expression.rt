@@ -1,53 +1,95 @@
 // Expressions.
-ghost use Rattle.std.specs.Prelude.{◌≡◌, ◌∷◌, [], OnOk};
-ghost use Rattle.tp_tree.specs.Read.{tree};
+ghost use Rattle.std.specs.Prelude.{◌≡◌};
+ghost use Rattle.tp_tree.specs.Read.{tree, trees};
 ghost use Rattle.tp_kernel.specs.Read.{expr_tree};
 ghost use Rattle.tp_tree.specs.Tree.{name as name_kind};
-ghost use Rattle.tp_check.specs.Names.{names_with, names_in};
+ghost use Rattle.tp_check.specs.Building.{expr_seen, exprs_seen};
 ghost use Rattle.tp_check.specs.Outcome.{Answers};
-ghost use Rattle.tp_check.specs.Positions.{expr_of, expr_of_kind};
+ghost use Rattle.tp_check.specs.Positions.{expr_of, expr_of_kind, exprs_in};
 
+use crate::operation::operation_for;
+use crate::phrases::miscounted_or;
 use crate::refusal::CheckRefusal;
 use std::alloc::Global;
 use std::rc::Rc;
-use tp_kernel::{Expr, Op2};
-use tp_tree::{Op, Phrase, PhraseKind};
+use tp_kernel::{Expr, Exprs};
+use tp_tree::{Phrase, PhraseKind, Phrases};
 use tp_value::{Globals, Text};
 
-// The variable of the name, which stands at this place. A static one isn't run.
-fn variable(at: u32, name: &Text, globals: &mut Globals) -> Result<Expr, CheckRefusal>
-    ensures names { OnOk result (globals.new ≡ names_with globals.old (name.now ∷ [])) }
-    ensures outcome { Answers expr_tree (names_with globals.old (name.now ∷ [])) (λ names. expr_of_kind names at (name_kind name.now)) result }
+// The variable of the name, which stands at this place.
+fn variable(at: u32, name: &Text, globals: &Globals) -> Result<Expr, CheckRefusal>
+    ensures { Answers expr_tree (expr_of_kind globals.now at (name_kind name.now)) result }
 {
-    let variable = globals.add(name)?;
-    if variable.lasting {
-        return Err(CheckRefusal::NotExecutable { at });
+    match globals.find(name) {
+        Some(variable) => Ok(Expr::Global(variable)),
+        None => Err(CheckRefusal::NotExecutable { at }),
     }
-    Ok(Expr::Global(variable))
 }
 
-/// The expression that a phrase is. Its names are added.
-pub fn expression(
-    alloc: Global,
-    phrase: &Phrase,
-    globals: &mut Globals,
-) -> Result<Expr, CheckRefusal>
-    ensures names { OnOk result (globals.new ≡ names_with globals.old (names_in (tree phrase.now))) }
-    ensures outcome { Answers expr_tree (names_with globals.old (names_in (tree phrase.now))) (λ names. expr_of names (tree phrase.now)) result }
+/// The expression that a phrase is, over the variables with these names.
+#[cycle(expression)]
+pub fn expression(alloc: Global, phrase: &Phrase, globals: &Globals) -> Result<Expr, CheckRefusal>
+    ensures { Answers expr_tree (expr_of globals.now (tree phrase.now)) result }
 {
+    let at = phrase.at;
     match &phrase.kind {
         PhraseKind::Number(n) => Ok(Expr::Number(*n)),
-        PhraseKind::Name(name) => variable(phrase.at, name, globals),
-        PhraseKind::Binary(op, left, right) => match op {
-            Op::Plus => {
-                let left = expression(alloc, left, globals)?;
-                let right = expression(alloc, right, globals)?;
-                let left = Rc::new(alloc, left)?;
-                let right = Rc::new(alloc, right)?;
-                Ok(Expr::Op(Op2::Plus, left, right))
-            }
-            _ => Err(CheckRefusal::NotExecutable { at: phrase.at }),
-        },
-        _ => Err(CheckRefusal::NotExecutable { at: phrase.at }),
+        PhraseKind::Truth(b) => Ok(Expr::Truth(*b)),
+        PhraseKind::Name(name) => variable(at, name, globals),
+        PhraseKind::List(items) => Ok(Expr::List(expressions(alloc, items, globals)?)),
+        PhraseKind::Size(list) => Ok(Expr::Size(shared_expression(alloc, list, globals)?)),
+        PhraseKind::Index(whole, at) => {
+            let whole = shared_expression(alloc, whole, globals)?;
+            let at = shared_expression(alloc, at, globals)?;
+            Ok(Expr::Index(whole, at))
+        }
+        PhraseKind::Minus(number) => Ok(Expr::Minus(shared_expression(alloc, number, globals)?)),
+        PhraseKind::Not(truth) => Ok(Expr::Not(shared_expression(alloc, truth, globals)?)),
+        PhraseKind::Binary(op, left, right) => {
+            let Some(operation) = operation_for(*op) else {
+                return Err(CheckRefusal::NotExpression { at });
+            };
+            let left = shared_expression(alloc, left, globals)?;
+            let right = shared_expression(alloc, right, globals)?;
+            Ok(operation.make(left, right))
+        }
+        PhraseKind::And(operands) => Ok(Expr::Both(expressions(alloc, operands, globals)?)),
+        PhraseKind::If(condition, first, Some(second)) => {
+            let condition = shared_expression(alloc, condition, globals)?;
+            let first = shared_expression(alloc, first, globals)?;
+            let second = shared_expression(alloc, second, globals)?;
+            Ok(Expr::If(condition, first, second))
+        }
+        PhraseKind::Form(form, operands) => {
+            let other = CheckRefusal::NotExpression { at };
+            Err(miscounted_or(at, *form, operands, other))
+        }
+        PhraseKind::Call(_, _) => Err(CheckRefusal::NotExecutable { at }),
+        _ => Err(CheckRefusal::NotExpression { at }),
     }
+}
+
+/// The same expression, to be shared.
+#[cycle(expression)]
+pub fn shared_expression(
+    alloc: Global,
+    phrase: &Phrase,
+    globals: &Globals,
+) -> Result<Rc<Expr>, CheckRefusal>
+    ensures { Answers expr_seen (expr_of globals.now (tree phrase.now)) result }
+{
+    let expr = expression(alloc, phrase, globals)?;
+    Ok(Rc::new(alloc, expr)?)
+}
+
+// The expressions that the phrases are.
+#[cycle(expression)]
+fn expressions(alloc: Global, phrases: &Phrases, globals: &Globals) -> Result<Exprs, CheckRefusal>
+    ensures { Answers exprs_seen (exprs_in globals.now (trees phrases.now)) result }
+{
+    let mut items = Vec::new(alloc);
+    for phrase in &phrases.items {
+        items.push(expression(alloc, phrase, globals)?)?;
+    }
+    Ok(Exprs { items })
 }

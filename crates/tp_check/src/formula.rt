@@ -1,18 +1,21 @@
 // Formulas.
-ghost use Rattle.std.specs.Prelude.{◌≡◌, ◌+◌, ◌++◌, ℕ, ◌⊎◌, IfOk, OnOk, Ok};
+ghost use Rattle.std.specs.Prelude.{◌≡◌, IfOk};
 ghost use Rattle.tp_tree.specs.Read.{tree, trees};
-ghost use Rattle.tp_kernel.specs.Read.{expr_tree, formula_tree};
-ghost use Rattle.tp_check.specs.Names.{names_with, names_in, names_in_all};
+ghost use Rattle.tp_tree.specs.Tree.{form as form_kind, no_phrase, phrase_then};
+ghost use Rattle.tp_kernel.specs.Read.{formula_tree};
 ghost use Rattle.tp_check.specs.Outcome.{Answers};
-ghost use Rattle.tp_check.specs.Building.{formulas_seen};
-ghost use Rattle.tp_check.specs.Positions.{nexts_of, behind_nexts, bare_of, equation_of, equation_in, formula_of, formulas_in};
+ghost use Rattle.tp_check.specs.Building.{formula_seen, formulas_seen};
+ghost use Rattle.tp_check.specs.Positions.{bare_of, formula_of, formula_of_kind, formulas_in};
 
-use crate::expression::expression;
+use crate::expression::shared_expression;
+use crate::phrases::miscounted_or;
+use crate::place::place;
 use crate::refusal::CheckRefusal;
+use crate::state::{binary, negation, state};
 use std::alloc::Global;
 use std::rc::Rc;
-use tp_kernel::{Expr, Formula, Formulas, next_equals, skip};
-use tp_tree::{Bare, Op, Phrase, PhraseKind, Phrases};
+use tp_kernel::{Formula, Formulas, fin, halt, keep, list, skip, stable};
+use tp_tree::{Bare, Form, Phrase, PhraseKind, Phrases};
 use tp_value::{Globals, NoMemory};
 
 fn bare(alloc: Global, word: Bare) -> Result<Formula, NoMemory>
@@ -25,117 +28,136 @@ fn bare(alloc: Global, word: Bare) -> Result<Formula, NoMemory>
     }
 }
 
-fn one_more(count: u32) -> Result<u32, NoMemory>
-    ensures { IfOk result (λ n. n ≡ count + 1) }
-{
-    match count.checked_add(1) {
-        Some(n) => Ok(n),
-        None => Err(NoMemory),
-    }
-}
-
-// How many `next` stand in front of a phrase, and the phrase behind them.
-fn without_nexts(phrase: &Phrase) -> Result<(u32, &Phrase), NoMemory>
-    ensures count { IfOk result (λ r. r.0 ≡ nexts_of (tree phrase.now)) }
-    ensures behind { IfOk result (λ r. tree r.1.now ≡ behind_nexts (tree phrase.now)) }
-{
-    let mut count = 0;
-    let mut behind = phrase;
-    while let PhraseKind::Next(operand) = &behind.kind {
-        count = one_more(count)?;
-        behind = operand;
-    }
-    Ok((count, behind))
-}
-
-fn equation_formula(
-    alloc: Global,
-    left_nexts: u32,
-    right_nexts: u32,
-    left: Rc<Expr>,
-    right: Rc<Expr>,
-) -> Result<Formula, NoMemory>
-    requires { (left_nexts ≡ 0) ⊎ (right_nexts ≡ 0) }
-    ensures { IfOk result (λ w. (at : ℕ) → equation_of left_nexts right_nexts at (Ok (expr_tree left.value)) (Ok (expr_tree right.value)) ≡ Ok (formula_tree w)) }
-{
-    if left_nexts > 0 {
-        next_equals(alloc, left_nexts, left, right)
-    } else if right_nexts > 0 {
-        next_equals(alloc, right_nexts, right, left)
-    } else {
-        Ok(Formula::Eq(left, right))
-    }
-}
-
-// `left = right`
-fn equation(
-    alloc: Global,
-    left: &Phrase,
-    right: &Phrase,
-    globals: &mut Globals,
-) -> Result<Formula, CheckRefusal>
-    ensures names { OnOk result (globals.new ≡ names_with globals.old (names_in (tree left.now) ++ names_in (tree right.now))) }
-    ensures outcome { Answers formula_tree (names_with globals.old (names_in (tree left.now) ++ names_in (tree right.now))) (λ names. equation_in names (tree left.now) (tree right.now)) result }
-{
-    let (left_nexts, left_side) = without_nexts(left)?;
-    let (right_nexts, right_side) = without_nexts(right)?;
-    let left_expr = expression(alloc, left_side, globals)?;
-    if left_nexts > 0 && right_nexts > 0 {
-        return Err(CheckRefusal::NotExecutable { at: right.at });
-    }
-    let right_expr = expression(alloc, right_side, globals)?;
-    let left_expr = Rc::new(alloc, left_expr)?;
-    let right_expr = Rc::new(alloc, right_expr)?;
-    let formula = equation_formula(alloc, left_nexts, right_nexts, left_expr, right_expr)?;
-    Ok(formula)
-}
-
-/// The formula that a phrase is. Its names are added.
+/// The formula that a phrase is, over the variables with these names.
 #[cycle(formula)]
-pub fn formula(
+pub fn formula(alloc: Global, phrase: &Phrase, globals: &Globals) -> Result<Formula, CheckRefusal>
+    ensures { Answers formula_tree (formula_of globals.now (tree phrase.now)) result }
+{
+    let at = phrase.at;
+    match &phrase.kind {
+        PhraseKind::And(operands) => Ok(Formula::And(formulas(alloc, operands, globals)?)),
+        PhraseKind::Truth(true) => Ok(Formula::True),
+        PhraseKind::Not(operand) => negation(alloc, phrase, operand, globals),
+        PhraseKind::Binary(op, left, right) => binary(alloc, phrase, *op, left, right, globals),
+        PhraseKind::Bare(word) => Ok(bare(alloc, *word)?),
+        PhraseKind::Next(later) => Ok(Formula::Next(shared_formula(alloc, later, globals)?)),
+        PhraseKind::Form(form, operands) => form_formula(alloc, at, *form, operands, globals),
+        PhraseKind::If(condition, first, None) => {
+            let condition = shared_expression(alloc, condition, globals)?;
+            let first = shared_formula(alloc, first, globals)?;
+            let second = Rc::new(alloc, Formula::True)?;
+            Ok(Formula::If(condition, first, second))
+        }
+        PhraseKind::If(condition, first, Some(second)) => {
+            let condition = shared_expression(alloc, condition, globals)?;
+            let first = shared_formula(alloc, first, globals)?;
+            let second = shared_formula(alloc, second, globals)?;
+            Ok(Formula::If(condition, first, second))
+        }
+        PhraseKind::While(_, _)
+        | PhraseKind::Repeat(_, _)
+        | PhraseKind::For(_, _, _)
+        | PhraseKind::Forall(_, _, _)
+        | PhraseKind::Exists(_, _)
+        | PhraseKind::Call(_, _) => Err(CheckRefusal::NotExecutable { at }),
+        PhraseKind::Truth(false)
+        | PhraseKind::Number(_)
+        | PhraseKind::Name(_)
+        | PhraseKind::List(_)
+        | PhraseKind::Size(_)
+        | PhraseKind::Index(_, _)
+        | PhraseKind::Minus(_) => state(alloc, phrase, globals),
+    }
+}
+
+/// The same formula, to be shared.
+#[cycle(formula)]
+pub fn shared_formula(
     alloc: Global,
     phrase: &Phrase,
-    globals: &mut Globals,
-) -> Result<Formula, CheckRefusal>
-    ensures names { OnOk result (globals.new ≡ names_with globals.old (names_in (tree phrase.now))) }
-    ensures outcome { Answers formula_tree (names_with globals.old (names_in (tree phrase.now))) (λ names. formula_of names (tree phrase.now)) result }
+    globals: &Globals,
+) -> Result<Rc<Formula>, CheckRefusal>
+    ensures { Answers formula_seen (formula_of globals.now (tree phrase.now)) result }
 {
-    match &phrase.kind {
-        PhraseKind::And(operands) => {
-            let items = formulas(alloc, operands, globals)?;
-            Ok(Formula::And(Formulas { items }))
-        }
-        PhraseKind::Bare(word) => {
-            let formula = bare(alloc, *word)?;
-            Ok(formula)
-        }
-        PhraseKind::Next(operand) => {
-            let later = formula(alloc, operand, globals)?;
-            let later = Rc::new(alloc, later)?;
-            Ok(Formula::Next(later))
-        }
-        PhraseKind::Binary(op, left, right) => match op {
-            Op::Equal => equation(alloc, left, right, globals),
-            _ => Err(CheckRefusal::NotExecutable { at: phrase.at }),
-        },
-        _ => Err(CheckRefusal::NotExecutable { at: phrase.at }),
-    }
+    let formula = formula(alloc, phrase, globals)?;
+    Ok(Rc::new(alloc, formula)?)
 }
 
-// The formulas that the phrases are. Their names are added.
+// The formulas that the phrases are.
 #[cycle(formula)]
-fn formulas(
-    alloc: Global,
-    phrases: &Phrases,
-    globals: &mut Globals,
-) -> Result<Vec<Rc<Formula>>, CheckRefusal>
-    ensures names { OnOk result (globals.new ≡ names_with globals.old (names_in_all (trees phrases.now))) }
-    ensures outcome { Answers formulas_seen (names_with globals.old (names_in_all (trees phrases.now))) (λ names. formulas_in names (trees phrases.now)) result }
+fn formulas(alloc: Global, phrases: &Phrases, globals: &Globals) -> Result<Formulas, CheckRefusal>
+    ensures { Answers formulas_seen (formulas_in globals.now (trees phrases.now)) result }
 {
     let mut items = Vec::new(alloc);
     for phrase in &phrases.items {
-        let one = formula(alloc, phrase, globals)?;
-        items.push(Rc::new(alloc, one)?)?;
+        items.push(shared_formula(alloc, phrase, globals)?)?;
     }
-    Ok(items)
+    Ok(Formulas { items })
+}
+
+// The formula of a form at this place with these operands.
+#[cycle(formula)]
+fn form_formula(
+    alloc: Global,
+    at: u32,
+    form: Form,
+    operands: &Phrases,
+    globals: &Globals,
+) -> Result<Formula, CheckRefusal>
+    ensures { Answers formula_tree (formula_of_kind globals.now at (form_kind form (trees operands.now))) result }
+{
+    match operands.items.as_slice() {
+        [operand] => form_of_one(alloc, at, form, operand, globals),
+        [first, second] => form_of_two(alloc, at, form, first, second, globals),
+        _ => {
+            let other = CheckRefusal::NotExecutable { at };
+            Err(miscounted_or(at, form, operands, other))
+        }
+    }
+}
+
+#[cycle(formula)]
+fn form_of_one(
+    alloc: Global,
+    at: u32,
+    form: Form,
+    operand: &Phrase,
+    globals: &Globals,
+) -> Result<Formula, CheckRefusal>
+    ensures { Answers formula_tree (formula_of_kind globals.now at (form_kind form (phrase_then (tree operand.now) no_phrase))) result }
+{
+    match form {
+        Form::Always => Ok(Formula::Always(shared_formula(alloc, operand, globals)?)),
+        Form::Keep => Ok(keep(alloc, shared_formula(alloc, operand, globals)?)?),
+        Form::Fin => Ok(fin(alloc, shared_formula(alloc, operand, globals)?)?),
+        Form::Halt => Ok(halt(alloc, shared_expression(alloc, operand, globals)?)?),
+        Form::Stable => Ok(stable(alloc, place(alloc, operand, globals)?)?),
+        Form::Len => Ok(Formula::Len(shared_expression(alloc, operand, globals)?)),
+        Form::Sometimes => Err(CheckRefusal::NotExecutable { at }),
+        Form::Display => Err(CheckRefusal::NotExecutable { at }),
+        Form::List => Err(CheckRefusal::WrongCount { at }),
+        Form::Input => Err(CheckRefusal::WrongCount { at }),
+    }
+}
+
+fn form_of_two(
+    alloc: Global,
+    at: u32,
+    form: Form,
+    first: &Phrase,
+    second: &Phrase,
+    globals: &Globals,
+) -> Result<Formula, CheckRefusal>
+    ensures { Answers formula_tree (formula_of_kind globals.now at (form_kind form (phrase_then (tree first.now) (phrase_then (tree second.now) no_phrase)))) result }
+{
+    match form {
+        Form::List => {
+            let whole = place(alloc, first, globals)?;
+            let count = shared_expression(alloc, second, globals)?;
+            Ok(list(alloc, whole, count)?)
+        }
+        Form::Input => Err(CheckRefusal::NotExecutable { at }),
+        Form::Display => Err(CheckRefusal::NotExecutable { at }),
+        _ => Err(CheckRefusal::WrongCount { at }),
+    }
 }

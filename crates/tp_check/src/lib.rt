@@ -1,10 +1,20 @@
 //! From the phrases of a source to the formula that is run, and the names of its variables.
 #![tactic(auto)]
 
+mod equation;
 mod expression;
 mod formula;
+#[cfg(test)]
+mod making;
+mod names;
+mod operation;
+mod phrases;
+mod place;
 mod program;
 mod refusal;
+#[cfg(test)]
+mod spelling;
+mod state;
 #[cfg(test)]
 mod tests;
 

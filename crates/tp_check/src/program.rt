@@ -1,12 +1,13 @@
 // The program that a source is.
 ghost use Rattle.std.specs.Prelude.{◌≡◌, ◌≢◌, IfOk, IfErr, Ok, Err};
-ghost use Rattle.tp_tree.specs.Read.{source_tree};
+ghost use Rattle.tp_tree.specs.Read.{source_tree, tree};
 ghost use Rattle.tp_kernel.specs.Read.{formula_tree};
 ghost use Rattle.tp_kernel.specs.Built.{IsBuilt};
 ghost use Rattle.tp_check.specs.declared.refusal.CheckRefusal.TheVariants.{NoMemory};
-ghost use Rattle.tp_check.specs.Program.{program_of, program_tree};
+ghost use Rattle.tp_check.specs.Program.{program_of, program_tree, NamesSuffice};
 
-use crate::formula::formula;
+use crate::formula::shared_formula;
+use crate::names::add_names;
 use crate::refusal::CheckRefusal;
 use std::alloc::Global;
 use std::rc::Rc;
@@ -21,12 +22,23 @@ pub struct Program {
     pub globals: Globals,
 }
 
-/// The program that a source is. Run are sources without definitions, whose main phrase is made of `empty`, `more`, `skip`, equations,
-/// `next` and `and`. The sides of an equation are sums by `+` of numbers and names of state variables, of which at most one has `next`
-/// in front. Any other source is refused, at its first definition or else at the first phrase in the order of the text that isn't run
-/// where it stands.
+/// The program that a source is. A source runs where it has no definition and its main phrase is made of
+///
+/// * `and`, `next`, `if`, `empty`, `more`, `skip`, `always`, `keep` and `fin` over such phrases,
+/// * equations, of which at most one side has `next` in front,
+/// * `A gets e`, `A <- e`, `A := e`, `halt(e)`, `stable(A)`, `len(e)` and `list(A, e)`, and
+/// * expressions: a place is true, its negation makes it false, and any other is tested.
+///
+/// A place is a name with any number of indices. An expression has no call, no bare word, no form, no loop, no `if` without `else`, and
+/// none of `next`, `;`, `proj`, `gets`, `<-`, `:=`, `forall` and `exists`.
+///
+/// Any other source is refused: at its first definition as not executable, or else at its first phrase that breaks this, a phrase before
+/// its operands and these in the order of the text. A form with a wrong number of operands is named as that first. Then a phrase is no
+/// expression or no place where one is due, and not executable anywhere else; a call is not executable everywhere.
+#[tactic(auto, using(crate::proofs::Known::own_names_suffice))]
 pub fn check(alloc: Global, source: &Source) -> Result<Program, CheckRefusal>
     ensures accepted { IfOk result (λ p. program_of (source_tree source.now) ≡ Ok (program_tree p)) }
+    ensures named { NamesSuffice (tree source.now.main) }
     ensures built { IfOk result (λ p. IsBuilt p.globals (formula_tree p.main.value)) }
     ensures refused { IfErr result (λ e. e ≢ NoMemory → program_of (source_tree source.now) ≡ Err e) }
 {
@@ -34,7 +46,7 @@ pub fn check(alloc: Global, source: &Source) -> Result<Program, CheckRefusal>
         return Err(CheckRefusal::NotExecutable { at: first.at });
     }
     let mut globals = Globals::new(alloc)?;
-    let main = formula(alloc, &source.main, &mut globals)?;
-    let main = Rc::new(alloc, main)?;
+    add_names(&source.main, &mut globals)?;
+    let main = shared_formula(alloc, &source.main, &globals)?;
     Ok(Program { main, globals })
 }

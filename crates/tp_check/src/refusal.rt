@@ -8,6 +8,12 @@ use tp_value::NoMemory;
 /// Why a source is no program. A phrase is named by the place of the first byte of its text.
 #[derive(Clone, Copy, Debug, PartialEq, Eq)]
 pub enum CheckRefusal {
+    /// The form at this place has too few operands or too many.
+    WrongCount { at: u32 },
+    /// The phrase at this place stands where an expression is due, and is none.
+    NotExpression { at: u32 },
+    /// The phrase at this place stands where a place is due, and is none.
+    NotPlace { at: u32 },
     /// The phrase, or the definition, at this place isn't run.
     NotExecutable { at: u32 },
     NoMemory,

@@ -1,62 +1,137 @@
-// Each source is checked to the program or the refusal that its text means.
+// Each phrase is checked to the program or the refusal that it means.
+use crate::making::phrase;
+use crate::spelling::spell;
 use crate::{CheckRefusal, check};
 use std::alloc::Global;
 use std::test::Fail;
-use tp_kernel::{Expr, Formula};
-use tp_tree::{Bare, Definition, Definitions, Form, Op, Phrase, PhraseKind, Phrases, Source};
+use tp_tree::{Definition, Definitions, Source};
 use tp_value::{NoMemory, Text, Texts};
 
-// A variable is written by its number, and a sum in parentheses.
-fn spell_expr(alloc: Global, expr: &Expr, out: &mut Text) -> Result<(), NoMemory> {
-    match expr {
-        Expr::Number(n) => out.append(format!(in alloc; "{n}")?.as_bytes()),
-        Expr::Global(x) => out.append(format!(in alloc; "X{}", x.number)?.as_bytes()),
-        Expr::Op(_, left, right) => {
-            out.append(b"(")?;
-            spell_expr(alloc, left, out)?;
-            out.append(b" + ")?;
-            spell_expr(alloc, right, out)?;
-            out.append(b")")
-        }
-        _ => out.append(b"?"),
-    }
-}
+// Formulas of one state.
+const STATES: [(&str, &str); 16] = [
+    ("true", "true over"),
+    ("false", "test false over"),
+    ("A", "X0 = true over A"),
+    ("a", "x0 = true over a"),
+    ("1", "test 1 over"),
+    ("L i index", "X0[x1] = true over L i"),
+    ("L 1 index not", "X0[1] = false over L"),
+    ("A 1 = not", "test not (X0 = 1) over A"),
+    ("L size not", "test not |X0| over L"),
+    ("A 1 = B not or", "test ((X0 = 1) or not X1) over A B"),
+    (
+        "B a not A and3",
+        "{ X0 = true; x1 = false; X2 = true; } over B a A",
+    ),
+    ("A 1 <", "test (X0 < 1) over A"),
+    ("b A +", "test (x0 + X1) over b A"),
+    ("A minus", "test -X0 over A"),
+    ("A 1 <,>", "test < X0 1 > over A"),
+    (
+        "A C d and false or 1 C minus <,> d ifelse =",
+        "X0 = (if ((and X1 x2) or false) then < 1 -X1 > else x2) over A C d",
+    ),
+];
 
-fn spell(alloc: Global, formula: &Formula, out: &mut Text) -> Result<(), NoMemory> {
-    match formula {
-        Formula::Eq(left, right) => {
-            spell_expr(alloc, left, out)?;
-            out.append(b" = ")?;
-            spell_expr(alloc, right, out)
-        }
-        Formula::NextEq(count, target, source) => {
-            out.append(format!(in alloc; "next^{count} ")?.as_bytes())?;
-            spell_expr(alloc, target, out)?;
-            out.append(b" = ")?;
-            spell_expr(alloc, source, out)
-        }
-        Formula::Empty => out.append(b"empty"),
-        Formula::More => out.append(b"more"),
-        Formula::Next(later) => {
-            out.append(b"next ")?;
-            spell(alloc, later, out)
-        }
-        Formula::And(all) => {
-            out.append(b"{ ")?;
-            for one in &all.items {
-                spell(alloc, one, out)?;
-                out.append(b"; ")?;
-            }
-            out.append(b"}")
-        }
-        _ => out.append(b"?"),
-    }
-}
+// Each operator between two expressions.
+const OPERATORS: [(&str, &str); 17] = [
+    ("A B A or =", "X0 = (X1 or X0) over A B"),
+    ("A B A = =", "X0 = (X1 = X0) over A B"),
+    ("A B A <> =", "X0 = (X1 <> X0) over A B"),
+    ("A B A < =", "X0 = (X1 < X0) over A B"),
+    ("A B A <= =", "X0 = (X1 <= X0) over A B"),
+    ("A B A > =", "X0 = (X1 > X0) over A B"),
+    ("A B A >= =", "X0 = (X1 >= X0) over A B"),
+    ("A B A + =", "X0 = (X1 + X0) over A B"),
+    ("A B A - =", "X0 = (X1 - X0) over A B"),
+    ("A B A * =", "X0 = (X1 * X0) over A B"),
+    ("A B A div =", "X0 = (X1 div X0) over A B"),
+    ("A B A mod =", "X0 = (X1 mod X0) over A B"),
+    ("A B A ; =", "not an expression at 3"),
+    ("A B A proj =", "not an expression at 3"),
+    ("A B A gets =", "not an expression at 3"),
+    ("A B A <- =", "not an expression at 3"),
+    ("A B A := =", "not an expression at 3"),
+];
 
-// What is made of a source: the formula and the names, or the place of the refusal.
+// Formulas of more than one state.
+const DERIVED: [(&str, &str); 15] = [
+    (
+        "A B 1 + gets",
+        "always(ifmore(next^1 X0 = (X1 + 1))) over A B",
+    ),
+    ("L 0 index A <-", "X0[0] <- X1 over L A"),
+    ("A b :=", "{ next(empty); next^1 X0 = x1; } over A b"),
+    ("A next next B =", "{ more; next^2 X0 = X1; } over A B"),
+    ("B A next =", "{ more; next^1 X1 = X0; } over B A"),
+    ("more empty and next", "next({ more; empty; }) over"),
+    ("A always", "always(X0 = true) over A"),
+    ("a keep", "always(ifmore(x0 = true)) over a"),
+    ("more fin", "always(ifempty(more)) over"),
+    (
+        "A 1 = halt",
+        "always(if (X0 = 1) then (empty) else (more)) over A",
+    ),
+    ("A stable", "always(ifmore(next^1 X0 = X0)) over A"),
+    ("n len", "len x0 over n"),
+    ("L i index n list", "|X0[x1]| = x2 over L i n"),
+    ("b skip if", "if x0 then (next(empty)) else (true) over b"),
+    (
+        "A B empty ifelse",
+        "if X0 then (X1 = true) else (empty) over A B",
+    ),
+];
+
+// What isn't run.
+const NOT_EXECUTABLE: [(&str, &str); 18] = [
+    ("skip skip ;", "not executable at 2"),
+    ("skip skip proj", "not executable at 2"),
+    ("skip not", "not executable at 1"),
+    ("p() not", "not executable at 1"),
+    ("empty A or", "not executable at 2"),
+    ("A empty or", "not executable at 2"),
+    ("A skip while", "not executable at 2"),
+    ("skip A repeat", "not executable at 2"),
+    ("X exists always", "not executable at 1"),
+    ("A 1 p() + =", "not executable at 2"),
+    ("p() 1 gets", "not executable at 0"),
+    ("p()", "not executable at 0"),
+    ("X p input", "not executable at 2"),
+    ("1 display", "not executable at 1"),
+    ("1 1 1 display3", "not executable at 3"),
+    ("A sometimes", "not executable at 1"),
+    ("A B p() ifelse", "not executable at 2"),
+    ("A skip not always and", "not executable at 2"),
+];
+
+// No expressions, no places, and wrong numbers of operands.
+const OTHER_REFUSALS: [(&str, &str); 20] = [
+    ("A next B next =", "not an expression at 3"),
+    ("skip next B next =", "not an expression at 0"),
+    ("A 1 B next + =", "not an expression at 3"),
+    ("L 1 next index not", "not an expression at 2"),
+    ("A B 1 if =", "not an expression at 3"),
+    ("X exists halt", "not an expression at 1"),
+    ("A skip gets", "not an expression at 1"),
+    ("A 1 len =", "not an expression at 2"),
+    ("L 1 next index 1 :=", "not an expression at 2"),
+    ("skip A always2", "wrong count at 2"),
+    ("L list1", "wrong count at 1"),
+    ("X input1", "wrong count at 1"),
+    ("display0", "wrong count at 0"),
+    ("sometimes0", "wrong count at 0"),
+    ("A 1 1 len2 =", "wrong count at 3"),
+    ("display0 stable", "wrong count at 0"),
+    ("1 display stable", "not a place at 1"),
+    ("1 0 next index 1 gets", "not a place at 3"),
+    ("1 A next list", "not a place at 0"),
+    ("A B + 1 <-", "not a place at 2"),
+];
+
+// What is made of a source: the formula and the names, or the kind and the place of the refusal.
 fn outcome(alloc: Global, source: &Source) -> Result<Text, NoMemory> {
     let mut out = Text::new(alloc);
-    match check(alloc, source) {
+    let (kind, at) = match check(alloc, source) {
         Ok(program) => {
             spell(alloc, &program.main, &mut out)?;
             out.append(b" over")?;
@@ -66,141 +141,54 @@ fn outcome(alloc: Global, source: &Source) -> Result<Text, NoMemory> {
                     out.append(name.as_slice())?;
                 }
             }
+            return Ok(out);
         }
-        Err(CheckRefusal::NotExecutable { at }) => {
-            out.append(format!(in alloc; "refused at {at}")?.as_bytes())?;
-        }
+        Err(CheckRefusal::WrongCount { at }) => ("wrong count", at),
+        Err(CheckRefusal::NotExpression { at }) => ("not an expression", at),
+        Err(CheckRefusal::NotPlace { at }) => ("not a place", at),
+        Err(CheckRefusal::NotExecutable { at }) => ("not executable", at),
         Err(CheckRefusal::NoMemory) => return Err(NoMemory),
-    }
+    };
+    out.append(format!(in alloc; "{kind} at {at}")?.as_bytes())?;
     Ok(out)
 }
 
-fn name(alloc: Global, at: u32, text: &str) -> Result<Phrase, NoMemory> {
-    let name = Text::from_slice(alloc, text.as_bytes())?;
-    Ok(Phrase {
-        at,
-        kind: PhraseKind::Name(name),
-    })
-}
-
-fn number(at: u32, value: i64) -> Phrase {
-    Phrase {
-        at,
-        kind: PhraseKind::Number(value),
+// What is made of a source with this main phrase and with definitions at these places.
+fn outcome_of(alloc: Global, places: &[u32], main: &str) -> Result<Text, NoMemory> {
+    let mut items = Vec::new(alloc);
+    for at in places {
+        let name = Text::from_slice(alloc, b"p")?;
+        let parameters = Texts {
+            items: Vec::new(alloc),
+        };
+        let body = phrase(alloc, "empty")?;
+        items.push(Definition {
+            name,
+            at: *at,
+            parameters,
+            body,
+        })?;
     }
-}
-
-fn word(at: u32, word: Bare) -> Phrase {
-    Phrase {
-        at,
-        kind: PhraseKind::Bare(word),
-    }
-}
-
-fn next(alloc: Global, at: u32, operand: Phrase) -> Result<Phrase, NoMemory> {
-    let operand = Box::new(alloc, operand)?;
-    Ok(Phrase {
-        at,
-        kind: PhraseKind::Next(operand),
-    })
-}
-
-// Its text begins with that of its left operand.
-fn binary(alloc: Global, op: Op, left: Phrase, right: Phrase) -> Result<Phrase, NoMemory> {
-    let at = left.at;
-    let left = Box::new(alloc, left)?;
-    let right = Box::new(alloc, right)?;
-    Ok(Phrase {
-        at,
-        kind: PhraseKind::Binary(op, left, right),
-    })
-}
-
-fn both(alloc: Global, first: Phrase, second: Phrase) -> Result<Phrase, NoMemory> {
-    let at = first.at;
-    let items = vec![in alloc; first, second]?;
-    Ok(Phrase {
-        at,
-        kind: PhraseKind::And(Phrases { items }),
-    })
-}
-
-fn len(alloc: Global, at: u32, operand: Phrase) -> Result<Phrase, NoMemory> {
-    let items = vec![in alloc; operand]?;
-    Ok(Phrase {
-        at,
-        kind: PhraseKind::Form(Form::Len, Phrases { items }),
-    })
-}
-
-// Sources that run, and what each becomes.
-fn programs(alloc: Global) -> Result<Vec<(Phrase, &'static str)>, NoMemory> {
-    let equal = Op::Equal;
-    let skip = binary(alloc, equal, name(alloc, 4, "A")?, number(6, 1))?;
-    let skip = both(alloc, skip, word(12, Bare::Skip))?;
-    let sum = binary(alloc, Op::Plus, name(alloc, 18, "B")?, number(20, 2))?;
-    let sum = binary(alloc, Op::Plus, sum, name(alloc, 22, "A")?)?;
-    let later = next(alloc, 4, next(alloc, 9, name(alloc, 14, "A")?)?)?;
-    let twice = binary(alloc, equal, later, sum)?;
-    let left = binary(alloc, Op::Plus, name(alloc, 4, "B")?, number(6, 1))?;
-    let right = next(alloc, 8, name(alloc, 13, "A")?)?;
-    let turned = binary(alloc, equal, left, right)?;
-    let inner = both(alloc, word(10, Bare::More), word(19, Bare::Empty))?;
-    let under = next(alloc, 4, inner)?;
-    let table = vec![in alloc;
-        (skip, "{ X0 = 1; next empty; } over A"),
-        (twice, "{ more; next^2 X0 = ((X1 + 2) + X0); } over A B"),
-        (turned, "{ more; next^1 X1 = (X0 + 1); } over B A"),
-        (under, "next { more; empty; } over"),
-    ]?;
-    Ok(table)
-}
-
-// Sources that don't run, and the phrase that is named.
-fn refusals(alloc: Global) -> Result<Vec<(Phrase, &'static str)>, NoMemory> {
-    let equal = Op::Equal;
-    let place = next(alloc, 4, name(alloc, 9, "A")?)?;
-    let first = binary(alloc, equal, name(alloc, 4, "A")?, number(6, 1))?;
-    let form = both(alloc, first, len(alloc, 12, number(16, 2))?)?;
-    let left = next(alloc, 4, name(alloc, 9, "A")?)?;
-    let sides = binary(alloc, equal, left, next(alloc, 13, name(alloc, 18, "B")?)?)?;
-    let left = next(alloc, 4, name(alloc, 9, "a")?)?;
-    let whole = binary(alloc, equal, left, next(alloc, 13, name(alloc, 18, "B")?)?)?;
-    let right = next(alloc, 8, name(alloc, 13, "B")?)?;
-    let under = binary(alloc, Op::Plus, number(6, 1), right)?;
-    let under = binary(alloc, equal, name(alloc, 4, "A")?, under)?;
-    let minus = binary(alloc, Op::Minus, name(alloc, 6, "B")?, number(8, 1))?;
-    let minus = binary(alloc, equal, name(alloc, 4, "A")?, minus)?;
-    let or = binary(alloc, Op::Or, word(4, Bare::Empty), word(13, Bare::Empty))?;
-    let table = vec![in alloc;
-        (place, "refused at 9"),
-        (form, "refused at 12"),
-        (sides, "refused at 13"),
-        (whole, "refused at 9"),
-        (under, "refused at 8"),
-        (minus, "refused at 6"),
-        (or, "refused at 4"),
-    ]?;
-    Ok(table)
-}
-
-// What is made of a source with this main phrase and without definitions.
-fn outcome_of(alloc: Global, main: Phrase) -> Result<Text, NoMemory> {
-    let items = Vec::new(alloc);
     let definitions = Definitions { items };
+    let main = phrase(alloc, main)?;
     outcome(alloc, &Source { definitions, main })
 }
 
 #[test]
 fn sources_are_checked(rt: HostRuntime) -> Result<(), Fail> {
     let alloc = rt.alloc();
-    for (main, want) in programs(alloc)? {
-        let found = outcome_of(alloc, main)?;
-        assert_eq!(rt; found.as_slice(), want.as_bytes(), "for {want}");
-    }
-    for (main, want) in refusals(alloc)? {
-        let found = outcome_of(alloc, main)?;
-        assert_eq!(rt; found.as_slice(), want.as_bytes(), "for {want}");
+    let tables: [&[(&str, &str)]; 5] = [
+        &STATES,
+        &OPERATORS,
+        &DERIVED,
+        &NOT_EXECUTABLE,
+        &OTHER_REFUSALS,
+    ];
+    for table in tables {
+        for (main, want) in table {
+            let found = outcome_of(alloc, &[], main)?;
+            assert_eq!(rt; found.as_slice(), want.as_bytes(), "for {main}");
+        }
     }
     Ok(())
 }
@@ -208,23 +196,7 @@ fn sources_are_checked(rt: HostRuntime) -> Result<(), Fail> {
 #[test]
 fn definitions_are_refused(rt: HostRuntime) -> Result<(), Fail> {
     let alloc = rt.alloc();
-    let mut items = Vec::new(alloc);
-    for at in [3, 20] {
-        let parameters = Texts {
-            items: Vec::new(alloc),
-        };
-        let name = Text::from_slice(alloc, b"p")?;
-        let body = word(at + 13, Bare::Empty);
-        items.push(Definition {
-            name,
-            at,
-            parameters,
-            body,
-        })?;
-    }
-    let definitions = Definitions { items };
-    let main = word(40, Bare::Empty);
-    let found = outcome(alloc, &Source { definitions, main })?;
-    assert_eq!(rt; found.as_slice(), b"refused at 3".as_slice());
+    let found = outcome_of(alloc, &[3, 20], "1 next")?;
+    assert_eq!(rt; found.as_slice(), b"not executable at 3".as_slice());
     Ok(())
 }

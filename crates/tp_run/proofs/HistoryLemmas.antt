@@ -1,103 +1,36 @@
 -- What whole runs say of every interval.
-use Rattle.std.proofs.Common.{◌≡◌, ◌↔◌, ℕ, zero, suc, ◌+◌, ◌<◌, ◌≤◌, true, false, cond, eqb, List, [], ◌∷◌, ◌++◌, length, None, Some, refl, ap, sym, ◌∙◌, subst, arith, length-append, slice_get, not}
-use Rattle.std.proofs.lemmas.Bool.Decides.{nat_tests}
-use Rattle.tp_value.specs.Tree.{Tree, num, truth, list, nil}
-use Rattle.tp_value.specs.Shape.{shape_of}
-use Rattle.tp_value.specs.declared.value.Shape.{Shape}
-use Rattle.tp_value.specs.declared.value.Shape.TheVariants as shape
-use Rattle.tp_value.specs.declared.path.Fact.{Fact}
-use Rattle.tp_meaning.specs.Syntax.{FormulaTree}
-use Rattle.tp_meaning.specs.Course.{State, Course, Shows, blank}
+use Rattle.std.proofs.Common.{◌≡◌, ◌↔◌, ℕ, zero, suc, ◌+◌, ◌<◌, ◌≤◌, Bool, true, List, [], ◌∷◌, ◌++◌, length, slice_get, Some, refl, ap, sym, ◌∙◌, subst, arith, length-append}
+use Rattle.tp_value.specs.Tree.{Tree}
+use Rattle.tp_kernel.specs.Built.{IsBuilt}
+use Rattle.tp_kernel.specs.declared.formula.LimitKind.{LimitKind}
+use Rattle.tp_meaning.specs.Course.{Course, Shows, blank, ◌⊕◌, shown_at}
+use Rattle.tp_meaning.specs.Interval.{IsInterval, kinds_of, KeepsStatics}
+use Rattle.tp_meaning.specs.Fits.{DefinitionsFit}
 use Rattle.tp_meaning.specs.Holds.{Holds}
-use Rattle.tp_meaning.specs.Interval.{IsInterval, kinds_of}
-use Rattle.tp_kernel.specs.Built.{IsBuilt, IsBuiltOver, IsStateVariable, NoneStatic}
+use Rattle.tp_meaning.proofs.Shows.{join-assoc as join_assoc, join-blank}
+use Rattle.tp_store.specs.Facts.{AgreesWithAll}
+use Rattle.tp_store.specs.Known.{NoClash, facts_below}
+use Rattle.tp_decide.specs.Read.{shows_of}
 use Rattle.tp_scene.specs.declared.answer.Clash.{Clash}
-use Rattle.tp_value.specs.Globals.{is_lower}
+use Rattle.tp_scene.specs.Pick.{Setting, Moment, Leads}
+use Rattle.tp_scene.specs.StandsFor.{StandsFor, first_moment}
+use Rattle.tp_scene.specs.Laws.{RefusalsStandForNone, RunsBegin}
+use Rattle.tp_scene.specs.Replay as replay
+use Rattle.tp_scene.specs.Built.{IsReady}
 use Rattle.tp_run.specs.declared.turn.Picture.{Picture}
 use Rattle.tp_run.specs.declared.turn.Turn.{Turn}
-use Rattle.tp_run.specs.declared.turn.Turn.TheVariants.{Went, Finished, Contradictory, Undetermined, Over}
-use Rattle.tp_run.specs.Residual.{Residual, Known}
-use Rattle.tp_run.specs.Ready.{IsRunnable, IsFresh}
-use Rattle.tp_run.specs.States.{first_residual, advanced, facts_from, facts_of, Standing, open_at, Clashes}
-use Rattle.tp_run.specs.StandsFor.{AgreesWithAll, StandsFor, no_context}
-use Rattle.tp_run.specs.History.{GoesOn, EndsHere, StatesLead, LeadsTo, FinishesAt, RunEndsWith, program_of, AgreesWithPictures, SatisfiedExactly, Satisfiable, Unsatisfiable, ContinuesEach, EndMeans, Advances, RunsAdvance}
-use Rattle.tp_run.specs.Runs.{Answers}
-use Rattle.tp_run.proofs.KeepsLemmas.{picks_keep, clash_stands_for_none}
-use Rattle.tp_run.proofs.RunLemmas.{picks_runnable, advanced_runnable, advanced_fresh}
-use Rattle.tp_run.proofs.FitsLemmas.{picks_fit}
-use Rattle.tp_run.proofs.AnswerMeans.{go_says, end_says, first_says}
-use Rattle.std.proofs.lemmas.List.{length-map}
+use Rattle.tp_run.specs.declared.turn.Turn.TheVariants.{Went, Finished, Contradictory, Undetermined, StateLimit, InputMissing, Over}
+use Rattle.tp_run.specs.States.{Plan, globals_of, setting, GoesOn, EndsHere, StatesLead, LeadsTo, Standing, open_at, ReachesLimit, Answers}
+use Rattle.tp_run.specs.Meaning.{AgreesWith}
+use Rattle.tp_run.specs.History.{FinishesAt, RunEndsWith, program_of, AgreesWithPictures, shown_from, SatisfiedExactly, Satisfiable, Unsatisfiable, ContinuesEach, EndMeans, Advances, RunsAdvance}
+use Rattle.tp_run.proofs.StatesMean.{SceneLaws, Numbered, first_number, leads_ready, leads_keep, lead_ready, states_say, ends_here_says, picture_agrees, stands_again}
+use Rattle.tp_run.proofs.Lives.{StateLaws, Lives, lives, Agree, agree_at, HasStatics, agrees_with_less, below_keeps, picks_keep}
 
--- one state that goes on
-goes_on_says : (n : ℕ) (r next : Residual) (p : Picture) → IsRunnable r → IsFresh r → GoesOn n r p next → (s : Course) (a b : ℕ) (S : Shows) → a ≤ b
-    → StandsFor r s a b S ↔ ((a < b) × AgreesWithAll (s a) p.facts × StandsFor next s (suc a) b S)
-goes_on_says n r next p run fresh w s a b S within =
-    let keep = picks_keep w.count r w.at run w.picks s a b S within in
-    let go = go_says w.at (picks_fit w.count r w.at fresh w.picks) w.settled s a b S in
-    let facts : p.facts ≡ facts_of w.at.known = ap (λ (q : Picture). q.facts) w.picture_is in (
-      λ h. let g = go.0 (keep.0 h) in (g.0, subst (AgreesWithAll (s a)) (sym facts) g.1, subst (λ (z : Residual). StandsFor z s (suc a) b S) (sym w.next_is) g.2),
-      λ q. keep.1 (go.1 (q.0, subst (AgreesWithAll (s a)) facts q.1, subst (λ (z : Residual). StandsFor z s (suc a) b S) w.next_is q.2)),
-    )
-
-next_runnable : (n : ℕ) (r next : Residual) (p : Picture) → IsRunnable r → GoesOn n r p next → IsRunnable next
-next_runnable n r next p run w = subst IsRunnable (sym w.next_is) (advanced_runnable w.at (picks_runnable w.count r w.at w.picks run))
-
-next_fresh : (n : ℕ) (r next : Residual) (p : Picture) → GoesOn n r p next → IsFresh next
-next_fresh n r next p w = subst IsFresh (sym w.next_is) (advanced_fresh w.at)
-
--- what the residual after some states can be
-pub record Later (last : Residual) : Type 0 where
-  pub runnable : IsRunnable last
-  pub fresh : IsFresh last
-
-lead_later : (n : ℕ) (r : Residual) (ps : List Picture) (last : Residual) → IsRunnable r → IsFresh r → StatesLead n r ps last → Later last
-lead_later n r [] last run fresh h = subst Later (sym h) (record { runnable = run; fresh = fresh })
-lead_later n r (p ∷ ps) last run fresh h = lead_later (suc n) h.0 ps last (next_runnable n r h.0 p run h.1) (next_fresh n r h.0 p h.1) h.2
-
--- several states
-states_say : (n : ℕ) (r : Residual) (ps : List Picture) (last : Residual) → IsRunnable r → IsFresh r → StatesLead n r ps last → (s : Course) (a b : ℕ) (S : Shows) → a ≤ b
-    → StandsFor r s a b S ↔ ((length ps + a ≤ b) × AgreesWithPictures s a ps × StandsFor last s (length ps + a) b S)
-states_say n r [] last run fresh h s a b S within =
-    let none : 0 + a ≡ a = omega arith in (
-      λ g. (omega arith, tt, subst (λ p. StandsFor last s p b S) (sym none) (subst (λ (z : Residual). StandsFor z s a b S) (sym h) g)),
-      λ g. subst (λ (z : Residual). StandsFor z s a b S) h (subst (λ p. StandsFor last s p b S) none g.2),
-    )
-states_say n r (p ∷ ps) last run fresh h s a b S within =
-    let one = goes_on_says n r h.0 p run fresh h.1 s a b S within in
-    let place : length ps + suc a ≡ length (p ∷ ps) + a = omega arith in
-    let rest = λ (less : a < b). states_say (suc n) h.0 ps last (next_runnable n r h.0 p run h.1) (next_fresh n r h.0 p h.1) h.2 s (suc a) b S less in (
-      λ g.
-          let x = one.0 g in
-          let y = (rest x.0).0 x.2 in
-          (omega (arith, y.0), (x.1, y.1), subst (λ q. StandsFor last s q b S) place y.2),
-      λ g.
-          let less : a < b = omega (arith, g.0) in
-          one.1 (less, g.1.0, (rest less).1 (omega (arith, g.0), g.1.1, subst (λ q. StandsFor last s q b S) (sym place) g.2)),
-    )
-
--- a program's first residual
-first_later : (names : List (List ℕ)) (main : FormulaTree) → IsBuilt names main → Later (first_residual names main)
-first_later names main built = record {
-  runnable = (subst (λ n. IsBuiltOver (IsStateVariable n) main) (sym (length-map names (λ x. None))) built.1, tt);
-  fresh = record { due = tt; no_end = refl; no_next = refl };
-}
-
-pub leads_say : (names : List (List ℕ)) (main : FormulaTree) (ps : List Picture) (r : Residual) → IsBuilt names main → LeadsTo names main ps r → (s : Course) (a b : ℕ) (S : Shows) → a ≤ b
-    → ((d : ℕ) × Holds no_context d main [] s a b S) ↔ ((length ps + a ≤ b) × AgreesWithPictures s a ps × StandsFor r s (length ps + a) b S)
-leads_say names main ps r built leads s a b S within =
-    let first = first_later names main built in
-    let begin = first_says names main s a b S in
-    let states = states_say 0 (first_residual names main) ps r first.runnable first.fresh leads s a b S within in
-    (λ h. states.0 (begin.1 h), λ h. begin.0 (states.1 h))
-
--- a state that ends the interval
-ends_here_says : (n : ℕ) (r : Residual) (p : Picture) → IsRunnable r → IsFresh r → EndsHere n r p → (s : Course) (a b : ℕ) (S : Shows) → a ≤ b
-    → StandsFor r s a b S ↔ ((a ≡ b) × AgreesWithAll (s a) p.facts × (S ≡ blank))
-ends_here_says n r p run fresh w s a b S within =
-    let keep = picks_keep w.count r w.at run w.picks s a b S within in
-    let end = end_says w.at (picks_fit w.count r w.at fresh w.picks) w.settled s a b S in
-    let facts : p.facts ≡ facts_of w.at.known = ap (λ (q : Picture). q.facts) w.picture_is in
-    (λ h. let g = end.0 (keep.0 h) in (g.0, subst (AgreesWithAll (s a)) (sym facts) g.1, g.2), λ q. keep.1 (end.1 (q.0, subst (AgreesWithAll (s a)) facts q.1, q.2)))
+-- what else is asked of scenes: how a run begins, and what a clash and a missing input say
+pub record BeginLaws : Type 0 where
+  pub begin_ready : (plan : Plan) → IsBuilt plan.names plan.main → IsReady (setting plan 0) (kinds_of plan.names) (first_moment plan.names plan.main)
+  pub runs_begin : RunsBegin
+  pub refusals : RefusalsStandForNone
 
 -- pictures one list after the other
 agree_join : (s : Course) (a : ℕ) (ps qs : List Picture) → AgreesWithPictures s a ps → AgreesWithPictures s (length ps + a) qs → AgreesWithPictures s a (ps ++ qs)
@@ -112,144 +45,148 @@ agree_back : (s : Course) (a : ℕ) (ps qs : List Picture) → AgreesWithPicture
 agree_back s a [] qs h = let place : a ≡ 0 + a = omega arith in subst (λ p. AgreesWithPictures s p qs) place h
 agree_back s a (p ∷ ps) qs h = let place : length ps + suc a ≡ length (p ∷ ps) + a = omega arith in subst (λ q. AgreesWithPictures s q qs) place (agree_back s (suc a) ps qs h.1)
 
--- a run that finishes
-pub finish_says : (names : List (List ℕ)) (main : FormulaTree) (ps : List Picture) (n : ℕ) → IsBuilt names main → FinishesAt names main ps n → SatisfiedExactly (program_of names main) ps n
-finish_says names main ps n built w s a b S =
-    let later = λ (h : a ≤ b). leads_say names main w.before w.residual built w.leads s a b S h in
-    let first = first_later names main built in
-    let here = lead_later 0 (first_residual names main) w.before w.residual first.runnable first.fresh w.leads in
-    let end = λ (h : length w.before + a ≤ b). ends_here_says (length w.before) w.residual w.final here.runnable here.fresh w.ends s (length w.before + a) b S h in (
-      λ h.
-          let within = h.0.nonempty in
-          let x = (later within).0 h.1 in
-          let y = (end x.0).0 x.2 in
-          let length_is : b ≡ n + a = omega (arith, y.0, w.count) in
-          (h.0, length_is, subst (AgreesWithPictures s a) (sym w.pictures) (agree_join s a w.before (w.final ∷ []) x.1 (y.1, tt)), y.2),
-      λ h.
-          let within = h.0.nonempty in
-          let agrees = subst (AgreesWithPictures s a) w.pictures h.2 in
-          let last = agree_back s a w.before (w.final ∷ []) agrees in
-          let place : length w.before + a ≡ b = omega (arith, h.1, w.count) in
-          let fits : length w.before + a ≤ b = omega (arith, place) in
-          (h.0, (later within).1 (fits, agree_front s a w.before (w.final ∷ []) agrees, (end fits).1 (place, last.0, h.3))),
-    )
+-- what they show
+shown_join : (a : ℕ) (ps qs : List Picture) → shown_from a (ps ++ qs) ≡ shown_from a ps ⊕ shown_from (length ps + a) qs
+shown_join a [] qs = let place : a ≡ 0 + a = omega arith in ap (λ i. shown_from i qs) place
+shown_join a (p ∷ ps) qs =
+    let place : length ps + suc a ≡ length (p ∷ ps) + a = omega arith in
+    ap (λ (T : Shows). shown_at a (shows_of p.shows) ⊕ T) (shown_join (suc a) ps qs ∙ ap (λ i. shown_from (suc a) ps ⊕ shown_from i qs) place)
+    ∙ sym (join_assoc (shown_at a (shows_of p.shows)) (shown_from (suc a) ps) (shown_from (length (p ∷ ps) + a) qs))
 
--- the states that some pictures show, with 0 for what they leave open
-abbrev tree_of_shape : Shape → Tree
-tree_of_shape (shape.Num n) = num n
-tree_of_shape (shape.Truth b) = truth b
-tree_of_shape (shape.Items k) = list nil
+pub no_definitions : (kinds : List Bool) → DefinitionsFit [] kinds
+no_definitions kinds = record { formula = λ p f e. absurd (cc); expr = λ p f e. absurd (cc) }
 
-abbrev value_in : List Fact → ℕ → Tree
-value_in [] x = list nil
-value_in (f ∷ fs) x = cond (eqb x f.path.var.number) (tree_of_shape f.shape) (value_in fs x)
+module _ (laws : SceneLaws) (begins : BeginLaws) (stores : StateLaws) where
+  -- a program's interval satisfies it where the states agree with the pictures, and what comes after them is stood for
+  pub leads_say : (plan : Plan) (ps : List Picture) (m : Moment) → IsBuilt plan.names plan.main → LeadsTo plan ps m → (s : Course) (a b : ℕ) (S : Shows) → IsInterval (program_of plan) s a b
+      → ((d : ℕ) × Holds (record { defs = []; inputs = plan.inputs }) d plan.main [] s a b S)
+      ↔ ((length ps + a ≤ b) × AgreesWithPictures s a ps × ((U : Shows) × (S ≡ shown_from a ps ⊕ U) × StandsFor (setting plan (length ps)) (globals_of plan) m s (length ps + a) b U))
+  leads_say plan ps m built leads s a b S interval =
+      let begin = begins.runs_begin (setting plan 0) plan.names plan.main (no_definitions (kinds_of plan.names)) built.1 in
+      let first = begin.stands s a b S in
+      let states = states_say laws plan 0 (length ps) ps (first_moment plan.names plan.main) m (omega arith) (begins.begin_ready plan built) leads s a b (length ps + a) S refl interval.static interval.numbered in
+      (λ h. states.0 (first.1 (interval.nonempty, h)), λ h. (first.0 (states.1 h)).1)
 
-facts_hold : (st : State) (i : ℕ) (k : Known) → ((x : ℕ) → i ≤ x → st.values x ≡ value_in (facts_from i k) x) → AgreesWithAll st (facts_from i k)
-facts_hold st i [] h = tt
-facts_hold st i (None ∷ k) h = facts_hold st (i + 1) k (λ x g. h x (omega (arith, g)))
-facts_hold st i (Some n ∷ k) h =
-    let at : eqb i i ≡ true = grind (arith, nat_tests) in (
-      ap (λ t. Some (shape_of t)) (h i (omega arith) ∙ ap (λ c. cond c (num n) (value_in (facts_from (i + 1) k) i)) at),
-      facts_hold st (i + 1) k (λ x g. let other : eqb x i ≡ false = grind (arith, nat_tests) in h x (omega (arith, g)) ∙ ap (λ c. cond c (num n) (value_in (facts_from (i + 1) k) x)) other),
-    )
+  ready_after : (plan : Plan) (ps : List Picture) (m : Moment) → IsBuilt plan.names plan.main → LeadsTo plan ps m → IsReady (setting plan (length ps)) (kinds_of plan.names) m
+  ready_after plan ps m built leads = lead_ready laws plan 0 (length ps) ps (first_moment plan.names plan.main) m (omega arith) (begins.begin_ready plan built) leads
 
--- a state with this number
-abbrev state_of : ℕ → List Fact → State
-state_of n facts = record { own = n; values = value_in facts }
+  -- the state after some pictures has their number
+  number_after : (plan : Plan) (ps : List Picture) (s : Course) (a b : ℕ) → IsInterval (program_of plan) s a b → length ps + a ≤ b → (s (length ps + a)).own ≡ length ps
+  number_after plan ps s a b interval le = interval.numbered (length ps) le ∙ omega arith
 
--- the facts of each picture are those of some knowledge
-abbrev AreKnown : List Picture → Type 0
-AreKnown [] = Unit {0}
-AreKnown (p ∷ ps) = ((k : Known) × (p.facts ≡ facts_of k)) × AreKnown ps
+  -- a run that finishes
+  pub finish_says : (plan : Plan) (ps : List Picture) (n : ℕ) → IsBuilt plan.names plan.main → FinishesAt plan ps n → SatisfiedExactly plan ps n
+  finish_says plan ps n built w s a b S =
+      let k = length w.before in
+      let here = ready_after plan w.before w.moment built w.leads in
+      let G = globals_of plan in
+      let last_shows : shown_from a ps ≡ shown_from a w.before ⊕ shown_at (k + a) (shows_of w.final.shows) =
+              ap (shown_from a) w.pictures ∙ shown_join a w.before (w.final ∷ []) ∙ ap (λ (T : Shows). shown_from a w.before ⊕ T) (join-blank (shown_at (k + a) (shows_of w.final.shows))) in
+      let end = λ (interval : IsInterval (program_of plan) s a b) (le : k + a ≤ b) (U : Shows). ends_here_says laws plan k w.moment w.final here w.ends s (k + a) b U (number_after plan w.before s a b interval le) in (
+        λ h.
+            let interval = h.0 in
+            let x = (leads_say plan w.before w.moment built w.leads s a b S interval).0 h.1 in
+            let y = (end interval x.0 x.2.0).0 x.2.2 in
+            let length_is : b ≡ n + a = omega (arith, y.0, w.count) in (
+              interval,
+              length_is,
+              subst (AgreesWithPictures s a) (sym w.pictures) (agree_join s a w.before (w.final ∷ []) x.1 (y.1, tt)),
+              x.2.1 ∙ ap (λ (T : Shows). shown_from a w.before ⊕ T) y.2 ∙ sym last_shows,
+            ),
+        λ h.
+            let interval = h.0 in
+            let agrees = subst (AgreesWithPictures s a) w.pictures h.2 in
+            let last = agree_back s a w.before (w.final ∷ []) agrees in
+            let place : k + a ≡ b = omega (arith, h.1, w.count) in
+            let fits : k + a ≤ b = omega (arith, place) in
+            let U : Shows = shown_at (k + a) (shows_of w.final.shows) in (
+              interval,
+              (leads_say plan w.before w.moment built w.leads s a b S interval).1 (fits, agree_front s a w.before (w.final ∷ []) agrees, (U, h.3 ∙ last_shows, (end interval fits U).1 (place, last.0, refl))),
+            ),
+      )
 
-states_known : (n : ℕ) (r : Residual) (ps : List Picture) (last : Residual) → StatesLead n r ps last → AreKnown ps
-states_known n r [] last h = tt
-states_known n r (p ∷ ps) last h = ((h.1.at.known, ap (λ (q : Picture). q.facts) h.1.picture_is), states_known (suc n) h.0 ps last h.2)
+  -- there is such an interval
+  pub finish_satisfiable : (plan : Plan) (ps : List Picture) (n : ℕ) → IsBuilt plan.names plan.main → FinishesAt plan ps n → Satisfiable plan
+  finish_satisfiable plan ps n built w =
+      let k = length w.before in
+      let kinds = kinds_of plan.names in
+      let G = globals_of plan in
+      let here = ready_after plan w.before w.moment built w.leads in
+      let at_end = leads_ready laws (setting plan k) kinds w.ends.picks w.moment w.ends.last here w.ends.ends.closes.leads in
+      let facts = w.ends.last.store.facts in
+      let v = stores.has_state w.ends.last.store.variables facts at_end.sound.store.no_clash at_end.sound.store.facts in
+      let before = agrees_with_less w.moment.store.facts facts v.0 here.sound.store.no_clash (λ q sh. picks_keep (setting plan k) w.ends.picks w.moment w.ends.last q sh w.ends.ends.closes.leads) v.1 in
+      let l = lives laws stores plan 0 w.before (first_moment plan.names plan.main) w.moment (begins.begin_ready plan built) w.leads v.0 before in
+      let s = l.0 in
+      let below = agrees_with_less (facts_below G facts) facts v.0 (laws.below_no_clash G facts at_end.sound.store.no_clash) (below_keeps G facts at_end.sound.store.no_clash) v.1 in
+      let final = (picture_agrees laws G facts w.final.facts at_end.sound.store.no_clash w.ends.picture_is.facts v.0).0 below in
+      let last : AgreesWithPictures s (k + 0) (w.final ∷ []) = (subst (λ (u : ℕ → Tree). AgreesWithAll u w.final.facts) (sym (l.1.after (k + 0) (omega arith))) final, tt) in
+      let zeros : (j : ℕ) → j ≡ j + 0 = λ j. omega arith in
+      let fronts = agree_at s 0 w.before (subst (λ (t : Course). Agree t w.before) (λ i j. s (zeros j i)) l.1.agree) in
+      let agrees = subst (AgreesWithPictures s 0) (sym w.pictures) (agree_join s 0 w.before (w.final ∷ []) fronts last) in
+      let interval : IsInterval (program_of plan) s 0 n = record {
+        nonempty = omega arith;
+        numbered = λ j h. ap (λ i. (s i).own) (sym (zeros j)) ∙ l.1.own j;
+        static = λ x e i j ai ib aj jb. l.1.statics i x e ∙ sym (l.1.statics j x e);
+      } in
+      (s, 0, n, shown_from 0 ps, (finish_says plan ps n built w s 0 n (shown_from 0 ps)).1 (interval, omega arith, agrees, refl))
 
-known_join : (ps qs : List Picture) → AreKnown ps → AreKnown qs → AreKnown (ps ++ qs)
-known_join [] qs h g = g
-known_join (p ∷ ps) qs h g = (h.0, known_join ps qs h.1 g)
+  -- where picks lead to what nothing stands for, no interval satisfies
+  none_satisfies : (plan : Plan) (ps : List Picture) (m last : Moment) (picks : List ℕ) → IsBuilt plan.names plan.main → LeadsTo plan ps m → Leads (setting plan (length ps)) m picks last
+      → ((s : Course) (a b : ℕ) (S : Shows) → (s a).own ≡ length ps → StandsFor (setting plan (length ps)) (globals_of plan) last s a b S → ⊥) → Unsatisfiable plan
+  none_satisfies plan ps m last picks built leads to none s a b S h =
+      let x = (leads_say plan ps m built leads s a b S h.0).0 h.1 in
+      let own = number_after plan ps s a b h.0 x.0 in
+      none s (length ps + a) b x.2.0 own ((leads_keep laws (setting plan (length ps)) (kinds_of plan.names) picks m last (ready_after plan ps m built leads) to s (length ps + a) b x.2.0 own).0 x.2.2)
 
--- the course of the states that the pictures show, numbered from n on
-abbrev shown_course : ℕ → List Picture → Course
-shown_course n [] j = state_of (j + n) []
-shown_course n (p ∷ ps) zero = state_of n p.facts
-shown_course n (p ∷ ps) (suc j) = shown_course (suc n) ps j
+  pub clash_says : (plan : Plan) (ps : List Picture) (m : Moment) (n : ℕ) (clash : Clash) → n ≡ length ps → IsBuilt plan.names plan.main → LeadsTo plan ps m → replay.MeetsClash (setting plan n) plan.reductions m clash → Unsatisfiable plan
+  clash_says plan ps m n clash e built leads h =
+      let w : replay.MeetsClash (setting plan (length ps)) plan.reductions m clash = subst (λ i. replay.MeetsClash (setting plan i) plan.reductions m clash) e h in
+      let here = leads_ready laws (setting plan (length ps)) (kinds_of plan.names) w.picks m w.last (ready_after plan ps m built leads) w.leads in
+      none_satisfies plan ps m w.last w.picks built leads w.leads ((begins.refusals (setting plan (length ps)) (kinds_of plan.names) w.last w.item here.sound w.lives).clash clash w.outcome)
 
-own_number : (n : ℕ) (ps : List Picture) (j : ℕ) → (shown_course n ps j).own ≡ j + n
-own_number n [] j = refl
-own_number n (p ∷ ps) zero = omega arith
-own_number n (p ∷ ps) (suc j) = own_number (suc n) ps j ∙ omega arith
+  pub missing_says : (plan : Plan) (ps : List Picture) (m : Moment) (n : ℕ) (port : List ℕ) → n ≡ length ps → IsBuilt plan.names plan.main → LeadsTo plan ps m → replay.MissesInput (setting plan n) plan.reductions m port → Unsatisfiable plan
+  missing_says plan ps m n port e built leads h =
+      let w : replay.MissesInput (setting plan (length ps)) plan.reductions m port = subst (λ i. replay.MissesInput (setting plan i) plan.reductions m port) e h in
+      let here = leads_ready laws (setting plan (length ps)) (kinds_of plan.names) w.picks m w.last (ready_after plan ps m built leads) w.leads in
+      none_satisfies plan ps m w.last w.picks built leads w.leads ((begins.refusals (setting plan (length ps)) (kinds_of plan.names) w.last w.item here.sound w.lives).missing port w.outcome)
 
-shown_agrees : (s : Course) (a n : ℕ) (ps : List Picture) → AreKnown ps → ((j : ℕ) → s (j + a) ≡ shown_course n ps j) → AgreesWithPictures s a ps
-shown_agrees s a n [] h e = tt
-shown_agrees s a n (p ∷ ps) h e =
-    let k = h.0.0 in
-    let facts : p.facts ≡ facts_of k = h.0.1 in
-    let place : 0 + a ≡ a = omega arith in
-    let at : s a ≡ state_of n p.facts = ap s (sym place) ∙ e 0 in
-    let values : (x : ℕ) → 0 ≤ x → (state_of n (facts_of k)).values x ≡ value_in (facts_from 0 k) x = λ x g. refl in (
-      subst (λ (st : State). AgreesWithAll st p.facts) (sym at) (subst (λ fs. AgreesWithAll (state_of n fs) fs) (sym facts) (facts_hold (state_of n (facts_of k)) 0 k values)),
-      shown_agrees s (suc a) (suc n) ps h.1 (λ j. let next : j + suc a ≡ suc j + a = omega arith in ap s next ∙ e (suc j)),
-    )
+  pub continues_each : (plan : Plan) (ps : List Picture) (m : Moment) → IsBuilt plan.names plan.main → LeadsTo plan ps m → ContinuesEach plan ps
+  continues_each plan ps m built leads s a b S h = let x = (leads_say plan ps m built leads s a b S h.0).0 h.1 in (x.0, x.1)
 
--- no variable is static
-no_statics : (names : List (List ℕ)) (x : ℕ) → NoneStatic names → slice_get (kinds_of names) x ≡ Some true → ⊥
-no_statics [] x h e = absurd (cc)
-no_statics (name ∷ names) zero h e = absurd (let is : Some (is_lower name) ≡ Some true = e in let lower : is_lower name ≡ true = cc in let not_ : not (is_lower name) ≡ true = h.0 in let no : not (is_lower name) ≡ false = ap not lower in cc)
-no_statics (name ∷ names) (suc x) h e = no_statics names x h.1 e
-
-pub finish_satisfiable : (names : List (List ℕ)) (main : FormulaTree) (ps : List Picture) (n : ℕ) → IsBuilt names main → FinishesAt names main ps n → Satisfiable (program_of names main)
-finish_satisfiable names main ps n built w =
-    let s = shown_course 0 ps in
-    let known : AreKnown ps = subst AreKnown (sym w.pictures) (known_join w.before (w.final ∷ []) (states_known 0 (first_residual names main) w.before w.residual w.leads) ((w.ends.at.known, ap (λ (q : Picture). q.facts) w.ends.picture_is), tt)) in
-    let interval : IsInterval (program_of names main) s 0 n = record { nonempty = omega arith; numbered = λ j h. let at : j + 0 ≡ j = omega arith in ap (λ i. (s i).own) at ∙ own_number 0 ps j; static = λ x e. absurd (no_statics names x built.0 e) } in
-    (s, 0, n, blank, (finish_says names main ps n built w s 0 n blank).1 (interval, omega arith, shown_agrees s 0 0 ps known (λ j. let at : j + 0 ≡ j = omega arith in ap s at), refl))
-
-pub clash_says : (names : List (List ℕ)) (main : FormulaTree) (ps : List Picture) (r : Residual) (clash : Clash) → IsBuilt names main → LeadsTo names main ps r → Clashes r clash → Unsatisfiable (program_of names main)
-clash_says names main ps r clash built leads w s a b S h =
-    let first = first_later names main built in
-    let here = lead_later 0 (first_residual names main) ps r first.runnable first.fresh leads in
-    let x = (leads_say names main ps r built leads s a b S h.0.nonempty).0 h.1 in
-    clash_stands_for_none w.at clash (picks_runnable w.count r w.at w.picks here.runnable) w.meets s (length ps + a) b S x.0 ((picks_keep w.count r w.at here.runnable w.picks s (length ps + a) b S x.0).0 x.2)
-
-pub continues_each : (names : List (List ℕ)) (main : FormulaTree) (ps : List Picture) (r : Residual) → IsBuilt names main → LeadsTo names main ps r → ContinuesEach (program_of names main) ps
-continues_each names main ps r built leads s a b S h = let x = (leads_say names main ps r built leads s a b S h.0.nonempty).0 h.1 in (x.0, x.1)
-
--- What the end of a run says of every interval.
-pub end_means : (names : List (List ℕ)) (main : FormulaTree) → IsBuilt names main → (ps : List Picture) (turn : Turn) → RunEndsWith names main ps turn → EndMeans (program_of names main) ps turn
-end_means names main built ps Went w = tt
-end_means names main built ps (Finished n) w = (finish_says names main ps n built w, finish_satisfiable names main ps n built w)
-end_means names main built ps (Contradictory state clash) w = clash_says names main ps w.0 clash built w.1 w.2
-end_means names main built ps (Undetermined state cell) w = continues_each names main ps w.0 built w.1
-end_means names main built ps (Over state limit) w = continues_each names main ps w.0 built w.1
+  -- What the end of a run says of every interval.
+  pub end_means : (plan : Plan) → IsBuilt plan.names plan.main → (ps : List Picture) (turn : Turn) → RunEndsWith plan ps turn → EndMeans plan ps turn
+  end_means plan built ps Went w = tt
+  end_means plan built ps (Finished n) w = (finish_says plan ps n built w, finish_satisfiable plan ps n built w)
+  end_means plan built ps (Contradictory state clash) w = clash_says plan ps w.0 state clash w.3 built w.1 w.2
+  end_means plan built ps (Undetermined state cell) w = continues_each plan ps w.0 built w.1
+  end_means plan built ps (StateLimit states) w = continues_each plan ps w.0 built w.1
+  end_means plan built ps (InputMissing state port) w = missing_says plan ps w.0 state port w.3 built w.1 w.2
+  end_means plan built ps (Over state limit) w = continues_each plan ps w.0 built w.1
 
 -- one more state
-lead_more : (n : ℕ) (r : Residual) (ps : List Picture) (m : Residual) (k : ℕ) (p : Picture) (next : Residual) → k ≡ length ps + n → StatesLead n r ps m → GoesOn k m p next → StatesLead n r (ps ++ p ∷ []) next
-lead_more n r [] m k p next e h g =
-    let here : k ≡ n = omega arith in
-    (next, subst (λ i. GoesOn i r p next) here (subst (λ (z : Residual). GoesOn k z p next) h g), refl)
-lead_more n r (q ∷ ps) m k p next e h g = (h.0, h.1, lead_more (suc n) h.0 ps m k p next (omega arith) h.2 g)
+lead_more : (plan : Plan) (n : ℕ) (r : Moment) (ps : List Picture) (m : Moment) (k : ℕ) (p : Picture) (next : Moment) → k ≡ length ps + n → StatesLead plan n r ps m → GoesOn plan k m p next → StatesLead plan n r (ps ++ p ∷ []) next
+lead_more plan n r [] m k p next e h g =
+    let here : k ≡ n = omega (arith, e) in
+    (next, subst (λ i. GoesOn plan i r p next) here (subst (λ (z : Moment). GoesOn plan k z p next) h g), refl)
+lead_more plan n r (q ∷ ps) m k p next e h g = (h.0, h.1, lead_more plan (suc n) h.0 ps m k p next (omega (arith, e)) h.2 g)
 
-went : (names : List (List ℕ)) (main : FormulaTree) (ps : List Picture) (r : Residual) → LeadsTo names main ps r → (old new : Picture) (standing : Standing) (next : ℕ)
-    → Answers (open_at r) (length ps) old new standing next Went → Advances names main ps old new standing next Went
-went names main ps r leads old new standing next w =
-    let b = w.0 in
-    let g : GoesOn (length ps) r new (advanced b.at) = record { at = b.at; count = b.count; picks = b.picks; rest = b.rest; settled = b.becomes.0; picture_is = b.becomes.1; next_is = refl } in
-    (advanced b.at, b.becomes.2, lead_more 0 (first_residual names main) ps r (length ps) new (advanced b.at) (omega arith) leads g, omega (arith, w.1, length-append ps (new ∷ [])), ap (λ (p : Picture). p.state) b.becomes.1)
+advance_by : (plan : Plan) (ps : List Picture) (m : Moment) → LeadsTo plan ps m → (old new : Picture) (standing : Standing) (next : ℕ) (turn : Turn)
+    → Answers plan (open_at m) (length ps) old new standing next turn → Advances plan ps old new standing next turn
+advance_by plan ps m leads old new standing next Went w =
+    let g = w.0.1 in
+    (w.0.0, w.0.2, lead_more plan 0 (first_moment plan.names plan.main) ps m (length ps) new w.0.0 (omega arith) leads g, w.1 ∙ omega (arith, length-append ps (new ∷ [])), g.picture_is.state)
+advance_by plan ps m leads old new standing next (Finished n) w =
+    (record { before = ps; final = new; moment = m; pictures = refl; leads = leads; ends = w.0.0; count = w.0.1 }, w.0.0.picture_is.state)
+advance_by plan ps m leads old new standing next (Contradictory state clash) w =
+    let e = w.0.1 in ((m, leads, subst (λ i. replay.MeetsClash (setting plan i) plan.reductions m clash) (sym e) w.0.0, e, subst (λ i. i < plan.states) (sym e) w.0.2), w.0.3)
+advance_by plan ps m leads old new standing next (Undetermined state cell) w =
+    let e = w.0.1 in ((m, leads, subst (λ i. replay.IsOpen (setting plan i) plan.reductions m cell) (sym e) w.0.0, e, subst (λ i. i < plan.states) (sym e) w.0.2), w.0.3)
+advance_by plan ps m leads old new standing next (StateLimit states) w = ((m, leads, w.0.1, w.0.1 ∙ w.0.0), w.0.2)
+advance_by plan ps m leads old new standing next (InputMissing state port) w =
+    let e = w.0.1 in ((m, leads, subst (λ i. replay.MissesInput (setting plan i) plan.reductions m port) (sym e) w.0.0, e, subst (λ i. i < plan.states) (sym e) w.0.2), w.0.3)
+advance_by plan ps m leads old new standing next (Over state limit) w =
+    let e = w.0.1 in ((m, leads, subst (λ i. ReachesLimit (setting plan i) plan.reductions m limit) (sym e) w.0.0, e, subst (λ i. i < plan.states) (sym e) w.0.2), w.0.3)
 
-advance_by : (names : List (List ℕ)) (main : FormulaTree) (ps : List Picture) (r : Residual) → LeadsTo names main ps r → (old new : Picture) (standing : Standing) (next : ℕ) (turn : Turn)
-    → Answers (open_at r) (length ps) old new standing next turn → Advances names main ps old new standing next turn
-advance_by names main ps r leads old new standing next Went w = went names main ps r leads old new standing next w
-advance_by names main ps r leads old new standing next (Finished n) w =
-    let b = w.0 in (
-      record { before = ps; final = new; residual = r; pictures = refl; leads = leads; ends = record { at = b.at; count = b.count; picks = b.picks; rest = b.rest; settled = b.becomes.0; picture_is = b.becomes.2 }; count = b.becomes.1 },
-      ap (λ (p : Picture). p.state) b.becomes.2,
-    )
-advance_by names main ps r leads old new standing next (Contradictory state clash) w = ((r, leads, w.0.0, w.0.1), w.0.2)
-advance_by names main ps r leads old new standing next (Undetermined state cell) w =
-    let b = w.0 in ((r, leads, record { at = b.at; count = b.count; picks = b.picks; rest = b.rest; open_cell = b.becomes.0 }, b.becomes.1), b.becomes.2)
-advance_by names main ps r leads old new standing next (Over state limit) w = ((r, leads, w.0.0, w.0.1), w.0.2)
-
-pub runs_advance : (names : List (List ℕ)) (main : FormulaTree) → RunsAdvance names main
-runs_advance names main = record { begins = refl; goes_on = advance_by names main }
+pub runs_advance : (plan : Plan) → RunsAdvance plan
+runs_advance plan = record { begins = refl; goes_on = advance_by plan }

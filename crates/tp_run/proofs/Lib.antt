@@ -1,12 +1,5 @@
-mod DutyLemmas
-mod SceneLemmas
-mod Steps
-mod PassLemmas
-mod SettleLemmas
-pub mod RunLemmas
-mod Numbers
-mod StepMeans
-mod KeepsLemmas
-mod FitsLemmas
-mod AnswerMeans
+pub mod StatesMean
+pub mod Lives
 pub mod HistoryLemmas
+pub mod Given
+pub mod Waiting

@@ -1,123 +1,98 @@
--- Whole runs: the states that were settled, and the end.
-use Rattle.std.specs.Prelude.{◌≡◌, ◌↔◌, ℕ, suc, ◌+◌, ◌≤◌, List, [], ◌∷◌, ◌++◌, length}
-use Rattle.tp_meaning.specs.Syntax.{FormulaTree}
-use Rattle.tp_meaning.specs.Course.{Course, Shows, blank}
+-- Whole runs: the states that were settled, the end, and what it says of every interval.
+use Rattle.std.specs.Prelude.{◌≡◌, ◌↔◌, ℕ, suc, ◌+◌, ◌≤◌, ◌<◌, List, [], ◌∷◌, ◌++◌, length}
+use Rattle.tp_kernel.specs.Built.{IsBuilt}
+use Rattle.tp_meaning.specs.Course.{Course, Shows, blank, ◌⊕◌, shown_at}
 use Rattle.tp_meaning.specs.Interval.{ProgramTree, IsInterval, Satisfies}
-use Rattle.tp_scene.specs.declared.answer.Cell.{Cell}
+use Rattle.tp_meaning.specs.Inputs.{InputLines}
+use Rattle.tp_decide.specs.Read.{shows_of}
+use Rattle.tp_scene.specs.Pick.{Moment}
+use Rattle.tp_scene.specs.StandsFor.{first_moment}
+use Rattle.tp_scene.specs.Replay as replay
 use Rattle.tp_run.specs.declared.turn.Picture.{Picture}
 use Rattle.tp_run.specs.declared.turn.Turn.{Turn}
-use Rattle.tp_run.specs.declared.turn.Turn.TheVariants.{Went, Finished, Contradictory, Undetermined, Over}
-use Rattle.tp_run.specs.Residual.{Residual}
-use Rattle.tp_run.specs.Picks.{Picks, AtRest, SettledToGo, SettledToEnd}
-use Rattle.tp_run.specs.States.{Standing, open_at, first_residual, advanced, picture_of, IsOpenCell, Clashes, PassesLimit}
-use Rattle.tp_run.specs.Runs.{Answers}
-use Rattle.tp_kernel.specs.Built.{IsBuilt}
-use Rattle.tp_run.specs.StandsFor.{AgreesWithAll}
+use Rattle.tp_run.specs.declared.turn.Turn.TheVariants.{Went, Finished, Contradictory, Undetermined, StateLimit, InputMissing, Over}
+use Rattle.tp_run.specs.States.{Plan, setting, EndsHere, LeadsTo, Standing, open_at, ReachesLimit, Answers}
+use Rattle.tp_run.specs.Meaning.{AgreesWith}
 
--- so many picks lead to a rest that is settled and goes on; the picture is that of state n, and the next state begins with this residual
-pub record GoesOn (n : ℕ) (r : Residual) (picture : Picture) (next : Residual) : Type 0 where
-  pub at : Residual
-  pub count : ℕ
-  pub picks : Picks count r at
-  pub rest : AtRest at
-  pub settled : SettledToGo at
-  pub picture_is : picture ≡ picture_of n at count
-  pub next_is : next ≡ advanced at
-
--- so many picks lead to a rest that is settled and ends; the picture is that of state n
-pub record EndsHere (n : ℕ) (r : Residual) (picture : Picture) : Type 0 where
-  pub at : Residual
-  pub count : ℕ
-  pub picks : Picks count r at
-  pub rest : AtRest at
-  pub settled : SettledToEnd at
-  pub picture_is : picture ≡ picture_of n at count
-
--- so many picks lead to a rest that is open at this cell
-pub record RestsOpen (r : Residual) (cell : Cell) : Type 0 where
-  pub at : Residual
-  pub count : ℕ
-  pub picks : Picks count r at
-  pub rest : AtRest at
-  pub open_cell : IsOpenCell at cell
-
--- states n, n + 1, .. with these pictures, of which each goes on to the next, and the residual after the last
-abbrev pub StatesLead : ℕ → Residual → List Picture → Residual → Type 0
-StatesLead n r [] last = last ≡ r
-StatesLead n r (p ∷ ps) last = (next : Residual) × GoesOn n r p next × StatesLead (suc n) next ps last
-
--- The program's formula, over the variables with these names, has a run whose settled states have these pictures and which then
--- goes on with this residual.
-abbrev pub LeadsTo : List (List ℕ) → FormulaTree → List Picture → Residual → Type 0
-LeadsTo names main ps r = StatesLead 0 (first_residual names main) ps r
-
-pub record FinishesAt (names : List (List ℕ)) (main : FormulaTree) (ps : List Picture) (n : ℕ) : Type 0 where
+pub record FinishesAt (plan : Plan) (ps : List Picture) (n : ℕ) : Type 0 where
   pub before : List Picture
   pub final : Picture
-  pub residual : Residual
+  pub moment : Moment
   pub pictures : ps ≡ before ++ final ∷ []
-  pub leads : LeadsTo names main before residual
-  pub ends : EndsHere (length before) residual final
+  pub leads : LeadsTo plan before moment
+  pub ends : EndsHere plan (length before) moment final
   pub count : n ≡ length before
 
--- A run of the program whose settled states have these pictures ends so: it finishes with the last of them, or the state after them
--- meets a clash, is open at a cell, or meets a limit.
-abbrev pub RunEndsWith : List (List ℕ) → FormulaTree → List Picture → Turn → Type 0
-RunEndsWith names main ps Went = ⊥
-RunEndsWith names main ps (Finished n) = FinishesAt names main ps n
-RunEndsWith names main ps (Contradictory state clash) = (r : Residual) × LeadsTo names main ps r × Clashes r clash × (state ≡ length ps)
-RunEndsWith names main ps (Undetermined state cell) = (r : Residual) × LeadsTo names main ps r × RestsOpen r cell × (state ≡ length ps)
-RunEndsWith names main ps (Over state limit) = (r : Residual) × LeadsTo names main ps r × PassesLimit r limit × (state ≡ length ps)
+-- A run whose settled states have these pictures ends so: it finishes with the last of them; or the state after them meets a clash, is open at a
+-- cell, misses an input, or reaches a limit; or as many states were settled as there may be, and the last of them goes on.
+abbrev pub RunEndsWith : Plan → List Picture → Turn → Type 0
+RunEndsWith plan ps Went = ⊥
+RunEndsWith plan ps (Finished n) = FinishesAt plan ps n
+RunEndsWith plan ps (Contradictory state clash) = (m : Moment) × LeadsTo plan ps m × replay.MeetsClash (setting plan state) plan.reductions m clash × (state ≡ length ps) × (state < plan.states)
+RunEndsWith plan ps (Undetermined state cell) = (m : Moment) × LeadsTo plan ps m × replay.IsOpen (setting plan state) plan.reductions m cell × (state ≡ length ps) × (state < plan.states)
+RunEndsWith plan ps (StateLimit states) = (m : Moment) × LeadsTo plan ps m × (states ≡ length ps) × (states ≡ plan.states)
+RunEndsWith plan ps (InputMissing state port) = (m : Moment) × LeadsTo plan ps m × replay.MissesInput (setting plan state) plan.reductions m port × (state ≡ length ps) × (state < plan.states)
+RunEndsWith plan ps (Over state limit) = (m : Moment) × LeadsTo plan ps m × ReachesLimit (setting plan state) plan.reductions m limit × (state ≡ length ps) × (state < plan.states)
 
--- programs have no definitions today
-abbrev pub program_of : List (List ℕ) → FormulaTree → ProgramTree
-program_of names main = record { defs = []; main = main; globals = names }
+-- the program that is run
+abbrev pub program_of : Plan → ProgramTree
+program_of plan = record { defs = []; main = plan.main; globals = plan.names }
 
 -- each state from position a on agrees with the picture of its turn
 abbrev pub AgreesWithPictures : Course → ℕ → List Picture → Type 0
 AgreesWithPictures s a [] = Unit {0}
-AgreesWithPictures s a (p ∷ ps) = AgreesWithAll (s a) p.facts × AgreesWithPictures s (suc a) ps
+AgreesWithPictures s a (p ∷ ps) = AgreesWith s a p.facts × AgreesWithPictures s (suc a) ps
 
--- An interval satisfies the program and shows S exactly where it is one of the program, has length n, agrees with each picture, and S is
--- empty, since nothing is shown today.
-abbrev pub SatisfiedExactly : ProgramTree → List Picture → ℕ → Type 0
-SatisfiedExactly p ps n = (s : Course) (a b : ℕ) (S : Shows) → Satisfies p [] s a b S ↔ (IsInterval p s a b × (b ≡ n + a) × AgreesWithPictures s a ps × (S ≡ blank))
+-- what the pictures show, from position a on
+abbrev pub shown_from : ℕ → List Picture → Shows
+shown_from a [] = blank
+shown_from a (p ∷ ps) = shown_at a (shows_of p.shows) ⊕ shown_from (suc a) ps
+
+-- An interval satisfies the program and shows S exactly where it is one of the program, has length n, agrees with each picture, and S is what the
+-- pictures show.
+abbrev pub SatisfiedExactly : Plan → List Picture → ℕ → Type 0
+SatisfiedExactly plan ps n = (s : Course) (a b : ℕ) (S : Shows)
+    → Satisfies (program_of plan) plan.inputs s a b S ↔ (IsInterval (program_of plan) s a b × (b ≡ n + a) × AgreesWithPictures s a ps × (S ≡ shown_from a ps))
 
 -- there is an interval that satisfies the program
-abbrev pub Satisfiable : ProgramTree → Type 0
-Satisfiable p = (s : Course) × (a : ℕ) × (b : ℕ) × (S : Shows) × Satisfies p [] s a b S
+abbrev pub Satisfiable : Plan → Type 0
+Satisfiable plan = (s : Course) × (a : ℕ) × (b : ℕ) × (S : Shows) × Satisfies (program_of plan) plan.inputs s a b S
 
 -- no interval satisfies it
-abbrev pub Unsatisfiable : ProgramTree → Type 0
-Unsatisfiable p = (s : Course) (a b : ℕ) (S : Shows) → Satisfies p [] s a b S → ⊥
+abbrev pub Unsatisfiable : Plan → Type 0
+Unsatisfiable plan = (s : Course) (a b : ℕ) (S : Shows) → Satisfies (program_of plan) plan.inputs s a b S → ⊥
 
 -- each interval that satisfies it begins with states that agree with the pictures, and has more states than these
-abbrev pub ContinuesEach : ProgramTree → List Picture → Type 0
-ContinuesEach p ps = (s : Course) (a b : ℕ) (S : Shows) → Satisfies p [] s a b S → (length ps + a ≤ b) × AgreesWithPictures s a ps
+abbrev pub ContinuesEach : Plan → List Picture → Type 0
+ContinuesEach plan ps = (s : Course) (a b : ℕ) (S : Shows) → Satisfies (program_of plan) plan.inputs s a b S → (length ps + a ≤ b) × AgreesWithPictures s a ps
 
 -- what the end of a run says of every interval
-abbrev pub EndMeans : ProgramTree → List Picture → Turn → Type 0
-EndMeans p ps Went = Unit {0}
-EndMeans p ps (Finished n) = SatisfiedExactly p ps n × Satisfiable p
-EndMeans p ps (Contradictory state clash) = Unsatisfiable p
-EndMeans p ps (Undetermined state cell) = ContinuesEach p ps
-EndMeans p ps (Over state limit) = ContinuesEach p ps
+abbrev pub EndMeans : Plan → List Picture → Turn → Type 0
+EndMeans plan ps Went = Unit {0}
+EndMeans plan ps (Finished n) = SatisfiedExactly plan ps n × Satisfiable plan
+EndMeans plan ps (Contradictory state clash) = Unsatisfiable plan
+EndMeans plan ps (Undetermined state cell) = ContinuesEach plan ps
+EndMeans plan ps (StateLimit states) = ContinuesEach plan ps
+EndMeans plan ps (InputMissing state port) = Unsatisfiable plan
+EndMeans plan ps (Over state limit) = ContinuesEach plan ps
 
 -- What one more answer makes of a run whose settled states have these pictures: one state more, or the end.
-abbrev pub Advances : List (List ℕ) → FormulaTree → List Picture → (old new : Picture) → Standing → ℕ → Turn → Type 0
-Advances names main ps old new standing next Went =
-    (r : Residual) × (standing ≡ open_at r) × LeadsTo names main (ps ++ new ∷ []) r × (next ≡ length (ps ++ new ∷ [])) × (new.state ≡ length ps)
-Advances names main ps old new standing next (Finished n) = RunEndsWith names main (ps ++ new ∷ []) (Finished n) × (new.state ≡ length ps)
-Advances names main ps old new standing next (Contradictory state clash) = RunEndsWith names main ps (Contradictory state clash) × (new ≡ old)
-Advances names main ps old new standing next (Undetermined state cell) = RunEndsWith names main ps (Undetermined state cell) × (new ≡ old)
-Advances names main ps old new standing next (Over state limit) = RunEndsWith names main ps (Over state limit) × (new ≡ old)
+abbrev pub Advances : Plan → List Picture → (old new : Picture) → Standing → ℕ → Turn → Type 0
+Advances plan ps old new standing next Went =
+    (m : Moment) × (standing ≡ open_at m) × LeadsTo plan (ps ++ new ∷ []) m × (next ≡ length (ps ++ new ∷ [])) × (new.state ≡ length ps)
+Advances plan ps old new standing next (Finished n) = RunEndsWith plan (ps ++ new ∷ []) (Finished n) × (new.state ≡ length ps)
+Advances plan ps old new standing next (Contradictory state clash) = RunEndsWith plan ps (Contradictory state clash) × (new ≡ old)
+Advances plan ps old new standing next (Undetermined state cell) = RunEndsWith plan ps (Undetermined state cell) × (new ≡ old)
+Advances plan ps old new standing next (StateLimit states) = RunEndsWith plan ps (StateLimit states) × (new ≡ old)
+Advances plan ps old new standing next (InputMissing state port) = RunEndsWith plan ps (InputMissing state port) × (new ≡ old)
+Advances plan ps old new standing next (Over state limit) = RunEndsWith plan ps (Over state limit) × (new ≡ old)
 
 -- A run begins with no settled state, and each answer advances it.
-pub record RunsAdvance (names : List (List ℕ)) (main : FormulaTree) : Type 0 where
-  pub begins : LeadsTo names main [] (first_residual names main)
-  pub goes_on : (ps : List Picture) (r : Residual) → LeadsTo names main ps r → (old new : Picture) (standing : Standing) (next : ℕ) (turn : Turn)
-      → Answers (open_at r) (length ps) old new standing next turn → Advances names main ps old new standing next turn
+pub record RunsAdvance (plan : Plan) : Type 0 where
+  pub begins : LeadsTo plan [] (first_moment plan.names plan.main)
+  pub goes_on : (ps : List Picture) (m : Moment) → LeadsTo plan ps m → (old new : Picture) (standing : Standing) (next : ℕ) (turn : Turn)
+      → Answers plan (open_at m) (length ps) old new standing next turn → Advances plan ps old new standing next turn
 
 -- The end of each run says of every interval what `EndMeans` has.
-abbrev pub RunsMean : List (List ℕ) → FormulaTree → Type 0
-RunsMean names main = IsBuilt names main → (ps : List Picture) (turn : Turn) → RunEndsWith names main ps turn → EndMeans (program_of names main) ps turn
+abbrev pub RunsMean : Plan → Type 0
+RunsMean plan = IsBuilt plan.names plan.main → (ps : List Picture) (turn : Turn) → RunEndsWith plan ps turn → EndMeans plan ps turn

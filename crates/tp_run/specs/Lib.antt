@@ -1,14 +1,4 @@
-pub mod Residual
-pub mod Rules
-pub mod Answers
-pub mod Picks
-pub mod Weight
-pub mod Tries
 pub mod States
-pub mod Settles
-pub mod Ready
-pub mod ReadyProps
-pub mod Runs
-pub mod StandsFor
 pub mod Meaning
 pub mod History
+pub mod Runs

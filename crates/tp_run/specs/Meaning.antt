@@ -1,35 +1,49 @@
 -- What a run stands for, and what its answers say of every interval.
-use Rattle.std.specs.Prelude.{◌≡◌, ◌↔◌, ℕ, suc, ◌<◌, ◌≤◌, []}
-use Rattle.tp_meaning.specs.Syntax.{FormulaTree}
-use Rattle.tp_meaning.specs.Course.{Course, Shows, Part, blank}
+use Rattle.std.specs.Prelude.{◌≡◌, ◌↔◌, ℕ, suc, ◌<◌, ◌≤◌, [], ◌∷◌, List, Bool, length}
+use Rattle.tp_value.specs.declared.path.Fact.{Fact}
+use Rattle.tp_value.specs.Tree.{Tree}
+use Rattle.tp_meaning.specs.Course.{Course, Shows, Part, ◌⊕◌, shown_at}
 use Rattle.tp_meaning.specs.Holds.{Holds}
+use Rattle.tp_meaning.specs.Interval.{kinds_of, KeepsStatics}
+use Rattle.tp_store.specs.Facts.{AgreesWithAll}
+use Rattle.tp_decide.specs.Read.{shows_of}
+use Rattle.tp_scene.specs.StandsFor.{StandsFor, context_of}
 use Rattle.tp_run.specs.declared.turn.Picture.{Picture}
 use Rattle.tp_run.specs.declared.turn.Turn.{Turn}
-use Rattle.tp_run.specs.declared.turn.Turn.TheVariants.{Went, Finished, Contradictory, Undetermined, Over}
-use Rattle.tp_run.specs.States.{Standing, open_at, answered, spent}
-use Rattle.tp_run.specs.StandsFor.{no_context, AgreesWithAll, StandsFor}
+use Rattle.tp_run.specs.declared.turn.Turn.TheVariants.{Went, Finished, Contradictory, Undetermined, StateLimit, InputMissing, Over}
+use Rattle.tp_run.specs.States.{Plan, globals_of, setting, Standing, open_at, answered, spent}
 
--- the intervals, with what is shown on them, that the states still to come are free to be
-abbrev pub StandingFor : Standing → Course → Part
-StandingFor (open_at r) s a b S = StandsFor r s a b S
-StandingFor (answered turn) s a b S = ⊥
-StandingFor spent s a b S = ⊥
+-- the intervals, with what is shown on them, that the states still to come are free to be; the next one has this number
+abbrev pub StandingFor : Plan → ℕ → Standing → Course → Part
+StandingFor plan n (open_at m) s a b S = StandsFor (setting plan n) (globals_of plan) m s a b S
+StandingFor plan n (answered turn) s a b S = ⊥
+StandingFor plan n spent s a b S = ⊥
 
 -- before its first state a run stands for exactly the intervals on which the formula holds, with what is shown on them
-abbrev pub BeginsWith : FormulaTree → Standing → Type 0
-BeginsWith main standing = (s : Course) (a b : ℕ) (S : Shows) → a ≤ b → StandingFor standing s a b S ↔ ((d : ℕ) × Holds no_context d main [] s a b S)
+abbrev pub BeginsWith : Plan → Standing → Type 0
+BeginsWith plan standing = (s : Course) (a b : ℕ) (S : Shows) → StandingFor plan 0 standing s a b S ↔ ((a ≤ b) × ((d : ℕ) × Holds (context_of (setting plan 0)) d plan.main [] s a b S))
 
--- A run that stood at `old` made the state of this picture and stands at `new`, or ended with this answer. Where it went on, an
--- interval was one of those that it stood for exactly where there is a next state, the first one agrees with the picture, and the rest is
--- one of those that it stands for now. Where it finished: exactly where there is no next state, the one state agrees with the picture, and
--- nothing is shown. Where a clash was met it stood for none.
-abbrev pub AnswerMeans : Standing → Standing → Picture → Turn → Type 0
-AnswerMeans (open_at r) new picture Went =
-    (s : Course) (a b : ℕ) (S : Shows) → a ≤ b → StandsFor r s a b S ↔ ((a < b) × AgreesWithAll (s a) picture.facts × StandingFor new s (suc a) b S)
-AnswerMeans (open_at r) new picture (Finished length) =
-    (s : Course) (a b : ℕ) (S : Shows) → a ≤ b → StandsFor r s a b S ↔ ((a ≡ b) × AgreesWithAll (s a) picture.facts × (S ≡ blank))
-AnswerMeans (open_at r) new picture (Contradictory state clash) = (s : Course) (a b : ℕ) (S : Shows) → a ≤ b → StandsFor r s a b S → ⊥
-AnswerMeans (open_at r) new picture (Undetermined state cell) = Unit {0}
-AnswerMeans (open_at r) new picture (Over state limit) = Unit {0}
-AnswerMeans (answered last) new picture turn = Unit {0}
-AnswerMeans spent new picture turn = Unit {0}
+-- the state agrees with each fact
+abbrev pub AgreesWith : Course → ℕ → List Fact → Type 0
+AgreesWith s a facts = AgreesWithAll (s a).values facts
+
+-- A run that stood at `old` before state n made that state, with this picture, and stands at `new`; or it ended with this answer. Said of the
+-- intervals on which static variables keep their values and whose first state has the number n. Where the run went on, it stood for an interval
+-- exactly where there is a next state, the first one agrees with the picture and shows what that has, and the run stands for the rest now. Where it
+-- finished: exactly where there is no next state, the one state agrees with the picture, and that is what is shown. Where it met a clash, or
+-- an input was missing, it stood for none.
+abbrev pub AnswerMeans : Plan → ℕ → Standing → Standing → Picture → Turn → Type 0
+AnswerMeans plan n (open_at m) new picture Went =
+    (s : Course) (a b : ℕ) (S : Shows) → KeepsStatics (kinds_of plan.names) s a b → (s a).own ≡ n
+    → StandingFor plan n (open_at m) s a b S
+    ↔ ((a < b) × AgreesWith s a picture.facts × ((U : Shows) × (S ≡ shown_at a (shows_of picture.shows) ⊕ U) × StandingFor plan (suc n) new s (suc a) b U))
+AnswerMeans plan n (open_at m) new picture (Finished length) =
+    (s : Course) (a b : ℕ) (S : Shows) → KeepsStatics (kinds_of plan.names) s a b → (s a).own ≡ n
+    → StandingFor plan n (open_at m) s a b S ↔ ((a ≡ b) × AgreesWith s a picture.facts × (S ≡ shown_at a (shows_of picture.shows)))
+AnswerMeans plan n (open_at m) new picture (Contradictory state clash) = (s : Course) (a b : ℕ) (S : Shows) → (s a).own ≡ n → StandingFor plan n (open_at m) s a b S → ⊥
+AnswerMeans plan n (open_at m) new picture (InputMissing state port) = (s : Course) (a b : ℕ) (S : Shows) → (s a).own ≡ n → StandingFor plan n (open_at m) s a b S → ⊥
+AnswerMeans plan n (open_at m) new picture (Undetermined state cell) = Unit {0}
+AnswerMeans plan n (open_at m) new picture (StateLimit states) = Unit {0}
+AnswerMeans plan n (open_at m) new picture (Over state limit) = Unit {0}
+AnswerMeans plan n (answered last) new picture turn = Unit {0}
+AnswerMeans plan n spent new picture turn = Unit {0}

@@ -1,17 +1,30 @@
--- Where a run stands.
-use Rattle.std.specs.Prelude.{ℕ, ◌≡◌, ◌+◌, ◌<◌}
+-- Where a run stands, and what its parts make of a state.
+use Rattle.std.specs.Prelude.{◌≡◌, ℕ, ◌≤◌, [], Option}
+use Rattle.tp_kernel.specs.Read.{definitions_of}
+use Rattle.tp_inputs.specs.Read.{lines_of}
+use Rattle.tp_store.specs.Known.{Contents}
+use Rattle.tp_decide.specs.Read.{scene_of, shows_of}
+use Rattle.tp_step.specs.Answers.{moment_of, setting_of}
+use Rattle.tp_step.specs.declared.answer.Order.TheVariants.{First}
+use Rattle.tp_meaning.specs.Interval.{kinds_of}
+use Rattle.tp_scene.specs.declared.answer.Cell.{Cell}
+use Rattle.tp_scene.specs.Scene as S
+use Rattle.tp_scene.specs.Pick.{Setting, Moment}
+use Rattle.tp_scene.specs.Rest.{settled, goes, ends, IsOpenCell}
+use Rattle.tp_scene.specs.Advance.{advanced, shown_in}
+use Rattle.tp_scene.specs.Laws.{GoesOn}
+use Rattle.tp_scene.specs.Built.{IsReady}
 use Rattle.tp_run.specs.declared.run.Run.{Run}
 use Rattle.tp_run.specs.declared.run.Stand.{Stand}
 use Rattle.tp_run.specs.declared.run.Stand.TheVariants.{Open, Answered, Spent}
-use Rattle.tp_run.specs.declared.turn.Turn.{Turn}
-use Rattle.tp_run.specs.declared.turn.Turn.TheVariants.{Went, Finished, Contradictory, Undetermined, Over}
+use Rattle.tp_run.specs.declared.turn.Limits.{Limits}
 use Rattle.tp_run.specs.declared.turn.Picture.{Picture}
-use Rattle.tp_run.specs.Residual.{residual_of}
-use Rattle.tp_run.specs.States.{Standing, open_at, answered, spent, StateBecomes}
-use Rattle.tp_run.specs.Weight.{weight_of}
+use Rattle.tp_run.specs.declared.turn.Turn.{Turn}
+use Rattle.tp_run.specs.declared.turn.Turn.TheVariants.{Went, Finished, Contradictory, Undetermined, StateLimit, InputMissing, Over}
+use Rattle.tp_run.specs.States.{Plan, globals_of, setting, AreGlobals, Standing, open_at, answered, spent}
 
 abbrev pub stands_at : Stand → Standing
-stands_at (Open ready) = open_at (residual_of ready.scene)
+stands_at (Open scene store) = open_at (moment_of scene store)
 stands_at (Answered turn) = answered turn
 stands_at Spent = spent
 
@@ -22,25 +35,45 @@ standing_of run = stands_at run.stand
 abbrev pub next_state_of : Run → ℕ
 next_state_of run = run.state
 
--- how much the run has to do: it falls with each state
-abbrev pub work_of : Standing → ℕ
-work_of (open_at r) = weight_of r.duties
-work_of (answered turn) = 0
-work_of spent = 0
+-- what its next state is read with
+abbrev pub setting_in : Run → Setting
+setting_in run = setting_of run.defs run.inputs run.state
 
--- What a call answers where the run stands there, with the number of the state that comes next: it makes that state, or it
--- gives the last answer again and changes nothing. A run that gave up for want of memory answers nothing else any more.
-abbrev pub Answers : Standing → ℕ → Picture → Picture → Standing → ℕ → Turn → Type 0
-Answers (open_at r) n old new standing next turn = StateBecomes n r old new standing turn × (next ≡ n + 1)
-Answers (answered last) n old new standing next turn = (turn ≡ last) × (new ≡ old) × (standing ≡ answered last) × (next ≡ n)
-Answers spent n old new standing next turn = ⊥
+-- before a state it stands at a sound moment
+abbrev pub StandsReady : Plan → ℕ → Standing → Type 0
+StandsReady plan n (open_at m) = IsReady (setting plan n) (kinds_of plan.names) m
+StandsReady plan n (answered turn) = Unit {0}
+StandsReady plan n spent = Unit {0}
 
--- after a state that goes on there is less to do
-abbrev pub LessToDo : Standing → Standing → Turn → Type 0
-LessToDo (open_at r) standing Went = work_of standing < work_of (open_at r)
-LessToDo (open_at r) standing (Finished length) = Unit {0}
-LessToDo (open_at r) standing (Contradictory state clash) = Unit {0}
-LessToDo (open_at r) standing (Undetermined state cell) = Unit {0}
-LessToDo (open_at r) standing (Over state limit) = Unit {0}
-LessToDo (answered last) standing turn = Unit {0}
-LessToDo spent standing turn = Unit {0}
+-- The run is one of this plan.
+pub record IsRunOf (plan : Plan) (run : Run) : Type 0 where
+  pub inputs : lines_of run.inputs ≡ plan.inputs
+  pub states : run.limits.states ≡ plan.states
+  pub reductions : run.limits.reductions ≡ plan.reductions
+  pub globals : run.globals ≡ globals_of plan
+  pub definitions : definitions_of run.defs ≡ []
+  pub order : run.order ≡ First
+  pub within : next_state_of run ≤ plan.states
+  pub ready : StandsReady plan (next_state_of run) (standing_of run)
+
+-- The picture of a state with this number, of so many globals, after so many reductions.
+pub record HasPicture (globals n reductions : ℕ) (m : Moment) (picture : Picture) : Type 0 where
+  pub state : picture.state ≡ n
+  pub facts : AreGlobals globals m.store.facts picture.facts
+  pub shows : shows_of picture.shows ≡ shown_in m.scene.root.entries
+  pub reductions_are : picture.reductions ≡ reductions
+
+-- what the next state begins with
+pub record NextOf (m next : Moment) : Type 0 where
+  pub scene : next.scene ≡ advanced m.scene
+  pub store : GoesOn m.store next.store
+
+-- What becomes of a state at rest.
+abbrev pub RestTurns : Setting → (globals reductions : ℕ) → Moment → Picture → Picture → Standing → Turn → Type 0
+RestTurns w globals k m old new standing Went = (settled m.scene ≡ goes) × HasPicture globals w.state k m new × ((next : Moment) × NextOf m next × (standing ≡ open_at next))
+RestTurns w globals k m old new standing (Finished length) = (settled m.scene ≡ ends) × HasPicture globals w.state k m new × (length ≡ w.state) × (standing ≡ answered (Finished length))
+RestTurns w globals k m old new standing (Undetermined state cell) = IsOpenCell w m cell × (state ≡ w.state) × (new ≡ old) × (standing ≡ answered (Undetermined state cell))
+RestTurns w globals k m old new standing (Contradictory state clash) = ⊥
+RestTurns w globals k m old new standing (StateLimit states) = ⊥
+RestTurns w globals k m old new standing (InputMissing state port) = ⊥
+RestTurns w globals k m old new standing (Over state limit) = ⊥

@@ -1,94 +1,135 @@
--- A run over its states.
-use Rattle.std.specs.Prelude.{◌≡◌, ◌⊎◌, ◌+◌, ℕ, false, List, [], ◌∷◌, map, None, Some}
+-- The states of a run, one after the other.
+use Rattle.std.specs.Prelude.{◌≡◌, ℕ, suc, ◌<◌, nat_lt, eqb, ◌&&◌, ◌||◌, Bool, List, [], ◌∷◌, length, All, IsTrue}
+use Rattle.tp_value.specs.declared.path.Path.{Path}
 use Rattle.tp_value.specs.declared.path.Fact.{Fact}
-use Rattle.tp_value.specs.declared.path.VarId.{VarId}
 use Rattle.tp_meaning.specs.Syntax.{FormulaTree}
-use Rattle.tp_scene.specs.declared.answer.Cell.{Cell}
-use Rattle.tp_scene.specs.declared.answer.Clash.{Clash}
-use Rattle.tp_kernel.specs.declared.formula.LimitKind.{LimitKind}
+use Rattle.tp_meaning.specs.Inputs.{InputLines}
+use Rattle.tp_meaning.specs.Interval.{kinds_of}
+use Rattle.tp_store.specs.Facts.{kept_shape}
+use Rattle.tp_store.specs.Known.{NoClash, facts_below, is_lesser}
+use Rattle.tp_decide.specs.Read.{shows_of}
+use Rattle.tp_scene.specs.Pick.{Setting, Moment}
+use Rattle.tp_scene.specs.Advance.{shown_in}
+use Rattle.tp_scene.specs.StandsFor.{first_moment}
+use Rattle.tp_scene.specs.Replay as replay
 use Rattle.tp_run.specs.declared.turn.Picture.{Picture}
 use Rattle.tp_run.specs.declared.turn.Turn.{Turn}
-use Rattle.tp_run.specs.declared.turn.Turn.TheVariants.{Went, Finished, Contradictory, Undetermined, Over}
-use Rattle.tp_run.specs.Residual.{Duty, Do, Later, Known, Residual}
-use Rattle.tp_run.specs.Rules.{fact_of}
-use Rattle.tp_run.specs.Picks.{Picks, MeetsClash, MeetsLimit, AtRest, SettledToEnd, SettledToGo, OpenAtItem, OpenAtEnd}
+use Rattle.tp_run.specs.declared.turn.Turn.TheVariants.{Went, Finished, Contradictory, Undetermined, StateLimit, InputMissing, Over}
+use Rattle.tp_kernel.specs.declared.formula.LimitKind.{LimitKind}
+use Rattle.tp_kernel.specs.declared.formula.LimitKind.TheVariants as limit
 
--- before anything is known of a state
-abbrev pub nothing_known : {A : Type 0} → List A → Known
-nothing_known xs = map (λ x. None) xs
+-- What is run: a formula over the variables of these names, with these inputs, for at most so many states with at most so many reductions each.
+pub record Plan : Type 0 where
+  pub names : List (List ℕ)
+  pub main : FormulaTree
+  pub inputs : InputLines
+  pub states : ℕ
+  pub reductions : ℕ
 
--- what a run begins with: the program's formula, and nothing known of the variables
-abbrev pub first_residual : List (List ℕ) → FormulaTree → Residual
-first_residual names main = record { ends = false; goes = false; duties = Do main ∷ []; known = nothing_known names }
+abbrev pub plan_with : (names : List (List ℕ)) → FormulaTree → InputLines → (states reductions : ℕ) → Plan
+plan_with names main inputs states reductions = record { names = names; main = main; inputs = inputs; states = states; reductions = reductions }
 
--- what was due from the next state on is due now
-abbrev pub due_next : Duty → Duty
-due_next (Do w) = Do w
-due_next (Later w) = Do w
+-- how many variables it has
+abbrev pub globals_of : Plan → ℕ
+globals_of plan = length (kinds_of plan.names)
 
--- the next state's residual: the marks are dropped, and nothing is known of state variables
-abbrev pub advanced : Residual → Residual
-advanced r = record { ends = false; goes = false; duties = map due_next r.duties; known = nothing_known r.known }
+-- what state n is read with; programs have no definitions today
+abbrev pub setting : Plan → ℕ → Setting
+setting plan n = record { defs = []; inputs = plan.inputs; state = n }
 
--- the state variable with this number
-abbrev pub variable_at : ℕ → VarId
-variable_at i = record { number = i; lasting = false }
+-- a fact is before another: its variable's number is less, or it is of the same variable, and its indices are a part of the other's from the
+-- start, or less where they first differ
+abbrev pub is_before : Fact → Fact → Bool
+is_before f g =
+    let m = f.path.var.number in
+    let n = g.path.var.number in
+    nat_lt m n || (eqb m n && is_lesser f.path.at g.path.at)
 
--- what is known of the variables, in the order of their numbers, from this number on
-abbrev pub facts_from : ℕ → Known → List Fact
-facts_from i [] = []
-facts_from i (None ∷ k) = facts_from (i + 1) k
-facts_from i (Some n ∷ k) = fact_of (variable_at i) n ∷ facts_from (i + 1) k
+-- in the order of the variables, and of one variable a list before its items, and these in order
+abbrev pub AreInOrder : List Fact → Type 0
+AreInOrder [] = Unit {0}
+AreInOrder (f ∷ fs) = All (λ g. IsTrue (is_before f g)) fs × AreInOrder fs
 
-abbrev pub facts_of : Known → List Fact
-facts_of k = facts_from 0 k
+-- These facts in order are those that a store keeps of so many globals.
+pub record AreGlobals (globals : ℕ) (kept facts : List Fact) : Type 0 where
+  pub order : AreInOrder facts
+  pub no_clash : NoClash facts
+  pub same : (p : Path) → kept_shape facts p ≡ kept_shape (facts_below globals kept) p
 
--- where a run stands: before a state with this residual, after this last answer, or given up for want of memory
+-- The picture of a settled state: its number, the facts of the globals, what is shown, and how many reductions it took.
+pub record IsPictureOf (plan : Plan) (n : ℕ) (picks : List ℕ) (last : Moment) (picture : Picture) : Type 0 where
+  pub state : picture.state ≡ n
+  pub facts : AreGlobals (globals_of plan) last.store.facts picture.facts
+  pub shows : shows_of picture.shows ≡ shown_in last.scene.root.entries
+  pub reductions : picture.reductions ≡ length picks
+
+-- state n, which begins with m, is settled and has this picture, and the next one begins with `next`
+pub record GoesOn (plan : Plan) (n : ℕ) (m : Moment) (picture : Picture) (next : Moment) : Type 0 where
+  pub within : n < plan.states
+  pub picks : List ℕ
+  pub last : Moment
+  pub goes : replay.Goes (setting plan n) plan.reductions m picks last next
+  pub picture_is : IsPictureOf plan n picks last picture
+
+-- state n, which begins with m, is settled and has this picture, and the interval ends with it
+pub record EndsHere (plan : Plan) (n : ℕ) (m : Moment) (picture : Picture) : Type 0 where
+  pub within : n < plan.states
+  pub picks : List ℕ
+  pub last : Moment
+  pub ends : replay.Ends (setting plan n) plan.reductions m picks last
+  pub picture_is : IsPictureOf plan n picks last picture
+
+-- states n, n + 1, .. with these pictures, of which each goes on to the next, and what the state after them begins with
+abbrev pub StatesLead : Plan → ℕ → Moment → List Picture → Moment → Type 0
+StatesLead plan n m [] last = last ≡ m
+StatesLead plan n m (p ∷ ps) last = (next : Moment) × GoesOn plan n m p next × StatesLead plan (suc n) next ps last
+
+-- A run settles states with these pictures, and the state after them begins with this moment.
+abbrev pub LeadsTo : Plan → List Picture → Moment → Type 0
+LeadsTo plan ps m = StatesLead plan 0 (first_moment plan.names plan.main) ps m
+
+-- where a run stands: before a state that begins with this moment, after this last answer, or given up for want of memory
 pub data Standing : Type 0 where
-  open_at : Residual → Standing
+  open_at : Moment → Standing
   answered : Turn → Standing
   spent : Standing
 
-abbrev pub picture_of : ℕ → Residual → ℕ → Picture
-picture_of n r reductions = record { state = n; facts = facts_of r.known; reductions = reductions }
+-- a limit other than that on states is reached: picks lead to an item that passes it, or use up the reductions
+abbrev pub ReachesLimit : Setting → (most : ℕ) → Moment → LimitKind → Type 0
+ReachesLimit w most m limit.Reductions = replay.UsesUp w most m
+ReachesLimit w most m limit.Number = replay.PassesLimit w most m limit.Number
+ReachesLimit w most m limit.List = replay.PassesLimit w most m limit.List
+ReachesLimit w most m limit.Calls = replay.PassesLimit w most m limit.Calls
+ReachesLimit w most m limit.Nest = replay.PassesLimit w most m limit.Nest
 
-abbrev pub IsOpenCell : Residual → Cell → Type 0
-IsOpenCell s cell = OpenAtItem s cell ⊎ OpenAtEnd s cell
+-- the number of the next state after an answer: only a settled state that goes on has one
+abbrev pub state_after : ℕ → Turn → ℕ
+state_after n Went = suc n
+state_after n (Finished length) = n
+state_after n (Contradictory state clash) = n
+state_after n (Undetermined state cell) = n
+state_after n (StateLimit states) = n
+state_after n (InputMissing state port) = n
+state_after n (Over state limit) = n
 
--- What becomes of state n, where so many picks led to this rest: the picture, where the run then stands, and the answer.
--- Where the state isn't settled the picture stays.
-abbrev pub RestBecomes : ℕ → Residual → ℕ → Picture → Picture → Standing → Turn → Type 0
-RestBecomes n s k old new standing Went = SettledToGo s × (new ≡ picture_of n s k) × (standing ≡ open_at (advanced s))
-RestBecomes n s k old new standing (Finished length) = SettledToEnd s × (length ≡ n) × (new ≡ picture_of n s k) × (standing ≡ answered (Finished length))
-RestBecomes n s k old new standing (Undetermined state cell) = IsOpenCell s cell × (state ≡ n) × (new ≡ old) × (standing ≡ answered (Undetermined state cell))
-RestBecomes n s k old new standing (Contradictory state clash) = ⊥
-RestBecomes n s k old new standing (Over state limit) = ⊥
+-- What becomes of state n, which begins with m, with the pictures before and after, where the run then stands, and the answer. Where the state isn't
+-- settled the picture stays.
+abbrev pub StateBecomes : Plan → ℕ → Moment → Picture → Picture → Standing → Turn → Type 0
+StateBecomes plan n m old new standing Went = (next : Moment) × GoesOn plan n m new next × (standing ≡ open_at next)
+StateBecomes plan n m old new standing (Finished length) = EndsHere plan n m new × (length ≡ n) × (standing ≡ answered (Finished length))
+StateBecomes plan n m old new standing (Contradictory state clash) =
+    replay.MeetsClash (setting plan n) plan.reductions m clash × (state ≡ n) × (n < plan.states) × (new ≡ old) × (standing ≡ answered (Contradictory state clash))
+StateBecomes plan n m old new standing (Undetermined state cell) =
+    replay.IsOpen (setting plan n) plan.reductions m cell × (state ≡ n) × (n < plan.states) × (new ≡ old) × (standing ≡ answered (Undetermined state cell))
+StateBecomes plan n m old new standing (StateLimit states) = (n ≡ plan.states) × (states ≡ n) × (new ≡ old) × (standing ≡ answered (StateLimit states))
+StateBecomes plan n m old new standing (InputMissing state port) =
+    replay.MissesInput (setting plan n) plan.reductions m port × (state ≡ n) × (n < plan.states) × (new ≡ old) × (standing ≡ answered (InputMissing state port))
+StateBecomes plan n m old new standing (Over state limit) =
+    ReachesLimit (setting plan n) plan.reductions m limit × (state ≡ n) × (n < plan.states) × (new ≡ old) × (standing ≡ answered (Over state limit))
 
--- so many picks lead to a rest, of which this becomes
-pub record Rests (n : ℕ) (r : Residual) (old new : Picture) (standing : Standing) (turn : Turn) : Type 0 where
-  pub at : Residual
-  pub count : ℕ
-  pub picks : Picks count r at
-  pub rest : AtRest at
-  pub becomes : RestBecomes n at count old new standing turn
-
--- so many picks lead to a clash, or to a limit
-pub record Clashes (r : Residual) (clash : Clash) : Type 0 where
-  pub at : Residual
-  pub count : ℕ
-  pub picks : Picks count r at
-  pub meets : MeetsClash at clash
-
-pub record PassesLimit (r : Residual) (limit : LimitKind) : Type 0 where
-  pub at : Residual
-  pub count : ℕ
-  pub picks : Picks count r at
-  pub meets : MeetsLimit at limit
-
--- What becomes of state n, which begins with this residual.
-abbrev pub StateBecomes : ℕ → Residual → Picture → Picture → Standing → Turn → Type 0
-StateBecomes n r old new standing Went = Rests n r old new standing Went
-StateBecomes n r old new standing (Finished length) = Rests n r old new standing (Finished length)
-StateBecomes n r old new standing (Undetermined state cell) = Rests n r old new standing (Undetermined state cell)
-StateBecomes n r old new standing (Contradictory state clash) = Clashes r clash × (state ≡ n) × (new ≡ old) × (standing ≡ answered (Contradictory state clash))
-StateBecomes n r old new standing (Over state limit) = PassesLimit r limit × (state ≡ n) × (new ≡ old) × (standing ≡ answered (Over state limit))
+-- What a call answers where the run stands there, with the number of the state that comes next: it makes that state, or it gives the last answer
+-- again and changes nothing. A run that gave up for want of memory answers nothing else any more.
+abbrev pub Answers : Plan → Standing → ℕ → Picture → Picture → Standing → ℕ → Turn → Type 0
+Answers plan (open_at m) n old new standing next turn = StateBecomes plan n m old new standing turn × (next ≡ state_after n turn)
+Answers plan (answered last) n old new standing next turn = (turn ≡ last) × (new ≡ old) × (standing ≡ answered last) × (next ≡ n)
+Answers plan spent n old new standing next turn = ⊥

@@ -2,24 +2,42 @@
 ghost use Rattle.std.specs.Prelude.{◌≡◌, IfOk};
 
 use tp_kernel::LimitKind;
-use tp_scene::{Cell, Clash};
-use tp_value::{Facts, NoMemory};
+use tp_step::{Cell, Clash, Shows};
+use tp_value::{Facts, NoMemory, Text};
 
-/// A settled state: its number, the facts of the global variables, and how many reductions it took.
-#[derive(Debug, Drop)]
+/// How many states a run has at the most, and how many reductions a state. Both are from 1 to 1,000,000.
+#[derive(Clone, Copy, Debug, PartialEq, Eq)]
+pub struct Limits {
+    pub states: u64,
+    pub reductions: u64,
+}
+
+/// A settled state: its number, the facts of the global variables, what is shown, and how many reductions it took. The facts are
+/// in the order of the variables, and of one variable a list before its items and these in order.
+#[derive(Drop)]
 pub struct Picture {
     pub state: u64,
     pub facts: Facts,
+    pub shows: Shows,
     pub reductions: u64,
 }
 
 /// What became of a state.
 #[derive(Debug, Drop)]
 pub enum Turn {
+    /// It was settled and goes on.
     Went,
+    /// It was settled and the interval ends with it.
     Finished { length: u64 },
+    /// No interval satisfies the program.
     Contradictory { state: u64, clash: Clash },
+    /// It rests, and this cell is open.
     Undetermined { state: u64, cell: Cell },
+    /// As many states were settled as there may be, and the last one goes on.
+    StateLimit { states: u64 },
+    /// The inputs have no value for the port in this state.
+    InputMissing { state: u64, port: Text },
+    /// An item passes this limit, or there may be no more reductions.
     Over { state: u64, limit: LimitKind },
 }
 
@@ -43,6 +61,14 @@ impl Turn {
                 Ok(Turn::Undetermined {
                     state: *state,
                     cell,
+                })
+            }
+            Turn::StateLimit { states } => Ok(Turn::StateLimit { states: *states }),
+            Turn::InputMissing { state, port } => {
+                let port = port.copy()?;
+                Ok(Turn::InputMissing {
+                    state: *state,
+                    port,
                 })
             }
             Turn::Over { state, limit } => Ok(Turn::Over {

@@ -10,7 +10,7 @@ use Rattle.tp_meaning.specs.Unfolding.{nexts}
 use Rattle.tp_meaning.specs.Inputs.{InputLines}
 use Rattle.tp_store.specs.Facts.{fact, facts_at}
 use Rattle.tp_store.specs.Known.{Variable, Addition, adds, refuses, addition}
-use Rattle.tp_kernel.specs.Built.{HasRunnableKinds, HaveRunnableKinds}
+use Rattle.tp_kernel.specs.Built.{HasBuiltKinds, HaveBuiltKinds}
 use Rattle.tp_eval.specs.Outcome as found
 use Rattle.tp_eval.specs.Outcome.{outcome}
 use Rattle.tp_scene.specs.Scene.{Bindings, Side, Ending, Going, Leaf, Do, Later, Shown, Entries, none, leaf, node, append, Scene, Place, root_place}
@@ -26,11 +26,11 @@ flat_append (leaf id (Later f env) xs) ys h k = (h.0, flat_append xs ys h.1 k)
 flat_append (leaf id (Shown vs) xs) ys h k = flat_append xs ys h k
 flat_append (node id l hd held g second xs) ys h k = elim h [ ]
 
-nexts_runnable : (j : ℕ) (f : FormulaTree) → HasRunnableKinds f → HasRunnableKinds (nexts j f)
+nexts_runnable : (j : ℕ) (f : FormulaTree) → HasBuiltKinds f → HasBuiltKinds (nexts j f)
 nexts_runnable zero f h = h
 nexts_runnable (suc j) f h = nexts_runnable j f h
 
-flat_all : (fs : FormulaTrees) (env : Bindings) (number : ℕ → ℕ) (from : ℕ) → HaveRunnableKinds fs → IsFlat (all_do fs env number from)
+flat_all : (fs : FormulaTrees) (env : Bindings) (number : ℕ → ℕ) (from : ℕ) → HaveBuiltKinds fs → IsFlat (all_do fs env number from)
 flat_all no_formula env number from h = tt
 flat_all (formula_then f fs) env number from h = (h.0, flat_all fs env number (suc from) h.1)
 
@@ -119,7 +119,7 @@ module _ (facts : List Fact) where
     length_flat (pos (suc k)) env n = ((tt, tt), refl)
     length_flat (negsuc k) env n = tt
 
-    formula_flat : (f : FormulaTree) (env : Bindings) (p : Place) (n : Numbers) → HasRunnableKinds f → IsFlatOutcome (formula_step defs inputs state facts f env p n)
+    formula_flat : (f : FormulaTree) (env : Bindings) (p : Place) (n : Numbers) → HasBuiltKinds f → IsFlatOutcome (formula_step defs inputs state facts f env p n)
     formula_flat trivial env p n h = (tt, refl)
     formula_flat (test e) env p n h = truth_flat (outcome facts defs e env) _ (λ b. cond_both b _ _ IsFlatOutcome (λ _. (tt, refl)) (λ _. tt))
     formula_flat (equation l r) env p n h = equate_flat (side_of defs inputs state facts l env) (side_of defs inputs state facts r env)

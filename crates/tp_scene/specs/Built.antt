@@ -1,6 +1,6 @@
 -- The scenes that are run today: one region, and formulas of the kinds that are run.
 use Rattle.std.specs.Prelude.{◌≡◌, ℕ, Bool, List}
-use Rattle.tp_kernel.specs.Built.{HasRunnableKinds}
+use Rattle.tp_kernel.specs.Built.{HasBuiltKinds}
 use Rattle.tp_scene.specs.Laws.{IsSound}
 use Rattle.tp_scene.specs.Scene.{Do, Later, Shown, Entries, none, leaf, node}
 use Rattle.tp_scene.specs.Step.{Reduction}
@@ -10,8 +10,8 @@ use Rattle.tp_scene.specs.Advance.{advanced}
 -- no item holds a region, and each formula is of those kinds
 abbrev pub IsFlat : Entries → Type 0
 IsFlat none = Unit {0}
-IsFlat (leaf id (Do f env) rest) = HasRunnableKinds f × IsFlat rest
-IsFlat (leaf id (Later f env) rest) = HasRunnableKinds f × IsFlat rest
+IsFlat (leaf id (Do f env) rest) = HasBuiltKinds f × IsFlat rest
+IsFlat (leaf id (Later f env) rest) = HasBuiltKinds f × IsFlat rest
 IsFlat (leaf id (Shown vs) rest) = IsFlat rest
 IsFlat (node id k h held g second rest) = ⊥
 

@@ -2,17 +2,11 @@
 use Rattle.std.proofs.Common.{◌≡◌, ℕ, zero, suc, ◌+◌, ◌<◌, ◌≤◌, List, [], ◌∷◌, ◌++◌, length, map, drop, get_or, refl, ap, sym, ◌∙◌, subst, arith, append_assoc, append-nil}
 use Rattle.tp_value.specs.Tree.{Tree, list, items_of, of_items}
 use Rattle.tp_value.specs.Limits.{items_in, items_within}
-use Rattle.tp_value.specs.Shape.{HasShortLists, HaveShortLists}
 use Rattle.tp_value.specs.declared.value.Shape.TheVariants.{Items}
 use Rattle.tp_value.specs.declared.path.Path.{Path}
 use Rattle.tp_value.specs.declared.path.Fact.{Fact}
 use Rattle.tp_value.proofs.Shapes.{length_of_list}
 use Rattle.tp_store.specs.Facts.{facts_at, facts_of_items, item_path, fact}
-
-pub short_value : {A : Type 0} (f : A → Tree) (xs : List A) (k : ℕ) (v : A) → k < length xs → v ≡ get_or xs k v → HaveShortLists (of_items (map f xs)) → HasShortLists (f v)
-short_value f [] k v l e h = absurd (omega arith)
-short_value f (x ∷ xs) zero v l e h = subst HasShortLists (ap f (sym e)) h.0
-short_value f (x ∷ xs) (suc k) v l e h = short_value f xs k v (omega arith) e h.1
 
 drop_items : {A : Type 0} (f : A → Tree) (p : Path) (j : ℕ) (xs : List A) (k : ℕ) (v : A) → k < length xs → v ≡ get_or xs k v
     → facts_of_items p j (of_items (map f (drop k xs))) ≡ facts_at (item_path p j) (f v) ++ facts_of_items p (suc j) (of_items (map f (drop (suc k) xs)))

@@ -1,7 +1,6 @@
 // Adding facts.
 ghost use Rattle.std.specs.Prelude.{◌≡◌, ◌<◌, length, slice_get, ◌++◌, ◌∷◌, [], IfOk, IfErr, OnOk, OnErr};
 ghost use Rattle.tp_value.specs.Read.{tree};
-ghost use Rattle.tp_value.specs.Shape.{HasShortLists};
 ghost use Rattle.tp_value.specs.declared.value.Shape.TheVariants as shape;
 ghost use Rattle.tp_store.specs.Facts.{facts_at, fact};
 ghost use Rattle.tp_store.specs.Known.{addition, adds, new_facts, IsVariableOf, NoClash};
@@ -66,9 +65,18 @@ fn fact_at(path: &Path, shape: Shape) -> Result<Fact, NoMemory>
     Ok(Fact { path, shape })
 }
 
+// The length of a list as its shape holds it. A list of 2^32 items has no shape, and is want of memory.
+fn shape_length(length: usize) -> Result<u32, NoMemory>
+    ensures { IfOk result (λ n. n ≡ length) }
+{
+    if length > u32::MAX as usize {
+        return Err(NoMemory);
+    }
+    Ok(length as u32)
+}
+
 // Appends the facts of the value at the path: its shape there, then the facts of its items in order.
 fn append_facts(path: &Path, value: &Value, out: &mut Vec<Fact>) -> Result<(), NoMemory>
-    requires { HasShortLists (tree value.now) }
     ensures { OnOk result (out.new.items ≡ out.old.items ++ facts_at path.now (tree value.now)) }
 {
     match value {
@@ -81,7 +89,8 @@ fn append_facts(path: &Path, value: &Value, out: &mut Vec<Fact>) -> Result<(), N
             out.push(fact)?;
         }
         Value::List(all) => {
-            let fact = fact_at(path, Shape::Items(all.items.len() as u32))?;
+            let length = shape_length(all.items.len())?;
+            let fact = fact_at(path, Shape::Items(length))?;
             out.push(fact)?;
             for k in 0..all.items.len() {
                 let inner = item_path(path, k as u32)?;
@@ -94,7 +103,6 @@ fn append_facts(path: &Path, value: &Value, out: &mut Vec<Fact>) -> Result<(), N
 
 // The facts of the value at the path.
 fn value_facts(alloc: Global, path: &Path, value: &Value) -> Result<Vec<Fact>, NoMemory>
-    requires { HasShortLists (tree value.now) }
     ensures { IfOk result (λ facts. facts.items ≡ facts_at path.now (tree value.now)) }
 {
     let mut facts = Vec::new(alloc);
@@ -159,12 +167,11 @@ fn add_at(
 
 impl Store {
     /// Adds the facts of a value at a path, and gives those that are new, in order: a list's length before the facts of its items. The
-    /// path's variable is one of the store's, and each list of the value has fewer than 2^32 items. The first new fact that clashes is
+    /// path's variable is one of the store's. A list of 2^32 items has no shape, and is want of memory. The first new fact that clashes is
     /// refused with the kept one that has the fewest indices of those that it clashes with, and among these the least index where their
     /// paths first differ; nothing is added then.
     pub fn add(&mut self, path: &Path, value: &Value) -> Result<Facts, AddRefusal>
-        requires variable { IsVariableOf self.old.variables path.now.var }
-        requires short { HasShortLists (tree value.now) }
+        requires { IsVariableOf self.old.variables path.now.var }
         ensures news { IfOk result (λ news. addition self.old.facts (facts_at path.now (tree value.now)) ≡ adds news) }
         ensures refused { IfErr result (IsRefusal (addition self.old.facts (facts_at path.now (tree value.now)))) }
         ensures added { IfOk result (λ news. HasAdded self.old news self.new) }
@@ -192,8 +199,7 @@ impl Store {
 
     /// Whether `add` of this value at this path would add its facts, or the refusal that it would give; the store stays as it is.
     pub fn check(&self, path: &Path, value: &Value) -> Result<(), AddRefusal>
-        requires variable { IsVariableOf self.now.variables path.now.var }
-        requires short { HasShortLists (tree value.now) }
+        requires { IsVariableOf self.now.variables path.now.var }
         ensures ok { OnOk result (Adds (addition self.now.facts (facts_at path.now (tree value.now)))) }
         ensures refused { IfErr result (IsRefusal (addition self.now.facts (facts_at path.now (tree value.now)))) }
     {

@@ -1,5 +1,5 @@
-use Rattle.tp_run.proofs.HistoryLemmas.{runs_advance}
 use Rattle.tp_run.proofs.laws.runs_advance.Goals as goal
+use Rattle.tp_run.proofs.HistoryLemmas.{runs_advance}
 
 pub returns : goal.returns
-returns c = λ names main. runs_advance names main
+returns c = runs_advance

@@ -1,26 +1,17 @@
-use Rattle.std.proofs.Common.{◌+◌, ◌++◌, ap, sym, ◌∙◌, subst, map, drop, arith, rules, ◌<◌}
+use Rattle.std.proofs.Common.{◌+◌, ◌++◌, ap, sym, ◌∙◌, map, drop, arith, rules, ◌<◌}
 use Rattle.tp_value.specs.Tree.{of_items}
 use Rattle.tp_value.specs.Limits.{items_in}
 use Rattle.tp_value.specs.Read.{tree}
-use Rattle.tp_value.specs.Shape.{HasShortLists}
 use Rattle.tp_value.specs.Equations.{tree_list}
-use Rattle.tp_value.proofs.Shapes.{length_of_list}
 use Rattle.tp_store.specs.Facts.{facts_at, facts_of_items}
-use Rattle.tp_store.proofs.ValueFacts.{short_value, item_less, next_item, after_items, list_facts}
+use Rattle.tp_store.proofs.ValueFacts.{item_less, next_item, after_items, list_facts}
 use Rattle.tp_store.proofs.add.+append_facts.Goals as goal
-
-pub overflow_cast-len : goal.overflow_cast-len
-overflow_cast-len t c =
-    let seen = ap tree c.in-List.is ∙ tree_list c.in-List.all in
-    let short = subst HasShortLists seen c.requires in
-    omega (arith, short.0, length_of_list tree c.in-List.all.items.items, c.in-List.all.items.ok.0)
 
 pub append_facts-requires : goal.append_facts-requires
 append_facts-requires t c =
     let seen = ap tree c.in-List.is ∙ tree_list c.in-List.all in
-    let short = subst HasShortLists seen c.requires in
     let fewer : items_in (tree c.index.result.now) < items_in (tree c.args.value.now) = item_less tree c.in-List.all.items.items c.loop-k.k c.index.result.now (tree c.args.value.now) (omega (arith, c.in-List.all.items.ok.0)) c.index.ensures seen in
-    (search (rules, fewer), short_value tree c.in-List.all.items.items c.loop-k.k c.index.result.now (omega (arith, c.in-List.all.items.ok.0)) c.index.ensures short.1)
+    search (rules, fewer)
 
 pub loop-k-preserved : goal.loop-k-preserved
 loop-k-preserved t c =
@@ -35,5 +26,5 @@ returns-after-loop-k t c =
     let xs = c.in-List.all.items.items in
     let seen = ap tree c.in-List.is ∙ tree_list c.in-List.all in
     after_items tree c.args.path.now xs c.loop-k.k c.loop-k.out.items (omega (arith, c.in-List.all.items.ok.0)) ∙ c.loop-k.invariant
-    ∙ list_facts tree c.args.path.now xs c.args.out.now.items c.push-in-List.new.self.items c.in_ok-fact-in-List.fact _ (c.len.ensures ∙ c.in-List.all.items.ok.0) c.in_ok-fact-in-List.ensures c.in_ok-push-in-List.ensures.items
+    ∙ list_facts tree c.args.path.now xs c.args.out.now.items c.push-in-List.new.self.items c.in_ok-fact-in-List.fact _ (c.in_ok-length.ensures ∙ c.len-length.ensures ∙ c.in-List.all.items.ok.0) c.in_ok-fact-in-List.ensures c.in_ok-push-in-List.ensures.items
     ∙ ap (λ s. c.args.out.now.items ++ facts_at c.args.path.now s) (sym seen)

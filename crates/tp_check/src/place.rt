@@ -1,0 +1,40 @@
+// Places.
+ghost use Rattle.tp_tree.specs.Read.{tree, kind_tree};
+ghost use Rattle.std.specs.Prelude.{◌≡◌};
+ghost use Rattle.tp_check.specs.Building.{expr_seen};
+ghost use Rattle.tp_check.specs.Outcome.{Answers};
+ghost use Rattle.tp_check.specs.Positions.{place_in, place_refusal};
+
+use crate::expression::shared_expression;
+use crate::phrases::{is_place, miscounted_or};
+use crate::refusal::CheckRefusal;
+use std::alloc::Global;
+use std::rc::Rc;
+use tp_kernel::Expr;
+use tp_tree::{Phrase, PhraseKind};
+use tp_value::Globals;
+
+// Why a phrase that is no place phrase is refused where a place is due.
+fn refusal(phrase: &Phrase) -> CheckRefusal
+    ensures { result ≡ place_refusal phrase.now.at (kind_tree phrase.now.kind) }
+{
+    let at = phrase.at;
+    match &phrase.kind {
+        PhraseKind::Form(form, operands) => {
+            miscounted_or(at, *form, operands, CheckRefusal::NotPlace { at })
+        }
+        PhraseKind::Call(_, _) => CheckRefusal::NotExecutable { at },
+        _ => CheckRefusal::NotPlace { at },
+    }
+}
+
+/// The place that a phrase is, over the variables with these names.
+pub fn place(alloc: Global, phrase: &Phrase, globals: &Globals) -> Result<Rc<Expr>, CheckRefusal>
+    ensures { Answers expr_seen (place_in globals.now (tree phrase.now)) result }
+{
+    if is_place(phrase) {
+        shared_expression(alloc, phrase, globals)
+    } else {
+        Err(refusal(phrase))
+    }
+}

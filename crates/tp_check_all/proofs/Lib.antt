@@ -1,4 +1,0 @@
-pub mod Several
-pub mod Sides
-pub mod Fitting
-pub mod Known

@@ -1,6 +1,0 @@
-pub mod Names
-pub mod Outcome
-pub mod Phrases
-pub mod Positions
-pub mod Building
-pub mod Program

@@ -1,0 +1,4 @@
+pub mod FlatLemmas
+pub mod EquationLemmas
+pub mod DecideLemmas
+pub mod PathFits

@@ -1,0 +1,11 @@
+use Rattle.std.specs.Prelude.{ℤ, []}
+use Rattle.std.proofs.Common.{◌≡◌, ◌∙◌, ap}
+use Rattle.tp_kernel.specs.Read.{bindings_of}
+use Rattle.tp_scene.specs.Step.{Outcome, length_left, with_number}
+use Rattle.tp_decide.specs.Decided.{numbers_from}
+use Rattle.tp_decide.proofs.decide.decide_len.Goals as goal
+
+pub returns-in-Err-clause-outcome : goal.returns-in-Err-clause-outcome
+returns-in-Err-clause-outcome c = λ facts.
+    let f : ℤ → Outcome = λ k. length_left [] [] 0 facts k (bindings_of c.args.env.now) (numbers_from c.args.next) in
+    c.in-Err.ensures.found facts f ∙ ap (λ o. with_number o f) c.in_ok-outcome.ensures

@@ -1,0 +1,4 @@
+pub mod Read
+pub mod Equations
+pub mod Flat
+pub mod Decided

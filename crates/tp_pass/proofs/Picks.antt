@@ -1,0 +1,98 @@
+-- Picks one after the other, and items below the next number.
+use Rattle.std.proofs.Common.{◌≡◌, ℕ, suc, ◌+◌, ◌<◌, ◌≤◌, Bool, true, false, ◌||◌, eqb, List, [], ◌∷◌, ◌++◌, length, refl, ap, sym, ◌∙◌, subst, arith, inl, inr, append_assoc, length-append, below_more, Some, None, ◌⊎◌, ◌*◌, ◌-◌, ◌^◌}
+use Rattle.std.proofs.lemmas.Bool.{or_cases, eqb-true}
+use Rattle.std.proofs.lemmas.List.{append-nil}
+use Rattle.tp_scene.specs.Scene.{Entries, none, leaf, node, Do, Later, Shown, has}
+use Rattle.tp_scene.specs.Step.{Reduction}
+use Rattle.tp_scene.specs.Pick.{Setting, Moment, Reduces, Leads, outcome_of, IsIdle}
+use Rattle.tp_scene.specs.Fits.{IsNew, AreNumbers, item_numbers}
+use Rattle.tp_scene.specs.Built.{IsFlat, IsReady}
+use Rattle.tp_step.specs.declared.answer.Ending.{Ending}
+use Rattle.tp_pass.specs.Closes.{Made, Looks, Passes, EndsHere}
+
+-- one more pick
+pub leads_more : (w : Setting) (m mid next : Moment) (ts : List ℕ) (t : ℕ) (r : Reduction) → Leads w m ts mid → Reduces w mid t r next → Leads w m (ts ++ t ∷ []) next
+leads_more w m mid next [] t r h g = (r, next, subst (λ (z : Moment). Reduces w z t r next) h g, refl)
+leads_more w m mid next (u ∷ ts) t r h g = (h.0, h.1, h.2, leads_more w h.1 mid next ts t r h.3 g)
+
+-- picks after picks
+pub leads_on : (w : Setting) (m mid next : Moment) (ts us : List ℕ) → Leads w m ts mid → Leads w mid us next → Leads w m (ts ++ us) next
+leads_on w m mid next [] us h g = subst (λ (z : Moment). Leads w z us next) h g
+leads_on w m mid next (t ∷ ts) us h g = (h.0, h.1, h.2, leads_on w h.1 mid next ts us h.3 g)
+
+pub made_none : (w : Setting) (m : Moment) (left : ℕ) (before : List ℕ) → Made w m m left left before before
+made_none w m left before = record { picks = []; leads = refl; appended = sym (append-nil before); spent = omega arith }
+
+pub made_more : (w : Setting) (m mid next : Moment) (l0 l1 l2 : ℕ) (b0 b1 b2 : List ℕ) (t : ℕ) (r : Reduction) → Made w m mid l0 l1 b0 b1 → Reduces w mid t r next → l1 ≡ suc l2 → b2 ≡ b1 ++ t ∷ [] → Made w m next l0 l2 b0 b2
+made_more w m mid next l0 l1 l2 b0 b1 b2 t r h g e a = record {
+  picks = h.picks ++ t ∷ [];
+  leads = leads_more w m mid next h.picks t r h.leads g;
+  appended = a ∙ ap (λ xs. xs ++ t ∷ []) h.appended ∙ append_assoc b0 h.picks (t ∷ []);
+  spent = omega (arith, h.spent, e, length-append h.picks (t ∷ []));
+}
+
+pub made_on : (w : Setting) (m mid next : Moment) (l0 l1 l2 : ℕ) (b0 b1 b2 : List ℕ) → Made w m mid l0 l1 b0 b1 → Made w mid next l1 l2 b1 b2 → Made w m next l0 l2 b0 b2
+made_on w m mid next l0 l1 l2 b0 b1 b2 h g = record {
+  picks = h.picks ++ g.picks;
+  leads = leads_on w m mid next h.picks g.picks h.leads g.leads;
+  appended = g.appended ∙ ap (λ xs. xs ++ g.picks) h.appended ∙ append_assoc b0 h.picks g.picks;
+  spent = omega (arith, h.spent, g.spent, length-append h.picks g.picks);
+}
+
+-- a live item's number is below the next one
+pub lives_below : (n t : ℕ) (es : Entries) → IsFlat es → AreNumbers n (item_numbers es) → has t es ≡ true → t < n
+lives_below n t none flat numbers e = absurd (cc)
+lives_below n t (leaf id (Do f env) rest) flat numbers e =
+    elim (or_cases (eqb id t) (has t rest) e) [ inl x ↦ subst (λ k. k < n) (eqb-true id t x) numbers.0 | inr y ↦ lives_below n t rest flat.1 numbers.2 y ]
+lives_below n t (leaf id (Later f env) rest) flat numbers e =
+    elim (or_cases (eqb id t) (has t rest) e) [ inl x ↦ subst (λ k. k < n) (eqb-true id t x) numbers.0 | inr y ↦ lives_below n t rest flat.1 numbers.2 y ]
+lives_below n t (leaf id (Shown vs) rest) flat numbers e =
+    elim (or_cases (eqb id t) (has t rest) e) [ inl x ↦ subst (λ k. k < n) (eqb-true id t x) numbers.0 | inr y ↦ lives_below n t rest flat numbers.2 y ]
+lives_below n t (node id k h held g second rest) flat numbers e = absurd flat
+
+-- So far in a pass: what was picked; soundness is kept; and where nothing was reduced, nothing comes of the items before this one.
+pub record Passing (w : Setting) (m here : Moment) (l0 l1 : ℕ) (b0 b1 : List ℕ) (item : ℕ) : Type 0 where
+  pub made : Made w m here l0 l1 b0 b1
+  pub ready : (kinds : List Bool) → IsReady w kinds m → IsReady w kinds here
+  pub idle : l1 ≡ l0 → (t : ℕ) → t < item → has t here.scene.root.entries ≡ true → IsIdle (outcome_of w here.store here.scene t)
+
+pub passing_first : (w : Setting) (m : Moment) (left : ℕ) (before : List ℕ) → Passing w m m left left before before 0
+passing_first w m left before = record { made = made_none w m left before; ready = λ kinds h. h; idle = λ e t less. absurd (omega arith) }
+
+-- one item more
+pub passing_more : (w : Setting) (m here next : Moment) (l0 l1 l2 : ℕ) (b0 b1 b2 : List ℕ) (item : ℕ) → Passing w m here l0 l1 b0 b1 item
+    → ((kinds : List Bool) → IsReady w kinds here → IsReady w kinds next) → Looks w item here next l1 l2 b1 b2 None → Passing w m next l0 l2 b0 b2 (item + 1)
+passing_more w m here next l0 l1 l2 b0 b1 b2 item h ready (inl x) = record {
+  made = made_more w m here next l0 l1 l2 b0 b1 b2 item x.0 h.made x.1 x.2 x.3;
+  ready = λ kinds k. ready kinds (h.ready kinds k);
+  idle = λ e. absurd (omega (arith, e, x.2, h.made.spent));
+}
+passing_more w m here next l0 l1 l2 b0 b1 b2 item h ready (inr x) =
+    let same : l2 ≡ l1 = x.2 in
+    let made : Made w m here l0 l2 b0 b2 = subst (λ k. Made w m here l0 k b0 b2) (sym same) (subst (λ bs. Made w m here l0 l1 b0 bs) (sym x.3) h.made) in
+    let upto : l2 ≡ l0 → (t : ℕ) → t < item + 1 → has t here.scene.root.entries ≡ true → IsIdle (outcome_of w here.store here.scene t) =
+            λ e. below_more (λ t. has t here.scene.root.entries ≡ true → IsIdle (outcome_of w here.store here.scene t)) item (h.idle (sym same ∙ e)) x.0 in
+    record {
+      made = subst (λ (z : Moment). Made w m z l0 l2 b0 b2) (sym x.1) made;
+      ready = λ kinds k. ready kinds (h.ready kinds k);
+      idle = λ e. subst (λ (z : Moment). (t : ℕ) → t < item + 1 → has t z.scene.root.entries ≡ true → IsIdle (outcome_of w z.store z.scene t)) (sym x.1) (upto e);
+    }
+
+-- a pass that has come to the last item
+pub passing_last : (w : Setting) (kinds : List Bool) (m here : Moment) (l0 l1 : ℕ) (b0 b1 : List ℕ) (item : ℕ) → IsReady w kinds m → Passing w m here l0 l1 b0 b1 item → here.scene.next_item ≤ item → Passes w m here l0 l1 b0 b1 None
+passing_last w kinds m here l0 l1 b0 b1 item ready h le =
+    let r = h.ready kinds ready in
+    (h.made, λ e t lives. h.idle e t (omega (arith, lives_below here.scene.next_item t here.scene.root.entries r.flat r.sound.moment.items lives)) lives)
+
+-- one that ends before
+pub passing_ends : (w : Setting) (m here next : Moment) (l0 l1 l2 : ℕ) (b0 b1 b2 : List ℕ) (item : ℕ) (ending : Ending) → Passing w m here l0 l1 b0 b1 item → Looks w item here next l1 l2 b1 b2 (Some ending) → Passes w m next l0 l2 b0 b2 (Some ending)
+passing_ends w m here next l0 l1 l2 b0 b1 b2 item ending h x =
+    let same : l2 ≡ l1 = x.2 in
+    let made : Made w m here l0 l2 b0 b2 = subst (λ k. Made w m here l0 k b0 b2) (sym same) (subst (λ bs. Made w m here l0 l1 b0 bs) (sym x.3) h.made) in
+    let ends : EndsHere w l2 here ending = subst (λ k. EndsHere w k here ending) (sym same) x.0 in
+    (subst (λ (z : Moment). Made w m z l0 l2 b0 b2) (sym x.1) made, subst (λ (z : Moment). EndsHere w l2 z ending) (sym x.1) ends)
+
+-- the measure of a pass falls
+pub pass_falls : (left left' end end' item : ℕ) → item < end → end' < 2 ^ 64 → (left ≡ suc left') ⊎ ((left' ≡ left) × (end' ≡ end)) → left' * 2 ^ 64 + (end' - (item + 1)) < left * 2 ^ 64 + (end - item)
+pass_falls left left' end end' item less fits (inl e) = omega (arith, e)
+pass_falls left left' end end' item less fits (inr e) = omega (arith, e.0, e.1)

@@ -1,0 +1,29 @@
+use Rattle.std.proofs.Common.{◌≡◌, subst, Option, None, Some}
+use Rattle.tp_step.specs.declared.answer.Ending.{Ending}
+use Rattle.tp_step.specs.Answers.{moment_of, setting_of}
+use Rattle.tp_pass.specs.Closes.{Passes, Made}
+use Rattle.tp_pass.proofs.Picks.{made_on}
+use Rattle.tp_pass.proofs.pass.close_by_passes.Goals as goal
+
+pub passes-preserved : goal.passes-preserved
+passes-preserved g c =
+    let w = setting_of c.args.defs.now c.args.inputs.now c.args.state in
+    let m = moment_of c.args.scene.now c.args.store.now in
+    let here = moment_of c.passes.scene c.passes.store in
+    let next = moment_of c.pass.new.scene c.pass.new.store in
+    let At : Option Ending → Type 0 = λ e. Passes w here next c.passes.left c.pass.new.left c.passes.tally.picks c.pass.new.tally.picks e in
+    let one : At None = subst At c.in-None.is c.in_ok-ending.ensures.passes in
+    record {
+      made = made_on w m here next _ _ _ _ _ _ c.passes.invariant.made one.0;
+      ready = λ kinds h. c.in_ok-ending.ensures.ready kinds (c.passes.invariant.ready kinds h);
+    }
+
+pub returns-in-Some-clause-closes : goal.returns-in-Some-clause-closes
+returns-in-Some-clause-closes g c =
+    let w = setting_of c.args.defs.now c.args.inputs.now c.args.state in
+    let m = moment_of c.args.scene.now c.args.store.now in
+    let here = moment_of c.passes.scene c.passes.store in
+    let next = moment_of c.pass.new.scene c.pass.new.store in
+    let At : Option Ending → Type 0 = λ e. Passes w here next c.passes.left c.pass.new.left c.passes.tally.picks c.pass.new.tally.picks e in
+    let one : At (Some c.in-Some.ending) = subst At c.in-Some.is c.in_ok-ending.ensures.passes in
+    record { left = c.pass.new.left; made = made_on w m here next _ _ _ _ _ _ c.passes.invariant.made one.0; ends = one.1 }

@@ -1,0 +1,18 @@
+use Rattle.std.proofs.Common.{◌≡◌, ◌+◌, ◌*◌, ◌-◌, ◌^◌, ◌<◌, ◌≤◌, ℕ, true, Bool, List}
+use Rattle.tp_scene.specs.Scene.{has}
+use Rattle.tp_scene.specs.Pick.{outcome_of, IsIdle}
+use Rattle.tp_scene.specs.Built.{IsReady}
+use Rattle.tp_decide.specs.Read.{scene_of}
+use Rattle.tp_step.specs.Answers.{moment_of, setting_of}
+use Rattle.tp_pass.specs.Closes.{Made}
+use Rattle.tp_pass.proofs.Picks.{Passing}
+use Rattle.tp_pass.proofs.pass.pass.Given as goal
+
+abbrev pub invariant-items : goal.invariant-items
+invariant-items g l =
+    (l.end ≡ l.scene.next_item)
+    × (l.end < 2 ^ 64)
+    × Passing (setting_of l.defs l.inputs l.state) (moment_of l.initial.scene l.initial.store) (moment_of l.scene l.store) l.initial.left l.left l.initial.tally.picks l.tally.picks l.item
+
+abbrev pub decreases-items : goal.decreases-items
+decreases-items g l = l.left * 2 ^ 64 + (l.end - l.item)

@@ -1,0 +1,66 @@
+// The picture of a settled state.
+ghost use Rattle.std.specs.Prelude.{◌≡◌, IfOk};
+ghost use Rattle.std.specs.Ordering.{is_lt, is_gt};
+ghost use Rattle.tp_scene.specs.Advance.{shown_in};
+ghost use Rattle.tp_scene.specs.Built.{IsFlat};
+ghost use Rattle.tp_decide.specs.Read.{scene_of, shows_of};
+ghost use Rattle.tp_run.specs.States.{is_before, AreGlobals};
+
+use crate::turn::Picture;
+use std::alloc::Global;
+use std::cmp::Ordering;
+use tp_step::{Scene, Shows, shown};
+use tp_store::Store;
+use tp_value::{Fact, Facts, NoMemory};
+
+// The order of two facts: by their variables, and of one variable by their indices, a list before its items.
+fn compare(f: &Fact, g: &Fact) -> Ordering
+    ensures before { is_lt result ≡ is_before f.now g.now }
+    ensures after { is_gt result ≡ is_before g.now f.now }
+{
+    f.path
+        .var
+        .number
+        .cmp(&g.path.var.number)
+        .then_with(|| f.path.at.items.cmp(&g.path.at.items))
+}
+
+// The facts of so many globals, in order.
+fn global_facts(alloc: Global, store: &Store, globals: u64) -> Result<Facts, NoMemory>
+    ensures { IfOk result (λ facts. AreGlobals globals store.now.facts facts) }
+{
+    let mut facts = Facts {
+        items: Vec::new(alloc),
+    };
+    store.facts(globals, &mut facts)?;
+    facts.items.sort_by(compare)?;
+    Ok(facts)
+}
+
+/// The picture of the settled state of that number.
+pub fn settled_picture(
+    alloc: Global,
+    scene: &Scene,
+    store: &Store,
+    globals: u64,
+    state: u64,
+    reductions: u64,
+) -> Result<Picture, NoMemory>
+    requires { IsFlat (scene_of scene.now).root.entries }
+    ensures facts { IfOk result (λ picture. AreGlobals globals store.now.facts picture.facts) }
+    ensures shows { IfOk result (λ picture. shows_of picture.shows ≡ shown_in (scene_of scene.now).root.entries) }
+    ensures state { IfOk result (λ picture. picture.state ≡ state) }
+    ensures reductions { IfOk result (λ picture. picture.reductions ≡ reductions) }
+{
+    let facts = global_facts(alloc, store, globals)?;
+    let mut shows = Shows {
+        items: Vec::new(alloc),
+    };
+    shown(alloc, scene, &mut shows)?;
+    Ok(Picture {
+        state,
+        facts,
+        shows,
+        reductions,
+    })
+}

@@ -1,0 +1,36 @@
+use Rattle.std.proofs.Common.{◌≡◌, ◌∙◌, ℕ, List, ap, sym, subst, Option, Some, None}
+use Rattle.tp_scene.specs.Scene.{Place}
+use Rattle.tp_scene.specs.Rest.{unsettled_items}
+use Rattle.tp_decide.specs.declared.scene.Entry.{Entry}
+use Rattle.tp_step.specs.declared.answer.Mark.TheVariants as mark
+use Rattle.tp_decide.specs.Read.{entries_in}
+use Rattle.tp_decide.specs.Flat.{AreFlat, leaves_of, first_of}
+use Rattle.tp_decide.proofs.FlatLemmas.{are_flat}
+use Rattle.tp_step.proofs.LiveLemmas.{settles_waiting, settles_as}
+use Rattle.tp_step.proofs.live.settled.Goals as goal
+
+at_root : (o r : Option ℕ) (xs ys : List Entry) → xs ≡ ys → o ≡ r → ((p : Place) → o ≡ first_of (unsettled_items (leaves_of xs) p)) → (p : Place) → r ≡ first_of (unsettled_items (leaves_of ys) p)
+at_root o r xs ys e h f = λ p. sym h ∙ f p ∙ ap (λ (zs : List Entry). first_of (unsettled_items (leaves_of zs) p)) e
+
+pub first_unsettled-requires : goal.first_unsettled-requires
+first_unsettled-requires c = subst AreFlat (sym c.as_slice.ensures.value) (are_flat (entries_in c.args.scene.now.root) c.requires)
+
+pub returns-in-Some : goal.returns-in-Some
+returns-in-Some c =
+    settles_waiting c.args.scene.now c.in-Some.item c.requires
+    (at_root c.first_unsettled.result (Some c.in-Some.item) c.as_slice.result.now (entries_in c.args.scene.now.root) c.as_slice.ensures.value c.in-Some.is c.first_unsettled.ensures)
+
+pub returns-in-Open : goal.returns-in-Open
+returns-in-Open c =
+    settles_as c.args.scene.now mark.Open c.requires
+    (at_root c.first_unsettled.result None c.as_slice.result.now (entries_in c.args.scene.now.root) c.as_slice.ensures.value c.in-None.is c.first_unsettled.ensures) (sym c.in-Open.is ∙ c.status.ensures)
+
+pub returns-in-Ends : goal.returns-in-Ends
+returns-in-Ends c =
+    settles_as c.args.scene.now mark.Ends c.requires
+    (at_root c.first_unsettled.result None c.as_slice.result.now (entries_in c.args.scene.now.root) c.as_slice.ensures.value c.in-None.is c.first_unsettled.ensures) (sym c.in-Ends.is ∙ c.status.ensures)
+
+pub returns-in-Goes : goal.returns-in-Goes
+returns-in-Goes c =
+    settles_as c.args.scene.now mark.Goes c.requires
+    (at_root c.first_unsettled.result None c.as_slice.result.now (entries_in c.args.scene.now.root) c.as_slice.ensures.value c.in-None.is c.first_unsettled.ensures) (sym c.in-Goes.is ∙ c.status.ensures)

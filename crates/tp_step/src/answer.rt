@@ -1,0 +1,109 @@
+// What the calls on a scene answer.
+ghost use Rattle.std.specs.Prelude.{◌≡◌, [], IfOk};
+
+use std::alloc::Global;
+use std::marker::Model;
+use tp_kernel::LimitKind;
+use tp_scene::{Cell, Clash};
+use tp_value::{Facts, Text};
+
+/// Numbers of items, in order.
+#[derive(Debug, Drop)]
+pub struct ItemIds {
+    pub items: Vec<u64>,
+}
+
+impl Model for ItemIds {
+    ghost use Rattle.std.specs.Prelude.{List, ℕ};
+
+    ghost Value = { List ℕ };
+
+    ghost view = { λ a. a.items.items };
+}
+
+impl ItemIds {
+    /// No item.
+    pub fn new(alloc: Global) -> ItemIds
+        ensures { result ≡ [] }
+    {
+        ItemIds {
+            items: Vec::new(alloc),
+        }
+    }
+}
+
+/// What a reduction brought: the items that became live, the new facts, and the region that was marked.
+#[derive(Drop)]
+pub struct News {
+    pub items: ItemIds,
+    pub facts: Facts,
+    pub marked: Option<u64>,
+}
+
+/// What became of an item that was tried: it was reduced; it waits for a cell, and perhaps a second one; it rests; it meets a clash;
+/// the inputs have no value for the port; or it would pass a limit.
+#[derive(Drop)]
+pub enum Tried {
+    Reduced(News),
+    Waits(Cell, Option<Cell>),
+    Rests,
+    Clash(Clash),
+    Missing(Text),
+    Over(LimitKind),
+}
+
+/// A region's status: open, or it ends with this state, or it goes on.
+#[derive(Clone, Copy, Debug, PartialEq, Eq)]
+pub enum Mark {
+    Open,
+    Ends,
+    Goes,
+}
+
+/// What a scene has come to: the first item that isn't done with this state, or else the root's status.
+#[derive(Clone, Copy, Debug, PartialEq, Eq)]
+pub enum Settled {
+    Waiting(u64),
+    EndOpen,
+    Ends,
+    Goes,
+}
+
+/// Which item is tried next.
+#[derive(Clone, Copy, Debug, PartialEq, Eq)]
+pub enum Order {
+    First,
+    Last,
+    Seed(u64),
+}
+
+/// An item that waits, with its cells.
+#[derive(Drop)]
+pub struct Wait {
+    pub item: u64,
+    pub first: Cell,
+    pub other: Option<Cell>,
+}
+
+/// Waits, in order.
+#[derive(Drop)]
+pub struct Waits {
+    pub items: Vec<Wait>,
+}
+
+/// What a closure has done: the items that it reduced, those that it found waiting, and those that it found at rest.
+#[derive(Drop)]
+pub struct Tally {
+    pub picks: ItemIds,
+    pub waits: Waits,
+    pub rests: ItemIds,
+}
+
+/// What a closure ends with.
+#[derive(Drop)]
+pub enum Ending {
+    Rest,
+    Clash(Clash),
+    Missing(Text),
+    Over(LimitKind),
+}
