@@ -161,15 +161,15 @@ bare_fits names Empty = (tt, tt)
 bare_fits names More = (tt, tt)
 bare_fits names Skip = (tt, tt)
 
-abbrev AllRunnable : Names → List FormulaTree → Type 0
-AllRunnable names ws = HaveBuiltKinds (formulas_of ws) × FormulasFit [] (kinds_of names) (formulas_of ws) 0
+abbrev AllBuilt : Names → List FormulaTree → Type 0
+AllBuilt names ws = HaveBuiltKinds (formulas_of ws) × FormulasFit [] (kinds_of names) (formulas_of ws) 0
 
 mutual
   pub formula_fits : (names : Names) (p : PhraseTree) → IfOk (formula_of names p) (IsBuilt names)
   formula_fits names (phrase at kind) = formula_kind_fits names at kind
 
   formula_kind_fits : (names : Names) (at : ℕ) (kind : k.KindTree) → IfOk (formula_of_kind names at kind) (IsBuilt names)
-  formula_kind_fits names at (k.conjunction ps) = mapped_ok _ (formulas_in names ps) (AllRunnable names) (IsBuilt names) (formulas_fit names ps) (λ ws h. h)
+  formula_kind_fits names at (k.conjunction ps) = mapped_ok _ (formulas_in names ps) (AllBuilt names) (IsBuilt names) (formulas_fit names ps) (λ ws h. h)
   formula_kind_fits names at (k.truth true) = (tt, tt)
   formula_kind_fits names at (k.negation p) = negation_fits names at p
   formula_kind_fits names at (k.binary o l r) = binary_fits names at o l r
@@ -197,7 +197,7 @@ mutual
   formula_kind_fits names at (k.call x ps) = tt
   formula_kind_fits names at kind = state_fits names at kind
 
-  formulas_fit : (names : Names) (ps : PhraseTrees) → IfOk (formulas_in names ps) (AllRunnable names)
+  formulas_fit : (names : Names) (ps : PhraseTrees) → IfOk (formulas_in names ps) (AllBuilt names)
   formulas_fit names no_phrase = (tt, tt)
   formulas_fit names (phrase_then p ps) =
-      both_ok _ (formula_of names p) (formulas_in names ps) (IsBuilt names) (AllRunnable names) (AllRunnable names) (formula_fits names p) (formulas_fit names ps) (λ x y g h. ((g.0, h.0), (g.1, h.1)))
+      both_ok _ (formula_of names p) (formulas_in names ps) (IsBuilt names) (AllBuilt names) (AllBuilt names) (formula_fits names p) (formulas_fit names ps) (λ x y g h. ((g.0, h.0), (g.1, h.1)))

@@ -11,7 +11,7 @@ use Rattle.tp_eval.specs.Outcome as found
 use Rattle.tp_scene.specs.declared.answer.Clash.TheVariants as clash
 use Rattle.tp_scene.specs.Step as row
 use Rattle.tp_scene.specs.Step.{Outcome}
-use Rattle.tp_decide.specs.declared.decide.Decision.{Decision}
+use Rattle.tp_decide.specs.declared.decision.Decision.{Decision}
 use Rattle.tp_decide.specs.Decided.{decided, ValueIn, TruthIn, NumberIn, IsNoSize}
 
 pub truth_without : (o p : found.Outcome) (d : Decision) → TruthIn o (Err d) → o ≡ p → (f : Bool → Outcome) (facts : List Fact) → decided facts d ≡ row.with_truth p f

@@ -17,11 +17,11 @@ use Rattle.tp_scene.specs.Scene as S
 use Rattle.tp_scene.specs.Step as row
 use Rattle.tp_scene.specs.Step.{Outcome, Numbers}
 use Rattle.tp_scene.specs.Fits.{kinds_in, PhraseFits}
-use Rattle.tp_decide.specs.declared.decide.Side as side
-use Rattle.tp_decide.specs.declared.decide.Side.TheVariants as mark
-use Rattle.tp_decide.specs.declared.decide.Place.{Place}
-use Rattle.tp_decide.specs.declared.decide.Decision.{Decision}
-use Rattle.tp_decide.specs.declared.decide.Decision.TheVariants as decision
+use Rattle.tp_decide.specs.declared.decision.Side as side
+use Rattle.tp_decide.specs.declared.decision.Side.TheVariants as mark
+use Rattle.tp_decide.specs.declared.decision.Place.{Place}
+use Rattle.tp_decide.specs.declared.decision.Decision.{Decision}
+use Rattle.tp_decide.specs.declared.decision.Decision.TheVariants as decision
 use Rattle.tp_decide.specs.declared.equation.Target.{Target}
 use Rattle.tp_decide.specs.declared.equation.Target.TheVariants as target
 use Rattle.tp_decide.specs.declared.equation.Side.{Side}

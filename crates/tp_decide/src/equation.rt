@@ -15,7 +15,7 @@ ghost use Rattle.tp_scene.specs.Fits.{kinds_in};
 ghost use Rattle.tp_store.specs.Known.{Variable, IsVariableOf};
 ghost use Rattle.tp_decide.specs.Decided.{decided, option_target, side_of, PathIn, IsNoSize, IsPathOf, IsTargetOf, SetsVariables};
 
-use crate::decide::{Decision, nothing};
+use crate::decision::{Decision, nothing};
 use std::alloc::Global;
 use tp_eval::{Outcome, PlaceOutcome, eval, is_place, place};
 use tp_kernel::{Defs, Env, Expr, FaultKind, LimitKind};

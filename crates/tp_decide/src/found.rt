@@ -5,7 +5,7 @@ ghost use Rattle.tp_value.specs.declared.path.Fact.{Fact};
 ghost use Rattle.tp_scene.specs.Step as row;
 ghost use Rattle.tp_decide.specs.Decided.{decided, TruthIn, NumberIn, ValueIn, IsPlain};
 
-use crate::decide::Decision;
+use crate::decision::Decision;
 use tp_eval::Outcome;
 use tp_kernel::FaultKind;
 use tp_scene::{Cell, Clash};

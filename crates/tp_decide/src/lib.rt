@@ -2,11 +2,11 @@
 //! above.
 #![tactic(auto)]
 
-mod decide;
+mod decision;
 mod env;
 mod equation;
 mod found;
 mod scene;
 
-pub use decide::{Decision, Place, Side, decide};
+pub use decision::{Decision, Place, Side, decide};
 pub use scene::{Entries, Entry, Item, Phrase, Region, Scene, Shows, Values};

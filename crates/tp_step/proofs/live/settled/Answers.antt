@@ -6,6 +6,7 @@ use Rattle.tp_step.specs.declared.answer.Mark.TheVariants as mark
 use Rattle.tp_decide.specs.Read.{entries_in}
 use Rattle.tp_decide.specs.Flat.{AreFlat, leaves_of, first_of}
 use Rattle.tp_decide.proofs.FlatLemmas.{are_flat}
+use Rattle.tp_step.proofs.MeaningLemmas.{end_means}
 use Rattle.tp_step.proofs.LiveLemmas.{settles_waiting, settles_as}
 use Rattle.tp_step.proofs.live.settled.Goals as goal
 
@@ -15,22 +16,34 @@ at_root o r xs ys e h f = λ p. sym h ∙ f p ∙ ap (λ (zs : List Entry). firs
 pub first_unsettled-requires : goal.first_unsettled-requires
 first_unsettled-requires c = subst AreFlat (sym c.as_slice.ensures.value) (are_flat (entries_in c.args.scene.now.root) c.requires)
 
-pub returns-in-Some : goal.returns-in-Some
-returns-in-Some c =
+pub returns-in-Some-clause-settled : goal.returns-in-Some-clause-settled
+returns-in-Some-clause-settled c =
     settles_waiting c.args.scene.now c.in-Some.item c.requires
     (at_root c.first_unsettled.result (Some c.in-Some.item) c.as_slice.result.now (entries_in c.args.scene.now.root) c.as_slice.ensures.value c.in-Some.is c.first_unsettled.ensures)
 
-pub returns-in-Open : goal.returns-in-Open
-returns-in-Open c =
+pub returns-in-Open-clause-settled : goal.returns-in-Open-clause-settled
+returns-in-Open-clause-settled c =
     settles_as c.args.scene.now mark.Open c.requires
     (at_root c.first_unsettled.result None c.as_slice.result.now (entries_in c.args.scene.now.root) c.as_slice.ensures.value c.in-None.is c.first_unsettled.ensures) (sym c.in-Open.is ∙ c.status.ensures)
 
-pub returns-in-Ends : goal.returns-in-Ends
-returns-in-Ends c =
+pub returns-in-Ends-clause-settled : goal.returns-in-Ends-clause-settled
+returns-in-Ends-clause-settled c =
     settles_as c.args.scene.now mark.Ends c.requires
     (at_root c.first_unsettled.result None c.as_slice.result.now (entries_in c.args.scene.now.root) c.as_slice.ensures.value c.in-None.is c.first_unsettled.ensures) (sym c.in-Ends.is ∙ c.status.ensures)
 
-pub returns-in-Goes : goal.returns-in-Goes
-returns-in-Goes c =
+pub returns-in-Goes-clause-settled : goal.returns-in-Goes-clause-settled
+returns-in-Goes-clause-settled c =
     settles_as c.args.scene.now mark.Goes c.requires
     (at_root c.first_unsettled.result None c.as_slice.result.now (entries_in c.args.scene.now.root) c.as_slice.ensures.value c.in-None.is c.first_unsettled.ensures) (sym c.in-Goes.is ∙ c.status.ensures)
+
+pub returns-in-Some-clause-ends : goal.returns-in-Some-clause-ends
+returns-in-Some-clause-ends c = end_means c.args.scene.now
+
+pub returns-in-Open-clause-ends : goal.returns-in-Open-clause-ends
+returns-in-Open-clause-ends c = end_means c.args.scene.now
+
+pub returns-in-Ends-clause-ends : goal.returns-in-Ends-clause-ends
+returns-in-Ends-clause-ends c = end_means c.args.scene.now
+
+pub returns-in-Goes-clause-ends : goal.returns-in-Goes-clause-ends
+returns-in-Goes-clause-ends c = end_means c.args.scene.now

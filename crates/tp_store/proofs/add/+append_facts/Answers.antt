@@ -26,5 +26,5 @@ returns-after-loop-k t c =
     let xs = c.in-List.all.items.items in
     let seen = ap tree c.in-List.is ∙ tree_list c.in-List.all in
     after_items tree c.args.path.now xs c.loop-k.k c.loop-k.out.items (omega (arith, c.in-List.all.items.ok.0)) ∙ c.loop-k.invariant
-    ∙ list_facts tree c.args.path.now xs c.args.out.now.items c.push-in-List.new.self.items c.in_ok-fact-in-List.fact _ (c.in_ok-length.ensures ∙ c.len-length.ensures ∙ c.in-List.all.items.ok.0) c.in_ok-fact-in-List.ensures c.in_ok-push-in-List.ensures.items
+    ∙ list_facts tree c.args.path.now xs c.args.out.now.items c.push-in-List.new.self.items c.in_ok-fact-in-List.fact _ (c.in_ok-length-in-List.ensures ∙ c.len.ensures ∙ c.in-List.all.items.ok.0) c.in_ok-fact-in-List.ensures c.in_ok-push-in-List.ensures.items
     ∙ ap (λ s. c.args.out.now.items ++ facts_at c.args.path.now s) (sym seen)

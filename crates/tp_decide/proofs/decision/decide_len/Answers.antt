@@ -3,7 +3,7 @@ use Rattle.std.proofs.Common.{◌≡◌, ◌∙◌, ap}
 use Rattle.tp_kernel.specs.Read.{bindings_of}
 use Rattle.tp_scene.specs.Step.{Outcome, length_left, with_number}
 use Rattle.tp_decide.specs.Decided.{numbers_from}
-use Rattle.tp_decide.proofs.decide.decide_len.Goals as goal
+use Rattle.tp_decide.proofs.decision.decide_len.Goals as goal
 
 pub returns-in-Err-clause-outcome : goal.returns-in-Err-clause-outcome
 returns-in-Err-clause-outcome c = λ facts.

@@ -5,7 +5,7 @@ use Rattle.tp_scene.specs.Scene.{append}
 use Rattle.tp_scene.specs.Step.{all_do}
 use Rattle.tp_decide.specs.Read.{entries_of}
 use Rattle.tp_decide.specs.Decided.{numbers_from}
-use Rattle.tp_decide.proofs.decide.decide_and.Given as goal
+use Rattle.tp_decide.proofs.decision.decide_and.Given as goal
 
 abbrev pub invariant-loop-k : goal.invariant-loop-k
 invariant-loop-k l = record {

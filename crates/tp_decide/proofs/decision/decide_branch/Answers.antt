@@ -3,7 +3,7 @@ use Rattle.std.proofs.Common.{◌≡◌, ◌∙◌, ap}
 use Rattle.tp_kernel.specs.Read.{formula_tree, bindings_of}
 use Rattle.tp_scene.specs.Scene.{leaf, none, Do}
 use Rattle.tp_scene.specs.Step.{Outcome, becomes, with_truth}
-use Rattle.tp_decide.proofs.decide.decide_branch.Goals as goal
+use Rattle.tp_decide.proofs.decision.decide_branch.Goals as goal
 
 pub returns-in-Err-clause-outcome : goal.returns-in-Err-clause-outcome
 returns-in-Err-clause-outcome c = λ facts.

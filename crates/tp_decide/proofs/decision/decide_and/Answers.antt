@@ -6,7 +6,7 @@ use Rattle.tp_scene.specs.Step.{all_do, becomes, count_of}
 use Rattle.tp_decide.specs.Read.{entries_of}
 use Rattle.tp_decide.specs.Decided.{numbers_from}
 use Rattle.tp_decide.proofs.DecideLemmas.{trees_in, and_more, and_done, count_is}
-use Rattle.tp_decide.proofs.decide.decide_and.Goals as goal
+use Rattle.tp_decide.proofs.decision.decide_and.Goals as goal
 
 pub loop-k-init : goal.loop-k-init
 loop-k-init c = record {

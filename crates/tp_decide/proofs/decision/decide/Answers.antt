@@ -1,4 +1,4 @@
-use Rattle.tp_decide.proofs.decide.decide.Goals as goal
+use Rattle.tp_decide.proofs.decision.decide.Goals as goal
 
 pub returns-in-True-clause-variables : goal.returns-in-True-clause-variables
 returns-in-True-clause-variables c = c.nothing.ensures.plain c.args.store.now.variables

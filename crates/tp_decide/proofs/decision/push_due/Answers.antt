@@ -1,6 +1,6 @@
 use Rattle.tp_kernel.specs.Read.{formula_tree, bindings_of}
 use Rattle.tp_decide.proofs.DecideLemmas.{pushed}
-use Rattle.tp_decide.proofs.decide.push_due.Goals as goal
+use Rattle.tp_decide.proofs.decision.push_due.Goals as goal
 
 pub returns-clause-entries : goal.returns-clause-entries
 returns-clause-entries c =
