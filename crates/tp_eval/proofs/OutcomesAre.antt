@@ -15,10 +15,10 @@ use Rattle.tp_meaning.proofs.Deeper.{value_deeper}
 use Rattle.tp_store.specs.Facts.{AgreesWithAll, kept_shape, is_excluded}
 use Rattle.tp_store.specs.Known.{NoClash}
 use Rattle.tp_eval.specs.Reached.{Reached, reaches, stops, waits, faults, passes, with_reached}
-use Rattle.tp_eval.specs.Evaluate.{Place, at_path, inside, is_place, evaluate, find_place, depth_limit}
+use Rattle.tp_eval.specs.Evaluate.{Place, at_path, inside, element_in, is_place, evaluate, find_place, depth_limit}
 use Rattle.tp_eval.specs.Outcome as found
 use Rattle.tp_eval.specs.Outcome.{outcome, place_outcome, outcome_reached, place_reached}
-use Rattle.tp_eval.specs.Right.{values_at, OutcomesAreRight, OutcomesMean, WaitsAreUndecided, meant_here, value_here}
+use Rattle.tp_eval.specs.Right.{values_at, OutcomesAreRight, OutcomesMean, WaitsAreUndecided, PlaceWaitsAreUndecided, meant_here, value_here}
 use Rattle.tp_eval.proofs.Agree.{IsUndecided, Agrees}
 use Rattle.tp_eval.proofs.Found.{sized, shape_of_element, size_by_shape}
 use Rattle.tp_eval.proofs.PlaceLemmas.{FactsAreRight, meaning_of_place}
@@ -145,3 +145,21 @@ unfolding outcome
 waits_are_undecided facts defs e env p apart h =
     wait_found facts ⊥ (evaluate facts defs depth_limit e env 0) p _ h
     (evaluate_agrees facts ⊥ defs [] nowhere (λ n j. truth true) 0 (no_state_is_right facts (values_at 0 nowhere (λ n j. truth true) 0) apart) (λ w. absurd w) depth_limit depth_limit (omega arith) 0 e env (λ w. absurd w) 0)
+
+inside_never_waits : (o : Option Tree) (calls : ℕ) (p : Path) → outcome_reached (element_in o calls) ≡ found.wait p → ⊥
+inside_never_waits (Some t) calls p h = cc
+inside_never_waits None calls p h = cc
+
+place_wait_found : {B : Type 0} (facts : List Fact) (Agreeing : Type 0) (mean : Place → Option B) (r : Reached Place) (p : Path) (o : Option B) → place_reached facts r ≡ found.other (found.wait p) → Agrees facts Agreeing mean r o
+    → IsUndecided facts p
+place_wait_found facts Agreeing mean (reaches (at_path q) c) p o h k = absurd (cc)
+place_wait_found facts Agreeing mean (reaches (inside t at) c) p o h k = absurd (inside_never_waits (item_at at t) c p (cc))
+place_wait_found facts Agreeing mean (stops (waits q)) p o h k = let same : q ≡ p = cc in (ap (kept_shape facts) (sym same) ∙ k.0, ap (is_excluded facts) (sym same) ∙ k.1)
+place_wait_found facts Agreeing mean (stops (faults j)) p o h k = absurd (cc)
+place_wait_found facts Agreeing mean (stops (passes j)) p o h k = absurd (cc)
+
+pub place_waits_are_undecided : PlaceWaitsAreUndecided
+unfolding place_outcome
+place_waits_are_undecided facts defs e env p apart h =
+    place_wait_found facts ⊥ (meaning_of_place facts ⊥ [] nowhere (λ n j. truth true) 0) (find_place facts defs depth_limit e env 0) p _ h
+    (find_place_agrees facts ⊥ defs [] nowhere (λ n j. truth true) 0 (no_state_is_right facts (values_at 0 nowhere (λ n j. truth true) 0) apart) (λ w. absurd w) depth_limit depth_limit (omega arith) 0 e env (λ w. absurd w) 0)

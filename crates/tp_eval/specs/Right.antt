@@ -61,3 +61,8 @@ OutcomesMean = (facts : List Fact) (defs : List Definition) (kinds : List Bool) 
 abbrev pub WaitsAreUndecided : Type 0
 WaitsAreUndecided = (facts : List Fact) (defs : List Definition) (e : ExprTree) (env : List BindingTree) (p : Path)
     → NoClash facts → outcome facts defs e env ≡ found.wait p → (kept_shape facts p ≡ None) × (is_excluded facts p ≡ false)
+
+-- and so has one that a place waits for
+abbrev pub PlaceWaitsAreUndecided : Type 0
+PlaceWaitsAreUndecided = (facts : List Fact) (defs : List Definition) (e : ExprTree) (env : List BindingTree) (p : Path)
+    → NoClash facts → place_outcome facts defs e env ≡ found.other (found.wait p) → (kept_shape facts p ≡ None) × (is_excluded facts p ≡ false)
