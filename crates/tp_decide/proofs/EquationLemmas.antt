@@ -1,6 +1,6 @@
 -- Sides of equations, and what is decided without a value.
-use Rattle.std.proofs.Common.{◌≡◌, ℤ, ℕ, Bool, true, false, cond, List, [], refl, ap, sym, ◌∙◌, subst, inl, inr, IsTrue, Option, Some, None, ◌↔◌}
-use Rattle.std.specs.Prelude.{Result, Ok, Err}
+use Rattle.std.proofs.Common.{◌≡◌, ℤ, Bool, true, cond, List, [], refl, ap, ◌∙◌, inl, inr, Option}
+use Rattle.std.specs.Prelude.{Err}
 use Rattle.std.proofs.lemmas.Bool.{cases_Bool}
 use Rattle.tp_value.specs.Tree.{Tree, same_tree, SameTreeIsEquality}
 use Rattle.tp_value.specs.declared.path.Fact.{Fact}
@@ -46,7 +46,6 @@ side b t o = record { placed = b; target = t; found = o }
 
 pub side_same : (b c : Bool) (t u : Option row.Target) (o p : found.Outcome) → b ≡ c → t ≡ u → o ≡ p → side b t o ≡ side c u p
 side_same b c t u o p e f g = ap (λ x. side x t o) e ∙ ap (λ x. side c x o) f ∙ ap (side c u) g
-
 
 -- the values are equal, or aren't
 pub equal_vanishes : (s t : Tree) → SameTreeIsEquality → s ≡ t → row.vanishes ≡ cond (same_tree s t) row.vanishes (row.clashes clash.False)

@@ -5,10 +5,8 @@ use Rattle.tp_scene.specs.Scene.{append}
 use Rattle.tp_scene.specs.Built.{IsFlat}
 use Rattle.tp_decide.specs.declared.scene.Item.TheOpen.{Item-F}
 use Rattle.tp_decide.specs.declared.scene.Item.TheFolds.{fold-roll-Item}
-use Rattle.tp_decide.specs.declared.scene.Item.{Item, out-Item, roll-Item, roll-out-Item}
-use Rattle.tp_decide.specs.declared.scene.Entries.{Entries}
+use Rattle.tp_decide.specs.declared.scene.Item.{Item, out-Item, roll-out-Item}
 use Rattle.tp_decide.specs.declared.scene.Entry.{Entry}
-use Rattle.tp_decide.specs.declared.scene.Region.{Region}
 use Rattle.tp_decide.specs.Read.{InFront, NumberedInFront, item_step, entries_step, entry_step, region_step, item_tree, entries_of}
 use Rattle.tp_decide.specs.Flat.{first_leaf, leaf_of, IsFlatItem, AreFlat, leaves_of}
 

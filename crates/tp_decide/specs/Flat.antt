@@ -1,5 +1,5 @@
 -- Items without a region.
-use Rattle.std.specs.Prelude.{◌≡◌, ℕ, zero, suc, Bool, true, false, eqb, List, [], ◌∷◌, Option, Some, None}
+use Rattle.std.specs.Prelude.{◌≡◌, ℕ, zero, suc, true, false, eqb, List, [], ◌∷◌, Option, Some, None}
 use Rattle.tp_scene.specs.Scene as S
 use Rattle.tp_scene.specs.Scene.{Leaf}
 use Rattle.tp_scene.specs.Built.{IsFlat}

@@ -2,12 +2,10 @@
 ghost use Rattle.std.specs.Prelude.{◌≡◌, List, ◌+◌, ◌≤◌, ◌∷◌, ◌-◌, [], IfOk, OnOk, length, if◌then◌else◌, None};
 ghost use Rattle.tp_meaning.specs.Syntax.{known, equation, weak_next, if_more, if_empty, always, conjunction};
 ghost use Rattle.tp_meaning.specs.Unfolding.{nexts};
-ghost use Rattle.tp_meaning.specs.Fits.{ExprFits, FormulaFits, BindingsFit};
 ghost use Rattle.tp_kernel.specs.Read.{expr_tree, formula_tree, formula_trees, definitions_of, bindings_of};
 ghost use Rattle.tp_kernel.specs.Built.{HasBuiltKinds};
 ghost use Rattle.tp_value.specs.Read.{tree};
 ghost use Rattle.tp_value.specs.declared.path.Fact.{Fact};
-ghost use Rattle.tp_store.specs.Known.{IsVariableOf};
 ghost use Rattle.tp_eval.specs.Outcome.{outcome};
 ghost use Rattle.tp_scene.specs.Scene as S;
 ghost use Rattle.tp_scene.specs.Step as row;
@@ -173,7 +171,13 @@ fn wait_for_end(place: Place) -> Decision
 }
 
 // By the region's status: the formula from the next state on, or nothing.
-fn decide_weak_next(alloc: Global, what: &Rc<Formula>, env: &Env, place: Place, next: u64) -> Result<Decision, NoMemory>
+fn decide_weak_next(
+    alloc: Global,
+    what: &Rc<Formula>,
+    env: &Env,
+    place: Place,
+    next: u64,
+) -> Result<Decision, NoMemory>
     ensures outcome { IfOk result (λ d. (facts : List Fact) → decided facts d ≡ row.formula_step [] [] 0 facts (weak_next (formula_tree what.now.value)) (bindings_of env.now) (place_of place) (numbers_from next)) }
     ensures plain { IfOk result IsPlain }
 {
@@ -187,7 +191,13 @@ fn decide_weak_next(alloc: Global, what: &Rc<Formula>, env: &Env, place: Place, 
     }
 }
 
-fn decide_if_more(alloc: Global, what: &Rc<Formula>, env: &Env, place: Place, next: u64) -> Result<Decision, NoMemory>
+fn decide_if_more(
+    alloc: Global,
+    what: &Rc<Formula>,
+    env: &Env,
+    place: Place,
+    next: u64,
+) -> Result<Decision, NoMemory>
     ensures outcome { IfOk result (λ d. (facts : List Fact) → decided facts d ≡ row.formula_step [] [] 0 facts (if_more (formula_tree what.now.value)) (bindings_of env.now) (place_of place) (numbers_from next)) }
     ensures plain { IfOk result IsPlain }
 {
@@ -201,7 +211,13 @@ fn decide_if_more(alloc: Global, what: &Rc<Formula>, env: &Env, place: Place, ne
     }
 }
 
-fn decide_if_empty(alloc: Global, what: &Rc<Formula>, env: &Env, place: Place, next: u64) -> Result<Decision, NoMemory>
+fn decide_if_empty(
+    alloc: Global,
+    what: &Rc<Formula>,
+    env: &Env,
+    place: Place,
+    next: u64,
+) -> Result<Decision, NoMemory>
     ensures outcome { IfOk result (λ d. (facts : List Fact) → decided facts d ≡ row.formula_step [] [] 0 facts (if_empty (formula_tree what.now.value)) (bindings_of env.now) (place_of place) (numbers_from next)) }
     ensures plain { IfOk result IsPlain }
 {
@@ -216,7 +232,13 @@ fn decide_if_empty(alloc: Global, what: &Rc<Formula>, env: &Env, place: Place, n
 }
 
 // The formula now, and all of it again from the next state on.
-fn decide_always(alloc: Global, all: &Rc<Formula>, what: &Rc<Formula>, env: &Env, next: u64) -> Result<Decision, NoMemory>
+fn decide_always(
+    alloc: Global,
+    all: &Rc<Formula>,
+    what: &Rc<Formula>,
+    env: &Env,
+    next: u64,
+) -> Result<Decision, NoMemory>
     requires { formula_tree all.now.value ≡ always (formula_tree what.now.value) }
     ensures outcome { IfOk result (λ d. (facts : List Fact) → decided facts d ≡ row.becomes (S.leaf (0 + next) (S.Do (formula_tree what.now.value) (bindings_of env.now)) (S.leaf (1 + next) (S.Do (weak_next (always (formula_tree what.now.value))) (bindings_of env.now)) S.none)) 2) }
     ensures plain { IfOk result IsPlain }
@@ -228,7 +250,12 @@ fn decide_always(alloc: Global, all: &Rc<Formula>, what: &Rc<Formula>, env: &Env
     Ok(becomes(news))
 }
 
-fn decide_and(alloc: Global, operands: &Formulas, env: &Env, next: u64) -> Result<Decision, NoMemory>
+fn decide_and(
+    alloc: Global,
+    operands: &Formulas,
+    env: &Env,
+    next: u64,
+) -> Result<Decision, NoMemory>
     ensures outcome { IfOk result (λ d. (facts : List Fact) → decided facts d ≡ row.becomes (row.all_do (formula_trees operands.now) (bindings_of env.now) (numbers_from next).item 0) (row.count_of (formula_trees operands.now))) }
     ensures plain { IfOk result IsPlain }
 {
@@ -240,7 +267,13 @@ fn decide_and(alloc: Global, operands: &Formulas, env: &Env, next: u64) -> Resul
     Ok(becomes(news))
 }
 
-fn decide_test(alloc: Global, expr: &Expr, env: &Env, store: &Store, defs: &Defs) -> Result<Decision, NoMemory>
+fn decide_test(
+    alloc: Global,
+    expr: &Expr,
+    env: &Env,
+    store: &Store,
+    defs: &Defs,
+) -> Result<Decision, NoMemory>
     requires { definitions_of defs.now ≡ [] }
     ensures outcome { IfOk result (λ d. (facts : List Fact) → decided facts d ≡ row.with_truth (outcome store.now.facts (definitions_of defs.now) (expr_tree expr.now) (bindings_of env.now)) (λ b. if b then row.vanishes else row.clashes Clash.False)) }
     ensures plain { IfOk result IsPlain }
@@ -398,7 +431,13 @@ fn decide_next_equation(
     }
 }
 
-fn decide_next(alloc: Global, what: &Rc<Formula>, env: &Env, place: Place, next: u64) -> Result<Decision, NoMemory>
+fn decide_next(
+    alloc: Global,
+    what: &Rc<Formula>,
+    env: &Env,
+    place: Place,
+    next: u64,
+) -> Result<Decision, NoMemory>
     ensures outcome { IfOk result (λ d. (facts : List Fact) → decided facts d ≡ row.going (place_of place) (S.leaf (0 + next) (S.Later (formula_tree what.now.value) (bindings_of env.now)) S.none) 1) }
     ensures plain { IfOk result IsPlain }
 {

@@ -1,8 +1,7 @@
 // What becomes of an equation.
-ghost use Rattle.std.specs.Prelude.{◌≡◌, IfOk, Bool, List, length, [], None, MatchOption};
+ghost use Rattle.std.specs.Prelude.{◌≡◌, IfOk, Bool, List, [], None, MatchOption};
 ghost use Rattle.tp_value.specs.Read.{tree};
 ghost use Rattle.tp_value.specs.Tree.{num};
-ghost use Rattle.tp_meaning.specs.Fits.{ExprFits, BindingsFit};
 ghost use Rattle.tp_kernel.specs.Read.{expr_tree, definitions_of, bindings_of};
 ghost use Rattle.tp_value.specs.declared.path.Fact.{Fact};
 ghost use Rattle.tp_value.specs.declared.path.Path.{Path};
@@ -11,9 +10,8 @@ ghost use Rattle.tp_eval.specs.Outcome as found;
 ghost use Rattle.tp_eval.specs.Answers.{outcome_of};
 ghost use Rattle.tp_eval.specs.Evaluate.{is_place as is_place_tree};
 ghost use Rattle.tp_scene.specs.Step as row;
-ghost use Rattle.tp_scene.specs.Fits.{kinds_in};
 ghost use Rattle.tp_store.specs.Known.{Variable, IsVariableOf};
-ghost use Rattle.tp_decide.specs.Decided.{decided, option_target, side_of, PathIn, IsNoSize, IsPathOf, IsTargetOf, SetsVariables};
+ghost use Rattle.tp_decide.specs.Decided.{decided, option_target, side_of, PathIn, IsNoSize, IsPathOf, IsTargetOf, SetsVariables, ExprFitsStore};
 
 use crate::decision::{Decision, nothing};
 use std::alloc::Global;
@@ -39,10 +37,15 @@ pub struct Side {
 }
 
 // The path of an expression, where it is a place with one.
-fn path_of(alloc: Global, expr: &Expr, env: &Env, store: &Store, defs: &Defs) -> Result<Option<Path>, NoMemory>
+fn path_of(
+    alloc: Global,
+    expr: &Expr,
+    env: &Env,
+    store: &Store,
+    defs: &Defs,
+) -> Result<Option<Path>, NoMemory>
     requires none { definitions_of defs.now ≡ [] }
-    requires fits { ExprFits (definitions_of defs.now) (kinds_in store.now.variables) (expr_tree expr.now) (length (bindings_of env.now)) }
-    requires bindings { BindingsFit (kinds_in store.now.variables) (bindings_of env.now) }
+    requires fits { ExprFitsStore (definitions_of defs.now) store.now.variables (expr_tree expr.now) (bindings_of env.now) }
     ensures outcome { IfOk result (λ o. (f : Path → row.Target) → PathIn o f (row.target_if (definitions_of defs.now) [] 0 store.now.facts (is_place_tree (expr_tree expr.now)) f (expr_tree expr.now) (bindings_of env.now))) }
     ensures variables { IfOk result (IsPathOf store.now.variables) }
 {
@@ -66,10 +69,15 @@ fn measured(expr: &Expr) -> Option<&Expr>
     }
 }
 
-fn find_target(alloc: Global, expr: &Expr, env: &Env, store: &Store, defs: &Defs) -> Result<Option<Target>, NoMemory>
+fn find_target(
+    alloc: Global,
+    expr: &Expr,
+    env: &Env,
+    store: &Store,
+    defs: &Defs,
+) -> Result<Option<Target>, NoMemory>
     requires none { definitions_of defs.now ≡ [] }
-    requires fits { ExprFits (definitions_of defs.now) (kinds_in store.now.variables) (expr_tree expr.now) (length (bindings_of env.now)) }
-    requires bindings { BindingsFit (kinds_in store.now.variables) (bindings_of env.now) }
+    requires fits { ExprFitsStore (definitions_of defs.now) store.now.variables (expr_tree expr.now) (bindings_of env.now) }
     ensures outcome { IfOk result (λ o. option_target o ≡ row.target_of (definitions_of defs.now) [] 0 store.now.facts (expr_tree expr.now) (bindings_of env.now)) }
     ensures variables { IfOk result (IsTargetOf store.now.variables) }
 {
@@ -101,10 +109,15 @@ fn is_placed(expr: &Expr) -> bool
     }
 }
 
-fn evaluate_side(alloc: Global, expr: &Expr, env: &Env, store: &Store, defs: &Defs) -> Result<Side, NoMemory>
+fn evaluate_side(
+    alloc: Global,
+    expr: &Expr,
+    env: &Env,
+    store: &Store,
+    defs: &Defs,
+) -> Result<Side, NoMemory>
     requires none { definitions_of defs.now ≡ [] }
-    requires fits { ExprFits (definitions_of defs.now) (kinds_in store.now.variables) (expr_tree expr.now) (length (bindings_of env.now)) }
-    requires bindings { BindingsFit (kinds_in store.now.variables) (bindings_of env.now) }
+    requires fits { ExprFitsStore (definitions_of defs.now) store.now.variables (expr_tree expr.now) (bindings_of env.now) }
     ensures outcome { IfOk result (λ s. side_of s ≡ row.side_of (definitions_of defs.now) [] 0 store.now.facts (expr_tree expr.now) (bindings_of env.now)) }
     ensures variables { IfOk result (λ s. IsTargetOf store.now.variables s.target) }
 {
@@ -248,9 +261,8 @@ pub fn decide_equation(
     defs: &Defs,
 ) -> Result<Decision, NoMemory>
     requires none { definitions_of defs.now ≡ [] }
-    requires fits_left { ExprFits (definitions_of defs.now) (kinds_in store.now.variables) (expr_tree left.now) (length (bindings_of env.now)) }
-    requires fits_right { ExprFits (definitions_of defs.now) (kinds_in store.now.variables) (expr_tree right.now) (length (bindings_of env.now)) }
-    requires bindings { BindingsFit (kinds_in store.now.variables) (bindings_of env.now) }
+    requires fits_left { ExprFitsStore (definitions_of defs.now) store.now.variables (expr_tree left.now) (bindings_of env.now) }
+    requires fits_right { ExprFitsStore (definitions_of defs.now) store.now.variables (expr_tree right.now) (bindings_of env.now) }
     ensures outcome { IfOk result (λ d. decided store.now.facts d ≡ row.equate store.now.facts (row.side_of (definitions_of defs.now) [] 0 store.now.facts (expr_tree left.now) (bindings_of env.now)) (row.side_of (definitions_of defs.now) [] 0 store.now.facts (expr_tree right.now) (bindings_of env.now))) }
     ensures variables { IfOk result (SetsVariables store.now.variables) }
 {

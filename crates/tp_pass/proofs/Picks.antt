@@ -1,11 +1,11 @@
 -- Picks one after the other, and items below the next number.
-use Rattle.std.proofs.Common.{◌≡◌, ℕ, suc, ◌+◌, ◌<◌, ◌≤◌, Bool, true, false, ◌||◌, eqb, List, [], ◌∷◌, ◌++◌, length, refl, ap, sym, ◌∙◌, subst, arith, inl, inr, append_assoc, length-append, below_more, Some, None, ◌⊎◌, ◌*◌, ◌-◌, ◌^◌}
+use Rattle.std.proofs.Common.{◌≡◌, ℕ, suc, ◌+◌, ◌<◌, ◌≤◌, Bool, true, eqb, List, [], ◌∷◌, ◌++◌, refl, ap, sym, ◌∙◌, subst, arith, inl, inr, append_assoc, length-append, below_more, Some, None, ◌⊎◌, ◌*◌, ◌-◌, ◌^◌}
 use Rattle.std.proofs.lemmas.Bool.{or_cases, eqb-true}
 use Rattle.std.proofs.lemmas.List.{append-nil}
 use Rattle.tp_scene.specs.Scene.{Entries, none, leaf, node, Do, Later, Shown, has}
 use Rattle.tp_scene.specs.Step.{Reduction}
 use Rattle.tp_scene.specs.Pick.{Setting, Moment, Reduces, Leads, outcome_of, IsIdle}
-use Rattle.tp_scene.specs.Fits.{IsNew, AreNumbers, item_numbers}
+use Rattle.tp_scene.specs.Fits.{AreNumbers, item_numbers}
 use Rattle.tp_scene.specs.Built.{IsFlat, IsReady}
 use Rattle.tp_step.specs.declared.answer.Ending.{Ending}
 use Rattle.tp_pass.specs.Closes.{Made, Looks, Passes, EndsHere}
@@ -71,7 +71,7 @@ passing_more w m here next l0 l1 l2 b0 b1 b2 item h ready (inr x) =
     let same : l2 ≡ l1 = x.2 in
     let made : Made w m here l0 l2 b0 b2 = subst (λ k. Made w m here l0 k b0 b2) (sym same) (subst (λ bs. Made w m here l0 l1 b0 bs) (sym x.3) h.made) in
     let upto : l2 ≡ l0 → (t : ℕ) → t < item + 1 → has t here.scene.root.entries ≡ true → IsIdle (outcome_of w here.store here.scene t) =
-            λ e. below_more (λ t. has t here.scene.root.entries ≡ true → IsIdle (outcome_of w here.store here.scene t)) item (h.idle (sym same ∙ e)) x.0 in
+    λ e. below_more (λ t. has t here.scene.root.entries ≡ true → IsIdle (outcome_of w here.store here.scene t)) item (h.idle (sym same ∙ e)) x.0 in
     record {
       made = subst (λ (z : Moment). Made w m z l0 l2 b0 b2) (sym x.1) made;
       ready = λ kinds k. ready kinds (h.ready kinds k);

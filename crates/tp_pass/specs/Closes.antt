@@ -1,5 +1,5 @@
 -- What a closure comes to.
-use Rattle.std.specs.Prelude.{◌≡◌, ◌⊎◌, ℕ, suc, ◌≤◌, ◌+◌, true, List, [], ◌∷◌, ◌++◌, length, Option, None, Some}
+use Rattle.std.specs.Prelude.{◌≡◌, ◌⊎◌, ℕ, suc, ◌+◌, true, List, [], ◌∷◌, ◌++◌, length, Option, None, Some}
 use Rattle.tp_kernel.specs.declared.formula.LimitKind.TheVariants.{Reductions}
 use Rattle.tp_scene.specs.Scene.{has}
 use Rattle.tp_scene.specs.Step.{Reduction, Outcome, reduces, clashes, misses, passes}

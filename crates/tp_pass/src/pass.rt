@@ -70,7 +70,9 @@ fn look_at<L: Ledger>(
     ensures looks { IfOk result (Looks (setting_of defs.now inputs.now state) item (moment_of scene.old store.old) (moment_of scene.new store.new) left.old left.new tally.old.picks tally.new.picks) }
 {
     if has_item(scene, item) {
-        try_and_record(alloc, scene, item, store, defs, inputs, state, left, tally, steps)
+        try_and_record(
+            alloc, scene, item, store, defs, inputs, state, left, tally, steps,
+        )
     } else {
         Ok(None)
     }
@@ -104,7 +106,9 @@ fn pass<L: Ledger>(
     let mut item = 0;
     let mut end = next_number(scene);
     'items: while item < end {
-        match look_at(alloc, scene, item, store, defs, inputs, state, left, tally, steps)? {
+        match look_at(
+            alloc, scene, item, store, defs, inputs, state, left, tally, steps,
+        )? {
             Some(ending) => return Ok(Some(ending)),
             None => {}
         }
@@ -139,7 +143,9 @@ pub fn close_by_passes<L: Ledger>(
     let mut left = room;
     'passes: loop {
         let before = left;
-        match pass(alloc, scene, store, defs, inputs, state, &mut left, tally, steps)? {
+        match pass(
+            alloc, scene, store, defs, inputs, state, &mut left, tally, steps,
+        )? {
             Some(ending) => return Ok(ending),
             None => {}
         }

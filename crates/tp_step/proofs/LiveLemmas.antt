@@ -1,8 +1,7 @@
 -- The items of entries without regions.
-use Rattle.std.proofs.Common.{◌≡◌, ℕ, zero, suc, ◌+◌, Bool, true, false, cond, ◌||◌, List, [], ◌∷◌, ◌++◌, map, eqb, refl, ap, sym, ◌∙◌, subst, inl, inr, arith, Option, Some, None}
+use Rattle.std.proofs.Common.{◌≡◌, ℕ, zero, suc, ◌+◌, Bool, true, false, ◌||◌, List, [], ◌∷◌, map, eqb, refl, ap, sym, ◌∙◌, subst, inl, inr, arith, Some, None}
 use Rattle.std.specs.Prelude.{position, if◌then◌else◌}
 use Rattle.std.specs.List.{position_from}
-use Rattle.std.specs.Option.{option_map}
 use Rattle.std.proofs.lemmas.Iterator.Adapters.{position_from-zero}
 use Rattle.std.proofs.lemmas.Bool.{cases_Bool, eq-eqb}
 use Rattle.std.proofs.lemmas.Bool.Decides.{eqb_tells}
@@ -16,7 +15,7 @@ use Rattle.tp_decide.specs.declared.scene.Entry.{Entry}
 use Rattle.tp_scene.specs.Rest as rest
 use Rattle.tp_decide.specs.declared.scene.Scene.{Scene}
 use Rattle.tp_decide.specs.Read.{head_of, entries_in, entries_of, scene_of}
-use Rattle.tp_decide.specs.Flat.{leaf_of, leaves_of, IsFirstAt, first_of}
+use Rattle.tp_decide.specs.Flat.{leaves_of, IsFirstAt, first_of}
 use Rattle.tp_step.specs.Answers.{region_place, status, status_of, head_status}
 use Rattle.tp_decide.proofs.FlatLemmas.{flat_leaves}
 

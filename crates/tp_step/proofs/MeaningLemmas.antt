@@ -1,21 +1,27 @@
 -- What tries, beginnings, advances and ends say of every interval, by the laws of scenes.
-use Rattle.std.proofs.Common.{◌≡◌, ℕ, Bool, true, List, ap, sym, subst}
+use Rattle.std.proofs.Common.{◌≡◌, ◌↔◌, ◌≤◌, ℕ, Bool, true, false, List, [], length, Vec, Global, ap, sym, ◌∙◌, subst}
 use Rattle.tp_meaning.specs.Syntax.{FormulaTree}
-use Rattle.tp_store.specs.Known.{Contents}
+use Rattle.tp_meaning.specs.Holds.{Holds}
+use Rattle.tp_meaning.specs.Interval.{kinds_of}
+use Rattle.tp_store.specs.Known.{new_store}
 use Rattle.tp_scene.proofs.StepLaws.{steps_keep, refusals_mean}
 use Rattle.tp_scene.proofs.StepsFit.{steps_fit}
 use Rattle.tp_scene.proofs.EndLaws.{all_ends_stand, all_advances_keep}
 use Rattle.tp_scene.proofs.AdvancesFit.{advances_fit}
 use Rattle.tp_scene.proofs.Begin.{runs_begin}
 use Rattle.tp_scene.proofs.Flat.{steps_stay_flat, advances_stay_flat}
+use Rattle.tp_scene.specs.Scene as S
 use Rattle.tp_scene.specs.Scene.{has}
 use Rattle.tp_scene.specs.Pick.{Setting, Moment}
 use Rattle.tp_scene.specs.Rest as rest
 use Rattle.tp_scene.specs.Advance.{advanced}
-use Rattle.tp_scene.specs.StandsFor.{started}
+use Rattle.tp_scene.specs.StandsFor.{StandsFor, started, context_of}
 use Rattle.tp_scene.specs.Built.{IsReady}
 use Rattle.tp_decide.specs.declared.scene.Scene.{Scene}
-use Rattle.tp_decide.specs.Read.{scene_of}
+use Rattle.tp_decide.specs.declared.scene.Region.{roll-Region, out-roll-Region}
+use Rattle.tp_decide.specs.declared.scene.Entries.{out-Entries, roll-Entries, out-roll-Entries}
+use Rattle.tp_decide.specs.declared.scene.Entry.{Entry}
+use Rattle.tp_decide.specs.Read.{entries_of, scene_of}
 use Rattle.tp_step.specs.Answers.{Tries, moment_of}
 use Rattle.tp_step.specs.Meaning.{TryMeans, StandsForAllOf, AdvanceMeans, AdvanceIsReady, EndMeans}
 use Rattle.tp_step.specs.declared.answer.Tried.{Tried}
@@ -48,3 +54,22 @@ tries_ready w room m t next (tried.Missing port) h = λ kinds ready. subst (IsRe
 tries_ready w room m t next (tried.Waits first other) h = λ kinds ready. subst (IsReady w kinds) (sym h.0) ready
 tries_ready w room m t next tried.Rests h = λ kinds ready. subst (IsReady w kinds) (sym h.0) ready
 tries_ready w room m t next (tried.Over limit) h = λ kinds ready. subst (IsReady w kinds) (sym h.0) ready
+
+pub begins : (main : FormulaTree) (s : Scene) → scene_of s ≡ started main → StandsForAllOf main s
+begins main s is w names defs fits c a b shows =
+    let make : S.Scene → Moment = λ x. record { scene = x; store = new_store names } in
+    subst (λ x. StandsFor w (length (kinds_of names)) (make x) c a b shows ↔ ((a ≤ b) × ((d : ℕ) × Holds (context_of w) d main [] c a b shows))) (sym is) ((runs_begin w names main defs fits).stands c a b shows)
+
+-- the scene with these entries and no marks
+abbrev pub scene_with : Vec Entry Global → (next_item : ℕ) → Scene
+scene_with items n = record { root = roll-Region (record { id = 0; ends = false; goes = false; entries = roll-Entries (record { items = items }) }); next_item = n; next_region = 1 }
+
+abbrev pub plain_scene : S.Entries → (next_item : ℕ) → S.Scene
+plain_scene es n = record { root = record { head = S.new_head 0; entries = es }; next_item = n; next_region = 1 }
+
+pub scene_with_is : (items : Vec Entry Global) (n : ℕ) → scene_of (scene_with items n) ≡ plain_scene (entries_of items.items) n
+scene_with_is items n =
+    let top = out-roll-Region (record { id = 0; ends = false; goes = false; entries = roll-Entries (record { items = items }) }) in
+    let list = out-roll-Entries (record { items = items }) in
+    ap (λ o. let s : S.Scene = record { root = record { head = record { number = o.id; ends = o.ends; goes = o.goes }; entries = entries_of (out-Entries o.entries).items.items }; next_item = n; next_region = 1 } in s) top
+    ∙ ap (λ o. plain_scene (entries_of o.items.items) n) list

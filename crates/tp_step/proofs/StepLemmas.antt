@@ -1,5 +1,5 @@
 -- What carrying a decision out answers.
-use Rattle.std.proofs.Common.{◌≡◌, ℕ, zero, suc, ◌<◌, List, [], ◌∷◌, true, false, eqb, length, take, drop, get_or, arith, refl, ap, ap₂, sym, ◌∙◌, subst, inl, inr, Option, Some, None}
+use Rattle.std.proofs.Common.{Bool, ◌≡◌, ℕ, zero, suc, ◌<◌, List, [], ◌∷◌, true, eqb, length, take, drop, get_or, arith, refl, ap, sym, ◌∙◌, subst, inr, Option}
 use Rattle.std.specs.Prelude.{Result, Ok, Err, IfOk}
 use Rattle.tp_value.specs.declared.path.Fact.{Fact}
 use Rattle.tp_value.specs.declared.refusal.NoMemory.{NoMemory}
@@ -8,7 +8,6 @@ use Rattle.tp_store.specs.Known.{Contents, Addition, adds, refuses}
 use Rattle.tp_store.specs.Answers.{IsRefusal, Adds}
 use Rattle.tp_store.specs.declared.add.AddRefusal.{AddRefusal}
 use Rattle.tp_store.specs.declared.add.AddRefusal.TheVariants as refusal
-use Rattle.tp_scene.specs.declared.answer.Clash.TheVariants.{Facts}
 use Rattle.tp_meaning.specs.Syntax.{Definition}
 use Rattle.tp_store.specs.Known.{Variable}
 use Rattle.tp_scene.specs.Scene as S
@@ -16,7 +15,7 @@ use Rattle.tp_scene.specs.Scene.{append, has_here, root_place}
 use Rattle.tp_scene.specs.Built.{IsFlat}
 use Rattle.tp_scene.specs.Fits.{EntriesFit, LeafFits}
 use Rattle.tp_scene.specs.Pick.{Setting, pick, put}
-use Rattle.tp_scene.specs.Step.{Reduction, Numbers, added, reduces, clashes, leaf_step}
+use Rattle.tp_scene.specs.Step.{Reduction, Numbers, added, reduces, leaf_step}
 use Rattle.tp_decide.specs.declared.scene.Entry.{Entry}
 use Rattle.tp_decide.specs.Read.{entries_in, scene_of}
 use Rattle.tp_decide.specs.Flat.{leaf_of, leaves_of, AreFlat, IsFlatItem, IsFirstAt}
@@ -25,6 +24,7 @@ use Rattle.tp_decide.specs.declared.scene.Scene.{Scene}
 use Rattle.tp_step.specs.declared.answer.Tried.{Tried}
 use Rattle.tp_step.specs.declared.answer.Tried.TheVariants as tried
 use Rattle.tp_step.specs.Answers.{Carries, IsClash, moment_of}
+use Rattle.tp_step.specs.Fits.{LeafFitsStore, EntriesFitStore}
 
 adds_reduces : (o : Addition) → Adds o → (r : Reduction) × (added o ≡ reduces r)
 adds_reduces (adds news) h = (_, refl)
@@ -45,39 +45,44 @@ at_first t k [] e f l g = absurd f
 at_first t zero (x ∷ es) e f l g = ap (λ (y : Entry). eqb y.id t) g ∙ f
 at_first t (suc k) (x ∷ es) e f l g = at_first t k es e f.1 (omega arith) g
 
-pick_leaves : (w : Setting) (facts : List Fact) (t k : ℕ) (es : List Entry) (e : Entry) (p : S.Place) (n : Numbers) → IsFirstAt t es k → k < length es → e ≡ get_or es k e →
+pub pick_leaves : (w : Setting) (facts : List Fact) (t k : ℕ) (es : List Entry) (e : Entry) (p : S.Place) (n : Numbers) → IsFirstAt t es k → k < length es → e ≡ get_or es k e →
     pick w facts t (leaves_of es) p n ≡ leaf_step w.defs w.inputs w.state facts (leaf_of e.item) p n
 pick_leaves w facts t k [] e p n f l g = absurd f
 pick_leaves w facts t zero (x ∷ es) e p n f l g = rw f (ap (λ (y : Entry). leaf_step w.defs w.inputs w.state facts (leaf_of y.item) p n) (sym g))
 pick_leaves w facts t (suc k) (x ∷ es) e p n f l g = let h = f.0 in rw h (pick_leaves w facts t k es e p n f.1 (omega arith) g)
 
-put_leaves : (t k : ℕ) (m : Option S.Side) (news : S.Entries) (es : List Entry) → IsFirstAt t es k → put t m news (leaves_of es) ≡ append (leaves_of (take k es)) (append news (leaves_of (drop (suc k) es)))
+pub put_leaves : (t k : ℕ) (m : Option S.Side) (news : S.Entries) (es : List Entry) → IsFirstAt t es k → put t m news (leaves_of es) ≡ append (leaves_of (take k es)) (append news (leaves_of (drop (suc k) es)))
 put_leaves t k m news [] f = absurd f
 put_leaves t zero m news (x ∷ es) f = rw f refl
 put_leaves t (suc k) m news (x ∷ es) f = let h = f.0 in rw h (ap (S.leaf x.id (leaf_of x.item)) (put_leaves t k m news es f.1))
 
-here_leaves : (t k : ℕ) (es : List Entry) → IsFirstAt t es k → has_here t (leaves_of es) ≡ true
+pub here_leaves : (t k : ℕ) (es : List Entry) → IsFirstAt t es k → has_here t (leaves_of es) ≡ true
 here_leaves t k [] f = absurd f
 here_leaves t zero (x ∷ es) f = rw f refl
 here_leaves t (suc k) (x ∷ es) f = let h = f.0 in rw h (here_leaves t k es f.1)
 
-flat_at : (k : ℕ) (es : List Entry) (e : Entry) → AreFlat es → k < length es → e ≡ get_or es k e → IsFlatItem e.item
+pub flat_at : (k : ℕ) (es : List Entry) (e : Entry) → AreFlat es → k < length es → e ≡ get_or es k e → IsFlatItem e.item
 flat_at k [] e h l g = absurd (omega arith)
 flat_at zero (x ∷ es) e h l g = subst (λ (y : Entry). IsFlatItem y.item) (sym g) h.0
 flat_at (suc k) (x ∷ es) e h l g = flat_at k es e h.1 (omega arith) g
 
-fits_at : (defs : List Definition) (xs : List Variable) (k : ℕ) (es : List Entry) (e : Entry) (p : S.Place) → EntriesFit defs xs (leaves_of es) p → k < length es → e ≡ get_or es k e → LeafFits defs xs (leaf_of e.item) p
-fits_at defs xs k [] e p h l g = absurd (omega arith)
-fits_at defs xs zero (x ∷ es) e p h l g = subst (λ (y : Entry). LeafFits defs xs (leaf_of y.item) p) (sym g) h.0
-fits_at defs xs (suc k) (x ∷ es) e p h l g = fits_at defs xs k es e p h.1 (omega arith) g
+fits_at : (defs : List Definition) (kinds : List Bool) (xs : List Variable) (k : ℕ) (es : List Entry) (e : Entry) (p : S.Place) → EntriesFit defs kinds xs (leaves_of es) p → k < length es → e ≡ get_or es k e → LeafFits defs kinds xs (leaf_of e.item) p
+fits_at defs kinds xs k [] e p h l g = absurd (omega arith)
+fits_at defs kinds xs zero (x ∷ es) e p h l g = subst (λ (y : Entry). LeafFits defs kinds xs (leaf_of y.item) p) (sym g) h.0
+fits_at defs kinds xs (suc k) (x ∷ es) e p h l g = fits_at defs kinds xs k es e p h.1 (omega arith) g
 
 pub item_flat : (s : Scene) (k : ℕ) (e : Entry) → IsFlat (scene_of s).root.entries → k < length (entries_in s.root) → e ≡ get_or (entries_in s.root) k e → IsFlatItem e.item
 item_flat s k e h l g = flat_at k (entries_in s.root) e (are_flat (entries_in s.root) h) l g
 
-pub item_fits : (defs : List Definition) (xs : List Variable) (s : Scene) (k : ℕ) (e : Entry) → IsFlat (scene_of s).root.entries → EntriesFit defs xs (scene_of s).root.entries (root_place (scene_of s).root)
-    → k < length (entries_in s.root) → e ≡ get_or (entries_in s.root) k e → LeafFits defs xs (leaf_of e.item) (root_place (scene_of s).root)
+pub item_fits : (defs : List Definition) (xs : List Variable) (s : Scene) (k : ℕ) (e : Entry) → IsFlat (scene_of s).root.entries → EntriesFitStore defs xs (scene_of s).root.entries (root_place (scene_of s).root)
+    → k < length (entries_in s.root) → e ≡ get_or (entries_in s.root) k e → LeafFitsStore defs xs (leaf_of e.item) (root_place (scene_of s).root)
 item_fits defs xs s k e h f l g =
-    fits_at defs xs k (entries_in s.root) e (root_place (scene_of s).root) (subst (λ es. EntriesFit defs xs es (root_place (scene_of s).root)) (flat_leaves (entries_in s.root) h) f) l g
+    let p = root_place (scene_of s).root in
+    record {
+      kinds = f.kinds;
+      leaf = fits_at defs f.kinds xs k (entries_in s.root) e p (subst (λ es. EntriesFit defs f.kinds xs es p) (flat_leaves (entries_in s.root) h) f.entries) l g;
+      globals = f.globals;
+    }
 
 pub first_within : (t k : ℕ) (es : List Entry) → IsFirstAt t es k → k < length es
 first_within t k [] f = absurd f

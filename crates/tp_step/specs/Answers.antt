@@ -1,10 +1,8 @@
 -- What the calls' answers stand for.
-use Rattle.std.specs.Prelude.{◌≡◌, ℕ, ◌<◌, ◌+◌, ◌||◌, ◌&&◌, not, Bool, true, false, eqb, List, [], ◌∷◌, ◌++◌, map, take, drop, filter, length, Option, Some, None, if◌then◌else◌, ◌⊎◌}
+use Rattle.std.specs.Prelude.{◌≡◌, ℕ, ◌<◌, ◌+◌, ◌&&◌, not, eqb, List, ◌++◌, map, take, drop, filter, Option, Some, None, if◌then◌else◌, ◌⊎◌}
 use Rattle.std.specs.Option.{option_map}
-use Rattle.tp_value.specs.declared.path.Fact.{Fact}
-use Rattle.tp_kernel.specs.declared.formula.LimitKind.{LimitKind}
+use Rattle.tp_value.specs.Tree.{Tree}
 use Rattle.tp_kernel.specs.declared.formula.LimitKind.TheVariants.{Reductions}
-use Rattle.tp_meaning.specs.Inputs.{InputLines}
 use Rattle.tp_store.specs.Known.{Contents}
 use Rattle.tp_store.specs.declared.add.AddRefusal.{AddRefusal}
 use Rattle.tp_store.specs.declared.add.AddRefusal.TheVariants as refusal
@@ -123,3 +121,9 @@ Carries o room at old k new j (tried.Over limit) = (moment_of new j ≡ moment_o
 abbrev pub IsClash : AddRefusal → Tried → Type 0
 IsClash (refusal.Clash kept new) t = t ≡ tried.Clash (Facts kept new)
 IsClash refusal.NoMemory t = ⊥
+
+-- the values that an item without a region shows
+abbrev pub shown_by : S.Leaf → Option (List Tree)
+shown_by (S.Do f env) = None
+shown_by (S.Later f env) = None
+shown_by (S.Shown vs) = Some vs

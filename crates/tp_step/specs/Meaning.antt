@@ -1,5 +1,5 @@
 -- What the calls' answers say of every interval.
-use Rattle.std.specs.Prelude.{◌≡◌, ◌↔◌, ◌≤◌, ◌×◌, ℕ, Bool, List, [], length, Option}
+use Rattle.std.specs.Prelude.{◌≡◌, ◌↔◌, ◌≤◌, ℕ, Bool, List, [], length}
 use Rattle.tp_meaning.specs.Syntax.{FormulaTree}
 use Rattle.tp_meaning.specs.Course.{Course, Shows}
 use Rattle.tp_meaning.specs.Holds.{Holds}

@@ -5,9 +5,9 @@ ghost use Rattle.tp_scene.specs.StandsFor.{started};
 ghost use Rattle.tp_decide.specs.Read.{scene_of};
 ghost use Rattle.tp_step.specs.Meaning.{StandsForAllOf};
 
-use tp_decide::{Entries, Entry, Item, Phrase, Region, Scene};
 use std::alloc::Global;
 use std::rc::Rc;
+use tp_decide::{Entries, Entry, Item, Phrase, Region, Scene};
 use tp_kernel::{Env, Formula};
 use tp_value::NoMemory;
 

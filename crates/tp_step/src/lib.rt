@@ -8,9 +8,7 @@ mod next_state;
 mod step;
 mod steps;
 
-pub use answer::{
-    Ending, ItemIds, Mark, News, Order, Settled, Tally, Tried, Wait, Waits,
-};
+pub use answer::{Ending, ItemIds, Mark, News, Order, Settled, Tally, Tried, Wait, Waits};
 pub use first::start;
 pub use live::{has_item, items, mark, settled, shown};
 pub use next_state::advance;

@@ -1,5 +1,6 @@
 // The live items of a scene, in the order in which they are walked.
-ghost use Rattle.std.specs.Prelude.{◌≡◌, ◌++◌, ℕ, map, position, eqb, IfOk, OnOk, OnErr};
+ghost use Rattle.std.specs.Prelude.{◌≡◌, ◌++◌, map, position, eqb, IfOk, OnOk, OnErr};
+ghost use Rattle.std.specs.Option.{option_map};
 ghost use Rattle.tp_scene.specs.Scene.{has, live_items, Place};
 ghost use Rattle.tp_scene.specs.Built.{IsFlat};
 ghost use Rattle.tp_scene.specs.Rest as rest;
@@ -7,11 +8,11 @@ ghost use Rattle.tp_scene.specs.Advance.{shown_in};
 ghost use Rattle.tp_decide.specs.Read.{scene_of, shows_of, values_of, head_of};
 ghost use Rattle.tp_decide.specs.Flat.{IsFlatItem, AreFlat, leaf_of, leaves_of, first_of};
 ghost use Rattle.tp_step.specs.Meaning.{EndMeans};
-ghost use Rattle.tp_step.specs.Answers.{settled_of, status_of, head_status};
+ghost use Rattle.tp_step.specs.Answers.{settled_of, status_of, head_status, shown_by};
 
 use crate::answer::{ItemIds, Mark, Settled};
-use tp_decide::{Entry, Item, Region, Scene, Shows, Values};
 use std::alloc::Global;
+use tp_decide::{Entry, Item, Region, Scene, Shows, Values};
 use tp_value::NoMemory;
 
 /// The place of the first entry whose item has this number.
@@ -136,11 +137,19 @@ fn copy_values(alloc: Global, values: &Values) -> Result<Values, NoMemory>
     Ok(Values { items })
 }
 
-// The values of a `Shown` item.
-fn shown_values(item: &Item) -> Option<&Values> {
+// The values that an item shows.
+fn shown_values(item: &Item) -> Option<&Values>
+    requires { IsFlatItem item.now }
+    ensures { option_map (λ vs. values_of vs.now) result ≡ shown_by (leaf_of item.now) }
+{
     match item {
         Item::Shown(values) => Some(values),
-        _ => None,
+        Item::Do(_) | Item::Later(_) => None,
+        Item::Split { .. } => unreachable!(),
+        Item::SplitProject { .. } => unreachable!(),
+        Item::Closed(_) => unreachable!(),
+        Item::Opened { .. } => unreachable!(),
+        Item::Running { .. } => unreachable!(),
     }
 }
 

@@ -1,15 +1,14 @@
 // The scene of the next state.
-ghost use Rattle.std.specs.Prelude.{◌≡◌, ◌+◌, IfOk};
+ghost use Rattle.std.specs.Prelude.{◌≡◌, IfOk, length};
 ghost use Rattle.tp_scene.specs.Built.{IsFlat};
 ghost use Rattle.tp_scene.specs.Rest as rest;
-ghost use Rattle.tp_scene.specs.Scene.{Do};
 ghost use Rattle.tp_scene.specs.Advance.{advanced, due, numbered, items_in};
-ghost use Rattle.tp_decide.specs.Read.{scene_of, entries_in, entries_of, formula_of, env_of};
+ghost use Rattle.tp_decide.specs.Read.{scene_of, entries_of};
 ghost use Rattle.tp_step.specs.Meaning.{AdvanceMeans, AdvanceIsReady};
 ghost use Rattle.tp_decide.specs.Flat.{IsFlatItem, AreFlat, leaf_of, leaves_of, IsDue};
 
-use tp_decide::{Entries, Entry, Item, Phrase, Region, Scene};
 use std::alloc::Global;
+use tp_decide::{Entries, Entry, Item, Phrase, Region, Scene};
 use tp_value::NoMemory;
 
 // What is due from the next state on.
@@ -32,7 +31,8 @@ fn due(item: Item) -> Option<Phrase>
 // The entries that are due, with new numbers.
 fn due_entries(alloc: Global, entries: Vec<Entry>) -> Result<Vec<Entry>, NoMemory>
     requires { AreFlat entries.items }
-    ensures { IfOk result (λ next. entries_of next.items ≡ numbered 0 1 (due (leaves_of entries.items))) }
+    ensures entries { IfOk result (λ next. entries_of next.items ≡ numbered 0 1 (due (leaves_of entries.items))) }
+    ensures count { IfOk result (λ next. length next.items ≡ items_in (due (leaves_of entries.items))) }
 {
     let mut next = Vec::new(alloc);
     for entry in entries {

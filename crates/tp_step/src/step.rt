@@ -1,14 +1,13 @@
 // One step of an item.
 ghost use Rattle.std.specs.Prelude.{◌≡◌, ◌≤◌, ◌<◌, ◌+◌, ◌++◌, true, Bool, List, [], None, map, IfOk, OnOk, OnErr, take, drop, get_or, length, vec_len, vec_capacity};
 ghost use Rattle.std.specs.Option.{option_map};
-ghost use Rattle.tp_value.specs.declared.path.Fact.{Fact};
 ghost use Rattle.tp_kernel.specs.Read.{definitions_of};
 ghost use Rattle.tp_store.specs.Known.{NoClash, IsVariableOf};
 ghost use Rattle.tp_scene.specs.Scene.{has, root_place};
 ghost use Rattle.tp_scene.specs.Step.{leaf_step};
 ghost use Rattle.tp_step.specs.Fits.{LeafFitsStore, EntriesFitStore};
 ghost use Rattle.tp_decide.specs.Flat.{IsFlatItem, IsFirstAt, leaf_of};
-ghost use Rattle.tp_scene.specs.Pick.{mark_head, outcome_of};
+ghost use Rattle.tp_scene.specs.Pick.{mark_head};
 ghost use Rattle.tp_scene.specs.Built.{IsFlat};
 ghost use Rattle.tp_scene.specs.Built.{IsReady};
 ghost use Rattle.tp_step.specs.Meaning.{TryMeans};
@@ -18,12 +17,11 @@ ghost use Rattle.tp_decide.specs.Decided.{decided, mark_of, HasRoom, SetsVariabl
 ghost use Rattle.tp_step.specs.Answers.{Tries, Carries, setting_of, moment_of, IsClash};
 
 use crate::answer::{ItemIds, News, Tried};
-use tp_decide::{Decision, Place, Side, decide};
 use crate::live::{find, numbers};
-use tp_decide::{Entry, Item, Scene};
 use crate::steps::Steps;
 use std::alloc::Global;
 use std::sync::ledger::Ledger;
+use tp_decide::{Decision, Entry, Item, Place, Scene, Side, decide};
 use tp_inputs::Inputs;
 use tp_kernel::{Defs, LimitKind};
 use tp_scene::Clash;

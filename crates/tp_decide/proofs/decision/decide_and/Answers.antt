@@ -1,4 +1,4 @@
-use Rattle.std.proofs.Common.{◌≡◌, ◌∙◌, ◌<◌, length, get_or, ap, ap₂, sym, arith}
+use Rattle.std.proofs.Common.{◌∙◌, ◌<◌, length, get_or, ap, ap₂, sym, arith}
 use Rattle.tp_kernel.specs.Read.{formula_tree, bindings_of}
 use Rattle.tp_kernel.specs.Equations.{formula_trees_is}
 use Rattle.tp_scene.specs.Scene.{append, leaf, none, Do}

@@ -1,5 +1,5 @@
 use Rattle.std.specs.Prelude.{Bool, ◌+◌, if◌then◌else◌}
-use Rattle.std.proofs.Common.{◌≡◌, ◌∙◌, ap}
+use Rattle.std.proofs.Common.{◌∙◌, ap}
 use Rattle.tp_kernel.specs.Read.{formula_tree, bindings_of}
 use Rattle.tp_scene.specs.Scene.{leaf, none, Do}
 use Rattle.tp_scene.specs.Step.{Outcome, becomes, with_truth}

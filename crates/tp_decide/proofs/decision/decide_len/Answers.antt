@@ -1,5 +1,5 @@
 use Rattle.std.specs.Prelude.{ℤ, []}
-use Rattle.std.proofs.Common.{◌≡◌, ◌∙◌, ap}
+use Rattle.std.proofs.Common.{◌∙◌, ap}
 use Rattle.tp_kernel.specs.Read.{bindings_of}
 use Rattle.tp_scene.specs.Step.{Outcome, length_left, with_number}
 use Rattle.tp_decide.specs.Decided.{numbers_from}

@@ -1,5 +1,5 @@
 use Rattle.std.specs.Prelude.{Bool, if◌then◌else◌}
-use Rattle.std.proofs.Common.{◌≡◌, ◌∙◌, ap}
+use Rattle.std.proofs.Common.{◌∙◌, ap}
 use Rattle.tp_scene.specs.declared.answer.Clash.TheVariants as clash
 use Rattle.tp_scene.specs.Step.{Outcome, vanishes, clashes, with_truth}
 use Rattle.tp_decide.proofs.decision.decide_test.Goals as goal

@@ -1,4 +1,4 @@
-use Rattle.std.proofs.Common.{◌≡◌, ◌∙◌, ap₂, sym}
+use Rattle.std.proofs.Common.{◌∙◌, ap₂, sym}
 use Rattle.tp_eval.specs.Answers.{outcome_of}
 use Rattle.tp_scene.specs.Step as row
 use Rattle.tp_decide.specs.Decided.{option_target}

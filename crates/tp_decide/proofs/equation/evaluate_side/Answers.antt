@@ -1,4 +1,4 @@
-use Rattle.tp_kernel.specs.Read.{expr_tree, definitions_of}
+use Rattle.tp_kernel.specs.Read.{definitions_of}
 use Rattle.tp_decide.proofs.EquationLemmas.{side_same}
 use Rattle.tp_decide.proofs.equation.evaluate_side.Goals as goal
 

@@ -1,4 +1,4 @@
-use Rattle.std.proofs.Common.{◌≡◌, ◌∙◌, ap, sym}
+use Rattle.std.proofs.Common.{◌∙◌, ap, sym}
 use Rattle.std.specs.Option.{option_map}
 use Rattle.tp_kernel.specs.Read.{expr_tree, definitions_of, bindings_of}
 use Rattle.tp_scene.specs.Step.{value_at}

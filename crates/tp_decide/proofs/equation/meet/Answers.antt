@@ -1,4 +1,4 @@
-use Rattle.std.proofs.Common.{◌≡◌, ◌∙◌, ap, sym}
+use Rattle.std.proofs.Common.{◌∙◌, ap, sym}
 use Rattle.tp_value.specs.Read.{tree}
 use Rattle.tp_eval.specs.Answers.{outcome_of}
 use Rattle.tp_scene.specs.Step as row

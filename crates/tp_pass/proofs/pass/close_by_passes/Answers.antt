@@ -1,7 +1,7 @@
-use Rattle.std.proofs.Common.{◌≡◌, subst, Option, None, Some}
+use Rattle.std.proofs.Common.{subst, Option, None, Some}
 use Rattle.tp_step.specs.declared.answer.Ending.{Ending}
 use Rattle.tp_step.specs.Answers.{moment_of, setting_of}
-use Rattle.tp_pass.specs.Closes.{Passes, Made}
+use Rattle.tp_pass.specs.Closes.{Passes}
 use Rattle.tp_pass.proofs.Picks.{made_on}
 use Rattle.tp_pass.proofs.pass.close_by_passes.Goals as goal
 

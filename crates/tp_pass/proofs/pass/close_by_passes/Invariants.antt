@@ -1,4 +1,4 @@
-use Rattle.std.proofs.Common.{ℕ, Bool, List}
+use Rattle.std.proofs.Common.{Bool, List}
 use Rattle.tp_scene.specs.Built.{IsReady}
 use Rattle.tp_step.specs.Answers.{moment_of, setting_of}
 use Rattle.tp_pass.specs.Closes.{Made}

@@ -1,8 +1,8 @@
-use Rattle.std.proofs.Common.{◌≡◌, ◌∙◌, ◌≤◌, ap, sym, subst, refl, arith, Option, None, Some}
+use Rattle.std.proofs.Common.{◌≤◌, subst, arith, Option}
 use Rattle.tp_step.specs.declared.answer.Ending.{Ending}
 use Rattle.tp_step.specs.Answers.{moment_of, setting_of}
 use Rattle.tp_pass.specs.Closes.{Looks}
-use Rattle.tp_pass.proofs.Picks.{Passing, passing_more, passing_last, passing_ends}
+use Rattle.tp_pass.proofs.Picks.{passing_more, passing_last}
 use Rattle.tp_pass.proofs.pass.pass.Goals as goal
 
 pub items-preserved : goal.items-preserved

@@ -1,10 +1,5 @@
-use Rattle.std.proofs.Common.{◌≡◌, ◌+◌, ◌*◌, ◌-◌, ◌^◌, ◌<◌, ◌≤◌, ℕ, true, Bool, List}
-use Rattle.tp_scene.specs.Scene.{has}
-use Rattle.tp_scene.specs.Pick.{outcome_of, IsIdle}
-use Rattle.tp_scene.specs.Built.{IsReady}
-use Rattle.tp_decide.specs.Read.{scene_of}
+use Rattle.std.proofs.Common.{◌≡◌, ◌+◌, ◌*◌, ◌-◌, ◌^◌, ◌<◌}
 use Rattle.tp_step.specs.Answers.{moment_of, setting_of}
-use Rattle.tp_pass.specs.Closes.{Made}
 use Rattle.tp_pass.proofs.Picks.{Passing}
 use Rattle.tp_pass.proofs.pass.pass.Given as goal
 

@@ -1,4 +1,4 @@
-use Rattle.std.proofs.Common.{◌≡◌, ◌∙◌, eqb, sym, ap, Some, None}
+use Rattle.std.proofs.Common.{◌∙◌, eqb, sym, ap}
 use Rattle.std.specs.Prelude.{position}
 use Rattle.tp_decide.specs.declared.scene.Entry.{Entry}
 use Rattle.tp_decide.specs.Read.{entries_in}

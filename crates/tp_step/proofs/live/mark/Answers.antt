@@ -1,4 +1,4 @@
-use Rattle.std.proofs.Common.{◌≡◌, ◌∙◌, ap, Some}
+use Rattle.std.proofs.Common.{◌∙◌, ap, Some}
 use Rattle.tp_step.proofs.LiveLemmas.{marks_root, marks_none}
 use Rattle.tp_step.proofs.live.mark.Goals as goal
 
