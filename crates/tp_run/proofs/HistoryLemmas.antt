@@ -1,5 +1,6 @@
 -- What whole runs say of every interval.
 use Rattle.std.proofs.Common.{◌≡◌, ◌↔◌, ℕ, zero, suc, ◌+◌, ◌<◌, ◌≤◌, Bool, true, List, [], ◌∷◌, ◌++◌, length, slice_get, Some, refl, ap, sym, ◌∙◌, subst, arith, length-append}
+use Rattle.std.proofs.lemmas.List.{append-nil}
 use Rattle.tp_value.specs.Tree.{Tree}
 use Rattle.tp_kernel.specs.Built.{IsBuilt}
 use Rattle.tp_kernel.specs.declared.formula.LimitKind.{LimitKind}
@@ -13,7 +14,7 @@ use Rattle.tp_store.specs.Known.{NoClash, facts_below}
 use Rattle.tp_decide.specs.Read.{shows_of}
 use Rattle.tp_scene.specs.declared.answer.Clash.{Clash}
 use Rattle.tp_scene.specs.Pick.{Setting, Moment, Leads}
-use Rattle.tp_scene.specs.StandsFor.{StandsFor, first_moment}
+use Rattle.tp_scene.specs.StandsFor.{StandsFor, first_moment, context_of}
 use Rattle.tp_scene.specs.Laws.{RefusalsStandForNone, RunsBegin}
 use Rattle.tp_scene.specs.Replay as replay
 use Rattle.tp_scene.specs.Built.{IsReady}
@@ -24,6 +25,7 @@ use Rattle.tp_run.specs.States.{Plan, globals_of, setting, GoesOn, EndsHere, Sta
 use Rattle.tp_run.specs.Meaning.{AgreesWith}
 use Rattle.tp_run.specs.History.{FinishesAt, RunEndsWith, program_of, AgreesWithPictures, shown_from, SatisfiedExactly, Satisfiable, Unsatisfiable, ContinuesEach, EndMeans, Advances, RunsAdvance}
 use Rattle.tp_run.proofs.StatesMean.{SceneLaws, Numbered, first_number, leads_ready, leads_keep, lead_ready, states_say, ends_here_says, picture_agrees, stands_again}
+use Rattle.tp_run.proofs.Silent.{says_silent}
 use Rattle.tp_run.proofs.Lives.{StateLaws, Lives, lives, Agree, agree_at, HasStatics, agrees_with_less, below_keeps, picks_keep}
 
 -- what else is asked of scenes: how a run begins, and what a clash and a missing input say
@@ -152,7 +154,12 @@ module _ (laws : SceneLaws) (begins : BeginLaws) (stores : StateLaws) where
       none_satisfies plan ps m w.last w.picks built leads w.leads ((begins.refusals (setting plan (length ps)) (kinds_of plan.names) w.last w.item here.sound w.lives).missing port w.outcome)
 
   pub continues_each : (plan : Plan) (ps : List Picture) (m : Moment) → IsBuilt plan.names plan.main → LeadsTo plan ps m → ContinuesEach plan ps
-  continues_each plan ps m built leads s a b S h = let x = (leads_say plan ps m built leads s a b S h.0).0 h.1 in (x.0, x.1)
+  continues_each plan ps m built leads s a b S h =
+      let x = (leads_say plan ps m built leads s a b S h.0).0 h.1 in
+      let here = ready_after plan ps m built leads in
+      let rest = x.2.2 in
+      let silent = says_silent (context_of (setting plan (length ps))) (globals_of plan) rest.depth rest.locals s (length ps + a) b rest.in_order m.scene.root.entries x.2.0 here.flat rest.says.1 in
+      (x.0, x.1, λ j less. ap (λ (T : Shows). T j) x.2.1 ∙ ap (λ vs. shown_from a ps j ++ vs) (silent j less) ∙ append-nil (shown_from a ps j))
 
   -- What the end of a run says of every interval.
   pub end_means : (plan : Plan) → IsBuilt plan.names plan.main → (ps : List Picture) (turn : Turn) → RunEndsWith plan ps turn → EndMeans plan ps turn

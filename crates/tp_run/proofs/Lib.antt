@@ -1,3 +1,4 @@
+pub mod Silent
 pub mod StatesMean
 pub mod Lives
 pub mod HistoryLemmas

@@ -62,9 +62,10 @@ Satisfiable plan = (s : Course) × (a : ℕ) × (b : ℕ) × (S : Shows) × Sati
 abbrev pub Unsatisfiable : Plan → Type 0
 Unsatisfiable plan = (s : Course) (a b : ℕ) (S : Shows) → Satisfies (program_of plan) plan.inputs s a b S → ⊥
 
--- each interval that satisfies it begins with states that agree with the pictures, and has more states than these
+-- each interval that satisfies it begins with states that agree with the pictures, shows there what these show, and has more states than these
 abbrev pub ContinuesEach : Plan → List Picture → Type 0
-ContinuesEach plan ps = (s : Course) (a b : ℕ) (S : Shows) → Satisfies (program_of plan) plan.inputs s a b S → (length ps + a ≤ b) × AgreesWithPictures s a ps
+ContinuesEach plan ps = (s : Course) (a b : ℕ) (S : Shows) → Satisfies (program_of plan) plan.inputs s a b S
+    → (length ps + a ≤ b) × AgreesWithPictures s a ps × ((j : ℕ) → j < length ps + a → S j ≡ shown_from a ps j)
 
 -- what the end of a run says of every interval
 abbrev pub EndMeans : Plan → List Picture → Turn → Type 0

@@ -23,7 +23,7 @@ use Rattle.tp_decide.specs.declared.scene.Entries.{out-Entries, roll-Entries, ou
 use Rattle.tp_decide.specs.declared.scene.Entry.{Entry}
 use Rattle.tp_decide.specs.Read.{entries_of, scene_of}
 use Rattle.tp_step.specs.Answers.{Tries, moment_of}
-use Rattle.tp_step.specs.Meaning.{TryMeans, StandsForAllOf, AdvanceMeans, AdvanceIsReady, EndMeans}
+use Rattle.tp_step.specs.Meaning.{TryMeans, StandsForAllOf, StartIsReady, AdvanceMeans, AdvanceIsReady, EndMeans}
 use Rattle.tp_step.specs.declared.answer.Tried.{Tried}
 use Rattle.tp_step.specs.declared.answer.Tried.TheVariants as tried
 
@@ -59,6 +59,12 @@ pub begins : (main : FormulaTree) (s : Scene) → scene_of s ≡ started main �
 begins main s is w names defs fits c a b shows =
     let make : S.Scene → Moment = λ x. record { scene = x; store = new_store names } in
     subst (λ x. StandsFor w (length (kinds_of names)) (make x) c a b shows ↔ ((a ≤ b) × ((d : ℕ) × Holds (context_of w) d main [] c a b shows))) (sym is) ((runs_begin w names main defs fits).stands c a b shows)
+
+pub begins_ready : (main : FormulaTree) (s : Scene) → scene_of s ≡ started main → StartIsReady main s
+begins_ready main s is w names defs fits built =
+    let make : S.Scene → Moment = λ x. record { scene = x; store = new_store names } in
+    let first : IsReady w (kinds_of names) (make (started main)) = record { sound = (runs_begin w names main defs fits).sound; flat = (built, tt) } in
+    subst (λ x. IsReady w (kinds_of names) (make x)) (sym is) first
 
 -- the scene with these entries and no marks
 abbrev pub scene_with : Vec Entry Global → (next_item : ℕ) → Scene

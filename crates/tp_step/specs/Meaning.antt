@@ -1,5 +1,6 @@
 -- What the calls' answers say of every interval.
 use Rattle.std.specs.Prelude.{◌≡◌, ◌↔◌, ◌≤◌, ℕ, Bool, List, [], length}
+use Rattle.tp_kernel.specs.Built.{HasBuiltKinds}
 use Rattle.tp_meaning.specs.Syntax.{FormulaTree}
 use Rattle.tp_meaning.specs.Course.{Course, Shows}
 use Rattle.tp_meaning.specs.Holds.{Holds}
@@ -28,12 +29,17 @@ TryMeans w m next (tried.Waits first other) = Unit {0}
 TryMeans w m next tried.Rests = Unit {0}
 TryMeans w m next (tried.Over limit) = Unit {0}
 
--- A scene, with a new store of the globals, stands for exactly the intervals on which the formula holds, with what is shown on them; and both fit.
+-- A scene, with a new store of the globals, stands for exactly the intervals on which the formula holds, with what is shown on them.
 abbrev pub StandsForAllOf : FormulaTree → Scene → Type 0
 StandsForAllOf main scene =
     (w : Setting) (names : List (List ℕ)) → DefinitionsFit w.defs (kinds_of names) → FormulaFits w.defs (kinds_of names) main 0
     → (s : Course) (a b : ℕ) (S : Shows)
     → StandsFor w (length (kinds_of names)) (moment_of scene (new_store names)) s a b S ↔ ((a ≤ b) × ((d : ℕ) × Holds (context_of w) d main [] s a b S))
+
+-- and both are ready, where the formula is of the kinds that run today
+abbrev pub StartIsReady : FormulaTree → Scene → Type 0
+StartIsReady main scene =
+    (w : Setting) (names : List (List ℕ)) → DefinitionsFit w.defs (kinds_of names) → FormulaFits w.defs (kinds_of names) main 0 → HasBuiltKinds main → IsReady w (kinds_of names) (moment_of scene (new_store names))
 
 -- Scene and store stood for the intervals that have a next state, whose first state agrees with the facts of the globals and shows what the scene
 -- shows, and whose rest the next scene and a store for the next state stand for.

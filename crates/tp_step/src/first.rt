@@ -3,7 +3,7 @@ ghost use Rattle.std.specs.Prelude.{◌≡◌, IfOk};
 ghost use Rattle.tp_kernel.specs.Read.{formula_tree};
 ghost use Rattle.tp_scene.specs.StandsFor.{started};
 ghost use Rattle.tp_decide.specs.Read.{scene_of};
-ghost use Rattle.tp_step.specs.Meaning.{StandsForAllOf};
+ghost use Rattle.tp_step.specs.Meaning.{StandsForAllOf, StartIsReady};
 
 use std::alloc::Global;
 use std::rc::Rc;
@@ -15,6 +15,7 @@ use tp_value::NoMemory;
 pub fn start(alloc: Global, main: &Rc<Formula>) -> Result<Scene, NoMemory>
     ensures scene { IfOk result (λ scene. scene_of scene ≡ started (formula_tree main.now.value)) }
     ensures means { IfOk result (StandsForAllOf (formula_tree main.now.value)) }
+    ensures ready { IfOk result (StartIsReady (formula_tree main.now.value)) }
 {
     let what = main.clone()?;
     let env = Env {

@@ -4,7 +4,7 @@ use Rattle.tp_decide.specs.declared.scene.Entry.{Entry}
 use Rattle.tp_decide.specs.declared.scene.Phrase.{Phrase}
 use Rattle.tp_decide.specs.Read.{formula_of, env_of}
 use Rattle.tp_decide.proofs.DecideLemmas.{do_entry, pushed}
-use Rattle.tp_step.proofs.MeaningLemmas.{scene_with, scene_with_is, plain_scene, begins}
+use Rattle.tp_step.proofs.MeaningLemmas.{scene_with, scene_with_is, plain_scene, begins, begins_ready}
 use Rattle.tp_step.proofs.first.start.Goals as goal
 
 pub returns-clause-scene : goal.returns-clause-scene
@@ -18,3 +18,6 @@ returns-clause-scene c =
 
 pub returns-clause-means : goal.returns-clause-means
 returns-clause-means c = begins (formula_tree c.args.main.now.value) (scene_with c.push.new.self 1) (returns-clause-scene c)
+
+pub returns-clause-ready : goal.returns-clause-ready
+returns-clause-ready c = begins_ready (formula_tree c.args.main.now.value) (scene_with c.push.new.self 1) (returns-clause-scene c)
