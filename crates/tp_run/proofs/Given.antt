@@ -1,5 +1,4 @@
 -- The laws of scenes and of stores, as whole runs need them.
-use Rattle.std.proofs.Common.{◌≡◌, List, map}
 use Rattle.tp_kernel.specs.Built.{IsBuilt}
 use Rattle.tp_meaning.specs.Interval.{kinds_of}
 use Rattle.tp_store.proofs.States.{same_shapes_same_store, no_clash_arises}
@@ -10,7 +9,6 @@ use Rattle.tp_scene.proofs.EndLaws.{all_ends_stand, all_advances_keep}
 use Rattle.tp_scene.proofs.AdvancesFit.{advances_fit}
 use Rattle.tp_scene.proofs.Begin.{runs_begin}
 use Rattle.tp_scene.proofs.Flat.{steps_stay_flat, advances_stay_flat}
-use Rattle.tp_scene.specs.Pick.{Setting, Moment}
 use Rattle.tp_scene.specs.StandsFor.{first_moment}
 use Rattle.tp_scene.specs.Built.{IsReady}
 use Rattle.tp_run.specs.States.{Plan, setting}

@@ -3,4 +3,7 @@ pub mod StatesMean
 pub mod Lives
 pub mod HistoryLemmas
 pub mod Given
+pub mod Sparing
 pub mod Waiting
+pub mod FactOrder
+pub mod Becomes

@@ -1,5 +1,5 @@
 -- A run that finishes has an interval: static variables as the last state has them, each other value as its own state's facts ask.
-use Rattle.std.proofs.Common.{◌≡◌, ℕ, zero, suc, ◌+◌, ◌<◌, ◌≤◌, Bool, true, false, cond, List, [], ◌∷◌, ◌++◌, length, map, filter, nat_lt, slice_get, Some, None, refl, ap, sym, ◌∙◌, subst, arith}
+use Rattle.std.proofs.Common.{◌≡◌, ℕ, zero, suc, ◌+◌, ◌≤◌, Bool, true, false, cond, List, [], ◌∷◌, ◌++◌, length, map, nat_lt, slice_get, Some, refl, sym, ◌∙◌, subst, arith}
 use Rattle.tp_value.specs.Tree.{Tree}
 use Rattle.tp_value.specs.declared.value.Shape.{Shape}
 use Rattle.tp_value.specs.declared.path.Path.{Path}
@@ -7,14 +7,12 @@ use Rattle.tp_value.specs.declared.path.Fact.{Fact}
 use Rattle.tp_meaning.specs.Course.{State, Course}
 use Rattle.tp_meaning.specs.Interval.{kinds_of}
 use Rattle.tp_store.specs.Facts.{same_path, kept_shape, fact, AgreesWithAll}
-use Rattle.tp_store.specs.Known.{NoClash, Variable, IsVariableOf, AreOfVariables, lasting_facts, facts_below}
-use Rattle.tp_store.proofs.Members.{In, in_filter, filter_in, kept_in, in_kept, agrees_in, agrees_from}
+use Rattle.tp_store.specs.Known.{NoClash, Variable, AreOfVariables, lasting_facts, facts_below}
+use Rattle.tp_store.proofs.Members.{in_filter, filter_in, kept_in, in_kept, agrees_in, agrees_from}
 use Rattle.tp_scene.specs.Pick.{Setting, Moment, Leads}
-use Rattle.tp_scene.specs.Laws.{GoesOn as GoesOnTo}
 use Rattle.tp_scene.specs.Built.{IsReady}
 use Rattle.tp_run.specs.declared.turn.Picture.{Picture}
 use Rattle.tp_run.specs.States.{Plan, globals_of, setting, GoesOn, StatesLead}
-use Rattle.tp_run.specs.Meaning.{AgreesWith}
 use Rattle.tp_run.specs.History.{AgreesWithPictures}
 use Rattle.tp_run.proofs.StatesMean.{SceneLaws, leads_ready, next_ready, picture_agrees}
 
@@ -87,12 +85,15 @@ then_states st s (suc j) = s j
 
 pub below_keeps : (k : ℕ) (fs : List Fact) → NoClash fs → Keeps (facts_below k fs) fs
 below_keeps k fs apart q sh e = in_kept fs (fact q sh) apart (in_filter (λ f. nat_lt f.path.var.number k) (fact q sh) fs (kept_in (facts_below k fs) q sh e)).0
+
 own_of : (n : ℕ) (u : ℕ → Tree) (t : Course) → ((j : ℕ) → (t j).own ≡ j + suc n) → (j : ℕ) → (then_states (state_with n u) t j).own ≡ j + n
 own_of n u t e zero = omega arith
 own_of n u t e (suc j) = e j ∙ omega arith
+
 statics_of : (kinds : List Bool) (n : ℕ) (u v : ℕ → Tree) (t : Course) → HasStatics kinds u v → ((j : ℕ) → HasStatics kinds (t j).values v) → (j : ℕ) → HasStatics kinds (then_states (state_with n u) t j).values v
 statics_of kinds n u v t e r zero = e
 statics_of kinds n u v t e r (suc j) = r j
+
 after_of : (n : ℕ) (u v : ℕ → Tree) (ps : List Picture) (p : Picture) (t : Course) → ((j : ℕ) → length ps ≤ j → (t j).values ≡ v) → (j : ℕ) → length (p ∷ ps) ≤ j → (then_states (state_with n u) t j).values ≡ v
 after_of n u v ps p t e zero le = absurd (omega arith)
 after_of n u v ps p t e (suc j) le = e j (omega arith)
@@ -126,7 +127,7 @@ module _ (laws : SceneLaws) (stores : StateLaws) where
       let apart = stores.lasting_no_clash facts here.sound.store.no_clash in
       let later = next_ready laws plan n m h.0 p ready g (suc n) in
       let kept : Keeps static last.store.facts =
-              λ q sh k. lead_keeps plan (suc n) ps h.0 last later h.2 q sh (kept_static facts q sh k) (next_keeps plan n m h.0 p ready g q sh k) in
+      λ q sh k. lead_keeps plan (suc n) ps h.0 last later h.2 q sh (kept_static facts q sh k) (next_keeps plan n m h.0 p ready g q sh k) in
       let u = stores.extends g.last.store.variables facts here.sound.store.no_clash here.sound.store.facts v (agrees_with_less static last.store.facts v apart kept agrees) in
       let rest = lives plan (suc n) ps h.0 last later h.2 v agrees in
       let r = rest.1 in

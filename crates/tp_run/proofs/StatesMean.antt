@@ -1,24 +1,23 @@
 -- What the states of a run say of every interval.
-use Rattle.std.proofs.Common.{◌≡◌, ◌↔◌, ℕ, suc, ◌+◌, ◌<◌, ◌≤◌, Bool, List, [], ◌∷◌, ◌++◌, length, refl, ap, sym, ◌∙◌, subst, arith}
+use Rattle.std.proofs.Common.{◌≡◌, ◌↔◌, ℕ, suc, ◌+◌, ◌<◌, ◌≤◌, Bool, List, [], ◌∷◌, length, refl, ap, sym, ◌∙◌, subst, arith}
 use Rattle.tp_value.specs.Tree.{Tree}
 use Rattle.tp_value.specs.declared.path.Fact.{Fact}
-use Rattle.tp_meaning.specs.Course.{Course, Shows, blank, ◌⊕◌, shown_at}
+use Rattle.tp_meaning.specs.Course.{Course, Shows, ◌⊕◌, shown_at}
 use Rattle.tp_meaning.specs.Interval.{kinds_of, KeepsStatics}
 use Rattle.tp_value.specs.declared.path.Path.{Path}
 use Rattle.tp_store.specs.Facts.{AgreesWithAll, kept_shape}
 use Rattle.tp_store.specs.Known.{facts_below, NoClash}
 use Rattle.tp_decide.specs.Read.{shows_of}
-use Rattle.tp_scene.specs.Scene.{Scene}
 use Rattle.tp_scene.specs.Step.{Reduction}
 use Rattle.tp_scene.specs.Pick.{Setting, Moment, Reduces, Leads}
-use Rattle.tp_scene.specs.Rest.{settled, goes, ends}
+use Rattle.tp_scene.specs.Rest.{settled, goes}
 use Rattle.tp_scene.specs.Advance.{advanced, shown_in}
 use Rattle.tp_scene.specs.StandsFor.{StandsFor}
 use Rattle.tp_scene.specs.Laws.{StepsKeep, GoesOn as GoesOnTo, AdvancesKeep, EndsStand}
 use Rattle.tp_scene.specs.Built.{IsReady}
 use Rattle.tp_meaning.proofs.Shows.{join-assoc as join_assoc}
 use Rattle.tp_run.specs.declared.turn.Picture.{Picture}
-use Rattle.tp_run.specs.States.{Plan, globals_of, setting, AreGlobals, IsPictureOf, GoesOn, EndsHere, StatesLead}
+use Rattle.tp_run.specs.States.{Plan, globals_of, setting, AreGlobals, GoesOn, EndsHere, StatesLead}
 use Rattle.tp_run.specs.Meaning.{AgreesWith}
 use Rattle.tp_run.specs.History.{AgreesWithPictures, shown_from}
 

@@ -1,13 +1,13 @@
--- An item that isn't done with a state at rest waits for a cell.
-use Rattle.std.proofs.Common.{◌≡◌, ◌≢◌, ℕ, ℤ, pos, negsuc, zero, suc, ◌+◌, ◌-◌, Bool, true, false, not, ◌&&◌, cond, eqb, nat_lt, int_le, IsTrue, List, [], ◌∷◌, ◌++◌, Option, Some, None, refl, ap, sym, ◌∙◌, subst, arith, inl, inr}
+-- An item that isn't done with a state at rest waits for a cell; and none passes the limit on reductions.
+use Rattle.std.proofs.Common.{◌≡◌, ◌≢◌, ℕ, ℤ, pos, negsuc, zero, suc, ◌-◌, Bool, true, false, not, ◌&&◌, cond, eqb, nat_lt, List, [], ◌∷◌, Option, Some, None, refl, ap, sym, ◌∙◌, subst, arith, inl, inr}
 use Rattle.std.proofs.lemmas.Bool.Decides.{nat_tests}
-use Rattle.std.proofs.lemmas.Bool.{cond_both, cases_Bool, eqb-true, or_left, or_right}
+use Rattle.std.proofs.lemmas.Bool.{cases_Bool, eqb-true, or_left, or_right}
 use Rattle.tp_value.specs.Tree.{Tree, num, truth, list, same_tree}
 use Rattle.tp_value.specs.Limits.{length_limit}
-use Rattle.tp_value.specs.declared.path.Path.{Path}
 use Rattle.tp_value.specs.declared.path.Fact.{Fact}
-use Rattle.tp_meaning.specs.Syntax.{ExprTree, FormulaTree, trivial, test, equation, next_equation, empty, more, next, weak_next, if_more, if_empty, always, conjunction, branch, len, assign, chop, while, for_from, forall_from, project, exists, call, input, display, known}
+use Rattle.tp_meaning.specs.Syntax.{FormulaTree, trivial, test, equation, next_equation, empty, more, next, weak_next, if_more, if_empty, always, conjunction, branch, len, assign, chop, while, for_from, forall_from, project, exists, call, input, display, known}
 use Rattle.tp_kernel.specs.Built.{HasBuiltKinds}
+use Rattle.tp_kernel.specs.declared.formula.LimitKind.{LimitKind}
 use Rattle.tp_store.specs.Facts.{facts_at}
 use Rattle.tp_store.specs.Known.{Addition, adds, refuses, addition}
 use Rattle.tp_eval.specs.Outcome.{outcome}
@@ -16,43 +16,44 @@ use Rattle.tp_scene.specs.declared.answer.Clash.TheVariants.{False}
 use Rattle.tp_eval.specs.Outcome as found
 use Rattle.tp_scene.specs.declared.answer.Cell.{Cell}
 use Rattle.tp_scene.specs.declared.answer.Cell.TheVariants.{Part}
-use Rattle.tp_scene.specs.Scene.{Bindings, Side, Ending, Going, Leaf, Do, Later, Shown, Entries, none, leaf, node, has, Place, root_place}
-use Rattle.tp_scene.specs.Step.{Outcome, reduces, waits, rests, clashes, misses, passes, Numbers, SideOf, Target, value_at, length_at, set, added, meets, equate, by_status, marking, with_value, with_truth, with_number, length_left, formula_step, leaf_step, vanishes, becomes, going, side_of}
+use Rattle.tp_scene.specs.Scene.{Bindings, Side, Ending, Going, Do, Later, Shown, Entries, none, leaf, node, has, Place, root_place}
+use Rattle.tp_scene.specs.Step.{Outcome, reduces, waits, rests, clashes, misses, passes, Numbers, Target, value_at, length_at, set, added, meets, equate, by_status, marking, with_value, with_truth, with_number, length_left, formula_step, leaf_step, vanishes, becomes, going, side_of}
 use Rattle.tp_scene.specs.Pick.{Setting, Moment, pick, outcome_of, numbers_of, IsIdle}
-use Rattle.tp_scene.specs.Rest.{Settled, waiting, end_open, ends, goes, settled, settled_by, unsettled_items}
+use Rattle.tp_scene.specs.Rest.{waiting, end_open, ends, goes, settled, settled_by, unsettled_items}
 use Rattle.tp_scene.specs.Fits.{IsNew, AreNumbers, item_numbers}
 use Rattle.tp_scene.specs.Built.{IsFlat, IsReady}
+use Rattle.tp_run.proofs.Sparing.{IsOther, IsSparing, outcome_sparing}
 
--- something comes of it, or it waits
+-- something comes of it, or it waits; it doesn't pass the limit on reductions
 abbrev pub IsBusy : Outcome → Type 0
 IsBusy (reduces r) = Unit {0}
 IsBusy (waits first other) = Unit {0}
 IsBusy rests = ⊥
 IsBusy (clashes c) = Unit {0}
 IsBusy (misses port) = Unit {0}
-IsBusy (passes k) = Unit {0}
+IsBusy (passes k) = IsOther k
 
-value_busy : (o : found.Outcome) (f : Tree → Outcome) → ((t : Tree) → IsBusy (f t)) → IsBusy (with_value o f)
-value_busy (found.value t) f h = h t
-value_busy (found.wait p) f h = tt
-value_busy (found.fault k) f h = tt
-value_busy (found.over k) f h = tt
+value_busy : (o : found.Outcome) (f : Tree → Outcome) → IsSparing o → ((t : Tree) → IsBusy (f t)) → IsBusy (with_value o f)
+value_busy (found.value t) f s h = h t
+value_busy (found.wait p) f s h = tt
+value_busy (found.fault k) f s h = tt
+value_busy (found.over k) f s h = s
 
-truth_busy : (o : found.Outcome) (f : Bool → Outcome) → ((b : Bool) → IsBusy (f b)) → IsBusy (with_truth o f)
-truth_busy (found.value (truth b)) f h = h b
-truth_busy (found.value (num n)) f h = tt
-truth_busy (found.value (list ts)) f h = tt
-truth_busy (found.wait p) f h = tt
-truth_busy (found.fault k) f h = tt
-truth_busy (found.over k) f h = tt
+truth_busy : (o : found.Outcome) (f : Bool → Outcome) → IsSparing o → ((b : Bool) → IsBusy (f b)) → IsBusy (with_truth o f)
+truth_busy (found.value (truth b)) f s h = h b
+truth_busy (found.value (num n)) f s h = tt
+truth_busy (found.value (list ts)) f s h = tt
+truth_busy (found.wait p) f s h = tt
+truth_busy (found.fault k) f s h = tt
+truth_busy (found.over k) f s h = s
 
-number_busy : (o : found.Outcome) (f : ℤ → Outcome) → ((n : ℤ) → IsBusy (f n)) → IsBusy (with_number o f)
-number_busy (found.value (num n)) f h = h n
-number_busy (found.value (truth b)) f h = tt
-number_busy (found.value (list ts)) f h = tt
-number_busy (found.wait p) f h = tt
-number_busy (found.fault k) f h = tt
-number_busy (found.over k) f h = tt
+number_busy : (o : found.Outcome) (f : ℤ → Outcome) → IsSparing o → ((n : ℤ) → IsBusy (f n)) → IsBusy (with_number o f)
+number_busy (found.value (num n)) f s h = h n
+number_busy (found.value (truth b)) f s h = tt
+number_busy (found.value (list ts)) f s h = tt
+number_busy (found.wait p) f s h = tt
+number_busy (found.fault k) f s h = tt
+number_busy (found.over k) f s h = s
 
 either_busy : (b : Bool) (x y : Outcome) → IsBusy x → IsBusy y → IsBusy (cond b x y)
 either_busy true x y h g = h
@@ -76,34 +77,34 @@ set_busy facts (length_at p) (num (negsuc n)) = tt
 set_busy facts (length_at p) (truth b) = tt
 set_busy facts (length_at p) (list ts) = tt
 
-meets_busy : (facts : List Fact) (placed : Bool) (target : Option Target) (o : found.Outcome) (v : Tree) → IsBusy (meets facts (record { placed = placed; target = target; found = o }) v)
-meets_busy facts placed (Some t) o v = set_busy facts t v
-meets_busy facts placed None (found.value u) v = either_busy (same_tree u v) _ _ tt tt
-meets_busy facts placed None (found.wait p) v = tt
-meets_busy facts placed None (found.fault k) v = tt
-meets_busy facts placed None (found.over k) v = tt
+meets_busy : (facts : List Fact) (placed : Bool) (target : Option Target) (o : found.Outcome) (v : Tree) → IsSparing o → IsBusy (meets facts (record { placed = placed; target = target; found = o }) v)
+meets_busy facts placed (Some t) o v s = set_busy facts t v
+meets_busy facts placed None (found.value u) v s = either_busy (same_tree u v) _ _ tt tt
+meets_busy facts placed None (found.wait p) v s = tt
+meets_busy facts placed None (found.fault k) v s = tt
+meets_busy facts placed None (found.over k) v s = s
 
 both_busy : (b : Bool) (x y : Cell) → IsBusy (cond b (waits x (Some y)) (waits y (Some x)))
 both_busy true x y = tt
 both_busy false x y = tt
 
-equate_busy : (facts : List Fact) (a b : Bool) (s t : Option Target) (o u : found.Outcome) → IsBusy (equate facts (record { placed = a; target = s; found = o }) (record { placed = b; target = t; found = u }))
-equate_busy facts a b s t (found.value v) (found.fault k) = tt
-equate_busy facts a b s t (found.wait p) (found.fault k) = tt
-equate_busy facts a b s t (found.fault j) (found.fault k) = tt
-equate_busy facts a b s t (found.over j) (found.fault k) = tt
-equate_busy facts a b s t (found.fault k) (found.value v) = tt
-equate_busy facts a b s t (found.fault k) (found.wait p) = tt
-equate_busy facts a b s t (found.fault k) (found.over j) = tt
-equate_busy facts a b s t (found.value v) (found.over k) = tt
-equate_busy facts a b s t (found.wait p) (found.over k) = tt
-equate_busy facts a b s t (found.over j) (found.over k) = tt
-equate_busy facts a b s t (found.over k) (found.value v) = tt
-equate_busy facts a b s t (found.over k) (found.wait p) = tt
-equate_busy facts a b s t (found.value u) (found.value v) = meets_busy facts a s (found.value u) v
-equate_busy facts a b s t (found.wait p) (found.value v) = meets_busy facts a s (found.wait p) v
-equate_busy facts a b s t (found.value v) (found.wait q) = meets_busy facts b t (found.wait q) v
-equate_busy facts a b s t (found.wait p) (found.wait q) = both_busy (b && not a) (Part p) (Part q)
+equate_busy : (facts : List Fact) (a b : Bool) (s t : Option Target) (o u : found.Outcome) → IsSparing o → IsSparing u → IsBusy (equate facts (record { placed = a; target = s; found = o }) (record { placed = b; target = t; found = u }))
+equate_busy facts a b s t (found.value v) (found.fault k) h g = tt
+equate_busy facts a b s t (found.wait p) (found.fault k) h g = tt
+equate_busy facts a b s t (found.fault j) (found.fault k) h g = tt
+equate_busy facts a b s t (found.over j) (found.fault k) h g = tt
+equate_busy facts a b s t (found.fault k) (found.value v) h g = tt
+equate_busy facts a b s t (found.fault k) (found.wait p) h g = tt
+equate_busy facts a b s t (found.fault k) (found.over j) h g = tt
+equate_busy facts a b s t (found.value v) (found.over k) h g = g
+equate_busy facts a b s t (found.wait p) (found.over k) h g = g
+equate_busy facts a b s t (found.over j) (found.over k) h g = g
+equate_busy facts a b s t (found.over k) (found.value v) h g = h
+equate_busy facts a b s t (found.over k) (found.wait p) h g = h
+equate_busy facts a b s t (found.value u) (found.value v) h g = meets_busy facts a s (found.value u) v h
+equate_busy facts a b s t (found.wait p) (found.value v) h g = meets_busy facts a s (found.wait p) v h
+equate_busy facts a b s t (found.value v) (found.wait q) h g = meets_busy facts b t (found.wait q) v g
+equate_busy facts a b s t (found.wait p) (found.wait q) h g = both_busy (b && not a) (Part p) (Part q)
 
 eqb_self : (n : ℕ) → eqb n n ≡ true
 eqb_self n = grind (arith, nat_tests)
@@ -120,12 +121,12 @@ module _ (w : Setting) (facts : List Fact) where
   -- a formula that is to hold from this state on is never at rest
   formula_busy : (f : FormulaTree) (env : Bindings) (p : Place) (n : Numbers) → HasBuiltKinds f → IsBusy (formula_step w.defs w.inputs w.state facts f env p n)
   formula_busy trivial env p n h = tt
-  formula_busy (test e) env p n h = truth_busy (outcome facts w.defs e env) (λ b. cond b vanishes (clashes False)) (λ b. either_busy b vanishes (clashes False) tt tt)
+  formula_busy (test e) env p n h = truth_busy (outcome facts w.defs e env) (λ b. cond b vanishes (clashes False)) (outcome_sparing facts w.defs e env) (λ b. either_busy b vanishes (clashes False) tt tt)
   formula_busy (equation l r) env p n h =
       let a = side_of w.defs w.inputs w.state facts l env in
       let b = side_of w.defs w.inputs w.state facts r env in
-      equate_busy facts a.placed b.placed a.target b.target a.found b.found
-  formula_busy (next_equation k t e) env p n h = value_busy (outcome facts w.defs e env) (λ v. going p (leaf (n.item 0) (Later (nexts (k - 1) (equation t (known v))) env) none) 1) (λ v. mark_busy Going (p.is Ending) p.depth (leaf (n.item 0) (Later (nexts (k - 1) (equation t (known v))) env) none) 1)
+      equate_busy facts a.placed b.placed a.target b.target a.found b.found (outcome_sparing facts w.defs l env) (outcome_sparing facts w.defs r env)
+  formula_busy (next_equation k t e) env p n h = value_busy (outcome facts w.defs e env) (λ v. going p (leaf (n.item 0) (Later (nexts (k - 1) (equation t (known v))) env) none) 1) (outcome_sparing facts w.defs e env) (λ v. mark_busy Going (p.is Ending) p.depth (leaf (n.item 0) (Later (nexts (k - 1) (equation t (known v))) env) none) 1)
   formula_busy empty env p n h = mark_busy Ending (p.is Going) p.depth none 0
   formula_busy more env p n h = mark_busy Going (p.is Ending) p.depth none 0
   formula_busy (next f) env p n h = mark_busy Going (p.is Ending) p.depth (leaf (n.item 0) (Later f env) none) 1
@@ -134,9 +135,9 @@ module _ (w : Setting) (facts : List Fact) where
   formula_busy (if_empty f) env p n h = status_busy p vanishes (becomes (leaf (n.item 0) (Do f env) none) 1) tt tt
   formula_busy (always f) env p n h = tt
   formula_busy (conjunction fs) env p n h = tt
-  formula_busy (branch e f g) env p n h = truth_busy (outcome facts w.defs e env) (λ b. becomes (leaf (n.item 0) (Do (cond b f g) env) none) 1) (λ b. tt)
-  formula_busy (len e) env p n h = number_busy (outcome facts w.defs e env) (λ k. length_left w.defs w.inputs w.state facts k env n) (λ k. length_busy k env n)
-  formula_busy (assign t e) env p n h = value_busy (outcome facts w.defs e env) (λ v. becomes (leaf (n.item 0) (Do (always (if_empty (equation t (known v)))) env) none) 1) (λ v. tt)
+  formula_busy (branch e f g) env p n h = truth_busy (outcome facts w.defs e env) (λ b. becomes (leaf (n.item 0) (Do (cond b f g) env) none) 1) (outcome_sparing facts w.defs e env) (λ b. tt)
+  formula_busy (len e) env p n h = number_busy (outcome facts w.defs e env) (λ k. length_left w.defs w.inputs w.state facts k env n) (outcome_sparing facts w.defs e env) (λ k. length_busy k env n)
+  formula_busy (assign t e) env p n h = value_busy (outcome facts w.defs e env) (λ v. becomes (leaf (n.item 0) (Do (always (if_empty (equation t (known v)))) env) none) 1) (outcome_sparing facts w.defs e env) (λ v. tt)
   formula_busy (chop f g) env p n h = absurd h
   formula_busy (while e f) env p n h = absurd h
   formula_busy (for_from name k e f) env p n h = absurd h
@@ -171,6 +172,33 @@ module _ (w : Setting) (facts : List Fact) where
       let r = first_busy c t ts rest p n flat numbers.2 e in
       (or_right (eqb i t) (has t rest) r.0, subst (λ b. IsBusy (cond b rests (pick w facts t rest p n))) (sym no) r.1)
   first_busy c t ts (node i k h held g second rest) p n flat numbers e = absurd flat
+
+  busy_passes : (o : Outcome) (k : LimitKind) → IsBusy o → o ≡ passes k → IsOther k
+  busy_passes o k h e = let busy : IsBusy (passes k) = subst IsBusy e h in busy
+
+  rests_passes : (k : LimitKind) → rests ≡ passes k → IsOther k
+  rests_passes k e = absurd (cc)
+
+  -- no item passes the limit on reductions
+  picks_spare : (t : ℕ) (es : Entries) (p : Place) (n : Numbers) (k : LimitKind) → IsFlat es → pick w facts t es p n ≡ passes k → IsOther k
+  picks_spare t none p n k flat e = rests_passes k e
+  picks_spare t (leaf i (Do f env) rest) p n k flat e =
+      let P : Bool → Type 0 = λ b. cond b (leaf_step w.defs w.inputs w.state facts (Do f env) p n) (pick w facts t rest p n) ≡ passes k → IsOther k in
+      let by : P (eqb i t) = elim (eqb i t) as P [ true ↦ λ q. busy_passes (formula_step w.defs w.inputs w.state facts f env p n) k (formula_busy f env p n flat.0) q | false ↦ λ q. picks_spare t rest p n k flat.1 q ] in
+      by e
+  picks_spare t (leaf i (Later f env) rest) p n k flat e =
+      let P : Bool → Type 0 = λ b. cond b rests (pick w facts t rest p n) ≡ passes k → IsOther k in
+      let by : P (eqb i t) = elim (eqb i t) as P [ true ↦ λ q. rests_passes k q | false ↦ λ q. picks_spare t rest p n k flat.1 q ] in
+      by e
+  picks_spare t (leaf i (Shown vs) rest) p n k flat e =
+      let P : Bool → Type 0 = λ b. cond b rests (pick w facts t rest p n) ≡ passes k → IsOther k in
+      let by : P (eqb i t) = elim (eqb i t) as P [ true ↦ λ q. rests_passes k q | false ↦ λ q. picks_spare t rest p n k flat q ] in
+      by e
+  picks_spare t (node i h g held second_head second rest) p n k flat e = absurd flat
+
+-- the limit that an item passes isn't that on reductions
+pub passes_other : (w : Setting) (kinds : List Bool) (m : Moment) (t : ℕ) (k : LimitKind) → IsReady w kinds m → outcome_of w m.store m.scene t ≡ passes k → IsOther k
+passes_other w kinds m t k ready e = picks_spare w m.store.facts t m.scene.root.entries (root_place m.scene.root) (numbers_of m.scene m.store.variables) k ready.flat e
 
 -- what waits: it is neither busy with a step nor at rest
 waits_then : (o : Outcome) → IsIdle o → IsBusy o → (first : Cell) × (other : Option Cell) × (o ≡ waits first other)

@@ -3,7 +3,6 @@ use Rattle.std.specs.Prelude.{◌≡◌, ◌↔◌, ℕ, suc, ◌+◌, ◌≤◌
 use Rattle.tp_kernel.specs.Built.{IsBuilt}
 use Rattle.tp_meaning.specs.Course.{Course, Shows, blank, ◌⊕◌, shown_at}
 use Rattle.tp_meaning.specs.Interval.{ProgramTree, IsInterval, Satisfies}
-use Rattle.tp_meaning.specs.Inputs.{InputLines}
 use Rattle.tp_decide.specs.Read.{shows_of}
 use Rattle.tp_scene.specs.Pick.{Moment}
 use Rattle.tp_scene.specs.StandsFor.{first_moment}

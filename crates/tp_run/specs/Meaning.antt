@@ -1,7 +1,6 @@
 -- What a run stands for, and what its answers say of every interval.
-use Rattle.std.specs.Prelude.{◌≡◌, ◌↔◌, ℕ, suc, ◌<◌, ◌≤◌, [], ◌∷◌, List, Bool, length}
+use Rattle.std.specs.Prelude.{◌≡◌, ◌↔◌, ℕ, suc, ◌<◌, ◌≤◌, [], List, length}
 use Rattle.tp_value.specs.declared.path.Fact.{Fact}
-use Rattle.tp_value.specs.Tree.{Tree}
 use Rattle.tp_meaning.specs.Course.{Course, Shows, Part, ◌⊕◌, shown_at}
 use Rattle.tp_meaning.specs.Holds.{Holds}
 use Rattle.tp_meaning.specs.Interval.{kinds_of, KeepsStatics}

@@ -1,14 +1,11 @@
 -- Where a run stands, and what its parts make of a state.
-use Rattle.std.specs.Prelude.{◌≡◌, ℕ, ◌≤◌, [], Option}
+use Rattle.std.specs.Prelude.{◌≡◌, ℕ, ◌≤◌, []}
 use Rattle.tp_kernel.specs.Read.{definitions_of}
 use Rattle.tp_inputs.specs.Read.{lines_of}
-use Rattle.tp_store.specs.Known.{Contents}
-use Rattle.tp_decide.specs.Read.{scene_of, shows_of}
+use Rattle.tp_decide.specs.Read.{shows_of}
 use Rattle.tp_step.specs.Answers.{moment_of, setting_of}
 use Rattle.tp_step.specs.declared.answer.Order.TheVariants.{First}
 use Rattle.tp_meaning.specs.Interval.{kinds_of}
-use Rattle.tp_scene.specs.declared.answer.Cell.{Cell}
-use Rattle.tp_scene.specs.Scene as S
 use Rattle.tp_scene.specs.Pick.{Setting, Moment}
 use Rattle.tp_scene.specs.Rest.{settled, goes, ends, IsOpenCell}
 use Rattle.tp_scene.specs.Advance.{advanced, shown_in}
@@ -17,7 +14,6 @@ use Rattle.tp_scene.specs.Built.{IsReady}
 use Rattle.tp_run.specs.declared.run.Run.{Run}
 use Rattle.tp_run.specs.declared.run.Stand.{Stand}
 use Rattle.tp_run.specs.declared.run.Stand.TheVariants.{Open, Answered, Spent}
-use Rattle.tp_run.specs.declared.turn.Limits.{Limits}
 use Rattle.tp_run.specs.declared.turn.Picture.{Picture}
 use Rattle.tp_run.specs.declared.turn.Turn.{Turn}
 use Rattle.tp_run.specs.declared.turn.Turn.TheVariants.{Went, Finished, Contradictory, Undetermined, StateLimit, InputMissing, Over}

@@ -1,5 +1,5 @@
 // The run of a program, state by state.
-ghost use Rattle.std.specs.Prelude.{◌≡◌, ◌≤◌, Bool, List, [], Option, IfOk, OnErr, OnOk};
+ghost use Rattle.std.specs.Prelude.{◌≡◌, ◌<◌, ◌≤◌, Bool, List, [], Option, IfOk, OnErr, OnOk};
 ghost use Rattle.tp_kernel.specs.Read.{formula_tree, definitions_of};
 ghost use Rattle.tp_kernel.specs.Built.{IsBuilt};
 ghost use Rattle.tp_inputs.specs.Read.{lines_of};
@@ -13,7 +13,7 @@ ghost use Rattle.tp_scene.specs.StandsFor.{first_moment};
 ghost use Rattle.tp_decide.specs.Read.{scene_of};
 ghost use Rattle.tp_step.specs.Answers.{moment_of};
 ghost use Rattle.tp_step.specs.declared.answer.Order.TheVariants.{First};
-ghost use Rattle.tp_run.specs.States.{Plan, plan_with, open_at, answered, spent, Answers, StateBecomes};
+ghost use Rattle.tp_run.specs.States.{Plan, plan_with, open_at, answered, spent, state_after, Answers, StateBecomes};
 ghost use Rattle.tp_run.specs.Meaning.{BeginsWith, AnswerMeans};
 ghost use Rattle.tp_run.specs.Runs.{stands_at, standing_of, next_state_of, setting_in, IsRunOf, HasPicture, NextOf, RestTurns};
 
@@ -27,7 +27,8 @@ use tp_inputs::Inputs;
 use tp_kernel::{Defs, Formula};
 use tp_pass::close_by_passes;
 use tp_step::{
-    Cell, Ending, Order, Scene, Settled, Steps, Tally, Tried, advance, settled, start, try_item,
+    Cell, Ending, ItemIds, Order, Scene, Settled, Steps, Tally, Tried, Waits, advance, settled,
+    start, try_item,
 };
 use tp_store::Store;
 use tp_value::{Globals, NoMemory};
@@ -70,6 +71,19 @@ fn stop(turn: Turn) -> Result<Made, NoMemory>
         stand: Stand::Answered(again),
         turn,
     })
+}
+
+// Nothing is done yet.
+fn no_tally(alloc: Global) -> Tally
+    ensures { result.picks ≡ [] }
+{
+    Tally {
+        picks: ItemIds::new(alloc),
+        waits: Waits {
+            items: Vec::new(alloc),
+        },
+        rests: ItemIds::new(alloc),
+    }
 }
 
 impl Run {
@@ -120,9 +134,24 @@ impl Run {
         requires item { rest.settled (scene_of scene.old) ≡ rest.waiting item }
         ensures { IfOk result (λ cell. (other : Option Cell) × (outcome_of (setting_in self.now) store.old (scene_of scene.old) item ≡ waits cell other)) }
     {
-        match try_item(self.alloc, scene, item, store, &self.defs, &self.inputs, self.state, 0, steps)? {
+        let tried = try_item(
+            self.alloc,
+            scene,
+            item,
+            store,
+            &self.defs,
+            &self.inputs,
+            self.state,
+            0,
+            steps,
+        )?;
+        match tried {
             Tried::Waits(cell, _) => Ok(cell),
-            _ => unreachable!(),
+            Tried::Reduced(_) => unreachable!(),
+            Tried::Rests => unreachable!(),
+            Tried::Clash(_) => unreachable!(),
+            Tried::Missing(_) => unreachable!(),
+            Tried::Over(_) => unreachable!(),
         }
     }
 
@@ -140,7 +169,14 @@ impl Run {
         ensures turn { IfOk result (λ made. made.turn ≡ Turn.Finished self.now.state) }
         ensures err { OnErr result (picture.new ≡ picture.old) }
     {
-        let settled = settled_picture(self.alloc, scene, store, self.globals, self.state, reductions)?;
+        let settled = settled_picture(
+            self.alloc,
+            scene,
+            store,
+            self.globals,
+            self.state,
+            reductions,
+        )?;
         let made = stop(Turn::Finished { length: self.state })?;
         *picture = settled;
         Ok(made)
@@ -161,12 +197,19 @@ impl Run {
         ensures turn { IfOk result (λ made. made.turn ≡ Turn.Went) }
         ensures err { OnErr result (picture.new ≡ picture.old) }
     {
-        let settled = settled_picture(self.alloc, &scene, &store, self.globals, self.state, reductions)?;
-        let scene = advance(self.alloc, scene)?;
+        let settled = settled_picture(
+            self.alloc,
+            &scene,
+            &store,
+            self.globals,
+            self.state,
+            reductions,
+        )?;
+        let next = advance(self.alloc, scene)?;
         store.next_state();
         *picture = settled;
         Ok(Made {
-            stand: Stand::Open(scene, store),
+            stand: Stand::Open(next, store),
             turn: Turn::Went,
         })
     }
@@ -222,7 +265,7 @@ impl Run {
         if state == self.limits.states {
             return stop(Turn::StateLimit { states: state });
         }
-        let mut tally = Tally::new(self.alloc);
+        let mut tally = no_tally(self.alloc);
         let ending = close_by_passes(
             self.alloc,
             &mut scene,
@@ -238,11 +281,27 @@ impl Run {
         match ending {
             Ending::Rest => {
                 let reductions = tally.picks.items.len() as u64;
-                self.make_at_rest(scene, store, reductions, picture, steps)
+                let made = self.make_at_rest(scene, store, reductions, picture, steps)?;
+                Ok(made)
             }
             Ending::Clash(clash) => stop(Turn::Contradictory { state, clash }),
             Ending::Missing(port) => stop(Turn::InputMissing { state, port }),
-            Ending::Over(limit) => stop(Turn::Over { state, limit }),
+            Ending::Over(limit) => {
+                let made = stop(Turn::Over { state, limit })?;
+                Ok(made)
+            }
+        }
+    }
+
+    // The number of the state that comes after this answer.
+    fn next_number(&self, turn: &Turn) -> u64
+        requires { turn.now ≡ Turn.Went → self.now.state < self.now.limits.states }
+        ensures { result ≡ state_after self.now.state turn.now }
+    {
+        let _most = self.limits.states;
+        match turn {
+            Turn::Went => self.state + 1,
+            _ => self.state,
         }
     }
 
@@ -262,10 +321,8 @@ impl Run {
         match mem::replace(&mut self.stand, Stand::Spent) {
             Stand::Open(scene, store) => {
                 let made = self.make(scene, store, picture, steps)?;
+                self.state = self.next_number(&made.turn);
                 self.stand = made.stand;
-                if let Turn::Went = &made.turn {
-                    self.state += 1;
-                }
                 Ok(made.turn)
             }
             Stand::Answered(turn) => {
