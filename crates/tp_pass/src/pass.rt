@@ -34,6 +34,8 @@ fn try_and_record<L: Ledger>(
     requires none { definitions_of defs.now ≡ [] }
     ensures ready { IfOk result (λ ended. (kinds : List Bool) → IsReady (setting_of defs.now inputs.now state) kinds (moment_of scene.old store.old) → IsReady (setting_of defs.now inputs.now state) kinds (moment_of scene.new store.new)) }
     ensures records { IfOk result (Records (setting_of defs.now inputs.now state) item (moment_of scene.old store.old) (moment_of scene.new store.new) left.old left.new tally.old.picks tally.new.picks) }
+    ensures waits { tally.new.waits ≡ tally.old.waits }
+    ensures rests { tally.new.rests ≡ tally.old.rests }
 {
     tally.picks.items.reserve(1)?;
     match try_item(alloc, scene, item, store, defs, inputs, state, *left, steps)? {
@@ -68,6 +70,8 @@ fn look_at<L: Ledger>(
     requires none { definitions_of defs.now ≡ [] }
     ensures ready { IfOk result (λ ended. (kinds : List Bool) → IsReady (setting_of defs.now inputs.now state) kinds (moment_of scene.old store.old) → IsReady (setting_of defs.now inputs.now state) kinds (moment_of scene.new store.new)) }
     ensures looks { IfOk result (Looks (setting_of defs.now inputs.now state) item (moment_of scene.old store.old) (moment_of scene.new store.new) left.old left.new tally.old.picks tally.new.picks) }
+    ensures waits { tally.new.waits ≡ tally.old.waits }
+    ensures rests { tally.new.rests ≡ tally.old.rests }
 {
     if has_item(scene, item) {
         try_and_record(
@@ -102,6 +106,8 @@ fn pass<L: Ledger>(
     requires none { definitions_of defs.now ≡ [] }
     ensures ready { IfOk result (λ ended. (kinds : List Bool) → IsReady (setting_of defs.now inputs.now state) kinds (moment_of scene.old store.old) → IsReady (setting_of defs.now inputs.now state) kinds (moment_of scene.new store.new)) }
     ensures passes { IfOk result (Passes (setting_of defs.now inputs.now state) (moment_of scene.old store.old) (moment_of scene.new store.new) left.old left.new tally.old.picks tally.new.picks) }
+    ensures waits { tally.new.waits ≡ tally.old.waits }
+    ensures rests { tally.new.rests ≡ tally.old.rests }
 {
     let mut item = 0;
     let mut end = next_number(scene);
@@ -120,7 +126,7 @@ fn pass<L: Ledger>(
 
 /// Closes a state by passes: each tries the live items by increasing number, new ones too, and they are repeated until one reduces
 /// nothing. At most `room` items are reduced. Their numbers are appended to the tally's picks, in order; scene and store stand where
-/// these picks lead.
+/// these picks lead. The tally's waits and rests stay as they are.
 pub fn close_by_passes<L: Ledger>(
     alloc: Global,
     scene: &mut Scene,
@@ -138,6 +144,8 @@ pub fn close_by_passes<L: Ledger>(
     requires order { order ≡ First }
     ensures ready { IfOk result (λ ending. (kinds : List Bool) → IsReady (setting_of defs.now inputs.now state) kinds (moment_of scene.old store.old) → IsReady (setting_of defs.now inputs.now state) kinds (moment_of scene.new store.new)) }
     ensures closes { IfOk result (Closes (setting_of defs.now inputs.now state) room (moment_of scene.old store.old) (moment_of scene.new store.new) tally.old.picks tally.new.picks) }
+    ensures waits { tally.new.waits ≡ tally.old.waits }
+    ensures rests { tally.new.rests ≡ tally.old.rests }
 {
     let _order = order;
     let mut left = room;

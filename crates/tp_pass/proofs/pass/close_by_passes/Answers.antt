@@ -1,4 +1,4 @@
-use Rattle.std.proofs.Common.{subst, Option, None, Some}
+use Rattle.std.proofs.Common.{◌∙◌, subst, Option, None, Some}
 use Rattle.tp_step.specs.declared.answer.Ending.{Ending}
 use Rattle.tp_step.specs.Answers.{moment_of, setting_of}
 use Rattle.tp_pass.specs.Closes.{Passes}
@@ -16,6 +16,8 @@ passes-preserved g c =
     record {
       made = made_on w m here next _ _ _ _ _ _ c.passes.invariant.made one.0;
       ready = λ kinds h. c.in_ok-ending.ensures.ready kinds (c.passes.invariant.ready kinds h);
+      waits = c.in_ok-ending.ensures.waits ∙ c.passes.invariant.waits;
+      rests = c.in_ok-ending.ensures.rests ∙ c.passes.invariant.rests;
     }
 
 pub returns-in-Some-clause-closes : goal.returns-in-Some-clause-closes

@@ -1,4 +1,4 @@
-use Rattle.std.proofs.Common.{Bool, List}
+use Rattle.std.proofs.Common.{◌≡◌, Bool, List}
 use Rattle.tp_scene.specs.Built.{IsReady}
 use Rattle.tp_step.specs.Answers.{moment_of, setting_of}
 use Rattle.tp_pass.specs.Closes.{Made}
@@ -12,6 +12,8 @@ invariant-passes g l =
     record {
       made : Made w first here l.room l.left l.initial.tally.picks l.tally.picks;
       ready : (kinds : List Bool) → IsReady w kinds first → IsReady w kinds here;
+      waits : l.tally.waits ≡ l.initial.tally.waits;
+      rests : l.tally.rests ≡ l.initial.tally.rests;
     }
 
 abbrev pub decreases-passes : goal.decreases-passes

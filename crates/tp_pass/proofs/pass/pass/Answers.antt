@@ -1,4 +1,4 @@
-use Rattle.std.proofs.Common.{◌≤◌, subst, arith, Option}
+use Rattle.std.proofs.Common.{◌∙◌, ◌≤◌, subst, arith, Option}
 use Rattle.tp_step.specs.declared.answer.Ending.{Ending}
 use Rattle.tp_step.specs.Answers.{moment_of, setting_of}
 use Rattle.tp_pass.specs.Closes.{Looks}
@@ -15,6 +15,8 @@ items-preserved g c =
       c.next_number-end-in-items.ensures.number,
       c.next_number-end-in-items.ensures.fits,
       passing_more w m here next _ _ _ _ _ _ c.items.item c.items.invariant.2 c.in_ok-ending.ensures.ready (subst At c.in-None.is c.in_ok-ending.ensures.looks),
+      c.in_ok-ending.ensures.waits ∙ c.items.invariant.3,
+      c.in_ok-ending.ensures.rests ∙ c.items.invariant.4,
     )
 
 pub returns-clause-passes : goal.returns-clause-passes

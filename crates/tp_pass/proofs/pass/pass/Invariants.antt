@@ -8,6 +8,8 @@ invariant-items g l =
     (l.end ≡ l.scene.next_item)
     × (l.end < 2 ^ 64)
     × Passing (setting_of l.defs l.inputs l.state) (moment_of l.initial.scene l.initial.store) (moment_of l.scene l.store) l.initial.left l.left l.initial.tally.picks l.tally.picks l.item
+    × (l.tally.waits ≡ l.initial.tally.waits)
+    × (l.tally.rests ≡ l.initial.tally.rests)
 
 abbrev pub decreases-items : goal.decreases-items
 decreases-items g l = l.left * 2 ^ 64 + (l.end - l.item)
