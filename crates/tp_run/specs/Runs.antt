@@ -1,11 +1,12 @@
 -- Where a run stands, and what its parts make of a state.
-use Rattle.std.specs.Prelude.{◌≡◌, ℕ, ◌≤◌, []}
+use Rattle.std.specs.Prelude.{◌≡◌, ℕ, zero, suc, ◌≤◌, [], Option, Some, None}
 use Rattle.tp_kernel.specs.Read.{definitions_of}
 use Rattle.tp_inputs.specs.Read.{lines_of}
 use Rattle.tp_decide.specs.Read.{shows_of}
 use Rattle.tp_step.specs.Answers.{moment_of, setting_of}
 use Rattle.tp_step.specs.declared.answer.Order.TheVariants.{First}
 use Rattle.tp_meaning.specs.Interval.{kinds_of}
+use Rattle.tp_scene.specs.Scene as S
 use Rattle.tp_scene.specs.Pick.{Setting, Moment}
 use Rattle.tp_scene.specs.Rest.{settled, goes, ends, IsOpenCell}
 use Rattle.tp_scene.specs.Advance.{advanced, shown_in}
@@ -34,6 +35,14 @@ next_state_of run = run.state
 -- what its next state is read with
 abbrev pub setting_in : Run → Setting
 setting_in run = setting_of run.defs run.inputs run.state
+
+-- what is carried to the next state: the scene that it begins with, where one was settled before it; a run that hasn't begun, has ended or gave up
+-- carries nothing
+abbrev pub carried : ℕ → Standing → Option S.Scene
+carried (suc n) (open_at m) = Some m.scene
+carried zero (open_at m) = None
+carried n (answered turn) = None
+carried n spent = None
 
 -- before a state it stands at a sound moment
 abbrev pub StandsReady : Plan → ℕ → Standing → Type 0

@@ -1,5 +1,6 @@
 // The run of a program, state by state.
 ghost use Rattle.std.specs.Prelude.{◌≡◌, ◌<◌, ◌≤◌, Bool, List, [], Option, IfOk, OnErr, OnOk};
+ghost use Rattle.std.specs.Option.{option_map};
 ghost use Rattle.tp_kernel.specs.Read.{formula_tree, definitions_of};
 ghost use Rattle.tp_kernel.specs.Built.{IsBuilt};
 ghost use Rattle.tp_inputs.specs.Read.{lines_of};
@@ -15,7 +16,7 @@ ghost use Rattle.tp_step.specs.Answers.{moment_of};
 ghost use Rattle.tp_step.specs.declared.answer.Order.TheVariants.{First};
 ghost use Rattle.tp_run.specs.States.{Plan, plan_with, open_at, answered, spent, state_after, Answers, StateBecomes};
 ghost use Rattle.tp_run.specs.Meaning.{BeginsWith, AnswerMeans};
-ghost use Rattle.tp_run.specs.Runs.{stands_at, standing_of, next_state_of, setting_in, IsRunOf, HasPicture, NextOf, RestTurns};
+ghost use Rattle.tp_run.specs.Runs.{stands_at, standing_of, next_state_of, carried, setting_in, IsRunOf, HasPicture, NextOf, RestTurns};
 
 use crate::picture::settled_picture;
 use crate::turn::{Limits, Picture, Turn};
@@ -118,6 +119,20 @@ impl Run {
             state: 0,
             stand: Stand::Open(scene, store),
         })
+    }
+
+    /// What is carried to the next state: the scene that it begins with, where the last answer was `Went`; else nothing.
+    pub fn scene(&self) -> Option<&Scene>
+        ensures { option_map (λ s. scene_of s.now) result ≡ carried (next_state_of self.now) (standing_of self.now) }
+    {
+        if self.state == 0 {
+            return None;
+        }
+        match &self.stand {
+            Stand::Open(scene, _) => Some(scene),
+            Stand::Answered(_) => None,
+            Stand::Spent => None,
+        }
     }
 
     // The first cell that the waiting item of a scene at rest waits for.
