@@ -7,18 +7,19 @@ use Rattle.tp_io.specs.declared.devices.WriteRefusal.TheVariants as sink
 use Rattle.tp_run.specs.declared.turn.Picture.{Picture}
 use Rattle.tp_run.specs.declared.turn.Turn.{Turn}
 use Rattle.tp_run.specs.declared.turn.Turn.TheVariants as turn
+use Rattle.tp_run.specs.History.{Advances}
 use Rattle.tempura.specs.declared.status.Status.{Status}
-use Rattle.tempura.specs.declared.status.Status.TheVariants.{Finished, Contradictory, Undetermined, ReductionLimit, NumberLimit, ListLimit, CallLimit, NestLimit, WriteFault, NoMemory}
+use Rattle.tempura.specs.declared.status.Status.TheVariants.{Finished, Contradictory, Undetermined, StateLimit, ReductionLimit, NumberLimit, ListLimit, CallLimit, NestLimit, InputMissing, WriteFault, NoMemory}
 use Rattle.tempura.specs.Line.{state_line, state_lines}
 use Rattle.tempura.specs.EndLine.{end_line}
 use Rattle.tempura.specs.Written.{Wrote}
 use Rattle.tp_check.specs.Program.{ProgramTree}
-use Rattle.tempura.specs.Run.{Stops, RunEnds, Settles}
-use Rattle.tempura.specs.Progress.{Place, Turned, EndMade, IsSettled, PartMade, HasWritten, ProgramMade}
+use Rattle.tempura.specs.Run.{plan_of, turn_of, RunEnds, Settles}
+use Rattle.tempura.specs.Progress.{Place, Turned, NoLineMade, EndMade, IsSettled, PartMade, HasWritten, ProgramMade}
 use Rattle.tempura.specs.Answer.{Sourced, HoldsProgram, Refuses, RunsTo, Ends, Answers}
 use Rattle.tempura.specs.Parts.{IsRefusal, Closes}
 use Rattle.tempura.proofs.HeadlineLemmas.{end_says}
-use Rattle.tempura.proofs.RunLemmas.{Wrote-both, Wrote-nothing, lines_more, becomes_by, goes_with}
+use Rattle.tempura.proofs.RunLemmas.{Wrote-both, Wrote-nothing, lines_more, advances}
 
 -- a part of what is written second, after all of what is written first
 pub Wrote-part : (old mid new : Option (List ℕ)) (a b : List ℕ) (kept : ℕ) → Wrote old mid a → Wrote mid new (take kept b) → Wrote old new (take (length a + kept) (a ++ b))
@@ -35,44 +36,38 @@ lines_with : (names : List (List ℕ)) (before now after : Option (List ℕ)) (p
     → Wrote before after (state_lines names (pictures ++ picture ∷ []))
 lines_with names before now after pictures picture p q = rw (lines_more names pictures picture) (Wrote-both before now after _ _ p q)
 
--- a run's answer in the state after those that it has settled
-stops : (program : ProgramTree) (from to : Place) (before now : Option (List ℕ)) (answer : Turn) (picture : Picture) → (h : HasWritten program from before now) → Turned from to answer picture
-    → Stops program h.pictures answer picture
-stops program from to before now answer picture h t =
-    let b = becomes_by h.last (length h.pictures) from to answer picture h.stands h.count t in
-    record { last = h.last; settles = h.settles; earlier = b.earlier; standing = to.standing; becomes = b.becomes }
+-- a state that ends the run and isn't settled
+stopped_by : (program : ProgramTree) (from to : Place) (before now after : Option (List ℕ)) (status : Status) → (h : HasWritten program from before now) → (e : NoLineMade (plan_of program) from to (turn_of status) now after)
+    → (Advances (plan_of program) h.pictures e.1.earlier e.0 to.standing to.state (turn_of status) → RunEnds program h.pictures status) → Ended program before after status
+stopped_by program from to before now after status h e end =
+    record { pictures = h.pictures; run = end (advances program from to before now (turn_of status) e.0 h e.1); wrote = rw e.2 h.wrote }
 
-ended_by : (program : ProgramTree) (from to : Place) (before now after : Option (List ℕ)) (status : Status) → HasWritten program from before now → EndMade program.names from to now after status
+ended_by : (program : ProgramTree) (from to : Place) (before now after : Option (List ℕ)) (status : Status) → HasWritten program from before now → EndMade (plan_of program) program.names from to now after status
     → Ended program before after status
 ended_by program from to before now after (Finished n) h (picture, turned, wrote) = record {
   pictures = h.pictures ++ picture ∷ [];
-  run = (h.pictures, picture, refl, stops program from to before now (turn.Finished n) picture h turned);
+  run = (advances program from to before now (turn.Finished n) picture h turned).0;
   wrote = lines_with program.names before now after h.pictures picture h.wrote wrote;
 }
-ended_by program from to before now after (Contradictory state clash) h (picture, turned, wrote) =
-    record { pictures = h.pictures; run = (picture, stops program from to before now _ picture h turned); wrote = rw wrote h.wrote }
-ended_by program from to before now after (Undetermined state cell) h (picture, turned, wrote) =
-    record { pictures = h.pictures; run = (picture, stops program from to before now _ picture h turned); wrote = rw wrote h.wrote }
-ended_by program from to before now after (ReductionLimit state) h (picture, turned, wrote) =
-    record { pictures = h.pictures; run = (picture, stops program from to before now _ picture h turned); wrote = rw wrote h.wrote }
-ended_by program from to before now after (NumberLimit state) h (picture, turned, wrote) =
-    record { pictures = h.pictures; run = (picture, stops program from to before now _ picture h turned); wrote = rw wrote h.wrote }
-ended_by program from to before now after (ListLimit state) h (picture, turned, wrote) =
-    record { pictures = h.pictures; run = (picture, stops program from to before now _ picture h turned); wrote = rw wrote h.wrote }
-ended_by program from to before now after (CallLimit state) h (picture, turned, wrote) =
-    record { pictures = h.pictures; run = (picture, stops program from to before now _ picture h turned); wrote = rw wrote h.wrote }
-ended_by program from to before now after (NestLimit state) h (picture, turned, wrote) =
-    record { pictures = h.pictures; run = (picture, stops program from to before now _ picture h turned); wrote = rw wrote h.wrote }
+ended_by program from to before now after (Contradictory state clash) h e = stopped_by program from to before now after (Contradictory state clash) h e (λ a. a.0)
+ended_by program from to before now after (Undetermined state cell) h e = stopped_by program from to before now after (Undetermined state cell) h e (λ a. a.0)
+ended_by program from to before now after (StateLimit states) h e = stopped_by program from to before now after (StateLimit states) h e (λ a. a.0)
+ended_by program from to before now after (ReductionLimit state) h e = stopped_by program from to before now after (ReductionLimit state) h e (λ a. a.0)
+ended_by program from to before now after (NumberLimit state) h e = stopped_by program from to before now after (NumberLimit state) h e (λ a. a.0)
+ended_by program from to before now after (ListLimit state) h e = stopped_by program from to before now after (ListLimit state) h e (λ a. a.0)
+ended_by program from to before now after (CallLimit state) h e = stopped_by program from to before now after (CallLimit state) h e (λ a. a.0)
+ended_by program from to before now after (NestLimit state) h e = stopped_by program from to before now after (NestLimit state) h e (λ a. a.0)
+ended_by program from to before now after (InputMissing state port) h e = stopped_by program from to before now after (InputMissing state port) h e (λ a. a.0)
 ended_by program from to before now after status h e = absurd e
 
 -- the last state of these was settled, whether the run goes on or not
-settles_with : (program : ProgramTree) (from to : Place) (before now : Option (List ℕ)) (answer : Turn) (picture : Picture) → (h : HasWritten program from before now) → Turned from to answer picture
+settles_with : (program : ProgramTree) (from to : Place) (before now : Option (List ℕ)) (answer : Turn) (picture : Picture) → (h : HasWritten program from before now) → Turned (plan_of program) from to answer picture
     → IsSettled answer → Settles program (h.pictures ++ picture ∷ [])
 settles_with program from to before now answer picture h turned (inl went) =
-    let goes = goes_with program from to before now picture h (subst (λ a. Turned from to a picture) went turned) in
-    inl (record { last = goes.last; settles = goes.settles })
+    let a = advances program from to before now turn.Went picture h (subst (λ t. Turned (plan_of program) from to t picture) went turned) in
+    inl (a.0, a.2)
 settles_with program from to before now answer picture h turned (inr finished) =
-    inr (finished.0, (h.pictures, picture, refl, stops program from to before now _ picture h (subst (λ a. Turned from to a picture) finished.1 turned)))
+    inr (finished.0, (advances program from to before now (turn.Finished finished.0) picture h (subst (λ t. Turned (plan_of program) from to t picture) finished.1 turned)).0)
 
 pub ended : (program : ProgramTree) (before after : Option (List ℕ)) (status : Status) → ProgramMade program before after (Ok status) → Ended program before after status
 ended program before after status (inl none) = let bad : Ok status ≡ Err sink.NoMemory = none.0 in cc
@@ -81,13 +76,15 @@ ended program before after status (inr made) = ended_by program made.from made.t
 -- what an end settled
 settles_by : (program : ProgramTree) (pictures : List Picture) (status : Status) → RunEnds program pictures status → Settles program pictures
 settles_by program pictures (Finished n) e = inr (n, e)
-settles_by program pictures (Contradictory state clash) e = inl (record { last = e.1.last; settles = e.1.settles })
-settles_by program pictures (Undetermined state cell) e = inl (record { last = e.1.last; settles = e.1.settles })
-settles_by program pictures (ReductionLimit state) e = inl (record { last = e.1.last; settles = e.1.settles })
-settles_by program pictures (NumberLimit state) e = inl (record { last = e.1.last; settles = e.1.settles })
-settles_by program pictures (ListLimit state) e = inl (record { last = e.1.last; settles = e.1.settles })
-settles_by program pictures (CallLimit state) e = inl (record { last = e.1.last; settles = e.1.settles })
-settles_by program pictures (NestLimit state) e = inl (record { last = e.1.last; settles = e.1.settles })
+settles_by program pictures (Contradictory state clash) e = inl (e.0, e.1)
+settles_by program pictures (Undetermined state cell) e = inl (e.0, e.1)
+settles_by program pictures (StateLimit states) e = inl (e.0, e.1)
+settles_by program pictures (ReductionLimit state) e = inl (e.0, e.1)
+settles_by program pictures (NumberLimit state) e = inl (e.0, e.1)
+settles_by program pictures (ListLimit state) e = inl (e.0, e.1)
+settles_by program pictures (CallLimit state) e = inl (e.0, e.1)
+settles_by program pictures (NestLimit state) e = inl (e.0, e.1)
+settles_by program pictures (InputMissing state port) e = inl (e.0, e.1)
 settles_by program pictures status e = absurd e
 
 -- an end of a run is no failed write
@@ -121,7 +118,7 @@ module _ (words : List (List ℕ)) (held : Option Held) (program : ProgramTree) 
   closed mid new status result e c = closed_whole mid new status result e c.0 c.1
 
   -- a write of a state that failed
-  part_written : (from to : Place) (now new : Option (List ℕ)) → HasWritten program from old now → PartMade program.names from to now new → Answers words held old new WriteFault
+  part_written : (from to : Place) (now new : Option (List ℕ)) → HasWritten program from old now → PartMade (plan_of program) program.names from to now new → Answers words held old new WriteFault
   part_written from to now new h part = (
     state_lines program.names (h.pictures ++ part.picture ∷ []),
     inl (inr (record {
@@ -146,7 +143,7 @@ module _ (words : List (List ℕ)) (held : Option Held) (program : ProgramTree) 
       program = program;
       pictures = made.settled.pictures;
       source = source;
-      run = inl (record { last = made.settled.last; settles = made.settled.settles });
+      run = inl (made.settled.next, made.settled.leads);
       written = refl;
     }),
     rw made.stopped made.settled.wrote,

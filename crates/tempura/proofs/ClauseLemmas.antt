@@ -1,7 +1,8 @@
 -- What the table of the answers says of each answer.
-use Rattle.std.proofs.Common.{◌≡◌, ◌⊎◌, inl, inr, ℕ, List, Option, None, Some, refl, ap, sym, ◌∙◌, subst, arith}
+use Rattle.std.proofs.Common.{◌≡◌, ◌⊎◌, inl, inr, ℕ, List, length, Option, None, Some, refl, ap, sym, ◌∙◌, subst, arith}
 use Rattle.tp_io.specs.Devices.{Held, bytes_of}
 use Rattle.tp_run.specs.declared.turn.Picture.{Picture}
+use Rattle.tp_run.specs.History.{ContinuesEach}
 use Rattle.tp_scene.specs.declared.answer.Cell.{Cell}
 use Rattle.tp_scene.specs.declared.answer.Clash.{Clash}
 use Rattle.tempura.specs.declared.status.Status.{Status}
@@ -44,6 +45,13 @@ module _ (words : List (List ℕ)) (held : Option Held) (old new : Option (List 
   pub undetermined : (result : Status) → Answers words held old new result → (state : ℕ) (cell : Cell) → result ≡ Undetermined state cell → Prints words held old new (Undetermined state cell) (λ p printed. EndSays p printed (Undetermined state cell))
   undetermined result a state cell is = run_alone (Undetermined state cell) (λ r. r) (subst (Answers words held old new) is a)
 
+  -- as many states were printed as there may be
+  pub state_limit : (result : Status) → Answers words held old new result → (states : ℕ) → result ≡ StateLimit states
+      → Prints words held old new (StateLimit states) (λ p printed. ContinuesEach p printed × (states ≡ length printed) × (states ≡ 1000))
+  state_limit result a states is =
+      let p = run_alone (StateLimit states) (λ r. r) (subst (Answers words held old new) is a) in
+      record { program = p.program; pictures = p.pictures; source = p.source; run = p.run; appended = p.appended; says = (p.says, p.run.2, p.run.3) }
+
   pub reduction_limit : (result : Status) → Answers words held old new result → (state : ℕ) → result ≡ ReductionLimit state → Prints words held old new (ReductionLimit state) (λ p printed. EndSays p printed (ReductionLimit state))
   reduction_limit result a state is = run_alone (ReductionLimit state) (λ r. r) (subst (Answers words held old new) is a)
 
@@ -58,6 +66,9 @@ module _ (words : List (List ℕ)) (held : Option Held) (old new : Option (List 
 
   pub nest_limit : (result : Status) → Answers words held old new result → (state : ℕ) → result ≡ NestLimit state → Prints words held old new (NestLimit state) (λ p printed. EndSays p printed (NestLimit state))
   nest_limit result a state is = run_alone (NestLimit state) (λ r. r) (subst (Answers words held old new) is a)
+
+  pub input_missing : (result : Status) → Answers words held old new result → (state : ℕ) (port : List ℕ) → result ≡ InputMissing state port → Prints words held old new (InputMissing state port) (λ p printed. EndSays p printed (InputMissing state port))
+  input_missing result a state port is = run_alone (InputMissing state port) (λ r. r) (subst (Answers words held old new) is a)
 
   pub words_refused_only : (result : Status) → Answers words held old new result → result ≡ WordsRefused → wanted_of words ≡ None
   words_refused_only result a is = refusal_alone WordsRefused (λ p ps r. r) (subst (Answers words held old new) is a)

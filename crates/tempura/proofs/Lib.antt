@@ -6,6 +6,7 @@ pub mod AskedLemmas
 pub mod SourceLemmas
 pub mod ProgramLemmas
 pub mod RunLemmas
+pub mod TurnLemmas
 pub mod HeadlineLemmas
 pub mod AnswerLemmas
 pub mod ClauseLemmas

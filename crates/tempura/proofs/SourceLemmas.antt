@@ -56,5 +56,8 @@ no_tree source tokens parse.NoMemory are g r is = absurd (cc (is))
 
 pub not_run : (source : List ℕ) (tokens : List Token) (tree : SourceTree) (refusal : CheckRefusal) → AreTokens source tokens → Accepts tokens tree → (refusal ≢ check.NoMemory → program_of tree ≡ Err refusal)
     → (r : Refused) → checker_refusal source refusal ≡ Some r → IsRefusedAt source r
+not_run source tokens tree (check.WrongCount at) are accepted g r is = inr (inr (record { tokens = tokens; tree = tree; refusal = check.WrongCount at; are_tokens = are; accepted = accepted; outcome = g (λ e. cc (e)); answer = is }))
+not_run source tokens tree (check.NotExpression at) are accepted g r is = inr (inr (record { tokens = tokens; tree = tree; refusal = check.NotExpression at; are_tokens = are; accepted = accepted; outcome = g (λ e. cc (e)); answer = is }))
+not_run source tokens tree (check.NotPlace at) are accepted g r is = inr (inr (record { tokens = tokens; tree = tree; refusal = check.NotPlace at; are_tokens = are; accepted = accepted; outcome = g (λ e. cc (e)); answer = is }))
 not_run source tokens tree (check.NotExecutable at) are accepted g r is = inr (inr (record { tokens = tokens; tree = tree; refusal = check.NotExecutable at; are_tokens = are; accepted = accepted; outcome = g (λ e. cc (e)); answer = is }))
 not_run source tokens tree check.NoMemory are accepted g r is = absurd (cc (is))

@@ -3,7 +3,7 @@ use Rattle.std.specs.Prelude.{◌≡◌, ◌⊎◌, ◌≤◌, ◌<◌, ◌+◌,
 use Rattle.std.specs.Option.{option_map}
 use Rattle.tp_io.specs.Devices.{Held, bytes_of}
 use Rattle.tp_run.specs.declared.turn.Picture.{Picture}
-use Rattle.tp_meaning.specs.Interval.{ProgramTree as Meant}
+use Rattle.tp_run.specs.States.{Plan}
 use Rattle.tempura.specs.declared.refused.Refused.{Refused}
 use Rattle.tempura.specs.Source.{IsProgram, IsRefusedAt}
 use Rattle.tempura.specs.declared.status.Status.{Status}
@@ -14,7 +14,7 @@ use Rattle.tempura.specs.Words.{Wanted, wanted_of, files_of}
 use Rattle.tempura.specs.Line.{state_lines}
 use Rattle.tempura.specs.EndLine.{end_line}
 use Rattle.tp_check.specs.Program.{ProgramTree}
-use Rattle.tempura.specs.Run.{meant_by, EndSays, RunEnds, Settles}
+use Rattle.tempura.specs.Run.{plan_of, EndSays, RunEnds, Settles}
 use Rattle.tempura.specs.Written.{Wrote}
 
 -- where the value is told, it has P
@@ -22,7 +22,7 @@ abbrev pub WhereTold : {X : Type 0} → Option X → (X → Type 0) → Type 0
 WhereTold {X} told P = (x : X) → told ≡ Some x → P x
 
 abbrev pub source_limit : ℕ
-source_limit = 65536
+source_limit = 1048576
 
 -- The words are accepted and name a file; where the files tell what it holds, that has P.
 pub record Sourced (words : List (List ℕ)) (held : Option Held) (P : List ℕ → Type 0) : Type 0 where
@@ -47,7 +47,7 @@ pub record RunsTo (words : List (List ℕ)) (held : Option Held) (status : Statu
   pub pictures : List Picture
   pub source : Sourced words held (HoldsProgram program)
   pub run : RunEnds program pictures status
-  pub says : EndSays (meant_by program) pictures status
+  pub says : EndSays (plan_of program) pictures status
   pub written : text ≡ state_lines program.names pictures ++ end_line program.names status
 
 -- The cause of a refusal.
@@ -92,15 +92,15 @@ Answers words held old new WriteFault = (text : List ℕ) × (IsPart words held 
 Answers words held old new NoMemory = (text : List ℕ) × IsPart words held text × Wrote old new text
 Answers words held old new status = (text : List ℕ) × Ends words held status text × Wrote old new text
 
--- A run of the source's program ended with this status; the text of its settled states and the end line were appended; and of the program
+-- A run of the source's program ended with this status; the text of its settled states and the end line were appended; and of what is run
 -- and these states P holds.
-pub record Prints (words : List (List ℕ)) (held : Option Held) (old new : Option (List ℕ)) (status : Status) (P : Meant → List Picture → Type 0) : Type 0 where
+pub record Prints (words : List (List ℕ)) (held : Option Held) (old new : Option (List ℕ)) (status : Status) (P : Plan → List Picture → Type 0) : Type 0 where
   pub program : ProgramTree
   pub pictures : List Picture
   pub source : Sourced words held (HoldsProgram program)
   pub run : RunEnds program pictures status
   pub appended : Wrote old new (state_lines program.names pictures ++ end_line program.names status)
-  pub says : P (meant_by program) pictures
+  pub says : P (plan_of program) pictures
 
 -- the place of a file among those that the words name
 abbrev pub place : Which → ℕ

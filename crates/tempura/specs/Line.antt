@@ -1,5 +1,5 @@
 -- The line of a settled state.
-use Rattle.std.specs.Prelude.{◌≡◌, ℕ, Bool, true, false, nat_lt, eqb, ◌&&◌, ◌||◌, IsTrue, List, [], ◌∷◌, ◌++◌, map, All, length, Option, None, Some, if◌then◌else◌, codes}
+use Rattle.std.specs.Prelude.{◌≡◌, ℕ, Bool, true, false, nat_lt, eqb, ◌&&◌, List, [], ◌∷◌, ◌++◌, map, length, Option, None, Some, if◌then◌else◌, codes}
 use Rattle.std.specs.List.{flat_map, starts_with}
 use Rattle.std.specs.Fmt.{decimal}
 use Rattle.tp_value.specs.Written.{text_of}
@@ -7,22 +7,10 @@ use Rattle.tp_value.specs.declared.path.Path.{Path}
 use Rattle.tp_value.specs.declared.path.Fact.{Fact}
 use Rattle.tp_store.specs.Changes.{IsSound, HaveSameShapes}
 use Rattle.tp_store.specs.Facts.{kept_shape, same_variable}
-use Rattle.tp_store.specs.Known.{Contents, Full, absent, undecided, too_long, value, full, is_lesser, meets, NoClash, AreOfVariables, global_variable}
+use Rattle.tp_store.specs.Known.{Contents, Full, absent, undecided, too_long, value, full, meets, NoClash, AreOfVariables, global_variable}
 use Rattle.tp_run.specs.declared.turn.Picture.{Picture}
+use Rattle.tp_run.specs.States.{AreInOrder}
 use Rattle.tempura.specs.Texts.{path_text, fact_text}
-
--- a fact is before another: its variable's number is less, or it is of the same variable, and its indices are a part of the other's from the
--- start, or less where they first differ
-abbrev pub is_before : Fact → Fact → Bool
-is_before f g =
-    let m = f.path.var.number in
-    let n = g.path.var.number in
-    nat_lt m n || (eqb m n && is_lesser f.path.at g.path.at)
-
--- in the order of the variables, and of one variable a list before its items, and these in order
-abbrev pub AreInOrder : List Fact → Type 0
-AreInOrder [] = Unit {0}
-AreInOrder (f ∷ fs) = All (λ g. IsTrue (is_before f g)) fs × AreInOrder fs
 
 -- These are facts of the variables with these names, in order and without a clash.
 pub record AreFactsOf (names : List (List ℕ)) (facts : List Fact) : Type 0 where

@@ -14,7 +14,7 @@ use Rattle.tp_check.specs.Program.{ProgramTree, program_of}
 use Rattle.tp_check.specs.declared.refusal.CheckRefusal.{CheckRefusal}
 use Rattle.tp_check.specs.declared.refusal.CheckRefusal.TheVariants as check
 use Rattle.tempura.specs.declared.status.SourceKind.{SourceKind}
-use Rattle.tempura.specs.declared.status.SourceKind.TheVariants.{BadByte, OpenComment, NumberTooLarge, NameTooLong, Unexpected, Unfinished, TooDeep, NotExecutable}
+use Rattle.tempura.specs.declared.status.SourceKind.TheVariants.{BadByte, OpenComment, NumberTooLarge, NameTooLong, Unexpected, Unfinished, TooDeep, WrongCount, NotExpression, NotPlace, NotExecutable}
 use Rattle.tempura.specs.declared.refused.Refused.{Refused}
 
 -- This text is this program: its tokens are a source of the grammar, which the checker makes the program.
@@ -48,6 +48,9 @@ parser_refusal source tokens (parse.TooDeep i) = at_token TooDeep (slice_get tok
 parser_refusal source tokens parse.NoMemory = None
 
 abbrev pub checker_refusal : List ℕ → CheckRefusal → Option Refused
+checker_refusal source (check.WrongCount at) = Some (refused_at source at WrongCount)
+checker_refusal source (check.NotExpression at) = Some (refused_at source at NotExpression)
+checker_refusal source (check.NotPlace at) = Some (refused_at source at NotPlace)
 checker_refusal source (check.NotExecutable at) = Some (refused_at source at NotExecutable)
 checker_refusal source check.NoMemory = None
 

@@ -1,5 +1,5 @@
 // The top call.
-ghost use Rattle.std.specs.Prelude.{◌≡◌, ◌≢◌, ◌≤◌, ◌⊎◌, ℕ, [], length, None, IfOk, IfErr};
+ghost use Rattle.std.specs.Prelude.{◌≡◌, ◌≢◌, ◌≤◌, ◌⊎◌, ℕ, List, [], length, None, IfOk, IfErr};
 ghost use Rattle.tp_io.specs.Devices.{Rose};
 ghost use Rattle.tp_kernel.specs.Read.{formula_tree};
 ghost use Rattle.tp_kernel.specs.Built.{IsBuilt};
@@ -23,14 +23,16 @@ use crate::source::{ReadRefusal, read_limited};
 use crate::status::{Status, Which};
 use crate::words::read_words;
 use std::alloc::Global;
+use std::sync::ledger::Ledger;
 use tp_check::{Program, check};
 use tp_io::{Files, Sink, WriteRefusal};
 use tp_lex::tokens;
 use tp_parse::parse;
+use tp_step::Steps;
 use tp_value::{Globals, Text};
 
 // The greatest length of a source, in bytes.
-const SOURCE_LIMIT: usize = 65_536;
+const SOURCE_LIMIT: usize = 1_048_576;
 
 // The status for a refusal; none stands for want of memory.
 fn refusal_status(refused: Option<Refused>) -> Status
@@ -124,7 +126,13 @@ fn refuse<K: Sink>(alloc: Global, status: Status, out: &mut K) -> Status
 }
 
 // The whole call, by the table of its answers.
-fn call<F: Files, K: Sink>(alloc: Global, words: &[Text], files: &mut F, out: &mut K) -> Status
+fn call<F: Files, K: Sink, L: Ledger>(
+    alloc: Global,
+    words: &[Text],
+    files: &mut F,
+    out: &mut K,
+    steps: &mut Steps<L>,
+) -> Status
     ensures answer { Answers words.now (F.held files.old) (K.written out.old) (K.written out.new) result }
     ensures asked { AsksOnly words.now (F.asked files.old) (F.asked files.new) (λ which. result ≡ Status.ReadFault which) }
     ensures held { F.held files.new ≡ F.held files.old }
@@ -133,7 +141,7 @@ fn call<F: Files, K: Sink>(alloc: Global, words: &[Text], files: &mut F, out: &m
 {
     match program_for(alloc, words, files) {
         Err(status) => refuse(alloc, status, out),
-        Ok(Program { main, globals }) => match run_program(alloc, main, &globals, out) {
+        Ok(Program { main, globals }) => match run_program(alloc, main, &globals, out, steps) {
             Err(WriteRefusal::Failed) => Status::WriteFault,
             Err(WriteRefusal::NoMemory) => Status::NoMemory,
             Ok(status) => close(alloc, &globals, status, out),
@@ -142,25 +150,29 @@ fn call<F: Files, K: Sink>(alloc: Global, words: &[Text], files: &mut F, out: &m
 }
 
 /// Runs the program of the file that the words name: `run` and a file. Each settled state is written by one write, and
-/// the end line by one more; nothing is written after a write that failed, nor where memory is wanted.
-pub fn tempura<F: Files, K: Sink>(
+/// the end line by one more; nothing is written after a write that failed, nor where memory is wanted. Each item that is tried
+/// adds one to the steps.
+pub fn tempura<F: Files, K: Sink, L: Ledger>(
     alloc: Global,
     words: &[Text],
     files: &mut F,
     out: &mut K,
+    steps: &mut Steps<L>,
 ) -> Status
     ensures answer { Answers words.now (F.held files.old) (K.written out.old) (K.written out.new) result }
     ensures held { F.held files.new ≡ F.held files.old }
 
     // The headline: where a run finishes, an interval satisfies the program exactly where it has the printed length and agrees with each
-    // printed state, with nothing shown, and there is one. Where it is contradictory there is none. Where it is undetermined, or past a
-    // limit, each one that satisfies agrees with the printed states and has more states than these.
+    // printed state, and then shows what these show; and there is one. Where it is contradictory, or an input is missing, there is none.
+    // Where it is undetermined, or past a limit, each one that satisfies agrees with the printed states and has more states than these.
     ensures finished { (length : ℕ) → result ≡ Status.Finished length
         → Prints words.now (F.held files.old) (K.written out.old) (K.written out.new) (Status.Finished length) (λ p printed. SatisfiedExactly p printed length × Satisfiable p) }
     ensures contradictory { (state : ℕ) (clash : Clash) → result ≡ Status.Contradictory state clash
         → Prints words.now (F.held files.old) (K.written out.old) (K.written out.new) (Status.Contradictory state clash) (λ p printed. Unsatisfiable p) }
     ensures undetermined { (state : ℕ) (cell : Cell) → result ≡ Status.Undetermined state cell
         → Prints words.now (F.held files.old) (K.written out.old) (K.written out.new) (Status.Undetermined state cell) (λ p printed. ContinuesEach p printed) }
+    ensures state_limit { (states : ℕ) → result ≡ Status.StateLimit states
+        → Prints words.now (F.held files.old) (K.written out.old) (K.written out.new) (Status.StateLimit states) (λ p printed. ContinuesEach p printed × (states ≡ length printed) × (states ≡ 1000)) }
     ensures reduction_limit { (state : ℕ) → result ≡ Status.ReductionLimit state
         → Prints words.now (F.held files.old) (K.written out.old) (K.written out.new) (Status.ReductionLimit state) (λ p printed. ContinuesEach p printed) }
     ensures number_limit { (state : ℕ) → result ≡ Status.NumberLimit state
@@ -171,6 +183,8 @@ pub fn tempura<F: Files, K: Sink>(
         → Prints words.now (F.held files.old) (K.written out.old) (K.written out.new) (Status.CallLimit state) (λ p printed. ContinuesEach p printed) }
     ensures nest_limit { (state : ℕ) → result ≡ Status.NestLimit state
         → Prints words.now (F.held files.old) (K.written out.old) (K.written out.new) (Status.NestLimit state) (λ p printed. ContinuesEach p printed) }
+    ensures input_missing { (state : ℕ) (port : List ℕ) → result ≡ Status.InputMissing state port
+        → Prints words.now (F.held files.old) (K.written out.old) (K.written out.new) (Status.InputMissing state port) (λ p printed. Unsatisfiable p) }
     ensures program_runs { (program : ProgramTree) → IsTold words.now (F.held files.old) (HoldsProgram program) → IsEndOfRun result ⊎ HasFailed result }
 
     // Refusals, each exactly, but for failed reads and writes and want of memory.
@@ -187,5 +201,5 @@ pub fn tempura<F: Files, K: Sink>(
     ensures read_fault { (which : Which) → result ≡ Status.ReadFault which → Rose F.greatest (F.faults files.old) (F.faults files.new) }
     ensures write_fault { result ≡ Status.WriteFault → Rose K.greatest (K.faults out.old) (K.faults out.new) }
 {
-    call(alloc, words, files, out)
+    call(alloc, words, files, out, steps)
 }

@@ -1,5 +1,6 @@
 //! Runs a program of interval temporal logic.
 #![tactic(auto)]
+ghost use Rattle.std.specs.Prelude.{◌≡◌, ◌<◌};
 
 mod call;
 mod end_line;
@@ -14,11 +15,16 @@ mod tests;
 mod text;
 mod words;
 
+use crate::call::tempura;
+use crate::status::Status;
 use std::alloc::Global;
 use std::env::Env;
+use std::marker::Brand;
 use std::process::ExitCode;
+use std::sync::ledger::{Blank, Ledger};
 use std::{env, io};
-use tp_io::{RealFiles, RealSink};
+use tp_io::{Files, RealFiles, RealSink, Sink};
+use tp_step::Steps;
 use tp_value::{NoMemory, Text};
 
 // The words could not be had, for another cause than memory.
@@ -44,6 +50,22 @@ fn given_words<R: Env + AllocGlobal>(rt: &R) -> Result<Vec<Text>, u8> {
     Ok(words)
 }
 
+// The call, with a count of tries of its own.
+fn counted<L: Ledger, F: Files, K: Sink>(
+    alloc: Global,
+    words: &[Text],
+    files: &mut F,
+    out: &mut K,
+    blank: Blank,
+) -> Status
+    requires name { blank.name ≡ L.name }
+    requires parts { blank.parts ≡ L.parts }
+    requires some { 0 < L.parts }
+{
+    let mut steps = Steps::<L>::new(blank);
+    tempura(alloc, words, files, out, &mut steps)
+}
+
 fn main(rt: HostRuntime) -> ExitCode {
     let words = match given_words(&rt) {
         Ok(words) => words,
@@ -51,6 +73,12 @@ fn main(rt: HostRuntime) -> ExitCode {
     };
     let mut files = RealFiles::new(&rt);
     let mut out = RealSink::new(io::writer(&rt));
-    let status = call::tempura(rt.alloc(), words.as_slice(), &mut files, &mut out);
+    let status = counted::<Brand, _, _>(
+        rt.alloc(),
+        words.as_slice(),
+        &mut files,
+        &mut out,
+        Blank::new(1),
+    );
     ExitCode::from(status.code())
 }

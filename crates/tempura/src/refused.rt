@@ -72,6 +72,13 @@ pub fn by_checker(source: &[u8], refusal: CheckRefusal) -> Option<Refused>
     ensures { result ≡ checker_refusal source.now refusal }
 {
     match refusal {
+        CheckRefusal::WrongCount { at } => {
+            Some(at_byte(source, at as usize, SourceKind::WrongCount))
+        }
+        CheckRefusal::NotExpression { at } => {
+            Some(at_byte(source, at as usize, SourceKind::NotExpression))
+        }
+        CheckRefusal::NotPlace { at } => Some(at_byte(source, at as usize, SourceKind::NotPlace)),
         CheckRefusal::NotExecutable { at } => {
             Some(at_byte(source, at as usize, SourceKind::NotExecutable))
         }

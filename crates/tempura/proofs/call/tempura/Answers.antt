@@ -1,4 +1,4 @@
-use Rattle.tempura.proofs.ClauseLemmas.{finished, contradictory, undetermined, reduction_limit, number_limit, list_limit, call_limit, nest_limit, program_runs, words_refused_only, words_refused, too_long_only, too_long, source_refused_only, source_refused}
+use Rattle.tempura.proofs.ClauseLemmas.{finished, contradictory, undetermined, state_limit, reduction_limit, number_limit, list_limit, call_limit, nest_limit, input_missing, program_runs, words_refused_only, words_refused, too_long_only, too_long, source_refused_only, source_refused}
 use Rattle.tempura.proofs.call.tempura.Goals as goal
 
 pub returns-clause-finished : goal.returns-clause-finished
@@ -9,6 +9,9 @@ returns-clause-contradictory g c = contradictory _ _ _ _ _ c.call.ensures.answer
 
 pub returns-clause-undetermined : goal.returns-clause-undetermined
 returns-clause-undetermined g c = undetermined _ _ _ _ _ c.call.ensures.answer
+
+pub returns-clause-state_limit : goal.returns-clause-state_limit
+returns-clause-state_limit g c = state_limit _ _ _ _ _ c.call.ensures.answer
 
 pub returns-clause-reduction_limit : goal.returns-clause-reduction_limit
 returns-clause-reduction_limit g c = reduction_limit _ _ _ _ _ c.call.ensures.answer
@@ -24,6 +27,9 @@ returns-clause-call_limit g c = call_limit _ _ _ _ _ c.call.ensures.answer
 
 pub returns-clause-nest_limit : goal.returns-clause-nest_limit
 returns-clause-nest_limit g c = nest_limit _ _ _ _ _ c.call.ensures.answer
+
+pub returns-clause-input_missing : goal.returns-clause-input_missing
+returns-clause-input_missing g c = input_missing _ _ _ _ _ c.call.ensures.answer
 
 pub returns-clause-program_runs : goal.returns-clause-program_runs
 returns-clause-program_runs g c = λ program. program_runs _ _ _ _ program _ c.call.ensures.answer

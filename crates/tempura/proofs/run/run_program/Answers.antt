@@ -1,7 +1,7 @@
-use Rattle.std.proofs.Common.{inr, arith}
+use Rattle.std.proofs.Common.{inr, arith, refl}
 use Rattle.std.proofs.lemmas.Result.{err_from_is_err_and}
 use Rattle.tempura.specs.Places.{place_of}
-use Rattle.tempura.proofs.RunLemmas.{HasWritten-more}
+use Rattle.tempura.proofs.RunLemmas.{HasWritten-more, next_state}
 use Rattle.tempura.proofs.run.run_program.Goals as goal
 
 pub returns-in_err-status-clause-made : goal.returns-in_err-status-clause-made
@@ -12,7 +12,7 @@ returns-in_err-status-clause-made g c =
       to = place_of c.make_state.new.run;
       middle = g.K.Sink.written c.loop-picture.out;
       settled = c.loop-picture.invariant.written;
-      stopped = c.in_err-status.ensures.made;
+      stopped = c.in_err-status.ensures.made _ c.loop-picture.invariant.run;
     }))
 
 pub returns-in-Some-clause-made : goal.returns-in-Some-clause-made
@@ -22,14 +22,20 @@ returns-in-Some-clause-made g c =
       to = place_of c.make_state.new.run;
       middle = g.K.Sink.written c.loop-picture.out;
       settled = c.loop-picture.invariant.written;
-      stopped = rw c.in-Some.is at c.in_ok-status.ensures.made;
+      stopped = (rw c.in-Some.is at c.in_ok-status.ensures.made) _ c.loop-picture.invariant.run;
     })
 
 pub loop-picture-preserved : goal.loop-picture-preserved
 loop-picture-preserved g c =
-    let made = rw c.in_default.is at c.in_ok-status.ensures.made in
+    let made = (rw c.in_default.is at c.in_ok-status.ensures.made) _ c.loop-picture.invariant.run in
     record {
       written = HasWritten-more _ (place_of c.loop-picture.run) (place_of c.make_state.new.run) _ _ _ made.0 c.loop-picture.invariant.written made.1 made.2;
-      over = c.in_ok-status.ensures.over c.in_default.is;
+      run = c.in_ok-status.ensures.run _ c.loop-picture.invariant.run;
       later = omega arith;
     }
+
+pub loop-picture-smaller : goal.loop-picture-smaller
+loop-picture-smaller g c =
+    let made = (rw c.in_default.is at c.in_ok-status.ensures.made) _ c.loop-picture.invariant.run in
+    let next = next_state _ (place_of c.loop-picture.run) (place_of c.make_state.new.run) _ _ made.0 c.loop-picture.invariant.written made.1 in
+    omega (arith, next.within, next.next)
