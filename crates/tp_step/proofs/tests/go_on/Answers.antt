@@ -1,0 +1,8 @@
+use Rattle.std.proofs.Common.{[], ◌∷◌, false}
+use Rattle.tp_step.proofs.tests.go_on.Goals as goal
+
+pub returns-in_ok-next-in-Goes : goal.returns-in_ok-next-in-Goes
+returns-in_ok-next-in-Goes c =
+    let next = c.next_state.ensures in
+    c.in_ok-next-in-Goes.ensures.ready (record { defs = []; inputs = []; state = 0 }) (false ∷ []) c.args.store.now c.next_state.new.self c.requires
+    (record { kept = next.facts; no_clash = next.sound.no_clash; variables = next.variables }) 1
