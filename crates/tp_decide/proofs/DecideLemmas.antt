@@ -1,14 +1,16 @@
 -- New entries in order.
-use Rattle.std.proofs.Common.{◌≡◌, ℕ, zero, suc, ◌+◌, ◌<◌, ◌≤◌, List, [], ◌∷◌, ◌++◌, map, length, drop, get_or, refl, ap, ap₂, sym, ◌∙◌, arith}
+use Rattle.std.proofs.Common.{◌≡◌, ℕ, zero, suc, ◌+◌, ◌<◌, ◌≤◌, List, [], ◌∷◌, ◌++◌, map, length, drop, get_or, refl, ap, ap₂, sym, ◌∙◌, arith, ℤ, pos, negsuc, ◌-ℤ◌, ◌≤ℤ◌}
 use Rattle.std.proofs.Math.Seq.{drop-cons}
 use Rattle.std.specs.declared.rc.Rc.{Rc}
 use Rattle.std.specs.declared.alloc.Global.{Global}
+use Rattle.std.proofs.lemmas.Int.{ints}
+use Rattle.tp_value.specs.declared.path.Fact.{Fact}
 use Rattle.tp_kernel.specs.declared.formula.Formula.{Formula}
 use Rattle.tp_kernel.specs.Read.{formula_tree}
-use Rattle.tp_meaning.specs.Syntax.{FormulaTree, FormulaTrees, formulas_of}
+use Rattle.tp_meaning.specs.Syntax.{FormulaTree, FormulaTrees, numeral, empty, next, len, formulas_of}
 use Rattle.tp_scene.specs.Scene as S
 use Rattle.tp_scene.specs.Scene.{append}
-use Rattle.tp_scene.specs.Step.{all_do, count_of}
+use Rattle.tp_scene.specs.Step.{Outcome, Numbers, becomes, all_do, count_of, length_left}
 use Rattle.tp_decide.specs.declared.scene.Entry.{Entry}
 use Rattle.tp_decide.specs.declared.scene.Item.TheVariants as item
 use Rattle.tp_decide.specs.declared.scene.Phrase.{Phrase}
@@ -61,3 +63,16 @@ and_done news ws k env number whole l inv = sym (append_none (entries_of news)) 
 pub count_is : (ws : List (Rc Formula Global)) → count_of (trees_in ws) ≡ length ws
 count_is [] = refl
 count_is (w ∷ ws) = ap suc (count_is ws)
+
+-- what is due for a length of so many states more
+module _ (facts : List Fact) (env : S.Bindings) (numbers : Numbers) where
+  abbrev due_alone : FormulaTree → Outcome
+  due_alone f = becomes (S.leaf (numbers.item 0) (S.Do f env) S.none) 1
+
+  pub no_state_left : (n : ℤ) (f : FormulaTree) → n ≡ pos 0 → f ≡ empty → due_alone f ≡ length_left [] [] 0 facts n env numbers
+  no_state_left n f e g = ap due_alone g ∙ ap (λ k. length_left [] [] 0 facts k env numbers) (sym e)
+
+  pub states_left : (n m : ℤ) (f : FormulaTree) → pos 0 ≤ℤ n → (n ≡ pos 0 → ⊥) → f ≡ next (len (numeral m)) → m ≡ n -ℤ pos 1 → due_alone f ≡ length_left [] [] 0 facts n env numbers
+  states_left (pos zero) m f l d g e = absurd (d refl)
+  states_left (pos (suc k)) m f l d g e = ap due_alone g ∙ ap (λ n. due_alone (next (len (numeral n)))) (omega (arith, ints, e))
+  states_left (negsuc k) m f l d g e = absurd (omega (arith, ints))
