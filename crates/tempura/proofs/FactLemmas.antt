@@ -9,13 +9,10 @@ use Rattle.tp_store.specs.Known.{Contents, Variable, IsVariableOf, facts_below, 
 use Rattle.tp_store.proofs.Members.{In, in_filter, kept_in, in_kept}
 use Rattle.tp_scene.specs.Laws.{StoreFits}
 use Rattle.tp_scene.specs.Fits.{kinds_in}
-use Rattle.tp_scene.specs.Pick.{Moment}
-use Rattle.tp_scene.specs.Built.{IsReady}
 use Rattle.tp_scene.proofs.Globals.{of_variables_in, in_of_variables}
 use Rattle.tp_run.specs.declared.turn.Picture.{Picture}
 use Rattle.tp_run.specs.declared.turn.Turn.{Turn}
-use Rattle.tp_run.specs.declared.turn.Turn.TheVariants as turn
-use Rattle.tp_run.specs.States.{Plan, globals_of, setting, AreGlobals, Standing, open_at, answered, spent, Answers}
+use Rattle.tp_run.specs.States.{Plan, setting, AreGlobals, Standing, open_at, answered, spent, Answers}
 use Rattle.tp_run.specs.Runs.{StandsReady}
 use Rattle.tp_run.proofs.StatesMean.{leads_ready}
 use Rattle.tp_run.proofs.Given.{scene_laws}

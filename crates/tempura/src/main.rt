@@ -1,5 +1,6 @@
 //! Runs a program of interval temporal logic.
 #![tactic(auto)]
+
 ghost use Rattle.std.specs.Prelude.{◌≡◌, ◌<◌};
 
 mod call;

@@ -177,6 +177,37 @@ fn intervals_are_run(rt: HostRuntime) -> Result<(), Fail> {
 }
 
 #[test]
+fn derived_operators_end_each_way(rt: HostRuntime) -> Result<(), Fail> {
+    let both_ends = "contradictory: state 0: ends and goes on at depth 0\n";
+    let two_values = "contradictory: state 0: A=1 and A=2\n";
+    let rows = [
+        (
+            "run len(1) and fin(A=1).",
+            0,
+            "state 0:\nstate 1: A=1\nfinished: length 1\n",
+        ),
+        ("run empty and A=2 and fin(A=1).", 1, two_values),
+        ("run empty and fin(A=B).", 2, "undetermined: state 0: B\n"),
+        ("run halt(true) and skip.", 1, both_ends),
+        ("run halt(A=1).", 2, "undetermined: state 0: A\n"),
+        (
+            "run A=1 and stable(A) and skip and next (A=2).",
+            1,
+            "state 0: A=1\ncontradictory: state 1: A=1 and A=2\n",
+        ),
+        ("run stable(A) and skip.", 2, "undetermined: state 0: A\n"),
+        ("run A=1 and A<-2 and empty.", 1, two_values),
+        ("run A<-B and empty.", 2, "undetermined: state 0: B\n"),
+        ("run A:=1 and empty.", 1, both_ends),
+        ("run A:=B.", 2, "undetermined: state 0: B\n"),
+    ];
+    for (source, code, text) in rows {
+        expect(&rt, &["run", "a.t"], source.as_bytes(), code, text)?;
+    }
+    Ok(())
+}
+
+#[test]
 fn values_are_found(rt: HostRuntime) -> Result<(), Fail> {
     let no_element = "contradictory: state 0: no value: no element\n";
     let rows = [
@@ -200,11 +231,7 @@ fn values_are_found(rt: HostRuntime) -> Result<(), Fail> {
             0,
             "state 0: A=-4 B=1\nfinished: length 0\n",
         ),
-        (
-            "run list(L,65537) and empty.",
-            6,
-            "list limit: state 0\n",
-        ),
+        ("run list(L,65537) and empty.", 6, "list limit: state 0\n"),
         ("run |L|=65537 and empty.", 6, "list limit: state 0\n"),
         (
             "run A = 1 div 0 and empty.",
@@ -254,7 +281,10 @@ fn sources_are_refused(rt: HostRuntime) -> Result<(), Fail> {
         ("run A=1 and skip", "line 1 column 17: unfinished"),
         ("run len(1,2).", "line 1 column 5: wrong count"),
         ("run A=1 and B=skip.", "line 1 column 15: not an expression"),
-        ("run next A = next B.", "line 1 column 14: not an expression"),
+        (
+            "run next A = next B.",
+            "line 1 column 14: not an expression",
+        ),
         ("run A+1 gets 2.", "line 1 column 5: not a place"),
     ];
     for (source, about) in rows {
@@ -410,15 +440,11 @@ fn words_are_refused(rt: HostRuntime) -> Result<(), Fail> {
 #[test]
 fn long_sources_are_refused(rt: HostRuntime) -> Result<(), Fail> {
     let refused = "source refused: line 1 column 1048577: unfinished\n";
-    let source = vec![in rt.alloc(); b' '; 1_048_577]?;
-    expect(
-        &rt,
-        &["run", "a.t"],
-        source.as_slice(),
-        13,
-        "too long: source\n",
-    )?;
-    expect(&rt, &["run", "a.t"], &source[..1_048_576], 10, refused)
+    let long = "too long: source\n";
+    let mut source = vec![in rt.alloc(); b' '; 1_048_576]?;
+    expect(&rt, &["run", "a.t"], source.as_slice(), 10, refused)?;
+    source.push(b' ')?;
+    expect(&rt, &["run", "a.t"], source.as_slice(), 13, long)
 }
 
 #[test]

@@ -1,4 +1,4 @@
-use Rattle.std.proofs.Common.{inr, arith, refl}
+use Rattle.std.proofs.Common.{inr, arith}
 use Rattle.std.proofs.lemmas.Result.{err_from_is_err_and}
 use Rattle.tempura.specs.Places.{place_of}
 use Rattle.tempura.proofs.RunLemmas.{HasWritten-more, next_state}
