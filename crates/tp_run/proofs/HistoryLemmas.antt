@@ -83,7 +83,7 @@ module _ (laws : SceneLaws) (begins : BeginLaws) (stores : StateLaws) where
       let here = ready_after plan w.before w.moment built w.leads in
       let G = globals_of plan in
       let last_shows : shown_from a ps ≡ shown_from a w.before ⊕ shown_at (k + a) (shows_of w.final.shows) =
-              ap (shown_from a) w.pictures ∙ shown_join a w.before (w.final ∷ []) ∙ ap (λ (T : Shows). shown_from a w.before ⊕ T) (join-blank (shown_at (k + a) (shows_of w.final.shows))) in
+      ap (shown_from a) w.pictures ∙ shown_join a w.before (w.final ∷ []) ∙ ap (λ (T : Shows). shown_from a w.before ⊕ T) (join-blank (shown_at (k + a) (shows_of w.final.shows))) in
       let end = λ (interval : IsInterval (program_of plan) s a b) (le : k + a ≤ b) (U : Shows). ends_here_says laws plan k w.moment w.final here w.ends s (k + a) b U (number_after plan w.before s a b interval le) in (
         λ h.
             let interval = h.0 in

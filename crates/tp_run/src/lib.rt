@@ -4,6 +4,8 @@
 mod laws;
 mod picture;
 mod run;
+#[cfg(test)]
+mod tests;
 mod turn;
 
 pub use laws::{runs_advance, runs_mean};

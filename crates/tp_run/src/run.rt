@@ -313,6 +313,7 @@ impl Run {
         requires { turn.now ≡ Turn.Went → self.now.state < self.now.limits.states }
         ensures { result ≡ state_after self.now.state turn.now }
     {
+        // What is read is in range, and so is a number below it.
         let _most = self.limits.states;
         match turn {
             Turn::Went => self.state + 1,
