@@ -1,19 +1,18 @@
 -- What whole runs say of every interval.
-use Rattle.std.proofs.Common.{◌≡◌, ◌↔◌, ℕ, zero, suc, ◌+◌, ◌<◌, ◌≤◌, Bool, true, List, [], ◌∷◌, ◌++◌, length, slice_get, Some, refl, ap, sym, ◌∙◌, subst, arith, length-append}
+use Rattle.std.proofs.Common.{◌≡◌, ◌↔◌, ℕ, suc, ◌+◌, ◌<◌, ◌≤◌, Bool, List, [], ◌∷◌, ◌++◌, length, refl, ap, sym, ◌∙◌, subst, arith, length-append}
 use Rattle.std.proofs.lemmas.List.{append-nil}
 use Rattle.tp_value.specs.Tree.{Tree}
 use Rattle.tp_kernel.specs.Built.{IsBuilt}
-use Rattle.tp_kernel.specs.declared.formula.LimitKind.{LimitKind}
-use Rattle.tp_meaning.specs.Course.{Course, Shows, blank, ◌⊕◌, shown_at}
-use Rattle.tp_meaning.specs.Interval.{IsInterval, kinds_of, KeepsStatics}
+use Rattle.tp_meaning.specs.Course.{Course, Shows, ◌⊕◌, shown_at}
+use Rattle.tp_meaning.specs.Interval.{IsInterval, kinds_of}
 use Rattle.tp_meaning.specs.Fits.{DefinitionsFit}
 use Rattle.tp_meaning.specs.Holds.{Holds}
 use Rattle.tp_meaning.proofs.Shows.{join-assoc as join_assoc, join-blank}
 use Rattle.tp_store.specs.Facts.{AgreesWithAll}
-use Rattle.tp_store.specs.Known.{NoClash, facts_below}
+use Rattle.tp_store.specs.Known.{facts_below}
 use Rattle.tp_decide.specs.Read.{shows_of}
 use Rattle.tp_scene.specs.declared.answer.Clash.{Clash}
-use Rattle.tp_scene.specs.Pick.{Setting, Moment, Leads}
+use Rattle.tp_scene.specs.Pick.{Moment, Leads}
 use Rattle.tp_scene.specs.StandsFor.{StandsFor, first_moment, context_of}
 use Rattle.tp_scene.specs.Laws.{RefusalsStandForNone, RunsBegin}
 use Rattle.tp_scene.specs.Replay as replay
@@ -21,12 +20,11 @@ use Rattle.tp_scene.specs.Built.{IsReady}
 use Rattle.tp_run.specs.declared.turn.Picture.{Picture}
 use Rattle.tp_run.specs.declared.turn.Turn.{Turn}
 use Rattle.tp_run.specs.declared.turn.Turn.TheVariants.{Went, Finished, Contradictory, Undetermined, StateLimit, InputMissing, Over}
-use Rattle.tp_run.specs.States.{Plan, globals_of, setting, GoesOn, EndsHere, StatesLead, LeadsTo, Standing, open_at, ReachesLimit, Answers}
-use Rattle.tp_run.specs.Meaning.{AgreesWith}
+use Rattle.tp_run.specs.States.{Plan, globals_of, setting, GoesOn, StatesLead, LeadsTo, Standing, open_at, ReachesLimit, Answers}
 use Rattle.tp_run.specs.History.{FinishesAt, RunEndsWith, program_of, AgreesWithPictures, shown_from, SatisfiedExactly, Satisfiable, Unsatisfiable, ContinuesEach, EndMeans, Advances, RunsAdvance}
-use Rattle.tp_run.proofs.StatesMean.{SceneLaws, Numbered, first_number, leads_ready, leads_keep, lead_ready, states_say, ends_here_says, picture_agrees, stands_again}
+use Rattle.tp_run.proofs.StatesMean.{SceneLaws, leads_ready, leads_keep, lead_ready, states_say, ends_here_says, picture_agrees}
 use Rattle.tp_run.proofs.Silent.{says_silent}
-use Rattle.tp_run.proofs.Lives.{StateLaws, Lives, lives, Agree, agree_at, HasStatics, agrees_with_less, below_keeps, picks_keep}
+use Rattle.tp_run.proofs.Lives.{StateLaws, lives, Agree, agree_at, agrees_with_less, below_keeps, picks_keep}
 
 -- what else is asked of scenes: how a run begins, and what a clash and a missing input say
 pub record BeginLaws : Type 0 where
