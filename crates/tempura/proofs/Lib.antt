@@ -7,6 +7,7 @@ pub mod SourceLemmas
 pub mod ProgramLemmas
 pub mod RunLemmas
 pub mod TurnLemmas
+pub mod SilentLemmas
 pub mod HeadlineLemmas
 pub mod AnswerLemmas
 pub mod ClauseLemmas

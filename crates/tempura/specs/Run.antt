@@ -1,12 +1,13 @@
 -- The runs of a program.
-use Rattle.std.specs.Prelude.{◌⊎◌, ℕ, List, []}
+use Rattle.std.specs.Prelude.{◌≡◌, ◌⊎◌, ℕ, List, [], ◌∷◌}
 use Rattle.tp_kernel.specs.declared.formula.LimitKind.TheVariants as limit
 use Rattle.tp_scene.specs.Pick.{Moment}
+use Rattle.tp_decide.specs.Read.{shows_of}
 use Rattle.tp_run.specs.declared.turn.Picture.{Picture}
 use Rattle.tp_run.specs.declared.turn.Turn.{Turn}
 use Rattle.tp_run.specs.declared.turn.Turn.TheVariants as turn
 use Rattle.tp_run.specs.States.{Plan, plan_with, LeadsTo}
-use Rattle.tp_run.specs.History.{RunEndsWith, EndMeans}
+use Rattle.tp_run.specs.History.{RunEndsWith, EndMeans, SatisfiedExactly, Satisfiable}
 use Rattle.tp_check.specs.Program.{ProgramTree}
 use Rattle.tempura.specs.declared.run.TheConstants.{STATES, REDUCTIONS}
 use Rattle.tempura.specs.declared.status.Status.{Status}
@@ -48,9 +49,15 @@ GoesOn program pictures = (next : Moment) × LeadsTo (plan_of program) pictures 
 abbrev pub Settles : ProgramTree → List Picture → Type 0
 Settles program pictures = GoesOn program pictures ⊎ ((length : ℕ) × RunEnds program pictures (Finished length))
 
+-- nothing is shown in these states
+abbrev pub ShowNothing : List Picture → Type 0
+ShowNothing [] = Unit {0}
+ShowNothing (picture ∷ pictures) = (shows_of picture.shows ≡ []) × ShowNothing pictures
+
 -- What the end of a run whose settled states have these pictures says of every interval. Finished: an interval satisfies the program, and
 -- shows this or that, exactly where it is an interval of the program with the printed length that agrees with each printed state, and it shows
--- what these show; and there is one. Contradictory, or an input that is missing: none does. Else: each one that does agrees with the printed
--- states and has more states.
+-- what these show, which is nothing; and there is one. Contradictory, or an input that is missing: none does. Else: each one that does agrees
+-- with the printed states and has more states.
 abbrev pub EndSays : Plan → List Picture → Status → Type 0
+EndSays plan pictures (Finished length) = SatisfiedExactly plan pictures length × Satisfiable plan × ShowNothing pictures
 EndSays plan pictures status = EndMeans plan pictures (turn_of status)

@@ -12,6 +12,7 @@ ghost use Rattle.tempura.specs.Source.{IsProgram};
 ghost use Rattle.tempura.specs.declared.status.Which.{Which};
 ghost use Rattle.tempura.specs.declared.status.SourceKind.{SourceKind};
 ghost use Rattle.tempura.specs.Words.{wanted_of};
+ghost use Rattle.tempura.specs.Run.{ShowNothing};
 ghost use Rattle.tp_check.specs.Program.{ProgramTree};
 ghost use Rattle.tempura.specs.Answer.{source_limit, HoldsProgram, HoldsRefused, IsTooLong, Sourced, Answers, AsksOnly, IsOrStopped, IsOrFailed, IsEndOfRun, HasFailed, IsTold, Prints};
 ghost use Rattle.tempura.specs.Parts.{status_of, refusal_end, IsReadRefusal, IsRefusal, Closes};
@@ -163,10 +164,11 @@ pub fn tempura<F: Files, K: Sink, L: Ledger>(
     ensures held { F.held files.new ≡ F.held files.old }
 
     // The headline: where a run finishes, an interval satisfies the program exactly where it has the printed length and agrees with each
-    // printed state, and then shows what these show; and there is one. Where it is contradictory, or an input is missing, there is none.
-    // Where it is undetermined, or past a limit, each one that satisfies agrees with the printed states and has more states than these.
+    // printed state, and then shows what these show, which is nothing; and there is one. Where it is contradictory, or an input is missing,
+    // there is none. Where it is undetermined, or past a limit, each one that satisfies agrees with the printed states and has more states
+    // than these.
     ensures finished { (length : ℕ) → result ≡ Status.Finished length
-        → Prints words.now (F.held files.old) (K.written out.old) (K.written out.new) (Status.Finished length) (λ p printed. SatisfiedExactly p printed length × Satisfiable p) }
+        → Prints words.now (F.held files.old) (K.written out.old) (K.written out.new) (Status.Finished length) (λ p printed. SatisfiedExactly p printed length × Satisfiable p × ShowNothing printed) }
     ensures contradictory { (state : ℕ) (clash : Clash) → result ≡ Status.Contradictory state clash
         → Prints words.now (F.held files.old) (K.written out.old) (K.written out.new) (Status.Contradictory state clash) (λ p printed. Unsatisfiable p) }
     ensures undetermined { (state : ℕ) (cell : Cell) → result ≡ Status.Undetermined state cell
