@@ -2,7 +2,7 @@
 use Rattle.std.specs.Prelude.{◌≡◌, ℕ, zero, suc, true, false, eqb, List, [], ◌∷◌, Option, Some, None}
 use Rattle.tp_scene.specs.Scene as S
 use Rattle.tp_scene.specs.Scene.{Leaf}
-use Rattle.tp_scene.specs.Built.{IsFlat}
+use Rattle.tp_kernel.specs.Built.{HasBuiltKinds}
 use Rattle.tp_decide.specs.declared.scene.Item.{Item}
 use Rattle.tp_decide.specs.declared.scene.Entry.{Entry}
 use Rattle.tp_decide.specs.declared.scene.Phrase.{Phrase}
@@ -17,13 +17,28 @@ first_leaf (S.node id k h held g second rest) = S.Shown []
 abbrev pub leaf_of : Item → Leaf
 leaf_of i = first_leaf (item_tree i 0 S.none)
 
--- an item of the kinds that are run today
-abbrev pub IsFlatItem : Item → Type 0
-IsFlatItem i = IsFlat (item_tree i 0 S.none)
+-- no item of these holds a region
+abbrev pub HoldNoRegion : S.Entries → Type 0
+HoldNoRegion S.none = Unit {0}
+HoldNoRegion (S.leaf id l rest) = HoldNoRegion rest
+HoldNoRegion (S.node id k h held g second rest) = ⊥
 
-abbrev pub AreFlat : List Entry → Type 0
-AreFlat [] = Unit {0}
-AreFlat (e ∷ es) = IsFlatItem e.item × AreFlat es
+-- the root is the only region
+abbrev pub HasOneRegion : S.Scene → Type 0
+HasOneRegion s = HoldNoRegion s.root.entries
+
+abbrev pub IsLeaf : Item → Type 0
+IsLeaf i = HoldNoRegion (item_tree i 0 S.none)
+
+abbrev pub AreLeaves : List Entry → Type 0
+AreLeaves [] = Unit {0}
+AreLeaves (e ∷ es) = IsLeaf e.item × AreLeaves es
+
+-- what the item is to do, now or later, is of the kinds that are run
+abbrev pub IsBuiltLeaf : Leaf → Type 0
+IsBuiltLeaf (S.Do f env) = HasBuiltKinds f
+IsBuiltLeaf (S.Later f env) = HasBuiltKinds f
+IsBuiltLeaf (S.Shown vs) = Unit {0}
 
 -- entries of which none has a region
 abbrev pub leaves_of : List Entry → S.Entries

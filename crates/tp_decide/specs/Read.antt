@@ -20,7 +20,7 @@ abbrev pub formula_of : Phrase → FormulaTree
 formula_of a = formula_tree a.what.value
 
 abbrev pub env_of : Phrase → S.Bindings
-env_of a = bindings_of a.env
+env_of a = bindings_of a.env.value
 
 abbrev pub values_of : Values → List Tree
 values_of vs = map tree vs.items.items

@@ -82,12 +82,12 @@ fn push_due(
     news: &mut Vec<Entry>,
     id: u64,
     what: Rc<Formula>,
-    env: &Env,
+    env: &Rc<Env>,
 ) -> Result<(), NoMemory>
-    ensures entries { OnOk result (entries_of news.new.items ≡ S.append (entries_of news.old.items) (S.leaf id (S.Do (formula_tree what.value) (bindings_of env.now)) S.none)) }
+    ensures entries { OnOk result (entries_of news.new.items ≡ S.append (entries_of news.old.items) (S.leaf id (S.Do (formula_tree what.value) (bindings_of env.now.value)) S.none)) }
     ensures count { OnOk result (length news.new.items ≡ length news.old.items + 1) }
 {
-    let phrase = under(alloc, what, env)?;
+    let phrase = under(what, env)?;
     news.push(Entry {
         id,
         item: Item::Do(phrase),
@@ -96,8 +96,8 @@ fn push_due(
 }
 
 // The formula from this state on, as the one new item.
-fn due(alloc: Global, next: u64, what: Rc<Formula>, env: &Env) -> Result<Vec<Entry>, NoMemory>
-    ensures entries { IfOk result (λ news. entries_of news.items ≡ S.leaf (0 + next) (S.Do (formula_tree what.value) (bindings_of env.now)) S.none) }
+fn due(alloc: Global, next: u64, what: Rc<Formula>, env: &Rc<Env>) -> Result<Vec<Entry>, NoMemory>
+    ensures entries { IfOk result (λ news. entries_of news.items ≡ S.leaf (0 + next) (S.Do (formula_tree what.value) (bindings_of env.now.value)) S.none) }
     ensures count { IfOk result (λ news. length news.items ≡ 1) }
 {
     let id = number_of(next, 0)?;
@@ -107,12 +107,12 @@ fn due(alloc: Global, next: u64, what: Rc<Formula>, env: &Env) -> Result<Vec<Ent
 }
 
 // The formula from the next state on, as the one new item.
-fn later(alloc: Global, next: u64, what: Rc<Formula>, env: &Env) -> Result<Vec<Entry>, NoMemory>
-    ensures entries { IfOk result (λ news. entries_of news.items ≡ S.leaf (0 + next) (S.Later (formula_tree what.value) (bindings_of env.now)) S.none) }
+fn later(alloc: Global, next: u64, what: Rc<Formula>, env: &Rc<Env>) -> Result<Vec<Entry>, NoMemory>
+    ensures entries { IfOk result (λ news. entries_of news.items ≡ S.leaf (0 + next) (S.Later (formula_tree what.value) (bindings_of env.now.value)) S.none) }
     ensures count { IfOk result (λ news. length news.items ≡ 1) }
 {
     let id = number_of(next, 0)?;
-    let phrase = under(alloc, what, env)?;
+    let phrase = under(what, env)?;
     let mut news = Vec::new(alloc);
     news.push(Entry {
         id,
@@ -174,11 +174,11 @@ fn wait_for_end(place: Place) -> Decision
 fn decide_weak_next(
     alloc: Global,
     what: &Rc<Formula>,
-    env: &Env,
+    env: &Rc<Env>,
     place: Place,
     next: u64,
 ) -> Result<Decision, NoMemory>
-    ensures outcome { IfOk result (λ d. (facts : List Fact) → decided facts d ≡ row.formula_step [] [] 0 facts (weak_next (formula_tree what.now.value)) (bindings_of env.now) (place_of place) (numbers_from next)) }
+    ensures outcome { IfOk result (λ d. (facts : List Fact) → decided facts d ≡ row.formula_step [] [] 0 facts (weak_next (formula_tree what.now.value)) (bindings_of env.now.value) (place_of place) (numbers_from next)) }
     ensures plain { IfOk result IsPlain }
 {
     if place.goes {
@@ -194,11 +194,11 @@ fn decide_weak_next(
 fn decide_if_more(
     alloc: Global,
     what: &Rc<Formula>,
-    env: &Env,
+    env: &Rc<Env>,
     place: Place,
     next: u64,
 ) -> Result<Decision, NoMemory>
-    ensures outcome { IfOk result (λ d. (facts : List Fact) → decided facts d ≡ row.formula_step [] [] 0 facts (if_more (formula_tree what.now.value)) (bindings_of env.now) (place_of place) (numbers_from next)) }
+    ensures outcome { IfOk result (λ d. (facts : List Fact) → decided facts d ≡ row.formula_step [] [] 0 facts (if_more (formula_tree what.now.value)) (bindings_of env.now.value) (place_of place) (numbers_from next)) }
     ensures plain { IfOk result IsPlain }
 {
     if place.goes {
@@ -214,11 +214,11 @@ fn decide_if_more(
 fn decide_if_empty(
     alloc: Global,
     what: &Rc<Formula>,
-    env: &Env,
+    env: &Rc<Env>,
     place: Place,
     next: u64,
 ) -> Result<Decision, NoMemory>
-    ensures outcome { IfOk result (λ d. (facts : List Fact) → decided facts d ≡ row.formula_step [] [] 0 facts (if_empty (formula_tree what.now.value)) (bindings_of env.now) (place_of place) (numbers_from next)) }
+    ensures outcome { IfOk result (λ d. (facts : List Fact) → decided facts d ≡ row.formula_step [] [] 0 facts (if_empty (formula_tree what.now.value)) (bindings_of env.now.value) (place_of place) (numbers_from next)) }
     ensures plain { IfOk result IsPlain }
 {
     if place.goes {
@@ -236,11 +236,11 @@ fn decide_always(
     alloc: Global,
     all: &Rc<Formula>,
     what: &Rc<Formula>,
-    env: &Env,
+    env: &Rc<Env>,
     next: u64,
 ) -> Result<Decision, NoMemory>
     requires { formula_tree all.now.value ≡ always (formula_tree what.now.value) }
-    ensures outcome { IfOk result (λ d. (facts : List Fact) → decided facts d ≡ row.becomes (S.leaf (0 + next) (S.Do (formula_tree what.now.value) (bindings_of env.now)) (S.leaf (1 + next) (S.Do (weak_next (always (formula_tree what.now.value))) (bindings_of env.now)) S.none)) 2) }
+    ensures outcome { IfOk result (λ d. (facts : List Fact) → decided facts d ≡ row.becomes (S.leaf (0 + next) (S.Do (formula_tree what.now.value) (bindings_of env.now.value)) (S.leaf (1 + next) (S.Do (weak_next (always (formula_tree what.now.value))) (bindings_of env.now.value)) S.none)) 2) }
     ensures plain { IfOk result IsPlain }
 {
     let again = Rc::new(alloc, Formula::WeakNext(all.clone()?))?;
@@ -253,10 +253,10 @@ fn decide_always(
 fn decide_and(
     alloc: Global,
     operands: &Formulas,
-    env: &Env,
+    env: &Rc<Env>,
     next: u64,
 ) -> Result<Decision, NoMemory>
-    ensures outcome { IfOk result (λ d. (facts : List Fact) → decided facts d ≡ row.becomes (row.all_do (formula_trees operands.now) (bindings_of env.now) (numbers_from next).item 0) (row.count_of (formula_trees operands.now))) }
+    ensures outcome { IfOk result (λ d. (facts : List Fact) → decided facts d ≡ row.becomes (row.all_do (formula_trees operands.now) (bindings_of env.now.value) (numbers_from next).item 0) (row.count_of (formula_trees operands.now))) }
     ensures plain { IfOk result IsPlain }
 {
     let mut news = Vec::new(alloc);
@@ -292,13 +292,13 @@ fn decide_branch(
     test: &Expr,
     yes: &Rc<Formula>,
     no: &Rc<Formula>,
-    env: &Env,
+    env: &Rc<Env>,
     next: u64,
     store: &Store,
     defs: &Defs,
 ) -> Result<Decision, NoMemory>
     requires { definitions_of defs.now ≡ [] }
-    ensures outcome { IfOk result (λ d. (facts : List Fact) → decided facts d ≡ row.with_truth (outcome store.now.facts (definitions_of defs.now) (expr_tree test.now) (bindings_of env.now)) (λ b. row.becomes (S.leaf (0 + next) (S.Do (if b then formula_tree yes.now.value else formula_tree no.now.value) (bindings_of env.now)) S.none) 1)) }
+    ensures outcome { IfOk result (λ d. (facts : List Fact) → decided facts d ≡ row.with_truth (outcome store.now.facts (definitions_of defs.now) (expr_tree test.now) (bindings_of env.now.value)) (λ b. row.becomes (S.leaf (0 + next) (S.Do (if b then formula_tree yes.now.value else formula_tree no.now.value) (bindings_of env.now.value)) S.none) 1)) }
     ensures plain { IfOk result IsPlain }
 {
     let outcome = eval(alloc, test, env, store, defs)?;
@@ -316,8 +316,8 @@ fn decide_branch(
 }
 
 // A length of so many states more.
-fn decide_length(alloc: Global, left: i64, env: &Env, next: u64) -> Result<Decision, NoMemory>
-    ensures outcome { IfOk result (λ d. (facts : List Fact) → decided facts d ≡ row.length_left [] [] 0 facts left (bindings_of env.now) (numbers_from next)) }
+fn decide_length(alloc: Global, left: i64, env: &Rc<Env>, next: u64) -> Result<Decision, NoMemory>
+    ensures outcome { IfOk result (λ d. (facts : List Fact) → decided facts d ≡ row.length_left [] [] 0 facts left (bindings_of env.now.value) (numbers_from next)) }
     ensures plain { IfOk result IsPlain }
 {
     if left < 0 {
@@ -337,13 +337,13 @@ fn decide_length(alloc: Global, left: i64, env: &Env, next: u64) -> Result<Decis
 fn decide_len(
     alloc: Global,
     expr: &Expr,
-    env: &Env,
+    env: &Rc<Env>,
     next: u64,
     store: &Store,
     defs: &Defs,
 ) -> Result<Decision, NoMemory>
     requires { definitions_of defs.now ≡ [] }
-    ensures outcome { IfOk result (λ d. (facts : List Fact) → decided facts d ≡ row.with_number (outcome store.now.facts (definitions_of defs.now) (expr_tree expr.now) (bindings_of env.now)) (λ k. row.length_left [] [] 0 facts k (bindings_of env.now) (numbers_from next))) }
+    ensures outcome { IfOk result (λ d. (facts : List Fact) → decided facts d ≡ row.with_number (outcome store.now.facts (definitions_of defs.now) (expr_tree expr.now) (bindings_of env.now.value)) (λ k. row.length_left [] [] 0 facts k (bindings_of env.now.value) (numbers_from next))) }
     ensures plain { IfOk result IsPlain }
 {
     let outcome = eval(alloc, expr, env, store, defs)?;
@@ -370,13 +370,13 @@ fn decide_assign(
     alloc: Global,
     target: &Rc<Expr>,
     expr: &Expr,
-    env: &Env,
+    env: &Rc<Env>,
     next: u64,
     store: &Store,
     defs: &Defs,
 ) -> Result<Decision, NoMemory>
     requires { definitions_of defs.now ≡ [] }
-    ensures outcome { IfOk result (λ d. (facts : List Fact) → decided facts d ≡ row.with_value (outcome store.now.facts (definitions_of defs.now) (expr_tree expr.now) (bindings_of env.now)) (λ v. row.becomes (S.leaf (0 + next) (S.Do (always (if_empty (equation (expr_tree target.now.value) (known v)))) (bindings_of env.now)) S.none) 1)) }
+    ensures outcome { IfOk result (λ d. (facts : List Fact) → decided facts d ≡ row.with_value (outcome store.now.facts (definitions_of defs.now) (expr_tree expr.now) (bindings_of env.now.value)) (λ v. row.becomes (S.leaf (0 + next) (S.Do (always (if_empty (equation (expr_tree target.now.value) (known v)))) (bindings_of env.now.value)) S.none) 1)) }
     ensures plain { IfOk result IsPlain }
 {
     let outcome = eval(alloc, expr, env, store, defs)?;
@@ -409,14 +409,14 @@ fn decide_next_equation(
     count: u32,
     target: &Rc<Expr>,
     expr: &Expr,
-    env: &Env,
+    env: &Rc<Env>,
     at: (Place, u64),
     store: &Store,
     defs: &Defs,
 ) -> Result<Decision, NoMemory>
     requires none { definitions_of defs.now ≡ [] }
     requires later { 1 ≤ count }
-    ensures outcome { IfOk result (λ d. (facts : List Fact) → decided facts d ≡ row.with_value (outcome store.now.facts (definitions_of defs.now) (expr_tree expr.now) (bindings_of env.now)) (λ v. row.going (place_of at.0) (S.leaf (0 + at.1) (S.Later (nexts (count - 1) (equation (expr_tree target.now.value) (known v))) (bindings_of env.now)) S.none) 1)) }
+    ensures outcome { IfOk result (λ d. (facts : List Fact) → decided facts d ≡ row.with_value (outcome store.now.facts (definitions_of defs.now) (expr_tree expr.now) (bindings_of env.now.value)) (λ v. row.going (place_of at.0) (S.leaf (0 + at.1) (S.Later (nexts (count - 1) (equation (expr_tree target.now.value) (known v))) (bindings_of env.now.value)) S.none) 1)) }
     ensures plain { IfOk result IsPlain }
 {
     let outcome = eval(alloc, expr, env, store, defs)?;
@@ -434,11 +434,11 @@ fn decide_next_equation(
 fn decide_next(
     alloc: Global,
     what: &Rc<Formula>,
-    env: &Env,
+    env: &Rc<Env>,
     place: Place,
     next: u64,
 ) -> Result<Decision, NoMemory>
-    ensures outcome { IfOk result (λ d. (facts : List Fact) → decided facts d ≡ row.going (place_of place) (S.leaf (0 + next) (S.Later (formula_tree what.now.value) (bindings_of env.now)) S.none) 1) }
+    ensures outcome { IfOk result (λ d. (facts : List Fact) → decided facts d ≡ row.going (place_of place) (S.leaf (0 + next) (S.Later (formula_tree what.now.value) (bindings_of env.now.value)) S.none) 1) }
     ensures plain { IfOk result IsPlain }
 {
     let news = later(alloc, next, what.clone()?, env)?;
@@ -449,7 +449,7 @@ fn decide_next(
 pub fn decide(
     alloc: Global,
     what: &Rc<Formula>,
-    env: &Env,
+    env: &Rc<Env>,
     place: Place,
     next: u64,
     store: &Store,
@@ -457,8 +457,8 @@ pub fn decide(
 ) -> Result<Decision, NoMemory>
     requires none { definitions_of defs.now ≡ [] }
     requires kinds { HasBuiltKinds (formula_tree what.now.value) }
-    requires fits { FitsStore (definitions_of defs.now) store.now.variables (formula_tree what.now.value) (bindings_of env.now) }
-    ensures outcome { IfOk result (λ d. decided store.now.facts d ≡ row.formula_step (definitions_of defs.now) [] 0 store.now.facts (formula_tree what.now.value) (bindings_of env.now) (place_of place) (numbers_from next)) }
+    requires fits { FitsStore (definitions_of defs.now) store.now.variables (formula_tree what.now.value) (bindings_of env.now.value) }
+    ensures outcome { IfOk result (λ d. decided store.now.facts d ≡ row.formula_step (definitions_of defs.now) [] 0 store.now.facts (formula_tree what.now.value) (bindings_of env.now.value) (place_of place) (numbers_from next)) }
     ensures variables { IfOk result (SetsVariables store.now.variables) }
 {
     match &**what {

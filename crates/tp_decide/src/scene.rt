@@ -66,11 +66,11 @@ pub enum Item {
     },
 }
 
-/// A formula, and what its bound names stand for.
+/// A formula, and what its bound names stand for. Items that come of one formula share its environment.
 #[derive(Drop)]
 pub struct Phrase {
     pub what: Rc<Formula>,
-    pub env: Env,
+    pub env: Rc<Env>,
 }
 
 /// Values, in order.

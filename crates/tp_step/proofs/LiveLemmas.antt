@@ -7,7 +7,6 @@ use Rattle.std.proofs.lemmas.Bool.{cases_Bool, eq-eqb}
 use Rattle.std.proofs.lemmas.Bool.Decides.{eqb_tells}
 use Rattle.tp_scene.specs.Scene as S
 use Rattle.tp_scene.specs.Scene.{Side, Ending, Going, has, live_items, Place, risen, root_place}
-use Rattle.tp_scene.specs.Built.{IsFlat}
 use Rattle.tp_scene.specs.Rest.{unsettled_items, settled_by}
 use Rattle.tp_step.specs.declared.answer.Mark.{Mark}
 use Rattle.tp_step.specs.declared.answer.Mark.TheVariants as mark
@@ -15,7 +14,7 @@ use Rattle.tp_decide.specs.declared.scene.Entry.{Entry}
 use Rattle.tp_scene.specs.Rest as rest
 use Rattle.tp_decide.specs.declared.scene.Scene.{Scene}
 use Rattle.tp_decide.specs.Read.{head_of, entries_in, entries_of, scene_of}
-use Rattle.tp_decide.specs.Flat.{leaves_of, IsFirstAt, first_of}
+use Rattle.tp_decide.specs.Flat.{HoldNoRegion, HasOneRegion, leaves_of, IsFirstAt, first_of}
 use Rattle.tp_step.specs.Answers.{region_place, status, status_of, head_status}
 use Rattle.tp_decide.proofs.FlatLemmas.{flat_leaves}
 
@@ -30,7 +29,7 @@ position_none t i (e ∷ es) h =
     some_none : {x : ℕ} → Some x ≡ None → ⊥
     some_none h = cc
 
-pub nowhere : (t : ℕ) (es : List Entry) → IsFlat (entries_of es) → position (λ e. eqb e.id t) es ≡ None → has t (entries_of es) ≡ false
+pub nowhere : (t : ℕ) (es : List Entry) → HoldNoRegion (entries_of es) → position (λ e. eqb e.id t) es ≡ None → has t (entries_of es) ≡ false
 nowhere t es f h = ap (has t) (flat_leaves es f) ∙ position_none t 0 es (sym (position_from-zero (λ e. eqb e.id t) es) ∙ h)
 
 position_some : (t i k : ℕ) (es : List Entry) → position_from (λ e. eqb e.id t) i es ≡ Some k → (j : ℕ) × (k ≡ j + i) × IsFirstAt t es j
@@ -58,14 +57,14 @@ first_lives t zero (e ∷ es) h = rw h
 first_lives t (suc k) (e ∷ es) h = let n = h.0 in rw n (first_lives t k es h.1)
 first_lives t k [] h = absurd h
 
-pub lives_at : (t k : ℕ) (es : List Entry) → IsFlat (entries_of es) → position (λ e. eqb e.id t) es ≡ Some k → has t (entries_of es) ≡ true
+pub lives_at : (t k : ℕ) (es : List Entry) → HoldNoRegion (entries_of es) → position (λ e. eqb e.id t) es ≡ Some k → has t (entries_of es) ≡ true
 lives_at t k es f h = ap (has t) (flat_leaves es f) ∙ first_lives t k es (first_at t k es h)
 
 live_leaf : (es : List Entry) → map (λ e. e.id) es ≡ live_items (leaves_of es)
 live_leaf [] = refl
 live_leaf (e ∷ es) = ap (λ ns. e.id ∷ ns) (live_leaf es)
 
-pub live_is : (es : List Entry) → IsFlat (entries_of es) → map (λ e. e.id) es ≡ live_items (entries_of es)
+pub live_is : (es : List Entry) → HoldNoRegion (entries_of es) → map (λ e. e.id) es ≡ live_items (entries_of es)
 live_is es h = live_leaf es ∙ ap live_items (sym (flat_leaves es h))
 
 -- nothing rises from entries without regions
@@ -73,14 +72,14 @@ risen_leaf : (z : Side) (es : List Entry) → risen z (leaves_of es) ≡ false
 risen_leaf z [] = refl
 risen_leaf z (e ∷ es) = risen_leaf z es
 
-pub risen_flat : (z : Side) (es : List Entry) → IsFlat (entries_of es) → risen z (entries_of es) ≡ false
-risen_flat z es h = ap (risen z) (flat_leaves es h) ∙ risen_leaf z es
+pub none_rises : (z : Side) (es : List Entry) → HoldNoRegion (entries_of es) → risen z (entries_of es) ≡ false
+none_rises z es h = ap (risen z) (flat_leaves es h) ∙ risen_leaf z es
 
 no_place : (r : ℕ) (es : List Entry) (p : Place) → region_place r (leaves_of es) p ≡ None
 no_place r [] p = refl
 no_place r (e ∷ es) p = no_place r es p
 
-pub no_region_place : (r : ℕ) (es : List Entry) (p : Place) → IsFlat (entries_of es) → region_place r (entries_of es) p ≡ None
+pub no_region_place : (r : ℕ) (es : List Entry) (p : Place) → HoldNoRegion (entries_of es) → region_place r (entries_of es) p ≡ None
 no_region_place r es p h = ap (λ x. region_place r x p) (flat_leaves es h) ∙ no_place r es p
 
 eqb_no : (a b : ℕ) → (a ≡ b → ⊥) → eqb a b ≡ false
@@ -99,13 +98,13 @@ head_of_root r h = let e = h Ending in let g = h Going in go r.head.ends r.head.
     go false true x y p q = rw p
     go false false x y p q = rw (p, q)
 
-root_is : (s : Scene) → IsFlat (scene_of s).root.entries → status (root_place (scene_of s).root) ≡ head_status (head_of s.root)
-root_is s h = head_of_root (scene_of s).root (λ z. risen_flat z (entries_in s.root) h)
+root_is : (s : Scene) → HasOneRegion (scene_of s) → status (root_place (scene_of s).root) ≡ head_status (head_of s.root)
+root_is s h = head_of_root (scene_of s).root (λ z. none_rises z (entries_in s.root) h)
 
-pub marks_root : (s : Scene) (r : ℕ) → IsFlat (scene_of s).root.entries → (head_of s.root).number ≡ r → Some (head_status (head_of s.root)) ≡ status_of r (scene_of s)
+pub marks_root : (s : Scene) (r : ℕ) → HasOneRegion (scene_of s) → (head_of s.root).number ≡ r → Some (head_status (head_of s.root)) ≡ status_of r (scene_of s)
 marks_root s r h e = let t = eq-eqb (head_of s.root).number r e in rw t (ap Some (sym (root_is s h)))
 
-pub marks_none : (s : Scene) (r : ℕ) → IsFlat (scene_of s).root.entries → ((head_of s.root).number ≡ r → ⊥) → None ≡ status_of r (scene_of s)
+pub marks_none : (s : Scene) (r : ℕ) → HasOneRegion (scene_of s) → ((head_of s.root).number ≡ r → ⊥) → None ≡ status_of r (scene_of s)
 marks_none s r h e = let f = eqb_no (head_of s.root).number r e in let n = no_region_place r (entries_in s.root) (root_place (scene_of s).root) h in rw (f, n)
 
 -- what a scene without regions has come to
@@ -127,12 +126,12 @@ comes_to : (ns : List ℕ) (p : Place) → first_of ns ≡ None → by_mark (sta
 comes_to [] p h = status_settles (p.is Ending) (p.is Going)
 comes_to (n ∷ ns) p h = cc
 
-pub settles_waiting : (s : Scene) (n : ℕ) → IsFlat (scene_of s).root.entries → ((p : Place) → Some n ≡ first_of (unsettled_items (leaves_of (entries_in s.root)) p)) → rest.waiting n ≡ rest.settled (scene_of s)
+pub settles_waiting : (s : Scene) (n : ℕ) → HasOneRegion (scene_of s) → ((p : Place) → Some n ≡ first_of (unsettled_items (leaves_of (entries_in s.root)) p)) → rest.waiting n ≡ rest.settled (scene_of s)
 settles_waiting s n h f =
     let p = root_place (scene_of s).root in
     waits_for (unsettled_items (entries_of (entries_in s.root)) p) p n (ap (λ es. first_of (unsettled_items es p)) (flat_leaves (entries_in s.root) h) ∙ sym (f p))
 
-pub settles_as : (s : Scene) (m : Mark) → IsFlat (scene_of s).root.entries → ((p : Place) → None ≡ first_of (unsettled_items (leaves_of (entries_in s.root)) p)) → m ≡ head_status (head_of s.root) → by_mark m ≡ rest.settled (scene_of s)
+pub settles_as : (s : Scene) (m : Mark) → HasOneRegion (scene_of s) → ((p : Place) → None ≡ first_of (unsettled_items (leaves_of (entries_in s.root)) p)) → m ≡ head_status (head_of s.root) → by_mark m ≡ rest.settled (scene_of s)
 settles_as s m h f e =
     let p = root_place (scene_of s).root in
     ap by_mark (e ∙ sym (root_is s h)) ∙ comes_to (unsettled_items (entries_of (entries_in s.root)) p) p (ap (λ es. first_of (unsettled_items es p)) (flat_leaves (entries_in s.root) h) ∙ sym (f p))

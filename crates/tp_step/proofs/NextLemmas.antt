@@ -4,14 +4,13 @@ use Rattle.std.proofs.lemmas.List.{take_more, map_push, append-nil}
 use Rattle.tp_value.specs.Tree.{Tree}
 use Rattle.tp_scene.specs.Scene as S
 use Rattle.tp_scene.specs.Scene.{append}
-use Rattle.tp_scene.specs.Built.{IsFlat}
 use Rattle.tp_scene.specs.Advance.{unmarked, numbered_head, second_head, due, numbered, items_in, regions_in, regions_held, shown_in, advanced}
 use Rattle.tp_decide.specs.declared.scene.Entry.{Entry}
 use Rattle.tp_decide.specs.declared.scene.Phrase.{Phrase}
 use Rattle.tp_decide.specs.declared.scene.Scene.{Scene}
 use Rattle.tp_decide.specs.declared.scene.Values.{Values}
 use Rattle.tp_decide.specs.Read.{formula_of, env_of, entries_of, entries_in, scene_of, values_of}
-use Rattle.tp_decide.specs.Flat.{leaf_of, leaves_of, IsDue}
+use Rattle.tp_decide.specs.Flat.{HasOneRegion, leaf_of, leaves_of, IsDue}
 use Rattle.tp_decide.proofs.DecideLemmas.{do_entry, pushed}
 use Rattle.tp_decide.proofs.FlatLemmas.{flat_leaves}
 use Rattle.tp_step.specs.Answers.{shown_by}
@@ -100,7 +99,7 @@ no_regions : (es : List Entry) → regions_in (due (leaves_of es)) ≡ 0
 no_regions [] = refl
 no_regions (e ∷ es) = no_region e.id (leaf_of e.item) (leaves_of es) ∙ no_regions es
 
-pub advances : (s : Scene) (es : List Entry) → IsFlat (scene_of s).root.entries → entries_of es ≡ numbered 0 1 (due (leaves_of (entries_in s.root))) → length es ≡ items_in (due (leaves_of (entries_in s.root)))
+pub advances : (s : Scene) (es : List Entry) → HasOneRegion (scene_of s) → entries_of es ≡ numbered 0 1 (due (leaves_of (entries_in s.root))) → length es ≡ items_in (due (leaves_of (entries_in s.root)))
     → (let next : S.Scene = record { root = record { head = S.new_head 0; entries = entries_of es }; next_item = length es; next_region = 1 } in next ≡ advanced (scene_of s))
 advances s es flat same count =
     let make : S.Entries → ℕ → ℕ → S.Scene = λ x i r. record { root = record { head = S.new_head 0; entries = x }; next_item = i; next_region = r } in

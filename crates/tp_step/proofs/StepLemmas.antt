@@ -17,9 +17,9 @@ use Rattle.tp_scene.specs.Fits.{EntriesFit, LeafFits}
 use Rattle.tp_scene.specs.Pick.{Setting, pick, put}
 use Rattle.tp_scene.specs.Step.{Reduction, Numbers, added, reduces, leaf_step}
 use Rattle.tp_decide.specs.declared.scene.Entry.{Entry}
-use Rattle.tp_decide.specs.Read.{entries_in, scene_of}
-use Rattle.tp_decide.specs.Flat.{leaf_of, leaves_of, AreFlat, IsFlatItem, IsFirstAt}
-use Rattle.tp_decide.proofs.FlatLemmas.{are_flat, flat_leaves}
+use Rattle.tp_decide.specs.Read.{entries_in, entries_of, scene_of}
+use Rattle.tp_decide.specs.Flat.{HasOneRegion, IsLeaf, AreLeaves, IsBuiltLeaf, leaf_of, leaves_of, IsFirstAt}
+use Rattle.tp_decide.proofs.FlatLemmas.{are_leaves, flat_leaves, no_region}
 use Rattle.tp_decide.specs.declared.scene.Scene.{Scene}
 use Rattle.tp_step.specs.declared.answer.Tried.{Tried}
 use Rattle.tp_step.specs.declared.answer.Tried.TheVariants as tried
@@ -61,20 +61,39 @@ here_leaves t k [] f = absurd f
 here_leaves t zero (x ∷ es) f = rw f refl
 here_leaves t (suc k) (x ∷ es) f = let h = f.0 in rw h (here_leaves t k es f.1)
 
-pub flat_at : (k : ℕ) (es : List Entry) (e : Entry) → AreFlat es → k < length es → e ≡ get_or es k e → IsFlatItem e.item
-flat_at k [] e h l g = absurd (omega arith)
-flat_at zero (x ∷ es) e h l g = subst (λ (y : Entry). IsFlatItem y.item) (sym g) h.0
-flat_at (suc k) (x ∷ es) e h l g = flat_at k es e h.1 (omega arith) g
+pub leaf_at : (k : ℕ) (es : List Entry) (e : Entry) → AreLeaves es → k < length es → e ≡ get_or es k e → IsLeaf e.item
+leaf_at k [] e h l g = absurd (omega arith)
+leaf_at zero (x ∷ es) e h l g = subst (λ (y : Entry). IsLeaf y.item) (sym g) h.0
+leaf_at (suc k) (x ∷ es) e h l g = leaf_at k es e h.1 (omega arith) g
 
 fits_at : (defs : List Definition) (kinds : List Bool) (xs : List Variable) (k : ℕ) (es : List Entry) (e : Entry) (p : S.Place) → EntriesFit defs kinds xs (leaves_of es) p → k < length es → e ≡ get_or es k e → LeafFits defs kinds xs (leaf_of e.item) p
 fits_at defs kinds xs k [] e p h l g = absurd (omega arith)
 fits_at defs kinds xs zero (x ∷ es) e p h l g = subst (λ (y : Entry). LeafFits defs kinds xs (leaf_of y.item) p) (sym g) h.0
 fits_at defs kinds xs (suc k) (x ∷ es) e p h l g = fits_at defs kinds xs k es e p h.1 (omega arith) g
 
-pub item_flat : (s : Scene) (k : ℕ) (e : Entry) → IsFlat (scene_of s).root.entries → k < length (entries_in s.root) → e ≡ get_or (entries_in s.root) k e → IsFlatItem e.item
-item_flat s k e h l g = flat_at k (entries_in s.root) e (are_flat (entries_in s.root) h) l g
+pub item_leaf : (s : Scene) (k : ℕ) (e : Entry) → HasOneRegion (scene_of s) → k < length (entries_in s.root) → e ≡ get_or (entries_in s.root) k e → IsLeaf e.item
+item_leaf s k e h l g = leaf_at k (entries_in s.root) e (are_leaves (entries_in s.root) h) l g
 
-pub item_fits : (defs : List Definition) (xs : List Variable) (s : Scene) (k : ℕ) (e : Entry) → IsFlat (scene_of s).root.entries → EntriesFitStore defs xs (scene_of s).root.entries (root_place (scene_of s).root)
+-- and of the kinds that are run
+front_built : (id : ℕ) (l : S.Leaf) (rest : S.Entries) → IsFlat (S.leaf id l rest) → IsBuiltLeaf l
+front_built id (S.Do f env) rest h = h.0
+front_built id (S.Later f env) rest h = h.0
+front_built id (S.Shown vs) rest h = tt
+
+rest_flat : (id : ℕ) (l : S.Leaf) (rest : S.Entries) → IsFlat (S.leaf id l rest) → IsFlat rest
+rest_flat id (S.Do f env) rest h = h.1
+rest_flat id (S.Later f env) rest h = h.1
+rest_flat id (S.Shown vs) rest h = h
+
+built_at : (k : ℕ) (es : List Entry) (e : Entry) → IsFlat (leaves_of es) → k < length es → e ≡ get_or es k e → IsBuiltLeaf (leaf_of e.item)
+built_at k [] e h l g = absurd (omega arith)
+built_at zero (x ∷ es) e h l g = subst (λ (y : Entry). IsBuiltLeaf (leaf_of y.item)) (sym g) (front_built x.id (leaf_of x.item) (leaves_of es) h)
+built_at (suc k) (x ∷ es) e h l g = built_at k es e (rest_flat x.id (leaf_of x.item) (leaves_of es) h) (omega arith) g
+
+pub item_built : (es : List Entry) (k : ℕ) (e : Entry) → IsFlat (entries_of es) → k < length es → e ≡ get_or es k e → IsBuiltLeaf (leaf_of e.item)
+item_built es k e h l g = built_at k es e (subst IsFlat (flat_leaves es (no_region (entries_of es) h)) h) l g
+
+pub item_fits : (defs : List Definition) (xs : List Variable) (s : Scene) (k : ℕ) (e : Entry) → HasOneRegion (scene_of s) → EntriesFitStore defs xs (scene_of s).root.entries (root_place (scene_of s).root)
     → k < length (entries_in s.root) → e ≡ get_or (entries_in s.root) k e → LeafFitsStore defs xs (leaf_of e.item) (root_place (scene_of s).root)
 item_fits defs xs s k e h f l g =
     let p = root_place (scene_of s).root in

@@ -22,15 +22,15 @@ use Rattle.tp_decide.specs.declared.scene.Entry.{Entry}
 use Rattle.tp_decide.specs.declared.scene.Item.{Item}
 use Rattle.tp_decide.specs.declared.scene.Scene.{Scene}
 use Rattle.tp_decide.specs.Read.{entries_in, entries_of, head_of, scene_of}
-use Rattle.tp_decide.specs.Flat.{leaf_of, leaves_of, AreFlat, IsFlatItem, IsFirstAt}
+use Rattle.tp_decide.specs.Flat.{HasOneRegion, AreLeaves, IsBuiltLeaf, leaf_of, leaves_of, IsFirstAt}
 use Rattle.tp_decide.specs.Decided.{head_place, numbers_from}
-use Rattle.tp_decide.proofs.FlatLemmas.{leaf_is, are_flat, leaves_are, flat_leaves, entries_append}
+use Rattle.tp_decide.proofs.FlatLemmas.{are_leaves, leaves_are, flat_leaves, no_region, entries_append}
 use Rattle.tp_step.specs.declared.answer.News.{News}
 use Rattle.tp_step.specs.declared.answer.Tried.{Tried}
 use Rattle.tp_step.specs.declared.answer.Tried.TheVariants as tried
 use Rattle.tp_step.specs.Answers.{Tries, Carries, CarriesOut, moment_of, region_at}
-use Rattle.tp_step.proofs.LiveLemmas.{live_is, risen_flat}
-use Rattle.tp_step.proofs.StepLemmas.{pick_leaves, put_leaves, here_leaves, flat_at, first_within}
+use Rattle.tp_step.proofs.LiveLemmas.{live_is, none_rises}
+use Rattle.tp_step.proofs.StepLemmas.{pick_leaves, put_leaves, here_leaves, item_built, first_within}
 
 -- The kinds that are run look at neither inputs nor state, and at no numbers but those of items.
 module _ (defs : List Definition) (inputs : InputLines) (state : ℕ) (facts : List Fact) (env : S.Bindings) (p : S.Place) (item : ℕ → ℕ) (region local : ℕ) where
@@ -71,9 +71,9 @@ module _ (defs : List Definition) (inputs : InputLines) (state : ℕ) (facts : L
   formula_same (input e port) h = elim h [ ]
   formula_same (display es) h = elim h [ ]
 
-leaf_same : (defs : List Definition) (inputs : InputLines) (state : ℕ) (facts : List Fact) (p : S.Place) (item : ℕ → ℕ) (region local : ℕ) (l : S.Leaf) → IsFlat (S.leaf 0 l S.none)
+leaf_same : (defs : List Definition) (inputs : InputLines) (state : ℕ) (facts : List Fact) (p : S.Place) (item : ℕ → ℕ) (region local : ℕ) (l : S.Leaf) → IsBuiltLeaf l
     → leaf_step defs inputs state facts l p (record { item = item; region = region; local = local }) ≡ leaf_step defs [] 0 facts l p (record { item = item; region = 0; local = 0 })
-leaf_same defs inputs state facts p item region local (S.Do f env) h = formula_same defs inputs state facts env p item region local f h.0
+leaf_same defs inputs state facts p item region local (S.Do f env) h = formula_same defs inputs state facts env p item region local f h
 leaf_same defs inputs state facts p item region local (S.Later f env) h = refl
 leaf_same defs inputs state facts p item region local (S.Shown vs) h = refl
 
@@ -82,8 +82,8 @@ no_or : (b c : Bool) → c ≡ false → (b || c) ≡ b
 no_or true c h = refl
 no_or false c h = h
 
-root_plain : (s : Scene) → IsFlat (scene_of s).root.entries → root_place (scene_of s).root ≡ head_place (head_of s.root)
-root_plain s h = let e : (λ z. S.marked z (head_of s.root) || risen z (entries_of (entries_in s.root))) ≡ (λ z. S.marked z (head_of s.root)) = (λ t z. no_or (S.marked z (head_of s.root)) (risen z (entries_of (entries_in s.root))) (risen_flat z (entries_in s.root) h) t) in
+root_plain : (s : Scene) → HasOneRegion (scene_of s) → root_place (scene_of s).root ≡ head_place (head_of s.root)
+root_plain s h = let e : (λ z. S.marked z (head_of s.root) || risen z (entries_of (entries_in s.root))) ≡ (λ z. S.marked z (head_of s.root)) = (λ t z. no_or (S.marked z (head_of s.root)) (risen z (entries_of (entries_in s.root))) (none_rises z (entries_in s.root) h) t) in
     ap (λ (is : S.Side → Bool). let p : S.Place = record { region = (head_of s.root).number; depth = 0; is = is } in p) e
 
 -- some entry stands at each place
@@ -91,10 +91,6 @@ entry_at : (k : ℕ) (es : List Entry) → k < length es → (e : Entry) × (e �
 entry_at k [] l = absurd (omega arith)
 entry_at zero (e ∷ es) l = (e, refl)
 entry_at (suc k) (e ∷ es) l = entry_at k es (omega arith)
-
--- an item that is flat, as a leaf before nothing
-flat_leaf : (i : Item) → IsFlatItem i → IsFlat (S.leaf 0 (leaf_of i) S.none)
-flat_leaf i h = subst IsFlat (leaf_is i 0 S.none h) h
 
 -- the outcome of the item is what was decided on its entry
 pub outcome_decided : (w : Setting) (k : Contents) (s : Scene) (t at : ℕ) (o : Outcome) → IsFlat (scene_of s).root.entries → IsFirstAt t (entries_in s.root) at
@@ -105,34 +101,34 @@ outcome_decided w k s t at o flat first is =
     let n = numbers_of (scene_of s) k.variables in
     let within = first_within t at es first in
     let x = entry_at at es within in
-    let item_flat = flat_at at es x.0 (are_flat es flat) within x.1 in
-    ap (λ (u : S.Entries). pick w k.facts t u (root_place (scene_of s).root) n) (flat_leaves es flat)
+    let one : HasOneRegion (scene_of s) = no_region (entries_of es) flat in
+    ap (λ (u : S.Entries). pick w k.facts t u (root_place (scene_of s).root) n) (flat_leaves es one)
     ∙ pick_leaves w k.facts t at es x.0 (root_place (scene_of s).root) n first within x.1
-    ∙ ap (λ (p : S.Place). leaf_step w.defs w.inputs w.state k.facts (leaf_of x.0.item) p n) (root_plain s flat)
-    ∙ leaf_same w.defs w.inputs w.state k.facts (head_place (head_of s.root)) (λ i. i + s.next_item) s.next_region (length k.variables) (leaf_of x.0.item) (flat_leaf x.0.item item_flat)
+    ∙ ap (λ (p : S.Place). leaf_step w.defs w.inputs w.state k.facts (leaf_of x.0.item) p n) (root_plain s one)
+    ∙ leaf_same w.defs w.inputs w.state k.facts (head_place (head_of s.root)) (λ i. i + s.next_item) s.next_region (length k.variables) (leaf_of x.0.item) (item_built es at x.0 flat within x.1)
     ∙ sym (is x.0 x.1)
 
--- parts of flat lists are flat
-flat_take : (k : ℕ) (es : List Entry) → AreFlat es → AreFlat (take k es)
-flat_take zero es h = tt
-flat_take (suc k) [] h = tt
-flat_take (suc k) (e ∷ es) h = (h.0, flat_take k es h.1)
+-- parts of lists without regions
+leaves_take : (k : ℕ) (es : List Entry) → AreLeaves es → AreLeaves (take k es)
+leaves_take zero es h = tt
+leaves_take (suc k) [] h = tt
+leaves_take (suc k) (e ∷ es) h = (h.0, leaves_take k es h.1)
 
-flat_drop : (k : ℕ) (es : List Entry) → AreFlat es → AreFlat (drop k es)
-flat_drop zero es h = h
-flat_drop (suc k) [] h = tt
-flat_drop (suc k) (e ∷ es) h = flat_drop k es h.1
+leaves_drop : (k : ℕ) (es : List Entry) → AreLeaves es → AreLeaves (drop k es)
+leaves_drop zero es h = h
+leaves_drop (suc k) [] h = tt
+leaves_drop (suc k) (e ∷ es) h = leaves_drop k es h.1
 
-flat_front : (xs ys : List Entry) → AreFlat (xs ++ ys) → AreFlat xs
-flat_front [] ys h = tt
-flat_front (x ∷ xs) ys h = (h.0, flat_front xs ys h.1)
+leaves_front : (xs ys : List Entry) → AreLeaves (xs ++ ys) → AreLeaves xs
+leaves_front [] ys h = tt
+leaves_front (x ∷ xs) ys h = (h.0, leaves_front xs ys h.1)
 
-flat_back : (xs ys : List Entry) → AreFlat (xs ++ ys) → AreFlat ys
-flat_back [] ys h = h
-flat_back (x ∷ xs) ys h = flat_back xs ys h.1
+leaves_back : (xs ys : List Entry) → AreLeaves (xs ++ ys) → AreLeaves ys
+leaves_back [] ys h = h
+leaves_back (x ∷ xs) ys h = leaves_back xs ys h.1
 
 -- the entries after it, with those that stand in its place
-put_is : (t k : ℕ) (m : Option S.Side) (news es : List Entry) → AreFlat es → IsFirstAt t es k → entries_of (take k es ++ news ++ drop (k + 1) es) ≡ put t m (entries_of news) (entries_of es)
+put_is : (t k : ℕ) (m : Option S.Side) (news es : List Entry) → AreLeaves es → IsFirstAt t es k → entries_of (take k es ++ news ++ drop (k + 1) es) ≡ put t m (entries_of news) (entries_of es)
 put_is t k m news es h f =
     let front = take k es in
     let behind = drop (suc k) es in
@@ -141,20 +137,20 @@ put_is t k m news es h f =
     ∙ ap entries_of (append_assoc front news behind)
     ∙ entries_append front (news ++ behind)
     ∙ ap (append (entries_of front)) (entries_append news behind)
-    ∙ ap₂ (λ u v. append u (append (entries_of news) v)) (leaves_are front (flat_take k es h)) (leaves_are behind (flat_drop (suc k) es h))
+    ∙ ap₂ (λ u v. append u (append (entries_of news) v)) (leaves_are front (leaves_take k es h)) (leaves_are behind (leaves_drop (suc k) es h))
     ∙ sym (put_leaves t k m (entries_of news) es f)
     ∙ ap (put t m (entries_of news)) (sym (leaves_are es h))
 
 -- the scene after it
-scene_is : (s s' : Scene) (t at : ℕ) (r : Reduction) (news : List Entry) → IsFlat (scene_of s).root.entries → IsFirstAt t (entries_in s.root) at → entries_of news ≡ r.news
+scene_is : (s s' : Scene) (t at : ℕ) (r : Reduction) (news : List Entry) → HasOneRegion (scene_of s) → IsFirstAt t (entries_in s.root) at → entries_of news ≡ r.news
     → entries_in s'.root ≡ take at (entries_in s.root) ++ news ++ drop (at + 1) (entries_in s.root) → head_of s'.root ≡ mark_head r.mark (head_of s.root)
     → s'.next_item ≡ s.next_item + r.items → s'.next_region ≡ s.next_region + r.regions → scene_of s' ≡ scene_after t r (scene_of s)
-scene_is s s' t at r news flat first are placed head item region =
+scene_is s s' t at r news one first are placed head item region =
     let es = entries_in s.root in
     let make : S.Head → S.Entries → ℕ → ℕ → S.Scene = λ h u i j. record { root = record { head = h; entries = u }; next_item = i; next_region = j } in
-    let here : has_here t (entries_of es) ≡ true = ap (has_here t) (flat_leaves es flat) ∙ here_leaves t at es first in
+    let here : has_here t (entries_of es) ≡ true = ap (has_here t) (flat_leaves es one) ∙ here_leaves t at es first in
     let h : head_of s'.root ≡ mark_at t r.mark (head_of s.root) (entries_of es) = head ∙ ap (λ b. cond b (mark_head r.mark (head_of s.root)) (head_of s.root)) (sym here) in
-    let u : entries_of (entries_in s'.root) ≡ put t r.mark r.news (entries_of es) = ap entries_of placed ∙ put_is t at r.mark news es (are_flat es flat) first ∙ ap (λ x. put t r.mark x (entries_of es)) are in
+    let u : entries_of (entries_in s'.root) ≡ put t r.mark r.news (entries_of es) = ap entries_of placed ∙ put_is t at r.mark news es (are_leaves es one) first ∙ ap (λ x. put t r.mark x (entries_of es)) are in
     ap (λ x. make x (entries_of (entries_in s'.root)) s'.next_item s'.next_region) h
     ∙ ap (λ x. make (mark_at t r.mark (head_of s.root) (entries_of es)) x s'.next_item s'.next_region) u
     ∙ ap (λ x. make (mark_at t r.mark (head_of s.root) (entries_of es)) (put t r.mark r.news (entries_of es)) x s'.next_region) item
@@ -225,10 +221,10 @@ only_new old mid at n base to numbers is fresh =
     ∙ ap₂ (λ xs ys. xs ++ ys) (front_gone q at old gone) (all_kept q n base 0 to mid is stays fresh)
 
 -- the new entries have new numbers
-are_fresh : (facts : List Fact) (p : S.Place) (n : Numbers) (r : Reduction) (mid : List Entry) → AreFlat mid → entries_of mid ≡ r.news → Plain p n r → FreshLeaves n 0 (leaves_of mid) r.items
-are_fresh facts p n r mid flat is plain = elim (plain.news) [
-  | inl u ↦ subst (λ x. FreshLeaves n 0 x r.items) (sym is ∙ leaves_are mid flat) u.0
-  | inr u ↦ absurd (no_node mid (sym (leaves_are mid flat) ∙ is ∙ u.0.is))
+are_fresh : (facts : List Fact) (p : S.Place) (n : Numbers) (r : Reduction) (mid : List Entry) → AreLeaves mid → entries_of mid ≡ r.news → Plain p n r → FreshLeaves n 0 (leaves_of mid) r.items
+are_fresh facts p n r mid leaves is plain = elim (plain.news) [
+  | inl u ↦ subst (λ x. FreshLeaves n 0 x r.items) (sym is ∙ leaves_are mid leaves) u.0
+  | inr u ↦ absurd (no_node mid (sym (leaves_are mid leaves) ∙ is ∙ u.0.is))
 ]
   where
     no_node : (es : List Entry) {id : ℕ} {k : S.Holder} {h : S.Head} {held : S.Entries} {g : S.Head} {second rest : S.Entries} → leaves_of es ≡ S.node id k h held g second rest → ⊥
@@ -245,6 +241,9 @@ module _ (w : Setting) (kinds : List Bool) (k j : Contents) (s s' : Scene) (t at
     (is : (e : Entry) → e ≡ get_or (entries_in s.root) at e → o ≡ leaf_step w.defs [] 0 k.facts (leaf_of e.item) (head_place (head_of s.root)) (numbers_from s.next_item)) where
   outcome_is : outcome_of w k (scene_of s) t ≡ o
   outcome_is = outcome_decided w k s t at o ready.flat first is
+
+  one : HasOneRegion (scene_of s)
+  one = no_region (entries_of (entries_in s.root)) ready.flat
 
   -- what the entry becomes
   plain_news : (r : Reduction) → o ≡ reduces r → Plain (head_place (head_of s.root)) (numbers_from s.next_item) r
@@ -263,24 +262,25 @@ module _ (w : Setting) (kinds : List Bool) (k j : Contents) (s s' : Scene) (t at
       let step : Reduces w (moment_of s k) t r (moment_of s' j) = record {
         lives = lives;
         outcome = outcome_is ∙ c.outcome;
-        scene = scene_is s s' t at r mid ready.flat first c.news_are c.placed c.head c.next_item c.next_region;
+        scene = scene_is s s' t at r mid one first c.news_are c.placed c.head c.next_item c.next_region;
         store = c.store;
       } in
       let after : IsFlat (entries_of (entries_in s'.root)) = (steps_stay_flat w (moment_of s k) t r (moment_of s' j) ready.flat step).scene in
-      let all : AreFlat (take at es ++ mid ++ drop (at + 1) es) = subst AreFlat c.placed (are_flat (entries_in s'.root) after) in
-      let mid_flat : AreFlat mid = flat_back (take at es) mid (flat_front (take at es ++ mid) (drop (at + 1) es) all) in
-      let fresh = are_fresh k.facts (head_place (head_of s.root)) n r mid mid_flat c.news_are (plain_news r c.outcome) in
-      let numbers : AreNumbers s.next_item (item_numbers (leaves_of es)) = subst (λ (x : S.Entries). AreNumbers s.next_item (item_numbers x)) (flat_leaves es ready.flat) ready.sound.moment.items in
+      let one_after : HasOneRegion (scene_of s') = no_region (entries_of (entries_in s'.root)) after in
+      let all : AreLeaves (take at es ++ mid ++ drop (at + 1) es) = subst AreLeaves c.placed (are_leaves (entries_in s'.root) one_after) in
+      let mid_leaves : AreLeaves mid = leaves_back (take at es) mid (leaves_front (take at es ++ mid) (drop (at + 1) es) all) in
+      let fresh = are_fresh k.facts (head_place (head_of s.root)) n r mid mid_leaves c.news_are (plain_news r c.outcome) in
+      let numbers : AreNumbers s.next_item (item_numbers (leaves_of es)) = subst (λ (x : S.Entries). AreNumbers s.next_item (item_numbers x)) (flat_leaves es one) ready.sound.moment.items in
       let only = only_new es mid at n s.next_item r.items numbers (λ i. refl) fresh in
       let old : S.Entries → List ℕ → List ℕ = λ x ns. filter (λ u. not (has u x)) ns in (
         r,
         c.room,
         step,
         record {
-          items = c.items ∙ sym only ∙ ap (λ (xs : List Entry). old (leaves_of es) (ids xs)) (sym c.placed) ∙ ap (old (leaves_of es)) (live_is (entries_in s'.root) after)
-              ∙ ap (λ x. old x (live_items (entries_of (entries_in s'.root)))) (sym (flat_leaves es ready.flat));
+          items = c.items ∙ sym only ∙ ap (λ (xs : List Entry). old (leaves_of es) (ids xs)) (sym c.placed) ∙ ap (old (leaves_of es)) (live_is (entries_in s'.root) one_after)
+              ∙ ap (λ x. old x (live_items (entries_of (entries_in s'.root)))) (sym (flat_leaves es one));
           facts = c.facts;
-          marked = c.marked ∙ ap (λ (i : ℕ). option_map (λ (z : S.Side). i) r.mark) (sym (ap (region_at t (head_of s.root).number) (flat_leaves es ready.flat) ∙ stands_there t (head_of s.root).number es));
+          marked = c.marked ∙ ap (λ (i : ℕ). option_map (λ (z : S.Side). i) r.mark) (sym (ap (region_at t (head_of s.root).number) (flat_leaves es one) ∙ stands_there t (head_of s.root).number es));
         },
       )
 

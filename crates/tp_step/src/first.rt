@@ -21,6 +21,7 @@ pub fn start(alloc: Global, main: &Rc<Formula>) -> Result<Scene, NoMemory>
     let env = Env {
         items: Vec::new(alloc),
     };
+    let env = Rc::new(alloc, env)?;
     let mut items = Vec::new(alloc);
     items.push(Entry {
         id: 0,

@@ -2,11 +2,10 @@
 ghost use Rattle.std.specs.Prelude.{◌≡◌, ◌++◌, map, position, eqb, IfOk, OnOk, OnErr};
 ghost use Rattle.std.specs.Option.{option_map};
 ghost use Rattle.tp_scene.specs.Scene.{has, live_items, Place};
-ghost use Rattle.tp_scene.specs.Built.{IsFlat};
 ghost use Rattle.tp_scene.specs.Rest as rest;
 ghost use Rattle.tp_scene.specs.Advance.{shown_in};
 ghost use Rattle.tp_decide.specs.Read.{scene_of, shows_of, values_of, head_of};
-ghost use Rattle.tp_decide.specs.Flat.{IsFlatItem, AreFlat, leaf_of, leaves_of, first_of};
+ghost use Rattle.tp_decide.specs.Flat.{HasOneRegion, IsLeaf, AreLeaves, leaf_of, leaves_of, first_of};
 ghost use Rattle.tp_step.specs.Meaning.{EndMeans};
 ghost use Rattle.tp_step.specs.Answers.{settled_of, status_of, head_status, shown_by};
 
@@ -25,7 +24,7 @@ pub fn find(entries: &[Entry], item: u64) -> Option<usize>
 /// Whether an item with this number is live.
 #[tactic(auto, using(crate::proofs::LiveLemmas::nowhere, crate::proofs::LiveLemmas::lives_at))]
 pub fn has_item(scene: &Scene, item: u64) -> bool
-    requires { IsFlat (scene_of scene.now).root.entries }
+    requires { HasOneRegion (scene_of scene.now) }
     ensures { result ≡ has item (scene_of scene.now).root.entries }
 {
     match find(scene.root.entries.items.as_slice(), item) {
@@ -47,7 +46,7 @@ pub fn numbers(alloc: Global, entries: &[Entry]) -> Result<Vec<u64>, NoMemory>
 /// Appends the live items in walk order, or changes nothing.
 #[tactic(auto, using(crate::proofs::LiveLemmas::live_is))]
 pub fn items(alloc: Global, scene: &Scene, out: &mut ItemIds) -> Result<(), NoMemory>
-    requires { IsFlat (scene_of scene.now).root.entries }
+    requires { HasOneRegion (scene_of scene.now) }
     ensures ok { OnOk result (out.new ≡ out.old ++ live_items (scene_of scene.now).root.entries) }
     ensures err { OnErr result (out.new ≡ out.old) }
 {
@@ -58,7 +57,7 @@ pub fn items(alloc: Global, scene: &Scene, out: &mut ItemIds) -> Result<(), NoMe
 
 // Whether the item isn't done with this state.
 fn is_unsettled(item: &Item) -> bool
-    requires { IsFlatItem item.now }
+    requires { IsLeaf item.now }
     ensures { result ≡ rest.is_unsettled (leaf_of item.now) }
 {
     match item {
@@ -74,7 +73,7 @@ fn is_unsettled(item: &Item) -> bool
 
 // The first item that isn't done with this state.
 fn first_unsettled(entries: &[Entry]) -> Option<u64>
-    requires { AreFlat entries.now }
+    requires { AreLeaves entries.now }
     ensures { (p : Place) → result ≡ first_of (rest.unsettled_items (leaves_of entries.now) p) }
 {
     for entry in entries {
@@ -100,7 +99,7 @@ fn status(region: &Region) -> Mark
 
 /// The status of the live region with this number.
 pub fn mark(scene: &Scene, region: u64) -> Option<Mark>
-    requires { IsFlat (scene_of scene.now).root.entries }
+    requires { HasOneRegion (scene_of scene.now) }
     ensures { result ≡ status_of region (scene_of scene.now) }
 {
     if scene.root.id == region {
@@ -112,7 +111,7 @@ pub fn mark(scene: &Scene, region: u64) -> Option<Mark>
 
 /// What the scene has come to: its first item in walk order that isn't done with this state, or else the root's status.
 pub fn settled(scene: &Scene) -> Settled
-    requires { IsFlat (scene_of scene.now).root.entries }
+    requires { HasOneRegion (scene_of scene.now) }
     ensures settled { settled_of result ≡ rest.settled (scene_of scene.now) }
     ensures ends { EndMeans scene.now }
 {
@@ -139,7 +138,7 @@ fn copy_values(alloc: Global, values: &Values) -> Result<Values, NoMemory>
 
 // The values that an item shows.
 fn shown_values(item: &Item) -> Option<&Values>
-    requires { IsFlatItem item.now }
+    requires { IsLeaf item.now }
     ensures { option_map (λ vs. values_of vs.now) result ≡ shown_by (leaf_of item.now) }
 {
     match item {
@@ -155,7 +154,7 @@ fn shown_values(item: &Item) -> Option<&Values>
 
 // The lists of values that entries show, in order.
 fn shows_in(alloc: Global, entries: &[Entry]) -> Result<Vec<Values>, NoMemory>
-    requires { AreFlat entries.now }
+    requires { AreLeaves entries.now }
     ensures { IfOk result (λ all. map values_of all.items ≡ shown_in (leaves_of entries.now)) }
 {
     let mut all = Vec::new(alloc);
@@ -169,7 +168,7 @@ fn shows_in(alloc: Global, entries: &[Entry]) -> Result<Vec<Values>, NoMemory>
 
 /// Appends the lists of values that are shown in walk order, or changes nothing.
 pub fn shown(alloc: Global, scene: &Scene, out: &mut Shows) -> Result<(), NoMemory>
-    requires { IsFlat (scene_of scene.now).root.entries }
+    requires { HasOneRegion (scene_of scene.now) }
     ensures ok { OnOk result (shows_of out.new ≡ shows_of out.old ++ shown_in (scene_of scene.now).root.entries) }
     ensures err { OnErr result (shows_of out.new ≡ shows_of out.old) }
 {

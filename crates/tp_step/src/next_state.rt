@@ -1,11 +1,10 @@
 // The scene of the next state.
 ghost use Rattle.std.specs.Prelude.{◌≡◌, IfOk, length};
-ghost use Rattle.tp_scene.specs.Built.{IsFlat};
 ghost use Rattle.tp_scene.specs.Rest as rest;
 ghost use Rattle.tp_scene.specs.Advance.{advanced, due, numbered, items_in};
 ghost use Rattle.tp_decide.specs.Read.{scene_of, entries_of};
 ghost use Rattle.tp_step.specs.Meaning.{AdvanceMeans, AdvanceIsReady};
-ghost use Rattle.tp_decide.specs.Flat.{IsFlatItem, AreFlat, leaf_of, leaves_of, IsDue};
+ghost use Rattle.tp_decide.specs.Flat.{HasOneRegion, IsLeaf, AreLeaves, leaf_of, leaves_of, IsDue};
 
 use std::alloc::Global;
 use tp_decide::{Entries, Entry, Item, Phrase, Region, Scene};
@@ -13,7 +12,7 @@ use tp_value::NoMemory;
 
 // What is due from the next state on.
 fn due(item: Item) -> Option<Phrase>
-    requires { IsFlatItem item }
+    requires { IsLeaf item }
     ensures { IsDue (leaf_of item) result }
 {
     match item {
@@ -30,7 +29,7 @@ fn due(item: Item) -> Option<Phrase>
 
 // The entries that are due, with new numbers.
 fn due_entries(alloc: Global, entries: Vec<Entry>) -> Result<Vec<Entry>, NoMemory>
-    requires { AreFlat entries.items }
+    requires { AreLeaves entries.items }
     ensures entries { IfOk result (λ next. entries_of next.items ≡ numbered 0 1 (due (leaves_of entries.items))) }
     ensures count { IfOk result (λ next. length next.items ≡ items_in (due (leaves_of entries.items))) }
 {
@@ -51,7 +50,7 @@ fn due_entries(alloc: Global, entries: Vec<Entry>) -> Result<Vec<Entry>, NoMemor
 /// given up where memory is refused.
 pub fn advance(alloc: Global, scene: Scene) -> Result<Scene, NoMemory>
     requires goes { rest.settled (scene_of scene) ≡ rest.goes }
-    requires flat { IsFlat (scene_of scene).root.entries }
+    requires one { HasOneRegion (scene_of scene) }
     ensures scene { IfOk result (λ next. scene_of next ≡ advanced (scene_of scene)) }
     ensures means { IfOk result (AdvanceMeans scene) }
     ensures ready { IfOk result (AdvanceIsReady scene) }

@@ -6,7 +6,7 @@ ghost use Rattle.tp_store.specs.Known.{NoClash, IsVariableOf};
 ghost use Rattle.tp_scene.specs.Scene.{has, root_place};
 ghost use Rattle.tp_scene.specs.Step.{leaf_step};
 ghost use Rattle.tp_step.specs.Fits.{LeafFitsStore, EntriesFitStore};
-ghost use Rattle.tp_decide.specs.Flat.{IsFlatItem, IsFirstAt, leaf_of};
+ghost use Rattle.tp_decide.specs.Flat.{IsLeaf, IsBuiltLeaf, IsFirstAt, leaf_of};
 ghost use Rattle.tp_scene.specs.Pick.{mark_head};
 ghost use Rattle.tp_scene.specs.Built.{IsFlat};
 ghost use Rattle.tp_scene.specs.Built.{IsReady};
@@ -237,7 +237,8 @@ fn decide_item(
     defs: &Defs,
 ) -> Result<Decision, NoMemory>
     requires none { definitions_of defs.now ≡ [] }
-    requires flat { IsFlatItem item.now }
+    requires leaf { IsLeaf item.now }
+    requires kinds { IsBuiltLeaf (leaf_of item.now) }
     requires fits { LeafFitsStore (definitions_of defs.now) store.now.variables (leaf_of item.now) (root_place (scene_of scene.now).root) }
     ensures ok { IfOk result (λ d. decided store.now.facts d ≡ leaf_step (definitions_of defs.now) [] 0 store.now.facts (leaf_of item.now) (head_place (head_of scene.now.root)) (numbers_from scene.now.next_item)) }
     ensures variables { IfOk result (SetsVariables store.now.variables) }

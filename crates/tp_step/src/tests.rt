@@ -5,8 +5,9 @@ ghost use Rattle.tp_meaning.specs.Interval.{kinds_of};
 ghost use Rattle.tp_kernel.specs.Read.{expr_tree, formula_tree, definitions_of};
 ghost use Rattle.tp_kernel.specs.Built.{IsBuilt};
 ghost use Rattle.tp_store.specs.Known.{new_store};
-ghost use Rattle.tp_scene.specs.Built.{IsFlat, IsReady};
+ghost use Rattle.tp_scene.specs.Built.{IsReady};
 ghost use Rattle.tp_decide.specs.Read.{scene_of};
+ghost use Rattle.tp_decide.specs.Flat.{HasOneRegion};
 ghost use Rattle.tp_step.specs.Answers.{moment_of};
 
 use crate::{
@@ -150,7 +151,7 @@ fn said(alloc: Global, tried: &Tried) -> Result<String, Fail> {
 
 // How many items are live.
 fn count(alloc: Global, scene: &Scene) -> Result<usize, NoMemory>
-    requires { IsFlat (scene_of scene.now).root.entries }
+    requires { HasOneRegion (scene_of scene.now) }
 {
     let mut live = ItemIds::new(alloc);
     items(alloc, scene, &mut live)?;
@@ -192,7 +193,7 @@ fn tries<L: Ledger>(
 
 // What the state has come to, and the root's mark. There is no other region, and nothing is shown.
 fn end(alloc: Global, scene: &Scene, out: &mut String) -> Result<(), Fail>
-    requires { IsFlat (scene_of scene.now).root.entries }
+    requires { HasOneRegion (scene_of scene.now) }
 {
     let mut shows = Shows {
         items: Vec::new(alloc),

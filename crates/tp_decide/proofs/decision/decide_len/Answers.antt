@@ -7,5 +7,5 @@ use Rattle.tp_decide.proofs.decision.decide_len.Goals as goal
 
 pub returns-in-Err-clause-outcome : goal.returns-in-Err-clause-outcome
 returns-in-Err-clause-outcome c = λ facts.
-    let f : ℤ → Outcome = λ k. length_left [] [] 0 facts k (bindings_of c.args.env.now) (numbers_from c.args.next) in
+    let f : ℤ → Outcome = λ k. length_left [] [] 0 facts k (bindings_of c.args.env.now.value) (numbers_from c.args.next) in
     c.in-Err.ensures.found facts f ∙ ap (λ o. with_number o f) c.in_ok-outcome.ensures

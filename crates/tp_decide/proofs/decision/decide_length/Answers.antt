@@ -12,7 +12,7 @@ use Rattle.tp_decide.proofs.decision.decide_length.Goals.{then-left-eq0, else-le
 pub returns-clause-outcome : goal.returns-clause-outcome
 returns-clause-outcome c = λ facts.
     let numbers = numbers_from c.args.next in
-    let env = bindings_of c.args.env.now in
+    let env = bindings_of c.args.env.now.value in
     let f = formula_tree c.in_ok-new.field-0.value in
     c.becomes.ensures.outcome facts ∙ ap₂ becomes c.in_ok-news.ensures.entries c.in_ok-news.ensures.count
     ∙ elim c.if-left-eq0.branch [

@@ -4,8 +4,8 @@ use Rattle.tp_scene.specs.Rest.{unsettled_items}
 use Rattle.tp_decide.specs.declared.scene.Entry.{Entry}
 use Rattle.tp_step.specs.declared.answer.Mark.TheVariants as mark
 use Rattle.tp_decide.specs.Read.{entries_in}
-use Rattle.tp_decide.specs.Flat.{AreFlat, leaves_of, first_of}
-use Rattle.tp_decide.proofs.FlatLemmas.{are_flat}
+use Rattle.tp_decide.specs.Flat.{AreLeaves, leaves_of, first_of}
+use Rattle.tp_decide.proofs.FlatLemmas.{are_leaves}
 use Rattle.tp_step.proofs.MeaningLemmas.{end_means}
 use Rattle.tp_step.proofs.LiveLemmas.{settles_waiting, settles_as}
 use Rattle.tp_step.proofs.live.settled.Goals as goal
@@ -14,7 +14,7 @@ at_root : (o r : Option ℕ) (xs ys : List Entry) → xs ≡ ys → o ≡ r → 
 at_root o r xs ys e h f = λ p. sym h ∙ f p ∙ ap (λ (zs : List Entry). first_of (unsettled_items (leaves_of zs) p)) e
 
 pub first_unsettled-requires : goal.first_unsettled-requires
-first_unsettled-requires c = subst AreFlat (sym c.as_slice.ensures.value) (are_flat (entries_in c.args.scene.now.root) c.requires)
+first_unsettled-requires c = subst AreLeaves (sym c.as_slice.ensures.value) (are_leaves (entries_in c.args.scene.now.root) c.requires)
 
 pub returns-in-Some-clause-settled : goal.returns-in-Some-clause-settled
 returns-in-Some-clause-settled c =

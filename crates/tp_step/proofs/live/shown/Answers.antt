@@ -4,12 +4,12 @@ use Rattle.tp_value.specs.Tree.{Tree}
 use Rattle.tp_scene.specs.Advance.{shown_in}
 use Rattle.tp_decide.specs.declared.scene.Entry.{Entry}
 use Rattle.tp_decide.specs.Read.{entries_in, values_of}
-use Rattle.tp_decide.specs.Flat.{AreFlat, leaves_of}
-use Rattle.tp_decide.proofs.FlatLemmas.{are_flat, flat_leaves}
+use Rattle.tp_decide.specs.Flat.{AreLeaves, leaves_of}
+use Rattle.tp_decide.proofs.FlatLemmas.{are_leaves, flat_leaves}
 use Rattle.tp_step.proofs.live.shown.Goals as goal
 
 pub shows_in-requires : goal.shows_in-requires
-shows_in-requires c = subst AreFlat (sym c.as_slice.ensures.value) (are_flat (entries_in c.args.scene.now.root) c.requires)
+shows_in-requires c = subst AreLeaves (sym c.as_slice.ensures.value) (are_leaves (entries_in c.args.scene.now.root) c.requires)
 
 pub returns-clause-ok : goal.returns-clause-ok
 returns-clause-ok c =

@@ -1,13 +1,13 @@
 use Rattle.std.proofs.Common.{◌∙◌, Vec, Global, map, ap, Some}
 use Rattle.tp_decide.specs.declared.scene.Values.{Values}
 use Rattle.tp_decide.specs.Read.{values_of}
-use Rattle.tp_step.proofs.StepLemmas.{flat_at}
+use Rattle.tp_step.proofs.StepLemmas.{leaf_at}
 use Rattle.tp_step.proofs.NextLemmas.{shown_more, shown_same}
 use Rattle.tp_step.proofs.live.shows_in.Goals.{in-Some+in_ok-copy_values+in_ok-push, in_default}
 use Rattle.tp_step.proofs.live.shows_in.Goals as goal
 
 pub shown_values-requires : goal.shown_values-requires
-shown_values-requires c = flat_at c.loop-entry.entry-index c.args.entries.now c.entry-item.result c.requires c.loop-entry-test.true c.entry-item.is
+shown_values-requires c = leaf_at c.loop-entry.entry-index c.args.entries.now c.entry-item.result c.requires c.loop-entry-test.true c.entry-item.is
 
 pub loop-entry-preserved : goal.loop-entry-preserved
 loop-entry-preserved c =

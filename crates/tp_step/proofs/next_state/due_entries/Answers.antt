@@ -4,14 +4,14 @@ use Rattle.std.proofs.lemmas.Iterator.Adapters.{YieldsList-from_vec}
 use Rattle.std.proofs.lemmas.Iterator.Consumers.{YieldsList-turn}
 use Rattle.tp_scene.specs.Advance.{numbered, items_in}
 use Rattle.tp_decide.proofs.DecideLemmas.{do_entry}
-use Rattle.tp_step.proofs.StepLemmas.{flat_at}
+use Rattle.tp_step.proofs.StepLemmas.{leaf_at}
 use Rattle.tp_step.proofs.NextLemmas.{more_due, more_due_count, none_due}
 use Rattle.tp_step.proofs.next_state.due_entries.Goals as goal
 
 pub due-requires : goal.due-requires
 due-requires c =
     let turn = YieldsList-turn (YieldsList-from_vec {s = c.into_iter-entry-iterator.result} c.args.entries.items (cc) (cc)) c.loop-entry.yielded c.loop-entry.entry-iterator c.loop-entry.yielded_by c.next.result c.next.new.self c.in-Some.entry c.in-Some.is c.next.ensures.steps in
-    flat_at (length c.loop-entry.yielded) c.args.entries.items c.in-Some.entry c.requires turn.0 turn.1
+    leaf_at (length c.loop-entry.yielded) c.args.entries.items c.in-Some.entry c.requires turn.0 turn.1
 
 pub loop-entry-preserved-in-Continue-1 : goal.loop-entry-preserved-in-Continue-1
 loop-entry-preserved-in-Continue-1 c =
