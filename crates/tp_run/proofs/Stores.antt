@@ -1,16 +1,25 @@
 -- What the store of a run keeps.
-use Rattle.std.proofs.Common.{◌≡◌, List, [], ◌∷◌, ℕ, ap, ◌∙◌, sym, subst}
+use Rattle.std.proofs.Common.{◌≡◌, ℕ, List, [], ◌∷◌, ap, ◌∙◌, subst}
 use Rattle.tp_store.specs.Known.{Contents}
 use Rattle.tp_scene.specs.Pick.{Setting, Moment, Leads}
 use Rattle.tp_scene.specs.Built.{MomentIsFlat}
 use Rattle.tp_scene.proofs.Flat.{steps_stay_flat}
+use Rattle.tp_step.specs.Answers.{moment_of}
 use Rattle.tp_run.specs.declared.run.Run.{Run}
+use Rattle.tp_run.specs.declared.run.Stand.{Stand}
+use Rattle.tp_run.specs.declared.run.Stand.TheVariants.{Open, Answered, Spent}
 use Rattle.tp_run.specs.declared.turn.Picture.{Picture}
 use Rattle.tp_run.specs.declared.turn.Turn.{Turn}
 use Rattle.tp_run.specs.declared.turn.Turn.TheVariants.{Went, Finished, Contradictory, Undetermined, StateLimit, InputMissing, Over}
 use Rattle.tp_run.specs.States.{Plan, setting, Standing, open_at, StoreBecomes, LeavesStore}
-use Rattle.tp_run.specs.Runs.{standing_of, IsRunOf}
+use Rattle.tp_run.specs.Runs.{stands_at, standing_of, IsRunOf}
 use Rattle.tp_run.proofs.Becomes.{ready_at}
+
+-- where a run stands before a state, its store is what the state begins with
+pub store_before : (stand : Stand) (store : Contents) (m : Moment) → stands_at stand store ≡ open_at m → store ≡ m.store
+store_before (Open scene) store m h = let same : moment_of scene store ≡ m = cc in ap (λ (z : Moment). z.store) same
+store_before (Answered turn) store m h = absurd (cc)
+store_before Spent store m h = absurd (cc)
 
 -- picks make no variable
 picks_keep_variables : (w : Setting) (picks : List ℕ) (m last : Moment) → MomentIsFlat m → Leads w m picks last → last.store.variables ≡ m.store.variables

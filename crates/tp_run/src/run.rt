@@ -148,8 +148,7 @@ impl Settings {
         ensures turn { IfOk result (λ made. made.turn ≡ Turn.Finished state) }
         ensures err { OnErr result (picture.new ≡ picture.old) }
     {
-        let settled =
-            settled_picture(self.alloc, scene, store, self.globals, state, reductions)?;
+        let settled = settled_picture(self.alloc, scene, store, self.globals, state, reductions)?;
         let made = stop(Turn::Finished { length: state })?;
         *picture = settled;
         Ok(made)
@@ -171,8 +170,7 @@ impl Settings {
         ensures turn { IfOk result (λ made. made.turn ≡ Turn.Went) }
         ensures err { OnErr result (picture.new ≡ picture.old) }
     {
-        let settled =
-            settled_picture(self.alloc, &scene, store, self.globals, state, reductions)?;
+        let settled = settled_picture(self.alloc, &scene, store, self.globals, state, reductions)?;
         let next = advance(self.alloc, scene)?;
         store.next_state();
         *picture = settled;
@@ -353,9 +351,9 @@ impl Run {
     {
         match mem::replace(&mut self.stand, Stand::Spent) {
             Stand::Open(scene) => {
-                let made =
-                    self.settings
-                        .make(self.state, scene, &mut self.store, picture, steps)?;
+                let made = self
+                    .settings
+                    .make(self.state, scene, &mut self.store, picture, steps)?;
                 self.state = self.next_number(&made.turn);
                 self.stand = made.stand;
                 Ok(made.turn)
