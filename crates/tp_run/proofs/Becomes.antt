@@ -146,6 +146,7 @@ module _ (plan : Plan) (n : ℕ) (m last : Moment) (before after : List ℕ) whe
       rest_becomes (Over state limit) r = absurd r
 
       pub rest_stores : (turn : Turn) → Rests turn → StoreBecomes plan n m new store turn
+      unfolding ended_here is_open
       rest_stores Went r = (r.2.0, went_on new r.2.0 r.0 r.1 r.2.1, r.2.3)
       rest_stores (Finished length) r = (ended_here new r.0 r.1, r.4)
       rest_stores (Undetermined state cell) r = (is_open cell r.0, r.4)
@@ -188,10 +189,12 @@ module _ (plan : Plan) (settings : Settings) (is : IsSettingsOf plan settings) (
 
   -- what the store holds where the closure ends before the state is at rest
   pub run_clashes_store : (clash : Clash) (picture : Picture) (turn : Turn) → found ≡ ending.Clash clash → turn ≡ Contradictory n clash → StoreBecomes plan n m picture last.store turn
+  unfolding clash_met
   run_clashes_store clash picture turn e turn_is =
       subst (λ (t : Turn). StoreBecomes plan n m picture last.store t) (sym turn_is) (clash_met plan n m last before after clash (comes_to (ending.Clash clash) e), refl)
 
   pub run_misses_store : (port : List ℕ) (picture : Picture) (turn : Turn) → found ≡ ending.Missing port → turn ≡ InputMissing n port → StoreBecomes plan n m picture last.store turn
+  unfolding input_missed
   run_misses_store port picture turn e turn_is =
       subst (λ (t : Turn). StoreBecomes plan n m picture last.store t) (sym turn_is) (input_missed plan n m last before after port (comes_to (ending.Missing port) e), refl)
 

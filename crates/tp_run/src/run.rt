@@ -250,8 +250,14 @@ impl Settings {
                 let made = self.make_at_rest(state, scene, store, reductions, picture, steps)?;
                 Ok(made)
             }
-            Ending::Clash(clash) => stop(Turn::Contradictory { state, clash }),
-            Ending::Missing(port) => stop(Turn::InputMissing { state, port }),
+            Ending::Clash(clash) => {
+                let made = stop(Turn::Contradictory { state, clash })?;
+                Ok(made)
+            }
+            Ending::Missing(port) => {
+                let made = stop(Turn::InputMissing { state, port })?;
+                Ok(made)
+            }
             Ending::Over(limit) => {
                 let made = stop(Turn::Over { state, limit })?;
                 Ok(made)

@@ -27,7 +27,7 @@ returns-clause-plan c =
         inputs = refl;
         states = refl;
         reductions = refl;
-        globals = c.len-settings.ensures ∙ sym (length-map names is_lower);
+        globals = c.len.ensures ∙ sym (length-map names is_lower);
         definitions = ap (map definition_of) c.new-2.ensures.items;
         order = c.requires.order;
       };

@@ -38,3 +38,15 @@ returns-in_ok-made-in-Over-clause-store g c = λ plan h.
     run_reaches_store plan c.args.self.now h c.args.state c.requires.within c.if-state-self.false (moment_of c.args.scene c.args.store.now) (moment_of c.close_by_passes.new.scene c.close_by_passes.new.store)
     c.no_tally-tally.result.picks c.close_by_passes.new.tally.picks c.in_ok-ending.ending c.in_ok-ending.ensures.closes
     c.in-Over.limit c.args.picture.now c.in_ok-made-in-Over.made.turn c.in-Over.is c.in_ok-made-in-Over.ensures.turn
+
+pub returns-in_ok-made-in-Clash-clause-store : goal.returns-in_ok-made-in-Clash-clause-store
+returns-in_ok-made-in-Clash-clause-store g c = λ plan h.
+    run_clashes_store plan c.args.self.now h c.args.state c.requires.within c.if-state-self.false (moment_of c.args.scene c.args.store.now) (moment_of c.close_by_passes.new.scene c.close_by_passes.new.store)
+    c.no_tally-tally.result.picks c.close_by_passes.new.tally.picks c.in_ok-ending.ending c.in_ok-ending.ensures.closes
+    c.in-Clash.clash c.args.picture.now c.in_ok-made-in-Clash.made.turn c.in-Clash.is c.in_ok-made-in-Clash.ensures.turn
+
+pub returns-in_ok-made-in-Missing-clause-store : goal.returns-in_ok-made-in-Missing-clause-store
+returns-in_ok-made-in-Missing-clause-store g c = λ plan h.
+    run_misses_store plan c.args.self.now h c.args.state c.requires.within c.if-state-self.false (moment_of c.args.scene c.args.store.now) (moment_of c.close_by_passes.new.scene c.close_by_passes.new.store)
+    c.no_tally-tally.result.picks c.close_by_passes.new.tally.picks c.in_ok-ending.ending c.in_ok-ending.ensures.closes
+    c.in-Missing.port c.args.picture.now c.in_ok-made-in-Missing.made.turn c.in-Missing.is c.in_ok-made-in-Missing.ensures.turn
