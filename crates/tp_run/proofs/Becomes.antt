@@ -8,10 +8,12 @@ use Rattle.tp_meaning.specs.Inputs.{InputLines}
 use Rattle.tp_meaning.specs.Course.{Course, Shows, ◌⊕◌, shown_at}
 use Rattle.tp_meaning.specs.Interval.{kinds_of}
 use Rattle.tp_decide.specs.Read.{shows_of}
+use Rattle.tp_store.specs.Known.{Contents}
+use Rattle.tp_scene.specs.declared.answer.Cell.{Cell}
 use Rattle.tp_scene.specs.declared.answer.Clash.{Clash}
 use Rattle.tp_scene.specs.Step.{reduces, rests, clashes, misses, passes}
 use Rattle.tp_scene.specs.Pick.{Setting, Moment, outcome_of, IsIdle}
-use Rattle.tp_scene.specs.Rest.{AtRest, settled, waiting}
+use Rattle.tp_scene.specs.Rest.{AtRest, settled, waiting, goes, ends, IsOpenCell}
 use Rattle.tp_scene.specs.Replay as replay
 use Rattle.tp_scene.specs.StandsFor.{first_moment}
 use Rattle.tp_scene.specs.Built.{IsReady}
@@ -22,23 +24,23 @@ use Rattle.tp_step.specs.declared.answer.Ending.{Ending}
 use Rattle.tp_step.specs.declared.answer.Ending.TheVariants as ending
 use Rattle.tp_pass.specs.Closes.{Closes}
 use Rattle.tp_run.specs.declared.run.Run.{Run}
+use Rattle.tp_run.specs.declared.run.Settings.{Settings}
 use Rattle.tp_run.specs.declared.run.Stand.{Stand}
-use Rattle.tp_run.specs.declared.run.Stand.TheVariants as stand
 use Rattle.tp_run.specs.declared.turn.Picture.{Picture}
 use Rattle.tp_run.specs.declared.turn.Turn.{Turn}
 use Rattle.tp_run.specs.declared.turn.Turn.TheVariants.{Went, Finished, Contradictory, Undetermined, StateLimit, InputMissing, Over}
-use Rattle.tp_run.specs.States.{Plan, globals_of, setting, IsPictureOf, Standing, open_at, answered, ReachesLimit, state_after, StateBecomes}
+use Rattle.tp_run.specs.States.{Plan, globals_of, setting, IsPictureOf, GoesOn, EndsHere, Standing, open_at, answered, ReachesLimit, state_after, StateBecomes, StoreBecomes}
 use Rattle.tp_run.specs.Meaning.{StandingFor, BeginsWith, AgreesWith, AnswerMeans}
-use Rattle.tp_run.specs.Runs.{stands_at, standing_of, next_state_of, setting_in, StandsReady, IsRunOf, HasPicture, RestTurns}
+use Rattle.tp_run.specs.Runs.{stands_at, standing_of, setting_in, StandsReady, IsSettingsOf, IsRunOf, HasPicture, NextOf, RestTurns}
 use Rattle.tp_run.proofs.StatesMean.{leads_ready, leads_keep, goes_on_says, ends_here_says, next_ready}
 use Rattle.tp_run.proofs.HistoryLemmas.{no_definitions}
 use Rattle.tp_run.proofs.Given.{scene_laws, begin_laws}
 use Rattle.tp_run.proofs.Waiting.{IsBusy, waiting_item, passes_other}
 
--- a run of a plan reads its state as the plan does
-pub same_setting : (plan : Plan) (run : Run) → IsRunOf plan run → setting_in run ≡ setting plan (next_state_of run)
-same_setting plan run h =
-    let make : List Definition → InputLines → Setting = λ ds ls. record { defs = ds; inputs = ls; state = run.state } in
+-- with the settings of a plan a state is read as the plan does
+pub same_setting : (plan : Plan) (settings : Settings) (n : ℕ) → IsSettingsOf plan settings → setting_in settings n ≡ setting plan n
+same_setting plan settings n h =
+    let make : List Definition → InputLines → Setting = λ ds ls. record { defs = ds; inputs = ls; state = n } in
     ap₂ make h.definitions h.inputs
 
 -- what a run begins with
@@ -113,56 +115,93 @@ module _ (plan : Plan) (n : ℕ) (m last : Moment) (before after : List ℕ) whe
     pictured : (picture : Picture) → HasPicture (globals_of plan) n reductions last picture → IsPictureOf plan n comes.made.picks last picture
     pictured picture h = record { state = h.state; facts = h.facts; shows = h.shows; reductions = h.reductions_are ∙ counted }
 
+    went_on : (new : Picture) (next : Moment) → settled last.scene ≡ goes → HasPicture (globals_of plan) n reductions last new → NextOf last next → GoesOn plan n m new next
+    went_on new next settles picture on = record {
+      within = within;
+      picks = comes.made.picks;
+      last = last;
+      goes = record { closes = closed; settles = settles; scene = on.scene; store = on.store };
+      picture_is = pictured new picture;
+    }
+
+    ended_here : (new : Picture) → settled last.scene ≡ ends → HasPicture (globals_of plan) n reductions last new → EndsHere plan n m new
+    ended_here new settles picture =
+        record { within = within; picks = comes.made.picks; last = last; ends = record { closes = closed; settles = settles }; picture_is = pictured new picture }
+
+    is_open : (cell : Cell) → IsOpenCell (setting plan n) last cell → replay.IsOpen (setting plan n) plan.reductions m cell
+    is_open cell h = record { picks = comes.made.picks; last = last; closes = closed; cell_is = h }
+
     -- a state whose closure is at rest
-    pub rest_becomes : (old new : Picture) (standing : Standing) (turn : Turn) → RestTurns (setting plan n) (globals_of plan) reductions last old new standing turn → StateBecomes plan n m old new standing turn
-    rest_becomes old new standing Went r = (
-      r.2.0,
-      record {
-        within = within;
-        picks = comes.made.picks;
-        last = last;
-        goes = record { closes = closed; settles = r.0; scene = r.2.1.scene; store = r.2.1.store };
-        picture_is = pictured new r.1;
-      },
-      r.2.2,
-    )
-    rest_becomes old new standing (Finished length) r = (
-      record { within = within; picks = comes.made.picks; last = last; ends = record { closes = closed; settles = r.0 }; picture_is = pictured new r.1 },
-      r.2,
-      r.3,
-    )
-    rest_becomes old new standing (Undetermined state cell) r = (record { picks = comes.made.picks; last = last; closes = closed; cell_is = r.0 }, r.1, within, r.2, r.3)
-    rest_becomes old new standing (Contradictory state clash) r = absurd r
-    rest_becomes old new standing (StateLimit states) r = absurd r
-    rest_becomes old new standing (InputMissing state port) r = absurd r
-    rest_becomes old new standing (Over state limit) r = absurd r
+    module _ (old new : Picture) (standing : Standing) (store : Contents) where
+      abbrev pub Rests : Turn → Type 0
+      Rests turn = RestTurns (setting plan n) (globals_of plan) reductions last old new standing store turn
 
--- the same of a run of the plan, whose closure was read with what it has
-module _ (plan : Plan) (run : Run) (is_run : IsRunOf plan run) (more : run.state ≡ run.limits.states → ⊥) (m last : Moment) (before after : List ℕ) (found : Ending)
-    (closes : Closes (setting_in run) run.limits.reductions m last before after found) where
-  state_within : run.state < plan.states
-  state_within = omega (arith, is_run.within, is_run.states, more)
+      pub rest_becomes : (turn : Turn) → Rests turn → StateBecomes plan n m old new standing turn
+      rest_becomes Went r = (r.2.0, went_on new r.2.0 r.0 r.1 r.2.1, r.2.2)
+      rest_becomes (Finished length) r = (ended_here new r.0 r.1, r.2, r.3)
+      rest_becomes (Undetermined state cell) r = (is_open cell r.0, r.1, within, r.2, r.3)
+      rest_becomes (Contradictory state clash) r = absurd r
+      rest_becomes (StateLimit states) r = absurd r
+      rest_becomes (InputMissing state port) r = absurd r
+      rest_becomes (Over state limit) r = absurd r
 
-  comes_to : (end : Ending) → found ≡ end → Comes plan run.state m last before after end
+      pub rest_stores : (turn : Turn) → Rests turn → StoreBecomes plan n m new store turn
+      unfolding ended_here is_open
+      rest_stores Went r = (r.2.0, went_on new r.2.0 r.0 r.1 r.2.1, r.2.3)
+      rest_stores (Finished length) r = (ended_here new r.0 r.1, r.4)
+      rest_stores (Undetermined state cell) r = (is_open cell r.0, r.4)
+      rest_stores (Contradictory state clash) r = absurd r
+      rest_stores (StateLimit states) r = absurd r
+      rest_stores (InputMissing state port) r = absurd r
+      rest_stores (Over state limit) r = absurd r
+
+-- the same with settings of the plan, with which the closure was read
+module _ (plan : Plan) (settings : Settings) (is : IsSettingsOf plan settings) (n : ℕ) (most : n ≤ settings.limits.states) (more : n ≡ settings.limits.states → ⊥) (m last : Moment) (before after : List ℕ) (found : Ending)
+    (closes : Closes (setting_in settings n) settings.limits.reductions m last before after found) where
+  state_within : n < plan.states
+  state_within = omega (arith, most, is.states, more)
+
+  comes_to : (end : Ending) → found ≡ end → Comes plan n m last before after end
   comes_to end e =
-      subst (λ (x : Ending). Closes (setting plan run.state) plan.reductions m last before after x) e
-      (subst (λ k. Closes (setting plan run.state) k m last before after found) is_run.reductions
-      (subst (λ (w : Setting). Closes w run.limits.reductions m last before after found) (same_setting plan run is_run) closes))
+      subst (λ (x : Ending). Closes (setting plan n) plan.reductions m last before after x) e
+      (subst (λ k. Closes (setting plan n) k m last before after found) is.reductions
+      (subst (λ (w : Setting). Closes w settings.limits.reductions m last before after found) (same_setting plan settings n is) closes))
 
-  pub run_rests : (reductions : ℕ) (old new : Picture) (standing : Standing) (turn : Turn) → before ≡ [] → reductions ≡ length after → found ≡ ending.Rest
-      → RestTurns (setting_in run) run.globals reductions last old new standing turn → StateBecomes plan run.state m old new standing turn
-  run_rests reductions old new standing turn first count e h =
-      let turns : RestTurns (setting plan run.state) (globals_of plan) reductions last old new standing turn =
-      subst (λ k. RestTurns (setting plan run.state) k reductions last old new standing turn) is_run.globals
-      (subst (λ (w : Setting). RestTurns w run.globals reductions last old new standing turn) (same_setting plan run is_run) h) in
-      rest_becomes plan run.state m last before after state_within reductions first count (comes_to ending.Rest e) old new standing turn turns
+  module _ (reductions : ℕ) (old new : Picture) (standing : Standing) (store : Contents) (turn : Turn) (first : before ≡ []) (count : reductions ≡ length after) (e : found ≡ ending.Rest)
+      (h : RestTurns (setting_in settings n) settings.globals reductions last old new standing store turn) where
+    turns : RestTurns (setting plan n) (globals_of plan) reductions last old new standing store turn
+    turns =
+        subst (λ k. RestTurns (setting plan n) k reductions last old new standing store turn) is.globals
+        (subst (λ (w : Setting). RestTurns w settings.globals reductions last old new standing store turn) (same_setting plan settings n is) h)
 
-  pub run_reaches : (kinds : List Bool) (k : LimitKind) (old : Picture) (standing : Standing) (turn : Turn) → IsReady (setting_in run) kinds last → found ≡ ending.Over k
-      → standing ≡ answered (Over run.state k) → turn ≡ Over run.state k → StateBecomes plan run.state m old old standing turn
-  run_reaches kinds k old standing turn ready e stand is =
-      let here : IsReady (setting plan run.state) kinds last = subst (λ (w : Setting). IsReady w kinds last) (same_setting plan run is_run) ready in
-      subst (λ (t : Turn). StateBecomes plan run.state m old old standing t) (sym is)
-      (limit_reached plan run.state m last before after kinds k here (comes_to (ending.Over k) e), refl, state_within, refl, stand)
+    pub run_rests : StateBecomes plan n m old new standing turn
+    run_rests = rest_becomes plan n m last before after state_within reductions first count (comes_to ending.Rest e) old new standing store turn turns
+
+    pub run_rests_store : StoreBecomes plan n m new store turn
+    run_rests_store = rest_stores plan n m last before after state_within reductions first count (comes_to ending.Rest e) old new standing store turn turns
+
+  pub run_reaches : (kinds : List Bool) (k : LimitKind) (old : Picture) (standing : Standing) (turn : Turn) → IsReady (setting_in settings n) kinds last → found ≡ ending.Over k
+      → standing ≡ answered (Over n k) → turn ≡ Over n k → StateBecomes plan n m old old standing turn
+  run_reaches kinds k old standing turn ready e stand turn_is =
+      let here : IsReady (setting plan n) kinds last = subst (λ (w : Setting). IsReady w kinds last) (same_setting plan settings n is) ready in
+      subst (λ (t : Turn). StateBecomes plan n m old old standing t) (sym turn_is)
+      (limit_reached plan n m last before after kinds k here (comes_to (ending.Over k) e), refl, state_within, refl, stand)
+
+  -- what the store holds where the closure ends before the state is at rest
+  pub run_clashes_store : (clash : Clash) (picture : Picture) (turn : Turn) → found ≡ ending.Clash clash → turn ≡ Contradictory n clash → StoreBecomes plan n m picture last.store turn
+  unfolding clash_met
+  run_clashes_store clash picture turn e turn_is =
+      subst (λ (t : Turn). StoreBecomes plan n m picture last.store t) (sym turn_is) (clash_met plan n m last before after clash (comes_to (ending.Clash clash) e), refl)
+
+  pub run_misses_store : (port : List ℕ) (picture : Picture) (turn : Turn) → found ≡ ending.Missing port → turn ≡ InputMissing n port → StoreBecomes plan n m picture last.store turn
+  unfolding input_missed
+  run_misses_store port picture turn e turn_is =
+      subst (λ (t : Turn). StoreBecomes plan n m picture last.store t) (sym turn_is) (input_missed plan n m last before after port (comes_to (ending.Missing port) e), refl)
+
+  pub run_reaches_store : (k : LimitKind) (picture : Picture) (turn : Turn) → found ≡ ending.Over k → turn ≡ Over n k → StoreBecomes plan n m picture last.store turn
+  run_reaches_store k picture turn e turn_is =
+      let comes = comes_to (ending.Over k) e in
+      subst (λ (t : Turn). StoreBecomes plan n m picture last.store t) (sym turn_is) (comes.made.picks, last, comes.made.leads, refl)
 
 module _ (plan : Plan) (n : ℕ) (m : Moment) (old new : Picture) (standing : Standing) (ready : IsReady (setting plan n) (kinds_of plan.names) m) where
   abbrev Becomes : Turn → Type 0
@@ -213,33 +252,27 @@ module _ (plan : Plan) (n : ℕ) (m : Moment) (old new : Picture) (standing : St
   becomes_ready (InputMissing state port) w = record { within = omega (arith, w.2); stands = last_ready (InputMissing state port) w.4 }
   becomes_ready (Over state limit) w = record { within = omega (arith, w.2); stands = last_ready (Over state limit) w.4 }
 
--- the run with another stand, before a state with this number
-with_stand : (plan : Plan) (run : Run) (next : ℕ) (stand : Stand) → IsRunOf plan run → next ≤ plan.states → StandsReady plan next (stands_at stand) → IsRunOf plan (record run { state = next; stand = stand })
-with_stand plan run next stand h within ready = record {
-  inputs = h.inputs;
-  states = h.states;
-  reductions = h.reductions;
-  globals = h.globals;
-  definitions = h.definitions;
-  order = h.order;
-  within = within;
-  ready = ready;
-}
+-- the moment at which a run stands is ready
+pub ready_at : (plan : Plan) (run : Run) (m : Moment) → IsRunOf plan run → open_at m ≡ standing_of run → IsReady (setting plan run.state) (kinds_of plan.names) m
+ready_at plan run m h opened = let here : StandsReady plan run.state (open_at m) = subst (StandsReady plan run.state) (sym opened) h.ready in here
 
-pub spent_run : (plan : Plan) (run : Run) (gone : Stand) → IsRunOf plan run → gone ≡ stand.Spent → IsRunOf plan (record run { state = run.state; stand = gone })
-spent_run plan run gone h e = with_stand plan run run.state gone h h.within (subst (λ (z : Stand). StandsReady plan run.state (stands_at z)) (sym e) tt)
+-- the run with another store and stand, before a state with this number
+with_stand : (plan : Plan) (run : Run) (next : ℕ) (store : Contents) (stand : Stand) → IsRunOf plan run → next ≤ plan.states → StandsReady plan next (stands_at stand store)
+    → IsRunOf plan (record run { state = next; store = store; stand = stand })
+with_stand plan run next store stand h within ready = record { settings = h.settings; within = within; ready = ready }
 
 -- what the answer for a state leaves
-module _ (plan : Plan) (run : Run) (is_run : IsRunOf plan run) (m : Moment) (opened : open_at m ≡ standing_of run) (old new : Picture) (stand : Stand) (turn : Turn)
-    (becomes : StateBecomes plan run.state m old new (stands_at stand) turn) where
+module _ (plan : Plan) (run : Run) (is_run : IsRunOf plan run) (m : Moment) (opened : open_at m ≡ standing_of run) (old new : Picture) (store : Contents) (stand : Stand) (turn : Turn)
+    (becomes : StateBecomes plan run.state m old new (stands_at stand store) turn) where
   ready_here : IsReady (setting plan run.state) (kinds_of plan.names) m
-  ready_here = let here : StandsReady plan run.state (open_at m) = subst (StandsReady plan run.state) (sym opened) is_run.ready in here
+  ready_here = ready_at plan run m is_run opened
 
-  pub answer_means : AnswerMeans plan run.state (standing_of run) (stands_at stand) new turn
+  pub answer_means : AnswerMeans plan run.state (standing_of run) (stands_at stand store) new turn
   answer_means =
-      subst (λ (z : Standing). AnswerMeans plan run.state z (stands_at stand) new turn) opened (becomes_means plan run.state m old new (stands_at stand) ready_here turn becomes)
+      subst (λ (z : Standing). AnswerMeans plan run.state z (stands_at stand store) new turn) opened
+      (becomes_means plan run.state m old new (stands_at stand store) ready_here turn becomes)
 
-  pub run_kept : (next : ℕ) → next ≡ state_after run.state turn → IsRunOf plan (record run { state = next; stand = stand })
+  pub run_kept : (next : ℕ) → next ≡ state_after run.state turn → IsRunOf plan (record run { state = next; store = store; stand = stand })
   run_kept next e =
-      let ready = becomes_ready plan run.state m old new (stands_at stand) ready_here turn becomes in
-      with_stand plan run next stand is_run (subst (λ n. n ≤ plan.states) (sym e) ready.within) (subst (λ n. StandsReady plan n (stands_at stand)) (sym e) ready.stands)
+      let ready = becomes_ready plan run.state m old new (stands_at stand store) ready_here turn becomes in
+      with_stand plan run next store stand is_run (subst (λ n. n ≤ plan.states) (sym e) ready.within) (subst (λ n. StandsReady plan n (stands_at stand store)) (sym e) ready.stands)

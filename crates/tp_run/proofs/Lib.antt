@@ -7,3 +7,4 @@ pub mod Sparing
 pub mod Waiting
 pub mod FactOrder
 pub mod Becomes
+pub mod Stores

@@ -2,6 +2,7 @@
 use Rattle.std.specs.Prelude.{◌≡◌, ℕ, zero, suc, ◌≤◌, [], Option, Some, None}
 use Rattle.tp_kernel.specs.Read.{definitions_of}
 use Rattle.tp_inputs.specs.Read.{lines_of}
+use Rattle.tp_store.specs.Known.{Contents}
 use Rattle.tp_decide.specs.Read.{shows_of}
 use Rattle.tp_step.specs.Answers.{moment_of, setting_of}
 use Rattle.tp_step.specs.declared.answer.Order.TheVariants.{First}
@@ -13,6 +14,7 @@ use Rattle.tp_scene.specs.Advance.{advanced, shown_in}
 use Rattle.tp_scene.specs.Laws.{GoesOn}
 use Rattle.tp_scene.specs.Built.{IsReady}
 use Rattle.tp_run.specs.declared.run.Run.{Run}
+use Rattle.tp_run.specs.declared.run.Settings.{Settings}
 use Rattle.tp_run.specs.declared.run.Stand.{Stand}
 use Rattle.tp_run.specs.declared.run.Stand.TheVariants.{Open, Answered, Spent}
 use Rattle.tp_run.specs.declared.turn.Picture.{Picture}
@@ -20,21 +22,26 @@ use Rattle.tp_run.specs.declared.turn.Turn.{Turn}
 use Rattle.tp_run.specs.declared.turn.Turn.TheVariants.{Went, Finished, Contradictory, Undetermined, StateLimit, InputMissing, Over}
 use Rattle.tp_run.specs.States.{Plan, globals_of, setting, AreGlobals, Standing, open_at, answered, spent}
 
-abbrev pub stands_at : Stand → Standing
-stands_at (Open scene store) = open_at (moment_of scene store)
-stands_at (Answered turn) = answered turn
-stands_at Spent = spent
+-- where a run stands with what its store holds
+abbrev pub stands_at : Stand → Contents → Standing
+stands_at (Open scene) store = open_at (moment_of scene store)
+stands_at (Answered turn) store = answered turn
+stands_at Spent store = spent
 
 -- where the run stands, and the number of the state that it makes next
 abbrev pub standing_of : Run → Standing
-standing_of run = stands_at run.stand
+standing_of run = stands_at run.stand run.store
 
 abbrev pub next_state_of : Run → ℕ
 next_state_of run = run.state
 
--- what its next state is read with
-abbrev pub setting_in : Run → Setting
-setting_in run = setting_of run.defs run.inputs run.state
+-- what its store holds
+abbrev pub store_of : Run → Contents
+store_of run = run.store
+
+-- what the state of that number is read with
+abbrev pub setting_in : Settings → (state : ℕ) → Setting
+setting_in settings state = setting_of settings.defs settings.inputs state
 
 -- what is carried to the next state: the scene that it begins with, where one was settled before it; a run that hasn't begun, has ended or gave up
 -- carries nothing
@@ -50,14 +57,18 @@ StandsReady plan n (open_at m) = IsReady (setting plan n) (kinds_of plan.names) 
 StandsReady plan n (answered turn) = Unit {0}
 StandsReady plan n spent = Unit {0}
 
+-- The settings are those of this plan.
+pub record IsSettingsOf (plan : Plan) (settings : Settings) : Type 0 where
+  pub inputs : lines_of settings.inputs ≡ plan.inputs
+  pub states : settings.limits.states ≡ plan.states
+  pub reductions : settings.limits.reductions ≡ plan.reductions
+  pub globals : settings.globals ≡ globals_of plan
+  pub definitions : definitions_of settings.defs ≡ []
+  pub order : settings.order ≡ First
+
 -- The run is one of this plan.
 pub record IsRunOf (plan : Plan) (run : Run) : Type 0 where
-  pub inputs : lines_of run.inputs ≡ plan.inputs
-  pub states : run.limits.states ≡ plan.states
-  pub reductions : run.limits.reductions ≡ plan.reductions
-  pub globals : run.globals ≡ globals_of plan
-  pub definitions : definitions_of run.defs ≡ []
-  pub order : run.order ≡ First
+  pub settings : IsSettingsOf plan run.settings
   pub within : next_state_of run ≤ plan.states
   pub ready : StandsReady plan (next_state_of run) (standing_of run)
 
@@ -73,12 +84,15 @@ pub record NextOf (m next : Moment) : Type 0 where
   pub scene : next.scene ≡ advanced m.scene
   pub store : GoesOn m.store next.store
 
--- What becomes of a state at rest.
-abbrev pub RestTurns : Setting → (globals reductions : ℕ) → Moment → Picture → Picture → Standing → Turn → Type 0
-RestTurns w globals k m old new standing Went = (settled m.scene ≡ goes) × HasPicture globals w.state k m new × ((next : Moment) × NextOf m next × (standing ≡ open_at next))
-RestTurns w globals k m old new standing (Finished length) = (settled m.scene ≡ ends) × HasPicture globals w.state k m new × (length ≡ w.state) × (standing ≡ answered (Finished length))
-RestTurns w globals k m old new standing (Undetermined state cell) = IsOpenCell w m cell × (state ≡ w.state) × (new ≡ old) × (standing ≡ answered (Undetermined state cell))
-RestTurns w globals k m old new standing (Contradictory state clash) = ⊥
-RestTurns w globals k m old new standing (StateLimit states) = ⊥
-RestTurns w globals k m old new standing (InputMissing state port) = ⊥
-RestTurns w globals k m old new standing (Over state limit) = ⊥
+-- What becomes of a state at rest, where the run then stands, and what its store holds.
+abbrev pub RestTurns : Setting → (globals reductions : ℕ) → Moment → Picture → Picture → Standing → Contents → Turn → Type 0
+RestTurns w globals k m old new standing store Went =
+    (settled m.scene ≡ goes) × HasPicture globals w.state k m new × ((next : Moment) × NextOf m next × (standing ≡ open_at next) × (store ≡ next.store))
+RestTurns w globals k m old new standing store (Finished length) =
+    (settled m.scene ≡ ends) × HasPicture globals w.state k m new × (length ≡ w.state) × (standing ≡ answered (Finished length)) × (store ≡ m.store)
+RestTurns w globals k m old new standing store (Undetermined state cell) =
+    IsOpenCell w m cell × (state ≡ w.state) × (new ≡ old) × (standing ≡ answered (Undetermined state cell)) × (store ≡ m.store)
+RestTurns w globals k m old new standing store (Contradictory state clash) = ⊥
+RestTurns w globals k m old new standing store (StateLimit states) = ⊥
+RestTurns w globals k m old new standing store (InputMissing state port) = ⊥
+RestTurns w globals k m old new standing store (Over state limit) = ⊥

@@ -6,9 +6,9 @@ use Rattle.tp_meaning.specs.Syntax.{FormulaTree}
 use Rattle.tp_meaning.specs.Inputs.{InputLines}
 use Rattle.tp_meaning.specs.Interval.{kinds_of}
 use Rattle.tp_store.specs.Facts.{kept_shape}
-use Rattle.tp_store.specs.Known.{NoClash, facts_below, is_lesser}
+use Rattle.tp_store.specs.Known.{Contents, NoClash, facts_below, is_lesser}
 use Rattle.tp_decide.specs.Read.{shows_of}
-use Rattle.tp_scene.specs.Pick.{Setting, Moment}
+use Rattle.tp_scene.specs.Pick.{Setting, Moment, Leads}
 use Rattle.tp_scene.specs.Advance.{shown_in}
 use Rattle.tp_scene.specs.StandsFor.{first_moment}
 use Rattle.tp_scene.specs.Replay as replay
@@ -127,9 +127,25 @@ StateBecomes plan n m old new standing (InputMissing state port) =
 StateBecomes plan n m old new standing (Over state limit) =
     ReachesLimit (setting plan n) plan.reductions m limit × (state ≡ n) × (n < plan.states) × (new ≡ old) × (standing ≡ answered (Over state limit))
 
+-- What the store then holds: where the run goes on, what the next state begins with; else what the state's picks led to.
+abbrev pub StoreBecomes : Plan → ℕ → Moment → Picture → Contents → Turn → Type 0
+StoreBecomes plan n m picture store Went = (next : Moment) × GoesOn plan n m picture next × (store ≡ next.store)
+StoreBecomes plan n m picture store (Finished length) = (end : EndsHere plan n m picture) × (store ≡ end.last.store)
+StoreBecomes plan n m picture store (Contradictory state clash) = (end : replay.MeetsClash (setting plan n) plan.reductions m clash) × (store ≡ end.last.store)
+StoreBecomes plan n m picture store (Undetermined state cell) = (end : replay.IsOpen (setting plan n) plan.reductions m cell) × (store ≡ end.last.store)
+StoreBecomes plan n m picture store (StateLimit states) = store ≡ m.store
+StoreBecomes plan n m picture store (InputMissing state port) = (end : replay.MissesInput (setting plan n) plan.reductions m port) × (store ≡ end.last.store)
+StoreBecomes plan n m picture store (Over state limit) = (picks : List ℕ) × (last : Moment) × Leads (setting plan n) m picks last × (store ≡ last.store)
+
 -- What a call answers where the run stands there, with the number of the state that comes next: it makes that state, or it gives the last answer
 -- again and changes nothing. A run that gave up for want of memory answers nothing else any more.
 abbrev pub Answers : Plan → Standing → ℕ → Picture → Picture → Standing → ℕ → Turn → Type 0
 Answers plan (open_at m) n old new standing next turn = StateBecomes plan n m old new standing turn × (next ≡ state_after n turn)
 Answers plan (answered last) n old new standing next turn = (turn ≡ last) × (new ≡ old) × (standing ≡ answered last) × (next ≡ n)
 Answers plan spent n old new standing next turn = ⊥
+
+-- What such a call leaves of what the store held: it makes a state, or it changes nothing.
+abbrev pub LeavesStore : Plan → Standing → ℕ → Picture → (old new : Contents) → Turn → Type 0
+LeavesStore plan (open_at m) n picture old new turn = StoreBecomes plan n m picture new turn
+LeavesStore plan (answered last) n picture old new turn = new ≡ old
+LeavesStore plan spent n picture old new turn = ⊥

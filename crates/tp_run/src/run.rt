@@ -4,6 +4,7 @@ ghost use Rattle.std.specs.Option.{option_map};
 ghost use Rattle.tp_kernel.specs.Read.{formula_tree, definitions_of};
 ghost use Rattle.tp_kernel.specs.Built.{IsBuilt};
 ghost use Rattle.tp_inputs.specs.Read.{lines_of};
+ghost use Rattle.tp_store.specs.Known.{new_store};
 ghost use Rattle.tp_meaning.specs.Interval.{kinds_of};
 ghost use Rattle.tp_scene.specs.Step.{waits};
 ghost use Rattle.tp_scene.specs.Pick.{Moment, outcome_of};
@@ -14,9 +15,9 @@ ghost use Rattle.tp_scene.specs.StandsFor.{first_moment};
 ghost use Rattle.tp_decide.specs.Read.{scene_of};
 ghost use Rattle.tp_step.specs.Answers.{moment_of};
 ghost use Rattle.tp_step.specs.declared.answer.Order.TheVariants.{First};
-ghost use Rattle.tp_run.specs.States.{Plan, plan_with, open_at, answered, spent, state_after, Answers, StateBecomes};
+ghost use Rattle.tp_run.specs.States.{Plan, plan_with, open_at, answered, spent, state_after, Answers, StateBecomes, StoreBecomes, LeavesStore};
 ghost use Rattle.tp_run.specs.Meaning.{BeginsWith, AnswerMeans};
-ghost use Rattle.tp_run.specs.Runs.{stands_at, standing_of, next_state_of, carried, setting_in, IsRunOf, HasPicture, NextOf, RestTurns};
+ghost use Rattle.tp_run.specs.Runs.{stands_at, standing_of, next_state_of, store_of, carried, setting_in, IsSettingsOf, IsRunOf, HasPicture, NextOf, RestTurns};
 
 use crate::picture::settled_picture;
 use crate::turn::{Limits, Picture, Turn};
@@ -34,10 +35,21 @@ use tp_step::{
 use tp_store::Store;
 use tp_value::{Globals, NoMemory};
 
+/// What a run is made with. It never changes.
+#[derive(Drop)]
+struct Settings {
+    alloc: Global,
+    globals: u64,
+    defs: Defs,
+    inputs: Inputs,
+    limits: Limits,
+    order: Order,
+}
+
 /// Before a state, after the last answer, or given up for want of memory.
 #[derive(Drop)]
 enum Stand {
-    Open(Scene, Store),
+    Open(Scene),
     Answered(Turn),
     Spent,
 }
@@ -45,13 +57,9 @@ enum Stand {
 /// The run of a program, state by state.
 #[derive(Drop)]
 pub struct Run {
-    alloc: Global,
-    globals: u64,
-    defs: Defs,
-    inputs: Inputs,
-    limits: Limits,
-    order: Order,
+    settings: Settings,
     state: u64,
+    store: Store,
     stand: Stand,
 }
 
@@ -64,7 +72,7 @@ struct Made {
 
 // The run ends with this answer, and gives it again from then on.
 fn stop(turn: Turn) -> Result<Made, NoMemory>
-    ensures stand { IfOk result (λ made. stands_at made.stand ≡ answered turn) }
+    ensures stand { IfOk result (λ made. made.stand ≡ Stand.Answered turn) }
     ensures turn { IfOk result (λ made. made.turn ≡ turn) }
 {
     let again = turn.copy()?;
@@ -87,67 +95,22 @@ fn no_tally(alloc: Global) -> Tally
     }
 }
 
-impl Run {
-    /// A run of the program's formula over these variables, with these inputs, before its first state. The order is `First`.
-    pub fn start(
-        alloc: Global,
-        main: Rc<Formula>,
-        globals: &Globals,
-        inputs: Inputs,
-        limits: Limits,
-        order: Order,
-    ) -> Result<Run, NoMemory>
-        requires built { IsBuilt globals.now (formula_tree main.value) }
-        requires order { order ≡ First }
-        ensures stand { IfOk result (λ run. standing_of run ≡ open_at (first_moment globals.now (formula_tree main.value))) }
-        ensures state { IfOk result (λ run. next_state_of run ≡ 0) }
-        ensures plan { IfOk result (IsRunOf (plan_with globals.now (formula_tree main.value) (lines_of inputs) limits.states limits.reductions)) }
-        ensures stands { IfOk result (λ run. BeginsWith (plan_with globals.now (formula_tree main.value) (lines_of inputs) limits.states limits.reductions) (standing_of run)) }
-    {
-        let scene = start(alloc, &main)?;
-        let store = Store::new(alloc, globals)?;
-        let defs = Defs {
-            items: Vec::new(alloc),
-        };
-        Ok(Run {
-            alloc,
-            globals: globals.len(),
-            defs,
-            inputs,
-            limits,
-            order,
-            state: 0,
-            stand: Stand::Open(scene, store),
-        })
-    }
-
-    /// What is carried to the next state: the scene that it begins with, where the last answer was `Went`; else nothing.
-    pub fn scene(&self) -> Option<&Scene>
-        ensures { option_map (λ s. scene_of s.now) result ≡ carried (next_state_of self.now) (standing_of self.now) }
-    {
-        if self.state == 0 {
-            return None;
-        }
-        match &self.stand {
-            Stand::Open(scene, _) => Some(scene),
-            Stand::Answered(_) => None,
-            Stand::Spent => None,
-        }
-    }
-
+impl Settings {
     // The first cell that the waiting item of a scene at rest waits for.
     fn waits_for<L: Ledger>(
         &self,
+        state: u64,
         scene: &mut Scene,
         store: &mut Store,
         item: u64,
         steps: &mut Steps<L>,
     ) -> Result<Cell, NoMemory>
         requires none { definitions_of self.now.defs ≡ [] }
-        requires ready { (kinds : List Bool) × IsReady (setting_in self.now) kinds (moment_of scene.old store.old) }
-        requires rests { AtRest (setting_in self.now) (moment_of scene.old store.old) }
+        requires ready { (kinds : List Bool) × IsReady (setting_in self.now state) kinds (moment_of scene.old store.old) }
+        requires rests { AtRest (setting_in self.now state) (moment_of scene.old store.old) }
         requires item { rest.settled (scene_of scene.old) ≡ rest.waiting item }
-        ensures { IfOk result (λ cell. (other : Option Cell) × (outcome_of (setting_in self.now) store.old (scene_of scene.old) item ≡ waits cell other)) }
+        ensures cell { IfOk result (λ cell. (other : Option Cell) × (outcome_of (setting_in self.now state) store.old (scene_of scene.old) item ≡ waits cell other)) }
+        ensures store { OnOk result (store.new ≡ store.old) }
     {
         let tried = try_item(
             self.alloc,
@@ -156,7 +119,7 @@ impl Run {
             store,
             &self.defs,
             &self.inputs,
-            self.state,
+            state,
             0,
             steps,
         )?;
@@ -173,58 +136,46 @@ impl Run {
     // A state that ends the interval.
     fn finish(
         &self,
+        state: u64,
         scene: &Scene,
         store: &Store,
         reductions: u64,
         picture: &mut Picture,
     ) -> Result<Made, NoMemory>
         requires { IsFlat (scene_of scene.now).root.entries }
-        ensures picture { OnOk result (HasPicture self.now.globals self.now.state reductions (moment_of scene.now store.now) picture.new) }
-        ensures stand { IfOk result (λ made. stands_at made.stand ≡ answered (Turn.Finished self.now.state)) }
-        ensures turn { IfOk result (λ made. made.turn ≡ Turn.Finished self.now.state) }
+        ensures picture { OnOk result (HasPicture self.now.globals state reductions (moment_of scene.now store.now) picture.new) }
+        ensures stand { IfOk result (λ made. made.stand ≡ Stand.Answered (Turn.Finished state)) }
+        ensures turn { IfOk result (λ made. made.turn ≡ Turn.Finished state) }
         ensures err { OnErr result (picture.new ≡ picture.old) }
     {
-        let settled = settled_picture(
-            self.alloc,
-            scene,
-            store,
-            self.globals,
-            self.state,
-            reductions,
-        )?;
-        let made = stop(Turn::Finished { length: self.state })?;
+        let settled = settled_picture(self.alloc, scene, store, self.globals, state, reductions)?;
+        let made = stop(Turn::Finished { length: state })?;
         *picture = settled;
         Ok(made)
     }
 
-    // A state that goes on.
+    // A state that goes on: the store goes on to the next one.
     fn go_on(
         &self,
+        state: u64,
         scene: Scene,
-        mut store: Store,
+        store: &mut Store,
         reductions: u64,
         picture: &mut Picture,
     ) -> Result<Made, NoMemory>
         requires goes { rest.settled (scene_of scene) ≡ rest.goes }
         requires flat { IsFlat (scene_of scene).root.entries }
-        ensures picture { OnOk result (HasPicture self.now.globals self.now.state reductions (moment_of scene store) picture.new) }
-        ensures stand { IfOk result (λ made. (next : Moment) × NextOf (moment_of scene store) next × (stands_at made.stand ≡ open_at next)) }
+        ensures picture { OnOk result (HasPicture self.now.globals state reductions (moment_of scene store.old) picture.new) }
+        ensures stand { IfOk result (λ made. (next : Moment) × NextOf (moment_of scene store.old) next × (stands_at made.stand store.new ≡ open_at next) × (store.new ≡ next.store)) }
         ensures turn { IfOk result (λ made. made.turn ≡ Turn.Went) }
         ensures err { OnErr result (picture.new ≡ picture.old) }
     {
-        let settled = settled_picture(
-            self.alloc,
-            &scene,
-            &store,
-            self.globals,
-            self.state,
-            reductions,
-        )?;
+        let settled = settled_picture(self.alloc, &scene, store, self.globals, state, reductions)?;
         let next = advance(self.alloc, scene)?;
         store.next_state();
         *picture = settled;
         Ok(Made {
-            stand: Stand::Open(next, store),
+            stand: Stand::Open(next),
             turn: Turn::Went,
         })
     }
@@ -232,51 +183,51 @@ impl Run {
     // A state whose closure is at rest.
     fn make_at_rest<L: Ledger>(
         &self,
+        state: u64,
         mut scene: Scene,
-        mut store: Store,
+        store: &mut Store,
         reductions: u64,
         picture: &mut Picture,
         steps: &mut Steps<L>,
     ) -> Result<Made, NoMemory>
         requires none { definitions_of self.now.defs ≡ [] }
-        requires ready { (kinds : List Bool) × IsReady (setting_in self.now) kinds (moment_of scene store) }
-        requires rests { AtRest (setting_in self.now) (moment_of scene store) }
-        ensures made { IfOk result (λ made. RestTurns (setting_in self.now) self.now.globals reductions (moment_of scene store) picture.old picture.new (stands_at made.stand) made.turn) }
+        requires ready { (kinds : List Bool) × IsReady (setting_in self.now state) kinds (moment_of scene store.old) }
+        requires rests { AtRest (setting_in self.now state) (moment_of scene store.old) }
+        ensures made { IfOk result (λ made. RestTurns (setting_in self.now state) self.now.globals reductions (moment_of scene store.old) picture.old picture.new (stands_at made.stand store.new) store.new made.turn) }
         ensures err { OnErr result (picture.new ≡ picture.old) }
     {
         match settled(&scene) {
-            Settled::Ends => self.finish(&scene, &store, reductions, picture),
-            Settled::Goes => self.go_on(scene, store, reductions, picture),
+            Settled::Ends => self.finish(state, &scene, store, reductions, picture),
+            Settled::Goes => self.go_on(state, scene, store, reductions, picture),
             Settled::Waiting(item) => {
-                let cell = self.waits_for(&mut scene, &mut store, item, steps)?;
-                stop(Turn::Undetermined {
-                    state: self.state,
-                    cell,
-                })
+                let cell = self.waits_for(state, &mut scene, store, item, steps)?;
+                stop(Turn::Undetermined { state, cell })
             }
             Settled::EndOpen => {
                 let region = scene.root.id;
                 stop(Turn::Undetermined {
-                    state: self.state,
+                    state,
                     cell: Cell::End { region, depth: 0 },
                 })
             }
         }
     }
 
-    // The state that begins with this scene and store.
+    // The state of that number, which begins with this scene and store.
     fn make<L: Ledger>(
         &self,
+        state: u64,
         mut scene: Scene,
-        mut store: Store,
+        store: &mut Store,
         picture: &mut Picture,
         steps: &mut Steps<L>,
     ) -> Result<Made, NoMemory>
-        requires ready { (plan : Plan) × IsRunOf plan self.now × IsReady (setting_in self.now) (kinds_of plan.names) (moment_of scene store) }
-        ensures made { IfOk result (λ made. (plan : Plan) → IsRunOf plan self.now → StateBecomes plan self.now.state (moment_of scene store) picture.old picture.new (stands_at made.stand) made.turn) }
+        requires within { state ≤ self.now.limits.states }
+        requires ready { (plan : Plan) × IsSettingsOf plan self.now × IsReady (setting_in self.now state) (kinds_of plan.names) (moment_of scene store.old) }
+        ensures made { IfOk result (λ made. (plan : Plan) → IsSettingsOf plan self.now → StateBecomes plan state (moment_of scene store.old) picture.old picture.new (stands_at made.stand store.new) made.turn) }
+        ensures store { IfOk result (λ made. (plan : Plan) → IsSettingsOf plan self.now → StoreBecomes plan state (moment_of scene store.old) picture.new store.new made.turn) }
         ensures err { OnErr result (picture.new ≡ picture.old) }
     {
-        let state = self.state;
         if state == self.limits.states {
             return stop(Turn::StateLimit { states: state });
         }
@@ -284,7 +235,7 @@ impl Run {
         let ending = close_by_passes(
             self.alloc,
             &mut scene,
-            &mut store,
+            store,
             &self.defs,
             &self.inputs,
             state,
@@ -296,25 +247,92 @@ impl Run {
         match ending {
             Ending::Rest => {
                 let reductions = tally.picks.items.len() as u64;
-                let made = self.make_at_rest(scene, store, reductions, picture, steps)?;
+                let made = self.make_at_rest(state, scene, store, reductions, picture, steps)?;
                 Ok(made)
             }
-            Ending::Clash(clash) => stop(Turn::Contradictory { state, clash }),
-            Ending::Missing(port) => stop(Turn::InputMissing { state, port }),
+            Ending::Clash(clash) => {
+                let made = stop(Turn::Contradictory { state, clash })?;
+                Ok(made)
+            }
+            Ending::Missing(port) => {
+                let made = stop(Turn::InputMissing { state, port })?;
+                Ok(made)
+            }
             Ending::Over(limit) => {
                 let made = stop(Turn::Over { state, limit })?;
                 Ok(made)
             }
         }
     }
+}
+
+impl Run {
+    /// A run of the program's formula over these variables, with these inputs, before its first state. The order is `First`.
+    pub fn start(
+        alloc: Global,
+        main: Rc<Formula>,
+        globals: &Globals,
+        inputs: Inputs,
+        limits: Limits,
+        order: Order,
+    ) -> Result<Run, NoMemory>
+        requires built { IsBuilt globals.now (formula_tree main.value) }
+        requires order { order ≡ First }
+        ensures stand { IfOk result (λ run. standing_of run ≡ open_at (first_moment globals.now (formula_tree main.value))) }
+        ensures state { IfOk result (λ run. next_state_of run ≡ 0) }
+        ensures store { IfOk result (λ run. store_of run ≡ new_store globals.now) }
+        ensures plan { IfOk result (IsRunOf (plan_with globals.now (formula_tree main.value) (lines_of inputs) limits.states limits.reductions)) }
+        ensures stands { IfOk result (λ run. BeginsWith (plan_with globals.now (formula_tree main.value) (lines_of inputs) limits.states limits.reductions) (standing_of run)) }
+    {
+        let scene = start(alloc, &main)?;
+        let store = Store::new(alloc, globals)?;
+        let defs = Defs {
+            items: Vec::new(alloc),
+        };
+        Ok(Run {
+            settings: Settings {
+                alloc,
+                globals: globals.len(),
+                defs,
+                inputs,
+                limits,
+                order,
+            },
+            state: 0,
+            store,
+            stand: Stand::Open(scene),
+        })
+    }
+
+    /// What is carried to the next state: the scene that it begins with, where the last answer was `Went`; else nothing.
+    pub fn scene(&self) -> Option<&Scene>
+        ensures { option_map (λ s. scene_of s.now) result ≡ carried (next_state_of self.now) (standing_of self.now) }
+    {
+        if self.state == 0 {
+            return None;
+        }
+        match &self.stand {
+            Stand::Open(scene) => Some(scene),
+            Stand::Answered(_) => None,
+            Stand::Spent => None,
+        }
+    }
+
+    /// What is known now: before a state, what it begins with; after the run's end, what was known when it came to it.
+    pub fn store(&self) -> &Store
+        ensures store { result.now ≡ store_of self.now }
+        ensures before { (m : Moment) → standing_of self.now ≡ open_at m → result.now ≡ m.store }
+    {
+        &self.store
+    }
 
     // The number of the state that comes after this answer.
     fn next_number(&self, turn: &Turn) -> u64
-        requires { turn.now ≡ Turn.Went → self.now.state < self.now.limits.states }
+        requires { turn.now ≡ Turn.Went → self.now.state < self.now.settings.limits.states }
         ensures { result ≡ state_after self.now.state turn.now }
     {
         // What is read is in range, and so is a number below it.
-        let _most = self.limits.states;
+        let _most = self.settings.limits.states;
         match turn {
             Turn::Went => self.state + 1,
             _ => self.state,
@@ -322,7 +340,8 @@ impl Run {
     }
 
     /// Makes the next state, or gives the last answer again. On `Went` and `Finished` the picture is that of the state; else it
-    /// stays. After want of memory the run answers nothing else. Each item that is tried adds one to the steps.
+    /// stays. The store keeps what the state's reductions brought, and on `Went` goes on to the next state; its variables stay. After
+    /// want of memory the run answers nothing else. Each item that is tried adds one to the steps.
     pub fn state<L: Ledger>(
         &mut self,
         picture: &mut Picture,
@@ -332,11 +351,15 @@ impl Run {
         ensures made { IfOk result (λ turn. (plan : Plan) → IsRunOf plan self.old → Answers plan (standing_of self.old) (next_state_of self.old) picture.old picture.new (standing_of self.new) (next_state_of self.new) turn) }
         ensures means { IfOk result (λ turn. (plan : Plan) → IsRunOf plan self.old → AnswerMeans plan (next_state_of self.old) (standing_of self.old) (standing_of self.new) picture.new turn) }
         ensures run { (plan : Plan) → IsRunOf plan self.old → IsRunOf plan self.new }
+        ensures store { IfOk result (λ turn. (plan : Plan) → IsRunOf plan self.old → LeavesStore plan (standing_of self.old) (next_state_of self.old) picture.new (store_of self.old) (store_of self.new) turn) }
+        ensures variables { OnOk result ((store_of self.new).variables ≡ (store_of self.old).variables) }
         ensures err { OnErr result ((standing_of self.new ≡ spent) × (picture.new ≡ picture.old)) }
     {
         match mem::replace(&mut self.stand, Stand::Spent) {
-            Stand::Open(scene, store) => {
-                let made = self.make(scene, store, picture, steps)?;
+            Stand::Open(scene) => {
+                let made = self
+                    .settings
+                    .make(self.state, scene, &mut self.store, picture, steps)?;
                 self.state = self.next_number(&made.turn);
                 self.stand = made.stand;
                 Ok(made.turn)

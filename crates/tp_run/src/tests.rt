@@ -14,7 +14,7 @@ use std::test::Fail;
 use tp_inputs::Inputs;
 use tp_kernel::{Expr, Formula, Formulas, Op2, gets};
 use tp_step::{Order, Shows, Steps};
-use tp_value::{Facts, Globals, NoMemory, Number, Text, VarId};
+use tp_value::{Facts, Globals, Indices, NoMemory, Number, Path, Text, VarId};
 
 // The state variable A alone.
 fn one_name(alloc: Global) -> Result<Globals, NoMemory>
@@ -143,7 +143,26 @@ fn program(alloc: Global, letters: &[u8]) -> Result<Rc<Formula>, NoMemory>
     }
 }
 
-// A picture's number, shapes and reductions, and whether the run carries a scene.
+// What the run's store knows of A: its name, and the shape of its value where one is kept.
+fn known(alloc: Global, run: &Run) -> Result<String, Fail> {
+    let var = VarId {
+        number: 0,
+        lasting: false,
+    };
+    let at = Indices::new(alloc);
+    let shape = run.store().shape(&Path { var, at });
+    let mut text = match run.store().name(var) {
+        Some(name) if name.as_slice() == b"A".as_slice() => format!(in alloc; "A")?,
+        _ => format!(in alloc; "?")?,
+    };
+    if let Some(shape) = shape {
+        let value = format!(in alloc; "={shape:?}")?;
+        text.push_str(value.as_str())?;
+    }
+    Ok(text)
+}
+
+// A picture's number, shapes and reductions, whether the run carries a scene, and what its store knows.
 fn said(alloc: Global, picture: &Picture, run: &Run) -> Result<String, Fail> {
     let mut text = format!(in alloc; "{}", picture.state)?;
     for fact in &picture.facts.items {
@@ -151,7 +170,8 @@ fn said(alloc: Global, picture: &Picture, run: &Run) -> Result<String, Fail> {
         text.push_str(shape.as_str())?;
     }
     let sign = if run.scene().is_some() { "+" } else { "" };
-    let rest = format!(in alloc; " /{}{sign}, ", picture.reductions)?;
+    let known = known(alloc, run)?;
+    let rest = format!(in alloc; " /{}{sign} {}, ", picture.reductions, known.as_str())?;
     text.push_str(rest.as_str())?;
     Ok(text)
 }
@@ -188,7 +208,8 @@ fn history<L: Ledger>(
         },
         reductions: 0,
     };
-    let mut text = String::new(alloc);
+    let known = known(alloc, &run)?;
+    let mut text = format!(in alloc; "{}, ", known.as_str())?;
     for _ in 0..9 {
         let turn = run.state(&mut picture, &mut steps)?;
         let state = said(alloc, &picture, &run)?;
@@ -210,28 +231,28 @@ fn runs_come_to_their_ends(rt: HostRuntime) -> Result<(), Fail> {
     let clash = format!(in rt.alloc();
         "Contradictory {{ state: 0, clash: Facts {{ kept: Fact {{ path: {path}, shape: Num(1) }}, new: Fact {{ path: {path}, shape: Num(2) }} }} }}"
     )?;
-    let counted = "0 Num(0) /8+, 1 Num(1) /7+, 2 Num(2) /7+, 3 Num(3) /6, ";
-    let same = "0 Num(1) /7+, 1 Num(1) /6+, 2 Num(1) /6+, 2 Num(1) /6, ";
+    let counted = "0 Num(0) /8+ A, 1 Num(1) /7+ A, 2 Num(2) /7+ A, 3 Num(3) /6 A=Num(3), ";
+    let same = "0 Num(1) /7+ A, 1 Num(1) /6+ A, 2 Num(1) /6+ A, 2 Num(1) /6 A, ";
     let root = "Undetermined { state: 0, cell: End { region: 0, depth: 0 } }";
     let rows: [(&[u8], u64, u64, &str, &str); 8] = [
-        (b"e".as_slice(), 9, 9, "0 /1, ", "Finished { length: 0 }"),
+        (b"e".as_slice(), 9, 9, "0 /1 A, ", "Finished { length: 0 }"),
         (b"l0g".as_slice(), 9, 8, counted, "Finished { length: 3 }"),
         (
             b"l0g".as_slice(),
             9,
             7,
-            "9 /0, ",
+            "9 /0 A=Num(0), ",
             "Over { state: 0, limit: Reductions }",
         ),
         (b"am".as_slice(), 3, 9, same, "StateLimit { states: 3 }"),
-        (b"1".as_slice(), 9, 9, "9 /0, ", root),
-        (b"es".as_slice(), 9, 9, "9 /0, ", open.as_str()),
-        (b"12".as_slice(), 9, 9, "9 /0, ", clash.as_str()),
+        (b"1".as_slice(), 9, 9, "9 /0 A=Num(1), ", root),
+        (b"es".as_slice(), 9, 9, "9 /0 A, ", open.as_str()),
+        (b"12".as_slice(), 9, 9, "9 /0 A=Num(1), ", clash.as_str()),
         (
             b"b".as_slice(),
             9,
             9,
-            "9 /0, ",
+            "9 /0 A, ",
             "Over { state: 0, limit: Number }",
         ),
     ];
@@ -240,7 +261,7 @@ fn runs_come_to_their_ends(rt: HostRuntime) -> Result<(), Fail> {
         let main = program(rt.alloc(), letters)?;
         let limits = Limits { states, reductions };
         let text = history::<Brand>(rt.alloc(), Blank::new(1), main, limits)?;
-        let expected = format!(in rt.alloc(); "{made}{end} {end}")?;
+        let expected = format!(in rt.alloc(); "A, {made}{end} {end}")?;
         assert_eq!(rt; text.as_str(), expected.as_str());
     }
     Ok(())

@@ -23,12 +23,14 @@ returns-clause-plan c =
     let make : Scene → Contents → Moment = λ s k. record { scene = s; store = k } in
     let first : moment_of c.in_ok-scene.scene c.in_ok-store.store ≡ first_moment names main = ap₂ make c.in_ok-scene.ensures.scene c.in_ok-store.ensures in
     record {
-      inputs = refl;
-      states = refl;
-      reductions = refl;
-      globals = c.len.ensures ∙ sym (length-map names is_lower);
-      definitions = ap (map definition_of) c.new-2.ensures.items;
-      order = c.requires.order;
+      settings = record {
+        inputs = refl;
+        states = refl;
+        reductions = refl;
+        globals = c.len.ensures ∙ sym (length-map names is_lower);
+        definitions = ap (map definition_of) c.new-2.ensures.items;
+        order = c.requires.order;
+      };
       within = omega arith;
       ready = subst (λ (m : Moment). StandsReady plan 0 (open_at m)) (sym first) (first_ready plan c.requires.built);
     }

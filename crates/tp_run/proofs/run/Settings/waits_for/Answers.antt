@@ -3,32 +3,32 @@ use Rattle.tp_step.specs.Answers.{moment_of}
 use Rattle.tp_run.specs.Runs.{setting_in}
 use Rattle.tp_run.proofs.Waiting.{waiting_item}
 use Rattle.tp_run.proofs.Becomes.{IsWait, waiting_answer}
-use Rattle.tp_run.proofs.run.Run.waits_for.Goals as goal
+use Rattle.tp_run.proofs.run.Settings.waits_for.Goals as goal
 
 pub try_item-requires-clause-lives : goal.try_item-requires-clause-lives
 try_item-requires-clause-lives g c =
-    (waiting_item (setting_in c.args.self.now) c.requires.ready.0 (moment_of c.args.scene.now c.args.store.now) c.args.item c.requires.ready.1 c.requires.item).lives
+    (waiting_item (setting_in c.args.self.now c.args.state) c.requires.ready.0 (moment_of c.args.scene.now c.args.store.now) c.args.item c.requires.ready.1 c.requires.item).lives
 
 pub unreachable-requires-in-Rests : goal.unreachable-requires-in-Rests
 unreachable-requires-in-Rests g c =
     subst IsWait c.in-Rests.is
-    (waiting_answer (setting_in c.args.self.now) c.requires.ready.0 0 (moment_of c.args.scene.now c.args.store.now) (moment_of c.try_item.new.scene c.try_item.new.store) c.args.item c.in_ok-tried.tried
+    (waiting_answer (setting_in c.args.self.now c.args.state) c.requires.ready.0 0 (moment_of c.args.scene.now c.args.store.now) (moment_of c.try_item.new.scene c.try_item.new.store) c.args.item c.in_ok-tried.tried
     c.requires.ready.1 c.requires.rests c.requires.item c.in_ok-tried.ensures.answer)
 
 pub unreachable-requires-in-Clash : goal.unreachable-requires-in-Clash
 unreachable-requires-in-Clash g c =
     subst IsWait c.in-Clash.is
-    (waiting_answer (setting_in c.args.self.now) c.requires.ready.0 0 (moment_of c.args.scene.now c.args.store.now) (moment_of c.try_item.new.scene c.try_item.new.store) c.args.item c.in_ok-tried.tried
+    (waiting_answer (setting_in c.args.self.now c.args.state) c.requires.ready.0 0 (moment_of c.args.scene.now c.args.store.now) (moment_of c.try_item.new.scene c.try_item.new.store) c.args.item c.in_ok-tried.tried
     c.requires.ready.1 c.requires.rests c.requires.item c.in_ok-tried.ensures.answer)
 
 pub unreachable-requires-in-Missing : goal.unreachable-requires-in-Missing
 unreachable-requires-in-Missing g c =
     subst IsWait c.in-Missing.is
-    (waiting_answer (setting_in c.args.self.now) c.requires.ready.0 0 (moment_of c.args.scene.now c.args.store.now) (moment_of c.try_item.new.scene c.try_item.new.store) c.args.item c.in_ok-tried.tried
+    (waiting_answer (setting_in c.args.self.now c.args.state) c.requires.ready.0 0 (moment_of c.args.scene.now c.args.store.now) (moment_of c.try_item.new.scene c.try_item.new.store) c.args.item c.in_ok-tried.tried
     c.requires.ready.1 c.requires.rests c.requires.item c.in_ok-tried.ensures.answer)
 
 pub unreachable-requires-in-Over : goal.unreachable-requires-in-Over
 unreachable-requires-in-Over g c =
     subst IsWait c.in-Over.is
-    (waiting_answer (setting_in c.args.self.now) c.requires.ready.0 0 (moment_of c.args.scene.now c.args.store.now) (moment_of c.try_item.new.scene c.try_item.new.store) c.args.item c.in_ok-tried.tried
+    (waiting_answer (setting_in c.args.self.now c.args.state) c.requires.ready.0 0 (moment_of c.args.scene.now c.args.store.now) (moment_of c.try_item.new.scene c.try_item.new.store) c.args.item c.in_ok-tried.tried
     c.requires.ready.1 c.requires.rests c.requires.item c.in_ok-tried.ensures.answer)

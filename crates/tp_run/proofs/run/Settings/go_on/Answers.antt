@@ -1,6 +1,6 @@
 use Rattle.std.proofs.Common.{refl}
 use Rattle.tp_step.specs.Answers.{moment_of}
-use Rattle.tp_run.proofs.run.Run.go_on.Goals as goal
+use Rattle.tp_run.proofs.run.Settings.go_on.Goals as goal
 
 pub returns-clause-stand : goal.returns-clause-stand
 returns-clause-stand c = (
@@ -9,5 +9,6 @@ returns-clause-stand c = (
     scene = c.in_ok-next.ensures.scene;
     store = record { kept = c.next_state.ensures.facts; no_clash = c.next_state.ensures.sound.no_clash; variables = c.next_state.ensures.variables };
   },
+  refl,
   refl,
 )
