@@ -2,7 +2,7 @@
 ghost use Rattle.std.specs.Prelude.{◌≡◌, IfOk};
 ghost use Rattle.std.specs.Ordering.{is_lt, is_gt};
 ghost use Rattle.tp_scene.specs.Advance.{shown_in};
-ghost use Rattle.tp_scene.specs.Built.{IsFlat};
+ghost use Rattle.tp_decide.specs.Flat.{HasOneRegion};
 ghost use Rattle.tp_decide.specs.Read.{scene_of, shows_of};
 ghost use Rattle.tp_run.specs.States.{is_before, AreGlobals};
 
@@ -46,7 +46,7 @@ pub fn settled_picture(
     state: u64,
     reductions: u64,
 ) -> Result<Picture, NoMemory>
-    requires { IsFlat (scene_of scene.now).root.entries }
+    requires { HasOneRegion (scene_of scene.now) }
     ensures facts { IfOk result (λ picture. AreGlobals globals store.now.facts picture.facts) }
     ensures shows { IfOk result (λ picture. shows_of picture.shows ≡ shown_in (scene_of scene.now).root.entries) }
     ensures state { IfOk result (λ picture. picture.state ≡ state) }

@@ -10,8 +10,9 @@ ghost use Rattle.tp_scene.specs.Step.{waits};
 ghost use Rattle.tp_scene.specs.Pick.{Moment, outcome_of};
 ghost use Rattle.tp_scene.specs.Rest as rest;
 ghost use Rattle.tp_scene.specs.Rest.{AtRest};
-ghost use Rattle.tp_scene.specs.Built.{IsReady, IsFlat};
+ghost use Rattle.tp_scene.specs.Built.{IsReady};
 ghost use Rattle.tp_scene.specs.StandsFor.{first_moment};
+ghost use Rattle.tp_decide.specs.Flat.{HasOneRegion};
 ghost use Rattle.tp_decide.specs.Read.{scene_of};
 ghost use Rattle.tp_step.specs.Answers.{moment_of};
 ghost use Rattle.tp_step.specs.declared.answer.Order.TheVariants.{First};
@@ -142,7 +143,7 @@ impl Settings {
         reductions: u64,
         picture: &mut Picture,
     ) -> Result<Made, NoMemory>
-        requires { IsFlat (scene_of scene.now).root.entries }
+        requires { HasOneRegion (scene_of scene.now) }
         ensures picture { OnOk result (HasPicture self.now.globals state reductions (moment_of scene.now store.now) picture.new) }
         ensures stand { IfOk result (λ made. made.stand ≡ Stand.Answered (Turn.Finished state)) }
         ensures turn { IfOk result (λ made. made.turn ≡ Turn.Finished state) }
@@ -164,7 +165,7 @@ impl Settings {
         picture: &mut Picture,
     ) -> Result<Made, NoMemory>
         requires goes { rest.settled (scene_of scene) ≡ rest.goes }
-        requires flat { IsFlat (scene_of scene).root.entries }
+        requires one { HasOneRegion (scene_of scene) }
         ensures picture { OnOk result (HasPicture self.now.globals state reductions (moment_of scene store.old) picture.new) }
         ensures stand { IfOk result (λ made. (next : Moment) × NextOf (moment_of scene store.old) next × (stands_at made.stand store.new ≡ open_at next) × (store.new ≡ next.store)) }
         ensures turn { IfOk result (λ made. made.turn ≡ Turn.Went) }
