@@ -11,4 +11,8 @@ pub mod SilentLemmas
 pub mod HeadlineLemmas
 pub mod AnswerLemmas
 pub mod ClauseLemmas
+pub mod ReadWordLemmas
+pub mod ReadValueLemmas
+pub mod PartLemmas
+pub mod ToldLemmas
 pub mod ReadBackLemmas

@@ -1,14 +1,13 @@
 -- The text of a run can be read back in one way only.
-use Rattle.std.specs.Prelude.{◌≡◌, ◌<◌, ◌^◌, ℤ, ℕ, nat_le, ◌==◌, ◌&&◌, ◌||◌, Bool, IsTrue, List, [], ◌∷◌, ◌++◌, map, length, All}
+use Rattle.std.specs.Prelude.{◌≡◌, ◌<◌, ◌^◌, ℕ, nat_le, ◌==◌, ◌&&◌, ◌||◌, Bool, IsTrue, List, [], ◌∷◌, ◌++◌, map, length, All}
 use Rattle.tp_value.specs.Number.{IsNumber}
-use Rattle.tp_value.specs.Globals.{variable}
 use Rattle.tp_value.specs.declared.path.Fact.{Fact}
-use Rattle.tp_value.specs.declared.value.Shape.TheVariants.{Num}
-use Rattle.tp_store.specs.Known.{NoClash}
+use Rattle.tp_value.specs.declared.value.Shape.{Shape}
+use Rattle.tp_value.specs.declared.value.Shape.TheVariants.{Num, Truth, Items}
 use Rattle.tp_run.specs.declared.turn.Picture.{Picture}
 use Rattle.tempura.specs.declared.status.Status.{Status}
 use Rattle.tempura.specs.Texts.{name_of}
-use Rattle.tempura.specs.Line.{state_lines}
+use Rattle.tempura.specs.Line.{AreFactsOf, state_lines}
 use Rattle.tempura.specs.EndLine.{end_line}
 use Rattle.tempura.specs.Answer.{IsEndOfRun}
 
@@ -25,19 +24,25 @@ pub record AreNames (names : List (List ℕ)) : Type 0 where
   pub words : (i : ℕ) → i < length names → IsWord (name_of names i)
   pub apart : (i j : ℕ) → i < length names → j < length names → name_of names i ≡ name_of names j → i ≡ j
 
--- a fact that a variable has a number
-pub record IsNumeric (names : List (List ℕ)) (fact : Fact) : Type 0 where
-  pub number : ℤ
-  pub bound : IsNumber number
-  pub place : ℕ
-  pub named : place < length names
-  pub is : fact ≡ record { path = record { var = variable (name_of names place) place; at = [] }; shape = Num number }
+abbrev pub FitsIn64Bits : ℕ → Type 0
+FitsIn64Bits n = n < 2 ^ 64
 
--- a state whose facts say, without a clash, which numbers variables have
-pub record IsNumericState (names : List (List ℕ)) (picture : Picture) : Type 0 where
-  pub state : picture.state < 2 ^ 64
-  pub no_clash : NoClash picture.facts
-  pub facts : All (IsNumeric names) picture.facts
+-- a number of the language, a truth value, or a length of 64 bits
+abbrev pub IsShapeInRange : Shape → Type 0
+IsShapeInRange (Num n) = IsNumber n
+IsShapeInRange (Truth b) = Unit {0}
+IsShapeInRange (Items n) = FitsIn64Bits n
+
+-- a fact with such a shape, and with indices of 64 bits
+pub record IsFactInRange (fact : Fact) : Type 0 where
+  pub indices : All FitsIn64Bits fact.path.at
+  pub shape : IsShapeInRange fact.shape
+
+-- a state of which these facts are known, in order and without a clash, of the variables of these names
+pub record IsStateOf (names : List (List ℕ)) (picture : Picture) : Type 0 where
+  pub state : FitsIn64Bits picture.state
+  pub facts : AreFactsOf names picture.facts
+  pub in_range : All IsFactInRange picture.facts
 
 -- what a state's line says: its number and its facts
 pub record Shown : Type 0 where
@@ -49,5 +54,5 @@ shown pictures = map (λ (p : Picture). record { state = p.state; facts = p.fact
 
 -- Two runs with one text have the same states with the same facts, and end in the same words.
 abbrev pub TextShowsStates : Type 0
-TextShowsStates = (names : List (List ℕ)) (ps qs : List Picture) (s t : Status) → AreNames names → All (IsNumericState names) ps → All (IsNumericState names) qs → IsEndOfRun s → IsEndOfRun t
+TextShowsStates = (names : List (List ℕ)) (ps qs : List Picture) (s t : Status) → AreNames names → All (IsStateOf names) ps → All (IsStateOf names) qs → IsEndOfRun s → IsEndOfRun t
     → state_lines names ps ++ end_line names s ≡ state_lines names qs ++ end_line names t → (shown ps ≡ shown qs) × (end_line names s ≡ end_line names t)

@@ -2,7 +2,7 @@
 ghost use Rattle.tempura.specs.LineExamples.{LineExamples};
 ghost use Rattle.tempura.specs.ReadBack.{TextShowsStates};
 
-/// A text shows the states of its run: their numbers and their facts can be read back in one way only.
+/// A text shows the states of its run: their numbers and their facts, of every kind, can be read back in one way only.
 pub fn text_shows_states()
     ensures { TextShowsStates }
 {}
