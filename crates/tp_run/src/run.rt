@@ -16,7 +16,7 @@ ghost use Rattle.tp_decide.specs.Flat.{HasOneRegion};
 ghost use Rattle.tp_decide.specs.Read.{scene_of};
 ghost use Rattle.tp_step.specs.Answers.{moment_of};
 ghost use Rattle.tp_step.specs.declared.answer.Order.TheVariants.{First};
-ghost use Rattle.tp_run.specs.States.{Plan, plan_with, open_at, answered, spent, state_after, Answers, StateBecomes, StoreBecomes, LeavesStore};
+ghost use Rattle.tp_run.specs.States.{Plan, plan_with, open_at, spent, state_after, Answers, StateBecomes, StoreBecomes, LeavesStore};
 ghost use Rattle.tp_run.specs.Meaning.{BeginsWith, AnswerMeans};
 ghost use Rattle.tp_run.specs.Runs.{stands_at, standing_of, next_state_of, store_of, carried, setting_in, IsSettingsOf, IsRunOf, HasPicture, NextOf, RestTurns};
 
