@@ -1,6 +1,6 @@
 // What becomes of a formula that is to hold from this state on. This only reads: see `step` for what is then changed.
-ghost use Rattle.std.specs.Prelude.{◌≡◌, List, ◌+◌, ◌≤◌, ◌∷◌, ◌-◌, [], IfOk, OnOk, length, if◌then◌else◌, None};
-ghost use Rattle.tp_meaning.specs.Syntax.{known, equation, weak_next, if_more, if_empty, always, conjunction};
+ghost use Rattle.std.specs.Prelude.{◌≡◌, List, ◌+◌, ◌≤◌, ◌-◌, [], IfOk, OnOk, length, if◌then◌else◌, None};
+ghost use Rattle.tp_meaning.specs.Syntax.{known, equation, weak_next, if_more, if_empty, always};
 ghost use Rattle.tp_meaning.specs.Unfolding.{nexts};
 ghost use Rattle.tp_kernel.specs.Read.{expr_tree, formula_tree, formula_trees, definitions_of, bindings_of};
 ghost use Rattle.tp_kernel.specs.Built.{HasBuiltKinds};

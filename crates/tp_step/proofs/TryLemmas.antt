@@ -19,7 +19,6 @@ use Rattle.tp_scene.specs.Pick.{Setting, Reduces, pick, outcome_of, numbers_of, 
 use Rattle.tp_scene.proofs.Flat.{steps_stay_flat}
 use Rattle.tp_scene.proofs.Plain.{FreshLeaves, Plain, IsPlain, leaf_plain}
 use Rattle.tp_decide.specs.declared.scene.Entry.{Entry}
-use Rattle.tp_decide.specs.declared.scene.Item.{Item}
 use Rattle.tp_decide.specs.declared.scene.Scene.{Scene}
 use Rattle.tp_decide.specs.Read.{entries_in, entries_of, head_of, scene_of}
 use Rattle.tp_decide.specs.Flat.{HasOneRegion, AreLeaves, IsBuiltLeaf, leaf_of, leaves_of, IsFirstAt}
