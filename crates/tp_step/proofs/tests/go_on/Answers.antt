@@ -1,5 +1,13 @@
 use Rattle.std.proofs.Common.{[], ◌∷◌, false}
+use Rattle.tp_decide.specs.Read.{entries_of, entries_in}
+use Rattle.tp_decide.proofs.FlatLemmas.{no_region}
 use Rattle.tp_step.proofs.tests.go_on.Goals as goal
+
+pub settled-requires : goal.settled-requires
+settled-requires c = no_region (entries_of (entries_in c.args.scene.root)) c.requires.flat
+
+pub advance-requires-clause-one : goal.advance-requires-clause-one
+advance-requires-clause-one c = no_region (entries_of (entries_in c.args.scene.root)) c.requires.flat
 
 pub returns-in_ok-next-in-Goes : goal.returns-in_ok-next-in-Goes
 returns-in_ok-next-in-Goes c =
