@@ -75,10 +75,12 @@ fn open_and_read<R: rt::Files>(
     name: &str,
     most: usize,
 ) -> Result<Bytes, FileRefusal>
-    ensures { IfOk result (λ bytes. length bytes ≤ most) }
+    ensures within { IfOk result (λ bytes. length bytes ≤ most) }
+    ensures opened { IfOk result (λ bytes. (file : R.File) × IfSome (R.File.remaining file) (λ all. bytes ≡ take most all)) }
 {
     let file = fs::open(runtime, name).map_err(|e| file_refusal(&e))?;
-    read_first(alloc, file, most)
+    let bytes = read_first(alloc, file, most)?;
+    Ok(bytes)
 }
 
 impl<R: rt::Files> Files for RealFiles<R> {
@@ -95,6 +97,7 @@ impl<R: rt::Files> Files for RealFiles<R> {
         ensures later { self.old.faults ≤ self.new.faults }
         ensures cause { IsErrOf result FileRefusal.Failed → Rose last_count self.old.faults self.new.faults }
 
+        ensures opened { IfOk result (λ bytes. (file : R.File) × IfSome (R.File.remaining file) (λ all. bytes ≡ take most all)) }
         ensures count { self.new.faults ≡ reads_failed_after last_count self.old.faults result }
     {
         let outcome = open_and_read(alloc, &self.runtime, name, most);
