@@ -1,31 +1,14 @@
 //! Runs a program of interval temporal logic.
 #![tactic(auto)]
 
-ghost use Rattle.std.specs.Prelude.{◌≡◌, ◌<◌};
-
-mod call;
-mod end_line;
-mod laws;
-mod line;
-mod refused;
-mod run;
-mod source;
-mod status;
-#[cfg(test)]
-mod tests;
-mod text;
-mod words;
-
-use crate::call::tempura;
-use crate::status::Status;
 use std::alloc::Global;
 use std::env::Env;
 use std::marker::Brand;
 use std::process::ExitCode;
-use std::sync::ledger::{Blank, Ledger};
+use std::sync::ledger::Blank;
 use std::{env, io};
-use tp_io::{Files, RealFiles, RealSink, Sink};
-use tp_step::Steps;
+use tp_call::counted;
+use tp_io::{RealFiles, RealSink};
 use tp_value::{NoMemory, Text};
 
 // The words could not be had, for another cause than memory.
@@ -49,22 +32,6 @@ fn given_words<R: Env + AllocGlobal>(rt: &R) -> Result<Vec<Text>, u8> {
         words.push(text).map_err(|_| NO_MEMORY)?;
     }
     Ok(words)
-}
-
-// The call, with a count of tries of its own.
-fn counted<L: Ledger, F: Files, K: Sink>(
-    alloc: Global,
-    words: &[Text],
-    files: &mut F,
-    out: &mut K,
-    blank: Blank,
-) -> Status
-    requires name { blank.name ≡ L.name }
-    requires parts { blank.parts ≡ L.parts }
-    requires some { 0 < L.parts }
-{
-    let mut steps = Steps::<L>::new(blank);
-    tempura(alloc, words, files, out, &mut steps)
 }
 
 fn main(rt: HostRuntime) -> ExitCode {

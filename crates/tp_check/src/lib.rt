@@ -4,19 +4,13 @@
 mod equation;
 mod expression;
 mod formula;
-#[cfg(test)]
-mod making;
 mod names;
 mod operation;
 mod phrases;
 mod place;
 mod program;
 mod refusal;
-#[cfg(test)]
-mod spelling;
 mod state;
-#[cfg(test)]
-mod tests;
 
 pub use program::{Program, check};
 pub use refusal::CheckRefusal;

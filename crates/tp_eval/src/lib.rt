@@ -9,8 +9,6 @@ mod laws;
 mod operate;
 mod outcome;
 mod places;
-#[cfg(test)]
-mod tests;
 
 pub use calls::{eval, place};
 pub use evaluate::is_place;

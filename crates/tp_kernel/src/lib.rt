@@ -3,8 +3,6 @@
 
 mod derived;
 mod formula;
-#[cfg(test)]
-mod tests;
 
 pub use derived::{becomes, fin, gets, halt, keep, list, next_equals, repeat, skip, stable};
 pub use formula::{

@@ -15,5 +15,3 @@ pub use reading::tokens;
 pub use refusal::LexRefusal;
 pub use token::{Kind, Symbol, Token, Tokens, Word};
 
-#[cfg(test)]
-mod tests;

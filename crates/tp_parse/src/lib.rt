@@ -12,5 +12,3 @@ mod source;
 pub use refusal::ParseRefusal;
 pub use source::parse;
 
-#[cfg(test)]
-mod tests;

@@ -4,8 +4,6 @@
 mod laws;
 mod picture;
 mod run;
-#[cfg(test)]
-mod tests;
 mod turn;
 
 pub use laws::{runs_advance, runs_mean};

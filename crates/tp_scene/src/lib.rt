@@ -4,8 +4,6 @@
 
 mod answer;
 mod laws;
-#[cfg(test)]
-mod tests;
 
 pub use answer::{Cell, Clash};
 pub use laws::{

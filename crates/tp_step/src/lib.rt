@@ -7,8 +7,6 @@ mod live;
 mod next_state;
 mod step;
 mod steps;
-#[cfg(test)]
-mod tests;
 
 pub use answer::{Ending, ItemIds, Mark, News, Order, Settled, Tally, Tried, Wait, Waits};
 pub use first::start;

@@ -8,8 +8,6 @@ mod full;
 mod laws;
 mod listing;
 mod store;
-#[cfg(test)]
-mod tests;
 
 pub use add::AddRefusal;
 pub use full::Known;

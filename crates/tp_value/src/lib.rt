@@ -8,8 +8,6 @@ mod path;
 mod reading;
 mod refusal;
 mod scan;
-#[cfg(test)]
-mod tests;
 mod text;
 mod value;
 mod writing;

@@ -1,0 +1,162 @@
+-- The parts of a call, put together: what it answers, and what it has written.
+use Rattle.std.proofs.Common.{◌≡◌, ◌+◌, inl, inr, ℕ, List, [], ◌∷◌, ◌++◌, length, take, Option, Ok, Err, refl, sym, ap, subst}
+use Rattle.std.proofs.Math.Seq.{take-append-add}
+use Rattle.tp_io.specs.Devices.{Held}
+use Rattle.tp_kernel.specs.Built.{IsBuilt}
+use Rattle.tp_io.specs.declared.devices.WriteRefusal.TheVariants as sink
+use Rattle.tp_run.specs.declared.turn.Picture.{Picture}
+use Rattle.tp_run.specs.declared.turn.Turn.{Turn}
+use Rattle.tp_run.specs.declared.turn.Turn.TheVariants as turn
+use Rattle.tp_run.specs.History.{Advances}
+use Rattle.tp_call.specs.declared.status.Status.{Status}
+use Rattle.tp_call.specs.declared.status.Status.TheVariants.{Finished, Contradictory, Undetermined, StateLimit, ReductionLimit, NumberLimit, ListLimit, CallLimit, NestLimit, InputMissing, WriteFault, NoMemory}
+use Rattle.tp_call.specs.Line.{state_line, state_lines}
+use Rattle.tp_call.specs.EndLine.{end_line}
+use Rattle.tp_call.specs.Written.{Wrote}
+use Rattle.tp_check.specs.Program.{ProgramTree}
+use Rattle.tp_call.specs.Run.{plan_of, turn_of, RunEnds, Settles}
+use Rattle.tp_call.specs.Progress.{Place, Turned, NoLineMade, EndMade, IsSettled, PartMade, HasWritten, ProgramMade}
+use Rattle.tp_call.specs.Answer.{Sourced, HoldsProgram, Refuses, RunsTo, Ends, Answers}
+use Rattle.tp_call.specs.Parts.{IsRefusal, Closes}
+use Rattle.tp_call.proofs.HeadlineLemmas.{end_says}
+use Rattle.tp_call.proofs.RunLemmas.{Wrote-both, Wrote-nothing, lines_more, advances}
+
+-- a part of what is written second, after all of what is written first
+pub Wrote-part : (old mid new : Option (List ℕ)) (a b : List ℕ) (kept : ℕ) → Wrote old mid a → Wrote mid new (take kept b) → Wrote old new (take (length a + kept) (a ++ b))
+Wrote-part old mid new a b kept p q = subst (Wrote old new) (sym (take-append-add a b kept)) (Wrote-both old mid new a (take kept b) p q)
+
+-- a run of the program ended with this status, and its states were written
+pub record Ended (program : ProgramTree) (before after : Option (List ℕ)) (status : Status) : Type 0 where
+  pub pictures : List Picture
+  pub run : RunEnds program pictures status
+  pub wrote : Wrote before after (state_lines program.names pictures)
+
+-- the states that a run has settled, with one more
+lines_with : (names : List (List ℕ)) (before now after : Option (List ℕ)) (pictures : List Picture) (picture : Picture) → Wrote before now (state_lines names pictures) → Wrote now after (state_line names picture)
+    → Wrote before after (state_lines names (pictures ++ picture ∷ []))
+lines_with names before now after pictures picture p q = rw (lines_more names pictures picture) (Wrote-both before now after _ _ p q)
+
+-- a state that ends the run and isn't settled
+stopped_by : (program : ProgramTree) (from to : Place) (before now after : Option (List ℕ)) (status : Status) → (h : HasWritten program from before now) → (e : NoLineMade (plan_of program) from to (turn_of status) now after)
+    → (Advances (plan_of program) h.pictures e.1.earlier e.0 to.standing to.state (turn_of status) → RunEnds program h.pictures status) → Ended program before after status
+stopped_by program from to before now after status h e end =
+    record { pictures = h.pictures; run = end (advances program from to before now (turn_of status) e.0 h e.1); wrote = rw e.2 h.wrote }
+
+ended_by : (program : ProgramTree) (from to : Place) (before now after : Option (List ℕ)) (status : Status) → HasWritten program from before now → EndMade (plan_of program) program.names from to now after status
+    → Ended program before after status
+ended_by program from to before now after (Finished n) h (picture, turned, wrote) = record {
+  pictures = h.pictures ++ picture ∷ [];
+  run = (advances program from to before now (turn.Finished n) picture h turned).0;
+  wrote = lines_with program.names before now after h.pictures picture h.wrote wrote;
+}
+ended_by program from to before now after (Contradictory state clash) h e = stopped_by program from to before now after (Contradictory state clash) h e (λ a. a.0)
+ended_by program from to before now after (Undetermined state cell) h e = stopped_by program from to before now after (Undetermined state cell) h e (λ a. a.0)
+ended_by program from to before now after (StateLimit states) h e = stopped_by program from to before now after (StateLimit states) h e (λ a. a.0)
+ended_by program from to before now after (ReductionLimit state) h e = stopped_by program from to before now after (ReductionLimit state) h e (λ a. a.0)
+ended_by program from to before now after (NumberLimit state) h e = stopped_by program from to before now after (NumberLimit state) h e (λ a. a.0)
+ended_by program from to before now after (ListLimit state) h e = stopped_by program from to before now after (ListLimit state) h e (λ a. a.0)
+ended_by program from to before now after (CallLimit state) h e = stopped_by program from to before now after (CallLimit state) h e (λ a. a.0)
+ended_by program from to before now after (NestLimit state) h e = stopped_by program from to before now after (NestLimit state) h e (λ a. a.0)
+ended_by program from to before now after (InputMissing state port) h e = stopped_by program from to before now after (InputMissing state port) h e (λ a. a.0)
+ended_by program from to before now after status h e = absurd e
+
+-- the last state of these was settled, whether the run goes on or not
+settles_with : (program : ProgramTree) (from to : Place) (before now : Option (List ℕ)) (answer : Turn) (picture : Picture) → (h : HasWritten program from before now) → Turned (plan_of program) from to answer picture
+    → IsSettled answer → Settles program (h.pictures ++ picture ∷ [])
+settles_with program from to before now answer picture h turned (inl went) =
+    let a = advances program from to before now turn.Went picture h (subst (λ t. Turned (plan_of program) from to t picture) went turned) in
+    inl (a.0, a.2)
+settles_with program from to before now answer picture h turned (inr finished) =
+    inr (finished.0, (advances program from to before now (turn.Finished finished.0) picture h (subst (λ t. Turned (plan_of program) from to t picture) finished.1 turned)).0)
+
+pub ended : (program : ProgramTree) (before after : Option (List ℕ)) (status : Status) → ProgramMade program before after (Ok status) → Ended program before after status
+ended program before after status (inl none) = let bad : Ok status ≡ Err sink.NoMemory = none.0 in cc
+ended program before after status (inr made) = ended_by program made.from made.to before made.middle after status made.settled made.stopped
+
+-- what an end settled
+settles_by : (program : ProgramTree) (pictures : List Picture) (status : Status) → RunEnds program pictures status → Settles program pictures
+settles_by program pictures (Finished n) e = inr (n, e)
+settles_by program pictures (Contradictory state clash) e = inl (e.0, e.1)
+settles_by program pictures (Undetermined state cell) e = inl (e.0, e.1)
+settles_by program pictures (StateLimit states) e = inl (e.0, e.1)
+settles_by program pictures (ReductionLimit state) e = inl (e.0, e.1)
+settles_by program pictures (NumberLimit state) e = inl (e.0, e.1)
+settles_by program pictures (ListLimit state) e = inl (e.0, e.1)
+settles_by program pictures (CallLimit state) e = inl (e.0, e.1)
+settles_by program pictures (NestLimit state) e = inl (e.0, e.1)
+settles_by program pictures (InputMissing state port) e = inl (e.0, e.1)
+settles_by program pictures status e = absurd e
+
+-- an end of a run is no failed write
+pub not_write_fault : (program : ProgramTree) (before after : Option (List ℕ)) (status : Status) → Ended program before after status → status ≡ WriteFault → ⊥
+not_write_fault program before after status e is = subst (RunEnds program e.pictures) is e.run
+
+module _ (words : List (List ℕ)) (held : Option Held) (program : ProgramTree) (built : IsBuilt program.names program.main) (source : Sourced words held (HoldsProgram program)) (old : Option (List ℕ)) where
+  runs_to : (mid : Option (List ℕ)) (status : Status) → (e : Ended program old mid status) → RunsTo words held status (state_lines program.names e.pictures ++ end_line program.names status)
+  runs_to mid status e = record { program = program; pictures = e.pictures; source = source; run = e.run; says = end_says program e.pictures status built e.run; written = refl }
+
+  closed_whole : (mid new : Option (List ℕ)) (status result : Status) → Ended program old mid status → result ≡ status → Wrote mid new (end_line program.names status)
+      → (text : List ℕ) × Ends words held result text × Wrote old new text
+  closed_whole mid new status result e is wrote = (
+    state_lines program.names e.pictures ++ end_line program.names status,
+    inl (subst (λ r. RunsTo words held r (state_lines program.names e.pictures ++ end_line program.names status)) (sym is) (runs_to mid status e)),
+    Wrote-both old mid new _ _ e.wrote wrote,
+  )
+
+  -- a run that ended, and its end line or a part of it
+  pub closed : (mid new : Option (List ℕ)) (status result : Status) → Ended program old mid status → Closes program.names status mid new result → Answers words held old new result
+  closed mid new status WriteFault e c = (
+    state_lines program.names e.pictures ++ end_line program.names status,
+    inr (status, inl (runs_to mid status e)),
+    (length (state_lines program.names e.pictures) + c.0, Wrote-part old mid new _ _ c.0 e.wrote c.1),
+  )
+  closed mid new status NoMemory e c = (
+    state_lines program.names e.pictures,
+    inr (record { program = program; pictures = e.pictures; source = source; run = settles_by program e.pictures status e.run; written = refl }),
+    rw c e.wrote,
+  )
+  closed mid new status result e c = closed_whole mid new status result e c.0 c.1
+
+  -- a write of a state that failed
+  part_written : (from to : Place) (now new : Option (List ℕ)) → HasWritten program from old now → PartMade (plan_of program) program.names from to now new → Answers words held old new WriteFault
+  part_written from to now new h part = (
+    state_lines program.names (h.pictures ++ part.picture ∷ []),
+    inl (inr (record {
+      program = program;
+      pictures = h.pictures ++ part.picture ∷ [];
+      source = source;
+      run = settles_with program from to old now part.answer part.picture h part.turned part.settled;
+      written = refl;
+    })),
+    (length (state_lines program.names h.pictures) + part.kept, rw (lines_more program.names h.pictures part.picture) (Wrote-part old now new _ _ part.kept h.wrote part.wrote)),
+  )
+
+  pub write_failed : (new : Option (List ℕ)) → ProgramMade program old new (Err sink.Failed) → Answers words held old new WriteFault
+  write_failed new (inl none) = let bad : sink.Failed ≡ sink.NoMemory = cc (none.0) in cc
+  write_failed new (inr made) = part_written made.from made.to made.middle new made.settled made.stopped
+
+  pub memory_wanted : (new : Option (List ℕ)) → ProgramMade program old new (Err sink.NoMemory) → Answers words held old new NoMemory
+  memory_wanted new (inl none) = ([], inl refl, rw none.1 (Wrote-nothing old))
+  memory_wanted new (inr made) = (
+    state_lines program.names made.settled.pictures,
+    inr (record {
+      program = program;
+      pictures = made.settled.pictures;
+      source = source;
+      run = inl (made.settled.next, made.settled.leads);
+      written = refl;
+    }),
+    rw made.stopped made.settled.wrote,
+  )
+
+-- a refusal, and its end line or a part of it
+module _ (words : List (List ℕ)) (held : Option Held) (old new : Option (List ℕ)) (status : Status) where
+  refused_whole : (result : Status) → Refuses words held status → result ≡ status → Wrote old new (end_line [] status) → (text : List ℕ) × Ends words held result text × Wrote old new text
+  refused_whole result r is wrote = (end_line [] status, inr (subst (Refuses words held) (sym is) r, ap (end_line []) (sym is)), wrote)
+
+  pub refused : (result : Status) → IsRefusal words held status → (status ≡ NoMemory → result ≡ NoMemory) → Closes [] status old new result → Answers words held old new result
+  refused NoMemory r memory c = ([], inl refl, rw c (Wrote-nothing old))
+  refused WriteFault (inl none) memory c = let bad : WriteFault ≡ NoMemory = memory none in cc
+  refused WriteFault (inr r) memory c = (end_line [] status, inr (status, inr (r, refl)), c)
+  refused result (inl none) memory c = let bad : result ≡ NoMemory = memory none in cc
+  refused result (inr r) memory c = refused_whole result r c.0 c.1

@@ -1,0 +1,53 @@
+use Rattle.tp_call.proofs.ClauseLemmas.{finished, contradictory, undetermined, state_limit, reduction_limit, number_limit, list_limit, call_limit, nest_limit, input_missing, program_runs, words_refused_only, words_refused, too_long_only, too_long, source_refused_only, source_refused}
+use Rattle.tp_call.proofs.call.tempura.Goals as goal
+
+pub returns-clause-finished : goal.returns-clause-finished
+returns-clause-finished g c = finished _ _ _ _ _ c.call.ensures.answer
+
+pub returns-clause-contradictory : goal.returns-clause-contradictory
+returns-clause-contradictory g c = contradictory _ _ _ _ _ c.call.ensures.answer
+
+pub returns-clause-undetermined : goal.returns-clause-undetermined
+returns-clause-undetermined g c = undetermined _ _ _ _ _ c.call.ensures.answer
+
+pub returns-clause-state_limit : goal.returns-clause-state_limit
+returns-clause-state_limit g c = state_limit _ _ _ _ _ c.call.ensures.answer
+
+pub returns-clause-reduction_limit : goal.returns-clause-reduction_limit
+returns-clause-reduction_limit g c = reduction_limit _ _ _ _ _ c.call.ensures.answer
+
+pub returns-clause-number_limit : goal.returns-clause-number_limit
+returns-clause-number_limit g c = number_limit _ _ _ _ _ c.call.ensures.answer
+
+pub returns-clause-list_limit : goal.returns-clause-list_limit
+returns-clause-list_limit g c = list_limit _ _ _ _ _ c.call.ensures.answer
+
+pub returns-clause-call_limit : goal.returns-clause-call_limit
+returns-clause-call_limit g c = call_limit _ _ _ _ _ c.call.ensures.answer
+
+pub returns-clause-nest_limit : goal.returns-clause-nest_limit
+returns-clause-nest_limit g c = nest_limit _ _ _ _ _ c.call.ensures.answer
+
+pub returns-clause-input_missing : goal.returns-clause-input_missing
+returns-clause-input_missing g c = input_missing _ _ _ _ _ c.call.ensures.answer
+
+pub returns-clause-program_runs : goal.returns-clause-program_runs
+returns-clause-program_runs g c = λ program. program_runs _ _ _ _ program _ c.call.ensures.answer
+
+pub returns-clause-words_refused_only : goal.returns-clause-words_refused_only
+returns-clause-words_refused_only g c = words_refused_only _ _ _ _ _ c.call.ensures.answer
+
+pub returns-clause-words_refused : goal.returns-clause-words_refused
+returns-clause-words_refused g c = words_refused _ _ _ _ _ c.call.ensures.answer
+
+pub returns-clause-too_long_only : goal.returns-clause-too_long_only
+returns-clause-too_long_only g c = too_long_only _ _ _ _ _ c.call.ensures.answer
+
+pub returns-clause-too_long : goal.returns-clause-too_long
+returns-clause-too_long g c = too_long _ _ _ _ _ c.call.ensures.answer
+
+pub returns-clause-source_refused_only : goal.returns-clause-source_refused_only
+returns-clause-source_refused_only g c = source_refused_only _ _ _ _ _ c.call.ensures.answer
+
+pub returns-clause-source_refused : goal.returns-clause-source_refused
+returns-clause-source_refused g c = source_refused _ _ _ _ _ c.call.ensures.answer

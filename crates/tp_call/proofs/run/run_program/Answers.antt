@@ -1,0 +1,41 @@
+use Rattle.std.proofs.Common.{inr, arith}
+use Rattle.std.proofs.lemmas.Result.{err_from_is_err_and}
+use Rattle.tp_call.specs.Places.{place_of}
+use Rattle.tp_call.proofs.RunLemmas.{HasWritten-more, next_state}
+use Rattle.tp_call.proofs.run.run_program.Goals as goal
+
+pub returns-in_err-status-clause-made : goal.returns-in_err-status-clause-made
+returns-in_err-status-clause-made g c =
+    let p = err_from_is_err_and c.from_residual-in_err-status.result c.from_residual-in_err-status.ensures.1 in
+    rw (p.1, p.2) (inr (record {
+      from = place_of c.loop-picture.run;
+      to = place_of c.make_state.new.run;
+      middle = g.K.Sink.written c.loop-picture.out;
+      settled = c.loop-picture.invariant.written;
+      stopped = c.in_err-status.ensures.made _ c.loop-picture.invariant.run;
+    }))
+
+pub returns-in-Some-clause-made : goal.returns-in-Some-clause-made
+returns-in-Some-clause-made g c =
+    inr (record {
+      from = place_of c.loop-picture.run;
+      to = place_of c.make_state.new.run;
+      middle = g.K.Sink.written c.loop-picture.out;
+      settled = c.loop-picture.invariant.written;
+      stopped = (rw c.in-Some.is at c.in_ok-status.ensures.made) _ c.loop-picture.invariant.run;
+    })
+
+pub loop-picture-preserved : goal.loop-picture-preserved
+loop-picture-preserved g c =
+    let made = (rw c.in_default.is at c.in_ok-status.ensures.made) _ c.loop-picture.invariant.run in
+    record {
+      written = HasWritten-more _ (place_of c.loop-picture.run) (place_of c.make_state.new.run) _ _ _ made.0 c.loop-picture.invariant.written made.1 made.2;
+      run = c.in_ok-status.ensures.run _ c.loop-picture.invariant.run;
+      later = omega arith;
+    }
+
+pub loop-picture-smaller : goal.loop-picture-smaller
+loop-picture-smaller g c =
+    let made = (rw c.in_default.is at c.in_ok-status.ensures.made) _ c.loop-picture.invariant.run in
+    let next = next_state _ (place_of c.loop-picture.run) (place_of c.make_state.new.run) _ _ made.0 c.loop-picture.invariant.written made.1 in
+    omega (arith, next.within, next.next)

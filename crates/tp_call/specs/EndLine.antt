@@ -1,0 +1,79 @@
+-- The end line of each status, and its code.
+use Rattle.std.specs.Prelude.{ℕ, List, [], ◌++◌, codes}
+use Rattle.std.specs.Fmt.{decimal}
+use Rattle.tp_call.specs.declared.status.Status.{Status}
+use Rattle.tp_call.specs.declared.status.Status.TheVariants.{Finished, Contradictory, Undetermined, StateLimit, ReductionLimit, NumberLimit, ListLimit, CallLimit, NestLimit, InputMissing, SourceRefused, WordsRefused, TooLong, ReadFault, WriteFault, NoMemory}
+use Rattle.tp_call.specs.declared.status.Which.{Which}
+use Rattle.tp_call.specs.declared.status.Which.TheVariants.{Source}
+use Rattle.tp_call.specs.declared.status.SourceKind.{SourceKind}
+use Rattle.tp_call.specs.declared.status.SourceKind.TheVariants.{BadByte, OpenComment, NumberTooLarge, NameTooLong, Unexpected, Unfinished, TooDeep, WrongCount, NotExpression, NotPlace, NotExecutable}
+use Rattle.tp_call.specs.declared.run.TheConstants.{REDUCTIONS}
+use Rattle.tp_call.specs.Texts.{cell_text, clash_text}
+
+abbrev pub which_text : Which → List ℕ
+which_text Source = codes "source"
+
+abbrev pub kind_text : SourceKind → List ℕ
+kind_text BadByte = codes "bad byte"
+kind_text OpenComment = codes "open comment"
+kind_text NumberTooLarge = codes "number too large"
+kind_text NameTooLong = codes "name too long"
+kind_text Unexpected = codes "unexpected"
+kind_text Unfinished = codes "unfinished"
+kind_text TooDeep = codes "too deep"
+kind_text WrongCount = codes "wrong count"
+kind_text NotExpression = codes "not an expression"
+kind_text NotPlace = codes "not a place"
+kind_text NotExecutable = codes "not executable"
+
+abbrev pub place_text : ℕ → ℕ → List ℕ
+place_text line column = codes "source refused: line " ++ decimal line ++ codes " column " ++ decimal column
+
+-- a word for a status, and the state that it speaks of
+abbrev pub state_text : List ℕ → ℕ → List ℕ
+state_text word state = word ++ codes ": state " ++ decimal state
+
+-- a state took as many reductions as it may, and one more applies
+abbrev pub reductions_text : ℕ → List ℕ
+reductions_text state = state_text (codes "reduction limit") state ++ (codes ": " ++ decimal REDUCTIONS) ++ codes " reductions"
+
+-- what the end line of a call says that ran a program with these global variables, or none; two answers have no end line
+abbrev pub last_words : List (List ℕ) → Status → List ℕ
+last_words names (Finished length) = codes "finished: length " ++ decimal length
+last_words names (Contradictory state clash) = state_text (codes "contradictory") state ++ codes ": " ++ clash_text names clash
+last_words names (Undetermined state cell) = state_text (codes "undetermined") state ++ codes ": " ++ cell_text names cell
+last_words names (StateLimit states) = codes "state limit: " ++ decimal states
+last_words names (ReductionLimit state) = reductions_text state
+last_words names (NumberLimit state) = state_text (codes "number limit") state
+last_words names (ListLimit state) = state_text (codes "list limit") state
+last_words names (CallLimit state) = state_text (codes "call limit") state
+last_words names (NestLimit state) = state_text (codes "nest limit") state
+last_words names (InputMissing state port) = state_text (codes "input missing") state ++ codes ": port " ++ port
+last_words names (SourceRefused line column kind) = place_text line column ++ codes ": " ++ kind_text kind
+last_words names WordsRefused = codes "words refused"
+last_words names (TooLong which) = codes "too long: " ++ which_text which
+last_words names (ReadFault which) = codes "read fault: " ++ which_text which
+last_words names WriteFault = []
+last_words names NoMemory = []
+
+abbrev pub end_line : List (List ℕ) → Status → List ℕ
+end_line names status = last_words names status ++ codes "\n"
+
+-- the exit status of the program
+abbrev pub code_of : Status → ℕ
+code_of (Finished length) = 0
+code_of (Contradictory state clash) = 1
+code_of (Undetermined state cell) = 2
+code_of (StateLimit states) = 3
+code_of (ReductionLimit state) = 4
+code_of (NumberLimit state) = 5
+code_of (ListLimit state) = 6
+code_of (CallLimit state) = 7
+code_of (NestLimit state) = 8
+code_of (InputMissing state port) = 9
+code_of (SourceRefused line column kind) = 10
+code_of WordsRefused = 12
+code_of (TooLong which) = 13
+code_of (ReadFault which) = 14
+code_of WriteFault = 15
+code_of NoMemory = 16

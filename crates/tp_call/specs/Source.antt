@@ -1,0 +1,83 @@
+-- Which program a source is, or where and why it is refused.
+use Rattle.std.specs.Prelude.{◌≡◌, ◌⊎◌, ℕ, List, length, Option, None, Some, slice_get, Ok, Err}
+use Rattle.tp_lex.specs.declared.token.Token.{Token}
+use Rattle.tp_lex.specs.declared.refusal.LexRefusal.{LexRefusal}
+use Rattle.tp_lex.specs.declared.refusal.LexRefusal.TheVariants as lex
+use Rattle.tp_lex.specs.Tokens.{AreTokens, IsRefused}
+use Rattle.tp_lex.specs.Place.{place_of}
+use Rattle.tp_tree.specs.Tree.{SourceTree}
+use Rattle.tp_parse.specs.declared.refusal.ParseRefusal.{ParseRefusal}
+use Rattle.tp_parse.specs.declared.refusal.ParseRefusal.TheVariants as parse
+use Rattle.tp_parse.specs.Grammar.{Accepts}
+use Rattle.tp_parse.specs.Source.{outcome_of}
+use Rattle.tp_check.specs.Program.{ProgramTree, program_of}
+use Rattle.tp_check.specs.declared.refusal.CheckRefusal.{CheckRefusal}
+use Rattle.tp_check.specs.declared.refusal.CheckRefusal.TheVariants as check
+use Rattle.tp_call.specs.declared.status.SourceKind.{SourceKind}
+use Rattle.tp_call.specs.declared.status.SourceKind.TheVariants.{BadByte, OpenComment, NumberTooLarge, NameTooLong, Unexpected, Unfinished, TooDeep, WrongCount, NotExpression, NotPlace, NotExecutable}
+use Rattle.tp_call.specs.declared.refused.Refused.{Refused}
+
+-- This text is this program: its tokens are a source of the grammar, which the checker makes the program.
+pub record IsProgram (source : List ℕ) (program : ProgramTree) : Type 0 where
+  pub tokens : List Token
+  pub tree : SourceTree
+  pub are_tokens : AreTokens source tokens
+  pub accepted : Accepts tokens tree
+  pub checked : program_of tree ≡ Ok program
+
+-- the line and column of the byte, with the kind of refusal there
+abbrev pub refused_at : List ℕ → ℕ → SourceKind → Refused
+refused_at source at kind = let place = place_of source at in record { line = place.line; column = place.column; kind = kind }
+
+abbrev pub lexer_refusal : List ℕ → LexRefusal → Option Refused
+lexer_refusal source (lex.BadByte at) = Some (refused_at source at BadByte)
+lexer_refusal source (lex.OpenComment at) = Some (refused_at source at OpenComment)
+lexer_refusal source (lex.NumberTooLarge at) = Some (refused_at source at NumberTooLarge)
+lexer_refusal source (lex.NameTooLong at) = Some (refused_at source at NameTooLong)
+lexer_refusal source lex.NoMemory = None
+
+abbrev pub at_token : SourceKind → Option Token → Option Refused
+at_token kind None = None
+at_token kind (Some t) = Some (record { line = t.line; column = t.column; kind = kind })
+
+-- a source that isn't finished is refused behind its last byte
+abbrev pub parser_refusal : List ℕ → List Token → ParseRefusal → Option Refused
+parser_refusal source tokens (parse.Unexpected i) = at_token Unexpected (slice_get tokens i)
+parser_refusal source tokens parse.Unfinished = Some (refused_at source (length source) Unfinished)
+parser_refusal source tokens (parse.TooDeep i) = at_token TooDeep (slice_get tokens i)
+parser_refusal source tokens parse.NoMemory = None
+
+abbrev pub checker_refusal : List ℕ → CheckRefusal → Option Refused
+checker_refusal source (check.WrongCount at) = Some (refused_at source at WrongCount)
+checker_refusal source (check.NotExpression at) = Some (refused_at source at NotExpression)
+checker_refusal source (check.NotPlace at) = Some (refused_at source at NotPlace)
+checker_refusal source (check.NotExecutable at) = Some (refused_at source at NotExecutable)
+checker_refusal source check.NoMemory = None
+
+-- the text has no tokens, since it is refused so
+pub record HasNoTokens (source : List ℕ) (refused : Refused) : Type 0 where
+  pub refusal : LexRefusal
+  pub is_refused : IsRefused source refusal
+  pub answer : lexer_refusal source refusal ≡ Some refused
+
+-- the text has tokens that are no source of the grammar
+pub record HasNoTree (source : List ℕ) (refused : Refused) : Type 0 where
+  pub tokens : List Token
+  pub refusal : ParseRefusal
+  pub are_tokens : AreTokens source tokens
+  pub outcome : outcome_of tokens ≡ Err refusal
+  pub answer : parser_refusal source tokens refusal ≡ Some refused
+
+-- the text is a source of the grammar that isn't run
+pub record IsNotRun (source : List ℕ) (refused : Refused) : Type 0 where
+  pub tokens : List Token
+  pub tree : SourceTree
+  pub refusal : CheckRefusal
+  pub are_tokens : AreTokens source tokens
+  pub accepted : Accepts tokens tree
+  pub outcome : program_of tree ≡ Err refusal
+  pub answer : checker_refusal source refusal ≡ Some refused
+
+-- This text is refused at this place, for this cause: the lexer's refusal comes before the parser's, and that before the checker's.
+abbrev pub IsRefusedAt : List ℕ → Refused → Type 0
+IsRefusedAt source refused = HasNoTokens source refused ⊎ HasNoTree source refused ⊎ IsNotRun source refused

@@ -1,0 +1,87 @@
+// Where and why a source is refused.
+ghost use Rattle.std.specs.Prelude.{◌≡◌, ◌≤◌, length, slice_get};
+ghost use Rattle.tp_call.specs.Source.{refused_at, at_token as token_refusal, lexer_refusal, parser_refusal, checker_refusal};
+
+use crate::status::SourceKind;
+use tp_check::CheckRefusal;
+use tp_lex::{LexRefusal, Tokens, place_of};
+use tp_parse::ParseRefusal;
+
+/// The line and the column, counted from 1, and the kind of a refusal.
+#[derive(Clone, Copy, Debug, PartialEq, Eq)]
+pub struct Refused {
+    pub line: u64,
+    pub column: u64,
+    pub kind: SourceKind,
+}
+
+// The line and column of a byte, or of the end.
+fn at_byte(source: &[u8], at: usize, kind: SourceKind) -> Refused
+    requires { length source.now ≤ 1048576 }
+    ensures { result ≡ refused_at source.now at kind }
+{
+    let (line, column) = place_of(source, at.min(source.len()));
+    Refused {
+        line: u64::from(line),
+        column: u64::from(column),
+        kind,
+    }
+}
+
+fn at_token(tokens: &Tokens, number: usize, kind: SourceKind) -> Option<Refused>
+    ensures { result ≡ token_refusal kind (slice_get tokens.now number) }
+{
+    let token = tokens.items.get(number)?;
+    Some(Refused {
+        line: u64::from(token.line),
+        column: u64::from(token.column),
+        kind,
+    })
+}
+
+/// Where and why a text has no tokens; none where memory was wanted.
+pub fn by_lexer(source: &[u8], refusal: LexRefusal) -> Option<Refused>
+    requires { length source.now ≤ 1048576 }
+    ensures { result ≡ lexer_refusal source.now refusal }
+{
+    match refusal {
+        LexRefusal::BadByte { at } => Some(at_byte(source, at, SourceKind::BadByte)),
+        LexRefusal::OpenComment { at } => Some(at_byte(source, at, SourceKind::OpenComment)),
+        LexRefusal::NumberTooLarge { at } => Some(at_byte(source, at, SourceKind::NumberTooLarge)),
+        LexRefusal::NameTooLong { at } => Some(at_byte(source, at, SourceKind::NameTooLong)),
+        LexRefusal::NoMemory => None,
+    }
+}
+
+/// Where and why tokens are no source; none where memory was wanted.
+pub fn by_parser(source: &[u8], tokens: &Tokens, refusal: ParseRefusal) -> Option<Refused>
+    requires { length source.now ≤ 1048576 }
+    ensures { result ≡ parser_refusal source.now tokens.now refusal }
+{
+    match refusal {
+        ParseRefusal::Unexpected { token } => at_token(tokens, token, SourceKind::Unexpected),
+        ParseRefusal::Unfinished => Some(at_byte(source, source.len(), SourceKind::Unfinished)),
+        ParseRefusal::TooDeep { token } => at_token(tokens, token, SourceKind::TooDeep),
+        ParseRefusal::NoMemory => None,
+    }
+}
+
+/// Where and why a source is not run; none where memory was wanted.
+pub fn by_checker(source: &[u8], refusal: CheckRefusal) -> Option<Refused>
+    requires { length source.now ≤ 1048576 }
+    ensures { result ≡ checker_refusal source.now refusal }
+{
+    match refusal {
+        CheckRefusal::WrongCount { at } => {
+            Some(at_byte(source, at as usize, SourceKind::WrongCount))
+        }
+        CheckRefusal::NotExpression { at } => {
+            Some(at_byte(source, at as usize, SourceKind::NotExpression))
+        }
+        CheckRefusal::NotPlace { at } => Some(at_byte(source, at as usize, SourceKind::NotPlace)),
+        CheckRefusal::NotExecutable { at } => {
+            Some(at_byte(source, at as usize, SourceKind::NotExecutable))
+        }
+        CheckRefusal::NoMemory => None,
+    }
+}

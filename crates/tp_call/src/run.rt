@@ -1,0 +1,140 @@
+// Running a program, and writing its states.
+ghost use Rattle.std.specs.Prelude.{◌≡◌, ◌≤◌, None, IfOk, IsErrOf};
+ghost use Rattle.tp_io.specs.Devices.{Rose, Writes};
+ghost use Rattle.tp_kernel.specs.Read.{formula_tree};
+ghost use Rattle.tp_kernel.specs.Built.{IsBuilt};
+ghost use Rattle.tp_scene.specs.StandsFor.{first_moment};
+ghost use Rattle.tp_run.specs.States.{Plan, open_at};
+ghost use Rattle.tp_run.specs.Runs.{standing_of, next_state_of, IsRunOf};
+ghost use Rattle.tp_call.specs.Run.{plan_of};
+ghost use Rattle.tp_call.specs.Line.{AreFactsOf, state_line};
+ghost use Rattle.tp_call.specs.Progress.{TurnMade, ProgramMade};
+ghost use Rattle.tp_call.specs.Parts.{limit_end};
+ghost use Rattle.tp_call.specs.Places.{place_of, IsOpen};
+
+use crate::line::state_text;
+use crate::status::Status;
+use std::alloc::Global;
+use std::rc::Rc;
+use std::sync::ledger::Ledger;
+use tp_inputs::Inputs;
+use tp_io::{Sink, WriteRefusal};
+use tp_kernel::{Formula, LimitKind};
+use tp_run::{Limits, Picture, Run, Turn};
+use tp_step::{Order, Shows, Steps};
+use tp_value::{Facts, Globals, NoMemory};
+
+/// How many states a run has at most.
+pub const STATES: u64 = 1000;
+
+/// How many reductions a state takes at most.
+pub const REDUCTIONS: u64 = 100_000;
+
+// Writes a settled state, by one write.
+fn write_state<K: Sink>(
+    alloc: Global,
+    picture: &Picture,
+    globals: &Globals,
+    out: &mut K,
+) -> Result<(), WriteRefusal>
+    requires { AreFactsOf globals.now picture.now.facts }
+    ensures written { Writes (K.written out.old) (K.written out.new) (state_line globals.now picture.now) result }
+    ensures later { K.faults out.old ≤ K.faults out.new }
+    ensures cause { IsErrOf result WriteRefusal.Failed → Rose K.greatest (K.faults out.old) (K.faults out.new) }
+{
+    let line = state_text(alloc, picture, globals)?;
+    out.write(alloc, line.as_slice())
+}
+
+// The status of a run that passes a limit in this state.
+fn limit_status(state: u64, limit: LimitKind) -> Status
+    ensures { result ≡ limit_end state limit }
+{
+    match limit {
+        LimitKind::Reductions => Status::ReductionLimit { state },
+        LimitKind::Number => Status::NumberLimit { state },
+        LimitKind::List => Status::ListLimit { state },
+        LimitKind::Calls => Status::CallLimit { state },
+        LimitKind::Nest => Status::NestLimit { state },
+    }
+}
+
+// Makes the next state, and writes it where it is settled; gives the status where the run ends with it.
+fn make_state<K: Sink, L: Ledger>(
+    alloc: Global,
+    run: &mut Run,
+    picture: &mut Picture,
+    globals: &Globals,
+    out: &mut K,
+    steps: &mut Steps<L>,
+) -> Result<Option<Status>, WriteRefusal>
+    requires run { (plan : Plan) × (plan.names ≡ globals.now) × IsRunOf plan run.old }
+    requires open { IsOpen (standing_of run.old) }
+    ensures run { (plan : Plan) → IsRunOf plan run.old → IsRunOf plan run.new }
+    ensures made { (plan : Plan) → IsRunOf plan run.old → TurnMade plan globals.now (place_of run.old) (place_of run.new) (K.written out.old) (K.written out.new) result }
+    ensures later { K.faults out.old ≤ K.faults out.new }
+    ensures cause { IsErrOf result WriteRefusal.Failed → Rose K.greatest (K.faults out.old) (K.faults out.new) }
+{
+    match run.state(picture, steps)? {
+        Turn::Went => {
+            write_state(alloc, picture, globals, out)?;
+            Ok(None)
+        }
+        Turn::Finished { length } => {
+            write_state(alloc, picture, globals, out)?;
+            Ok(Some(Status::Finished { length }))
+        }
+        Turn::Contradictory { state, clash } => Ok(Some(Status::Contradictory { state, clash })),
+        Turn::Undetermined { state, cell } => Ok(Some(Status::Undetermined { state, cell })),
+        Turn::StateLimit { states } => Ok(Some(Status::StateLimit { states })),
+        Turn::InputMissing { state, port } => Ok(Some(Status::InputMissing { state, port })),
+        Turn::Over { state, limit } => Ok(Some(limit_status(state, limit))),
+    }
+}
+
+// A run of the program's formula, without inputs, before its first state.
+fn start(alloc: Global, main: Rc<Formula>, globals: &Globals) -> Result<Run, NoMemory>
+    requires { IsBuilt globals.now (formula_tree main.value) }
+    ensures stands { IfOk result (λ run. standing_of run ≡ open_at (first_moment globals.now (formula_tree main.value))) }
+    ensures state { IfOk result (λ run. next_state_of run ≡ 0) }
+    ensures run { IfOk result (IsRunOf (plan_of (record { main = formula_tree main.value; names = globals.now }))) }
+{
+    let inputs = Inputs::none(alloc)?;
+    let limits = Limits {
+        states: STATES,
+        reductions: REDUCTIONS,
+    };
+    let run = Run::start(alloc, main, globals, inputs, limits, Order::First)?;
+    Ok(run)
+}
+
+/// Runs the program, and writes each state as it is settled. At `Err` a write failed, or memory was wanted.
+pub fn run_program<K: Sink, L: Ledger>(
+    alloc: Global,
+    main: Rc<Formula>,
+    globals: &Globals,
+    out: &mut K,
+    steps: &mut Steps<L>,
+) -> Result<Status, WriteRefusal>
+    requires { IsBuilt globals.now (formula_tree main.value) }
+    ensures made { ProgramMade (record { main = formula_tree main.value; names = globals.now }) (K.written out.old) (K.written out.new) result }
+    ensures later { K.faults out.old ≤ K.faults out.new }
+    ensures cause { IsErrOf result WriteRefusal.Failed → Rose K.greatest (K.faults out.old) (K.faults out.new) }
+{
+    let mut run = start(alloc, main, globals)?;
+    let mut picture = Picture {
+        state: 0,
+        facts: Facts {
+            items: Vec::new(alloc),
+        },
+        shows: Shows {
+            items: Vec::new(alloc),
+        },
+        reductions: 0,
+    };
+    loop {
+        if let Some(status) = make_state(alloc, &mut run, &mut picture, globals, out, steps)? {
+            return Ok(status);
+        }
+    }
+}

@@ -1,0 +1,29 @@
+//! Tests of the calls of all other crates: tables of rows, one for each crate.
+#![tactic(auto)]
+
+#[cfg(test)]
+mod answers;
+#[cfg(test)]
+mod calls;
+#[cfg(test)]
+mod devices;
+#[cfg(test)]
+mod formulas;
+#[cfg(test)]
+mod inputs;
+#[cfg(test)]
+mod outcomes;
+#[cfg(test)]
+mod phrases;
+#[cfg(test)]
+mod programs;
+#[cfg(test)]
+mod runs;
+#[cfg(test)]
+mod steps;
+#[cfg(test)]
+mod stores;
+#[cfg(test)]
+mod tokens;
+#[cfg(test)]
+mod values;

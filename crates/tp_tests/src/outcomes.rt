@@ -1,0 +1,390 @@
+// The outcomes of expressions, row by row.
+ghost use Rattle.std.specs.Prelude.{◌≡◌, ◌∷◌, [], IfOk, false};
+ghost use Rattle.tp_kernel.specs.Read.{definitions_of};
+ghost use Rattle.tp_store.specs.Known.{IsVariableOf, global_variable};
+
+use tp_eval::{Outcome, PlaceOutcome, eval, is_place, place};
+use std::alloc::Global;
+use std::rc::Rc;
+use std::test::Fail;
+use tp_kernel::{Binding, Defs, Env, Expr, Exprs, Op2};
+use tp_store::{AddRefusal, Store};
+use tp_value::{Globals, Indices, Items, NoMemory, Path, Text, Value, VarId};
+
+fn no_definitions(alloc: Global) -> Defs
+    ensures { definitions_of result ≡ [] }
+{
+    Defs {
+        items: Vec::new(alloc),
+    }
+}
+
+// The state variable A alone.
+fn one_variable(alloc: Global) -> Result<Store, NoMemory>
+    ensures { IfOk result (λ store. store.variables ≡ global_variable (65 ∷ []) ∷ []) }
+{
+    let mut globals = Globals::new(alloc)?;
+    let name = Text::from_slice(alloc, b"A".as_slice())?;
+    globals.add(&name)?;
+    let store = Store::new(alloc, &globals)?;
+    Ok(store)
+}
+
+fn path(alloc: Global, at: &[u32]) -> Result<Path, NoMemory>
+    ensures { IfOk result (λ path. path.var ≡ record { number = 0; lasting = false }) }
+{
+    let mut indices = Indices::new(alloc);
+    indices.items.extend_from_slice(at)?;
+    Ok(Path {
+        var: VarId {
+            number: 0,
+            lasting: false,
+        },
+        at: indices,
+    })
+}
+
+fn known_number(store: &mut Store, path: &Path, n: u32) -> Result<(), AddRefusal>
+    requires { IsVariableOf store.old.variables path.now.var }
+    ensures { store.new.variables ≡ store.old.variables }
+{
+    let _news = store.add(path, &Value::Num(n as i64))?;
+    Ok(())
+}
+
+fn known_length(store: &mut Store, path: &Path, n: u32) -> Result<(), AddRefusal>
+    requires { IsVariableOf store.old.variables path.now.var }
+    ensures { store.new.variables ≡ store.old.variables }
+{
+    let _news = store.add_length(path, n)?;
+    Ok(())
+}
+
+fn refusal(answer: Result<(), AddRefusal>) -> Result<(), Fail> {
+    match answer {
+        Ok(()) => Ok(()),
+        Err(_) => Err(NoMemory.into()),
+    }
+}
+
+// A is a list of three items, of which the first is 5 and of the second nothing is known; the third is an empty list.
+fn known_state(alloc: Global) -> Result<Store, Fail> {
+    let mut store = one_variable(alloc)?;
+    let whole = path(alloc, [].as_slice())?;
+    let answer = known_length(&mut store, &whole, 3);
+    refusal(answer)?;
+    let first = path(alloc, [0].as_slice())?;
+    let answer = known_number(&mut store, &first, 5);
+    refusal(answer)?;
+    let third = path(alloc, [2].as_slice())?;
+    let answer = known_length(&mut store, &third, 0);
+    refusal(answer)?;
+    Ok(store)
+}
+
+fn list_of(alloc: Global, count: usize) -> Result<Rc<Value>, NoMemory> {
+    let mut items = Vec::new(alloc);
+    for _ in 0..count {
+        items.push(Value::Num(6))?;
+    }
+    let list = Rc::new(alloc, Value::List(Items { items }))?;
+    Ok(list)
+}
+
+// Bound names: a list of two numbers, the place of A's second item, and a place with 100 indices.
+fn environment(alloc: Global) -> Result<Env, NoMemory> {
+    let mut deep = path(alloc, [].as_slice())?;
+    for _ in 0..100 {
+        deep.at.items.push(1)?;
+    }
+    let second = path(alloc, [1].as_slice())?;
+    let items = vec![in alloc;
+        Binding::Known(list_of(alloc, 2)?),
+        Binding::Place(second),
+        Binding::Place(deep),
+    ]?;
+    Ok(Env { items })
+}
+
+// The expression of one letter: a digit, the greatest number `M`, the least `i64` `L`, 65,535 `x` and 65,536 `y`, the truth values `t` and
+// `f`, the empty list `e`, a list of 65,536 items `F`, the variable `A`, and the bound names `b`, `c` and `d`.
+fn leaf(alloc: Global, letter: u8) -> Result<Option<Expr>, NoMemory> {
+    let e = match letter {
+        b'0'..=b'9' => Expr::Number((letter - 48) as i64),
+        b'M' => Expr::Number(i64::MAX),
+        b'L' => Expr::Number(i64::MIN),
+        b'x' => Expr::Number(65_535),
+        b'y' => Expr::Number(65_536),
+        b't' => Expr::Truth(true),
+        b'f' => Expr::Truth(false),
+        b'e' => Expr::List(Exprs {
+            items: Vec::new(alloc),
+        }),
+        b'F' => Expr::Known(list_of(alloc, 65_536)?),
+        b'A' => Expr::Global(VarId {
+            number: 0,
+            lasting: false,
+        }),
+        b'b' => Expr::Bound(0),
+        b'c' => Expr::Bound(1),
+        b'd' => Expr::Bound(2),
+        _ => return Ok(None),
+    };
+    Ok(Some(e))
+}
+
+fn operator(letter: u8) -> Op2 {
+    match letter {
+        b'=' => Op2::Equal,
+        b'#' => Op2::Differs,
+        b'<' => Op2::Less,
+        b'(' => Op2::LessEqual,
+        b'>' => Op2::Greater,
+        b')' => Op2::GreaterEqual,
+        b'+' => Op2::Plus,
+        b'-' => Op2::Minus,
+        b'*' => Op2::Times,
+        b'/' => Op2::Div,
+        _ => Op2::Mod,
+    }
+}
+
+fn top(stack: &mut Vec<Expr>) -> Result<Expr, Fail> {
+    match stack.pop() {
+        Some(e) => Ok(e),
+        None => Err("no operand".into()),
+    }
+}
+
+fn shared(alloc: Global, stack: &mut Vec<Expr>) -> Result<Rc<Expr>, Fail> {
+    let e = top(stack)?;
+    let e = Rc::new(alloc, e)?;
+    Ok(e)
+}
+
+fn pair(alloc: Global, stack: &mut Vec<Expr>) -> Result<Exprs, Fail> {
+    let second = top(stack)?;
+    let first = top(stack)?;
+    let mut items = Vec::new(alloc);
+    items.push(first)?;
+    items.push(second)?;
+    Ok(Exprs { items })
+}
+
+fn binary(alloc: Global, stack: &mut Vec<Expr>, letter: u8) -> Result<Expr, Fail> {
+    let second = shared(alloc, stack)?;
+    let first = shared(alloc, stack)?;
+    match letter {
+        b'|' => Ok(Expr::Either(first, second)),
+        b'@' => Ok(Expr::Index(first, second)),
+        _ => Ok(Expr::Op(operator(letter), first, second)),
+    }
+}
+
+fn choice(alloc: Global, stack: &mut Vec<Expr>) -> Result<Expr, Fail> {
+    let second = shared(alloc, stack)?;
+    let first = shared(alloc, stack)?;
+    let condition = shared(alloc, stack)?;
+    Ok(Expr::If(condition, first, second))
+}
+
+// What a letter makes of the expressions before it: `~` minus, `!` not, `s` the size, `&` and, `,` a list of two, `?` if, `|` or, `@` the
+// element, and the operators.
+fn made(alloc: Global, stack: &mut Vec<Expr>, letter: u8) -> Result<Expr, Fail> {
+    match letter {
+        b'~' => Ok(Expr::Minus(shared(alloc, stack)?)),
+        b'!' => Ok(Expr::Not(shared(alloc, stack)?)),
+        b's' => Ok(Expr::Size(shared(alloc, stack)?)),
+        b'&' => Ok(Expr::Both(pair(alloc, stack)?)),
+        b',' => Ok(Expr::List(pair(alloc, stack)?)),
+        b'?' => choice(alloc, stack),
+        _ => binary(alloc, stack, letter),
+    }
+}
+
+// The expression that is spelled with its operators behind their operands.
+fn read(alloc: Global, text: &[u8]) -> Result<Expr, Fail> {
+    let mut stack = Vec::new(alloc);
+    for letter in text {
+        let e = match leaf(alloc, *letter)? {
+            Some(e) => e,
+            None => made(alloc, &mut stack, *letter)?,
+        };
+        stack.push(e)?;
+    }
+    top(&mut stack)
+}
+
+fn outcome_text(alloc: Global, outcome: Outcome) -> Result<String, Fail> {
+    let text = match outcome {
+        Outcome::Value(Value::Num(n)) => format!(in alloc; "{n}")?,
+        Outcome::Value(Value::Truth(b)) => format!(in alloc; "{b}")?,
+        Outcome::Value(Value::List(all)) => format!(in alloc; "list of {}", all.items.len())?,
+        Outcome::Wait(path) => format!(in alloc; "wait at {}", path.at.items.len())?,
+        Outcome::Fault(kind) => format!(in alloc; "{kind:?}")?,
+        Outcome::Over(kind) => format!(in alloc; "over {kind:?}")?,
+    };
+    Ok(text)
+}
+
+fn value_text(alloc: Global, e: &Expr) -> Result<String, Fail> {
+    let store = known_state(alloc)?;
+    let env = environment(alloc)?;
+    let defs = no_definitions(alloc);
+    let outcome = eval(alloc, e, &env, &store, &defs)?;
+    outcome_text(alloc, outcome)
+}
+
+fn place_text(alloc: Global, e: &Expr) -> Result<String, Fail> {
+    let store = known_state(alloc)?;
+    let env = environment(alloc)?;
+    let defs = no_definitions(alloc);
+    if !is_place(e) {
+        let text = format!(in alloc; "no place")?;
+        return Ok(text);
+    }
+    let found = place(alloc, e, &env, &store, &defs)?;
+    match found {
+        PlaceOutcome::Place(path) => {
+            let text = format!(in alloc; "place at {}", path.at.items.len())?;
+            Ok(text)
+        }
+        PlaceOutcome::Other(outcome) => outcome_text(alloc, outcome),
+    }
+}
+
+const VALUES: [(&str, &str); 62] = [
+    ("L", "over Number"),
+    ("M0+", "9223372036854775807"),
+    ("M1+", "over Number"),
+    ("M~0-", "-9223372036854775807"),
+    ("M~1-", "over Number"),
+    ("23~*", "-6"),
+    ("7~2/", "-4"),
+    ("7~2%", "1"),
+    ("72~%", "-1"),
+    ("70%", "ZeroDivisor"),
+    ("10/", "ZeroDivisor"),
+    ("t~", "WrongKind"),
+    ("33<", "false"),
+    ("33(", "true"),
+    ("32>", "true"),
+    ("33)", "true"),
+    ("1t=", "false"),
+    ("1t<", "WrongKind"),
+    ("10/t~+", "ZeroDivisor"),
+    ("t~10/+", "WrongKind"),
+    ("t0/", "WrongKind"),
+    ("t10/+", "ZeroDivisor"),
+    ("t10/|", "true"),
+    ("f10/|", "ZeroDivisor"),
+    ("f1|", "WrongKind"),
+    ("fA&", "false"),
+    ("ft~&", "false"),
+    ("tt&", "true"),
+    ("1A&", "WrongKind"),
+    ("t110/?", "1"),
+    ("f10/2?", "2"),
+    ("1tf?", "WrongKind"),
+    ("t!", "false"),
+    ("1!", "WrongKind"),
+    ("10/t~,", "ZeroDivisor"),
+    ("12,s", "2"),
+    ("1s", "WrongKind"),
+    ("89,1@", "9"),
+    ("89,2@", "NoElement"),
+    ("89,1~@", "NoElement"),
+    ("89,t@", "WrongKind"),
+    ("12,34,+", "list of 4"),
+    ("12,12,=", "true"),
+    ("Fe+", "list of 65536"),
+    ("F11,+", "over List"),
+    ("A", "wait at 1"),
+    ("A0@", "5"),
+    ("A1@", "wait at 1"),
+    ("A2@", "list of 0"),
+    ("A3@", "NoElement"),
+    ("Ax@", "NoElement"),
+    ("Ay@", "over List"),
+    ("As", "3"),
+    ("A0@s", "WrongKind"),
+    ("A1@s", "wait at 1"),
+    ("A3@s", "NoElement"),
+    ("b1@", "6"),
+    ("by@", "over List"),
+    ("bs", "2"),
+    ("c", "wait at 1"),
+    ("d", "wait at 100"),
+    ("d0@", "over List"),
+];
+
+const PLACES: [(&str, &str); 8] = [
+    ("1", "no place"),
+    ("10@", "no place"),
+    ("A", "place at 0"),
+    ("Ax@", "place at 1"),
+    ("c0@", "place at 2"),
+    ("b1@", "6"),
+    ("b2@", "NoElement"),
+    ("A10/@", "ZeroDivisor"),
+];
+
+fn agrees(alloc: Global, spelled: &str, found: &str, expected: &str) -> Result<(), Fail> {
+    if found == expected {
+        return Ok(());
+    }
+    let text = format!(in alloc; "{spelled}: {found} for {expected}")?;
+    Err(Fail::new(text))
+}
+
+fn values_agree(alloc: Global, rows: &[(&str, &str)]) -> Result<(), Fail> {
+    for (spelled, expected) in rows {
+        let e = read(alloc, spelled.as_bytes())?;
+        let found = value_text(alloc, &e)?;
+        agrees(alloc, spelled, found.as_str(), expected)?;
+    }
+    Ok(())
+}
+
+fn places_agree(alloc: Global, rows: &[(&str, &str)]) -> Result<(), Fail> {
+    for (spelled, expected) in rows {
+        let e = read(alloc, spelled.as_bytes())?;
+        let found = place_text(alloc, &e)?;
+        agrees(alloc, spelled, found.as_str(), expected)?;
+    }
+    Ok(())
+}
+
+#[test]
+fn expressions_are_evaluated(rt: HostRuntime) -> Result<(), Fail> {
+    values_agree(rt.alloc(), &VALUES)
+}
+
+#[test]
+fn places_are_found(rt: HostRuntime) -> Result<(), Fail> {
+    places_agree(rt.alloc(), &PLACES)
+}
+
+// The truth value under so many negations.
+fn nested(alloc: Global, count: usize) -> Result<Expr, NoMemory> {
+    let mut e = Expr::Truth(true);
+    for _ in 0..count {
+        let inner = Rc::new(alloc, e)?;
+        e = Expr::Not(inner);
+    }
+    Ok(e)
+}
+
+#[test]
+fn depths_are_limited(rt: HostRuntime) -> Result<(), Fail> {
+    for (count, expected) in [
+        (0, "true"),
+        (200, "true"),
+        (1999, "false"),
+        (2000, "over Calls"),
+    ] {
+        let e = nested(rt.alloc(), count)?;
+        assert_eq!(rt; value_text(rt.alloc(), &e)?.as_str(), expected, "{count}");
+    }
+    Ok(())
+}

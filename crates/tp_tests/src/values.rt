@@ -1,0 +1,273 @@
+// Each call that takes memory succeeds where there is enough, with the right value.
+use tp_value::{
+    Fact, Globals, Indices, Items, Path, ReadValue, Shape, Text, Value, VarId, difference,
+    is_number, is_within_list_limit, negated, product, quotient, read_value, remainder, same, sum,
+    write_value,
+};
+use std::alloc::Global;
+use std::test::Fail;
+
+// The values 1, true, [1, true] and [1, false].
+fn values(alloc: Global) -> Result<Vec<Value>, Fail> {
+    let first = vec![in alloc; Value::Num(1), Value::Truth(true)]?;
+    let second = vec![in alloc; Value::Num(1), Value::Truth(false)]?;
+    let all = vec![in alloc;
+        Value::Num(1),
+        Value::Truth(true),
+        Value::List(Items { items: first }),
+        Value::List(Items { items: second }),
+    ]?;
+    Ok(all)
+}
+
+#[test]
+fn values_are_copied(rt: HostRuntime) -> Result<(), Fail> {
+    let all = values(rt.alloc())?;
+    for (i, value) in all.iter().enumerate() {
+        let copy = value.copy(rt.alloc())?;
+        for (j, other) in all.iter().enumerate() {
+            assert_eq!(rt; same(&copy, other), i == j, "at {i} and {j}");
+        }
+    }
+    Ok(())
+}
+
+#[test]
+fn texts_and_facts_are_built(rt: HostRuntime) -> Result<(), Fail> {
+    let table = [
+        ("", "", ""),
+        ("a", "", "a"),
+        ("", "b", "b"),
+        ("ab", "cd", "abcd"),
+    ];
+    for (start, end, whole) in table {
+        let mut text = Text::new(rt.alloc());
+        text.append(start.as_bytes())?;
+        text.append(end.as_bytes())?;
+        let copy = text.copy()?;
+        let made = Text::from_slice(rt.alloc(), whole.as_bytes())?;
+        assert_eq!(rt; copy.as_slice(), made.as_slice(), "at {whole}");
+        assert_eq!(rt; made.len(), whole.len(), "at {whole}");
+    }
+    let items = vec![in rt.alloc(); 4u32, 0]?;
+    let var = VarId {
+        number: 3,
+        lasting: true,
+    };
+    let at = Indices { items };
+    let fact = Fact {
+        path: Path { var, at },
+        shape: Shape::Items(2),
+    };
+    let copy = fact.copy()?;
+    assert_eq!(rt; copy.path.var, var);
+    assert_eq!(rt; copy.path.at.items.as_slice(), [4, 0].as_slice());
+    assert_eq!(rt; copy.shape, Shape::Items(2));
+    let none = Indices::new(rt.alloc()).copy()?;
+    assert_eq!(rt; none.items.len(), 0);
+    Ok(())
+}
+
+#[test]
+fn names_are_numbered(rt: HostRuntime) -> Result<(), Fail> {
+    let mut globals = Globals::new(rt.alloc())?;
+    let table = [
+        ("A", 0, false),
+        ("b2", 1, true),
+        ("A", 0, false),
+        ("Ab", 2, false),
+        ("z", 3, true),
+        ("b2", 1, true),
+    ];
+    for (name, number, lasting) in table {
+        let text = Text::from_slice(rt.alloc(), name.as_bytes())?;
+        let var = globals.add(&text)?;
+        assert_eq!(rt; var, VarId { number, lasting }, "at {name}");
+        assert_eq!(rt; globals.find(&text), Some(var), "at {name}");
+        let kept = globals.name(number).ok_or("no name")?;
+        assert_eq!(rt; kept.as_slice(), name.as_bytes());
+    }
+    assert_eq!(rt; globals.len(), 4);
+    Ok(())
+}
+
+#[test]
+fn numbers_have_a_limit(rt: HostRuntime) {
+    let most = 9_223_372_036_854_775_807;
+    let table = [
+        (2, 3, Some(5)),
+        (most, 0, Some(most)),
+        (most, 1, None),
+        (-most, 0, Some(-most)),
+        (-most, -1, None),
+        (most, -most, Some(0)),
+    ];
+    for (a, b, total) in table {
+        assert_eq!(rt; sum(a, b), total, "at {a} and {b}");
+    }
+    assert!(rt; is_number(-most));
+    assert!(rt; !is_number(-most - 1));
+}
+
+#[test]
+fn numbers_are_divided(rt: HostRuntime) {
+    let most = 9_223_372_036_854_775_807;
+    let table = [
+        (7, 2, Some(3), Some(1)),
+        (-7, 2, Some(-4), Some(1)),
+        (7, -2, Some(-4), Some(-1)),
+        (-7, -2, Some(3), Some(-1)),
+        (6, -3, Some(-2), Some(0)),
+        (-most, -1, Some(most), Some(0)),
+        (-most - 1, -1, None, Some(0)),
+        (1, -most - 1, Some(-1), Some(-most)),
+    ];
+    for (a, b, whole, rest) in table {
+        assert_eq!(rt; quotient(a, b), whole, "at {a} and {b}");
+        assert_eq!(rt; remainder(a, b), rest, "at {a} and {b}");
+    }
+}
+
+#[test]
+fn numbers_are_reckoned(rt: HostRuntime) {
+    let most = 9_223_372_036_854_775_807;
+    let table = [
+        (5, 7, Some(-2), Some(35)),
+        (-most, 1, None, Some(-most)),
+        (most, -1, None, Some(-most)),
+        (3_037_000_500, 3_037_000_500, Some(0), None),
+        (
+            -2,
+            4_611_686_018_427_387_904,
+            Some(-4_611_686_018_427_387_906),
+            None,
+        ),
+    ];
+    for (a, b, left, times) in table {
+        assert_eq!(rt; difference(a, b), left, "at {a} and {b}");
+        assert_eq!(rt; product(a, b), times, "at {a} and {b}");
+    }
+    assert_eq!(rt; negated(3), Some(-3));
+    assert_eq!(rt; negated(-most), Some(most));
+    assert_eq!(rt; negated(-most - 1), None);
+}
+
+// A number in so many lists.
+fn nested(alloc: Global, depth: usize) -> Result<Value, Fail> {
+    let mut value = Value::Num(0);
+    for _ in 0..depth {
+        let items = vec![in alloc; value]?;
+        value = Value::List(Items { items });
+    }
+    Ok(value)
+}
+
+// A list of so many numbers.
+fn long(alloc: Global, length: usize) -> Result<Value, Fail> {
+    let mut items = Vec::new(alloc);
+    for _ in 0..length {
+        items.push(Value::Num(1))?;
+    }
+    Ok(Value::List(Items { items }))
+}
+
+#[test]
+fn lists_have_limits(rt: HostRuntime) -> Result<(), Fail> {
+    assert!(rt; is_within_list_limit(&nested(rt.alloc(), 100)?));
+    assert!(rt; !is_within_list_limit(&nested(rt.alloc(), 101)?));
+    assert!(rt; is_within_list_limit(&long(rt.alloc(), 65_536)?));
+    assert!(rt; !is_within_list_limit(&long(rt.alloc(), 65_537)?));
+    let items = vec![in rt.alloc(); long(rt.alloc(), 65_535)?]?;
+    assert!(rt; is_within_list_limit(&Value::List(Items { items })));
+    let items = vec![in rt.alloc(); long(rt.alloc(), 65_536)?]?;
+    assert!(rt; !is_within_list_limit(&Value::List(Items { items })));
+    Ok(())
+}
+
+#[test]
+fn values_are_read_and_written(rt: HostRuntime) -> Result<(), Fail> {
+    let table = [
+        ("12", 0, "12", 2),
+        ("-0;", 0, "0", 2),
+        ("X=-007 Y=1", 2, "-7", 6),
+        ("9223372036854775807", 0, "9223372036854775807", 19),
+        ("-9223372036854775807", 0, "-9223372036854775807", 20),
+        ("true1", 0, "true", 4),
+        ("false\n", 0, "false", 5),
+        ("<>>", 0, "<>", 2),
+        ("< 1 ,\t<\t> , false,<-2>>", 0, "<1,<>,false,<-2>>", 23),
+    ];
+    for (text, from, canonical, after) in table {
+        let (value, place) = match read_value(rt.alloc(), text.as_bytes(), from) {
+            Ok(read) => read,
+            Err(_) => return Err("no value")?,
+        };
+        let mut out = Text::from_slice(rt.alloc(), b"so: ")?;
+        write_value(&value, &mut out)?;
+        assert_eq!(rt; &out.as_slice()[4..], canonical.as_bytes(), "at {text}");
+        assert_eq!(rt; place, after, "at {text}");
+    }
+    Ok(())
+}
+
+#[test]
+fn texts_of_no_value_are_refused(rt: HostRuntime) -> Result<(), Fail> {
+    let table = [
+        ("", ReadValue::NoValue { at: 0 }),
+        (" 1", ReadValue::NoValue { at: 0 }),
+        ("+1", ReadValue::NoValue { at: 0 }),
+        ("tru", ReadValue::NoValue { at: 3 }),
+        ("truth", ReadValue::NoValue { at: 3 }),
+        ("- 1", ReadValue::NoValue { at: 1 }),
+        ("<1 2>", ReadValue::NoValue { at: 3 }),
+        ("<1,>", ReadValue::NoValue { at: 3 }),
+        ("<,1>", ReadValue::NoValue { at: 1 }),
+        ("<1\n>", ReadValue::NoValue { at: 2 }),
+        ("<1,<2>", ReadValue::NoValue { at: 6 }),
+        ("9223372036854775808", ReadValue::TooLarge { at: 0 }),
+        ("<1,-9223372036854775808;", ReadValue::TooLarge { at: 3 }),
+    ];
+    for (text, refusal) in table {
+        match read_value(rt.alloc(), text.as_bytes(), 0) {
+            Ok(_) => return Err("a value")?,
+            Err(answer) => assert_eq!(rt; answer, refusal, "at {text}"),
+        }
+    }
+    Ok(())
+}
+
+// A first text, and so many times another one.
+fn repeated(alloc: Global, first: &str, more: &str, times: usize) -> Result<Text, Fail> {
+    let mut text = Text::from_slice(alloc, first.as_bytes())?;
+    for _ in 0..times {
+        text.append(more.as_bytes())?;
+    }
+    Ok(text)
+}
+
+#[test]
+fn texts_past_the_limits_are_refused(rt: HostRuntime) -> Result<(), Fail> {
+    let mut deep = repeated(rt.alloc(), "", "<", 100)?;
+    for _ in 0..100 {
+        deep.append(b">")?;
+    }
+    let mut wide = repeated(rt.alloc(), "<1", ",1", 65_535)?;
+    wide.append(b">")?;
+    for text in [&deep, &wide] {
+        let read = read_value(rt.alloc(), text.as_slice(), 0);
+        assert!(rt; read.is_ok());
+    }
+    let deeper = repeated(rt.alloc(), "", "<", 101)?;
+    let wider = repeated(rt.alloc(), "<1", ",<>", 65_536)?;
+    let table = [
+        (&deeper, ReadValue::TooDeep { at: 100 }),
+        (&wider, ReadValue::TooLong { at: 196_608 }),
+    ];
+    for (text, refusal) in table {
+        match read_value(rt.alloc(), text.as_slice(), 0) {
+            Ok(_) => return Err("a value")?,
+            Err(answer) => assert_eq!(rt; answer, refusal),
+        }
+    }
+    Ok(())
+}
