@@ -15,6 +15,9 @@ fn repeat_is_made(rt: HostRuntime) -> Result<(), Fail> {
     let what = Rc::new(alloc, Formula::More)?;
     let until = Rc::new(alloc, Expr::Global(x))?;
     let made = spell(alloc, &repeat(alloc, what, until)?)?;
-    assert_eq!(rt; made.as_slice(), b"(; more (while (not X1) more))".as_slice());
+    assert_eq!(rt;
+        made.as_slice(),
+        b"(; more (while (not X1) more))".as_slice()
+    );
     Ok(())
 }

@@ -1,9 +1,11 @@
 // What several tests make.
-ghost use Rattle.std.specs.Prelude.{◌≡◌, IfOk, false};
+ghost use Rattle.std.specs.Prelude.{◌≡◌, ◌∷◌, [], IfOk, false};
+ghost use Rattle.tp_store.specs.Known.{global_variable};
 
 use std::alloc::Global;
 use tp_io::Content;
-use tp_value::{Indices, NoMemory, Path, Text, VarId};
+use tp_store::Store;
+use tp_value::{Globals, Indices, Items, NoMemory, Path, Text, Value, VarId};
 
 /// One file.
 pub fn contents(alloc: Global, name: &str, bytes: &[u8]) -> Result<Vec<Content>, NoMemory> {
@@ -49,4 +51,34 @@ pub fn series(
     }
     text.push_str(behind)?;
     Ok(text)
+}
+
+/// A number in so many lists.
+pub fn nested(alloc: Global, depth: usize) -> Result<Value, NoMemory> {
+    let mut value = Value::Num(0);
+    for _ in 0..depth {
+        let items = vec![in alloc; value]?;
+        value = Value::List(Items { items });
+    }
+    Ok(value)
+}
+
+/// A list of so many times the number 6.
+pub fn sixes(alloc: Global, count: usize) -> Result<Value, NoMemory> {
+    let mut items = Vec::new(alloc);
+    for _ in 0..count {
+        items.push(Value::Num(6))?;
+    }
+    Ok(Value::List(Items { items }))
+}
+
+/// The state variable A alone.
+pub fn one_variable(alloc: Global) -> Result<Store, NoMemory>
+    ensures { IfOk result (λ store. store.variables ≡ global_variable (65 ∷ []) ∷ []) }
+{
+    let mut globals = Globals::new(alloc)?;
+    let name = Text::from_slice(alloc, b"A".as_slice())?;
+    globals.add(&name)?;
+    let store = Store::new(alloc, &globals)?;
+    Ok(store)
 }

@@ -17,13 +17,22 @@ const STATES: [(&str, &str); 16] = [
     ("run not L[1].", "(= (index X0 1) false) over L"),
     ("run not (A = 1).", "(test (not (= X0 1))) over A"),
     ("run not |L|.", "(test (not (size X0))) over L"),
-    ("run A = 1 or not B.", "(test (or (= X0 1) (not X1))) over A B"),
-    ("run B and not a and A.", "(and (= X0 true) (= x1 false) (= X2 true)) over B a A"),
+    (
+        "run A = 1 or not B.",
+        "(test (or (= X0 1) (not X1))) over A B",
+    ),
+    (
+        "run B and not a and A.",
+        "(and (= X0 true) (= x1 false) (= X2 true)) over B a A",
+    ),
     ("run A < 1.", "(test (< X0 1)) over A"),
     ("run b + A.", "(test (+ x0 X1)) over b A"),
     ("run -A.", "(test (minus X0)) over A"),
     ("run <A, 1>.", "(test (list X0 1)) over A"),
-    ("run A = (if C and d or false then <1, -C> else d).", "(= X0 (if (or (and X1 x2) false) (list 1 (minus X1)) x2)) over A C d"),
+    (
+        "run A = (if C and d or false then <1, -C> else d).",
+        "(= X0 (if (or (and X1 x2) false) (list 1 (minus X1)) x2)) over A C d",
+    ),
 ];
 
 // Each operator between two expressions.
@@ -49,21 +58,36 @@ const OPERATORS: [(&str, &str); 17] = [
 
 // Formulas of more than one state.
 const DERIVED: [(&str, &str); 15] = [
-    ("run A gets B + 1.", "(always (ifmore (next= 1 X0 (+ X1 1)))) over A B"),
+    (
+        "run A gets B + 1.",
+        "(always (ifmore (next= 1 X0 (+ X1 1)))) over A B",
+    ),
     ("run L[0] <- A.", "(<- (index X0 0) X1) over L A"),
     ("run A := b.", "(and (next empty) (next= 1 X0 x1)) over A b"),
-    ("run next next A = B.", "(and more (next= 2 X0 X1)) over A B"),
+    (
+        "run next next A = B.",
+        "(and more (next= 2 X0 X1)) over A B",
+    ),
     ("run B = next A.", "(and more (next= 1 X1 X0)) over B A"),
     ("run next (more and empty).", "(next (and more empty)) over"),
     ("run always(A).", "(always (= X0 true)) over A"),
     ("run keep(a).", "(always (ifmore (= x0 true))) over a"),
     ("run fin(more).", "(always (ifempty more)) over"),
-    ("run halt(A = 1).", "(always (if (= X0 1) empty more)) over A"),
+    (
+        "run halt(A = 1).",
+        "(always (if (= X0 1) empty more)) over A",
+    ),
     ("run stable(A).", "(always (ifmore (next= 1 X0 X0))) over A"),
     ("run len(n).", "(len x0) over n"),
-    ("run list(L[i], n).", "(= (size (index X0 x1)) x2) over L i n"),
+    (
+        "run list(L[i], n).",
+        "(= (size (index X0 x1)) x2) over L i n",
+    ),
     ("run if b then skip.", "(if x0 (next empty) true) over b"),
-    ("run if A then B else empty.", "(if X0 (= X1 true) empty) over A B"),
+    (
+        "run if A then B else empty.",
+        "(if X0 (= X1 true) empty) over A B",
+    ),
 ];
 
 // What isn't run, with the place of the phrase that is to blame.
@@ -113,9 +137,10 @@ const OTHER_REFUSALS: [(&str, &str); 20] = [
 ];
 
 // Definitions, of which the first is to blame.
-const DEFINITIONS: [(&str, &str); 1] = [
-    ("/**/ define p() = empty. define q() = empty. run next 1.", "not executable at 5"),
-];
+const DEFINITIONS: [(&str, &str); 1] = [(
+    "/**/ define p() = empty. define q() = empty. run next 1.",
+    "not executable at 5",
+)];
 
 // The formula, and the names of its variables.
 fn accepted(alloc: Global, program: &Program) -> Result<Text, NoMemory> {

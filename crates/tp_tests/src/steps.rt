@@ -23,25 +23,25 @@ use tp_value::NoMemory;
 
 // The definitions, of which there are none, and the inputs.
 #[derive(Drop)]
-struct Given {
+struct Setup {
     defs: Defs,
     inputs: Inputs,
 }
 
-fn given(alloc: Global) -> Result<Given, NoMemory>
+fn nothing(alloc: Global) -> Result<Setup, NoMemory>
     ensures { IfOk result (λ g. definitions_of g.defs ≡ []) }
 {
     let inputs = Inputs::none(alloc)?;
     let defs = Defs {
         items: Vec::new(alloc),
     };
-    Ok(Given { defs, inputs })
+    Ok(Setup { defs, inputs })
 }
 
 // What a run of this program begins with.
-fn begin(alloc: Global, source: &str, given: &Given) -> Result<(Scene, Store), Fail>
-    requires { definitions_of given.now.defs ≡ [] }
-    ensures { IfOk result (λ r. (kinds : List Bool) × IsReady (setting_of given.now.defs given.now.inputs 0) kinds (moment_of r.0 r.1)) }
+fn begin(alloc: Global, source: &str, setup: &Setup) -> Result<(Scene, Store), Fail>
+    requires { definitions_of setup.now.defs ≡ [] }
+    ensures { IfOk result (λ r. (kinds : List Bool) × IsReady (setting_of setup.now.defs setup.now.inputs 0) kinds (moment_of r.0 r.1)) }
 {
     let Program { main, globals } = program_of(alloc, source)?;
     let store = Store::new(alloc, &globals)?;
@@ -109,13 +109,13 @@ fn tries<L: Ledger>(
     scene: &mut Scene,
     store: &mut Store,
     picks: &str,
-    given: &Given,
+    setup: &Setup,
     at: (u64, u64),
     steps: &mut Steps<L>,
 ) -> Result<String, Fail>
-    requires none { definitions_of given.now.defs ≡ [] }
-    requires ready { (kinds : List Bool) × IsReady (setting_of given.now.defs given.now.inputs at.0) kinds (moment_of scene.old store.old) }
-    ensures { OnOk result ((kinds : List Bool) × IsReady (setting_of given.now.defs given.now.inputs at.0) kinds (moment_of scene.new store.new)) }
+    requires none { definitions_of setup.now.defs ≡ [] }
+    requires ready { (kinds : List Bool) × IsReady (setting_of setup.now.defs setup.now.inputs at.0) kinds (moment_of scene.old store.old) }
+    ensures { OnOk result ((kinds : List Bool) × IsReady (setting_of setup.now.defs setup.now.inputs at.0) kinds (moment_of scene.new store.new)) }
 {
     let mut out = String::new(alloc);
     for digit in picks.as_bytes() {
@@ -123,10 +123,8 @@ fn tries<L: Ledger>(
         if !has_item(scene, item) {
             return Err("no such item".into());
         }
-        let Given { defs, inputs } = given;
-        let tried = try_item(
-            alloc, scene, item, store, defs, inputs, at.0, at.1, steps,
-        )?;
+        let Setup { defs, inputs } = setup;
+        let tried = try_item(alloc, scene, item, store, defs, inputs, at.0, at.1, steps)?;
         let text = said(alloc, &tried)?;
         let live = count(alloc, scene)?;
         let text = format!(in alloc; "{text} {live}, ")?;
@@ -137,9 +135,9 @@ fn tries<L: Ledger>(
 }
 
 // The scene of the next state, number 1.
-fn go_on(alloc: Global, scene: Scene, store: &mut Store, given: &Given) -> Result<Scene, Fail>
-    requires { (kinds : List Bool) × IsReady (setting_of given.now.defs given.now.inputs 0) kinds (moment_of scene store.old) }
-    ensures { IfOk result (λ next. (kinds : List Bool) × IsReady (setting_of given.now.defs given.now.inputs 1) kinds (moment_of next store.new)) }
+fn go_on(alloc: Global, scene: Scene, store: &mut Store, setup: &Setup) -> Result<Scene, Fail>
+    requires { (kinds : List Bool) × IsReady (setting_of setup.now.defs setup.now.inputs 0) kinds (moment_of scene store.old) }
+    ensures { IfOk result (λ next. (kinds : List Bool) × IsReady (setting_of setup.now.defs setup.now.inputs 1) kinds (moment_of next store.new)) }
 {
     match settled(&scene) {
         Settled::Goes => {
@@ -167,14 +165,30 @@ fn told<L: Ledger>(
     requires some { 0 < L.parts }
 {
     let mut steps = Steps::<L>::new(blank);
-    let given = given(alloc)?;
-    let (mut scene, mut store) = begin(alloc, source, &given)?;
-    let mut out = tries(alloc, &mut scene, &mut store, first, &given, (0, room), &mut steps)?;
+    let setup = nothing(alloc)?;
+    let (mut scene, mut store) = begin(alloc, source, &setup)?;
+    let mut out = tries(
+        alloc,
+        &mut scene,
+        &mut store,
+        first,
+        &setup,
+        (0, room),
+        &mut steps,
+    )?;
     let Some(second) = second else {
         return Ok(out);
     };
-    let mut next = go_on(alloc, scene, &mut store, &given)?;
-    let then = tries(alloc, &mut next, &mut store, second, &given, (1, room), &mut steps)?;
+    let mut next = go_on(alloc, scene, &mut store, &setup)?;
+    let then = tries(
+        alloc,
+        &mut next,
+        &mut store,
+        second,
+        &setup,
+        (1, room),
+        &mut steps,
+    )?;
     out.push_str(" then ")?;
     out.push_str(then.as_str())?;
     Ok(out)
@@ -188,28 +202,148 @@ const ROWS: [(&str, &str, u64, Option<&str>, &str); 28] = [
     ("run A < 2.", "0", 0, None, "waits 1, Waiting(0) Open"),
     ("run A = 1.", "0", 1, None, "0+1 0, EndOpen Open"),
     ("run A = 1.", "0", 0, None, "over 1, Waiting(0) Open"),
-    ("run next A = 1.", "0123", 1, None, "2+0 2, 0+0! 1, 1+0! 1, rests 1, Goes Goes"),
+    (
+        "run next A = 1.",
+        "0123",
+        1,
+        None,
+        "2+0 2, 0+0! 1, 1+0! 1, rests 1, Goes Goes",
+    ),
     ("run empty.", "0", 1, None, "0+0! 0, Ends Ends"),
     ("run more.", "0", 1, None, "0+0! 0, Goes Goes"),
-    ("run next true.", "01", 1, None, "1+0! 1, rests 1, Goes Goes"),
-    ("run always(true).", "012", 1, None, "2+0 2, 0+0 1, waits 1, Waiting(2) Open"),
-    ("run keep(true).", "01", 1, None, "2+0 2, waits 2, Waiting(1) Open"),
-    ("run fin(true).", "01", 1, None, "2+0 2, waits 2, Waiting(1) Open"),
-    ("run if true then true else empty.", "01", 1, None, "1+0 1, 0+0 0, EndOpen Open"),
-    ("run len(1).", "012", 1, None, "1+0 1, 1+0! 1, rests 1, Goes Goes"),
-    ("run A <- 1.", "012", 1, None, "1+0 1, 2+0 2, waits 2, Waiting(2) Open"),
-    ("run more and empty.", "012", 9, None, "2+0 2, 0+0! 1, clash 1, Waiting(2) Goes"),
-    ("run empty and next true.", "012", 9, None, "2+0 2, 0+0! 1, clash 1, Waiting(2) Ends"),
-    ("run A = 1 and A = 2.", "012", 9, None, "2+0 2, 0+1 1, clash 1, Waiting(2) Open"),
-    ("run A = 1 and A < 2.", "0212", 9, None, "2+0 2, waits 2, 0+1 1, 0+0 0, EndOpen Open"),
-    ("run more and always(true).", "012453", 9, None, "2+0 2, 0+0! 1, 2+0 2, 1+0 2, rests 2, 0+0 1, Goes Goes"),
-    ("run empty and always(true).", "01243", 9, None, "2+0 2, 0+0! 1, 2+0 2, 0+0 1, 0+0 0, Ends Ends"),
-    ("run more and keep(true).", "012354", 9, None, "2+0 2, 0+0! 1, 2+0 2, 1+0 2, 0+0 1, 1+0 1, Goes Goes"),
-    ("run empty and fin(true).", "012354", 9, None, "2+0 2, 0+0! 1, 2+0 2, 1+0 2, 0+0 1, 0+0 0, Ends Ends"),
-    ("run next true and A = 1.", "01", 9, None, "2+0 2, 1+0! 2, Waiting(2) Goes"),
-    ("run len(1).", "01", 9, Some("01"), "1+0 1, 1+0! 1, Goes Goes then 1+0 1, 0+0! 0, Ends Ends"),
-    ("run next A = 1.", "012", 9, Some("0"), "2+0 2, 0+0! 1, 1+0! 1, Goes Goes then 0+1 0, EndOpen Open"),
-    ("run next true.", "0", 9, Some(""), "1+0! 1, Goes Goes then Waiting(0) Open"),
+    (
+        "run next true.",
+        "01",
+        1,
+        None,
+        "1+0! 1, rests 1, Goes Goes",
+    ),
+    (
+        "run always(true).",
+        "012",
+        1,
+        None,
+        "2+0 2, 0+0 1, waits 1, Waiting(2) Open",
+    ),
+    (
+        "run keep(true).",
+        "01",
+        1,
+        None,
+        "2+0 2, waits 2, Waiting(1) Open",
+    ),
+    (
+        "run fin(true).",
+        "01",
+        1,
+        None,
+        "2+0 2, waits 2, Waiting(1) Open",
+    ),
+    (
+        "run if true then true else empty.",
+        "01",
+        1,
+        None,
+        "1+0 1, 0+0 0, EndOpen Open",
+    ),
+    (
+        "run len(1).",
+        "012",
+        1,
+        None,
+        "1+0 1, 1+0! 1, rests 1, Goes Goes",
+    ),
+    (
+        "run A <- 1.",
+        "012",
+        1,
+        None,
+        "1+0 1, 2+0 2, waits 2, Waiting(2) Open",
+    ),
+    (
+        "run more and empty.",
+        "012",
+        9,
+        None,
+        "2+0 2, 0+0! 1, clash 1, Waiting(2) Goes",
+    ),
+    (
+        "run empty and next true.",
+        "012",
+        9,
+        None,
+        "2+0 2, 0+0! 1, clash 1, Waiting(2) Ends",
+    ),
+    (
+        "run A = 1 and A = 2.",
+        "012",
+        9,
+        None,
+        "2+0 2, 0+1 1, clash 1, Waiting(2) Open",
+    ),
+    (
+        "run A = 1 and A < 2.",
+        "0212",
+        9,
+        None,
+        "2+0 2, waits 2, 0+1 1, 0+0 0, EndOpen Open",
+    ),
+    (
+        "run more and always(true).",
+        "012453",
+        9,
+        None,
+        "2+0 2, 0+0! 1, 2+0 2, 1+0 2, rests 2, 0+0 1, Goes Goes",
+    ),
+    (
+        "run empty and always(true).",
+        "01243",
+        9,
+        None,
+        "2+0 2, 0+0! 1, 2+0 2, 0+0 1, 0+0 0, Ends Ends",
+    ),
+    (
+        "run more and keep(true).",
+        "012354",
+        9,
+        None,
+        "2+0 2, 0+0! 1, 2+0 2, 1+0 2, 0+0 1, 1+0 1, Goes Goes",
+    ),
+    (
+        "run empty and fin(true).",
+        "012354",
+        9,
+        None,
+        "2+0 2, 0+0! 1, 2+0 2, 1+0 2, 0+0 1, 0+0 0, Ends Ends",
+    ),
+    (
+        "run next true and A = 1.",
+        "01",
+        9,
+        None,
+        "2+0 2, 1+0! 2, Waiting(2) Goes",
+    ),
+    (
+        "run len(1).",
+        "01",
+        9,
+        Some("01"),
+        "1+0 1, 1+0! 1, Goes Goes then 1+0 1, 0+0! 0, Ends Ends",
+    ),
+    (
+        "run next A = 1.",
+        "012",
+        9,
+        Some("0"),
+        "2+0 2, 0+0! 1, 1+0! 1, Goes Goes then 0+1 0, EndOpen Open",
+    ),
+    (
+        "run next true.",
+        "0",
+        9,
+        Some(""),
+        "1+0! 1, Goes Goes then Waiting(0) Open",
+    ),
 ];
 
 #[test]

@@ -32,11 +32,18 @@ fn nothing_is_asked_or_written_after_a_failed_write(rt: HostRuntime) -> Result<(
             },
         ]?;
         let mut page = Page::new(alloc, failing);
-        let mut shelf = Shelf::new(alloc, contents(alloc, "a.t", SOURCE)?, vec![in alloc; 2u64]?);
+        let mut shelf = Shelf::new(
+            alloc,
+            contents(alloc, "a.t", SOURCE)?,
+            vec![in alloc; 2u64]?,
+        );
         let status = status_of(alloc, &["run", "a.t"], &mut shelf, &mut page)?;
         assert_eq!(rt; status.code(), *code);
         // The next read is the second one, and the next write the first after that which failed.
-        assert_eq!(rt; shelf.read(alloc, "a.t", 9).err(), Some(FileRefusal::Failed));
+        assert_eq!(rt;
+            shelf.read(alloc, "a.t", 9).err(),
+            Some(FileRefusal::Failed)
+        );
         assert_eq!(rt; page.write(alloc, b"!"), Err(WriteRefusal::Failed));
         assert_eq!(rt; page.text(alloc)?.as_slice(), text.as_bytes());
     }
@@ -51,9 +58,15 @@ fn a_failed_read_is_told(rt: HostRuntime) -> Result<(), Fail> {
     let mut page = Page::new(alloc, vec![in alloc; Failure { call: 2, kept: 0 }]?);
     let status = status_of(alloc, &["run", "a.t"], &mut shelf, &mut page)?;
     assert_eq!(rt; status.code(), 14);
-    assert_eq!(rt; shelf.read(alloc, "a.t", 9).err(), Some(FileRefusal::Failed));
+    assert_eq!(rt;
+        shelf.read(alloc, "a.t", 9).err(),
+        Some(FileRefusal::Failed)
+    );
     assert_eq!(rt; page.write(alloc, b"!"), Err(WriteRefusal::Failed));
-    assert_eq!(rt; page.text(alloc)?.as_slice(), b"read fault: source\n".as_slice());
+    assert_eq!(rt;
+        page.text(alloc)?.as_slice(),
+        b"read fault: source\n".as_slice()
+    );
     Ok(())
 }
 

@@ -157,7 +157,14 @@ pub static PLACED: [(&str, &str); 5] = [
 ];
 
 /// A text that repeats a piece before its middle and another one behind it: the front, how often, before, the middle, behind, and what is parsed.
-pub type Deep = (&'static str, usize, &'static str, &'static str, &'static str, &'static str);
+pub type Deep = (
+    &'static str,
+    usize,
+    &'static str,
+    &'static str,
+    &'static str,
+    &'static str,
+);
 
 pub static DEEP: [Deep; 18] = [
     ("run", 199, "(", "empty", ")", "empty"),

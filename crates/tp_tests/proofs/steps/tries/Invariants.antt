@@ -4,4 +4,4 @@ use Rattle.tp_step.specs.Answers.{moment_of, setting_of}
 use Rattle.tp_tests.proofs.steps.tries.Given as goal
 
 abbrev pub invariant-loop-digit : goal.invariant-loop-digit
-invariant-loop-digit g l = (kinds : List Bool) × IsReady (setting_of l.given.defs l.given.inputs l.at.0) kinds (moment_of l.scene l.store)
+invariant-loop-digit g l = (kinds : List Bool) × IsReady (setting_of l.setup.defs l.setup.inputs l.at.0) kinds (moment_of l.scene l.store)
