@@ -1,12 +1,12 @@
 // Each device once: those in memory by a table, the real ones over a file that the test wrote.
-use tp_io::{
-    Content, Failure, FileRefusal, Files, Page, RealFiles, RealSink, Shelf, Sink, SurePage,
-    SureShelf, WriteRefusal,
-};
 use std::alloc::Global;
 use std::fs;
 use std::process::Abort;
 use std::test::Fail;
+use tp_io::{
+    Content, Failure, FileRefusal, Files, Page, RealFiles, RealSink, Shelf, Sink, SurePage,
+    SureShelf, WriteRefusal,
+};
 use tp_value::Text;
 
 fn contents(alloc: Global) -> Result<Vec<Content>, Fail> {

@@ -1,7 +1,7 @@
 // The values of ports by state, with ample memory.
-use tp_inputs::{Inputs, Line, Pair};
 use std::alloc::Global;
 use std::test::Fail;
+use tp_inputs::{Inputs, Line, Pair};
 use tp_value::{Text, Value, same};
 
 // One line for state 0, with the values 7 of `a` and 8 of `b`.

@@ -12,6 +12,8 @@ mod formulas;
 #[cfg(test)]
 mod inputs;
 #[cfg(test)]
+mod making;
+#[cfg(test)]
 mod outcomes;
 #[cfg(test)]
 mod phrases;
@@ -19,6 +21,10 @@ mod phrases;
 mod programs;
 #[cfg(test)]
 mod runs;
+#[cfg(test)]
+mod sources;
+#[cfg(test)]
+mod spelling;
 #[cfg(test)]
 mod steps;
 #[cfg(test)]

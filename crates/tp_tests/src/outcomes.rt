@@ -1,15 +1,15 @@
 // The outcomes of expressions, row by row.
-ghost use Rattle.std.specs.Prelude.{◌≡◌, ◌∷◌, [], IfOk, false};
+ghost use Rattle.std.specs.Prelude.{◌≡◌, []};
 ghost use Rattle.tp_kernel.specs.Read.{definitions_of};
-ghost use Rattle.tp_store.specs.Known.{IsVariableOf, global_variable};
 
-use tp_eval::{Outcome, PlaceOutcome, eval, is_place, place};
+use crate::making::{nested, one_variable, path, sixes};
 use std::alloc::Global;
 use std::rc::Rc;
 use std::test::Fail;
+use tp_eval::{Outcome, PlaceOutcome, eval, is_place, place};
 use tp_kernel::{Binding, Defs, Env, Expr, Exprs, Op2};
-use tp_store::{AddRefusal, Store};
-use tp_value::{Globals, Indices, Items, NoMemory, Path, Text, Value, VarId};
+use tp_store::Store;
+use tp_value::{NoMemory, Value, VarId};
 
 fn no_definitions(alloc: Global) -> Defs
     ensures { definitions_of result ≡ [] }
@@ -19,95 +19,28 @@ fn no_definitions(alloc: Global) -> Defs
     }
 }
 
-// The state variable A alone.
-fn one_variable(alloc: Global) -> Result<Store, NoMemory>
-    ensures { IfOk result (λ store. store.variables ≡ global_variable (65 ∷ []) ∷ []) }
-{
-    let mut globals = Globals::new(alloc)?;
-    let name = Text::from_slice(alloc, b"A".as_slice())?;
-    globals.add(&name)?;
-    let store = Store::new(alloc, &globals)?;
-    Ok(store)
-}
-
-fn path(alloc: Global, at: &[u32]) -> Result<Path, NoMemory>
-    ensures { IfOk result (λ path. path.var ≡ record { number = 0; lasting = false }) }
-{
-    let mut indices = Indices::new(alloc);
-    indices.items.extend_from_slice(at)?;
-    Ok(Path {
-        var: VarId {
-            number: 0,
-            lasting: false,
-        },
-        at: indices,
-    })
-}
-
-fn known_number(store: &mut Store, path: &Path, n: u32) -> Result<(), AddRefusal>
-    requires { IsVariableOf store.old.variables path.now.var }
-    ensures { store.new.variables ≡ store.old.variables }
-{
-    let _news = store.add(path, &Value::Num(n as i64))?;
-    Ok(())
-}
-
-fn known_length(store: &mut Store, path: &Path, n: u32) -> Result<(), AddRefusal>
-    requires { IsVariableOf store.old.variables path.now.var }
-    ensures { store.new.variables ≡ store.old.variables }
-{
-    let _news = store.add_length(path, n)?;
-    Ok(())
-}
-
-fn refusal(answer: Result<(), AddRefusal>) -> Result<(), Fail> {
-    match answer {
-        Ok(()) => Ok(()),
-        Err(_) => Err(NoMemory.into()),
-    }
-}
-
 // A is a list of three items, of which the first is 5 and of the second nothing is known; the third is an empty list.
 fn known_state(alloc: Global) -> Result<Store, Fail> {
     let mut store = one_variable(alloc)?;
-    let whole = path(alloc, [].as_slice())?;
-    let answer = known_length(&mut store, &whole, 3);
-    refusal(answer)?;
-    let first = path(alloc, [0].as_slice())?;
-    let answer = known_number(&mut store, &first, 5);
-    refusal(answer)?;
-    let third = path(alloc, [2].as_slice())?;
-    let answer = known_length(&mut store, &third, 0);
-    refusal(answer)?;
+    store.add_length(&path(alloc, 0, &[])?, 3)?;
+    store.add(&path(alloc, 0, &[0])?, &Value::Num(5))?;
+    store.add_length(&path(alloc, 0, &[2])?, 0)?;
     Ok(store)
-}
-
-fn list_of(alloc: Global, count: usize) -> Result<Rc<Value>, NoMemory> {
-    let mut items = Vec::new(alloc);
-    for _ in 0..count {
-        items.push(Value::Num(6))?;
-    }
-    let list = Rc::new(alloc, Value::List(Items { items }))?;
-    Ok(list)
 }
 
 // Bound names: a list of two numbers, the place of A's second item, and a place with 100 indices.
 fn environment(alloc: Global) -> Result<Env, NoMemory> {
-    let mut deep = path(alloc, [].as_slice())?;
-    for _ in 0..100 {
-        deep.at.items.push(1)?;
-    }
-    let second = path(alloc, [1].as_slice())?;
     let items = vec![in alloc;
-        Binding::Known(list_of(alloc, 2)?),
-        Binding::Place(second),
-        Binding::Place(deep),
+        Binding::Known(Rc::new(alloc, sixes(alloc, 2)?)?),
+        Binding::Place(path(alloc, 0, &[1])?),
+        Binding::Place(path(alloc, 0, &[1; 100])?),
     ]?;
     Ok(Env { items })
 }
 
 // The expression of one letter: a digit, the greatest number `M`, the least `i64` `L`, 65,535 `x` and 65,536 `y`, the truth values `t` and
-// `f`, the empty list `e`, a list of 65,536 items `F`, the variable `A`, and the bound names `b`, `c` and `d`.
+// `f`, the empty list `e`, a list of 65,536 items `F`, lists that are 99 and 100 deep `C` and `D`, the variable `A`, and the bound names `b`, `c`
+// and `d`.
 fn leaf(alloc: Global, letter: u8) -> Result<Option<Expr>, NoMemory> {
     let e = match letter {
         b'0'..=b'9' => Expr::Number((letter - 48) as i64),
@@ -120,7 +53,9 @@ fn leaf(alloc: Global, letter: u8) -> Result<Option<Expr>, NoMemory> {
         b'e' => Expr::List(Exprs {
             items: Vec::new(alloc),
         }),
-        b'F' => Expr::Known(list_of(alloc, 65_536)?),
+        b'F' => Expr::Known(Rc::new(alloc, sixes(alloc, 65_536)?)?),
+        b'C' => Expr::Known(Rc::new(alloc, nested(alloc, 99)?)?),
+        b'D' => Expr::Known(Rc::new(alloc, nested(alloc, 100)?)?),
         b'A' => Expr::Global(VarId {
             number: 0,
             lasting: false,
@@ -253,8 +188,17 @@ fn place_text(alloc: Global, e: &Expr) -> Result<String, Fail> {
     }
 }
 
-const VALUES: [(&str, &str); 62] = [
+const VALUES: [(&str, &str); 71] = [
     ("L", "over Number"),
+    ("L~", "over Number"),
+    ("M~", "-9223372036854775807"),
+    ("M2*", "over Number"),
+    ("M1*", "9223372036854775807"),
+    ("12#", "true"),
+    ("22#", "false"),
+    ("1t#", "true"),
+    ("C1,", "list of 2"),
+    ("D1,", "over List"),
     ("M0+", "9223372036854775807"),
     ("M1+", "over Number"),
     ("M~0-", "-9223372036854775807"),
@@ -329,44 +273,34 @@ const PLACES: [(&str, &str); 8] = [
     ("A10/@", "ZeroDivisor"),
 ];
 
-fn agrees(alloc: Global, spelled: &str, found: &str, expected: &str) -> Result<(), Fail> {
-    if found == expected {
-        return Ok(());
-    }
-    let text = format!(in alloc; "{spelled}: {found} for {expected}")?;
-    Err(Fail::new(text))
-}
-
-fn values_agree(alloc: Global, rows: &[(&str, &str)]) -> Result<(), Fail> {
-    for (spelled, expected) in rows {
-        let e = read(alloc, spelled.as_bytes())?;
-        let found = value_text(alloc, &e)?;
-        agrees(alloc, spelled, found.as_str(), expected)?;
-    }
-    Ok(())
-}
-
-fn places_agree(alloc: Global, rows: &[(&str, &str)]) -> Result<(), Fail> {
-    for (spelled, expected) in rows {
-        let e = read(alloc, spelled.as_bytes())?;
-        let found = place_text(alloc, &e)?;
-        agrees(alloc, spelled, found.as_str(), expected)?;
-    }
-    Ok(())
-}
-
 #[test]
 fn expressions_are_evaluated(rt: HostRuntime) -> Result<(), Fail> {
-    values_agree(rt.alloc(), &VALUES)
+    for (spelled, expected) in &VALUES {
+        let e = read(rt.alloc(), spelled.as_bytes())?;
+        assert_eq!(rt;
+            value_text(rt.alloc(), &e)?.as_str(),
+            *expected,
+            "for {spelled}"
+        );
+    }
+    Ok(())
 }
 
 #[test]
 fn places_are_found(rt: HostRuntime) -> Result<(), Fail> {
-    places_agree(rt.alloc(), &PLACES)
+    for (spelled, expected) in &PLACES {
+        let e = read(rt.alloc(), spelled.as_bytes())?;
+        assert_eq!(rt;
+            place_text(rt.alloc(), &e)?.as_str(),
+            *expected,
+            "for {spelled}"
+        );
+    }
+    Ok(())
 }
 
 // The truth value under so many negations.
-fn nested(alloc: Global, count: usize) -> Result<Expr, NoMemory> {
+fn negated(alloc: Global, count: usize) -> Result<Expr, NoMemory> {
     let mut e = Expr::Truth(true);
     for _ in 0..count {
         let inner = Rc::new(alloc, e)?;
@@ -375,16 +309,18 @@ fn nested(alloc: Global, count: usize) -> Result<Expr, NoMemory> {
     Ok(e)
 }
 
+const DEPTHS: [(usize, &str); 4] = [
+    (0, "true"),
+    (200, "true"),
+    (1999, "false"),
+    (2000, "over Calls"),
+];
+
 #[test]
 fn depths_are_limited(rt: HostRuntime) -> Result<(), Fail> {
-    for (count, expected) in [
-        (0, "true"),
-        (200, "true"),
-        (1999, "false"),
-        (2000, "over Calls"),
-    ] {
-        let e = nested(rt.alloc(), count)?;
-        assert_eq!(rt; value_text(rt.alloc(), &e)?.as_str(), expected, "{count}");
+    for (count, expected) in &DEPTHS {
+        let e = negated(rt.alloc(), *count)?;
+        assert_eq!(rt; value_text(rt.alloc(), &e)?.as_str(), *expected, "{count}");
     }
     Ok(())
 }

@@ -1,6 +1,7 @@
-use tp_lex::{Kind, LexRefusal, Tokens, place_of, tokens};
-use std::alloc::Global;
+// Texts and their tokens, refusals and places.
+use crate::sources::tokens_of;
 use std::test::Fail;
+use tp_lex::{Kind, LexRefusal, place_of};
 
 const WORDS: &[u8] =
     b"if then else while do repeat until for forall exists define run true false and or not div mod empty more skip next always keep fin halt stable sometimes gets len list input display proj";
@@ -18,18 +19,11 @@ fn number_of(kind: &Kind) -> u8 {
     }
 }
 
-fn read(alloc: Global, text: &[u8]) -> Result<Tokens, LexRefusal> {
-    if text.len() > 1000 {
-        return Err(LexRefusal::NoMemory);
-    }
-    tokens(alloc, text)
-}
-
 #[test]
 fn reads_texts(rt: HostRuntime) -> Result<(), Fail> {
     let alloc = rt.alloc();
     for (text, count) in [(WORDS, 35), (SYMBOLS, 22)] {
-        let found = read(alloc, text).ok().ok_or("tokens")?;
+        let found = tokens_of(alloc, text).ok().ok_or("tokens")?;
         assert_eq!(rt; found.items.len(), count);
         for (i, token) in found.items.iter().enumerate() {
             assert_eq!(rt; usize::from(number_of(&token.kind)), i);
@@ -45,7 +39,7 @@ fn reads_texts(rt: HostRuntime) -> Result<(), Fail> {
         (b"9223372036854775807", &[101]),
     ];
     for (text, numbers) in cases {
-        let found = read(alloc, text).ok().ok_or("tokens")?;
+        let found = tokens_of(alloc, text).ok().ok_or("tokens")?;
         assert_eq!(rt; found.items.len(), numbers.len());
         for (token, number) in found.items.iter().zip(numbers) {
             assert_eq!(rt; number_of(&token.kind), *number);
@@ -72,9 +66,9 @@ fn refuses_texts(rt: HostRuntime) -> Result<(), Fail> {
         (b"/* @", LexRefusal::OpenComment { at: 0 }),
     ];
     for (text, refusal) in cases {
-        assert_eq!(rt; read(alloc, text).err(), Some(refusal));
+        assert_eq!(rt; tokens_of(alloc, text).err(), Some(refusal));
     }
-    assert!(rt; read(alloc, &long[1..]).is_ok());
+    assert!(rt; tokens_of(alloc, &long[1..]).is_ok());
     Ok(())
 }
 
@@ -92,7 +86,7 @@ fn tells_places(rt: HostRuntime) -> Result<(), Fail> {
         assert!(rt; at <= text.len());
         assert_eq!(rt; place_of(text, at), place);
     }
-    let found = read(rt.alloc(), text).ok().ok_or("tokens")?;
+    let found = tokens_of(rt.alloc(), text).ok().ok_or("tokens")?;
     let last = found.items.last().ok_or("a token")?;
     assert_eq!(rt; (last.from, last.to, last.line, last.column), (5, 6, 3, 3));
     Ok(())

@@ -1,11 +1,16 @@
 // Each call that takes memory succeeds where there is enough, with the right value.
-use tp_value::{
-    Fact, Globals, Indices, Items, Path, ReadValue, Shape, Text, Value, VarId, difference,
-    is_number, is_within_list_limit, negated, product, quotient, read_value, remainder, same, sum,
-    write_value,
-};
+ghost use Rattle.std.specs.Prelude.{IfOk};
+ghost use Rattle.tp_value.specs.Read.{tree};
+ghost use Rattle.tp_value.specs.Shape.{HasShortLists};
+
+use crate::making::{nested, sixes};
 use std::alloc::Global;
 use std::test::Fail;
+use tp_value::{
+    DEPTH_LIMIT, Fact, Globals, ITEM_LIMIT, Indices, Items, NoMemory, Path, ReadValue, Shape, Text,
+    Value, VarId, difference, is_number, is_within_list_limit, negated, product, quotient,
+    read_value, remainder, same, shape_at, sum, write_value,
+};
 
 // The values 1, true, [1, true] and [1, false].
 fn values(alloc: Global) -> Result<Vec<Value>, Fail> {
@@ -152,35 +157,50 @@ fn numbers_are_reckoned(rt: HostRuntime) {
     assert_eq!(rt; negated(-most - 1), None);
 }
 
-// A number in so many lists.
-fn nested(alloc: Global, depth: usize) -> Result<Value, Fail> {
-    let mut value = Value::Num(0);
-    for _ in 0..depth {
-        let items = vec![in alloc; value]?;
-        value = Value::List(Items { items });
-    }
-    Ok(value)
-}
-
-// A list of so many numbers.
-fn long(alloc: Global, length: usize) -> Result<Value, Fail> {
-    let mut items = Vec::new(alloc);
-    for _ in 0..length {
-        items.push(Value::Num(1))?;
-    }
+// A list of one list of so many numbers.
+fn wrapped(alloc: Global, count: usize) -> Result<Value, NoMemory> {
+    let items = vec![in alloc; sixes(alloc, count)?]?;
     Ok(Value::List(Items { items }))
 }
 
 #[test]
 fn lists_have_limits(rt: HostRuntime) -> Result<(), Fail> {
-    assert!(rt; is_within_list_limit(&nested(rt.alloc(), 100)?));
-    assert!(rt; !is_within_list_limit(&nested(rt.alloc(), 101)?));
-    assert!(rt; is_within_list_limit(&long(rt.alloc(), 65_536)?));
-    assert!(rt; !is_within_list_limit(&long(rt.alloc(), 65_537)?));
-    let items = vec![in rt.alloc(); long(rt.alloc(), 65_535)?]?;
-    assert!(rt; is_within_list_limit(&Value::List(Items { items })));
-    let items = vec![in rt.alloc(); long(rt.alloc(), 65_536)?]?;
-    assert!(rt; !is_within_list_limit(&Value::List(Items { items })));
+    let alloc = rt.alloc();
+    let table = vec![in alloc;
+        (nested(alloc, DEPTH_LIMIT)?, true),
+        (nested(alloc, DEPTH_LIMIT + 1)?, false),
+        (sixes(alloc, ITEM_LIMIT)?, true),
+        (sixes(alloc, ITEM_LIMIT + 1)?, false),
+        (wrapped(alloc, ITEM_LIMIT - 1)?, true),
+        (wrapped(alloc, ITEM_LIMIT)?, false),
+    ]?;
+    for (value, within) in &table {
+        assert_eq!(rt; is_within_list_limit(value), *within);
+    }
+    Ok(())
+}
+
+// The list of 1 and true.
+fn pair(alloc: Global) -> Result<Value, NoMemory>
+    ensures { IfOk result (λ v. HasShortLists (tree v)) }
+{
+    let items = vec![in alloc; Value::Num(1), Value::Truth(true)]?;
+    Ok(Value::List(Items { items }))
+}
+
+#[test]
+fn elements_have_shapes(rt: HostRuntime) -> Result<(), Fail> {
+    let value = pair(rt.alloc())?;
+    let table: [(&[u32], Option<Shape>); 5] = [
+        (&[], Some(Shape::Items(2))),
+        (&[0], Some(Shape::Num(1))),
+        (&[1], Some(Shape::Truth(true))),
+        (&[2], None),
+        (&[0, 0], None),
+    ];
+    for (at, shape) in table {
+        assert_eq!(rt; shape_at(&value, at), shape);
+    }
     Ok(())
 }
 

@@ -1,6 +1,6 @@
 // Trees and refusals as texts: each phrase with operands stands in parentheses, its operator first.
-use crate::ParseRefusal;
 use std::alloc::Global;
+use tp_parse::ParseRefusal;
 use tp_tree::{Bare, Form, Op, Phrase, PhraseKind, Phrases, Source};
 use tp_value::{NoMemory, Text, Texts};
 
@@ -87,6 +87,37 @@ fn is_compound(kind: &PhraseKind) -> bool {
     }
 }
 
+/// The operands that a kind has by itself, at most three.
+fn operands<'a>(kind: &'a PhraseKind) -> [Option<&'a Phrase>; 3] {
+    match kind {
+        PhraseKind::Size(a) => [Some(a), None, None],
+        PhraseKind::Minus(a) => [Some(a), None, None],
+        PhraseKind::Next(a) => [Some(a), None, None],
+        PhraseKind::Not(a) => [Some(a), None, None],
+        PhraseKind::Exists(_, a) => [Some(a), None, None],
+        PhraseKind::Index(a, b) => [Some(a), Some(b), None],
+        PhraseKind::Binary(_, a, b) => [Some(a), Some(b), None],
+        PhraseKind::If(a, b, None) => [Some(a), Some(b), None],
+        PhraseKind::If(a, b, Some(c)) => [Some(a), Some(b), Some(c)],
+        PhraseKind::While(a, b) => [Some(a), Some(b), None],
+        PhraseKind::Repeat(a, b) => [Some(a), Some(b), None],
+        PhraseKind::For(_, a, b) => [Some(a), Some(b), None],
+        PhraseKind::Forall(_, a, b) => [Some(a), Some(b), None],
+        _ => [None, None, None],
+    }
+}
+
+/// Those that a kind has any number of.
+fn chain<'a>(kind: &'a PhraseKind) -> &'a [Phrase] {
+    match kind {
+        PhraseKind::List(all) => all.items.as_slice(),
+        PhraseKind::And(all) => all.items.as_slice(),
+        PhraseKind::Form(_, all) => all.items.as_slice(),
+        PhraseKind::Call(_, all) => all.items.as_slice(),
+        _ => &[],
+    }
+}
+
 /// What is still to be written: a phrase, or the end of one.
 #[derive(Clone, Copy)]
 enum Piece<'a> {
@@ -119,80 +150,45 @@ fn append_names(alloc: Global, out: &mut Text, kind: &PhraseKind) -> Result<(), 
     }
 }
 
-fn push_one<'a>(left: &mut Vec<Piece<'a>>, a: &'a Phrase) -> Result<(), NoMemory> {
-    left.push(Piece::Operand(a))?;
-    Ok(())
-}
-
-fn push_two<'a>(left: &mut Vec<Piece<'a>>, a: &'a Phrase, b: &'a Phrase) -> Result<(), NoMemory> {
-    push_one(left, b)?;
-    push_one(left, a)
-}
-
-fn push_all<'a>(left: &mut Vec<Piece<'a>>, all: &'a Phrases) -> Result<(), NoMemory> {
-    for operand in all.items.iter().rev() {
-        left.push(Piece::Operand(operand))?;
-    }
-    Ok(())
-}
-
-/// Leaves the operands to be written, the first one next.
-fn push_operands<'a>(left: &mut Vec<Piece<'a>>, kind: &'a PhraseKind) -> Result<(), NoMemory> {
-    match kind {
-        PhraseKind::List(all) => push_all(left, all),
-        PhraseKind::And(all) => push_all(left, all),
-        PhraseKind::Form(_, all) => push_all(left, all),
-        PhraseKind::Call(_, all) => push_all(left, all),
-        PhraseKind::Size(a) => push_one(left, a),
-        PhraseKind::Minus(a) => push_one(left, a),
-        PhraseKind::Next(a) => push_one(left, a),
-        PhraseKind::Not(a) => push_one(left, a),
-        PhraseKind::Exists(_, a) => push_one(left, a),
-        PhraseKind::Index(a, b) => push_two(left, a, b),
-        PhraseKind::Binary(_, a, b) => push_two(left, a, b),
-        PhraseKind::If(a, b, None) => push_two(left, a, b),
-        PhraseKind::If(a, b, Some(c)) => {
-            push_one(left, c)?;
-            push_two(left, a, b)
-        }
-        PhraseKind::While(a, b) => push_two(left, a, b),
-        PhraseKind::Repeat(a, b) => push_two(left, a, b),
-        PhraseKind::For(_, a, b) => push_two(left, a, b),
-        PhraseKind::Forall(_, a, b) => push_two(left, a, b),
-        _ => Ok(()),
-    }
-}
-
-/// Writes a phrase up to its operands, and leaves these to be written.
+/// Writes a phrase up to its operands, and leaves these to be written, the first one next.
 fn begin<'a>(
     alloc: Global,
     out: &mut Text,
-    kind: &'a PhraseKind,
+    phrase: &'a Phrase,
+    places: bool,
     left: &mut Vec<Piece<'a>>,
 ) -> Result<(), NoMemory> {
-    if is_compound(kind) {
+    if places {
+        out.append(format!(in alloc; "{}:", phrase.at)?.as_bytes())?;
+    }
+    if is_compound(&phrase.kind) {
         out.append(b"(")?;
         left.push(Piece::Close)?;
     }
-    out.append(word_of(kind).as_bytes())?;
-    append_names(alloc, out, kind)?;
-    push_operands(left, kind)
+    out.append(word_of(&phrase.kind).as_bytes())?;
+    append_names(alloc, out, &phrase.kind)?;
+    for operand in chain(&phrase.kind).iter().rev() {
+        left.push(Piece::Operand(operand))?;
+    }
+    for operand in operands(&phrase.kind).iter().rev() {
+        if let Some(operand) = operand {
+            left.push(Piece::Operand(operand))?;
+        }
+    }
+    Ok(())
 }
 
-/// Writes a phrase after a space, with the places of it and its operands where these are wanted.
+/// Writes a phrase, with the places of it and its operands where these are wanted, cut off after 10,000 pieces.
 fn spell(alloc: Global, out: &mut Text, phrase: &Phrase, places: bool) -> Result<(), NoMemory> {
     let mut left = Vec::new(alloc);
-    left.push(Piece::Operand(phrase))?;
+    begin(alloc, out, phrase, places, &mut left)?;
     for _ in 0..10_000 {
         match left.pop() {
             None => return Ok(()),
             Some(Piece::Close) => out.append(b")")?,
             Some(Piece::Operand(phrase)) => {
                 out.append(b" ")?;
-                if places {
-                    out.append(format!(in alloc; "{}:", phrase.at)?.as_bytes())?;
-                }
-                begin(alloc, out, &phrase.kind, &mut left)?;
+                begin(alloc, out, phrase, places, &mut left)?;
             }
         }
     }
@@ -206,16 +202,17 @@ fn spell_source(
     places: bool,
 ) -> Result<(), NoMemory> {
     for definition in &source.definitions.items {
-        out.append(b" (define")?;
+        out.append(b"(define")?;
         append_name(out, &definition.name)?;
         append_all(out, &definition.parameters)?;
+        out.append(b" ")?;
         spell(alloc, out, &definition.body, places)?;
-        out.append(b")")?;
+        out.append(b") ")?;
     }
     spell(alloc, out, &source.main, places)
 }
 
-/// The outcome of a parse, after a space.
+/// The outcome of a parse.
 pub fn spelled(
     alloc: Global,
     outcome: &Result<Source, ParseRefusal>,
@@ -225,13 +222,13 @@ pub fn spelled(
     match outcome {
         Ok(source) => spell_source(alloc, &mut out, source, places)?,
         Err(ParseRefusal::Unexpected { token }) => {
-            out.append(format!(in alloc; " unexpected {token}")?.as_bytes())?
+            out.append(format!(in alloc; "unexpected {token}")?.as_bytes())?
         }
-        Err(ParseRefusal::Unfinished) => out.append(b" unfinished")?,
+        Err(ParseRefusal::Unfinished) => out.append(b"unfinished")?,
         Err(ParseRefusal::TooDeep { token }) => {
-            out.append(format!(in alloc; " too deep {token}")?.as_bytes())?
+            out.append(format!(in alloc; "too deep {token}")?.as_bytes())?
         }
-        Err(ParseRefusal::NoMemory) => out.append(b" no memory")?,
+        Err(ParseRefusal::NoMemory) => out.append(b"no memory")?,
     }
     Ok(out)
 }

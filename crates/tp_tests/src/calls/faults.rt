@@ -1,0 +1,106 @@
+// Reads and writes that fail, and how many there are of each.
+use crate::calls::status_of;
+use crate::making::contents;
+use std::alloc::Global;
+use std::test::Fail;
+use tp_io::{Failure, FileRefusal, Files, Page, Shelf, Sink, WriteRefusal};
+use tp_value::{Bytes, Text};
+
+const SOURCE: &[u8] = b"run A=0 and next A = A+1 and next empty.";
+
+// The write with this number fails and keeps so many bytes: the exit status, and the text. A run makes one write for each settled state and one
+// for the end line, so where the fourth fails, none did.
+const WRITES: [(u64, usize, u8, &str); 4] = [
+    (1, 3, 15, "sta"),
+    (2, 4, 15, "state 0: A=0\nstat"),
+    (3, 0, 15, "state 0: A=0\nstate 1: A=1\n"),
+    (4, 0, 0, "state 0: A=0\nstate 1: A=1\nfinished: length 1\n"),
+];
+
+#[test]
+fn nothing_is_asked_or_written_after_a_failed_write(rt: HostRuntime) -> Result<(), Fail> {
+    let alloc = rt.alloc();
+    for (call, kept, code, text) in &WRITES {
+        let failing = vec![in alloc;
+            Failure {
+                call: *call,
+                kept: *kept
+            },
+            Failure {
+                call: *call + 1,
+                kept: 0
+            },
+        ]?;
+        let mut page = Page::new(alloc, failing);
+        let mut shelf = Shelf::new(
+            alloc,
+            contents(alloc, "a.t", SOURCE)?,
+            vec![in alloc; 2u64]?,
+        );
+        let status = status_of(alloc, &["run", "a.t"], &mut shelf, &mut page)?;
+        assert_eq!(rt; status.code(), *code);
+        // The next read is the second one, and the next write the first after that which failed.
+        assert_eq!(rt;
+            shelf.read(alloc, "a.t", 9).err(),
+            Some(FileRefusal::Failed)
+        );
+        assert_eq!(rt; page.write(alloc, b"!"), Err(WriteRefusal::Failed));
+        assert_eq!(rt; page.text(alloc)?.as_slice(), text.as_bytes());
+    }
+    Ok(())
+}
+
+#[test]
+fn a_failed_read_is_told(rt: HostRuntime) -> Result<(), Fail> {
+    let alloc = rt.alloc();
+    let failing = vec![in alloc; 1u64, 2]?;
+    let mut shelf = Shelf::new(alloc, contents(alloc, "a.t", SOURCE)?, failing);
+    let mut page = Page::new(alloc, vec![in alloc; Failure { call: 2, kept: 0 }]?);
+    let status = status_of(alloc, &["run", "a.t"], &mut shelf, &mut page)?;
+    assert_eq!(rt; status.code(), 14);
+    assert_eq!(rt;
+        shelf.read(alloc, "a.t", 9).err(),
+        Some(FileRefusal::Failed)
+    );
+    assert_eq!(rt; page.write(alloc, b"!"), Err(WriteRefusal::Failed));
+    assert_eq!(rt;
+        page.text(alloc)?.as_slice(),
+        b"read fault: source\n".as_slice()
+    );
+    Ok(())
+}
+
+// A file of blanks without an end, and how many bytes were last read of it at most.
+#[derive(Drop)]
+struct Endless {
+    most: usize,
+}
+
+impl Files for Endless {
+    ghost use Rattle.std.specs.Prelude.{None};
+
+    ghost held = { λ _. None };
+
+    ghost asked = { λ _. None };
+
+    ghost faults = { λ _. 0 };
+
+    ghost greatest = { None };
+
+    fn read(&mut self, alloc: Global, _name: &str, most: usize) -> Result<Bytes, FileRefusal> {
+        self.most = most;
+        let items = vec![in alloc; b' '; most]?;
+        Ok(Text { items })
+    }
+}
+
+#[test]
+fn one_byte_past_the_limit_is_read(rt: HostRuntime) -> Result<(), Fail> {
+    let alloc = rt.alloc();
+    let mut endless = Endless { most: 0 };
+    let mut page = Page::new(alloc, Vec::new(alloc));
+    let status = status_of(alloc, &["run", "a.t"], &mut endless, &mut page)?;
+    assert_eq!(rt; status.code(), 13);
+    assert_eq!(rt; endless.most, 1_048_577);
+    Ok(())
+}

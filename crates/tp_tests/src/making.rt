@@ -1,0 +1,84 @@
+// What several tests make.
+ghost use Rattle.std.specs.Prelude.{◌≡◌, ◌∷◌, [], IfOk, false};
+ghost use Rattle.tp_store.specs.Known.{global_variable};
+
+use std::alloc::Global;
+use tp_io::Content;
+use tp_store::Store;
+use tp_value::{Globals, Indices, Items, NoMemory, Path, Text, Value, VarId};
+
+/// One file.
+pub fn contents(alloc: Global, name: &str, bytes: &[u8]) -> Result<Vec<Content>, NoMemory> {
+    let name = Text::from_slice(alloc, name.as_bytes())?;
+    let bytes = Text::from_slice(alloc, bytes)?;
+    let all = vec![in alloc; Content { name, bytes }]?;
+    Ok(all)
+}
+
+/// A place of a state variable.
+pub fn path(alloc: Global, number: u64, at: &[u32]) -> Result<Path, NoMemory>
+    ensures { IfOk result (λ path. path.var ≡ record { number = number; lasting = false }) }
+{
+    let mut indices = Indices::new(alloc);
+    indices.items.extend_from_slice(at)?;
+    Ok(Path {
+        var: VarId {
+            number,
+            lasting: false,
+        },
+        at: indices,
+    })
+}
+
+/// A front, a piece so many times, and what stands behind. In the piece `#` is its number, counted from 0.
+pub fn series(
+    alloc: Global,
+    pattern: &(&'static str, &'static str, &'static str),
+    count: u32,
+) -> Result<String, NoMemory> {
+    let (front, piece, behind) = *pattern;
+    let mut text = String::new(alloc);
+    text.push_str(front)?;
+    for k in 0..count {
+        let number = format!(in alloc; "{k}")?;
+        for letter in piece.chars() {
+            if letter == '#' {
+                text.push_str(number.as_str())?;
+            } else {
+                text.push(letter)?;
+            }
+        }
+    }
+    text.push_str(behind)?;
+    Ok(text)
+}
+
+/// A number in so many lists.
+pub fn nested(alloc: Global, depth: usize) -> Result<Value, NoMemory> {
+    let mut value = Value::Num(0);
+    for _ in 0..depth {
+        let items = vec![in alloc; value]?;
+        value = Value::List(Items { items });
+    }
+    Ok(value)
+}
+
+/// A list of so many times the number 6.
+pub fn sixes(alloc: Global, count: usize) -> Result<Value, NoMemory> {
+    let mut items = Vec::new(alloc);
+    for _ in 0..count {
+        items.push(Value::Num(6))?;
+    }
+    Ok(Value::List(Items { items }))
+}
+
+/// The state variable A alone.
+pub fn one_variable(alloc: Global) -> Result<Store, NoMemory>
+    ensures { IfOk result (λ store. store.variables ≡ global_variable (65 ∷ []) ∷ []) }
+{
+    let mut globals = Globals::new(alloc)?;
+    let name = Text::from_slice(alloc, b"A".as_slice())?;
+    globals.add(&name)?;
+    let store = Store::new(alloc, &globals)?;
+    Ok(store)
+}

@@ -1,0 +1,32 @@
+// What is made of a text, step by step.
+ghost use Rattle.std.specs.Prelude.{IfOk};
+ghost use Rattle.tp_kernel.specs.Read.{formula_tree};
+ghost use Rattle.tp_kernel.specs.Built.{IsBuilt};
+
+use std::alloc::Global;
+use std::test::Fail;
+use tp_check::{Program, check};
+use tp_lex::{LexRefusal, Tokens, tokens};
+use tp_parse::parse;
+use tp_tree::Source;
+
+pub fn tokens_of(alloc: Global, text: &[u8]) -> Result<Tokens, LexRefusal> {
+    if text.len() > 1_048_576 {
+        return Err(LexRefusal::NoMemory);
+    }
+    tokens(alloc, text)
+}
+
+pub fn source_of(alloc: Global, text: &str) -> Result<Source, Fail> {
+    let tokens = tokens_of(alloc, text.as_bytes())?;
+    let source = parse(alloc, &tokens)?;
+    Ok(source)
+}
+
+pub fn program_of(alloc: Global, text: &str) -> Result<Program, Fail>
+    ensures built { IfOk result (λ p. IsBuilt p.globals (formula_tree p.main.value)) }
+{
+    let source = source_of(alloc, text)?;
+    let program = check(alloc, &source)?;
+    Ok(program)
+}

@@ -1,0 +1,213 @@
+// Formulas as texts: what has operands stands in parentheses, its operator first. A state variable is written by its number behind `X`, a static
+// one behind `x`.
+use std::alloc::Global;
+use std::rc::Rc;
+use tp_kernel::{Expr, Formula, Op2};
+use tp_value::{NoMemory, Text};
+
+fn sign(op: Op2) -> &'static str {
+    match op {
+        Op2::Equal => "=",
+        Op2::Differs => "<>",
+        Op2::Less => "<",
+        Op2::LessEqual => "<=",
+        Op2::Greater => ">",
+        Op2::GreaterEqual => ">=",
+        Op2::Plus => "+",
+        Op2::Minus => "-",
+        Op2::Times => "*",
+        Op2::Div => "div",
+        Op2::Mod => "mod",
+    }
+}
+
+// What is written before an expression's operands; none for a number and a variable.
+fn expr_word(e: &Expr) -> &'static str {
+    match e {
+        Expr::Number(_) => "",
+        Expr::Global(_) => "",
+        Expr::Truth(true) => "true",
+        Expr::Truth(false) => "false",
+        Expr::List(_) => "(list",
+        Expr::Size(_) => "(size",
+        Expr::Index(_, _) => "(index",
+        Expr::Minus(_) => "(minus",
+        Expr::Not(_) => "(not",
+        Expr::Both(_) => "(and",
+        Expr::Either(_, _) => "(or",
+        Expr::Op(_, _, _) => "(",
+        Expr::If(_, _, _) => "(if",
+        _ => "(?",
+    }
+}
+
+fn expr_operands<'a>(e: &'a Expr) -> [Option<&'a Expr>; 3] {
+    match e {
+        Expr::Size(a) => [Some(a), None, None],
+        Expr::Minus(a) => [Some(a), None, None],
+        Expr::Not(a) => [Some(a), None, None],
+        Expr::Index(a, b) => [Some(a), Some(b), None],
+        Expr::Either(a, b) => [Some(a), Some(b), None],
+        Expr::Op(_, a, b) => [Some(a), Some(b), None],
+        Expr::If(a, b, c) => [Some(a), Some(b), Some(c)],
+        _ => [None, None, None],
+    }
+}
+
+fn expr_items<'a>(e: &'a Expr) -> &'a [Expr] {
+    match e {
+        Expr::List(all) => all.items.as_slice(),
+        Expr::Both(all) => all.items.as_slice(),
+        _ => &[],
+    }
+}
+
+fn formula_word(w: &Formula) -> &'static str {
+    match w {
+        Formula::True => "true",
+        Formula::Empty => "empty",
+        Formula::More => "more",
+        Formula::Test(_) => "(test",
+        Formula::Eq(_, _) => "(=",
+        Formula::NextEq(_, _, _) => "(next=",
+        Formula::Next(_) => "(next",
+        Formula::IfMore(_) => "(ifmore",
+        Formula::IfEmpty(_) => "(ifempty",
+        Formula::Always(_) => "(always",
+        Formula::And(_) => "(and",
+        Formula::If(_, _, _) => "(if",
+        Formula::Len(_) => "(len",
+        Formula::Assign(_, _) => "(<-",
+        Formula::Chop(_, _) => "(;",
+        Formula::While(_, _) => "(while",
+        _ => "(?",
+    }
+}
+
+fn formula_exprs<'a>(w: &'a Formula) -> [Option<&'a Expr>; 2] {
+    match w {
+        Formula::Test(a) => [Some(a), None],
+        Formula::Len(a) => [Some(a), None],
+        Formula::If(a, _, _) => [Some(a), None],
+        Formula::While(a, _) => [Some(a), None],
+        Formula::Eq(a, b) => [Some(a), Some(b)],
+        Formula::NextEq(_, a, b) => [Some(a), Some(b)],
+        Formula::Assign(a, b) => [Some(a), Some(b)],
+        _ => [None, None],
+    }
+}
+
+fn formula_parts<'a>(w: &'a Formula) -> [Option<&'a Formula>; 2] {
+    match w {
+        Formula::Next(a) => [Some(a), None],
+        Formula::IfMore(a) => [Some(a), None],
+        Formula::IfEmpty(a) => [Some(a), None],
+        Formula::Always(a) => [Some(a), None],
+        Formula::While(_, a) => [Some(a), None],
+        Formula::Chop(a, b) => [Some(a), Some(b)],
+        Formula::If(_, a, b) => [Some(a), Some(b)],
+        _ => [None, None],
+    }
+}
+
+fn formula_items<'a>(w: &'a Formula) -> &'a [Rc<Formula>] {
+    match w {
+        Formula::And(all) => all.items.as_slice(),
+        _ => &[],
+    }
+}
+
+// What is still to be written: an expression, a formula, or the end of one.
+#[derive(Clone, Copy)]
+enum Piece<'a> {
+    Expr(&'a Expr),
+    Formula(&'a Formula),
+    Close,
+}
+
+fn append_head(alloc: Global, e: &Expr, out: &mut Text) -> Result<(), NoMemory> {
+    out.append(expr_word(e).as_bytes())?;
+    match e {
+        Expr::Number(n) => out.append(format!(in alloc; "{n}")?.as_bytes()),
+        Expr::Global(x) => {
+            let kind = if x.lasting { "x" } else { "X" };
+            out.append(format!(in alloc; "{kind}{}", x.number)?.as_bytes())
+        }
+        Expr::Op(op, _, _) => out.append(sign(*op).as_bytes()),
+        _ => Ok(()),
+    }
+}
+
+// Writes an expression up to its operands, and leaves these to be written, the first one next.
+fn begin_expr<'a>(
+    alloc: Global,
+    e: &'a Expr,
+    left: &mut Vec<Piece<'a>>,
+    out: &mut Text,
+) -> Result<(), NoMemory> {
+    append_head(alloc, e, out)?;
+    if expr_word(e).starts_with('(') {
+        left.push(Piece::Close)?;
+    }
+    for item in expr_items(e).iter().rev() {
+        left.push(Piece::Expr(item))?;
+    }
+    for operand in expr_operands(e).iter().rev() {
+        if let Some(operand) = operand {
+            left.push(Piece::Expr(operand))?;
+        }
+    }
+    Ok(())
+}
+
+// The same of a formula.
+fn begin_formula<'a>(
+    alloc: Global,
+    w: &'a Formula,
+    left: &mut Vec<Piece<'a>>,
+    out: &mut Text,
+) -> Result<(), NoMemory> {
+    out.append(formula_word(w).as_bytes())?;
+    if let Formula::NextEq(count, _, _) = w {
+        out.append(format!(in alloc; " {count}")?.as_bytes())?;
+    }
+    if formula_word(w).starts_with('(') {
+        left.push(Piece::Close)?;
+    }
+    for part in formula_items(w).iter().rev() {
+        left.push(Piece::Formula(part))?;
+    }
+    for part in formula_parts(w).iter().rev() {
+        if let Some(part) = part {
+            left.push(Piece::Formula(part))?;
+        }
+    }
+    for operand in formula_exprs(w).iter().rev() {
+        if let Some(operand) = operand {
+            left.push(Piece::Expr(operand))?;
+        }
+    }
+    Ok(())
+}
+
+/// The text of a formula, cut off after 1,000 pieces.
+pub fn spell(alloc: Global, w: &Formula) -> Result<Text, NoMemory> {
+    let mut out = Text::new(alloc);
+    let mut left = Vec::new(alloc);
+    begin_formula(alloc, w, &mut left, &mut out)?;
+    for _ in 0..1000 {
+        match left.pop() {
+            None => return Ok(out),
+            Some(Piece::Close) => out.append(b")")?,
+            Some(Piece::Expr(e)) => {
+                out.append(b" ")?;
+                begin_expr(alloc, e, &mut left, &mut out)?;
+            }
+            Some(Piece::Formula(w)) => {
+                out.append(b" ")?;
+                begin_formula(alloc, w, &mut left, &mut out)?;
+            }
+        }
+    }
+    Ok(out)
+}
