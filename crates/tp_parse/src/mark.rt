@@ -197,7 +197,20 @@ fn word_start(word: Word) -> Start
         Word::For => Start::For,
         Word::Forall => Start::Forall,
         Word::Exists => Start::Exists,
-        _ => Start::Nothing,
+        Word::Then
+        | Word::Else
+        | Word::Do
+        | Word::Until
+        | Word::Define
+        | Word::Run
+        | Word::And
+        | Word::Or
+        | Word::Not
+        | Word::Div
+        | Word::Mod
+        | Word::Next
+        | Word::Gets
+        | Word::Proj => Start::Nothing,
     }
 }
 
