@@ -183,7 +183,16 @@ mutual
   formula_kind_fits names at (k.form f.Len (phrase_then e no_phrase)) = mapped_ok _ (expr_of names e) (Fits names) (IsBuilt names) (expr_fits names e) (λ x h. (tt, h))
   formula_kind_fits names at (k.form f.List (phrase_then l (phrase_then e no_phrase))) =
       both_ok _ (place_in names l) (expr_of names e) (Fits names) (Fits names) (IsBuilt names) (place_fits names l) (expr_fits names e) (λ x y a b. (tt, (a, b)))
-  formula_kind_fits names at (k.form word ps) = tt
+  formula_kind_fits names at (k.form f.Sometimes ps) = tt
+  formula_kind_fits names at (k.form f.Input ps) = tt
+  formula_kind_fits names at (k.form f.Display ps) = tt
+  formula_kind_fits names at (k.form f.Always ps) = tt
+  formula_kind_fits names at (k.form f.Keep ps) = tt
+  formula_kind_fits names at (k.form f.Fin ps) = tt
+  formula_kind_fits names at (k.form f.Halt ps) = tt
+  formula_kind_fits names at (k.form f.Stable ps) = tt
+  formula_kind_fits names at (k.form f.Len ps) = tt
+  formula_kind_fits names at (k.form f.List ps) = tt
   formula_kind_fits names at (k.choice b w) =
       both_ok _ (expr_of names b) (formula_of names w) (Fits names) (IsBuilt names) (IsBuilt names) (expr_fits names b) (formula_fits names w) (λ x y a h. ((h.0, tt), (a, h.1, tt)))
   formula_kind_fits names at (k.choice_else b w v) =

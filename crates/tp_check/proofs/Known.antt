@@ -154,7 +154,16 @@ mutual
   formula_kind_same names more at (k.form f.Len (phrase_then e no_phrase)) known = ap (mapped len) (expr_same names more e (front names (names_in e) [] known))
   formula_kind_same names more at (k.form f.List (phrase_then l (phrase_then e no_phrase))) known =
       ap₂ (both list_of_length) (place_same names more l (front names (names_in l) (names_in e ++ []) known)) (expr_same names more e (front names (names_in e) [] (back names (names_in l) (names_in e ++ []) known)))
-  formula_kind_same names more at (k.form word ps) known = refl
+  formula_kind_same names more at (k.form f.Sometimes ps) known = refl
+  formula_kind_same names more at (k.form f.Input ps) known = refl
+  formula_kind_same names more at (k.form f.Display ps) known = refl
+  formula_kind_same names more at (k.form f.Always ps) known = refl
+  formula_kind_same names more at (k.form f.Keep ps) known = refl
+  formula_kind_same names more at (k.form f.Fin ps) known = refl
+  formula_kind_same names more at (k.form f.Halt ps) known = refl
+  formula_kind_same names more at (k.form f.Stable ps) known = refl
+  formula_kind_same names more at (k.form f.Len ps) known = refl
+  formula_kind_same names more at (k.form f.List ps) known = refl
   formula_kind_same names more at (k.choice b w) known =
       ap₂ (both (λ c x. branch c x trivial)) (expr_same names more b (front names (names_in b) (names_in w) known)) (formula_same names more w (back names (names_in b) (names_in w) known))
   formula_kind_same names more at (k.choice_else b w v) known =

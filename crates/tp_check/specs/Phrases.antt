@@ -3,7 +3,7 @@ use Rattle.std.specs.Prelude.{ℕ, suc, ◌+◌, ◌&&◌, Bool, true, false, na
 use Rattle.tp_tree.specs.declared.operator.Op.{Op}
 use Rattle.tp_tree.specs.declared.operator.Op.TheVariants.{Chop, Proj, Gets, Arrow, Becomes}
 use Rattle.tp_tree.specs.declared.operator.Form.{Form}
-use Rattle.tp_tree.specs.declared.operator.Form.TheVariants.{List, Input, Display}
+use Rattle.tp_tree.specs.declared.operator.Form.TheVariants.{Always, Keep, Fin, Halt, Stable, Sometimes, Len, List, Input, Display}
 use Rattle.tp_tree.specs.Tree.{PhraseTree, phrase, KindTree, number, truth, name, list, size, index, minus, next, negation, binary, conjunction, choice_else, PhraseTrees, no_phrase, phrase_then}
 
 -- an operator that a state phrase may have
@@ -53,7 +53,13 @@ abbrev pub takes : Form → (count : ℕ) → Bool
 takes List n = nat_eq n 2
 takes Input n = nat_eq n 2
 takes Display n = nat_lt 0 n
-takes f n = nat_eq n 1
+takes Always n = nat_eq n 1
+takes Keep n = nat_eq n 1
+takes Fin n = nat_eq n 1
+takes Halt n = nat_eq n 1
+takes Stable n = nat_eq n 1
+takes Sometimes n = nat_eq n 1
+takes Len n = nat_eq n 1
 
 abbrev pub count_of : PhraseTrees → ℕ
 count_of no_phrase = 0

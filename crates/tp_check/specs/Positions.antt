@@ -160,7 +160,17 @@ abbrev mutual
   formula_of_kind names at (k.form f.Len (phrase_then e no_phrase)) = mapped len (expr_of names e)
   formula_of_kind names at (k.form f.List (phrase_then l (phrase_then e no_phrase))) = both list_of_length (place_in names l) (expr_of names e)
   -- `sometimes` is never run, `input` and `display` aren't run yet
-  formula_of_kind names at (k.form form ps) = Err (form_refusal at form ps (NotExecutable at))
+  formula_of_kind names at (k.form f.Sometimes ps) = Err (form_refusal at f.Sometimes ps (NotExecutable at))
+  formula_of_kind names at (k.form f.Input ps) = Err (form_refusal at f.Input ps (NotExecutable at))
+  formula_of_kind names at (k.form f.Display ps) = Err (form_refusal at f.Display ps (NotExecutable at))
+  -- the other forms with a wrong number of operands
+  formula_of_kind names at (k.form f.Always ps) = Err (form_refusal at f.Always ps (NotExecutable at))
+  formula_of_kind names at (k.form f.Keep ps) = Err (form_refusal at f.Keep ps (NotExecutable at))
+  formula_of_kind names at (k.form f.Fin ps) = Err (form_refusal at f.Fin ps (NotExecutable at))
+  formula_of_kind names at (k.form f.Halt ps) = Err (form_refusal at f.Halt ps (NotExecutable at))
+  formula_of_kind names at (k.form f.Stable ps) = Err (form_refusal at f.Stable ps (NotExecutable at))
+  formula_of_kind names at (k.form f.Len ps) = Err (form_refusal at f.Len ps (NotExecutable at))
+  formula_of_kind names at (k.form f.List ps) = Err (form_refusal at f.List ps (NotExecutable at))
   formula_of_kind names at (k.choice b w) = both (λ c x. branch c x trivial) (expr_of names b) (formula_of names w)
   formula_of_kind names at (k.choice_else b w v) = three branch (expr_of names b) (formula_of names w) (formula_of names v)
   -- loops, `forall`, `exists` and calls aren't run yet

@@ -65,7 +65,14 @@ pub fn expression(alloc: Global, phrase: &Phrase, globals: &Globals) -> Result<E
             Err(miscounted_or(at, *form, operands, other))
         }
         PhraseKind::Call(_, _) => Err(CheckRefusal::NotExecutable { at }),
-        _ => Err(CheckRefusal::NotExpression { at }),
+        PhraseKind::Next(_)
+        | PhraseKind::If(_, _, None)
+        | PhraseKind::While(_, _)
+        | PhraseKind::Repeat(_, _)
+        | PhraseKind::For(_, _, _)
+        | PhraseKind::Forall(_, _, _)
+        | PhraseKind::Exists(_, _)
+        | PhraseKind::Bare(_) => Err(CheckRefusal::NotExpression { at }),
     }
 }
 

@@ -158,6 +158,12 @@ fn form_of_two(
         }
         Form::Input => Err(CheckRefusal::NotExecutable { at }),
         Form::Display => Err(CheckRefusal::NotExecutable { at }),
-        _ => Err(CheckRefusal::WrongCount { at }),
+        Form::Always
+        | Form::Keep
+        | Form::Fin
+        | Form::Halt
+        | Form::Stable
+        | Form::Sometimes
+        | Form::Len => Err(CheckRefusal::WrongCount { at }),
     }
 }

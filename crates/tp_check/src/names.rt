@@ -40,7 +40,15 @@ pub fn add_names(phrase: &Phrase, globals: &mut Globals) -> Result<(), NoMemory>
         PhraseKind::List(parts) => add_all(parts, globals),
         PhraseKind::And(parts) => add_all(parts, globals),
         PhraseKind::Form(_, parts) => add_all(parts, globals),
-        _ => Ok(()),
+        PhraseKind::Number(_)
+        | PhraseKind::Truth(_)
+        | PhraseKind::While(_, _)
+        | PhraseKind::Repeat(_, _)
+        | PhraseKind::For(_, _, _)
+        | PhraseKind::Forall(_, _, _)
+        | PhraseKind::Exists(_, _)
+        | PhraseKind::Bare(_)
+        | PhraseKind::Call(_, _) => Ok(()),
     }
 }
 

@@ -10,7 +10,7 @@ use tp_kernel::{Expr, Op2};
 use tp_tree::Op;
 
 /// An operation on two values. `Either` looks at the second only where the first is false.
-#[derive(Clone, Copy, Debug, PartialEq, Eq)]
+#[derive(Clone, Copy)]
 pub enum Operation {
     Either,
     With(Op2),

@@ -75,7 +75,13 @@ fn takes(form: Form, count: usize) -> bool
         Form::List => count == 2,
         Form::Input => count == 2,
         Form::Display => count > 0,
-        _ => count == 1,
+        Form::Always
+        | Form::Keep
+        | Form::Fin
+        | Form::Halt
+        | Form::Stable
+        | Form::Sometimes
+        | Form::Len => count == 1,
     }
 }
 

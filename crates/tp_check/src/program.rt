@@ -35,7 +35,6 @@ pub struct Program {
 /// Any other source is refused: at its first definition as not executable, or else at its first phrase that breaks this, a phrase before
 /// its operands and these in the order of the text. A form with a wrong number of operands is named as that first. Then a phrase is no
 /// expression or no place where one is due, and not executable anywhere else; a call is not executable everywhere.
-#[tactic(auto, using(crate::proofs::Known::own_names_suffice))]
 pub fn check(alloc: Global, source: &Source) -> Result<Program, CheckRefusal>
     ensures accepted { IfOk result (λ p. program_of (source_tree source.now) ≡ Ok (program_tree p)) }
     ensures named { NamesSuffice (tree source.now.main) }

@@ -10,7 +10,7 @@ use std::alloc::Global;
 use tp_value::{NUMBER_LIMIT, NoMemory, Number, Text};
 
 /// Why a text begins with no token.
-#[derive(Clone, Copy, Debug, PartialEq, Eq)]
+#[derive(Clone, Copy)]
 pub enum Fault {
     BadByte,
     OpenComment,
@@ -19,7 +19,7 @@ pub enum Fault {
 }
 
 /// What a text begins with, and how many bytes that has.
-#[derive(Debug, Drop)]
+#[derive(Drop)]
 pub enum Piece {
     /// A blank or a comment.
     Gap(usize),

@@ -5,7 +5,7 @@ ghost use Rattle.tp_lex.specs.Place.{place_after, place_of, place_from, token_at
 use crate::token::{Kind, Token};
 
 /// A place in a text: the number of bytes before it, and its line and column, counted from 1.
-#[derive(Clone, Copy, Debug, PartialEq, Eq)]
+#[derive(Clone, Copy)]
 pub struct Place {
     pub at: u32,
     pub line: u32,

@@ -3,7 +3,7 @@ use std::marker::Model;
 use tp_value::{Number, Text};
 
 /// The words of the language, which are no names.
-#[derive(Clone, Copy, Debug, PartialEq, Eq)]
+#[derive(Clone, Copy, PartialEq, Eq)]
 pub enum Word {
     If,
     Then,
@@ -43,7 +43,7 @@ pub enum Word {
 }
 
 /// `( ) { } [ ] < > <= >= <> = + - * ; , . : := <- |`, in this order.
-#[derive(Clone, Copy, Debug, PartialEq, Eq)]
+#[derive(Clone, Copy, PartialEq, Eq)]
 pub enum Symbol {
     OpenRound,
     CloseRound,
@@ -70,7 +70,7 @@ pub enum Symbol {
 }
 
 /// What a token is. Names begin with an upper-case or a lower-case letter.
-#[derive(Debug, Drop)]
+#[derive(Drop)]
 pub enum Kind {
     Upper(Text),
     Lower(Text),
@@ -81,7 +81,7 @@ pub enum Kind {
 
 /// A token, and where it stands: its bytes are those from `from` up to before `to`, counted from 0. The line and the column,
 /// both counted from 1, are those of its first byte.
-#[derive(Debug, Drop)]
+#[derive(Drop)]
 pub struct Token {
     pub kind: Kind,
     pub from: u32,
@@ -91,7 +91,7 @@ pub struct Token {
 }
 
 /// A list of tokens.
-#[derive(Debug, Drop)]
+#[derive(Drop)]
 pub struct Tokens {
     pub items: Vec<Token>,
 }

@@ -117,7 +117,20 @@ word_start word.Repeat = s.Repeat
 word_start word.For = s.For
 word_start word.Forall = s.Forall
 word_start word.Exists = s.Exists
-word_start _ = s.Nothing
+word_start word.Then = s.Nothing
+word_start word.Else = s.Nothing
+word_start word.Do = s.Nothing
+word_start word.Until = s.Nothing
+word_start word.Define = s.Nothing
+word_start word.Run = s.Nothing
+word_start word.And = s.Nothing
+word_start word.Or = s.Nothing
+word_start word.Not = s.Nothing
+word_start word.Div = s.Nothing
+word_start word.Mod = s.Nothing
+word_start word.Next = s.Nothing
+word_start word.Gets = s.Nothing
+word_start word.Proj = s.Nothing
 
 abbrev pub symbol_start : Symbol → Start
 symbol_start symbol.OpenRound = s.Enclosed Round

@@ -11,4 +11,3 @@ mod source;
 
 pub use refusal::ParseRefusal;
 pub use source::parse;
-

@@ -7,7 +7,7 @@ use tp_lex::{Kind, Symbol, Word};
 use tp_tree::{Bare, Form, Op};
 
 /// A token without its text, or the end of the tokens.
-#[derive(Clone, Copy, Debug, PartialEq, Eq)]
+#[derive(Clone, Copy, PartialEq, Eq)]
 pub enum Mark {
     End,
     Upper,
@@ -18,7 +18,7 @@ pub enum Mark {
 }
 
 /// How operators of one level group: to the left, not at all, or to the right.
-#[derive(Clone, Copy, Debug, PartialEq, Eq)]
+#[derive(Clone, Copy)]
 pub enum Way {
     Left,
     Single,
@@ -26,7 +26,7 @@ pub enum Way {
 }
 
 /// What a token does after an operand: nothing, an operator of a level, the `[` of an index, or the `and` of a chain.
-#[derive(Clone, Copy, Debug, PartialEq, Eq)]
+#[derive(Clone, Copy)]
 pub enum Role {
     Ends,
     Infix(u8, Way, Op),
@@ -35,7 +35,7 @@ pub enum Role {
 }
 
 /// Marks round one operand: `( )`, `{ }` and `| |`.
-#[derive(Clone, Copy, Debug, PartialEq, Eq)]
+#[derive(Clone, Copy)]
 pub enum Enclosure {
     Round,
     Curly,
@@ -43,7 +43,7 @@ pub enum Enclosure {
 }
 
 /// What a token begins where an operand is due.
-#[derive(Clone, Copy, Debug, PartialEq, Eq)]
+#[derive(Clone, Copy)]
 pub enum Start {
     Nothing,
     Number,
@@ -197,7 +197,20 @@ fn word_start(word: Word) -> Start
         Word::For => Start::For,
         Word::Forall => Start::Forall,
         Word::Exists => Start::Exists,
-        _ => Start::Nothing,
+        Word::Then
+        | Word::Else
+        | Word::Do
+        | Word::Until
+        | Word::Define
+        | Word::Run
+        | Word::And
+        | Word::Or
+        | Word::Not
+        | Word::Div
+        | Word::Mod
+        | Word::Next
+        | Word::Gets
+        | Word::Proj => Start::Nothing,
     }
 }
 

@@ -5,8 +5,9 @@ ghost use Rattle.tp_parse.specs.Input as input;
 ghost use Rattle.tp_parse.specs.Input.{Reads};
 ghost use Rattle.tp_parse.specs.Found.{seen, turn_seen, all_seen};
 ghost use Rattle.tp_parse.specs.Reading as spec;
+ghost use Rattle.tp_parse.specs.declared.head.Head.TheVariants.{Paired};
 
-use crate::head::{Head, enclosed_close, enclosed_level, listed_close, listed_level, middle};
+use crate::head::{Head, Pair, enclosed_close, enclosed_level, listed_close, listed_level, middle};
 use crate::mark::{Mark, Role, Way, before, role_at, same, start_of};
 use crate::parser::Parser;
 use crate::phrases::{
@@ -100,11 +101,7 @@ impl Parser<'_> {
                 Ok(of_enclosed(alloc, at, enclosure, operand)?)
             }
             Head::If => self.choice(alloc, room, at),
-            Head::Paired(pair) => {
-                let first = self.part(alloc, CHOP, middle(&pair), room)?;
-                let second = self.phrase(alloc, CHOP, room)?;
-                Ok(of_pair(alloc, at, pair, first, second)?)
-            }
+            Head::Paired(pair) => self.paired(alloc, room, at, pair),
             Head::Exists(names) => {
                 let operand = self.phrase(alloc, CHOP, room)?;
                 Ok(of_exists(alloc, at, names, operand)?)
@@ -112,22 +109,50 @@ impl Parser<'_> {
         }
     }
 
+    /// The operands of a primary that has two.
+    #[cycle(phrase)]
+    fn paired(&mut self, alloc: Global, room: u8, at: u32, pair: Pair) -> Result<Measured, Refusal>
+        ensures reads { Reads seen (spec.primary_by (spec.read room) room at (Paired pair) self.old) result self.new }
+        ensures low { IfOk result (λ r. r.height ≤ room + 1) }
+    {
+        let first = self.part(alloc, CHOP, middle(&pair), room)?;
+        let second = self.phrase(alloc, CHOP, room)?;
+        Ok(of_pair(alloc, at, pair, first, second)?)
+    }
+
     /// The condition and the parts of an `if`.
     #[cycle(phrase)]
-    #[tactic(auto, unfolding(crate::specs::Reading::choice, crate::specs::Reading::else_part))]
+    #[tactic(auto, unfolding(crate::specs::Reading::choice))]
     fn choice(&mut self, alloc: Global, room: u8, at: u32) -> Result<Measured, Refusal>
         ensures reads { Reads seen (spec.choice (spec.read room) room at self.old) result self.new }
         ensures low { IfOk result (λ r. r.height ≤ room + 1) }
     {
         let condition = self.part(alloc, CHOP, Mark::Word(Word::Then), room)?;
         let first = self.phrase(alloc, CHOP, room)?;
-        if self.sees(Mark::Word(Word::Else)) {
-            self.take();
-            let second = self.phrase(alloc, CHOP, room)?;
-            Ok(of_choice_else(alloc, at, condition, first, second)?)
-        } else {
-            Ok(of_choice(alloc, at, condition, first)?)
+        self.else_part(alloc, room, at, condition, first)
+    }
+
+    /// The `if` of these parts, and of its `else` part where that follows.
+    #[cycle(phrase)]
+    #[tactic(auto, unfolding(crate::specs::Reading::else_part))]
+    fn else_part(
+        &mut self,
+        alloc: Global,
+        room: u8,
+        at: u32,
+        condition: Measured,
+        first: Measured,
+    ) -> Result<Measured, Refusal>
+        requires { (condition.height ≤ room) × (first.height ≤ room) }
+        ensures reads { Reads seen (spec.else_part (spec.read room) room at (seen condition) (seen first) self.old) result self.new }
+        ensures low { IfOk result (λ r. r.height ≤ room + 1) }
+    {
+        if !self.sees(Mark::Word(Word::Else)) {
+            return Ok(of_choice(alloc, at, condition, first)?);
         }
+        self.take();
+        let second = self.phrase(alloc, CHOP, room)?;
+        Ok(of_choice_else(alloc, at, condition, first, second)?)
     }
 
     /// A phrase, and the mark after it.

@@ -1,5 +1,5 @@
 // Phrases with their heights, and how they are made of their operands.
-ghost use Rattle.std.specs.Prelude.{◌≡◌, ◌<◌, IfOk, map};
+ghost use Rattle.std.specs.Prelude.{◌≡◌, ◌+◌, ◌<◌, max, IfOk, map};
 ghost use Rattle.tp_parse.specs.Found as spec;
 ghost use Rattle.tp_parse.specs.Found.{seen, all_seen};
 ghost use Rattle.tp_tree.specs.Read.{tree, kind_tree};
@@ -24,6 +24,30 @@ pub struct Measured {
 pub struct Operands {
     pub items: Vec<Phrase>,
     pub height: u32,
+}
+
+/// Two operands in memory of their own, and the height of a phrase round them.
+#[derive(Drop)]
+struct Boxed {
+    first: Box<Phrase>,
+    second: Box<Phrase>,
+    height: u32,
+}
+
+fn box_both(alloc: Global, first: Measured, second: Measured) -> Result<Boxed, NoMemory>
+    requires { (first.height < 1000) × (second.height < 1000) }
+    ensures first { IfOk result (λ both. both.first.value ≡ first.phrase) }
+    ensures second { IfOk result (λ both. both.second.value ≡ second.phrase) }
+    ensures height { IfOk result (λ both. both.height ≡ max first.height second.height + 1) }
+{
+    let height = first.height.max(second.height) + 1;
+    let first = Box::new(alloc, first.phrase)?;
+    let second = Box::new(alloc, second.phrase)?;
+    Ok(Boxed {
+        first,
+        second,
+        height,
+    })
 }
 
 fn make(at: u32, kind: PhraseKind, height: u32) -> Measured
@@ -105,10 +129,12 @@ pub fn of_choice(
     requires { (condition.height < 1000) × (first.height < 1000) }
     ensures { IfOk result (λ r. seen r ≡ spec.of_choice at (seen condition) (seen first)) }
 {
-    let height = condition.height.max(first.height) + 1;
-    let condition = Box::new(alloc, condition.phrase)?;
-    let first = Box::new(alloc, first.phrase)?;
-    Ok(make(at, PhraseKind::If(condition, first, None), height))
+    let both = box_both(alloc, condition, first)?;
+    Ok(make(
+        at,
+        PhraseKind::If(both.first, both.second, None),
+        both.height,
+    ))
 }
 
 pub fn of_choice_else(
@@ -123,10 +149,13 @@ pub fn of_choice_else(
         ≡ spec.of_choice_else at (seen condition) (seen first) (seen second)) }
 {
     let height = condition.height.max(first.height).max(second.height) + 1;
-    let condition = Box::new(alloc, condition.phrase)?;
-    let first = Box::new(alloc, first.phrase)?;
+    let both = box_both(alloc, condition, first)?;
     let second = Box::new(alloc, second.phrase)?;
-    Ok(make(at, PhraseKind::If(condition, first, Some(second)), height))
+    Ok(make(
+        at,
+        PhraseKind::If(both.first, both.second, Some(second)),
+        height,
+    ))
 }
 
 fn pair_kind(pair: Pair, first: Box<Phrase>, second: Box<Phrase>) -> PhraseKind
@@ -150,10 +179,8 @@ pub fn of_pair(
     requires { (first.height < 1000) × (second.height < 1000) }
     ensures { IfOk result (λ r. seen r ≡ spec.of_pair at pair (seen first) (seen second)) }
 {
-    let height = first.height.max(second.height) + 1;
-    let first = Box::new(alloc, first.phrase)?;
-    let second = Box::new(alloc, second.phrase)?;
-    Ok(make(at, pair_kind(pair, first, second), height))
+    let both = box_both(alloc, first, second)?;
+    Ok(make(at, pair_kind(pair, both.first, both.second), both.height))
 }
 
 pub fn of_exists(
@@ -204,10 +231,12 @@ pub fn of_infix(
     requires { (left.height < 1000) × (right.height < 1000) }
     ensures { IfOk result (λ r. seen r ≡ spec.of_infix at op (seen left) (seen right)) }
 {
-    let height = left.height.max(right.height) + 1;
-    let left = Box::new(alloc, left.phrase)?;
-    let right = Box::new(alloc, right.phrase)?;
-    Ok(make(at, PhraseKind::Binary(op, left, right), height))
+    let both = box_both(alloc, left, right)?;
+    Ok(make(
+        at,
+        PhraseKind::Binary(op, both.first, both.second),
+        both.height,
+    ))
 }
 
 pub fn of_index(
@@ -219,10 +248,8 @@ pub fn of_index(
     requires { (whole.height < 1000) × (index.height < 1000) }
     ensures { IfOk result (λ r. seen r ≡ spec.of_index at (seen whole) (seen index)) }
 {
-    let height = whole.height.max(index.height) + 1;
-    let whole = Box::new(alloc, whole.phrase)?;
-    let index = Box::new(alloc, index.phrase)?;
-    Ok(make(at, PhraseKind::Index(whole, index), height))
+    let both = box_both(alloc, whole, index)?;
+    Ok(make(at, PhraseKind::Index(both.first, both.second), both.height))
 }
 
 pub fn of_chain(at: u32, operands: Operands) -> Measured

@@ -18,7 +18,7 @@ pub enum ParseRefusal {
 }
 
 /// Why no phrase was read. A token is named by how many tokens there are from it to the end.
-#[derive(Clone, Copy, Debug, PartialEq, Eq)]
+#[derive(Clone, Copy)]
 pub enum Refusal {
     Unexpected(usize),
     Unfinished,

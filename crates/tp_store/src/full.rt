@@ -6,7 +6,7 @@ ghost use Rattle.tp_store.specs.Facts.{item_path};
 ghost use Rattle.tp_store.specs.Answers.{full_of, whole_of};
 
 use crate::entry::facts_of;
-use crate::listing::{deepest, is_excluded, shape_in};
+use crate::listing::{depth_without, shape_in};
 use crate::store::Store;
 use std::alloc::Global;
 use tp_value::{Fact, Items, NoMemory, Path, Shape, Value, is_within_list_limit};
@@ -92,11 +92,10 @@ fn whole_at(alloc: Global, facts: &[Fact], path: &Path, deeper: u64) -> Result<F
 fn full_in(alloc: Global, facts: &[Fact], path: &Path) -> Result<Known, NoMemory>
     ensures { IfOk result (λ known. full_of known ≡ full facts.now path.now) }
 {
-    if is_excluded(facts, path) {
+    let Some(most) = depth_without(facts, path) else {
         return Ok(Known::Absent);
-    }
-    let deeper = deepest(facts) + 1;
-    match whole_at(alloc, facts, path, deeper)? {
+    };
+    match whole_at(alloc, facts, path, most + 1)? {
         Found::Open(q) => Ok(Known::Open(q)),
         Found::Whole(v) => {
             if is_within_list_limit(&v) {

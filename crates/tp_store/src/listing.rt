@@ -1,5 +1,5 @@
 // Look-ups and changes of the facts of one variable.
-ghost use Rattle.std.specs.Prelude.{◌≡◌, ◌<◌, ◌^◌, ◌++◌, ◌∷◌, [], length, IfOk, OnOk, OnErr, filter, MatchOption, vec_len};
+ghost use Rattle.std.specs.Prelude.{◌≡◌, ◌<◌, ◌^◌, ◌++◌, ◌∷◌, [], length, IfOk, IfSome, None, OnErr, OnOk, Some, filter, if◌then◌else◌, MatchOption, vec_len};
 ghost use Rattle.std.specs.Option.{option_copied};
 ghost use Rattle.tp_store.specs.Facts.{kept_shape, is_excluded};
 ghost use Rattle.tp_store.specs.Known.{first_clash, new_facts, deepest, Addition, checked, refuses, is_none};
@@ -20,28 +20,19 @@ pub fn shape_in(facts: &[Fact], path: &Path) -> Option<Shape>
     None
 }
 
-/// Whether some fact of the list excludes the path.
-pub fn is_excluded(facts: &[Fact], path: &Path) -> bool
-    ensures { result ≡ is_excluded facts.now path.now }
-{
-    for fact in facts {
-        if excludes(fact, path) {
-            return true;
-        }
-    }
-    false
-}
-
-/// The greatest number of indices of a path of the list.
-pub fn deepest(facts: &[Fact]) -> u64
-    ensures value { result ≡ deepest facts.now }
-    ensures bound { result < 2 ^ 63 }
+/// The greatest number of indices of a path of the list, or none where a fact of it excludes the path.
+pub fn depth_without(facts: &[Fact], path: &Path) -> Option<u64>
+    ensures value { result ≡ if is_excluded facts.now path.now then None else Some (deepest facts.now) }
+    ensures bound { IfSome result (λ most. most < 2 ^ 63) }
 {
     let mut most = 0u64;
     for fact in facts {
+        if excludes(fact, path) {
+            return None;
+        }
         most = most.max(fact.path.at.items.len() as u64);
     }
-    most
+    Some(most)
 }
 
 // Of the facts that clash with this one, that with the fewest indices, and among these with the lesser ones.

@@ -2,7 +2,7 @@
 
 /// An operator between two operands: `;`, `proj`, `or`, the relations `=` `<>` `<` `<=` `>` `>=` `gets` `<-` `:=`, and `+` `-` `*`
 /// `div` `mod`.
-#[derive(Clone, Copy, Debug, PartialEq, Eq)]
+#[derive(Clone, Copy)]
 pub enum Op {
     Chop,
     Proj,
@@ -24,7 +24,7 @@ pub enum Op {
 }
 
 /// A word that is a phrase by itself.
-#[derive(Clone, Copy, Debug, PartialEq, Eq)]
+#[derive(Clone, Copy)]
 pub enum Bare {
     Empty,
     More,
@@ -32,7 +32,7 @@ pub enum Bare {
 }
 
 /// A word that takes its operands in parentheses.
-#[derive(Clone, Copy, Debug, PartialEq, Eq)]
+#[derive(Clone, Copy)]
 pub enum Form {
     Always,
     Keep,

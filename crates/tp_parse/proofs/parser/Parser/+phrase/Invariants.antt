@@ -43,6 +43,12 @@ decreases-others l = l.room * 16 + 5
 abbrev pub decreases-part : goal.decreases-part
 decreases-part l = l.room * 16 + 4
 
+abbrev pub decreases-else_part : goal.decreases-else_part
+decreases-else_part l = l.room * 16 + 3
+
+abbrev pub decreases-paired : goal.decreases-paired
+decreases-paired l = l.room * 16 + 5
+
 abbrev pub invariant-operations-loop-turn : goal.invariant-operations-loop-turn
 invariant-operations-loop-turn l = record {
   reads : operations (read l.room) l.room l.level l.at (seen l.fn.first) l.fn.self ≡ go (read l.room) l.room l.level l.at (l._turn-end - l._turn) (seen l.left) l.self;
