@@ -43,3 +43,6 @@ pub mod StepsFit
 pub mod AdvancesFit
 pub mod EndLaws
 pub mod Flat
+pub mod StatusRules
+pub mod WaitRows
+pub mod NamedItem

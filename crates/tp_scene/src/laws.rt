@@ -1,5 +1,7 @@
 // Laws of steps, of the next state, and of how a state begins and ends.
 ghost use Rattle.tp_scene.specs.Laws.{StepsKeep, StepsFit, RefusalsStandForNone, AdvancesKeep, AdvancesFit, EndsStand, RunsBegin};
+ghost use Rattle.tp_scene.specs.Status.{StatusIsLeast};
+ghost use Rattle.tp_scene.specs.Cells.{NamedItemWaits, RestEndsGoesOrIsOpen};
 ghost use Rattle.tp_scene.specs.Built.{StepsStayFlat, AdvancesStayFlat};
 
 /// A reduction keeps what a moment stands for, of the intervals whose first state has the state's own number.
@@ -42,4 +44,15 @@ pub fn runs_begin()
 pub fn flat_scenes_stay_flat()
     ensures steps { StepsStayFlat }
     ensures advances { AdvancesStayFlat }
+{}
+
+/// The computed status of a region is the least that the rules of status give, in any scene.
+pub fn status_is_least()
+    ensures { StatusIsLeast }
+{}
+
+/// At rest, the item that settling names waits; so what is at rest ends, goes on, or has an open cell.
+pub fn rest_waits()
+    ensures named { NamedItemWaits }
+    ensures ends { RestEndsGoesOrIsOpen }
 {}

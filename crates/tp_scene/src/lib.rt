@@ -8,5 +8,5 @@ mod laws;
 pub use answer::{Cell, Clash};
 pub use laws::{
     advances_fit, advances_keep, ends_stand, flat_scenes_stay_flat, refusals_stand_for_none,
-    runs_begin, steps_fit, steps_keep,
+    rest_waits, runs_begin, status_is_least, steps_fit, steps_keep,
 };
