@@ -46,3 +46,5 @@ pub mod Flat
 pub mod StatusRules
 pub mod WaitRows
 pub mod NamedItem
+pub mod KnownEnds
+pub mod KnownStays

@@ -123,7 +123,7 @@ pub data Suffix : Entries → Entries → Type 0 where
   after_leaf : {id : ℕ} {l : Leaf} {rest es : Entries} → Suffix (leaf id l rest) es → Suffix rest es
   after_node : {id : ℕ} {k : Holder} {h g : Head} {held second rest es : Entries} → Suffix (node id k h held g second rest) es → Suffix rest es
 
-pub held_by : {left es : Entries} {role : Role} {i : Head} {held : Entries} → Suffix left es → HoldsRegion left role i held → HoldsRegion es role i held
+abbrev pub held_by : {left es : Entries} {role : Role} {i : Head} {held : Entries} → Suffix left es → HoldsRegion left role i held → HoldsRegion es role i held
 held_by whole in_it = in_it
 held_by (after_leaf s) in_it = held_by s (past_leaf in_it)
 held_by (after_node s) in_it = held_by s (past_node in_it)

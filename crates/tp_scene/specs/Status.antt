@@ -8,19 +8,26 @@ pub data HasStatus (s : Scene) : Side → (h : Head) (es : Entries) → LiveRegi
   -- a region ends where it is marked so
   marked_to_end : {h : Head} {es : Entries} → (x : LiveRegion s h es) → IsTrue h.ends → HasStatus s Ending h es x
   -- a left or inner region ends where the region around it ends
-  left_ends : {h i : Head} {es held : Entries} → (x : LiveRegion s h es) (in_it : HoldsRegion es left_region i held) → HasStatus s Ending h es x → HasStatus s Ending i held (held_in x in_it)
-  inner_ends : {h i : Head} {es held : Entries} → (x : LiveRegion s h es) (in_it : HoldsRegion es inner_region i held) → HasStatus s Ending h es x → HasStatus s Ending i held (held_in x in_it)
+  left_ends : {h i : Head} {es held : Entries}
+      → (x : LiveRegion s h es) (in_it : HoldsRegion es left_region i held) → HasStatus s Ending h es x → HasStatus s Ending i held (held_in x in_it)
+  inner_ends : {h i : Head} {es held : Entries}
+      → (x : LiveRegion s h es) (in_it : HoldsRegion es inner_region i held) → HasStatus s Ending h es x → HasStatus s Ending i held (held_in x in_it)
   -- a closed region ends
-  closed_ends : {h i : Head} {es held : Entries} → (x : LiveRegion s h es) (in_it : HoldsRegion es closed_region i held) → HasStatus s Ending i held (held_in x in_it)
+  closed_ends : {h i : Head} {es held : Entries}
+      → (x : LiveRegion s h es) (in_it : HoldsRegion es closed_region i held) → HasStatus s Ending i held (held_in x in_it)
   -- a region goes where it is marked so
   marked_to_go : {h : Head} {es : Entries} → (x : LiveRegion s h es) → IsTrue h.goes → HasStatus s Going h es x
   -- a region goes where a left region in it goes
-  left_goes : {h i : Head} {es held : Entries} → (x : LiveRegion s h es) (in_it : HoldsRegion es left_region i held) → HasStatus s Going i held (held_in x in_it) → HasStatus s Going h es x
+  left_goes : {h i : Head} {es held : Entries}
+      → (x : LiveRegion s h es) (in_it : HoldsRegion es left_region i held) → HasStatus s Going i held (held_in x in_it) → HasStatus s Going h es x
   -- a region goes where an inner region in it goes
-  inner_goes : {h i : Head} {es held : Entries} → (x : LiveRegion s h es) (in_it : HoldsRegion es inner_region i held) → HasStatus s Going i held (held_in x in_it) → HasStatus s Going h es x
+  inner_goes : {h i : Head} {es held : Entries}
+      → (x : LiveRegion s h es) (in_it : HoldsRegion es inner_region i held) → HasStatus s Going i held (held_in x in_it) → HasStatus s Going h es x
   -- an outer region and the region around it have one status, both ways
-  outer_takes : {z : Side} {h i : Head} {es held : Entries} → (x : LiveRegion s h es) (in_it : HoldsRegion es outer_region i held) → HasStatus s z h es x → HasStatus s z i held (held_in x in_it)
-  outer_gives : {z : Side} {h i : Head} {es held : Entries} → (x : LiveRegion s h es) (in_it : HoldsRegion es outer_region i held) → HasStatus s z i held (held_in x in_it) → HasStatus s z h es x
+  outer_takes : {z : Side} {h i : Head} {es held : Entries}
+      → (x : LiveRegion s h es) (in_it : HoldsRegion es outer_region i held) → HasStatus s z h es x → HasStatus s z i held (held_in x in_it)
+  outer_gives : {z : Side} {h i : Head} {es held : Entries}
+      → (x : LiveRegion s h es) (in_it : HoldsRegion es outer_region i held) → HasStatus s z i held (held_in x in_it) → HasStatus s z h es x
 
 -- the place of the items of a region that is held in a region of that place
 abbrev pub place_through : {es : Entries} {role : Role} {i : Head} {held : Entries} → HoldsRegion es role i held → Place → Place

@@ -1,7 +1,7 @@
 // Laws of steps, of the next state, and of how a state begins and ends.
 ghost use Rattle.tp_scene.specs.Laws.{StepsKeep, StepsFit, RefusalsStandForNone, AdvancesKeep, AdvancesFit, EndsStand, RunsBegin};
 ghost use Rattle.tp_scene.specs.Status.{StatusIsLeast};
-ghost use Rattle.tp_scene.specs.Cells.{NamedItemWaits, RestEndsGoesOrIsOpen};
+ghost use Rattle.tp_scene.specs.Cells.{WaitsAreForUndecided, DecidedStays, NamedItemWaits, RestEndsGoesOrIsOpen};
 ghost use Rattle.tp_scene.specs.Built.{StepsStayFlat, AdvancesStayFlat};
 
 /// A reduction keeps what a moment stands for, of the intervals whose first state has the state's own number.
@@ -49,6 +49,16 @@ pub fn flat_scenes_stay_flat()
 /// The computed status of a region is the least that the rules of status give, in any scene.
 pub fn status_is_least()
     ensures { StatusIsLeast }
+{}
+
+/// An item waits for undecided cells alone.
+pub fn waits_are_for_undecided()
+    ensures { WaitsAreForUndecided }
+{}
+
+/// A reduction leaves each decided cell decided.
+pub fn decided_stays()
+    ensures { DecidedStays }
 {}
 
 /// At rest, the item that settling names waits; so what is at rest ends, goes on, or has an open cell.
