@@ -6,8 +6,8 @@ use Rattle.tp_store.specs.Known.{NoClash}
 use Rattle.tp_scene.specs.declared.answer.Cell.{Cell}
 use Rattle.tp_scene.specs.declared.answer.Cell.TheVariants.{Part, End}
 use Rattle.tp_scene.specs.Scene.{Side, Ending, Going, Head, Leaf, Holder, Split, SplitProject, Closed, Opened, Running, Entries, none, leaf, node, Scene, second_lives, has, Place, root_place, held_place, second_place}
-use Rattle.tp_scene.specs.Regions.{Role, HoldsRegion, by_split, by_split_project, by_closed, by_opened, by_running, by_running_second, past_leaf, past_node, LiveRegion, the_root, held_in}
-use Rattle.tp_scene.specs.Status.{place_through, place_in}
+use Rattle.tp_scene.specs.Regions.{Role, HoldsRegion, by_split, by_split_project, by_closed, by_opened, by_running, by_running_second, past_leaf, past_node, LiveRegion, the_root, the_held}
+use Rattle.tp_scene.specs.Status.{place_through, computed_place}
 use Rattle.tp_scene.specs.Step.{Outcome, reduces, waits, rests, clashes, misses, passes, Numbers, leaf_step, holder_step}
 use Rattle.tp_scene.specs.Pick.{Setting, Moment, pick, numbers_of}
 use Rattle.tp_scene.specs.Rest.{is_unsettled, holds_back}
@@ -38,7 +38,7 @@ live_number r Closed g e = absurd (false≢true e)
 live_number r (Opened f env) g e = absurd (false≢true e)
 live_number r (Running f env) g e = let f = count_first r g.number [] in let n = count_none r in omega (arith, f, n)
 
-known_counted : (r : ℕ) (z : Side) (es : Entries) (p : Place) → KnownIn r z es p → 1 ≤ regions r es
+pub known_counted : (r : ℕ) (z : Side) (es : Entries) (p : Place) → KnownIn r z es p → 1 ≤ regions r es
 known_counted r z none p k = absurd k
 known_counted r z (leaf id l rest) p k = known_counted r z rest p k
 known_counted r z (node id k h held g second rest) p x =
@@ -220,9 +220,9 @@ known_around r z p _ _ _ _ by_running_second k = inr (inl (refl, k))
 known_around r z p _ role i held (past_leaf in_it) k = known_around r z p _ role i held in_it k
 known_around r z p _ role i held (past_node in_it) k = inr (inr (known_around r z p _ role i held in_it k))
 
-known_from_root : (s : Scene) (r : ℕ) (z : Side) (h : Head) (es : Entries) (x : LiveRegion s h es) → KnownAt r z es (place_in x) → KnownAt r z s.root.entries (root_place s.root)
+known_from_root : (s : Scene) (r : ℕ) (z : Side) (h : Head) (es : Entries) (x : LiveRegion s h es) → KnownAt r z es (computed_place x) → KnownAt r z s.root.entries (root_place s.root)
 known_from_root s r z _ _ the_root k = k
-known_from_root s r z _ _ (held_in {h = h} {es = es} {role = role} {i = i} {held = held} x in_it) k = known_from_root s r z h es x (inr (known_around r z (place_in x) es role i held in_it k))
+known_from_root s r z _ _ (the_held {h = h} {es = es} {role = role} {i = i} {held = held} x in_it) k = known_from_root s r z h es x (inr (known_around r z (computed_place x) es role i held in_it k))
 
 number_through : (p : Place) (es : Entries) (role : Role) (i : Head) (held : Entries) (in_it : HoldsRegion es role i held) → (place_through in_it p).region ≡ i.number
 number_through p _ _ _ _ by_split = refl
@@ -234,9 +234,9 @@ number_through p _ _ _ _ by_running_second = refl
 number_through p _ role i held (past_leaf in_it) = number_through p _ role i held in_it
 number_through p _ role i held (past_node in_it) = number_through p _ role i held in_it
 
-number_in : (s : Scene) (h : Head) (es : Entries) (x : LiveRegion s h es) → (place_in x).region ≡ h.number
+pub number_in : (s : Scene) (h : Head) (es : Entries) (x : LiveRegion s h es) → (computed_place x).region ≡ h.number
 number_in s _ _ the_root = refl
-number_in s _ _ (held_in {es = es} {role = role} {i = i} {held = held} x in_it) = number_through (place_in x) es role i held in_it
+number_in s _ _ (the_held {es = es} {role = role} {i = i} {held = held} x in_it) = number_through (computed_place x) es role i held in_it
 
 pub end_known : (s : Scene) (r : ℕ) (k : IsKnownEnd s r) → KnownAt r k.side s.root.entries (root_place s.root)
 end_known s r k = known_from_root s r k.side k.head k.entries k.region

@@ -8,15 +8,15 @@ use Rattle.tp_store.specs.Facts.{same_path, kept_shape}
 use Rattle.tp_store.proofs.Members.{in_kept, kept_in, excluded_by, excluded_from}
 use Rattle.tp_scene.specs.declared.answer.Cell.TheVariants.{Part, End}
 use Rattle.tp_scene.specs.Scene.{Side, Ending, Going, Head, marked, Holder, Split, SplitProject, Closed, Opened, Running, Entries, none, leaf, node, Scene, second_lives, has, append, sinks, forced, risen, Place, root_place, held_place, second_place}
-use Rattle.tp_scene.specs.Regions.{Role, left_region, closed_region, inner_region, outer_region, HoldsRegion, by_split, by_split_project, by_closed, by_opened, by_running, by_running_second, past_leaf, past_node, LiveRegion, the_root, held_in}
-use Rattle.tp_scene.specs.Status.{place_through, place_in}
+use Rattle.tp_scene.specs.Regions.{Role, left_region, closed_region, inner_region, outer_region, HoldsRegion, by_split, by_split_project, by_closed, by_opened, by_running, by_running_second, past_leaf, past_node, LiveRegion, the_root, the_held, IsTail, all_entries, after_leaf, after_node}
+use Rattle.tp_scene.specs.Status.{place_through, computed_place}
 use Rattle.tp_scene.specs.Step.{Reduction, Outcome, reduces, waits, rests, clashes, misses, passes, Numbers, leaf_step, holder_step}
 use Rattle.tp_scene.specs.Pick.{Setting, pick, mark_at, put, numbers_of, scene_after}
 use Rattle.tp_scene.specs.Cells.{IsKnownEnd, DecidedStays}
 use Rattle.tp_scene.proofs.Frame.{region}
 use Rattle.tp_scene.proofs.Risen.{StatusKept, status_put, status_marked, pick_here, pick_second, pick_first, pick_later}
 use Rattle.tp_scene.proofs.PutNumbers.{marked_number}
-use Rattle.tp_scene.proofs.StatusRules.{Suffix, whole, after_leaf, after_node, held_by, status_is_least}
+use Rattle.tp_scene.proofs.StatusRules.{held_by, status_is_least}
 use Rattle.tp_scene.proofs.KnownEnds.{KnownIn, KnownAt, end_known}
 
 -- what is so in the one place is so in the other
@@ -178,28 +178,28 @@ module _ (r : ℕ) (z : Side) where
           ]
 
 -- a place where a region is known is that of a live region
-place_by : {left es : Entries} {role : Role} {i : Head} {held : Entries} (sfx : Suffix left es) (in_it : HoldsRegion left role i held) (p : Place) → place_through (held_by sfx in_it) p ≡ place_through in_it p
-place_by whole in_it p = refl
+pub place_by : {left es : Entries} {role : Role} {i : Head} {held : Entries} (sfx : IsTail left es) (in_it : HoldsRegion left role i held) (p : Place) → place_through (held_by sfx in_it) p ≡ place_through in_it p
+place_by all_entries in_it p = refl
 place_by (after_leaf s) in_it p = place_by s (past_leaf in_it) p
 place_by (after_node s) in_it p = place_by s (past_node in_it) p
 
-record Holding (k : Holder) (es : Entries) (h : Head) (held : Entries) : Type 0 where
-  role : Role
-  in_it : HoldsRegion es role h held
-  place : (p : Place) → place_through in_it p ≡ held_place k h held p
+pub record Holding (k : Holder) (es : Entries) (h : Head) (held : Entries) : Type 0 where
+  pub role : Role
+  pub in_it : HoldsRegion es role h held
+  pub place : (p : Place) → place_through in_it p ≡ held_place k h held p
 
-holding : (k : Holder) (id : ℕ) (h : Head) (held : Entries) (g : Head) (second rest : Entries) → Holding k (node id k h held g second rest) h held
+pub holding : (k : Holder) (id : ℕ) (h : Head) (held : Entries) (g : Head) (second rest : Entries) → Holding k (node id k h held g second rest) h held
 holding (Split f env) id h held g second rest = record { role = left_region; in_it = by_split; place = λ p. refl }
 holding (SplitProject f env) id h held g second rest = record { role = left_region; in_it = by_split_project; place = λ p. refl }
 holding Closed id h held g second rest = record { role = closed_region; in_it = by_closed; place = λ p. refl }
 holding (Opened f env) id h held g second rest = record { role = outer_region; in_it = by_opened; place = λ p. refl }
 holding (Running f env) id h held g second rest = record { role = inner_region; in_it = by_running; place = λ p. refl }
 
-record HoldingSecond (es : Entries) (g : Head) (second : Entries) : Type 0 where
-  in_it : HoldsRegion es outer_region g second
-  place : (p : Place) → place_through in_it p ≡ second_place g second p
+pub record HoldingSecond (es : Entries) (g : Head) (second : Entries) : Type 0 where
+  pub in_it : HoldsRegion es outer_region g second
+  pub place : (p : Place) → place_through in_it p ≡ second_place g second p
 
-holding_second : (k : Holder) (id : ℕ) (h : Head) (held : Entries) (g : Head) (second rest : Entries) → second_lives k ≡ true → HoldingSecond (node id k h held g second rest) g second
+pub holding_second : (k : Holder) (id : ℕ) (h : Head) (held : Entries) (g : Head) (second rest : Entries) → second_lives k ≡ true → HoldingSecond (node id k h held g second rest) g second
 holding_second (Split f env) id h held g second rest e = absurd (false≢true e)
 holding_second (SplitProject f env) id h held g second rest e = absurd (false≢true e)
 holding_second Closed id h held g second rest e = absurd (false≢true e)
@@ -207,27 +207,27 @@ holding_second (Opened f env) id h held g second rest e = absurd (false≢true e
 holding_second (Running f env) id h held g second rest e = record { in_it = by_running_second; place = λ p. refl }
 
 module _ (s : Scene) (r : ℕ) (z : Side) where
-  this_region : (h : Head) (es : Entries) (x : LiveRegion s h es) → h.number ≡ r → (place_in x).is z ≡ true → IsKnownEnd s r
+  this_region : (h : Head) (es : Entries) (x : LiveRegion s h es) → h.number ≡ r → (computed_place x).is z ≡ true → IsKnownEnd s r
   this_region h es x same e = record { head = h; entries = es; region = x; numbered = same; side = z; status = (status_is_least s h es x z).0 e }
 
-  region_found : (left : Entries) (h : Head) (es : Entries) (x : LiveRegion s h es) → Suffix left es → KnownIn r z left (place_in x) → IsKnownEnd s r
+  region_found : (left : Entries) (h : Head) (es : Entries) (x : LiveRegion s h es) → IsTail left es → KnownIn r z left (computed_place x) → IsKnownEnd s r
   region_found none h es x sfx u = absurd u
   region_found (leaf id l rest) h es x sfx u = region_found rest h es x (after_leaf sfx) u
   region_found (node id k i held g second rest) h es x sfx u = elim u [
     | inl y ↦ (let a = holding k id i held g second rest in
-        let there = held_in x (held_by sfx a.in_it) in
-        let same : place_in there ≡ held_place k i held (place_in x) = place_by sfx a.in_it (place_in x) ∙ a.place (place_in x) in
+        let there = the_held x (held_by sfx a.in_it) in
+        let same : computed_place there ≡ held_place k i held (computed_place x) = place_by sfx a.in_it (computed_place x) ∙ a.place (computed_place x) in
         elim y [
           | inl v ↦ this_region i held there v.0 (subst (λ (p : Place). p.is z ≡ true) (sym same) v.1)
-          | inr v ↦ region_found held i held there whole (subst (λ (p : Place). KnownIn r z held p) (sym same) v)
+          | inr v ↦ region_found held i held there all_entries (subst (λ (p : Place). KnownIn r z held p) (sym same) v)
         ])
     | inr y ↦ elim y [
       | inl b ↦ (let a = holding_second k id i held g second rest b.0 in
-          let there = held_in x (held_by sfx a.in_it) in
-          let same : place_in there ≡ second_place g second (place_in x) = place_by sfx a.in_it (place_in x) ∙ a.place (place_in x) in
+          let there = the_held x (held_by sfx a.in_it) in
+          let same : computed_place there ≡ second_place g second (computed_place x) = place_by sfx a.in_it (computed_place x) ∙ a.place (computed_place x) in
           elim (b.1) [
             | inl v ↦ this_region g second there v.0 (subst (λ (p : Place). p.is z ≡ true) (sym same) v.1)
-            | inr v ↦ region_found second g second there whole (subst (λ (p : Place). KnownIn r z second p) (sym same) v)
+            | inr v ↦ region_found second g second there all_entries (subst (λ (p : Place). KnownIn r z second p) (sym same) v)
           ])
       | inr b ↦ region_found rest h es x (after_node sfx) b
     ]
@@ -235,7 +235,7 @@ module _ (s : Scene) (r : ℕ) (z : Side) where
 
   pub known_end : KnownAt r z s.root.entries (root_place s.root) → IsKnownEnd s r
   known_end (inl u) = this_region s.root.head s.root.entries the_root u.0 u.1
-  known_end (inr u) = region_found s.root.entries s.root.head s.root.entries the_root whole u
+  known_end (inr u) = region_found s.root.entries s.root.head s.root.entries the_root all_entries u
 
 -- what was kept is kept where more is appended
 kept_first : (fs gs : List Fact) (p : Path) (sh : Shape) → kept_shape fs p ≡ Some sh → kept_shape (fs ++ gs) p ≡ Some sh

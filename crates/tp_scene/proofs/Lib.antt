@@ -48,3 +48,5 @@ pub mod WaitRows
 pub mod NamedItem
 pub mod KnownEnds
 pub mod KnownStays
+pub mod Seen
+pub mod OpenCell

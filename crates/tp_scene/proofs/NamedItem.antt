@@ -160,7 +160,7 @@ waits_then (misses port) idle busy = absurd idle
 waits_then (passes k) idle busy = absurd idle
 
 -- what settling comes to, by the unsettled items and the root's status
-by_settling : (ts : List ℕ) (b c : Bool) (p : Place) → p.is Ending ≡ b → p.is Going ≡ c
+pub by_settling : (ts : List ℕ) (b c : Bool) (p : Place) → p.is Ending ≡ b → p.is Going ≡ c
     → ((t : ℕ) × (us : List ℕ) × (ts ≡ t ∷ us) × (settled_by ts p ≡ waiting t)) ⊎ ((settled_by ts p ≡ ends) ⊎ ((settled_by ts p ≡ goes) ⊎ (settled_by ts p ≡ end_open)))
 by_settling (t ∷ ts) b c p u v = inl (t, ts, refl, refl)
 by_settling [] true c p u v = inr (inl (cond-true {A = Settled} (p.is Ending) _ _ u))

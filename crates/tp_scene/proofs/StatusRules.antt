@@ -2,10 +2,10 @@
 use Rattle.std.proofs.Common.{◌≡◌, ◌⊎◌, ℕ, true, ◌||◌, ◌&&◌, refl, inl, inr}
 use Rattle.std.proofs.lemmas.Bool.{or_cases, or_left, or_right, and_parts, false≢true}
 use Rattle.tp_meaning.specs.Syntax.{FormulaTree}
-use Rattle.tp_scene.specs.Scene.{Bindings, Side, Ending, Going, Head, marked, Leaf, Holder, Split, SplitProject, Closed, Opened, Running, Entries, none, leaf, node, Scene, second_lives, rises, sinks, forced, risen, Place, held_place}
+use Rattle.tp_scene.specs.Scene.{Bindings, Side, Ending, Going, Head, marked, Holder, Split, SplitProject, Closed, Opened, Running, Entries, none, leaf, node, Scene, second_lives, rises, sinks, forced, risen, Place, held_place}
 use Rattle.tp_scene.proofs.Grown.{held_covered, second_covered}
-use Rattle.tp_scene.specs.Regions.{Role, left_region, closed_region, inner_region, outer_region, HoldsRegion, by_split, by_split_project, by_closed, by_opened, by_running, by_running_second, past_leaf, past_node, LiveRegion, the_root, held_in}
-use Rattle.tp_scene.specs.Status.{HasStatus, marked_to_end, left_ends, inner_ends, closed_ends, marked_to_go, left_goes, inner_goes, outer_takes, outer_gives, place_through, place_in, StatusIsLeast}
+use Rattle.tp_scene.specs.Regions.{Role, left_region, closed_region, inner_region, outer_region, HoldsRegion, by_split, by_split_project, by_closed, by_opened, by_running, by_running_second, past_leaf, past_node, LiveRegion, the_root, the_held, IsTail, all_entries, after_leaf, after_node}
+use Rattle.tp_scene.specs.Status.{HasStatus, marked_to_end, left_ends, inner_ends, closed_ends, marked_to_go, left_goes, inner_goes, outer_takes, outer_gives, place_through, computed_place, StatusIsLeast}
 
 -- what a region of a role makes of the region around, takes from it, and is by itself
 abbrev pub GivesUp : Role → Side → Type 0
@@ -117,20 +117,15 @@ comes_from z p _ _ _ _ (by_running_second {g = g} {second = second}) e = elim (o
 comes_from z p _ role i held (past_leaf in_it) e = comes_from z p _ role i held in_it e
 comes_from z p _ role i held (past_node in_it) e = comes_from z p _ role i held in_it e
 
--- what follows from an item of the entries that are left, follows from all of them
-pub data Suffix : Entries → Entries → Type 0 where
-  whole : {es : Entries} → Suffix es es
-  after_leaf : {id : ℕ} {l : Leaf} {rest es : Entries} → Suffix (leaf id l rest) es → Suffix rest es
-  after_node : {id : ℕ} {k : Holder} {h g : Head} {held second rest es : Entries} → Suffix (node id k h held g second rest) es → Suffix rest es
-
-abbrev pub held_by : {left es : Entries} {role : Role} {i : Head} {held : Entries} → Suffix left es → HoldsRegion left role i held → HoldsRegion es role i held
-held_by whole in_it = in_it
+-- what an item of a tail holds, an item of the whole holds
+abbrev pub held_by : {left es : Entries} {role : Role} {i : Head} {held : Entries} → IsTail left es → HoldsRegion left role i held → HoldsRegion es role i held
+held_by all_entries in_it = in_it
 held_by (after_leaf s) in_it = held_by s (past_leaf in_it)
 held_by (after_node s) in_it = held_by s (past_node in_it)
 
 module _ (s : Scene) where
   -- the rules by roles
-  rule_up : (role : Role) (z : Side) (h i : Head) (es held : Entries) (x : LiveRegion s h es) (in_it : HoldsRegion es role i held) → GivesUp role z → HasStatus s z i held (held_in x in_it) → HasStatus s z h es x
+  rule_up : (role : Role) (z : Side) (h i : Head) (es held : Entries) (x : LiveRegion s h es) (in_it : HoldsRegion es role i held) → GivesUp role z → HasStatus s z i held (the_held x in_it) → HasStatus s z h es x
   rule_up left_region Ending h i es held x in_it u d = absurd u
   rule_up left_region Going h i es held x in_it u d = left_goes x in_it d
   rule_up closed_region z h i es held x in_it u d = absurd u
@@ -138,7 +133,7 @@ module _ (s : Scene) where
   rule_up inner_region Going h i es held x in_it u d = inner_goes x in_it d
   rule_up outer_region z h i es held x in_it u d = outer_gives x in_it d
 
-  rule_down : (role : Role) (z : Side) (h i : Head) (es held : Entries) (x : LiveRegion s h es) (in_it : HoldsRegion es role i held) → TakesDown role z → HasStatus s z h es x → HasStatus s z i held (held_in x in_it)
+  rule_down : (role : Role) (z : Side) (h i : Head) (es held : Entries) (x : LiveRegion s h es) (in_it : HoldsRegion es role i held) → TakesDown role z → HasStatus s z h es x → HasStatus s z i held (the_held x in_it)
   rule_down left_region Ending h i es held x in_it u d = left_ends x in_it d
   rule_down left_region Going h i es held x in_it u d = absurd u
   rule_down closed_region z h i es held x in_it u d = absurd u
@@ -146,7 +141,7 @@ module _ (s : Scene) where
   rule_down inner_region Going h i es held x in_it u d = absurd u
   rule_down outer_region z h i es held x in_it u d = outer_takes x in_it d
 
-  rule_forced : (role : Role) (z : Side) (h i : Head) (es held : Entries) (x : LiveRegion s h es) (in_it : HoldsRegion es role i held) → IsForced role z → HasStatus s z i held (held_in x in_it)
+  rule_forced : (role : Role) (z : Side) (h i : Head) (es held : Entries) (x : LiveRegion s h es) (in_it : HoldsRegion es role i held) → IsForced role z → HasStatus s z i held (the_held x in_it)
   rule_forced left_region z h i es held x in_it u = absurd u
   rule_forced closed_region Ending h i es held x in_it u = closed_ends x in_it
   rule_forced closed_region Going h i es held x in_it u = absurd u
@@ -185,57 +180,57 @@ module _ (s : Scene) where
     second_held (Opened f env) e = absurd (false≢true e)
     second_held (Running f env) e = by_running_second
 
-  rises_by_rules : (left : Entries) (z : Side) (h : Head) (es : Entries) (x : LiveRegion s h es) → Suffix left es → risen z left ≡ true → HasStatus s z h es x
+  rises_by_rules : (left : Entries) (z : Side) (h : Head) (es : Entries) (x : LiveRegion s h es) → IsTail left es → risen z left ≡ true → HasStatus s z h es x
   rises_by_rules none z h es x sfx e = absurd (false≢true e)
   rises_by_rules (leaf id l rest) z h es x sfx e = rises_by_rules rest z h es x (after_leaf sfx) e
   rises_by_rules (node id k i held g second rest) z h es x sfx e = elim (or_cases (rises k z && (marked z i || risen z held)) _ e) [
     | inl u ↦ (let v = and_parts (rises k z) (marked z i || risen z held) u in
         let r = first_held z id i held g second rest k v.0 in
-        let y = held_in x (held_by sfx r.1) in
-        rule_up r.0 z h i es held x (held_by sfx r.1) r.2 (elim (or_cases (marked z i) (risen z held) v.1) [ inl m ↦ rule_marked z i held y m | inr q ↦ rises_by_rules held z i held y whole q ]))
+        let y = the_held x (held_by sfx r.1) in
+        rule_up r.0 z h i es held x (held_by sfx r.1) r.2 (elim (or_cases (marked z i) (risen z held) v.1) [ inl m ↦ rule_marked z i held y m | inr q ↦ rises_by_rules held z i held y all_entries q ]))
     | inr u ↦ elim (or_cases (second_lives k && (marked z g || risen z second)) _ u) [
       | inl v ↦ (let w = and_parts (second_lives k) (marked z g || risen z second) v in
           let in_it = held_by sfx (second_held z id i held g second rest k w.0) in
-          let y = held_in x in_it in
-          outer_gives x in_it (elim (or_cases (marked z g) (risen z second) w.1) [ inl m ↦ rule_marked z g second y m | inr q ↦ rises_by_rules second z g second y whole q ]))
+          let y = the_held x in_it in
+          outer_gives x in_it (elim (or_cases (marked z g) (risen z second) w.1) [ inl m ↦ rule_marked z g second y m | inr q ↦ rises_by_rules second z g second y all_entries q ]))
       | inr v ↦ rises_by_rules rest z h es x (after_node sfx) v
     ]
   ]
 
   own_by_rules : (z : Side) (h : Head) (es : Entries) (x : LiveRegion s h es) → (marked z h || risen z es) ≡ true → HasStatus s z h es x
-  own_by_rules z h es x e = elim (or_cases (marked z h) (risen z es) e) [ inl m ↦ rule_marked z h es x m | inr q ↦ rises_by_rules es z h es x whole q ]
+  own_by_rules z h es x e = elim (or_cases (marked z h) (risen z es) e) [ inl m ↦ rule_marked z h es x m | inr q ↦ rises_by_rules es z h es x all_entries q ]
 
   -- what is computed is so by the rules
-  computed_by_rules : (z : Side) (h : Head) (es : Entries) (x : LiveRegion s h es) → (place_in x).is z ≡ true → HasStatus s z h es x
+  computed_by_rules : (z : Side) (h : Head) (es : Entries) (x : LiveRegion s h es) → (computed_place x).is z ≡ true → HasStatus s z h es x
   computed_by_rules z _ _ the_root e = own_by_rules z s.root.head s.root.entries the_root e
-  computed_by_rules z _ _ (held_in {h = h} {es = es} {role = role} {i = i} {held = held} x in_it) e = elim (comes_from z (place_in x) es role i held in_it e) [
+  computed_by_rules z _ _ (the_held {h = h} {es = es} {role = role} {i = i} {held = held} x in_it) e = elim (comes_from z (computed_place x) es role i held in_it e) [
     | inl u ↦ rule_down role z h i es held x in_it u.0 (computed_by_rules z h es x u.1)
-    | inr u ↦ elim u [ inl f ↦ rule_forced role z h i es held x in_it f | inr o ↦ own_by_rules z i held (held_in x in_it) o ]
+    | inr u ↦ elim u [ inl f ↦ rule_forced role z h i es held x in_it f | inr o ↦ own_by_rules z i held (the_held x in_it) o ]
   ]
 
-  own_so : (z : Side) (h : Head) (es : Entries) (x : LiveRegion s h es) → (marked z h || risen z es) ≡ true → (place_in x).is z ≡ true
+  own_so : (z : Side) (h : Head) (es : Entries) (x : LiveRegion s h es) → (marked z h || risen z es) ≡ true → (computed_place x).is z ≡ true
   own_so z _ _ the_root e = e
-  own_so z _ _ (held_in {es = es} {role = role} {i = i} {held = held} x in_it) e = held_so z (place_in x) es role i held in_it e
+  own_so z _ _ (the_held {es = es} {role = role} {i = i} {held = held} x in_it) e = held_so z (computed_place x) es role i held in_it e
 
   -- a region that makes the one around it so
   up_so : (role : Role) (z : Side) (h i : Head) (es held : Entries) (x : LiveRegion s h es) (in_it : HoldsRegion es role i held) → GivesUp role z
-      → (IsForced role z → ⊥) → (place_in (held_in x in_it)).is z ≡ true → (place_in x).is z ≡ true
-  up_so role z h i es held x in_it up free e = elim (comes_from z (place_in x) es role i held in_it e) [
+      → (IsForced role z → ⊥) → (computed_place (the_held x in_it)).is z ≡ true → (computed_place x).is z ≡ true
+  up_so role z h i es held x in_it up free e = elim (comes_from z (computed_place x) es role i held in_it e) [
     | inl u ↦ u.1
     | inr u ↦ elim u [ inl f ↦ absurd (free f) | inr o ↦ own_so z h es x (or_right (marked z h) _ (given_up z es role i held in_it up o)) ]
   ]
 
   -- and what is so by the rules is computed
-  rules_computed : (z : Side) (h : Head) (es : Entries) (x : LiveRegion s h es) → HasStatus s z h es x → (place_in x).is z ≡ true
+  rules_computed : (z : Side) (h : Head) (es : Entries) (x : LiveRegion s h es) → HasStatus s z h es x → (computed_place x).is z ≡ true
   rules_computed _ _ _ _ (marked_to_end {h = h} {es = es} x m) = own_so Ending h es x (or_left h.ends _ m)
-  rules_computed _ _ _ _ (left_ends {h = h} {i = i} {es = es} {held = held} x in_it d) = taken_down Ending (place_in x) es left_region i held in_it tt (rules_computed Ending h es x d)
-  rules_computed _ _ _ _ (inner_ends {h = h} {i = i} {es = es} {held = held} x in_it d) = taken_down Ending (place_in x) es inner_region i held in_it tt (rules_computed Ending h es x d)
-  rules_computed _ _ _ _ (closed_ends {h = h} {i = i} {es = es} {held = held} x in_it) = forced_so Ending (place_in x) es closed_region i held in_it tt
+  rules_computed _ _ _ _ (left_ends {h = h} {i = i} {es = es} {held = held} x in_it d) = taken_down Ending (computed_place x) es left_region i held in_it tt (rules_computed Ending h es x d)
+  rules_computed _ _ _ _ (inner_ends {h = h} {i = i} {es = es} {held = held} x in_it d) = taken_down Ending (computed_place x) es inner_region i held in_it tt (rules_computed Ending h es x d)
+  rules_computed _ _ _ _ (closed_ends {h = h} {i = i} {es = es} {held = held} x in_it) = forced_so Ending (computed_place x) es closed_region i held in_it tt
   rules_computed _ _ _ _ (marked_to_go {h = h} {es = es} x m) = own_so Going h es x (or_left h.goes _ m)
-  rules_computed _ _ _ _ (left_goes {h = h} {i = i} {es = es} {held = held} x in_it d) = up_so left_region Going h i es held x in_it tt (λ f. f) (rules_computed Going i held (held_in x in_it) d)
-  rules_computed _ _ _ _ (inner_goes {h = h} {i = i} {es = es} {held = held} x in_it d) = up_so inner_region Going h i es held x in_it tt (λ f. f) (rules_computed Going i held (held_in x in_it) d)
-  rules_computed _ _ _ _ (outer_takes {z = z} {h = h} {i = i} {es = es} {held = held} x in_it d) = taken_down z (place_in x) es outer_region i held in_it tt (rules_computed z h es x d)
-  rules_computed _ _ _ _ (outer_gives {z = z} {h = h} {i = i} {es = es} {held = held} x in_it d) = up_so outer_region z h i es held x in_it tt (λ f. f) (rules_computed z i held (held_in x in_it) d)
+  rules_computed _ _ _ _ (left_goes {h = h} {i = i} {es = es} {held = held} x in_it d) = up_so left_region Going h i es held x in_it tt (λ f. f) (rules_computed Going i held (the_held x in_it) d)
+  rules_computed _ _ _ _ (inner_goes {h = h} {i = i} {es = es} {held = held} x in_it d) = up_so inner_region Going h i es held x in_it tt (λ f. f) (rules_computed Going i held (the_held x in_it) d)
+  rules_computed _ _ _ _ (outer_takes {z = z} {h = h} {i = i} {es = es} {held = held} x in_it d) = taken_down z (computed_place x) es outer_region i held in_it tt (rules_computed z h es x d)
+  rules_computed _ _ _ _ (outer_gives {z = z} {h = h} {i = i} {es = es} {held = held} x in_it d) = up_so outer_region z h i es held x in_it tt (λ f. f) (rules_computed z i held (the_held x in_it) d)
 
 pub status_is_least : StatusIsLeast
 status_is_least s h es x z = (computed_by_rules s z h es x, rules_computed s z h es x)

@@ -28,7 +28,7 @@ IsUndecided facts q = (kept_shape facts q ≡ None) × (is_excluded facts q ≡ 
 -- a cell that a step in a region of this place waits for: an undecided path, or the end of this region, which isn't known
 abbrev pub IsOpenAt : List Fact → Place → Cell → Type 0
 IsOpenAt facts p (Part q) = IsUndecided facts q
-IsOpenAt facts p (End region depth) = (p.region ≡ region) × (p.is Ending ≡ false) × (p.is Going ≡ false)
+IsOpenAt facts p (End region depth) = (p.region ≡ region) × (p.is Ending ≡ false) × (p.is Going ≡ false) × (p.depth ≡ depth)
 
 abbrev pub ForOther : (Cell → Type 0) → Option Cell → Type 0
 ForOther P None = Unit {0}
@@ -66,7 +66,7 @@ module _ (facts : List Fact) (apart : NoClash facts) (Idle : Type 0) (p : Place)
   marking_answers z false depth news items = tt
 
   status_answers : (o o' : Outcome) → (p.is Going ≡ true → Answers o) → (p.is Going ≡ false → p.is Ending ≡ true → Answers o') → Answers (by_status p o o')
-  status_answers o o' h h' = cond_both (p.is Going) _ _ Answers h (λ g. cond_both (p.is Ending) _ _ Answers (h' g) (λ e. ((refl, e, g), tt)))
+  status_answers o o' h h' = cond_both (p.is Going) _ _ Answers h (λ g. cond_both (p.is Ending) _ _ Answers (h' g) (λ e. ((refl, e, g, refl), tt)))
 
   value_answers : (o : found.Outcome) (f : Tree → Outcome) → Undecided o → ((t : Tree) → Answers (f t)) → Answers (with_value o f)
   value_answers (found.value t) f u h = h t

@@ -49,9 +49,15 @@ pub record ItemWaits (w : Setting) (m : Moment) (t : ℕ) : Type 0 where
 
 -- At rest, the item that settling names waits.
 abbrev pub NamedItemWaits : Type 0
-NamedItemWaits = (w : Setting) (kinds : List Bool) (m : Moment) (t : ℕ) → IsSound w kinds m → AtRest w m → settled m.scene ≡ waiting t → ItemWaits w m t
+NamedItemWaits = (w : Setting) (kinds : List Bool) (m : Moment) (t : ℕ) → IsSound w kinds m → AtRest w m
+    → settled m.scene ≡ waiting t → ItemWaits w m t
 
--- So what is at rest ends, goes on, or has an open cell.
+-- So what is at rest ends, goes on, or has an open cell;
 abbrev pub RestEndsGoesOrIsOpen : Type 0
 RestEndsGoesOrIsOpen = (w : Setting) (kinds : List Bool) (m : Moment) → IsSound w kinds m → AtRest w m
     → (settled m.scene ≡ ends) ⊎ ((settled m.scene ≡ goes) ⊎ ((cell : Cell) × IsOpenCell w m cell))
+
+-- and its open cell isn't decided.
+abbrev pub OpenCellsAreUndecided : Type 0
+OpenCellsAreUndecided = (w : Setting) (kinds : List Bool) (m : Moment) (cell : Cell) → IsSound w kinds m
+    → IsOpenCell w m cell → IsDecided m cell → ⊥

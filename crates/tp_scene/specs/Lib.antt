@@ -12,3 +12,4 @@ pub mod Replay
 pub mod Regions
 pub mod Status
 pub mod Cells
+pub mod Seen

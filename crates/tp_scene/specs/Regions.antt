@@ -35,5 +35,11 @@ pub data HoldsRegion : Entries → Role → Head → Entries → Type 0 where
 -- regions, also where these look alike.
 pub data LiveRegion (s : Scene) : Head → Entries → Type 0 where
   the_root : LiveRegion s s.root.head s.root.entries
-  held_in : {h : Head} {es : Entries} {role : Role} {i : Head} {held : Entries}
+  the_held : {h : Head} {es : Entries} {role : Role} {i : Head} {held : Entries}
       → (around : LiveRegion s h es) → HoldsRegion es role i held → LiveRegion s i held
+
+-- These entries are those from one of their items on.
+pub data IsTail : (tail es : Entries) → Type 0 where
+  all_entries : {es : Entries} → IsTail es es
+  after_leaf : {id : ℕ} {l : Leaf} {rest es : Entries} → IsTail (leaf id l rest) es → IsTail rest es
+  after_node : {id : ℕ} {k : Holder} {h g : Head} {held second rest es : Entries} → IsTail (node id k h held g second rest) es → IsTail rest es
