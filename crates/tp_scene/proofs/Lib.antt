@@ -50,3 +50,4 @@ pub mod KnownEnds
 pub mod KnownStays
 pub mod Seen
 pub mod OpenCell
+pub mod LiveItems

@@ -23,6 +23,18 @@ use Rattle.tp_scene.proofs.StatusRules.{held_by}
 use Rattle.tp_scene.proofs.KnownEnds.{number_in}
 use Rattle.tp_scene.proofs.KnownStays.{holding, holding_second, place_by}
 
+-- an item of a held region is an item of the entries around
+pub lives_around : (t : ℕ) (es : Entries) (role : Role) (i : Head) (held : Entries) → HoldsRegion es role i held → has t held ≡ true → has t es ≡ true
+lives_around t _ _ _ _ (by_split {id = id} {held = held}) e = or_right (eqb id t) _ (or_left (has t held) _ e)
+lives_around t _ _ _ _ (by_split_project {id = id} {held = held}) e = or_right (eqb id t) _ (or_left (has t held) _ e)
+lives_around t _ _ _ _ (by_closed {id = id} {held = held}) e = or_right (eqb id t) _ (or_left (has t held) _ e)
+lives_around t _ _ _ _ (by_opened {id = id} {held = held}) e = or_right (eqb id t) _ (or_left (has t held) _ e)
+lives_around t _ _ _ _ (by_running {id = id} {held = held} {second = second}) e = or_right (eqb id t) _ (or_right (has t second) _ (or_left (has t held) _ e))
+lives_around t _ _ _ _ (by_running_second {id = id} {second = second}) e = or_right (eqb id t) _ (or_left (has t second) _ e)
+lives_around t _ role i held (past_leaf {id = id} {rest = rest} in_it) e = or_right (eqb id t) _ (lives_around t rest role i held in_it e)
+lives_around t _ role i held (past_node {id = id} {k = k} {first = first} {second = second} {rest = rest} in_it) e =
+    or_right (eqb id t) _ (or_right (second_lives k && has t second) _ (or_right (has t first) _ (lives_around t rest role i held in_it e)))
+
 module _ (w : Setting) (facts : List Fact) (t : ℕ) (n : Numbers) where
   -- A live item stands once in these entries, and picking it is picking it in others of that place.
   record LeadsTo (es : Entries) (p : Place) (inner : Entries) (q : Place) : Type 0 where
@@ -104,22 +116,11 @@ module _ (w : Setting) (facts : List Fact) (t : ℕ) (n : Numbers) where
       let before = to_tail (node id k h held g second rest) es tail p most (or_right (eqb id t) _ (or_right (second_lives k && has t second) _ (or_right (has t held) _ lives))) in
       joined es (node id k h held g second rest) rest p p p before (to_rest_node id k h held g second rest p before.once lives)
 
-  lives_around : (es : Entries) (role : Role) (i : Head) (held : Entries) → HoldsRegion es role i held → has t held ≡ true → has t es ≡ true
-  lives_around _ _ _ _ (by_split {id = id} {held = held}) e = or_right (eqb id t) _ (or_left (has t held) _ e)
-  lives_around _ _ _ _ (by_split_project {id = id} {held = held}) e = or_right (eqb id t) _ (or_left (has t held) _ e)
-  lives_around _ _ _ _ (by_closed {id = id} {held = held}) e = or_right (eqb id t) _ (or_left (has t held) _ e)
-  lives_around _ _ _ _ (by_opened {id = id} {held = held}) e = or_right (eqb id t) _ (or_left (has t held) _ e)
-  lives_around _ _ _ _ (by_running {id = id} {held = held} {second = second}) e = or_right (eqb id t) _ (or_right (has t second) _ (or_left (has t held) _ e))
-  lives_around _ _ _ _ (by_running_second {id = id} {second = second}) e = or_right (eqb id t) _ (or_left (has t second) _ e)
-  lives_around _ role i held (past_leaf {id = id} {rest = rest} in_it) e = or_right (eqb id t) _ (lives_around rest role i held in_it e)
-  lives_around _ role i held (past_node {id = id} {k = k} {first = first} {second = second} {rest = rest} in_it) e =
-      or_right (eqb id t) _ (or_right (second_lives k && has t second) _ (or_right (has t first) _ (lives_around rest role i held in_it e)))
-
   -- from the root to a live region
   from_root : (s : Scene) (h : Head) (es : Entries) (x : LiveRegion s h es) → items t s.root.entries ≤ 1 → has t es ≡ true → LeadsTo s.root.entries (root_place s.root) es (computed_place x)
   from_root s _ _ the_root most lives = record { lives = lives; once = most; same = refl }
   from_root s _ _ (the_held {h = h} {es = es} {role = role} {i = i} {held = held} x in_it) most lives =
-      let around = from_root s h es x most (lives_around es role i held in_it lives) in
+      let around = from_root s h es x most (lives_around t es role i held in_it lives) in
       joined s.root.entries es held (root_place s.root) (computed_place x) (place_through in_it (computed_place x)) around (to_region es role i held in_it (computed_place x) around.once lives)
 
   -- from the root to a tail of a live region's entries
@@ -131,7 +132,7 @@ module _ (w : Setting) (facts : List Fact) (t : ℕ) (n : Numbers) where
       a.same ∙ b.same
 
 -- an item of a tail is an item of the whole
-lives_whole : (t : ℕ) (left es : Entries) → IsTail left es → has t left ≡ true → has t es ≡ true
+pub lives_whole : (t : ℕ) (left es : Entries) → IsTail left es → has t left ≡ true → has t es ≡ true
 lives_whole t _ _ all_entries e = e
 lives_whole t _ _ (after_leaf {id = id} {l = l} {rest = rest} {es = es} tail) e = lives_whole t (leaf id l rest) es tail (or_right (eqb id t) (has t rest) e)
 lives_whole t _ _ (after_node {id = id} {k = k} {h = h} {g = g} {held = held} {second = second} {rest = rest} {es = es} tail) e =

@@ -1,5 +1,6 @@
 // Laws of steps, of the next state, and of how a state begins and ends.
 ghost use Rattle.tp_scene.specs.Laws.{StepsKeep, StepsFit, RefusalsStandForNone, AdvancesKeep, AdvancesFit, EndsStand, RunsBegin};
+ghost use Rattle.tp_scene.specs.Regions.{LiveItemsStandInLiveRegions};
 ghost use Rattle.tp_scene.specs.Status.{StatusIsLeast};
 ghost use Rattle.tp_scene.specs.Cells.{WaitsAreForUndecided, DecidedStays, NamedItemWaits, RestEndsGoesOrIsOpen, OpenCellsAreUndecided};
 ghost use Rattle.tp_scene.specs.Seen.{PicksSeePlaces, WaitedEndsAreLive};
@@ -45,6 +46,11 @@ pub fn runs_begin()
 pub fn flat_scenes_stay_flat()
     ensures steps { StepsStayFlat }
     ensures advances { AdvancesStayFlat }
+{}
+
+/// The live items of a scene are those that stand in its live regions.
+pub fn live_items_stand_in_live_regions()
+    ensures { LiveItemsStandInLiveRegions }
 {}
 
 /// The status that is computed of a live region is the least that the rules of status give, in any scene; and in a sound one each item is
