@@ -43,3 +43,11 @@ pub mod StepsFit
 pub mod AdvancesFit
 pub mod EndLaws
 pub mod Flat
+pub mod StatusRules
+pub mod WaitRows
+pub mod NamedItem
+pub mod KnownEnds
+pub mod KnownStays
+pub mod Seen
+pub mod OpenCell
+pub mod LiveItems

@@ -9,3 +9,7 @@ pub mod Fits
 pub mod Laws
 pub mod Built
 pub mod Replay
+pub mod Regions
+pub mod Status
+pub mod Cells
+pub mod Seen

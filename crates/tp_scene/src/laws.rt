@@ -1,5 +1,9 @@
 // Laws of steps, of the next state, and of how a state begins and ends.
 ghost use Rattle.tp_scene.specs.Laws.{StepsKeep, StepsFit, RefusalsStandForNone, AdvancesKeep, AdvancesFit, EndsStand, RunsBegin};
+ghost use Rattle.tp_scene.specs.Regions.{LiveItemsStandInLiveRegions};
+ghost use Rattle.tp_scene.specs.Status.{StatusIsLeast};
+ghost use Rattle.tp_scene.specs.Cells.{WaitsAreForUndecided, DecidedStays, NamedItemWaits, RestEndsGoesOrIsOpen, OpenCellsAreUndecided};
+ghost use Rattle.tp_scene.specs.Seen.{PicksSeePlaces, WaitedEndsAreLive};
 ghost use Rattle.tp_scene.specs.Built.{StepsStayFlat, AdvancesStayFlat};
 
 /// A reduction keeps what a moment stands for, of the intervals whose first state has the state's own number.
@@ -42,4 +46,34 @@ pub fn runs_begin()
 pub fn flat_scenes_stay_flat()
     ensures steps { StepsStayFlat }
     ensures advances { AdvancesStayFlat }
+{}
+
+/// The live items of a scene are those that stand in its live regions.
+pub fn live_items_stand_in_live_regions()
+    ensures { LiveItemsStandInLiveRegions }
+{}
+
+/// The status that is computed of a live region is the least that the rules of status give, in any scene; and in a sound one each item is
+/// picked with the status of the region where it stands.
+pub fn status_is_least()
+    ensures least { StatusIsLeast }
+    ensures seen { PicksSeePlaces }
+{}
+
+/// An item waits for undecided cells alone, and the end that it waits for is that of a live region.
+pub fn waits_are_for_undecided()
+    ensures undecided { WaitsAreForUndecided }
+    ensures live { WaitedEndsAreLive }
+{}
+
+/// A reduction leaves each decided cell decided.
+pub fn decided_stays()
+    ensures { DecidedStays }
+{}
+
+/// At rest, the item that settling names waits; so what is at rest ends, goes on, or has an open cell, which is undecided.
+pub fn rest_waits()
+    ensures named { NamedItemWaits }
+    ensures ends { RestEndsGoesOrIsOpen }
+    ensures undecided { OpenCellsAreUndecided }
 {}
