@@ -1,0 +1,9 @@
+pub mod FactsGrow
+pub mod OutcomesGrow
+pub mod Kept
+pub mod EqGrow
+pub mod SideGrow
+pub mod RowsGrow
+pub mod EqMutual
+pub mod SideKnows
+pub mod GoodRows

@@ -1,0 +1,15 @@
+pub mod OneRest
+pub mod Fuse
+pub mod Stay
+pub mod Bridge
+pub mod Where
+pub mod Again
+pub mod Swap
+pub mod Blocks
+pub mod Diamond
+pub mod Commute
+pub mod Rest
+pub mod Equivalence
+pub mod AlikeStep
+pub mod Marked
+pub mod MutualFailures

@@ -1,0 +1,3 @@
+pub mod OneRest
+pub mod Edits
+pub mod Orders

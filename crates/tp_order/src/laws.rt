@@ -1,0 +1,47 @@
+// Laws of orders.
+ghost use Rattle.std.specs.Prelude.{List, Bool};
+ghost use Rattle.tp_growth.specs.Within.{ValuesWithin};
+ghost use Rattle.tp_scene.specs.Pick.{Setting};
+ghost use Rattle.tp_order.specs.Edits.{EditsCommute, Remains, PutIsEdit};
+ghost use Rattle.tp_order.specs.Orders.{StepsStayOrderly, FailuresAreMutual, FailuresStay, Commute, AlikeMomentsStep, AlikeIsEquivalence, OneRestParts, OneRestOf};
+
+/// Edits of two items commute.
+pub fn edits_commute()
+    ensures { EditsCommute }
+{}
+
+/// An item stays live where another one is picked.
+pub fn items_remain()
+    ensures { Remains }
+{}
+
+/// A reduction is an edit.
+pub fn put_is_edit()
+    ensures { PutIsEdit }
+{}
+
+/// Moments that are alike have the same steps, and likeness is an equivalence.
+pub fn alike_moments_step()
+    ensures steps { AlikeMomentsStep }
+    ensures equivalence { (w : Setting) (kinds : List Bool) → AlikeIsEquivalence w kinds }
+{}
+
+/// What fails goes on to fail where another item has a step.
+pub fn failures_stay()
+    ensures { StepsStayOrderly → FailuresStay }
+{}
+
+/// Where an item fails after another one's step, that one fails after its step.
+pub fn failures_are_mutual()
+    ensures { ValuesWithin → StepsStayOrderly → FailuresAreMutual }
+{}
+
+/// Two steps commute, or each fails after the other.
+pub fn steps_commute()
+    ensures { StepsStayOrderly → FailuresAreMutual → Commute }
+{}
+
+/// One rest for every list of picks of a state.
+pub fn one_rest()
+    ensures { (w : Setting) (kinds : List Bool) → OneRestParts → OneRestOf w kinds }
+{}

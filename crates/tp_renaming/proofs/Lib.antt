@@ -1,0 +1,4 @@
+pub mod RenameFacts
+pub mod RenameEval
+pub mod RenameRows
+pub mod RenamePick
