@@ -20,7 +20,9 @@ use Rattle.tp_scene.specs.Fits.{IsCalm}
 use Rattle.tp_scene.proofs.Grown.{other_side}
 use Rattle.tp_growth.specs.Rows.{Grows, IsFailure}
 use Rattle.tp_growth.specs.Outcomes.{KnowsMore, GrownOutcome, GrownPlace}
-use Rattle.tp_growth.specs.Within.{LengthsAreWithin, BindingsWithin, ValuesWithin, LeafWithin, InputsWithin}
+use Rattle.tp_growth.specs.Within.{LengthsAreWithin, BindingsWithin, LeafWithin, InputsWithin}
+use Rattle.tp_growth.proofs.InputsWithin.{input_within}
+use Rattle.tp_growth.proofs.Small.{values_within}
 use Rattle.tp_growth.proofs.OutcomesGrow.{outcomes_grow}
 use Rattle.tp_growth.proofs.Kept.{target_facts}
 use Rattle.tp_growth.proofs.EqMutual.{equate_ok}
@@ -83,7 +85,7 @@ module _ (fs : List Fact) where
   equate_is b c l r (found.value t) (found.wait q) = meets_is c r (found.wait q) t
   equate_is b c l r (found.wait p) (found.wait q) = if_form (c && not b) _ _ (λ r e. absurd (cc)) (λ r e. absurd (cc))
 
-module _ (w : Setting) (fs gs hs : List Fact) (fc : NoClash fs) (gc : NoClash gs) (hc : NoClash hs) (one : KnowsMore fs gs) (two : KnowsMore gs hs) (within : LengthsAreWithin gs) (values : ValuesWithin) (inputs : InputsWithin w.inputs)
+module _ (w : Setting) (fs gs hs : List Fact) (fc : NoClash fs) (gc : NoClash gs) (hc : NoClash hs) (one : KnowsMore fs gs) (two : KnowsMore gs hs) (within : LengthsAreWithin gs) (inputs : InputsWithin w.inputs)
     (p q : Place) (n : Numbers) (up : Grows p q) (calm : IsCalm q) where
   -- what is asked of a reduction: its region isn't of the other side of its mark, and what it sets is known where both are
   abbrev pub MarkOk : Reduction → Type 0
@@ -166,7 +168,7 @@ module _ (w : Setting) (fs gs hs : List Fact) (fc : NoClash fs) (gc : NoClash gs
     equation_row : (l r : ExprTree) → Good (formula_step w.defs w.inputs w.state fs (equation l r) env p n) (formula_step w.defs w.inputs w.state gs (equation l r) env q n)
     equation_row l r = λ s e m f b.
         let L = side_of w.defs w.inputs w.state fs l env in let R = side_of w.defs w.inputs w.state fs r env in
-        equate_ok fs gs hs fc gc hc one two within s.facts f L.placed R.placed _ _ _ _ _ _ _ _ _ _ (λ v x. values fs w.defs l env v small x) (λ v x. values fs w.defs r env v small x)
+        equate_ok fs gs hs fc gc hc one two within s.facts f L.placed R.placed _ _ _ _ _ _ _ _ _ _ (λ v x. (values_within fs w.defs l env small).value v x) (λ v x. (values_within fs w.defs r env small).value v x)
         (side_knows w.defs fs gs hs fc gc hc one two env w.inputs w.state l) (side_knows w.defs fs gs hs fc gc hc one two env w.inputs w.state r)
         (equate_is fs L.placed R.placed L.target R.target L.found R.found s e) b
 
@@ -175,7 +177,7 @@ module _ (w : Setting) (fs gs hs : List Fact) (fc : NoClash fs) (gc : NoClash gs
     port_row None port x h = λ r e. absurd (cc)
     port_row (Some v) port x h = λ s e m f b.
         let L = side_of w.defs w.inputs w.state fs x env in
-        equate_ok fs gs hs fc gc hc one two within s.facts f L.placed false _ _ _ _ _ _ _ _ _ _ (λ u y. values fs w.defs x env u small y) (λ u y. let z : v ≡ u = cc in subst (λ (t : Tree). IsWithinListLimit t) z (inputs w.state port v h))
+        equate_ok fs gs hs fc gc hc one two within s.facts f L.placed false _ _ _ _ _ _ _ _ _ _ (λ u y. (values_within fs w.defs x env small).value u y) (λ u y. let z : v ≡ u = cc in subst (λ (t : Tree). IsWithinListLimit t) z (input_within w.inputs w.state port v inputs h))
         (side_knows w.defs fs gs hs fc gc hc one two env w.inputs w.state x)
         (record { sides = value_side w.defs fs gs fc gc one env v; grown = refl; set = λ y u h. absurd (cc h) })
         (equate_is fs L.placed false L.target None L.found (found.value v) s e) b

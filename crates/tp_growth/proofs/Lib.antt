@@ -6,4 +6,7 @@ pub mod SideGrow
 pub mod RowsGrow
 pub mod EqMutual
 pub mod SideKnows
+pub mod InputsWithin
+pub mod Small
 pub mod GoodRows
+pub mod StaysWithin

@@ -6,10 +6,12 @@ use Rattle.tp_value.specs.declared.value.Shape.TheVariants.{Items}
 use Rattle.tp_value.specs.declared.path.Path.{Path}
 use Rattle.tp_value.specs.declared.path.Fact.{Fact}
 use Rattle.tp_meaning.specs.Syntax.{ExprTree, Definition, BindingTree, place_binding, known_binding}
-use Rattle.tp_meaning.specs.Inputs.{InputLines, input_at}
+use Rattle.tp_meaning.specs.Inputs.{InputPair, InputLines}
 use Rattle.tp_store.specs.Facts.{kept_shape}
-use Rattle.tp_eval.specs.Outcome.{outcome}
-use Rattle.tp_scene.specs.Scene.{Bindings, Leaf, Do, Later, Shown, Holder, Split, SplitProject, Closed, Opened, Running, Entries, none, leaf, node}
+use Rattle.tp_eval.specs.Outcome.{outcome, place_outcome}
+use Rattle.tp_scene.specs.Scene.{Bindings, Leaf, Do, Later, Shown, Holder, Split, SplitProject, Closed, Opened, Running, Entries, none, leaf, node, Place}
+use Rattle.tp_scene.specs.Step.{Reduction, Numbers, reduces}
+use Rattle.tp_scene.specs.Pick.{Setting, pick, put}
 use Rattle.tp_eval.specs.Outcome as found
 
 -- no kept list is longer than a length may be that is set
@@ -50,10 +52,27 @@ EntriesWithin none = Unit {0}
 EntriesWithin (leaf id l rest) = LeafWithin l × EntriesWithin rest
 EntriesWithin (node id k h held g second rest) = HolderWithin k × EntriesWithin held × EntriesWithin second × EntriesWithin rest × SecondIsOwn k second
 
--- the inputs are within the limits, as those of an inputs file are
-abbrev pub InputsWithin : InputLines → Type 0
-InputsWithin inputs = (state : ℕ) (port : List ℕ) (t : Tree) → input_at inputs state port ≡ Some t → IsWithinListLimit t
+-- each value of a line, and of the table of inputs, is within the limits, as those of an inputs file are
+abbrev pub LineWithin : List InputPair → Type 0
+LineWithin [] = Unit {0}
+LineWithin (p ∷ ps) = IsWithinListLimit p.value × LineWithin ps
 
--- Each value that is found under such bindings is within the limits.
+abbrev pub InputsWithin : InputLines → Type 0
+InputsWithin [] = Unit {0}
+InputsWithin (l ∷ ls) = LineWithin l × InputsWithin ls
+
+-- The value that is found of an expression, and where a place is an element of a bound value that element, are within the limits.
+pub record FoundWithin (facts : List Fact) (defs : List Definition) (e : ExprTree) (env : Bindings) : Type 0 where
+  pub value : (v : Tree) → outcome facts defs e env ≡ found.value v → IsWithinListLimit v
+  pub of_place : (v : Tree) → place_outcome facts defs e env ≡ found.other (found.value v) → IsWithinListLimit v
+
+-- Each is so under bindings that are.
 abbrev pub ValuesWithin : Type 0
-ValuesWithin = (facts : List Fact) (defs : List Definition) (e : ExprTree) (env : Bindings) (v : Tree) → BindingsWithin env → outcome facts defs e env ≡ found.value v → IsWithinListLimit v
+ValuesWithin = (facts : List Fact) (defs : List Definition) (e : ExprTree) (env : Bindings)
+    → BindingsWithin env → FoundWithin facts defs e env
+
+-- Picking an item in such entries, with such inputs, leaves such entries, and gives facts of lists that are within the limits.
+abbrev pub PicksStayWithin : Type 0
+PicksStayWithin = (w : Setting) (facts : List Fact) (t : ℕ) (es : Entries) (p : Place) (n : Numbers) (r : Reduction)
+    → InputsWithin w.inputs → EntriesWithin es → pick w facts t es p n ≡ reduces r
+    → LengthsAreWithin r.facts × EntriesWithin (put t r.mark r.news es)

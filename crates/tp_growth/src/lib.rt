@@ -4,4 +4,6 @@
 
 mod laws;
 
-pub use laws::{facts_grow, holder_rows_grow, leaf_rows_grow, outcomes_grow};
+pub use laws::{
+    facts_grow, holder_rows_grow, leaf_rows_grow, outcomes_grow, picks_stay_within, values_within,
+};

@@ -14,7 +14,8 @@ use Rattle.tp_growth.specs.Rows.{Grows, IsFailure, SameFacts, GrownTo, HolderGro
 use Rattle.tp_growth.specs.Outcomes.{KnowsMore}
 use Rattle.tp_growth.specs.Within.{LengthsAreWithin}
 use Rattle.tp_renaming.specs.Renaming.{Permutation, Renaming, renamed_binding, renamed_bindings, renamed_leaf, renamed_holder, renamed_second, renamed_entries, Renamed}
-use Rattle.tp_order.specs.Orders.{StepsStayOrderly, FailuresStay}
+use Rattle.tp_order.specs.Orders.{FailuresStay}
+use Rattle.tp_order.proofs.Orderly.{steps_stay_orderly}
 use Rattle.tp_growth.proofs.FactsGrow.{kept_before}
 use Rattle.tp_order.proofs.Stay.{head_grows, status_up, remains}
 use Rattle.tp_order.proofs.Bridge.{at_live, put_is_edit}
@@ -235,10 +236,10 @@ again_bad gs x y n (misses port) u h b = h
 again_bad gs x y n (passes k) u h b = h
 
 -- What is bad stays bad, where steps leave lengths within the limit.
-pub failures_stay : StepsStayOrderly → FailuresStay
-failures_stay keep w kinds m next t u ne orderly step bad =
+pub failures_stay : FailuresStay
+failures_stay w kinds m next t u ne orderly step bad =
     let sound = orderly.sound in
-    let after = keep w kinds m t step.0 next orderly step.1 in
+    let after = steps_stay_orderly w kinds m t step.0 next orderly step.1 in
     let v = moves w kinds m sound t u ne step.0 next step.1 bad.0 in
     let n = numbers_of next.scene next.store.variables in (
       at_live u next.scene.root.entries v.there.thing v.there.place (root_place next.scene.root) v.there.at,

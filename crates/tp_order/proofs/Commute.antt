@@ -15,7 +15,8 @@ use Rattle.tp_order.specs.Edits.{Edit, head_after, edited, single, Thing, of_lea
 use Rattle.tp_growth.specs.Rows.{IsFailure}
 use Rattle.tp_renaming.specs.Renaming.{Renaming, renamed_region, renamed_reduction}
 use Rattle.tp_renaming.specs.Alike.{AlikeBy}
-use Rattle.tp_order.specs.Orders.{IsOrderly, StepsStayOrderly, MeetsFailure, BothOrders, FailuresAreMutual, Commute}
+use Rattle.tp_order.specs.Orders.{IsOrderly, MeetsFailure, BothOrders, FailuresAreMutual, Commute}
+use Rattle.tp_order.proofs.Orderly.{steps_stay_orderly}
 use Rattle.tp_growth.proofs.FactsGrow.{kept_before}
 use Rattle.tp_order.proofs.Fuse.{edits_commute}
 use Rattle.tp_order.proofs.Stay.{like_same, grows_same}
@@ -233,11 +234,11 @@ module _ (w : Setting) (kinds : List Bool) (m : Moment) (orderly : IsOrderly w k
         alike = (σ, orders_alike);
       }
 
-pub commute : StepsStayOrderly → FailuresAreMutual → Commute
-commute keep each w kinds m a b t u ne orderly st su =
+pub commute : FailuresAreMutual → Commute
+commute each w kinds m a b t u ne orderly st su =
     let en : u ≢ t = λ q. ne (sym q) in
-    let oa = keep w kinds m t st.0 a orderly st.1 in
-    let ob = keep w kinds m u su.0 b orderly su.1 in
+    let oa = steps_stay_orderly w kinds m t st.0 a orderly st.1 in
+    let ob = steps_stay_orderly w kinds m u su.0 b orderly su.1 in
     elim (half w kinds m orderly t u ne st.0 su.0 a st.1 su.1.lives su.1.outcome oa) [
       | inl x ↦ elim (half w kinds m orderly u t en su.0 st.0 b su.1 st.1.lives st.1.outcome ob) [
         | inl y ↦ inl (orders w kinds m orderly t u ne en st.0 su.0 a b st.1 su.1 oa ob x y)

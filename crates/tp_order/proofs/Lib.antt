@@ -3,6 +3,7 @@ pub mod Fuse
 pub mod Stay
 pub mod Bridge
 pub mod Where
+pub mod Orderly
 pub mod Again
 pub mod Swap
 pub mod Blocks

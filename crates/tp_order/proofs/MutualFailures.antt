@@ -17,9 +17,10 @@ use Rattle.tp_scene.proofs.Grown.{other_side}
 use Rattle.tp_order.specs.Edits.{Edit, is_side, head_after, edited, single, Thing, of_leaf, of_holder, GrowsThing, At, this_leaf, past_leaf, this_node, in_first, in_second, past_node, edit_of}
 use Rattle.tp_growth.specs.Rows.{Grows, IsFailure, HolderGrown}
 use Rattle.tp_growth.specs.Outcomes.{KnowsMore}
-use Rattle.tp_growth.specs.Within.{LeafWithin, EntriesWithin, ValuesWithin}
+use Rattle.tp_growth.specs.Within.{LeafWithin, EntriesWithin}
 use Rattle.tp_renaming.specs.Renaming.{renamed_region, renamed_entries}
-use Rattle.tp_order.specs.Orders.{IsOrderly, StepsStayOrderly, FailuresAreMutual}
+use Rattle.tp_order.specs.Orders.{IsOrderly, FailuresAreMutual}
+use Rattle.tp_order.proofs.Orderly.{steps_stay_orderly}
 use Rattle.tp_growth.proofs.RowsGrow.{holder_rows_grow}
 use Rattle.tp_growth.proofs.Kept.{target_facts, set_form}
 use Rattle.tp_order.proofs.Where.{CalmThing, Picked, picked, at_calm}
@@ -63,9 +64,9 @@ at_within t (node id k hd i g s rest) x q p (in_first a at c d) h = at_within t 
 at_within t (node id k hd i g s rest) x q p (in_second a l b at d) h = at_within t s x q _ at h.2
 at_within t (node id k hd i g s rest) x q p (past_node a b c at) h = at_within t rest x q p at h.3
 
-module _ (w : Setting) (kinds : List Bool) (m : Moment) (orderly : IsOrderly w kinds m) (values : ValuesWithin)
+module _ (w : Setting) (kinds : List Bool) (m : Moment) (orderly : IsOrderly w kinds m)
     (t u : ℕ) (ne : t ≢ u) (en : u ≢ t) (r s : Reduction) (a b : Moment) (st : Reduces w m t r a) (su : Reduces w m u s b) (oa : IsOrderly w kinds a) (ob : IsOrderly w kinds b)
-    (y : Result w kinds m orderly u t en s r b su st.lives st.outcome ob) (keep : StepsStayOrderly) where
+    (y : Result w kinds m orderly u t en s r b su st.lives st.outcome ob) where
   abbrev A : Moves w kinds m (S w kinds m orderly) t u r a
   A = v w kinds m orderly t u ne r s a st su.lives su.outcome oa
 
@@ -73,7 +74,7 @@ module _ (w : Setting) (kinds : List Bool) (m : Moment) (orderly : IsOrderly w k
   second = both w kinds m orderly u t en s r b su st.lives st.outcome ob y
 
   after_both : IsOrderly w kinds second
-  after_both = keep w kinds b t (y.0) second ob (both_step w kinds m orderly u t en s r b su st.lives st.outcome ob y)
+  after_both = steps_stay_orderly w kinds b t (y.0) second ob (both_step w kinds m orderly u t en s r b su st.lives st.outcome ob y)
 
   abbrev FA : Edit
   FA = fa w kinds m orderly t u ne r s a st su.lives su.outcome oa
@@ -131,7 +132,7 @@ module _ (w : Setting) (kinds : List Bool) (m : Moment) (orderly : IsOrderly w k
       → Picked w m.store.facts NA x p o → o ≡ reduces SA → Picked w a.store.facts NA x' q o' → IsFailure o' → ⊥
   go (of_leaf l) (of_leaf l') p q like up calm held small at mark o o' k e k' bad =
       leaf_good w m.store.facts a.store.facts second.store.facts orderly.sound.store.no_clash oa.sound.store.no_clash after_both.sound.store.no_clash
-      (knows_after w kinds m orderly.sound r a st.store) knows_both oa.lengths values orderly.inputs p q NA up calm l small SA (sym k ∙ e)
+      (knows_after w kinds m orderly.sound r a st.store) knows_both oa.lengths orderly.inputs p q NA up calm l small SA (sym k ∙ e)
       (λ z x i. mark_ok l' q at z (ap (is_side z) (mark ∙ x) ∙ side_is z) i) set_known_there
       (subst (λ (x : Outcome). IsFailure x) (k' ∙ ap (λ (x : Leaf). leaf_step w.defs w.inputs w.state a.store.facts x q NA) like) bad)
   go (of_leaf l) (of_holder k' held') p q like up calm held small at mark o o' k e z bad = absurd like
@@ -150,12 +151,12 @@ module _ (w : Setting) (kinds : List Bool) (m : Moment) (orderly : IsOrderly w k
       (picked w m.store.facts NA u (ES w kinds m orderly) A.other A.other_place (P w kinds m orderly) A.other_at) (out_there w kinds m orderly t u ne r s a st su.lives su.outcome oa)
       (picked w a.store.facts NA u a.scene.root.entries A.there.thing A.there.place (root_place a.scene.root) A.there.at) bad
 
-pub failures_are_mutual : ValuesWithin → StepsStayOrderly → FailuresAreMutual
-failures_are_mutual values keep w kinds m a b t u ne orderly st su bad =
+pub failures_are_mutual : FailuresAreMutual
+failures_are_mutual w kinds m a b t u ne orderly st su bad =
     let en : u ≢ t = λ q. ne (sym q) in
-    let oa = keep w kinds m t st.0 a orderly st.1 in
-    let ob = keep w kinds m u su.0 b orderly su.1 in
+    let oa = steps_stay_orderly w kinds m t st.0 a orderly st.1 in
+    let ob = steps_stay_orderly w kinds m u su.0 b orderly su.1 in
     elim (half w kinds m orderly u t en su.0 st.0 b su.1 st.1.lives st.1.outcome ob) [
-      | inl y ↦ absurd (isnt_bad w kinds m orderly values t u ne en st.0 su.0 a b st.1 su.1 oa ob y keep bad.1)
+      | inl y ↦ absurd (isnt_bad w kinds m orderly t u ne en st.0 su.0 a b st.1 su.1 oa ob y bad.1)
       | inr z ↦ (lives_there w kinds m orderly u t en su.0 st.0 b su.1 st.1.lives st.1.outcome ob, z)
     ]

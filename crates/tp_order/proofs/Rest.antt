@@ -6,7 +6,8 @@ use Rattle.tp_scene.specs.Rest.{AtRest}
 use Rattle.tp_order.specs.OneRest.{Rules, Path, Rest}
 use Rattle.tp_growth.specs.Rows.{IsFailure}
 use Rattle.tp_renaming.specs.Alike.{Alike}
-use Rattle.tp_order.specs.Orders.{IsOrderly, StepsTo, MeetsFailure, AlikeIsEquivalence, OneRestOf, OneRestParts}
+use Rattle.tp_order.specs.Orders.{IsOrderly, StepsTo, MeetsFailure, AlikeIsEquivalence, OneRestOf}
+use Rattle.tp_order.proofs.Orderly.{steps_stay_orderly}
 use Rattle.tp_order.proofs.OneRest.{one_rest}
 use Rattle.tp_order.proofs.Again.{failures_stay}
 use Rattle.tp_order.proofs.MutualFailures.{failures_are_mutual}
@@ -25,7 +26,7 @@ idle_bad (clashes c) i b = i
 idle_bad (misses port) i b = i
 idle_bad (passes k) i b = i
 
-module _ (w : Setting) (kinds : List Bool) (parts : OneRestParts) where
+module _ (w : Setting) (kinds : List Bool) where
   abbrev alike : AlikeIsEquivalence w kinds
   alike = alike_is_equivalence w kinds
 
@@ -33,7 +34,7 @@ module _ (w : Setting) (kinds : List Bool) (parts : OneRestParts) where
   State = (m : Moment) × IsOrderly w kinds m
 
   keep : (s : State) (t : ℕ) (next : Moment) → StepsTo w s.0 t next → IsOrderly w kinds next
-  keep s t next st = parts.orderly w kinds s.0 t st.0 next s.1 st.1
+  keep s t next st = steps_stay_orderly w kinds s.0 t st.0 next s.1 st.1
 
   abbrev rules : Rules
   rules = record {
@@ -50,8 +51,8 @@ module _ (w : Setting) (kinds : List Bool) (parts : OneRestParts) where
     bad_alike = λ t s s' a b. (a.0.item.to t, (alike_moments_step w kinds s.0 s'.0 a.0 s.1 s'.1 a.1).bad t b);
     one_result = λ t s u v a b. alike.one s.0 u.0 v.0 t s.1.sound a b;
     not_both = λ t s u st b. no_step (outcome_of w s.0.store s.0.scene t) st.0 st.1.outcome b.1;
-    bad_stays = λ t u s s' ne st b. failures_stay parts.orderly w kinds s.0 s'.0 t u ne s.1 st b;
-    diamond = λ t u s a b ne st su. elim (commute parts.orderly (failures_are_mutual parts.values parts.orderly) w kinds s.0 a.0 b.0 t u ne s.1 st su) [
+    bad_stays = λ t u s s' ne st b. failures_stay w kinds s.0 s'.0 t u ne s.1 st b;
+    diamond = λ t u s a b ne st su. elim (commute failures_are_mutual w kinds s.0 a.0 b.0 t u ne s.1 st su) [
       | inl x ↦ inl ((x.first, keep a u x.first x.then_other), (x.second, keep b t x.second x.other_then), x.then_other, x.other_then, x.alike)
       | inr x ↦ inr x.0
     ];
@@ -97,5 +98,5 @@ module _ (w : Setting) (kinds : List Bool) (parts : OneRestParts) where
         safe = x.1;
       }
 
-pub one_rest_of : (w : Setting) (kinds : List Bool) → OneRestParts → OneRestOf w kinds
-one_rest_of w kinds parts = rest_of w kinds parts
+pub one_rest_of : (w : Setting) (kinds : List Bool) → OneRestOf w kinds
+one_rest_of w kinds = rest_of w kinds

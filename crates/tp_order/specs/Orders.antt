@@ -10,7 +10,7 @@ use Rattle.tp_scene.specs.Rest.{AtRest, ends, goes, settled, IsOpenCell}
 use Rattle.tp_scene.specs.Advance.{advanced, shown_in}
 use Rattle.tp_scene.specs.Laws.{IsSound, GoesOn}
 use Rattle.tp_growth.specs.Rows.{IsFailure}
-use Rattle.tp_growth.specs.Within.{LengthsAreWithin, EntriesWithin, InputsWithin, ValuesWithin}
+use Rattle.tp_growth.specs.Within.{LengthsAreWithin, EntriesWithin, InputsWithin}
 use Rattle.tp_renaming.specs.Renaming.{Renaming, renamed_cell}
 use Rattle.tp_renaming.specs.Alike.{AlikeBy, Alike}
 
@@ -98,8 +98,3 @@ pub record GoesOnToRest (w : Setting) (globals : ℕ) (picks : ℕ) (end : Momen
 abbrev pub OneRestOf : Setting → List Bool → Type 0
 OneRestOf w kinds = (m end there : Moment) (ps qs : List ℕ) → IsOrderly w kinds m → Leads w m ps end → AtRest w end → Leads w m qs there
     → GoesOnToRest w (length kinds) (length ps) end qs there
-
--- What one rest is proved from.
-pub record OneRestParts : Type 0 where
-  pub orderly : StepsStayOrderly
-  pub values : ValuesWithin

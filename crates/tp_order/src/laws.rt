@@ -1,9 +1,8 @@
 // Laws of orders.
 ghost use Rattle.std.specs.Prelude.{List, Bool};
-ghost use Rattle.tp_growth.specs.Within.{ValuesWithin};
 ghost use Rattle.tp_scene.specs.Pick.{Setting};
 ghost use Rattle.tp_order.specs.Edits.{EditsCommute, Remains, PutIsEdit};
-ghost use Rattle.tp_order.specs.Orders.{StepsStayOrderly, FailuresAreMutual, FailuresStay, Commute, AlikeMomentsStep, AlikeIsEquivalence, OneRestParts, OneRestOf};
+ghost use Rattle.tp_order.specs.Orders.{StepsStayOrderly, FailuresAreMutual, FailuresStay, Commute, AlikeMomentsStep, AlikeIsEquivalence, OneRestOf};
 
 /// Edits of two items commute.
 pub fn edits_commute()
@@ -26,22 +25,27 @@ pub fn alike_moments_step()
     ensures equivalence { (w : Setting) (kinds : List Bool) → AlikeIsEquivalence w kinds }
 {}
 
+/// Steps leave moments orderly.
+pub fn steps_stay_orderly()
+    ensures { StepsStayOrderly }
+{}
+
 /// What fails goes on to fail where another item has a step.
 pub fn failures_stay()
-    ensures { StepsStayOrderly → FailuresStay }
+    ensures { FailuresStay }
 {}
 
 /// Where an item fails after another one's step, that one fails after its step.
 pub fn failures_are_mutual()
-    ensures { ValuesWithin → StepsStayOrderly → FailuresAreMutual }
+    ensures { FailuresAreMutual }
 {}
 
 /// Two steps commute, or each fails after the other.
 pub fn steps_commute()
-    ensures { StepsStayOrderly → FailuresAreMutual → Commute }
+    ensures { Commute }
 {}
 
 /// One rest for every list of picks of a state.
 pub fn one_rest()
-    ensures { (w : Setting) (kinds : List Bool) → OneRestParts → OneRestOf w kinds }
+    ensures { (w : Setting) (kinds : List Bool) → OneRestOf w kinds }
 {}
