@@ -1,3 +1,4 @@
 pub mod OneRest
 pub mod Edits
 pub mod Orders
+pub mod Examples

@@ -2,6 +2,7 @@
 ghost use Rattle.std.specs.Prelude.{List, Bool};
 ghost use Rattle.tp_scene.specs.Pick.{Setting};
 ghost use Rattle.tp_order.specs.Edits.{EditsCommute, Remains, PutIsEdit};
+ghost use Rattle.tp_order.specs.Examples.{OrderDecides};
 ghost use Rattle.tp_order.specs.Orders.{StepsStayOrderly, FailuresAreMutual, FailuresStay, Commute, AlikeMomentsStep, AlikeIsEquivalence, OneRestOf};
 
 /// Edits of two items commute.
@@ -48,4 +49,9 @@ pub fn steps_commute()
 /// One rest for every list of picks of a state.
 pub fn one_rest()
     ensures { (w : Setting) (kinds : List Bool) → OneRestOf w kinds }
+{}
+
+/// An example of a sound moment past a limit, in which the order of picks decides.
+pub fn lengths_matter()
+    ensures { OrderDecides }
 {}

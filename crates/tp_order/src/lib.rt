@@ -5,6 +5,6 @@
 mod laws;
 
 pub use laws::{
-    alike_moments_step, edits_commute, failures_are_mutual, failures_stay, items_remain, one_rest,
-    put_is_edit, steps_commute, steps_stay_orderly,
+    alike_moments_step, edits_commute, failures_are_mutual, failures_stay, items_remain,
+    lengths_matter, one_rest, put_is_edit, steps_commute, steps_stay_orderly,
 };
