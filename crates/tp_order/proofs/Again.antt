@@ -13,7 +13,7 @@ use Rattle.tp_order.specs.Edits.{Edit, head_after, edited, single, Natural, Grow
 use Rattle.tp_growth.specs.Rows.{Grows, IsFailure, SameFacts, GrownTo, HolderGrown}
 use Rattle.tp_growth.specs.Outcomes.{KnowsMore}
 use Rattle.tp_growth.specs.Within.{LengthsAreWithin}
-use Rattle.tp_renaming.specs.Renaming.{Permutation, Renaming, renamed_binding, renamed_bindings, renamed_leaf, renamed_holder, renamed_second, renamed_entries, Renamed}
+use Rattle.tp_renaming.specs.Renaming.{Renaming, renamed_binding, renamed_bindings, renamed_leaf, renamed_holder, renamed_second, renamed_entries, Renamed}
 use Rattle.tp_order.specs.Orders.{FailuresStay}
 use Rattle.tp_order.proofs.Orderly.{steps_stay_orderly}
 use Rattle.tp_growth.proofs.FactsGrow.{kept_before}
@@ -21,13 +21,11 @@ use Rattle.tp_order.proofs.Stay.{head_grows, status_up, remains}
 use Rattle.tp_order.proofs.Bridge.{at_live, put_is_edit}
 use Rattle.tp_growth.proofs.EqGrow.{nothing_new}
 use Rattle.tp_growth.proofs.RowsGrow.{leaf_rows_grow, holder_rows_grow}
+use Rattle.tp_renaming.proofs.AdvanceAlike.{same_numbers}
 use Rattle.tp_renaming.proofs.RenamePick.{pick_to}
 use Rattle.tp_order.proofs.Where.{at_of, item_below, CalmThing, at_calm, Picked, picked, owed}
 
 -- The renaming that changes nothing.
-abbrev pub same_numbers : Permutation
-same_numbers = record { to = λ n. n; back = λ n. n; undone = λ n. refl; redone = λ n. refl }
-
 abbrev pub no_renaming : Renaming
 no_renaming = record { item = same_numbers; region = same_numbers; local = same_numbers }
 

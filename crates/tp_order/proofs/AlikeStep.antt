@@ -9,17 +9,18 @@ use Rattle.tp_value.specs.declared.path.Path.{Path}
 use Rattle.tp_value.specs.declared.path.Fact.{Fact}
 use Rattle.tp_store.specs.Facts.{kept_shape}
 use Rattle.tp_store.specs.Known.{NoClash, Variable}
-use Rattle.tp_scene.specs.Scene.{Side, Ending, Going, Head, Holder, Split, SplitProject, Closed, Opened, Running, Entries, none, leaf, node, Region, Scene, second_lives, has, has_here, append, Place, root_place}
+use Rattle.tp_scene.specs.Scene.{Side, Ending, Going, Head, Holder, Split, SplitProject, Closed, Opened, Running, Entries, none, leaf, node, Region, Scene, second_lives, has, has_here, append, root_place}
 use Rattle.tp_scene.specs.Step.{Reduction, Outcome, reduces, waits, rests, clashes, misses, passes, Numbers}
-use Rattle.tp_scene.specs.Pick.{Setting, Moment, pick, mark_head, mark_at, put, put_in, numbers_of, outcome_of, scene_after, with_local, IsIdle}
+use Rattle.tp_scene.specs.Pick.{Setting, Moment, mark_head, mark_at, put, put_in, numbers_of, outcome_of, scene_after, with_local, IsIdle}
 use Rattle.tp_scene.specs.Rest.{AtRest}
-use Rattle.tp_renaming.specs.Renaming.{Permutation, Renaming, FixesFrom, renamed_path, renamed_facts, renamed_leaf, renamed_holder, renamed_head, renamed_second, renamed_entries, renamed_region, renamed_place, renamed_reduction, IfRegion, IfLocal, NumbersRenamed, Renamed}
+use Rattle.tp_renaming.specs.Renaming.{Permutation, Renaming, FixesFrom, renamed_path, renamed_facts, renamed_leaf, renamed_holder, renamed_head, renamed_second, renamed_entries, renamed_region, renamed_reduction, IfRegion, IfLocal, NumbersRenamed, Renamed}
 use Rattle.tp_renaming.specs.Alike.{AlikeBy}
 use Rattle.tp_order.specs.Orders.{IsOrderly, StepsTo, AlikeSteps, AlikeMomentsStep}
 use Rattle.tp_growth.proofs.FactsGrow.{kept_before, kept_after}
 use Rattle.tp_order.proofs.Stay.{like_same, grows_same}
 use Rattle.tp_renaming.proofs.RenameFacts.{eqb_to, kept_to}
-use Rattle.tp_renaming.proofs.RenamePick.{lives_to, marked_to, has_to, risen_to, pick_to}
+use Rattle.tp_renaming.proofs.GivenAlike.{given_alike, lives_alike}
+use Rattle.tp_renaming.proofs.RenamePick.{lives_to, has_to}
 use Rattle.tp_order.proofs.Where.{at_of, at_calm, picked}
 use Rattle.tp_order.proofs.Again.{bad_anyhow, Again, thing_again}
 use Rattle.tp_order.proofs.Blocks.{get_left, get_next}
@@ -77,9 +78,6 @@ module _ (ρ : Renaming) where
   put_in_to : (t : ℕ) (m : Option Side) (news : Entries) (r : Region) → renamed_region ρ (put_in t m news r) ≡ put_in (ρ.item.to t) m (renamed_entries ρ news) (renamed_region ρ r)
   put_in_to t m news r = λ j. record { head = at_to t m r.head r.entries j; entries = put_to t m news r.entries j }
 
-  pub root_to : (r : Region) → root_place (renamed_region ρ r) ≡ renamed_place ρ (root_place r)
-  root_to r = λ j. record { region = ρ.region.to r.head.number; depth = 0; is = λ z. marked_to ρ z r.head j || risen_to ρ z r.entries j }
-
 idle_anyhow : (ρ : Renaming) (n n' : Numbers) (o u : Outcome) → Renamed ρ n n' o u → IsIdle o → IsIdle u
 idle_anyhow ρ n n' (reduces r) u h i = elim i [ ]
 idle_anyhow ρ n n' (waits first other) u h i = subst (λ (x : Outcome). IsIdle x) (sym h) tt
@@ -119,13 +117,10 @@ module _ (w : Setting) (kinds : List Bool) (m n : Moment) (ρ : Renaming) (om : 
   nn = numbers_of n.scene n.store.variables
 
   given : (t : ℕ) → Renamed ρ nm nn (outcome_of w m.store m.scene t) (outcome_of w n.store n.scene (ρ.item.to t))
-  given t =
-      let x = pick_to ρ nm nn w kinds om.sound.definitions a.globals_fixed m.store.facts n.store.facts om.sound.store.no_clash on.sound.store.no_clash a.facts m.store.variables t m.scene.root.entries (root_place m.scene.root) om.sound.moment.entries in
-      let y = subst (λ (p : Place). Renamed ρ nm nn (outcome_of w m.store m.scene t) (pick w n.store.facts (ρ.item.to t) (renamed_entries ρ m.scene.root.entries) p nn)) (sym (root_to ρ m.scene.root)) x in
-      subst (λ (r : Region). Renamed ρ nm nn (outcome_of w m.store m.scene t) (pick w n.store.facts (ρ.item.to t) r.entries (root_place r) nn)) (sym a.root) y
+  given t = given_alike w kinds m n ρ om.sound on.sound a t
 
   lives : (t : ℕ) → has (ρ.item.to t) n.scene.root.entries ≡ has t m.scene.root.entries
-  lives t = ap (λ (r : Region). has (ρ.item.to t) r.entries) a.root ∙ has_to ρ t m.scene.root.entries
+  lives t = lives_alike m n (length kinds) ρ a t
 
   numbers_agree : (r : Reduction) → NumbersRenamed ρ nm nn r
   numbers_agree r = record {

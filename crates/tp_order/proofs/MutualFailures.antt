@@ -25,7 +25,7 @@ use Rattle.tp_growth.proofs.RowsGrow.{holder_rows_grow}
 use Rattle.tp_growth.proofs.Kept.{target_facts, set_form}
 use Rattle.tp_order.proofs.Where.{CalmThing, Picked, picked, at_calm}
 use Rattle.tp_order.proofs.Again.{Moves, root_grows, knows_after}
-use Rattle.tp_order.proofs.AlikeStep.{root_to}
+use Rattle.tp_renaming.proofs.GivenAlike.{root_to}
 use Rattle.tp_order.proofs.Marked.{AllCalm, calm_fit, calm_back, marked_after, marked_calm}
 use Rattle.tp_order.proofs.Blocks.{block, fixed_facts, either_kept, KnowsThree}
 use Rattle.tp_order.proofs.Diamond.{fl}

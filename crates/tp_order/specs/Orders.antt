@@ -1,17 +1,18 @@
 -- Orders of picks: two picks in either order, and one rest for every list of picks.
 use Rattle.std.specs.Prelude.{◌≡◌, ◌≢◌, ◌⊎◌, ℕ, ◌+◌, true, Bool, List, length}
-use Rattle.tp_store.specs.Known.{facts_below}
-use Rattle.tp_store.specs.Changes.{HaveSameShapes}
-use Rattle.tp_scene.specs.declared.answer.Cell.{Cell}
+use Rattle.tp_meaning.specs.Syntax.{FormulaTree}
+use Rattle.tp_meaning.specs.Interval.{kinds_of}
+use Rattle.tp_meaning.specs.Fits.{FormulaFits, DefinitionsFit}
 use Rattle.tp_scene.specs.Scene.{has}
 use Rattle.tp_scene.specs.Step.{Reduction}
 use Rattle.tp_scene.specs.Pick.{Setting, Moment, Reduces, Leads, outcome_of}
-use Rattle.tp_scene.specs.Rest.{AtRest, ends, goes, settled, IsOpenCell}
-use Rattle.tp_scene.specs.Advance.{advanced, shown_in}
+use Rattle.tp_scene.specs.Rest.{AtRest, goes, settled}
+use Rattle.tp_scene.specs.Advance.{advanced}
+use Rattle.tp_scene.specs.StandsFor.{first_moment}
 use Rattle.tp_scene.specs.Laws.{IsSound, GoesOn}
 use Rattle.tp_growth.specs.Rows.{IsFailure}
 use Rattle.tp_growth.specs.Within.{LengthsAreWithin, EntriesWithin, InputsWithin}
-use Rattle.tp_renaming.specs.Renaming.{Renaming, renamed_cell}
+use Rattle.tp_renaming.specs.Renaming.{Renaming}
 use Rattle.tp_renaming.specs.Alike.{AlikeBy, Alike}
 
 -- What a run has between its steps, with values within the limits.
@@ -24,6 +25,18 @@ pub record IsOrderly (w : Setting) (kinds : List Bool) (m : Moment) : Type 0 whe
 -- and steps keep that
 abbrev pub StepsStayOrderly : Type 0
 StepsStayOrderly = (w : Setting) (kinds : List Bool) (m : Moment) (t : ℕ) (r : Reduction) (next : Moment) → IsOrderly w kinds m → Reduces w m t r next → IsOrderly w kinds next
+
+-- A run begins so, with such inputs,
+abbrev pub BeginsOrderly : Type 0
+BeginsOrderly = (w : Setting) (names : List (List ℕ)) (main : FormulaTree)
+    → DefinitionsFit w.defs (kinds_of names) → FormulaFits w.defs (kinds_of names) main 0 → InputsWithin w.inputs
+    → IsOrderly w (kinds_of names) (first_moment names main)
+
+-- and so does the next state, whatever its number.
+abbrev pub AdvancesStayOrderly : Type 0
+AdvancesStayOrderly = (w : Setting) (kinds : List Bool) (m next : Moment) → IsOrderly w kinds m → settled m.scene ≡ goes
+    → next.scene ≡ advanced m.scene → GoesOn m.store next.store
+    → (own : ℕ) → IsOrderly (record { defs = w.defs; inputs = w.inputs; state = own }) kinds next
 
 -- the item is live, and meets a clash, misses an input or passes a limit
 abbrev pub MeetsFailure : Setting → Moment → ℕ → Type 0
@@ -60,22 +73,6 @@ pub record AlikeSteps (w : Setting) (kinds : List Bool) (m n : Moment) (ρ : Ren
 
 abbrev pub AlikeMomentsStep : Type 0
 AlikeMomentsStep = (w : Setting) (kinds : List Bool) (m n : Moment) (ρ : Renaming) → IsOrderly w kinds m → IsOrderly w kinds n → AlikeBy (length kinds) ρ m n → AlikeSteps w kinds m n ρ
-
--- and they end in the same way
-pub record AlikeGoOn (w : Setting) (kinds : List Bool) (m n : Moment) (ρ : Renaming) : Type 0 where
-  pub ends_too : settled m.scene ≡ ends → settled n.scene ≡ ends
-  pub goes_too : settled m.scene ≡ goes → settled n.scene ≡ goes
-  pub cell : (c : Cell) → IsOpenCell w m c → IsOpenCell w n (renamed_cell ρ c)
-  pub shows : shown_in n.scene.root.entries ≡ shown_in m.scene.root.entries
-  pub facts : HaveSameShapes (facts_below (length kinds) n.store.facts) (facts_below (length kinds) m.store.facts)
-
-abbrev pub AlikeMomentsGoOn : Type 0
-AlikeMomentsGoOn = (w : Setting) (kinds : List Bool) (m n : Moment) (ρ : Renaming) → IsSound w kinds m → IsSound w kinds n → AlikeBy (length kinds) ρ m n → AlikeGoOn w kinds m n ρ
-
--- and so are the next states
-abbrev pub AlikeAdvance : Type 0
-AlikeAdvance = (w : Setting) (kinds : List Bool) (m n m' n' : Moment) → IsSound w kinds m → IsSound w kinds n → Alike (length kinds) m n
-    → m'.scene ≡ advanced m.scene → GoesOn m.store m'.store → n'.scene ≡ advanced n.scene → GoesOn n.store n'.store → Alike (length kinds) m' n'
 
 -- likeness is an equivalence of sound moments
 pub record AlikeIsEquivalence (w : Setting) (kinds : List Bool) : Type 0 where

@@ -3,7 +3,7 @@ ghost use Rattle.std.specs.Prelude.{List, Bool};
 ghost use Rattle.tp_scene.specs.Pick.{Setting};
 ghost use Rattle.tp_order.specs.Edits.{EditsCommute, Remains, PutIsEdit};
 ghost use Rattle.tp_order.specs.Examples.{OrderDecides};
-ghost use Rattle.tp_order.specs.Orders.{StepsStayOrderly, FailuresAreMutual, FailuresStay, Commute, AlikeMomentsStep, AlikeIsEquivalence, OneRestOf};
+ghost use Rattle.tp_order.specs.Orders.{AdvancesStayOrderly, BeginsOrderly, StepsStayOrderly, FailuresAreMutual, FailuresStay, Commute, AlikeMomentsStep, AlikeIsEquivalence, OneRestOf};
 
 /// Edits of two items commute.
 pub fn edits_commute()
@@ -29,6 +29,12 @@ pub fn alike_moments_step()
 /// Steps leave moments orderly.
 pub fn steps_stay_orderly()
     ensures { StepsStayOrderly }
+{}
+
+/// A run begins with an orderly moment, and so does each next state.
+pub fn states_begin_orderly()
+    ensures begins { BeginsOrderly }
+    ensures advances { AdvancesStayOrderly }
 {}
 
 /// What fails goes on to fail where another item has a step.

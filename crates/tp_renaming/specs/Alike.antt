@@ -1,7 +1,13 @@
 -- Moments that are alike: a renaming carries one into the other.
-use Rattle.std.specs.Prelude.{◌≡◌, ℕ, length, slice_get}
-use Rattle.tp_scene.specs.Pick.{Moment}
-use Rattle.tp_renaming.specs.Renaming.{Renaming, FactsAlike, renamed_region, FixesFrom, FixesBelow}
+use Rattle.std.specs.Prelude.{◌≡◌, ℕ, Bool, List, length, slice_get}
+use Rattle.tp_store.specs.Known.{facts_below}
+use Rattle.tp_store.specs.Changes.{HaveSameShapes}
+use Rattle.tp_scene.specs.declared.answer.Cell.{Cell}
+use Rattle.tp_scene.specs.Pick.{Setting, Moment}
+use Rattle.tp_scene.specs.Rest.{ends, goes, settled, IsOpenCell}
+use Rattle.tp_scene.specs.Advance.{advanced, shown_in}
+use Rattle.tp_scene.specs.Laws.{IsSound, GoesOn}
+use Rattle.tp_renaming.specs.Renaming.{Renaming, FactsAlike, renamed_region, FixesFrom, FixesBelow, renamed_cell}
 
 -- The renaming carries the one moment into the other. It leaves the numbers alone that the next step takes, and the globals.
 pub record AlikeBy (globals : ℕ) (ρ : Renaming) (m n : Moment) : Type 0 where
@@ -18,3 +24,22 @@ pub record AlikeBy (globals : ℕ) (ρ : Renaming) (m n : Moment) : Type 0 where
 
 abbrev pub Alike : (globals : ℕ) → Moment → Moment → Type 0
 Alike globals m n = (ρ : Renaming) × AlikeBy globals ρ m n
+
+-- Of moments that are alike one is settled where the other is, and as that one; one is open at a cell where the other is open at the renamed one;
+-- both show the same, and have the same facts of the globals.
+pub record SettlesAlike (w : Setting) (globals : ℕ) (m n : Moment) (ρ : Renaming) : Type 0 where
+  pub ends_too : settled m.scene ≡ ends → settled n.scene ≡ ends
+  pub goes_too : settled m.scene ≡ goes → settled n.scene ≡ goes
+  pub open_too : (c : Cell) → IsOpenCell w m c → IsOpenCell w n (renamed_cell ρ c)
+  pub shows : shown_in n.scene.root.entries ≡ shown_in m.scene.root.entries
+  pub facts : HaveSameShapes (facts_below globals n.store.facts) (facts_below globals m.store.facts)
+
+abbrev pub AlikeMomentsSettle : Type 0
+AlikeMomentsSettle = (w : Setting) (kinds : List Bool) (m n : Moment) (ρ : Renaming) → IsSound w kinds m → IsSound w kinds n
+    → AlikeBy (length kinds) ρ m n → SettlesAlike w (length kinds) m n ρ
+
+-- Where the next states begin with what moments that are alike go on to, these are alike too.
+abbrev pub AlikeMomentsAdvance : Type 0
+AlikeMomentsAdvance = (globals : ℕ) (m n m' n' : Moment) → Alike globals m n
+    → m'.scene ≡ advanced m.scene → GoesOn m.store m'.store → n'.scene ≡ advanced n.scene → GoesOn n.store n'.store
+    → Alike globals m' n'

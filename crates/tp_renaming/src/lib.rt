@@ -4,4 +4,4 @@
 
 mod laws;
 
-pub use laws::{outcomes_rename, picks_rename};
+pub use laws::{alike_moments_advance, alike_moments_settle, outcomes_rename, picks_rename};
