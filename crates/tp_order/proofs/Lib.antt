@@ -10,6 +10,7 @@ pub mod Blocks
 pub mod Diamond
 pub mod Commute
 pub mod Rest
+pub mod CloseOneWay
 pub mod Examples
 pub mod Equivalence
 pub mod AlikeStep

@@ -2,6 +2,7 @@
 ghost use Rattle.std.specs.Prelude.{List, Bool};
 ghost use Rattle.tp_scene.specs.Pick.{Setting};
 ghost use Rattle.tp_order.specs.Edits.{EditsCommute, Remains, PutIsEdit};
+ghost use Rattle.tp_order.specs.States.{StatesCloseOneWay};
 ghost use Rattle.tp_order.specs.Examples.{OrderDecides};
 ghost use Rattle.tp_order.specs.Orders.{AdvancesStayOrderly, BeginsOrderly, StepsStayOrderly, FailuresAreMutual, FailuresStay, Commute, AlikeMomentsStep, AlikeIsEquivalence, OneRestOf};
 
@@ -55,6 +56,11 @@ pub fn steps_commute()
 /// One rest for every list of picks of a state.
 pub fn one_rest()
     ensures { (w : Setting) (kinds : List Bool) → OneRestOf w kinds }
+{}
+
+/// Where some picks close a state, every list of picks of a state that begins alike goes on to that end.
+pub fn states_close_one_way()
+    ensures { StatesCloseOneWay }
 {}
 
 /// An example of a sound moment past a limit, in which the order of picks decides.

@@ -6,5 +6,6 @@ mod laws;
 
 pub use laws::{
     alike_moments_step, edits_commute, failures_are_mutual, failures_stay, items_remain,
-    lengths_matter, one_rest, put_is_edit, states_begin_orderly, steps_commute, steps_stay_orderly,
+    lengths_matter, one_rest, put_is_edit, states_begin_orderly, states_close_one_way,
+    steps_commute, steps_stay_orderly,
 };
