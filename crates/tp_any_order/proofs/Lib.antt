@@ -1,0 +1,2 @@
+pub mod SameFacts
+pub mod Agree

@@ -1,0 +1,7 @@
+//! Runs in any order of picks: definitions, and their laws. Each law is the contract of a function that does nothing; a proof elsewhere
+//! uses it by a call.
+#![tactic(auto)]
+
+mod laws;
+
+pub use laws::{runs_agree, states_agree};

@@ -1,0 +1,12 @@
+pub mod FactsGrow
+pub mod OutcomesGrow
+pub mod Kept
+pub mod EqGrow
+pub mod SideGrow
+pub mod RowsGrow
+pub mod EqMutual
+pub mod SideKnows
+pub mod InputsWithin
+pub mod Small
+pub mod GoodRows
+pub mod StaysWithin

@@ -1,0 +1,34 @@
+// Laws of growth: what stays where more is known.
+ghost use Rattle.tp_growth.specs.Outcomes.{FactsGrow, OutcomesGrow};
+ghost use Rattle.tp_growth.specs.Rows.{HolderRowsGrow, LeafRowsGrow};
+ghost use Rattle.tp_growth.specs.Within.{PicksStayWithin, ValuesWithin};
+
+/// What facts say of places and of additions stays so where more is known.
+pub fn facts_grow()
+    ensures { FactsGrow }
+{}
+
+/// Values, faults and passed limits of expressions stay where more is known.
+pub fn outcomes_grow()
+    ensures { OutcomesGrow }
+{}
+
+/// What a formula becomes stays so where more is known, or it is a failure; and a failure stays one.
+pub fn leaf_rows_grow()
+    ensures { LeafRowsGrow }
+{}
+
+/// What an item with a region becomes stays so.
+pub fn holder_rows_grow()
+    ensures { HolderRowsGrow }
+{}
+
+/// Values that are found are within the limits on items and depth, where bound ones are.
+pub fn values_within()
+    ensures { ValuesWithin }
+{}
+
+/// Steps leave bound values and kept lengths within the limits, where inputs are.
+pub fn picks_stay_within()
+    ensures { PicksStayWithin }
+{}

@@ -1,0 +1,5 @@
+pub mod OneRest
+pub mod Edits
+pub mod Orders
+pub mod States
+pub mod Examples
