@@ -2,7 +2,7 @@
 #![tactic(auto)]
 
 mod call;
-mod counted;
+mod counting;
 mod end_line;
 mod laws;
 mod line;
@@ -14,7 +14,7 @@ mod text;
 mod words;
 
 pub use call::tempura;
-pub use counted::counted;
+pub use counting::counted;
 pub use end_line::end_text;
 pub use laws::{line_examples, text_shows_states};
 pub use status::{SourceKind, Status, Which};
