@@ -1,23 +1,25 @@
 -- The parts of a call, put together: what it answers, and what it has written.
-use Rattle.std.proofs.Common.{◌≡◌, ◌+◌, inl, inr, ℕ, List, [], ◌∷◌, ◌++◌, length, take, Option, Ok, Err, refl, sym, ap, subst}
+use Rattle.std.proofs.Common.{◌≡◌, ◌+◌, inl, inr, ℕ, List, [], ◌∷◌, ◌++◌, length, take, Option, Some, Ok, Err, IsTrue, refl, sym, ap, subst}
 use Rattle.std.proofs.Math.Seq.{take-append-add}
+use Rattle.std.proofs.lemmas.List.{append-nil}
 use Rattle.tp_io.specs.Devices.{Held}
 use Rattle.tp_kernel.specs.Built.{IsBuilt}
 use Rattle.tp_io.specs.declared.devices.WriteRefusal.TheVariants as sink
 use Rattle.tp_run.specs.declared.turn.Picture.{Picture}
 use Rattle.tp_run.specs.declared.turn.Turn.{Turn}
 use Rattle.tp_run.specs.declared.turn.Turn.TheVariants as turn
-use Rattle.tp_run.specs.History.{Advances}
+use Rattle.tp_run.specs.History.{RunEndsWith}
 use Rattle.tp_call.specs.declared.status.Status.{Status}
 use Rattle.tp_call.specs.declared.status.Status.TheVariants.{Finished, Contradictory, Undetermined, StateLimit, ReductionLimit, NumberLimit, ListLimit, CallLimit, NestLimit, InputMissing, WriteFault, NoMemory}
 use Rattle.tp_call.specs.Line.{state_line, state_lines}
 use Rattle.tp_call.specs.EndLine.{end_line}
 use Rattle.tp_call.specs.Written.{Wrote}
 use Rattle.tp_check.specs.Program.{ProgramTree}
-use Rattle.tp_call.specs.Run.{plan_of, turn_of, RunEnds, Settles}
-use Rattle.tp_call.specs.Progress.{Place, Turned, NoLineMade, EndMade, IsSettled, PartMade, HasWritten, ProgramMade}
-use Rattle.tp_call.specs.Answer.{Sourced, HoldsProgram, Refuses, RunsTo, Ends, Answers}
+use Rattle.tp_call.specs.Run.{plan_of, status_of, RunEnds, Settles}
+use Rattle.tp_call.specs.Progress.{Place, Turned, is_settled, line_of, PartMade, HasWritten, ProgramMade}
+use Rattle.tp_call.specs.Answer.{Sourced, HoldsProgram, Refuses, RunsTo, Ends, Answers, IsEndOfRun}
 use Rattle.tp_call.specs.Parts.{IsRefusal, Closes}
+use Rattle.tp_call.proofs.TurnLemmas.{ends_run}
 use Rattle.tp_call.proofs.HeadlineLemmas.{end_says}
 use Rattle.tp_call.proofs.RunLemmas.{Wrote-both, Wrote-nothing, lines_more, advances}
 
@@ -36,64 +38,69 @@ lines_with : (names : List (List ℕ)) (before now after : Option (List ℕ)) (p
     → Wrote before after (state_lines names (pictures ++ picture ∷ []))
 lines_with names before now after pictures picture p q = rw (lines_more names pictures picture) (Wrote-both before now after _ _ p q)
 
--- a state that ends the run and isn't settled
-stopped_by : (program : ProgramTree) (from to : Place) (before now after : Option (List ℕ)) (status : Status) → (h : HasWritten program from before now) → (e : NoLineMade (plan_of program) from to (turn_of status) now after)
-    → (Advances (plan_of program) h.pictures e.1.earlier e.0 to.standing to.state (turn_of status) → RunEnds program h.pictures status) → Ended program before after status
-stopped_by program from to before now after status h e end =
-    record { pictures = h.pictures; run = end (advances program from to before now (turn_of status) e.0 h e.1); wrote = rw e.2 h.wrote }
+-- a state that isn't settled ends the run: nothing more is written
+stopped_by : (program : ProgramTree) (from to : Place) (before now after : Option (List ℕ)) (status : Status) (answer : Turn) (picture : Picture) → (h : HasWritten program from before now) → status_of answer ≡ Some status → Wrote now after []
+    → RunEndsWith (plan_of program) h.pictures answer → Ended program before after status
+stopped_by program from to before now after status answer picture h is wrote run = record {
+  pictures = h.pictures;
+  run = record { answer = answer; status_is = is; run = run };
+  wrote = subst (Wrote before after) (append-nil (state_lines program.names h.pictures)) (Wrote-both before now after (state_lines program.names h.pictures) [] h.wrote wrote);
+}
 
-ended_by : (program : ProgramTree) (from to : Place) (before now after : Option (List ℕ)) (status : Status) → HasWritten program from before now → EndMade (plan_of program) program.names from to now after status
-    → Ended program before after status
-ended_by program from to before now after (Finished n) h (picture, turned, wrote) = record {
+-- an answer with which the run ends, and what it has written
+ended_by : (program : ProgramTree) (from to : Place) (before now after : Option (List ℕ)) (status : Status) (answer : Turn) (picture : Picture) → HasWritten program from before now → Turned (plan_of program) from to answer picture
+    → status_of answer ≡ Some status → Wrote now after (line_of program.names answer picture) → Ended program before after status
+ended_by program from to before now after status turn.Went picture h t is wrote = cc
+ended_by program from to before now after status (turn.Finished n) picture h t is wrote = record {
   pictures = h.pictures ++ picture ∷ [];
-  run = (advances program from to before now (turn.Finished n) picture h turned).0;
+  run = record { answer = turn.Finished n; status_is = is; run = (advances program from to before now (turn.Finished n) picture h t).0 };
   wrote = lines_with program.names before now after h.pictures picture h.wrote wrote;
 }
-ended_by program from to before now after (Contradictory state clash) h e = stopped_by program from to before now after (Contradictory state clash) h e (λ a. a.0)
-ended_by program from to before now after (Undetermined state cell) h e = stopped_by program from to before now after (Undetermined state cell) h e (λ a. a.0)
-ended_by program from to before now after (StateLimit states) h e = stopped_by program from to before now after (StateLimit states) h e (λ a. a.0)
-ended_by program from to before now after (ReductionLimit state) h e = stopped_by program from to before now after (ReductionLimit state) h e (λ a. a.0)
-ended_by program from to before now after (NumberLimit state) h e = stopped_by program from to before now after (NumberLimit state) h e (λ a. a.0)
-ended_by program from to before now after (ListLimit state) h e = stopped_by program from to before now after (ListLimit state) h e (λ a. a.0)
-ended_by program from to before now after (CallLimit state) h e = stopped_by program from to before now after (CallLimit state) h e (λ a. a.0)
-ended_by program from to before now after (NestLimit state) h e = stopped_by program from to before now after (NestLimit state) h e (λ a. a.0)
-ended_by program from to before now after (InputMissing state port) h e = stopped_by program from to before now after (InputMissing state port) h e (λ a. a.0)
-ended_by program from to before now after status h e = absurd e
+ended_by program from to before now after status (turn.Contradictory state clash) picture h t is wrote =
+    stopped_by program from to before now after status (turn.Contradictory state clash) picture h is wrote (advances program from to before now (turn.Contradictory state clash) picture h t).0
+ended_by program from to before now after status (turn.Undetermined state cell) picture h t is wrote =
+    stopped_by program from to before now after status (turn.Undetermined state cell) picture h is wrote (advances program from to before now (turn.Undetermined state cell) picture h t).0
+ended_by program from to before now after status (turn.StateLimit states) picture h t is wrote =
+    stopped_by program from to before now after status (turn.StateLimit states) picture h is wrote (advances program from to before now (turn.StateLimit states) picture h t).0
+ended_by program from to before now after status (turn.InputMissing state port) picture h t is wrote =
+    stopped_by program from to before now after status (turn.InputMissing state port) picture h is wrote (advances program from to before now (turn.InputMissing state port) picture h t).0
+ended_by program from to before now after status (turn.Over state limit) picture h t is wrote =
+    stopped_by program from to before now after status (turn.Over state limit) picture h is wrote (advances program from to before now (turn.Over state limit) picture h t).0
 
 -- the last state of these was settled, whether the run goes on or not
 settles_with : (program : ProgramTree) (from to : Place) (before now : Option (List ℕ)) (answer : Turn) (picture : Picture) → (h : HasWritten program from before now) → Turned (plan_of program) from to answer picture
-    → IsSettled answer → Settles program (h.pictures ++ picture ∷ [])
-settles_with program from to before now answer picture h turned (inl went) =
-    let a = advances program from to before now turn.Went picture h (subst (λ t. Turned (plan_of program) from to t picture) went turned) in
-    inl (a.0, a.2)
-settles_with program from to before now answer picture h turned (inr finished) =
-    inr (finished.0, (advances program from to before now (turn.Finished finished.0) picture h (subst (λ t. Turned (plan_of program) from to t picture) finished.1 turned)).0)
+    → IsTrue (is_settled answer) → Settles program (h.pictures ++ picture ∷ [])
+settles_with program from to before now turn.Went picture h t settled = let a = advances program from to before now turn.Went picture h t in inl (a.0, a.2)
+settles_with program from to before now (turn.Finished n) picture h t settled =
+    inr (n, record { answer = turn.Finished n; status_is = refl; run = (advances program from to before now (turn.Finished n) picture h t).0 })
+settles_with program from to before now (turn.Contradictory state clash) picture h t settled = cc
+settles_with program from to before now (turn.Undetermined state cell) picture h t settled = cc
+settles_with program from to before now (turn.StateLimit states) picture h t settled = cc
+settles_with program from to before now (turn.InputMissing state port) picture h t settled = cc
+settles_with program from to before now (turn.Over state limit) picture h t settled = cc
 
 pub ended : (program : ProgramTree) (before after : Option (List ℕ)) (status : Status) → ProgramMade program before after (Ok status) → Ended program before after status
 ended program before after status (inl none) = let bad : Ok status ≡ Err sink.NoMemory = none.0 in cc
-ended program before after status (inr made) = ended_by program made.from made.to before made.middle after status made.settled made.stopped
+ended program before after status (inr made) =
+    ended_by program made.from made.to before made.middle after status made.stopped.answer made.stopped.picture made.settled made.stopped.turned (sym made.stopped.status_is) made.stopped.wrote
 
 -- what an end settled
-settles_by : (program : ProgramTree) (pictures : List Picture) (status : Status) → RunEnds program pictures status → Settles program pictures
-settles_by program pictures (Finished n) e = inr (n, e)
-settles_by program pictures (Contradictory state clash) e = inl (e.0, e.1)
-settles_by program pictures (Undetermined state cell) e = inl (e.0, e.1)
-settles_by program pictures (StateLimit states) e = inl (e.0, e.1)
-settles_by program pictures (ReductionLimit state) e = inl (e.0, e.1)
-settles_by program pictures (NumberLimit state) e = inl (e.0, e.1)
-settles_by program pictures (ListLimit state) e = inl (e.0, e.1)
-settles_by program pictures (CallLimit state) e = inl (e.0, e.1)
-settles_by program pictures (NestLimit state) e = inl (e.0, e.1)
-settles_by program pictures (InputMissing state port) e = inl (e.0, e.1)
-settles_by program pictures status e = absurd e
+settles_by : (program : ProgramTree) (pictures : List Picture) (answer : Turn) → RunEndsWith (plan_of program) pictures answer → Settles program pictures
+settles_by program pictures turn.Went e = absurd e
+settles_by program pictures (turn.Finished n) e = inr (n, record { answer = turn.Finished n; status_is = refl; run = e })
+settles_by program pictures (turn.Contradictory state clash) e = inl (e.0, e.1)
+settles_by program pictures (turn.Undetermined state cell) e = inl (e.0, e.1)
+settles_by program pictures (turn.StateLimit states) e = inl (e.0, e.1)
+settles_by program pictures (turn.InputMissing state port) e = inl (e.0, e.1)
+settles_by program pictures (turn.Over state limit) e = inl (e.0, e.1)
 
 -- an end of a run is no failed write
 pub not_write_fault : (program : ProgramTree) (before after : Option (List ℕ)) (status : Status) → Ended program before after status → status ≡ WriteFault → ⊥
-not_write_fault program before after status e is = subst (RunEnds program e.pictures) is e.run
+not_write_fault program before after status e is = subst IsEndOfRun is (ends_run e.run.answer status e.run.status_is)
 
 module _ (words : List (List ℕ)) (held : Option Held) (program : ProgramTree) (built : IsBuilt program.names program.main) (source : Sourced words held (HoldsProgram program)) (old : Option (List ℕ)) where
   runs_to : (mid : Option (List ℕ)) (status : Status) → (e : Ended program old mid status) → RunsTo words held status (state_lines program.names e.pictures ++ end_line program.names status)
-  runs_to mid status e = record { program = program; pictures = e.pictures; source = source; run = e.run; says = end_says program e.pictures status built e.run; written = refl }
+  runs_to mid status e = record { program = program; pictures = e.pictures; source = source; run = e.run; says = end_says program e.pictures e.run.answer built e.run.run; written = refl }
 
   closed_whole : (mid new : Option (List ℕ)) (status result : Status) → Ended program old mid status → result ≡ status → Wrote mid new (end_line program.names status)
       → (text : List ℕ) × Ends words held result text × Wrote old new text
@@ -112,7 +119,7 @@ module _ (words : List (List ℕ)) (held : Option Held) (program : ProgramTree) 
   )
   closed mid new status NoMemory e c = (
     state_lines program.names e.pictures,
-    inr (record { program = program; pictures = e.pictures; source = source; run = settles_by program e.pictures status e.run; written = refl }),
+    inr (record { program = program; pictures = e.pictures; source = source; run = settles_by program e.pictures e.run.answer e.run.run; written = refl }),
     rw c e.wrote,
   )
   closed mid new status result e c = closed_whole mid new status result e c.0 c.1

@@ -2,7 +2,7 @@
 use Rattle.std.proofs.Common.{◌≡◌, ◌⊎◌, inl, inr, ℕ, List, length, Option, None, Some, refl, ap, sym, ◌∙◌, subst, arith}
 use Rattle.tp_io.specs.Devices.{Held, bytes_of}
 use Rattle.tp_run.specs.declared.turn.Picture.{Picture}
-use Rattle.tp_run.specs.History.{ContinuesEach}
+use Rattle.tp_run.specs.History.{RunEndsWith, ContinuesEach}
 use Rattle.tp_scene.specs.declared.answer.Cell.{Cell}
 use Rattle.tp_scene.specs.declared.answer.Clash.{Clash}
 use Rattle.tp_call.specs.declared.status.Status.{Status}
@@ -11,12 +11,13 @@ use Rattle.tp_call.specs.declared.status.Which.{Which}
 use Rattle.tp_call.specs.declared.status.Which.TheVariants.{Source}
 use Rattle.tp_call.specs.declared.status.SourceKind.{SourceKind}
 use Rattle.tp_call.specs.declared.refused.Refused.{Refused}
-use Rattle.tp_call.specs.Parts.{status_of}
+use Rattle.tp_call.specs.Parts.{refused_status}
 use Rattle.tp_call.proofs.ProgramLemmas.{program_or_refused, refused_once}
 use Rattle.tp_call.specs.Words.{wanted_of}
 use Rattle.tp_call.specs.Written.{Wrote}
 use Rattle.tp_check.specs.Program.{ProgramTree}
-use Rattle.tp_call.specs.Run.{RunEnds, EndSays}
+use Rattle.tp_call.specs.Run.{plan_of, EndSays}
+use Rattle.tp_call.proofs.TurnLemmas.{answer_of, answer_is, ends_run}
 use Rattle.tp_call.specs.Answer.{Sourced, HoldsProgram, HoldsRefused, IsTooLong, IsTold, Refuses, Ends, Answers, Prints, IsOrStopped, IsOrFailed, IsEndOfRun, HasFailed}
 
 -- what the source has where the files tell it
@@ -27,22 +28,29 @@ both_told words held P Q s t =
 
 module _ (words : List (List ℕ)) (held : Option Held) (old new : Option (List ℕ)) where
   -- an answer with an end line is that of a run, or a refusal
-  run_alone : (status : Status) → (Refuses words held status → ⊥) → (text : List ℕ) × Ends words held status text × Wrote old new text → Prints words held old new status (λ p printed. EndSays p printed status)
-  run_alone status never (text, inl run, wrote) = record { program = run.program; pictures = run.pictures; source = run.source; run = run.run; appended = subst (Wrote old new) run.written wrote; says = run.says }
+  run_alone : (status : Status) → (Refuses words held status → ⊥) → (text : List ℕ) × Ends words held status text × Wrote old new text → Prints words held old new status (λ p printed. EndSays p printed (answer_of status))
+  run_alone status never (text, inl run, wrote) = record {
+    program = run.program;
+    pictures = run.pictures;
+    source = run.source;
+    run = run.run;
+    appended = subst (Wrote old new) run.written wrote;
+    says = subst (EndSays (plan_of run.program) run.pictures) (answer_is run.run.answer status run.run.status_is) run.says;
+  }
   run_alone status never (text, inr refused, wrote) = absurd (never refused.0)
 
-  refusal_alone : (status : Status) → ((program : ProgramTree) (pictures : List Picture) → RunEnds program pictures status → ⊥) → (text : List ℕ) × Ends words held status text × Wrote old new text
-      → Refuses words held status
-  refusal_alone status never (text, inl run, wrote) = absurd (never run.program run.pictures run.run)
+  -- no run ends with such a status, which is then a refusal's
+  refusal_alone : (status : Status) → (IsEndOfRun status → ⊥) → (text : List ℕ) × Ends words held status text × Wrote old new text → Refuses words held status
+  refusal_alone status never (text, inl run, wrote) = absurd (never (ends_run run.run.answer status run.run.status_is))
   refusal_alone status never (text, inr refused, wrote) = refused.0
 
-  pub finished : (result : Status) → Answers words held old new result → (length : ℕ) → result ≡ Finished length → Prints words held old new (Finished length) (λ p printed. EndSays p printed (Finished length))
+  pub finished : (result : Status) → Answers words held old new result → (length : ℕ) → result ≡ Finished length → Prints words held old new (Finished length) (λ p printed. EndSays p printed (answer_of (Finished length)))
   finished result a n is = run_alone (Finished n) (λ r. r) (subst (Answers words held old new) is a)
 
-  pub contradictory : (result : Status) → Answers words held old new result → (state : ℕ) (clash : Clash) → result ≡ Contradictory state clash → Prints words held old new (Contradictory state clash) (λ p printed. EndSays p printed (Contradictory state clash))
+  pub contradictory : (result : Status) → Answers words held old new result → (state : ℕ) (clash : Clash) → result ≡ Contradictory state clash → Prints words held old new (Contradictory state clash) (λ p printed. EndSays p printed (answer_of (Contradictory state clash)))
   contradictory result a state clash is = run_alone (Contradictory state clash) (λ r. r) (subst (Answers words held old new) is a)
 
-  pub undetermined : (result : Status) → Answers words held old new result → (state : ℕ) (cell : Cell) → result ≡ Undetermined state cell → Prints words held old new (Undetermined state cell) (λ p printed. EndSays p printed (Undetermined state cell))
+  pub undetermined : (result : Status) → Answers words held old new result → (state : ℕ) (cell : Cell) → result ≡ Undetermined state cell → Prints words held old new (Undetermined state cell) (λ p printed. EndSays p printed (answer_of (Undetermined state cell)))
   undetermined result a state cell is = run_alone (Undetermined state cell) (λ r. r) (subst (Answers words held old new) is a)
 
   -- as many states were printed as there may be
@@ -50,34 +58,35 @@ module _ (words : List (List ℕ)) (held : Option Held) (old new : Option (List 
       → Prints words held old new (StateLimit states) (λ p printed. ContinuesEach p printed × (states ≡ length printed) × (states ≡ 1000))
   state_limit result a states is =
       let p = run_alone (StateLimit states) (λ r. r) (subst (Answers words held old new) is a) in
-      record { program = p.program; pictures = p.pictures; source = p.source; run = p.run; appended = p.appended; says = (p.says, p.run.2, p.run.3) }
+      let run = subst (RunEndsWith (plan_of p.program) p.pictures) (answer_is p.run.answer (StateLimit states) p.run.status_is) p.run.run in
+      record { program = p.program; pictures = p.pictures; source = p.source; run = p.run; appended = p.appended; says = (p.says, run.2, run.3) }
 
-  pub reduction_limit : (result : Status) → Answers words held old new result → (state : ℕ) → result ≡ ReductionLimit state → Prints words held old new (ReductionLimit state) (λ p printed. EndSays p printed (ReductionLimit state))
+  pub reduction_limit : (result : Status) → Answers words held old new result → (state : ℕ) → result ≡ ReductionLimit state → Prints words held old new (ReductionLimit state) (λ p printed. EndSays p printed (answer_of (ReductionLimit state)))
   reduction_limit result a state is = run_alone (ReductionLimit state) (λ r. r) (subst (Answers words held old new) is a)
 
-  pub number_limit : (result : Status) → Answers words held old new result → (state : ℕ) → result ≡ NumberLimit state → Prints words held old new (NumberLimit state) (λ p printed. EndSays p printed (NumberLimit state))
+  pub number_limit : (result : Status) → Answers words held old new result → (state : ℕ) → result ≡ NumberLimit state → Prints words held old new (NumberLimit state) (λ p printed. EndSays p printed (answer_of (NumberLimit state)))
   number_limit result a state is = run_alone (NumberLimit state) (λ r. r) (subst (Answers words held old new) is a)
 
-  pub list_limit : (result : Status) → Answers words held old new result → (state : ℕ) → result ≡ ListLimit state → Prints words held old new (ListLimit state) (λ p printed. EndSays p printed (ListLimit state))
+  pub list_limit : (result : Status) → Answers words held old new result → (state : ℕ) → result ≡ ListLimit state → Prints words held old new (ListLimit state) (λ p printed. EndSays p printed (answer_of (ListLimit state)))
   list_limit result a state is = run_alone (ListLimit state) (λ r. r) (subst (Answers words held old new) is a)
 
-  pub call_limit : (result : Status) → Answers words held old new result → (state : ℕ) → result ≡ CallLimit state → Prints words held old new (CallLimit state) (λ p printed. EndSays p printed (CallLimit state))
+  pub call_limit : (result : Status) → Answers words held old new result → (state : ℕ) → result ≡ CallLimit state → Prints words held old new (CallLimit state) (λ p printed. EndSays p printed (answer_of (CallLimit state)))
   call_limit result a state is = run_alone (CallLimit state) (λ r. r) (subst (Answers words held old new) is a)
 
-  pub nest_limit : (result : Status) → Answers words held old new result → (state : ℕ) → result ≡ NestLimit state → Prints words held old new (NestLimit state) (λ p printed. EndSays p printed (NestLimit state))
+  pub nest_limit : (result : Status) → Answers words held old new result → (state : ℕ) → result ≡ NestLimit state → Prints words held old new (NestLimit state) (λ p printed. EndSays p printed (answer_of (NestLimit state)))
   nest_limit result a state is = run_alone (NestLimit state) (λ r. r) (subst (Answers words held old new) is a)
 
-  pub input_missing : (result : Status) → Answers words held old new result → (state : ℕ) (port : List ℕ) → result ≡ InputMissing state port → Prints words held old new (InputMissing state port) (λ p printed. EndSays p printed (InputMissing state port))
+  pub input_missing : (result : Status) → Answers words held old new result → (state : ℕ) (port : List ℕ) → result ≡ InputMissing state port → Prints words held old new (InputMissing state port) (λ p printed. EndSays p printed (answer_of (InputMissing state port)))
   input_missing result a state port is = run_alone (InputMissing state port) (λ r. r) (subst (Answers words held old new) is a)
 
   pub words_refused_only : (result : Status) → Answers words held old new result → result ≡ WordsRefused → wanted_of words ≡ None
-  words_refused_only result a is = refusal_alone WordsRefused (λ p ps r. r) (subst (Answers words held old new) is a)
+  words_refused_only result a is = refusal_alone WordsRefused (λ e. e) (subst (Answers words held old new) is a)
 
   pub too_long_only : (result : Status) → Answers words held old new result → (which : Which) → result ≡ TooLong which → Sourced words held IsTooLong
-  too_long_only result a Source is = refusal_alone (TooLong Source) (λ p ps r. r) (subst (Answers words held old new) is a)
+  too_long_only result a Source is = refusal_alone (TooLong Source) (λ e. e) (subst (Answers words held old new) is a)
 
   pub source_refused_only : (result : Status) → Answers words held old new result → (line column : ℕ) (kind : SourceKind) → result ≡ SourceRefused line column kind → Sourced words held (HoldsRefused (record { line = line; column = column; kind = kind }))
-  source_refused_only result a line column kind is = refusal_alone (SourceRefused line column kind) (λ p ps r. r) (subst (Answers words held old new) is a)
+  source_refused_only result a line column kind is = refusal_alone (SourceRefused line column kind) (λ e. e) (subst (Answers words held old new) is a)
 
   accepted_is : (P : List ℕ → Type 0) (T : Type 0) → Sourced words held P → wanted_of words ≡ None → T
   accepted_is P T s none = let bad : Some s.wanted ≡ None = sym s.accepted ∙ none in cc
@@ -87,9 +96,9 @@ module _ (words : List (List ℕ)) (held : Option Held) (old new : Option (List 
   words_refused WordsRefused a none = inl refl
   words_refused WriteFault a none = inr (inl refl)
   words_refused NoMemory a none = inr (inr refl)
-  words_refused (SourceRefused line column kind) a none = accepted_is _ _ (refusal_alone (SourceRefused line column kind) (λ p ps r. r) a) none
-  words_refused (TooLong Source) a none = accepted_is _ _ (refusal_alone (TooLong Source) (λ p ps r. r) a) none
-  words_refused (ReadFault Source) a none = accepted_is _ _ (refusal_alone (ReadFault Source) (λ p ps r. r) a) none
+  words_refused (SourceRefused line column kind) a none = accepted_is _ _ (refusal_alone (SourceRefused line column kind) (λ e. e) a) none
+  words_refused (TooLong Source) a none = accepted_is _ _ (refusal_alone (TooLong Source) (λ e. e) a) none
+  words_refused (ReadFault Source) a none = accepted_is _ _ (refusal_alone (ReadFault Source) (λ e. e) a) none
   words_refused (Finished n) a none = accepted_is _ _ (run_alone (Finished n) (λ r. r) a).source none
   words_refused (Contradictory state clash) a none = accepted_is _ _ (run_alone (Contradictory state clash) (λ r. r) a).source none
   words_refused (Undetermined state cell) a none = accepted_is _ _ (run_alone (Undetermined state cell) (λ r. r) a).source none
@@ -105,10 +114,10 @@ module _ (words : List (List ℕ)) (held : Option Held) (old new : Option (List 
   told_accepted P T t none = let bad : Some t.wanted ≡ None = sym t.accepted ∙ none in cc
 
   -- a source that a run has is within the limit, and a program
-  ran_told : (status : Status) (Q : List ℕ → Type 0) → Prints words held old new status (λ p printed. EndSays p printed status) → IsTold words held Q → (program : ProgramTree) × ((source : List ℕ) × HoldsProgram program source × Q source)
+  ran_told : (status : Status) (Q : List ℕ → Type 0) → Prints words held old new status (λ p printed. EndSays p printed (answer_of status)) → IsTold words held Q → (program : ProgramTree) × ((source : List ℕ) × HoldsProgram program source × Q source)
   ran_told status Q p t = (p.program, both_told words held _ Q p.source t)
 
-  long_ran : (T : Type 0) (status : Status) → Prints words held old new status (λ p printed. EndSays p printed status) → IsTold words held IsTooLong → T
+  long_ran : (T : Type 0) (status : Status) → Prints words held old new status (λ p printed. EndSays p printed (answer_of status)) → IsTold words held IsTooLong → T
   long_ran T status p t = let told = ran_told status IsTooLong p t in absurd (omega (arith, told.1.1.0, told.1.2))
 
   -- a source past the limit
@@ -117,9 +126,9 @@ module _ (words : List (List ℕ)) (held : Option Held) (old new : Option (List 
   too_long (ReadFault Source) a t = inr (inl refl)
   too_long WriteFault a t = inr (inr (inl refl))
   too_long NoMemory a t = inr (inr (inr refl))
-  too_long WordsRefused a t = told_accepted _ _ t (refusal_alone WordsRefused (λ p ps r. r) a)
+  too_long WordsRefused a t = told_accepted _ _ t (refusal_alone WordsRefused (λ e. e) a)
   too_long (SourceRefused line column kind) a t =
-      let told = both_told words held _ IsTooLong (refusal_alone (SourceRefused line column kind) (λ p ps r. r) a) t in absurd (omega (arith, told.1.0, told.2))
+      let told = both_told words held _ IsTooLong (refusal_alone (SourceRefused line column kind) (λ e. e) a) t in absurd (omega (arith, told.1.0, told.2))
   too_long (Finished n) a t = long_ran _ (Finished n) (run_alone (Finished n) (λ r. r) a) t
   too_long (Contradictory state clash) a t = long_ran _ (Contradictory state clash) (run_alone (Contradictory state clash) (λ r. r) a) t
   too_long (Undetermined state cell) a t = long_ran _ (Undetermined state cell) (run_alone (Undetermined state cell) (λ r. r) a) t
@@ -131,21 +140,21 @@ module _ (words : List (List ℕ)) (held : Option Held) (old new : Option (List 
   too_long (CallLimit state) a t = long_ran _ (CallLimit state) (run_alone (CallLimit state) (λ r. r) a) t
   too_long (NestLimit state) a t = long_ran _ (NestLimit state) (run_alone (NestLimit state) (λ r. r) a) t
 
-  refused_ran : (T : Type 0) (status : Status) (refused : Refused) → Prints words held old new status (λ p printed. EndSays p printed status) → IsTold words held (HoldsRefused refused) → T
+  refused_ran : (T : Type 0) (status : Status) (refused : Refused) → Prints words held old new status (λ p printed. EndSays p printed (answer_of status)) → IsTold words held (HoldsRefused refused) → T
   refused_ran T status refused p t = let told = ran_told status (HoldsRefused refused) p t in absurd (program_or_refused told.1.0 told.0 refused told.1.1.1 told.1.2.1)
 
   -- a source that is refused
-  pub source_refused : (result : Status) → Answers words held old new result → (refused : Refused) → IsTold words held (HoldsRefused refused) → IsOrFailed (status_of refused) result
+  pub source_refused : (result : Status) → Answers words held old new result → (refused : Refused) → IsTold words held (HoldsRefused refused) → IsOrFailed (refused_status refused) result
   source_refused (SourceRefused line column kind) a refused t =
-      let r = refusal_alone (SourceRefused line column kind) (λ p ps r. r) a in
+      let r = refusal_alone (SourceRefused line column kind) (λ e. e) a in
       let told = both_told words held _ (HoldsRefused refused) r t in
-      inl (ap status_of (refused_once told.0 (record { line = line; column = column; kind = kind }) refused told.1.1 told.2.1))
+      inl (ap refused_status (refused_once told.0 (record { line = line; column = column; kind = kind }) refused told.1.1 told.2.1))
   source_refused (ReadFault Source) a refused t = inr (inl refl)
   source_refused WriteFault a refused t = inr (inr (inl refl))
   source_refused NoMemory a refused t = inr (inr (inr refl))
-  source_refused WordsRefused a refused t = told_accepted _ _ t (refusal_alone WordsRefused (λ p ps r. r) a)
+  source_refused WordsRefused a refused t = told_accepted _ _ t (refusal_alone WordsRefused (λ e. e) a)
   source_refused (TooLong Source) a refused t =
-      let told = both_told words held IsTooLong (HoldsRefused refused) (refusal_alone (TooLong Source) (λ p ps r. r) a) t in absurd (omega (arith, told.1, told.2.0))
+      let told = both_told words held IsTooLong (HoldsRefused refused) (refusal_alone (TooLong Source) (λ e. e) a) t in absurd (omega (arith, told.1, told.2.0))
   source_refused (Finished n) a refused t = refused_ran _ (Finished n) refused (run_alone (Finished n) (λ r. r) a) t
   source_refused (Contradictory state clash) a refused t = refused_ran _ (Contradictory state clash) refused (run_alone (Contradictory state clash) (λ r. r) a) t
   source_refused (Undetermined state cell) a refused t = refused_ran _ (Undetermined state cell) refused (run_alone (Undetermined state cell) (λ r. r) a) t
@@ -172,9 +181,9 @@ module _ (words : List (List ℕ)) (held : Option Held) (old new : Option (List 
   program_runs program (ReadFault Source) a t = inr (inl refl)
   program_runs program WriteFault a t = inr (inr (inl refl))
   program_runs program NoMemory a t = inr (inr (inr refl))
-  program_runs program WordsRefused a t = told_accepted _ _ t (refusal_alone WordsRefused (λ p ps r. r) a)
+  program_runs program WordsRefused a t = told_accepted _ _ t (refusal_alone WordsRefused (λ e. e) a)
   program_runs program (TooLong Source) a t =
-      let told = both_told words held IsTooLong (HoldsProgram program) (refusal_alone (TooLong Source) (λ p ps r. r) a) t in absurd (omega (arith, told.1, told.2.0))
+      let told = both_told words held IsTooLong (HoldsProgram program) (refusal_alone (TooLong Source) (λ e. e) a) t in absurd (omega (arith, told.1, told.2.0))
   program_runs program (SourceRefused line column kind) a t =
-      let told = both_told words held _ (HoldsProgram program) (refusal_alone (SourceRefused line column kind) (λ p ps r. r) a) t in
+      let told = both_told words held _ (HoldsProgram program) (refusal_alone (SourceRefused line column kind) (λ e. e) a) t in
       absurd (program_or_refused told.0 program (record { line = line; column = column; kind = kind }) told.2.1 told.1.1)

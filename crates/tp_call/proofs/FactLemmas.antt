@@ -1,5 +1,5 @@
 -- The facts of a settled state: in order, without a clash, of the variables that the run has.
-use Rattle.std.proofs.Common.{◌≡◌, inl, inr, ℕ, zero, suc, ◌<◌, Bool, nat_lt, List, [], ◌∷◌, length, map, Some, slice_get, refl, ap, sym, ◌∙◌, subst, arith}
+use Rattle.std.proofs.Common.{◌≡◌, inl, inr, ℕ, zero, suc, ◌<◌, Bool, nat_lt, List, [], ◌∷◌, length, map, Some, slice_get, true, refl, ap, sym, ◌∙◌, subst, arith}
 use Rattle.std.proofs.lemmas.Bool.{ltb-true}
 use Rattle.tp_value.specs.Globals.{is_lower}
 use Rattle.tp_value.specs.declared.path.Fact.{Fact}
@@ -12,13 +12,14 @@ use Rattle.tp_scene.specs.Fits.{kinds_in}
 use Rattle.tp_scene.proofs.Globals.{of_variables_in, in_of_variables}
 use Rattle.tp_run.specs.declared.turn.Picture.{Picture}
 use Rattle.tp_run.specs.declared.turn.Turn.{Turn}
+use Rattle.tp_run.specs.declared.turn.Turn.TheVariants as turn
 use Rattle.tp_run.specs.States.{Plan, setting, AreGlobals, Standing, open_at, answered, spent, Answers}
 use Rattle.tp_run.specs.Runs.{StandsReady}
 use Rattle.tp_run.proofs.StatesMean.{leads_ready}
 use Rattle.tp_run.proofs.Given.{scene_laws}
 use Rattle.tp_call.specs.Line.{AreFactsOf}
 use Rattle.tp_call.specs.Places.{IsOpen}
-use Rattle.tp_call.specs.Progress.{IsSettled}
+use Rattle.tp_call.specs.Progress.{is_settled}
 
 -- whether each variable of these names is static
 kinds_are : (names : List (List ℕ)) → map (λ (v : Variable). v.lasting) (map global_variable names) ≡ kinds_of names
@@ -52,14 +53,19 @@ facts_are names kept facts fits are = record {
 }
 
 -- the facts of a state that is settled
-pub settled_facts : (plan : Plan) (from to : Standing) (n m : ℕ) (old new : Picture) (answer : Turn) → StandsReady plan n from → IsOpen from → Answers plan from n old new to m answer → IsSettled answer → AreFactsOf plan.names new.facts
+pub settled_facts : (plan : Plan) (from to : Standing) (n m : ℕ) (old new : Picture) (answer : Turn) → StandsReady plan n from → IsOpen from → Answers plan from n old new to m answer → is_settled answer ≡ true → AreFactsOf plan.names new.facts
 settled_facts plan (answered last) to n m old new answer r o a s = absurd o
 settled_facts plan spent to n m old new answer r o a s = absurd o
-settled_facts plan (open_at moment) to n m old new answer r o a (inl went) =
-    let b = (subst (λ t. Answers plan (open_at moment) n old new to m t) went a).0.1 in
+settled_facts plan (open_at moment) to n m old new turn.Went r o a s =
+    let b = a.0.1 in
     let last = leads_ready scene_laws (setting plan n) (kinds_of plan.names) b.picks moment b.last r b.goes.closes.leads in
     facts_are plan.names b.last.store new.facts last.sound.store b.picture_is.facts
-settled_facts plan (open_at moment) to n m old new answer r o a (inr finished) =
-    let b = (subst (λ t. Answers plan (open_at moment) n old new to m t) finished.1 a).0.0 in
+settled_facts plan (open_at moment) to n m old new (turn.Finished length) r o a s =
+    let b = a.0.0 in
     let last = leads_ready scene_laws (setting plan n) (kinds_of plan.names) b.picks moment b.last r b.ends.closes.leads in
     facts_are plan.names b.last.store new.facts last.sound.store b.picture_is.facts
+settled_facts plan (open_at moment) to n m old new (turn.Contradictory state clash) r o a s = cc
+settled_facts plan (open_at moment) to n m old new (turn.Undetermined state cell) r o a s = cc
+settled_facts plan (open_at moment) to n m old new (turn.StateLimit states) r o a s = cc
+settled_facts plan (open_at moment) to n m old new (turn.InputMissing state port) r o a s = cc
+settled_facts plan (open_at moment) to n m old new (turn.Over state limit) r o a s = cc

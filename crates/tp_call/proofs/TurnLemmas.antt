@@ -1,5 +1,5 @@
 -- What one answer of a run makes, and what is written of it.
-use Rattle.std.proofs.Common.{◌≡◌, ℕ, List, Option, Err, refl, subst}
+use Rattle.std.proofs.Common.{◌≡◌, ℕ, Bool, true, false, IsTrue, List, Option, Some, None, Err, refl, sym, subst, if◌then◌else◌}
 use Rattle.tp_io.specs.Devices.{Writes}
 use Rattle.tp_io.specs.declared.devices.WriteRefusal.{WriteRefusal}
 use Rattle.tp_io.specs.declared.devices.WriteRefusal.TheVariants as sink
@@ -9,31 +9,83 @@ use Rattle.tp_run.specs.declared.turn.Picture.{Picture}
 use Rattle.tp_run.specs.declared.turn.Turn.{Turn}
 use Rattle.tp_run.specs.declared.turn.Turn.TheVariants as turn
 use Rattle.tp_run.specs.States.{Plan, Answers}
+use Rattle.tp_call.specs.declared.status.Status.{Status}
+use Rattle.tp_call.specs.declared.status.Status.TheVariants.{Finished, Contradictory, Undetermined, StateLimit, ReductionLimit, NumberLimit, ListLimit, CallLimit, NestLimit, InputMissing, SourceRefused, WordsRefused, TooLong, ReadFault, WriteFault, NoMemory}
 use Rattle.tp_call.specs.Line.{state_line}
+use Rattle.tp_call.specs.Run.{status_of, limit_end}
+use Rattle.tp_call.specs.Answer.{IsEndOfRun}
 use Rattle.tp_call.specs.Written.{Wrote}
-use Rattle.tp_call.specs.Parts.{limit_end}
-use Rattle.tp_call.specs.Progress.{Place, Turned, IsSettled, LineMade, NoLineMade, EndMade, TurnMade}
+use Rattle.tp_call.specs.Progress.{Place, Turned, is_settled, line_of, AnswerMade, TurnMade}
 
--- the call answers `given`, which is this answer
-module _ (plan : Plan) (from to : Place) (given : Turn) (earlier picture : Picture) (answers : Answers plan from.standing from.state earlier picture to.standing to.state given) (before : Option (List ℕ)) where
-  turned : (answer : Turn) → given ≡ answer → Turned plan from to answer picture
-  turned answer is = record { earlier = earlier; answers = subst (Answers plan from.standing from.state earlier picture to.standing to.state) is answers }
-
-  pub line_made : (names : List (List ℕ)) (answer : Turn) (after : Option (List ℕ)) → given ≡ answer → Wrote before after (state_line names picture) → LineMade plan names from to answer before after
-  line_made names answer after is wrote = (picture, turned answer is, wrote)
-
-  pub no_line_made : (answer : Turn) → given ≡ answer → NoLineMade plan from to answer before before
-  no_line_made answer is = (picture, turned answer is, refl)
-
-  pub limit_made : (names : List (List ℕ)) (state : ℕ) (kind : LimitKind) → given ≡ turn.Over state kind → EndMade plan names from to before before (limit_end state kind)
-  limit_made names state limit.Reductions is = no_line_made (turn.Over state limit.Reductions) is
-  limit_made names state limit.Number is = no_line_made (turn.Over state limit.Number) is
-  limit_made names state limit.List is = no_line_made (turn.Over state limit.List) is
-  limit_made names state limit.Calls is = no_line_made (turn.Over state limit.Calls) is
-  limit_made names state limit.Nest is = no_line_made (turn.Over state limit.Nest) is
+-- the call gives this answer, and what was to be written of it was
+module _ (plan : Plan) (names : List (List ℕ)) (from to : Place) (answer : Turn) (earlier picture : Picture) (answers : Answers plan from.standing from.state earlier picture to.standing to.state answer) (before : Option (List ℕ)) where
+  pub answer_made : (after : Option (List ℕ)) (status : Option Status) → status ≡ status_of answer → Wrote before after (line_of names answer picture) → AnswerMade plan names from to before after status
+  answer_made after status is wrote = record { answer = answer; status_is = is; picture = picture; turned = record { earlier = earlier; answers = answers }; wrote = wrote }
 
   -- a settled state whose line isn't written as a whole
-  pub write_stopped : (names : List (List ℕ)) (answer : Turn) (after : Option (List ℕ)) (refusal : WriteRefusal) → given ≡ answer → IsSettled answer → Writes {T = Unit {0}} before after (state_line names picture) (Err refusal)
+  pub write_stopped : (after : Option (List ℕ)) (refusal : WriteRefusal) → is_settled answer ≡ true → Writes {T = Unit {0}} before after (line_of names answer picture) (Err refusal)
       → TurnMade plan names from to before after (Err refusal)
-  write_stopped names answer after sink.Failed is settled wrote = record { picture = picture; answer = answer; settled = settled; turned = turned answer is; kept = wrote.0; wrote = wrote.2 }
-  write_stopped names answer after sink.NoMemory is settled wrote = wrote
+  write_stopped after sink.Failed settled wrote =
+      record { picture = picture; answer = answer; settled = settled; turned = record { earlier = earlier; answers = answers }; kept = wrote.0; wrote = rw settled at wrote.2 }
+  write_stopped after sink.NoMemory settled wrote = wrote
+
+-- an answer that has no status goes on, and its state's line was written
+pub went_on : (plan : Plan) (names : List (List ℕ)) (from to : Place) (before after : Option (List ℕ)) (answer : Turn) (picture : Picture) → Turned plan from to answer picture → None ≡ status_of answer → Wrote before after (line_of names answer picture)
+    → Turned plan from to turn.Went picture × Wrote before after (state_line names picture)
+went_on plan names from to before after turn.Went picture t is wrote = (t, wrote)
+went_on plan names from to before after (turn.Finished length) picture t is wrote = cc
+went_on plan names from to before after (turn.Contradictory state clash) picture t is wrote = cc
+went_on plan names from to before after (turn.Undetermined state cell) picture t is wrote = cc
+went_on plan names from to before after (turn.StateLimit states) picture t is wrote = cc
+went_on plan names from to before after (turn.InputMissing state port) picture t is wrote = cc
+went_on plan names from to before after (turn.Over state limit) picture t is wrote = cc
+
+-- the answer with which a run ends that has this status; a status that no run ends with has none, and `Went` stands for it
+abbrev pub answer_of : Status → Turn
+answer_of (Finished length) = turn.Finished length
+answer_of (Contradictory state clash) = turn.Contradictory state clash
+answer_of (Undetermined state cell) = turn.Undetermined state cell
+answer_of (StateLimit states) = turn.StateLimit states
+answer_of (ReductionLimit state) = turn.Over state limit.Reductions
+answer_of (NumberLimit state) = turn.Over state limit.Number
+answer_of (ListLimit state) = turn.Over state limit.List
+answer_of (CallLimit state) = turn.Over state limit.Calls
+answer_of (NestLimit state) = turn.Over state limit.Nest
+answer_of (InputMissing state port) = turn.InputMissing state port
+answer_of (SourceRefused line column kind) = turn.Went
+answer_of WordsRefused = turn.Went
+answer_of (TooLong which) = turn.Went
+answer_of (ReadFault which) = turn.Went
+answer_of WriteFault = turn.Went
+answer_of NoMemory = turn.Went
+
+some_is : {A : Type 0} {a b : A} → Some a ≡ Some b → a ≡ b
+some_is e = cc
+
+-- each status is that of one answer
+pub answer_is : (answer : Turn) (status : Status) → status_of answer ≡ Some status → answer ≡ answer_of status
+answer_is turn.Went status e = cc
+answer_is (turn.Finished length) status e = subst (λ s. turn.Finished length ≡ answer_of s) (some_is e) refl
+answer_is (turn.Contradictory state clash) status e = subst (λ s. turn.Contradictory state clash ≡ answer_of s) (some_is e) refl
+answer_is (turn.Undetermined state cell) status e = subst (λ s. turn.Undetermined state cell ≡ answer_of s) (some_is e) refl
+answer_is (turn.StateLimit states) status e = subst (λ s. turn.StateLimit states ≡ answer_of s) (some_is e) refl
+answer_is (turn.InputMissing state port) status e = subst (λ s. turn.InputMissing state port ≡ answer_of s) (some_is e) refl
+answer_is (turn.Over state limit.Reductions) status e = subst (λ s. turn.Over state limit.Reductions ≡ answer_of s) (some_is e) refl
+answer_is (turn.Over state limit.Number) status e = subst (λ s. turn.Over state limit.Number ≡ answer_of s) (some_is e) refl
+answer_is (turn.Over state limit.List) status e = subst (λ s. turn.Over state limit.List ≡ answer_of s) (some_is e) refl
+answer_is (turn.Over state limit.Calls) status e = subst (λ s. turn.Over state limit.Calls ≡ answer_of s) (some_is e) refl
+answer_is (turn.Over state limit.Nest) status e = subst (λ s. turn.Over state limit.Nest ≡ answer_of s) (some_is e) refl
+
+-- which is one with which a run ends
+pub ends_run : (answer : Turn) (status : Status) → status_of answer ≡ Some status → IsEndOfRun status
+ends_run turn.Went status e = cc
+ends_run (turn.Finished length) status e = subst IsEndOfRun (some_is e) tt
+ends_run (turn.Contradictory state clash) status e = subst IsEndOfRun (some_is e) tt
+ends_run (turn.Undetermined state cell) status e = subst IsEndOfRun (some_is e) tt
+ends_run (turn.StateLimit states) status e = subst IsEndOfRun (some_is e) tt
+ends_run (turn.InputMissing state port) status e = subst IsEndOfRun (some_is e) tt
+ends_run (turn.Over state limit.Reductions) status e = subst IsEndOfRun (some_is e) tt
+ends_run (turn.Over state limit.Number) status e = subst IsEndOfRun (some_is e) tt
+ends_run (turn.Over state limit.List) status e = subst IsEndOfRun (some_is e) tt
+ends_run (turn.Over state limit.Calls) status e = subst IsEndOfRun (some_is e) tt
+ends_run (turn.Over state limit.Nest) status e = subst IsEndOfRun (some_is e) tt

@@ -47,7 +47,7 @@ pub record RunsTo (words : List (List ℕ)) (held : Option Held) (status : Statu
   pub pictures : List Picture
   pub source : Sourced words held (HoldsProgram program)
   pub run : RunEnds program pictures status
-  pub says : EndSays (plan_of program) pictures status
+  pub says : EndSays (plan_of program) pictures run.answer
   pub written : text ≡ state_lines program.names pictures ++ end_line program.names status
 
 -- The cause of a refusal.

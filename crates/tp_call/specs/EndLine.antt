@@ -7,7 +7,7 @@ use Rattle.tp_call.specs.declared.status.Which.{Which}
 use Rattle.tp_call.specs.declared.status.Which.TheVariants.{Source}
 use Rattle.tp_call.specs.declared.status.SourceKind.{SourceKind}
 use Rattle.tp_call.specs.declared.status.SourceKind.TheVariants.{BadByte, OpenComment, NumberTooLarge, NameTooLong, Unexpected, Unfinished, TooDeep, WrongCount, NotExpression, NotPlace, NotExecutable}
-use Rattle.tp_call.specs.declared.run.TheConstants.{REDUCTIONS}
+use Rattle.tp_call.specs.Run.{reductions_limit}
 use Rattle.tp_call.specs.Texts.{cell_text, clash_text}
 
 abbrev pub which_text : Which → List ℕ
@@ -35,7 +35,7 @@ state_text word state = word ++ codes ": state " ++ decimal state
 
 -- a state took as many reductions as it may, and one more applies
 abbrev pub reductions_text : ℕ → List ℕ
-reductions_text state = state_text (codes "reduction limit") state ++ (codes ": " ++ decimal REDUCTIONS) ++ codes " reductions"
+reductions_text state = state_text (codes "reduction limit") state ++ (codes ": " ++ decimal reductions_limit) ++ codes " reductions"
 
 -- what the end line of a call says that ran a program with these global variables, or none; two answers have no end line
 abbrev pub last_words : List (List ℕ) → Status → List ℕ

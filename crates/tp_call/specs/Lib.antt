@@ -12,3 +12,4 @@ pub mod Answer
 pub mod Parts
 pub mod ReadBack
 pub mod Source
+pub mod Headline

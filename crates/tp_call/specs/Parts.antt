@@ -1,10 +1,8 @@
 -- What the parts of a call answer.
 use Rattle.std.specs.Prelude.{◌≡◌, ◌⊎◌, ℕ, List, take, Option, None, Some}
-use Rattle.tp_kernel.specs.declared.formula.LimitKind.{LimitKind}
-use Rattle.tp_kernel.specs.declared.formula.LimitKind.TheVariants as limit
 use Rattle.tp_io.specs.Devices.{Held}
 use Rattle.tp_call.specs.declared.status.Status.{Status}
-use Rattle.tp_call.specs.declared.status.Status.TheVariants.{ReductionLimit, NumberLimit, ListLimit, CallLimit, NestLimit, SourceRefused, WriteFault, NoMemory}
+use Rattle.tp_call.specs.declared.status.Status.TheVariants.{SourceRefused, WriteFault, NoMemory}
 use Rattle.tp_call.specs.declared.refused.Refused.{Refused}
 use Rattle.tp_call.specs.EndLine.{end_line}
 use Rattle.tp_call.specs.Written.{Wrote}
@@ -12,25 +10,17 @@ use Rattle.tp_call.specs.Answer.{Refuses}
 use Rattle.tp_call.specs.Source.{IsRefusedAt}
 
 -- the status of a refusal
-abbrev pub status_of : Refused → Status
-status_of refused = SourceRefused refused.line refused.column refused.kind
+abbrev pub refused_status : Refused → Status
+refused_status refused = SourceRefused refused.line refused.column refused.kind
 
 -- and of the want of memory
 abbrev pub refusal_end : Option Refused → Status
 refusal_end None = NoMemory
-refusal_end (Some refused) = status_of refused
-
--- the status of a run that passes a limit in this state
-abbrev pub limit_end : ℕ → LimitKind → Status
-limit_end state limit.Reductions = ReductionLimit state
-limit_end state limit.Number = NumberLimit state
-limit_end state limit.List = ListLimit state
-limit_end state limit.Calls = CallLimit state
-limit_end state limit.Nest = NestLimit state
+refusal_end (Some refused) = refused_status refused
 
 -- memory was wanted, or a source is refused there for this cause
 abbrev pub IsReadRefusal : List ℕ → Status → Type 0
-IsReadRefusal source status = (status ≡ NoMemory) ⊎ ((refused : Refused) × (status ≡ status_of refused) × IsRefusedAt source refused)
+IsReadRefusal source status = (status ≡ NoMemory) ⊎ ((refused : Refused) × (status ≡ refused_status refused) × IsRefusedAt source refused)
 
 -- there is no program for this cause, or memory was wanted
 abbrev pub IsRefusal : List (List ℕ) → Option Held → Status → Type 0

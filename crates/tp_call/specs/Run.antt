@@ -1,5 +1,6 @@
 -- The runs of a program.
-use Rattle.std.specs.Prelude.{◌≡◌, ◌⊎◌, ℕ, List, [], ◌∷◌}
+use Rattle.std.specs.Prelude.{◌≡◌, ◌⊎◌, ℕ, List, [], ◌∷◌, Option, Some, None}
+use Rattle.tp_kernel.specs.declared.formula.LimitKind.{LimitKind}
 use Rattle.tp_kernel.specs.declared.formula.LimitKind.TheVariants as limit
 use Rattle.tp_scene.specs.Pick.{Moment}
 use Rattle.tp_decide.specs.Read.{shows_of}
@@ -7,39 +8,46 @@ use Rattle.tp_run.specs.declared.turn.Picture.{Picture}
 use Rattle.tp_run.specs.declared.turn.Turn.{Turn}
 use Rattle.tp_run.specs.declared.turn.Turn.TheVariants as turn
 use Rattle.tp_run.specs.States.{Plan, plan_with, LeadsTo}
-use Rattle.tp_run.specs.History.{RunEndsWith, EndMeans, SatisfiedExactly, Satisfiable}
+use Rattle.tp_run.specs.History.{RunEndsWith, SatisfiedExactly, Satisfiable, Unsatisfiable, ContinuesEach}
 use Rattle.tp_check.specs.Program.{ProgramTree}
-use Rattle.tp_call.specs.declared.run.TheConstants.{STATES, REDUCTIONS}
 use Rattle.tp_call.specs.declared.status.Status.{Status}
-use Rattle.tp_call.specs.declared.status.Status.TheVariants.{Finished, Contradictory, Undetermined, StateLimit, ReductionLimit, NumberLimit, ListLimit, CallLimit, NestLimit, InputMissing, SourceRefused, WordsRefused, TooLong, ReadFault, WriteFault, NoMemory}
+use Rattle.tp_call.specs.declared.status.Status.TheVariants.{Finished, Contradictory, Undetermined, StateLimit, ReductionLimit, NumberLimit, ListLimit, CallLimit, NestLimit, InputMissing}
 
--- What is run of a program: its main formula, with no inputs, for at most 1,000 states of at most 100,000 reductions each.
+-- how many states a run has at most, and how many reductions each of them takes
+abbrev pub states_limit : ℕ
+states_limit = 1000
+
+abbrev pub reductions_limit : ℕ
+reductions_limit = 100000
+
+-- What is run of a program: its main formula, with no inputs, for at most so many states of at most so many reductions each.
 abbrev pub plan_of : ProgramTree → Plan
-plan_of program = plan_with program.names program.main [] STATES REDUCTIONS
+plan_of program = plan_with program.names program.main [] states_limit reductions_limit
 
--- The answer of a run that ends with this status. For a status that is no end of a run it is `Went`, with which no run ends.
-abbrev pub turn_of : Status → Turn
-turn_of (Finished length) = turn.Finished length
-turn_of (Contradictory state clash) = turn.Contradictory state clash
-turn_of (Undetermined state cell) = turn.Undetermined state cell
-turn_of (StateLimit states) = turn.StateLimit states
-turn_of (ReductionLimit state) = turn.Over state limit.Reductions
-turn_of (NumberLimit state) = turn.Over state limit.Number
-turn_of (ListLimit state) = turn.Over state limit.List
-turn_of (CallLimit state) = turn.Over state limit.Calls
-turn_of (NestLimit state) = turn.Over state limit.Nest
-turn_of (InputMissing state port) = turn.InputMissing state port
-turn_of (SourceRefused line column kind) = turn.Went
-turn_of WordsRefused = turn.Went
-turn_of (TooLong which) = turn.Went
-turn_of (ReadFault which) = turn.Went
-turn_of WriteFault = turn.Went
-turn_of NoMemory = turn.Went
+-- the status of a run that passes a limit in this state
+abbrev pub limit_end : ℕ → LimitKind → Status
+limit_end state limit.Reductions = ReductionLimit state
+limit_end state limit.Number = NumberLimit state
+limit_end state limit.List = ListLimit state
+limit_end state limit.Calls = CallLimit state
+limit_end state limit.Nest = NestLimit state
 
--- A run of the program settles states with these pictures and no other, and ends with this status. At `Finished` the last of them is the
--- state that ends.
-abbrev pub RunEnds : ProgramTree → List Picture → Status → Type 0
-RunEnds program pictures status = RunEndsWith (plan_of program) pictures (turn_of status)
+-- The status of a run that ends with this answer; an answer with which it goes on has none.
+abbrev pub status_of : Turn → Option Status
+status_of turn.Went = None
+status_of (turn.Finished length) = Some (Finished length)
+status_of (turn.Contradictory state clash) = Some (Contradictory state clash)
+status_of (turn.Undetermined state cell) = Some (Undetermined state cell)
+status_of (turn.StateLimit states) = Some (StateLimit states)
+status_of (turn.InputMissing state port) = Some (InputMissing state port)
+status_of (turn.Over state kind) = Some (limit_end state kind)
+
+-- A run of the program settles states with these pictures and no other, and ends with an answer that has this status. At `Finished` the
+-- last of them is the state that ends.
+pub record RunEnds (program : ProgramTree) (pictures : List Picture) (status : Status) : Type 0 where
+  pub answer : Turn
+  pub status_is : status_of answer ≡ Some status
+  pub run : RunEndsWith (plan_of program) pictures answer
 
 -- a run of the program settles these states, and goes on
 abbrev pub GoesOn : ProgramTree → List Picture → Type 0
@@ -58,6 +66,11 @@ ShowNothing (picture ∷ pictures) = (shows_of picture.shows ≡ []) × ShowNoth
 -- shows this or that, exactly where it is an interval of the program with the printed length that agrees with each printed state, and it shows
 -- what these show, which is nothing; and there is one. Contradictory, or an input that is missing: none does. Else: each one that does agrees
 -- with the printed states and has more states.
-abbrev pub EndSays : Plan → List Picture → Status → Type 0
-EndSays plan pictures (Finished length) = SatisfiedExactly plan pictures length × Satisfiable plan × ShowNothing pictures
-EndSays plan pictures status = EndMeans plan pictures (turn_of status)
+abbrev pub EndSays : Plan → List Picture → Turn → Type 0
+EndSays plan pictures turn.Went = ⊥
+EndSays plan pictures (turn.Finished length) = SatisfiedExactly plan pictures length × Satisfiable plan × ShowNothing pictures
+EndSays plan pictures (turn.Contradictory state clash) = Unsatisfiable plan
+EndSays plan pictures (turn.Undetermined state cell) = ContinuesEach plan pictures
+EndSays plan pictures (turn.StateLimit states) = ContinuesEach plan pictures
+EndSays plan pictures (turn.InputMissing state port) = Unsatisfiable plan
+EndSays plan pictures (turn.Over state kind) = ContinuesEach plan pictures

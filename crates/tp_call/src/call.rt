@@ -3,19 +3,12 @@ ghost use Rattle.std.specs.Prelude.{◌≡◌, ◌≢◌, ◌≤◌, ◌⊎◌, 
 ghost use Rattle.tp_io.specs.Devices.{Rose};
 ghost use Rattle.tp_kernel.specs.Read.{formula_tree};
 ghost use Rattle.tp_kernel.specs.Built.{IsBuilt};
-ghost use Rattle.tp_scene.specs.declared.answer.Cell.{Cell};
-ghost use Rattle.tp_scene.specs.declared.answer.Clash.{Clash};
-ghost use Rattle.tp_run.specs.History.{SatisfiedExactly, Satisfiable, Unsatisfiable, ContinuesEach};
 ghost use Rattle.tp_check.specs.Program.{program_tree};
-ghost use Rattle.tp_call.specs.declared.refused.Refused.{Refused};
 ghost use Rattle.tp_call.specs.Source.{IsProgram};
 ghost use Rattle.tp_call.specs.declared.status.Which.{Which};
-ghost use Rattle.tp_call.specs.declared.status.SourceKind.{SourceKind};
-ghost use Rattle.tp_call.specs.Words.{wanted_of};
-ghost use Rattle.tp_call.specs.Run.{ShowNothing};
-ghost use Rattle.tp_check.specs.Program.{ProgramTree};
-ghost use Rattle.tp_call.specs.Answer.{source_limit, HoldsProgram, HoldsRefused, IsTooLong, Sourced, Answers, AsksOnly, IsOrStopped, IsOrFailed, IsEndOfRun, HasFailed, IsTold, Prints};
-ghost use Rattle.tp_call.specs.Parts.{status_of, refusal_end, IsReadRefusal, IsRefusal, Closes};
+ghost use Rattle.tp_call.specs.Answer.{source_limit, HoldsProgram, Sourced, Answers, AsksOnly};
+ghost use Rattle.tp_call.specs.Headline.{FinishedSays, ContradictorySays, UndeterminedSays, StateLimitSays, LimitSays, InputMissingSays, ProgramRuns, WordsRefusedExactly, TooLongExactly, SourceRefusedExactly};
+ghost use Rattle.tp_call.specs.Parts.{refusal_end, IsReadRefusal, IsRefusal, Closes};
 
 use crate::end_line::end_text;
 use crate::refused::{Refused, by_checker, by_lexer, by_parser};
@@ -160,48 +153,45 @@ pub fn tempura<F: Files, K: Sink, L: Ledger>(
     out: &mut K,
     steps: &mut Steps<L>,
 ) -> Status
-    ensures answer { Answers words.now (F.held files.old) (K.written out.old) (K.written out.new) result }
+    ensures answer { Answers words.now (F.held files.old) (K.written out.old) (K.written out.new)
+        result }
     ensures held { F.held files.new ≡ F.held files.old }
 
-    // The headline: where a run finishes, an interval satisfies the program exactly where it has the printed length and agrees with each
-    // printed state, and then shows what these show, which is nothing; and there is one. Where it is contradictory, or an input is missing,
-    // there is none. Where it is undetermined, or past a limit, each one that satisfies agrees with the printed states and has more states
-    // than these.
-    ensures finished { (length : ℕ) → result ≡ Status.Finished length
-        → Prints words.now (F.held files.old) (K.written out.old) (K.written out.new) (Status.Finished length) (λ p printed. SatisfiedExactly p printed length × Satisfiable p × ShowNothing printed) }
-    ensures contradictory { (state : ℕ) (clash : Clash) → result ≡ Status.Contradictory state clash
-        → Prints words.now (F.held files.old) (K.written out.old) (K.written out.new) (Status.Contradictory state clash) (λ p printed. Unsatisfiable p) }
-    ensures undetermined { (state : ℕ) (cell : Cell) → result ≡ Status.Undetermined state cell
-        → Prints words.now (F.held files.old) (K.written out.old) (K.written out.new) (Status.Undetermined state cell) (λ p printed. ContinuesEach p printed) }
-    ensures state_limit { (states : ℕ) → result ≡ Status.StateLimit states
-        → Prints words.now (F.held files.old) (K.written out.old) (K.written out.new) (Status.StateLimit states) (λ p printed. ContinuesEach p printed × (states ≡ length printed) × (states ≡ 1000)) }
-    ensures reduction_limit { (state : ℕ) → result ≡ Status.ReductionLimit state
-        → Prints words.now (F.held files.old) (K.written out.old) (K.written out.new) (Status.ReductionLimit state) (λ p printed. ContinuesEach p printed) }
-    ensures number_limit { (state : ℕ) → result ≡ Status.NumberLimit state
-        → Prints words.now (F.held files.old) (K.written out.old) (K.written out.new) (Status.NumberLimit state) (λ p printed. ContinuesEach p printed) }
-    ensures list_limit { (state : ℕ) → result ≡ Status.ListLimit state
-        → Prints words.now (F.held files.old) (K.written out.old) (K.written out.new) (Status.ListLimit state) (λ p printed. ContinuesEach p printed) }
-    ensures call_limit { (state : ℕ) → result ≡ Status.CallLimit state
-        → Prints words.now (F.held files.old) (K.written out.old) (K.written out.new) (Status.CallLimit state) (λ p printed. ContinuesEach p printed) }
-    ensures nest_limit { (state : ℕ) → result ≡ Status.NestLimit state
-        → Prints words.now (F.held files.old) (K.written out.old) (K.written out.new) (Status.NestLimit state) (λ p printed. ContinuesEach p printed) }
-    ensures input_missing { (state : ℕ) (port : List ℕ) → result ≡ Status.InputMissing state port
-        → Prints words.now (F.held files.old) (K.written out.old) (K.written out.new) (Status.InputMissing state port) (λ p printed. Unsatisfiable p) }
-    ensures program_runs { (program : ProgramTree) → IsTold words.now (F.held files.old) (HoldsProgram program) → IsEndOfRun result ⊎ HasFailed result }
+    // The headline: what each end of a run says of every interval. The sentences stand in `specs/Headline.antt`.
+    ensures finished { FinishedSays words.now (F.held files.old) (K.written out.old) (K.written out.new)
+        result }
+    ensures contradictory { ContradictorySays words.now (F.held files.old) (K.written out.old) (K.written out.new)
+        result }
+    ensures undetermined { UndeterminedSays words.now (F.held files.old) (K.written out.old) (K.written out.new)
+        result }
+    ensures state_limit { StateLimitSays words.now (F.held files.old) (K.written out.old) (K.written out.new)
+        result }
+    ensures reduction_limit { LimitSays words.now (F.held files.old) (K.written out.old) (K.written out.new)
+        result Status.ReductionLimit }
+    ensures number_limit { LimitSays words.now (F.held files.old) (K.written out.old) (K.written out.new)
+        result Status.NumberLimit }
+    ensures list_limit { LimitSays words.now (F.held files.old) (K.written out.old) (K.written out.new)
+        result Status.ListLimit }
+    ensures call_limit { LimitSays words.now (F.held files.old) (K.written out.old) (K.written out.new)
+        result Status.CallLimit }
+    ensures nest_limit { LimitSays words.now (F.held files.old) (K.written out.old) (K.written out.new)
+        result Status.NestLimit }
+    ensures input_missing { InputMissingSays words.now (F.held files.old) (K.written out.old) (K.written out.new)
+        result }
+    ensures program_runs { ProgramRuns words.now (F.held files.old) result }
 
     // Refusals, each exactly, but for failed reads and writes and want of memory.
-    ensures words_refused_only { result ≡ Status.WordsRefused → wanted_of words.now ≡ None }
-    ensures words_refused { wanted_of words.now ≡ None → IsOrStopped Status.WordsRefused result }
-    ensures too_long_only { (which : Which) → result ≡ Status.TooLong which → Sourced words.now (F.held files.old) IsTooLong }
-    ensures too_long { IsTold words.now (F.held files.old) IsTooLong → IsOrFailed (Status.TooLong Which.Source) result }
-    ensures source_refused_only { (line column : ℕ) (kind : SourceKind) → result ≡ Status.SourceRefused line column kind
-        → Sourced words.now (F.held files.old) (HoldsRefused (record { line = line; column = column; kind = kind })) }
-    ensures source_refused { (refused : Refused) → IsTold words.now (F.held files.old) (HoldsRefused refused) → IsOrFailed (status_of refused) result }
+    ensures words_refused { WordsRefusedExactly words.now (F.held files.old) result }
+    ensures too_long { TooLongExactly words.now (F.held files.old) result }
+    ensures source_refused { SourceRefusedExactly words.now (F.held files.old) result }
 
     // Faults.
-    ensures asked { AsksOnly words.now (F.asked files.old) (F.asked files.new) (λ which. result ≡ Status.ReadFault which) }
-    ensures read_fault { (which : Which) → result ≡ Status.ReadFault which → Rose F.greatest (F.faults files.old) (F.faults files.new) }
-    ensures write_fault { result ≡ Status.WriteFault → Rose K.greatest (K.faults out.old) (K.faults out.new) }
+    ensures asked { AsksOnly words.now (F.asked files.old) (F.asked files.new) (λ which.
+        result ≡ Status.ReadFault which) }
+    ensures read_fault { (which : Which) → result ≡ Status.ReadFault which
+        → Rose F.greatest (F.faults files.old) (F.faults files.new) }
+    ensures write_fault { result ≡ Status.WriteFault
+        → Rose K.greatest (K.faults out.old) (K.faults out.new) }
 {
     call(alloc, words, files, out, steps)
 }

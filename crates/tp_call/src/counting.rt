@@ -1,8 +1,9 @@
 // The call, counted from 0.
-ghost use Rattle.std.specs.Prelude.{◌≡◌, ◌<◌};
+ghost use Rattle.std.specs.Prelude.{◌≡◌, ◌<◌, List, ℕ};
 ghost use Rattle.tp_io.specs.Devices.{Rose};
 ghost use Rattle.tp_call.specs.declared.status.Which.{Which};
 ghost use Rattle.tp_call.specs.Answer.{Answers, AsksOnly};
+ghost use Rattle.tp_call.specs.Headline.{FinishedSays, ContradictorySays, UndeterminedSays, StateLimitSays, LimitSays, InputMissingSays, ProgramRuns, WordsRefusedExactly, TooLongExactly, SourceRefusedExactly};
 
 use crate::call::tempura;
 use crate::status::Status;
@@ -12,7 +13,7 @@ use tp_io::{Files, Sink};
 use tp_step::Steps;
 use tp_value::Text;
 
-/// The call, with a count of tries of its own.
+/// The call, with a count of tries of its own. It promises what `tempura` does.
 pub fn counted<L: Ledger, F: Files, K: Sink>(
     alloc: Global,
     words: &[Text],
@@ -23,11 +24,45 @@ pub fn counted<L: Ledger, F: Files, K: Sink>(
     requires name { blank.name ≡ L.name }
     requires parts { blank.parts ≡ L.parts }
     requires some { 0 < L.parts }
-    ensures answer { Answers words.now (F.held files.old) (K.written out.old) (K.written out.new) result }
-    ensures asked { AsksOnly words.now (F.asked files.old) (F.asked files.new) (λ which. result ≡ Status.ReadFault which) }
+    ensures answer { Answers words.now (F.held files.old) (K.written out.old) (K.written out.new)
+        result }
     ensures held { F.held files.new ≡ F.held files.old }
-    ensures read_fault { (which : Which) → result ≡ Status.ReadFault which → Rose F.greatest (F.faults files.old) (F.faults files.new) }
-    ensures write_fault { result ≡ Status.WriteFault → Rose K.greatest (K.faults out.old) (K.faults out.new) }
+
+    // The headline.
+    ensures finished { FinishedSays words.now (F.held files.old) (K.written out.old) (K.written out.new)
+        result }
+    ensures contradictory { ContradictorySays words.now (F.held files.old) (K.written out.old) (K.written out.new)
+        result }
+    ensures undetermined { UndeterminedSays words.now (F.held files.old) (K.written out.old) (K.written out.new)
+        result }
+    ensures state_limit { StateLimitSays words.now (F.held files.old) (K.written out.old) (K.written out.new)
+        result }
+    ensures reduction_limit { LimitSays words.now (F.held files.old) (K.written out.old) (K.written out.new)
+        result Status.ReductionLimit }
+    ensures number_limit { LimitSays words.now (F.held files.old) (K.written out.old) (K.written out.new)
+        result Status.NumberLimit }
+    ensures list_limit { LimitSays words.now (F.held files.old) (K.written out.old) (K.written out.new)
+        result Status.ListLimit }
+    ensures call_limit { LimitSays words.now (F.held files.old) (K.written out.old) (K.written out.new)
+        result Status.CallLimit }
+    ensures nest_limit { LimitSays words.now (F.held files.old) (K.written out.old) (K.written out.new)
+        result Status.NestLimit }
+    ensures input_missing { InputMissingSays words.now (F.held files.old) (K.written out.old) (K.written out.new)
+        result }
+    ensures program_runs { ProgramRuns words.now (F.held files.old) result }
+
+    // Refusals, each exactly, but for failed reads and writes and want of memory.
+    ensures words_refused { WordsRefusedExactly words.now (F.held files.old) result }
+    ensures too_long { TooLongExactly words.now (F.held files.old) result }
+    ensures source_refused { SourceRefusedExactly words.now (F.held files.old) result }
+
+    // Faults.
+    ensures asked { AsksOnly words.now (F.asked files.old) (F.asked files.new) (λ which.
+        result ≡ Status.ReadFault which) }
+    ensures read_fault { (which : Which) → result ≡ Status.ReadFault which
+        → Rose F.greatest (F.faults files.old) (F.faults files.new) }
+    ensures write_fault { result ≡ Status.WriteFault
+        → Rose K.greatest (K.faults out.old) (K.faults out.new) }
 {
     let mut steps = Steps::<L>::new(blank);
     tempura(alloc, words, files, out, &mut steps)

@@ -1,15 +1,14 @@
 // Running a program, and writing its states.
-ghost use Rattle.std.specs.Prelude.{◌≡◌, ◌≤◌, None, IfOk, IsErrOf};
+ghost use Rattle.std.specs.Prelude.{◌≡◌, ◌≤◌, true, None, IfOk, IsErr, IsErrOf};
 ghost use Rattle.tp_io.specs.Devices.{Rose, Writes};
 ghost use Rattle.tp_kernel.specs.Read.{formula_tree};
 ghost use Rattle.tp_kernel.specs.Built.{IsBuilt};
 ghost use Rattle.tp_scene.specs.StandsFor.{first_moment};
 ghost use Rattle.tp_run.specs.States.{Plan, open_at};
 ghost use Rattle.tp_run.specs.Runs.{standing_of, next_state_of, IsRunOf};
-ghost use Rattle.tp_call.specs.Run.{plan_of};
+ghost use Rattle.tp_call.specs.Run.{plan_of, limit_end, status_of as end_status};
 ghost use Rattle.tp_call.specs.Line.{AreFactsOf, state_line};
-ghost use Rattle.tp_call.specs.Progress.{TurnMade, ProgramMade};
-ghost use Rattle.tp_call.specs.Parts.{limit_end};
+ghost use Rattle.tp_call.specs.Progress.{TurnMade, ProgramMade, line_of, is_settled as is_settled_by};
 ghost use Rattle.tp_call.specs.Places.{place_of, IsOpen};
 
 use crate::line::state_text;
@@ -59,6 +58,58 @@ fn limit_status(state: u64, limit: LimitKind) -> Status
     }
 }
 
+// Whether a state was settled with this answer.
+fn is_settled(turn: &Turn) -> bool
+    ensures { result ≡ is_settled_by turn.now }
+{
+    match turn {
+        Turn::Went | Turn::Finished { .. } => true,
+        Turn::Contradictory { .. } => false,
+        Turn::Undetermined { .. } => false,
+        Turn::StateLimit { .. } => false,
+        Turn::InputMissing { .. } => false,
+        Turn::Over { .. } => false,
+    }
+}
+
+// Writes the state, where one was settled with this answer.
+fn write_settled<K: Sink>(
+    alloc: Global,
+    turn: &Turn,
+    picture: &Picture,
+    globals: &Globals,
+    out: &mut K,
+) -> Result<(), WriteRefusal>
+    requires { is_settled_by turn.now ≡ true → AreFactsOf globals.now picture.now.facts }
+    ensures written { Writes (K.written out.old) (K.written out.new)
+        (line_of globals.now turn.now picture.now) result }
+    ensures only { IsErr result → is_settled_by turn.now ≡ true }
+    ensures later { K.faults out.old ≤ K.faults out.new }
+    ensures cause { IsErrOf result WriteRefusal.Failed
+        → Rose K.greatest (K.faults out.old) (K.faults out.new) }
+{
+    if is_settled(turn) {
+        write_state(alloc, picture, globals, out)
+    } else {
+        Ok(())
+    }
+}
+
+// The status of a run that ends with this answer; there is none where it goes on.
+fn status_of(turn: Turn) -> Option<Status>
+    ensures { result ≡ end_status turn }
+{
+    match turn {
+        Turn::Went => None,
+        Turn::Finished { length } => Some(Status::Finished { length }),
+        Turn::Contradictory { state, clash } => Some(Status::Contradictory { state, clash }),
+        Turn::Undetermined { state, cell } => Some(Status::Undetermined { state, cell }),
+        Turn::StateLimit { states } => Some(Status::StateLimit { states }),
+        Turn::InputMissing { state, port } => Some(Status::InputMissing { state, port }),
+        Turn::Over { state, limit } => Some(limit_status(state, limit)),
+    }
+}
+
 // Makes the next state, and writes it where it is settled; gives the status where the run ends with it.
 fn make_state<K: Sink, L: Ledger>(
     alloc: Global,
@@ -71,25 +122,16 @@ fn make_state<K: Sink, L: Ledger>(
     requires run { (plan : Plan) × (plan.names ≡ globals.now) × IsRunOf plan run.old }
     requires open { IsOpen (standing_of run.old) }
     ensures run { (plan : Plan) → IsRunOf plan run.old → IsRunOf plan run.new }
-    ensures made { (plan : Plan) → IsRunOf plan run.old → TurnMade plan globals.now (place_of run.old) (place_of run.new) (K.written out.old) (K.written out.new) result }
+    ensures made { (plan : Plan) → IsRunOf plan run.old
+        → TurnMade plan globals.now (place_of run.old) (place_of run.new) (K.written out.old)
+        (K.written out.new) result }
     ensures later { K.faults out.old ≤ K.faults out.new }
-    ensures cause { IsErrOf result WriteRefusal.Failed → Rose K.greatest (K.faults out.old) (K.faults out.new) }
+    ensures cause { IsErrOf result WriteRefusal.Failed
+        → Rose K.greatest (K.faults out.old) (K.faults out.new) }
 {
-    match run.state(picture, steps)? {
-        Turn::Went => {
-            write_state(alloc, picture, globals, out)?;
-            Ok(None)
-        }
-        Turn::Finished { length } => {
-            write_state(alloc, picture, globals, out)?;
-            Ok(Some(Status::Finished { length }))
-        }
-        Turn::Contradictory { state, clash } => Ok(Some(Status::Contradictory { state, clash })),
-        Turn::Undetermined { state, cell } => Ok(Some(Status::Undetermined { state, cell })),
-        Turn::StateLimit { states } => Ok(Some(Status::StateLimit { states })),
-        Turn::InputMissing { state, port } => Ok(Some(Status::InputMissing { state, port })),
-        Turn::Over { state, limit } => Ok(Some(limit_status(state, limit))),
-    }
+    let turn = run.state(picture, steps)?;
+    write_settled(alloc, &turn, picture, globals, out)?;
+    Ok(status_of(turn))
 }
 
 // A run of the program's formula, without inputs, before its first state.

@@ -1,3 +1,4 @@
 pub mod Lookup
 pub mod Kept
 pub mod Numbers
+pub mod Parts

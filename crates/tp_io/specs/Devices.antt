@@ -4,6 +4,7 @@ use Rattle.std.specs.Option.{option_map}
 use Rattle.std.specs.Ordering.{nat_cmp}
 use Rattle.std.specs.Cmp.Lexicographic.{slice_cmp}
 use Rattle.std.specs.FinMap.{FinMap, get}
+use Rattle.std.specs.Io.KnownBytes.{Appends}
 use Rattle.tp_io.specs.declared.devices.FileRefusal.{FileRefusal}
 use Rattle.tp_io.specs.declared.devices.WriteRefusal.{WriteRefusal}
 use Rattle.tp_io.specs.declared.devices.FileRefusal.TheVariants as file
@@ -62,3 +63,7 @@ abbrev pub writes_failed_after : {T : Type 0} → Option ℕ → ℕ → Result 
 writes_failed_after greatest count (Ok x) = count
 writes_failed_after greatest count (Err sink.Failed) = next_count greatest count
 writes_failed_after greatest count (Err sink.NoMemory) = count
+
+-- a part of the piece from its start was appended, where the bytes are known
+abbrev pub AppendsPart : Option (List ℕ) → Option (List ℕ) → List ℕ → Type 0
+AppendsPart old new piece = (kept : ℕ) × (kept ≤ length piece) × Appends old new (take kept piece)

@@ -1,7 +1,9 @@
 // The real files, and any writer of std. They tell no content and no names asked for.
-ghost use Rattle.std.specs.Prelude.{◌≡◌, ◌≤◌, length, take, None, Some, IfOk, IfSome, OnOk, IsErrOf};
-ghost use Rattle.std.specs.Io.KnownBytes.{Appends};
-ghost use Rattle.tp_io.specs.Devices.{Reads, Rose, reads_failed_after, writes_failed_after, last_count};
+ghost use Rattle.std.specs.Prelude.{◌≡◌, ◌≤◌, ◌↔◌, IsTrue, length, take, None, Some, IfOk, IfSome, OnOk, OnErr, IsErrOf};
+ghost use Rattle.std.specs.declared.io.ErrorKind.{ErrorKind};
+ghost use Rattle.std.specs.IoError.{error_kind};
+ghost use Rattle.std.specs.Io.KnownBytes.{Appends, Keeps};
+ghost use Rattle.tp_io.specs.Devices.{Reads, Rose, AppendsPart, reads_failed_after, writes_failed_after, last_count};
 
 use crate::{FileRefusal, Files, Sink, WriteRefusal};
 use std::alloc::Global;
@@ -41,17 +43,30 @@ impl<W: Write> RealSink<W> {
     }
 }
 
-fn file_refusal(error: &io::Error) -> FileRefusal {
-    match error.kind() {
-        io::ErrorKind::OutOfMemory => FileRefusal::NoMemory,
-        _ => FileRefusal::Failed,
+// Whether memory was wanted.
+fn is_for_memory(error: &io::Error) -> bool
+    ensures { IsTrue result ↔ error_kind error.now ≡ ErrorKind.OutOfMemory }
+{
+    error.kind() == io::ErrorKind::OutOfMemory
+}
+
+fn file_refusal(error: &io::Error) -> FileRefusal
+    ensures { result ≡ FileRefusal.NoMemory ↔ error_kind error.now ≡ ErrorKind.OutOfMemory }
+{
+    if is_for_memory(error) {
+        FileRefusal::NoMemory
+    } else {
+        FileRefusal::Failed
     }
 }
 
-fn write_refusal(error: &io::Error) -> WriteRefusal {
-    match error.kind() {
-        io::ErrorKind::OutOfMemory => WriteRefusal::NoMemory,
-        _ => WriteRefusal::Failed,
+fn write_refusal(error: &io::Error) -> WriteRefusal
+    ensures { result ≡ WriteRefusal.NoMemory ↔ error_kind error.now ≡ ErrorKind.OutOfMemory }
+{
+    if is_for_memory(error) {
+        WriteRefusal::NoMemory
+    } else {
+        WriteRefusal::Failed
     }
 }
 
@@ -81,6 +96,38 @@ fn open_and_read<R: rt::Files>(
     let file = fs::open(runtime, name).map_err(|e| file_refusal(&e))?;
     let bytes = read_first(alloc, file, most)?;
     Ok(bytes)
+}
+
+// Writes some of the bytes, of which there are some, and says how many; none where it was interrupted.
+fn write_some<W: Write>(writer: &mut W, bytes: &[u8]) -> Result<usize, WriteRefusal>
+    ensures within { IfOk result (λ count. count ≤ length bytes.now) }
+    ensures ok { IfOk result (λ count.
+        Appends (W.contents writer.old) (W.contents writer.new) (take count bytes.now)) }
+    ensures err { OnErr result (Keeps (W.contents writer.old) (W.contents writer.new)) }
+{
+    match writer.write(bytes) {
+        Ok(0) => Err(WriteRefusal::Failed),
+        Ok(count) => Ok(count),
+        Err(error) if error.kind() == io::ErrorKind::Interrupted => Ok(0),
+        Err(error) => Err(write_refusal(&error)),
+    }
+}
+
+// Writes the piece, some of it at a time. At `Err` a part of it from its start was written.
+fn write_whole<W: Write>(writer: &mut W, piece: &[u8]) -> Result<(), WriteRefusal>
+    ensures ok { OnOk result (Appends (W.contents writer.old) (W.contents writer.new) piece.now) }
+    ensures err { OnErr result
+        (AppendsPart (W.contents writer.old) (W.contents writer.new) piece.now) }
+{
+    let mut written = 0;
+    'pieces: for _ in 0..u64::MAX {
+        if written == piece.len() {
+            return Ok(());
+        }
+        let count = write_some(writer, &piece[written..])?;
+        written += count;
+    }
+    Err(WriteRefusal::Failed)
 }
 
 impl<R: rt::Files> Files for RealFiles<R> {
@@ -119,10 +166,13 @@ impl<W: Write> Sink for RealSink<W> {
         ensures later { self.old.faults ≤ self.new.faults }
         ensures cause { IsErrOf result WriteRefusal.Failed → Rose last_count self.old.faults self.new.faults }
 
-        ensures appended { OnOk result (Appends (W.contents self.old.writer) (W.contents self.new.writer) piece.now) }
+        ensures appended { OnOk result
+            (Appends (W.contents self.old.writer) (W.contents self.new.writer) piece.now) }
+        ensures part { OnErr result
+            (AppendsPart (W.contents self.old.writer) (W.contents self.new.writer) piece.now) }
         ensures count { self.new.faults ≡ writes_failed_after last_count self.old.faults result }
     {
-        let outcome = self.writer.write_all(piece).map_err(|e| write_refusal(&e));
+        let outcome = write_whole(&mut self.writer, piece);
         if let Err(WriteRefusal::Failed) = &outcome {
             self.faults = self.faults.saturating_add(1);
         }

@@ -29,7 +29,7 @@ use Rattle.tp_run.specs.declared.run.Stand.{Stand}
 use Rattle.tp_run.specs.declared.turn.Picture.{Picture}
 use Rattle.tp_run.specs.declared.turn.Turn.{Turn}
 use Rattle.tp_run.specs.declared.turn.Turn.TheVariants.{Went, Finished, Contradictory, Undetermined, StateLimit, InputMissing, Over}
-use Rattle.tp_run.specs.States.{Plan, globals_of, setting, IsPictureOf, GoesOn, EndsHere, Standing, open_at, answered, ReachesLimit, state_after, StateBecomes, StoreBecomes}
+use Rattle.tp_run.specs.States.{Plan, globals_of, setting, IsPictureOf, GoesOn, EndsHere, Standing, open_at, answered, ReachesLimit, limit_moment, state_after, StateBecomes, StoreBecomes}
 use Rattle.tp_run.specs.Meaning.{StandingFor, BeginsWith, AgreesWith, AnswerMeans}
 use Rattle.tp_run.specs.Runs.{stands_at, standing_of, setting_in, StandsReady, IsSettingsOf, IsRunOf, HasPicture, NextOf, RestTurns}
 use Rattle.tp_run.proofs.StatesMean.{leads_ready, leads_keep, goes_on_says, ends_here_says, next_ready}
@@ -84,21 +84,23 @@ module _ (plan : Plan) (n : ℕ) (m last : Moment) (before after : List ℕ) whe
   input_missed port h =
       record { picks = h.made.picks; last = last; leads = h.made.leads; within = omega (arith, h.made.spent); item = h.ends.0; lives = h.ends.1; outcome = h.ends.2 }
 
-  limit_passed : (k : LimitKind) → (k ≡ limit.Reductions → ⊥) → Comes (ending.Over k) → replay.PassesLimit (setting plan n) plan.reductions m k
+  limit_passed : (k : LimitKind) → (k ≡ limit.Reductions → ⊥) → Comes (ending.Over k) → (end : replay.PassesLimit (setting plan n) plan.reductions m k) × (end.last ≡ last)
   limit_passed k another h =
       elim h.ends [
-        | inl x ↦ record { picks = h.made.picks; last = last; leads = h.made.leads; within = omega (arith, h.made.spent); item = x.0; lives = x.1; outcome = x.2 }
+        | inl x ↦ (record { picks = h.made.picks; last = last; leads = h.made.leads; within = omega (arith, h.made.spent); item = x.0; lives = x.1; outcome = x.2 }, refl)
         | inr y ↦ absurd (another y.0)
       ]
 
-  reductions_used : (kinds : List Bool) → IsReady (setting plan n) kinds last → Comes (ending.Over limit.Reductions) → replay.UsesUp (setting plan n) plan.reductions m
+  reductions_used : (kinds : List Bool) → IsReady (setting plan n) kinds last → Comes (ending.Over limit.Reductions) → (end : replay.UsesUp (setting plan n) plan.reductions m) × (end.last ≡ last)
   reductions_used kinds ready h =
       elim h.ends [
         | inl x ↦ absurd (passes_other (setting plan n) kinds last x.0 limit.Reductions ready x.2)
-        | inr y ↦ record { picks = h.made.picks; last = last; leads = h.made.leads; all = omega (arith, h.made.spent, y.1); item = y.2.1.0; reduction = y.2.0; lives = y.2.1.1; outcome = y.2.1.2 }
+        | inr y ↦ (record { picks = h.made.picks; last = last; leads = h.made.leads; all = omega (arith, h.made.spent, y.1); item = y.2.1.0; reduction = y.2.0; lives = y.2.1.1; outcome = y.2.1.2 }, refl)
       ]
 
-  pub limit_reached : (kinds : List Bool) (k : LimitKind) → IsReady (setting plan n) kinds last → Comes (ending.Over k) → ReachesLimit (setting plan n) plan.reductions m k
+  -- the limit is reached by the closure's own picks
+  pub limit_reached : (kinds : List Bool) (k : LimitKind) → IsReady (setting plan n) kinds last → Comes (ending.Over k)
+      → (end : ReachesLimit (setting plan n) plan.reductions m k) × (limit_moment (setting plan n) plan.reductions m k end ≡ last)
   limit_reached kinds limit.Reductions ready h = reductions_used kinds ready h
   limit_reached kinds limit.Number ready h = limit_passed limit.Number (λ e. cc) h
   limit_reached kinds limit.List ready h = limit_passed limit.List (λ e. cc) h
@@ -185,7 +187,7 @@ module _ (plan : Plan) (settings : Settings) (is : IsSettingsOf plan settings) (
   run_reaches kinds k old standing turn ready e stand turn_is =
       let here : IsReady (setting plan n) kinds last = subst (λ (w : Setting). IsReady w kinds last) (same_setting plan settings n is) ready in
       subst (λ (t : Turn). StateBecomes plan n m old old standing t) (sym turn_is)
-      (limit_reached plan n m last before after kinds k here (comes_to (ending.Over k) e), refl, state_within, refl, stand)
+      ((limit_reached plan n m last before after kinds k here (comes_to (ending.Over k) e)).0, refl, state_within, refl, stand)
 
   -- what the store holds where the closure ends before the state is at rest
   pub run_clashes_store : (clash : Clash) (picture : Picture) (turn : Turn) → found ≡ ending.Clash clash → turn ≡ Contradictory n clash → StoreBecomes plan n m picture last.store turn
@@ -198,10 +200,11 @@ module _ (plan : Plan) (settings : Settings) (is : IsSettingsOf plan settings) (
   run_misses_store port picture turn e turn_is =
       subst (λ (t : Turn). StoreBecomes plan n m picture last.store t) (sym turn_is) (input_missed plan n m last before after port (comes_to (ending.Missing port) e), refl)
 
-  pub run_reaches_store : (k : LimitKind) (picture : Picture) (turn : Turn) → found ≡ ending.Over k → turn ≡ Over n k → StoreBecomes plan n m picture last.store turn
-  run_reaches_store k picture turn e turn_is =
-      let comes = comes_to (ending.Over k) e in
-      subst (λ (t : Turn). StoreBecomes plan n m picture last.store t) (sym turn_is) (comes.made.picks, last, comes.made.leads, refl)
+  pub run_reaches_store : (kinds : List Bool) (k : LimitKind) (picture : Picture) (turn : Turn) → IsReady (setting_in settings n) kinds last → found ≡ ending.Over k → turn ≡ Over n k → StoreBecomes plan n m picture last.store turn
+  run_reaches_store kinds k picture turn ready e turn_is =
+      let here : IsReady (setting plan n) kinds last = subst (λ (w : Setting). IsReady w kinds last) (same_setting plan settings n is) ready in
+      let reached = limit_reached plan n m last before after kinds k here (comes_to (ending.Over k) e) in
+      subst (λ (t : Turn). StoreBecomes plan n m picture last.store t) (sym turn_is) (reached.0, ap (λ (z : Moment). z.store) (sym reached.1))
 
 module _ (plan : Plan) (n : ℕ) (m : Moment) (old new : Picture) (standing : Standing) (ready : IsReady (setting plan n) (kinds_of plan.names) m) where
   abbrev Becomes : Turn → Type 0

@@ -11,6 +11,7 @@ use Rattle.tp_run.specs.declared.run.Stand.TheVariants.{Open, Answered, Spent}
 use Rattle.tp_run.specs.declared.turn.Picture.{Picture}
 use Rattle.tp_run.specs.declared.turn.Turn.{Turn}
 use Rattle.tp_run.specs.declared.turn.Turn.TheVariants.{Went, Finished, Contradictory, Undetermined, StateLimit, InputMissing, Over}
+use Rattle.tp_kernel.specs.declared.formula.LimitKind.TheVariants as kind
 use Rattle.tp_run.specs.States.{Plan, setting, Standing, open_at, StoreBecomes, LeavesStore}
 use Rattle.tp_run.specs.Runs.{stands_at, standing_of, IsRunOf}
 use Rattle.tp_run.proofs.Becomes.{ready_at}
@@ -39,7 +40,11 @@ module _ (plan : Plan) (n : ℕ) (m : Moment) (flat : MomentIsFlat m) (picture :
   variables_stay (Undetermined state cell) h = led h.0.picks h.0.last h.0.closes.leads h.1
   variables_stay (StateLimit states) h = ap (λ (k : Contents). k.variables) h
   variables_stay (InputMissing state port) h = led h.0.picks h.0.last h.0.leads h.1
-  variables_stay (Over state limit) h = led h.0 h.1 h.2 h.3
+  variables_stay (Over state kind.Reductions) h = led h.0.picks h.0.last h.0.leads h.1
+  variables_stay (Over state kind.Number) h = led h.0.picks h.0.last h.0.leads h.1
+  variables_stay (Over state kind.List) h = led h.0.picks h.0.last h.0.leads h.1
+  variables_stay (Over state kind.Calls) h = led h.0.picks h.0.last h.0.leads h.1
+  variables_stay (Over state kind.Nest) h = led h.0.picks h.0.last h.0.leads h.1
 
 -- the same of a run that stood before this state
 module _ (plan : Plan) (run : Run) (is_run : IsRunOf plan run) (m : Moment) (opened : open_at m ≡ standing_of run) (same : m.store ≡ run.store) (picture : Picture) (store : Contents) (turn : Turn)

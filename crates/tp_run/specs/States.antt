@@ -8,7 +8,7 @@ use Rattle.tp_meaning.specs.Interval.{kinds_of}
 use Rattle.tp_store.specs.Facts.{kept_shape}
 use Rattle.tp_store.specs.Known.{Contents, NoClash, facts_below, is_lesser}
 use Rattle.tp_decide.specs.Read.{shows_of}
-use Rattle.tp_scene.specs.Pick.{Setting, Moment, Leads}
+use Rattle.tp_scene.specs.Pick.{Setting, Moment}
 use Rattle.tp_scene.specs.Advance.{shown_in}
 use Rattle.tp_scene.specs.StandsFor.{first_moment}
 use Rattle.tp_scene.specs.Replay as replay
@@ -102,6 +102,14 @@ ReachesLimit w most m limit.List = replay.PassesLimit w most m limit.List
 ReachesLimit w most m limit.Calls = replay.PassesLimit w most m limit.Calls
 ReachesLimit w most m limit.Nest = replay.PassesLimit w most m limit.Nest
 
+-- the moment that those picks lead to
+abbrev pub limit_moment : (w : Setting) (most : ℕ) (m : Moment) (kind : LimitKind) → ReachesLimit w most m kind → Moment
+limit_moment w most m limit.Reductions end = end.last
+limit_moment w most m limit.Number end = end.last
+limit_moment w most m limit.List end = end.last
+limit_moment w most m limit.Calls end = end.last
+limit_moment w most m limit.Nest end = end.last
+
 -- the number of the next state after an answer: only a settled state that goes on has one
 abbrev pub state_after : ℕ → Turn → ℕ
 state_after n Went = suc n
@@ -135,7 +143,8 @@ StoreBecomes plan n m picture store (Contradictory state clash) = (end : replay.
 StoreBecomes plan n m picture store (Undetermined state cell) = (end : replay.IsOpen (setting plan n) plan.reductions m cell) × (store ≡ end.last.store)
 StoreBecomes plan n m picture store (StateLimit states) = store ≡ m.store
 StoreBecomes plan n m picture store (InputMissing state port) = (end : replay.MissesInput (setting plan n) plan.reductions m port) × (store ≡ end.last.store)
-StoreBecomes plan n m picture store (Over state limit) = (picks : List ℕ) × (last : Moment) × Leads (setting plan n) m picks last × (store ≡ last.store)
+StoreBecomes plan n m picture store (Over state limit) =
+    (end : ReachesLimit (setting plan n) plan.reductions m limit) × (store ≡ (limit_moment (setting plan n) plan.reductions m limit end).store)
 
 -- What a call answers where the run stands there, with the number of the state that comes next: it makes that state, or it gives the last answer
 -- again and changes nothing. A run that gave up for want of memory answers nothing else any more.

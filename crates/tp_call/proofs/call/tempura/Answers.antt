@@ -34,20 +34,11 @@ returns-clause-input_missing g c = input_missing _ _ _ _ _ c.call.ensures.answer
 pub returns-clause-program_runs : goal.returns-clause-program_runs
 returns-clause-program_runs g c = λ program. program_runs _ _ _ _ program _ c.call.ensures.answer
 
-pub returns-clause-words_refused_only : goal.returns-clause-words_refused_only
-returns-clause-words_refused_only g c = words_refused_only _ _ _ _ _ c.call.ensures.answer
-
 pub returns-clause-words_refused : goal.returns-clause-words_refused
-returns-clause-words_refused g c = words_refused _ _ _ _ _ c.call.ensures.answer
-
-pub returns-clause-too_long_only : goal.returns-clause-too_long_only
-returns-clause-too_long_only g c = too_long_only _ _ _ _ _ c.call.ensures.answer
+returns-clause-words_refused g c = record { only = words_refused_only _ _ _ _ _ c.call.ensures.answer; there = words_refused _ _ _ _ _ c.call.ensures.answer }
 
 pub returns-clause-too_long : goal.returns-clause-too_long
-returns-clause-too_long g c = too_long _ _ _ _ _ c.call.ensures.answer
-
-pub returns-clause-source_refused_only : goal.returns-clause-source_refused_only
-returns-clause-source_refused_only g c = source_refused_only _ _ _ _ _ c.call.ensures.answer
+returns-clause-too_long g c = record { only = too_long_only _ _ _ _ _ c.call.ensures.answer; there = too_long _ _ _ _ _ c.call.ensures.answer }
 
 pub returns-clause-source_refused : goal.returns-clause-source_refused
-returns-clause-source_refused g c = source_refused _ _ _ _ _ c.call.ensures.answer
+returns-clause-source_refused g c = record { only = source_refused_only _ _ _ _ _ c.call.ensures.answer; there = source_refused _ _ _ _ _ c.call.ensures.answer }

@@ -1,8 +1,12 @@
-use Rattle.std.proofs.Common.{inr, arith}
+use Rattle.std.proofs.Common.{ℕ, ◌≤◌, inr, arith}
 use Rattle.std.proofs.lemmas.Result.{err_from_is_err_and}
 use Rattle.tp_call.specs.Places.{place_of}
 use Rattle.tp_call.proofs.RunLemmas.{HasWritten-more, next_state}
+use Rattle.tp_call.proofs.TurnLemmas.{went_on}
 use Rattle.tp_call.proofs.run.run_program.Goals as goal
+
+up_to : (a b c : ℕ) → a ≤ b → b ≤ c → a ≤ c
+up_to a b c h k = omega arith
 
 pub returns-in_err-status-clause-made : goal.returns-in_err-status-clause-made
 returns-in_err-status-clause-made g c =
@@ -28,14 +32,16 @@ returns-in-Some-clause-made g c =
 pub loop-picture-preserved : goal.loop-picture-preserved
 loop-picture-preserved g c =
     let made = (rw c.in_default.is at c.in_ok-status.ensures.made) _ c.loop-picture.invariant.run in
+    let went = went_on _ _ (place_of c.loop-picture.run) (place_of c.make_state.new.run) _ _ made.answer made.picture made.turned made.status_is made.wrote in
     record {
-      written = HasWritten-more _ (place_of c.loop-picture.run) (place_of c.make_state.new.run) _ _ _ made.0 c.loop-picture.invariant.written made.1 made.2;
+      written = HasWritten-more _ (place_of c.loop-picture.run) (place_of c.make_state.new.run) _ _ _ made.picture c.loop-picture.invariant.written went.0 went.1;
       run = c.in_ok-status.ensures.run _ c.loop-picture.invariant.run;
-      later = omega arith;
+      later = up_to _ _ _ c.loop-picture.invariant.later c.in_ok-status.ensures.later;
     }
 
 pub loop-picture-smaller : goal.loop-picture-smaller
 loop-picture-smaller g c =
     let made = (rw c.in_default.is at c.in_ok-status.ensures.made) _ c.loop-picture.invariant.run in
-    let next = next_state _ (place_of c.loop-picture.run) (place_of c.make_state.new.run) _ _ made.0 c.loop-picture.invariant.written made.1 in
+    let went = went_on _ _ (place_of c.loop-picture.run) (place_of c.make_state.new.run) _ _ made.answer made.picture made.turned made.status_is made.wrote in
+    let next = next_state _ (place_of c.loop-picture.run) (place_of c.make_state.new.run) _ _ made.picture c.loop-picture.invariant.written went.0 in
     omega (arith, next.within, next.next)

@@ -35,9 +35,10 @@ returns-in_ok-made-in-Over-clause-made g c = λ plan h.
 
 pub returns-in_ok-made-in-Over-clause-store : goal.returns-in_ok-made-in-Over-clause-store
 returns-in_ok-made-in-Over-clause-store g c = λ plan h.
+    let kinds = kinds_of c.requires.ready.0.names in
     run_reaches_store plan c.args.self.now h c.args.state c.requires.within c.if-state-self.false (moment_of c.args.scene c.args.store.now) (moment_of c.close_by_passes.new.scene c.close_by_passes.new.store)
     c.no_tally-tally.result.picks c.close_by_passes.new.tally.picks c.in_ok-ending.ending c.in_ok-ending.ensures.closes
-    c.in-Over.limit c.args.picture.now c.in_ok-made-in-Over.made.turn c.in-Over.is c.in_ok-made-in-Over.ensures.turn
+    kinds c.in-Over.limit c.args.picture.now c.in_ok-made-in-Over.made.turn (c.in_ok-ending.ensures.ready kinds c.requires.ready.2) c.in-Over.is c.in_ok-made-in-Over.ensures.turn
 
 pub returns-in_ok-made-in-Clash-clause-store : goal.returns-in_ok-made-in-Clash-clause-store
 returns-in_ok-made-in-Clash-clause-store g c = λ plan h.

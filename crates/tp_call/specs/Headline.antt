@@ -1,0 +1,70 @@
+-- What a call promises of its answer, one sentence each: of the words, of what the files hold, of what was written before and after, and of the
+-- status that is answered.
+use Rattle.std.specs.Prelude.{◌≡◌, ◌⊎◌, ℕ, List, length, Option, None}
+use Rattle.tp_io.specs.Devices.{Held}
+use Rattle.tp_scene.specs.declared.answer.Cell.{Cell}
+use Rattle.tp_scene.specs.declared.answer.Clash.{Clash}
+use Rattle.tp_run.specs.History.{SatisfiedExactly, Satisfiable, Unsatisfiable, ContinuesEach}
+use Rattle.tp_check.specs.Program.{ProgramTree}
+use Rattle.tp_call.specs.declared.refused.Refused.{Refused}
+use Rattle.tp_call.specs.declared.status.Status.{Status}
+use Rattle.tp_call.specs.declared.status.Status.TheVariants.{Finished, Contradictory, Undetermined, StateLimit, ReductionLimit, NumberLimit, ListLimit, CallLimit, NestLimit, InputMissing, SourceRefused, WordsRefused, TooLong}
+use Rattle.tp_call.specs.declared.status.SourceKind.{SourceKind}
+use Rattle.tp_call.specs.declared.status.Which.{Which}
+use Rattle.tp_call.specs.declared.status.Which.TheVariants.{Source}
+use Rattle.tp_call.specs.Words.{wanted_of}
+use Rattle.tp_call.specs.Run.{ShowNothing, states_limit}
+use Rattle.tp_call.specs.Answer.{HoldsProgram, HoldsRefused, IsTooLong, IsTold, Sourced, Prints, IsOrStopped, IsOrFailed, IsEndOfRun, HasFailed}
+use Rattle.tp_call.specs.Parts.{refused_status}
+
+module _ (words : List (List ℕ)) (held : Option Held) (old new : Option (List ℕ)) (result : Status) where
+  -- A run that finishes with length n: an interval satisfies the program, and shows S, exactly where it has this length, agrees with each printed
+  -- state, and S is what these show, which is nothing; and there is such an interval.
+  abbrev pub FinishedSays : Type 0
+  FinishedSays = (n : ℕ) → result ≡ Finished n
+      → Prints words held old new (Finished n) (λ plan printed. SatisfiedExactly plan printed n × Satisfiable plan × ShowNothing printed)
+
+  -- Refused as contradictory: no interval satisfies the program.
+  abbrev pub ContradictorySays : Type 0
+  ContradictorySays = (state : ℕ) (clash : Clash) → result ≡ Contradictory state clash
+      → Prints words held old new (Contradictory state clash) (λ plan printed. Unsatisfiable plan)
+
+  -- Undetermined at an open cell: each interval that satisfies the program agrees with the printed states and has more states than these.
+  abbrev pub UndeterminedSays : Type 0
+  UndeterminedSays = (state : ℕ) (cell : Cell) → result ≡ Undetermined state cell → Prints words held old new (Undetermined state cell) ContinuesEach
+
+  -- Stopped at the limit of states: as many were printed as there may be, and the same holds.
+  abbrev pub StateLimitSays : Type 0
+  StateLimitSays = (states : ℕ) → result ≡ StateLimit states
+      → Prints words held old new (StateLimit states) (λ plan printed. ContinuesEach plan printed × (states ≡ length printed) × (states ≡ states_limit))
+
+  -- Stopped at a limit in this state: the same holds of the states before it.
+  abbrev pub LimitSays : (ℕ → Status) → Type 0
+  LimitSays limit = (state : ℕ) → result ≡ limit state → Prints words held old new (limit state) ContinuesEach
+
+  -- An input is missing: no interval with these inputs satisfies the program.
+  abbrev pub InputMissingSays : Type 0
+  InputMissingSays = (state : ℕ) (port : List ℕ) → result ≡ InputMissing state port
+      → Prints words held old new (InputMissing state port) (λ plan printed. Unsatisfiable plan)
+
+-- Of the words, of what the files hold, and of the status.
+module _ (words : List (List ℕ)) (held : Option Held) (result : Status) where
+  -- Where the source is a program, its run ends in one of the ways above, unless a read or a write fails or memory is wanted.
+  abbrev pub ProgramRuns : Type 0
+  ProgramRuns = (program : ProgramTree) → IsTold words held (HoldsProgram program) → IsEndOfRun result ⊎ HasFailed result
+
+  -- The words are refused exactly where they name no file to run.
+  pub record WordsRefusedExactly : Type 0 where
+    pub only : result ≡ WordsRefused → wanted_of words ≡ None
+    pub there : wanted_of words ≡ None → IsOrStopped WordsRefused result
+
+  -- The source is too long exactly where it has more bytes than a source may have.
+  pub record TooLongExactly : Type 0 where
+    pub only : (which : Which) → result ≡ TooLong which → Sourced words held IsTooLong
+    pub there : IsTold words held IsTooLong → IsOrFailed (TooLong Source) result
+
+  -- The source is refused exactly where it is no program, there and for the cause that its grammar and the rules of positions name first.
+  pub record SourceRefusedExactly : Type 0 where
+    pub only : (line column : ℕ) (kind : SourceKind) → result ≡ SourceRefused line column kind
+        → Sourced words held (HoldsRefused (record { line = line; column = column; kind = kind }))
+    pub there : (refused : Refused) → IsTold words held (HoldsRefused refused) → IsOrFailed (refused_status refused) result
