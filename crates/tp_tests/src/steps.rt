@@ -11,7 +11,6 @@ use std::alloc::Global;
 use std::marker::Brand;
 use std::sync::ledger::{Blank, Ledger};
 use std::test::Fail;
-use tp_check::Program;
 use tp_inputs::Inputs;
 use tp_kernel::Defs;
 use tp_step::{
@@ -43,9 +42,9 @@ fn begin(alloc: Global, source: &str, setup: &Setup) -> Result<(Scene, Store), F
     requires { definitions_of setup.now.defs ≡ [] }
     ensures { IfOk result (λ r. (kinds : List Bool) × IsReady (setting_of setup.now.defs setup.now.inputs 0) kinds (moment_of r.0 r.1)) }
 {
-    let Program { main, globals } = program_of(alloc, source)?;
-    let store = Store::new(alloc, &globals)?;
-    let scene = start(alloc, &main)?;
+    let program = program_of(alloc, source)?;
+    let store = Store::new(alloc, &program.globals)?;
+    let scene = start(alloc, &program.main)?;
     Ok((scene, store))
 }
 

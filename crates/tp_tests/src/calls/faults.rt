@@ -27,7 +27,7 @@ fn nothing_is_asked_or_written_after_a_failed_write(rt: HostRuntime) -> Result<(
                 kept: *kept
             },
             Failure {
-                call: *call + 1,
+                call: call.saturating_add(1),
                 kept: 0
             },
         ]?;

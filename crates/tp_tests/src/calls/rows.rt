@@ -348,7 +348,13 @@ pub const NOT_RUN: [(&str, u8, &str); 13] = [
 // Sources and what they write, each with its piece so many times: `#` is the number of the piece.
 pub type Pattern = (&'static str, &'static str, &'static str);
 
-pub const LONG: [(u32, Pattern, u8, Pattern); 8] = [
+pub const LONG: [(u32, Pattern, u8, Pattern); 9] = [
+    (
+        200,
+        ("run ", "(", "empty."),
+        10,
+        ("source refused: line 1 column 204: too deep\n", "", ""),
+    ),
     (
         1000,
         ("run len(999).", "", ""),
