@@ -1,7 +1,7 @@
 // The real files, and any writer of std. They tell no content and no names asked for.
 ghost use Rattle.std.specs.Prelude.{◌≡◌, ◌≤◌, length, take, None, Some, IfOk, IfSome, OnOk, IsErrOf};
 ghost use Rattle.std.specs.Io.KnownBytes.{Appends};
-ghost use Rattle.tp_io.specs.Devices.{Reads, Rose, reads_failed_after, writes_failed_after, last_count};
+ghost use Rattle.tp_io.specs.Devices.{Reads, Rose, next_count, reads_failed_after, writes_failed_after, last_count};
 
 use crate::{FileRefusal, Files, Sink, WriteRefusal};
 use std::alloc::Global;
@@ -39,6 +39,13 @@ impl<W: Write> RealSink<W> {
     {
         RealSink { writer, faults: 0 }
     }
+}
+
+// The count after one fault more.
+fn one_more(faults: u64) -> u64
+    ensures { result ≡ next_count last_count faults }
+{
+    faults.saturating_add(1)
 }
 
 fn file_refusal(error: &io::Error) -> FileRefusal {
@@ -102,7 +109,7 @@ impl<R: rt::Files> Files for RealFiles<R> {
     {
         let outcome = open_and_read(alloc, &self.runtime, name, most);
         if let Err(FileRefusal::Failed) = &outcome {
-            self.faults = self.faults.saturating_add(1);
+            self.faults = one_more(self.faults);
         }
         outcome
     }
@@ -124,7 +131,7 @@ impl<W: Write> Sink for RealSink<W> {
     {
         let outcome = self.writer.write_all(piece).map_err(|e| write_refusal(&e));
         if let Err(WriteRefusal::Failed) = &outcome {
-            self.faults = self.faults.saturating_add(1);
+            self.faults = one_more(self.faults);
         }
         outcome
     }
