@@ -3,7 +3,7 @@ ghost use Rattle.std.specs.Prelude.{◌≡◌, ◌≤◌, ◌↔◌, IsTrue, len
 ghost use Rattle.std.specs.declared.io.ErrorKind.{ErrorKind};
 ghost use Rattle.std.specs.IoError.{error_kind};
 ghost use Rattle.std.specs.Io.KnownBytes.{Appends, Keeps};
-ghost use Rattle.tp_io.specs.Devices.{Reads, Rose, AppendsPart, reads_failed_after, writes_failed_after, last_count};
+ghost use Rattle.tp_io.specs.Devices.{Reads, Rose, AppendsPart, next_count, reads_failed_after, writes_failed_after, last_count};
 
 use crate::{FileRefusal, Files, Sink, WriteRefusal};
 use std::alloc::Global;
@@ -41,6 +41,13 @@ impl<W: Write> RealSink<W> {
     {
         RealSink { writer, faults: 0 }
     }
+}
+
+// The count after one fault more.
+fn one_more(faults: u64) -> u64
+    ensures { result ≡ next_count last_count faults }
+{
+    faults.saturating_add(1)
 }
 
 // Whether memory was wanted.
@@ -149,7 +156,7 @@ impl<R: rt::Files> Files for RealFiles<R> {
     {
         let outcome = open_and_read(alloc, &self.runtime, name, most);
         if let Err(FileRefusal::Failed) = &outcome {
-            self.faults = self.faults.saturating_add(1);
+            self.faults = one_more(self.faults);
         }
         outcome
     }
@@ -174,7 +181,7 @@ impl<W: Write> Sink for RealSink<W> {
     {
         let outcome = write_whole(&mut self.writer, piece);
         if let Err(WriteRefusal::Failed) = &outcome {
-            self.faults = self.faults.saturating_add(1);
+            self.faults = one_more(self.faults);
         }
         outcome
     }

@@ -14,4 +14,3 @@ pub use place::place_of;
 pub use reading::tokens;
 pub use refusal::LexRefusal;
 pub use token::{Kind, Symbol, Token, Tokens, Word};
-
