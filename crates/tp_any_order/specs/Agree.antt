@@ -21,6 +21,7 @@ pub record SamePicture (p q : Picture) : Type 0 where
   pub shows : shows_of q.shows ≡ shows_of p.shows
   pub reductions : q.reductions ≡ p.reductions
 
+-- so many pictures, which are the same one by one
 abbrev pub SamePictures : List Picture → List Picture → Type 0
 SamePictures [] [] = Unit {0}
 SamePictures [] (q ∷ qs) = ⊥
@@ -46,7 +47,8 @@ abbrev pub SameEnd : (globals : ℕ) → Turn → Turn → Type 0
 SameEnd globals Went turn = turn ≡ Went
 SameEnd globals (Finished n) turn = turn ≡ Finished n
 SameEnd globals (Contradictory state clash) turn = FailsIn state turn
-SameEnd globals (Undetermined state cell) turn = (d : Cell) × (turn ≡ Undetermined state d) × SameCell globals cell d
+SameEnd globals (Undetermined state cell) turn = (d : Cell) × (turn ≡ Undetermined state d)
+    × SameCell globals cell d
 SameEnd globals (StateLimit states) turn = turn ≡ StateLimit states
 SameEnd globals (InputMissing state port) turn = FailsIn state turn
 SameEnd globals (Over state limit) turn = FailsIn state turn
@@ -56,23 +58,31 @@ pub record IsOrderlyPlan (plan : Plan) : Type 0 where
   pub formula : FormulaFits [] (kinds_of plan.names) plan.main 0
   pub inputs : InputsWithin plan.inputs
 
--- Two runs of a plan that have an end, whatever was picked in which order, have the same pictures and the same end.
+-- Two runs of a plan that have an end, whatever was picked in which order, have the same pictures
+-- and the same end.
 abbrev pub RunsAgree : Plan → Type 0
 RunsAgree plan = IsOrderlyPlan plan → (ps : List Picture) (turn : Turn) → RunEndsWith plan ps turn
     → (qs : List Picture) (other : Turn) → RunEndsWith plan qs other
     → SamePictures ps qs × SameEnd (globals_of plan) turn other
 
--- Where some picks settle a state, or leave it open at a cell, a run that makes this state comes to that: it finishes where it can.
+-- Where some picks settle a state, or leave it open at a cell, a run that makes this state comes to
+-- that: it finishes where it can.
 pub record StateAgrees (plan : Plan) (n : ℕ) (m : Moment) : Type 0 where
   pub goes : (p : Picture) (after : Moment) → GoesOn plan n m p after
-      → (old new : Picture) (standing : Standing) (turn : Turn) → StateBecomes plan n m old new standing turn
+      → (old new : Picture) (standing : Standing) (turn : Turn)
+      → StateBecomes plan n m old new standing turn
       → (turn ≡ Went) × SamePicture p new
   pub ends : (p : Picture) → EndsHere plan n m p
-      → (old new : Picture) (standing : Standing) (turn : Turn) → StateBecomes plan n m old new standing turn
+      → (old new : Picture) (standing : Standing) (turn : Turn)
+      → StateBecomes plan n m old new standing turn
       → (turn ≡ Finished n) × SamePicture p new
-  pub is_open : (cell : Cell) → n < plan.states → replay.IsOpen (setting plan n) plan.reductions m cell
-      → (old new : Picture) (standing : Standing) (turn : Turn) → StateBecomes plan n m old new standing turn
+  pub is_open : (cell : Cell) → n < plan.states
+      → replay.IsOpen (setting plan n) plan.reductions m cell
+      → (old new : Picture) (standing : Standing) (turn : Turn)
+      → StateBecomes plan n m old new standing turn
       → (d : Cell) × (turn ≡ Undetermined n d) × SameCell (globals_of plan) cell d
 
+-- Each state of a run does so.
 abbrev pub StatesAgree : Plan → Type 0
-StatesAgree plan = IsOrderlyPlan plan → (ps : List Picture) (m : Moment) → LeadsTo plan ps m → StateAgrees plan (length ps) m
+StatesAgree plan = IsOrderlyPlan plan → (ps : List Picture) (m : Moment) → LeadsTo plan ps m
+    → StateAgrees plan (length ps) m

@@ -15,6 +15,7 @@ use Rattle.tp_eval.specs.Outcome as found
 abbrev pub KnowsMore : List Fact → List Fact → Type 0
 KnowsMore fs gs = (p : Path) (sh : Shape) → kept_shape fs p ≡ Some sh → kept_shape gs p ≡ Some sh
 
+-- the facts aren't added, since one of them clashes
 abbrev pub RefusesFacts : Addition → Type 0
 RefusesFacts (adds news) = ⊥
 RefusesFacts (refuses kept new) = Unit {0}
@@ -36,9 +37,12 @@ pub record StaysKnown (fs gs : List Fact) : Type 0 where
   pub excluded : (p : Path) → is_excluded fs p ≡ true → is_excluded gs p ≡ true
   pub allowed : (p : Path) (sh : Shape) → kept_shape fs p ≡ Some sh → is_excluded gs p ≡ false
   pub wholes : (p : Path) → GrownFull (full fs p) (full gs p)
-  pub refused : (facts : List Fact) → RefusesFacts (addition fs facts) → RefusesFacts (addition gs facts)
-  pub added : (facts news : List Fact) → addition fs facts ≡ adds news → AddsAlike gs news (addition gs facts)
+  pub refused : (facts : List Fact) → RefusesFacts (addition fs facts)
+      → RefusesFacts (addition gs facts)
+  pub added : (facts news : List Fact) → addition fs facts ≡ adds news
+      → AddsAlike gs news (addition gs facts)
 
+-- It does where more is known.
 abbrev pub FactsGrow : Type 0
 FactsGrow = (fs gs : List Fact) → NoClash fs → NoClash gs → KnowsMore fs gs → StaysKnown fs gs
 
@@ -49,6 +53,7 @@ GrownOutcome (found.wait p) o = Unit {0}
 GrownOutcome (found.fault k) o = o ≡ found.fault k
 GrownOutcome (found.over k) o = o ≡ found.over k
 
+-- and so of places
 abbrev pub GrownPlace : PlaceOutcome → PlaceOutcome → Type 0
 GrownPlace (found.path p) o = o ≡ found.path p
 GrownPlace (found.other (found.value t)) o = o ≡ found.other (found.value t)
@@ -56,6 +61,9 @@ GrownPlace (found.other (found.wait p)) o = Unit {0}
 GrownPlace (found.other (found.fault k)) o = o ≡ found.other (found.fault k)
 GrownPlace (found.other (found.over k)) o = o ≡ found.other (found.over k)
 
+-- They do where more is known.
 abbrev pub OutcomesGrow : Type 0
-OutcomesGrow = (fs gs : List Fact) → NoClash fs → NoClash gs → KnowsMore fs gs → (defs : List Definition) (e : ExprTree) (env : Bindings)
-    → GrownOutcome (outcome fs defs e env) (outcome gs defs e env) × GrownPlace (place_outcome fs defs e env) (place_outcome gs defs e env)
+OutcomesGrow = (fs gs : List Fact) → NoClash fs → NoClash gs → KnowsMore fs gs
+    → (defs : List Definition) (e : ExprTree) (env : Bindings)
+    → GrownOutcome (outcome fs defs e env) (outcome gs defs e env)
+    × GrownPlace (place_outcome fs defs e env) (place_outcome gs defs e env)

@@ -1,4 +1,5 @@
--- What is within the limits on items: kept lengths, bound values, inputs, and the values that are found.
+-- What is within the limits on items: kept lengths, bound values, inputs, and the values that are
+-- found.
 use Rattle.std.specs.Prelude.{◌≡◌, ℕ, ◌∷◌, ◌≤◌, List, [], Some}
 use Rattle.tp_value.specs.Tree.{Tree}
 use Rattle.tp_value.specs.Limits.{length_limit, IsWithinListLimit}
@@ -18,7 +19,8 @@ use Rattle.tp_eval.specs.Outcome as found
 abbrev pub LengthsAreWithin : List Fact → Type 0
 LengthsAreWithin gs = (p : Path) (n : ℕ) → kept_shape gs p ≡ Some (Items n) → n ≤ length_limit
 
--- What steps keep beyond a sound moment: values that are bound, inputs and lengths are within the limits.
+-- A value that is bound is within the limits on items and depth; so is each of some bindings, of an
+-- item, and of all items of a region.
 abbrev pub BindingWithin : BindingTree → Type 0
 BindingWithin (place_binding p) = Unit {0}
 BindingWithin (known_binding t) = IsWithinListLimit t
@@ -50,29 +52,36 @@ SecondIsOwn (Running f env) s = Unit {0}
 abbrev pub EntriesWithin : Entries → Type 0
 EntriesWithin none = Unit {0}
 EntriesWithin (leaf id l rest) = LeafWithin l × EntriesWithin rest
-EntriesWithin (node id k h held g second rest) = HolderWithin k × EntriesWithin held × EntriesWithin second × EntriesWithin rest × SecondIsOwn k second
+EntriesWithin (node id k h held g second rest) = HolderWithin k × EntriesWithin held
+    × EntriesWithin second × EntriesWithin rest × SecondIsOwn k second
 
--- each value of a line, and of the table of inputs, is within the limits, as those of an inputs file are
+-- each value of a line of inputs is within the limits
 abbrev pub LineWithin : List InputPair → Type 0
 LineWithin [] = Unit {0}
 LineWithin (p ∷ ps) = IsWithinListLimit p.value × LineWithin ps
 
+-- and each value of the table, as those of an inputs file are
 abbrev pub InputsWithin : InputLines → Type 0
 InputsWithin [] = Unit {0}
 InputsWithin (l ∷ ls) = LineWithin l × InputsWithin ls
 
--- The value that is found of an expression, and where a place is an element of a bound value that element, are within the limits.
-pub record FoundWithin (facts : List Fact) (defs : List Definition) (e : ExprTree) (env : Bindings) : Type 0 where
+-- The value that is found of an expression, and where a place is an element of a bound value that
+-- element, are within the limits.
+pub record FoundWithin (facts : List Fact) (defs : List Definition) (e : ExprTree)
+    (env : Bindings) : Type 0 where
   pub value : (v : Tree) → outcome facts defs e env ≡ found.value v → IsWithinListLimit v
-  pub of_place : (v : Tree) → place_outcome facts defs e env ≡ found.other (found.value v) → IsWithinListLimit v
+  pub of_place : (v : Tree) → place_outcome facts defs e env ≡ found.other (found.value v)
+      → IsWithinListLimit v
 
--- Each is so under bindings that are.
+-- They are so under bindings that are.
 abbrev pub ValuesWithin : Type 0
 ValuesWithin = (facts : List Fact) (defs : List Definition) (e : ExprTree) (env : Bindings)
     → BindingsWithin env → FoundWithin facts defs e env
 
--- Picking an item in such entries, with such inputs, leaves such entries, and gives facts of lists that are within the limits.
+-- Picking an item in such entries, with such inputs, leaves such entries, and gives facts of lists
+-- that are within the limits.
 abbrev pub PicksStayWithin : Type 0
-PicksStayWithin = (w : Setting) (facts : List Fact) (t : ℕ) (es : Entries) (p : Place) (n : Numbers) (r : Reduction)
+PicksStayWithin = (w : Setting) (facts : List Fact) (t : ℕ) (es : Entries) (p : Place) (n : Numbers)
+    (r : Reduction)
     → InputsWithin w.inputs → EntriesWithin es → pick w facts t es p n ≡ reduces r
     → LengthsAreWithin r.facts × EntriesWithin (put t r.mark r.news es)

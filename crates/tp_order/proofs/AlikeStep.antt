@@ -201,7 +201,7 @@ module _ (w : Setting) (kinds : List Bool) (m n : Moment) (ρ : Renaming) (om : 
       subst (λ (i : ℕ). IsIdle (outcome_of w n.store n.scene i)) e (idle_anyhow ρ nm nn _ _ (given b) (h b l'))
 
   all : AlikeSteps w kinds m n ρ
-  all = record { steps = steps; bad = λ t b. (lives t ∙ b.0, bad_anyhow ρ nm nn _ _ (given t) b.1); rest = rest }
+  all = record { steps = steps; fails = λ t b. (lives t ∙ b.0, bad_anyhow ρ nm nn _ _ (given t) b.1); rest = rest }
 
 pub alike_moments_step : AlikeMomentsStep
 alike_moments_step w kinds m n ρ om on a = all w kinds m n ρ om on a

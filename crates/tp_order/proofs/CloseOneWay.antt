@@ -1,12 +1,10 @@
 -- Where some picks close a state, every list of picks goes on to that end.
-use Rattle.std.proofs.Common.{◌≡◌, ℕ, suc, ◌+◌, ◌≤◌, Bool, true, List, [], ◌∷◌, length, refl, ap, sym, ◌∙◌, subst, arith}
-use Rattle.tp_kernel.specs.declared.formula.LimitKind.{LimitKind}
-use Rattle.tp_scene.specs.declared.answer.Clash.{Clash}
+use Rattle.std.proofs.Common.{◌≡◌, ℕ, suc, ◌+◌, Bool, true, List, [], ◌∷◌, length, refl, ap, sym, subst, arith}
 use Rattle.tp_scene.specs.Scene.{has}
 use Rattle.tp_scene.specs.Step.{Outcome, clashes, misses, passes}
 use Rattle.tp_scene.specs.Pick.{Setting, Moment, Leads, outcome_of, IsIdle}
 use Rattle.tp_scene.specs.Rest.{AtRest}
-use Rattle.tp_scene.specs.Replay.{Closes, MeetsClash, MissesInput, PassesLimit, UsesUp}
+use Rattle.tp_scene.specs.Replay.{Closes, UsesUp}
 use Rattle.tp_growth.specs.Rows.{IsFailure}
 use Rattle.tp_renaming.specs.Alike.{Alike}
 use Rattle.tp_order.specs.Orders.{IsOrderly, AlikeIsEquivalence, GoesOnToRest}

@@ -48,7 +48,7 @@ module _ (w : Setting) (kinds : List Bool) where
     step_alike = λ t s s' u a st.
         (let g = (alike_moments_step w kinds s.0 s'.0 a.0 s.1 s'.1 a.1).steps t u.0 st in
         (a.0.item.to t, (g.0, keep s' (a.0.item.to t) g.0 g.1), g.1, (a.0, g.2)));
-    bad_alike = λ t s s' a b. (a.0.item.to t, (alike_moments_step w kinds s.0 s'.0 a.0 s.1 s'.1 a.1).bad t b);
+    bad_alike = λ t s s' a b. (a.0.item.to t, (alike_moments_step w kinds s.0 s'.0 a.0 s.1 s'.1 a.1).fails t b);
     one_result = λ t s u v a b. alike.one s.0 u.0 v.0 t s.1.sound a b;
     not_both = λ t s u st b. no_step (outcome_of w s.0.store s.0.scene t) st.0 st.1.outcome b.1;
     bad_stays = λ t u s s' ne st b. failures_stay w kinds s.0 s'.0 t u ne s.1 st b;

@@ -1,4 +1,5 @@
--- An example that shows why kept lengths have to be within the limit: a sound moment whose end depends on the order of picks.
+-- An example that shows why kept lengths have to be within the limit: a sound moment whose end
+-- depends on the order of picks.
 use Rattle.std.specs.Prelude.{◌≡◌, pos, Bool, false, List, [], ◌∷◌}
 use Rattle.tp_value.specs.declared.value.Shape.TheVariants.{Items}
 use Rattle.tp_value.specs.declared.path.VarId.{VarId}
@@ -29,7 +30,8 @@ no_program = record { defs = []; inputs = []; state = 0 }
 abbrev pub long_store : Contents
 long_store = record {
   facts = fact (record { var = variable_p; at = [] }) (Items 70000) ∷ [];
-  variables = record { name = 80 ∷ []; lasting = false } ∷ record { name = 82 ∷ []; lasting = false } ∷ [];
+  variables = record { name = 80 ∷ []; lasting = false } ∷
+      record { name = 82 ∷ []; lasting = false } ∷ [];
 }
 
 -- the items `|P| = R`, which is item 0, and `R = 70000`, which is item 1
@@ -47,9 +49,11 @@ length_then_value = record {
   store = long_store;
 }
 
--- The moment is sound. Picking `|P| = R` first, and then `R = 70000`, leads to rest. Picking `R = 70000` first makes `|P| = R` pass the limit.
+-- The moment is sound. Picking `|P| = R` first, and then `R = 70000`, leads to rest. Picking `R =
+-- 70000` first makes `|P| = R` pass the limit.
 pub record OrderDecides : Type 0 where
   pub sound : IsSound no_program p_then_r length_then_value
-  pub rests : (last : Moment) × Leads no_program length_then_value (0 ∷ 1 ∷ []) last × AtRest no_program last
+  pub rests : (last : Moment) × Leads no_program length_then_value (0 ∷ 1 ∷ []) last
+      × AtRest no_program last
   pub fails : (last : Moment) × Leads no_program length_then_value (1 ∷ []) last
       × (outcome_of no_program last.store last.scene 0 ≡ passes limit.List)

@@ -7,9 +7,11 @@ use Rattle.tp_scene.specs.Replay.{Closes, MeetsClash, MissesInput, PassesLimit, 
 use Rattle.tp_renaming.specs.Alike.{Alike}
 use Rattle.tp_order.specs.Orders.{IsOrderly}
 
--- The state that begins with this moment can be closed, and each list of picks that closes it takes as many picks and leads to what is alike. No
--- list of picks meets a clash, misses an input, passes a limit, or uses up the picks.
-pub record ClosesOneWay (w : Setting) (globals most : ℕ) (m : Moment) (picks : ℕ) (end : Moment) : Type 0 where
+-- The state that begins with this moment can be closed, and each list of picks that closes it takes
+-- as many picks and leads to what is alike. No list of picks meets a clash, misses an input, passes
+-- a limit, or uses up the picks.
+pub record ClosesOneWay (w : Setting) (globals most : ℕ) (m : Moment) (picks : ℕ) (end : Moment) :
+    Type 0 where
   pub can : (qs : List ℕ) × (last : Moment) × Closes w most m qs last
   pub count : (qs : List ℕ) (last : Moment) → Closes w most m qs last → length qs ≡ picks
   pub alike : (qs : List ℕ) (last : Moment) → Closes w most m qs last → Alike globals end last
@@ -20,6 +22,8 @@ pub record ClosesOneWay (w : Setting) (globals most : ℕ) (m : Moment) (picks :
 
 -- Where some picks close a state, this holds of each state that begins alike.
 abbrev pub StatesCloseOneWay : Type 0
-StatesCloseOneWay = (w : Setting) (kinds : List Bool) (most : ℕ) (m n : Moment) (picks : List ℕ) (end : Moment)
-    → IsOrderly w kinds m → IsOrderly w kinds n → Alike (length kinds) m n → Closes w most m picks end
+StatesCloseOneWay = (w : Setting) (kinds : List Bool) (most : ℕ) (m n : Moment) (picks : List ℕ)
+    (end : Moment)
+    → IsOrderly w kinds m → IsOrderly w kinds n → Alike (length kinds) m n
+    → Closes w most m picks end
     → ClosesOneWay w (length kinds) most n (length picks) end

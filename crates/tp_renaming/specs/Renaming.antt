@@ -1,4 +1,5 @@
--- One-to-one maps of the numbers of items, regions and locals, and what they leave of outcomes and of picks.
+-- One-to-one maps of the numbers of items, regions and locals, and what they leave of outcomes and
+-- of picks.
 use Rattle.std.specs.Prelude.{◌≡◌, ℕ, ◌≤◌, ◌<◌, List, Some, Bool, Option, None, zero, suc, map, length}
 use Rattle.tp_value.specs.declared.path.Path.{Path}
 use Rattle.tp_value.specs.declared.path.Fact.{Fact}
@@ -25,6 +26,7 @@ pub record Permutation : Type 0 where
   pub undone : (n : ℕ) → back (to n) ≡ n
   pub redone : (n : ℕ) → to (back n) ≡ n
 
+-- one for the numbers of items, of regions and of variables each
 pub record Renaming : Type 0 where
   pub item : Permutation
   pub region : Permutation
@@ -37,6 +39,8 @@ FixesFrom n π = (i : ℕ) → n ≤ i → π.to i ≡ i
 abbrev pub FixesBelow : ℕ → Permutation → Type 0
 FixesBelow n π = (i : ℕ) → i < n → π.to i ≡ i
 
+-- Each number in a variable, a path, a fact, an item, a region, a place or an outcome is replaced by
+-- the one that it is mapped to.
 module _ (ρ : Renaming) where
   abbrev pub renamed_variable : VarId → VarId
   renamed_variable x = record { number = ρ.local.to x.number; lasting = x.lasting }
@@ -84,7 +88,8 @@ module _ (ρ : Renaming) where
   renamed_entries none = none
   renamed_entries (leaf id l rest) = leaf (ρ.item.to id) (renamed_leaf l) (renamed_entries rest)
   renamed_entries (node id k h held g second rest) =
-      node (ρ.item.to id) (renamed_holder k) (renamed_head h) (renamed_entries held) (renamed_second k g) (renamed_entries second) (renamed_entries rest)
+      node (ρ.item.to id) (renamed_holder k) (renamed_head h) (renamed_entries held)
+      (renamed_second k g) (renamed_entries second) (renamed_entries rest)
 
   abbrev pub renamed_region : Region → Region
   renamed_region r = record { head = renamed_head r.head; entries = renamed_entries r.entries }
@@ -93,7 +98,11 @@ module _ (ρ : Renaming) where
   renamed_place p = record { region = ρ.region.to p.region; depth = p.depth; is = p.is }
 
   abbrev pub renamed_numbers : Numbers → Numbers
-  renamed_numbers n = record { item = λ i. ρ.item.to (n.item i); region = ρ.region.to n.region; local = ρ.local.to n.local }
+  renamed_numbers n = record {
+    item = λ i. ρ.item.to (n.item i);
+    region = ρ.region.to n.region;
+    local = ρ.local.to n.local;
+  }
 
   abbrev pub renamed_cell : Cell → Cell
   renamed_cell (Part p) = Part (renamed_path p)
@@ -110,7 +119,7 @@ module _ (ρ : Renaming) where
   renamed_clash (NoValue k) = NoValue k
 
   abbrev pub renamed_reduction : Reduction → Reduction
-  renamed_reduction r = record { news = renamed_entries r.news; items = r.items; regions = r.regions; local = r.local; mark = r.mark; facts = renamed_facts r.facts }
+  renamed_reduction r = record r { news = renamed_entries r.news; facts = renamed_facts r.facts }
 
   abbrev pub renamed_outcome : Outcome → Outcome
   renamed_outcome (reduces r) = reduces (renamed_reduction r)
@@ -134,12 +143,16 @@ module _ (ρ : Renaming) where
 abbrev pub FactsAlike : Renaming → List Fact → List Fact → Type 0
 FactsAlike ρ fs gs = (p : Path) → kept_shape gs (renamed_path ρ p) ≡ kept_shape fs p
 
--- Outcomes of expressions that name globals alone are renamed, and steps are; the numbers that are handed in are renamed with them.
+-- Outcomes of expressions that name globals alone are renamed, and steps are; the numbers that are
+-- handed in are renamed with them.
 abbrev pub OutcomesRename : Type 0
-OutcomesRename = (ρ : Renaming) (defs : List Definition) (kinds : List Bool) → DefinitionsFit defs kinds → FixesBelow (length kinds) ρ.local
-    → (fs gs : List Fact) → NoClash fs → NoClash gs → FactsAlike ρ fs gs → (e : ExprTree) (env : Bindings) → ExprFits defs kinds e (length env)
+OutcomesRename = (ρ : Renaming) (defs : List Definition) (kinds : List Bool)
+    → DefinitionsFit defs kinds → FixesBelow (length kinds) ρ.local
+    → (fs gs : List Fact) → NoClash fs → NoClash gs → FactsAlike ρ fs gs
+    → (e : ExprTree) (env : Bindings) → ExprFits defs kinds e (length env)
     → (outcome gs defs e (renamed_bindings ρ env) ≡ renamed_found ρ (outcome fs defs e env))
-    × (place_outcome gs defs e (renamed_bindings ρ env) ≡ renamed_place_found ρ (place_outcome fs defs e env))
+    × (place_outcome gs defs e (renamed_bindings ρ env) ≡ renamed_place_found ρ
+    (place_outcome fs defs e env))
 
 -- Numbers for new items, regions and locals are renamed as far as a reduction takes them.
 module _ (ρ : Renaming) (n n' : Numbers) where
@@ -167,7 +180,10 @@ module _ (ρ : Renaming) (n n' : Numbers) where
 
 -- So is what picking an item gives.
 abbrev pub PicksRename : Type 0
-PicksRename = (ρ : Renaming) (w : Setting) (kinds : List Bool) → DefinitionsFit w.defs kinds → FixesBelow (length kinds) ρ.local
+PicksRename = (ρ : Renaming) (w : Setting) (kinds : List Bool) → DefinitionsFit w.defs kinds
+    → FixesBelow (length kinds) ρ.local
     → (fs gs : List Fact) → NoClash fs → NoClash gs → FactsAlike ρ fs gs
-    → (variables : List Variable) (es : Entries) (p : Place) → EntriesFit w.defs kinds variables es p → (t : ℕ) (n n' : Numbers)
-    → Renamed ρ n n' (pick w fs t es p n) (pick w gs (ρ.item.to t) (renamed_entries ρ es) (renamed_place ρ p) n')
+    → (variables : List Variable) (es : Entries) (p : Place)
+    → EntriesFit w.defs kinds variables es p → (t : ℕ) (n n' : Numbers)
+    → Renamed ρ n n' (pick w fs t es p n)
+    (pick w gs (ρ.item.to t) (renamed_entries ρ es) (renamed_place ρ p) n')
