@@ -3,6 +3,7 @@ pub mod OutcomesGrow
 pub mod Kept
 pub mod EqGrow
 pub mod SideGrow
+pub mod Table
 pub mod RowsGrow
 pub mod EqMutual
 pub mod SideKnows
