@@ -1,0 +1,51 @@
+-- Sides of equations.
+use Rattle.std.proofs.Common.{◌≡◌, Bool, true, cond, List, [], refl, ap, ◌∙◌, inl, inr, Option}
+use Rattle.std.proofs.lemmas.Bool.{cases_Bool}
+use Rattle.tp_value.specs.Tree.{Tree, same_tree, SameTreeIsEquality}
+use Rattle.tp_value.specs.declared.path.Fact.{Fact}
+use Rattle.tp_value.specs.declared.path.Path.{Path}
+use Rattle.tp_meaning.specs.Syntax.{ExprTree, numeral, boolean, known, bound, global, listing, size, index, minus, negation, both, either, binary, choice, invoke, Definition, BindingTree}
+use Rattle.tp_eval.specs.Evaluate.{is_place}
+use Rattle.tp_eval.specs.Outcome as found
+use Rattle.tp_scene.specs.declared.answer.Clash.TheVariants as clash
+use Rattle.tp_scene.specs.Step as row
+use Rattle.tp_scene.specs.Step.{Outcome}
+use Rattle.tp_rows.specs.Found.{IsNoSize}
+
+module _ (defs : List Definition) (facts : List Fact) (env : List BindingTree) where
+  pub plain_target : (e : ExprTree) → IsNoSize e → row.target_of defs [] 0 facts e env ≡ row.target_if defs [] 0 facts (is_place e) row.value_at e env
+  plain_target (size e) h = absurd h
+  plain_target (numeral n) h = refl
+  plain_target (boolean b) h = refl
+  plain_target (known t) h = refl
+  plain_target (bound i) h = refl
+  plain_target (global x) h = refl
+  plain_target (listing es) h = refl
+  plain_target (index e i) h = refl
+  plain_target (minus e) h = refl
+  plain_target (negation e) h = refl
+  plain_target (both es) h = refl
+  plain_target (either a b) h = refl
+  plain_target (binary o a b) h = refl
+  plain_target (choice b x y) h = refl
+  plain_target (invoke p es) h = refl
+
+abbrev pub side : Bool → Option row.Target → found.Outcome → row.SideOf
+side b t o = record { placed = b; target = t; found = o }
+
+pub side_same : (b c : Bool) (t u : Option row.Target) (o p : found.Outcome) → b ≡ c → t ≡ u → o ≡ p → side b t o ≡ side c u p
+side_same b c t u o p e f g = ap (λ x. side x t o) e ∙ ap (λ x. side c x o) f ∙ ap (side c u) g
+
+-- the values are equal, or aren't
+pub equal_vanishes : (s t : Tree) → SameTreeIsEquality → s ≡ t → row.vanishes ≡ cond (same_tree s t) row.vanishes (row.clashes clash.False)
+equal_vanishes s t law e = let h : same_tree s t ≡ true = (law s t).1 e in rw h
+
+pub different_clashes : (s t : Tree) → SameTreeIsEquality → (s ≡ t → ⊥) → row.clashes clash.False ≡ cond (same_tree s t) row.vanishes (row.clashes clash.False)
+different_clashes s t law e = elim (cases_Bool (same_tree s t)) [ inl h ↦ absurd (e ((law s t).0 h)) | inr h ↦ rw h ]
+
+-- what an equation becomes by what is found
+pub right_value : (facts : List Fact) (b : Bool) (t : Option row.Target) (u v : Tree) (r : row.SideOf) → r.found ≡ found.value v → row.meets facts (side b t (found.value u)) v ≡ row.equate facts (side b t (found.value u)) r
+right_value facts b t u v r h = rw h refl
+
+pub right_value_waits : (facts : List Fact) (b : Bool) (t : Option row.Target) (p : Path) (v : Tree) (r : row.SideOf) → r.found ≡ found.value v → row.meets facts (side b t (found.wait p)) v ≡ row.equate facts (side b t (found.wait p)) r
+right_value_waits facts b t p v r h = rw h refl

@@ -1,0 +1,5 @@
+pub mod Read
+pub mod Decided
+pub mod Found
+pub mod Fits
+pub mod Holders

@@ -1,0 +1,316 @@
+// What becomes of an equation.
+ghost use Rattle.std.specs.Prelude.{◌≡◌, IfOk, Bool, List, [], None, MatchOption};
+ghost use Rattle.tp_value.specs.Read.{tree};
+ghost use Rattle.tp_value.specs.Tree.{num};
+ghost use Rattle.tp_kernel.specs.Read.{expr_tree, definitions_of, bindings_of};
+ghost use Rattle.tp_value.specs.declared.path.Fact.{Fact};
+ghost use Rattle.tp_value.specs.declared.path.Path.{Path};
+ghost use Rattle.tp_meaning.specs.Syntax.{Definition, size};
+ghost use Rattle.tp_meaning.specs.Inputs.{input_at};
+ghost use Rattle.tp_eval.specs.Outcome as found;
+ghost use Rattle.tp_eval.specs.Answers.{outcome_of};
+ghost use Rattle.tp_eval.specs.Evaluate.{is_place as is_place_tree};
+ghost use Rattle.tp_scene.specs.Step as row;
+ghost use Rattle.tp_store.specs.Known.{Variable, IsVariableOf};
+ghost use Rattle.tp_rows.specs.Decided.{decided, plain_setting};
+ghost use Rattle.tp_rows.specs.Found.{option_target, side_of, PathIn, IsNoSize};
+ghost use Rattle.tp_rows.specs.Fits.{IsPathOf, IsTargetOf, SetsVariables, ExprFitsStore};
+
+use crate::decision::{Decision, nothing};
+use crate::setting::Setting;
+use std::alloc::Global;
+use tp_eval::{Outcome, PlaceOutcome, eval, is_place, place};
+use tp_kernel::{Defs, Env, Expr, FaultKind, LimitKind};
+use tp_scene::{Cell, Clash};
+use tp_store::Store;
+use tp_value::{LENGTH_LIMIT, NoMemory, Number, Path, Text, Value, same, same_tree_is_equality};
+
+/// What a side can set: the value at a path, or the length of the list there.
+#[derive(Drop)]
+pub enum Target {
+    Value(Path),
+    Length(Path),
+}
+
+/// A side of an equation: whether it is a place or the size of one, what it can set, and what is found.
+#[derive(Drop)]
+pub struct Side {
+    pub placed: bool,
+    pub target: Option<Target>,
+    pub found: Outcome,
+}
+
+// The path of an expression, where it is a place with one.
+fn path_of(
+    alloc: Global,
+    expr: &Expr,
+    env: &Env,
+    store: &Store,
+    defs: &Defs,
+) -> Result<Option<Path>, NoMemory>
+    requires none { definitions_of defs.now ≡ [] }
+    requires fits { ExprFitsStore (definitions_of defs.now) store.now.variables (expr_tree expr.now) (bindings_of env.now) }
+    ensures outcome { IfOk result (λ o. (f : Path → row.Target) → PathIn o f (row.target_if (definitions_of defs.now) [] 0 store.now.facts (is_place_tree (expr_tree expr.now)) f (expr_tree expr.now) (bindings_of env.now))) }
+    ensures variables { IfOk result (IsPathOf store.now.variables) }
+{
+    if !is_place(expr) {
+        return Ok(None);
+    }
+    let found = place(alloc, expr, env, store, defs)?;
+    match found {
+        PlaceOutcome::Place(path) => Ok(Some(path)),
+        PlaceOutcome::Other(_) => Ok(None),
+    }
+}
+
+// What a size is taken of.
+fn measured(expr: &Expr) -> Option<&Expr>
+    ensures { MatchOption result (IsNoSize (expr_tree expr.now)) (λ inner. expr_tree expr.now ≡ size (expr_tree inner.now)) }
+{
+    match expr {
+        Expr::Size(inner) => Some(inner),
+        _ => None,
+    }
+}
+
+fn find_target(
+    alloc: Global,
+    expr: &Expr,
+    env: &Env,
+    store: &Store,
+    defs: &Defs,
+) -> Result<Option<Target>, NoMemory>
+    requires none { definitions_of defs.now ≡ [] }
+    requires fits { ExprFitsStore (definitions_of defs.now) store.now.variables (expr_tree expr.now) (bindings_of env.now) }
+    ensures outcome { IfOk result (λ o. option_target o ≡ row.target_of (definitions_of defs.now) [] 0 store.now.facts (expr_tree expr.now) (bindings_of env.now)) }
+    ensures variables { IfOk result (IsTargetOf store.now.variables) }
+{
+    match measured(expr) {
+        Some(inner) => {
+            let path = path_of(alloc, inner, env, store, defs)?;
+            match path {
+                Some(path) => Ok(Some(Target::Length(path))),
+                None => Ok(None),
+            }
+        }
+        None => {
+            let path = path_of(alloc, expr, env, store, defs)?;
+            match path {
+                Some(path) => Ok(Some(Target::Value(path))),
+                None => Ok(None),
+            }
+        }
+    }
+}
+
+// Whether the expression is a place or the size of one.
+fn is_placed(expr: &Expr) -> bool
+    ensures { (defs : List Definition) (facts : List Fact) → result ≡ row.is_placed defs [] 0 facts (expr_tree expr.now) }
+{
+    match expr {
+        Expr::Size(inner) => is_place(inner),
+        _ => is_place(expr),
+    }
+}
+
+fn evaluate_side(
+    alloc: Global,
+    expr: &Expr,
+    env: &Env,
+    store: &Store,
+    defs: &Defs,
+) -> Result<Side, NoMemory>
+    requires none { definitions_of defs.now ≡ [] }
+    requires fits { ExprFitsStore (definitions_of defs.now) store.now.variables (expr_tree expr.now) (bindings_of env.now) }
+    ensures outcome { IfOk result (λ s. side_of s ≡ row.side_of (definitions_of defs.now) [] 0 store.now.facts (expr_tree expr.now) (bindings_of env.now)) }
+    ensures variables { IfOk result (λ s. IsTargetOf store.now.variables s.target) }
+{
+    let target = find_target(alloc, expr, env, store, defs)?;
+    let found = eval(alloc, expr, env, store, defs)?;
+    Ok(Side {
+        placed: is_placed(expr),
+        target,
+        found,
+    })
+}
+
+// The length of the list at the path is to be this value.
+fn measure(path: Path, value: Value) -> Decision
+    ensures outcome { (facts : List Fact) (n : row.Numbers) → decided facts n result ≡ row.set facts (row.length_at path) (tree value) }
+    ensures variables { (xs : List Variable) → IsVariableOf xs path.var → SetsVariables xs result }
+{
+    match value {
+        Value::Num(n) => measure_number(path, n),
+        Value::Truth(_) => Decision::Clashes(Clash::NoValue(FaultKind::WrongKind)),
+        Value::List(_) => Decision::Clashes(Clash::NoValue(FaultKind::WrongKind)),
+    }
+}
+
+fn measure_number(path: Path, n: Number) -> Decision
+    ensures outcome { (facts : List Fact) (numbers : row.Numbers) → decided facts numbers result ≡ row.set facts (row.length_at path) (num n) }
+    ensures variables { (xs : List Variable) → IsVariableOf xs path.var → SetsVariables xs result }
+{
+    if n < 0 {
+        Decision::Clashes(Clash::False)
+    } else if n > Number::from(LENGTH_LIMIT) {
+        Decision::Passes(LimitKind::List)
+    } else {
+        Decision::Measures(path, n as u32)
+    }
+}
+
+// The other side has this value.
+fn meet(alloc: Global, target: Option<Target>, found: Outcome, value: Value) -> Decision
+    ensures outcome { (facts : List Fact) (n : row.Numbers) (placed : Bool) → decided facts n result ≡ row.meets facts (record { placed = placed; target = option_target target; found = outcome_of found }) (tree value) }
+    ensures variables { (xs : List Variable) → IsTargetOf xs target → SetsVariables xs result }
+{
+    match target {
+        Some(Target::Value(path)) => Decision::Sets(path, value),
+        Some(Target::Length(path)) => measure(path, value),
+        None => compare(alloc, found, value),
+    }
+}
+
+fn compare(alloc: Global, found: Outcome, value: Value) -> Decision
+    ensures outcome { (facts : List Fact) (n : row.Numbers) (placed : Bool) → decided facts n result ≡ row.meets facts (record { placed = placed; target = None; found = outcome_of found }) (tree value) }
+    ensures variables { (xs : List Variable) → SetsVariables xs result }
+{
+    match found {
+        Outcome::Value(other) => {
+            same_tree_is_equality();
+            if same(&other, &value) {
+                nothing(alloc)
+            } else {
+                Decision::Clashes(Clash::False)
+            }
+        }
+        Outcome::Wait(path) => Decision::Waits(Cell::Part(path), None),
+        Outcome::Fault(kind) => Decision::Clashes(Clash::NoValue(kind)),
+        Outcome::Over(kind) => Decision::Passes(kind),
+    }
+}
+
+// Both sides wait, for `left` and for `right`.
+fn wait_for_both(is_left_placed: bool, is_right_placed: bool, left: Path, right: Path) -> Decision
+    ensures outcome { (facts : List Fact) (n : row.Numbers) → decided facts n result ≡ row.both_wait facts is_left_placed is_right_placed left right }
+    ensures variables { (xs : List Variable) → SetsVariables xs result }
+{
+    if is_right_placed && !is_left_placed {
+        Decision::Waits(Cell::Part(left), Some(Cell::Part(right)))
+    } else {
+        Decision::Waits(Cell::Part(right), Some(Cell::Part(left)))
+    }
+}
+
+// The right side passes a limit.
+fn pass_on_right(left: Outcome, limit: LimitKind) -> Decision
+    ensures outcome { (facts : List Fact) (n : row.Numbers) (l r : row.SideOf) → l.found ≡ outcome_of left → r.found ≡ found.over limit → decided facts n result ≡ row.equate facts l r }
+    ensures variables { (xs : List Variable) → SetsVariables xs result }
+{
+    match left {
+        Outcome::Fault(kind) => Decision::Clashes(Clash::NoValue(kind)),
+        Outcome::Value(_) => Decision::Passes(limit),
+        Outcome::Wait(_) => Decision::Passes(limit),
+        Outcome::Over(_) => Decision::Passes(limit),
+    }
+}
+
+// The right side has this value.
+fn value_on_right(alloc: Global, target: Option<Target>, left: Outcome, value: Value) -> Decision
+    ensures outcome { (facts : List Fact) (n : row.Numbers) (placed : Bool) (r : row.SideOf) → r.found ≡ found.value (tree value) → decided facts n result ≡ row.equate facts (record { placed = placed; target = option_target target; found = outcome_of left }) r }
+    ensures variables { (xs : List Variable) → IsTargetOf xs target → SetsVariables xs result }
+{
+    match left {
+        Outcome::Fault(kind) => Decision::Clashes(Clash::NoValue(kind)),
+        Outcome::Over(kind) => Decision::Passes(kind),
+        Outcome::Value(other) => meet(alloc, target, Outcome::Value(other), value),
+        Outcome::Wait(path) => meet(alloc, target, Outcome::Wait(path), value),
+    }
+}
+
+fn equate(alloc: Global, left: Side, right: Side) -> Decision
+    ensures outcome { (facts : List Fact) (n : row.Numbers) → decided facts n result ≡ row.equate facts (side_of left) (side_of right) }
+    ensures variables { (xs : List Variable) → IsTargetOf xs left.target → IsTargetOf xs right.target → SetsVariables xs result }
+{
+    let Side {
+        placed: is_left_placed,
+        target: left_target,
+        found: left_found,
+    } = left;
+    let Side {
+        placed: is_right_placed,
+        target: right_target,
+        found: right_found,
+    } = right;
+    match right_found {
+        Outcome::Fault(kind) => Decision::Clashes(Clash::NoValue(kind)),
+        Outcome::Over(kind) => pass_on_right(left_found, kind),
+        Outcome::Value(value) => value_on_right(alloc, left_target, left_found, value),
+        Outcome::Wait(path) => match left_found {
+            Outcome::Fault(kind) => Decision::Clashes(Clash::NoValue(kind)),
+            Outcome::Over(kind) => Decision::Passes(kind),
+            Outcome::Value(value) => meet(alloc, right_target, Outcome::Wait(path), value),
+            Outcome::Wait(other) => wait_for_both(is_left_placed, is_right_placed, other, path),
+        },
+    }
+}
+
+/// What becomes of the equation of the two.
+pub fn decide_equation(
+    alloc: Global,
+    left: &Expr,
+    right: &Expr,
+    env: &Env,
+    store: &Store,
+    setting: &Setting,
+) -> Result<Decision, NoMemory>
+    requires none { definitions_of setting.now.defs ≡ [] }
+    requires fits_left { ExprFitsStore (definitions_of setting.now.defs) store.now.variables (expr_tree left.now) (bindings_of env.now) }
+    requires fits_right { ExprFitsStore (definitions_of setting.now.defs) store.now.variables (expr_tree right.now) (bindings_of env.now) }
+    ensures outcome { let w = plain_setting setting.now in IfOk result (λ d. (n : row.Numbers) → decided store.now.facts n d ≡ row.equate store.now.facts (row.side_of w.defs w.inputs w.state store.now.facts (expr_tree left.now) (bindings_of env.now)) (row.side_of w.defs w.inputs w.state store.now.facts (expr_tree right.now) (bindings_of env.now))) }
+    ensures variables { IfOk result (SetsVariables store.now.variables) }
+{
+    let left = evaluate_side(alloc, left, env, store, &setting.defs)?;
+    let right = evaluate_side(alloc, right, env, store, &setting.defs)?;
+    Ok(equate(alloc, left, right))
+}
+
+// A side that has this value, which was found before.
+fn side_with(alloc: Global, value: &Value) -> Result<Side, NoMemory>
+    ensures outcome { IfOk result (λ s. (defs : List Definition) (facts : List Fact) → side_of s ≡ row.side_with defs [] 0 facts (tree value.now)) }
+    ensures variables { IfOk result (λ s. s.target ≡ None) }
+{
+    let value = value.copy(alloc)?;
+    Ok(Side {
+        placed: false,
+        target: None,
+        found: Outcome::Value(value),
+    })
+}
+
+/// What becomes of the equation with the value that the inputs have for the port.
+pub fn decide_input(
+    alloc: Global,
+    expr: &Expr,
+    port: &Text,
+    env: &Env,
+    store: &Store,
+    setting: &Setting,
+) -> Result<Decision, NoMemory>
+    requires none { definitions_of setting.now.defs ≡ [] }
+    requires fits { ExprFitsStore (definitions_of setting.now.defs) store.now.variables (expr_tree expr.now) (bindings_of env.now) }
+    ensures outcome { let w = plain_setting setting.now in IfOk result (λ d. (n : row.Numbers) → decided store.now.facts n d ≡ row.from_port w.defs w.inputs w.state store.now.facts (input_at w.inputs w.state port.now) port.now (row.side_of w.defs w.inputs w.state store.now.facts (expr_tree expr.now) (bindings_of env.now))) }
+    ensures variables { IfOk result (SetsVariables store.now.variables) }
+{
+    match setting.inputs.at(setting.state, port) {
+        Some(value) => {
+            let left = evaluate_side(alloc, expr, env, store, &setting.defs)?;
+            let right = side_with(alloc, value)?;
+            Ok(equate(alloc, left, right))
+        }
+        None => {
+            let port = port.copy()?;
+            Ok(Decision::Misses(port))
+        }
+    }
+}

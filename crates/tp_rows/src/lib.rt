@@ -1,0 +1,24 @@
+//! What becomes of one item of a scene, for all kinds of formula and all items with regions: as items and regions that have no numbers
+//! yet, for scenes that are kept as slots. Nothing is changed here.
+#![tactic(auto)]
+
+mod counting;
+mod decision;
+mod display;
+mod env;
+mod equation;
+mod evaluated;
+mod formula;
+mod found;
+mod holder;
+mod leaves;
+mod phrase;
+mod regions;
+mod setting;
+
+pub use decision::{Decision, Leaf, Place, Side};
+pub use env::bind_last;
+pub use formula::{decide, decide_leaf};
+pub use holder::{HolderDecision, HolderKind, decide_holder};
+pub use phrase::{Phrase, Shows, Values};
+pub use setting::Setting;
