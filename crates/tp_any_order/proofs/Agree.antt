@@ -15,7 +15,7 @@ use Rattle.tp_run.specs.declared.turn.Picture.{Picture}
 use Rattle.tp_run.specs.declared.turn.Turn.{Turn}
 use Rattle.tp_run.specs.declared.turn.Turn.TheVariants.{Went, Finished, Contradictory, Undetermined, StateLimit, InputMissing, Over}
 use Rattle.tp_run.specs.History.{RunEndsWith}
-use Rattle.tp_run.specs.States.{Plan, setting, IsPictureOf, GoesOn, EndsHere, StatesLead, LeadsTo, Standing, StateBecomes, ReachesLimit}
+use Rattle.tp_run.specs.States.{Plan, setting, IsPictureOf, StateGoesOn, StateEnds, StatesLead, LeadsTo, Standing, StateBecomes, ReachesLimit}
 use Rattle.tp_renaming.specs.Renaming.{renamed_cell}
 use Rattle.tp_renaming.specs.Alike.{Alike, SettlesAlike}
 use Rattle.tp_renaming.proofs.SettleAlike.{alike_moments_settle}
@@ -61,7 +61,7 @@ module _ (plan : Plan) where
   -- How a run ends in state n, which begins with m, and the picture of that state where it is settled.
   abbrev EndsAt : ℕ → Moment → List Picture → Turn → Type 0
   EndsAt n m tail Went = ⊥
-  EndsAt n m tail (Finished k) = (final : Picture) × (tail ≡ final ∷ []) × EndsHere plan n m final × (k ≡ n)
+  EndsAt n m tail (Finished k) = (final : Picture) × (tail ≡ final ∷ []) × StateEnds plan n m final × (k ≡ n)
   EndsAt n m tail (Contradictory state clash) = (tail ≡ []) × replay.MeetsClash (setting plan n) plan.reductions m clash × (state ≡ n) × (n < plan.states)
   EndsAt n m tail (Undetermined state cell) = (tail ≡ []) × replay.IsOpen (setting plan n) plan.reductions m cell × (state ≡ n) × (n < plan.states)
   EndsAt n m tail (StateLimit states) = (tail ≡ []) × (states ≡ n) × (n ≡ plan.states)
@@ -103,7 +103,7 @@ module _ (plan : Plan) where
       same_cell cell cell' h k = (end_alike.0, end_alike.1.globals_fixed, cell_by (setting plan n) end' (settled end'.scene) refl cell' (renamed_cell end_alike.0 cell) k (settle.open_too cell h))
 
     -- where one goes on, the other doesn't end
-    cant_go : (tail : List Picture) (turn : Turn) → EndsAt n m tail turn → (q : Picture) (next : Moment) → GoesOn plan n m' q next → ⊥
+    cant_go : (tail : List Picture) (turn : Turn) → EndsAt n m tail turn → (q : Picture) (next : Moment) → StateGoesOn plan n m' q next → ⊥
     cant_go tail Went x q next g = x
     cant_go tail (Finished k) x q next g =
         let s = settle x.2.picks x.2.last g.picks g.last x.2.ends.closes g.goes.closes in
@@ -179,7 +179,7 @@ module _ (plan : Plan) where
     end_same tail (InputMissing state port) x tail' turn' y = failing tail tail' state turn' x.0 x.2 (fails (λ picks end c. (back_way picks end c).no_missing port x.1) x.3 tail' turn' y)
     end_same tail (Over state l) x tail' turn' y = failing tail tail' state turn' x.0 x.2 (fails (λ picks end c. within_limit n m (length kinds) (length picks) end l (back_way picks end c) x.1) x.3 tail' turn' y)
 
-  next_orderly : (n : ℕ) (m next : Moment) (p : Picture) → Orderly n m → GoesOn plan n m p next → Orderly (suc n) next
+  next_orderly : (n : ℕ) (m next : Moment) (p : Picture) → Orderly n m → StateGoesOn plan n m p next → Orderly (suc n) next
   next_orderly n m next p om g = advances_stay_orderly (setting plan n) kinds g.last next (leads_orderly (setting plan n) kinds g.picks m g.last om g.goes.closes.leads) g.goes.settles g.goes.scene g.goes.store (suc n)
 
   -- The states of two runs, one after the other.
@@ -256,7 +256,7 @@ module _ (plan : Plan) where
       tail_of p (InputMissing state port) = []
       tail_of p (Over state l) = []
 
-      becomes : (old new : Picture) (standing : Standing) (turn : Turn) → StateBecomes plan n m old new standing turn → ((turn ≡ Went) × ((next : Moment) × GoesOn plan n m new next)) ⊎ EndsAt n m (tail_of new turn) turn
+      becomes : (old new : Picture) (standing : Standing) (turn : Turn) → StateBecomes plan n m old new standing turn → ((turn ≡ Went) × ((next : Moment) × StateGoesOn plan n m new next)) ⊎ EndsAt n m (tail_of new turn) turn
       becomes old new standing Went h = inl (refl, (h.0, h.1))
       becomes old new standing (Finished k) h = inr (new, refl, h.0, h.1)
       becomes old new standing (Contradictory state clash) h = inr (refl, h.0, h.1, h.2)

@@ -10,7 +10,7 @@ use Rattle.tp_run.specs.declared.turn.Picture.{Picture}
 use Rattle.tp_run.specs.declared.turn.Turn.{Turn}
 use Rattle.tp_run.specs.declared.turn.Turn.TheVariants.{Went, Finished, Contradictory, Undetermined, StateLimit, InputMissing, Over}
 use Rattle.tp_run.specs.History.{RunEndsWith}
-use Rattle.tp_run.specs.States.{Plan, globals_of, setting, GoesOn, EndsHere, LeadsTo, Standing, StateBecomes}
+use Rattle.tp_run.specs.States.{Plan, globals_of, setting, StateGoesOn, StateEnds, LeadsTo, Standing, StateBecomes}
 use Rattle.tp_growth.specs.Within.{InputsWithin}
 use Rattle.tp_renaming.specs.Renaming.{Renaming, FixesBelow, renamed_cell}
 
@@ -68,11 +68,11 @@ RunsAgree plan = IsOrderlyPlan plan → (ps : List Picture) (turn : Turn) → Ru
 -- Where some picks settle a state, or leave it open at a cell, a run that makes this state comes to
 -- that: it finishes where it can.
 pub record StateAgrees (plan : Plan) (n : ℕ) (m : Moment) : Type 0 where
-  pub goes : (p : Picture) (after : Moment) → GoesOn plan n m p after
+  pub goes : (p : Picture) (after : Moment) → StateGoesOn plan n m p after
       → (old new : Picture) (standing : Standing) (turn : Turn)
       → StateBecomes plan n m old new standing turn
       → (turn ≡ Went) × SamePicture p new
-  pub ends : (p : Picture) → EndsHere plan n m p
+  pub ends : (p : Picture) → StateEnds plan n m p
       → (old new : Picture) (standing : Standing) (turn : Turn)
       → StateBecomes plan n m old new standing turn
       → (turn ≡ Finished n) × SamePicture p new

@@ -14,11 +14,11 @@ use Rattle.tp_call.specs.declared.status.Status.TheVariants.{Finished, Contradic
 use Rattle.tp_call.specs.Line.{state_line, state_lines}
 use Rattle.tp_call.specs.EndLine.{end_line}
 use Rattle.tp_call.specs.Written.{Wrote}
-use Rattle.tp_check.specs.Program.{ProgramTree}
+use Rattle.tp_check.specs.Program.{CheckedProgram}
 use Rattle.tp_call.specs.Run.{plan_of, status_of, RunEnds, Settles}
-use Rattle.tp_call.specs.Progress.{Place, Turned, is_settled, line_of, PartMade, HasWritten, ProgramMade}
-use Rattle.tp_call.specs.Answer.{Sourced, HoldsProgram, Refuses, RunsTo, Ends, Answers, IsEndOfRun}
-use Rattle.tp_call.specs.Parts.{IsRefusal, Closes}
+use Rattle.tp_call.specs.Progress.{RunPlace, Turned, is_settled, line_of, PartMade, HasWritten, ProgramMade}
+use Rattle.tp_call.specs.Answer.{Sourced, HoldsProgram, Refuses, RunsTo, CallEnds, Answers, IsEndOfRun}
+use Rattle.tp_call.specs.Parts.{IsProgramRefusal, ClosesText}
 use Rattle.tp_call.proofs.TurnLemmas.{ends_run}
 use Rattle.tp_call.proofs.HeadlineLemmas.{end_says}
 use Rattle.tp_call.proofs.RunLemmas.{Wrote-both, Wrote-nothing, lines_more, advances}
@@ -28,7 +28,7 @@ pub Wrote-part : (old mid new : Option (List ℕ)) (a b : List ℕ) (kept : ℕ)
 Wrote-part old mid new a b kept p q = subst (Wrote old new) (sym (take-append-add a b kept)) (Wrote-both old mid new a (take kept b) p q)
 
 -- a run of the program ended with this status, and its states were written
-pub record Ended (program : ProgramTree) (before after : Option (List ℕ)) (status : Status) : Type 0 where
+pub record Ended (program : CheckedProgram) (before after : Option (List ℕ)) (status : Status) : Type 0 where
   pub pictures : List Picture
   pub run : RunEnds program pictures status
   pub wrote : Wrote before after (state_lines program.names pictures)
@@ -39,7 +39,7 @@ lines_with : (names : List (List ℕ)) (before now after : Option (List ℕ)) (p
 lines_with names before now after pictures picture p q = rw (lines_more names pictures picture) (Wrote-both before now after _ _ p q)
 
 -- a state that isn't settled ends the run: nothing more is written
-stopped_by : (program : ProgramTree) (from to : Place) (before now after : Option (List ℕ)) (status : Status) (answer : Turn) (picture : Picture) → (h : HasWritten program from before now) → status_of answer ≡ Some status → Wrote now after []
+stopped_by : (program : CheckedProgram) (from to : RunPlace) (before now after : Option (List ℕ)) (status : Status) (answer : Turn) (picture : Picture) → (h : HasWritten program from before now) → status_of answer ≡ Some status → Wrote now after []
     → RunEndsWith (plan_of program) h.pictures answer → Ended program before after status
 stopped_by program from to before now after status answer picture h is wrote run = record {
   pictures = h.pictures;
@@ -48,7 +48,7 @@ stopped_by program from to before now after status answer picture h is wrote run
 }
 
 -- an answer with which the run ends, and what it has written
-ended_by : (program : ProgramTree) (from to : Place) (before now after : Option (List ℕ)) (status : Status) (answer : Turn) (picture : Picture) → HasWritten program from before now → Turned (plan_of program) from to answer picture
+ended_by : (program : CheckedProgram) (from to : RunPlace) (before now after : Option (List ℕ)) (status : Status) (answer : Turn) (picture : Picture) → HasWritten program from before now → Turned (plan_of program) from to answer picture
     → status_of answer ≡ Some status → Wrote now after (line_of program.names answer picture) → Ended program before after status
 ended_by program from to before now after status turn.Went picture h t is wrote = cc
 ended_by program from to before now after status (turn.Finished n) picture h t is wrote = record {
@@ -68,7 +68,7 @@ ended_by program from to before now after status (turn.Over state limit) picture
     stopped_by program from to before now after status (turn.Over state limit) picture h is wrote (advances program from to before now (turn.Over state limit) picture h t).0
 
 -- the last state of these was settled, whether the run goes on or not
-settles_with : (program : ProgramTree) (from to : Place) (before now : Option (List ℕ)) (answer : Turn) (picture : Picture) → (h : HasWritten program from before now) → Turned (plan_of program) from to answer picture
+settles_with : (program : CheckedProgram) (from to : RunPlace) (before now : Option (List ℕ)) (answer : Turn) (picture : Picture) → (h : HasWritten program from before now) → Turned (plan_of program) from to answer picture
     → IsTrue (is_settled answer) → Settles program (h.pictures ++ picture ∷ [])
 settles_with program from to before now turn.Went picture h t settled = let a = advances program from to before now turn.Went picture h t in inl (a.0, a.2)
 settles_with program from to before now (turn.Finished n) picture h t settled =
@@ -79,13 +79,13 @@ settles_with program from to before now (turn.StateLimit states) picture h t set
 settles_with program from to before now (turn.InputMissing state port) picture h t settled = cc
 settles_with program from to before now (turn.Over state limit) picture h t settled = cc
 
-pub ended : (program : ProgramTree) (before after : Option (List ℕ)) (status : Status) → ProgramMade program before after (Ok status) → Ended program before after status
+pub ended : (program : CheckedProgram) (before after : Option (List ℕ)) (status : Status) → ProgramMade program before after (Ok status) → Ended program before after status
 ended program before after status (inl none) = let bad : Ok status ≡ Err sink.NoMemory = none.0 in cc
 ended program before after status (inr made) =
     ended_by program made.from made.to before made.middle after status made.stopped.answer made.stopped.picture made.settled made.stopped.turned (sym made.stopped.status_is) made.stopped.wrote
 
 -- what an end settled
-settles_by : (program : ProgramTree) (pictures : List Picture) (answer : Turn) → RunEndsWith (plan_of program) pictures answer → Settles program pictures
+settles_by : (program : CheckedProgram) (pictures : List Picture) (answer : Turn) → RunEndsWith (plan_of program) pictures answer → Settles program pictures
 settles_by program pictures turn.Went e = absurd e
 settles_by program pictures (turn.Finished n) e = inr (n, record { answer = turn.Finished n; status_is = refl; run = e })
 settles_by program pictures (turn.Contradictory state clash) e = inl (e.0, e.1)
@@ -95,15 +95,15 @@ settles_by program pictures (turn.InputMissing state port) e = inl (e.0, e.1)
 settles_by program pictures (turn.Over state limit) e = inl (e.0, e.1)
 
 -- an end of a run is no failed write
-pub not_write_fault : (program : ProgramTree) (before after : Option (List ℕ)) (status : Status) → Ended program before after status → status ≡ WriteFault → ⊥
+pub not_write_fault : (program : CheckedProgram) (before after : Option (List ℕ)) (status : Status) → Ended program before after status → status ≡ WriteFault → ⊥
 not_write_fault program before after status e is = subst IsEndOfRun is (ends_run e.run.answer status e.run.status_is)
 
-module _ (words : List (List ℕ)) (held : Option Held) (program : ProgramTree) (built : IsBuilt program.names program.main) (source : Sourced words held (HoldsProgram program)) (old : Option (List ℕ)) where
+module _ (words : List (List ℕ)) (held : Option Held) (program : CheckedProgram) (built : IsBuilt program.names program.main) (source : Sourced words held (HoldsProgram program)) (old : Option (List ℕ)) where
   runs_to : (mid : Option (List ℕ)) (status : Status) → (e : Ended program old mid status) → RunsTo words held status (state_lines program.names e.pictures ++ end_line program.names status)
   runs_to mid status e = record { program = program; pictures = e.pictures; source = source; run = e.run; says = end_says program e.pictures e.run.answer built e.run.run; written = refl }
 
   closed_whole : (mid new : Option (List ℕ)) (status result : Status) → Ended program old mid status → result ≡ status → Wrote mid new (end_line program.names status)
-      → (text : List ℕ) × Ends words held result text × Wrote old new text
+      → (text : List ℕ) × CallEnds words held result text × Wrote old new text
   closed_whole mid new status result e is wrote = (
     state_lines program.names e.pictures ++ end_line program.names status,
     inl (subst (λ r. RunsTo words held r (state_lines program.names e.pictures ++ end_line program.names status)) (sym is) (runs_to mid status e)),
@@ -111,7 +111,7 @@ module _ (words : List (List ℕ)) (held : Option Held) (program : ProgramTree) 
   )
 
   -- a run that ended, and its end line or a part of it
-  pub closed : (mid new : Option (List ℕ)) (status result : Status) → Ended program old mid status → Closes program.names status mid new result → Answers words held old new result
+  pub closed : (mid new : Option (List ℕ)) (status result : Status) → Ended program old mid status → ClosesText program.names status mid new result → Answers words held old new result
   closed mid new status WriteFault e c = (
     state_lines program.names e.pictures ++ end_line program.names status,
     inr (status, inl (runs_to mid status e)),
@@ -125,7 +125,7 @@ module _ (words : List (List ℕ)) (held : Option Held) (program : ProgramTree) 
   closed mid new status result e c = closed_whole mid new status result e c.0 c.1
 
   -- a write of a state that failed
-  part_written : (from to : Place) (now new : Option (List ℕ)) → HasWritten program from old now → PartMade (plan_of program) program.names from to now new → Answers words held old new WriteFault
+  part_written : (from to : RunPlace) (now new : Option (List ℕ)) → HasWritten program from old now → PartMade (plan_of program) program.names from to now new → Answers words held old new WriteFault
   part_written from to now new h part = (
     state_lines program.names (h.pictures ++ part.picture ∷ []),
     inl (inr (record {
@@ -158,10 +158,10 @@ module _ (words : List (List ℕ)) (held : Option Held) (program : ProgramTree) 
 
 -- a refusal, and its end line or a part of it
 module _ (words : List (List ℕ)) (held : Option Held) (old new : Option (List ℕ)) (status : Status) where
-  refused_whole : (result : Status) → Refuses words held status → result ≡ status → Wrote old new (end_line [] status) → (text : List ℕ) × Ends words held result text × Wrote old new text
+  refused_whole : (result : Status) → Refuses words held status → result ≡ status → Wrote old new (end_line [] status) → (text : List ℕ) × CallEnds words held result text × Wrote old new text
   refused_whole result r is wrote = (end_line [] status, inr (subst (Refuses words held) (sym is) r, ap (end_line []) (sym is)), wrote)
 
-  pub refused : (result : Status) → IsRefusal words held status → (status ≡ NoMemory → result ≡ NoMemory) → Closes [] status old new result → Answers words held old new result
+  pub refused : (result : Status) → IsProgramRefusal words held status → (status ≡ NoMemory → result ≡ NoMemory) → ClosesText [] status old new result → Answers words held old new result
   refused NoMemory r memory c = ([], inl refl, rw c (Wrote-nothing old))
   refused WriteFault (inl none) memory c = let bad : WriteFault ≡ NoMemory = memory none in cc
   refused WriteFault (inr r) memory c = (end_line [] status, inr (status, inr (r, refl)), c)

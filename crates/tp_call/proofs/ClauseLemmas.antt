@@ -15,10 +15,10 @@ use Rattle.tp_call.specs.Parts.{refused_status}
 use Rattle.tp_call.proofs.ProgramLemmas.{program_or_refused, refused_once}
 use Rattle.tp_call.specs.Words.{wanted_of}
 use Rattle.tp_call.specs.Written.{Wrote}
-use Rattle.tp_check.specs.Program.{ProgramTree}
+use Rattle.tp_check.specs.Program.{CheckedProgram}
 use Rattle.tp_call.specs.Run.{plan_of, EndSays}
 use Rattle.tp_call.proofs.TurnLemmas.{answer_of, answer_is, ends_run}
-use Rattle.tp_call.specs.Answer.{Sourced, HoldsProgram, HoldsRefused, IsTooLong, IsTold, Refuses, Ends, Answers, Prints, IsOrStopped, IsOrFailed, IsEndOfRun, HasFailed}
+use Rattle.tp_call.specs.Answer.{Sourced, HoldsProgram, HoldsRefused, IsLongSource, IsTold, Refuses, CallEnds, Answers, Prints, IsOrStopped, IsOrFailed, IsEndOfRun, HasFailed}
 
 -- what the source has where the files tell it
 both_told : (words : List (List ℕ)) (held : Option Held) (P Q : List ℕ → Type 0) → Sourced words held P → IsTold words held Q → (source : List ℕ) × P source × Q source
@@ -28,7 +28,7 @@ both_told words held P Q s t =
 
 module _ (words : List (List ℕ)) (held : Option Held) (old new : Option (List ℕ)) where
   -- an answer with an end line is that of a run, or a refusal
-  run_alone : (status : Status) → (Refuses words held status → ⊥) → (text : List ℕ) × Ends words held status text × Wrote old new text → Prints words held old new status (λ p printed. EndSays p printed (answer_of status))
+  run_alone : (status : Status) → (Refuses words held status → ⊥) → (text : List ℕ) × CallEnds words held status text × Wrote old new text → Prints words held old new status (λ p printed. EndSays p printed (answer_of status))
   run_alone status never (text, inl run, wrote) = record {
     program = run.program;
     pictures = run.pictures;
@@ -40,7 +40,7 @@ module _ (words : List (List ℕ)) (held : Option Held) (old new : Option (List 
   run_alone status never (text, inr refused, wrote) = absurd (never refused.0)
 
   -- no run ends with such a status, which is then a refusal's
-  refusal_alone : (status : Status) → (IsEndOfRun status → ⊥) → (text : List ℕ) × Ends words held status text × Wrote old new text → Refuses words held status
+  refusal_alone : (status : Status) → (IsEndOfRun status → ⊥) → (text : List ℕ) × CallEnds words held status text × Wrote old new text → Refuses words held status
   refusal_alone status never (text, inl run, wrote) = absurd (never (ends_run run.run.answer status run.run.status_is))
   refusal_alone status never (text, inr refused, wrote) = refused.0
 
@@ -82,7 +82,7 @@ module _ (words : List (List ℕ)) (held : Option Held) (old new : Option (List 
   pub words_refused_only : (result : Status) → Answers words held old new result → result ≡ WordsRefused → wanted_of words ≡ None
   words_refused_only result a is = refusal_alone WordsRefused (λ e. e) (subst (Answers words held old new) is a)
 
-  pub too_long_only : (result : Status) → Answers words held old new result → (which : Which) → result ≡ TooLong which → Sourced words held IsTooLong
+  pub too_long_only : (result : Status) → Answers words held old new result → (which : Which) → result ≡ TooLong which → Sourced words held IsLongSource
   too_long_only result a Source is = refusal_alone (TooLong Source) (λ e. e) (subst (Answers words held old new) is a)
 
   pub source_refused_only : (result : Status) → Answers words held old new result → (line column : ℕ) (kind : SourceKind) → result ≡ SourceRefused line column kind → Sourced words held (HoldsRefused (record { line = line; column = column; kind = kind }))
@@ -114,21 +114,21 @@ module _ (words : List (List ℕ)) (held : Option Held) (old new : Option (List 
   told_accepted P T t none = let bad : Some t.wanted ≡ None = sym t.accepted ∙ none in cc
 
   -- a source that a run has is within the limit, and a program
-  ran_told : (status : Status) (Q : List ℕ → Type 0) → Prints words held old new status (λ p printed. EndSays p printed (answer_of status)) → IsTold words held Q → (program : ProgramTree) × ((source : List ℕ) × HoldsProgram program source × Q source)
+  ran_told : (status : Status) (Q : List ℕ → Type 0) → Prints words held old new status (λ p printed. EndSays p printed (answer_of status)) → IsTold words held Q → (program : CheckedProgram) × ((source : List ℕ) × HoldsProgram program source × Q source)
   ran_told status Q p t = (p.program, both_told words held _ Q p.source t)
 
-  long_ran : (T : Type 0) (status : Status) → Prints words held old new status (λ p printed. EndSays p printed (answer_of status)) → IsTold words held IsTooLong → T
-  long_ran T status p t = let told = ran_told status IsTooLong p t in absurd (omega (arith, told.1.1.0, told.1.2))
+  long_ran : (T : Type 0) (status : Status) → Prints words held old new status (λ p printed. EndSays p printed (answer_of status)) → IsTold words held IsLongSource → T
+  long_ran T status p t = let told = ran_told status IsLongSource p t in absurd (omega (arith, told.1.1.0, told.1.2))
 
   -- a source past the limit
-  pub too_long : (result : Status) → Answers words held old new result → IsTold words held IsTooLong → IsOrFailed (TooLong Source) result
+  pub too_long : (result : Status) → Answers words held old new result → IsTold words held IsLongSource → IsOrFailed (TooLong Source) result
   too_long (TooLong Source) a t = inl refl
   too_long (ReadFault Source) a t = inr (inl refl)
   too_long WriteFault a t = inr (inr (inl refl))
   too_long NoMemory a t = inr (inr (inr refl))
   too_long WordsRefused a t = told_accepted _ _ t (refusal_alone WordsRefused (λ e. e) a)
   too_long (SourceRefused line column kind) a t =
-      let told = both_told words held _ IsTooLong (refusal_alone (SourceRefused line column kind) (λ e. e) a) t in absurd (omega (arith, told.1.0, told.2))
+      let told = both_told words held _ IsLongSource (refusal_alone (SourceRefused line column kind) (λ e. e) a) t in absurd (omega (arith, told.1.0, told.2))
   too_long (Finished n) a t = long_ran _ (Finished n) (run_alone (Finished n) (λ r. r) a) t
   too_long (Contradictory state clash) a t = long_ran _ (Contradictory state clash) (run_alone (Contradictory state clash) (λ r. r) a) t
   too_long (Undetermined state cell) a t = long_ran _ (Undetermined state cell) (run_alone (Undetermined state cell) (λ r. r) a) t
@@ -154,7 +154,7 @@ module _ (words : List (List ℕ)) (held : Option Held) (old new : Option (List 
   source_refused NoMemory a refused t = inr (inr (inr refl))
   source_refused WordsRefused a refused t = told_accepted _ _ t (refusal_alone WordsRefused (λ e. e) a)
   source_refused (TooLong Source) a refused t =
-      let told = both_told words held IsTooLong (HoldsRefused refused) (refusal_alone (TooLong Source) (λ e. e) a) t in absurd (omega (arith, told.1, told.2.0))
+      let told = both_told words held IsLongSource (HoldsRefused refused) (refusal_alone (TooLong Source) (λ e. e) a) t in absurd (omega (arith, told.1, told.2.0))
   source_refused (Finished n) a refused t = refused_ran _ (Finished n) refused (run_alone (Finished n) (λ r. r) a) t
   source_refused (Contradictory state clash) a refused t = refused_ran _ (Contradictory state clash) refused (run_alone (Contradictory state clash) (λ r. r) a) t
   source_refused (Undetermined state cell) a refused t = refused_ran _ (Undetermined state cell) refused (run_alone (Undetermined state cell) (λ r. r) a) t
@@ -167,7 +167,7 @@ module _ (words : List (List ℕ)) (held : Option Held) (old new : Option (List 
   source_refused (NestLimit state) a refused t = refused_ran _ (NestLimit state) refused (run_alone (NestLimit state) (λ r. r) a) t
 
   -- a source that is a program
-  pub program_runs : (program : ProgramTree) (result : Status) → Answers words held old new result → IsTold words held (HoldsProgram program) → IsEndOfRun result ⊎ HasFailed result
+  pub program_runs : (program : CheckedProgram) (result : Status) → Answers words held old new result → IsTold words held (HoldsProgram program) → IsEndOfRun result ⊎ HasFailed result
   program_runs program (Finished n) a t = inl tt
   program_runs program (Contradictory state clash) a t = inl tt
   program_runs program (Undetermined state cell) a t = inl tt
@@ -183,7 +183,7 @@ module _ (words : List (List ℕ)) (held : Option Held) (old new : Option (List 
   program_runs program NoMemory a t = inr (inr (inr refl))
   program_runs program WordsRefused a t = told_accepted _ _ t (refusal_alone WordsRefused (λ e. e) a)
   program_runs program (TooLong Source) a t =
-      let told = both_told words held IsTooLong (HoldsProgram program) (refusal_alone (TooLong Source) (λ e. e) a) t in absurd (omega (arith, told.1, told.2.0))
+      let told = both_told words held IsLongSource (HoldsProgram program) (refusal_alone (TooLong Source) (λ e. e) a) t in absurd (omega (arith, told.1, told.2.0))
   program_runs program (SourceRefused line column kind) a t =
       let told = both_told words held _ (HoldsProgram program) (refusal_alone (SourceRefused line column kind) (λ e. e) a) t in
       absurd (program_or_refused told.0 program (record { line = line; column = column; kind = kind }) told.2.1 told.1.1)

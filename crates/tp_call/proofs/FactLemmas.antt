@@ -13,12 +13,12 @@ use Rattle.tp_scene.proofs.Globals.{of_variables_in, in_of_variables}
 use Rattle.tp_run.specs.declared.turn.Picture.{Picture}
 use Rattle.tp_run.specs.declared.turn.Turn.{Turn}
 use Rattle.tp_run.specs.declared.turn.Turn.TheVariants as turn
-use Rattle.tp_run.specs.States.{Plan, setting, AreGlobals, Standing, open_at, answered, spent, Answers}
+use Rattle.tp_run.specs.States.{Plan, setting, AreGlobals, Standing, open_at, answered, spent, AnswersState}
 use Rattle.tp_run.specs.Runs.{StandsReady}
 use Rattle.tp_run.proofs.StatesMean.{leads_ready}
 use Rattle.tp_run.proofs.Given.{scene_laws}
 use Rattle.tp_call.specs.Line.{AreFactsOf}
-use Rattle.tp_call.specs.Places.{IsOpen}
+use Rattle.tp_call.specs.Places.{StandsOpen}
 use Rattle.tp_call.specs.Progress.{is_settled}
 
 -- whether each variable of these names is static
@@ -53,7 +53,7 @@ facts_are names kept facts fits are = record {
 }
 
 -- the facts of a state that is settled
-pub settled_facts : (plan : Plan) (from to : Standing) (n m : ℕ) (old new : Picture) (answer : Turn) → StandsReady plan n from → IsOpen from → Answers plan from n old new to m answer → is_settled answer ≡ true → AreFactsOf plan.names new.facts
+pub settled_facts : (plan : Plan) (from to : Standing) (n m : ℕ) (old new : Picture) (answer : Turn) → StandsReady plan n from → StandsOpen from → AnswersState plan from n old new to m answer → is_settled answer ≡ true → AreFactsOf plan.names new.facts
 settled_facts plan (answered last) to n m old new answer r o a s = absurd o
 settled_facts plan spent to n m old new answer r o a s = absurd o
 settled_facts plan (open_at moment) to n m old new turn.Went r o a s =

@@ -7,12 +7,12 @@ use Rattle.tp_value.specs.declared.value.Shape.{Shape}
 use Rattle.tp_value.specs.declared.path.Path.{Path}
 use Rattle.tp_value.specs.declared.path.Fact.{Fact}
 use Rattle.tp_store.specs.Facts.{same_path, clash, kept_shape}
-use Rattle.tp_store.specs.Known.{Contents, Variable, NoClash, meets, is_none, earlier_of, first_clash, adds, refuses, refused_or, addition, Full, full, IsVariableOf, AreOfVariables, global_variable}
-use Rattle.tp_store.specs.Changes.{HaveSameShapes, HasAdded, IsSound}
+use Rattle.tp_store.specs.Known.{Contents, Variable, NoClash, clashes_with_some, is_none, earlier_of, first_clash, adds, refuses, refused_or, addition, Full, full, IsVariableOf, AreOfVariables, global_variable}
+use Rattle.tp_store.specs.Changes.{HaveSameShapes, AddsFacts, IsSoundStore}
 use Rattle.tp_store.proofs.Paths.{same_path-sym, clash-sym}
 use Rattle.tp_store.proofs.Members.{In, in_left, in_right, kept_in, in_kept, kept_none, none_kept, meets_none, none_meets}
 use Rattle.tp_store.proofs.Same.{AgreeAt, same_full}
-use Rattle.tp_call.specs.Line.{AreFactsOf, is_written, is_value, known_text, parts_after, IsNew, Keeps}
+use Rattle.tp_call.specs.Line.{AreFactsOf, is_written, is_value, known_text, parts_after, IsFreshFact, Keeps}
 
 -- what one list has, the other has that gives each path the same shape
 in_same : (fs gs : List Fact) (f : Fact) → NoClash fs → HaveSameShapes fs gs → In f fs → In f gs
@@ -43,7 +43,7 @@ NoClash-before (x ∷ xs) ys n = (
 )
 
 -- so the next fact is new to a store of those before it
-pub is_new : (names : List (List ℕ)) (store : Contents) (xs : List Fact) (f : Fact) (ys : List Fact) → NoClash (xs ++ f ∷ ys) → Keeps names store xs → IsNew store.facts f
+pub is_new : (names : List (List ℕ)) (store : Contents) (xs : List Fact) (f : Fact) (ys : List Fact) → NoClash (xs ++ f ∷ ys) → Keeps names store xs → IsFreshFact store.facts f
 is_new names store xs f ys n k =
     let before = before_path xs f ys n in
     let apart = NoClash-before xs (f ∷ ys) n in
@@ -56,26 +56,26 @@ pub is_variable : (xs : List Variable) (before : List Fact) (f : Fact) (ys : Lis
 is_variable xs [] f ys h = h.0
 is_variable xs (g ∷ before) f ys h = is_variable xs before f ys h.1
 
-no_first : (kept : List Fact) (f : Fact) → meets kept f ≡ false → first_clash kept f ≡ None
+no_first : (kept : List Fact) (f : Fact) → clashes_with_some kept f ≡ false → first_clash kept f ≡ None
 no_first [] f h = refl
 no_first (g ∷ gs) f h =
-    let parts = or_parts (clash g f) (meets gs f) h in
+    let parts = or_parts (clash g f) (clashes_with_some gs f) h in
     ap (λ b. cond b (Some (earlier_of g (first_clash gs f))) (first_clash gs f)) parts.0 ∙ no_first gs f parts.1
 
 -- a new fact is added
-pub adds_new : (kept : List Fact) (f : Fact) → IsNew kept f → addition kept (f ∷ []) ≡ adds (f ∷ [])
+pub adds_new : (kept : List Fact) (f : Fact) → IsFreshFact kept f → addition kept (f ∷ []) ≡ adds (f ∷ [])
 adds_new kept f h =
     ap (λ o. refused_or o f (adds (cond (is_none (kept_shape kept f.path)) (f ∷ []) []))) (no_first kept f h.apart)
     ∙ ap (λ o. adds (cond (is_none o) (f ∷ []) [])) h.path
 
-pub never_refused : (kept : List Fact) (f old new : Fact) → IsNew kept f → addition kept (f ∷ []) ≡ refuses old new → ⊥
+pub never_refused : (kept : List Fact) (f old new : Fact) → IsFreshFact kept f → addition kept (f ∷ []) ≡ refuses old new → ⊥
 never_refused kept f old new h e = let good = adds_new kept f h in cc
 
-pub one_added : (old new : Contents) (f : Fact) (news : List Fact) → IsNew old.facts f → addition old.facts (f ∷ []) ≡ adds news → HasAdded old news new → HasAdded old (f ∷ []) new
+pub one_added : (old new : Contents) (f : Fact) (news : List Fact) → IsFreshFact old.facts f → addition old.facts (f ∷ []) ≡ adds news → AddsFacts old news new → AddsFacts old (f ∷ []) new
 one_added old new f news h e a =
     let good = adds_new old.facts f h in
     let same : news ≡ f ∷ [] = cc in
-    subst (λ l. HasAdded old l new) same a
+    subst (λ l. AddsFacts old l new) same a
 
 -- the first of two shapes
 abbrev first_of : Option Shape → Option Shape → Option Shape
@@ -90,7 +90,7 @@ kept_append fs gs zs p e = after fs zs p ∙ (ap (λ o. first_of o (kept_shape z
       let P : Bool → Type 0 = λ b. cond b (Some f.shape) (kept_shape (fs ++ zs) p) ≡ first_of (cond b (Some f.shape) (kept_shape fs p)) (kept_shape zs p) in
       elim (same_path f.path p) as P [ true ↦ refl | false ↦ after fs zs p ]
 
-pub Keeps-more : (names : List (List ℕ)) (old new : Contents) (xs : List Fact) (f : Fact) → Keeps names old xs → HasAdded old (f ∷ []) new → IsSound new → Keeps names new (xs ++ f ∷ [])
+pub Keeps-more : (names : List (List ℕ)) (old new : Contents) (xs : List Fact) (f : Fact) → Keeps names old xs → AddsFacts old (f ∷ []) new → IsSoundStore new → Keeps names new (xs ++ f ∷ [])
 Keeps-more names old new xs f k a s = record {
   variables = a.variables ∙ k.variables;
   shapes = λ p. a.shapes p ∙ kept_append old.facts xs (f ∷ []) p (k.shapes p);
@@ -104,7 +104,7 @@ Keeps-none names store e = subst (λ s. Keeps names s []) (sym e) (record { vari
 at_place : (facts : List Fact) (i : ℕ) (f : Fact) → i < length facts → f ≡ get_or facts i f → take i facts ++ f ∷ drop (suc i) facts ≡ facts
 at_place facts i f h e = ap (λ (g : Fact). take i facts ++ g ∷ drop (suc i) facts) e ∙ (ap (λ l. take i facts ++ l) (sym (drop-cons facts i f h)) ∙ take-append-drop i facts)
 
-pub next_new : (names : List (List ℕ)) (store : Contents) (facts : List Fact) (i : ℕ) (f : Fact) → AreFactsOf names facts → i < length facts → f ≡ get_or facts i f → Keeps names store (take i facts) → IsNew store.facts f
+pub next_new : (names : List (List ℕ)) (store : Contents) (facts : List Fact) (i : ℕ) (f : Fact) → AreFactsOf names facts → i < length facts → f ≡ get_or facts i f → Keeps names store (take i facts) → IsFreshFact store.facts f
 next_new names store facts i f a h e k = is_new names store (take i facts) f (drop (suc i) facts) (subst NoClash (sym (at_place facts i f h e)) a.no_clash) k
 
 pub next_variable : (names : List (List ℕ)) (store : Contents) (facts : List Fact) (i : ℕ) (f : Fact) → AreFactsOf names facts → i < length facts → f ≡ get_or facts i f → Keeps names store (take i facts)
@@ -113,7 +113,7 @@ next_variable names store facts i f a h e k =
     let globals = is_variable (map global_variable names) (take i facts) f (drop (suc i) facts) (subst (AreOfVariables (map global_variable names)) (sym (at_place facts i f h e)) a.of_variables) in
     subst (λ xs. IsVariableOf xs f.path.var) (sym k.variables) globals
 
-pub next_keeps : (names : List (List ℕ)) (old new : Contents) (facts : List Fact) (i : ℕ) (f : Fact) → i < length facts → f ≡ get_or facts i f → Keeps names old (take i facts) → HasAdded old (f ∷ []) new → IsSound new
+pub next_keeps : (names : List (List ℕ)) (old new : Contents) (facts : List Fact) (i : ℕ) (f : Fact) → i < length facts → f ≡ get_or facts i f → Keeps names old (take i facts) → AddsFacts old (f ∷ []) new → IsSoundStore new
     → Keeps names new (take (i + 1) facts)
 next_keeps names old new facts i f h e k a s =
     let more : take (suc i) facts ≡ take i facts ++ f ∷ [] = take-suc facts i f h ∙ ap (λ (g : Fact). take i facts ++ g ∷ []) (sym e) in

@@ -13,7 +13,7 @@ use Rattle.tp_value.specs.declared.path.Fact.{Fact}
 use Rattle.tp_value.specs.declared.value.Shape.{Shape}
 use Rattle.tp_value.specs.declared.value.Shape.TheVariants.{Num, Truth, Items}
 use Rattle.tp_store.specs.Known.{Full, absent, undecided, too_long, value, full, Variable, IsVariableOf, global_variable}
-use Rattle.tp_call.specs.Texts.{name_of, index_text, path_text, shaped_text}
+use Rattle.tp_call.specs.Texts.{global_name, index_text, path_text, shaped_text}
 use Rattle.tp_call.specs.Line.{is_written, is_value, known_text, parts_after}
 use Rattle.tp_call.specs.ReadBack.{is_word_byte, AreNames, FitsIn64Bits}
 use Rattle.tp_call.proofs.ReadWordLemmas.{EndsWord, word_read, decimal_is_word, rest_is, heads_apart}
@@ -131,8 +131,8 @@ path_read c apart end names p q r s are h k e =
     let n = q.var.number in
     let low = named names m p.var.lasting h.variable in
     let high = named names n q.var.lasting k.variable in
-    let pieces = sym (append_assoc (name_of names m) (flat_map index_text p.at) (c ∷ r)) ∙ (e ∙ append_assoc (name_of names n) (flat_map index_text q.at) (c ∷ s)) in
-    let name = word_read (name_of names m) (name_of names n) _ _ (are.words m low) (are.words n high) (indices_end p.at c r end) (indices_end q.at c s end) pieces in
+    let pieces = sym (append_assoc (global_name names m) (flat_map index_text p.at) (c ∷ r)) ∙ (e ∙ append_assoc (global_name names n) (flat_map index_text q.at) (c ∷ s)) in
+    let name = word_read (global_name names m) (global_name names n) _ _ (are.words m low) (are.words n high) (indices_end p.at c r end) (indices_end q.at c s end) pieces in
     let at = indices_read c apart p.at q.at r s h.indices k.indices name.1 in
     let make : VarId → List ℕ → Path = λ x is. record { var = x; at = is } in
     (ap₂ make (one_variable (map global_variable names) p.var q.var h.variable k.variable (are.apart m n low high name.0)) at.0, at.1)
@@ -149,7 +149,7 @@ measured_is names p n r = bars (path_text names p) (decimal n) r where
 -- a place begins with no `|`
 place_apart : (names : List (List ℕ)) (p : Path) (r xs : List ℕ) → AreNames names → IsPlace names p → path_text names p ++ (61 ∷ r) ≡ 124 ∷ xs → ⊥
 place_apart names p r xs are h e =
-    let name = name_of names p.var.number in
+    let name = global_name names p.var.number in
     let low = named names p.var.number p.var.lasting h.variable in
     let read = word_read name [] _ (124 ∷ xs) (are.words p.var.number low) tt (indices_end p.at 61 r refl) refl (sym (append_assoc name (flat_map index_text p.at) (61 ∷ r)) ∙ e) in
     indices_apart p.at read.1

@@ -9,7 +9,7 @@ use Rattle.tp_call.specs.declared.status.Status.TheVariants.{Finished, Contradic
 use Rattle.tp_call.specs.Line.{parts_text, state_line, state_lines}
 use Rattle.tp_call.specs.EndLine.{end_line}
 use Rattle.tp_call.specs.Answer.{IsEndOfRun}
-use Rattle.tp_call.specs.ReadBack.{AreNames, IsStateOf, shown}
+use Rattle.tp_call.specs.ReadBack.{AreNames, IsStateOf, shown_states}
 use Rattle.tp_call.proofs.ReadWordLemmas.{word_read, decimal_is_word, rest_is, head_is, decimal_low, low_apart}
 use Rattle.tp_call.proofs.PartLemmas.{parts_from, parts_say, parts_read}
 use Rattle.tp_call.proofs.ToldLemmas.{same_facts, all_written}
@@ -42,7 +42,7 @@ end_apart names (StateLimit n) p r low h e = low_apart (decimal p.state) _ _ 108
 end_apart names s p r low h e = absurd h
 
 pub text_read : (names : List (List ℕ)) (ps qs : List Picture) (s t : Status) → AreNames names → All (IsStateOf names) ps → All (IsStateOf names) qs → IsEndOfRun s → IsEndOfRun t
-    → state_lines names ps ++ end_line names s ≡ state_lines names qs ++ end_line names t → (shown ps ≡ shown qs) × (end_line names s ≡ end_line names t)
+    → state_lines names ps ++ end_line names s ≡ state_lines names qs ++ end_line names t → (shown_states ps ≡ shown_states qs) × (end_line names s ≡ end_line names t)
 text_read names [] [] s t are n m h k e = (refl, e)
 text_read names [] (q ∷ qs) s t are n m h k e = absurd (end_apart names s q _ (All-head (IsStateOf names) q qs m).state h (e ∙ append_assoc (state_line names q) _ _))
 text_read names (p ∷ ps) [] s t are n m h k e = absurd (end_apart names t p _ (All-head (IsStateOf names) p ps n).state k (sym e ∙ append_assoc (state_line names p) _ _))

@@ -1,9 +1,10 @@
 -- A source that is refused.
 use Rattle.std.proofs.Common.{◌≡◌, ◌≢◌, ◌≤◌, inl, inr, ℕ, List, length, Option, None, Some, Err, refl, sym, subst}
+use Rattle.tp_lex.specs.Place.{source_limit}
 use Rattle.tp_io.specs.Devices.{Held, bytes_of}
 use Rattle.tp_call.specs.declared.status.Status.{Status}
 use Rattle.tp_call.specs.Words.{Wanted, wanted_of}
-use Rattle.tp_call.specs.Answer.{WhereTold, source_limit, HoldsRefused, Sourced, Refuses}
+use Rattle.tp_call.specs.Answer.{WhereTold, HoldsRefused, Sourced, Refuses}
 use Rattle.tp_call.specs.declared.refused.Refused.{Refused}
 use Rattle.tp_lex.specs.declared.token.Token.{Token}
 use Rattle.tp_lex.specs.declared.refusal.LexRefusal.{LexRefusal}
@@ -13,12 +14,12 @@ use Rattle.tp_tree.specs.Tree.{SourceTree}
 use Rattle.tp_parse.specs.declared.refusal.ParseRefusal.{ParseRefusal}
 use Rattle.tp_parse.specs.declared.refusal.ParseRefusal.TheVariants as parse
 use Rattle.tp_parse.specs.Grammar.{Accepts}
-use Rattle.tp_parse.specs.Source.{outcome_of}
+use Rattle.tp_parse.specs.Source.{parse_outcome}
 use Rattle.tp_check.specs.Program.{program_of}
 use Rattle.tp_check.specs.declared.refusal.CheckRefusal.{CheckRefusal}
 use Rattle.tp_check.specs.declared.refusal.CheckRefusal.TheVariants as check
 use Rattle.tp_call.specs.Source.{IsRefusedAt, lexer_refusal, parser_refusal, checker_refusal}
-use Rattle.tp_call.specs.Parts.{refusal_end, IsReadRefusal, IsRefusal}
+use Rattle.tp_call.specs.Parts.{refusal_end, IsReadRefusal, IsProgramRefusal}
 
 -- the source is what was read
 sourced : (words : List (List ℕ)) (held : Option Held) (wanted : Wanted) (source : List ℕ) (refused : Refused) → wanted_of words ≡ Some wanted → length source ≤ source_limit
@@ -30,7 +31,7 @@ sourced words held wanted source refused accepted short told cause = record {
 }
 
 pub refused_source : (words : List (List ℕ)) (held : Option Held) (wanted : Wanted) (source : List ℕ) (status : Status) → wanted_of words ≡ Some wanted → length source ≤ source_limit
-    → WhereTold held (λ files. source ≡ bytes_of files wanted.file) → IsReadRefusal source status → IsRefusal words held status
+    → WhereTold held (λ files. source ≡ bytes_of files wanted.file) → IsReadRefusal source status → IsProgramRefusal words held status
 refused_source words held wanted source status accepted short told (inl memory) = inl memory
 refused_source words held wanted source status accepted short told (inr (refused, is, cause)) =
     inr (subst (Refuses words held) (sym is) (sourced words held wanted source refused accepted short told cause))
@@ -47,7 +48,7 @@ no_tokens source (lex.NumberTooLarge at) g r is = inl (record { refusal = lex.Nu
 no_tokens source (lex.NameTooLong at) g r is = inl (record { refusal = lex.NameTooLong at; is_refused = g; answer = is })
 no_tokens source lex.NoMemory g r is = absurd (cc (is))
 
-pub no_tree : (source : List ℕ) (tokens : List Token) (refusal : ParseRefusal) → AreTokens source tokens → (refusal ≢ parse.NoMemory → outcome_of tokens ≡ Err refusal)
+pub no_tree : (source : List ℕ) (tokens : List Token) (refusal : ParseRefusal) → AreTokens source tokens → (refusal ≢ parse.NoMemory → parse_outcome tokens ≡ Err refusal)
     → (r : Refused) → parser_refusal source tokens refusal ≡ Some r → IsRefusedAt source r
 no_tree source tokens (parse.Unexpected i) are g r is = inr (inl (record { tokens = tokens; refusal = parse.Unexpected i; are_tokens = are; outcome = g (λ e. cc (e)); answer = is }))
 no_tree source tokens parse.Unfinished are g r is = inr (inl (record { tokens = tokens; refusal = parse.Unfinished; are_tokens = are; outcome = g (λ e. cc (e)); answer = is }))

@@ -26,7 +26,7 @@ use Rattle.tp_store.proofs.Chosen.{has_agreeing_state}
 use Rattle.tp_scene.proofs.Globals.{of_variables_in}
 use Rattle.tp_run.specs.States.{is_before, AreInOrder}
 use Rattle.tp_run.proofs.FactOrder.{is_before-order}
-use Rattle.tp_call.specs.Line.{AreFactsOf, goes_on, is_inside, is_written, is_value}
+use Rattle.tp_call.specs.Line.{AreFactsOf, is_deeper, is_inside, is_written, is_value}
 use Rattle.tp_call.specs.ReadBack.{IsShapeInRange, IsFactInRange}
 use Rattle.tp_call.proofs.PartLemmas.{LinePart, valued, measured, shape_part, known_part, parts_from, IsPlace, IsPart, ArePartsOf}
 
@@ -72,7 +72,7 @@ value_tells names all p t f rest are k i e =
 -- what is inside of a path stands beyond it
 inside_beyond : (p q : Path) → is_inside p q ≡ true → (rest : List ℕ) × (q ≡ beyond p rest)
 inside_beyond p q h =
-    let parts = and_parts (same_variable p.var q.var) (goes_on p.at q.at) h in
+    let parts = and_parts (same_variable p.var q.var) (is_deeper p.at q.at) h in
     let begins = (and_parts _ (starts_with eqb q.at p.at) parts.1).1 in
     let rest = drop (length p.at) q.at in
     let at : q.at ≡ p.at ++ rest = (starts_is Decides-eqb q.at p.at (starts_with eqb q.at p.at) refl).0 begins in

@@ -8,17 +8,17 @@ use Rattle.tp_kernel.specs.declared.formula.LimitKind.TheVariants as limit
 use Rattle.tp_run.specs.declared.turn.Picture.{Picture}
 use Rattle.tp_run.specs.declared.turn.Turn.{Turn}
 use Rattle.tp_run.specs.declared.turn.Turn.TheVariants as turn
-use Rattle.tp_run.specs.States.{Plan, Answers}
+use Rattle.tp_run.specs.States.{Plan, AnswersState}
 use Rattle.tp_call.specs.declared.status.Status.{Status}
 use Rattle.tp_call.specs.declared.status.Status.TheVariants.{Finished, Contradictory, Undetermined, StateLimit, ReductionLimit, NumberLimit, ListLimit, CallLimit, NestLimit, InputMissing, SourceRefused, WordsRefused, TooLong, ReadFault, WriteFault, NoMemory}
 use Rattle.tp_call.specs.Line.{state_line}
 use Rattle.tp_call.specs.Run.{status_of, limit_end}
 use Rattle.tp_call.specs.Answer.{IsEndOfRun}
 use Rattle.tp_call.specs.Written.{Wrote}
-use Rattle.tp_call.specs.Progress.{Place, Turned, is_settled, line_of, AnswerMade, TurnMade}
+use Rattle.tp_call.specs.Progress.{RunPlace, Turned, is_settled, line_of, AnswerMade, TurnMade}
 
 -- the call gives this answer, and what was to be written of it was
-module _ (plan : Plan) (names : List (List ℕ)) (from to : Place) (answer : Turn) (earlier picture : Picture) (answers : Answers plan from.standing from.state earlier picture to.standing to.state answer) (before : Option (List ℕ)) where
+module _ (plan : Plan) (names : List (List ℕ)) (from to : RunPlace) (answer : Turn) (earlier picture : Picture) (answers : AnswersState plan from.standing from.state earlier picture to.standing to.state answer) (before : Option (List ℕ)) where
   pub answer_made : (after : Option (List ℕ)) (status : Option Status) → status ≡ status_of answer → Wrote before after (line_of names answer picture) → AnswerMade plan names from to before after status
   answer_made after status is wrote = record { answer = answer; status_is = is; picture = picture; turned = record { earlier = earlier; answers = answers }; wrote = wrote }
 
@@ -30,7 +30,7 @@ module _ (plan : Plan) (names : List (List ℕ)) (from to : Place) (answer : Tur
   write_stopped after sink.NoMemory settled wrote = wrote
 
 -- an answer that has no status goes on, and its state's line was written
-pub went_on : (plan : Plan) (names : List (List ℕ)) (from to : Place) (before after : Option (List ℕ)) (answer : Turn) (picture : Picture) → Turned plan from to answer picture → None ≡ status_of answer → Wrote before after (line_of names answer picture)
+pub went_on : (plan : Plan) (names : List (List ℕ)) (from to : RunPlace) (before after : Option (List ℕ)) (answer : Turn) (picture : Picture) → Turned plan from to answer picture → None ≡ status_of answer → Wrote before after (line_of names answer picture)
     → Turned plan from to turn.Went picture × Wrote before after (state_line names picture)
 went_on plan names from to before after turn.Went picture t is wrote = (t, wrote)
 went_on plan names from to before after (turn.Finished length) picture t is wrote = cc

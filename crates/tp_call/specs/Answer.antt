@@ -1,6 +1,7 @@
 -- What a call may answer, and what it writes.
 use Rattle.std.specs.Prelude.{◌≡◌, ◌⊎◌, ◌≤◌, ◌<◌, ◌+◌, ℕ, List, [], ◌++◌, length, take, Option, None, Some}
 use Rattle.std.specs.Option.{option_map}
+use Rattle.tp_lex.specs.Place.{source_limit}
 use Rattle.tp_io.specs.Devices.{Held, bytes_of}
 use Rattle.tp_run.specs.declared.turn.Picture.{Picture}
 use Rattle.tp_run.specs.States.{Plan}
@@ -13,16 +14,13 @@ use Rattle.tp_call.specs.declared.status.Which.TheVariants.{Source}
 use Rattle.tp_call.specs.Words.{Wanted, wanted_of, files_of}
 use Rattle.tp_call.specs.Line.{state_lines}
 use Rattle.tp_call.specs.EndLine.{end_line}
-use Rattle.tp_check.specs.Program.{ProgramTree}
+use Rattle.tp_check.specs.Program.{CheckedProgram}
 use Rattle.tp_call.specs.Run.{plan_of, EndSays, RunEnds, Settles}
 use Rattle.tp_call.specs.Written.{Wrote}
 
 -- where the value is told, it has P
 abbrev pub WhereTold : {X : Type 0} → Option X → (X → Type 0) → Type 0
 WhereTold {X} told P = (x : X) → told ≡ Some x → P x
-
-abbrev pub source_limit : ℕ
-source_limit = 1048576
 
 -- The words are accepted and name a file; where the files tell what it holds, that has P.
 pub record Sourced (words : List (List ℕ)) (held : Option Held) (P : List ℕ → Type 0) : Type 0 where
@@ -31,19 +29,19 @@ pub record Sourced (words : List (List ℕ)) (held : Option Held) (P : List ℕ 
   pub source : WhereTold held (λ files. P (bytes_of files wanted.file))
 
 -- the source has at most so many bytes, and is this program
-abbrev pub HoldsProgram : ProgramTree → List ℕ → Type 0
+abbrev pub HoldsProgram : CheckedProgram → List ℕ → Type 0
 HoldsProgram program source = (length source ≤ source_limit) × IsProgram source program
 
 -- the source has at most so many bytes, and is refused there for this cause
 abbrev pub HoldsRefused : Refused → List ℕ → Type 0
 HoldsRefused refused source = (length source ≤ source_limit) × IsRefusedAt source refused
 
-abbrev pub IsTooLong : List ℕ → Type 0
-IsTooLong source = source_limit < length source
+abbrev pub IsLongSource : List ℕ → Type 0
+IsLongSource source = source_limit < length source
 
 -- a run of the source's program ends with this status, and the text is that of its settled states with the end line
 pub record RunsTo (words : List (List ℕ)) (held : Option Held) (status : Status) (text : List ℕ) : Type 0 where
-  pub program : ProgramTree
+  pub program : CheckedProgram
   pub pictures : List Picture
   pub source : Sourced words held (HoldsProgram program)
   pub run : RunEnds program pictures status
@@ -54,7 +52,7 @@ pub record RunsTo (words : List (List ℕ)) (held : Option Held) (status : Statu
 abbrev pub Refuses : List (List ℕ) → Option Held → Status → Type 0
 Refuses words held (SourceRefused line column kind) = Sourced words held (HoldsRefused (record { line = line; column = column; kind = kind }))
 Refuses words held WordsRefused = wanted_of words ≡ None
-Refuses words held (TooLong Source) = Sourced words held IsTooLong
+Refuses words held (TooLong Source) = Sourced words held IsLongSource
 Refuses words held (ReadFault Source) = Sourced words held (λ source. Unit {0})
 Refuses words held (Finished length) = ⊥
 Refuses words held (Contradictory state clash) = ⊥
@@ -70,32 +68,32 @@ Refuses words held WriteFault = ⊥
 Refuses words held NoMemory = ⊥
 
 -- A call ends with this status and has written this text: that of a run, or the end line of a refusal alone.
-abbrev pub Ends : List (List ℕ) → Option Held → Status → List ℕ → Type 0
-Ends words held status text = RunsTo words held status text ⊎ (Refuses words held status × (text ≡ end_line [] status))
+abbrev pub CallEnds : List (List ℕ) → Option Held → Status → List ℕ → Type 0
+CallEnds words held status text = RunsTo words held status text ⊎ (Refuses words held status × (text ≡ end_line [] status))
 
 -- the states of a run of the source's program, and their text
 pub record RunsOn (words : List (List ℕ)) (held : Option Held) (text : List ℕ) : Type 0 where
-  pub program : ProgramTree
+  pub program : CheckedProgram
   pub pictures : List Picture
   pub source : Sourced words held (HoldsProgram program)
   pub run : Settles program pictures
   pub written : text ≡ state_lines program.names pictures
 
 -- the text of no state, or of states of a run, without an end line
-abbrev pub IsPart : List (List ℕ) → Option Held → List ℕ → Type 0
-IsPart words held text = (text ≡ []) ⊎ RunsOn words held text
+abbrev pub IsUnfinishedText : List (List ℕ) → Option Held → List ℕ → Type 0
+IsUnfinishedText words held text = (text ≡ []) ⊎ RunsOn words held text
 
 -- What a call answered and wrote. After a failed write it is a part, from its start, of a text that a call can write;
 -- where memory was wanted it is whole states.
 abbrev pub Answers : List (List ℕ) → Option Held → Option (List ℕ) → Option (List ℕ) → Status → Type 0
-Answers words held old new WriteFault = (text : List ℕ) × (IsPart words held text ⊎ ((status : Status) × Ends words held status text)) × ((kept : ℕ) × Wrote old new (take kept text))
-Answers words held old new NoMemory = (text : List ℕ) × IsPart words held text × Wrote old new text
-Answers words held old new status = (text : List ℕ) × Ends words held status text × Wrote old new text
+Answers words held old new WriteFault = (text : List ℕ) × (IsUnfinishedText words held text ⊎ ((status : Status) × CallEnds words held status text)) × ((kept : ℕ) × Wrote old new (take kept text))
+Answers words held old new NoMemory = (text : List ℕ) × IsUnfinishedText words held text × Wrote old new text
+Answers words held old new status = (text : List ℕ) × CallEnds words held status text × Wrote old new text
 
 -- A run of the source's program ended with this status; the text of its settled states and the end line were appended; and of what is run
 -- and these states P holds.
 pub record Prints (words : List (List ℕ)) (held : Option Held) (old new : Option (List ℕ)) (status : Status) (P : Plan → List Picture → Type 0) : Type 0 where
-  pub program : ProgramTree
+  pub program : CheckedProgram
   pub pictures : List Picture
   pub source : Sourced words held (HoldsProgram program)
   pub run : RunEnds program pictures status

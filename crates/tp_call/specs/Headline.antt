@@ -5,7 +5,7 @@ use Rattle.tp_io.specs.Devices.{Held}
 use Rattle.tp_scene.specs.declared.answer.Cell.{Cell}
 use Rattle.tp_scene.specs.declared.answer.Clash.{Clash}
 use Rattle.tp_run.specs.History.{SatisfiedExactly, Satisfiable, Unsatisfiable, ContinuesEach}
-use Rattle.tp_check.specs.Program.{ProgramTree}
+use Rattle.tp_check.specs.Program.{CheckedProgram}
 use Rattle.tp_call.specs.declared.refused.Refused.{Refused}
 use Rattle.tp_call.specs.declared.status.Status.{Status}
 use Rattle.tp_call.specs.declared.status.Status.TheVariants.{Finished, Contradictory, Undetermined, StateLimit, ReductionLimit, NumberLimit, ListLimit, CallLimit, NestLimit, InputMissing, SourceRefused, WordsRefused, TooLong}
@@ -14,7 +14,7 @@ use Rattle.tp_call.specs.declared.status.Which.{Which}
 use Rattle.tp_call.specs.declared.status.Which.TheVariants.{Source}
 use Rattle.tp_call.specs.Words.{wanted_of}
 use Rattle.tp_call.specs.Run.{ShowNothing, states_limit}
-use Rattle.tp_call.specs.Answer.{HoldsProgram, HoldsRefused, IsTooLong, IsTold, Sourced, Prints, IsOrStopped, IsOrFailed, IsEndOfRun, HasFailed}
+use Rattle.tp_call.specs.Answer.{HoldsProgram, HoldsRefused, IsLongSource, IsTold, Sourced, Prints, IsOrStopped, IsOrFailed, IsEndOfRun, HasFailed}
 use Rattle.tp_call.specs.Parts.{refused_status}
 
 module _ (words : List (List ℕ)) (held : Option Held) (old new : Option (List ℕ)) (result : Status) where
@@ -51,7 +51,7 @@ module _ (words : List (List ℕ)) (held : Option Held) (old new : Option (List 
 module _ (words : List (List ℕ)) (held : Option Held) (result : Status) where
   -- Where the source is a program, its run ends in one of the ways above, unless a read or a write fails or memory is wanted.
   abbrev pub ProgramRuns : Type 0
-  ProgramRuns = (program : ProgramTree) → IsTold words held (HoldsProgram program) → IsEndOfRun result ⊎ HasFailed result
+  ProgramRuns = (program : CheckedProgram) → IsTold words held (HoldsProgram program) → IsEndOfRun result ⊎ HasFailed result
 
   -- The words are refused exactly where they name no file to run.
   pub record WordsRefusedExactly : Type 0 where
@@ -60,8 +60,8 @@ module _ (words : List (List ℕ)) (held : Option Held) (result : Status) where
 
   -- The source is too long exactly where it has more bytes than a source may have.
   pub record TooLongExactly : Type 0 where
-    pub only : (which : Which) → result ≡ TooLong which → Sourced words held IsTooLong
-    pub there : IsTold words held IsTooLong → IsOrFailed (TooLong Source) result
+    pub only : (which : Which) → result ≡ TooLong which → Sourced words held IsLongSource
+    pub there : IsTold words held IsLongSource → IsOrFailed (TooLong Source) result
 
   -- The source is refused exactly where it is no program, there and for the cause that its grammar and the rules of positions name first.
   pub record SourceRefusedExactly : Type 0 where

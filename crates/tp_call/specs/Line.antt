@@ -5,9 +5,9 @@ use Rattle.std.specs.Fmt.{decimal}
 use Rattle.tp_value.specs.Written.{text_of}
 use Rattle.tp_value.specs.declared.path.Path.{Path}
 use Rattle.tp_value.specs.declared.path.Fact.{Fact}
-use Rattle.tp_store.specs.Changes.{IsSound, HaveSameShapes}
+use Rattle.tp_store.specs.Changes.{IsSoundStore, HaveSameShapes}
 use Rattle.tp_store.specs.Facts.{kept_shape, same_variable}
-use Rattle.tp_store.specs.Known.{Contents, Full, absent, undecided, too_long, value, full, meets, NoClash, AreOfVariables, global_variable}
+use Rattle.tp_store.specs.Known.{Contents, Full, absent, undecided, too_long, value, full, clashes_with_some, NoClash, AreOfVariables, global_variable}
 use Rattle.tp_run.specs.declared.turn.Picture.{Picture}
 use Rattle.tp_run.specs.States.{AreInOrder}
 use Rattle.tp_call.specs.Texts.{path_text, fact_text}
@@ -19,12 +19,12 @@ pub record AreFactsOf (names : List (List ℕ)) (facts : List Fact) : Type 0 whe
   pub of_variables : AreOfVariables (map global_variable names) facts
 
 -- the indices begin with these, and go on
-abbrev pub goes_on : (from at : List ℕ) → Bool
-goes_on from at = nat_lt (length from) (length at) && starts_with eqb at from
+abbrev pub is_deeper : (from at : List ℕ) → Bool
+is_deeper from at = nat_lt (length from) (length at) && starts_with eqb at from
 
 -- the path is that of something inside of what stands at the outer path
 abbrev pub is_inside : (outer path : Path) → Bool
-is_inside outer path = same_variable outer.var path.var && goes_on outer.at path.at
+is_inside outer path = same_variable outer.var path.var && is_deeper outer.at path.at
 
 -- it is inside of the last value that was written
 abbrev pub is_written : (last : Option Path) → Path → Bool
@@ -65,12 +65,12 @@ abbrev pub state_lines : List (List ℕ) → List Picture → List ℕ
 state_lines names pictures = flat_map (state_line names) pictures
 
 -- no fact of the list has this one's path or clashes with it
-pub record IsNew (facts : List Fact) (f : Fact) : Type 0 where
+pub record IsFreshFact (facts : List Fact) (f : Fact) : Type 0 where
   pub path : kept_shape facts f.path ≡ None
-  pub apart : meets facts f ≡ false
+  pub apart : clashes_with_some facts f ≡ false
 
 -- The store has the variables of these names, and keeps these facts.
 pub record Keeps (names : List (List ℕ)) (store : Contents) (facts : List Fact) : Type 0 where
   pub variables : store.variables ≡ map global_variable names
   pub shapes : HaveSameShapes store.facts facts
-  pub sound : IsSound store
+  pub sound : IsSoundStore store

@@ -23,11 +23,11 @@ abbrev pub IsReadRefusal : List ℕ → Status → Type 0
 IsReadRefusal source status = (status ≡ NoMemory) ⊎ ((refused : Refused) × (status ≡ refused_status refused) × IsRefusedAt source refused)
 
 -- there is no program for this cause, or memory was wanted
-abbrev pub IsRefusal : List (List ℕ) → Option Held → Status → Type 0
-IsRefusal words held status = (status ≡ NoMemory) ⊎ Refuses words held status
+abbrev pub IsProgramRefusal : List (List ℕ) → Option Held → Status → Type 0
+IsProgramRefusal words held status = (status ≡ NoMemory) ⊎ Refuses words held status
 
 -- what writing the end line of a status answers and appends
-abbrev pub Closes : List (List ℕ) → Status → Option (List ℕ) → Option (List ℕ) → Status → Type 0
-Closes names status old new WriteFault = (kept : ℕ) × Wrote old new (take kept (end_line names status))
-Closes names status old new NoMemory = new ≡ old
-Closes names status old new result = (result ≡ status) × Wrote old new (end_line names status)
+abbrev pub ClosesText : List (List ℕ) → Status → Option (List ℕ) → Option (List ℕ) → Status → Type 0
+ClosesText names status old new WriteFault = (kept : ℕ) × Wrote old new (take kept (end_line names status))
+ClosesText names status old new NoMemory = new ≡ old
+ClosesText names status old new result = (result ≡ status) × Wrote old new (end_line names status)

@@ -6,22 +6,22 @@ use Rattle.tp_scene.specs.Pick.{Moment}
 use Rattle.tp_run.specs.declared.turn.Picture.{Picture}
 use Rattle.tp_run.specs.declared.turn.Turn.{Turn}
 use Rattle.tp_run.specs.declared.turn.Turn.TheVariants as turn
-use Rattle.tp_run.specs.States.{Plan, Standing, open_at, LeadsTo, Answers}
+use Rattle.tp_run.specs.States.{Plan, Standing, open_at, LeadsTo, AnswersState}
 use Rattle.tp_call.specs.declared.status.Status.{Status}
 use Rattle.tp_call.specs.Line.{state_line, state_lines}
 use Rattle.tp_call.specs.Written.{Wrote}
-use Rattle.tp_check.specs.Program.{ProgramTree}
+use Rattle.tp_check.specs.Program.{CheckedProgram}
 use Rattle.tp_call.specs.Run.{plan_of, status_of}
 
 -- where a run stands, and the number of the state that it makes next
-pub record Place : Type 0 where
+pub record RunPlace : Type 0 where
   pub standing : Standing
   pub state : ℕ
 
 -- a call of the run of this plan answers this: it goes from here to there, with this picture
-pub record Turned (plan : Plan) (from to : Place) (answer : Turn) (picture : Picture) : Type 0 where
+pub record Turned (plan : Plan) (from to : RunPlace) (answer : Turn) (picture : Picture) : Type 0 where
   pub earlier : Picture
-  pub answers : Answers plan from.standing from.state earlier picture to.standing to.state answer
+  pub answers : AnswersState plan from.standing from.state earlier picture to.standing to.state answer
 
 -- with this answer a state was settled
 abbrev pub is_settled : Turn → Bool
@@ -38,7 +38,7 @@ abbrev pub line_of : List (List ℕ) → Turn → Picture → List ℕ
 line_of names answer picture = if is_settled answer then state_line names picture else []
 
 -- the call answered this, which was written; and this is the status where the run ends with it
-pub record AnswerMade (plan : Plan) (names : List (List ℕ)) (from to : Place) (before after : Option (List ℕ)) (status : Option Status) : Type 0 where
+pub record AnswerMade (plan : Plan) (names : List (List ℕ)) (from to : RunPlace) (before after : Option (List ℕ)) (status : Option Status) : Type 0 where
   pub answer : Turn
   pub status_is : status ≡ status_of answer
   pub picture : Picture
@@ -46,7 +46,7 @@ pub record AnswerMade (plan : Plan) (names : List (List ℕ)) (from to : Place) 
   pub wrote : Wrote before after (line_of names answer picture)
 
 -- the next state was settled, and a part of its line was written
-pub record PartMade (plan : Plan) (names : List (List ℕ)) (from to : Place) (before after : Option (List ℕ)) : Type 0 where
+pub record PartMade (plan : Plan) (names : List (List ℕ)) (from to : RunPlace) (before after : Option (List ℕ)) : Type 0 where
   pub picture : Picture
   pub answer : Turn
   pub settled : IsTrue (is_settled answer)
@@ -55,13 +55,13 @@ pub record PartMade (plan : Plan) (names : List (List ℕ)) (from to : Place) (b
   pub wrote : Wrote before after (take kept (state_line names picture))
 
 -- what became of the next state: the run answered and wrote, a write failed, or memory was wanted
-abbrev pub TurnMade : Plan → List (List ℕ) → Place → Place → Option (List ℕ) → Option (List ℕ) → Result (Option Status) WriteRefusal → Type 0
+abbrev pub TurnMade : Plan → List (List ℕ) → RunPlace → RunPlace → Option (List ℕ) → Option (List ℕ) → Result (Option Status) WriteRefusal → Type 0
 TurnMade plan names from to before after (Ok status) = AnswerMade plan names from to before after status
 TurnMade plan names from to before after (Err sink.Failed) = PartMade plan names from to before after
 TurnMade plan names from to before after (Err sink.NoMemory) = after ≡ before
 
 -- a run of the program, which stands here, has settled and written some states and goes on
-pub record HasWritten (program : ProgramTree) (now : Place) (before after : Option (List ℕ)) : Type 0 where
+pub record HasWritten (program : CheckedProgram) (now : RunPlace) (before after : Option (List ℕ)) : Type 0 where
   pub pictures : List Picture
   pub next : Moment
   pub stands : now.standing ≡ open_at next
@@ -74,13 +74,13 @@ as_turn (Ok status) = Ok (Some status)
 as_turn (Err refusal) = Err refusal
 
 -- a run of the program settled and wrote some states, and then ended or was stopped
-pub record RunMade (program : ProgramTree) (before after : Option (List ℕ)) (result : Result Status WriteRefusal) : Type 0 where
-  pub from : Place
-  pub to : Place
+pub record RunMade (program : CheckedProgram) (before after : Option (List ℕ)) (result : Result Status WriteRefusal) : Type 0 where
+  pub from : RunPlace
+  pub to : RunPlace
   pub middle : Option (List ℕ)
   pub settled : HasWritten program from before middle
   pub stopped : TurnMade (plan_of program) program.names from to middle after (as_turn result)
 
 -- the same, or memory was wanted before the run
-abbrev pub ProgramMade : ProgramTree → Option (List ℕ) → Option (List ℕ) → Result Status WriteRefusal → Type 0
+abbrev pub ProgramMade : CheckedProgram → Option (List ℕ) → Option (List ℕ) → Result Status WriteRefusal → Type 0
 ProgramMade program before after result = ((result ≡ Err sink.NoMemory) × (after ≡ before)) ⊎ RunMade program before after result

@@ -6,7 +6,7 @@ use Rattle.tp_value.specs.declared.value.Shape.{Shape}
 use Rattle.tp_value.specs.declared.value.Shape.TheVariants.{Num, Truth, Items}
 use Rattle.tp_run.specs.declared.turn.Picture.{Picture}
 use Rattle.tp_call.specs.declared.status.Status.{Status}
-use Rattle.tp_call.specs.Texts.{name_of}
+use Rattle.tp_call.specs.Texts.{global_name}
 use Rattle.tp_call.specs.Line.{AreFactsOf, state_lines}
 use Rattle.tp_call.specs.EndLine.{end_line}
 use Rattle.tp_call.specs.Answer.{IsEndOfRun}
@@ -21,8 +21,8 @@ IsWord (c ∷ cs) = IsTrue (is_word_byte c) × IsWord cs
 
 -- names of variables: each is a word, and none stands twice
 pub record AreNames (names : List (List ℕ)) : Type 0 where
-  pub words : (i : ℕ) → i < length names → IsWord (name_of names i)
-  pub apart : (i j : ℕ) → i < length names → j < length names → name_of names i ≡ name_of names j → i ≡ j
+  pub words : (i : ℕ) → i < length names → IsWord (global_name names i)
+  pub apart : (i j : ℕ) → i < length names → j < length names → global_name names i ≡ global_name names j → i ≡ j
 
 abbrev pub FitsIn64Bits : ℕ → Type 0
 FitsIn64Bits n = n < 2 ^ 64
@@ -49,10 +49,10 @@ pub record Shown : Type 0 where
   pub state : ℕ
   pub facts : List Fact
 
-abbrev pub shown : List Picture → List Shown
-shown pictures = map (λ (p : Picture). record { state = p.state; facts = p.facts }) pictures
+abbrev pub shown_states : List Picture → List Shown
+shown_states pictures = map (λ (p : Picture). record { state = p.state; facts = p.facts }) pictures
 
 -- Two runs with one text have the same states with the same facts, and end in the same words.
 abbrev pub TextShowsStates : Type 0
 TextShowsStates = (names : List (List ℕ)) (ps qs : List Picture) (s t : Status) → AreNames names → All (IsStateOf names) ps → All (IsStateOf names) qs → IsEndOfRun s → IsEndOfRun t
-    → state_lines names ps ++ end_line names s ≡ state_lines names qs ++ end_line names t → (shown ps ≡ shown qs) × (end_line names s ≡ end_line names t)
+    → state_lines names ps ++ end_line names s ≡ state_lines names qs ++ end_line names t → (shown_states ps ≡ shown_states qs) × (end_line names s ≡ end_line names t)

@@ -9,7 +9,7 @@ use Rattle.tp_run.specs.declared.turn.Turn.{Turn}
 use Rattle.tp_run.specs.declared.turn.Turn.TheVariants as turn
 use Rattle.tp_run.specs.States.{Plan, plan_with, LeadsTo}
 use Rattle.tp_run.specs.History.{RunEndsWith, SatisfiedExactly, Satisfiable, Unsatisfiable, ContinuesEach}
-use Rattle.tp_check.specs.Program.{ProgramTree}
+use Rattle.tp_check.specs.Program.{CheckedProgram}
 use Rattle.tp_call.specs.declared.status.Status.{Status}
 use Rattle.tp_call.specs.declared.status.Status.TheVariants.{Finished, Contradictory, Undetermined, StateLimit, ReductionLimit, NumberLimit, ListLimit, CallLimit, NestLimit, InputMissing}
 
@@ -21,7 +21,7 @@ abbrev pub reductions_limit : ℕ
 reductions_limit = 100000
 
 -- What is run of a program: its main formula, with no inputs, for at most so many states of at most so many reductions each.
-abbrev pub plan_of : ProgramTree → Plan
+abbrev pub plan_of : CheckedProgram → Plan
 plan_of program = plan_with program.names program.main [] states_limit reductions_limit
 
 -- the status of a run that passes a limit in this state
@@ -44,18 +44,18 @@ status_of (turn.Over state kind) = Some (limit_end state kind)
 
 -- A run of the program settles states with these pictures and no other, and ends with an answer that has this status. At `Finished` the
 -- last of them is the state that ends.
-pub record RunEnds (program : ProgramTree) (pictures : List Picture) (status : Status) : Type 0 where
+pub record RunEnds (program : CheckedProgram) (pictures : List Picture) (status : Status) : Type 0 where
   pub answer : Turn
   pub status_is : status_of answer ≡ Some status
   pub run : RunEndsWith (plan_of program) pictures answer
 
 -- a run of the program settles these states, and goes on
-abbrev pub GoesOn : ProgramTree → List Picture → Type 0
-GoesOn program pictures = (next : Moment) × LeadsTo (plan_of program) pictures next
+abbrev pub RunGoesOn : CheckedProgram → List Picture → Type 0
+RunGoesOn program pictures = (next : Moment) × LeadsTo (plan_of program) pictures next
 
 -- a run of the program settles these states, and goes on or finishes with the last of them
-abbrev pub Settles : ProgramTree → List Picture → Type 0
-Settles program pictures = GoesOn program pictures ⊎ ((length : ℕ) × RunEnds program pictures (Finished length))
+abbrev pub Settles : CheckedProgram → List Picture → Type 0
+Settles program pictures = RunGoesOn program pictures ⊎ ((length : ℕ) × RunEnds program pictures (Finished length))
 
 -- nothing is shown in these states
 abbrev pub ShowNothing : List Picture → Type 0

@@ -9,8 +9,8 @@ use Rattle.tp_tree.specs.Tree.{SourceTree}
 use Rattle.tp_parse.specs.declared.refusal.ParseRefusal.{ParseRefusal}
 use Rattle.tp_parse.specs.declared.refusal.ParseRefusal.TheVariants as parse
 use Rattle.tp_parse.specs.Grammar.{Accepts}
-use Rattle.tp_parse.specs.Source.{outcome_of}
-use Rattle.tp_check.specs.Program.{ProgramTree, program_of}
+use Rattle.tp_parse.specs.Source.{parse_outcome}
+use Rattle.tp_check.specs.Program.{CheckedProgram, program_of}
 use Rattle.tp_check.specs.declared.refusal.CheckRefusal.{CheckRefusal}
 use Rattle.tp_check.specs.declared.refusal.CheckRefusal.TheVariants as check
 use Rattle.tp_call.specs.declared.status.SourceKind.{SourceKind}
@@ -18,7 +18,7 @@ use Rattle.tp_call.specs.declared.status.SourceKind.TheVariants.{BadByte, OpenCo
 use Rattle.tp_call.specs.declared.refused.Refused.{Refused}
 
 -- This text is this program: its tokens are a source of the grammar, which the checker makes the program.
-pub record IsProgram (source : List ℕ) (program : ProgramTree) : Type 0 where
+pub record IsProgram (source : List ℕ) (program : CheckedProgram) : Type 0 where
   pub tokens : List Token
   pub tree : SourceTree
   pub are_tokens : AreTokens source tokens
@@ -65,7 +65,7 @@ pub record HasNoTree (source : List ℕ) (refused : Refused) : Type 0 where
   pub tokens : List Token
   pub refusal : ParseRefusal
   pub are_tokens : AreTokens source tokens
-  pub outcome : outcome_of tokens ≡ Err refusal
+  pub outcome : parse_outcome tokens ≡ Err refusal
   pub answer : parser_refusal source tokens refusal ≡ Some refused
 
 -- the text is a source of the grammar that isn't run

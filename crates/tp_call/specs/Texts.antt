@@ -14,15 +14,15 @@ use Rattle.tp_scene.specs.declared.answer.Clash.{Clash}
 use Rattle.tp_scene.specs.declared.answer.Clash.TheVariants.{Facts, Marks, False, NoValue}
 
 -- the name of the global variable with that number; a number that no variable has is not written
-abbrev pub name_of : List (List ℕ) → ℕ → List ℕ
-name_of names number = unwrap_or (slice_get names number) []
+abbrev pub global_name : List (List ℕ) → ℕ → List ℕ
+global_name names number = unwrap_or (slice_get names number) []
 
 abbrev pub index_text : ℕ → List ℕ
 index_text i = codes "[" ++ decimal i ++ codes "]"
 
 -- as L[1]
 abbrev pub path_text : List (List ℕ) → Path → List ℕ
-path_text names path = name_of names path.var.number ++ flat_map index_text path.at
+path_text names path = global_name names path.var.number ++ flat_map index_text path.at
 
 abbrev pub truth_text : Bool → List ℕ
 truth_text true = codes "true"

@@ -1,14 +1,15 @@
 // The top call.
 ghost use Rattle.std.specs.Prelude.{◌≡◌, ◌≢◌, ◌≤◌, ◌⊎◌, ℕ, List, [], length, None, IfOk, IfErr};
+ghost use Rattle.tp_lex.specs.Place.{source_limit};
 ghost use Rattle.tp_io.specs.Devices.{Rose};
 ghost use Rattle.tp_kernel.specs.Read.{formula_tree};
 ghost use Rattle.tp_kernel.specs.Built.{IsBuilt};
 ghost use Rattle.tp_check.specs.Program.{program_tree};
 ghost use Rattle.tp_call.specs.Source.{IsProgram};
 ghost use Rattle.tp_call.specs.declared.status.Which.{Which};
-ghost use Rattle.tp_call.specs.Answer.{source_limit, HoldsProgram, Sourced, Answers, AsksOnly};
+ghost use Rattle.tp_call.specs.Answer.{HoldsProgram, Sourced, Answers, AsksOnly};
 ghost use Rattle.tp_call.specs.Headline.{FinishedSays, ContradictorySays, UndeterminedSays, StateLimitSays, LimitSays, InputMissingSays, ProgramRuns, WordsRefusedExactly, TooLongExactly, SourceRefusedExactly};
-ghost use Rattle.tp_call.specs.Parts.{refusal_end, IsReadRefusal, IsRefusal, Closes};
+ghost use Rattle.tp_call.specs.Parts.{refusal_end, IsReadRefusal, IsProgramRefusal, ClosesText};
 
 use crate::end_line::end_text;
 use crate::refused::{Refused, by_checker, by_lexer, by_parser};
@@ -61,13 +62,16 @@ fn read_program(alloc: Global, source: &[u8]) -> Result<Program, Status>
 
 // Reads the words, the source and the program.
 fn program_for<F: Files>(alloc: Global, words: &[Text], files: &mut F) -> Result<Program, Status>
-    ensures program { IfOk result (λ p. Sourced words.now (F.held files.old) (HoldsProgram (program_tree p))) }
+    ensures program { IfOk result (λ p.
+        Sourced words.now (F.held files.old) (HoldsProgram (program_tree p))) }
     ensures built { IfOk result (λ p. IsBuilt p.globals (formula_tree p.main.value)) }
-    ensures refused { IfErr result (IsRefusal words.now (F.held files.old)) }
-    ensures asked { AsksOnly words.now (F.asked files.old) (F.asked files.new) (λ which. result ≡ Err (Status.ReadFault which)) }
+    ensures refused { IfErr result (IsProgramRefusal words.now (F.held files.old)) }
+    ensures asked { AsksOnly words.now (F.asked files.old) (F.asked files.new) (λ which.
+        result ≡ Err (Status.ReadFault which)) }
     ensures held { F.held files.new ≡ F.held files.old }
     ensures later { F.faults files.old ≤ F.faults files.new }
-    ensures read_fault { (which : Which) → result ≡ Err (Status.ReadFault which) → Rose F.greatest (F.faults files.old) (F.faults files.new) }
+    ensures read_fault { (which : Which) → result ≡ Err (Status.ReadFault which)
+        → Rose F.greatest (F.faults files.old) (F.faults files.new) }
 {
     let Some(command) = read_words(words) else {
         return Err(Status::WordsRefused);
@@ -87,10 +91,11 @@ fn program_for<F: Files>(alloc: Global, words: &[Text], files: &mut F) -> Result
 // Writes the end line, by one write.
 fn close<K: Sink>(alloc: Global, globals: &Globals, status: Status, out: &mut K) -> Status
     requires { status ≢ Status.WriteFault }
-    ensures written { Closes globals.now status (K.written out.old) (K.written out.new) result }
+    ensures written { ClosesText globals.now status (K.written out.old) (K.written out.new) result }
     ensures memory { status ≡ Status.NoMemory → result ≡ Status.NoMemory }
     ensures later { K.faults out.old ≤ K.faults out.new }
-    ensures write_fault { result ≡ Status.WriteFault → Rose K.greatest (K.faults out.old) (K.faults out.new) }
+    ensures write_fault { result ≡ Status.WriteFault
+        → Rose K.greatest (K.faults out.old) (K.faults out.new) }
 {
     if let Status::NoMemory = &status {
         return status;
@@ -108,10 +113,11 @@ fn close<K: Sink>(alloc: Global, globals: &Globals, status: Status, out: &mut K)
 // The end line where no program ran.
 fn refuse<K: Sink>(alloc: Global, status: Status, out: &mut K) -> Status
     requires { status ≢ Status.WriteFault }
-    ensures written { Closes [] status (K.written out.old) (K.written out.new) result }
+    ensures written { ClosesText [] status (K.written out.old) (K.written out.new) result }
     ensures memory { status ≡ Status.NoMemory → result ≡ Status.NoMemory }
     ensures later { K.faults out.old ≤ K.faults out.new }
-    ensures write_fault { result ≡ Status.WriteFault → Rose K.greatest (K.faults out.old) (K.faults out.new) }
+    ensures write_fault { result ≡ Status.WriteFault
+        → Rose K.greatest (K.faults out.old) (K.faults out.new) }
 {
     match Globals::new(alloc) {
         Ok(globals) => close(alloc, &globals, status, out),
@@ -127,11 +133,15 @@ fn call<F: Files, K: Sink, L: Ledger>(
     out: &mut K,
     steps: &mut Steps<L>,
 ) -> Status
-    ensures answer { Answers words.now (F.held files.old) (K.written out.old) (K.written out.new) result }
-    ensures asked { AsksOnly words.now (F.asked files.old) (F.asked files.new) (λ which. result ≡ Status.ReadFault which) }
+    ensures answer { Answers words.now (F.held files.old) (K.written out.old) (K.written out.new)
+        result }
+    ensures asked { AsksOnly words.now (F.asked files.old) (F.asked files.new) (λ which.
+        result ≡ Status.ReadFault which) }
     ensures held { F.held files.new ≡ F.held files.old }
-    ensures read_fault { (which : Which) → result ≡ Status.ReadFault which → Rose F.greatest (F.faults files.old) (F.faults files.new) }
-    ensures write_fault { result ≡ Status.WriteFault → Rose K.greatest (K.faults out.old) (K.faults out.new) }
+    ensures read_fault { (which : Which) → result ≡ Status.ReadFault which
+        → Rose F.greatest (F.faults files.old) (F.faults files.new) }
+    ensures write_fault { result ≡ Status.WriteFault
+        → Rose K.greatest (K.faults out.old) (K.faults out.new) }
 {
     match program_for(alloc, words, files) {
         Err(status) => refuse(alloc, status, out),
@@ -158,26 +168,26 @@ pub fn tempura<F: Files, K: Sink, L: Ledger>(
     ensures held { F.held files.new ≡ F.held files.old }
 
     // The headline: what each end of a run says of every interval. The sentences stand in `specs/Headline.antt`.
-    ensures finished { FinishedSays words.now (F.held files.old) (K.written out.old) (K.written out.new)
-        result }
-    ensures contradictory { ContradictorySays words.now (F.held files.old) (K.written out.old) (K.written out.new)
-        result }
-    ensures undetermined { UndeterminedSays words.now (F.held files.old) (K.written out.old) (K.written out.new)
-        result }
-    ensures state_limit { StateLimitSays words.now (F.held files.old) (K.written out.old) (K.written out.new)
-        result }
-    ensures reduction_limit { LimitSays words.now (F.held files.old) (K.written out.old) (K.written out.new)
-        result Status.ReductionLimit }
-    ensures number_limit { LimitSays words.now (F.held files.old) (K.written out.old) (K.written out.new)
-        result Status.NumberLimit }
-    ensures list_limit { LimitSays words.now (F.held files.old) (K.written out.old) (K.written out.new)
-        result Status.ListLimit }
-    ensures call_limit { LimitSays words.now (F.held files.old) (K.written out.old) (K.written out.new)
-        result Status.CallLimit }
-    ensures nest_limit { LimitSays words.now (F.held files.old) (K.written out.old) (K.written out.new)
-        result Status.NestLimit }
-    ensures input_missing { InputMissingSays words.now (F.held files.old) (K.written out.old) (K.written out.new)
-        result }
+    ensures finished { FinishedSays words.now (F.held files.old) (K.written out.old)
+        (K.written out.new) result }
+    ensures contradictory { ContradictorySays words.now (F.held files.old) (K.written out.old)
+        (K.written out.new) result }
+    ensures undetermined { UndeterminedSays words.now (F.held files.old) (K.written out.old)
+        (K.written out.new) result }
+    ensures state_limit { StateLimitSays words.now (F.held files.old) (K.written out.old)
+        (K.written out.new) result }
+    ensures reduction_limit { LimitSays words.now (F.held files.old) (K.written out.old)
+        (K.written out.new) result Status.ReductionLimit }
+    ensures number_limit { LimitSays words.now (F.held files.old) (K.written out.old)
+        (K.written out.new) result Status.NumberLimit }
+    ensures list_limit { LimitSays words.now (F.held files.old) (K.written out.old)
+        (K.written out.new) result Status.ListLimit }
+    ensures call_limit { LimitSays words.now (F.held files.old) (K.written out.old)
+        (K.written out.new) result Status.CallLimit }
+    ensures nest_limit { LimitSays words.now (F.held files.old) (K.written out.old)
+        (K.written out.new) result Status.NestLimit }
+    ensures input_missing { InputMissingSays words.now (F.held files.old) (K.written out.old)
+        (K.written out.new) result }
     ensures program_runs { ProgramRuns words.now (F.held files.old) result }
 
     // Refusals, each exactly, but for failed reads and writes and want of memory.

@@ -29,26 +29,26 @@ pub fn counted<L: Ledger, F: Files, K: Sink>(
     ensures held { F.held files.new ≡ F.held files.old }
 
     // The headline.
-    ensures finished { FinishedSays words.now (F.held files.old) (K.written out.old) (K.written out.new)
-        result }
-    ensures contradictory { ContradictorySays words.now (F.held files.old) (K.written out.old) (K.written out.new)
-        result }
-    ensures undetermined { UndeterminedSays words.now (F.held files.old) (K.written out.old) (K.written out.new)
-        result }
-    ensures state_limit { StateLimitSays words.now (F.held files.old) (K.written out.old) (K.written out.new)
-        result }
-    ensures reduction_limit { LimitSays words.now (F.held files.old) (K.written out.old) (K.written out.new)
-        result Status.ReductionLimit }
-    ensures number_limit { LimitSays words.now (F.held files.old) (K.written out.old) (K.written out.new)
-        result Status.NumberLimit }
-    ensures list_limit { LimitSays words.now (F.held files.old) (K.written out.old) (K.written out.new)
-        result Status.ListLimit }
-    ensures call_limit { LimitSays words.now (F.held files.old) (K.written out.old) (K.written out.new)
-        result Status.CallLimit }
-    ensures nest_limit { LimitSays words.now (F.held files.old) (K.written out.old) (K.written out.new)
-        result Status.NestLimit }
-    ensures input_missing { InputMissingSays words.now (F.held files.old) (K.written out.old) (K.written out.new)
-        result }
+    ensures finished { FinishedSays words.now (F.held files.old) (K.written out.old)
+        (K.written out.new) result }
+    ensures contradictory { ContradictorySays words.now (F.held files.old) (K.written out.old)
+        (K.written out.new) result }
+    ensures undetermined { UndeterminedSays words.now (F.held files.old) (K.written out.old)
+        (K.written out.new) result }
+    ensures state_limit { StateLimitSays words.now (F.held files.old) (K.written out.old)
+        (K.written out.new) result }
+    ensures reduction_limit { LimitSays words.now (F.held files.old) (K.written out.old)
+        (K.written out.new) result Status.ReductionLimit }
+    ensures number_limit { LimitSays words.now (F.held files.old) (K.written out.old)
+        (K.written out.new) result Status.NumberLimit }
+    ensures list_limit { LimitSays words.now (F.held files.old) (K.written out.old)
+        (K.written out.new) result Status.ListLimit }
+    ensures call_limit { LimitSays words.now (F.held files.old) (K.written out.old)
+        (K.written out.new) result Status.CallLimit }
+    ensures nest_limit { LimitSays words.now (F.held files.old) (K.written out.old)
+        (K.written out.new) result Status.NestLimit }
+    ensures input_missing { InputMissingSays words.now (F.held files.old) (K.written out.old)
+        (K.written out.new) result }
     ensures program_runs { ProgramRuns words.now (F.held files.old) result }
 
     // Refusals, each exactly, but for failed reads and writes and want of memory.

@@ -2,10 +2,10 @@
 ghost use Rattle.std.specs.Prelude.{◌≡◌, ◌++◌, ◌∷◌, [], IfOk, IfErr, OnOk, codes};
 ghost use Rattle.std.specs.Option.{option_copied};
 ghost use Rattle.tp_store.specs.Answers.{IsRefusal, full_of};
-ghost use Rattle.tp_store.specs.Changes.{HasAdded, IsSound};
+ghost use Rattle.tp_store.specs.Changes.{AddsFacts, IsSoundStore};
 ghost use Rattle.tp_store.specs.Facts.{same_variable};
 ghost use Rattle.tp_store.specs.Known.{IsVariableOf, addition, adds, full};
-ghost use Rattle.tp_call.specs.Line.{AreFactsOf, IsNew, Keeps, goes_on, is_inside, is_value, is_written, known_text, parts_text, state_line};
+ghost use Rattle.tp_call.specs.Line.{AreFactsOf, IsFreshFact, Keeps, is_deeper, is_inside, is_value, is_written, known_text, parts_text, state_line};
 
 use crate::text::{append_counted, append_fact, append_path};
 use std::alloc::Global;
@@ -17,8 +17,8 @@ fn add_shape(store: &mut Store, fact: &Fact) -> Result<Facts, AddRefusal>
     requires { IsVariableOf store.old.variables fact.now.path.var }
     ensures news { IfOk result (λ news. addition store.old.facts (fact.now ∷ []) ≡ adds news) }
     ensures refused { IfErr result (IsRefusal (addition store.old.facts (fact.now ∷ []))) }
-    ensures added { IfOk result (λ news. HasAdded store.old news store.new) }
-    ensures sound { IsSound store.new }
+    ensures added { IfOk result (λ news. AddsFacts store.old news store.new) }
+    ensures sound { IsSoundStore store.new }
 {
     match fact.shape {
         Shape::Num(n) => store.add(&fact.path, &Value::Num(n)),
@@ -30,9 +30,9 @@ fn add_shape(store: &mut Store, fact: &Fact) -> Result<Facts, AddRefusal>
 // Adds a fact that is new to the store and doesn't clash.
 fn add_fact(store: &mut Store, fact: &Fact) -> Result<(), NoMemory>
     requires variable { IsVariableOf store.old.variables fact.now.path.var }
-    requires new { IsNew store.old.facts fact.now }
-    ensures added { OnOk result (HasAdded store.old (fact.now ∷ []) store.new) }
-    ensures sound { IsSound store.new }
+    requires new { IsFreshFact store.old.facts fact.now }
+    ensures added { OnOk result (AddsFacts store.old (fact.now ∷ []) store.new) }
+    ensures sound { IsSoundStore store.new }
 {
     match add_shape(store, fact) {
         Ok(_) => Ok(()),
@@ -61,7 +61,7 @@ fn same_variable(x: VarId, y: VarId) -> bool
 
 // The indices begin with these, and go on.
 fn goes_on(from: &[u32], at: &[u32]) -> bool
-    ensures { result ≡ goes_on from.now at.now }
+    ensures { result ≡ is_deeper from.now at.now }
 {
     from.len() < at.len() && at.starts_with(from)
 }
@@ -91,7 +91,8 @@ fn append_known(
     fact: &Fact,
     known: &Known,
 ) -> Result<bool, NoMemory>
-    ensures text { OnOk result (out.new ≡ out.old ++ known_text globals.now fact.now (full_of known.now)) }
+    ensures text { OnOk result
+        (out.new ≡ out.old ++ known_text globals.now fact.now (full_of known.now)) }
     ensures whole { IfOk result (λ whole. whole ≡ is_value (full_of known.now)) }
 {
     match known {
@@ -115,7 +116,10 @@ fn append_part(
     store: &Store,
     fact: &Fact,
 ) -> Result<bool, NoMemory>
-    ensures text { OnOk result (out.new ≡ out.old ++ (codes " " ++ known_text globals.now fact.now (full store.now.facts fact.now.path))) }
+    ensures text { OnOk result
+        (out.new
+        ≡ out.old
+        ++ (codes " " ++ known_text globals.now fact.now (full store.now.facts fact.now.path))) }
     ensures whole { IfOk result (λ whole. whole ≡ is_value (full store.now.facts fact.now.path)) }
 {
     let known = store.full(&fact.path)?;

@@ -1,5 +1,6 @@
 // Where and why a source is refused.
 ghost use Rattle.std.specs.Prelude.{◌≡◌, ◌≤◌, length, slice_get};
+ghost use Rattle.tp_lex.specs.Place.{source_limit};
 ghost use Rattle.tp_call.specs.Source.{refused_at, at_token as token_refusal, lexer_refusal, parser_refusal, checker_refusal};
 
 use crate::status::SourceKind;
@@ -17,7 +18,7 @@ pub struct Refused {
 
 // The line and column of a byte, or of the end.
 fn at_byte(source: &[u8], at: usize, kind: SourceKind) -> Refused
-    requires { length source.now ≤ 1048576 }
+    requires { length source.now ≤ source_limit }
     ensures { result ≡ refused_at source.now at kind }
 {
     let (line, column) = place_of(source, at.min(source.len()));
@@ -41,7 +42,7 @@ fn at_token(tokens: &Tokens, number: usize, kind: SourceKind) -> Option<Refused>
 
 /// Where and why a text has no tokens; none where memory was wanted.
 pub fn by_lexer(source: &[u8], refusal: LexRefusal) -> Option<Refused>
-    requires { length source.now ≤ 1048576 }
+    requires { length source.now ≤ source_limit }
     ensures { result ≡ lexer_refusal source.now refusal }
 {
     match refusal {
@@ -55,7 +56,7 @@ pub fn by_lexer(source: &[u8], refusal: LexRefusal) -> Option<Refused>
 
 /// Where and why tokens are no source; none where memory was wanted.
 pub fn by_parser(source: &[u8], tokens: &Tokens, refusal: ParseRefusal) -> Option<Refused>
-    requires { length source.now ≤ 1048576 }
+    requires { length source.now ≤ source_limit }
     ensures { result ≡ parser_refusal source.now tokens.now refusal }
 {
     match refusal {
@@ -68,7 +69,7 @@ pub fn by_parser(source: &[u8], tokens: &Tokens, refusal: ParseRefusal) -> Optio
 
 /// Where and why a source is not run; none where memory was wanted.
 pub fn by_checker(source: &[u8], refusal: CheckRefusal) -> Option<Refused>
-    requires { length source.now ≤ 1048576 }
+    requires { length source.now ≤ source_limit }
     ensures { result ≡ checker_refusal source.now refusal }
 {
     match refusal {

@@ -9,7 +9,7 @@ ghost use Rattle.tp_run.specs.Runs.{standing_of, next_state_of, IsRunOf};
 ghost use Rattle.tp_call.specs.Run.{plan_of, limit_end, status_of as end_status};
 ghost use Rattle.tp_call.specs.Line.{AreFactsOf, state_line};
 ghost use Rattle.tp_call.specs.Progress.{TurnMade, ProgramMade, line_of, is_settled as is_settled_by};
-ghost use Rattle.tp_call.specs.Places.{place_of, IsOpen};
+ghost use Rattle.tp_call.specs.Places.{standing_place, StandsOpen};
 
 use crate::line::state_text;
 use crate::status::Status;
@@ -37,9 +37,11 @@ fn write_state<K: Sink>(
     out: &mut K,
 ) -> Result<(), WriteRefusal>
     requires { AreFactsOf globals.now picture.now.facts }
-    ensures written { Writes (K.written out.old) (K.written out.new) (state_line globals.now picture.now) result }
+    ensures written { Writes (K.written out.old) (K.written out.new)
+        (state_line globals.now picture.now) result }
     ensures later { K.faults out.old ≤ K.faults out.new }
-    ensures cause { IsErrOf result WriteRefusal.Failed → Rose K.greatest (K.faults out.old) (K.faults out.new) }
+    ensures cause { IsErrOf result WriteRefusal.Failed
+        → Rose K.greatest (K.faults out.old) (K.faults out.new) }
 {
     let line = state_text(alloc, picture, globals)?;
     out.write(alloc, line.as_slice())
@@ -120,11 +122,11 @@ fn make_state<K: Sink, L: Ledger>(
     steps: &mut Steps<L>,
 ) -> Result<Option<Status>, WriteRefusal>
     requires run { (plan : Plan) × (plan.names ≡ globals.now) × IsRunOf plan run.old }
-    requires open { IsOpen (standing_of run.old) }
+    requires open { StandsOpen (standing_of run.old) }
     ensures run { (plan : Plan) → IsRunOf plan run.old → IsRunOf plan run.new }
     ensures made { (plan : Plan) → IsRunOf plan run.old
-        → TurnMade plan globals.now (place_of run.old) (place_of run.new) (K.written out.old)
-        (K.written out.new) result }
+        → TurnMade plan globals.now (standing_place run.old) (standing_place run.new)
+        (K.written out.old) (K.written out.new) result }
     ensures later { K.faults out.old ≤ K.faults out.new }
     ensures cause { IsErrOf result WriteRefusal.Failed
         → Rose K.greatest (K.faults out.old) (K.faults out.new) }
@@ -137,9 +139,11 @@ fn make_state<K: Sink, L: Ledger>(
 // A run of the program's formula, without inputs, before its first state.
 fn start(alloc: Global, main: Rc<Formula>, globals: &Globals) -> Result<Run, NoMemory>
     requires { IsBuilt globals.now (formula_tree main.value) }
-    ensures stands { IfOk result (λ run. standing_of run ≡ open_at (first_moment globals.now (formula_tree main.value))) }
+    ensures stands { IfOk result (λ run.
+        standing_of run ≡ open_at (first_moment globals.now (formula_tree main.value))) }
     ensures state { IfOk result (λ run. next_state_of run ≡ 0) }
-    ensures run { IfOk result (IsRunOf (plan_of (record { main = formula_tree main.value; names = globals.now }))) }
+    ensures run { IfOk result
+        (IsRunOf (plan_of (record { main = formula_tree main.value; names = globals.now }))) }
 {
     let inputs = Inputs::none(alloc)?;
     let limits = Limits {
@@ -159,9 +163,11 @@ pub fn run_program<K: Sink, L: Ledger>(
     steps: &mut Steps<L>,
 ) -> Result<Status, WriteRefusal>
     requires { IsBuilt globals.now (formula_tree main.value) }
-    ensures made { ProgramMade (record { main = formula_tree main.value; names = globals.now }) (K.written out.old) (K.written out.new) result }
+    ensures made { ProgramMade (record { main = formula_tree main.value; names = globals.now })
+        (K.written out.old) (K.written out.new) result }
     ensures later { K.faults out.old ≤ K.faults out.new }
-    ensures cause { IsErrOf result WriteRefusal.Failed → Rose K.greatest (K.faults out.old) (K.faults out.new) }
+    ensures cause { IsErrOf result WriteRefusal.Failed
+        → Rose K.greatest (K.faults out.old) (K.faults out.new) }
 {
     let mut run = start(alloc, main, globals)?;
     let mut picture = Picture {

@@ -38,9 +38,13 @@ pub fn read_limited<F: Files>(
     limit: usize,
 ) -> Result<Bytes, ReadRefusal>
     requires { limit < 2 ^ 60 }
-    ensures bytes { IfOk result (λ bytes. (length bytes ≤ limit) × WhereTold (F.held files.old) (λ held. bytes ≡ bytes_of held name.now)) }
-    ensures too_long { IsErrOf result ReadRefusal.TooLong → WhereTold (F.held files.old) (λ held. limit < length (bytes_of held name.now)) }
-    ensures failed { IsErrOf result ReadRefusal.Failed → Rose F.greatest (F.faults files.old) (F.faults files.new) }
+    ensures bytes { IfOk result (λ bytes.
+        (length bytes ≤ limit)
+        × WhereTold (F.held files.old) (λ held. bytes ≡ bytes_of held name.now)) }
+    ensures too_long { IsErrOf result ReadRefusal.TooLong
+        → WhereTold (F.held files.old) (λ held. limit < length (bytes_of held name.now)) }
+    ensures failed { IsErrOf result ReadRefusal.Failed
+        → Rose F.greatest (F.faults files.old) (F.faults files.new) }
     ensures later { F.faults files.old ≤ F.faults files.new }
     ensures held { F.held files.new ≡ F.held files.old }
     ensures asked { F.asked files.new ≡ asked_by (F.asked files.old) name.now result }

@@ -2,7 +2,7 @@
 ghost use Rattle.std.specs.Prelude.{◌≡◌, ◌++◌, List, ℕ, IfOk, OnOk, codes};
 ghost use Rattle.std.specs.Fmt.{decimal, signed_decimal};
 ghost use Rattle.std.specs.List.{flat_map};
-ghost use Rattle.tp_call.specs.Texts.{name_of, index_text, path_text, shaped_text, fact_text, cell_text, shape_comes_first, comes_first, pair_text, fault_text, clash_text};
+ghost use Rattle.tp_call.specs.Texts.{global_name, index_text, path_text, shaped_text, fact_text, cell_text, shape_comes_first, comes_first, pair_text, fault_text, clash_text};
 
 use itoa::Buffer;
 use tp_kernel::FaultKind;
@@ -32,7 +32,7 @@ fn append_signed(out: &mut Text, n: Number) -> Result<(), NoMemory>
 }
 
 fn append_name(out: &mut Text, globals: &Globals, number: u64) -> Result<(), NoMemory>
-    ensures { OnOk result (out.new ≡ out.old ++ name_of globals.now number) }
+    ensures { OnOk result (out.new ≡ out.old ++ global_name globals.now number) }
 {
     match globals.name(number) {
         Some(name) => out.append(name.as_slice()),
@@ -120,7 +120,10 @@ fn append_pair(
     first: &Fact,
     second: &Fact,
 ) -> Result<(), NoMemory>
-    ensures { OnOk result (out.new ≡ out.old ++ pair_text (fact_text globals.now first.now) (fact_text globals.now second.now)) }
+    ensures { OnOk result
+        (out.new
+        ≡ out.old ++ pair_text (fact_text globals.now first.now)
+        (fact_text globals.now second.now)) }
 {
     append_fact(out, globals, first)?;
     out.append(b" and ")?;

@@ -12,7 +12,8 @@ pub struct Command<'a> {
 
 /// Reads the words: `run` and a file.
 pub fn read_words<'a>(words: &'a [Text]) -> Option<Command<'a>>
-    ensures { MatchOption result (wanted_of words.now ≡ None) (λ command. wanted_of words.now ≡ Some (record { file = command.file.now })) }
+    ensures { MatchOption result (wanted_of words.now ≡ None) (λ command.
+        wanted_of words.now ≡ Some (record { file = command.file.now })) }
 {
     let [mode, file] = words else {
         return None;

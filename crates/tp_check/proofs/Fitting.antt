@@ -21,25 +21,25 @@ use Rattle.tp_meaning.specs.Fits.{IsVariable, ExprFits, ExprsFit, FormulasFit}
 use Rattle.tp_meaning.specs.Derived.{next_equals_of}
 use Rattle.tp_kernel.specs.Built.{HaveBuiltKinds, IsBuilt}
 use Rattle.tp_check.specs.Names.{Names}
-use Rattle.tp_check.specs.Outcome.{Outcome, mapped, both, three, not_expression}
+use Rattle.tp_check.specs.Outcome.{CheckOutcome, mapped, both, three, not_expression}
 use Rattle.tp_check.specs.Phrases.{is_state_phrase, is_place_phrase, is_place_kind, nexts_of, behind_nexts, at_of}
-use Rattle.tp_check.specs.Positions.{variable_at, operation_of, operation_at, expr_of, expr_of_kind, exprs_in, place_in, place_refusal, equation_of, state_in, negation_in, binary_in, bare_of, formula_of, formula_of_kind, formulas_in}
+use Rattle.tp_check.specs.Positions.{named_variable, operation_of, operation_at, expr_of, expr_of_kind, exprs_in, place_phrase, place_refusal, equation_of, state_in, negation_in, binary_in, bare_of, formula_of, formula_of_kind, formulas_in}
 
-mapped_ok : {A B : Type 0} (g : A → B) (a : Outcome A) (P : A → Type 0) (Q : B → Type 0) → IfOk a P → ((x : A) → P x → Q (g x)) → IfOk (mapped g a) Q
+mapped_ok : {A B : Type 0} (g : A → B) (a : CheckOutcome A) (P : A → Type 0) (Q : B → Type 0) → IfOk a P → ((x : A) → P x → Q (g x)) → IfOk (mapped g a) Q
 mapped_ok g (Ok a) P Q p h = h a p
 mapped_ok g (Err e) P Q p h = tt
 
-both_ok : {A B C : Type 0} (g : A → B → C) (a : Outcome A) (b : Outcome B) (P : A → Type 0) (Q : B → Type 0) (R : C → Type 0)
+both_ok : {A B C : Type 0} (g : A → B → C) (a : CheckOutcome A) (b : CheckOutcome B) (P : A → Type 0) (Q : B → Type 0) (R : C → Type 0)
     → IfOk a P → IfOk b Q → ((x : A) (y : B) → P x → Q y → R (g x y)) → IfOk (both g a b) R
 both_ok g (Ok a) b P Q R p q h = mapped_ok (g a) b Q R q (λ y fits. h a y p fits)
 both_ok g (Err e) b P Q R p q h = tt
 
-three_ok : {A B C D : Type 0} (g : A → B → C → D) (a : Outcome A) (b : Outcome B) (c : Outcome C) (P : A → Type 0) (Q : B → Type 0) (R : C → Type 0) (S : D → Type 0)
+three_ok : {A B C D : Type 0} (g : A → B → C → D) (a : CheckOutcome A) (b : CheckOutcome B) (c : CheckOutcome C) (P : A → Type 0) (Q : B → Type 0) (R : C → Type 0) (S : D → Type 0)
     → IfOk a P → IfOk b Q → IfOk c R → ((x : A) (y : B) (z : C) → P x → Q y → R z → S (g x y z)) → IfOk (three g a b c) S
 three_ok g (Ok a) b c P Q R S p q r h = both_ok (g a) b c Q R S q r (λ y z u v. h a y z p u v)
 three_ok g (Err e) b c P Q R S p q r h = tt
 
-if_ok : {A : Type 0} (b : Bool) (x y : Outcome A) (P : A → Type 0) → IfOk x P → IfOk y P → IfOk (if b then x else y) P
+if_ok : {A : Type 0} (b : Bool) (x y : CheckOutcome A) (P : A → Type 0) → IfOk x P → IfOk y P → IfOk (if b then x else y) P
 if_ok true x y P p q = p
 if_ok false x y P p q = q
 
@@ -74,12 +74,12 @@ variable_found names x true e v found =
     subst (λ (w : VarId). IsVariable (kinds_of names) w) same (kind_at x names below)
 variable_found names x false e v found = absurd cc
 
-variable_fits : (names : Names) (at : ℕ) (x : List ℕ) (o : Option VarId) → variable_of names x ≡ o → IfOk (variable_at at o) (Fits names)
+variable_fits : (names : Names) (at : ℕ) (x : List ℕ) (o : Option VarId) → variable_of names x ≡ o → IfOk (named_variable at o) (Fits names)
 variable_fits names at x None e = tt
 variable_fits names at x (Some v) e =
     variable_found names x (nat_lt (position_or_len (bytes_eq x) names) (length names)) refl v (ap (option_map (variable x)) (position_from-zero (bytes_eq x) names) ∙ e)
 
-operation_fits : (names : Names) (at : ℕ) (o : Op) (l r : Outcome ExprTree) → IfOk l (Fits names) → IfOk r (Fits names) → IfOk (operation_at at (operation_of o) l r) (Fits names)
+operation_fits : (names : Names) (at : ℕ) (o : Op) (l r : CheckOutcome ExprTree) → IfOk l (Fits names) → IfOk r (Fits names) → IfOk (operation_at at (operation_of o) l r) (Fits names)
 operation_fits names at op.Or l r p q = both_ok _ l r (Fits names) (Fits names) (Fits names) p q (λ x y a b. (a, b))
 operation_fits names at op.Equal l r p q = both_ok _ l r (Fits names) (Fits names) (Fits names) p q (λ x y a b. (a, b))
 operation_fits names at op.Differs l r p q = both_ok _ l r (Fits names) (Fits names) (Fits names) p q (λ x y a b. (a, b))
@@ -117,12 +117,12 @@ mutual
   exprs_fit names no_phrase = tt
   exprs_fit names (phrase_then p ps) = both_ok _ (expr_of names p) (exprs_in names ps) (Fits names) (AllFit names) (AllFit names) (expr_fits names p) (exprs_fit names ps) (λ x y a b. (a, b))
 
-place_fits : (names : Names) (p : PhraseTree) → IfOk (place_in names p) (Fits names)
+place_fits : (names : Names) (p : PhraseTree) → IfOk (place_phrase names p) (Fits names)
 place_fits names (phrase at kind) = if_ok (is_place_kind kind) (expr_of_kind names at kind) (Err (place_refusal at kind)) (Fits names) (expr_kind_fits names at kind) tt
 
 -- ---- formulas
 
-equation_fits : (names : Names) (n m at : ℕ) (l r : Outcome ExprTree) → IfOk l (Fits names) → IfOk r (Fits names) → IfOk (equation_of n m at l r) (IsBuilt names)
+equation_fits : (names : Names) (n m at : ℕ) (l r : CheckOutcome ExprTree) → IfOk l (Fits names) → IfOk r (Fits names) → IfOk (equation_of n m at l r) (IsBuilt names)
 equation_fits names zero zero at l r p q = both_ok _ l r (Fits names) (Fits names) (IsBuilt names) p q (λ x y a b. (tt, (a, b)))
 equation_fits names (suc n) zero at l r p q =
     both_ok (λ t e. next_equals_of (suc n) t e) l r (Fits names) (Fits names) (IsBuilt names) p q (λ x y a b. ((tt, (tt, tt)), (tt, ((a, b, omega arith), tt))))
@@ -147,10 +147,10 @@ negation_fits names at p =
 binary_fits : (names : Names) (at : ℕ) (o : Op) (l r : PhraseTree) → IfOk (binary_in names at o l r) (IsBuilt names)
 binary_fits names at op.Equal l r =
     equation_fits names (nexts_of l) (nexts_of r) (at_of r) (expr_of names (behind_nexts l)) (expr_of names (behind_nexts r)) (expr_fits names (behind_nexts l)) (expr_fits names (behind_nexts r))
-binary_fits names at op.Gets l r = both_ok _ (place_in names l) (expr_of names r) (Fits names) (Fits names) (IsBuilt names) (place_fits names l) (expr_fits names r) (λ x y a b. (tt, (a, b, omega arith)))
-binary_fits names at op.Arrow l r = both_ok _ (place_in names l) (expr_of names r) (Fits names) (Fits names) (IsBuilt names) (place_fits names l) (expr_fits names r) (λ x y a b. (tt, (a, b)))
+binary_fits names at op.Gets l r = both_ok _ (place_phrase names l) (expr_of names r) (Fits names) (Fits names) (IsBuilt names) (place_fits names l) (expr_fits names r) (λ x y a b. (tt, (a, b, omega arith)))
+binary_fits names at op.Arrow l r = both_ok _ (place_phrase names l) (expr_of names r) (Fits names) (Fits names) (IsBuilt names) (place_fits names l) (expr_fits names r) (λ x y a b. (tt, (a, b)))
 binary_fits names at op.Becomes l r =
-    both_ok _ (place_in names l) (expr_of names r) (Fits names) (Fits names) (IsBuilt names) (place_fits names l) (expr_fits names r) (λ x y a b. ((tt, (tt, tt)), (tt, ((a, b, omega arith), tt))))
+    both_ok _ (place_phrase names l) (expr_of names r) (Fits names) (Fits names) (IsBuilt names) (place_fits names l) (expr_fits names r) (λ x y a b. ((tt, (tt, tt)), (tt, ((a, b, omega arith), tt))))
 binary_fits names at op.Or l r = if_ok (is_state_phrase l && is_state_phrase r) _ _ (IsBuilt names) (state_fits names at (k.binary op.Or l r)) tt
 binary_fits names at op.Chop l r = tt
 binary_fits names at op.Proj l r = tt
@@ -179,10 +179,10 @@ mutual
   formula_kind_fits names at (k.form f.Keep (phrase_then w no_phrase)) = mapped_ok _ (formula_of names w) (IsBuilt names) (IsBuilt names) (formula_fits names w) (λ x h. h)
   formula_kind_fits names at (k.form f.Fin (phrase_then w no_phrase)) = mapped_ok _ (formula_of names w) (IsBuilt names) (IsBuilt names) (formula_fits names w) (λ x h. h)
   formula_kind_fits names at (k.form f.Halt (phrase_then b no_phrase)) = mapped_ok _ (expr_of names b) (Fits names) (IsBuilt names) (expr_fits names b) (λ x h. ((tt, tt), (h, tt, tt)))
-  formula_kind_fits names at (k.form f.Stable (phrase_then p no_phrase)) = mapped_ok _ (place_in names p) (Fits names) (IsBuilt names) (place_fits names p) (λ x h. (tt, (h, h, omega arith)))
+  formula_kind_fits names at (k.form f.Stable (phrase_then p no_phrase)) = mapped_ok _ (place_phrase names p) (Fits names) (IsBuilt names) (place_fits names p) (λ x h. (tt, (h, h, omega arith)))
   formula_kind_fits names at (k.form f.Len (phrase_then e no_phrase)) = mapped_ok _ (expr_of names e) (Fits names) (IsBuilt names) (expr_fits names e) (λ x h. (tt, h))
   formula_kind_fits names at (k.form f.List (phrase_then l (phrase_then e no_phrase))) =
-      both_ok _ (place_in names l) (expr_of names e) (Fits names) (Fits names) (IsBuilt names) (place_fits names l) (expr_fits names e) (λ x y a b. (tt, (a, b)))
+      both_ok _ (place_phrase names l) (expr_of names e) (Fits names) (Fits names) (IsBuilt names) (place_fits names l) (expr_fits names e) (λ x y a b. (tt, (a, b)))
   formula_kind_fits names at (k.form f.Sometimes ps) = tt
   formula_kind_fits names at (k.form f.Input ps) = tt
   formula_kind_fits names at (k.form f.Display ps) = tt

@@ -18,7 +18,7 @@ use Rattle.tp_meaning.specs.Derived.{halt_of, keep_of, fin_of, gets_of, stable_o
 use Rattle.tp_check.specs.Names.{Names, names_with, names_in, names_in_kind, names_in_all}
 use Rattle.tp_check.specs.Outcome.{mapped, both, three, not_run}
 use Rattle.tp_check.specs.Phrases.{is_state_phrase, is_place_phrase, is_place_kind, nexts_of, behind_nexts, behind_nexts_of, at_of}
-use Rattle.tp_check.specs.Positions.{variable_at, operation_of, operation_at, expr_of, expr_of_kind, exprs_in, place_in, place_refusal, equation_of, place_is, state_in, negation_in, binary_in, formula_of, formula_of_kind, formulas_in}
+use Rattle.tp_check.specs.Positions.{named_variable, operation_of, operation_at, expr_of, expr_of_kind, exprs_in, place_phrase, place_refusal, equation_of, place_is, state_in, negation_in, binary_in, formula_of, formula_of_kind, formulas_in}
 
 -- ---- names that have their variable
 
@@ -83,7 +83,7 @@ mutual
   expr_same names more (phrase at kind) known = expr_kind_same names more at kind known
 
   expr_kind_same : (names more : Names) (at : ℕ) (kind : k.KindTree) → AreKnown names (names_in_kind kind) → expr_of_kind (names ++ more) at kind ≡ expr_of_kind names at kind
-  expr_kind_same names more at (k.name x) known = ap (variable_at at) (variable_on names more x known.0.0 known.0.1 ∙ sym known.0.1)
+  expr_kind_same names more at (k.name x) known = ap (named_variable at) (variable_on names more x known.0.0 known.0.1 ∙ sym known.0.1)
   expr_kind_same names more at (k.list ps) known = ap (mapped (λ es. listing (exprs_of es))) (exprs_same names more ps known)
   expr_kind_same names more at (k.size p) known = ap (mapped size) (expr_same names more p known)
   expr_kind_same names more at (k.index p i) known = ap₂ (both index) (expr_same names more p (front names (names_in p) (names_in i) known)) (expr_same names more i (back names (names_in p) (names_in i) known))
@@ -103,7 +103,7 @@ mutual
   exprs_same names more (phrase_then p ps) known =
       ap₂ (both (λ e es. e ∷ es)) (expr_same names more p (front names (names_in p) (names_in_all ps) known)) (exprs_same names more ps (back names (names_in p) (names_in_all ps) known))
 
-place_same : (names more : Names) (p : PhraseTree) → AreKnown names (names_in p) → place_in (names ++ more) p ≡ place_in names p
+place_same : (names more : Names) (p : PhraseTree) → AreKnown names (names_in p) → place_phrase (names ++ more) p ≡ place_phrase names p
 place_same names more (phrase at kind) known = ap (λ o. if is_place_kind kind then o else Err (place_refusal at kind)) (expr_kind_same names more at kind known)
 
 mutual

@@ -6,10 +6,10 @@ use Rattle.tp_value.specs.Globals.{with_name}
 use Rattle.tp_tree.specs.Tree.{PhraseTree, phrases_of}
 use Rattle.tp_check.specs.declared.refusal.CheckRefusal.{CheckRefusal}
 use Rattle.tp_check.specs.Names.{Names, names_with}
-use Rattle.tp_check.specs.Outcome.{Outcome, both, mapped}
-use Rattle.tp_check.specs.Phrases.{count_of}
+use Rattle.tp_check.specs.Outcome.{CheckOutcome, both, mapped}
+use Rattle.tp_check.specs.Phrases.{phrase_count}
 
-pub count_is : (ts : List PhraseTree) → count_of (phrases_of ts) ≡ length ts
+pub count_is : (ts : List PhraseTree) → phrase_count (phrases_of ts) ≡ length ts
 count_is [] = refl
 count_is (t ∷ ts) = ap suc (count_is ts)
 
@@ -32,18 +32,18 @@ none_left f (x ∷ xs) (suc i) h = none_left f xs i (omega arith)
 pub names_join : (names others more : Names) → names_with names (others ++ more) ≡ names_with (names_with names others) more
 names_join names others more = fold-append with_name names others more
 
-pub none_made : {A : Type 0} (xs : List A) (o : Outcome (List A)) → xs ≡ [] → o ≡ mapped (λ ys. xs ++ ys) o
+pub none_made : {A : Type 0} (xs : List A) (o : CheckOutcome (List A)) → xs ≡ [] → o ≡ mapped (λ ys. xs ++ ys) o
 none_made xs (Ok ys) e = ap (λ zs. Ok (zs ++ ys)) (sym e)
 none_made xs (Err r) e = refl
 
 -- one more is made
-pub one_made : {A : Type 0} (xs : List A) (x : A) (o : Outcome A) (rest : Outcome (List A)) → o ≡ Ok x
+pub one_made : {A : Type 0} (xs : List A) (x : A) (o : CheckOutcome A) (rest : CheckOutcome (List A)) → o ≡ Ok x
     → mapped (λ ys. xs ++ ys) (both (λ y ys. y ∷ ys) o rest) ≡ mapped (λ ys. (xs ++ x ∷ []) ++ ys) rest
 one_made xs x o (Ok ys) e = ap (λ p. mapped (λ ys. xs ++ ys) (both (λ y zs. y ∷ zs) p (Ok ys))) e ∙ ap Ok (sym (append_assoc xs (x ∷ []) ys))
 one_made xs x o (Err r) e = ap (λ p. mapped (λ ys. xs ++ ys) (both (λ y zs. y ∷ zs) p (Err r))) e
 
 -- one is refused
-pub one_refused : {A : Type 0} (xs : List A) (e : CheckRefusal) (o : Outcome A) (rest : Outcome (List A)) → o ≡ Err e
+pub one_refused : {A : Type 0} (xs : List A) (e : CheckRefusal) (o : CheckOutcome A) (rest : CheckOutcome (List A)) → o ≡ Err e
     → mapped (λ ys. xs ++ ys) (both (λ y ys. y ∷ ys) o rest) ≡ Err e
 one_refused xs e o rest refused = ap (λ p. mapped (λ ys. xs ++ ys) (both (λ y ys. y ∷ ys) p rest)) refused
 

@@ -6,23 +6,23 @@ use Rattle.tp_tree.specs.declared.phrase.PhraseKind.TheVariants.{And}
 use Rattle.tp_tree.specs.declared.operator.Form.{Form}
 use Rattle.tp_tree.specs.declared.operator.Form.TheVariants as f
 use Rattle.tp_tree.specs.Tree.{PhraseTree, phrase, conjunction, form, phrases_of}
-use Rattle.tp_tree.specs.Read.{tree, trees, kind_tree}
+use Rattle.tp_tree.specs.Read.{phrase_tree, phrase_trees, kind_tree}
 use Rattle.tp_tree.specs.Equations.{tree_is, tree_and, trees_are}
 use Rattle.tp_meaning.specs.Syntax.{ExprTree}
 use Rattle.tp_check.specs.declared.refusal.CheckRefusal.{CheckRefusal}
 use Rattle.tp_check.specs.declared.refusal.CheckRefusal.TheVariants.{NotExecutable}
 use Rattle.tp_check.specs.Names.{Names}
-use Rattle.tp_check.specs.Outcome.{Outcome, not_expression}
+use Rattle.tp_check.specs.Outcome.{CheckOutcome, not_expression}
 use Rattle.tp_check.specs.Phrases.{at_of}
 use Rattle.tp_check.specs.Positions.{equation_of, form_refusal, formula_of_kind}
 
-pub at_is : (p : Phrase) → at_of (tree p) ≡ p.at
+pub at_is : (p : Phrase) → at_of (phrase_tree p) ≡ p.at
 at_is p = ap at_of (tree_is p)
 
-pub tree_of_and : (p : Phrase) (ps : Phrases) → p.kind ≡ And ps → tree p ≡ phrase p.at (conjunction (trees ps))
+pub tree_of_and : (p : Phrase) (ps : Phrases) → p.kind ≡ And ps → phrase_tree p ≡ phrase p.at (conjunction (phrase_trees ps))
 tree_of_and p ps e = tree_is p ∙ ap (phrase p.at) (ap kind_tree e ∙ (tree_and ps ∙ ap conjunction (sym (trees_are ps))))
 
-pub left_refused : (n m at : ℕ) (e : CheckRefusal) (r : Outcome ExprTree) → equation_of n m at (Err e) r ≡ Err e
+pub left_refused : (n m at : ℕ) (e : CheckRefusal) (r : CheckOutcome ExprTree) → equation_of n m at (Err e) r ≡ Err e
 left_refused zero zero at e r = refl
 left_refused (suc n) zero at e r = refl
 left_refused zero (suc m) at e r = refl
@@ -35,7 +35,7 @@ right_refused zero (suc m) at l e one = refl
 right_refused (suc n) (suc m) at l e (inl h) = absurd (omega arith)
 right_refused (suc n) (suc m) at l e (inr h) = absurd (omega arith)
 
-pub both_later : (n m at : ℕ) (l : ExprTree) (r : Outcome ExprTree) → 0 < n → 0 < m → equation_of n m at (Ok l) r ≡ not_expression at
+pub both_later : (n m at : ℕ) (l : ExprTree) (r : CheckOutcome ExprTree) → 0 < n → 0 < m → equation_of n m at (Ok l) r ≡ not_expression at
 both_later zero m at l r a b = absurd (omega arith)
 both_later (suc n) zero at l r a b = absurd (omega arith)
 both_later (suc n) (suc m) at l r a b = refl

@@ -3,40 +3,40 @@ use Rattle.std.specs.Prelude.{◌≡◌, ◌≢◌, ℕ, Result, Ok, Err}
 use Rattle.tp_check.specs.declared.refusal.CheckRefusal.{CheckRefusal}
 use Rattle.tp_check.specs.declared.refusal.CheckRefusal.TheVariants.{NotExecutable, NotExpression, NotPlace, WrongCount, NoMemory}
 
-abbrev pub Outcome : Type 0 → Type 0
-Outcome A = Result A CheckRefusal
+abbrev pub CheckOutcome : Type 0 → Type 0
+CheckOutcome A = Result A CheckRefusal
 
 -- the phrase at this place isn't run
-abbrev pub not_run : {A : Type 0} → (at : ℕ) → Outcome A
+abbrev pub not_run : {A : Type 0} → (at : ℕ) → CheckOutcome A
 not_run at = Err (NotExecutable at)
 
 -- it is no expression
-abbrev pub not_expression : {A : Type 0} → (at : ℕ) → Outcome A
+abbrev pub not_expression : {A : Type 0} → (at : ℕ) → CheckOutcome A
 not_expression at = Err (NotExpression at)
 
 -- it is no place
-abbrev pub not_place : {A : Type 0} → (at : ℕ) → Outcome A
+abbrev pub not_place : {A : Type 0} → (at : ℕ) → CheckOutcome A
 not_place at = Err (NotPlace at)
 
 -- it has too few operands or too many
-abbrev pub wrong_count : {A : Type 0} → (at : ℕ) → Outcome A
+abbrev pub wrong_count : {A : Type 0} → (at : ℕ) → CheckOutcome A
 wrong_count at = Err (WrongCount at)
 
-abbrev pub mapped : {A B : Type 0} → (A → B) → Outcome A → Outcome B
+abbrev pub mapped : {A B : Type 0} → (A → B) → CheckOutcome A → CheckOutcome B
 mapped f (Ok a) = Ok (f a)
 mapped f (Err e) = Err e
 
 -- what is made of two phrases; of two refusals the first
-abbrev pub both : {A B C : Type 0} → (A → B → C) → Outcome A → Outcome B → Outcome C
+abbrev pub both : {A B C : Type 0} → (A → B → C) → CheckOutcome A → CheckOutcome B → CheckOutcome C
 both f (Ok a) b = mapped (f a) b
 both f (Err e) b = Err e
 
 -- and of three
-abbrev pub three : {A B C D : Type 0} → (A → B → C → D) → Outcome A → Outcome B → Outcome C → Outcome D
+abbrev pub three : {A B C D : Type 0} → (A → B → C → D) → CheckOutcome A → CheckOutcome B → CheckOutcome C → CheckOutcome D
 three f (Ok a) b c = both (f a) b c
 three f (Err e) b c = Err e
 
 -- What a function answered, seen by view, is the outcome, unless memory ran out.
-abbrev pub Answers : {X T : Type 0} → (X → T) → Outcome T → Result X CheckRefusal → Type 0
-Answers view outcome (Ok x) = outcome ≡ Ok (view x)
-Answers view outcome (Err e) = e ≢ NoMemory → outcome ≡ Err e
+abbrev pub AnswersCheck : {X T : Type 0} → (X → T) → CheckOutcome T → Result X CheckRefusal → Type 0
+AnswersCheck view outcome (Ok x) = outcome ≡ Ok (view x)
+AnswersCheck view outcome (Err e) = e ≢ NoMemory → outcome ≡ Err e

@@ -61,9 +61,9 @@ takes Stable n = nat_eq n 1
 takes Sometimes n = nat_eq n 1
 takes Len n = nat_eq n 1
 
-abbrev pub count_of : PhraseTrees → ℕ
-count_of no_phrase = 0
-count_of (phrase_then p ps) = suc (count_of ps)
+abbrev pub phrase_count : PhraseTrees → ℕ
+phrase_count no_phrase = 0
+phrase_count (phrase_then p ps) = suc (phrase_count ps)
 
 -- how many `next` stand in front of a phrase, and the phrase behind them
 abbrev mutual

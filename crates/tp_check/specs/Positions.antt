@@ -16,15 +16,15 @@ use Rattle.tp_meaning.specs.Derived.{skip_of, halt_of, keep_of, fin_of, gets_of,
 use Rattle.tp_check.specs.declared.refusal.CheckRefusal.{CheckRefusal}
 use Rattle.tp_check.specs.declared.refusal.CheckRefusal.TheVariants.{NotExecutable, NotExpression, NotPlace, WrongCount}
 use Rattle.tp_check.specs.Names.{Names}
-use Rattle.tp_check.specs.Outcome.{Outcome, not_run, not_expression, mapped, both, three}
-use Rattle.tp_check.specs.Phrases.{is_state_phrase, is_place_phrase, is_place_kind, takes, count_of, nexts_of, behind_nexts, at_of}
+use Rattle.tp_check.specs.Outcome.{CheckOutcome, not_run, not_expression, mapped, both, three}
+use Rattle.tp_check.specs.Phrases.{is_state_phrase, is_place_phrase, is_place_kind, takes, phrase_count, nexts_of, behind_nexts, at_of}
 
 -- ---- expressions
 
 -- no name of a program is missing among its names, so none is refused there
-abbrev pub variable_at : ℕ → Option VarId → Outcome ExprTree
-variable_at at (Some x) = Ok (global x)
-variable_at at None = not_run at
+abbrev pub named_variable : ℕ → Option VarId → CheckOutcome ExprTree
+named_variable at (Some x) = Ok (global x)
+named_variable at None = not_run at
 
 -- what an operator makes of two expressions; `;`, `proj`, `gets`, `<-` and `:=` make no expression
 abbrev pub operation_of : Op → Option (ExprTree → ExprTree → ExprTree)
@@ -47,23 +47,23 @@ operation_of op.Arrow = None
 operation_of op.Becomes = None
 
 -- two expressions with an operator between them, whose phrase stands at this place
-abbrev pub operation_at : ℕ → Option (ExprTree → ExprTree → ExprTree) → (l r : Outcome ExprTree) → Outcome ExprTree
+abbrev pub operation_at : ℕ → Option (ExprTree → ExprTree → ExprTree) → (l r : CheckOutcome ExprTree) → CheckOutcome ExprTree
 operation_at at (Some make) l r = both make l r
 operation_at at None l r = not_expression at
 
 -- the refusal of a form at this place: where the number of its operands is wrong, that comes first
 abbrev pub form_refusal : (at : ℕ) → Form → PhraseTrees → CheckRefusal → CheckRefusal
-form_refusal at form ps other = if takes form (count_of ps) then other else WrongCount at
+form_refusal at form ps other = if takes form (phrase_count ps) then other else WrongCount at
 
 -- Expressions, over the variables with these names.
 abbrev mutual
-  pub expr_of : Names → PhraseTree → Outcome ExprTree
+  pub expr_of : Names → PhraseTree → CheckOutcome ExprTree
   expr_of names (phrase at kind) = expr_of_kind names at kind
 
-  pub expr_of_kind : Names → (at : ℕ) → KindTree → Outcome ExprTree
+  pub expr_of_kind : Names → (at : ℕ) → KindTree → CheckOutcome ExprTree
   expr_of_kind names at (k.number n) = Ok (numeral n)
   expr_of_kind names at (k.truth b) = Ok (boolean b)
-  expr_of_kind names at (k.name x) = variable_at at (variable_of names x)
+  expr_of_kind names at (k.name x) = named_variable at (variable_of names x)
   expr_of_kind names at (k.list ps) = mapped (λ es. listing (exprs_of es)) (exprs_in names ps)
   expr_of_kind names at (k.size p) = mapped size (expr_of names p)
   expr_of_kind names at (k.index p i) = both index (expr_of names p) (expr_of names i)
@@ -79,7 +79,7 @@ abbrev mutual
   expr_of_kind names at kind = not_expression at
 
   -- of each of the phrases
-  pub exprs_in : Names → PhraseTrees → Outcome (List ExprTree)
+  pub exprs_in : Names → PhraseTrees → CheckOutcome (List ExprTree)
   exprs_in names no_phrase = Ok []
   exprs_in names (phrase_then p ps) = both (λ e es. e ∷ es) (expr_of names p) (exprs_in names ps)
 
@@ -92,20 +92,20 @@ place_refusal at (k.call x ps) = NotExecutable at
 place_refusal at kind = NotPlace at
 
 -- a place phrase as an expression; any other is refused
-abbrev pub place_in : Names → PhraseTree → Outcome ExprTree
-place_in names (phrase at kind) = if is_place_kind kind then expr_of_kind names at kind else Err (place_refusal at kind)
+abbrev pub place_phrase : Names → PhraseTree → CheckOutcome ExprTree
+place_phrase names (phrase at kind) = if is_place_kind kind then expr_of_kind names at kind else Err (place_refusal at kind)
 
 -- ---- formulas
 
 -- `l = r`, where l and r are the sides without the `next` in front of them, and that many stand in front of either. With `next` on both
 -- sides the left one is taken whole, and the right one, which is at this place, is refused.
-abbrev pub equation_of : (left_nexts right_nexts right_at : ℕ) → (l r : Outcome ExprTree) → Outcome FormulaTree
+abbrev pub equation_of : (left_nexts right_nexts right_at : ℕ) → (l r : CheckOutcome ExprTree) → CheckOutcome FormulaTree
 equation_of zero zero at l r = both equation l r
 equation_of (suc n) zero at l r = both (λ t e. next_equals_of (suc n) t e) l r
 equation_of zero (suc n) at l r = both (λ e t. next_equals_of (suc n) t e) l r
 equation_of (suc n) (suc m) at l r = both equation l (not_expression at)
 
-abbrev pub equation_in : Names → (l r : PhraseTree) → Outcome FormulaTree
+abbrev pub equation_in : Names → (l r : PhraseTree) → CheckOutcome FormulaTree
 equation_in names l r = equation_of (nexts_of l) (nexts_of r) (at_of r) (expr_of names (behind_nexts l)) (expr_of names (behind_nexts r))
 
 -- the place has this truth value
@@ -113,22 +113,22 @@ abbrev pub place_is : Bool → ExprTree → FormulaTree
 place_is b p = equation p (boolean b)
 
 -- a phrase that is an expression: a place is true, anything else is tested
-abbrev pub state_in : Names → (at : ℕ) → KindTree → Outcome FormulaTree
+abbrev pub state_in : Names → (at : ℕ) → KindTree → CheckOutcome FormulaTree
 state_in names at kind = if is_place_kind kind then mapped (place_is true) (expr_of_kind names at kind) else mapped test (expr_of_kind names at kind)
 
 -- `not p`: a place is false; else p is a state phrase
-abbrev pub negation_in : Names → (at : ℕ) → PhraseTree → Outcome FormulaTree
+abbrev pub negation_in : Names → (at : ℕ) → PhraseTree → CheckOutcome FormulaTree
 negation_in names at p =
     if is_place_phrase p then mapped (place_is false) (expr_of names p)
     else if is_state_phrase p then state_in names at (k.negation p)
     else not_run at
 
 -- two phrases with an operator between them
-abbrev pub binary_in : Names → (at : ℕ) → Op → (l r : PhraseTree) → Outcome FormulaTree
+abbrev pub binary_in : Names → (at : ℕ) → Op → (l r : PhraseTree) → CheckOutcome FormulaTree
 binary_in names at op.Equal l r = equation_in names l r
-binary_in names at op.Gets l r = both gets_of (place_in names l) (expr_of names r)
-binary_in names at op.Arrow l r = both assign (place_in names l) (expr_of names r)
-binary_in names at op.Becomes l r = both becomes_of (place_in names l) (expr_of names r)
+binary_in names at op.Gets l r = both gets_of (place_phrase names l) (expr_of names r)
+binary_in names at op.Arrow l r = both assign (place_phrase names l) (expr_of names r)
+binary_in names at op.Becomes l r = both becomes_of (place_phrase names l) (expr_of names r)
 binary_in names at op.Or l r = if is_state_phrase l && is_state_phrase r then state_in names at (k.binary op.Or l r) else not_run at
 -- chop and projection aren't run yet
 binary_in names at op.Chop l r = not_run at
@@ -142,10 +142,10 @@ bare_of Skip = skip_of
 
 -- Formulas, over the variables with these names.
 abbrev mutual
-  pub formula_of : Names → PhraseTree → Outcome FormulaTree
+  pub formula_of : Names → PhraseTree → CheckOutcome FormulaTree
   formula_of names (phrase at kind) = formula_of_kind names at kind
 
-  pub formula_of_kind : Names → (at : ℕ) → KindTree → Outcome FormulaTree
+  pub formula_of_kind : Names → (at : ℕ) → KindTree → CheckOutcome FormulaTree
   formula_of_kind names at (k.conjunction ps) = mapped (λ ws. conjunction (formulas_of ws)) (formulas_in names ps)
   formula_of_kind names at (k.truth true) = Ok trivial
   formula_of_kind names at (k.negation p) = negation_in names at p
@@ -156,9 +156,9 @@ abbrev mutual
   formula_of_kind names at (k.form f.Keep (phrase_then w no_phrase)) = mapped keep_of (formula_of names w)
   formula_of_kind names at (k.form f.Fin (phrase_then w no_phrase)) = mapped fin_of (formula_of names w)
   formula_of_kind names at (k.form f.Halt (phrase_then b no_phrase)) = mapped halt_of (expr_of names b)
-  formula_of_kind names at (k.form f.Stable (phrase_then p no_phrase)) = mapped stable_of (place_in names p)
+  formula_of_kind names at (k.form f.Stable (phrase_then p no_phrase)) = mapped stable_of (place_phrase names p)
   formula_of_kind names at (k.form f.Len (phrase_then e no_phrase)) = mapped len (expr_of names e)
-  formula_of_kind names at (k.form f.List (phrase_then l (phrase_then e no_phrase))) = both list_of_length (place_in names l) (expr_of names e)
+  formula_of_kind names at (k.form f.List (phrase_then l (phrase_then e no_phrase))) = both list_of_length (place_phrase names l) (expr_of names e)
   -- `sometimes` is never run, `input` and `display` aren't run yet
   formula_of_kind names at (k.form f.Sometimes ps) = Err (form_refusal at f.Sometimes ps (NotExecutable at))
   formula_of_kind names at (k.form f.Input ps) = Err (form_refusal at f.Input ps (NotExecutable at))
@@ -184,6 +184,6 @@ abbrev mutual
   formula_of_kind names at kind = state_in names at kind
 
   -- of each of the phrases
-  pub formulas_in : Names → PhraseTrees → Outcome (List FormulaTree)
+  pub formulas_in : Names → PhraseTrees → CheckOutcome (List FormulaTree)
   formulas_in names no_phrase = Ok []
   formulas_in names (phrase_then w ws) = both (λ x xs. x ∷ xs) (formula_of names w) (formulas_in names ws)

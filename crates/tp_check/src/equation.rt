@@ -1,8 +1,8 @@
 // Equations.
 ghost use Rattle.std.specs.Prelude.{◌≡◌, ◌+◌, ℕ, ◌⊎◌, IfOk, Ok};
-ghost use Rattle.tp_tree.specs.Read.{tree};
+ghost use Rattle.tp_tree.specs.Read.{phrase_tree};
 ghost use Rattle.tp_kernel.specs.Read.{expr_tree, formula_tree};
-ghost use Rattle.tp_check.specs.Outcome.{Answers};
+ghost use Rattle.tp_check.specs.Outcome.{AnswersCheck};
 ghost use Rattle.tp_check.specs.Phrases.{nexts_of, behind_nexts};
 ghost use Rattle.tp_check.specs.Positions.{equation_of, equation_in};
 
@@ -25,8 +25,9 @@ fn one_more(count: u32) -> Result<u32, NoMemory>
 
 // How many `next` stand in front of a phrase, and the phrase behind them.
 fn without_nexts(phrase: &Phrase) -> Result<(u32, &Phrase), NoMemory>
-    ensures count { IfOk result (λ r. r.0 ≡ nexts_of (tree phrase.now)) }
-    ensures behind { IfOk result (λ r. tree r.1.now ≡ behind_nexts (tree phrase.now)) }
+    ensures count { IfOk result (λ r. r.0 ≡ nexts_of (phrase_tree phrase.now)) }
+    ensures behind { IfOk result (λ r.
+        phrase_tree r.1.now ≡ behind_nexts (phrase_tree phrase.now)) }
 {
     let mut count = 0;
     let mut behind = phrase;
@@ -45,7 +46,11 @@ fn equation_formula(
     right: Rc<Expr>,
 ) -> Result<Formula, NoMemory>
     requires { (left_nexts ≡ 0) ⊎ (right_nexts ≡ 0) }
-    ensures { IfOk result (λ w. (at : ℕ) → equation_of left_nexts right_nexts at (Ok (expr_tree left.value)) (Ok (expr_tree right.value)) ≡ Ok (formula_tree w)) }
+    ensures { IfOk result (λ w.
+        (at : ℕ)
+        → equation_of left_nexts right_nexts at (Ok (expr_tree left.value))
+        (Ok (expr_tree right.value))
+        ≡ Ok (formula_tree w)) }
 {
     if left_nexts > 0 {
         next_equals(alloc, left_nexts, left, right)
@@ -63,7 +68,8 @@ pub fn equation(
     right: &Phrase,
     globals: &Globals,
 ) -> Result<Formula, CheckRefusal>
-    ensures { Answers formula_tree (equation_in globals.now (tree left.now) (tree right.now)) result }
+    ensures { AnswersCheck formula_tree
+        (equation_in globals.now (phrase_tree left.now) (phrase_tree right.now)) result }
 {
     let (left_nexts, left_side) = without_nexts(left)?;
     let (right_nexts, right_side) = without_nexts(right)?;

@@ -1,10 +1,10 @@
 // Expressions.
 ghost use Rattle.std.specs.Prelude.{◌≡◌};
-ghost use Rattle.tp_tree.specs.Read.{tree, trees};
+ghost use Rattle.tp_tree.specs.Read.{phrase_tree, phrase_trees};
 ghost use Rattle.tp_kernel.specs.Read.{expr_tree};
 ghost use Rattle.tp_tree.specs.Tree.{name as name_kind};
 ghost use Rattle.tp_check.specs.Building.{expr_seen, exprs_seen};
-ghost use Rattle.tp_check.specs.Outcome.{Answers};
+ghost use Rattle.tp_check.specs.Outcome.{AnswersCheck};
 ghost use Rattle.tp_check.specs.Positions.{expr_of, expr_of_kind, exprs_in};
 
 use crate::operation::operation_for;
@@ -18,7 +18,7 @@ use tp_value::{Globals, Text};
 
 // The variable of the name, which stands at this place.
 fn variable(at: u32, name: &Text, globals: &Globals) -> Result<Expr, CheckRefusal>
-    ensures { Answers expr_tree (expr_of_kind globals.now at (name_kind name.now)) result }
+    ensures { AnswersCheck expr_tree (expr_of_kind globals.now at (name_kind name.now)) result }
 {
     match globals.find(name) {
         Some(variable) => Ok(Expr::Global(variable)),
@@ -29,7 +29,7 @@ fn variable(at: u32, name: &Text, globals: &Globals) -> Result<Expr, CheckRefusa
 /// The expression that a phrase is, over the variables with these names.
 #[cycle(expression)]
 pub fn expression(alloc: Global, phrase: &Phrase, globals: &Globals) -> Result<Expr, CheckRefusal>
-    ensures { Answers expr_tree (expr_of globals.now (tree phrase.now)) result }
+    ensures { AnswersCheck expr_tree (expr_of globals.now (phrase_tree phrase.now)) result }
 {
     let at = phrase.at;
     match &phrase.kind {
@@ -83,7 +83,7 @@ pub fn shared_expression(
     phrase: &Phrase,
     globals: &Globals,
 ) -> Result<Rc<Expr>, CheckRefusal>
-    ensures { Answers expr_seen (expr_of globals.now (tree phrase.now)) result }
+    ensures { AnswersCheck expr_seen (expr_of globals.now (phrase_tree phrase.now)) result }
 {
     let expr = expression(alloc, phrase, globals)?;
     Ok(Rc::new(alloc, expr)?)
@@ -92,7 +92,7 @@ pub fn shared_expression(
 // The expressions that the phrases are.
 #[cycle(expression)]
 fn expressions(alloc: Global, phrases: &Phrases, globals: &Globals) -> Result<Exprs, CheckRefusal>
-    ensures { Answers exprs_seen (exprs_in globals.now (trees phrases.now)) result }
+    ensures { AnswersCheck exprs_seen (exprs_in globals.now (phrase_trees phrases.now)) result }
 {
     let mut items = Vec::new(alloc);
     for phrase in &phrases.items {

@@ -1,9 +1,9 @@
 // Formulas.
 ghost use Rattle.std.specs.Prelude.{◌≡◌, IfOk};
-ghost use Rattle.tp_tree.specs.Read.{tree, trees};
+ghost use Rattle.tp_tree.specs.Read.{phrase_tree, phrase_trees};
 ghost use Rattle.tp_tree.specs.Tree.{form as form_kind, no_phrase, phrase_then};
 ghost use Rattle.tp_kernel.specs.Read.{formula_tree};
-ghost use Rattle.tp_check.specs.Outcome.{Answers};
+ghost use Rattle.tp_check.specs.Outcome.{AnswersCheck};
 ghost use Rattle.tp_check.specs.Building.{formula_seen, formulas_seen};
 ghost use Rattle.tp_check.specs.Positions.{bare_of, formula_of, formula_of_kind, formulas_in};
 
@@ -31,7 +31,7 @@ fn bare(alloc: Global, word: Bare) -> Result<Formula, NoMemory>
 /// The formula that a phrase is, over the variables with these names.
 #[cycle(formula)]
 pub fn formula(alloc: Global, phrase: &Phrase, globals: &Globals) -> Result<Formula, CheckRefusal>
-    ensures { Answers formula_tree (formula_of globals.now (tree phrase.now)) result }
+    ensures { AnswersCheck formula_tree (formula_of globals.now (phrase_tree phrase.now)) result }
 {
     let at = phrase.at;
     match &phrase.kind {
@@ -77,7 +77,7 @@ pub fn shared_formula(
     phrase: &Phrase,
     globals: &Globals,
 ) -> Result<Rc<Formula>, CheckRefusal>
-    ensures { Answers formula_seen (formula_of globals.now (tree phrase.now)) result }
+    ensures { AnswersCheck formula_seen (formula_of globals.now (phrase_tree phrase.now)) result }
 {
     let formula = formula(alloc, phrase, globals)?;
     Ok(Rc::new(alloc, formula)?)
@@ -86,7 +86,8 @@ pub fn shared_formula(
 // The formulas that the phrases are.
 #[cycle(formula)]
 fn formulas(alloc: Global, phrases: &Phrases, globals: &Globals) -> Result<Formulas, CheckRefusal>
-    ensures { Answers formulas_seen (formulas_in globals.now (trees phrases.now)) result }
+    ensures { AnswersCheck formulas_seen (formulas_in globals.now (phrase_trees phrases.now))
+        result }
 {
     let mut items = Vec::new(alloc);
     for phrase in &phrases.items {
@@ -104,7 +105,8 @@ fn form_formula(
     operands: &Phrases,
     globals: &Globals,
 ) -> Result<Formula, CheckRefusal>
-    ensures { Answers formula_tree (formula_of_kind globals.now at (form_kind form (trees operands.now))) result }
+    ensures { AnswersCheck formula_tree
+        (formula_of_kind globals.now at (form_kind form (phrase_trees operands.now))) result }
 {
     match operands.items.as_slice() {
         [operand] => form_of_one(alloc, at, form, operand, globals),
@@ -124,7 +126,10 @@ fn form_of_one(
     operand: &Phrase,
     globals: &Globals,
 ) -> Result<Formula, CheckRefusal>
-    ensures { Answers formula_tree (formula_of_kind globals.now at (form_kind form (phrase_then (tree operand.now) no_phrase))) result }
+    ensures { AnswersCheck formula_tree
+        (formula_of_kind globals.now at
+        (form_kind form (phrase_then (phrase_tree operand.now) no_phrase)))
+        result }
 {
     match form {
         Form::Always => Ok(Formula::Always(shared_formula(alloc, operand, globals)?)),
@@ -148,7 +153,11 @@ fn form_of_two(
     second: &Phrase,
     globals: &Globals,
 ) -> Result<Formula, CheckRefusal>
-    ensures { Answers formula_tree (formula_of_kind globals.now at (form_kind form (phrase_then (tree first.now) (phrase_then (tree second.now) no_phrase)))) result }
+    ensures { AnswersCheck formula_tree
+        (formula_of_kind globals.now at
+        (form_kind form
+        (phrase_then (phrase_tree first.now) (phrase_then (phrase_tree second.now) no_phrase))))
+        result }
 {
     match form {
         Form::List => {

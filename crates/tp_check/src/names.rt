@@ -1,6 +1,6 @@
 // The names of the variables of a source.
 ghost use Rattle.std.specs.Prelude.{◌≡◌, OnOk};
-ghost use Rattle.tp_tree.specs.Read.{tree, trees};
+ghost use Rattle.tp_tree.specs.Read.{phrase_tree, phrase_trees};
 ghost use Rattle.tp_check.specs.Names.{names_with, names_in, names_in_all};
 
 use tp_tree::{Phrase, PhraseKind, Phrases};
@@ -9,7 +9,8 @@ use tp_value::{Globals, NoMemory};
 /// Adds the names in a phrase, in the order of the text. Those in phrases that aren't run are left out.
 #[cycle(names)]
 pub fn add_names(phrase: &Phrase, globals: &mut Globals) -> Result<(), NoMemory>
-    ensures { OnOk result (globals.new ≡ names_with globals.old (names_in (tree phrase.now))) }
+    ensures { OnOk result
+        (globals.new ≡ names_with globals.old (names_in (phrase_tree phrase.now))) }
 {
     match &phrase.kind {
         PhraseKind::Name(name) => {
@@ -55,7 +56,8 @@ pub fn add_names(phrase: &Phrase, globals: &mut Globals) -> Result<(), NoMemory>
 // Of each of the phrases.
 #[cycle(names)]
 fn add_all(phrases: &Phrases, globals: &mut Globals) -> Result<(), NoMemory>
-    ensures { OnOk result (globals.new ≡ names_with globals.old (names_in_all (trees phrases.now))) }
+    ensures { OnOk result
+        (globals.new ≡ names_with globals.old (names_in_all (phrase_trees phrases.now))) }
 {
     for phrase in &phrases.items {
         add_names(phrase, globals)?;

@@ -1,6 +1,6 @@
 // Which phrases are states and places, and how many operands a form takes.
 ghost use Rattle.std.specs.Prelude.{◌≡◌};
-ghost use Rattle.tp_tree.specs.Read.{tree, trees};
+ghost use Rattle.tp_tree.specs.Read.{phrase_tree, phrase_trees};
 ghost use Rattle.tp_check.specs.Phrases.{is_state_operator as state_operator, is_state_phrase, are_state_phrases, is_place_phrase, takes as form_takes};
 ghost use Rattle.tp_check.specs.Positions.{form_refusal};
 
@@ -23,7 +23,7 @@ fn is_state_operator(op: Op) -> bool
 /// Whether a phrase says something of one state.
 #[cycle(state)]
 pub fn is_state(phrase: &Phrase) -> bool
-    ensures { result ≡ is_state_phrase (tree phrase.now) }
+    ensures { result ≡ is_state_phrase (phrase_tree phrase.now) }
 {
     match &phrase.kind {
         PhraseKind::Number(_) => true,
@@ -47,7 +47,7 @@ pub fn is_state(phrase: &Phrase) -> bool
 
 #[cycle(state)]
 fn are_states(phrases: &Phrases) -> bool
-    ensures { result ≡ are_state_phrases (trees phrases.now) }
+    ensures { result ≡ are_state_phrases (phrase_trees phrases.now) }
 {
     for phrase in &phrases.items {
         if !is_state(phrase) {
@@ -59,7 +59,7 @@ fn are_states(phrases: &Phrases) -> bool
 
 /// Whether a phrase is a name followed by any number of indices.
 pub fn is_place(phrase: &Phrase) -> bool
-    ensures { result ≡ is_place_phrase (tree phrase.now) }
+    ensures { result ≡ is_place_phrase (phrase_tree phrase.now) }
 {
     match &phrase.kind {
         PhraseKind::Name(_) => true,
@@ -87,7 +87,7 @@ fn takes(form: Form, count: usize) -> bool
 
 /// Why a form at this place is refused, where another refusal stands after a wrong number of operands.
 pub fn miscounted_or(at: u32, form: Form, operands: &Phrases, other: CheckRefusal) -> CheckRefusal
-    ensures { result ≡ form_refusal at form (trees operands.now) other }
+    ensures { result ≡ form_refusal at form (phrase_trees operands.now) other }
 {
     if takes(form, operands.items.len()) {
         other

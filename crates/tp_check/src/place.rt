@@ -1,9 +1,9 @@
 // Places.
-ghost use Rattle.tp_tree.specs.Read.{tree, kind_tree};
+ghost use Rattle.tp_tree.specs.Read.{phrase_tree, kind_tree};
 ghost use Rattle.std.specs.Prelude.{◌≡◌};
 ghost use Rattle.tp_check.specs.Building.{expr_seen};
-ghost use Rattle.tp_check.specs.Outcome.{Answers};
-ghost use Rattle.tp_check.specs.Positions.{place_in, place_refusal};
+ghost use Rattle.tp_check.specs.Outcome.{AnswersCheck};
+ghost use Rattle.tp_check.specs.Positions.{place_phrase, place_refusal};
 
 use crate::expression::shared_expression;
 use crate::phrases::{is_place, miscounted_or};
@@ -30,7 +30,7 @@ fn refusal(phrase: &Phrase) -> CheckRefusal
 
 /// The place that a phrase is, over the variables with these names.
 pub fn place(alloc: Global, phrase: &Phrase, globals: &Globals) -> Result<Rc<Expr>, CheckRefusal>
-    ensures { Answers expr_seen (place_in globals.now (tree phrase.now)) result }
+    ensures { AnswersCheck expr_seen (place_phrase globals.now (phrase_tree phrase.now)) result }
 {
     if is_place(phrase) {
         shared_expression(alloc, phrase, globals)

@@ -1,6 +1,6 @@
 // The program that a source is.
 ghost use Rattle.std.specs.Prelude.{◌≡◌, ◌≢◌, IfOk, IfErr, Ok, Err};
-ghost use Rattle.tp_tree.specs.Read.{source_tree, tree};
+ghost use Rattle.tp_tree.specs.Read.{source_tree, phrase_tree};
 ghost use Rattle.tp_kernel.specs.Read.{formula_tree};
 ghost use Rattle.tp_kernel.specs.Built.{IsBuilt};
 ghost use Rattle.tp_check.specs.declared.refusal.CheckRefusal.TheVariants.{NoMemory};
@@ -36,10 +36,12 @@ pub struct Program {
 /// its operands and these in the order of the text. A form with a wrong number of operands is named as that first. Then a phrase is no
 /// expression or no place where one is due, and not executable anywhere else; a call is not executable everywhere.
 pub fn check(alloc: Global, source: &Source) -> Result<Program, CheckRefusal>
-    ensures accepted { IfOk result (λ p. program_of (source_tree source.now) ≡ Ok (program_tree p)) }
-    ensures named { NamesSuffice (tree source.now.main) }
+    ensures accepted { IfOk result (λ p.
+        program_of (source_tree source.now) ≡ Ok (program_tree p)) }
+    ensures named { NamesSuffice (phrase_tree source.now.main) }
     ensures built { IfOk result (λ p. IsBuilt p.globals (formula_tree p.main.value)) }
-    ensures refused { IfErr result (λ e. e ≢ NoMemory → program_of (source_tree source.now) ≡ Err e) }
+    ensures refused { IfErr result (λ e.
+        e ≢ NoMemory → program_of (source_tree source.now) ≡ Err e) }
 {
     if let Some(first) = source.definitions.items.first() {
         return Err(CheckRefusal::NotExecutable { at: first.at });

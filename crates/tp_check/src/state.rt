@@ -1,9 +1,9 @@
 // Formulas that say something of the first state, and those that set a place.
 ghost use Rattle.std.specs.Prelude.{◌≡◌, true, false};
-ghost use Rattle.tp_tree.specs.Read.{tree, kind_tree};
+ghost use Rattle.tp_tree.specs.Read.{phrase_tree, kind_tree};
 ghost use Rattle.tp_tree.specs.Tree.{negation as negation_kind, binary as binary_kind};
 ghost use Rattle.tp_kernel.specs.Read.{formula_tree};
-ghost use Rattle.tp_check.specs.Outcome.{Answers, mapped};
+ghost use Rattle.tp_check.specs.Outcome.{AnswersCheck, mapped};
 ghost use Rattle.tp_check.specs.Positions.{expr_of, place_is, state_in, negation_in, binary_in};
 
 use crate::equation::equation;
@@ -24,7 +24,8 @@ fn has_value(
     value: bool,
     globals: &Globals,
 ) -> Result<Formula, CheckRefusal>
-    ensures { Answers formula_tree (mapped (place_is value) (expr_of globals.now (tree phrase.now))) result }
+    ensures { AnswersCheck formula_tree
+        (mapped (place_is value) (expr_of globals.now (phrase_tree phrase.now))) result }
 {
     let expr = shared_expression(alloc, phrase, globals)?;
     let value = Rc::new(alloc, Expr::Truth(value))?;
@@ -33,7 +34,8 @@ fn has_value(
 
 /// A phrase that is an expression: a place is true, anything else is tested.
 pub fn state(alloc: Global, phrase: &Phrase, globals: &Globals) -> Result<Formula, CheckRefusal>
-    ensures { Answers formula_tree (state_in globals.now phrase.now.at (kind_tree phrase.now.kind)) result }
+    ensures { AnswersCheck formula_tree
+        (state_in globals.now phrase.now.at (kind_tree phrase.now.kind)) result }
 {
     if is_place(phrase) {
         return has_value(alloc, phrase, true, globals);
@@ -49,8 +51,9 @@ pub fn negation(
     operand: &Phrase,
     globals: &Globals,
 ) -> Result<Formula, CheckRefusal>
-    requires { kind_tree phrase.now.kind ≡ negation_kind (tree operand.now) }
-    ensures { Answers formula_tree (negation_in globals.now phrase.now.at (tree operand.now)) result }
+    requires { kind_tree phrase.now.kind ≡ negation_kind (phrase_tree operand.now) }
+    ensures { AnswersCheck formula_tree
+        (negation_in globals.now phrase.now.at (phrase_tree operand.now)) result }
 {
     if is_place(operand) {
         has_value(alloc, operand, false, globals)
@@ -70,8 +73,11 @@ pub fn binary(
     right: &Phrase,
     globals: &Globals,
 ) -> Result<Formula, CheckRefusal>
-    requires { kind_tree phrase.now.kind ≡ binary_kind op (tree left.now) (tree right.now) }
-    ensures { Answers formula_tree (binary_in globals.now phrase.now.at op (tree left.now) (tree right.now)) result }
+    requires { kind_tree phrase.now.kind
+        ≡ binary_kind op (phrase_tree left.now) (phrase_tree right.now) }
+    ensures { AnswersCheck formula_tree
+        (binary_in globals.now phrase.now.at op (phrase_tree left.now) (phrase_tree right.now))
+        result }
 {
     match op {
         Op::Equal => equation(alloc, left, right, globals),

@@ -10,7 +10,7 @@ use Rattle.tp_kernel.specs.Read.{formula_tree}
 use Rattle.tp_meaning.specs.Syntax.{FormulaTree, FormulaTrees, numeral, empty, next, len, formulas_of}
 use Rattle.tp_scene.specs.Scene as S
 use Rattle.tp_scene.specs.Scene.{append}
-use Rattle.tp_scene.specs.Step.{Outcome, Numbers, becomes, all_do, count_of, length_left}
+use Rattle.tp_scene.specs.Step.{PickOutcome, Numbers, becomes, all_do, count_of, length_left}
 use Rattle.tp_decide.specs.declared.scene.Entry.{Entry}
 use Rattle.tp_decide.specs.declared.scene.Item.TheVariants as item
 use Rattle.tp_decide.specs.declared.scene.Phrase.{Phrase}
@@ -66,7 +66,7 @@ count_is (w ∷ ws) = ap suc (count_is ws)
 
 -- what is due for a length of so many states more
 module _ (facts : List Fact) (env : S.Bindings) (numbers : Numbers) where
-  abbrev due_alone : FormulaTree → Outcome
+  abbrev due_alone : FormulaTree → PickOutcome
   due_alone f = becomes (S.leaf (numbers.item 0) (S.Do f env) S.none) 1
 
   pub no_state_left : (n : ℤ) (f : FormulaTree) → n ≡ pos 0 → f ≡ empty → due_alone f ≡ length_left [] [] 0 facts n env numbers

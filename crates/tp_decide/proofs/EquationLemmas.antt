@@ -10,17 +10,17 @@ use Rattle.tp_eval.specs.Evaluate.{is_place}
 use Rattle.tp_eval.specs.Outcome as found
 use Rattle.tp_scene.specs.declared.answer.Clash.TheVariants as clash
 use Rattle.tp_scene.specs.Step as row
-use Rattle.tp_scene.specs.Step.{Outcome}
+use Rattle.tp_scene.specs.Step.{PickOutcome}
 use Rattle.tp_decide.specs.declared.decision.Decision.{Decision}
 use Rattle.tp_decide.specs.Decided.{decided, ValueIn, TruthIn, NumberIn, IsNoSize}
 
-pub truth_without : (o p : found.Outcome) (d : Decision) → TruthIn o (Err d) → o ≡ p → (f : Bool → Outcome) (facts : List Fact) → decided facts d ≡ row.with_truth p f
+pub truth_without : (o p : found.Outcome) (d : Decision) → TruthIn o (Err d) → o ≡ p → (f : Bool → PickOutcome) (facts : List Fact) → decided facts d ≡ row.with_truth p f
 truth_without o p d h e f facts = h facts f ∙ ap (λ q. row.with_truth q f) e
 
-pub number_without : (o p : found.Outcome) (d : Decision) → NumberIn o (Err d) → o ≡ p → (f : ℤ → Outcome) (facts : List Fact) → decided facts d ≡ row.with_number p f
+pub number_without : (o p : found.Outcome) (d : Decision) → NumberIn o (Err d) → o ≡ p → (f : ℤ → PickOutcome) (facts : List Fact) → decided facts d ≡ row.with_number p f
 number_without o p d h e f facts = h facts f ∙ ap (λ q. row.with_number q f) e
 
-pub value_without : (o p : found.Outcome) (d : Decision) → ValueIn o (Err d) → o ≡ p → (f : Tree → Outcome) (facts : List Fact) → decided facts d ≡ row.with_value p f
+pub value_without : (o p : found.Outcome) (d : Decision) → ValueIn o (Err d) → o ≡ p → (f : Tree → PickOutcome) (facts : List Fact) → decided facts d ≡ row.with_value p f
 value_without o p d h e f facts = h facts f ∙ ap (λ q. row.with_value q f) e
 
 module _ (defs : List Definition) (facts : List Fact) (env : List BindingTree) where

@@ -12,10 +12,10 @@ use Rattle.tp_value.specs.declared.value.Shape.TheVariants.{Items}
 use Rattle.tp_store.specs.Facts.{fact, facts_at}
 use Rattle.tp_store.specs.Known.{addition, Variable, IsVariableOf}
 use Rattle.tp_eval.specs.Outcome as found
-use Rattle.tp_eval.specs.Answers.{outcome_of}
+use Rattle.tp_eval.specs.Answers.{outcome_tree}
 use Rattle.tp_scene.specs.Scene as S
 use Rattle.tp_scene.specs.Step as row
-use Rattle.tp_scene.specs.Step.{Outcome, Numbers}
+use Rattle.tp_scene.specs.Step.{PickOutcome, Numbers}
 use Rattle.tp_scene.specs.Fits.{kinds_in, PhraseFits}
 use Rattle.tp_decide.specs.declared.decision.Side as side
 use Rattle.tp_decide.specs.declared.decision.Side.TheVariants as mark
@@ -34,15 +34,15 @@ abbrev pub mark_of : side.Side → S.Side
 mark_of mark.Ending = S.Ending
 mark_of mark.Going = S.Going
 
-abbrev pub place_of : Place → S.Place
-place_of p = record { region = p.region; depth = p.depth; is = λ z. S.marked z (record { number = p.region; ends = p.ends; goes = p.goes }) }
+abbrev pub plain_place : Place → S.Place
+plain_place p = record { region = p.region; depth = p.depth; is = λ z. S.marked z (record { number = p.region; ends = p.ends; goes = p.goes }) }
 
 -- new items take the numbers from this one on
 abbrev pub numbers_from : ℕ → Numbers
 numbers_from next = record { item = λ i. i + next; region = 0; local = 0 }
 
 -- what a decision does where these facts are known
-abbrev pub decided : List Fact → Decision → Outcome
+abbrev pub decided : List Fact → Decision → PickOutcome
 decided facts (decision.Becomes news m) =
     row.reduces (record { news = entries_of news.items; items = length news.items; regions = 0; local = None; mark = option_map mark_of m; facts = [] })
 decided facts (decision.Sets p v) = row.added (addition facts (facts_at p (tree v)))
@@ -55,15 +55,15 @@ decided facts (decision.Passes k) = row.passes k
 -- a value that was found, or what is decided without one
 abbrev pub ValueIn : found.Outcome → Result Value Decision → Type 0
 ValueIn o (Ok v) = o ≡ found.value (tree v)
-ValueIn o (Err d) = (facts : List Fact) (f : Tree → Outcome) → decided facts d ≡ row.with_value o f
+ValueIn o (Err d) = (facts : List Fact) (f : Tree → PickOutcome) → decided facts d ≡ row.with_value o f
 
 abbrev pub TruthIn : found.Outcome → Result Bool Decision → Type 0
 TruthIn o (Ok b) = o ≡ found.value (truth b)
-TruthIn o (Err d) = (facts : List Fact) (f : Bool → Outcome) → decided facts d ≡ row.with_truth o f
+TruthIn o (Err d) = (facts : List Fact) (f : Bool → PickOutcome) → decided facts d ≡ row.with_truth o f
 
 abbrev pub NumberIn : found.Outcome → Result ℤ Decision → Type 0
 NumberIn o (Ok n) = o ≡ found.value (num n)
-NumberIn o (Err d) = (facts : List Fact) (f : ℤ → Outcome) → decided facts d ≡ row.with_number o f
+NumberIn o (Err d) = (facts : List Fact) (f : ℤ → PickOutcome) → decided facts d ≡ row.with_number o f
 
 abbrev pub target_in : Target → row.Target
 target_in (target.Value p) = row.value_at p
@@ -72,8 +72,8 @@ target_in (target.Length p) = row.length_at p
 abbrev pub option_target : Option Target → Option row.Target
 option_target o = option_map target_in o
 
-abbrev pub side_of : Side → row.SideOf
-side_of s = record { placed = s.placed; target = option_target s.target; found = outcome_of s.found }
+abbrev pub plain_side : Side → row.SideOf
+plain_side s = record { placed = s.placed; target = option_target s.target; found = outcome_tree s.found }
 
 abbrev pub PathIn : Option Path → (Path → row.Target) → Option row.Target → Type 0
 PathIn o f t = option_map f o ≡ t

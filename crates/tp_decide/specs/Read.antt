@@ -75,8 +75,8 @@ head_of r = let o = out-Region r in record { number = o.id; ends = o.ends; goes 
 abbrev pub entries_in : Region → List Entry
 entries_in r = (out-Entries (out-Region r).entries).items.items
 
-abbrev pub region_of : Region → S.Region
-region_of r = record { head = head_of r; entries = entries_of (entries_in r) }
+abbrev pub plain_region : Region → S.Region
+plain_region r = record { head = head_of r; entries = entries_of (entries_in r) }
 
 abbrev pub scene_of : Scene → S.Scene
-scene_of s = record { root = region_of s.root; next_item = s.next_item; next_region = s.next_region }
+scene_of s = record { root = plain_region s.root; next_item = s.next_item; next_region = s.next_region }

@@ -10,7 +10,7 @@ ghost use Rattle.tp_eval.specs.Outcome.{outcome};
 ghost use Rattle.tp_scene.specs.Scene as S;
 ghost use Rattle.tp_scene.specs.Step as row;
 ghost use Rattle.tp_decide.specs.Read.{entries_of};
-ghost use Rattle.tp_decide.specs.Decided.{decided, place_of, numbers_from, IsPlain, SetsVariables, FitsStore};
+ghost use Rattle.tp_decide.specs.Decided.{decided, plain_place, numbers_from, IsPlain, SetsVariables, FitsStore};
 
 use crate::env::under;
 use crate::equation::decide_equation;
@@ -84,7 +84,10 @@ fn push_due(
     what: Rc<Formula>,
     env: &Rc<Env>,
 ) -> Result<(), NoMemory>
-    ensures entries { OnOk result (entries_of news.new.items ≡ S.append (entries_of news.old.items) (S.leaf id (S.Do (formula_tree what.value) (bindings_of env.now.value)) S.none)) }
+    ensures entries { OnOk result
+        (entries_of news.new.items
+        ≡ S.append (entries_of news.old.items)
+        (S.leaf id (S.Do (formula_tree what.value) (bindings_of env.now.value)) S.none)) }
     ensures count { OnOk result (length news.new.items ≡ length news.old.items + 1) }
 {
     let phrase = under(what, env)?;
@@ -97,7 +100,9 @@ fn push_due(
 
 // The formula from this state on, as the one new item.
 fn due(alloc: Global, next: u64, what: Rc<Formula>, env: &Rc<Env>) -> Result<Vec<Entry>, NoMemory>
-    ensures entries { IfOk result (λ news. entries_of news.items ≡ S.leaf (0 + next) (S.Do (formula_tree what.value) (bindings_of env.now.value)) S.none) }
+    ensures entries { IfOk result (λ news.
+        entries_of news.items
+        ≡ S.leaf (0 + next) (S.Do (formula_tree what.value) (bindings_of env.now.value)) S.none) }
     ensures count { IfOk result (λ news. length news.items ≡ 1) }
 {
     let id = number_of(next, 0)?;
@@ -108,7 +113,10 @@ fn due(alloc: Global, next: u64, what: Rc<Formula>, env: &Rc<Env>) -> Result<Vec
 
 // The formula from the next state on, as the one new item.
 fn later(alloc: Global, next: u64, what: Rc<Formula>, env: &Rc<Env>) -> Result<Vec<Entry>, NoMemory>
-    ensures entries { IfOk result (λ news. entries_of news.items ≡ S.leaf (0 + next) (S.Later (formula_tree what.value) (bindings_of env.now.value)) S.none) }
+    ensures entries { IfOk result (λ news.
+        entries_of news.items
+        ≡ S.leaf (0 + next) (S.Later (formula_tree what.value) (bindings_of env.now.value))
+        S.none) }
     ensures count { IfOk result (λ news. length news.items ≡ 1) }
 {
     let id = number_of(next, 0)?;
@@ -122,7 +130,8 @@ fn later(alloc: Global, next: u64, what: Rc<Formula>, env: &Rc<Env>) -> Result<V
 }
 
 fn becomes(news: Vec<Entry>) -> Decision
-    ensures outcome { (facts : List Fact) → decided facts result ≡ row.becomes (entries_of news.items) (length news.items) }
+    ensures outcome { (facts : List Fact)
+        → decided facts result ≡ row.becomes (entries_of news.items) (length news.items) }
     ensures plain { IsPlain result }
 {
     Decision::Becomes { news, mark: None }
@@ -130,7 +139,9 @@ fn becomes(news: Vec<Entry>) -> Decision
 
 // These entries, and a mark that the region goes on.
 fn go(place: Place, news: Vec<Entry>) -> Decision
-    ensures outcome { (facts : List Fact) → decided facts result ≡ row.going (place_of place) (entries_of news.items) (length news.items) }
+    ensures outcome { (facts : List Fact)
+        → decided facts result
+        ≡ row.going (plain_place place) (entries_of news.items) (length news.items) }
     ensures plain { IsPlain result }
 {
     if place.ends {
@@ -144,7 +155,7 @@ fn go(place: Place, news: Vec<Entry>) -> Decision
 }
 
 fn end(alloc: Global, place: Place) -> Decision
-    ensures outcome { (facts : List Fact) → decided facts result ≡ row.ending (place_of place) }
+    ensures outcome { (facts : List Fact) → decided facts result ≡ row.ending (plain_place place) }
     ensures plain { IsPlain result }
 {
     if place.goes {
@@ -158,7 +169,8 @@ fn end(alloc: Global, place: Place) -> Decision
 }
 
 fn wait_for_end(place: Place) -> Decision
-    ensures outcome { (facts : List Fact) → decided facts result ≡ row.waits (Cell.End place.region place.depth) None }
+    ensures outcome { (facts : List Fact)
+        → decided facts result ≡ row.waits (Cell.End place.region place.depth) None }
     ensures plain { IsPlain result }
 {
     Decision::Waits(
@@ -178,7 +190,11 @@ fn decide_weak_next(
     place: Place,
     next: u64,
 ) -> Result<Decision, NoMemory>
-    ensures outcome { IfOk result (λ d. (facts : List Fact) → decided facts d ≡ row.formula_step [] [] 0 facts (weak_next (formula_tree what.now.value)) (bindings_of env.now.value) (place_of place) (numbers_from next)) }
+    ensures outcome { IfOk result (λ d.
+        (facts : List Fact)
+        → decided facts d
+        ≡ row.formula_step [] [] 0 facts (weak_next (formula_tree what.now.value))
+        (bindings_of env.now.value) (plain_place place) (numbers_from next)) }
     ensures plain { IfOk result IsPlain }
 {
     if place.goes {
@@ -198,7 +214,11 @@ fn decide_if_more(
     place: Place,
     next: u64,
 ) -> Result<Decision, NoMemory>
-    ensures outcome { IfOk result (λ d. (facts : List Fact) → decided facts d ≡ row.formula_step [] [] 0 facts (if_more (formula_tree what.now.value)) (bindings_of env.now.value) (place_of place) (numbers_from next)) }
+    ensures outcome { IfOk result (λ d.
+        (facts : List Fact)
+        → decided facts d
+        ≡ row.formula_step [] [] 0 facts (if_more (formula_tree what.now.value))
+        (bindings_of env.now.value) (plain_place place) (numbers_from next)) }
     ensures plain { IfOk result IsPlain }
 {
     if place.goes {
@@ -218,7 +238,11 @@ fn decide_if_empty(
     place: Place,
     next: u64,
 ) -> Result<Decision, NoMemory>
-    ensures outcome { IfOk result (λ d. (facts : List Fact) → decided facts d ≡ row.formula_step [] [] 0 facts (if_empty (formula_tree what.now.value)) (bindings_of env.now.value) (place_of place) (numbers_from next)) }
+    ensures outcome { IfOk result (λ d.
+        (facts : List Fact)
+        → decided facts d
+        ≡ row.formula_step [] [] 0 facts (if_empty (formula_tree what.now.value))
+        (bindings_of env.now.value) (plain_place place) (numbers_from next)) }
     ensures plain { IfOk result IsPlain }
 {
     if place.goes {
@@ -240,7 +264,15 @@ fn decide_always(
     next: u64,
 ) -> Result<Decision, NoMemory>
     requires { formula_tree all.now.value ≡ always (formula_tree what.now.value) }
-    ensures outcome { IfOk result (λ d. (facts : List Fact) → decided facts d ≡ row.becomes (S.leaf (0 + next) (S.Do (formula_tree what.now.value) (bindings_of env.now.value)) (S.leaf (1 + next) (S.Do (weak_next (always (formula_tree what.now.value))) (bindings_of env.now.value)) S.none)) 2) }
+    ensures outcome { IfOk result (λ d.
+        (facts : List Fact)
+        → decided facts d
+        ≡ row.becomes
+        (S.leaf (0 + next) (S.Do (formula_tree what.now.value) (bindings_of env.now.value))
+        (S.leaf (1 + next)
+        (S.Do (weak_next (always (formula_tree what.now.value))) (bindings_of env.now.value))
+        S.none))
+        2) }
     ensures plain { IfOk result IsPlain }
 {
     let again = Rc::new(alloc, Formula::WeakNext(all.clone()?))?;
@@ -256,7 +288,13 @@ fn decide_and(
     env: &Rc<Env>,
     next: u64,
 ) -> Result<Decision, NoMemory>
-    ensures outcome { IfOk result (λ d. (facts : List Fact) → decided facts d ≡ row.becomes (row.all_do (formula_trees operands.now) (bindings_of env.now.value) (numbers_from next).item 0) (row.count_of (formula_trees operands.now))) }
+    ensures outcome { IfOk result (λ d.
+        (facts : List Fact)
+        → decided facts d
+        ≡ row.becomes
+        (row.all_do (formula_trees operands.now) (bindings_of env.now.value) (numbers_from next).item
+        0)
+        (row.count_of (formula_trees operands.now))) }
     ensures plain { IfOk result IsPlain }
 {
     let mut news = Vec::new(alloc);
@@ -275,7 +313,13 @@ fn decide_test(
     defs: &Defs,
 ) -> Result<Decision, NoMemory>
     requires { definitions_of defs.now ≡ [] }
-    ensures outcome { IfOk result (λ d. (facts : List Fact) → decided facts d ≡ row.with_truth (outcome store.now.facts (definitions_of defs.now) (expr_tree expr.now) (bindings_of env.now)) (λ b. if b then row.vanishes else row.clashes Clash.False)) }
+    ensures outcome { IfOk result (λ d.
+        (facts : List Fact)
+        → decided facts d
+        ≡ row.with_truth
+        (outcome store.now.facts (definitions_of defs.now) (expr_tree expr.now)
+        (bindings_of env.now))
+        (λ b. if b then row.vanishes else row.clashes Clash.False)) }
     ensures plain { IfOk result IsPlain }
 {
     let outcome = eval(alloc, expr, env, store, defs)?;
@@ -298,7 +342,19 @@ fn decide_branch(
     defs: &Defs,
 ) -> Result<Decision, NoMemory>
     requires { definitions_of defs.now ≡ [] }
-    ensures outcome { IfOk result (λ d. (facts : List Fact) → decided facts d ≡ row.with_truth (outcome store.now.facts (definitions_of defs.now) (expr_tree test.now) (bindings_of env.now.value)) (λ b. row.becomes (S.leaf (0 + next) (S.Do (if b then formula_tree yes.now.value else formula_tree no.now.value) (bindings_of env.now.value)) S.none) 1)) }
+    ensures outcome { IfOk result (λ d.
+        (facts : List Fact)
+        → decided facts d
+        ≡ row.with_truth
+        (outcome store.now.facts (definitions_of defs.now) (expr_tree test.now)
+        (bindings_of env.now.value))
+        (λ b.
+        row.becomes
+        (S.leaf (0 + next)
+        (S.Do (if b then formula_tree yes.now.value else formula_tree no.now.value)
+        (bindings_of env.now.value))
+        S.none)
+        1)) }
     ensures plain { IfOk result IsPlain }
 {
     let outcome = eval(alloc, test, env, store, defs)?;
@@ -317,7 +373,10 @@ fn decide_branch(
 
 // A length of so many states more.
 fn decide_length(alloc: Global, left: i64, env: &Rc<Env>, next: u64) -> Result<Decision, NoMemory>
-    ensures outcome { IfOk result (λ d. (facts : List Fact) → decided facts d ≡ row.length_left [] [] 0 facts left (bindings_of env.now.value) (numbers_from next)) }
+    ensures outcome { IfOk result (λ d.
+        (facts : List Fact)
+        → decided facts d
+        ≡ row.length_left [] [] 0 facts left (bindings_of env.now.value) (numbers_from next)) }
     ensures plain { IfOk result IsPlain }
 {
     if left < 0 {
@@ -343,7 +402,13 @@ fn decide_len(
     defs: &Defs,
 ) -> Result<Decision, NoMemory>
     requires { definitions_of defs.now ≡ [] }
-    ensures outcome { IfOk result (λ d. (facts : List Fact) → decided facts d ≡ row.with_number (outcome store.now.facts (definitions_of defs.now) (expr_tree expr.now) (bindings_of env.now.value)) (λ k. row.length_left [] [] 0 facts k (bindings_of env.now.value) (numbers_from next))) }
+    ensures outcome { IfOk result (λ d.
+        (facts : List Fact)
+        → decided facts d
+        ≡ row.with_number
+        (outcome store.now.facts (definitions_of defs.now) (expr_tree expr.now)
+        (bindings_of env.now.value))
+        (λ k. row.length_left [] [] 0 facts k (bindings_of env.now.value) (numbers_from next))) }
     ensures plain { IfOk result IsPlain }
 {
     let outcome = eval(alloc, expr, env, store, defs)?;
@@ -358,7 +423,8 @@ fn decide_len(
 
 // The equation of a target with a value that was found.
 fn equation(alloc: Global, target: &Rc<Expr>, value: Value) -> Result<Formula, NoMemory>
-    ensures { IfOk result (λ w. formula_tree w ≡ equation (expr_tree target.now.value) (known (tree value))) }
+    ensures { IfOk result (λ w.
+        formula_tree w ≡ equation (expr_tree target.now.value) (known (tree value))) }
 {
     let value = Rc::new(alloc, value)?;
     let value = Rc::new(alloc, Expr::Known(value))?;
@@ -376,7 +442,19 @@ fn decide_assign(
     defs: &Defs,
 ) -> Result<Decision, NoMemory>
     requires { definitions_of defs.now ≡ [] }
-    ensures outcome { IfOk result (λ d. (facts : List Fact) → decided facts d ≡ row.with_value (outcome store.now.facts (definitions_of defs.now) (expr_tree expr.now) (bindings_of env.now.value)) (λ v. row.becomes (S.leaf (0 + next) (S.Do (always (if_empty (equation (expr_tree target.now.value) (known v)))) (bindings_of env.now.value)) S.none) 1)) }
+    ensures outcome { IfOk result (λ d.
+        (facts : List Fact)
+        → decided facts d
+        ≡ row.with_value
+        (outcome store.now.facts (definitions_of defs.now) (expr_tree expr.now)
+        (bindings_of env.now.value))
+        (λ v.
+        row.becomes
+        (S.leaf (0 + next)
+        (S.Do (always (if_empty (equation (expr_tree target.now.value) (known v))))
+        (bindings_of env.now.value))
+        S.none)
+        1)) }
     ensures plain { IfOk result IsPlain }
 {
     let outcome = eval(alloc, expr, env, store, defs)?;
@@ -416,7 +494,19 @@ fn decide_next_equation(
 ) -> Result<Decision, NoMemory>
     requires none { definitions_of defs.now ≡ [] }
     requires later { 1 ≤ count }
-    ensures outcome { IfOk result (λ d. (facts : List Fact) → decided facts d ≡ row.with_value (outcome store.now.facts (definitions_of defs.now) (expr_tree expr.now) (bindings_of env.now.value)) (λ v. row.going (place_of at.0) (S.leaf (0 + at.1) (S.Later (nexts (count - 1) (equation (expr_tree target.now.value) (known v))) (bindings_of env.now.value)) S.none) 1)) }
+    ensures outcome { IfOk result (λ d.
+        (facts : List Fact)
+        → decided facts d
+        ≡ row.with_value
+        (outcome store.now.facts (definitions_of defs.now) (expr_tree expr.now)
+        (bindings_of env.now.value))
+        (λ v.
+        row.going (plain_place at.0)
+        (S.leaf (0 + at.1)
+        (S.Later (nexts (count - 1) (equation (expr_tree target.now.value) (known v)))
+        (bindings_of env.now.value))
+        S.none)
+        1)) }
     ensures plain { IfOk result IsPlain }
 {
     let outcome = eval(alloc, expr, env, store, defs)?;
@@ -438,7 +528,13 @@ fn decide_next(
     place: Place,
     next: u64,
 ) -> Result<Decision, NoMemory>
-    ensures outcome { IfOk result (λ d. (facts : List Fact) → decided facts d ≡ row.going (place_of place) (S.leaf (0 + next) (S.Later (formula_tree what.now.value) (bindings_of env.now.value)) S.none) 1) }
+    ensures outcome { IfOk result (λ d.
+        (facts : List Fact)
+        → decided facts d
+        ≡ row.going (plain_place place)
+        (S.leaf (0 + next) (S.Later (formula_tree what.now.value) (bindings_of env.now.value))
+        S.none)
+        1) }
     ensures plain { IfOk result IsPlain }
 {
     let news = later(alloc, next, what.clone()?, env)?;
@@ -457,8 +553,13 @@ pub fn decide(
 ) -> Result<Decision, NoMemory>
     requires none { definitions_of defs.now ≡ [] }
     requires kinds { HasBuiltKinds (formula_tree what.now.value) }
-    requires fits { FitsStore (definitions_of defs.now) store.now.variables (formula_tree what.now.value) (bindings_of env.now.value) }
-    ensures outcome { IfOk result (λ d. decided store.now.facts d ≡ row.formula_step (definitions_of defs.now) [] 0 store.now.facts (formula_tree what.now.value) (bindings_of env.now.value) (place_of place) (numbers_from next)) }
+    requires fits { FitsStore (definitions_of defs.now) store.now.variables
+        (formula_tree what.now.value) (bindings_of env.now.value) }
+    ensures outcome { IfOk result (λ d.
+        decided store.now.facts d
+        ≡ row.formula_step (definitions_of defs.now) [] 0 store.now.facts
+        (formula_tree what.now.value) (bindings_of env.now.value) (plain_place place)
+        (numbers_from next)) }
     ensures variables { IfOk result (SetsVariables store.now.variables) }
 {
     match &**what {

@@ -1,5 +1,5 @@
 // What is found where an expression is evaluated: a value of the kind that is needed, or what its item does without one.
-ghost use Rattle.tp_eval.specs.Answers.{outcome_of};
+ghost use Rattle.tp_eval.specs.Answers.{outcome_tree};
 ghost use Rattle.std.specs.Prelude.{◌≡◌, List, IfErr};
 ghost use Rattle.tp_value.specs.declared.path.Fact.{Fact};
 ghost use Rattle.tp_scene.specs.Step as row;
@@ -12,7 +12,7 @@ use tp_scene::{Cell, Clash};
 use tp_value::{Number, Value};
 
 pub fn value(outcome: Outcome) -> Result<Value, Decision>
-    ensures found { ValueIn (outcome_of outcome) result }
+    ensures found { ValueIn (outcome_tree outcome) result }
     ensures plain { IfErr result IsPlain }
 {
     match outcome {
@@ -24,14 +24,15 @@ pub fn value(outcome: Outcome) -> Result<Value, Decision>
 }
 
 fn wrong_kind() -> Decision
-    ensures outcome { (facts : List Fact) → decided facts result ≡ row.clashes (Clash.NoValue FaultKind.WrongKind) }
+    ensures outcome { (facts : List Fact)
+        → decided facts result ≡ row.clashes (Clash.NoValue FaultKind.WrongKind) }
     ensures plain { IsPlain result }
 {
     Decision::Clashes(Clash::NoValue(FaultKind::WrongKind))
 }
 
 pub fn truth(outcome: Outcome) -> Result<bool, Decision>
-    ensures found { TruthIn (outcome_of outcome) result }
+    ensures found { TruthIn (outcome_tree outcome) result }
     ensures plain { IfErr result IsPlain }
 {
     match value(outcome)? {
@@ -42,7 +43,7 @@ pub fn truth(outcome: Outcome) -> Result<bool, Decision>
 }
 
 pub fn number(outcome: Outcome) -> Result<Number, Decision>
-    ensures found { NumberIn (outcome_of outcome) result }
+    ensures found { NumberIn (outcome_tree outcome) result }
     ensures plain { IfErr result IsPlain }
 {
     match value(outcome)? {

@@ -13,7 +13,7 @@ use Rattle.tp_meaning.proofs.Deeper.{place_keeps, calls_keep}
 use Rattle.tp_store.specs.Facts.{AgreesWithAll}
 use Rattle.tp_store.specs.Known.{NoClash}
 use Rattle.tp_eval.specs.Reached.{Reached, reaches, stops, waits, faults, passes}
-use Rattle.tp_eval.specs.Evaluate.{Place, at_path, inside, element_in, find_place, depth_limit}
+use Rattle.tp_eval.specs.Evaluate.{PlaceFound, at_path, inside, element_in, find_place, depth_limit}
 use Rattle.tp_eval.specs.Outcome as found
 use Rattle.tp_eval.specs.Outcome.{outcome_reached, place_reached, place_outcome}
 use Rattle.tp_eval.specs.Right.{values_at}
@@ -23,10 +23,10 @@ use Rattle.tp_eval.proofs.Meanings.{find_place_agrees}
 use Rattle.tp_eval.proofs.Kept.{facts_are_right}
 
 module _ (facts : List Fact) (Agreeing : Type 0) (kinds : List Bool) (s : Course) (locals : Locals) (a : ℕ) where
-  abbrev Meant : Place → Option Meaning
+  abbrev Meant : PlaceFound → Option Meaning
   Meant = meaning_of_place facts Agreeing kinds s locals a
 
-  path_means : (r : Reached Place) (o : Option Meaning) (p : Path) → PlaceGives facts Agreeing kinds s locals a r o → Agreeing → place_reached facts r ≡ found.path p → o ≡ Some (meaning_of (length kinds) s locals (place_binding p))
+  path_means : (r : Reached PlaceFound) (o : Option Meaning) (p : Path) → PlaceGives facts Agreeing kinds s locals a r o → Agreeing → place_reached facts r ≡ found.path p → o ≡ Some (meaning_of (length kinds) s locals (place_binding p))
   path_means (reaches (at_path q) c) o p h w e = let same : q ≡ p = cc in h w ∙ ap (λ (x : Path). Some (meaning_of (length kinds) s locals (place_binding x))) same
   path_means (reaches (inside t at) c) o p h w e = absurd (cc)
   path_means (stops (waits q)) o p h w e = absurd (cc)
@@ -41,14 +41,14 @@ module _ (facts : List Fact) (Agreeing : Type 0) (kinds : List Bool) (s : Course
   no_element_means None k c e = refl
   no_element_means (Some u) k c e = absurd (cc)
 
-  value_means : (r : Reached Place) (o : Option Meaning) (t : Tree) → PlaceGives facts Agreeing kinds s locals a r o → Agreeing → place_reached facts r ≡ found.other (found.value t) → o ≡ Some (fixed t)
+  value_means : (r : Reached PlaceFound) (o : Option Meaning) (t : Tree) → PlaceGives facts Agreeing kinds s locals a r o → Agreeing → place_reached facts r ≡ found.other (found.value t) → o ≡ Some (fixed t)
   value_means (reaches (at_path q) c) o t h w e = absurd (cc)
   value_means (reaches (inside u at) c) o t h w e = h w ∙ element_means (item_at at u) t c e
   value_means (stops (waits q)) o t h w e = absurd (cc)
   value_means (stops (faults k)) o t h w e = absurd (cc)
   value_means (stops (passes k)) o t h w e = absurd (cc)
 
-  fault_means : (r : Reached Place) (o : Option Meaning) (k : FaultKind) → PlaceGives facts Agreeing kinds s locals a r o → Agreeing → place_reached facts r ≡ found.other (found.fault k) → o ≡ None
+  fault_means : (r : Reached PlaceFound) (o : Option Meaning) (k : FaultKind) → PlaceGives facts Agreeing kinds s locals a r o → Agreeing → place_reached facts r ≡ found.other (found.fault k) → o ≡ None
   fault_means (reaches (at_path q) c) o k h w e = absurd (cc)
   fault_means (reaches (inside u at) c) o k h w e = h w ∙ no_element_means (item_at at u) k c e
   fault_means (stops (waits q)) o k h w e = absurd (cc)

@@ -11,9 +11,9 @@ use Rattle.tp_value.specs.declared.path.Fact.{Fact}
 use Rattle.tp_kernel.specs.declared.formula.LimitKind.TheVariants as limit
 use Rattle.tp_meaning.specs.Syntax.{Operator, Equal, Differs, Less, LessEqual, Greater, GreaterEqual, Plus, Minus, Times, Div, Mod}
 use Rattle.tp_meaning.specs.Value as meaning
-use Rattle.tp_meaning.specs.Value.{◌>>=◌, item_at, item, list_of, truth_of, number_of, Meaning, fixed, varying, element}
-use Rattle.tp_eval.specs.Reached.{Reached, with_reached, number, limited}
-use Rattle.tp_eval.specs.Evaluate.{operate, truth_in, number_in, items_in, item_in, element_in, length_of}
+use Rattle.tp_meaning.specs.Value.{◌>>=◌, item_at, list_item, list_of, truth_of, number_of, Meaning, fixed, varying, element}
+use Rattle.tp_eval.specs.Reached.{Reached, with_reached, within_numbers, within_lists}
+use Rattle.tp_eval.specs.Evaluate.{operate_outcome, truth_in, number_in, list_items, item_in, element_in, length_of}
 use Rattle.tp_eval.proofs.Agree.{Agrees, limit_agrees}
 
 -- the length of a list, as a value
@@ -85,10 +85,10 @@ module _ (facts : List Fact) (Agreeing : Type 0) where
   abbrev Gives : {A : Type 0} → Reached A → Option A → Type 0
   Gives = Agrees facts Agreeing Some
 
-  pub number_agrees : (n : ℤ) (c : ℕ) → Gives (number n c) (Some (num n))
+  pub number_agrees : (n : ℤ) (c : ℕ) → Gives (within_numbers n c) (Some (num n))
   number_agrees n c = limit_agrees facts Agreeing Some (is_within_limit n) (num n) limit.Number c
 
-  pub limited_agrees : (t : Tree) (c : ℕ) → Gives (limited t c) (Some t)
+  pub limited_agrees : (t : Tree) (c : ℕ) → Gives (within_lists t c) (Some t)
   limited_agrees t c = limit_agrees facts Agreeing Some (is_within_list_limit t) t limit.List c
 
   pub truth_agrees : (t : Tree) (c : ℕ) → Gives (truth_in t c) (truth_of t)
@@ -111,7 +111,7 @@ module _ (facts : List Fact) (Agreeing : Type 0) where
   length_agrees (list ts) c = λ w. refl
 
   -- an element of a value that is no place
-  pub item_agrees : (t u : Tree) (c : ℕ) → Gives (with_reached (items_in t c) (λ ts c'. with_reached (number_in u c') (item_in ts))) (item t u)
+  pub item_agrees : (t u : Tree) (c : ℕ) → Gives (with_reached (list_items t c) (λ ts c'. with_reached (number_in u c') (item_in ts))) (list_item t u)
   item_agrees (list ts) (num (pos k)) c = element_agrees (slice_get (items_of ts) k) c
   item_agrees (list ts) (num (negsuc k)) c = λ w. refl
   item_agrees (list ts) (truth b) c = λ w. refl
@@ -125,7 +125,7 @@ module _ (facts : List Fact) (Agreeing : Type 0) where
   item_agrees (truth x) (truth b) c = λ w. refl
   item_agrees (truth x) (list us) c = λ w. refl
 
-  pub operate_agrees : (o : Operator) (t u : Tree) (c : ℕ) → Gives (operate o t u c) (meaning.operate o t u)
+  pub operate_agrees : (o : Operator) (t u : Tree) (c : ℕ) → Gives (operate_outcome o t u c) (meaning.operate o t u)
   operate_agrees Equal t u c = λ w. refl
   operate_agrees Differs t u c = λ w. refl
   operate_agrees Less (num a) (num b) c = λ w. refl

@@ -11,16 +11,16 @@ use Rattle.tp_meaning.specs.Syntax.{ExprTree, ExprTrees, global, index, no_expr,
 use Rattle.tp_store.specs.Known.{Contents}
 use Rattle.tp_eval.specs.Reached.{Reached, reaches, stops, Evaluation, with_reached, ◌>>=◌, gives}
 use Rattle.tp_eval.specs.declared.halt.Halt.{Halt}
-use Rattle.tp_eval.specs.Evaluate.{Place, is_place, each, all_true, truth_in, evaluate, place_of, value_of, index_of, read_at}
+use Rattle.tp_eval.specs.Evaluate.{PlaceFound, is_place, each, all_true, truth_in, evaluate, evaluated_place, part_value, indexed_value, read_at}
 use Rattle.tp_eval.specs.Answers.{Halts, operand_in, place_at}
 use Rattle.tp_eval.proofs.Steps.{then_gives, halts_then, halts_same}
 
 -- what the evaluation of an expression is at a level
 abbrev pub level : Contents → Env → (inner : ℕ) → ExprTree → Evaluation Tree
-level s env d e = value_of (operand_in s env d) (place_at s env d) s.facts (bindings_of env) [] (λ x args. evaluate s.facts [] d x args) e
+level s env d e = part_value (operand_in s env d) (place_at s env d) s.facts (bindings_of env) [] (λ x args. evaluate s.facts [] d x args) e
 
-abbrev pub place_level : Contents → Env → (inner : ℕ) → ExprTree → Evaluation Place
-place_level s env d e = place_of (operand_in s env d) (place_at s env d) (bindings_of env) e
+abbrev pub place_level : Contents → Env → (inner : ℕ) → ExprTree → Evaluation PlaceFound
+place_level s env d e = evaluated_place (operand_in s env d) (place_at s env d) (bindings_of env) e
 
 pub at_level : (s : Contents) (env : Env) (l : ℕ) (e t : ExprTree) → (l ≡ 0 → ⊥) → e ≡ t → operand_in s env l e ≡ level s env (l - 1) t
 at_level s env zero e t h q = absurd (h refl)
@@ -39,7 +39,7 @@ pub read_index : (s : Contents) (env : Env) (l : ℕ) (e a b : ExprTree) → (l 
 read_index s env zero e a b h q p = absurd (h refl)
 read_index s env (suc d) e a b h q p =
     let P : ExprTree → Type 0 = λ t. operand_in s env (suc d) t ≡ read_at s.facts (place_at s env (suc d) t) in
-    subst P (sym q) (ap (λ (w : Bool). index_of (operand_in s env d) (place_at s env d) s.facts (bindings_of env) w a b) p)
+    subst P (sym q) (ap (λ (w : Bool). indexed_value (operand_in s env d) (place_at s env d) s.facts (bindings_of env) w a b) p)
 
 then_all : {A B C : Type 0} (o : Evaluation A) (f : A → Evaluation B) (g : B → Evaluation C) → ((o >>= f) >>= g) ≡ (o >>= λ x. f x >>= g)
 then_all {A = A} o f g = λ i c. same (o c) i

@@ -9,9 +9,9 @@ use Rattle.tp_meaning.specs.Fits.{ExprFits, ExprsFit}
 use Rattle.tp_meaning.specs.Course.{Course}
 use Rattle.tp_meaning.specs.Bindings.{Locals, meaning_of}
 use Rattle.tp_meaning.specs.Value as meaning
-use Rattle.tp_meaning.specs.Value.{◌>>=◌, item_at, item, list_of, truth_of, number_of, Meaning, fixed, varying, meant, element, Env, Calls, value_by, values_by, all_by, place_by, arguments_by, is_upper}
+use Rattle.tp_meaning.specs.Value.{◌>>=◌, item_at, list_item, list_of, truth_of, number_of, Meaning, fixed, varying, meant, element, Env, Calls, value_by, values_by, all_by, place_by, arguments_by, is_upper}
 use Rattle.tp_eval.specs.Reached.{Reached, reaches, stops, passes, Evaluation, with_reached, gives}
-use Rattle.tp_eval.specs.Evaluate.{Place, is_place, call_limit, operate, truth_in, number_in, length_of, value_at, size_at, each, all_true, one_true, negated, negative, operated, chosen, place_of, element_of, index_of, size_of, bind_place, argument, arguments, body_of, call, value_of}
+use Rattle.tp_eval.specs.Evaluate.{PlaceFound, is_place, call_limit, operate_outcome, truth_in, number_in, length_of, value_at, size_at, each, all_true, one_true, negated, negative, operation_outcome, chosen, evaluated_place, element_of, indexed_value, size_of, bind_place, argument, arguments, body_of, call, part_value}
 use Rattle.tp_eval.proofs.Agree.{none_after, Agrees, same_meaning, then_agrees, beside_agrees, either_agrees}
 use Rattle.tp_eval.proofs.Found.{sized, number_agrees, limited_agrees, truth_agrees, number_in_agrees, length_agrees, item_agrees, operate_agrees}
 use Rattle.tp_eval.proofs.PlaceLemmas.{FactsAreRight, value_here, meanings_here, meaning_of_place, PlaceGives, some_again, regrouped, bound_agrees, global_agrees, index_agrees, bind_place_agrees, value_at_agrees, size_at_agrees}
@@ -21,7 +21,7 @@ module _ (facts : List Fact) (Agreeing : Type 0) (defs : List Definition) (kinds
   abbrev Gives : {A : Type 0} → Reached A → Option A → Type 0
   Gives = Agrees facts Agreeing Some
 
-  abbrev PlaceMeans : Reached Place → Option Meaning → Type 0
+  abbrev PlaceMeans : Reached PlaceFound → Option Meaning → Type 0
   PlaceMeans = PlaceGives facts Agreeing kinds s locals a
 
   abbrev pub meant_binding : BindingTree → Option Meaning
@@ -30,7 +30,7 @@ module _ (facts : List Fact) (Agreeing : Type 0) (defs : List Definition) (kinds
   abbrev pub meant_env : List BindingTree → Env
   meant_env env = meanings_here facts Agreeing kinds s locals a env
 
-  module _ (operand : ExprTree → Evaluation Tree) (place : ExprTree → Evaluation Place) (env : List BindingTree) (calls : Calls) (n : ℕ)
+  module _ (operand : ExprTree → Evaluation Tree) (place : ExprTree → Evaluation PlaceFound) (env : List BindingTree) (calls : Calls) (n : ℕ)
       (operands : (e : ExprTree) → (Agreeing → ExprFits defs kinds e n) → (c : ℕ) → Gives (operand e c) (value_by defs calls e (meant_env env) s a))
       (places : (e : ExprTree) → (Agreeing → ExprFits defs kinds e n) → (c : ℕ) → PlaceMeans (place e c) (place_by defs calls e (meant_env env) s a)) where
     abbrev value_here_by : ExprTree → Option Tree
@@ -73,9 +73,9 @@ module _ (facts : List Fact) (Agreeing : Type 0) (defs : List Definition) (kinds
     negative_agrees e h c = after e h c _ (λ t. number_of t >>= λ k. Some (num (neg_ℤ k))) Some
         (λ t c'. then_agrees facts Agreeing Some Some (number_in t c') (number_of t) _ (λ k. Some (num (neg_ℤ k))) (number_in_agrees facts Agreeing t c') (λ k c''. number_agrees facts Agreeing (neg_ℤ k) c''))
 
-    operated_agrees : (o : Operator) (x y : ExprTree) → (Agreeing → ExprFits defs kinds x n) → (Agreeing → ExprFits defs kinds y n) → (c : ℕ) → Gives (operated operand o x y c) (value_here_by (binary o x y))
+    operated_agrees : (o : Operator) (x y : ExprTree) → (Agreeing → ExprFits defs kinds x n) → (Agreeing → ExprFits defs kinds y n) → (c : ℕ) → Gives (operation_outcome operand o x y c) (value_here_by (binary o x y))
     operated_agrees o x y h k c = after x h c _ (λ t. value_here_by y >>= λ u. meaning.operate o t u) Some
-        (λ t c'. after y k c' (operate o t) (meaning.operate o t) Some (λ u c''. operate_agrees facts Agreeing o t u c''))
+        (λ t c'. after y k c' (operate_outcome o t) (meaning.operate o t) Some (λ u c''. operate_agrees facts Agreeing o t u c''))
 
     chosen_agrees : (b x y : ExprTree) → (Agreeing → ExprFits defs kinds b n) → (Agreeing → ExprFits defs kinds x n) → (Agreeing → ExprFits defs kinds y n) → (c : ℕ) → Gives (chosen operand b x y c) (value_here_by (choice b x y))
     chosen_agrees b x y h k l c = after b h c _ (λ t. truth_of t >>= λ q. if q then value_here_by x else value_here_by y) Some
@@ -83,10 +83,10 @@ module _ (facts : List Fact) (Agreeing : Type 0) (defs : List Definition) (kinds
         (λ q c''. either_agrees facts Agreeing Some q (operand x) (operand y) (value_here_by x) (value_here_by y) c'' (operands x k c'') (operands y l c'')))
 
     element_of_agrees : (x i : ExprTree) → (Agreeing → ExprFits defs kinds x n) → (Agreeing → ExprFits defs kinds i n) → (c : ℕ) → Gives (element_of operand x i c) (value_here_by (index x i))
-    element_of_agrees x i h k c = after x h c _ (λ t. value_here_by i >>= item t) Some
-        (λ t c'. after i k c' _ (item t) Some (λ u c''. item_agrees facts Agreeing t u c''))
+    element_of_agrees x i h k c = after x h c _ (λ t. value_here_by i >>= list_item t) Some
+        (λ t c'. after i k c' _ (list_item t) Some (λ u c''. item_agrees facts Agreeing t u c''))
 
-    pub place_agrees : (e : ExprTree) → (Agreeing → ExprFits defs kinds e n) → (c : ℕ) → PlaceMeans (place_of operand place env e c) (place_here_by e)
+    pub place_agrees : (e : ExprTree) → (Agreeing → ExprFits defs kinds e n) → (c : ℕ) → PlaceMeans (evaluated_place operand place env e c) (place_here_by e)
     place_agrees (bound i) h c = bound_agrees facts Agreeing kinds s locals a env i c
     place_agrees (global x) h c = global_agrees facts Agreeing kinds s locals a x c h
     place_agrees (index e i) h c = then_agrees facts Agreeing (meaning_of_place facts Agreeing kinds s locals a) (meaning_of_place facts Agreeing kinds s locals a) (place e c) (place_here_by e) _
@@ -100,29 +100,29 @@ module _ (facts : List Fact) (Agreeing : Type 0) (defs : List Definition) (kinds
     fixed_item None = refl
     fixed_item (Some u) = refl
 
-    varying_item : (f : ℕ → Option Tree) (u : Tree) → (f a >>= λ t. item t u) ≡ (element (varying f) u >>= meant a)
+    varying_item : (f : ℕ → Option Tree) (u : Tree) → (f a >>= λ t. list_item t u) ≡ (element (varying f) u >>= meant a)
     varying_item f (num (pos k)) = one_index (f a)
       where
-        one_index : (o : Option Tree) → (o >>= λ t. item t (num (pos k))) ≡ (o >>= item_at (k ∷ []))
+        one_index : (o : Option Tree) → (o >>= λ t. list_item t (num (pos k))) ≡ (o >>= item_at (k ∷ []))
         one_index None = refl
-        one_index (Some t) = some_again (item t (num (pos k)))
-    varying_item f (num (negsuc k)) = none_after facts Agreeing (λ t. item t (num (negsuc k))) (λ t. refl) (f a)
-    varying_item f (truth b) = none_after facts Agreeing (λ t. item t (truth b)) (λ t. refl) (f a)
-    varying_item f (list ts) = none_after facts Agreeing (λ t. item t (list ts)) (λ t. refl) (f a)
+        one_index (Some t) = some_again (list_item t (num (pos k)))
+    varying_item f (num (negsuc k)) = none_after facts Agreeing (λ t. list_item t (num (negsuc k))) (λ t. refl) (f a)
+    varying_item f (truth b) = none_after facts Agreeing (λ t. list_item t (truth b)) (λ t. refl) (f a)
+    varying_item f (list ts) = none_after facts Agreeing (λ t. list_item t (list ts)) (λ t. refl) (f a)
 
-    element_value : (m : Meaning) (u : Tree) → (meant a m >>= λ t. item t u) ≡ (element m u >>= meant a)
-    element_value (fixed t) u = fixed_item (item t u)
+    element_value : (m : Meaning) (u : Tree) → (meant a m >>= λ t. list_item t u) ≡ (element m u >>= meant a)
+    element_value (fixed t) u = fixed_item (list_item t u)
     element_value (varying f) u = varying_item f u
 
-    index_value : (o : Option Meaning) (k : Option Tree) → ((o >>= meant a) >>= λ t. k >>= item t) ≡ ((o >>= λ m. k >>= element m) >>= meant a)
+    index_value : (o : Option Meaning) (k : Option Tree) → ((o >>= meant a) >>= λ t. k >>= list_item t) ≡ ((o >>= λ m. k >>= element m) >>= meant a)
     index_value None k = refl
-    index_value (Some m) None = none_after facts Agreeing (λ t. None >>= item t) (λ t. refl) (meant a m)
+    index_value (Some m) None = none_after facts Agreeing (λ t. None >>= list_item t) (λ t. refl) (meant a m)
     index_value (Some m) (Some u) = element_value m u
 
     pub place_value : (e : ExprTree) → is_place e ≡ true → value_here_by e ≡ (place_here_by e >>= meant a)
     place_value (bound i) h = refl
     place_value (global x) h = refl
-    place_value (index e i) h = ap (λ o. o >>= λ t. value_here_by i >>= item t) (place_value e h) ∙ index_value (place_here_by e) (value_here_by i)
+    place_value (index e i) h = ap (λ o. o >>= λ t. value_here_by i >>= list_item t) (place_value e h) ∙ index_value (place_here_by e) (value_here_by i)
     place_value e h = absurd (cc)
 
     size_agrees : (b : Bool) (e : ExprTree) → is_place e ≡ b → (Agreeing → ExprFits defs kinds e n) → (c : ℕ) → Gives (size_of operand place facts env b e c) (value_here_by (size e))
@@ -133,12 +133,12 @@ module _ (facts : List Fact) (Agreeing : Type 0) (defs : List Definition) (kinds
         (λ p c'. same_meaning facts Agreeing Some (size_at facts p c') _ _ (λ w. sym (regrouped (meaning_of_place facts Agreeing kinds s locals a p) (meant a) sized)) (size_at_agrees facts Agreeing kinds s locals a right p c')))
 
     -- a place that is read
-    read_agrees : (e : ExprTree) → is_place e ≡ true → (Agreeing → ExprFits defs kinds e n) → (c : ℕ) → Gives (with_reached (place_of operand place env e c) (value_at facts)) (value_here_by e)
+    read_agrees : (e : ExprTree) → is_place e ≡ true → (Agreeing → ExprFits defs kinds e n) → (c : ℕ) → Gives (with_reached (evaluated_place operand place env e c) (value_at facts)) (value_here_by e)
     read_agrees e q h c = same_meaning facts Agreeing Some _ _ (place_here_by e >>= meant a) (λ w. place_value e q)
-        (then_agrees facts Agreeing (meaning_of_place facts Agreeing kinds s locals a) Some (place_of operand place env e c) (place_here_by e) (value_at facts) (meant a) (place_agrees e h c)
+        (then_agrees facts Agreeing (meaning_of_place facts Agreeing kinds s locals a) Some (evaluated_place operand place env e c) (place_here_by e) (value_at facts) (meant a) (place_agrees e h c)
         (λ p c'. value_at_agrees facts Agreeing kinds s locals a right p c'))
 
-    index_of_agrees : (b : Bool) (e i : ExprTree) → is_place e ≡ b → (Agreeing → ExprFits defs kinds (index e i) n) → (c : ℕ) → Gives (index_of operand place facts env b e i c) (value_here_by (index e i))
+    index_of_agrees : (b : Bool) (e i : ExprTree) → is_place e ≡ b → (Agreeing → ExprFits defs kinds (index e i) n) → (c : ℕ) → Gives (indexed_value operand place facts env b e i c) (value_here_by (index e i))
     index_of_agrees true e i q h c = read_agrees (index e i) q h c
     index_of_agrees false e i q h c = element_of_agrees e i (λ w. (h w).0) (λ w. (h w).1) c
 
@@ -179,7 +179,7 @@ module _ (facts : List Fact) (Agreeing : Type 0) (defs : List Definition) (kinds
           let has : Agreeing → (e : ExprTree) × (x.expr ≡ Some e) = λ w. let q : Some x ≡ Some (g w).0 = sym k ∙ (g w).2 in let same : x ≡ (g w).0 = cc in ((g w).1, ap (λ (y : Definition). y.expr) same ∙ (g w).3) in
           counted_agrees p x k has es h (nat_lt c call_limit) c
 
-      pub value_agrees : (e : ExprTree) → (Agreeing → ExprFits defs kinds e n) → (c : ℕ) → Gives (value_of operand place facts env defs body e c) (value_here_by e)
+      pub value_agrees : (e : ExprTree) → (Agreeing → ExprFits defs kinds e n) → (c : ℕ) → Gives (part_value operand place facts env defs body e c) (value_here_by e)
       value_agrees (numeral k) h c = number_agrees facts Agreeing k c
       value_agrees (boolean b) h c = λ w. refl
       value_agrees (known t) h c = limited_agrees facts Agreeing t c

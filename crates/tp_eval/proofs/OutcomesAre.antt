@@ -15,7 +15,7 @@ use Rattle.tp_meaning.proofs.Deeper.{value_deeper}
 use Rattle.tp_store.specs.Facts.{AgreesWithAll, kept_shape, is_excluded}
 use Rattle.tp_store.specs.Known.{NoClash}
 use Rattle.tp_eval.specs.Reached.{Reached, reaches, stops, waits, faults, passes, with_reached}
-use Rattle.tp_eval.specs.Evaluate.{Place, at_path, inside, element_in, is_place, evaluate, find_place, depth_limit}
+use Rattle.tp_eval.specs.Evaluate.{PlaceFound, at_path, inside, element_in, is_place, evaluate, find_place, depth_limit}
 use Rattle.tp_eval.specs.Outcome as found
 use Rattle.tp_eval.specs.Outcome.{outcome, place_outcome, outcome_reached, place_reached}
 use Rattle.tp_eval.specs.Right.{values_at, OutcomesAreRight, OutcomesMean, WaitsAreUndecided, PlaceWaitsAreUndecided, meant_here, value_here}
@@ -43,7 +43,7 @@ goes_place facts defs (suc l) (global x) env c h = refl
 goes_place facts defs (suc l) (index e i) env c h = goes_place facts defs l e env c (goes_first (find_place facts defs l e env c) _ h)
 goes_place facts defs (suc l) e env c h = absurd h
 
-path_goes : (facts : List Fact) (r : Reached Place) (p : Path) → place_reached facts r ≡ found.path p → Goes r
+path_goes : (facts : List Fact) (r : Reached PlaceFound) (p : Path) → place_reached facts r ≡ found.path p → Goes r
 path_goes facts (reaches x c) p h = tt
 path_goes facts (stops (waits q)) p h = absurd (cc)
 path_goes facts (stops (faults k)) p h = absurd (cc)
@@ -68,7 +68,7 @@ module _ (facts : List Fact) (Agreeing : Type 0) (w : Agreeing) where
   fault_found (stops (faults i)) j o h k = k w
   fault_found (stops (passes i)) j o h k = absurd (cc)
 
-  path_found : {B : Type 0} (mean : Place → Option B) (r : Reached Place) (p : Path) (o : Option B) → place_reached facts r ≡ found.path p → Agrees facts Agreeing mean r o → o ≡ mean (at_path p)
+  path_found : {B : Type 0} (mean : PlaceFound → Option B) (r : Reached PlaceFound) (p : Path) (o : Option B) → place_reached facts r ≡ found.path p → Agrees facts Agreeing mean r o → o ≡ mean (at_path p)
   path_found mean (reaches (at_path q) c) p o h k = let same : q ≡ p = cc in k w ∙ ap (λ x. mean (at_path x)) same
   path_found mean (reaches (inside t at) c) p o h k = absurd (cc)
   path_found mean (stops (waits q)) p o h k = absurd (cc)
@@ -150,7 +150,7 @@ inside_never_waits : (o : Option Tree) (calls : ℕ) (p : Path) → outcome_reac
 inside_never_waits (Some t) calls p h = cc
 inside_never_waits None calls p h = cc
 
-place_wait_found : {B : Type 0} (facts : List Fact) (Agreeing : Type 0) (mean : Place → Option B) (r : Reached Place) (p : Path) (o : Option B) → place_reached facts r ≡ found.other (found.wait p) → Agrees facts Agreeing mean r o
+place_wait_found : {B : Type 0} (facts : List Fact) (Agreeing : Type 0) (mean : PlaceFound → Option B) (r : Reached PlaceFound) (p : Path) (o : Option B) → place_reached facts r ≡ found.other (found.wait p) → Agrees facts Agreeing mean r o
     → IsUndecided facts p
 place_wait_found facts Agreeing mean (reaches (at_path q) c) p o h k = absurd (cc)
 place_wait_found facts Agreeing mean (reaches (inside t at) c) p o h k = absurd (inside_never_waits (item_at at t) c p (cc))

@@ -21,7 +21,7 @@ use Rattle.tp_store.specs.Facts.{kept_shape, is_excluded, item_path}
 use Rattle.tp_store.specs.Known.{full}
 use Rattle.tp_store.specs.Known as store
 use Rattle.tp_eval.specs.Reached.{Reached, reaches, passes, with_reached, gives, stop, fault}
-use Rattle.tp_eval.specs.Evaluate.{Place, at_path, inside, bound_place, index_in, farther, element_in, length_of, length_in, of_full, value_at, size_at, bind_place}
+use Rattle.tp_eval.specs.Evaluate.{PlaceFound, at_path, inside, bound_place, index_in, farther, element_in, length_of, length_in, of_full, value_at, size_at, bind_place}
 use Rattle.tp_eval.proofs.Agree.{IsUndecided, Agrees, same_meaning, limit_agrees}
 use Rattle.tp_eval.proofs.Found.{sized, shape_of_element, size_by_shape, element_further, element_of_fixed, no_element, element_below_zero, element_at_truth, element_at_list, length_agrees}
 
@@ -58,11 +58,11 @@ module _ (facts : List Fact) (Agreeing : Type 0) (kinds : List Bool) (s : Course
   meanings_here env = meanings_of (length kinds) s locals env
 
   -- what a place means along the course
-  abbrev pub meaning_of_place : Place → Option Meaning
+  abbrev pub meaning_of_place : PlaceFound → Option Meaning
   meaning_of_place (at_path p) = Some (meaning_of (length kinds) s locals (place_binding p))
   meaning_of_place (inside t at) = item_at at t >>= λ u. Some (fixed u)
 
-  abbrev pub PlaceGives : Reached Place → Option Meaning → Type 0
+  abbrev pub PlaceGives : Reached PlaceFound → Option Meaning → Type 0
   PlaceGives = Agrees facts Agreeing meaning_of_place
 
   pub bound_agrees : (env : List BindingTree) (i c : ℕ) → PlaceGives (bound_place (slice_get env i) c) (slice_get (meanings_here env) i)
@@ -75,13 +75,13 @@ module _ (facts : List Fact) (Agreeing : Type 0) (kinds : List Bool) (s : Course
   global_agrees x c h = λ w. let q = below_count kinds x.number x.lasting (h w) in
       λ i. Some (varying (λ j. Some (ap (λ (b : Bool). if b then (s j).values x.number else locals x.number j) (sym q) i)))
 
-  farther_agrees : (p : Place) (k c : ℕ) → PlaceGives (farther p k c) (meaning_of_place p >>= λ m. element m (num (pos k)))
+  farther_agrees : (p : PlaceFound) (k c : ℕ) → PlaceGives (farther p k c) (meaning_of_place p >>= λ m. element m (num (pos k)))
   farther_agrees (at_path p) k c = same_meaning facts Agreeing meaning_of_place _ _ (meaning_of_place (at_path (item_path p k)))
       (λ w i. Some (varying (λ j. sym (element_further p.at (k ∷ []) (variable_at (length kinds) s locals p.var j)) i)))
       (limit_agrees facts Agreeing meaning_of_place (nat_lt (length p.at) path_limit) (at_path (item_path p k)) limit.List c)
   farther_agrees (inside t at) k c = λ w. sym (ap (λ o. o >>= λ u. Some (fixed u)) (element_further at (k ∷ []) t) ∙ element_of_fixed (item_at at t) k)
 
-  pub index_agrees : (p : Place) (u : Tree) (c : ℕ) → PlaceGives (with_reached (index_in u c) (farther p)) (meaning_of_place p >>= λ m. element m u)
+  pub index_agrees : (p : PlaceFound) (u : Tree) (c : ℕ) → PlaceGives (with_reached (index_in u c) (farther p)) (meaning_of_place p >>= λ m. element m u)
   index_agrees p (num (pos k)) c = within (nat_le k index_limit)
     where
       within : (b : Bool) → PlaceGives (with_reached ((if b then gives k else stop (passes limit.List)) c) (farther p)) (meaning_of_place p >>= λ m. element m (num (pos k)))
@@ -91,7 +91,7 @@ module _ (facts : List Fact) (Agreeing : Type 0) (kinds : List Bool) (s : Course
   index_agrees p (truth b) c = λ w. no_element (meaning_of_place p) (truth b) (element_at_truth b)
   index_agrees p (list ts) c = λ w. no_element (meaning_of_place p) (list ts) (element_at_list ts)
 
-  pub bind_place_agrees : (p : Place) (c : ℕ) → Agrees facts Agreeing (λ b. Some (meaning_of (length kinds) s locals b)) (bind_place p c) (meaning_of_place p >>= Some)
+  pub bind_place_agrees : (p : PlaceFound) (c : ℕ) → Agrees facts Agreeing (λ b. Some (meaning_of (length kinds) s locals b)) (bind_place p c) (meaning_of_place p >>= Some)
   bind_place_agrees (at_path p) c = λ w. refl
   bind_place_agrees (inside t at) c = element_bound (item_at at t)
     where
@@ -106,7 +106,7 @@ module _ (facts : List Fact) (Agreeing : Type 0) (kinds : List Bool) (s : Course
     full_agrees p store.too_long h c = tt
     full_agrees p (store.value t) h c = λ w. right.whole w p t h
 
-    pub value_at_agrees : (p : Place) (c : ℕ) → Gives (value_at facts p c) (meaning_of_place p >>= meant a)
+    pub value_at_agrees : (p : PlaceFound) (c : ℕ) → Gives (value_at facts p c) (meaning_of_place p >>= meant a)
     value_at_agrees (at_path p) c = full_agrees p (full facts p) refl c
     value_at_agrees (inside t at) c = element_meant (item_at at t)
       where
@@ -120,7 +120,7 @@ module _ (facts : List Fact) (Agreeing : Type 0) (kinds : List Bool) (s : Course
     length_in_agrees p (Some (Num n)) h e c = λ w. size_by_shape _ (Num n) (sym (shape_of_element p.at (value_here p.var.number)) ∙ right.kept w p (Num n) h)
     length_in_agrees p (Some (Truth b)) h e c = λ w. size_by_shape _ (Truth b) (sym (shape_of_element p.at (value_here p.var.number)) ∙ right.kept w p (Truth b) h)
 
-    pub size_at_agrees : (p : Place) (c : ℕ) → Gives (size_at facts p c) ((meaning_of_place p >>= meant a) >>= sized)
+    pub size_at_agrees : (p : PlaceFound) (c : ℕ) → Gives (size_at facts p c) ((meaning_of_place p >>= meant a) >>= sized)
     size_at_agrees (at_path p) c = excluded (is_excluded facts p) refl
       where
         excluded : (b : Bool) → is_excluded facts p ≡ b → Gives ((if b then fault NoElement else length_in p (kept_shape facts p)) c) (item_at p.at (value_here p.var.number) >>= sized)

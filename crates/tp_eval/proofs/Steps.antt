@@ -5,13 +5,13 @@ use Rattle.tp_value.proofs.Trees.{same_tree_is_equality}
 use Rattle.tp_kernel.specs.Read.{operator_of}
 use Rattle.tp_kernel.specs.declared.formula.Op2.{Op2}
 use Rattle.tp_kernel.specs.declared.formula.Op2.TheVariants as op
-use Rattle.tp_eval.specs.Evaluate.{on_divisor, operate, number_in}
+use Rattle.tp_eval.specs.Evaluate.{on_divisor_outcome, operate_outcome, number_in}
 use Rattle.tp_value.specs.Number.{is_within_limit, within_limit}
 use Rattle.tp_kernel.specs.declared.formula.LimitKind.TheVariants as limit
-use Rattle.tp_eval.specs.Reached.{Evaluation, ◌>>=◌, gives, stop, passes, number}
+use Rattle.tp_eval.specs.Reached.{Evaluation, ◌>>=◌, gives, stop, passes, within_numbers}
 use Rattle.tp_eval.specs.declared.halt.Halt.{Halt}
 use Rattle.tp_eval.specs.declared.halt.Halt.TheVariants.{Waits, Faults, Passes, NoMemory}
-use Rattle.tp_eval.specs.Answers.{Halts, Answers, number_within}
+use Rattle.tp_eval.specs.Answers.{Halts, AnswersEvaluation, number_within}
 
 pub then_gives : {A B : Type 0} (o : Evaluation A) (x : A) (f : A → Evaluation B) → o ≡ gives x → (o >>= f) ≡ f x
 then_gives o x f h = ap (λ p. p >>= f) h
@@ -22,14 +22,14 @@ halts_then o (Faults k) f e = ap (λ p. p >>= f) e
 halts_then o (Passes k) f e = ap (λ p. p >>= f) e
 halts_then o NoMemory f e = tt
 
-pub answers_same : {A B : Type 0} (read : A → B) (r : Result A Halt) (o o' : Evaluation B) → o ≡ o' → Answers read r o' → Answers read r o
-answers_same read r o o' e h = subst (λ (p : Evaluation _). Answers read r p) (sym e) h
+pub answers_same : {A B : Type 0} (read : A → B) (r : Result A Halt) (o o' : Evaluation B) → o ≡ o' → AnswersEvaluation read r o' → AnswersEvaluation read r o
+answers_same read r o o' e h = subst (λ (p : Evaluation _). AnswersEvaluation read r p) (sym e) h
 
 pub halts_same : {A : Type 0} (o o' : Evaluation A) (h : Halt) → o ≡ o' → Halts o' h → Halts o h
 halts_same o o' h e k = subst (λ (p : Evaluation _). Halts p h) (sym e) k
 
 -- a number within the limit
-pub number_is : (n : ℤ) → number n ≡ number_within (within_limit n)
+pub number_is : (n : ℤ) → within_numbers n ≡ number_within (within_limit n)
 number_is n = by_limit (is_within_limit n)
   where
     by_limit : (b : Bool) → (if b then gives (num n) else stop (passes limit.Number)) ≡ number_within (if b then Some n else None)
@@ -37,7 +37,7 @@ number_is n = by_limit (is_within_limit n)
     by_limit false = refl
 
 -- a divisor that isn't 0
-pub by_divisor : (f : ℤ → ℤ → ℤ) (a b : ℤ) → b ≢ pos 0 → on_divisor f a b ≡ number_within (within_limit (f a b))
+pub by_divisor : (f : ℤ → ℤ → ℤ) (a b : ℤ) → b ≢ pos 0 → on_divisor_outcome f a b ≡ number_within (within_limit (f a b))
 by_divisor f a (pos zero) h = absurd (h refl)
 by_divisor f a (pos (suc b)) h = number_is (f a (pos (suc b)))
 by_divisor f a (negsuc b) h = number_is (f a (negsuc b))
@@ -52,7 +52,7 @@ same_is s t false h = if_true (same_tree s t) (same_tree_is_equality s t).0
 
 -- an operator that wants numbers
 pub numeric : (o : Op2) → (o ≡ op.Equal → ⊥) → (o ≡ op.Differs → ⊥) → (o ≡ op.Plus → ⊥) → (s t : Tree)
-    → operate (operator_of o) s t ≡ (number_in s >>= λ a. number_in t >>= λ b. operate (operator_of o) (num a) (num b))
+    → operate_outcome (operator_of o) s t ≡ (number_in s >>= λ a. number_in t >>= λ b. operate_outcome (operator_of o) (num a) (num b))
 numeric op.Equal e d p s t = absurd (e refl)
 numeric op.Differs e d p s t = absurd (d refl)
 numeric op.Plus e d p s t = absurd (p refl)

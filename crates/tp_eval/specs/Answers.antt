@@ -8,7 +8,7 @@ use Rattle.tp_kernel.specs.declared.formula.Env.{Env}
 use Rattle.tp_kernel.specs.Read.{bindings_of}
 use Rattle.tp_meaning.specs.Syntax.{ExprTree}
 use Rattle.tp_store.specs.Known.{Contents}
-use Rattle.tp_eval.specs.Evaluate.{Place, evaluate, find_place}
+use Rattle.tp_eval.specs.Evaluate.{PlaceFound, evaluate, find_place}
 use Rattle.tp_eval.specs.Reached.{Evaluation, gives, stop, waits, faults, passes}
 use Rattle.tp_eval.specs.declared.halt.Halt.{Halt}
 use Rattle.tp_eval.specs.declared.halt.Halt.TheVariants.{Waits, Faults, Passes, NoMemory}
@@ -26,8 +26,8 @@ Halts o (Passes k) = o ≡ stop (passes k)
 Halts o NoMemory = Unit {0}
 
 -- The evaluation gives what `read` makes of the answer, or stops as the answer says.
-abbrev pub Answers : {A B : Type 0} → (read : A → B) → Result A Halt → Evaluation B → Type 0
-Answers read answer o = MatchResult answer (λ x. o ≡ gives (read x)) (Halts o)
+abbrev pub AnswersEvaluation : {A B : Type 0} → (read : A → B) → Result A Halt → Evaluation B → Type 0
+AnswersEvaluation read answer o = MatchResult answer (λ x. o ≡ gives (read x)) (Halts o)
 
 abbrev pub as_it_is : {A : Type 0} → A → A
 as_it_is x = x
@@ -38,21 +38,21 @@ number_within (Some n) = gives (num n)
 number_within None = stop (passes limit.Number)
 
 -- an outcome with its value's tree
-abbrev pub outcome_of : Outcome → found.Outcome
-outcome_of (outcome.Value v) = found.value (tree v)
-outcome_of (outcome.Wait p) = found.wait p
-outcome_of (outcome.Fault k) = found.fault k
-outcome_of (outcome.Over k) = found.over k
+abbrev pub outcome_tree : Outcome → found.Outcome
+outcome_tree (outcome.Value v) = found.value (tree v)
+outcome_tree (outcome.Wait p) = found.wait p
+outcome_tree (outcome.Fault k) = found.fault k
+outcome_tree (outcome.Over k) = found.over k
 
 abbrev pub place_outcome_of : PlaceOutcome → found.PlaceOutcome
 place_outcome_of (place.Place p) = found.path p
-place_outcome_of (place.Other o) = found.other (outcome_of o)
+place_outcome_of (place.Other o) = found.other (outcome_tree o)
 
 -- The evaluation of an expression, and of a place, where so many levels are left and there are no definitions.
 abbrev pub operand_in : Contents → Env → (levels : ℕ) → ExprTree → Evaluation Tree
 operand_in s env levels e = evaluate s.facts [] levels e (bindings_of env)
 
-abbrev pub place_at : Contents → Env → (levels : ℕ) → ExprTree → Evaluation Place
+abbrev pub place_at : Contents → Env → (levels : ℕ) → ExprTree → Evaluation PlaceFound
 place_at s env levels e = find_place s.facts [] levels e (bindings_of env)
 
 -- The outcome is that of an evaluation which stops as this says; want of memory has none.

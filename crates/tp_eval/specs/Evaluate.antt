@@ -14,7 +14,7 @@ use Rattle.tp_meaning.specs.Value.{item_at, is_upper}
 use Rattle.tp_store.specs.Facts.{kept_shape, is_excluded, item_path}
 use Rattle.tp_store.specs.Known as store
 use Rattle.tp_store.specs.Known.{full}
-use Rattle.tp_eval.specs.Reached.{waits, passes, reaches, stops, Evaluation, ◌>>=◌, gives, stop, fault, number, limited}
+use Rattle.tp_eval.specs.Reached.{waits, passes, reaches, stops, Evaluation, ◌>>=◌, gives, stop, fault, within_numbers, within_lists}
 
 -- the number, the truth value and the items, where the value is of that kind
 abbrev pub number_in : Tree → Evaluation ℤ
@@ -25,9 +25,9 @@ abbrev pub truth_in : Tree → Evaluation Bool
 truth_in (truth b) = gives b
 truth_in _ = fault WrongKind
 
-abbrev pub items_in : Tree → Evaluation (List Tree)
-items_in (list ts) = gives (items_of ts)
-items_in _ = fault WrongKind
+abbrev pub list_items : Tree → Evaluation (List Tree)
+list_items (list ts) = gives (items_of ts)
+list_items _ = fault WrongKind
 
 -- an element, where there is one
 abbrev pub element_in : Option Tree → Evaluation Tree
@@ -42,53 +42,53 @@ item_in ts (negsuc k) = fault NoElement
 -- the item of a value at another value; the kinds of both are looked at before the item
 abbrev pub item_between : (whole at : Tree) → Evaluation Tree
 item_between t u = do
-  ts ← items_in t
+  ts ← list_items t
   n ← number_in u
   item_in ts n
 
-abbrev pub on_divisor : (ℤ → ℤ → ℤ) → ℤ → ℤ → Evaluation Tree
-on_divisor f a (pos zero) = fault ZeroDivisor
-on_divisor f a b = number (f a b)
+abbrev pub on_divisor_outcome : (ℤ → ℤ → ℤ) → ℤ → ℤ → Evaluation Tree
+on_divisor_outcome f a (pos zero) = fault ZeroDivisor
+on_divisor_outcome f a b = within_numbers (f a b)
 
 -- numbers are needed on both sides
-abbrev pub on_numbers : (ℤ → ℤ → Evaluation Tree) → Tree → Tree → Evaluation Tree
-on_numbers f s t = do
+abbrev pub on_numbers_outcome : (ℤ → ℤ → Evaluation Tree) → Tree → Tree → Evaluation Tree
+on_numbers_outcome f s t = do
   a ← number_in s
   b ← number_in t
   f a b
 
 abbrev pub compared : (ℤ → ℤ → Bool) → Tree → Tree → Evaluation Tree
-compared f = on_numbers (λ a b. gives (truth (f a b)))
+compared f = on_numbers_outcome (λ a b. gives (truth (f a b)))
 
 -- the sum of numbers, and a list after a list
 abbrev pub sum_in : Tree → Tree → Evaluation Tree
-sum_in (num a) t = number_in t >>= λ b. number (a +ℤ b)
-sum_in (list s) t = items_in t >>= λ us. limited (list (of_items (items_of s ++ us)))
+sum_in (num a) t = number_in t >>= λ b. within_numbers (a +ℤ b)
+sum_in (list s) t = list_items t >>= λ us. within_lists (list (of_items (items_of s ++ us)))
 sum_in (truth b) t = fault WrongKind
 
-abbrev pub operate : Operator → Tree → Tree → Evaluation Tree
-operate Equal s t = gives (truth (same_tree s t))
-operate Differs s t = gives (truth (not (same_tree s t)))
-operate Less s t = compared int_lt s t
-operate LessEqual s t = compared int_le s t
-operate Greater s t = compared (λ a b. int_lt b a) s t
-operate GreaterEqual s t = compared (λ a b. int_le b a) s t
-operate Plus s t = sum_in s t
-operate Minus s t = on_numbers (λ a b. number (a -ℤ b)) s t
-operate Times s t = on_numbers (λ a b. number (a *ℤ b)) s t
-operate Div s t = on_numbers (on_divisor floor_div) s t
-operate Mod s t = on_numbers (on_divisor floor_mod) s t
+abbrev pub operate_outcome : Operator → Tree → Tree → Evaluation Tree
+operate_outcome Equal s t = gives (truth (same_tree s t))
+operate_outcome Differs s t = gives (truth (not (same_tree s t)))
+operate_outcome Less s t = compared int_lt s t
+operate_outcome LessEqual s t = compared int_le s t
+operate_outcome Greater s t = compared (λ a b. int_lt b a) s t
+operate_outcome GreaterEqual s t = compared (λ a b. int_le b a) s t
+operate_outcome Plus s t = sum_in s t
+operate_outcome Minus s t = on_numbers_outcome (λ a b. within_numbers (a -ℤ b)) s t
+operate_outcome Times s t = on_numbers_outcome (λ a b. within_numbers (a *ℤ b)) s t
+operate_outcome Div s t = on_numbers_outcome (on_divisor_outcome floor_div) s t
+operate_outcome Mod s t = on_numbers_outcome (on_divisor_outcome floor_mod) s t
 
 abbrev pub negated_in : Tree → Evaluation Tree
 negated_in t = truth_in t >>= λ b. gives (truth (not b))
 
 abbrev pub negative_in : Tree → Evaluation Tree
-negative_in t = number_in t >>= λ n. number (neg_ℤ n)
+negative_in t = number_in t >>= λ n. within_numbers (neg_ℤ n)
 
 -- What a place is, a name followed by indices: a path, or an element of a known value, at these indices.
-pub data Place : Type 0 where
-  at_path : Path → Place
-  inside : Tree → (at : List ℕ) → Place
+pub data PlaceFound : Type 0 where
+  at_path : Path → PlaceFound
+  inside : Tree → (at : List ℕ) → PlaceFound
 
 -- a name followed by indices
 abbrev pub is_place : ExprTree → Bool
@@ -98,7 +98,7 @@ is_place (index e i) = is_place e
 is_place _ = false
 
 -- the place that a binding is
-abbrev pub bound_place : Option BindingTree → Evaluation Place
+abbrev pub bound_place : Option BindingTree → Evaluation PlaceFound
 bound_place (Some (place_binding p)) = gives (at_path p)
 bound_place (Some (known_binding t)) = gives (inside t [])
 bound_place None = fault NoElement
@@ -117,7 +117,7 @@ index_in (num (negsuc k)) = fault NoElement
 index_in _ = fault WrongKind
 
 -- one index more; a path has no more than its limit
-abbrev pub farther : Place → ℕ → Evaluation Place
+abbrev pub farther : PlaceFound → ℕ → Evaluation PlaceFound
 farther (at_path p) k = if nat_lt (length p.at) path_limit then gives (at_path (item_path p k)) else stop (passes limit.List)
 farther (inside t at) k = gives (inside t (at ++ k ∷ []))
 
@@ -135,10 +135,10 @@ length_in p (Some (Num n)) = fault WrongKind
 length_in p (Some (Truth b)) = fault WrongKind
 
 abbrev pub length_of : Tree → Evaluation Tree
-length_of t = items_in t >>= λ ts. gives (num (pos (length ts)))
+length_of t = list_items t >>= λ ts. gives (num (pos (length ts)))
 
 -- what a parameter is bound to that is given a place
-abbrev pub bind_place : Place → Evaluation BindingTree
+abbrev pub bind_place : PlaceFound → Evaluation BindingTree
 bind_place (at_path p) = gives (place_binding p)
 bind_place (inside t at) = element_in (item_at at t) >>= λ u. gives (known_binding u)
 
@@ -148,15 +148,15 @@ count_call = λ calls. if nat_lt calls call_limit then reaches calls (suc calls)
 
 module _ (facts : List Fact) where
   -- the value of a place
-  abbrev pub value_at : Place → Evaluation Tree
+  abbrev pub value_at : PlaceFound → Evaluation Tree
   value_at (at_path p) = of_full (full facts p)
   value_at (inside t at) = element_in (item_at at t)
 
-  abbrev pub read_at : Evaluation Place → Evaluation Tree
+  abbrev pub read_at : Evaluation PlaceFound → Evaluation Tree
   read_at o = o >>= value_at
 
   -- the size of a place, for which its shape is enough
-  abbrev pub size_at : Place → Evaluation Tree
+  abbrev pub size_at : PlaceFound → Evaluation Tree
   size_at (at_path p) = if is_excluded facts p then fault NoElement else length_in p (kept_shape facts p)
   size_at (inside t at) = element_in (item_at at t) >>= length_of
 
@@ -190,11 +190,11 @@ module _ (operand : ExprTree → Evaluation Tree) where
   abbrev pub negative : ExprTree → Evaluation Tree
   negative e = operand e >>= negative_in
 
-  abbrev pub operated : Operator → ExprTree → ExprTree → Evaluation Tree
-  operated o a b = do
+  abbrev pub operation_outcome : Operator → ExprTree → ExprTree → Evaluation Tree
+  operation_outcome o a b = do
     t ← operand a
     u ← operand b
-    operate o t u
+    operate_outcome o t u
 
   abbrev pub chosen : (condition first second : ExprTree) → Evaluation Tree
   chosen b x y = do
@@ -210,17 +210,17 @@ module _ (operand : ExprTree → Evaluation Tree) where
     item_between t u
 
 -- `operand` and `place` evaluate one level deeper
-module _ (operand : ExprTree → Evaluation Tree) (place : ExprTree → Evaluation Place) where
+module _ (operand : ExprTree → Evaluation Tree) (place : ExprTree → Evaluation PlaceFound) where
   -- what a name followed by indices is; each index is looked at before the next one is evaluated
-  abbrev pub place_of : List BindingTree → ExprTree → Evaluation Place
-  place_of env (bound i) = bound_place (slice_get env i)
-  place_of env (global x) = gives (at_path (record { var = x; at = [] }))
-  place_of env (index e i) = do
+  abbrev pub evaluated_place : List BindingTree → ExprTree → Evaluation PlaceFound
+  evaluated_place env (bound i) = bound_place (slice_get env i)
+  evaluated_place env (global x) = gives (at_path (record { var = x; at = [] }))
+  evaluated_place env (index e i) = do
     p ← place e
     t ← operand i
     k ← index_in t
     farther p k
-  place_of env e = fault NoElement
+  evaluated_place env e = fault NoElement
 
   -- what a parameter is bound to: a place where it is upper-case, a value else
   abbrev pub argument : (upper : Bool) → ExprTree → Evaluation BindingTree
@@ -237,9 +237,9 @@ module _ (operand : ExprTree → Evaluation Tree) (place : ExprTree → Evaluati
   arguments _ _ = fault NoElement
 
   module _ (facts : List Fact) (env : List BindingTree) where
-    abbrev pub index_of : (is_one : Bool) → ExprTree → ExprTree → Evaluation Tree
-    index_of true e i = place_of env (index e i) >>= value_at facts
-    index_of false e i = element_of operand e i
+    abbrev pub indexed_value : (is_one : Bool) → ExprTree → ExprTree → Evaluation Tree
+    indexed_value true e i = evaluated_place env (index e i) >>= value_at facts
+    indexed_value false e i = element_of operand e i
 
     abbrev pub size_of : (is_one : Bool) → ExprTree → Evaluation Tree
     size_of true e = place e >>= size_at facts
@@ -259,30 +259,30 @@ module _ (operand : ExprTree → Evaluation Tree) (place : ExprTree → Evaluati
         body_of f.expr args
       call None es = fault NoElement
 
-      abbrev pub value_of : ExprTree → Evaluation Tree
-      value_of (numeral n) = number n
-      value_of (boolean b) = gives (truth b)
-      value_of (known t) = limited t
-      value_of (bound i) = place_of env (bound i) >>= value_at facts
-      value_of (global x) = place_of env (global x) >>= value_at facts
-      value_of (listing es) = each operand es >>= λ ts. limited (list (of_items ts))
-      value_of (size e) = size_of (is_place e) e
-      value_of (index e i) = index_of (is_place e) e i
-      value_of (minus e) = negative operand e
-      value_of (negation e) = negated operand e
-      value_of (both es) = all_true operand es
-      value_of (either a b) = one_true operand a b
-      value_of (binary o a b) = operated operand o a b
-      value_of (choice b x y) = chosen operand b x y
-      value_of (invoke p es) = call (slice_get defs p) es
+      abbrev pub part_value : ExprTree → Evaluation Tree
+      part_value (numeral n) = within_numbers n
+      part_value (boolean b) = gives (truth b)
+      part_value (known t) = within_lists t
+      part_value (bound i) = evaluated_place env (bound i) >>= value_at facts
+      part_value (global x) = evaluated_place env (global x) >>= value_at facts
+      part_value (listing es) = each operand es >>= λ ts. within_lists (list (of_items ts))
+      part_value (size e) = size_of (is_place e) e
+      part_value (index e i) = indexed_value (is_place e) e i
+      part_value (minus e) = negative operand e
+      part_value (negation e) = negated operand e
+      part_value (both es) = all_true operand es
+      part_value (either a b) = one_true operand a b
+      part_value (binary o a b) = operation_outcome operand o a b
+      part_value (choice b x y) = chosen operand b x y
+      part_value (invoke p es) = call (slice_get defs p) es
 
 -- The evaluation of an expression and of a place, where so many levels are left: at none the limit on calls is passed.
 module _ (facts : List Fact) (defs : List Definition) where
   abbrev mutual
     pub evaluate : (levels : ℕ) → ExprTree → List BindingTree → Evaluation Tree
     evaluate zero e env = stop (passes limit.Calls)
-    evaluate (suc d) e env = value_of (λ x. evaluate d x env) (λ x. find_place d x env) facts env defs (λ x args. evaluate d x args) e
+    evaluate (suc d) e env = part_value (λ x. evaluate d x env) (λ x. find_place d x env) facts env defs (λ x args. evaluate d x args) e
 
-    pub find_place : (levels : ℕ) → ExprTree → List BindingTree → Evaluation Place
+    pub find_place : (levels : ℕ) → ExprTree → List BindingTree → Evaluation PlaceFound
     find_place zero e env = stop (passes limit.Calls)
-    find_place (suc d) e env = place_of (λ x. evaluate d x env) (λ x. find_place d x env) env e
+    find_place (suc d) e env = evaluated_place (λ x. evaluate d x env) (λ x. find_place d x env) env e

@@ -7,7 +7,7 @@ use Rattle.tp_kernel.specs.declared.formula.FaultKind.{FaultKind}
 use Rattle.tp_kernel.specs.declared.formula.LimitKind.{LimitKind}
 use Rattle.tp_meaning.specs.Syntax.{ExprTree, Definition, BindingTree}
 use Rattle.tp_eval.specs.Reached.{Reached, reaches, stops, waits, faults, passes}
-use Rattle.tp_eval.specs.Evaluate.{Place, at_path, inside, evaluate, find_place, value_at, depth_limit}
+use Rattle.tp_eval.specs.Evaluate.{PlaceFound, at_path, inside, evaluate, find_place, value_at, depth_limit}
 
 -- a value; the path whose shape it waits for; why it has no value; or the limit that it passes
 pub data Outcome : Type 0 where
@@ -31,7 +31,7 @@ pub data PlaceOutcome : Type 0 where
   path : Path → PlaceOutcome
   other : Outcome → PlaceOutcome
 
-abbrev pub place_reached : List Fact → Reached Place → PlaceOutcome
+abbrev pub place_reached : List Fact → Reached PlaceFound → PlaceOutcome
 place_reached facts (reaches (at_path p) calls) = path p
 place_reached facts (reaches (inside t at) calls) = other (outcome_reached (value_at facts (inside t at) calls))
 place_reached facts (stops (waits p)) = other (wait p)

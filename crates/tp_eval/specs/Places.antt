@@ -5,6 +5,6 @@ use Rattle.tp_eval.specs.declared.places.Place.TheVariants.{At, Inside}
 use Rattle.tp_eval.specs.Evaluate as evaluated
 
 -- a place with its value's tree
-abbrev pub place_in : Place → evaluated.Place
+abbrev pub place_in : Place → evaluated.PlaceFound
 place_in (At p) = evaluated.at_path p
 place_in (Inside v at) = evaluated.inside (tree v.value) at

@@ -42,9 +42,9 @@ abbrev pub fault : {A : Type 0} → FaultKind → Evaluation A
 fault k = stop (faults k)
 
 -- a number, where it is within the limit of numbers
-abbrev pub number : ℤ → Evaluation Tree
-number n = if is_within_limit n then gives (num n) else stop (passes limit.Number)
+abbrev pub within_numbers : ℤ → Evaluation Tree
+within_numbers n = if is_within_limit n then gives (num n) else stop (passes limit.Number)
 
 -- a value, where it is within the limit on lists
-abbrev pub limited : Tree → Evaluation Tree
-limited t = if is_within_list_limit t then gives t else stop (passes limit.List)
+abbrev pub within_lists : Tree → Evaluation Tree
+within_lists t = if is_within_list_limit t then gives t else stop (passes limit.List)

@@ -5,7 +5,7 @@ ghost use Rattle.tp_kernel.specs.Read.{expr_tree, bindings_of, definitions_of};
 ghost use Rattle.tp_eval.specs.Reached.{reaches};
 ghost use Rattle.tp_eval.specs.Evaluate.{is_place};
 ghost use Rattle.tp_eval.specs.Outcome.{outcome, place_outcome, place_reached};
-ghost use Rattle.tp_eval.specs.Answers.{outcome_of, place_outcome_of, IsHalt, IsAnswer};
+ghost use Rattle.tp_eval.specs.Answers.{outcome_tree, place_outcome_of, IsHalt, IsAnswer};
 ghost use Rattle.tp_eval.specs.Places.{place_in};
 
 use crate::evaluate::{evaluate, find_place};
@@ -21,7 +21,7 @@ use tp_value::{NoMemory, Value};
 const LEVELS: u32 = 2000;
 
 fn halted(halt: Halt) -> Result<Outcome, NoMemory>
-    ensures { IfOk result (λ o. IsHalt halt (outcome_of o)) }
+    ensures { IfOk result (λ o. IsHalt halt (outcome_tree o)) }
 {
     match halt {
         Halt::Waits(path) => Ok(Outcome::Wait(path)),
@@ -32,7 +32,7 @@ fn halted(halt: Halt) -> Result<Outcome, NoMemory>
 }
 
 fn settled(answer: Result<Value, Halt>) -> Result<Outcome, NoMemory>
-    ensures { IfOk result (λ o. IsAnswer answer (outcome_of o)) }
+    ensures { IfOk result (λ o. IsAnswer answer (outcome_tree o)) }
 {
     match answer {
         Ok(value) => Ok(Outcome::Value(value)),
@@ -50,7 +50,10 @@ pub fn eval(
     defs: &Defs,
 ) -> Result<Outcome, NoMemory>
     requires { definitions_of defs.now ≡ [] }
-    ensures { IfOk result (λ o. outcome_of o ≡ outcome store.now.facts (definitions_of defs.now) (expr_tree expr.now) (bindings_of env.now)) }
+    ensures { IfOk result (λ o.
+        outcome_tree o
+        ≡ outcome store.now.facts (definitions_of defs.now) (expr_tree expr.now)
+        (bindings_of env.now)) }
 {
     prove!(defs.items.is_empty());
     let answer = evaluate(alloc, LEVELS, expr, env, store);
@@ -60,7 +63,8 @@ pub fn eval(
 
 // A path, or the element of a known value.
 fn path_or_value(alloc: Global, place: Place, store: &Store) -> Result<PlaceOutcome, NoMemory>
-    ensures { IfOk result (λ o. place_outcome_of o ≡ place_reached store.now.facts (reaches (place_in place) 0)) }
+    ensures { IfOk result (λ o.
+        place_outcome_of o ≡ place_reached store.now.facts (reaches (place_in place) 0)) }
 {
     match place {
         Place::At(path) => Ok(PlaceOutcome::Place(path)),
@@ -83,7 +87,10 @@ pub fn place(
 ) -> Result<PlaceOutcome, NoMemory>
     requires none { definitions_of defs.now ≡ [] }
     requires place { IsTrue (is_place (expr_tree expr.now)) }
-    ensures { IfOk result (λ o. place_outcome_of o ≡ place_outcome store.now.facts (definitions_of defs.now) (expr_tree expr.now) (bindings_of env.now)) }
+    ensures { IfOk result (λ o.
+        place_outcome_of o
+        ≡ place_outcome store.now.facts (definitions_of defs.now) (expr_tree expr.now)
+        (bindings_of env.now)) }
 {
     prove!(defs.items.is_empty());
     match find_place(alloc, LEVELS, expr, env, store) {

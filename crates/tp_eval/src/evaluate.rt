@@ -3,9 +3,9 @@ ghost use Rattle.std.specs.Prelude.{◌≡◌, map, neg_ℤ, not};
 ghost use Rattle.tp_value.specs.Tree.{truth};
 ghost use Rattle.tp_value.specs.Read.{tree};
 ghost use Rattle.tp_kernel.specs.Read.{expr_tree, expr_trees, operator_of, bindings_of};
-ghost use Rattle.tp_eval.specs.Reached.{number, limited};
-ghost use Rattle.tp_eval.specs.Evaluate.{is_place, each, all_true, one_true, operated, chosen, element_of, size_of, negative_in, negated_in, read_at};
-ghost use Rattle.tp_eval.specs.Answers.{Answers, operand_in, place_at};
+ghost use Rattle.tp_eval.specs.Reached.{within_numbers, within_lists};
+ghost use Rattle.tp_eval.specs.Evaluate.{is_place, each, all_true, one_true, operation_outcome, chosen, element_of, size_of, negative_in, negated_in, read_at};
+ghost use Rattle.tp_eval.specs.Answers.{AnswersEvaluation, operand_in, place_at};
 ghost use Rattle.tp_eval.specs.Places.{place_in};
 
 use crate::halt::Halt;
@@ -31,7 +31,7 @@ pub fn is_place(expr: &Expr) -> bool
 
 // A number, where it is within the limit.
 fn constant(n: Number) -> Result<Value, Halt>
-    ensures { Answers tree result (number n) }
+    ensures { AnswersEvaluation tree result (within_numbers n) }
 {
     if is_number(n) {
         Ok(Value::Num(n))
@@ -42,7 +42,7 @@ fn constant(n: Number) -> Result<Value, Halt>
 
 // A known value, where it is within the limit on lists.
 fn known(alloc: Global, value: &Value) -> Result<Value, Halt>
-    ensures { Answers tree result (limited (tree value.now)) }
+    ensures { AnswersEvaluation tree result (within_lists (tree value.now)) }
 {
     let copy = value.copy(alloc)?;
     limited(copy)
@@ -50,7 +50,7 @@ fn known(alloc: Global, value: &Value) -> Result<Value, Halt>
 
 // The number with the other sign.
 fn negative(value: Value) -> Result<Value, Halt>
-    ensures { Answers tree result (negative_in (tree value)) }
+    ensures { AnswersEvaluation tree result (negative_in (tree value)) }
 {
     let n = number_of(value)?;
     within(negated(n))
@@ -58,7 +58,7 @@ fn negative(value: Value) -> Result<Value, Halt>
 
 // The other truth value.
 fn contrary(value: Value) -> Result<Value, Halt>
-    ensures { Answers tree result (negated_in (tree value)) }
+    ensures { AnswersEvaluation tree result (negated_in (tree value)) }
 {
     let b = truth_of(value)?;
     Ok(Value::Truth(!b))
@@ -73,7 +73,8 @@ fn each(
     env: &Env,
     store: &Store,
 ) -> Result<Vec<Value>, Halt>
-    ensures { Answers (λ values. map tree values.items) result (each (operand_in store.now env.now levels) (expr_trees exprs.now)) }
+    ensures { AnswersEvaluation (λ values. map tree values.items) result
+        (each (operand_in store.now env.now levels) (expr_trees exprs.now)) }
 {
     let mut values = Vec::new(alloc);
     for expr in &exprs.items {
@@ -92,7 +93,8 @@ fn all_true(
     env: &Env,
     store: &Store,
 ) -> Result<Value, Halt>
-    ensures { Answers tree result (all_true (operand_in store.now env.now levels) (expr_trees exprs.now)) }
+    ensures { AnswersEvaluation tree result
+        (all_true (operand_in store.now env.now levels) (expr_trees exprs.now)) }
 {
     for expr in &exprs.items {
         let value = evaluate(alloc, levels, expr, env, store)?;
@@ -114,7 +116,9 @@ fn one_true(
     env: &Env,
     store: &Store,
 ) -> Result<Value, Halt>
-    ensures { Answers tree result (one_true (operand_in store.now env.now levels) (expr_tree first.now) (expr_tree second.now)) }
+    ensures { AnswersEvaluation tree result
+        (one_true (operand_in store.now env.now levels) (expr_tree first.now)
+        (expr_tree second.now)) }
 {
     let value = evaluate(alloc, levels, first, env, store)?;
     let b = truth_of(value)?;
@@ -137,7 +141,9 @@ fn operated(
     env: &Env,
     store: &Store,
 ) -> Result<Value, Halt>
-    ensures { Answers tree result (operated (operand_in store.now env.now levels) (operator_of op) (expr_tree first.now) (expr_tree second.now)) }
+    ensures { AnswersEvaluation tree result
+        (operation_outcome (operand_in store.now env.now levels) (operator_of op)
+        (expr_tree first.now) (expr_tree second.now)) }
 {
     let a = evaluate(alloc, levels, first, env, store)?;
     let b = evaluate(alloc, levels, second, env, store)?;
@@ -155,7 +161,9 @@ fn chosen(
     env: &Env,
     store: &Store,
 ) -> Result<Value, Halt>
-    ensures { Answers tree result (chosen (operand_in store.now env.now levels) (expr_tree condition.now) (expr_tree first.now) (expr_tree second.now)) }
+    ensures { AnswersEvaluation tree result
+        (chosen (operand_in store.now env.now levels) (expr_tree condition.now) (expr_tree first.now)
+        (expr_tree second.now)) }
 {
     let value = evaluate(alloc, levels, condition, env, store)?;
     let b = truth_of(value)?;
@@ -176,7 +184,9 @@ fn element_of(
     env: &Env,
     store: &Store,
 ) -> Result<Value, Halt>
-    ensures { Answers tree result (element_of (operand_in store.now env.now levels) (expr_tree whole.now) (expr_tree index.now)) }
+    ensures { AnswersEvaluation tree result
+        (element_of (operand_in store.now env.now levels) (expr_tree whole.now)
+        (expr_tree index.now)) }
 {
     let value = evaluate(alloc, levels, whole, env, store)?;
     let at = evaluate(alloc, levels, index, env, store)?;
@@ -186,7 +196,10 @@ fn element_of(
 // The size of a place or of another value.
 #[cycle(evaluate)]
 fn size_of(alloc: Global, levels: u32, expr: &Expr, env: &Env, store: &Store) -> Result<Value, Halt>
-    ensures { Answers tree result (size_of (operand_in store.now env.now levels) (place_at store.now env.now levels) store.now.facts (bindings_of env.now) (is_place (expr_tree expr.now)) (expr_tree expr.now)) }
+    ensures { AnswersEvaluation tree result
+        (size_of (operand_in store.now env.now levels) (place_at store.now env.now levels)
+        store.now.facts (bindings_of env.now) (is_place (expr_tree expr.now))
+        (expr_tree expr.now)) }
 {
     if is_place(expr) {
         let place = find_place(alloc, levels, expr, env, store)?;
@@ -206,7 +219,8 @@ pub fn find_place(
     env: &Env,
     store: &Store,
 ) -> Result<Place, Halt>
-    ensures { Answers place_in result (place_at store.now env.now levels (expr_tree expr.now)) }
+    ensures { AnswersEvaluation place_in result
+        (place_at store.now env.now levels (expr_tree expr.now)) }
 {
     if levels == 0 {
         return Err(Halt::Passes(LimitKind::Calls));
@@ -227,7 +241,8 @@ pub fn find_place(
 // The value of a name followed by indices.
 #[cycle(evaluate)]
 fn read(alloc: Global, levels: u32, expr: &Expr, env: &Env, store: &Store) -> Result<Value, Halt>
-    ensures { Answers tree result (read_at store.now.facts (place_at store.now env.now levels (expr_tree expr.now))) }
+    ensures { AnswersEvaluation tree result
+        (read_at store.now.facts (place_at store.now env.now levels (expr_tree expr.now))) }
 {
     let place = find_place(alloc, levels, expr, env, store)?;
     value_at(alloc, &place, store)
@@ -242,7 +257,8 @@ pub fn evaluate(
     env: &Env,
     store: &Store,
 ) -> Result<Value, Halt>
-    ensures { Answers tree result (operand_in store.now env.now levels (expr_tree expr.now)) }
+    ensures { AnswersEvaluation tree result
+        (operand_in store.now env.now levels (expr_tree expr.now)) }
 {
     if levels == 0 {
         return Err(Halt::Passes(LimitKind::Calls));

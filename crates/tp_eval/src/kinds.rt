@@ -2,9 +2,9 @@
 ghost use Rattle.tp_value.specs.Read.{tree};
 ghost use Rattle.std.specs.Prelude.{map, IfOk, FitsSigned};
 ghost use Rattle.std.specs.Int.{w64};
-ghost use Rattle.tp_eval.specs.Reached.{limited};
-ghost use Rattle.tp_eval.specs.Evaluate.{number_in, truth_in, items_in};
-ghost use Rattle.tp_eval.specs.Answers.{Answers, number_within, as_it_is};
+ghost use Rattle.tp_eval.specs.Reached.{within_lists};
+ghost use Rattle.tp_eval.specs.Evaluate.{number_in, truth_in, list_items};
+ghost use Rattle.tp_eval.specs.Answers.{AnswersEvaluation, number_within, as_it_is};
 
 use crate::halt::Halt;
 use tp_kernel::{FaultKind, LimitKind};
@@ -12,7 +12,7 @@ use tp_value::{Items, Number, Value, is_within_list_limit};
 
 /// The number, where the value is one.
 pub fn number_of(value: Value) -> Result<Number, Halt>
-    ensures value { Answers as_it_is result (number_in (tree value)) }
+    ensures value { AnswersEvaluation as_it_is result (number_in (tree value)) }
     ensures fits { IfOk result (λ n. FitsSigned w64 n) }
 {
     match value {
@@ -24,7 +24,7 @@ pub fn number_of(value: Value) -> Result<Number, Halt>
 
 /// The truth value, where the value is one.
 pub fn truth_of(value: Value) -> Result<bool, Halt>
-    ensures { Answers as_it_is result (truth_in (tree value)) }
+    ensures { AnswersEvaluation as_it_is result (truth_in (tree value)) }
 {
     match value {
         Value::Num(_) => Err(Halt::Faults(FaultKind::WrongKind)),
@@ -35,7 +35,7 @@ pub fn truth_of(value: Value) -> Result<bool, Halt>
 
 /// The items, where the value is a list.
 pub fn items_of(value: Value) -> Result<Items, Halt>
-    ensures { Answers (λ all. map tree all.items.items) result (items_in (tree value)) }
+    ensures { AnswersEvaluation (λ all. map tree all.items.items) result (list_items (tree value)) }
 {
     match value {
         Value::Num(_) => Err(Halt::Faults(FaultKind::WrongKind)),
@@ -46,7 +46,7 @@ pub fn items_of(value: Value) -> Result<Items, Halt>
 
 /// A number that was found within the limit, or the limit that is passed.
 pub fn within(n: Option<Number>) -> Result<Value, Halt>
-    ensures { Answers tree result (number_within n) }
+    ensures { AnswersEvaluation tree result (number_within n) }
 {
     match n {
         Some(n) => Ok(Value::Num(n)),
@@ -56,7 +56,7 @@ pub fn within(n: Option<Number>) -> Result<Value, Halt>
 
 /// The value, where it is within the limit on lists.
 pub fn limited(value: Value) -> Result<Value, Halt>
-    ensures { Answers tree result (limited (tree value)) }
+    ensures { AnswersEvaluation tree result (within_lists (tree value)) }
 {
     if is_within_list_limit(&value) {
         Ok(value)

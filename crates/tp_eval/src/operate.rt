@@ -4,9 +4,9 @@ ghost use Rattle.tp_value.specs.Tree.{num, list, of_items};
 ghost use Rattle.tp_value.specs.Read.{tree};
 ghost use Rattle.tp_value.specs.Number.{floor_div, floor_mod};
 ghost use Rattle.tp_kernel.specs.Read.{operator_of};
-ghost use Rattle.tp_eval.specs.Reached.{limited};
-ghost use Rattle.tp_eval.specs.Evaluate.{operate, sum_in, on_divisor, item_between};
-ghost use Rattle.tp_eval.specs.Answers.{Answers};
+ghost use Rattle.tp_eval.specs.Reached.{within_lists};
+ghost use Rattle.tp_eval.specs.Evaluate.{operate_outcome, sum_in, on_divisor_outcome, item_between};
+ghost use Rattle.tp_eval.specs.Answers.{AnswersEvaluation};
 
 use crate::halt::Halt;
 use crate::kinds::{items_of, limited, number_of, within};
@@ -15,7 +15,9 @@ use tp_value::{Items, Number, Value, difference, product, quotient, remainder, s
 
 // The first list with the second after it.
 fn append(first: Items, second: Items) -> Result<Value, Halt>
-    ensures { Answers tree result (limited (list (of_items (map tree first.items.items ++ map tree second.items.items)))) }
+    ensures { AnswersEvaluation tree result
+        (within_lists
+        (list (of_items (map tree first.items.items ++ map tree second.items.items)))) }
 {
     let mut items = first.items;
     let mut rest = second.items;
@@ -25,7 +27,7 @@ fn append(first: Items, second: Items) -> Result<Value, Halt>
 
 // The sum of two numbers, or a list after a list.
 fn sum_of(a: Value, b: Value) -> Result<Value, Halt>
-    ensures { Answers tree result (sum_in (tree a) (tree b)) }
+    ensures { AnswersEvaluation tree result (sum_in (tree a) (tree b)) }
 {
     match a {
         Value::Num(m) => {
@@ -42,7 +44,7 @@ fn sum_of(a: Value, b: Value) -> Result<Value, Halt>
 
 // The quotient, rounded down.
 fn divide(m: Number, n: Number) -> Result<Value, Halt>
-    ensures { Answers tree result (on_divisor floor_div m n) }
+    ensures { AnswersEvaluation tree result (on_divisor_outcome floor_div m n) }
 {
     if n == 0 {
         return Err(Halt::Faults(FaultKind::ZeroDivisor));
@@ -52,7 +54,7 @@ fn divide(m: Number, n: Number) -> Result<Value, Halt>
 
 // What the quotient leaves of the dividend.
 fn reduce(m: Number, n: Number) -> Result<Value, Halt>
-    ensures { Answers tree result (on_divisor floor_mod m n) }
+    ensures { AnswersEvaluation tree result (on_divisor_outcome floor_mod m n) }
 {
     if n == 0 {
         return Err(Halt::Faults(FaultKind::ZeroDivisor));
@@ -61,7 +63,7 @@ fn reduce(m: Number, n: Number) -> Result<Value, Halt>
 }
 
 fn on_numbers(op: Op2, m: Number, n: Number) -> Result<Value, Halt>
-    ensures { Answers tree result (operate (operator_of op) (num m) (num n)) }
+    ensures { AnswersEvaluation tree result (operate_outcome (operator_of op) (num m) (num n)) }
 {
     match op {
         Op2::Equal => Ok(Value::Truth(m == n)),
@@ -80,7 +82,7 @@ fn on_numbers(op: Op2, m: Number, n: Number) -> Result<Value, Halt>
 
 /// What an operator makes of two values.
 pub fn operate(op: Op2, a: Value, b: Value) -> Result<Value, Halt>
-    ensures { Answers tree result (operate (operator_of op) (tree a) (tree b)) }
+    ensures { AnswersEvaluation tree result (operate_outcome (operator_of op) (tree a) (tree b)) }
 {
     match op {
         Op2::Equal => Ok(Value::Truth(same(&a, &b))),
@@ -96,7 +98,7 @@ pub fn operate(op: Op2, a: Value, b: Value) -> Result<Value, Halt>
 
 /// The item of a list at an index from 0.
 pub fn item_of(whole: Value, index: Value) -> Result<Value, Halt>
-    ensures { Answers tree result (item_between (tree whole) (tree index)) }
+    ensures { AnswersEvaluation tree result (item_between (tree whole) (tree index)) }
 {
     let mut items = items_of(whole)?.items;
     let n = number_of(index)?;

@@ -10,7 +10,7 @@ ghost use Rattle.tp_store.specs.Facts.{kept_shape};
 ghost use Rattle.tp_store.specs.Answers.{full_of};
 ghost use Rattle.tp_eval.specs.Evaluate.{at_path, inside, bound_place, element_in, farther, index_in, of_full, value_at, size_at, length_of};
 ghost use Rattle.tp_eval.specs.Places.{place_in};
-ghost use Rattle.tp_eval.specs.Answers.{Answers, as_it_is};
+ghost use Rattle.tp_eval.specs.Answers.{AnswersEvaluation, as_it_is};
 
 use crate::halt::Halt;
 use std::alloc::Global;
@@ -35,7 +35,7 @@ pub fn whole(alloc: Global, var: VarId) -> Place
 }
 
 fn place_of_binding(alloc: Global, binding: &Binding) -> Result<Place, Halt>
-    ensures { Answers place_in result (bound_place (Some (binding_of binding.now))) }
+    ensures { AnswersEvaluation place_in result (bound_place (Some (binding_of binding.now))) }
 {
     match binding {
         Binding::Place(path) => Ok(Place::At(path.copy()?)),
@@ -45,7 +45,8 @@ fn place_of_binding(alloc: Global, binding: &Binding) -> Result<Place, Halt>
 
 /// What the bound name with this number is.
 pub fn named(alloc: Global, env: &Env, number: u32) -> Result<Place, Halt>
-    ensures { Answers place_in result (bound_place (slice_get (bindings_of env.now) number)) }
+    ensures { AnswersEvaluation place_in result
+        (bound_place (slice_get (bindings_of env.now) number)) }
 {
     match env.items.get(number as usize) {
         Some(binding) => place_of_binding(alloc, binding),
@@ -55,7 +56,7 @@ pub fn named(alloc: Global, env: &Env, number: u32) -> Result<Place, Halt>
 
 /// An index of a place: a number that is at least 0 and within the limit.
 pub fn index_of(value: Value) -> Result<u32, Halt>
-    ensures { Answers as_it_is result (index_in (tree value)) }
+    ensures { AnswersEvaluation as_it_is result (index_in (tree value)) }
 {
     match value {
         Value::Num(n) => index_from(n),
@@ -65,7 +66,7 @@ pub fn index_of(value: Value) -> Result<u32, Halt>
 }
 
 fn index_from(n: Number) -> Result<u32, Halt>
-    ensures { Answers as_it_is result (index_in (num n)) }
+    ensures { AnswersEvaluation as_it_is result (index_in (num n)) }
 {
     if n < 0 {
         return Err(Halt::Faults(FaultKind::NoElement));
@@ -77,7 +78,7 @@ fn index_from(n: Number) -> Result<u32, Halt>
 }
 
 fn farther_path(mut path: Path, index: u32) -> Result<Path, Halt>
-    ensures { Answers at_path result (farther (at_path path) index) }
+    ensures { AnswersEvaluation at_path result (farther (at_path path) index) }
 {
     if path.at.items.len() >= PATH_LIMIT {
         return Err(Halt::Passes(LimitKind::List));
@@ -88,7 +89,7 @@ fn farther_path(mut path: Path, index: u32) -> Result<Path, Halt>
 
 /// The place with one index more.
 pub fn farther(place: Place, index: u32) -> Result<Place, Halt>
-    ensures { Answers place_in result (farther (place_in place) index) }
+    ensures { AnswersEvaluation place_in result (farther (place_in place) index) }
 {
     match place {
         Place::At(path) => {
@@ -134,7 +135,7 @@ fn element<'a>(value: &'a Value, at: &[u32]) -> Option<&'a Value>
 
 /// An equal value to the element at these indices.
 pub fn copy_element(alloc: Global, value: &Value, at: &[u32]) -> Result<Value, Halt>
-    ensures { Answers tree result (element_in (item_at at.now (tree value.now))) }
+    ensures { AnswersEvaluation tree result (element_in (item_at at.now (tree value.now))) }
 {
     match element(value, at) {
         Some(inner) => Ok(inner.copy(alloc)?),
@@ -143,7 +144,7 @@ pub fn copy_element(alloc: Global, value: &Value, at: &[u32]) -> Result<Value, H
 }
 
 fn whole_value(known: Known) -> Result<Value, Halt>
-    ensures { Answers tree result (of_full (full_of known)) }
+    ensures { AnswersEvaluation tree result (of_full (full_of known)) }
 {
     match known {
         Known::Absent => Err(Halt::Faults(FaultKind::NoElement)),
@@ -155,7 +156,7 @@ fn whole_value(known: Known) -> Result<Value, Halt>
 
 /// The value of a place.
 pub fn value_at(alloc: Global, place: &Place, store: &Store) -> Result<Value, Halt>
-    ensures { Answers tree result (value_at store.now.facts (place_in place.now)) }
+    ensures { AnswersEvaluation tree result (value_at store.now.facts (place_in place.now)) }
 {
     match place {
         Place::At(path) => {
@@ -167,7 +168,7 @@ pub fn value_at(alloc: Global, place: &Place, store: &Store) -> Result<Value, Ha
 }
 
 fn length_at(path: &Path, store: &Store) -> Result<Value, Halt>
-    ensures { Answers tree result (size_at store.now.facts (at_path path.now)) }
+    ensures { AnswersEvaluation tree result (size_at store.now.facts (at_path path.now)) }
 {
     match store.shape(path) {
         Some(Shape::Items(count)) => Ok(Value::Num(i64::from(count))),
@@ -180,7 +181,7 @@ fn length_at(path: &Path, store: &Store) -> Result<Value, Halt>
 // Where no shape is kept for the path, its length is open, or there is no such element.
 fn unkept_length(path: &Path, store: &Store) -> Result<Value, Halt>
     requires { kept_shape store.now.facts path.now ≡ None }
-    ensures { Answers tree result (size_at store.now.facts (at_path path.now)) }
+    ensures { AnswersEvaluation tree result (size_at store.now.facts (at_path path.now)) }
 {
     match store.full(path)? {
         Known::Absent => Err(Halt::Faults(FaultKind::NoElement)),
@@ -191,7 +192,7 @@ fn unkept_length(path: &Path, store: &Store) -> Result<Value, Halt>
 
 /// The length of a list, where the value is one.
 pub fn length_of(value: &Value) -> Result<Value, Halt>
-    ensures { Answers tree result (length_of (tree value.now)) }
+    ensures { AnswersEvaluation tree result (length_of (tree value.now)) }
 {
     match value {
         Value::Num(_) => Err(Halt::Faults(FaultKind::WrongKind)),
@@ -201,7 +202,7 @@ pub fn length_of(value: &Value) -> Result<Value, Halt>
 }
 
 fn element_length(value: &Value, at: &[u32]) -> Result<Value, Halt>
-    ensures { Answers tree result (size_at [] (inside (tree value.now) at.now)) }
+    ensures { AnswersEvaluation tree result (size_at [] (inside (tree value.now) at.now)) }
 {
     match element(value, at) {
         Some(inner) => length_of(inner),
@@ -211,7 +212,7 @@ fn element_length(value: &Value, at: &[u32]) -> Result<Value, Halt>
 
 /// The size of a place, for which its shape is enough.
 pub fn size_at(place: &Place, store: &Store) -> Result<Value, Halt>
-    ensures { Answers tree result (size_at store.now.facts (place_in place.now)) }
+    ensures { AnswersEvaluation tree result (size_at store.now.facts (place_in place.now)) }
 {
     match place {
         Place::At(path) => length_at(path, store),

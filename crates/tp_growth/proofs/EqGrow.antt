@@ -19,14 +19,14 @@ use Rattle.tp_kernel.specs.declared.formula.FaultKind.{FaultKind}
 use Rattle.tp_kernel.specs.declared.formula.LimitKind.{LimitKind}
 use Rattle.tp_kernel.specs.declared.formula.LimitKind.TheVariants as limit
 use Rattle.tp_scene.specs.declared.answer.Clash.TheVariants.{False}
-use Rattle.tp_scene.specs.Step.{Outcome, reduces, waits, rests, clashes, misses, passes, vanishes, knows, added, Target, value_at, length_at, set, SideOf, meets, both_wait, equate}
+use Rattle.tp_scene.specs.Step.{PickOutcome, reduces, waits, rests, clashes, misses, passes, vanishes, knows, added, Target, value_at, length_at, set, SideOf, meets, both_wait, equate}
 use Rattle.tp_growth.specs.Outcomes.{KnowsMore, RefusesFacts, AddsAlike, StaysKnown, GrownOutcome}
 use Rattle.tp_growth.specs.Within.{LengthsAreWithin}
 use Rattle.tp_growth.specs.Rows.{IsFailure, SameFacts, GrownTo}
 use Rattle.tp_growth.proofs.FactsGrow.{facts_grow, kept_before, kept_after}
 use Rattle.tp_growth.proofs.Kept.{TargetKnown, target_facts, known_in, set_form, set_known, set_other, news_known}
 
-pub bad_grown : (gs : List Fact) (o u : Outcome) → IsFailure u → GrownTo gs o u
+pub bad_grown : (gs : List Fact) (o u : PickOutcome) → IsFailure u → GrownTo gs o u
 bad_grown gs (reduces r) (clashes c) b = tt
 bad_grown gs (reduces r) (misses port) b = tt
 bad_grown gs (reduces r) (passes k) b = tt
@@ -39,7 +39,7 @@ bad_grown gs (clashes c) u b = b
 bad_grown gs (misses port) u b = b
 bad_grown gs (passes k) u b = b
 
-pub bad_stays_bad : (gs : List Fact) (o u : Outcome) → GrownTo gs o u → IsFailure o → IsFailure u
+pub bad_stays_bad : (gs : List Fact) (o u : PickOutcome) → GrownTo gs o u → IsFailure o → IsFailure u
 bad_stays_bad gs (reduces r) u h b = elim b [ ]
 bad_stays_bad gs (waits first other) u h b = elim b [ ]
 bad_stays_bad gs rests u h b = elim b [ ]
@@ -104,12 +104,12 @@ module _ (fs gs : List Fact) (fc : NoClash fs) (gc : NoClash gs) (more : KnowsMo
   -- where a target that was set is known now, nothing is to be set any more
   set_done : (t : Target) (v : Tree) → TargetKnown gs t v → GrownTo gs (set fs t v) (knows [])
   set_done t v k = elim (set_form fs t v) [
-    | inl x ↦ subst (λ (o : Outcome). GrownTo gs o (knows [])) (sym x.1) (knows_grown gs x.0 [] (record {
+    | inl x ↦ subst (λ (o : PickOutcome). GrownTo gs o (knows [])) (sym x.1) (knows_grown gs x.0 [] (record {
       shapes = λ p. ap (λ l. kept_shape l p) (append-nil gs) ∙ news_known fs gs x.0 t v gc k x.2 p;
       each = λ p sh h. ap (λ l. kept_shape l p) (append-nil gs) ∙ in_kept gs (fact p sh) gc (known_in gs t v k (fact p sh) (news_given fs (target_facts t v) x.0 (adds_all fs (target_facts t v) x.0 x.2) (fact p sh) (kept_in x.0 p sh h)));
       apart = subst (λ (l : List Fact). NoClash l) (sym (append-nil gs)) gc;
     }))
-    | inr b ↦ absurd (subst (λ (o : Outcome). IsFailure o) (set_known gs gc within t v k) (bad_stays_bad gs (set fs t v) (set gs t v) (set_grows t v) b))
+    | inr b ↦ absurd (subst (λ (o : PickOutcome). IsFailure o) (set_known gs gc within t v k) (bad_stays_bad gs (set fs t v) (set gs t v) (set_grows t v) b))
   ]
 
   -- a side of this form
@@ -134,7 +134,7 @@ module _ (fs gs : List Fact) (fc : NoClash fs) (gc : NoClash gs) (more : KnowsMo
   wait_meets b (Some t) t' p o' v s = subst (λ (x : Option Target). GrownTo gs (set fs t v) (meets gs (side b x o') v)) (sym (s.target t refl)) (set_grows t v)
 
   -- the left value was to set the right side; now that is known, and decides
-  abbrev pub switch_to : Bool → Option Target → Tree → Tree → Outcome
+  abbrev pub switch_to : Bool → Option Target → Tree → Tree → PickOutcome
   switch_to b l u v = meets gs (side b l (found.value u)) v
 
   pub same_switch : (b : Bool) (l : Option Target) (u : Tree) → ((x : Target) → l ≡ Some x → TargetKnown gs x u) → switch_to b l u u ≡ knows []
@@ -151,11 +151,11 @@ module _ (fs gs : List Fact) (fc : NoClash fs) (gc : NoClash gs) (more : KnowsMo
   switched b c l (Some t) r' u v q k s = elim (cases_Bool (same_tree v u)) [
     | inl y ↦ (let e = (same_tree_is_equality v u).0 y in
         let known : TargetKnown gs t u = subst (λ (x : Tree). TargetKnown gs t x) e (s.known t v (s.target t refl) refl) in
-        subst (λ (x : Tree). GrownTo gs (set fs t u) (switch_to b l u x)) (sym e) (subst (λ (o : Outcome). GrownTo gs (set fs t u) o) (sym (same_switch b l u k)) (set_done t u known)))
+        subst (λ (x : Tree). GrownTo gs (set fs t u) (switch_to b l u x)) (sym e) (subst (λ (o : PickOutcome). GrownTo gs (set fs t u) o) (sym (same_switch b l u k)) (set_done t u known)))
     | inr y ↦ bad_grown gs (set fs t u) (switch_to b l u v) (other_switch b l u v (λ e. both_ways (same_tree v u) y ((same_tree_is_equality v u).1 e)) k)
   ]
 
-  waiting_grows : (b c : Bool) (p q : Path) (o : Outcome) → GrownTo gs (both_wait fs b c p q) o
+  waiting_grows : (b c : Bool) (p q : Path) (o : PickOutcome) → GrownTo gs (both_wait fs b c p q) o
   waiting_grows b c p q o = cond_both (c && not b) _ _ (λ x. GrownTo gs x o) (λ _. tt) (λ _. tt)
 
   abbrev Goal : Bool → Bool → Option Target → found.Outcome → Option Target → found.Outcome → Option Target → found.Outcome → Option Target → found.Outcome → Type 0

@@ -16,7 +16,7 @@ use Rattle.tp_store.proofs.Adding.{refused_by}
 use Rattle.tp_eval.specs.Outcome as found
 use Rattle.tp_scene.specs.declared.answer.Cell.TheVariants.{Part}
 use Rattle.tp_scene.specs.declared.answer.Clash.TheVariants.{False}
-use Rattle.tp_scene.specs.Step.{Outcome, waits, clashes, passes, vanishes, knows, added, Target, value_at, length_at, set, SideOf, meets, equate}
+use Rattle.tp_scene.specs.Step.{PickOutcome, waits, clashes, passes, vanishes, knows, added, Target, value_at, length_at, set, SideOf, meets, equate}
 use Rattle.tp_growth.specs.Outcomes.{KnowsMore, GrownOutcome}
 use Rattle.tp_growth.specs.Within.{LengthsAreWithin}
 use Rattle.tp_growth.specs.Rows.{IsFailure}
@@ -45,8 +45,8 @@ pub record SideKnows (gs hs : List Fact) (t : Option Target) (o : found.Outcome)
   pub set : (x : Target) (v : Tree) → t ≡ Some x → (IsOver o → ⊥) → Settable x v → ((f : Fact) → In f (target_facts x v) → In f hs) → IsWithinListLimit v → o'' ≡ found.value v
 
 module _ (fs gs hs : List Fact) (fc : NoClash fs) (gc : NoClash gs) (hc : NoClash hs) (knows_gs : KnowsMore fs gs) (knows_hs : KnowsMore gs hs) (within : LengthsAreWithin gs) where
-  not_bad : (news : List Fact) (o : Outcome) → o ≡ knows news → IsFailure o → ⊥
-  not_bad news o e b = subst (λ (x : Outcome). IsFailure x) e b
+  not_bad : (news : List Fact) (o : PickOutcome) → o ≡ knows news → IsFailure o → ⊥
+  not_bad news o e b = subst (λ (x : PickOutcome). IsFailure x) e b
 
   settable : (x : Target) (v : Tree) (news : List Fact) → set fs x v ≡ knows news → Settable x v
   settable (value_at p) v news e = tt

@@ -13,7 +13,7 @@ use Rattle.tp_store.proofs.Members.{In}
 use Rattle.tp_eval.specs.Outcome as found
 use Rattle.tp_eval.specs.Outcome.{outcome, place_outcome, PlaceOutcome}
 use Rattle.tp_scene.specs.Scene.{Bindings, Side, Leaf, Do, Later, Shown, Entries, Place}
-use Rattle.tp_scene.specs.Step.{Reduction, Outcome, reduces, passes, knows, added, Numbers, marking, Target, value_at, length_at, set, SideOf, meets, equate, side_of, from_port, formula_step, leaf_step}
+use Rattle.tp_scene.specs.Step.{Reduction, PickOutcome, reduces, passes, knows, added, Numbers, marking, Target, value_at, length_at, set, SideOf, meets, equate, side_of, from_port, formula_step, leaf_step}
 use Rattle.tp_scene.specs.Pick.{Setting}
 use Rattle.tp_scene.specs.Fits.{IsCalm}
 use Rattle.tp_scene.proofs.Grown.{other_side}
@@ -29,7 +29,7 @@ use Rattle.tp_growth.proofs.SideKnows.{side_knows}
 use Rattle.tp_growth.proofs.Table.{Respects, formula_row}
 
 -- an equation's reduction gives facts alone
-abbrev Form : Outcome → Type 0
+abbrev Form : PickOutcome → Type 0
 Form o = (r : Reduction) → o ≡ reduces r → o ≡ knows r.facts
 
 knows_form : (news : List Fact) → Form (knows news)
@@ -54,7 +54,7 @@ module _ (fs : List Fact) where
   abbrev sd : Bool → Option Target → found.Outcome → SideOf
   sd b t o = record { placed = b; target = t; found = o }
 
-  if_form : (b : Bool) (x y : Outcome) → Form x → Form y → Form (if b then x else y)
+  if_form : (b : Bool) (x y : PickOutcome) → Form x → Form y → Form (if b then x else y)
   if_form true x y h k = h
   if_form false x y h k = k
 
@@ -92,11 +92,11 @@ module _ (w : Setting) (fs gs hs : List Fact) (fc : NoClash fs) (gc : NoClash gs
   abbrev pub FactsOk : Reduction → Type 0
   FactsOk r = (x : Target) (v : Tree) → set fs x v ≡ knows r.facts → (f : Fact) → In f (target_facts x v) → In f hs
 
-  abbrev pub Good : Outcome → Outcome → Type 0
+  abbrev pub Good : PickOutcome → PickOutcome → Type 0
   Good o u = (r : Reduction) → o ≡ reduces r → MarkOk r → FactsOk r → IsFailure u → ⊥
 
-  failing_good : (o u : Outcome) → IsFailure o → IsFailure u → Good o u
-  failing_good o u h k r e = absurd (subst (λ (x : Outcome). IsFailure x) e h)
+  failing_good : (o u : PickOutcome) → IsFailure o → IsFailure u → Good o u
+  failing_good o u h k r e = absurd (subst (λ (x : PickOutcome). IsFailure x) e h)
 
   marking_good : (z : Side) (b c : Bool) (d e : ℕ) (news : Entries) (i : ℕ) → q.is (other_side z) ≡ c → Good (marking z b d news i) (marking z c e news i)
   marking_good z true c d e news i h = λ r x. absurd (cc)

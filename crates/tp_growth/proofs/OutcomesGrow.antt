@@ -10,7 +10,7 @@ use Rattle.tp_store.specs.Facts.{kept_shape, is_excluded}
 use Rattle.tp_store.specs.Known.{Full, absent, undecided, too_long, value, full}
 use Rattle.tp_eval.specs.Reached.{Stop, Reached, reaches, stops, waits, faults, passes, Evaluation, with_reached, fault}
 use Rattle.tp_eval.specs.Evaluate as ev
-use Rattle.tp_eval.specs.Evaluate.{Place, at_path, inside, is_place, element_in, of_full, length_in, length_of, bind_place, count_call, truth_in, evaluate, find_place, depth_limit}
+use Rattle.tp_eval.specs.Evaluate.{PlaceFound, at_path, inside, is_place, element_in, of_full, length_in, length_of, bind_place, count_call, truth_in, evaluate, find_place, depth_limit}
 use Rattle.tp_eval.specs.Outcome as found
 use Rattle.tp_eval.specs.Outcome.{outcome, place_outcome, outcome_reached, place_reached, PlaceOutcome}
 use Rattle.tp_growth.specs.Outcomes.{KnowsMore, StaysKnown, GrownFull, GrownOutcome, GrownPlace, OutcomesGrow}
@@ -57,7 +57,7 @@ module _ (free : Stop → Bool) where
   if_more true x x' y y' c h k = h
   if_more false x x' y y' c h k = k
 
-  module _ (fs gs : List Fact) (value_at_more : (p : Place) (c : ℕ) → More (ev.value_at fs p c) (ev.value_at gs p c)) (size_at_more : (p : Place) (c : ℕ) → More (ev.size_at fs p c) (ev.size_at gs p c)) where
+  module _ (fs gs : List Fact) (value_at_more : (p : PlaceFound) (c : ℕ) → More (ev.value_at fs p c) (ev.value_at gs p c)) (size_at_more : (p : PlaceFound) (c : ℕ) → More (ev.size_at fs p c) (ev.size_at gs p c)) where
     -- one level, where each operand and each place is so one level deeper
     module _ (op op' : ExprTree → Evaluation Tree) (up : (e : ExprTree) (c : ℕ) → More (op e c) (op' e c)) where
       each_more : (es : ExprTrees) (c : ℕ) → More (ev.each op es c) (ev.each op' es c)
@@ -72,8 +72,8 @@ module _ (free : Stop → Bool) where
       one_more a b c = then_more _ _ _ _ (up a c) (λ t c. then_more _ _ _ _ (same_more (truth_in t c)) (λ x c. if_more x _ _ _ _ c refl
           (then_more _ _ _ _ (then_more _ _ _ _ (up b c) (λ u c. same_more (truth_in u c))) (λ y c. refl))))
 
-      operated_more : (o : Operator) (a b : ExprTree) (c : ℕ) → More (ev.operated op o a b c) (ev.operated op' o a b c)
-      operated_more o a b c = then_more _ _ _ _ (up a c) (λ t c. then_more _ _ _ _ (up b c) (λ u c. same_more (ev.operate o t u c)))
+      operated_more : (o : Operator) (a b : ExprTree) (c : ℕ) → More (ev.operation_outcome op o a b c) (ev.operation_outcome op' o a b c)
+      operated_more o a b c = then_more _ _ _ _ (up a c) (λ t c. then_more _ _ _ _ (up b c) (λ u c. same_more (ev.operate_outcome o t u c)))
 
       chosen_more : (b x y : ExprTree) (c : ℕ) → More (ev.chosen op b x y c) (ev.chosen op' b x y c)
       chosen_more b x y c = then_more _ _ _ _ (up b c) (λ t c. then_more _ _ _ _ (same_more (truth_in t c)) (λ v c. if_more v _ _ _ _ c (up x c) (up y c)))
@@ -81,23 +81,23 @@ module _ (free : Stop → Bool) where
       element_more : (e i : ExprTree) (c : ℕ) → More (ev.element_of op e i c) (ev.element_of op' e i c)
       element_more e i c = then_more _ _ _ _ (up e c) (λ t c. then_more _ _ _ _ (up i c) (λ u c. same_more (ev.item_between t u c)))
 
-      module _ (pl pl' : ExprTree → Evaluation Place) (down : (e : ExprTree) (c : ℕ) → More (pl e c) (pl' e c)) where
-        place_more : (env : List BindingTree) (e : ExprTree) (c : ℕ) → More (ev.place_of op pl env e c) (ev.place_of op' pl' env e c)
+      module _ (pl pl' : ExprTree → Evaluation PlaceFound) (down : (e : ExprTree) (c : ℕ) → More (pl e c) (pl' e c)) where
+        place_more : (env : List BindingTree) (e : ExprTree) (c : ℕ) → More (ev.evaluated_place op pl env e c) (ev.evaluated_place op' pl' env e c)
         place_more env (bound i) c = same_more _
         place_more env (global x) c = refl
         place_more env (index e i) c = then_more _ _ _ _ (down e c) (λ p c. then_more _ _ _ _ (up i c) (λ t c. then_more _ _ _ _ (same_more (ev.index_in t c)) (λ k c. same_more (ev.farther p k c))))
-        place_more env (numeral n) c = same_more {A = Place} (stops (faults NoElement))
-        place_more env (boolean b) c = same_more {A = Place} (stops (faults NoElement))
-        place_more env (known t) c = same_more {A = Place} (stops (faults NoElement))
-        place_more env (listing es) c = same_more {A = Place} (stops (faults NoElement))
-        place_more env (size e) c = same_more {A = Place} (stops (faults NoElement))
-        place_more env (minus e) c = same_more {A = Place} (stops (faults NoElement))
-        place_more env (negation e) c = same_more {A = Place} (stops (faults NoElement))
-        place_more env (both es) c = same_more {A = Place} (stops (faults NoElement))
-        place_more env (either a b) c = same_more {A = Place} (stops (faults NoElement))
-        place_more env (binary o a b) c = same_more {A = Place} (stops (faults NoElement))
-        place_more env (choice b x y) c = same_more {A = Place} (stops (faults NoElement))
-        place_more env (invoke p es) c = same_more {A = Place} (stops (faults NoElement))
+        place_more env (numeral n) c = same_more {A = PlaceFound} (stops (faults NoElement))
+        place_more env (boolean b) c = same_more {A = PlaceFound} (stops (faults NoElement))
+        place_more env (known t) c = same_more {A = PlaceFound} (stops (faults NoElement))
+        place_more env (listing es) c = same_more {A = PlaceFound} (stops (faults NoElement))
+        place_more env (size e) c = same_more {A = PlaceFound} (stops (faults NoElement))
+        place_more env (minus e) c = same_more {A = PlaceFound} (stops (faults NoElement))
+        place_more env (negation e) c = same_more {A = PlaceFound} (stops (faults NoElement))
+        place_more env (both es) c = same_more {A = PlaceFound} (stops (faults NoElement))
+        place_more env (either a b) c = same_more {A = PlaceFound} (stops (faults NoElement))
+        place_more env (binary o a b) c = same_more {A = PlaceFound} (stops (faults NoElement))
+        place_more env (choice b x y) c = same_more {A = PlaceFound} (stops (faults NoElement))
+        place_more env (invoke p es) c = same_more {A = PlaceFound} (stops (faults NoElement))
 
         argument_more : (u : Bool) (e : ExprTree) (c : ℕ) → More (ev.argument op pl u e c) (ev.argument op' pl' u e c)
         argument_more true e c = then_more _ _ _ _ (down e c) (λ p c. same_more (bind_place p c))
@@ -110,7 +110,7 @@ module _ (free : Stop → Bool) where
         arguments_more (expr_then e es) [] c = same_more {A = List BindingTree} (stops (faults NoElement))
 
         module _ (env : List BindingTree) where
-          index_more : (b : Bool) (e i : ExprTree) (c : ℕ) → More (ev.index_of op pl fs env b e i c) (ev.index_of op' pl' gs env b e i c)
+          index_more : (b : Bool) (e i : ExprTree) (c : ℕ) → More (ev.indexed_value op pl fs env b e i c) (ev.indexed_value op' pl' gs env b e i c)
           index_more true e i c = then_more _ _ _ _ (place_more env (index e i) c) value_at_more
           index_more false e i c = element_more e i c
 
@@ -127,7 +127,7 @@ module _ (free : Stop → Bool) where
             call_more (Some f) es c = then_more _ _ _ _ (same_more (count_call c)) (λ n c. then_more _ _ _ _ (arguments_more es f.parameters c) (λ args c. body_more f.expr args c))
             call_more None es c = same_more {A = Tree} (stops (faults NoElement))
 
-            row_more : (e : ExprTree) (c : ℕ) → More (ev.value_of op pl fs env defs body e c) (ev.value_of op' pl' gs env defs body' e c)
+            row_more : (e : ExprTree) (c : ℕ) → More (ev.part_value op pl fs env defs body e c) (ev.part_value op' pl' gs env defs body' e c)
             row_more (numeral n) c = same_more _
             row_more (boolean b) c = refl
             row_more (known t) c = same_more _
@@ -151,11 +151,11 @@ module _ (fs gs : List Fact) (more : KnowsMore fs gs) (stays : StaysKnown fs gs)
   full_more too_long b c h = ap (λ o. of_full o c) h
   full_more (value t) b c h = ap (λ o. of_full o c) h
 
-  value_up : (p : Place) (c : ℕ) → More is_wait (ev.value_at fs p c) (ev.value_at gs p c)
+  value_up : (p : PlaceFound) (c : ℕ) → More is_wait (ev.value_at fs p c) (ev.value_at gs p c)
   value_up (at_path p) c = full_more (full fs p) (full gs p) c (stays.wholes p)
   value_up (inside t at) c = same_more is_wait _
 
-  pub size_up : (p : Place) (c : ℕ) → More is_wait (ev.size_at fs p c) (ev.size_at gs p c)
+  pub size_up : (p : PlaceFound) (c : ℕ) → More is_wait (ev.size_at fs p c) (ev.size_at gs p c)
   size_up (inside t at) c = same_more is_wait _
   size_up (at_path p) c = go (is_excluded fs p) (kept_shape fs p) refl refl
     where
@@ -192,7 +192,7 @@ element_found : (fs gs : List Fact) (o : Option Tree) (r : PlaceOutcome) (c : �
 element_found fs gs (Some t) r c h = h
 element_found fs gs None r c h = h
 
-place_found_more : (fs gs : List Fact) (r r' : Reached Place) → More is_wait r r' → GrownPlace (place_reached fs r) (place_reached gs r')
+place_found_more : (fs gs : List Fact) (r r' : Reached PlaceFound) → More is_wait r r' → GrownPlace (place_reached fs r) (place_reached gs r')
 place_found_more fs gs (reaches (at_path p) c) r' h = ap (place_reached gs) h
 place_found_more fs gs (reaches (inside t at) c) r' h = element_found fs gs (item_at at t) (place_reached gs r') c (ap (place_reached gs) h)
 place_found_more fs gs (stops (waits p)) r' h = tt

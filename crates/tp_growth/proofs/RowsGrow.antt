@@ -5,7 +5,7 @@ use Rattle.tp_value.specs.declared.path.Fact.{Fact}
 use Rattle.tp_meaning.specs.Syntax.{ExprTree, equation}
 use Rattle.tp_store.specs.Known.{NoClash}
 use Rattle.tp_scene.specs.Scene.{Bindings, Side, Ending, Going, Leaf, Do, Later, Shown, Split, SplitProject, Closed, Opened, Running, Entries, Place}
-use Rattle.tp_scene.specs.Step.{Reduction, Outcome, reduces, Numbers, marking, side_of, side_with, from_port, formula_step, leaf_step}
+use Rattle.tp_scene.specs.Step.{Reduction, PickOutcome, reduces, Numbers, marking, side_of, side_with, from_port, formula_step, leaf_step}
 use Rattle.tp_scene.specs.Pick.{Setting}
 use Rattle.tp_scene.specs.Fits.{IsCalm}
 use Rattle.tp_growth.specs.Rows.{Grows, IsFailure, SameFacts, GrownTo, LeafRowsGrow, HolderGrown, HolderRowsGrow}
@@ -20,7 +20,7 @@ module _ (gs : List Fact) (gc : NoClash gs) where
   same_grown : (r : Reduction) → r.facts ≡ [] → GrownTo gs (reduces r) (reduces r)
   same_grown r e = record { news = refl; items = refl; regions = refl; local = refl; mark = refl; facts = subst (λ (l : List Fact). SameFacts gs l l) (sym e) (nothing_new gs gc) }
 
-  failing_grown : (o u : Outcome) → IsFailure o → IsFailure u → GrownTo gs o u
+  failing_grown : (o u : PickOutcome) → IsFailure o → IsFailure u → GrownTo gs o u
   failing_grown o u h k = bad_grown gs o u k
 
   marking_grown : (z : Side) (b c : Bool) (d e : ℕ) (news : Entries) (i : ℕ) → (b ≡ true → c ≡ true) → GrownTo gs (marking z b d news i) (marking z c e news i)
@@ -37,7 +37,7 @@ module _ (gs : List Fact) (gc : NoClash gs) where
   }
 
 module _ (w : Setting) (fs gs : List Fact) (fc : NoClash fs) (gc : NoClash gs) (knows : KnowsMore fs gs) (within : LengthsAreWithin gs) (p q : Place) (n : Numbers) (up : Grows p q) (calm : IsCalm q) where
-  abbrev G : Outcome → Outcome → Type 0
+  abbrev G : PickOutcome → PickOutcome → Type 0
   G = GrownTo gs
 
   equation_row : (env : Bindings) (l r : ExprTree) → G (formula_step w.defs w.inputs w.state fs (equation l r) env p n) (formula_step w.defs w.inputs w.state gs (equation l r) env q n)

@@ -13,7 +13,7 @@ use Rattle.tp_store.specs.Facts.{kept_shape, is_excluded}
 use Rattle.tp_store.specs.Known.{NoClash, Full, absent, undecided, too_long, value, full}
 use Rattle.tp_eval.specs.Reached.{Reached, reaches, stops, waits, faults, passes, with_reached, fault}
 use Rattle.tp_eval.specs.Evaluate as ev
-use Rattle.tp_eval.specs.Evaluate.{Place, at_path, inside, is_place, element_in, of_full, length_in, evaluate, find_place, depth_limit}
+use Rattle.tp_eval.specs.Evaluate.{PlaceFound, at_path, inside, is_place, element_in, of_full, length_in, evaluate, find_place, depth_limit}
 use Rattle.tp_eval.specs.Outcome as found
 use Rattle.tp_eval.specs.Outcome.{outcome, place_outcome, outcome_reached, place_reached, PlaceOutcome}
 use Rattle.tp_scene.specs.Scene.{Bindings}
@@ -27,7 +27,7 @@ use Rattle.tp_growth.proofs.EqGrow.{SideGrows}
 pub read_place : (facts : List Fact) (defs : List Definition) (d : ℕ) (e : ExprTree) (env : Bindings) (c : ℕ) → is_place e ≡ true → evaluate facts defs (suc d) e env c ≡ with_reached (find_place facts defs (suc d) e env c) (ev.value_at facts)
 read_place facts defs d (bound i) env c p = refl
 read_place facts defs d (global x) env c p = refl
-read_place facts defs d (index e i) env c p = ap (λ (b : Bool). ev.index_of (λ x. evaluate facts defs d x env) (λ x. find_place facts defs d x env) facts env b e i c) p
+read_place facts defs d (index e i) env c p = ap (λ (b : Bool). ev.indexed_value (λ x. evaluate facts defs d x env) (λ x. find_place facts defs d x env) facts env b e i c) p
 read_place facts defs d (numeral n) env c p = absurd (cc)
 read_place facts defs d (boolean b) env c p = absurd (cc)
 read_place facts defs d (known t) env c p = absurd (cc)
@@ -49,7 +49,7 @@ element_waits : (o : Option Tree) (c : ℕ) (p : Path) → found.other (outcome_
 element_waits (Some t) c p e = let q : outcome_reached (element_in (Some t) c) ≡ found.wait p = cc e in cc
 element_waits None c p e = let q : outcome_reached (element_in None c) ≡ found.wait p = cc e in cc
 
-goes_by : (facts : List Fact) (f : Place → ℕ → Reached Tree) (r : Reached Place) (u : Tree) (p : Path) → outcome_reached (with_reached r f) ≡ found.value u → place_reached facts r ≡ found.other (found.wait p) → ⊥
+goes_by : (facts : List Fact) (f : PlaceFound → ℕ → Reached Tree) (r : Reached PlaceFound) (u : Tree) (p : Path) → outcome_reached (with_reached r f) ≡ found.value u → place_reached facts r ≡ found.other (found.wait p) → ⊥
 goes_by facts f (reaches (at_path q) c) u p h e = cc
 goes_by facts f (reaches (inside t at) c) u p h e = element_waits (item_at at t) c p e
 goes_by facts f (stops (waits q)) u p h e = cc
@@ -77,18 +77,18 @@ full_found (undecided p) c v e = absurd (cc e)
 full_found too_long c v e = absurd (cc e)
 full_found (value t) c v e = let q : t ≡ v = cc e in ap value q
 
-pub path_same : (facts : List Fact) (x : Place) (c : ℕ) (p : Path) → place_reached facts (reaches x c) ≡ found.path p → x ≡ at_path p
+pub path_same : (facts : List Fact) (x : PlaceFound) (c : ℕ) (p : Path) → place_reached facts (reaches x c) ≡ found.path p → x ≡ at_path p
 path_same facts (at_path q) c p e = let s : q ≡ p = cc e in ap at_path s
 path_same facts (inside t at) c p e = absurd (cc e)
 
-known_value : (facts : List Fact) (r : Reached Place) (p : Path) (v : Tree) → place_reached facts r ≡ found.path p → outcome_reached (with_reached r (ev.value_at facts)) ≡ found.value v → full facts p ≡ value v
+known_value : (facts : List Fact) (r : Reached PlaceFound) (p : Path) (v : Tree) → place_reached facts r ≡ found.path p → outcome_reached (with_reached r (ev.value_at facts)) ≡ found.value v → full facts p ≡ value v
 known_value facts (reaches x c) p v e h = full_found (full facts p) c v (ap (λ y. outcome_reached (ev.value_at facts y c)) (sym (path_same facts x c p e)) ∙ h)
 known_value facts (stops (waits q)) p v e h = absurd (cc e)
 known_value facts (stops (faults k)) p v e h = absurd (cc e)
 known_value facts (stops (passes k)) p v e h = absurd (cc e)
 
 -- of a place's size
-size_goes : (facts : List Fact) (r r' : Reached Place) (u : Tree) → outcome_reached (with_reached r (ev.size_at facts)) ≡ found.value u → More is_limit r r' → (x : Place) × (c : ℕ) × (r' ≡ reaches x c) × (outcome_reached (ev.size_at facts x c) ≡ found.value u)
+size_goes : (facts : List Fact) (r r' : Reached PlaceFound) (u : Tree) → outcome_reached (with_reached r (ev.size_at facts)) ≡ found.value u → More is_limit r r' → (x : PlaceFound) × (c : ℕ) × (r' ≡ reaches x c) × (outcome_reached (ev.size_at facts x c) ≡ found.value u)
 size_goes facts (reaches x c) r' u h m = (x, c, m, h)
 size_goes facts (stops (waits q)) r' u h m = absurd (cc h)
 size_goes facts (stops (faults k)) r' u h m = absurd (cc h)
@@ -104,7 +104,7 @@ shape_size facts p c v h = go (is_excluded facts p) (kept_shape facts p) refl h
     go false (Some (Truth b)) x h = absurd (cc h)
     go false (Some (Items n)) x h = let q : num (pos n) ≡ v = cc h in (n, sym q, x)
 
-place_goes : (facts : List Fact) (x : Place) (c : ℕ) (p : Path) → place_reached facts (reaches x c) ≡ found.other (found.wait p) → ⊥
+place_goes : (facts : List Fact) (x : PlaceFound) (c : ℕ) (p : Path) → place_reached facts (reaches x c) ≡ found.other (found.wait p) → ⊥
 place_goes facts (at_path q) c p e = cc
 place_goes facts (inside t at) c p e = element_waits (item_at at t) c p e
 

@@ -16,7 +16,7 @@ use Rattle.tp_store.specs.Known.{NoClash, whole, deepest, absent, limited, full}
 use Rattle.tp_store.proofs.Members.{In, in_kept}
 use Rattle.tp_eval.specs.Reached.{Reached, reaches, stops, waits, faults, passes, with_reached, fault}
 use Rattle.tp_eval.specs.Evaluate as ev
-use Rattle.tp_eval.specs.Evaluate.{Place, at_path, inside, is_place, of_full, length_in, evaluate, find_place, depth_limit}
+use Rattle.tp_eval.specs.Evaluate.{PlaceFound, at_path, inside, is_place, of_full, length_in, evaluate, find_place, depth_limit}
 use Rattle.tp_eval.specs.Outcome as found
 use Rattle.tp_eval.specs.Outcome.{outcome, place_outcome, outcome_reached, place_reached}
 use Rattle.tp_scene.specs.Scene.{Bindings}
@@ -42,13 +42,13 @@ full_from hs hc p v all small =
     let allowed = (facts_grow hs hs hc hc (λ p sh h. h)).allowed p (shape_of v) (in_kept hs (fact p (shape_of v)) hc (own_fact p v hs all)) in
     ap₂ (λ b o. cond b absent (limited o)) allowed w ∙ cond-true (is_within_list_limit v) (store.value v) store.too_long small
 
-reaches_path : (facts : List Fact) (r : Reached Place) (p : Path) → place_reached facts r ≡ found.path p → (c : ℕ) × (r ≡ reaches (at_path p) c)
+reaches_path : (facts : List Fact) (r : Reached PlaceFound) (p : Path) → place_reached facts r ≡ found.path p → (c : ℕ) × (r ≡ reaches (at_path p) c)
 reaches_path facts (reaches x c) p e = (c, ap (λ y. reaches y c) (path_same facts x c p e))
 reaches_path facts (stops (waits q)) p e = absurd (cc e)
 reaches_path facts (stops (faults k)) p e = absurd (cc e)
 reaches_path facts (stops (passes k)) p e = absurd (cc e)
 
-sooner : (facts : List Fact) (r r' : Reached Place) (p : Path) (c : ℕ) → More is_limit r r' → r' ≡ reaches (at_path p) c → (IsOver (outcome_reached (with_reached r (ev.size_at facts))) → ⊥) → r ≡ reaches (at_path p) c
+sooner : (facts : List Fact) (r r' : Reached PlaceFound) (p : Path) (c : ℕ) → More is_limit r r' → r' ≡ reaches (at_path p) c → (IsOver (outcome_reached (with_reached r (ev.size_at facts))) → ⊥) → r ≡ reaches (at_path p) c
 sooner facts (reaches x d) r' p c m e o = sym m ∙ e
 sooner facts (stops (waits q)) r' p c m e o = absurd (let z : stops (waits q) ≡ reaches (at_path p) c = sym m ∙ e in cc)
 sooner facts (stops (faults k)) r' p c m e o = absurd (let z : stops (faults k) ≡ reaches (at_path p) c = sym m ∙ e in cc)
@@ -76,7 +76,7 @@ module _ (defs : List Definition) (fs gs hs : List Fact) (fc : NoClash fs) (gc :
       let s = some_path length_at (place_outcome fs defs e env) x h in
       let r = reaches_path fs (find_place fs defs depth_limit e env 0) s.0 s.1 in
       let q = sooner fs (find_place fs defs 1999 e env 0) (find_place fs defs 2000 e env 0) s.0 r.0 ((evaluate_deeper fs defs 1999).1 e env 0) r.1 (λ o. over (subst (λ (y : Reached Tree). IsOver (outcome_reached y)) (sym (read_size fs defs 1999 e env 0 pl)) o)) in
-      let m : find_place hs defs 1999 e env 0 ≡ reaches (at_path s.0) r.0 = subst (λ (y : Reached Place). More is_wait y (find_place hs defs 1999 e env 0)) q ((evaluate_more fs hs three (facts_grow fs hs fc hc three) defs 1999).1 e env 0) in
+      let m : find_place hs defs 1999 e env 0 ≡ reaches (at_path s.0) r.0 = subst (λ (y : Reached PlaceFound). More is_wait y (find_place hs defs 1999 e env 0)) q ((evaluate_more fs hs three (facts_grow fs hs fc hc three) defs 1999).1 e env 0) in
       ap outcome_reached (read_size hs defs 1999 e env 0 pl ∙ ap (λ o. with_reached o (ev.size_at hs)) m) ∙ here s.0 r.0 v (subst (λ (y : Target). Settable y v) (sym s.2) ok) (subst (λ (y : Target). (f : Fact) → In f (target_facts y v) → In f hs) (sym s.2) all)
     where
       here : (p : Path) (c : ℕ) (v : Tree) → Settable (length_at p) v → ((f : Fact) → In f (target_facts (length_at p) v) → In f hs) → outcome_reached (ev.size_at hs (at_path p) c) ≡ found.value v

@@ -16,9 +16,9 @@ use Rattle.tp_meaning.specs.Value.{item_at, is_upper}
 use Rattle.tp_store.specs.Facts.{kept_shape, is_excluded}
 use Rattle.tp_store.specs.Known as store
 use Rattle.tp_store.specs.Known.{Whole, full, whole, deepest}
-use Rattle.tp_eval.specs.Reached.{Reached, reaches, stops, waits, faults, passes, Evaluation, with_reached, number, limited}
+use Rattle.tp_eval.specs.Reached.{Reached, reaches, stops, waits, faults, passes, Evaluation, with_reached, within_numbers, within_lists}
 use Rattle.tp_eval.specs.Evaluate as ev
-use Rattle.tp_eval.specs.Evaluate.{Place, at_path, inside, is_place, element_in, items_in as list_in, number_in, truth_in, of_full, length_in, evaluate, find_place, depth_limit}
+use Rattle.tp_eval.specs.Evaluate.{PlaceFound, at_path, inside, is_place, element_in, list_items as list_in, number_in, truth_in, of_full, length_in, evaluate, find_place, depth_limit}
 use Rattle.tp_eval.specs.Outcome as found
 use Rattle.tp_eval.specs.Outcome.{outcome, place_outcome, outcome_reached, place_reached, PlaceOutcome}
 use Rattle.tp_growth.specs.Within.{BindingWithin, BindingsWithin, ValuesWithin}
@@ -35,10 +35,10 @@ in_list (cons t ts) (suc k) u e = let i = in_list ts k u e in record { items = o
 
 small_inside : (t u : Tree) → Inside t u → IsWithinListLimit t → IsWithinListLimit u
 small_inside t u i h =
-    let a = and_parts (nat_le (depth_of t) limits.depth_limit) (nat_le (items_in t) limits.item_limit) h in
-    let b = leb-true (depth_of t) limits.depth_limit a.0 in
+    let a = and_parts (nat_le (depth_of t) limits.value_depth_limit) (nat_le (items_in t) limits.item_limit) h in
+    let b = leb-true (depth_of t) limits.value_depth_limit a.0 in
     let c = leb-true (items_in t) limits.item_limit a.1 in
-    rw (le-leb (depth_of u) limits.depth_limit (omega (arith, b, i.depth)), le-leb (items_in u) limits.item_limit (omega (arith, c, i.items))) refl
+    rw (le-leb (depth_of u) limits.value_depth_limit (omega (arith, b, i.depth)), le-leb (items_in u) limits.item_limit (omega (arith, c, i.items))) refl
 
 item_small : (t u : Tree) (k : ℕ) → item_of t k ≡ Some u → IsWithinListLimit t → IsWithinListLimit u
 item_small (num n) u k e h = absurd (cc)
@@ -73,14 +73,14 @@ if_all Q false x y c h k = k refl
 abbrev Small : Reached Tree → Type 0
 Small = AllOf IsWithinListLimit
 
-abbrev PlaceWithin : Place → Type 0
+abbrev PlaceWithin : PlaceFound → Type 0
 PlaceWithin (at_path p) = Unit {0}
 PlaceWithin (inside t at) = IsWithinListLimit t
 
-number_small : (n : ℤ) (c : ℕ) → Small (number n c)
+number_small : (n : ℤ) (c : ℕ) → Small (within_numbers n c)
 number_small n c = if_all IsWithinListLimit (is_within_limit n) _ _ c (λ _. refl) (λ _. tt)
 
-limited_small : (t : Tree) (c : ℕ) → Small (limited t c)
+limited_small : (t : Tree) (c : ℕ) → Small (within_lists t c)
 limited_small t c = if_all IsWithinListLimit (is_within_list_limit t) _ _ c (λ h. h) (λ _. tt)
 
 element_small : (o : Option Tree) (c : ℕ) → ((u : Tree) → o ≡ Some u → IsWithinListLimit u) → Small (element_in o c)
@@ -99,7 +99,7 @@ full_small facts p c = go (is_excluded facts p) (whole (suc (deepest facts)) fac
     go false (store.open_at q) = tt
     go false (store.known t) = limit (is_within_list_limit t) t (λ e. e)
 
-value_at_small : (facts : List Fact) (p : Place) (c : ℕ) → PlaceWithin p → Small (ev.value_at facts p c)
+value_at_small : (facts : List Fact) (p : PlaceFound) (c : ℕ) → PlaceWithin p → Small (ev.value_at facts p c)
 value_at_small facts (at_path p) c h = full_small facts p c
 value_at_small facts (inside t at) c h = element_small (item_at at t) c (λ u e. element_at_small at t u e h)
 
@@ -112,14 +112,14 @@ length_small p (Some (Truth b)) c = tt
 length_of_small : (t : Tree) (c : ℕ) → Small (ev.length_of t c)
 length_of_small t c = anyway IsWithinListLimit (list_in t c) _ (λ ts c. refl)
 
-size_at_small : (facts : List Fact) (p : Place) (c : ℕ) → Small (ev.size_at facts p c)
+size_at_small : (facts : List Fact) (p : PlaceFound) (c : ℕ) → Small (ev.size_at facts p c)
 size_at_small facts (at_path p) c = if_all IsWithinListLimit (is_excluded facts p) _ _ c (λ _. tt) (λ _. length_small p (kept_shape facts p) c)
 size_at_small facts (inside t at) c = anyway IsWithinListLimit (element_in (item_at at t) c) _ length_of_small
 
-numbers_small : (f : ℤ → ℤ → Evaluation Tree) → ((a b : ℤ) (c : ℕ) → Small (f a b c)) → (s t : Tree) (c : ℕ) → Small (ev.on_numbers f s t c)
+numbers_small : (f : ℤ → ℤ → Evaluation Tree) → ((a b : ℤ) (c : ℕ) → Small (f a b c)) → (s t : Tree) (c : ℕ) → Small (ev.on_numbers_outcome f s t c)
 numbers_small f h s t c = anyway IsWithinListLimit (number_in s c) _ (λ a c. anyway IsWithinListLimit (number_in t c) _ (λ b c. h a b c))
 
-divisor_small : (f : ℤ → ℤ → ℤ) (a b : ℤ) (c : ℕ) → Small (ev.on_divisor f a b c)
+divisor_small : (f : ℤ → ℤ → ℤ) (a b : ℤ) (c : ℕ) → Small (ev.on_divisor_outcome f a b c)
 divisor_small f a (pos zero) c = tt
 divisor_small f a (pos (suc k)) c = number_small (f a (pos (suc k))) c
 divisor_small f a (negsuc k) c = number_small (f a (negsuc k)) c
@@ -129,7 +129,7 @@ sum_small (num a) t c = anyway IsWithinListLimit (number_in t c) _ (λ b c. numb
 sum_small (list s) t c = anyway IsWithinListLimit (list_in t c) _ (λ us c. limited_small (list (of_items (items_of s ++ us))) c)
 sum_small (truth b) t c = tt
 
-operate_small : (o : Operator) (s t : Tree) (c : ℕ) → Small (ev.operate o s t c)
+operate_small : (o : Operator) (s t : Tree) (c : ℕ) → Small (ev.operate_outcome o s t c)
 operate_small Equal s t c = refl
 operate_small Differs s t c = refl
 operate_small Less s t c = numbers_small _ (λ a b c. refl) s t c
@@ -157,17 +157,17 @@ bound_small (place_binding p ∷ env) zero c h = tt
 bound_small (known_binding t ∷ env) zero c h = h.0
 bound_small (b ∷ env) (suc i) c h = bound_small env i c h.1
 
-farther_small : (p : Place) (k c : ℕ) → PlaceWithin p → AllOf PlaceWithin (ev.farther p k c)
+farther_small : (p : PlaceFound) (k c : ℕ) → PlaceWithin p → AllOf PlaceWithin (ev.farther p k c)
 farther_small (at_path p) k c h = if_all PlaceWithin (nat_lt (length p.at) path_limit) _ _ c (λ _. tt) (λ _. tt)
 farther_small (inside t at) k c h = h
 
-bind_small : (p : Place) (c : ℕ) → PlaceWithin p → AllOf BindingWithin (ev.bind_place p c)
+bind_small : (p : PlaceFound) (c : ℕ) → PlaceWithin p → AllOf BindingWithin (ev.bind_place p c)
 bind_small (at_path p) c h = tt
 bind_small (inside t at) c h = then_all IsWithinListLimit BindingWithin (element_in (item_at at t) c) _ (element_small (item_at at t) c (λ u e. element_at_small at t u e h)) (λ u c k. k)
 
 -- one level, where operands and places are so one level deeper
 module _ (facts : List Fact) (env : List BindingTree) (small : BindingsWithin env) (op : ExprTree → Evaluation Tree) (up : (e : ExprTree) (c : ℕ) → Small (op e c))
-    (pl : ExprTree → Evaluation Place) (down : (e : ExprTree) (c : ℕ) → AllOf PlaceWithin (pl e c)) where
+    (pl : ExprTree → Evaluation PlaceFound) (down : (e : ExprTree) (c : ℕ) → AllOf PlaceWithin (pl e c)) where
   all_small : (es : ExprTrees) (c : ℕ) → Small (ev.all_true op es c)
   all_small no_expr c = refl
   all_small (expr_then e es) c = anyway IsWithinListLimit (op e c) _ (λ t c. anyway IsWithinListLimit (truth_in t c) _ (λ b c. if_all IsWithinListLimit b _ _ c (λ _. all_small es c) (λ _. refl)))
@@ -176,7 +176,7 @@ module _ (facts : List Fact) (env : List BindingTree) (small : BindingsWithin en
   one_small a b c = anyway IsWithinListLimit (op a c) _ (λ t c. anyway IsWithinListLimit (truth_in t c) _ (λ x c. if_all IsWithinListLimit x _ _ c (λ _. refl)
       (λ _. anyway IsWithinListLimit (with_reached (op b c) truth_in) _ (λ y c. refl))))
 
-  place_small : (e : ExprTree) (c : ℕ) → AllOf PlaceWithin (ev.place_of op pl env e c)
+  place_small : (e : ExprTree) (c : ℕ) → AllOf PlaceWithin (ev.evaluated_place op pl env e c)
   place_small (bound i) c = bound_small env i c small
   place_small (global x) c = tt
   place_small (index e i) c = then_all PlaceWithin PlaceWithin (pl e c) _ (down e c) (λ p c h. anyway PlaceWithin (op i c) _ (λ t c. anyway PlaceWithin (ev.index_in t c) _ (λ k c. farther_small p k c h)))
@@ -204,8 +204,8 @@ module _ (facts : List Fact) (env : List BindingTree) (small : BindingsWithin en
   arguments_small no_expr (x ∷ xs) c = tt
   arguments_small (expr_then e es) [] c = tt
 
-  index_small : (b : Bool) (e i : ExprTree) (c : ℕ) → Small (ev.index_of op pl facts env b e i c)
-  index_small true e i c = then_all PlaceWithin IsWithinListLimit (ev.place_of op pl env (index e i) c) _ (place_small (index e i) c) (λ p c h. value_at_small facts p c h)
+  index_small : (b : Bool) (e i : ExprTree) (c : ℕ) → Small (ev.indexed_value op pl facts env b e i c)
+  index_small true e i c = then_all PlaceWithin IsWithinListLimit (ev.evaluated_place op pl env (index e i) c) _ (place_small (index e i) c) (λ p c h. value_at_small facts p c h)
   index_small false e i c = then_all IsWithinListLimit IsWithinListLimit (op e c) _ (up e c) (λ t c h. anyway IsWithinListLimit (op i c) _ (λ u c. between_small t u c h))
 
   size_small : (b : Bool) (e : ExprTree) (c : ℕ) → Small (ev.size_of op pl facts env b e c)
@@ -221,11 +221,11 @@ module _ (facts : List Fact) (env : List BindingTree) (small : BindingsWithin en
     call_small (Some f) es c = anyway IsWithinListLimit (ev.count_call c) _ (λ n c. then_all BindingsWithin IsWithinListLimit (ev.arguments op pl es f.parameters c) _ (arguments_small es f.parameters c) (λ args c h. body_small f.expr args c h))
     call_small None es c = tt
 
-    row_small : (e : ExprTree) (c : ℕ) → Small (ev.value_of op pl facts env defs body e c)
+    row_small : (e : ExprTree) (c : ℕ) → Small (ev.part_value op pl facts env defs body e c)
     row_small (numeral n) c = number_small n c
     row_small (boolean b) c = refl
     row_small (known t) c = limited_small t c
-    row_small (bound i) c = then_all PlaceWithin IsWithinListLimit (ev.place_of op pl env (bound i) c) _ (place_small (bound i) c) (λ p c h. value_at_small facts p c h)
+    row_small (bound i) c = then_all PlaceWithin IsWithinListLimit (ev.evaluated_place op pl env (bound i) c) _ (place_small (bound i) c) (λ p c h. value_at_small facts p c h)
     row_small (global x) c = value_at_small facts (at_path (record { var = x; at = [] })) c tt
     row_small (listing es) c = anyway IsWithinListLimit (ev.each op es c) _ (λ ts c. limited_small (list (of_items ts)) c)
     row_small (size e) c = size_small (is_place e) e c
@@ -252,7 +252,7 @@ module _ (facts : List Fact) (defs : List Definition) where
   outcome_small (stops (faults k)) v h e = absurd (cc)
   outcome_small (stops (passes k)) v h e = absurd (cc)
 
-  place_outcome_small : (r : Reached Place) (v : Tree) → AllOf PlaceWithin r → place_reached facts r ≡ found.other (found.value v) → IsWithinListLimit v
+  place_outcome_small : (r : Reached PlaceFound) (v : Tree) → AllOf PlaceWithin r → place_reached facts r ≡ found.other (found.value v) → IsWithinListLimit v
   place_outcome_small (reaches (at_path p) c) v h e = absurd (cc)
   place_outcome_small (reaches (inside t at) c) v h e = outcome_small (ev.value_at facts (inside t at) c) v (value_at_small facts (inside t at) c h) (cc)
   place_outcome_small (stops (waits p)) v h e = absurd (cc)

@@ -18,7 +18,7 @@ use Rattle.tp_store.proofs.Adding.{adds_all}
 use Rattle.tp_eval.specs.Outcome as found
 use Rattle.tp_eval.specs.Outcome.{PlaceOutcome, outcome, place_outcome}
 use Rattle.tp_scene.specs.Scene.{Bindings, Side, Ending, Going, Head, Leaf, Do, Later, Shown, Holder, Split, SplitProject, Closed, Opened, Running, Entries, none, leaf, node, second_lives, has, append, Place}
-use Rattle.tp_scene.specs.Step.{region_limit, Reduction, Outcome, reduces, waits, rests, clashes, misses, passes, Numbers, marking, by_status, with_value, with_truth, with_number, Target, value_at, length_at, set, added, SideOf, meets, equate, side_of, side_with, with_values, with_place, with_argument, with_arguments, called, length_left, from_port, all_do, formula_step, leaf_step, holder_step}
+use Rattle.tp_scene.specs.Step.{region_limit, Reduction, PickOutcome, reduces, waits, rests, clashes, misses, passes, Numbers, marking, by_status, with_value, with_truth, with_number, Target, value_at, length_at, set, added, SideOf, meets, equate, side_of, side_with, with_values, with_place, with_argument, with_arguments, called, length_left, from_port, all_do, formula_step, leaf_step, holder_step}
 use Rattle.tp_scene.specs.Pick.{Setting, pick, put}
 use Rattle.tp_scene.proofs.Frame.{region}
 use Rattle.tp_scene.proofs.Risen.{pick_here, pick_second, pick_first, pick_later}
@@ -62,7 +62,7 @@ mutual
   ]
 
 within_items : (t : Tree) → IsWithinListLimit t → items_in t ≤ limits.item_limit
-within_items t h = leb-true (items_in t) limits.item_limit (and_parts (nat_le (depth_of t) limits.depth_limit) (nat_le (items_in t) limits.item_limit) h).1
+within_items t h = leb-true (items_in t) limits.item_limit (and_parts (nat_le (depth_of t) limits.value_depth_limit) (nat_le (items_in t) limits.item_limit) h).1
 
 append_within : (es fs : Entries) → EntriesWithin es → EntriesWithin fs → EntriesWithin (append es fs)
 append_within none fs h k = k
@@ -78,7 +78,7 @@ do_within : (fs : FormulaTrees) (env : Bindings) (number : ℕ → ℕ) (k : ℕ
 do_within no_formula env number k h = tt
 do_within (formula_then f fs) env number k h = (h, do_within fs env number (suc k) h)
 
-abbrev NewsWithin : Outcome → Type 0
+abbrev NewsWithin : PickOutcome → Type 0
 NewsWithin (reduces r) = AreShort r.facts × EntriesWithin r.news
 NewsWithin (waits first other) = Unit {0}
 NewsWithin rests = Unit {0}
@@ -89,7 +89,7 @@ NewsWithin (passes k) = Unit {0}
 no_facts : AreShort []
 no_facts f i = absurd i
 
-if_news : (b : Bool) (o o' : Outcome) → NewsWithin o → NewsWithin o' → NewsWithin (if b then o else o')
+if_news : (b : Bool) (o o' : PickOutcome) → NewsWithin o → NewsWithin o' → NewsWithin (if b then o else o')
 if_news true o o' h h' = h
 if_news false o o' h h' = h'
 
@@ -97,20 +97,20 @@ marking_news : (z : Side) (b : Bool) (depth : ℕ) (news : Entries) (items : ℕ
 marking_news z true depth news items h = tt
 marking_news z false depth news items h = (no_facts, h)
 
-status_news : (p : Place) (o o' : Outcome) → NewsWithin o → NewsWithin o' → NewsWithin (by_status p o o')
+status_news : (p : Place) (o o' : PickOutcome) → NewsWithin o → NewsWithin o' → NewsWithin (by_status p o o')
 status_news p o o' h h' = cond_both (p.is Going) _ _ NewsWithin (λ _. h) (λ _. cond_both (p.is Ending) _ _ NewsWithin (λ _. h') (λ _. tt))
 
 -- the outcome has a value within the limits, if any
 abbrev ValueWithin : found.Outcome → Type 0
 ValueWithin o = (v : Tree) → o ≡ found.value v → IsWithinListLimit v
 
-value_news : (o : found.Outcome) (f : Tree → Outcome) → ValueWithin o → ((t : Tree) → IsWithinListLimit t → NewsWithin (f t)) → NewsWithin (with_value o f)
+value_news : (o : found.Outcome) (f : Tree → PickOutcome) → ValueWithin o → ((t : Tree) → IsWithinListLimit t → NewsWithin (f t)) → NewsWithin (with_value o f)
 value_news (found.value t) f v h = h t (v t refl)
 value_news (found.wait p) f v h = tt
 value_news (found.fault k) f v h = tt
 value_news (found.over k) f v h = tt
 
-truth_news : (o : found.Outcome) (f : Bool → Outcome) → ((b : Bool) → NewsWithin (f b)) → NewsWithin (with_truth o f)
+truth_news : (o : found.Outcome) (f : Bool → PickOutcome) → ((b : Bool) → NewsWithin (f b)) → NewsWithin (with_truth o f)
 truth_news (found.value (truth b)) f h = h b
 truth_news (found.value (num n)) f h = tt
 truth_news (found.value (list ts)) f h = tt
@@ -118,7 +118,7 @@ truth_news (found.wait p) f h = tt
 truth_news (found.fault k) f h = tt
 truth_news (found.over k) f h = tt
 
-number_news : (o : found.Outcome) (f : ℤ → Outcome) → ((n : ℤ) → NewsWithin (f n)) → NewsWithin (with_number o f)
+number_news : (o : found.Outcome) (f : ℤ → PickOutcome) → ((n : ℤ) → NewsWithin (f n)) → NewsWithin (with_number o f)
 number_news (found.value (num n)) f h = h n
 number_news (found.value (truth b)) f h = tt
 number_news (found.value (list ts)) f h = tt
@@ -174,18 +174,18 @@ module _ (facts : List Fact) where
     small_value : (e : ExprTree) → ValueWithin (outcome facts defs e env)
     small_value e = (values_within facts defs e env small).value
 
-    values_news : (es : ExprTrees) (f : List Tree → Outcome) → ((vs : List Tree) → NewsWithin (f vs)) → NewsWithin (with_values defs inputs state facts es env f)
+    values_news : (es : ExprTrees) (f : List Tree → PickOutcome) → ((vs : List Tree) → NewsWithin (f vs)) → NewsWithin (with_values defs inputs state facts es env f)
     values_news no_expr f h = h []
     values_news (expr_then e es) f h = value_news (outcome facts defs e env) _ (small_value e) (λ v _. values_news es _ (λ vs. h (v ∷ vs)))
 
-    place_news : (o : PlaceOutcome) → ((v : Tree) → o ≡ found.other (found.value v) → IsWithinListLimit v) → (f : BindingTree → Outcome) → ((b : BindingTree) → BindingWithin b → NewsWithin (f b)) → NewsWithin (with_place defs inputs state facts o f)
+    place_news : (o : PlaceOutcome) → ((v : Tree) → o ≡ found.other (found.value v) → IsWithinListLimit v) → (f : BindingTree → PickOutcome) → ((b : BindingTree) → BindingWithin b → NewsWithin (f b)) → NewsWithin (with_place defs inputs state facts o f)
     place_news (found.path p) v f h = h (place_binding p) tt
     place_news (found.other o) v f h = value_news o _ (λ x e. v x (ap found.other e)) (λ x k. h (known_binding x) k)
 
-    argument_news : (x : List ℕ) (e : ExprTree) (f : BindingTree → Outcome) → ((b : BindingTree) → BindingWithin b → NewsWithin (f b)) → NewsWithin (with_argument defs inputs state facts x e env f)
+    argument_news : (x : List ℕ) (e : ExprTree) (f : BindingTree → PickOutcome) → ((b : BindingTree) → BindingWithin b → NewsWithin (f b)) → NewsWithin (with_argument defs inputs state facts x e env f)
     argument_news x e f h = if_news (is_upper x) _ _ (place_news (place_outcome facts defs e env) (values_within facts defs e env small).of_place f h) (value_news (outcome facts defs e env) _ (small_value e) (λ v k. h (known_binding v) k))
 
-    arguments_news : (es : ExprTrees) (xs : List (List ℕ)) (f : Bindings → Outcome) → ((bs : Bindings) → BindingsWithin bs → NewsWithin (f bs)) → NewsWithin (with_arguments defs inputs state facts es xs env f)
+    arguments_news : (es : ExprTrees) (xs : List (List ℕ)) (f : Bindings → PickOutcome) → ((bs : Bindings) → BindingsWithin bs → NewsWithin (f bs)) → NewsWithin (with_arguments defs inputs state facts es xs env f)
     arguments_news no_expr [] f h = h [] tt
     arguments_news (expr_then e es) (x ∷ xs) f h = argument_news x e _ (λ b k. arguments_news es xs _ (λ bs l. h (b ∷ bs) (k, l)))
     arguments_news no_expr (x ∷ xs) f h = tt
@@ -256,8 +256,8 @@ module _ (w : Setting) (facts : List Fact) (within : InputsWithin w.inputs) (n :
     abbrev Both : Entries → Type 0
     Both es = AreShort r.facts × EntriesWithin es
 
-    given : (o : Outcome) → o ≡ reduces r → NewsWithin o → AreShort r.facts × EntriesWithin r.news
-    given o e h = subst (λ (x : Outcome). NewsWithin x) e h
+    given : (o : PickOutcome) → o ≡ reduces r → NewsWithin o → AreShort r.facts × EntriesWithin r.news
+    given o e h = subst (λ (x : PickOutcome). NewsWithin x) e h
 
     pub put_within : (es : Entries) (p : Place) → EntriesWithin es → pick w facts t es p n ≡ reduces r → Both (put t r.mark r.news es)
     put_within none p h e = absurd (cc)

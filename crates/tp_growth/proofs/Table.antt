@@ -10,7 +10,7 @@ use Rattle.tp_eval.specs.Outcome as found
 use Rattle.tp_eval.specs.Outcome.{outcome, place_outcome, PlaceOutcome}
 use Rattle.tp_scene.specs.declared.answer.Cell.{Cell}
 use Rattle.tp_scene.specs.Scene.{Bindings, Side, Ending, Going, Entries, Place}
-use Rattle.tp_scene.specs.Step.{Reduction, Outcome, reduces, waits, Numbers, region_limit, marking, with_region, by_status, with_value, with_truth, with_number, side_of, with_values, with_place, with_argument, with_arguments, called, length_left, from_port, formula_step}
+use Rattle.tp_scene.specs.Step.{Reduction, PickOutcome, reduces, waits, Numbers, region_limit, marking, with_region, by_status, with_value, with_truth, with_number, side_of, with_values, with_place, with_argument, with_arguments, called, length_left, from_port, formula_step}
 use Rattle.tp_scene.specs.Pick.{Setting}
 use Rattle.tp_scene.specs.Fits.{IsCalm}
 use Rattle.tp_scene.proofs.Grown.{other_side}
@@ -19,7 +19,7 @@ use Rattle.tp_growth.specs.Outcomes.{KnowsMore, GrownOutcome, GrownPlace}
 use Rattle.tp_growth.proofs.OutcomesGrow.{outcomes_grow}
 
 -- by whether a region goes or ends, where each stays so and never both are
-pub status_case : (P : Outcome → Outcome → Type 0) (a b a' b' w w' : Outcome) → P a a' → P b b' → ((u : Outcome) → P w u) → (pg pe qg qe : Bool) → (pg ≡ true → qg ≡ true) → (pe ≡ true → qe ≡ true) → (qe ≡ true → qg ≡ true → ⊥)
+pub status_case : (P : PickOutcome → PickOutcome → Type 0) (a b a' b' w w' : PickOutcome) → P a a' → P b b' → ((u : PickOutcome) → P w u) → (pg pe qg qe : Bool) → (pg ≡ true → qg ≡ true) → (pe ≡ true → qe ≡ true) → (qe ≡ true → qg ≡ true → ⊥)
     → P (if pg then a else (if pe then b else w)) (if qg then a' else (if qe then b' else w'))
 status_case P a b a' b' w w' x y z true pe qg qe g e calm = subst (λ (c : Bool). P a (if c then a' else (if qe then b' else w'))) (sym (g refl)) x
 status_case P a b a' b' w w' x y z false true true qe g e calm = absurd (calm (e refl) refl)
@@ -27,27 +27,27 @@ status_case P a b a' b' w w' x y z false true false qe g e calm = subst (λ (c :
 status_case P a b a' b' w w' x y z false false qg qe g e calm = z _
 
 -- what such a relation has: of an outcome before, at p, and one after, at q
-pub record Respects (P : Outcome → Outcome → Type 0) (p q : Place) : Type 0 where
-  pub waiting : (first : Cell) (other : Option Cell) (u : Outcome) → P (waits first other) u
-  pub failing : (o u : Outcome) → IsFailure o → IsFailure u → P o u
+pub record Respects (P : PickOutcome → PickOutcome → Type 0) (p q : Place) : Type 0 where
+  pub waiting : (first : Cell) (other : Option Cell) (u : PickOutcome) → P (waits first other) u
+  pub failing : (o u : PickOutcome) → IsFailure o → IsFailure u → P o u
   pub same : (r : Reduction) → r.facts ≡ [] → P (reduces r) (reduces r)
   pub marks : (z : Side) (news : Entries) (i : ℕ) → P (marking z (p.is (other_side z)) p.depth news i) (marking z (q.is (other_side z)) q.depth news i)
 
-module _ (w : Setting) (fs gs : List Fact) (fc : NoClash fs) (gc : NoClash gs) (knows : KnowsMore fs gs) (p q : Place) (n : Numbers) (up : Grows p q) (calm : IsCalm q) (P : Outcome → Outcome → Type 0) (respects : Respects P p q) where
-  fails : (o : Outcome) → IsFailure o → P o o
+module _ (w : Setting) (fs gs : List Fact) (fc : NoClash fs) (gc : NoClash gs) (knows : KnowsMore fs gs) (p q : Place) (n : Numbers) (up : Grows p q) (calm : IsCalm q) (P : PickOutcome → PickOutcome → Type 0) (respects : Respects P p q) where
+  fails : (o : PickOutcome) → IsFailure o → P o o
   fails o h = respects.failing o o h h
 
-  if_row : (b : Bool) (x x' y y' : Outcome) → P x x' → P y y' → P (if b then x else y) (if b then x' else y')
+  if_row : (b : Bool) (x x' y y' : PickOutcome) → P x x' → P y y' → P (if b then x else y) (if b then x' else y')
   if_row true x x' y y' h k = h
   if_row false x x' y y' h k = k
 
-  value_row : (a b : found.Outcome) (f g : Tree → Outcome) → GrownOutcome a b → ((v : Tree) → P (f v) (g v)) → P (with_value a f) (with_value b g)
+  value_row : (a b : found.Outcome) (f g : Tree → PickOutcome) → GrownOutcome a b → ((v : Tree) → P (f v) (g v)) → P (with_value a f) (with_value b g)
   value_row (found.value t) b f g h k = subst (λ (o : found.Outcome). P (f t) (with_value o g)) (sym h) (k t)
   value_row (found.wait x) b f g h k = respects.waiting _ _ _
   value_row (found.fault j) b f g h k = respects.failing _ _ tt (subst (λ (o : found.Outcome). IsFailure (with_value o g)) (sym h) tt)
   value_row (found.over j) b f g h k = respects.failing _ _ tt (subst (λ (o : found.Outcome). IsFailure (with_value o g)) (sym h) tt)
 
-  truth_row : (a b : found.Outcome) (f g : Bool → Outcome) → GrownOutcome a b → ((v : Bool) → P (f v) (g v)) → P (with_truth a f) (with_truth b g)
+  truth_row : (a b : found.Outcome) (f g : Bool → PickOutcome) → GrownOutcome a b → ((v : Bool) → P (f v) (g v)) → P (with_truth a f) (with_truth b g)
   truth_row (found.value (truth t)) b f g h k = subst (λ (o : found.Outcome). P (f t) (with_truth o g)) (sym h) (k t)
   truth_row (found.value (num m)) b f g h k = respects.failing _ _ tt (subst (λ (o : found.Outcome). IsFailure (with_truth o g)) (sym h) tt)
   truth_row (found.value (list ts)) b f g h k = respects.failing _ _ tt (subst (λ (o : found.Outcome). IsFailure (with_truth o g)) (sym h) tt)
@@ -55,7 +55,7 @@ module _ (w : Setting) (fs gs : List Fact) (fc : NoClash fs) (gc : NoClash gs) (
   truth_row (found.fault j) b f g h k = respects.failing _ _ tt (subst (λ (o : found.Outcome). IsFailure (with_truth o g)) (sym h) tt)
   truth_row (found.over j) b f g h k = respects.failing _ _ tt (subst (λ (o : found.Outcome). IsFailure (with_truth o g)) (sym h) tt)
 
-  number_row : (a b : found.Outcome) (f g : ℤ → Outcome) → GrownOutcome a b → ((v : ℤ) → P (f v) (g v)) → P (with_number a f) (with_number b g)
+  number_row : (a b : found.Outcome) (f g : ℤ → PickOutcome) → GrownOutcome a b → ((v : ℤ) → P (f v) (g v)) → P (with_number a f) (with_number b g)
   number_row (found.value (num m)) b f g h k = subst (λ (o : found.Outcome). P (f m) (with_number o g)) (sym h) (k m)
   number_row (found.value (truth t)) b f g h k = respects.failing _ _ tt (subst (λ (o : found.Outcome). IsFailure (with_number o g)) (sym h) tt)
   number_row (found.value (list ts)) b f g h k = respects.failing _ _ tt (subst (λ (o : found.Outcome). IsFailure (with_number o g)) (sym h) tt)
@@ -66,7 +66,7 @@ module _ (w : Setting) (fs gs : List Fact) (fc : NoClash fs) (gc : NoClash gs) (
   region_row : (news : Entries) (i : ℕ) → P (with_region p.depth news i) (with_region q.depth news i)
   region_row news i = subst (λ (d : ℕ). P (with_region p.depth news i) (with_region d news i)) (sym up.depth) (if_row (nat_lt p.depth region_limit) _ _ _ _ (respects.same _ refl) (fails _ tt))
 
-  status_row : (a b : Outcome) → P a a → P b b → P (by_status p a b) (by_status q a b)
+  status_row : (a b : PickOutcome) → P a a → P b b → P (by_status p a b) (by_status q a b)
   status_row a b h k = status_case P a b a b _ _ h k (λ u. respects.waiting _ _ u) (p.is Going) (p.is Ending) (q.is Going) (q.is Ending) (up.sides Going) (up.sides Ending) calm
 
   module _ (env : Bindings)
@@ -76,23 +76,23 @@ module _ (w : Setting) (fs gs : List Fact) (fc : NoClash fs) (gc : NoClash gs) (
     grown : (e : ExprTree) → GrownOutcome (outcome fs w.defs e env) (outcome gs w.defs e env)
     grown e = (outcomes_grow fs gs fc gc knows w.defs e env).0
 
-    place_row : (a b : PlaceOutcome) (f g : BindingTree → Outcome) → GrownPlace a b → ((v : BindingTree) → P (f v) (g v)) → P (with_place w.defs w.inputs w.state fs a f) (with_place w.defs w.inputs w.state gs b g)
+    place_row : (a b : PlaceOutcome) (f g : BindingTree → PickOutcome) → GrownPlace a b → ((v : BindingTree) → P (f v) (g v)) → P (with_place w.defs w.inputs w.state fs a f) (with_place w.defs w.inputs w.state gs b g)
     place_row (found.path x) b f g h k = subst (λ (o : PlaceOutcome). P (f (place_binding x)) (with_place w.defs w.inputs w.state gs o g)) (sym h) (k (place_binding x))
     place_row (found.other (found.value t)) b f g h k = subst (λ (o : PlaceOutcome). P (f (known_binding t)) (with_place w.defs w.inputs w.state gs o g)) (sym h) (k (known_binding t))
     place_row (found.other (found.wait x)) b f g h k = respects.waiting _ _ _
     place_row (found.other (found.fault j)) b f g h k = respects.failing _ _ tt (subst (λ (o : PlaceOutcome). IsFailure (with_place w.defs w.inputs w.state gs o g)) (sym h) tt)
     place_row (found.other (found.over j)) b f g h k = respects.failing _ _ tt (subst (λ (o : PlaceOutcome). IsFailure (with_place w.defs w.inputs w.state gs o g)) (sym h) tt)
 
-    argument_row : (x : List ℕ) (e : ExprTree) (f g : BindingTree → Outcome) → ((v : BindingTree) → P (f v) (g v)) → P (with_argument w.defs w.inputs w.state fs x e env f) (with_argument w.defs w.inputs w.state gs x e env g)
+    argument_row : (x : List ℕ) (e : ExprTree) (f g : BindingTree → PickOutcome) → ((v : BindingTree) → P (f v) (g v)) → P (with_argument w.defs w.inputs w.state fs x e env f) (with_argument w.defs w.inputs w.state gs x e env g)
     argument_row x e f g k = if_row (is_upper x) _ _ _ _ (place_row _ _ f g (outcomes_grow fs gs fc gc knows w.defs e env).1 k) (value_row _ _ _ _ (grown e) (λ v. k (known_binding v)))
 
-    arguments_row : (es : ExprTrees) (xs : List (List ℕ)) (f g : Bindings → Outcome) → ((vs : Bindings) → P (f vs) (g vs)) → P (with_arguments w.defs w.inputs w.state fs es xs env f) (with_arguments w.defs w.inputs w.state gs es xs env g)
+    arguments_row : (es : ExprTrees) (xs : List (List ℕ)) (f g : Bindings → PickOutcome) → ((vs : Bindings) → P (f vs) (g vs)) → P (with_arguments w.defs w.inputs w.state fs es xs env f) (with_arguments w.defs w.inputs w.state gs es xs env g)
     arguments_row no_expr [] f g k = k []
     arguments_row (expr_then e es) (x ∷ xs) f g k = argument_row x e _ _ (λ b. arguments_row es xs _ _ (λ bs. k (b ∷ bs)))
     arguments_row no_expr (x ∷ xs) f g k = fails _ tt
     arguments_row (expr_then e es) [] f g k = fails _ tt
 
-    values_row : (es : ExprTrees) (f g : List Tree → Outcome) → ((vs : List Tree) → P (f vs) (g vs)) → P (with_values w.defs w.inputs w.state fs es env f) (with_values w.defs w.inputs w.state gs es env g)
+    values_row : (es : ExprTrees) (f g : List Tree → PickOutcome) → ((vs : List Tree) → P (f vs) (g vs)) → P (with_values w.defs w.inputs w.state fs es env f) (with_values w.defs w.inputs w.state gs es env g)
     values_row no_expr f g k = k []
     values_row (expr_then e es) f g k = value_row _ _ _ _ (grown e) (λ v. values_row es _ _ (λ vs. k (v ∷ vs)))
 

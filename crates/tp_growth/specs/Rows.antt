@@ -7,7 +7,7 @@ use Rattle.tp_store.specs.Changes.{HaveSameShapes}
 use Rattle.tp_store.specs.Facts.{kept_shape}
 use Rattle.tp_store.specs.Known.{NoClash}
 use Rattle.tp_scene.specs.Scene.{Head, Leaf, Do, Holder, Split, SplitProject, Closed, Opened, Running, Entries, none, leaf, Place, Side, new_head, closed_then, opened_then, running_then}
-use Rattle.tp_scene.specs.Step.{Reduction, Outcome, reduces, waits, rests, clashes, misses, passes, Numbers, leaf_step, holder_step}
+use Rattle.tp_scene.specs.Step.{Reduction, PickOutcome, reduces, waits, rests, clashes, misses, passes, Numbers, leaf_step, holder_step}
 use Rattle.tp_scene.specs.Pick.{Setting}
 use Rattle.tp_scene.specs.Fits.{IsCalm}
 use Rattle.tp_meaning.specs.Syntax.{more}
@@ -21,7 +21,7 @@ pub record Grows (p q : Place) : Type 0 where
   pub sides : (z : Side) → p.is z ≡ true → q.is z ≡ true
 
 -- nothing comes of the state: a clash, a missing input or a passed limit
-abbrev pub IsFailure : Outcome → Type 0
+abbrev pub IsFailure : PickOutcome → Type 0
 IsFailure (reduces r) = ⊥
 IsFailure (waits first other) = ⊥
 IsFailure rests = ⊥
@@ -47,7 +47,7 @@ pub record SameReduction (gs : List Fact) (r s : Reduction) : Type 0 where
   pub facts : SameFacts gs r.facts s.facts
 
 -- a reduction stays the same, or fails
-abbrev pub StillReduces : List Fact → Reduction → Outcome → Type 0
+abbrev pub StillReduces : List Fact → Reduction → PickOutcome → Type 0
 StillReduces gs r (reduces s) = SameReduction gs r s
 StillReduces gs r (waits first other) = ⊥
 StillReduces gs r rests = ⊥
@@ -57,7 +57,7 @@ StillReduces gs r (passes k) = Unit {0}
 
 -- A reduction stays the same, or fails; what fails goes on to fail; what waits or rests may become
 -- anything.
-abbrev pub GrownTo : List Fact → Outcome → Outcome → Type 0
+abbrev pub GrownTo : List Fact → PickOutcome → PickOutcome → Type 0
 GrownTo gs (reduces r) o = StillReduces gs r o
 GrownTo gs (waits first other) o = Unit {0}
 GrownTo gs rests o = Unit {0}
@@ -92,7 +92,7 @@ holder_make (Running f env) n h i g s = none
 
 -- A holder that has a step keeps it, of the regions as they then are; it has no facts, and never
 -- fails. Where it rests it rests on.
-abbrev pub HolderGrown : Holder → Numbers → Head → Entries → Head → Entries → Outcome → Outcome
+abbrev pub HolderGrown : Holder → Numbers → Head → Entries → Head → Entries → PickOutcome → PickOutcome
     → Type 0
 HolderGrown k n h i g s (reduces r) o =
     (o ≡ reduces (record r { news = holder_make k n h i g s }))

@@ -63,7 +63,8 @@ impl Inputs {
 
     /// The value that the state of that number has for the port, where its line has one.
     pub fn at(&self, state: u64, port: &Text) -> Option<&Value>
-        ensures { option_map (λ v. tree v.now) result ≡ input_at (lines_of self.now) state port.now }
+        ensures { option_map (λ v. tree v.now) result
+            ≡ input_at (lines_of self.now) state port.now }
     {
         match self.items.get(state as usize) {
             Some(line) => line.value(port),

@@ -13,8 +13,8 @@ abbrev pub held_of : List Content → Held
 held_of contents = from_entries (map (λ (c : Content). (c.name, c.bytes)) contents)
 
 -- the names asked for, in order
-abbrev pub names_of : List Request → List (List ℕ)
-names_of requests = map (λ (r : Request). r.name) requests
+abbrev pub asked_names : List Request → List (List ℕ)
+asked_names requests = map (λ (r : Request). r.name) requests
 
 abbrev pub failed_reads : List Request → ℕ
 failed_reads requests = count_by (λ (r : Request). r.failed) requests

@@ -81,7 +81,8 @@ pub trait Files {
         ensures held { held self.new ≡ held self.old }
         ensures asked { asked self.new ≡ asked_after (asked self.old) name.now result }
         ensures later { faults self.old ≤ faults self.new }
-        ensures cause { IsErrOf result FileRefusal.Failed → Rose greatest (faults self.old) (faults self.new) };
+        ensures cause { IsErrOf result FileRefusal.Failed
+            → Rose greatest (faults self.old) (faults self.new) };
 }
 
 /// Where a run writes to.
@@ -100,5 +101,6 @@ pub trait Sink {
     fn write(&mut self, alloc: Global, piece: &[u8]) -> Result<(), WriteRefusal>
         ensures written { Writes (written self.old) (written self.new) piece.now result }
         ensures later { faults self.old ≤ faults self.new }
-        ensures cause { IsErrOf result WriteRefusal.Failed → Rose greatest (faults self.old) (faults self.new) };
+        ensures cause { IsErrOf result WriteRefusal.Failed
+            → Rose greatest (faults self.old) (faults self.new) };
 }

@@ -49,11 +49,11 @@ pub struct Shelf {
 }
 
 impl Model for Shelf {
-    ghost use Rattle.tp_io.specs.Memory.{ShelfView, names_of, failed_reads};
+    ghost use Rattle.tp_io.specs.Memory.{ShelfView, asked_names, failed_reads};
 
     ghost Value = { ShelfView };
 
-    ghost view = { λ s. record { contents = s.contents.items; failing = s.failing.items; asked = names_of s.requests.items; faults = failed_reads s.requests.items } };
+    ghost view = { λ s. record { contents = s.contents.items; failing = s.failing.items; asked = asked_names s.requests.items; faults = failed_reads s.requests.items } };
 }
 
 /// Files in memory that never fail. A name that is not there is read as no bytes.
@@ -64,11 +64,11 @@ pub struct SureShelf {
 }
 
 impl Model for SureShelf {
-    ghost use Rattle.tp_io.specs.Memory.{SureShelfView, names_of};
+    ghost use Rattle.tp_io.specs.Memory.{SureShelfView, asked_names};
 
     ghost Value = { SureShelfView };
 
-    ghost view = { λ s. record { contents = s.contents.items; asked = names_of s.requests.items } };
+    ghost view = { λ s. record { contents = s.contents.items; asked = asked_names s.requests.items } };
 }
 
 /// A page in memory. The writes that `failing` names fail; of two failures of one number the first counts, and a write
@@ -122,7 +122,9 @@ fn first_bytes(alloc: Global, bytes: &[u8], most: usize) -> Result<Bytes, NoMemo
 
 impl Shelf {
     pub fn new(alloc: Global, contents: Vec<Content>, failing: Vec<u64>) -> Shelf
-        ensures { result ≡ record { contents = contents.items; failing = failing.items; asked = []; faults = 0 } }
+        ensures { result
+            ≡ record
+            { contents = contents.items; failing = failing.items; asked = []; faults = 0 } }
     {
         Shelf {
             contents,
@@ -196,7 +198,8 @@ impl Files for Shelf {
         ensures held { Some (held_of self.new.contents) ≡ Some (held_of self.old.contents) }
         ensures asked { Some self.new.asked ≡ asked_after (Some self.old.asked) name.now result }
         ensures later { self.old.faults ≤ self.new.faults }
-        ensures cause { IsErrOf result FileRefusal.Failed → Rose None self.old.faults self.new.faults }
+        ensures cause { IsErrOf result FileRefusal.Failed
+            → Rose None self.old.faults self.new.faults }
 
         ensures after { self.new ≡ shelf_after self.old name.now result }
         ensures fails { FailsAt self.old name.now → IsErr result }
@@ -276,7 +279,8 @@ impl Sink for Page {
     fn write(&mut self, alloc: Global, piece: &[u8]) -> Result<(), WriteRefusal>
         ensures written { Writes (Some self.old.text) (Some self.new.text) piece.now result }
         ensures later { self.old.faults ≤ self.new.faults }
-        ensures cause { IsErrOf result WriteRefusal.Failed → Rose None self.old.faults self.new.faults }
+        ensures cause { IsErrOf result WriteRefusal.Failed
+            → Rose None self.old.faults self.new.faults }
 
         ensures after { self.new ≡ page_after self.old piece.now result }
         ensures fails { OnOk result (IsNone (failure_of self.old)) }

@@ -80,7 +80,8 @@ fn write_refusal(error: &io::Error) -> WriteRefusal
 // Reads until the source gives nothing or so many bytes were read.
 fn read_first<S: Read + Drop>(alloc: Global, source: S, most: usize) -> Result<Bytes, FileRefusal>
     ensures within { IfOk result (λ bytes. length bytes ≤ most) }
-    ensures first { IfOk result (λ bytes. IfSome (S.remaining source) (λ all. bytes ≡ take most all)) }
+    ensures first { IfOk result (λ bytes.
+        IfSome (S.remaining source) (λ all. bytes ≡ take most all)) }
 {
     let mut items = Vec::new(alloc);
     source
@@ -98,7 +99,8 @@ fn open_and_read<R: rt::Files>(
     most: usize,
 ) -> Result<Bytes, FileRefusal>
     ensures within { IfOk result (λ bytes. length bytes ≤ most) }
-    ensures opened { IfOk result (λ bytes. (file : R.File) × IfSome (R.File.remaining file) (λ all. bytes ≡ take most all)) }
+    ensures opened { IfOk result (λ bytes.
+        (file : R.File) × IfSome (R.File.remaining file) (λ all. bytes ≡ take most all)) }
 {
     let file = fs::open(runtime, name).map_err(|e| file_refusal(&e))?;
     let bytes = read_first(alloc, file, most)?;
@@ -149,9 +151,11 @@ impl<R: rt::Files> Files for RealFiles<R> {
     fn read(&mut self, alloc: Global, name: &str, most: usize) -> Result<Bytes, FileRefusal>
         ensures bytes { IfOk result (Reads None name.now most) }
         ensures later { self.old.faults ≤ self.new.faults }
-        ensures cause { IsErrOf result FileRefusal.Failed → Rose last_count self.old.faults self.new.faults }
+        ensures cause { IsErrOf result FileRefusal.Failed
+            → Rose last_count self.old.faults self.new.faults }
 
-        ensures opened { IfOk result (λ bytes. (file : R.File) × IfSome (R.File.remaining file) (λ all. bytes ≡ take most all)) }
+        ensures opened { IfOk result (λ bytes.
+            (file : R.File) × IfSome (R.File.remaining file) (λ all. bytes ≡ take most all)) }
         ensures count { self.new.faults ≡ reads_failed_after last_count self.old.faults result }
     {
         let outcome = open_and_read(alloc, &self.runtime, name, most);
@@ -171,7 +175,8 @@ impl<W: Write> Sink for RealSink<W> {
 
     fn write(&mut self, _alloc: Global, piece: &[u8]) -> Result<(), WriteRefusal>
         ensures later { self.old.faults ≤ self.new.faults }
-        ensures cause { IsErrOf result WriteRefusal.Failed → Rose last_count self.old.faults self.new.faults }
+        ensures cause { IsErrOf result WriteRefusal.Failed
+            → Rose last_count self.old.faults self.new.faults }
 
         ensures appended { OnOk result
             (Appends (W.contents self.old.writer) (W.contents self.new.writer) piece.now) }

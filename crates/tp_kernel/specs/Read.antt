@@ -60,31 +60,31 @@ expr_tree = fold-Expr ExprTree ExprTrees expr_step exprs_step
 abbrev pub expr_trees : Exprs → ExprTrees
 expr_trees = fold-Exprs ExprTree ExprTrees expr_step exprs_step
 
-abbrev pub formula_step : Formula-F FormulaTree FormulaTrees → FormulaTree
-formula_step Formula-F.True = trivial
-formula_step (Formula-F.Test e) = test (expr_tree e.value)
-formula_step (Formula-F.Eq a b) = equation (expr_tree a.value) (expr_tree b.value)
-formula_step (Formula-F.NextEq k a b) = next_equation k (expr_tree a.value) (expr_tree b.value)
-formula_step Formula-F.Empty = empty
-formula_step Formula-F.More = more
-formula_step (Formula-F.Next w) = next w.value
-formula_step (Formula-F.WeakNext w) = weak_next w.value
-formula_step (Formula-F.IfMore w) = if_more w.value
-formula_step (Formula-F.IfEmpty w) = if_empty w.value
-formula_step (Formula-F.Always w) = always w.value
-formula_step (Formula-F.And ws) = conjunction ws
-formula_step (Formula-F.If b w v) = branch (expr_tree b.value) w.value v.value
-formula_step (Formula-F.Len e) = len (expr_tree e.value)
-formula_step (Formula-F.Assign t e) = assign (expr_tree t.value) (expr_tree e.value)
-formula_step (Formula-F.Chop w v) = chop w.value v.value
-formula_step (Formula-F.While b w) = while (expr_tree b.value) w.value
-formula_step (Formula-F.For name k e w) = for_from name k (expr_tree e.value) w.value
-formula_step (Formula-F.Forall name k e w) = forall_from name k (expr_tree e.value) w.value
-formula_step (Formula-F.Proj w v) = project w.value v.value
-formula_step (Formula-F.Exists name lasting w) = exists name lasting w.value
-formula_step (Formula-F.Call p es) = call p (expr_trees es)
-formula_step (Formula-F.Input x port) = input (expr_tree x.value) port
-formula_step (Formula-F.Display es) = display (expr_trees es)
+abbrev pub formula_fold : Formula-F FormulaTree FormulaTrees → FormulaTree
+formula_fold Formula-F.True = trivial
+formula_fold (Formula-F.Test e) = test (expr_tree e.value)
+formula_fold (Formula-F.Eq a b) = equation (expr_tree a.value) (expr_tree b.value)
+formula_fold (Formula-F.NextEq k a b) = next_equation k (expr_tree a.value) (expr_tree b.value)
+formula_fold Formula-F.Empty = empty
+formula_fold Formula-F.More = more
+formula_fold (Formula-F.Next w) = next w.value
+formula_fold (Formula-F.WeakNext w) = weak_next w.value
+formula_fold (Formula-F.IfMore w) = if_more w.value
+formula_fold (Formula-F.IfEmpty w) = if_empty w.value
+formula_fold (Formula-F.Always w) = always w.value
+formula_fold (Formula-F.And ws) = conjunction ws
+formula_fold (Formula-F.If b w v) = branch (expr_tree b.value) w.value v.value
+formula_fold (Formula-F.Len e) = len (expr_tree e.value)
+formula_fold (Formula-F.Assign t e) = assign (expr_tree t.value) (expr_tree e.value)
+formula_fold (Formula-F.Chop w v) = chop w.value v.value
+formula_fold (Formula-F.While b w) = while (expr_tree b.value) w.value
+formula_fold (Formula-F.For name k e w) = for_from name k (expr_tree e.value) w.value
+formula_fold (Formula-F.Forall name k e w) = forall_from name k (expr_tree e.value) w.value
+formula_fold (Formula-F.Proj w v) = project w.value v.value
+formula_fold (Formula-F.Exists name lasting w) = exists name lasting w.value
+formula_fold (Formula-F.Call p es) = call p (expr_trees es)
+formula_fold (Formula-F.Input x port) = input (expr_tree x.value) port
+formula_fold (Formula-F.Display es) = display (expr_trees es)
 
 -- each operand behind its `Rc`
 abbrev pub formulas_step : Formulas-F FormulaTree FormulaTrees → FormulaTrees
@@ -92,10 +92,10 @@ formulas_step ws = formulas_of (map (λ w. w.value) ws.items.items)
 
 -- the plain tree of a formula, and of several
 abbrev pub formula_tree : Formula → FormulaTree
-formula_tree = fold-Formula FormulaTree FormulaTrees formula_step formulas_step
+formula_tree = fold-Formula FormulaTree FormulaTrees formula_fold formulas_step
 
 abbrev pub formula_trees : Formulas → FormulaTrees
-formula_trees = fold-Formulas FormulaTree FormulaTrees formula_step formulas_step
+formula_trees = fold-Formulas FormulaTree FormulaTrees formula_fold formulas_step
 
 -- a definition, and definitions by their numbers
 abbrev pub definition_of : Def → Definition

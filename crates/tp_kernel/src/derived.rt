@@ -13,7 +13,9 @@ use tp_value::NoMemory;
 
 // The conjunction of the two.
 fn both(alloc: Global, first: Rc<Formula>, second: Rc<Formula>) -> Result<Formula, NoMemory>
-    ensures { IfOk result (λ f. formula_tree f ≡ conjunction (formulas_of (formula_tree first.value ∷ formula_tree second.value ∷ []))) }
+    ensures { IfOk result (λ f.
+        formula_tree f
+        ≡ conjunction (formulas_of (formula_tree first.value ∷ formula_tree second.value ∷ []))) }
 {
     let items = vec![in alloc; first, second]?;
     Ok(Formula::And(Formulas { items }))
@@ -59,8 +61,10 @@ pub fn fin(alloc: Global, w: Rc<Formula>) -> Result<Formula, NoMemory>
 
 /// `a gets e`: in each state but the first a's value is e's in the state before; nothing is shown.
 pub fn gets(alloc: Global, a: Rc<Expr>, e: Rc<Expr>) -> Result<Formula, NoMemory>
-    ensures formula { IfOk result (λ f. formula_tree f ≡ gets_of (expr_tree a.value) (expr_tree e.value)) }
-    ensures meaning { IfOk result (λ f. Means (formula_tree f) (Gets (expr_tree a.value) (expr_tree e.value))) }
+    ensures formula { IfOk result (λ f.
+        formula_tree f ≡ gets_of (expr_tree a.value) (expr_tree e.value)) }
+    ensures meaning { IfOk result (λ f.
+        Means (formula_tree f) (Gets (expr_tree a.value) (expr_tree e.value))) }
 {
     let next = Rc::new(alloc, Formula::NextEq(1, a, e))?;
     let step = Rc::new(alloc, Formula::IfMore(next))?;
@@ -79,8 +83,10 @@ pub fn stable(alloc: Global, a: Rc<Expr>) -> Result<Formula, NoMemory>
 
 /// `a := e`: the length is 1, and a's value in the last state is e's in the first; nothing is shown.
 pub fn becomes(alloc: Global, a: Rc<Expr>, e: Rc<Expr>) -> Result<Formula, NoMemory>
-    ensures formula { IfOk result (λ f. formula_tree f ≡ becomes_of (expr_tree a.value) (expr_tree e.value)) }
-    ensures meaning { IfOk result (λ f. Means (formula_tree f) (Becomes (expr_tree a.value) (expr_tree e.value))) }
+    ensures formula { IfOk result (λ f.
+        formula_tree f ≡ becomes_of (expr_tree a.value) (expr_tree e.value)) }
+    ensures meaning { IfOk result (λ f.
+        Means (formula_tree f) (Becomes (expr_tree a.value) (expr_tree e.value))) }
 {
     let skip = skip(alloc)?;
     let one = Rc::new(alloc, skip)?;
@@ -92,8 +98,10 @@ pub fn becomes(alloc: Global, a: Rc<Expr>, e: Rc<Expr>) -> Result<Formula, NoMem
 /// `repeat w until b`: w holds up to some state, and from there along strictly rising cuts to the end; b is false at each cut but
 /// the last, and true there.
 pub fn repeat(alloc: Global, w: Rc<Formula>, b: Rc<Expr>) -> Result<Formula, NoMemory>
-    ensures formula { IfOk result (λ f. formula_tree f ≡ repeat_of (formula_tree w.value) (expr_tree b.value)) }
-    ensures meaning { IfOk result (λ f. Means (formula_tree f) (Repeat (formula_tree w.value) (expr_tree b.value))) }
+    ensures formula { IfOk result (λ f.
+        formula_tree f ≡ repeat_of (formula_tree w.value) (expr_tree b.value)) }
+    ensures meaning { IfOk result (λ f.
+        Means (formula_tree f) (Repeat (formula_tree w.value) (expr_tree b.value))) }
 {
     let again = w.clone()?;
     let goes_on = Rc::new(alloc, Expr::Not(b))?;
@@ -103,8 +111,10 @@ pub fn repeat(alloc: Global, w: Rc<Formula>, b: Rc<Expr>) -> Result<Formula, NoM
 
 /// `list(l, e)`: in the first state l's value is a list of as many items as e's value says; nothing is shown.
 pub fn list(alloc: Global, l: Rc<Expr>, e: Rc<Expr>) -> Result<Formula, NoMemory>
-    ensures formula { IfOk result (λ f. formula_tree f ≡ list_of_length (expr_tree l.value) (expr_tree e.value)) }
-    ensures meaning { IfOk result (λ f. Means (formula_tree f) (ListOf (expr_tree l.value) (expr_tree e.value))) }
+    ensures formula { IfOk result (λ f.
+        formula_tree f ≡ list_of_length (expr_tree l.value) (expr_tree e.value)) }
+    ensures meaning { IfOk result (λ f.
+        Means (formula_tree f) (ListOf (expr_tree l.value) (expr_tree e.value))) }
 {
     let size = Rc::new(alloc, Expr::Size(l))?;
     Ok(Formula::Eq(size, e))
@@ -114,8 +124,10 @@ pub fn list(alloc: Global, l: Rc<Expr>, e: Rc<Expr>) -> Result<Formula, NoMemory
 /// the first; nothing is shown.
 pub fn next_equals(alloc: Global, k: u32, t: Rc<Expr>, e: Rc<Expr>) -> Result<Formula, NoMemory>
     requires { 1 ≤ k }
-    ensures formula { IfOk result (λ f. formula_tree f ≡ next_equals_of k (expr_tree t.value) (expr_tree e.value)) }
-    ensures meaning { IfOk result (λ f. Means (formula_tree f) (NextEquals k (expr_tree t.value) (expr_tree e.value))) }
+    ensures formula { IfOk result (λ f.
+        formula_tree f ≡ next_equals_of k (expr_tree t.value) (expr_tree e.value)) }
+    ensures meaning { IfOk result (λ f.
+        Means (formula_tree f) (NextEquals k (expr_tree t.value) (expr_tree e.value))) }
 {
     let more = Rc::new(alloc, Formula::More)?;
     let next = Rc::new(alloc, Formula::NextEq(k, t, e))?;

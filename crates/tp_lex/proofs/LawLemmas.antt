@@ -10,9 +10,9 @@ use Rattle.tp_lex.specs.declared.place.Place.{Place}
 use Rattle.tp_lex.specs.declared.first.Piece.{Piece}
 use Rattle.tp_lex.specs.declared.first.Piece.TheVariants.{Gap, Lexeme, Refused}
 use Rattle.tp_lex.specs.First.{first_piece}
-use Rattle.tp_lex.specs.Place.{place_of, place_from, place_after, start, token_at}
-use Rattle.tp_lex.specs.Pieces.{Begins, blank, comment, word, upper, lower, number, symbol, bad_byte, open_comment, large_number, long_name}
-use Rattle.tp_lex.specs.Tokens.{Reads, Ending, Whole, Fails, whole, gap, lexeme, fails, refusal_at}
+use Rattle.tp_lex.specs.Place.{place_of, place_from, place_after, text_start, token_at}
+use Rattle.tp_lex.specs.Pieces.{BeginsPiece, blank, comment, word, upper, lower, number, symbol, bad_byte, open_comment, large_number, long_name}
+use Rattle.tp_lex.specs.Tokens.{ReadsTokens, Ending, Whole, Fails, whole, gap, lexeme, fails, refusal_at}
 use Rattle.tp_lex.specs.Laws.{EachTextIsRead, OneTokenList, OneRefusal, NeverBoth, PlacesCount, HasItsCase, HaveTheirCase, NamesHaveTheirCase}
 use Rattle.tp_lex.proofs.PieceLemmas.{piece_one, piece_found, some_name, Takes}
 
@@ -20,7 +20,7 @@ nothing : (s : Symbol) (rest : List ℕ) → [] ≡ symbol_spelling s ++ rest �
 nothing s rest e = let parts = length-append (symbol_spelling s) rest in let none = ap length e in let one = some s in omega arith
 
 -- a text that begins with something isn't empty
-full : (z : List ℕ) (p : Piece) → Begins z p → 0 < length z
+full : (z : List ℕ) (p : Piece) → BeginsPiece z p → 0 < length z
 full (b ∷ z) p is = omega arith
 full [] _ (blank e) = absurd cc
 full [] _ (comment opens here before) = let e = opens.1 in absurd cc
@@ -35,18 +35,18 @@ full [] _ (large_number are high) = let l = are.digit in absurd cc
 full [] _ (long_name is long) = let l = is.letter in absurd cc
 
 -- at one place stands one piece
-one_piece : (z : List ℕ) (p q : Piece) → Begins z p → Begins z q → p ≡ q
+one_piece : (z : List ℕ) (p q : Piece) → BeginsPiece z p → BeginsPiece z q → p ≡ q
 one_piece z p q a b = piece_one z p a ∙ sym (piece_one z q b)
 
 -- nothing stands at the end
-at_end : (bytes : List ℕ) (at : ℕ) (p : Piece) → at ≡ length bytes → Begins (drop at bytes) p → ⊥
+at_end : (bytes : List ℕ) (at : ℕ) (p : Piece) → at ≡ length bytes → BeginsPiece (drop at bytes) p → ⊥
 at_end bytes at p e is = let some = full (drop at bytes) p is in let none = length-drop at bytes in omega arith
 
 -- what two readings from one place have in common
 abbrev Same : List Token → Ending → List Token → Ending → Type 0
 Same ts e us f = (ts ≡ us) × (e ≡ f)
 
-one_reading : (bytes : List ℕ) (at : ℕ) (ts us : List Token) (e f : Ending) → Reads bytes at ts e → Reads bytes at us f → Same ts e us f
+one_reading : (bytes : List ℕ) (at : ℕ) (ts us : List Token) (e f : Ending) → ReadsTokens bytes at ts e → ReadsTokens bytes at us f → Same ts e us f
 one_reading bytes at _ _ _ _ (whole e) (whole f) = (refl, refl)
 one_reading bytes at _ _ _ _ (whole e) (gap is r) = absurd (at_end bytes at _ e is)
 one_reading bytes at _ _ _ _ (whole e) (lexeme is r) = absurd (at_end bytes at _ e is)
@@ -55,7 +55,7 @@ one_reading bytes at _ _ _ _ (gap is r) (whole f) = absurd (at_end bytes at _ f 
 one_reading bytes at _ us _ f (gap {n = n} {ts = ts} {end = end} is r) (gap {n = m} js s) =
     let same : Gap n ≡ Gap m = one_piece _ _ _ is js in
     let count : m ≡ n = cc in
-    one_reading bytes (at + n) ts us end f r (subst (λ (k : ℕ). Reads bytes (at + k) us f) count s)
+    one_reading bytes (at + n) ts us end f r (subst (λ (k : ℕ). ReadsTokens bytes (at + k) us f) count s)
 one_reading bytes at _ _ _ _ (gap {n = n} is r) (lexeme {n = m} {kind = kind} js s) = let same : Gap n ≡ Lexeme kind m = one_piece _ _ _ is js in absurd cc
 one_reading bytes at _ _ _ _ (gap {n = n} is r) (fails {fault = fault} js) = let same : Gap n ≡ Refused fault = one_piece _ _ _ is js in absurd cc
 one_reading bytes at _ _ _ _ (lexeme is r) (whole f) = absurd (at_end bytes at _ f is)
@@ -64,7 +64,7 @@ one_reading bytes at _ _ _ f (lexeme {n = n} {kind = kind} {ts = ts} {end = end}
     let same : Lexeme kind n ≡ Lexeme other m = one_piece _ _ _ is js in
     let count : m ≡ n = cc in
     let kinds : kind ≡ other = cc in
-    let below = one_reading bytes (at + n) ts us end f r (subst (λ (k : ℕ). Reads bytes (at + k) us f) count s) in
+    let below = one_reading bytes (at + n) ts us end f r (subst (λ (k : ℕ). ReadsTokens bytes (at + k) us f) count s) in
     let tokens = below.0 in
     (cc, below.1)
 one_reading bytes at _ _ _ _ (lexeme {n = n} {kind = kind} is r) (fails {fault = fault} js) = let same : Lexeme kind n ≡ Refused fault = one_piece _ _ _ is js in absurd cc
@@ -78,9 +78,9 @@ one_reading bytes at _ _ _ _ (fails {fault = fault} is) (fails {fault = other} j
 
 -- some reading of what is left
 abbrev Read : List ℕ → ℕ → Type 0
-Read bytes at = (ts : List Token) × (end : Ending) × Reads bytes at ts end
+Read bytes at = (ts : List Token) × (end : Ending) × ReadsTokens bytes at ts end
 
-read_on : (bytes : List ℕ) (at : ℕ) (p : Piece) → Begins (drop at bytes) p → ((n : ℕ) → 0 < n → n ≤ length (drop at bytes) → Read bytes (at + n)) → Takes p (length (drop at bytes)) → Read bytes at
+read_on : (bytes : List ℕ) (at : ℕ) (p : Piece) → BeginsPiece (drop at bytes) p → ((n : ℕ) → 0 < n → n ≤ length (drop at bytes) → Read bytes (at + n)) → Takes p (length (drop at bytes)) → Read bytes at
 read_on bytes at (Gap n) is more t = let later = more n t.0 t.1 in (later.0, later.1, gap is later.2)
 read_on bytes at (Lexeme kind n) is more t = let later = more n t.0 t.1 in (token_at kind n (place_of bytes at) ∷ later.0, later.1, lexeme is later.2)
 read_on bytes at (Refused fault) is more t = ([], Fails (refusal_at fault at), fails is)
@@ -126,7 +126,7 @@ place_counts p [] = omega arith
 place_counts p (b ∷ bytes) = let below = place_counts (place_after p b) bytes in let one = after_counts p b in omega arith
 
 pub places_count : PlacesCount
-places_count bytes at within = place_counts start (take at bytes) ∙ (let taken = length-take-le at bytes within in omega arith)
+places_count bytes at within = place_counts text_start (take at bytes) ∙ (let taken = length-take-le at bytes within in omega arith)
 
 -- ---- cases
 
@@ -145,7 +145,7 @@ PieceHasItsCase (Gap n) = Unit {0}
 PieceHasItsCase (Lexeme kind n) = HasItsCase kind
 PieceHasItsCase (Refused fault) = Unit {0}
 
-piece_case : (z : List ℕ) (p : Piece) → Begins z p → PieceHasItsCase p
+piece_case : (z : List ℕ) (p : Piece) → BeginsPiece z p → PieceHasItsCase p
 piece_case z _ (blank e) = tt
 piece_case z _ (comment opens here before) = tt
 piece_case z _ (word is e) = tt
@@ -158,7 +158,7 @@ piece_case z _ (open_comment opens nowhere) = tt
 piece_case z _ (large_number are high) = tt
 piece_case z _ (long_name is long) = tt
 
-cases_from : (bytes : List ℕ) (at : ℕ) (ts : List Token) (end : Ending) → Reads bytes at ts end → HaveTheirCase ts
+cases_from : (bytes : List ℕ) (at : ℕ) (ts : List Token) (end : Ending) → ReadsTokens bytes at ts end → HaveTheirCase ts
 cases_from bytes at _ _ (whole e) = tt
 cases_from bytes at ts end (gap {n = n} is r) = cases_from bytes (at + n) ts end r
 cases_from bytes at _ end (lexeme {n = n} {ts = ts} is r) = (piece_case (drop at bytes) _ is, cases_from bytes (at + n) ts end r)

@@ -15,8 +15,8 @@ use Rattle.tp_lex.specs.declared.first.Piece.{Piece}
 use Rattle.tp_lex.specs.declared.first.Piece.TheVariants.{Gap, Lexeme, Refused}
 use Rattle.tp_lex.specs.Spelling.{word_spelling, symbol_spelling, spelled_word, longest_symbol}
 use Rattle.tp_lex.specs.First as f
-use Rattle.tp_lex.specs.First.{is_blank, is_name_byte, is_digit, value, name_limit, first_close, first_piece}
-use Rattle.tp_lex.specs.Pieces.{Opens, ClosesAt, IsName, AreDigits, IsLongestSymbol, IsBad, Begins, blank, comment, word, upper, lower, number, symbol, bad_byte, open_comment, large_number, long_name}
+use Rattle.tp_lex.specs.First.{is_blank, is_name_byte, is_digit, spelled_value, name_limit, first_close, first_piece}
+use Rattle.tp_lex.specs.Pieces.{Opens, ClosesAt, IsName, AreLeadingDigits, IsLongestSymbol, IsBad, BeginsPiece, blank, comment, word, upper, lower, number, symbol, bad_byte, open_comment, large_number, long_name}
 use Rattle.tp_lex.proofs.Lists.{begins_from, starts_from, no_start, starts_not}
 use Rattle.tp_lex.proofs.SpellingLemmas.{word_is, word_from, no_word, word_none, longest_is, longest_from, no_symbol, symbol_none, symbol_byte, some, word_short}
 
@@ -73,16 +73,16 @@ close_none z nowhere = close_never z (first_close z) (close_is z) nowhere
 
 -- ---- the function answers a piece that the text begins with
 
-name_begins_named : (z : List ℕ) (n : ℕ) → IsName z n → n ≤ name_limit → (spelled : Option Word) → spelled_word (take n z) ≡ spelled → Begins z (f.named spelled n z)
+name_begins_named : (z : List ℕ) (n : ℕ) → IsName z n → n ≤ name_limit → (spelled : Option Word) → spelled_word (take n z) ≡ spelled → BeginsPiece z (f.word_piece spelled n z)
 name_begins_named z n is low (Some w) e = word is (word_is (take n z) w e)
 name_begins_named z n is low None e = at (is_ascii_uppercase (slice_index z 0)) refl
   where
-    at : (b : Bool) → is_ascii_uppercase (slice_index z 0) ≡ b → Begins z (Lexeme (cond b (k.Upper (take n z)) (k.Lower (take n z))) n)
+    at : (b : Bool) → is_ascii_uppercase (slice_index z 0) ≡ b → BeginsPiece z (Lexeme (cond b (k.Upper (take n z)) (k.Lower (take n z))) n)
     at true u = upper is low (no_word (take n z) e) u
     at false u = lower is low (no_word (take n z) e) u
 
-name_begins : (z : List ℕ) → is_ascii_alphabetic (slice_index z 0) ≡ true → Begins z (f.name z)
-unfolding f.name
+name_begins : (z : List ℕ) → is_ascii_alphabetic (slice_index z 0) ≡ true → BeginsPiece z (f.name_piece z)
+unfolding f.name_piece
 name_begins z letter = at (nat_le n name_limit) refl
   where
     n : ℕ
@@ -91,37 +91,37 @@ name_begins z letter = at (nat_le n name_limit) refl
     is : IsName z n
     is = record { letter = letter; longest = refl }
 
-    at : (b : Bool) → nat_le n name_limit ≡ b → Begins z (cond b (f.named (spelled_word (take n z)) n z) (Refused NameTooLong))
+    at : (b : Bool) → nat_le n name_limit ≡ b → BeginsPiece z (cond b (f.word_piece (spelled_word (take n z)) n z) (Refused NameTooLong))
     at true e = name_begins_named z n is (grind (arith, nat_tests)) (spelled_word (take n z)) refl
     at false e = long_name is (grind (arith, nat_tests))
 
-number_begins : (z : List ℕ) → is_digit (slice_index z 0) ≡ true → Begins z (f.number z)
-unfolding f.number
-number_begins z digit = at (nat_le (value (take n z)) number_limit) refl
+number_begins : (z : List ℕ) → is_digit (slice_index z 0) ≡ true → BeginsPiece z (f.number_piece z)
+unfolding f.number_piece
+number_begins z digit = at (nat_le (spelled_value (take n z)) number_limit) refl
   where
     n : ℕ
     n = prefix_len is_digit z
 
-    are : AreDigits z n
+    are : AreLeadingDigits z n
     are = record { digit = digit; longest = refl }
 
-    at : (b : Bool) → nat_le (value (take n z)) number_limit ≡ b → Begins z (f.numbered n (cond b (Some (pos (value (take n z)))) None))
+    at : (b : Bool) → nat_le (spelled_value (take n z)) number_limit ≡ b → BeginsPiece z (f.numbered_piece n (cond b (Some (pos (spelled_value (take n z)))) None))
     at true e = number are (grind (arith, nat_tests))
     at false e = large_number are (grind (arith, nat_tests))
 
-comment_begins : (z : List ℕ) → Opens z → Begins z (f.comment z)
+comment_begins : (z : List ℕ) → Opens z → BeginsPiece z (f.comment z)
 unfolding f.comment
 comment_begins z opens = at (first_close (drop 2 z)) (close_is (drop 2 z))
   where
-    at : (found : Option ℕ) → FindsClose (drop 2 z) found → Begins z (f.closed found)
+    at : (found : Option ℕ) → FindsClose (drop 2 z) found → BeginsPiece z (f.comment_piece found)
     at (Some n) is = comment opens is.0 is.1
     at None is = open_comment opens is
 
-symbol_begins : (z : List ℕ) → (longest_symbol z ≡ None → IsBad z) → Begins z (f.symbol z)
+symbol_begins : (z : List ℕ) → (longest_symbol z ≡ None → IsBad z) → BeginsPiece z (f.symbol z)
 unfolding f.symbol
 symbol_begins z bad = at (longest_symbol z) refl
   where
-    at : (o : Option Symbol) → longest_symbol z ≡ o → Begins z (f.marked o)
+    at : (o : Option Symbol) → longest_symbol z ≡ o → BeginsPiece z (f.symbol_piece o)
     at (Some s) e = symbol (longest_is z s e)
     at None e = bad_byte (bad e)
 
@@ -130,7 +130,7 @@ filled [] full = absurd (full refl)
 filled (b ∷ z) full = omega arith
 
 begins_by : (z : List ℕ) → z ≢ [] → (b1 b2 b3 b4 : Bool) → is_blank (slice_index z 0) ≡ b1 → is_ascii_alphabetic (slice_index z 0) ≡ b2 → is_digit (slice_index z 0) ≡ b3
-    → starts_with nat_eq z (codes "/*") ≡ b4 → Begins z (cond b1 (Gap 1) (cond b2 (f.name z) (cond b3 (f.number z) (cond b4 (f.comment z) (f.symbol z)))))
+    → starts_with nat_eq z (codes "/*") ≡ b4 → BeginsPiece z (cond b1 (Gap 1) (cond b2 (f.name_piece z) (cond b3 (f.number_piece z) (cond b4 (f.comment z) (f.symbol z)))))
 begins_by z full true b2 b3 b4 e1 e2 e3 e4 = blank e1
 begins_by z full false true b3 b4 e1 e2 e3 e4 = name_begins z e2
 begins_by z full false false true b4 e1 e2 e3 e4 = number_begins z e3
@@ -138,7 +138,7 @@ begins_by z full false false false true e1 e2 e3 e4 = comment_begins z (begins_f
 begins_by z full false false false false e1 e2 e3 e4 =
     symbol_begins z (λ none. record { some = filled z full; no_blank = e1; no_letter = e2; no_digit = e3; no_comment = no_start z (codes "/*") e4; no_symbol = no_symbol z none })
 
-pub piece_is : (z : List ℕ) → z ≢ [] → Begins z (first_piece z)
+pub piece_is : (z : List ℕ) → z ≢ [] → BeginsPiece z (first_piece z)
 unfolding first_piece
 piece_is z full = begins_by z full _ _ _ _ refl refl refl refl
 
@@ -160,14 +160,14 @@ opens_bytes : (z : List ℕ) → Opens z → (is_blank (slice_index z 0) ≡ fal
 opens_bytes z (rest, e) = rw e (refl, refl, refl)
 
 name_piece : (z : List ℕ) (n : ℕ) → IsName z n → first_piece z ≡ f.name_of_len n z
-unfolding first_piece f.name
+unfolding first_piece f.name_piece
 name_piece z n is = rw (letter_no_blank (slice_index z 0) is.letter, is.letter) (ap (λ m. f.name_of_len m z) (sym is.longest))
 
-number_piece : (z : List ℕ) (n : ℕ) → AreDigits z n → first_piece z ≡ f.number_of_len n z
-unfolding first_piece f.number
+number_piece : (z : List ℕ) (n : ℕ) → AreLeadingDigits z n → first_piece z ≡ f.number_of_len n z
+unfolding first_piece f.number_piece
 number_piece z n are = rw (digit_no_blank (slice_index z 0) are.digit, digit_no_letter (slice_index z 0) are.digit, are.digit) (ap (λ m. f.number_of_len m z) (sym are.longest))
 
-comment_piece : (z : List ℕ) → Opens z → first_piece z ≡ f.closed (first_close (drop 2 z))
+comment_piece : (z : List ℕ) → Opens z → first_piece z ≡ f.comment_piece (first_close (drop 2 z))
 unfolding first_piece f.comment
 comment_piece z opens = let bytes = opens_bytes z opens in rw (bytes.0, bytes.1, bytes.2, starts_from z (codes "/*") opens) refl
 
@@ -200,17 +200,17 @@ low_is n m h = grind (arith, nat_tests)
 high_is : (n m : ℕ) → m < n → nat_le n m ≡ false
 high_is n m h = grind (arith, nat_tests)
 
-pub piece_one : (z : List ℕ) (p : Piece) → Begins z p → p ≡ first_piece z
+pub piece_one : (z : List ℕ) (p : Piece) → BeginsPiece z p → p ≡ first_piece z
 piece_one z _ (blank e) = sym (blank_piece z e)
 piece_one z _ (comment {n = n} opens here before) = sym (rw (comment_piece z opens, close_from (drop 2 z) n here before) refl)
 piece_one z _ (word {n = n} {w = w} is e) = sym (rw (name_piece z n is, low_is n name_limit (word_low z n w is e), word_from (take n z) w e) refl)
 piece_one z _ (upper {n = n} is low never u) = sym (rw (name_piece z n is, low_is n name_limit low, word_none (take n z) never, u) refl)
 piece_one z _ (lower {n = n} is low never u) = sym (rw (name_piece z n is, low_is n name_limit low, word_none (take n z) never, u) refl)
-piece_one z _ (number {n = n} are low) = sym (rw (number_piece z n are, low_is (value (take n z)) number_limit low) refl)
+piece_one z _ (number {n = n} are low) = sym (rw (number_piece z n are, low_is (spelled_value (take n z)) number_limit low) refl)
 piece_one z _ (symbol {s = s} is) = sym (symbol_piece z s is)
 piece_one z _ (bad_byte is) = sym (bad_piece z is)
 piece_one z _ (open_comment opens nowhere) = sym (rw (comment_piece z opens, close_none (drop 2 z) nowhere) refl)
-piece_one z _ (large_number {n = n} are high) = sym (rw (number_piece z n are, high_is (value (take n z)) number_limit high) refl)
+piece_one z _ (large_number {n = n} are high) = sym (rw (number_piece z n are, high_is (spelled_value (take n z)) number_limit high) refl)
 piece_one z _ (long_name {n = n} is long) = sym (rw (name_piece z n is, high_is n name_limit long) refl)
 
 -- ---- each piece has some bytes of the text
@@ -228,7 +228,7 @@ some_name (b ∷ rest) n is =
     let l = is.longest in
     (omega arith, within (b ∷ rest) n is)
 
-some_digits : (z : List ℕ) (n : ℕ) → AreDigits z n → (0 < n) × (n ≤ length z)
+some_digits : (z : List ℕ) (n : ℕ) → AreLeadingDigits z n → (0 < n) × (n ≤ length z)
 some_digits [] n are = let e = are.digit in absurd cc
 some_digits (b ∷ rest) n are =
     let e : is_digit b ≡ true = are.digit in
@@ -241,7 +241,7 @@ some_blank : (z : List ℕ) → is_blank (slice_index z 0) ≡ true → 1 ≤ le
 some_blank [] e = absurd cc
 some_blank (b ∷ rest) e = omega arith
 
-pub takes : (z : List ℕ) (p : Piece) → Begins z p → Takes p (length z)
+pub takes : (z : List ℕ) (p : Piece) → BeginsPiece z p → Takes p (length z)
 takes z _ (blank e) = (omega arith, some_blank z e)
 takes z _ (comment {n = n} opens here before) =
     let whole = ap length opens.1 in
@@ -263,10 +263,10 @@ takes z _ (large_number are high) = tt
 takes z _ (long_name is long) = tt
 
 -- what the function answers at a text that is not empty
-pub piece_found : (z : List ℕ) (p : Piece) → 0 < length z → p ≡ first_piece z → Begins z p × Takes p (length z)
+pub piece_found : (z : List ℕ) (p : Piece) → 0 < length z → p ≡ first_piece z → BeginsPiece z p × Takes p (length z)
 piece_found z p full e =
-    let is : Begins z (first_piece z) = piece_is z (λ none. let len = ap length none in absurd (omega arith)) in
-    subst (λ (q : Piece). Begins z q × Takes q (length z)) (sym e) (is, takes z (first_piece z) is)
+    let is : BeginsPiece z (first_piece z) = piece_is z (λ none. let len = ap length none in absurd (omega arith)) in
+    subst (λ (q : Piece). BeginsPiece z q × Takes q (length z)) (sym e) (is, takes z (first_piece z) is)
 
 pub gap_takes : (most n m : ℕ) (p : Piece) → Takes p most → p ≡ Gap n → m ≡ n → (0 < m) × (m ≤ most)
 gap_takes most n m p t e same = let u = subst (λ (q : Piece). Takes q most) e t in (omega arith, omega arith)

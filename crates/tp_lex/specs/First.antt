@@ -25,12 +25,12 @@ abbrev pub is_digit : ℕ → Bool
 is_digit b = is_ascii_digit b
 
 -- the number that digits spell
-abbrev pub value : List ℕ → ℕ
-value digits = fold (λ n b. 10 * n + (b - 48)) 0 digits
+abbrev pub spelled_value : List ℕ → ℕ
+spelled_value digits = fold (λ n b. 10 * n + (b - 48)) 0 digits
 
 -- the number, where it is within the limit
-abbrev pub within_limit : ℕ → Option ℤ
-within_limit n = if nat_le n number_limit then Some (pos n) else None
+abbrev pub number_in_limit : ℕ → Option ℤ
+number_in_limit n = if nat_le n number_limit then Some (pos n) else None
 
 -- how many bytes stand before the first `*/`
 abbrev pub first_close : List ℕ → Option ℕ
@@ -45,50 +45,50 @@ name_limit = 64
 abbrev pub name_kind : ℕ → List ℕ → Kind
 name_kind n z = if is_ascii_uppercase (slice_index z 0) then k.Upper (take n z) else k.Lower (take n z)
 
-abbrev pub named : Option Word → ℕ → List ℕ → Piece
-named (Some word) n z = Lexeme (k.Word word) n
-named None n z = Lexeme (name_kind n z) n
+abbrev pub word_piece : Option Word → ℕ → List ℕ → Piece
+word_piece (Some word) n z = Lexeme (k.Word word) n
+word_piece None n z = Lexeme (name_kind n z) n
 
 abbrev pub name_of_len : ℕ → List ℕ → Piece
-name_of_len n z = if nat_le n name_limit then named (spelled_word (take n z)) n z else Refused NameTooLong
+name_of_len n z = if nat_le n name_limit then word_piece (spelled_word (take n z)) n z else Refused NameTooLong
 
 -- what begins with a letter
-unfoldable pub name : List ℕ → Piece
-name z = name_of_len (prefix_len is_name_byte z) z
+unfoldable pub name_piece : List ℕ → Piece
+name_piece z = name_of_len (prefix_len is_name_byte z) z
 
-abbrev pub numbered : ℕ → Option ℤ → Piece
-numbered n (Some v) = Lexeme (k.Number v) n
-numbered n None = Refused NumberTooLarge
+abbrev pub numbered_piece : ℕ → Option ℤ → Piece
+numbered_piece n (Some v) = Lexeme (k.Number v) n
+numbered_piece n None = Refused NumberTooLarge
 
 abbrev pub number_of_len : ℕ → List ℕ → Piece
-number_of_len n z = numbered n (within_limit (value (take n z)))
+number_of_len n z = numbered_piece n (number_in_limit (spelled_value (take n z)))
 
 -- what begins with a digit
-unfoldable pub number : List ℕ → Piece
-number z = number_of_len (prefix_len is_digit z) z
+unfoldable pub number_piece : List ℕ → Piece
+number_piece z = number_of_len (prefix_len is_digit z) z
 
-abbrev pub closed : Option ℕ → Piece
-closed (Some n) = Gap (n + 4)
-closed None = Refused OpenComment
+abbrev pub comment_piece : Option ℕ → Piece
+comment_piece (Some n) = Gap (n + 4)
+comment_piece None = Refused OpenComment
 
 -- what begins with `/*`
 unfoldable pub comment : List ℕ → Piece
-comment z = closed (first_close (drop 2 z))
+comment z = comment_piece (first_close (drop 2 z))
 
-abbrev pub marked : Option Symbol → Piece
-marked (Some s) = Lexeme (k.Symbol s) (length (symbol_spelling s))
-marked None = Refused BadByte
+abbrev pub symbol_piece : Option Symbol → Piece
+symbol_piece (Some s) = Lexeme (k.Symbol s) (length (symbol_spelling s))
+symbol_piece None = Refused BadByte
 
 -- what begins otherwise
 unfoldable pub symbol : List ℕ → Piece
-symbol z = marked (longest_symbol z)
+symbol z = symbol_piece (longest_symbol z)
 
 -- what a text that is not empty begins with
 unfoldable pub first_piece : List ℕ → Piece
 first_piece z =
     let b = slice_index z 0 in
     if is_blank b then Gap 1
-    else (if is_ascii_alphabetic b then name z
-    else (if is_digit b then number z
+    else (if is_ascii_alphabetic b then name_piece z
+    else (if is_digit b then number_piece z
     else (if starts_with nat_eq z (codes "/*") then comment z
     else symbol z)))

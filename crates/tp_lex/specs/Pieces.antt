@@ -10,7 +10,7 @@ use Rattle.tp_lex.specs.declared.first.Fault.TheVariants.{BadByte, OpenComment, 
 use Rattle.tp_lex.specs.declared.first.Piece.{Piece}
 use Rattle.tp_lex.specs.declared.first.Piece.TheVariants.{Gap, Lexeme, Refused}
 use Rattle.tp_lex.specs.Spelling.{word_spelling, symbol_spelling}
-use Rattle.tp_lex.specs.First.{is_blank, is_name_byte, is_digit, value, name_limit}
+use Rattle.tp_lex.specs.First.{is_blank, is_name_byte, is_digit, spelled_value, name_limit}
 
 -- the text begins with these bytes
 abbrev pub BeginsWith : List ℕ → List ℕ → Type 0
@@ -34,7 +34,7 @@ abbrev pub IsNoWord : List ℕ → Type 0
 IsNoWord text = (w : Word) → text ≢ word_spelling w
 
 -- as many digits as possible, and at least one
-pub record AreDigits (z : List ℕ) (n : ℕ) : Type 0 where
+pub record AreLeadingDigits (z : List ℕ) (n : ℕ) : Type 0 where
   pub digit : is_digit (slice_index z 0) ≡ true
   pub longest : n ≡ prefix_len is_digit z
 
@@ -52,15 +52,15 @@ pub record IsBad (z : List ℕ) : Type 0 where
   pub no_comment : ¬ Opens z
   pub no_symbol : (s : Symbol) → ¬ BeginsWith z (symbol_spelling s)
 
-pub data Begins : List ℕ → Piece → Type 0 where
-  blank : {z : List ℕ} → is_blank (slice_index z 0) ≡ true → Begins z (Gap 1)
-  comment : {z : List ℕ} {n : ℕ} → Opens z → ClosesAt (drop 2 z) n → ((m : ℕ) → m < n → ¬ ClosesAt (drop 2 z) m) → Begins z (Gap (n + 4))
-  word : {z : List ℕ} {n : ℕ} {w : Word} → IsName z n → take n z ≡ word_spelling w → Begins z (Lexeme (k.Word w) n)
-  upper : {z : List ℕ} {n : ℕ} → IsName z n → n ≤ name_limit → IsNoWord (take n z) → is_ascii_uppercase (slice_index z 0) ≡ true → Begins z (Lexeme (k.Upper (take n z)) n)
-  lower : {z : List ℕ} {n : ℕ} → IsName z n → n ≤ name_limit → IsNoWord (take n z) → is_ascii_uppercase (slice_index z 0) ≡ false → Begins z (Lexeme (k.Lower (take n z)) n)
-  number : {z : List ℕ} {n : ℕ} → AreDigits z n → value (take n z) ≤ number_limit → Begins z (Lexeme (k.Number (pos (value (take n z)))) n)
-  symbol : {z : List ℕ} {s : Symbol} → IsLongestSymbol z s → Begins z (Lexeme (k.Symbol s) (length (symbol_spelling s)))
-  bad_byte : {z : List ℕ} → IsBad z → Begins z (Refused BadByte)
-  open_comment : {z : List ℕ} → Opens z → ((n : ℕ) → ¬ ClosesAt (drop 2 z) n) → Begins z (Refused OpenComment)
-  large_number : {z : List ℕ} {n : ℕ} → AreDigits z n → number_limit < value (take n z) → Begins z (Refused NumberTooLarge)
-  long_name : {z : List ℕ} {n : ℕ} → IsName z n → name_limit < n → Begins z (Refused NameTooLong)
+pub data BeginsPiece : List ℕ → Piece → Type 0 where
+  blank : {z : List ℕ} → is_blank (slice_index z 0) ≡ true → BeginsPiece z (Gap 1)
+  comment : {z : List ℕ} {n : ℕ} → Opens z → ClosesAt (drop 2 z) n → ((m : ℕ) → m < n → ¬ ClosesAt (drop 2 z) m) → BeginsPiece z (Gap (n + 4))
+  word : {z : List ℕ} {n : ℕ} {w : Word} → IsName z n → take n z ≡ word_spelling w → BeginsPiece z (Lexeme (k.Word w) n)
+  upper : {z : List ℕ} {n : ℕ} → IsName z n → n ≤ name_limit → IsNoWord (take n z) → is_ascii_uppercase (slice_index z 0) ≡ true → BeginsPiece z (Lexeme (k.Upper (take n z)) n)
+  lower : {z : List ℕ} {n : ℕ} → IsName z n → n ≤ name_limit → IsNoWord (take n z) → is_ascii_uppercase (slice_index z 0) ≡ false → BeginsPiece z (Lexeme (k.Lower (take n z)) n)
+  number : {z : List ℕ} {n : ℕ} → AreLeadingDigits z n → spelled_value (take n z) ≤ number_limit → BeginsPiece z (Lexeme (k.Number (pos (spelled_value (take n z)))) n)
+  symbol : {z : List ℕ} {s : Symbol} → IsLongestSymbol z s → BeginsPiece z (Lexeme (k.Symbol s) (length (symbol_spelling s)))
+  bad_byte : {z : List ℕ} → IsBad z → BeginsPiece z (Refused BadByte)
+  open_comment : {z : List ℕ} → Opens z → ((n : ℕ) → ¬ ClosesAt (drop 2 z) n) → BeginsPiece z (Refused OpenComment)
+  large_number : {z : List ℕ} {n : ℕ} → AreLeadingDigits z n → number_limit < spelled_value (take n z) → BeginsPiece z (Refused NumberTooLarge)
+  long_name : {z : List ℕ} {n : ℕ} → IsName z n → name_limit < n → BeginsPiece z (Refused NameTooLong)

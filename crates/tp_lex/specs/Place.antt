@@ -4,9 +4,13 @@ use Rattle.tp_lex.specs.declared.place.Place.{Place}
 use Rattle.tp_lex.specs.declared.token.Kind.{Kind}
 use Rattle.tp_lex.specs.declared.token.Token.{Token}
 
+-- the greatest length of a source, in bytes
+abbrev pub source_limit : ℕ
+source_limit = 1048576
+
 -- where a text begins
-abbrev pub start : Place
-start = record { at = 0; line = 1; column = 1 }
+abbrev pub text_start : Place
+text_start = record { at = 0; line = 1; column = 1 }
 
 -- the place behind one more byte: a line feed ends its line
 abbrev pub place_after : Place → ℕ → Place
@@ -20,7 +24,7 @@ place_from p bytes = fold place_after p bytes
 
 -- the place of a byte of the text
 abbrev pub place_of : List ℕ → ℕ → Place
-place_of bytes at = place_from start (take at bytes)
+place_of bytes at = place_from text_start (take at bytes)
 
 -- the token of so many bytes that begins at the place
 abbrev pub token_at : Kind → ℕ → Place → Token

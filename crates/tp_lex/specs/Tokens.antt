@@ -7,7 +7,7 @@ use Rattle.tp_lex.specs.declared.first.Fault.TheVariants.{BadByte, OpenComment, 
 use Rattle.tp_lex.specs.declared.first.Piece.TheVariants.{Gap, Lexeme, Refused}
 use Rattle.tp_lex.specs.declared.refusal.LexRefusal.{LexRefusal}
 use Rattle.tp_lex.specs.declared.refusal.LexRefusal.TheVariants as r
-use Rattle.tp_lex.specs.Pieces.{Begins}
+use Rattle.tp_lex.specs.Pieces.{BeginsPiece}
 use Rattle.tp_lex.specs.Place.{place_of, token_at}
 
 -- the refusal that names the fault, and the byte where it stands
@@ -23,20 +23,20 @@ pub data Ending : Type 0 where
   Fails : LexRefusal → Ending
 
 -- From the byte `at` on, the text reads as these tokens and ends so.
-pub data Reads (bytes : List ℕ) : ℕ → List Token → Ending → Type 0 where
-  whole : {at : ℕ} → at ≡ length bytes → Reads bytes at [] Whole
-  gap : {at n : ℕ} {ts : List Token} {end : Ending} → Begins (drop at bytes) (Gap n) → Reads bytes (at + n) ts end → Reads bytes at ts end
-  lexeme : {at n : ℕ} {kind : Kind} {ts : List Token} {end : Ending} → Begins (drop at bytes) (Lexeme kind n) → Reads bytes (at + n) ts end
-      → Reads bytes at (token_at kind n (place_of bytes at) ∷ ts) end
-  fails : {at : ℕ} {fault : Fault} → Begins (drop at bytes) (Refused fault) → Reads bytes at [] (Fails (refusal_at fault at))
+pub data ReadsTokens (bytes : List ℕ) : ℕ → List Token → Ending → Type 0 where
+  whole : {at : ℕ} → at ≡ length bytes → ReadsTokens bytes at [] Whole
+  gap : {at n : ℕ} {ts : List Token} {end : Ending} → BeginsPiece (drop at bytes) (Gap n) → ReadsTokens bytes (at + n) ts end → ReadsTokens bytes at ts end
+  lexeme : {at n : ℕ} {kind : Kind} {ts : List Token} {end : Ending} → BeginsPiece (drop at bytes) (Lexeme kind n) → ReadsTokens bytes (at + n) ts end
+      → ReadsTokens bytes at (token_at kind n (place_of bytes at) ∷ ts) end
+  fails : {at : ℕ} {fault : Fault} → BeginsPiece (drop at bytes) (Refused fault) → ReadsTokens bytes at [] (Fails (refusal_at fault at))
 
 -- the text is these tokens
 abbrev pub AreTokens : List ℕ → List Token → Type 0
-AreTokens bytes ts = Reads bytes 0 ts Whole
+AreTokens bytes ts = ReadsTokens bytes 0 ts Whole
 
 -- the text has this as its first fault
 abbrev pub IsRefused : List ℕ → LexRefusal → Type 0
-IsRefused bytes refusal = (ts : List Token) × Reads bytes 0 ts (Fails refusal)
+IsRefused bytes refusal = (ts : List Token) × ReadsTokens bytes 0 ts (Fails refusal)
 
 -- what was answered, unless memory ran out
 abbrev pub IsRefusedUnlessMemory : List ℕ → LexRefusal → Type 0

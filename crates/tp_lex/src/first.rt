@@ -66,7 +66,7 @@ fn digits_len(text: &[u8]) -> usize
 
 /// The number that the digits spell, where it is within the limit.
 fn value_of(digits: &[u8]) -> Option<Number>
-    ensures value { result ≡ spec.within_limit (spec.value digits.now) }
+    ensures value { result ≡ spec.number_in_limit (spec.spelled_value digits.now) }
     ensures low { IfSome result (λ n. FitsSigned w64 n) }
 {
     let past_limit = NUMBER_LIMIT as u128 + 1;
@@ -94,10 +94,10 @@ fn comment_len(text: &[u8]) -> Option<usize>
     None
 }
 
-#[tactic(auto, unfolding(crate::specs::First::name))]
+#[tactic(auto, unfolding(crate::specs::First::name_piece))]
 fn name(alloc: Global, text: &[u8]) -> Result<Piece, NoMemory>
     requires { text.now ≢ [] }
-    ensures { IfOk result (λ piece. piece ≡ spec.name text.now) }
+    ensures { IfOk result (λ piece. piece ≡ spec.name_piece text.now) }
 {
     let len = name_len(text);
     if len > NAME_LIMIT {
@@ -115,9 +115,9 @@ fn name(alloc: Global, text: &[u8]) -> Result<Piece, NoMemory>
     }
 }
 
-#[tactic(auto, unfolding(crate::specs::First::number))]
+#[tactic(auto, unfolding(crate::specs::First::number_piece))]
 fn number(text: &[u8]) -> Piece
-    ensures { result ≡ spec.number text.now }
+    ensures { result ≡ spec.number_piece text.now }
 {
     let len = digits_len(text);
     match value_of(&text[..len]) {

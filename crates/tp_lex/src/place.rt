@@ -1,6 +1,6 @@
 // Where a byte of a text stands.
 ghost use Rattle.std.specs.Prelude.{◌≡◌, ◌+◌, ◌≤◌, ◌<◌, ◌^◌, length, take};
-ghost use Rattle.tp_lex.specs.Place.{place_after, place_of, place_from, token_at};
+ghost use Rattle.tp_lex.specs.Place.{source_limit, place_after, place_of, place_from, token_at};
 
 use crate::token::{Kind, Token};
 
@@ -78,7 +78,7 @@ impl Place {
 /// bytes.
 pub fn place_of(bytes: &[u8], at: usize) -> (u32, u32)
     requires within { at ≤ length bytes.now }
-    requires size { length bytes.now ≤ 1048576 }
+    requires size { length bytes.now ≤ source_limit }
     ensures { let place = place_of bytes.now at in result ≡ (place.line, place.column) }
 {
     let place = Place::START.after(&bytes[..at]);

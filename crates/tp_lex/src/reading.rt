@@ -1,5 +1,6 @@
 // Tokens from bytes, from left to right.
 ghost use Rattle.std.specs.Prelude.{◌≡◌, ◌≤◌, length, IfOk, IfErr};
+ghost use Rattle.tp_lex.specs.Place.{source_limit};
 ghost use Rattle.tp_lex.specs.Tokens.{AreTokens, IsRefusedUnlessMemory, refusal_at};
 
 use crate::first::{Fault, Piece, first_piece};
@@ -21,7 +22,7 @@ fn refusal(fault: Fault, at: usize) -> LexRefusal
 
 /// The tokens of the text in order, or its first fault.
 pub fn tokens(alloc: Global, bytes: &[u8]) -> Result<Tokens, LexRefusal>
-    requires { length bytes.now ≤ 1048576 }
+    requires { length bytes.now ≤ source_limit }
     ensures tokens { IfOk result (λ tokens. AreTokens bytes.now tokens) }
     ensures refused { IfErr result (λ refusal. IsRefusedUnlessMemory bytes.now refusal) }
 {

@@ -5,7 +5,7 @@ use Rattle.tp_value.specs.Tree.{Tree, num, truth, list, of_items}
 use Rattle.tp_meaning.specs.Syntax.{ExprTree, ExprTrees, numeral, boolean, known, bound, global, listing, size, index, minus, negation, both, either, binary, choice, invoke, no_expr, expr_then, Definition}
 use Rattle.tp_meaning.specs.Course.{Course}
 use Rattle.tp_meaning.specs.Moving.{MeaningMoved, EnvMoved, CourseMoved}
-use Rattle.tp_meaning.specs.Value.{◌>>=◌, Meaning, fixed, varying, Env, meant, element, item, item_at, number_of, index_of, list_of, truth_of, operate, Calls, value_by, values_by, all_by, place_by, arguments_by, is_upper, calls_at}
+use Rattle.tp_meaning.specs.Value.{◌>>=◌, Meaning, fixed, varying, Env, meant, element, list_item, item_at, number_of, index_of, list_of, truth_of, operate, Calls, value_by, values_by, all_by, place_by, arguments_by, is_upper, calls_at}
 
 module _ (f : ℕ → ℕ) (a b : ℕ) where
   abbrev pub MaybeMoved : Option Meaning → Option Meaning → Type 0
@@ -51,7 +51,7 @@ module _ (f : ℕ → ℕ) (a b : ℕ) where
   at_number g h q (Some n) = at_index g h q (index_of n)
 
   element_moved : (m n : Meaning) (i : Tree) → MeaningMoved f a b m n → MaybeMoved (element m i) (element n i)
-  element_moved (fixed t) (fixed u) i h = item_moved (item t i) (item u i) (ap (λ x. item x i) h)
+  element_moved (fixed t) (fixed u) i h = item_moved (list_item t i) (list_item u i) (ap (λ x. list_item x i) h)
   element_moved (fixed t) (varying g) i h = elim h [ ]
   element_moved (varying g) (fixed u) i h = elim h [ ]
   element_moved (varying g) (varying h') i h = at_number g h' h (number_of i)
@@ -97,7 +97,7 @@ module _ (defs : List Definition) (calls : Calls) (f : ℕ → ℕ) (a b : ℕ) 
     value_moved (global n) x y h j u v = λ i. Some ((course j u v i).values n.number)
     value_moved (listing es) x y h j u v = λ i. values_moved es x y h j u v i >>= λ ts. Some (list (of_items ts))
     value_moved (size e) x y h j u v = λ i. value_moved e x y h j u v i >>= λ r. list_of r >>= λ ts. Some (num (pos (length ts)))
-    value_moved (index e k) x y h j u v = λ i. value_moved e x y h j u v i >>= λ r. value_moved k x y h j u v i >>= λ n. item r n
+    value_moved (index e k) x y h j u v = λ i. value_moved e x y h j u v i >>= λ r. value_moved k x y h j u v i >>= λ n. list_item r n
     value_moved (minus e) x y h j u v = λ i. value_moved e x y h j u v i >>= λ r. number_of r >>= λ n. Some (num (neg_ℤ n))
     value_moved (negation e) x y h j u v = λ i. value_moved e x y h j u v i >>= λ r. truth_of r >>= λ q. Some (truth (not q))
     value_moved (both es) x y h j u v = all_moved es x y h j u v

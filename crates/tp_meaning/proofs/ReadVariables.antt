@@ -8,7 +8,7 @@ use Rattle.tp_value.specs.declared.path.VarId.{VarId}
 use Rattle.tp_meaning.specs.Syntax.{ExprTree, ExprTrees, numeral, boolean, known, bound, global, listing, size, index, minus, negation, both, either, binary, choice, invoke, no_expr, expr_then, Definition, FormulaTree, trivial, test, equation, next_equation, empty, more, next, weak_next, if_more, if_empty, always, conjunction, branch, len, assign, chop, while, for_from, forall_from, project, exists, call, input, display, FormulaTrees, no_formula, formula_then}
 use Rattle.tp_meaning.specs.Course.{State, Course, Shows}
 use Rattle.tp_meaning.specs.Inputs.{input_at}
-use Rattle.tp_meaning.specs.Value.{◌>>=◌, fixed, varying, Env, Calls, element, item, number_of, list_of, truth_of, operate, is_upper, value_by, values_by, all_by, place_by, arguments_by, calls_at}
+use Rattle.tp_meaning.specs.Value.{◌>>=◌, fixed, varying, Env, Calls, element, list_item, number_of, list_of, truth_of, operate, is_upper, value_by, values_by, all_by, place_by, arguments_by, calls_at}
 use Rattle.tp_meaning.specs.Holds.{Context, CallMeanings, Has, HoldsBy, AllHoldBy, CallHolds, Holds}
 use Rattle.tp_meaning.specs.Fits.{IsVariable, ExprFits, ExprsFit, FormulaFits, FormulasFit, DefinitionsFit}
 use Rattle.tp_meaning.specs.Reading.{ReadTheSame, MeaningsReadVariables}
@@ -35,7 +35,7 @@ module _ (defs : List Definition) (kinds : List Bool) (calls : Calls)
     value_same (global v) h x j = λ i. Some (variable_same v h j i)
     value_same (listing es) h x j = λ i. values_same es h x j i >>= λ ts. Some (list (of_items ts))
     value_same (size e) h x j = λ i. value_same e h x j i >>= λ r. list_of r >>= λ ts. Some (num (pos (length ts)))
-    value_same (index e k) h x j = λ i. value_same e h.0 x j i >>= λ r. value_same k h.1 x j i >>= λ z. item r z
+    value_same (index e k) h x j = λ i. value_same e h.0 x j i >>= λ r. value_same k h.1 x j i >>= λ z. list_item r z
     value_same (minus e) h x j = λ i. value_same e h x j i >>= λ r. number_of r >>= λ z. Some (num (neg_ℤ z))
     value_same (negation e) h x j = λ i. value_same e h x j i >>= λ r. truth_of r >>= λ q. Some (truth (not q))
     value_same (both es) h x j = all_same es h x j

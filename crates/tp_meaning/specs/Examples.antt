@@ -20,18 +20,18 @@ counting j = record { own = j; values = λ x. num (pos j) }
 abbrev pub A : ExprTree
 A = global (record { number = 0; lasting = false })
 
-abbrev pub number : ℕ → ExprTree
-number n = numeral (pos n)
+abbrev pub number_expr : ℕ → ExprTree
+number_expr n = numeral (pos n)
 
 abbrev pub A_is : ℕ → FormulaTree
-A_is n = equation A (number n)
+A_is n = equation A (number_expr n)
 
 abbrev pub display_of : ExprTree → FormulaTree
 display_of e = display (exprs_of (e ∷ []))
 
 -- the value of an expression in state 0
-abbrev pub value_of : ExprTree → Option Tree
-value_of e = value [] 0 e [] counting 0
+abbrev pub value_at_first : ExprTree → Option Tree
+value_at_first e = value [] 0 e [] counting 0
 
 -- these lists are shown at the positions 0, 1, .., and nothing further on
 abbrev pub listed : List (List (List Tree)) → Shows
@@ -40,8 +40,8 @@ listed (x ∷ xs) zero = x
 listed (x ∷ xs) (suc j) = listed xs j
 
 -- one list with this one number
-abbrev pub shown : ℕ → List Tree
-shown n = num (pos n) ∷ []
+abbrev pub one_shown : ℕ → List Tree
+one_shown n = num (pos n) ∷ []
 
 -- The formula holds on the counting states from 0 to b, and shows these lists in them.
 abbrev pub HoldsTo : ℕ → FormulaTree → List (List (List Tree)) → Type 0
@@ -53,7 +53,7 @@ FailsTo b f = (d : ℕ) (S : Shows) → Holds nothing_given d f [] counting 0 b 
 
 -- len(3) and A = 0 and A gets A + 1
 abbrev pub counts_to_three : FormulaTree
-counts_to_three = conjunction (formulas_of (len (number 3) ∷ A_is 0 ∷ gets_of A (binary Plus A (number 1)) ∷ []))
+counts_to_three = conjunction (formulas_of (len (number_expr 3) ∷ A_is 0 ∷ gets_of A (binary Plus A (number_expr 1)) ∷ []))
 
 -- It holds where A is 0, 1, 2, 3, with nothing shown, and nowhere else.
 abbrev pub CountsToThree : Type 0
@@ -61,11 +61,11 @@ CountsToThree = (d : ℕ) (s : Course) (a b : ℕ) (S : Shows) → a ≤ b →
     Holds nothing_given d counts_to_three [] s a b S ↔ ((3 + a ≡ b) × ((j : ℕ) → j ≤ 3 → (s (j + a)).values 0 ≡ num (pos j)) × (S ≡ blank))
 
 -- one definition, with a formula alone
-abbrev pub definition_of : (parameters : List (List ℕ)) → FormulaTree → Definition
-definition_of parameters f = record { name = []; parameters = parameters; formula = f; expr = None }
+abbrev pub formula_definition : (parameters : List (List ℕ)) → FormulaTree → Definition
+formula_definition parameters f = record { name = []; parameters = parameters; formula = f; expr = None }
 
 abbrev pub with_definition : (parameters : List (List ℕ)) → FormulaTree → Context
-with_definition parameters f = record { defs = definition_of parameters f ∷ []; inputs = [] }
+with_definition parameters f = record { defs = formula_definition parameters f ∷ []; inputs = [] }
 
 abbrev pub call_it : List ExprTree → FormulaTree
 call_it arguments = call 0 (exprs_of arguments)
@@ -91,8 +91,8 @@ indexed_values zero (suc x) = num (pos 0)
 indexed_values (suc j) zero = list (of_items (num (pos 5) ∷ num (pos 7) ∷ []))
 indexed_values (suc j) (suc x) = num (pos 1)
 
-abbrev pub indexed : Course
-indexed j = record { own = j; values = indexed_values j }
+abbrev pub indexed_course : Course
+indexed_course j = record { own = j; values = indexed_values j }
 
 -- no definitions, and these inputs
 abbrev pub with_inputs : InputLines → Context

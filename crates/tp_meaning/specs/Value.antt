@@ -31,8 +31,8 @@ index_of (pos k) = Some k
 index_of (negsuc k) = None
 
 -- the item of a list at an index
-abbrev pub item : Tree → Tree → Option Tree
-item t i = do
+abbrev pub list_item : Tree → Tree → Option Tree
+list_item t i = do
   n ← number_of i
   k ← index_of n
   item_of t k
@@ -87,7 +87,7 @@ meant j (varying f) = f j
 
 -- an element of what varies, or of a fixed value
 abbrev pub element : Meaning → Tree → Option Meaning
-element (fixed t) i = item t i >>= λ u. Some (fixed u)
+element (fixed t) i = list_item t i >>= λ u. Some (fixed u)
 element (varying f) i = do
   n ← number_of i
   k ← index_of n
@@ -119,7 +119,7 @@ module _ (defs : List Definition) (calls : Calls) where
     value_by (index e i) env s j = do
       t ← value_by e env s j
       k ← value_by i env s j
-      item t k
+      list_item t k
     value_by (minus e) env s j = do
       t ← value_by e env s j
       n ← number_of t

@@ -11,12 +11,14 @@ pub fn while_by_cuts()
 
 /// `for v < e do f`, by cuts that never fall, with the numbers of its turns.
 pub fn for_by_cuts()
-    ensures { (name : List ℕ) (k : ℤ) (e : ExprTree) (f : FormulaTree) → Means (for_from name k e f) (ForByCuts k e f) }
+    ensures { (name : List ℕ) (k : ℤ) (e : ExprTree) (f : FormulaTree)
+        → Means (for_from name k e f) (ForByCuts k e f) }
 {}
 
 /// `forall v < e : f`, by its instances.
 pub fn forall_by_instances()
-    ensures { (name : List ℕ) (k : ℤ) (e : ExprTree) (f : FormulaTree) → Means (forall_from name k e f) (ForallByInstances k e f) }
+    ensures { (name : List ℕ) (k : ℤ) (e : ExprTree) (f : FormulaTree)
+        → Means (forall_from name k e f) (ForallByInstances k e f) }
 {}
 
 /// `f proj g`, by strictly rising cuts.
@@ -26,5 +28,6 @@ pub fn project_by_cuts()
 
 /// `exists V : f`, by values in the states of the interval.
 pub fn exists_by_values()
-    ensures { (name : List ℕ) (lasting : Bool) (f : FormulaTree) → Means (exists name lasting f) (ExistsByValues lasting f) }
+    ensures { (name : List ℕ) (lasting : Bool) (f : FormulaTree)
+        → Means (exists name lasting f) (ExistsByValues lasting f) }
 {}

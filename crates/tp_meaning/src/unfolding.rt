@@ -15,12 +15,14 @@ pub fn while_unfolds()
 
 /// `for`: the turn with the least number, and then the loop from the next number on.
 pub fn for_unfolds()
-    ensures { (name : List ℕ) (k : ℤ) (e : ExprTree) (f : FormulaTree) (n : ℤ) → ForUnfolds name k e f n }
+    ensures { (name : List ℕ) (k : ℤ) (e : ExprTree) (f : FormulaTree) (n : ℤ)
+        → ForUnfolds name k e f n }
 {}
 
 /// `forall`: the instance with the least number, and those from the next number on.
 pub fn forall_unfolds()
-    ensures { (name : List ℕ) (k : ℤ) (e : ExprTree) (f : FormulaTree) (n : ℤ) → ForallUnfolds name k e f n }
+    ensures { (name : List ℕ) (k : ℤ) (e : ExprTree) (f : FormulaTree) (n : ℤ)
+        → ForallUnfolds name k e f n }
 {}
 
 /// `len(e)`: the end, or one state less from the next state on.

@@ -5,7 +5,7 @@ use Rattle.tp_value.specs.declared.path.Fact.{Fact}
 use Rattle.tp_meaning.specs.Syntax.{BindingTree, place_binding, known_binding}
 use Rattle.tp_store.specs.Known.{NoClash}
 use Rattle.tp_scene.specs.Scene.{Bindings, Head, marked, Leaf, Do, Later, Shown, Holder, Split, SplitProject, Closed, Opened, Running, Entries, none, leaf, node, Region, Scene, has, risen, Place, root_place}
-use Rattle.tp_scene.specs.Step.{Reduction, Outcome, reduces, waits, rests, clashes, misses, passes, Numbers, leaf_step, holder_step}
+use Rattle.tp_scene.specs.Step.{Reduction, PickOutcome, reduces, waits, rests, clashes, misses, passes, Numbers, leaf_step, holder_step}
 use Rattle.tp_scene.specs.Pick.{Setting, Moment, pick, numbers_of, HasAdded, Reduces}
 use Rattle.tp_scene.specs.Fits.{IsCalm}
 use Rattle.tp_scene.specs.Laws.{IsSound}
@@ -62,13 +62,13 @@ same_entries (leaf id l rest) = λ j. leaf id (same_leaf l j) (same_entries rest
 same_entries (node id k h i g s rest) = λ j. node id (same_holder k j) h (same_entries i j) (same_second k g j) (same_entries s j) (same_entries rest j)
 
 -- what isn't a reduction is the same whatever the numbers of new things
-pub bad_anyhow : (ρ : Renaming) (n n' : Numbers) (o u : Outcome) → Renamed ρ n n' o u → IsFailure o → IsFailure u
+pub bad_anyhow : (ρ : Renaming) (n n' : Numbers) (o u : PickOutcome) → Renamed ρ n n' o u → IsFailure o → IsFailure u
 bad_anyhow ρ n n' (reduces r) u h b = elim b [ ]
 bad_anyhow ρ n n' (waits first other) u h b = elim b [ ]
 bad_anyhow ρ n n' rests u h b = elim b [ ]
-bad_anyhow ρ n n' (clashes c) u h b = subst (λ (x : Outcome). IsFailure x) (sym h) tt
-bad_anyhow ρ n n' (misses port) u h b = subst (λ (x : Outcome). IsFailure x) (sym h) tt
-bad_anyhow ρ n n' (passes k) u h b = subst (λ (x : Outcome). IsFailure x) (sym h) tt
+bad_anyhow ρ n n' (clashes c) u h b = subst (λ (x : PickOutcome). IsFailure x) (sym h) tt
+bad_anyhow ρ n n' (misses port) u h b = subst (λ (x : PickOutcome). IsFailure x) (sym h) tt
+bad_anyhow ρ n n' (passes k) u h b = subst (λ (x : PickOutcome). IsFailure x) (sym h) tt
 
 -- the same step, but for the regions that are carried and for facts that are known
 pub record SameStep (gs : List Fact) (x y : Thing) (n : Numbers) (r s : Reduction) : Type 0 where
@@ -79,7 +79,7 @@ pub record SameStep (gs : List Fact) (x y : Thing) (n : Numbers) (r s : Reductio
   pub facts : SameFacts gs r.facts s.facts
 
 -- a reduction stays so, or it becomes bad; and what is bad stays bad
-abbrev pub AgainReduces : List Fact → Thing → Thing → Numbers → Reduction → Outcome → Type 0
+abbrev pub AgainReduces : List Fact → Thing → Thing → Numbers → Reduction → PickOutcome → Type 0
 AgainReduces gs x y n r (reduces s) = SameStep gs x y n r s
 AgainReduces gs x y n r (waits first other) = ⊥
 AgainReduces gs x y n r rests = ⊥
@@ -87,7 +87,7 @@ AgainReduces gs x y n r (clashes c) = Unit {0}
 AgainReduces gs x y n r (misses port) = Unit {0}
 AgainReduces gs x y n r (passes k) = Unit {0}
 
-abbrev pub Again : List Fact → Thing → Thing → Numbers → Outcome → Outcome → Type 0
+abbrev pub Again : List Fact → Thing → Thing → Numbers → PickOutcome → PickOutcome → Type 0
 Again gs x y n (reduces r) o = AgainReduces gs x y n r o
 Again gs x y n (waits first other) o = Unit {0}
 Again gs x y n rests o = Unit {0}
@@ -95,7 +95,7 @@ Again gs x y n (clashes c) o = IsFailure o
 Again gs x y n (misses port) o = IsFailure o
 Again gs x y n (passes k) o = IsFailure o
 
-leaf_again : (gs : List Fact) (l : Leaf) (n : Numbers) (o u : Outcome) → GrownTo gs o u → Again gs (of_leaf l) (of_leaf l) n o u
+leaf_again : (gs : List Fact) (l : Leaf) (n : Numbers) (o u : PickOutcome) → GrownTo gs o u → Again gs (of_leaf l) (of_leaf l) n o u
 leaf_again gs l n (reduces r) (reduces s) h = record { edit = λ j. record { mark = h.mark j; make = λ a b c d. h.news j }; items = h.items; regions = h.regions; local = h.local; facts = h.facts }
 leaf_again gs l n (reduces r) (waits first other) h = h
 leaf_again gs l n (reduces r) rests h = h
@@ -108,8 +108,8 @@ leaf_again gs l n (clashes c) u h = h
 leaf_again gs l n (misses port) u h = h
 leaf_again gs l n (passes k) u h = h
 
-holder_again : (gs : List Fact) → NoClash gs → (k : Holder) (p q : Place) (n : Numbers) (h : Head) (i : Entries) (g : Head) (s : Entries) (o u : Outcome) → HolderGrown k n h i g s o u → Again gs (of_holder k p) (of_holder k q) n o u
-holder_again gs gc k p q n h i g s (reduces r) u e = subst (λ (x : Outcome). Again gs (of_holder k p) (of_holder k q) n (reduces r) x) (sym e.0) (record { edit = refl; items = refl; regions = refl; local = refl; facts = subst (λ (l : List Fact). SameFacts gs l l) (sym e.1) (nothing_new gs gc) })
+holder_again : (gs : List Fact) → NoClash gs → (k : Holder) (p q : Place) (n : Numbers) (h : Head) (i : Entries) (g : Head) (s : Entries) (o u : PickOutcome) → HolderGrown k n h i g s o u → Again gs (of_holder k p) (of_holder k q) n o u
+holder_again gs gc k p q n h i g s (reduces r) u e = subst (λ (x : PickOutcome). Again gs (of_holder k p) (of_holder k q) n (reduces r) x) (sym e.0) (record { edit = refl; items = refl; regions = refl; local = refl; facts = subst (λ (l : List Fact). SameFacts gs l l) (sym e.1) (nothing_new gs gc) })
 holder_again gs gc k p q n h i g s (waits first other) u e = tt
 holder_again gs gc k p q n h i g s rests u e = tt
 holder_again gs gc k p q n h i g s (clashes c) u e = absurd e
@@ -118,17 +118,17 @@ holder_again gs gc k p q n h i g s (passes x) u e = absurd e
 
 module _ (w : Setting) (fs gs : List Fact) (fc : NoClash fs) (gc : NoClash gs) (knows : KnowsMore fs gs) (within : LengthsAreWithin gs) (n : Numbers) where
   -- where a thing knows as much or more it gives the same, or it is bad
-  pub thing_again : (x y : Thing) (p q : Place) → GrowsThing x y → Grows p q → IsCalm q → CalmThing y → (o u : Outcome) → Picked w fs n x p o → Picked w gs n y q u → Again gs x y n o u
+  pub thing_again : (x y : Thing) (p q : Place) → GrowsThing x y → Grows p q → IsCalm q → CalmThing y → (o u : PickOutcome) → Picked w fs n x p o → Picked w gs n y q u → Again gs x y n o u
   thing_again (of_leaf l) (of_leaf m) p q like up calm held o u a b =
       let e : u ≡ leaf_step w.defs w.inputs w.state gs l q n = b ∙ ap (λ (x : Leaf). leaf_step w.defs w.inputs w.state gs x q n) like in
-      let g : GrownTo gs o u = subst (λ (x : Outcome). GrownTo gs x u) (sym a) (subst (λ (y : Outcome). GrownTo gs (leaf_step w.defs w.inputs w.state fs l p n) y) (sym e) (leaf_rows_grow w fs gs fc gc knows within l p q n up calm)) in
+      let g : GrownTo gs o u = subst (λ (x : PickOutcome). GrownTo gs x u) (sym a) (subst (λ (y : PickOutcome). GrownTo gs (leaf_step w.defs w.inputs w.state fs l p n) y) (sym e) (leaf_rows_grow w fs gs fc gc knows within l p q n up calm)) in
       subst (λ (x : Leaf). Again gs (of_leaf l) (of_leaf x) n o u) (sym like) (leaf_again gs l n o u g)
   thing_again (of_leaf l) (of_holder k held) p q like up calm c o u a b = absurd like
   thing_again (of_holder k held) (of_leaf m) p q like up calm c o u a b = absurd like
   thing_again (of_holder k held) (of_holder k' held') p q like up calm c o u a b =
       let e : u ≡ holder_step w.defs w.inputs w.state gs k (record { head = b.0; entries = b.1 }) (record { head = b.2; entries = b.3 }) held' n = b.4 ∙ ap (λ (x : Holder). holder_step w.defs w.inputs w.state gs x (record { head = b.0; entries = b.1 }) (record { head = b.2; entries = b.3 }) held' n) like.0 in
       let g = holder_rows_grow w fs gs k n held held' like.1 c a.0 a.1 a.2 a.3 b.0 b.1 b.2 b.3 in
-      let h : HolderGrown k n b.0 b.1 b.2 b.3 o u = subst (λ (x : Outcome). HolderGrown k n b.0 b.1 b.2 b.3 x u) (sym a.4) (subst (λ (y : Outcome). HolderGrown k n b.0 b.1 b.2 b.3 (holder_step w.defs w.inputs w.state fs k (record { head = a.0; entries = a.1 }) (record { head = a.2; entries = a.3 }) held n) y) (sym e) g) in
+      let h : HolderGrown k n b.0 b.1 b.2 b.3 o u = subst (λ (x : PickOutcome). HolderGrown k n b.0 b.1 b.2 b.3 x u) (sym a.4) (subst (λ (y : PickOutcome). HolderGrown k n b.0 b.1 b.2 b.3 (holder_step w.defs w.inputs w.state fs k (record { head = a.0; entries = a.1 }) (record { head = a.2; entries = a.3 }) held n) y) (sym e) g) in
       subst (λ (x : Holder). Again gs (of_holder k held) (of_holder x held') n o u) (sym like.0) (holder_again gs gc k held held' n b.0 b.1 b.2 b.3 o u h)
 
 -- The entries of a region after an edit, and where the other item stands there.
@@ -225,7 +225,7 @@ module _ (w : Setting) (kinds : List Bool) (m : Moment) (sound : IsSound w kinds
       (pick_to no_renaming n n' w kinds sound.definitions (λ i l. refl) m.store.facts m.store.facts sound.store.no_clash sound.store.no_clash (λ p. refl) m.store.variables u entries (root_place m.scene.root) sound.moment.entries))
       b
 
-pub again_bad : (gs : List Fact) (x y : Thing) (n : Numbers) (o u : Outcome) → Again gs x y n o u → IsFailure o → IsFailure u
+pub again_bad : (gs : List Fact) (x y : Thing) (n : Numbers) (o u : PickOutcome) → Again gs x y n o u → IsFailure o → IsFailure u
 again_bad gs x y n (reduces r) u h b = elim b [ ]
 again_bad gs x y n (waits first other) u h b = elim b [ ]
 again_bad gs x y n rests u h b = elim b [ ]

@@ -10,7 +10,7 @@ use Rattle.tp_value.specs.declared.path.Fact.{Fact}
 use Rattle.tp_store.specs.Facts.{kept_shape}
 use Rattle.tp_store.specs.Known.{NoClash, Variable}
 use Rattle.tp_scene.specs.Scene.{Side, Ending, Going, Head, Holder, Split, SplitProject, Closed, Opened, Running, Entries, none, leaf, node, Region, Scene, second_lives, has, has_here, append, root_place}
-use Rattle.tp_scene.specs.Step.{Reduction, Outcome, reduces, waits, rests, clashes, misses, passes, Numbers}
+use Rattle.tp_scene.specs.Step.{Reduction, PickOutcome, reduces, waits, rests, clashes, misses, passes, Numbers}
 use Rattle.tp_scene.specs.Pick.{Setting, Moment, mark_head, mark_at, put, put_in, numbers_of, outcome_of, scene_after, with_local, IsIdle}
 use Rattle.tp_scene.specs.Rest.{AtRest}
 use Rattle.tp_renaming.specs.Renaming.{Permutation, Renaming, FixesFrom, renamed_path, renamed_facts, renamed_leaf, renamed_holder, renamed_head, renamed_second, renamed_entries, renamed_region, renamed_reduction, IfRegion, IfLocal, NumbersRenamed, Renamed}
@@ -78,10 +78,10 @@ module _ (ρ : Renaming) where
   put_in_to : (t : ℕ) (m : Option Side) (news : Entries) (r : Region) → renamed_region ρ (put_in t m news r) ≡ put_in (ρ.item.to t) m (renamed_entries ρ news) (renamed_region ρ r)
   put_in_to t m news r = λ j. record { head = at_to t m r.head r.entries j; entries = put_to t m news r.entries j }
 
-idle_anyhow : (ρ : Renaming) (n n' : Numbers) (o u : Outcome) → Renamed ρ n n' o u → IsIdle o → IsIdle u
+idle_anyhow : (ρ : Renaming) (n n' : Numbers) (o u : PickOutcome) → Renamed ρ n n' o u → IsIdle o → IsIdle u
 idle_anyhow ρ n n' (reduces r) u h i = elim i [ ]
-idle_anyhow ρ n n' (waits first other) u h i = subst (λ (x : Outcome). IsIdle x) (sym h) tt
-idle_anyhow ρ n n' rests u h i = subst (λ (x : Outcome). IsIdle x) (sym h) tt
+idle_anyhow ρ n n' (waits first other) u h i = subst (λ (x : PickOutcome). IsIdle x) (sym h) tt
+idle_anyhow ρ n n' rests u h i = subst (λ (x : PickOutcome). IsIdle x) (sym h) tt
 idle_anyhow ρ n n' (clashes c) u h i = elim i [ ]
 idle_anyhow ρ n n' (misses port) u h i = elim i [ ]
 idle_anyhow ρ n n' (passes k) u h i = elim i [ ]
@@ -145,7 +145,7 @@ module _ (w : Setting) (kinds : List Bool) (m n : Moment) (ρ : Renaming) (om : 
       let o = outcome_of w n.store n.scene t in
       let k = picked w n.store.facts nn t n.scene.root.entries x.0 x.1 (root_place n.scene.root) x.2 in
       let g : Again n.store.facts x.0 x.0 nn o o = thing_again w n.store.facts n.store.facts on.sound.store.no_clash on.sound.store.no_clash (λ p sh h. h) on.lengths nn x.0 x.0 x.1 x.1 (like_same x.0) (grows_same x.1) c.0 c.1 o o k k in
-      let h : Again n.store.facts x.0 x.0 nn (reduces r) (reduces r) = subst (λ (y : Outcome). Again n.store.facts x.0 x.0 nn y y) e g in
+      let h : Again n.store.facts x.0 x.0 nn (reduces r) (reduces r) = subst (λ (y : PickOutcome). Again n.store.facts x.0 x.0 nn y y) e g in
       h.facts.apart
 
   facts_to : (fs : List Fact) (p : Path) → kept_shape (n.store.facts ++ renamed_facts ρ fs) (renamed_path ρ p) ≡ kept_shape (m.store.facts ++ fs) p
@@ -162,7 +162,7 @@ module _ (w : Setting) (kinds : List Bool) (m n : Moment) (ρ : Renaming) (om : 
       let r' = renamed_reduction ρ r in
       let live : has (ρ.item.to t) n.scene.root.entries ≡ true = lives t ∙ st.lives in
       let out : outcome_of w n.store n.scene (ρ.item.to t) ≡ reduces r' =
-      subst (λ (o : Outcome). Renamed ρ nm nn o (outcome_of w n.store n.scene (ρ.item.to t))) st.outcome (given t) (numbers_agree r) in
+      subst (λ (o : PickOutcome). Renamed ρ nm nn o (outcome_of w n.store n.scene (ρ.item.to t))) st.outcome (given t) (numbers_agree r) in
       let next' : Moment = record { scene = scene_after (ρ.item.to t) r' n.scene; store = record { facts = n.store.facts ++ r'.facts; variables = with_local r.local n.store.variables } } in
       let items : next.scene.next_item ≡ m.scene.next_item + r.items = ap (λ (s : Scene). s.next_item) st.scene in
       let regions : next.scene.next_region ≡ m.scene.next_region + r.regions = ap (λ (s : Scene). s.next_region) st.scene in

@@ -4,7 +4,7 @@ use Rattle.std.specs.Prelude.{Option, Some, None}
 use Rattle.std.proofs.lemmas.Bool.{cond_both, or_parts, and_from, cond-false}
 use Rattle.tp_value.specs.declared.path.Fact.{Fact}
 use Rattle.tp_scene.specs.Scene.{Side, Ending, Going, Head, Holder, Split, SplitProject, Closed, Opened, Running, Entries, none, leaf, node, second_lives, has, has_here, append, Place, held_place}
-use Rattle.tp_scene.specs.Step.{Reduction, Outcome, reduces, Numbers, leaf_step, holder_step}
+use Rattle.tp_scene.specs.Step.{Reduction, PickOutcome, reduces, Numbers, leaf_step, holder_step}
 use Rattle.tp_scene.specs.Pick.{Setting, pick, mark_head, mark_at, put}
 use Rattle.tp_scene.proofs.Frame.{region}
 use Rattle.tp_scene.proofs.Risen.{pick_here, pick_second, pick_first, pick_later}
@@ -67,7 +67,7 @@ module _ (t : ℕ) (e : Edit) where
 
 -- what a holder becomes
 module _ (w : Setting) (facts : List Fact) (n : Numbers) (r : Reduction) (h : Head) (i : Entries) (g : Head) (s : Entries) where
-  abbrev pub IsMade : Holder → Outcome → Type 0
+  abbrev pub IsMade : Holder → PickOutcome → Type 0
   IsMade k o = o ≡ reduces r → (r.news ≡ holder_make k n h i g s) × (r.mark ≡ None)
 
   pub holder_made : (k : Holder) (q : Place) → IsMade k (holder_step w.defs w.inputs w.state facts k (region h i) (region g s) q n)

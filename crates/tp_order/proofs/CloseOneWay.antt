@@ -1,7 +1,7 @@
 -- Where some picks close a state, every list of picks goes on to that end.
 use Rattle.std.proofs.Common.{◌≡◌, ℕ, suc, ◌+◌, Bool, true, List, [], ◌∷◌, length, refl, ap, sym, subst, arith}
 use Rattle.tp_scene.specs.Scene.{has}
-use Rattle.tp_scene.specs.Step.{Outcome, clashes, misses, passes}
+use Rattle.tp_scene.specs.Step.{PickOutcome, clashes, misses, passes}
 use Rattle.tp_scene.specs.Pick.{Setting, Moment, Leads, outcome_of, IsIdle}
 use Rattle.tp_scene.specs.Rest.{AtRest}
 use Rattle.tp_scene.specs.Replay.{Closes, UsesUp}
@@ -30,7 +30,7 @@ leads_alike w kinds (t ∷ ts) m n last om on a h =
 -- no pick goes on from rest
 none_more : (w : Setting) (ts : List ℕ) (m last : Moment) → AtRest w m → Leads w m ts last → (length ts ≡ 0) × (last ≡ m)
 none_more w [] m last rest h = (refl, h)
-none_more w (t ∷ ts) m last rest h = absurd (subst (λ (o : Outcome). IsIdle o) h.2.outcome (rest t h.2.lives))
+none_more w (t ∷ ts) m last rest h = absurd (subst (λ (o : PickOutcome). IsIdle o) h.2.outcome (rest t h.2.lives))
 
 module _ (w : Setting) (kinds : List Bool) (most : ℕ) (m n : Moment) (picks : List ℕ) (end : Moment) (om : IsOrderly w kinds m) (on : IsOrderly w kinds n) (a : Alike (length kinds) m n) (closes : Closes w most m picks end) where
   abbrev equivalence : AlikeIsEquivalence w kinds
@@ -66,12 +66,12 @@ module _ (w : Setting) (kinds : List Bool) (most : ℕ) (m n : Moment) (picks : 
       let b : Alike (length kinds) moved.1 last = subst (λ (y : Moment). Alike (length kinds) moved.1 y) x.1 g.alike in
       equivalence.on end moved.1 last end_orderly.sound moved_orderly.sound (leads_orderly w kinds qs n last on c.leads).sound moved.4 b
 
-  fails : (qs : List ℕ) (last : Moment) (t : ℕ) (o : Outcome) → Leads w n qs last → has t last.scene.root.entries ≡ true → outcome_of w last.store last.scene t ≡ o → IsFailure o → ⊥
-  fails qs last t o h live e f = (goes qs last h).safe t (live, subst (λ (x : Outcome). IsFailure x) (sym e) f)
+  fails : (qs : List ℕ) (last : Moment) (t : ℕ) (o : PickOutcome) → Leads w n qs last → has t last.scene.root.entries ≡ true → outcome_of w last.store last.scene t ≡ o → IsFailure o → ⊥
+  fails qs last t o h live e f = (goes qs last h).safe t (live, subst (λ (x : PickOutcome). IsFailure x) (sym e) f)
 
   -- as many picks were made as there may be, and one more item has a step
   used_up : (u : UsesUp w most n) (g : GoesOnToRest w (length kinds) (length moved.0) moved.1 u.picks u.last) (more : List ℕ) → Leads w u.last more g.last → length u.picks + length more ≡ length moved.0 → ⊥
-  used_up u g [] l e = subst (λ (o : Outcome). IsIdle o) u.outcome (subst (λ (x : Moment). AtRest w x) l g.rest u.item u.lives)
+  used_up u g [] l e = subst (λ (o : PickOutcome). IsIdle o) u.outcome (subst (λ (x : Moment). AtRest w x) l g.rest u.item u.lives)
   used_up u g (t ∷ ts) l e = let a = u.all in let b = closes.within in let c = moved.3 in absurd (omega (arith, e, a, b, c))
 
   used : UsesUp w most n → ⊥

@@ -7,7 +7,7 @@ use Rattle.tp_value.specs.declared.path.Path.{Path}
 use Rattle.tp_store.specs.Facts.{kept_shape}
 use Rattle.tp_store.specs.Known.{Variable, AreOfVariables}
 use Rattle.tp_scene.specs.Scene.{Entries, Region, has, Place, root_place}
-use Rattle.tp_scene.specs.Step.{Reduction, Outcome, reduces, Numbers}
+use Rattle.tp_scene.specs.Step.{Reduction, PickOutcome, reduces, Numbers}
 use Rattle.tp_scene.specs.Pick.{Setting, Moment, pick, numbers_of, outcome_of, scene_after, with_local, Reduces}
 use Rattle.tp_scene.specs.Laws.{IsSound}
 use Rattle.tp_scene.proofs.NewFacts.{IsOfVariables, picked_facts}
@@ -52,7 +52,7 @@ module _ (w : Setting) (kinds : List Bool) (m : Moment) (orderly : IsOrderly w k
   P = at_root w kinds m orderly
 
   pub facts_of : (t : ℕ) (r : Reduction) → pick w m.store.facts t ES P N ≡ reduces r → AreOfVariables m.store.variables r.facts
-  facts_of t r e = subst (λ (o : Outcome). IsOfVariables m.store.facts kinds m.store.variables (λ x h. S.store.globals x.number x.lasting h) o) e
+  facts_of t r e = subst (λ (o : PickOutcome). IsOfVariables m.store.facts kinds m.store.variables (λ x h. S.store.globals x.number x.lasting h) o) e
       (picked_facts m.store.facts kinds m.store.variables (λ x h. S.store.globals x.number x.lasting h) w t ES P N S.moment.entries)
 
   -- Said of the item t, whose step leads to `a`, and of the item u, which has a step too.
@@ -80,7 +80,7 @@ module _ (w : Setting) (kinds : List Bool) (m : Moment) (orderly : IsOrderly w k
 
     pub half : Result ⊎ IsFailure (outcome_of w a.store a.scene u)
     half = result a.store.facts v.other v.there.thing na sa (outcome_of w a.store a.scene u)
-        (subst (λ (o : Outcome). Again a.store.facts v.other v.there.thing na o (outcome_of w a.store a.scene u)) out_there (again w kinds m S t u r a step oa.sound oa.lengths v na))
+        (subst (λ (o : PickOutcome). Again a.store.facts v.other v.there.thing na o (outcome_of w a.store a.scene u)) out_there (again w kinds m S t u r a step oa.sound oa.lengths v na))
 
     pub lives_there : has u a.scene.root.entries ≡ true
     lives_there = at_live u a.scene.root.entries v.there.thing v.there.place (root_place a.scene.root) v.there.at
@@ -121,7 +121,7 @@ module _ (w : Setting) (kinds : List Bool) (m : Moment) (orderly : IsOrderly w k
           let o = pick w m.store.facts t ES P N in
           let g : Again m.store.facts v.thing v.thing N o o = thing_again w m.store.facts m.store.facts S.store.no_clash S.store.no_clash (λ p sh h. h) orderly.lengths N v.thing v.thing v.place v.place (like_same v.thing) (grows_same v.place) calm.0 calm.1 o o
           (picked w m.store.facts N t ES v.thing v.place P v.at) (picked w m.store.facts N t ES v.thing v.place P v.at) in
-          let h : Again m.store.facts v.thing v.thing N (reduces r) (reduces r) = subst (λ (o : Outcome). Again m.store.facts v.thing v.thing N o o) step.outcome g in
+          let h : Again m.store.facts v.thing v.thing N (reduces r) (reduces r) = subst (λ (o : PickOutcome). Again m.store.facts v.thing v.thing N o o) step.outcome g in
           h.facts.each
 
       pub same_facts : sa.facts ≡ s.facts

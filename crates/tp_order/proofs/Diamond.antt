@@ -5,7 +5,7 @@ use Rattle.std.proofs.lemmas.Bool.{cond_both}
 use Rattle.tp_value.specs.declared.path.Fact.{Fact}
 use Rattle.tp_meaning.specs.Syntax.{more}
 use Rattle.tp_scene.specs.Scene.{Bindings, Side, Head, Leaf, Do, Holder, Split, SplitProject, Closed, Opened, Running, Entries, none, leaf, node, new_head, no_region, Region, Scene, has, Place, root_place, held_place, second_place}
-use Rattle.tp_scene.specs.Step.{Reduction, Outcome, reduces, waits, rests, clashes, misses, passes, Numbers, holder_step}
+use Rattle.tp_scene.specs.Step.{Reduction, PickOutcome, reduces, waits, rests, clashes, misses, passes, Numbers, holder_step}
 use Rattle.tp_scene.specs.Pick.{Setting, Moment, pick, numbers_of, Reduces}
 use Rattle.tp_scene.specs.Fits.{kinds_in}
 use Rattle.tp_scene.specs.Laws.{IsSound}
@@ -33,7 +33,7 @@ abbrev made_regions : Holder → ℕ
 made_regions (Opened f env) = 1
 made_regions _ = 0
 
-abbrev Counts : Holder → Reduction → Outcome → Type 0
+abbrev Counts : Holder → Reduction → PickOutcome → Type 0
 Counts k r o = o ≡ reduces r → (r.items ≡ made_items k) × (r.regions ≡ made_regions k)
 
 counts : (w : Setting) (facts : List Fact) (n : Numbers) (r : Reduction) (h g : Region) (k : Holder) (q : Place) → Counts k r (holder_step w.defs w.inputs w.state facts k h g q n)
@@ -96,7 +96,7 @@ make_to ρ n n' (Opened f env) e a r h i g s =
 make_to ρ n n' (Running f env) e a r h i g s = refl
 
 -- the result of the other item after a step
-pub result : (gs : List Fact) (x y : Thing) (n : Numbers) (r : Reduction) (o : Outcome) → Again gs x y n (reduces r) o → ((s : Reduction) × (o ≡ reduces s) × SameStep gs x y n r s) ⊎ IsFailure o
+pub result : (gs : List Fact) (x y : Thing) (n : Numbers) (r : Reduction) (o : PickOutcome) → Again gs x y n (reduces r) o → ((s : Reduction) × (o ≡ reduces s) × SameStep gs x y n r s) ⊎ IsFailure o
 result gs x y n r (reduces s) h = inl (s, refl, h)
 result gs x y n r (waits first other) h = absurd h
 result gs x y n r rests h = absurd h
@@ -179,7 +179,7 @@ module _ (w : Setting) (kinds : List Bool) (m : Moment) (orderly : IsOrderly w k
         let b = subst (λ (x : Place). Renamed ρ n n' (pick w m.store.facts t es at_root n) (pick w m.store.facts (ρ.item.to t) (renamed_entries ρ es) x n')) place_fixed a in
         let c = subst (λ (x : Entries). Renamed ρ n n' (pick w m.store.facts t es at_root n) (pick w m.store.facts (ρ.item.to t) x at_root n')) es_fixed b in
         let d = subst (λ (x : ℕ). Renamed ρ n n' (pick w m.store.facts t es at_root n) (pick w m.store.facts x es at_root n')) (fi t (item_below m.scene.next_item t es sound.moment.items live)) c in
-        subst (λ (o : Outcome). Renamed ρ n n' o (pick w m.store.facts t es at_root n')) e d (renumbered w m u r s next step)
+        subst (λ (o : PickOutcome). Renamed ρ n n' o (pick w m.store.facts t es at_root n')) e d (renumbered w m u r s next step)
 
     -- and the edits that both are, with these numbers and those of the moment
     pub edits_alike : (t u : ℕ) (next : Moment) → (x : Thing) (q : Place) → At t x q es at_root → pick w m.store.facts t es at_root n ≡ reduces r → Reduces w m u s next

@@ -10,7 +10,7 @@ use Rattle.tp_store.proofs.Members.{In, in_kept, kept_in, NoClash-filter}
 use Rattle.tp_store.proofs.Adding.{adds_all, given_in}
 use Rattle.tp_store.proofs.States.{no_clash_arises}
 use Rattle.tp_scene.specs.Scene.{Side, Ending, Going, marked, Leaf, Holder, Entries, none, leaf, node, Region, Place, root_place}
-use Rattle.tp_scene.specs.Step.{Reduction, Outcome, reduces, knows, Numbers, Target, value_at, length_at, set, leaf_step, holder_step}
+use Rattle.tp_scene.specs.Step.{Reduction, PickOutcome, reduces, knows, Numbers, Target, value_at, length_at, set, leaf_step, holder_step}
 use Rattle.tp_scene.specs.Pick.{Setting, Moment, pick, outcome_of, Reduces}
 use Rattle.tp_scene.specs.Fits.{IsCalm}
 use Rattle.tp_scene.proofs.Grown.{other_side}
@@ -39,7 +39,7 @@ target_apart (length_at p) (num (negsuc n)) = tt
 target_apart (length_at p) (truth b) = tt
 target_apart (length_at p) (list ts) = tt
 
-facts_in : Outcome → List Fact
+facts_in : PickOutcome → List Fact
 facts_in (reduces r) = r.facts
 facts_in o = []
 
@@ -107,7 +107,7 @@ module _ (w : Setting) (kinds : List Bool) (m : Moment) (orderly : IsOrderly w k
   -- what u set is known where both have stepped
   set_known_there : (x : Target) (c : Tree) → set m.store.facts x c ≡ knows SA.facts → (f : Fact) → In f (target_facts x c) → In f second.store.facts
   set_known_there x c e f i = elim (set_form m.store.facts x c) [
-    | inr bad ↦ absurd (subst (λ (o : Outcome). IsFailure o) e bad)
+    | inr bad ↦ absurd (subst (λ (o : PickOutcome). IsFailure o) e bad)
     | inl z ↦ (let q : knows z.0 ≡ knows SA.facts = sym z.1 ∙ e in
         let k : z.0 ≡ SA.facts = knows_same z.0 SA.facts q in
         let l : SA.facts ≡ s.facts = fixed_facts m.store.variables (block m s r) (fl w kinds m orderly s r) s.facts (facts_of w kinds m orderly u s su.outcome) in
@@ -128,20 +128,20 @@ module _ (w : Setting) (kinds : List Bool) (m : Moment) (orderly : IsOrderly w k
       (root_grows u t ut a.scene.root.head a.scene.root.entries FA O.new (of_leaf l) q at tt)
       (λ x. or_left (marked z (head_after (single u FA) a.scene.root.entries a.scene.root.head)) _ (marked_after u t FA O.new z e a.scene.root.entries a.scene.root.head x)) o
 
-  go : (x x' : Thing) (p q : Place) → GrowsThing x x' → Grows p q → IsCalm q → CalmThing x' → ThingWithin x → At u x' q a.scene.root.entries (root_place a.scene.root) → FA.mark ≡ (edit_of x NA SA).mark → (o o' : Outcome)
+  go : (x x' : Thing) (p q : Place) → GrowsThing x x' → Grows p q → IsCalm q → CalmThing x' → ThingWithin x → At u x' q a.scene.root.entries (root_place a.scene.root) → FA.mark ≡ (edit_of x NA SA).mark → (o o' : PickOutcome)
       → Picked w m.store.facts NA x p o → o ≡ reduces SA → Picked w a.store.facts NA x' q o' → IsFailure o' → ⊥
   go (of_leaf l) (of_leaf l') p q like up calm held small at mark o o' k e k' bad =
       leaf_good w m.store.facts a.store.facts second.store.facts orderly.sound.store.no_clash oa.sound.store.no_clash after_both.sound.store.no_clash
       (knows_after w kinds m orderly.sound r a st.store) knows_both oa.lengths orderly.inputs p q NA up calm l small SA (sym k ∙ e)
       (λ z x i. mark_ok l' q at z (ap (is_side z) (mark ∙ x) ∙ side_is z) i) set_known_there
-      (subst (λ (x : Outcome). IsFailure x) (k' ∙ ap (λ (x : Leaf). leaf_step w.defs w.inputs w.state a.store.facts x q NA) like) bad)
+      (subst (λ (x : PickOutcome). IsFailure x) (k' ∙ ap (λ (x : Leaf). leaf_step w.defs w.inputs w.state a.store.facts x q NA) like) bad)
   go (of_leaf l) (of_holder k' held') p q like up calm held small at mark o o' k e z bad = absurd like
   go (of_holder k held) (of_leaf l') p q like up calm c small at mark o o' z e z' bad = absurd like
   go (of_holder k held) (of_holder k' held') p q like up calm c small at mark o o' z e z' bad =
       let g = holder_rows_grow w m.store.facts a.store.facts k NA held held' like.1 c z.0 z.1 z.2 z.3 z'.0 z'.1 z'.2 z'.3 in
-      let h = subst (λ (x : Outcome). HolderGrown k NA z'.0 z'.1 z'.2 z'.3 x (holder_step w.defs w.inputs w.state a.store.facts k (record { head = z'.0; entries = z'.1 }) (record { head = z'.2; entries = z'.3 }) held' NA)) (sym z.4 ∙ e) g in
+      let h = subst (λ (x : PickOutcome). HolderGrown k NA z'.0 z'.1 z'.2 z'.3 x (holder_step w.defs w.inputs w.state a.store.facts k (record { head = z'.0; entries = z'.1 }) (record { head = z'.2; entries = z'.3 }) held' NA)) (sym z.4 ∙ e) g in
       let i = z'.4 ∙ ap (λ (x : Holder). holder_step w.defs w.inputs w.state a.store.facts x (record { head = z'.0; entries = z'.1 }) (record { head = z'.2; entries = z'.3 }) held' NA) like.0 ∙ h.0 in
-      subst (λ (x : Outcome). IsFailure x) i bad
+      subst (λ (x : PickOutcome). IsFailure x) i bad
 
   pub isnt_bad : IsFailure (outcome_of w a.store a.scene u) → ⊥
   isnt_bad bad =

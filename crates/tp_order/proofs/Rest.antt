@@ -1,6 +1,6 @@
 -- One rest for the picks of a state.
 use Rattle.std.proofs.Common.{◌≡◌, inl, inr, ℕ, zero, suc, Bool, List, [], ◌∷◌, length, refl, ap, sym, subst, arith}
-use Rattle.tp_scene.specs.Step.{Reduction, Outcome, reduces, waits, rests, clashes, misses, passes}
+use Rattle.tp_scene.specs.Step.{Reduction, PickOutcome, reduces, waits, rests, clashes, misses, passes}
 use Rattle.tp_scene.specs.Pick.{Setting, Moment, Leads, outcome_of, IsIdle}
 use Rattle.tp_scene.specs.Rest.{AtRest}
 use Rattle.tp_order.specs.OneRest.{Rules, Path, Rest}
@@ -15,10 +15,10 @@ use Rattle.tp_order.proofs.Commute.{commute}
 use Rattle.tp_order.proofs.Equivalence.{alike_is_equivalence}
 use Rattle.tp_order.proofs.AlikeStep.{alike_moments_step}
 
-no_step : (o : Outcome) (r : Reduction) → o ≡ reduces r → IsFailure o → ⊥
-no_step o r e b = subst (λ (x : Outcome). IsFailure x) e b
+no_step : (o : PickOutcome) (r : Reduction) → o ≡ reduces r → IsFailure o → ⊥
+no_step o r e b = subst (λ (x : PickOutcome). IsFailure x) e b
 
-idle_bad : (o : Outcome) → IsIdle o → IsFailure o → ⊥
+idle_bad : (o : PickOutcome) → IsIdle o → IsFailure o → ⊥
 idle_bad (reduces r) i b = b
 idle_bad (waits first other) i b = b
 idle_bad rests i b = b
@@ -72,7 +72,7 @@ module _ (w : Setting) (kinds : List Bool) where
 
   at_rest : (s : State) → AtRest w s.0 → Rest rules s
   at_rest s h = (
-    (λ t u st. subst (λ (o : Outcome). IsIdle o) st.1.outcome (h t st.1.lives)),
+    (λ t u st. subst (λ (o : PickOutcome). IsIdle o) st.1.outcome (h t st.1.lives)),
     (λ t b. idle_bad (outcome_of w s.0.store s.0.scene t) (h t b.0) b.1),
   )
 

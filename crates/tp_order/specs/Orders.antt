@@ -9,7 +9,7 @@ use Rattle.tp_scene.specs.Pick.{Setting, Moment, Reduces, Leads, outcome_of}
 use Rattle.tp_scene.specs.Rest.{AtRest, goes, settled}
 use Rattle.tp_scene.specs.Advance.{advanced}
 use Rattle.tp_scene.specs.StandsFor.{first_moment}
-use Rattle.tp_scene.specs.Laws.{IsSound, GoesOn}
+use Rattle.tp_scene.specs.Laws.{IsSound, StoreGoesOn}
 use Rattle.tp_growth.specs.Rows.{IsFailure}
 use Rattle.tp_growth.specs.Within.{LengthsAreWithin, EntriesWithin, InputsWithin}
 use Rattle.tp_renaming.specs.Renaming.{Renaming}
@@ -40,7 +40,7 @@ BeginsOrderly = (w : Setting) (names : List (List ℕ)) (main : FormulaTree)
 abbrev pub AdvancesStayOrderly : Type 0
 AdvancesStayOrderly = (w : Setting) (kinds : List Bool) (m next : Moment) → IsOrderly w kinds m
     → settled m.scene ≡ goes
-    → next.scene ≡ advanced m.scene → GoesOn m.store next.store
+    → next.scene ≡ advanced m.scene → StoreGoesOn m.store next.store
     → (own : ℕ) → IsOrderly (record { defs = w.defs; inputs = w.inputs; state = own }) kinds next
 
 -- the item is live, and meets a clash, misses an input or passes a limit

@@ -5,9 +5,9 @@ use Rattle.tp_parse.specs.declared.refusal.Refusal.{Refusal}
 use Rattle.tp_parse.specs.declared.refusal.Refusal.TheVariants.{Unexpected, Unfinished, TooDeep, NoMemory}
 use Rattle.tp_parse.specs.declared.mark.Mark.{Mark}
 use Rattle.tp_parse.specs.declared.mark.Mark.TheVariants as m
-use Rattle.tp_parse.specs.Marks.{same, mark_of}
+use Rattle.tp_parse.specs.Marks.{same, kind_mark}
 use Rattle.tp_parse.specs.Input as input
-use Rattle.tp_parse.specs.Input.{Tokens, Outcome, Reader, and_then, mark, from, number, name, refuse, too_deep, half_mark, due, past, left_of, halved, sees, lower, any_name, expect, deepen}
+use Rattle.tp_parse.specs.Input.{Tokens, ReadOutcome, Reader, and_then, mark, from, first_number, first_name, refuse, too_deep, half_mark, mark_due, past, left_of, halved, sees, lower, any_name, expect, deepen}
 use Rattle.tp_parse.specs.Reading.{fits}
 use Rattle.tp_parse.proofs.Within.{Within, ok, err}
 
@@ -25,30 +25,30 @@ PastRefusal n ts Unfinished = Unit {0}
 PastRefusal n ts NoMemory = Unit {0}
 
 -- all of the first n tokens were taken
-abbrev pub Past : {A : Type 0} → ℕ → Tokens → Outcome A → Type 0
+abbrev pub Past : {A : Type 0} → ℕ → Tokens → ReadOutcome A → Type 0
 Past n ts (Ok p) = length p.1 + n ≤ length ts
 Past n ts (Err e) = PastRefusal n ts e
 
 -- two runs, over tokens of which the first n agree: one that takes them all, or runs with one answer
-pub data Alike {A : Type 0} (n : ℕ) (ts us : Tokens) : Outcome A → Outcome A → Type 0 where
-  beyond : {o p : Outcome A} → Past n ts o → Alike n ts us o p
+pub data Alike {A : Type 0} (n : ℕ) (ts us : Tokens) : ReadOutcome A → ReadOutcome A → Type 0 where
+  beyond : {o p : ReadOutcome A} → Past n ts o → Alike n ts us o p
   goes : {x : A} {r s : Tokens} (k : ℕ) → 0 < k → Agrees k r s → k + length ts ≡ n + length r → length us + length r ≡ length ts + length s → Alike n ts us (Ok (x, r)) (Ok (x, s))
   unexpected : {k j : ℕ} → length us + k ≡ length ts + j → Alike n ts us (Err (Unexpected k)) (Err (Unexpected j))
   deep : {k j : ℕ} → length us + k ≡ length ts + j → Alike n ts us (Err (TooDeep k)) (Err (TooDeep j))
 
-past_later : {B : Type 0} (n : ℕ) (ts : Tokens) {r : Tokens} {q : Outcome B} → length r + n ≤ length ts → Within r q → Past n ts q
+past_later : {B : Type 0} (n : ℕ) (ts : Tokens) {r : Tokens} {q : ReadOutcome B} → length r + n ≤ length ts → Within r q → Past n ts q
 past_later n ts le (ok is) = omega arith
 past_later n ts le (err {e = Unexpected k} is) = omega (arith, is.1)
 past_later n ts le (err {e = TooDeep k} is) = omega (arith, is.1)
 past_later n ts le (err {e = Unfinished} is) = tt
 past_later n ts le (err {e = NoMemory} is) = tt
 
-past_then : {A B : Type 0} (n : ℕ) (ts : Tokens) (o : Outcome A) (f : A → Reader B) → Past n ts o → ((x : A) (r : Tokens) → Within r (f x r)) → Past n ts (and_then o f)
+past_then : {A B : Type 0} (n : ℕ) (ts : Tokens) (o : ReadOutcome A) (f : A → Reader B) → Past n ts o → ((x : A) (r : Tokens) → Within r (f x r)) → Past n ts (and_then o f)
 past_then n ts (Ok p) f is within = past_later n ts is (within p.0 p.1)
 past_then n ts (Err e) f is within = is
 
 -- what holds of the rest holds of the whole
-pub lifted : {A : Type 0} {n k : ℕ} {ts us r s : Tokens} {q p : Outcome A} → k + length ts ≡ n + length r → length us + length r ≡ length ts + length s → Alike k r s q p → Alike n ts us q p
+pub lifted : {A : Type 0} {n k : ℕ} {ts us r s : Tokens} {q p : ReadOutcome A} → k + length ts ≡ n + length r → length us + length r ≡ length ts + length s → Alike k r s q p → Alike n ts us q p
 lifted e f (beyond {o = Ok p} is) = beyond {o = Ok p} (omega (arith, is))
 lifted e f (beyond {o = Err (Unexpected i)} is) = beyond {o = Err (Unexpected i)} (omega (arith, is))
 lifted e f (beyond {o = Err (TooDeep i)} is) = beyond {o = Err (TooDeep i)} (omega (arith, is))
@@ -59,7 +59,7 @@ lifted e f (unexpected g) = unexpected (omega arith)
 lifted e f (deep g) = deep (omega arith)
 
 -- one run after another, on both sides
-pub both : {A B : Type 0} {n : ℕ} {ts us : Tokens} {o p : Outcome A} (f g : A → Reader B) → Alike n ts us o p → ((x : A) (r : Tokens) → Within r (f x r))
+pub both : {A B : Type 0} {n : ℕ} {ts us : Tokens} {o p : ReadOutcome A} (f g : A → Reader B) → Alike n ts us o p → ((x : A) (r : Tokens) → Within r (f x r))
     → ((x : A) (k : ℕ) (r s : Tokens) → o ≡ Ok (x, r) → length us + length r ≡ length ts + length s → 0 < k → Agrees k r s → Alike k r s (f x r) (g x s))
     → Alike n ts us (and_then o f) (and_then p g)
 both {n = n} {ts = ts} {o = o} f g (beyond is) within next = beyond (past_then n ts o f is within)
@@ -81,14 +81,14 @@ same_from some unseen = absurd (omega arith)
 same_from some ended = refl
 same_from some (agreed a) = refl
 
-pub same_number : {n : ℕ} {ts us : Tokens} → 0 < n → Agrees n ts us → number ts ≡ number us
-unfolding number
+pub same_number : {n : ℕ} {ts us : Tokens} → 0 < n → Agrees n ts us → first_number ts ≡ first_number us
+unfolding first_number
 same_number some unseen = absurd (omega arith)
 same_number some ended = refl
 same_number some (agreed a) = refl
 
-pub same_name : {n : ℕ} {ts us : Tokens} → 0 < n → Agrees n ts us → name ts ≡ name us
-unfolding name
+pub same_name : {n : ℕ} {ts us : Tokens} → 0 < n → Agrees n ts us → first_name ts ≡ first_name us
+unfolding first_name
 same_name some unseen = absurd (omega arith)
 same_name some ended = refl
 same_name some (agreed a) = refl
@@ -115,24 +115,24 @@ pub passed_alike : {A : Type 0} {x : A} {n : ℕ} {ts us : Tokens} → 0 < n →
 unfolding past mark
 passed_alike some unseen = absurd (omega arith)
 passed_alike {x = x} some (ended {n = n}) =
-    elim (same (due []) (mark [])) as (λ b. Alike (suc n) [] [] (Ok (x, cond b (drop 1 []) (left_of true []))) (Ok (x, cond b (drop 1 []) (left_of true [])))) [
+    elim (same (mark_due []) (mark [])) as (λ b. Alike (suc n) [] [] (Ok (x, cond b (drop 1 []) (left_of true []))) (Ok (x, cond b (drop 1 []) (left_of true [])))) [
       | true ↦ goes (suc n) (omega arith) ended (omega arith) (omega arith)
       | false ↦ goes (suc n) (omega arith) ended (omega arith) (omega arith)
     ]
 passed_alike {x = x} some (agreed {n = n} {t = t} {ts = ts} {us = us} a) =
-    elim (same (half_mark (mark_of t.kind)) (mark_of t.kind)) as (λ b. Alike (suc n) (t ∷ ts) (t ∷ us) (Ok (x, cond b (drop 1 (t ∷ ts)) (left_of true (t ∷ ts)))) (Ok (x, cond b (drop 1 (t ∷ us)) (left_of true (t ∷ us))))) [
+    elim (same (half_mark (kind_mark t.kind)) (kind_mark t.kind)) as (λ b. Alike (suc n) (t ∷ ts) (t ∷ us) (Ok (x, cond b (drop 1 (t ∷ ts)) (left_of true (t ∷ ts)))) (Ok (x, cond b (drop 1 (t ∷ us)) (left_of true (t ∷ us))))) [
       | true ↦ took_alike some (agreed a)
       | false ↦ goes (suc n) some (agreed a) (omega arith) (omega arith)
     ]
 
-pub chosen_alike : {A : Type 0} {n : ℕ} {ts us : Tokens} {x y z w : Outcome A} (b c : Bool) → b ≡ c → Alike n ts us x z → Alike n ts us y w → Alike n ts us (cond b x y) (cond c z w)
+pub chosen_alike : {A : Type 0} {n : ℕ} {ts us : Tokens} {x y z w : ReadOutcome A} (b c : Bool) → b ≡ c → Alike n ts us x z → Alike n ts us y w → Alike n ts us (cond b x y) (cond c z w)
 chosen_alike true true e p q = p
 chosen_alike false false e p q = q
 chosen_alike true false e p q = absurd cc
 chosen_alike false true e p q = absurd cc
 
 -- after the next token was taken
-pub after_take : {A : Type 0} {n : ℕ} {ts us : Tokens} {q p : Outcome A} → 0 < n → Agrees n ts us → Within (drop 1 ts) q
+pub after_take : {A : Type 0} {n : ℕ} {ts us : Tokens} {q p : ReadOutcome A} → 0 < n → Agrees n ts us → Within (drop 1 ts) q
     → ((k : ℕ) → 0 < k → Agrees k (drop 1 ts) (drop 1 us) → length us + length (drop 1 ts) ≡ length ts + length (drop 1 us) → Alike k (drop 1 ts) (drop 1 us) q p) → Alike n ts us q p
 after_take some unseen within next = absurd (omega arith)
 after_take some (ended {n = n}) within next = next (suc n) some ended (omega arith)
@@ -141,7 +141,7 @@ after_take some (agreed {n = suc n} {ts = ts} {us = us} a) within next = lifted 
 
 pub expected_alike : (x : Mark) {n : ℕ} {ts us : Tokens} → 0 < n → Agrees n ts us → Alike n ts us (expect x ts) (expect x us)
 unfolding expect
-expected_alike x {ts = ts} {us = us} some a = chosen_alike (same (due ts) x) (same (due us) x) (ap (λ q. same (half_mark q) x) (same_mark some a)) (passed_alike some a) (refused_alike some a)
+expected_alike x {ts = ts} {us = us} some a = chosen_alike (same (mark_due ts) x) (same (mark_due us) x) (ap (λ q. same (half_mark q) x) (same_mark some a)) (passed_alike some a) (refused_alike some a)
 
 pub deepened_alike : (room : ℕ) {n : ℕ} {ts us : Tokens} → 0 < n → Agrees n ts us → Alike n ts us (deepen room ts) (deepen room us)
 unfolding deepen
@@ -156,8 +156,8 @@ fitted_alike (suc k) left some a = chosen_alike (leb left (suc k)) (leb left (su
 pub saw_alike : (x : Mark) {n : ℕ} {ts us : Tokens} → 0 < n → Agrees n ts us → sees x ts ≡ sees x us
 saw_alike x some a = ap (λ q. same q x) (same_mark some a)
 
-pub took_name_alike : {n : ℕ} {ts us : Tokens} → 0 < n → Agrees n ts us → Alike n ts us (Ok (name ts, drop 1 ts)) (Ok (name us, drop 1 us))
-took_name_alike {n} {ts} {us} some a = subst (λ (q : List ℕ). Alike n ts us (Ok (name ts, drop 1 ts)) (Ok (q, drop 1 us))) (same_name some a) (took_alike some a)
+pub took_name_alike : {n : ℕ} {ts us : Tokens} → 0 < n → Agrees n ts us → Alike n ts us (Ok (first_name ts, drop 1 ts)) (Ok (first_name us, drop 1 us))
+took_name_alike {n} {ts} {us} some a = subst (λ (q : List ℕ). Alike n ts us (Ok (first_name ts, drop 1 ts)) (Ok (q, drop 1 us))) (same_name some a) (took_alike some a)
 
 pub lowered_alike : {n : ℕ} {ts us : Tokens} → 0 < n → Agrees n ts us → Alike n ts us (lower ts) (lower us)
 unfolding lower

@@ -15,12 +15,12 @@ use Rattle.tp_parse.specs.declared.head.Listed.TheVariants as l
 use Rattle.tp_parse.specs.declared.head.Head.{Head}
 use Rattle.tp_parse.specs.declared.head.Head.TheVariants as h
 use Rattle.tp_parse.specs.Marks.{role_at, before, start_of, chop, listed_close, enclosed_close, middle}
-use Rattle.tp_parse.specs.Input.{Tokens, Reader, mark, from, due, past}
+use Rattle.tp_parse.specs.Input.{Tokens, Reader, mark, from, mark_due, past}
 use Rattle.tp_parse.specs.Head.{is_high}
 use Rattle.tp_parse.specs.Found.{Found, Operands, operand_then, then_operand, operands_of, of_infix, of_index, of_chain}
 use Rattle.tp_parse.specs.Reading as r
 use Rattle.tp_parse.specs.Reading.{operand_level}
-use Rattle.tp_parse.specs.Grammar.{Begins, number, truth, upper_name, lower_name, call, bare, form, empty_list, list, enclosure, if, while, repeat, for, forall, exists}
+use Rattle.tp_parse.specs.Grammar.{BeginsPrimary, number, truth, upper_name, lower_name, call, bare, form, empty_list, list, enclosure, if, while, repeat, for, forall, exists}
 use Rattle.tp_parse.specs.Grammar.{Parses, atom, listed, enclosed, if_then, if_else, paired, quantified, prefixed, level, Goes, ends, left, single, right, indexed, joins, Others, no_more, one_more, Listing, no_operands, operands}
 use Rattle.tp_parse.proofs.Marks.{same_yes, same_no, due_begins_none}
 use Rattle.tp_parse.proofs.Shapes.{tall, taken, role_taken, shorter, passed, low_before, begins_some}
@@ -42,11 +42,11 @@ close_due l.List t e = inl e
 close_due (l.Form f) t e = inr e
 close_due (l.Call x) t e = inr e
 
-not_closed : {k : ℕ} {ts rest : Tokens} {a : Found} (x : Listed) → Parses k ts a rest → due ts ≢ listed_close x
-not_closed {ts = ts} x d e = begins_some d (due_begins_none (mark ts) (close_due x (due ts) e))
+not_closed : {k : ℕ} {ts rest : Tokens} {a : Found} (x : Listed) → Parses k ts a rest → mark_due ts ≢ listed_close x
+not_closed {ts = ts} x d e = begins_some d (due_begins_none (mark ts) (close_due x (mark_due ts) e))
 
 -- an atom's token, and that of operands, asks for no room
-begins_low : {ts rest : Tokens} {x : Head} → Begins ts x rest → is_high (start_of (mark ts)) ≡ true → ((a : _) → x ≢ h.Atom a) × ((a : _) → x ≢ h.Listed a)
+begins_low : {ts rest : Tokens} {x : Head} → BeginsPrimary ts x rest → is_high (start_of (mark ts)) ≡ true → ((a : _) → x ≢ h.Atom a) × ((a : _) → x ≢ h.Listed a)
 begins_low (number e) high = absurd cc
 begins_low (truth e) high = absurd cc
 begins_low (upper_name e) high = absurd cc
@@ -65,7 +65,7 @@ begins_low (forall e f g) high = (λ a q. cc, λ a q. cc)
 begins_low (exists e d f) high = (λ a q. cc, λ a q. cc)
 
 module _ (inner : ℕ → Reader Found) (room : ℕ) (complete : (k : ℕ) (ts : Tokens) (x : Found) (rest : Tokens) → Parses k ts x rest → x.height ≤ room → inner k ts ≡ Ok (x, rest)) where
-  part_is : {k : ℕ} {ts end : Tokens} {a : Found} (close : Mark) → Parses k ts a end → a.height ≤ room → due end ≡ close → r.part inner room k close ts ≡ Ok (a, past end)
+  part_is : {k : ℕ} {ts end : Tokens} {a : Found} (close : Mark) → Parses k ts a end → a.height ≤ room → mark_due end ≡ close → r.part inner room k close ts ≡ Ok (a, past end)
   unfolding r.part
   part_is {k} {ts} {end} {a} close d low e = rw (complete k ts a end d low, expect_is close end e) refl
 
@@ -75,7 +75,7 @@ module _ (inner : ℕ → Reader Found) (room : ℕ) (complete : (k : ℕ) (ts :
   operated_is k way o at a b ts rest low low2 d =
       rw (fits_is room a.height ts (omega (arith, tall d)) low, complete (operand_level k way) (drop 1 ts) b rest d low2) refl
 
-  indexed_is : (at : ℕ) (a i : Found) (ts end : Tokens) → a.height ≤ room → i.height ≤ room → Parses chop (drop 1 ts) i end → due end ≡ m.Symbol symbol.CloseSquare
+  indexed_is : (at : ℕ) (a i : Found) (ts end : Tokens) → a.height ≤ room → i.height ≤ room → Parses chop (drop 1 ts) i end → mark_due end ≡ m.Symbol symbol.CloseSquare
       → r.indexed inner room at a ts ≡ Ok (of_index at a i, past end)
   unfolding r.indexed
   indexed_is at a i ts end low low2 d f =
@@ -95,10 +95,10 @@ module _ (inner : ℕ → Reader Found) (room : ℕ) (complete : (k : ℕ) (ts :
   operands_is : {k : ℕ} {all : Operands} {ts rest : Tokens} (x : Listed) → Listing k (listed_close x) ts all rest → all.height ≤ room
       → r.operands inner room k (listed_close x) ts ≡ Ok (all, rest)
   unfolding r.operands r.others
-  operands_is {ts = ts} x (no_operands e) low = rw (same_yes (due ts) (listed_close x) e) refl
+  operands_is {ts = ts} x (no_operands e) low = rw (same_yes (mark_due ts) (listed_close x) e) refl
   operands_is {k} {ts = ts} x (operands {x = a} {all = more} {mid = mid} {end = end} d o e) low =
       let others = others_complete (λ q. cc) o (length mid) (operands_of (a.tree ∷ []) a.height) (omega arith) (omega arith) in
-      rw (same_no (due ts) (listed_close x) (not_closed x d), complete k ts a mid d (omega arith), others, expect_is (listed_close x) end e) refl
+      rw (same_no (mark_due ts) (listed_close x) (not_closed x d), complete k ts a mid d (omega arith), others, expect_is (listed_close x) end e) refl
 
   chained_is : (k at : ℕ) (a : Found) {all : Operands} {ts rest : Tokens} → Others (k - 1) (m.Word word.And) ts all rest → 0 < a.height → a.height ≤ room → all.height ≤ room
       → r.chained inner room k at a ts ≡ Ok (of_chain at (operand_then a all), rest)
@@ -136,7 +136,7 @@ module _ (inner : ℕ → Reader Found) (room : ℕ) (complete : (k : ℕ) (ts :
       rw (turn_is k at a ts Joins e, chained_is k at a o some (omega arith) (omega arith)) refl
 
   -- a primary by its head
-  primary_is : {ts mid : Tokens} {x : Head} → Begins ts x mid → (is_high (start_of (mark ts)) ≡ true → 0 < room)
+  primary_is : {ts mid : Tokens} {x : Head} → BeginsPrimary ts x mid → (is_high (start_of (mark ts)) ≡ true → 0 < room)
       → r.primary inner room ts ≡ r.primary_by inner room (from ts) x mid
   unfolding r.primary
   primary_is {ts} b some = rw (admit_is room (start_of (mark ts)) ts some, head_complete b) refl

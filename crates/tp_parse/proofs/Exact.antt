@@ -9,11 +9,11 @@ use Rattle.tp_parse.specs.declared.refusal.Refusal.{Refusal}
 use Rattle.tp_parse.specs.declared.refusal.Refusal.TheVariants.{Unexpected, Unfinished, TooDeep, NoMemory}
 use Rattle.tp_parse.specs.declared.refusal.ParseRefusal.{ParseRefusal}
 use Rattle.tp_parse.specs.Marks.{chop}
-use Rattle.tp_parse.specs.Input.{Tokens, Outcome, Reader, and_then, mark, from, past, sees, name, names}
+use Rattle.tp_parse.specs.Input.{Tokens, ReadOutcome, Reader, and_then, mark, from, past, sees, first_name, names}
 use Rattle.tp_parse.specs.Found.{Found, limit, defined, source_of}
 use Rattle.tp_parse.specs.Reading.{read}
 use Rattle.tp_parse.specs.Source as s
-use Rattle.tp_parse.specs.Grammar.{Names, last_name, name_then, Parameters, no_parameters, parameters, Sentence, sentence, Defines, defines, Definitions, no_definition, definition_then, IsSource, source, Accepts}
+use Rattle.tp_parse.specs.Grammar.{ReadsNames, last_name, name_then, Parameters, no_parameters, parameters, Sentence, sentence, Defines, defines, Definitions, no_definition, definition_then, IsSource, source, Accepts}
 use Rattle.tp_parse.proofs.Marks.{same_is, same_not, same_yes, same_no}
 use Rattle.tp_parse.proofs.Shapes.{taken, dropped, passed, shorter, names_shorter}
 use Rattle.tp_parse.proofs.Heads.{bind_ok, fine, ok_is, chosen, expect_then, expect_is, lower_then, lower_is, names_sound, names_complete}
@@ -51,7 +51,7 @@ parameters_sound ts q e =
           subst (λ (z : List (List ℕ) × Tokens). Parameters ts z.0 z.1) (ok_is (xs.0.0, past xs.0.1) q d.1) (parameters (names_sound ts xs.0 xs.1) d.0)
     ]
 
-names_open : {ts rest : Tokens} {xs : List (List ℕ)} → Names ts xs rest → mark ts ≢ m.Symbol symbol.CloseRound
+names_open : {ts rest : Tokens} {xs : List (List ℕ)} → ReadsNames ts xs rest → mark ts ≢ m.Symbol symbol.CloseRound
 names_open (last_name (inl n) e) q = absurd cc
 names_open (last_name (inr n) e) q = absurd cc
 names_open (name_then (inl n) e d) q = absurd cc
@@ -76,7 +76,7 @@ definition_then_is ts f y begins e =
     let xs = bind_ok (s.parameters (past (drop 1 (drop 1 ts)))) _ a.0 o.1 in
     let q = expect_then (m.Symbol symbol.Equal) xs.0.1 _ a.0 xs.2 in
     let b = sentence_then (past xs.0.1) _ a.0 q.1 in
-    let d = defined (name (drop 1 ts)) (from ts) xs.0.0 b.0.tree in
+    let d = defined (first_name (drop 1 ts)) (from ts) xs.0.0 b.0.tree in
     let made = ok_is (d, b.1) a.0 b.3 in
     (d, b.0.height, b.1, (defines begins x.0 o.0 (parameters_sound _ xs.0 xs.1) q.0 b.2.0, b.2.1), ap (λ (z : DefinitionTree × Tokens). f z.0 z.1) made ∙ a.2)
 
@@ -162,14 +162,14 @@ source_complete ts x is = source_is is.source is.low
 
 -- ---- the outcome
 
-pub read_accepted : (ts : Tokens) (x : SourceTree) → s.outcome_of ts ≡ Ok x → Accepts ts x
+pub read_accepted : (ts : Tokens) (x : SourceTree) → s.parse_outcome ts ≡ Ok x → Accepts ts x
 read_accepted ts x e = by (s.source ts) refl e
   where
-    by : (o : Outcome SourceTree) → s.source ts ≡ o → s.outcome_by (length ts) o ≡ Ok x → Accepts ts x
+    by : (o : ReadOutcome SourceTree) → s.source ts ≡ o → s.outcome_by (length ts) o ≡ Ok x → Accepts ts x
     by (Ok q) is made = let same : q.0 ≡ x = cc in subst (Accepts ts) same (source_sound ts q is)
     by (Err d) is made = absurd cc
 
-pub accepted_read : (ts : Tokens) (x : SourceTree) → Accepts ts x → s.outcome_of ts ≡ Ok x
+pub accepted_read : (ts : Tokens) (x : SourceTree) → Accepts ts x → s.parse_outcome ts ≡ Ok x
 accepted_read ts x is = ap (s.outcome_by (length ts)) (source_complete ts x is)
 
 named_token : (n : ℕ) (e : Refusal) → Leaves n e → s.NamesToken n (s.named n e)
@@ -178,9 +178,9 @@ named_token n (TooDeep k) is = omega (arith, is.0, is.1)
 named_token n Unfinished is = tt
 named_token n NoMemory is = tt
 
-pub refusal_named : (ts : Tokens) (e : ParseRefusal) → s.outcome_of ts ≡ Err e → s.NamesToken (length ts) e
+pub refusal_named : (ts : Tokens) (e : ParseRefusal) → s.parse_outcome ts ≡ Err e → s.NamesToken (length ts) e
 refusal_named ts e is = by (s.source ts) (source_within ts) is
   where
-    by : (o : Outcome SourceTree) → Within ts o → s.outcome_by (length ts) o ≡ Err e → s.NamesToken (length ts) e
+    by : (o : ReadOutcome SourceTree) → Within ts o → s.outcome_by (length ts) o ≡ Err e → s.NamesToken (length ts) e
     by (Ok q) w made = absurd cc
     by (Err d) w made = let same : s.named (length ts) d ≡ e = cc in subst (s.NamesToken (length ts)) same (named_token (length ts) d (refusal_within w))

@@ -10,18 +10,18 @@ use Rattle.tp_parse.specs.declared.mark.Start.TheVariants as s
 use Rattle.tp_parse.specs.declared.head.Head.{Head}
 use Rattle.tp_parse.specs.Marks.{same, start_of, comma}
 use Rattle.tp_parse.specs.Input as input
-use Rattle.tp_parse.specs.Input.{Tokens, Outcome, Reader, and_then, ◌>>=◌, pure, mark, due, past, sees, name, taken_name, lower, any_name, names, names_from, expect, deepen}
+use Rattle.tp_parse.specs.Input.{Tokens, ReadOutcome, Reader, and_then, ◌>>=◌, pure, mark, mark_due, past, sees, first_name, taken_name, lower, any_name, names, names_from, expect, deepen}
 use Rattle.tp_parse.specs.Head.{name_or_call, counter, head_by, is_high, admit}
 use Rattle.tp_parse.specs.Reading.{fits}
-use Rattle.tp_parse.specs.Grammar.{Names, last_name, name_then, Begins, number, truth, upper_name, lower_name, call, bare, form, empty_list, list, enclosure, if, while, repeat, for, forall, exists}
+use Rattle.tp_parse.specs.Grammar.{ReadsNames, last_name, name_then, BeginsPrimary, number, truth, upper_name, lower_name, call, bare, form, empty_list, list, enclosure, if, while, repeat, for, forall, exists}
 use Rattle.tp_parse.proofs.Marks.{same_is, same_not, same_yes, same_no}
 use Rattle.tp_parse.proofs.Shapes.{taken, dropped}
 
-pub bind_ok : {A B : Type 0} (r : Outcome A) (f : A → Reader B) (y : B × Tokens) → and_then r f ≡ Ok y → (q : A × Tokens) × (r ≡ Ok q) × (f q.0 q.1 ≡ Ok y)
+pub bind_ok : {A B : Type 0} (r : ReadOutcome A) (f : A → Reader B) (y : B × Tokens) → and_then r f ≡ Ok y → (q : A × Tokens) × (r ≡ Ok q) × (f q.0 q.1 ≡ Ok y)
 bind_ok (Ok q) f y e = (q, refl, e)
 bind_ok (Err d) f y e = absurd cc
 
-abbrev pub fine : {A : Type 0} → A × Tokens → Outcome A
+abbrev pub fine : {A : Type 0} → A × Tokens → ReadOutcome A
 fine x = Ok x
 
 pub ok_is : {A : Type 0} (x y : A × Tokens) → fine x ≡ fine y → x ≡ y
@@ -44,13 +44,13 @@ passes : {A : Type 0} (b : Bool) (x : A × Tokens) (d : Refusal) (y : A × Token
 passes true x d y e = (refl, cc)
 passes false x d y e = absurd cc
 
-pub expect_then : {B : Type 0} (x : Mark) (ts : Tokens) (f : Unit {0} → Reader B) (y : B × Tokens) → and_then (expect x ts) f ≡ Ok y → (due ts ≡ x) × (f tt (past ts) ≡ Ok y)
+pub expect_then : {B : Type 0} (x : Mark) (ts : Tokens) (f : Unit {0} → Reader B) (y : B × Tokens) → and_then (expect x ts) f ≡ Ok y → (mark_due ts ≡ x) × (f tt (past ts) ≡ Ok y)
 unfolding expect
-expect_then x ts f y e = let g = gate (same (due ts) x) (tt, past ts) _ f y e in (same_is _ _ g.0, g.1)
+expect_then x ts f y e = let g = gate (same (mark_due ts) x) (tt, past ts) _ f y e in (same_is _ _ g.0, g.1)
 
-pub expect_is : (x : Mark) (ts : Tokens) → due ts ≡ x → expect x ts ≡ Ok (tt, past ts)
+pub expect_is : (x : Mark) (ts : Tokens) → mark_due ts ≡ x → expect x ts ≡ Ok (tt, past ts)
 unfolding expect
-expect_is x ts e = rw (same_yes (due ts) x e) refl
+expect_is x ts e = rw (same_yes (mark_due ts) x e) refl
 
 pub deepen_then : {B : Type 0} (room : ℕ) (ts : Tokens) (f : Unit {0} → Reader B) (y : B × Tokens) → and_then (deepen room ts) f ≡ Ok y → f tt ts ≡ Ok y
 unfolding deepen
@@ -89,96 +89,96 @@ or_is : (b c : Bool) → (b || c) ≡ true → (b ≡ true) ⊎ (c ≡ true)
 or_is true c e = inl refl
 or_is false c e = inr e
 
-any_name_then : {B : Type 0} (ts : Tokens) (f : List ℕ → Reader B) (y : B × Tokens) → and_then (any_name ts) f ≡ Ok y → IsName ts × (f (name ts) (drop 1 ts) ≡ Ok y)
+any_name_then : {B : Type 0} (ts : Tokens) (f : List ℕ → Reader B) (y : B × Tokens) → and_then (any_name ts) f ≡ Ok y → IsName ts × (f (first_name ts) (drop 1 ts) ≡ Ok y)
 unfolding any_name
 any_name_then ts f y e =
-    let g = gate (sees m.Upper ts || sees m.Lower ts) (name ts, drop 1 ts) _ f y e in
+    let g = gate (sees m.Upper ts || sees m.Lower ts) (first_name ts, drop 1 ts) _ f y e in
     (elim (or_is (sees m.Upper ts) (sees m.Lower ts) g.0) [ inl q ↦ inl (same_is _ _ q) | inr q ↦ inr (same_is _ _ q) ], g.1)
 
-any_name_is : (ts : Tokens) → IsName ts → any_name ts ≡ Ok (name ts, drop 1 ts)
+any_name_is : (ts : Tokens) → IsName ts → any_name ts ≡ Ok (first_name ts, drop 1 ts)
 unfolding any_name
 any_name_is ts (inl e) = rw (same_yes (mark ts) m.Upper e) refl
-any_name_is ts (inr e) = elim (sees m.Upper ts) as (λ b. cond (b || sees m.Lower ts) (taken_name ts) (Err (input.refusal ts)) ≡ Ok (name ts, drop 1 ts)) [
+any_name_is ts (inr e) = elim (sees m.Upper ts) as (λ b. cond (b || sees m.Lower ts) (taken_name ts) (Err (input.refusal ts)) ≡ Ok (first_name ts, drop 1 ts)) [
   | true ↦ refl
   | false ↦ rw (same_yes (mark ts) m.Lower e) refl
 ]
 
-pub lower_then : {B : Type 0} (ts : Tokens) (f : List ℕ → Reader B) (y : B × Tokens) → and_then (lower ts) f ≡ Ok y → (mark ts ≡ m.Lower) × (f (name ts) (drop 1 ts) ≡ Ok y)
+pub lower_then : {B : Type 0} (ts : Tokens) (f : List ℕ → Reader B) (y : B × Tokens) → and_then (lower ts) f ≡ Ok y → (mark ts ≡ m.Lower) × (f (first_name ts) (drop 1 ts) ≡ Ok y)
 unfolding lower
-lower_then ts f y e = let g = gate (sees m.Lower ts) (name ts, drop 1 ts) _ f y e in (same_is _ _ g.0, g.1)
+lower_then ts f y e = let g = gate (sees m.Lower ts) (first_name ts, drop 1 ts) _ f y e in (same_is _ _ g.0, g.1)
 
-pub lower_is : (ts : Tokens) → mark ts ≡ m.Lower → lower ts ≡ Ok (name ts, drop 1 ts)
+pub lower_is : (ts : Tokens) → mark ts ≡ m.Lower → lower ts ≡ Ok (first_name ts, drop 1 ts)
 unfolding lower
 lower_is ts e = rw (same_yes (mark ts) m.Lower e) refl
 
 names_from_sound : (n : ℕ) (xs : List (List ℕ)) (ts : Tokens) (q : List (List ℕ) × Tokens) → IsName ts → length (drop 1 ts) ≤ n
-    → names_from n (xs ++ name ts ∷ []) (drop 1 ts) ≡ Ok q → (ys : List (List ℕ)) × Names ts ys q.1 × (q.0 ≡ xs ++ ys)
+    → names_from n (xs ++ first_name ts ∷ []) (drop 1 ts) ≡ Ok q → (ys : List (List ℕ)) × ReadsNames ts ys q.1 × (q.0 ≡ xs ++ ys)
 unfolding names_from
 names_from_sound zero xs ts q n few e =
-    let is = ok_is (xs ++ name ts ∷ [], drop 1 ts) q e in
+    let is = ok_is (xs ++ first_name ts ∷ [], drop 1 ts) q e in
     let end = last_name n (λ at. absurd (omega (arith, taken (drop 1 ts) _ at (λ w. cc)))) in
-    (name ts ∷ [], subst (λ (z : List (List ℕ) × Tokens). Names ts (name ts ∷ []) z.1) is end, ap (λ (z : List (List ℕ) × Tokens). z.0) (sym is))
+    (first_name ts ∷ [], subst (λ (z : List (List ℕ) × Tokens). ReadsNames ts (first_name ts ∷ []) z.1) is end, ap (λ (z : List (List ℕ) × Tokens). z.0) (sym is))
 names_from_sound (suc k) xs ts q n few e =
     elim (chosen (sees comma (drop 1 ts)) _ _ _ e) [
       | inl w ↦
           let at = same_is _ _ w.0 in
           let one = any_name_then (drop 1 (drop 1 ts)) _ q w.1 in
           let shorter = taken (drop 1 ts) _ at (λ z. cc) in
-          let others = names_from_sound k (xs ++ name ts ∷ []) (drop 1 (drop 1 ts)) q one.0 (omega (arith, dropped (drop 1 (drop 1 ts)))) one.1 in
-          (name ts ∷ others.0, name_then n at others.1, others.2 ∙ append_assoc xs (name ts ∷ []) others.0)
+          let others = names_from_sound k (xs ++ first_name ts ∷ []) (drop 1 (drop 1 ts)) q one.0 (omega (arith, dropped (drop 1 (drop 1 ts)))) one.1 in
+          (first_name ts ∷ others.0, name_then n at others.1, others.2 ∙ append_assoc xs (first_name ts ∷ []) others.0)
       | inr w ↦
-          let is = ok_is (xs ++ name ts ∷ [], drop 1 ts) q w.1 in
+          let is = ok_is (xs ++ first_name ts ∷ [], drop 1 ts) q w.1 in
           let end = last_name n (same_not _ _ w.0) in
-          (name ts ∷ [], subst (λ (z : List (List ℕ) × Tokens). Names ts (name ts ∷ []) z.1) is end, ap (λ (z : List (List ℕ) × Tokens). z.0) (sym is))
+          (first_name ts ∷ [], subst (λ (z : List (List ℕ) × Tokens). ReadsNames ts (first_name ts ∷ []) z.1) is end, ap (λ (z : List (List ℕ) × Tokens). z.0) (sym is))
     ]
 
-pub names_sound : (ts : Tokens) (q : List (List ℕ) × Tokens) → names ts ≡ Ok q → Names ts q.0 q.1
+pub names_sound : (ts : Tokens) (q : List (List ℕ) × Tokens) → names ts ≡ Ok q → ReadsNames ts q.0 q.1
 unfolding names
 names_sound ts q e =
     let one = any_name_then ts _ q e in
     let all = names_from_sound (length (drop 1 ts)) [] ts q one.0 (omega arith) one.1 in
-    subst (λ (z : List (List ℕ)). Names ts z q.1) (sym all.2) all.1
+    subst (λ (z : List (List ℕ)). ReadsNames ts z q.1) (sym all.2) all.1
 
-names_from_complete : {ts rest : Tokens} {xs : List (List ℕ)} → IsName ts → Names ts xs rest → (n : ℕ) (ys : List (List ℕ)) → length (drop 1 ts) ≤ n
-    → names_from n (ys ++ name ts ∷ []) (drop 1 ts) ≡ Ok (ys ++ xs, rest)
+names_from_complete : {ts rest : Tokens} {xs : List (List ℕ)} → IsName ts → ReadsNames ts xs rest → (n : ℕ) (ys : List (List ℕ)) → length (drop 1 ts) ≤ n
+    → names_from n (ys ++ first_name ts ∷ []) (drop 1 ts) ≡ Ok (ys ++ xs, rest)
 unfolding names_from
 names_from_complete is (last_name n e) zero ys few = refl
 names_from_complete {ts} is (last_name n e) (suc k) ys few = rw (same_no (mark (drop 1 ts)) comma e) refl
 names_from_complete {ts} is (name_then n e d) zero ys few = absurd (omega (arith, taken (drop 1 ts) _ e (λ w. cc)))
 names_from_complete {ts} {rest} is (name_then {xs = xs} n e d) (suc k) ys few =
     let first : IsName (drop 1 (drop 1 ts)) = names_begin d in
-    let others = names_from_complete first d k (ys ++ name ts ∷ []) (omega (arith, taken (drop 1 ts) _ e (λ w. cc), dropped (drop 1 (drop 1 ts)))) in
-    rw (same_yes (mark (drop 1 ts)) comma e, any_name_is (drop 1 (drop 1 ts)) first) (others ∙ ap (λ z. fine (z, rest)) (append_assoc ys (name ts ∷ []) xs))
+    let others = names_from_complete first d k (ys ++ first_name ts ∷ []) (omega (arith, taken (drop 1 ts) _ e (λ w. cc), dropped (drop 1 (drop 1 ts)))) in
+    rw (same_yes (mark (drop 1 ts)) comma e, any_name_is (drop 1 (drop 1 ts)) first) (others ∙ ap (λ z. fine (z, rest)) (append_assoc ys (first_name ts ∷ []) xs))
   where
-    names_begin : {us end : Tokens} {zs : List (List ℕ)} → Names us zs end → IsName us
+    names_begin : {us end : Tokens} {zs : List (List ℕ)} → ReadsNames us zs end → IsName us
     names_begin (last_name n e) = n
     names_begin (name_then n e d) = n
 
-pub names_complete : {ts rest : Tokens} {xs : List (List ℕ)} → Names ts xs rest → names ts ≡ Ok (xs, rest)
+pub names_complete : {ts rest : Tokens} {xs : List (List ℕ)} → ReadsNames ts xs rest → names ts ≡ Ok (xs, rest)
 unfolding names
 names_complete {ts} (last_name n e) = rw (any_name_is ts n) (names_from_complete n (last_name n e) (length (drop 1 ts)) [] (omega arith))
 names_complete {ts} (name_then n e d) = rw (any_name_is ts n) (names_from_complete n (name_then n e d) (length (drop 1 ts)) [] (omega arith))
 
 -- ---- heads
 
-moved : {ts : Tokens} (x y : Head × Tokens) → fine x ≡ fine y → Begins ts x.0 x.1 → Begins ts y.0 y.1
-moved {ts} x y e is = subst (λ (q : Head × Tokens). Begins ts q.0 q.1) (ok_is x y e) is
+moved : {ts : Tokens} (x y : Head × Tokens) → fine x ≡ fine y → BeginsPrimary ts x.0 x.1 → BeginsPrimary ts y.0 y.1
+moved {ts} x y e is = subst (λ (q : Head × Tokens). BeginsPrimary ts q.0 q.1) (ok_is x y e) is
 
 counter_then : {B : Type 0} (ts : Tokens) (f : List ℕ → Reader B) (y : B × Tokens) → and_then (counter ts) f ≡ Ok y
-    → (mark (drop 1 ts) ≡ m.Lower) × (due (drop 1 (drop 1 ts)) ≡ m.Symbol symbol.Less) × (f (name (drop 1 ts)) (past (drop 1 (drop 1 ts))) ≡ Ok y)
+    → (mark (drop 1 ts) ≡ m.Lower) × (mark_due (drop 1 (drop 1 ts)) ≡ m.Symbol symbol.Less) × (f (first_name (drop 1 ts)) (past (drop 1 (drop 1 ts))) ≡ Ok y)
 unfolding counter
 counter_then ts f y e =
     let c = bind_ok (counter ts) f y e in
     let x = lower_then (drop 1 ts) _ c.0 c.1 in
     let d = expect_then (m.Symbol symbol.Less) (drop 1 (drop 1 ts)) _ c.0 x.1 in
-    let is = ok_is (name (drop 1 ts), past (drop 1 (drop 1 ts))) c.0 d.1 in
+    let is = ok_is (first_name (drop 1 ts), past (drop 1 (drop 1 ts))) c.0 d.1 in
     (x.0, d.0, ap (λ (q : List ℕ × Tokens). f q.0 q.1) is ∙ c.2)
 
-counter_is : (ts : Tokens) → mark (drop 1 ts) ≡ m.Lower → due (drop 1 (drop 1 ts)) ≡ m.Symbol symbol.Less → counter ts ≡ Ok (name (drop 1 ts), past (drop 1 (drop 1 ts)))
+counter_is : (ts : Tokens) → mark (drop 1 ts) ≡ m.Lower → mark_due (drop 1 (drop 1 ts)) ≡ m.Symbol symbol.Less → counter ts ≡ Ok (first_name (drop 1 ts), past (drop 1 (drop 1 ts)))
 unfolding counter
 counter_is ts e d = rw (lower_is (drop 1 ts) e, expect_is (m.Symbol symbol.Less) (drop 1 (drop 1 ts)) d) refl
 
-pub head_sound : (x : Start) (ts : Tokens) (y : Head × Tokens) → start_of (mark ts) ≡ x → head_by x ts ≡ Ok y → Begins ts y.0 y.1
+pub head_sound : (x : Start) (ts : Tokens) (y : Head × Tokens) → start_of (mark ts) ≡ x → head_by x ts ≡ Ok y → BeginsPrimary ts y.0 y.1
 unfolding name_or_call
 head_sound s.Nothing ts y is e = absurd cc
 head_sound s.Number ts y is e = moved _ y e (number is)
@@ -206,7 +206,7 @@ head_sound s.Exists ts y is e =
 head_at : (ts : Tokens) (x : Start) → start_of (mark ts) ≡ x → head_by (start_of (mark ts)) ts ≡ head_by x ts
 head_at ts x e = ap (λ q. head_by q ts) e
 
-pub head_complete : {ts rest : Tokens} {x : Head} → Begins ts x rest → head_by (start_of (mark ts)) ts ≡ Ok (x, rest)
+pub head_complete : {ts rest : Tokens} {x : Head} → BeginsPrimary ts x rest → head_by (start_of (mark ts)) ts ≡ Ok (x, rest)
 unfolding name_or_call
 head_complete {ts} (number e) = head_at ts _ e
 head_complete {ts} (truth e) = head_at ts _ e

@@ -15,9 +15,9 @@ use Rattle.tp_parse.specs.declared.head.Head.{Head}
 use Rattle.tp_parse.specs.declared.head.Head.TheVariants as h
 use Rattle.tp_parse.specs.declared.head.Atom.TheVariants as atom
 use Rattle.tp_parse.specs.declared.head.Listed.TheVariants as listed
-use Rattle.tp_parse.specs.Marks.{same, mark_of, before, role_at, start_of, chop, comma, listed_level, listed_close, enclosed_level, enclosed_close, middle}
+use Rattle.tp_parse.specs.Marks.{same, kind_mark, before, role_at, start_of, chop, comma, listed_level, listed_close, enclosed_level, enclosed_close, middle}
 use Rattle.tp_parse.specs.Input as input
-use Rattle.tp_parse.specs.Input.{Tokens, Outcome, Reader, and_then, ◌>>=◌, pure, mark, from, number, name, due, half_mark, past, sees, lower, any_name, names, names_from, expect, deepen}
+use Rattle.tp_parse.specs.Input.{Tokens, ReadOutcome, Reader, and_then, ◌>>=◌, pure, mark, from, first_number, first_name, mark_due, half_mark, past, sees, lower, any_name, names, names_from, expect, deepen}
 use Rattle.tp_parse.specs.Head.{name_or_call, counter, head_by, is_high, admit, begins, unfit}
 use Rattle.tp_parse.specs.Found.{Found, Operands, then_operand, operands_of, of_choice, of_choice_else, of_infix, of_index, of_chain, of_pair, of_prefix, limit, defined, source_of}
 use Rattle.tp_parse.specs.Reading as r
@@ -37,7 +37,7 @@ use Rattle.tp_parse.specs.declared.refusal.ParseRefusal.TheVariants as named_at
 use Rattle.tp_lex.specs.declared.token.Token.{Token}
 use Rattle.tp_parse.proofs.Alike.{Agrees, unseen, ended, agreed, Alike, beyond, goes, unexpected, deep, both, same_mark, same_from, same_number, same_name, refused_alike, stays_alike, took_alike, passed_alike, chosen_alike, after_take, expected_alike, deepened_alike, fitted_alike, saw_alike, lowered_alike, any_named_alike}
 
-short : {A : Type 0} {ts r : Tokens} {x : A} (o : Outcome A) → Within ts o → o ≡ Ok (x, r) → length r ≤ length ts
+short : {A : Type 0} {ts r : Tokens} {x : A} (o : ReadOutcome A) → Within ts o → o ≡ Ok (x, r) → length r ≤ length ts
 short o is e = left_over (subst (Within _) e is)
 
 -- ---- names
@@ -74,17 +74,17 @@ counted {ts = ts} some a =
     both _ _ (expected_alike (m.Symbol symbol.Less) pos2 b2) (λ u ws. w.stays {x = x} ws) (λ u l2 r2 q2 eq2 lens2 pos3 b3. stays_alike {x = x} pos3 b3)))
 
 number_head : {n : ℕ} {ts us : Tokens} → 0 < n → Agrees n ts us → Alike n ts us (head_by s.Number ts) (head_by s.Number us)
-number_head {n} {ts} {us} some a = rw (sym (same_number some a)) (took_alike {x = h.Atom (atom.Number (number ts))} some a)
+number_head {n} {ts} {us} some a = rw (sym (same_number some a)) (took_alike {x = h.Atom (atom.Number (first_number ts))} some a)
 
 name_head : {n : ℕ} {ts us : Tokens} → 0 < n → Agrees n ts us → Alike n ts us (head_by s.Name ts) (head_by s.Name us)
-name_head {n} {ts} {us} some a = rw (sym (same_name some a)) (took_alike {x = h.Atom (atom.Name (name ts))} some a)
+name_head {n} {ts} {us} some a = rw (sym (same_name some a)) (took_alike {x = h.Atom (atom.Name (first_name ts))} some a)
 
 call_head : {n : ℕ} {ts us : Tokens} → 0 < n → Agrees n ts us → Alike n ts us (name_or_call ts) (name_or_call us)
 unfolding name_or_call
 call_head {n} {ts} {us} some a = rw (sym (same_name some a))
-    (after_take some a (w.choose (sees (m.Symbol symbol.OpenRound) (drop 1 ts)) (w.took {x = h.Listed (listed.Call (name ts))} (drop 1 ts)) (w.stays {x = h.Atom (atom.Name (name ts))} (drop 1 ts))) (λ k pos b e.
+    (after_take some a (w.choose (sees (m.Symbol symbol.OpenRound) (drop 1 ts)) (w.took {x = h.Listed (listed.Call (first_name ts))} (drop 1 ts)) (w.stays {x = h.Atom (atom.Name (first_name ts))} (drop 1 ts))) (λ k pos b e.
     chosen_alike (sees (m.Symbol symbol.OpenRound) (drop 1 ts)) (sees (m.Symbol symbol.OpenRound) (drop 1 us)) (saw_alike (m.Symbol symbol.OpenRound) pos b)
-    (took_alike {x = h.Listed (listed.Call (name ts))} pos b) (stays_alike {x = h.Atom (atom.Name (name ts))} pos b)))
+    (took_alike {x = h.Listed (listed.Call (first_name ts))} pos b) (stays_alike {x = h.Atom (atom.Name (first_name ts))} pos b)))
 
 headed : (x : Start) {n : ℕ} {ts us : Tokens} → 0 < n → Agrees n ts us → Alike n ts us (head_by x ts) (head_by x us)
 headed s.Nothing some a = refused_alike some a
@@ -123,7 +123,7 @@ unfit_alike {A} k some (ended {n = n}) = elim (begins k m.End) as (λ b. Alike {
   | false ↦ beyond tt
 ]
 unfit_alike {A} k some (agreed {n = n} {t = t} {ts = ts} {us = us} a) =
-    elim (begins k (mark_of t.kind)) as (λ b. Alike {A = A} (suc n) (t ∷ ts) (t ∷ us) (Err (cond b (TooDeep (length (t ∷ ts))) (input.refusal (t ∷ ts)))) (Err (cond b (TooDeep (length (t ∷ us))) (input.refusal (t ∷ us))))) [
+    elim (begins k (kind_mark t.kind)) as (λ b. Alike {A = A} (suc n) (t ∷ ts) (t ∷ us) (Err (cond b (TooDeep (length (t ∷ ts))) (input.refusal (t ∷ ts)))) (Err (cond b (TooDeep (length (t ∷ us))) (input.refusal (t ∷ us))))) [
       | true ↦ deep (omega arith)
       | false ↦ unexpected (omega arith)
     ]
@@ -157,7 +157,7 @@ module _ (inner : ℕ → Reader Found) (room : ℕ) (within : (k : ℕ) (ts : T
   operanded : (k : ℕ) (close : Mark) {n : ℕ} {ts us : Tokens} → 0 < n → Agrees n ts us → Alike n ts us (r.operands inner room k close ts) (r.operands inner room k close us)
   unfolding r.operands r.others
   operanded k close {ts = ts} {us = us} some a =
-      chosen_alike (same (due ts) close) (same (due us) close) (ap (λ q. same (half_mark q) close) (same_mark some a)) (passed_alike some a)
+      chosen_alike (same (mark_due ts) close) (same (mark_due us) close) (ap (λ q. same (half_mark q) close) (same_mark some a)) (passed_alike some a)
       (both _ _ (alike k _ _ _ some a) (λ x vs. w.bind _ (w.othered inner room within k comma (length vs) (operands_of (x.tree ∷ []) x.height) vs) (λ all ws. w.bind _ (w.expected close ws) (λ u zs. w.stays {x = all} zs))) (λ x l r q eq lens pos b.
       both _ _ (othered k comma (length r) (length q) (operands_of (x.tree ∷ []) x.height) (λ z. cc) pos b (omega arith) (omega arith)) (λ all ws. w.bind _ (w.expected close ws) (λ u zs. w.stays {x = all} zs)) (λ all l2 r2 q2 eq2 lens2 pos2 b2.
       both _ _ (expected_alike close pos2 b2) (λ u zs. w.stays {x = all} zs) (λ u l3 r3 q3 eq3 lens3 pos3 b3. stays_alike {x = all} pos3 b3))))
@@ -393,11 +393,11 @@ agrees (suc n) (t ∷ ts) (u ∷ us) e =
     subst (λ (v : Token). Agrees (suc n) (t ∷ ts) (v ∷ us)) head (agreed (agrees n ts us rest))
 
 -- a refusal that names the token i
-data Names (i : ℕ) (ts : Tokens) : Outcome SourceTree → Type 0 where
+data Names (i : ℕ) (ts : Tokens) : ReadOutcome SourceTree → Type 0 where
   unexpected_at : {k : ℕ} → k + i ≡ length ts → Names i ts (Err (Unexpected k))
   too_deep_at : {k : ℕ} → k + i ≡ length ts → Names i ts (Err (TooDeep k))
 
-refused : {i : ℕ} {ts us : Tokens} {x : SourceTree} {o p : Outcome SourceTree} → Alike (suc i) ts us o p → Names i ts o → p ≡ Ok (x, []) → ⊥
+refused : {i : ℕ} {ts us : Tokens} {x : SourceTree} {o p : ReadOutcome SourceTree} → Alike (suc i) ts us o p → Names i ts o → p ≡ Ok (x, []) → ⊥
 refused (beyond is) (unexpected_at e) q = absurd (omega (arith, is))
 refused (beyond is) (too_deep_at e) q = absurd (omega (arith, is))
 refused (goes k pos a f g) n q = elim n [ ]
@@ -410,10 +410,10 @@ none_goes_on i ts us x named e is =
     let front : take (suc i) ts ≡ take (suc i) us = ap (λ n. take n ts) (sym one) ∙ sym e ∙ ap (λ n. take n us) one in
     refused (source_alike (omega arith) (agrees (suc i) ts us front)) named (source_complete us x is)
 
-pub refusal_is_first : (ts : Tokens) (e : ParseRefusal) → source.outcome_of ts ≡ Err e → NoneGoesOn ts e
+pub refusal_is_first : (ts : Tokens) (e : ParseRefusal) → source.parse_outcome ts ≡ Err e → NoneGoesOn ts e
 refusal_is_first ts e is = by (source.source ts) refl (w.source_within ts) is
   where
-    by : (o : Outcome SourceTree) → source.source ts ≡ o → Within ts o → source.outcome_by (length ts) o ≡ Err e → NoneGoesOn ts e
+    by : (o : ReadOutcome SourceTree) → source.source ts ≡ o → Within ts o → source.outcome_by (length ts) o ≡ Err e → NoneGoesOn ts e
     by (Ok q) at within made = absurd cc
     by (Err (Unexpected k)) at within made =
         let bounds = w.refusal_within within in

@@ -7,9 +7,9 @@ use Rattle.tp_parse.specs.declared.mark.Role.TheVariants.{Ends}
 use Rattle.tp_parse.specs.declared.mark.Start.TheVariants as s
 use Rattle.tp_parse.specs.declared.head.Head.{Head}
 use Rattle.tp_parse.specs.Marks.{role_at, before, start_of, same}
-use Rattle.tp_parse.specs.Input.{Tokens, mark, due, past, left_of}
+use Rattle.tp_parse.specs.Input.{Tokens, mark, mark_due, past, left_of}
 use Rattle.tp_parse.specs.Found.{Found, Operands}
-use Rattle.tp_parse.specs.Grammar.{Names, last_name, name_then, Begins, number, truth, upper_name, lower_name, call, bare, form, empty_list, list, enclosure, if, while, repeat, for, forall, exists}
+use Rattle.tp_parse.specs.Grammar.{ReadsNames, last_name, name_then, BeginsPrimary, number, truth, upper_name, lower_name, call, bare, form, empty_list, list, enclosure, if, while, repeat, for, forall, exists}
 use Rattle.tp_parse.specs.Grammar.{Parses, atom, listed, enclosed, if_then, if_else, paired, quantified, prefixed, level, Goes, ends, left, single, right, indexed, joins, Others, no_more, one_more, Listing, no_operands, operands}
 use Rattle.tp_parse.proofs.Marks.{start_plain, BeginsNone}
 
@@ -41,7 +41,7 @@ dropped (t ∷ ts) = omega arith
 
 pub passed : (ts : Tokens) → length (past ts) ≤ length ts
 unfolding past
-passed ts = elim (same (due ts) (mark ts)) as (λ b. length (cond b (drop 1 ts) (left_of true ts)) ≤ length ts) [ true ↦ dropped ts | false ↦ halved_length ts ]
+passed ts = elim (same (mark_due ts) (mark ts)) as (λ b. length (cond b (drop 1 ts) (left_of true ts)) ≤ length ts) [ true ↦ dropped ts | false ↦ halved_length ts ]
   where
     halved_length : (us : Tokens) → length (left_of true us) ≤ length us
     halved_length [] = omega arith
@@ -61,11 +61,11 @@ unfolding mark
 role_taken k [] r e some = absurd (some (sym e ∙ role_end k))
 role_taken k (t ∷ ts) r e some = omega arith
 
-pub names_shorter : {ts rest : Tokens} {xs : List (List ℕ)} → Names ts xs rest → length rest ≤ length ts
+pub names_shorter : {ts rest : Tokens} {xs : List (List ℕ)} → ReadsNames ts xs rest → length rest ≤ length ts
 names_shorter {ts} (last_name n e) = dropped ts
 names_shorter {ts} (name_then n e d) = omega (arith, dropped ts, dropped (drop 1 ts), names_shorter d)
 
-begins_shorter : {ts rest : Tokens} {x : Head} → Begins ts x rest → length rest ≤ length ts
+begins_shorter : {ts rest : Tokens} {x : Head} → BeginsPrimary ts x rest → length rest ≤ length ts
 begins_shorter {ts} (number e) = dropped ts
 begins_shorter {ts} (truth e) = dropped ts
 begins_shorter {ts} (upper_name e) = dropped ts
@@ -113,7 +113,7 @@ mutual
 
 -- ---- what a phrase begins with
 
-begins_start : {ts rest : Tokens} {x : Head} → Begins ts x rest → start_of (mark ts) ≢ s.Nothing
+begins_start : {ts rest : Tokens} {x : Head} → BeginsPrimary ts x rest → start_of (mark ts) ≢ s.Nothing
 begins_start (number e) nothing = absurd cc
 begins_start (truth e) nothing = absurd cc
 begins_start (upper_name e) nothing = absurd cc

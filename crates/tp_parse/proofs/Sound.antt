@@ -14,12 +14,12 @@ use Rattle.tp_parse.specs.declared.mark.Way.TheVariants.{Left, Single, Right}
 use Rattle.tp_parse.specs.declared.head.Head.{Head}
 use Rattle.tp_parse.specs.declared.head.Head.TheVariants as h
 use Rattle.tp_parse.specs.Marks.{role_at, before, same, start_of, chop, comma, listed_level, listed_close, enclosed_level, enclosed_close, middle}
-use Rattle.tp_parse.specs.Input.{Tokens, Reader, and_then, ◌>>=◌, pure, mark, from, due, past, sees}
+use Rattle.tp_parse.specs.Input.{Tokens, Reader, and_then, ◌>>=◌, pure, mark, from, mark_due, past, sees}
 use Rattle.tp_parse.specs.Head.{head_by}
 use Rattle.tp_parse.specs.Found.{Found, Operands, no_operand, operand_then, then_operand, operands_of, of_atom, of_operands, of_enclosed, of_choice, of_choice_else, of_pair, of_exists, of_prefix, of_infix, of_index, of_chain}
 use Rattle.tp_parse.specs.Reading as r
 use Rattle.tp_parse.specs.Reading.{operand_level, goes_on}
-use Rattle.tp_parse.specs.Grammar.{Begins, Parses, atom, listed, enclosed, if_then, if_else, paired, quantified, prefixed, level, Goes, ends, left, single, right, indexed, joins, Others, no_more, one_more, Listing, no_operands, operands}
+use Rattle.tp_parse.specs.Grammar.{BeginsPrimary, Parses, atom, listed, enclosed, if_then, if_else, paired, quantified, prefixed, level, Goes, ends, left, single, right, indexed, joins, Others, no_more, one_more, Listing, no_operands, operands}
 use Rattle.tp_parse.proofs.Marks.{same_is, same_not}
 use Rattle.tp_parse.proofs.Shapes.{taken, role_end, role_taken, shorter, passed}
 use Rattle.tp_parse.proofs.Heads.{bind_ok, fine, ok_is, chosen, chosen_at, expect_then, deepen_then, fits_then, admit_then, head_sound}
@@ -50,7 +50,7 @@ joined_more all a more =
 module _ (inner : ℕ → Reader Found) (room : ℕ) (sound : (k : ℕ) (ts : Tokens) (p : Found × Tokens) → inner k ts ≡ Ok p → Is room k ts p) where
   -- a phrase, and the mark that is due after it
   part_then : {B : Type 0} (k : ℕ) (close : Mark) (ts : Tokens) (f : Found → Reader B) (y : B × Tokens) → and_then (r.part inner room k close ts) f ≡ Ok y
-      → (p : Found × Tokens) × Is room k ts p × (due p.1 ≡ close) × (f p.0 (past p.1) ≡ Ok y)
+      → (p : Found × Tokens) × Is room k ts p × (mark_due p.1 ≡ close) × (f p.0 (past p.1) ≡ Ok y)
   unfolding r.part
   part_then k close ts f y e =
       let a = bind_ok (r.part inner room k close ts) f y e in
@@ -89,7 +89,7 @@ module _ (inner : ℕ → Reader Found) (room : ℕ) (sound : (k : ℕ) (ts : To
   operands_sound : (k : ℕ) (close : Mark) (ts : Tokens) (p : Operands × Tokens) → r.operands inner room k close ts ≡ Ok p → Listing k close ts p.0 p.1 × (p.0.height ≤ room)
   unfolding r.operands r.others
   operands_sound k close ts p e =
-      elim (chosen (same (due ts) close) _ _ _ e) [
+      elim (chosen (same (mark_due ts) close) _ _ _ e) [
         | inl w ↦ subst (λ (q : Operands × Tokens). Listing k close ts q.0 q.1 × (q.0.height ≤ room)) (ok_is (no_operand, past ts) p w.1) (no_operands (same_is _ _ w.0), omega arith)
         | inr w ↦
             let a = bind_ok (inner k ts) _ p w.1 in
@@ -101,7 +101,7 @@ module _ (inner : ℕ → Reader Found) (room : ℕ) (sound : (k : ℕ) (ts : To
             (operands is.0 all.1 c.0, omega (arith, is.1, all.3))
       ]
 
-  choice_sound : (ts mid : Tokens) (p : Found × Tokens) → Begins ts h.If mid → r.choice inner room (from ts) mid ≡ Ok p → Is (suc room) 0 ts p
+  choice_sound : (ts mid : Tokens) (p : Found × Tokens) → BeginsPrimary ts h.If mid → r.choice inner room (from ts) mid ≡ Ok p → Is (suc room) 0 ts p
   unfolding r.choice r.else_part
   choice_sound ts mid p begins e =
       let b = part_then chop (m.Word word.Then) mid _ p e in
@@ -116,7 +116,7 @@ module _ (inner : ℕ → Reader Found) (room : ℕ) (sound : (k : ℕ) (ts : To
             moved (of_choice (from ts) b.0.0 d.0.0, d.0.1) p w.1 (if_then begins b.1.0 b.2 yes.0 (same_not _ _ w.0), omega (arith, b.1.1, yes.1))
       ]
 
-  primary_by_sound : (x : Head) (ts mid : Tokens) (p : Found × Tokens) → Begins ts x mid → r.primary_by inner room (from ts) x mid ≡ Ok p → Is (suc room) 0 ts p
+  primary_by_sound : (x : Head) (ts mid : Tokens) (p : Found × Tokens) → BeginsPrimary ts x mid → r.primary_by inner room (from ts) x mid ≡ Ok p → Is (suc room) 0 ts p
   primary_by_sound (h.Atom x) ts mid p begins e = moved (of_atom (from ts) x, mid) p e (atom begins, omega arith)
   primary_by_sound (h.Listed x) ts mid p begins e =
       let a = bind_ok (r.operands inner room (listed_level x) (listed_close x) mid) _ p e in

@@ -20,7 +20,7 @@ use Rattle.tp_parse.specs.declared.head.Atom.TheVariants as atom
 use Rattle.tp_parse.specs.declared.head.Listed.TheVariants as listed
 use Rattle.tp_parse.specs.Marks.{same, before, role_at, start_of, chop, comma, listed_level, listed_close, enclosed_level, enclosed_close, middle}
 use Rattle.tp_parse.specs.Input as input
-use Rattle.tp_parse.specs.Input.{Tokens, Outcome, Reader, and_then, ◌>>=◌, pure, mark, from, name, refuse, too_deep, due, past, sees, take, taken_name, lower, any_name, names, names_from, expect, deepen}
+use Rattle.tp_parse.specs.Input.{Tokens, ReadOutcome, Reader, and_then, ◌>>=◌, pure, mark, from, first_name, refuse, too_deep, mark_due, past, sees, take, taken_name, lower, any_name, names, names_from, expect, deepen}
 use Rattle.tp_parse.specs.Head.{name_or_call, counter, head_by, is_high, admit, begins, unfit}
 use Rattle.tp_parse.specs.Found.{Found, Operands, then_operand, operands_of, of_choice, of_choice_else, of_infix, of_index, of_prefix, limit, defined, source_of}
 use Rattle.tp_parse.specs.Reading as r
@@ -35,7 +35,7 @@ Names n (TooDeep k) = (0 < k) × (k ≤ n)
 Names n Unfinished = Unit {0}
 Names n NoMemory = Unit {0}
 
-pub data Within {A : Type 0} (ts : Tokens) : Outcome A → Type 0 where
+pub data Within {A : Type 0} (ts : Tokens) : ReadOutcome A → Type 0 where
   ok : {x : A} {rest : Tokens} → length rest ≤ length ts → Within ts (Ok (x, rest))
   err : {e : Refusal} → Names (length ts) e → Within ts (Err e)
 
@@ -51,11 +51,11 @@ names_more k n (TooDeep i) le is = (is.0, omega (arith, is.1))
 names_more k n Unfinished le is = tt
 names_more k n NoMemory le is = tt
 
-pub more : {A : Type 0} {o : Outcome A} {ts us : Tokens} → length us ≤ length ts → Within us o → Within ts o
+pub more : {A : Type 0} {o : ReadOutcome A} {ts us : Tokens} → length us ≤ length ts → Within us o → Within ts o
 more le (ok is) = ok (omega arith)
 more {ts = ts} {us = us} le (err {e = e} is) = err (names_more (length us) (length ts) e le is)
 
-pub bind : {A B : Type 0} {o : Outcome A} {ts : Tokens} (f : A → Reader B) → Within ts o → ((x : A) (us : Tokens) → Within us (f x us)) → Within ts (and_then o f)
+pub bind : {A B : Type 0} {o : ReadOutcome A} {ts : Tokens} (f : A → Reader B) → Within ts o → ((x : A) (us : Tokens) → Within us (f x us)) → Within ts (and_then o f)
 bind f (ok {x = x} {rest = rest} is) then = more is (then x rest)
 bind f (err is) then = err is
 
@@ -67,7 +67,7 @@ refused (t ∷ ts) = err (omega arith, omega arith)
 pub deep : {A : Type 0} (ts : Tokens) → 0 < length ts → Within {A = A} ts (too_deep ts)
 deep ts some = err (some, omega arith)
 
-pub choose : {A : Type 0} {ts : Tokens} (b : Bool) {x y : Outcome A} → Within ts x → Within ts y → Within ts (cond b x y)
+pub choose : {A : Type 0} {ts : Tokens} (b : Bool) {x y : ReadOutcome A} → Within ts x → Within ts y → Within ts (cond b x y)
 choose true p q = p
 choose false p q = q
 
@@ -89,7 +89,7 @@ stays ts = ok (omega arith)
 
 pub expected : (x : Mark) (ts : Tokens) → Within ts (expect x ts)
 unfolding expect
-expected x ts = choose (same (due ts) x) (ok (passed ts)) (refused ts)
+expected x ts = choose (same (mark_due ts) x) (ok (passed ts)) (refused ts)
 
 pub deepened : (room : ℕ) (ts : Tokens) → 0 < length ts → Within ts (deepen room ts)
 unfolding deepen
@@ -191,7 +191,7 @@ module _ (inner : ℕ → Reader Found) (room : ℕ) (within : (k : ℕ) (ts : T
 
   pub operanded : (k : ℕ) (close : Mark) (ts : Tokens) → Within ts (r.operands inner room k close ts)
   unfolding r.operands r.others
-  operanded k close ts = choose (same (due ts) close) (ok (passed ts))
+  operanded k close ts = choose (same (mark_due ts) close) (ok (passed ts))
       (bind _ (within k ts) (λ x us. bind _ (othered k comma (length us) (operands_of (x.tree ∷ []) x.height) us) (λ all vs. bind _ (expected close vs) (λ w ws. stays ws))))
 
   pub elsed : (at : ℕ) (b x : Found) (ts : Tokens) → Within ts (r.else_part inner room at b x ts)

@@ -1,11 +1,11 @@
 -- A phrase with its height, and how phrases are made of their operands.
-use Rattle.std.specs.Prelude.{ℕ, ◌+◌, max, Bool, List, [], ◌∷◌, ◌++◌, map}
+use Rattle.std.specs.Prelude.{ℕ, ◌+◌, ◌<◌, max, Bool, List, [], ◌∷◌, ◌++◌, map}
 use Rattle.tp_lex.specs.declared.token.Word.TheVariants as word
 use Rattle.tp_lex.specs.declared.token.Symbol.TheVariants as symbol
 use Rattle.tp_tree.specs.declared.operator.Op.{Op}
 use Rattle.tp_tree.specs.Tree as t
 use Rattle.tp_tree.specs.Tree.{PhraseTree, phrase, KindTree, PhraseTrees, no_phrase, phrases_of, DefinitionTree, SourceTree}
-use Rattle.tp_tree.specs.Read.{tree}
+use Rattle.tp_tree.specs.Read.{phrase_tree}
 use Rattle.tp_parse.specs.declared.mark.Mark.{Mark}
 use Rattle.tp_parse.specs.declared.mark.Mark.TheVariants as m
 use Rattle.tp_parse.specs.declared.mark.Enclosure.{Enclosure}
@@ -27,9 +27,13 @@ pub record Found : Type 0 where
 abbrev pub found : PhraseTree → ℕ → Found
 found t h = record { tree = t; height = h }
 
+-- one more than this height is a number of the machine's, with room to spare
+abbrev pub IsLow : ℕ → Type 0
+IsLow height = height < 1000
+
 -- what was read, without where it lies in memory
 abbrev pub seen : Measured → Found
-seen r = found (tree r.phrase) r.height
+seen r = found (phrase_tree r.phrase) r.height
 
 abbrev pub turn_seen : Measured × Bool → Found × Bool
 turn_seen x = (seen x.0, x.1)
@@ -43,7 +47,7 @@ abbrev pub operands_of : List PhraseTree → ℕ → Operands
 operands_of ts h = record { trees = ts; height = h }
 
 abbrev pub all_seen : all.Operands → Operands
-all_seen a = operands_of (map tree a.items.items) a.height
+all_seen a = operands_of (map phrase_tree a.items.items) a.height
 
 abbrev pub no_operand : Operands
 no_operand = operands_of [] 0

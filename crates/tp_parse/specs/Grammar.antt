@@ -24,7 +24,7 @@ use Rattle.tp_parse.specs.declared.head.Head.{Head}
 use Rattle.tp_parse.specs.declared.head.Head.TheVariants as h
 use Rattle.tp_parse.specs.Marks.{before, role_at, start_of, chop, comma, listed_level, listed_close, enclosed_level, enclosed_close, middle}
 use Rattle.tp_parse.specs.Input as input
-use Rattle.tp_parse.specs.Input.{Tokens, mark, from, name, due, past}
+use Rattle.tp_parse.specs.Input.{Tokens, mark, from, first_name, mark_due, past}
 use Rattle.tp_parse.specs.Found.{Found, Operands, no_operand, operand_then, of_atom, of_operands, of_enclosed, of_choice, of_choice_else, of_pair, of_exists, of_prefix, of_infix, of_index, of_chain, limit, defined, source_of}
 
 abbrev pub start : Tokens → Start
@@ -40,46 +40,46 @@ abbrev pub colon : Mark
 colon = m.Symbol symbol.Colon
 
 -- name { "," name }
-pub data Names : Tokens → List (List ℕ) → Tokens → Type 0 where
-  last_name : {ts : Tokens} → (mark ts ≡ m.Upper) ⊎ (mark ts ≡ m.Lower) → mark (drop 1 ts) ≢ comma → Names ts (name ts ∷ []) (drop 1 ts)
-  name_then : {ts rest : Tokens} {xs : List (List ℕ)} → (mark ts ≡ m.Upper) ⊎ (mark ts ≡ m.Lower) → mark (drop 1 ts) ≡ comma → Names (drop 1 (drop 1 ts)) xs rest
-      → Names ts (name ts ∷ xs) rest
+pub data ReadsNames : Tokens → List (List ℕ) → Tokens → Type 0 where
+  last_name : {ts : Tokens} → (mark ts ≡ m.Upper) ⊎ (mark ts ≡ m.Lower) → mark (drop 1 ts) ≢ comma → ReadsNames ts (first_name ts ∷ []) (drop 1 ts)
+  name_then : {ts rest : Tokens} {xs : List (List ℕ)} → (mark ts ≡ m.Upper) ⊎ (mark ts ≡ m.Lower) → mark (drop 1 ts) ≡ comma → ReadsNames (drop 1 (drop 1 ts)) xs rest
+      → ReadsNames ts (first_name ts ∷ xs) rest
 
 -- what a primary begins with: itself, where it has no operands, and else all up to its first operand
-pub data Begins : Tokens → Head → Tokens → Type 0 where
-  number : {ts : Tokens} → start ts ≡ s.Number → Begins ts (h.Atom (a.Number (input.number ts))) (drop 1 ts)
-  truth : {ts : Tokens} {b : _} → start ts ≡ s.Truth b → Begins ts (h.Atom (a.Truth b)) (drop 1 ts)
-  upper_name : {ts : Tokens} → start ts ≡ s.Name → Begins ts (h.Atom (a.Name (name ts))) (drop 1 ts)
-  lower_name : {ts : Tokens} → start ts ≡ s.NameOrCall → mark (drop 1 ts) ≢ open_round → Begins ts (h.Atom (a.Name (name ts))) (drop 1 ts)
-  call : {ts : Tokens} → start ts ≡ s.NameOrCall → mark (drop 1 ts) ≡ open_round → Begins ts (h.Listed (l.Call (name ts))) (drop 1 (drop 1 ts))
-  bare : {ts : Tokens} {w : Bare} → start ts ≡ s.Bare w → Begins ts (h.Atom (a.Bare w)) (drop 1 ts)
-  form : {ts : Tokens} {f : Form} → start ts ≡ s.Form f → due (drop 1 ts) ≡ open_round → Begins ts (h.Listed (l.Form f)) (past (drop 1 ts))
-  empty_list : {ts : Tokens} → start ts ≡ s.EmptyList → Begins ts (h.Atom a.EmptyList) (drop 1 ts)
-  list : {ts : Tokens} → start ts ≡ s.List → Begins ts (h.Listed l.List) (past ts)
-  enclosure : {ts : Tokens} {e : Enclosure} → start ts ≡ s.Enclosed e → Begins ts (h.Enclosed e) (drop 1 ts)
-  if : {ts : Tokens} → start ts ≡ s.If → Begins ts h.If (drop 1 ts)
-  while : {ts : Tokens} → start ts ≡ s.While → Begins ts (h.Paired p.While) (drop 1 ts)
-  repeat : {ts : Tokens} → start ts ≡ s.Repeat → Begins ts (h.Paired p.Repeat) (drop 1 ts)
-  for : {ts : Tokens} → start ts ≡ s.For → mark (drop 1 ts) ≡ m.Lower → due (drop 1 (drop 1 ts)) ≡ m.Symbol symbol.Less
-      → Begins ts (h.Paired (p.For (name (drop 1 ts)))) (past (drop 1 (drop 1 ts)))
-  forall : {ts : Tokens} → start ts ≡ s.Forall → mark (drop 1 ts) ≡ m.Lower → due (drop 1 (drop 1 ts)) ≡ m.Symbol symbol.Less
-      → Begins ts (h.Paired (p.Forall (name (drop 1 ts)))) (past (drop 1 (drop 1 ts)))
-  exists : {ts mid : Tokens} {xs : List (List ℕ)} → start ts ≡ s.Exists → Names (drop 1 ts) xs mid → due mid ≡ colon → Begins ts (h.Exists xs) (past mid)
+pub data BeginsPrimary : Tokens → Head → Tokens → Type 0 where
+  number : {ts : Tokens} → start ts ≡ s.Number → BeginsPrimary ts (h.Atom (a.Number (input.first_number ts))) (drop 1 ts)
+  truth : {ts : Tokens} {b : _} → start ts ≡ s.Truth b → BeginsPrimary ts (h.Atom (a.Truth b)) (drop 1 ts)
+  upper_name : {ts : Tokens} → start ts ≡ s.Name → BeginsPrimary ts (h.Atom (a.Name (first_name ts))) (drop 1 ts)
+  lower_name : {ts : Tokens} → start ts ≡ s.NameOrCall → mark (drop 1 ts) ≢ open_round → BeginsPrimary ts (h.Atom (a.Name (first_name ts))) (drop 1 ts)
+  call : {ts : Tokens} → start ts ≡ s.NameOrCall → mark (drop 1 ts) ≡ open_round → BeginsPrimary ts (h.Listed (l.Call (first_name ts))) (drop 1 (drop 1 ts))
+  bare : {ts : Tokens} {w : Bare} → start ts ≡ s.Bare w → BeginsPrimary ts (h.Atom (a.Bare w)) (drop 1 ts)
+  form : {ts : Tokens} {f : Form} → start ts ≡ s.Form f → mark_due (drop 1 ts) ≡ open_round → BeginsPrimary ts (h.Listed (l.Form f)) (past (drop 1 ts))
+  empty_list : {ts : Tokens} → start ts ≡ s.EmptyList → BeginsPrimary ts (h.Atom a.EmptyList) (drop 1 ts)
+  list : {ts : Tokens} → start ts ≡ s.List → BeginsPrimary ts (h.Listed l.List) (past ts)
+  enclosure : {ts : Tokens} {e : Enclosure} → start ts ≡ s.Enclosed e → BeginsPrimary ts (h.Enclosed e) (drop 1 ts)
+  if : {ts : Tokens} → start ts ≡ s.If → BeginsPrimary ts h.If (drop 1 ts)
+  while : {ts : Tokens} → start ts ≡ s.While → BeginsPrimary ts (h.Paired p.While) (drop 1 ts)
+  repeat : {ts : Tokens} → start ts ≡ s.Repeat → BeginsPrimary ts (h.Paired p.Repeat) (drop 1 ts)
+  for : {ts : Tokens} → start ts ≡ s.For → mark (drop 1 ts) ≡ m.Lower → mark_due (drop 1 (drop 1 ts)) ≡ m.Symbol symbol.Less
+      → BeginsPrimary ts (h.Paired (p.For (first_name (drop 1 ts)))) (past (drop 1 (drop 1 ts)))
+  forall : {ts : Tokens} → start ts ≡ s.Forall → mark (drop 1 ts) ≡ m.Lower → mark_due (drop 1 (drop 1 ts)) ≡ m.Symbol symbol.Less
+      → BeginsPrimary ts (h.Paired (p.Forall (first_name (drop 1 ts)))) (past (drop 1 (drop 1 ts)))
+  exists : {ts mid : Tokens} {xs : List (List ℕ)} → start ts ≡ s.Exists → ReadsNames (drop 1 ts) xs mid → mark_due mid ≡ colon → BeginsPrimary ts (h.Exists xs) (past mid)
 
 mutual
   pub data Parses : ℕ → Tokens → Found → Tokens → Type 0 where
-    atom : {ts rest : Tokens} {x : Atom} → Begins ts (h.Atom x) rest → Parses 0 ts (of_atom (from ts) x) rest
-    listed : {ts mid rest : Tokens} {x : Listed} {all : Operands} → Begins ts (h.Listed x) mid → Listing (listed_level x) (listed_close x) mid all rest
+    atom : {ts rest : Tokens} {x : Atom} → BeginsPrimary ts (h.Atom x) rest → Parses 0 ts (of_atom (from ts) x) rest
+    listed : {ts mid rest : Tokens} {x : Listed} {all : Operands} → BeginsPrimary ts (h.Listed x) mid → Listing (listed_level x) (listed_close x) mid all rest
         → Parses 0 ts (of_operands (from ts) x all) rest
-    enclosed : {ts mid end : Tokens} {e : Enclosure} {x : Found} → Begins ts (h.Enclosed e) mid → Parses (enclosed_level e) mid x end → due end ≡ enclosed_close e
+    enclosed : {ts mid end : Tokens} {e : Enclosure} {x : Found} → BeginsPrimary ts (h.Enclosed e) mid → Parses (enclosed_level e) mid x end → mark_due end ≡ enclosed_close e
         → Parses 0 ts (of_enclosed (from ts) e x) (past end)
-    if_then : {ts mid then rest : Tokens} {b x : Found} → Begins ts h.If mid → Parses chop mid b then → due then ≡ m.Word word.Then → Parses chop (past then) x rest
+    if_then : {ts mid then rest : Tokens} {b x : Found} → BeginsPrimary ts h.If mid → Parses chop mid b then → mark_due then ≡ m.Word word.Then → Parses chop (past then) x rest
         → mark rest ≢ m.Word word.Else → Parses 0 ts (of_choice (from ts) b x) rest
-    if_else : {ts mid then else rest : Tokens} {b x y : Found} → Begins ts h.If mid → Parses chop mid b then → due then ≡ m.Word word.Then → Parses chop (past then) x else
+    if_else : {ts mid then else rest : Tokens} {b x y : Found} → BeginsPrimary ts h.If mid → Parses chop mid b then → mark_due then ≡ m.Word word.Then → Parses chop (past then) x else
         → mark else ≡ m.Word word.Else → Parses chop (drop 1 else) y rest → Parses 0 ts (of_choice_else (from ts) b x y) rest
-    paired : {ts mid next rest : Tokens} {q : Pair} {x y : Found} → Begins ts (h.Paired q) mid → Parses chop mid x next → due next ≡ middle q → Parses chop (past next) y rest
+    paired : {ts mid next rest : Tokens} {q : Pair} {x y : Found} → BeginsPrimary ts (h.Paired q) mid → Parses chop mid x next → mark_due next ≡ middle q → Parses chop (past next) y rest
         → Parses 0 ts (of_pair (from ts) q x y) rest
-    quantified : {ts mid rest : Tokens} {xs : List (List ℕ)} {x : Found} → Begins ts (h.Exists xs) mid → Parses chop mid x rest → Parses 0 ts (of_exists (from ts) xs x) rest
+    quantified : {ts mid rest : Tokens} {xs : List (List ℕ)} {x : Found} → BeginsPrimary ts (h.Exists xs) mid → Parses chop mid x rest → Parses 0 ts (of_exists (from ts) xs x) rest
     prefixed : {k : ℕ} {ts rest : Tokens} {x : Found} → before (mark ts) ≡ suc k → Parses (suc k) (drop 1 ts) x rest → Parses (suc k) ts (of_prefix (from ts) (mark ts) x) rest
     level : {k : ℕ} {ts mid rest : Tokens} {x t : Found} → Parses k ts x mid → Goes (suc k) (from ts) x mid t rest → Parses (suc k) ts t rest
 
@@ -92,7 +92,7 @@ mutual
         → Goes k at x ts (of_infix at o x y) rest
     right : {k at j : ℕ} {o : Op} {x y : Found} {ts rest : Tokens} → role_at k (mark ts) ≡ Infix j Right o → Parses k (drop 1 ts) y rest
         → Goes k at x ts (of_infix at o x y) rest
-    indexed : {k at : ℕ} {x i t : Found} {ts end rest : Tokens} → role_at k (mark ts) ≡ Opens → Parses chop (drop 1 ts) i end → due end ≡ m.Symbol symbol.CloseSquare
+    indexed : {k at : ℕ} {x i t : Found} {ts end rest : Tokens} → role_at k (mark ts) ≡ Opens → Parses chop (drop 1 ts) i end → mark_due end ≡ m.Symbol symbol.CloseSquare
         → Goes k at (of_index at x i) (past end) t rest → Goes k at x ts t rest
     joins : {k at : ℕ} {x : Found} {all : Operands} {ts rest : Tokens} → role_at k (mark ts) ≡ Joins → Others (k - 1) (m.Word word.And) ts all rest
         → Goes k at x ts (of_chain at (operand_then x all)) rest
@@ -105,24 +105,24 @@ mutual
 
   -- [ operand { "," operand } ] close
   pub data Listing : ℕ → Mark → Tokens → Operands → Tokens → Type 0 where
-    no_operands : {k : ℕ} {close : Mark} {ts : Tokens} → due ts ≡ close → Listing k close ts no_operand (past ts)
-    operands : {k : ℕ} {close : Mark} {x : Found} {all : Operands} {ts mid end : Tokens} → Parses k ts x mid → Others k comma mid all end → due end ≡ close
+    no_operands : {k : ℕ} {close : Mark} {ts : Tokens} → mark_due ts ≡ close → Listing k close ts no_operand (past ts)
+    operands : {k : ℕ} {close : Mark} {x : Found} {all : Operands} {ts mid end : Tokens} → Parses k ts x mid → Others k comma mid all end → mark_due end ≡ close
         → Listing k close ts (operand_then x all) (past end)
 
 -- [ name { "," name } ] ")"
 pub data Parameters : Tokens → List (List ℕ) → Tokens → Type 0 where
   no_parameters : {ts : Tokens} → mark ts ≡ close_round → Parameters ts [] (drop 1 ts)
-  parameters : {ts mid : Tokens} {xs : List (List ℕ)} → Names ts xs mid → due mid ≡ close_round → Parameters ts xs (past mid)
+  parameters : {ts mid : Tokens} {xs : List (List ℕ)} → ReadsNames ts xs mid → mark_due mid ≡ close_round → Parameters ts xs (past mid)
 
 -- a phrase of any kind, and the `.` after it
 pub data Sentence : Tokens → Found → Tokens → Type 0 where
-  sentence : {ts end : Tokens} {x : Found} → Parses chop ts x end → due end ≡ m.Symbol symbol.Stop → Sentence ts x (past end)
+  sentence : {ts end : Tokens} {x : Found} → Parses chop ts x end → mark_due end ≡ m.Symbol symbol.Stop → Sentence ts x (past end)
 
 -- a definition, and the height of its body
 pub data Defines : Tokens → DefinitionTree → ℕ → Tokens → Type 0 where
-  defines : {ts mid rest : Tokens} {xs : List (List ℕ)} {x : Found} → mark ts ≡ m.Word word.Define → mark (drop 1 ts) ≡ m.Lower → due (drop 1 (drop 1 ts)) ≡ open_round
-      → Parameters (past (drop 1 (drop 1 ts))) xs mid → due mid ≡ m.Symbol symbol.Equal → Sentence (past mid) x rest
-      → Defines ts (defined (name (drop 1 ts)) (from ts) xs x.tree) x.height rest
+  defines : {ts mid rest : Tokens} {xs : List (List ℕ)} {x : Found} → mark ts ≡ m.Word word.Define → mark (drop 1 ts) ≡ m.Lower → mark_due (drop 1 (drop 1 ts)) ≡ open_round
+      → Parameters (past (drop 1 (drop 1 ts))) xs mid → mark_due mid ≡ m.Symbol symbol.Equal → Sentence (past mid) x rest
+      → Defines ts (defined (first_name (drop 1 ts)) (from ts) xs x.tree) x.height rest
 
 -- definitions in order, and the greatest height of their bodies, or 0
 pub data Definitions : Tokens → List DefinitionTree → ℕ → Tokens → Type 0 where
@@ -132,7 +132,7 @@ pub data Definitions : Tokens → List DefinitionTree → ℕ → Tokens → Typ
 
 -- all of the tokens are this source, whose highest phrase has this height
 pub data IsSource : Tokens → SourceTree → ℕ → Type 0 where
-  source : {ts mid rest : Tokens} {ds : List DefinitionTree} {x : Found} {i : ℕ} → Definitions ts ds i mid → due mid ≡ m.Word word.Run → Sentence (past mid) x rest → rest ≡ []
+  source : {ts mid rest : Tokens} {ds : List DefinitionTree} {x : Found} {i : ℕ} → Definitions ts ds i mid → mark_due mid ≡ m.Word word.Run → Sentence (past mid) x rest → rest ≡ []
       → IsSource ts (source_of ds x.tree) (max i x.height)
 
 -- the tokens are this source, and no phrase of it is too high

@@ -13,10 +13,10 @@ use Rattle.tp_parse.specs.declared.head.Pair.TheVariants as pair
 use Rattle.tp_parse.specs.declared.refusal.Refusal.{Refusal}
 use Rattle.tp_parse.specs.declared.refusal.Refusal.TheVariants.{TooDeep}
 use Rattle.tp_parse.specs.Marks.{before, start_of}
-use Rattle.tp_parse.specs.Input.{Tokens, Reader, ◌>>=◌, pure, mark, number, name, refusal, refuse, sees, take, past, expect, taken_name, lower, names, deepen}
+use Rattle.tp_parse.specs.Input.{Tokens, Reader, ◌>>=◌, pure, mark, first_number, first_name, refusal, refuse, sees, take, past, expect, taken_name, lower, names, deepen}
 
-abbrev pub taken : Head → Reader Head
-taken h = λ ts. Ok (h, drop 1 ts)
+abbrev pub head_taken : Head → Reader Head
+head_taken h = λ ts. Ok (h, drop 1 ts)
 
 unfoldable pub name_or_call : Reader Head
 name_or_call = do
@@ -33,21 +33,21 @@ counter = do
 
 abbrev pub head_by : Start → Reader Head
 head_by s.Nothing = refuse
-head_by s.Number = λ ts. Ok (Atom (atom.Number (number ts)), drop 1 ts)
-head_by s.Name = λ ts. Ok (Atom (atom.Name (name ts)), drop 1 ts)
+head_by s.Number = λ ts. Ok (Atom (atom.Number (first_number ts)), drop 1 ts)
+head_by s.Name = λ ts. Ok (Atom (atom.Name (first_name ts)), drop 1 ts)
 head_by s.NameOrCall = name_or_call
-head_by (s.Truth b) = taken (Atom (atom.Truth b))
-head_by (s.Bare w) = taken (Atom (atom.Bare w))
-head_by s.EmptyList = taken (Atom atom.EmptyList)
+head_by (s.Truth b) = head_taken (Atom (atom.Truth b))
+head_by (s.Bare w) = head_taken (Atom (atom.Bare w))
+head_by s.EmptyList = head_taken (Atom atom.EmptyList)
 head_by s.List = λ ts. Ok (Listed listed.List, past ts)
 head_by (s.Form f) = do
   _word ← take
   _open ← expect (m.Symbol symbol.OpenRound)
   pure (Listed (listed.Form f))
-head_by (s.Enclosed e) = taken (Enclosed e)
-head_by s.If = taken If
-head_by s.While = taken (Paired pair.While)
-head_by s.Repeat = taken (Paired pair.Repeat)
+head_by (s.Enclosed e) = head_taken (Enclosed e)
+head_by s.If = head_taken If
+head_by s.While = head_taken (Paired pair.While)
+head_by s.Repeat = head_taken (Paired pair.Repeat)
 head_by s.For = do
   x ← counter
   pure (Paired (pair.For x))

@@ -8,18 +8,18 @@ use Rattle.tp_parse.specs.declared.mark.Mark.{Mark}
 use Rattle.tp_parse.specs.declared.mark.Mark.TheVariants as m
 use Rattle.tp_parse.specs.declared.refusal.Refusal.{Refusal}
 use Rattle.tp_parse.specs.declared.refusal.Refusal.TheVariants.{Unexpected, Unfinished, TooDeep, NoMemory}
-use Rattle.tp_parse.specs.Marks.{mark_of, same, first_half, second_half}
+use Rattle.tp_parse.specs.Marks.{kind_mark, same, first_half, second_half}
 
 abbrev pub Tokens : Type 0
 Tokens = List Token
 
-abbrev pub Outcome : Type 0 → Type 0
-Outcome A = Result (A × Tokens) Refusal
+abbrev pub ReadOutcome : Type 0 → Type 0
+ReadOutcome A = Result (A × Tokens) Refusal
 
 abbrev pub Reader : Type 0 → Type 0
-Reader A = Tokens → Outcome A
+Reader A = Tokens → ReadOutcome A
 
-abbrev pub and_then : {A B : Type 0} → Outcome A → (A → Reader B) → Outcome B
+abbrev pub and_then : {A B : Type 0} → ReadOutcome A → (A → Reader B) → ReadOutcome B
 and_then (Ok p) f = f p.0 p.1
 and_then (Err e) f = Err e
 
@@ -34,29 +34,29 @@ pure a = λ ts. Ok (a, ts)
 
 unfoldable pub mark : Tokens → Mark
 mark [] = m.End
-mark (t ∷ ts) = mark_of t.kind
+mark (t ∷ ts) = kind_mark t.kind
 
 -- the place of its first byte
 unfoldable pub from : Tokens → ℕ
 from [] = 0
 from (t ∷ ts) = t.from
 
-abbrev pub number_of : Kind → ℤ
-number_of (kind.Number n) = n
-number_of _ = pos 0
+abbrev pub kind_number : Kind → ℤ
+kind_number (kind.Number n) = n
+kind_number _ = pos 0
 
-unfoldable pub number : Tokens → ℤ
-number [] = pos 0
-number (t ∷ ts) = number_of t.kind
+unfoldable pub first_number : Tokens → ℤ
+first_number [] = pos 0
+first_number (t ∷ ts) = kind_number t.kind
 
-abbrev pub name_of : Kind → List ℕ
-name_of (kind.Upper x) = x
-name_of (kind.Lower x) = x
-name_of _ = []
+abbrev pub kind_name : Kind → List ℕ
+kind_name (kind.Upper x) = x
+kind_name (kind.Lower x) = x
+kind_name _ = []
 
-unfoldable pub name : Tokens → List ℕ
-name [] = []
-name (t ∷ ts) = name_of t.kind
+unfoldable pub first_name : Tokens → List ℕ
+first_name [] = []
+first_name (t ∷ ts) = kind_name t.kind
 
 unfoldable pub refusal : Tokens → Refusal
 refusal [] = Unfinished
@@ -98,20 +98,20 @@ abbrev pub half_mark : Mark → Mark
 half_mark (m.Symbol x) = m.Symbol (first_half x)
 half_mark x = x
 
-abbrev pub due : Tokens → Mark
-due ts = half_mark (mark ts)
+abbrev pub mark_due : Tokens → Mark
+mark_due ts = half_mark (mark ts)
 
 -- the tokens after the next one or its first half
 unfoldable pub past : Tokens → Tokens
-past ts = if same (due ts) (mark ts) then drop 1 ts else left_of true ts
+past ts = if same (mark_due ts) (mark ts) then drop 1 ts else left_of true ts
 
 unfoldable pub expect : Mark → Reader (Unit {0})
-expect x = λ ts. if same (due ts) x then Ok (tt, past ts) else refuse ts
+expect x = λ ts. if same (mark_due ts) x then Ok (tt, past ts) else refuse ts
 
 -- ---- names
 
 abbrev pub taken_name : Reader (List ℕ)
-taken_name = λ ts. Ok (name ts, drop 1 ts)
+taken_name = λ ts. Ok (first_name ts, drop 1 ts)
 
 unfoldable pub lower : Reader (List ℕ)
 lower = λ ts. if sees m.Lower ts then taken_name ts else refuse ts
@@ -141,6 +141,6 @@ deepen zero = too_deep
 deepen (suc n) = pure tt
 
 -- What a function returned, seen by view, and what it left is what reading gives, unless memory ran out.
-abbrev pub Reads : {X Y : Type 0} → (X → Y) → Outcome Y → Result X Refusal → Tokens → Type 0
-Reads view outcome (Ok x) rest = outcome ≡ Ok (view x, rest)
-Reads view outcome (Err e) rest = e ≢ NoMemory → outcome ≡ Err e
+abbrev pub ReturnsReading : {X Y : Type 0} → (X → Y) → ReadOutcome Y → Result X Refusal → Tokens → Type 0
+ReturnsReading view outcome (Ok x) rest = outcome ≡ Ok (view x, rest)
+ReturnsReading view outcome (Err e) rest = e ≢ NoMemory → outcome ≡ Err e

@@ -27,12 +27,12 @@ use Rattle.tp_parse.specs.declared.head.Listed.TheVariants as listed
 use Rattle.tp_parse.specs.declared.head.Pair.{Pair}
 use Rattle.tp_parse.specs.declared.head.Pair.TheVariants as pair
 
-abbrev pub mark_of : Kind → Mark
-mark_of (kind.Upper t) = m.Upper
-mark_of (kind.Lower t) = m.Lower
-mark_of (kind.Number n) = m.Number
-mark_of (kind.Word w) = m.Word w
-mark_of (kind.Symbol s) = m.Symbol s
+abbrev pub kind_mark : Kind → Mark
+kind_mark (kind.Upper t) = m.Upper
+kind_mark (kind.Lower t) = m.Lower
+kind_mark (kind.Number n) = m.Number
+kind_mark (kind.Word w) = m.Word w
+kind_mark (kind.Symbol s) = m.Symbol s
 
 -- whether two marks are one
 unfoldable pub same : Mark → Mark → Bool

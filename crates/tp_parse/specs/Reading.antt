@@ -12,7 +12,7 @@ use Rattle.tp_parse.specs.declared.mark.Way.TheVariants.{Left, Right}
 use Rattle.tp_parse.specs.declared.head.Head.{Head}
 use Rattle.tp_parse.specs.declared.head.Head.TheVariants as h
 use Rattle.tp_parse.specs.Marks.{before, role_at, start_of, same, chop, comma, listed_level, listed_close, enclosed_level, enclosed_close, middle}
-use Rattle.tp_parse.specs.Input.{Reader, ◌>>=◌, pure, mark, from, too_deep, sees, due, take, past, expect, deepen}
+use Rattle.tp_parse.specs.Input.{Reader, ◌>>=◌, pure, mark, from, too_deep, sees, mark_due, take, past, expect, deepen}
 use Rattle.tp_parse.specs.Head.{head_by, admit, unfit}
 use Rattle.tp_parse.specs.Found.{Found, Operands, no_operand, then_operand, operands_of, of_atom, of_operands, of_enclosed, of_choice, of_choice_else, of_pair, of_exists, of_prefix, of_infix, of_index, of_chain}
 
@@ -56,7 +56,7 @@ module _ (inner : ℕ → Reader Found) (room : ℕ) where
 
   -- any number of operands, with commas between them and the mark after them
   unfoldable pub operands : ℕ → Mark → Reader Operands
-  operands k close = λ ts. if same (due ts) close then Ok (no_operand, past ts) else (do
+  operands k close = λ ts. if same (mark_due ts) close then Ok (no_operand, past ts) else (do
     first ← inner k
     all ← others k comma first
     _closed ← expect close

@@ -11,7 +11,7 @@ use Rattle.tp_parse.specs.declared.refusal.Refusal.{Refusal}
 use Rattle.tp_parse.specs.declared.refusal.Refusal.TheVariants as r
 use Rattle.tp_parse.specs.declared.refusal.ParseRefusal.{ParseRefusal}
 use Rattle.tp_parse.specs.declared.refusal.ParseRefusal.TheVariants as named_at
-use Rattle.tp_parse.specs.Input.{Tokens, Outcome, Reader, ◌>>=◌, pure, from, refusal, sees, take, expect, lower, names}
+use Rattle.tp_parse.specs.Input.{Tokens, ReadOutcome, Reader, ◌>>=◌, pure, from, refusal, sees, take, expect, lower, names}
 use Rattle.tp_parse.specs.Marks.{chop}
 use Rattle.tp_parse.specs.Found.{limit, defined, source_of}
 use Rattle.tp_parse.specs.Reading.{read}
@@ -73,12 +73,12 @@ named count (r.TooDeep left) = named_at.TooDeep (count - left)
 named count r.NoMemory = named_at.NoMemory
 
 -- the source that the tokens are, or why they are none
-abbrev pub outcome_by : ℕ → Outcome SourceTree → Result SourceTree ParseRefusal
+abbrev pub outcome_by : ℕ → ReadOutcome SourceTree → Result SourceTree ParseRefusal
 outcome_by count (Ok s) = Ok s.0
 outcome_by count (Err e) = Err (named count e)
 
-abbrev pub outcome_of : Tokens → Result SourceTree ParseRefusal
-outcome_of ts = outcome_by (length ts) (source ts)
+abbrev pub parse_outcome : Tokens → Result SourceTree ParseRefusal
+parse_outcome ts = outcome_by (length ts) (source ts)
 
 -- What a function returned, seen as its tree, is the outcome, unless memory ran out.
 abbrev pub IsOutcome : Result SourceTree ParseRefusal → Result Source ParseRefusal → Type 0

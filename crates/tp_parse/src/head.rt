@@ -2,7 +2,7 @@
 ghost use Rattle.std.specs.Prelude.{◌≡◌, OnOk, ◌<◌, IsTrue, drop};
 ghost use Rattle.tp_parse.specs.Marks as marks;
 ghost use Rattle.tp_parse.specs.Head as spec;
-ghost use Rattle.tp_parse.specs.Input.{Reads};
+ghost use Rattle.tp_parse.specs.Input.{ReturnsReading};
 
 use crate::mark::{Enclosure, Mark, Start, before, start_of};
 use crate::parser::Parser;
@@ -53,7 +53,7 @@ pub enum Head {
 impl Parser<'_> {
     /// Takes what a primary begins with, where the next token begins it so.
     pub fn head(&mut self, alloc: Global, start: Start) -> Result<Head, Refusal>
-        ensures { Reads (λ h. h) (spec.head_by start self.old) result self.new }
+        ensures { ReturnsReading (λ h. h) (spec.head_by start self.old) result self.new }
     {
         match start {
             Start::Nothing => Err(self.refusal()),
@@ -102,7 +102,7 @@ impl Parser<'_> {
     /// Takes a name, and the `(` of a call where it follows.
     #[tactic(auto, unfolding(crate::specs::Head::name_or_call))]
     fn name_or_call(&mut self, alloc: Global) -> Result<Head, Refusal>
-        ensures { Reads (λ h. h) (spec.name_or_call self.old) result self.new }
+        ensures { ReturnsReading (λ h. h) (spec.name_or_call self.old) result self.new }
     {
         let name = self.taken_name(alloc)?;
         if self.sees(Mark::Symbol(Symbol::OpenRound)) {
@@ -116,7 +116,7 @@ impl Parser<'_> {
     /// Takes a loop's word, its variable and the `<` after it.
     #[tactic(auto, unfolding(crate::specs::Head::counter))]
     fn counter(&mut self, alloc: Global) -> Result<Text, Refusal>
-        ensures { Reads (λ x. x) (spec.counter self.old) result self.new }
+        ensures { ReturnsReading (λ x. x) (spec.counter self.old) result self.new }
     {
         self.take();
         let name = self.lower(alloc)?;
@@ -127,7 +127,7 @@ impl Parser<'_> {
     /// Refuses what can't be 1 high where its operands have no room.
     #[tactic(auto, unfolding(crate::specs::Head::admit))]
     pub fn admit(&self, room: u8, start: Start) -> Result<(), Refusal>
-        ensures reads { Reads (λ u. u) (spec.admit room start self.now) result self.now }
+        ensures reads { ReturnsReading (λ u. u) (spec.admit room start self.now) result self.now }
         ensures high { OnOk result (IsTrue (spec.is_high start) → 0 < room) }
     {
         if is_high(start) {

@@ -66,7 +66,7 @@ pub enum Start {
 }
 
 pub fn mark_of(kind: &Kind) -> Mark
-    ensures { result ≡ spec.mark_of kind.now }
+    ensures { result ≡ spec.kind_mark kind.now }
 {
     match kind {
         Kind::Upper(_) => Mark::Upper,

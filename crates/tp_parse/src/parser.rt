@@ -1,7 +1,7 @@
 // What is left of the tokens, and the steps that take them.
 ghost use Rattle.std.specs.Prelude.{◌≡◌, ◌<◌, drop, length, IfOk, OnOk};
 ghost use Rattle.tp_parse.specs.Input as spec;
-ghost use Rattle.tp_parse.specs.Input.{Reads};
+ghost use Rattle.tp_parse.specs.Input.{ReturnsReading};
 ghost use Rattle.tp_parse.specs.declared.refusal.Refusal.TheVariants.{TooDeep};
 
 use crate::mark::{Mark, first_half, mark_of, same, second_half};
@@ -81,9 +81,9 @@ impl<'a> Parser<'a> {
     }
 
     /// The next token's number, or 0 where it is none.
-    #[tactic(auto, unfolding(crate::specs::Input::number))]
+    #[tactic(auto, unfolding(crate::specs::Input::first_number))]
     pub fn number(&self) -> Number
-        ensures { result ≡ spec.number self.now }
+        ensures { result ≡ spec.first_number self.now }
     {
         match self.tokens {
             [] => 0,
@@ -95,9 +95,9 @@ impl<'a> Parser<'a> {
     }
 
     /// The next token's name, or the empty text where it is none.
-    #[tactic(auto, unfolding(crate::specs::Input::name))]
+    #[tactic(auto, unfolding(crate::specs::Input::first_name))]
     pub fn name(&self, alloc: Global) -> Result<Text, NoMemory>
-        ensures { IfOk result (λ t. t ≡ spec.name self.now) }
+        ensures { IfOk result (λ t. t ≡ spec.first_name self.now) }
     {
         match self.tokens {
             [] => Ok(Text::new(alloc)),
@@ -118,7 +118,7 @@ impl<'a> Parser<'a> {
 
     /// The next token's mark, or that of its first half.
     pub fn due(&self) -> Mark
-        ensures { result ≡ spec.due self.now }
+        ensures { result ≡ spec.mark_due self.now }
     {
         match self.mark() {
             Mark::Symbol(symbol) => Mark::Symbol(first_half(symbol)),
@@ -163,7 +163,7 @@ impl<'a> Parser<'a> {
     /// Takes this mark, which is due.
     #[tactic(auto, unfolding(crate::specs::Input::expect))]
     pub fn expect(&mut self, mark: Mark) -> Result<(), Refusal>
-        ensures { Reads (λ u. u) (spec.expect mark self.old) result self.new }
+        ensures { ReturnsReading (λ u. u) (spec.expect mark self.old) result self.new }
     {
         if same(self.due(), mark) {
             self.pass();
@@ -176,7 +176,7 @@ impl<'a> Parser<'a> {
     /// Where operands of this room are due: none are, if it is 0.
     #[tactic(auto, unfolding(crate::specs::Input::deepen))]
     pub fn deepen(&self, room: u8) -> Result<(), Refusal>
-        ensures reads { Reads (λ u. u) (spec.deepen room self.now) result self.now }
+        ensures reads { ReturnsReading (λ u. u) (spec.deepen room self.now) result self.now }
         ensures some { OnOk result (0 < room) }
     {
         if room == 0 {
@@ -194,7 +194,7 @@ impl<'a> Parser<'a> {
     /// Takes a name that begins with a lower-case letter.
     #[tactic(auto, unfolding(crate::specs::Input::lower))]
     pub fn lower(&mut self, alloc: Global) -> Result<Text, Refusal>
-        ensures { Reads (λ t. t) (spec.lower self.old) result self.new }
+        ensures { ReturnsReading (λ t. t) (spec.lower self.old) result self.new }
     {
         if self.sees(Mark::Lower) {
             self.taken_name(alloc)
@@ -206,7 +206,7 @@ impl<'a> Parser<'a> {
     /// Takes a name.
     #[tactic(auto, unfolding(crate::specs::Input::any_name))]
     fn any_name(&mut self, alloc: Global) -> Result<Text, Refusal>
-        ensures { Reads (λ t. t) (spec.any_name self.old) result self.new }
+        ensures { ReturnsReading (λ t. t) (spec.any_name self.old) result self.new }
     {
         if self.sees(Mark::Upper) || self.sees(Mark::Lower) {
             self.taken_name(alloc)
@@ -217,7 +217,7 @@ impl<'a> Parser<'a> {
 
     /// Takes the next token, and gives its name.
     pub fn taken_name(&mut self, alloc: Global) -> Result<Text, Refusal>
-        ensures { Reads (λ t. t) (spec.taken_name self.old) result self.new }
+        ensures { ReturnsReading (λ t. t) (spec.taken_name self.old) result self.new }
     {
         let name = self.name(alloc)?;
         self.take();
@@ -226,7 +226,7 @@ impl<'a> Parser<'a> {
 
     /// Takes names with commas between them, at least one.
     pub fn names(&mut self, alloc: Global) -> Result<Texts, Refusal>
-        ensures { Reads (λ t. t) (spec.names self.old) result self.new }
+        ensures { ReturnsReading (λ t. t) (spec.names self.old) result self.new }
     {
         let mut items = Vec::new(alloc);
         items.push(self.any_name(alloc)?)?;

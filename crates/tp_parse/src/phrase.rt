@@ -2,7 +2,7 @@
 ghost use Rattle.std.specs.Prelude.{◌≡◌, ◌+◌, ◌≤◌, ◌<◌, ◌≢◌, ℕ, IfOk, OnOk};
 ghost use Rattle.tp_parse.specs.Marks as marks;
 ghost use Rattle.tp_parse.specs.Input as input;
-ghost use Rattle.tp_parse.specs.Input.{Reads};
+ghost use Rattle.tp_parse.specs.Input.{ReturnsReading};
 ghost use Rattle.tp_parse.specs.Found.{seen, turn_seen, all_seen};
 ghost use Rattle.tp_parse.specs.Reading as spec;
 ghost use Rattle.tp_parse.specs.declared.head.Head.TheVariants.{Paired};
@@ -27,7 +27,7 @@ impl Parser<'_> {
     #[cycle(phrase)]
     pub fn phrase(&mut self, alloc: Global, level: u8, room: u8) -> Result<Measured, Refusal>
         requires { level ≤ 10 }
-        ensures reads { Reads seen (spec.read room level self.old) result self.new }
+        ensures reads { ReturnsReading seen (spec.read room level self.old) result self.new }
         ensures low { IfOk result (λ r. r.height ≤ room) }
     {
         if room == 0 {
@@ -48,7 +48,8 @@ impl Parser<'_> {
     fn first(&mut self, alloc: Global, level: u8, room: u8) -> Result<Measured, Refusal>
         requires low { level ≤ 10 }
         requires own { 0 < level → marks.before (input.mark self.old) ≡ level }
-        ensures reads { Reads seen (spec.first (spec.read room) room level self.old) result self.new }
+        ensures reads { ReturnsReading seen (spec.first (spec.read room) room level self.old) result
+            self.new }
         ensures low { IfOk result (λ r. r.height ≤ room + 1) }
     {
         if level == 0 {
@@ -65,7 +66,8 @@ impl Parser<'_> {
     #[cycle(phrase)]
     #[tactic(auto, unfolding(crate::specs::Reading::primary))]
     fn primary(&mut self, alloc: Global, room: u8) -> Result<Measured, Refusal>
-        ensures reads { Reads seen (spec.primary (spec.read room) room self.old) result self.new }
+        ensures reads { ReturnsReading seen (spec.primary (spec.read room) room self.old) result
+            self.new }
         ensures low { IfOk result (λ r. r.height ≤ room + 1) }
     {
         let at = self.from();
@@ -84,7 +86,8 @@ impl Parser<'_> {
         at: u32,
         head: Head,
     ) -> Result<Measured, Refusal>
-        ensures reads { Reads seen (spec.primary_by (spec.read room) room at head self.old) result self.new }
+        ensures reads { ReturnsReading seen (spec.primary_by (spec.read room) room at head self.old)
+            result self.new }
         ensures low { IfOk result (λ r. r.height ≤ room + 1) }
     {
         match head {
@@ -112,7 +115,8 @@ impl Parser<'_> {
     /// The operands of a primary that has two.
     #[cycle(phrase)]
     fn paired(&mut self, alloc: Global, room: u8, at: u32, pair: Pair) -> Result<Measured, Refusal>
-        ensures reads { Reads seen (spec.primary_by (spec.read room) room at (Paired pair) self.old) result self.new }
+        ensures reads { ReturnsReading seen
+            (spec.primary_by (spec.read room) room at (Paired pair) self.old) result self.new }
         ensures low { IfOk result (λ r. r.height ≤ room + 1) }
     {
         let first = self.part(alloc, CHOP, middle(&pair), room)?;
@@ -124,7 +128,8 @@ impl Parser<'_> {
     #[cycle(phrase)]
     #[tactic(auto, unfolding(crate::specs::Reading::choice))]
     fn choice(&mut self, alloc: Global, room: u8, at: u32) -> Result<Measured, Refusal>
-        ensures reads { Reads seen (spec.choice (spec.read room) room at self.old) result self.new }
+        ensures reads { ReturnsReading seen (spec.choice (spec.read room) room at self.old) result
+            self.new }
         ensures low { IfOk result (λ r. r.height ≤ room + 1) }
     {
         let condition = self.part(alloc, CHOP, Mark::Word(Word::Then), room)?;
@@ -144,7 +149,9 @@ impl Parser<'_> {
         first: Measured,
     ) -> Result<Measured, Refusal>
         requires { (condition.height ≤ room) × (first.height ≤ room) }
-        ensures reads { Reads seen (spec.else_part (spec.read room) room at (seen condition) (seen first) self.old) result self.new }
+        ensures reads { ReturnsReading seen
+            (spec.else_part (spec.read room) room at (seen condition) (seen first) self.old) result
+            self.new }
         ensures low { IfOk result (λ r. r.height ≤ room + 1) }
     {
         if !self.sees(Mark::Word(Word::Else)) {
@@ -160,7 +167,8 @@ impl Parser<'_> {
     #[tactic(auto, unfolding(crate::specs::Reading::part))]
     fn part(&mut self, alloc: Global, level: u8, close: Mark, room: u8) -> Result<Measured, Refusal>
         requires { level ≤ 10 }
-        ensures reads { Reads seen (spec.part (spec.read room) room level close self.old) result self.new }
+        ensures reads { ReturnsReading seen (spec.part (spec.read room) room level close self.old)
+            result self.new }
         ensures low { IfOk result (λ r. r.height ≤ room) }
     {
         let operand = self.phrase(alloc, level, room)?;
@@ -179,7 +187,8 @@ impl Parser<'_> {
         room: u8,
     ) -> Result<Operands, Refusal>
         requires { level ≤ 10 }
-        ensures reads { Reads all_seen (spec.operands (spec.read room) room level close self.old) result self.new }
+        ensures reads { ReturnsReading all_seen
+            (spec.operands (spec.read room) room level close self.old) result self.new }
         ensures low { IfOk result (λ r. r.height ≤ room) }
     {
         if same(self.due(), close) {
@@ -207,7 +216,9 @@ impl Parser<'_> {
     ) -> Result<Operands, Refusal>
         requires level { level ≤ 10 }
         requires low { first.height ≤ room }
-        ensures reads { Reads all_seen (spec.others (spec.read room) room level separator (seen first) self.old) result self.new }
+        ensures reads { ReturnsReading all_seen
+            (spec.others (spec.read room) room level separator (seen first) self.old) result
+            self.new }
         ensures low { IfOk result (λ r. r.height ≤ room) }
     {
         let mut height = first.height;
@@ -237,7 +248,8 @@ impl Parser<'_> {
     ) -> Result<Measured, Refusal>
         requires level { (0 < level) × (level ≤ 10) }
         requires low { first.height ≤ room + 1 }
-        ensures reads { Reads seen (spec.operations (spec.read room) room level at (seen first) self.old) result self.new }
+        ensures reads { ReturnsReading seen
+            (spec.operations (spec.read room) room level at (seen first) self.old) result self.new }
         ensures low { IfOk result (λ r. r.height ≤ room + 1) }
     {
         let mut left = first;
@@ -264,7 +276,8 @@ impl Parser<'_> {
     ) -> Result<(Measured, bool), Refusal>
         requires level { (0 < level) × (level ≤ 10) }
         requires low { left.height ≤ room + 1 }
-        ensures reads { Reads turn_seen (spec.turn (spec.read room) room level at (seen left) self.old) result self.new }
+        ensures reads { ReturnsReading turn_seen
+            (spec.turn (spec.read room) room level at (seen left) self.old) result self.new }
         ensures low { IfOk result (λ r. r.0.height ≤ room + 1) }
     {
         match role_at(level, self.mark()) {
@@ -297,7 +310,9 @@ impl Parser<'_> {
         left: Measured,
     ) -> Result<Measured, Refusal>
         requires { (0 < level) × (level ≤ 10) }
-        ensures reads { Reads seen (spec.operated (spec.read room) room level way op at (seen left) self.old) result self.new }
+        ensures reads { ReturnsReading seen
+            (spec.operated (spec.read room) room level way op at (seen left) self.old) result
+            self.new }
         ensures low { IfOk result (λ r. r.height ≤ room + 1) }
     {
         self.fits(room, left.height)?;
@@ -315,7 +330,8 @@ impl Parser<'_> {
         at: u32,
         left: Measured,
     ) -> Result<Measured, Refusal>
-        ensures reads { Reads seen (spec.indexed (spec.read room) room at (seen left) self.old) result self.new }
+        ensures reads { ReturnsReading seen
+            (spec.indexed (spec.read room) room at (seen left) self.old) result self.new }
         ensures low { IfOk result (λ r. r.height ≤ room + 1) }
     {
         self.fits(room, left.height)?;
@@ -335,7 +351,8 @@ impl Parser<'_> {
         left: Measured,
     ) -> Result<Measured, Refusal>
         requires { (0 < level) × (level ≤ 10) }
-        ensures reads { Reads seen (spec.chained (spec.read room) room level at (seen left) self.old) result self.new }
+        ensures reads { ReturnsReading seen
+            (spec.chained (spec.read room) room level at (seen left) self.old) result self.new }
         ensures low { IfOk result (λ r. r.height ≤ room + 1) }
     {
         self.fits(room, left.height)?;
@@ -346,7 +363,7 @@ impl Parser<'_> {
     /// Refuses the next token where one operand more can't go round the left one.
     #[tactic(auto, unfolding(crate::specs::Reading::fits))]
     fn fits(&self, room: u8, left: u32) -> Result<(), Refusal>
-        ensures reads { Reads (λ u. u) (spec.fits room left self.now) result self.now }
+        ensures reads { ReturnsReading (λ u. u) (spec.fits room left self.now) result self.now }
         ensures low { OnOk result ((0 < room) × (left ≤ room)) }
     {
         if room == 0 || left > u32::from(room) {

@@ -1,8 +1,8 @@
 // Phrases with their heights, and how they are made of their operands.
 ghost use Rattle.std.specs.Prelude.{◌≡◌, ◌+◌, ◌<◌, max, IfOk, map};
 ghost use Rattle.tp_parse.specs.Found as spec;
-ghost use Rattle.tp_parse.specs.Found.{seen, all_seen};
-ghost use Rattle.tp_tree.specs.Read.{tree, kind_tree};
+ghost use Rattle.tp_parse.specs.Found.{seen, all_seen, IsLow};
+ghost use Rattle.tp_tree.specs.Read.{phrase_tree, kind_tree};
 ghost use Rattle.tp_tree.specs.Tree.{phrases_of};
 
 use crate::head::{Atom, Listed, Pair};
@@ -35,7 +35,7 @@ struct Boxed {
 }
 
 fn box_both(alloc: Global, first: Measured, second: Measured) -> Result<Boxed, NoMemory>
-    requires { (first.height < 1000) × (second.height < 1000) }
+    requires { IsLow first.height × IsLow second.height }
     ensures first { IfOk result (λ both. both.first.value ≡ first.phrase) }
     ensures second { IfOk result (λ both. both.second.value ≡ second.phrase) }
     ensures height { IfOk result (λ both. both.height ≡ max first.height second.height + 1) }
@@ -80,7 +80,8 @@ pub fn of_atom(alloc: Global, at: u32, atom: Atom) -> Measured
 }
 
 fn listed_kind(listed: Listed, items: Vec<Phrase>) -> PhraseKind
-    ensures { kind_tree result ≡ spec.listed_kind listed (phrases_of (map tree items.items)) }
+    ensures { kind_tree result
+        ≡ spec.listed_kind listed (phrases_of (map phrase_tree items.items)) }
 {
     let phrases = Phrases { items };
     match listed {
@@ -91,7 +92,7 @@ fn listed_kind(listed: Listed, items: Vec<Phrase>) -> PhraseKind
 }
 
 pub fn of_operands(at: u32, listed: Listed, operands: Operands) -> Measured
-    requires { operands.height < 1000 }
+    requires { IsLow operands.height }
     ensures { seen result ≡ spec.of_operands at listed (all_seen operands) }
 {
     let height = operands.height + 1;
@@ -104,7 +105,7 @@ pub fn of_enclosed(
     enclosure: Enclosure,
     operand: Measured,
 ) -> Result<Measured, NoMemory>
-    requires { operand.height < 1000 }
+    requires { IsLow operand.height }
     ensures { IfOk result (λ r. seen r ≡ spec.of_enclosed at enclosure (seen operand)) }
 {
     let raised = operand.height + 1;
@@ -126,7 +127,7 @@ pub fn of_choice(
     condition: Measured,
     first: Measured,
 ) -> Result<Measured, NoMemory>
-    requires { (condition.height < 1000) × (first.height < 1000) }
+    requires { IsLow condition.height × IsLow first.height }
     ensures { IfOk result (λ r. seen r ≡ spec.of_choice at (seen condition) (seen first)) }
 {
     let both = box_both(alloc, condition, first)?;
@@ -144,7 +145,7 @@ pub fn of_choice_else(
     first: Measured,
     second: Measured,
 ) -> Result<Measured, NoMemory>
-    requires { (condition.height < 1000) × (first.height < 1000) × (second.height < 1000) }
+    requires { IsLow condition.height × IsLow first.height × IsLow second.height }
     ensures { IfOk result (λ r. seen r
         ≡ spec.of_choice_else at (seen condition) (seen first) (seen second)) }
 {
@@ -159,7 +160,8 @@ pub fn of_choice_else(
 }
 
 fn pair_kind(pair: Pair, first: Box<Phrase>, second: Box<Phrase>) -> PhraseKind
-    ensures { kind_tree result ≡ spec.pair_kind pair (tree first.value) (tree second.value) }
+    ensures { kind_tree result
+        ≡ spec.pair_kind pair (phrase_tree first.value) (phrase_tree second.value) }
 {
     match pair {
         Pair::While => PhraseKind::While(first, second),
@@ -176,7 +178,7 @@ pub fn of_pair(
     first: Measured,
     second: Measured,
 ) -> Result<Measured, NoMemory>
-    requires { (first.height < 1000) × (second.height < 1000) }
+    requires { IsLow first.height × IsLow second.height }
     ensures { IfOk result (λ r. seen r ≡ spec.of_pair at pair (seen first) (seen second)) }
 {
     let both = box_both(alloc, first, second)?;
@@ -189,7 +191,7 @@ pub fn of_exists(
     names: Texts,
     operand: Measured,
 ) -> Result<Measured, NoMemory>
-    requires { operand.height < 1000 }
+    requires { IsLow operand.height }
     ensures { IfOk result (λ r. seen r ≡ spec.of_exists at names (seen operand)) }
 {
     let height = operand.height + 1;
@@ -198,7 +200,7 @@ pub fn of_exists(
 }
 
 fn prefixed_kind(mark: Mark, operand: Box<Phrase>) -> PhraseKind
-    ensures { kind_tree result ≡ spec.prefixed_kind mark (tree operand.value) }
+    ensures { kind_tree result ≡ spec.prefixed_kind mark (phrase_tree operand.value) }
 {
     match mark {
         Mark::Word(Word::Not) => PhraseKind::Not(operand),
@@ -213,7 +215,7 @@ pub fn of_prefix(
     mark: Mark,
     operand: Measured,
 ) -> Result<Measured, NoMemory>
-    requires { operand.height < 1000 }
+    requires { IsLow operand.height }
     ensures { IfOk result (λ r. seen r ≡ spec.of_prefix at mark (seen operand)) }
 {
     let height = operand.height + 1;
@@ -228,7 +230,7 @@ pub fn of_infix(
     left: Measured,
     right: Measured,
 ) -> Result<Measured, NoMemory>
-    requires { (left.height < 1000) × (right.height < 1000) }
+    requires { IsLow left.height × IsLow right.height }
     ensures { IfOk result (λ r. seen r ≡ spec.of_infix at op (seen left) (seen right)) }
 {
     let both = box_both(alloc, left, right)?;
@@ -245,7 +247,7 @@ pub fn of_index(
     whole: Measured,
     index: Measured,
 ) -> Result<Measured, NoMemory>
-    requires { (whole.height < 1000) × (index.height < 1000) }
+    requires { IsLow whole.height × IsLow index.height }
     ensures { IfOk result (λ r. seen r ≡ spec.of_index at (seen whole) (seen index)) }
 {
     let both = box_both(alloc, whole, index)?;
@@ -253,7 +255,7 @@ pub fn of_index(
 }
 
 pub fn of_chain(at: u32, operands: Operands) -> Measured
-    requires { operands.height < 1000 }
+    requires { IsLow operands.height }
     ensures { seen result ≡ spec.of_chain at (all_seen operands) }
 {
     let height = operands.height + 1;

@@ -1,9 +1,9 @@
 // Definitions and whole sources.
 ghost use Rattle.std.specs.Prelude.{◌≡◌, ◌≢◌, ◌≤◌, [], length, IfOk, IfErr};
-ghost use Rattle.tp_parse.specs.Input.{Reads};
+ghost use Rattle.tp_parse.specs.Input.{ReturnsReading};
 ghost use Rattle.tp_parse.specs.Source as spec;
-ghost use Rattle.tp_parse.specs.Source.{outcome_of, IsOutcome, NamesToken, definition_trees};
-ghost use Rattle.tp_tree.specs.Read.{tree, definition_tree, source_tree};
+ghost use Rattle.tp_parse.specs.Source.{parse_outcome, IsOutcome, NamesToken, definition_trees};
+ghost use Rattle.tp_tree.specs.Read.{phrase_tree, definition_tree, source_tree};
 ghost use Rattle.tp_tree.specs.Tree.{SourceTree};
 ghost use Rattle.tp_tree.specs.Height.{source_height};
 ghost use Rattle.tp_parse.specs.Grammar.{Accepts};
@@ -30,7 +30,7 @@ pub fn parse(alloc: Global, tokens: &Tokens) -> Result<Source, ParseRefusal>
     ensures only { IfOk result (λ s. (t : SourceTree) → Accepts tokens.now t → t ≡ source_tree s) }
     ensures low { IfOk result (λ s. source_height (source_tree s) ≤ 200) }
     ensures refused { IfErr result (λ e. e ≢ NoMemory → (t : SourceTree) → ¬ Accepts tokens.now t) }
-    ensures outcome { IsOutcome (outcome_of tokens.now) result }
+    ensures outcome { IsOutcome (parse_outcome tokens.now) result }
     ensures token { IfErr result (NamesToken (length tokens.now)) }
     ensures place { IfErr result (NoneGoesOn tokens.now) }
 {
@@ -38,7 +38,7 @@ pub fn parse(alloc: Global, tokens: &Tokens) -> Result<Source, ParseRefusal>
 }
 
 fn outcome(alloc: Global, tokens: &Tokens) -> Result<Source, ParseRefusal>
-    ensures { IsOutcome (outcome_of tokens.now) result }
+    ensures { IsOutcome (parse_outcome tokens.now) result }
 {
     match source(alloc, tokens) {
         Ok(source) => Ok(source),
@@ -64,7 +64,7 @@ fn named(count: usize, refusal: Refusal) -> ParseRefusal
 
 #[tactic(auto, unfolding(crate::specs::Source::source, crate::specs::Source::ended))]
 fn source(alloc: Global, tokens: &Tokens) -> Result<Source, Refusal>
-    ensures { Reads source_tree (spec.source tokens.now) result [] }
+    ensures { ReturnsReading source_tree (spec.source tokens.now) result [] }
 {
     let mut parser = Parser::new(&tokens.items);
     let definitions = parser.definitions(alloc)?;
@@ -80,7 +80,7 @@ impl Parser<'_> {
     /// A phrase with the greatest room, and the `.` after it.
     #[tactic(auto, unfolding(crate::specs::Source::sentence))]
     fn sentence(&mut self, alloc: Global) -> Result<Phrase, Refusal>
-        ensures { Reads tree (spec.sentence self.old) result self.new }
+        ensures { ReturnsReading phrase_tree (spec.sentence self.old) result self.new }
     {
         let read = self.phrase(alloc, CHOP, MAX_HEIGHT)?;
         self.expect(Mark::Symbol(Symbol::Stop))?;
@@ -90,7 +90,7 @@ impl Parser<'_> {
     /// The parameters of a definition, and the `)` after them.
     #[tactic(auto, unfolding(crate::specs::Source::parameters))]
     fn parameters(&mut self, alloc: Global) -> Result<Texts, Refusal>
-        ensures { Reads (λ xs. xs) (spec.parameters self.old) result self.new }
+        ensures { ReturnsReading (λ xs. xs) (spec.parameters self.old) result self.new }
     {
         let close = Mark::Symbol(Symbol::CloseRound);
         if self.sees(close) {
@@ -107,7 +107,7 @@ impl Parser<'_> {
     /// A definition, whose word is next.
     #[tactic(auto, unfolding(crate::specs::Source::definition))]
     fn definition(&mut self, alloc: Global) -> Result<Definition, Refusal>
-        ensures { Reads definition_tree (spec.definition self.old) result self.new }
+        ensures { ReturnsReading definition_tree (spec.definition self.old) result self.new }
     {
         let at = self.from();
         self.take();
@@ -126,7 +126,7 @@ impl Parser<'_> {
 
     /// Definitions up to a token that begins none.
     fn definitions(&mut self, alloc: Global) -> Result<Definitions, Refusal>
-        ensures { Reads definition_trees (spec.definitions self.old) result self.new }
+        ensures { ReturnsReading definition_trees (spec.definitions self.old) result self.new }
     {
         let mut items = Vec::new(alloc);
         for _turn in 0..self.remaining() {

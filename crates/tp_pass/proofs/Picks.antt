@@ -8,7 +8,7 @@ use Rattle.tp_scene.specs.Pick.{Setting, Moment, Reduces, Leads, outcome_of, IsI
 use Rattle.tp_scene.specs.Fits.{AreNumbers, item_numbers}
 use Rattle.tp_scene.specs.Built.{IsFlat, IsReady}
 use Rattle.tp_step.specs.declared.answer.Ending.{Ending}
-use Rattle.tp_pass.specs.Closes.{Made, Looks, Passes, EndsHere}
+use Rattle.tp_pass.specs.Closes.{Made, Looks, Passes, ClosureEnds}
 
 -- one more pick
 pub leads_more : (w : Setting) (m mid next : Moment) (ts : List ℕ) (t : ℕ) (r : Reduction) → Leads w m ts mid → Reduces w mid t r next → Leads w m (ts ++ t ∷ []) next
@@ -89,8 +89,8 @@ pub passing_ends : (w : Setting) (m here next : Moment) (l0 l1 l2 : ℕ) (b0 b1 
 passing_ends w m here next l0 l1 l2 b0 b1 b2 item ending h x =
     let same : l2 ≡ l1 = x.2 in
     let made : Made w m here l0 l2 b0 b2 = subst (λ k. Made w m here l0 k b0 b2) (sym same) (subst (λ bs. Made w m here l0 l1 b0 bs) (sym x.3) h.made) in
-    let ends : EndsHere w l2 here ending = subst (λ k. EndsHere w k here ending) (sym same) x.0 in
-    (subst (λ (z : Moment). Made w m z l0 l2 b0 b2) (sym x.1) made, subst (λ (z : Moment). EndsHere w l2 z ending) (sym x.1) ends)
+    let ends : ClosureEnds w l2 here ending = subst (λ k. ClosureEnds w k here ending) (sym same) x.0 in
+    (subst (λ (z : Moment). Made w m z l0 l2 b0 b2) (sym x.1) made, subst (λ (z : Moment). ClosureEnds w l2 z ending) (sym x.1) ends)
 
 -- the measure of a pass falls
 pub pass_falls : (left left' end end' item : ℕ) → item < end → end' < 2 ^ 64 → (left ≡ suc left') ⊎ ((left' ≡ left) × (end' ≡ end)) → left' * 2 ^ 64 + (end' - (item + 1)) < left * 2 ^ 64 + (end - item)

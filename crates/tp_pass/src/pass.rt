@@ -6,7 +6,7 @@ ghost use Rattle.tp_scene.specs.Built.{IsReady};
 ghost use Rattle.tp_decide.specs.Read.{scene_of};
 ghost use Rattle.tp_step.specs.Answers.{moment_of, setting_of};
 ghost use Rattle.tp_step.specs.declared.answer.Order.TheVariants.{First};
-ghost use Rattle.tp_pass.specs.Closes.{Closes, Passes, Records, Looks};
+ghost use Rattle.tp_pass.specs.Closes.{ClosureAnswers, Passes, Records, Looks};
 
 use std::alloc::Global;
 use std::sync::ledger::Ledger;
@@ -30,10 +30,16 @@ fn try_and_record<L: Ledger>(
     steps: &mut Steps<L>,
 ) -> Result<Option<Ending>, NoMemory>
     requires lives { has item (scene_of scene.old).root.entries ≡ true }
-    requires ready { (kinds : List Bool) × IsReady (setting_of defs.now inputs.now state) kinds (moment_of scene.old store.old) }
+    requires ready { (kinds : List Bool)
+        × IsReady (setting_of defs.now inputs.now state) kinds (moment_of scene.old store.old) }
     requires none { definitions_of defs.now ≡ [] }
-    ensures ready { IfOk result (λ ended. (kinds : List Bool) → IsReady (setting_of defs.now inputs.now state) kinds (moment_of scene.old store.old) → IsReady (setting_of defs.now inputs.now state) kinds (moment_of scene.new store.new)) }
-    ensures records { IfOk result (Records (setting_of defs.now inputs.now state) item (moment_of scene.old store.old) (moment_of scene.new store.new) left.old left.new tally.old.picks tally.new.picks) }
+    ensures ready { IfOk result (λ ended.
+        (kinds : List Bool)
+        → IsReady (setting_of defs.now inputs.now state) kinds (moment_of scene.old store.old)
+        → IsReady (setting_of defs.now inputs.now state) kinds (moment_of scene.new store.new)) }
+    ensures records { IfOk result
+        (Records (setting_of defs.now inputs.now state) item (moment_of scene.old store.old)
+        (moment_of scene.new store.new) left.old left.new tally.old.picks tally.new.picks) }
     ensures waits { tally.new.waits ≡ tally.old.waits }
     ensures rests { tally.new.rests ≡ tally.old.rests }
 {
@@ -66,10 +72,16 @@ fn look_at<L: Ledger>(
     tally: &mut Tally,
     steps: &mut Steps<L>,
 ) -> Result<Option<Ending>, NoMemory>
-    requires ready { (kinds : List Bool) × IsReady (setting_of defs.now inputs.now state) kinds (moment_of scene.old store.old) }
+    requires ready { (kinds : List Bool)
+        × IsReady (setting_of defs.now inputs.now state) kinds (moment_of scene.old store.old) }
     requires none { definitions_of defs.now ≡ [] }
-    ensures ready { IfOk result (λ ended. (kinds : List Bool) → IsReady (setting_of defs.now inputs.now state) kinds (moment_of scene.old store.old) → IsReady (setting_of defs.now inputs.now state) kinds (moment_of scene.new store.new)) }
-    ensures looks { IfOk result (Looks (setting_of defs.now inputs.now state) item (moment_of scene.old store.old) (moment_of scene.new store.new) left.old left.new tally.old.picks tally.new.picks) }
+    ensures ready { IfOk result (λ ended.
+        (kinds : List Bool)
+        → IsReady (setting_of defs.now inputs.now state) kinds (moment_of scene.old store.old)
+        → IsReady (setting_of defs.now inputs.now state) kinds (moment_of scene.new store.new)) }
+    ensures looks { IfOk result
+        (Looks (setting_of defs.now inputs.now state) item (moment_of scene.old store.old)
+        (moment_of scene.new store.new) left.old left.new tally.old.picks tally.new.picks) }
     ensures waits { tally.new.waits ≡ tally.old.waits }
     ensures rests { tally.new.rests ≡ tally.old.rests }
 {
@@ -102,10 +114,16 @@ fn pass<L: Ledger>(
     tally: &mut Tally,
     steps: &mut Steps<L>,
 ) -> Result<Option<Ending>, NoMemory>
-    requires ready { (kinds : List Bool) × IsReady (setting_of defs.now inputs.now state) kinds (moment_of scene.old store.old) }
+    requires ready { (kinds : List Bool)
+        × IsReady (setting_of defs.now inputs.now state) kinds (moment_of scene.old store.old) }
     requires none { definitions_of defs.now ≡ [] }
-    ensures ready { IfOk result (λ ended. (kinds : List Bool) → IsReady (setting_of defs.now inputs.now state) kinds (moment_of scene.old store.old) → IsReady (setting_of defs.now inputs.now state) kinds (moment_of scene.new store.new)) }
-    ensures passes { IfOk result (Passes (setting_of defs.now inputs.now state) (moment_of scene.old store.old) (moment_of scene.new store.new) left.old left.new tally.old.picks tally.new.picks) }
+    ensures ready { IfOk result (λ ended.
+        (kinds : List Bool)
+        → IsReady (setting_of defs.now inputs.now state) kinds (moment_of scene.old store.old)
+        → IsReady (setting_of defs.now inputs.now state) kinds (moment_of scene.new store.new)) }
+    ensures passes { IfOk result
+        (Passes (setting_of defs.now inputs.now state) (moment_of scene.old store.old)
+        (moment_of scene.new store.new) left.old left.new tally.old.picks tally.new.picks) }
     ensures waits { tally.new.waits ≡ tally.old.waits }
     ensures rests { tally.new.rests ≡ tally.old.rests }
 {
@@ -139,11 +157,17 @@ pub fn close_by_passes<L: Ledger>(
     tally: &mut Tally,
     steps: &mut Steps<L>,
 ) -> Result<Ending, NoMemory>
-    requires ready { (kinds : List Bool) × IsReady (setting_of defs.now inputs.now state) kinds (moment_of scene.old store.old) }
+    requires ready { (kinds : List Bool)
+        × IsReady (setting_of defs.now inputs.now state) kinds (moment_of scene.old store.old) }
     requires none { definitions_of defs.now ≡ [] }
     requires order { order ≡ First }
-    ensures ready { IfOk result (λ ending. (kinds : List Bool) → IsReady (setting_of defs.now inputs.now state) kinds (moment_of scene.old store.old) → IsReady (setting_of defs.now inputs.now state) kinds (moment_of scene.new store.new)) }
-    ensures closes { IfOk result (Closes (setting_of defs.now inputs.now state) room (moment_of scene.old store.old) (moment_of scene.new store.new) tally.old.picks tally.new.picks) }
+    ensures ready { IfOk result (λ ending.
+        (kinds : List Bool)
+        → IsReady (setting_of defs.now inputs.now state) kinds (moment_of scene.old store.old)
+        → IsReady (setting_of defs.now inputs.now state) kinds (moment_of scene.new store.new)) }
+    ensures closes { IfOk result
+        (ClosureAnswers (setting_of defs.now inputs.now state) room (moment_of scene.old store.old)
+        (moment_of scene.new store.new) tally.old.picks tally.new.picks) }
     ensures waits { tally.new.waits ≡ tally.old.waits }
     ensures rests { tally.new.rests ≡ tally.old.rests }
 {

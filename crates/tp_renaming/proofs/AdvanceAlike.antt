@@ -6,7 +6,7 @@ use Rattle.tp_store.specs.Known.{Variable, lasting_facts}
 use Rattle.tp_scene.specs.Scene.{Head, new_head, Leaf, Do, Later, Shown, Holder, Split, SplitProject, Closed, Opened, Running, Entries, none, leaf, node, Scene}
 use Rattle.tp_scene.specs.Pick.{Moment}
 use Rattle.tp_scene.specs.Advance.{due, items_in, regions_held, regions_in, second_head, numbered, numbered_head, advanced}
-use Rattle.tp_scene.specs.Laws.{GoesOn}
+use Rattle.tp_scene.specs.Laws.{StoreGoesOn}
 use Rattle.tp_renaming.specs.Renaming.{Permutation, Renaming, renamed_path, renamed_bindings, renamed_leaf, renamed_holder, renamed_head, renamed_second, renamed_entries, renamed_region}
 use Rattle.tp_renaming.specs.Alike.{AlikeBy, AlikeMomentsAdvance}
 use Rattle.tp_renaming.proofs.SettleAlike.{kept_through}
@@ -81,7 +81,7 @@ module _ (ρ : Renaming) where
   entries_to : (es : Entries) → numbered 0 1 (due (renamed_entries ρ es)) ≡ renamed_entries locals_only (numbered 0 1 (due es))
   entries_to es = ap (numbered 0 1) (due_to es) ∙ numbered_to 0 1 (due es)
 
-  module _ (globals : ℕ) (m n m' n' : Moment) (a : AlikeBy globals ρ m n) (ms : m'.scene ≡ advanced m.scene) (mo : GoesOn m.store m'.store) (ns : n'.scene ≡ advanced n.scene) (go_n : GoesOn n.store n'.store) where
+  module _ (globals : ℕ) (m n m' n' : Moment) (a : AlikeBy globals ρ m n) (ms : m'.scene ≡ advanced m.scene) (mo : StoreGoesOn m.store m'.store) (ns : n'.scene ≡ advanced n.scene) (go_n : StoreGoesOn n.store n'.store) where
     -- what the advanced scene of the second one is, by the first one
     scenes : advanced n.scene ≡ record { root = renamed_region locals_only (advanced m.scene).root; next_item = (advanced m.scene).next_item; next_region = (advanced m.scene).next_region }
     scenes =

@@ -17,9 +17,9 @@ use Rattle.tp_meaning.specs.Fits.{ExprFits, ExprsFit, DefinitionsFit}
 use Rattle.tp_scene.proofs.Below.{variable_below}
 use Rattle.tp_store.specs.Facts.{kept_shape, is_excluded, item_path}
 use Rattle.tp_store.specs.Known.{NoClash, Full, absent, undecided, too_long, value, full}
-use Rattle.tp_eval.specs.Reached.{Stop, Reached, reaches, stops, waits, faults, passes, Evaluation, with_reached, gives, stop, fault, number, limited}
+use Rattle.tp_eval.specs.Reached.{Stop, Reached, reaches, stops, waits, faults, passes, Evaluation, with_reached, gives, stop, fault, within_numbers, within_lists}
 use Rattle.tp_eval.specs.Evaluate as ev
-use Rattle.tp_eval.specs.Evaluate.{Place, at_path, inside, is_place, element_in, of_full, length_in, length_of, bind_place, count_call, call_limit, truth_in, evaluate, find_place, depth_limit}
+use Rattle.tp_eval.specs.Evaluate.{PlaceFound, at_path, inside, is_place, element_in, of_full, length_in, length_of, bind_place, count_call, call_limit, truth_in, evaluate, find_place, depth_limit}
 use Rattle.tp_eval.specs.Outcome as found
 use Rattle.tp_eval.specs.Outcome.{outcome, place_outcome, outcome_reached, place_reached, PlaceOutcome}
 use Rattle.tp_renaming.specs.Renaming.{Renaming, FixesBelow, renamed_path, renamed_binding, renamed_bindings, renamed_found, renamed_place_found, FactsAlike, OutcomesRename}
@@ -31,7 +31,7 @@ module _ (ρ : Renaming) where
   stop_to (faults k) = faults k
   stop_to (passes k) = passes k
 
-  abbrev place_to : Place → Place
+  abbrev place_to : PlaceFound → PlaceFound
   place_to (at_path p) = at_path (renamed_path ρ p)
   place_to (inside t at) = inside t at
 
@@ -69,7 +69,7 @@ module _ (ρ : Renaming) where
   number_free (truth b) c = refl
   number_free (list ts) c = refl
 
-  items_free : (t : Tree) (c : ℕ) → Free (ev.items_in t c)
+  items_free : (t : Tree) (c : ℕ) → Free (ev.list_items t c)
   items_free (num n) c = refl
   items_free (truth b) c = refl
   items_free (list ts) c = refl
@@ -91,18 +91,18 @@ module _ (ρ : Renaming) where
   num_free : (n : ℤ) (c : ℕ) → Free (ev.number_in (num n) c)
   num_free n c = refl
 
-  value_free : (n : ℤ) (c : ℕ) → Free (number n c)
+  value_free : (n : ℤ) (c : ℕ) → Free (within_numbers n c)
   value_free n c = limited_free (is_within_limit n) (num n) _ c refl
 
-  list_free : (t : Tree) (c : ℕ) → Free (limited t c)
+  list_free : (t : Tree) (c : ℕ) → Free (within_lists t c)
   list_free t c = limited_free (is_within_list_limit t) t _ c refl
 
-  divisor_free : (f : ℤ → ℤ → ℤ) (a b : ℤ) (c : ℕ) → Free (ev.on_divisor f a b c)
+  divisor_free : (f : ℤ → ℤ → ℤ) (a b : ℤ) (c : ℕ) → Free (ev.on_divisor_outcome f a b c)
   divisor_free f a (pos zero) c = refl
   divisor_free f a (pos (suc n)) c = value_free (f a (pos (suc n))) c
   divisor_free f a (negsuc n) c = value_free (f a (negsuc n)) c
 
-  numbers_free : (f : ℤ → ℤ → Evaluation Tree) (s t : Tree) (c : ℕ) → ((a b : ℤ) (c : ℕ) → Free (f a b c)) → Free (ev.on_numbers f s t c)
+  numbers_free : (f : ℤ → ℤ → Evaluation Tree) (s t : Tree) (c : ℕ) → ((a b : ℤ) (c : ℕ) → Free (f a b c)) → Free (ev.on_numbers_outcome f s t c)
   numbers_free f s t c h = then_free _ _ (number_free s c) (λ a c. then_free _ _ (number_free t c) (λ b c. h a b c))
 
   sum_free : (s t : Tree) (c : ℕ) → Free (ev.sum_in s t c)
@@ -110,7 +110,7 @@ module _ (ρ : Renaming) where
   sum_free (list s) t c = then_free _ _ (items_free t c) (λ us c. list_free (list (of_items (items_of s ++ us))) c)
   sum_free (truth b) t c = refl
 
-  operate_free : (o : Operator) (s t : Tree) (c : ℕ) → Free (ev.operate o s t c)
+  operate_free : (o : Operator) (s t : Tree) (c : ℕ) → Free (ev.operate_outcome o s t c)
   operate_free Equal s t c = refl
   operate_free Differs s t c = refl
   operate_free Less s t c = numbers_free _ s t c (λ a b c. refl)
@@ -145,7 +145,7 @@ module _ (ρ : Renaming) where
       go true = refl
       go false = refl
 
-  farther_to : (p : Place) (k c : ℕ) → ev.farther (place_to p) k c ≡ to place_to (ev.farther p k c)
+  farther_to : (p : PlaceFound) (k c : ℕ) → ev.farther (place_to p) k c ≡ to place_to (ev.farther p k c)
   farther_to (inside t at) k c = refl
   farther_to (at_path p) k c = go (nat_lt (length p.at) path_limit)
     where
@@ -153,7 +153,7 @@ module _ (ρ : Renaming) where
       go true = refl
       go false = refl
 
-  bind_to : (p : Place) (c : ℕ) → bind_place (place_to p) c ≡ to (renamed_binding ρ) (bind_place p c)
+  bind_to : (p : PlaceFound) (c : ℕ) → bind_place (place_to p) c ≡ to (renamed_binding ρ) (bind_place p c)
   bind_to (at_path p) c = refl
   bind_to (inside t at) c = then_to itself (renamed_binding ρ) (element_in (item_at at t) c) (element_in (item_at at t) c) _ _ (element_free (item_at at t) c) (λ u c. refl)
 
@@ -175,11 +175,11 @@ module _ (ρ : Renaming) where
   length_to p (Some (Items n)) c = refl
 
   module _ (fs gs : List Fact) (fc : NoClash fs) (gc : NoClash gs) (alike : FactsAlike ρ fs gs) where
-    value_at_to : (p : Place) (c : ℕ) → ev.value_at gs (place_to p) c ≡ to itself (ev.value_at fs p c)
+    value_at_to : (p : PlaceFound) (c : ℕ) → ev.value_at gs (place_to p) c ≡ to itself (ev.value_at fs p c)
     value_at_to (at_path p) c = ap (λ o. of_full o c) (fulls_alike ρ fs gs fc gc alike p) ∙ full_found (full fs p) c
     value_at_to (inside t at) c = element_free (item_at at t) c
 
-    size_at_to : (p : Place) (c : ℕ) → ev.size_at gs (place_to p) c ≡ to itself (ev.size_at fs p c)
+    size_at_to : (p : PlaceFound) (c : ℕ) → ev.size_at gs (place_to p) c ≡ to itself (ev.size_at fs p c)
     size_at_to (inside t at) c = then_free _ _ (element_free (item_at at t) c) (λ u c. length_free u c)
     size_at_to (at_path p) c = ap₂ (λ b o. (if b then fault NoElement else length_in (renamed_path ρ p) o) c) (excluded_alike ρ fs gs fc gc alike p) (alike p) ∙ go (is_excluded fs p)
       where
@@ -201,7 +201,7 @@ module _ (ρ : Renaming) where
         one_to a b h k c = then_to itself itself _ _ _ _ (up a h c) (λ t c. then_to itself itself _ _ _ _ (truth_free t c) (λ x c. if_to itself x _ _ _ _ c refl
             (then_to itself itself _ _ _ _ (then_to itself itself _ _ _ _ (up b k c) (λ u c. truth_free u c)) (λ y c. refl))))
 
-        operated_to : (o : Operator) (a b : ExprTree) → ExprFits defs kinds a n → ExprFits defs kinds b n → (c : ℕ) → ev.operated op' o a b c ≡ to itself (ev.operated op o a b c)
+        operated_to : (o : Operator) (a b : ExprTree) → ExprFits defs kinds a n → ExprFits defs kinds b n → (c : ℕ) → ev.operation_outcome op' o a b c ≡ to itself (ev.operation_outcome op o a b c)
         operated_to o a b h k c = then_to itself itself _ _ _ _ (up a h c) (λ t c. then_to itself itself _ _ _ _ (up b k c) (λ u c. operate_free o t u c))
 
         chosen_to : (b x y : ExprTree) → ExprFits defs kinds b n → ExprFits defs kinds x n → ExprFits defs kinds y n → (c : ℕ) → ev.chosen op' b x y c ≡ to itself (ev.chosen op b x y c)
@@ -210,8 +210,8 @@ module _ (ρ : Renaming) where
         element_to : (e i : ExprTree) → ExprFits defs kinds e n → ExprFits defs kinds i n → (c : ℕ) → ev.element_of op' e i c ≡ to itself (ev.element_of op e i c)
         element_to e i h k c = then_to itself itself _ _ _ _ (up e h c) (λ t c. then_to itself itself _ _ _ _ (up i k c) (λ u c. between_free t u c))
 
-        module _ (pl pl' : ExprTree → Evaluation Place) (down : (e : ExprTree) → ExprFits defs kinds e n → (c : ℕ) → pl' e c ≡ to place_to (pl e c)) where
-          place_is : (env : List BindingTree) (e : ExprTree) → ExprFits defs kinds e n → (c : ℕ) → ev.place_of op' pl' (renamed_bindings ρ env) e c ≡ to place_to (ev.place_of op pl env e c)
+        module _ (pl pl' : ExprTree → Evaluation PlaceFound) (down : (e : ExprTree) → ExprFits defs kinds e n → (c : ℕ) → pl' e c ≡ to place_to (pl e c)) where
+          place_is : (env : List BindingTree) (e : ExprTree) → ExprFits defs kinds e n → (c : ℕ) → ev.evaluated_place op' pl' (renamed_bindings ρ env) e c ≡ to place_to (ev.evaluated_place op pl env e c)
           place_is env (bound i) h c = ap (λ o. ev.bound_place o c) (slice_get-map (renamed_binding ρ) env i) ∙ bound_to (slice_get env i) c
           place_is env (global x) h c = λ i. reaches (at_path (record { var = record { number = sym (fixed x.number (variable_below kinds x.number x.lasting h)) i; lasting = x.lasting }; at = [] })) c
           place_is env (index e i) h c = then_to place_to place_to _ _ _ _ (down e h.0 c) (λ p c. then_to itself place_to _ _ _ _ (up i h.1 c) (λ t c. then_to itself place_to _ _ _ _ (index_free t c) (λ k c. farther_to p k c)))
@@ -239,7 +239,7 @@ module _ (ρ : Renaming) where
           arguments_to (expr_then e es) [] h c = refl
 
           module _ (env : List BindingTree) where
-            index_to : (b : Bool) (e i : ExprTree) → ExprFits defs kinds (index e i) n → (c : ℕ) → ev.index_of op' pl' gs (renamed_bindings ρ env) b e i c ≡ to itself (ev.index_of op pl fs env b e i c)
+            index_to : (b : Bool) (e i : ExprTree) → ExprFits defs kinds (index e i) n → (c : ℕ) → ev.indexed_value op' pl' gs (renamed_bindings ρ env) b e i c ≡ to itself (ev.indexed_value op pl fs env b e i c)
             index_to true e i h c = then_to place_to itself _ _ _ _ (place_is env (index e i) h c) value_at_to
             index_to false e i h c = element_to e i h.0 h.1 c
 
@@ -259,12 +259,12 @@ module _ (ρ : Renaming) where
               call_to p (Some f) q es h c = then_to itself itself _ _ _ _ (count_free c) (λ m c. then_to (renamed_bindings ρ) itself _ _ _ _ (arguments_to es f.parameters h c) (λ args c. body_to f p q f.expr refl args c))
               call_to p None q es h c = refl
 
-              row_to : (e : ExprTree) → ExprFits defs kinds e n → (c : ℕ) → ev.value_of op' pl' gs (renamed_bindings ρ env) defs body' e c ≡ to itself (ev.value_of op pl fs env defs body e c)
+              row_to : (e : ExprTree) → ExprFits defs kinds e n → (c : ℕ) → ev.part_value op' pl' gs (renamed_bindings ρ env) defs body' e c ≡ to itself (ev.part_value op pl fs env defs body e c)
               row_to (numeral m) h c = value_free m c
               row_to (boolean b) h c = refl
               row_to (known t) h c = list_free t c
               row_to (bound i) h c = then_to place_to itself _ _ _ _ (place_is env (bound i) h c) value_at_to
-              row_to (global x) h c = then_to place_to itself (ev.place_of op pl env (global x) c) (ev.place_of op' pl' (renamed_bindings ρ env) (global x) c) (ev.value_at fs) (ev.value_at gs) (place_is env (global x) h c) value_at_to
+              row_to (global x) h c = then_to place_to itself (ev.evaluated_place op pl env (global x) c) (ev.evaluated_place op' pl' (renamed_bindings ρ env) (global x) c) (ev.value_at fs) (ev.value_at gs) (place_is env (global x) h c) value_at_to
               row_to (listing es) h c = then_to itself itself _ _ _ _ (each_to es h c) (λ ts c. list_free (list (of_items ts)) c)
               row_to (size e) h c = size_to (is_place e) e h c
               row_to (index e i) h c = index_to (is_place e) e i h c
@@ -294,7 +294,7 @@ module _ (ρ : Renaming) where
   element_is None c = refl
   element_is (Some t) c = refl
 
-  place_found_to : (fs gs : List Fact) (r r' : Reached Place) → r' ≡ to place_to r → place_reached gs r' ≡ renamed_place_found ρ (place_reached fs r)
+  place_found_to : (fs gs : List Fact) (r r' : Reached PlaceFound) → r' ≡ to place_to r → place_reached gs r' ≡ renamed_place_found ρ (place_reached fs r)
   place_found_to fs gs (reaches (at_path p) c) r' h = ap (place_reached gs) h
   place_found_to fs gs (reaches (inside t at) c) r' h = ap (place_reached gs) h ∙ ap found.other (element_is (item_at at t) c)
   place_found_to fs gs (stops (waits p)) r' h = ap (place_reached gs) h

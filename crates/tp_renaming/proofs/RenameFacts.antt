@@ -10,7 +10,7 @@ use Rattle.tp_value.specs.declared.path.Path.{Path}
 use Rattle.tp_value.specs.declared.path.Fact.{Fact}
 use Rattle.tp_store.specs.Changes.{HaveSameShapes}
 use Rattle.tp_store.specs.Facts.{same_variable, same_indices, same_path, same_shape, leaves_out, excludes, clash, kept_shape, is_excluded, item_path, fact, facts_at, facts_of_items}
-use Rattle.tp_store.specs.Known.{NoClash, meets, is_none, is_earlier, earlier_of, first_clash, Addition, adds, refuses, refused_or, checked, new_facts, addition, Whole, known, open_at, WholeItems, all_known, item_open_at, and_items, list_of_items, items_known, with_shape, whole, deepest, Full, absent, undecided, too_long, value, limited, full}
+use Rattle.tp_store.specs.Known.{NoClash, clashes_with_some, is_none, is_earlier, earlier_of, first_clash, Addition, adds, refuses, refused_or, checked, new_facts, addition, Whole, known, open_at, WholeItems, all_known, item_open_at, and_items, list_of_items, items_known, with_shape, whole, deepest, Full, absent, undecided, too_long, value, limited, full}
 use Rattle.tp_store.proofs.States.{same_shapes_same_store}
 use Rattle.tp_renaming.specs.Renaming.{Permutation, Renaming, renamed_variable, renamed_path, renamed_fact, renamed_facts, FactsAlike}
 
@@ -41,7 +41,7 @@ module _ (ρ : Renaming) where
   excluded_to [] p = refl
   excluded_to (f ∷ fs) p = ap₂ (λ a b. a || b) (excludes_to f p) (excluded_to fs p)
 
-  meets_to : (fs : List Fact) (f : Fact) → meets (renamed_facts ρ fs) (renamed_fact ρ f) ≡ meets fs f
+  meets_to : (fs : List Fact) (f : Fact) → clashes_with_some (renamed_facts ρ fs) (renamed_fact ρ f) ≡ clashes_with_some fs f
   meets_to [] f = refl
   meets_to (g ∷ gs) f = ap₂ (λ a b. a || b) (clash_to g f) (meets_to gs f)
 

@@ -5,7 +5,7 @@ use Rattle.tp_value.specs.declared.path.Fact.{Fact}
 use Rattle.tp_meaning.specs.Fits.{DefinitionsFit}
 use Rattle.tp_store.specs.Known.{NoClash, Variable}
 use Rattle.tp_scene.specs.Scene.{Side, Ending, Going, Head, marked, Leaf, Do, Later, Shown, Holder, Split, SplitProject, Closed, Opened, Running, Entries, none, leaf, node, second_lives, has, rises, sinks, forced, risen, Place, held_place, second_place}
-use Rattle.tp_scene.specs.Step.{Outcome, Numbers, leaf_step, holder_step}
+use Rattle.tp_scene.specs.Step.{PickOutcome, Numbers, leaf_step, holder_step}
 use Rattle.tp_scene.specs.Pick.{Setting, pick}
 use Rattle.tp_scene.specs.Fits.{LeafFits, EntriesFit}
 use Rattle.tp_scene.proofs.Keep.{live_fits}
@@ -81,10 +81,10 @@ module _ (ρ : Renaming) where
   second_is (Running f env) g e = refl
 
   module _ (n n' : Numbers) where
-    abbrev R : Outcome → Outcome → Type 0
+    abbrev R : PickOutcome → PickOutcome → Type 0
     R = Renamed ρ n n'
 
-    case_row : (b b' : Bool) (x x' y y' : Outcome) → b' ≡ b → (b ≡ true → R x x') → (b ≡ false → R y y') → R (cond b x y) (cond b' x' y')
+    case_row : (b b' : Bool) (x x' y y' : PickOutcome) → b' ≡ b → (b ≡ true → R x x') → (b ≡ false → R y y') → R (cond b x y) (cond b' x' y')
     case_row b b' x x' y y' e h k = subst (λ (c : Bool). R (cond b x y) (cond c x' y')) (sym e) (go b h k)
       where
         go : (c : Bool) → (c ≡ true → R x x') → (c ≡ false → R y y') → R (cond c x y) (cond c x' y')

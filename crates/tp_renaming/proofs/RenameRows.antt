@@ -17,7 +17,7 @@ use Rattle.tp_eval.specs.Evaluate.{is_place}
 use Rattle.tp_eval.specs.Outcome as found
 use Rattle.tp_eval.specs.Outcome.{outcome, place_outcome, PlaceOutcome}
 use Rattle.tp_scene.specs.Scene.{Bindings, Side, Ending, Going, Head, Leaf, Do, Later, Shown, Holder, Split, SplitProject, Closed, Opened, Running, Entries, none, leaf, node, new_head, no_region, Place}
-use Rattle.tp_scene.specs.Step.{Outcome, reduces, becomes, added, Numbers, region_limit, marking, with_region, by_status, with_value, with_truth, with_number, Target, value_at, length_at, target_at, target_if, target_of, set, SideOf, meets, both_wait, equate, side_of, side_with, all_do, count_of, with_values, with_place, with_argument, with_arguments, called, length_left, from_port, formula_step, holder_step}
+use Rattle.tp_scene.specs.Step.{PickOutcome, reduces, becomes, added, Numbers, region_limit, marking, with_region, by_status, with_value, with_truth, with_number, Target, value_at, length_at, target_at, target_if, target_of, set, SideOf, meets, both_wait, equate, side_of, side_with, all_do, count_of, with_values, with_place, with_argument, with_arguments, called, length_left, from_port, formula_step, holder_step}
 use Rattle.tp_scene.specs.Pick.{Setting}
 use Rattle.tp_renaming.specs.Renaming.{Renaming, FixesBelow, renamed_path, renamed_facts, renamed_binding, renamed_bindings, renamed_leaf, renamed_holder, renamed_head, renamed_entries, renamed_place, renamed_found, renamed_place_found, FactsAlike, Renamed}
 use Rattle.tp_renaming.proofs.RenameFacts.{addition_to, facts_at_to, additions_alike}
@@ -28,16 +28,16 @@ one_more ρ [] b = refl
 one_more ρ (x ∷ env) b = ap (λ l. renamed_binding ρ x ∷ l) (one_more ρ env b)
 
 module _ (ρ : Renaming) (n n' : Numbers) where
-  abbrev R : Outcome → Outcome → Type 0
+  abbrev R : PickOutcome → PickOutcome → Type 0
   R = Renamed ρ n n'
 
-  value_row : (a b : found.Outcome) (f g : Tree → Outcome) → b ≡ renamed_found ρ a → ((v : Tree) → R (f v) (g v)) → R (with_value a f) (with_value b g)
+  value_row : (a b : found.Outcome) (f g : Tree → PickOutcome) → b ≡ renamed_found ρ a → ((v : Tree) → R (f v) (g v)) → R (with_value a f) (with_value b g)
   value_row (found.value t) b f g h k = subst (λ (o : found.Outcome). R (f t) (with_value o g)) (sym h) (k t)
   value_row (found.wait p) b f g h k = ap (λ o. with_value o g) h
   value_row (found.fault j) b f g h k = ap (λ o. with_value o g) h
   value_row (found.over j) b f g h k = ap (λ o. with_value o g) h
 
-  truth_row : (a b : found.Outcome) (f g : Bool → Outcome) → b ≡ renamed_found ρ a → ((v : Bool) → R (f v) (g v)) → R (with_truth a f) (with_truth b g)
+  truth_row : (a b : found.Outcome) (f g : Bool → PickOutcome) → b ≡ renamed_found ρ a → ((v : Bool) → R (f v) (g v)) → R (with_truth a f) (with_truth b g)
   truth_row (found.value (truth t)) b f g h k = subst (λ (o : found.Outcome). R (f t) (with_truth o g)) (sym h) (k t)
   truth_row (found.value (num m)) b f g h k = ap (λ o. with_truth o g) h
   truth_row (found.value (list ts)) b f g h k = ap (λ o. with_truth o g) h
@@ -45,7 +45,7 @@ module _ (ρ : Renaming) (n n' : Numbers) where
   truth_row (found.fault j) b f g h k = ap (λ o. with_truth o g) h
   truth_row (found.over j) b f g h k = ap (λ o. with_truth o g) h
 
-  number_row : (a b : found.Outcome) (f g : ℤ → Outcome) → b ≡ renamed_found ρ a → ((v : ℤ) → R (f v) (g v)) → R (with_number a f) (with_number b g)
+  number_row : (a b : found.Outcome) (f g : ℤ → PickOutcome) → b ≡ renamed_found ρ a → ((v : ℤ) → R (f v) (g v)) → R (with_number a f) (with_number b g)
   number_row (found.value (num m)) b f g h k = subst (λ (o : found.Outcome). R (f m) (with_number o g)) (sym h) (k m)
   number_row (found.value (truth t)) b f g h k = ap (λ o. with_number o g) h
   number_row (found.value (list ts)) b f g h k = ap (λ o. with_number o g) h
@@ -53,7 +53,7 @@ module _ (ρ : Renaming) (n n' : Numbers) where
   number_row (found.fault j) b f g h k = ap (λ o. with_number o g) h
   number_row (found.over j) b f g h k = ap (λ o. with_number o g) h
 
-  if_row : (b : Bool) (x x' y y' : Outcome) → R x x' → R y y' → R (if b then x else y) (if b then x' else y')
+  if_row : (b : Bool) (x x' y y' : PickOutcome) → R x x' → R y y' → R (if b then x else y) (if b then x' else y')
   if_row true x x' y y' h k = h
   if_row false x x' y y' h k = k
 
@@ -68,7 +68,7 @@ module _ (ρ : Renaming) (n n' : Numbers) where
   region_row : (d : ℕ) (news news' : Entries) → (n'.item 0 ≡ ρ.item.to (n.item 0) → n'.item 1 ≡ ρ.item.to (n.item 1) → n'.region ≡ ρ.region.to n.region → news' ≡ renamed_entries ρ news) → R (with_region d news 2) (with_region d news' 2)
   region_row d news news' h = if_row (nat_lt d region_limit) _ _ _ _ (λ a. ap (λ es. reduces (record { news = es; items = 2; regions = 1; local = None; mark = None; facts = [] })) (h (a.items 0 (omega arith)) (a.items 1 (omega arith)) a.region)) refl
 
-  status_row : (p : Place) (a b a' b' : Outcome) → R a a' → R b b' → R (by_status p a b) (by_status (renamed_place ρ p) a' b')
+  status_row : (p : Place) (a b a' b' : PickOutcome) → R a a' → R b b' → R (by_status p a b) (by_status (renamed_place ρ p) a' b')
   status_row p a b a' b' h k = if_row (p.is Going) _ _ _ _ h (if_row (p.is Ending) _ _ _ _ k refl)
 
   abbrev target_to : Target → Target
@@ -171,22 +171,22 @@ module _ (ρ : Renaming) (n n' : Numbers) where
       sides_are : (e : ExprTree) → Fit e → side_of w.defs w.inputs w.state gs e env' ≡ side (side_of w.defs w.inputs w.state fs e env).placed (if_target (side_of w.defs w.inputs w.state fs e env).target) (renamed_found ρ (side_of w.defs w.inputs w.state fs e env).found)
       sides_are e h = λ i. record { placed = (side_of w.defs w.inputs w.state fs e env).placed; target = targets_are e h i; found = found_is e h i }
 
-      place_row : (o o' : PlaceOutcome) (f g : BindingTree → Outcome) → o' ≡ renamed_place_found ρ o → ((b : BindingTree) → R (f b) (g (renamed_binding ρ b))) → R (with_place w.defs w.inputs w.state fs o f) (with_place w.defs w.inputs w.state gs o' g)
+      place_row : (o o' : PlaceOutcome) (f g : BindingTree → PickOutcome) → o' ≡ renamed_place_found ρ o → ((b : BindingTree) → R (f b) (g (renamed_binding ρ b))) → R (with_place w.defs w.inputs w.state fs o f) (with_place w.defs w.inputs w.state gs o' g)
       place_row (found.path p) o' f g h k = subst (λ (x : PlaceOutcome). R (f (place_binding p)) (with_place w.defs w.inputs w.state gs x g)) (sym h) (k (place_binding p))
       place_row (found.other o) o' f g h k = subst (λ (x : PlaceOutcome). R (with_value o (λ v. f (known_binding v))) (with_place w.defs w.inputs w.state gs x g)) (sym h)
           (value_row o (renamed_found ρ o) _ _ refl (λ v. k (known_binding v)))
 
-      argument_row : (x : List ℕ) (e : ExprTree) → Fit e → (f g : BindingTree → Outcome) → ((b : BindingTree) → R (f b) (g (renamed_binding ρ b))) → R (with_argument w.defs w.inputs w.state fs x e env f) (with_argument w.defs w.inputs w.state gs x e env' g)
+      argument_row : (x : List ℕ) (e : ExprTree) → Fit e → (f g : BindingTree → PickOutcome) → ((b : BindingTree) → R (f b) (g (renamed_binding ρ b))) → R (with_argument w.defs w.inputs w.state fs x e env f) (with_argument w.defs w.inputs w.state gs x e env' g)
       argument_row x e h f g k = if_row (is_upper x) _ _ _ _ (place_row _ _ f g (place_is e h) k) (value_row _ _ _ _ (found_is e h) (λ v. k (known_binding v)))
 
-      arguments_row : (es : ExprTrees) (xs : List (List ℕ)) → ExprsFit w.defs kinds es (length env) → (f g : Bindings → Outcome) → ((bs : Bindings) → R (f bs) (g (renamed_bindings ρ bs)))
+      arguments_row : (es : ExprTrees) (xs : List (List ℕ)) → ExprsFit w.defs kinds es (length env) → (f g : Bindings → PickOutcome) → ((bs : Bindings) → R (f bs) (g (renamed_bindings ρ bs)))
           → R (with_arguments w.defs w.inputs w.state fs es xs env f) (with_arguments w.defs w.inputs w.state gs es xs env' g)
       arguments_row no_expr [] h f g k = k []
       arguments_row (expr_then e es) (x ∷ xs) h f g k = argument_row x e h.0 _ _ (λ b. arguments_row es xs h.1 _ _ (λ bs. k (b ∷ bs)))
       arguments_row no_expr (x ∷ xs) h f g k = refl
       arguments_row (expr_then e es) [] h f g k = refl
 
-      values_row : (es : ExprTrees) → ExprsFit w.defs kinds es (length env) → (f g : List Tree → Outcome) → ((vs : List Tree) → R (f vs) (g vs)) → R (with_values w.defs w.inputs w.state fs es env f) (with_values w.defs w.inputs w.state gs es env' g)
+      values_row : (es : ExprTrees) → ExprsFit w.defs kinds es (length env) → (f g : List Tree → PickOutcome) → ((vs : List Tree) → R (f vs) (g vs)) → R (with_values w.defs w.inputs w.state fs es env f) (with_values w.defs w.inputs w.state gs es env' g)
       values_row no_expr h f g k = k []
       values_row (expr_then e es) h f g k = value_row _ _ _ _ (found_is e h.0) (λ v. values_row es h.1 _ _ (λ vs. k (v ∷ vs)))
 

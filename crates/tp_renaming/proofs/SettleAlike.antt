@@ -12,7 +12,7 @@ use Rattle.tp_store.proofs.Paths.{same_path-decides}
 use Rattle.tp_scene.specs.declared.answer.Cell.{Cell}
 use Rattle.tp_scene.specs.declared.answer.Cell.TheVariants.{End}
 use Rattle.tp_scene.specs.Scene.{Ending, Going, Head, Do, Later, Shown, Holder, Split, SplitProject, Closed, Opened, Running, Entries, none, leaf, node, Region, second_lives, only_if, Place, root_place, held_place, second_place}
-use Rattle.tp_scene.specs.Step.{Outcome}
+use Rattle.tp_scene.specs.Step.{PickOutcome}
 use Rattle.tp_scene.specs.Pick.{Setting, Moment, outcome_of, numbers_of}
 use Rattle.tp_scene.specs.Rest.{holds_back, unsettled_items, Settled, waiting, end_open, ends, goes, settled_by, settled, IsOpenCell}
 use Rattle.tp_scene.specs.Advance.{shown_in}
@@ -132,7 +132,7 @@ module _ (w : Setting) (kinds : List Bool) (m n : Moment) (ρ : Renaming) (sm : 
   open_by : (s : Settled) → settled m.scene ≡ s → settled n.scene ≡ settled_to ρ s → (c : Cell) → IsOpenCell w m c → IsOpenCell w n (renamed_cell ρ c)
   open_by (waiting t) e f c h =
       let x = rw e at h in
-      rw f (renamed_if ρ x.0, subst (λ (o : Outcome). Renamed ρ (numbers_of m.scene m.store.variables) (numbers_of n.scene n.store.variables) o (outcome_of w n.store n.scene (ρ.item.to t))) x.1 (given_alike w kinds m n ρ sm sn a t))
+      rw f (renamed_if ρ x.0, subst (λ (o : PickOutcome). Renamed ρ (numbers_of m.scene m.store.variables) (numbers_of n.scene n.store.variables) o (outcome_of w n.store n.scene (ρ.item.to t))) x.1 (given_alike w kinds m n ρ sm sn a t))
   open_by end_open e f c h = let x = rw e at h in rw f (ap (renamed_cell ρ) x ∙ ap (λ (r : Region). End r.head.number 0) (sym a.root))
   open_by ends e f c h = elim (rw e at h) [ ]
   open_by goes e f c h = elim (rw e at h) [ ]

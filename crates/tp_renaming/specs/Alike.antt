@@ -6,7 +6,7 @@ use Rattle.tp_scene.specs.declared.answer.Cell.{Cell}
 use Rattle.tp_scene.specs.Pick.{Setting, Moment}
 use Rattle.tp_scene.specs.Rest.{ends, goes, settled, IsOpenCell}
 use Rattle.tp_scene.specs.Advance.{advanced, shown_in}
-use Rattle.tp_scene.specs.Laws.{IsSound, GoesOn}
+use Rattle.tp_scene.specs.Laws.{IsSound, StoreGoesOn}
 use Rattle.tp_renaming.specs.Renaming.{Renaming, FactsAlike, renamed_region, FixesFrom, FixesBelow, renamed_cell}
 
 -- The renaming carries the one moment into the other. It leaves the numbers alone that the next
@@ -47,6 +47,6 @@ AlikeMomentsSettle = (w : Setting) (kinds : List Bool) (m n : Moment) (ρ : Rena
 -- Where the next states begin with what moments that are alike go on to, these are alike too.
 abbrev pub AlikeMomentsAdvance : Type 0
 AlikeMomentsAdvance = (globals : ℕ) (m n m' n' : Moment) → Alike globals m n
-    → m'.scene ≡ advanced m.scene → GoesOn m.store m'.store → n'.scene ≡ advanced n.scene
-    → GoesOn n.store n'.store
+    → m'.scene ≡ advanced m.scene → StoreGoesOn m.store m'.store → n'.scene ≡ advanced n.scene
+    → StoreGoesOn n.store n'.store
     → Alike globals m' n'

@@ -8,7 +8,7 @@ use Rattle.tp_store.specs.Facts.{kept_shape}
 use Rattle.tp_store.specs.Known.{NoClash, Variable}
 use Rattle.tp_eval.specs.Outcome.{outcome, place_outcome, PlaceOutcome}
 use Rattle.tp_scene.specs.Scene.{Bindings, Head, Leaf, Do, Later, Shown, Holder, Split, SplitProject, Closed, Opened, Running, Entries, none, leaf, node, Place, Region}
-use Rattle.tp_scene.specs.Step.{Reduction, Outcome, reduces, waits, rests, clashes, misses, passes, Numbers}
+use Rattle.tp_scene.specs.Step.{Reduction, PickOutcome, reduces, waits, rests, clashes, misses, passes, Numbers}
 use Rattle.tp_scene.specs.Pick.{Setting, pick}
 use Rattle.tp_value.specs.declared.path.VarId.{VarId}
 use Rattle.tp_meaning.specs.Fits.{ExprFits, DefinitionsFit}
@@ -121,7 +121,7 @@ module _ (ρ : Renaming) where
   abbrev pub renamed_reduction : Reduction → Reduction
   renamed_reduction r = record r { news = renamed_entries r.news; facts = renamed_facts r.facts }
 
-  abbrev pub renamed_outcome : Outcome → Outcome
+  abbrev pub renamed_outcome : PickOutcome → PickOutcome
   renamed_outcome (reduces r) = reduces (renamed_reduction r)
   renamed_outcome (waits first other) = waits (renamed_cell first) (renamed_if other)
   renamed_outcome rests = rests
@@ -170,7 +170,7 @@ module _ (ρ : Renaming) (n n' : Numbers) where
     pub local : IfLocal r.local
 
   -- a reduction is renamed where its numbers are; anything else is in any case
-  abbrev pub Renamed : Outcome → Outcome → Type 0
+  abbrev pub Renamed : PickOutcome → PickOutcome → Type 0
   Renamed (reduces r) o = NumbersRenamed r → o ≡ renamed_outcome ρ (reduces r)
   Renamed (waits first other) o = o ≡ renamed_outcome ρ (waits first other)
   Renamed rests o = o ≡ rests

@@ -9,7 +9,7 @@ use Rattle.tp_eval.specs.Evaluate.{is_place}
 use Rattle.tp_eval.specs.Outcome as found
 use Rattle.tp_scene.specs.declared.answer.Clash.TheVariants as clash
 use Rattle.tp_scene.specs.Step as row
-use Rattle.tp_scene.specs.Step.{Outcome}
+use Rattle.tp_scene.specs.Step.{PickOutcome}
 use Rattle.tp_rows.specs.Found.{IsNoSize}
 
 module _ (defs : List Definition) (facts : List Fact) (env : List BindingTree) where

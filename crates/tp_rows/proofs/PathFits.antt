@@ -8,25 +8,25 @@ use Rattle.tp_value.specs.declared.path.VarId.{VarId}
 use Rattle.tp_meaning.specs.Syntax.{ExprTree, numeral, boolean, known, bound, global, listing, size, index, minus, negation, both, either, binary, choice, invoke, Definition, BindingTree, place_binding, known_binding}
 use Rattle.tp_meaning.specs.Fits.{ExprFits, BindingFits, BindingsFit, IsVariable}
 use Rattle.tp_eval.specs.Reached.{Reached, reaches, stops, waits, faults, passes, Evaluation, with_reached}
-use Rattle.tp_eval.specs.Evaluate.{Place, at_path, inside, bound_place, index_in, farther, evaluate, find_place, depth_limit}
+use Rattle.tp_eval.specs.Evaluate.{PlaceFound, at_path, inside, bound_place, index_in, farther, evaluate, find_place, depth_limit}
 use Rattle.tp_eval.specs.Outcome as found
 use Rattle.tp_eval.specs.Outcome.{PlaceOutcome, place_reached, place_outcome}
 
 -- `kinds` are the globals', and `all` those of all variables
 module _ (facts : List Fact) (defs : List Definition) (kinds all : List Bool) (among : (x : VarId) → IsVariable kinds x → IsVariable all x) where
-  abbrev PlaceFits : Place → Type 0
+  abbrev PlaceFits : PlaceFound → Type 0
   PlaceFits (at_path p) = BindingFits all (place_binding p)
   PlaceFits (inside t at) = Unit {0}
 
-  abbrev IsFit : Reached Place → Type 0
+  abbrev IsFit : Reached PlaceFound → Type 0
   IsFit (reaches p calls) = PlaceFits p
   IsFit (stops s) = Unit {0}
 
-  after_place : (r : Reached Place) (f : Place → Evaluation Place) → IsFit r → ((p : Place) (calls : ℕ) → PlaceFits p → IsFit (f p calls)) → IsFit (with_reached r f)
+  after_place : (r : Reached PlaceFound) (f : PlaceFound → Evaluation PlaceFound) → IsFit r → ((p : PlaceFound) (calls : ℕ) → PlaceFits p → IsFit (f p calls)) → IsFit (with_reached r f)
   after_place (reaches p calls) f h go = go p calls h
   after_place (stops s) f h go = tt
 
-  after : {A : Type 0} (r : Reached A) (f : A → Evaluation Place) → ((a : A) (calls : ℕ) → IsFit (f a calls)) → IsFit (with_reached r f)
+  after : {A : Type 0} (r : Reached A) (f : A → Evaluation PlaceFound) → ((a : A) (calls : ℕ) → IsFit (f a calls)) → IsFit (with_reached r f)
   after (reaches a calls) f go = go a calls
   after (stops s) f go = tt
 
@@ -36,8 +36,8 @@ module _ (facts : List Fact) (defs : List Definition) (kinds all : List Bool) (a
   bound_fit (known_binding t ∷ env) zero calls h = tt
   bound_fit (b ∷ env) (suc i) calls h = bound_fit env i calls h.1
 
-  farther_fit : (p : Place) (k calls : ℕ) → PlaceFits p → IsFit (farther p k calls)
-  farther_fit (at_path p) k calls h = cond_both (nat_lt (length p.at) path_limit) _ _ (λ (o : Evaluation Place). IsFit (o calls))
+  farther_fit : (p : PlaceFound) (k calls : ℕ) → PlaceFits p → IsFit (farther p k calls)
+  farther_fit (at_path p) k calls h = cond_both (nat_lt (length p.at) path_limit) _ _ (λ (o : Evaluation PlaceFound). IsFit (o calls))
       (λ e. (h.0, (let q = length-append p.at (k ∷ []) in let l = ltb-true (length p.at) path_limit e in omega (arith, q, l))))
       (λ _. tt)
   farther_fit (inside t at) k calls h = tt
@@ -65,7 +65,7 @@ module _ (facts : List Fact) (defs : List Definition) (kinds all : List Bool) (a
   PathFits (found.path p) = BindingFits all (place_binding p)
   PathFits (found.other o) = Unit {0}
 
-  reached_fit : (r : Reached Place) → IsFit r → PathFits (place_reached facts r)
+  reached_fit : (r : Reached PlaceFound) → IsFit r → PathFits (place_reached facts r)
   reached_fit (reaches (at_path p) calls) h = h
   reached_fit (reaches (inside t at) calls) h = tt
   reached_fit (stops (waits p)) h = tt

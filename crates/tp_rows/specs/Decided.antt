@@ -11,7 +11,7 @@ use Rattle.tp_store.specs.Known.{addition}
 use Rattle.tp_inputs.specs.Read.{lines_of}
 use Rattle.tp_scene.specs.Scene as S
 use Rattle.tp_scene.specs.Step as row
-use Rattle.tp_scene.specs.Step.{Outcome, Numbers}
+use Rattle.tp_scene.specs.Step.{PickOutcome, Numbers}
 use Rattle.tp_scene.specs.Pick as pick
 use Rattle.tp_rows.specs.declared.decision.Side.{Side}
 use Rattle.tp_rows.specs.declared.decision.Side.TheVariants as mark
@@ -21,22 +21,22 @@ use Rattle.tp_rows.specs.declared.decision.Leaf.TheVariants as leaf
 use Rattle.tp_rows.specs.declared.decision.Decision.{Decision}
 use Rattle.tp_rows.specs.declared.decision.Decision.TheVariants as decision
 use Rattle.tp_rows.specs.declared.setting.Setting.{Setting}
-use Rattle.tp_rows.specs.Read.{formula_of, env_of, values_of}
+use Rattle.tp_rows.specs.Read.{phrase_formula, phrase_bindings, plain_values}
 
-abbrev pub mark_of : Side → S.Side
-mark_of mark.Ending = S.Ending
-mark_of mark.Going = S.Going
+abbrev pub side_marked : Side → S.Side
+side_marked mark.Ending = S.Ending
+side_marked mark.Going = S.Going
 
-abbrev pub place_of : Place → S.Place
-place_of p = record { region = p.region; depth = p.depth; is = λ z. S.marked z (record { number = p.region; ends = p.ends; goes = p.goes }) }
+abbrev pub place_seen : Place → S.Place
+place_seen p = record { region = p.region; depth = p.depth; is = λ z. S.marked z (record { number = p.region; ends = p.ends; goes = p.goes }) }
 
 abbrev pub plain_setting : Setting → pick.Setting
 plain_setting w = record { defs = definitions_of w.defs; inputs = lines_of w.inputs; state = w.state }
 
 abbrev pub plain_leaf : Leaf → S.Leaf
-plain_leaf (leaf.Do a) = S.Do (formula_of a) (env_of a)
-plain_leaf (leaf.Later a) = S.Later (formula_of a) (env_of a)
-plain_leaf (leaf.Shown vs) = S.Shown (values_of vs)
+plain_leaf (leaf.Do a) = S.Do (phrase_formula a) (phrase_bindings a)
+plain_leaf (leaf.Later a) = S.Later (phrase_formula a) (phrase_bindings a)
+plain_leaf (leaf.Shown vs) = S.Shown (plain_values vs)
 
 -- these items in order, numbered from this place on
 abbrev pub news_entries : List Leaf → (number : ℕ → ℕ) → (from : ℕ) → S.Entries
@@ -44,33 +44,33 @@ news_entries [] number k = S.none
 news_entries (l ∷ ls) number k = S.leaf (number k) (plain_leaf l) (news_entries ls number (suc k))
 
 -- the item becomes one that holds a new region with one item
-abbrev pub with_new_region : S.Entries → Outcome
+abbrev pub with_new_region : S.Entries → PickOutcome
 with_new_region news = row.reduces (record { news = news; items = 2; regions = 1; local = None; mark = None; facts = [] })
 
 -- What a decision does where these facts are known, and new items, regions and locals take these numbers. A region is made only where it
 -- isn't too deep, so the place plays no part.
-abbrev pub decided : List Fact → Numbers → Decision → Outcome
-decided facts n (decision.Becomes news m) =
-    row.reduces (record { news = news_entries news.items n.item 0; items = length news.items; regions = 0; local = None; mark = option_map mark_of m; facts = [] })
-decided facts n (decision.Splits first after) = with_new_region (S.split_then (n.item 1) (row.region_of n.region (n.item 0) (formula_of first) (env_of first)) (formula_of after) (env_of after) S.none)
-decided facts n (decision.Opens outer piece) = with_new_region (S.opened_then (n.item 1) (row.region_of n.region (n.item 0) (formula_of outer) (env_of outer)) (formula_of piece) (env_of piece) S.none)
-decided facts n (decision.Binds name lasting body) =
+abbrev pub decided_outcome : List Fact → Numbers → Decision → PickOutcome
+decided_outcome facts n (decision.Becomes news m) =
+    row.reduces (record { news = news_entries news.items n.item 0; items = length news.items; regions = 0; local = None; mark = option_map side_marked m; facts = [] })
+decided_outcome facts n (decision.Splits first after) = with_new_region (S.split_then (n.item 1) (row.region_of n.region (n.item 0) (phrase_formula first) (phrase_bindings first)) (phrase_formula after) (phrase_bindings after) S.none)
+decided_outcome facts n (decision.Opens outer piece) = with_new_region (S.opened_then (n.item 1) (row.region_of n.region (n.item 0) (phrase_formula outer) (phrase_bindings outer)) (phrase_formula piece) (phrase_bindings piece) S.none)
+decided_outcome facts n (decision.Binds name lasting body) =
     row.reduces (record {
-      news = S.leaf (n.item 0) (S.Do (formula_of body) (env_of body ++ place_binding (record { var = record { number = n.local; lasting = lasting }; at = [] }) ∷ [])) S.none;
+      news = S.leaf (n.item 0) (S.Do (phrase_formula body) (phrase_bindings body ++ place_binding (record { var = record { number = n.local; lasting = lasting }; at = [] }) ∷ [])) S.none;
       items = 1;
       regions = 0;
       local = Some (record { name = name; lasting = lasting });
       mark = None;
       facts = [];
     })
-decided facts n (decision.Sets p v) = row.added (addition facts (facts_at p (tree v)))
-decided facts n (decision.Measures p k) = row.added (addition facts (fact p (Items k) ∷ []))
-decided facts n (decision.Waits first other) = row.waits first other
-decided facts n decision.Rests = row.rests
-decided facts n (decision.Clashes c) = row.clashes c
-decided facts n (decision.Misses port) = row.misses port
-decided facts n (decision.Passes k) = row.passes k
+decided_outcome facts n (decision.Sets p v) = row.added (addition facts (facts_at p (tree v)))
+decided_outcome facts n (decision.Measures p k) = row.added (addition facts (fact p (Items k) ∷ []))
+decided_outcome facts n (decision.Waits first other) = row.waits first other
+decided_outcome facts n decision.Rests = row.rests
+decided_outcome facts n (decision.Clashes c) = row.clashes c
+decided_outcome facts n (decision.Misses port) = row.misses port
+decided_outcome facts n (decision.Passes k) = row.passes k
 
 -- It stands for this outcome, whatever is known.
-abbrev pub Decides : Decision → (Numbers → Outcome) → Type 0
-Decides d o = (facts : List Fact) (n : Numbers) → decided facts n d ≡ o n
+abbrev pub Decides : Decision → (Numbers → PickOutcome) → Type 0
+Decides d o = (facts : List Fact) (n : Numbers) → decided_outcome facts n d ≡ o n

@@ -9,14 +9,14 @@ use Rattle.tp_rows.specs.declared.phrase.Phrase.{Phrase}
 use Rattle.tp_rows.specs.declared.phrase.Values.{Values}
 use Rattle.tp_rows.specs.declared.phrase.Shows.{Shows}
 
-abbrev pub formula_of : Phrase → FormulaTree
-formula_of a = formula_tree a.what.value
+abbrev pub phrase_formula : Phrase → FormulaTree
+phrase_formula a = formula_tree a.what.value
 
-abbrev pub env_of : Phrase → S.Bindings
-env_of a = bindings_of a.env.value
+abbrev pub phrase_bindings : Phrase → S.Bindings
+phrase_bindings a = bindings_of a.env.value
 
-abbrev pub values_of : Values → List Tree
-values_of vs = map tree vs.items.items
+abbrev pub plain_values : Values → List Tree
+plain_values vs = map tree vs.items.items
 
-abbrev pub shows_of : Shows → List (List Tree)
-shows_of s = map values_of s.items.items
+abbrev pub plain_shows : Shows → List (List Tree)
+plain_shows s = map plain_values s.items.items

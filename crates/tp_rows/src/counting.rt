@@ -6,10 +6,10 @@ ghost use Rattle.tp_kernel.specs.Read.{formula_tree, bindings_of};
 ghost use Rattle.tp_eval.specs.Outcome.{Outcome};
 ghost use Rattle.tp_scene.specs.Scene as S;
 ghost use Rattle.tp_scene.specs.Step as row;
-ghost use Rattle.tp_rows.specs.Decided.{Decides, place_of};
+ghost use Rattle.tp_rows.specs.Decided.{Decides, place_seen};
 ghost use Rattle.tp_rows.specs.Fits.{IsPlain};
 ghost use Rattle.tp_rows.specs.Found.{NumberIn};
-ghost use Rattle.tp_rows.specs.Read.{formula_of, env_of};
+ghost use Rattle.tp_rows.specs.Read.{phrase_formula, phrase_bindings};
 
 use crate::decision::{Decision, Leaf, Place, becomes_one, becomes_two, due, nothing};
 use crate::env::{bind_number, under};
@@ -22,8 +22,9 @@ use tp_value::{NoMemory, Number, Text};
 
 // The body, with the number bound last.
 fn counted(alloc: Global, n: Number, body: &Rc<Formula>, env: &Env) -> Result<Phrase, NoMemory>
-    ensures formula { IfOk result (λ a. formula_of a ≡ formula_tree body.now.value) }
-    ensures bindings { IfOk result (λ a. env_of a ≡ bindings_of env.now ++ known_binding (num n) ∷ []) }
+    ensures formula { IfOk result (λ a. phrase_formula a ≡ formula_tree body.now.value) }
+    ensures bindings { IfOk result (λ a.
+        phrase_bindings a ≡ bindings_of env.now ++ known_binding (num n) ∷ []) }
 {
     let env = bind_number(alloc, env, n)?;
     let what = body.clone()?;
@@ -39,7 +40,9 @@ fn later_turns(
     body: &Rc<Formula>,
 ) -> Result<Rc<Formula>, NoMemory>
     requires { k <ℤ to }
-    ensures { IfOk result (λ w. formula_tree w.value ≡ for_from name.now (k +ℤ pos 1) (numeral to) (formula_tree body.now.value)) }
+    ensures { IfOk result (λ w.
+        formula_tree w.value
+        ≡ for_from name.now (k +ℤ pos 1) (numeral to) (formula_tree body.now.value)) }
 {
     let name = name.copy()?;
     let to = Rc::new(alloc, Expr::Number(to))?;
@@ -67,7 +70,10 @@ fn turns(
     env: &Rc<Env>,
     place: Place,
 ) -> Result<Decision, NoMemory>
-    ensures outcome { IfOk result (λ d. Decides d (λ n. row.turns [] [] 0 [] name.now k to (formula_tree body.now.value) (bindings_of env.now.value) (place_of place) n)) }
+    ensures outcome { IfOk result (λ d.
+        Decides d (λ n.
+        row.turns [] [] 0 [] name.now k to (formula_tree body.now.value) (bindings_of env.now.value)
+        (place_seen place) n)) }
     ensures plain { IfOk result IsPlain }
 {
     if to <= k {
@@ -92,7 +98,12 @@ pub fn decide_turns(
     place: Place,
 ) -> Result<Decision, NoMemory>
     requires { IfErr found IsPlain }
-    ensures outcome { IfOk result (λ d. (o : Outcome) → NumberIn o found → Decides d (λ n. row.with_number o (λ m. row.turns [] [] 0 [] name.now k m (formula_tree body.now.value) (bindings_of env.now.value) (place_of place) n))) }
+    ensures outcome { IfOk result (λ d.
+        (o : Outcome) → NumberIn o found
+        → Decides d (λ n.
+        row.with_number o (λ m.
+        row.turns [] [] 0 [] name.now k m (formula_tree body.now.value) (bindings_of env.now.value)
+        (place_seen place) n))) }
     ensures plain { IfOk result IsPlain }
 {
     match found {
@@ -113,7 +124,9 @@ fn later_instances(
     body: &Rc<Formula>,
 ) -> Result<Rc<Formula>, NoMemory>
     requires { k <ℤ to }
-    ensures { IfOk result (λ w. formula_tree w.value ≡ forall_from name.now (k +ℤ pos 1) (numeral to) (formula_tree body.now.value)) }
+    ensures { IfOk result (λ w.
+        formula_tree w.value
+        ≡ forall_from name.now (k +ℤ pos 1) (numeral to) (formula_tree body.now.value)) }
 {
     let name = name.copy()?;
     let to = Rc::new(alloc, Expr::Number(to))?;
@@ -140,7 +153,10 @@ fn instances(
     body: &Rc<Formula>,
     env: &Rc<Env>,
 ) -> Result<Decision, NoMemory>
-    ensures outcome { IfOk result (λ d. Decides d (λ n. row.instances [] [] 0 [] name.now k to (formula_tree body.now.value) (bindings_of env.now.value) n)) }
+    ensures outcome { IfOk result (λ d.
+        Decides d (λ n.
+        row.instances [] [] 0 [] name.now k to (formula_tree body.now.value)
+        (bindings_of env.now.value) n)) }
     ensures plain { IfOk result IsPlain }
 {
     if to <= k {
@@ -162,7 +178,12 @@ pub fn decide_instances(
     env: &Rc<Env>,
 ) -> Result<Decision, NoMemory>
     requires { IfErr found IsPlain }
-    ensures outcome { IfOk result (λ d. (o : Outcome) → NumberIn o found → Decides d (λ n. row.with_number o (λ m. row.instances [] [] 0 [] name.now k m (formula_tree body.now.value) (bindings_of env.now.value) n))) }
+    ensures outcome { IfOk result (λ d.
+        (o : Outcome) → NumberIn o found
+        → Decides d (λ n.
+        row.with_number o (λ m.
+        row.instances [] [] 0 [] name.now k m (formula_tree body.now.value)
+        (bindings_of env.now.value) n))) }
     ensures plain { IfOk result IsPlain }
 {
     match found {

@@ -3,7 +3,7 @@ ghost use Rattle.std.specs.Prelude.{◌≡◌, IfOk, length, None};
 ghost use Rattle.tp_kernel.specs.Read.{formula_tree, bindings_of};
 ghost use Rattle.tp_scene.specs.Scene as S;
 ghost use Rattle.tp_scene.specs.Step as row;
-ghost use Rattle.tp_rows.specs.Decided.{Decides, plain_leaf, news_entries, place_of};
+ghost use Rattle.tp_rows.specs.Decided.{Decides, plain_leaf, news_entries, place_seen};
 ghost use Rattle.tp_rows.specs.Fits.{IsPlain};
 
 use crate::env::under;
@@ -86,7 +86,8 @@ pub fn nothing(alloc: Global) -> Decision
 
 /// The items stand in its place.
 pub fn becomes(news: Vec<Leaf>) -> Decision
-    ensures outcome { Decides result (λ n. row.becomes (news_entries news.items n.item 0) (length news.items)) }
+    ensures outcome { Decides result (λ n.
+        row.becomes (news_entries news.items n.item 0) (length news.items)) }
     ensures plain { IsPlain result }
 {
     Decision::Becomes { news, mark: None }
@@ -94,7 +95,8 @@ pub fn becomes(news: Vec<Leaf>) -> Decision
 
 /// The formula from this state on.
 pub fn due(what: Rc<Formula>, env: &Rc<Env>) -> Result<Leaf, NoMemory>
-    ensures { IfOk result (λ l. plain_leaf l ≡ S.Do (formula_tree what.value) (bindings_of env.now.value)) }
+    ensures { IfOk result (λ l.
+        plain_leaf l ≡ S.Do (formula_tree what.value) (bindings_of env.now.value)) }
 {
     let phrase = under(what, env)?;
     Ok(Leaf::Do(phrase))
@@ -102,7 +104,8 @@ pub fn due(what: Rc<Formula>, env: &Rc<Env>) -> Result<Leaf, NoMemory>
 
 /// The formula from the next state on.
 pub fn later(what: Rc<Formula>, env: &Rc<Env>) -> Result<Leaf, NoMemory>
-    ensures { IfOk result (λ l. plain_leaf l ≡ S.Later (formula_tree what.value) (bindings_of env.now.value)) }
+    ensures { IfOk result (λ l.
+        plain_leaf l ≡ S.Later (formula_tree what.value) (bindings_of env.now.value)) }
 {
     let phrase = under(what, env)?;
     Ok(Leaf::Later(phrase))
@@ -110,7 +113,8 @@ pub fn later(what: Rc<Formula>, env: &Rc<Env>) -> Result<Leaf, NoMemory>
 
 /// One item stands in its place.
 pub fn becomes_one(alloc: Global, leaf: Leaf) -> Result<Decision, NoMemory>
-    ensures outcome { IfOk result (λ d. Decides d (λ n. row.becomes (S.leaf (n.item 0) (plain_leaf leaf) S.none) 1)) }
+    ensures outcome { IfOk result (λ d.
+        Decides d (λ n. row.becomes (S.leaf (n.item 0) (plain_leaf leaf) S.none) 1)) }
     ensures plain { IfOk result IsPlain }
 {
     let mut news = Vec::new(alloc);
@@ -120,7 +124,10 @@ pub fn becomes_one(alloc: Global, leaf: Leaf) -> Result<Decision, NoMemory>
 
 /// Two items stand in its place.
 pub fn becomes_two(alloc: Global, first: Leaf, second: Leaf) -> Result<Decision, NoMemory>
-    ensures outcome { IfOk result (λ d. Decides d (λ n. row.becomes (S.leaf (n.item 0) (plain_leaf first) (S.leaf (n.item 1) (plain_leaf second) S.none)) 2)) }
+    ensures outcome { IfOk result (λ d.
+        Decides d (λ n.
+        row.becomes
+        (S.leaf (n.item 0) (plain_leaf first) (S.leaf (n.item 1) (plain_leaf second) S.none)) 2)) }
     ensures plain { IfOk result IsPlain }
 {
     let mut news = Vec::new(alloc);
@@ -131,7 +138,8 @@ pub fn becomes_two(alloc: Global, first: Leaf, second: Leaf) -> Result<Decision,
 
 /// The items stand in its place, and its region is marked to go on.
 pub fn go(place: Place, news: Vec<Leaf>) -> Decision
-    ensures outcome { Decides result (λ n. row.going (place_of place) (news_entries news.items n.item 0) (length news.items)) }
+    ensures outcome { Decides result (λ n.
+        row.going (place_seen place) (news_entries news.items n.item 0) (length news.items)) }
     ensures plain { IsPlain result }
 {
     if place.ends {
@@ -146,7 +154,7 @@ pub fn go(place: Place, news: Vec<Leaf>) -> Decision
 
 /// Nothing stands in its place, and its region is marked to end.
 pub fn end(alloc: Global, place: Place) -> Decision
-    ensures outcome { Decides result (λ n. row.ending (place_of place)) }
+    ensures outcome { Decides result (λ n. row.ending (place_seen place)) }
     ensures plain { IsPlain result }
 {
     if place.goes {

@@ -25,7 +25,9 @@ fn find_values(
     setting: &Setting,
 ) -> Result<Result<Values, Decision>, NoMemory>
     requires { definitions_of setting.now.defs ≡ [] }
-    ensures found { IfOk result (ValuesIn store.now.facts (definitions_of setting.now.defs) (expr_trees exprs.now) (bindings_of env.now)) }
+    ensures found { IfOk result
+        (ValuesIn store.now.facts (definitions_of setting.now.defs) (expr_trees exprs.now)
+        (bindings_of env.now)) }
     ensures plain { IfOk result (λ found. IfErr found IsPlain) }
 {
     let mut items = Vec::new(alloc);
@@ -47,7 +49,11 @@ pub fn decide_display(
     setting: &Setting,
 ) -> Result<Decision, NoMemory>
     requires { definitions_of setting.now.defs ≡ [] }
-    ensures outcome { IfOk result (λ d. Decides d (λ n. row.with_values (definitions_of setting.now.defs) [] 0 store.now.facts (expr_trees exprs.now) (bindings_of env.now) (λ vs. row.becomes (S.leaf (n.item 0) (S.Shown vs) S.none) 1))) }
+    ensures outcome { IfOk result (λ d.
+        Decides d (λ n.
+        row.with_values (definitions_of setting.now.defs) [] 0 store.now.facts
+        (expr_trees exprs.now) (bindings_of env.now)
+        (λ vs. row.becomes (S.leaf (n.item 0) (S.Shown vs) S.none) 1))) }
     ensures plain { IfOk result IsPlain }
 {
     match find_values(alloc, exprs, env, store, setting)? {

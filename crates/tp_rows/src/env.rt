@@ -3,7 +3,7 @@ ghost use Rattle.std.specs.Prelude.{◌≡◌, ◌++◌, ◌∷◌, [], map, IfO
 ghost use Rattle.tp_value.specs.Tree.{num};
 ghost use Rattle.tp_meaning.specs.Syntax.{known_binding};
 ghost use Rattle.tp_kernel.specs.Read.{formula_tree, binding_of, bindings_of};
-ghost use Rattle.tp_rows.specs.Read.{formula_of, env_of};
+ghost use Rattle.tp_rows.specs.Read.{phrase_formula, phrase_bindings};
 
 use crate::phrase::Phrase;
 use std::alloc::Global;
@@ -13,8 +13,8 @@ use tp_value::{NoMemory, Number, Value};
 
 /// The formula under the same bindings, which are shared.
 pub fn under(what: Rc<Formula>, env: &Rc<Env>) -> Result<Phrase, NoMemory>
-    ensures formula { IfOk result (λ a. formula_of a ≡ formula_tree what.value) }
-    ensures bindings { IfOk result (λ a. env_of a ≡ bindings_of env.now.value) }
+    ensures formula { IfOk result (λ a. phrase_formula a ≡ formula_tree what.value) }
+    ensures bindings { IfOk result (λ a. phrase_bindings a ≡ bindings_of env.now.value) }
 {
     let env = env.clone()?;
     Ok(Phrase { what, env })
@@ -48,7 +48,8 @@ fn copy_bindings(alloc: Global, env: &Env) -> Result<Vec<Binding>, NoMemory>
 
 /// The bindings, and one more, which is the innermost.
 pub fn bind_last(alloc: Global, env: &Env, binding: Binding) -> Result<Rc<Env>, NoMemory>
-    ensures { IfOk result (λ e. bindings_of e.value ≡ bindings_of env.now ++ binding_of binding ∷ []) }
+    ensures { IfOk result (λ e.
+        bindings_of e.value ≡ bindings_of env.now ++ binding_of binding ∷ []) }
 {
     let mut items = copy_bindings(alloc, env)?;
     items.push(binding)?;
@@ -58,7 +59,8 @@ pub fn bind_last(alloc: Global, env: &Env, binding: Binding) -> Result<Rc<Env>, 
 
 /// The bindings, and a number that is known.
 pub fn bind_number(alloc: Global, env: &Env, n: Number) -> Result<Rc<Env>, NoMemory>
-    ensures { IfOk result (λ e. bindings_of e.value ≡ bindings_of env.now ++ known_binding (num n) ∷ []) }
+    ensures { IfOk result (λ e.
+        bindings_of e.value ≡ bindings_of env.now ++ known_binding (num n) ∷ []) }
 {
     let value = Rc::new(alloc, Value::Num(n))?;
     let bound = bind_last(alloc, env, Binding::Known(value))?;

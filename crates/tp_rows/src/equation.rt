@@ -8,12 +8,12 @@ ghost use Rattle.tp_value.specs.declared.path.Path.{Path};
 ghost use Rattle.tp_meaning.specs.Syntax.{Definition, size};
 ghost use Rattle.tp_meaning.specs.Inputs.{input_at};
 ghost use Rattle.tp_eval.specs.Outcome as found;
-ghost use Rattle.tp_eval.specs.Answers.{outcome_of};
+ghost use Rattle.tp_eval.specs.Answers.{outcome_tree};
 ghost use Rattle.tp_eval.specs.Evaluate.{is_place as is_place_tree};
 ghost use Rattle.tp_scene.specs.Step as row;
 ghost use Rattle.tp_store.specs.Known.{Variable, IsVariableOf};
-ghost use Rattle.tp_rows.specs.Decided.{decided, plain_setting};
-ghost use Rattle.tp_rows.specs.Found.{option_target, side_of, PathIn, IsNoSize};
+ghost use Rattle.tp_rows.specs.Decided.{decided_outcome, plain_setting};
+ghost use Rattle.tp_rows.specs.Found.{option_target, side_found, PathIn, IsNoSize};
 ghost use Rattle.tp_rows.specs.Fits.{IsPathOf, IsTargetOf, SetsVariables, ExprFitsStore};
 
 use crate::decision::{Decision, nothing};
@@ -49,8 +49,13 @@ fn path_of(
     defs: &Defs,
 ) -> Result<Option<Path>, NoMemory>
     requires none { definitions_of defs.now ≡ [] }
-    requires fits { ExprFitsStore (definitions_of defs.now) store.now.variables (expr_tree expr.now) (bindings_of env.now) }
-    ensures outcome { IfOk result (λ o. (f : Path → row.Target) → PathIn o f (row.target_if (definitions_of defs.now) [] 0 store.now.facts (is_place_tree (expr_tree expr.now)) f (expr_tree expr.now) (bindings_of env.now))) }
+    requires fits { ExprFitsStore (definitions_of defs.now) store.now.variables (expr_tree expr.now)
+        (bindings_of env.now) }
+    ensures outcome { IfOk result (λ o.
+        (f : Path → row.Target)
+        → PathIn o f
+        (row.target_if (definitions_of defs.now) [] 0 store.now.facts
+        (is_place_tree (expr_tree expr.now)) f (expr_tree expr.now) (bindings_of env.now))) }
     ensures variables { IfOk result (IsPathOf store.now.variables) }
 {
     if !is_place(expr) {
@@ -65,7 +70,8 @@ fn path_of(
 
 // What a size is taken of.
 fn measured(expr: &Expr) -> Option<&Expr>
-    ensures { MatchOption result (IsNoSize (expr_tree expr.now)) (λ inner. expr_tree expr.now ≡ size (expr_tree inner.now)) }
+    ensures { MatchOption result (IsNoSize (expr_tree expr.now)) (λ inner.
+        expr_tree expr.now ≡ size (expr_tree inner.now)) }
 {
     match expr {
         Expr::Size(inner) => Some(inner),
@@ -81,8 +87,12 @@ fn find_target(
     defs: &Defs,
 ) -> Result<Option<Target>, NoMemory>
     requires none { definitions_of defs.now ≡ [] }
-    requires fits { ExprFitsStore (definitions_of defs.now) store.now.variables (expr_tree expr.now) (bindings_of env.now) }
-    ensures outcome { IfOk result (λ o. option_target o ≡ row.target_of (definitions_of defs.now) [] 0 store.now.facts (expr_tree expr.now) (bindings_of env.now)) }
+    requires fits { ExprFitsStore (definitions_of defs.now) store.now.variables (expr_tree expr.now)
+        (bindings_of env.now) }
+    ensures outcome { IfOk result (λ o.
+        option_target o
+        ≡ row.target_of (definitions_of defs.now) [] 0 store.now.facts (expr_tree expr.now)
+        (bindings_of env.now)) }
     ensures variables { IfOk result (IsTargetOf store.now.variables) }
 {
     match measured(expr) {
@@ -105,7 +115,8 @@ fn find_target(
 
 // Whether the expression is a place or the size of one.
 fn is_placed(expr: &Expr) -> bool
-    ensures { (defs : List Definition) (facts : List Fact) → result ≡ row.is_placed defs [] 0 facts (expr_tree expr.now) }
+    ensures { (defs : List Definition) (facts : List Fact)
+        → result ≡ row.is_placed defs [] 0 facts (expr_tree expr.now) }
 {
     match expr {
         Expr::Size(inner) => is_place(inner),
@@ -121,8 +132,12 @@ fn evaluate_side(
     defs: &Defs,
 ) -> Result<Side, NoMemory>
     requires none { definitions_of defs.now ≡ [] }
-    requires fits { ExprFitsStore (definitions_of defs.now) store.now.variables (expr_tree expr.now) (bindings_of env.now) }
-    ensures outcome { IfOk result (λ s. side_of s ≡ row.side_of (definitions_of defs.now) [] 0 store.now.facts (expr_tree expr.now) (bindings_of env.now)) }
+    requires fits { ExprFitsStore (definitions_of defs.now) store.now.variables (expr_tree expr.now)
+        (bindings_of env.now) }
+    ensures outcome { IfOk result (λ s.
+        side_found s
+        ≡ row.side_of (definitions_of defs.now) [] 0 store.now.facts (expr_tree expr.now)
+        (bindings_of env.now)) }
     ensures variables { IfOk result (λ s. IsTargetOf store.now.variables s.target) }
 {
     let target = find_target(alloc, expr, env, store, defs)?;
@@ -136,7 +151,8 @@ fn evaluate_side(
 
 // The length of the list at the path is to be this value.
 fn measure(path: Path, value: Value) -> Decision
-    ensures outcome { (facts : List Fact) (n : row.Numbers) → decided facts n result ≡ row.set facts (row.length_at path) (tree value) }
+    ensures outcome { (facts : List Fact) (n : row.Numbers)
+        → decided_outcome facts n result ≡ row.set facts (row.length_at path) (tree value) }
     ensures variables { (xs : List Variable) → IsVariableOf xs path.var → SetsVariables xs result }
 {
     match value {
@@ -147,7 +163,8 @@ fn measure(path: Path, value: Value) -> Decision
 }
 
 fn measure_number(path: Path, n: Number) -> Decision
-    ensures outcome { (facts : List Fact) (numbers : row.Numbers) → decided facts numbers result ≡ row.set facts (row.length_at path) (num n) }
+    ensures outcome { (facts : List Fact) (numbers : row.Numbers)
+        → decided_outcome facts numbers result ≡ row.set facts (row.length_at path) (num n) }
     ensures variables { (xs : List Variable) → IsVariableOf xs path.var → SetsVariables xs result }
 {
     if n < 0 {
@@ -161,7 +178,11 @@ fn measure_number(path: Path, n: Number) -> Decision
 
 // The other side has this value.
 fn meet(alloc: Global, target: Option<Target>, found: Outcome, value: Value) -> Decision
-    ensures outcome { (facts : List Fact) (n : row.Numbers) (placed : Bool) → decided facts n result ≡ row.meets facts (record { placed = placed; target = option_target target; found = outcome_of found }) (tree value) }
+    ensures outcome { (facts : List Fact) (n : row.Numbers) (placed : Bool)
+        → decided_outcome facts n result
+        ≡ row.meets facts
+        (record { placed = placed; target = option_target target; found = outcome_tree found })
+        (tree value) }
     ensures variables { (xs : List Variable) → IsTargetOf xs target → SetsVariables xs result }
 {
     match target {
@@ -172,7 +193,10 @@ fn meet(alloc: Global, target: Option<Target>, found: Outcome, value: Value) -> 
 }
 
 fn compare(alloc: Global, found: Outcome, value: Value) -> Decision
-    ensures outcome { (facts : List Fact) (n : row.Numbers) (placed : Bool) → decided facts n result ≡ row.meets facts (record { placed = placed; target = None; found = outcome_of found }) (tree value) }
+    ensures outcome { (facts : List Fact) (n : row.Numbers) (placed : Bool)
+        → decided_outcome facts n result
+        ≡ row.meets facts (record { placed = placed; target = None; found = outcome_tree found })
+        (tree value) }
     ensures variables { (xs : List Variable) → SetsVariables xs result }
 {
     match found {
@@ -192,7 +216,9 @@ fn compare(alloc: Global, found: Outcome, value: Value) -> Decision
 
 // Both sides wait, for `left` and for `right`.
 fn wait_for_both(is_left_placed: bool, is_right_placed: bool, left: Path, right: Path) -> Decision
-    ensures outcome { (facts : List Fact) (n : row.Numbers) → decided facts n result ≡ row.both_wait facts is_left_placed is_right_placed left right }
+    ensures outcome { (facts : List Fact) (n : row.Numbers)
+        → decided_outcome facts n result
+        ≡ row.both_wait facts is_left_placed is_right_placed left right }
     ensures variables { (xs : List Variable) → SetsVariables xs result }
 {
     if is_right_placed && !is_left_placed {
@@ -204,7 +230,9 @@ fn wait_for_both(is_left_placed: bool, is_right_placed: bool, left: Path, right:
 
 // The right side passes a limit.
 fn pass_on_right(left: Outcome, limit: LimitKind) -> Decision
-    ensures outcome { (facts : List Fact) (n : row.Numbers) (l r : row.SideOf) → l.found ≡ outcome_of left → r.found ≡ found.over limit → decided facts n result ≡ row.equate facts l r }
+    ensures outcome { (facts : List Fact) (n : row.Numbers) (l r : row.SideOf)
+        → l.found ≡ outcome_tree left → r.found ≡ found.over limit
+        → decided_outcome facts n result ≡ row.equate facts l r }
     ensures variables { (xs : List Variable) → SetsVariables xs result }
 {
     match left {
@@ -217,7 +245,11 @@ fn pass_on_right(left: Outcome, limit: LimitKind) -> Decision
 
 // The right side has this value.
 fn value_on_right(alloc: Global, target: Option<Target>, left: Outcome, value: Value) -> Decision
-    ensures outcome { (facts : List Fact) (n : row.Numbers) (placed : Bool) (r : row.SideOf) → r.found ≡ found.value (tree value) → decided facts n result ≡ row.equate facts (record { placed = placed; target = option_target target; found = outcome_of left }) r }
+    ensures outcome { (facts : List Fact) (n : row.Numbers) (placed : Bool) (r : row.SideOf)
+        → r.found ≡ found.value (tree value)
+        → decided_outcome facts n result
+        ≡ row.equate facts
+        (record { placed = placed; target = option_target target; found = outcome_tree left }) r }
     ensures variables { (xs : List Variable) → IsTargetOf xs target → SetsVariables xs result }
 {
     match left {
@@ -229,8 +261,10 @@ fn value_on_right(alloc: Global, target: Option<Target>, left: Outcome, value: V
 }
 
 fn equate(alloc: Global, left: Side, right: Side) -> Decision
-    ensures outcome { (facts : List Fact) (n : row.Numbers) → decided facts n result ≡ row.equate facts (side_of left) (side_of right) }
-    ensures variables { (xs : List Variable) → IsTargetOf xs left.target → IsTargetOf xs right.target → SetsVariables xs result }
+    ensures outcome { (facts : List Fact) (n : row.Numbers)
+        → decided_outcome facts n result ≡ row.equate facts (side_found left) (side_found right) }
+    ensures variables { (xs : List Variable) → IsTargetOf xs left.target
+        → IsTargetOf xs right.target → SetsVariables xs result }
 {
     let Side {
         placed: is_left_placed,
@@ -265,9 +299,19 @@ pub fn decide_equation(
     setting: &Setting,
 ) -> Result<Decision, NoMemory>
     requires none { definitions_of setting.now.defs ≡ [] }
-    requires fits_left { ExprFitsStore (definitions_of setting.now.defs) store.now.variables (expr_tree left.now) (bindings_of env.now) }
-    requires fits_right { ExprFitsStore (definitions_of setting.now.defs) store.now.variables (expr_tree right.now) (bindings_of env.now) }
-    ensures outcome { let w = plain_setting setting.now in IfOk result (λ d. (n : row.Numbers) → decided store.now.facts n d ≡ row.equate store.now.facts (row.side_of w.defs w.inputs w.state store.now.facts (expr_tree left.now) (bindings_of env.now)) (row.side_of w.defs w.inputs w.state store.now.facts (expr_tree right.now) (bindings_of env.now))) }
+    requires fits_left { ExprFitsStore (definitions_of setting.now.defs) store.now.variables
+        (expr_tree left.now) (bindings_of env.now) }
+    requires fits_right { ExprFitsStore (definitions_of setting.now.defs) store.now.variables
+        (expr_tree right.now) (bindings_of env.now) }
+    ensures outcome { let w = plain_setting setting.now in
+        IfOk result (λ d.
+        (n : row.Numbers)
+        → decided_outcome store.now.facts n d
+        ≡ row.equate store.now.facts
+        (row.side_of w.defs w.inputs w.state store.now.facts (expr_tree left.now)
+        (bindings_of env.now))
+        (row.side_of w.defs w.inputs w.state store.now.facts (expr_tree right.now)
+        (bindings_of env.now))) }
     ensures variables { IfOk result (SetsVariables store.now.variables) }
 {
     let left = evaluate_side(alloc, left, env, store, &setting.defs)?;
@@ -277,7 +321,9 @@ pub fn decide_equation(
 
 // A side that has this value, which was found before.
 fn side_with(alloc: Global, value: &Value) -> Result<Side, NoMemory>
-    ensures outcome { IfOk result (λ s. (defs : List Definition) (facts : List Fact) → side_of s ≡ row.side_with defs [] 0 facts (tree value.now)) }
+    ensures outcome { IfOk result (λ s.
+        (defs : List Definition) (facts : List Fact)
+        → side_found s ≡ row.side_with defs [] 0 facts (tree value.now)) }
     ensures variables { IfOk result (λ s. s.target ≡ None) }
 {
     let value = value.copy(alloc)?;
@@ -298,8 +344,16 @@ pub fn decide_input(
     setting: &Setting,
 ) -> Result<Decision, NoMemory>
     requires none { definitions_of setting.now.defs ≡ [] }
-    requires fits { ExprFitsStore (definitions_of setting.now.defs) store.now.variables (expr_tree expr.now) (bindings_of env.now) }
-    ensures outcome { let w = plain_setting setting.now in IfOk result (λ d. (n : row.Numbers) → decided store.now.facts n d ≡ row.from_port w.defs w.inputs w.state store.now.facts (input_at w.inputs w.state port.now) port.now (row.side_of w.defs w.inputs w.state store.now.facts (expr_tree expr.now) (bindings_of env.now))) }
+    requires fits { ExprFitsStore (definitions_of setting.now.defs) store.now.variables
+        (expr_tree expr.now) (bindings_of env.now) }
+    ensures outcome { let w = plain_setting setting.now in
+        IfOk result (λ d.
+        (n : row.Numbers)
+        → decided_outcome store.now.facts n d
+        ≡ row.from_port w.defs w.inputs w.state store.now.facts (input_at w.inputs w.state port.now)
+        port.now
+        (row.side_of w.defs w.inputs w.state store.now.facts (expr_tree expr.now)
+        (bindings_of env.now))) }
     ensures variables { IfOk result (SetsVariables store.now.variables) }
 {
     match setting.inputs.at(setting.state, port) {

@@ -7,7 +7,7 @@ ghost use Rattle.tp_value.specs.Read.{tree};
 ghost use Rattle.tp_eval.specs.Outcome.{Outcome};
 ghost use Rattle.tp_scene.specs.Scene as S;
 ghost use Rattle.tp_scene.specs.Step as row;
-ghost use Rattle.tp_rows.specs.Decided.{Decides, place_of};
+ghost use Rattle.tp_rows.specs.Decided.{Decides, place_seen};
 ghost use Rattle.tp_rows.specs.Fits.{IsPlain};
 ghost use Rattle.tp_rows.specs.Found.{TruthIn, NumberIn, ValueIn, IsShorter};
 
@@ -22,7 +22,9 @@ use tp_value::{NoMemory, Number, Value};
 /// Nothing, where the truth value that was looked for is true.
 pub fn decide_test(alloc: Global, found: Result<bool, Decision>) -> Decision
     requires { IfErr found IsPlain }
-    ensures outcome { (o : Outcome) → TruthIn o found → Decides result (λ n. row.with_truth o (λ b. if b then row.vanishes else row.clashes Clash.False)) }
+    ensures outcome { (o : Outcome) → TruthIn o found
+        → Decides result (λ n.
+        row.with_truth o (λ b. if b then row.vanishes else row.clashes Clash.False)) }
     ensures plain { IsPlain result }
 {
     match found {
@@ -41,7 +43,16 @@ pub fn decide_branch(
     env: &Rc<Env>,
 ) -> Result<Decision, NoMemory>
     requires { IfErr found IsPlain }
-    ensures outcome { IfOk result (λ d. (o : Outcome) → TruthIn o found → Decides d (λ n. row.with_truth o (λ b. row.becomes (S.leaf (n.item 0) (S.Do (if b then formula_tree yes.now.value else formula_tree no.now.value) (bindings_of env.now.value)) S.none) 1))) }
+    ensures outcome { IfOk result (λ d.
+        (o : Outcome) → TruthIn o found
+        → Decides d (λ n.
+        row.with_truth o (λ b.
+        row.becomes
+        (S.leaf (n.item 0)
+        (S.Do (if b then formula_tree yes.now.value else formula_tree no.now.value)
+        (bindings_of env.now.value))
+        S.none)
+        1))) }
     ensures plain { IfOk result IsPlain }
 {
     match found {
@@ -74,7 +85,8 @@ fn shorter(alloc: Global, left: Number) -> Result<Rc<Formula>, NoMemory>
 
 // A length of so many states more.
 fn decide_length(alloc: Global, left: Number, env: &Rc<Env>) -> Result<Decision, NoMemory>
-    ensures outcome { IfOk result (λ d. Decides d (λ n. row.length_left [] [] 0 [] left (bindings_of env.now.value) n)) }
+    ensures outcome { IfOk result (λ d.
+        Decides d (λ n. row.length_left [] [] 0 [] left (bindings_of env.now.value) n)) }
     ensures plain { IfOk result IsPlain }
 {
     if left < 0 {
@@ -92,7 +104,10 @@ pub fn decide_len(
     env: &Rc<Env>,
 ) -> Result<Decision, NoMemory>
     requires { IfErr found IsPlain }
-    ensures outcome { IfOk result (λ d. (o : Outcome) → NumberIn o found → Decides d (λ n. row.with_number o (λ k. row.length_left [] [] 0 [] k (bindings_of env.now.value) n))) }
+    ensures outcome { IfOk result (λ d.
+        (o : Outcome) → NumberIn o found
+        → Decides d (λ n.
+        row.with_number o (λ k. row.length_left [] [] 0 [] k (bindings_of env.now.value) n))) }
     ensures plain { IfOk result IsPlain }
 {
     match found {
@@ -106,7 +121,8 @@ pub fn decide_len(
 
 // The equation of a target with a value that was found.
 fn equation(alloc: Global, target: &Rc<Expr>, value: Value) -> Result<Formula, NoMemory>
-    ensures { IfOk result (λ w. formula_tree w ≡ equation (expr_tree target.now.value) (known (tree value))) }
+    ensures { IfOk result (λ w.
+        formula_tree w ≡ equation (expr_tree target.now.value) (known (tree value))) }
 {
     let value = Rc::new(alloc, value)?;
     let value = Rc::new(alloc, Expr::Known(value))?;
@@ -121,7 +137,16 @@ pub fn decide_assign(
     env: &Rc<Env>,
 ) -> Result<Decision, NoMemory>
     requires { IfErr found IsPlain }
-    ensures outcome { IfOk result (λ d. (o : Outcome) → ValueIn o found → Decides d (λ n. row.with_value o (λ v. row.becomes (S.leaf (n.item 0) (S.Do (always (if_empty (equation (expr_tree target.now.value) (known v)))) (bindings_of env.now.value)) S.none) 1))) }
+    ensures outcome { IfOk result (λ d.
+        (o : Outcome) → ValueIn o found
+        → Decides d (λ n.
+        row.with_value o (λ v.
+        row.becomes
+        (S.leaf (n.item 0)
+        (S.Do (always (if_empty (equation (expr_tree target.now.value) (known v))))
+        (bindings_of env.now.value))
+        S.none)
+        1))) }
     ensures plain { IfOk result IsPlain }
 {
     match found {
@@ -158,7 +183,16 @@ pub fn decide_next_equation(
 ) -> Result<Decision, NoMemory>
     requires later { 1 ≤ count }
     requires plain { IfErr found IsPlain }
-    ensures outcome { IfOk result (λ d. (o : Outcome) → ValueIn o found → Decides d (λ n. row.with_value o (λ v. row.going (place_of place) (S.leaf (n.item 0) (S.Later (nexts (count - 1) (equation (expr_tree target.now.value) (known v))) (bindings_of env.now.value)) S.none) 1))) }
+    ensures outcome { IfOk result (λ d.
+        (o : Outcome) → ValueIn o found
+        → Decides d (λ n.
+        row.with_value o (λ v.
+        row.going (place_seen place)
+        (S.leaf (n.item 0)
+        (S.Later (nexts (count - 1) (equation (expr_tree target.now.value) (known v)))
+        (bindings_of env.now.value))
+        S.none)
+        1))) }
     ensures plain { IfOk result IsPlain }
 {
     match found {

@@ -2,8 +2,8 @@
 ghost use Rattle.std.specs.Prelude.{◌≡◌, [], IfOk};
 ghost use Rattle.tp_kernel.specs.Read.{definitions_of};
 ghost use Rattle.tp_scene.specs.Step as row;
-ghost use Rattle.tp_rows.specs.Read.{formula_of, env_of};
-ghost use Rattle.tp_rows.specs.Decided.{decided, place_of, plain_leaf, plain_setting};
+ghost use Rattle.tp_rows.specs.Read.{phrase_formula, phrase_bindings};
+ghost use Rattle.tp_rows.specs.Decided.{decided_outcome, place_seen, plain_leaf, plain_setting};
 ghost use Rattle.tp_rows.specs.Fits.{SetsVariables, FitsStore, LeafFitsStore};
 
 use crate::counting::{decide_instances, decide_turns};
@@ -36,8 +36,14 @@ pub fn decide(
     setting: &Setting,
 ) -> Result<Decision, NoMemory>
     requires none { definitions_of setting.now.defs ≡ [] }
-    requires fits { FitsStore (definitions_of setting.now.defs) store.now.variables (formula_of phrase.now) (env_of phrase.now) }
-    ensures outcome { let w = plain_setting setting.now in IfOk result (λ d. (n : row.Numbers) → decided store.now.facts n d ≡ row.formula_step w.defs w.inputs w.state store.now.facts (formula_of phrase.now) (env_of phrase.now) (place_of place) n) }
+    requires fits { FitsStore (definitions_of setting.now.defs) store.now.variables
+        (phrase_formula phrase.now) (phrase_bindings phrase.now) }
+    ensures outcome { let w = plain_setting setting.now in
+        IfOk result (λ d.
+        (n : row.Numbers)
+        → decided_outcome store.now.facts n d
+        ≡ row.formula_step w.defs w.inputs w.state store.now.facts (phrase_formula phrase.now)
+        (phrase_bindings phrase.now) (place_seen place) n) }
     ensures variables { IfOk result (SetsVariables store.now.variables) }
 {
     let env = &phrase.env;
@@ -113,8 +119,14 @@ pub fn decide_leaf(
     setting: &Setting,
 ) -> Result<Decision, NoMemory>
     requires none { definitions_of setting.now.defs ≡ [] }
-    requires fits { LeafFitsStore (definitions_of setting.now.defs) store.now.variables (plain_leaf leaf.now) (place_of place) }
-    ensures outcome { let w = plain_setting setting.now in IfOk result (λ d. (n : row.Numbers) → decided store.now.facts n d ≡ row.leaf_step w.defs w.inputs w.state store.now.facts (plain_leaf leaf.now) (place_of place) n) }
+    requires fits { LeafFitsStore (definitions_of setting.now.defs) store.now.variables
+        (plain_leaf leaf.now) (place_seen place) }
+    ensures outcome { let w = plain_setting setting.now in
+        IfOk result (λ d.
+        (n : row.Numbers)
+        → decided_outcome store.now.facts n d
+        ≡ row.leaf_step w.defs w.inputs w.state store.now.facts (plain_leaf leaf.now)
+        (place_seen place) n) }
     ensures variables { IfOk result (SetsVariables store.now.variables) }
 {
     match leaf {

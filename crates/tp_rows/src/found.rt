@@ -1,7 +1,7 @@
 // What is found where an expression is evaluated: a value of the kind that is needed, or what its item does without one.
 ghost use Rattle.std.specs.Prelude.{◌≡◌, [], IfOk, IfErr};
 ghost use Rattle.tp_kernel.specs.Read.{expr_tree, expr_trees, definitions_of, bindings_of};
-ghost use Rattle.tp_eval.specs.Answers.{outcome_of};
+ghost use Rattle.tp_eval.specs.Answers.{outcome_tree};
 ghost use Rattle.tp_eval.specs.Outcome.{outcome};
 ghost use Rattle.tp_scene.specs.Step as row;
 ghost use Rattle.tp_rows.specs.Decided.{Decides};
@@ -18,7 +18,7 @@ use tp_store::Store;
 use tp_value::{NoMemory, Number, Value};
 
 fn value(outcome: Outcome) -> Result<Value, Decision>
-    ensures found { ValueIn (outcome_of outcome) result }
+    ensures found { ValueIn (outcome_tree outcome) result }
     ensures plain { IfErr result IsPlain }
 {
     match outcome {
@@ -37,7 +37,7 @@ fn wrong_kind() -> Decision
 }
 
 fn truth(outcome: Outcome) -> Result<bool, Decision>
-    ensures found { TruthIn (outcome_of outcome) result }
+    ensures found { TruthIn (outcome_tree outcome) result }
     ensures plain { IfErr result IsPlain }
 {
     match value(outcome)? {
@@ -48,7 +48,7 @@ fn truth(outcome: Outcome) -> Result<bool, Decision>
 }
 
 fn number(outcome: Outcome) -> Result<Number, Decision>
-    ensures found { NumberIn (outcome_of outcome) result }
+    ensures found { NumberIn (outcome_tree outcome) result }
     ensures plain { IfErr result IsPlain }
 {
     match value(outcome)? {
@@ -67,7 +67,10 @@ pub fn find_value(
     setting: &Setting,
 ) -> Result<Result<Value, Decision>, NoMemory>
     requires { definitions_of setting.now.defs ≡ [] }
-    ensures found { IfOk result (ValueIn (outcome store.now.facts (definitions_of setting.now.defs) (expr_tree expr.now) (bindings_of env.now))) }
+    ensures found { IfOk result
+        (ValueIn
+        (outcome store.now.facts (definitions_of setting.now.defs) (expr_tree expr.now)
+        (bindings_of env.now))) }
     ensures plain { IfOk result (λ found. IfErr found IsPlain) }
 {
     let outcome = eval(alloc, expr, env, store, &setting.defs)?;
@@ -83,7 +86,10 @@ pub fn find_truth(
     setting: &Setting,
 ) -> Result<Result<bool, Decision>, NoMemory>
     requires { definitions_of setting.now.defs ≡ [] }
-    ensures found { IfOk result (TruthIn (outcome store.now.facts (definitions_of setting.now.defs) (expr_tree expr.now) (bindings_of env.now))) }
+    ensures found { IfOk result
+        (TruthIn
+        (outcome store.now.facts (definitions_of setting.now.defs) (expr_tree expr.now)
+        (bindings_of env.now))) }
     ensures plain { IfOk result (λ found. IfErr found IsPlain) }
 {
     let outcome = eval(alloc, expr, env, store, &setting.defs)?;
@@ -99,7 +105,10 @@ pub fn find_number(
     setting: &Setting,
 ) -> Result<Result<Number, Decision>, NoMemory>
     requires { definitions_of setting.now.defs ≡ [] }
-    ensures found { IfOk result (NumberIn (outcome store.now.facts (definitions_of setting.now.defs) (expr_tree expr.now) (bindings_of env.now))) }
+    ensures found { IfOk result
+        (NumberIn
+        (outcome store.now.facts (definitions_of setting.now.defs) (expr_tree expr.now)
+        (bindings_of env.now))) }
     ensures plain { IfOk result (λ found. IfErr found IsPlain) }
 {
     let outcome = eval(alloc, expr, env, store, &setting.defs)?;

@@ -4,8 +4,8 @@ ghost use Rattle.tp_value.specs.declared.path.Fact.{Fact};
 ghost use Rattle.tp_scene.specs.Scene as S;
 ghost use Rattle.tp_scene.specs.Step as row;
 ghost use Rattle.tp_scene.specs.Pick as pick;
-ghost use Rattle.tp_rows.specs.Decided.{place_of};
-ghost use Rattle.tp_rows.specs.Holders.{kind_of, closes, begins, holder_decided};
+ghost use Rattle.tp_rows.specs.Decided.{place_seen};
+ghost use Rattle.tp_rows.specs.Holders.{kind_of, closes, begins_piece, holder_decided};
 
 use crate::decision::Place;
 use tp_scene::Cell;
@@ -43,7 +43,9 @@ fn wait_for_end(inside: Place) -> HolderDecision
 
 // By the status of a left region.
 fn decide_left(inside: Place) -> HolderDecision
-    ensures { (k : S.Holder) (held second : S.Region) (n : row.Numbers) → holder_decided k held second n result ≡ row.by_status (place_of inside) row.rests (closes k held second n) }
+    ensures { (k : S.Holder) (held second : S.Region) (n : row.Numbers)
+        → holder_decided k held second n result
+        ≡ row.by_status (place_seen inside) row.rests (closes k held second n) }
 {
     if inside.goes {
         HolderDecision::Rests
@@ -56,7 +58,9 @@ fn decide_left(inside: Place) -> HolderDecision
 
 // By the status of an outer region.
 fn decide_outer(inside: Place) -> HolderDecision
-    ensures { (k : S.Holder) (held second : S.Region) (n : row.Numbers) → holder_decided k held second n result ≡ row.by_status (place_of inside) (begins k held n) row.rests }
+    ensures { (k : S.Holder) (held second : S.Region) (n : row.Numbers)
+        → holder_decided k held second n result
+        ≡ row.by_status (place_seen inside) (begins_piece k held n) row.rests }
 {
     if inside.goes {
         HolderDecision::Begins
@@ -69,7 +73,11 @@ fn decide_outer(inside: Place) -> HolderDecision
 
 /// What picking an item of this kind gives, by the place of the items of the region that it holds.
 pub fn decide_holder(kind: HolderKind, inside: Place) -> HolderDecision
-    ensures { (w : pick.Setting) (facts : List Fact) (k : S.Holder) (held second : S.Region) (n : row.Numbers) → kind_of k ≡ kind → holder_decided k held second n result ≡ row.holder_step w.defs w.inputs w.state facts k held second (place_of inside) n }
+    ensures { (w : pick.Setting) (facts : List Fact) (k : S.Holder) (held second : S.Region)
+        (n : row.Numbers)
+        → kind_of k ≡ kind
+        → holder_decided k held second n result
+        ≡ row.holder_step w.defs w.inputs w.state facts k held second (place_seen inside) n }
 {
     match kind {
         HolderKind::Split => decide_left(inside),

@@ -4,7 +4,7 @@ ghost use Rattle.tp_meaning.specs.Syntax.{always, weak_next, branch, chop, conju
 ghost use Rattle.tp_kernel.specs.Read.{expr_tree, formula_tree, formula_trees, bindings_of};
 ghost use Rattle.tp_scene.specs.Scene as S;
 ghost use Rattle.tp_scene.specs.Step as row;
-ghost use Rattle.tp_rows.specs.Decided.{Decides, place_of};
+ghost use Rattle.tp_rows.specs.Decided.{Decides, place_seen};
 ghost use Rattle.tp_rows.specs.Fits.{IsPlain};
 
 use crate::decision::{
@@ -22,7 +22,12 @@ pub fn decide_next(
     env: &Rc<Env>,
     place: Place,
 ) -> Result<Decision, NoMemory>
-    ensures outcome { IfOk result (λ d. Decides d (λ n. row.going (place_of place) (S.leaf (n.item 0) (S.Later (formula_tree what.now.value) (bindings_of env.now.value)) S.none) 1)) }
+    ensures outcome { IfOk result (λ d.
+        Decides d (λ n.
+        row.going (place_seen place)
+        (S.leaf (n.item 0) (S.Later (formula_tree what.now.value) (bindings_of env.now.value))
+        S.none)
+        1)) }
     ensures plain { IfOk result IsPlain }
 {
     let mut news = Vec::new(alloc);
@@ -37,7 +42,14 @@ pub fn decide_weak_next(
     env: &Rc<Env>,
     place: Place,
 ) -> Result<Decision, NoMemory>
-    ensures outcome { IfOk result (λ d. Decides d (λ n. row.by_status (place_of place) (row.becomes (S.leaf (n.item 0) (S.Later (formula_tree what.now.value) (bindings_of env.now.value)) S.none) 1) row.vanishes)) }
+    ensures outcome { IfOk result (λ d.
+        Decides d (λ n.
+        row.by_status (place_seen place)
+        (row.becomes
+        (S.leaf (n.item 0) (S.Later (formula_tree what.now.value) (bindings_of env.now.value))
+        S.none)
+        1)
+        row.vanishes)) }
     ensures plain { IfOk result IsPlain }
 {
     if place.goes {
@@ -57,7 +69,13 @@ pub fn decide_if_more(
     env: &Rc<Env>,
     place: Place,
 ) -> Result<Decision, NoMemory>
-    ensures outcome { IfOk result (λ d. Decides d (λ n. row.by_status (place_of place) (row.becomes (S.leaf (n.item 0) (S.Do (formula_tree what.now.value) (bindings_of env.now.value)) S.none) 1) row.vanishes)) }
+    ensures outcome { IfOk result (λ d.
+        Decides d (λ n.
+        row.by_status (place_seen place)
+        (row.becomes
+        (S.leaf (n.item 0) (S.Do (formula_tree what.now.value) (bindings_of env.now.value)) S.none)
+        1)
+        row.vanishes)) }
     ensures plain { IfOk result IsPlain }
 {
     if place.goes {
@@ -77,7 +95,12 @@ pub fn decide_if_empty(
     env: &Rc<Env>,
     place: Place,
 ) -> Result<Decision, NoMemory>
-    ensures outcome { IfOk result (λ d. Decides d (λ n. row.by_status (place_of place) row.vanishes (row.becomes (S.leaf (n.item 0) (S.Do (formula_tree what.now.value) (bindings_of env.now.value)) S.none) 1))) }
+    ensures outcome { IfOk result (λ d.
+        Decides d (λ n.
+        row.by_status (place_seen place) row.vanishes
+        (row.becomes
+        (S.leaf (n.item 0) (S.Do (formula_tree what.now.value) (bindings_of env.now.value)) S.none)
+        1))) }
     ensures plain { IfOk result IsPlain }
 {
     if place.goes {
@@ -98,7 +121,14 @@ pub fn decide_always(
     env: &Rc<Env>,
 ) -> Result<Decision, NoMemory>
     requires { formula_tree all.now.value ≡ always (formula_tree what.now.value) }
-    ensures outcome { IfOk result (λ d. Decides d (λ n. row.becomes (S.leaf (n.item 0) (S.Do (formula_tree what.now.value) (bindings_of env.now.value)) (S.leaf (n.item 1) (S.Do (weak_next (always (formula_tree what.now.value))) (bindings_of env.now.value)) S.none)) 2)) }
+    ensures outcome { IfOk result (λ d.
+        Decides d (λ n.
+        row.becomes
+        (S.leaf (n.item 0) (S.Do (formula_tree what.now.value) (bindings_of env.now.value))
+        (S.leaf (n.item 1)
+        (S.Do (weak_next (always (formula_tree what.now.value))) (bindings_of env.now.value))
+        S.none))
+        2)) }
     ensures plain { IfOk result IsPlain }
 {
     let again = Rc::new(alloc, Formula::WeakNext(all.clone()?))?;
@@ -109,7 +139,10 @@ pub fn decide_always(
 
 /// Each operand, in order.
 pub fn decide_and(alloc: Global, operands: &Formulas, env: &Rc<Env>) -> Result<Decision, NoMemory>
-    ensures outcome { IfOk result (λ d. Decides d (λ n. row.becomes (row.all_do (formula_trees operands.now) (bindings_of env.now.value) n.item 0) (row.count_of (formula_trees operands.now)))) }
+    ensures outcome { IfOk result (λ d.
+        Decides d (λ n.
+        row.becomes (row.all_do (formula_trees operands.now) (bindings_of env.now.value) n.item 0)
+        (row.count_of (formula_trees operands.now)))) }
     ensures plain { IfOk result IsPlain }
 {
     let mut news = Vec::new(alloc);
@@ -122,7 +155,10 @@ pub fn decide_and(alloc: Global, operands: &Formulas, env: &Rc<Env>) -> Result<D
 
 // A turn of the loop, which isn't its last state, and then the loop again.
 fn turn(alloc: Global, whole: &Rc<Formula>, body: &Rc<Formula>) -> Result<Rc<Formula>, NoMemory>
-    ensures { IfOk result (λ w. formula_tree w.value ≡ chop (conjunction (formulas_of (formula_tree body.now.value ∷ more ∷ []))) (formula_tree whole.now.value)) }
+    ensures { IfOk result (λ w.
+        formula_tree w.value
+        ≡ chop (conjunction (formulas_of (formula_tree body.now.value ∷ more ∷ [])))
+        (formula_tree whole.now.value)) }
 {
     let mut parts = Vec::new(alloc);
     parts.push(body.clone()?)?;
@@ -141,7 +177,18 @@ pub fn decide_while(
     body: &Rc<Formula>,
     env: &Rc<Env>,
 ) -> Result<Decision, NoMemory>
-    ensures outcome { IfOk result (λ d. Decides d (λ n. row.becomes (S.leaf (n.item 0) (S.Do (branch (expr_tree condition.now.value) (chop (conjunction (formulas_of (formula_tree body.now.value ∷ more ∷ []))) (formula_tree whole.now.value)) empty) (bindings_of env.now.value)) S.none) 1)) }
+    ensures outcome { IfOk result (λ d.
+        Decides d (λ n.
+        row.becomes
+        (S.leaf (n.item 0)
+        (S.Do
+        (branch (expr_tree condition.now.value)
+        (chop (conjunction (formulas_of (formula_tree body.now.value ∷ more ∷ [])))
+        (formula_tree whole.now.value))
+        empty)
+        (bindings_of env.now.value))
+        S.none)
+        1)) }
     ensures plain { IfOk result IsPlain }
 {
     let turn = turn(alloc, whole, body)?;

@@ -6,7 +6,7 @@ ghost use Rattle.tp_scene.specs.Scene as S;
 ghost use Rattle.tp_scene.specs.Step as row;
 ghost use Rattle.tp_rows.specs.Decided.{Decides};
 ghost use Rattle.tp_rows.specs.Fits.{IsPlain};
-ghost use Rattle.tp_rows.specs.Read.{formula_of, env_of};
+ghost use Rattle.tp_rows.specs.Read.{phrase_formula, phrase_bindings};
 
 use crate::decision::{Decision, Place};
 use crate::env::under;
@@ -20,7 +20,12 @@ const REGION_LIMIT: u32 = 400;
 
 /// A new left region, unless it is too deep.
 pub fn split(place: Place, first: Phrase, after: Phrase) -> Decision
-    ensures outcome { Decides result (λ n. row.with_region place.depth (S.split_then (n.item 1) (row.region_of n.region (n.item 0) (formula_of first) (env_of first)) (formula_of after) (env_of after) S.none) 2) }
+    ensures outcome { Decides result (λ n.
+        row.with_region place.depth
+        (S.split_then (n.item 1)
+        (row.region_of n.region (n.item 0) (phrase_formula first) (phrase_bindings first))
+        (phrase_formula after) (phrase_bindings after) S.none)
+        2) }
     ensures plain { IsPlain result }
 {
     if place.depth < REGION_LIMIT {
@@ -32,7 +37,12 @@ pub fn split(place: Place, first: Phrase, after: Phrase) -> Decision
 
 // A new outer region, unless it is too deep.
 fn open(place: Place, outer: Phrase, piece: Phrase) -> Decision
-    ensures outcome { Decides result (λ n. row.with_region place.depth (S.opened_then (n.item 1) (row.region_of n.region (n.item 0) (formula_of outer) (env_of outer)) (formula_of piece) (env_of piece) S.none) 2) }
+    ensures outcome { Decides result (λ n.
+        row.with_region place.depth
+        (S.opened_then (n.item 1)
+        (row.region_of n.region (n.item 0) (phrase_formula outer) (phrase_bindings outer))
+        (phrase_formula piece) (phrase_bindings piece) S.none)
+        2) }
     ensures plain { IsPlain result }
 {
     if place.depth < REGION_LIMIT {
@@ -49,7 +59,14 @@ pub fn decide_chop(
     env: &Rc<Env>,
     place: Place,
 ) -> Result<Decision, NoMemory>
-    ensures outcome { IfOk result (λ d. Decides d (λ n. row.with_region place.depth (S.split_then (n.item 1) (row.region_of n.region (n.item 0) (formula_tree first.now.value) (bindings_of env.now.value)) (formula_tree after.now.value) (bindings_of env.now.value) S.none) 2)) }
+    ensures outcome { IfOk result (λ d.
+        Decides d (λ n.
+        row.with_region place.depth
+        (S.split_then (n.item 1)
+        (row.region_of n.region (n.item 0) (formula_tree first.now.value)
+        (bindings_of env.now.value))
+        (formula_tree after.now.value) (bindings_of env.now.value) S.none)
+        2)) }
     ensures plain { IfOk result IsPlain }
 {
     let first = under(first.clone()?, env)?;
@@ -64,7 +81,14 @@ pub fn decide_project(
     env: &Rc<Env>,
     place: Place,
 ) -> Result<Decision, NoMemory>
-    ensures outcome { IfOk result (λ d. Decides d (λ n. row.with_region place.depth (S.opened_then (n.item 1) (row.region_of n.region (n.item 0) (formula_tree outer.now.value) (bindings_of env.now.value)) (formula_tree piece.now.value) (bindings_of env.now.value) S.none) 2)) }
+    ensures outcome { IfOk result (λ d.
+        Decides d (λ n.
+        row.with_region place.depth
+        (S.opened_then (n.item 1)
+        (row.region_of n.region (n.item 0) (formula_tree outer.now.value)
+        (bindings_of env.now.value))
+        (formula_tree piece.now.value) (bindings_of env.now.value) S.none)
+        2)) }
     ensures plain { IfOk result IsPlain }
 {
     let outer = under(outer.clone()?, env)?;
@@ -79,7 +103,20 @@ pub fn decide_exists(
     body: &Rc<Formula>,
     env: &Rc<Env>,
 ) -> Result<Decision, NoMemory>
-    ensures outcome { IfOk result (λ d. Decides d (λ n. row.reduces (record { news = S.leaf (n.item 0) (S.Do (formula_tree body.now.value) (bindings_of env.now.value ++ place_binding (record { var = record { number = n.local; lasting = lasting }; at = [] }) ∷ [])) S.none; items = 1; regions = 0; local = Some (record { name = name.now; lasting = lasting }); mark = None; facts = [] }))) }
+    ensures outcome { IfOk result (λ d.
+        Decides d (λ n.
+        row.reduces
+        (record {
+          news = S.leaf (n.item 0) (S.Do (formula_tree body.now.value)
+              (bindings_of env.now.value
+              ++ place_binding (record { var = record { number = n.local; lasting = lasting }; at = [] })
+              ∷ [])) S.none;
+          items = 1;
+          regions = 0;
+          local = Some (record { name = name.now; lasting = lasting });
+          mark = None;
+          facts = [];
+        }))) }
     ensures plain { IfOk result IsPlain }
 {
     let name = name.copy()?;

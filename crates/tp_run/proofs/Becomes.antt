@@ -22,15 +22,15 @@ use Rattle.tp_step.specs.declared.answer.Tried.{Tried}
 use Rattle.tp_step.specs.declared.answer.Tried.TheVariants as tried
 use Rattle.tp_step.specs.declared.answer.Ending.{Ending}
 use Rattle.tp_step.specs.declared.answer.Ending.TheVariants as ending
-use Rattle.tp_pass.specs.Closes.{Closes}
+use Rattle.tp_pass.specs.Closes.{ClosureAnswers}
 use Rattle.tp_run.specs.declared.run.Run.{Run}
 use Rattle.tp_run.specs.declared.run.Settings.{Settings}
 use Rattle.tp_run.specs.declared.run.Stand.{Stand}
 use Rattle.tp_run.specs.declared.turn.Picture.{Picture}
 use Rattle.tp_run.specs.declared.turn.Turn.{Turn}
 use Rattle.tp_run.specs.declared.turn.Turn.TheVariants.{Went, Finished, Contradictory, Undetermined, StateLimit, InputMissing, Over}
-use Rattle.tp_run.specs.States.{Plan, globals_of, setting, IsPictureOf, GoesOn, EndsHere, Standing, open_at, answered, ReachesLimit, limit_moment, state_after, StateBecomes, StoreBecomes}
-use Rattle.tp_run.specs.Meaning.{StandingFor, BeginsWith, AgreesWith, AnswerMeans}
+use Rattle.tp_run.specs.States.{Plan, globals_of, setting, IsPictureOf, StateGoesOn, StateEnds, Standing, open_at, answered, ReachesLimit, limit_moment, state_after, StateBecomes, StoreBecomes}
+use Rattle.tp_run.specs.Meaning.{StandingFor, StandsForItsProgram, AgreesWithFacts, AnswerMeans}
 use Rattle.tp_run.specs.Runs.{stands_at, standing_of, setting_in, StandsReady, IsSettingsOf, IsRunOf, HasPicture, NextOf, RestTurns}
 use Rattle.tp_run.proofs.StatesMean.{leads_ready, leads_keep, goes_on_says, ends_here_says, next_ready}
 use Rattle.tp_run.proofs.HistoryLemmas.{no_definitions}
@@ -44,7 +44,7 @@ same_setting plan settings n h =
     ap₂ make h.definitions h.inputs
 
 -- what a run begins with
-pub begins : (plan : Plan) → IsBuilt plan.names plan.main → BeginsWith plan (open_at (first_moment plan.names plan.main))
+pub begins : (plan : Plan) → IsBuilt plan.names plan.main → StandsForItsProgram plan (open_at (first_moment plan.names plan.main))
 begins plan built = (begin_laws.runs_begin (setting plan 0) plan.names plan.main (no_definitions (kinds_of plan.names)) built.1).stands
 
 -- an answer that an item waits
@@ -74,7 +74,7 @@ waiting_answer w kinds room m next t a ready rest e h =
 module _ (plan : Plan) (n : ℕ) (m last : Moment) (before after : List ℕ) where
   -- the closure of state n, which begins with m, comes to this end
   abbrev pub Comes : Ending → Type 0
-  Comes ending = Closes (setting plan n) plan.reductions m last before after ending
+  Comes ending = ClosureAnswers (setting plan n) plan.reductions m last before after ending
 
   pub clash_met : (clash : Clash) → Comes (ending.Clash clash) → replay.MeetsClash (setting plan n) plan.reductions m clash
   clash_met clash h =
@@ -117,7 +117,7 @@ module _ (plan : Plan) (n : ℕ) (m last : Moment) (before after : List ℕ) whe
     pictured : (picture : Picture) → HasPicture (globals_of plan) n reductions last picture → IsPictureOf plan n comes.made.picks last picture
     pictured picture h = record { state = h.state; facts = h.facts; shows = h.shows; reductions = h.reductions_are ∙ counted }
 
-    went_on : (new : Picture) (next : Moment) → settled last.scene ≡ goes → HasPicture (globals_of plan) n reductions last new → NextOf last next → GoesOn plan n m new next
+    went_on : (new : Picture) (next : Moment) → settled last.scene ≡ goes → HasPicture (globals_of plan) n reductions last new → NextOf last next → StateGoesOn plan n m new next
     went_on new next settles picture on = record {
       within = within;
       picks = comes.made.picks;
@@ -126,7 +126,7 @@ module _ (plan : Plan) (n : ℕ) (m last : Moment) (before after : List ℕ) whe
       picture_is = pictured new picture;
     }
 
-    ended_here : (new : Picture) → settled last.scene ≡ ends → HasPicture (globals_of plan) n reductions last new → EndsHere plan n m new
+    ended_here : (new : Picture) → settled last.scene ≡ ends → HasPicture (globals_of plan) n reductions last new → StateEnds plan n m new
     ended_here new settles picture =
         record { within = within; picks = comes.made.picks; last = last; ends = record { closes = closed; settles = settles }; picture_is = pictured new picture }
 
@@ -159,15 +159,15 @@ module _ (plan : Plan) (n : ℕ) (m last : Moment) (before after : List ℕ) whe
 
 -- the same with settings of the plan, with which the closure was read
 module _ (plan : Plan) (settings : Settings) (is : IsSettingsOf plan settings) (n : ℕ) (most : n ≤ settings.limits.states) (more : n ≡ settings.limits.states → ⊥) (m last : Moment) (before after : List ℕ) (found : Ending)
-    (closes : Closes (setting_in settings n) settings.limits.reductions m last before after found) where
+    (closes : ClosureAnswers (setting_in settings n) settings.limits.reductions m last before after found) where
   state_within : n < plan.states
   state_within = omega (arith, most, is.states, more)
 
   comes_to : (end : Ending) → found ≡ end → Comes plan n m last before after end
   comes_to end e =
-      subst (λ (x : Ending). Closes (setting plan n) plan.reductions m last before after x) e
-      (subst (λ k. Closes (setting plan n) k m last before after found) is.reductions
-      (subst (λ (w : Setting). Closes w settings.limits.reductions m last before after found) (same_setting plan settings n is) closes))
+      subst (λ (x : Ending). ClosureAnswers (setting plan n) plan.reductions m last before after x) e
+      (subst (λ k. ClosureAnswers (setting plan n) k m last before after found) is.reductions
+      (subst (λ (w : Setting). ClosureAnswers w settings.limits.reductions m last before after found) (same_setting plan settings n is) closes))
 
   module _ (reductions : ℕ) (old new : Picture) (standing : Standing) (store : Contents) (turn : Turn) (first : before ≡ []) (count : reductions ≡ length after) (e : found ≡ ending.Rest)
       (h : RestTurns (setting_in settings n) settings.globals reductions last old new standing store turn) where
@@ -213,7 +213,7 @@ module _ (plan : Plan) (n : ℕ) (m : Moment) (old new : Picture) (standing : St
   went_means : Becomes Went → AnswerMeans plan n (open_at m) standing new Went
   went_means w s a b S static own =
       let one = goes_on_says scene_laws plan n m w.0 new ready w.1 s a b S static own in
-      let Rest : Standing → Type 0 = λ z. (a < b) × AgreesWith s a new.facts × ((U : Shows) × (S ≡ shown_at a (shows_of new.shows) ⊕ U) × StandingFor plan (suc n) z s (suc a) b U) in
+      let Rest : Standing → Type 0 = λ z. (a < b) × AgreesWithFacts s a new.facts × ((U : Shows) × (S ≡ shown_at a (shows_of new.shows) ⊕ U) × StandingFor plan (suc n) z s (suc a) b U) in
       (λ h. subst Rest (sym w.2) (one.0 h), λ h. one.1 (subst Rest w.2 h))
 
   clash_means : (clash : Clash) → replay.MeetsClash (setting plan n) plan.reductions m clash → (s : Course) (a b : ℕ) (S : Shows) → (s a).own ≡ n → StandingFor plan n (open_at m) s a b S → ⊥

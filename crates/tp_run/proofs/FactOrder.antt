@@ -17,7 +17,7 @@ use Rattle.tp_value.specs.declared.path.Path.{Path}
 use Rattle.tp_value.specs.declared.path.Fact.{Fact}
 use Rattle.tp_store.specs.Facts.{same_path, clash, kept_shape, fact}
 use Rattle.tp_store.specs.Known.{Contents, Variable, NoClash, is_lesser, facts_below, IsVariableOf}
-use Rattle.tp_store.specs.Changes.{IsSound, HaveSameShapes, HasAppended}
+use Rattle.tp_store.specs.Changes.{IsSoundStore, HaveSameShapes, HasAppended}
 use Rattle.tp_store.proofs.Paths.{same_path-decides, same_path-refl}
 use Rattle.tp_store.proofs.Members.{In, in_filter, kept_in, in_kept, kept_none, none_kept, meets_none, apart_in}
 use Rattle.tp_store.proofs.Same.{same_kept}
@@ -172,13 +172,13 @@ no_clash_permuted xs ys moved n =
     no_clash_from ys once (λ f g i j. apart_in xs f g n (back f i) (back g j))
 
 -- a fact of the globals is of a variable of the store's
-global_in : (globals : ℕ) (s : Contents) (xs : List Fact) → IsSound s → NoClash xs → HaveSameShapes xs (facts_below globals s.facts) → (f : Fact) → In f xs → IsVariableOf s.variables f.path.var
+global_in : (globals : ℕ) (s : Contents) (xs : List Fact) → IsSoundStore s → NoClash xs → HaveSameShapes xs (facts_below globals s.facts) → (f : Fact) → In f xs → IsVariableOf s.variables f.path.var
 global_in globals s xs sound n same f i =
     let shape : kept_shape (facts_below globals s.facts) f.path ≡ Some f.shape = sym (same f.path) ∙ in_kept xs f n i in
     let below = in_filter (λ g. nat_lt g.path.var.number globals) (fact f.path f.shape) s.facts (kept_in (facts_below globals s.facts) f.path f.shape shape) in
     of_variables_in s.variables s.facts sound.of_variables (fact f.path f.shape) below.0
 
-sorted_globals : (globals : ℕ) (s : Contents) (xs ys : List Fact) → IsSound s → NoClash xs → HaveSameShapes xs (facts_below globals s.facts) → IsPermutation xs ys → IsSortedBy is_before ys → AreGlobals globals s.facts ys
+sorted_globals : (globals : ℕ) (s : Contents) (xs ys : List Fact) → IsSoundStore s → NoClash xs → HaveSameShapes xs (facts_below globals s.facts) → IsPermutation xs ys → IsSortedBy is_before ys → AreGlobals globals s.facts ys
 sorted_globals globals s xs ys sound n same moved sorted =
     let back = in_permuted xs ys moved in
     let there = in_permuted ys xs (IsPermutation-sym xs ys moved) in
@@ -190,7 +190,7 @@ sorted_globals globals s xs ys sound n same moved sorted =
     }
 
 -- The facts of the globals that a store appended to none, sorted, are its globals in order.
-pub appended_sorted : (globals : ℕ) (s : Contents) (old new xs ys : List Fact) → IsSound s → HasAppended (facts_below globals s.facts) old new → old ≡ [] → xs ≡ new → IsPermutation xs ys → IsSortedBy is_before ys → AreGlobals globals s.facts ys
+pub appended_sorted : (globals : ℕ) (s : Contents) (old new xs ys : List Fact) → IsSoundStore s → HasAppended (facts_below globals s.facts) old new → old ≡ [] → xs ≡ new → IsPermutation xs ys → IsSortedBy is_before ys → AreGlobals globals s.facts ys
 appended_sorted globals s old new xs ys sound more empty is moved sorted =
     let all : xs ≡ more.appended = is ∙ more.list ∙ ap (λ l. l ++ more.appended) empty in
     sorted_globals globals s more.appended ys sound more.no_clash more.shapes (subst (λ l. IsPermutation l ys) all moved) sorted

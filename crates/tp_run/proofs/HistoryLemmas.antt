@@ -20,8 +20,8 @@ use Rattle.tp_scene.specs.Built.{IsReady}
 use Rattle.tp_run.specs.declared.turn.Picture.{Picture}
 use Rattle.tp_run.specs.declared.turn.Turn.{Turn}
 use Rattle.tp_run.specs.declared.turn.Turn.TheVariants.{Went, Finished, Contradictory, Undetermined, StateLimit, InputMissing, Over}
-use Rattle.tp_run.specs.States.{Plan, globals_of, setting, GoesOn, StatesLead, LeadsTo, Standing, open_at, ReachesLimit, Answers}
-use Rattle.tp_run.specs.History.{FinishesAt, RunEndsWith, program_of, AgreesWithPictures, shown_from, SatisfiedExactly, Satisfiable, Unsatisfiable, ContinuesEach, EndMeans, Advances, RunsAdvance}
+use Rattle.tp_run.specs.States.{Plan, globals_of, setting, StateGoesOn, StatesLead, LeadsTo, Standing, open_at, ReachesLimit, AnswersState}
+use Rattle.tp_run.specs.History.{FinishesAt, RunEndsWith, planned_program, AgreesWithPictures, shown_from, SatisfiedExactly, Satisfiable, Unsatisfiable, ContinuesEach, EndOfRunMeans, Advances, RunsAdvance}
 use Rattle.tp_run.proofs.StatesMean.{SceneLaws, leads_ready, leads_keep, lead_ready, states_say, ends_here_says, picture_agrees}
 use Rattle.tp_run.proofs.Silent.{says_silent}
 use Rattle.tp_run.proofs.Lives.{StateLaws, lives, Agree, agree_at, agrees_with_less, below_keeps, picks_keep}
@@ -58,7 +58,7 @@ no_definitions kinds = record { formula = λ p f e. absurd (cc); expr = λ p f e
 
 module _ (laws : SceneLaws) (begins : BeginLaws) (stores : StateLaws) where
   -- a program's interval satisfies it where the states agree with the pictures, and what comes after them is stood for
-  pub leads_say : (plan : Plan) (ps : List Picture) (m : Moment) → IsBuilt plan.names plan.main → LeadsTo plan ps m → (s : Course) (a b : ℕ) (S : Shows) → IsInterval (program_of plan) s a b
+  pub leads_say : (plan : Plan) (ps : List Picture) (m : Moment) → IsBuilt plan.names plan.main → LeadsTo plan ps m → (s : Course) (a b : ℕ) (S : Shows) → IsInterval (planned_program plan) s a b
       → ((d : ℕ) × Holds (record { defs = []; inputs = plan.inputs }) d plan.main [] s a b S)
       ↔ ((length ps + a ≤ b) × AgreesWithPictures s a ps × ((U : Shows) × (S ≡ shown_from a ps ⊕ U) × StandsFor (setting plan (length ps)) (globals_of plan) m s (length ps + a) b U))
   leads_say plan ps m built leads s a b S interval =
@@ -71,7 +71,7 @@ module _ (laws : SceneLaws) (begins : BeginLaws) (stores : StateLaws) where
   ready_after plan ps m built leads = lead_ready laws plan 0 (length ps) ps (first_moment plan.names plan.main) m (omega arith) (begins.begin_ready plan built) leads
 
   -- the state after some pictures has their number
-  number_after : (plan : Plan) (ps : List Picture) (s : Course) (a b : ℕ) → IsInterval (program_of plan) s a b → length ps + a ≤ b → (s (length ps + a)).own ≡ length ps
+  number_after : (plan : Plan) (ps : List Picture) (s : Course) (a b : ℕ) → IsInterval (planned_program plan) s a b → length ps + a ≤ b → (s (length ps + a)).own ≡ length ps
   number_after plan ps s a b interval le = interval.numbered (length ps) le ∙ omega arith
 
   -- a run that finishes
@@ -82,7 +82,7 @@ module _ (laws : SceneLaws) (begins : BeginLaws) (stores : StateLaws) where
       let G = globals_of plan in
       let last_shows : shown_from a ps ≡ shown_from a w.before ⊕ shown_at (k + a) (shows_of w.final.shows) =
       ap (shown_from a) w.pictures ∙ shown_join a w.before (w.final ∷ []) ∙ ap (λ (T : Shows). shown_from a w.before ⊕ T) (join-blank (shown_at (k + a) (shows_of w.final.shows))) in
-      let end = λ (interval : IsInterval (program_of plan) s a b) (le : k + a ≤ b) (U : Shows). ends_here_says laws plan k w.moment w.final here w.ends s (k + a) b U (number_after plan w.before s a b interval le) in (
+      let end = λ (interval : IsInterval (planned_program plan) s a b) (le : k + a ≤ b) (U : Shows). ends_here_says laws plan k w.moment w.final here w.ends s (k + a) b U (number_after plan w.before s a b interval le) in (
         λ h.
             let interval = h.0 in
             let x = (leads_say plan w.before w.moment built w.leads s a b S interval).0 h.1 in
@@ -124,7 +124,7 @@ module _ (laws : SceneLaws) (begins : BeginLaws) (stores : StateLaws) where
       let zeros : (j : ℕ) → j ≡ j + 0 = λ j. omega arith in
       let fronts = agree_at s 0 w.before (subst (λ (t : Course). Agree t w.before) (λ i j. s (zeros j i)) l.1.agree) in
       let agrees = subst (AgreesWithPictures s 0) (sym w.pictures) (agree_join s 0 w.before (w.final ∷ []) fronts last) in
-      let interval : IsInterval (program_of plan) s 0 n = record {
+      let interval : IsInterval (planned_program plan) s 0 n = record {
         nonempty = omega arith;
         numbered = λ j h. ap (λ i. (s i).own) (sym (zeros j)) ∙ l.1.own j;
         static = λ x e i j ai ib aj jb. l.1.statics i x e ∙ sym (l.1.statics j x e);
@@ -160,7 +160,7 @@ module _ (laws : SceneLaws) (begins : BeginLaws) (stores : StateLaws) where
       (x.0, x.1, λ j less. ap (λ (T : Shows). T j) x.2.1 ∙ ap (λ vs. shown_from a ps j ++ vs) (silent j less) ∙ append-nil (shown_from a ps j))
 
   -- What the end of a run says of every interval.
-  pub end_means : (plan : Plan) → IsBuilt plan.names plan.main → (ps : List Picture) (turn : Turn) → RunEndsWith plan ps turn → EndMeans plan ps turn
+  pub end_means : (plan : Plan) → IsBuilt plan.names plan.main → (ps : List Picture) (turn : Turn) → RunEndsWith plan ps turn → EndOfRunMeans plan ps turn
   end_means plan built ps Went w = tt
   end_means plan built ps (Finished n) w = (finish_says plan ps n built w, finish_satisfiable plan ps n built w)
   end_means plan built ps (Contradictory state clash) w = clash_says plan ps w.0 state clash w.3 built w.1 w.2
@@ -170,14 +170,14 @@ module _ (laws : SceneLaws) (begins : BeginLaws) (stores : StateLaws) where
   end_means plan built ps (Over state limit) w = continues_each plan ps w.0 built w.1
 
 -- one more state
-lead_more : (plan : Plan) (n : ℕ) (r : Moment) (ps : List Picture) (m : Moment) (k : ℕ) (p : Picture) (next : Moment) → k ≡ length ps + n → StatesLead plan n r ps m → GoesOn plan k m p next → StatesLead plan n r (ps ++ p ∷ []) next
+lead_more : (plan : Plan) (n : ℕ) (r : Moment) (ps : List Picture) (m : Moment) (k : ℕ) (p : Picture) (next : Moment) → k ≡ length ps + n → StatesLead plan n r ps m → StateGoesOn plan k m p next → StatesLead plan n r (ps ++ p ∷ []) next
 lead_more plan n r [] m k p next e h g =
     let here : k ≡ n = omega (arith, e) in
-    (next, subst (λ i. GoesOn plan i r p next) here (subst (λ (z : Moment). GoesOn plan k z p next) h g), refl)
+    (next, subst (λ i. StateGoesOn plan i r p next) here (subst (λ (z : Moment). StateGoesOn plan k z p next) h g), refl)
 lead_more plan n r (q ∷ ps) m k p next e h g = (h.0, h.1, lead_more plan (suc n) h.0 ps m k p next (omega (arith, e)) h.2 g)
 
 advance_by : (plan : Plan) (ps : List Picture) (m : Moment) → LeadsTo plan ps m → (old new : Picture) (standing : Standing) (next : ℕ) (turn : Turn)
-    → Answers plan (open_at m) (length ps) old new standing next turn → Advances plan ps old new standing next turn
+    → AnswersState plan (open_at m) (length ps) old new standing next turn → Advances plan ps old new standing next turn
 advance_by plan ps m leads old new standing next Went w =
     let g = w.0.1 in
     (w.0.0, w.0.2, lead_more plan 0 (first_moment plan.names plan.main) ps m (length ps) new w.0.0 (omega arith) leads g, w.1 ∙ omega (arith, length-append ps (new ∷ [])), g.picture_is.state)

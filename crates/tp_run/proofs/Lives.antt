@@ -12,7 +12,7 @@ use Rattle.tp_store.proofs.Members.{in_filter, filter_in, kept_in, in_kept, agre
 use Rattle.tp_scene.specs.Pick.{Setting, Moment, Leads}
 use Rattle.tp_scene.specs.Built.{IsReady}
 use Rattle.tp_run.specs.declared.turn.Picture.{Picture}
-use Rattle.tp_run.specs.States.{Plan, globals_of, setting, GoesOn, StatesLead}
+use Rattle.tp_run.specs.States.{Plan, globals_of, setting, StateGoesOn, StatesLead}
 use Rattle.tp_run.specs.History.{AgreesWithPictures}
 use Rattle.tp_run.proofs.StatesMean.{SceneLaws, leads_ready, next_ready, picture_agrees}
 
@@ -100,7 +100,7 @@ after_of n u v ps p t e (suc j) le = e j (omega arith)
 
 module _ (laws : SceneLaws) (stores : StateLaws) where
   -- the facts of static variables that a state's end keeps are kept from then on
-  next_keeps : (plan : Plan) (n : ℕ) (m next : Moment) (p : Picture) → IsReady (setting plan n) (kinds_of plan.names) m → (g : GoesOn plan n m p next) → Keeps (lasting_facts g.last.store.facts) next.store.facts
+  next_keeps : (plan : Plan) (n : ℕ) (m next : Moment) (p : Picture) → IsReady (setting plan n) (kinds_of plan.names) m → (g : StateGoesOn plan n m p next) → Keeps (lasting_facts g.last.store.facts) next.store.facts
   next_keeps plan n m next p ready g q sh h = g.goes.store.kept q ∙ h
 
   -- and by the last moment of all

@@ -14,8 +14,8 @@ use Rattle.tp_meaning.specs.Value.{item_at, is_upper}
 use Rattle.tp_store.specs.Facts.{kept_shape, is_excluded, item_path}
 use Rattle.tp_store.specs.Known as store
 use Rattle.tp_store.specs.Known.{full}
-use Rattle.tp_eval.specs.Reached.{Stop, waits, faults, passes, Reached, reaches, stops, Evaluation, with_reached, ◌>>=◌, gives, stop, number, limited}
-use Rattle.tp_eval.specs.Evaluate.{number_in, truth_in, items_in, element_in, item_in, item_between, on_divisor, on_numbers, compared, sum_in, operate, negated_in, negative_in, Place, at_path, inside, is_place, bound_place, depth_limit, call_limit, index_in, farther, of_full, length_in, length_of, bind_place, count_call, value_at, size_at, each, all_true, one_true, negated, negative, operated, chosen, element_of, place_of, argument, arguments, index_of, size_of, body_of, call, value_of, evaluate, find_place}
+use Rattle.tp_eval.specs.Reached.{Stop, waits, faults, passes, Reached, reaches, stops, Evaluation, with_reached, ◌>>=◌, gives, stop, within_numbers, within_lists}
+use Rattle.tp_eval.specs.Evaluate.{number_in, truth_in, list_items, element_in, item_in, item_between, on_divisor_outcome, on_numbers_outcome, compared, sum_in, operate_outcome, negated_in, negative_in, PlaceFound, at_path, inside, is_place, bound_place, depth_limit, call_limit, index_in, farther, of_full, length_in, length_of, bind_place, count_call, value_at, size_at, each, all_true, one_true, negated, negative, operation_outcome, chosen, element_of, evaluated_place, argument, arguments, indexed_value, size_of, body_of, call, part_value, evaluate, find_place}
 use Rattle.tp_eval.specs.Outcome as found
 use Rattle.tp_eval.specs.Outcome.{outcome, outcome_reached}
 
@@ -51,10 +51,10 @@ either_spares : {A : Type 0} (b : Bool) (x y : Evaluation A) → Spares x → Sp
 either_spares true x y h g = h
 either_spares false x y h g = g
 
-number_spares : (n : ℤ) → Spares (number n)
+number_spares : (n : ℤ) → Spares (within_numbers n)
 number_spares n = either_spares (is_within_limit n) (gives (num n)) (stop (passes limit.Number)) (λ calls. tt) (λ calls. tt)
 
-limited_spares : (t : Tree) → Spares (limited t)
+limited_spares : (t : Tree) → Spares (within_lists t)
 limited_spares t = either_spares (is_within_list_limit t) (gives t) (stop (passes limit.List)) (λ calls. tt) (λ calls. tt)
 
 number_in_spares : (t : Tree) → Spares (number_in t)
@@ -67,7 +67,7 @@ truth_in_spares (num n) = λ calls. tt
 truth_in_spares (truth b) = λ calls. tt
 truth_in_spares (list ts) = λ calls. tt
 
-items_in_spares : (t : Tree) → Spares (items_in t)
+items_in_spares : (t : Tree) → Spares (list_items t)
 items_in_spares (num n) = λ calls. tt
 items_in_spares (truth b) = λ calls. tt
 items_in_spares (list ts) = λ calls. tt
@@ -82,14 +82,14 @@ item_in_spares ts (negsuc k) = λ calls. tt
 
 item_between_spares : (t u : Tree) → Spares (item_between t u)
 item_between_spares t u =
-    then_spares (items_in t) (λ ts. number_in u >>= λ n. item_in ts n) (items_in_spares t) (λ ts. then_spares (number_in u) (λ n. item_in ts n) (number_in_spares u) (λ n. item_in_spares ts n))
+    then_spares (list_items t) (λ ts. number_in u >>= λ n. item_in ts n) (items_in_spares t) (λ ts. then_spares (number_in u) (λ n. item_in ts n) (number_in_spares u) (λ n. item_in_spares ts n))
 
-on_divisor_spares : (f : ℤ → ℤ → ℤ) (a b : ℤ) → Spares (on_divisor f a b)
+on_divisor_spares : (f : ℤ → ℤ → ℤ) (a b : ℤ) → Spares (on_divisor_outcome f a b)
 on_divisor_spares f a (pos zero) = λ calls. tt
 on_divisor_spares f a (pos (suc k)) = number_spares (f a (pos (suc k)))
 on_divisor_spares f a (negsuc k) = number_spares (f a (negsuc k))
 
-on_numbers_spares : (f : ℤ → ℤ → Evaluation Tree) (s t : Tree) → ((a b : ℤ) → Spares (f a b)) → Spares (on_numbers f s t)
+on_numbers_spares : (f : ℤ → ℤ → Evaluation Tree) (s t : Tree) → ((a b : ℤ) → Spares (f a b)) → Spares (on_numbers_outcome f s t)
 on_numbers_spares f s t h =
     then_spares (number_in s) (λ a. number_in t >>= λ b. f a b) (number_in_spares s) (λ a. then_spares (number_in t) (λ b. f a b) (number_in_spares t) (h a))
 
@@ -97,11 +97,11 @@ compared_spares : (f : ℤ → ℤ → Bool) (s t : Tree) → Spares (compared f
 compared_spares f s t = on_numbers_spares (λ a b. gives (truth (f a b))) s t (λ a b calls. tt)
 
 sum_in_spares : (s t : Tree) → Spares (sum_in s t)
-sum_in_spares (num a) t = then_spares (number_in t) (λ b. number (a +ℤ b)) (number_in_spares t) (λ b. number_spares (a +ℤ b))
-sum_in_spares (list s) t = then_spares (items_in t) (λ us. limited (list (of_items (items_of s ++ us)))) (items_in_spares t) (λ us. limited_spares (list (of_items (items_of s ++ us))))
+sum_in_spares (num a) t = then_spares (number_in t) (λ b. within_numbers (a +ℤ b)) (number_in_spares t) (λ b. number_spares (a +ℤ b))
+sum_in_spares (list s) t = then_spares (list_items t) (λ us. within_lists (list (of_items (items_of s ++ us)))) (items_in_spares t) (λ us. limited_spares (list (of_items (items_of s ++ us))))
 sum_in_spares (truth b) t = λ calls. tt
 
-operate_spares : (o : Operator) (s t : Tree) → Spares (operate o s t)
+operate_spares : (o : Operator) (s t : Tree) → Spares (operate_outcome o s t)
 operate_spares Equal s t = λ calls. tt
 operate_spares Differs s t = λ calls. tt
 operate_spares Less s t = compared_spares int_lt s t
@@ -109,10 +109,10 @@ operate_spares LessEqual s t = compared_spares int_le s t
 operate_spares Greater s t = compared_spares (λ a b. int_lt b a) s t
 operate_spares GreaterEqual s t = compared_spares (λ a b. int_le b a) s t
 operate_spares Plus s t = sum_in_spares s t
-operate_spares Minus s t = on_numbers_spares (λ a b. number (a -ℤ b)) s t (λ a b. number_spares (a -ℤ b))
-operate_spares Times s t = on_numbers_spares (λ a b. number (a *ℤ b)) s t (λ a b. number_spares (a *ℤ b))
-operate_spares Div s t = on_numbers_spares (on_divisor floor_div) s t (on_divisor_spares floor_div)
-operate_spares Mod s t = on_numbers_spares (on_divisor floor_mod) s t (on_divisor_spares floor_mod)
+operate_spares Minus s t = on_numbers_spares (λ a b. within_numbers (a -ℤ b)) s t (λ a b. number_spares (a -ℤ b))
+operate_spares Times s t = on_numbers_spares (λ a b. within_numbers (a *ℤ b)) s t (λ a b. number_spares (a *ℤ b))
+operate_spares Div s t = on_numbers_spares (on_divisor_outcome floor_div) s t (on_divisor_spares floor_div)
+operate_spares Mod s t = on_numbers_spares (on_divisor_outcome floor_mod) s t (on_divisor_spares floor_mod)
 
 bound_place_spares : (o : Option BindingTree) → Spares (bound_place o)
 bound_place_spares (Some (place_binding p)) = λ calls. tt
@@ -125,7 +125,7 @@ index_in_spares (num (negsuc k)) = λ calls. tt
 index_in_spares (truth b) = λ calls. tt
 index_in_spares (list ts) = λ calls. tt
 
-farther_spares : (p : Place) (k : ℕ) → Spares (farther p k)
+farther_spares : (p : PlaceFound) (k : ℕ) → Spares (farther p k)
 farther_spares (at_path p) k = either_spares (nat_lt (length p.at) path_limit) (gives (at_path (item_path p k))) (stop (passes limit.List)) (λ calls. tt) (λ calls. tt)
 farther_spares (inside t at) k = λ calls. tt
 
@@ -142,9 +142,9 @@ length_in_spares p (Some (Num n)) = λ calls. tt
 length_in_spares p (Some (Truth b)) = λ calls. tt
 
 length_of_spares : (t : Tree) → Spares (length_of t)
-length_of_spares t = then_spares (items_in t) (λ ts. gives (num (pos (length ts)))) (items_in_spares t) (λ ts calls. tt)
+length_of_spares t = then_spares (list_items t) (λ ts. gives (num (pos (length ts)))) (items_in_spares t) (λ ts calls. tt)
 
-bind_place_spares : (p : Place) → Spares (bind_place p)
+bind_place_spares : (p : PlaceFound) → Spares (bind_place p)
 bind_place_spares (at_path p) = λ calls. tt
 bind_place_spares (inside t at) = then_spares (element_in (item_at at t)) (λ u. gives (known_binding u)) (element_in_spares (item_at at t)) (λ u calls. tt)
 
@@ -155,11 +155,11 @@ count_spares = λ calls. counted (nat_lt calls call_limit) calls
     counted true calls = tt
     counted false calls = tt
 
-value_at_spares : (facts : List Fact) (p : Place) → Spares (value_at facts p)
+value_at_spares : (facts : List Fact) (p : PlaceFound) → Spares (value_at facts p)
 value_at_spares facts (at_path p) = of_full_spares (full facts p)
 value_at_spares facts (inside t at) = element_in_spares (item_at at t)
 
-size_at_spares : (facts : List Fact) (p : Place) → Spares (size_at facts p)
+size_at_spares : (facts : List Fact) (p : PlaceFound) → Spares (size_at facts p)
 size_at_spares facts (at_path p) = either_spares (is_excluded facts p) _ (length_in p (kept_shape facts p)) (λ calls. tt) (length_in_spares p (kept_shape facts p))
 size_at_spares facts (inside t at) = then_spares (element_in (item_at at t)) length_of (element_in_spares (item_at at t)) length_of_spares
 
@@ -188,11 +188,11 @@ module _ (operand : ExprTree → Evaluation Tree) (spared : (e : ExprTree) → S
   negated_spares e = then_spares (operand e) negated_in (spared e) (λ t. then_spares (truth_in t) (λ b. gives (truth (not b))) (truth_in_spares t) (λ b calls. tt))
 
   negative_spares : (e : ExprTree) → Spares (negative operand e)
-  negative_spares e = then_spares (operand e) negative_in (spared e) (λ t. then_spares (number_in t) (λ n. number (neg_ℤ n)) (number_in_spares t) (λ n. number_spares (neg_ℤ n)))
+  negative_spares e = then_spares (operand e) negative_in (spared e) (λ t. then_spares (number_in t) (λ n. within_numbers (neg_ℤ n)) (number_in_spares t) (λ n. number_spares (neg_ℤ n)))
 
-  operated_spares : (o : Operator) (a b : ExprTree) → Spares (operated operand o a b)
+  operated_spares : (o : Operator) (a b : ExprTree) → Spares (operation_outcome operand o a b)
   operated_spares o a b =
-      then_spares (operand a) (λ t. operand b >>= λ u. operate o t u) (spared a) (λ t. then_spares (operand b) (λ u. operate o t u) (spared b) (λ u. operate_spares o t u))
+      then_spares (operand a) (λ t. operand b >>= λ u. operate_outcome o t u) (spared a) (λ t. then_spares (operand b) (λ u. operate_outcome o t u) (spared b) (λ u. operate_spares o t u))
 
   chosen_spares : (b x y : ExprTree) → Spares (chosen operand b x y)
   chosen_spares b x y =
@@ -203,13 +203,13 @@ module _ (operand : ExprTree → Evaluation Tree) (spared : (e : ExprTree) → S
   element_of_spares e i =
       then_spares (operand e) (λ t. operand i >>= λ u. item_between t u) (spared e) (λ t. then_spares (operand i) (λ u. item_between t u) (spared i) (λ u. item_between_spares t u))
 
-  module _ (place : ExprTree → Evaluation Place) (place_spared : (e : ExprTree) → Spares (place e)) where
-    indexed_spares : (env : List BindingTree) (e i : ExprTree) → Spares (place_of operand place env (index e i))
+  module _ (place : ExprTree → Evaluation PlaceFound) (place_spared : (e : ExprTree) → Spares (place e)) where
+    indexed_spares : (env : List BindingTree) (e i : ExprTree) → Spares (evaluated_place operand place env (index e i))
     indexed_spares env e i =
         then_spares (place e) (λ p. operand i >>= λ t. index_in t >>= λ k. farther p k) (place_spared e)
         (λ p. then_spares (operand i) (λ t. index_in t >>= λ k. farther p k) (spared i) (λ t. then_spares (index_in t) (λ k. farther p k) (index_in_spares t) (λ k. farther_spares p k)))
 
-    place_of_spares : (env : List BindingTree) (e : ExprTree) → Spares (place_of operand place env e)
+    place_of_spares : (env : List BindingTree) (e : ExprTree) → Spares (evaluated_place operand place env e)
     place_of_spares env (bound i) = bound_place_spares (slice_get env i)
     place_of_spares env (global x) = λ calls. tt
     place_of_spares env (index e i) = indexed_spares env e i
@@ -239,10 +239,10 @@ module _ (operand : ExprTree → Evaluation Tree) (spared : (e : ExprTree) → S
         (λ b. then_spares (arguments operand place es xs) (λ bs. gives (b ∷ bs)) (arguments_spares es xs) (λ bs calls. tt))
 
     module _ (facts : List Fact) (env : List BindingTree) where
-      read_spares : (e : ExprTree) → Spares (place_of operand place env e >>= value_at facts)
-      read_spares e = then_spares (place_of operand place env e) (value_at facts) (place_of_spares env e) (value_at_spares facts)
+      read_spares : (e : ExprTree) → Spares (evaluated_place operand place env e >>= value_at facts)
+      read_spares e = then_spares (evaluated_place operand place env e) (value_at facts) (place_of_spares env e) (value_at_spares facts)
 
-      index_of_spares : (is_one : Bool) (e i : ExprTree) → Spares (index_of operand place facts env is_one e i)
+      index_of_spares : (is_one : Bool) (e i : ExprTree) → Spares (indexed_value operand place facts env is_one e i)
       index_of_spares true e i = read_spares (index e i)
       index_of_spares false e i = element_of_spares e i
 
@@ -262,13 +262,13 @@ module _ (operand : ExprTree → Evaluation Tree) (spared : (e : ExprTree) → S
             (λ n. then_spares (arguments operand place es f.parameters) run (arguments_spares es f.parameters) (body_of_spares f.expr))
         call_spares None es = λ calls. tt
 
-        value_of_spares : (e : ExprTree) → Spares (value_of operand place facts env defs body e)
+        value_of_spares : (e : ExprTree) → Spares (part_value operand place facts env defs body e)
         value_of_spares (numeral n) = number_spares n
         value_of_spares (boolean b) = λ calls. tt
         value_of_spares (known t) = limited_spares t
         value_of_spares (bound i) = read_spares (bound i)
         value_of_spares (global x) = read_spares (global x)
-        value_of_spares (listing es) = then_spares (each operand es) (λ ts. limited (list (of_items ts))) (each_spares es) (λ ts. limited_spares (list (of_items ts)))
+        value_of_spares (listing es) = then_spares (each operand es) (λ ts. within_lists (list (of_items ts))) (each_spares es) (λ ts. limited_spares (list (of_items ts)))
         value_of_spares (size e) = size_of_spares (is_place e) e
         value_of_spares (index e i) = index_of_spares (is_place e) e i
         value_of_spares (minus e) = negative_spares e

@@ -13,12 +13,12 @@ use Rattle.tp_scene.specs.Pick.{Setting, Moment, Reduces, Leads}
 use Rattle.tp_scene.specs.Rest.{settled, goes}
 use Rattle.tp_scene.specs.Advance.{advanced, shown_in}
 use Rattle.tp_scene.specs.StandsFor.{StandsFor}
-use Rattle.tp_scene.specs.Laws.{StepsKeep, GoesOn as GoesOnTo, AdvancesKeep, EndsStand}
+use Rattle.tp_scene.specs.Laws.{StepsKeep, StoreGoesOn as GoesOnTo, AdvancesKeep, EndsStand}
 use Rattle.tp_scene.specs.Built.{IsReady}
 use Rattle.tp_meaning.proofs.Shows.{join-assoc as join_assoc}
 use Rattle.tp_run.specs.declared.turn.Picture.{Picture}
-use Rattle.tp_run.specs.States.{Plan, globals_of, setting, AreGlobals, GoesOn, EndsHere, StatesLead}
-use Rattle.tp_run.specs.Meaning.{AgreesWith}
+use Rattle.tp_run.specs.States.{Plan, globals_of, setting, AreGlobals, StateGoesOn, StateEnds, StatesLead}
+use Rattle.tp_run.specs.Meaning.{AgreesWithFacts}
 use Rattle.tp_run.specs.History.{AgreesWithPictures, shown_from}
 
 -- what the laws of scenes say, where scenes have one region
@@ -75,10 +75,10 @@ module _ (laws : SceneLaws) where
       )
 
   -- one state that goes on
-  pub goes_on_says : (plan : Plan) (n : ℕ) (m next : Moment) (p : Picture) → IsReady (setting plan n) (kinds_of plan.names) m → GoesOn plan n m p next
+  pub goes_on_says : (plan : Plan) (n : ℕ) (m next : Moment) (p : Picture) → IsReady (setting plan n) (kinds_of plan.names) m → StateGoesOn plan n m p next
       → (s : Course) (a b : ℕ) (S : Shows) → KeepsStatics (kinds_of plan.names) s a b → (s a).own ≡ n
       → StandsFor (setting plan n) (globals_of plan) m s a b S
-      ↔ ((a < b) × AgreesWith s a p.facts × ((U : Shows) × (S ≡ shown_at a (shows_of p.shows) ⊕ U) × StandsFor (setting plan (suc n)) (globals_of plan) next s (suc a) b U))
+      ↔ ((a < b) × AgreesWithFacts s a p.facts × ((U : Shows) × (S ≡ shown_at a (shows_of p.shows) ⊕ U) × StandsFor (setting plan (suc n)) (globals_of plan) next s (suc a) b U))
   goes_on_says plan n m next p ready g s a b S static own =
       let w = setting plan n in
       let kinds = kinds_of plan.names in
@@ -93,9 +93,9 @@ module _ (laws : SceneLaws) where
       )
 
   -- one that ends the interval
-  pub ends_here_says : (plan : Plan) (n : ℕ) (m : Moment) (p : Picture) → IsReady (setting plan n) (kinds_of plan.names) m → EndsHere plan n m p
+  pub ends_here_says : (plan : Plan) (n : ℕ) (m : Moment) (p : Picture) → IsReady (setting plan n) (kinds_of plan.names) m → StateEnds plan n m p
       → (s : Course) (a b : ℕ) (S : Shows) → (s a).own ≡ n
-      → StandsFor (setting plan n) (globals_of plan) m s a b S ↔ ((a ≡ b) × AgreesWith s a p.facts × (S ≡ shown_at a (shows_of p.shows)))
+      → StandsFor (setting plan n) (globals_of plan) m s a b S ↔ ((a ≡ b) × AgreesWithFacts s a p.facts × (S ≡ shown_at a (shows_of p.shows)))
   ends_here_says plan n m p ready g s a b S own =
       let w = setting plan n in
       let kinds = kinds_of plan.names in
@@ -108,7 +108,7 @@ module _ (laws : SceneLaws) where
         λ h. keep.1 (end.1 (h.0, facts.1 h.1, h.2 ∙ shows)),
       )
 
-  pub next_ready : (plan : Plan) (n : ℕ) (m next : Moment) (p : Picture) → IsReady (setting plan n) (kinds_of plan.names) m → GoesOn plan n m p next → (own : ℕ) → IsReady (setting plan own) (kinds_of plan.names) next
+  pub next_ready : (plan : Plan) (n : ℕ) (m next : Moment) (p : Picture) → IsReady (setting plan n) (kinds_of plan.names) m → StateGoesOn plan n m p next → (own : ℕ) → IsReady (setting plan own) (kinds_of plan.names) next
   next_ready plan n m next p ready g own =
       let w = setting plan n in
       laws.advances_ready w (kinds_of plan.names) g.last next (leads_ready w (kinds_of plan.names) g.picks m g.last ready g.goes.closes.leads) g.goes.settles g.goes.scene g.goes.store own

@@ -17,7 +17,7 @@ use Rattle.tp_eval.specs.Outcome as found
 use Rattle.tp_scene.specs.declared.answer.Cell.{Cell}
 use Rattle.tp_scene.specs.declared.answer.Cell.TheVariants.{Part}
 use Rattle.tp_scene.specs.Scene.{Bindings, Side, Ending, Going, Do, Later, Shown, Entries, none, leaf, node, has, Place, root_place}
-use Rattle.tp_scene.specs.Step.{Outcome, reduces, waits, rests, clashes, misses, passes, Numbers, Target, value_at, length_at, set, added, meets, equate, by_status, marking, with_value, with_truth, with_number, length_left, formula_step, leaf_step, vanishes, becomes, going, side_of}
+use Rattle.tp_scene.specs.Step.{PickOutcome, reduces, waits, rests, clashes, misses, passes, Numbers, Target, value_at, length_at, set, added, meets, equate, by_status, marking, with_value, with_truth, with_number, length_left, formula_step, leaf_step, vanishes, becomes, going, side_of}
 use Rattle.tp_scene.specs.Pick.{Setting, Moment, pick, outcome_of, numbers_of, IsIdle}
 use Rattle.tp_scene.specs.Rest.{waiting, end_open, ends, goes, settled, settled_by, unsettled_items}
 use Rattle.tp_scene.specs.Fits.{IsNew, AreNumbers, item_numbers}
@@ -25,7 +25,7 @@ use Rattle.tp_scene.specs.Built.{IsFlat, IsReady}
 use Rattle.tp_run.proofs.Sparing.{IsOther, IsSparing, outcome_sparing}
 
 -- something comes of it, or it waits; it doesn't pass the limit on reductions
-abbrev pub IsBusy : Outcome → Type 0
+abbrev pub IsBusy : PickOutcome → Type 0
 IsBusy (reduces r) = Unit {0}
 IsBusy (waits first other) = Unit {0}
 IsBusy rests = ⊥
@@ -33,13 +33,13 @@ IsBusy (clashes c) = Unit {0}
 IsBusy (misses port) = Unit {0}
 IsBusy (passes k) = IsOther k
 
-value_busy : (o : found.Outcome) (f : Tree → Outcome) → IsSparing o → ((t : Tree) → IsBusy (f t)) → IsBusy (with_value o f)
+value_busy : (o : found.Outcome) (f : Tree → PickOutcome) → IsSparing o → ((t : Tree) → IsBusy (f t)) → IsBusy (with_value o f)
 value_busy (found.value t) f s h = h t
 value_busy (found.wait p) f s h = tt
 value_busy (found.fault k) f s h = tt
 value_busy (found.over k) f s h = s
 
-truth_busy : (o : found.Outcome) (f : Bool → Outcome) → IsSparing o → ((b : Bool) → IsBusy (f b)) → IsBusy (with_truth o f)
+truth_busy : (o : found.Outcome) (f : Bool → PickOutcome) → IsSparing o → ((b : Bool) → IsBusy (f b)) → IsBusy (with_truth o f)
 truth_busy (found.value (truth b)) f s h = h b
 truth_busy (found.value (num n)) f s h = tt
 truth_busy (found.value (list ts)) f s h = tt
@@ -47,7 +47,7 @@ truth_busy (found.wait p) f s h = tt
 truth_busy (found.fault k) f s h = tt
 truth_busy (found.over k) f s h = s
 
-number_busy : (o : found.Outcome) (f : ℤ → Outcome) → IsSparing o → ((n : ℤ) → IsBusy (f n)) → IsBusy (with_number o f)
+number_busy : (o : found.Outcome) (f : ℤ → PickOutcome) → IsSparing o → ((n : ℤ) → IsBusy (f n)) → IsBusy (with_number o f)
 number_busy (found.value (num n)) f s h = h n
 number_busy (found.value (truth b)) f s h = tt
 number_busy (found.value (list ts)) f s h = tt
@@ -55,11 +55,11 @@ number_busy (found.wait p) f s h = tt
 number_busy (found.fault k) f s h = tt
 number_busy (found.over k) f s h = s
 
-either_busy : (b : Bool) (x y : Outcome) → IsBusy x → IsBusy y → IsBusy (cond b x y)
+either_busy : (b : Bool) (x y : PickOutcome) → IsBusy x → IsBusy y → IsBusy (cond b x y)
 either_busy true x y h g = h
 either_busy false x y h g = g
 
-status_busy : (p : Place) (x y : Outcome) → IsBusy x → IsBusy y → IsBusy (by_status p x y)
+status_busy : (p : Place) (x y : PickOutcome) → IsBusy x → IsBusy y → IsBusy (by_status p x y)
 status_busy p x y h g = either_busy (p.is Going) x _ h (either_busy (p.is Ending) y _ g tt)
 
 mark_busy : (z : Side) (b : Bool) (depth : ℕ) (news : Entries) (n : ℕ) → IsBusy (marking z b depth news n)
@@ -173,7 +173,7 @@ module _ (w : Setting) (facts : List Fact) where
       (or_right (eqb i t) (has t rest) r.0, subst (λ b. IsBusy (cond b rests (pick w facts t rest p n))) (sym no) r.1)
   first_busy c t ts (node i k h held g second rest) p n flat numbers e = absurd flat
 
-  busy_passes : (o : Outcome) (k : LimitKind) → IsBusy o → o ≡ passes k → IsOther k
+  busy_passes : (o : PickOutcome) (k : LimitKind) → IsBusy o → o ≡ passes k → IsOther k
   busy_passes o k h e = let busy : IsBusy (passes k) = subst IsBusy e h in busy
 
   rests_passes : (k : LimitKind) → rests ≡ passes k → IsOther k
@@ -201,7 +201,7 @@ pub passes_other : (w : Setting) (kinds : List Bool) (m : Moment) (t : ℕ) (k :
 passes_other w kinds m t k ready e = picks_spare w m.store.facts t m.scene.root.entries (root_place m.scene.root) (numbers_of m.scene m.store.variables) k ready.flat e
 
 -- what waits: it is neither busy with a step nor at rest
-waits_then : (o : Outcome) → IsIdle o → IsBusy o → (first : Cell) × (other : Option Cell) × (o ≡ waits first other)
+waits_then : (o : PickOutcome) → IsIdle o → IsBusy o → (first : Cell) × (other : Option Cell) × (o ≡ waits first other)
 waits_then (waits first other) idle busy = (first, other, refl)
 waits_then (reduces r) idle busy = absurd idle
 waits_then rests idle busy = absurd busy

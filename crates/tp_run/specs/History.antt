@@ -10,8 +10,8 @@ use Rattle.tp_scene.specs.Replay as replay
 use Rattle.tp_run.specs.declared.turn.Picture.{Picture}
 use Rattle.tp_run.specs.declared.turn.Turn.{Turn}
 use Rattle.tp_run.specs.declared.turn.Turn.TheVariants.{Went, Finished, Contradictory, Undetermined, StateLimit, InputMissing, Over}
-use Rattle.tp_run.specs.States.{Plan, setting, EndsHere, LeadsTo, Standing, open_at, ReachesLimit, Answers}
-use Rattle.tp_run.specs.Meaning.{AgreesWith}
+use Rattle.tp_run.specs.States.{Plan, setting, StateEnds, LeadsTo, Standing, open_at, ReachesLimit, AnswersState}
+use Rattle.tp_run.specs.Meaning.{AgreesWithFacts}
 
 pub record FinishesAt (plan : Plan) (ps : List Picture) (n : ℕ) : Type 0 where
   pub before : List Picture
@@ -19,7 +19,7 @@ pub record FinishesAt (plan : Plan) (ps : List Picture) (n : ℕ) : Type 0 where
   pub moment : Moment
   pub pictures : ps ≡ before ++ final ∷ []
   pub leads : LeadsTo plan before moment
-  pub ends : EndsHere plan (length before) moment final
+  pub ends : StateEnds plan (length before) moment final
   pub count : n ≡ length before
 
 -- A run whose settled states have these pictures ends so: it finishes with the last of them; or the state after them meets a clash, is open at a
@@ -34,13 +34,13 @@ RunEndsWith plan ps (InputMissing state port) = (m : Moment) × LeadsTo plan ps 
 RunEndsWith plan ps (Over state limit) = (m : Moment) × LeadsTo plan ps m × ReachesLimit (setting plan state) plan.reductions m limit × (state ≡ length ps) × (state < plan.states)
 
 -- the program that is run
-abbrev pub program_of : Plan → ProgramTree
-program_of plan = record { defs = []; main = plan.main; globals = plan.names }
+abbrev pub planned_program : Plan → ProgramTree
+planned_program plan = record { defs = []; main = plan.main; globals = plan.names }
 
 -- each state from position a on agrees with the picture of its turn
 abbrev pub AgreesWithPictures : Course → ℕ → List Picture → Type 0
 AgreesWithPictures s a [] = Unit {0}
-AgreesWithPictures s a (p ∷ ps) = AgreesWith s a p.facts × AgreesWithPictures s (suc a) ps
+AgreesWithPictures s a (p ∷ ps) = AgreesWithFacts s a p.facts × AgreesWithPictures s (suc a) ps
 
 -- what the pictures show, from position a on
 abbrev pub shown_from : ℕ → List Picture → Shows
@@ -51,30 +51,30 @@ shown_from a (p ∷ ps) = shown_at a (shows_of p.shows) ⊕ shown_from (suc a) p
 -- pictures show.
 abbrev pub SatisfiedExactly : Plan → List Picture → ℕ → Type 0
 SatisfiedExactly plan ps n = (s : Course) (a b : ℕ) (S : Shows)
-    → Satisfies (program_of plan) plan.inputs s a b S ↔ (IsInterval (program_of plan) s a b × (b ≡ n + a) × AgreesWithPictures s a ps × (S ≡ shown_from a ps))
+    → Satisfies (planned_program plan) plan.inputs s a b S ↔ (IsInterval (planned_program plan) s a b × (b ≡ n + a) × AgreesWithPictures s a ps × (S ≡ shown_from a ps))
 
 -- there is an interval that satisfies the program
 abbrev pub Satisfiable : Plan → Type 0
-Satisfiable plan = (s : Course) × (a : ℕ) × (b : ℕ) × (S : Shows) × Satisfies (program_of plan) plan.inputs s a b S
+Satisfiable plan = (s : Course) × (a : ℕ) × (b : ℕ) × (S : Shows) × Satisfies (planned_program plan) plan.inputs s a b S
 
 -- no interval satisfies it
 abbrev pub Unsatisfiable : Plan → Type 0
-Unsatisfiable plan = (s : Course) (a b : ℕ) (S : Shows) → Satisfies (program_of plan) plan.inputs s a b S → ⊥
+Unsatisfiable plan = (s : Course) (a b : ℕ) (S : Shows) → Satisfies (planned_program plan) plan.inputs s a b S → ⊥
 
 -- each interval that satisfies it begins with states that agree with the pictures, shows there what these show, and has more states than these
 abbrev pub ContinuesEach : Plan → List Picture → Type 0
-ContinuesEach plan ps = (s : Course) (a b : ℕ) (S : Shows) → Satisfies (program_of plan) plan.inputs s a b S
+ContinuesEach plan ps = (s : Course) (a b : ℕ) (S : Shows) → Satisfies (planned_program plan) plan.inputs s a b S
     → (length ps + a ≤ b) × AgreesWithPictures s a ps × ((j : ℕ) → j < length ps + a → S j ≡ shown_from a ps j)
 
 -- what the end of a run says of every interval
-abbrev pub EndMeans : Plan → List Picture → Turn → Type 0
-EndMeans plan ps Went = Unit {0}
-EndMeans plan ps (Finished n) = SatisfiedExactly plan ps n × Satisfiable plan
-EndMeans plan ps (Contradictory state clash) = Unsatisfiable plan
-EndMeans plan ps (Undetermined state cell) = ContinuesEach plan ps
-EndMeans plan ps (StateLimit states) = ContinuesEach plan ps
-EndMeans plan ps (InputMissing state port) = Unsatisfiable plan
-EndMeans plan ps (Over state limit) = ContinuesEach plan ps
+abbrev pub EndOfRunMeans : Plan → List Picture → Turn → Type 0
+EndOfRunMeans plan ps Went = Unit {0}
+EndOfRunMeans plan ps (Finished n) = SatisfiedExactly plan ps n × Satisfiable plan
+EndOfRunMeans plan ps (Contradictory state clash) = Unsatisfiable plan
+EndOfRunMeans plan ps (Undetermined state cell) = ContinuesEach plan ps
+EndOfRunMeans plan ps (StateLimit states) = ContinuesEach plan ps
+EndOfRunMeans plan ps (InputMissing state port) = Unsatisfiable plan
+EndOfRunMeans plan ps (Over state limit) = ContinuesEach plan ps
 
 -- What one more answer makes of a run whose settled states have these pictures: one state more, or the end.
 abbrev pub Advances : Plan → List Picture → (old new : Picture) → Standing → ℕ → Turn → Type 0
@@ -91,8 +91,8 @@ Advances plan ps old new standing next (Over state limit) = RunEndsWith plan ps 
 pub record RunsAdvance (plan : Plan) : Type 0 where
   pub begins : LeadsTo plan [] (first_moment plan.names plan.main)
   pub goes_on : (ps : List Picture) (m : Moment) → LeadsTo plan ps m → (old new : Picture) (standing : Standing) (next : ℕ) (turn : Turn)
-      → Answers plan (open_at m) (length ps) old new standing next turn → Advances plan ps old new standing next turn
+      → AnswersState plan (open_at m) (length ps) old new standing next turn → Advances plan ps old new standing next turn
 
--- The end of each run says of every interval what `EndMeans` has.
+-- The end of each run says of every interval what `EndOfRunMeans` has.
 abbrev pub RunsMean : Plan → Type 0
-RunsMean plan = IsBuilt plan.names plan.main → (ps : List Picture) (turn : Turn) → RunEndsWith plan ps turn → EndMeans plan ps turn
+RunsMean plan = IsBuilt plan.names plan.main → (ps : List Picture) (turn : Turn) → RunEndsWith plan ps turn → EndOfRunMeans plan ps turn

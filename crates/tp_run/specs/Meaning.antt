@@ -19,12 +19,12 @@ StandingFor plan n (answered turn) s a b S = ⊥
 StandingFor plan n spent s a b S = ⊥
 
 -- before its first state a run stands for exactly the intervals on which the formula holds, with what is shown on them
-abbrev pub BeginsWith : Plan → Standing → Type 0
-BeginsWith plan standing = (s : Course) (a b : ℕ) (S : Shows) → StandingFor plan 0 standing s a b S ↔ ((a ≤ b) × ((d : ℕ) × Holds (context_of (setting plan 0)) d plan.main [] s a b S))
+abbrev pub StandsForItsProgram : Plan → Standing → Type 0
+StandsForItsProgram plan standing = (s : Course) (a b : ℕ) (S : Shows) → StandingFor plan 0 standing s a b S ↔ ((a ≤ b) × ((d : ℕ) × Holds (context_of (setting plan 0)) d plan.main [] s a b S))
 
 -- the state agrees with each fact
-abbrev pub AgreesWith : Course → ℕ → List Fact → Type 0
-AgreesWith s a facts = AgreesWithAll (s a).values facts
+abbrev pub AgreesWithFacts : Course → ℕ → List Fact → Type 0
+AgreesWithFacts s a facts = AgreesWithAll (s a).values facts
 
 -- A run that stood at `old` before state n made that state, with this picture, and stands at `new`; or it ended with this answer. Said of the
 -- intervals on which static variables keep their values and whose first state has the number n. Where the run went on, it stood for an interval
@@ -35,10 +35,10 @@ abbrev pub AnswerMeans : Plan → ℕ → Standing → Standing → Picture → 
 AnswerMeans plan n (open_at m) new picture Went =
     (s : Course) (a b : ℕ) (S : Shows) → KeepsStatics (kinds_of plan.names) s a b → (s a).own ≡ n
     → StandingFor plan n (open_at m) s a b S
-    ↔ ((a < b) × AgreesWith s a picture.facts × ((U : Shows) × (S ≡ shown_at a (shows_of picture.shows) ⊕ U) × StandingFor plan (suc n) new s (suc a) b U))
+    ↔ ((a < b) × AgreesWithFacts s a picture.facts × ((U : Shows) × (S ≡ shown_at a (shows_of picture.shows) ⊕ U) × StandingFor plan (suc n) new s (suc a) b U))
 AnswerMeans plan n (open_at m) new picture (Finished length) =
     (s : Course) (a b : ℕ) (S : Shows) → KeepsStatics (kinds_of plan.names) s a b → (s a).own ≡ n
-    → StandingFor plan n (open_at m) s a b S ↔ ((a ≡ b) × AgreesWith s a picture.facts × (S ≡ shown_at a (shows_of picture.shows)))
+    → StandingFor plan n (open_at m) s a b S ↔ ((a ≡ b) × AgreesWithFacts s a picture.facts × (S ≡ shown_at a (shows_of picture.shows)))
 AnswerMeans plan n (open_at m) new picture (Contradictory state clash) = (s : Course) (a b : ℕ) (S : Shows) → (s a).own ≡ n → StandingFor plan n (open_at m) s a b S → ⊥
 AnswerMeans plan n (open_at m) new picture (InputMissing state port) = (s : Course) (a b : ℕ) (S : Shows) → (s a).own ≡ n → StandingFor plan n (open_at m) s a b S → ⊥
 AnswerMeans plan n (open_at m) new picture (Undetermined state cell) = Unit {0}

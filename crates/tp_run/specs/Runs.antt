@@ -11,7 +11,7 @@ use Rattle.tp_scene.specs.Scene as S
 use Rattle.tp_scene.specs.Pick.{Setting, Moment}
 use Rattle.tp_scene.specs.Rest.{settled, goes, ends, IsOpenCell}
 use Rattle.tp_scene.specs.Advance.{advanced, shown_in}
-use Rattle.tp_scene.specs.Laws.{GoesOn}
+use Rattle.tp_scene.specs.Laws.{StoreGoesOn}
 use Rattle.tp_scene.specs.Built.{IsReady}
 use Rattle.tp_run.specs.declared.run.Run.{Run}
 use Rattle.tp_run.specs.declared.run.Settings.{Settings}
@@ -45,11 +45,11 @@ setting_in settings state = setting_of settings.defs settings.inputs state
 
 -- what is carried to the next state: the scene that it begins with, where one was settled before it; a run that hasn't begun, has ended or gave up
 -- carries nothing
-abbrev pub carried : ℕ → Standing → Option S.Scene
-carried (suc n) (open_at m) = Some m.scene
-carried zero (open_at m) = None
-carried n (answered turn) = None
-carried n spent = None
+abbrev pub carried_scene : ℕ → Standing → Option S.Scene
+carried_scene (suc n) (open_at m) = Some m.scene
+carried_scene zero (open_at m) = None
+carried_scene n (answered turn) = None
+carried_scene n spent = None
 
 -- before a state it stands at a sound moment
 abbrev pub StandsReady : Plan → ℕ → Standing → Type 0
@@ -82,7 +82,7 @@ pub record HasPicture (globals n reductions : ℕ) (m : Moment) (picture : Pictu
 -- what the next state begins with
 pub record NextOf (m next : Moment) : Type 0 where
   pub scene : next.scene ≡ advanced m.scene
-  pub store : GoesOn m.store next.store
+  pub store : StoreGoesOn m.store next.store
 
 -- What becomes of a state at rest, where the run then stands, and what its store holds.
 abbrev pub RestTurns : Setting → (globals reductions : ℕ) → Moment → Picture → Picture → Standing → Contents → Turn → Type 0

@@ -64,7 +64,7 @@ pub record IsPictureOf (plan : Plan) (n : ℕ) (picks : List ℕ) (last : Moment
   pub reductions : picture.reductions ≡ length picks
 
 -- state n, which begins with m, is settled and has this picture, and the next one begins with `next`
-pub record GoesOn (plan : Plan) (n : ℕ) (m : Moment) (picture : Picture) (next : Moment) : Type 0 where
+pub record StateGoesOn (plan : Plan) (n : ℕ) (m : Moment) (picture : Picture) (next : Moment) : Type 0 where
   pub within : n < plan.states
   pub picks : List ℕ
   pub last : Moment
@@ -72,7 +72,7 @@ pub record GoesOn (plan : Plan) (n : ℕ) (m : Moment) (picture : Picture) (next
   pub picture_is : IsPictureOf plan n picks last picture
 
 -- state n, which begins with m, is settled and has this picture, and the interval ends with it
-pub record EndsHere (plan : Plan) (n : ℕ) (m : Moment) (picture : Picture) : Type 0 where
+pub record StateEnds (plan : Plan) (n : ℕ) (m : Moment) (picture : Picture) : Type 0 where
   pub within : n < plan.states
   pub picks : List ℕ
   pub last : Moment
@@ -82,7 +82,7 @@ pub record EndsHere (plan : Plan) (n : ℕ) (m : Moment) (picture : Picture) : T
 -- states n, n + 1, .. with these pictures, of which each goes on to the next, and what the state after them begins with
 abbrev pub StatesLead : Plan → ℕ → Moment → List Picture → Moment → Type 0
 StatesLead plan n m [] last = last ≡ m
-StatesLead plan n m (p ∷ ps) last = (next : Moment) × GoesOn plan n m p next × StatesLead plan (suc n) next ps last
+StatesLead plan n m (p ∷ ps) last = (next : Moment) × StateGoesOn plan n m p next × StatesLead plan (suc n) next ps last
 
 -- A run settles states with these pictures, and the state after them begins with this moment.
 abbrev pub LeadsTo : Plan → List Picture → Moment → Type 0
@@ -123,8 +123,8 @@ state_after n (Over state limit) = n
 -- What becomes of state n, which begins with m, with the pictures before and after, where the run then stands, and the answer. Where the state isn't
 -- settled the picture stays.
 abbrev pub StateBecomes : Plan → ℕ → Moment → Picture → Picture → Standing → Turn → Type 0
-StateBecomes plan n m old new standing Went = (next : Moment) × GoesOn plan n m new next × (standing ≡ open_at next)
-StateBecomes plan n m old new standing (Finished length) = EndsHere plan n m new × (length ≡ n) × (standing ≡ answered (Finished length))
+StateBecomes plan n m old new standing Went = (next : Moment) × StateGoesOn plan n m new next × (standing ≡ open_at next)
+StateBecomes plan n m old new standing (Finished length) = StateEnds plan n m new × (length ≡ n) × (standing ≡ answered (Finished length))
 StateBecomes plan n m old new standing (Contradictory state clash) =
     replay.MeetsClash (setting plan n) plan.reductions m clash × (state ≡ n) × (n < plan.states) × (new ≡ old) × (standing ≡ answered (Contradictory state clash))
 StateBecomes plan n m old new standing (Undetermined state cell) =
@@ -137,8 +137,8 @@ StateBecomes plan n m old new standing (Over state limit) =
 
 -- What the store then holds: where the run goes on, what the next state begins with; else what the state's picks led to.
 abbrev pub StoreBecomes : Plan → ℕ → Moment → Picture → Contents → Turn → Type 0
-StoreBecomes plan n m picture store Went = (next : Moment) × GoesOn plan n m picture next × (store ≡ next.store)
-StoreBecomes plan n m picture store (Finished length) = (end : EndsHere plan n m picture) × (store ≡ end.last.store)
+StoreBecomes plan n m picture store Went = (next : Moment) × StateGoesOn plan n m picture next × (store ≡ next.store)
+StoreBecomes plan n m picture store (Finished length) = (end : StateEnds plan n m picture) × (store ≡ end.last.store)
 StoreBecomes plan n m picture store (Contradictory state clash) = (end : replay.MeetsClash (setting plan n) plan.reductions m clash) × (store ≡ end.last.store)
 StoreBecomes plan n m picture store (Undetermined state cell) = (end : replay.IsOpen (setting plan n) plan.reductions m cell) × (store ≡ end.last.store)
 StoreBecomes plan n m picture store (StateLimit states) = store ≡ m.store
@@ -148,10 +148,10 @@ StoreBecomes plan n m picture store (Over state limit) =
 
 -- What a call answers where the run stands there, with the number of the state that comes next: it makes that state, or it gives the last answer
 -- again and changes nothing. A run that gave up for want of memory answers nothing else any more.
-abbrev pub Answers : Plan → Standing → ℕ → Picture → Picture → Standing → ℕ → Turn → Type 0
-Answers plan (open_at m) n old new standing next turn = StateBecomes plan n m old new standing turn × (next ≡ state_after n turn)
-Answers plan (answered last) n old new standing next turn = (turn ≡ last) × (new ≡ old) × (standing ≡ answered last) × (next ≡ n)
-Answers plan spent n old new standing next turn = ⊥
+abbrev pub AnswersState : Plan → Standing → ℕ → Picture → Picture → Standing → ℕ → Turn → Type 0
+AnswersState plan (open_at m) n old new standing next turn = StateBecomes plan n m old new standing turn × (next ≡ state_after n turn)
+AnswersState plan (answered last) n old new standing next turn = (turn ≡ last) × (new ≡ old) × (standing ≡ answered last) × (next ≡ n)
+AnswersState plan spent n old new standing next turn = ⊥
 
 -- What such a call leaves of what the store held: it makes a state, or it changes nothing.
 abbrev pub LeavesStore : Plan → Standing → ℕ → Picture → (old new : Contents) → Turn → Type 0

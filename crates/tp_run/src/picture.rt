@@ -48,7 +48,8 @@ pub fn settled_picture(
 ) -> Result<Picture, NoMemory>
     requires { HasOneRegion (scene_of scene.now) }
     ensures facts { IfOk result (λ picture. AreGlobals globals store.now.facts picture.facts) }
-    ensures shows { IfOk result (λ picture. shows_of picture.shows ≡ shown_in (scene_of scene.now).root.entries) }
+    ensures shows { IfOk result (λ picture.
+        shows_of picture.shows ≡ shown_in (scene_of scene.now).root.entries) }
     ensures state { IfOk result (λ picture. picture.state ≡ state) }
     ensures reductions { IfOk result (λ picture. picture.reductions ≡ reductions) }
 {

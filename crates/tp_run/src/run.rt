@@ -16,9 +16,9 @@ ghost use Rattle.tp_decide.specs.Flat.{HasOneRegion};
 ghost use Rattle.tp_decide.specs.Read.{scene_of};
 ghost use Rattle.tp_step.specs.Answers.{moment_of};
 ghost use Rattle.tp_step.specs.declared.answer.Order.TheVariants.{First};
-ghost use Rattle.tp_run.specs.States.{Plan, plan_with, open_at, spent, state_after, Answers, StateBecomes, StoreBecomes, LeavesStore};
-ghost use Rattle.tp_run.specs.Meaning.{BeginsWith, AnswerMeans};
-ghost use Rattle.tp_run.specs.Runs.{stands_at, standing_of, next_state_of, store_of, carried, setting_in, IsSettingsOf, IsRunOf, HasPicture, NextOf, RestTurns};
+ghost use Rattle.tp_run.specs.States.{Plan, plan_with, open_at, spent, state_after, AnswersState, StateBecomes, StoreBecomes, LeavesStore};
+ghost use Rattle.tp_run.specs.Meaning.{StandsForItsProgram, AnswerMeans};
+ghost use Rattle.tp_run.specs.Runs.{stands_at, standing_of, next_state_of, store_of, carried_scene, setting_in, IsSettingsOf, IsRunOf, HasPicture, NextOf, RestTurns};
 
 use crate::picture::settled_picture;
 use crate::turn::{Limits, Picture, Turn};
@@ -107,10 +107,14 @@ impl Settings {
         steps: &mut Steps<L>,
     ) -> Result<Cell, NoMemory>
         requires none { definitions_of self.now.defs ≡ [] }
-        requires ready { (kinds : List Bool) × IsReady (setting_in self.now state) kinds (moment_of scene.old store.old) }
+        requires ready { (kinds : List Bool)
+            × IsReady (setting_in self.now state) kinds (moment_of scene.old store.old) }
         requires rests { AtRest (setting_in self.now state) (moment_of scene.old store.old) }
         requires item { rest.settled (scene_of scene.old) ≡ rest.waiting item }
-        ensures cell { IfOk result (λ cell. (other : Option Cell) × (outcome_of (setting_in self.now state) store.old (scene_of scene.old) item ≡ waits cell other)) }
+        ensures cell { IfOk result (λ cell.
+            (other : Option Cell)
+            × (outcome_of (setting_in self.now state) store.old (scene_of scene.old) item
+            ≡ waits cell other)) }
         ensures store { OnOk result (store.new ≡ store.old) }
     {
         let tried = try_item(
@@ -144,7 +148,9 @@ impl Settings {
         picture: &mut Picture,
     ) -> Result<Made, NoMemory>
         requires { HasOneRegion (scene_of scene.now) }
-        ensures picture { OnOk result (HasPicture self.now.globals state reductions (moment_of scene.now store.now) picture.new) }
+        ensures picture { OnOk result
+            (HasPicture self.now.globals state reductions (moment_of scene.now store.now)
+            picture.new) }
         ensures stand { IfOk result (λ made. made.stand ≡ Stand.Answered (Turn.Finished state)) }
         ensures turn { IfOk result (λ made. made.turn ≡ Turn.Finished state) }
         ensures err { OnErr result (picture.new ≡ picture.old) }
@@ -166,8 +172,11 @@ impl Settings {
     ) -> Result<Made, NoMemory>
         requires goes { rest.settled (scene_of scene) ≡ rest.goes }
         requires one { HasOneRegion (scene_of scene) }
-        ensures picture { OnOk result (HasPicture self.now.globals state reductions (moment_of scene store.old) picture.new) }
-        ensures stand { IfOk result (λ made. (next : Moment) × NextOf (moment_of scene store.old) next × (stands_at made.stand store.new ≡ open_at next) × (store.new ≡ next.store)) }
+        ensures picture { OnOk result
+            (HasPicture self.now.globals state reductions (moment_of scene store.old) picture.new) }
+        ensures stand { IfOk result (λ made.
+            (next : Moment) × NextOf (moment_of scene store.old) next
+            × (stands_at made.stand store.new ≡ open_at next) × (store.new ≡ next.store)) }
         ensures turn { IfOk result (λ made. made.turn ≡ Turn.Went) }
         ensures err { OnErr result (picture.new ≡ picture.old) }
     {
@@ -192,9 +201,13 @@ impl Settings {
         steps: &mut Steps<L>,
     ) -> Result<Made, NoMemory>
         requires none { definitions_of self.now.defs ≡ [] }
-        requires ready { (kinds : List Bool) × IsReady (setting_in self.now state) kinds (moment_of scene store.old) }
+        requires ready { (kinds : List Bool)
+            × IsReady (setting_in self.now state) kinds (moment_of scene store.old) }
         requires rests { AtRest (setting_in self.now state) (moment_of scene store.old) }
-        ensures made { IfOk result (λ made. RestTurns (setting_in self.now state) self.now.globals reductions (moment_of scene store.old) picture.old picture.new (stands_at made.stand store.new) store.new made.turn) }
+        ensures made { IfOk result (λ made.
+            RestTurns (setting_in self.now state) self.now.globals reductions
+            (moment_of scene store.old) picture.old picture.new (stands_at made.stand store.new)
+            store.new made.turn) }
         ensures err { OnErr result (picture.new ≡ picture.old) }
     {
         match settled(&scene) {
@@ -224,9 +237,16 @@ impl Settings {
         steps: &mut Steps<L>,
     ) -> Result<Made, NoMemory>
         requires within { state ≤ self.now.limits.states }
-        requires ready { (plan : Plan) × IsSettingsOf plan self.now × IsReady (setting_in self.now state) (kinds_of plan.names) (moment_of scene store.old) }
-        ensures made { IfOk result (λ made. (plan : Plan) → IsSettingsOf plan self.now → StateBecomes plan state (moment_of scene store.old) picture.old picture.new (stands_at made.stand store.new) made.turn) }
-        ensures store { IfOk result (λ made. (plan : Plan) → IsSettingsOf plan self.now → StoreBecomes plan state (moment_of scene store.old) picture.new store.new made.turn) }
+        requires ready { (plan : Plan) × IsSettingsOf plan self.now
+            × IsReady (setting_in self.now state) (kinds_of plan.names)
+            (moment_of scene store.old) }
+        ensures made { IfOk result (λ made.
+            (plan : Plan) → IsSettingsOf plan self.now
+            → StateBecomes plan state (moment_of scene store.old) picture.old picture.new
+            (stands_at made.stand store.new) made.turn) }
+        ensures store { IfOk result (λ made.
+            (plan : Plan) → IsSettingsOf plan self.now
+            → StoreBecomes plan state (moment_of scene store.old) picture.new store.new made.turn) }
         ensures err { OnErr result (picture.new ≡ picture.old) }
     {
         if state == self.limits.states {
@@ -279,11 +299,19 @@ impl Run {
     ) -> Result<Run, NoMemory>
         requires built { IsBuilt globals.now (formula_tree main.value) }
         requires order { order ≡ First }
-        ensures stand { IfOk result (λ run. standing_of run ≡ open_at (first_moment globals.now (formula_tree main.value))) }
+        ensures stand { IfOk result (λ run.
+            standing_of run ≡ open_at (first_moment globals.now (formula_tree main.value))) }
         ensures state { IfOk result (λ run. next_state_of run ≡ 0) }
         ensures store { IfOk result (λ run. store_of run ≡ new_store globals.now) }
-        ensures plan { IfOk result (IsRunOf (plan_with globals.now (formula_tree main.value) (lines_of inputs) limits.states limits.reductions)) }
-        ensures stands { IfOk result (λ run. BeginsWith (plan_with globals.now (formula_tree main.value) (lines_of inputs) limits.states limits.reductions) (standing_of run)) }
+        ensures plan { IfOk result
+            (IsRunOf
+            (plan_with globals.now (formula_tree main.value) (lines_of inputs) limits.states
+            limits.reductions)) }
+        ensures stands { IfOk result (λ run.
+            StandsForItsProgram
+            (plan_with globals.now (formula_tree main.value) (lines_of inputs) limits.states
+            limits.reductions)
+            (standing_of run)) }
     {
         let scene = start(alloc, &main)?;
         let store = Store::new(alloc, globals)?;
@@ -307,7 +335,8 @@ impl Run {
 
     /// What is carried to the next state: the scene that it begins with, where the last answer was `Went`; else nothing.
     pub fn scene(&self) -> Option<&Scene>
-        ensures { option_map (λ s. scene_of s.now) result ≡ carried (next_state_of self.now) (standing_of self.now) }
+        ensures { option_map (λ s. scene_of s.now) result
+            ≡ carried_scene (next_state_of self.now) (standing_of self.now) }
     {
         if self.state == 0 {
             return None;
@@ -349,11 +378,21 @@ impl Run {
         steps: &mut Steps<L>,
     ) -> Result<Turn, NoMemory>
         requires run { (plan : Plan) × IsRunOf plan self.old }
-        ensures made { IfOk result (λ turn. (plan : Plan) → IsRunOf plan self.old → Answers plan (standing_of self.old) (next_state_of self.old) picture.old picture.new (standing_of self.new) (next_state_of self.new) turn) }
-        ensures means { IfOk result (λ turn. (plan : Plan) → IsRunOf plan self.old → AnswerMeans plan (next_state_of self.old) (standing_of self.old) (standing_of self.new) picture.new turn) }
+        ensures made { IfOk result (λ turn.
+            (plan : Plan) → IsRunOf plan self.old
+            → AnswersState plan (standing_of self.old) (next_state_of self.old) picture.old
+            picture.new (standing_of self.new) (next_state_of self.new) turn) }
+        ensures means { IfOk result (λ turn.
+            (plan : Plan) → IsRunOf plan self.old
+            → AnswerMeans plan (next_state_of self.old) (standing_of self.old)
+            (standing_of self.new) picture.new turn) }
         ensures run { (plan : Plan) → IsRunOf plan self.old → IsRunOf plan self.new }
-        ensures store { IfOk result (λ turn. (plan : Plan) → IsRunOf plan self.old → LeavesStore plan (standing_of self.old) (next_state_of self.old) picture.new (store_of self.old) (store_of self.new) turn) }
-        ensures variables { OnOk result ((store_of self.new).variables ≡ (store_of self.old).variables) }
+        ensures store { IfOk result (λ turn.
+            (plan : Plan) → IsRunOf plan self.old
+            → LeavesStore plan (standing_of self.old) (next_state_of self.old) picture.new
+            (store_of self.old) (store_of self.new) turn) }
+        ensures variables { OnOk result
+            ((store_of self.new).variables ≡ (store_of self.old).variables) }
         ensures err { OnErr result ((standing_of self.new ≡ spent) × (picture.new ≡ picture.old)) }
     {
         match mem::replace(&mut self.stand, Stand::Spent) {

@@ -9,7 +9,7 @@ use Rattle.tp_scene.specs.Scene.{Side, Ending, Head, marked, Do, Later, Shown, H
 use Rattle.tp_scene.specs.Pick.{Setting, Moment}
 use Rattle.tp_scene.specs.Advance.{unmarked, due, items_in, regions_in, regions_held, numbered_head, second_head, numbered, advanced}
 use Rattle.tp_scene.specs.Fits.{IsCalm, Dormant, EntriesFit, AreNumbers, item_numbers, second_number, region_numbers}
-use Rattle.tp_scene.specs.Laws.{IsSound, GoesOn, AdvancesFit}
+use Rattle.tp_scene.specs.Laws.{IsSound, StoreGoesOn, AdvancesFit}
 use Rattle.tp_scene.proofs.Globals.{of_variables_in, in_of_variables}
 use Rattle.tp_scene.proofs.Count.{count, count_none, count_first}
 use Rattle.tp_scene.proofs.PutStatus.{dormant_head, dormant_risen, or_false}
@@ -190,7 +190,7 @@ numbered_regions x i r (node id k h held g second rest) =
     let v = between_same (r + 1) top (suc r) top x (omega arith) refl in
     omega (arith, p, a, n, b, c, t, j1, s, j2, u, j3, f, v)
 
-module _ (w : Setting) (kinds : List Bool) (m next : Moment) (sound : IsSound w kinds m) (is : next.scene ≡ advanced m.scene) (on : GoesOn m.store next.store) (own : ℕ) where
+module _ (w : Setting) (kinds : List Bool) (m next : Moment) (sound : IsSound w kinds m) (is : next.scene ≡ advanced m.scene) (on : StoreGoesOn m.store next.store) (own : ℕ) where
   abbrev es : Entries
   es = due m.scene.root.entries
 

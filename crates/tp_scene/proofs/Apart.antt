@@ -15,7 +15,7 @@ use Rattle.tp_store.specs.Known.{NoClash, Addition, adds, refuses, addition}
 use Rattle.tp_eval.specs.Outcome as found
 use Rattle.tp_eval.specs.Outcome.{PlaceOutcome, outcome, place_outcome}
 use Rattle.tp_scene.specs.Scene.{Bindings, Side, Ending, Going, Leaf, Do, Later, Shown, Holder, Split, SplitProject, Closed, Opened, Running, Entries, none, leaf, node, Region, second_lives, has, Place, held_place, second_place}
-use Rattle.tp_scene.specs.Step.{region_limit, Outcome, reduces, waits, rests, clashes, misses, passes, Numbers, marking, by_status, with_value, with_truth, with_number, Target, value_at, length_at, set, added, SideOf, meets, both_wait, equate, side_of, side_with, with_values, with_place, with_argument, with_arguments, called, length_left, from_port, formula_step, leaf_step, holder_step}
+use Rattle.tp_scene.specs.Step.{region_limit, PickOutcome, reduces, waits, rests, clashes, misses, passes, Numbers, marking, by_status, with_value, with_truth, with_number, Target, value_at, length_at, set, added, SideOf, meets, both_wait, equate, side_of, side_with, with_values, with_place, with_argument, with_arguments, called, length_left, from_port, formula_step, leaf_step, holder_step}
 use Rattle.tp_scene.specs.Pick.{Setting, pick}
 use Rattle.tp_scene.proofs.Frame.{region}
 
@@ -28,7 +28,7 @@ abbrev pub AdditionsApart : Type 0
 AdditionsApart = (kept facts news : List Fact) → NoClash kept → NoClash facts → addition kept facts ≡ adds news → NoClash (kept ++ news)
 
 module _ (facts : List Fact) (kept : NoClash facts) where
-  abbrev pub IsApart : Outcome → Type 0
+  abbrev pub IsApart : PickOutcome → Type 0
   IsApart (reduces r) = NoClash (facts ++ r.facts)
   IsApart (waits first other) = Unit {0}
   IsApart rests = Unit {0}
@@ -39,7 +39,7 @@ module _ (facts : List Fact) (kept : NoClash facts) where
   nothing_new : NoClash (facts ++ [])
   nothing_new = subst (λ (fs : List Fact). NoClash fs) (sym (append-nil facts)) kept
 
-  if_apart : (b : Bool) (o o' : Outcome) → IsApart o → IsApart o' → IsApart (if b then o else o')
+  if_apart : (b : Bool) (o o' : PickOutcome) → IsApart o → IsApart o' → IsApart (if b then o else o')
   if_apart true o o' h h' = h
   if_apart false o o' h h' = h'
 
@@ -47,16 +47,16 @@ module _ (facts : List Fact) (kept : NoClash facts) where
   marking_apart z true depth news items = tt
   marking_apart z false depth news items = nothing_new
 
-  status_apart : (p : Place) (o o' : Outcome) → IsApart o → IsApart o' → IsApart (by_status p o o')
+  status_apart : (p : Place) (o o' : PickOutcome) → IsApart o → IsApart o' → IsApart (by_status p o o')
   status_apart p o o' h h' = cond_both (p.is Going) _ _ IsApart (λ _. h) (λ _. cond_both (p.is Ending) _ _ IsApart (λ _. h') (λ _. tt))
 
-  value_apart : (o : found.Outcome) (f : Tree → Outcome) → ((t : Tree) → IsApart (f t)) → IsApart (with_value o f)
+  value_apart : (o : found.Outcome) (f : Tree → PickOutcome) → ((t : Tree) → IsApart (f t)) → IsApart (with_value o f)
   value_apart (found.value t) f h = h t
   value_apart (found.wait p) f h = tt
   value_apart (found.fault k) f h = tt
   value_apart (found.over k) f h = tt
 
-  truth_apart : (o : found.Outcome) (f : Bool → Outcome) → ((b : Bool) → IsApart (f b)) → IsApart (with_truth o f)
+  truth_apart : (o : found.Outcome) (f : Bool → PickOutcome) → ((b : Bool) → IsApart (f b)) → IsApart (with_truth o f)
   truth_apart (found.value (truth b)) f h = h b
   truth_apart (found.value (num n)) f h = tt
   truth_apart (found.value (list ts)) f h = tt
@@ -64,7 +64,7 @@ module _ (facts : List Fact) (kept : NoClash facts) where
   truth_apart (found.fault k) f h = tt
   truth_apart (found.over k) f h = tt
 
-  number_apart : (o : found.Outcome) (f : ℤ → Outcome) → ((n : ℤ) → IsApart (f n)) → IsApart (with_number o f)
+  number_apart : (o : found.Outcome) (f : ℤ → PickOutcome) → ((n : ℤ) → IsApart (f n)) → IsApart (with_number o f)
   number_apart (found.value (num n)) f h = h n
   number_apart (found.value (truth b)) f h = tt
   number_apart (found.value (list ts)) f h = tt
@@ -117,18 +117,18 @@ module _ (facts : List Fact) (kept : NoClash facts) where
       go (found.wait p) (found.wait q) = wait_apart l.placed r.placed p q
 
     module _ (defs : List Definition) (inputs : InputLines) (state : ℕ) where
-      values_apart : (es : ExprTrees) (env : Bindings) (f : List Tree → Outcome) → ((vs : List Tree) → IsApart (f vs)) → IsApart (with_values defs inputs state facts es env f)
+      values_apart : (es : ExprTrees) (env : Bindings) (f : List Tree → PickOutcome) → ((vs : List Tree) → IsApart (f vs)) → IsApart (with_values defs inputs state facts es env f)
       values_apart no_expr env f h = h []
       values_apart (expr_then e es) env f h = value_apart (outcome facts defs e env) _ (λ v. values_apart es env _ (λ vs. h (v ∷ vs)))
 
-      place_apart : (o : PlaceOutcome) (f : BindingTree → Outcome) → ((b : BindingTree) → IsApart (f b)) → IsApart (with_place defs inputs state facts o f)
+      place_apart : (o : PlaceOutcome) (f : BindingTree → PickOutcome) → ((b : BindingTree) → IsApart (f b)) → IsApart (with_place defs inputs state facts o f)
       place_apart (found.path p) f h = h _
       place_apart (found.other o) f h = value_apart o _ (λ v. h (known_binding v))
 
-      argument_apart : (x : List ℕ) (e : ExprTree) (env : Bindings) (f : BindingTree → Outcome) → ((b : BindingTree) → IsApart (f b)) → IsApart (with_argument defs inputs state facts x e env f)
+      argument_apart : (x : List ℕ) (e : ExprTree) (env : Bindings) (f : BindingTree → PickOutcome) → ((b : BindingTree) → IsApart (f b)) → IsApart (with_argument defs inputs state facts x e env f)
       argument_apart x e env f h = if_apart (is_upper x) _ _ (place_apart (place_outcome facts defs e env) f h) (value_apart (outcome facts defs e env) _ (λ v. h (known_binding v)))
 
-      arguments_apart : (es : ExprTrees) (xs : List (List ℕ)) (env : Bindings) (f : Bindings → Outcome) → ((bs : Bindings) → IsApart (f bs)) → IsApart (with_arguments defs inputs state facts es xs env f)
+      arguments_apart : (es : ExprTrees) (xs : List (List ℕ)) (env : Bindings) (f : Bindings → PickOutcome) → ((bs : Bindings) → IsApart (f bs)) → IsApart (with_arguments defs inputs state facts es xs env f)
       arguments_apart no_expr [] env f h = h []
       arguments_apart (expr_then e es) (x ∷ xs) env f h = argument_apart x e env _ (λ b. arguments_apart es xs env _ (λ bs. h (b ∷ bs)))
       arguments_apart no_expr (x ∷ xs) env f h = tt

@@ -16,7 +16,7 @@ use Rattle.tp_eval.specs.Outcome.{outcome, PlaceOutcome, place_outcome}
 use Rattle.tp_eval.specs.Bound.{PlaceIsRight}
 use Rattle.tp_scene.specs.Scene.{Bindings, Do, Shown, none, leaf, Place}
 use Rattle.tp_scene.specs.Says.{Claim, FormulaSays}
-use Rattle.tp_scene.specs.Step.{Numbers, Outcome, becomes, with_value, with_values, with_place, with_arguments, called}
+use Rattle.tp_scene.specs.Step.{Numbers, PickOutcome, becomes, with_value, with_values, with_place, with_arguments, called}
 use Rattle.tp_scene.proofs.Frame.{Never, Keeps}
 use Rattle.tp_scene.proofs.RowForms.{Agrees, becomes_one, with_value_row}
 use Rattle.tp_scene.proofs.Values.{AreRight, deep_enough, value_found}
@@ -65,10 +65,10 @@ module _ (w : Context) (state : ℕ) (kinds : List Bool) (facts : List Fact) (nn
       abbrev No : Type 0
       No = Never w globals facts nn.local e Old s a b
 
-      abbrev Row : Outcome → Type 0
+      abbrev Row : PickOutcome → Type 0
       Row o = Keeps w globals facts nn.local e o Old s a b
 
-      with_values_row : (xs : ExprTrees) → ExprsFit w.defs kinds xs (length env) → (f : List Tree → Outcome)
+      with_values_row : (xs : ExprTrees) → ExprsFit w.defs kinds xs (length env) → (f : List Tree → PickOutcome)
           → (NoneIs (ValuesAt xs) → No) → ((vs : List Tree) → ItIs (ValuesAt xs) (λ _. vs) → Row (f vs)) → Row (with_values w.defs w.inputs state facts xs env f)
       with_values_row no_expr fits f fails all = all [] (λ d σ ag. refl)
       with_values_row (expr_then x xs) fits f fails all =
@@ -78,7 +78,7 @@ module _ (w : Context) (state : ℕ) (kinds : List Bool) (facts : List Fact) (nn
           (λ z. fails (λ d σ ag. none_after (value w.defs d x (env_in σ) s a) (ValuesAt xs d σ) (λ t ts. t ∷ ts) (z d σ ag)))
           (λ vs z. all (v ∷ vs) (λ d σ ag. both_there (value w.defs (e + d) x (env_in σ) s a) (ValuesAt xs (e + d) σ) (λ t ts. t ∷ ts) v vs (value_found w kinds facts nn.local e deep right x env fits.0 v q d σ s a ag) (z d σ ag))))
 
-      argument_row : (upper : Bool) (x : ExprTree) → ExprFits w.defs kinds x (length env) → (f : BindingTree → Outcome)
+      argument_row : (upper : Bool) (x : ExprTree) → ExprFits w.defs kinds x (length env) → (f : BindingTree → PickOutcome)
           → (NoneIs (ArgumentAt upper x) → No) → ((y : BindingTree) → ItIs (ArgumentAt upper x) (λ σ. meaning_of globals s σ y) → Row (f y))
           → Row (if upper then with_place w.defs w.inputs state facts (place_outcome facts w.defs x env) f else with_value (outcome facts w.defs x env) (λ v. f (known_binding v)))
       argument_row true x fit f fails all = by_place (place_outcome facts w.defs x env) refl
@@ -94,7 +94,7 @@ module _ (w : Context) (state : ℕ) (kinds : List Bool) (facts : List Fact) (nn
           (λ k q. fails (λ d σ ag. none_first _ _ ((right σ s a x env fit ag).faults k q d)))
           (λ v q. all (known_binding v) (λ d σ ag. ap (λ (o : Option Tree). o >>= λ t. Some (fixed t)) (value_found w kinds facts nn.local e deep right x env fit v q d σ s a ag)))
 
-      arguments_row : (xs : ExprTrees) (names : List (List ℕ)) → ExprsFit w.defs kinds xs (length env) → (f : Bindings → Outcome)
+      arguments_row : (xs : ExprTrees) (names : List (List ℕ)) → ExprsFit w.defs kinds xs (length env) → (f : Bindings → PickOutcome)
           → (NoneIs (ArgumentsAt xs names) → No) → ((ys : Bindings) → ItIs (ArgumentsAt xs names) (λ σ. meanings_of globals s σ ys) → Row (f ys))
           → Row (with_arguments w.defs w.inputs state facts xs names env f)
       arguments_row no_expr [] fits f fails all = all [] (λ d σ ag. refl)

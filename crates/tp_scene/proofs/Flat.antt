@@ -14,7 +14,7 @@ use Rattle.tp_kernel.specs.Built.{HasBuiltKinds, HaveBuiltKinds}
 use Rattle.tp_eval.specs.Outcome as found
 use Rattle.tp_eval.specs.Outcome.{outcome}
 use Rattle.tp_scene.specs.Scene.{Bindings, Side, Ending, Going, Leaf, Do, Later, Shown, Entries, none, leaf, node, append, Scene, Place, root_place}
-use Rattle.tp_scene.specs.Step.{Reduction, Outcome, reduces, waits, rests, clashes, misses, passes, Numbers, marking, by_status, with_value, with_truth, with_number, Target, value_at, length_at, set, added, SideOf, meets, equate, side_of, length_left, all_do, formula_step, leaf_step}
+use Rattle.tp_scene.specs.Step.{Reduction, PickOutcome, reduces, waits, rests, clashes, misses, passes, Numbers, marking, by_status, with_value, with_truth, with_number, Target, value_at, length_at, set, added, SideOf, meets, equate, side_of, length_left, all_do, formula_step, leaf_step}
 use Rattle.tp_scene.specs.Pick.{Setting, pick, numbers_of, put, with_local}
 use Rattle.tp_scene.specs.Advance.{due, numbered}
 use Rattle.tp_scene.specs.Built.{IsFlat, StepsStayFlat, AdvancesStayFlat}
@@ -35,7 +35,7 @@ flat_all no_formula env number from h = tt
 flat_all (formula_then f fs) env number from h = (h.0, flat_all fs env number (suc from) h.1)
 
 -- the new entries are flat, and there is no new local
-abbrev IsFlatOutcome : Outcome → Type 0
+abbrev IsFlatOutcome : PickOutcome → Type 0
 IsFlatOutcome (reduces r) = IsFlat r.news × (r.local ≡ None)
 IsFlatOutcome (waits first other) = Unit {0}
 IsFlatOutcome rests = Unit {0}
@@ -48,16 +48,16 @@ module _ (facts : List Fact) where
   marking_flat z true depth news items h = tt
   marking_flat z false depth news items h = (h, refl)
 
-  status_flat : (p : Place) (o o' : Outcome) → IsFlatOutcome o → IsFlatOutcome o' → IsFlatOutcome (by_status p o o')
+  status_flat : (p : Place) (o o' : PickOutcome) → IsFlatOutcome o → IsFlatOutcome o' → IsFlatOutcome (by_status p o o')
   status_flat p o o' h h' = cond_both (p.is Going) _ _ IsFlatOutcome (λ _. h) (λ _. cond_both (p.is Ending) _ _ IsFlatOutcome (λ _. h') (λ _. tt))
 
-  value_flat : (o : found.Outcome) (f : Tree → Outcome) → ((t : Tree) → IsFlatOutcome (f t)) → IsFlatOutcome (with_value o f)
+  value_flat : (o : found.Outcome) (f : Tree → PickOutcome) → ((t : Tree) → IsFlatOutcome (f t)) → IsFlatOutcome (with_value o f)
   value_flat (found.value t) f h = h t
   value_flat (found.wait p) f h = tt
   value_flat (found.fault k) f h = tt
   value_flat (found.over k) f h = tt
 
-  truth_flat : (o : found.Outcome) (f : Bool → Outcome) → ((b : Bool) → IsFlatOutcome (f b)) → IsFlatOutcome (with_truth o f)
+  truth_flat : (o : found.Outcome) (f : Bool → PickOutcome) → ((b : Bool) → IsFlatOutcome (f b)) → IsFlatOutcome (with_truth o f)
   truth_flat (found.value (truth b)) f h = h b
   truth_flat (found.value (num n)) f h = tt
   truth_flat (found.value (list ts)) f h = tt
@@ -65,7 +65,7 @@ module _ (facts : List Fact) where
   truth_flat (found.fault k) f h = tt
   truth_flat (found.over k) f h = tt
 
-  number_flat : (o : found.Outcome) (f : ℤ → Outcome) → ((n : ℤ) → IsFlatOutcome (f n)) → IsFlatOutcome (with_number o f)
+  number_flat : (o : found.Outcome) (f : ℤ → PickOutcome) → ((n : ℤ) → IsFlatOutcome (f n)) → IsFlatOutcome (with_number o f)
   number_flat (found.value (num n)) f h = h n
   number_flat (found.value (truth b)) f h = tt
   number_flat (found.value (list ts)) f h = tt
@@ -168,7 +168,7 @@ flat_put w facts t r n none p h e = absurd (cc)
 flat_put w facts t r n (leaf id l rest) p h e = elim (cases_Bool (eqb id t)) [
   | inl c ↦ (let s = leaf_step w.defs w.inputs w.state facts l p n in
       let q : s ≡ reduces r = sym (cond-true (eqb id t) s (pick w facts t rest p n) c) ∙ e in
-      let x = subst (λ (o : Outcome). IsFlatOutcome o) q (leaf_flat facts w.defs w.inputs w.state id l rest p n h) in
+      let x = subst (λ (o : PickOutcome). IsFlatOutcome o) q (leaf_flat facts w.defs w.inputs w.state id l rest p n h) in
       let there : IsFlat (append r.news rest) = flat_append r.news rest x.0 (flat_rest id l rest h) in
       (rw c there, x.1))
   | inr c ↦ (let ih = flat_put w facts t r n rest p (flat_rest id l rest h) (sym (cond-false (eqb id t) (leaf_step w.defs w.inputs w.state facts l p n) (pick w facts t rest p n) c) ∙ e) in

@@ -13,7 +13,7 @@ use Rattle.tp_store.specs.Known.{Variable}
 use Rattle.tp_eval.specs.Right.{values_at}
 use Rattle.tp_scene.specs.Scene.{Side, Ending, Going, Head, marked, Entries, none, leaf, node, Region, second_lives, has_here, append, rises, risen, Place}
 use Rattle.tp_scene.specs.Says.{at_cuts, locals_at_cuts, IsSo, MarksHold, Claim, Says, RegionSays}
-use Rattle.tp_scene.specs.Step.{Outcome, reduces, waits, rests, clashes, misses, passes}
+use Rattle.tp_scene.specs.Step.{PickOutcome, reduces, waits, rests, clashes, misses, passes}
 use Rattle.tp_scene.specs.Pick.{mark_head, mark_at, put}
 use Rattle.tp_scene.proofs.Below.{Below}
 use Rattle.tp_scene.proofs.Carry.{like_self, like_update, Carried, says_carried, update, update_at_cuts}
@@ -135,7 +135,7 @@ module _ (w : Context) (globals : ℕ) (facts : List Fact) (n e : ℕ) where
   Never Old s a b = (d : ℕ) (σ : Locals) (S : Shows) → AgreesWithAll (values_at globals s σ a) facts → Old d σ s a b S → ⊥
 
   -- an outcome keeps what an entry says
-  abbrev pub Keeps : Outcome → Claim → Course → ℕ → ℕ → Type 0
+  abbrev pub Keeps : PickOutcome → Claim → Course → ℕ → ℕ → Type 0
   Keeps (reduces r) Old s a b = Swap r.local r.facts (MarkSo r.mark a b) Old (Says w globals r.news) s a b
   Keeps (waits first other) Old s a b = Unit {0}
   Keeps rests Old s a b = Unit {0}
@@ -144,7 +144,7 @@ module _ (w : Context) (globals : ℕ) (facts : List Fact) (n e : ℕ) where
   Keeps (passes k) Old s a b = Unit {0}
 
   -- and what the entries say where the entry stands
-  abbrev pub KeepsIn : ℕ → Outcome → Entries → Course → ℕ → ℕ → Type 0
+  abbrev pub KeepsIn : ℕ → PickOutcome → Entries → Course → ℕ → ℕ → Type 0
   KeepsIn t (reduces r) es s a b = Swap r.local r.facts (IsTrue (has_here t es) → MarkSo r.mark a b) (Says w globals es) (Says w globals (put t r.mark r.news es)) s a b
   KeepsIn t (waits first other) es s a b = Unit {0}
   KeepsIn t rests es s a b = Unit {0}

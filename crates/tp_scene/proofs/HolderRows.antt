@@ -9,7 +9,7 @@ use Rattle.tp_meaning.specs.Holds.{Context}
 use Rattle.tp_meaning.proofs.Shows.{join-blank}
 use Rattle.tp_scene.specs.Scene.{Bindings, Ending, Going, Head, new_head, Do, Holder, Split, SplitProject, Closed, Opened, Running, Entries, none, leaf, Region, Place, held_place, closed_then, opened_then, running_then, rises, sinks, forced}
 use Rattle.tp_scene.specs.Says.{at_cuts, locals_at_cuts, Claim, FormulaSays, OpenedSays, RunningSays, SplitSays, HolderSays, RegionSays, Says}
-use Rattle.tp_scene.specs.Step.{Numbers, Outcome, rests, becomes, by_status, holder_step}
+use Rattle.tp_scene.specs.Step.{Numbers, PickOutcome, rests, becomes, by_status, holder_step}
 use Rattle.tp_scene.proofs.Below.{HolderBelow, IfSecond, if_second, Below}
 use Rattle.tp_scene.proofs.Carry.{like_self, Carried, formula_carried, opened_carried, region_carried}
 use Rattle.tp_scene.proofs.Lens.{first_lens}
@@ -23,7 +23,7 @@ module _ (w : Context) (state globals : ℕ) (facts : List Fact) (nn : Numbers) 
   raise : (F : Claim) → Carried w globals n F → (d : ℕ) (σ : Locals) (s : Course) (a b : ℕ) (S : Shows) → F d σ s a b S → F (e + d) σ s a b S
   raise F up d σ s a b S h = up d (e + d) σ σ (omega arith) (like_self n σ) s a b S h
 
-  by_side : (q : Place) (if_goes if_ends : Outcome) (Old : Claim) (s : Course) (a b : ℕ)
+  by_side : (q : Place) (if_goes if_ends : PickOutcome) (Old : Claim) (s : Course) (a b : ℕ)
       → (IsTrue (q.is Going) → Keeps w globals facts n e if_goes Old s a b) → (IsTrue (q.is Ending) → Keeps w globals facts n e if_ends Old s a b)
       → Keeps w globals facts n e (by_status q if_goes if_ends) Old s a b
   by_side q if_goes if_ends Old s a b g f =

@@ -6,7 +6,7 @@ use Rattle.tp_meaning.specs.Course.{Course}
 use Rattle.tp_store.specs.Known.{Contents, Variable}
 use Rattle.tp_scene.specs.Scene.{Leaf, Head, Holder, Split, SplitProject, Closed, Opened, Running, Entries, none, leaf, node, second_lives, has, rises, sinks, forced, Place, held_place, second_place}
 use Rattle.tp_scene.specs.Says.{Claim, Says, LeafSays, HolderSays, RegionSays}
-use Rattle.tp_scene.specs.Step.{Outcome, reduces, waits, rests, clashes, misses, passes, Numbers, leaf_step}
+use Rattle.tp_scene.specs.Step.{PickOutcome, reduces, waits, rests, clashes, misses, passes, Numbers, leaf_step}
 use Rattle.tp_scene.specs.Pick.{Setting, pick, mark_at, put}
 use Rattle.tp_scene.specs.StandsFor.{context_of}
 use Rattle.tp_scene.specs.Fits.{HolderFits, EntriesFit}
@@ -31,13 +31,13 @@ module _ (w : Setting) (kinds : List Bool) (store : Contents) (nn : Numbers) (e 
   n = nn.local
 
   -- a step keeps what these entries say, on this interval
-  abbrev Kept : ℕ → Outcome → Entries → Course → ℕ → ℕ → Type 0
+  abbrev Kept : ℕ → PickOutcome → Entries → Course → ℕ → ℕ → Type 0
   Kept = KeepsIn (context_of w) (length kinds) store.facts n e
 
   abbrev HolderOf : Holder → Head → Entries → Head → Entries → Claim
   HolderOf k h held g second = HolderSays (context_of w) (length kinds) k (RegionSays (context_of w) (length kinds) (region h held)) (RegionSays (context_of w) (length kinds) (region g second))
 
-  here : (t id : ℕ) (x : Leaf) (rest : Entries) → Below n rest → (o : Outcome) (s : Course) (a b : ℕ) → eqb id t ≡ true → Keeps (context_of w) (length kinds) store.facts n e o (LeafSays (context_of w) (length kinds) x) s a b → Kept t o (leaf id x rest) s a b
+  here : (t id : ℕ) (x : Leaf) (rest : Entries) → Below n rest → (o : PickOutcome) (s : Course) (a b : ℕ) → eqb id t ≡ true → Keeps (context_of w) (length kinds) store.facts n e o (LeafSays (context_of w) (length kinds) x) s a b → Kept t o (leaf id x rest) s a b
   here t id x rest below (reduces r) s a b y k = rw y (here_swap (context_of w) (length kinds) store.facts n e (LeafSays (context_of w) (length kinds) x) r.news rest below r.local r.mark r.facts s a b k)
   here t id x rest below (waits first other) s a b y k = tt
   here t id x rest below rests s a b y k = tt
@@ -45,7 +45,7 @@ module _ (w : Setting) (kinds : List Bool) (store : Contents) (nn : Numbers) (e 
   here t id x rest below (misses port) s a b y k = λ d σ S ag h. k d σ h.0 ag h.2
   here t id x rest below (passes limit) s a b y k = tt
 
-  later : (t id : ℕ) (x : Leaf) (rest : Entries) → LeafBelow n x → (o : Outcome) (s : Course) (a b : ℕ) → eqb id t ≡ false → Kept t o rest s a b → Kept t o (leaf id x rest) s a b
+  later : (t id : ℕ) (x : Leaf) (rest : Entries) → LeafBelow n x → (o : PickOutcome) (s : Course) (a b : ℕ) → eqb id t ≡ false → Kept t o rest s a b → Kept t o (leaf id x rest) s a b
   later t id x rest below (reduces r) s a b y k =
       rw y (later_swap (context_of w) (length kinds) store.facts n e (LeafSays (context_of w) (length kinds) x) (leaf_carried (context_of w) (length kinds) n x below) rest (put t r.mark r.news rest) r.local _ r.facts s a b k)
   later t id x rest below (waits first other) s a b y k = tt
@@ -61,7 +61,7 @@ module _ (w : Setting) (kinds : List Bool) (store : Contents) (nn : Numbers) (e 
     second_up : IfSecond k (Carried (context_of w) (length kinds) n (RegionSays (context_of w) (length kinds) (region g second)))
     second_up = if_second k _ _ (λ u. region_carried (context_of w) (length kinds) n g second u) below.2
 
-    node_here : (o : Outcome) → eqb id t ≡ true → Keeps (context_of w) (length kinds) store.facts n e o (HolderOf k h held g second) s a b → Kept t o (node id k h held g second rest) s a b
+    node_here : (o : PickOutcome) → eqb id t ≡ true → Keeps (context_of w) (length kinds) store.facts n e o (HolderOf k h held g second) s a b → Kept t o (node id k h held g second rest) s a b
     node_here (reduces r) y q = rw y (here_swap (context_of w) (length kinds) store.facts n e (HolderOf k h held g second) r.news rest below.3 r.local r.mark r.facts s a b q)
     node_here (waits first other) y q = tt
     node_here rests y q = tt
@@ -69,7 +69,7 @@ module _ (w : Setting) (kinds : List Bool) (store : Contents) (nn : Numbers) (e 
     node_here (misses port) y q = λ d σ S ag x. q d σ x.0 ag x.2
     node_here (passes limit) y q = tt
 
-    node_later : (o : Outcome) → eqb id t ≡ false → (second_lives k && has t second) ≡ false → has t held ≡ false → Kept t o rest s a b → Kept t o (node id k h held g second rest) s a b
+    node_later : (o : PickOutcome) → eqb id t ≡ false → (second_lives k && has t second) ≡ false → has t held ≡ false → Kept t o rest s a b → Kept t o (node id k h held g second rest) s a b
     node_later (reduces r) y l d q = rw (y, l, d) (later_swap (context_of w) (length kinds) store.facts n e (HolderOf k h held g second)
         (holder_carried (context_of w) (length kinds) n k (RegionSays (context_of w) (length kinds) (region h held)) (RegionSays (context_of w) (length kinds) (region g second)) below.0 held_up second_up)
         rest (put t r.mark r.news rest) r.local _ r.facts s a b q)
@@ -83,7 +83,7 @@ module _ (w : Setting) (kinds : List Bool) (store : Contents) (nn : Numbers) (e 
     first_never ih dd σ S ag x = descend_never (context_of w) (length kinds) store.facts n e w.state t h held p (held_place k h held p) _ (sinks k) (forced k) (rises k) (λ P. HolderSays (context_of w) (length kinds) k P (RegionSays (context_of w) (length kinds) (region g second)))
         (first_lens (context_of w) (length kinds) n k (RegionSays (context_of w) (length kinds) (region g second))) (below.0, second_up) (λ z u. u) ih s a b is dd σ x.0 ag x.2
 
-    node_first : (o : Outcome) → eqb id t ≡ false → (second_lives k && has t second) ≡ false → has t held ≡ true → StatusKept t o held
+    node_first : (o : PickOutcome) → eqb id t ≡ false → (second_lives k && has t second) ≡ false → has t held ≡ true → StatusKept t o held
         → ((s : Course) (i j : ℕ) → IsOf w.state (held_place k h held p) s i j → Kept t o held s i j) → Kept t o (node id k h held g second rest) s a b
     node_first (reduces r) y l d kept ih = rw (y, l, d) (node_swap (context_of w) (length kinds) store.facts n e
         (HolderOf k h held g second) (HolderOf k (mark_at t r.mark h held) (put t r.mark r.news held) g second) rest below.3 r.local r.mark r.facts s a b
@@ -104,7 +104,7 @@ module _ (w : Setting) (kinds : List Bool) (store : Contents) (nn : Numbers) (e 
       second_never ih dd σ S ag x = descend_never (context_of w) (length kinds) store.facts n e w.state t g second p (second_place g second p) _ each_side no_side each_side (λ P. HolderSays (context_of w) (length kinds) k (RegionSays (context_of w) (length kinds) (region h held)) P)
           (second_lens (context_of w) (length kinds) n k (RegionSays (context_of w) (length kinds) (region h held)) live) second_safe (λ z u. u) ih s a b is dd σ x.0 ag x.2
 
-      node_second : (o : Outcome) → eqb id t ≡ false → (second_lives k && has t second) ≡ true → StatusKept t o second
+      node_second : (o : PickOutcome) → eqb id t ≡ false → (second_lives k && has t second) ≡ true → StatusKept t o second
           → ((s : Course) (i j : ℕ) → IsOf w.state (second_place g second p) s i j → Kept t o second s i j) → Kept t o (node id k h held g second rest) s a b
       node_second (reduces r) y l kept ih = rw (y, l) (node_swap (context_of w) (length kinds) store.facts n e
           (HolderOf k h held g second) (HolderOf k h held (mark_at t r.mark g second) (put t r.mark r.news second)) rest below.3 r.local r.mark r.facts s a b

@@ -8,7 +8,7 @@ use Rattle.tp_scene.specs.declared.answer.Cell.TheVariants.{Part, End}
 use Rattle.tp_scene.specs.Scene.{Side, Ending, Going, Head, Leaf, Holder, Split, SplitProject, Closed, Opened, Running, Entries, none, leaf, node, Scene, second_lives, has, Place, root_place, held_place, second_place}
 use Rattle.tp_scene.specs.Regions.{Role, HoldsRegion, by_split, by_split_project, by_closed, by_opened, by_running, by_running_second, past_leaf, past_node, LiveRegion, the_root, the_held}
 use Rattle.tp_scene.specs.Status.{place_through, computed_place}
-use Rattle.tp_scene.specs.Step.{Outcome, reduces, waits, rests, clashes, misses, passes, Numbers, leaf_step, holder_step}
+use Rattle.tp_scene.specs.Step.{PickOutcome, reduces, waits, rests, clashes, misses, passes, Numbers, leaf_step, holder_step}
 use Rattle.tp_scene.specs.Pick.{Setting, Moment, pick, numbers_of}
 use Rattle.tp_scene.specs.Rest.{is_unsettled, holds_back}
 use Rattle.tp_scene.specs.Fits.{second_number, region_numbers}
@@ -157,7 +157,7 @@ module _ (facts : List Fact) where
         )
 
   -- what an outcome waits for is open
-  abbrev pub WaitsOpenly : Entries → Place → Outcome → Type 0
+  abbrev pub WaitsOpenly : Entries → Place → PickOutcome → Type 0
   WaitsOpenly es p (reduces r) = Unit {0}
   WaitsOpenly es p (waits first other) = IsOpenIn es p first × ForOther (IsOpenIn es p) other
   WaitsOpenly es p rests = Unit {0}
@@ -169,7 +169,7 @@ module _ (facts : List Fact) where
   other_openly P Q f None u = tt
   other_openly P Q f (Some c) u = f c u
 
-  openly : (es fs : Entries) (p q : Place) → ((c : Cell) → IsOpenIn es p c → IsOpenIn fs q c) → (o : Outcome) → WaitsOpenly es p o → WaitsOpenly fs q o
+  openly : (es fs : Entries) (p q : Place) → ((c : Cell) → IsOpenIn es p c → IsOpenIn fs q c) → (o : PickOutcome) → WaitsOpenly es p o → WaitsOpenly fs q o
   openly es fs p q f (reduces r) u = tt
   openly es fs p q f (waits first other) u = (f first u.0, other_openly (IsOpenIn es p) (IsOpenIn fs q) f other u.1)
   openly es fs p q f rests u = tt
@@ -177,7 +177,7 @@ module _ (facts : List Fact) where
   openly es fs p q f (misses port) u = tt
   openly es fs p q f (passes k) u = tt
 
-  answers_openly : (apart : NoClash facts) (Idle : Type 0) (es : Entries) (p : Place) → StandsOnce es p → (o : Outcome) → Answers facts apart Idle p o → WaitsOpenly es p o
+  answers_openly : (apart : NoClash facts) (Idle : Type 0) (es : Entries) (p : Place) → StandsOnce es p → (o : PickOutcome) → Answers facts apart Idle p o → WaitsOpenly es p o
   answers_openly apart Idle es p once (reduces r) u = tt
   answers_openly apart Idle es p once (waits first other) u = (open_here es p once first u.0, other_openly (IsOpenAt facts p) (IsOpenIn es p) (open_here es p once) other u.1)
   answers_openly apart Idle es p once rests u = tt
@@ -257,5 +257,5 @@ waits_are_for_undecided w kinds m t first other sound e =
     let es = m.scene.root.entries in
     let numbers = numbers_once m.scene.next_region (p.region ∷ region_numbers es) sound.moment.regions in
     let once : StandsOnce es p = λ x. let o = numbers.once x in let f = count_first x p.region (region_numbers es) in omega (arith, o, f) in
-    let u = subst (λ (o : Outcome). WaitsOpenly m.store.facts es p o) e (pick_openly m.store.facts w sound.store.no_clash t es p (numbers_of m.scene m.store.variables) once) in
+    let u = subst (λ (o : PickOutcome). WaitsOpenly m.store.facts es p o) e (pick_openly m.store.facts w sound.store.no_clash t es p (numbers_of m.scene m.store.variables) once) in
     record { not_first = not_decided m first u.0; not_other = other_not_decided m other u.1 }

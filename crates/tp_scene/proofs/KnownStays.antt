@@ -10,7 +10,7 @@ use Rattle.tp_scene.specs.declared.answer.Cell.TheVariants.{Part, End}
 use Rattle.tp_scene.specs.Scene.{Side, Ending, Going, Head, marked, Holder, Split, SplitProject, Closed, Opened, Running, Entries, none, leaf, node, Scene, second_lives, has, append, sinks, forced, risen, Place, root_place, held_place, second_place}
 use Rattle.tp_scene.specs.Regions.{Role, left_region, closed_region, inner_region, outer_region, HoldsRegion, by_split, by_split_project, by_closed, by_opened, by_running, by_running_second, past_leaf, past_node, LiveRegion, the_root, the_held, IsTail, all_entries, after_leaf, after_node}
 use Rattle.tp_scene.specs.Status.{place_through, computed_place}
-use Rattle.tp_scene.specs.Step.{Reduction, Outcome, reduces, waits, rests, clashes, misses, passes, Numbers, leaf_step, holder_step}
+use Rattle.tp_scene.specs.Step.{Reduction, PickOutcome, reduces, waits, rests, clashes, misses, passes, Numbers, leaf_step, holder_step}
 use Rattle.tp_scene.specs.Pick.{Setting, pick, mark_at, put, numbers_of, scene_after}
 use Rattle.tp_scene.specs.Cells.{IsKnownEnd, DecidedStays}
 use Rattle.tp_scene.proofs.Frame.{region}
@@ -62,7 +62,7 @@ module _ (r : ℕ) (z : Side) where
 
   module _ (w : Setting) (facts : List Fact) (n : Numbers) where
     -- what is known in a holder and behind it is known in what the holder becomes
-    abbrev HolderKeeps : Entries → Entries → Place → Place → Outcome → Type 0
+    abbrev HolderKeeps : Entries → Entries → Place → Place → PickOutcome → Type 0
     HolderKeeps es rest p p' (reduces s) = KnownIn r z es p → KnownIn r z (append s.news rest) p'
     HolderKeeps es rest p p' (waits first other) = Unit {0}
     HolderKeeps es rest p p' rests = Unit {0}
@@ -114,7 +114,7 @@ module _ (r : ℕ) (z : Side) where
       own_put h es p e x = status_marked w facts t 0 Closed h none h none none x s.mark h es (put t s.mark s.news es) (rises x)
         where
           rises : (y : Side) → risen y es ≡ true → risen y (put t s.mark s.news es) ≡ true
-          rises = subst (λ (o : Outcome). StatusKept t o es) e (status_put w facts t es p n)
+          rises = subst (λ (o : PickOutcome). StatusKept t o es) e (status_put w facts t es p n)
 
       pub known_put : (es : Entries) (p p' : Place) → More p p' → pick w facts t es p n ≡ reduces s → KnownIn r z es p → KnownIn r z (put t s.mark s.news es) p'
       known_put none p p' more e k = absurd k
@@ -126,7 +126,7 @@ module _ (r : ℕ) (z : Side) where
           let q = held_place k h held p in
           let b = second_place g second p in
           elim (cases_Bool (eqb id t)) [
-            | inl c ↦ rw c (subst (λ (o : Outcome). HolderKeeps (node id k h held g second rest) rest p p' o) (sym (pick_here w facts t id k h held g second rest p n c) ∙ e) (holder_keeps k id h held g second rest p p' more) x)
+            | inl c ↦ rw c (subst (λ (o : PickOutcome). HolderKeeps (node id k h held g second rest) rest p p' o) (sym (pick_here w facts t id k h held g second rest p n c) ∙ e) (holder_keeps k id h held g second rest p p' more) x)
             | inr c ↦ elim (cases_Bool (second_lives k && has t second)) [
               | inl l ↦ (let e2 = sym (pick_second w facts t id k h held g second rest p n c l) ∙ e in
                   let into = second_more g (mark_at t s.mark g second) second (put t s.mark s.news second) p p' more (own_put g second b e2) in

@@ -11,7 +11,7 @@ use Rattle.tp_store.specs.Known.{Variable, NoClash}
 use Rattle.tp_eval.specs.Right.{values_at}
 use Rattle.tp_scene.specs.Scene.{Side, marked, risen, Region, Scene, root_place}
 use Rattle.tp_scene.specs.Says.{IsSo, MarksHold, RegionSays}
-use Rattle.tp_scene.specs.Step.{Reduction, Outcome, reduces, clashes, misses}
+use Rattle.tp_scene.specs.Step.{Reduction, PickOutcome, reduces, clashes, misses}
 use Rattle.tp_scene.specs.Pick.{Setting, Moment, Reduces, outcome_of, numbers_of, put, with_local}
 use Rattle.tp_scene.specs.StandsFor.{AllLast, locals_of, context_of, StandsFor}
 use Rattle.tp_scene.specs.Laws.{IsSound, StandsForNone}
@@ -70,7 +70,7 @@ pub known_root : (r : Region) (a b : ℕ) → MarksHold r.head a b → ((z : Sid
 known_root r a b q g z e = elim (or_cases (marked z r.head) (risen z r.entries) e) [ inl y ↦ q z y | inr y ↦ g z y ]
 
 -- the facts of a reduction stand apart from each other and from those that are kept
-abbrev pub FactsApart : List Fact → Outcome → Type 0
+abbrev pub FactsApart : List Fact → PickOutcome → Type 0
 FactsApart facts o = (r : Reduction) → o ≡ reduces r → NoClash (facts ++ r.facts)
 
 module _ (w : Setting) (kinds : List Bool) (m : Moment) (sound : IsSound w kinds m) (e : ℕ)
@@ -93,10 +93,10 @@ module _ (w : Setting) (kinds : List Bool) (m : Moment) (sound : IsSound w kinds
 
   module _ (r : Reduction) (next : Moment) (red : Reduces w m t r next) (apart : FactsApart m.store.facts (outcome_of w m.store m.scene t)) where
     status_kept : (z : Side) → risen z m.scene.root.entries ≡ true → risen z (put t r.mark r.news m.scene.root.entries) ≡ true
-    status_kept = subst (λ (o : Outcome). StatusKept t o m.scene.root.entries) red.outcome (status_put w m.store.facts t m.scene.root.entries (root_place m.scene.root) (numbers_of m.scene m.store.variables))
+    status_kept = subst (λ (o : PickOutcome). StatusKept t o m.scene.root.entries) red.outcome (status_put w m.store.facts t m.scene.root.entries (root_place m.scene.root) (numbers_of m.scene m.store.variables))
 
     swap : (s : Course) (a b : ℕ) → IsOf w.state (root_place m.scene.root) s a b → KeepsIn (context_of w) globals m.store.facts n e t (reduces r) m.scene.root.entries s a b
-    swap s a b is = subst (λ (o : Outcome). KeepsIn (context_of w) globals m.store.facts n e t o m.scene.root.entries s a b) red.outcome (kept s a b is)
+    swap s a b is = subst (λ (o : PickOutcome). KeepsIn (context_of w) globals m.store.facts n e t o m.scene.root.entries s a b) red.outcome (kept s a b is)
 
     there : (s : Course) (a b : ℕ) (S : Shows) → (s a).own ≡ w.state → StandsFor w globals m s a b S → StandsFor w globals next s a b S
     there s a b S own x =
@@ -135,10 +135,10 @@ module _ (w : Setting) (kinds : List Bool) (m : Moment) (sound : IsSound w kinds
 
   pub clash_stands_for_none : (c : Clash) → outcome_of w m.store m.scene t ≡ clashes c → StandsForNone w kinds m
   clash_stands_for_none c is s a b S own x =
-      subst (λ (o : Outcome). KeepsIn (context_of w) globals m.store.facts n e t o m.scene.root.entries s a b) is
+      subst (λ (o : PickOutcome). KeepsIn (context_of w) globals m.store.facts n e t o m.scene.root.entries s a b) is
       (kept s a b (record { order = x.in_order; known = known_before s a b S x; own = own })) x.depth x.locals S x.agrees x.says.1
 
   pub miss_stands_for_none : (port : List ℕ) → outcome_of w m.store m.scene t ≡ misses port → StandsForNone w kinds m
   miss_stands_for_none port is s a b S own x =
-      subst (λ (o : Outcome). KeepsIn (context_of w) globals m.store.facts n e t o m.scene.root.entries s a b) is
+      subst (λ (o : PickOutcome). KeepsIn (context_of w) globals m.store.facts n e t o m.scene.root.entries s a b) is
       (kept s a b (record { order = x.in_order; known = known_before s a b S x; own = own })) x.depth x.locals S x.agrees x.says.1

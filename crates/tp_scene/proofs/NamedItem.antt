@@ -6,7 +6,7 @@ use Rattle.tp_store.specs.Known.{NoClash}
 use Rattle.tp_scene.specs.declared.answer.Cell.{Cell}
 use Rattle.tp_scene.specs.declared.answer.Cell.TheVariants.{End}
 use Rattle.tp_scene.specs.Scene.{Ending, Going, Entries, none, leaf, node, second_lives, only_if, has, Place, root_place, held_place, second_place}
-use Rattle.tp_scene.specs.Step.{Outcome, reduces, waits, rests, clashes, misses, passes, Numbers, leaf_step}
+use Rattle.tp_scene.specs.Step.{PickOutcome, reduces, waits, rests, clashes, misses, passes, Numbers, leaf_step}
 use Rattle.tp_scene.specs.Pick.{Setting, pick, outcome_of, numbers_of, IsIdle}
 use Rattle.tp_scene.specs.Rest.{is_unsettled, holds_back, unsettled_items, Settled, waiting, end_open, ends, goes, settled_by}
 use Rattle.tp_scene.specs.Cells.{NamedItemWaits, RestEndsGoesOrIsOpen}
@@ -50,7 +50,7 @@ not_second true c e = e
 not_second false c e = refl
 
 -- it doesn't rest
-abbrev pub IsBusy : Outcome → Type 0
+abbrev pub IsBusy : PickOutcome → Type 0
 IsBusy (reduces r) = Unit {0}
 IsBusy (waits first other) = Unit {0}
 IsBusy rests = ⊥
@@ -58,7 +58,7 @@ IsBusy (clashes c) = Unit {0}
 IsBusy (misses port) = Unit {0}
 IsBusy (passes k) = Unit {0}
 
-busy_by : (facts : List Fact) (apart : NoClash facts) (b : Bool) (p : Place) (o : Outcome) → b ≡ true → Answers facts apart (b ≡ false) p o → IsBusy o
+busy_by : (facts : List Fact) (apart : NoClash facts) (b : Bool) (p : Place) (o : PickOutcome) → b ≡ true → Answers facts apart (b ≡ false) p o → IsBusy o
 busy_by facts apart b p (reduces r) e h = tt
 busy_by facts apart b p (waits first other) e h = tt
 busy_by facts apart b p rests e h = absurd (false≢true (sym h ∙ e))
@@ -75,7 +75,7 @@ one_of t id true e = elim (cases_Bool (eqb t id)) [
 one_of t id false e = absurd (let n = count_none t in omega (arith, e, n))
 
 -- the item lives and doesn't rest
-pub record IsAwake (t : ℕ) (es : Entries) (o : Outcome) : Type 0 where
+pub record IsAwake (t : ℕ) (es : Entries) (o : PickOutcome) : Type 0 where
   pub lives : has t es ≡ true
   pub busy : IsBusy o
 
@@ -151,7 +151,7 @@ module _ (w : Setting) (facts : List Fact) (apart : NoClash facts) (t : ℕ) (n 
       ]
 
 -- what is idle and doesn't rest, waits
-waits_then : (o : Outcome) → IsIdle o → IsBusy o → (first : Cell) × (other : Option Cell) × (o ≡ waits first other)
+waits_then : (o : PickOutcome) → IsIdle o → IsBusy o → (first : Cell) × (other : Option Cell) × (o ≡ waits first other)
 waits_then (waits first other) idle busy = (first, other, refl)
 waits_then (reduces r) idle busy = absurd idle
 waits_then rests idle busy = absurd busy

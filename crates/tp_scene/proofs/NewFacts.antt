@@ -19,7 +19,7 @@ use Rattle.tp_eval.specs.Evaluate.{is_place}
 use Rattle.tp_eval.specs.Outcome as found
 use Rattle.tp_eval.specs.Outcome.{PlaceOutcome, outcome, place_outcome}
 use Rattle.tp_scene.specs.Scene.{Bindings, Side, Ending, Going, Leaf, Do, Later, Shown, Holder, Split, SplitProject, Closed, Opened, Running, Entries, none, leaf, node, Region, second_lives, has, Place, held_place, second_place}
-use Rattle.tp_scene.specs.Step.{region_limit, Outcome, reduces, waits, rests, clashes, misses, passes, Numbers, marking, by_status, with_value, with_truth, with_number, Target, value_at, length_at, target_at, set, added, SideOf, meets, both_wait, equate, target_if, target_of, side_of, side_with, with_values, with_place, with_argument, with_arguments, called, length_left, from_port, formula_step, leaf_step, holder_step}
+use Rattle.tp_scene.specs.Step.{region_limit, PickOutcome, reduces, waits, rests, clashes, misses, passes, Numbers, marking, by_status, with_value, with_truth, with_number, Target, value_at, length_at, target_at, set, added, SideOf, meets, both_wait, equate, target_if, target_of, side_of, side_with, with_values, with_place, with_argument, with_arguments, called, length_left, from_port, formula_step, leaf_step, holder_step}
 use Rattle.tp_scene.specs.Pick.{Setting, pick}
 use Rattle.tp_scene.specs.Fits.{kinds_in, PhraseFits, LeafFits, EntriesFit, HolderFits}
 use Rattle.tp_scene.proofs.Frame.{region}
@@ -45,7 +45,7 @@ mutual
   facts_of_parts xs p k (cons t ts) h = of_append xs (facts_at (item_path p k) t) (facts_of_items p (suc k) ts) (facts_of_value xs (item_path p k) t h) (facts_of_parts xs p (suc k) ts h)
 
 module _ (facts : List Fact) (kinds : List Bool) (variables : List Variable) (among : (x : VarId) → IsVariable kinds x → IsVariable (kinds_in variables) x) where
-  abbrev pub IsOfVariables : Outcome → Type 0
+  abbrev pub IsOfVariables : PickOutcome → Type 0
   IsOfVariables (reduces r) = AreOfVariables variables r.facts
   IsOfVariables (waits first other) = Unit {0}
   IsOfVariables rests = Unit {0}
@@ -53,7 +53,7 @@ module _ (facts : List Fact) (kinds : List Bool) (variables : List Variable) (am
   IsOfVariables (misses port) = Unit {0}
   IsOfVariables (passes k) = Unit {0}
 
-  if_facts : (b : Bool) (o o' : Outcome) → IsOfVariables o → IsOfVariables o' → IsOfVariables (if b then o else o')
+  if_facts : (b : Bool) (o o' : PickOutcome) → IsOfVariables o → IsOfVariables o' → IsOfVariables (if b then o else o')
   if_facts true o o' h h' = h
   if_facts false o o' h h' = h'
 
@@ -61,16 +61,16 @@ module _ (facts : List Fact) (kinds : List Bool) (variables : List Variable) (am
   marking_facts z true depth news items = tt
   marking_facts z false depth news items = tt
 
-  status_facts : (p : Place) (o o' : Outcome) → IsOfVariables o → IsOfVariables o' → IsOfVariables (by_status p o o')
+  status_facts : (p : Place) (o o' : PickOutcome) → IsOfVariables o → IsOfVariables o' → IsOfVariables (by_status p o o')
   status_facts p o o' h h' = cond_both (p.is Going) _ _ IsOfVariables (λ _. h) (λ _. cond_both (p.is Ending) _ _ IsOfVariables (λ _. h') (λ _. tt))
 
-  value_facts : (o : found.Outcome) (f : Tree → Outcome) → ((t : Tree) → IsOfVariables (f t)) → IsOfVariables (with_value o f)
+  value_facts : (o : found.Outcome) (f : Tree → PickOutcome) → ((t : Tree) → IsOfVariables (f t)) → IsOfVariables (with_value o f)
   value_facts (found.value t) f h = h t
   value_facts (found.wait p) f h = tt
   value_facts (found.fault k) f h = tt
   value_facts (found.over k) f h = tt
 
-  truth_facts : (o : found.Outcome) (f : Bool → Outcome) → ((b : Bool) → IsOfVariables (f b)) → IsOfVariables (with_truth o f)
+  truth_facts : (o : found.Outcome) (f : Bool → PickOutcome) → ((b : Bool) → IsOfVariables (f b)) → IsOfVariables (with_truth o f)
   truth_facts (found.value (truth b)) f h = h b
   truth_facts (found.value (num n)) f h = tt
   truth_facts (found.value (list ts)) f h = tt
@@ -78,7 +78,7 @@ module _ (facts : List Fact) (kinds : List Bool) (variables : List Variable) (am
   truth_facts (found.fault k) f h = tt
   truth_facts (found.over k) f h = tt
 
-  number_facts : (o : found.Outcome) (f : ℤ → Outcome) → ((n : ℤ) → IsOfVariables (f n)) → IsOfVariables (with_number o f)
+  number_facts : (o : found.Outcome) (f : ℤ → PickOutcome) → ((n : ℤ) → IsOfVariables (f n)) → IsOfVariables (with_number o f)
   number_facts (found.value (num n)) f h = h n
   number_facts (found.value (truth b)) f h = tt
   number_facts (found.value (list ts)) f h = tt
@@ -139,18 +139,18 @@ module _ (facts : List Fact) (kinds : List Bool) (variables : List Variable) (am
     go (found.wait p) (found.wait q) = wait_facts l.placed r.placed p q
 
   module _ (defs : List Definition) (inputs : InputLines) (state : ℕ) where
-    values_facts : (es : ExprTrees) (env : Bindings) (f : List Tree → Outcome) → ((vs : List Tree) → IsOfVariables (f vs)) → IsOfVariables (with_values defs inputs state facts es env f)
+    values_facts : (es : ExprTrees) (env : Bindings) (f : List Tree → PickOutcome) → ((vs : List Tree) → IsOfVariables (f vs)) → IsOfVariables (with_values defs inputs state facts es env f)
     values_facts no_expr env f h = h []
     values_facts (expr_then e es) env f h = value_facts (outcome facts defs e env) _ (λ v. values_facts es env _ (λ vs. h (v ∷ vs)))
 
-    place_facts : (o : PlaceOutcome) (f : BindingTree → Outcome) → ((b : BindingTree) → IsOfVariables (f b)) → IsOfVariables (with_place defs inputs state facts o f)
+    place_facts : (o : PlaceOutcome) (f : BindingTree → PickOutcome) → ((b : BindingTree) → IsOfVariables (f b)) → IsOfVariables (with_place defs inputs state facts o f)
     place_facts (found.path p) f h = h _
     place_facts (found.other o) f h = value_facts o _ (λ v. h (known_binding v))
 
-    argument_facts : (x : List ℕ) (e : ExprTree) (env : Bindings) (f : BindingTree → Outcome) → ((b : BindingTree) → IsOfVariables (f b)) → IsOfVariables (with_argument defs inputs state facts x e env f)
+    argument_facts : (x : List ℕ) (e : ExprTree) (env : Bindings) (f : BindingTree → PickOutcome) → ((b : BindingTree) → IsOfVariables (f b)) → IsOfVariables (with_argument defs inputs state facts x e env f)
     argument_facts x e env f h = if_facts (is_upper x) _ _ (place_facts (place_outcome facts defs e env) f h) (value_facts (outcome facts defs e env) _ (λ v. h (known_binding v)))
 
-    arguments_facts : (es : ExprTrees) (xs : List (List ℕ)) (env : Bindings) (f : Bindings → Outcome) → ((bs : Bindings) → IsOfVariables (f bs)) → IsOfVariables (with_arguments defs inputs state facts es xs env f)
+    arguments_facts : (es : ExprTrees) (xs : List (List ℕ)) (env : Bindings) (f : Bindings → PickOutcome) → ((bs : Bindings) → IsOfVariables (f bs)) → IsOfVariables (with_arguments defs inputs state facts es xs env f)
     arguments_facts no_expr [] env f h = h []
     arguments_facts (expr_then e es) (x ∷ xs) env f h = argument_facts x e env _ (λ b. arguments_facts es xs env _ (λ bs. h (b ∷ bs)))
     arguments_facts no_expr (x ∷ xs) env f h = tt
@@ -233,7 +233,7 @@ module _ (facts : List Fact) (kinds : List Bool) (variables : List Variable) (am
     holder_facts (Running f env) held second q n = tt
 
   -- where the second region is picked it is live
-  second_facts : (w : Setting) (t : ℕ) (k : Holder) (held : Entries) (q : Place) (X Y : Type 0) (b : Bool) → (b ≡ true → second_lives k ≡ true) → HolderFits w.defs kinds variables k held q X Y → (o o' : Outcome) → (Y → IsOfVariables o) → IsOfVariables o' → IsOfVariables (cond b o o')
+  second_facts : (w : Setting) (t : ℕ) (k : Holder) (held : Entries) (q : Place) (X Y : Type 0) (b : Bool) → (b ≡ true → second_lives k ≡ true) → HolderFits w.defs kinds variables k held q X Y → (o o' : PickOutcome) → (Y → IsOfVariables o) → IsOfVariables o' → IsOfVariables (cond b o o')
   second_facts w t k held q X Y true live fit o o' inside past = inside (live_fits w.defs kinds variables k held q X Y (live refl) fit)
   second_facts w t k held q X Y false live fit o o' inside past = past
 

@@ -17,7 +17,7 @@ use Rattle.tp_store.specs.Known.{Variable, Addition, adds, refuses, addition}
 use Rattle.tp_eval.specs.Outcome as found
 use Rattle.tp_eval.specs.Outcome.{PlaceOutcome, outcome, place_outcome}
 use Rattle.tp_scene.specs.Scene.{Bindings, Side, Ending, Going, marked, Leaf, Do, Later, Shown, Holder, Split, Opened, Entries, none, leaf, node, append, new_head, no_region, Place, held_place}
-use Rattle.tp_scene.specs.Step.{region_limit, Outcome, reduces, waits, rests, clashes, misses, passes, Numbers, marking, with_region, by_status, with_value, with_truth, with_number, Target, value_at, length_at, set, added, SideOf, meets, equate, side_of, side_with, with_values, with_place, with_argument, with_arguments, called, length_left, from_port, all_do, formula_step, leaf_step}
+use Rattle.tp_scene.specs.Step.{region_limit, PickOutcome, reduces, waits, rests, clashes, misses, passes, Numbers, marking, with_region, by_status, with_value, with_truth, with_number, Target, value_at, length_at, set, added, SideOf, meets, equate, side_of, side_with, with_values, with_place, with_argument, with_arguments, called, length_left, from_port, all_do, formula_step, leaf_step}
 use Rattle.tp_scene.specs.Fits.{kinds_in, IsCalm, PhraseFits, LeafFits, EntriesFit}
 use Rattle.tp_scene.proofs.PathFits.{PathFits, path_fits}
 
@@ -64,7 +64,7 @@ module _ (defs : List Definition) (kinds : List Bool) (definitions : Definitions
   all = kinds_in variables
 
   -- the new entries fit before what fits
-  abbrev pub FitsAs : Outcome → Place → Type 0
+  abbrev pub FitsAs : PickOutcome → Place → Type 0
   FitsAs (reduces r) p = MarkIn r.mark p → LocalIn r.local variables n.local → (rest : Entries) → EntriesFit defs kinds variables rest p → EntriesFit defs kinds variables (append r.news rest) p
   FitsAs (waits first other) p = Unit {0}
   FitsAs rests p = Unit {0}
@@ -82,13 +82,13 @@ module _ (defs : List Definition) (kinds : List Bool) (definitions : Definitions
       → EntriesFit defs kinds variables (leaf id (Do f env) none) (held_place k (new_head number) (leaf id (Do f env) none) p)
   region_fits k number id f env p h calm l up = (h, ((λ e g. calm (up Ending e) (up Going g)), omega (arith, l)))
 
-  value_fits : (o : found.Outcome) (f : Tree → Outcome) (p : Place) → ((t : Tree) → FitsAs (f t) p) → FitsAs (with_value o f) p
+  value_fits : (o : found.Outcome) (f : Tree → PickOutcome) (p : Place) → ((t : Tree) → FitsAs (f t) p) → FitsAs (with_value o f) p
   value_fits (found.value t) f p h = h t
   value_fits (found.wait q) f p h = tt
   value_fits (found.fault k) f p h = tt
   value_fits (found.over k) f p h = tt
 
-  truth_fits : (o : found.Outcome) (f : Bool → Outcome) (p : Place) → ((b : Bool) → FitsAs (f b) p) → FitsAs (with_truth o f) p
+  truth_fits : (o : found.Outcome) (f : Bool → PickOutcome) (p : Place) → ((b : Bool) → FitsAs (f b) p) → FitsAs (with_truth o f) p
   truth_fits (found.value (truth b)) f p h = h b
   truth_fits (found.value (num m)) f p h = tt
   truth_fits (found.value (list ts)) f p h = tt
@@ -96,7 +96,7 @@ module _ (defs : List Definition) (kinds : List Bool) (definitions : Definitions
   truth_fits (found.fault k) f p h = tt
   truth_fits (found.over k) f p h = tt
 
-  number_fits : (o : found.Outcome) (f : ℤ → Outcome) (p : Place) → ((m : ℤ) → FitsAs (f m) p) → FitsAs (with_number o f) p
+  number_fits : (o : found.Outcome) (f : ℤ → PickOutcome) (p : Place) → ((m : ℤ) → FitsAs (f m) p) → FitsAs (with_number o f) p
   number_fits (found.value (num m)) f p h = h m
   number_fits (found.value (truth b)) f p h = tt
   number_fits (found.value (list ts)) f p h = tt
@@ -146,21 +146,21 @@ module _ (defs : List Definition) (kinds : List Bool) (definitions : Definitions
     go (found.value t) (found.wait q) = meets_fits (record { placed = r.placed; target = r.target; found = found.wait q }) t p
     go (found.wait q) (found.wait q') = cond_both (r.placed && not l.placed) _ _ (λ o. FitsAs o p) (λ _. tt) (λ _. tt)
 
-  values_fit : (es : ExprTrees) (env : Bindings) (f : List Tree → Outcome) (p : Place) → ((vs : List Tree) → FitsAs (f vs) p) → FitsAs (with_values defs inputs state facts es env f) p
+  values_fit : (es : ExprTrees) (env : Bindings) (f : List Tree → PickOutcome) (p : Place) → ((vs : List Tree) → FitsAs (f vs) p) → FitsAs (with_values defs inputs state facts es env f) p
   values_fit no_expr env f p h = h []
   values_fit (expr_then e es) env f p h = value_fits (outcome facts defs e env) _ p (λ v. values_fit es env _ p (λ vs. h (v ∷ vs)))
 
-  place_fits : (o : PlaceOutcome) (f : BindingTree → Outcome) (p : Place) → PathFits facts defs kinds all among o → ((b : BindingTree) → BindingFits all b → FitsAs (f b) p) → FitsAs (with_place defs inputs state facts o f) p
+  place_fits : (o : PlaceOutcome) (f : BindingTree → PickOutcome) (p : Place) → PathFits facts defs kinds all among o → ((b : BindingTree) → BindingFits all b → FitsAs (f b) p) → FitsAs (with_place defs inputs state facts o f) p
   place_fits (found.path q) f p fit h = h (place_binding q) fit
   place_fits (found.other o) f p fit h = value_fits o _ p (λ v. h (known_binding v) tt)
 
-  argument_fits : (x : List ℕ) (e : ExprTree) (env : Bindings) (f : BindingTree → Outcome) (p : Place) → ExprFits defs kinds e (length env) → BindingsFit all env
+  argument_fits : (x : List ℕ) (e : ExprTree) (env : Bindings) (f : BindingTree → PickOutcome) (p : Place) → ExprFits defs kinds e (length env) → BindingsFit all env
       → ((b : BindingTree) → BindingFits all b → FitsAs (f b) p) → FitsAs (with_argument defs inputs state facts x e env f) p
   argument_fits x e env f p fit bs h = cond_both (is_upper x) _ _ (λ o. FitsAs o p)
       (λ _. place_fits (place_outcome facts defs e env) f p (path_fits facts defs kinds all among e env fit bs) h)
       (λ _. value_fits (outcome facts defs e env) _ p (λ v. h (known_binding v) tt))
 
-  arguments_fit : (es : ExprTrees) (xs : List (List ℕ)) (env : Bindings) (f : Bindings → Outcome) (p : Place) → ExprsFit defs kinds es (length env) → BindingsFit all env
+  arguments_fit : (es : ExprTrees) (xs : List (List ℕ)) (env : Bindings) (f : Bindings → PickOutcome) (p : Place) → ExprsFit defs kinds es (length env) → BindingsFit all env
       → ((bs : Bindings) → BindingsFit all bs → length bs ≡ length xs → FitsAs (f bs) p) → FitsAs (with_arguments defs inputs state facts es xs env f) p
   arguments_fit no_expr [] env f p fit bs h = h [] tt refl
   arguments_fit (expr_then e es) (x ∷ xs) env f p fit bs h = argument_fits x e env _ p fit.0 bs (λ b u. arguments_fit es xs env _ p fit.1 bs (λ cs v q. h (b ∷ cs) (u, v) (ap suc q)))
@@ -184,7 +184,7 @@ module _ (defs : List Definition) (kinds : List Bool) (definitions : Definitions
   held_alone Going false number e = absurd (false≢true e)
 
   module _ (p p' : Place) (more_is : IsMore p p') where
-    status_fits : (o o' : Outcome) → (p'.is Going ≡ true → FitsAs o p') → FitsAs o' p' → FitsAs (by_status p o o') p'
+    status_fits : (o o' : PickOutcome) → (p'.is Going ≡ true → FitsAs o p') → FitsAs o' p' → FitsAs (by_status p o o') p'
     status_fits o o' h h' = cond_both (p.is Going) _ _ (λ x. FitsAs x p') (λ e. h (more_is.sides Going e)) (λ _. cond_both (p.is Ending) _ _ (λ x. FitsAs x p') (λ _. h') (λ _. tt))
 
     deeper_fits : (news : Entries) (items : ℕ) → (p'.depth < region_limit → (rest : Entries) → EntriesFit defs kinds variables rest p' → EntriesFit defs kinds variables (append news rest) p') → FitsAs (with_region p.depth news items) p'

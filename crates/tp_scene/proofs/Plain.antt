@@ -15,7 +15,7 @@ use Rattle.tp_store.specs.Known.{Addition, adds, refuses, addition}
 use Rattle.tp_eval.specs.Outcome as found
 use Rattle.tp_eval.specs.Outcome.{PlaceOutcome, outcome, place_outcome}
 use Rattle.tp_scene.specs.Scene.{Bindings, Side, Ending, Going, Leaf, Do, Later, Shown, Holder, Split, SplitProject, Closed, Opened, Running, Entries, none, leaf, node, new_head, no_region, Place}
-use Rattle.tp_scene.specs.Step.{region_limit, becomes, all_do, count_of, Reduction, Outcome, reduces, waits, rests, clashes, misses, passes, Numbers, marking, by_status, with_value, with_truth, with_number, Target, value_at, length_at, set, added, SideOf, meets, both_wait, equate, side_of, side_with, with_values, with_place, with_argument, with_arguments, called, length_left, from_port, formula_step, leaf_step}
+use Rattle.tp_scene.specs.Step.{region_limit, becomes, all_do, count_of, Reduction, PickOutcome, reduces, waits, rests, clashes, misses, passes, Numbers, marking, by_status, with_value, with_truth, with_number, Target, value_at, length_at, set, added, SideOf, meets, both_wait, equate, side_of, side_with, with_values, with_place, with_argument, with_arguments, called, length_left, from_port, formula_step, leaf_step}
 use Rattle.tp_scene.proofs.Grown.{other_side}
 
 -- the new items with these numbers, in order
@@ -44,7 +44,7 @@ pub record Plain (p : Place) (n : Numbers) (r : Reduction) : Type 0 where
   pub news : (FreshLeaves n 0 r.news r.items × (r.regions ≡ 0)) ⊎ (NewRegion n r.news × (r.items ≡ 2) × (r.regions ≡ 1))
 
 module _ (facts : List Fact) (p : Place) (n : Numbers) where
-  abbrev pub IsPlain : Outcome → Type 0
+  abbrev pub IsPlain : PickOutcome → Type 0
   IsPlain (reduces r) = Plain p n r
   IsPlain (waits first other) = Unit {0}
   IsPlain rests = Unit {0}
@@ -65,7 +65,7 @@ module _ (facts : List Fact) (p : Place) (n : Numbers) where
   same_mark : (x z : Side) → false ≡ p.is (other_side z) → Some z ≡ Some x → p.is (other_side x) ≡ true → ⊥
   same_mark x z q e f = let s : z ≡ x = cc in false≢true (q ∙ ap (λ (y : Side). p.is (other_side y)) s ∙ f)
 
-  if_plain : (b : Bool) (o o' : Outcome) → IsPlain o → IsPlain o' → IsPlain (if b then o else o')
+  if_plain : (b : Bool) (o o' : PickOutcome) → IsPlain o → IsPlain o' → IsPlain (if b then o else o')
   if_plain true o o' h h' = h
   if_plain false o o' h h' = h'
 
@@ -73,16 +73,16 @@ module _ (facts : List Fact) (p : Place) (n : Numbers) where
   marking_plain z true q depth news items h = tt
   marking_plain z false q depth news items h = record { mark = λ x e f. same_mark x z q e f; news = inl (h, refl) }
 
-  status_plain : (o o' : Outcome) → IsPlain o → IsPlain o' → IsPlain (by_status p o o')
+  status_plain : (o o' : PickOutcome) → IsPlain o → IsPlain o' → IsPlain (by_status p o o')
   status_plain o o' h h' = cond_both (p.is Going) _ _ IsPlain (λ _. h) (λ _. cond_both (p.is Ending) _ _ IsPlain (λ _. h') (λ _. tt))
 
-  value_plain : (o : found.Outcome) (f : Tree → Outcome) → ((t : Tree) → IsPlain (f t)) → IsPlain (with_value o f)
+  value_plain : (o : found.Outcome) (f : Tree → PickOutcome) → ((t : Tree) → IsPlain (f t)) → IsPlain (with_value o f)
   value_plain (found.value t) f h = h t
   value_plain (found.wait p) f h = tt
   value_plain (found.fault k) f h = tt
   value_plain (found.over k) f h = tt
 
-  truth_plain : (o : found.Outcome) (f : Bool → Outcome) → ((b : Bool) → IsPlain (f b)) → IsPlain (with_truth o f)
+  truth_plain : (o : found.Outcome) (f : Bool → PickOutcome) → ((b : Bool) → IsPlain (f b)) → IsPlain (with_truth o f)
   truth_plain (found.value (truth b)) f h = h b
   truth_plain (found.value (num n)) f h = tt
   truth_plain (found.value (list ts)) f h = tt
@@ -90,7 +90,7 @@ module _ (facts : List Fact) (p : Place) (n : Numbers) where
   truth_plain (found.fault k) f h = tt
   truth_plain (found.over k) f h = tt
 
-  number_plain : (o : found.Outcome) (f : ℤ → Outcome) → ((n : ℤ) → IsPlain (f n)) → IsPlain (with_number o f)
+  number_plain : (o : found.Outcome) (f : ℤ → PickOutcome) → ((n : ℤ) → IsPlain (f n)) → IsPlain (with_number o f)
   number_plain (found.value (num n)) f h = h n
   number_plain (found.value (truth b)) f h = tt
   number_plain (found.value (list ts)) f h = tt
@@ -142,18 +142,18 @@ module _ (facts : List Fact) (p : Place) (n : Numbers) where
     go (found.wait p) (found.wait q) = wait_plain l.placed r.placed p q
 
   module _ (defs : List Definition) (inputs : InputLines) (state : ℕ) where
-    values_plain : (es : ExprTrees) (env : Bindings) (f : List Tree → Outcome) → ((vs : List Tree) → IsPlain (f vs)) → IsPlain (with_values defs inputs state facts es env f)
+    values_plain : (es : ExprTrees) (env : Bindings) (f : List Tree → PickOutcome) → ((vs : List Tree) → IsPlain (f vs)) → IsPlain (with_values defs inputs state facts es env f)
     values_plain no_expr env f h = h []
     values_plain (expr_then e es) env f h = value_plain (outcome facts defs e env) _ (λ v. values_plain es env _ (λ vs. h (v ∷ vs)))
 
-    place_plain : (o : PlaceOutcome) (f : BindingTree → Outcome) → ((b : BindingTree) → IsPlain (f b)) → IsPlain (with_place defs inputs state facts o f)
+    place_plain : (o : PlaceOutcome) (f : BindingTree → PickOutcome) → ((b : BindingTree) → IsPlain (f b)) → IsPlain (with_place defs inputs state facts o f)
     place_plain (found.path p) f h = h _
     place_plain (found.other o) f h = value_plain o _ (λ v. h (known_binding v))
 
-    argument_plain : (x : List ℕ) (e : ExprTree) (env : Bindings) (f : BindingTree → Outcome) → ((b : BindingTree) → IsPlain (f b)) → IsPlain (with_argument defs inputs state facts x e env f)
+    argument_plain : (x : List ℕ) (e : ExprTree) (env : Bindings) (f : BindingTree → PickOutcome) → ((b : BindingTree) → IsPlain (f b)) → IsPlain (with_argument defs inputs state facts x e env f)
     argument_plain x e env f h = if_plain (is_upper x) _ _ (place_plain (place_outcome facts defs e env) f h) (value_plain (outcome facts defs e env) _ (λ v. h (known_binding v)))
 
-    arguments_plain : (es : ExprTrees) (xs : List (List ℕ)) (env : Bindings) (f : Bindings → Outcome) → ((bs : Bindings) → IsPlain (f bs)) → IsPlain (with_arguments defs inputs state facts es xs env f)
+    arguments_plain : (es : ExprTrees) (xs : List (List ℕ)) (env : Bindings) (f : Bindings → PickOutcome) → ((bs : Bindings) → IsPlain (f bs)) → IsPlain (with_arguments defs inputs state facts es xs env f)
     arguments_plain no_expr [] env f h = h []
     arguments_plain (expr_then e es) (x ∷ xs) env f h = argument_plain x e env _ (λ b. arguments_plain es xs env _ (λ bs. h (b ∷ bs)))
     arguments_plain no_expr (x ∷ xs) env f h = tt

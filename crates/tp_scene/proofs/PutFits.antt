@@ -7,7 +7,7 @@ use Rattle.tp_value.specs.declared.path.Fact.{Fact}
 use Rattle.tp_value.specs.declared.path.VarId.{VarId}
 use Rattle.tp_store.specs.Known.{Variable}
 use Rattle.tp_scene.specs.Scene.{Side, Ending, Going, Head, marked, Do, Later, Shown, Holder, Split, SplitProject, Closed, Opened, Running, Entries, none, leaf, node, new_head, second_lives, has, has_here, sinks, risen, Place, held_place, second_place}
-use Rattle.tp_scene.specs.Step.{Reduction, Outcome, reduces, Numbers, leaf_step, holder_step}
+use Rattle.tp_scene.specs.Step.{Reduction, PickOutcome, reduces, Numbers, leaf_step, holder_step}
 use Rattle.tp_scene.specs.Pick.{Setting, pick, mark_at, put}
 use Rattle.tp_scene.specs.Fits.{kinds_in, IsCalm, Dormant, HolderFits, EntriesFit}
 use Rattle.tp_scene.proofs.Frame.{region}
@@ -68,7 +68,7 @@ module _ (w : Setting) (facts : List Fact) (kinds : List Bool) (definitions : De
   abbrev defs : List Definition
   defs = w.defs
 
-  abbrev As : Outcome → Place → Type 0
+  abbrev As : PickOutcome → Place → Type 0
   As = FitsAs w.defs kinds definitions variables among w.inputs w.state facts n
 
   -- what a holder becomes
@@ -156,7 +156,7 @@ module _ (w : Setting) (facts : List Fact) (kinds : List Bool) (definitions : De
     put_fits (leaf id l rest) p p' g cov fit e mark = elim (cases_Bool (eqb id t)) [
       | inl c ↦ (let s = leaf_step w.defs w.inputs w.state facts l p n in
           let q : s ≡ reduces r = sym (cond-true (eqb id t) s (pick w facts t rest p n) c) ∙ e in
-          let news = subst (λ (o : Outcome). As o p') q (leaf_fits w.defs kinds definitions variables among w.inputs w.state facts n p p' g.more l fit.0) in
+          let news = subst (λ (o : PickOutcome). As o p') q (leaf_fits w.defs kinds definitions variables among w.inputs w.state facts n p p' g.more l fit.0) in
           rw c (news (mark (or_left (eqb id t) _ c)) local rest (fits_grown defs kinds variables z rest p p' g (λ x i. cov x i) fit.1)))
       | inr c ↦ rw c (
         leaf_grown defs kinds variables z l p p' g.more fit.0,
@@ -168,7 +168,7 @@ module _ (w : Setting) (facts : List Fact) (kinds : List Bool) (definitions : De
         let calm = entries_calm defs kinds variables held (held_place k h held p) fit.1 in
         elim (cases_Bool (eqb id t)) [
           | inl c ↦ (let q = sym (pick_here w facts t id k h held g2 second rest p n c) ∙ e in
-              let news = subst (λ (o : Outcome). As o p') q (held_fits z h held g2 second p p' g k id rest cov fit.0 fit.1) in
+              let news = subst (λ (o : PickOutcome). As o p') q (held_fits z h held g2 second p p' g k id rest cov fit.0 fit.1) in
               rw c (news (mark (or_left (eqb id t) _ c)) local rest rest_fits))
           | inr c ↦ elim (cases_Bool (second_lives k && has t second)) [
             | inl l ↦ (let live = (and_parts (second_lives k) (has t second) l).0 in
@@ -176,7 +176,7 @@ module _ (w : Setting) (facts : List Fact) (kinds : List Bool) (definitions : De
                 let r2 = second_place g2 second p in
                 let inside = live_fits defs kinds variables k held _ _ _ live fit.0 in
                 let calm2 = entries_calm defs kinds variables second r2 inside in
-                let kept = subst (λ (o : Outcome). StatusKept t o second) q (status_put w facts t second r2 n) in
+                let kept = subst (λ (o : PickOutcome). StatusKept t o second) q (status_put w facts t second r2 n) in
                 let up = put_rises w facts defs kinds variables t n r second r2 inside (λ x i. second_covered g2 second p x (or_right (marked x g2) _ i)) q in
                 let there = grown_second z g2 (mark_at t r.mark g2 second) second (put t r.mark r.news second) p p' g
                 (covers_second p id k h held g2 second rest cov y live)
@@ -197,7 +197,7 @@ module _ (w : Setting) (facts : List Fact) (kinds : List Bool) (definitions : De
             | inr l ↦ elim (cases_Bool (has t held)) [
               | inl d ↦ (let q = sym (pick_first w facts t id k h held g2 second rest p n c l d) ∙ e in
                   let q1 = held_place k h held p in
-                  let kept = subst (λ (o : Outcome). StatusKept t o held) q (status_put w facts t held q1 n) in
+                  let kept = subst (λ (o : PickOutcome). StatusKept t o held) q (status_put w facts t held q1 n) in
                   let up = put_rises w facts defs kinds variables t n r held q1 fit.1 (λ x i. held_covered k h held p x (or_right (marked x h) _ i)) q in
                   let there = grown_held z k h (mark_at t r.mark h held) held (put t r.mark r.news held) p p' g calm (covers_first p id k h held g2 second rest cov y)
                   (λ x i. status_marked w facts t id k h held g2 second rest x r.mark h held (put t r.mark r.news held) (kept x) i)

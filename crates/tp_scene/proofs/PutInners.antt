@@ -6,7 +6,7 @@ use Rattle.tp_meaning.specs.Syntax.{Definition, trivial, test, equation, next_eq
 use Rattle.tp_value.specs.declared.path.Fact.{Fact}
 use Rattle.tp_store.specs.Known.{Variable}
 use Rattle.tp_scene.specs.Scene.{Bindings, Side, Ending, Going, Head, marked, Leaf, Do, Later, Shown, Holder, Split, SplitProject, Closed, Opened, Running, Entries, none, leaf, node, new_head, no_region, second_lives, has, has_here, append, sinks, forced, risen, Place, held_place, second_place}
-use Rattle.tp_scene.specs.Step.{Reduction, Outcome, reduces, waits, rests, clashes, misses, passes, Numbers, leaf_step, holder_step}
+use Rattle.tp_scene.specs.Step.{Reduction, PickOutcome, reduces, waits, rests, clashes, misses, passes, Numbers, leaf_step, holder_step}
 use Rattle.tp_scene.specs.declared.answer.Clash.TheVariants.{Marks}
 use Rattle.tp_scene.specs.Pick.{Setting, pick, mark_at, put}
 use Rattle.tp_scene.specs.Fits.{IsCalm, Dormant, HasMore, InnersGo, HolderFits, EntriesFit}
@@ -166,7 +166,7 @@ plain_inners q n r h rest p i = elim (h.news) [
 ]
 
 module _ (w : Setting) (facts : List Fact) (defs : List Definition) (kinds : List Bool) (variables : List Variable) (n : Numbers) where
-  abbrev HolderInners : Outcome → Entries → Place → Type 0
+  abbrev HolderInners : PickOutcome → Entries → Place → Type 0
   HolderInners (reduces r) rest p = InnersGo (append r.news rest) p
   HolderInners (waits first other) rest p = Unit {0}
   HolderInners rests rest p = Unit {0}
@@ -242,7 +242,7 @@ module _ (w : Setting) (facts : List Fact) (defs : List Definition) (kinds : Lis
     put_inners (leaf id l rest) p p' up fit i e = elim (cases_Bool (eqb id t)) [
       | inl c ↦ (let s = leaf_step w.defs w.inputs w.state facts l p n in
           let q : s ≡ reduces r = sym (cond-true (eqb id t) s (pick w facts t rest p n) c) ∙ e in
-          rw c (plain_inners p n r (subst (λ (o : Outcome). IsPlain facts p n o) q (leaf_plain facts p n w.defs w.inputs w.state l)) rest p' (inners_up rest p p' up i)))
+          rw c (plain_inners p n r (subst (λ (o : PickOutcome). IsPlain facts p n o) q (leaf_plain facts p n w.defs w.inputs w.state l)) rest p' (inners_up rest p p' up i)))
       | inr c ↦ rw c (put_inners rest p p' up fit.1 i (sym (cond-false (eqb id t) (leaf_step w.defs w.inputs w.state facts l p n) (pick w facts t rest p n) c) ∙ e))
     ]
     put_inners (node id k h held g second rest) p p' up fit i e =
@@ -250,12 +250,12 @@ module _ (w : Setting) (facts : List Fact) (defs : List Definition) (kinds : Lis
         let held_on = inners_up held (held_place k h held p) (held_place k h held p') (held_up k h h held held p p' up (λ x e. e)) (inners_held id h held g second rest p k i) in
         elim (cases_Bool (eqb id t)) [
           | inl c ↦ (let q = sym (pick_here w facts t id k h held g second rest p n c) ∙ e in
-              rw c (subst (λ (o : Outcome). HolderInners o rest p') q (holder_inners k h held g second p p' id rest _ _ up fit.0 fit.1 i rest_on)))
+              rw c (subst (λ (o : PickOutcome). HolderInners o rest p') q (holder_inners k h held g second p p' id rest _ _ up fit.0 fit.1 i rest_on)))
           | inr c ↦ elim (cases_Bool (second_lives k && has t second)) [
             | inl l ↦ (let live = (and_parts (second_lives k) (has t second) l).0 in
                 let r2 = second_place g second p in
                 let q = sym (pick_second w facts t id k h held g second rest p n c l) ∙ e in
-                let kept = subst (λ (o : Outcome). StatusKept t o second) q (status_put w facts t second r2 n) in
+                let kept = subst (λ (o : PickOutcome). StatusKept t o second) q (status_put w facts t second r2 n) in
                 let x = inners_second id h held g second rest p k live i in
                 rw (c, l) (inners_make id h held (mark_at t r.mark g second) (put t r.mark r.news second) rest p' k
                 (λ _. (
@@ -268,7 +268,7 @@ module _ (w : Setting) (facts : List Fact) (defs : List Definition) (kinds : Lis
             | inr l ↦ elim (cases_Bool (has t held)) [
               | inl d ↦ (let q1 = held_place k h held p in
                   let q = sym (pick_first w facts t id k h held g second rest p n c l d) ∙ e in
-                  let kept = subst (λ (o : Outcome). StatusKept t o held) q (status_put w facts t held q1 n) in
+                  let kept = subst (λ (o : PickOutcome). StatusKept t o held) q (status_put w facts t held q1 n) in
                   let h' = mark_at t r.mark h held in
                   let held' = put t r.mark r.news held in
                   let on = held_up k h h' held held' p p' up (λ u j. status_marked w facts t id k h held g second rest u r.mark h held held' (kept u) j) in

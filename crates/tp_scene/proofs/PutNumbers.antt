@@ -4,7 +4,7 @@ use Rattle.std.proofs.lemmas.Bool.{cond_both, cases_Bool, cases_lt, cond-true, c
 use Rattle.tp_value.specs.declared.path.Fact.{Fact}
 use Rattle.tp_meaning.specs.Syntax.{more}
 use Rattle.tp_scene.specs.Scene.{Side, Ending, Going, Head, Leaf, Do, Holder, Split, SplitProject, Closed, Opened, Running, Entries, none, leaf, node, new_head, no_region, second_lives, has, has_here, append, Place, held_place, second_place}
-use Rattle.tp_scene.specs.Step.{Reduction, Outcome, reduces, waits, rests, clashes, misses, passes, Numbers, leaf_step, holder_step}
+use Rattle.tp_scene.specs.Step.{Reduction, PickOutcome, reduces, waits, rests, clashes, misses, passes, Numbers, leaf_step, holder_step}
 use Rattle.tp_scene.specs.Pick.{Setting, pick, mark_head, mark_at, put}
 use Rattle.tp_scene.specs.Fits.{item_numbers, second_number, region_numbers}
 use Rattle.tp_scene.proofs.Frame.{region}
@@ -194,7 +194,7 @@ module _ (w : Setting) (facts : List Fact) (n : Numbers) (i j : ℕ) (item_is : 
         record { item_count = omega (arith, a, c, first); region_count = omega (arith, b, d) })
   ]
 
-  abbrev HolderAdds : Outcome → Entries → Entries → Type 0
+  abbrev HolderAdds : PickOutcome → Entries → Entries → Type 0
   HolderAdds (reduces r) es rest = Adds r (append r.news rest) es
   HolderAdds (waits first other) es rest = Unit {0}
   HolderAdds rests es rest = Unit {0}
@@ -265,7 +265,7 @@ module _ (w : Setting) (facts : List Fact) (n : Numbers) (i j : ℕ) (item_is : 
     put_adds (leaf id l rest) p e = elim (cases_Bool (eqb id t)) [
       | inl c ↦ (let s = leaf_step w.defs w.inputs w.state facts l p n in
           let q : s ≡ reduces r = sym (cond-true (eqb id t) s (pick w facts t rest p n) c) ∙ e in
-          rw c (plain_adds p r (subst (λ (o : Outcome). IsPlain facts p n o) q (leaf_plain facts p n w.defs w.inputs w.state l)) id l rest))
+          rw c (plain_adds p r (subst (λ (o : PickOutcome). IsPlain facts p n o) q (leaf_plain facts p n w.defs w.inputs w.state l)) id l rest))
       | inr c ↦ (let ih = put_adds rest p (sym (cond-false (eqb id t) (leaf_step w.defs w.inputs w.state facts l p n) (pick w facts t rest p n) c) ∙ e) in
           let a = items_leaf x id l rest in
           let b = items_leaf x id l (put t r.mark r.news rest) in
@@ -279,7 +279,7 @@ module _ (w : Setting) (facts : List Fact) (n : Numbers) (i j : ℕ) (item_is : 
         let a' = regions_node x id k h held g second rest in
         elim (cases_Bool (eqb id t)) [
           | inl c ↦ (let q = sym (pick_here w facts t id k h held g second rest p n c) ∙ e in
-              rw c (subst (λ (o : Outcome). HolderAdds o (node id k h held g second rest) rest) q (holder_adds k h held g second p id rest)))
+              rw c (subst (λ (o : PickOutcome). HolderAdds o (node id k h held g second rest) rest) q (holder_adds k h held g second p id rest)))
           | inr c ↦ elim (cases_Bool (second_lives k && has t second)) [
             | inl l ↦ (let ih = put_adds second (second_place g second p) (sym (pick_second w facts t id k h held g second rest p n c l) ∙ e) in
                 let g' = mark_at t r.mark g second in

@@ -5,7 +5,7 @@ use Rattle.tp_meaning.specs.Syntax.{Definition}
 use Rattle.tp_value.specs.declared.path.Fact.{Fact}
 use Rattle.tp_store.specs.Known.{Variable}
 use Rattle.tp_scene.specs.Scene.{Side, Ending, Going, Head, marked, Leaf, Do, Later, Shown, Holder, Split, SplitProject, Closed, Opened, Running, Entries, none, leaf, node, new_head, no_region, second_lives, has, has_here, append, rises, sinks, forced, risen, Place, held_place, second_place}
-use Rattle.tp_scene.specs.Step.{Reduction, Outcome, reduces, waits, rests, clashes, misses, passes, Numbers, leaf_step, holder_step}
+use Rattle.tp_scene.specs.Step.{Reduction, PickOutcome, reduces, waits, rests, clashes, misses, passes, Numbers, leaf_step, holder_step}
 use Rattle.tp_scene.specs.Pick.{Setting, pick, mark_head, mark_at, put}
 use Rattle.tp_scene.specs.Fits.{IsCalm, Dormant, HolderFits, EntriesFit}
 use Rattle.tp_scene.proofs.Frame.{region}
@@ -123,7 +123,7 @@ forced_rises (Running f env) Going e u = false≢true e
 
 -- What rises from what a holder becomes rose from it; and it sets no mark.
 module _ (w : Setting) (facts : List Fact) (defs : List Definition) (kinds : List Bool) (variables : List Variable) where
-  abbrev HolderRises : Outcome → Entries → Entries → Type 0
+  abbrev HolderRises : PickOutcome → Entries → Entries → Type 0
   HolderRises (reduces r) es rest = ((x : Side) → risen x (append r.news rest) ≡ true → risen x es ≡ true) × (r.mark ≡ None)
   HolderRises (waits first other) es rest = Unit {0}
   HolderRises rests es rest = Unit {0}
@@ -175,12 +175,12 @@ module _ (w : Setting) (facts : List Fact) (defs : List Definition) (kinds : Lis
     guarded (leaf id l rest) p fit e i m f = elim (cases_Bool (eqb id t)) [
       | inl c ↦ (let s = leaf_step w.defs w.inputs w.state facts l p n in
           let q : s ≡ reduces r = sym (cond-true (eqb id t) s (pick w facts t rest p n) c) ∙ e in
-          (subst (λ (o : Outcome). IsPlain facts p n o) q (leaf_plain facts p n w.defs w.inputs w.state l)).mark z m f)
+          (subst (λ (o : PickOutcome). IsPlain facts p n o) q (leaf_plain facts p n w.defs w.inputs w.state l)).mark z m f)
       | inr c ↦ guarded rest p fit.1 (sym (cond-false (eqb id t) (leaf_step w.defs w.inputs w.state facts l p n) (pick w facts t rest p n) c) ∙ e) (rw c at i) m f
     ]
     guarded (node id k h held g second rest) p fit e i m f = elim (cases_Bool (eqb id t)) [
       | inl c ↦ (let q = sym (pick_here w facts t id k h held g second rest p n c) ∙ e in
-          let none = (subst (λ (o : Outcome). HolderRises o (node id k h held g second rest) rest) q (holder_rises k h held g second p n id rest _ _ _ fit.0)).1 in absurd (let x : None ≡ Some z = sym none ∙ m in cc))
+          let none = (subst (λ (o : PickOutcome). HolderRises o (node id k h held g second rest) rest) q (holder_rises k h held g second p n id rest _ _ _ fit.0)).1 in absurd (let x : None ≡ Some z = sym none ∙ m in cc))
       | inr c ↦ elim (cases_Bool (second_lives k && has t second)) [
         | inl l ↦ absurd (let x : false ≡ true = rw (c, l) at i in false≢true x)
         | inr l ↦ elim (cases_Bool (has t held)) [
@@ -288,7 +288,7 @@ module _ (w : Setting) (facts : List Fact) (defs : List Definition) (kinds : Lis
     put_rises (leaf id l rest) p fit cov e = elim (cases_Bool (eqb id t)) [
       | inl c ↦ (let s = leaf_step w.defs w.inputs w.state facts l p n in
           let q : s ≡ reduces r = sym (cond-true (eqb id t) s (pick w facts t rest p n) c) ∙ e in
-          let plain = subst (λ (o : Outcome). IsPlain facts p n o) q (leaf_plain facts p n w.defs w.inputs w.state l) in
+          let plain = subst (λ (o : PickOutcome). IsPlain facts p n o) q (leaf_plain facts p n w.defs w.inputs w.state l) in
           rw c (same_rises (append r.news rest) p (entries_calm defs kinds variables rest p fit.1) (λ x i. cov x (plain_rise p n r plain rest x i))))
       | inr c ↦ rw c (leaf_rises id l (put t r.mark r.news rest) p (put_rises rest p fit.1 cov (sym (cond-false (eqb id t) (leaf_step w.defs w.inputs w.state facts l p n) (pick w facts t rest p n) c) ∙ e)))
     ]
@@ -296,7 +296,7 @@ module _ (w : Setting) (facts : List Fact) (defs : List Definition) (kinds : Lis
         let calm = entries_calm defs kinds variables rest p fit.2 in
         elim (cases_Bool (eqb id t)) [
           | inl c ↦ (let q = sym (pick_here w facts t id k h held g second rest p n c) ∙ e in
-              let up = (subst (λ (o : Outcome). HolderRises o (node id k h held g second rest) rest) q (holder_rises k h held g second p n id rest _ _ _ fit.0)).0 in
+              let up = (subst (λ (o : PickOutcome). HolderRises o (node id k h held g second rest) rest) q (holder_rises k h held g second p n id rest _ _ _ fit.0)).0 in
               rw c (same_rises (append r.news rest) p calm (λ x i. cov x (up x i))))
           | inr c ↦ elim (cases_Bool (second_lives k && has t second)) [
             | inl l ↦ (let live = (and_parts (second_lives k) (has t second) l).0 in

@@ -14,7 +14,7 @@ use Rattle.tp_meaning.proofs.Unfold.{for_unfolds, forall_unfolds}
 use Rattle.tp_eval.specs.Evaluate.{depth_limit}
 use Rattle.tp_scene.specs.Scene.{Bindings, Do, Split, Opened, none, leaf, no_region, Place, split_then, opened_then}
 use Rattle.tp_scene.specs.Says.{at_cuts, locals_at_cuts, Claim, FormulaSays, HolderSays, RegionSays}
-use Rattle.tp_scene.specs.Step.{Numbers, Outcome, with_region, region_of, turns, instances}
+use Rattle.tp_scene.specs.Step.{Numbers, PickOutcome, with_region, region_of, turns, instances}
 use Rattle.tp_scene.proofs.Below.{AllBelow}
 use Rattle.tp_scene.proofs.Carry.{update, like_update, update_there, meanings_like}
 use Rattle.tp_scene.proofs.Frame.{Keeps}
@@ -74,7 +74,7 @@ module _ (w : Context) (state : ℕ) (kinds : List Bool) (facts : List Fact) (nn
     abbrev env_in : Locals → Env
     env_in σ = meanings_of globals s σ env
 
-    abbrev RowOf : FormulaTree → Outcome → Type 0
+    abbrev RowOf : FormulaTree → PickOutcome → Type 0
     RowOf f o = Keeps w globals facts nn.local e o (Said f) s a b
 
     -- a new region with `f`, and then `g`

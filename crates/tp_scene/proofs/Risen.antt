@@ -4,7 +4,7 @@ use Rattle.std.specs.Prelude.{Option, Some, None}
 use Rattle.std.proofs.lemmas.Bool.{cond_both, cases_Bool, or_cases, or_left, or_right, both_ways, and_parts, and_from, cond-true, cond-false}
 use Rattle.tp_value.specs.declared.path.Fact.{Fact}
 use Rattle.tp_scene.specs.Scene.{Side, Ending, Going, Head, marked, Leaf, Holder, Split, SplitProject, Closed, Opened, Running, Entries, none, leaf, node, second_lives, has, has_here, append, new_head, rises, risen, Place, held_place, second_place}
-use Rattle.tp_scene.specs.Step.{Outcome, reduces, waits, rests, clashes, misses, passes, Numbers, leaf_step, holder_step}
+use Rattle.tp_scene.specs.Step.{PickOutcome, reduces, waits, rests, clashes, misses, passes, Numbers, leaf_step, holder_step}
 use Rattle.tp_scene.specs.Pick.{Setting, pick, mark_head, mark_at, put}
 use Rattle.tp_scene.proofs.Frame.{region}
 
@@ -14,7 +14,7 @@ risen_append z (leaf id l rest) ys e = risen_append z rest ys e
 risen_append z (node id k h held g second rest) ys e =
     or_right (rises k z && (marked z h || risen z held)) _ (or_right (second_lives k && (marked z g || risen z second)) _ (risen_append z rest ys e))
 
-abbrev pub StatusKept : ℕ → Outcome → Entries → Type 0
+abbrev pub StatusKept : ℕ → PickOutcome → Entries → Type 0
 StatusKept t (reduces r) es = (z : Side) → risen z es ≡ true → risen z (put t r.mark r.news es) ≡ true
 StatusKept t (waits first other) es = Unit {0}
 StatusKept t rests es = Unit {0}
@@ -23,7 +23,7 @@ StatusKept t (misses port) es = Unit {0}
 StatusKept t (passes k) es = Unit {0}
 
 -- the status of what stands in place of an item, before the same rest
-abbrev PutHere : Outcome → Entries → Entries → Type 0
+abbrev PutHere : PickOutcome → Entries → Entries → Type 0
 PutHere (reduces r) es rest = (z : Side) → risen z es ≡ true → risen z (append r.news rest) ≡ true
 PutHere (waits first other) es rest = Unit {0}
 PutHere rests es rest = Unit {0}
@@ -31,7 +31,7 @@ PutHere (clashes c) es rest = Unit {0}
 PutHere (misses port) es rest = Unit {0}
 PutHere (passes k) es rest = Unit {0}
 
-leaf_kept : (id : ℕ) (l : Leaf) (rest : Entries) (o : Outcome) → PutHere o (leaf id l rest) rest
+leaf_kept : (id : ℕ) (l : Leaf) (rest : Entries) (o : PickOutcome) → PutHere o (leaf id l rest) rest
 leaf_kept id l rest (reduces r) = λ z g. risen_append z r.news rest g
 leaf_kept id l rest (waits first other) = tt
 leaf_kept id l rest rests = tt
@@ -39,7 +39,7 @@ leaf_kept id l rest (clashes c) = tt
 leaf_kept id l rest (misses port) = tt
 leaf_kept id l rest (passes k) = tt
 
-here_leaf : (t id : ℕ) (l : Leaf) (rest : Entries) (o : Outcome) → eqb id t ≡ true → PutHere o (leaf id l rest) rest → StatusKept t o (leaf id l rest)
+here_leaf : (t id : ℕ) (l : Leaf) (rest : Entries) (o : PickOutcome) → eqb id t ≡ true → PutHere o (leaf id l rest) rest → StatusKept t o (leaf id l rest)
 here_leaf t id l rest (reduces r) e q = rw e q
 here_leaf t id l rest (waits first other) e q = tt
 here_leaf t id l rest rests e q = tt
@@ -47,7 +47,7 @@ here_leaf t id l rest (clashes c) e q = tt
 here_leaf t id l rest (misses port) e q = tt
 here_leaf t id l rest (passes k) e q = tt
 
-later_leaf : (t id : ℕ) (l : Leaf) (rest : Entries) (o : Outcome) → eqb id t ≡ false → StatusKept t o rest → StatusKept t o (leaf id l rest)
+later_leaf : (t id : ℕ) (l : Leaf) (rest : Entries) (o : PickOutcome) → eqb id t ≡ false → StatusKept t o rest → StatusKept t o (leaf id l rest)
 later_leaf t id l rest (reduces r) e q = rw e q
 later_leaf t id l rest (waits first other) e q = tt
 later_leaf t id l rest rests e q = tt
@@ -88,7 +88,7 @@ module _ (w : Setting) (facts : List Fact) where
   holder_kept (Running f env) h held g second p n id rest = tt
 
   module _ (t id : ℕ) (k : Holder) (h : Head) (held : Entries) (g : Head) (second rest : Entries) where
-    here_node : (o : Outcome) → eqb id t ≡ true → PutHere o (node id k h held g second rest) rest → StatusKept t o (node id k h held g second rest)
+    here_node : (o : PickOutcome) → eqb id t ≡ true → PutHere o (node id k h held g second rest) rest → StatusKept t o (node id k h held g second rest)
     here_node (reduces r) e q = rw e q
     here_node (waits first other) e q = tt
     here_node rests e q = tt
@@ -96,7 +96,7 @@ module _ (w : Setting) (facts : List Fact) where
     here_node (misses port) e q = tt
     here_node (passes k) e q = tt
 
-    later_node : (o : Outcome) → eqb id t ≡ false → (second_lives k && has t second) ≡ false → has t held ≡ false → StatusKept t o rest → StatusKept t o (node id k h held g second rest)
+    later_node : (o : PickOutcome) → eqb id t ≡ false → (second_lives k && has t second) ≡ false → has t held ≡ false → StatusKept t o rest → StatusKept t o (node id k h held g second rest)
     later_node (reduces r) e l d q = rw (e, l, d) (λ z x.
         elim (or_cases (rises k z && (marked z h || risen z held)) _ x) [
           | inl y ↦ or_left (rises k z && (marked z h || risen z held)) _ y
@@ -124,7 +124,7 @@ module _ (w : Setting) (facts : List Fact) where
       | inr y ↦ or_right (marked z (mark_at t m h es)) _ (k y)
     ]
 
-    first_node : (o : Outcome) → eqb id t ≡ false → (second_lives k && has t second) ≡ false → has t held ≡ true → StatusKept t o held → StatusKept t o (node id k h held g second rest)
+    first_node : (o : PickOutcome) → eqb id t ≡ false → (second_lives k && has t second) ≡ false → has t held ≡ true → StatusKept t o held → StatusKept t o (node id k h held g second rest)
     first_node (reduces r) e l d q = rw (e, l, d) (λ z x.
         elim (or_cases (rises k z && (marked z h || risen z held)) _ x) [
           | inl y ↦ (let u = and_parts (rises k z) (marked z h || risen z held) y in
@@ -137,7 +137,7 @@ module _ (w : Setting) (facts : List Fact) where
     first_node (misses port) e l d q = tt
     first_node (passes k) e l d q = tt
 
-    second_node : (o : Outcome) → eqb id t ≡ false → (second_lives k && has t second) ≡ true → StatusKept t o second → StatusKept t o (node id k h held g second rest)
+    second_node : (o : PickOutcome) → eqb id t ≡ false → (second_lives k && has t second) ≡ true → StatusKept t o second → StatusKept t o (node id k h held g second rest)
     second_node (reduces r) e l q = rw (e, l) (λ z x.
         elim (or_cases (rises k z && (marked z h || risen z held)) _ x) [
           | inl y ↦ or_left (rises k z && (marked z h || risen z held)) _ y

@@ -17,7 +17,7 @@ use Rattle.tp_scene.specs.Scene.{Bindings, Side, Ending, Going, Leaf, Do, new_he
 use Rattle.tp_scene.specs.Says.{IsSo, MarksHold, Claim, FormulaSays, LeafSays, Says}
 use Rattle.tp_scene.proofs.Carry.{update_self}
 use Rattle.tp_scene.proofs.Frame.{Known, MarkSo, Never, Keeps}
-use Rattle.tp_scene.specs.Step.{Outcome, reduces, waits, rests, clashes, misses, passes, becomes, vanishes, marking, with_region, region_limit, by_status, with_value, with_truth, with_number}
+use Rattle.tp_scene.specs.Step.{PickOutcome, reduces, waits, rests, clashes, misses, passes, becomes, vanishes, marking, with_region, region_limit, by_status, with_value, with_truth, with_number}
 
 -- the state at a position agrees with these facts
 abbrev pub Agrees : (globals : ℕ) → List Fact → Locals → Course → ℕ → Type 0
@@ -29,7 +29,7 @@ new_marks n a b Going t = absurd (cc)
 
 -- `facts` is what is kept, n the number of the next local, and e is added to the depth where an item is said again.
 module _ (w : Context) (globals : ℕ) (facts : List Fact) (n e : ℕ) where
-  abbrev Row : Outcome → Claim → Course → ℕ → ℕ → Type 0
+  abbrev Row : PickOutcome → Claim → Course → ℕ → ℕ → Type 0
   Row = Keeps w globals facts n e
 
   abbrev No : Claim → Course → ℕ → ℕ → Type 0
@@ -97,7 +97,7 @@ module _ (w : Context) (globals : ℕ) (facts : List Fact) (n e : ℕ) where
     marking_row z true depth news items never there back = never refl
     marking_row z false depth news items never there back = plain news items 0 (Some z) [] (λ d σ S ag h. let x = there d σ S ag h in (tt, x.0, x.1)) (λ d σ S ag _ m h. back d σ S ag m h)
 
-    pub by_status_row : (p : Place) (if_goes if_ends : Outcome) → Known p a b → (a < b → Row if_goes Old s a b) → (a ≡ b → Row if_ends Old s a b) → Row (by_status p if_goes if_ends) Old s a b
+    pub by_status_row : (p : Place) (if_goes if_ends : PickOutcome) → Known p a b → (a < b → Row if_goes Old s a b) → (a ≡ b → Row if_ends Old s a b) → Row (by_status p if_goes if_ends) Old s a b
     by_status_row p if_goes if_ends known g e =
         cond_both (p.is Going) _ _ (λ o. Row o Old s a b) (λ y. g (known Going y))
         (λ _. cond_both (p.is Ending) _ _ (λ o. Row o Old s a b) (λ y. e (known Ending y)) (λ _. tt))
@@ -107,7 +107,7 @@ module _ (w : Context) (globals : ℕ) (facts : List Fact) (n e : ℕ) where
         → Row (with_region depth news items) Old s a b
     with_region_row depth news items h = cond_both (nat_lt depth region_limit) _ _ (λ o. Row o Old s a b) (λ _. h) (λ _. tt)
 
-    pub with_value_row : (o : found.Outcome) (f : Tree → Outcome) → ((k : FaultKind) → o ≡ found.fault k → No Old s a b) → ((t : Tree) → o ≡ found.value t → Row (f t) Old s a b) → Row (with_value o f) Old s a b
+    pub with_value_row : (o : found.Outcome) (f : Tree → PickOutcome) → ((k : FaultKind) → o ≡ found.fault k → No Old s a b) → ((t : Tree) → o ≡ found.value t → Row (f t) Old s a b) → Row (with_value o f) Old s a b
     with_value_row (found.value t) f never h = h t refl
     with_value_row (found.wait p) f never h = tt
     with_value_row (found.fault k) f never h = never k refl
@@ -116,7 +116,7 @@ module _ (w : Context) (globals : ℕ) (facts : List Fact) (n e : ℕ) where
     abbrev pub IsNoTruth : Tree → Type 0
     IsNoTruth t = (c : Bool) → truth c ≡ t → ⊥
 
-    pub with_truth_row : (o : found.Outcome) (f : Bool → Outcome) → ((k : FaultKind) → o ≡ found.fault k → No Old s a b)
+    pub with_truth_row : (o : found.Outcome) (f : Bool → PickOutcome) → ((k : FaultKind) → o ≡ found.fault k → No Old s a b)
         → ((t : Tree) → o ≡ found.value t → IsNoTruth t → No Old s a b) → ((c : Bool) → o ≡ found.value (truth c) → Row (f c) Old s a b) → Row (with_truth o f) Old s a b
     with_truth_row (found.value (truth c)) f never other h = h c refl
     with_truth_row (found.value (num k)) f never other h = other (num k) refl (λ c q. absurd (cc))
@@ -128,7 +128,7 @@ module _ (w : Context) (globals : ℕ) (facts : List Fact) (n e : ℕ) where
     abbrev pub IsNoNumber : Tree → Type 0
     IsNoNumber t = (m : ℤ) → num m ≡ t → ⊥
 
-    pub with_number_row : (o : found.Outcome) (f : ℤ → Outcome) → ((k : FaultKind) → o ≡ found.fault k → No Old s a b)
+    pub with_number_row : (o : found.Outcome) (f : ℤ → PickOutcome) → ((k : FaultKind) → o ≡ found.fault k → No Old s a b)
         → ((t : Tree) → o ≡ found.value t → IsNoNumber t → No Old s a b) → ((m : ℤ) → o ≡ found.value (num m) → Row (f m) Old s a b) → Row (with_number o f) Old s a b
     with_number_row (found.value (num m)) f never other h = h m refl
     with_number_row (found.value (truth c)) f never other h = other (truth c) refl (λ m q. absurd (cc))
@@ -138,7 +138,7 @@ module _ (w : Context) (globals : ℕ) (facts : List Fact) (n e : ℕ) where
     with_number_row (found.over k) f never other h = tt
 
   -- the same of what says the same
-  pub row_as : (o : Outcome) (Old Old' : Claim) (s : Course) (a b : ℕ)
+  pub row_as : (o : PickOutcome) (Old Old' : Claim) (s : Course) (a b : ℕ)
       → ((d : ℕ) (σ : Locals) (S : Shows) → Agrees globals facts σ s a → Old' d σ s a b S → Old d σ s a b S)
       → ((d : ℕ) (σ : Locals) (S : Shows) → Agrees globals facts σ s a → Old d σ s a b S → Old' d σ s a b S)
       → Row o Old s a b → Row o Old' s a b

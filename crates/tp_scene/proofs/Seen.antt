@@ -8,7 +8,7 @@ use Rattle.tp_scene.specs.declared.answer.Cell.TheVariants.{Part, End}
 use Rattle.tp_scene.specs.Scene.{Head, Leaf, Holder, Split, SplitProject, Closed, Opened, Running, Entries, none, leaf, node, Scene, second_lives, has, Place, root_place, held_place, second_place}
 use Rattle.tp_scene.specs.Regions.{Role, HoldsRegion, by_split, by_split_project, by_closed, by_opened, by_running, by_running_second, past_leaf, past_node, LiveRegion, the_root, the_held, IsTail, all_entries, after_leaf, after_node}
 use Rattle.tp_scene.specs.Status.{place_through, computed_place}
-use Rattle.tp_scene.specs.Step.{Outcome, reduces, waits, rests, clashes, misses, passes, Numbers, leaf_step, holder_step}
+use Rattle.tp_scene.specs.Step.{PickOutcome, reduces, waits, rests, clashes, misses, passes, Numbers, leaf_step, holder_step}
 use Rattle.tp_scene.specs.Pick.{Setting, pick, numbers_of}
 use Rattle.tp_scene.specs.Rest.{is_unsettled, holds_back}
 use Rattle.tp_scene.specs.Fits.{item_numbers}
@@ -176,7 +176,7 @@ deep_in s _ _ (the_held {h = h} {es = es} {role = role} {i = i} {held = held} x 
 
 module _ (w : Setting) (facts : List Fact) (apart : NoClash facts) (s : Scene) (t : ℕ) (n : Numbers) where
   -- the cells that an outcome waits for are paths, or ends of live regions
-  abbrev Named : Outcome → Type 0
+  abbrev Named : PickOutcome → Type 0
   Named (reduces r) = Unit {0}
   Named (waits first other) = NamesCell s first × ForOther (NamesCell s) other
   Named rests = Unit {0}
@@ -192,7 +192,7 @@ module _ (w : Setting) (facts : List Fact) (apart : NoClash facts) (s : Scene) (
   other_named h es x None u = tt
   other_named h es x (Some c) u = cell_named h es x c u
 
-  answers_named : (Idle : Type 0) (h : Head) (es : Entries) (x : LiveRegion s h es) (o : Outcome) → Answers facts apart Idle (computed_place x) o → Named o
+  answers_named : (Idle : Type 0) (h : Head) (es : Entries) (x : LiveRegion s h es) (o : PickOutcome) → Answers facts apart Idle (computed_place x) o → Named o
   answers_named Idle h es x (reduces r) u = tt
   answers_named Idle h es x (waits first other) u = (cell_named h es x first u.0, other_named h es x other u.1)
   answers_named Idle h es x rests u = tt
@@ -228,6 +228,6 @@ other_is s (Some x) u c e = let same : x ≡ c = cc in subst (λ (y : Cell). Nam
 
 pub waited_ends_are_live : WaitedEndsAreLive
 waited_ends_are_live w kinds m t first other sound e =
-    let u = subst (λ (o : Outcome). Named w m.store.facts sound.store.no_clash m.scene t (numbers_of m.scene m.store.variables) o) e
+    let u = subst (λ (o : PickOutcome). Named w m.store.facts sound.store.no_clash m.scene t (numbers_of m.scene m.store.variables) o) e
     (pick_named w m.store.facts sound.store.no_clash m.scene t (numbers_of m.scene m.store.variables) m.scene.root.entries m.scene.root.head m.scene.root.entries the_root all_entries) in
     record { names_first = u.0; names_other = other_is m.scene other u.1 }

@@ -19,7 +19,7 @@ use Rattle.tp_eval.specs.Outcome as found
 use Rattle.tp_eval.specs.Right.{values_at}
 use Rattle.tp_scene.specs.Scene.{none}
 use Rattle.tp_scene.specs.Says.{Claim}
-use Rattle.tp_scene.specs.Step.{Outcome, added, Target, value_at, length_at, SideOf, set, meets, equate}
+use Rattle.tp_scene.specs.Step.{PickOutcome, added, Target, value_at, length_at, SideOf, set, meets, equate}
 use Rattle.tp_scene.proofs.Frame.{Keeps}
 use Rattle.tp_scene.proofs.RowForms.{Agrees, plain, gone}
 
@@ -60,7 +60,7 @@ module _ (globals : ℕ) (facts : List Fact) (e : ℕ) where
 
 module _ (w : Context) (globals : ℕ) (facts : List Fact) (n e : ℕ) (adding : AddingIsRight facts) (s : Course) (a b : ℕ) where
   module _ (Old : Claim) where
-    abbrev Row : Outcome → Type 0
+    abbrev Row : PickOutcome → Type 0
     Row o = Keeps w globals facts n e o Old s a b
 
     pub added_row : (fs : List Fact)

@@ -14,7 +14,7 @@ use Rattle.tp_meaning.proofs.Unfold.{always_unfolds, while_unfolds, len_unfolds,
 use Rattle.tp_eval.specs.Evaluate.{depth_limit}
 use Rattle.tp_scene.specs.Scene.{Bindings, Ending, Going, Do, Later, none, leaf, Place}
 use Rattle.tp_scene.specs.Says.{Claim, FormulaSays, LeafSays, Says}
-use Rattle.tp_scene.specs.Step.{Numbers, Outcome, clashes, becomes, vanishes, going, all_do, count_of, length_left, formula_step}
+use Rattle.tp_scene.specs.Step.{Numbers, PickOutcome, clashes, becomes, vanishes, going, all_do, count_of, length_left, formula_step}
 use Rattle.tp_scene.specs.declared.answer.Clash.TheVariants.{False}
 use Rattle.tp_scene.proofs.Frame.{Known, Keeps}
 use Rattle.tp_scene.proofs.RowForms.{alone, of_alone, raised, turns_into, becomes_one, becomes_formula, gone, marking_row, by_status_row}
@@ -30,7 +30,7 @@ module _ (w : Context) (state : ℕ) (kinds : List Bool) (facts : List Fact) (nn
     abbrev Said : FormulaTree → Claim
     Said f = FormulaSays w (length kinds) f env
 
-    abbrev RowOf : FormulaTree → Outcome → Type 0
+    abbrev RowOf : FormulaTree → PickOutcome → Type 0
     RowOf f o = Keeps w (length kinds) facts nn.local e o (Said f) s a b
 
     abbrev env_in : Locals → Env

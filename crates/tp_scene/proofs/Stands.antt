@@ -20,7 +20,7 @@ use Rattle.tp_scene.specs.Rest.{ends, goes, settled}
 use Rattle.tp_scene.specs.Advance.{unmarked, due, advanced}
 use Rattle.tp_scene.specs.StandsFor.{AllLast, locals_of, context_of, StandsFor}
 use Rattle.tp_scene.specs.Fits.{kinds_in}
-use Rattle.tp_scene.specs.Laws.{IsSound, GoesOn, AdvanceStands, EndStands}
+use Rattle.tp_scene.specs.Laws.{IsSound, StoreGoesOn, AdvanceStands, EndStands}
 use Rattle.tp_scene.proofs.Frame.{region, status_means}
 use Rattle.tp_scene.proofs.Agree.{agrees_as_kept}
 use Rattle.tp_scene.proofs.Law.{known_root}
@@ -72,7 +72,7 @@ module _ (w : Setting) (kinds : List Bool) (m : Moment) (sound : IsSound w kinds
       )
 
   -- Going on.
-  module _ (next : Moment) (is : next.scene ≡ advanced m.scene) (on : GoesOn m.store next.store) where
+  module _ (next : Moment) (is : next.scene ≡ advanced m.scene) (on : StoreGoesOn m.store next.store) where
     abbrev kinds_here : List Bool
     kinds_here = kinds_in m.store.variables
 

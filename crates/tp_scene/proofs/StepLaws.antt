@@ -5,7 +5,7 @@ use Rattle.tp_store.proofs.States.{no_clash_arises}
 use Rattle.tp_eval.proofs.OutcomesAre.{outcomes_mean}
 use Rattle.tp_eval.proofs.Bound.{places_mean}
 use Rattle.tp_scene.specs.Scene.{root_place}
-use Rattle.tp_scene.specs.Step.{Outcome}
+use Rattle.tp_scene.specs.Step.{PickOutcome}
 use Rattle.tp_scene.specs.Pick.{Setting, Moment, outcome_of, numbers_of}
 use Rattle.tp_scene.specs.Laws.{IsSound, StepsKeep, RefusalsStandForNone}
 use Rattle.tp_scene.proofs.Asked.{Given, LeavesKeep, HoldersKeep}
@@ -40,7 +40,7 @@ module _ (w : Setting) (kinds : List Bool) (m : Moment) (sound : IsSound w kinds
   holders = holders_keep w kinds m.store (numbers_of m.scene m.store.variables) (suc depth_limit) given
 
   apart : (t : ℕ) → FactsApart m.store.facts (outcome_of w m.store m.scene t)
-  apart t r e = subst (λ (o : Outcome). IsApart m.store.facts sound.store.no_clash o) e
+  apart t r e = subst (λ (o : PickOutcome). IsApart m.store.facts sound.store.no_clash o) e
       (picked_apart values_apart additions_apart w m.store.facts sound.store.no_clash t m.scene.root.entries (root_place m.scene.root) (numbers_of m.scene m.store.variables))
 
 pub steps_keep : StepsKeep

@@ -7,7 +7,7 @@ use Rattle.tp_meaning.specs.Fits.{BindingsFit, IsVariable}
 use Rattle.tp_store.specs.Known.{Variable, AreOfVariables}
 use Rattle.tp_store.proofs.Members.{in_kept, kept_in}
 use Rattle.tp_scene.specs.Scene.{Bindings, Side, marked, Leaf, Do, Later, Shown, Holder, Split, SplitProject, Closed, Opened, Running, Entries, none, leaf, node, risen, Place, root_place}
-use Rattle.tp_scene.specs.Step.{Reduction, Outcome, Numbers}
+use Rattle.tp_scene.specs.Step.{Reduction, PickOutcome, Numbers}
 use Rattle.tp_scene.specs.Pick.{Setting, Moment, Reduces, numbers_of, put, put_in, mark_at, with_local, scene_after}
 use Rattle.tp_scene.specs.Fits.{kinds_in, Dormant, LeafFits, HolderFits, EntriesFit, AreNumbers, item_numbers, region_numbers}
 use Rattle.tp_scene.specs.Laws.{IsSound, StepsFit}
@@ -120,7 +120,7 @@ module _ (w : Setting) (kinds : List Bool) (m : Moment) (t : ℕ) (r : Reduction
 
   grown : Grown z p p'
   grown =
-      let kept = subst (λ (o : Outcome). StatusKept t o es) red.outcome (status_put w m.store.facts t es p n) in
+      let kept = subst (λ (o : PickOutcome). StatusKept t o es) red.outcome (status_put w m.store.facts t es p n) in
       let up = put_rises w m.store.facts w.defs kinds after t n r es p fit covers red.outcome in
       let y = other_side z in
       let h = m.scene.root.head in
@@ -153,7 +153,7 @@ module _ (w : Setting) (kinds : List Bool) (m : Moment) (t : ℕ) (r : Reduction
   facts_after : AreOfVariables after next.store.facts
   facts_after =
       let old : AreOfVariables after m.store.facts = in_of_variables after m.store.facts (λ f i. local_kept r.local m.store.variables f.path.var.number f.path.var.lasting (of_variables_in m.store.variables m.store.facts sound.store.facts f i)) in
-      let new = subst (λ (o : Outcome). IsOfVariables m.store.facts kinds after among o) red.outcome (picked_facts m.store.facts kinds after among w t es p n fit) in
+      let new = subst (λ (o : PickOutcome). IsOfVariables m.store.facts kinds after among o) red.outcome (picked_facts m.store.facts kinds after among w t es p n fit) in
       in_of_variables after next.store.facts (λ f i.
       of_variables_in after (m.store.facts ++ r.facts) (of_append after m.store.facts r.facts old new) _
       (kept_in (m.store.facts ++ r.facts) f.path f.shape (sym (red.store.kept f.path) ∙ in_kept next.store.facts f red.store.no_clash i)))

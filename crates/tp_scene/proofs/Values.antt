@@ -16,7 +16,7 @@ use Rattle.tp_eval.specs.Outcome.{outcome}
 use Rattle.tp_eval.specs.Right.{OutcomesAreRight}
 use Rattle.tp_scene.specs.Scene.{Bindings}
 use Rattle.tp_scene.specs.Says.{Claim}
-use Rattle.tp_scene.specs.Step.{Outcome, with_value, with_truth, with_number}
+use Rattle.tp_scene.specs.Step.{PickOutcome, with_value, with_truth, with_number}
 use Rattle.tp_scene.proofs.Frame.{Keeps}
 use Rattle.tp_scene.proofs.RowForms.{Agrees, with_value_row, with_truth_row, with_number_row}
 
@@ -55,24 +55,24 @@ module _ (w : Context) (kinds : List Bool) (facts : List Fact) (n e : ℕ) (deep
     no_value k q d σ s a ag u h = let r : value w.defs d x (meanings_of (length kinds) s σ env) s a ≡ None = (right σ s a x env fit ag).faults k q d in absurd (cc)
 
     module _ (Old : Claim) (s : Course) (a b : ℕ) where
-      abbrev pub RowOf : Outcome → Type 0
+      abbrev pub RowOf : PickOutcome → Type 0
       RowOf o = Keeps w (length kinds) facts n e o Old s a b
 
       -- where the item holds, the expression has a value
-      pub value_row : (f : Tree → Outcome)
+      pub value_row : (f : Tree → PickOutcome)
           → ((d : ℕ) (σ : Locals) (S : Shows) → Old d σ s a b S → (u : Tree) × HasValue x env d σ s a u)
           → ((t : Tree) → Finds x env t → RowOf (f t)) → RowOf (with_value (outcome facts w.defs x env) f)
       value_row f needs h = with_value_row w (length kinds) facts n e Old s a b (outcome facts w.defs x env) f
           (λ k q d σ S ag y. let u = needs d σ S y in no_value k q d σ s a ag u.0 u.1) h
 
-      pub truth_row : (f : Bool → Outcome)
+      pub truth_row : (f : Bool → PickOutcome)
           → ((d : ℕ) (σ : Locals) (S : Shows) → Old d σ s a b S → (c : Bool) × HasValue x env d σ s a (truth c))
           → ((c : Bool) → Finds x env (truth c) → RowOf (f c)) → RowOf (with_truth (outcome facts w.defs x env) f)
       truth_row f needs h = with_truth_row w (length kinds) facts n e Old s a b (outcome facts w.defs x env) f
           (λ k q d σ S ag y. let u = needs d σ S y in no_value k q d σ s a ag (truth u.0) u.1)
           (λ t q differs d σ S ag y. let u = needs d σ S y in differs u.0 (one_value t q d σ s a ag (truth u.0) u.1)) h
 
-      pub number_row : (f : ℤ → Outcome)
+      pub number_row : (f : ℤ → PickOutcome)
           → ((d : ℕ) (σ : Locals) (S : Shows) → Old d σ s a b S → (k : ℤ) × HasValue x env d σ s a (num k))
           → ((k : ℤ) → Finds x env (num k) → RowOf (f k)) → RowOf (with_number (outcome facts w.defs x env) f)
       number_row f needs h = with_number_row w (length kinds) facts n e Old s a b (outcome facts w.defs x env) f

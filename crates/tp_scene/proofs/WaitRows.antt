@@ -18,7 +18,7 @@ use Rattle.tp_eval.proofs.OutcomesAre.{waits_are_undecided, place_waits_are_unde
 use Rattle.tp_scene.specs.declared.answer.Cell.{Cell}
 use Rattle.tp_scene.specs.declared.answer.Cell.TheVariants.{Part, End}
 use Rattle.tp_scene.specs.Scene.{Bindings, Side, Ending, Going, Leaf, Do, Later, Shown, Holder, Split, SplitProject, Closed, Opened, Running, Entries, Region, Place}
-use Rattle.tp_scene.specs.Step.{region_limit, Outcome, reduces, waits, rests, clashes, misses, passes, Numbers, marking, by_status, with_value, with_truth, with_number, Target, value_at, length_at, set, added, SideOf, meets, both_wait, equate, side_of, side_with, with_values, with_place, with_argument, with_arguments, called, length_left, from_port, formula_step, leaf_step, holder_step}
+use Rattle.tp_scene.specs.Step.{region_limit, PickOutcome, reduces, waits, rests, clashes, misses, passes, Numbers, marking, by_status, with_value, with_truth, with_number, Target, value_at, length_at, set, added, SideOf, meets, both_wait, equate, side_of, side_with, with_values, with_place, with_argument, with_arguments, called, length_left, from_port, formula_step, leaf_step, holder_step}
 use Rattle.tp_scene.specs.Rest.{is_unsettled, holds_back}
 
 -- the path has no shape, and none is excluded there
@@ -36,7 +36,7 @@ ForOther P (Some c) = P c
 
 -- Said of what a step in a region of this place gives, where `Idle` holds if it rests.
 module _ (facts : List Fact) (apart : NoClash facts) (Idle : Type 0) (p : Place) where
-  abbrev pub Answers : Outcome → Type 0
+  abbrev pub Answers : PickOutcome → Type 0
   Answers (reduces r) = Unit {0}
   Answers (waits first other) = IsOpenAt facts p first × ForOther (IsOpenAt facts p) other
   Answers rests = Idle
@@ -57,7 +57,7 @@ module _ (facts : List Fact) (apart : NoClash facts) (Idle : Type 0) (p : Place)
   undecided_by (found.fault k) h = tt
   undecided_by (found.over k) h = tt
 
-  if_answers : (b : Bool) (o o' : Outcome) → Answers o → Answers o' → Answers (if b then o else o')
+  if_answers : (b : Bool) (o o' : PickOutcome) → Answers o → Answers o' → Answers (if b then o else o')
   if_answers true o o' h h' = h
   if_answers false o o' h h' = h'
 
@@ -65,16 +65,16 @@ module _ (facts : List Fact) (apart : NoClash facts) (Idle : Type 0) (p : Place)
   marking_answers z true depth news items = tt
   marking_answers z false depth news items = tt
 
-  status_answers : (o o' : Outcome) → (p.is Going ≡ true → Answers o) → (p.is Going ≡ false → p.is Ending ≡ true → Answers o') → Answers (by_status p o o')
+  status_answers : (o o' : PickOutcome) → (p.is Going ≡ true → Answers o) → (p.is Going ≡ false → p.is Ending ≡ true → Answers o') → Answers (by_status p o o')
   status_answers o o' h h' = cond_both (p.is Going) _ _ Answers h (λ g. cond_both (p.is Ending) _ _ Answers (h' g) (λ e. ((refl, e, g, refl), tt)))
 
-  value_answers : (o : found.Outcome) (f : Tree → Outcome) → Undecided o → ((t : Tree) → Answers (f t)) → Answers (with_value o f)
+  value_answers : (o : found.Outcome) (f : Tree → PickOutcome) → Undecided o → ((t : Tree) → Answers (f t)) → Answers (with_value o f)
   value_answers (found.value t) f u h = h t
   value_answers (found.wait q) f u h = (u, tt)
   value_answers (found.fault k) f u h = tt
   value_answers (found.over k) f u h = tt
 
-  truth_answers : (o : found.Outcome) (f : Bool → Outcome) → Undecided o → ((b : Bool) → Answers (f b)) → Answers (with_truth o f)
+  truth_answers : (o : found.Outcome) (f : Bool → PickOutcome) → Undecided o → ((b : Bool) → Answers (f b)) → Answers (with_truth o f)
   truth_answers (found.value (truth b)) f u h = h b
   truth_answers (found.value (num n)) f u h = tt
   truth_answers (found.value (list ts)) f u h = tt
@@ -82,7 +82,7 @@ module _ (facts : List Fact) (apart : NoClash facts) (Idle : Type 0) (p : Place)
   truth_answers (found.fault k) f u h = tt
   truth_answers (found.over k) f u h = tt
 
-  number_answers : (o : found.Outcome) (f : ℤ → Outcome) → Undecided o → ((n : ℤ) → Answers (f n)) → Answers (with_number o f)
+  number_answers : (o : found.Outcome) (f : ℤ → PickOutcome) → Undecided o → ((n : ℤ) → Answers (f n)) → Answers (with_number o f)
   number_answers (found.value (num n)) f u h = h n
   number_answers (found.value (truth b)) f u h = tt
   number_answers (found.value (list ts)) f u h = tt
@@ -136,20 +136,20 @@ module _ (facts : List Fact) (apart : NoClash facts) (Idle : Type 0) (p : Place)
     evaluated : (e : ExprTree) (env : Bindings) → Undecided (outcome facts defs e env)
     evaluated e env = undecided_by (outcome facts defs e env) (λ q r. waits_are_undecided facts defs e env q apart r)
 
-    values_answer : (es : ExprTrees) (env : Bindings) (f : List Tree → Outcome) → ((vs : List Tree) → Answers (f vs)) → Answers (with_values defs inputs state facts es env f)
+    values_answer : (es : ExprTrees) (env : Bindings) (f : List Tree → PickOutcome) → ((vs : List Tree) → Answers (f vs)) → Answers (with_values defs inputs state facts es env f)
     values_answer no_expr env f h = h []
     values_answer (expr_then e es) env f h = value_answers (outcome facts defs e env) _ (evaluated e env) (λ v. values_answer es env _ (λ vs. h (v ∷ vs)))
 
-    place_answers : (o : PlaceOutcome) (f : BindingTree → Outcome) → ((q : Path) → o ≡ found.other (found.wait q) → IsUndecided facts q) → ((b : BindingTree) → Answers (f b)) → Answers (with_place defs inputs state facts o f)
+    place_answers : (o : PlaceOutcome) (f : BindingTree → PickOutcome) → ((q : Path) → o ≡ found.other (found.wait q) → IsUndecided facts q) → ((b : BindingTree) → Answers (f b)) → Answers (with_place defs inputs state facts o f)
     place_answers (found.path q) f u h = h _
     place_answers (found.other o) f u h = value_answers o _ (undecided_by o (λ q r. u q (ap found.other r))) (λ v. h (known_binding v))
 
-    argument_answers : (x : List ℕ) (e : ExprTree) (env : Bindings) (f : BindingTree → Outcome) → ((b : BindingTree) → Answers (f b)) → Answers (with_argument defs inputs state facts x e env f)
+    argument_answers : (x : List ℕ) (e : ExprTree) (env : Bindings) (f : BindingTree → PickOutcome) → ((b : BindingTree) → Answers (f b)) → Answers (with_argument defs inputs state facts x e env f)
     argument_answers x e env f h = if_answers (is_upper x) _ _
         (place_answers (place_outcome facts defs e env) f (λ q r. place_waits_are_undecided facts defs e env q apart r) h)
         (value_answers (outcome facts defs e env) _ (evaluated e env) (λ v. h (known_binding v)))
 
-    arguments_answer : (es : ExprTrees) (xs : List (List ℕ)) (env : Bindings) (f : Bindings → Outcome) → ((bs : Bindings) → Answers (f bs)) → Answers (with_arguments defs inputs state facts es xs env f)
+    arguments_answer : (es : ExprTrees) (xs : List (List ℕ)) (env : Bindings) (f : Bindings → PickOutcome) → ((bs : Bindings) → Answers (f bs)) → Answers (with_arguments defs inputs state facts es xs env f)
     arguments_answer no_expr [] env f h = h []
     arguments_answer (expr_then e es) (x ∷ xs) env f h = argument_answers x e env _ (λ b. arguments_answer es xs env _ (λ bs. h (b ∷ bs)))
     arguments_answer no_expr (x ∷ xs) env f h = tt

@@ -51,7 +51,7 @@ abbrev pub RefusalsStandForNone : Type 0
 RefusalsStandForNone = (w : Setting) (kinds : List Bool) (m : Moment) (t : ℕ) → IsSound w kinds m → has t m.scene.root.entries ≡ true → RefusalsMean w kinds m t
 
 -- the store of the next state: the facts of static variables are kept, in any order, and its variables
-pub record GoesOn (old new : Contents) : Type 0 where
+pub record StoreGoesOn (old new : Contents) : Type 0 where
   pub kept : (p : Path) → kept_shape new.facts p ≡ kept_shape (lasting_facts old.facts) p
   pub no_clash : NoClash new.facts
   pub variables : new.variables ≡ old.variables
@@ -65,11 +65,11 @@ AdvanceStands w kinds m next = (s : Course) (a b : ℕ) (S : Shows) → KeepsSta
     × ((U : Shows) × (S ≡ shown_at a (shown_in m.scene.root.entries) ⊕ U) × StandsFor w (length kinds) next s (suc a) b U))
 
 abbrev pub AdvancesKeep : Type 0
-AdvancesKeep = (w : Setting) (kinds : List Bool) (m next : Moment) → IsSound w kinds m → settled m.scene ≡ goes → next.scene ≡ advanced m.scene → GoesOn m.store next.store → AdvanceStands w kinds m next
+AdvancesKeep = (w : Setting) (kinds : List Bool) (m next : Moment) → IsSound w kinds m → settled m.scene ≡ goes → next.scene ≡ advanced m.scene → StoreGoesOn m.store next.store → AdvanceStands w kinds m next
 
 -- and it is sound in each state
 abbrev pub AdvancesFit : Type 0
-AdvancesFit = (w : Setting) (kinds : List Bool) (m next : Moment) → IsSound w kinds m → settled m.scene ≡ goes → next.scene ≡ advanced m.scene → GoesOn m.store next.store
+AdvancesFit = (w : Setting) (kinds : List Bool) (m next : Moment) → IsSound w kinds m → settled m.scene ≡ goes → next.scene ≡ advanced m.scene → StoreGoesOn m.store next.store
     → (own : ℕ) → IsSound (record { defs = w.defs; inputs = w.inputs; state = own }) kinds next
 
 -- One that ends stands for exactly the intervals of one state that agrees with the facts of the globals, which show what the scene shows.
@@ -81,10 +81,10 @@ abbrev pub EndsStand : Type 0
 EndsStand = (w : Setting) (kinds : List Bool) (m : Moment) → IsSound w kinds m → settled m.scene ≡ ends → EndStands w kinds m
 
 -- A run begins with what stands for exactly the intervals on which the formula holds, and is sound.
-pub record Begins (w : Setting) (names : List (List ℕ)) (main : FormulaTree) : Type 0 where
+pub record BeginsRun (w : Setting) (names : List (List ℕ)) (main : FormulaTree) : Type 0 where
   pub stands : (s : Course) (a b : ℕ) (S : Shows)
       → StandsFor w (length (kinds_of names)) (first_moment names main) s a b S ↔ ((a ≤ b) × ((d : ℕ) × Holds (context_of w) d main [] s a b S))
   pub sound : IsSound w (kinds_of names) (first_moment names main)
 
 abbrev pub RunsBegin : Type 0
-RunsBegin = (w : Setting) (names : List (List ℕ)) (main : FormulaTree) → DefinitionsFit w.defs (kinds_of names) → FormulaFits w.defs (kinds_of names) main 0 → Begins w names main
+RunsBegin = (w : Setting) (names : List (List ℕ)) (main : FormulaTree) → DefinitionsFit w.defs (kinds_of names) → FormulaFits w.defs (kinds_of names) main 0 → BeginsRun w names main

@@ -7,7 +7,7 @@ use Rattle.tp_meaning.specs.Inputs.{InputLines}
 use Rattle.tp_store.specs.Facts.{kept_shape}
 use Rattle.tp_store.specs.Known.{Contents, Variable, NoClash}
 use Rattle.tp_scene.specs.Scene.{Side, Ending, Going, Head, Entries, none, leaf, node, Region, Scene, second_lives, has, has_here, append, Place, root_place, held_place, second_place}
-use Rattle.tp_scene.specs.Step.{Reduction, Outcome, reduces, waits, rests, clashes, misses, passes, Numbers, leaf_step, holder_step}
+use Rattle.tp_scene.specs.Step.{Reduction, PickOutcome, reduces, waits, rests, clashes, misses, passes, Numbers, leaf_step, holder_step}
 
 -- what a state is read with: the program's definitions, the inputs, and the state's own number
 pub record Setting : Type 0 where
@@ -17,7 +17,7 @@ pub record Setting : Type 0 where
 
 module _ (w : Setting) (facts : List Fact) where
   -- what picking the live item t gives, in a region of that place; resting where it isn't there
-  abbrev pub pick : ℕ → Entries → Place → Numbers → Outcome
+  abbrev pub pick : ℕ → Entries → Place → Numbers → PickOutcome
   pick t none p n = rests
   pick t (leaf id l rest) p n = cond (eqb id t) (leaf_step w.defs w.inputs w.state facts l p n) (pick t rest p n)
   pick t (node id k h held g second rest) p n =
@@ -52,7 +52,7 @@ abbrev pub numbers_of : Scene → List Variable → Numbers
 numbers_of s variables = record { item = λ i. i + s.next_item; region = s.next_region; local = length variables }
 
 -- what picking an item gives
-abbrev pub outcome_of : Setting → Contents → Scene → ℕ → Outcome
+abbrev pub outcome_of : Setting → Contents → Scene → ℕ → PickOutcome
 outcome_of w store s t = pick w store.facts t s.root.entries (root_place s.root) (numbers_of s store.variables)
 
 -- the scene after a reduction of the item t
@@ -87,7 +87,7 @@ Leads w m [] last = last ≡ m
 Leads w m (t ∷ ts) last = (r : Reduction) × (next : Moment) × Reduces w m t r next × Leads w next ts last
 
 -- nothing comes of the item in this state as it is
-abbrev pub IsIdle : Outcome → Type 0
+abbrev pub IsIdle : PickOutcome → Type 0
 IsIdle (waits first other) = Unit {0}
 IsIdle rests = Unit {0}
 IsIdle (reduces r) = ⊥

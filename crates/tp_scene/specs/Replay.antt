@@ -8,70 +8,69 @@ use Rattle.tp_scene.specs.Step.{Reduction, reduces, clashes, misses, passes}
 use Rattle.tp_scene.specs.Pick.{Setting, Moment, Leads, outcome_of}
 use Rattle.tp_scene.specs.Rest.{AtRest, settled, goes, ends, IsOpenCell}
 use Rattle.tp_scene.specs.Advance.{advanced}
-use Rattle.tp_scene.specs.Laws.{GoesOn}
+use Rattle.tp_scene.specs.Laws.{StoreGoesOn}
 
--- Within a state there are at most so many picks.
-module _ (w : Setting) (most : ℕ) (m : Moment) where
-  -- picking these items leads to a scene at rest
-  pub record Closes (picks : List ℕ) (last : Moment) : Type 0 where
-    pub leads : Leads w m picks last
-    pub within : length picks ≤ most
-    pub rest : AtRest w last
+-- Of a state that begins with the moment m, within which there are at most `most` picks.
+-- picking these items leads to a scene at rest
+pub record Closes (w : Setting) (most : ℕ) (m : Moment) (picks : List ℕ) (last : Moment) : Type 0 where
+  pub leads : Leads w m picks last
+  pub within : length picks ≤ most
+  pub rest : AtRest w last
 
-  -- which is settled and goes on, and `next` is what the next state begins with
-  pub record Goes (picks : List ℕ) (last next : Moment) : Type 0 where
-    pub closes : Closes picks last
-    pub settles : settled last.scene ≡ goes
-    pub scene : next.scene ≡ advanced last.scene
-    pub store : GoesOn last.store next.store
+-- which is settled and goes on, and `next` is what the next state begins with
+pub record Goes (w : Setting) (most : ℕ) (m : Moment) (picks : List ℕ) (last next : Moment) : Type 0 where
+  pub closes : Closes w most m picks last
+  pub settles : settled last.scene ≡ goes
+  pub scene : next.scene ≡ advanced last.scene
+  pub store : StoreGoesOn last.store next.store
 
-  -- which is settled and ends
-  pub record Ends (picks : List ℕ) (last : Moment) : Type 0 where
-    pub closes : Closes picks last
-    pub settles : settled last.scene ≡ ends
+-- which is settled and ends
+pub record Ends (w : Setting) (most : ℕ) (m : Moment) (picks : List ℕ) (last : Moment) : Type 0 where
+  pub closes : Closes w most m picks last
+  pub settles : settled last.scene ≡ ends
 
-  -- which is open at this cell
-  pub record IsOpen (cell : Cell) : Type 0 where
-    pub picks : List ℕ
-    pub last : Moment
-    pub closes : Closes picks last
-    pub cell_is : IsOpenCell w last cell
+-- which is open at this cell
+pub record IsOpen (w : Setting) (most : ℕ) (m : Moment) (cell : Cell) : Type 0 where
+  pub picks : List ℕ
+  pub last : Moment
+  pub closes : Closes w most m picks last
+  pub cell_is : IsOpenCell w last cell
 
-  -- Picks lead to where some live item has this outcome.
-  pub record MeetsClash (clash : Clash) : Type 0 where
-    pub picks : List ℕ
-    pub last : Moment
-    pub leads : Leads w m picks last
-    pub within : length picks ≤ most
-    pub item : ℕ
-    pub lives : has item last.scene.root.entries ≡ true
-    pub outcome : outcome_of w last.store last.scene item ≡ clashes clash
+-- Picks lead to where some live item has this outcome.
+pub record MeetsClash (w : Setting) (most : ℕ) (m : Moment) (clash : Clash) : Type 0 where
+  pub picks : List ℕ
+  pub last : Moment
+  pub leads : Leads w m picks last
+  pub within : length picks ≤ most
+  pub item : ℕ
+  pub lives : has item last.scene.root.entries ≡ true
+  pub outcome : outcome_of w last.store last.scene item ≡ clashes clash
 
-  pub record MissesInput (port : List ℕ) : Type 0 where
-    pub picks : List ℕ
-    pub last : Moment
-    pub leads : Leads w m picks last
-    pub within : length picks ≤ most
-    pub item : ℕ
-    pub lives : has item last.scene.root.entries ≡ true
-    pub outcome : outcome_of w last.store last.scene item ≡ misses port
+pub record MissesInput (w : Setting) (most : ℕ) (m : Moment) (port : List ℕ) : Type 0 where
+  pub picks : List ℕ
+  pub last : Moment
+  pub leads : Leads w m picks last
+  pub within : length picks ≤ most
+  pub item : ℕ
+  pub lives : has item last.scene.root.entries ≡ true
+  pub outcome : outcome_of w last.store last.scene item ≡ misses port
 
-  pub record PassesLimit (limit : LimitKind) : Type 0 where
-    pub picks : List ℕ
-    pub last : Moment
-    pub leads : Leads w m picks last
-    pub within : length picks ≤ most
-    pub item : ℕ
-    pub lives : has item last.scene.root.entries ≡ true
-    pub outcome : outcome_of w last.store last.scene item ≡ passes limit
+pub record PassesLimit (w : Setting) (most : ℕ) (m : Moment) (limit : LimitKind) : Type 0 where
+  pub picks : List ℕ
+  pub last : Moment
+  pub leads : Leads w m picks last
+  pub within : length picks ≤ most
+  pub item : ℕ
+  pub lives : has item last.scene.root.entries ≡ true
+  pub outcome : outcome_of w last.store last.scene item ≡ passes limit
 
-  -- As many picks as there may be lead to where one more item has a step.
-  pub record UsesUp : Type 0 where
-    pub picks : List ℕ
-    pub last : Moment
-    pub leads : Leads w m picks last
-    pub all : length picks ≡ most
-    pub item : ℕ
-    pub reduction : Reduction
-    pub lives : has item last.scene.root.entries ≡ true
-    pub outcome : outcome_of w last.store last.scene item ≡ reduces reduction
+-- As many picks as there may be lead to where one more item has a step.
+pub record UsesUp (w : Setting) (most : ℕ) (m : Moment) : Type 0 where
+  pub picks : List ℕ
+  pub last : Moment
+  pub leads : Leads w m picks last
+  pub all : length picks ≡ most
+  pub item : ℕ
+  pub reduction : Reduction
+  pub lives : has item last.scene.root.entries ≡ true
+  pub outcome : outcome_of w last.store last.scene item ≡ reduces reduction

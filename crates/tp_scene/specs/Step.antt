@@ -35,13 +35,13 @@ pub record Reduction : Type 0 where
 
 -- What comes of picking an item: it is reduced; it waits for a cell, and perhaps a second one; it rests; it meets a clash; the inputs have no
 -- value for the port; or it passes a limit.
-pub data Outcome : Type 0 where
-  reduces : Reduction → Outcome
-  waits : (first : Cell) (other : Option Cell) → Outcome
-  rests : Outcome
-  clashes : Clash → Outcome
-  misses : (port : List ℕ) → Outcome
-  passes : LimitKind → Outcome
+pub data PickOutcome : Type 0 where
+  reduces : Reduction → PickOutcome
+  waits : (first : Cell) (other : Option Cell) → PickOutcome
+  rests : PickOutcome
+  clashes : Clash → PickOutcome
+  misses : (port : List ℕ) → PickOutcome
+  passes : LimitKind → PickOutcome
 
 -- The numbers that new items and regions take, in order, and that of a new local.
 pub record Numbers : Type 0 where
@@ -54,28 +54,28 @@ abbrev pub region_limit : ℕ
 region_limit = 400
 
 -- the item becomes these entries, of which so many items are new
-abbrev pub becomes : (news : Entries) → (items : ℕ) → Outcome
+abbrev pub becomes : (news : Entries) → (items : ℕ) → PickOutcome
 becomes news n = reduces (record { news = news; items = n; regions = 0; local = None; mark = None; facts = [] })
 
-abbrev pub vanishes : Outcome
+abbrev pub vanishes : PickOutcome
 vanishes = becomes none 0
 
-abbrev pub knows : List Fact → Outcome
+abbrev pub knows : List Fact → PickOutcome
 knows facts = reduces (record { news = none; items = 0; regions = 0; local = None; mark = None; facts = facts })
 
 -- The same, with a mark on the region. A region doesn't both end and go on.
-abbrev pub marking : Side → (is_other : Bool) → (depth : ℕ) → (news : Entries) → (items : ℕ) → Outcome
+abbrev pub marking : Side → (is_other : Bool) → (depth : ℕ) → (news : Entries) → (items : ℕ) → PickOutcome
 marking z true depth news n = clashes (Marks depth)
 marking z false depth news n = reduces (record { news = news; items = n; regions = 0; local = None; mark = Some z; facts = [] })
 
-abbrev pub ending : Place → Outcome
+abbrev pub ending : Place → PickOutcome
 ending p = marking Ending (p.is Going) p.depth none 0
 
-abbrev pub going : Place → (news : Entries) → (items : ℕ) → Outcome
+abbrev pub going : Place → (news : Entries) → (items : ℕ) → PickOutcome
 going p news n = marking Going (p.is Ending) p.depth news n
 
 -- the same, with one new region, which is one deeper than the item's
-abbrev pub with_region : (depth : ℕ) → (news : Entries) → (items : ℕ) → Outcome
+abbrev pub with_region : (depth : ℕ) → (news : Entries) → (items : ℕ) → PickOutcome
 with_region depth news n =
     if nat_lt depth region_limit then reduces (record { news = news; items = n; regions = 1; local = None; mark = None; facts = [] }) else passes limit.Nest
 
@@ -84,28 +84,28 @@ abbrev pub region_of : (number id : ℕ) → FormulaTree → Bindings → Region
 region_of number id f env = record { head = new_head number; entries = leaf id (Do f env) none }
 
 -- by whether the region goes, ends, or neither is known
-abbrev pub by_status : Place → (if_goes if_ends : Outcome) → Outcome
+abbrev pub by_status : Place → (if_goes if_ends : PickOutcome) → PickOutcome
 by_status p if_goes if_ends = if p.is Going then if_goes else (if p.is Ending then if_ends else waits (End p.region p.depth) None)
 
 -- the outcome of an expression decides, or its value does
-abbrev pub with_value : found.Outcome → (Tree → Outcome) → Outcome
+abbrev pub with_value : found.Outcome → (Tree → PickOutcome) → PickOutcome
 with_value (found.value t) f = f t
 with_value (found.wait p) f = waits (Part p) None
 with_value (found.fault k) f = clashes (NoValue k)
 with_value (found.over k) f = passes k
 
-abbrev pub with_truth : found.Outcome → (Bool → Outcome) → Outcome
+abbrev pub with_truth : found.Outcome → (Bool → PickOutcome) → PickOutcome
 with_truth o f = with_value o truth_or_not
   where
-    truth_or_not : Tree → Outcome
+    truth_or_not : Tree → PickOutcome
     truth_or_not (truth b) = f b
     truth_or_not (num n) = clashes (NoValue WrongKind)
     truth_or_not (list ts) = clashes (NoValue WrongKind)
 
-abbrev pub with_number : found.Outcome → (ℤ → Outcome) → Outcome
+abbrev pub with_number : found.Outcome → (ℤ → PickOutcome) → PickOutcome
 with_number o f = with_value o number_or_not
   where
-    number_or_not : Tree → Outcome
+    number_or_not : Tree → PickOutcome
     number_or_not (num n) = f n
     number_or_not (truth b) = clashes (NoValue WrongKind)
     number_or_not (list ts) = clashes (NoValue WrongKind)
@@ -119,7 +119,7 @@ abbrev pub target_at : (Path → Target) → PlaceOutcome → Option Target
 target_at target (found.path p) = Some (target p)
 target_at target (found.other o) = None
 
-abbrev pub added : Addition → Outcome
+abbrev pub added : Addition → PickOutcome
 added (adds facts) = knows facts
 added (refuses kept new) = clashes (Facts kept new)
 
@@ -131,7 +131,7 @@ pub record SideOf : Type 0 where
 
 module _ (facts : List Fact) where
   -- the target gets this value
-  abbrev pub set : Target → Tree → Outcome
+  abbrev pub set : Target → Tree → PickOutcome
   set (value_at p) v = added (addition facts (facts_at p v))
   set (length_at p) (num (pos n)) = if nat_lt length_limit n then passes limit.List else added (addition facts (fact p (Items n) ∷ []))
   set (length_at p) (num (negsuc n)) = clashes False
@@ -139,10 +139,10 @@ module _ (facts : List Fact) where
   set (length_at p) (list ts) = clashes (NoValue WrongKind)
 
   -- The other side has this value: where this side can be set it is set, else the two are compared.
-  abbrev pub meets : SideOf → Tree → Outcome
+  abbrev pub meets : SideOf → Tree → PickOutcome
   meets side v = by_target side.target side.found
     where
-      by_target : Option Target → found.Outcome → Outcome
+      by_target : Option Target → found.Outcome → PickOutcome
       by_target (Some t) o = set t v
       by_target None (found.value u) = if same_tree u v then vanishes else clashes False
       by_target None (found.wait p) = waits (Part p) None
@@ -150,15 +150,15 @@ module _ (facts : List Fact) where
       by_target None (found.over k) = passes k
 
   -- Both sides wait, for p on the left and for q on the right.
-  abbrev pub both_wait : (left_placed right_placed : Bool) → (p q : Path) → Outcome
+  abbrev pub both_wait : (left_placed right_placed : Bool) → (p q : Path) → PickOutcome
   both_wait l r p q = if r && not l then waits (Part p) (Some (Part q)) else waits (Part q) (Some (Part p))
 
   -- An equation. A fault of the right side comes before one of the left side, a fault before a limit, and either before anything else. Then a
   -- value on the right decides before one on the left.
-  abbrev pub equate : SideOf → SideOf → Outcome
+  abbrev pub equate : SideOf → SideOf → PickOutcome
   equate l r = by_outcomes l.found r.found
     where
-      by_outcomes : (left right : found.Outcome) → Outcome
+      by_outcomes : (left right : found.Outcome) → PickOutcome
       by_outcomes o (found.fault k) = clashes (NoValue k)
       by_outcomes (found.fault k) o = clashes (NoValue k)
       by_outcomes o (found.over k) = passes k
@@ -202,50 +202,50 @@ module _ (defs : List Definition) (inputs : InputLines) (state : ℕ) (facts : L
   side_with v = record { placed = false; target = None; found = found.value v }
 
   -- the values of expressions from left to right, or the outcome of the first that has none
-  abbrev pub with_values : ExprTrees → Bindings → (List Tree → Outcome) → Outcome
+  abbrev pub with_values : ExprTrees → Bindings → (List Tree → PickOutcome) → PickOutcome
   with_values no_expr env f = f []
   with_values (expr_then e es) env f = with_value (value_of e env) (λ v. with_values es env (λ vs. f (v ∷ vs)))
 
-  abbrev pub with_place : PlaceOutcome → (BindingTree → Outcome) → Outcome
+  abbrev pub with_place : PlaceOutcome → (BindingTree → PickOutcome) → PickOutcome
   with_place (found.path p) f = f (place_binding p)
   with_place (found.other o) f = with_value o (λ v. f (known_binding v))
 
-  abbrev pub with_argument : (name : List ℕ) → ExprTree → Bindings → (BindingTree → Outcome) → Outcome
+  abbrev pub with_argument : (name : List ℕ) → ExprTree → Bindings → (BindingTree → PickOutcome) → PickOutcome
   with_argument x e env f = if is_upper x then with_place (place_outcome facts defs e env) f else with_value (value_of e env) (λ v. f (known_binding v))
 
   -- what the parameters are bound to, from left to right
-  abbrev pub with_arguments : ExprTrees → List (List ℕ) → Bindings → (Bindings → Outcome) → Outcome
+  abbrev pub with_arguments : ExprTrees → List (List ℕ) → Bindings → (Bindings → PickOutcome) → PickOutcome
   with_arguments no_expr [] env f = f []
   with_arguments (expr_then e es) (x ∷ xs) env f = with_argument x e env (λ b. with_arguments es xs env (λ bs. f (b ∷ bs)))
   with_arguments no_expr (x ∷ xs) env f = clashes (NoValue NoElement)
   with_arguments (expr_then e es) [] env f = clashes (NoValue NoElement)
 
-  abbrev pub called : Option Definition → ExprTrees → Bindings → Numbers → Outcome
+  abbrev pub called : Option Definition → ExprTrees → Bindings → Numbers → PickOutcome
   called (Some d) es env n = with_arguments es d.parameters env (λ args. becomes (leaf (n.item 0) (Do d.formula args) none) 1)
   called None es env n = clashes (NoValue NoElement)
 
-  abbrev pub length_left : ℤ → Bindings → Numbers → Outcome
+  abbrev pub length_left : ℤ → Bindings → Numbers → PickOutcome
   length_left (pos zero) env n = becomes (leaf (n.item 0) (Do empty env) none) 1
   length_left (pos (suc k)) env n = becomes (leaf (n.item 0) (Do (next (len (numeral (pos k)))) env) none) 1
   length_left (negsuc k) env n = clashes False
 
   -- a loop's turns from k to below m
-  abbrev pub turns : (name : List ℕ) → (k m : ℤ) → FormulaTree → Bindings → Place → Numbers → Outcome
+  abbrev pub turns : (name : List ℕ) → (k m : ℤ) → FormulaTree → Bindings → Place → Numbers → PickOutcome
   turns name k m f env p n =
       if int_le m k then becomes (leaf (n.item 0) (Do empty env) none) 1
       else with_region p.depth (split_then (n.item 1) (region_of n.region (n.item 0) f (env ++ known_binding (num k) ∷ [])) (for_from name (k +ℤ pos 1) (numeral m) f) env none) 2
 
-  abbrev pub instances : (name : List ℕ) → (k m : ℤ) → FormulaTree → Bindings → Numbers → Outcome
+  abbrev pub instances : (name : List ℕ) → (k m : ℤ) → FormulaTree → Bindings → Numbers → PickOutcome
   instances name k m f env n =
       if int_le m k then vanishes
       else becomes (leaf (n.item 0) (Do f (env ++ known_binding (num k) ∷ [])) (leaf (n.item 1) (Do (forall_from name (k +ℤ pos 1) (numeral m) f) env) none)) 2
 
-  abbrev pub from_port : Option Tree → (port : List ℕ) → SideOf → Outcome
+  abbrev pub from_port : Option Tree → (port : List ℕ) → SideOf → PickOutcome
   from_port None port side = misses port
   from_port (Some v) port side = equate facts side (side_with v)
 
   -- what a formula that is to hold from this state on becomes
-  abbrev pub formula_step : FormulaTree → Bindings → Place → Numbers → Outcome
+  abbrev pub formula_step : FormulaTree → Bindings → Place → Numbers → PickOutcome
   formula_step trivial env p n = vanishes
   formula_step (test e) env p n = with_truth (value_of e env) (λ b. if b then vanishes else clashes False)
   formula_step (equation l r) env p n = equate facts (side_of l env) (side_of r env)
@@ -279,19 +279,19 @@ module _ (defs : List Definition) (inputs : InputLines) (state : ℕ) (facts : L
   formula_step (input x port) env p n = from_port (input_at inputs state port) port (side_of x env)
   formula_step (display es) env p n = with_values es env (λ vs. becomes (leaf (n.item 0) (Shown vs) none) 1)
 
-  abbrev pub leaf_step : Leaf → Place → Numbers → Outcome
+  abbrev pub leaf_step : Leaf → Place → Numbers → PickOutcome
   leaf_step (Do f env) p n = formula_step f env p n
   leaf_step (Later f env) p n = rests
   leaf_step (Shown vs) p n = rests
 
   -- What an item with a region becomes, by the place of that region's items. `held` and `second` are the regions.
-  abbrev pub holder_step : Holder → (held second : Region) → Place → Numbers → Outcome
+  abbrev pub holder_step : Holder → (held second : Region) → Place → Numbers → PickOutcome
   holder_step (Split f env) held second q n = by_status q rests (becomes (closed_then (n.item 0) held (leaf (n.item 1) (Do f env) none)) 2)
   holder_step (SplitProject f env) held second q n = by_status q rests (becomes (closed_then (n.item 0) held (opened_then (n.item 1) second f env none)) 2)
   holder_step Closed held second q n = rests
   holder_step (Opened f env) held second q n =
       by_status q (with_inner (running_then (n.item 2) (record { head = new_head n.region; entries = leaf (n.item 0) (Do f env) (leaf (n.item 1) (Do more env) none) }) held f env none) 3) rests
     where
-      with_inner : Entries → ℕ → Outcome
+      with_inner : Entries → ℕ → PickOutcome
       with_inner news items = reduces (record { news = news; items = items; regions = 1; local = None; mark = None; facts = [] })
   holder_step (Running f env) held second q n = rests

@@ -15,7 +15,7 @@ use Rattle.tp_scene.specs.Rest as rest
 use Rattle.tp_decide.specs.declared.scene.Scene.{Scene}
 use Rattle.tp_decide.specs.Read.{head_of, entries_in, entries_of, scene_of}
 use Rattle.tp_decide.specs.Flat.{HoldNoRegion, HasOneRegion, leaves_of, IsFirstAt, first_of}
-use Rattle.tp_step.specs.Answers.{region_place, status, status_of, head_status}
+use Rattle.tp_step.specs.Answers.{region_place, status, region_mark, head_status}
 use Rattle.tp_decide.proofs.FlatLemmas.{flat_leaves}
 
 position_none : (t i : ℕ) (es : List Entry) → position_from (λ e. eqb e.id t) i es ≡ None → has t (leaves_of es) ≡ false
@@ -101,10 +101,10 @@ head_of_root r h = let e = h Ending in let g = h Going in go r.head.ends r.head.
 root_is : (s : Scene) → HasOneRegion (scene_of s) → status (root_place (scene_of s).root) ≡ head_status (head_of s.root)
 root_is s h = head_of_root (scene_of s).root (λ z. none_rises z (entries_in s.root) h)
 
-pub marks_root : (s : Scene) (r : ℕ) → HasOneRegion (scene_of s) → (head_of s.root).number ≡ r → Some (head_status (head_of s.root)) ≡ status_of r (scene_of s)
+pub marks_root : (s : Scene) (r : ℕ) → HasOneRegion (scene_of s) → (head_of s.root).number ≡ r → Some (head_status (head_of s.root)) ≡ region_mark r (scene_of s)
 marks_root s r h e = let t = eq-eqb (head_of s.root).number r e in rw t (ap Some (sym (root_is s h)))
 
-pub marks_none : (s : Scene) (r : ℕ) → HasOneRegion (scene_of s) → ((head_of s.root).number ≡ r → ⊥) → None ≡ status_of r (scene_of s)
+pub marks_none : (s : Scene) (r : ℕ) → HasOneRegion (scene_of s) → ((head_of s.root).number ≡ r → ⊥) → None ≡ region_mark r (scene_of s)
 marks_none s r h e = let f = eqb_no (head_of s.root).number r e in let n = no_region_place r (entries_in s.root) (root_place (scene_of s).root) h in rw (f, n)
 
 -- what a scene without regions has come to

@@ -14,7 +14,7 @@ use Rattle.tp_scene.specs.Scene as S
 use Rattle.tp_scene.specs.Scene.{append, has, has_here, live_items, risen, root_place}
 use Rattle.tp_scene.specs.Built.{IsFlat, IsReady}
 use Rattle.tp_scene.specs.Fits.{AreNumbers, item_numbers}
-use Rattle.tp_scene.specs.Step.{Reduction, Outcome, Numbers, reduces, with_number, length_left, formula_step, leaf_step}
+use Rattle.tp_scene.specs.Step.{Reduction, PickOutcome, Numbers, reduces, with_number, length_left, formula_step, leaf_step}
 use Rattle.tp_scene.specs.Pick.{Setting, Reduces, pick, outcome_of, numbers_of, put, mark_at, mark_head, scene_after}
 use Rattle.tp_scene.proofs.Flat.{steps_stay_flat}
 use Rattle.tp_scene.proofs.Plain.{FreshLeaves, Plain, IsPlain, leaf_plain}
@@ -92,7 +92,7 @@ entry_at zero (e ∷ es) l = (e, refl)
 entry_at (suc k) (e ∷ es) l = entry_at k es (omega arith)
 
 -- the outcome of the item is what was decided on its entry
-pub outcome_decided : (w : Setting) (k : Contents) (s : Scene) (t at : ℕ) (o : Outcome) → IsFlat (scene_of s).root.entries → IsFirstAt t (entries_in s.root) at
+pub outcome_decided : (w : Setting) (k : Contents) (s : Scene) (t at : ℕ) (o : PickOutcome) → IsFlat (scene_of s).root.entries → IsFirstAt t (entries_in s.root) at
     → ((e : Entry) → e ≡ get_or (entries_in s.root) at e → o ≡ leaf_step w.defs [] 0 k.facts (leaf_of e.item) (head_place (head_of s.root)) (numbers_from s.next_item))
     → outcome_of w k (scene_of s) t ≡ o
 outcome_decided w k s t at o flat first is =
@@ -235,7 +235,7 @@ stands_there : (t r : ℕ) (es : List Entry) → region_at t r (leaves_of es) �
 stands_there t r [] = refl
 stands_there t r (e ∷ es) = cond_both (eqb e.id t) r (region_at t r (leaves_of es)) (λ x. x ≡ r) (λ _. refl) (λ _. stands_there t r es)
 
-module _ (w : Setting) (kinds : List Bool) (k j : Contents) (s s' : Scene) (t at room : ℕ) (o : Outcome)
+module _ (w : Setting) (kinds : List Bool) (k j : Contents) (s s' : Scene) (t at room : ℕ) (o : PickOutcome)
     (lives : has t (scene_of s).root.entries ≡ true) (ready : IsReady w kinds (moment_of s k)) (first : IsFirstAt t (entries_in s.root) at)
     (is : (e : Entry) → e ≡ get_or (entries_in s.root) at e → o ≡ leaf_step w.defs [] 0 k.facts (leaf_of e.item) (head_place (head_of s.root)) (numbers_from s.next_item)) where
   outcome_is : outcome_of w k (scene_of s) t ≡ o

@@ -9,7 +9,7 @@ use Rattle.tp_store.specs.declared.add.AddRefusal.TheVariants as refusal
 use Rattle.tp_scene.specs.declared.answer.Clash.TheVariants.{Facts}
 use Rattle.tp_scene.specs.Scene as S
 use Rattle.tp_scene.specs.Scene.{Side, Ending, Going, none, leaf, node, second_lives, has, live_items, Place, root_place, held_place, second_place}
-use Rattle.tp_scene.specs.Step.{Reduction, Outcome, reduces, waits, rests, clashes, misses, passes}
+use Rattle.tp_scene.specs.Step.{Reduction, PickOutcome, reduces, waits, rests, clashes, misses, passes}
 use Rattle.tp_scene.specs.Pick.{Setting, Moment, Reduces, outcome_of, mark_head, HasAdded}
 use Rattle.tp_scene.specs.Rest as rest
 use Rattle.tp_kernel.specs.declared.formula.Defs.{Defs}
@@ -55,8 +55,8 @@ region_place r (node id k h held g second behind) p =
     (region_place r behind p))
 
 -- the status of the live region with this number
-abbrev pub status_of : ℕ → S.Scene → Option Mark
-status_of r s = option_map status (if eqb s.root.head.number r then Some (root_place s.root) else region_place r s.root.entries (root_place s.root))
+abbrev pub region_mark : ℕ → S.Scene → Option Mark
+region_mark r s = option_map status (if eqb s.root.head.number r then Some (root_place s.root) else region_place r s.root.entries (root_place s.root))
 
 -- the number of the region in which the live item t stands, where those entries are of region r
 abbrev pub region_at : ℕ → (r : ℕ) → S.Entries → ℕ
@@ -90,7 +90,7 @@ abbrev pub moment_of : Scene → Contents → Moment
 moment_of s k = record { scene = scene_of s; store = k }
 
 -- The outcome of the entry at a place was carried out: these entries stand in its place.
-pub record CarriesOut (o : Outcome) (left at : ℕ) (old : Scene) (k : Contents) (new : Scene) (j : Contents) (news : News) : Type 0 where
+pub record CarriesOut (o : PickOutcome) (left at : ℕ) (old : Scene) (k : Contents) (new : Scene) (j : Contents) (news : News) : Type 0 where
   pub reduction : Reduction
   pub outcome : o ≡ reduces reduction
   pub room : 0 < left
@@ -106,7 +106,7 @@ pub record CarriesOut (o : Outcome) (left at : ℕ) (old : Scene) (k : Contents)
   pub marked : news.marked ≡ option_map (λ z. (head_of old.root).number) reduction.mark
 
 -- what carrying an outcome out answers, and leaves
-abbrev pub Carries : Outcome → (room at : ℕ) → Scene → Contents → Scene → Contents → Tried → Type 0
+abbrev pub Carries : PickOutcome → (room at : ℕ) → Scene → Contents → Scene → Contents → Tried → Type 0
 Carries o room at old k new j (tried.Reduced news) = CarriesOut o room at old k new j news
 Carries o room at old k new j (tried.Waits first other) = (moment_of new j ≡ moment_of old k) × (o ≡ waits first other)
 Carries o room at old k new j tried.Rests = (moment_of new j ≡ moment_of old k) × (o ≡ rests)

@@ -10,7 +10,7 @@ use Rattle.tp_store.specs.Known.{Contents, new_store}
 use Rattle.tp_scene.specs.Pick.{Setting, Moment}
 use Rattle.tp_scene.specs.Rest as rest
 use Rattle.tp_scene.specs.StandsFor.{StandsFor, context_of}
-use Rattle.tp_scene.specs.Laws.{StandsForNone, GoesOn, AdvanceStands, EndStands}
+use Rattle.tp_scene.specs.Laws.{StandsForNone, StoreGoesOn, AdvanceStands, EndStands}
 use Rattle.tp_scene.specs.Built.{IsReady}
 use Rattle.tp_decide.specs.declared.scene.Scene.{Scene}
 use Rattle.tp_decide.specs.Read.{scene_of}
@@ -45,12 +45,12 @@ StartIsReady main scene =
 -- shows, and whose rest the next scene and a store for the next state stand for.
 abbrev pub AdvanceMeans : (scene next : Scene) → Type 0
 AdvanceMeans scene next =
-    (w : Setting) (kinds : List Bool) (k j : Contents) → IsReady w kinds (moment_of scene k) → GoesOn k j → AdvanceStands w kinds (moment_of scene k) (moment_of next j)
+    (w : Setting) (kinds : List Bool) (k j : Contents) → IsReady w kinds (moment_of scene k) → StoreGoesOn k j → AdvanceStands w kinds (moment_of scene k) (moment_of next j)
 
 -- and these are ready for the next state, whatever its number
 abbrev pub AdvanceIsReady : (scene next : Scene) → Type 0
 AdvanceIsReady scene next =
-    (w : Setting) (kinds : List Bool) (k j : Contents) → IsReady w kinds (moment_of scene k) → GoesOn k j → (own : ℕ) → IsReady (record { defs = w.defs; inputs = w.inputs; state = own }) kinds (moment_of next j)
+    (w : Setting) (kinds : List Bool) (k j : Contents) → IsReady w kinds (moment_of scene k) → StoreGoesOn k j → (own : ℕ) → IsReady (record { defs = w.defs; inputs = w.inputs; state = own }) kinds (moment_of next j)
 
 -- Where a scene is settled and ends, it and its store stand for the intervals of one state that agrees with the facts of the globals, which show what
 -- the scene shows.

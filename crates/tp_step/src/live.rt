@@ -7,7 +7,7 @@ ghost use Rattle.tp_scene.specs.Advance.{shown_in};
 ghost use Rattle.tp_decide.specs.Read.{scene_of, shows_of, values_of, head_of};
 ghost use Rattle.tp_decide.specs.Flat.{HasOneRegion, IsLeaf, AreLeaves, leaf_of, leaves_of, first_of};
 ghost use Rattle.tp_step.specs.Meaning.{EndMeans};
-ghost use Rattle.tp_step.specs.Answers.{settled_of, status_of, head_status, shown_by};
+ghost use Rattle.tp_step.specs.Answers.{settled_of, region_mark, head_status, shown_by};
 
 use crate::answer::{ItemIds, Mark, Settled};
 use std::alloc::Global;
@@ -100,7 +100,7 @@ fn status(region: &Region) -> Mark
 /// The status of the live region with this number.
 pub fn mark(scene: &Scene, region: u64) -> Option<Mark>
     requires { HasOneRegion (scene_of scene.now) }
-    ensures { result ≡ status_of region (scene_of scene.now) }
+    ensures { result ≡ region_mark region (scene_of scene.now) }
 {
     if scene.root.id == region {
         Some(status(&scene.root))
@@ -169,7 +169,8 @@ fn shows_in(alloc: Global, entries: &[Entry]) -> Result<Vec<Values>, NoMemory>
 /// Appends the lists of values that are shown in walk order, or changes nothing.
 pub fn shown(alloc: Global, scene: &Scene, out: &mut Shows) -> Result<(), NoMemory>
     requires { HasOneRegion (scene_of scene.now) }
-    ensures ok { OnOk result (shows_of out.new ≡ shows_of out.old ++ shown_in (scene_of scene.now).root.entries) }
+    ensures ok { OnOk result
+        (shows_of out.new ≡ shows_of out.old ++ shown_in (scene_of scene.now).root.entries) }
     ensures err { OnErr result (shows_of out.new ≡ shows_of out.old) }
 {
     let mut all = shows_in(alloc, scene.root.entries.items.as_slice())?;

@@ -30,8 +30,10 @@ fn due(item: Item) -> Option<Phrase>
 // The entries that are due, with new numbers.
 fn due_entries(alloc: Global, entries: Vec<Entry>) -> Result<Vec<Entry>, NoMemory>
     requires { AreLeaves entries.items }
-    ensures entries { IfOk result (λ next. entries_of next.items ≡ numbered 0 1 (due (leaves_of entries.items))) }
-    ensures count { IfOk result (λ next. length next.items ≡ items_in (due (leaves_of entries.items))) }
+    ensures entries { IfOk result (λ next.
+        entries_of next.items ≡ numbered 0 1 (due (leaves_of entries.items))) }
+    ensures count { IfOk result (λ next.
+        length next.items ≡ items_in (due (leaves_of entries.items))) }
 {
     let mut next = Vec::new(alloc);
     for entry in entries {

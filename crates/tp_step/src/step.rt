@@ -32,7 +32,8 @@ use tp_value::{Facts, NoMemory, Path, Value};
 fn replace(list: &mut Vec<Entry>, at: usize, news: Vec<Entry>)
     requires at { at < vec_len list.old }
     requires room { vec_len list.old + vec_len news ≤ vec_capacity list.old }
-    ensures { list.new.items ≡ take at list.old.items ++ news.items ++ drop (at + 1) list.old.items }
+    ensures { list.new.items
+        ≡ take at list.old.items ++ news.items ++ drop (at + 1) list.old.items }
 {
     let _gone = list.remove(at);
     let mut place = at;
@@ -48,8 +49,11 @@ fn replace(list: &mut Vec<Entry>, at: usize, news: Vec<Entry>)
 fn install(scene: &mut Scene, at: usize, news: Vec<Entry>, mark: Option<Side>, next_item: u64)
     requires at { at < length (entries_in scene.old.root) }
     requires room { HasRoom scene.old (length news.items) }
-    ensures entries { entries_in scene.new.root ≡ take at (entries_in scene.old.root) ++ news.items ++ drop (at + 1) (entries_in scene.old.root) }
-    ensures head { head_of scene.new.root ≡ mark_head (option_map mark_of mark) (head_of scene.old.root) }
+    ensures entries { entries_in scene.new.root
+        ≡ take at (entries_in scene.old.root) ++ news.items
+        ++ drop (at + 1) (entries_in scene.old.root) }
+    ensures head { head_of scene.new.root
+        ≡ mark_head (option_map mark_of mark) (head_of scene.old.root) }
     ensures items { scene.new.next_item ≡ next_item }
     ensures regions { scene.new.next_region ≡ scene.old.next_region }
 {
@@ -81,13 +85,19 @@ fn become_news(
     mark: Option<Side>,
 ) -> Result<News, NoMemory>
     requires { at < length (entries_in scene.old.root) }
-    ensures entries { OnOk result (entries_in scene.new.root ≡ take at (entries_in scene.old.root) ++ news.items ++ drop (at + 1) (entries_in scene.old.root)) }
-    ensures head { OnOk result (head_of scene.new.root ≡ mark_head (option_map mark_of mark) (head_of scene.old.root)) }
-    ensures next_item { OnOk result (scene.new.next_item ≡ scene.old.next_item + length news.items) }
+    ensures entries { OnOk result
+        (entries_in scene.new.root
+        ≡ take at (entries_in scene.old.root) ++ news.items
+        ++ drop (at + 1) (entries_in scene.old.root)) }
+    ensures head { OnOk result
+        (head_of scene.new.root ≡ mark_head (option_map mark_of mark) (head_of scene.old.root)) }
+    ensures next_item { OnOk result
+        (scene.new.next_item ≡ scene.old.next_item + length news.items) }
     ensures next_region { OnOk result (scene.new.next_region ≡ scene.old.next_region) }
     ensures items { IfOk result (λ n. n.items ≡ map (λ e. e.id) news.items) }
     ensures facts { IfOk result (λ n. n.facts ≡ []) }
-    ensures marked { IfOk result (λ n. n.marked ≡ option_map (λ z. (head_of scene.old.root).number) mark) }
+    ensures marked { IfOk result (λ n.
+        n.marked ≡ option_map (λ z. (head_of scene.old.root).number) mark) }
     ensures err { OnErr result (scene_of scene.new ≡ scene_of scene.old) }
 {
     let next_item = after(scene.next_item, news.len())?;
@@ -111,7 +121,8 @@ fn become_news(
 // Takes the entry at `at` out: nothing stands in its place.
 fn vanish(alloc: Global, scene: &mut Scene, at: usize, facts: Facts) -> News
     requires { at < length (entries_in scene.old.root) }
-    ensures entries { entries_in scene.new.root ≡ take at (entries_in scene.old.root) ++ drop (at + 1) (entries_in scene.old.root) }
+    ensures entries { entries_in scene.new.root
+        ≡ take at (entries_in scene.old.root) ++ drop (at + 1) (entries_in scene.old.root) }
     ensures head { head_of scene.new.root ≡ head_of scene.old.root }
     ensures next_item { scene.new.next_item ≡ scene.old.next_item }
     ensures next_region { scene.new.next_region ≡ scene.old.next_region }
@@ -148,7 +159,9 @@ fn set(
 ) -> Result<Tried, NoMemory>
     requires at { at < length (entries_in scene.old.root) }
     requires variable { IsVariableOf store.old.variables target.0.var }
-    ensures ok { IfOk result (Carries (decided store.old.facts (Decision.Sets target.0 target.1)) room at scene.old store.old scene.new store.new) }
+    ensures ok { IfOk result
+        (Carries (decided store.old.facts (Decision.Sets target.0 target.1)) room at scene.old
+        store.old scene.new store.new) }
     ensures scene_err { OnErr result (scene_of scene.new ≡ scene_of scene.old) }
     ensures store_err { OnErr result (store.new ≡ store.old) }
 {
@@ -176,7 +189,9 @@ fn set_length(
 ) -> Result<Tried, NoMemory>
     requires at { at < length (entries_in scene.old.root) }
     requires variable { IsVariableOf store.old.variables target.0.var }
-    ensures ok { IfOk result (Carries (decided store.old.facts (Decision.Measures target.0 target.1)) room at scene.old store.old scene.new store.new) }
+    ensures ok { IfOk result
+        (Carries (decided store.old.facts (Decision.Measures target.0 target.1)) room at scene.old
+        store.old scene.new store.new) }
     ensures scene_err { OnErr result (scene_of scene.new ≡ scene_of scene.old) }
     ensures store_err { OnErr result (store.new ≡ store.old) }
 {
@@ -205,7 +220,9 @@ fn carry_out(
     requires at { at < length (entries_in scene.old.root) }
     requires variables { SetsVariables store.old.variables decision }
     requires apart { NoClash store.old.facts }
-    ensures ok { IfOk result (Carries (decided store.old.facts decision) room at scene.old store.old scene.new store.new) }
+    ensures ok { IfOk result
+        (Carries (decided store.old.facts decision) room at scene.old store.old scene.new
+        store.new) }
     ensures scene_err { OnErr result (scene_of scene.new ≡ scene_of scene.old) }
     ensures store_err { OnErr result (store.new ≡ store.old) }
 {
@@ -239,8 +256,12 @@ fn decide_item(
     requires none { definitions_of defs.now ≡ [] }
     requires leaf { IsLeaf item.now }
     requires kinds { IsBuiltLeaf (leaf_of item.now) }
-    requires fits { LeafFitsStore (definitions_of defs.now) store.now.variables (leaf_of item.now) (root_place (scene_of scene.now).root) }
-    ensures ok { IfOk result (λ d. decided store.now.facts d ≡ leaf_step (definitions_of defs.now) [] 0 store.now.facts (leaf_of item.now) (head_place (head_of scene.now.root)) (numbers_from scene.now.next_item)) }
+    requires fits { LeafFitsStore (definitions_of defs.now) store.now.variables (leaf_of item.now)
+        (root_place (scene_of scene.now).root) }
+    ensures ok { IfOk result (λ d.
+        decided store.now.facts d
+        ≡ leaf_step (definitions_of defs.now) [] 0 store.now.facts (leaf_of item.now)
+        (head_place (head_of scene.now.root)) (numbers_from scene.now.next_item)) }
     ensures variables { IfOk result (SetsVariables store.now.variables) }
 {
     match item {
@@ -275,10 +296,15 @@ fn decide_on(
     requires none { definitions_of defs.now ≡ [] }
     requires lives { has item (scene_of scene.now).root.entries ≡ true }
     requires flat { IsFlat (scene_of scene.now).root.entries }
-    requires fits { EntriesFitStore (definitions_of defs.now) store.now.variables (scene_of scene.now).root.entries (root_place (scene_of scene.now).root) }
+    requires fits { EntriesFitStore (definitions_of defs.now) store.now.variables
+        (scene_of scene.now).root.entries (root_place (scene_of scene.now).root) }
     ensures place { IfOk result (λ r. IsFirstAt item (entries_in scene.now.root) r.0) }
     ensures within { IfOk result (λ r. r.0 < length (entries_in scene.now.root)) }
-    ensures outcome { IfOk result (λ r. (e : Entry) → e ≡ get_or (entries_in scene.now.root) r.0 e → decided store.now.facts r.1 ≡ leaf_step (definitions_of defs.now) [] 0 store.now.facts (leaf_of e.item) (head_place (head_of scene.now.root)) (numbers_from scene.now.next_item)) }
+    ensures outcome { IfOk result (λ r.
+        (e : Entry) → e ≡ get_or (entries_in scene.now.root) r.0 e
+        → decided store.now.facts r.1
+        ≡ leaf_step (definitions_of defs.now) [] 0 store.now.facts (leaf_of e.item)
+        (head_place (head_of scene.now.root)) (numbers_from scene.now.next_item)) }
     ensures variables { IfOk result (λ r. SetsVariables store.now.variables r.1) }
 {
     let entries = scene.root.entries.items.as_slice();
@@ -305,8 +331,11 @@ fn attempt(
 ) -> Result<Tried, NoMemory>
     requires none { definitions_of defs.now ≡ [] }
     requires lives { has item (scene_of scene.old).root.entries ≡ true }
-    requires ready { (kinds : List Bool) × IsReady (setting_of defs.now inputs.now state) kinds (moment_of scene.old store.old) }
-    ensures answer { IfOk result (Tries (setting_of defs.now inputs.now state) room (moment_of scene.old store.old) item (moment_of scene.new store.new)) }
+    requires ready { (kinds : List Bool)
+        × IsReady (setting_of defs.now inputs.now state) kinds (moment_of scene.old store.old) }
+    ensures answer { IfOk result
+        (Tries (setting_of defs.now inputs.now state) room (moment_of scene.old store.old) item
+        (moment_of scene.new store.new)) }
     ensures scene_err { OnErr result (scene_of scene.new ≡ scene_of scene.old) }
     ensures store_err { OnErr result (store.new ≡ store.old) }
 {
@@ -332,10 +361,18 @@ pub fn try_item<L: Ledger>(
 ) -> Result<Tried, NoMemory>
     requires none { definitions_of defs.now ≡ [] }
     requires lives { has item (scene_of scene.old).root.entries ≡ true }
-    requires ready { (kinds : List Bool) × IsReady (setting_of defs.now inputs.now state) kinds (moment_of scene.old store.old) }
-    ensures answer { IfOk result (Tries (setting_of defs.now inputs.now state) room (moment_of scene.old store.old) item (moment_of scene.new store.new)) }
-    ensures means { IfOk result (TryMeans (setting_of defs.now inputs.now state) (moment_of scene.old store.old) (moment_of scene.new store.new)) }
-    ensures ready { IfOk result (λ tried. (kinds : List Bool) → IsReady (setting_of defs.now inputs.now state) kinds (moment_of scene.old store.old) → IsReady (setting_of defs.now inputs.now state) kinds (moment_of scene.new store.new)) }
+    requires ready { (kinds : List Bool)
+        × IsReady (setting_of defs.now inputs.now state) kinds (moment_of scene.old store.old) }
+    ensures answer { IfOk result
+        (Tries (setting_of defs.now inputs.now state) room (moment_of scene.old store.old) item
+        (moment_of scene.new store.new)) }
+    ensures means { IfOk result
+        (TryMeans (setting_of defs.now inputs.now state) (moment_of scene.old store.old)
+        (moment_of scene.new store.new)) }
+    ensures ready { IfOk result (λ tried.
+        (kinds : List Bool)
+        → IsReady (setting_of defs.now inputs.now state) kinds (moment_of scene.old store.old)
+        → IsReady (setting_of defs.now inputs.now state) kinds (moment_of scene.new store.new)) }
     ensures scene_err { OnErr result (scene_of scene.new ≡ scene_of scene.old) }
     ensures store_err { OnErr result (store.new ≡ store.old) }
     ensures steps { steps.new ≡ steps.old + 1 }

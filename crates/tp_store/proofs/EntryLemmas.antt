@@ -10,7 +10,7 @@ use Rattle.tp_value.specs.Globals.{is_lower}
 use Rattle.std.proofs.lemmas.Bool.{false_from_ne_true}
 use Rattle.tp_store.proofs.Paths.{same_truth-decides}
 use Rattle.tp_store.specs.declared.entry.Entry.{Entry}
-use Rattle.tp_store.specs.Entries.{Part, part_in, parts_in, facts_in, facts_there, without_facts, next_part, grown, AreParts}
+use Rattle.tp_store.specs.Entries.{VariableFacts, part_in, parts_in, facts_in, facts_there, without_facts, next_part, grown, AreParts}
 use Rattle.tp_store.proofs.Filing.{fresh_parts}
 
 pub parts-push : (es fs : List Entry) (e : Entry) → fs ≡ es ++ e ∷ [] → parts_in fs ≡ parts_in es ++ part_in e ∷ []
@@ -19,9 +19,9 @@ parts-push es fs e h = ap parts_in h ∙ map-append part_in es (e ∷ [])
 pub fresh_entry : (es fs : List Entry) (e : Entry) → fs ≡ es ++ e ∷ [] → e.facts.items ≡ [] → AreParts 0 (parts_in es) → AreParts 0 (parts_in fs)
 fresh_entry es fs e h n p =
     let v : Variable = record { name = e.name; lasting = e.lasting } in
-    let bare : part_in e ≡ without_facts v = (let make : List Fact → Part = λ xs. record { variable = v; facts = xs } in ap make n) in
+    let bare : part_in e ≡ without_facts v = (let make : List Fact → VariableFacts = λ xs. record { variable = v; facts = xs } in ap make n) in
     let same : parts_in fs ≡ parts_in es ++ without_facts v ∷ [] = parts-push es fs e h ∙ ap (λ q. parts_in es ++ q ∷ []) bare in
-    let P : List Part → Type 0 = λ ps. AreParts 0 ps in
+    let P : List VariableFacts → Type 0 = λ ps. AreParts 0 ps in
     subst P (sym same) (fresh_parts 0 (parts_in es) v p)
 
 pub parts_of : (es fs : List Entry) → fs ≡ es → AreParts 0 (parts_in es) → AreParts 0 (parts_in fs)
@@ -49,7 +49,7 @@ parts-take (x ∷ es) (suc i) e h q =
 pub set-parts : (es : List Entry) (i : ℕ) (e f : Entry) (news : List Fact) → i < length es → e ≡ get_or es i e → f.name ≡ e.name → f.lasting ≡ e.lasting → f.facts.items ≡ e.facts.items ++ news → parts_in (set es i f) ≡ grown (parts_in es) i news
 set-parts [] i e f news h q n l k = absurd (omega arith)
 set-parts (x ∷ es) zero e f news h q n l k =
-    let make : List ℕ → Bool → List Fact → Part = λ a b fs. record { variable = record { name = a; lasting = b }; facts = fs } in
+    let make : List ℕ → Bool → List Fact → VariableFacts = λ a b fs. record { variable = record { name = a; lasting = b }; facts = fs } in
     let s : e ≡ x = q in
     let a : part_in f ≡ make e.name e.lasting (e.facts.items ++ news) = ap (λ y. make y f.lasting f.facts.items) n ∙ ap (λ y. make e.name y f.facts.items) l ∙ ap (make e.name e.lasting) k in
     ap (λ p. p ∷ parts_in es) (a ∙ ap (λ (y : Entry). make y.name y.lasting (y.facts.items ++ news)) s)
@@ -58,28 +58,28 @@ set-parts (x ∷ es) (suc i) e f news h q n l k = ap (λ ps. part_in x ∷ ps) (
 pub set-same : (es : List Entry) (i : ℕ) (e f : Entry) → i < length es → e ≡ get_or es i e → f.name ≡ e.name → f.lasting ≡ e.lasting → f.facts.items ≡ e.facts.items → parts_in (set es i f) ≡ parts_in es
 set-same [] i e f h q n l k = absurd (omega arith)
 set-same (x ∷ es) zero e f h q n l k =
-    let make : List ℕ → Bool → List Fact → Part = λ a b fs. record { variable = record { name = a; lasting = b }; facts = fs } in
+    let make : List ℕ → Bool → List Fact → VariableFacts = λ a b fs. record { variable = record { name = a; lasting = b }; facts = fs } in
     let a : part_in f ≡ part_in e = ap (λ y. make y f.lasting f.facts.items) n ∙ ap (λ y. make e.name y f.facts.items) l ∙ ap (make e.name e.lasting) k in
     ap (λ p. p ∷ parts_in es) (a ∙ ap part_in q)
 set-same (x ∷ es) (suc i) e f h q n l k = ap (λ ps. part_in x ∷ ps) (set-same es i e f (omega arith) q n l k)
 
 -- the name of a variable
-name_seen : (es : List Entry) (i : ℕ) (b : Bool) (d : Entry) → i < length es → name_where b (slice_get (map (λ (p : Part). p.variable) (parts_in es)) i) ≡ cond (same_truth (get_or es i d).lasting b) (Some (get_or es i d).name) None
+name_seen : (es : List Entry) (i : ℕ) (b : Bool) (d : Entry) → i < length es → name_where b (slice_get (map (λ (p : VariableFacts). p.variable) (parts_in es)) i) ≡ cond (same_truth (get_or es i d).lasting b) (Some (get_or es i d).name) None
 name_seen [] i b d h = absurd (omega arith)
 name_seen (e ∷ es) zero b d h = refl
 name_seen (e ∷ es) (suc i) b d h = name_seen es i b d (omega arith)
 
-pub name_read : (es : List Entry) (i : ℕ) (b : Bool) (e : Entry) → i < length es → e ≡ get_or es i e → e.lasting ≡ b → Some e.name ≡ name_where b (slice_get (map (λ (p : Part). p.variable) (parts_in es)) i)
+pub name_read : (es : List Entry) (i : ℕ) (b : Bool) (e : Entry) → i < length es → e ≡ get_or es i e → e.lasting ≡ b → Some e.name ≡ name_where b (slice_get (map (λ (p : VariableFacts). p.variable) (parts_in es)) i)
 name_read es i b e h q t =
     let same : same_truth e.lasting b ≡ true = (same_truth-decides e.lasting b).1 t in
     sym (name_seen es i b e h ∙ ap (λ (x : Entry). cond (same_truth x.lasting b) (Some x.name) None) (sym q) ∙ ap (λ v. cond v (Some e.name) None) same)
 
-pub other_name : (es : List Entry) (i : ℕ) (b : Bool) (e : Entry) → i < length es → e ≡ get_or es i e → (e.lasting ≡ b → ⊥) → None ≡ name_where b (slice_get (map (λ (p : Part). p.variable) (parts_in es)) i)
+pub other_name : (es : List Entry) (i : ℕ) (b : Bool) (e : Entry) → i < length es → e ≡ get_or es i e → (e.lasting ≡ b → ⊥) → None ≡ name_where b (slice_get (map (λ (p : VariableFacts). p.variable) (parts_in es)) i)
 other_name es i b e h q t =
     let other : same_truth e.lasting b ≡ false = false_from_ne_true (same_truth e.lasting b) (λ s. t ((same_truth-decides e.lasting b).0 s)) in
     sym (name_seen es i b e h ∙ ap (λ (x : Entry). cond (same_truth x.lasting b) (Some x.name) None) (sym q) ∙ ap (λ v. cond v (Some e.name) None) other)
 
-pub no_name : (es : List Entry) (i : ℕ) (b : Bool) → length es ≤ i → None ≡ name_where b (slice_get (map (λ (p : Part). p.variable) (parts_in es)) i)
+pub no_name : (es : List Entry) (i : ℕ) (b : Bool) → length es ≤ i → None ≡ name_where b (slice_get (map (λ (p : VariableFacts). p.variable) (parts_in es)) i)
 no_name [] i b h = refl
 no_name (e ∷ es) zero b h = absurd (omega arith)
 no_name (e ∷ es) (suc i) b h = no_name es i b (omega arith)
@@ -106,7 +106,7 @@ lasting_stays e t = sym (ap (λ b. cond b (part_in e) (without_facts (part_in e)
 
 pub state_goes : (e f : Entry) → e.lasting ≡ false → f.name ≡ e.name → f.lasting ≡ e.lasting → f.facts.items ≡ [] → part_in f ≡ next_part (part_in e)
 state_goes e f t n l k =
-    let make : List ℕ → Bool → List Fact → Part = λ a b fs. record { variable = record { name = a; lasting = b }; facts = fs } in
+    let make : List ℕ → Bool → List Fact → VariableFacts = λ a b fs. record { variable = record { name = a; lasting = b }; facts = fs } in
     ap (λ y. make y f.lasting f.facts.items) n ∙ ap (λ y. make e.name y f.facts.items) l ∙ ap (make e.name e.lasting) k ∙ sym (ap (λ b. cond b (part_in e) (without_facts (part_in e).variable)) t)
 
 -- a list that was written over another of its length
@@ -122,7 +122,7 @@ written es fs n h k = ap (λ m. take m (fs ++ drop (length fs) es)) h ∙ over e
 -- one more global
 pub global_entry : (name : List ℕ) (e : Entry) → e.name ≡ name → e.lasting ≡ is_lower name → e.facts.items ≡ [] → part_in e ≡ without_facts (global_variable name)
 global_entry name e n l k =
-    let make : List ℕ → Bool → List Fact → Part = λ a b fs. record { variable = record { name = a; lasting = b }; facts = fs } in
+    let make : List ℕ → Bool → List Fact → VariableFacts = λ a b fs. record { variable = record { name = a; lasting = b }; facts = fs } in
     ap (λ y. make y e.lasting e.facts.items) n ∙ ap (λ y. make name y e.facts.items) l ∙ ap (make name (is_lower name)) k
 
 pub global_more : (names : List (List ℕ)) (i : ℕ) (name : List ℕ) → slice_get names i ≡ Some name

@@ -8,8 +8,8 @@ use Rattle.tp_value.specs.declared.path.Path.{Path}
 use Rattle.tp_value.specs.declared.path.Fact.{Fact}
 use Rattle.tp_store.specs.Facts.{same_path, clash, kept_shape}
 use Rattle.tp_store.specs.Known.{Contents, NoClash, Variable, IsVariableOf, AreOfVariables, lasting_facts, facts_below, full, addition, adds, new_store, global_variable}
-use Rattle.tp_store.specs.Entries.{Part, facts_in, facts_there, contents_of, without_facts, next_part, with_facts, grown, AreOf, IsPart, AreParts}
-use Rattle.tp_store.specs.Changes.{IsSound, HaveSameShapes, HasAdded, HasAppended}
+use Rattle.tp_store.specs.Entries.{VariableFacts, facts_in, facts_there, contents_of, without_facts, next_part, with_facts, grown, AreOf, IsPart, AreParts}
+use Rattle.tp_store.specs.Changes.{IsSoundStore, HaveSameShapes, AddsFacts, HasAppended}
 use Rattle.tp_store.proofs.Paths.{same_path-decides}
 use Rattle.tp_store.proofs.Members.{In, in_left, in_right, in_append, kept_none, NoClash-append, NoClash-filter, Apart}
 use Rattle.tp_store.proofs.Same.{AgreeAt, same_kept, same_full, same_addition, clash-variable}
@@ -25,11 +25,11 @@ of_from x [] h = tt
 of_from x (g ∷ fs) h = (h g (inl refl), of_from x fs (λ f i. h f (inr i)))
 
 -- facts of an entry are of the variable with its number
-part_number : (i : ℕ) (e : Part) → IsPart i e → (f : Fact) → In f e.facts → f.path.var.number ≡ i
+part_number : (i : ℕ) (e : VariableFacts) → IsPart i e → (f : Fact) → In f e.facts → f.path.var.number ≡ i
 part_number i e h f k = ap (λ (x : VarId). x.number) (of_in _ e.facts h.filed f k)
 
 -- and those of the entries from a number on have at least this number
-parts_number : (i : ℕ) (es : List Part) → AreParts i es → (f : Fact) → In f (facts_in es) → i ≤ f.path.var.number
+parts_number : (i : ℕ) (es : List VariableFacts) → AreParts i es → (f : Fact) → In f (facts_in es) → i ≤ f.path.var.number
 parts_number i [] h f k = absurd k
 parts_number i (e ∷ es) h f k =
     elim (in_append f e.facts (facts_in es) k) [
@@ -43,7 +43,7 @@ other_variables f g h = (
   false_from_ne_true (clash g f) (λ t. h (sym (ap (λ (x : VarId). x.number) (clash-variable g f t)))),
 )
 
-pub parts_apart : (i : ℕ) (es : List Part) → AreParts i es → NoClash (facts_in es)
+pub parts_apart : (i : ℕ) (es : List VariableFacts) → AreParts i es → NoClash (facts_in es)
 parts_apart i [] h = tt
 parts_apart i (e ∷ es) h =
     NoClash-append e.facts (facts_in es) h.0.apart (parts_apart (suc i) es h.1) (λ f g j k. other_variables f g (λ q.
@@ -53,12 +53,12 @@ parts_apart i (e ∷ es) h =
     absurd (omega arith)))
 
 -- the entry of a number
-pub part_at : (i : ℕ) (es : List Part) (k : ℕ) (e : Part) → AreParts i es → slice_get es k ≡ Some e → IsPart (i + k) e
+pub part_at : (i : ℕ) (es : List VariableFacts) (k : ℕ) (e : VariableFacts) → AreParts i es → slice_get es k ≡ Some e → IsPart (i + k) e
 part_at i [] k e h q = absurd (cc)
 part_at i (x ∷ es) zero e h q =
     let s : x ≡ e = cc q in
     let n : i ≡ i + 0 = omega arith in
-    let P : Part → Type 0 = λ y. IsPart (i + 0) y in
+    let P : VariableFacts → Type 0 = λ y. IsPart (i + 0) y in
     let R : ℕ → Type 0 = λ m. IsPart m x in
     subst P s (subst R n h.0)
 part_at i (x ∷ es) (suc k) e h q =
@@ -67,7 +67,7 @@ part_at i (x ∷ es) (suc k) e h q =
     subst R n (part_at (suc i) es k e h.1 q)
 
 -- a fact is in the part of its number
-pub in_part : (i : ℕ) (es : List Part) (k : ℕ) → AreParts i es → (f : Fact) → f.path.var.number ≡ i + k → In f (facts_in es) → In f (facts_there (slice_get es k))
+pub in_part : (i : ℕ) (es : List VariableFacts) (k : ℕ) → AreParts i es → (f : Fact) → f.path.var.number ≡ i + k → In f (facts_in es) → In f (facts_there (slice_get es k))
 in_part i [] k h f q j = j
 in_part i (e ∷ es) zero h f q j =
     elim (in_append f e.facts (facts_in es) j) [
@@ -80,25 +80,25 @@ in_part i (e ∷ es) (suc k) h f q j =
       | inr a ↦ in_part (suc i) es k h.1 f (omega arith) a
     ]
 
-pub part_in : (es : List Part) (k : ℕ) (f : Fact) → In f (facts_there (slice_get es k)) → In f (facts_in es)
+pub part_in : (es : List VariableFacts) (k : ℕ) (f : Fact) → In f (facts_there (slice_get es k)) → In f (facts_in es)
 part_in [] k f j = j
 part_in (e ∷ es) zero f j = in_left f e.facts (facts_in es) j
 part_in (e ∷ es) (suc k) f j = in_right f e.facts (facts_in es) (part_in es k f j)
 
-pub part_agrees : (es : List Part) (k : ℕ) → AreParts 0 es → AgreeAt k (facts_in es) (facts_there (slice_get es k))
+pub part_agrees : (es : List VariableFacts) (k : ℕ) → AreParts 0 es → AgreeAt k (facts_in es) (facts_there (slice_get es k))
 part_agrees es k h = record {
   there = λ f q j. in_part 0 es k h f (let r : f.path.var.number ≡ k = q in omega arith) j;
   back = λ f q j. part_in es k f j;
 }
 
-pub part_apart : (es : List Part) (k : ℕ) → AreParts 0 es → NoClash (facts_there (slice_get es k))
+pub part_apart : (es : List VariableFacts) (k : ℕ) → AreParts 0 es → NoClash (facts_there (slice_get es k))
 part_apart es k h =
-    let P : Option Part → Type 0 = λ o. slice_get es k ≡ o → NoClash (facts_there o) in
-    let some : (e : Part) → P (Some e) = λ e q. (part_at 0 es k e h q).apart in
+    let P : Option VariableFacts → Type 0 = λ o. slice_get es k ≡ o → NoClash (facts_there o) in
+    let some : (e : VariableFacts) → P (Some e) = λ e q. (part_at 0 es k e h q).apart in
     let cases : P (slice_get es k) = elim (slice_get es k) as P [ None ↦ λ q. tt | Some e ↦ some e ] in
     cases refl
 
-pub kept_in_part : (es : List Part) (p : Path) → AreParts 0 es → kept_shape (facts_in es) p ≡ kept_shape (facts_there (slice_get es p.var.number)) p
+pub kept_in_part : (es : List VariableFacts) (p : Path) → AreParts 0 es → kept_shape (facts_in es) p ≡ kept_shape (facts_there (slice_get es p.var.number)) p
 kept_in_part es p h = same_kept (facts_in es) (facts_there (slice_get es p.var.number)) p (part_apart es p.var.number h) (part_agrees es p.var.number h)
 
 -- each fact's variable is one of the store's
@@ -107,38 +107,38 @@ of_variables-from xs [] h = tt
 of_variables-from xs (f ∷ fs) h = (h f (inl refl), of_variables-from xs fs (λ g i. h g (inr i)))
 
 -- the kind of a number's variable
-pub kind_at : (es : List Part) (k : ℕ) (e : Part) → slice_get es k ≡ Some e → slice_get (map (λ (v : Variable). v.lasting) (map (λ (p : Part). p.variable) es)) k ≡ Some e.variable.lasting
+pub kind_at : (es : List VariableFacts) (k : ℕ) (e : VariableFacts) → slice_get es k ≡ Some e → slice_get (map (λ (v : Variable). v.lasting) (map (λ (p : VariableFacts). p.variable) es)) k ≡ Some e.variable.lasting
 kind_at [] k e q = absurd (cc)
-kind_at (x ∷ es) zero e q = let s : x ≡ e = cc q in ap (λ (y : Part). Some y.variable.lasting) s
+kind_at (x ∷ es) zero e q = let s : x ≡ e = cc q in ap (λ (y : VariableFacts). Some y.variable.lasting) s
 kind_at (x ∷ es) (suc k) e q = kind_at es k e q
 
-pub kind_some : (es : List Part) (k : ℕ) (b : Bool) → slice_get (map (λ (v : Variable). v.lasting) (map (λ (p : Part). p.variable) es)) k ≡ Some b → (e : Part) × (slice_get es k ≡ Some e) × (e.variable.lasting ≡ b)
+pub kind_some : (es : List VariableFacts) (k : ℕ) (b : Bool) → slice_get (map (λ (v : Variable). v.lasting) (map (λ (p : VariableFacts). p.variable) es)) k ≡ Some b → (e : VariableFacts) × (slice_get es k ≡ Some e) × (e.variable.lasting ≡ b)
 kind_some [] k b q = absurd (cc)
 kind_some (x ∷ es) zero b q = (x, refl, cc q)
 kind_some (x ∷ es) (suc k) b q = kind_some es k b q
 
-part_variable : (es : List Part) (k : ℕ) (f : Fact) → AreParts 0 es → (o : Option Part) → slice_get es k ≡ o → f.path.var.number ≡ k → In f (facts_there o) → IsVariableOf (map (λ (p : Part). p.variable) es) f.path.var
+part_variable : (es : List VariableFacts) (k : ℕ) (f : Fact) → AreParts 0 es → (o : Option VariableFacts) → slice_get es k ≡ o → f.path.var.number ≡ k → In f (facts_there o) → IsVariableOf (map (λ (p : VariableFacts). p.variable) es) f.path.var
 part_variable es k f h None q r j = absurd j
 part_variable es k f h (Some e) q r j =
     let of : f.path.var ≡ record { number = 0 + k; lasting = e.variable.lasting } = of_in _ e.facts (part_at 0 es k e h q).filed f j in
     let kinds : e.variable.lasting ≡ f.path.var.lasting = sym (ap (λ (x : VarId). x.lasting) of) in
-    ap (slice_get (map (λ (v : Variable). v.lasting) (map (λ (p : Part). p.variable) es))) r ∙ kind_at es k e q ∙ ap Some kinds
+    ap (slice_get (map (λ (v : Variable). v.lasting) (map (λ (p : VariableFacts). p.variable) es))) r ∙ kind_at es k e q ∙ ap Some kinds
 
-pub sound : (es : List Part) → AreParts 0 es → IsSound (contents_of es)
+pub sound : (es : List VariableFacts) → AreParts 0 es → IsSoundStore (contents_of es)
 sound es h = record {
   no_clash = parts_apart 0 es h;
-  of_variables = of_variables-from (map (λ (p : Part). p.variable) es) (facts_in es) (λ f j.
+  of_variables = of_variables-from (map (λ (p : VariableFacts). p.variable) es) (facts_in es) (λ f j.
       part_variable es f.path.var.number f h (slice_get es f.path.var.number) refl refl (in_part 0 es f.path.var.number h f (omega arith) j));
 }
 
 -- the same as seen from outside
-pub sound_view : (ps : List Part) (v : Contents) → contents_of ps ≡ v → AreParts 0 ps → IsSound v
-sound_view ps v e h = let P : Contents → Type 0 = λ s. IsSound s in subst P e (sound ps h)
+pub sound_view : (ps : List VariableFacts) (v : Contents) → contents_of ps ≡ v → AreParts 0 ps → IsSoundStore v
+sound_view ps v e h = let P : Contents → Type 0 = λ s. IsSoundStore s in subst P e (sound ps h)
 
-pub kept_view : (ps : List Part) (v : Contents) (p : Path) → contents_of ps ≡ v → AreParts 0 ps → kept_shape (facts_there (slice_get ps p.var.number)) p ≡ kept_shape v.facts p
+pub kept_view : (ps : List VariableFacts) (v : Contents) (p : Path) → contents_of ps ≡ v → AreParts 0 ps → kept_shape (facts_there (slice_get ps p.var.number)) p ≡ kept_shape v.facts p
 kept_view ps v p e h = sym (kept_in_part ps p h) ∙ ap (λ (s : Contents). kept_shape s.facts p) e
 
-pub full_view : (ps : List Part) (v : Contents) (p : Path) → contents_of ps ≡ v → AreParts 0 ps → full (facts_there (slice_get ps p.var.number)) p ≡ full v.facts p
+pub full_view : (ps : List VariableFacts) (v : Contents) (p : Path) → contents_of ps ≡ v → AreParts 0 ps → full (facts_there (slice_get ps p.var.number)) p ≡ full v.facts p
 full_view ps v p e h =
     sym (same_full (facts_in ps) (facts_there (slice_get ps p.var.number)) p (part_apart ps p.var.number h) (part_agrees ps p.var.number h)) ∙ ap (λ (s : Contents). full s.facts p) e
 
@@ -151,17 +151,17 @@ pub without_facts-facts : (vs : List Variable) → facts_in (map without_facts v
 without_facts-facts [] = refl
 without_facts-facts (v ∷ vs) = without_facts-facts vs
 
-pub without_facts-variables : (vs : List Variable) → map (λ (p : Part). p.variable) (map without_facts vs) ≡ vs
+pub without_facts-variables : (vs : List Variable) → map (λ (p : VariableFacts). p.variable) (map without_facts vs) ≡ vs
 without_facts-variables [] = refl
 without_facts-variables (v ∷ vs) = ap (λ us. v ∷ us) (without_facts-variables vs)
 
 -- one more variable
-pub fresh_parts : (i : ℕ) (ps : List Part) (v : Variable) → AreParts i ps → AreParts i (ps ++ without_facts v ∷ [])
+pub fresh_parts : (i : ℕ) (ps : List VariableFacts) (v : Variable) → AreParts i ps → AreParts i (ps ++ without_facts v ∷ [])
 fresh_parts i [] v h = (record { filed = tt; apart = tt }, tt)
 fresh_parts i (p ∷ ps) v h = (h.0, fresh_parts (suc i) ps v h.1)
 
 -- the next state
-pub next_parts : (i : ℕ) (ps : List Part) → AreParts i ps → AreParts i (map next_part ps)
+pub next_parts : (i : ℕ) (ps : List VariableFacts) → AreParts i ps → AreParts i (map next_part ps)
 next_parts i [] h = tt
 next_parts i (p ∷ ps) h =
     let P : Bool → Type 0 = λ b. IsPart i (cond b p (without_facts p.variable)) in
@@ -180,21 +180,21 @@ filter_none x (f ∷ fs) h e =
     let q : f.path.var.lasting ≡ false = ap (λ (y : VarId). y.lasting) h.0 ∙ e in
     ap (λ b. cond b (f ∷ filter (λ (g : Fact). g.path.var.lasting) fs) (filter (λ (g : Fact). g.path.var.lasting) fs)) q ∙ filter_none x fs h.1 e
 
-next_facts-part : (i : ℕ) (p : Part) → IsPart i p → (next_part p).facts ≡ lasting_facts p.facts
+next_facts-part : (i : ℕ) (p : VariableFacts) → IsPart i p → (next_part p).facts ≡ lasting_facts p.facts
 next_facts-part i p h =
     let P : Bool → Type 0 = λ b. p.variable.lasting ≡ b → (cond b p (without_facts p.variable)).facts ≡ lasting_facts p.facts in
     let cases : P p.variable.lasting = elim p.variable.lasting as P [ true ↦ λ e. sym (filter_all (record { number = i; lasting = p.variable.lasting }) p.facts h.filed e) | false ↦ λ e. sym (filter_none (record { number = i; lasting = p.variable.lasting }) p.facts h.filed e) ] in
     cases refl
 
-pub next_facts : (i : ℕ) (ps : List Part) → AreParts i ps → facts_in (map next_part ps) ≡ lasting_facts (facts_in ps)
+pub next_facts : (i : ℕ) (ps : List VariableFacts) → AreParts i ps → facts_in (map next_part ps) ≡ lasting_facts (facts_in ps)
 next_facts i [] h = refl
 next_facts i (p ∷ ps) h =
     ap₂ (λ (a b : List Fact). a ++ b) (next_facts-part i p h.0) (next_facts (suc i) ps h.1) ∙ sym (filter-append (λ (f : Fact). f.path.var.lasting) p.facts (facts_in ps))
 
-next_variable : (p : Part) → (next_part p).variable ≡ p.variable
+next_variable : (p : VariableFacts) → (next_part p).variable ≡ p.variable
 next_variable p = let P : Bool → Type 0 = λ b. (cond b p (without_facts p.variable)).variable ≡ p.variable in elim p.variable.lasting as P [ true ↦ refl | false ↦ refl ]
 
-pub next_variables : (ps : List Part) → map (λ (p : Part). p.variable) (map next_part ps) ≡ map (λ (p : Part). p.variable) ps
+pub next_variables : (ps : List VariableFacts) → map (λ (p : VariableFacts). p.variable) (map next_part ps) ≡ map (λ (p : VariableFacts). p.variable) ps
 next_variables [] = refl
 next_variables (p ∷ ps) = ap₂ (λ (v : Variable) vs. v ∷ vs) (next_variable p) (next_variables ps)
 
@@ -211,7 +211,7 @@ filter_high b (f ∷ fs) h =
     ap (λ t. cond t (f ∷ filter (λ (g : Fact). ltb g.path.var.number b) fs) (filter (λ (g : Fact). ltb g.path.var.number b) fs)) (le-ltb f.path.var.number b (h f (inl refl)))
     ∙ filter_high b fs (λ g i. h g (inr i))
 
-pub facts_below-parts : (i b : ℕ) (ps : List Part) → AreParts i ps → facts_below (i + b) (facts_in ps) ≡ facts_in (take b ps)
+pub facts_below-parts : (i b : ℕ) (ps : List VariableFacts) → AreParts i ps → facts_below (i + b) (facts_in ps) ≡ facts_in (take b ps)
 facts_below-parts i b [] h = let P : ℕ → Type 0 = λ n. [] ≡ facts_in (take n []) in elim b as P [ zero ↦ refl | suc n ↦ refl ]
 facts_below-parts i zero (p ∷ ps) h = filter_high (i + 0) (facts_in (p ∷ ps)) (λ f j. let a : i ≤ f.path.var.number = parts_number i (p ∷ ps) h f j in omega arith)
 facts_below-parts i (suc b) (p ∷ ps) h =
@@ -220,22 +220,22 @@ facts_below-parts i (suc b) (p ∷ ps) h =
     filter-append (λ (f : Fact). ltb f.path.var.number (i + suc b)) p.facts (facts_in ps) ∙ ap₂ (λ (x y : List Fact). x ++ y) low (ap (λ m. facts_below m (facts_in ps)) n ∙ facts_below-parts (suc i) b ps h.1)
 
 -- what is kept of a variable grows
-pub set_parts : (i : ℕ) (ps : List Part) (k : ℕ) (p : Part) → AreParts i ps → IsPart (i + k) p → AreParts i (set ps k p)
+pub set_parts : (i : ℕ) (ps : List VariableFacts) (k : ℕ) (p : VariableFacts) → AreParts i ps → IsPart (i + k) p → AreParts i (set ps k p)
 set_parts i [] k p h q = tt
 set_parts i (x ∷ ps) zero p h q = let n : i + 0 ≡ i = omega arith in let P : ℕ → Type 0 = λ m. IsPart m p in (subst P n q, h.1)
 set_parts i (x ∷ ps) (suc k) p h q = let n : i + suc k ≡ suc i + k = omega arith in let P : ℕ → Type 0 = λ m. IsPart m p in (h.0, set_parts (suc i) ps k p h.1 (subst P n q))
 
-pub set_variables : (ps : List Part) (k : ℕ) (o p : Part) → slice_get ps k ≡ Some o → p.variable ≡ o.variable → map (λ (x : Part). x.variable) (set ps k p) ≡ map (λ (x : Part). x.variable) ps
+pub set_variables : (ps : List VariableFacts) (k : ℕ) (o p : VariableFacts) → slice_get ps k ≡ Some o → p.variable ≡ o.variable → map (λ (x : VariableFacts). x.variable) (set ps k p) ≡ map (λ (x : VariableFacts). x.variable) ps
 set_variables [] k o p e q = refl
-set_variables (x ∷ ps) zero o p e q = let s : x ≡ o = cc e in ap (λ (v : Variable). v ∷ map (λ (y : Part). y.variable) ps) (q ∙ ap (λ (y : Part). y.variable) (sym s))
+set_variables (x ∷ ps) zero o p e q = let s : x ≡ o = cc e in ap (λ (v : Variable). v ∷ map (λ (y : VariableFacts). y.variable) ps) (q ∙ ap (λ (y : VariableFacts). y.variable) (sym s))
 set_variables (x ∷ ps) (suc k) o p e q = ap (λ vs. x.variable ∷ vs) (set_variables ps k o p e q)
 
-pub set_here : (ps : List Part) (k : ℕ) (o p : Part) → slice_get ps k ≡ Some o → slice_get (set ps k p) k ≡ Some p
+pub set_here : (ps : List VariableFacts) (k : ℕ) (o p : VariableFacts) → slice_get ps k ≡ Some o → slice_get (set ps k p) k ≡ Some p
 set_here [] k o p e = absurd (cc)
 set_here (x ∷ ps) zero o p e = refl
 set_here (x ∷ ps) (suc k) o p e = set_here ps k o p e
 
-pub set_elsewhere : (ps : List Part) (k j : ℕ) (p : Part) → (j ≡ k → ⊥) → slice_get (set ps k p) j ≡ slice_get ps j
+pub set_elsewhere : (ps : List VariableFacts) (k j : ℕ) (p : VariableFacts) → (j ≡ k → ⊥) → slice_get (set ps k p) j ≡ slice_get ps j
 set_elsewhere [] k j p h = refl
 set_elsewhere (x ∷ ps) zero zero p h = absurd (h refl)
 set_elsewhere (x ∷ ps) zero (suc j) p h = refl
@@ -262,7 +262,7 @@ or_else-some : (ys : List Fact) (p : Path) (y : Option Shape) → kept_shape ys 
 or_else-some ys p y h = or_else-none y ∙ ap (or_else y) (sym h)
 
 -- facts are added to those of one variable
-pub added_shapes : (ps : List Part) (k : ℕ) (o : Part) (x : VarId) (news : List Fact) → AreParts 0 ps → slice_get ps k ≡ Some o → x.number ≡ k → AreOf x news → IsPart k (with_facts o news)
+pub added_shapes : (ps : List VariableFacts) (k : ℕ) (o : VariableFacts) (x : VarId) (news : List Fact) → AreParts 0 ps → slice_get ps k ≡ Some o → x.number ≡ k → AreOf x news → IsPart k (with_facts o news)
     → HaveSameShapes (facts_in (set ps k (with_facts o news))) (facts_in ps ++ news)
 added_shapes ps k o x news h e n a q = λ p.
     let ps' = set ps k (with_facts o news) in
@@ -280,13 +280,13 @@ added_shapes ps k o x news h e n a q = λ p.
     (kept_none news p (λ g j. false_from_ne_true (same_path g.path p) (λ t. m (sym (ap (λ (r : Path). r.var.number) ((same_path-decides g.path p).0 t)) ∙ ap (λ (y : VarId). y.number) (of_in x news a g j) ∙ n)))) in
     elim (cases_eq p.var.number k) [ inl m ↦ here m | inr m ↦ other m ]
 
-pub grown-set : (ps : List Part) (k : ℕ) (o : Part) (news : List Fact) → slice_get ps k ≡ Some o → grown ps k news ≡ set ps k (with_facts o news)
+pub grown-set : (ps : List VariableFacts) (k : ℕ) (o : VariableFacts) (news : List Fact) → slice_get ps k ≡ Some o → grown ps k news ≡ set ps k (with_facts o news)
 grown-set [] k o news e = absurd (cc)
 grown-set (x ∷ ps) zero o news e = let s : x ≡ o = cc e in ap (λ y. with_facts y news ∷ ps) s
 grown-set (x ∷ ps) (suc k) o news e = ap (λ qs. x ∷ qs) (grown-set ps k o news e)
 
 -- what is below a number, appended
-pub appended_is : (ps : List Part) (v : Contents) (b : ℕ) (fs old new : List Fact) → contents_of ps ≡ v → AreParts 0 ps → fs ≡ facts_in (take b ps) → new ≡ old ++ fs → HasAppended (facts_below b v.facts) old new
+pub appended_is : (ps : List VariableFacts) (v : Contents) (b : ℕ) (fs old new : List Fact) → contents_of ps ≡ v → AreParts 0 ps → fs ≡ facts_in (take b ps) → new ≡ old ++ fs → HasAppended (facts_below b v.facts) old new
 appended_is ps v b fs old new e h q l =
     let n : 0 + b ≡ b = omega arith in
     let same : fs ≡ facts_below b v.facts = q ∙ sym (facts_below-parts 0 b ps h) ∙ ap (λ m. facts_below m (facts_in ps)) n ∙ ap (λ (s : Contents). facts_below b s.facts) e in
@@ -298,14 +298,14 @@ appended_is ps v b fs old new e h q l =
       shapes = λ p. ap (λ xs. kept_shape xs p) same;
     }
 
-pub next_shapes : (ps qs : List Part) (v : Contents) → contents_of ps ≡ v → AreParts 0 ps → qs ≡ map next_part ps → HaveSameShapes (facts_in qs) (lasting_facts v.facts)
+pub next_shapes : (ps qs : List VariableFacts) (v : Contents) → contents_of ps ≡ v → AreParts 0 ps → qs ≡ map next_part ps → HaveSameShapes (facts_in qs) (lasting_facts v.facts)
 next_shapes ps qs v e h q = λ p. ap (λ xs. kept_shape (facts_in xs) p) q ∙ ap (λ xs. kept_shape xs p) (next_facts 0 ps h) ∙ ap (λ (s : Contents). kept_shape (lasting_facts s.facts) p) e
 
-pub same_variables : (ps qs : List Part) (v : Contents) → contents_of ps ≡ v → qs ≡ map next_part ps → map (λ (p : Part). p.variable) qs ≡ v.variables
-same_variables ps qs v e q = ap (map (λ (p : Part). p.variable)) q ∙ next_variables ps ∙ ap (λ (s : Contents). s.variables) e
+pub same_variables : (ps qs : List VariableFacts) (v : Contents) → contents_of ps ≡ v → qs ≡ map next_part ps → map (λ (p : VariableFacts). p.variable) qs ≡ v.variables
+same_variables ps qs v e q = ap (map (λ (p : VariableFacts). p.variable)) q ∙ next_variables ps ∙ ap (λ (s : Contents). s.variables) e
 
-pub moved_parts : (ps qs : List Part) → qs ≡ ps → AreParts 0 ps → AreParts 0 qs
-moved_parts ps qs q h = let P : List Part → Type 0 = λ xs. AreParts 0 xs in subst P (sym q) h
+pub moved_parts : (ps qs : List VariableFacts) → qs ≡ ps → AreParts 0 ps → AreParts 0 qs
+moved_parts ps qs q h = let P : List VariableFacts → Type 0 = λ xs. AreParts 0 xs in subst P (sym q) h
 
 -- the globals, without facts
 pub global_parts : (i : ℕ) (names : List (List ℕ)) → AreParts i (map (λ name. without_facts (global_variable name)) names)
@@ -316,7 +316,7 @@ global_facts : (names : List (List ℕ)) → facts_in (map (λ name. without_fac
 global_facts [] = refl
 global_facts (n ∷ ns) = global_facts ns
 
-global_variables : (names : List (List ℕ)) → map (λ (p : Part). p.variable) (map (λ name. without_facts (global_variable name)) names) ≡ map global_variable names
+global_variables : (names : List (List ℕ)) → map (λ (p : VariableFacts). p.variable) (map (λ name. without_facts (global_variable name)) names) ≡ map global_variable names
 global_variables [] = refl
 global_variables (n ∷ ns) = ap (λ vs. global_variable n ∷ vs) (global_variables ns)
 
@@ -324,13 +324,13 @@ pub global_contents : (names : List (List ℕ)) → contents_of (map (λ name. w
 global_contents names = let make : List Fact → List Variable → Contents = λ fs vs. record { facts = fs; variables = vs } in ap₂ make (global_facts names) (global_variables names)
 
 -- the part of a variable of the store
-pub part_of_variable : (ps : List Part) (v : Contents) (x : VarId) → contents_of ps ≡ v → IsVariableOf v.variables x → (o : Part) × (slice_get ps x.number ≡ Some o) × (o.variable.lasting ≡ x.lasting)
+pub part_of_variable : (ps : List VariableFacts) (v : Contents) (x : VarId) → contents_of ps ≡ v → IsVariableOf v.variables x → (o : VariableFacts) × (slice_get ps x.number ≡ Some o) × (o.variable.lasting ≡ x.lasting)
 part_of_variable ps v x e h = let P : Contents → Type 0 = λ s. IsVariableOf s.variables x in kind_some ps x.number x.lasting (subst P (sym e) h)
 
 of_number : (x : VarId) (fs : List Fact) → AreOf x fs → (f : Fact) → In f fs → f.path.var.number ≡ x.number
 of_number x fs a f i = ap (λ (y : VarId). y.number) (of_in x fs a f i)
 
-pub addition_view : (ps : List Part) (v : Contents) (x : VarId) (fs : List Fact) → contents_of ps ≡ v → AreParts 0 ps → AreOf x fs → addition (facts_there (slice_get ps x.number)) fs ≡ addition v.facts fs
+pub addition_view : (ps : List VariableFacts) (v : Contents) (x : VarId) (fs : List Fact) → contents_of ps ≡ v → AreParts 0 ps → AreOf x fs → addition (facts_there (slice_get ps x.number)) fs ≡ addition v.facts fs
 addition_view ps v x fs e h a =
     let A : ℕ → Type 0 = λ n. AgreeAt n (facts_in ps) (facts_there (slice_get ps x.number)) in
     sym (same_addition (facts_in ps) (facts_there (slice_get ps x.number)) fs (parts_apart 0 ps h) (part_apart ps x.number h) (λ f i. subst A (sym (of_number x fs a f i)) (part_agrees ps x.number h)))
@@ -341,11 +341,11 @@ of_append x [] ys h k = k
 of_append x (f ∷ xs) ys h k = (h.0, of_append x xs ys h.1 k)
 
 -- everything that adding facts to one variable gives
-pub record Grown (ps : List Part) (v : Contents) (x : VarId) (news : List Fact) : Type 0 where
+pub record Grown (ps : List VariableFacts) (v : Contents) (x : VarId) (news : List Fact) : Type 0 where
   pub parts : AreParts 0 (grown ps x.number news)
-  pub added : HasAdded v news (contents_of (grown ps x.number news))
+  pub added : AddsFacts v news (contents_of (grown ps x.number news))
 
-pub grows : (ps : List Part) (v : Contents) (x : VarId) (fs news : List Fact) → contents_of ps ≡ v → AreParts 0 ps → IsVariableOf v.variables x → AreOf x fs → NoClash fs
+pub grows : (ps : List VariableFacts) (v : Contents) (x : VarId) (fs news : List Fact) → contents_of ps ≡ v → AreParts 0 ps → IsVariableOf v.variables x → AreOf x fs → NoClash fs
     → addition (facts_there (slice_get ps x.number)) fs ≡ adds news → Grown ps v x news
 grows ps v x fs news e h k a m q =
     let r = part_of_variable ps v x e k in
@@ -370,6 +370,6 @@ grows ps v x fs news e h k a m q =
       parts = moved_parts qs (grown ps x.number news) same (set_parts 0 ps x.number (with_facts o news) h new_part);
       added = record {
         shapes = λ p. ap (λ ys. kept_shape (facts_in ys) p) same ∙ shapes p ∙ ap (λ (s : Contents). kept_shape (s.facts ++ news) p) e;
-        variables = ap (map (λ (p : Part). p.variable)) same ∙ set_variables ps x.number o (with_facts o news) r.1 refl ∙ ap (λ (s : Contents). s.variables) e;
+        variables = ap (map (λ (p : VariableFacts). p.variable)) same ∙ set_variables ps x.number o (with_facts o news) r.1 refl ∙ ap (λ (s : Contents). s.variables) e;
       };
     }

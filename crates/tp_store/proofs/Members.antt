@@ -6,7 +6,7 @@ use Rattle.tp_value.specs.declared.value.Shape.{Shape}
 use Rattle.tp_value.specs.declared.path.Path.{Path}
 use Rattle.tp_value.specs.declared.path.Fact.{Fact}
 use Rattle.tp_store.specs.Facts.{same_path, same_shape, leaves_out, excludes, clash, kept_shape, is_excluded, fact, AgreesWith, AgreesWithAll}
-use Rattle.tp_store.specs.Known.{NoClash, meets}
+use Rattle.tp_store.specs.Known.{NoClash, clashes_with_some}
 use Rattle.tp_store.proofs.Indices.{leaves_out-shorter}
 use Rattle.tp_store.proofs.Paths.{same_path-decides, same_shape-decides, same_path-refl, same_path-sym, fact_from, clash-sym}
 
@@ -90,14 +90,14 @@ excluded_from [] p f i t = absurd i
 excluded_from (g ∷ fs) p f (inl e) t = or_left (excludes g p) (is_excluded fs p) (ap (λ (x : Fact). excludes x p) e ∙ t)
 excluded_from (g ∷ fs) p f (inr i) t = or_right (excludes g p) (is_excluded fs p) (excluded_from fs p f i t)
 
-pub meets_none : (fs : List Fact) (f : Fact) → ((g : Fact) → In g fs → clash g f ≡ false) → meets fs f ≡ false
+pub meets_none : (fs : List Fact) (f : Fact) → ((g : Fact) → In g fs → clash g f ≡ false) → clashes_with_some fs f ≡ false
 meets_none [] f h = refl
-meets_none (g ∷ fs) f h = or_from (clash g f) (meets fs f) (h g (inl refl)) (meets_none fs f (λ x i. h x (inr i)))
+meets_none (g ∷ fs) f h = or_from (clash g f) (clashes_with_some fs f) (h g (inl refl)) (meets_none fs f (λ x i. h x (inr i)))
 
-pub none_meets : (fs : List Fact) (f : Fact) → meets fs f ≡ false → (g : Fact) → In g fs → clash g f ≡ false
+pub none_meets : (fs : List Fact) (f : Fact) → clashes_with_some fs f ≡ false → (g : Fact) → In g fs → clash g f ≡ false
 none_meets [] f h g i = absurd i
-none_meets (x ∷ fs) f h g (inl e) = ap (λ (y : Fact). clash y f) (sym e) ∙ (or_parts (clash x f) (meets fs f) h).0
-none_meets (x ∷ fs) f h g (inr i) = none_meets fs f (or_parts (clash x f) (meets fs f) h).1 g i
+none_meets (x ∷ fs) f h g (inl e) = ap (λ (y : Fact). clash y f) (sym e) ∙ (or_parts (clash x f) (clashes_with_some fs f) h).0
+none_meets (x ∷ fs) f h g (inr i) = none_meets fs f (or_parts (clash x f) (clashes_with_some fs f) h).1 g i
 
 same_shape-refl : (f : Fact) → same_shape f.shape f.shape ≡ true
 same_shape-refl f = (same_shape-decides f.shape f.shape).1 refl
@@ -138,7 +138,7 @@ NoClash-filter p [] n = tt
 NoClash-filter p (f ∷ fs) n =
     let rest : NoClash (filter p fs) = NoClash-filter p fs n.2 in
     let paths : kept_shape (filter p fs) f.path ≡ None = kept_none (filter p fs) f.path (λ g i. none_kept fs f.path n.0 g (in_filter p g fs i).0) in
-    let clashes : meets (filter p fs) f ≡ false = meets_none (filter p fs) f (λ g i. none_meets fs f n.1 g (in_filter p g fs i).0) in
+    let clashes : clashes_with_some (filter p fs) f ≡ false = meets_none (filter p fs) f (λ g i. none_meets fs f n.1 g (in_filter p g fs i).0) in
     let P : Bool → Type 0 = λ b. NoClash (cond b (f ∷ filter p fs) (filter p fs)) in
     elim (p f) as P [ true ↦ (paths, clashes, rest) | false ↦ rest ]
 

@@ -4,7 +4,7 @@ use Rattle.std.proofs.lemmas.Bool.{both_ways, cases_Bool}
 use Rattle.tp_value.specs.Tree.{Tree}
 use Rattle.tp_value.specs.declared.path.Fact.{Fact}
 use Rattle.tp_store.specs.Facts.{clash, AgreesWith, AgreesWithAll}
-use Rattle.tp_store.specs.Known.{NoClash, meets, new_facts}
+use Rattle.tp_store.specs.Known.{NoClash, clashes_with_some, new_facts}
 use Rattle.tp_store.specs.Changes.{HaveSameShapes}
 use Rattle.tp_store.specs.Laws.{SameShapesSameStore, AddingAddsMeaning, RefusedAgreeNowhere, NoClashArises}
 use Rattle.tp_store.proofs.Members.{In, in_left, in_right, in_append, kept_in, in_kept, none_meets, meets_none, agrees_in, agrees_from, NoClash-filter}
@@ -20,20 +20,20 @@ same_member fs gs n h f i = kept_in gs f.path f.shape (sym (h f.path) ∙ in_kep
 agree_all : (fs gs : List Fact) → NoClash fs → NoClash gs → HaveSameShapes fs gs → (n : ℕ) → AgreeAt n fs gs
 agree_all fs gs n m h k = record { there = λ f e i. same_member fs gs n h f i; back = λ f e i. same_member gs fs m (λ p. sym (h p)) f i }
 
-meets_from : (fs : List Fact) (f g : Fact) → In g fs → clash g f ≡ true → meets fs f ≡ true
+meets_from : (fs : List Fact) (f g : Fact) → In g fs → clash g f ≡ true → clashes_with_some fs f ≡ true
 meets_from fs f g i t =
-    let P : Bool → Type 0 = λ b. meets fs f ≡ b → b ≡ true in
-    let cases : P (meets fs f) = elim (meets fs f) as P [ true ↦ λ e. refl | false ↦ λ e. absurd (both_ways (clash g f) (none_meets fs f e g i) t) ] in
+    let P : Bool → Type 0 = λ b. clashes_with_some fs f ≡ b → b ≡ true in
+    let cases : P (clashes_with_some fs f) = elim (clashes_with_some fs f) as P [ true ↦ λ e. refl | false ↦ λ e. absurd (both_ways (clash g f) (none_meets fs f e g i) t) ] in
     cases refl
 
-meets_there : (fs gs : List Fact) (f : Fact) → ((g : Fact) → In g fs → In g gs) → meets gs f ≡ false → meets fs f ≡ false
+meets_there : (fs gs : List Fact) (f : Fact) → ((g : Fact) → In g fs → In g gs) → clashes_with_some gs f ≡ false → clashes_with_some fs f ≡ false
 meets_there fs gs f h e = meets_none fs f (λ g i. none_meets gs f e g (h g i))
 
-same_meets : (fs gs : List Fact) (f : Fact) → ((g : Fact) → In g fs → In g gs) → ((g : Fact) → In g gs → In g fs) → meets fs f ≡ meets gs f
+same_meets : (fs gs : List Fact) (f : Fact) → ((g : Fact) → In g fs → In g gs) → ((g : Fact) → In g gs → In g fs) → clashes_with_some fs f ≡ clashes_with_some gs f
 same_meets fs gs f h k =
-    let P : Bool → Type 0 = λ b. meets gs f ≡ b → meets fs f ≡ b in
-    let yes_ : P true = λ e. elim (cases_Bool (meets fs f)) [ inl t ↦ t | inr t ↦ absurd (both_ways (meets gs f) (meets_there gs fs f k t) e) ] in
-    let cases : P (meets gs f) = elim (meets gs f) as P [ true ↦ yes_ | false ↦ λ e. meets_there fs gs f h e ] in
+    let P : Bool → Type 0 = λ b. clashes_with_some gs f ≡ b → clashes_with_some fs f ≡ b in
+    let yes_ : P true = λ e. elim (cases_Bool (clashes_with_some fs f)) [ inl t ↦ t | inr t ↦ absurd (both_ways (clashes_with_some gs f) (meets_there gs fs f k t) e) ] in
+    let cases : P (clashes_with_some gs f) = elim (clashes_with_some gs f) as P [ true ↦ yes_ | false ↦ λ e. meets_there fs gs f h e ] in
     cases refl
 
 agrees_there : (values : ℕ → Tree) (fs gs : List Fact) → ((g : Fact) → In g gs → In g fs) → AgreesWithAll values fs → AgreesWithAll values gs

@@ -10,12 +10,12 @@ abbrev pub HaveSameShapes : List Fact → List Fact → Type 0
 HaveSameShapes fs gs = (p : Path) → kept_shape fs p ≡ kept_shape gs p
 
 -- What holds of each store: its facts don't clash, and are of its variables.
-pub record IsSound (s : Contents) : Type 0 where
+pub record IsSoundStore (s : Contents) : Type 0 where
   pub no_clash : NoClash s.facts
   pub of_variables : AreOfVariables s.variables s.facts
 
 -- The facts are added to what is kept, and the variables stay.
-pub record HasAdded (old : Contents) (news : List Fact) (new : Contents) : Type 0 where
+pub record AddsFacts (old : Contents) (news : List Fact) (new : Contents) : Type 0 where
   pub shapes : HaveSameShapes new.facts (old.facts ++ news)
   pub variables : new.variables ≡ old.variables
 

@@ -7,41 +7,41 @@ use Rattle.tp_store.specs.Known.{Contents, Variable, NoClash}
 use Rattle.tp_store.specs.declared.entry.Entry.{Entry}
 
 -- a variable with the facts that are kept of it
-pub record Part : Type 0 where
+pub record VariableFacts : Type 0 where
   pub variable : Variable
   pub facts : List Fact
 
-abbrev pub part_in : Entry → Part
+abbrev pub part_in : Entry → VariableFacts
 part_in e = record { variable = record { name = e.name; lasting = e.lasting }; facts = e.facts.items }
 
-abbrev pub parts_in : List Entry → List Part
+abbrev pub parts_in : List Entry → List VariableFacts
 parts_in es = map part_in es
 
 -- the facts of all variables
-abbrev pub facts_in : List Part → List Fact
+abbrev pub facts_in : List VariableFacts → List Fact
 facts_in ps = flat_map (λ p. p.facts) ps
 
-abbrev pub contents_of : List Part → Contents
+abbrev pub contents_of : List VariableFacts → Contents
 contents_of ps = record { facts = facts_in ps; variables = map (λ p. p.variable) ps }
 
 -- the facts of a variable, none where there is no such variable
-abbrev pub facts_there : Option Part → List Fact
+abbrev pub facts_there : Option VariableFacts → List Fact
 facts_there None = []
 facts_there (Some p) = p.facts
 
 -- a variable without facts
-abbrev pub without_facts : Variable → Part
+abbrev pub without_facts : Variable → VariableFacts
 without_facts v = record { variable = v; facts = [] }
 
 -- what is kept of a variable in the next state
-abbrev pub next_part : Part → Part
+abbrev pub next_part : VariableFacts → VariableFacts
 next_part p = if p.variable.lasting then p else without_facts p.variable
 
-abbrev pub with_facts : Part → List Fact → Part
+abbrev pub with_facts : VariableFacts → List Fact → VariableFacts
 with_facts p news = record { variable = p.variable; facts = p.facts ++ news }
 
 -- more facts are kept of the variable with this number
-abbrev pub grown : List Part → ℕ → List Fact → List Part
+abbrev pub grown : List VariableFacts → ℕ → List Fact → List VariableFacts
 grown [] k news = []
 grown (p ∷ ps) zero news = with_facts p news ∷ ps
 grown (p ∷ ps) (suc k) news = p ∷ grown ps k news
@@ -52,11 +52,11 @@ AreOf x [] = Unit {0}
 AreOf x (f ∷ fs) = (f.path.var ≡ x) × AreOf x fs
 
 -- what is kept of the variable with this number: facts of it without a clash
-pub record IsPart (i : ℕ) (p : Part) : Type 0 where
+pub record IsPart (i : ℕ) (p : VariableFacts) : Type 0 where
   pub filed : AreOf (record { number = i; lasting = p.variable.lasting }) p.facts
   pub apart : NoClash p.facts
 
 -- what is kept of the variables from this number on
-abbrev pub AreParts : ℕ → List Part → Type 0
+abbrev pub AreParts : ℕ → List VariableFacts → Type 0
 AreParts i [] = Unit {0}
 AreParts i (p ∷ ps) = IsPart i p × AreParts (suc i) ps

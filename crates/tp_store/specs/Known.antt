@@ -11,9 +11,9 @@ use Rattle.tp_value.specs.declared.path.Fact.{Fact}
 use Rattle.tp_store.specs.Facts.{clash, kept_shape, is_excluded, item_path}
 
 -- some fact of the list clashes with this one
-abbrev pub meets : List Fact → Fact → Bool
-meets [] f = false
-meets (g ∷ gs) f = clash g f || meets gs f
+abbrev pub clashes_with_some : List Fact → Fact → Bool
+clashes_with_some [] f = false
+clashes_with_some (g ∷ gs) f = clash g f || clashes_with_some gs f
 
 abbrev pub is_none : {A : Type 0} → Option A → Bool
 is_none None = true
@@ -22,7 +22,7 @@ is_none (Some a) = false
 -- no path stands twice, and no two facts clash
 abbrev pub NoClash : List Fact → Type 0
 NoClash [] = Unit {0}
-NoClash (f ∷ fs) = (kept_shape fs f.path ≡ None) × (meets fs f ≡ false) × NoClash fs
+NoClash (f ∷ fs) = (kept_shape fs f.path ≡ None) × (clashes_with_some fs f ≡ false) × NoClash fs
 
 -- the lesser indices come first: fewer, or as many and with the lesser index where they first differ
 abbrev pub is_lesser : List ℕ → List ℕ → Bool

@@ -5,7 +5,7 @@ use Rattle.tp_value.specs.Limits.{is_within_list_limit}
 use Rattle.tp_value.specs.declared.path.Path.{Path}
 use Rattle.tp_value.specs.declared.path.Fact.{Fact}
 use Rattle.tp_store.specs.Facts.{clash, kept_shape, is_excluded, item_at_path, facts_at, AgreesWith, AgreesWithAll}
-use Rattle.tp_store.specs.Known.{NoClash, meets, first_clash, adds, refuses, addition, Full, absent, undecided, too_long, value, full, Variable, AreOfVariables, lasting_facts, facts_below}
+use Rattle.tp_store.specs.Known.{NoClash, clashes_with_some, first_clash, adds, refuses, addition, Full, absent, undecided, too_long, value, full, Variable, AreOfVariables, lasting_facts, facts_below}
 use Rattle.tp_store.specs.Changes.{HaveSameShapes}
 
 -- No state agrees with two facts that clash.
@@ -35,7 +35,7 @@ OpenIsUndecided = (facts : List Fact) (p q : Path) → NoClash facts → full fa
 pub record KnowTheSame (fs gs : List Fact) : Type 0 where
   pub excluded : (p : Path) → is_excluded fs p ≡ is_excluded gs p
   pub wholes : (p : Path) → full fs p ≡ full gs p
-  pub meetings : (f : Fact) → meets fs f ≡ meets gs f
+  pub meetings : (f : Fact) → clashes_with_some fs f ≡ clashes_with_some gs f
   pub first : (f : Fact) → first_clash fs f ≡ first_clash gs f
   pub additions : (facts : List Fact) → addition fs facts ≡ addition gs facts
   pub states : (values : ℕ → Tree) → AgreesWithAll values fs ↔ AgreesWithAll values gs

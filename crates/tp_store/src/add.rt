@@ -6,7 +6,7 @@ ghost use Rattle.tp_store.specs.Facts.{facts_at, fact};
 ghost use Rattle.tp_store.specs.Known.{addition, adds, new_facts, IsVariableOf, NoClash};
 ghost use Rattle.tp_store.specs.Entries.{AreOf, parts_in, facts_there, grown};
 ghost use Rattle.tp_store.specs.Answers.{Adds, IsRefusal};
-ghost use Rattle.tp_store.specs.Changes.{IsSound, HasAdded};
+ghost use Rattle.tp_store.specs.Changes.{IsSoundStore, AddsFacts};
 
 use crate::entry::{Entry, facts_of};
 use crate::full::item_path;
@@ -155,9 +155,12 @@ fn add_at(
     facts: Vec<Fact>,
 ) -> Result<Facts, AddRefusal>
     requires { number < length entries.old }
-    ensures added { IfOk result (λ news. addition (facts_there (slice_get (parts_in entries.old) number)) facts.items ≡ adds news) }
-    ensures refused { IfErr result (IsRefusal (addition (facts_there (slice_get (parts_in entries.old) number)) facts.items)) }
-    ensures ok { IfOk result (λ news. parts_in entries.new ≡ grown (parts_in entries.old) number news) }
+    ensures added { IfOk result (λ news.
+        addition (facts_there (slice_get (parts_in entries.old) number)) facts.items ≡ adds news) }
+    ensures refused { IfErr result
+        (IsRefusal (addition (facts_there (slice_get (parts_in entries.old) number)) facts.items)) }
+    ensures ok { IfOk result (λ news.
+        parts_in entries.new ≡ grown (parts_in entries.old) number news) }
     ensures err { OnErr result (parts_in entries.new ≡ parts_in entries.old) }
 {
     let entry = &mut entries[number as usize];
@@ -172,11 +175,13 @@ impl Store {
     /// paths first differ; nothing is added then.
     pub fn add(&mut self, path: &Path, value: &Value) -> Result<Facts, AddRefusal>
         requires { IsVariableOf self.old.variables path.now.var }
-        ensures news { IfOk result (λ news. addition self.old.facts (facts_at path.now (tree value.now)) ≡ adds news) }
-        ensures refused { IfErr result (IsRefusal (addition self.old.facts (facts_at path.now (tree value.now)))) }
-        ensures added { IfOk result (λ news. HasAdded self.old news self.new) }
+        ensures news { IfOk result (λ news.
+            addition self.old.facts (facts_at path.now (tree value.now)) ≡ adds news) }
+        ensures refused { IfErr result
+            (IsRefusal (addition self.old.facts (facts_at path.now (tree value.now)))) }
+        ensures added { IfOk result (λ news. AddsFacts self.old news self.new) }
         ensures err { OnErr result (self.new ≡ self.old) }
-        ensures sound { IsSound self.new }
+        ensures sound { IsSoundStore self.new }
     {
         let facts = value_facts(self.alloc, path, value)?;
         let news = self.add_facts(path.var, facts)?;
@@ -186,11 +191,13 @@ impl Store {
     /// Adds the one fact that the path is a list of that length, by the rules of `add`.
     pub fn add_length(&mut self, path: &Path, length: u32) -> Result<Facts, AddRefusal>
         requires { IsVariableOf self.old.variables path.now.var }
-        ensures news { IfOk result (λ news. addition self.old.facts (fact path.now (shape.Items length) ∷ []) ≡ adds news) }
-        ensures refused { IfErr result (IsRefusal (addition self.old.facts (fact path.now (shape.Items length) ∷ []))) }
-        ensures added { IfOk result (λ news. HasAdded self.old news self.new) }
+        ensures news { IfOk result (λ news.
+            addition self.old.facts (fact path.now (shape.Items length) ∷ []) ≡ adds news) }
+        ensures refused { IfErr result
+            (IsRefusal (addition self.old.facts (fact path.now (shape.Items length) ∷ []))) }
+        ensures added { IfOk result (λ news. AddsFacts self.old news self.new) }
         ensures err { OnErr result (self.new ≡ self.old) }
-        ensures sound { IsSound self.new }
+        ensures sound { IsSoundStore self.new }
     {
         let facts = length_facts(self.alloc, path, length)?;
         let news = self.add_facts(path.var, facts)?;
@@ -200,8 +207,10 @@ impl Store {
     /// Whether `add` of this value at this path would add its facts, or the refusal that it would give; the store stays as it is.
     pub fn check(&self, path: &Path, value: &Value) -> Result<(), AddRefusal>
         requires { IsVariableOf self.now.variables path.now.var }
-        ensures ok { OnOk result (Adds (addition self.now.facts (facts_at path.now (tree value.now)))) }
-        ensures refused { IfErr result (IsRefusal (addition self.now.facts (facts_at path.now (tree value.now)))) }
+        ensures ok { OnOk result
+            (Adds (addition self.now.facts (facts_at path.now (tree value.now)))) }
+        ensures refused { IfErr result
+            (IsRefusal (addition self.now.facts (facts_at path.now (tree value.now)))) }
     {
         let facts = value_facts(self.alloc, path, value)?;
         self.check_facts(path.var, facts.as_slice())
@@ -210,8 +219,10 @@ impl Store {
     /// Whether `add_length` of this path would add its fact, or the refusal that it would give; the store stays as it is.
     pub fn check_length(&self, path: &Path, length: u32) -> Result<(), AddRefusal>
         requires { IsVariableOf self.now.variables path.now.var }
-        ensures ok { OnOk result (Adds (addition self.now.facts (fact path.now (shape.Items length) ∷ []))) }
-        ensures refused { IfErr result (IsRefusal (addition self.now.facts (fact path.now (shape.Items length) ∷ []))) }
+        ensures ok { OnOk result
+            (Adds (addition self.now.facts (fact path.now (shape.Items length) ∷ []))) }
+        ensures refused { IfErr result
+            (IsRefusal (addition self.now.facts (fact path.now (shape.Items length) ∷ []))) }
     {
         let facts = length_facts(self.alloc, path, length)?;
         self.check_facts(path.var, facts.as_slice())
@@ -233,9 +244,9 @@ impl Store {
         requires apart { NoClash facts.items }
         ensures news { IfOk result (λ news. addition self.old.facts facts.items ≡ adds news) }
         ensures refused { IfErr result (IsRefusal (addition self.old.facts facts.items)) }
-        ensures added { IfOk result (λ news. HasAdded self.old news self.new) }
+        ensures added { IfOk result (λ news. AddsFacts self.old news self.new) }
         ensures err { OnErr result (self.new ≡ self.old) }
-        ensures sound { IsSound self.new }
+        ensures sound { IsSoundStore self.new }
     {
         let alloc = self.alloc;
         let news = add_at(alloc, self.entries.as_mut_slice(), var.number, facts)?;

@@ -1,6 +1,6 @@
 // What is kept of each variable.
 ghost use Rattle.std.specs.Prelude.{◌≡◌, ◌<◌, ◌++◌, List, length, map, take, slice_get, slice_set, IfOk};
-ghost use Rattle.tp_store.specs.Entries.{Part, part_in, parts_in, facts_in, facts_there, without_facts, next_part};
+ghost use Rattle.tp_store.specs.Entries.{VariableFacts, part_in, parts_in, facts_in, facts_there, without_facts, next_part};
 ghost use Rattle.tp_store.specs.Known.{global_variable, name_of};
 ghost use Rattle.std.specs.Option.{option_copied};
 ghost use Rattle.tp_value.specs.Globals.{is_lower};
@@ -29,7 +29,8 @@ fn is_lower(name: &[u8]) -> bool
 
 /// The globals, without facts.
 pub fn global_entries(alloc: Global, globals: &Globals) -> Result<Vec<Entry>, NoMemory>
-    ensures { IfOk result (λ entries. parts_in entries.items ≡ map (λ name. without_facts (global_variable name)) globals.now) }
+    ensures { IfOk result (λ entries.
+        parts_in entries.items ≡ map (λ name. without_facts (global_variable name)) globals.now) }
 {
     let mut entries = Vec::new(alloc);
     for number in 0..globals.len() {

@@ -1,7 +1,7 @@
 // What is known of the value at a path.
 ghost use Rattle.std.specs.Prelude.{◌≡◌, IfOk};
 ghost use Rattle.tp_store.specs.Known.{full, whole, list_of_items, items_known};
-ghost use Rattle.tp_store.specs.Changes.{IsSound};
+ghost use Rattle.tp_store.specs.Changes.{IsSoundStore};
 ghost use Rattle.tp_store.specs.Facts.{item_path};
 ghost use Rattle.tp_store.specs.Answers.{full_of, whole_of};
 
@@ -53,7 +53,8 @@ fn items_at(
     count: u32,
     deeper: u64,
 ) -> Result<Found, NoMemory>
-    ensures { IfOk result (λ found. whole_of found ≡ list_of_items (items_known (whole deeper facts.now) path.now count 0)) }
+    ensures { IfOk result (λ found.
+        whole_of found ≡ list_of_items (items_known (whole deeper facts.now) path.now count 0)) }
 {
     let mut items = Vec::new(alloc);
     for k in 0..count {
@@ -112,7 +113,7 @@ impl Store {
     /// from this one downwards in the order of the items, whose shape isn't kept; else whether the whole value is within the limit of lists.
     pub fn full(&self, path: &Path) -> Result<Known, NoMemory>
         ensures value { IfOk result (λ known. full_of known ≡ full self.now.facts path.now) }
-        ensures sound { IsSound self.now }
+        ensures sound { IsSoundStore self.now }
     {
         let facts = facts_of(self.entries.as_slice(), path.var.number);
         let known = full_in(self.alloc, facts, path)?;

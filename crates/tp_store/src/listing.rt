@@ -22,7 +22,8 @@ pub fn shape_in(facts: &[Fact], path: &Path) -> Option<Shape>
 
 /// The greatest number of indices of a path of the list, or none where a fact of it excludes the path.
 pub fn depth_without(facts: &[Fact], path: &Path) -> Option<u64>
-    ensures value { result ≡ if is_excluded facts.now path.now then None else Some (deepest facts.now) }
+    ensures value { result
+        ≡ if is_excluded facts.now path.now then None else Some (deepest facts.now) }
     ensures bound { IfSome result (λ most. most < 2 ^ 63) }
 {
     let mut most = 0u64;
@@ -54,7 +55,8 @@ fn first_clash<'a>(facts: &'a [Fact], fact: &Fact) -> Option<&'a Fact>
 
 /// The first of the new facts that clashes with a kept one, after that one.
 pub fn find_clash<'a>(kept: &'a [Fact], news: &'a [Fact]) -> Option<(&'a Fact, &'a Fact)>
-    ensures { MatchOption result ((o : Addition) → checked kept.now news.now o ≡ o) (λ c. (o : Addition) → checked kept.now news.now o ≡ refuses c.0.now c.1.now) }
+    ensures { MatchOption result ((o : Addition) → checked kept.now news.now o ≡ o) (λ c.
+        (o : Addition) → checked kept.now news.now o ≡ refuses c.0.now c.1.now) }
 {
     for fact in news {
         if let Some(first) = first_clash(kept, fact) {

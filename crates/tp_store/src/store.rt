@@ -3,7 +3,7 @@ ghost use Rattle.std.specs.Prelude.{◌≡◌, ◌++◌, ◌∷◌, [], length, 
 ghost use Rattle.std.specs.Option.{option_copied};
 ghost use Rattle.tp_store.specs.Facts.{kept_shape};
 ghost use Rattle.tp_store.specs.Known.{new_store, name_of, lasting_facts, facts_below};
-ghost use Rattle.tp_store.specs.Changes.{IsSound, HaveSameShapes, HasAppended};
+ghost use Rattle.tp_store.specs.Changes.{IsSoundStore, HaveSameShapes, HasAppended};
 
 use crate::entry::{Entry, copy_below, drop_state_facts, facts_of, global_entries, name_of};
 use crate::listing::shape_in;
@@ -43,18 +43,21 @@ impl Store {
     /// The shape that is kept for the path.
     pub fn shape(&self, path: &Path) -> Option<Shape>
         ensures value { result ≡ kept_shape self.now.facts path.now }
-        ensures sound { IsSound self.now }
+        ensures sound { IsSoundStore self.now }
     {
         shape_in(facts_of(self.entries.as_slice(), path.var.number), path)
     }
 
     /// The next number, for a new variable of that name.
     pub fn fresh(&mut self, name: &Text, lasting: bool) -> Result<VarId, NoMemory>
-        ensures number { IfOk result (λ x. x ≡ record { number = length self.old.variables; lasting = lasting }) }
-        ensures variables { OnOk result (self.new.variables ≡ self.old.variables ++ record { name = name.now; lasting = lasting } ∷ []) }
+        ensures number { IfOk result (λ x.
+            x ≡ record { number = length self.old.variables; lasting = lasting }) }
+        ensures variables { OnOk result
+            (self.new.variables
+            ≡ self.old.variables ++ record { name = name.now; lasting = lasting } ∷ []) }
         ensures facts { HaveSameShapes self.new.facts self.old.facts }
         ensures err { OnErr result (self.new ≡ self.old) }
-        ensures sound { IsSound self.new }
+        ensures sound { IsSoundStore self.new }
     {
         let number = self.entries.len() as u64;
         let name = name.copy()?;
@@ -77,7 +80,7 @@ impl Store {
     pub fn facts(&self, below: u64, out: &mut Facts) -> Result<(), NoMemory>
         ensures ok { OnOk result (HasAppended (facts_below below self.now.facts) out.old out.new) }
         ensures err { OnErr result (out.new ≡ out.old) }
-        ensures sound { IsSound self.now }
+        ensures sound { IsSoundStore self.now }
     {
         let mut copies = copy_below(self.alloc, self.entries.as_slice(), below)?;
         out.items.append(&mut copies)?;
@@ -88,7 +91,7 @@ impl Store {
     pub fn next_state(&mut self)
         ensures facts { HaveSameShapes self.new.facts (lasting_facts self.old.facts) }
         ensures variables { self.new.variables ≡ self.old.variables }
-        ensures sound { IsSound self.new }
+        ensures sound { IsSoundStore self.new }
     {
         drop_state_facts(self.entries.as_mut_slice());
     }

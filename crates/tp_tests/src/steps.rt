@@ -40,7 +40,9 @@ fn nothing(alloc: Global) -> Result<Setup, NoMemory>
 // What a run of this program begins with.
 fn begin(alloc: Global, source: &str, setup: &Setup) -> Result<(Scene, Store), Fail>
     requires { definitions_of setup.now.defs ≡ [] }
-    ensures { IfOk result (λ r. (kinds : List Bool) × IsReady (setting_of setup.now.defs setup.now.inputs 0) kinds (moment_of r.0 r.1)) }
+    ensures { IfOk result (λ r.
+        (kinds : List Bool)
+        × IsReady (setting_of setup.now.defs setup.now.inputs 0) kinds (moment_of r.0 r.1)) }
 {
     let program = program_of(alloc, source)?;
     let store = Store::new(alloc, &program.globals)?;
@@ -113,8 +115,13 @@ fn tries<L: Ledger>(
     steps: &mut Steps<L>,
 ) -> Result<String, Fail>
     requires none { definitions_of setup.now.defs ≡ [] }
-    requires ready { (kinds : List Bool) × IsReady (setting_of setup.now.defs setup.now.inputs at.0) kinds (moment_of scene.old store.old) }
-    ensures { OnOk result ((kinds : List Bool) × IsReady (setting_of setup.now.defs setup.now.inputs at.0) kinds (moment_of scene.new store.new)) }
+    requires ready { (kinds : List Bool)
+        × IsReady (setting_of setup.now.defs setup.now.inputs at.0) kinds
+        (moment_of scene.old store.old) }
+    ensures { OnOk result
+        ((kinds : List Bool)
+        × IsReady (setting_of setup.now.defs setup.now.inputs at.0) kinds
+        (moment_of scene.new store.new)) }
 {
     let mut out = String::new(alloc);
     for digit in picks.as_bytes() {
@@ -135,8 +142,11 @@ fn tries<L: Ledger>(
 
 // The scene of the next state, number 1.
 fn go_on(alloc: Global, scene: Scene, store: &mut Store, setup: &Setup) -> Result<Scene, Fail>
-    requires { (kinds : List Bool) × IsReady (setting_of setup.now.defs setup.now.inputs 0) kinds (moment_of scene store.old) }
-    ensures { IfOk result (λ next. (kinds : List Bool) × IsReady (setting_of setup.now.defs setup.now.inputs 1) kinds (moment_of next store.new)) }
+    requires { (kinds : List Bool)
+        × IsReady (setting_of setup.now.defs setup.now.inputs 0) kinds (moment_of scene store.old) }
+    ensures { IfOk result (λ next.
+        (kinds : List Bool)
+        × IsReady (setting_of setup.now.defs setup.now.inputs 1) kinds (moment_of next store.new)) }
 {
     match settled(&scene) {
         Settled::Goes => {

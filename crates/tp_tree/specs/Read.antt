@@ -43,14 +43,14 @@ phrases_step ps = phrases_of ps.items.items
 abbrev pub kind_tree : PhraseKind → KindTree
 kind_tree = fold-PhraseKind KindTree PhraseTree PhraseTrees kind_step phrase_step phrases_step
 
-abbrev pub tree : Phrase → PhraseTree
-tree = fold-Phrase KindTree PhraseTree PhraseTrees kind_step phrase_step phrases_step
+abbrev pub phrase_tree : Phrase → PhraseTree
+phrase_tree = fold-Phrase KindTree PhraseTree PhraseTrees kind_step phrase_step phrases_step
 
-abbrev pub trees : Phrases → PhraseTrees
-trees = fold-Phrases KindTree PhraseTree PhraseTrees kind_step phrase_step phrases_step
+abbrev pub phrase_trees : Phrases → PhraseTrees
+phrase_trees = fold-Phrases KindTree PhraseTree PhraseTrees kind_step phrase_step phrases_step
 
 abbrev pub definition_tree : Definition → DefinitionTree
-definition_tree d = record { name = d.name; at = d.at; parameters = d.parameters; body = tree d.body }
+definition_tree d = record { name = d.name; at = d.at; parameters = d.parameters; body = phrase_tree d.body }
 
 abbrev pub source_tree : Source → SourceTree
-source_tree s = record { definitions = map definition_tree s.definitions.items.items; main = tree s.main }
+source_tree s = record { definitions = map definition_tree s.definitions.items.items; main = phrase_tree s.main }

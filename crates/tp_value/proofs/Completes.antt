@@ -10,18 +10,18 @@ use Rattle.tp_value.specs.declared.scan.Phase.TheVariants.{Start, Between}
 use Rattle.tp_value.specs.declared.reading.ReadValue.TheVariants.{TooLong, TooDeep}
 use Rattle.tp_value.specs.Number.{number_limit}
 use Rattle.tp_value.specs.Tree.{Tree, num, truth, list, of_items}
-use Rattle.tp_value.specs.Limits.{item_limit, depth_limit, items_in, items_within, depth_of, greatest_depth, HasNumbers, HaveNumbers}
-use Rattle.tp_value.specs.Spelling.{is_blank, AreDigits, with_digit, decimal_value, spelling, CanClose, TakesItem, Spells, digits, minus, word, closed, Unfinished, bracket, blank, item, comma}
-use Rattle.tp_value.specs.Reading.{State, Answer, refused, answered, begins_value, carried, finished, step_behind, reading}
+use Rattle.tp_value.specs.Limits.{item_limit, value_depth_limit, items_in, items_within, depth_of, greatest_depth, HasNumbers, HaveNumbers}
+use Rattle.tp_value.specs.Spelling.{is_value_blank, AreDigits, with_digit, decimal_value, spelling, CanClose, TakesItem, Spells, digits, minus, word, closed, Unfinished, bracket, blank, item, comma}
+use Rattle.tp_value.specs.Reading.{ReadingState, Answer, refused, answered, begins_value, carried, finished, step_behind, reading}
 use Rattle.tp_value.specs.Answers.{EndsNumber, CannotContinue}
 use Rattle.tp_value.proofs.Digits.{IsOver, signed, in_digits, digits_read, Read, digit_starts, a_number, no_number}
 
 -- a value is due
-abbrev pub due : List (List Tree) → ℕ → State
+abbrev pub due : List (List Tree) → ℕ → ReadingState
 due lists begun = record { lists = lists; begun = begun; phase = Start }
 
 -- within the innermost list, which has these items
-abbrev pub within : List (List Tree) → ℕ → List Tree → Last → State
+abbrev pub within : List (List Tree) → ℕ → List Tree → Last → ReadingState
 within lists begun ts last = record { lists = ts ∷ lists; begun = begun; phase = Between last }
 
 abbrev pub FollowsPart : Last → List ℕ → Type 0
@@ -36,7 +36,7 @@ behind n lists begun t rest = answered (finished lists begun t n) (λ s. reading
 -- the limits leave room for the value, where so many lists are open and so many items have begun
 pub record Fits (lists : List (List Tree)) (begun : ℕ) (t : Tree) : Type 0 where
   pub items : begun + items_in t ≤ item_limit
-  pub depth : length lists + depth_of t ≤ depth_limit
+  pub depth : length lists + depth_of t ≤ value_depth_limit
   pub numbers : HasNumbers t
 
 pub number_ends : (n : ℕ) (lists : List (List Tree)) (begun begin : ℕ) (negative : Bool) (m : ℤ) (rest : List ℕ) → EndsNumber rest → reading n (in_digits lists begun begin negative m) rest ≡ behind n lists begun (num m) rest
@@ -106,7 +106,7 @@ GoesIn n lists begun s ts last rest =
 
 -- numbers
 number_goes_by : (n m : ℕ) (lists : List (List Tree)) (begun : ℕ) (negative : Bool) (v : ℕ) (s ds rest : List ℕ) → reading n (due lists begun) (s ++ rest) ≡ reading m (in_digits lists begun n negative (signed negative v)) (ds ++ rest)
-    → m + length ds ≡ n + length s → EndsNumber rest → begun ≤ item_limit → length lists ≤ depth_limit → Read m lists begun n negative v ds rest → Goes n lists begun s (num (signed negative (fold with_digit v ds))) rest
+    → m + length ds ≡ n + length s → EndsNumber rest → begun ≤ item_limit → length lists ≤ value_depth_limit → Read m lists begun n negative v ds rest → Goes n lists begun s (num (signed negative (fold with_digit v ds))) rest
 number_goes_by n m lists begun negative v s ds rest here place ends k d (inl r) =
     let all = fold with_digit v ds in
     let none : begun ≡ begun + 0 = omega arith in
@@ -124,7 +124,7 @@ digits_start n lists begun b z rest h =
     let first : b - 48 ≡ with_digit 0 b = omega arith in
     ap (λ x. answered (carried n (due lists begun) x) (λ t. reading (n + 1) t (z ++ rest))) (digit_starts n (length lists) begun b h) ∙ ap (λ v. reading (n + 1) (in_digits lists begun n false (pos v)) (z ++ rest)) first
 
-digits_go : (n : ℕ) (lists : List (List Tree)) (begun : ℕ) (ds rest : List ℕ) → AreDigits ds → EndsNumber rest → begun ≤ item_limit → length lists ≤ depth_limit → Goes n lists begun ds (num (pos (decimal_value ds))) rest
+digits_go : (n : ℕ) (lists : List (List Tree)) (begun : ℕ) (ds rest : List ℕ) → AreDigits ds → EndsNumber rest → begun ≤ item_limit → length lists ≤ value_depth_limit → Goes n lists begun ds (num (pos (decimal_value ds))) rest
 digits_go n lists begun [] rest a ends k d = absurd a
 digits_go n lists begun (b ∷ z) rest a ends k d =
     number_goes_by n (n + 1) lists begun false (with_digit 0 b) (b ∷ z) z rest (digits_start n lists begun b z rest a.0) (omega arith) ends k d (digits_read z a.1 (n + 1) lists begun n false (with_digit 0 b) rest (digit_small b a.0))
@@ -133,13 +133,13 @@ pub minus_start : (n : ℕ) (lists : List (List Tree)) (begun b : ℕ) (z rest :
 minus_start n lists begun b z rest h =
     sym (ap (λ x. answered (step_behind (n + 1) (in_digits lists begun n true (pos 0)) b x) (λ t. reading ((n + 1) + 1) t (z ++ rest))) (ap (λ c. cond c None (Some (pos 0))) h))
 
-minus_goes : (n : ℕ) (lists : List (List Tree)) (begun : ℕ) (ds rest : List ℕ) → AreDigits ds → EndsNumber rest → begun ≤ item_limit → length lists ≤ depth_limit → Goes n lists begun (codes "-" ++ ds) (num (neg_ℤ (pos (decimal_value ds)))) rest
+minus_goes : (n : ℕ) (lists : List (List Tree)) (begun : ℕ) (ds rest : List ℕ) → AreDigits ds → EndsNumber rest → begun ≤ item_limit → length lists ≤ value_depth_limit → Goes n lists begun (codes "-" ++ ds) (num (neg_ℤ (pos (decimal_value ds)))) rest
 minus_goes n lists begun [] rest a ends k d = absurd a
 minus_goes n lists begun (b ∷ z) rest a ends k d =
     number_goes_by n (n + 1) lists begun true 0 (45 ∷ (b ∷ z)) (b ∷ z) rest (minus_start n lists begun b z rest a.0) (omega arith) ends k d (digits_read (b ∷ z) a (n + 1) lists begun n true 0 rest (omega arith))
 
 -- words
-word_goes : (n : ℕ) (lists : List (List Tree)) (begun : ℕ) (b : Bool) (rest : List ℕ) → begun ≤ item_limit → length lists ≤ depth_limit → Goes n lists begun (spelling b) (truth b) rest
+word_goes : (n : ℕ) (lists : List (List Tree)) (begun : ℕ) (b : Bool) (rest : List ℕ) → begun ≤ item_limit → length lists ≤ value_depth_limit → Goes n lists begun (spelling b) (truth b) rest
 word_goes n lists begun true rest k d =
     let place : (((n + 1) + 1) + 1) + 1 ≡ n + 4 = omega arith in
     let none : begun ≡ begun + 0 = omega arith in
@@ -162,7 +162,7 @@ closed_goes n lists begun s ts last rest k (inl r) =
     inl (ap (reading n (due lists begun)) (append_assoc s (codes ">") rest) ∙ r.0 ∙ closes (n + length s) lists (begun + items_in t) ts last rest k ∙ ap (λ p. behind p lists (begun + items_in t) t rest) place, r.1)
 closed_goes n lists begun s ts last rest k (inr r) = inr (subst IsOver (sym (ap (reading n (due lists begun)) (append_assoc s (codes ">") rest))) r.0, r.1)
 
-bracket_goes : (n : ℕ) (lists : List (List Tree)) (begun : ℕ) (rest : List ℕ) → begun ≤ item_limit → (length lists < depth_limit) ⊎ (depth_limit ≤ length lists) → GoesIn n lists begun (codes "<") [] Bracket rest
+bracket_goes : (n : ℕ) (lists : List (List Tree)) (begun : ℕ) (rest : List ℕ) → begun ≤ item_limit → (length lists < value_depth_limit) ⊎ (value_depth_limit ≤ length lists) → GoesIn n lists begun (codes "<") [] Bracket rest
 bracket_goes n lists begun rest k (inl d) =
     let none : begun ≡ begun + 0 = omega arith in
     let here : reading n (due lists begun) (60 ∷ rest) ≡ reading (n + 1) (within lists begun [] Bracket) rest = grind (arith, nat_tests) in
@@ -171,10 +171,10 @@ bracket_goes n lists begun rest k (inr d) =
     let here : reading n (due lists begun) (60 ∷ rest) ≡ refused (TooDeep n) = grind (arith, nat_tests) in
     inr (subst IsOver (sym here) tt, λ f. absurd (omega (arith, f.depth)))
 
-blank_step : (n : ℕ) (lists : List (List Tree)) (begun : ℕ) (ts : List Tree) (last : Last) (b : ℕ) (rest : List ℕ) → is_blank b ≡ true → reading n (within lists begun ts last) (b ∷ rest) ≡ reading (n + 1) (within lists begun ts last) rest
+blank_step : (n : ℕ) (lists : List (List Tree)) (begun : ℕ) (ts : List Tree) (last : Last) (b : ℕ) (rest : List ℕ) → is_value_blank b ≡ true → reading n (within lists begun ts last) (b ∷ rest) ≡ reading (n + 1) (within lists begun ts last) rest
 blank_step n lists begun ts last b rest h = grind (arith, nat_tests)
 
-blank_goes : (n : ℕ) (lists : List (List Tree)) (begun : ℕ) (s : List ℕ) (ts : List Tree) (last : Last) (b : ℕ) (rest : List ℕ) → is_blank b ≡ true → GoesIn n lists begun s ts last (b ∷ rest) → GoesIn n lists begun (s ++ b ∷ []) ts last rest
+blank_goes : (n : ℕ) (lists : List (List Tree)) (begun : ℕ) (s : List ℕ) (ts : List Tree) (last : Last) (b : ℕ) (rest : List ℕ) → is_value_blank b ≡ true → GoesIn n lists begun s ts last (b ∷ rest) → GoesIn n lists begun (s ++ b ∷ []) ts last rest
 blank_goes n lists begun s ts last b rest h (inl r) =
     let c = begun + items_within (of_items ts) in
     let place : (n + length s) + 1 ≡ n + length (s ++ b ∷ []) = omega (arith, length-append s (b ∷ [])) in
@@ -214,7 +214,7 @@ item_goes_on n lists begun s ts r t rest here f (inr g) = inr (subst IsOver (sym
 item_goes_in : (n : ℕ) (lists : List (List Tree)) (begun : ℕ) (s : List ℕ) (ts : List Tree) (last : Last) (r : List ℕ) (t : Tree) (rest : List ℕ) (b : ℕ) (z : List ℕ) → r ≡ b ∷ z → begins_value b ≡ true → TakesItem last
     → reading n (due lists begun) ((s ++ r) ++ rest) ≡ reading (n + length s) (within lists (begun + items_within (of_items ts)) ts last) (r ++ rest) → Fits lists begun (list (of_items ts))
     → (begun + items_within (of_items ts) < item_limit) ⊎ (item_limit ≤ begun + items_within (of_items ts))
-    → (begun + items_within (of_items ts) + 1 ≤ item_limit → length (ts ∷ lists) ≤ depth_limit → Goes (n + length s) (ts ∷ lists) (begun + items_within (of_items ts) + 1) r t rest) → GoesIn n lists begun (s ++ r) (ts ++ t ∷ []) Item rest
+    → (begun + items_within (of_items ts) + 1 ≤ item_limit → length (ts ∷ lists) ≤ value_depth_limit → Goes (n + length s) (ts ∷ lists) (begun + items_within (of_items ts) + 1) r t rest) → GoesIn n lists begun (s ++ r) (ts ++ t ∷ []) Item rest
 item_goes_in n lists begun s ts last r t rest b z e h k here f (inl room) more =
     let c = begun + items_within (of_items ts) in
     let begins : reading (n + length s) (within lists c ts last) (r ++ rest) ≡ reading (n + length s) (due (ts ∷ lists) (c + 1)) (r ++ rest) =
@@ -227,7 +227,7 @@ item_goes_in n lists begun s ts last r t rest b z e h k here f (inr full) more =
     inr (subst IsOver (sym (here ∙ refusal)) tt, λ w. absurd (omega (arith, w.items, items_more ts t)))
 
 item_goes : (n : ℕ) (lists : List (List Tree)) (begun : ℕ) (s : List ℕ) (ts : List Tree) (last : Last) (r : List ℕ) (t : Tree) (rest : List ℕ) → Spells r t → TakesItem last → GoesIn n lists begun s ts last (r ++ rest)
-    → (begun + items_within (of_items ts) + 1 ≤ item_limit → length (ts ∷ lists) ≤ depth_limit → Goes (n + length s) (ts ∷ lists) (begun + items_within (of_items ts) + 1) r t rest) → GoesIn n lists begun (s ++ r) (ts ++ t ∷ []) Item rest
+    → (begun + items_within (of_items ts) + 1 ≤ item_limit → length (ts ∷ lists) ≤ value_depth_limit → Goes (n + length s) (ts ∷ lists) (begun + items_within (of_items ts) + 1) r t rest) → GoesIn n lists begun (s ++ r) (ts ++ t ∷ []) Item rest
 item_goes n lists begun s ts last r t rest h k (inl q) more =
     let f = first_byte h in
     item_goes_in n lists begun s ts last r t rest f.0 f.1 f.2 f.3 k (ap (reading n (due lists begun)) (append_assoc s r rest) ∙ q.0) q.1 (cases_lt (begun + items_within (of_items ts)) item_limit) more
@@ -248,18 +248,18 @@ any_first Bracket rest k = tt
 any_first Item rest k = absurd k
 any_first Comma rest k = tt
 
-blank_is_no_digit : (b : ℕ) → is_blank b ≡ true → is_ascii_digit b ≡ false
+blank_is_no_digit : (b : ℕ) → is_value_blank b ≡ true → is_ascii_digit b ≡ false
 blank_is_no_digit b h = grind (arith, nat_tests)
 
 mutual
-  pub value_goes : {s : List ℕ} {t : Tree} → Spells s t → (n : ℕ) (lists : List (List Tree)) (begun : ℕ) (rest : List ℕ) → CannotContinue t rest → begun ≤ item_limit → length lists ≤ depth_limit → Goes n lists begun s t rest
+  pub value_goes : {s : List ℕ} {t : Tree} → Spells s t → (n : ℕ) (lists : List (List Tree)) (begun : ℕ) (rest : List ℕ) → CannotContinue t rest → begun ≤ item_limit → length lists ≤ value_depth_limit → Goes n lists begun s t rest
   value_goes (digits ds a) n lists begun rest f k d = digits_go n lists begun ds rest a f k d
   value_goes (minus ds a) n lists begun rest f k d = minus_goes n lists begun ds rest a f k d
   value_goes (word b) n lists begun rest f k d = word_goes n lists begun b rest k d
   value_goes (closed s ts last u c) n lists begun rest f k d = closed_goes n lists begun s ts last rest c (list_goes u n lists begun (62 ∷ rest) (no_digit_first last 62 rest refl) k d)
 
-  list_goes : {s : List ℕ} {ts : List Tree} {last : Last} → Unfinished s ts last → (n : ℕ) (lists : List (List Tree)) (begun : ℕ) (rest : List ℕ) → FollowsPart last rest → begun ≤ item_limit → length lists ≤ depth_limit → GoesIn n lists begun s ts last rest
-  list_goes bracket n lists begun rest f k d = bracket_goes n lists begun rest k (cases_lt (length lists) depth_limit)
+  list_goes : {s : List ℕ} {ts : List Tree} {last : Last} → Unfinished s ts last → (n : ℕ) (lists : List (List Tree)) (begun : ℕ) (rest : List ℕ) → FollowsPart last rest → begun ≤ item_limit → length lists ≤ value_depth_limit → GoesIn n lists begun s ts last rest
+  list_goes bracket n lists begun rest f k d = bracket_goes n lists begun rest k (cases_lt (length lists) value_depth_limit)
   list_goes (blank s ts last b u e) n lists begun rest f k d = blank_goes n lists begun s ts last b rest e (list_goes u n lists begun (b ∷ rest) (no_digit_first last b rest (blank_is_no_digit b e)) k d)
   list_goes (item s ts last r t u c h) n lists begun rest f k d =
       item_goes n lists begun s ts last r t rest h c (list_goes u n lists begun (r ++ rest) (any_first last (r ++ rest) c) k d)

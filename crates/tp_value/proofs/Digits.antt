@@ -10,7 +10,7 @@ use Rattle.tp_value.specs.declared.reading.ReadValue.TheVariants.{NoValue, TooLa
 use Rattle.tp_value.specs.Number.{number_limit, is_within_limit, within_limit}
 use Rattle.tp_value.specs.Tree.{Tree}
 use Rattle.tp_value.specs.Spelling.{AllDigits, with_digit}
-use Rattle.tp_value.specs.Reading.{State, Answer, found, refused, answered, digit_of, continued, started, lengthened, digit_read, carried, step_behind, reading}
+use Rattle.tp_value.specs.Reading.{ReadingState, Answer, found, refused, answered, digit_of, continued, first_move, lengthened, digit_read, carried, step_behind, reading}
 
 -- a refusal for a limit
 abbrev pub IsOver : Answer → Type 0
@@ -56,17 +56,17 @@ digits_grow (b ∷ ds) v = let more = digits_grow ds (with_digit v b) in omega a
 pub digit_is : (b : ℕ) → is_ascii_digit b ≡ true → digit_of b ≡ Some (b - 48)
 digit_is b h = ap (λ c. cond c (Some (b - 48)) None) h
 
-pub digit_starts : (at depth begun b : ℕ) → is_ascii_digit b ≡ true → started at depth begun b ≡ Ok (Go (Digits at false (pos (b - 48))) begun)
+pub digit_starts : (at depth begun b : ℕ) → is_ascii_digit b ≡ true → first_move at depth begun b ≡ Ok (Go (Digits at false (pos (b - 48))) begun)
 digit_starts at depth begun b h = grind (arith, nat_tests)
 
 -- reading within a number
-abbrev pub in_digits : List (List Tree) → ℕ → ℕ → Bool → ℤ → State
+abbrev pub in_digits : List (List Tree) → ℕ → ℕ → Bool → ℤ → ReadingState
 in_digits lists begun begin negative n = record { lists = lists; begun = begun; phase = Digits begin negative n }
 
 pub digit_steps : (n : ℕ) (lists : List (List Tree)) (begun begin : ℕ) (negative : Bool) (m : ℤ) (b : ℕ) (z : List ℕ) (o : Option ℤ) → is_ascii_digit b ≡ true → within_limit (continued negative m (b - 48)) ≡ o
     → reading n (in_digits lists begun begin negative m) (b ∷ z) ≡ answered (carried n (in_digits lists begun begin negative m) (lengthened begun begin negative o)) (λ t. reading (n + 1) t z)
 digit_steps n lists begun begin negative m b z o h e =
-    let s : State = in_digits lists begun begin negative m in
+    let s : ReadingState = in_digits lists begun begin negative m in
     ap (λ x. answered (step_behind n s b x) (λ t. reading (n + 1) t z)) (ap (λ c. cond c None (Some m)) h)
     ∙ ap (λ x. answered (carried n s (digit_read n begun begin negative m x)) (λ t. reading (n + 1) t z)) (digit_is b h)
     ∙ ap (λ x. answered (carried n s (lengthened begun begin negative x)) (λ t. reading (n + 1) t z)) e

@@ -13,7 +13,7 @@ use Rattle.tp_value.specs.Limits.{IsWithinLimits}
 use Rattle.tp_value.specs.Spelling.{Spells, digits, minus, decimal_value}
 use Rattle.tp_value.specs.Written.{text_of}
 use Rattle.tp_value.specs.Reading.{Answer, found, refused, start_state, reading}
-use Rattle.tp_value.specs.Answers.{IsRead, IsNoValue, IsRefused, EndsNumber, CannotContinue, IsReadBack}
+use Rattle.tp_value.specs.Answers.{IsRead, IsNoValue, IsReadRefused, EndsNumber, CannotContinue, IsReadBack}
 use Rattle.tp_value.proofs.Digits.{IsOver}
 use Rattle.tp_value.proofs.Completes.{Fits, Goes, value_goes}
 use Rattle.tp_value.proofs.Longest.{ComesTo, reads_on}
@@ -98,7 +98,7 @@ nothing_stops bytes from at e x = record {
 }
 
 -- what is refused is refused rightly
-pub refused_right : (bytes : List ℕ) (from : ℕ) (e : ReadValue) → from ≤ length bytes → whole bytes from ≡ refused e → IsRefused bytes from e
+pub refused_right : (bytes : List ℕ) (from : ℕ) (e : ReadValue) → from ≤ length bytes → whole bytes from ≡ refused e → IsReadRefused bytes from e
 refused_right bytes from (NoValue at) h e = nothing_stops bytes from at e (right bytes from (refused (NoValue at)) h e)
 refused_right bytes from (TooLarge at) h e = right bytes from (refused (TooLarge at)) h e
 refused_right bytes from (TooLong at) h e = right bytes from (refused (TooLong at)) h e
@@ -124,7 +124,7 @@ pub value_clause : (bytes : List ℕ) (from : ℕ) (r : Result (Value × ℕ) Re
 value_clause bytes from (Ok p) h told = found_read bytes from p.1 (tree p.0) h told
 value_clause bytes from (Err e) h told = tt
 
-pub refused_clause : (bytes : List ℕ) (from : ℕ) (r : Result (Value × ℕ) ReadValue) → from ≤ length bytes → TellsRefusal bytes from r → IfErr r (λ e. IsRefused bytes from e)
+pub refused_clause : (bytes : List ℕ) (from : ℕ) (r : Result (Value × ℕ) ReadValue) → from ≤ length bytes → TellsRefusal bytes from r → IfErr r (λ e. IsReadRefused bytes from e)
 refused_clause bytes from (Ok p) h told = tt
 refused_clause bytes from (Err (NoValue at)) h told = refused_right bytes from (NoValue at) h (told (λ q. absurd (cc)))
 refused_clause bytes from (Err (TooLarge at)) h told = refused_right bytes from (TooLarge at) h (told (λ q. absurd (cc)))

@@ -12,9 +12,9 @@ use Rattle.tp_value.specs.declared.reading.ReadValue.{ReadValue}
 use Rattle.tp_value.specs.declared.reading.ReadValue.TheVariants.{NoValue, TooLarge, TooLong, TooDeep, NoMemory}
 use Rattle.tp_value.specs.Number.{number_limit}
 use Rattle.tp_value.specs.Tree.{Tree, num}
-use Rattle.tp_value.specs.Limits.{item_limit, depth_limit}
-use Rattle.tp_value.specs.Spelling.{is_blank, AreDigits, decimal_value, Spells, item}
-use Rattle.tp_value.specs.Reading.{State, Step, goes, ends, refuses, Answer, found, refused, answered, start_state, begins_value, digit_read, carried, moved, finished, step_behind, then_step, step, at_end, reading}
+use Rattle.tp_value.specs.Limits.{item_limit, value_depth_limit}
+use Rattle.tp_value.specs.Spelling.{is_value_blank, AreDigits, decimal_value, Spells, item}
+use Rattle.tp_value.specs.Reading.{ReadingState, Step, goes, ends, refuses, Answer, found, refused, answered, start_state, begins_value, digit_read, carried, moved, finished, step_behind, then_step, step, at_end, reading}
 use Rattle.tp_value.specs.Answers.{BeginsValue, occurrences, Begun, with_byte, begun_in, IsWithinSoFar, IsTooLarge, IsTooLong, IsTooDeep}
 use Rattle.tp_value.proofs.Digits.{signed, in_digits, a_number}
 use Rattle.tp_value.proofs.Completes.{within}
@@ -24,7 +24,7 @@ use Rattle.tp_value.proofs.Told.{started_told}
 use Rattle.tp_value.proofs.ToldWithin.{within_told, digit_told, letter_told, all_digits}
 
 -- the same counts give the same account
-retold : (from : ℕ) (p : List ℕ) (s t : State) (b : ℕ) (x : Step) → length s.lists ≡ length t.lists → tally s ≡ tally t → Told from p s b x → Told from p t b x
+retold : (from : ℕ) (p : List ℕ) (s t : ReadingState) (b : ℕ) (x : Step) → length s.lists ≡ length t.lists → tally s ≡ tally t → Told from p s b x → Told from p t b x
 retold from p s t b (goes next) same counts r =
     (r.0, record { brackets = ap (λ n. (cond (b == 60) 1 0) + n) (sym same) ∙ r.1.brackets; begun = ap (λ c. with_byte c b) (sym counts) ∙ r.1.begun; small = r.1.small })
 retold from p s t b (ends v after) same counts r = r
@@ -53,12 +53,12 @@ number_told : (from n : ℕ) (q : List ℕ) (lists : List (List Tree)) (begun : 
     → Told from (q ++ (sign negative ++ ds)) (in_digits lists begun (from + length q) negative (signed negative (decimal_value ds))) b (step n (in_digits lists begun (from + length q) negative (signed negative (decimal_value ds))) b)
 number_told from n q lists begun negative ds b true e o a little place small =
     let m = signed negative (decimal_value ds) in
-    let s : State = in_digits lists begun (from + length q) negative m in
+    let s : ReadingState = in_digits lists begun (from + length q) negative m in
     subst (λ (x : Bool). Told from (q ++ (sign negative ++ ds)) s b (step_behind n s b (cond x None (Some m)))) (sym e)
     (digit_told from n (from + length q) q ds lists begun negative (Digits (from + length q) negative m) o (all_digits ds a) refl small refl b e)
 number_told from n q lists begun negative ds b false e o a little place small =
     let m = signed negative (decimal_value ds) in
-    let s : State = in_digits lists begun (from + length q) negative m in
+    let s : ReadingState = in_digits lists begun (from + length q) negative m in
     subst (λ (x : Bool). Told from (q ++ (sign negative ++ ds)) s b (step_behind n s b (cond x None (Some m)))) (sym e)
     (behind_number from n begun (from + length q) negative (sign negative ++ ds) m b o (spells_signed negative ds a) (leaf_room o (num m) refl (a_number negative (decimal_value ds) little)) place small)
 
@@ -66,11 +66,11 @@ minus_told : (from n : ℕ) (q : List ℕ) (lists : List (List Tree)) (begun : �
     → Told from (q ++ sign true) (record { lists = lists; begun = begun; phase = Minus (from + length q) }) b (step n (record { lists = lists; begun = begun; phase = Minus (from + length q) }) b)
 minus_told from n q lists begun b true e o place small = digit_told from n (from + length q) q [] lists begun true (Minus (from + length q)) o tt refl small refl b e
 minus_told from n q lists begun b false e o place small =
-    let s : State = record { lists = lists; begun = begun; phase = Minus (from + length q) } in
+    let s : ReadingState = record { lists = lists; begun = begun; phase = Minus (from + length q) } in
     subst (λ (x : Option ℕ). Told from (q ++ sign true) s b (carried n s (digit_read n begun (from + length q) true (pos 0) x))) (sym (ap (λ x. cond x (Some (b - 48)) None) e)) (place, begins {from = from} (signs q lists begun o))
 
 -- each byte does what is right of the bytes up to it
-pub step_told : (from n : ℕ) (b : ℕ) {p : List ℕ} {s : State} → Stands from p s → n ≡ from + length p → s.begun ≤ item_limit → Told from p s b (step n s b)
+pub step_told : (from n : ℕ) (b : ℕ) {p : List ℕ} {s : ReadingState} → Stands from p s → n ≡ from + length p → s.begun ≤ item_limit → Told from p s b (step n s b)
 step_told from n b at_start place small = started_told from n [] [] 0 0 Start none place (omega arith) b (λ h. refl)
 step_told from n b (part q s lists begun ts last o u r) place small = within_told from n q s lists begun ts o r place small last b u
 step_told from n b (signs q lists begun o) place small = minus_told from n q lists begun b (is_ascii_digit b) refl o place small
@@ -78,7 +78,7 @@ step_told from n b (number q lists begun negative ds o a little) place small = n
 step_told from n b (letters q lists begun w k o short) place small = letter_told from n q lists begun w k o short place small b
 
 -- what was counted so far
-pub record Counts (p : List ℕ) (s : State) : Type 0 where
+pub record Counts (p : List ℕ) (s : ReadingState) : Type 0 where
   pub brackets : occurrences 60 p ≡ occurrences 62 p + length s.lists
   pub begun : begun_in p ≡ tally s
   pub small : s.begun ≤ item_limit
@@ -90,7 +90,7 @@ occurrences_more c (d ∷ p) b = let more = occurrences_more c p b in omega arit
 begun_more : (p : List ℕ) (b : ℕ) → begun_in (p ++ b ∷ []) ≡ with_byte (begun_in p) b
 begun_more p b = fold-append with_byte (record { count = 0; due = false }) p (b ∷ [])
 
-counts_more : (p : List ℕ) (s t : State) (b : ℕ) → Counts p s → Tallied s b t → Counts (p ++ b ∷ []) t
+counts_more : (p : List ℕ) (s t : ReadingState) (b : ℕ) → Counts p s → Tallied s b t → Counts (p ++ b ∷ []) t
 counts_more p s t b c x = record {
   brackets = omega (arith, occurrences_more 60 p b, occurrences_more 62 p b, c.brackets, x.brackets);
   begun = begun_more p b ∙ ap (λ y. with_byte y b) c.begun ∙ x.begun;
@@ -138,7 +138,7 @@ byte_grows : (s : Begun) (b : ℕ) → s.count ≤ (with_byte s b).count
 byte_grows s b =
     let whole : Begun = record { count = cond (s.due && begins_value b) (s.count + 1) s.count; due = b == 60 || b == 44 } in
     let grown : s.count ≤ whole.count = by_bool (s.due && begins_value b) (λ c. s.count ≤ cond c (s.count + 1) s.count) (omega arith) (omega arith) in
-    by_bool (is_blank b) (λ c. s.count ≤ (cond c s whole).count) (omega arith) grown
+    by_bool (is_value_blank b) (λ c. s.count ≤ (cond c s whole).count) (omega arith) grown
 
 begun_grows : (z : List ℕ) (s : Begun) → s.count ≤ (fold with_byte s z).count
 begun_grows [] s = omega arith
@@ -156,7 +156,7 @@ rest_is bytes from at text rest e place = ap (λ n. drop n bytes) place ∙ both
     both : drop (from + length text) bytes ≡ drop (length text) (drop from bytes)
     both = grind (arith, drop-drop)
 
-module _ (bytes : List ℕ) (from n : ℕ) (p : List ℕ) (s : State) (b : ℕ) (z : List ℕ) (within_bytes : from ≤ length bytes) (split : drop from bytes ≡ p ++ (b ∷ z)) (at_n : n ≡ from + length p) (counts : Counts p s) where
+module _ (bytes : List ℕ) (from n : ℕ) (p : List ℕ) (s : ReadingState) (b : ℕ) (z : List ℕ) (within_bytes : from ≤ length bytes) (split : drop from bytes ≡ p ++ (b ∷ z)) (at_n : n ≡ from + length p) (counts : Counts p s) where
   longer : drop from bytes ≡ (p ++ b ∷ []) ++ z
   longer = split ∙ sym (append_assoc p (b ∷ []) z)
 
@@ -226,7 +226,7 @@ module _ (bytes : List ℕ) (from n : ℕ) (p : List ℕ) (s : State) (b : ℕ) 
         so_far = until x.so_far;
         goes_on = subst BeginsValue (sym behind) x.goes_on;
         bracket = index_is bytes n b z (rest_is bytes from n p (b ∷ z) split at_n) ∙ x.bracket;
-        open_lists = ap (occurrences 60) before ∙ counts.brackets ∙ ap (λ k. occurrences 62 p + k) x.depth ∙ ap (λ y. occurrences 62 y + depth_limit) (sym before);
+        open_lists = ap (occurrences 60) before ∙ counts.brackets ∙ ap (λ k. occurrences 62 p + k) x.depth ∙ ap (λ y. occurrences 62 y + value_depth_limit) (sym before);
         items = subst (λ (c : Begun). c.count ≤ item_limit) (sym counted_behind) x.count;
       })
 
@@ -259,7 +259,7 @@ ended_right bytes from all z t after h e x =
     }
 
 -- the end of the bytes
-end_none : (bytes : List ℕ) (from n : ℕ) (p : List ℕ) {s : State} → from ≤ length bytes → drop from bytes ≡ p ++ [] → n ≡ from + length p → Counts p s → Stands from p s → Right bytes from (refused (NoValue n))
+end_none : (bytes : List ℕ) (from n : ℕ) (p : List ℕ) {s : ReadingState} → from ≤ length bytes → drop from bytes ≡ p ++ [] → n ≡ from + length p → Counts p s → Stands from p s → Right bytes from (refused (NoValue n))
 end_none bytes from n p h e place c st =
     let whole = range_inside bytes from n p [] h e place in
     record {
@@ -274,7 +274,7 @@ end_number : (bytes : List ℕ) (from n : ℕ) (q text : List ℕ) {lists : List
 end_number bytes from n q text begun begin negative m none h w e place r = ended_right bytes from text [] (num m) n w e (record { text = text; rest = []; split = sym (append-nil text); spelled = h; place = place })
 end_number bytes from n q text begun begin negative m (inner p lists s ts last o u k room) h w e place r = r
 
-end_right : (bytes : List ℕ) (from n : ℕ) {p : List ℕ} {s : State} → from ≤ length bytes → drop from bytes ≡ p ++ [] → n ≡ from + length p → Counts p s → Stands from p s → Right bytes from (at_end n s)
+end_right : (bytes : List ℕ) (from n : ℕ) {p : List ℕ} {s : ReadingState} → from ≤ length bytes → drop from bytes ≡ p ++ [] → n ≡ from + length p → Counts p s → Stands from p s → Right bytes from (at_end n s)
 end_right bytes from n h e place c at_start = end_none bytes from n [] h e place c at_start
 end_right bytes from n h e place c (part q s lists begun ts last o u r) = end_none bytes from n (q ++ s) h e place c (part q s lists begun ts last o u r)
 end_right bytes from n h e place c (signs q lists begun o) = end_none bytes from n _ h e place c (signs q lists begun o)
@@ -282,16 +282,16 @@ end_right bytes from n h e place c (number q lists begun negative ds o a little)
     end_number bytes from n q (sign negative ++ ds) begun (from + length q) negative (signed negative (decimal_value ds)) o (spells_signed negative ds a) h e place (end_none bytes from n _ h e place c (number q lists begun negative ds o a little))
 end_right bytes from n h e place c (letters q lists begun w k o short) = end_none bytes from n _ h e place c (letters q lists begun w k o short)
 
-after_step : (bytes : List ℕ) (from : ℕ) → from ≤ length bytes → (n : ℕ) (p : List ℕ) (s : State) (b : ℕ) (z : List ℕ) → drop from bytes ≡ p ++ (b ∷ z) → n ≡ from + length p → Counts p s → (x : Step) → Told from p s b x
+after_step : (bytes : List ℕ) (from : ℕ) → from ≤ length bytes → (n : ℕ) (p : List ℕ) (s : ReadingState) (b : ℕ) (z : List ℕ) → drop from bytes ≡ p ++ (b ∷ z) → n ≡ from + length p → Counts p s → (x : Step) → Told from p s b x
     → ((rest : List ℕ) → reading from start_state ((p ++ b ∷ []) ++ rest) ≡ answered x (λ t. reading (n + 1) t rest))
-    → ((t : State) → drop from bytes ≡ (p ++ b ∷ []) ++ z → Stands from (p ++ b ∷ []) t → Counts (p ++ b ∷ []) t → ((rest : List ℕ) → reading from start_state ((p ++ b ∷ []) ++ rest) ≡ reading (n + 1) t rest) → Right bytes from (reading (n + 1) t z))
+    → ((t : ReadingState) → drop from bytes ≡ (p ++ b ∷ []) ++ z → Stands from (p ++ b ∷ []) t → Counts (p ++ b ∷ []) t → ((rest : List ℕ) → reading from start_state ((p ++ b ∷ []) ++ rest) ≡ reading (n + 1) t rest) → Right bytes from (reading (n + 1) t z))
     → Right bytes from (answered x (λ t. reading (n + 1) t z))
 after_step bytes from h n p s b z e place c (goes t) told reached more = more t (e ∙ sym (append_assoc p (b ∷ []) z)) told.0 (counts_more p s t b c told.1) reached
 after_step bytes from h n p s b z e place c (ends t after) told reached more = ended_right bytes from (p ++ b ∷ []) z t after h (e ∙ sym (append_assoc p (b ∷ []) z)) told
 after_step bytes from h n p s b z e place c (refuses r) told reached more = refusal_right bytes from n p s b z h e place c r told reached
 
 -- the rest of the bytes, where reading has come to a state
-pub reading_right : (bytes : List ℕ) (from : ℕ) → from ≤ length bytes → (z : List ℕ) (n : ℕ) (p : List ℕ) (s : State) → drop from bytes ≡ p ++ z → n ≡ from + length p → Stands from p s → Counts p s
+pub reading_right : (bytes : List ℕ) (from : ℕ) → from ≤ length bytes → (z : List ℕ) (n : ℕ) (p : List ℕ) (s : ReadingState) → drop from bytes ≡ p ++ z → n ≡ from + length p → Stands from p s → Counts p s
     → ((rest : List ℕ) → reading from start_state (p ++ rest) ≡ reading n s rest) → Right bytes from (reading n s z)
 reading_right bytes from h [] n p s e place st c reached = end_right bytes from n h e place c st
 reading_right bytes from h (b ∷ z) n p s e place st c reached =

@@ -10,9 +10,9 @@ use Rattle.tp_value.specs.declared.reading.ReadValue.{ReadValue}
 use Rattle.tp_value.specs.declared.reading.ReadValue.TheVariants.{NoValue, TooLarge, TooLong, TooDeep, NoMemory}
 use Rattle.tp_value.specs.Number.{IsNumber}
 use Rattle.tp_value.specs.Tree.{Tree, num}
-use Rattle.tp_value.specs.Limits.{item_limit, depth_limit}
-use Rattle.tp_value.specs.Spelling.{is_blank, spelling, Spells}
-use Rattle.tp_value.specs.Reading.{State, Step, goes, ends, refuses, begins_value}
+use Rattle.tp_value.specs.Limits.{item_limit, value_depth_limit}
+use Rattle.tp_value.specs.Spelling.{is_value_blank, spelling, Spells}
+use Rattle.tp_value.specs.Reading.{ReadingState, Step, goes, ends, refuses, begins_value}
 use Rattle.tp_value.specs.Answers.{BeginsValue, Begun, with_byte, begun_in}
 use Rattle.tp_value.proofs.Stands.{Stands, Begins}
 
@@ -26,17 +26,17 @@ due_of (Minus begin) = false
 due_of (Digits begin negative n) = false
 due_of (InWord b k) = false
 
-abbrev pub tally : State → Begun
+abbrev pub tally : ReadingState → Begun
 tally s = record { count = s.begun; due = due_of s.phase }
 
 -- what is counted changes by one byte
-pub record Tallied (s : State) (b : ℕ) (t : State) : Type 0 where
+pub record Tallied (s : ReadingState) (b : ℕ) (t : ReadingState) : Type 0 where
   pub brackets : (cond (b == 60) 1 0) + length s.lists ≡ (cond (b == 62) 1 0) + length t.lists
   pub begun : with_byte (tally s) b ≡ tally t
   pub small : t.begun ≤ item_limit
 
 -- a number past the limit
-pub record IsLarge (from : ℕ) (p : List ℕ) (s : State) (b at : ℕ) : Type 0 where
+pub record IsLarge (from : ℕ) (p : List ℕ) (s : ReadingState) (b at : ℕ) : Type 0 where
   pub front : List ℕ
   pub text : List ℕ
   pub number : ℤ
@@ -49,22 +49,22 @@ pub record IsLarge (from : ℕ) (p : List ℕ) (s : State) (b at : ℕ) : Type 0
   pub goes_on : BeginsValue (front ++ text)
   pub count : (with_byte (tally s) b).count ≤ item_limit
 
-pub record IsLong (from : ℕ) (p : List ℕ) (s : State) (b at : ℕ) : Type 0 where
+pub record IsLong (from : ℕ) (p : List ℕ) (s : ReadingState) (b at : ℕ) : Type 0 where
   pub place : at ≡ from + length p
   pub so_far : Begins p
   pub goes_on : BeginsValue (p ++ b ∷ [])
   pub count : (with_byte (tally s) b).count ≡ item_limit + 1
 
-pub record IsDeep (from : ℕ) (p : List ℕ) (s : State) (b at : ℕ) : Type 0 where
+pub record IsDeep (from : ℕ) (p : List ℕ) (s : ReadingState) (b at : ℕ) : Type 0 where
   pub place : at ≡ from + length p
   pub so_far : Begins p
   pub goes_on : BeginsValue (p ++ b ∷ [])
   pub bracket : b ≡ 60
-  pub depth : length s.lists ≡ depth_limit
+  pub depth : length s.lists ≡ value_depth_limit
   pub count : (with_byte (tally s) b).count ≤ item_limit
 
 -- why a byte is refused
-abbrev pub Refuses : ℕ → List ℕ → State → ℕ → ReadValue → Type 0
+abbrev pub Refuses : ℕ → List ℕ → ReadingState → ℕ → ReadValue → Type 0
 Refuses from p s b (NoValue at) = (at ≡ from + length p) × Begins p
 Refuses from p s b (TooLarge at) = IsLarge from p s b at
 Refuses from p s b (TooLong at) = IsLong from p s b at
@@ -80,7 +80,7 @@ pub record Ended (from : ℕ) (all : List ℕ) (t : Tree) (after : ℕ) : Type 0
   pub place : after ≡ from + length text
 
 -- what one byte does is right
-abbrev pub Told : ℕ → List ℕ → State → ℕ → Step → Type 0
+abbrev pub Told : ℕ → List ℕ → ReadingState → ℕ → Step → Type 0
 Told from p s b (goes t) = Stands from (p ++ b ∷ []) t × Tallied s b t
 Told from p s b (ends t after) = Ended from (p ++ b ∷ []) t after
 Told from p s b (refuses e) = Refuses from p s b e
@@ -94,7 +94,7 @@ pub record Plain (b : ℕ) : Type 0 where
   pub opens : (b == 60) ≡ false
   pub closes : (b == 62) ≡ false
   pub comma : (b == 44) ≡ false
-  pub blank : is_blank b ≡ false
+  pub blank : is_value_blank b ≡ false
 
 pub digit_plain : (b : ℕ) → is_ascii_digit b ≡ true → Plain b
 digit_plain b h = record { opens = grind (arith, nat_tests); closes = grind (arith, nat_tests); comma = grind (arith, nat_tests); blank = grind (arith, nat_tests) }
@@ -117,7 +117,7 @@ plain_byte s b p =
     let count = cond (s.due && begins_value b) (s.count + 1) s.count in
     ap (λ c. cond c s (record { count = count; due = b == 60 || b == 44 })) p.blank ∙ ap (λ d. record { count = count; due = d || b == 44 }) p.opens ∙ ap (λ d. record { count = count; due = d }) p.comma
 
-pub plain_tallied : (s t : State) (b : ℕ) → Plain b → length s.lists ≡ length t.lists → cond (due_of s.phase && begins_value b) (s.begun + 1) s.begun ≡ t.begun → due_of t.phase ≡ false → t.begun ≤ item_limit → Tallied s b t
+pub plain_tallied : (s t : ReadingState) (b : ℕ) → Plain b → length s.lists ≡ length t.lists → cond (due_of s.phase && begins_value b) (s.begun + 1) s.begun ≡ t.begun → due_of t.phase ≡ false → t.begun ≤ item_limit → Tallied s b t
 plain_tallied s t b p same count due small = record {
   brackets = ap (λ c. (cond c 1 0) + length s.lists) p.opens ∙ ap (λ n. 0 + n) same ∙ ap (λ c. (cond c 1 0) + length t.lists) (sym p.closes);
   begun = plain_byte (tally s) b p ∙ ap (λ n. record { count = n; due = false }) count ∙ ap (λ d. record { count = t.begun; due = d }) (sym due);

@@ -7,15 +7,15 @@ use Rattle.tp_value.specs.declared.scan.Last.TheVariants.{Bracket, Item, Comma}
 use Rattle.tp_value.specs.declared.scan.Phase.TheVariants.{Minus, Word as InWord}
 use Rattle.tp_value.specs.Number.{number_limit}
 use Rattle.tp_value.specs.Tree.{Tree, num, truth, list, of_items}
-use Rattle.tp_value.specs.Limits.{depth_limit, depth_of, HasNumbers}
+use Rattle.tp_value.specs.Limits.{value_depth_limit, depth_of, HasNumbers}
 use Rattle.tp_value.specs.Spelling.{AreDigits, decimal_value, spelling, TakesItem, Spells, digits, minus, word, closed, Unfinished, item}
-use Rattle.tp_value.specs.Reading.{State, start_state}
+use Rattle.tp_value.specs.Reading.{ReadingState, start_state}
 use Rattle.tp_value.proofs.Digits.{signed, in_digits, a_number}
 use Rattle.tp_value.proofs.Completes.{within, depth_more, numbers_more}
 
 -- there is room for the value where these lists are open
 pub record Room (lists : List (List Tree)) (t : Tree) : Type 0 where
-  pub depth : length lists + depth_of t ≤ depth_limit
+  pub depth : length lists + depth_of t ≤ value_depth_limit
   pub numbers : HasNumbers t
 
 -- the bytes are those of open lists in each of which an item is due
@@ -28,7 +28,7 @@ sign true = codes "-"
 sign false = []
 
 -- the bytes lead to the state; `from` is the place of the first
-pub data Stands (from : ℕ) : List ℕ → State → Type 0 where
+pub data Stands (from : ℕ) : List ℕ → ReadingState → Type 0 where
   at_start : Stands from [] start_state
   part : (q s : List ℕ) (lists : List (List Tree)) (begun : ℕ) (ts : List Tree) (last : Last) → Outer q lists → Unfinished s ts last → Room lists (list (of_items ts)) → Stands from (q ++ s) (within lists begun ts last)
   signs : (q : List ℕ) (lists : List (List Tree)) (begun : ℕ) → Outer q lists → Stands from (q ++ codes "-") (record { lists = lists; begun = begun; phase = Minus (from + length q) })
@@ -36,7 +36,7 @@ pub data Stands (from : ℕ) : List ℕ → State → Type 0 where
       → Stands from (q ++ (sign negative ++ ds)) (in_digits lists begun (from + length q) negative (signed negative (decimal_value ds)))
   letters : (q : List ℕ) (lists : List (List Tree)) (begun : ℕ) (b : Bool) (k : ℕ) → Outer q lists → k < length (spelling b) → Stands from (q ++ take k (spelling b)) (record { lists = lists; begun = begun; phase = InWord b k })
 
-pub outer_depth : {q : List ℕ} {lists : List (List Tree)} → Outer q lists → length lists ≤ depth_limit
+pub outer_depth : {q : List ℕ} {lists : List (List Tree)} → Outer q lists → length lists ≤ value_depth_limit
 outer_depth none = omega arith
 outer_depth (inner q lists s ts last o u k r) = omega (arith, r.depth)
 
@@ -67,7 +67,7 @@ pub record Begins (p : List ℕ) : Type 0 where
   pub rest : List ℕ
   pub value : Tree
   pub spelled : Spells (p ++ rest) value
-  pub depth : depth_of value ≤ depth_limit
+  pub depth : depth_of value ≤ value_depth_limit
   pub numbers : HasNumbers value
 
 begins_by : (p q s r : List ℕ) (lists : List (List Tree)) (t : Tree) → p ++ r ≡ q ++ s → Room lists t → Completed q s lists t → Begins p
@@ -110,7 +110,7 @@ word_split : (b : Bool) (k : ℕ) → take k (spelling b) ++ drop k (spelling b)
 word_split b k = take-append-drop k (spelling b)
 
 -- where bytes lead to a state, they begin a value
-pub begins : {from : ℕ} {p : List ℕ} {s : State} → Stands from p s → Begins p
+pub begins : {from : ℕ} {p : List ℕ} {s : ReadingState} → Stands from p s → Begins p
 begins at_start = record { rest = codes "0"; value = num (pos 0); spelled = zero_text; depth = omega arith; numbers = refl }
 begins (part q s lists begun ts last o u r) =
     let c = list_closes s lists ts last u r (record { depth = omega (arith, r.depth); numbers = refl }) in

@@ -13,9 +13,9 @@ use Rattle.tp_value.specs.declared.reading.ReadValue.{ReadValue}
 use Rattle.tp_value.specs.declared.reading.ReadValue.TheVariants.{NoValue, TooDeep}
 use Rattle.tp_value.specs.Number.{number_limit}
 use Rattle.tp_value.specs.Tree.{Tree, list, nil}
-use Rattle.tp_value.specs.Limits.{item_limit, depth_limit}
+use Rattle.tp_value.specs.Limits.{item_limit, value_depth_limit}
 use Rattle.tp_value.specs.Spelling.{with_digit, Spells, closed, bracket}
-use Rattle.tp_value.specs.Reading.{State, begins_value, digit_of, number_started, started, carried}
+use Rattle.tp_value.specs.Reading.{ReadingState, begins_value, digit_of, number_started, first_move, carried}
 use Rattle.tp_value.specs.Answers.{BeginsValue}
 use Rattle.tp_value.proofs.Digits.{in_digits, digit_is}
 use Rattle.tp_value.proofs.Completes.{digit_begins}
@@ -34,15 +34,15 @@ outer_begins {q = q} b z t o h =
     (z ++ c.rest, c.value, subst (λ (y : List ℕ). Spells y c.value) shape c.spelled)
 
 module _ (from n : ℕ) (q : List ℕ) (lists : List (List Tree)) (begun more : ℕ) (phase : Phase) (o : Outer q lists) (place : n ≡ from + length q) (small : more ≤ item_limit) where
-  abbrev here : State
+  abbrev here : ReadingState
   here = record { lists = lists; begun = begun; phase = phase }
 
   abbrev Right : ℕ → Result Move ReadValue → Type 0
   Right b m = Told from q here b (carried n here m)
 
   -- a list opens
-  opens : counted phase begun 60 ≡ more → Right 60 (cond (nat_lt (length lists) depth_limit) (Ok (Open more)) (Err (TooDeep n)))
-  opens count = by_test (Right 60) (nat_lt (length lists) depth_limit) _ _
+  opens : counted phase begun 60 ≡ more → Right 60 (cond (nat_lt (length lists) value_depth_limit) (Ok (Open more)) (Err (TooDeep n)))
+  opens count = by_test (Right 60) (nat_lt (length lists) value_depth_limit) _ _
       (λ e. (
         part q (codes "<") lists more [] Bracket o bracket (record { depth = grind (arith, nat_tests); numbers = tt }),
         record { brackets = omega arith; begun = ap (λ c. record { count = c; due = true }) count; small = small },
@@ -82,9 +82,9 @@ module _ (from n : ℕ) (q : List ℕ) (lists : List (List Tree)) (begun more : 
   nothing_begins b = (place, begins_outer o)
 
   -- the first byte of a value
-  pub started_told : (b : ℕ) → (begins_value b ≡ true → counted phase begun b ≡ more) → Right b (started n (length lists) more b)
+  pub started_told : (b : ℕ) → (begins_value b ≡ true → counted phase begun b ≡ more) → Right b (first_move n (length lists) more b)
   started_told b count =
-      by_test (Right b) (b == 60) _ _ (λ e. subst (λ (c : ℕ). Right c (cond (nat_lt (length lists) depth_limit) (Ok (Open more)) (Err (TooDeep n)))) (sym (eqb-true b 60 e)) (opens (at_byte 60 e refl)))
+      by_test (Right b) (b == 60) _ _ (λ e. subst (λ (c : ℕ). Right c (cond (nat_lt (length lists) value_depth_limit) (Ok (Open more)) (Err (TooDeep n)))) (sym (eqb-true b 60 e)) (opens (at_byte 60 e refl)))
       (λ _. by_test (Right b) (b == 45) _ _ (λ e. subst (λ (c : ℕ). Right c (Ok (Go (Minus n) more))) (sym (eqb-true b 45 e)) (minus_begins (at_byte 45 e refl)))
       (λ _. by_test (Right b) (b == 116) _ _ (λ e. subst (λ (c : ℕ). Right c (Ok (Go (InWord true 1) more))) (sym (eqb-true b 116 e)) (true_begins (at_byte 116 e refl)))
       (λ _. by_test (Right b) (b == 102) _ _ (λ e. subst (λ (c : ℕ). Right c (Ok (Go (InWord false 1) more))) (sym (eqb-true b 102 e)) (false_begins (at_byte 102 e refl)))

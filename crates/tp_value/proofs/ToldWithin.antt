@@ -18,8 +18,8 @@ use Rattle.tp_value.specs.declared.reading.ReadValue.TheVariants.{NoValue}
 use Rattle.tp_value.specs.Number.{number_limit, within_limit}
 use Rattle.tp_value.specs.Tree.{Tree, num, truth, list, nil, of_items}
 use Rattle.tp_value.specs.Limits.{item_limit}
-use Rattle.tp_value.specs.Spelling.{is_blank, AllDigits, AreDigits, with_digit, decimal_value, spelling, CanClose, TakesItem, Spells, digits, minus, word, closed, Unfinished, bracket, blank, item, comma}
-use Rattle.tp_value.specs.Reading.{State, begins_value, item_started, within_list, digits_go_on, digit_read, lengthened, letters_go_on, carried, finished}
+use Rattle.tp_value.specs.Spelling.{is_value_blank, AllDigits, AreDigits, with_digit, decimal_value, spelling, CanClose, TakesItem, Spells, digits, minus, word, closed, Unfinished, bracket, blank, item, comma}
+use Rattle.tp_value.specs.Reading.{ReadingState, begins_value, item_started, within_list, digits_go_on, digit_read, lengthened, letters_go_on, carried, finished}
 use Rattle.tp_value.specs.Answers.{Begun, with_byte, begun_in}
 use Rattle.tp_value.proofs.Digits.{signed, in_digits, no_number, continued_signed, signed_small, signed_large, digit_is}
 use Rattle.tp_value.proofs.Completes.{within}
@@ -28,12 +28,12 @@ use Rattle.tp_value.proofs.Sound.{due_of, tally, Tallied, Told, by_test, digit_p
 use Rattle.tp_value.proofs.Told.{started_told, outer_begins}
 
 -- a value that ends
-pub finished_told : (from : ℕ) (p : List ℕ) (b : ℕ) (s : State) {q : List ℕ} {lists : List (List Tree)} (text : List ℕ) (t : Tree) (begun after : ℕ) → Outer q lists → Spells text t → Room lists t → p ++ b ∷ [] ≡ q ++ text
+pub finished_told : (from : ℕ) (p : List ℕ) (b : ℕ) (s : ReadingState) {q : List ℕ} {lists : List (List Tree)} (text : List ℕ) (t : Tree) (begun after : ℕ) → Outer q lists → Spells text t → Room lists t → p ++ b ∷ [] ≡ q ++ text
     → after ≡ from + length (q ++ text) → ((ts : List Tree) (ls : List (List Tree)) → lists ≡ ts ∷ ls → Tallied s b (within ls begun (ts ++ t ∷ []) Item)) → Told from p s b (finished lists begun t after)
 finished_told from p b s text t begun after none h room e place tallied = record { text = text; rest = []; split = e ∙ sym (append-nil text); spelled = h; place = place }
 finished_told from p b s text t begun after (inner q lists s0 ts last o u k r) h room e place tallied =
     let shape : q ++ (s0 ++ text) ≡ p ++ b ∷ [] = sym (append_assoc q s0 text) ∙ sym e in
-    let next : State = within lists begun (ts ++ t ∷ []) Item in
+    let next : ReadingState = within lists begun (ts ++ t ∷ []) Item in
     (subst (λ (z : List ℕ). Stands from z next) shape (part q (s0 ++ text) lists begun (ts ++ t ∷ []) Item o (item s0 ts last text t u k h) (room_more lists ts t r room)), tallied ts lists refl)
 
 cases_bool : {X : Type 0} (c : Bool) → (c ≡ true → X) → (c ≡ false → X) → X
@@ -60,9 +60,9 @@ module _ (from n : ℕ) (q s : List ℕ) (lists : List (List Tree)) (begun : ℕ
   abbrev RightIn : Last → ℕ → Result Move ReadValue → Type 0
   RightIn last b m = Told from (q ++ s) (within lists begun ts last) b (carried n (within lists begun ts last) m)
 
-  blank_told : (last : Last) (b : ℕ) → Unfinished s ts last → is_blank b ≡ true → RightIn last b (Ok (Go (Between last) begun))
+  blank_told : (last : Last) (b : ℕ) → Unfinished s ts last → is_value_blank b ≡ true → RightIn last b (Ok (Go (Between last) begun))
   blank_told last b u e =
-      let same : State = within lists begun ts last in (
+      let same : ReadingState = within lists begun ts last in (
         subst (λ (z : List ℕ). Stands from z same) (sym (append_assoc q s (b ∷ []))) (part q (s ++ b ∷ []) lists begun ts last o (blank s ts last b u e) r),
         record { brackets = grind (arith, nat_tests); begun = ap (λ c. cond c (tally same) (record { count = cond (due_of (Between last) && begins_value b) (begun + 1) begun; due = b == 60 || b == 44 })) e; small = small },
       )
@@ -96,15 +96,15 @@ module _ (from n : ℕ) (q s : List ℕ) (lists : List (List Tree)) (begun : ℕ
 
   pub within_told : (last : Last) (b : ℕ) → Unfinished s ts last → RightIn last b (within_list n (length (ts ∷ lists)) begun last b)
   within_told Bracket b u =
-      by_test (RightIn Bracket b) (is_blank b) _ _ (blank_told Bracket b u)
+      by_test (RightIn Bracket b) (is_value_blank b) _ _ (blank_told Bracket b u)
       (λ _. by_test (RightIn Bracket b) (b == 44) _ _ (λ _. nothing_told Bracket b u)
       (λ _. by_test (RightIn Bracket b) (b == 62) _ _ (λ e. subst (λ (c : ℕ). RightIn Bracket c (Ok Close)) (sym (eqb-true b 62 e)) (close_told Bracket u tt refl)) (λ _. item_told Bracket b u tt refl)))
   within_told Item b u =
-      by_test (RightIn Item b) (is_blank b) _ _ (blank_told Item b u)
+      by_test (RightIn Item b) (is_value_blank b) _ _ (blank_told Item b u)
       (λ _. by_test (RightIn Item b) (b == 44) _ _ (λ e. subst (λ (c : ℕ). RightIn Item c (Ok (Go (Between Comma) begun))) (sym (eqb-true b 44 e)) (comma_told u))
       (λ _. by_test (RightIn Item b) (b == 62) _ _ (λ e. subst (λ (c : ℕ). RightIn Item c (Ok Close)) (sym (eqb-true b 62 e)) (close_told Item u tt refl)) (λ _. nothing_told Item b u)))
   within_told Comma b u =
-      by_test (RightIn Comma b) (is_blank b) _ _ (blank_told Comma b u)
+      by_test (RightIn Comma b) (is_value_blank b) _ _ (blank_told Comma b u)
       (λ _. by_test (RightIn Comma b) (b == 44) _ _ (λ _. nothing_told Comma b u)
       (λ _. by_test (RightIn Comma b) (b == 62) _ _ (λ _. nothing_told Comma b u) (λ _. item_told Comma b u tt refl)))
 
@@ -160,7 +160,7 @@ value_more ds b = fold-append with_digit 0 ds (b ∷ [])
 
 module _ (from n begin : ℕ) (q ds : List ℕ) (lists : List (List Tree)) (begun : ℕ) (negative : Bool) (phase : Phase) (o : Outer q lists) (a : AllDigits ds) (begins_at : begin ≡ from + length q) (small : begun ≤ item_limit)
     (none_due : due_of phase ≡ false) where
-  abbrev at_digits : State
+  abbrev at_digits : ReadingState
   at_digits = record { lists = lists; begun = begun; phase = phase }
 
   abbrev RightDigits : ℕ → Result Move ReadValue → Type 0
@@ -202,7 +202,7 @@ module _ (from n begin : ℕ) (q ds : List ℕ) (lists : List (List Tree)) (begu
             count = subst (λ (k : ℕ). k ≤ item_limit) (sym (ap (λ (x : Begun). x.count) (plain_byte (tally at_digits) b (digit_plain b h)) ∙ not_counted b)) small;
           })
       by_size (inr little) read value are =
-          let next : ℕ → State = λ k. in_digits lists begun begin negative (signed negative k) in
+          let next : ℕ → ReadingState = λ k. in_digits lists begun begin negative (signed negative k) in
           let stands : Stands from (q ++ (sign negative ++ (ds ++ b ∷ []))) (in_digits lists begun (from + length q) negative (signed negative (decimal_value (ds ++ b ∷ [])))) =
           number q lists begun negative (ds ++ b ∷ []) o are (subst (λ (k : ℕ). k ≤ number_limit) (sym value) little) in
           let placed : Stands from (q ++ (sign negative ++ (ds ++ b ∷ []))) (next (decimal_value (ds ++ b ∷ []))) =
@@ -222,7 +222,7 @@ take_more (x ∷ xs) (suc k) h =
     ap (λ z. x ∷ z) (take_more xs k (omega arith)) ∙ ap (λ m. take m (x ∷ xs)) (sym next)
 
 module _ (from n : ℕ) (q : List ℕ) (lists : List (List Tree)) (begun : ℕ) (w : Bool) (k : ℕ) (o : Outer q lists) (short : k < length (spelling w)) (place : n ≡ from + length (q ++ take k (spelling w))) (small : begun ≤ item_limit) where
-  abbrev at_letters : State
+  abbrev at_letters : ReadingState
   at_letters = record { lists = lists; begun = begun; phase = InWord w k }
 
   abbrev RightLetters : ℕ → Result Move ReadValue → Type 0
@@ -242,7 +242,7 @@ module _ (from n : ℕ) (q : List ℕ) (lists : List (List Tree)) (begun : ℕ) 
   next_letter : (k + 1 == length (spelling w)) ≡ false → RightLetters (slice_index (spelling w) k) (Ok (Go (InWord w (k + 1)) begun))
   next_letter e =
       let longer : k + 1 < length (spelling w) = grind (arith, nat_tests) in
-      let next : State = record { lists = lists; begun = begun; phase = InWord w (k + 1) } in (
+      let next : ReadingState = record { lists = lists; begun = begun; phase = InWord w (k + 1) } in (
         subst (λ (z : List ℕ). Stands from z next) (sym with_letter) (letters q lists begun w (k + 1) o longer),
         plain_tallied at_letters next (slice_index (spelling w) k) (letter_plain w k short) refl refl refl small,
       )

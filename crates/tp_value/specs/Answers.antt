@@ -7,8 +7,8 @@ use Rattle.tp_value.specs.declared.value.Value.{Value}
 use Rattle.tp_value.specs.Number.{IsNumber}
 use Rattle.tp_value.specs.Read.{tree}
 use Rattle.tp_value.specs.Tree.{Tree, num, truth, list}
-use Rattle.tp_value.specs.Limits.{item_limit, depth_limit, depth_of, HasNumbers, IsWithinLimits}
-use Rattle.tp_value.specs.Spelling.{is_blank, Spells}
+use Rattle.tp_value.specs.Limits.{item_limit, value_depth_limit, depth_of, HasNumbers, IsWithinLimits}
+use Rattle.tp_value.specs.Spelling.{is_value_blank, Spells}
 use Rattle.tp_value.specs.Reading.{begins_value}
 
 -- the bytes begin the text of a value
@@ -28,7 +28,7 @@ pub record Begun : Type 0 where
 -- the same with one byte more
 abbrev pub with_byte : Begun → ℕ → Begun
 with_byte s b =
-    if is_blank b then s
+    if is_value_blank b then s
     else record { count = (if s.due && begins_value b then s.count + 1 else s.count); due = b == 60 || b == 44 }
 
 -- what has begun in some bytes
@@ -41,7 +41,7 @@ pub record IsWithinSoFar (p : List ℕ) : Type 0 where
   pub rest : List ℕ
   pub value : Tree
   pub spelled : Spells (p ++ rest) value
-  pub depth : depth_of value ≤ depth_limit
+  pub depth : depth_of value ≤ value_depth_limit
   pub numbers : HasNumbers value
   pub items : (begun_in p).count ≤ item_limit
 
@@ -88,16 +88,16 @@ pub record IsTooDeep (bytes : List ℕ) (from at : ℕ) : Type 0 where
   pub so_far : IsWithinSoFar (slice_range bytes from at)
   pub goes_on : BeginsValue (slice_range bytes from (at + 1))
   pub bracket : slice_index bytes at ≡ 60
-  pub open_lists : occurrences 60 (slice_range bytes from at) ≡ occurrences 62 (slice_range bytes from at) + depth_limit
+  pub open_lists : occurrences 60 (slice_range bytes from at) ≡ occurrences 62 (slice_range bytes from at) + value_depth_limit
   pub items : (begun_in (slice_range bytes from (at + 1))).count ≤ item_limit
 
 -- when each refusal comes; want of memory may come at any time
-abbrev pub IsRefused : List ℕ → ℕ → ReadValue → Type 0
-IsRefused bytes from (NoValue at) = IsNoValue bytes from at
-IsRefused bytes from (TooLarge at) = IsTooLarge bytes from at
-IsRefused bytes from (TooLong at) = IsTooLong bytes from at
-IsRefused bytes from (TooDeep at) = IsTooDeep bytes from at
-IsRefused bytes from NoMemory = Unit {0}
+abbrev pub IsReadRefused : List ℕ → ℕ → ReadValue → Type 0
+IsReadRefused bytes from (NoValue at) = IsNoValue bytes from at
+IsReadRefused bytes from (TooLarge at) = IsTooLarge bytes from at
+IsReadRefused bytes from (TooLong at) = IsTooLong bytes from at
+IsReadRefused bytes from (TooDeep at) = IsTooDeep bytes from at
+IsReadRefused bytes from NoMemory = Unit {0}
 
 -- the bytes go on with no digit
 abbrev pub EndsNumber : List ℕ → Type 0

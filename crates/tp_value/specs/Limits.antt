@@ -8,8 +8,8 @@ abbrev pub item_limit : ℕ
 item_limit = 65536
 
 -- how deep a value is at most
-abbrev pub depth_limit : ℕ
-depth_limit = 100
+abbrev pub value_depth_limit : ℕ
+value_depth_limit = 100
 
 -- the greatest index of a path, how many indices it has at most, and the greatest length in a fact
 abbrev pub index_limit : ℕ
@@ -46,7 +46,7 @@ abbrev mutual
 
 -- whether a value is within the limits on items and depth
 abbrev pub is_within_list_limit : Tree → Bool
-is_within_list_limit t = nat_le (depth_of t) depth_limit && nat_le (items_in t) item_limit
+is_within_list_limit t = nat_le (depth_of t) value_depth_limit && nat_le (items_in t) item_limit
 
 abbrev pub IsWithinListLimit : Tree → Type 0
 IsWithinListLimit t = IsTrue (is_within_list_limit t)
@@ -69,5 +69,5 @@ abbrev mutual
 -- the value is within the limits on numbers, items and depth
 pub record IsWithinLimits (t : Tree) : Type 0 where
   pub items : items_in t ≤ item_limit
-  pub depth : depth_of t ≤ depth_limit
+  pub depth : depth_of t ≤ value_depth_limit
   pub numbers : HasNumbers t

@@ -14,8 +14,8 @@ use Rattle.tp_value.specs.declared.scan.Move.{Move}
 use Rattle.tp_value.specs.declared.scan.Move.TheVariants.{Go, Open, Close, Word}
 use Rattle.tp_value.specs.declared.value.Items.{Items}
 use Rattle.tp_value.specs.Number.{within_limit}
-use Rattle.tp_value.specs.Limits.{item_limit, depth_limit}
-use Rattle.tp_value.specs.Spelling.{is_blank, spelling}
+use Rattle.tp_value.specs.Limits.{item_limit, value_depth_limit}
+use Rattle.tp_value.specs.Spelling.{is_value_blank, spelling}
 use Rattle.tp_value.specs.Tree.{Tree, num, truth, list, of_items}
 use Rattle.tp_value.specs.Read.{tree}
 
@@ -37,9 +37,9 @@ number_started at begun (Some d) = Ok (Go (Digits at false (pos d)) begun)
 number_started at begun None = Err (NoValue at)
 
 -- what the first byte of a value does
-abbrev pub started : ℕ → ℕ → ℕ → ℕ → Result Move ReadValue
-started at depth begun b =
-    if b == 60 then (if nat_lt depth depth_limit then Ok (Open begun) else Err (TooDeep at))
+abbrev pub first_move : ℕ → ℕ → ℕ → ℕ → Result Move ReadValue
+first_move at depth begun b =
+    if b == 60 then (if nat_lt depth value_depth_limit then Ok (Open begun) else Err (TooDeep at))
     else (if b == 45 then Ok (Go (Minus at) begun)
     else (if b == 116 then Ok (Go (InWord true 1) begun)
     else (if b == 102 then Ok (Go (InWord false 1) begun)
@@ -48,13 +48,13 @@ started at depth begun b =
 -- what the first byte of an item does
 abbrev pub item_started : ℕ → ℕ → ℕ → ℕ → Result Move ReadValue
 item_started at depth begun b =
-    if begins_value b then (if nat_lt begun item_limit then started at depth (begun + 1) b else Err (TooLong at))
+    if begins_value b then (if nat_lt begun item_limit then first_move at depth (begun + 1) b else Err (TooLong at))
     else Err (NoValue at)
 
 -- what a byte does between the parts of a list
 abbrev pub within_list : ℕ → ℕ → ℕ → Last → ℕ → Result Move ReadValue
 within_list at depth begun last b =
-    if is_blank b then Ok (Go (Between last) begun)
+    if is_value_blank b then Ok (Go (Between last) begun)
     else (if b == 44 then comma last
     else (if b == 62 then close last
     else other last))
@@ -96,22 +96,22 @@ letters_go_on at begun word k b =
     else Err (NoValue at)
 
 -- what the byte at a place does
-abbrev pub decided : ℕ → ℕ → ℕ → Phase → ℕ → Result Move ReadValue
-decided at depth begun Start b = started at depth begun b
-decided at depth begun (Between last) b = within_list at depth begun last b
-decided at depth begun (Minus begin) b = digits_go_on at begun begin true (pos 0) b
-decided at depth begun (Digits begin negative n) b = digits_go_on at begun begin negative n b
-decided at depth begun (InWord word k) b = letters_go_on at begun word k b
+abbrev pub next_move : ℕ → ℕ → ℕ → Phase → ℕ → Result Move ReadValue
+next_move at depth begun Start b = first_move at depth begun b
+next_move at depth begun (Between last) b = within_list at depth begun last b
+next_move at depth begun (Minus begin) b = digits_go_on at begun begin true (pos 0) b
+next_move at depth begun (Digits begin negative n) b = digits_go_on at begun begin negative n b
+next_move at depth begun (InWord word k) b = letters_go_on at begun word k b
 
 -- where reading stands: the items of the open lists, the innermost list first, how many items have begun, and what was read last
-pub record State : Type 0 where
+pub record ReadingState : Type 0 where
   pub lists : List (List Tree)
   pub begun : ℕ
   pub phase : Phase
 
 -- reading goes on, a value has ended in front of a place, or the bytes are refused
 pub data Step : Type 0 where
-  goes : State → Step
+  goes : ReadingState → Step
   ends : Tree → ℕ → Step
   refuses : ReadValue → Step
 
@@ -126,11 +126,11 @@ closed at [] begun = refuses (NoValue at)
 closed at (ts ∷ lists) begun = finished lists begun (list (of_items ts)) (at + 1)
 
 -- a list begins
-abbrev pub opened : List (List Tree) → ℕ → State
+abbrev pub opened : List (List Tree) → ℕ → ReadingState
 opened lists begun = record { lists = [] ∷ lists; begun = begun; phase = Between Bracket }
 
 -- what a move does
-abbrev pub carried : ℕ → State → Result Move ReadValue → Step
+abbrev pub carried : ℕ → ReadingState → Result Move ReadValue → Step
 carried at s (Ok (Go phase begun)) = goes (record { lists = s.lists; begun = begun; phase = phase })
 carried at s (Ok (Open begun)) = goes (opened s.lists begun)
 carried at s (Ok Close) = closed at s.lists s.begun
@@ -138,8 +138,8 @@ carried at s (Ok (Word word)) = finished s.lists s.begun (truth word) (at + 1)
 carried at s (Err e) = refuses e
 
 -- what the byte at a place does, where no number ends in front of it
-abbrev pub moved : ℕ → State → ℕ → Step
-moved at s b = carried at s (decided at (length s.lists) s.begun s.phase b)
+abbrev pub moved : ℕ → ReadingState → ℕ → Step
+moved at s b = carried at s (next_move at (length s.lists) s.begun s.phase b)
 
 -- the number that was read last
 abbrev pub number_read : Phase → Option ℤ
@@ -158,17 +158,17 @@ number_before (Minus begin) b = None
 number_before (InWord word k) b = None
 
 -- what comes after a step that goes on
-abbrev pub then_step : Step → (State → Step) → Step
+abbrev pub then_step : Step → (ReadingState → Step) → Step
 then_step (goes s) f = f s
 then_step (ends t after) f = ends t after
 then_step (refuses e) f = refuses e
 
 -- what the byte at a place does, behind the number that ends in front of it
-abbrev pub step_behind : ℕ → State → ℕ → Option ℤ → Step
+abbrev pub step_behind : ℕ → ReadingState → ℕ → Option ℤ → Step
 step_behind at s b None = moved at s b
 step_behind at s b (Some n) = then_step (finished s.lists s.begun (num n) at) (λ t. moved at t b)
 
-abbrev pub step : ℕ → State → ℕ → Step
+abbrev pub step : ℕ → ReadingState → ℕ → Step
 step at s b = step_behind at s b (number_before s.phase b)
 
 -- a value with the place after it, or a refusal
@@ -177,13 +177,13 @@ pub data Answer : Type 0 where
   refused : ReadValue → Answer
 
 -- what a step gives, and what reading gives after it
-abbrev pub answered : Step → (State → Answer) → Answer
+abbrev pub answered : Step → (ReadingState → Answer) → Answer
 answered (goes s) f = f s
 answered (ends t after) f = found t after
 answered (refuses e) f = refused e
 
 -- what the end of the bytes gives
-abbrev pub at_end : ℕ → State → Answer
+abbrev pub at_end : ℕ → ReadingState → Answer
 at_end at s = after (number_read s.phase)
   where
     after : Option ℤ → Answer
@@ -191,12 +191,12 @@ at_end at s = after (number_read s.phase)
     after (Some n) = answered (finished s.lists s.begun (num n) at) (λ t. refused (NoValue at))
 
 -- what the bytes from a place on give
-abbrev pub reading : ℕ → State → List ℕ → Answer
+abbrev pub reading : ℕ → ReadingState → List ℕ → Answer
 reading at s [] = at_end at s
 reading at s (b ∷ z) = answered (step at s b) (λ t. reading (at + 1) t z)
 
 -- where reading begins
-abbrev pub start_state : State
+abbrev pub start_state : ReadingState
 start_state = record { lists = []; begun = 0; phase = Start }
 
 -- the trees of the items of an open list
@@ -207,7 +207,7 @@ items_seen all = map tree all.items.items
 abbrev pub lists_of : List Items → List (List Tree)
 lists_of all = reverse (map items_seen all)
 
-abbrev pub state_of : Reader → State
+abbrev pub state_of : Reader → ReadingState
 state_of r = record { lists = lists_of r.unclosed.items; begun = r.begun; phase = r.phase }
 
 -- the step that the code took

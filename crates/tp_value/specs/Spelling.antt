@@ -6,8 +6,8 @@ use Rattle.tp_value.specs.declared.scan.Last.TheVariants.{Bracket, Item, Comma}
 use Rattle.tp_value.specs.Tree.{Tree, num, truth, list, of_items}
 
 -- spaces and tabs
-abbrev pub is_blank : ℕ → Bool
-is_blank b = b == 32 || b == 9
+abbrev pub is_value_blank : ℕ → Bool
+is_value_blank b = b == 32 || b == 9
 
 -- no byte but digits
 abbrev pub AllDigits : List ℕ → Type 0
@@ -56,6 +56,6 @@ mutual
   -- part, blanks aside, is named
   pub data Unfinished : List ℕ → List Tree → Last → Type 0 where
     bracket : Unfinished (codes "<") [] Bracket
-    blank : (s : List ℕ) (ts : List Tree) (last : Last) (b : ℕ) → Unfinished s ts last → is_blank b ≡ true → Unfinished (s ++ b ∷ []) ts last
+    blank : (s : List ℕ) (ts : List Tree) (last : Last) (b : ℕ) → Unfinished s ts last → is_value_blank b ≡ true → Unfinished (s ++ b ∷ []) ts last
     item : (s : List ℕ) (ts : List Tree) (last : Last) (r : List ℕ) (t : Tree) → Unfinished s ts last → TakesItem last → Spells r t → Unfinished (s ++ r) (ts ++ t ∷ []) Item
     comma : (s : List ℕ) (ts : List Tree) → Unfinished s ts Item → Unfinished (s ++ codes ",") ts Comma

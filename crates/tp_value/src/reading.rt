@@ -5,7 +5,7 @@ ghost use Rattle.tp_value.specs.Read.{tree};
 ghost use Rattle.tp_value.specs.Tree.{Tree};
 ghost use Rattle.tp_value.specs.Limits.{IsWithinLimits};
 ghost use Rattle.tp_value.specs.Written.{text_of};
-ghost use Rattle.tp_value.specs.Answers.{IsRead, IsRefused, CannotContinue, IsReadBack};
+ghost use Rattle.tp_value.specs.Answers.{IsRead, IsReadRefused, CannotContinue, IsReadBack};
 ghost use Rattle.tp_value.specs.Reading.{found, refused, start_state, lists_of, state_of, taken, refuses, finished, closed, opened, moved, step, number_before, number_read, at_end, reading};
 
 use crate::scan::{Last, Move, Phase, decide};
@@ -67,7 +67,8 @@ pub enum Taken {
 
 // A value that ends in front of `after` is an item of the innermost open list, or the whole value.
 fn finish(unclosed: Vec<Items>, begun: usize, value: Value, after: usize) -> Result<Taken, NoMemory>
-    ensures { IfOk result (λ t. taken t ≡ finished (lists_of unclosed.items) begun (tree value) after) }
+    ensures { IfOk result (λ t.
+        taken t ≡ finished (lists_of unclosed.items) begun (tree value) after) }
 {
     let mut unclosed = unclosed;
     match unclosed.pop() {
@@ -89,7 +90,8 @@ fn finish(unclosed: Vec<Items>, begun: usize, value: Value, after: usize) -> Res
 fn close(unclosed: Vec<Items>, begun: usize, at: usize) -> Result<Taken, ReadValue>
     requires { at + 1 < 2 ^ 64 }
     ensures ok { IfOk result (λ t. taken t ≡ closed at (lists_of unclosed.items) begun) }
-    ensures err { IfErr result (λ e. e ≢ refused_memory → refuses e ≡ closed at (lists_of unclosed.items) begun) }
+    ensures err { IfErr result (λ e.
+        e ≢ refused_memory → refuses e ≡ closed at (lists_of unclosed.items) begun) }
 {
     let mut unclosed = unclosed;
     match unclosed.pop() {
@@ -120,7 +122,8 @@ fn open_list(alloc: Global, unclosed: Vec<Items>, begun: usize) -> Result<Reader
 fn advance(alloc: Global, reader: Reader, at: usize, byte: u8) -> Result<Taken, ReadValue>
     requires { at + 1 < 2 ^ 64 }
     ensures ok { IfOk result (λ t. taken t ≡ moved at (state_of reader) byte) }
-    ensures err { IfErr result (λ e. e ≢ refused_memory → refuses e ≡ moved at (state_of reader) byte) }
+    ensures err { IfErr result (λ e.
+        e ≢ refused_memory → refuses e ≡ moved at (state_of reader) byte) }
 {
     let Reader {
         unclosed,
@@ -170,7 +173,8 @@ fn ended_number(phase: Phase, byte: u8) -> Option<Number>
 fn take(alloc: Global, reader: Reader, at: usize, byte: u8) -> Result<Taken, ReadValue>
     requires { at + 1 < 2 ^ 64 }
     ensures ok { IfOk result (λ t. taken t ≡ step at (state_of reader) byte) }
-    ensures err { IfErr result (λ e. e ≢ refused_memory → refuses e ≡ step at (state_of reader) byte) }
+    ensures err { IfErr result (λ e.
+        e ≢ refused_memory → refuses e ≡ step at (state_of reader) byte) }
 {
     match ended_number(reader.phase, byte) {
         None => advance(alloc, reader, at, byte),
@@ -195,8 +199,10 @@ fn end(reader: Reader, at: usize) -> Result<(Value, usize), ReadValue>
 // The value whose text begins at `from`, and the place after it.
 fn read(alloc: Global, bytes: &[u8], from: usize) -> Result<(Value, usize), ReadValue>
     requires { from ≤ length bytes.now }
-    ensures ok { IfOk result (λ p. reading from start_state (drop from bytes.now) ≡ found (tree p.0) p.1) }
-    ensures err { IfErr result (λ e. e ≢ refused_memory → reading from start_state (drop from bytes.now) ≡ refused e) }
+    ensures ok { IfOk result (λ p.
+        reading from start_state (drop from bytes.now) ≡ found (tree p.0) p.1) }
+    ensures err { IfErr result (λ e.
+        e ≢ refused_memory → reading from start_state (drop from bytes.now) ≡ refused e) }
 {
     let mut reader = Reader {
         unclosed: Vec::new(alloc),
@@ -219,10 +225,12 @@ fn read(alloc: Global, bytes: &[u8], from: usize) -> Result<(Value, usize), Read
 pub fn read_value(alloc: Global, bytes: &[u8], from: usize) -> Result<(Value, usize), ReadValue>
     requires { from ≤ length bytes.now }
     ensures value { IfOk result (λ p. IsRead bytes.now from (tree p.0) p.1) }
-    ensures refused { IfErr result (λ e. IsRefused bytes.now from e) }
+    ensures refused { IfErr result (λ e. IsReadRefused bytes.now from e) }
 
     // The text that is written for a value is read back to it.
-    ensures read_back { (t : Tree) (rest : List ℕ) → IsWithinLimits t → CannotContinue t rest → drop from bytes.now ≡ text_of t ++ rest → IsReadBack t (from + length (text_of t)) result }
+    ensures read_back { (t : Tree) (rest : List ℕ) → IsWithinLimits t → CannotContinue t rest
+        → drop from bytes.now
+        ≡ text_of t ++ rest → IsReadBack t (from + length (text_of t)) result }
 {
     read(alloc, bytes, from)
 }

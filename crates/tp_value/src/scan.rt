@@ -2,7 +2,7 @@
 ghost use Rattle.std.specs.Prelude.{◌≡◌};
 ghost use Rattle.tp_value.specs.Number.{within_limit};
 ghost use Rattle.tp_value.specs.Spelling.{spelling as word_spelling};
-ghost use Rattle.tp_value.specs.Reading.{digit_of, begins_value as begins, continued, started, within_list, digits_go_on, letters_go_on, decided};
+ghost use Rattle.tp_value.specs.Reading.{digit_of, begins_value as begins, continued, first_move, within_list, digits_go_on, letters_go_on, next_move};
 
 use crate::Number;
 use crate::limits::{DEPTH_LIMIT, ITEM_LIMIT};
@@ -96,7 +96,7 @@ fn spelling(truth: bool) -> &'static [u8]
 
 // The first byte of a value.
 fn start(at: usize, depth: usize, begun: usize, byte: u8) -> Result<Move, ReadValue>
-    ensures { result ≡ started at depth begun byte }
+    ensures { result ≡ first_move at depth begun byte }
 {
     let phase = match byte {
         b'<' if depth < DEPTH_LIMIT => return Ok(Move::Open { begun }),
@@ -204,7 +204,7 @@ pub fn decide(
     phase: Phase,
     byte: u8,
 ) -> Result<Move, ReadValue>
-    ensures { result ≡ decided at depth begun phase byte }
+    ensures { result ≡ next_move at depth begun phase byte }
 {
     match phase {
         Phase::Start => start(at, depth, begun, byte),

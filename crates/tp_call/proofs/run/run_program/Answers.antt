@@ -1,6 +1,6 @@
 use Rattle.std.proofs.Common.{ℕ, ◌≤◌, inr, arith}
 use Rattle.std.proofs.lemmas.Result.{err_from_is_err_and}
-use Rattle.tp_call.specs.Places.{place_of}
+use Rattle.tp_call.specs.Places.{standing_place}
 use Rattle.tp_call.proofs.RunLemmas.{HasWritten-more, next_state}
 use Rattle.tp_call.proofs.TurnLemmas.{went_on}
 use Rattle.tp_call.proofs.run.run_program.Goals as goal
@@ -12,8 +12,8 @@ pub returns-in_err-status-clause-made : goal.returns-in_err-status-clause-made
 returns-in_err-status-clause-made g c =
     let p = err_from_is_err_and c.from_residual-in_err-status.result c.from_residual-in_err-status.ensures.1 in
     rw (p.1, p.2) (inr (record {
-      from = place_of c.loop-picture.run;
-      to = place_of c.make_state.new.run;
+      from = standing_place c.loop-picture.run;
+      to = standing_place c.make_state.new.run;
       middle = g.K.Sink.written c.loop-picture.out;
       settled = c.loop-picture.invariant.written;
       stopped = c.in_err-status.ensures.made _ c.loop-picture.invariant.run;
@@ -22,8 +22,8 @@ returns-in_err-status-clause-made g c =
 pub returns-in-Some-clause-made : goal.returns-in-Some-clause-made
 returns-in-Some-clause-made g c =
     inr (record {
-      from = place_of c.loop-picture.run;
-      to = place_of c.make_state.new.run;
+      from = standing_place c.loop-picture.run;
+      to = standing_place c.make_state.new.run;
       middle = g.K.Sink.written c.loop-picture.out;
       settled = c.loop-picture.invariant.written;
       stopped = (rw c.in-Some.is at c.in_ok-status.ensures.made) _ c.loop-picture.invariant.run;
@@ -32,9 +32,9 @@ returns-in-Some-clause-made g c =
 pub loop-picture-preserved : goal.loop-picture-preserved
 loop-picture-preserved g c =
     let made = (rw c.in_default.is at c.in_ok-status.ensures.made) _ c.loop-picture.invariant.run in
-    let went = went_on _ _ (place_of c.loop-picture.run) (place_of c.make_state.new.run) _ _ made.answer made.picture made.turned made.status_is made.wrote in
+    let went = went_on _ _ (standing_place c.loop-picture.run) (standing_place c.make_state.new.run) _ _ made.answer made.picture made.turned made.status_is made.wrote in
     record {
-      written = HasWritten-more _ (place_of c.loop-picture.run) (place_of c.make_state.new.run) _ _ _ made.picture c.loop-picture.invariant.written went.0 went.1;
+      written = HasWritten-more _ (standing_place c.loop-picture.run) (standing_place c.make_state.new.run) _ _ _ made.picture c.loop-picture.invariant.written went.0 went.1;
       run = c.in_ok-status.ensures.run _ c.loop-picture.invariant.run;
       later = up_to _ _ _ c.loop-picture.invariant.later c.in_ok-status.ensures.later;
     }
@@ -42,6 +42,6 @@ loop-picture-preserved g c =
 pub loop-picture-smaller : goal.loop-picture-smaller
 loop-picture-smaller g c =
     let made = (rw c.in_default.is at c.in_ok-status.ensures.made) _ c.loop-picture.invariant.run in
-    let went = went_on _ _ (place_of c.loop-picture.run) (place_of c.make_state.new.run) _ _ made.answer made.picture made.turned made.status_is made.wrote in
-    let next = next_state _ (place_of c.loop-picture.run) (place_of c.make_state.new.run) _ _ made.picture c.loop-picture.invariant.written went.0 in
+    let went = went_on _ _ (standing_place c.loop-picture.run) (standing_place c.make_state.new.run) _ _ made.answer made.picture made.turned made.status_is made.wrote in
+    let next = next_state _ (standing_place c.loop-picture.run) (standing_place c.make_state.new.run) _ _ made.picture c.loop-picture.invariant.written went.0 in
     omega (arith, next.within, next.next)

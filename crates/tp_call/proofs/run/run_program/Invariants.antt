@@ -4,12 +4,12 @@ use Rattle.tp_run.specs.Runs.{next_state_of, IsRunOf}
 use Rattle.tp_call.specs.declared.run.TheConstants.{STATES}
 use Rattle.tp_call.specs.Run.{plan_of}
 use Rattle.tp_call.specs.Progress.{HasWritten}
-use Rattle.tp_call.specs.Places.{place_of}
+use Rattle.tp_call.specs.Places.{standing_place}
 use Rattle.tp_call.proofs.run.run_program.Given as goal
 
 abbrev pub invariant-loop-picture : goal.invariant-loop-picture
 invariant-loop-picture g l = record {
-  written : HasWritten (record { main = formula_tree l.fn.main.value; names = l.globals }) (place_of l.run) (g.K.Sink.written l.initial.out) (g.K.Sink.written l.out);
+  written : HasWritten (record { main = formula_tree l.fn.main.value; names = l.globals }) (standing_place l.run) (g.K.Sink.written l.initial.out) (g.K.Sink.written l.out);
   run : IsRunOf (plan_of (record { main = formula_tree l.fn.main.value; names = l.globals })) l.run;
   later : g.K.Sink.faults l.initial.out ≤ g.K.Sink.faults l.out;
 }

@@ -1,7 +1,7 @@
 use Rattle.std.proofs.Common.{◌≡◌, ◌⊎◌, ◌∙◌, sym, ap, ap₂, rules, arith}
 use Rattle.std.proofs.lemmas.Grind.{common_steps}
 use Rattle.std.proofs.lemmas.Result.{err_from_is_err_and}
-use Rattle.tp_tree.specs.Read.{tree}
+use Rattle.tp_tree.specs.Read.{phrase_tree}
 use Rattle.tp_check.specs.Outcome.{not_expression}
 use Rattle.tp_check.specs.Phrases.{nexts_of, behind_nexts, at_of}
 use Rattle.tp_check.specs.Positions.{equation_of, expr_of}
@@ -12,16 +12,16 @@ pub returns-in_err-left_expr : goal.returns-in_err-left_expr
 returns-in_err-left_expr c =
     let p = err_from_is_err_and c.from_residual-in_err-left_expr.result c.from_residual-in_err-left_expr.ensures.1 in
     let names = c.args.globals.now in
-    let l = tree c.args.left.now in
-    let r = tree c.args.right.now in
+    let l = phrase_tree c.args.left.now in
+    let r = phrase_tree c.args.right.now in
     rw (p.1, p.2) (λ q. ap (λ o. equation_of (nexts_of l) (nexts_of r) (at_of r) o (expr_of names (behind_nexts r)))
     (ap (expr_of names) (sym c.in_ok-left_nexts.ensures.behind) ∙ c.in_err-left_expr.ensures q) ∙ left_refused (nexts_of l) (nexts_of r) (at_of r) _ _)
 
 pub returns-then-right_nexts-gt0 : goal.returns-then-right_nexts-gt0
 returns-then-right_nexts-gt0 c = λ q.
     let names = c.args.globals.now in
-    let l = tree c.args.left.now in
-    let r = tree c.args.right.now in
+    let l = phrase_tree c.args.left.now in
+    let r = phrase_tree c.args.right.now in
     ap (λ o. equation_of (nexts_of l) (nexts_of r) (at_of r) o (expr_of names (behind_nexts r))) (ap (expr_of names) (sym c.in_ok-left_nexts.ensures.behind) ∙ c.in_ok-left_expr.ensures)
     ∙ (both_later (nexts_of l) (nexts_of r) (at_of r) _ _ (omega (arith, c.in_ok-left_nexts.ensures.count, c.if-left_nexts-gt0.true)) (omega (arith, c.in_ok-right_nexts.ensures.count, c.if-right_nexts-gt0.true))
     ∙ ap not_expression (at_is c.args.right.now))
@@ -30,8 +30,8 @@ pub returns-in_err-right_expr : goal.returns-in_err-right_expr
 returns-in_err-right_expr c =
     let p = err_from_is_err_and c.from_residual-in_err-right_expr.result c.from_residual-in_err-right_expr.ensures.1 in
     let names = c.args.globals.now in
-    let l = tree c.args.left.now in
-    let r = tree c.args.right.now in
+    let l = phrase_tree c.args.left.now in
+    let r = phrase_tree c.args.right.now in
     let one : (c.in_ok-left_nexts.left_nexts ≡ 0) ⊎ (c.in_ok-right_nexts.right_nexts ≡ 0) = first_of (search rules, grind (arith, common_steps)) in
     let none : (nexts_of l ≡ 0) ⊎ (nexts_of r ≡ 0) = rw (sym c.in_ok-left_nexts.ensures.count, sym c.in_ok-right_nexts.ensures.count) one in
     rw (p.1, p.2) (λ q. ap₂ (equation_of (nexts_of l) (nexts_of r) (at_of r))

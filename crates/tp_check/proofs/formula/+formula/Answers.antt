@@ -4,14 +4,14 @@ use Rattle.std.proofs.lemmas.Grind.{common_steps}
 use Rattle.std.specs.declared.rc.Rc.{Rc}
 use Rattle.tp_tree.specs.declared.phrase.Phrase.{Phrase}
 use Rattle.tp_tree.specs.Tree.{PhraseTrees, phrases_of, form}
-use Rattle.tp_tree.specs.Read.{tree, trees}
+use Rattle.tp_tree.specs.Read.{phrase_tree, phrase_trees}
 use Rattle.tp_tree.specs.Equations.{trees_are}
 use Rattle.tp_meaning.specs.Syntax.{FormulaTree, conjunction, formulas_of}
 use Rattle.tp_kernel.specs.declared.formula.Formula.{Formula}
 use Rattle.tp_kernel.specs.Read.{formula_tree}
 use Rattle.tp_kernel.specs.Equations.{formula_and}
 use Rattle.tp_check.specs.Building.{formula_seen}
-use Rattle.tp_check.specs.Outcome.{Answers, mapped}
+use Rattle.tp_check.specs.Outcome.{AnswersCheck, mapped}
 use Rattle.tp_check.specs.Positions.{form_refusal, formula_of, formula_of_kind, formulas_in}
 use Rattle.tp_check.proofs.Several.{from_here, none_made, one_made, one_is, two_are}
 use Rattle.tp_check.proofs.Sides.{form_of_others, tree_of_and}
@@ -22,9 +22,9 @@ pub form_formula-returns-in-len1 : goal.form_formula-returns-in-len1
 form_formula-returns-in-len1 t c =
     let xs : List Phrase = c.as_slice.result.now in
     let one : xs ≡ c.operand-item.result ∷ [] = one_is xs c.operand-item.result c.in-len1.len_at_least c.in-len1.len_below c.operand-item.is in
-    let seen : trees c.args.operands.now ≡ phrases_of (map tree (c.operand-item.result ∷ [])) =
-    trees_are c.args.operands.now ∙ ap (λ (ys : List Phrase). phrases_of (map tree ys)) (sym c.as_slice.ensures.value ∙ one) in
-    subst (λ (ts : PhraseTrees). Answers formula_tree (formula_of_kind c.args.globals.now c.args.at (form c.args.form ts)) c.form_of_one.result) (sym seen) c.form_of_one.ensures
+    let seen : phrase_trees c.args.operands.now ≡ phrases_of (map phrase_tree (c.operand-item.result ∷ [])) =
+    trees_are c.args.operands.now ∙ ap (λ (ys : List Phrase). phrases_of (map phrase_tree ys)) (sym c.as_slice.ensures.value ∙ one) in
+    subst (λ (ts : PhraseTrees). AnswersCheck formula_tree (formula_of_kind c.args.globals.now c.args.at (form c.args.form ts)) c.form_of_one.result) (sym seen) c.form_of_one.ensures
 
 pub form_formula-returns-in-len2 : goal.form_formula-returns-in-len2
 form_formula-returns-in-len2 t c =
@@ -32,17 +32,17 @@ form_formula-returns-in-len2 t c =
     let x : Phrase = c.first-item.result in
     let y : Phrase = c.second-item.result in
     let two : xs ≡ x ∷ y ∷ [] = two_are xs x y c.in-len2.len_at_least c.in-len2.len_below c.first-item.is c.second-item.is in
-    let seen : trees c.args.operands.now ≡ phrases_of (map tree (x ∷ y ∷ [])) =
-    trees_are c.args.operands.now ∙ ap (λ (ys : List Phrase). phrases_of (map tree ys)) (sym c.as_slice.ensures.value ∙ two) in
-    subst (λ (ts : PhraseTrees). Answers formula_tree (formula_of_kind c.args.globals.now c.args.at (form c.args.form ts)) c.form_of_two.result) (sym seen) c.form_of_two.ensures
+    let seen : phrase_trees c.args.operands.now ≡ phrases_of (map phrase_tree (x ∷ y ∷ [])) =
+    trees_are c.args.operands.now ∙ ap (λ (ys : List Phrase). phrases_of (map phrase_tree ys)) (sym c.as_slice.ensures.value ∙ two) in
+    subst (λ (ts : PhraseTrees). AnswersCheck formula_tree (formula_of_kind c.args.globals.now c.args.at (form c.args.form ts)) c.form_of_two.result) (sym seen) c.form_of_two.ensures
 
 pub form_formula-returns-in_default : goal.form_formula-returns-in_default
 form_formula-returns-in_default t c = λ q.
     let xs : List Phrase = c.as_slice.result.now in
-    let seen : trees c.args.operands.now ≡ phrases_of (map tree xs) = trees_are c.args.operands.now ∙ ap (λ (ys : List Phrase). phrases_of (map tree ys)) (sym c.as_slice.ensures.value) in
+    let seen : phrase_trees c.args.operands.now ≡ phrases_of (map phrase_tree xs) = trees_are c.args.operands.now ∙ ap (λ (ys : List Phrase). phrases_of (map phrase_tree ys)) (sym c.as_slice.ensures.value) in
     let far : (length xs < 1) ⊎ (2 < length xs) = first_of (search rules, grind (arith, common_steps)) in
     ap (λ (ts : PhraseTrees). formula_of_kind c.args.globals.now c.args.at (form c.args.form ts)) seen
-    ∙ (form_of_others c.args.globals.now c.args.at c.args.form (map tree xs) (rw length-map far) ∙ ap Err (ap (λ (ts : PhraseTrees). form_refusal c.args.at c.args.form ts (NotExecutable c.args.at)) (sym seen) ∙ sym c.miscounted_or.ensures))
+    ∙ (form_of_others c.args.globals.now c.args.at c.args.form (map phrase_tree xs) (rw length-map far) ∙ ap Err (ap (λ (ts : PhraseTrees). form_refusal c.args.at c.args.form ts (NotExecutable c.args.at)) (sym seen) ∙ sym c.miscounted_or.ensures))
 
 pub formula-returns-in_ok-formulas-in-And : goal.formula-returns-in_ok-formulas-in-And
 formula-returns-in_ok-formulas-in-And t c =
@@ -52,7 +52,7 @@ formula-returns-in_ok-formulas-in-And t c =
 pub formulas-loop-phrase-init : goal.formulas-loop-phrase-init
 formulas-loop-phrase-init t c =
     let xs : List Phrase = c.deref-phrase-items.result.now in
-    let seen : trees c.args.phrases.now ≡ phrases_of (map tree xs) = trees_are c.args.phrases.now ∙ ap (λ (ys : List Phrase). phrases_of (map tree ys)) (sym c.deref-phrase-items.ensures.value) in
+    let seen : phrase_trees c.args.phrases.now ≡ phrases_of (map phrase_tree xs) = trees_are c.args.phrases.now ∙ ap (λ (ys : List Phrase). phrases_of (map phrase_tree ys)) (sym c.deref-phrase-items.ensures.value) in
     ap (formulas_in c.args.globals.now) seen ∙ none_made (map formula_seen c.new-items.result.items) _ (ap (map formula_seen) c.new-items.ensures.items)
 
 pub formulas-loop-phrase-preserved : goal.formulas-loop-phrase-preserved
@@ -62,11 +62,11 @@ formulas-loop-phrase-preserved t c =
     let i : ℕ = c.loop-phrase.phrase-index in
     let x : Phrase = c.phrase-item.result in
     let made = map formula_seen c.loop-phrase.items.items in
-    let rest = formulas_in names (phrases_of (map tree (drop (i + 1) xs))) in
+    let rest = formulas_in names (phrases_of (map phrase_tree (drop (i + 1) xs))) in
     let w : Rc Formula Global = c.in_ok-shared_formula.field-0 in
     let pushed : map formula_seen c.push.new.self.items ≡ made ++ formula_seen w ∷ [] =
     ap (map formula_seen) c.in_ok-push.ensures.items ∙ map-append formula_seen c.loop-phrase.items.items (w ∷ []) in
     c.loop-phrase.invariant
-    ∙ (ap (λ ts. mapped (λ es. made ++ es) (formulas_in names (phrases_of ts))) (from_here tree xs i x c.loop-phrase-test.true c.phrase-item.is)
-    ∙ (one_made made (formula_seen w) (formula_of names (tree x)) rest c.in_ok-shared_formula.ensures
+    ∙ (ap (λ ts. mapped (λ es. made ++ es) (formulas_in names (phrases_of ts))) (from_here phrase_tree xs i x c.loop-phrase-test.true c.phrase-item.is)
+    ∙ (one_made made (formula_seen w) (formula_of names (phrase_tree x)) rest c.in_ok-shared_formula.ensures
     ∙ ap (λ (ys : List FormulaTree). mapped (λ es. ys ++ es) rest) (sym pushed)))

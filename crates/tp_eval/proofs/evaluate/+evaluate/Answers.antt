@@ -6,8 +6,8 @@ use Rattle.tp_value.specs.Equations.{tree_list, tree_truth}
 use Rattle.tp_meaning.specs.Syntax.{exprs_of, listing, size, index, minus, negation, both, either, binary, choice}
 use Rattle.tp_kernel.specs.Read.{expr_tree, expr_trees, operator_of, bindings_of}
 use Rattle.tp_kernel.specs.Equations.{expr_trees_is, expr_global, expr_list, expr_size, expr_index, expr_minus, expr_not, expr_both, expr_either, expr_op, expr_if}
-use Rattle.tp_eval.specs.Reached.{gives, limited, ◌>>=◌}
-use Rattle.tp_eval.specs.Evaluate.{is_place, each, all_true, element_of, size_of, index_of, index_in, farther, item_between, length_of, negative_in, negated_in}
+use Rattle.tp_eval.specs.Reached.{gives, within_lists, ◌>>=◌}
+use Rattle.tp_eval.specs.Evaluate.{is_place, each, all_true, element_of, size_of, indexed_value, index_in, farther, item_between, length_of, negative_in, negated_in}
 use Rattle.tp_eval.specs.Answers.{Halts, operand_in, place_at}
 use Rattle.tp_eval.specs.Places.{place_in}
 use Rattle.tp_eval.proofs.Steps.{answers_same, halts_same, halts_then, then_gives}
@@ -131,8 +131,8 @@ pub evaluate-returns-in_ok-items-in-List : goal.evaluate-returns-in_ok-items-in-
 evaluate-returns-in_ok-items-in-List t c =
     let is = ap expr_tree c.in-List.is ∙ expr_list c.in-List.items ∙ ap listing (sym (expr_trees_is c.in-List.items)) in
     let here = at_level c.args.store.now c.args.env.now c.args.levels (expr_tree c.args.expr.now) _ c.if-levels-eq0.false is in
-    let all = then_gives _ (map tree c.in_ok-items-in-List.items.items) (λ ts. limited (list (of_items ts))) c.in_ok-items-in-List.ensures in
-    answers_same tree c.limited.result _ _ (here ∙ all ∙ ap limited (sym (tree_list _))) c.limited.ensures
+    let all = then_gives _ (map tree c.in_ok-items-in-List.items.items) (λ ts. within_lists (list (of_items ts))) c.in_ok-items-in-List.ensures in
+    answers_same tree c.limited.result _ _ (here ∙ all ∙ ap within_lists (sym (tree_list _))) c.limited.ensures
 
 pub evaluate-returns-in-Size : goal.evaluate-returns-in-Size
 evaluate-returns-in-Size t c =
@@ -154,7 +154,7 @@ evaluate-returns-else-is_place t c =
     let is = ap expr_tree c.in-Index.is ∙ expr_index c.in-Index.e c.in-Index.i in
     let no : is_place a ≡ false = ap (λ x. is_place (expr_tree x)) (sym c.deref-in-Index.ensures) ∙ sym c.is_place.ensures ∙ c.if-is_place.false in
     let here = at_level c.args.store.now c.args.env.now c.args.levels (expr_tree c.args.expr.now) _ c.if-levels-eq0.false is in
-    let other = ap (λ (w : Bool). index_of op place c.args.store.now.facts (bindings_of c.args.env.now) w a b) no in
+    let other = ap (λ (w : Bool). indexed_value op place c.args.store.now.facts (bindings_of c.args.env.now) w a b) no in
     let same = ap₂ (element_of op) (ap expr_tree (sym c.deref-else-is_place.ensures)) (ap expr_tree (sym c.deref-else-is_place-2.ensures)) in
     answers_same tree c.element_of.result _ _ (here ∙ other ∙ same) c.element_of.ensures
 

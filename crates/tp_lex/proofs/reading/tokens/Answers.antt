@@ -5,7 +5,7 @@ use Rattle.tp_lex.specs.declared.first.Piece.TheVariants as v
 use Rattle.tp_lex.specs.declared.token.Token.{Token}
 use Rattle.tp_lex.specs.declared.place.Place.{Place}
 use Rattle.tp_lex.specs.First.{first_piece}
-use Rattle.tp_lex.specs.Pieces.{Begins}
+use Rattle.tp_lex.specs.Pieces.{BeginsPiece}
 use Rattle.tp_lex.specs.Place.{place_of, place_from, token_at}
 use Rattle.tp_lex.specs.Tokens.{IsRefusedUnlessMemory}
 use Rattle.tp_lex.proofs.PieceLemmas.{gap_takes, lexeme_takes, piece_found}
@@ -24,7 +24,7 @@ pub returns-in-Refused-clause-refused : goal.returns-in-Refused-clause-refused
 returns-in-Refused-clause-refused c =
     let e : v.Refused c.in-Refused.fault ≡ first_piece c.loop-rest.rest.now = sym c.in-Refused.is ∙ c.in_ok-len.ensures in
     let found = piece_found c.loop-rest.rest.now _ (grind (arith, common_steps)) e in
-    let here : Begins (drop c.loop-rest.place.at c.args.bytes.now) (v.Refused c.in-Refused.fault) = subst (λ (z : List ℕ). Begins z (v.Refused c.in-Refused.fault)) c.loop-rest.invariant.rest found.0 in
+    let here : BeginsPiece (drop c.loop-rest.place.at c.args.bytes.now) (v.Refused c.in-Refused.fault) = subst (λ (z : List ℕ). BeginsPiece z (v.Refused c.in-Refused.fault)) c.loop-rest.invariant.rest found.0 in
     subst (IsRefusedUnlessMemory c.args.bytes.now) (sym c.refusal.ensures) (refused_so c.args.bytes.now c.in-Refused.fault c.loop-rest.place.at (at_fault c.args.bytes.now c.loop-rest.place.at c.in-Refused.fault c.loop-rest.found.items c.loop-rest.invariant.reads here))
 
 pub slice_bounds-after-end : goal.slice_bounds-after-end
@@ -86,7 +86,7 @@ loop-rest-preserved c =
     let left = ap length c.loop-rest.invariant.rest in
     let advanced : c.after-place.result.at ≡ at + len = omega (arith, length-take-le len rest taken.1) in
     let place : c.after-place.result ≡ place_of bytes (at + len) = c.after-place.ensures.place ∙ (ap (λ (q : Place). place_from q (take len rest)) c.loop-rest.invariant.place ∙ (ap (λ (z : List ℕ). place_from (place_of bytes at) (take len z)) c.loop-rest.invariant.rest ∙ place_later bytes at len)) in
-    let here : Begins (drop at bytes) c.in_ok-len.field-0 = subst (λ (z : List ℕ). Begins z c.in_ok-len.field-0) c.loop-rest.invariant.rest found.0 in
+    let here : BeginsPiece (drop at bytes) c.in_ok-len.field-0 = subst (λ (z : List ℕ). BeginsPiece z c.in_ok-len.field-0) c.loop-rest.invariant.rest found.0 in
     let old : List Token = c.loop-rest.found.items in
     let new : List Token = c.match-branch-2.found.items in
     let so_far : Continues bytes at old = c.loop-rest.invariant.reads in

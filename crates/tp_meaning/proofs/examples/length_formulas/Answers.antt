@@ -1,7 +1,7 @@
 use Rattle.std.proofs.Common.{pos, refl, sym, [], ◌∷◌, ◌∙◌, arith}
 use Rattle.tp_value.specs.Tree.{num}
 use Rattle.tp_meaning.specs.Course.{blank, shown_at}
-use Rattle.tp_meaning.specs.Examples.{shown}
+use Rattle.tp_meaning.specs.Examples.{one_shown}
 use Rattle.tp_meaning.proofs.Shows.{join-blank}
 use Rattle.tp_meaning.proofs.ExampleShows.{spelled_is, nothing_first, shown_join}
 use Rattle.tp_meaning.proofs.examples.length_formulas.Goals as goal
@@ -9,25 +9,25 @@ use Rattle.tp_meaning.proofs.examples.length_formulas.Goals as goal
 pub returns-clause-chop_holds : goal.returns-clause-chop_holds
 returns-clause-chop_holds c = (
   0,
-  shown_at 0 (shown 1 ∷ []),
-  shown_at 0 (shown 2 ∷ []),
+  shown_at 0 (one_shown 1 ∷ []),
+  shown_at 0 (one_shown 2 ∷ []),
   omega arith,
   omega arith,
-  (shown 1, refl, refl),
-  (shown 2, refl, refl),
-  spelled_is ((shown 1 ∷ shown 2 ∷ []) ∷ []) ∙ join-blank (shown_at 0 (shown 1 ∷ shown 2 ∷ [])) ∙ shown_join 0 (shown 1 ∷ []) (shown 2 ∷ []),
+  (one_shown 1, refl, refl),
+  (one_shown 2, refl, refl),
+  spelled_is ((one_shown 1 ∷ one_shown 2 ∷ []) ∷ []) ∙ join-blank (shown_at 0 (one_shown 1 ∷ one_shown 2 ∷ [])) ∙ shown_join 0 (one_shown 1 ∷ []) (one_shown 2 ∷ []),
 )
 
 pub returns-clause-chop_shares_a_state : goal.returns-clause-chop_shares_a_state
 returns-clause-chop_shares_a_state c = (
   1,
-  shown_at 1 (shown 7 ∷ []),
-  shown_at 1 (shown 1 ∷ []),
+  shown_at 1 (one_shown 7 ∷ []),
+  shown_at 1 (one_shown 1 ∷ []),
   omega arith,
   omega arith,
-  (omega arith, (shown 7, refl, refl)),
-  (blank, shown_at 1 (shown 1 ∷ []), (1, refl, omega arith, refl), (shown_at 1 (shown 1 ∷ []), blank, (shown 1, refl, refl), refl, sym (join-blank (shown_at 1 (shown 1 ∷ [])))), refl),
-  spelled_is ([] ∷ (shown 7 ∷ shown 1 ∷ []) ∷ []) ∙ nothing_first 0 _ _ (join-blank (shown_at 1 (shown 7 ∷ shown 1 ∷ []))) ∙ shown_join 1 (shown 7 ∷ []) (shown 1 ∷ []),
+  (omega arith, (one_shown 7, refl, refl)),
+  (blank, shown_at 1 (one_shown 1 ∷ []), (1, refl, omega arith, refl), (shown_at 1 (one_shown 1 ∷ []), blank, (one_shown 1, refl, refl), refl, sym (join-blank (shown_at 1 (one_shown 1 ∷ [])))), refl),
+  spelled_is ([] ∷ (one_shown 7 ∷ one_shown 1 ∷ []) ∷ []) ∙ nothing_first 0 _ _ (join-blank (shown_at 1 (one_shown 7 ∷ one_shown 1 ∷ []))) ∙ shown_join 1 (one_shown 7 ∷ []) (one_shown 1 ∷ []),
 )
 
 pub returns-clause-assign_holds : goal.returns-clause-assign_holds

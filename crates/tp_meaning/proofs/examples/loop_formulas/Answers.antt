@@ -3,7 +3,7 @@ use Rattle.tp_value.specs.Tree.{num}
 use Rattle.tp_meaning.specs.Course.{blank, ◌⊕◌, shown_at}
 use Rattle.tp_meaning.specs.Syntax.{bound}
 use Rattle.tp_meaning.specs.Value.{fixed}
-use Rattle.tp_meaning.specs.Examples.{A, shown}
+use Rattle.tp_meaning.specs.Examples.{A, one_shown}
 use Rattle.tp_meaning.proofs.ExampleTurns.{turn_shows, shows_once, no_second_turn}
 use Rattle.tp_meaning.proofs.Shows.{join-blank}
 use Rattle.tp_meaning.proofs.ExampleShows.{spelled_is, shown_join, nothing_listed}
@@ -15,13 +15,13 @@ returns-clause-for_turns_may_be_empty c = (
   refl,
   (
     0,
-    shown_at 0 (shown 0 ∷ []),
-    shown_at 0 (shown 1 ∷ []),
+    shown_at 0 (one_shown 0 ∷ []),
+    shown_at 0 (one_shown 1 ∷ []),
     omega arith,
     omega arith,
-    (shown 0, refl, refl),
-    (0, shown_at 0 (shown 1 ∷ []), blank, omega arith, omega arith, (shown 1, refl, refl), (refl, refl), sym (join-blank (shown_at 0 (shown 1 ∷ [])))),
-    spelled_is ((shown 0 ∷ shown 1 ∷ []) ∷ []) ∙ join-blank (shown_at 0 (shown 0 ∷ shown 1 ∷ [])) ∙ shown_join 0 (shown 0 ∷ []) (shown 1 ∷ []),
+    (one_shown 0, refl, refl),
+    (0, shown_at 0 (one_shown 1 ∷ []), blank, omega arith, omega arith, (one_shown 1, refl, refl), (refl, refl), sym (join-blank (shown_at 0 (one_shown 1 ∷ [])))),
+    spelled_is ((one_shown 0 ∷ one_shown 1 ∷ []) ∷ []) ∙ join-blank (shown_at 0 (one_shown 0 ∷ one_shown 1 ∷ [])) ∙ shown_join 0 (one_shown 0 ∷ []) (one_shown 1 ∷ []),
   ),
 )
 
@@ -30,13 +30,13 @@ returns-clause-while_holds c = (
   2,
   (
     1,
-    shown_at 0 (shown 0 ∷ []),
-    shown_at 1 (shown 1 ∷ []) ⊕ blank,
+    shown_at 0 (one_shown 0 ∷ []),
+    shown_at 1 (one_shown 1 ∷ []) ⊕ blank,
     omega arith,
     omega arith,
     (omega arith, refl, turn_shows A [] 0 1 0 refl refl),
-    (2, shown_at 1 (shown 1 ∷ []), blank, omega arith, omega arith, (omega arith, refl, turn_shows A [] 1 2 1 refl refl), (refl, refl), refl),
-    spelled_is ((shown 0 ∷ []) ∷ (shown 1 ∷ []) ∷ []),
+    (2, shown_at 1 (one_shown 1 ∷ []), blank, omega arith, omega arith, (omega arith, refl, turn_shows A [] 1 2 1 refl refl), (refl, refl), refl),
+    spelled_is ((one_shown 0 ∷ []) ∷ (one_shown 1 ∷ []) ∷ []),
   ),
   refl,
 )
@@ -50,13 +50,13 @@ returns-clause-for_holds c = (
   refl,
   (
     1,
-    shown_at 0 (shown 0 ∷ []),
-    shown_at 1 (shown 1 ∷ []) ⊕ blank,
+    shown_at 0 (one_shown 0 ∷ []),
+    shown_at 1 (one_shown 1 ∷ []) ⊕ blank,
     omega arith,
     omega arith,
     turn_shows (bound 0) (fixed (num (pos 0)) ∷ []) 0 1 0 refl refl,
-    (2, shown_at 1 (shown 1 ∷ []), blank, omega arith, omega arith, turn_shows (bound 0) (fixed (num (pos 1)) ∷ []) 1 2 1 refl refl, (refl, refl), refl),
-    spelled_is ((shown 0 ∷ []) ∷ (shown 1 ∷ []) ∷ []),
+    (2, shown_at 1 (one_shown 1 ∷ []), blank, omega arith, omega arith, turn_shows (bound 0) (fixed (num (pos 1)) ∷ []) 1 2 1 refl refl, (refl, refl), refl),
+    spelled_is ((one_shown 0 ∷ []) ∷ (one_shown 1 ∷ []) ∷ []),
   ),
 )
 
@@ -68,11 +68,11 @@ returns-clause-forall_holds c = (
   pos 2,
   refl,
   (
-    shown_at 0 (shown 0 ∷ []),
-    shown_at 0 (shown 1 ∷ []),
-    (shown 0, refl, refl),
-    (shown_at 0 (shown 1 ∷ []), blank, (shown 1, refl, refl), refl, sym (join-blank (shown_at 0 (shown 1 ∷ [])))),
-    spelled_is ((shown 0 ∷ shown 1 ∷ []) ∷ []) ∙ join-blank (shown_at 0 (shown 0 ∷ shown 1 ∷ [])) ∙ shown_join 0 (shown 0 ∷ []) (shown 1 ∷ []),
+    shown_at 0 (one_shown 0 ∷ []),
+    shown_at 0 (one_shown 1 ∷ []),
+    (one_shown 0, refl, refl),
+    (shown_at 0 (one_shown 1 ∷ []), blank, (one_shown 1, refl, refl), refl, sym (join-blank (shown_at 0 (one_shown 1 ∷ [])))),
+    spelled_is ((one_shown 0 ∷ one_shown 1 ∷ []) ∷ []) ∙ join-blank (shown_at 0 (one_shown 0 ∷ one_shown 1 ∷ [])) ∙ shown_join 0 (one_shown 0 ∷ []) (one_shown 1 ∷ []),
   ),
 )
 
@@ -81,13 +81,13 @@ returns-clause-turns_have_length c = (
   1,
   (
     1,
-    shown_at 0 (shown 0 ∷ []),
+    shown_at 0 (one_shown 0 ∷ []),
     blank,
     omega arith,
     omega arith,
-    (omega arith, refl, (shown 0, refl, refl)),
+    (omega arith, refl, (one_shown 0, refl, refl)),
     (refl, refl),
-    spelled_is ((shown 0 ∷ []) ∷ []),
+    spelled_is ((one_shown 0 ∷ []) ∷ []),
   ),
   refl,
 )
@@ -105,12 +105,12 @@ returns-clause-for_counts_from_its_number c = (
   (
     0,
     shown_at 0 ((num (negsuc 0) ∷ []) ∷ []),
-    shown_at 0 (shown 0 ∷ []),
+    shown_at 0 (one_shown 0 ∷ []),
     omega arith,
     omega arith,
     (num (negsuc 0) ∷ [], refl, refl),
-    (0, shown_at 0 (shown 0 ∷ []), blank, omega arith, omega arith, (shown 0, refl, refl), (refl, refl), sym (join-blank (shown_at 0 (shown 0 ∷ [])))),
-    spelled_is (((num (negsuc 0) ∷ []) ∷ shown 0 ∷ []) ∷ []) ∙ join-blank (shown_at 0 ((num (negsuc 0) ∷ []) ∷ shown 0 ∷ [])) ∙ shown_join 0 ((num (negsuc 0) ∷ []) ∷ []) (shown 0 ∷ []),
+    (0, shown_at 0 (one_shown 0 ∷ []), blank, omega arith, omega arith, (one_shown 0, refl, refl), (refl, refl), sym (join-blank (shown_at 0 (one_shown 0 ∷ [])))),
+    spelled_is (((num (negsuc 0) ∷ []) ∷ one_shown 0 ∷ []) ∷ []) ∙ join-blank (shown_at 0 ((num (negsuc 0) ∷ []) ∷ one_shown 0 ∷ [])) ∙ shown_join 0 ((num (negsuc 0) ∷ []) ∷ []) (one_shown 0 ∷ []),
   ),
 )
 

@@ -1,7 +1,7 @@
 use Rattle.std.proofs.Common.{pos, [], ◌∷◌, ◌*◌, ◌∙◌, refl, sym, arith}
 use Rattle.tp_value.specs.Tree.{num}
 use Rattle.tp_meaning.specs.Course.{blank, ◌⊕◌, shown_at}
-use Rattle.tp_meaning.specs.Examples.{counting, shown}
+use Rattle.tp_meaning.specs.Examples.{counting, one_shown}
 use Rattle.tp_meaning.proofs.Shows.{join-blank}
 use Rattle.tp_meaning.proofs.ExampleShows.{spelled_is, nothing_first, shown_nothing, nothing_woven, nothing_listed}
 use Rattle.tp_meaning.proofs.ExampleProject.{piece_from, piece_shows, outer_shows, outer_holds, cuts_show}
@@ -47,7 +47,7 @@ pub returns-clause-names_of_the_outer_formula : goal.returns-clause-names_of_the
 returns-clause-names_of_the_outer_formula c = (
   (λ k. 2 * k),
   1,
-  shown_at 1 (shown 2 ∷ []),
+  shown_at 1 (one_shown 2 ∷ []),
   (λ j. blank),
   (λ k. omega arith),
   refl,
@@ -58,11 +58,11 @@ returns-clause-names_of_the_outer_formula c = (
     tt,
     (
       blank,
-      shown_at 1 (shown 2 ∷ []),
+      shown_at 1 (one_shown 2 ∷ []),
       (2, (λ i. blank), omega arith, (λ i u v. (num (pos (2 * i)), refl, refl, refl)), refl),
-      (shown_at 1 (shown 2 ∷ []), blank, (omega arith, (shown 2, refl, refl)), refl, sym (join-blank (shown_at 1 (shown 2 ∷ [])))),
+      (shown_at 1 (one_shown 2 ∷ []), blank, (omega arith, (one_shown 2, refl, refl)), refl, sym (join-blank (shown_at 1 (one_shown 2 ∷ [])))),
       refl,
     ),
   ),
-  spelled_is ([] ∷ [] ∷ (shown 2 ∷ []) ∷ []) ∙ (λ i. shown_at 0 [] ⊕ nothing_first 1 (shown_at 2 (shown 2 ∷ [])) _ (join-blank (shown_at 2 (shown 2 ∷ []))) i),
+  spelled_is ([] ∷ [] ∷ (one_shown 2 ∷ []) ∷ []) ∙ (λ i. shown_at 0 [] ⊕ nothing_first 1 (shown_at 2 (one_shown 2 ∷ [])) _ (join-blank (shown_at 2 (one_shown 2 ∷ []))) i),
 )

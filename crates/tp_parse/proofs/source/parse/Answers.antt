@@ -5,7 +5,7 @@ use Rattle.tp_tree.specs.Read.{source_tree}
 use Rattle.tp_parse.specs.declared.refusal.ParseRefusal.{ParseRefusal}
 use Rattle.tp_parse.specs.declared.refusal.ParseRefusal.TheVariants.{Unexpected, Unfinished, TooDeep, NoMemory}
 use Rattle.tp_parse.specs.Input.{Tokens}
-use Rattle.tp_parse.specs.Source.{outcome_of, IsOutcome, NamesToken}
+use Rattle.tp_parse.specs.Source.{parse_outcome, IsOutcome, NamesToken}
 use Rattle.tp_parse.specs.Grammar.{Accepts}
 use Rattle.tp_parse.specs.Place.{NoneGoesOn}
 use Rattle.tp_parse.proofs.Exact.{read_accepted, accepted_read, refusal_named}
@@ -14,33 +14,33 @@ use Rattle.tp_parse.proofs.Rests.{refusal_is_first}
 use Rattle.tp_parse.proofs.Heights.{accepted_low}
 use Rattle.tp_parse.proofs.source.parse.Goals as goal
 
-accepted : (ts : Tokens) (r : Result Source ParseRefusal) → IsOutcome (outcome_of ts) r → IfOk r (λ s. Accepts ts (source_tree s))
+accepted : (ts : Tokens) (r : Result Source ParseRefusal) → IsOutcome (parse_outcome ts) r → IfOk r (λ s. Accepts ts (source_tree s))
 accepted ts (Ok x) is = read_accepted ts (source_tree x) is
 accepted ts (Err e) is = tt
 
-only : (ts : Tokens) (r : Result Source ParseRefusal) → IsOutcome (outcome_of ts) r → IfOk r (λ s. (t : SourceTree) → Accepts ts t → t ≡ source_tree s)
+only : (ts : Tokens) (r : Result Source ParseRefusal) → IsOutcome (parse_outcome ts) r → IfOk r (λ s. (t : SourceTree) → Accepts ts t → t ≡ source_tree s)
 only ts (Ok x) is = λ t a. let read = accepted_read ts t a in cc
 only ts (Err e) is = tt
 
-refused : (ts : Tokens) (r : Result Source ParseRefusal) → IsOutcome (outcome_of ts) r → IfErr r (λ e. e ≢ NoMemory → (t : SourceTree) → ¬ Accepts ts t)
+refused : (ts : Tokens) (r : Result Source ParseRefusal) → IsOutcome (parse_outcome ts) r → IfErr r (λ e. e ≢ NoMemory → (t : SourceTree) → ¬ Accepts ts t)
 refused ts (Ok x) is = tt
 refused ts (Err e) is = λ some t a. let refused_by = is some in let read = accepted_read ts t a in cc
 
-token : (ts : Tokens) (r : Result Source ParseRefusal) → IsOutcome (outcome_of ts) r → IfErr r (NamesToken (length ts))
+token : (ts : Tokens) (r : Result Source ParseRefusal) → IsOutcome (parse_outcome ts) r → IfErr r (NamesToken (length ts))
 token ts (Ok x) is = tt
 token ts (Err NoMemory) is = tt
 token ts (Err Unfinished) is = tt
 token ts (Err (Unexpected i)) is = refusal_named ts (Unexpected i) (is (λ q. cc))
 token ts (Err (TooDeep i)) is = refusal_named ts (TooDeep i) (is (λ q. cc))
 
-place : (ts : Tokens) (r : Result Source ParseRefusal) → IsOutcome (outcome_of ts) r → IfErr r (NoneGoesOn ts)
+place : (ts : Tokens) (r : Result Source ParseRefusal) → IsOutcome (parse_outcome ts) r → IfErr r (NoneGoesOn ts)
 place ts (Ok x) is = tt
 place ts (Err NoMemory) is = tt
 place ts (Err Unfinished) is = tt
 place ts (Err (Unexpected i)) is = refusal_is_first ts (Unexpected i) (is (λ q. cc))
 place ts (Err (TooDeep i)) is = refusal_is_first ts (TooDeep i) (is (λ q. cc))
 
-low : (ts : Tokens) (r : Result Source ParseRefusal) → IsOutcome (outcome_of ts) r → IfOk r (λ s. source_height (source_tree s) ≤ 200)
+low : (ts : Tokens) (r : Result Source ParseRefusal) → IsOutcome (parse_outcome ts) r → IfOk r (λ s. source_height (source_tree s) ≤ 200)
 low ts (Ok x) is = accepted_low ts (source_tree x) (read_accepted ts (source_tree x) is)
 low ts (Err e) is = tt
 

@@ -1,5 +1,5 @@
 use Rattle.std.proofs.Common.{◌∙◌, ap₂, sym}
-use Rattle.tp_eval.specs.Answers.{outcome_of}
+use Rattle.tp_eval.specs.Answers.{outcome_tree}
 use Rattle.tp_scene.specs.Step as row
 use Rattle.tp_rows.specs.Found.{option_target}
 use Rattle.tp_rows.proofs.EquationLemmas.{side}
@@ -8,7 +8,7 @@ use Rattle.tp_rows.proofs.equation.equate.Goals as goal
 pub returns-in-Value-left_found-clause-outcome : goal.returns-in-Value-left_found-clause-outcome
 returns-in-Value-left_found-clause-outcome c = λ facts n.
     c.meet.ensures.outcome facts n c.args.right.placed
-    ∙ ap₂ (λ o p. row.equate facts (side c.args.left.placed (option_target c.args.left.target) (outcome_of o)) (side c.args.right.placed (option_target c.args.right.target) (outcome_of p))) (sym c.in-Value-left_found.is) (sym c.in-Wait.is)
+    ∙ ap₂ (λ o p. row.equate facts (side c.args.left.placed (option_target c.args.left.target) (outcome_tree o)) (side c.args.right.placed (option_target c.args.right.target) (outcome_tree p))) (sym c.in-Value-left_found.is) (sym c.in-Wait.is)
 
 pub returns-in-Over-clause-variables : goal.returns-in-Over-clause-variables
 returns-in-Over-clause-variables c = λ xs h g. c.pass_on_right.ensures.variables xs

@@ -9,8 +9,8 @@ use Rattle.tp_inputs.specs.Read.{lines_of}
 use Rattle.tp_eval.specs.Outcome.{outcome}
 use Rattle.tp_scene.specs.Scene as S
 use Rattle.tp_scene.specs.Step as row
-use Rattle.tp_rows.specs.Read.{env_of}
-use Rattle.tp_rows.specs.Decided.{place_of}
+use Rattle.tp_rows.specs.Read.{phrase_bindings}
+use Rattle.tp_rows.specs.Decided.{place_seen}
 use Rattle.tp_rows.specs.Found.{TruthIn, NumberIn, ValueIn}
 use Rattle.tp_rows.proofs.FormulaLemmas.{same_outcome, found_row}
 use Rattle.tp_rows.proofs.formula.decide.Goals as goal
@@ -31,8 +31,8 @@ pub returns-in_ok-found-in-NextEq-clause-outcome : goal.returns-in_ok-found-in-N
 returns-in_ok-found-in-NextEq-clause-outcome c =
     let facts = c.args.store.now.facts in
     let defs = definitions_of c.args.setting.now.defs in
-    let env = env_of c.args.phrase.now in
-    let place = place_of c.args.place in
+    let env = phrase_bindings c.args.phrase.now in
+    let place = place_seen c.args.place in
     let step = row.formula_step defs (lines_of c.args.setting.now.inputs) c.args.setting.now.state facts in
     let found = c.in_ok-found-in-NextEq.found in
     let whole = ap formula_tree (sym c.deref.ensures ∙ c.in-NextEq.is) ∙ formula_next_eq c.in-NextEq.k c.in-NextEq.t c.in-NextEq.e in
@@ -44,8 +44,8 @@ pub returns-in_ok-found-in-If-clause-outcome : goal.returns-in_ok-found-in-If-cl
 returns-in_ok-found-in-If-clause-outcome c =
     let facts = c.args.store.now.facts in
     let defs = definitions_of c.args.setting.now.defs in
-    let env = env_of c.args.phrase.now in
-    let place = place_of c.args.place in
+    let env = phrase_bindings c.args.phrase.now in
+    let place = place_seen c.args.place in
     let step = row.formula_step defs (lines_of c.args.setting.now.inputs) c.args.setting.now.state facts in
     let found = c.in_ok-found-in-If.found in
     let whole = ap formula_tree (sym c.deref.ensures ∙ c.in-If.is) ∙ formula_if c.in-If.b c.in-If.yes c.in-If.no in
@@ -57,8 +57,8 @@ pub returns-in_ok-found-in-Assign-clause-outcome : goal.returns-in_ok-found-in-A
 returns-in_ok-found-in-Assign-clause-outcome c =
     let facts = c.args.store.now.facts in
     let defs = definitions_of c.args.setting.now.defs in
-    let env = env_of c.args.phrase.now in
-    let place = place_of c.args.place in
+    let env = phrase_bindings c.args.phrase.now in
+    let place = place_seen c.args.place in
     let step = row.formula_step defs (lines_of c.args.setting.now.inputs) c.args.setting.now.state facts in
     let found = c.in_ok-found-in-Assign.found in
     let whole = ap formula_tree (sym c.deref.ensures ∙ c.in-Assign.is) ∙ formula_assign c.in-Assign.t c.in-Assign.e in
@@ -70,8 +70,8 @@ pub returns-in_ok-found-in-For-clause-outcome : goal.returns-in_ok-found-in-For-
 returns-in_ok-found-in-For-clause-outcome c =
     let facts = c.args.store.now.facts in
     let defs = definitions_of c.args.setting.now.defs in
-    let env = env_of c.args.phrase.now in
-    let place = place_of c.args.place in
+    let env = phrase_bindings c.args.phrase.now in
+    let place = place_seen c.args.place in
     let step = row.formula_step defs (lines_of c.args.setting.now.inputs) c.args.setting.now.state facts in
     let found = c.in_ok-found-in-For.found in
     let whole = ap formula_tree (sym c.deref.ensures ∙ c.in-For.is) ∙ formula_for c.in-For.name c.in-For.from c.in-For.to c.in-For.body in
@@ -88,8 +88,8 @@ pub returns-in_ok-found-in-Forall-clause-outcome : goal.returns-in_ok-found-in-F
 returns-in_ok-found-in-Forall-clause-outcome c =
     let facts = c.args.store.now.facts in
     let defs = definitions_of c.args.setting.now.defs in
-    let env = env_of c.args.phrase.now in
-    let place = place_of c.args.place in
+    let env = phrase_bindings c.args.phrase.now in
+    let place = place_seen c.args.place in
     let step = row.formula_step defs (lines_of c.args.setting.now.inputs) c.args.setting.now.state facts in
     let found = c.in_ok-found-in-Forall.found in
     let whole = ap formula_tree (sym c.deref.ensures ∙ c.in-Forall.is) ∙ formula_forall c.in-Forall.name c.in-Forall.from c.in-Forall.to c.in-Forall.body in

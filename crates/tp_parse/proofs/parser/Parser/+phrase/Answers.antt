@@ -2,7 +2,7 @@ use Rattle.std.proofs.Common.{◌≡◌, ◌≤◌, ◌≢◌, ℕ, suc, sym, �
 use Rattle.std.proofs.lemmas.Grind.{common_steps}
 use Rattle.std.proofs.lemmas.List.{map_push}
 use Rattle.std.proofs.lemmas.Result.{err_from_is_err_and}
-use Rattle.tp_tree.specs.Read.{tree}
+use Rattle.tp_tree.specs.Read.{phrase_tree}
 use Rattle.tp_parse.specs.Marks.{before}
 use Rattle.tp_parse.specs.Input.{Tokens, mark}
 use Rattle.tp_parse.specs.Found.{seen, operands_of}
@@ -41,32 +41,32 @@ operations-returns-clause-reads t c =
 pub others-loop-turn-init : goal.others-loop-turn-init
 unfolding others
 others-loop-turn-init t c =
-    let items : map tree c.push.new.self.items ≡ tree c.args.first.phrase ∷ [] = ap (map tree) c.in_ok-push.ensures.items ∙ ap (λ xs. map tree (xs ++ c.args.first.phrase ∷ [])) c.new-items.ensures.items in
+    let items : map phrase_tree c.push.new.self.items ≡ phrase_tree c.args.first.phrase ∷ [] = ap (map phrase_tree) c.in_ok-push.ensures.items ∙ ap (λ xs. map phrase_tree (xs ++ c.args.first.phrase ∷ [])) c.new-items.ensures.items in
     record { reads = rw items (first_of (search rules, grind (arith, common_steps))); low = omega arith }
 
 pub others-returns-then-not-sees-clause-reads : goal.others-returns-then-not-sees-clause-reads
 unfolding others_from
 others-returns-then-not-sees-clause-reads t c =
-    let e = one_more (λ n. others_from (read c.args.room) c.args.room c.args.level c.args.separator n (operands_of (map tree c.loop-turn.items.items) c.loop-turn.height) c.loop-turn.self) _ c.loop-turn._turn c.loop-turn-test.true c.loop-turn.invariant.reads in
+    let e = one_more (λ n. others_from (read c.args.room) c.args.room c.args.level c.args.separator n (operands_of (map phrase_tree c.loop-turn.items.items) c.loop-turn.height) c.loop-turn.self) _ c.loop-turn._turn c.loop-turn-test.true c.loop-turn.invariant.reads in
     first_of (search rules, grind (arith, common_steps))
 
 pub others-returns-in_err-next-clause-reads : goal.others-returns-in_err-next-clause-reads
 unfolding others_from
 others-returns-in_err-next-clause-reads t c =
-    let e = one_more (λ n. others_from (read c.args.room) c.args.room c.args.level c.args.separator n (operands_of (map tree c.loop-turn.items.items) c.loop-turn.height) c.loop-turn.self) _ c.loop-turn._turn c.loop-turn-test.true c.loop-turn.invariant.reads in
+    let e = one_more (λ n. others_from (read c.args.room) c.args.room c.args.level c.args.separator n (operands_of (map phrase_tree c.loop-turn.items.items) c.loop-turn.height) c.loop-turn.self) _ c.loop-turn._turn c.loop-turn-test.true c.loop-turn.invariant.reads in
     first_of (search rules, grind (arith, common_steps))
 
 pub others-loop-turn-preserved : goal.others-loop-turn-preserved
 unfolding others_from
 others-loop-turn-preserved t c =
-    let e = one_more (λ n. others_from (read c.args.room) c.args.room c.args.level c.args.separator n (operands_of (map tree c.loop-turn.items.items) c.loop-turn.height) c.loop-turn.self) _ c.loop-turn._turn c.loop-turn-test.true c.loop-turn.invariant.reads in
-    let items : map tree c.push-in-loop-turn.new.self.items ≡ map tree c.loop-turn.items.items ++ tree c.in_ok-next.next.phrase ∷ [] = rw c.in_ok-push-2.ensures.items (map_push _ c.loop-turn.items.items c.in_ok-next.next.phrase) in
+    let e = one_more (λ n. others_from (read c.args.room) c.args.room c.args.level c.args.separator n (operands_of (map phrase_tree c.loop-turn.items.items) c.loop-turn.height) c.loop-turn.self) _ c.loop-turn._turn c.loop-turn-test.true c.loop-turn.invariant.reads in
+    let items : map phrase_tree c.push-in-loop-turn.new.self.items ≡ map phrase_tree c.loop-turn.items.items ++ phrase_tree c.in_ok-next.next.phrase ∷ [] = rw c.in_ok-push-2.ensures.items (map_push _ c.loop-turn.items.items c.in_ok-next.next.phrase) in
     record { reads = rw items (first_of (search rules, grind (arith, common_steps))); low = first_of (search rules, grind (arith, common_steps)) }
 
 pub others-returns-clause-reads : goal.others-returns-clause-reads
 unfolding others_from
 others-returns-clause-reads t c =
-    let e = no_more (λ n. others_from (read c.args.room) c.args.room c.args.level c.args.separator n (operands_of (map tree c.loop-turn.items.items) c.loop-turn.height) c.loop-turn.self) _ c.loop-turn._turn c.loop-turn-test.false c.loop-turn.invariant.reads in
+    let e = no_more (λ n. others_from (read c.args.room) c.args.room c.args.level c.args.separator n (operands_of (map phrase_tree c.loop-turn.items.items) c.loop-turn.height) c.loop-turn.self) _ c.loop-turn._turn c.loop-turn-test.false c.loop-turn.invariant.reads in
     first_of (search rules, grind (arith, common_steps))
 
 pub first-returns-then-level-eq0-clause-reads : goal.first-returns-then-level-eq0-clause-reads

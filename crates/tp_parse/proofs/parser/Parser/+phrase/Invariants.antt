@@ -1,5 +1,5 @@
 use Rattle.std.proofs.Common.{◌≡◌, ◌+◌, ◌*◌, ◌-◌, ◌≤◌, map, Ok}
-use Rattle.tp_tree.specs.Read.{tree}
+use Rattle.tp_tree.specs.Read.{phrase_tree}
 use Rattle.tp_parse.specs.Found.{seen, operands_of}
 use Rattle.tp_parse.specs.Reading.{read, levels, operations, go, others, others_from}
 use Rattle.tp_parse.proofs.parser.Parser.+phrase.Given as goal
@@ -57,7 +57,7 @@ invariant-operations-loop-turn l = record {
 
 abbrev pub invariant-others-loop-turn : goal.invariant-others-loop-turn
 invariant-others-loop-turn l = record {
-  reads : others (read l.room) l.room l.level l.separator (seen l.fn.first) l.fn.self ≡ others_from (read l.room) l.room l.level l.separator (l._turn-end - l._turn) (operands_of (map tree l.items.items) l.height) l.self;
+  reads : others (read l.room) l.room l.level l.separator (seen l.fn.first) l.fn.self ≡ others_from (read l.room) l.room l.level l.separator (l._turn-end - l._turn) (operands_of (map phrase_tree l.items.items) l.height) l.self;
   low : l.height ≤ l.room;
 }
 

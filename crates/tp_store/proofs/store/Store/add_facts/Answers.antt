@@ -2,7 +2,7 @@ use Rattle.std.proofs.Common.{◌≡◌, ap, sym, ◌∙◌, subst, length, slic
 use Rattle.std.proofs.lemmas.Result.{err_from_is_err_and}
 use Rattle.tp_store.specs.Known.{addition, Addition, Contents}
 use Rattle.tp_store.specs.Answers.{IsRefusal}
-use Rattle.tp_store.specs.Changes.{HasAdded}
+use Rattle.tp_store.specs.Changes.{AddsFacts}
 use Rattle.tp_store.specs.Entries.{parts_in, facts_there, grown, contents_of}
 use Rattle.tp_store.proofs.Filing.{sound, moved_parts, addition_view, grows}
 use Rattle.tp_store.proofs.EntryLemmas.{written}
@@ -50,7 +50,7 @@ returns-clause-added c =
     let same = ap parts_in (written es fs c.self.inside.entries.len c.self.inside.entries.ok.0 lengths) ∙ c.in_ok-news.ensures.ok ∙ ap (λ xs. grown (parts_in xs) c.args.var.number c.in_ok-news.news) c.as_mut_slice.ensures.value in
     let added = ap (λ xs. addition (facts_there (slice_get (parts_in xs) c.args.var.number)) c.args.facts.items) (sym c.as_mut_slice.ensures.value) ∙ c.in_ok-news.ensures.added in
     let all = grows (parts_in es) _ c.args.var c.args.facts.items c.in_ok-news.news c.self.view_is c.self.invariant c.requires.variable c.requires.filed c.requires.apart added in
-    let P : Contents → Type 0 = λ s. HasAdded c.args.self.now c.in_ok-news.news s in
+    let P : Contents → Type 0 = λ s. AddsFacts c.args.self.now c.in_ok-news.news s in
     subst P (ap contents_of (sym same)) all.added
 
 pub returns-clause-sound : goal.returns-clause-sound
