@@ -1,0 +1,242 @@
+-- Each change of a scene, as the code makes it.
+use Rattle.std.proofs.Common.{◌≡◌, ℕ, zero, suc, ◌+◌, ◌≤◌, ◌<◌, Bool, true, false, List, [], ◌∷◌, ◌++◌, map, length, get_or, Option, Some, None, refl, ap, sym, ◌∙◌, subst, arith}
+use Rattle.std.proofs.lemmas.List.{get_or_past, length-map, append-nil}
+use Rattle.tp_meaning.specs.Syntax.{FormulaTree}
+use Rattle.tp_scene.specs.Scene as S
+use Rattle.tp_scene.specs.Scene.{Bindings, Side, Ending, Going, Holder, Entries, none, leaf, node, new_head, no_region, second_lives, has}
+use Rattle.tp_scene.specs.Step.{Reduction}
+use Rattle.tp_scene.specs.Pick.{scene_after}
+use Rattle.tp_slots.specs.Plain as plain
+use Rattle.tp_slots.specs.Plain.{What, Slots, slot_at, entries_at, scene_in, has_second, IsOrdered}
+use Rattle.tp_slots.specs.Flags.{Flags, FlagsAreRight, FlagsFollow, rises_what, flags_in, Pending}
+use Rattle.tp_slots.specs.Kept.{IsShaped, IsQuiet, IsWellKept, IsUnchanged}
+use Rattle.tp_slots.specs.Lives.{lives_in}
+use Rattle.tp_slots.specs.Replace.{home_in}
+use Rattle.tp_slots.specs.Row.{begun, stepped, held_after, AllBelow}
+use Rattle.tp_slots.specs.Reductions.{IsBare, AreBare, becomes_leaves}
+use Rattle.tp_slots.specs.Read.{slot_of, region_slot_of, slots_of, scene_of, holders_of, ends_of, goes_of, flags_of, other_side}
+use Rattle.tp_slots.proofs.Showing.{all_shown, has_shown}
+use Rattle.tp_slots.proofs.Told.{told, rises_all}
+use Rattle.tp_slots.proofs.Stepping.{IsStep, stepped_regions}
+use Rattle.tp_slots.proofs.Instances.{told_leaves, leaves_rise, leaves_step, begins_step, begins_rise, begins_told}
+use Rattle.tp_slots.proofs.Keeping.{scene_then, shape_then, flags_then, quiet_then, home_lives_then}
+use Rattle.tp_slots.specs.declared.scene.Scene.{Scene}
+use Rattle.tp_slots.specs.declared.scene.Region.{Region}
+
+pub lives_within : (s : Scene) (t : ℕ) → IsOrdered (slots_of s) → has t (scene_of s).root.entries ≡ true → t < length s.slots.items
+lives_within s t sound lives =
+    let there = has_shown (slots_of s) sound t 0 (entries_at (slots_of s) 0) (all_shown (slots_of s) sound 0 sound.root) lives in
+    let l = there.0 in
+    let e = length-map s.slots.items slot_of in
+    omega (arith, e, l)
+
+pub home_within : (s : Scene) (t : ℕ) → IsOrdered (slots_of s) → t < length s.slots.items → home_in (map slot_of s.slots.items) t < length s.regions.items
+home_within s t sound l = let e = length-map s.slots.items slot_of in let f = length-map s.regions.items region_slot_of in let a = (sound.items t (omega (arith, e, l))).0 in omega (arith, f, a)
+
+-- nothing was changed
+pub unchanged_kept : (s s' : Scene) → IsWellKept s → IsUnchanged s s' → IsWellKept s'
+unchanged_kept s s' kept same =
+    let es : slots_of s' ≡ slots_of s = λ i. record { slots = map slot_of (same.slots i); regions = map region_slot_of (same.regions i) } in
+    let eh : holders_of s' ≡ holders_of s = ap (map (λ (x : Region). x.holder)) same.regions in
+    let ee : ends_of s' ≡ ends_of s = ap (map (λ (x : Region). x.ends_now)) same.regions in
+    let eg : goes_of s' ≡ goes_of s = ap (map (λ (x : Region). x.goes_now)) same.regions in
+    record {
+      shape = subst (λ x. IsShaped x (holders_of s')) (sym es) (subst (IsShaped (slots_of s)) (sym eh) kept.shape);
+      ending = subst (λ x. FlagsAreRight x Ending (flags_in (ends_of s'))) (sym es) (subst (λ (l : List Bool). FlagsAreRight (slots_of s) Ending (flags_in l)) (sym ee) kept.ending);
+      going = subst (λ x. FlagsAreRight x Going (flags_in (goes_of s'))) (sym es) (subst (λ (l : List Bool). FlagsAreRight (slots_of s) Going (flags_in l)) (sym eg) kept.going);
+      quiet_ends = subst (λ x. IsQuiet x (holders_of s') (flags_in (ends_of s'))) (sym es) (subst (λ h. IsQuiet (slots_of s) h (flags_in (ends_of s'))) (sym eh) (subst (λ (l : List Bool). IsQuiet (slots_of s) (holders_of s) (flags_in l)) (sym ee) kept.quiet_ends));
+      quiet_goes = subst (λ x. IsQuiet x (holders_of s') (flags_in (goes_of s'))) (sym es) (subst (λ h. IsQuiet (slots_of s) h (flags_in (goes_of s'))) (sym eh) (subst (λ (l : List Bool). IsQuiet (slots_of s) (holders_of s) (flags_in l)) (sym eg) kept.quiet_goes));
+    }
+
+-- more flags that aren't set say the same
+more_flags : (xs : List Bool) (n c : ℕ) → flags_in (xs ++ map (λ x. false) (begun n c)) ≡ flags_in xs
+more_flags xs n zero = ap flags_in (append-nil xs)
+more_flags xs n (suc c) = λ i q. at q i
+  where
+    at : (q : ℕ) → get_or (xs ++ false ∷ []) q false ≡ get_or xs q false
+    at q = by xs q
+      where
+        by : (xs : List Bool) (q : ℕ) → get_or (xs ++ false ∷ []) q false ≡ get_or xs q false
+        by [] zero = refl
+        by [] (suc q) = refl
+        by (x ∷ xs) zero = refl
+        by (x ∷ xs) (suc q) = by xs q
+
+module _ (s : Scene) (t : ℕ) (m : Option Side) (ins outs : List What) (kept : IsWellKept s) (lives : has t (scene_of s).root.entries ≡ true) (step : IsStep (slots_of s) t m ins outs) (next : Scene) (n : ℕ)
+    (es : slots_of next ≡ stepped (slots_of s) t m ins outs) (eh : holders_of next ≡ held_after (slots_of s) ins outs (holders_of s))
+    (ee : ends_of next ≡ ends_of s ++ map (λ x. false) (begun n (length ins))) (eg : goes_of next ≡ goes_of s ++ map (λ x. false) (begun n (length ins))) where
+  pub scene_put : (r : Reduction) → r.news ≡ told (stepped (slots_of s) t m ins outs) (length (slots_of s).slots + length ins) outs → r.items ≡ length ins + length outs → r.regions ≡ length (begun (length (slots_of s).slots) (length ins)) → r.mark ≡ m
+      → scene_of next ≡ scene_after t r (scene_of s)
+  scene_put r a b c d = ap scene_in es ∙ scene_then (slots_of s) (holders_of s) t m ins outs kept.shape lives step r a b c d
+
+  pub shape_put : IsShaped (slots_of next) (holders_of next)
+  shape_put = subst (λ x. IsShaped x (holders_of next)) (sym es) (subst (IsShaped (stepped (slots_of s) t m ins outs)) (sym eh) (shape_then (slots_of s) (holders_of s) t m ins outs kept.shape lives step))
+
+  low : (f : List Bool) → length f ≡ length (slots_of s).regions → (r : ℕ) → length (slots_of s).regions ≤ r → flags_in f r ≡ false
+  low f e r l = get_or_past f r false (omega (arith, e, l))
+
+  flags_put : (y : Side) (f f' : List Bool) → length f ≡ length (slots_of s).regions → f' ≡ f ++ map (λ x. false) (begun n (length ins)) → FlagsAreRight (slots_of s) y (flags_in f) → rises_all y (flags_in f) outs ≡ rises_what y (flags_in f) (slot_at (slots_of s) t).what
+      → FlagsFollow (slots_of next) m (slot_at (slots_of s) t).home y (flags_in f')
+  flags_put y f f' e g right same =
+      subst (λ x. FlagsFollow x m (slot_at (slots_of s) t).home y (flags_in f')) (sym es)
+      (subst (FlagsFollow (stepped (slots_of s) t m ins outs) m (slot_at (slots_of s) t).home y) (sym (ap flags_in g ∙ more_flags f n (length ins)))
+      (flags_then (slots_of s) (holders_of s) t m ins outs kept.shape lives step y (flags_in f) right (low f e) same))
+
+  quiet_put : (f f' : List Bool) → length f ≡ length (slots_of s).regions → f' ≡ f ++ map (λ x. false) (begun n (length ins)) → IsQuiet (slots_of s) (holders_of s) (flags_in f) → IsQuiet (slots_of next) (holders_of next) (flags_in f')
+  quiet_put f f' e g q =
+      subst (λ x. IsQuiet x (holders_of next) (flags_in f')) (sym es)
+      (subst (λ h. IsQuiet (stepped (slots_of s) t m ins outs) h (flags_in f')) (sym eh)
+      (subst (IsQuiet (stepped (slots_of s) t m ins outs) (held_after (slots_of s) ins outs (holders_of s))) (sym (ap flags_in g ∙ more_flags f n (length ins)))
+      (quiet_then (slots_of s) (holders_of s) t m ins outs kept.shape lives step (flags_in f) q (low f e))))
+
+  ends_count : length (ends_of s) ≡ length (slots_of s).regions
+  ends_count = length-map s.regions.items (λ (x : Region). x.ends_now) ∙ sym (length-map s.regions.items region_slot_of)
+
+  goes_count : length (goes_of s) ≡ length (slots_of s).regions
+  goes_count = length-map s.regions.items (λ (x : Region). x.goes_now) ∙ sym (length-map s.regions.items region_slot_of)
+
+  pub ends_put : rises_all Ending (flags_in (ends_of s)) outs ≡ rises_what Ending (flags_in (ends_of s)) (slot_at (slots_of s) t).what → FlagsFollow (slots_of next) m (slot_at (slots_of s) t).home Ending (flags_in (ends_of next))
+  ends_put same = flags_put Ending (ends_of s) (ends_of next) ends_count ee kept.ending same
+
+  pub goes_put : rises_all Going (flags_in (goes_of s)) outs ≡ rises_what Going (flags_in (goes_of s)) (slot_at (slots_of s) t).what → FlagsFollow (slots_of next) m (slot_at (slots_of s) t).home Going (flags_in (goes_of next))
+  goes_put same = flags_put Going (goes_of s) (goes_of next) goes_count eg kept.going same
+
+  pub quiet_ends_put : IsQuiet (slots_of next) (holders_of next) (flags_in (ends_of next))
+  quiet_ends_put = quiet_put (ends_of s) (ends_of next) ends_count ee kept.quiet_ends
+
+  pub quiet_goes_put : IsQuiet (slots_of next) (holders_of next) (flags_in (goes_of next))
+  quiet_goes_put = quiet_put (goes_of s) (goes_of next) goes_count eg kept.quiet_goes
+
+  pub home_lives_put : lives_in (slots_of next) (holders_of next) (slot_at (slots_of s) t).home ≡ true
+  home_lives_put = (λ i. lives_in (es i) (eh i) (slot_at (slots_of s) t).home) ∙ home_lives_then (slots_of s) (holders_of s) t m ins outs kept.shape lives step
+
+  pub ends_low : (r : ℕ) → length (slots_of s).regions ≤ r → flags_in (ends_of s) r ≡ false
+  ends_low r l = low (ends_of s) ends_count r l
+
+  pub goes_low : (r : ℕ) → length (slots_of s).regions ≤ r → flags_in (goes_of s) r ≡ false
+  goes_low r l = low (goes_of s) goes_count r l
+
+-- Without a mark the scene stays well kept.
+pub put_kept : (s : Scene) (t : ℕ) (ins outs : List What) (kept : IsWellKept s) (lives : has t (scene_of s).root.entries ≡ true) (step : IsStep (slots_of s) t None ins outs) (next : Scene) (n : ℕ)
+    → slots_of next ≡ stepped (slots_of s) t None ins outs → holders_of next ≡ held_after (slots_of s) ins outs (holders_of s)
+    → ends_of next ≡ ends_of s ++ map (λ x. false) (begun n (length ins)) → goes_of next ≡ goes_of s ++ map (λ x. false) (begun n (length ins))
+    → rises_all Ending (flags_in (ends_of s)) outs ≡ rises_what Ending (flags_in (ends_of s)) (slot_at (slots_of s) t).what → rises_all Going (flags_in (goes_of s)) outs ≡ rises_what Going (flags_in (goes_of s)) (slot_at (slots_of s) t).what
+    → IsWellKept next
+put_kept s t ins outs kept lives step next n es eh ee eg a b = record {
+  shape = shape_put s t None ins outs kept lives step next n es eh ee eg;
+  ending = ends_put s t None ins outs kept lives step next n es eh ee eg a;
+  going = goes_put s t None ins outs kept lives step next n es eh ee eg b;
+  quiet_ends = quiet_ends_put s t None ins outs kept lives step next n es eh ee eg;
+  quiet_goes = quiet_goes_put s t None ins outs kept lives step next n es eh ee eg;
+}
+
+-- on either side
+pub follow_pending : (s : Slots) (z : Side) (home : ℕ) (f : Flags) → FlagsFollow s (Some z) home z f → Pending s z f home
+follow_pending s Ending home f h = h
+follow_pending s Going home f h = h
+
+pub follow_other : (s : Slots) (z : Side) (home : ℕ) (f : Flags) → FlagsFollow s (Some z) home (other_side z) f → FlagsAreRight s (other_side z) f
+follow_other s Ending home f h = h
+follow_other s Going home f h = h
+
+pub raised_kept : (s s' : Scene) (z : Side) → IsShaped (slots_of s) (holders_of s) → slots_of s' ≡ slots_of s → holders_of s' ≡ holders_of s → flags_of (other_side z) s' ≡ flags_of (other_side z) s
+    → FlagsAreRight (slots_of s) z (flags_in (flags_of z s')) → IsQuiet (slots_of s) (holders_of s) (flags_in (flags_of z s'))
+    → FlagsAreRight (slots_of s) (other_side z) (flags_in (flags_of (other_side z) s)) → IsQuiet (slots_of s) (holders_of s) (flags_in (flags_of (other_side z) s)) → IsWellKept s'
+raised_kept s s' z shape es eh eo right quiet right_other quiet_other = by_side z right quiet o_right o_quiet
+  where
+    o_right : FlagsAreRight (slots_of s) (other_side z) (flags_in (flags_of (other_side z) s'))
+    o_right = subst (λ (l : List Bool). FlagsAreRight (slots_of s) (other_side z) (flags_in l)) (sym eo) right_other
+
+    o_quiet : IsQuiet (slots_of s) (holders_of s) (flags_in (flags_of (other_side z) s'))
+    o_quiet = subst (λ (l : List Bool). IsQuiet (slots_of s) (holders_of s) (flags_in l)) (sym eo) quiet_other
+
+    shape' : IsShaped (slots_of s') (holders_of s')
+    shape' = subst (λ x. IsShaped x (holders_of s')) (sym es) (subst (IsShaped (slots_of s)) (sym eh) shape)
+
+    moved : (f : Flags) → IsQuiet (slots_of s) (holders_of s) f → IsQuiet (slots_of s') (holders_of s') f
+    moved f q = subst (λ x. IsQuiet x (holders_of s') f) (sym es) (subst (λ h. IsQuiet (slots_of s) h f) (sym eh) q)
+
+    by_side : (z : Side) → FlagsAreRight (slots_of s) z (flags_in (flags_of z s')) → IsQuiet (slots_of s) (holders_of s) (flags_in (flags_of z s')) → FlagsAreRight (slots_of s) (other_side z) (flags_in (flags_of (other_side z) s'))
+        → IsQuiet (slots_of s) (holders_of s) (flags_in (flags_of (other_side z) s')) → IsWellKept s'
+    by_side Ending a b c d = record {
+      shape = shape';
+      ending = subst (λ x. FlagsAreRight x Ending (flags_in (ends_of s'))) (sym es) a;
+      going = subst (λ x. FlagsAreRight x Going (flags_in (goes_of s'))) (sym es) c;
+      quiet_ends = moved (flags_in (ends_of s')) b;
+      quiet_goes = moved (flags_in (goes_of s')) d;
+    }
+    by_side Going a b c d = record {
+      shape = shape';
+      ending = subst (λ x. FlagsAreRight x Ending (flags_in (ends_of s'))) (sym es) c;
+      going = subst (λ x. FlagsAreRight x Going (flags_in (goes_of s'))) (sym es) a;
+      quiet_ends = moved (flags_in (ends_of s')) d;
+      quiet_goes = moved (flags_in (goes_of s')) b;
+    }
+
+pub unmarked_kept : (s : Scene) (home : ℕ) → IsShaped (slots_of s) (holders_of s) → ((z : Side) → FlagsFollow (slots_of s) None home z (flags_in (flags_of z s))) → ((z : Side) → IsQuiet (slots_of s) (holders_of s) (flags_in (flags_of z s))) → IsWellKept s
+unmarked_kept s home shape flags quiet = record { shape = shape; ending = flags Ending; going = flags Going; quiet_ends = quiet Ending; quiet_goes = quiet Going }
+
+pub bare_below : (c : ℕ) (ws : List What) → AreBare ws → AllBelow c ws
+bare_below c [] b = tt
+bare_below c (plain.bare l ∷ ws) b = (tt, bare_below c ws b.1)
+bare_below c (plain.holds k p o ∷ ws) b = absurd b.0
+bare_below c (plain.gone by ∷ ws) b = absurd b.0
+
+-- Leaves in an item's place.
+module _ (s : Scene) (t : ℕ) (m : Option Side) (outs : List What) (kept : IsWellKept s) (lives : has t (scene_of s).root.entries ≡ true) (free : IsBare (slot_at (slots_of s) t).what) (bare : AreBare outs) (next : Scene) (n : ℕ)
+    (es : slots_of next ≡ stepped (slots_of s) t m [] outs) (eh : holders_of next ≡ held_after (slots_of s) [] outs (holders_of s))
+    (ee : ends_of next ≡ ends_of s ++ map (λ x. false) (begun n 0)) (eg : goes_of next ≡ goes_of s ++ map (λ x. false) (begun n 0)) where
+  inside : t < length (slots_of s).slots
+  inside = let a = lives_within s t kept.shape.ordered lives in let e = length-map s.slots.items slot_of in omega (arith, a, e)
+
+  step : IsStep (slots_of s) t m [] outs
+  step = leaves_step (slots_of s) t m outs kept.shape.ordered inside free bare
+
+  pub leaves_scene : scene_of next ≡ scene_after t (becomes_leaves (scene_of s) outs m) (scene_of s)
+  leaves_scene = scene_put s t m [] outs kept lives step next n es eh ee eg (becomes_leaves (scene_of s) outs m)
+      (sym (ap (λ i. told (stepped (slots_of s) t m [] outs) i outs) (let e : length (slots_of s).slots + 0 ≡ length (slots_of s).slots = omega arith in e) ∙ told_leaves (stepped (slots_of s) t m [] outs) (length (slots_of s).slots) outs bare))
+      (let e : length outs ≡ 0 + length outs = omega arith in e) refl refl
+
+  pub leaves_shape : IsShaped (slots_of next) (holders_of next)
+  leaves_shape = shape_put s t m [] outs kept lives step next n es eh ee eg
+
+  pub leaves_flags : (z : Side) → FlagsFollow (slots_of next) m (slot_at (slots_of s) t).home z (flags_in (flags_of z next))
+  leaves_flags Ending = ends_put s t m [] outs kept lives step next n es eh ee eg (leaves_rise Ending (flags_in (ends_of s)) (slot_at (slots_of s) t).what outs free bare)
+  leaves_flags Going = goes_put s t m [] outs kept lives step next n es eh ee eg (leaves_rise Going (flags_in (goes_of s)) (slot_at (slots_of s) t).what outs free bare)
+
+  pub leaves_quiet : (z : Side) → IsQuiet (slots_of next) (holders_of next) (flags_in (flags_of z next))
+  leaves_quiet Ending = quiet_ends_put s t m [] outs kept lives step next n es eh ee eg
+  leaves_quiet Going = quiet_goes_put s t m [] outs kept lives step next n es eh ee eg
+
+  pub leaves_live : lives_in (slots_of next) (holders_of next) (slot_at (slots_of s) t).home ≡ true
+  leaves_live = home_lives_put s t m [] outs kept lives step next n es eh ee eg
+
+  pub leaves_home : (slot_at (slots_of s) t).home < length next.regions.items
+  leaves_home =
+      let a = (kept.shape.ordered.items t inside).0 in
+      let e = length-map next.regions.items region_slot_of in
+      let b = ap (λ (x : Slots). length x.regions) es ∙ stepped_regions (slots_of s) t m [] outs kept.shape.ordered inside in
+      omega (arith, a, b, e)
+
+-- A holder with a new region.
+module _ (s : Scene) (t : ℕ) (f : FormulaTree) (env : Bindings) (k : Holder) (one : has_second k ≡ false) (asleep : second_lives k ≡ false) (kept : IsWellKept s) (lives : has t (scene_of s).root.entries ≡ true) (free : IsBare (slot_at (slots_of s) t).what) (next : Scene) (n : ℕ)
+    (es : slots_of next ≡ stepped (slots_of s) t None (plain.bare (S.Do f env) ∷ []) (plain.holds k (length (slots_of s).regions) None ∷ []))
+    (eh : holders_of next ≡ held_after (slots_of s) (plain.bare (S.Do f env) ∷ []) (plain.holds k (length (slots_of s).regions) None ∷ []) (holders_of s))
+    (ee : ends_of next ≡ ends_of s ++ map (λ x. false) (begun n 1)) (eg : goes_of next ≡ goes_of s ++ map (λ x. false) (begun n 1)) where
+  there : t < length (slots_of s).slots
+  there = let a = lives_within s t kept.shape.ordered lives in let e = length-map s.slots.items slot_of in omega (arith, a, e)
+
+  one_step : IsStep (slots_of s) t None (plain.bare (S.Do f env) ∷ []) (plain.holds k (length (slots_of s).regions) None ∷ [])
+  one_step = begins_step (slots_of s) t f env k kept.shape.ordered there free one asleep
+
+  pub begins_scene : (r : Reduction) → r.news ≡ node (1 + length (slots_of s).slots) k (new_head (length (slots_of s).regions)) (leaf (0 + length (slots_of s).slots) (S.Do f env) none) no_region none none → r.items ≡ 2 → r.regions ≡ 1 → r.mark ≡ None
+      → scene_of next ≡ scene_after t r (scene_of s)
+  begins_scene r a b c d =
+      scene_put s t None (plain.bare (S.Do f env) ∷ []) (plain.holds k (length (slots_of s).regions) None ∷ []) kept lives one_step next n es eh ee eg r
+      (a ∙ sym (begins_told (slots_of s) t f env k kept.shape.ordered there free one asleep)) b c d
+
+  pub begins_kept : IsWellKept next
+  begins_kept =
+      put_kept s t (plain.bare (S.Do f env) ∷ []) (plain.holds k (length (slots_of s).regions) None ∷ []) kept lives one_step next n es eh ee eg
+      (begins_rise (slots_of s) t f env k kept.shape.ordered there free one asleep Ending (flags_in (ends_of s)) (ends_low s t None (plain.bare (S.Do f env) ∷ []) (plain.holds k (length (slots_of s).regions) None ∷ []) kept lives one_step next n es eh ee eg (length (slots_of s).regions) (omega arith)))
+      (begins_rise (slots_of s) t f env k kept.shape.ordered there free one asleep Going (flags_in (goes_of s)) (goes_low s t None (plain.bare (S.Do f env) ∷ []) (plain.holds k (length (slots_of s).regions) None ∷ []) kept lives one_step next n es eh ee eg (length (slots_of s).regions) (omega arith)))

@@ -1,0 +1,1 @@
+-- The scene that is built has one item.

@@ -1,0 +1,12 @@
+use Rattle.std.proofs.Common.{◌≡◌, ◌<◌, ◌+◌, length}
+use Rattle.tp_slots.specs.Places.{place_outward}
+use Rattle.tp_slots.specs.Read.{holders_of, slots_of}
+use Rattle.tp_slots.proofs.live.depth.Given as goal
+
+abbrev pub invariant-outward : goal.invariant-outward
+invariant-outward l =
+    (l.at < length l.scene.regions.items)
+    × (l.depth + (place_outward (slots_of l.scene) (holders_of l.scene) l.at).depth ≡ (place_outward (slots_of l.scene) (holders_of l.scene) l.region).depth)
+
+abbrev pub decreases-outward : goal.decreases-outward
+decreases-outward l = l.at

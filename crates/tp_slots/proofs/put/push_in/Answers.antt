@@ -1,0 +1,21 @@
+-- Each slot is of that region.
+use Rattle.std.proofs.Common.{◌∷◌, ◌++◌, [], map, ap, sym, ◌∙◌}
+use Rattle.std.proofs.lemmas.List.{map-append, append_assoc}
+use Rattle.tp_slots.specs.Row.{slots_in}
+use Rattle.tp_slots.specs.Read.{slot_of, what_of}
+use Rattle.tp_slots.specs.declared.scene.Slot.{Slot}
+use Rattle.tp_slots.proofs.Lists.{slots_more}
+use Rattle.tp_slots.proofs.put.push_in.Goals as goal
+
+pub loop-what-preserved : goal.loop-what-preserved
+loop-what-preserved c =
+    let x : Slot = record { home = c.args.home; what = c.in-Some.what } in
+    let before = map what_of c.loop-what.yielded in (
+      tt,
+      tt,
+      ap (map slot_of) c.in_ok-push.ensures.items
+          ∙ (map-append slot_of c.loop-what.list.items (x ∷ [])
+          ∙ (ap (λ l. l ++ slot_of x ∷ []) c.loop-what.invariant.2
+          ∙ (append_assoc (map slot_of c.args.list.now.items) (slots_in c.args.home before) (slot_of x ∷ [])
+          ∙ ap (λ l. map slot_of c.args.list.now.items ++ l) (sym (slots_more c.args.home before (what_of c.in-Some.what)) ∙ ap (slots_in c.args.home) (sym (map-append what_of c.loop-what.yielded (c.in-Some.what ∷ []))))))),
+    )

@@ -1,0 +1,34 @@
+-- What the items before show.
+use Rattle.std.proofs.Common.{◌≡◌, ◌<◌, ◌++◌, ◌∷◌, [], map, take, length, ap, sym, ◌∙◌, rules}
+use Rattle.std.proofs.lemmas.List.{append-nil, map-append, take_more}
+use Rattle.std.proofs.Math.Seq.{take-length}
+use Rattle.tp_decide.specs.Read.{values_of}
+use Rattle.tp_slots.specs.Plain.{entries_at, slot_at}
+use Rattle.tp_slots.specs.Read.{slots_of}
+use Rattle.tp_slots.specs.Settled.{shows_at, what_shows}
+use Rattle.tp_slots.proofs.Showing.{all_shown}
+use Rattle.tp_slots.proofs.Settling.{shows_append, shown_is}
+use Rattle.tp_slots.proofs.settle.shown.Goals as goal
+
+pub loop-i-preserved : goal.loop-i-preserved
+loop-i-preserved c =
+    let s = slots_of c.args.scene.now in
+    let x = c.index.result.now in
+    let ids = c.in_ok-ids.ids.items in
+    let l : c.loop-i.i < length ids = search rules in
+    c.in_ok-add_shown_at.ensures
+    ∙ (ap (λ xs. xs ++ what_shows (slot_at s x).what) c.loop-i.invariant
+    ∙ (ap (λ xs. shows_at s (take c.loop-i.i ids) ++ xs) (sym (append-nil (what_shows (slot_at s x).what)))
+    ∙ (sym (shows_append s (take c.loop-i.i ids) (x ∷ []))
+    ∙ ap (shows_at s) (ap (λ y. take c.loop-i.i ids ++ y ∷ []) c.index.ensures ∙ sym (take_more ids c.loop-i.i x l)))))
+
+pub returns-clause-ok : goal.returns-clause-ok
+returns-clause-ok c =
+    let s = slots_of c.args.scene.now in
+    let ids = c.in_ok-ids.ids.items in
+    let n : c.loop-i.i ≡ length ids = search rules in
+    let all = ap (shows_at s) (ap (λ i. take i ids) n ∙ take-length ids) in
+    ap (map values_of) c.in_ok-append.ensures.items
+    ∙ (map-append values_of c.args.out.now.items.items c.loop-i.all.items
+    ∙ ap (λ xs. map values_of c.args.out.now.items.items ++ xs)
+    (c.loop-i.invariant ∙ (all ∙ (ap (shows_at s) c.in_ok-ids.ensures ∙ sym (shown_is s 0 (entries_at s 0) (all_shown s c.requires.shape.ordered 0 c.requires.shape.ordered.root))))))

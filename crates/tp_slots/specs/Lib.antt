@@ -1,0 +1,17 @@
+pub mod Plain
+pub mod Edit
+pub mod Read
+pub mod Places
+pub mod Lives
+pub mod Flags
+pub mod Kept
+pub mod Picked
+pub mod Row
+pub mod Status
+pub mod Laws
+pub mod Settled
+pub mod Walk
+pub mod Cost
+pub mod Replace
+pub mod Shown
+pub mod Reductions

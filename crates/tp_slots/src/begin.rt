@@ -1,0 +1,37 @@
+// The scene with which a run begins.
+ghost use Rattle.std.specs.Prelude.{◌≡◌, IfOk};
+ghost use Rattle.tp_scene.specs.Scene as S;
+ghost use Rattle.tp_decide.specs.Read.{env_of, formula_of};
+ghost use Rattle.tp_slots.specs.Reductions.{begins_with};
+ghost use Rattle.tp_slots.specs.Read.{scene_of};
+ghost use Rattle.tp_slots.specs.Kept.{IsWellKept};
+
+use crate::scene::{Region, Scene, Slot, What};
+use std::alloc::Global;
+use tp_decide::Phrase;
+use tp_value::NoMemory;
+
+/// A scene with one item, whose formula is to hold from this state on.
+pub fn start(alloc: Global, phrase: Phrase) -> Result<Scene, NoMemory>
+    ensures scene { IfOk result (λ s. scene_of s
+        ≡ begins_with (formula_of phrase) (env_of phrase)) }
+    ensures kept { IfOk result IsWellKept }
+{
+    let mut slots = Vec::new(alloc);
+    slots.push(Slot {
+        home: 0,
+        what: What::Do(phrase),
+    })?;
+    let mut roots = Vec::new(alloc);
+    roots.push(0)?;
+    let mut regions = Vec::new(alloc);
+    regions.push(Region {
+        holder: 0,
+        ends: false,
+        goes: false,
+        ends_now: false,
+        goes_now: false,
+        roots,
+    })?;
+    Ok(Scene { slots, regions })
+}

@@ -1,0 +1,226 @@
+// What an item becomes.
+ghost use Rattle.std.specs.Prelude.{◌≡◌, ◌<◌, length, map, true, [], ◌∷◌, IfOk, OnOk, OnErr};
+ghost use Rattle.std.specs.Option.{option_map};
+ghost use Rattle.tp_meaning.specs.Syntax.{more};
+ghost use Rattle.tp_scene.specs.Scene as S;
+ghost use Rattle.tp_scene.specs.Scene.{has};
+ghost use Rattle.tp_scene.specs.Pick.{scene_after};
+ghost use Rattle.tp_decide.specs.Decided.{mark_of};
+ghost use Rattle.tp_decide.specs.Read.{env_of, formula_of};
+ghost use Rattle.tp_slots.specs.Reductions.{AreBare, CanMove, IsAfter, IsBare, IsReduced, becomes_leaves, becomes_opened, becomes_split, moved_inner, moved_outs};
+ghost use Rattle.tp_slots.specs.Read.{holders_of, scene_of, slots_of, what_of, whats_of, item_what};
+ghost use Rattle.tp_slots.specs.Kept.{IsShaped, IsQuiet, IsWellKept, IsUnchanged, Lives, region_lives, IsReducedTo, flags_on};
+ghost use Rattle.tp_slots.specs.Flags.{FlagsFollow};
+
+use crate::flags::raise;
+use crate::put::put;
+use crate::scene::{Scene, What};
+use std::alloc::Global;
+use std::rc::Rc;
+use tp_decide::{Phrase, Side};
+use tp_kernel::Formula;
+use tp_value::NoMemory;
+
+// After a step that marked the region so, the flags are set that follow from the mark.
+fn raise_mark(scene: &mut Scene, region: u64, mark: Option<Side>)
+    requires shape { IsShaped (slots_of scene.old) (holders_of scene.old) }
+    requires region { region < length scene.old.regions.items }
+    requires lives { region_lives scene.old region ≡ true }
+    requires flags { (z : S.Side)
+        → FlagsFollow (slots_of scene.old) (option_map mark_of mark) region z
+        (flags_on z scene.old) }
+    requires quiet { (z : S.Side)
+        → IsQuiet (slots_of scene.old) (holders_of scene.old) (flags_on z scene.old) }
+    ensures slots { slots_of scene.new ≡ slots_of scene.old }
+    ensures kept { IsWellKept scene.new }
+{
+    match mark {
+        Some(side) => raise(scene, region, side),
+        None => {}
+    }
+}
+
+/// Items that hold no region stand in an item's place, and its region is marked. Or nothing changes.
+pub fn become_leaves(
+    alloc: Global,
+    scene: &mut Scene,
+    item: u64,
+    news: Vec<What>,
+    mark: Option<Side>,
+) -> Result<(), NoMemory>
+    requires kept { IsWellKept scene.old }
+    requires lives { Lives scene.old item }
+    requires free { IsBare (item_what scene.old item) }
+    requires bare { AreBare (whats_of news.items) }
+    ensures kept { IsWellKept scene.new }
+    ensures scene { let reduction =
+        becomes_leaves (scene_of scene.old) (whats_of news.items) (option_map mark_of mark)
+        in OnOk result (IsReducedTo item reduction scene.old scene.new) }
+    ensures err { OnErr result (IsUnchanged scene.old scene.new) }
+{
+    let home = scene.slots[item as usize].home;
+    put(alloc, scene, item, mark, Vec::new(alloc), news)?;
+    raise_mark(scene, home, mark);
+    Ok(())
+}
+
+// One item, in a list.
+fn one(alloc: Global, what: What) -> Result<Vec<What>, NoMemory>
+    ensures { IfOk result (λ v. v.items ≡ what ∷ []) }
+{
+    let mut list = Vec::new(alloc);
+    list.push(what)?;
+    Ok(list)
+}
+
+/// A split stands in an item's place: its left region has the first formula, and the other one follows it. Or nothing changes.
+pub fn become_split(
+    alloc: Global,
+    scene: &mut Scene,
+    item: u64,
+    first: Phrase,
+    after: Phrase,
+) -> Result<(), NoMemory>
+    requires kept { IsWellKept scene.old }
+    requires lives { Lives scene.old item }
+    requires free { IsBare (item_what scene.old item) }
+    requires env { env_of first ≡ env_of after }
+    ensures kept { IsWellKept scene.new }
+    ensures scene { let reduction =
+        becomes_split (scene_of scene.old) (formula_of first) (formula_of after) (env_of after)
+        in OnOk result (IsReducedTo item reduction scene.old scene.new) }
+    ensures err { OnErr result (IsUnchanged scene.old scene.new) }
+{
+    let left = scene.regions.len() as u64;
+    let inner = one(alloc, What::Do(first))?;
+    let outs = one(alloc, What::Split { left, after })?;
+    put(alloc, scene, item, None, inner, outs)?;
+    Ok(())
+}
+
+/// The outer region of a projection stands in an item's place, with the piece that is to run in it. Or nothing changes.
+pub fn become_opened(
+    alloc: Global,
+    scene: &mut Scene,
+    item: u64,
+    first: Phrase,
+    piece: Phrase,
+) -> Result<(), NoMemory>
+    requires kept { IsWellKept scene.old }
+    requires lives { Lives scene.old item }
+    requires free { IsBare (item_what scene.old item) }
+    requires env { env_of first ≡ env_of piece }
+    ensures kept { IsWellKept scene.new }
+    ensures scene { let reduction =
+        becomes_opened (scene_of scene.old) (formula_of first) (formula_of piece) (env_of piece)
+        in OnOk result (IsReducedTo item reduction scene.old scene.new) }
+    ensures err { OnErr result (IsUnchanged scene.old scene.new) }
+{
+    let outer = scene.regions.len() as u64;
+    let inner = one(alloc, What::Do(first))?;
+    let outs = one(alloc, What::Opened { outer, piece })?;
+    put(alloc, scene, item, None, inner, outs)?;
+    Ok(())
+}
+
+// The same phrase, shared.
+fn share(phrase: &Phrase) -> Result<Phrase, NoMemory>
+    ensures formula { IfOk result (λ a. formula_of a ≡ formula_of phrase.now) }
+    ensures env { IfOk result (λ a. env_of a ≡ env_of phrase.now) }
+{
+    let what = phrase.what.clone()?;
+    let env = phrase.env.clone()?;
+    Ok(Phrase { what, env })
+}
+
+// `More`, under the bindings of a phrase.
+fn more_under(alloc: Global, phrase: &Phrase) -> Result<Phrase, NoMemory>
+    ensures formula { IfOk result (λ a. formula_of a ≡ more) }
+    ensures env { IfOk result (λ a. env_of a ≡ env_of phrase.now) }
+{
+    let what = Rc::new(alloc, Formula::More)?;
+    let env = phrase.env.clone()?;
+    Ok(Phrase { what, env })
+}
+
+// Two items, in a list.
+fn two(alloc: Global, first: What, then: What) -> Result<Vec<What>, NoMemory>
+    ensures { IfOk result (λ v. v.items ≡ first ∷ then ∷ []) }
+{
+    let mut list = Vec::new(alloc);
+    list.push(first)?;
+    list.push(then)?;
+    Ok(list)
+}
+
+// The items of the new region that an item begins when it is reduced.
+fn begun_items(alloc: Global, what: &What) -> Result<Vec<What>, NoMemory>
+    ensures { IfOk result (λ v. whats_of v.items ≡ moved_inner (what_of what.now)) }
+{
+    match what {
+        What::Opened { piece, .. } => {
+            let first = share(piece)?;
+            let more = more_under(alloc, piece)?;
+            let list = two(alloc, What::Do(first), What::Do(more))?;
+            Ok(list)
+        }
+        What::Do(_) | What::Later(_) | What::Shown(_) | What::Closed(_) => Ok(Vec::new(alloc)),
+        What::Gone { .. } => Ok(Vec::new(alloc)),
+        What::Split { .. } => Ok(Vec::new(alloc)),
+        What::SplitProject { .. } => Ok(Vec::new(alloc)),
+        What::Running { .. } => Ok(Vec::new(alloc)),
+    }
+}
+
+// The items that stand in an item's place when it is reduced, where a new region has this number.
+fn next_items(alloc: Global, what: &What, region: u64) -> Result<Vec<What>, NoMemory>
+    ensures { IfOk result (λ v. whats_of v.items ≡ moved_outs (what_of what.now) region) }
+{
+    match what {
+        What::Split { left, after } => {
+            let after = share(after)?;
+            let list = two(alloc, What::Closed(*left), What::Do(after))?;
+            Ok(list)
+        }
+        What::SplitProject { left, outer, piece } => {
+            let piece = share(piece)?;
+            let opened = What::Opened {
+                outer: *outer,
+                piece,
+            };
+            let list = two(alloc, What::Closed(*left), opened)?;
+            Ok(list)
+        }
+        What::Opened { outer, piece } => {
+            let piece = share(piece)?;
+            let running = What::Running {
+                inner: region,
+                outer: *outer,
+                piece,
+            };
+            let list = one(alloc, running)?;
+            Ok(list)
+        }
+        What::Do(_) | What::Later(_) | What::Shown(_) | What::Closed(_) => Ok(Vec::new(alloc)),
+        What::Gone { .. } => Ok(Vec::new(alloc)),
+        What::Running { .. } => Ok(Vec::new(alloc)),
+    }
+}
+
+/// An item with a region is reduced: a split closes, and what follows it is due; the outer region of a projection begins its next piece. Or
+/// nothing changes.
+pub fn move_on(alloc: Global, scene: &mut Scene, item: u64) -> Result<(), NoMemory>
+    requires kept { IsWellKept scene.old }
+    requires lives { Lives scene.old item }
+    requires holder { CanMove (item_what scene.old item) }
+    requires reduced { IsReduced (scene_of scene.old) item }
+    ensures kept { IsWellKept scene.new }
+    ensures scene { OnOk result (IsAfter item (scene_of scene.old) (scene_of scene.new)) }
+    ensures err { OnErr result (IsUnchanged scene.old scene.new) }
+{
+    let what = &scene.slots[item as usize].what;
+    let inner = begun_items(alloc, what)?;
+    let outs = next_items(alloc, what, scene.regions.len() as u64)?;
+    put(alloc, scene, item, None, inner, outs)?;
+    Ok(())
+}

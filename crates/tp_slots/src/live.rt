@@ -1,0 +1,141 @@
+// Which items are live, and where they stand.
+ghost use Rattle.std.specs.Prelude.{◌≡◌, ◌≤◌, ◌<◌, length, true};
+ghost use Rattle.tp_store.specs.Known.{Contents};
+ghost use Rattle.tp_scene.specs.Scene.{has};
+ghost use Rattle.tp_scene.specs.Step.{region_limit};
+ghost use Rattle.tp_scene.specs.Pick.{Setting, numbers_of, outcome_of};
+ghost use Rattle.tp_decide.specs.Decided.{plain_place};
+ghost use Rattle.std.specs.Option.{option_map};
+ghost use Rattle.tp_slots.specs.Status.{place_in_scene};
+ghost use Rattle.tp_slots.specs.Picked.{IsHolding, first_held, held_step, what_step};
+ghost use Rattle.tp_slots.specs.Read.{scene_of, slots_of, what_of, item_what, item_home};
+ghost use Rattle.tp_slots.specs.Kept.{IsWellKept, Lives, region_place_of, region_lives, PlaceFits, outcome_in, numbers_in};
+ghost use Rattle.tp_slots.specs.Lives.{is_item};
+
+use crate::flags::{lives, sees};
+use crate::scene::{Scene, What};
+use tp_decide::{Place, Side};
+
+// Whether an item stands there.
+fn is_kept(what: &What) -> bool
+    ensures { result ≡ is_item (what_of what.now) }
+{
+    match what {
+        What::Do(_) | What::Later(_) | What::Shown(_) | What::Closed(_) => true,
+        What::Split { .. } => true,
+        What::SplitProject { .. } => true,
+        What::Opened { .. } => true,
+        What::Running { .. } => true,
+        What::Gone { .. } => false,
+    }
+}
+
+/// Whether an item with this number is live.
+pub fn has_item(scene: &Scene, item: u64) -> bool
+    requires { IsWellKept scene.now }
+    ensures { result ≡ has item (scene_of scene.now).root.entries }
+{
+    if item >= scene.slots.len() as u64 {
+        return false;
+    }
+    let slot = &scene.slots[item as usize];
+    if is_kept(&slot.what) {
+        lives(scene, slot.home)
+    } else {
+        false
+    }
+}
+
+// How deep the region is: of the root 0, and of every other region one more than of the region around it.
+fn depth(scene: &Scene, region: u64) -> u32
+    requires kept { IsWellKept scene.now }
+    requires region { region < length scene.now.regions.items }
+    requires shallow { PlaceFits scene.now region }
+    ensures { result ≡ (region_place_of scene.now region).depth }
+{
+    let mut at = region;
+    let mut depth = 0;
+    'outward: while at != 0 {
+        let slot = &scene.slots[scene.regions[at as usize].holder as usize];
+        at = slot.home;
+        depth += 1;
+    }
+    depth
+}
+
+/// The place of the items of a region.
+pub fn place(scene: &Scene, region: u64) -> Place
+    requires kept { IsWellKept scene.now }
+    requires region { region < length scene.now.regions.items }
+    requires shallow { PlaceFits scene.now region }
+    ensures { plain_place result ≡ region_place_of scene.now region }
+{
+    let depth = depth(scene, region);
+    let ends = sees(scene, region, Side::Ending);
+    let goes = sees(scene, region, Side::Going);
+    Place {
+        region,
+        depth,
+        ends,
+        goes,
+    }
+}
+
+/// The place where a live item stands.
+pub fn place_of_item(scene: &Scene, item: u64) -> Place
+    requires kept { IsWellKept scene.now }
+    requires lives { Lives scene.now item }
+    requires shallow { PlaceFits scene.now (item_home scene.now item) }
+    ensures { (w : Setting) (k : Contents) → outcome_in w k scene.now item
+        ≡ what_step w k.facts (slots_of scene.now) (item_what scene.now item)
+        (plain_place result) (numbers_in k scene.now) }
+{
+    let slot = &scene.slots[item as usize];
+    place(scene, slot.home)
+}
+
+// The region that an item holds, which isn't the outer one of a projection whose piece is at hand.
+fn held(what: &What) -> u64
+    requires { IsHolding (what_of what.now) }
+    ensures { result ≡ first_held (what_of what.now) }
+{
+    match what {
+        What::Split { left, .. } => *left,
+        What::SplitProject { left, .. } => *left,
+        What::Closed(closed) => *closed,
+        What::Opened { outer, .. } => *outer,
+        What::Running { inner, .. } => *inner,
+        What::Do(_) | What::Later(_) | What::Shown(_) => unreachable!(),
+        What::Gone { .. } => unreachable!(),
+    }
+}
+
+/// The place of the items of the region that a live item holds.
+pub fn place_inside(scene: &Scene, item: u64) -> Place
+    requires kept { IsWellKept scene.now }
+    requires lives { Lives scene.now item }
+    requires holding { IsHolding (item_what scene.now item) }
+    requires shallow { PlaceFits scene.now (first_held (item_what scene.now item)) }
+    ensures { (w : Setting) (k : Contents) → outcome_in w k scene.now item
+        ≡ held_step w k.facts (slots_of scene.now) (item_what scene.now item)
+        (plain_place result) (numbers_in k scene.now) }
+{
+    let slot = &scene.slots[item as usize];
+    place(scene, held(&slot.what))
+}
+
+/// The place of the items of the live region with this number.
+pub fn place_if_live(scene: &Scene, region: u64) -> Option<Place>
+    requires kept { IsWellKept scene.now }
+    requires shallow { region_lives scene.now region ≡ true → PlaceFits scene.now region }
+    ensures { option_map plain_place result ≡ place_in_scene region (scene_of scene.now) }
+{
+    if region >= scene.regions.len() as u64 {
+        return None;
+    }
+    if lives(scene, region) {
+        Some(place(scene, region))
+    } else {
+        None
+    }
+}

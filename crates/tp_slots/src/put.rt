@@ -1,0 +1,262 @@
+// Putting new items in place of one.
+ghost use Rattle.std.specs.Prelude.{◌≡◌, ◌≤◌, ◌<◌, ◌+◌, ◌++◌, ◌^◌, ℕ, false, slice_set, List, [], ◌∷◌, map, length, IfOk, OnOk, OnErr, vec_len, vec_capacity};
+ghost use Rattle.std.specs.Option.{option_map};
+ghost use Rattle.std.specs.List.{range_with_len};
+ghost use Rattle.tp_decide.specs.Decided.{mark_of};
+ghost use Rattle.tp_slots.specs.Plain as plain;
+ghost use Rattle.tp_slots.specs.Replace.{home_in, gone_at, marked_at, replaced};
+ghost use Rattle.tp_slots.specs.Row.{AreBelow, AllBelow, begun, hold, hold_all, slots_in, stepped, held_after};
+ghost use Rattle.tp_slots.specs.Reductions.{AreBare};
+ghost use Rattle.tp_slots.specs.Read.{ends_of, goes_of, holders_of, slots_of, what_of, region_slots, region_holders, region_ends, region_goes, all_slots, whats_of, slot_whats};
+ghost use Rattle.tp_slots.specs.Kept.{IsUnchanged, unset};
+
+use crate::scene::{Region, Scene, Slot, What};
+use std::alloc::Global;
+use tp_decide::Side;
+use tp_value::NoMemory;
+
+// So many numbers, from the first on.
+#[tactic(auto, using(crate::proofs::Lists::range_more))]
+fn numbers(alloc: Global, first: u64, count: usize) -> Result<Vec<u64>, NoMemory>
+    requires { first + count < 2 ^ 64 }
+    ensures { IfOk result (λ v. v.items ≡ range_with_len first count) }
+{
+    let mut numbers = Vec::new(alloc);
+    for i in 0..count {
+        numbers.push(first + i as u64)?;
+    }
+    Ok(numbers)
+}
+
+// A new region with so many items, where there are any.
+fn begin(alloc: Global, first: u64, count: usize) -> Result<Vec<Region>, NoMemory>
+    requires { first + count < 2 ^ 64 }
+    ensures regions { IfOk result (λ v. region_slots v.items ≡ begun first count) }
+    ensures holders { IfOk result (λ v. region_holders v.items ≡ map (λ x. 0) (begun first count)) }
+    ensures ends { IfOk result (λ v. region_ends v.items ≡ map (λ x. false) (begun first count)) }
+    ensures goes { IfOk result (λ v. region_goes v.items ≡ map (λ x. false) (begun first count)) }
+{
+    let mut regions = Vec::new(alloc);
+    if count > 0 {
+        let roots = numbers(alloc, first, count)?;
+        regions.push(Region {
+            holder: 0,
+            ends: false,
+            goes: false,
+            ends_now: false,
+            goes_now: false,
+            roots,
+        })?;
+    }
+    Ok(regions)
+}
+
+// Appends slots of one region, or fails.
+fn push_in(list: &mut Vec<Slot>, home: u64, whats: Vec<What>) -> Result<(), NoMemory>
+    ensures { OnOk result (all_slots list.new.items
+        ≡ all_slots list.old.items ++ slots_in home (whats_of whats.items)) }
+{
+    for what in whats {
+        list.push(Slot { home, what })?;
+    }
+    Ok(())
+}
+
+// Appends the slots, for which there is room.
+fn push_slots(list: &mut Vec<Slot>, news: Vec<Slot>)
+    requires room { vec_len list.old + vec_len news ≤ vec_capacity list.old }
+    ensures { list.new.items ≡ list.old.items ++ news.items }
+{
+    for slot in news {
+        let Ok(()) = list.push(slot) else {
+            unreachable!();
+        };
+    }
+}
+
+// Appends the regions, for which there is room.
+fn push_regions(list: &mut Vec<Region>, news: Vec<Region>)
+    requires room { vec_len list.old + vec_len news ≤ vec_capacity list.old }
+    ensures { list.new.items ≡ list.old.items ++ news.items }
+{
+    for region in news {
+        let Ok(()) = list.push(region) else {
+            unreachable!();
+        };
+    }
+}
+
+// The items with the numbers from the first on stand in the place of the item at `at`. What is answered is its region.
+#[tactic(auto, using(crate::proofs::Lists::gone_is, crate::proofs::Lists::home_is))]
+fn go(list: &mut [Slot], at: usize, first: u64, count: u64) -> u64
+    requires { at < length list.old }
+    ensures slots { all_slots list.new
+        ≡ gone_at (all_slots list.old) at (range_with_len first count) }
+    ensures home { result ≡ home_in (all_slots list.old) at }
+{
+    let home = list[at].home;
+    list[at].what = What::Gone { first, count };
+    home
+}
+
+// The region at `at` is marked.
+fn mark(list: &mut [Region], at: usize, side: Option<Side>)
+    requires { at < length list.old }
+    ensures slots { region_slots list.new
+        ≡ marked_at (region_slots list.old) at (option_map mark_of side) }
+    ensures holders { region_holders list.new ≡ region_holders list.old }
+    ensures ends { region_ends list.new ≡ region_ends list.old }
+    ensures goes { region_goes list.new ≡ region_goes list.old }
+{
+    match side {
+        Some(Side::Ending) => list[at].ends = true,
+        Some(Side::Going) => list[at].goes = true,
+        None => {}
+    }
+}
+
+// The region at `at` is held by the item.
+fn hold_region(list: &mut [Region], at: u64, item: u64)
+    requires { at < length list.old }
+    ensures holders { region_holders list.new ≡ slice_set (region_holders list.old) at item }
+    ensures slots { region_slots list.new ≡ region_slots list.old }
+    ensures ends { region_ends list.new ≡ region_ends list.old }
+    ensures goes { region_goes list.new ≡ region_goes list.old }
+{
+    list[at as usize].holder = item;
+}
+
+// The regions that stand in an item are held by it.
+fn hold_what(list: &mut [Region], item: u64, what: &What)
+    requires { AreBelow (length list.old) (what_of what.now) }
+    ensures holders { region_holders list.new
+        ≡ hold item (what_of what.now) (region_holders list.old) }
+    ensures slots { region_slots list.new ≡ region_slots list.old }
+    ensures ends { region_ends list.new ≡ region_ends list.old }
+    ensures goes { region_goes list.new ≡ region_goes list.old }
+{
+    match what {
+        What::Do(_) | What::Later(_) | What::Shown(_) => {}
+        What::Gone { .. } => {}
+        What::Split { left, .. } => hold_region(list, *left, item),
+        What::SplitProject { left, outer, .. } => {
+            hold_region(list, *left, item);
+            hold_region(list, *outer, item);
+        }
+        What::Closed(closed) => hold_region(list, *closed, item),
+        What::Opened { outer, .. } => hold_region(list, *outer, item),
+        What::Running { inner, outer, .. } => {
+            hold_region(list, *inner, item);
+            hold_region(list, *outer, item);
+        }
+    }
+}
+
+// The same for new items, of which the first has this number.
+fn hold_news(list: &mut [Region], first: u64, news: &[Slot])
+    requires below { AllBelow (length list.old) (slot_whats news.now) }
+    requires few { first + length news.now < 2 ^ 64 }
+    ensures holders { region_holders list.new
+        ≡ hold_all first (slot_whats news.now) (region_holders list.old) }
+    ensures slots { region_slots list.new ≡ region_slots list.old }
+    ensures ends { region_ends list.new ≡ region_ends list.old }
+    ensures goes { region_goes list.new ≡ region_goes list.old }
+{
+    for i in 0..news.len() {
+        hold_what(list, first + i as u64, &news[i].what);
+    }
+}
+
+// What is put in an item's place: `count` items with the numbers from `from` on; new slots, these items' among them; new regions.
+#[derive(Drop)]
+struct News {
+    from: u64,
+    count: u64,
+    slots: Vec<Slot>,
+    regions: Vec<Region>,
+}
+
+// Puts the news in place of an item, whose region is marked. There is room.
+fn commit(scene: &mut Scene, item: u64, side: Option<Side>, news: News)
+    requires item { item < length scene.old.slots.items }
+    requires home { home_in (all_slots scene.old.slots.items) item
+        < length scene.old.regions.items }
+    requires below { AllBelow (length scene.old.regions.items + length news.regions.items)
+        (slot_whats news.slots.items) }
+    requires slots_room { vec_len scene.old.slots + vec_len news.slots
+        ≤ vec_capacity scene.old.slots }
+    requires regions_room { vec_len scene.old.regions + vec_len news.regions
+        ≤ vec_capacity scene.old.regions }
+    ensures slots { slots_of scene.new
+        ≡ replaced (slots_of scene.old) item (range_with_len news.from news.count)
+        (option_map mark_of side) (all_slots news.slots.items) (region_slots news.regions.items) }
+    ensures holders { holders_of scene.new
+        ≡ hold_all (length scene.old.slots.items) (slot_whats news.slots.items)
+        (holders_of scene.old ++ region_holders news.regions.items) }
+    ensures ends { ends_of scene.new ≡ ends_of scene.old ++ region_ends news.regions.items }
+    ensures goes { goes_of scene.new ≡ goes_of scene.old ++ region_goes news.regions.items }
+{
+    let first = scene.slots.len() as u64;
+    let home = go(
+        scene.slots.as_mut_slice(),
+        item as usize,
+        news.from,
+        news.count,
+    );
+    mark(scene.regions.as_mut_slice(), home as usize, side);
+    push_regions(&mut scene.regions, news.regions);
+    hold_news(scene.regions.as_mut_slice(), first, news.slots.as_slice());
+    push_slots(&mut scene.slots, news.slots);
+}
+
+/// The items `outs` stand in place of an item, whose region is marked, and the items `inner` in a new region, if there are any. Or nothing
+/// changes.
+pub fn put(
+    alloc: Global,
+    scene: &mut Scene,
+    item: u64,
+    side: Option<Side>,
+    inner: Vec<What>,
+    outs: Vec<What>,
+) -> Result<(), NoMemory>
+    requires item { item < length scene.old.slots.items }
+    requires home { home_in (all_slots scene.old.slots.items) item
+        < length scene.old.regions.items }
+    requires bare { AreBare (whats_of inner.items) }
+    requires below { AllBelow
+        (length scene.old.regions.items + length (begun 0 (length inner.items)))
+        (whats_of outs.items) }
+    ensures slots { OnOk result
+        (slots_of scene.new
+        ≡ stepped (slots_of scene.old) item (option_map mark_of side) (whats_of inner.items)
+        (whats_of outs.items)) }
+    ensures holders { OnOk result
+        (holders_of scene.new
+        ≡ held_after (slots_of scene.old) (whats_of inner.items) (whats_of outs.items)
+        (holders_of scene.old)) }
+    ensures ends { OnOk result (ends_of scene.new
+        ≡ ends_of scene.old ++ unset (length inner.items)) }
+    ensures goes { OnOk result (goes_of scene.new
+        ≡ goes_of scene.old ++ unset (length inner.items)) }
+    ensures err { OnErr result (IsUnchanged scene.old scene.new) }
+{
+    let first = scene.slots.len() as u64;
+    let begun = inner.len();
+    let from = first + begun as u64;
+    let count = outs.len() as u64;
+    let home = scene.slots[item as usize].home;
+    let regions = begin(alloc, first, begun)?;
+    let mut slots = Vec::new(alloc);
+    push_in(&mut slots, scene.regions.len() as u64, inner)?;
+    push_in(&mut slots, home, outs)?;
+    scene.slots.reserve(slots.len())?;
+    scene.regions.reserve(regions.len())?;
+    let news = News {
+        from,
+        count,
+        slots,
+        regions,
+    };
+    commit(scene, item, side, news);
+    Ok(())
+}

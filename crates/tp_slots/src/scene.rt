@@ -1,0 +1,60 @@
+// Scenes as slots by item number.
+use tp_decide::{Phrase, Values};
+
+/// What a run has between the steps of a state: the items by number, and the regions by number. The root is region 0.
+#[derive(Drop)]
+pub struct Scene {
+    pub slots: Vec<Slot>,
+    pub regions: Vec<Region>,
+}
+
+/// An item's slot: the region in which it stands, and what stands there.
+#[derive(Drop)]
+pub struct Slot {
+    pub home: u64,
+    pub what: What,
+}
+
+/// A region: the item that holds it, which the root doesn't have; its marks; whether it ends, or goes, by a mark or from within; and the
+/// items that it began with, in order.
+#[derive(Drop)]
+pub struct Region {
+    pub holder: u64,
+    pub ends: bool,
+    pub goes: bool,
+    pub ends_now: bool,
+    pub goes_now: bool,
+    pub roots: Vec<u64>,
+}
+
+/// What stands in a slot: an item, whose regions are named by number, or the items that stand in its place, which have the numbers from
+/// the first one on.
+#[derive(Drop)]
+pub enum What {
+    Do(Phrase),
+    Later(Phrase),
+    Shown(Values),
+    Split {
+        left: u64,
+        after: Phrase,
+    },
+    SplitProject {
+        left: u64,
+        outer: u64,
+        piece: Phrase,
+    },
+    Closed(u64),
+    Opened {
+        outer: u64,
+        piece: Phrase,
+    },
+    Running {
+        inner: u64,
+        outer: u64,
+        piece: Phrase,
+    },
+    Gone {
+        first: u64,
+        count: u64,
+    },
+}
