@@ -33,9 +33,9 @@ abbrev pub becomes_leaves : S.Scene → List What → Option Side → Reduction
 becomes_leaves s ws m = record { news = leaves_from s.next_item ws; items = length ws; regions = 0; local = None; mark = m; facts = [] }
 
 -- a left region with one item, and what follows it
-abbrev pub becomes_split : S.Scene → (left after : FormulaTree) → Bindings → Reduction
-becomes_split s f g env = record {
-  news = split_then (1 + s.next_item) (region_of s.next_region (0 + s.next_item) f env) g env none;
+abbrev pub becomes_split : S.Scene → (left : FormulaTree) → Bindings → (after : FormulaTree) → Bindings → Reduction
+becomes_split s f e g env = record {
+  news = split_then (1 + s.next_item) (region_of s.next_region (0 + s.next_item) f e) g env none;
   items = 2;
   regions = 1;
   local = None;
@@ -44,9 +44,9 @@ becomes_split s f g env = record {
 }
 
 -- an outer region with one item, and the piece that is to run in it
-abbrev pub becomes_opened : S.Scene → (outer piece : FormulaTree) → Bindings → Reduction
-becomes_opened s f g env = record {
-  news = opened_then (1 + s.next_item) (region_of s.next_region (0 + s.next_item) f env) g env none;
+abbrev pub becomes_opened : S.Scene → (outer : FormulaTree) → Bindings → (piece : FormulaTree) → Bindings → Reduction
+becomes_opened s f e g env = record {
+  news = opened_then (1 + s.next_item) (region_of s.next_region (0 + s.next_item) f e) g env none;
   items = 2;
   regions = 1;
   local = None;

@@ -84,10 +84,10 @@ pub fn become_split(
     requires kept { IsWellKept scene.old }
     requires lives { Lives scene.old item }
     requires free { IsBare (item_what scene.old item) }
-    requires env { env_of first ≡ env_of after }
     ensures kept { IsWellKept scene.new }
     ensures scene { let reduction =
-        becomes_split (scene_of scene.old) (formula_of first) (formula_of after) (env_of after)
+        becomes_split (scene_of scene.old) (formula_of first) (env_of first)
+        (formula_of after) (env_of after)
         in OnOk result (IsReducedTo item reduction scene.old scene.new) }
     ensures err { OnErr result (IsUnchanged scene.old scene.new) }
 {
@@ -109,10 +109,10 @@ pub fn become_opened(
     requires kept { IsWellKept scene.old }
     requires lives { Lives scene.old item }
     requires free { IsBare (item_what scene.old item) }
-    requires env { env_of first ≡ env_of piece }
     ensures kept { IsWellKept scene.new }
     ensures scene { let reduction =
-        becomes_opened (scene_of scene.old) (formula_of first) (formula_of piece) (env_of piece)
+        becomes_opened (scene_of scene.old) (formula_of first) (env_of first)
+        (formula_of piece) (env_of piece)
         in OnOk result (IsReducedTo item reduction scene.old scene.new) }
     ensures err { OnErr result (IsUnchanged scene.old scene.new) }
 {

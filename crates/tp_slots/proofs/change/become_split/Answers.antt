@@ -29,22 +29,22 @@ put-requires-clause-below c =
     (subst (λ (l : List code.What). AllBelow (length c.args.scene.now.regions.items + 1) (map what_of l)) (sym c.in_ok-outs.ensures) (omega (arith, n), tt))
 
 pub returns-clause-kept : goal.returns-clause-kept
-returns-clause-kept c = begins_kept c.args.scene.now c.args.item (formula_of c.args.first) (env_of c.args.after) (S.Split (formula_of c.args.after) (env_of c.args.after)) refl refl c.requires.kept c.requires.lives c.requires.free c.put.new.scene 0
+returns-clause-kept c = begins_kept c.args.scene.now c.args.item (formula_of c.args.first) (env_of c.args.first) (S.Split (formula_of c.args.after) (env_of c.args.after)) refl refl c.requires.kept c.requires.lives c.requires.free c.put.new.scene 0
     (c.in_ok-put.ensures.slots ∙ ((λ i. stepped (slots_of c.args.scene.now) c.args.item None (map what_of (c.in_ok-inner.ensures i)) (map what_of (c.in_ok-outs.ensures i)))
-    ∙ (let left = ((let n : c.len-left.result ≡ length c.args.scene.now.regions.items = search rules in n) ∙ sym (length-map c.args.scene.now.regions.items region_slot_of)) in λ i. stepped (slots_of c.args.scene.now) c.args.item None (plain.bare (S.Do (formula_of c.args.first) (c.requires.env i)) ∷ []) (plain.holds (S.Split (formula_of c.args.after) (env_of c.args.after)) (left i) None ∷ []))))
+    ∙ (let left = ((let n : c.len-left.result ≡ length c.args.scene.now.regions.items = search rules in n) ∙ sym (length-map c.args.scene.now.regions.items region_slot_of)) in λ i. stepped (slots_of c.args.scene.now) c.args.item None (plain.bare (S.Do (formula_of c.args.first) (env_of c.args.first)) ∷ []) (plain.holds (S.Split (formula_of c.args.after) (env_of c.args.after)) (left i) None ∷ []))))
     (c.in_ok-put.ensures.holders ∙ ((λ i. held_after (slots_of c.args.scene.now) (map what_of (c.in_ok-inner.ensures i)) (map what_of (c.in_ok-outs.ensures i)) (holders_of c.args.scene.now))
-    ∙ (let left = ((let n : c.len-left.result ≡ length c.args.scene.now.regions.items = search rules in n) ∙ sym (length-map c.args.scene.now.regions.items region_slot_of)) in λ i. held_after (slots_of c.args.scene.now) (plain.bare (S.Do (formula_of c.args.first) (c.requires.env i)) ∷ []) (plain.holds (S.Split (formula_of c.args.after) (env_of c.args.after)) (left i) None ∷ []) (holders_of c.args.scene.now))))
+    ∙ (let left = ((let n : c.len-left.result ≡ length c.args.scene.now.regions.items = search rules in n) ∙ sym (length-map c.args.scene.now.regions.items region_slot_of)) in λ i. held_after (slots_of c.args.scene.now) (plain.bare (S.Do (formula_of c.args.first) (env_of c.args.first)) ∷ []) (plain.holds (S.Split (formula_of c.args.after) (env_of c.args.after)) (left i) None ∷ []) (holders_of c.args.scene.now))))
     (c.in_ok-put.ensures.ends ∙ ap (λ (l : List code.What). ends_of c.args.scene.now ++ map (λ (x : RegionSlot). false) (begun 0 (length l))) c.in_ok-inner.ensures)
     (c.in_ok-put.ensures.goes ∙ ap (λ (l : List code.What). goes_of c.args.scene.now ++ map (λ (x : RegionSlot). false) (begun 0 (length l))) c.in_ok-inner.ensures)
 
 pub returns-clause-scene : goal.returns-clause-scene
-returns-clause-scene c = begins_scene c.args.scene.now c.args.item (formula_of c.args.first) (env_of c.args.after) (S.Split (formula_of c.args.after) (env_of c.args.after)) refl refl c.requires.kept c.requires.lives c.requires.free c.put.new.scene 0
+returns-clause-scene c = begins_scene c.args.scene.now c.args.item (formula_of c.args.first) (env_of c.args.first) (S.Split (formula_of c.args.after) (env_of c.args.after)) refl refl c.requires.kept c.requires.lives c.requires.free c.put.new.scene 0
     (c.in_ok-put.ensures.slots ∙ ((λ i. stepped (slots_of c.args.scene.now) c.args.item None (map what_of (c.in_ok-inner.ensures i)) (map what_of (c.in_ok-outs.ensures i)))
-    ∙ (let left = ((let n : c.len-left.result ≡ length c.args.scene.now.regions.items = search rules in n) ∙ sym (length-map c.args.scene.now.regions.items region_slot_of)) in λ i. stepped (slots_of c.args.scene.now) c.args.item None (plain.bare (S.Do (formula_of c.args.first) (c.requires.env i)) ∷ []) (plain.holds (S.Split (formula_of c.args.after) (env_of c.args.after)) (left i) None ∷ []))))
+    ∙ (let left = ((let n : c.len-left.result ≡ length c.args.scene.now.regions.items = search rules in n) ∙ sym (length-map c.args.scene.now.regions.items region_slot_of)) in λ i. stepped (slots_of c.args.scene.now) c.args.item None (plain.bare (S.Do (formula_of c.args.first) (env_of c.args.first)) ∷ []) (plain.holds (S.Split (formula_of c.args.after) (env_of c.args.after)) (left i) None ∷ []))))
     (c.in_ok-put.ensures.holders ∙ ((λ i. held_after (slots_of c.args.scene.now) (map what_of (c.in_ok-inner.ensures i)) (map what_of (c.in_ok-outs.ensures i)) (holders_of c.args.scene.now))
-    ∙ (let left = ((let n : c.len-left.result ≡ length c.args.scene.now.regions.items = search rules in n) ∙ sym (length-map c.args.scene.now.regions.items region_slot_of)) in λ i. held_after (slots_of c.args.scene.now) (plain.bare (S.Do (formula_of c.args.first) (c.requires.env i)) ∷ []) (plain.holds (S.Split (formula_of c.args.after) (env_of c.args.after)) (left i) None ∷ []) (holders_of c.args.scene.now))))
+    ∙ (let left = ((let n : c.len-left.result ≡ length c.args.scene.now.regions.items = search rules in n) ∙ sym (length-map c.args.scene.now.regions.items region_slot_of)) in λ i. held_after (slots_of c.args.scene.now) (plain.bare (S.Do (formula_of c.args.first) (env_of c.args.first)) ∷ []) (plain.holds (S.Split (formula_of c.args.after) (env_of c.args.after)) (left i) None ∷ []) (holders_of c.args.scene.now))))
     (c.in_ok-put.ensures.ends ∙ ap (λ (l : List code.What). ends_of c.args.scene.now ++ map (λ (x : RegionSlot). false) (begun 0 (length l))) c.in_ok-inner.ensures)
-    (c.in_ok-put.ensures.goes ∙ ap (λ (l : List code.What). goes_of c.args.scene.now ++ map (λ (x : RegionSlot). false) (begun 0 (length l))) c.in_ok-inner.ensures) (becomes_split (scene_of c.args.scene.now) (formula_of c.args.first) (formula_of c.args.after) (env_of c.args.after)) refl refl refl refl
+    (c.in_ok-put.ensures.goes ∙ ap (λ (l : List code.What). goes_of c.args.scene.now ++ map (λ (x : RegionSlot). false) (begun 0 (length l))) c.in_ok-inner.ensures) (becomes_split (scene_of c.args.scene.now) (formula_of c.args.first) (env_of c.args.first) (formula_of c.args.after) (env_of c.args.after)) refl refl refl refl
 
 pub returns-in_err-inner-clause-kept : goal.returns-in_err-inner-clause-kept
 returns-in_err-inner-clause-kept c = c.requires.kept
