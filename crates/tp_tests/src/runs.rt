@@ -47,7 +47,7 @@ fn said(alloc: Global, picture: &Picture, run: &Run, out: &mut String) -> Result
 fn history<L: Ledger>(
     alloc: Global,
     blank: Blank,
-    source: &str,
+    source: &[u8],
     limits: Limits,
 ) -> Result<String, Fail>
     requires name { blank.name ≡ L.name }
@@ -81,6 +81,11 @@ fn history<L: Ledger>(
         }
     }
     Ok(text)
+}
+
+// The states of a run that counts its tries by itself.
+fn told_history(alloc: Global, source: &[u8], limits: Limits) -> Result<String, Fail> {
+    history::<Brand>(alloc, Blank::new(1), source, limits)
 }
 
 // A program, the greatest numbers of states and of reductions, the states made, and the end.
@@ -144,7 +149,7 @@ fn runs_come_to_their_ends(rt: HostRuntime) -> Result<(), Fail> {
             states: *states,
             reductions: *reductions,
         };
-        let text = history::<Brand>(rt.alloc(), Blank::new(1), source, limits)?;
+        let text = told_history(rt.alloc(), source.as_bytes(), limits)?;
         let expected = format!(in rt.alloc(); "{made}{end} {end}")?;
         assert_eq!(rt; text.as_str(), expected.as_str());
     }

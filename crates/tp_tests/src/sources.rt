@@ -23,10 +23,11 @@ pub fn source_of(alloc: Global, text: &str) -> Result<Source, Fail> {
     Ok(source)
 }
 
-pub fn program_of(alloc: Global, text: &str) -> Result<Program, Fail>
+pub fn program_of(alloc: Global, text: &[u8]) -> Result<Program, Fail>
     ensures built { IfOk result (λ p. IsBuilt p.globals (formula_tree p.main.value)) }
 {
-    let source = source_of(alloc, text)?;
+    let tokens = tokens_of(alloc, text)?;
+    let source = parse(alloc, &tokens)?;
     let program = check(alloc, &source)?;
     Ok(program)
 }

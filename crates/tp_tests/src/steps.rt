@@ -38,7 +38,7 @@ fn nothing(alloc: Global) -> Result<Setup, NoMemory>
 }
 
 // What a run of this program begins with.
-fn begin(alloc: Global, source: &str, setup: &Setup) -> Result<(Scene, Store), Fail>
+fn begin(alloc: Global, source: &[u8], setup: &Setup) -> Result<(Scene, Store), Fail>
     requires { definitions_of setup.now.defs ≡ [] }
     ensures { IfOk result (λ r.
         (kinds : List Bool)
@@ -109,7 +109,7 @@ fn tries<L: Ledger>(
     alloc: Global,
     scene: &mut Scene,
     store: &mut Store,
-    picks: &str,
+    picks: &[u8],
     setup: &Setup,
     at: (u64, u64),
     steps: &mut Steps<L>,
@@ -124,7 +124,7 @@ fn tries<L: Ledger>(
         (moment_of scene.new store.new)) }
 {
     let mut out = String::new(alloc);
-    for digit in picks.as_bytes() {
+    for digit in picks {
         let item = digit.saturating_sub(b'0') as u64;
         if !has_item(scene, item) {
             return Err("no such item".into());
@@ -164,10 +164,10 @@ fn go_on(alloc: Global, scene: Scene, store: &mut Store, setup: &Setup) -> Resul
 fn told<L: Ledger>(
     alloc: Global,
     blank: Blank,
-    source: &str,
-    first: &str,
+    source: &[u8],
+    first: &[u8],
     room: u64,
-    second: Option<&str>,
+    second: Option<&[u8]>,
 ) -> Result<String, Fail>
     requires name { blank.name ≡ L.name }
     requires parts { blank.parts ≡ L.parts }
@@ -203,162 +203,170 @@ fn told<L: Ledger>(
     Ok(out)
 }
 
-// A program, the items that are tried, how many reductions are left at each, those that are tried in the second state, and what is answered.
-const ROWS: [(&str, &str, u64, Option<&str>, &str); 28] = [
-    ("run true.", "0", 1, None, "0+0 0, EndOpen Open"),
-    ("run 1 < 2.", "0", 1, None, "0+0 0, EndOpen Open"),
-    ("run false.", "0", 1, None, "clash 1, Waiting(0) Open"),
-    ("run A < 2.", "0", 0, None, "waits 1, Waiting(0) Open"),
-    ("run A = 1.", "0", 1, None, "0+1 0, EndOpen Open"),
-    ("run A = 1.", "0", 0, None, "over 1, Waiting(0) Open"),
+// The same, of steps that count their tries by themselves.
+fn told_items(
+    alloc: Global,
+    source: &str,
+    first: &str,
+    room: u64,
+    second: Option<&str>,
+) -> Result<String, Fail> {
+    let source = source.as_bytes();
+    let first = first.as_bytes();
+    match second {
+        Some(second) => told::<Brand>(
+            alloc,
+            Blank::new(1),
+            source,
+            first,
+            room,
+            Some(second.as_bytes()),
+        ),
+        None => told::<Brand>(alloc, Blank::new(1), source, first, room, None),
+    }
+}
+
+// A program, the items that are tried, how many reductions are left at each, and what is answered.
+const KINDS: [(&str, &str, u64, &str); 16] = [
+    ("run true.", "0", 1, "0+0 0, EndOpen Open"),
+    ("run 1 < 2.", "0", 1, "0+0 0, EndOpen Open"),
+    ("run false.", "0", 1, "clash 1, Waiting(0) Open"),
+    ("run A < 2.", "0", 0, "waits 1, Waiting(0) Open"),
+    ("run A = 1.", "0", 1, "0+1 0, EndOpen Open"),
+    ("run A = 1.", "0", 0, "over 1, Waiting(0) Open"),
     (
         "run next A = 1.",
         "0123",
         1,
-        None,
         "2+0 2, 0+0! 1, 1+0! 1, rests 1, Goes Goes",
     ),
-    ("run empty.", "0", 1, None, "0+0! 0, Ends Ends"),
-    ("run more.", "0", 1, None, "0+0! 0, Goes Goes"),
-    (
-        "run next true.",
-        "01",
-        1,
-        None,
-        "1+0! 1, rests 1, Goes Goes",
-    ),
+    ("run empty.", "0", 1, "0+0! 0, Ends Ends"),
+    ("run more.", "0", 1, "0+0! 0, Goes Goes"),
+    ("run next true.", "01", 1, "1+0! 1, rests 1, Goes Goes"),
     (
         "run always(true).",
         "012",
         1,
-        None,
         "2+0 2, 0+0 1, waits 1, Waiting(2) Open",
     ),
     (
         "run keep(true).",
         "01",
         1,
-        None,
         "2+0 2, waits 2, Waiting(1) Open",
     ),
-    (
-        "run fin(true).",
-        "01",
-        1,
-        None,
-        "2+0 2, waits 2, Waiting(1) Open",
-    ),
+    ("run fin(true).", "01", 1, "2+0 2, waits 2, Waiting(1) Open"),
     (
         "run if true then true else empty.",
         "01",
         1,
-        None,
         "1+0 1, 0+0 0, EndOpen Open",
     ),
-    (
-        "run len(1).",
-        "012",
-        1,
-        None,
-        "1+0 1, 1+0! 1, rests 1, Goes Goes",
-    ),
+    ("run len(1).", "012", 1, "1+0 1, 1+0! 1, rests 1, Goes Goes"),
     (
         "run A <- 1.",
         "012",
         1,
-        None,
         "1+0 1, 2+0 2, waits 2, Waiting(2) Open",
     ),
+];
+
+// Programs of which one item meets what another has done.
+const MEETINGS: [(&str, &str, u64, &str); 9] = [
     (
         "run more and empty.",
         "012",
         9,
-        None,
         "2+0 2, 0+0! 1, clash 1, Waiting(2) Goes",
     ),
     (
         "run empty and next true.",
         "012",
         9,
-        None,
         "2+0 2, 0+0! 1, clash 1, Waiting(2) Ends",
     ),
     (
         "run A = 1 and A = 2.",
         "012",
         9,
-        None,
         "2+0 2, 0+1 1, clash 1, Waiting(2) Open",
     ),
     (
         "run A = 1 and A < 2.",
         "0212",
         9,
-        None,
         "2+0 2, waits 2, 0+1 1, 0+0 0, EndOpen Open",
     ),
     (
         "run more and always(true).",
         "012453",
         9,
-        None,
         "2+0 2, 0+0! 1, 2+0 2, 1+0 2, rests 2, 0+0 1, Goes Goes",
     ),
     (
         "run empty and always(true).",
         "01243",
         9,
-        None,
         "2+0 2, 0+0! 1, 2+0 2, 0+0 1, 0+0 0, Ends Ends",
     ),
     (
         "run more and keep(true).",
         "012354",
         9,
-        None,
         "2+0 2, 0+0! 1, 2+0 2, 1+0 2, 0+0 1, 1+0 1, Goes Goes",
     ),
     (
         "run empty and fin(true).",
         "012354",
         9,
-        None,
         "2+0 2, 0+0! 1, 2+0 2, 1+0 2, 0+0 1, 0+0 0, Ends Ends",
     ),
     (
         "run next true and A = 1.",
         "01",
         9,
-        None,
         "2+0 2, 1+0! 2, Waiting(2) Goes",
     ),
+];
+
+// A program, the items that are tried in the first state and in the second, and what is answered.
+const STATES: [(&str, &str, &str, &str); 3] = [
     (
         "run len(1).",
         "01",
-        9,
-        Some("01"),
+        "01",
         "1+0 1, 1+0! 1, Goes Goes then 1+0 1, 0+0! 0, Ends Ends",
     ),
     (
         "run next A = 1.",
         "012",
-        9,
-        Some("0"),
+        "0",
         "2+0 2, 0+0! 1, 1+0! 1, Goes Goes then 0+1 0, EndOpen Open",
     ),
     (
         "run next true.",
         "0",
-        9,
-        Some(""),
+        "",
         "1+0! 1, Goes Goes then Waiting(0) Open",
     ),
 ];
 
 #[test]
 fn items_are_reduced(rt: HostRuntime) -> Result<(), Fail> {
-    for (source, first, room, second, expected) in &ROWS {
-        let text = told::<Brand>(rt.alloc(), Blank::new(1), source, first, *room, *second)?;
+    let tables: [&[(&str, &str, u64, &str)]; 2] = [&KINDS, &MEETINGS];
+    for table in tables {
+        for (source, picks, room, expected) in table {
+            let text = told_items(rt.alloc(), source, picks, *room, None)?;
+            assert_eq!(rt; text.as_str(), *expected, "for {source}");
+        }
+    }
+    Ok(())
+}
+
+#[test]
+fn a_state_goes_on(rt: HostRuntime) -> Result<(), Fail> {
+    for (source, first, second, expected) in &STATES {
+        let text = told_items(rt.alloc(), source, first, 9, Some(second))?;
         assert_eq!(rt; text.as_str(), *expected, "for {source}");
     }
     Ok(())

@@ -1,4 +1,4 @@
-use Rattle.std.proofs.Common.{◌∙◌, List, map, ap, sym, subst}
+use Rattle.std.proofs.Common.{◌∙◌, List, map, ap, sym, subst, arith}
 use Rattle.tp_value.specs.declared.value.Value.{Value}
 use Rattle.tp_value.specs.Tree.{list, of_items}
 use Rattle.tp_value.specs.Read.{tree}
