@@ -58,7 +58,8 @@ pub fn one_rest()
     ensures { (w : Setting) (kinds : List Bool) → OneRestOf w kinds }
 {}
 
-/// Where some picks close a state, every list of picks of a state that begins alike goes on to that end.
+/// Where some picks close a state, so does each state that begins alike: all its closures take as many picks and are
+/// alike, and it meets no failure.
 pub fn states_close_one_way()
     ensures { StatesCloseOneWay }
 {}
