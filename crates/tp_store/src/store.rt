@@ -48,6 +48,14 @@ impl Store {
         shape_in(facts_of(self.entries.as_slice(), path.var.number), path)
     }
 
+    /// How many variables there are: the number of the next new one.
+    pub fn count(&self) -> u64
+        ensures number { result ≡ length self.now.variables }
+        ensures sound { IsSoundStore self.now }
+    {
+        self.entries.len() as u64
+    }
+
     /// The next number, for a new variable of that name.
     pub fn fresh(&mut self, name: &Text, lasting: bool) -> Result<VarId, NoMemory>
         ensures number { IfOk result (λ x.
