@@ -5,7 +5,7 @@ use Rattle.tp_meaning.specs.Interval.{kinds_of}
 use Rattle.tp_meaning.specs.Syntax.{FormulaTree, FormulaTrees, no_formula, formula_then, trivial, test, equation, next_equation, empty, more, next, weak_next, if_more, if_empty, always, conjunction, branch, len, assign, chop, while, for_from, forall_from, project, exists, call, input, display}
 
 abbrev mutual
-  -- No chop, loop, projection, `exists`, call, `input` or `display`, at any depth.
+  -- No `exists`, call, `input` or `display`, at any depth.
   pub HasBuiltKinds : FormulaTree → Type 0
   HasBuiltKinds trivial = Unit {0}
   HasBuiltKinds (test e) = Unit {0}
@@ -22,11 +22,11 @@ abbrev mutual
   HasBuiltKinds (branch b w v) = HasBuiltKinds w × HasBuiltKinds v
   HasBuiltKinds (len e) = Unit {0}
   HasBuiltKinds (assign t e) = Unit {0}
-  HasBuiltKinds (chop w v) = ⊥
-  HasBuiltKinds (while b w) = ⊥
-  HasBuiltKinds (for_from name from to body) = ⊥
-  HasBuiltKinds (forall_from name from to body) = ⊥
-  HasBuiltKinds (project w v) = ⊥
+  HasBuiltKinds (chop w v) = HasBuiltKinds w × HasBuiltKinds v
+  HasBuiltKinds (while b w) = HasBuiltKinds w
+  HasBuiltKinds (for_from name from to body) = HasBuiltKinds body
+  HasBuiltKinds (forall_from name from to body) = HasBuiltKinds body
+  HasBuiltKinds (project w v) = HasBuiltKinds w × HasBuiltKinds v
   HasBuiltKinds (exists name lasting body) = ⊥
   HasBuiltKinds (call p es) = ⊥
   HasBuiltKinds (input e port) = ⊥
@@ -36,6 +36,7 @@ abbrev mutual
   HaveBuiltKinds no_formula = Unit {0}
   HaveBuiltKinds (formula_then w ws) = HasBuiltKinds w × HaveBuiltKinds ws
 
--- a formula that runs over the variables with these names: it has only such kinds, and no bound name, no call, and no other variable
+-- a formula that runs over the variables with these names: it has only such kinds, no bound name that nothing binds, no call, and no other
+-- variable
 abbrev pub IsBuilt : List (List ℕ) → FormulaTree → Type 0
 IsBuilt names w = HasBuiltKinds w × FormulaFits [] (kinds_of names) w 0

@@ -42,7 +42,6 @@ pub mod NewFacts
 pub mod StepsFit
 pub mod AdvancesFit
 pub mod EndLaws
-pub mod Flat
 pub mod StatusRules
 pub mod WaitRows
 pub mod NamedItem

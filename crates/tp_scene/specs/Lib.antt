@@ -7,7 +7,6 @@ pub mod Advance
 pub mod StandsFor
 pub mod Fits
 pub mod Laws
-pub mod Built
 pub mod Replay
 pub mod Regions
 pub mod Status

@@ -4,7 +4,6 @@ ghost use Rattle.tp_scene.specs.Regions.{LiveItemsStandInLiveRegions};
 ghost use Rattle.tp_scene.specs.Status.{StatusIsLeast};
 ghost use Rattle.tp_scene.specs.Cells.{WaitsAreForUndecided, DecidedStays, NamedItemWaits, RestEndsGoesOrIsOpen, OpenCellsAreUndecided};
 ghost use Rattle.tp_scene.specs.Seen.{PicksSeePlaces, WaitedEndsAreLive};
-ghost use Rattle.tp_scene.specs.Built.{StepsStayFlat, AdvancesStayFlat};
 
 /// A reduction keeps what a moment stands for, of the intervals whose first state has the state's own number.
 pub fn steps_keep()
@@ -40,12 +39,6 @@ pub fn ends_stand()
 /// A run begins with a sound moment, which stands for the intervals on which the formula holds.
 pub fn runs_begin()
     ensures { RunsBegin }
-{}
-
-/// Scenes of one region, with formulas of the kinds that are run today, stay so.
-pub fn flat_scenes_stay_flat()
-    ensures steps { StepsStayFlat }
-    ensures advances { AdvancesStayFlat }
 {}
 
 /// The live items of a scene are those that stand in its live regions.
