@@ -1,6 +1,5 @@
--- Sides of equations, and what is decided without a value.
-use Rattle.std.proofs.Common.{◌≡◌, ℤ, Bool, true, cond, List, [], refl, ap, ◌∙◌, inl, inr, Option}
-use Rattle.std.specs.Prelude.{Err}
+-- Sides of equations.
+use Rattle.std.proofs.Common.{◌≡◌, Bool, true, cond, List, [], refl, ap, ◌∙◌, inl, inr, Option}
 use Rattle.std.proofs.lemmas.Bool.{cases_Bool}
 use Rattle.tp_value.specs.Tree.{Tree, same_tree, SameTreeIsEquality}
 use Rattle.tp_value.specs.declared.path.Fact.{Fact}
@@ -11,17 +10,7 @@ use Rattle.tp_eval.specs.Outcome as found
 use Rattle.tp_scene.specs.declared.answer.Clash.TheVariants as clash
 use Rattle.tp_scene.specs.Step as row
 use Rattle.tp_scene.specs.Step.{PickOutcome}
-use Rattle.tp_decide.specs.declared.decision.Decision.{Decision}
-use Rattle.tp_decide.specs.Decided.{decided, ValueIn, TruthIn, NumberIn, IsNoSize}
-
-pub truth_without : (o p : found.Outcome) (d : Decision) → TruthIn o (Err d) → o ≡ p → (f : Bool → PickOutcome) (facts : List Fact) → decided facts d ≡ row.with_truth p f
-truth_without o p d h e f facts = h facts f ∙ ap (λ q. row.with_truth q f) e
-
-pub number_without : (o p : found.Outcome) (d : Decision) → NumberIn o (Err d) → o ≡ p → (f : ℤ → PickOutcome) (facts : List Fact) → decided facts d ≡ row.with_number p f
-number_without o p d h e f facts = h facts f ∙ ap (λ q. row.with_number q f) e
-
-pub value_without : (o p : found.Outcome) (d : Decision) → ValueIn o (Err d) → o ≡ p → (f : Tree → PickOutcome) (facts : List Fact) → decided facts d ≡ row.with_value p f
-value_without o p d h e f facts = h facts f ∙ ap (λ q. row.with_value q f) e
+use Rattle.tp_decide.specs.Found.{IsNoSize}
 
 module _ (defs : List Definition) (facts : List Fact) (env : List BindingTree) where
   pub plain_target : (e : ExprTree) → IsNoSize e → row.target_of defs [] 0 facts e env ≡ row.target_if defs [] 0 facts (is_place e) row.value_at e env

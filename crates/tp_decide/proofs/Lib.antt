@@ -1,4 +1,7 @@
-pub mod FlatLemmas
+pub mod ListLemmas
+pub mod FoundLemmas
 pub mod EquationLemmas
-pub mod DecideLemmas
+pub mod RowLemmas
+pub mod DisplayLemmas
+pub mod FormulaLemmas
 pub mod PathFits

@@ -1,4 +1,5 @@
 pub mod Read
-pub mod Equations
-pub mod Flat
 pub mod Decided
+pub mod Found
+pub mod Fits
+pub mod Holders

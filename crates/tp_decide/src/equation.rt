@@ -6,20 +6,24 @@ ghost use Rattle.tp_kernel.specs.Read.{expr_tree, definitions_of, bindings_of};
 ghost use Rattle.tp_value.specs.declared.path.Fact.{Fact};
 ghost use Rattle.tp_value.specs.declared.path.Path.{Path};
 ghost use Rattle.tp_meaning.specs.Syntax.{Definition, size};
+ghost use Rattle.tp_meaning.specs.Inputs.{input_at};
 ghost use Rattle.tp_eval.specs.Outcome as found;
 ghost use Rattle.tp_eval.specs.Answers.{outcome_tree};
 ghost use Rattle.tp_eval.specs.Evaluate.{is_place as is_place_tree};
 ghost use Rattle.tp_scene.specs.Step as row;
 ghost use Rattle.tp_store.specs.Known.{Variable, IsVariableOf};
-ghost use Rattle.tp_decide.specs.Decided.{decided, option_target, plain_side, PathIn, IsNoSize, IsPathOf, IsTargetOf, SetsVariables, ExprFitsStore};
+ghost use Rattle.tp_decide.specs.Decided.{decided_outcome, setting_of};
+ghost use Rattle.tp_decide.specs.Found.{option_target, side_found, PathIn, IsNoSize};
+ghost use Rattle.tp_decide.specs.Fits.{IsPathOf, IsTargetOf, SetsVariables, ExprFitsStore};
 
 use crate::decision::{Decision, nothing};
+use crate::setting::Setting;
 use std::alloc::Global;
 use tp_eval::{Outcome, PlaceOutcome, eval, is_place, place};
 use tp_kernel::{Defs, Env, Expr, FaultKind, LimitKind};
 use tp_scene::{Cell, Clash};
 use tp_store::Store;
-use tp_value::{LENGTH_LIMIT, NoMemory, Number, Path, Value, same, same_tree_is_equality};
+use tp_value::{LENGTH_LIMIT, NoMemory, Number, Path, Text, Value, same, same_tree_is_equality};
 
 /// What a side can set: the value at a path, or the length of the list there.
 #[derive(Drop)]
@@ -131,7 +135,7 @@ fn evaluate_side(
     requires fits { ExprFitsStore (definitions_of defs.now) store.now.variables (expr_tree expr.now)
         (bindings_of env.now) }
     ensures outcome { IfOk result (λ s.
-        plain_side s
+        side_found s
         ≡ row.side_of (definitions_of defs.now) [] 0 store.now.facts (expr_tree expr.now)
         (bindings_of env.now)) }
     ensures variables { IfOk result (λ s. IsTargetOf store.now.variables s.target) }
@@ -147,8 +151,8 @@ fn evaluate_side(
 
 // The length of the list at the path is to be this value.
 fn measure(path: Path, value: Value) -> Decision
-    ensures outcome { (facts : List Fact)
-        → decided facts result ≡ row.set facts (row.length_at path) (tree value) }
+    ensures outcome { (facts : List Fact) (n : row.Numbers)
+        → decided_outcome facts n result ≡ row.set facts (row.length_at path) (tree value) }
     ensures variables { (xs : List Variable) → IsVariableOf xs path.var → SetsVariables xs result }
 {
     match value {
@@ -159,8 +163,8 @@ fn measure(path: Path, value: Value) -> Decision
 }
 
 fn measure_number(path: Path, n: Number) -> Decision
-    ensures outcome { (facts : List Fact)
-        → decided facts result ≡ row.set facts (row.length_at path) (num n) }
+    ensures outcome { (facts : List Fact) (numbers : row.Numbers)
+        → decided_outcome facts numbers result ≡ row.set facts (row.length_at path) (num n) }
     ensures variables { (xs : List Variable) → IsVariableOf xs path.var → SetsVariables xs result }
 {
     if n < 0 {
@@ -174,8 +178,8 @@ fn measure_number(path: Path, n: Number) -> Decision
 
 // The other side has this value.
 fn meet(alloc: Global, target: Option<Target>, found: Outcome, value: Value) -> Decision
-    ensures outcome { (facts : List Fact) (placed : Bool)
-        → decided facts result
+    ensures outcome { (facts : List Fact) (n : row.Numbers) (placed : Bool)
+        → decided_outcome facts n result
         ≡ row.meets facts
         (record { placed = placed; target = option_target target; found = outcome_tree found })
         (tree value) }
@@ -189,8 +193,8 @@ fn meet(alloc: Global, target: Option<Target>, found: Outcome, value: Value) -> 
 }
 
 fn compare(alloc: Global, found: Outcome, value: Value) -> Decision
-    ensures outcome { (facts : List Fact) (placed : Bool)
-        → decided facts result
+    ensures outcome { (facts : List Fact) (n : row.Numbers) (placed : Bool)
+        → decided_outcome facts n result
         ≡ row.meets facts (record { placed = placed; target = None; found = outcome_tree found })
         (tree value) }
     ensures variables { (xs : List Variable) → SetsVariables xs result }
@@ -212,8 +216,9 @@ fn compare(alloc: Global, found: Outcome, value: Value) -> Decision
 
 // Both sides wait, for `left` and for `right`.
 fn wait_for_both(is_left_placed: bool, is_right_placed: bool, left: Path, right: Path) -> Decision
-    ensures outcome { (facts : List Fact)
-        → decided facts result ≡ row.both_wait facts is_left_placed is_right_placed left right }
+    ensures outcome { (facts : List Fact) (n : row.Numbers)
+        → decided_outcome facts n result
+        ≡ row.both_wait facts is_left_placed is_right_placed left right }
     ensures variables { (xs : List Variable) → SetsVariables xs result }
 {
     if is_right_placed && !is_left_placed {
@@ -225,8 +230,9 @@ fn wait_for_both(is_left_placed: bool, is_right_placed: bool, left: Path, right:
 
 // The right side passes a limit.
 fn pass_on_right(left: Outcome, limit: LimitKind) -> Decision
-    ensures outcome { (facts : List Fact) (l r : row.SideOf) → l.found ≡ outcome_tree left
-        → r.found ≡ found.over limit → decided facts result ≡ row.equate facts l r }
+    ensures outcome { (facts : List Fact) (n : row.Numbers) (l r : row.SideOf)
+        → l.found ≡ outcome_tree left → r.found ≡ found.over limit
+        → decided_outcome facts n result ≡ row.equate facts l r }
     ensures variables { (xs : List Variable) → SetsVariables xs result }
 {
     match left {
@@ -239,9 +245,9 @@ fn pass_on_right(left: Outcome, limit: LimitKind) -> Decision
 
 // The right side has this value.
 fn value_on_right(alloc: Global, target: Option<Target>, left: Outcome, value: Value) -> Decision
-    ensures outcome { (facts : List Fact) (placed : Bool) (r : row.SideOf)
+    ensures outcome { (facts : List Fact) (n : row.Numbers) (placed : Bool) (r : row.SideOf)
         → r.found ≡ found.value (tree value)
-        → decided facts result
+        → decided_outcome facts n result
         ≡ row.equate facts
         (record { placed = placed; target = option_target target; found = outcome_tree left }) r }
     ensures variables { (xs : List Variable) → IsTargetOf xs target → SetsVariables xs result }
@@ -255,8 +261,8 @@ fn value_on_right(alloc: Global, target: Option<Target>, left: Outcome, value: V
 }
 
 fn equate(alloc: Global, left: Side, right: Side) -> Decision
-    ensures outcome { (facts : List Fact)
-        → decided facts result ≡ row.equate facts (plain_side left) (plain_side right) }
+    ensures outcome { (facts : List Fact) (n : row.Numbers)
+        → decided_outcome facts n result ≡ row.equate facts (side_found left) (side_found right) }
     ensures variables { (xs : List Variable) → IsTargetOf xs left.target
         → IsTargetOf xs right.target → SetsVariables xs result }
 {
@@ -290,23 +296,75 @@ pub fn decide_equation(
     right: &Expr,
     env: &Env,
     store: &Store,
-    defs: &Defs,
+    setting: &Setting,
 ) -> Result<Decision, NoMemory>
-    requires none { definitions_of defs.now ≡ [] }
-    requires fits_left { ExprFitsStore (definitions_of defs.now) store.now.variables
+    requires none { definitions_of setting.now.defs ≡ [] }
+    requires fits_left { ExprFitsStore (definitions_of setting.now.defs) store.now.variables
         (expr_tree left.now) (bindings_of env.now) }
-    requires fits_right { ExprFitsStore (definitions_of defs.now) store.now.variables
+    requires fits_right { ExprFitsStore (definitions_of setting.now.defs) store.now.variables
         (expr_tree right.now) (bindings_of env.now) }
-    ensures outcome { IfOk result (λ d.
-        decided store.now.facts d
+    ensures outcome { let w = setting_of setting.now in
+        IfOk result (λ d.
+        (n : row.Numbers)
+        → decided_outcome store.now.facts n d
         ≡ row.equate store.now.facts
-        (row.side_of (definitions_of defs.now) [] 0 store.now.facts (expr_tree left.now)
+        (row.side_of w.defs w.inputs w.state store.now.facts (expr_tree left.now)
         (bindings_of env.now))
-        (row.side_of (definitions_of defs.now) [] 0 store.now.facts (expr_tree right.now)
+        (row.side_of w.defs w.inputs w.state store.now.facts (expr_tree right.now)
         (bindings_of env.now))) }
     ensures variables { IfOk result (SetsVariables store.now.variables) }
 {
-    let left = evaluate_side(alloc, left, env, store, defs)?;
-    let right = evaluate_side(alloc, right, env, store, defs)?;
+    let left = evaluate_side(alloc, left, env, store, &setting.defs)?;
+    let right = evaluate_side(alloc, right, env, store, &setting.defs)?;
     Ok(equate(alloc, left, right))
+}
+
+// A side that has this value, which was found before.
+fn side_with(alloc: Global, value: &Value) -> Result<Side, NoMemory>
+    ensures outcome { IfOk result (λ s.
+        (defs : List Definition) (facts : List Fact)
+        → side_found s ≡ row.side_with defs [] 0 facts (tree value.now)) }
+    ensures variables { IfOk result (λ s. s.target ≡ None) }
+{
+    let value = value.copy(alloc)?;
+    Ok(Side {
+        placed: false,
+        target: None,
+        found: Outcome::Value(value),
+    })
+}
+
+/// What becomes of the equation with the value that the inputs have for the port.
+pub fn decide_input(
+    alloc: Global,
+    expr: &Expr,
+    port: &Text,
+    env: &Env,
+    store: &Store,
+    setting: &Setting,
+) -> Result<Decision, NoMemory>
+    requires none { definitions_of setting.now.defs ≡ [] }
+    requires fits { ExprFitsStore (definitions_of setting.now.defs) store.now.variables
+        (expr_tree expr.now) (bindings_of env.now) }
+    ensures outcome { let w = setting_of setting.now in
+        IfOk result (λ d.
+        (n : row.Numbers)
+        → decided_outcome store.now.facts n d
+        ≡ row.from_port w.defs w.inputs w.state store.now.facts (input_at w.inputs w.state port.now)
+        port.now
+        (row.side_of w.defs w.inputs w.state store.now.facts (expr_tree expr.now)
+        (bindings_of env.now))) }
+    ensures variables { IfOk result (SetsVariables store.now.variables) }
+{
+    match setting.inputs.at(setting.state, port) {
+        Some(value) => {
+            let left = evaluate_side(alloc, expr, env, store, &setting.defs)?;
+            let right = side_with(alloc, value)?;
+            Ok(equate(alloc, left, right))
+        }
+        None => {
+            let port = port.copy()?;
+            Ok(Decision::Misses(port))
+        }
+    }
 }

@@ -1,17 +1,23 @@
 // What is found where an expression is evaluated: a value of the kind that is needed, or what its item does without one.
+ghost use Rattle.std.specs.Prelude.{◌≡◌, [], IfOk, IfErr};
+ghost use Rattle.tp_kernel.specs.Read.{expr_tree, expr_trees, definitions_of, bindings_of};
 ghost use Rattle.tp_eval.specs.Answers.{outcome_tree};
-ghost use Rattle.std.specs.Prelude.{◌≡◌, List, IfErr};
-ghost use Rattle.tp_value.specs.declared.path.Fact.{Fact};
+ghost use Rattle.tp_eval.specs.Outcome.{outcome};
 ghost use Rattle.tp_scene.specs.Step as row;
-ghost use Rattle.tp_decide.specs.Decided.{decided, TruthIn, NumberIn, ValueIn, IsPlain};
+ghost use Rattle.tp_decide.specs.Decided.{Decides};
+ghost use Rattle.tp_decide.specs.Fits.{IsPlain};
+ghost use Rattle.tp_decide.specs.Found.{TruthIn, NumberIn, ValueIn};
 
 use crate::decision::Decision;
-use tp_eval::Outcome;
-use tp_kernel::FaultKind;
+use crate::setting::Setting;
+use std::alloc::Global;
+use tp_eval::{Outcome, eval};
+use tp_kernel::{Env, Expr, FaultKind};
 use tp_scene::{Cell, Clash};
-use tp_value::{Number, Value};
+use tp_store::Store;
+use tp_value::{NoMemory, Number, Value};
 
-pub fn value(outcome: Outcome) -> Result<Value, Decision>
+fn value(outcome: Outcome) -> Result<Value, Decision>
     ensures found { ValueIn (outcome_tree outcome) result }
     ensures plain { IfErr result IsPlain }
 {
@@ -24,14 +30,13 @@ pub fn value(outcome: Outcome) -> Result<Value, Decision>
 }
 
 fn wrong_kind() -> Decision
-    ensures outcome { (facts : List Fact)
-        → decided facts result ≡ row.clashes (Clash.NoValue FaultKind.WrongKind) }
+    ensures outcome { Decides result (λ n. row.clashes (Clash.NoValue FaultKind.WrongKind)) }
     ensures plain { IsPlain result }
 {
     Decision::Clashes(Clash::NoValue(FaultKind::WrongKind))
 }
 
-pub fn truth(outcome: Outcome) -> Result<bool, Decision>
+fn truth(outcome: Outcome) -> Result<bool, Decision>
     ensures found { TruthIn (outcome_tree outcome) result }
     ensures plain { IfErr result IsPlain }
 {
@@ -42,7 +47,7 @@ pub fn truth(outcome: Outcome) -> Result<bool, Decision>
     }
 }
 
-pub fn number(outcome: Outcome) -> Result<Number, Decision>
+fn number(outcome: Outcome) -> Result<Number, Decision>
     ensures found { NumberIn (outcome_tree outcome) result }
     ensures plain { IfErr result IsPlain }
 {
@@ -51,4 +56,61 @@ pub fn number(outcome: Outcome) -> Result<Number, Decision>
         Value::Truth(_) => Err(wrong_kind()),
         Value::List(_) => Err(wrong_kind()),
     }
+}
+
+/// The value of the expression.
+pub fn find_value(
+    alloc: Global,
+    expr: &Expr,
+    env: &Env,
+    store: &Store,
+    setting: &Setting,
+) -> Result<Result<Value, Decision>, NoMemory>
+    requires { definitions_of setting.now.defs ≡ [] }
+    ensures found { IfOk result
+        (ValueIn
+        (outcome store.now.facts (definitions_of setting.now.defs) (expr_tree expr.now)
+        (bindings_of env.now))) }
+    ensures plain { IfOk result (λ found. IfErr found IsPlain) }
+{
+    let outcome = eval(alloc, expr, env, store, &setting.defs)?;
+    Ok(value(outcome))
+}
+
+/// The truth value of the expression.
+pub fn find_truth(
+    alloc: Global,
+    expr: &Expr,
+    env: &Env,
+    store: &Store,
+    setting: &Setting,
+) -> Result<Result<bool, Decision>, NoMemory>
+    requires { definitions_of setting.now.defs ≡ [] }
+    ensures found { IfOk result
+        (TruthIn
+        (outcome store.now.facts (definitions_of setting.now.defs) (expr_tree expr.now)
+        (bindings_of env.now))) }
+    ensures plain { IfOk result (λ found. IfErr found IsPlain) }
+{
+    let outcome = eval(alloc, expr, env, store, &setting.defs)?;
+    Ok(truth(outcome))
+}
+
+/// The number that the expression is.
+pub fn find_number(
+    alloc: Global,
+    expr: &Expr,
+    env: &Env,
+    store: &Store,
+    setting: &Setting,
+) -> Result<Result<Number, Decision>, NoMemory>
+    requires { definitions_of setting.now.defs ≡ [] }
+    ensures found { IfOk result
+        (NumberIn
+        (outcome store.now.facts (definitions_of setting.now.defs) (expr_tree expr.now)
+        (bindings_of env.now))) }
+    ensures plain { IfOk result (λ found. IfErr found IsPlain) }
+{
+    let outcome = eval(alloc, expr, env, store, &setting.defs)?;
+    Ok(number(outcome))
 }

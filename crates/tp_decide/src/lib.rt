@@ -1,12 +1,24 @@
-//! Scenes as the program holds them, and what becomes of one formula in them. Nothing is changed here: what is decided is carried out
-//! above.
+//! What becomes of one item of a scene, for all kinds of formula and all items with regions: as items and regions that have no numbers
+//! yet, for scenes that are kept as slots. Nothing is changed here: what is decided is carried out above.
 #![tactic(auto)]
 
+mod counting;
 mod decision;
+mod display;
 mod env;
 mod equation;
+mod evaluated;
+mod formula;
 mod found;
-mod scene;
+mod holder;
+mod leaves;
+mod phrase;
+mod regions;
+mod setting;
 
-pub use decision::{Decision, Place, Side, decide};
-pub use scene::{Entries, Entry, Item, Phrase, Region, Scene, Shows, Values};
+pub use decision::{Decision, Leaf, Place, Side};
+pub use env::bind_last;
+pub use formula::{decide, decide_leaf};
+pub use holder::{HolderDecision, HolderKind, decide_holder};
+pub use phrase::{Phrase, Shows, Values};
+pub use setting::Setting;

@@ -1,13 +1,13 @@
 use Rattle.std.proofs.Common.{◌∙◌, ap₂, sym}
 use Rattle.tp_eval.specs.Answers.{outcome_tree}
 use Rattle.tp_scene.specs.Step as row
-use Rattle.tp_decide.specs.Decided.{option_target}
+use Rattle.tp_decide.specs.Found.{option_target}
 use Rattle.tp_decide.proofs.EquationLemmas.{side}
 use Rattle.tp_decide.proofs.equation.equate.Goals as goal
 
 pub returns-in-Value-left_found-clause-outcome : goal.returns-in-Value-left_found-clause-outcome
-returns-in-Value-left_found-clause-outcome c = λ facts.
-    c.meet.ensures.outcome facts c.args.right.placed
+returns-in-Value-left_found-clause-outcome c = λ facts n.
+    c.meet.ensures.outcome facts n c.args.right.placed
     ∙ ap₂ (λ o p. row.equate facts (side c.args.left.placed (option_target c.args.left.target) (outcome_tree o)) (side c.args.right.placed (option_target c.args.right.target) (outcome_tree p))) (sym c.in-Value-left_found.is) (sym c.in-Wait.is)
 
 pub returns-in-Over-clause-variables : goal.returns-in-Over-clause-variables

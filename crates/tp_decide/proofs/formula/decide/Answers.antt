@@ -1,0 +1,103 @@
+use Rattle.std.specs.Prelude.{◌-◌, [], if◌then◌else◌}
+use Rattle.std.proofs.Common.{◌≡◌, ◌∙◌, to_z, of_z, w64, arith, ap, sym, subst}
+use Rattle.std.proofs.lemmas.Int.{ints}
+use Rattle.tp_kernel.specs.Read.{expr_tree, formula_tree, definitions_of}
+use Rattle.tp_kernel.specs.Equations.{formula_next_eq, formula_if, formula_assign, formula_for, formula_forall}
+use Rattle.tp_meaning.specs.Syntax.{known, equation, always, if_empty}
+use Rattle.tp_meaning.specs.Unfolding.{nexts}
+use Rattle.tp_inputs.specs.Read.{lines_of}
+use Rattle.tp_eval.specs.Outcome.{outcome}
+use Rattle.tp_scene.specs.Scene as S
+use Rattle.tp_scene.specs.Step as row
+use Rattle.tp_decide.specs.Read.{env_of}
+use Rattle.tp_decide.specs.Decided.{plain_place}
+use Rattle.tp_decide.specs.Found.{TruthIn, NumberIn, ValueIn}
+use Rattle.tp_decide.proofs.FormulaLemmas.{same_outcome, found_row}
+use Rattle.tp_decide.proofs.formula.decide.Goals as goal
+
+pub returns-in-True-clause-variables : goal.returns-in-True-clause-variables
+returns-in-True-clause-variables c = c.nothing.ensures.plain c.args.store.now.variables
+
+pub returns-in_ok-found-in-Test-clause-variables : goal.returns-in_ok-found-in-Test-clause-variables
+returns-in_ok-found-in-Test-clause-variables c = c.decide_test.ensures.plain c.args.store.now.variables
+
+pub returns-in-Empty-clause-variables : goal.returns-in-Empty-clause-variables
+returns-in-Empty-clause-variables c = c.end.ensures.plain c.args.store.now.variables
+
+pub returns-in-More-clause-variables : goal.returns-in-More-clause-variables
+returns-in-More-clause-variables c = c.go.ensures.plain c.args.store.now.variables
+
+pub returns-in_ok-found-in-NextEq-clause-outcome : goal.returns-in_ok-found-in-NextEq-clause-outcome
+returns-in_ok-found-in-NextEq-clause-outcome c =
+    let facts = c.args.store.now.facts in
+    let defs = definitions_of c.args.setting.now.defs in
+    let env = env_of c.args.phrase.now in
+    let place = plain_place c.args.place in
+    let step = row.formula_step defs (lines_of c.args.setting.now.inputs) c.args.setting.now.state facts in
+    let found = c.in_ok-found-in-NextEq.found in
+    let whole = ap formula_tree (sym c.deref.ensures ∙ c.in-NextEq.is) ∙ formula_next_eq c.in-NextEq.k c.in-NextEq.t c.in-NextEq.e in
+    let here = subst (λ o. ValueIn o found) (same_outcome facts defs _ c.in-NextEq.e.value _ c.args.phrase.now.env.value c.deref-in-NextEq.ensures c.deref-in-NextEq-2.ensures) c.in_ok-found-in-NextEq.ensures.found in
+    found_row facts c.decide_next_equation.result (λ o. ValueIn o found) (λ o n. row.with_value o (λ v. row.going place (S.leaf (n.item 0) (S.Later (nexts (c.in-NextEq.k - 1) (equation (expr_tree c.in-NextEq.t.value) (known v))) env) S.none) 1))
+    (outcome facts defs (expr_tree c.in-NextEq.e.value) env) (λ n. step _ env place n) here (λ n. ap (λ f. step f env place n) (sym whole)) c.decide_next_equation.ensures.outcome
+
+pub returns-in_ok-found-in-If-clause-outcome : goal.returns-in_ok-found-in-If-clause-outcome
+returns-in_ok-found-in-If-clause-outcome c =
+    let facts = c.args.store.now.facts in
+    let defs = definitions_of c.args.setting.now.defs in
+    let env = env_of c.args.phrase.now in
+    let place = plain_place c.args.place in
+    let step = row.formula_step defs (lines_of c.args.setting.now.inputs) c.args.setting.now.state facts in
+    let found = c.in_ok-found-in-If.found in
+    let whole = ap formula_tree (sym c.deref.ensures ∙ c.in-If.is) ∙ formula_if c.in-If.b c.in-If.yes c.in-If.no in
+    let here = subst (λ o. TruthIn o found) (same_outcome facts defs _ c.in-If.b.value _ c.args.phrase.now.env.value c.deref-in-If.ensures c.deref-in-If-2.ensures) c.in_ok-found-in-If.ensures.found in
+    found_row facts c.decide_branch.result (λ o. TruthIn o found) (λ o n. row.with_truth o (λ b. row.becomes (S.leaf (n.item 0) (S.Do (if b then formula_tree c.in-If.yes.value else formula_tree c.in-If.no.value) env) S.none) 1))
+    (outcome facts defs (expr_tree c.in-If.b.value) env) (λ n. step _ env place n) here (λ n. ap (λ f. step f env place n) (sym whole)) c.decide_branch.ensures.outcome
+
+pub returns-in_ok-found-in-Assign-clause-outcome : goal.returns-in_ok-found-in-Assign-clause-outcome
+returns-in_ok-found-in-Assign-clause-outcome c =
+    let facts = c.args.store.now.facts in
+    let defs = definitions_of c.args.setting.now.defs in
+    let env = env_of c.args.phrase.now in
+    let place = plain_place c.args.place in
+    let step = row.formula_step defs (lines_of c.args.setting.now.inputs) c.args.setting.now.state facts in
+    let found = c.in_ok-found-in-Assign.found in
+    let whole = ap formula_tree (sym c.deref.ensures ∙ c.in-Assign.is) ∙ formula_assign c.in-Assign.t c.in-Assign.e in
+    let here = subst (λ o. ValueIn o found) (same_outcome facts defs _ c.in-Assign.e.value _ c.args.phrase.now.env.value c.deref-in-Assign.ensures c.deref-in-Assign-2.ensures) c.in_ok-found-in-Assign.ensures.found in
+    found_row facts c.decide_assign.result (λ o. ValueIn o found) (λ o n. row.with_value o (λ v. row.becomes (S.leaf (n.item 0) (S.Do (always (if_empty (equation (expr_tree c.in-Assign.t.value) (known v)))) env) S.none) 1))
+    (outcome facts defs (expr_tree c.in-Assign.e.value) env) (λ n. step _ env place n) here (λ n. ap (λ f. step f env place n) (sym whole)) c.decide_assign.ensures.outcome
+
+pub returns-in_ok-found-in-For-clause-outcome : goal.returns-in_ok-found-in-For-clause-outcome
+returns-in_ok-found-in-For-clause-outcome c =
+    let facts = c.args.store.now.facts in
+    let defs = definitions_of c.args.setting.now.defs in
+    let env = env_of c.args.phrase.now in
+    let place = plain_place c.args.place in
+    let step = row.formula_step defs (lines_of c.args.setting.now.inputs) c.args.setting.now.state facts in
+    let found = c.in_ok-found-in-For.found in
+    let whole = ap formula_tree (sym c.deref.ensures ∙ c.in-For.is) ∙ formula_for c.in-For.name c.in-For.from c.in-For.to c.in-For.body in
+    let here = subst (λ o. NumberIn o found) (same_outcome facts defs _ c.in-For.to.value _ c.args.phrase.now.env.value c.deref-in-For.ensures c.deref-in-For-2.ensures) c.in_ok-found-in-For.ensures.found in
+    let k = to_z w64 (of_z w64 c.in-For.from) in
+    let seen : k ≡ c.in-For.from = omega (arith, ints) in
+    let o = outcome facts defs (expr_tree c.in-For.to.value) env in
+    found_row facts c.decide_turns.result (λ o. NumberIn o found) (λ o n. row.with_number o (λ m. row.turns [] [] 0 [] c.in-For.name k m (formula_tree c.in-For.body.value) env place n))
+    o (λ n. step _ env place n) here
+    (λ n. ap (λ i. row.with_number o (λ m. row.turns [] [] 0 [] c.in-For.name i m (formula_tree c.in-For.body.value) env place n)) seen ∙ ap (λ f. step f env place n) (sym whole))
+    c.decide_turns.ensures.outcome
+
+pub returns-in_ok-found-in-Forall-clause-outcome : goal.returns-in_ok-found-in-Forall-clause-outcome
+returns-in_ok-found-in-Forall-clause-outcome c =
+    let facts = c.args.store.now.facts in
+    let defs = definitions_of c.args.setting.now.defs in
+    let env = env_of c.args.phrase.now in
+    let place = plain_place c.args.place in
+    let step = row.formula_step defs (lines_of c.args.setting.now.inputs) c.args.setting.now.state facts in
+    let found = c.in_ok-found-in-Forall.found in
+    let whole = ap formula_tree (sym c.deref.ensures ∙ c.in-Forall.is) ∙ formula_forall c.in-Forall.name c.in-Forall.from c.in-Forall.to c.in-Forall.body in
+    let here = subst (λ o. NumberIn o found) (same_outcome facts defs _ c.in-Forall.to.value _ c.args.phrase.now.env.value c.deref-in-Forall.ensures c.deref-in-Forall-2.ensures) c.in_ok-found-in-Forall.ensures.found in
+    let k = to_z w64 (of_z w64 c.in-Forall.from) in
+    let seen : k ≡ c.in-Forall.from = omega (arith, ints) in
+    let o = outcome facts defs (expr_tree c.in-Forall.to.value) env in
+    found_row facts c.decide_instances.result (λ o. NumberIn o found) (λ o n. row.with_number o (λ m. row.instances [] [] 0 [] c.in-Forall.name k m (formula_tree c.in-Forall.body.value) env n))
+    o (λ n. step _ env place n) here
+    (λ n. ap (λ i. row.with_number o (λ m. row.instances [] [] 0 [] c.in-Forall.name i m (formula_tree c.in-Forall.body.value) env n)) seen ∙ ap (λ f. step f env place n) (sym whole))
+    c.decide_instances.ensures.outcome

@@ -1,5 +1,0 @@
-pub mod Read
-pub mod Decided
-pub mod Found
-pub mod Fits
-pub mod Holders
