@@ -37,20 +37,20 @@ goes_on true e x c r h = h
 goes_on false true x c r h = absurd (cc)
 goes_on false false x c r h = absurd (cc)
 
-closes : (q : Place) (x : PickOutcome) (r : Reduction) → by_status q rests x ≡ reduces r → (q.is Going ≡ false) × (x ≡ reduces r)
+pub closes : (q : Place) (x : PickOutcome) (r : Reduction) → by_status q rests x ≡ reduces r → (q.is Going ≡ false) × (x ≡ reduces r)
 closes q x r h = stops (q.is Going) (q.is Ending) x (End q.region q.depth) r h
 
-begins : (q : Place) (x : PickOutcome) (r : Reduction) → by_status q x rests ≡ reduces r → x ≡ reduces r
+pub begins : (q : Place) (x : PickOutcome) (r : Reduction) → by_status q x rests ≡ reduces r → x ≡ reduces r
 begins q x r h = goes_on (q.is Going) (q.is Ending) x (End q.region q.depth) r h
 
-same_reduction : (a b : Reduction) → reduces a ≡ reduces b → a ≡ b
+pub same_reduction : (a b : Reduction) → reduces a ≡ reduces b → a ≡ b
 same_reduction a b h = cc
 
 module _ (s : Scene) (t : ℕ) (kept : IsWellKept s) (lives : has t (scene_of s).root.entries ≡ true) where
-  within : t < length (slots_of s).slots
+  pub within : t < length (slots_of s).slots
   within = let a = lives_within s t kept.shape.ordered lives in let e = length-map s.slots.items slot_of in omega (arith, a, e)
 
-  abbrev at_place : Place
+  abbrev pub at_place : Place
   at_place = place_outward (slots_of s) (holders_of s) (slot_at (slots_of s) t).home
 
   -- the outcome is that of its slot
@@ -62,6 +62,14 @@ module _ (s : Scene) (t : ℕ) (kept : IsWellKept s) (lives : has t (scene_of s)
   -- a region that doesn't go has no flag
   not_going : (k : Holder) (p : ℕ) → p < length (slots_of s).regions → (held_place k (head_at (slots_of s) p) (entries_at (slots_of s) p) at_place).is Going ≡ false → flags_in (goes_of s) p ≡ false
   not_going k p l e = kept.going p l ∙ (or_parts _ _ (or_parts _ _ e).1).1
+
+  -- the outer region of a projection that follows a split isn't live
+  pub asleep_second : (f : FormulaTree) (env : Bindings) (p q : ℕ) → (slot_at (slots_of s) t).what ≡ holds (SplitProject f env) p (Some q) → holder_at (holders_of s) q ≡ t → eqb p q ≡ false → q < length (slots_of s).regions → 0 < q
+      → lives_in (slots_of s) (holders_of s) q ≡ false
+  asleep_second f env p q is h e l a =
+      lives_outward (slots_of s) (holders_of s) kept.shape.ordered kept.shape.held q a l
+      ∙ (ap (λ i. leads_to (slot_at (slots_of s) i).what q && lives_in (slots_of s) (holders_of s) (slot_at (slots_of s) i).home) h
+      ∙ (ap (λ v. leads_to v q && lives_in (slots_of s) (holders_of s) (slot_at (slots_of s) t).home) is ∙ rw e refl))
 
   module _ (next : Scene) (n : ℕ) where
     abbrev Put : (inner outs : List What) → Type 0
@@ -113,7 +121,7 @@ module _ (s : Scene) (t : ℕ) (kept : IsWellKept s) (lives : has t (scene_of s)
         let was = closes (held_place (SplitProject f env) (head_at (slots_of s) p) (entries_at (slots_of s) p) at_place) (reduces made) red.2 (sym (stepped_as red.0 red.1 (holds (SplitProject f env) p (Some q)) is) ∙ red.3) in
         let low = not_going (SplitProject f env) p fit.0.1 was.0 in
         let above = fit.1.1.0 in
-        let sleeps = asleep f env p q is by.1.0 by.1.1 fit.1.1.1 (omega (arith, above)) in (
+        let sleeps = asleep_second f env p q is by.1.0 by.1.1 fit.1.1.1 (omega (arith, above)) in (
           put_kept s t [] (holds Closed p None ∷ holds (Opened f env) q None ∷ []) kept lives step next n put.0 put.1 put.2 put.3
               (open_rise (slots_of s) t p q f env kept.shape.ordered within is other Ending (flags_in (ends_of s)) (λ e. absurd (cc)) (kept.quiet_ends q fit.1.1.1 sleeps))
               (open_rise (slots_of s) t p q f env kept.shape.ordered within is other Going (flags_in (goes_of s)) (λ e. low) (kept.quiet_goes q fit.1.1.1 sleeps)),
@@ -122,12 +130,6 @@ module _ (s : Scene) (t : ℕ) (kept : IsWellKept s) (lives : has t (scene_of s)
               (sym (open_told (slots_of s) t p q f env kept.shape.ordered within is other)) refl refl refl
               ∙ ap (λ r. scene_after t r (scene_of s)) (same_reduction made r x.1)),
         )
-      where
-        asleep : (f : FormulaTree) (env : Bindings) (p q : ℕ) → (slot_at (slots_of s) t).what ≡ holds (SplitProject f env) p (Some q) → holder_at (holders_of s) q ≡ t → eqb p q ≡ false → q < length (slots_of s).regions → 0 < q → lives_in (slots_of s) (holders_of s) q ≡ false
-        asleep f env p q is h e l a =
-            lives_outward (slots_of s) (holders_of s) kept.shape.ordered kept.shape.held q a l
-            ∙ (ap (λ i. leads_to (slot_at (slots_of s) i).what q && lives_in (slots_of s) (holders_of s) (slot_at (slots_of s) i).home) h
-            ∙ (ap (λ v. leads_to v q && lives_in (slots_of s) (holders_of s) (slot_at (slots_of s) t).home) is ∙ rw e refl))
 
     opened_done : (f : FormulaTree) (env : Bindings) (q : ℕ) → (slot_at (slots_of s) t).what ≡ holds (Opened f env) q None → Put (bare (S.Do f env) ∷ bare (S.Do more env) ∷ []) (holds (Running f env) (length (slots_of s).regions) (Some q) ∷ []) → Done
     opened_done f env q is put =

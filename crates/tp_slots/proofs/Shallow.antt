@@ -20,7 +20,7 @@ module _ (defs : List Definition) (kinds : List Bool) (variables : List Variable
   own_shallow (leaf id l rest) p f = own_shallow rest p f.1
   own_shallow (node id k h held g second rest) p f = own_shallow rest p f.2
 
-  second_fits : (k : Holder) (h : Head) (held : Entries) (g : Head) (second : Entries) (id : ℕ) (rest : Entries) (p : Place) → EntriesFit defs kinds variables (node id k h held g second rest) p → second_lives k ≡ true
+  pub second_fits : (k : Holder) (h : Head) (held : Entries) (g : Head) (second : Entries) (id : ℕ) (rest : Entries) (p : Place) → EntriesFit defs kinds variables (node id k h held g second rest) p → second_lives k ≡ true
       → EntriesFit defs kinds variables second (second_place g second p)
   second_fits (Split f env) h held g second id rest p x l = absurd (both_ways false refl l)
   second_fits (SplitProject f env) h held g second id rest p x l = absurd (both_ways false refl l)

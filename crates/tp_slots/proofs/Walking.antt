@@ -8,7 +8,7 @@ use Rattle.tp_slots.specs.declared.walk.Task.{Task}
 use Rattle.tp_slots.specs.declared.walk.Task.TheVariants.{Visit}
 use Rattle.tp_slots.proofs.Same.{item_enough}
 
-live_append : (xs ys : Entries) → live_items (append xs ys) ≡ live_items xs ++ live_items ys
+pub live_append : (xs ys : Entries) → live_items (append xs ys) ≡ live_items xs ++ live_items ys
 live_append none ys = refl
 live_append (leaf id l rest) ys = ap (λ ns. id ∷ ns) (live_append rest ys)
 live_append (node id k h held g second rest) ys =
@@ -31,7 +31,7 @@ what_front s deeper each t (bare l) rest h = refl
 what_front s deeper each t (holds k r q) rest h = refl
 what_front s deeper each t (gone by) rest h = in_order_front each by rest h
 
-stands_in_front : (s : Slots) (deeper : ℕ → Entries) (m t : ℕ) (rest : Entries) → item_entries s deeper m t rest ≡ append (item_entries s deeper m t none) rest
+pub stands_in_front : (s : Slots) (deeper : ℕ → Entries) (m t : ℕ) (rest : Entries) → item_entries s deeper m t rest ≡ append (item_entries s deeper m t none) rest
 stands_in_front s deeper zero t rest = refl
 stands_in_front s deeper (suc m) t rest = what_front s deeper (item_entries s deeper m) t (slot_at s t).what rest (λ u rest. stands_in_front s deeper m u rest)
 
@@ -48,7 +48,7 @@ in_order_same s from home (u ∷ us) each each' rest a h = ap (each u) (in_order
 
 module _ (s : Slots) (sound : IsOrdered s) where
   -- an item is what its slot has
-  item_is : (t : ℕ) (rest : Entries) → t < length s.slots → item_front s t rest ≡ of_what s (entries_at s) (item_front s) t (slot_at s t).what rest
+  pub item_is : (t : ℕ) (rest : Entries) → t < length s.slots → item_front s t rest ≡ of_what s (entries_at s) (item_front s) t (slot_at s t).what rest
   item_is t rest l = by_length (length s.slots) refl
     where
       by_what : (m : ℕ) → length s.slots ≡ suc m → (w : What) → WhatFits s (slot_at s t).home t w
@@ -62,7 +62,7 @@ module _ (s : Slots) (sound : IsOrdered s) where
       by_length zero e = absurd (omega (arith, e, l))
       by_length (suc m) e = ap (λ n. item_entries s (region_entries s (length s.regions)) n t rest) e ∙ by_what m e (slot_at s t).what (sound.items t l).1
 
-  entries_are : (r : ℕ) → r < length s.regions → entries_at s r ≡ in_order (item_front s) (region_slot s r).roots none
+  pub entries_are : (r : ℕ) → r < length s.regions → entries_at s r ≡ in_order (item_front s) (region_slot s r).roots none
   entries_are r l = by_length (length s.regions) refl
     where
       by_length : (n : ℕ) → length s.regions ≡ n → entries_at s r ≡ in_order (item_front s) (region_slot s r).roots none

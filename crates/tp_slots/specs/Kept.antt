@@ -1,5 +1,5 @@
 -- What holds of a scene between the steps of a state.
-use Rattle.std.specs.Prelude.{◌≡◌, ℕ, ◌<◌, ◌≤◌, Bool, true, false, List, ◌∷◌, length, map}
+use Rattle.std.specs.Prelude.{◌≡◌, ℕ, ◌+◌, ◌<◌, ◌≤◌, Bool, true, false, List, ◌∷◌, length, map, vec_len, vec_capacity}
 use Rattle.tp_store.specs.Known.{Contents}
 use Rattle.tp_scene.specs.Scene.{Side, Ending, Going, has, Place}
 use Rattle.tp_scene.specs.Step.{Reduction, PickOutcome, Numbers, region_limit}
@@ -41,6 +41,10 @@ pub record IsWellKept (s : Scene) : Type 0 where
 pub record IsUnchanged (old new : Scene) : Type 0 where
   pub slots : new.slots.items ≡ old.slots.items
   pub regions : new.regions.items ≡ old.regions.items
+
+-- There is room for one item more.
+abbrev pub HasRoom : Scene → Type 0
+HasRoom s = vec_len s.slots + 1 ≤ vec_capacity s.slots
 
 -- a live item
 abbrev pub Lives : Scene → (item : ℕ) → Type 0

@@ -15,3 +15,6 @@ pub mod Cost
 pub mod Replace
 pub mod Shown
 pub mod Reductions
+pub mod News
+pub mod Own
+pub mod Successors

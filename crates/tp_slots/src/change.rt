@@ -1,23 +1,26 @@
 // What an item becomes.
-ghost use Rattle.std.specs.Prelude.{◌≡◌, ◌<◌, length, map, true, [], ◌∷◌, IfOk, OnOk, OnErr};
+ghost use Rattle.std.specs.Prelude.{◌≡◌, ◌<◌, length, true, [], ◌∷◌, IfOk, OnOk, OnErr};
 ghost use Rattle.std.specs.Option.{option_map};
 ghost use Rattle.tp_meaning.specs.Syntax.{more};
 ghost use Rattle.tp_scene.specs.Scene as S;
 ghost use Rattle.tp_scene.specs.Scene.{has};
 ghost use Rattle.tp_scene.specs.Pick.{scene_after};
-ghost use Rattle.tp_decide.specs.Decided.{mark_of};
+ghost use Rattle.tp_decide.specs.Decided.{mark_of, plain_leaf};
 ghost use Rattle.tp_decide.specs.Read.{env_of, formula_of};
-ghost use Rattle.tp_slots.specs.Reductions.{AreBare, CanMove, IsAfter, IsBare, IsReduced, becomes_leaves, becomes_opened, becomes_split, moved_inner, moved_outs};
+ghost use Rattle.tp_slots.specs.News.{bare_leaves, moved_news, new_items};
+ghost use Rattle.tp_slots.specs.Plain as plain;
+ghost use Rattle.tp_slots.specs.Reductions.{CanMove, IsAfter, IsBare, IsReduced, becomes_leaves, becomes_opened, becomes_split, moved_inner, moved_outs};
 ghost use Rattle.tp_slots.specs.Read.{holders_of, scene_of, slots_of, what_of, whats_of, item_what};
 ghost use Rattle.tp_slots.specs.Kept.{IsShaped, IsQuiet, IsWellKept, IsUnchanged, Lives, region_lives, IsReducedTo, flags_on};
 ghost use Rattle.tp_slots.specs.Flags.{FlagsFollow};
 
 use crate::flags::raise;
-use crate::put::put;
+use crate::put::{numbers, put};
 use crate::scene::{Scene, What};
+use crate::walk::items_inside;
 use std::alloc::Global;
 use std::rc::Rc;
-use tp_decide::{Phrase, Side};
+use tp_decide::{Leaf, Phrase, Side};
 use tp_kernel::Formula;
 use tp_value::NoMemory;
 
@@ -40,28 +43,53 @@ fn raise_mark(scene: &mut Scene, region: u64, mark: Option<Side>)
     }
 }
 
-/// Items that hold no region stand in an item's place, and its region is marked. Or nothing changes.
+/// A leaf, as it stands in a slot.
+pub(crate) fn leaf_what(leaf: Leaf) -> What
+    ensures { what_of result ≡ plain.bare (plain_leaf leaf) }
+{
+    match leaf {
+        Leaf::Do(phrase) => What::Do(phrase),
+        Leaf::Later(phrase) => What::Later(phrase),
+        Leaf::Shown(values) => What::Shown(values),
+    }
+}
+
+// Leaves, as they stand in slots.
+fn leaf_whats(alloc: Global, leaves: Vec<Leaf>) -> Result<Vec<What>, NoMemory>
+    ensures { IfOk result (λ v. whats_of v.items ≡ bare_leaves leaves.items) }
+{
+    let mut whats = Vec::new(alloc);
+    for leaf in leaves {
+        whats.push(leaf_what(leaf))?;
+    }
+    Ok(whats)
+}
+
+/// Items that hold no region stand in an item's place, and its region is marked. What became live is answered. Or nothing changes.
 pub fn become_leaves(
     alloc: Global,
     scene: &mut Scene,
     item: u64,
-    news: Vec<What>,
+    news: Vec<Leaf>,
     mark: Option<Side>,
-) -> Result<(), NoMemory>
+) -> Result<Vec<u64>, NoMemory>
     requires kept { IsWellKept scene.old }
     requires lives { Lives scene.old item }
     requires free { IsBare (item_what scene.old item) }
-    requires bare { AreBare (whats_of news.items) }
     ensures kept { IsWellKept scene.new }
     ensures scene { let reduction =
-        becomes_leaves (scene_of scene.old) (whats_of news.items) (option_map mark_of mark)
+        becomes_leaves (scene_of scene.old) (bare_leaves news.items) (option_map mark_of mark)
         in OnOk result (IsReducedTo item reduction scene.old scene.new) }
+    ensures news { IfOk result (λ v.
+        v.items ≡ new_items (scene_of scene.old) (scene_of scene.new)) }
     ensures err { OnErr result (IsUnchanged scene.old scene.new) }
 {
+    let fresh = numbers(alloc, scene.slots.len() as u64, news.len())?;
+    let outs = leaf_whats(alloc, news)?;
     let home = scene.slots[item as usize].home;
-    put(alloc, scene, item, mark, Vec::new(alloc), news)?;
+    put(alloc, scene, item, mark, Vec::new(alloc), outs)?;
     raise_mark(scene, home, mark);
-    Ok(())
+    Ok(fresh)
 }
 
 // One item, in a list.
@@ -73,14 +101,15 @@ fn one(alloc: Global, what: What) -> Result<Vec<What>, NoMemory>
     Ok(list)
 }
 
-/// A split stands in an item's place: its left region has the first formula, and the other one follows it. Or nothing changes.
+/// A split stands in an item's place: its left region has the first formula, and the other one follows it. What became live
+/// is answered. Or nothing changes.
 pub fn become_split(
     alloc: Global,
     scene: &mut Scene,
     item: u64,
     first: Phrase,
     after: Phrase,
-) -> Result<(), NoMemory>
+) -> Result<Vec<u64>, NoMemory>
     requires kept { IsWellKept scene.old }
     requires lives { Lives scene.old item }
     requires free { IsBare (item_what scene.old item) }
@@ -89,23 +118,27 @@ pub fn become_split(
         becomes_split (scene_of scene.old) (formula_of first) (env_of first)
         (formula_of after) (env_of after)
         in OnOk result (IsReducedTo item reduction scene.old scene.new) }
+    ensures news { IfOk result (λ v.
+        v.items ≡ new_items (scene_of scene.old) (scene_of scene.new)) }
     ensures err { OnErr result (IsUnchanged scene.old scene.new) }
 {
+    let fresh = numbers(alloc, scene.slots.len() as u64, 2)?;
     let left = scene.regions.len() as u64;
     let inner = one(alloc, What::Do(first))?;
     let outs = one(alloc, What::Split { left, after })?;
     put(alloc, scene, item, None, inner, outs)?;
-    Ok(())
+    Ok(fresh)
 }
 
-/// The outer region of a projection stands in an item's place, with the piece that is to run in it. Or nothing changes.
+/// The outer region of a projection stands in an item's place, with the piece that is to run in it. What
+/// became live is answered. Or nothing changes.
 pub fn become_opened(
     alloc: Global,
     scene: &mut Scene,
     item: u64,
     first: Phrase,
     piece: Phrase,
-) -> Result<(), NoMemory>
+) -> Result<Vec<u64>, NoMemory>
     requires kept { IsWellKept scene.old }
     requires lives { Lives scene.old item }
     requires free { IsBare (item_what scene.old item) }
@@ -114,17 +147,20 @@ pub fn become_opened(
         becomes_opened (scene_of scene.old) (formula_of first) (env_of first)
         (formula_of piece) (env_of piece)
         in OnOk result (IsReducedTo item reduction scene.old scene.new) }
+    ensures news { IfOk result (λ v.
+        v.items ≡ new_items (scene_of scene.old) (scene_of scene.new)) }
     ensures err { OnErr result (IsUnchanged scene.old scene.new) }
 {
+    let fresh = numbers(alloc, scene.slots.len() as u64, 2)?;
     let outer = scene.regions.len() as u64;
     let inner = one(alloc, What::Do(first))?;
     let outs = one(alloc, What::Opened { outer, piece })?;
     put(alloc, scene, item, None, inner, outs)?;
-    Ok(())
+    Ok(fresh)
 }
 
-// The same phrase, shared.
-fn share(phrase: &Phrase) -> Result<Phrase, NoMemory>
+/// The same phrase, shared.
+pub(crate) fn share(phrase: &Phrase) -> Result<Phrase, NoMemory>
     ensures formula { IfOk result (λ a. formula_of a ≡ formula_of phrase.now) }
     ensures env { IfOk result (λ a. env_of a ≡ env_of phrase.now) }
 {
@@ -207,20 +243,53 @@ fn next_items(alloc: Global, what: &What, region: u64) -> Result<Vec<What>, NoMe
     }
 }
 
-/// An item with a region is reduced: a split closes, and what follows it is due; the outer region of a projection begins its next piece. Or
-/// nothing changes.
-pub fn move_on(alloc: Global, scene: &mut Scene, item: u64) -> Result<(), NoMemory>
+// The items that become live when an item with a region is reduced.
+fn moved_items(alloc: Global, scene: &Scene, item: u64) -> Result<Vec<u64>, NoMemory>
+    requires kept { IsWellKept scene.now }
+    requires item { item < length scene.now.slots.items }
+    ensures { IfOk result (λ v. v.items
+        ≡ moved_news (slots_of scene.now) (item_what scene.now item)) }
+{
+    let first = scene.slots.len() as u64;
+    match &scene.slots[item as usize].what {
+        What::Split { .. } => {
+            let fresh = numbers(alloc, first, 2)?;
+            Ok(fresh)
+        }
+        What::SplitProject { outer, .. } => {
+            let mut fresh = numbers(alloc, first, 1)?;
+            let mut woken = items_inside(alloc, scene, *outer)?;
+            fresh.append(&mut woken)?;
+            fresh.push(first + 1)?;
+            Ok(fresh)
+        }
+        What::Opened { .. } => {
+            let fresh = numbers(alloc, first, 3)?;
+            Ok(fresh)
+        }
+        What::Do(_) | What::Later(_) | What::Shown(_) | What::Closed(_) => Ok(Vec::new(alloc)),
+        What::Gone { .. } => Ok(Vec::new(alloc)),
+        What::Running { .. } => Ok(Vec::new(alloc)),
+    }
+}
+
+/// An item with a region is reduced: a split closes, and what follows it is due; the outer region of a projection begins its next piece. What
+/// became live is answered. Or nothing changes.
+pub fn move_on(alloc: Global, scene: &mut Scene, item: u64) -> Result<Vec<u64>, NoMemory>
     requires kept { IsWellKept scene.old }
     requires lives { Lives scene.old item }
     requires holder { CanMove (item_what scene.old item) }
     requires reduced { IsReduced (scene_of scene.old) item }
     ensures kept { IsWellKept scene.new }
     ensures scene { OnOk result (IsAfter item (scene_of scene.old) (scene_of scene.new)) }
+    ensures news { IfOk result (λ v.
+        v.items ≡ new_items (scene_of scene.old) (scene_of scene.new)) }
     ensures err { OnErr result (IsUnchanged scene.old scene.new) }
 {
+    let fresh = moved_items(alloc, scene, item)?;
     let what = &scene.slots[item as usize].what;
     let inner = begun_items(alloc, what)?;
     let outs = next_items(alloc, what, scene.regions.len() as u64)?;
     put(alloc, scene, item, None, inner, outs)?;
-    Ok(())
+    Ok(fresh)
 }

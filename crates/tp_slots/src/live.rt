@@ -5,8 +5,7 @@ ghost use Rattle.tp_scene.specs.Scene.{has};
 ghost use Rattle.tp_scene.specs.Step.{region_limit};
 ghost use Rattle.tp_scene.specs.Pick.{Setting, numbers_of, outcome_of};
 ghost use Rattle.tp_decide.specs.Decided.{plain_place};
-ghost use Rattle.std.specs.Option.{option_map};
-ghost use Rattle.tp_slots.specs.Status.{place_in_scene};
+ghost use Rattle.tp_slots.specs.Edit.{stands_in};
 ghost use Rattle.tp_slots.specs.Picked.{IsHolding, first_held, held_step, what_step};
 ghost use Rattle.tp_slots.specs.Read.{scene_of, slots_of, what_of, item_what, item_home};
 ghost use Rattle.tp_slots.specs.Kept.{IsWellKept, Lives, region_place_of, region_lives, PlaceFits, outcome_in, numbers_in};
@@ -86,9 +85,10 @@ pub fn place_of_item(scene: &Scene, item: u64) -> Place
     requires kept { IsWellKept scene.now }
     requires lives { Lives scene.now item }
     requires shallow { PlaceFits scene.now (item_home scene.now item) }
-    ensures { (w : Setting) (k : Contents) → outcome_in w k scene.now item
+    ensures outcome { (w : Setting) (k : Contents) → outcome_in w k scene.now item
         ≡ what_step w k.facts (slots_of scene.now) (item_what scene.now item)
         (plain_place result) (numbers_in k scene.now) }
+    ensures home { result.region ≡ stands_in item 0 (scene_of scene.now).root.entries }
 {
     let slot = &scene.slots[item as usize];
     place(scene, slot.home)
@@ -122,20 +122,4 @@ pub fn place_inside(scene: &Scene, item: u64) -> Place
 {
     let slot = &scene.slots[item as usize];
     place(scene, held(&slot.what))
-}
-
-/// The place of the items of the live region with this number.
-pub fn place_if_live(scene: &Scene, region: u64) -> Option<Place>
-    requires kept { IsWellKept scene.now }
-    requires shallow { region_lives scene.now region ≡ true → PlaceFits scene.now region }
-    ensures { option_map plain_place result ≡ place_in_scene region (scene_of scene.now) }
-{
-    if region >= scene.regions.len() as u64 {
-        return None;
-    }
-    if lives(scene, region) {
-        Some(place(scene, region))
-    } else {
-        None
-    }
 }

@@ -15,9 +15,9 @@ use std::alloc::Global;
 use tp_decide::Side;
 use tp_value::NoMemory;
 
-// So many numbers, from the first on.
+/// So many numbers, from the first on.
 #[tactic(auto, using(crate::proofs::Lists::range_more))]
-fn numbers(alloc: Global, first: u64, count: usize) -> Result<Vec<u64>, NoMemory>
+pub fn numbers(alloc: Global, first: u64, count: usize) -> Result<Vec<u64>, NoMemory>
     requires { first + count < 2 ^ 64 }
     ensures { IfOk result (λ v. v.items ≡ range_with_len first count) }
 {
@@ -86,9 +86,9 @@ fn push_regions(list: &mut Vec<Region>, news: Vec<Region>)
     }
 }
 
-// The items with the numbers from the first on stand in the place of the item at `at`. What is answered is its region.
+/// The items with the numbers from the first on stand in the place of the item at `at`. What is answered is its region.
 #[tactic(auto, using(crate::proofs::Lists::gone_is, crate::proofs::Lists::home_is))]
-fn go(list: &mut [Slot], at: usize, first: u64, count: u64) -> u64
+pub fn go(list: &mut [Slot], at: usize, first: u64, count: u64) -> u64
     requires { at < length list.old }
     ensures slots { all_slots list.new
         ≡ gone_at (all_slots list.old) at (range_with_len first count) }
@@ -100,7 +100,7 @@ fn go(list: &mut [Slot], at: usize, first: u64, count: u64) -> u64
 }
 
 // The region at `at` is marked.
-fn mark(list: &mut [Region], at: usize, side: Option<Side>)
+fn set_mark(list: &mut [Region], at: usize, side: Option<Side>)
     requires { at < length list.old }
     ensures slots { region_slots list.new
         ≡ marked_at (region_slots list.old) at (option_map mark_of side) }
@@ -167,17 +167,17 @@ fn hold_news(list: &mut [Region], first: u64, news: &[Slot])
     }
 }
 
-// What is put in an item's place: `count` items with the numbers from `from` on; new slots, these items' among them; new regions.
+/// What is put in an item's place: `count` items with the numbers from `from` on; new slots, these items' among them; new regions.
 #[derive(Drop)]
-struct News {
-    from: u64,
-    count: u64,
-    slots: Vec<Slot>,
-    regions: Vec<Region>,
+pub struct News {
+    pub from: u64,
+    pub count: u64,
+    pub slots: Vec<Slot>,
+    pub regions: Vec<Region>,
 }
 
-// Puts the news in place of an item, whose region is marked. There is room.
-fn commit(scene: &mut Scene, item: u64, side: Option<Side>, news: News)
+/// Puts the news in place of an item, whose region is marked. There is room.
+pub fn commit(scene: &mut Scene, item: u64, side: Option<Side>, news: News)
     requires item { item < length scene.old.slots.items }
     requires home { home_in (all_slots scene.old.slots.items) item
         < length scene.old.regions.items }
@@ -203,7 +203,7 @@ fn commit(scene: &mut Scene, item: u64, side: Option<Side>, news: News)
         news.from,
         news.count,
     );
-    mark(scene.regions.as_mut_slice(), home as usize, side);
+    set_mark(scene.regions.as_mut_slice(), home as usize, side);
     push_regions(&mut scene.regions, news.regions);
     hold_news(scene.regions.as_mut_slice(), first, news.slots.as_slice());
     push_slots(&mut scene.slots, news.slots);

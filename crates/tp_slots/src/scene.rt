@@ -27,6 +27,14 @@ pub struct Region {
     pub roots: Vec<u64>,
 }
 
+/// A region's status: open, or it ends with this state, or it goes on.
+#[derive(Clone, Copy, Debug, PartialEq, Eq)]
+pub enum Mark {
+    Open,
+    Ends,
+    Goes,
+}
+
 /// What stands in a slot: an item, whose regions are named by number, or the items that stand in its place, which have the numbers from
 /// the first one on.
 #[derive(Drop)]

@@ -9,6 +9,7 @@ use Rattle.tp_slots.specs.Reductions.{AreBare, moved_inner, moved_outs}
 use Rattle.tp_slots.proofs.Changing.{home_within, lives_within, unchanged_kept}
 use Rattle.tp_slots.proofs.Moving.{moved_done, moves_bare, moves_below}
 use Rattle.tp_slots.proofs.Seeing.{slot_read}
+use Rattle.tp_slots.proofs.Newly.{moved_news_are}
 use Rattle.tp_slots.proofs.change.move_on.Goals as goal
 
 pub put-requires-clause-item : goal.put-requires-clause-item
@@ -78,6 +79,31 @@ returns-clause-scene c =
       c.in_ok-put.ensures.goes ∙ ap (λ n. goes_of s ++ map (λ (x : RegionSlot). false) (begun 0 n)) size,
     )
     c.requires.reduced).1
+
+pub returns-clause-news : goal.returns-clause-news
+returns-clause-news c =
+    let s = c.args.scene.now in
+    let within = lives_within s c.args.item c.requires.kept.shape.ordered c.requires.lives in
+    let read : what_of c.index.result.now.what ≡ (slot_at (slots_of s) c.args.item).what = ap (λ (x : plain.Slot). x.what) (ap slot_of c.index.ensures ∙ slot_read s c.args.item c.index.result.now within) in
+    let count : c.len.result ≡ length (slots_of s).regions = (let n : c.len.result ≡ length s.regions.items = search rules in n) ∙ sym (length-map s.regions.items region_slot_of) in
+    let ei = c.in_ok-inner.ensures ∙ ap moved_inner read in
+    let eo = c.in_ok-outs.ensures ∙ (λ i. moved_outs (read i) (count i)) in
+    let size = sym (length-map c.in_ok-inner.inner.items what_of) ∙ ap (λ (l : List What). length l) ei in
+    let after =
+    (moved_done s c.args.item c.requires.kept c.requires.lives c.put.new.scene 0 (slot_at (slots_of s) c.args.item).what refl c.requires.holder (
+      c.in_ok-put.ensures.slots ∙ (λ i. stepped (slots_of s) c.args.item None (ei i) (eo i)),
+      c.in_ok-put.ensures.holders ∙ (λ i. held_after (slots_of s) (ei i) (eo i) (holders_of s)),
+      c.in_ok-put.ensures.ends ∙ ap (λ n. ends_of s ++ map (λ (x : RegionSlot). false) (begun 0 n)) size,
+      c.in_ok-put.ensures.goes ∙ ap (λ n. goes_of s ++ map (λ (x : RegionSlot). false) (begun 0 n)) size,
+    )
+    c.requires.reduced).1 in
+    c.in_ok-fresh.ensures ∙ moved_news_are s c.args.item c.requires.kept c.requires.lives c.put.new.scene c.requires.holder c.requires.reduced after
+
+pub moved_items-requires-clause-item : goal.moved_items-requires-clause-item
+moved_items-requires-clause-item c = lives_within c.args.scene.now c.args.item c.requires.kept.shape.ordered c.requires.lives
+
+pub returns-in_err-fresh-clause-kept : goal.returns-in_err-fresh-clause-kept
+returns-in_err-fresh-clause-kept c = c.requires.kept
 
 pub returns-in_err-inner-clause-kept : goal.returns-in_err-inner-clause-kept
 returns-in_err-inner-clause-kept c = c.requires.kept

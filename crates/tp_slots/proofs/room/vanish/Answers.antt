@@ -1,0 +1,43 @@
+-- What was put is a step by no leaves.
+use Rattle.std.proofs.Common.{◌+◌, ◌++◌, List, [], map, length, None, ap, ◌∙◌, subst, sym}
+use Rattle.tp_slots.specs.Replace.{replaced}
+use Rattle.tp_slots.specs.Row.{AllBelow, hold_all}
+use Rattle.tp_slots.specs.Read.{ends_of, goes_of, holders_of, region_slot_of, slot_of, slots_of, what_of}
+use Rattle.tp_slots.specs.declared.scene.Slot.{Slot}
+use Rattle.tp_slots.specs.declared.scene.Region.{Region}
+use Rattle.tp_slots.proofs.Changing.{home_within, lives_within}
+use Rattle.tp_slots.proofs.Unmarked.{unmarked_leaves_kept, unmarked_leaves_news, unmarked_leaves_scene}
+use Rattle.tp_slots.proofs.room.vanish.Goals as goal
+
+pub commit-requires-clause-item : goal.commit-requires-clause-item
+commit-requires-clause-item c = lives_within c.args.scene.now c.args.item c.requires.kept.shape.ordered c.requires.lives
+
+pub commit-requires-clause-home : goal.commit-requires-clause-home
+commit-requires-clause-home c = home_within c.args.scene.now c.args.item c.requires.kept.shape.ordered (lives_within c.args.scene.now c.args.item c.requires.kept.shape.ordered c.requires.lives)
+
+pub commit-requires-clause-below : goal.commit-requires-clause-below
+commit-requires-clause-below c = subst (λ (l : List Slot). AllBelow (length c.args.scene.now.regions.items + length c.new-2.result.items) (map (λ (x : Slot). what_of x.what) l)) (sym c.new.ensures.items) tt
+
+pub returns-clause-kept : goal.returns-clause-kept
+returns-clause-kept c =
+    unmarked_leaves_kept c.args.scene.now c.args.item [] c.requires.kept c.requires.lives c.requires.free tt c.commit.new.scene
+    (c.commit.ensures.slots ∙ (λ i. replaced (slots_of c.args.scene.now) c.args.item [] None (map slot_of (c.new.ensures.items i)) (map region_slot_of (c.new-2.ensures.items i))))
+    (c.commit.ensures.holders ∙ (λ i. hold_all (length c.args.scene.now.slots.items) (map (λ (x : Slot). what_of x.what) (c.new.ensures.items i)) (holders_of c.args.scene.now ++ map (λ (x : Region). x.holder) (c.new-2.ensures.items i))))
+    (c.commit.ensures.ends ∙ ap (λ (l : List Region). ends_of c.args.scene.now ++ map (λ (x : Region). x.ends_now) l) c.new-2.ensures.items)
+    (c.commit.ensures.goes ∙ ap (λ (l : List Region). goes_of c.args.scene.now ++ map (λ (x : Region). x.goes_now) l) c.new-2.ensures.items)
+
+pub returns-clause-scene : goal.returns-clause-scene
+returns-clause-scene c =
+    unmarked_leaves_scene c.args.scene.now c.args.item [] c.requires.kept c.requires.lives c.requires.free tt c.commit.new.scene
+    (c.commit.ensures.slots ∙ (λ i. replaced (slots_of c.args.scene.now) c.args.item [] None (map slot_of (c.new.ensures.items i)) (map region_slot_of (c.new-2.ensures.items i))))
+    (c.commit.ensures.holders ∙ (λ i. hold_all (length c.args.scene.now.slots.items) (map (λ (x : Slot). what_of x.what) (c.new.ensures.items i)) (holders_of c.args.scene.now ++ map (λ (x : Region). x.holder) (c.new-2.ensures.items i))))
+    (c.commit.ensures.ends ∙ ap (λ (l : List Region). ends_of c.args.scene.now ++ map (λ (x : Region). x.ends_now) l) c.new-2.ensures.items)
+    (c.commit.ensures.goes ∙ ap (λ (l : List Region). goes_of c.args.scene.now ++ map (λ (x : Region). x.goes_now) l) c.new-2.ensures.items)
+
+pub returns-clause-news : goal.returns-clause-news
+returns-clause-news c =
+    unmarked_leaves_news c.args.scene.now c.args.item [] c.requires.kept c.requires.lives c.requires.free tt c.commit.new.scene
+    (c.commit.ensures.slots ∙ (λ i. replaced (slots_of c.args.scene.now) c.args.item [] None (map slot_of (c.new.ensures.items i)) (map region_slot_of (c.new-2.ensures.items i))))
+    (c.commit.ensures.holders ∙ (λ i. hold_all (length c.args.scene.now.slots.items) (map (λ (x : Slot). what_of x.what) (c.new.ensures.items i)) (holders_of c.args.scene.now ++ map (λ (x : Region). x.holder) (c.new-2.ensures.items i))))
+    (c.commit.ensures.ends ∙ ap (λ (l : List Region). ends_of c.args.scene.now ++ map (λ (x : Region). x.ends_now) l) c.new-2.ensures.items)
+    (c.commit.ensures.goes ∙ ap (λ (l : List Region). goes_of c.args.scene.now ++ map (λ (x : Region). x.goes_now) l) c.new-2.ensures.items)
