@@ -1,14 +1,15 @@
 -- Picks one after the other, and items below the next number.
-use Rattle.std.proofs.Common.{◌≡◌, ℕ, suc, ◌+◌, ◌<◌, ◌≤◌, Bool, true, eqb, List, [], ◌∷◌, ◌++◌, refl, ap, sym, ◌∙◌, subst, arith, inl, inr, append_assoc, length-append, below_more, Some, None, ◌⊎◌, ◌*◌, ◌-◌, ◌^◌}
-use Rattle.std.proofs.lemmas.Bool.{or_cases, eqb-true}
+use Rattle.std.proofs.Common.{◌≡◌, ℕ, suc, ◌+◌, ◌<◌, Bool, true, false, List, [], ◌∷◌, ◌++◌, refl, ap, sym, ◌∙◌, subst, arith, inl, inr, append_assoc, length-append, below_more, Option, Some, None, ◌⊎◌, ◌*◌, ◌-◌, ◌^◌}
+use Rattle.std.proofs.lemmas.Bool.{both_ways}
 use Rattle.std.proofs.lemmas.List.{append-nil}
-use Rattle.tp_scene.specs.Scene.{Entries, none, leaf, node, Do, Later, Shown, has}
+use Rattle.tp_scene.specs.Scene.{has}
 use Rattle.tp_scene.specs.Step.{Reduction}
 use Rattle.tp_scene.specs.Pick.{Setting, Moment, Reduces, Leads, outcome_of, IsIdle}
-use Rattle.tp_scene.specs.Fits.{AreNumbers, item_numbers}
-use Rattle.tp_scene.specs.Built.{IsFlat, IsReady}
+use Rattle.tp_scene.specs.Laws.{IsSound}
 use Rattle.tp_step.specs.declared.answer.Ending.{Ending}
-use Rattle.tp_pass.specs.Closes.{Made, Looks, Passes, ClosureEnds}
+use Rattle.tp_step.specs.declared.answer.Tried.{Tried}
+use Rattle.tp_step.specs.declared.answer.Tried.TheVariants as tried
+use Rattle.tp_pass.specs.Closes.{Made, LooksAt, Looks, Counts, Passes, ClosureEnds, ending_of, is_pick}
 
 -- one more pick
 pub leads_more : (w : Setting) (m mid next : Moment) (ts : List ℕ) (t : ℕ) (r : Reduction) → Leads w m ts mid → Reduces w mid t r next → Leads w m (ts ++ t ∷ []) next
@@ -39,50 +40,59 @@ made_on w m mid next l0 l1 l2 b0 b1 b2 h g = record {
   spent = omega (arith, h.spent, g.spent, length-append h.picks g.picks);
 }
 
--- a live item's number is below the next one
-pub lives_below : (n t : ℕ) (es : Entries) → IsFlat es → AreNumbers n (item_numbers es) → has t es ≡ true → t < n
-lives_below n t none flat numbers e = absurd (cc)
-lives_below n t (leaf id (Do f env) rest) flat numbers e =
-    elim (or_cases (eqb id t) (has t rest) e) [ inl x ↦ subst (λ k. k < n) (eqb-true id t x) numbers.0 | inr y ↦ lives_below n t rest flat.1 numbers.2 y ]
-lives_below n t (leaf id (Later f env) rest) flat numbers e =
-    elim (or_cases (eqb id t) (has t rest) e) [ inl x ↦ subst (λ k. k < n) (eqb-true id t x) numbers.0 | inr y ↦ lives_below n t rest flat.1 numbers.2 y ]
-lives_below n t (leaf id (Shown vs) rest) flat numbers e =
-    elim (or_cases (eqb id t) (has t rest) e) [ inl x ↦ subst (λ k. k < n) (eqb-true id t x) numbers.0 | inr y ↦ lives_below n t rest flat numbers.2 y ]
-lives_below n t (node id k h held g second rest) flat numbers e = absurd flat
+-- what a look at an item and its record make of a closure
+pub looked : (w : Setting) (t : ℕ) (m next : Moment) (l l' : ℕ) (b a : List ℕ) (o : Option Tried) → LooksAt w l m t next o → Counts (is_pick o) t l l' b a → Looks w t m next l l' b a (ending_of o)
+looked w t m next l l' b a None h c = inr (λ lives. absurd (both_ways (has t m.scene.root.entries) h.0 lives), h.1, c.0, c.1)
+looked w t m next l l' b a (Some (tried.Reduced news)) h c = inl (h.1.0, h.1.2, c.0, c.1)
+looked w t m next l l' b a (Some (tried.Waits first other)) h c = inr (λ lives. subst IsIdle (sym h.1.1) tt, h.1.0, c.0, c.1)
+looked w t m next l l' b a (Some tried.Rests) h c = inr (λ lives. subst IsIdle (sym h.1.1) tt, h.1.0, c.0, c.1)
+looked w t m next l l' b a (Some (tried.Clash clash)) h c = ((t, h.0, h.1.1), h.1.0, c.0, c.1)
+looked w t m next l l' b a (Some (tried.Missing port)) h c = ((t, h.0, h.1.1), h.1.0, c.0, c.1)
+looked w t m next l l' b a (Some (tried.Over limit)) h c =
+    (elim (h.1.1) [ inl x ↦ inl (t, h.0, x) | inr x ↦ inr (x.1, x.2, (x.0, (t, h.0, x.3))) ], h.1.0, c.0, c.1)
+
+-- it takes a reduction only where one is left
+pub picks_have_room : (w : Setting) (t room : ℕ) (m next : Moment) (o : Option Tried) → LooksAt w room m t next o → is_pick o ≡ true → 0 < room
+picks_have_room w t room m next None h p = absurd (both_ways false refl p)
+picks_have_room w t room m next (Some (tried.Reduced news)) h p = h.1.1
+picks_have_room w t room m next (Some (tried.Waits first other)) h p = absurd (both_ways false refl p)
+picks_have_room w t room m next (Some tried.Rests) h p = absurd (both_ways false refl p)
+picks_have_room w t room m next (Some (tried.Clash clash)) h p = absurd (both_ways false refl p)
+picks_have_room w t room m next (Some (tried.Missing port)) h p = absurd (both_ways false refl p)
+picks_have_room w t room m next (Some (tried.Over limit)) h p = absurd (both_ways false refl p)
 
 -- So far in a pass: what was picked; soundness is kept; and where nothing was reduced, nothing comes of the items before this one.
 pub record Passing (w : Setting) (m here : Moment) (l0 l1 : ℕ) (b0 b1 : List ℕ) (item : ℕ) : Type 0 where
   pub made : Made w m here l0 l1 b0 b1
-  pub ready : (kinds : List Bool) → IsReady w kinds m → IsReady w kinds here
+  pub sound : (kinds : List Bool) → IsSound w kinds m → IsSound w kinds here
   pub idle : l1 ≡ l0 → (t : ℕ) → t < item → has t here.scene.root.entries ≡ true → IsIdle (outcome_of w here.store here.scene t)
 
 pub passing_first : (w : Setting) (m : Moment) (left : ℕ) (before : List ℕ) → Passing w m m left left before before 0
-passing_first w m left before = record { made = made_none w m left before; ready = λ kinds h. h; idle = λ e t less. absurd (omega arith) }
+passing_first w m left before = record { made = made_none w m left before; sound = λ kinds h. h; idle = λ e t less. absurd (omega arith) }
 
 -- one item more
 pub passing_more : (w : Setting) (m here next : Moment) (l0 l1 l2 : ℕ) (b0 b1 b2 : List ℕ) (item : ℕ) → Passing w m here l0 l1 b0 b1 item
-    → ((kinds : List Bool) → IsReady w kinds here → IsReady w kinds next) → Looks w item here next l1 l2 b1 b2 None → Passing w m next l0 l2 b0 b2 (item + 1)
-passing_more w m here next l0 l1 l2 b0 b1 b2 item h ready (inl x) = record {
+    → ((kinds : List Bool) → IsSound w kinds here → IsSound w kinds next) → Looks w item here next l1 l2 b1 b2 None → Passing w m next l0 l2 b0 b2 (item + 1)
+passing_more w m here next l0 l1 l2 b0 b1 b2 item h sound (inl x) = record {
   made = made_more w m here next l0 l1 l2 b0 b1 b2 item x.0 h.made x.1 x.2 x.3;
-  ready = λ kinds k. ready kinds (h.ready kinds k);
+  sound = λ kinds k. sound kinds (h.sound kinds k);
   idle = λ e. absurd (omega (arith, e, x.2, h.made.spent));
 }
-passing_more w m here next l0 l1 l2 b0 b1 b2 item h ready (inr x) =
+passing_more w m here next l0 l1 l2 b0 b1 b2 item h sound (inr x) =
     let same : l2 ≡ l1 = x.2 in
     let made : Made w m here l0 l2 b0 b2 = subst (λ k. Made w m here l0 k b0 b2) (sym same) (subst (λ bs. Made w m here l0 l1 b0 bs) (sym x.3) h.made) in
     let upto : l2 ≡ l0 → (t : ℕ) → t < item + 1 → has t here.scene.root.entries ≡ true → IsIdle (outcome_of w here.store here.scene t) =
     λ e. below_more (λ t. has t here.scene.root.entries ≡ true → IsIdle (outcome_of w here.store here.scene t)) item (h.idle (sym same ∙ e)) x.0 in
     record {
       made = subst (λ (z : Moment). Made w m z l0 l2 b0 b2) (sym x.1) made;
-      ready = λ kinds k. ready kinds (h.ready kinds k);
+      sound = λ kinds k. sound kinds (h.sound kinds k);
       idle = λ e. subst (λ (z : Moment). (t : ℕ) → t < item + 1 → has t z.scene.root.entries ≡ true → IsIdle (outcome_of w z.store z.scene t)) (sym x.1) (upto e);
     }
 
 -- a pass that has come to the last item
-pub passing_last : (w : Setting) (kinds : List Bool) (m here : Moment) (l0 l1 : ℕ) (b0 b1 : List ℕ) (item : ℕ) → IsReady w kinds m → Passing w m here l0 l1 b0 b1 item → here.scene.next_item ≤ item → Passes w m here l0 l1 b0 b1 None
-passing_last w kinds m here l0 l1 b0 b1 item ready h le =
-    let r = h.ready kinds ready in
-    (h.made, λ e t lives. h.idle e t (omega (arith, lives_below here.scene.next_item t here.scene.root.entries r.flat r.sound.moment.items lives)) lives)
+pub passing_last : (w : Setting) (m here : Moment) (l0 l1 : ℕ) (b0 b1 : List ℕ) (item : ℕ) → Passing w m here l0 l1 b0 b1 item
+    → ((t : ℕ) → has t here.scene.root.entries ≡ true → t < item) → Passes w m here l0 l1 b0 b1 None
+passing_last w m here l0 l1 b0 b1 item h below = (h.made, λ e t lives. h.idle e t (below t lives) lives)
 
 -- one that ends before
 pub passing_ends : (w : Setting) (m here next : Moment) (l0 l1 l2 : ℕ) (b0 b1 b2 : List ℕ) (item : ℕ) (ending : Ending) → Passing w m here l0 l1 b0 b1 item → Looks w item here next l1 l2 b1 b2 (Some ending) → Passes w m next l0 l2 b0 b2 (Some ending)

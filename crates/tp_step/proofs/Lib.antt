@@ -1,5 +1,3 @@
-pub mod LiveLemmas
-pub mod StepLemmas
-pub mod TryLemmas
-pub mod NextLemmas
 pub mod MeaningLemmas
+pub mod CarryLemmas
+pub mod ChoiceLemmas

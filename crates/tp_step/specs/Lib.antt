@@ -1,3 +1,3 @@
 pub mod Answers
-pub mod Fits
+pub mod Chosen
 pub mod Meaning

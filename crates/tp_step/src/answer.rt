@@ -52,14 +52,6 @@ pub enum Tried {
     Over(LimitKind),
 }
 
-/// A region's status: open, or it ends with this state, or it goes on.
-#[derive(Clone, Copy, Debug, PartialEq, Eq)]
-pub enum Mark {
-    Open,
-    Ends,
-    Goes,
-}
-
 /// What a scene has come to: the first item that isn't done with this state, or else the root's status.
 #[derive(Clone, Copy, Debug, PartialEq, Eq)]
 pub enum Settled {

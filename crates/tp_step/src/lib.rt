@@ -1,18 +1,20 @@
-//! The scenes of a state, the step of one item, and the next state.
+//! The step of one item of a scene, and the scene's beginning, rest and next state.
 #![tactic(auto)]
 
 mod answer;
+mod carry;
 mod first;
 mod live;
 mod next_state;
 mod step;
 mod steps;
 
-pub use answer::{Ending, ItemIds, Mark, News, Order, Settled, Tally, Tried, Wait, Waits};
+pub use answer::{Ending, ItemIds, News, Order, Settled, Tally, Tried, Wait, Waits};
 pub use first::start;
-pub use live::{has_item, items, mark, settled, shown};
+pub use live::{items, settled};
 pub use next_state::advance;
 pub use step::try_item;
 pub use steps::Steps;
-pub use tp_decide::{Entries, Entry, Item, Phrase, Region, Scene, Shows, Values};
+pub use tp_decide::{Phrase, Setting, Shows, Values};
 pub use tp_scene::{Cell, Clash};
+pub use tp_slots::{Mark, Scene, has_item, mark, shown};

@@ -1,13 +1,14 @@
 use Rattle.std.proofs.Common.{◌∙◌, subst, Option, None, Some}
 use Rattle.tp_step.specs.declared.answer.Ending.{Ending}
-use Rattle.tp_step.specs.Answers.{moment_of, setting_of}
+use Rattle.tp_decide.specs.Decided.{setting_of}
+use Rattle.tp_step.specs.Answers.{moment_of}
 use Rattle.tp_pass.specs.Closes.{Passes}
 use Rattle.tp_pass.proofs.Picks.{made_on}
 use Rattle.tp_pass.proofs.pass.close_by_passes.Goals as goal
 
 pub passes-preserved : goal.passes-preserved
 passes-preserved g c =
-    let w = setting_of c.args.defs.now c.args.inputs.now c.args.state in
+    let w = setting_of c.args.setting.now in
     let m = moment_of c.args.scene.now c.args.store.now in
     let here = moment_of c.passes.scene c.passes.store in
     let next = moment_of c.pass.new.scene c.pass.new.store in
@@ -15,14 +16,15 @@ passes-preserved g c =
     let one : At None = subst At c.in-None.is c.in_ok-ending.ensures.passes in
     record {
       made = made_on w m here next _ _ _ _ _ _ c.passes.invariant.made one.0;
-      ready = λ kinds h. c.in_ok-ending.ensures.ready kinds (c.passes.invariant.ready kinds h);
+      sound = λ kinds h. c.in_ok-ending.ensures.sound kinds (c.passes.invariant.sound kinds h);
+      kept = c.pass.ensures.kept;
       waits = c.in_ok-ending.ensures.waits ∙ c.passes.invariant.waits;
       rests = c.in_ok-ending.ensures.rests ∙ c.passes.invariant.rests;
     }
 
 pub returns-in-Some-clause-closes : goal.returns-in-Some-clause-closes
 returns-in-Some-clause-closes g c =
-    let w = setting_of c.args.defs.now c.args.inputs.now c.args.state in
+    let w = setting_of c.args.setting.now in
     let m = moment_of c.args.scene.now c.args.store.now in
     let here = moment_of c.passes.scene c.passes.store in
     let next = moment_of c.pass.new.scene c.pass.new.store in

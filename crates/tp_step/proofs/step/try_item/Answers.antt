@@ -1,13 +1,14 @@
-use Rattle.tp_step.specs.Answers.{setting_of, moment_of}
-use Rattle.tp_step.proofs.MeaningLemmas.{tries_mean, tries_ready}
+use Rattle.tp_decide.specs.Decided.{setting_of}
+use Rattle.tp_step.specs.Answers.{moment_of}
+use Rattle.tp_step.proofs.MeaningLemmas.{tries_mean, tries_sound}
 use Rattle.tp_step.proofs.step.try_item.Goals as goal
 
 pub returns-clause-means : goal.returns-clause-means
 returns-clause-means g c =
-    tries_mean (setting_of c.args.defs.now c.args.inputs.now c.args.state) c.args.room (moment_of c.args.scene.now c.args.store.now) c.args.item (moment_of c.attempt.new.scene c.attempt.new.store) c.in_ok-tried.tried
+    tries_mean (setting_of c.args.setting.now) c.args.room (moment_of c.args.scene.now c.args.store.now) c.args.item (moment_of c.attempt.new.scene c.attempt.new.store) c.in_ok-tried.tried
     c.requires.lives c.in_ok-tried.ensures.answer
 
-pub returns-clause-ready : goal.returns-clause-ready
-returns-clause-ready g c =
-    tries_ready (setting_of c.args.defs.now c.args.inputs.now c.args.state) c.args.room (moment_of c.args.scene.now c.args.store.now) c.args.item (moment_of c.attempt.new.scene c.attempt.new.store) c.in_ok-tried.tried
+pub returns-clause-sound : goal.returns-clause-sound
+returns-clause-sound g c =
+    tries_sound (setting_of c.args.setting.now) c.args.room (moment_of c.args.scene.now c.args.store.now) c.args.item (moment_of c.attempt.new.scene c.attempt.new.store) c.in_ok-tried.tried
     c.in_ok-tried.ensures.answer

@@ -1,0 +1,25 @@
+use Rattle.std.proofs.Common.{ℕ, ◌<◌, arith, sym, subst}
+use Rattle.std.specs.Prelude.{IfOk}
+use Rattle.tp_scene.specs.Step.{added}
+use Rattle.tp_step.specs.Chosen.{Carries}
+use Rattle.tp_value.specs.Read.{tree}
+use Rattle.tp_store.specs.Facts.{facts_at}
+use Rattle.tp_store.specs.Known.{addition}
+use Rattle.tp_step.specs.Answers.{moment_of}
+use Rattle.tp_step.proofs.CarryLemmas.{added_facts, allowed}
+use Rattle.tp_step.proofs.carry.set.Goals as goal
+
+pub returns-in-Ok-clause-ok : goal.returns-in-Ok-clause-ok
+returns-in-Ok-clause-ok c =
+    let k = c.args.store.now in
+    let news = c.in-Ok.ensures.added in
+    let more : 0 < c.args.room = omega (arith, c.if-room-eq0.false) in
+    added_facts (addition k.facts (facts_at c.args.target.0 (tree c.args.target.1))) c.in-Ok.facts c.args.room c.args.scene.now c.learn.new.scene k c.add.new.self c.args.item c.learn.result more
+    c.in-Ok.ensures.news (record { kept = news.shapes; no_clash = c.add.ensures.sound.no_clash; variables = news.variables }) c.learn.ensures.answer
+
+pub returns-then-room-eq0-clause-ok : goal.returns-then-room-eq0-clause-ok
+returns-then-room-eq0-clause-ok c =
+    let m = moment_of c.args.scene.now c.args.store.now in
+    let o = addition c.args.store.now.facts (facts_at c.args.target.0 (tree c.args.target.1)) in
+    let P : ℕ → Type 0 = λ n. IfOk c.full_or_refused.result (Carries (added o) n m c.args.item m) in
+    subst P (sym c.if-room-eq0.true) (c.full_or_refused.ensures o m c.args.item (allowed o c.check.result c.check.ensures.ok c.check.ensures.refused))
