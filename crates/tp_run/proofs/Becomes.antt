@@ -1,22 +1,22 @@
 -- What becomes of a state, by what its closure comes to.
-use Rattle.std.proofs.Common.{◌≡◌, ℕ, suc, ◌<◌, ◌≤◌, Bool, List, [], ◌++◌, length, refl, ap, ap₂, sym, ◌∙◌, subst, arith, inl, inr}
-use Rattle.tp_kernel.specs.Built.{IsBuilt}
+use Rattle.std.proofs.Common.{◌≡◌, ℕ, suc, ◌<◌, ◌≤◌, Bool, List, [], ◌++◌, length, Option, refl, ap, ap₂, sym, ◌∙◌, subst, arith, inl, inr}
 use Rattle.tp_kernel.specs.declared.formula.LimitKind.{LimitKind}
 use Rattle.tp_kernel.specs.declared.formula.LimitKind.TheVariants as limit
 use Rattle.tp_meaning.specs.Syntax.{Definition}
 use Rattle.tp_meaning.specs.Inputs.{InputLines}
 use Rattle.tp_meaning.specs.Course.{Course, Shows, ◌⊕◌, shown_at}
 use Rattle.tp_meaning.specs.Interval.{kinds_of}
+use Rattle.tp_decide.specs.Decided.{setting_of}
 use Rattle.tp_decide.specs.Read.{shows_of}
 use Rattle.tp_store.specs.Known.{Contents}
 use Rattle.tp_scene.specs.declared.answer.Cell.{Cell}
 use Rattle.tp_scene.specs.declared.answer.Clash.{Clash}
-use Rattle.tp_scene.specs.Step.{reduces, rests, clashes, misses, passes}
-use Rattle.tp_scene.specs.Pick.{Setting, Moment, outcome_of, IsIdle}
+use Rattle.tp_scene.specs.Step.{reduces, waits, rests, clashes, misses, passes}
+use Rattle.tp_scene.specs.Pick.{Setting, Moment, outcome_of}
 use Rattle.tp_scene.specs.Rest.{AtRest, settled, waiting, goes, ends, IsOpenCell}
 use Rattle.tp_scene.specs.Replay as replay
 use Rattle.tp_scene.specs.StandsFor.{first_moment}
-use Rattle.tp_scene.specs.Built.{IsReady}
+use Rattle.tp_scene.specs.Laws.{IsSound}
 use Rattle.tp_step.specs.Answers.{Tries}
 use Rattle.tp_step.specs.declared.answer.Tried.{Tried}
 use Rattle.tp_step.specs.declared.answer.Tried.TheVariants as tried
@@ -29,23 +29,24 @@ use Rattle.tp_run.specs.declared.run.Stand.{Stand}
 use Rattle.tp_run.specs.declared.turn.Picture.{Picture}
 use Rattle.tp_run.specs.declared.turn.Turn.{Turn}
 use Rattle.tp_run.specs.declared.turn.Turn.TheVariants.{Went, Finished, Contradictory, Undetermined, StateLimit, InputMissing, Over}
-use Rattle.tp_run.specs.States.{Plan, globals_of, setting, IsPictureOf, StateGoesOn, StateEnds, Standing, open_at, answered, ReachesLimit, limit_moment, state_after, StateBecomes, StoreBecomes}
+use Rattle.tp_run.specs.States.{Plan, PlanFits, globals_of, setting, IsPictureOf, StateGoesOn, StateEnds, Standing, open_at, answered, ReachesLimit, limit_moment, state_after, StateBecomes, StoreBecomes}
 use Rattle.tp_run.specs.Meaning.{StandingFor, StandsForItsProgram, AgreesWithFacts, AnswerMeans}
-use Rattle.tp_run.specs.Runs.{stands_at, standing_of, setting_in, StandsReady, IsSettingsOf, IsRunOf, HasPicture, NextOf, RestTurns}
-use Rattle.tp_run.proofs.StatesMean.{leads_ready, leads_keep, goes_on_says, ends_here_says, next_ready}
+use Rattle.tp_run.specs.Runs.{stands_at, standing_of, StandIsKept, StandsSound, IsSettingsOf, IsRunOf, HasPicture, NextOf, RestTurns}
+use Rattle.tp_run.proofs.StatesMean.{leads_sound, leads_keep, goes_on_says, ends_here_says, next_sound}
 use Rattle.tp_run.proofs.HistoryLemmas.{no_definitions}
 use Rattle.tp_run.proofs.Given.{scene_laws, begin_laws}
-use Rattle.tp_run.proofs.Waiting.{IsBusy, waiting_item, passes_other}
+use Rattle.tp_scene.proofs.NamedItem.{named_item_waits}
+use Rattle.tp_run.proofs.Passing.{passes_other}
 
 -- with the settings of a plan a state is read as the plan does
-pub same_setting : (plan : Plan) (settings : Settings) (n : ℕ) → IsSettingsOf plan settings → setting_in settings n ≡ setting plan n
-same_setting plan settings n h =
-    let make : List Definition → InputLines → Setting = λ ds ls. record { defs = ds; inputs = ls; state = n } in
+pub same_setting : (plan : Plan) (settings : Settings) → IsSettingsOf plan settings → setting_of settings.setting ≡ setting plan settings.setting.state
+same_setting plan settings h =
+    let make : List Definition → InputLines → Setting = λ ds ls. record { defs = ds; inputs = ls; state = settings.setting.state } in
     ap₂ make h.definitions h.inputs
 
 -- what a run begins with
-pub begins : (plan : Plan) → IsBuilt plan.names plan.main → StandsForItsProgram plan (open_at (first_moment plan.names plan.main))
-begins plan built = (begin_laws.runs_begin (setting plan 0) plan.names plan.main (no_definitions (kinds_of plan.names)) built.1).stands
+pub begins : (plan : Plan) → PlanFits plan → StandsForItsProgram plan (open_at (first_moment plan.names plan.main))
+begins plan fits = (begin_laws.runs_begin (setting plan 0) plan.names plan.main (no_definitions (kinds_of plan.names)) fits).stands
 
 -- an answer that an item waits
 abbrev pub IsWait : Tried → Type 0
@@ -56,20 +57,23 @@ IsWait (tried.Clash c) = ⊥
 IsWait (tried.Missing port) = ⊥
 IsWait (tried.Over k) = ⊥
 
--- in a scene at rest a try of the item that settling names answers nothing else
-waits_answered : (w : Setting) (room : ℕ) (m next : Moment) (t : ℕ) (a : Tried) → IsIdle (outcome_of w m.store m.scene t) → IsBusy (outcome_of w m.store m.scene t) → Tries w room m t next a → IsWait a
-waits_answered w room m next t (tried.Reduced news) idle busy h = let never : IsIdle (reduces h.0) = subst IsIdle h.2.outcome idle in never
-waits_answered w room m next t (tried.Waits first other) idle busy h = tt
-waits_answered w room m next t tried.Rests idle busy h = let never : IsBusy rests = subst IsBusy h.1 busy in never
-waits_answered w room m next t (tried.Clash c) idle busy h = let never : IsIdle (clashes c) = subst IsIdle h.1 idle in never
-waits_answered w room m next t (tried.Missing port) idle busy h = let never : IsIdle (misses port) = subst IsIdle h.1 idle in never
-waits_answered w room m next t (tried.Over k) idle busy h =
-    elim h.1 [ inl e ↦ (let never : IsIdle (passes k) = subst IsIdle e idle in never) | inr f ↦ (let never : IsIdle (reduces f.0) = subst IsIdle f.3 idle in never) ]
+-- a try of an item that waits answers nothing else
+waits_answered : (w : Setting) (room : ℕ) (m next : Moment) (t : ℕ) (a : Tried) (first : Cell) (other : Option Cell) → outcome_of w m.store m.scene t ≡ waits first other → Tries w room m t next a → IsWait a
+waits_answered w room m next t (tried.Reduced news) first other e h = let never : waits first other ≡ reduces h.0 = sym e ∙ h.2.outcome in absurd (cc)
+waits_answered w room m next t (tried.Waits a b) first other e h = tt
+waits_answered w room m next t tried.Rests first other e h = let never : waits first other ≡ rests = sym e ∙ h.1 in absurd (cc)
+waits_answered w room m next t (tried.Clash c) first other e h = let never : waits first other ≡ clashes c = sym e ∙ h.1 in absurd (cc)
+waits_answered w room m next t (tried.Missing port) first other e h = let never : waits first other ≡ misses port = sym e ∙ h.1 in absurd (cc)
+waits_answered w room m next t (tried.Over k) first other e h =
+    elim h.1 [
+      | inl p ↦ (let never : waits first other ≡ passes k = sym e ∙ p in absurd (cc))
+      | inr f ↦ (let never : waits first other ≡ reduces f.0 = sym e ∙ f.3 in absurd (cc))
+    ]
 
-pub waiting_answer : (w : Setting) (kinds : List Bool) (room : ℕ) (m next : Moment) (t : ℕ) (a : Tried) → IsReady w kinds m → AtRest w m → settled m.scene ≡ waiting t → Tries w room m t next a → IsWait a
-waiting_answer w kinds room m next t a ready rest e h =
-    let there = waiting_item w kinds m t ready e in
-    waits_answered w room m next t a (rest t there.lives) there.busy h
+pub waiting_answer : (w : Setting) (kinds : List Bool) (room : ℕ) (m next : Moment) (t : ℕ) (a : Tried) → IsSound w kinds m → AtRest w m → settled m.scene ≡ waiting t → Tries w room m t next a → IsWait a
+waiting_answer w kinds room m next t a sound rest e h =
+    let there = named_item_waits w kinds m t sound rest e in
+    waits_answered w room m next t a there.first there.other there.outcome h
 
 module _ (plan : Plan) (n : ℕ) (m last : Moment) (before after : List ℕ) where
   -- the closure of state n, which begins with m, comes to this end
@@ -91,21 +95,21 @@ module _ (plan : Plan) (n : ℕ) (m last : Moment) (before after : List ℕ) whe
         | inr y ↦ absurd (another y.0)
       ]
 
-  reductions_used : (kinds : List Bool) → IsReady (setting plan n) kinds last → Comes (ending.Over limit.Reductions) → (end : replay.UsesUp (setting plan n) plan.reductions m) × (end.last ≡ last)
-  reductions_used kinds ready h =
+  reductions_used : Comes (ending.Over limit.Reductions) → (end : replay.UsesUp (setting plan n) plan.reductions m) × (end.last ≡ last)
+  reductions_used h =
       elim h.ends [
-        | inl x ↦ absurd (passes_other (setting plan n) kinds last x.0 limit.Reductions ready x.2)
+        | inl x ↦ absurd (passes_other (setting plan n) last x.0 limit.Reductions x.2)
         | inr y ↦ (record { picks = h.made.picks; last = last; leads = h.made.leads; all = omega (arith, h.made.spent, y.1); item = y.2.1.0; reduction = y.2.0; lives = y.2.1.1; outcome = y.2.1.2 }, refl)
       ]
 
   -- the limit is reached by the closure's own picks
-  pub limit_reached : (kinds : List Bool) (k : LimitKind) → IsReady (setting plan n) kinds last → Comes (ending.Over k)
+  pub limit_reached : (k : LimitKind) → Comes (ending.Over k)
       → (end : ReachesLimit (setting plan n) plan.reductions m k) × (limit_moment (setting plan n) plan.reductions m k end ≡ last)
-  limit_reached kinds limit.Reductions ready h = reductions_used kinds ready h
-  limit_reached kinds limit.Number ready h = limit_passed limit.Number (λ e. cc) h
-  limit_reached kinds limit.List ready h = limit_passed limit.List (λ e. cc) h
-  limit_reached kinds limit.Calls ready h = limit_passed limit.Calls (λ e. cc) h
-  limit_reached kinds limit.Nest ready h = limit_passed limit.Nest (λ e. cc) h
+  limit_reached limit.Reductions h = reductions_used h
+  limit_reached limit.Number h = limit_passed limit.Number (λ e. cc) h
+  limit_reached limit.List h = limit_passed limit.List (λ e. cc) h
+  limit_reached limit.Calls h = limit_passed limit.Calls (λ e. cc) h
+  limit_reached limit.Nest h = limit_passed limit.Nest (λ e. cc) h
 
   module _ (within : n < plan.states) (reductions : ℕ) (first : before ≡ []) (count : reductions ≡ length after) (comes : Comes ending.Rest) where
     closed : replay.Closes (setting plan n) plan.reductions m comes.made.picks last
@@ -158,8 +162,11 @@ module _ (plan : Plan) (n : ℕ) (m last : Moment) (before after : List ℕ) whe
       rest_stores (Over state limit) r = absurd r
 
 -- the same with settings of the plan, with which the closure was read
-module _ (plan : Plan) (settings : Settings) (is : IsSettingsOf plan settings) (n : ℕ) (most : n ≤ settings.limits.states) (more : n ≡ settings.limits.states → ⊥) (m last : Moment) (before after : List ℕ) (found : Ending)
-    (closes : ClosureAnswers (setting_in settings n) settings.limits.reductions m last before after found) where
+module _ (plan : Plan) (settings : Settings) (is : IsSettingsOf plan settings) (most : settings.setting.state ≤ settings.limits.states) (more : settings.setting.state ≡ settings.limits.states → ⊥) (m last : Moment) (before after : List ℕ) (found : Ending)
+    (closes : ClosureAnswers (setting_of settings.setting) settings.limits.reductions m last before after found) where
+  abbrev n : ℕ
+  n = settings.setting.state
+
   state_within : n < plan.states
   state_within = omega (arith, most, is.states, more)
 
@@ -167,14 +174,14 @@ module _ (plan : Plan) (settings : Settings) (is : IsSettingsOf plan settings) (
   comes_to end e =
       subst (λ (x : Ending). ClosureAnswers (setting plan n) plan.reductions m last before after x) e
       (subst (λ k. ClosureAnswers (setting plan n) k m last before after found) is.reductions
-      (subst (λ (w : Setting). ClosureAnswers w settings.limits.reductions m last before after found) (same_setting plan settings n is) closes))
+      (subst (λ (w : Setting). ClosureAnswers w settings.limits.reductions m last before after found) (same_setting plan settings is) closes))
 
   module _ (reductions : ℕ) (old new : Picture) (standing : Standing) (store : Contents) (turn : Turn) (first : before ≡ []) (count : reductions ≡ length after) (e : found ≡ ending.Rest)
-      (h : RestTurns (setting_in settings n) settings.globals reductions last old new standing store turn) where
+      (h : RestTurns (setting_of settings.setting) settings.globals reductions last old new standing store turn) where
     turns : RestTurns (setting plan n) (globals_of plan) reductions last old new standing store turn
     turns =
         subst (λ k. RestTurns (setting plan n) k reductions last old new standing store turn) is.globals
-        (subst (λ (w : Setting). RestTurns w settings.globals reductions last old new standing store turn) (same_setting plan settings n is) h)
+        (subst (λ (w : Setting). RestTurns w settings.globals reductions last old new standing store turn) (same_setting plan settings is) h)
 
     pub run_rests : StateBecomes plan n m old new standing turn
     run_rests = rest_becomes plan n m last before after state_within reductions first count (comes_to ending.Rest e) old new standing store turn turns
@@ -182,12 +189,10 @@ module _ (plan : Plan) (settings : Settings) (is : IsSettingsOf plan settings) (
     pub run_rests_store : StoreBecomes plan n m new store turn
     run_rests_store = rest_stores plan n m last before after state_within reductions first count (comes_to ending.Rest e) old new standing store turn turns
 
-  pub run_reaches : (kinds : List Bool) (k : LimitKind) (old : Picture) (standing : Standing) (turn : Turn) → IsReady (setting_in settings n) kinds last → found ≡ ending.Over k
-      → standing ≡ answered (Over n k) → turn ≡ Over n k → StateBecomes plan n m old old standing turn
-  run_reaches kinds k old standing turn ready e stand turn_is =
-      let here : IsReady (setting plan n) kinds last = subst (λ (w : Setting). IsReady w kinds last) (same_setting plan settings n is) ready in
+  pub run_reaches : (k : LimitKind) (old : Picture) (standing : Standing) (turn : Turn) → found ≡ ending.Over k → standing ≡ answered (Over n k) → turn ≡ Over n k → StateBecomes plan n m old old standing turn
+  run_reaches k old standing turn e stand turn_is =
       subst (λ (t : Turn). StateBecomes plan n m old old standing t) (sym turn_is)
-      ((limit_reached plan n m last before after kinds k here (comes_to (ending.Over k) e)).0, refl, state_within, refl, stand)
+      ((limit_reached plan n m last before after k (comes_to (ending.Over k) e)).0, refl, state_within, refl, stand)
 
   -- what the store holds where the closure ends before the state is at rest
   pub run_clashes_store : (clash : Clash) (picture : Picture) (turn : Turn) → found ≡ ending.Clash clash → turn ≡ Contradictory n clash → StoreBecomes plan n m picture last.store turn
@@ -200,38 +205,37 @@ module _ (plan : Plan) (settings : Settings) (is : IsSettingsOf plan settings) (
   run_misses_store port picture turn e turn_is =
       subst (λ (t : Turn). StoreBecomes plan n m picture last.store t) (sym turn_is) (input_missed plan n m last before after port (comes_to (ending.Missing port) e), refl)
 
-  pub run_reaches_store : (kinds : List Bool) (k : LimitKind) (picture : Picture) (turn : Turn) → IsReady (setting_in settings n) kinds last → found ≡ ending.Over k → turn ≡ Over n k → StoreBecomes plan n m picture last.store turn
-  run_reaches_store kinds k picture turn ready e turn_is =
-      let here : IsReady (setting plan n) kinds last = subst (λ (w : Setting). IsReady w kinds last) (same_setting plan settings n is) ready in
-      let reached = limit_reached plan n m last before after kinds k here (comes_to (ending.Over k) e) in
+  pub run_reaches_store : (k : LimitKind) (picture : Picture) (turn : Turn) → found ≡ ending.Over k → turn ≡ Over n k → StoreBecomes plan n m picture last.store turn
+  run_reaches_store k picture turn e turn_is =
+      let reached = limit_reached plan n m last before after k (comes_to (ending.Over k) e) in
       subst (λ (t : Turn). StoreBecomes plan n m picture last.store t) (sym turn_is) (reached.0, ap (λ (z : Moment). z.store) (sym reached.1))
 
-module _ (plan : Plan) (n : ℕ) (m : Moment) (old new : Picture) (standing : Standing) (ready : IsReady (setting plan n) (kinds_of plan.names) m) where
+module _ (plan : Plan) (n : ℕ) (m : Moment) (old new : Picture) (standing : Standing) (sound : IsSound (setting plan n) (kinds_of plan.names) m) where
   abbrev Becomes : Turn → Type 0
   Becomes turn = StateBecomes plan n m old new standing turn
 
   went_means : Becomes Went → AnswerMeans plan n (open_at m) standing new Went
   went_means w s a b S static own =
-      let one = goes_on_says scene_laws plan n m w.0 new ready w.1 s a b S static own in
+      let one = goes_on_says scene_laws plan n m w.0 new sound w.1 s a b S static own in
       let Rest : Standing → Type 0 = λ z. (a < b) × AgreesWithFacts s a new.facts × ((U : Shows) × (S ≡ shown_at a (shows_of new.shows) ⊕ U) × StandingFor plan (suc n) z s (suc a) b U) in
       (λ h. subst Rest (sym w.2) (one.0 h), λ h. one.1 (subst Rest w.2 h))
 
   clash_means : (clash : Clash) → replay.MeetsClash (setting plan n) plan.reductions m clash → (s : Course) (a b : ℕ) (S : Shows) → (s a).own ≡ n → StandingFor plan n (open_at m) s a b S → ⊥
   clash_means clash w s a b S own h =
-      let here = leads_ready scene_laws (setting plan n) (kinds_of plan.names) w.picks m w.last ready w.leads in
-      let none = (begin_laws.refusals (setting plan n) (kinds_of plan.names) w.last w.item here.sound w.lives).clash clash w.outcome in
-      none s a b S own ((leads_keep scene_laws (setting plan n) (kinds_of plan.names) w.picks m w.last ready w.leads s a b S own).0 h)
+      let here = leads_sound scene_laws (setting plan n) (kinds_of plan.names) w.picks m w.last sound w.leads in
+      let none = (begin_laws.refusals (setting plan n) (kinds_of plan.names) w.last w.item here w.lives).clash clash w.outcome in
+      none s a b S own ((leads_keep scene_laws (setting plan n) (kinds_of plan.names) w.picks m w.last sound w.leads s a b S own).0 h)
 
   missing_means : (port : List ℕ) → replay.MissesInput (setting plan n) plan.reductions m port → (s : Course) (a b : ℕ) (S : Shows) → (s a).own ≡ n → StandingFor plan n (open_at m) s a b S → ⊥
   missing_means port w s a b S own h =
-      let here = leads_ready scene_laws (setting plan n) (kinds_of plan.names) w.picks m w.last ready w.leads in
-      let none = (begin_laws.refusals (setting plan n) (kinds_of plan.names) w.last w.item here.sound w.lives).missing port w.outcome in
-      none s a b S own ((leads_keep scene_laws (setting plan n) (kinds_of plan.names) w.picks m w.last ready w.leads s a b S own).0 h)
+      let here = leads_sound scene_laws (setting plan n) (kinds_of plan.names) w.picks m w.last sound w.leads in
+      let none = (begin_laws.refusals (setting plan n) (kinds_of plan.names) w.last w.item here w.lives).missing port w.outcome in
+      none s a b S own ((leads_keep scene_laws (setting plan n) (kinds_of plan.names) w.picks m w.last sound w.leads s a b S own).0 h)
 
   -- what the answer for a state says
   pub becomes_means : (turn : Turn) → Becomes turn → AnswerMeans plan n (open_at m) standing new turn
   becomes_means Went w = went_means w
-  becomes_means (Finished length) w = λ s a b S static own. ends_here_says scene_laws plan n m new ready w.0 s a b S own
+  becomes_means (Finished length) w = λ s a b S static own. ends_here_says scene_laws plan n m new sound w.0 s a b S own
   becomes_means (Contradictory state clash) w = clash_means clash w.0
   becomes_means (Undetermined state cell) w = tt
   becomes_means (StateLimit states) w = tt
@@ -239,43 +243,53 @@ module _ (plan : Plan) (n : ℕ) (m : Moment) (old new : Picture) (standing : St
   becomes_means (Over state limit) w = tt
 
   -- where the run then stands
-  pub record Ready (next : ℕ) : Type 0 where
+  pub record StandsOn (next : ℕ) : Type 0 where
     pub within : next ≤ plan.states
-    pub stands : StandsReady plan next standing
+    pub stands : StandsSound plan next standing
 
-  last_ready : (turn : Turn) → standing ≡ answered turn → StandsReady plan n standing
-  last_ready turn e = subst (StandsReady plan n) (sym e) tt
+  last_sound : (turn : Turn) → standing ≡ answered turn → StandsSound plan n standing
+  last_sound turn e = subst (StandsSound plan n) (sym e) tt
 
-  pub becomes_ready : (turn : Turn) → Becomes turn → Ready (state_after n turn)
-  becomes_ready Went w = record { within = omega (arith, w.1.within); stands = subst (StandsReady plan (suc n)) (sym w.2) (next_ready scene_laws plan n m w.0 new ready w.1 (suc n)) }
-  becomes_ready (Finished length) w = record { within = omega (arith, w.0.within); stands = last_ready (Finished length) w.2 }
-  becomes_ready (Contradictory state clash) w = record { within = omega (arith, w.2); stands = last_ready (Contradictory state clash) w.4 }
-  becomes_ready (Undetermined state cell) w = record { within = omega (arith, w.2); stands = last_ready (Undetermined state cell) w.4 }
-  becomes_ready (StateLimit states) w = record { within = omega (arith, w.0); stands = last_ready (StateLimit states) w.3 }
-  becomes_ready (InputMissing state port) w = record { within = omega (arith, w.2); stands = last_ready (InputMissing state port) w.4 }
-  becomes_ready (Over state limit) w = record { within = omega (arith, w.2); stands = last_ready (Over state limit) w.4 }
+  pub becomes_sound : (turn : Turn) → Becomes turn → StandsOn (state_after n turn)
+  becomes_sound Went w = record { within = omega (arith, w.1.within); stands = subst (StandsSound plan (suc n)) (sym w.2) (next_sound scene_laws plan n m w.0 new sound w.1 (suc n)) }
+  becomes_sound (Finished length) w = record { within = omega (arith, w.0.within); stands = last_sound (Finished length) w.2 }
+  becomes_sound (Contradictory state clash) w = record { within = omega (arith, w.2); stands = last_sound (Contradictory state clash) w.4 }
+  becomes_sound (Undetermined state cell) w = record { within = omega (arith, w.2); stands = last_sound (Undetermined state cell) w.4 }
+  becomes_sound (StateLimit states) w = record { within = omega (arith, w.0); stands = last_sound (StateLimit states) w.3 }
+  becomes_sound (InputMissing state port) w = record { within = omega (arith, w.2); stands = last_sound (InputMissing state port) w.4 }
+  becomes_sound (Over state limit) w = record { within = omega (arith, w.2); stands = last_sound (Over state limit) w.4 }
 
--- the moment at which a run stands is ready
-pub ready_at : (plan : Plan) (run : Run) (m : Moment) → IsRunOf plan run → open_at m ≡ standing_of run → IsReady (setting plan run.state) (kinds_of plan.names) m
-ready_at plan run m h opened = let here : StandsReady plan run.state (open_at m) = subst (StandsReady plan run.state) (sym opened) h.ready in here
+-- the moment at which a run stands is sound
+pub sound_at : (plan : Plan) (run : Run) (m : Moment) → IsRunOf plan run → open_at m ≡ standing_of run → IsSound (setting plan run.settings.setting.state) (kinds_of plan.names) m
+sound_at plan run m h opened = let here : StandsSound plan run.settings.setting.state (open_at m) = subst (StandsSound plan run.settings.setting.state) (sym opened) h.sound in here
 
 -- the run with another store and stand, before a state with this number
-with_stand : (plan : Plan) (run : Run) (next : ℕ) (store : Contents) (stand : Stand) → IsRunOf plan run → next ≤ plan.states → StandsReady plan next (stands_at stand store)
-    → IsRunOf plan (record run { state = next; store = store; stand = stand })
-with_stand plan run next store stand h within ready = record { settings = h.settings; within = within; ready = ready }
+abbrev pub moved : Run → (next : ℕ) → Contents → Stand → Run
+moved run next store stand = record {
+  settings = record { globals = run.settings.globals; limits = run.settings.limits; order = run.settings.order; setting = record run.settings.setting { state = next } };
+  store = store;
+  stand = stand;
+}
+
+with_stand : (plan : Plan) (run : Run) (next : ℕ) (store : Contents) (stand : Stand) → IsRunOf plan run → next ≤ plan.states → StandsSound plan next (stands_at stand store) → StandIsKept stand
+    → IsRunOf plan (moved run next store stand)
+with_stand plan run next store stand h within sound kept = record {
+  settings = record { inputs = h.settings.inputs; states = h.settings.states; reductions = h.settings.reductions; globals = h.settings.globals; definitions = h.settings.definitions; order = h.settings.order };
+  within = within;
+  sound = sound;
+  kept = kept;
+}
 
 -- what the answer for a state leaves
 module _ (plan : Plan) (run : Run) (is_run : IsRunOf plan run) (m : Moment) (opened : open_at m ≡ standing_of run) (old new : Picture) (store : Contents) (stand : Stand) (turn : Turn)
-    (becomes : StateBecomes plan run.state m old new (stands_at stand store) turn) where
-  ready_here : IsReady (setting plan run.state) (kinds_of plan.names) m
-  ready_here = ready_at plan run m is_run opened
+    (becomes : StateBecomes plan run.settings.setting.state m old new (stands_at stand store) turn) where
+  sound_here : IsSound (setting plan run.settings.setting.state) (kinds_of plan.names) m
+  sound_here = sound_at plan run m is_run opened
 
-  pub answer_means : AnswerMeans plan run.state (standing_of run) (stands_at stand store) new turn
-  answer_means =
-      subst (λ (z : Standing). AnswerMeans plan run.state z (stands_at stand store) new turn) opened
-      (becomes_means plan run.state m old new (stands_at stand store) ready_here turn becomes)
+  pub answer_means : AnswerMeans plan run.settings.setting.state (standing_of run) (stands_at stand store) new turn
+  answer_means = subst (λ (z : Standing). AnswerMeans plan run.settings.setting.state z (stands_at stand store) new turn) opened (becomes_means plan run.settings.setting.state m old new (stands_at stand store) sound_here turn becomes)
 
-  pub run_kept : (next : ℕ) → next ≡ state_after run.state turn → IsRunOf plan (record run { state = next; store = store; stand = stand })
-  run_kept next e =
-      let ready = becomes_ready plan run.state m old new (stands_at stand store) ready_here turn becomes in
-      with_stand plan run next store stand is_run (subst (λ n. n ≤ plan.states) (sym e) ready.within) (subst (λ n. StandsReady plan n (stands_at stand store)) (sym e) ready.stands)
+  pub run_kept : (next : ℕ) → next ≡ state_after run.settings.setting.state turn → StandIsKept stand → IsRunOf plan (moved run next store stand)
+  run_kept next e kept =
+      let on = becomes_sound plan run.settings.setting.state m old new (stands_at stand store) sound_here turn becomes in
+      with_stand plan run next store stand is_run (subst (λ k. k ≤ plan.states) (sym e) on.within) (subst (λ k. StandsSound plan k (stands_at stand store)) (sym e) on.stands) kept

@@ -1,5 +1,4 @@
 -- The laws of scenes and of stores, as whole runs need them.
-use Rattle.tp_kernel.specs.Built.{IsBuilt}
 use Rattle.tp_meaning.specs.Interval.{kinds_of}
 use Rattle.tp_store.proofs.States.{same_shapes_same_store, no_clash_arises}
 use Rattle.tp_store.proofs.Chosen.{has_agreeing_state, statics_extend}
@@ -8,10 +7,9 @@ use Rattle.tp_scene.proofs.StepsFit.{steps_fit}
 use Rattle.tp_scene.proofs.EndLaws.{all_ends_stand, all_advances_keep}
 use Rattle.tp_scene.proofs.AdvancesFit.{advances_fit}
 use Rattle.tp_scene.proofs.Begin.{runs_begin}
-use Rattle.tp_scene.proofs.Flat.{steps_stay_flat, advances_stay_flat}
 use Rattle.tp_scene.specs.StandsFor.{first_moment}
-use Rattle.tp_scene.specs.Built.{IsReady}
-use Rattle.tp_run.specs.States.{Plan, setting}
+use Rattle.tp_scene.specs.Laws.{IsSound}
+use Rattle.tp_run.specs.States.{Plan, PlanFits, setting}
 use Rattle.tp_run.proofs.StatesMean.{SceneLaws}
 use Rattle.tp_run.proofs.Lives.{StateLaws}
 use Rattle.tp_run.proofs.HistoryLemmas.{BeginLaws, no_definitions}
@@ -19,19 +17,19 @@ use Rattle.tp_run.proofs.HistoryLemmas.{BeginLaws, no_definitions}
 pub scene_laws : SceneLaws
 scene_laws = record {
   steps_keep = steps_keep;
-  steps_ready = λ w kinds m t r next ready h. record { sound = steps_fit w kinds m t r next ready.sound h; flat = (steps_stay_flat w m t r next ready.flat h).scene };
+  steps_sound = steps_fit;
   advances_keep = all_advances_keep;
-  advances_ready = λ w kinds m next ready settles scene store own. record { sound = advances_fit w kinds m next ready.sound settles scene store own; flat = advances_stay_flat m next ready.flat scene };
+  advances_sound = advances_fit;
   ends_stand = all_ends_stand;
   same_agreement = λ fs gs values f g same. ((same_shapes_same_store fs gs f g same).states values).0;
   below_no_clash = λ n fs apart. no_clash_arises.below n fs apart;
 }
 
-pub first_ready : (plan : Plan) → IsBuilt plan.names plan.main → IsReady (setting plan 0) (kinds_of plan.names) (first_moment plan.names plan.main)
-first_ready plan built = record { sound = (runs_begin (setting plan 0) plan.names plan.main (no_definitions (kinds_of plan.names)) built.1).sound; flat = (built.0, tt) }
+pub first_sound : (plan : Plan) → PlanFits plan → IsSound (setting plan 0) (kinds_of plan.names) (first_moment plan.names plan.main)
+first_sound plan fits = (runs_begin (setting plan 0) plan.names plan.main (no_definitions (kinds_of plan.names)) fits).sound
 
 pub begin_laws : BeginLaws
-begin_laws = record { begin_ready = first_ready; runs_begin = runs_begin; refusals = refusals_mean }
+begin_laws = record { begin_sound = first_sound; runs_begin = runs_begin; refusals = refusals_mean }
 
 pub state_laws : StateLaws
 state_laws = record {

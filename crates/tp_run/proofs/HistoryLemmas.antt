@@ -2,7 +2,6 @@
 use Rattle.std.proofs.Common.{◌≡◌, ◌↔◌, ℕ, suc, ◌+◌, ◌<◌, ◌≤◌, Bool, List, [], ◌∷◌, ◌++◌, length, refl, ap, sym, ◌∙◌, subst, arith, length-append}
 use Rattle.std.proofs.lemmas.List.{append-nil}
 use Rattle.tp_value.specs.Tree.{Tree}
-use Rattle.tp_kernel.specs.Built.{IsBuilt}
 use Rattle.tp_meaning.specs.Course.{Course, Shows, ◌⊕◌, shown_at}
 use Rattle.tp_meaning.specs.Interval.{IsInterval, kinds_of}
 use Rattle.tp_meaning.specs.Fits.{DefinitionsFit}
@@ -14,21 +13,20 @@ use Rattle.tp_decide.specs.Read.{shows_of}
 use Rattle.tp_scene.specs.declared.answer.Clash.{Clash}
 use Rattle.tp_scene.specs.Pick.{Moment, Leads}
 use Rattle.tp_scene.specs.StandsFor.{StandsFor, first_moment, context_of}
-use Rattle.tp_scene.specs.Laws.{RefusalsStandForNone, RunsBegin}
+use Rattle.tp_scene.specs.Laws.{IsSound, RefusalsStandForNone, RunsBegin}
 use Rattle.tp_scene.specs.Replay as replay
-use Rattle.tp_scene.specs.Built.{IsReady}
 use Rattle.tp_run.specs.declared.turn.Picture.{Picture}
 use Rattle.tp_run.specs.declared.turn.Turn.{Turn}
 use Rattle.tp_run.specs.declared.turn.Turn.TheVariants.{Went, Finished, Contradictory, Undetermined, StateLimit, InputMissing, Over}
-use Rattle.tp_run.specs.States.{Plan, globals_of, setting, StateGoesOn, StatesLead, LeadsTo, Standing, open_at, ReachesLimit, AnswersState}
+use Rattle.tp_run.specs.States.{Plan, PlanFits, globals_of, setting, StateGoesOn, StatesLead, LeadsTo, Standing, open_at, ReachesLimit, AnswersState}
 use Rattle.tp_run.specs.History.{FinishesAt, RunEndsWith, planned_program, AgreesWithPictures, shown_from, SatisfiedExactly, Satisfiable, Unsatisfiable, ContinuesEach, EndOfRunMeans, Advances, RunsAdvance}
-use Rattle.tp_run.proofs.StatesMean.{SceneLaws, leads_ready, leads_keep, lead_ready, states_say, ends_here_says, picture_agrees}
-use Rattle.tp_run.proofs.Silent.{says_silent}
+use Rattle.tp_run.proofs.StatesMean.{SceneLaws, leads_sound, leads_keep, lead_sound, states_say, ends_here_says, picture_agrees}
+use Rattle.tp_scene.proofs.Quiet.{says_quiet}
 use Rattle.tp_run.proofs.Lives.{StateLaws, lives, Agree, agree_at, agrees_with_less, below_keeps, picks_keep}
 
 -- what else is asked of scenes: how a run begins, and what a clash and a missing input say
 pub record BeginLaws : Type 0 where
-  pub begin_ready : (plan : Plan) → IsBuilt plan.names plan.main → IsReady (setting plan 0) (kinds_of plan.names) (first_moment plan.names plan.main)
+  pub begin_sound : (plan : Plan) → PlanFits plan → IsSound (setting plan 0) (kinds_of plan.names) (first_moment plan.names plan.main)
   pub runs_begin : RunsBegin
   pub refusals : RefusalsStandForNone
 
@@ -58,34 +56,34 @@ no_definitions kinds = record { formula = λ p f e. absurd (cc); expr = λ p f e
 
 module _ (laws : SceneLaws) (begins : BeginLaws) (stores : StateLaws) where
   -- a program's interval satisfies it where the states agree with the pictures, and what comes after them is stood for
-  pub leads_say : (plan : Plan) (ps : List Picture) (m : Moment) → IsBuilt plan.names plan.main → LeadsTo plan ps m → (s : Course) (a b : ℕ) (S : Shows) → IsInterval (planned_program plan) s a b
+  pub leads_say : (plan : Plan) (ps : List Picture) (m : Moment) → PlanFits plan → LeadsTo plan ps m → (s : Course) (a b : ℕ) (S : Shows) → IsInterval (planned_program plan) s a b
       → ((d : ℕ) × Holds (record { defs = []; inputs = plan.inputs }) d plan.main [] s a b S)
       ↔ ((length ps + a ≤ b) × AgreesWithPictures s a ps × ((U : Shows) × (S ≡ shown_from a ps ⊕ U) × StandsFor (setting plan (length ps)) (globals_of plan) m s (length ps + a) b U))
-  leads_say plan ps m built leads s a b S interval =
-      let begin = begins.runs_begin (setting plan 0) plan.names plan.main (no_definitions (kinds_of plan.names)) built.1 in
+  leads_say plan ps m fits leads s a b S interval =
+      let begin = begins.runs_begin (setting plan 0) plan.names plan.main (no_definitions (kinds_of plan.names)) fits in
       let first = begin.stands s a b S in
-      let states = states_say laws plan 0 (length ps) ps (first_moment plan.names plan.main) m (omega arith) (begins.begin_ready plan built) leads s a b (length ps + a) S refl interval.static interval.numbered in
+      let states = states_say laws plan 0 (length ps) ps (first_moment plan.names plan.main) m (omega arith) (begins.begin_sound plan fits) leads s a b (length ps + a) S refl interval.static interval.numbered in
       (λ h. states.0 (first.1 (interval.nonempty, h)), λ h. (first.0 (states.1 h)).1)
 
-  ready_after : (plan : Plan) (ps : List Picture) (m : Moment) → IsBuilt plan.names plan.main → LeadsTo plan ps m → IsReady (setting plan (length ps)) (kinds_of plan.names) m
-  ready_after plan ps m built leads = lead_ready laws plan 0 (length ps) ps (first_moment plan.names plan.main) m (omega arith) (begins.begin_ready plan built) leads
+  sound_after : (plan : Plan) (ps : List Picture) (m : Moment) → PlanFits plan → LeadsTo plan ps m → IsSound (setting plan (length ps)) (kinds_of plan.names) m
+  sound_after plan ps m fits leads = lead_sound laws plan 0 (length ps) ps (first_moment plan.names plan.main) m (omega arith) (begins.begin_sound plan fits) leads
 
   -- the state after some pictures has their number
   number_after : (plan : Plan) (ps : List Picture) (s : Course) (a b : ℕ) → IsInterval (planned_program plan) s a b → length ps + a ≤ b → (s (length ps + a)).own ≡ length ps
   number_after plan ps s a b interval le = interval.numbered (length ps) le ∙ omega arith
 
   -- a run that finishes
-  pub finish_says : (plan : Plan) (ps : List Picture) (n : ℕ) → IsBuilt plan.names plan.main → FinishesAt plan ps n → SatisfiedExactly plan ps n
-  finish_says plan ps n built w s a b S =
+  pub finish_says : (plan : Plan) (ps : List Picture) (n : ℕ) → PlanFits plan → FinishesAt plan ps n → SatisfiedExactly plan ps n
+  finish_says plan ps n fits w s a b S =
       let k = length w.before in
-      let here = ready_after plan w.before w.moment built w.leads in
+      let here = sound_after plan w.before w.moment fits w.leads in
       let G = globals_of plan in
       let last_shows : shown_from a ps ≡ shown_from a w.before ⊕ shown_at (k + a) (shows_of w.final.shows) =
       ap (shown_from a) w.pictures ∙ shown_join a w.before (w.final ∷ []) ∙ ap (λ (T : Shows). shown_from a w.before ⊕ T) (join-blank (shown_at (k + a) (shows_of w.final.shows))) in
       let end = λ (interval : IsInterval (planned_program plan) s a b) (le : k + a ≤ b) (U : Shows). ends_here_says laws plan k w.moment w.final here w.ends s (k + a) b U (number_after plan w.before s a b interval le) in (
         λ h.
             let interval = h.0 in
-            let x = (leads_say plan w.before w.moment built w.leads s a b S interval).0 h.1 in
+            let x = (leads_say plan w.before w.moment fits w.leads s a b S interval).0 h.1 in
             let y = (end interval x.0 x.2.0).0 x.2.2 in
             let length_is : b ≡ n + a = omega (arith, y.0, w.count) in (
               interval,
@@ -98,28 +96,28 @@ module _ (laws : SceneLaws) (begins : BeginLaws) (stores : StateLaws) where
             let agrees = subst (AgreesWithPictures s a) w.pictures h.2 in
             let last = agree_back s a w.before (w.final ∷ []) agrees in
             let place : k + a ≡ b = omega (arith, h.1, w.count) in
-            let fits : k + a ≤ b = omega (arith, place) in
+            let first : k + a ≤ b = omega (arith, place) in
             let U : Shows = shown_at (k + a) (shows_of w.final.shows) in (
               interval,
-              (leads_say plan w.before w.moment built w.leads s a b S interval).1 (fits, agree_front s a w.before (w.final ∷ []) agrees, (U, h.3 ∙ last_shows, (end interval fits U).1 (place, last.0, refl))),
+              (leads_say plan w.before w.moment fits w.leads s a b S interval).1 (first, agree_front s a w.before (w.final ∷ []) agrees, (U, h.3 ∙ last_shows, (end interval first U).1 (place, last.0, refl))),
             ),
       )
 
   -- there is such an interval
-  pub finish_satisfiable : (plan : Plan) (ps : List Picture) (n : ℕ) → IsBuilt plan.names plan.main → FinishesAt plan ps n → Satisfiable plan
-  finish_satisfiable plan ps n built w =
+  pub finish_satisfiable : (plan : Plan) (ps : List Picture) (n : ℕ) → PlanFits plan → FinishesAt plan ps n → Satisfiable plan
+  finish_satisfiable plan ps n fits w =
       let k = length w.before in
       let kinds = kinds_of plan.names in
       let G = globals_of plan in
-      let here = ready_after plan w.before w.moment built w.leads in
-      let at_end = leads_ready laws (setting plan k) kinds w.ends.picks w.moment w.ends.last here w.ends.ends.closes.leads in
+      let here = sound_after plan w.before w.moment fits w.leads in
+      let at_end = leads_sound laws (setting plan k) kinds w.ends.picks w.moment w.ends.last here w.ends.ends.closes.leads in
       let facts = w.ends.last.store.facts in
-      let v = stores.has_state w.ends.last.store.variables facts at_end.sound.store.no_clash at_end.sound.store.facts in
-      let before = agrees_with_less w.moment.store.facts facts v.0 here.sound.store.no_clash (λ q sh. picks_keep (setting plan k) w.ends.picks w.moment w.ends.last q sh w.ends.ends.closes.leads) v.1 in
-      let l = lives laws stores plan 0 w.before (first_moment plan.names plan.main) w.moment (begins.begin_ready plan built) w.leads v.0 before in
+      let v = stores.has_state w.ends.last.store.variables facts at_end.store.no_clash at_end.store.facts in
+      let before = agrees_with_less w.moment.store.facts facts v.0 here.store.no_clash (λ q sh. picks_keep (setting plan k) w.ends.picks w.moment w.ends.last q sh w.ends.ends.closes.leads) v.1 in
+      let l = lives laws stores plan 0 w.before (first_moment plan.names plan.main) w.moment (begins.begin_sound plan fits) w.leads v.0 before in
       let s = l.0 in
-      let below = agrees_with_less (facts_below G facts) facts v.0 (laws.below_no_clash G facts at_end.sound.store.no_clash) (below_keeps G facts at_end.sound.store.no_clash) v.1 in
-      let final = (picture_agrees laws G facts w.final.facts at_end.sound.store.no_clash w.ends.picture_is.facts v.0).0 below in
+      let below = agrees_with_less (facts_below G facts) facts v.0 (laws.below_no_clash G facts at_end.store.no_clash) (below_keeps G facts at_end.store.no_clash) v.1 in
+      let final = (picture_agrees laws G facts w.final.facts at_end.store.no_clash w.ends.picture_is.facts v.0).0 below in
       let last : AgreesWithPictures s (k + 0) (w.final ∷ []) = (subst (λ (u : ℕ → Tree). AgreesWithAll u w.final.facts) (sym (l.1.after (k + 0) (omega arith))) final, tt) in
       let zeros : (j : ℕ) → j ≡ j + 0 = λ j. omega arith in
       let fronts = agree_at s 0 w.before (subst (λ (t : Course). Agree t w.before) (λ i j. s (zeros j i)) l.1.agree) in
@@ -129,45 +127,45 @@ module _ (laws : SceneLaws) (begins : BeginLaws) (stores : StateLaws) where
         numbered = λ j h. ap (λ i. (s i).own) (sym (zeros j)) ∙ l.1.own j;
         static = λ x e i j ai ib aj jb. l.1.statics i x e ∙ sym (l.1.statics j x e);
       } in
-      (s, 0, n, shown_from 0 ps, (finish_says plan ps n built w s 0 n (shown_from 0 ps)).1 (interval, omega arith, agrees, refl))
+      (s, 0, n, shown_from 0 ps, (finish_says plan ps n fits w s 0 n (shown_from 0 ps)).1 (interval, omega arith, agrees, refl))
 
   -- where picks lead to what nothing stands for, no interval satisfies
-  none_satisfies : (plan : Plan) (ps : List Picture) (m last : Moment) (picks : List ℕ) → IsBuilt plan.names plan.main → LeadsTo plan ps m → Leads (setting plan (length ps)) m picks last
+  none_satisfies : (plan : Plan) (ps : List Picture) (m last : Moment) (picks : List ℕ) → PlanFits plan → LeadsTo plan ps m → Leads (setting plan (length ps)) m picks last
       → ((s : Course) (a b : ℕ) (S : Shows) → (s a).own ≡ length ps → StandsFor (setting plan (length ps)) (globals_of plan) last s a b S → ⊥) → Unsatisfiable plan
-  none_satisfies plan ps m last picks built leads to none s a b S h =
-      let x = (leads_say plan ps m built leads s a b S h.0).0 h.1 in
+  none_satisfies plan ps m last picks fits leads to none s a b S h =
+      let x = (leads_say plan ps m fits leads s a b S h.0).0 h.1 in
       let own = number_after plan ps s a b h.0 x.0 in
-      none s (length ps + a) b x.2.0 own ((leads_keep laws (setting plan (length ps)) (kinds_of plan.names) picks m last (ready_after plan ps m built leads) to s (length ps + a) b x.2.0 own).0 x.2.2)
+      none s (length ps + a) b x.2.0 own ((leads_keep laws (setting plan (length ps)) (kinds_of plan.names) picks m last (sound_after plan ps m fits leads) to s (length ps + a) b x.2.0 own).0 x.2.2)
 
-  pub clash_says : (plan : Plan) (ps : List Picture) (m : Moment) (n : ℕ) (clash : Clash) → n ≡ length ps → IsBuilt plan.names plan.main → LeadsTo plan ps m → replay.MeetsClash (setting plan n) plan.reductions m clash → Unsatisfiable plan
-  clash_says plan ps m n clash e built leads h =
+  pub clash_says : (plan : Plan) (ps : List Picture) (m : Moment) (n : ℕ) (clash : Clash) → n ≡ length ps → PlanFits plan → LeadsTo plan ps m → replay.MeetsClash (setting plan n) plan.reductions m clash → Unsatisfiable plan
+  clash_says plan ps m n clash e fits leads h =
       let w : replay.MeetsClash (setting plan (length ps)) plan.reductions m clash = subst (λ i. replay.MeetsClash (setting plan i) plan.reductions m clash) e h in
-      let here = leads_ready laws (setting plan (length ps)) (kinds_of plan.names) w.picks m w.last (ready_after plan ps m built leads) w.leads in
-      none_satisfies plan ps m w.last w.picks built leads w.leads ((begins.refusals (setting plan (length ps)) (kinds_of plan.names) w.last w.item here.sound w.lives).clash clash w.outcome)
+      let here = leads_sound laws (setting plan (length ps)) (kinds_of plan.names) w.picks m w.last (sound_after plan ps m fits leads) w.leads in
+      none_satisfies plan ps m w.last w.picks fits leads w.leads ((begins.refusals (setting plan (length ps)) (kinds_of plan.names) w.last w.item here w.lives).clash clash w.outcome)
 
-  pub missing_says : (plan : Plan) (ps : List Picture) (m : Moment) (n : ℕ) (port : List ℕ) → n ≡ length ps → IsBuilt plan.names plan.main → LeadsTo plan ps m → replay.MissesInput (setting plan n) plan.reductions m port → Unsatisfiable plan
-  missing_says plan ps m n port e built leads h =
+  pub missing_says : (plan : Plan) (ps : List Picture) (m : Moment) (n : ℕ) (port : List ℕ) → n ≡ length ps → PlanFits plan → LeadsTo plan ps m → replay.MissesInput (setting plan n) plan.reductions m port → Unsatisfiable plan
+  missing_says plan ps m n port e fits leads h =
       let w : replay.MissesInput (setting plan (length ps)) plan.reductions m port = subst (λ i. replay.MissesInput (setting plan i) plan.reductions m port) e h in
-      let here = leads_ready laws (setting plan (length ps)) (kinds_of plan.names) w.picks m w.last (ready_after plan ps m built leads) w.leads in
-      none_satisfies plan ps m w.last w.picks built leads w.leads ((begins.refusals (setting plan (length ps)) (kinds_of plan.names) w.last w.item here.sound w.lives).missing port w.outcome)
+      let here = leads_sound laws (setting plan (length ps)) (kinds_of plan.names) w.picks m w.last (sound_after plan ps m fits leads) w.leads in
+      none_satisfies plan ps m w.last w.picks fits leads w.leads ((begins.refusals (setting plan (length ps)) (kinds_of plan.names) w.last w.item here w.lives).missing port w.outcome)
 
-  pub continues_each : (plan : Plan) (ps : List Picture) (m : Moment) → IsBuilt plan.names plan.main → LeadsTo plan ps m → ContinuesEach plan ps
-  continues_each plan ps m built leads s a b S h =
-      let x = (leads_say plan ps m built leads s a b S h.0).0 h.1 in
-      let here = ready_after plan ps m built leads in
+  pub continues_each : (plan : Plan) (ps : List Picture) (m : Moment) → PlanFits plan → LeadsTo plan ps m → ContinuesEach plan ps
+  continues_each plan ps m fits leads s a b S h =
+      let x = (leads_say plan ps m fits leads s a b S h.0).0 h.1 in
+      let here = sound_after plan ps m fits leads in
       let rest = x.2.2 in
-      let silent = says_silent (context_of (setting plan (length ps))) (globals_of plan) rest.depth rest.locals s (length ps + a) b rest.in_order m.scene.root.entries x.2.0 here.flat rest.says.1 in
+      let silent = says_quiet (context_of (setting plan (length ps))) (globals_of plan) m.scene.root.entries rest.depth rest.locals s (length ps + a) b x.2.0 rest.in_order rest.says.1 in
       (x.0, x.1, λ j less. ap (λ (T : Shows). T j) x.2.1 ∙ ap (λ vs. shown_from a ps j ++ vs) (silent j less) ∙ append-nil (shown_from a ps j))
 
   -- What the end of a run says of every interval.
-  pub end_means : (plan : Plan) → IsBuilt plan.names plan.main → (ps : List Picture) (turn : Turn) → RunEndsWith plan ps turn → EndOfRunMeans plan ps turn
-  end_means plan built ps Went w = tt
-  end_means plan built ps (Finished n) w = (finish_says plan ps n built w, finish_satisfiable plan ps n built w)
-  end_means plan built ps (Contradictory state clash) w = clash_says plan ps w.0 state clash w.3 built w.1 w.2
-  end_means plan built ps (Undetermined state cell) w = continues_each plan ps w.0 built w.1
-  end_means plan built ps (StateLimit states) w = continues_each plan ps w.0 built w.1
-  end_means plan built ps (InputMissing state port) w = missing_says plan ps w.0 state port w.3 built w.1 w.2
-  end_means plan built ps (Over state limit) w = continues_each plan ps w.0 built w.1
+  pub end_means : (plan : Plan) → PlanFits plan → (ps : List Picture) (turn : Turn) → RunEndsWith plan ps turn → EndOfRunMeans plan ps turn
+  end_means plan fits ps Went w = tt
+  end_means plan fits ps (Finished n) w = (finish_says plan ps n fits w, finish_satisfiable plan ps n fits w)
+  end_means plan fits ps (Contradictory state clash) w = clash_says plan ps w.0 state clash w.3 fits w.1 w.2
+  end_means plan fits ps (Undetermined state cell) w = continues_each plan ps w.0 fits w.1
+  end_means plan fits ps (StateLimit states) w = continues_each plan ps w.0 fits w.1
+  end_means plan fits ps (InputMissing state port) w = missing_says plan ps w.0 state port w.3 fits w.1 w.2
+  end_means plan fits ps (Over state limit) w = continues_each plan ps w.0 fits w.1
 
 -- one more state
 lead_more : (plan : Plan) (n : ℕ) (r : Moment) (ps : List Picture) (m : Moment) (k : ℕ) (p : Picture) (next : Moment) → k ≡ length ps + n → StatesLead plan n r ps m → StateGoesOn plan k m p next → StatesLead plan n r (ps ++ p ∷ []) next

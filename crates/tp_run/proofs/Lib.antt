@@ -1,10 +1,9 @@
-pub mod Silent
 pub mod StatesMean
 pub mod Lives
 pub mod HistoryLemmas
 pub mod Given
 pub mod Sparing
-pub mod Waiting
+pub mod Passing
 pub mod FactOrder
 pub mod Becomes
 pub mod Stores

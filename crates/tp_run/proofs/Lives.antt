@@ -10,11 +10,11 @@ use Rattle.tp_store.specs.Facts.{same_path, kept_shape, fact, AgreesWithAll}
 use Rattle.tp_store.specs.Known.{NoClash, Variable, AreOfVariables, lasting_facts, facts_below}
 use Rattle.tp_store.proofs.Members.{in_filter, filter_in, kept_in, in_kept, agrees_in, agrees_from}
 use Rattle.tp_scene.specs.Pick.{Setting, Moment, Leads}
-use Rattle.tp_scene.specs.Built.{IsReady}
+use Rattle.tp_scene.specs.Laws.{IsSound}
 use Rattle.tp_run.specs.declared.turn.Picture.{Picture}
 use Rattle.tp_run.specs.States.{Plan, globals_of, setting, StateGoesOn, StatesLead}
 use Rattle.tp_run.specs.History.{AgreesWithPictures}
-use Rattle.tp_run.proofs.StatesMean.{SceneLaws, leads_ready, next_ready, picture_agrees}
+use Rattle.tp_run.proofs.StatesMean.{SceneLaws, leads_sound, next_sound, picture_agrees}
 
 -- what was kept is kept where more is appended
 kept_front : (fs gs : List Fact) (p : Path) (sh : Shape) → kept_shape fs p ≡ Some sh → kept_shape (fs ++ gs) p ≡ Some sh
@@ -100,43 +100,43 @@ after_of n u v ps p t e (suc j) le = e j (omega arith)
 
 module _ (laws : SceneLaws) (stores : StateLaws) where
   -- the facts of static variables that a state's end keeps are kept from then on
-  next_keeps : (plan : Plan) (n : ℕ) (m next : Moment) (p : Picture) → IsReady (setting plan n) (kinds_of plan.names) m → (g : StateGoesOn plan n m p next) → Keeps (lasting_facts g.last.store.facts) next.store.facts
-  next_keeps plan n m next p ready g q sh h = g.goes.store.kept q ∙ h
+  next_keeps : (plan : Plan) (n : ℕ) (m next : Moment) (p : Picture) → IsSound (setting plan n) (kinds_of plan.names) m → (g : StateGoesOn plan n m p next) → Keeps (lasting_facts g.last.store.facts) next.store.facts
+  next_keeps plan n m next p sound g q sh h = g.goes.store.kept q ∙ h
 
   -- and by the last moment of all
-  lead_keeps : (plan : Plan) (n : ℕ) (ps : List Picture) (m last : Moment) → IsReady (setting plan n) (kinds_of plan.names) m → StatesLead plan n m ps last
+  lead_keeps : (plan : Plan) (n : ℕ) (ps : List Picture) (m last : Moment) → IsSound (setting plan n) (kinds_of plan.names) m → StatesLead plan n m ps last
       → (q : Path) (sh : Shape) → q.var.lasting ≡ true → kept_shape m.store.facts q ≡ Some sh → kept_shape last.store.facts q ≡ Some sh
-  lead_keeps plan n [] m last ready h q sh static k = subst (λ (z : Moment). kept_shape z.store.facts q ≡ Some sh) (sym h) k
-  lead_keeps plan n (p ∷ ps) m last ready h q sh static k =
+  lead_keeps plan n [] m last sound h q sh static k = subst (λ (z : Moment). kept_shape z.store.facts q ≡ Some sh) (sym h) k
+  lead_keeps plan n (p ∷ ps) m last sound h q sh static k =
       let g = h.1 in
-      let here = leads_ready laws (setting plan n) (kinds_of plan.names) g.picks m g.last ready g.goes.closes.leads in
+      let here = leads_sound laws (setting plan n) (kinds_of plan.names) g.picks m g.last sound g.goes.closes.leads in
       let at_end = picks_keep (setting plan n) g.picks m g.last q sh g.goes.closes.leads k in
-      let static_at = static_kept g.last.store.facts q sh (stores.lasting_no_clash g.last.store.facts here.sound.store.no_clash) static at_end in
-      lead_keeps plan (suc n) ps h.0 last (next_ready laws plan n m h.0 p ready g (suc n)) h.2 q sh static (next_keeps plan n m h.0 p ready g q sh static_at)
+      let static_at = static_kept g.last.store.facts q sh (stores.lasting_no_clash g.last.store.facts here.store.no_clash) static at_end in
+      lead_keeps plan (suc n) ps h.0 last (next_sound laws plan n m h.0 p sound g (suc n)) h.2 q sh static (next_keeps plan n m h.0 p sound g q sh static_at)
 
   -- Values that agree with what the moment after some states keeps are the static ones of states that agree with the pictures.
-  pub lives : (plan : Plan) (n : ℕ) (ps : List Picture) (m last : Moment) → IsReady (setting plan n) (kinds_of plan.names) m → StatesLead plan n m ps last
+  pub lives : (plan : Plan) (n : ℕ) (ps : List Picture) (m last : Moment) → IsSound (setting plan n) (kinds_of plan.names) m → StatesLead plan n m ps last
       → (v : ℕ → Tree) → AgreesWithAll v last.store.facts → (s : Course) × Lives (kinds_of plan.names) n ps v s
-  lives plan n [] m last ready h v agrees = ((λ j. state_with (j + n) v), record { own = λ j. refl; agree = tt; statics = λ j x e. refl; after = λ j le. refl })
-  lives plan n (p ∷ ps) m last ready h v agrees =
+  lives plan n [] m last sound h v agrees = ((λ j. state_with (j + n) v), record { own = λ j. refl; agree = tt; statics = λ j x e. refl; after = λ j le. refl })
+  lives plan n (p ∷ ps) m last sound h v agrees =
       let g = h.1 in
       let kinds = kinds_of plan.names in
-      let here = leads_ready laws (setting plan n) kinds g.picks m g.last ready g.goes.closes.leads in
+      let here = leads_sound laws (setting plan n) kinds g.picks m g.last sound g.goes.closes.leads in
       let facts = g.last.store.facts in
       let static : List Fact = lasting_facts facts in
-      let apart = stores.lasting_no_clash facts here.sound.store.no_clash in
-      let later = next_ready laws plan n m h.0 p ready g (suc n) in
+      let apart = stores.lasting_no_clash facts here.store.no_clash in
+      let later = next_sound laws plan n m h.0 p sound g (suc n) in
       let kept : Keeps static last.store.facts =
-      λ q sh k. lead_keeps plan (suc n) ps h.0 last later h.2 q sh (kept_static facts q sh k) (next_keeps plan n m h.0 p ready g q sh k) in
-      let u = stores.extends g.last.store.variables facts here.sound.store.no_clash here.sound.store.facts v (agrees_with_less static last.store.facts v apart kept agrees) in
+      λ q sh k. lead_keeps plan (suc n) ps h.0 last later h.2 q sh (kept_static facts q sh k) (next_keeps plan n m h.0 p sound g q sh k) in
+      let u = stores.extends g.last.store.variables facts here.store.no_clash here.store.facts v (agrees_with_less static last.store.facts v apart kept agrees) in
       let rest = lives plan (suc n) ps h.0 last later h.2 v agrees in
       let r = rest.1 in
-      let same : HasStatics kinds u.0 v = λ x e. u.2 x (here.sound.store.globals x true e) in
-      let below = agrees_with_less (facts_below (globals_of plan) facts) facts u.0 (laws.below_no_clash (globals_of plan) facts here.sound.store.no_clash) (below_keeps (globals_of plan) facts here.sound.store.no_clash) u.1 in (
+      let same : HasStatics kinds u.0 v = λ x e. u.2 x (here.store.globals x true e) in
+      let below = agrees_with_less (facts_below (globals_of plan) facts) facts u.0 (laws.below_no_clash (globals_of plan) facts here.store.no_clash) (below_keeps (globals_of plan) facts here.store.no_clash) u.1 in (
         then_states (state_with n u.0) rest.0,
         record {
           own = own_of n u.0 rest.0 r.own;
-          agree = ((picture_agrees laws (globals_of plan) facts p.facts here.sound.store.no_clash g.picture_is.facts u.0).0 below, r.agree);
+          agree = ((picture_agrees laws (globals_of plan) facts p.facts here.store.no_clash g.picture_is.facts u.0).0 below, r.agree);
           statics = statics_of kinds n u.0 v rest.0 same r.statics;
           after = after_of n u.0 v ps p rest.0 r.after;
         },

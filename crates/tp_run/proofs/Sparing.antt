@@ -17,7 +17,7 @@ use Rattle.tp_store.specs.Known.{full}
 use Rattle.tp_eval.specs.Reached.{Stop, waits, faults, passes, Reached, reaches, stops, Evaluation, with_reached, ◌>>=◌, gives, stop, within_numbers, within_lists}
 use Rattle.tp_eval.specs.Evaluate.{number_in, truth_in, list_items, element_in, item_in, item_between, on_divisor_outcome, on_numbers_outcome, compared, sum_in, operate_outcome, negated_in, negative_in, PlaceFound, at_path, inside, is_place, bound_place, depth_limit, call_limit, index_in, farther, of_full, length_in, length_of, bind_place, count_call, value_at, size_at, each, all_true, one_true, negated, negative, operation_outcome, chosen, element_of, evaluated_place, argument, arguments, indexed_value, size_of, body_of, call, part_value, evaluate, find_place}
 use Rattle.tp_eval.specs.Outcome as found
-use Rattle.tp_eval.specs.Outcome.{outcome, outcome_reached}
+use Rattle.tp_eval.specs.Outcome.{PlaceOutcome, outcome, outcome_reached, place_outcome, place_reached}
 
 -- another limit than that on reductions
 abbrev pub IsOther : LimitKind → Type 0
@@ -307,3 +307,19 @@ reached_sparing (stops (passes k)) h = h
 pub outcome_sparing : (facts : List Fact) (defs : List Definition) (e : ExprTree) (env : List BindingTree) → IsSparing (outcome facts defs e env)
 unfolding outcome
 outcome_sparing facts defs e env = reached_sparing (evaluate facts defs depth_limit e env 0) (evaluate_spares facts defs depth_limit e env 0)
+
+-- the same of a place
+abbrev pub IsPlaceSparing : PlaceOutcome → Type 0
+IsPlaceSparing (found.path p) = Unit {0}
+IsPlaceSparing (found.other o) = IsSparing o
+
+place_reached_sparing : (facts : List Fact) (r : Reached PlaceFound) → PassesOther r → IsPlaceSparing (place_reached facts r)
+place_reached_sparing facts (reaches (at_path p) calls) h = tt
+place_reached_sparing facts (reaches (inside t at) calls) h = reached_sparing (value_at facts (inside t at) calls) (value_at_spares facts (inside t at) calls)
+place_reached_sparing facts (stops (waits p)) h = tt
+place_reached_sparing facts (stops (faults k)) h = tt
+place_reached_sparing facts (stops (passes k)) h = h
+
+pub place_sparing : (facts : List Fact) (defs : List Definition) (e : ExprTree) (env : List BindingTree) → IsPlaceSparing (place_outcome facts defs e env)
+unfolding place_outcome
+place_sparing facts defs e env = place_reached_sparing facts (find_place facts defs depth_limit e env 0) (find_spares facts defs depth_limit e env 0)

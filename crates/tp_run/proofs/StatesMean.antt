@@ -13,21 +13,20 @@ use Rattle.tp_scene.specs.Pick.{Setting, Moment, Reduces, Leads}
 use Rattle.tp_scene.specs.Rest.{settled, goes}
 use Rattle.tp_scene.specs.Advance.{advanced, shown_in}
 use Rattle.tp_scene.specs.StandsFor.{StandsFor}
-use Rattle.tp_scene.specs.Laws.{StepsKeep, StoreGoesOn as GoesOnTo, AdvancesKeep, EndsStand}
-use Rattle.tp_scene.specs.Built.{IsReady}
+use Rattle.tp_scene.specs.Laws.{IsSound, StepsKeep, StoreGoesOn as GoesOnTo, AdvancesKeep, EndsStand}
 use Rattle.tp_meaning.proofs.Shows.{join-assoc as join_assoc}
 use Rattle.tp_run.specs.declared.turn.Picture.{Picture}
 use Rattle.tp_run.specs.States.{Plan, globals_of, setting, AreGlobals, StateGoesOn, StateEnds, StatesLead}
 use Rattle.tp_run.specs.Meaning.{AgreesWithFacts}
 use Rattle.tp_run.specs.History.{AgreesWithPictures, shown_from}
 
--- what the laws of scenes say, where scenes have one region
+-- the laws of scenes, as runs need them
 pub record SceneLaws : Type 0 where
   pub steps_keep : StepsKeep
-  pub steps_ready : (w : Setting) (kinds : List Bool) (m : Moment) (t : ℕ) (r : Reduction) (next : Moment) → IsReady w kinds m → Reduces w m t r next → IsReady w kinds next
+  pub steps_sound : (w : Setting) (kinds : List Bool) (m : Moment) (t : ℕ) (r : Reduction) (next : Moment) → IsSound w kinds m → Reduces w m t r next → IsSound w kinds next
   pub advances_keep : AdvancesKeep
-  pub advances_ready : (w : Setting) (kinds : List Bool) (m next : Moment) → IsReady w kinds m → settled m.scene ≡ goes → next.scene ≡ advanced m.scene → GoesOnTo m.store next.store
-      → (own : ℕ) → IsReady (record { defs = w.defs; inputs = w.inputs; state = own }) kinds next
+  pub advances_sound : (w : Setting) (kinds : List Bool) (m next : Moment) → IsSound w kinds m → settled m.scene ≡ goes → next.scene ≡ advanced m.scene → GoesOnTo m.store next.store
+      → (own : ℕ) → IsSound (record { defs = w.defs; inputs = w.inputs; state = own }) kinds next
   pub ends_stand : EndsStand
   -- facts in any order: the same shapes, the same agreement
   pub same_agreement : (fs gs : List Fact) (values : ℕ → Tree) → NoClash fs → NoClash gs → ((p : Path) → kept_shape fs p ≡ kept_shape gs p) → AgreesWithAll values fs → AgreesWithAll values gs
@@ -52,17 +51,17 @@ later_statics kinds s a b h x e i j ai ib aj jb = h x e i j (omega arith) ib (om
 
 module _ (laws : SceneLaws) where
   -- the picks of one state
-  pub leads_ready : (w : Setting) (kinds : List Bool) (picks : List ℕ) (m last : Moment) → IsReady w kinds m → Leads w m picks last → IsReady w kinds last
-  leads_ready w kinds [] m last ready h = subst (IsReady w kinds) (sym h) ready
-  leads_ready w kinds (t ∷ ts) m last ready h = leads_ready w kinds ts h.1 last (laws.steps_ready w kinds m t h.0 h.1 ready h.2) h.3
+  pub leads_sound : (w : Setting) (kinds : List Bool) (picks : List ℕ) (m last : Moment) → IsSound w kinds m → Leads w m picks last → IsSound w kinds last
+  leads_sound w kinds [] m last sound h = subst (IsSound w kinds) (sym h) sound
+  leads_sound w kinds (t ∷ ts) m last sound h = leads_sound w kinds ts h.1 last (laws.steps_sound w kinds m t h.0 h.1 sound h.2) h.3
 
-  pub leads_keep : (w : Setting) (kinds : List Bool) (picks : List ℕ) (m last : Moment) → IsReady w kinds m → Leads w m picks last
+  pub leads_keep : (w : Setting) (kinds : List Bool) (picks : List ℕ) (m last : Moment) → IsSound w kinds m → Leads w m picks last
       → (s : Course) (a b : ℕ) (S : Shows) → (s a).own ≡ w.state → StandsFor w (length kinds) m s a b S ↔ StandsFor w (length kinds) last s a b S
-  leads_keep w kinds [] m last ready h s a b S own =
+  leads_keep w kinds [] m last sound h s a b S own =
       (λ g. subst (λ (z : Moment). StandsFor w (length kinds) z s a b S) (sym h) g, λ g. subst (λ (z : Moment). StandsFor w (length kinds) z s a b S) h g)
-  leads_keep w kinds (t ∷ ts) m last ready h s a b S own =
-      let one = laws.steps_keep w kinds m t h.0 h.1 ready.sound h.2 s a b S own in
-      let rest = leads_keep w kinds ts h.1 last (laws.steps_ready w kinds m t h.0 h.1 ready h.2) h.3 s a b S own in
+  leads_keep w kinds (t ∷ ts) m last sound h s a b S own =
+      let one = laws.steps_keep w kinds m t h.0 h.1 sound h.2 s a b S own in
+      let rest = leads_keep w kinds ts h.1 last (laws.steps_sound w kinds m t h.0 h.1 sound h.2) h.3 s a b S own in
       (λ g. rest.0 (one.0 g), λ g. one.1 (rest.1 g))
 
   -- the facts of a picture say what those of the store say of the globals
@@ -75,17 +74,17 @@ module _ (laws : SceneLaws) where
       )
 
   -- one state that goes on
-  pub goes_on_says : (plan : Plan) (n : ℕ) (m next : Moment) (p : Picture) → IsReady (setting plan n) (kinds_of plan.names) m → StateGoesOn plan n m p next
+  pub goes_on_says : (plan : Plan) (n : ℕ) (m next : Moment) (p : Picture) → IsSound (setting plan n) (kinds_of plan.names) m → StateGoesOn plan n m p next
       → (s : Course) (a b : ℕ) (S : Shows) → KeepsStatics (kinds_of plan.names) s a b → (s a).own ≡ n
       → StandsFor (setting plan n) (globals_of plan) m s a b S
       ↔ ((a < b) × AgreesWithFacts s a p.facts × ((U : Shows) × (S ≡ shown_at a (shows_of p.shows) ⊕ U) × StandsFor (setting plan (suc n)) (globals_of plan) next s (suc a) b U))
-  goes_on_says plan n m next p ready g s a b S static own =
+  goes_on_says plan n m next p sound g s a b S static own =
       let w = setting plan n in
       let kinds = kinds_of plan.names in
-      let here = leads_ready w kinds g.picks m g.last ready g.goes.closes.leads in
-      let keep = leads_keep w kinds g.picks m g.last ready g.goes.closes.leads s a b S own in
-      let go = laws.advances_keep w kinds g.last next here.sound g.goes.settles g.goes.scene g.goes.store s a b S static in
-      let facts = picture_agrees (globals_of plan) g.last.store.facts p.facts here.sound.store.no_clash g.picture_is.facts (s a).values in
+      let here = leads_sound w kinds g.picks m g.last sound g.goes.closes.leads in
+      let keep = leads_keep w kinds g.picks m g.last sound g.goes.closes.leads s a b S own in
+      let go = laws.advances_keep w kinds g.last next here g.goes.settles g.goes.scene g.goes.store s a b S static in
+      let facts = picture_agrees (globals_of plan) g.last.store.facts p.facts here.store.no_clash g.picture_is.facts (s a).values in
       let shows : shown_at a (shows_of p.shows) ≡ shown_at a (shown_in g.last.scene.root.entries) = ap (shown_at a) g.picture_is.shows in (
         λ h. let x = go.0 (keep.0 h) in
             (x.0, facts.0 x.1, (x.2.0, x.2.1 ∙ ap (λ (T : Shows). T ⊕ x.2.0) (sym shows), stands_again plan n (suc n) (globals_of plan) next s (suc a) b x.2.0 x.2.2)),
@@ -93,38 +92,38 @@ module _ (laws : SceneLaws) where
       )
 
   -- one that ends the interval
-  pub ends_here_says : (plan : Plan) (n : ℕ) (m : Moment) (p : Picture) → IsReady (setting plan n) (kinds_of plan.names) m → StateEnds plan n m p
+  pub ends_here_says : (plan : Plan) (n : ℕ) (m : Moment) (p : Picture) → IsSound (setting plan n) (kinds_of plan.names) m → StateEnds plan n m p
       → (s : Course) (a b : ℕ) (S : Shows) → (s a).own ≡ n
       → StandsFor (setting plan n) (globals_of plan) m s a b S ↔ ((a ≡ b) × AgreesWithFacts s a p.facts × (S ≡ shown_at a (shows_of p.shows)))
-  ends_here_says plan n m p ready g s a b S own =
+  ends_here_says plan n m p sound g s a b S own =
       let w = setting plan n in
       let kinds = kinds_of plan.names in
-      let here = leads_ready w kinds g.picks m g.last ready g.ends.closes.leads in
-      let keep = leads_keep w kinds g.picks m g.last ready g.ends.closes.leads s a b S own in
-      let end = laws.ends_stand w kinds g.last here.sound g.ends.settles s a b S in
-      let facts = picture_agrees (globals_of plan) g.last.store.facts p.facts here.sound.store.no_clash g.picture_is.facts (s a).values in
+      let here = leads_sound w kinds g.picks m g.last sound g.ends.closes.leads in
+      let keep = leads_keep w kinds g.picks m g.last sound g.ends.closes.leads s a b S own in
+      let end = laws.ends_stand w kinds g.last here g.ends.settles s a b S in
+      let facts = picture_agrees (globals_of plan) g.last.store.facts p.facts here.store.no_clash g.picture_is.facts (s a).values in
       let shows : shown_at a (shows_of p.shows) ≡ shown_at a (shown_in g.last.scene.root.entries) = ap (shown_at a) g.picture_is.shows in (
         λ h. let x = end.0 (keep.0 h) in (x.0, facts.0 x.1, x.2 ∙ sym shows),
         λ h. keep.1 (end.1 (h.0, facts.1 h.1, h.2 ∙ shows)),
       )
 
-  pub next_ready : (plan : Plan) (n : ℕ) (m next : Moment) (p : Picture) → IsReady (setting plan n) (kinds_of plan.names) m → StateGoesOn plan n m p next → (own : ℕ) → IsReady (setting plan own) (kinds_of plan.names) next
-  next_ready plan n m next p ready g own =
+  pub next_sound : (plan : Plan) (n : ℕ) (m next : Moment) (p : Picture) → IsSound (setting plan n) (kinds_of plan.names) m → StateGoesOn plan n m p next → (own : ℕ) → IsSound (setting plan own) (kinds_of plan.names) next
+  next_sound plan n m next p sound g own =
       let w = setting plan n in
-      laws.advances_ready w (kinds_of plan.names) g.last next (leads_ready w (kinds_of plan.names) g.picks m g.last ready g.goes.closes.leads) g.goes.settles g.goes.scene g.goes.store own
+      laws.advances_sound w (kinds_of plan.names) g.last next (leads_sound w (kinds_of plan.names) g.picks m g.last sound g.goes.closes.leads) g.goes.settles g.goes.scene g.goes.store own
 
-  pub lead_ready : (plan : Plan) (n k : ℕ) (ps : List Picture) (m last : Moment) → k ≡ length ps + n → IsReady (setting plan n) (kinds_of plan.names) m → StatesLead plan n m ps last → IsReady (setting plan k) (kinds_of plan.names) last
-  lead_ready plan n k [] m last e ready h =
+  pub lead_sound : (plan : Plan) (n k : ℕ) (ps : List Picture) (m last : Moment) → k ≡ length ps + n → IsSound (setting plan n) (kinds_of plan.names) m → StatesLead plan n m ps last → IsSound (setting plan k) (kinds_of plan.names) last
+  lead_sound plan n k [] m last e sound h =
       let same : n ≡ k = omega (arith, e) in
-      subst (λ i. IsReady (setting plan i) (kinds_of plan.names) last) same (subst (IsReady (setting plan n) (kinds_of plan.names)) (sym h) ready)
-  lead_ready plan n k (p ∷ ps) m last e ready h = lead_ready plan (suc n) k ps h.0 last (omega (arith, e)) (next_ready plan n m h.0 p ready h.1 (suc n)) h.2
+      subst (λ i. IsSound (setting plan i) (kinds_of plan.names) last) same (subst (IsSound (setting plan n) (kinds_of plan.names)) (sym h) sound)
+  lead_sound plan n k (p ∷ ps) m last e sound h = lead_sound plan (suc n) k ps h.0 last (omega (arith, e)) (next_sound plan n m h.0 p sound h.1 (suc n)) h.2
 
   -- several states
-  pub states_say : (plan : Plan) (n k : ℕ) (ps : List Picture) (m last : Moment) → k ≡ length ps + n → IsReady (setting plan n) (kinds_of plan.names) m → StatesLead plan n m ps last
+  pub states_say : (plan : Plan) (n k : ℕ) (ps : List Picture) (m last : Moment) → k ≡ length ps + n → IsSound (setting plan n) (kinds_of plan.names) m → StatesLead plan n m ps last
       → (s : Course) (a b c : ℕ) (S : Shows) → c ≡ length ps + a → KeepsStatics (kinds_of plan.names) s a b → Numbered n s a b
       → StandsFor (setting plan n) (globals_of plan) m s a b S
       ↔ ((c ≤ b) × AgreesWithPictures s a ps × ((U : Shows) × (S ≡ shown_from a ps ⊕ U) × StandsFor (setting plan k) (globals_of plan) last s c b U))
-  states_say plan n k [] m last e ready h s a b c S at static numbered =
+  states_say plan n k [] m last e sound h s a b c S at static numbered =
       let here : c ≡ a = omega (arith, at) in
       let same : k ≡ n = omega (arith, e) in
       let G = globals_of plan in (
@@ -136,12 +135,12 @@ module _ (laws : SceneLaws) where
         λ g. subst (λ (z : Moment). StandsFor (setting plan n) G z s a b S) h
             (subst (λ (T : Shows). StandsFor (setting plan n) G last s a b T) (sym g.2.1) (stands_again plan k n G last s a b g.2.0 (subst (λ i. StandsFor (setting plan k) G last s i b g.2.0) here g.2.2))),
       )
-  states_say plan n k (p ∷ ps) m last e ready h s a b c S at static numbered =
+  states_say plan n k (p ∷ ps) m last e sound h s a b c S at static numbered =
       let place : c ≡ length ps + suc a = omega (arith, at) in
       let number : k ≡ length ps + suc n = omega (arith, e) in
-      let later = next_ready plan n m h.0 p ready h.1 (suc n) in
+      let later = next_sound plan n m h.0 p sound h.1 (suc n) in
       let rest = λ (U : Shows). states_say plan (suc n) k ps h.0 last number later h.2 s (suc a) b c U place (later_statics (kinds_of plan.names) s a b static) (later_numbers n s a b numbered) in
-      let one = λ (le : a ≤ b). goes_on_says plan n m h.0 p ready h.1 s a b S static (first_number n s a b numbered le) in (
+      let one = λ (le : a ≤ b). goes_on_says plan n m h.0 p sound h.1 s a b S static (first_number n s a b numbered le) in (
         λ g.
             let x = (one g.in_order).0 g in
             let y = (rest x.2.0).0 x.2.2 in

@@ -1,9 +1,8 @@
 -- What the store of a run keeps.
-use Rattle.std.proofs.Common.{◌≡◌, ℕ, List, [], ◌∷◌, ap, ◌∙◌, subst}
-use Rattle.tp_store.specs.Known.{Contents}
-use Rattle.tp_scene.specs.Pick.{Setting, Moment, Leads}
-use Rattle.tp_scene.specs.Built.{MomentIsFlat}
-use Rattle.tp_scene.proofs.Flat.{steps_stay_flat}
+use Rattle.std.proofs.Common.{◌≡◌, ℕ, List, [], ◌∷◌, ◌++◌, Option, Some, None, refl, ap, sym, ◌∙◌, subst, append_assoc}
+use Rattle.std.proofs.lemmas.List.{append-nil}
+use Rattle.tp_store.specs.Known.{Contents, Variable}
+use Rattle.tp_scene.specs.Pick.{Setting, Moment, Leads, with_local}
 use Rattle.tp_step.specs.Answers.{moment_of}
 use Rattle.tp_run.specs.declared.run.Run.{Run}
 use Rattle.tp_run.specs.declared.run.Stand.{Stand}
@@ -13,8 +12,7 @@ use Rattle.tp_run.specs.declared.turn.Turn.{Turn}
 use Rattle.tp_run.specs.declared.turn.Turn.TheVariants.{Went, Finished, Contradictory, Undetermined, StateLimit, InputMissing, Over}
 use Rattle.tp_kernel.specs.declared.formula.LimitKind.TheVariants as kind
 use Rattle.tp_run.specs.States.{Plan, setting, Standing, open_at, StoreBecomes, LeavesStore}
-use Rattle.tp_run.specs.Runs.{stands_at, standing_of, IsRunOf}
-use Rattle.tp_run.proofs.Becomes.{ready_at}
+use Rattle.tp_run.specs.Runs.{stands_at, standing_of, HasFirst}
 
 -- where a run stands before a state, its store is what the state begins with
 pub store_before : (stand : Stand) (store : Contents) (m : Moment) → stands_at stand store ≡ open_at m → store ≡ m.store
@@ -22,35 +20,50 @@ store_before (Open scene) store m h = let same : moment_of scene store ≡ m = c
 store_before (Answered turn) store m h = absurd (cc)
 store_before Spent store m h = absurd (cc)
 
--- picks make no variable
-picks_keep_variables : (w : Setting) (picks : List ℕ) (m last : Moment) → MomentIsFlat m → Leads w m picks last → last.store.variables ≡ m.store.variables
-picks_keep_variables w [] m last flat h = ap (λ (z : Moment). z.store.variables) h
-picks_keep_variables w (t ∷ ts) m last flat h =
-    let one = steps_stay_flat w m t h.0 h.1 flat h.2 in
-    picks_keep_variables w ts h.1 last one.scene h.3 ∙ one.variables
+-- the first variables stay, and picks make more
+first_all : (xs ys : List Variable) → ys ≡ xs → HasFirst xs ys
+first_all xs ys e = ([], e ∙ sym (append-nil xs))
 
-module _ (plan : Plan) (n : ℕ) (m : Moment) (flat : MomentIsFlat m) (picture : Picture) (store : Contents) where
-  led : (picks : List ℕ) (last : Moment) → Leads (setting plan n) m picks last → store ≡ last.store → store.variables ≡ m.store.variables
-  led picks last leads e = ap (λ (k : Contents). k.variables) e ∙ picks_keep_variables (setting plan n) picks m last flat leads
+first_on : (xs ys zs : List Variable) → HasFirst xs ys → HasFirst ys zs → HasFirst xs zs
+first_on xs ys zs h g = (h.0 ++ g.0, g.1 ∙ ap (λ us. us ++ g.0) h.1 ∙ append_assoc xs h.0 g.0)
 
-  pub variables_stay : (turn : Turn) → StoreBecomes plan n m picture store turn → store.variables ≡ m.store.variables
-  variables_stay Went h = ap (λ (k : Contents). k.variables) h.2 ∙ h.1.goes.store.variables ∙ picks_keep_variables (setting plan n) h.1.picks m h.1.last flat h.1.goes.closes.leads
-  variables_stay (Finished length) h = led h.0.picks h.0.last h.0.ends.closes.leads h.1
-  variables_stay (Contradictory state clash) h = led h.0.picks h.0.last h.0.leads h.1
-  variables_stay (Undetermined state cell) h = led h.0.picks h.0.last h.0.closes.leads h.1
-  variables_stay (StateLimit states) h = ap (λ (k : Contents). k.variables) h
-  variables_stay (InputMissing state port) h = led h.0.picks h.0.last h.0.leads h.1
-  variables_stay (Over state kind.Reductions) h = led h.0.picks h.0.last h.0.leads h.1
-  variables_stay (Over state kind.Number) h = led h.0.picks h.0.last h.0.leads h.1
-  variables_stay (Over state kind.List) h = led h.0.picks h.0.last h.0.leads h.1
-  variables_stay (Over state kind.Calls) h = led h.0.picks h.0.last h.0.leads h.1
-  variables_stay (Over state kind.Nest) h = led h.0.picks h.0.last h.0.leads h.1
+first_local : (o : Option Variable) (xs ys : List Variable) → ys ≡ with_local o xs → HasFirst xs ys
+first_local None xs ys e = first_all xs ys e
+first_local (Some x) xs ys e = (x ∷ [], e)
+
+picks_make_more : (w : Setting) (picks : List ℕ) (m last : Moment) → Leads w m picks last → HasFirst m.store.variables last.store.variables
+picks_make_more w [] m last h = first_all m.store.variables last.store.variables (ap (λ (z : Moment). z.store.variables) h)
+picks_make_more w (t ∷ ts) m last h =
+    first_on m.store.variables h.1.store.variables last.store.variables (first_local h.0.local m.store.variables h.1.store.variables h.2.store.variables) (picks_make_more w ts h.1 last h.3)
+
+module _ (plan : Plan) (n : ℕ) (m : Moment) (picture : Picture) (store : Contents) where
+  led : (picks : List ℕ) (last : Moment) → Leads (setting plan n) m picks last → store ≡ last.store → HasFirst m.store.variables store.variables
+  led picks last leads e = subst (λ (k : Contents). HasFirst m.store.variables k.variables) (sym e) (picks_make_more (setting plan n) picks m last leads)
+
+  pub first_stay : (turn : Turn) → StoreBecomes plan n m picture store turn → HasFirst m.store.variables store.variables
+  first_stay Went h =
+      let more = picks_make_more (setting plan n) h.1.picks m h.1.last h.1.goes.closes.leads in
+      first_on m.store.variables h.1.last.store.variables store.variables more (first_all h.1.last.store.variables store.variables (ap (λ (k : Contents). k.variables) h.2 ∙ h.1.goes.store.variables))
+  first_stay (Finished length) h = led h.0.picks h.0.last h.0.ends.closes.leads h.1
+  first_stay (Contradictory state clash) h = led h.0.picks h.0.last h.0.leads h.1
+  first_stay (Undetermined state cell) h = led h.0.picks h.0.last h.0.closes.leads h.1
+  first_stay (StateLimit states) h = first_all m.store.variables store.variables (ap (λ (k : Contents). k.variables) h)
+  first_stay (InputMissing state port) h = led h.0.picks h.0.last h.0.leads h.1
+  first_stay (Over state kind.Reductions) h = led h.0.picks h.0.last h.0.leads h.1
+  first_stay (Over state kind.Number) h = led h.0.picks h.0.last h.0.leads h.1
+  first_stay (Over state kind.List) h = led h.0.picks h.0.last h.0.leads h.1
+  first_stay (Over state kind.Calls) h = led h.0.picks h.0.last h.0.leads h.1
+  first_stay (Over state kind.Nest) h = led h.0.picks h.0.last h.0.leads h.1
+
+-- a store that stays
+pub all_stay : (k : Contents) → HasFirst k.variables k.variables
+all_stay k = first_all k.variables k.variables refl
 
 -- the same of a run that stood before this state
-module _ (plan : Plan) (run : Run) (is_run : IsRunOf plan run) (m : Moment) (opened : open_at m ≡ standing_of run) (same : m.store ≡ run.store) (picture : Picture) (store : Contents) (turn : Turn)
-    (becomes : StoreBecomes plan run.state m picture store turn) where
-  pub leaves_store : LeavesStore plan (standing_of run) run.state picture run.store store turn
-  leaves_store = subst (λ (z : Standing). LeavesStore plan z run.state picture run.store store turn) opened becomes
+module _ (plan : Plan) (run : Run) (m : Moment) (opened : open_at m ≡ standing_of run) (same : m.store ≡ run.store) (picture : Picture) (store : Contents) (turn : Turn)
+    (becomes : StoreBecomes plan run.settings.setting.state m picture store turn) where
+  pub leaves_store : LeavesStore plan (standing_of run) run.settings.setting.state picture run.store store turn
+  leaves_store = subst (λ (z : Standing). LeavesStore plan z run.settings.setting.state picture run.store store turn) opened becomes
 
-  pub leaves_variables : store.variables ≡ run.store.variables
-  leaves_variables = variables_stay plan run.state m (ready_at plan run m is_run opened).flat picture store turn becomes ∙ ap (λ (k : Contents). k.variables) same
+  pub leaves_variables : HasFirst run.store.variables store.variables
+  leaves_variables = subst (λ (k : Contents). HasFirst k.variables store.variables) same (first_stay plan run.settings.setting.state m picture store turn becomes)

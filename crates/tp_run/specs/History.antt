@@ -1,6 +1,5 @@
 -- Whole runs: the states that were settled, the end, and what it says of every interval.
 use Rattle.std.specs.Prelude.{◌≡◌, ◌↔◌, ℕ, suc, ◌+◌, ◌≤◌, ◌<◌, List, [], ◌∷◌, ◌++◌, length}
-use Rattle.tp_kernel.specs.Built.{IsBuilt}
 use Rattle.tp_meaning.specs.Course.{Course, Shows, blank, ◌⊕◌, shown_at}
 use Rattle.tp_meaning.specs.Interval.{ProgramTree, IsInterval, Satisfies}
 use Rattle.tp_decide.specs.Read.{shows_of}
@@ -10,7 +9,7 @@ use Rattle.tp_scene.specs.Replay as replay
 use Rattle.tp_run.specs.declared.turn.Picture.{Picture}
 use Rattle.tp_run.specs.declared.turn.Turn.{Turn}
 use Rattle.tp_run.specs.declared.turn.Turn.TheVariants.{Went, Finished, Contradictory, Undetermined, StateLimit, InputMissing, Over}
-use Rattle.tp_run.specs.States.{Plan, setting, StateEnds, LeadsTo, Standing, open_at, ReachesLimit, AnswersState}
+use Rattle.tp_run.specs.States.{Plan, PlanFits, setting, StateEnds, LeadsTo, Standing, open_at, ReachesLimit, AnswersState}
 use Rattle.tp_run.specs.Meaning.{AgreesWithFacts}
 
 pub record FinishesAt (plan : Plan) (ps : List Picture) (n : ℕ) : Type 0 where
@@ -93,6 +92,6 @@ pub record RunsAdvance (plan : Plan) : Type 0 where
   pub goes_on : (ps : List Picture) (m : Moment) → LeadsTo plan ps m → (old new : Picture) (standing : Standing) (next : ℕ) (turn : Turn)
       → AnswersState plan (open_at m) (length ps) old new standing next turn → Advances plan ps old new standing next turn
 
--- The end of each run says of every interval what `EndOfRunMeans` has.
+-- The end of each run of a formula that fits its variables says of every interval what `EndOfRunMeans` has.
 abbrev pub RunsMean : Plan → Type 0
-RunsMean plan = IsBuilt plan.names plan.main → (ps : List Picture) (turn : Turn) → RunEndsWith plan ps turn → EndOfRunMeans plan ps turn
+RunsMean plan = PlanFits plan → (ps : List Picture) (turn : Turn) → RunEndsWith plan ps turn → EndOfRunMeans plan ps turn

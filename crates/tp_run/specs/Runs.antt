@@ -1,18 +1,18 @@
 -- Where a run stands, and what its parts make of a state.
-use Rattle.std.specs.Prelude.{◌≡◌, ℕ, zero, suc, ◌≤◌, [], Option, Some, None}
+use Rattle.std.specs.Prelude.{◌≡◌, ℕ, zero, suc, ◌≤◌, List, [], ◌++◌, Option, Some, None}
 use Rattle.tp_kernel.specs.Read.{definitions_of}
 use Rattle.tp_inputs.specs.Read.{lines_of}
-use Rattle.tp_store.specs.Known.{Contents}
+use Rattle.tp_store.specs.Known.{Contents, Variable}
 use Rattle.tp_decide.specs.Read.{shows_of}
-use Rattle.tp_step.specs.Answers.{moment_of, setting_of}
+use Rattle.tp_slots.specs.Kept.{IsWellKept}
+use Rattle.tp_step.specs.Answers.{moment_of}
 use Rattle.tp_step.specs.declared.answer.Order.TheVariants.{First}
 use Rattle.tp_meaning.specs.Interval.{kinds_of}
 use Rattle.tp_scene.specs.Scene as S
 use Rattle.tp_scene.specs.Pick.{Setting, Moment}
 use Rattle.tp_scene.specs.Rest.{settled, goes, ends, IsOpenCell}
 use Rattle.tp_scene.specs.Advance.{advanced, shown_in}
-use Rattle.tp_scene.specs.Laws.{StoreGoesOn}
-use Rattle.tp_scene.specs.Built.{IsReady}
+use Rattle.tp_scene.specs.Laws.{IsSound, StoreGoesOn}
 use Rattle.tp_run.specs.declared.run.Run.{Run}
 use Rattle.tp_run.specs.declared.run.Settings.{Settings}
 use Rattle.tp_run.specs.declared.run.Stand.{Stand}
@@ -33,15 +33,15 @@ abbrev pub standing_of : Run → Standing
 standing_of run = stands_at run.stand run.store
 
 abbrev pub next_state_of : Run → ℕ
-next_state_of run = run.state
+next_state_of run = run.settings.setting.state
+
+-- The first of these variables are those.
+abbrev pub HasFirst : List Variable → List Variable → Type 0
+HasFirst xs ys = (more : List Variable) × (ys ≡ xs ++ more)
 
 -- what its store holds
 abbrev pub store_of : Run → Contents
 store_of run = run.store
-
--- what the state of that number is read with
-abbrev pub setting_in : Settings → (state : ℕ) → Setting
-setting_in settings state = setting_of settings.defs settings.inputs state
 
 -- what is carried to the next state: the scene that it begins with, where one was settled before it; a run that hasn't begun, has ended or gave up
 -- carries nothing
@@ -52,25 +52,32 @@ carried_scene n (answered turn) = None
 carried_scene n spent = None
 
 -- before a state it stands at a sound moment
-abbrev pub StandsReady : Plan → ℕ → Standing → Type 0
-StandsReady plan n (open_at m) = IsReady (setting plan n) (kinds_of plan.names) m
-StandsReady plan n (answered turn) = Unit {0}
-StandsReady plan n spent = Unit {0}
+abbrev pub StandsSound : Plan → ℕ → Standing → Type 0
+StandsSound plan n (open_at m) = IsSound (setting plan n) (kinds_of plan.names) m
+StandsSound plan n (answered turn) = Unit {0}
+StandsSound plan n spent = Unit {0}
+
+-- the scene of a run before a state is well kept
+abbrev pub StandIsKept : Stand → Type 0
+StandIsKept (Open scene) = IsWellKept scene
+StandIsKept (Answered turn) = Unit {0}
+StandIsKept Spent = Unit {0}
 
 -- The settings are those of this plan.
 pub record IsSettingsOf (plan : Plan) (settings : Settings) : Type 0 where
-  pub inputs : lines_of settings.inputs ≡ plan.inputs
+  pub inputs : lines_of settings.setting.inputs ≡ plan.inputs
   pub states : settings.limits.states ≡ plan.states
   pub reductions : settings.limits.reductions ≡ plan.reductions
   pub globals : settings.globals ≡ globals_of plan
-  pub definitions : definitions_of settings.defs ≡ []
+  pub definitions : definitions_of settings.setting.defs ≡ []
   pub order : settings.order ≡ First
 
 -- The run is one of this plan.
 pub record IsRunOf (plan : Plan) (run : Run) : Type 0 where
   pub settings : IsSettingsOf plan run.settings
   pub within : next_state_of run ≤ plan.states
-  pub ready : StandsReady plan (next_state_of run) (standing_of run)
+  pub sound : StandsSound plan (next_state_of run) (standing_of run)
+  pub kept : StandIsKept run.stand
 
 -- The picture of a state with this number, of so many globals, after so many reductions.
 pub record HasPicture (globals n reductions : ℕ) (m : Moment) (picture : Picture) : Type 0 where

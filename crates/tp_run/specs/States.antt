@@ -3,6 +3,7 @@ use Rattle.std.specs.Prelude.{◌≡◌, ℕ, suc, ◌<◌, nat_lt, eqb, ◌&&�
 use Rattle.tp_value.specs.declared.path.Path.{Path}
 use Rattle.tp_value.specs.declared.path.Fact.{Fact}
 use Rattle.tp_meaning.specs.Syntax.{FormulaTree}
+use Rattle.tp_meaning.specs.Fits.{FormulaFits}
 use Rattle.tp_meaning.specs.Inputs.{InputLines}
 use Rattle.tp_meaning.specs.Interval.{kinds_of}
 use Rattle.tp_store.specs.Facts.{kept_shape}
@@ -32,6 +33,10 @@ plan_with names main inputs states reductions = record { names = names; main = m
 -- how many variables it has
 abbrev pub globals_of : Plan → ℕ
 globals_of plan = length (kinds_of plan.names)
+
+-- its formula has no bound name that nothing binds, no call, and no other variable
+abbrev pub PlanFits : Plan → Type 0
+PlanFits plan = FormulaFits [] (kinds_of plan.names) plan.main 0
 
 -- what state n is read with; programs have no definitions today
 abbrev pub setting : Plan → ℕ → Setting

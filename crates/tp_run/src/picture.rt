@@ -2,14 +2,15 @@
 ghost use Rattle.std.specs.Prelude.{◌≡◌, IfOk};
 ghost use Rattle.std.specs.Ordering.{is_lt, is_gt};
 ghost use Rattle.tp_scene.specs.Advance.{shown_in};
-ghost use Rattle.tp_decide.specs.Flat.{HasOneRegion};
-ghost use Rattle.tp_decide.specs.Read.{scene_of, shows_of};
+ghost use Rattle.tp_decide.specs.Read.{shows_of};
+ghost use Rattle.tp_slots.specs.Kept.{IsWellKept};
+ghost use Rattle.tp_slots.specs.Read.{scene_of};
 ghost use Rattle.tp_run.specs.States.{is_before, AreGlobals};
 
 use crate::turn::Picture;
 use std::alloc::Global;
 use std::cmp::Ordering;
-use tp_step::{Scene, Shows, shown};
+use tp_step::{Scene, Setting, Shows, shown};
 use tp_store::Store;
 use tp_value::{Fact, Facts, NoMemory};
 
@@ -37,29 +38,29 @@ fn global_facts(alloc: Global, store: &Store, globals: u64) -> Result<Facts, NoM
     Ok(facts)
 }
 
-/// The picture of the settled state of that number.
+/// The picture of the settled state that was read with this setting.
 pub fn settled_picture(
-    alloc: Global,
     scene: &Scene,
     store: &Store,
     globals: u64,
-    state: u64,
+    setting: &Setting,
     reductions: u64,
 ) -> Result<Picture, NoMemory>
-    requires { HasOneRegion (scene_of scene.now) }
+    requires { IsWellKept scene.now }
     ensures facts { IfOk result (λ picture. AreGlobals globals store.now.facts picture.facts) }
     ensures shows { IfOk result (λ picture.
         shows_of picture.shows ≡ shown_in (scene_of scene.now).root.entries) }
-    ensures state { IfOk result (λ picture. picture.state ≡ state) }
+    ensures state { IfOk result (λ picture. picture.state ≡ setting.now.state) }
     ensures reductions { IfOk result (λ picture. picture.reductions ≡ reductions) }
 {
+    let alloc = setting.alloc;
     let facts = global_facts(alloc, store, globals)?;
     let mut shows = Shows {
         items: Vec::new(alloc),
     };
     shown(alloc, scene, &mut shows)?;
     Ok(Picture {
-        state,
+        state: setting.state,
         facts,
         shows,
         reductions,

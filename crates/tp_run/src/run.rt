@@ -2,7 +2,7 @@
 ghost use Rattle.std.specs.Prelude.{◌≡◌, ◌<◌, ◌≤◌, Bool, List, [], Option, IfOk, OnErr, OnOk};
 ghost use Rattle.std.specs.Option.{option_map};
 ghost use Rattle.tp_kernel.specs.Read.{formula_tree, definitions_of};
-ghost use Rattle.tp_kernel.specs.Built.{IsBuilt};
+ghost use Rattle.tp_meaning.specs.Fits.{FormulaFits};
 ghost use Rattle.tp_inputs.specs.Read.{lines_of};
 ghost use Rattle.tp_store.specs.Known.{new_store};
 ghost use Rattle.tp_meaning.specs.Interval.{kinds_of};
@@ -10,15 +10,16 @@ ghost use Rattle.tp_scene.specs.Step.{waits};
 ghost use Rattle.tp_scene.specs.Pick.{Moment, outcome_of};
 ghost use Rattle.tp_scene.specs.Rest as rest;
 ghost use Rattle.tp_scene.specs.Rest.{AtRest};
-ghost use Rattle.tp_scene.specs.Built.{IsReady};
+ghost use Rattle.tp_scene.specs.Laws.{IsSound};
 ghost use Rattle.tp_scene.specs.StandsFor.{first_moment};
-ghost use Rattle.tp_decide.specs.Flat.{HasOneRegion};
-ghost use Rattle.tp_decide.specs.Read.{scene_of};
+ghost use Rattle.tp_decide.specs.Decided.{setting_of};
+ghost use Rattle.tp_slots.specs.Kept.{IsWellKept, Lives};
+ghost use Rattle.tp_slots.specs.Read.{scene_of};
 ghost use Rattle.tp_step.specs.Answers.{moment_of};
 ghost use Rattle.tp_step.specs.declared.answer.Order.TheVariants.{First};
 ghost use Rattle.tp_run.specs.States.{Plan, plan_with, open_at, spent, state_after, AnswersState, StateBecomes, StoreBecomes, LeavesStore};
 ghost use Rattle.tp_run.specs.Meaning.{StandsForItsProgram, AnswerMeans};
-ghost use Rattle.tp_run.specs.Runs.{stands_at, standing_of, next_state_of, store_of, carried_scene, setting_in, IsSettingsOf, IsRunOf, HasPicture, NextOf, RestTurns};
+ghost use Rattle.tp_run.specs.Runs.{stands_at, standing_of, next_state_of, store_of, carried_scene, IsSettingsOf, IsRunOf, HasPicture, NextOf, RestTurns, StandIsKept, HasFirst};
 
 use crate::picture::settled_picture;
 use crate::turn::{Limits, Picture, Turn};
@@ -30,21 +31,19 @@ use tp_inputs::Inputs;
 use tp_kernel::{Defs, Formula};
 use tp_pass::close_by_passes;
 use tp_step::{
-    Cell, Ending, ItemIds, Order, Scene, Settled, Steps, Tally, Tried, Waits, advance, settled,
-    start, try_item,
+    Cell, Ending, ItemIds, Order, Scene, Setting, Settled, Steps, Tally, Tried, Waits, advance,
+    settled, start, try_item,
 };
 use tp_store::Store;
 use tp_value::{Globals, NoMemory};
 
-/// What a run is made with. It never changes.
+/// What a run is made with, and the number of the state that it makes next, which alone changes.
 #[derive(Drop)]
 struct Settings {
-    alloc: Global,
     globals: u64,
-    defs: Defs,
-    inputs: Inputs,
     limits: Limits,
     order: Order,
+    setting: Setting,
 }
 
 /// Before a state, after the last answer, or given up for want of memory.
@@ -59,7 +58,6 @@ enum Stand {
 #[derive(Drop)]
 pub struct Run {
     settings: Settings,
-    state: u64,
     store: Store,
     stand: Stand,
 }
@@ -100,34 +98,24 @@ impl Settings {
     // The first cell that the waiting item of a scene at rest waits for.
     fn waits_for<L: Ledger>(
         &self,
-        state: u64,
         scene: &mut Scene,
         store: &mut Store,
         item: u64,
         steps: &mut Steps<L>,
     ) -> Result<Cell, NoMemory>
-        requires none { definitions_of self.now.defs ≡ [] }
-        requires ready { (kinds : List Bool)
-            × IsReady (setting_in self.now state) kinds (moment_of scene.old store.old) }
-        requires rests { AtRest (setting_in self.now state) (moment_of scene.old store.old) }
+        requires none { definitions_of self.now.setting.defs ≡ [] }
+        requires kept { IsWellKept scene.old }
+        requires sound { (kinds : List Bool)
+            × IsSound (setting_of self.now.setting) kinds (moment_of scene.old store.old) }
+        requires rests { AtRest (setting_of self.now.setting) (moment_of scene.old store.old) }
         requires item { rest.settled (scene_of scene.old) ≡ rest.waiting item }
         ensures cell { IfOk result (λ cell.
             (other : Option Cell)
-            × (outcome_of (setting_in self.now state) store.old (scene_of scene.old) item
+            × (outcome_of (setting_of self.now.setting) store.old (scene_of scene.old) item
             ≡ waits cell other)) }
         ensures store { OnOk result (store.new ≡ store.old) }
     {
-        let tried = try_item(
-            self.alloc,
-            scene,
-            item,
-            store,
-            &self.defs,
-            &self.inputs,
-            state,
-            0,
-            steps,
-        )?;
+        let tried = try_item(scene, item, store, &self.setting, 0, steps)?;
         match tried {
             Tried::Waits(cell, _) => Ok(cell),
             Tried::Reduced(_) => unreachable!(),
@@ -141,22 +129,24 @@ impl Settings {
     // A state that ends the interval.
     fn finish(
         &self,
-        state: u64,
         scene: &Scene,
         store: &Store,
         reductions: u64,
         picture: &mut Picture,
     ) -> Result<Made, NoMemory>
-        requires { HasOneRegion (scene_of scene.now) }
+        requires { IsWellKept scene.now }
         ensures picture { OnOk result
-            (HasPicture self.now.globals state reductions (moment_of scene.now store.now)
-            picture.new) }
-        ensures stand { IfOk result (λ made. made.stand ≡ Stand.Answered (Turn.Finished state)) }
-        ensures turn { IfOk result (λ made. made.turn ≡ Turn.Finished state) }
+            (HasPicture self.now.globals self.now.setting.state reductions
+            (moment_of scene.now store.now) picture.new) }
+        ensures stand { IfOk result (λ made.
+            made.stand ≡ Stand.Answered (Turn.Finished self.now.setting.state)) }
+        ensures turn { IfOk result (λ made. made.turn ≡ Turn.Finished self.now.setting.state) }
         ensures err { OnErr result (picture.new ≡ picture.old) }
     {
-        let settled = settled_picture(self.alloc, scene, store, self.globals, state, reductions)?;
-        let made = stop(Turn::Finished { length: state })?;
+        let settled = settled_picture(scene, store, self.globals, &self.setting, reductions)?;
+        let made = stop(Turn::Finished {
+            length: self.setting.state,
+        })?;
         *picture = settled;
         Ok(made)
     }
@@ -164,24 +154,25 @@ impl Settings {
     // A state that goes on: the store goes on to the next one.
     fn go_on(
         &self,
-        state: u64,
         scene: Scene,
         store: &mut Store,
         reductions: u64,
         picture: &mut Picture,
     ) -> Result<Made, NoMemory>
         requires goes { rest.settled (scene_of scene) ≡ rest.goes }
-        requires one { HasOneRegion (scene_of scene) }
+        requires kept { IsWellKept scene }
         ensures picture { OnOk result
-            (HasPicture self.now.globals state reductions (moment_of scene store.old) picture.new) }
+            (HasPicture self.now.globals self.now.setting.state reductions
+            (moment_of scene store.old) picture.new) }
         ensures stand { IfOk result (λ made.
             (next : Moment) × NextOf (moment_of scene store.old) next
             × (stands_at made.stand store.new ≡ open_at next) × (store.new ≡ next.store)) }
+        ensures kept { IfOk result (λ made. StandIsKept made.stand) }
         ensures turn { IfOk result (λ made. made.turn ≡ Turn.Went) }
         ensures err { OnErr result (picture.new ≡ picture.old) }
     {
-        let settled = settled_picture(self.alloc, &scene, store, self.globals, state, reductions)?;
-        let next = advance(self.alloc, scene)?;
+        let settled = settled_picture(&scene, store, self.globals, &self.setting, reductions)?;
+        let next = advance(self.setting.alloc, scene)?;
         store.next_state();
         *picture = settled;
         Ok(Made {
@@ -193,82 +184,78 @@ impl Settings {
     // A state whose closure is at rest.
     fn make_at_rest<L: Ledger>(
         &self,
-        state: u64,
         mut scene: Scene,
         store: &mut Store,
         reductions: u64,
         picture: &mut Picture,
         steps: &mut Steps<L>,
     ) -> Result<Made, NoMemory>
-        requires none { definitions_of self.now.defs ≡ [] }
-        requires ready { (kinds : List Bool)
-            × IsReady (setting_in self.now state) kinds (moment_of scene store.old) }
-        requires rests { AtRest (setting_in self.now state) (moment_of scene store.old) }
+        requires none { definitions_of self.now.setting.defs ≡ [] }
+        requires kept { IsWellKept scene }
+        requires sound { (kinds : List Bool)
+            × IsSound (setting_of self.now.setting) kinds (moment_of scene store.old) }
+        requires rests { AtRest (setting_of self.now.setting) (moment_of scene store.old) }
         ensures made { IfOk result (λ made.
-            RestTurns (setting_in self.now state) self.now.globals reductions
+            RestTurns (setting_of self.now.setting) self.now.globals reductions
             (moment_of scene store.old) picture.old picture.new (stands_at made.stand store.new)
             store.new made.turn) }
+        ensures kept { IfOk result (λ made. StandIsKept made.stand) }
         ensures err { OnErr result (picture.new ≡ picture.old) }
     {
-        match settled(&scene) {
-            Settled::Ends => self.finish(state, &scene, store, reductions, picture),
-            Settled::Goes => self.go_on(state, scene, store, reductions, picture),
+        let state = self.setting.state;
+        match settled(self.setting.alloc, &scene)? {
+            Settled::Ends => self.finish(&scene, store, reductions, picture),
+            Settled::Goes => self.go_on(scene, store, reductions, picture),
             Settled::Waiting(item) => {
-                let cell = self.waits_for(state, &mut scene, store, item, steps)?;
+                let cell = self.waits_for(&mut scene, store, item, steps)?;
                 stop(Turn::Undetermined { state, cell })
             }
-            Settled::EndOpen => {
-                let region = scene.root.id;
-                stop(Turn::Undetermined {
-                    state,
-                    cell: Cell::End { region, depth: 0 },
-                })
-            }
+            // The root is region 0.
+            Settled::EndOpen => stop(Turn::Undetermined {
+                state,
+                cell: Cell::End {
+                    region: 0,
+                    depth: 0,
+                },
+            }),
         }
     }
 
-    // The state of that number, which begins with this scene and store.
+    // The next state, which begins with this scene and store.
     fn make<L: Ledger>(
         &self,
-        state: u64,
         mut scene: Scene,
         store: &mut Store,
         picture: &mut Picture,
         steps: &mut Steps<L>,
     ) -> Result<Made, NoMemory>
-        requires within { state ≤ self.now.limits.states }
-        requires ready { (plan : Plan) × IsSettingsOf plan self.now
-            × IsReady (setting_in self.now state) (kinds_of plan.names)
+        requires within { self.now.setting.state ≤ self.now.limits.states }
+        requires kept { IsWellKept scene }
+        requires sound { (plan : Plan) × IsSettingsOf plan self.now
+            × IsSound (setting_of self.now.setting) (kinds_of plan.names)
             (moment_of scene store.old) }
         ensures made { IfOk result (λ made.
             (plan : Plan) → IsSettingsOf plan self.now
-            → StateBecomes plan state (moment_of scene store.old) picture.old picture.new
-            (stands_at made.stand store.new) made.turn) }
+            → StateBecomes plan self.now.setting.state (moment_of scene store.old) picture.old
+            picture.new (stands_at made.stand store.new) made.turn) }
         ensures store { IfOk result (λ made.
             (plan : Plan) → IsSettingsOf plan self.now
-            → StoreBecomes plan state (moment_of scene store.old) picture.new store.new made.turn) }
+            → StoreBecomes plan self.now.setting.state (moment_of scene store.old) picture.new
+            store.new made.turn) }
+        ensures kept { IfOk result (λ made. StandIsKept made.stand) }
         ensures err { OnErr result (picture.new ≡ picture.old) }
     {
+        let state = self.setting.state;
         if state == self.limits.states {
             return stop(Turn::StateLimit { states: state });
         }
-        let mut tally = no_tally(self.alloc);
-        let ending = close_by_passes(
-            self.alloc,
-            &mut scene,
-            store,
-            &self.defs,
-            &self.inputs,
-            state,
-            self.limits.reductions,
-            self.order,
-            &mut tally,
-            steps,
-        )?;
+        let mut tally = no_tally(self.setting.alloc);
+        let most = self.limits.reductions;
+        let ending = close_by_passes(&mut scene, store, &self.setting, most, &mut tally, steps)?;
         match ending {
             Ending::Rest => {
                 let reductions = tally.picks.items.len() as u64;
-                let made = self.make_at_rest(state, scene, store, reductions, picture, steps)?;
+                let made = self.make_at_rest(scene, store, reductions, picture, steps)?;
                 Ok(made)
             }
             Ending::Clash(clash) => {
@@ -297,7 +284,7 @@ impl Run {
         limits: Limits,
         order: Order,
     ) -> Result<Run, NoMemory>
-        requires built { IsBuilt globals.now (formula_tree main.value) }
+        requires fits { FormulaFits [] (kinds_of globals.now) (formula_tree main.value) 0 }
         requires order { order ≡ First }
         ensures stand { IfOk result (λ run.
             standing_of run ≡ open_at (first_moment globals.now (formula_tree main.value))) }
@@ -320,14 +307,16 @@ impl Run {
         };
         Ok(Run {
             settings: Settings {
-                alloc,
                 globals: globals.len(),
-                defs,
-                inputs,
                 limits,
                 order,
+                setting: Setting {
+                    alloc,
+                    defs,
+                    inputs,
+                    state: 0,
+                },
             },
-            state: 0,
             store,
             stand: Stand::Open(scene),
         })
@@ -338,7 +327,7 @@ impl Run {
         ensures { option_map (λ s. scene_of s.now) result
             ≡ carried_scene (next_state_of self.now) (standing_of self.now) }
     {
-        if self.state == 0 {
+        if self.settings.setting.state == 0 {
             return None;
         }
         match &self.stand {
@@ -358,20 +347,22 @@ impl Run {
 
     // The number of the state that comes after this answer.
     fn next_number(&self, turn: &Turn) -> u64
-        requires { turn.now ≡ Turn.Went → self.now.state < self.now.settings.limits.states }
-        ensures { result ≡ state_after self.now.state turn.now }
+        requires { turn.now ≡ Turn.Went
+            → self.now.settings.setting.state < self.now.settings.limits.states }
+        ensures { result ≡ state_after self.now.settings.setting.state turn.now }
     {
-        // What is read is in range, and so is a number below it.
-        let _most = self.settings.limits.states;
+        let state = self.settings.setting.state;
+        let most = self.settings.limits.states;
         match turn {
-            Turn::Went => self.state + 1,
-            _ => self.state,
+            Turn::Went => most.min(state + 1),
+            Turn::Finished { .. } | Turn::Contradictory { .. } | Turn::Undetermined { .. } => state,
+            Turn::StateLimit { .. } | Turn::InputMissing { .. } | Turn::Over { .. } => state,
         }
     }
 
     /// Makes the next state, or gives the last answer again. On `Went` and `Finished` the picture is that of the state; else it
-    /// stays. The store keeps what the state's reductions brought, and on `Went` goes on to the next state; its variables stay. After
-    /// want of memory the run answers nothing else. Each item that is tried adds one to the steps.
+    /// stays. The store keeps what the state's reductions brought, and on `Went` goes on to the next state; its variables stay, and more may
+    /// follow them. After want of memory the run answers nothing else. Each item that is tried adds one to the steps.
     pub fn state<L: Ledger>(
         &mut self,
         picture: &mut Picture,
@@ -392,15 +383,13 @@ impl Run {
             → LeavesStore plan (standing_of self.old) (next_state_of self.old) picture.new
             (store_of self.old) (store_of self.new) turn) }
         ensures variables { OnOk result
-            ((store_of self.new).variables ≡ (store_of self.old).variables) }
+            (HasFirst (store_of self.old).variables (store_of self.new).variables) }
         ensures err { OnErr result ((standing_of self.new ≡ spent) × (picture.new ≡ picture.old)) }
     {
         match mem::replace(&mut self.stand, Stand::Spent) {
             Stand::Open(scene) => {
-                let made = self
-                    .settings
-                    .make(self.state, scene, &mut self.store, picture, steps)?;
-                self.state = self.next_number(&made.turn);
+                let made = self.settings.make(scene, &mut self.store, picture, steps)?;
+                self.settings.setting.state = self.next_number(&made.turn);
                 self.stand = made.stand;
                 Ok(made.turn)
             }

@@ -10,8 +10,8 @@ use Rattle.tp_scene.specs.StandsFor.{first_moment}
 use Rattle.tp_step.specs.Answers.{moment_of}
 use Rattle.tp_run.specs.States.{Plan, plan_with, open_at}
 use Rattle.tp_run.specs.Meaning.{StandsForItsProgram}
-use Rattle.tp_run.specs.Runs.{StandsReady}
-use Rattle.tp_run.proofs.Given.{first_ready}
+use Rattle.tp_run.specs.Runs.{StandsSound}
+use Rattle.tp_run.proofs.Given.{first_sound}
 use Rattle.tp_run.proofs.Becomes.{begins}
 use Rattle.tp_run.proofs.run.Run.start.Goals as goal
 
@@ -32,7 +32,8 @@ returns-clause-plan c =
         order = c.requires.order;
       };
       within = omega arith;
-      ready = subst (λ (m : Moment). StandsReady plan 0 (open_at m)) (sym first) (first_ready plan c.requires.built);
+      sound = subst (λ (m : Moment). StandsSound plan 0 (open_at m)) (sym first) (first_sound plan c.requires.fits);
+      kept = c.in_ok-scene.ensures.kept;
     }
 
 pub returns-clause-stands : goal.returns-clause-stands
@@ -42,4 +43,4 @@ returns-clause-stands c =
     let plan : Plan = plan_with names main (lines_of c.args.inputs) c.args.limits.states c.args.limits.reductions in
     let make : Scene → Contents → Moment = λ s k. record { scene = s; store = k } in
     let first : moment_of c.in_ok-scene.scene c.in_ok-store.store ≡ first_moment names main = ap₂ make c.in_ok-scene.ensures.scene c.in_ok-store.ensures in
-    subst (λ (m : Moment). StandsForItsProgram plan (open_at m)) (sym first) (begins plan c.requires.built)
+    subst (λ (m : Moment). StandsForItsProgram plan (open_at m)) (sym first) (begins plan c.requires.fits)

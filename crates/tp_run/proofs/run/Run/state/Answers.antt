@@ -18,12 +18,12 @@ returns-in_ok-made-in-Open-clause-run g c = λ plan h.
     let run = c.args.self.now in
     let made = c.in_ok-made-in-Open.made in
     run_kept plan run h (moment_of c.in-Open.scene run.store) (ap (λ (s : Stand). stands_at s run.store) c.in-Open.ensures.value) c.args.picture.now c.make.new.picture c.make.new.store made.stand made.turn
-    (c.in_ok-made-in-Open.ensures.made plan h.settings) c.next_number-self.result c.next_number-self.ensures
+    (c.in_ok-made-in-Open.ensures.made plan h.settings) c.next_number-self.result c.next_number-self.ensures c.in_ok-made-in-Open.ensures.kept
 
 pub returns-in_ok-made-in-Open-clause-store : goal.returns-in_ok-made-in-Open-clause-store
 returns-in_ok-made-in-Open-clause-store g c = λ plan h.
     let run = c.args.self.now in
-    leaves_store plan run h (moment_of c.in-Open.scene run.store) (ap (λ (s : Stand). stands_at s run.store) c.in-Open.ensures.value) refl c.make.new.picture c.make.new.store c.in_ok-made-in-Open.made.turn
+    leaves_store plan run (moment_of c.in-Open.scene run.store) (ap (λ (s : Stand). stands_at s run.store) c.in-Open.ensures.value) refl c.make.new.picture c.make.new.store c.in_ok-made-in-Open.made.turn
     (c.in_ok-made-in-Open.ensures.store plan h.settings)
 
 pub returns-in_ok-made-in-Open-clause-variables : goal.returns-in_ok-made-in-Open-clause-variables
@@ -31,5 +31,5 @@ returns-in_ok-made-in-Open-clause-variables g c =
     let run = c.args.self.now in
     let plan = c.requires.run.0 in
     let h = c.requires.run.1 in
-    leaves_variables plan run h (moment_of c.in-Open.scene run.store) (ap (λ (s : Stand). stands_at s run.store) c.in-Open.ensures.value) refl c.make.new.picture c.make.new.store c.in_ok-made-in-Open.made.turn
+    leaves_variables plan run (moment_of c.in-Open.scene run.store) (ap (λ (s : Stand). stands_at s run.store) c.in-Open.ensures.value) refl c.make.new.picture c.make.new.store c.in_ok-made-in-Open.made.turn
     (c.in_ok-made-in-Open.ensures.store plan h.settings)
