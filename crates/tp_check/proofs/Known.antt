@@ -1,5 +1,5 @@
 -- A phrase needs no names but its own.
-use Rattle.std.proofs.Common.{refl, ap, ap₂, sym, subst, ◌∙◌, ◌≡◌, ℕ, ◌+◌, ◌&&◌, Bool, true, false, cond, if◌then◌else◌, List, [], ◌∷◌, ◌++◌, length, Option, None, Some, Err}
+use Rattle.std.proofs.Common.{refl, ap, ap₂, sym, subst, ◌∙◌, ◌≡◌, pos, ℕ, ◌+◌, ◌&&◌, Bool, true, false, cond, if◌then◌else◌, List, [], ◌∷◌, ◌++◌, length, Option, None, Some, Err}
 use Rattle.std.specs.List.{position_from}
 use Rattle.std.specs.Option.{option_map}
 use Rattle.std.specs.Str.{bytes_eq}
@@ -12,13 +12,14 @@ use Rattle.tp_tree.specs.declared.operator.Op.TheVariants as op
 use Rattle.tp_tree.specs.declared.operator.Form.TheVariants as f
 use Rattle.tp_tree.specs.Tree as k
 use Rattle.tp_tree.specs.Tree.{PhraseTree, phrase, PhraseTrees, no_phrase, phrase_then}
-use Rattle.tp_meaning.specs.Syntax.{test, always, next, branch, trivial, len, assign, conjunction, formulas_of, listing, exprs_of, size, index, minus, negation, choice}
+use Rattle.tp_meaning.specs.Syntax.{FormulaTree, test, always, next, branch, trivial, len, assign, while, for_from, forall_from, conjunction, formulas_of, listing, exprs_of, size, index, minus, negation, choice}
 use Rattle.tp_meaning.specs.Syntax as m
-use Rattle.tp_meaning.specs.Derived.{halt_of, keep_of, fin_of, gets_of, stable_of, becomes_of, list_of_length}
-use Rattle.tp_check.specs.Names.{Names, names_with, names_in, names_in_kind, names_in_all}
+use Rattle.tp_meaning.specs.Derived.{halt_of, keep_of, fin_of, gets_of, stable_of, becomes_of, list_of_length, repeat_of}
+use Rattle.tp_check.specs.Scope.{Names, VisibleNames, unscoped, with_binder, binder_of, bound_or_global}
+use Rattle.tp_check.specs.Names.{names_with, unless_bound, names_in, names_in_kind, names_in_all}
 use Rattle.tp_check.specs.Outcome.{mapped, both, three, not_run}
 use Rattle.tp_check.specs.Phrases.{is_state_phrase, is_place_phrase, is_place_kind, nexts_of, behind_nexts, behind_nexts_of, at_of}
-use Rattle.tp_check.specs.Positions.{named_variable, operation_of, operation_at, expr_of, expr_of_kind, exprs_in, place_phrase, place_refusal, equation_of, place_is, state_in, negation_in, binary_in, formula_of, formula_of_kind, formulas_in}
+use Rattle.tp_check.specs.Positions.{named_expr, operation_of, operation_at, expr_of, expr_of_kind, exprs_in, place_phrase, place_refusal, equation_of, place_is, state_in, negation_in, binary_in, composition_of, composed_or, formula_of, formula_of_kind, formulas_in}
 
 -- ---- names that have their variable
 
@@ -78,82 +79,92 @@ back names (x ∷ xs) ys known = back names xs ys known.1
 
 -- ---- with more names each phrase becomes the same
 
+abbrev with_more : VisibleNames → Names → VisibleNames
+with_more names more = record { globals = names.globals ++ more; scope = names.scope }
+
+name_same : (names : VisibleNames) (more : Names) (at : ℕ) (x : List ℕ) (i : Option ℕ) → AreKnown names.globals (unless_bound i x)
+    → named_expr at (bound_or_global i (variable_of (names.globals ++ more) x)) ≡ named_expr at (bound_or_global i (variable_of names.globals x))
+name_same names more at x (Some i) known = refl
+name_same names more at x None known = ap (λ v. named_expr at (bound_or_global None v)) (variable_on names.globals more x known.0.0 known.0.1 ∙ sym known.0.1)
+
 mutual
-  expr_same : (names more : Names) (p : PhraseTree) → AreKnown names (names_in p) → expr_of (names ++ more) p ≡ expr_of names p
+  expr_same : (names : VisibleNames) (more : Names) (p : PhraseTree) → AreKnown names.globals (names_in names.scope p) → expr_of (with_more names more) p ≡ expr_of names p
   expr_same names more (phrase at kind) known = expr_kind_same names more at kind known
 
-  expr_kind_same : (names more : Names) (at : ℕ) (kind : k.KindTree) → AreKnown names (names_in_kind kind) → expr_of_kind (names ++ more) at kind ≡ expr_of_kind names at kind
-  expr_kind_same names more at (k.name x) known = ap (named_variable at) (variable_on names more x known.0.0 known.0.1 ∙ sym known.0.1)
+  expr_kind_same : (names : VisibleNames) (more : Names) (at : ℕ) (kind : k.KindTree) → AreKnown names.globals (names_in_kind names.scope kind) → expr_of_kind (with_more names more) at kind ≡ expr_of_kind names at kind
+  expr_kind_same names more at (k.name x) known = name_same names more at x (binder_of names.scope x) known
   expr_kind_same names more at (k.list ps) known = ap (mapped (λ es. listing (exprs_of es))) (exprs_same names more ps known)
   expr_kind_same names more at (k.size p) known = ap (mapped size) (expr_same names more p known)
-  expr_kind_same names more at (k.index p i) known = ap₂ (both index) (expr_same names more p (front names (names_in p) (names_in i) known)) (expr_same names more i (back names (names_in p) (names_in i) known))
+  expr_kind_same names more at (k.index p i) known = ap₂ (both index) (expr_same names more p (front names.globals (names_in names.scope p) (names_in names.scope i) known)) (expr_same names more i (back names.globals (names_in names.scope p) (names_in names.scope i) known))
   expr_kind_same names more at (k.minus p) known = ap (mapped minus) (expr_same names more p known)
   expr_kind_same names more at (k.negation p) known = ap (mapped negation) (expr_same names more p known)
   expr_kind_same names more at (k.binary o l r) known =
-      ap₂ (operation_at at (operation_of o)) (expr_same names more l (front names (names_in l) (names_in r) known)) (expr_same names more r (back names (names_in l) (names_in r) known))
+      ap₂ (operation_at at (operation_of o)) (expr_same names more l (front names.globals (names_in names.scope l) (names_in names.scope r) known)) (expr_same names more r (back names.globals (names_in names.scope l) (names_in names.scope r) known))
   expr_kind_same names more at (k.conjunction ps) known = ap (mapped (λ es. m.both (exprs_of es))) (exprs_same names more ps known)
   expr_kind_same names more at (k.choice_else b p q) known =
-      let two = front names (names_in b ++ names_in p) (names_in q) known in
-      ap₂ (λ x y. three choice x y (expr_of (names ++ more) q)) (expr_same names more b (front names (names_in b) (names_in p) two)) (expr_same names more p (back names (names_in b) (names_in p) two))
-      ∙ ap (three choice (expr_of names b) (expr_of names p)) (expr_same names more q (back names (names_in b ++ names_in p) (names_in q) known))
+      let two = front names.globals (names_in names.scope b ++ names_in names.scope p) (names_in names.scope q) known in
+      ap₂ (λ x y. three choice x y (expr_of (with_more names more) q)) (expr_same names more b (front names.globals (names_in names.scope b) (names_in names.scope p) two)) (expr_same names more p (back names.globals (names_in names.scope b) (names_in names.scope p) two))
+      ∙ ap (three choice (expr_of names b) (expr_of names p)) (expr_same names more q (back names.globals (names_in names.scope b ++ names_in names.scope p) (names_in names.scope q) known))
   expr_kind_same names more at kind known = refl
 
-  exprs_same : (names more : Names) (ps : PhraseTrees) → AreKnown names (names_in_all ps) → exprs_in (names ++ more) ps ≡ exprs_in names ps
+  exprs_same : (names : VisibleNames) (more : Names) (ps : PhraseTrees) → AreKnown names.globals (names_in_all names.scope ps) → exprs_in (with_more names more) ps ≡ exprs_in names ps
   exprs_same names more no_phrase known = refl
   exprs_same names more (phrase_then p ps) known =
-      ap₂ (both (λ e es. e ∷ es)) (expr_same names more p (front names (names_in p) (names_in_all ps) known)) (exprs_same names more ps (back names (names_in p) (names_in_all ps) known))
+      ap₂ (both (λ e es. e ∷ es)) (expr_same names more p (front names.globals (names_in names.scope p) (names_in_all names.scope ps) known)) (exprs_same names more ps (back names.globals (names_in names.scope p) (names_in_all names.scope ps) known))
 
-place_same : (names more : Names) (p : PhraseTree) → AreKnown names (names_in p) → place_phrase (names ++ more) p ≡ place_phrase names p
+place_same : (names : VisibleNames) (more : Names) (p : PhraseTree) → AreKnown names.globals (names_in names.scope p) → place_phrase (with_more names more) p ≡ place_phrase names p
 place_same names more (phrase at kind) known = ap (λ o. if is_place_kind kind then o else Err (place_refusal at kind)) (expr_kind_same names more at kind known)
 
 mutual
-  names_behind : (p : PhraseTree) → names_in (behind_nexts p) ≡ names_in p
-  names_behind (phrase at kind) = names_behind_kind at kind
+  names_behind : (scope : Names) (p : PhraseTree) → names_in scope (behind_nexts p) ≡ names_in scope p
+  names_behind scope (phrase at kind) = names_behind_kind scope at kind
 
-  names_behind_kind : (at : ℕ) (kind : k.KindTree) → names_in (behind_nexts_of at kind) ≡ names_in_kind kind
-  names_behind_kind at (k.next p) = names_behind p
-  names_behind_kind at kind = refl
+  names_behind_kind : (scope : Names) (at : ℕ) (kind : k.KindTree) → names_in scope (behind_nexts_of at kind) ≡ names_in_kind scope kind
+  names_behind_kind scope at (k.next p) = names_behind scope p
+  names_behind_kind scope at kind = refl
 
-side_same : (names more : Names) (p : PhraseTree) → AreKnown names (names_in p) → expr_of (names ++ more) (behind_nexts p) ≡ expr_of names (behind_nexts p)
-side_same names more p known = expr_same names more (behind_nexts p) (subst (λ (xs : Names). AreKnown names xs) (sym (names_behind p)) known)
+side_same : (names : VisibleNames) (more : Names) (p : PhraseTree) → AreKnown names.globals (names_in names.scope p) → expr_of (with_more names more) (behind_nexts p) ≡ expr_of names (behind_nexts p)
+side_same names more p known = expr_same names more (behind_nexts p) (subst (λ (xs : Names). AreKnown names.globals xs) (sym (names_behind names.scope p)) known)
 
-state_same : (names more : Names) (at : ℕ) (kind : k.KindTree) → AreKnown names (names_in_kind kind) → state_in (names ++ more) at kind ≡ state_in names at kind
+state_same : (names : VisibleNames) (more : Names) (at : ℕ) (kind : k.KindTree) → AreKnown names.globals (names_in_kind names.scope kind) → state_in (with_more names more) at kind ≡ state_in names at kind
 state_same names more at kind known = ap (λ o. if is_place_kind kind then mapped (place_is true) o else mapped test o) (expr_kind_same names more at kind known)
 
-negation_same : (names more : Names) (at : ℕ) (p : PhraseTree) → AreKnown names (names_in p) → negation_in (names ++ more) at p ≡ negation_in names at p
+negation_same : (names : VisibleNames) (more : Names) (at : ℕ) (p : PhraseTree) → AreKnown names.globals (names_in names.scope p) → negation_in (with_more names more) at p ≡ negation_in names at p
 negation_same names more at p known =
     ap₂ (λ x y. if is_place_phrase p then mapped (place_is false) x else if is_state_phrase p then y else not_run at) (expr_same names more p known) (state_same names more at (k.negation p) known)
 
-binary_same : (names more : Names) (at : ℕ) (o : Op) (l r : PhraseTree) → AreKnown names (names_in l) → AreKnown names (names_in r) → AreKnown names (names_in l ++ names_in r)
-    → binary_in (names ++ more) at o l r ≡ binary_in names at o l r
+binary_same : (names : VisibleNames) (more : Names) (at : ℕ) (o : Op) (l r : PhraseTree) → AreKnown names.globals (names_in names.scope l) → AreKnown names.globals (names_in names.scope r) → AreKnown names.globals (names_in names.scope l ++ names_in names.scope r)
+    → binary_in (with_more names more) at o l r ≡ binary_in names at o l r
 binary_same names more at op.Equal l r a b known = ap₂ (equation_of (nexts_of l) (nexts_of r) (at_of r)) (side_same names more l a) (side_same names more r b)
 binary_same names more at op.Gets l r a b known = ap₂ (both gets_of) (place_same names more l a) (expr_same names more r b)
 binary_same names more at op.Arrow l r a b known = ap₂ (both assign) (place_same names more l a) (expr_same names more r b)
 binary_same names more at op.Becomes l r a b known = ap₂ (both becomes_of) (place_same names more l a) (expr_same names more r b)
 binary_same names more at op.Or l r a b known = ap (λ o. if is_state_phrase l && is_state_phrase r then o else not_run at) (state_same names more at (k.binary op.Or l r) known)
-binary_same names more at op.Chop l r a b known = refl
-binary_same names more at op.Proj l r a b known = refl
 binary_same names more at o l r a b known = state_same names more at (k.binary o l r) known
 
 mutual
-  formula_same : (names more : Names) (p : PhraseTree) → AreKnown names (names_in p) → formula_of (names ++ more) p ≡ formula_of names p
+  formula_same : (names : VisibleNames) (more : Names) (p : PhraseTree) → AreKnown names.globals (names_in names.scope p) → formula_of (with_more names more) p ≡ formula_of names p
   formula_same names more (phrase at kind) known = formula_kind_same names more at kind known
 
-  formula_kind_same : (names more : Names) (at : ℕ) (kind : k.KindTree) → AreKnown names (names_in_kind kind) → formula_of_kind (names ++ more) at kind ≡ formula_of_kind names at kind
+  formula_kind_same : (names : VisibleNames) (more : Names) (at : ℕ) (kind : k.KindTree) → AreKnown names.globals (names_in_kind names.scope kind) → formula_of_kind (with_more names more) at kind ≡ formula_of_kind names at kind
   formula_kind_same names more at (k.conjunction ps) known = ap (mapped (λ ws. conjunction (formulas_of ws))) (formulas_same names more ps known)
   formula_kind_same names more at (k.truth true) known = refl
   formula_kind_same names more at (k.negation p) known = negation_same names more at p known
-  formula_kind_same names more at (k.binary o l r) known = binary_same names more at o l r (front names (names_in l) (names_in r) known) (back names (names_in l) (names_in r) known) known
+  formula_kind_same names more at (k.binary o l r) known =
+      let first = front names.globals (names_in names.scope l) (names_in names.scope r) known in
+      let second = back names.globals (names_in names.scope l) (names_in names.scope r) known in
+      ap₂ (λ w v. composed_or (composition_of o) w v (binary_in (with_more names more) at o l r)) (formula_same names more l first) (formula_same names more r second)
+      ∙ ap (composed_or (composition_of o) (formula_of names l) (formula_of names r)) (binary_same names more at o l r first second known)
   formula_kind_same names more at (k.bare word) known = refl
   formula_kind_same names more at (k.next w) known = ap (mapped next) (formula_same names more w known)
-  formula_kind_same names more at (k.form f.Always (phrase_then w no_phrase)) known = ap (mapped always) (formula_same names more w (front names (names_in w) [] known))
-  formula_kind_same names more at (k.form f.Keep (phrase_then w no_phrase)) known = ap (mapped keep_of) (formula_same names more w (front names (names_in w) [] known))
-  formula_kind_same names more at (k.form f.Fin (phrase_then w no_phrase)) known = ap (mapped fin_of) (formula_same names more w (front names (names_in w) [] known))
-  formula_kind_same names more at (k.form f.Halt (phrase_then b no_phrase)) known = ap (mapped halt_of) (expr_same names more b (front names (names_in b) [] known))
-  formula_kind_same names more at (k.form f.Stable (phrase_then p no_phrase)) known = ap (mapped stable_of) (place_same names more p (front names (names_in p) [] known))
-  formula_kind_same names more at (k.form f.Len (phrase_then e no_phrase)) known = ap (mapped len) (expr_same names more e (front names (names_in e) [] known))
+  formula_kind_same names more at (k.form f.Always (phrase_then w no_phrase)) known = ap (mapped always) (formula_same names more w (front names.globals (names_in names.scope w) [] known))
+  formula_kind_same names more at (k.form f.Keep (phrase_then w no_phrase)) known = ap (mapped keep_of) (formula_same names more w (front names.globals (names_in names.scope w) [] known))
+  formula_kind_same names more at (k.form f.Fin (phrase_then w no_phrase)) known = ap (mapped fin_of) (formula_same names more w (front names.globals (names_in names.scope w) [] known))
+  formula_kind_same names more at (k.form f.Halt (phrase_then b no_phrase)) known = ap (mapped halt_of) (expr_same names more b (front names.globals (names_in names.scope b) [] known))
+  formula_kind_same names more at (k.form f.Stable (phrase_then p no_phrase)) known = ap (mapped stable_of) (place_same names more p (front names.globals (names_in names.scope p) [] known))
+  formula_kind_same names more at (k.form f.Len (phrase_then e no_phrase)) known = ap (mapped len) (expr_same names more e (front names.globals (names_in names.scope e) [] known))
   formula_kind_same names more at (k.form f.List (phrase_then l (phrase_then e no_phrase))) known =
-      ap₂ (both list_of_length) (place_same names more l (front names (names_in l) (names_in e ++ []) known)) (expr_same names more e (front names (names_in e) [] (back names (names_in l) (names_in e ++ []) known)))
+      ap₂ (both list_of_length) (place_same names more l (front names.globals (names_in names.scope l) (names_in names.scope e ++ []) known)) (expr_same names more e (front names.globals (names_in names.scope e) [] (back names.globals (names_in names.scope l) (names_in names.scope e ++ []) known)))
   formula_kind_same names more at (k.form f.Sometimes ps) known = refl
   formula_kind_same names more at (k.form f.Input ps) known = refl
   formula_kind_same names more at (k.form f.Display ps) known = refl
@@ -165,23 +176,29 @@ mutual
   formula_kind_same names more at (k.form f.Len ps) known = refl
   formula_kind_same names more at (k.form f.List ps) known = refl
   formula_kind_same names more at (k.choice b w) known =
-      ap₂ (both (λ c x. branch c x trivial)) (expr_same names more b (front names (names_in b) (names_in w) known)) (formula_same names more w (back names (names_in b) (names_in w) known))
+      ap₂ (both (λ c x. branch c x trivial)) (expr_same names more b (front names.globals (names_in names.scope b) (names_in names.scope w) known)) (formula_same names more w (back names.globals (names_in names.scope b) (names_in names.scope w) known))
   formula_kind_same names more at (k.choice_else b w v) known =
-      let two = front names (names_in b ++ names_in w) (names_in v) known in
-      ap₂ (λ x y. three branch x y (formula_of (names ++ more) v)) (expr_same names more b (front names (names_in b) (names_in w) two)) (formula_same names more w (back names (names_in b) (names_in w) two))
-      ∙ ap (three branch (expr_of names b) (formula_of names w)) (formula_same names more v (back names (names_in b ++ names_in w) (names_in v) known))
-  formula_kind_same names more at (k.while b w) known = refl
-  formula_kind_same names more at (k.repeat w b) known = refl
-  formula_kind_same names more at (k.for x e w) known = refl
-  formula_kind_same names more at (k.forall x e w) known = refl
+      let two = front names.globals (names_in names.scope b ++ names_in names.scope w) (names_in names.scope v) known in
+      ap₂ (λ x y. three branch x y (formula_of (with_more names more) v)) (expr_same names more b (front names.globals (names_in names.scope b) (names_in names.scope w) two)) (formula_same names more w (back names.globals (names_in names.scope b) (names_in names.scope w) two))
+      ∙ ap (three branch (expr_of names b) (formula_of names w)) (formula_same names more v (back names.globals (names_in names.scope b ++ names_in names.scope w) (names_in names.scope v) known))
+  formula_kind_same names more at (k.while b w) known =
+      ap₂ (both while) (expr_same names more b (front names.globals (names_in names.scope b) (names_in names.scope w) known)) (formula_same names more w (back names.globals (names_in names.scope b) (names_in names.scope w) known))
+  formula_kind_same names more at (k.repeat w b) known =
+      ap₂ (both repeat_of) (formula_same names more w (front names.globals (names_in names.scope w) (names_in names.scope b) known)) (expr_same names more b (back names.globals (names_in names.scope w) (names_in names.scope b) known))
+  formula_kind_same names more at (k.for x e w) known =
+      ap₂ (both (for_from x (pos 0))) (expr_same names more e (front names.globals (names_in names.scope e) (names_in (x ∷ names.scope) w) known))
+      (formula_same (with_binder x names) more w (back names.globals (names_in names.scope e) (names_in (x ∷ names.scope) w) known))
+  formula_kind_same names more at (k.forall x e w) known =
+      ap₂ (both (forall_from x (pos 0))) (expr_same names more e (front names.globals (names_in names.scope e) (names_in (x ∷ names.scope) w) known))
+      (formula_same (with_binder x names) more w (back names.globals (names_in names.scope e) (names_in (x ∷ names.scope) w) known))
   formula_kind_same names more at (k.exists xs w) known = refl
   formula_kind_same names more at (k.call x ps) known = refl
   formula_kind_same names more at kind known = state_same names more at kind known
 
-  formulas_same : (names more : Names) (ps : PhraseTrees) → AreKnown names (names_in_all ps) → formulas_in (names ++ more) ps ≡ formulas_in names ps
+  formulas_same : (names : VisibleNames) (more : Names) (ps : PhraseTrees) → AreKnown names.globals (names_in_all names.scope ps) → formulas_in (with_more names more) ps ≡ formulas_in names ps
   formulas_same names more no_phrase known = refl
   formulas_same names more (phrase_then p ps) known =
-      ap₂ (both (λ w ws. w ∷ ws)) (formula_same names more p (front names (names_in p) (names_in_all ps) known)) (formulas_same names more ps (back names (names_in p) (names_in_all ps) known))
+      ap₂ (both (λ w ws. w ∷ ws)) (formula_same names more p (front names.globals (names_in names.scope p) (names_in_all names.scope ps) known)) (formulas_same names more ps (back names.globals (names_in names.scope p) (names_in_all names.scope ps) known))
 
-pub own_names_suffice : (names more : Names) (main : PhraseTree) → formula_of (names_with names (names_in main) ++ more) main ≡ formula_of (names_with names (names_in main)) main
-own_names_suffice names more main = formula_same (names_with names (names_in main)) more main (all_known names (names_in main))
+pub own_names_suffice : (names more : Names) (main : PhraseTree) → formula_of (unscoped (names_with names (names_in [] main) ++ more)) main ≡ formula_of (unscoped (names_with names (names_in [] main))) main
+own_names_suffice names more main = formula_same (unscoped (names_with names (names_in [] main))) more main (all_known names (names_in [] main))

@@ -5,7 +5,8 @@ use Rattle.std.proofs.lemmas.List.Sums.{fold-append}
 use Rattle.tp_value.specs.Globals.{with_name}
 use Rattle.tp_tree.specs.Tree.{PhraseTree, phrases_of}
 use Rattle.tp_check.specs.declared.refusal.CheckRefusal.{CheckRefusal}
-use Rattle.tp_check.specs.Names.{Names, names_with}
+use Rattle.tp_check.specs.Scope.{Names}
+use Rattle.tp_check.specs.Names.{names_with}
 use Rattle.tp_check.specs.Outcome.{CheckOutcome, both, mapped}
 use Rattle.tp_check.specs.Phrases.{phrase_count}
 

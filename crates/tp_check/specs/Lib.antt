@@ -1,3 +1,4 @@
+pub mod Scope
 pub mod Names
 pub mod Outcome
 pub mod Phrases

@@ -1,35 +1,47 @@
 -- The names of a program's variables.
-use Rattle.std.specs.Prelude.{ℕ, List, [], ◌∷◌, ◌++◌, fold}
+use Rattle.std.specs.Prelude.{ℕ, List, [], ◌∷◌, ◌++◌, fold, Option, Some, None}
 use Rattle.tp_value.specs.Globals.{with_name}
-use Rattle.tp_tree.specs.Tree.{PhraseTree, phrase, KindTree, name, list, size, index, minus, next, negation, binary, conjunction, choice, choice_else, form, PhraseTrees, no_phrase, phrase_then}
-
-abbrev pub Names : Type 0
-Names = List (List ℕ)
+use Rattle.tp_tree.specs.Tree.{PhraseTree, phrase, KindTree, number, truth, name, list, size, index, minus, next, negation, binary, conjunction, choice, choice_else, while, repeat, for, forall, exists, bare, form, call, PhraseTrees, no_phrase, phrase_then}
+use Rattle.tp_check.specs.Scope.{Names, binder_of}
 
 -- the names, and behind them those of the others that are not yet there, each once and in the order of their first occurrences
 abbrev pub names_with : Names → Names → Names
 names_with names others = fold with_name names others
 
--- The names in a phrase in the order of the text. Phrases of other kinds aren't run, so their names play no part.
+-- a name that has a binder is no variable
+abbrev pub unless_bound : Option ℕ → List ℕ → Names
+unless_bound (Some i) x = []
+unless_bound None x = x ∷ []
+
+-- The names of variables in a phrase that stands in this scope, in the order of the text. Phrases of other kinds aren't run, so their
+-- names play no part.
 abbrev mutual
-  pub names_in : PhraseTree → Names
-  names_in (phrase at kind) = names_in_kind kind
+  pub names_in : (scope : Names) → PhraseTree → Names
+  names_in scope (phrase at kind) = names_in_kind scope kind
 
-  pub names_in_kind : KindTree → Names
-  names_in_kind (name x) = x ∷ []
-  names_in_kind (list ps) = names_in_all ps
-  names_in_kind (size p) = names_in p
-  names_in_kind (index p i) = names_in p ++ names_in i
-  names_in_kind (minus p) = names_in p
-  names_in_kind (next p) = names_in p
-  names_in_kind (negation p) = names_in p
-  names_in_kind (binary o l r) = names_in l ++ names_in r
-  names_in_kind (conjunction ps) = names_in_all ps
-  names_in_kind (choice b p) = names_in b ++ names_in p
-  names_in_kind (choice_else b p q) = (names_in b ++ names_in p) ++ names_in q
-  names_in_kind (form f ps) = names_in_all ps
-  names_in_kind kind = []
+  pub names_in_kind : (scope : Names) → KindTree → Names
+  names_in_kind scope (number n) = []
+  names_in_kind scope (truth b) = []
+  names_in_kind scope (name x) = unless_bound (binder_of scope x) x
+  names_in_kind scope (list ps) = names_in_all scope ps
+  names_in_kind scope (size p) = names_in scope p
+  names_in_kind scope (index p i) = names_in scope p ++ names_in scope i
+  names_in_kind scope (minus p) = names_in scope p
+  names_in_kind scope (next p) = names_in scope p
+  names_in_kind scope (negation p) = names_in scope p
+  names_in_kind scope (binary o l r) = names_in scope l ++ names_in scope r
+  names_in_kind scope (conjunction ps) = names_in_all scope ps
+  names_in_kind scope (choice b p) = names_in scope b ++ names_in scope p
+  names_in_kind scope (choice_else b p q) = (names_in scope b ++ names_in scope p) ++ names_in scope q
+  names_in_kind scope (while b p) = names_in scope b ++ names_in scope p
+  names_in_kind scope (repeat p b) = names_in scope p ++ names_in scope b
+  names_in_kind scope (for x e p) = names_in scope e ++ names_in (x ∷ scope) p
+  names_in_kind scope (forall x e p) = names_in scope e ++ names_in (x ∷ scope) p
+  names_in_kind scope (exists xs p) = []
+  names_in_kind scope (bare w) = []
+  names_in_kind scope (form f ps) = names_in_all scope ps
+  names_in_kind scope (call x ps) = []
 
-  pub names_in_all : PhraseTrees → Names
-  names_in_all no_phrase = []
-  names_in_all (phrase_then p ps) = names_in p ++ names_in_all ps
+  pub names_in_all : (scope : Names) → PhraseTrees → Names
+  names_in_all scope no_phrase = []
+  names_in_all scope (phrase_then p ps) = names_in scope p ++ names_in_all scope ps

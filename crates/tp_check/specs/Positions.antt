@@ -1,7 +1,5 @@
 -- From phrases to formulas and expressions, by the position in which a phrase stands.
-use Rattle.std.specs.Prelude.{ℕ, zero, suc, ◌&&◌, Bool, true, false, List, [], ◌∷◌, if◌then◌else◌, Option, Some, None, Ok, Err}
-use Rattle.tp_value.specs.declared.path.VarId.{VarId}
-use Rattle.tp_value.specs.Globals.{variable_of}
+use Rattle.std.specs.Prelude.{pos, ℕ, zero, suc, ◌&&◌, Bool, true, false, List, [], ◌∷◌, if◌then◌else◌, Option, Some, None, Ok, Err}
 use Rattle.tp_tree.specs.declared.operator.Op.{Op}
 use Rattle.tp_tree.specs.declared.operator.Op.TheVariants as op
 use Rattle.tp_tree.specs.declared.operator.Bare.{Bare}
@@ -10,21 +8,21 @@ use Rattle.tp_tree.specs.declared.operator.Form.{Form}
 use Rattle.tp_tree.specs.declared.operator.Form.TheVariants as f
 use Rattle.tp_tree.specs.Tree.{PhraseTree, phrase, KindTree, PhraseTrees, no_phrase, phrase_then}
 use Rattle.tp_tree.specs.Tree as k
-use Rattle.tp_meaning.specs.Syntax.{Equal, Differs, Less, LessEqual, Greater, GreaterEqual, Plus, Minus, Times, Div, Mod, ExprTree, numeral, boolean, global, listing, size, index, minus, negation, either, binary, choice, exprs_of, FormulaTree, trivial, test, equation, empty, more, next, always, conjunction, branch, len, assign, formulas_of}
+use Rattle.tp_meaning.specs.Syntax.{Equal, Differs, Less, LessEqual, Greater, GreaterEqual, Plus, Minus, Times, Div, Mod, ExprTree, numeral, boolean, listing, size, index, minus, negation, either, binary, choice, exprs_of, FormulaTree, trivial, test, equation, empty, more, next, always, conjunction, branch, len, assign, chop, while, for_from, forall_from, project, formulas_of}
 use Rattle.tp_meaning.specs.Syntax as m
-use Rattle.tp_meaning.specs.Derived.{skip_of, halt_of, keep_of, fin_of, gets_of, stable_of, becomes_of, list_of_length, next_equals_of}
+use Rattle.tp_meaning.specs.Derived.{skip_of, halt_of, keep_of, fin_of, gets_of, stable_of, becomes_of, list_of_length, next_equals_of, repeat_of}
 use Rattle.tp_check.specs.declared.refusal.CheckRefusal.{CheckRefusal}
 use Rattle.tp_check.specs.declared.refusal.CheckRefusal.TheVariants.{NotExecutable, NotExpression, NotPlace, WrongCount}
-use Rattle.tp_check.specs.Names.{Names}
+use Rattle.tp_check.specs.Scope.{VisibleNames, with_binder, referent_of}
 use Rattle.tp_check.specs.Outcome.{CheckOutcome, not_run, not_expression, mapped, both, three}
 use Rattle.tp_check.specs.Phrases.{is_state_phrase, is_place_phrase, is_place_kind, takes, phrase_count, nexts_of, behind_nexts, at_of}
 
 -- ---- expressions
 
--- no name of a program is missing among its names, so none is refused there
-abbrev pub named_variable : ℕ → Option VarId → CheckOutcome ExprTree
-named_variable at (Some x) = Ok (global x)
-named_variable at None = not_run at
+-- what a name at this place stands for; no name of a program is missing among its names, so none is refused there
+abbrev pub named_expr : ℕ → Option ExprTree → CheckOutcome ExprTree
+named_expr at (Some e) = Ok e
+named_expr at None = not_run at
 
 -- what an operator makes of two expressions; `;`, `proj`, `gets`, `<-` and `:=` make no expression
 abbrev pub operation_of : Op → Option (ExprTree → ExprTree → ExprTree)
@@ -55,15 +53,15 @@ operation_at at None l r = not_expression at
 abbrev pub form_refusal : (at : ℕ) → Form → PhraseTrees → CheckRefusal → CheckRefusal
 form_refusal at form ps other = if takes form (phrase_count ps) then other else WrongCount at
 
--- Expressions, over the variables with these names.
+-- Expressions, where these names can be read.
 abbrev mutual
-  pub expr_of : Names → PhraseTree → CheckOutcome ExprTree
+  pub expr_of : VisibleNames → PhraseTree → CheckOutcome ExprTree
   expr_of names (phrase at kind) = expr_of_kind names at kind
 
-  pub expr_of_kind : Names → (at : ℕ) → KindTree → CheckOutcome ExprTree
+  pub expr_of_kind : VisibleNames → (at : ℕ) → KindTree → CheckOutcome ExprTree
   expr_of_kind names at (k.number n) = Ok (numeral n)
   expr_of_kind names at (k.truth b) = Ok (boolean b)
-  expr_of_kind names at (k.name x) = named_variable at (variable_of names x)
+  expr_of_kind names at (k.name x) = named_expr at (referent_of names x)
   expr_of_kind names at (k.list ps) = mapped (λ es. listing (exprs_of es)) (exprs_in names ps)
   expr_of_kind names at (k.size p) = mapped size (expr_of names p)
   expr_of_kind names at (k.index p i) = both index (expr_of names p) (expr_of names i)
@@ -79,7 +77,7 @@ abbrev mutual
   expr_of_kind names at kind = not_expression at
 
   -- of each of the phrases
-  pub exprs_in : Names → PhraseTrees → CheckOutcome (List ExprTree)
+  pub exprs_in : VisibleNames → PhraseTrees → CheckOutcome (List ExprTree)
   exprs_in names no_phrase = Ok []
   exprs_in names (phrase_then p ps) = both (λ e es. e ∷ es) (expr_of names p) (exprs_in names ps)
 
@@ -92,7 +90,7 @@ place_refusal at (k.call x ps) = NotExecutable at
 place_refusal at kind = NotPlace at
 
 -- a place phrase as an expression; any other is refused
-abbrev pub place_phrase : Names → PhraseTree → CheckOutcome ExprTree
+abbrev pub place_phrase : VisibleNames → PhraseTree → CheckOutcome ExprTree
 place_phrase names (phrase at kind) = if is_place_kind kind then expr_of_kind names at kind else Err (place_refusal at kind)
 
 -- ---- formulas
@@ -105,7 +103,7 @@ equation_of (suc n) zero at l r = both (λ t e. next_equals_of (suc n) t e) l r
 equation_of zero (suc n) at l r = both (λ e t. next_equals_of (suc n) t e) l r
 equation_of (suc n) (suc m) at l r = both equation l (not_expression at)
 
-abbrev pub equation_in : Names → (l r : PhraseTree) → CheckOutcome FormulaTree
+abbrev pub equation_in : VisibleNames → (l r : PhraseTree) → CheckOutcome FormulaTree
 equation_in names l r = equation_of (nexts_of l) (nexts_of r) (at_of r) (expr_of names (behind_nexts l)) (expr_of names (behind_nexts r))
 
 -- the place has this truth value
@@ -113,43 +111,65 @@ abbrev pub place_is : Bool → ExprTree → FormulaTree
 place_is b p = equation p (boolean b)
 
 -- a phrase that is an expression: a place is true, anything else is tested
-abbrev pub state_in : Names → (at : ℕ) → KindTree → CheckOutcome FormulaTree
+abbrev pub state_in : VisibleNames → (at : ℕ) → KindTree → CheckOutcome FormulaTree
 state_in names at kind = if is_place_kind kind then mapped (place_is true) (expr_of_kind names at kind) else mapped test (expr_of_kind names at kind)
 
 -- `not p`: a place is false; else p is a state phrase
-abbrev pub negation_in : Names → (at : ℕ) → PhraseTree → CheckOutcome FormulaTree
+abbrev pub negation_in : VisibleNames → (at : ℕ) → PhraseTree → CheckOutcome FormulaTree
 negation_in names at p =
     if is_place_phrase p then mapped (place_is false) (expr_of names p)
     else if is_state_phrase p then state_in names at (k.negation p)
     else not_run at
 
--- two phrases with an operator between them
-abbrev pub binary_in : Names → (at : ℕ) → Op → (l r : PhraseTree) → CheckOutcome FormulaTree
+-- two phrases with an operator between them that composes no formulas
+abbrev pub binary_in : VisibleNames → (at : ℕ) → Op → (l r : PhraseTree) → CheckOutcome FormulaTree
 binary_in names at op.Equal l r = equation_in names l r
 binary_in names at op.Gets l r = both gets_of (place_phrase names l) (expr_of names r)
 binary_in names at op.Arrow l r = both assign (place_phrase names l) (expr_of names r)
 binary_in names at op.Becomes l r = both becomes_of (place_phrase names l) (expr_of names r)
 binary_in names at op.Or l r = if is_state_phrase l && is_state_phrase r then state_in names at (k.binary op.Or l r) else not_run at
--- chop and projection aren't run yet
-binary_in names at op.Chop l r = not_run at
-binary_in names at op.Proj l r = not_run at
 binary_in names at o l r = state_in names at (k.binary o l r)
+
+-- what an operator makes of two formulas; only `;` and `proj` make one
+abbrev pub composition_of : Op → Option (FormulaTree → FormulaTree → FormulaTree)
+composition_of op.Chop = Some chop
+composition_of op.Proj = Some project
+composition_of op.Or = None
+composition_of op.Equal = None
+composition_of op.Differs = None
+composition_of op.Less = None
+composition_of op.LessEqual = None
+composition_of op.Greater = None
+composition_of op.GreaterEqual = None
+composition_of op.Gets = None
+composition_of op.Arrow = None
+composition_of op.Becomes = None
+composition_of op.Plus = None
+composition_of op.Minus = None
+composition_of op.Times = None
+composition_of op.Div = None
+composition_of op.Mod = None
+
+-- two formulas with an operator between them, or else another formula where the operator makes none
+abbrev pub composed_or : Option (FormulaTree → FormulaTree → FormulaTree) → (w v other : CheckOutcome FormulaTree) → CheckOutcome FormulaTree
+composed_or (Some make) w v other = both make w v
+composed_or None w v other = other
 
 abbrev pub bare_of : Bare → FormulaTree
 bare_of Empty = empty
 bare_of More = more
 bare_of Skip = skip_of
 
--- Formulas, over the variables with these names.
+-- Formulas, where these names can be read.
 abbrev mutual
-  pub formula_of : Names → PhraseTree → CheckOutcome FormulaTree
+  pub formula_of : VisibleNames → PhraseTree → CheckOutcome FormulaTree
   formula_of names (phrase at kind) = formula_of_kind names at kind
 
-  pub formula_of_kind : Names → (at : ℕ) → KindTree → CheckOutcome FormulaTree
+  pub formula_of_kind : VisibleNames → (at : ℕ) → KindTree → CheckOutcome FormulaTree
   formula_of_kind names at (k.conjunction ps) = mapped (λ ws. conjunction (formulas_of ws)) (formulas_in names ps)
   formula_of_kind names at (k.truth true) = Ok trivial
   formula_of_kind names at (k.negation p) = negation_in names at p
-  formula_of_kind names at (k.binary o l r) = binary_in names at o l r
+  formula_of_kind names at (k.binary o l r) = composed_or (composition_of o) (formula_of names l) (formula_of names r) (binary_in names at o l r)
   formula_of_kind names at (k.bare word) = Ok (bare_of word)
   formula_of_kind names at (k.next w) = mapped next (formula_of names w)
   formula_of_kind names at (k.form f.Always (phrase_then w no_phrase)) = mapped always (formula_of names w)
@@ -173,17 +193,17 @@ abbrev mutual
   formula_of_kind names at (k.form f.List ps) = Err (form_refusal at f.List ps (NotExecutable at))
   formula_of_kind names at (k.choice b w) = both (λ c x. branch c x trivial) (expr_of names b) (formula_of names w)
   formula_of_kind names at (k.choice_else b w v) = three branch (expr_of names b) (formula_of names w) (formula_of names v)
-  -- loops, `forall`, `exists` and calls aren't run yet
-  formula_of_kind names at (k.while b w) = not_run at
-  formula_of_kind names at (k.repeat w b) = not_run at
-  formula_of_kind names at (k.for x e w) = not_run at
-  formula_of_kind names at (k.forall x e w) = not_run at
+  formula_of_kind names at (k.while b w) = both while (expr_of names b) (formula_of names w)
+  formula_of_kind names at (k.repeat w b) = both repeat_of (formula_of names w) (expr_of names b)
+  formula_of_kind names at (k.for x e w) = both (for_from x (pos 0)) (expr_of names e) (formula_of (with_binder x names) w)
+  formula_of_kind names at (k.forall x e w) = both (forall_from x (pos 0)) (expr_of names e) (formula_of (with_binder x names) w)
+  -- `exists` and calls aren't run yet
   formula_of_kind names at (k.exists xs w) = not_run at
   formula_of_kind names at (k.call x ps) = not_run at
   -- numbers, `false`, names, lists, sizes, indices and unary minus
   formula_of_kind names at kind = state_in names at kind
 
   -- of each of the phrases
-  pub formulas_in : Names → PhraseTrees → CheckOutcome (List FormulaTree)
+  pub formulas_in : VisibleNames → PhraseTrees → CheckOutcome (List FormulaTree)
   formulas_in names no_phrase = Ok []
   formulas_in names (phrase_then w ws) = both (λ x xs. x ∷ xs) (formula_of names w) (formulas_in names ws)

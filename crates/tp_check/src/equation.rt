@@ -2,26 +2,20 @@
 ghost use Rattle.std.specs.Prelude.{◌≡◌, ◌+◌, ℕ, ◌⊎◌, IfOk, Ok};
 ghost use Rattle.tp_tree.specs.Read.{phrase_tree};
 ghost use Rattle.tp_kernel.specs.Read.{expr_tree, formula_tree};
+ghost use Rattle.tp_check.specs.Building.{names_seen};
 ghost use Rattle.tp_check.specs.Outcome.{AnswersCheck};
 ghost use Rattle.tp_check.specs.Phrases.{nexts_of, behind_nexts};
 ghost use Rattle.tp_check.specs.Positions.{equation_of, equation_in};
 
+use crate::count::one_more;
 use crate::expression::shared_expression;
 use crate::refusal::CheckRefusal;
+use crate::scope::Visible;
 use std::alloc::Global;
 use std::rc::Rc;
 use tp_kernel::{Expr, Formula, next_equals};
 use tp_tree::{Phrase, PhraseKind};
-use tp_value::{Globals, NoMemory};
-
-fn one_more(count: u32) -> Result<u32, NoMemory>
-    ensures { IfOk result (λ n. n ≡ count + 1) }
-{
-    match count.checked_add(1) {
-        Some(n) => Ok(n),
-        None => Err(NoMemory),
-    }
-}
+use tp_value::NoMemory;
 
 // How many `next` stand in front of a phrase, and the phrase behind them.
 fn without_nexts(phrase: &Phrase) -> Result<(u32, &Phrase), NoMemory>
@@ -66,18 +60,18 @@ pub fn equation(
     alloc: Global,
     left: &Phrase,
     right: &Phrase,
-    globals: &Globals,
+    names: &Visible,
 ) -> Result<Formula, CheckRefusal>
     ensures { AnswersCheck formula_tree
-        (equation_in globals.now (phrase_tree left.now) (phrase_tree right.now)) result }
+        (equation_in (names_seen names.now) (phrase_tree left.now) (phrase_tree right.now)) result }
 {
     let (left_nexts, left_side) = without_nexts(left)?;
     let (right_nexts, right_side) = without_nexts(right)?;
-    let left_expr = shared_expression(alloc, left_side, globals)?;
+    let left_expr = shared_expression(alloc, left_side, names)?;
     if left_nexts > 0 && right_nexts > 0 {
         return Err(CheckRefusal::NotExpression { at: right.at });
     }
-    let right_expr = shared_expression(alloc, right_side, globals)?;
+    let right_expr = shared_expression(alloc, right_side, names)?;
     let formula = equation_formula(alloc, left_nexts, right_nexts, left_expr, right_expr)?;
     Ok(formula)
 }

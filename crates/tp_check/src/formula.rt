@@ -1,22 +1,27 @@
 // Formulas.
-ghost use Rattle.std.specs.Prelude.{◌≡◌, IfOk};
+ghost use Rattle.std.specs.Prelude.{◌≡◌, pos, IfOk};
 ghost use Rattle.tp_tree.specs.Read.{phrase_tree, phrase_trees};
 ghost use Rattle.tp_tree.specs.Tree.{form as form_kind, no_phrase, phrase_then};
+ghost use Rattle.tp_meaning.specs.Syntax.{trivial, branch as branch_of, while as while_of, for_from, forall_from};
+ghost use Rattle.tp_meaning.specs.Derived.{repeat_of};
 ghost use Rattle.tp_kernel.specs.Read.{formula_tree};
-ghost use Rattle.tp_check.specs.Outcome.{AnswersCheck};
-ghost use Rattle.tp_check.specs.Building.{formula_seen, formulas_seen};
-ghost use Rattle.tp_check.specs.Positions.{bare_of, formula_of, formula_of_kind, formulas_in};
+ghost use Rattle.tp_check.specs.Scope.{with_binder};
+ghost use Rattle.tp_check.specs.Outcome.{AnswersCheck, both};
+ghost use Rattle.tp_check.specs.Building.{formula_seen, formulas_seen, names_seen};
+ghost use Rattle.tp_check.specs.Positions.{bare_of, expr_of, formula_of, formula_of_kind, formulas_in};
 
+use crate::composition::composition_for;
 use crate::expression::shared_expression;
 use crate::phrases::miscounted_or;
 use crate::place::place;
 use crate::refusal::CheckRefusal;
+use crate::scope::{Scope, Visible};
 use crate::state::{binary, negation, state};
 use std::alloc::Global;
 use std::rc::Rc;
-use tp_kernel::{Formula, Formulas, fin, halt, keep, list, skip, stable};
+use tp_kernel::{Formula, Formulas, fin, halt, keep, list, repeat, skip, stable};
 use tp_tree::{Bare, Form, Phrase, PhraseKind, Phrases};
-use tp_value::{Globals, NoMemory};
+use tp_value::{NoMemory, Text};
 
 fn bare(alloc: Global, word: Bare) -> Result<Formula, NoMemory>
     ensures { IfOk result (λ w. formula_tree w ≡ bare_of word) }
@@ -28,45 +33,45 @@ fn bare(alloc: Global, word: Bare) -> Result<Formula, NoMemory>
     }
 }
 
-/// The formula that a phrase is, over the variables with these names.
+/// The formula that a phrase is, where these names can be read.
 #[cycle(formula)]
-pub fn formula(alloc: Global, phrase: &Phrase, globals: &Globals) -> Result<Formula, CheckRefusal>
-    ensures { AnswersCheck formula_tree (formula_of globals.now (phrase_tree phrase.now)) result }
+pub fn formula(alloc: Global, phrase: &Phrase, names: &Visible) -> Result<Formula, CheckRefusal>
+    ensures { AnswersCheck formula_tree
+        (formula_of (names_seen names.now) (phrase_tree phrase.now)) result }
 {
-    let at = phrase.at;
     match &phrase.kind {
-        PhraseKind::And(operands) => Ok(Formula::And(formulas(alloc, operands, globals)?)),
+        PhraseKind::And(operands) => Ok(Formula::And(formulas(alloc, operands, names)?)),
         PhraseKind::Truth(true) => Ok(Formula::True),
-        PhraseKind::Not(operand) => negation(alloc, phrase, operand, globals),
-        PhraseKind::Binary(op, left, right) => binary(alloc, phrase, *op, left, right, globals),
+        PhraseKind::Not(operand) => negation(alloc, phrase, operand, names),
+        PhraseKind::Binary(op, left, right) => {
+            let Some(composition) = composition_for(*op) else {
+                return binary(alloc, phrase, *op, left, right, names);
+            };
+            let left = shared_formula(alloc, left, names)?;
+            Ok(composition.make(left, shared_formula(alloc, right, names)?))
+        }
         PhraseKind::Bare(word) => Ok(bare(alloc, *word)?),
-        PhraseKind::Next(later) => Ok(Formula::Next(shared_formula(alloc, later, globals)?)),
-        PhraseKind::Form(form, operands) => form_formula(alloc, at, *form, operands, globals),
-        PhraseKind::If(condition, first, None) => {
-            let condition = shared_expression(alloc, condition, globals)?;
-            let first = shared_formula(alloc, first, globals)?;
-            let second = Rc::new(alloc, Formula::True)?;
-            Ok(Formula::If(condition, first, second))
-        }
+        PhraseKind::Next(later) => Ok(Formula::Next(shared_formula(alloc, later, names)?)),
+        PhraseKind::Form(form, operands) => form_formula(alloc, phrase.at, *form, operands, names),
+        PhraseKind::If(condition, first, None) => branch(alloc, first, condition, names),
         PhraseKind::If(condition, first, Some(second)) => {
-            let condition = shared_expression(alloc, condition, globals)?;
-            let first = shared_formula(alloc, first, globals)?;
-            let second = shared_formula(alloc, second, globals)?;
-            Ok(Formula::If(condition, first, second))
+            let condition = shared_expression(alloc, condition, names)?;
+            let first = shared_formula(alloc, first, names)?;
+            Ok(Formula::If(condition, first, shared_formula(alloc, second, names)?))
         }
-        PhraseKind::While(_, _)
-        | PhraseKind::Repeat(_, _)
-        | PhraseKind::For(_, _, _)
-        | PhraseKind::Forall(_, _, _)
-        | PhraseKind::Exists(_, _)
-        | PhraseKind::Call(_, _) => Err(CheckRefusal::NotExecutable { at }),
+        PhraseKind::While(condition, body) => while_loop(alloc, body, condition, names),
+        PhraseKind::Repeat(body, condition) => repeat_loop(alloc, body, condition, names),
+        PhraseKind::For(name, to, body) => for_loop(alloc, body, name, to, names),
+        PhraseKind::Forall(name, to, body) => for_all(alloc, body, name, to, names),
+        PhraseKind::Exists(_, _) => Err(CheckRefusal::NotExecutable { at: phrase.at }),
+        PhraseKind::Call(_, _) => Err(CheckRefusal::NotExecutable { at: phrase.at }),
         PhraseKind::Truth(false)
         | PhraseKind::Number(_)
         | PhraseKind::Name(_)
         | PhraseKind::List(_)
         | PhraseKind::Size(_)
         | PhraseKind::Index(_, _)
-        | PhraseKind::Minus(_) => state(alloc, phrase, globals),
+        | PhraseKind::Minus(_) => state(alloc, phrase, names),
     }
 }
 
@@ -75,25 +80,160 @@ pub fn formula(alloc: Global, phrase: &Phrase, globals: &Globals) -> Result<Form
 pub fn shared_formula(
     alloc: Global,
     phrase: &Phrase,
-    globals: &Globals,
+    names: &Visible,
 ) -> Result<Rc<Formula>, CheckRefusal>
-    ensures { AnswersCheck formula_seen (formula_of globals.now (phrase_tree phrase.now)) result }
+    ensures { AnswersCheck formula_seen
+        (formula_of (names_seen names.now) (phrase_tree phrase.now)) result }
 {
-    let formula = formula(alloc, phrase, globals)?;
+    let formula = formula(alloc, phrase, names)?;
     Ok(Rc::new(alloc, formula)?)
 }
 
 // The formulas that the phrases are.
 #[cycle(formula)]
-fn formulas(alloc: Global, phrases: &Phrases, globals: &Globals) -> Result<Formulas, CheckRefusal>
-    ensures { AnswersCheck formulas_seen (formulas_in globals.now (phrase_trees phrases.now))
-        result }
+fn formulas(alloc: Global, phrases: &Phrases, names: &Visible) -> Result<Formulas, CheckRefusal>
+    ensures { AnswersCheck formulas_seen
+        (formulas_in (names_seen names.now) (phrase_trees phrases.now)) result }
 {
     let mut items = Vec::new(alloc);
     for phrase in &phrases.items {
-        items.push(shared_formula(alloc, phrase, globals)?)?;
+        items.push(shared_formula(alloc, phrase, names)?)?;
     }
     Ok(Formulas { items })
+}
+
+// `if condition then first`
+#[cycle(formula)]
+fn branch(
+    alloc: Global,
+    first: &Phrase,
+    condition: &Phrase,
+    names: &Visible,
+) -> Result<Formula, CheckRefusal>
+    ensures { AnswersCheck formula_tree
+        (both (λ b w. branch_of b w trivial)
+        (expr_of (names_seen names.now) (phrase_tree condition.now))
+        (formula_of (names_seen names.now) (phrase_tree first.now)))
+        result }
+{
+    let condition = shared_expression(alloc, condition, names)?;
+    let first = shared_formula(alloc, first, names)?;
+    let second = Rc::new(alloc, Formula::True)?;
+    Ok(Formula::If(condition, first, second))
+}
+
+// `while condition do body`
+#[cycle(formula)]
+fn while_loop(
+    alloc: Global,
+    body: &Phrase,
+    condition: &Phrase,
+    names: &Visible,
+) -> Result<Formula, CheckRefusal>
+    ensures { AnswersCheck formula_tree
+        (both while_of
+        (expr_of (names_seen names.now) (phrase_tree condition.now))
+        (formula_of (names_seen names.now) (phrase_tree body.now)))
+        result }
+{
+    let condition = shared_expression(alloc, condition, names)?;
+    Ok(Formula::While(condition, shared_formula(alloc, body, names)?))
+}
+
+// `repeat body until condition`
+#[cycle(formula)]
+fn repeat_loop(
+    alloc: Global,
+    body: &Phrase,
+    condition: &Phrase,
+    names: &Visible,
+) -> Result<Formula, CheckRefusal>
+    ensures { AnswersCheck formula_tree
+        (both repeat_of
+        (formula_of (names_seen names.now) (phrase_tree body.now))
+        (expr_of (names_seen names.now) (phrase_tree condition.now)))
+        result }
+{
+    let body = shared_formula(alloc, body, names)?;
+    let condition = shared_expression(alloc, condition, names)?;
+    Ok(repeat(alloc, body, condition)?)
+}
+
+// `for name < to do body`
+#[cycle(formula)]
+fn for_loop(
+    alloc: Global,
+    body: &Phrase,
+    name: &Text,
+    to: &Phrase,
+    names: &Visible,
+) -> Result<Formula, CheckRefusal>
+    ensures { AnswersCheck formula_tree
+        (both (for_from name.now (pos 0))
+        (expr_of (names_seen names.now) (phrase_tree to.now))
+        (formula_of (with_binder name.now (names_seen names.now)) (phrase_tree body.now)))
+        result }
+{
+    let to = shared_expression(alloc, to, names)?;
+    let body = formula_within(alloc, body, name, names)?;
+    let name = name.copy()?;
+    let from = 0;
+    Ok(Formula::For {
+        name,
+        from,
+        to,
+        body,
+    })
+}
+
+// `forall name < to : body`
+#[cycle(formula)]
+fn for_all(
+    alloc: Global,
+    body: &Phrase,
+    name: &Text,
+    to: &Phrase,
+    names: &Visible,
+) -> Result<Formula, CheckRefusal>
+    ensures { AnswersCheck formula_tree
+        (both (forall_from name.now (pos 0))
+        (expr_of (names_seen names.now) (phrase_tree to.now))
+        (formula_of (with_binder name.now (names_seen names.now)) (phrase_tree body.now)))
+        result }
+{
+    let to = shared_expression(alloc, to, names)?;
+    let body = formula_within(alloc, body, name, names)?;
+    let name = name.copy()?;
+    let from = 0;
+    Ok(Formula::Forall {
+        name,
+        from,
+        to,
+        body,
+    })
+}
+
+// The formula of a phrase that stands where this name is bound.
+#[cycle(formula)]
+fn formula_within(
+    alloc: Global,
+    body: &Phrase,
+    name: &Text,
+    names: &Visible,
+) -> Result<Rc<Formula>, CheckRefusal>
+    ensures { AnswersCheck formula_seen
+        (formula_of (with_binder name.now (names_seen names.now)) (phrase_tree body.now)) result }
+{
+    let scope = Scope::Inner(name, names.scope);
+    let globals = names.globals;
+    shared_formula(
+        alloc,
+        body,
+        &Visible {
+            globals,
+            scope: &scope,
+        },
+    )
 }
 
 // The formula of a form at this place with these operands.
@@ -103,14 +243,15 @@ fn form_formula(
     at: u32,
     form: Form,
     operands: &Phrases,
-    globals: &Globals,
+    names: &Visible,
 ) -> Result<Formula, CheckRefusal>
     ensures { AnswersCheck formula_tree
-        (formula_of_kind globals.now at (form_kind form (phrase_trees operands.now))) result }
+        (formula_of_kind (names_seen names.now) at (form_kind form (phrase_trees operands.now)))
+        result }
 {
     match operands.items.as_slice() {
-        [operand] => form_of_one(alloc, at, form, operand, globals),
-        [first, second] => form_of_two(alloc, at, form, first, second, globals),
+        [operand] => form_of_one(alloc, at, form, operand, names),
+        [first, second] => form_of_two(alloc, at, form, first, second, names),
         _ => {
             let other = CheckRefusal::NotExecutable { at };
             Err(miscounted_or(at, form, operands, other))
@@ -124,20 +265,20 @@ fn form_of_one(
     at: u32,
     form: Form,
     operand: &Phrase,
-    globals: &Globals,
+    names: &Visible,
 ) -> Result<Formula, CheckRefusal>
     ensures { AnswersCheck formula_tree
-        (formula_of_kind globals.now at
+        (formula_of_kind (names_seen names.now) at
         (form_kind form (phrase_then (phrase_tree operand.now) no_phrase)))
         result }
 {
     match form {
-        Form::Always => Ok(Formula::Always(shared_formula(alloc, operand, globals)?)),
-        Form::Keep => Ok(keep(alloc, shared_formula(alloc, operand, globals)?)?),
-        Form::Fin => Ok(fin(alloc, shared_formula(alloc, operand, globals)?)?),
-        Form::Halt => Ok(halt(alloc, shared_expression(alloc, operand, globals)?)?),
-        Form::Stable => Ok(stable(alloc, place(alloc, operand, globals)?)?),
-        Form::Len => Ok(Formula::Len(shared_expression(alloc, operand, globals)?)),
+        Form::Always => Ok(Formula::Always(shared_formula(alloc, operand, names)?)),
+        Form::Keep => Ok(keep(alloc, shared_formula(alloc, operand, names)?)?),
+        Form::Fin => Ok(fin(alloc, shared_formula(alloc, operand, names)?)?),
+        Form::Halt => Ok(halt(alloc, shared_expression(alloc, operand, names)?)?),
+        Form::Stable => Ok(stable(alloc, place(alloc, operand, names)?)?),
+        Form::Len => Ok(Formula::Len(shared_expression(alloc, operand, names)?)),
         Form::Sometimes => Err(CheckRefusal::NotExecutable { at }),
         Form::Display => Err(CheckRefusal::NotExecutable { at }),
         Form::List => Err(CheckRefusal::WrongCount { at }),
@@ -151,18 +292,18 @@ fn form_of_two(
     form: Form,
     first: &Phrase,
     second: &Phrase,
-    globals: &Globals,
+    names: &Visible,
 ) -> Result<Formula, CheckRefusal>
     ensures { AnswersCheck formula_tree
-        (formula_of_kind globals.now at
+        (formula_of_kind (names_seen names.now) at
         (form_kind form
         (phrase_then (phrase_tree first.now) (phrase_then (phrase_tree second.now) no_phrase))))
         result }
 {
     match form {
         Form::List => {
-            let whole = place(alloc, first, globals)?;
-            let count = shared_expression(alloc, second, globals)?;
+            let whole = place(alloc, first, names)?;
+            let count = shared_expression(alloc, second, names)?;
             Ok(list(alloc, whole, count)?)
         }
         Form::Input => Err(CheckRefusal::NotExecutable { at }),

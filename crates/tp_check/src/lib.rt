@@ -1,6 +1,8 @@
 //! From the phrases of a source to the formula that is run, and the names of its variables.
 #![tactic(auto)]
 
+mod composition;
+mod count;
 mod equation;
 mod expression;
 mod formula;
@@ -10,6 +12,7 @@ mod phrases;
 mod place;
 mod program;
 mod refusal;
+mod scope;
 mod state;
 
 pub use program::{Program, check};

@@ -1,18 +1,18 @@
 // Places.
 ghost use Rattle.tp_tree.specs.Read.{phrase_tree, kind_tree};
 ghost use Rattle.std.specs.Prelude.{◌≡◌};
-ghost use Rattle.tp_check.specs.Building.{expr_seen};
+ghost use Rattle.tp_check.specs.Building.{expr_seen, names_seen};
 ghost use Rattle.tp_check.specs.Outcome.{AnswersCheck};
 ghost use Rattle.tp_check.specs.Positions.{place_phrase, place_refusal};
 
 use crate::expression::shared_expression;
 use crate::phrases::{is_place, miscounted_or};
 use crate::refusal::CheckRefusal;
+use crate::scope::Visible;
 use std::alloc::Global;
 use std::rc::Rc;
 use tp_kernel::Expr;
 use tp_tree::{Phrase, PhraseKind};
-use tp_value::Globals;
 
 // Why a phrase that is no place phrase is refused where a place is due.
 fn refusal(phrase: &Phrase) -> CheckRefusal
@@ -28,12 +28,13 @@ fn refusal(phrase: &Phrase) -> CheckRefusal
     }
 }
 
-/// The place that a phrase is, over the variables with these names.
-pub fn place(alloc: Global, phrase: &Phrase, globals: &Globals) -> Result<Rc<Expr>, CheckRefusal>
-    ensures { AnswersCheck expr_seen (place_phrase globals.now (phrase_tree phrase.now)) result }
+/// The place that a phrase is, where these names can be read.
+pub fn place(alloc: Global, phrase: &Phrase, names: &Visible) -> Result<Rc<Expr>, CheckRefusal>
+    ensures { AnswersCheck expr_seen
+        (place_phrase (names_seen names.now) (phrase_tree phrase.now)) result }
 {
     if is_place(phrase) {
-        shared_expression(alloc, phrase, globals)
+        shared_expression(alloc, phrase, names)
     } else {
         Err(refusal(phrase))
     }

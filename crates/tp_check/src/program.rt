@@ -9,6 +9,7 @@ ghost use Rattle.tp_check.specs.Program.{program_of, program_tree, NamesSuffice}
 use crate::formula::shared_formula;
 use crate::names::add_names;
 use crate::refusal::CheckRefusal;
+use crate::scope::{Scope, Visible};
 use std::alloc::Global;
 use std::rc::Rc;
 use tp_kernel::Formula;
@@ -24,12 +25,16 @@ pub struct Program {
 
 /// The program that a source is. A source runs where it has no definition and its main phrase is made of
 ///
-/// * `and`, `next`, `if`, `empty`, `more`, `skip`, `always`, `keep` and `fin` over such phrases,
+/// * `and`, `;`, `proj`, `next`, `if`, `empty`, `more`, `skip`, `always`, `keep` and `fin` over such phrases,
+/// * `while`, `repeat`, `for` and `forall` over such phrases,
 /// * equations, of which at most one side has `next` in front,
 /// * `A gets e`, `A <- e`, `A := e`, `halt(e)`, `stable(A)`, `len(e)` and `list(A, e)`, and
 /// * expressions: a place is true, its negation makes it false, and any other is tested.
 ///
-/// A place is a name with any number of indices. An expression has no call, no bare word, no form, no loop, no `if` without `else`, and
+/// A place is a name with any number of indices. `for` and `forall` bind their name in their body alone. A name is that of its innermost
+/// binder, or of a variable where it has none.
+///
+/// An expression has no call, no bare word, no form, no loop, no `if` without `else`, and
 /// none of `next`, `;`, `proj`, `gets`, `<-`, `:=`, `forall` and `exists`.
 ///
 /// Any other source is refused: at its first definition as not executable, or else at its first phrase that breaks this, a phrase before
@@ -47,7 +52,12 @@ pub fn check(alloc: Global, source: &Source) -> Result<Program, CheckRefusal>
         return Err(CheckRefusal::NotExecutable { at: first.at });
     }
     let mut globals = Globals::new(alloc)?;
-    add_names(&source.main, &mut globals)?;
-    let main = shared_formula(alloc, &source.main, &globals)?;
+    let scope = Scope::Outermost;
+    add_names(&source.main, &scope, &mut globals)?;
+    let names = Visible {
+        globals: &globals,
+        scope: &scope,
+    };
+    let main = shared_formula(alloc, &source.main, &names)?;
     Ok(Program { main, globals })
 }

@@ -3,6 +3,7 @@ ghost use Rattle.std.specs.Prelude.{◌≡◌, true, false};
 ghost use Rattle.tp_tree.specs.Read.{phrase_tree, kind_tree};
 ghost use Rattle.tp_tree.specs.Tree.{negation as negation_kind, binary as binary_kind};
 ghost use Rattle.tp_kernel.specs.Read.{formula_tree};
+ghost use Rattle.tp_check.specs.Building.{names_seen};
 ghost use Rattle.tp_check.specs.Outcome.{AnswersCheck, mapped};
 ghost use Rattle.tp_check.specs.Positions.{expr_of, place_is, state_in, negation_in, binary_in};
 
@@ -11,36 +12,36 @@ use crate::expression::shared_expression;
 use crate::phrases::{is_place, is_state};
 use crate::place::place;
 use crate::refusal::CheckRefusal;
+use crate::scope::Visible;
 use std::alloc::Global;
 use std::rc::Rc;
 use tp_kernel::{Expr, Formula, becomes, gets};
 use tp_tree::{Op, Phrase};
-use tp_value::Globals;
 
 // The phrase has this truth value.
 fn has_value(
     alloc: Global,
     phrase: &Phrase,
     value: bool,
-    globals: &Globals,
+    names: &Visible,
 ) -> Result<Formula, CheckRefusal>
     ensures { AnswersCheck formula_tree
-        (mapped (place_is value) (expr_of globals.now (phrase_tree phrase.now))) result }
+        (mapped (place_is value) (expr_of (names_seen names.now) (phrase_tree phrase.now))) result }
 {
-    let expr = shared_expression(alloc, phrase, globals)?;
+    let expr = shared_expression(alloc, phrase, names)?;
     let value = Rc::new(alloc, Expr::Truth(value))?;
     Ok(Formula::Eq(expr, value))
 }
 
 /// A phrase that is an expression: a place is true, anything else is tested.
-pub fn state(alloc: Global, phrase: &Phrase, globals: &Globals) -> Result<Formula, CheckRefusal>
+pub fn state(alloc: Global, phrase: &Phrase, names: &Visible) -> Result<Formula, CheckRefusal>
     ensures { AnswersCheck formula_tree
-        (state_in globals.now phrase.now.at (kind_tree phrase.now.kind)) result }
+        (state_in (names_seen names.now) phrase.now.at (kind_tree phrase.now.kind)) result }
 {
     if is_place(phrase) {
-        return has_value(alloc, phrase, true, globals);
+        return has_value(alloc, phrase, true, names);
     }
-    let expr = shared_expression(alloc, phrase, globals)?;
+    let expr = shared_expression(alloc, phrase, names)?;
     Ok(Formula::Test(expr))
 }
 
@@ -49,62 +50,72 @@ pub fn negation(
     alloc: Global,
     phrase: &Phrase,
     operand: &Phrase,
-    globals: &Globals,
+    names: &Visible,
 ) -> Result<Formula, CheckRefusal>
     requires { kind_tree phrase.now.kind ≡ negation_kind (phrase_tree operand.now) }
     ensures { AnswersCheck formula_tree
-        (negation_in globals.now phrase.now.at (phrase_tree operand.now)) result }
+        (negation_in (names_seen names.now) phrase.now.at (phrase_tree operand.now)) result }
 {
     if is_place(operand) {
-        has_value(alloc, operand, false, globals)
+        has_value(alloc, operand, false, names)
     } else if is_state(operand) {
-        state(alloc, phrase, globals)
+        state(alloc, phrase, names)
     } else {
         Err(CheckRefusal::NotExecutable { at: phrase.at })
     }
 }
 
-/// Two phrases with an operator between them, of which the phrase is the whole.
+/// Two phrases with an operator between them that composes no formulas; the phrase is the whole.
 pub fn binary(
     alloc: Global,
     phrase: &Phrase,
     op: Op,
     left: &Phrase,
     right: &Phrase,
-    globals: &Globals,
+    names: &Visible,
 ) -> Result<Formula, CheckRefusal>
     requires { kind_tree phrase.now.kind
         ≡ binary_kind op (phrase_tree left.now) (phrase_tree right.now) }
     ensures { AnswersCheck formula_tree
-        (binary_in globals.now phrase.now.at op (phrase_tree left.now) (phrase_tree right.now))
+        (binary_in (names_seen names.now) phrase.now.at op
+        (phrase_tree left.now) (phrase_tree right.now))
         result }
 {
     match op {
-        Op::Equal => equation(alloc, left, right, globals),
+        Op::Equal => equation(alloc, left, right, names),
         Op::Gets => {
-            let place = place(alloc, left, globals)?;
-            let expr = shared_expression(alloc, right, globals)?;
+            let place = place(alloc, left, names)?;
+            let expr = shared_expression(alloc, right, names)?;
             Ok(gets(alloc, place, expr)?)
         }
         Op::Arrow => {
-            let place = place(alloc, left, globals)?;
-            let expr = shared_expression(alloc, right, globals)?;
+            let place = place(alloc, left, names)?;
+            let expr = shared_expression(alloc, right, names)?;
             Ok(Formula::Assign(place, expr))
         }
         Op::Becomes => {
-            let place = place(alloc, left, globals)?;
-            let expr = shared_expression(alloc, right, globals)?;
+            let place = place(alloc, left, names)?;
+            let expr = shared_expression(alloc, right, names)?;
             Ok(becomes(alloc, place, expr)?)
         }
         Op::Or => {
             if is_state(left) && is_state(right) {
-                state(alloc, phrase, globals)
+                state(alloc, phrase, names)
             } else {
                 Err(CheckRefusal::NotExecutable { at: phrase.at })
             }
         }
-        Op::Chop => Err(CheckRefusal::NotExecutable { at: phrase.at }),
-        Op::Proj => Err(CheckRefusal::NotExecutable { at: phrase.at }),
-        _ => state(alloc, phrase, globals),
+        Op::Differs
+        | Op::Less
+        | Op::LessEqual
+        | Op::Greater
+        | Op::GreaterEqual
+        | Op::Plus
+        | Op::Minus
+        | Op::Times
+        | Op::Div
+        | Op::Mod
+        | Op::Chop
+        | Op::Proj => state(alloc, phrase, names),
     }
 }

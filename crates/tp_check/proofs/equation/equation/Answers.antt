@@ -2,6 +2,7 @@ use Rattle.std.proofs.Common.{◌≡◌, ◌⊎◌, ◌∙◌, sym, ap, ap₂, r
 use Rattle.std.proofs.lemmas.Grind.{common_steps}
 use Rattle.std.proofs.lemmas.Result.{err_from_is_err_and}
 use Rattle.tp_tree.specs.Read.{phrase_tree}
+use Rattle.tp_check.specs.Building.{names_seen}
 use Rattle.tp_check.specs.Outcome.{not_expression}
 use Rattle.tp_check.specs.Phrases.{nexts_of, behind_nexts, at_of}
 use Rattle.tp_check.specs.Positions.{equation_of, expr_of}
@@ -11,7 +12,7 @@ use Rattle.tp_check.proofs.equation.equation.Goals as goal
 pub returns-in_err-left_expr : goal.returns-in_err-left_expr
 returns-in_err-left_expr c =
     let p = err_from_is_err_and c.from_residual-in_err-left_expr.result c.from_residual-in_err-left_expr.ensures.1 in
-    let names = c.args.globals.now in
+    let names = names_seen c.args.names.now in
     let l = phrase_tree c.args.left.now in
     let r = phrase_tree c.args.right.now in
     rw (p.1, p.2) (λ q. ap (λ o. equation_of (nexts_of l) (nexts_of r) (at_of r) o (expr_of names (behind_nexts r)))
@@ -19,7 +20,7 @@ returns-in_err-left_expr c =
 
 pub returns-then-right_nexts-gt0 : goal.returns-then-right_nexts-gt0
 returns-then-right_nexts-gt0 c = λ q.
-    let names = c.args.globals.now in
+    let names = names_seen c.args.names.now in
     let l = phrase_tree c.args.left.now in
     let r = phrase_tree c.args.right.now in
     ap (λ o. equation_of (nexts_of l) (nexts_of r) (at_of r) o (expr_of names (behind_nexts r))) (ap (expr_of names) (sym c.in_ok-left_nexts.ensures.behind) ∙ c.in_ok-left_expr.ensures)
@@ -29,7 +30,7 @@ returns-then-right_nexts-gt0 c = λ q.
 pub returns-in_err-right_expr : goal.returns-in_err-right_expr
 returns-in_err-right_expr c =
     let p = err_from_is_err_and c.from_residual-in_err-right_expr.result c.from_residual-in_err-right_expr.ensures.1 in
-    let names = c.args.globals.now in
+    let names = names_seen c.args.names.now in
     let l = phrase_tree c.args.left.now in
     let r = phrase_tree c.args.right.now in
     let one : (c.in_ok-left_nexts.left_nexts ≡ 0) ⊎ (c.in_ok-right_nexts.right_nexts ≡ 0) = first_of (search rules, grind (arith, common_steps)) in

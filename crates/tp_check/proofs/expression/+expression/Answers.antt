@@ -5,6 +5,7 @@ use Rattle.tp_tree.specs.Tree.{phrases_of}
 use Rattle.tp_tree.specs.Read.{phrase_tree}
 use Rattle.tp_meaning.specs.Syntax.{ExprTree}
 use Rattle.tp_kernel.specs.Read.{expr_tree}
+use Rattle.tp_check.specs.Building.{names_seen}
 use Rattle.tp_check.specs.Outcome.{mapped}
 use Rattle.tp_check.specs.Positions.{expr_of, exprs_in}
 use Rattle.tp_check.proofs.Several.{from_here, one_made}
@@ -12,7 +13,7 @@ use Rattle.tp_check.proofs.expression.+expression.Goals as goal
 
 pub expressions-loop-phrase-preserved : goal.expressions-loop-phrase-preserved
 expressions-loop-phrase-preserved t c =
-    let names = c.args.globals.now in
+    let names = names_seen c.args.names.now in
     let xs : List Phrase = c.deref-phrase-items.result.now in
     let i : ℕ = c.loop-phrase.phrase-index in
     let x : Phrase = c.phrase-item.result in

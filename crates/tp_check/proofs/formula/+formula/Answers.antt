@@ -3,18 +3,18 @@ use Rattle.std.proofs.lemmas.List.{map-append, length-map}
 use Rattle.std.proofs.lemmas.Grind.{common_steps}
 use Rattle.std.specs.declared.rc.Rc.{Rc}
 use Rattle.tp_tree.specs.declared.phrase.Phrase.{Phrase}
-use Rattle.tp_tree.specs.Tree.{PhraseTrees, phrases_of, form}
+use Rattle.tp_tree.specs.Tree.{PhraseTree, PhraseTrees, phrases_of, form}
 use Rattle.tp_tree.specs.Read.{phrase_tree, phrase_trees}
 use Rattle.tp_tree.specs.Equations.{trees_are}
 use Rattle.tp_meaning.specs.Syntax.{FormulaTree, conjunction, formulas_of}
 use Rattle.tp_kernel.specs.declared.formula.Formula.{Formula}
 use Rattle.tp_kernel.specs.Read.{formula_tree}
 use Rattle.tp_kernel.specs.Equations.{formula_and}
-use Rattle.tp_check.specs.Building.{formula_seen}
+use Rattle.tp_check.specs.Building.{formula_seen, names_seen}
 use Rattle.tp_check.specs.Outcome.{AnswersCheck, mapped}
 use Rattle.tp_check.specs.Positions.{form_refusal, formula_of, formula_of_kind, formulas_in}
 use Rattle.tp_check.proofs.Several.{from_here, none_made, one_made, one_is, two_are}
-use Rattle.tp_check.proofs.Sides.{form_of_others, tree_of_and}
+use Rattle.tp_check.proofs.Sides.{form_of_others, tree_of_and, tree_of_for, tree_of_forall}
 use Rattle.tp_check.specs.declared.refusal.CheckRefusal.TheVariants.{NotExecutable}
 use Rattle.tp_check.proofs.formula.+formula.Goals as goal
 
@@ -24,7 +24,7 @@ form_formula-returns-in-len1 t c =
     let one : xs ≡ c.operand-item.result ∷ [] = one_is xs c.operand-item.result c.in-len1.len_at_least c.in-len1.len_below c.operand-item.is in
     let seen : phrase_trees c.args.operands.now ≡ phrases_of (map phrase_tree (c.operand-item.result ∷ [])) =
     trees_are c.args.operands.now ∙ ap (λ (ys : List Phrase). phrases_of (map phrase_tree ys)) (sym c.as_slice.ensures.value ∙ one) in
-    subst (λ (ts : PhraseTrees). AnswersCheck formula_tree (formula_of_kind c.args.globals.now c.args.at (form c.args.form ts)) c.form_of_one.result) (sym seen) c.form_of_one.ensures
+    subst (λ (ts : PhraseTrees). AnswersCheck formula_tree (formula_of_kind (names_seen c.args.names.now) c.args.at (form c.args.form ts)) c.form_of_one.result) (sym seen) c.form_of_one.ensures
 
 pub form_formula-returns-in-len2 : goal.form_formula-returns-in-len2
 form_formula-returns-in-len2 t c =
@@ -34,30 +34,42 @@ form_formula-returns-in-len2 t c =
     let two : xs ≡ x ∷ y ∷ [] = two_are xs x y c.in-len2.len_at_least c.in-len2.len_below c.first-item.is c.second-item.is in
     let seen : phrase_trees c.args.operands.now ≡ phrases_of (map phrase_tree (x ∷ y ∷ [])) =
     trees_are c.args.operands.now ∙ ap (λ (ys : List Phrase). phrases_of (map phrase_tree ys)) (sym c.as_slice.ensures.value ∙ two) in
-    subst (λ (ts : PhraseTrees). AnswersCheck formula_tree (formula_of_kind c.args.globals.now c.args.at (form c.args.form ts)) c.form_of_two.result) (sym seen) c.form_of_two.ensures
+    subst (λ (ts : PhraseTrees). AnswersCheck formula_tree (formula_of_kind (names_seen c.args.names.now) c.args.at (form c.args.form ts)) c.form_of_two.result) (sym seen) c.form_of_two.ensures
 
 pub form_formula-returns-in_default : goal.form_formula-returns-in_default
 form_formula-returns-in_default t c = λ q.
     let xs : List Phrase = c.as_slice.result.now in
     let seen : phrase_trees c.args.operands.now ≡ phrases_of (map phrase_tree xs) = trees_are c.args.operands.now ∙ ap (λ (ys : List Phrase). phrases_of (map phrase_tree ys)) (sym c.as_slice.ensures.value) in
     let far : (length xs < 1) ⊎ (2 < length xs) = first_of (search rules, grind (arith, common_steps)) in
-    ap (λ (ts : PhraseTrees). formula_of_kind c.args.globals.now c.args.at (form c.args.form ts)) seen
-    ∙ (form_of_others c.args.globals.now c.args.at c.args.form (map phrase_tree xs) (rw length-map far) ∙ ap Err (ap (λ (ts : PhraseTrees). form_refusal c.args.at c.args.form ts (NotExecutable c.args.at)) (sym seen) ∙ sym c.miscounted_or.ensures))
+    ap (λ (ts : PhraseTrees). formula_of_kind (names_seen c.args.names.now) c.args.at (form c.args.form ts)) seen
+    ∙ (form_of_others (names_seen c.args.names.now) c.args.at c.args.form (map phrase_tree xs) (rw length-map far) ∙ ap Err (ap (λ (ts : PhraseTrees). form_refusal c.args.at c.args.form ts (NotExecutable c.args.at)) (sym seen) ∙ sym c.miscounted_or.ensures))
 
 pub formula-returns-in_ok-formulas-in-And : goal.formula-returns-in_ok-formulas-in-And
 formula-returns-in_ok-formulas-in-And t c =
-    ap (formula_of c.args.globals.now) (tree_of_and c.args.phrase.now c.in-And.operands c.in-And.is)
+    ap (formula_of (names_seen c.args.names.now)) (tree_of_and c.args.phrase.now c.in-And.operands c.in-And.is)
     ∙ (ap (mapped (λ ws. conjunction (formulas_of ws))) c.in_ok-formulas-in-And.ensures ∙ ap Ok (sym (formula_and c.in_ok-formulas-in-And.field-0)))
+
+pub formula-returns-in-For : goal.formula-returns-in-For
+formula-returns-in-For t c =
+    let names = names_seen c.args.names.now in
+    let seen = tree_of_for c.args.phrase.now c.in-For.name c.in-For.to c.in-For.body c.deref-in-For-2.result.now c.deref-in-For.result.now c.in-For.is c.deref-in-For-2.ensures c.deref-in-For.ensures in
+    subst (λ (p : PhraseTree). AnswersCheck formula_tree (formula_of names p) c.for_loop.result) (sym seen) c.for_loop.ensures
+
+pub formula-returns-in-Forall : goal.formula-returns-in-Forall
+formula-returns-in-Forall t c =
+    let names = names_seen c.args.names.now in
+    let seen = tree_of_forall c.args.phrase.now c.in-Forall.name c.in-Forall.to c.in-Forall.body c.deref-in-Forall-2.result.now c.deref-in-Forall.result.now c.in-Forall.is c.deref-in-Forall-2.ensures c.deref-in-Forall.ensures in
+    subst (λ (p : PhraseTree). AnswersCheck formula_tree (formula_of names p) c.for_all.result) (sym seen) c.for_all.ensures
 
 pub formulas-loop-phrase-init : goal.formulas-loop-phrase-init
 formulas-loop-phrase-init t c =
     let xs : List Phrase = c.deref-phrase-items.result.now in
     let seen : phrase_trees c.args.phrases.now ≡ phrases_of (map phrase_tree xs) = trees_are c.args.phrases.now ∙ ap (λ (ys : List Phrase). phrases_of (map phrase_tree ys)) (sym c.deref-phrase-items.ensures.value) in
-    ap (formulas_in c.args.globals.now) seen ∙ none_made (map formula_seen c.new-items.result.items) _ (ap (map formula_seen) c.new-items.ensures.items)
+    ap (formulas_in (names_seen c.args.names.now)) seen ∙ none_made (map formula_seen c.new-items.result.items) _ (ap (map formula_seen) c.new-items.ensures.items)
 
 pub formulas-loop-phrase-preserved : goal.formulas-loop-phrase-preserved
 formulas-loop-phrase-preserved t c =
-    let names = c.args.globals.now in
+    let names = names_seen c.args.names.now in
     let xs : List Phrase = c.deref-phrase-items.result.now in
     let i : ℕ = c.loop-phrase.phrase-index in
     let x : Phrase = c.phrase-item.result in
