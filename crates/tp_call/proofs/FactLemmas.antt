@@ -14,8 +14,8 @@ use Rattle.tp_run.specs.declared.turn.Picture.{Picture}
 use Rattle.tp_run.specs.declared.turn.Turn.{Turn}
 use Rattle.tp_run.specs.declared.turn.Turn.TheVariants as turn
 use Rattle.tp_run.specs.States.{Plan, setting, AreGlobals, Standing, open_at, answered, spent, AnswersState}
-use Rattle.tp_run.specs.Runs.{StandsReady}
-use Rattle.tp_run.proofs.StatesMean.{leads_ready}
+use Rattle.tp_run.specs.Runs.{StandsSound}
+use Rattle.tp_run.proofs.StatesMean.{leads_sound}
 use Rattle.tp_run.proofs.Given.{scene_laws}
 use Rattle.tp_call.specs.Line.{AreFactsOf}
 use Rattle.tp_call.specs.Places.{StandsOpen}
@@ -53,17 +53,17 @@ facts_are names kept facts fits are = record {
 }
 
 -- the facts of a state that is settled
-pub settled_facts : (plan : Plan) (from to : Standing) (n m : ℕ) (old new : Picture) (answer : Turn) → StandsReady plan n from → StandsOpen from → AnswersState plan from n old new to m answer → is_settled answer ≡ true → AreFactsOf plan.names new.facts
+pub settled_facts : (plan : Plan) (from to : Standing) (n m : ℕ) (old new : Picture) (answer : Turn) → StandsSound plan n from → StandsOpen from → AnswersState plan from n old new to m answer → is_settled answer ≡ true → AreFactsOf plan.names new.facts
 settled_facts plan (answered last) to n m old new answer r o a s = absurd o
 settled_facts plan spent to n m old new answer r o a s = absurd o
 settled_facts plan (open_at moment) to n m old new turn.Went r o a s =
     let b = a.0.1 in
-    let last = leads_ready scene_laws (setting plan n) (kinds_of plan.names) b.picks moment b.last r b.goes.closes.leads in
-    facts_are plan.names b.last.store new.facts last.sound.store b.picture_is.facts
+    let last = leads_sound scene_laws (setting plan n) (kinds_of plan.names) b.picks moment b.last r b.goes.closes.leads in
+    facts_are plan.names b.last.store new.facts last.store b.picture_is.facts
 settled_facts plan (open_at moment) to n m old new (turn.Finished length) r o a s =
     let b = a.0.0 in
-    let last = leads_ready scene_laws (setting plan n) (kinds_of plan.names) b.picks moment b.last r b.ends.closes.leads in
-    facts_are plan.names b.last.store new.facts last.sound.store b.picture_is.facts
+    let last = leads_sound scene_laws (setting plan n) (kinds_of plan.names) b.picks moment b.last r b.ends.closes.leads in
+    facts_are plan.names b.last.store new.facts last.store b.picture_is.facts
 settled_facts plan (open_at moment) to n m old new (turn.Contradictory state clash) r o a s = cc
 settled_facts plan (open_at moment) to n m old new (turn.Undetermined state cell) r o a s = cc
 settled_facts plan (open_at moment) to n m old new (turn.StateLimit states) r o a s = cc

@@ -12,7 +12,7 @@ use Rattle.tp_call.specs.Run.{plan_of, EndSays}
 use Rattle.tp_call.proofs.SilentLemmas.{shows_nothing}
 
 means : (program : CheckedProgram) (pictures : List Picture) (answer : Turn) → IsBuilt program.names program.main → RunEndsWith (plan_of program) pictures answer → EndOfRunMeans (plan_of program) pictures answer
-means program pictures answer built e = end_means scene_laws begin_laws state_laws (plan_of program) built pictures answer e
+means program pictures answer built e = end_means scene_laws begin_laws state_laws (plan_of program) built.1 pictures answer e
 
 -- The end of a run says of every interval what it has to say.
 pub end_says : (program : CheckedProgram) (pictures : List Picture) (answer : Turn) → IsBuilt program.names program.main → RunEndsWith (plan_of program) pictures answer → EndSays (plan_of program) pictures answer

@@ -1,9 +1,11 @@
 -- A run that finishes shows nothing: no formula of the kinds that are run does.
-use Rattle.std.proofs.Common.{◌≡◌, inl, inr, ℕ, suc, List, [], ◌∷◌, ◌++◌, refl, ap, sym, ◌∙◌, arith}
-use Rattle.tp_meaning.specs.Syntax.{FormulaTree, FormulaTrees, no_formula, formula_then, trivial, test, equation, next_equation, empty, more, next, weak_next, if_more, if_empty, always, conjunction, branch, len, assign}
-use Rattle.tp_meaning.specs.Course.{Course, Shows, blank, shown_at}
+use Rattle.std.proofs.Common.{◌≡◌, inl, inr, ℤ, pos, ◌+ℤ◌, ℕ, zero, suc, ◌+◌, ◌≤◌, ◌<◌, eqb, List, [], ◌∷◌, ◌++◌, refl, ap, sym, ◌∙◌, arith}
+use Rattle.std.proofs.lemmas.Bool.{cond_both}
+use Rattle.tp_value.specs.Tree.{Tree}
+use Rattle.tp_meaning.specs.Syntax.{FormulaTree, FormulaTrees, no_formula, formula_then, trivial, test, equation, next_equation, empty, more, next, weak_next, if_more, if_empty, always, conjunction, branch, len, assign, chop, while, for_from, forall_from, project, exists, call, input, display}
+use Rattle.tp_meaning.specs.Course.{Part, Course, Shows, blank, ◌⊕◌, shown_at, woven}
 use Rattle.tp_meaning.specs.Value.{Env, Calls, calls_at}
-use Rattle.tp_meaning.specs.Holds.{Context, CallMeanings, HoldsBy, AllHoldBy, CallHolds}
+use Rattle.tp_meaning.specs.Holds.{Context, CallMeanings, Pieces, Together, HoldsBy, AllHoldBy, CallHolds}
 use Rattle.tp_meaning.proofs.Shows.{joined-blank, total-blank, shown_there}
 use Rattle.tp_kernel.specs.Built.{IsBuilt, HasBuiltKinds, HaveBuiltKinds}
 use Rattle.tp_decide.specs.Read.{shows_of}
@@ -11,6 +13,27 @@ use Rattle.tp_run.specs.declared.turn.Picture.{Picture}
 use Rattle.tp_run.specs.States.{Plan}
 use Rattle.tp_run.specs.History.{shown_from, SatisfiedExactly, Satisfiable}
 use Rattle.tp_call.specs.Run.{ShowNothing}
+
+-- where each piece shows nothing
+pieces_silent : (P : ℤ → Part) → ((k : ℤ) (i j : ℕ) (T : Shows) → P k i j T → T ≡ blank) → (m : ℕ) (k : ℤ) (a b : ℕ) (S : Shows) → Pieces P m k a b S → S ≡ blank
+pieces_silent P go zero k a b S h = h.1
+pieces_silent P go (suc m) k a b S h = joined-blank S h.1 h.2 h.7 (go k a h.0 h.1 h.5) (pieces_silent P go m (k +ℤ pos 1) h.0 b h.2 h.6)
+
+together_silent : (P : ℤ → Part) (a b : ℕ) → ((k : ℤ) (T : Shows) → P k a b T → T ≡ blank) → (m : ℕ) (k : ℤ) (S : Shows) → Together P m k a b S → S ≡ blank
+together_silent P a b go zero k S h = h
+together_silent P a b go (suc m) k S h = joined-blank S h.0 h.1 h.4 (go k h.0 h.2) (together_silent P a b go m (k +ℤ pos 1) h.1 h.3)
+
+nothing_at : (a : ℕ) (vs : List (List Tree)) → vs ≡ [] → shown_at a vs ≡ blank
+nothing_at a vs e = λ i j. at j i
+  where
+    at : (j : ℕ) → shown_at a vs j ≡ []
+    at j = cond_both (eqb j a) vs [] (λ x. x ≡ []) (λ _. e) (λ _. refl)
+
+woven_silent : (m k : ℕ) (c : ℕ → ℕ) (V : Shows) (T : ℕ → Shows) → V ≡ blank → ((j : ℕ) → k ≤ j → j < m + k → T j ≡ blank) → woven m k c V T ≡ blank
+woven_silent zero k c V T e h = nothing_at (c k) (V k) (ap (λ (X : Shows). X k) e)
+woven_silent (suc m) k c V T e h =
+    joined-blank (woven (suc m) k c V T) (shown_at (c k) (V k)) (T k ⊕ woven m (suc k) c V T) refl (nothing_at (c k) (V k) (ap (λ (X : Shows). X k) e))
+    (joined-blank (T k ⊕ woven m (suc k) c V T) (T k) (woven m (suc k) c V T) refl (h k (omega arith) (omega arith)) (woven_silent m (suc k) c V T e (λ j u v. h j (omega arith) (omega arith))))
 
 module _ (w : Context) (calls : Calls) (meanings : CallMeanings) where
   mutual
@@ -34,7 +57,16 @@ module _ (w : Context) (calls : Calls) (meanings : CallMeanings) where
     silent (branch e f g) env s a b S k (inr h) = silent g env s a b S k.1 h.1
     silent (len e) env s a b S k h = h.3
     silent (assign t e) env s a b S k h = h.3
-    silent f env s a b S k h = absurd k
+    silent (chop f g) env s a b S k h = joined-blank S h.1 h.2 h.7 (silent f env s a h.0 h.1 k.0 h.5) (silent g env s h.0 b h.2 k.1 h.6)
+    silent (while e f) env s a b S k h = pieces_silent _ (λ v i j T q. silent f env s i j T k q.2) h.0 _ a b S h.1
+    silent (for_from name from to f) env s a b S k h = pieces_silent _ (λ v i j T q. silent f _ s i j T k q) _ from a b S h.2
+    silent (forall_from name from to f) env s a b S k h = together_silent _ a b (λ v T q. silent f _ s a b T k q) _ from S h.2
+    silent (project f g) env s a b S k h =
+        h.9 ∙ woven_silent h.1 0 h.0 h.2 h.3 (silent g _ _ 0 h.1 h.2 k.1 h.8) (λ j u v. silent f env s (h.0 j) (h.0 (suc j)) (h.3 j) k.0 (h.7 j (omega arith)))
+    silent (exists name lasting f) env s a b S k h = absurd k
+    silent (call p es) env s a b S k h = absurd k
+    silent (input x port) env s a b S k h = absurd k
+    silent (display es) env s a b S k h = absurd k
 
     all_silent : (fs : FormulaTrees) (env : Env) (s : Course) (a b : ℕ) (S : Shows) → HaveBuiltKinds fs → AllHoldBy w calls meanings fs env s a b S → S ≡ blank
     all_silent no_formula env s a b S k h = h

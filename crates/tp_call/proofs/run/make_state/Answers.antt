@@ -8,7 +8,7 @@ use Rattle.tp_call.proofs.run.make_state.Goals as goal
 pub write_settled-requires : goal.write_settled-requires
 write_settled-requires g c = λ settled.
     let r = c.requires.run in
-    subst (λ names. AreFactsOf names c.state.new.picture.facts) r.1 (settled_facts r.0 _ _ _ _ _ _ _ r.2.ready c.requires.open (c.in_ok-turn.ensures.made r.0 r.2) settled)
+    subst (λ names. AreFactsOf names c.state.new.picture.facts) r.1 (settled_facts r.0 _ _ _ _ _ _ _ r.2.sound c.requires.open (c.in_ok-turn.ensures.made r.0 r.2) settled)
 
 pub returns-clause-made : goal.returns-clause-made
 returns-clause-made g c = λ plan runs. answer_made _ _ _ _ _ _ _ (c.in_ok-turn.ensures.made plan runs) _ _ _ c.status_of.ensures c.in_ok-write_settled.ensures.written
