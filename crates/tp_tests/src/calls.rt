@@ -14,7 +14,7 @@ use tp_value::{Globals, Text};
 mod faults;
 mod rows;
 
-use rows::{DERIVED, INTERVALS, LONG, NOT_RUN, REFUSED, STATES, VALUES};
+use rows::{DERIVED, IN_PARTS, INTERVALS, LONG, NOT_RUN, REFUSED, STATES, VALUES};
 
 // The status of a call with these words.
 fn status_of<F: Files, K: Sink>(
@@ -50,8 +50,8 @@ fn expect(
 
 #[test]
 fn sources_are_run(rt: HostRuntime) -> Result<(), Fail> {
-    let tables: [&[(&str, u8, &str)]; 6] = [
-        &STATES, &INTERVALS, &DERIVED, &VALUES, &REFUSED, &NOT_RUN,
+    let tables: [&[(&str, u8, &str)]; 7] = [
+        &STATES, &INTERVALS, &IN_PARTS, &DERIVED, &VALUES, &REFUSED, &NOT_RUN,
     ];
     for table in tables {
         for (source, code, text) in table {

@@ -1,4 +1,4 @@
-// The derived operator that no source is checked to. The nine others are among the rows of the checker.
+// A derived operator that is made without a source. It and the nine others are among the rows of the checker.
 use crate::spelling::spell;
 use std::rc::Rc;
 use std::test::Fail;

@@ -12,6 +12,8 @@ mod formulas;
 #[cfg(test)]
 mod inputs;
 #[cfg(test)]
+mod kinds;
+#[cfg(test)]
 mod making;
 #[cfg(test)]
 mod outcomes;

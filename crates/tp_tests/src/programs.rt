@@ -90,16 +90,133 @@ const DERIVED: [(&str, &str); 15] = [
     ),
 ];
 
+// Formulas of parts of the interval.
+const PARTS: [(&str, &str); 12] = [
+    (
+        "run A; b; empty.",
+        "(; (= X0 true) (; (= x1 true) empty)) over A b",
+    ),
+    (
+        "run A proj b proj empty.",
+        "(proj (= X0 true) (proj (= x1 true) empty)) over A b",
+    ),
+    (
+        "run (A proj skip); not B.",
+        "(; (proj (= X0 true) (next empty)) (= X1 false)) over A B",
+    ),
+    (
+        "run A = 1; A = 2 and B.",
+        "(; (= X0 1) (and (= X0 2) (= X1 true))) over A B",
+    ),
+    (
+        "run while A < b do A := b.",
+        "(while (< X0 x1) (and (next empty) (next= 1 X0 x1))) over A b",
+    ),
+    (
+        "run while a do while B do skip.",
+        "(while x0 (while X1 (next empty))) over a B",
+    ),
+    (
+        "run repeat skip until A = 1.",
+        "(; (next empty) (while (not (= X0 1)) (next empty))) over A",
+    ),
+    (
+        "run repeat A gets b until C.",
+        "(; (always (ifmore (next= 1 X0 x1))) (while (not X2) (always (ifmore (next= 1 X0 x1))))) over A b C",
+    ),
+    ("run for i < 3 do skip.", "(for i 0 3 (next empty)) over"),
+    (
+        "run forall i < |L| : L[i] = 0.",
+        "(forall i 0 (size X0) (= (index X0 b0) 0)) over L",
+    ),
+    (
+        "run always(if A then B; skip).",
+        "(always (if X0 (; (= X1 true) (next empty)) true)) over A B",
+    ),
+    (
+        "run for i < A do B; C.",
+        "(for i 0 X0 (; (= X1 true) (= X2 true))) over A B C",
+    ),
+];
+
+// Bound names.
+const SCOPES: [(&str, &str); 16] = [
+    ("run for i < 3 do A = i.", "(for i 0 3 (= X0 b0)) over A"),
+    ("run for i < i do A = i.", "(for i 0 x0 (= X1 b0)) over i A"),
+    (
+        "run forall i < 1 : forall j < i : A = j + i.",
+        "(forall i 0 1 (forall j 0 b0 (= X0 (+ b1 b0)))) over A",
+    ),
+    (
+        "run forall i < 1 : forall i < i : A = i.",
+        "(forall i 0 1 (forall i 0 b0 (= X0 b1))) over A",
+    ),
+    (
+        "run forall i < 1 : (for i < 2 do skip) and A = i.",
+        "(forall i 0 1 (and (for i 0 2 (next empty)) (= X0 b0))) over A",
+    ),
+    (
+        "run (forall i < 1 : A = i) and A = i.",
+        "(and (forall i 0 1 (= X0 b0)) (= X0 x1)) over A i",
+    ),
+    (
+        "run A = i and forall i < 1 : A = i.",
+        "(and (= X0 x1) (forall i 0 1 (= X0 b0))) over A i",
+    ),
+    (
+        "run (for i < 1 do A = i); for j < 1 do A = i + j.",
+        "(; (for i 0 1 (= X0 b0)) (for j 0 1 (= X0 (+ x1 b0)))) over A i",
+    ),
+    ("run for i < 1 do i.", "(for i 0 1 (= b0 true)) over"),
+    (
+        "run for i < 1 do not i[1].",
+        "(for i 0 1 (= (index b0 1) false)) over",
+    ),
+    (
+        "run for i < 1 do i gets A.",
+        "(for i 0 1 (always (ifmore (next= 1 b0 X0)))) over A",
+    ),
+    (
+        "run for i < 1 do i := i + 1.",
+        "(for i 0 1 (and (next empty) (next= 1 b0 (+ b0 1)))) over",
+    ),
+    (
+        "run for i < 1 do next i = i.",
+        "(for i 0 1 (and more (next= 1 b0 b0))) over",
+    ),
+    (
+        "run forall ii < 1 : A[i] = ii.",
+        "(forall ii 0 1 (= (index X0 x1) b0)) over A i",
+    ),
+    (
+        "run forall i < 1 : while L[i] do repeat halt(A = i) until L[i].",
+        "(forall i 0 1 (while (index X0 b0) (; (always (if (= X1 b0) empty more)) (while (not (index X0 b0)) (always (if (= X1 b0) empty more)))))) over L A",
+    ),
+    (
+        "run (forall i < B : i = A) proj i = A.",
+        "(proj (forall i 0 X0 (= b0 X1)) (= x2 X1)) over B A i",
+    ),
+];
+
 // What isn't run, with the place of the phrase that is to blame.
-const NOT_EXECUTABLE: [(&str, &str); 18] = [
-    ("run (skip); skip.", "not executable at 4"),
-    ("run (skip) proj skip.", "not executable at 4"),
+const NOT_EXECUTABLE: [(&str, &str); 24] = [
+    ("run skip; not skip.", "not executable at 10"),
+    ("run p(); not skip.", "not executable at 4"),
+    ("run skip proj p().", "not executable at 14"),
+    ("run while p() do not skip.", "not executable at 10"),
+    ("run while A do p().", "not executable at 15"),
+    ("run repeat not skip until p().", "not executable at 11"),
+    ("run repeat skip until p().", "not executable at 22"),
+    ("run for i < p() do not skip.", "not executable at 12"),
+    (
+        "run forall i < i : exists X: X = i.",
+        "not executable at 19",
+    ),
+    ("run not (skip; skip).", "not executable at 4"),
     ("run not skip.", "not executable at 4"),
     ("run not p().", "not executable at 4"),
     ("run (empty) or A.", "not executable at 4"),
     ("run (A) or empty.", "not executable at 4"),
-    ("run while A do skip.", "not executable at 4"),
-    ("run repeat skip until A.", "not executable at 4"),
     ("run always(exists X: X).", "not executable at 11"),
     ("run A = 1 + p().", "not executable at 12"),
     ("run (p()) gets 1.", "not executable at 5"),
@@ -113,7 +230,15 @@ const NOT_EXECUTABLE: [(&str, &str); 18] = [
 ];
 
 // No expressions, no places, and wrong numbers of operands.
-const OTHER_REFUSALS: [(&str, &str); 20] = [
+const OTHER_REFUSALS: [(&str, &str); 28] = [
+    ("run while skip do not skip.", "not an expression at 10"),
+    ("run repeat skip until next A.", "not an expression at 22"),
+    ("run for i < next A do skip.", "not an expression at 12"),
+    ("run forall i < (A; B) : i.", "not an expression at 16"),
+    ("run A = (for i < 1 do i).", "not an expression at 9"),
+    ("run A = (while A do A).", "not an expression at 9"),
+    ("run A = (repeat A until A).", "not an expression at 9"),
+    ("run forall i < 1 : i + 1 gets 1.", "not a place at 19"),
     ("run next A = next B.", "not an expression at 13"),
     ("run next skip = next B.", "not an expression at 9"),
     ("run A = 1 + next B.", "not an expression at 12"),
@@ -174,10 +299,12 @@ fn outcome(alloc: Global, text: &str) -> Result<Text, Fail> {
 
 #[test]
 fn sources_are_checked(rt: HostRuntime) -> Result<(), Fail> {
-    let tables: [&[(&str, &str)]; 6] = [
+    let tables: [&[(&str, &str)]; 8] = [
         &STATES,
         &OPERATORS,
         &DERIVED,
+        &PARTS,
+        &SCOPES,
         &NOT_EXECUTABLE,
         &OTHER_REFUSALS,
         &DEFINITIONS,

@@ -1,17 +1,22 @@
 // Small runs to their ends: each call succeeds where there is memory enough.
-ghost use Rattle.std.specs.Prelude.{◌≡◌, ◌<◌};
+ghost use Rattle.std.specs.Prelude.{◌≡◌, ◌<◌, [], List, Bool, IfOk};
+ghost use Rattle.tp_kernel.specs.Read.{formula_tree};
+ghost use Rattle.tp_meaning.specs.Fits.{FormulaFits};
+ghost use Rattle.tp_meaning.specs.Interval.{kinds_of};
 
 use crate::making::path;
 use crate::sources::program_of;
 use std::alloc::Global;
 use std::marker::Brand;
+use std::rc::Rc;
 use std::sync::ledger::{Blank, Ledger};
 use std::test::Fail;
 use tp_check::Program;
 use tp_inputs::Inputs;
+use tp_kernel::Formula;
 use tp_run::{Limits, Picture, Run, Turn};
 use tp_step::{Order, Shows, Steps};
-use tp_value::{Facts, NoMemory};
+use tp_value::{Facts, Globals, NoMemory};
 
 // What the run's store knows of the first variable: its name, and the shape of its value where one is kept.
 fn known(alloc: Global, run: &Run) -> Result<String, NoMemory> {
@@ -47,17 +52,18 @@ fn said(alloc: Global, picture: &Picture, run: &Run, out: &mut String) -> Result
 fn history<L: Ledger>(
     alloc: Global,
     blank: Blank,
-    source: &[u8],
+    main: Rc<Formula>,
+    globals: &Globals,
     limits: Limits,
 ) -> Result<String, Fail>
     requires name { blank.name ≡ L.name }
     requires parts { blank.parts ≡ L.parts }
     requires some { 0 < L.parts }
+    requires fits { FormulaFits [] (kinds_of globals.now) (formula_tree main.value) 0 }
 {
     let mut steps = Steps::<L>::new(blank);
-    let Program { main, globals } = program_of(alloc, source)?;
     let inputs = Inputs::none(alloc)?;
-    let mut run = Run::start(alloc, main, &globals, inputs, limits, Order::First)?;
+    let mut run = Run::start(alloc, main, globals, inputs, limits, Order::First)?;
     let mut picture = Picture {
         state: 9,
         facts: Facts {
@@ -85,11 +91,36 @@ fn history<L: Ledger>(
 
 // The states of a run that counts its tries by itself.
 fn told_history(alloc: Global, source: &[u8], limits: Limits) -> Result<String, Fail> {
-    history::<Brand>(alloc, Blank::new(1), source, limits)
+    let Program { main, globals } = program_of(alloc, source)?;
+    history::<Brand>(alloc, Blank::new(1), main, &globals, limits)
+}
+
+// Chops in chops, so many deep: each but the innermost has the next one as its first part, and every other part is the end.
+fn chops(alloc: Global, depth: u32) -> Result<Rc<Formula>, NoMemory>
+    ensures { IfOk result (λ w.
+        (kinds : List Bool) → FormulaFits [] kinds (formula_tree w.value) 0) }
+{
+    let mut whole = Rc::new(alloc, Formula::Empty)?;
+    for _ in 0..depth {
+        let end = Rc::new(alloc, Formula::Empty)?;
+        whole = Rc::new(alloc, Formula::Chop(whole, end))?;
+    }
+    Ok(whole)
+}
+
+// The run of these.
+fn told_chops(alloc: Global, depth: u32) -> Result<String, Fail> {
+    let main = chops(alloc, depth)?;
+    let globals = Globals::new(alloc)?;
+    let limits = Limits {
+        states: 9,
+        reductions: 9_999,
+    };
+    history::<Brand>(alloc, Blank::new(1), main, &globals, limits)
 }
 
 // A program, the greatest numbers of states and of reductions, the states made, and the end.
-const ROWS: [(&str, u64, u64, &str, &str); 8] = [
+const ROWS: [(&str, u64, u64, &str, &str); 9] = [
     ("run empty.", 9, 9, "?, 0 /1 ?, ", "Finished { length: 0 }"),
     (
         "run len(3) and A = 0 and A gets A + 1.",
@@ -140,18 +171,43 @@ const ROWS: [(&str, u64, u64, &str, &str); 8] = [
         "A, 9 /0 A, ",
         "Over { state: 0, limit: Number }",
     ),
+    (
+        "run for i < 9223372036854775807 do empty.",
+        9,
+        1000,
+        "?, 9 /0 ?, ",
+        "Over { state: 0, limit: Reductions }",
+    ),
 ];
 
 #[test]
 fn runs_come_to_their_ends(rt: HostRuntime) -> Result<(), Fail> {
-    for (source, states, reductions, made, end) in &ROWS {
-        let limits = Limits {
-            states: *states,
-            reductions: *reductions,
-        };
-        let text = told_history(rt.alloc(), source.as_bytes(), limits)?;
-        let expected = format!(in rt.alloc(); "{made}{end} {end}")?;
-        assert_eq!(rt; text.as_str(), expected.as_str());
+    let tables: [&[(&str, u64, u64, &str, &str)]; 1] = [&ROWS];
+    for table in tables {
+        for (source, states, reductions, made, end) in table {
+            let limits = Limits {
+                states: *states,
+                reductions: *reductions,
+            };
+            let text = told_history(rt.alloc(), source.as_bytes(), limits)?;
+            let expected = format!(in rt.alloc(); "{made}{end} {end}")?;
+            assert_eq!(rt; text.as_str(), expected.as_str());
+        }
     }
+    Ok(())
+}
+
+#[test]
+fn regions_are_nested_to_their_limit(rt: HostRuntime) -> Result<(), Fail> {
+    let highest = told_chops(rt.alloc(), 400)?;
+    assert_eq!(rt;
+        highest.as_str(),
+        "?, 0 /1201 ?, Finished { length: 0 } Finished { length: 0 }"
+    );
+    let higher = told_chops(rt.alloc(), 401)?;
+    assert_eq!(rt;
+        higher.as_str(),
+        "?, 9 /0 ?, Over { state: 0, limit: Nest } Over { state: 0, limit: Nest }"
+    );
     Ok(())
 }

@@ -1,5 +1,5 @@
 // Formulas as texts: what has operands stands in parentheses, its operator first. A state variable is written by its number behind `X`, a static
-// one behind `x`.
+// one behind `x`, a bound name behind `b`. In a range stand its name and its first number.
 use std::alloc::Global;
 use std::rc::Rc;
 use tp_kernel::{Expr, Formula, Op2};
@@ -21,10 +21,11 @@ fn sign(op: Op2) -> &'static str {
     }
 }
 
-// What is written before an expression's operands; none for a number and a variable.
+// What is written before an expression's operands; none for a number, a variable and a bound name.
 fn expr_word(e: &Expr) -> &'static str {
     match e {
         Expr::Number(_) => "",
+        Expr::Bound(_) => "",
         Expr::Global(_) => "",
         Expr::Truth(true) => "true",
         Expr::Truth(false) => "false",
@@ -80,6 +81,9 @@ fn formula_word(w: &Formula) -> &'static str {
         Formula::Assign(_, _) => "(<-",
         Formula::Chop(_, _) => "(;",
         Formula::While(_, _) => "(while",
+        Formula::For { .. } => "(for",
+        Formula::Forall { .. } => "(forall",
+        Formula::Proj(_, _) => "(proj",
         _ => "(?",
     }
 }
@@ -90,6 +94,8 @@ fn formula_exprs<'a>(w: &'a Formula) -> [Option<&'a Expr>; 2] {
         Formula::Len(a) => [Some(a), None],
         Formula::If(a, _, _) => [Some(a), None],
         Formula::While(a, _) => [Some(a), None],
+        Formula::For { to, .. } => [Some(to), None],
+        Formula::Forall { to, .. } => [Some(to), None],
         Formula::Eq(a, b) => [Some(a), Some(b)],
         Formula::NextEq(_, a, b) => [Some(a), Some(b)],
         Formula::Assign(a, b) => [Some(a), Some(b)],
@@ -104,6 +110,9 @@ fn formula_parts<'a>(w: &'a Formula) -> [Option<&'a Formula>; 2] {
         Formula::IfEmpty(a) => [Some(a), None],
         Formula::Always(a) => [Some(a), None],
         Formula::While(_, a) => [Some(a), None],
+        Formula::For { body, .. } => [Some(body), None],
+        Formula::Forall { body, .. } => [Some(body), None],
+        Formula::Proj(a, b) => [Some(a), Some(b)],
         Formula::Chop(a, b) => [Some(a), Some(b)],
         Formula::If(_, a, b) => [Some(a), Some(b)],
         _ => [None, None],
@@ -129,11 +138,29 @@ fn append_head(alloc: Global, e: &Expr, out: &mut Text) -> Result<(), NoMemory> 
     out.append(expr_word(e).as_bytes())?;
     match e {
         Expr::Number(n) => out.append(format!(in alloc; "{n}")?.as_bytes()),
+        Expr::Bound(number) => out.append(format!(in alloc; "b{number}")?.as_bytes()),
         Expr::Global(x) => {
             let kind = if x.lasting { "x" } else { "X" };
             out.append(format!(in alloc; "{kind}{}", x.number)?.as_bytes())
         }
         Expr::Op(op, _, _) => out.append(sign(*op).as_bytes()),
+        _ => Ok(()),
+    }
+}
+
+fn append_range(alloc: Global, name: &Text, from: i64, out: &mut Text) -> Result<(), NoMemory> {
+    out.append(b" ")?;
+    out.append(name.as_slice())?;
+    out.append(format!(in alloc; " {from}")?.as_bytes())
+}
+
+// Writes a formula up to its operands.
+fn append_start(alloc: Global, w: &Formula, out: &mut Text) -> Result<(), NoMemory> {
+    out.append(formula_word(w).as_bytes())?;
+    match w {
+        Formula::NextEq(count, _, _) => out.append(format!(in alloc; " {count}")?.as_bytes()),
+        Formula::For { name, from, .. } => append_range(alloc, name, *from, out),
+        Formula::Forall { name, from, .. } => append_range(alloc, name, *from, out),
         _ => Ok(()),
     }
 }
@@ -167,10 +194,7 @@ fn begin_formula<'a>(
     left: &mut Vec<Piece<'a>>,
     out: &mut Text,
 ) -> Result<(), NoMemory> {
-    out.append(formula_word(w).as_bytes())?;
-    if let Formula::NextEq(count, _, _) = w {
-        out.append(format!(in alloc; " {count}")?.as_bytes())?;
-    }
+    append_start(alloc, w, out)?;
     if formula_word(w).starts_with('(') {
         left.push(Piece::Close)?;
     }

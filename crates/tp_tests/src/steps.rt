@@ -1,50 +1,54 @@
 // Steps in small: what each kind of formula becomes, and what a state comes to.
 ghost use Rattle.std.specs.Prelude.{◌≡◌, ◌<◌, [], List, Bool, IfOk, OnOk};
-ghost use Rattle.tp_kernel.specs.Read.{definitions_of};
-ghost use Rattle.tp_scene.specs.Built.{IsReady};
-ghost use Rattle.tp_decide.specs.Read.{scene_of};
-ghost use Rattle.tp_decide.specs.Flat.{HasOneRegion};
-ghost use Rattle.tp_step.specs.Answers.{moment_of, setting_of};
+ghost use Rattle.tp_kernel.specs.Read.{definitions_of, formula_tree};
+ghost use Rattle.tp_meaning.specs.Fits.{FormulaFits};
+ghost use Rattle.tp_meaning.specs.Interval.{kinds_of};
+ghost use Rattle.tp_scene.specs.Laws.{IsSound};
+ghost use Rattle.tp_decide.specs.Decided.{setting_of};
+ghost use Rattle.tp_slots.specs.Kept.{IsWellKept};
+ghost use Rattle.tp_step.specs.Answers.{moment_of};
 
 use crate::sources::program_of;
 use std::alloc::Global;
 use std::marker::Brand;
+use std::rc::Rc;
 use std::sync::ledger::{Blank, Ledger};
 use std::test::Fail;
+use tp_check::Program;
 use tp_inputs::Inputs;
-use tp_kernel::Defs;
+use tp_kernel::{Defs, Formula};
 use tp_step::{
-    ItemIds, News, Scene, Settled, Shows, Steps, Tried, advance, has_item, items, mark, settled,
-    shown, start, try_item,
+    ItemIds, News, Scene, Setting, Settled, Shows, Steps, Tried, advance, has_item, items, mark,
+    settled, shown, start, try_item,
 };
 use tp_store::Store;
-use tp_value::NoMemory;
+use tp_value::{Globals, NoMemory};
 
-// The definitions, of which there are none, and the inputs.
-#[derive(Drop)]
-struct Setup {
-    defs: Defs,
-    inputs: Inputs,
-}
-
-fn nothing(alloc: Global) -> Result<Setup, NoMemory>
-    ensures { IfOk result (λ g. definitions_of g.defs ≡ []) }
+// State 0, without definitions and inputs.
+fn first_setting(alloc: Global) -> Result<Setting, NoMemory>
+    ensures { IfOk result (λ setting. definitions_of setting.defs ≡ []) }
 {
     let inputs = Inputs::none(alloc)?;
     let defs = Defs {
         items: Vec::new(alloc),
     };
-    Ok(Setup { defs, inputs })
+    Ok(Setting {
+        alloc,
+        defs,
+        inputs,
+        state: 0,
+    })
 }
 
 // What a run of this program begins with.
-fn begin(alloc: Global, source: &[u8], setup: &Setup) -> Result<(Scene, Store), Fail>
-    requires { definitions_of setup.now.defs ≡ [] }
-    ensures { IfOk result (λ r.
-        (kinds : List Bool)
-        × IsReady (setting_of setup.now.defs setup.now.inputs 0) kinds (moment_of r.0 r.1)) }
+fn begin(alloc: Global, program: &Program, setting: &Setting) -> Result<(Scene, Store), NoMemory>
+    requires none { definitions_of setting.now.defs ≡ [] }
+    requires fits { FormulaFits [] (kinds_of program.now.globals)
+        (formula_tree program.now.main.value) 0 }
+    ensures kept { IfOk result (λ r. IsWellKept r.0) }
+    ensures sound { IfOk result (λ r.
+        (kinds : List Bool) × IsSound (setting_of setting.now) kinds (moment_of r.0 r.1)) }
 {
-    let program = program_of(alloc, source)?;
     let store = Store::new(alloc, &program.globals)?;
     let scene = start(alloc, &program.main)?;
     Ok((scene, store))
@@ -75,62 +79,64 @@ fn said(alloc: Global, tried: &Tried) -> Result<String, NoMemory> {
 
 // How many items are live.
 fn count(alloc: Global, scene: &Scene) -> Result<usize, NoMemory>
-    requires { HasOneRegion (scene_of scene.now) }
+    requires { IsWellKept scene.now }
 {
     let mut live = ItemIds::new(alloc);
     items(alloc, scene, &mut live)?;
     Ok(live.items.len())
 }
 
-// What the state has come to, and the root's mark. There is no other region, and nothing is shown.
+// What the state has come to, the marks of the root and of the next two regions, and how many lists of values are shown.
 fn end(alloc: Global, scene: &Scene, out: &mut String) -> Result<(), Fail>
-    requires { HasOneRegion (scene_of scene.now) }
+    requires { IsWellKept scene.now }
 {
     let mut shows = Shows {
         items: Vec::new(alloc),
     };
     shown(alloc, scene, &mut shows)?;
-    if !shows.items.is_empty() {
-        return Err("something is shown".into());
-    }
-    if mark(scene, 1).is_some() {
-        return Err("another region".into());
-    }
+    let come_to = settled(alloc, scene)?;
     let root = mark(scene, 0).ok_or("no root")?;
-    let come_to = settled(scene);
     let text = format!(in alloc; "{come_to:?} {root:?}")?;
     out.push_str(text.as_str())?;
+    for region in 1..3 {
+        if let Some(inner) = mark(scene, region) {
+            let text = format!(in alloc; " {region}:{inner:?}")?;
+            out.push_str(text.as_str())?;
+        }
+    }
+    for _ in 0..shows.items.len() {
+        out.push_str(" shown")?;
+    }
     Ok(())
 }
 
 // Tries these items in order, with so many reductions left at each, and says of each what it answers, and how many items are live then; and what
 // the state has come to.
 fn tries<L: Ledger>(
-    alloc: Global,
     scene: &mut Scene,
     store: &mut Store,
     picks: &[u8],
-    setup: &Setup,
-    at: (u64, u64),
+    setting: &Setting,
+    room: u64,
     steps: &mut Steps<L>,
 ) -> Result<String, Fail>
-    requires none { definitions_of setup.now.defs ≡ [] }
-    requires ready { (kinds : List Bool)
-        × IsReady (setting_of setup.now.defs setup.now.inputs at.0) kinds
-        (moment_of scene.old store.old) }
-    ensures { OnOk result
+    requires none { definitions_of setting.now.defs ≡ [] }
+    requires kept { IsWellKept scene.old }
+    requires sound { (kinds : List Bool)
+        × IsSound (setting_of setting.now) kinds (moment_of scene.old store.old) }
+    ensures kept { OnOk result (IsWellKept scene.new) }
+    ensures sound { OnOk result
         ((kinds : List Bool)
-        × IsReady (setting_of setup.now.defs setup.now.inputs at.0) kinds
-        (moment_of scene.new store.new)) }
+        × IsSound (setting_of setting.now) kinds (moment_of scene.new store.new)) }
 {
+    let alloc = setting.alloc;
     let mut out = String::new(alloc);
     for digit in picks {
         let item = digit.saturating_sub(b'0') as u64;
         if !has_item(scene, item) {
             return Err("no such item".into());
         }
-        let Setup { defs, inputs } = setup;
-        let tried = try_item(alloc, scene, item, store, defs, inputs, at.0, at.1, steps)?;
+        let tried = try_item(scene, item, store, setting, room, steps)?;
         let text = said(alloc, &tried)?;
         let live = count(alloc, scene)?;
         let text = format!(in alloc; "{text} {live}, ")?;
@@ -140,18 +146,22 @@ fn tries<L: Ledger>(
     Ok(out)
 }
 
-// The scene of the next state, number 1.
-fn go_on(alloc: Global, scene: Scene, store: &mut Store, setup: &Setup) -> Result<Scene, Fail>
-    requires { (kinds : List Bool)
-        × IsReady (setting_of setup.now.defs setup.now.inputs 0) kinds (moment_of scene store.old) }
-    ensures { IfOk result (λ next.
-        (kinds : List Bool)
-        × IsReady (setting_of setup.now.defs setup.now.inputs 1) kinds (moment_of next store.new)) }
+// The scene of the next state, which is read with the setting that it leaves.
+fn go_on(scene: Scene, store: &mut Store, setting: &mut Setting) -> Result<Scene, Fail>
+    requires none { definitions_of setting.old.defs ≡ [] }
+    requires kept { IsWellKept scene }
+    requires sound { (kinds : List Bool)
+        × IsSound (setting_of setting.old) kinds (moment_of scene store.old) }
+    ensures none { OnOk result (definitions_of setting.new.defs ≡ []) }
+    ensures kept { IfOk result IsWellKept }
+    ensures sound { IfOk result (λ next.
+        (kinds : List Bool) × IsSound (setting_of setting.new) kinds (moment_of next store.new)) }
 {
-    match settled(&scene) {
+    match settled(setting.alloc, &scene)? {
         Settled::Goes => {
             store.next_state();
-            let next = advance(alloc, scene)?;
+            let next = advance(setting.alloc, scene)?;
+            setting.state = 1;
             Ok(next)
         }
         Settled::Waiting(_) => Err("an item waits".into()),
@@ -162,9 +172,9 @@ fn go_on(alloc: Global, scene: Scene, store: &mut Store, setup: &Setup) -> Resul
 
 // The first state of a run, and the second one where there are picks for it.
 fn told<L: Ledger>(
-    alloc: Global,
     blank: Blank,
-    source: &[u8],
+    program: &Program,
+    mut setting: Setting,
     first: &[u8],
     room: u64,
     second: Option<&[u8]>,
@@ -172,58 +182,44 @@ fn told<L: Ledger>(
     requires name { blank.name ≡ L.name }
     requires parts { blank.parts ≡ L.parts }
     requires some { 0 < L.parts }
+    requires none { definitions_of setting.defs ≡ [] }
+    requires fits { FormulaFits [] (kinds_of program.now.globals)
+        (formula_tree program.now.main.value) 0 }
 {
     let mut steps = Steps::<L>::new(blank);
-    let setup = nothing(alloc)?;
-    let (mut scene, mut store) = begin(alloc, source, &setup)?;
-    let mut out = tries(
-        alloc,
-        &mut scene,
-        &mut store,
-        first,
-        &setup,
-        (0, room),
-        &mut steps,
-    )?;
+    let (mut scene, mut store) = begin(setting.alloc, program, &setting)?;
+    let mut out = tries(&mut scene, &mut store, first, &setting, room, &mut steps)?;
     let Some(second) = second else {
         return Ok(out);
     };
-    let mut next = go_on(alloc, scene, &mut store, &setup)?;
-    let then = tries(
-        alloc,
-        &mut next,
-        &mut store,
-        second,
-        &setup,
-        (1, room),
-        &mut steps,
-    )?;
+    let mut next = go_on(scene, &mut store, &mut setting)?;
+    let then = tries(&mut next, &mut store, second, &setting, room, &mut steps)?;
     out.push_str(" then ")?;
     out.push_str(then.as_str())?;
     Ok(out)
 }
 
-// The same, of steps that count their tries by themselves.
+// The same of a source, by steps that count their tries by themselves.
 fn told_items(
     alloc: Global,
-    source: &str,
-    first: &str,
+    source: &[u8],
+    first: &[u8],
     room: u64,
-    second: Option<&str>,
+    second: Option<&[u8]>,
 ) -> Result<String, Fail> {
-    let source = source.as_bytes();
-    let first = first.as_bytes();
-    match second {
-        Some(second) => told::<Brand>(
-            alloc,
-            Blank::new(1),
-            source,
-            first,
-            room,
-            Some(second.as_bytes()),
-        ),
-        None => told::<Brand>(alloc, Blank::new(1), source, first, room, None),
-    }
+    let program = program_of(alloc, source)?;
+    let setting = first_setting(alloc)?;
+    told::<Brand>(Blank::new(1), &program, setting, first, room, second)
+}
+
+/// The same of a formula without variables, in its first state.
+pub fn told_formula(alloc: Global, main: Rc<Formula>, picks: &[u8]) -> Result<String, Fail>
+    requires { FormulaFits [] [] (formula_tree main.value) 0 }
+{
+    let globals = Globals::new(alloc)?;
+    let program = Program { main, globals };
+    let setting = first_setting(alloc)?;
+    told::<Brand>(Blank::new(1), &program, setting, picks, 9, None)
 }
 
 // A program, the items that are tried, how many reductions are left at each, and what is answered.
@@ -329,8 +325,73 @@ const MEETINGS: [(&str, &str, u64, &str); 9] = [
     ),
 ];
 
+// Programs of which some items hold regions.
+const REGIONS: [(&str, &str, u64, &str); 11] = [
+    (
+        "run empty ; A = 1.",
+        "0123",
+        9,
+        "2+0 2, 0+0! 1, 2+0 2, rests 2, Waiting(4) Open 1:Ends",
+    ),
+    (
+        "run more ; true.",
+        "012",
+        9,
+        "2+0 2, 0+0! 1, rests 1, Goes Goes 1:Goes",
+    ),
+    (
+        "run true ; true.",
+        "012",
+        9,
+        "2+0 2, 0+0 1, waits 1, Waiting(2) Open 1:Open",
+    ),
+    ("run true ; true.", "0", 0, "over 1, Waiting(0) Open"),
+    (
+        "run while false do true.",
+        "012",
+        9,
+        "1+0 1, 1+0 1, 0+0! 0, Ends Ends",
+    ),
+    (
+        "run while true do true.",
+        "0123",
+        9,
+        "1+0 1, 1+0 1, 2+0 2, 2+0 3, Waiting(5) Open 1:Open",
+    ),
+    (
+        "run for i < 0 do true.",
+        "01",
+        9,
+        "1+0 1, 0+0! 0, Ends Ends",
+    ),
+    (
+        "run for i < 2 do true.",
+        "01",
+        9,
+        "2+0 2, 0+0 1, Waiting(2) Open 1:Open",
+    ),
+    (
+        "run forall i < 2: A = i.",
+        "0123",
+        9,
+        "2+0 2, 0+1 1, 2+0 2, clash 2, Waiting(3) Open",
+    ),
+    (
+        "run empty proj more.",
+        "01234",
+        9,
+        "2+0 2, 0+0! 1, 3+0 3, 0+0! 2, clash 2, Waiting(4) Goes 1:Goes 2:Ends",
+    ),
+    (
+        "run empty proj empty.",
+        "012",
+        9,
+        "2+0 2, 0+0! 1, rests 1, Ends Ends 1:Ends",
+    ),
+];
+
 // A program, the items that are tried in the first state and in the second, and what is answered.
-const STATES: [(&str, &str, &str, &str); 3] = [
+const STATES: [(&str, &str, &str, &str); 5] = [
     (
         "run len(1).",
         "01",
@@ -349,14 +410,26 @@ const STATES: [(&str, &str, &str, &str); 3] = [
         "",
         "1+0! 1, Goes Goes then Waiting(0) Open",
     ),
+    (
+        "run len(1) ; true.",
+        "013",
+        "0213",
+        "2+0 2, 1+0 2, 1+0! 2, Goes Goes 1:Goes then 1+0 2, 0+0! 1, 2+0 2, rests 2, Waiting(4) Open 1:Ends",
+    ),
+    (
+        "run skip proj skip.",
+        "01245",
+        "0124",
+        "2+0 2, 1+0! 2, 3+0 4, 1+0! 4, 0+0! 3, Goes Goes 1:Goes 2:Goes then 0+0! 1, 3+0 3, 0+0! 2, rests 2, Ends Ends 1:Ends 2:Ends",
+    ),
 ];
 
 #[test]
 fn items_are_reduced(rt: HostRuntime) -> Result<(), Fail> {
-    let tables: [&[(&str, &str, u64, &str)]; 2] = [&KINDS, &MEETINGS];
+    let tables: [&[(&str, &str, u64, &str)]; 3] = [&KINDS, &MEETINGS, &REGIONS];
     for table in tables {
         for (source, picks, room, expected) in table {
-            let text = told_items(rt.alloc(), source, picks, *room, None)?;
+            let text = told_items(rt.alloc(), source.as_bytes(), picks.as_bytes(), *room, None)?;
             assert_eq!(rt; text.as_str(), *expected, "for {source}");
         }
     }
@@ -365,9 +438,13 @@ fn items_are_reduced(rt: HostRuntime) -> Result<(), Fail> {
 
 #[test]
 fn a_state_goes_on(rt: HostRuntime) -> Result<(), Fail> {
-    for (source, first, second, expected) in &STATES {
-        let text = told_items(rt.alloc(), source, first, 9, Some(second))?;
-        assert_eq!(rt; text.as_str(), *expected, "for {source}");
+    let tables: [&[(&str, &str, &str, &str)]; 1] = [&STATES];
+    for table in tables {
+        for (source, first, second, expected) in table {
+            let second = Some(second.as_bytes());
+            let text = told_items(rt.alloc(), source.as_bytes(), first.as_bytes(), 9, second)?;
+            assert_eq!(rt; text.as_str(), *expected, "for {source}");
+        }
     }
     Ok(())
 }

@@ -116,6 +116,65 @@ pub const INTERVALS: [(&str, u8, &str); 11] = [
     ),
 ];
 
+// Programs of parts: one after the other, in turns, and in pieces.
+pub const IN_PARTS: [(&str, u8, &str); 11] = [
+    (
+        "run (len(1) and A=0 and fin(B=1)) ; (len(1) and C=B).",
+        0,
+        "state 0: A=0\nstate 1: B=1 C=1\nstate 2:\nfinished: length 2\n",
+    ),
+    (
+        "run A=0 and while A=0 do empty.",
+        1,
+        "contradictory: state 0: ends and goes on at depth 1\n",
+    ),
+    (
+        "run A=0 and for i < 0 do skip.",
+        0,
+        "state 0: A=0\nfinished: length 0\n",
+    ),
+    (
+        "run A=0 and for i < 3 do skip.",
+        0,
+        "state 0: A=0\nstate 1:\nstate 2:\nstate 3:\nfinished: length 3\n",
+    ),
+    (
+        "run (len(2)) proj (len(3) and A=0 and A gets A+1).",
+        0,
+        "state 0: A=0\nstate 1:\nstate 2: A=1\nstate 3:\nstate 4: A=2\nstate 5:\nstate 6: A=3\nfinished: length 6\n",
+    ),
+    (
+        "run A=1 and (A := A+1 ; A := A*10).",
+        0,
+        "state 0: A=1\nstate 1: A=2\nstate 2: A=20\nfinished: length 2\n",
+    ),
+    (
+        "run (skip) proj (empty and A=1).",
+        0,
+        "state 0: A=1\nfinished: length 0\n",
+    ),
+    (
+        "run A=0 and repeat (A := A+1) until A=2.",
+        0,
+        "state 0: A=0\nstate 1: A=1\nstate 2: A=2\nfinished: length 2\n",
+    ),
+    (
+        "run list(L,3) and empty and forall i < 3 : L[i]=i*i.",
+        0,
+        "state 0: L=<0,1,4>\nfinished: length 0\n",
+    ),
+    (
+        "run A=0 and (true ; A=1).",
+        2,
+        "undetermined: state 0: end at depth 1\n",
+    ),
+    (
+        "run (len(2) proj (len(1) and A=0)) ; A=1 and empty.",
+        0,
+        "state 0: A=0\nstate 1:\nstate 2: A=1\nfinished: length 2\n",
+    ),
+];
+
 // Derived operators, ended each way.
 pub const DERIVED: [(&str, u8, &str); 11] = [
     (
@@ -278,39 +337,9 @@ pub const REFUSED: [(&str, u8, &str); 11] = [
 ];
 
 // What isn't run.
-pub const NOT_RUN: [(&str, u8, &str); 13] = [
+pub const NOT_RUN: [(&str, u8, &str); 7] = [
     (
         "run\nA=1 or empty.",
-        10,
-        "source refused: line 2 column 1: not executable\n",
-    ),
-    (
-        "run\nskip; skip.",
-        10,
-        "source refused: line 2 column 1: not executable\n",
-    ),
-    (
-        "run\nskip proj skip.",
-        10,
-        "source refused: line 2 column 1: not executable\n",
-    ),
-    (
-        "run\nwhile A do skip.",
-        10,
-        "source refused: line 2 column 1: not executable\n",
-    ),
-    (
-        "run\nrepeat skip until A.",
-        10,
-        "source refused: line 2 column 1: not executable\n",
-    ),
-    (
-        "run\nfor i<3 do skip.",
-        10,
-        "source refused: line 2 column 1: not executable\n",
-    ),
-    (
-        "run\nforall i<3: A=i.",
         10,
         "source refused: line 2 column 1: not executable\n",
     ),
