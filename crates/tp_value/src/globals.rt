@@ -5,6 +5,7 @@ ghost use Rattle.std.specs.Option.{option_copied};
 ghost use Rattle.tp_value.specs.Globals.{is_lower, variable_of, variable, with_name};
 
 use crate::{NoMemory, Text, VarId};
+use indexmap::IndexSet;
 use std::alloc::Global;
 use std::marker::Model;
 
@@ -12,7 +13,7 @@ use std::marker::Model;
 /// variable with number i; it is static where its name begins with a lower-case letter.
 #[derive(Debug, Drop)]
 pub struct Globals {
-    names: Vec<Text>,
+    names: IndexSet<Text>,
 }
 
 impl Model for Globals {
@@ -20,7 +21,7 @@ impl Model for Globals {
 
     ghost Value = { List (List ℕ) };
 
-    ghost view = { λ g. g.names.items };
+    ghost view = { λ g. g.names.keys };
 }
 
 // Whether variables of this name are static.
@@ -43,19 +44,13 @@ fn make_variable(name: &[u8], place: usize) -> VarId
     }
 }
 
-fn place_of(names: &[Text], name: &[u8]) -> Option<usize>
-    ensures { result ≡ position_from (bytes_eq name.now) 0 names.now }
-{
-    names.iter().position(|known| name == known.as_slice())
-}
-
 impl Globals {
     /// No names.
     pub fn new(alloc: Global) -> Result<Globals, NoMemory>
         ensures { IfOk result (λ globals. globals ≡ []) }
     {
         Ok(Globals {
-            names: Vec::new(alloc),
+            names: IndexSet::new(alloc),
         })
     }
 
@@ -69,7 +64,7 @@ impl Globals {
             return Ok(found);
         }
         let place = self.names.len();
-        self.names.push(name.copy()?)?;
+        self.names.insert(name.copy()?)?;
         Ok(make_variable(name.as_slice(), place))
     }
 
@@ -84,14 +79,15 @@ impl Globals {
     pub fn name(&self, number: u64) -> Option<&Text>
         ensures { option_copied result ≡ slice_get self.now number }
     {
-        self.names.get(number as usize)
+        self.names.get_index(number as usize)
     }
 
     /// The variable of that name, or none where the name is not there.
+    #[tactic(auto, using(crate::proofs::GlobalsLemmas::position_from_start))]
     pub fn find(&self, name: &Text) -> Option<VarId>
         ensures { result ≡ variable_of self.now name.now }
     {
-        let place = place_of(&self.names, name.as_slice())?;
+        let place = self.names.get_index_of(name)?;
         Some(make_variable(name.as_slice(), place))
     }
 }
