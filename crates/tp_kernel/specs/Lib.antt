@@ -1,3 +1,2 @@
 pub mod Read
 pub mod Equations
-pub mod Built

@@ -3,8 +3,10 @@
 
 mod derived;
 mod formula;
+mod letters;
 
 pub use derived::{becomes, fin, gets, halt, keep, list, next_equals, repeat, skip, stable};
 pub use formula::{
     Binding, Def, Defs, Env, Expr, Exprs, FaultKind, Formula, Formulas, LimitKind, Op2,
 };
+pub use letters::{is_lower, is_upper};
