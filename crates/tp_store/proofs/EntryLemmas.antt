@@ -1,17 +1,19 @@
 -- Entries and the parts that they stand for.
 use Rattle.std.proofs.Common.{◌≡◌, ℕ, zero, suc, ◌+◌, ◌<◌, ◌≤◌, Bool, true, false, cond, List, [], ◌∷◌, ◌++◌, length, map, take, drop, set, get_or, Some, None, Result, Ok, Err, slice_get, refl, ap, sym, ◌∙◌, subst, arith, append_assoc}
 use mathlib.Core.Bool.{beq}
-use Rattle.std.proofs.lemmas.List.{map-append, append-nil}
+use Rattle.std.proofs.lemmas.List.{map-append, append-nil, length-map}
+use Rattle.std.proofs.lemmas.Option.{slice_get_within}
+use Rattle.tp_value.specs.declared.path.VarId.{VarId}
 use Rattle.tp_value.specs.declared.path.Fact.{Fact}
 use Rattle.tp_value.specs.Tree.{same_truth}
-use Rattle.tp_store.specs.Known.{Variable, name_where, global_variable}
+use Rattle.tp_store.specs.Known.{Contents, Variable, IsVariableOf, name_where, global_variable}
 use Rattle.std.specs.Result.{OnErr}
 use Rattle.tp_value.specs.Globals.{is_lower}
 use Rattle.std.proofs.lemmas.Bool.{false_from_ne_true}
 use Rattle.tp_store.proofs.Paths.{same_truth-decides}
 use Rattle.tp_store.specs.declared.entry.Entry.{Entry}
-use Rattle.tp_store.specs.Entries.{VariableFacts, part_in, parts_in, facts_in, facts_there, without_facts, next_part, grown, AreParts}
-use Rattle.tp_store.proofs.Filing.{fresh_parts}
+use Rattle.tp_store.specs.Entries.{VariableFacts, part_in, parts_in, contents_of, facts_in, facts_there, without_facts, next_part, next_at, grown, AreParts}
+use Rattle.tp_store.proofs.Filing.{fresh_parts, part_of_variable}
 
 pub parts-push : (es fs : List Entry) (e : Entry) → fs ≡ es ++ e ∷ [] → parts_in fs ≡ parts_in es ++ part_in e ∷ []
 parts-push es fs e h = ap parts_in h ∙ map-append part_in es (e ∷ [])
@@ -38,6 +40,13 @@ get-parts (e ∷ es) (suc i) d h = get-parts es i d (omega arith)
 
 pub part_read : (es : List Entry) (i : ℕ) (e : Entry) → i < length es → e ≡ get_or es i e → slice_get (parts_in es) i ≡ Some (part_in e)
 part_read es i e h q = get-parts es i e h ∙ ap (λ x. Some (part_in x)) (sym q)
+
+-- a variable of the store's has an entry
+pub has_entry : (es : List Entry) (v : Contents) (x : VarId) → contents_of (parts_in es) ≡ v → IsVariableOf v.variables x → x.number < length es
+has_entry es v x e h =
+    let below : x.number < length (parts_in es) = slice_get_within (parts_in es) x.number _ (part_of_variable (parts_in es) v x e h).1 in
+    let P : ℕ → Type 0 = λ n. x.number < n in
+    subst P (length-map es part_in) below
 
 pub parts-take : (es : List Entry) (i : ℕ) (e : Entry) → i < length es → e ≡ get_or es i e → facts_in (take (i + 1) (parts_in es)) ≡ facts_in (take i (parts_in es)) ++ e.facts.items
 parts-take [] i e h q = absurd (omega arith)
@@ -84,22 +93,21 @@ no_name [] i b h = refl
 no_name (e ∷ es) zero b h = absurd (omega arith)
 no_name (e ∷ es) (suc i) b h = no_name es i b (omega arith)
 
--- one more variable goes on to the next state
-pub next_set : (es : List Entry) (i : ℕ) (e f : Entry) → i < length es → e ≡ get_or es i e → part_in f ≡ next_part (part_in e)
-    → take (i + 1) (parts_in (set es i f)) ++ map next_part (drop (i + 1) (parts_in (set es i f))) ≡ take i (parts_in es) ++ map next_part (drop i (parts_in es))
+-- one variable goes on to the next state
+pub next_set : (es : List Entry) (i : ℕ) (e f : Entry) → i < length es → e ≡ get_or es i e → part_in f ≡ next_part (part_in e) → parts_in (set es i f) ≡ next_at i (parts_in es)
 next_set [] i e f h q p = absurd (omega arith)
-next_set (x ∷ es) zero e f h q p = ap (λ y. y ∷ map next_part (parts_in es)) (p ∙ ap (λ (y : Entry). next_part (part_in y)) q)
-next_set (x ∷ es) (suc i) e f h q p =
-    let n : suc i + 1 ≡ suc (i + 1) = omega arith in
-    ap (λ m. take m (parts_in (set (x ∷ es) (suc i) f)) ++ map next_part (drop m (parts_in (set (x ∷ es) (suc i) f)))) n ∙ ap (λ ps. part_in x ∷ ps) (next_set es i e f (omega arith) q p)
+next_set (x ∷ es) zero e f h q p = ap (λ y. y ∷ parts_in es) (p ∙ ap (λ (y : Entry). next_part (part_in y)) q)
+next_set (x ∷ es) (suc i) e f h q p = ap (λ ps. part_in x ∷ ps) (next_set es i e f (omega arith) q p)
 
-pub next_kept : (es : List Entry) (i : ℕ) (e : Entry) → i < length es → e ≡ get_or es i e → part_in e ≡ next_part (part_in e)
-    → take (i + 1) (parts_in es) ++ map next_part (drop (i + 1) (parts_in es)) ≡ take i (parts_in es) ++ map next_part (drop i (parts_in es))
+pub next_kept : (es : List Entry) (i : ℕ) (e : Entry) → i < length es → e ≡ get_or es i e → part_in e ≡ next_part (part_in e) → parts_in es ≡ next_at i (parts_in es)
 next_kept [] i e h q p = absurd (omega arith)
-next_kept (x ∷ es) zero e h q p = ap (λ y. y ∷ map next_part (parts_in es)) (ap part_in (sym q) ∙ p ∙ ap (λ (y : Entry). next_part (part_in y)) q)
-next_kept (x ∷ es) (suc i) e h q p =
-    let n : suc i + 1 ≡ suc (i + 1) = omega arith in
-    ap (λ m. take m (parts_in (x ∷ es)) ++ map next_part (drop m (parts_in (x ∷ es)))) n ∙ ap (λ ps. part_in x ∷ ps) (next_kept es i e (omega arith) q p)
+next_kept (x ∷ es) zero e h q p = ap (λ y. y ∷ parts_in es) (ap part_in (sym q) ∙ p ∙ ap (λ (y : Entry). next_part (part_in y)) q)
+next_kept (x ∷ es) (suc i) e h q p = ap (λ ps. part_in x ∷ ps) (next_kept es i e (omega arith) q p)
+
+pub next_beyond : (es : List Entry) (i : ℕ) → length es ≤ i → parts_in es ≡ next_at i (parts_in es)
+next_beyond [] i h = refl
+next_beyond (x ∷ es) zero h = absurd (omega arith)
+next_beyond (x ∷ es) (suc i) h = ap (λ ps. part_in x ∷ ps) (next_beyond es i (omega arith))
 
 pub lasting_stays : (e : Entry) → e.lasting ≡ true → part_in e ≡ next_part (part_in e)
 lasting_stays e t = sym (ap (λ b. cond b (part_in e) (without_facts (part_in e).variable)) t)

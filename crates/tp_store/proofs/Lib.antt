@@ -7,6 +7,7 @@ pub mod Same
 pub mod Adding
 pub mod Filing
 pub mod EntryLemmas
+pub mod Touched
 pub mod Meaning
 pub mod ValueFacts
 pub mod Separate

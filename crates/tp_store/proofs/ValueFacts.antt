@@ -1,5 +1,5 @@
 -- The facts of a value, item by item.
-use Rattle.std.proofs.Common.{◌≡◌, ℕ, zero, suc, ◌+◌, ◌<◌, ◌≤◌, List, [], ◌∷◌, ◌++◌, length, map, drop, get_or, refl, ap, sym, ◌∙◌, subst, arith, append_assoc, append-nil}
+use Rattle.std.proofs.Common.{◌≡◌, ℕ, zero, suc, ◌+◌, ◌<◌, ◌≤◌, List, [], ◌∷◌, ◌++◌, length, map, drop, get_or, refl, ap, sym, ◌∙◌, arith, append_assoc, append-nil}
 use Rattle.tp_value.specs.Tree.{Tree, list, items_of, of_items}
 use Rattle.tp_value.specs.Limits.{items_in, items_within}
 use Rattle.tp_value.specs.declared.value.Shape.TheVariants.{Items}

@@ -1,5 +1,5 @@
 -- What a store keeps of each variable.
-use Rattle.std.specs.Prelude.{◌≡◌, ℕ, zero, suc, List, [], ◌∷◌, ◌++◌, map, Option, Some, None, if◌then◌else◌}
+use Rattle.std.specs.Prelude.{◌≡◌, ◌⊎◌, ℕ, zero, suc, false, slice_get, Contains, List, [], ◌∷◌, ◌++◌, map, Option, Some, None, if◌then◌else◌}
 use Rattle.std.specs.List.{flat_map}
 use Rattle.tp_value.specs.declared.path.VarId.{VarId}
 use Rattle.tp_value.specs.declared.path.Fact.{Fact}
@@ -37,6 +37,12 @@ without_facts v = record { variable = v; facts = [] }
 abbrev pub next_part : VariableFacts → VariableFacts
 next_part p = if p.variable.lasting then p else without_facts p.variable
 
+-- the variable with this number goes on to the next state
+abbrev pub next_at : ℕ → List VariableFacts → List VariableFacts
+next_at k [] = []
+next_at zero (p ∷ ps) = next_part p ∷ ps
+next_at (suc k) (p ∷ ps) = p ∷ next_at k ps
+
 abbrev pub with_facts : VariableFacts → List Fact → VariableFacts
 with_facts p news = record { variable = p.variable; facts = p.facts ++ news }
 
@@ -60,3 +66,7 @@ pub record IsPart (i : ℕ) (p : VariableFacts) : Type 0 where
 abbrev pub AreParts : ℕ → List VariableFacts → Type 0
 AreParts i [] = Unit {0}
 AreParts i (p ∷ ps) = IsPart i p × AreParts (suc i) ps
+
+-- each state variable has no facts, or its number is one of these
+abbrev pub AreTouched : List ℕ → List VariableFacts → Type 0
+AreTouched numbers ps = (k : ℕ) (p : VariableFacts) → slice_get ps k ≡ Some p → p.variable.lasting ≡ false → (p.facts ≡ []) ⊎ Contains numbers k

@@ -8,7 +8,7 @@ ghost use Rattle.tp_store.specs.Entries.{AreOf, parts_in, facts_there, grown};
 ghost use Rattle.tp_store.specs.Answers.{Adds, IsRefusal};
 ghost use Rattle.tp_store.specs.Changes.{IsSoundStore, AddsFacts};
 
-use crate::entry::{Entry, facts_of};
+use crate::entry::{Entry, facts_of, touch};
 use crate::full::item_path;
 use crate::listing::{copy_facts, copy_new, find_clash};
 use crate::store::Store;
@@ -249,6 +249,7 @@ impl Store {
         ensures sound { IsSoundStore self.new }
     {
         let alloc = self.alloc;
+        touch(self.entries.as_slice(), var.number, &mut self.touched)?;
         let news = add_at(alloc, self.entries.as_mut_slice(), var.number, facts)?;
         Ok(news)
     }

@@ -1,8 +1,9 @@
 // What is kept of each variable.
-ghost use Rattle.std.specs.Prelude.{◌≡◌, ◌<◌, ◌++◌, List, length, map, take, slice_get, slice_set, IfOk};
-ghost use Rattle.tp_store.specs.Entries.{VariableFacts, part_in, parts_in, facts_in, facts_there, without_facts, next_part};
+ghost use Rattle.std.specs.Prelude.{◌≡◌, ◌<◌, ◌++◌, List, length, map, take, slice_get, slice_set, IfOk, OnOk};
+ghost use Rattle.tp_store.specs.Entries.{VariableFacts, part_in, parts_in, facts_in, facts_there, without_facts, next_part, next_at, grown, AreTouched};
 ghost use Rattle.tp_store.specs.Known.{global_variable, name_of};
 ghost use Rattle.std.specs.Option.{option_copied};
+ghost use Rattle.tp_value.specs.declared.path.Fact.{Fact};
 ghost use Rattle.tp_value.specs.Globals.{is_lower};
 
 use crate::listing::copy_facts;
@@ -86,13 +87,37 @@ pub fn copy_below(alloc: Global, entries: &[Entry], below: u64) -> Result<Vec<Fa
     Ok(facts)
 }
 
-/// Drops the facts of state variables.
-pub fn drop_state_facts(entries: &mut [Entry])
+// Drops the facts of the variable with that number, where it is a state variable.
+fn drop_facts_at(entries: &mut [Entry], number: u64)
+    ensures { parts_in entries.new ≡ next_at number (parts_in entries.old) }
+{
+    let place = number as usize;
+    if place < entries.len() && !entries[place].lasting {
+        entries[place].facts.clear();
+    }
+}
+
+/// Drops the facts of state variables, of which only those that were touched have any.
+pub fn drop_state_facts(entries: &mut [Entry], touched: &[u64])
+    requires { AreTouched touched.now (parts_in entries.old) }
     ensures { parts_in entries.new ≡ map next_part (parts_in entries.old) }
 {
-    for i in 0..entries.len() {
-        if !entries[i].lasting {
-            entries[i].facts.clear();
-        }
+    for number in touched {
+        drop_facts_at(entries, *number);
     }
+}
+
+/// Notes the variable with that number before facts of it are added: a state variable that has none yet is touched from then on.
+pub fn touch(entries: &[Entry], number: u64, touched: &mut Vec<u64>) -> Result<(), NoMemory>
+    requires in_range { number < length entries.now }
+    requires touched { AreTouched touched.old.items (parts_in entries.now) }
+    ensures kept { AreTouched touched.new.items (parts_in entries.now) }
+    ensures ok { OnOk result ((news : List Fact) →
+        AreTouched touched.new.items (grown (parts_in entries.now) number news)) }
+{
+    let entry = &entries[number as usize];
+    if !entry.lasting && entry.facts.is_empty() {
+        touched.push(number)?;
+    }
+    Ok(())
 }

@@ -17,6 +17,8 @@ use tp_value::{Facts, Globals, NoMemory, Path, Shape, Text, VarId};
 pub struct Store {
     pub(crate) alloc: Global,
     pub(crate) entries: Vec<Entry>,
+    // The numbers of the state variables that may have facts. Going on to the next state looks at these variables alone.
+    pub(crate) touched: Vec<u64>,
 }
 
 impl Model for Store {
@@ -24,11 +26,13 @@ impl Model for Store {
 
     ghost Value = { Contents };
 
-    ghost use Rattle.tp_store.specs.Entries.{contents_of, parts_in, AreParts};
+    ghost use Rattle.tp_store.specs.Entries.{contents_of, parts_in, AreParts, AreTouched};
 
     ghost view = { λ s. contents_of (parts_in s.entries.items) };
 
-    ghost invariant = { λ s. AreParts 0 (parts_in s.entries.items) };
+    ghost invariant = { λ s.
+        AreParts 0 (parts_in s.entries.items)
+        × AreTouched s.touched.items (parts_in s.entries.items) };
 }
 
 impl Store {
@@ -37,7 +41,11 @@ impl Store {
         ensures { IfOk result (λ store. store ≡ new_store globals.now) }
     {
         let entries = global_entries(alloc, globals)?;
-        Ok(Store { alloc, entries })
+        Ok(Store {
+            alloc,
+            entries,
+            touched: Vec::new(alloc),
+        })
     }
 
     /// The shape that is kept for the path.
@@ -95,12 +103,14 @@ impl Store {
         Ok(())
     }
 
-    /// Goes on to the next state: of the facts those of static variables stay, and all variables.
+    /// Goes on to the next state: of the facts those of static variables stay, and all variables. Only the variables that got facts in
+    /// this state are looked at.
     pub fn next_state(&mut self)
         ensures facts { HaveSameShapes self.new.facts (lasting_facts self.old.facts) }
         ensures variables { self.new.variables ≡ self.old.variables }
         ensures sound { IsSoundStore self.new }
     {
-        drop_state_facts(self.entries.as_mut_slice());
+        drop_state_facts(self.entries.as_mut_slice(), self.touched.as_slice());
+        self.touched.clear();
     }
 }

@@ -1,6 +1,7 @@
-use Rattle.std.proofs.Common.{◌≡◌, ◌++◌, map, take, drop}
-use Rattle.tp_store.specs.Entries.{parts_in, next_part}
+use Rattle.std.proofs.Common.{◌≡◌, drop}
+use Rattle.tp_store.specs.Entries.{parts_in}
+use Rattle.tp_store.proofs.Touched.{next_of}
 use Rattle.tp_store.proofs.entry.drop_state_facts.Given as goal
 
-abbrev pub invariant-loop-i : goal.invariant-loop-i
-invariant-loop-i l = take l.i (parts_in l.entries) ++ map next_part (drop l.i (parts_in l.entries)) ≡ map next_part (parts_in l.initial.entries)
+abbrev pub invariant-loop-number : goal.invariant-loop-number
+invariant-loop-number l = next_of (drop l.number-index l.touched) (parts_in l.entries) ≡ next_of l.touched (parts_in l.initial.entries)

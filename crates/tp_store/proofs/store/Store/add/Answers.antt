@@ -8,7 +8,7 @@ use Rattle.tp_store.proofs.Separate.{value_apart, value_of_variable}
 use Rattle.tp_store.proofs.store.Store.add.Goals as goal
 
 pub returns-in_err-facts-clause-sound : goal.returns-in_err-facts-clause-sound
-returns-in_err-facts-clause-sound c = sound_view (parts_in c.self.inside.entries.items) _ c.self.view_is c.self.invariant
+returns-in_err-facts-clause-sound c = sound_view (parts_in c.self.inside.entries.items) _ c.self.view_is c.self.invariant.0
 
 pub add_facts-requires-clause-filed : goal.add_facts-requires-clause-filed
 add_facts-requires-clause-filed c =

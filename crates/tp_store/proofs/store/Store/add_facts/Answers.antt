@@ -1,21 +1,32 @@
-use Rattle.std.proofs.Common.{◌≡◌, ap, sym, ◌∙◌, subst, length, slice_get}
+use Rattle.std.proofs.Common.{◌≡◌, ◌<◌, List, refl, ap, sym, ◌∙◌, subst, length, slice_get}
 use Rattle.std.proofs.lemmas.Result.{err_from_is_err_and}
 use Rattle.tp_store.specs.Known.{addition, Addition, Contents}
 use Rattle.tp_store.specs.Answers.{IsRefusal}
 use Rattle.tp_store.specs.Changes.{AddsFacts}
-use Rattle.tp_store.specs.Entries.{parts_in, facts_there, grown, contents_of}
+use Rattle.tp_store.specs.Entries.{parts_in, facts_there, grown, contents_of, AreTouched}
+use Rattle.tp_store.specs.declared.entry.Entry.{Entry}
 use Rattle.tp_store.proofs.Filing.{sound, moved_parts, addition_view, grows}
-use Rattle.tp_store.proofs.EntryLemmas.{written}
+use Rattle.tp_store.proofs.EntryLemmas.{written, has_entry}
+use Rattle.tp_store.proofs.Touched.{touched_moved}
 use Rattle.tp_store.proofs.store.Store.add_facts.Goals as goal
+
+pub returns-in_err-touch-clause-sound : goal.returns-in_err-touch-clause-sound
+returns-in_err-touch-clause-sound c = sound (parts_in c.self.inside.entries.items) c.self.invariant.0
+
+pub add_at-requires : goal.add_at-requires
+add_at-requires c =
+    let es = c.self.inside.entries.items in
+    let P : List Entry → Type 0 = λ xs. c.args.var.number < length xs in
+    subst P (sym c.as_mut_slice.ensures.value) (has_entry es _ c.args.var c.self.view_is c.requires.variable)
 
 pub returns-in_err-news-clause-refused : goal.returns-in_err-news-clause-refused
 returns-in_err-news-clause-refused c =
     let es = c.self.inside.entries.items in
     let same : addition (facts_there (slice_get (parts_in c.as_mut_slice.result.now) c.args.var.number)) c.args.facts.items ≡ addition c.args.self.now.facts c.args.facts.items =
     ap (λ xs. addition (facts_there (slice_get (parts_in xs) c.args.var.number)) c.args.facts.items) c.as_mut_slice.ensures.value
-    ∙ addition_view (parts_in es) _ c.args.var c.args.facts.items c.self.view_is c.self.invariant c.requires.filed in
+    ∙ addition_view (parts_in es) _ c.args.var c.args.facts.items c.self.view_is c.self.invariant.0 c.requires.filed in
     let refused = subst (λ (o : Addition). IsRefusal o c.in_err-news.field-0.0) same c.in_err-news.ensures.refused in
-    let p = err_from_is_err_and c.from_residual.result c.from_residual.ensures.1 in
+    let p = err_from_is_err_and c.from_residual-in_err-news.result c.from_residual-in_err-news.ensures.1 in
     rw (p.1, p.2) refused
 
 pub returns-in_err-news-clause-sound : goal.returns-in_err-news-clause-sound
@@ -24,7 +35,7 @@ returns-in_err-news-clause-sound c =
     let fs = c.add_at.new.entries in
     let lengths : length fs ≡ length es = c.add_at.auto.entries ∙ ap length c.as_mut_slice.ensures.value in
     let same = ap parts_in (written es fs c.self.inside.entries.len c.self.inside.entries.ok.0 lengths) ∙ c.in_err-news.ensures.err ∙ ap parts_in c.as_mut_slice.ensures.value in
-    sound _ (moved_parts _ _ same c.self.invariant)
+    sound _ (moved_parts _ _ same c.self.invariant.0)
 
 pub invariant_of-self-2 : goal.invariant_of-self-2
 invariant_of-self-2 c =
@@ -33,14 +44,17 @@ invariant_of-self-2 c =
     let lengths : length fs ≡ length es = c.add_at.auto.entries ∙ ap length c.as_mut_slice.ensures.value in
     let same = ap parts_in (written es fs c.self.inside.entries.len c.self.inside.entries.ok.0 lengths) ∙ c.in_ok-news.ensures.ok ∙ ap (λ xs. grown (parts_in xs) c.args.var.number c.in_ok-news.news) c.as_mut_slice.ensures.value in
     let added = ap (λ xs. addition (facts_there (slice_get (parts_in xs) c.args.var.number)) c.args.facts.items) (sym c.as_mut_slice.ensures.value) ∙ c.in_ok-news.ensures.added in
-    let all = grows (parts_in es) _ c.args.var c.args.facts.items c.in_ok-news.news c.self.view_is c.self.invariant c.requires.variable c.requires.filed c.requires.apart added in
-    moved_parts _ _ same all.parts
+    let all = grows (parts_in es) _ c.args.var c.args.facts.items c.in_ok-news.news c.self.view_is c.self.invariant.0 c.requires.variable c.requires.filed c.requires.apart added in
+    let later = c.in_ok-touch.ensures.ok c.in_ok-news.news in (
+      moved_parts _ _ same all.parts,
+      touched_moved _ _ (grown (parts_in es) c.args.var.number c.in_ok-news.news) _ refl same (subst (λ xs. AreTouched c.touch.new.touched.items (grown (parts_in xs) c.args.var.number c.in_ok-news.news)) c.as_slice.ensures.value later),
+    )
 
 pub returns-clause-news : goal.returns-clause-news
 returns-clause-news c =
     let es = c.self.inside.entries.items in
     sym (ap (λ xs. addition (facts_there (slice_get (parts_in xs) c.args.var.number)) c.args.facts.items) c.as_mut_slice.ensures.value
-    ∙ addition_view (parts_in es) _ c.args.var c.args.facts.items c.self.view_is c.self.invariant c.requires.filed) ∙ c.in_ok-news.ensures.added
+    ∙ addition_view (parts_in es) _ c.args.var c.args.facts.items c.self.view_is c.self.invariant.0 c.requires.filed) ∙ c.in_ok-news.ensures.added
 
 pub returns-clause-added : goal.returns-clause-added
 returns-clause-added c =
@@ -49,7 +63,7 @@ returns-clause-added c =
     let lengths : length fs ≡ length es = c.add_at.auto.entries ∙ ap length c.as_mut_slice.ensures.value in
     let same = ap parts_in (written es fs c.self.inside.entries.len c.self.inside.entries.ok.0 lengths) ∙ c.in_ok-news.ensures.ok ∙ ap (λ xs. grown (parts_in xs) c.args.var.number c.in_ok-news.news) c.as_mut_slice.ensures.value in
     let added = ap (λ xs. addition (facts_there (slice_get (parts_in xs) c.args.var.number)) c.args.facts.items) (sym c.as_mut_slice.ensures.value) ∙ c.in_ok-news.ensures.added in
-    let all = grows (parts_in es) _ c.args.var c.args.facts.items c.in_ok-news.news c.self.view_is c.self.invariant c.requires.variable c.requires.filed c.requires.apart added in
+    let all = grows (parts_in es) _ c.args.var c.args.facts.items c.in_ok-news.news c.self.view_is c.self.invariant.0 c.requires.variable c.requires.filed c.requires.apart added in
     let P : Contents → Type 0 = λ s. AddsFacts c.args.self.now c.in_ok-news.news s in
     subst P (ap contents_of (sym same)) all.added
 
@@ -60,5 +74,5 @@ returns-clause-sound c =
     let lengths : length fs ≡ length es = c.add_at.auto.entries ∙ ap length c.as_mut_slice.ensures.value in
     let same = ap parts_in (written es fs c.self.inside.entries.len c.self.inside.entries.ok.0 lengths) ∙ c.in_ok-news.ensures.ok ∙ ap (λ xs. grown (parts_in xs) c.args.var.number c.in_ok-news.news) c.as_mut_slice.ensures.value in
     let added = ap (λ xs. addition (facts_there (slice_get (parts_in xs) c.args.var.number)) c.args.facts.items) (sym c.as_mut_slice.ensures.value) ∙ c.in_ok-news.ensures.added in
-    let all = grows (parts_in es) _ c.args.var c.args.facts.items c.in_ok-news.news c.self.view_is c.self.invariant c.requires.variable c.requires.filed c.requires.apart added in
+    let all = grows (parts_in es) _ c.args.var c.args.facts.items c.in_ok-news.news c.self.view_is c.self.invariant.0 c.requires.variable c.requires.filed c.requires.apart added in
     sound _ (moved_parts _ _ same all.parts)

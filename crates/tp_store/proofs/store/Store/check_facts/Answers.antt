@@ -12,13 +12,13 @@ pub returns-clause-ok : goal.returns-clause-ok
 returns-clause-ok c =
     let es = c.self.inside.entries.items in
     let same = ap (λ xs. addition xs c.args.facts.now) (facts_read es _ c.args.var.number _ c.as_slice.ensures.value c.facts_of.ensures)
-    ∙ addition_view (parts_in es) _ c.args.var c.args.facts.now c.self.view_is c.self.invariant c.requires in
+    ∙ addition_view (parts_in es) _ c.args.var c.args.facts.now c.self.view_is c.self.invariant.0 c.requires in
     on_ok_weaker c.check_in.result (λ e. subst Adds (sym e ∙ same) tt) c.check_in.ensures.ok
 
 pub returns-clause-refused : goal.returns-clause-refused
 returns-clause-refused c =
     let es = c.self.inside.entries.items in
     let same = ap (λ xs. addition xs c.args.facts.now) (facts_read es _ c.args.var.number _ c.as_slice.ensures.value c.facts_of.ensures)
-    ∙ addition_view (parts_in es) _ c.args.var c.args.facts.now c.self.view_is c.self.invariant c.requires in
+    ∙ addition_view (parts_in es) _ c.args.var c.args.facts.now c.self.view_is c.self.invariant.0 c.requires in
     let P : Addition → Type 0 = λ o. IfErr c.check_in.result (IsRefusal o) in
     subst P same c.check_in.ensures.refused

@@ -2,6 +2,7 @@ use Rattle.std.proofs.Common.{◌≡◌, ap, ◌∙◌, map, length}
 use Rattle.tp_store.specs.Entries.{parts_in, next_part}
 use Rattle.tp_store.proofs.Filing.{sound, next_parts, next_shapes, same_variables, moved_parts}
 use Rattle.tp_store.proofs.EntryLemmas.{written}
+use Rattle.tp_store.proofs.Touched.{touched_next}
 use Rattle.tp_store.proofs.store.Store.next_state.Goals as goal
 
 pub invariant_of-self : goal.invariant_of-self
@@ -10,7 +11,7 @@ invariant_of-self c =
     let fs = c.drop_state_facts.new.entries in
     let lengths : length fs ≡ length es = c.drop_state_facts.auto.entries ∙ ap length c.as_mut_slice.ensures.value in
     let same = ap parts_in (written es fs c.self.inside.entries.len c.self.inside.entries.ok.0 lengths) ∙ c.drop_state_facts.ensures ∙ ap (λ xs. map next_part (parts_in xs)) c.as_mut_slice.ensures.value in
-    moved_parts _ _ same (next_parts 0 (parts_in es) c.self.invariant)
+    (moved_parts _ _ same (next_parts 0 (parts_in es) c.self.invariant.0), touched_next _ (parts_in es) _ same)
 
 pub returns-clause-facts : goal.returns-clause-facts
 returns-clause-facts c =
@@ -18,7 +19,7 @@ returns-clause-facts c =
     let fs = c.drop_state_facts.new.entries in
     let lengths : length fs ≡ length es = c.drop_state_facts.auto.entries ∙ ap length c.as_mut_slice.ensures.value in
     let same = ap parts_in (written es fs c.self.inside.entries.len c.self.inside.entries.ok.0 lengths) ∙ c.drop_state_facts.ensures ∙ ap (λ xs. map next_part (parts_in xs)) c.as_mut_slice.ensures.value in
-    next_shapes (parts_in es) _ _ c.self.view_is c.self.invariant same
+    next_shapes (parts_in es) _ _ c.self.view_is c.self.invariant.0 same
 
 pub returns-clause-variables : goal.returns-clause-variables
 returns-clause-variables c =
@@ -34,4 +35,4 @@ returns-clause-sound c =
     let fs = c.drop_state_facts.new.entries in
     let lengths : length fs ≡ length es = c.drop_state_facts.auto.entries ∙ ap length c.as_mut_slice.ensures.value in
     let same = ap parts_in (written es fs c.self.inside.entries.len c.self.inside.entries.ok.0 lengths) ∙ c.drop_state_facts.ensures ∙ ap (λ xs. map next_part (parts_in xs)) c.as_mut_slice.ensures.value in
-    sound _ (moved_parts _ _ same (next_parts 0 (parts_in es) c.self.invariant))
+    sound _ (moved_parts _ _ same (next_parts 0 (parts_in es) c.self.invariant.0))
