@@ -6,6 +6,7 @@ pub mod Meanings
 pub mod Steps
 pub mod Kept
 pub mod Levels
+pub mod Arguments
 pub mod OutcomesAre
 pub mod Answered
 pub mod Bound

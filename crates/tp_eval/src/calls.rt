@@ -1,5 +1,5 @@
 // The outcome of an expression and of a place.
-ghost use Rattle.std.specs.Prelude.{◌≡◌, [], IfOk, IsTrue};
+ghost use Rattle.std.specs.Prelude.{◌≡◌, IfOk, IsTrue};
 ghost use Rattle.tp_value.specs.Read.{tree};
 ghost use Rattle.tp_kernel.specs.Read.{expr_tree, bindings_of, definitions_of};
 ghost use Rattle.tp_eval.specs.Reached.{reaches};
@@ -10,6 +10,7 @@ ghost use Rattle.tp_eval.specs.Places.{place_in};
 
 use crate::evaluate::{evaluate, find_place};
 use crate::halt::Halt;
+use crate::lookup::Lookup;
 use crate::outcome::{Outcome, PlaceOutcome};
 use crate::places::{Place, copy_element};
 use std::alloc::Global;
@@ -41,7 +42,7 @@ fn settled(answer: Result<Value, Halt>) -> Result<Outcome, NoMemory>
 }
 
 /// The outcome of an expression under an environment, as far as the store knows its state. It goes left to right: the first operand whose
-/// outcome isn't a value is the outcome of the whole. There are no definitions yet.
+/// outcome isn't a value is the outcome of the whole.
 pub fn eval(
     alloc: Global,
     expr: &Expr,
@@ -49,14 +50,19 @@ pub fn eval(
     store: &Store,
     defs: &Defs,
 ) -> Result<Outcome, NoMemory>
-    requires { definitions_of defs.now ≡ [] }
     ensures { IfOk result (λ o.
         outcome_tree o
         ≡ outcome store.now.facts (definitions_of defs.now) (expr_tree expr.now)
         (bindings_of env.now)) }
 {
-    prove!(defs.items.is_empty());
-    let answer = evaluate(alloc, LEVELS, expr, env, store);
+    let lookup = Lookup {
+        alloc,
+        env,
+        store,
+        defs,
+    };
+    let mut calls = 0;
+    let answer = evaluate(LEVELS, expr, &lookup, &mut calls);
     let outcome = settled(answer)?;
     Ok(outcome)
 }
@@ -77,7 +83,7 @@ fn path_or_value(alloc: Global, place: Place, store: &Store) -> Result<PlaceOutc
 }
 
 /// What a name followed by indices is: a path, or another outcome, which is a value where the name is bound to a known value that has the
-/// element. There are no definitions yet.
+/// element.
 pub fn place(
     alloc: Global,
     expr: &Expr,
@@ -85,15 +91,20 @@ pub fn place(
     store: &Store,
     defs: &Defs,
 ) -> Result<PlaceOutcome, NoMemory>
-    requires none { definitions_of defs.now ≡ [] }
     requires place { IsTrue (is_place (expr_tree expr.now)) }
     ensures { IfOk result (λ o.
         place_outcome_of o
         ≡ place_outcome store.now.facts (definitions_of defs.now) (expr_tree expr.now)
         (bindings_of env.now)) }
 {
-    prove!(defs.items.is_empty());
-    match find_place(alloc, LEVELS, expr, env, store) {
+    let lookup = Lookup {
+        alloc,
+        env,
+        store,
+        defs,
+    };
+    let mut calls = 0;
+    match find_place(LEVELS, expr, &lookup, &mut calls) {
         Ok(found) => {
             let outcome = path_or_value(alloc, found, store)?;
             Ok(outcome)

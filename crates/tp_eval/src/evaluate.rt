@@ -1,21 +1,25 @@
 // The evaluation of expressions, level by level.
-ghost use Rattle.std.specs.Prelude.{◌≡◌, map, neg_ℤ, not};
+ghost use Rattle.std.specs.Prelude.{◌≡◌, map, neg_ℤ, not, slice_get};
 ghost use Rattle.tp_value.specs.Tree.{truth};
 ghost use Rattle.tp_value.specs.Read.{tree};
-ghost use Rattle.tp_kernel.specs.Read.{expr_tree, expr_trees, operator_of, bindings_of};
+ghost use Rattle.tp_kernel.specs.Read.{expr_tree, expr_trees, operator_of, binding_of, bindings_of, definition_of, definitions_of};
 ghost use Rattle.tp_eval.specs.Reached.{within_numbers, within_lists};
-ghost use Rattle.tp_eval.specs.Evaluate.{is_place, each, all_true, one_true, operation_outcome, chosen, element_of, size_of, negative_in, negated_in, read_at};
-ghost use Rattle.tp_eval.specs.Answers.{AnswersEvaluation, operand_in, place_at};
+ghost use Rattle.tp_eval.specs.Evaluate.{is_place, each, all_true, one_true, operation_outcome, chosen, element_of, size_of, negative_in, negated_in, read_at, argument, arguments};
+ghost use Rattle.tp_eval.specs.Answers.{AnswersEvaluation, AnswersReached, operand_in, place_at, call_in};
 ghost use Rattle.tp_eval.specs.Places.{place_in};
 
+use crate::count::count_call;
 use crate::halt::Halt;
 use crate::kinds::{limited, number_of, truth_of, within};
+use crate::lookup::Lookup;
 use crate::operate::{item_of, operate};
-use crate::places::{Place, farther, index_of, length_of, named, size_at, value_at, whole};
+use crate::places::{
+    Place, bind_place, farther, index_of, length_of, named, size_at, value_at, whole,
+};
 use std::alloc::Global;
-use tp_kernel::{Env, Expr, Exprs, FaultKind, LimitKind, Op2};
-use tp_store::Store;
-use tp_value::{Items, Number, Value, is_number, negated};
+use std::rc::Rc;
+use tp_kernel::{Binding, Def, Env, Expr, Exprs, FaultKind, LimitKind, Op2, is_upper};
+use tp_value::{Items, Number, Texts, Value, is_number, negated};
 
 /// Whether the expression is a name followed by indices.
 pub fn is_place(expr: &Expr) -> bool
@@ -66,19 +70,13 @@ fn contrary(value: Value) -> Result<Value, Halt>
 
 // The values of expressions from left to right.
 #[cycle(evaluate)]
-fn each(
-    alloc: Global,
-    levels: u32,
-    exprs: &Exprs,
-    env: &Env,
-    store: &Store,
-) -> Result<Vec<Value>, Halt>
-    ensures { AnswersEvaluation (λ values. map tree values.items) result
-        (each (operand_in store.now env.now levels) (expr_trees exprs.now)) }
+fn each(levels: u32, exprs: &Exprs, lookup: &Lookup, calls: &mut u32) -> Result<Vec<Value>, Halt>
+    ensures { AnswersReached (λ values. map tree values.items) result calls.new
+        (each (operand_in lookup.now levels) (expr_trees exprs.now) calls.old) }
 {
-    let mut values = Vec::new(alloc);
+    let mut values = Vec::new(lookup.alloc);
     for expr in &exprs.items {
-        let value = evaluate(alloc, levels, expr, env, store)?;
+        let value = evaluate(levels, expr, lookup, calls)?;
         values.push(value)?;
     }
     Ok(values)
@@ -86,18 +84,12 @@ fn each(
 
 // Whether all are true; those after the first false one are not looked at.
 #[cycle(evaluate)]
-fn all_true(
-    alloc: Global,
-    levels: u32,
-    exprs: &Exprs,
-    env: &Env,
-    store: &Store,
-) -> Result<Value, Halt>
-    ensures { AnswersEvaluation tree result
-        (all_true (operand_in store.now env.now levels) (expr_trees exprs.now)) }
+fn all_true(levels: u32, exprs: &Exprs, lookup: &Lookup, calls: &mut u32) -> Result<Value, Halt>
+    ensures { AnswersReached tree result calls.new
+        (all_true (operand_in lookup.now levels) (expr_trees exprs.now) calls.old) }
 {
     for expr in &exprs.items {
-        let value = evaluate(alloc, levels, expr, env, store)?;
+        let value = evaluate(levels, expr, lookup, calls)?;
         let b = truth_of(value)?;
         if !b {
             return Ok(Value::Truth(false));
@@ -109,23 +101,22 @@ fn all_true(
 // Whether one is true; where the first is, the second is not looked at.
 #[cycle(evaluate)]
 fn one_true(
-    alloc: Global,
     levels: u32,
     first: &Expr,
     second: &Expr,
-    env: &Env,
-    store: &Store,
+    lookup: &Lookup,
+    calls: &mut u32,
 ) -> Result<Value, Halt>
-    ensures { AnswersEvaluation tree result
-        (one_true (operand_in store.now env.now levels) (expr_tree first.now)
-        (expr_tree second.now)) }
+    ensures { AnswersReached tree result calls.new
+        (one_true (operand_in lookup.now levels) (expr_tree first.now) (expr_tree second.now)
+        calls.old) }
 {
-    let value = evaluate(alloc, levels, first, env, store)?;
+    let value = evaluate(levels, first, lookup, calls)?;
     let b = truth_of(value)?;
     if b {
         return Ok(Value::Truth(true));
     }
-    let other = evaluate(alloc, levels, second, env, store)?;
+    let other = evaluate(levels, second, lookup, calls)?;
     let c = truth_of(other)?;
     Ok(Value::Truth(c))
 }
@@ -133,104 +124,184 @@ fn one_true(
 // What an operator makes of two operands.
 #[cycle(evaluate)]
 fn operated(
-    alloc: Global,
     levels: u32,
     op: Op2,
     first: &Expr,
     second: &Expr,
-    env: &Env,
-    store: &Store,
+    lookup: &Lookup,
+    calls: &mut u32,
 ) -> Result<Value, Halt>
-    ensures { AnswersEvaluation tree result
-        (operation_outcome (operand_in store.now env.now levels) (operator_of op)
-        (expr_tree first.now) (expr_tree second.now)) }
+    ensures { AnswersReached tree result calls.new
+        (operation_outcome (operand_in lookup.now levels) (operator_of op) (expr_tree first.now)
+        (expr_tree second.now) calls.old) }
 {
-    let a = evaluate(alloc, levels, first, env, store)?;
-    let b = evaluate(alloc, levels, second, env, store)?;
+    let a = evaluate(levels, first, lookup, calls)?;
+    let b = evaluate(levels, second, lookup, calls)?;
     operate(op, a, b)
 }
 
 // The branch that the condition chooses.
 #[cycle(evaluate)]
 fn chosen(
-    alloc: Global,
     levels: u32,
     condition: &Expr,
     first: &Expr,
     second: &Expr,
-    env: &Env,
-    store: &Store,
+    lookup: &Lookup,
+    calls: &mut u32,
 ) -> Result<Value, Halt>
-    ensures { AnswersEvaluation tree result
-        (chosen (operand_in store.now env.now levels) (expr_tree condition.now) (expr_tree first.now)
-        (expr_tree second.now)) }
+    ensures { AnswersReached tree result calls.new
+        (chosen (operand_in lookup.now levels) (expr_tree condition.now) (expr_tree first.now)
+        (expr_tree second.now) calls.old) }
 {
-    let value = evaluate(alloc, levels, condition, env, store)?;
+    let value = evaluate(levels, condition, lookup, calls)?;
     let b = truth_of(value)?;
     if b {
-        evaluate(alloc, levels, first, env, store)
+        evaluate(levels, first, lookup, calls)
     } else {
-        evaluate(alloc, levels, second, env, store)
+        evaluate(levels, second, lookup, calls)
     }
 }
 
 // The element of a value that is no place.
 #[cycle(evaluate)]
 fn element_of(
-    alloc: Global,
     levels: u32,
     whole: &Expr,
     index: &Expr,
-    env: &Env,
-    store: &Store,
+    lookup: &Lookup,
+    calls: &mut u32,
 ) -> Result<Value, Halt>
-    ensures { AnswersEvaluation tree result
-        (element_of (operand_in store.now env.now levels) (expr_tree whole.now)
-        (expr_tree index.now)) }
+    ensures { AnswersReached tree result calls.new
+        (element_of (operand_in lookup.now levels) (expr_tree whole.now) (expr_tree index.now)
+        calls.old) }
 {
-    let value = evaluate(alloc, levels, whole, env, store)?;
-    let at = evaluate(alloc, levels, index, env, store)?;
+    let value = evaluate(levels, whole, lookup, calls)?;
+    let at = evaluate(levels, index, lookup, calls)?;
     item_of(value, at)
 }
 
 // The size of a place or of another value.
 #[cycle(evaluate)]
-fn size_of(alloc: Global, levels: u32, expr: &Expr, env: &Env, store: &Store) -> Result<Value, Halt>
-    ensures { AnswersEvaluation tree result
-        (size_of (operand_in store.now env.now levels) (place_at store.now env.now levels)
-        store.now.facts (bindings_of env.now) (is_place (expr_tree expr.now))
-        (expr_tree expr.now)) }
+fn size_of(levels: u32, expr: &Expr, lookup: &Lookup, calls: &mut u32) -> Result<Value, Halt>
+    ensures { AnswersReached tree result calls.new
+        (size_of (operand_in lookup.now levels) (place_at lookup.now levels)
+        lookup.now.store.now.facts (bindings_of lookup.now.env.now) (is_place (expr_tree expr.now))
+        (expr_tree expr.now) calls.old) }
 {
     if is_place(expr) {
-        let place = find_place(alloc, levels, expr, env, store)?;
-        size_at(&place, store)
+        let place = find_place(levels, expr, lookup, calls)?;
+        size_at(&place, lookup.store)
     } else {
-        let value = evaluate(alloc, levels, expr, env, store)?;
+        let value = evaluate(levels, expr, lookup, calls)?;
         length_of(&value)
+    }
+}
+
+// What a parameter is bound to: a place where it is upper-case, a value else.
+#[cycle(evaluate)]
+fn argument(
+    levels: u32,
+    upper: bool,
+    expr: &Expr,
+    lookup: &Lookup,
+    calls: &mut u32,
+) -> Result<Binding, Halt>
+    ensures { AnswersReached binding_of result calls.new
+        (argument (operand_in lookup.now levels) (place_at lookup.now levels) upper
+        (expr_tree expr.now) calls.old) }
+{
+    if upper {
+        let place = find_place(levels, expr, lookup, calls)?;
+        bind_place(lookup.alloc, place)
+    } else {
+        let value = evaluate(levels, expr, lookup, calls)?;
+        Ok(Binding::Known(Rc::new(lookup.alloc, value)?))
+    }
+}
+
+// What the parameters are bound to, from left to right.
+#[cycle(evaluate)]
+fn arguments(
+    levels: u32,
+    exprs: &Exprs,
+    parameters: &Texts,
+    lookup: &Lookup,
+    calls: &mut u32,
+) -> Result<Env, Halt>
+    ensures { AnswersReached bindings_of result calls.new
+        (arguments (operand_in lookup.now levels) (place_at lookup.now levels) (expr_trees exprs.now)
+        parameters.now calls.old) }
+{
+    let mut items = Vec::new(lookup.alloc);
+    for (expr, name) in exprs.items.iter().zip(&parameters.items) {
+        let binding = argument(levels, is_upper(name), expr, lookup, calls)?;
+        items.push(binding)?;
+    }
+    if exprs.items.len() != parameters.items.len() {
+        return Err(Halt::Faults(FaultKind::NoElement));
+    }
+    Ok(Env { items })
+}
+
+// The call of a definition: it is counted first, and the definition's expression sees its own parameters alone.
+#[cycle(evaluate)]
+fn called(
+    levels: u32,
+    def: &Def,
+    exprs: &Exprs,
+    lookup: &Lookup,
+    calls: &mut u32,
+) -> Result<Value, Halt>
+    ensures { AnswersReached tree result calls.new
+        (call_in lookup.now levels (Some (definition_of def.now)) (expr_trees exprs.now) calls.old) }
+{
+    count_call(calls)?;
+    let env = arguments(levels, exprs, &def.parameters, lookup, calls)?;
+    let inside = Lookup {
+        env: &env,
+        ..*lookup
+    };
+    match &def.expr {
+        Some(body) => evaluate(levels, body, &inside, calls),
+        None => Err(Halt::Faults(FaultKind::NoElement)),
+    }
+}
+
+// The call of the definition with this number.
+#[cycle(evaluate)]
+fn call(
+    levels: u32,
+    number: u32,
+    exprs: &Exprs,
+    lookup: &Lookup,
+    calls: &mut u32,
+) -> Result<Value, Halt>
+    ensures { AnswersReached tree result calls.new
+        (call_in lookup.now levels (slice_get (definitions_of lookup.now.defs.now) number)
+        (expr_trees exprs.now) calls.old) }
+{
+    match lookup.defs.items.get(number as usize) {
+        Some(def) => called(levels, def, exprs, lookup, calls),
+        None => Err(Halt::Faults(FaultKind::NoElement)),
     }
 }
 
 // What a name followed by indices is, where so many levels are left. Each index is looked at before the next is evaluated.
 #[cycle(evaluate)]
-pub fn find_place(
-    alloc: Global,
-    levels: u32,
-    expr: &Expr,
-    env: &Env,
-    store: &Store,
-) -> Result<Place, Halt>
-    ensures { AnswersEvaluation place_in result
-        (place_at store.now env.now levels (expr_tree expr.now)) }
+pub fn find_place(levels: u32, expr: &Expr, lookup: &Lookup, calls: &mut u32) -> Result<Place, Halt>
+    ensures { AnswersReached place_in result calls.new
+        (place_at lookup.now levels (expr_tree expr.now) calls.old) }
 {
     if levels == 0 {
         return Err(Halt::Passes(LimitKind::Calls));
     }
     match expr {
-        Expr::Bound(number) => named(alloc, env, *number),
-        Expr::Global(var) => Ok(whole(alloc, *var)),
+        Expr::Bound(number) => named(lookup.alloc, lookup.env, *number),
+        Expr::Global(var) => Ok(whole(lookup.alloc, *var)),
         Expr::Index(inner, index) => {
-            let place = find_place(alloc, levels - 1, inner, env, store)?;
-            let at = evaluate(alloc, levels - 1, index, env, store)?;
+            let place = find_place(levels - 1, inner, lookup, calls)?;
+            let at = evaluate(levels - 1, index, lookup, calls)?;
             let k = index_of(at)?;
             farther(place, k)
         }
@@ -240,25 +311,20 @@ pub fn find_place(
 
 // The value of a name followed by indices.
 #[cycle(evaluate)]
-fn read(alloc: Global, levels: u32, expr: &Expr, env: &Env, store: &Store) -> Result<Value, Halt>
-    ensures { AnswersEvaluation tree result
-        (read_at store.now.facts (place_at store.now env.now levels (expr_tree expr.now))) }
+fn read(levels: u32, expr: &Expr, lookup: &Lookup, calls: &mut u32) -> Result<Value, Halt>
+    ensures { AnswersReached tree result calls.new
+        (read_at lookup.now.store.now.facts (place_at lookup.now levels (expr_tree expr.now))
+        calls.old) }
 {
-    let place = find_place(alloc, levels, expr, env, store)?;
-    value_at(alloc, &place, store)
+    let place = find_place(levels, expr, lookup, calls)?;
+    value_at(lookup.alloc, &place, lookup.store)
 }
 
-/// The value of an expression, where so many levels are left.
+/// The value of an expression, where so many levels are left, and so many calls were made before.
 #[cycle(evaluate)]
-pub fn evaluate(
-    alloc: Global,
-    levels: u32,
-    expr: &Expr,
-    env: &Env,
-    store: &Store,
-) -> Result<Value, Halt>
-    ensures { AnswersEvaluation tree result
-        (operand_in store.now env.now levels (expr_tree expr.now)) }
+pub fn evaluate(levels: u32, expr: &Expr, lookup: &Lookup, calls: &mut u32) -> Result<Value, Halt>
+    ensures { AnswersReached tree result calls.new
+        (operand_in lookup.now levels (expr_tree expr.now) calls.old) }
 {
     if levels == 0 {
         return Err(Halt::Passes(LimitKind::Calls));
@@ -267,34 +333,33 @@ pub fn evaluate(
     match expr {
         Expr::Number(n) => constant(*n),
         Expr::Truth(b) => Ok(Value::Truth(*b)),
-        Expr::Known(value) => known(alloc, value),
-        Expr::Bound(_) => read(alloc, levels, expr, env, store),
-        Expr::Global(_) => read(alloc, levels, expr, env, store),
+        Expr::Known(value) => known(lookup.alloc, value),
+        Expr::Bound(_) => read(levels, expr, lookup, calls),
+        Expr::Global(_) => read(levels, expr, lookup, calls),
         Expr::List(items) => {
-            let items = each(alloc, inner, items, env, store)?;
+            let items = each(inner, items, lookup, calls)?;
             limited(Value::List(Items { items }))
         }
-        Expr::Size(e) => size_of(alloc, inner, e, env, store),
+        Expr::Size(e) => size_of(inner, e, lookup, calls),
         Expr::Index(e, i) => {
             if is_place(e) {
-                read(alloc, levels, expr, env, store)
+                read(levels, expr, lookup, calls)
             } else {
-                element_of(alloc, inner, e, i, env, store)
+                element_of(inner, e, i, lookup, calls)
             }
         }
         Expr::Minus(e) => {
-            let value = evaluate(alloc, inner, e, env, store)?;
+            let value = evaluate(inner, e, lookup, calls)?;
             negative(value)
         }
         Expr::Not(e) => {
-            let value = evaluate(alloc, inner, e, env, store)?;
+            let value = evaluate(inner, e, lookup, calls)?;
             contrary(value)
         }
-        Expr::Both(items) => all_true(alloc, inner, items, env, store),
-        Expr::Either(a, b) => one_true(alloc, inner, a, b, env, store),
-        Expr::Op(op, a, b) => operated(alloc, inner, *op, a, b, env, store),
-        Expr::If(b, x, y) => chosen(alloc, inner, b, x, y, env, store),
-        // There are no definitions.
-        Expr::Call(_, _) => Err(Halt::Faults(FaultKind::NoElement)),
+        Expr::Both(items) => all_true(inner, items, lookup, calls),
+        Expr::Either(a, b) => one_true(inner, a, b, lookup, calls),
+        Expr::Op(op, a, b) => operated(inner, *op, a, b, lookup, calls),
+        Expr::If(b, x, y) => chosen(inner, b, x, y, lookup, calls),
+        Expr::Call(number, arguments) => call(inner, *number, arguments, lookup, calls),
     }
 }

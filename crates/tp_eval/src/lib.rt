@@ -2,10 +2,12 @@
 #![tactic(auto)]
 
 mod calls;
+mod count;
 mod evaluate;
 mod halt;
 mod kinds;
 mod laws;
+mod lookup;
 mod operate;
 mod outcome;
 mod places;

@@ -8,7 +8,7 @@ ghost use Rattle.tp_meaning.specs.Value.{item_at};
 ghost use Rattle.tp_kernel.specs.Read.{binding_of, bindings_of};
 ghost use Rattle.tp_store.specs.Facts.{kept_shape};
 ghost use Rattle.tp_store.specs.Answers.{full_of};
-ghost use Rattle.tp_eval.specs.Evaluate.{at_path, inside, bound_place, element_in, farther, index_in, of_full, value_at, size_at, length_of};
+ghost use Rattle.tp_eval.specs.Evaluate.{at_path, inside, bound_place, bind_place, element_in, farther, index_in, of_full, value_at, size_at, length_of};
 ghost use Rattle.tp_eval.specs.Places.{place_in};
 ghost use Rattle.tp_eval.specs.Answers.{AnswersEvaluation, as_it_is};
 
@@ -140,6 +140,19 @@ pub fn copy_element(alloc: Global, value: &Value, at: &[u32]) -> Result<Value, H
     match element(value, at) {
         Some(inner) => Ok(inner.copy(alloc)?),
         None => Err(Halt::Faults(FaultKind::NoElement)),
+    }
+}
+
+/// What a parameter is bound to that is given this place.
+pub fn bind_place(alloc: Global, place: Place) -> Result<Binding, Halt>
+    ensures { AnswersEvaluation binding_of result (bind_place (place_in place)) }
+{
+    match place {
+        Place::At(path) => Ok(Binding::Place(path)),
+        Place::Inside(value, at) => {
+            let element = copy_element(alloc, &value, at.items.as_slice())?;
+            Ok(Binding::Known(Rc::new(alloc, element)?))
+        }
     }
 }
 
