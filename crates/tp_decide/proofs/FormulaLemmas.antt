@@ -20,3 +20,8 @@ pub found_row : (facts : List Fact) (r : Result Decision NoMemory) (IsFound : fo
     IsFound o → ((n : Numbers) → row o n ≡ p n) → IfOk r (λ d. (q : found.Outcome) → IsFound q → Decides d (row q)) → IfOk r (λ d. (n : Numbers) → decided_outcome facts n d ≡ p n)
 found_row facts (Ok d) IsFound row o p f e h = λ n. h o f facts n ∙ e n
 found_row facts (Err x) IsFound row o p f e h = tt
+
+-- a row that what was decided stands for
+pub decided_row : (facts : List Fact) (r : Result Decision NoMemory) (row p : Numbers → PickOutcome) → ((n : Numbers) → row n ≡ p n) → IfOk r (λ d. Decides d row) → IfOk r (λ d. (n : Numbers) → decided_outcome facts n d ≡ p n)
+decided_row facts (Ok d) row p e h = λ n. h facts n ∙ e n
+decided_row facts (Err x) row p e h = tt

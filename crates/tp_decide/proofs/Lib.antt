@@ -5,3 +5,4 @@ pub mod RowLemmas
 pub mod DisplayLemmas
 pub mod FormulaLemmas
 pub mod PathFits
+pub mod CallLemmas

@@ -1,9 +1,11 @@
 -- What is asked of the variables of a store, and of what is set there.
-use Rattle.std.specs.Prelude.{◌≡◌, ℕ, Bool, List, length, slice_get, Option, Some, None}
+use Rattle.std.specs.Prelude.{◌≡◌, ℕ, Bool, List, ◌∷◌, length, slice_get, Option, Some, None, IsTrue}
 use Rattle.tp_value.specs.declared.path.Path.{Path}
-use Rattle.tp_meaning.specs.Syntax.{Definition, ExprTree, FormulaTree}
+use Rattle.tp_meaning.specs.Syntax.{Definition, ExprTree, ExprTrees, expr_then, FormulaTree}
+use Rattle.tp_meaning.specs.Value.{is_upper}
 use Rattle.tp_meaning.specs.Fits.{ExprFits, BindingsFit}
 use Rattle.tp_store.specs.Known.{Variable, IsVariableOf}
+use Rattle.tp_eval.specs.Evaluate.{is_place}
 use Rattle.tp_scene.specs.Scene as S
 use Rattle.tp_scene.specs.Fits.{kinds_in, PhraseFits, LeafFits}
 use Rattle.tp_decide.specs.declared.decision.Decision.{Decision}
@@ -37,6 +39,11 @@ IsTargetOf xs (Some (target.Length p)) = IsVariableOf xs p.var
 abbrev pub IsPathOf : List Variable → Option Path → Type 0
 IsPathOf xs None = Unit {0}
 IsPathOf xs (Some p) = IsVariableOf xs p.var
+
+-- a place for each upper-case parameter that has an argument
+abbrev pub ArePlaces : ExprTrees → (parameters : List (List ℕ)) → Type 0
+ArePlaces (expr_then e es) (x ∷ xs) = (IsTrue (is_upper x) → IsTrue (is_place e)) × ArePlaces es xs
+ArePlaces _ _ = Unit {0}
 
 -- The globals are the first variables, and `kinds` says of each whether it is static.
 abbrev pub AreFirst : (kinds : List Bool) → List Variable → Type 0

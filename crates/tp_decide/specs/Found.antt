@@ -6,7 +6,10 @@ use Rattle.tp_value.specs.Read.{tree}
 use Rattle.tp_value.specs.declared.path.Fact.{Fact}
 use Rattle.tp_value.specs.declared.path.Path.{Path}
 use Rattle.tp_value.specs.declared.value.Value.{Value}
-use Rattle.tp_meaning.specs.Syntax.{Definition, ExprTree, ExprTrees, size, numeral, FormulaTree, empty, next, len}
+use Rattle.tp_meaning.specs.Syntax.{Definition, ExprTree, ExprTrees, BindingTree, size, numeral, FormulaTree, empty, next, len}
+use Rattle.tp_kernel.specs.declared.formula.Binding.{Binding}
+use Rattle.tp_kernel.specs.declared.formula.Env.{Env}
+use Rattle.tp_kernel.specs.Read.{binding_of, bindings_of}
 use Rattle.tp_eval.specs.Outcome as found
 use Rattle.tp_eval.specs.Answers.{outcome_tree}
 use Rattle.tp_scene.specs.Scene.{Bindings}
@@ -37,6 +40,15 @@ NumberIn o (Err d) = (f : ℤ → PickOutcome) → Decides d (λ n. row.with_num
 abbrev pub ValuesIn : List Fact → List Definition → ExprTrees → Bindings → Result Values Decision → Type 0
 ValuesIn facts defs es env (Ok vs) = (f : List Tree → PickOutcome) → row.with_values defs [] 0 facts es env f ≡ f (values_of vs)
 ValuesIn facts defs es env (Err d) = (f : List Tree → PickOutcome) → Decides d (λ n. row.with_values defs [] 0 facts es env f)
+
+-- What a parameter is bound to where `with_bound` goes on with it, or what is decided without one; and the same of all parameters.
+abbrev pub BoundIn : (with_bound : (BindingTree → PickOutcome) → PickOutcome) → Result Binding Decision → Type 0
+BoundIn with_bound (Ok b) = (f : BindingTree → PickOutcome) → with_bound f ≡ f (binding_of b)
+BoundIn with_bound (Err d) = (f : BindingTree → PickOutcome) → Decides d (λ n. with_bound f)
+
+abbrev pub AllBoundIn : (with_all : (Bindings → PickOutcome) → PickOutcome) → Result Env Decision → Type 0
+AllBoundIn with_all (Ok env) = (f : Bindings → PickOutcome) → with_all f ≡ f (bindings_of env)
+AllBoundIn with_all (Err d) = (f : Bindings → PickOutcome) → Decides d (λ n. with_all f)
 
 abbrev pub target_in : Target → row.Target
 target_in (target.Value p) = row.value_at p

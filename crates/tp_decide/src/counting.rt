@@ -2,7 +2,7 @@
 ghost use Rattle.std.specs.Prelude.{◌≡◌, ◌++◌, ◌∷◌, [], ◌+ℤ◌, ◌<ℤ◌, pos, IfOk, IfErr};
 ghost use Rattle.tp_value.specs.Tree.{num};
 ghost use Rattle.tp_meaning.specs.Syntax.{known_binding, for_from, forall_from, numeral};
-ghost use Rattle.tp_kernel.specs.Read.{formula_tree, bindings_of};
+ghost use Rattle.tp_kernel.specs.Read.{formula_tree};
 ghost use Rattle.tp_eval.specs.Outcome.{Outcome};
 ghost use Rattle.tp_scene.specs.Scene as S;
 ghost use Rattle.tp_scene.specs.Step as row;
@@ -17,17 +17,17 @@ use crate::phrase::Phrase;
 use crate::regions::split;
 use std::alloc::Global;
 use std::rc::Rc;
-use tp_kernel::{Env, Expr, Formula};
+use tp_kernel::{Expr, Formula};
 use tp_value::{NoMemory, Number, Text};
 
 // The body, with the number bound last.
-fn counted(alloc: Global, n: Number, body: &Rc<Formula>, env: &Env) -> Result<Phrase, NoMemory>
-    ensures formula { IfOk result (λ a. formula_of a ≡ formula_tree body.now.value) }
+fn counted(alloc: Global, n: Number, body: &Phrase) -> Result<Phrase, NoMemory>
+    ensures formula { IfOk result (λ a. formula_of a ≡ formula_of body.now) }
     ensures bindings { IfOk result (λ a.
-        env_of a ≡ bindings_of env.now ++ known_binding (num n) ∷ []) }
+        env_of a ≡ env_of body.now ++ known_binding (num n) ∷ []) }
 {
-    let env = bind_number(alloc, env, n)?;
-    let what = body.clone()?;
+    let env = bind_number(alloc, &body.env, n)?;
+    let what = body.what.clone()?;
     Ok(Phrase { what, env })
 }
 
@@ -66,24 +66,23 @@ fn turns(
     name: &Text,
     k: Number,
     to: Number,
-    body: &Rc<Formula>,
-    env: &Rc<Env>,
+    body: &Phrase,
     place: Place,
 ) -> Result<Decision, NoMemory>
     ensures outcome { IfOk result (λ d.
         Decides d (λ n.
-        row.turns [] [] 0 [] name.now k to (formula_tree body.now.value) (bindings_of env.now.value)
+        row.turns [] [] 0 [] name.now k to (formula_of body.now) (env_of body.now)
         (plain_place place) n)) }
     ensures plain { IfOk result IsPlain }
 {
     if to <= k {
         let end = Rc::new(alloc, Formula::Empty)?;
-        let leaf = due(end, env)?;
+        let leaf = due(end, &body.env)?;
         return becomes_one(alloc, leaf);
     }
-    let turn = counted(alloc, k, body, env)?;
-    let rest = later_turns(alloc, name, k, to, body)?;
-    let after = under(rest, env)?;
+    let turn = counted(alloc, k, body)?;
+    let rest = later_turns(alloc, name, k, to, &body.what)?;
+    let after = under(rest, &body.env)?;
     Ok(split(place, turn, after))
 }
 
@@ -93,8 +92,7 @@ pub fn decide_turns(
     name: &Text,
     k: Number,
     found: Result<Number, Decision>,
-    body: &Rc<Formula>,
-    env: &Rc<Env>,
+    body: &Phrase,
     place: Place,
 ) -> Result<Decision, NoMemory>
     requires { IfErr found IsPlain }
@@ -102,13 +100,13 @@ pub fn decide_turns(
         (o : Outcome) → NumberIn o found
         → Decides d (λ n.
         row.with_number o (λ m.
-        row.turns [] [] 0 [] name.now k m (formula_tree body.now.value) (bindings_of env.now.value)
+        row.turns [] [] 0 [] name.now k m (formula_of body.now) (env_of body.now)
         (plain_place place) n))) }
     ensures plain { IfOk result IsPlain }
 {
     match found {
         Ok(to) => {
-            let decision = turns(alloc, name, k, to, body, env, place)?;
+            let decision = turns(alloc, name, k, to, body, place)?;
             Ok(decision)
         }
         Err(decision) => Ok(decision),
@@ -150,21 +148,19 @@ fn instances(
     name: &Text,
     k: Number,
     to: Number,
-    body: &Rc<Formula>,
-    env: &Rc<Env>,
+    body: &Phrase,
 ) -> Result<Decision, NoMemory>
     ensures outcome { IfOk result (λ d.
         Decides d (λ n.
-        row.instances [] [] 0 [] name.now k to (formula_tree body.now.value)
-        (bindings_of env.now.value) n)) }
+        row.instances [] [] 0 [] name.now k to (formula_of body.now) (env_of body.now) n)) }
     ensures plain { IfOk result IsPlain }
 {
     if to <= k {
         return Ok(nothing(alloc));
     }
-    let first = counted(alloc, k, body, env)?;
-    let rest = later_instances(alloc, name, k, to, body)?;
-    let others = due(rest, env)?;
+    let first = counted(alloc, k, body)?;
+    let rest = later_instances(alloc, name, k, to, &body.what)?;
+    let others = due(rest, &body.env)?;
     becomes_two(alloc, Leaf::Do(first), others)
 }
 
@@ -174,21 +170,19 @@ pub fn decide_instances(
     name: &Text,
     k: Number,
     found: Result<Number, Decision>,
-    body: &Rc<Formula>,
-    env: &Rc<Env>,
+    body: &Phrase,
 ) -> Result<Decision, NoMemory>
     requires { IfErr found IsPlain }
     ensures outcome { IfOk result (λ d.
         (o : Outcome) → NumberIn o found
         → Decides d (λ n.
         row.with_number o (λ m.
-        row.instances [] [] 0 [] name.now k m (formula_tree body.now.value)
-        (bindings_of env.now.value) n))) }
+        row.instances [] [] 0 [] name.now k m (formula_of body.now) (env_of body.now) n))) }
     ensures plain { IfOk result IsPlain }
 {
     match found {
         Ok(to) => {
-            let decision = instances(alloc, name, k, to, body, env)?;
+            let decision = instances(alloc, name, k, to, body)?;
             Ok(decision)
         }
         Err(decision) => Ok(decision),

@@ -1,5 +1,5 @@
 // Values that are shown.
-ghost use Rattle.std.specs.Prelude.{◌≡◌, [], IfOk, IfErr};
+ghost use Rattle.std.specs.Prelude.{[], IfOk, IfErr};
 ghost use Rattle.tp_kernel.specs.Read.{expr_trees, definitions_of, bindings_of};
 ghost use Rattle.tp_scene.specs.Scene as S;
 ghost use Rattle.tp_scene.specs.Step as row;
@@ -24,7 +24,6 @@ fn find_values(
     store: &Store,
     setting: &Setting,
 ) -> Result<Result<Values, Decision>, NoMemory>
-    requires { definitions_of setting.now.defs ≡ [] }
     ensures found { IfOk result
         (ValuesIn store.now.facts (definitions_of setting.now.defs) (expr_trees exprs.now)
         (bindings_of env.now)) }
@@ -48,7 +47,6 @@ pub fn decide_display(
     store: &Store,
     setting: &Setting,
 ) -> Result<Decision, NoMemory>
-    requires { definitions_of setting.now.defs ≡ [] }
     ensures outcome { IfOk result (λ d.
         Decides d (λ n.
         row.with_values (definitions_of setting.now.defs) [] 0 store.now.facts

@@ -35,7 +35,8 @@ fn copy_binding(binding: &Binding) -> Result<Binding, NoMemory>
     }
 }
 
-fn copy_bindings(alloc: Global, env: &Env) -> Result<Vec<Binding>, NoMemory>
+/// The same bindings.
+pub fn copy_bindings(alloc: Global, env: &Env) -> Result<Vec<Binding>, NoMemory>
     ensures { IfOk result (λ bs. map binding_of bs.items ≡ bindings_of env.now) }
 {
     let mut copies = Vec::new(alloc);

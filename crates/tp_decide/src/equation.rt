@@ -48,7 +48,6 @@ fn path_of(
     store: &Store,
     defs: &Defs,
 ) -> Result<Option<Path>, NoMemory>
-    requires none { definitions_of defs.now ≡ [] }
     requires fits { ExprFitsStore (definitions_of defs.now) store.now.variables (expr_tree expr.now)
         (bindings_of env.now) }
     ensures outcome { IfOk result (λ o.
@@ -86,7 +85,6 @@ fn find_target(
     store: &Store,
     defs: &Defs,
 ) -> Result<Option<Target>, NoMemory>
-    requires none { definitions_of defs.now ≡ [] }
     requires fits { ExprFitsStore (definitions_of defs.now) store.now.variables (expr_tree expr.now)
         (bindings_of env.now) }
     ensures outcome { IfOk result (λ o.
@@ -131,7 +129,6 @@ fn evaluate_side(
     store: &Store,
     defs: &Defs,
 ) -> Result<Side, NoMemory>
-    requires none { definitions_of defs.now ≡ [] }
     requires fits { ExprFitsStore (definitions_of defs.now) store.now.variables (expr_tree expr.now)
         (bindings_of env.now) }
     ensures outcome { IfOk result (λ s.
@@ -298,7 +295,6 @@ pub fn decide_equation(
     store: &Store,
     setting: &Setting,
 ) -> Result<Decision, NoMemory>
-    requires none { definitions_of setting.now.defs ≡ [] }
     requires fits_left { ExprFitsStore (definitions_of setting.now.defs) store.now.variables
         (expr_tree left.now) (bindings_of env.now) }
     requires fits_right { ExprFitsStore (definitions_of setting.now.defs) store.now.variables
@@ -343,7 +339,6 @@ pub fn decide_input(
     store: &Store,
     setting: &Setting,
 ) -> Result<Decision, NoMemory>
-    requires none { definitions_of setting.now.defs ≡ [] }
     requires fits { ExprFitsStore (definitions_of setting.now.defs) store.now.variables
         (expr_tree expr.now) (bindings_of env.now) }
     ensures outcome { let w = setting_of setting.now in

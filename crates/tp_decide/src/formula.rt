@@ -1,14 +1,16 @@
 // What becomes of an item without a region. This only reads: what is decided is carried out above.
-ghost use Rattle.std.specs.Prelude.{◌≡◌, [], IfOk};
+ghost use Rattle.std.specs.Prelude.{◌≡◌, IfOk};
 ghost use Rattle.tp_kernel.specs.Read.{definitions_of};
 ghost use Rattle.tp_scene.specs.Step as row;
 ghost use Rattle.tp_decide.specs.Read.{formula_of, env_of};
 ghost use Rattle.tp_decide.specs.Decided.{decided_outcome, plain_place, plain_leaf, setting_of};
 ghost use Rattle.tp_decide.specs.Fits.{SetsVariables, FitsStore, LeafFitsStore};
 
+use crate::calls::decide_call;
 use crate::counting::{decide_instances, decide_turns};
 use crate::decision::{Decision, Leaf, Place, end, go, nothing};
 use crate::display::decide_display;
+use crate::env::under;
 use crate::equation::{decide_equation, decide_input};
 use crate::evaluated::{
     decide_assign, decide_branch, decide_len, decide_next_equation, decide_test,
@@ -22,12 +24,11 @@ use crate::phrase::Phrase;
 use crate::regions::{decide_chop, decide_exists, decide_project};
 use crate::setting::Setting;
 use std::alloc::Global;
-use tp_kernel::{FaultKind, Formula};
-use tp_scene::Clash;
+use tp_kernel::Formula;
 use tp_store::Store;
 use tp_value::NoMemory;
 
-/// What picking an item with this formula gives, in a region of that place. There are no definitions yet.
+/// What picking an item with this formula gives, in a region of that place.
 pub fn decide(
     alloc: Global,
     phrase: &Phrase,
@@ -35,7 +36,6 @@ pub fn decide(
     store: &Store,
     setting: &Setting,
 ) -> Result<Decision, NoMemory>
-    requires none { definitions_of setting.now.defs ≡ [] }
     requires fits { FitsStore (definitions_of setting.now.defs) store.now.variables
         (formula_of phrase.now) (env_of phrase.now) }
     ensures outcome { let w = setting_of setting.now in
@@ -87,7 +87,9 @@ pub fn decide(
             body,
         } => {
             let found = find_number(alloc, to, env, store, setting)?;
-            decide_turns(alloc, name, *from, found, body, env, place)
+            let what = body.clone()?;
+            let body = under(what, env)?;
+            decide_turns(alloc, name, *from, found, &body, place)
         }
         Formula::Forall {
             name,
@@ -96,7 +98,9 @@ pub fn decide(
             body,
         } => {
             let found = find_number(alloc, to, env, store, setting)?;
-            decide_instances(alloc, name, *from, found, body, env)
+            let what = body.clone()?;
+            let body = under(what, env)?;
+            decide_instances(alloc, name, *from, found, &body)
         }
         Formula::Proj(w, v) => decide_project(w, v, env, place),
         Formula::Exists {
@@ -104,13 +108,13 @@ pub fn decide(
             lasting,
             body,
         } => decide_exists(name, *lasting, body, env),
-        Formula::Call(_, _) => Ok(Decision::Clashes(Clash::NoValue(FaultKind::NoElement))),
+        Formula::Call(number, exprs) => decide_call(alloc, *number, exprs, env, store, setting),
         Formula::Input(x, port) => decide_input(alloc, x, port, env, store, setting),
         Formula::Display(es) => decide_display(alloc, es, env, store, setting),
     }
 }
 
-/// What picking this item gives, in a region of that place. There are no definitions yet.
+/// What picking this item gives, in a region of that place.
 pub fn decide_leaf(
     alloc: Global,
     leaf: &Leaf,
@@ -118,7 +122,6 @@ pub fn decide_leaf(
     store: &Store,
     setting: &Setting,
 ) -> Result<Decision, NoMemory>
-    requires none { definitions_of setting.now.defs ≡ [] }
     requires fits { LeafFitsStore (definitions_of setting.now.defs) store.now.variables
         (plain_leaf leaf.now) (plain_place place) }
     ensures outcome { let w = setting_of setting.now in

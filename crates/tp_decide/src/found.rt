@@ -1,5 +1,5 @@
 // What is found where an expression is evaluated: a value of the kind that is needed, or what its item does without one.
-ghost use Rattle.std.specs.Prelude.{◌≡◌, [], IfOk, IfErr};
+ghost use Rattle.std.specs.Prelude.{IfOk, IfErr};
 ghost use Rattle.tp_kernel.specs.Read.{expr_tree, expr_trees, definitions_of, bindings_of};
 ghost use Rattle.tp_eval.specs.Answers.{outcome_tree};
 ghost use Rattle.tp_eval.specs.Outcome.{outcome};
@@ -17,7 +17,8 @@ use tp_scene::{Cell, Clash};
 use tp_store::Store;
 use tp_value::{NoMemory, Number, Value};
 
-fn value(outcome: Outcome) -> Result<Value, Decision>
+/// The value that an evaluation gave.
+pub fn value(outcome: Outcome) -> Result<Value, Decision>
     ensures found { ValueIn (outcome_tree outcome) result }
     ensures plain { IfErr result IsPlain }
 {
@@ -66,7 +67,6 @@ pub fn find_value(
     store: &Store,
     setting: &Setting,
 ) -> Result<Result<Value, Decision>, NoMemory>
-    requires { definitions_of setting.now.defs ≡ [] }
     ensures found { IfOk result
         (ValueIn
         (outcome store.now.facts (definitions_of setting.now.defs) (expr_tree expr.now)
@@ -85,7 +85,6 @@ pub fn find_truth(
     store: &Store,
     setting: &Setting,
 ) -> Result<Result<bool, Decision>, NoMemory>
-    requires { definitions_of setting.now.defs ≡ [] }
     ensures found { IfOk result
         (TruthIn
         (outcome store.now.facts (definitions_of setting.now.defs) (expr_tree expr.now)
@@ -104,7 +103,6 @@ pub fn find_number(
     store: &Store,
     setting: &Setting,
 ) -> Result<Result<Number, Decision>, NoMemory>
-    requires { definitions_of setting.now.defs ≡ [] }
     ensures found { IfOk result
         (NumberIn
         (outcome store.now.facts (definitions_of setting.now.defs) (expr_tree expr.now)

@@ -2,6 +2,7 @@
 //! yet, for scenes that are kept as slots. Nothing is changed here: what is decided is carried out above.
 #![tactic(auto)]
 
+mod calls;
 mod counting;
 mod decision;
 mod display;

@@ -1,6 +1,5 @@
 // The closure by passes: each pass tries the live items by increasing number, until one reduces nothing.
-ghost use Rattle.std.specs.Prelude.{◌≡◌, ◌<◌, ◌^◌, true, Bool, List, [], IfOk, OnOk};
-ghost use Rattle.tp_kernel.specs.Read.{definitions_of};
+ghost use Rattle.std.specs.Prelude.{◌≡◌, ◌<◌, ◌^◌, true, Bool, List, IfOk, OnOk};
 ghost use Rattle.tp_scene.specs.Laws.{IsSound};
 ghost use Rattle.tp_decide.specs.Decided.{setting_of};
 ghost use Rattle.tp_slots.specs.Kept.{IsWellKept};
@@ -25,7 +24,6 @@ fn look_at<L: Ledger>(
     requires sound { (kinds : List Bool)
         × IsSound (setting_of setting.now) kinds (moment_of scene.old store.old) }
     requires kept { IsWellKept scene.old }
-    requires none { definitions_of setting.now.defs ≡ [] }
     ensures sound { IfOk result (λ looked.
         (kinds : List Bool)
         → IsSound (setting_of setting.now) kinds (moment_of scene.old store.old)
@@ -94,7 +92,6 @@ fn pass<L: Ledger>(
     requires sound { (kinds : List Bool)
         × IsSound (setting_of setting.now) kinds (moment_of scene.old store.old) }
     requires kept { IsWellKept scene.old }
-    requires none { definitions_of setting.now.defs ≡ [] }
     ensures sound { IfOk result (λ ended.
         (kinds : List Bool)
         → IsSound (setting_of setting.now) kinds (moment_of scene.old store.old)
@@ -134,7 +131,6 @@ pub fn close_by_passes<L: Ledger>(
     requires sound { (kinds : List Bool)
         × IsSound (setting_of setting.now) kinds (moment_of scene.old store.old) }
     requires kept { IsWellKept scene.old }
-    requires none { definitions_of setting.now.defs ≡ [] }
     ensures sound { IfOk result (λ ending.
         (kinds : List Bool)
         → IsSound (setting_of setting.now) kinds (moment_of scene.old store.old)

@@ -1,6 +1,5 @@
 // One step of an item.
-ghost use Rattle.std.specs.Prelude.{◌≡◌, ◌+◌, Bool, List, [], IfOk, OnErr};
-ghost use Rattle.tp_kernel.specs.Read.{definitions_of};
+ghost use Rattle.std.specs.Prelude.{◌≡◌, ◌+◌, Bool, List, IfOk, OnErr};
 ghost use Rattle.tp_scene.specs.Laws.{IsSound};
 ghost use Rattle.tp_decide.specs.Decided.{setting_of};
 ghost use Rattle.tp_slots.specs.Read.{scene_of, item_what, what_of};
@@ -47,7 +46,6 @@ fn choose_for_leaf(
     store: &Store,
     setting: &Setting,
 ) -> Result<Decision, NoMemory>
-    requires none { definitions_of setting.now.defs ≡ [] }
     requires kept { IsWellKept scene.now }
     requires lives { Lives scene.now item }
     requires sound { (kinds : List Bool)
@@ -76,7 +74,6 @@ fn choose_for_leaf(
 
 // What is to be done with a live item.
 fn choose(scene: &Scene, item: u64, store: &Store, setting: &Setting) -> Result<Choice, NoMemory>
-    requires none { definitions_of setting.now.defs ≡ [] }
     requires kept { IsWellKept scene.now }
     requires lives { Lives scene.now item }
     requires sound { (kinds : List Bool)
@@ -104,7 +101,6 @@ fn attempt(
     setting: &Setting,
     room: u64,
 ) -> Result<Tried, NoMemory>
-    requires none { definitions_of setting.now.defs ≡ [] }
     requires kept { IsWellKept scene.old }
     requires lives { Lives scene.old item }
     requires sound { (kinds : List Bool)
@@ -125,7 +121,7 @@ fn attempt(
 }
 
 /// Tries a live item, in a state that is read with this setting, where so many reductions are left. The scene and the store change only
-/// where it is reduced. There are no definitions yet.
+/// where it is reduced.
 pub fn try_item<L: Ledger>(
     scene: &mut Scene,
     item: u64,
@@ -134,7 +130,6 @@ pub fn try_item<L: Ledger>(
     room: u64,
     steps: &mut Steps<L>,
 ) -> Result<Tried, NoMemory>
-    requires none { definitions_of setting.now.defs ≡ [] }
     requires kept { IsWellKept scene.old }
     requires lives { Lives scene.old item }
     requires sound { (kinds : List Bool)

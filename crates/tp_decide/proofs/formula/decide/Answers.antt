@@ -1,18 +1,21 @@
 use Rattle.std.specs.Prelude.{◌-◌, [], if◌then◌else◌}
-use Rattle.std.proofs.Common.{◌≡◌, ◌∙◌, to_z, of_z, w64, arith, ap, sym, subst}
+use Rattle.std.proofs.Common.{◌≡◌, ◌∙◌, ℤ, Some, slice_get, length, to_z, of_z, w64, arith, ap, ap₂, sym, subst}
 use Rattle.std.proofs.lemmas.Int.{ints}
-use Rattle.tp_kernel.specs.Read.{expr_tree, formula_tree, definitions_of}
-use Rattle.tp_kernel.specs.Equations.{formula_next_eq, formula_if, formula_assign, formula_for, formula_forall}
-use Rattle.tp_meaning.specs.Syntax.{known, equation, always, if_empty}
+use Rattle.tp_kernel.specs.declared.formula.Env.{Env}
+use Rattle.tp_kernel.specs.Read.{expr_tree, expr_trees, formula_tree, bindings_of, definitions_of}
+use Rattle.tp_kernel.specs.Equations.{formula_next_eq, formula_if, formula_assign, formula_for, formula_forall, formula_call}
+use Rattle.tp_meaning.specs.Syntax.{Definition, FormulaTree, known, equation, always, if_empty}
+use Rattle.tp_meaning.specs.Fits.{AreArguments, FormulaFits}
 use Rattle.tp_meaning.specs.Unfolding.{nexts}
 use Rattle.tp_inputs.specs.Read.{lines_of}
 use Rattle.tp_eval.specs.Outcome.{outcome}
 use Rattle.tp_scene.specs.Scene as S
 use Rattle.tp_scene.specs.Step as row
-use Rattle.tp_decide.specs.Read.{env_of}
+use Rattle.tp_decide.specs.Read.{formula_of, env_of}
 use Rattle.tp_decide.specs.Decided.{plain_place}
 use Rattle.tp_decide.specs.Found.{TruthIn, NumberIn, ValueIn}
-use Rattle.tp_decide.proofs.FormulaLemmas.{same_outcome, found_row}
+use Rattle.tp_decide.proofs.CallLemmas.{arguments_are_places}
+use Rattle.tp_decide.proofs.FormulaLemmas.{same_outcome, found_row, decided_row}
 use Rattle.tp_decide.proofs.formula.decide.Goals as goal
 
 pub returns-in-True-clause-variables : goal.returns-in-True-clause-variables
@@ -66,8 +69,8 @@ returns-in_ok-found-in-Assign-clause-outcome c =
     found_row facts c.decide_assign.result (λ o. ValueIn o found) (λ o n. row.with_value o (λ v. row.becomes (S.leaf (n.item 0) (S.Do (always (if_empty (equation (expr_tree c.in-Assign.t.value) (known v)))) env) S.none) 1))
     (outcome facts defs (expr_tree c.in-Assign.e.value) env) (λ n. step _ env place n) here (λ n. ap (λ f. step f env place n) (sym whole)) c.decide_assign.ensures.outcome
 
-pub returns-in_ok-found-in-For-clause-outcome : goal.returns-in_ok-found-in-For-clause-outcome
-returns-in_ok-found-in-For-clause-outcome c =
+pub returns-in_ok-body-in-For-clause-outcome : goal.returns-in_ok-body-in-For-clause-outcome
+returns-in_ok-body-in-For-clause-outcome c =
     let facts = c.args.store.now.facts in
     let defs = definitions_of c.args.setting.now.defs in
     let env = env_of c.args.phrase.now in
@@ -79,13 +82,17 @@ returns-in_ok-found-in-For-clause-outcome c =
     let k = to_z w64 (of_z w64 c.in-For.from) in
     let seen : k ≡ c.in-For.from = omega (arith, ints) in
     let o = outcome facts defs (expr_tree c.in-For.to.value) env in
-    found_row facts c.decide_turns.result (λ o. NumberIn o found) (λ o n. row.with_number o (λ m. row.turns [] [] 0 [] c.in-For.name k m (formula_tree c.in-For.body.value) env place n))
+    let body = c.in_ok-body-in-For.body in
+    let same_body : formula_of body ≡ formula_tree c.in-For.body.value = c.in_ok-body-in-For.ensures.formula ∙ ap formula_tree c.in_ok-what-in-For.ensures.cases in
+    let same_env : env_of body ≡ env = c.in_ok-body-in-For.ensures.bindings in
+    let counted : row.Numbers → ℤ → FormulaTree → S.Bindings → row.PickOutcome = λ n i f bs. row.with_number o (λ m. row.turns [] [] 0 [] c.in-For.name i m f bs place n) in
+    found_row facts c.decide_turns.result (λ o. NumberIn o found) (λ o n. row.with_number o (λ m. row.turns [] [] 0 [] c.in-For.name k m (formula_of body) (env_of body) place n))
     o (λ n. step _ env place n) here
-    (λ n. ap (λ i. row.with_number o (λ m. row.turns [] [] 0 [] c.in-For.name i m (formula_tree c.in-For.body.value) env place n)) seen ∙ ap (λ f. step f env place n) (sym whole))
+    (λ n. ap₂ (counted n k) same_body same_env ∙ ap (λ i. counted n i (formula_tree c.in-For.body.value) env) seen ∙ ap (λ f. step f env place n) (sym whole))
     c.decide_turns.ensures.outcome
 
-pub returns-in_ok-found-in-Forall-clause-outcome : goal.returns-in_ok-found-in-Forall-clause-outcome
-returns-in_ok-found-in-Forall-clause-outcome c =
+pub returns-in_ok-body-in-Forall-clause-outcome : goal.returns-in_ok-body-in-Forall-clause-outcome
+returns-in_ok-body-in-Forall-clause-outcome c =
     let facts = c.args.store.now.facts in
     let defs = definitions_of c.args.setting.now.defs in
     let env = env_of c.args.phrase.now in
@@ -97,7 +104,33 @@ returns-in_ok-found-in-Forall-clause-outcome c =
     let k = to_z w64 (of_z w64 c.in-Forall.from) in
     let seen : k ≡ c.in-Forall.from = omega (arith, ints) in
     let o = outcome facts defs (expr_tree c.in-Forall.to.value) env in
-    found_row facts c.decide_instances.result (λ o. NumberIn o found) (λ o n. row.with_number o (λ m. row.instances [] [] 0 [] c.in-Forall.name k m (formula_tree c.in-Forall.body.value) env n))
+    let body = c.in_ok-body-in-Forall.body in
+    let same_body : formula_of body ≡ formula_tree c.in-Forall.body.value = c.in_ok-body-in-Forall.ensures.formula ∙ ap formula_tree c.in_ok-what-in-Forall.ensures.cases in
+    let same_env : env_of body ≡ env = c.in_ok-body-in-Forall.ensures.bindings in
+    let counted : row.Numbers → ℤ → FormulaTree → S.Bindings → row.PickOutcome = λ n i f bs. row.with_number o (λ m. row.instances [] [] 0 [] c.in-Forall.name i m f bs n) in
+    found_row facts c.decide_instances.result (λ o. NumberIn o found) (λ o n. row.with_number o (λ m. row.instances [] [] 0 [] c.in-Forall.name k m (formula_of body) (env_of body) n))
     o (λ n. step _ env place n) here
-    (λ n. ap (λ i. row.with_number o (λ m. row.instances [] [] 0 [] c.in-Forall.name i m (formula_tree c.in-Forall.body.value) env n)) seen ∙ ap (λ f. step f env place n) (sym whole))
+    (λ n. ap₂ (counted n k) same_body same_env ∙ ap (λ i. counted n i (formula_tree c.in-Forall.body.value) env) seen ∙ ap (λ f. step f env place n) (sym whole))
     c.decide_instances.ensures.outcome
+
+pub decide_call-requires : goal.decide_call-requires
+decide_call-requires c = λ called is.
+    let defs = definitions_of c.args.setting.now.defs in
+    let es = expr_trees c.in-Call.exprs in
+    let fits = c.requires.fits in
+    let whole = ap formula_tree (sym c.deref.ensures ∙ c.in-Call.is) ∙ formula_call c.in-Call.number c.in-Call.exprs in
+    let h = subst (λ (f : FormulaTree). FormulaFits defs fits.kinds f (length (env_of c.args.phrase.now))) whole fits.phrase.0 in
+    let same : h.0 ≡ called = (let p : slice_get defs c.in-Call.number ≡ Some h.0 = h.1 in cc) in
+    arguments_are_places es called.parameters (subst (λ (d : Definition). AreArguments es d.parameters) same h.2)
+
+pub returns-in-Call-clause-outcome : goal.returns-in-Call-clause-outcome
+returns-in-Call-clause-outcome c =
+    let facts = c.args.store.now.facts in
+    let defs = definitions_of c.args.setting.now.defs in
+    let env = env_of c.args.phrase.now in
+    let place = plain_place c.args.place in
+    let step = row.formula_step defs (lines_of c.args.setting.now.inputs) c.args.setting.now.state facts in
+    let called : Env → row.Numbers → row.PickOutcome = λ v n. row.called defs [] 0 facts (slice_get defs c.in-Call.number) (expr_trees c.in-Call.exprs) (bindings_of v) n in
+    let whole = ap formula_tree (sym c.deref.ensures ∙ c.in-Call.is) ∙ formula_call c.in-Call.number c.in-Call.exprs in
+    decided_row facts c.decide_call.result (called c.deref-in-Call.result.now) (λ n. step _ env place n)
+    (λ n. ap (λ (v : Env). called v n) c.deref-in-Call.ensures ∙ ap (λ f. step f env place n) (sym whole)) c.decide_call.ensures.outcome

@@ -19,10 +19,10 @@ pub place_of_item-place-requires-clause-shallow : goal.place_of_item-place-requi
 place_of_item-place-requires-clause-shallow c =
     (shallow_there (setting_of c.args.setting.now) c.requires.sound.0 c.args.store.now c.args.scene.now c.args.item c.requires.sound.1 c.requires.kept c.requires.lives).stands
 
-pub decide-requires-clause-fits : goal.decide-requires-clause-fits
-decide-requires-clause-fits c =
+pub decide-requires : goal.decide-requires
+decide-requires c =
     let is = what_read c.args.scene.now c.args.item c.index-slot.result.now c.requires.kept c.requires.lives c.index-slot.ensures ∙ ap what_of c.in-Do.is in
-    phrase_fits (setting_of c.args.setting.now) c.requires.sound.0 c.args.store.now c.args.scene.now c.args.item c.requires.sound.1 c.requires.kept c.requires.lives (formula_of c.in-Do.phrase) (env_of c.in-Do.phrase) is
+    record { fits = phrase_fits (setting_of c.args.setting.now) c.requires.sound.0 c.args.store.now c.args.scene.now c.args.item c.requires.sound.1 c.requires.kept c.requires.lives (formula_of c.in-Do.phrase) (env_of c.in-Do.phrase) is }
 
 pub returns-in_ok-decision-in-Do : goal.returns-in_ok-decision-in-Do
 returns-in_ok-decision-in-Do c =

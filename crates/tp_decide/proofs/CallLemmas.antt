@@ -1,0 +1,68 @@
+-- What the parameters of a definition are bound to, one at a time.
+use Rattle.std.proofs.Common.{◌≡◌, ℕ, List, [], ◌∷◌, ◌++◌, map, length, IsTrue, ◌⊎◌, inl, inr, refl, ap, sym, ◌∙◌, arith}
+use Rattle.std.proofs.lemmas.List.{append_assoc, append-nil}
+use Rattle.tp_value.specs.declared.path.Fact.{Fact}
+use Rattle.tp_kernel.specs.declared.formula.Expr.{Expr}
+use Rattle.tp_kernel.specs.declared.formula.FaultKind.TheVariants.{NoElement}
+use Rattle.tp_kernel.specs.Read.{expr_tree}
+use Rattle.tp_meaning.specs.Syntax.{Definition, BindingTree, ExprTree, ExprTrees, numeral, boolean, known, bound, global, listing, size, index, minus, negation, both, either, binary, choice, invoke, no_expr, expr_then, exprs_of}
+use Rattle.tp_meaning.specs.Fits.{IsPlace, AreArguments}
+use Rattle.tp_eval.specs.Evaluate.{is_place}
+use Rattle.tp_scene.specs.declared.answer.Clash.TheVariants.{NoValue}
+use Rattle.tp_scene.specs.Scene.{Bindings}
+use Rattle.tp_scene.specs.Step as row
+use Rattle.tp_scene.specs.Step.{PickOutcome, clashes}
+use Rattle.tp_decide.specs.Fits.{ArePlaces}
+
+place_is : (e : ExprTree) → IsPlace e → IsTrue (is_place e)
+place_is (bound i) h = refl
+place_is (global x) h = refl
+place_is (index e i) h = place_is e h
+place_is (numeral n) h = absurd h
+place_is (boolean b) h = absurd h
+place_is (known t) h = absurd h
+place_is (listing es) h = absurd h
+place_is (size e) h = absurd h
+place_is (minus e) h = absurd h
+place_is (negation e) h = absurd h
+place_is (both es) h = absurd h
+place_is (either a b) h = absurd h
+place_is (binary o a b) h = absurd h
+place_is (choice b x y) h = absurd h
+place_is (invoke p es) h = absurd h
+
+pub arguments_are_places : (es : ExprTrees) (xs : List (List ℕ)) → AreArguments es xs → ArePlaces es xs
+arguments_are_places no_expr [] h = tt
+arguments_are_places no_expr (x ∷ xs) h = tt
+arguments_are_places (expr_then e es) [] h = tt
+arguments_are_places (expr_then e es) (x ∷ xs) h = ((λ u. place_is e (h.0 u)), arguments_are_places es xs h.1)
+
+module _ (facts : List Fact) (defs : List Definition) (env : Bindings) where
+  abbrev pub arguments_then : ExprTrees → List (List ℕ) → (Bindings → PickOutcome) → PickOutcome
+  arguments_then es xs f = row.with_arguments defs [] 0 facts es xs env f
+
+  -- with what was bound before
+  abbrev pub arguments_after : (done : Bindings) → ExprTrees → List (List ℕ) → (Bindings → PickOutcome) → PickOutcome
+  arguments_after done es xs f = arguments_then es xs (λ bs. f (done ++ bs))
+
+  pub argument_next : (done : Bindings) (b : BindingTree) (x : List ℕ) (xs : List (List ℕ)) (e : ExprTree) (es : ExprTrees) →
+      ((g : BindingTree → PickOutcome) → row.with_argument defs [] 0 facts x e env g ≡ g b) → (f : Bindings → PickOutcome) →
+      arguments_after (done ++ b ∷ []) es xs f ≡ arguments_after done (expr_then e es) (x ∷ xs) f
+  argument_next done b x xs e es h f = sym
+      (h (λ v. arguments_then es xs (λ vs. f (done ++ v ∷ vs)))
+      ∙ ap (λ (g : Bindings → Bindings). arguments_then es xs (λ vs. f (g vs))) (λ j vs. sym (append_assoc done (b ∷ []) vs) j))
+
+  -- where one list has come to its end, and where the other hasn't
+  pub all_bound : (done : Bindings) (es : List Expr) (xs : List (List ℕ)) → (es ≡ []) ⊎ (xs ≡ []) → length es ≡ length xs → (f : Bindings → PickOutcome) →
+      arguments_after done (exprs_of (map expr_tree es)) xs f ≡ f done
+  all_bound done [] [] h l f = ap f (append-nil done)
+  all_bound done [] (x ∷ xs) h l f = absurd (omega arith)
+  all_bound done (e ∷ es) [] h l f = absurd (omega arith)
+  all_bound done (e ∷ es) (x ∷ xs) h l f = elim h [ inl q ↦ absurd (cc) | inr q ↦ absurd (cc) ]
+
+  pub one_too_few : (done : Bindings) (es : List Expr) (xs : List (List ℕ)) → (es ≡ []) ⊎ (xs ≡ []) → (length es ≡ length xs → ⊥) → (f : Bindings → PickOutcome) →
+      clashes (NoValue NoElement) ≡ arguments_after done (exprs_of (map expr_tree es)) xs f
+  one_too_few done [] [] h l f = absurd (l refl)
+  one_too_few done [] (x ∷ xs) h l f = refl
+  one_too_few done (e ∷ es) [] h l f = refl
+  one_too_few done (e ∷ es) (x ∷ xs) h l f = elim h [ inl q ↦ absurd (cc) | inr q ↦ absurd (cc) ]
