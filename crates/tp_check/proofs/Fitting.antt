@@ -1,9 +1,10 @@
--- What is made of phrases runs over their names.
-use Rattle.std.proofs.Common.{refl, ap, sym, subst, ◌∙◌, ◌≡◌, ℕ, zero, suc, ◌+◌, ◌<◌, ◌&&◌, Bool, true, false, not, cond, if◌then◌else◌, nat_lt, List, [], ◌∷◌, length, slice_get, Option, None, Some, Ok, Err, IfOk, arith}
+-- What is made of a source runs: each definition, call and name that it speaks of is there.
+use Rattle.std.proofs.Common.{refl, ap, sym, subst, ◌∙◌, ◌≡◌, ℕ, zero, suc, ◌+◌, ◌<◌, ◌&&◌, Bool, true, false, not, cond, if◌then◌else◌, nat_eq, nat_lt, List, [], ◌∷◌, length, slice_get, Option, None, Some, Ok, Err, IfOk, IsTrue, arith}
 use Rattle.std.specs.List.{position_or_len}
 use Rattle.std.specs.Option.{option_map, IfSome}
 use Rattle.std.specs.Str.{bytes_eq}
 use Rattle.std.proofs.lemmas.Bool.Decides.{nat_tests}
+use Rattle.std.proofs.lemmas.Result.{IfOk-at_ok, IfOk-weaker}
 use Rattle.std.proofs.lemmas.Slice.Eq.{bytes_eq-Decides}
 use Rattle.std.proofs.lemmas.Iterator.Adapters.{position_from-zero}
 use Rattle.tp_value.specs.declared.path.VarId.{VarId}
@@ -14,16 +15,30 @@ use Rattle.tp_tree.specs.declared.operator.Bare.{Bare}
 use Rattle.tp_tree.specs.declared.operator.Bare.TheVariants.{Empty, More, Skip}
 use Rattle.tp_tree.specs.declared.operator.Form.TheVariants as f
 use Rattle.tp_tree.specs.Tree as k
-use Rattle.tp_tree.specs.Tree.{PhraseTree, phrase, PhraseTrees, no_phrase, phrase_then}
-use Rattle.tp_meaning.specs.Syntax.{ExprTree, FormulaTree, equation, while, exprs_of, formulas_of}
+use Rattle.tp_tree.specs.Tree.{PhraseTree, phrase, PhraseTrees, no_phrase, phrase_then, DefinitionTree, SourceTree}
+use Rattle.tp_meaning.specs.Syntax.{ExprTree, FormulaTree, Definition, equation, while, exprs_of, formulas_of}
+use Rattle.tp_meaning.specs.Value.{is_upper}
 use Rattle.tp_meaning.specs.Interval.{kinds_of}
-use Rattle.tp_meaning.specs.Fits.{IsVariable, ExprFits, ExprsFit, FormulaFits, FormulasFit}
+use Rattle.tp_meaning.specs.Fits.{IsVariable, IsPlace, AreArguments, ExprFits, ExprsFit, FormulaFits, FormulasFit}
 use Rattle.tp_meaning.specs.Derived.{next_equals_of, repeat_of}
-use Rattle.tp_kernel.specs.Built.{HasBuiltKinds, HaveBuiltKinds}
-use Rattle.tp_check.specs.Scope.{Names, VisibleNames, with_binder, binder_of, bound_or_global}
+use Rattle.tp_check.specs.declared.refusal.CheckRefusal.{CheckRefusal}
+use Rattle.tp_check.specs.declared.refusal.CheckRefusal.TheVariants.{Twice}
+use Rattle.tp_check.specs.Built.{HasBuiltKinds, HaveBuiltKinds, IsBuilt}
+use Rattle.tp_check.specs.Scope.{Names, Signature, VisibleNames, Called, with_binder, with_binders, bound_in, binder_of, bound_or_global, called_from, called_of}
+use Rattle.tp_check.specs.Names.{has_repeat}
 use Rattle.tp_check.specs.Outcome.{CheckOutcome, mapped, both, three, not_expression}
-use Rattle.tp_check.specs.Phrases.{is_state_phrase, is_place_phrase, is_place_kind, nexts_of, behind_nexts, at_of}
-use Rattle.tp_check.specs.Positions.{named_expr, operation_of, operation_at, expr_of, expr_of_kind, exprs_in, place_phrase, place_refusal, equation_of, state_in, negation_in, binary_in, composition_of, composed_or, bare_of, formula_of, formula_of_kind, formulas_in}
+use Rattle.tp_check.specs.Phrases.{is_place_phrase, is_place_kind, phrase_count, nexts_of, behind_nexts, at_of}
+use Rattle.tp_check.specs.Definitions.{signatures_of}
+use Rattle.tp_check.specs.Positions.{named_expr, operation_of, operation_at, called_expr, expr_of, expr_of_kind, exprs_in, place_phrase, arguments_in, equation_of, is_state_in, state_in, negation_in, binary_in, composition_of, composed_or, bare_of, called_formula, exists_of, formula_of, formula_of_kind, formulas_in}
+use Rattle.tp_check.specs.Program.{expr_where, definition_with, definition_in, definitions_in, outermost, program_over}
+
+any_ok : {A : Type 0} (a : CheckOutcome A) → IfOk a (λ x. Unit {0})
+any_ok (Ok a) = tt
+any_ok (Err e) = tt
+
+pair_ok : {A : Type 0} (a : CheckOutcome A) (P Q : A → Type 0) → IfOk a P → IfOk a Q → IfOk a (λ x. P x × Q x)
+pair_ok (Ok a) P Q p q = (p, q)
+pair_ok (Err e) P Q p q = tt
 
 mapped_ok : {A B : Type 0} (g : A → B) (a : CheckOutcome A) (P : A → Type 0) (Q : B → Type 0) → IfOk a P → ((x : A) → P x → Q (g x)) → IfOk (mapped g a) Q
 mapped_ok g (Ok a) P Q p h = h a p
@@ -39,9 +54,17 @@ three_ok : {A B C D : Type 0} (g : A → B → C → D) (a : CheckOutcome A) (b 
 three_ok g (Ok a) b c P Q R S p q r h = both_ok (g a) b c Q R S q r (λ y z u v. h a y z p u v)
 three_ok g (Err e) b c P Q R S p q r h = tt
 
-if_ok : {A : Type 0} (b : Bool) (x y : CheckOutcome A) (P : A → Type 0) → IfOk x P → IfOk y P → IfOk (if b then x else y) P
-if_ok true x y P p q = p
+if_ok : {A : Type 0} (b : Bool) (x y : CheckOutcome A) (P : A → Type 0) → (b ≡ true → IfOk x P) → IfOk y P → IfOk (if b then x else y) P
+if_ok true x y P p q = p refl
 if_ok false x y P p q = q
+
+else_ok : {A : Type 0} (b : Bool) (e : CheckRefusal) (x : CheckOutcome A) (P : A → Type 0) → IfOk x P → IfOk (if b then Err e else x) P
+else_ok true e x P p = tt
+else_ok false e x P p = p
+
+bound_count : (xs scope : Names) → length (bound_in scope xs) ≡ length xs + length scope
+bound_count [] scope = omega arith
+bound_count (x ∷ xs) scope = bound_count xs (x ∷ scope) ∙ omega arith
 
 -- ---- variables
 
@@ -57,14 +80,6 @@ kind_by x n ns false e h later = get_after (is_lower n) (kinds_of ns) (position_
 kind_at : (x : List ℕ) (names : Names) → position_or_len (bytes_eq x) names < length names → slice_get (kinds_of names) (position_or_len (bytes_eq x) names) ≡ Some (is_lower x)
 kind_at x [] h = absurd (omega arith)
 kind_at x (n ∷ ns) h = kind_by x n ns (bytes_eq x n) refl h (kind_at x ns)
-
--- ---- expressions
-
-abbrev Fits : VisibleNames → ExprTree → Type 0
-Fits names e = ExprFits [] (kinds_of names.globals) e (length names.scope)
-
-abbrev AllFit : VisibleNames → List ExprTree → Type 0
-AllFit names es = ExprsFit [] (kinds_of names.globals) (exprs_of es) (length names.scope)
 
 variable_found : (names : Names) (x : List ℕ) (known : Bool) → nat_lt (position_or_len (bytes_eq x) names) (length names) ≡ known
     → (v : VarId) → option_map (variable x) (cond known (Some (position_or_len (bytes_eq x) names)) None) ≡ Some v → IsVariable (kinds_of names) v
@@ -87,160 +102,352 @@ binder_below (y ∷ outer) x i e = binder_by outer x i (bytes_eq x y) e (binder_
     binder_by outer x i true e below = let here : length outer ≡ i = cc in omega arith
     binder_by outer x i false e below = let there : i < length outer = below e in omega arith
 
-name_fits : (names : VisibleNames) (at : ℕ) (x : List ℕ) (i : Option ℕ) (v : Option VarId) → binder_of names.scope x ≡ i → variable_of names.globals x ≡ v
-    → IfOk (named_expr at (bound_or_global i v)) (Fits names)
-name_fits names at x (Some i) v b e = binder_below names.scope x i b
-name_fits names at x None (Some v) b e = variable_fits names.globals x v e
-name_fits names at x None None b e = tt
+-- ---- what calls find
 
-operation_fits : (names : VisibleNames) (at : ℕ) (o : Op) (l r : CheckOutcome ExprTree) → IfOk l (Fits names) → IfOk r (Fits names) → IfOk (operation_at at (operation_of o) l r) (Fits names)
-operation_fits names at op.Or l r p q = both_ok _ l r (Fits names) (Fits names) (Fits names) p q (λ x y a b. (a, b))
-operation_fits names at op.Equal l r p q = both_ok _ l r (Fits names) (Fits names) (Fits names) p q (λ x y a b. (a, b))
-operation_fits names at op.Differs l r p q = both_ok _ l r (Fits names) (Fits names) (Fits names) p q (λ x y a b. (a, b))
-operation_fits names at op.Less l r p q = both_ok _ l r (Fits names) (Fits names) (Fits names) p q (λ x y a b. (a, b))
-operation_fits names at op.LessEqual l r p q = both_ok _ l r (Fits names) (Fits names) (Fits names) p q (λ x y a b. (a, b))
-operation_fits names at op.Greater l r p q = both_ok _ l r (Fits names) (Fits names) (Fits names) p q (λ x y a b. (a, b))
-operation_fits names at op.GreaterEqual l r p q = both_ok _ l r (Fits names) (Fits names) (Fits names) p q (λ x y a b. (a, b))
-operation_fits names at op.Plus l r p q = both_ok _ l r (Fits names) (Fits names) (Fits names) p q (λ x y a b. (a, b))
-operation_fits names at op.Minus l r p q = both_ok _ l r (Fits names) (Fits names) (Fits names) p q (λ x y a b. (a, b))
-operation_fits names at op.Times l r p q = both_ok _ l r (Fits names) (Fits names) (Fits names) p q (λ x y a b. (a, b))
-operation_fits names at op.Div l r p q = both_ok _ l r (Fits names) (Fits names) (Fits names) p q (λ x y a b. (a, b))
-operation_fits names at op.Mod l r p q = both_ok _ l r (Fits names) (Fits names) (Fits names) p q (λ x y a b. (a, b))
-operation_fits names at o l r p q = tt
+-- a definition as its signature says it: with these parameters, and with an expression where it is a state definition
+abbrev IsAsSigned : Signature → Definition → Type 0
+IsAsSigned s d = (d.parameters ≡ s.parameters) × (s.is_state ≡ true → (e : ExprTree) × (d.expr ≡ Some e))
 
-mutual
-  expr_fits : (names : VisibleNames) (p : PhraseTree) → IfOk (expr_of names p) (Fits names)
-  expr_fits names (phrase at kind) = expr_kind_fits names at kind
+-- what a call finds among the signatures stands with that number among the definitions
+abbrev AreDefined : List Definition → List Signature → Type 0
+AreDefined defs signatures = (x : List ℕ) (c : Called) → called_of signatures x ≡ Some c → (d : Definition) × (slice_get defs c.number ≡ Some d) × IsAsSigned c.signature d
 
-  expr_kind_fits : (names : VisibleNames) (at : ℕ) (kind : k.KindTree) → IfOk (expr_of_kind names at kind) (Fits names)
-  expr_kind_fits names at (k.number n) = tt
-  expr_kind_fits names at (k.truth b) = tt
-  expr_kind_fits names at (k.name x) = name_fits names at x (binder_of names.scope x) (variable_of names.globals x) refl refl
-  expr_kind_fits names at (k.list ps) = mapped_ok _ (exprs_in names ps) (AllFit names) (Fits names) (exprs_fit names ps) (λ es h. h)
-  expr_kind_fits names at (k.size p) = mapped_ok _ (expr_of names p) (Fits names) (Fits names) (expr_fits names p) (λ e h. h)
-  expr_kind_fits names at (k.index p i) = both_ok _ (expr_of names p) (expr_of names i) (Fits names) (Fits names) (Fits names) (expr_fits names p) (expr_fits names i) (λ x y a b. (a, b))
-  expr_kind_fits names at (k.minus p) = mapped_ok _ (expr_of names p) (Fits names) (Fits names) (expr_fits names p) (λ e h. h)
-  expr_kind_fits names at (k.negation p) = mapped_ok _ (expr_of names p) (Fits names) (Fits names) (expr_fits names p) (λ e h. h)
-  expr_kind_fits names at (k.binary o l r) = operation_fits names at o (expr_of names l) (expr_of names r) (expr_fits names l) (expr_fits names r)
-  expr_kind_fits names at (k.conjunction ps) = mapped_ok _ (exprs_in names ps) (AllFit names) (Fits names) (exprs_fit names ps) (λ es h. h)
-  expr_kind_fits names at (k.choice_else b p q) =
-      three_ok _ (expr_of names b) (expr_of names p) (expr_of names q) (Fits names) (Fits names) (Fits names) (Fits names) (expr_fits names b) (expr_fits names p) (expr_fits names q) (λ x y z a b c. (a, b, c))
-  expr_kind_fits names at kind = tt
+expr_there : (b : Bool) (names : VisibleNames) (body : PhraseTree) → IfOk (expr_where b names body) (λ e. b ≡ true → (x : ExprTree) × (e ≡ Some x))
+expr_there true names body = mapped_ok Some (expr_of names body) (λ x. Unit {0}) (λ e. true ≡ true → (x : ExprTree) × (e ≡ Some x)) (any_ok (expr_of names body)) (λ x h same. (x, refl))
+expr_there false names body = λ same. absurd cc
 
-  exprs_fit : (names : VisibleNames) (ps : PhraseTrees) → IfOk (exprs_in names ps) (AllFit names)
-  exprs_fit names no_phrase = tt
-  exprs_fit names (phrase_then p ps) = both_ok _ (expr_of names p) (exprs_in names ps) (Fits names) (AllFit names) (AllFit names) (expr_fits names p) (exprs_fit names ps) (λ x y a b. (a, b))
+made_as_signed : (names : VisibleNames) (d : DefinitionTree) (b : Bool) → IfOk (definition_in names d b) (IsAsSigned (record { name = d.name; parameters = d.parameters; is_state = b }))
+made_as_signed names d b =
+    let inner = with_binders d.parameters names in
+    both_ok (definition_with d) (formula_of inner d.body) (expr_where b inner d.body) (λ w. Unit {0}) (λ e. b ≡ true → (x : ExprTree) × (e ≡ Some x)) (IsAsSigned (record { name = d.name; parameters = d.parameters; is_state = b }))
+    (any_ok (formula_of inner d.body)) (expr_there b inner d.body) (λ w e h there. (refl, there))
 
-place_fits : (names : VisibleNames) (p : PhraseTree) → IfOk (place_phrase names p) (Fits names)
-place_fits names (phrase at kind) = if_ok (is_place_kind kind) (expr_of_kind names at kind) (Err (place_refusal at kind)) (Fits names) (expr_kind_fits names at kind) tt
+-- what is called is one of these, of which the first has the number i
+abbrev IsAmong : ℕ → Called → List Definition → Type 0
+IsAmong i c made = (j : ℕ) × (d : Definition) × (c.number ≡ j + i) × (slice_get made j ≡ Some d) × IsAsSigned c.signature d
 
--- ---- formulas
+found_by : (i : ℕ) (s : Signature) (c : Called) (same : Bool) (later : Option Called) (one : CheckOutcome Definition) (more : CheckOutcome (List Definition))
+    → (if same then Some (record { number = i; signature = s }) else later) ≡ Some c → IfOk one (IsAsSigned s) → (later ≡ Some c → IfOk more (IsAmong (suc i) c))
+    → IfOk (both (λ x xs. x ∷ xs) one more) (IsAmong i c)
+found_by i s c true later one more e first rest =
+    let is : record { number = i; signature = s } ≡ c = cc in
+    both_ok (λ x xs. x ∷ xs) one more (IsAsSigned s) (λ made. Unit {0}) (IsAmong i c) first (any_ok more) (λ d made h t. subst (λ (y : Called). IsAmong i y (d ∷ made)) is (0, d, omega arith, refl, h))
+found_by i s c false later one more e first rest =
+    both_ok (λ x xs. x ∷ xs) one more (λ d. Unit {0}) (IsAmong (suc i) c) (IsAmong i c) (any_ok one) (rest e) (λ d made t h. (suc h.0, h.1, omega (arith, h.2), h.3, h.4))
 
-abbrev BuiltWith : VisibleNames → FormulaTree → Type 0
-BuiltWith names w = HasBuiltKinds w × FormulaFits [] (kinds_of names.globals) w (length names.scope)
+found_from : (i : ℕ) (names : VisibleNames) (ds : List DefinitionTree) (states : List Bool) (x : List ℕ) (c : Called) → called_from i (signatures_of ds states) x ≡ Some c
+    → IfOk (definitions_in names ds states) (IsAmong i c)
+found_from i names [] states x c e = absurd cc
+found_from i names (d ∷ ds) [] x c e = absurd cc
+found_from i names (d ∷ ds) (b ∷ bs) x c e =
+    found_by i (record { name = d.name; parameters = d.parameters; is_state = b }) c (bytes_eq x d.name) (called_from (suc i) (signatures_of ds bs) x) (definition_in names d b) (definitions_in names ds bs) e
+    (made_as_signed names d b) (found_from (suc i) names ds bs x c)
 
-equation_fits : (names : VisibleNames) (n m at : ℕ) (l r : CheckOutcome ExprTree) → IfOk l (Fits names) → IfOk r (Fits names) → IfOk (equation_of n m at l r) (BuiltWith names)
-equation_fits names zero zero at l r p q = both_ok _ l r (Fits names) (Fits names) (BuiltWith names) p q (λ x y a b. (tt, (a, b)))
-equation_fits names (suc n) zero at l r p q =
-    both_ok (λ t e. next_equals_of (suc n) t e) l r (Fits names) (Fits names) (BuiltWith names) p q (λ x y a b. ((tt, (tt, tt)), (tt, ((a, b, omega arith), tt))))
-equation_fits names zero (suc m) at l r p q =
-    both_ok (λ e t. next_equals_of (suc m) t e) l r (Fits names) (Fits names) (BuiltWith names) p q (λ x y a b. ((tt, (tt, tt)), (tt, ((b, a, omega arith), tt))))
-equation_fits names (suc n) (suc m) at l r p q =
-    both_ok equation l (not_expression at) (Fits names) (λ e. ⊥) (BuiltWith names) p tt (λ x y a h. absurd h)
+are_defined : (names : VisibleNames) (ds : List DefinitionTree) (states : List Bool) (defs : List Definition) → definitions_in names ds states ≡ Ok defs → AreDefined defs (signatures_of ds states)
+are_defined names ds states defs made x c e =
+    let found : IsAmong 0 c defs = IfOk-at_ok (IsAmong 0 c) made (found_from 0 names ds states x c e) in
+    let at : c.number ≡ found.0 = omega (arith, found.2) in
+    (found.1, ap (slice_get defs) at ∙ found.3, found.4)
 
-state_fits : (names : VisibleNames) (at : ℕ) (kind : k.KindTree) → IfOk (state_in names at kind) (BuiltWith names)
-state_fits names at kind =
-    let e = expr_kind_fits names at kind in
-    if_ok (is_place_kind kind) _ _ (BuiltWith names)
-    (mapped_ok _ (expr_of_kind names at kind) (Fits names) (BuiltWith names) e (λ x h. (tt, (h, tt))))
-    (mapped_ok _ (expr_of_kind names at kind) (Fits names) (BuiltWith names) e (λ x h. (tt, h)))
+-- ---- places
 
-negation_fits : (names : VisibleNames) (at : ℕ) (p : PhraseTree) → IfOk (negation_in names at p) (BuiltWith names)
-negation_fits names at p =
-    if_ok (is_place_phrase p) _ _ (BuiltWith names)
-    (mapped_ok _ (expr_of names p) (Fits names) (BuiltWith names) (expr_fits names p) (λ x h. (tt, (h, tt))))
-    (if_ok (is_state_phrase p) _ _ (BuiltWith names) (state_fits names at (k.negation p)) tt)
-
-binary_fits : (names : VisibleNames) (at : ℕ) (o : Op) (l r : PhraseTree) → IfOk (binary_in names at o l r) (BuiltWith names)
-binary_fits names at op.Equal l r =
-    equation_fits names (nexts_of l) (nexts_of r) (at_of r) (expr_of names (behind_nexts l)) (expr_of names (behind_nexts r)) (expr_fits names (behind_nexts l)) (expr_fits names (behind_nexts r))
-binary_fits names at op.Gets l r = both_ok _ (place_phrase names l) (expr_of names r) (Fits names) (Fits names) (BuiltWith names) (place_fits names l) (expr_fits names r) (λ x y a b. (tt, (a, b, omega arith)))
-binary_fits names at op.Arrow l r = both_ok _ (place_phrase names l) (expr_of names r) (Fits names) (Fits names) (BuiltWith names) (place_fits names l) (expr_fits names r) (λ x y a b. (tt, (a, b)))
-binary_fits names at op.Becomes l r =
-    both_ok _ (place_phrase names l) (expr_of names r) (Fits names) (Fits names) (BuiltWith names) (place_fits names l) (expr_fits names r) (λ x y a b. ((tt, (tt, tt)), (tt, ((a, b, omega arith), tt))))
-binary_fits names at op.Or l r = if_ok (is_state_phrase l && is_state_phrase r) _ _ (BuiltWith names) (state_fits names at (k.binary op.Or l r)) tt
-binary_fits names at o l r = state_fits names at (k.binary o l r)
-
--- a formula of two fits where both do
-abbrev Composes : VisibleNames → (FormulaTree → FormulaTree → FormulaTree) → Type 0
-Composes names make = (w v : FormulaTree) → BuiltWith names w → BuiltWith names v → BuiltWith names (make w v)
-
-composed_fits : (names : VisibleNames) (make : Option (FormulaTree → FormulaTree → FormulaTree)) (w v other : CheckOutcome FormulaTree)
-    → IfSome make (Composes names) → IfOk w (BuiltWith names) → IfOk v (BuiltWith names) → IfOk other (BuiltWith names) → IfOk (composed_or make w v other) (BuiltWith names)
-composed_fits names (Some make) w v other composes p q r = both_ok make w v (BuiltWith names) (BuiltWith names) (BuiltWith names) p q composes
-composed_fits names None w v other composes p q r = r
-
-compositions_fit : (names : VisibleNames) (o : Op) → IfSome (composition_of o) (Composes names)
-compositions_fit names op.Chop = λ w v a b. ((a.0, b.0), (a.1, b.1))
-compositions_fit names op.Proj = λ w v a b. ((a.0, b.0), (a.1, b.1))
-compositions_fit names o = tt
-
-bare_fits : (names : VisibleNames) (word : Bare) → BuiltWith names (bare_of word)
-bare_fits names Empty = (tt, tt)
-bare_fits names More = (tt, tt)
-bare_fits names Skip = (tt, tt)
-
-abbrev AllBuilt : VisibleNames → List FormulaTree → Type 0
-AllBuilt names ws = HaveBuiltKinds (formulas_of ws) × FormulasFit [] (kinds_of names.globals) (formulas_of ws) (length names.scope)
+name_is_place : (at : ℕ) (i : Option ℕ) (v : Option VarId) → IfOk (named_expr at (bound_or_global i v)) IsPlace
+name_is_place at (Some i) v = tt
+name_is_place at None (Some v) = tt
+name_is_place at None None = tt
 
 mutual
-  pub formula_fits : (names : VisibleNames) (p : PhraseTree) → IfOk (formula_of names p) (BuiltWith names)
-  formula_fits names (phrase at kind) = formula_kind_fits names at kind
+  made_place : (names : VisibleNames) (p : PhraseTree) → is_place_phrase p ≡ true → IfOk (expr_of names p) IsPlace
+  made_place names (phrase at kind) is = made_place_kind names at kind is
 
-  formula_kind_fits : (names : VisibleNames) (at : ℕ) (kind : k.KindTree) → IfOk (formula_of_kind names at kind) (BuiltWith names)
-  formula_kind_fits names at (k.conjunction ps) = mapped_ok _ (formulas_in names ps) (AllBuilt names) (BuiltWith names) (formulas_fit names ps) (λ ws h. h)
-  formula_kind_fits names at (k.truth true) = (tt, tt)
-  formula_kind_fits names at (k.negation p) = negation_fits names at p
-  formula_kind_fits names at (k.binary o l r) =
-      composed_fits names (composition_of o) (formula_of names l) (formula_of names r) (binary_in names at o l r) (compositions_fit names o) (formula_fits names l) (formula_fits names r) (binary_fits names at o l r)
-  formula_kind_fits names at (k.bare word) = bare_fits names word
-  formula_kind_fits names at (k.next w) = mapped_ok _ (formula_of names w) (BuiltWith names) (BuiltWith names) (formula_fits names w) (λ x h. h)
-  formula_kind_fits names at (k.form f.Always (phrase_then w no_phrase)) = mapped_ok _ (formula_of names w) (BuiltWith names) (BuiltWith names) (formula_fits names w) (λ x h. h)
-  formula_kind_fits names at (k.form f.Keep (phrase_then w no_phrase)) = mapped_ok _ (formula_of names w) (BuiltWith names) (BuiltWith names) (formula_fits names w) (λ x h. h)
-  formula_kind_fits names at (k.form f.Fin (phrase_then w no_phrase)) = mapped_ok _ (formula_of names w) (BuiltWith names) (BuiltWith names) (formula_fits names w) (λ x h. h)
-  formula_kind_fits names at (k.form f.Halt (phrase_then b no_phrase)) = mapped_ok _ (expr_of names b) (Fits names) (BuiltWith names) (expr_fits names b) (λ x h. ((tt, tt), (h, tt, tt)))
-  formula_kind_fits names at (k.form f.Stable (phrase_then p no_phrase)) = mapped_ok _ (place_phrase names p) (Fits names) (BuiltWith names) (place_fits names p) (λ x h. (tt, (h, h, omega arith)))
-  formula_kind_fits names at (k.form f.Len (phrase_then e no_phrase)) = mapped_ok _ (expr_of names e) (Fits names) (BuiltWith names) (expr_fits names e) (λ x h. (tt, h))
-  formula_kind_fits names at (k.form f.List (phrase_then l (phrase_then e no_phrase))) =
-      both_ok _ (place_phrase names l) (expr_of names e) (Fits names) (Fits names) (BuiltWith names) (place_fits names l) (expr_fits names e) (λ x y a b. (tt, (a, b)))
-  formula_kind_fits names at (k.form f.Sometimes ps) = tt
-  formula_kind_fits names at (k.form f.Input ps) = tt
-  formula_kind_fits names at (k.form f.Display ps) = tt
-  formula_kind_fits names at (k.form f.Always ps) = tt
-  formula_kind_fits names at (k.form f.Keep ps) = tt
-  formula_kind_fits names at (k.form f.Fin ps) = tt
-  formula_kind_fits names at (k.form f.Halt ps) = tt
-  formula_kind_fits names at (k.form f.Stable ps) = tt
-  formula_kind_fits names at (k.form f.Len ps) = tt
-  formula_kind_fits names at (k.form f.List ps) = tt
-  formula_kind_fits names at (k.choice b w) =
-      both_ok _ (expr_of names b) (formula_of names w) (Fits names) (BuiltWith names) (BuiltWith names) (expr_fits names b) (formula_fits names w) (λ x y a h. ((h.0, tt), (a, h.1, tt)))
-  formula_kind_fits names at (k.choice_else b w v) =
-      three_ok _ (expr_of names b) (formula_of names w) (formula_of names v) (Fits names) (BuiltWith names) (BuiltWith names) (BuiltWith names)
-      (expr_fits names b) (formula_fits names w) (formula_fits names v) (λ x y z a g h. ((g.0, h.0), (a, g.1, h.1)))
-  formula_kind_fits names at (k.while b w) =
-      both_ok while (expr_of names b) (formula_of names w) (Fits names) (BuiltWith names) (BuiltWith names) (expr_fits names b) (formula_fits names w) (λ x y a h. (h.0, (a, h.1)))
-  formula_kind_fits names at (k.repeat w b) =
-      both_ok repeat_of (formula_of names w) (expr_of names b) (BuiltWith names) (Fits names) (BuiltWith names) (formula_fits names w) (expr_fits names b) (λ x y h a. ((h.0, h.0), (h.1, (a, h.1))))
-  formula_kind_fits names at (k.for x e w) =
-      both_ok _ (expr_of names e) (formula_of (with_binder x names) w) (Fits names) (BuiltWith (with_binder x names)) (BuiltWith names) (expr_fits names e) (formula_fits (with_binder x names) w) (λ y z a h. (h.0, (a, h.1)))
-  formula_kind_fits names at (k.forall x e w) =
-      both_ok _ (expr_of names e) (formula_of (with_binder x names) w) (Fits names) (BuiltWith (with_binder x names)) (BuiltWith names) (expr_fits names e) (formula_fits (with_binder x names) w) (λ y z a h. (h.0, (a, h.1)))
-  formula_kind_fits names at (k.exists xs w) = tt
-  formula_kind_fits names at (k.call x ps) = tt
-  formula_kind_fits names at kind = state_fits names at kind
+  made_place_kind : (names : VisibleNames) (at : ℕ) (kind : k.KindTree) → is_place_kind kind ≡ true → IfOk (expr_of_kind names at kind) IsPlace
+  made_place_kind names at (k.name x) is = name_is_place at (binder_of names.scope x) (variable_of names.globals x)
+  made_place_kind names at (k.index p i) is = both_ok _ (expr_of names p) (expr_of names i) IsPlace (λ e. Unit {0}) IsPlace (made_place names p is) (any_ok (expr_of names i)) (λ x y h t. h)
+  made_place_kind names at kind is = absurd cc
 
-  formulas_fit : (names : VisibleNames) (ps : PhraseTrees) → IfOk (formulas_in names ps) (AllBuilt names)
-  formulas_fit names no_phrase = (tt, tt)
-  formulas_fit names (phrase_then p ps) =
-      both_ok _ (formula_of names p) (formulas_in names ps) (BuiltWith names) (AllBuilt names) (AllBuilt names) (formula_fits names p) (formulas_fit names ps) (λ x y g h. ((g.0, h.0), (g.1, h.1)))
+-- ---- expressions
+
+module _ (defs : List Definition) where
+  abbrev Fits : VisibleNames → ExprTree → Type 0
+  Fits names e = ExprFits defs (kinds_of names.globals) e (length names.scope)
+
+  abbrev AllFit : VisibleNames → List ExprTree → Type 0
+  AllFit names es = ExprsFit defs (kinds_of names.globals) (exprs_of es) (length names.scope)
+
+  -- a place, and an operand where a place is due, if the parameter is upper-case
+  abbrev PlaceFits : VisibleNames → ExprTree → Type 0
+  PlaceFits names e = IsPlace e × Fits names e
+
+  abbrev ArgumentFits : VisibleNames → Bool → ExprTree → Type 0
+  ArgumentFits names upper e = (IsTrue upper → IsPlace e) × Fits names e
+
+  abbrev ArgumentsFit : VisibleNames → Names → List ExprTree → Type 0
+  ArgumentsFit names xs es = AreArguments (exprs_of es) xs × AllFit names es
+
+  -- what calls find where these names can be read
+  abbrev Known : VisibleNames → Type 0
+  Known names = AreDefined defs names.definitions
+
+  name_fits : (names : VisibleNames) (at : ℕ) (x : List ℕ) (i : Option ℕ) (v : Option VarId) → binder_of names.scope x ≡ i → variable_of names.globals x ≡ v
+      → IfOk (named_expr at (bound_or_global i v)) (Fits names)
+  name_fits names at x (Some i) v b e = binder_below names.scope x i b
+  name_fits names at x None (Some v) b e = variable_fits names.globals x v e
+  name_fits names at x None None b e = tt
+
+  operation_fits : (names : VisibleNames) (at : ℕ) (o : Op) (l r : CheckOutcome ExprTree) → IfOk l (Fits names) → IfOk r (Fits names) → IfOk (operation_at at (operation_of o) l r) (Fits names)
+  operation_fits names at op.Or l r p q = both_ok _ l r (Fits names) (Fits names) (Fits names) p q (λ x y a b. (a, b))
+  operation_fits names at op.Equal l r p q = both_ok _ l r (Fits names) (Fits names) (Fits names) p q (λ x y a b. (a, b))
+  operation_fits names at op.Differs l r p q = both_ok _ l r (Fits names) (Fits names) (Fits names) p q (λ x y a b. (a, b))
+  operation_fits names at op.Less l r p q = both_ok _ l r (Fits names) (Fits names) (Fits names) p q (λ x y a b. (a, b))
+  operation_fits names at op.LessEqual l r p q = both_ok _ l r (Fits names) (Fits names) (Fits names) p q (λ x y a b. (a, b))
+  operation_fits names at op.Greater l r p q = both_ok _ l r (Fits names) (Fits names) (Fits names) p q (λ x y a b. (a, b))
+  operation_fits names at op.GreaterEqual l r p q = both_ok _ l r (Fits names) (Fits names) (Fits names) p q (λ x y a b. (a, b))
+  operation_fits names at op.Plus l r p q = both_ok _ l r (Fits names) (Fits names) (Fits names) p q (λ x y a b. (a, b))
+  operation_fits names at op.Minus l r p q = both_ok _ l r (Fits names) (Fits names) (Fits names) p q (λ x y a b. (a, b))
+  operation_fits names at op.Times l r p q = both_ok _ l r (Fits names) (Fits names) (Fits names) p q (λ x y a b. (a, b))
+  operation_fits names at op.Div l r p q = both_ok _ l r (Fits names) (Fits names) (Fits names) p q (λ x y a b. (a, b))
+  operation_fits names at op.Mod l r p q = both_ok _ l r (Fits names) (Fits names) (Fits names) p q (λ x y a b. (a, b))
+  operation_fits names at o l r p q = tt
+
+  called_expr_fits : (names : VisibleNames) → Known names → (at : ℕ) (x : List ℕ) (o : Option Called) → called_of names.definitions x ≡ o → (ps : PhraseTrees)
+      → ((xs : Names) → phrase_count ps ≡ length xs → IfOk (arguments_in names ps xs) (ArgumentsFit names xs)) → IfOk (called_expr at o (phrase_count ps) (λ xs. arguments_in names ps xs)) (Fits names)
+  called_expr_fits names known at x None found ps fit = tt
+  called_expr_fits names known at x (Some c) found ps fit =
+      let xs = c.signature.parameters in
+      let d = known x c found in
+      if_ok (nat_eq (phrase_count ps) (length xs)) _ _ (Fits names)
+      (λ same. if_ok c.signature.is_state _ _ (Fits names)
+      (λ is_state. mapped_ok _ (arguments_in names ps xs) (ArgumentsFit names xs) (Fits names) (fit xs (grind (arith, nat_tests)))
+      (λ es h. (d.0, (d.2.1 is_state).0, d.1, (d.2.1 is_state).1, subst (λ (ys : Names). AreArguments (exprs_of es) ys) (sym d.2.0) h.0, h.1))) tt)
+      tt
+
+  -- where an expression is due, and where a place is
+  place_fits_if : (names : VisibleNames) (p : PhraseTree) → IfOk (expr_of names p) (Fits names) → IfOk (place_phrase names p) (PlaceFits names)
+  place_fits_if names (phrase at kind) fits =
+      if_ok (is_place_kind kind) (expr_of_kind names at kind) _ (PlaceFits names) (λ is. pair_ok (expr_of_kind names at kind) IsPlace (Fits names) (made_place_kind names at kind is) fits) tt
+
+  argument_fits : (names : VisibleNames) (upper : Bool) (p : PhraseTree) → IfOk (expr_of names p) (Fits names) → IfOk (if upper then place_phrase names p else expr_of names p) (ArgumentFits names upper)
+  argument_fits names true p fits = IfOk-weaker (place_phrase names p) (PlaceFits names) (ArgumentFits names true) (λ e h. (λ upper. h.0, h.1)) (place_fits_if names p fits)
+  argument_fits names false p fits = IfOk-weaker (expr_of names p) (Fits names) (ArgumentFits names false) (λ e h. (λ upper. absurd cc, h)) fits
+
+  mutual
+    expr_fits : (names : VisibleNames) → Known names → (p : PhraseTree) → IfOk (expr_of names p) (Fits names)
+    expr_fits names known (phrase at kind) = expr_kind_fits names known at kind
+
+    expr_kind_fits : (names : VisibleNames) → Known names → (at : ℕ) (kind : k.KindTree) → IfOk (expr_of_kind names at kind) (Fits names)
+    expr_kind_fits names known at (k.number n) = tt
+    expr_kind_fits names known at (k.truth b) = tt
+    expr_kind_fits names known at (k.name x) = name_fits names at x (binder_of names.scope x) (variable_of names.globals x) refl refl
+    expr_kind_fits names known at (k.list ps) = mapped_ok _ (exprs_in names ps) (AllFit names) (Fits names) (exprs_fit names known ps) (λ es h. h)
+    expr_kind_fits names known at (k.size p) = mapped_ok _ (expr_of names p) (Fits names) (Fits names) (expr_fits names known p) (λ e h. h)
+    expr_kind_fits names known at (k.index p i) = both_ok _ (expr_of names p) (expr_of names i) (Fits names) (Fits names) (Fits names) (expr_fits names known p) (expr_fits names known i) (λ x y a b. (a, b))
+    expr_kind_fits names known at (k.minus p) = mapped_ok _ (expr_of names p) (Fits names) (Fits names) (expr_fits names known p) (λ e h. h)
+    expr_kind_fits names known at (k.negation p) = mapped_ok _ (expr_of names p) (Fits names) (Fits names) (expr_fits names known p) (λ e h. h)
+    expr_kind_fits names known at (k.binary o l r) = operation_fits names at o (expr_of names l) (expr_of names r) (expr_fits names known l) (expr_fits names known r)
+    expr_kind_fits names known at (k.conjunction ps) = mapped_ok _ (exprs_in names ps) (AllFit names) (Fits names) (exprs_fit names known ps) (λ es h. h)
+    expr_kind_fits names known at (k.choice_else b p q) =
+        three_ok _ (expr_of names b) (expr_of names p) (expr_of names q) (Fits names) (Fits names) (Fits names) (Fits names) (expr_fits names known b) (expr_fits names known p) (expr_fits names known q) (λ x y z a b c. (a, b, c))
+    expr_kind_fits names known at (k.call x ps) = called_expr_fits names known at x (called_of names.definitions x) refl ps (arguments_fit names known ps)
+    expr_kind_fits names known at kind = tt
+
+    exprs_fit : (names : VisibleNames) → Known names → (ps : PhraseTrees) → IfOk (exprs_in names ps) (AllFit names)
+    exprs_fit names known no_phrase = tt
+    exprs_fit names known (phrase_then p ps) = both_ok _ (expr_of names p) (exprs_in names ps) (Fits names) (AllFit names) (AllFit names) (expr_fits names known p) (exprs_fit names known ps) (λ x y a b. (a, b))
+
+    arguments_fit : (names : VisibleNames) → Known names → (ps : PhraseTrees) (xs : Names) → phrase_count ps ≡ length xs → IfOk (arguments_in names ps xs) (ArgumentsFit names xs)
+    arguments_fit names known no_phrase [] same = (tt, tt)
+    arguments_fit names known no_phrase (x ∷ xs) same = absurd (omega arith)
+    arguments_fit names known (phrase_then p ps) [] same = absurd (omega arith)
+    arguments_fit names known (phrase_then p ps) (x ∷ xs) same =
+        both_ok _ (if is_upper x then place_phrase names p else expr_of names p) (arguments_in names ps xs) (ArgumentFits names (is_upper x)) (ArgumentsFit names xs) (ArgumentsFit names (x ∷ xs))
+        (argument_fits names (is_upper x) p (expr_fits names known p)) (arguments_fit names known ps xs (omega arith)) (λ e es h t. ((h.0, t.0), (h.1, t.1)))
+
+  place_fits : (names : VisibleNames) → Known names → (p : PhraseTree) → IfOk (place_phrase names p) (Fits names)
+  place_fits names known p = IfOk-weaker (place_phrase names p) (PlaceFits names) (Fits names) (λ e h. h.1) (place_fits_if names p (expr_fits names known p))
+
+  -- ---- formulas
+
+  abbrev BuiltWith : VisibleNames → FormulaTree → Type 0
+  BuiltWith names w = HasBuiltKinds w × FormulaFits defs (kinds_of names.globals) w (length names.scope)
+
+  abbrev AllBuilt : VisibleNames → List FormulaTree → Type 0
+  AllBuilt names ws = HaveBuiltKinds (formulas_of ws) × FormulasFit defs (kinds_of names.globals) (formulas_of ws) (length names.scope)
+
+  equation_fits : (names : VisibleNames) (n m at : ℕ) (l r : CheckOutcome ExprTree) → IfOk l (Fits names) → IfOk r (Fits names) → IfOk (equation_of n m at l r) (BuiltWith names)
+  equation_fits names zero zero at l r p q = both_ok _ l r (Fits names) (Fits names) (BuiltWith names) p q (λ x y a b. (tt, (a, b)))
+  equation_fits names (suc n) zero at l r p q =
+      both_ok (λ t e. next_equals_of (suc n) t e) l r (Fits names) (Fits names) (BuiltWith names) p q (λ x y a b. ((tt, (tt, tt)), (tt, ((a, b, omega arith), tt))))
+  equation_fits names zero (suc m) at l r p q =
+      both_ok (λ e t. next_equals_of (suc m) t e) l r (Fits names) (Fits names) (BuiltWith names) p q (λ x y a b. ((tt, (tt, tt)), (tt, ((b, a, omega arith), tt))))
+  equation_fits names (suc n) (suc m) at l r p q =
+      both_ok equation l (not_expression at) (Fits names) (λ e. ⊥) (BuiltWith names) p tt (λ x y a h. absurd h)
+
+  state_fits : (names : VisibleNames) → Known names → (at : ℕ) (kind : k.KindTree) → IfOk (state_in names at kind) (BuiltWith names)
+  state_fits names known at kind =
+      let e = expr_kind_fits names known at kind in
+      if_ok (is_place_kind kind) _ _ (BuiltWith names)
+      (λ is. mapped_ok _ (expr_of_kind names at kind) (Fits names) (BuiltWith names) e (λ x h. (tt, (h, tt))))
+      (mapped_ok _ (expr_of_kind names at kind) (Fits names) (BuiltWith names) e (λ x h. (tt, h)))
+
+  negation_fits : (names : VisibleNames) → Known names → (at : ℕ) (p : PhraseTree) → IfOk (negation_in names at p) (BuiltWith names)
+  negation_fits names known at p =
+      if_ok (is_place_phrase p) _ _ (BuiltWith names)
+      (λ is. mapped_ok _ (expr_of names p) (Fits names) (BuiltWith names) (expr_fits names known p) (λ x h. (tt, (h, tt))))
+      (if_ok (is_state_in names p) _ _ (BuiltWith names) (λ is. state_fits names known at (k.negation p)) tt)
+
+  binary_fits : (names : VisibleNames) → Known names → (at : ℕ) (o : Op) (l r : PhraseTree) → IfOk (binary_in names at o l r) (BuiltWith names)
+  binary_fits names known at op.Equal l r =
+      equation_fits names (nexts_of l) (nexts_of r) (at_of r) (expr_of names (behind_nexts l)) (expr_of names (behind_nexts r)) (expr_fits names known (behind_nexts l)) (expr_fits names known (behind_nexts r))
+  binary_fits names known at op.Gets l r = both_ok _ (place_phrase names l) (expr_of names r) (Fits names) (Fits names) (BuiltWith names) (place_fits names known l) (expr_fits names known r) (λ x y a b. (tt, (a, b, omega arith)))
+  binary_fits names known at op.Arrow l r = both_ok _ (place_phrase names l) (expr_of names r) (Fits names) (Fits names) (BuiltWith names) (place_fits names known l) (expr_fits names known r) (λ x y a b. (tt, (a, b)))
+  binary_fits names known at op.Becomes l r =
+      both_ok _ (place_phrase names l) (expr_of names r) (Fits names) (Fits names) (BuiltWith names) (place_fits names known l) (expr_fits names known r) (λ x y a b. ((tt, (tt, tt)), (tt, ((a, b, omega arith), tt))))
+  binary_fits names known at op.Or l r = if_ok (is_state_in names l && is_state_in names r) _ _ (BuiltWith names) (λ is. state_fits names known at (k.binary op.Or l r)) tt
+  binary_fits names known at o l r = state_fits names known at (k.binary o l r)
+
+  -- a formula of two fits where both do
+  abbrev Composes : VisibleNames → (FormulaTree → FormulaTree → FormulaTree) → Type 0
+  Composes names make = (w v : FormulaTree) → BuiltWith names w → BuiltWith names v → BuiltWith names (make w v)
+
+  composed_fits : (names : VisibleNames) (make : Option (FormulaTree → FormulaTree → FormulaTree)) (w v other : CheckOutcome FormulaTree)
+      → IfSome make (Composes names) → IfOk w (BuiltWith names) → IfOk v (BuiltWith names) → IfOk other (BuiltWith names) → IfOk (composed_or make w v other) (BuiltWith names)
+  composed_fits names (Some make) w v other composes p q r = both_ok make w v (BuiltWith names) (BuiltWith names) (BuiltWith names) p q composes
+  composed_fits names None w v other composes p q r = r
+
+  compositions_fit : (names : VisibleNames) (o : Op) → IfSome (composition_of o) (Composes names)
+  compositions_fit names op.Chop = λ w v a b. ((a.0, b.0), (a.1, b.1))
+  compositions_fit names op.Proj = λ w v a b. ((a.0, b.0), (a.1, b.1))
+  compositions_fit names o = tt
+
+  bare_fits : (names : VisibleNames) (word : Bare) → BuiltWith names (bare_of word)
+  bare_fits names Empty = (tt, tt)
+  bare_fits names More = (tt, tt)
+  bare_fits names Skip = (tt, tt)
+
+  called_formula_fits : (names : VisibleNames) → Known names → (at : ℕ) (x : List ℕ) (o : Option Called) → called_of names.definitions x ≡ o → (ps : PhraseTrees) → IfOk (called_formula names at o ps) (BuiltWith names)
+  called_formula_fits names known at x None found ps = tt
+  called_formula_fits names known at x (Some c) found ps =
+      let xs = c.signature.parameters in
+      let d = known x c found in
+      if_ok (nat_eq (phrase_count ps) (length xs)) _ _ (BuiltWith names)
+      (λ same. mapped_ok _ (arguments_in names ps xs) (ArgumentsFit names xs) (BuiltWith names) (arguments_fit names known ps xs (grind (arith, nat_tests)))
+      (λ es h. (tt, (d.0, d.1, subst (λ (ys : Names). AreArguments (exprs_of es) ys) (sym d.2.0) h.0, h.1))))
+      tt
+
+  exists_fits : (names : VisibleNames) (xs : Names) (w : FormulaTree) → BuiltWith (with_binders xs names) w → BuiltWith names (exists_of xs w)
+  exists_fits names [] w h = h
+  exists_fits names (x ∷ xs) w h = exists_fits (with_binder x names) xs w h
+
+  mutual
+    formula_fits : (names : VisibleNames) → Known names → (p : PhraseTree) → IfOk (formula_of names p) (BuiltWith names)
+    formula_fits names known (phrase at kind) = formula_kind_fits names known at kind
+
+    formula_kind_fits : (names : VisibleNames) → Known names → (at : ℕ) (kind : k.KindTree) → IfOk (formula_of_kind names at kind) (BuiltWith names)
+    formula_kind_fits names known at (k.conjunction ps) = mapped_ok _ (formulas_in names ps) (AllBuilt names) (BuiltWith names) (formulas_fit names known ps) (λ ws h. h)
+    formula_kind_fits names known at (k.truth true) = (tt, tt)
+    formula_kind_fits names known at (k.negation p) = negation_fits names known at p
+    formula_kind_fits names known at (k.binary o l r) =
+        composed_fits names (composition_of o) (formula_of names l) (formula_of names r) (binary_in names at o l r) (compositions_fit names o) (formula_fits names known l) (formula_fits names known r) (binary_fits names known at o l r)
+    formula_kind_fits names known at (k.bare word) = bare_fits names word
+    formula_kind_fits names known at (k.next w) = mapped_ok _ (formula_of names w) (BuiltWith names) (BuiltWith names) (formula_fits names known w) (λ x h. h)
+    formula_kind_fits names known at (k.form f.Always (phrase_then w no_phrase)) = mapped_ok _ (formula_of names w) (BuiltWith names) (BuiltWith names) (formula_fits names known w) (λ x h. h)
+    formula_kind_fits names known at (k.form f.Keep (phrase_then w no_phrase)) = mapped_ok _ (formula_of names w) (BuiltWith names) (BuiltWith names) (formula_fits names known w) (λ x h. h)
+    formula_kind_fits names known at (k.form f.Fin (phrase_then w no_phrase)) = mapped_ok _ (formula_of names w) (BuiltWith names) (BuiltWith names) (formula_fits names known w) (λ x h. h)
+    formula_kind_fits names known at (k.form f.Halt (phrase_then b no_phrase)) = mapped_ok _ (expr_of names b) (Fits names) (BuiltWith names) (expr_fits names known b) (λ x h. ((tt, tt), (h, tt, tt)))
+    formula_kind_fits names known at (k.form f.Stable (phrase_then p no_phrase)) = mapped_ok _ (place_phrase names p) (Fits names) (BuiltWith names) (place_fits names known p) (λ x h. (tt, (h, h, omega arith)))
+    formula_kind_fits names known at (k.form f.Len (phrase_then e no_phrase)) = mapped_ok _ (expr_of names e) (Fits names) (BuiltWith names) (expr_fits names known e) (λ x h. (tt, h))
+    formula_kind_fits names known at (k.form f.List (phrase_then l (phrase_then e no_phrase))) =
+        both_ok _ (place_phrase names l) (expr_of names e) (Fits names) (Fits names) (BuiltWith names) (place_fits names known l) (expr_fits names known e) (λ x y a b. (tt, (a, b)))
+    formula_kind_fits names known at (k.form f.Sometimes ps) = tt
+    formula_kind_fits names known at (k.form f.Input ps) = tt
+    formula_kind_fits names known at (k.form f.Display ps) = tt
+    formula_kind_fits names known at (k.form f.Always ps) = tt
+    formula_kind_fits names known at (k.form f.Keep ps) = tt
+    formula_kind_fits names known at (k.form f.Fin ps) = tt
+    formula_kind_fits names known at (k.form f.Halt ps) = tt
+    formula_kind_fits names known at (k.form f.Stable ps) = tt
+    formula_kind_fits names known at (k.form f.Len ps) = tt
+    formula_kind_fits names known at (k.form f.List ps) = tt
+    formula_kind_fits names known at (k.choice b w) =
+        both_ok _ (expr_of names b) (formula_of names w) (Fits names) (BuiltWith names) (BuiltWith names) (expr_fits names known b) (formula_fits names known w) (λ x y a h. ((h.0, tt), (a, h.1, tt)))
+    formula_kind_fits names known at (k.choice_else b w v) =
+        three_ok _ (expr_of names b) (formula_of names w) (formula_of names v) (Fits names) (BuiltWith names) (BuiltWith names) (BuiltWith names)
+        (expr_fits names known b) (formula_fits names known w) (formula_fits names known v) (λ x y z a g h. ((g.0, h.0), (a, g.1, h.1)))
+    formula_kind_fits names known at (k.while b w) =
+        both_ok while (expr_of names b) (formula_of names w) (Fits names) (BuiltWith names) (BuiltWith names) (expr_fits names known b) (formula_fits names known w) (λ x y a h. (h.0, (a, h.1)))
+    formula_kind_fits names known at (k.repeat w b) =
+        both_ok repeat_of (formula_of names w) (expr_of names b) (BuiltWith names) (Fits names) (BuiltWith names) (formula_fits names known w) (expr_fits names known b) (λ x y h a. ((h.0, h.0), (h.1, (a, h.1))))
+    formula_kind_fits names known at (k.for x e w) =
+        both_ok _ (expr_of names e) (formula_of (with_binder x names) w) (Fits names) (BuiltWith (with_binder x names)) (BuiltWith names) (expr_fits names known e) (formula_fits (with_binder x names) known w) (λ y z a h. (h.0, (a, h.1)))
+    formula_kind_fits names known at (k.forall x e w) =
+        both_ok _ (expr_of names e) (formula_of (with_binder x names) w) (Fits names) (BuiltWith (with_binder x names)) (BuiltWith names) (expr_fits names known e) (formula_fits (with_binder x names) known w) (λ y z a h. (h.0, (a, h.1)))
+    formula_kind_fits names known at (k.exists xs w) =
+        let inner = with_binders xs names in
+        else_ok (has_repeat xs) (Twice at) (mapped (exists_of xs) (formula_of inner w)) (BuiltWith names) (mapped_ok (exists_of xs) (formula_of inner w) (BuiltWith inner) (BuiltWith names) (formula_fits inner known w) (exists_fits names xs))
+    formula_kind_fits names known at (k.call x ps) = called_formula_fits names known at x (called_of names.definitions x) refl ps
+    formula_kind_fits names known at kind = state_fits names known at kind
+
+    formulas_fit : (names : VisibleNames) → Known names → (ps : PhraseTrees) → IfOk (formulas_in names ps) (AllBuilt names)
+    formulas_fit names known no_phrase = (tt, tt)
+    formulas_fit names known (phrase_then p ps) =
+        both_ok _ (formula_of names p) (formulas_in names ps) (BuiltWith names) (AllBuilt names) (AllBuilt names) (formula_fits names known p) (formulas_fit names known ps) (λ x y g h. ((g.0, h.0), (g.1, h.1)))
+
+  -- ---- definitions
+
+  -- a definition of which the formula and the expression fit its parameters
+  abbrev DefinitionFits : Names → Definition → Type 0
+  DefinitionFits globals d =
+      HasBuiltKinds d.formula
+      × FormulaFits defs (kinds_of globals) d.formula (length d.parameters)
+      × ((e : ExprTree) → d.expr ≡ Some e → ExprFits defs (kinds_of globals) e (length d.parameters))
+
+  abbrev AllDefinitionsFit : Names → List Definition → Type 0
+  AllDefinitionsFit globals made = (i : ℕ) (d : Definition) → slice_get made i ≡ Some d → DefinitionFits globals d
+
+  expr_where_fits : (b : Bool) (names : VisibleNames) → Known names → (body : PhraseTree) → IfOk (expr_where b names body) (λ o. (e : ExprTree) → o ≡ Some e → Fits names e)
+  expr_where_fits true names known body =
+      mapped_ok Some (expr_of names body) (Fits names) (λ o. (e : ExprTree) → o ≡ Some e → Fits names e) (expr_fits names known body)
+      (λ x h e same. let is : x ≡ e = cc in subst (Fits names) is h)
+  expr_where_fits false names known body = λ e same. absurd cc
+
+  definition_fits : (signatures : List Signature) (globals : Names) → AreDefined defs signatures → (d : DefinitionTree) (b : Bool) → IfOk (definition_in (outermost signatures globals) d b) (DefinitionFits globals)
+  definition_fits signatures globals known d b =
+      let inner = with_binders d.parameters (outermost signatures globals) in
+      let count : length (bound_in [] d.parameters) ≡ length d.parameters = bound_count d.parameters [] ∙ omega arith in
+      both_ok (definition_with d) (formula_of inner d.body) (expr_where b inner d.body) (BuiltWith inner) (λ o. (e : ExprTree) → o ≡ Some e → Fits inner e) (DefinitionFits globals)
+      (formula_fits inner known d.body) (expr_where_fits b inner known d.body)
+      (λ w o h t. (h.0, subst (FormulaFits defs (kinds_of globals) w) count h.1, λ e same. subst (ExprFits defs (kinds_of globals) e) count (t e same)))
+
+  one_more_fits : (globals : Names) (x : Definition) (xs : List Definition) → DefinitionFits globals x → AllDefinitionsFit globals xs → AllDefinitionsFit globals (x ∷ xs)
+  one_more_fits globals x xs h t zero d e = let is : x ≡ d = cc in subst (DefinitionFits globals) is h
+  one_more_fits globals x xs h t (suc i) d e = t i d e
+
+  definitions_fit : (signatures : List Signature) (globals : Names) → AreDefined defs signatures → (ds : List DefinitionTree) (states : List Bool)
+      → IfOk (definitions_in (outermost signatures globals) ds states) (AllDefinitionsFit globals)
+  definitions_fit signatures globals known [] states = λ i d e. absurd cc
+  definitions_fit signatures globals known (d ∷ ds) [] = λ i d e. absurd cc
+  definitions_fit signatures globals known (d ∷ ds) (b ∷ bs) =
+      let names = outermost signatures globals in
+      both_ok _ (definition_in names d b) (definitions_in names ds bs) (DefinitionFits globals) (AllDefinitionsFit globals) (AllDefinitionsFit globals)
+      (definition_fits signatures globals known d b) (definitions_fit signatures globals known ds bs) (one_more_fits globals)
+
+-- ---- programs
+
+built_with : (globals : Names) (states : List Bool) (source : SourceTree) (made : CheckOutcome (List Definition)) → definitions_in (outermost (signatures_of source.definitions states) globals) source.definitions states ≡ made
+    → IfOk (both (λ ds main. record { defs = ds; main = main; globals = globals }) made (formula_of (outermost (signatures_of source.definitions states) globals) source.main)) IsBuilt
+built_with globals states source (Err e) is = tt
+built_with globals states source (Ok ds) is =
+    let signatures = signatures_of source.definitions states in
+    let names = outermost signatures globals in
+    let known = are_defined names source.definitions states ds is in
+    let fit = IfOk-at_ok (AllDefinitionsFit ds globals) is (definitions_fit ds signatures globals known source.definitions states) in
+    mapped_ok _ (formula_of names source.main) (BuiltWith ds names) IsBuilt (formula_fits ds names known source.main)
+    (λ w h. record {
+      fits = record { defs = record { formula = λ i d e. (fit i d e).1; expr = λ i d e. (fit i d e).2 }; main = h.1 };
+      main = h.0;
+      definitions = λ i d e. (fit i d e).0;
+    })
+
+-- a program that is made is one that runs
+pub program_fits : (globals : Names) (states : List Bool) (source : SourceTree) → length states ≡ length source.definitions → IfOk (program_over globals states source) IsBuilt
+program_fits globals states source each = built_with globals states source (definitions_in (outermost (signatures_of source.definitions states) globals) source.definitions states) refl

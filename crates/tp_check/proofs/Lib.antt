@@ -1,4 +1,14 @@
 pub mod Several
 pub mod Sides
+pub mod Apart
+pub mod Called
 pub mod Fitting
 pub mod Known
+pub mod Determined
+pub mod Broken
+pub mod Refused
+pub mod StateBodies
+pub mod FirstBroken
+pub mod Listing
+pub mod Spreading
+pub mod Headings

@@ -1,9 +1,12 @@
 -- What is made of several phrases, one after the other.
 use Rattle.std.proofs.Common.{refl, ap, ap₂, sym, ◌∙◌, ◌≡◌, ℕ, zero, suc, ◌+◌, ◌<◌, ◌≤◌, List, [], ◌∷◌, ◌++◌, append_assoc, add-one, Ok, Err, length, get_or, drop, map, arith}
-use Rattle.std.proofs.lemmas.List.{append-nil}
+use Rattle.std.proofs.lemmas.List.{append-nil, length-map}
 use Rattle.std.proofs.lemmas.List.Sums.{fold-append}
 use Rattle.tp_value.specs.Globals.{with_name}
+use Rattle.tp_tree.specs.declared.phrase.Phrases.{Phrases, out-Phrases}
 use Rattle.tp_tree.specs.Tree.{PhraseTree, phrases_of}
+use Rattle.tp_tree.specs.Read.{phrase_tree, phrase_trees}
+use Rattle.tp_tree.specs.Equations.{trees_are}
 use Rattle.tp_check.specs.declared.refusal.CheckRefusal.{CheckRefusal}
 use Rattle.tp_check.specs.Scope.{Names}
 use Rattle.tp_check.specs.Names.{names_with}
@@ -13,6 +16,10 @@ use Rattle.tp_check.specs.Phrases.{phrase_count}
 pub count_is : (ts : List PhraseTree) → phrase_count (phrases_of ts) ≡ length ts
 count_is [] = refl
 count_is (t ∷ ts) = ap suc (count_is ts)
+
+-- as many as there are
+pub count_of : (ps : Phrases) → phrase_count (phrase_trees ps) ≡ length (out-Phrases ps).items.items
+count_of ps = ap phrase_count (trees_are ps) ∙ (count_is _ ∙ length-map _ phrase_tree)
 
 -- the phrases from here on, and those that are left at the end
 from_next : {A : Type 0} (f : A → PhraseTree) (xs : List A) (i : ℕ) (d : A) → i < length xs → map f (drop i xs) ≡ f (get_or xs i d) ∷ map f (drop (suc i) xs)

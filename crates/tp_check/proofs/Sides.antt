@@ -1,5 +1,5 @@
 -- Equations of which a side is refused, and forms with other than one or two operands.
-use Rattle.std.proofs.Common.{refl, ap, ap₂, sym, ◌∙◌, ◌≡◌, ℕ, zero, suc, ◌<◌, ◌⊎◌, inl, inr, List, [], ◌∷◌, length, Ok, Err, Global, arith}
+use Rattle.std.proofs.Common.{refl, ap, ap₂, sym, ◌∙◌, ◌≡◌, ℕ, zero, suc, ◌<◌, ◌⊎◌, inl, inr, List, [], ◌∷◌, ◌++◌, length, Ok, Err, Global, arith}
 use Rattle.std.specs.declared.boxed.Box.{Box}
 use Rattle.tp_tree.specs.declared.phrase.Phrase.{Phrase}
 use Rattle.tp_tree.specs.declared.phrase.Phrases.{Phrases}
@@ -12,10 +12,11 @@ use Rattle.tp_tree.specs.Equations.{tree_is, tree_and, tree_for, tree_forall, tr
 use Rattle.tp_meaning.specs.Syntax.{ExprTree}
 use Rattle.tp_check.specs.declared.refusal.CheckRefusal.{CheckRefusal}
 use Rattle.tp_check.specs.declared.refusal.CheckRefusal.TheVariants.{NotExecutable}
-use Rattle.tp_check.specs.Scope.{VisibleNames}
+use Rattle.tp_check.specs.Scope.{Names, VisibleNames}
+use Rattle.tp_check.specs.Names.{names_in}
 use Rattle.tp_check.specs.Outcome.{CheckOutcome, not_expression}
 use Rattle.tp_check.specs.Phrases.{at_of}
-use Rattle.tp_check.specs.Positions.{equation_of, form_refusal, formula_of_kind}
+use Rattle.tp_check.specs.Positions.{equation_of, refusal_of, formula_of_kind}
 
 pub at_is : (p : Phrase) → at_of (phrase_tree p) ≡ p.at
 at_is p = ap at_of (tree_is p)
@@ -28,6 +29,12 @@ tree_of_for p x to body t w e a b = tree_is p ∙ ap (phrase p.at) (ap kind_tree
 
 pub tree_of_forall : (p : Phrase) (x : List ℕ) (to body : Box Phrase Global) (t w : Phrase) → p.kind ≡ Forall x to body → t ≡ to.value → w ≡ body.value → phrase_tree p ≡ phrase p.at (forall x (phrase_tree t) (phrase_tree w))
 tree_of_forall p x to body t w e a b = tree_is p ∙ ap (phrase p.at) (ap kind_tree e ∙ (tree_forall x to body ∙ sym (ap₂ (λ u v. forall x (phrase_tree u) (phrase_tree v)) a b)))
+
+-- the names in what binds a name in its body
+pub names_of_loop : (scope : Names) (p : Phrase) (x : List ℕ) (to body : Box Phrase Global) (t w : Phrase) → (p.kind ≡ For x to body) ⊎ (p.kind ≡ Forall x to body) → t ≡ to.value → w ≡ body.value
+    → names_in scope (phrase_tree p) ≡ names_in scope (phrase_tree t) ++ names_in (x ∷ scope) (phrase_tree w)
+names_of_loop scope p x to body t w (inl e) a b = ap (names_in scope) (tree_of_for p x to body t w e a b)
+names_of_loop scope p x to body t w (inr e) a b = ap (names_in scope) (tree_of_forall p x to body t w e a b)
 
 pub left_refused : (n m at : ℕ) (e : CheckRefusal) (r : CheckOutcome ExprTree) → equation_of n m at (Err e) r ≡ Err e
 left_refused zero zero at e r = refl
@@ -48,7 +55,7 @@ both_later (suc n) zero at l r a b = absurd (omega arith)
 both_later (suc n) (suc m) at l r a b = refl
 
 pub form_of_others : (names : VisibleNames) (at : ℕ) (word : Form) (ts : List PhraseTree) → (length ts < 1) ⊎ (2 < length ts)
-    → formula_of_kind names at (form word (phrases_of ts)) ≡ Err (form_refusal at word (phrases_of ts) (NotExecutable at))
+    → formula_of_kind names at (form word (phrases_of ts)) ≡ Err (refusal_of names at (form word (phrases_of ts)) (NotExecutable at))
 form_of_others names at word (t ∷ []) (inl h) = absurd (omega arith)
 form_of_others names at word (t ∷ []) (inr h) = absurd (omega arith)
 form_of_others names at word (t ∷ u ∷ []) (inl h) = absurd (omega arith)

@@ -1,7 +1,7 @@
 -- What is made of a phrase, or why it is refused.
 use Rattle.std.specs.Prelude.{◌≡◌, ◌≢◌, ℕ, Result, Ok, Err}
 use Rattle.tp_check.specs.declared.refusal.CheckRefusal.{CheckRefusal}
-use Rattle.tp_check.specs.declared.refusal.CheckRefusal.TheVariants.{NotExecutable, NotExpression, NotPlace, WrongCount, NoMemory}
+use Rattle.tp_check.specs.declared.refusal.CheckRefusal.TheVariants.{NotExecutable, NotExpression, NotPlace, NoMemory}
 
 abbrev pub CheckOutcome : Type 0 → Type 0
 CheckOutcome A = Result A CheckRefusal
@@ -17,10 +17,6 @@ not_expression at = Err (NotExpression at)
 -- it is no place
 abbrev pub not_place : {A : Type 0} → (at : ℕ) → CheckOutcome A
 not_place at = Err (NotPlace at)
-
--- it has too few operands or too many
-abbrev pub wrong_count : {A : Type 0} → (at : ℕ) → CheckOutcome A
-wrong_count at = Err (WrongCount at)
 
 abbrev pub mapped : {A B : Type 0} → (A → B) → CheckOutcome A → CheckOutcome B
 mapped f (Ok a) = Ok (f a)

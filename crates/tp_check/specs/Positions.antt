@@ -1,19 +1,22 @@
 -- From phrases to formulas and expressions, by the position in which a phrase stands.
-use Rattle.std.specs.Prelude.{pos, ℕ, zero, suc, ◌&&◌, Bool, true, false, List, [], ◌∷◌, if◌then◌else◌, Option, Some, None, Ok, Err}
+use Rattle.std.specs.Prelude.{pos, ℕ, zero, suc, ◌&&◌, nat_eq, Bool, true, false, List, [], ◌∷◌, length, if◌then◌else◌, Option, Some, None, Ok, Err}
 use Rattle.tp_tree.specs.declared.operator.Op.{Op}
 use Rattle.tp_tree.specs.declared.operator.Op.TheVariants as op
 use Rattle.tp_tree.specs.declared.operator.Bare.{Bare}
 use Rattle.tp_tree.specs.declared.operator.Bare.TheVariants.{Empty, More, Skip}
-use Rattle.tp_tree.specs.declared.operator.Form.{Form}
 use Rattle.tp_tree.specs.declared.operator.Form.TheVariants as f
 use Rattle.tp_tree.specs.Tree.{PhraseTree, phrase, KindTree, PhraseTrees, no_phrase, phrase_then}
 use Rattle.tp_tree.specs.Tree as k
-use Rattle.tp_meaning.specs.Syntax.{Equal, Differs, Less, LessEqual, Greater, GreaterEqual, Plus, Minus, Times, Div, Mod, ExprTree, numeral, boolean, listing, size, index, minus, negation, either, binary, choice, exprs_of, FormulaTree, trivial, test, equation, empty, more, next, always, conjunction, branch, len, assign, chop, while, for_from, forall_from, project, formulas_of}
+use Rattle.tp_meaning.specs.Syntax.{Equal, Differs, Less, LessEqual, Greater, GreaterEqual, Plus, Minus, Times, Div, Mod, ExprTree, numeral, boolean, listing, size, index, minus, negation, either, binary, choice, invoke, exprs_of, FormulaTree, trivial, test, equation, empty, more, next, always, conjunction, branch, len, assign, chop, while, for_from, forall_from, project, formulas_of}
 use Rattle.tp_meaning.specs.Syntax as m
+use Rattle.tp_meaning.specs.Value.{is_upper}
 use Rattle.tp_meaning.specs.Derived.{skip_of, halt_of, keep_of, fin_of, gets_of, stable_of, becomes_of, list_of_length, next_equals_of, repeat_of}
 use Rattle.tp_check.specs.declared.refusal.CheckRefusal.{CheckRefusal}
-use Rattle.tp_check.specs.declared.refusal.CheckRefusal.TheVariants.{NotExecutable, NotExpression, NotPlace, WrongCount}
-use Rattle.tp_check.specs.Scope.{VisibleNames, with_binder, referent_of}
+use Rattle.tp_check.specs.declared.refusal.CheckRefusal.TheVariants.{Twice, Unknown, NotExecutable, NotExpression, NotPlace, WrongCount}
+use Rattle.tp_value.specs.Globals.{is_lower}
+use Rattle.tp_check.specs.Scope.{Names, Called, VisibleNames, with_binder, with_binders, referent_of, called_of}
+use Rattle.tp_check.specs.Names.{has_repeat}
+use Rattle.tp_check.specs.Definitions.{calls_state}
 use Rattle.tp_check.specs.Outcome.{CheckOutcome, not_run, not_expression, mapped, both, three}
 use Rattle.tp_check.specs.Phrases.{is_state_phrase, is_place_phrase, is_place_kind, takes, phrase_count, nexts_of, behind_nexts, at_of}
 
@@ -49,9 +52,26 @@ abbrev pub operation_at : ℕ → Option (ExprTree → ExprTree → ExprTree) �
 operation_at at (Some make) l r = both make l r
 operation_at at None l r = not_expression at
 
--- the refusal of a form at this place: where the number of its operands is wrong, that comes first
-abbrev pub form_refusal : (at : ℕ) → Form → PhraseTrees → CheckRefusal → CheckRefusal
-form_refusal at form ps other = if takes form (phrase_count ps) then other else WrongCount at
+-- the refusal of a call at this place, of what is called with so many operands, where another one stands after its own
+abbrev pub call_refusal : (at : ℕ) → Option Called → (count : ℕ) → CheckRefusal → CheckRefusal
+call_refusal at None n other = Unknown at
+call_refusal at (Some c) n other = if nat_eq n (length c.signature.parameters) then other else WrongCount at
+
+-- Why a phrase at this place is refused that isn't taken in its position, where `other` is that position's own refusal. Before it come, in any
+-- position: a call of an unknown definition; a call or a form with a wrong number of operands; an `exists` that binds a name twice.
+abbrev pub refusal_of : VisibleNames → (at : ℕ) → KindTree → (other : CheckRefusal) → CheckRefusal
+refusal_of names at (k.call x ps) other = call_refusal at (called_of names.definitions x) (phrase_count ps) other
+refusal_of names at (k.form form ps) other = if takes form (phrase_count ps) then other else WrongCount at
+refusal_of names at (k.exists xs p) other = if has_repeat xs then Twice at else other
+refusal_of names at kind other = other
+
+-- A call at this place as an expression, with so many operands, which by the parameters are these arguments: it calls a state definition.
+abbrev pub called_expr : (at : ℕ) → Option Called → (count : ℕ) → (arguments : Names → CheckOutcome (List ExprTree)) → CheckOutcome ExprTree
+called_expr at None n arguments = Err (Unknown at)
+called_expr at (Some c) n arguments =
+    if nat_eq n (length c.signature.parameters)
+    then (if c.signature.is_state then mapped (λ es. invoke c.number (exprs_of es)) (arguments c.signature.parameters) else not_expression at)
+    else Err (WrongCount at)
 
 -- Expressions, where these names can be read.
 abbrev mutual
@@ -70,28 +90,28 @@ abbrev mutual
   expr_of_kind names at (k.binary o l r) = operation_at at (operation_of o) (expr_of names l) (expr_of names r)
   expr_of_kind names at (k.conjunction ps) = mapped (λ es. m.both (exprs_of es)) (exprs_in names ps)
   expr_of_kind names at (k.choice_else b p q) = three choice (expr_of names b) (expr_of names p) (expr_of names q)
-  expr_of_kind names at (k.form form ps) = Err (form_refusal at form ps (NotExpression at))
-  -- calls aren't run yet
-  expr_of_kind names at (k.call x ps) = not_run at
-  -- `next`, `if` without `else`, loops, `forall`, `exists` and bare words
-  expr_of_kind names at kind = not_expression at
+  expr_of_kind names at (k.call x ps) = called_expr at (called_of names.definitions x) (phrase_count ps) (λ parameters. arguments_in names ps parameters)
+  -- `next`, `if` without `else`, loops, `forall`, `exists`, bare words and forms
+  expr_of_kind names at kind = Err (refusal_of names at kind (NotExpression at))
 
   -- of each of the phrases
   pub exprs_in : VisibleNames → PhraseTrees → CheckOutcome (List ExprTree)
   exprs_in names no_phrase = Ok []
   exprs_in names (phrase_then p ps) = both (λ e es. e ∷ es) (expr_of names p) (exprs_in names ps)
 
--- ---- places
+  -- a place phrase as an expression; any other is refused
+  pub place_phrase : VisibleNames → PhraseTree → CheckOutcome ExprTree
+  place_phrase names (phrase at kind) = if is_place_kind kind then expr_of_kind names at kind else Err (refusal_of names at kind (NotPlace at))
 
--- why a phrase at this place, which is no place phrase, is refused as a place
-abbrev pub place_refusal : (at : ℕ) → KindTree → CheckRefusal
-place_refusal at (k.form form ps) = form_refusal at form ps (NotPlace at)
-place_refusal at (k.call x ps) = NotExecutable at
-place_refusal at kind = NotPlace at
+  -- the operands of a call: a place for each upper-case parameter, an expression for each lower-case one
+  pub arguments_in : VisibleNames → PhraseTrees → (parameters : Names) → CheckOutcome (List ExprTree)
+  arguments_in names (phrase_then p ps) (x ∷ xs) = both (λ e es. e ∷ es) (if is_upper x then place_phrase names p else expr_of names p) (arguments_in names ps xs)
+  arguments_in names no_phrase xs = Ok []
+  arguments_in names (phrase_then p ps) [] = Ok []
 
--- a place phrase as an expression; any other is refused
-abbrev pub place_phrase : VisibleNames → PhraseTree → CheckOutcome ExprTree
-place_phrase names (phrase at kind) = if is_place_kind kind then expr_of_kind names at kind else Err (place_refusal at kind)
+-- the operand for a parameter: a place where the parameter is upper-case, an expression else
+abbrev pub argument_in : (upper : Bool) → VisibleNames → PhraseTree → CheckOutcome ExprTree
+argument_in upper names p = if upper then place_phrase names p else expr_of names p
 
 -- ---- formulas
 
@@ -114,11 +134,15 @@ place_is b p = equation p (boolean b)
 abbrev pub state_in : VisibleNames → (at : ℕ) → KindTree → CheckOutcome FormulaTree
 state_in names at kind = if is_place_kind kind then mapped (place_is true) (expr_of_kind names at kind) else mapped test (expr_of_kind names at kind)
 
+-- whether a phrase says something of one state, and calls state definitions alone
+abbrev pub is_state_in : VisibleNames → PhraseTree → Bool
+is_state_in names p = is_state_phrase (calls_state names.definitions) p
+
 -- `not p`: a place is false; else p is a state phrase
 abbrev pub negation_in : VisibleNames → (at : ℕ) → PhraseTree → CheckOutcome FormulaTree
 negation_in names at p =
     if is_place_phrase p then mapped (place_is false) (expr_of names p)
-    else if is_state_phrase p then state_in names at (k.negation p)
+    else if is_state_in names p then state_in names at (k.negation p)
     else not_run at
 
 -- two phrases with an operator between them that composes no formulas
@@ -127,7 +151,7 @@ binary_in names at op.Equal l r = equation_in names l r
 binary_in names at op.Gets l r = both gets_of (place_phrase names l) (expr_of names r)
 binary_in names at op.Arrow l r = both assign (place_phrase names l) (expr_of names r)
 binary_in names at op.Becomes l r = both becomes_of (place_phrase names l) (expr_of names r)
-binary_in names at op.Or l r = if is_state_phrase l && is_state_phrase r then state_in names at (k.binary op.Or l r) else not_run at
+binary_in names at op.Or l r = if is_state_in names l && is_state_in names r then state_in names at (k.binary op.Or l r) else not_run at
 binary_in names at o l r = state_in names at (k.binary o l r)
 
 -- what an operator makes of two formulas; only `;` and `proj` make one
@@ -160,6 +184,19 @@ bare_of Empty = empty
 bare_of More = more
 bare_of Skip = skip_of
 
+-- a call at this place as a formula
+abbrev pub called_formula : VisibleNames → (at : ℕ) → Option Called → PhraseTrees → CheckOutcome FormulaTree
+called_formula names at None ps = Err (Unknown at)
+called_formula names at (Some c) ps =
+    if nat_eq (phrase_count ps) (length c.signature.parameters)
+    then mapped (λ es. m.call c.number (exprs_of es)) (arguments_in names ps c.signature.parameters)
+    else Err (WrongCount at)
+
+-- a formula with a variable of its own for each of these names, which lasts where the name is lower-case; the first is the outermost
+abbrev pub exists_of : Names → FormulaTree → FormulaTree
+exists_of [] w = w
+exists_of (x ∷ xs) w = m.exists x (is_lower x) (exists_of xs w)
+
 -- Formulas, where these names can be read.
 abbrev mutual
   pub formula_of : VisibleNames → PhraseTree → CheckOutcome FormulaTree
@@ -179,27 +216,16 @@ abbrev mutual
   formula_of_kind names at (k.form f.Stable (phrase_then p no_phrase)) = mapped stable_of (place_phrase names p)
   formula_of_kind names at (k.form f.Len (phrase_then e no_phrase)) = mapped len (expr_of names e)
   formula_of_kind names at (k.form f.List (phrase_then l (phrase_then e no_phrase))) = both list_of_length (place_phrase names l) (expr_of names e)
-  -- `sometimes` is never run, `input` and `display` aren't run yet
-  formula_of_kind names at (k.form f.Sometimes ps) = Err (form_refusal at f.Sometimes ps (NotExecutable at))
-  formula_of_kind names at (k.form f.Input ps) = Err (form_refusal at f.Input ps (NotExecutable at))
-  formula_of_kind names at (k.form f.Display ps) = Err (form_refusal at f.Display ps (NotExecutable at))
-  -- the other forms with a wrong number of operands
-  formula_of_kind names at (k.form f.Always ps) = Err (form_refusal at f.Always ps (NotExecutable at))
-  formula_of_kind names at (k.form f.Keep ps) = Err (form_refusal at f.Keep ps (NotExecutable at))
-  formula_of_kind names at (k.form f.Fin ps) = Err (form_refusal at f.Fin ps (NotExecutable at))
-  formula_of_kind names at (k.form f.Halt ps) = Err (form_refusal at f.Halt ps (NotExecutable at))
-  formula_of_kind names at (k.form f.Stable ps) = Err (form_refusal at f.Stable ps (NotExecutable at))
-  formula_of_kind names at (k.form f.Len ps) = Err (form_refusal at f.Len ps (NotExecutable at))
-  formula_of_kind names at (k.form f.List ps) = Err (form_refusal at f.List ps (NotExecutable at))
+  -- `sometimes` is never run, `input` and `display` aren't run yet, and the other forms have a wrong number of operands here
+  formula_of_kind names at (k.form form ps) = Err (refusal_of names at (k.form form ps) (NotExecutable at))
   formula_of_kind names at (k.choice b w) = both (λ c x. branch c x trivial) (expr_of names b) (formula_of names w)
   formula_of_kind names at (k.choice_else b w v) = three branch (expr_of names b) (formula_of names w) (formula_of names v)
   formula_of_kind names at (k.while b w) = both while (expr_of names b) (formula_of names w)
   formula_of_kind names at (k.repeat w b) = both repeat_of (formula_of names w) (expr_of names b)
   formula_of_kind names at (k.for x e w) = both (for_from x (pos 0)) (expr_of names e) (formula_of (with_binder x names) w)
   formula_of_kind names at (k.forall x e w) = both (forall_from x (pos 0)) (expr_of names e) (formula_of (with_binder x names) w)
-  -- `exists` and calls aren't run yet
-  formula_of_kind names at (k.exists xs w) = not_run at
-  formula_of_kind names at (k.call x ps) = not_run at
+  formula_of_kind names at (k.exists xs w) = if has_repeat xs then Err (Twice at) else mapped (exists_of xs) (formula_of (with_binders xs names) w)
+  formula_of_kind names at (k.call x ps) = called_formula names at (called_of names.definitions x) ps
   -- numbers, `false`, names, lists, sizes, indices and unary minus
   formula_of_kind names at kind = state_in names at kind
 

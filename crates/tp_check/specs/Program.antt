@@ -1,37 +1,59 @@
 -- The program that a source is.
-use Rattle.std.specs.Prelude.{◌≡◌, List, [], ◌∷◌, ◌++◌}
+use Rattle.std.specs.Prelude.{◌≡◌, ℕ, Bool, true, false, List, [], ◌∷◌, ◌++◌, Option, Some, None, Ok, Err}
 use Rattle.tp_tree.specs.Tree.{PhraseTree, DefinitionTree, SourceTree}
-use Rattle.tp_kernel.specs.Read.{formula_tree}
-use Rattle.tp_meaning.specs.Syntax.{FormulaTree}
+use Rattle.tp_kernel.specs.Read.{formula_tree, definitions_of}
+use Rattle.tp_meaning.specs.Syntax.{ExprTree, FormulaTree, Definition}
+use Rattle.tp_meaning.specs.Interval.{ProgramTree}
 use Rattle.tp_check.specs.declared.program.Program.{Program}
-use Rattle.tp_check.specs.Scope.{Names, unscoped}
-use Rattle.tp_check.specs.Names.{names_in, names_with}
-use Rattle.tp_check.specs.Outcome.{CheckOutcome, not_run, mapped}
-use Rattle.tp_check.specs.Positions.{formula_of}
+use Rattle.tp_check.specs.declared.refusal.CheckRefusal.TheVariants.{Twice}
+use Rattle.tp_check.specs.Scope.{Names, Signature, VisibleNames, with_binders}
+use Rattle.tp_check.specs.Names.{twice_defined, names_of}
+use Rattle.tp_check.specs.Definitions.{signatures_of, AreStates}
+use Rattle.tp_check.specs.Outcome.{CheckOutcome, mapped, both}
+use Rattle.tp_check.specs.Positions.{expr_of, formula_of}
 
--- a formula, and the names of its variables
-pub record CheckedProgram : Type 0 where
-  pub main : FormulaTree
-  pub names : Names
+-- the body as an expression, where it is that of a state definition
+abbrev pub expr_where : (is_state : Bool) → VisibleNames → PhraseTree → CheckOutcome (Option ExprTree)
+expr_where true names body = mapped Some (expr_of names body)
+expr_where false names body = Ok None
 
-abbrev pub program : Names → FormulaTree → CheckedProgram
-program names main = record { main = main; names = names }
+-- a definition with its body as a formula and as an expression
+abbrev pub definition_with : DefinitionTree → FormulaTree → Option ExprTree → Definition
+definition_with d f e = record { name = d.name; parameters = d.parameters; formula = f; expr = e }
 
--- the names of a program with this main phrase, each once and in the order of their first occurrences
-abbrev pub names_of : PhraseTree → Names
-names_of main = names_with [] (names_in [] main)
+-- where these names can be read, but for the parameters
+abbrev pub definition_in : VisibleNames → DefinitionTree → (is_state : Bool) → CheckOutcome Definition
+definition_in names d is_state = both (definition_with d) (formula_of (with_binders d.parameters names) d.body) (expr_where is_state (with_binders d.parameters names) d.body)
 
--- no name of the main phrase is missing among its names: with others behind them it becomes the same
-abbrev pub NamesSuffice : PhraseTree → Type 0
-NamesSuffice main = (more : Names) → formula_of (unscoped (names_of main ++ more)) main ≡ formula_of (unscoped (names_of main)) main
+abbrev pub definitions_in : VisibleNames → List DefinitionTree → (states : List Bool) → CheckOutcome (List Definition)
+definitions_in names (d ∷ ds) (b ∷ bs) = both (λ x xs. x ∷ xs) (definition_in names d b) (definitions_in names ds bs)
+definitions_in names [] bs = Ok []
+definitions_in names (d ∷ ds) [] = Ok []
 
--- definitions aren't run yet: the first is refused
-abbrev pub program_with : List DefinitionTree → PhraseTree → CheckOutcome CheckedProgram
-program_with [] main = mapped (program (names_of main)) (formula_of (unscoped (names_of main)) main)
-program_with (d ∷ ds) main = not_run d.at
+-- what can be read outside of all binders, with these variables
+abbrev pub outermost : List Signature → Names → VisibleNames
+outermost definitions globals = record { definitions = definitions; globals = globals; scope = [] }
 
-abbrev pub program_of : SourceTree → CheckOutcome CheckedProgram
-program_of source = program_with source.definitions source.main
+-- The program over these variables, where `states` says of each definition whether it is a state definition: first the bodies in the order of
+-- the text, then the main phrase.
+abbrev pub program_over : Names → (states : List Bool) → SourceTree → CheckOutcome ProgramTree
+program_over globals states source =
+    let names = outermost (signatures_of source.definitions states) globals in
+    both (λ ds main. record { defs = ds; main = main; globals = globals }) (definitions_in names source.definitions states) (formula_of names source.main)
 
-abbrev pub program_tree : Program → CheckedProgram
-program_tree p = program p.globals (formula_tree p.main.value)
+-- What becomes of a source: a name or a parameter that is defined twice refuses it before anything else.
+abbrev pub ChecksTo : SourceTree → CheckOutcome ProgramTree → Type 0
+ChecksTo source o = by_twice (twice_defined [] source.definitions)
+  where
+    by_twice : Option ℕ → Type 0
+    by_twice (Some at) = o ≡ Err (Twice at)
+    by_twice None = (states : List Bool) × AreStates source.definitions states × (program_over (names_of source) states source ≡ o)
+
+-- No name is missing among the source's names: with others behind them it becomes the same, but for these.
+abbrev pub NamesSuffice : SourceTree → Type 0
+NamesSuffice source =
+    (more : Names) (states : List Bool) → let names = names_of source ++ more in
+    program_over names states source ≡ mapped (λ p. record { defs = p.defs; main = p.main; globals = names }) (program_over (names_of source) states source)
+
+abbrev pub program_tree : Program → ProgramTree
+program_tree p = record { defs = definitions_of p.defs; main = formula_tree p.main.value; globals = p.globals }

@@ -7,8 +7,25 @@ use tp_value::NoMemory;
 pub fn one_more(count: u32) -> Result<u32, NoMemory>
     ensures { IfOk result (λ n. n ≡ count + 1) }
 {
-    match count.checked_add(1) {
-        Some(n) => Ok(n),
+    sum_of(count, 1)
+}
+
+/// The sum of two numbers.
+pub fn sum_of(m: u32, n: u32) -> Result<u32, NoMemory>
+    ensures { IfOk result (λ s. s ≡ m + n) }
+{
+    match m.checked_add(n) {
+        Some(sum) => Ok(sum),
         None => Err(NoMemory),
+    }
+}
+
+/// The same number.
+pub fn as_number(n: usize) -> Result<u32, NoMemory>
+    ensures { IfOk result (λ m. m ≡ n) }
+{
+    match u32::try_from(n) {
+        Ok(m) => Ok(m),
+        Err(_) => Err(NoMemory),
     }
 }

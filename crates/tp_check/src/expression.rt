@@ -1,21 +1,23 @@
 // Expressions.
-ghost use Rattle.std.specs.Prelude.{◌≡◌};
+ghost use Rattle.std.specs.Prelude.{◌≡◌, length};
 ghost use Rattle.tp_tree.specs.Read.{phrase_tree, phrase_trees};
 ghost use Rattle.tp_kernel.specs.Read.{expr_tree};
-ghost use Rattle.tp_tree.specs.Tree.{name as name_kind};
+ghost use Rattle.tp_tree.specs.Tree.{name as name_kind, call as call_kind};
+ghost use Rattle.tp_meaning.specs.Value.{is_upper};
+ghost use Rattle.tp_check.specs.Phrases.{phrase_count};
 ghost use Rattle.tp_check.specs.Building.{expr_seen, exprs_seen, names_seen};
 ghost use Rattle.tp_check.specs.Outcome.{AnswersCheck};
-ghost use Rattle.tp_check.specs.Positions.{expr_of, expr_of_kind, exprs_in};
+ghost use Rattle.tp_check.specs.Positions.{expr_of, expr_of_kind, exprs_in, place_phrase, argument_in, arguments_in};
 
 use crate::operation::operation_for;
-use crate::phrases::miscounted_or;
+use crate::phrases::{is_place, refusal};
 use crate::refusal::CheckRefusal;
 use crate::scope::{Visible, find_binder};
 use std::alloc::Global;
 use std::rc::Rc;
-use tp_kernel::{Expr, Exprs};
+use tp_kernel::{Expr, Exprs, is_upper};
 use tp_tree::{Phrase, PhraseKind, Phrases};
-use tp_value::Text;
+use tp_value::{Text, Texts};
 
 // What the name, which stands at this place, stands for.
 fn named(at: u32, name: &Text, names: &Visible) -> Result<Expr, CheckRefusal>
@@ -66,11 +68,7 @@ pub fn expression(alloc: Global, phrase: &Phrase, names: &Visible) -> Result<Exp
             let second = shared_expression(alloc, second, names)?;
             Ok(Expr::If(condition, first, second))
         }
-        PhraseKind::Form(form, operands) => {
-            let other = CheckRefusal::NotExpression { at };
-            Err(miscounted_or(at, *form, operands, other))
-        }
-        PhraseKind::Call(_, _) => Err(CheckRefusal::NotExecutable { at }),
+        PhraseKind::Call(name, operands) => call(alloc, at, name, operands, names),
         PhraseKind::Next(_)
         | PhraseKind::If(_, _, None)
         | PhraseKind::While(_, _)
@@ -78,7 +76,11 @@ pub fn expression(alloc: Global, phrase: &Phrase, names: &Visible) -> Result<Exp
         | PhraseKind::For(_, _, _)
         | PhraseKind::Forall(_, _, _)
         | PhraseKind::Exists(_, _)
-        | PhraseKind::Bare(_) => Err(CheckRefusal::NotExpression { at }),
+        | PhraseKind::Bare(_)
+        | PhraseKind::Form(_, _) => {
+            let other = CheckRefusal::NotExpression { at };
+            Err(refusal(alloc, phrase, names, other)?)
+        }
     }
 }
 
@@ -107,4 +109,80 @@ fn expressions(alloc: Global, phrases: &Phrases, names: &Visible) -> Result<Expr
         items.push(expression(alloc, phrase, names)?)?;
     }
     Ok(Exprs { items })
+}
+
+/// The place that a phrase is, where these names can be read.
+pub fn place(alloc: Global, phrase: &Phrase, names: &Visible) -> Result<Rc<Expr>, CheckRefusal>
+    ensures { AnswersCheck expr_seen
+        (place_phrase (names_seen names.now) (phrase_tree phrase.now)) result }
+{
+    if is_place(phrase) {
+        return shared_expression(alloc, phrase, names);
+    }
+    let other = CheckRefusal::NotPlace { at: phrase.at };
+    Err(refusal(alloc, phrase, names, other)?)
+}
+
+// A call at this place: it calls a state definition.
+#[cycle(expression)]
+fn call(
+    alloc: Global,
+    at: u32,
+    name: &Text,
+    operands: &Phrases,
+    names: &Visible,
+) -> Result<Expr, CheckRefusal>
+    ensures { AnswersCheck expr_tree
+        (expr_of_kind (names_seen names.now) at (call_kind name.now (phrase_trees operands.now)))
+        result }
+{
+    let Some(callee) = names.directory.find(name)? else {
+        return Err(CheckRefusal::Unknown { at });
+    };
+    if !callee.takes(operands) {
+        return Err(CheckRefusal::WrongCount { at });
+    }
+    if !callee.signature.is_state {
+        return Err(CheckRefusal::NotExpression { at });
+    }
+    let arguments = arguments(alloc, operands, callee.signature.parameters, names)?;
+    Ok(Expr::Call(callee.number, arguments))
+}
+
+/// The operands of a call, as many as the parameters: a place for each upper-case one, an expression for each lower-case one.
+#[cycle(expression)]
+pub fn arguments(
+    alloc: Global,
+    operands: &Phrases,
+    parameters: &Texts,
+    names: &Visible,
+) -> Result<Exprs, CheckRefusal>
+    requires { phrase_count (phrase_trees operands.now) ≡ length parameters.now }
+    ensures { AnswersCheck exprs_seen
+        (arguments_in (names_seen names.now) (phrase_trees operands.now) parameters.now) result }
+{
+    let mut items = Vec::new(alloc);
+    for (operand, parameter) in operands.items.iter().zip(&parameters.items) {
+        items.push(argument(alloc, operand, parameter, names)?)?;
+    }
+    Ok(Exprs { items })
+}
+
+// The operand for a parameter.
+#[cycle(expression)]
+fn argument(
+    alloc: Global,
+    operand: &Phrase,
+    parameter: &Text,
+    names: &Visible,
+) -> Result<Expr, CheckRefusal>
+    ensures { AnswersCheck expr_tree
+        (argument_in (is_upper parameter.now) (names_seen names.now) (phrase_tree operand.now))
+        result }
+{
+    if is_upper(parameter) && !is_place(operand) {
+        let other = CheckRefusal::NotPlace { at: operand.at };
+        return Err(refusal(alloc, operand, names, other)?);
+    }
+    expression(alloc, operand, names)
 }

@@ -1,27 +1,29 @@
 // Formulas.
 ghost use Rattle.std.specs.Prelude.{◌≡◌, pos, IfOk};
 ghost use Rattle.tp_tree.specs.Read.{phrase_tree, phrase_trees};
-ghost use Rattle.tp_tree.specs.Tree.{form as form_kind, no_phrase, phrase_then};
+ghost use Rattle.tp_tree.specs.Tree.{form as form_kind, exists as exists_kind, no_phrase, phrase_then};
 ghost use Rattle.tp_meaning.specs.Syntax.{trivial, branch as branch_of, while as while_of, for_from, forall_from};
 ghost use Rattle.tp_meaning.specs.Derived.{repeat_of};
 ghost use Rattle.tp_kernel.specs.Read.{formula_tree};
-ghost use Rattle.tp_check.specs.Scope.{with_binder};
+ghost use Rattle.tp_check.specs.Scope.{with_binder, with_binders};
 ghost use Rattle.tp_check.specs.Outcome.{AnswersCheck, both};
 ghost use Rattle.tp_check.specs.Building.{formula_seen, formulas_seen, names_seen};
 ghost use Rattle.tp_check.specs.Positions.{bare_of, expr_of, formula_of, formula_of_kind, formulas_in};
 
+use crate::binders::Binders;
+use crate::calls::call;
 use crate::composition::composition_for;
-use crate::expression::shared_expression;
+use crate::expression::{place, shared_expression};
+use crate::hiding::exists_each;
 use crate::phrases::miscounted_or;
-use crate::place::place;
 use crate::refusal::CheckRefusal;
-use crate::scope::{Scope, Visible};
+use crate::scope::{Scope, Visible, take_room};
 use crate::state::{binary, negation, state};
 use std::alloc::Global;
 use std::rc::Rc;
 use tp_kernel::{Formula, Formulas, fin, halt, keep, list, repeat, skip, stable};
 use tp_tree::{Bare, Form, Phrase, PhraseKind, Phrases};
-use tp_value::{NoMemory, Text};
+use tp_value::{NoMemory, Text, Texts};
 
 fn bare(alloc: Global, word: Bare) -> Result<Formula, NoMemory>
     ensures { IfOk result (λ w. formula_tree w ≡ bare_of word) }
@@ -63,8 +65,8 @@ pub fn formula(alloc: Global, phrase: &Phrase, names: &Visible) -> Result<Formul
         PhraseKind::Repeat(body, condition) => repeat_loop(alloc, body, condition, names),
         PhraseKind::For(name, to, body) => for_loop(alloc, body, name, to, names),
         PhraseKind::Forall(name, to, body) => for_all(alloc, body, name, to, names),
-        PhraseKind::Exists(_, _) => Err(CheckRefusal::NotExecutable { at: phrase.at }),
-        PhraseKind::Call(_, _) => Err(CheckRefusal::NotExecutable { at: phrase.at }),
+        PhraseKind::Exists(bound, body) => hidden(alloc, phrase.at, body, bound, names),
+        PhraseKind::Call(name, operands) => call(alloc, phrase.at, name, operands, names),
         PhraseKind::Truth(false)
         | PhraseKind::Number(_)
         | PhraseKind::Name(_)
@@ -175,7 +177,8 @@ fn for_loop(
         result }
 {
     let to = shared_expression(alloc, to, names)?;
-    let body = formula_within(alloc, body, name, names)?;
+    let binders = Binders::one(alloc, name)?;
+    let body = Rc::new(alloc, formula_within(alloc, body, &binders, names)?)?;
     let name = name.copy()?;
     let from = 0;
     Ok(Formula::For {
@@ -202,7 +205,8 @@ fn for_all(
         result }
 {
     let to = shared_expression(alloc, to, names)?;
-    let body = formula_within(alloc, body, name, names)?;
+    let binders = Binders::one(alloc, name)?;
+    let body = Rc::new(alloc, formula_within(alloc, body, &binders, names)?)?;
     let name = name.copy()?;
     let from = 0;
     Ok(Formula::Forall {
@@ -213,27 +217,51 @@ fn for_all(
     })
 }
 
-// The formula of a phrase that stands where this name is bound.
+// The formula of a phrase that stands where these names are bound.
 #[cycle(formula)]
 fn formula_within(
     alloc: Global,
     body: &Phrase,
-    name: &Text,
+    binders: &Binders,
     names: &Visible,
-) -> Result<Rc<Formula>, CheckRefusal>
-    ensures { AnswersCheck formula_seen
-        (formula_of (with_binder name.now (names_seen names.now)) (phrase_tree body.now)) result }
+) -> Result<Formula, CheckRefusal>
+    ensures { AnswersCheck formula_tree
+        (formula_of (with_binders binders.now (names_seen names.now)) (phrase_tree body.now))
+        result }
 {
-    let scope = Scope::Inner(name, names.scope);
+    let scope = Scope::Inner(binders, names.scope);
+    let directory = names.directory;
     let globals = names.globals;
-    shared_formula(
+    formula(
         alloc,
         body,
         &Visible {
+            directory,
             globals,
             scope: &scope,
         },
     )
+}
+
+// `exists bound : body` at this place.
+#[cycle(formula)]
+fn hidden(
+    alloc: Global,
+    at: u32,
+    body: &Phrase,
+    bound: &Texts,
+    names: &Visible,
+) -> Result<Formula, CheckRefusal>
+    ensures { AnswersCheck formula_tree
+        (formula_of_kind (names_seen names.now) at (exists_kind bound.now (phrase_tree body.now)))
+        result }
+{
+    let Some(binders) = Binders::of(alloc, bound)? else {
+        return Err(CheckRefusal::Twice { at });
+    };
+    take_room(names.scope, &binders)?;
+    let body = formula_within(alloc, body, &binders, names)?;
+    Ok(exists_each(alloc, bound, body)?)
 }
 
 // The formula of a form at this place with these operands.

@@ -1,13 +1,15 @@
 // The names of the variables of a source.
 ghost use Rattle.std.specs.Prelude.{◌≡◌, OnOk};
 ghost use Rattle.tp_tree.specs.Read.{phrase_tree, phrase_trees};
-ghost use Rattle.tp_tree.specs.Tree.{name as name_kind};
+ghost use Rattle.tp_tree.specs.Tree.{name as name_kind, exists as exists_kind};
 ghost use Rattle.tp_check.specs.Building.{names_bound};
 ghost use Rattle.tp_check.specs.Names.{names_with, names_in, names_in_kind, names_in_all};
 
+use crate::binders::Binders;
 use crate::scope::{Scope, find_binder};
+use std::alloc::Global;
 use tp_tree::{Phrase, PhraseKind, Phrases};
-use tp_value::{Globals, NoMemory, Text};
+use tp_value::{Globals, NoMemory, Text, Texts};
 
 // Adds the name where it isn't bound.
 fn add_name(name: &Text, scope: &Scope, globals: &mut Globals) -> Result<(), NoMemory>
@@ -20,10 +22,14 @@ fn add_name(name: &Text, scope: &Scope, globals: &mut Globals) -> Result<(), NoM
     Ok(())
 }
 
-/// Adds the names of variables in a phrase that stands in this scope, in the order of the text. Those in phrases that aren't run are left
-/// out.
+/// Adds the names of variables in a phrase that stands in this scope, in the order of the text.
 #[cycle(names)]
-pub fn add_names(phrase: &Phrase, scope: &Scope, globals: &mut Globals) -> Result<(), NoMemory>
+pub fn add_names(
+    alloc: Global,
+    phrase: &Phrase,
+    scope: &Scope,
+    globals: &mut Globals,
+) -> Result<(), NoMemory>
     ensures { OnOk result (globals.new
         ≡ names_with globals.old (names_in (names_bound scope.now) (phrase_tree phrase.now))) }
 {
@@ -32,44 +38,70 @@ pub fn add_names(phrase: &Phrase, scope: &Scope, globals: &mut Globals) -> Resul
         PhraseKind::Size(part)
         | PhraseKind::Minus(part)
         | PhraseKind::Next(part)
-        | PhraseKind::Not(part) => add_names(part, scope, globals),
+        | PhraseKind::Not(part) => add_names(alloc, part, scope, globals),
         PhraseKind::Index(first, second)
         | PhraseKind::Binary(_, first, second)
-        | PhraseKind::If(first, second, None)
         | PhraseKind::While(first, second)
         | PhraseKind::Repeat(first, second) => {
-            add_names(first, scope, globals)?;
-            add_names(second, scope, globals)
+            add_names(alloc, first, scope, globals)?;
+            add_names(alloc, second, scope, globals)
+        }
+        PhraseKind::If(condition, first, None) => {
+            add_names(alloc, condition, scope, globals)?;
+            add_names(alloc, first, scope, globals)
         }
         PhraseKind::If(condition, first, Some(second)) => {
-            add_names(condition, scope, globals)?;
-            add_names(first, scope, globals)?;
-            add_names(second, scope, globals)
+            add_names(alloc, condition, scope, globals)?;
+            add_names(alloc, first, scope, globals)?;
+            add_names(alloc, second, scope, globals)
         }
         PhraseKind::For(name, bound, body) | PhraseKind::Forall(name, bound, body) => {
-            add_names(bound, scope, globals)?;
-            add_names(body, &Scope::Inner(name, &*scope), globals)
+            add_names(alloc, bound, scope, globals)?;
+            let binders = Binders::one(alloc, name)?;
+            add_names(alloc, body, &Scope::Inner(&binders, &*scope), globals)
         }
-        PhraseKind::List(parts) | PhraseKind::And(parts) | PhraseKind::Form(_, parts) => {
-            add_all(parts, scope, globals)
-        }
-        PhraseKind::Number(_)
-        | PhraseKind::Truth(_)
-        | PhraseKind::Exists(_, _)
-        | PhraseKind::Bare(_)
-        | PhraseKind::Call(_, _) => Ok(()),
+        PhraseKind::Exists(names, body) => add_names_within(alloc, body, names, scope, globals),
+        PhraseKind::List(parts)
+        | PhraseKind::And(parts)
+        | PhraseKind::Form(_, parts)
+        | PhraseKind::Call(_, parts) => { add_all(alloc, parts, scope, globals) }
+        PhraseKind::Number(_) | PhraseKind::Truth(_) | PhraseKind::Bare(_) => Ok(()),
+    }
+}
+
+// Of an `exists` with these names.
+#[cycle(names)]
+fn add_names_within(
+    alloc: Global,
+    body: &Phrase,
+    names: &Texts,
+    scope: &Scope,
+    globals: &mut Globals,
+) -> Result<(), NoMemory>
+    ensures { OnOk result (globals.new
+        ≡ names_with globals.old
+        (names_in_kind (names_bound scope.now) (exists_kind names.now (phrase_tree body.now)))) }
+{
+    match Binders::of(alloc, names)? {
+        Some(binders) => add_names(alloc, body, &Scope::Inner(&binders, &*scope), globals),
+        None => Ok(()),
     }
 }
 
 // Of each of the phrases.
 #[cycle(names)]
-fn add_all(phrases: &Phrases, scope: &Scope, globals: &mut Globals) -> Result<(), NoMemory>
+fn add_all(
+    alloc: Global,
+    phrases: &Phrases,
+    scope: &Scope,
+    globals: &mut Globals,
+) -> Result<(), NoMemory>
     ensures { OnOk result (globals.new
         ≡ names_with globals.old
         (names_in_all (names_bound scope.now) (phrase_trees phrases.now))) }
 {
     for phrase in &phrases.items {
-        add_names(phrase, scope, globals)?;
+        add_names(alloc, phrase, scope, globals)?;
     }
     Ok(())
 }

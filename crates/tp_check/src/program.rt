@@ -1,63 +1,117 @@
 // The program that a source is.
-ghost use Rattle.std.specs.Prelude.{◌≡◌, ◌≢◌, IfOk, IfErr, Ok, Err};
-ghost use Rattle.tp_tree.specs.Read.{source_tree, phrase_tree};
-ghost use Rattle.tp_kernel.specs.Read.{formula_tree};
-ghost use Rattle.tp_kernel.specs.Built.{IsBuilt};
-ghost use Rattle.tp_check.specs.declared.refusal.CheckRefusal.TheVariants.{NoMemory};
-ghost use Rattle.tp_check.specs.Program.{program_of, program_tree, NamesSuffice};
+ghost use Rattle.std.specs.Prelude.{◌≡◌, ◌≢◌, length, IfOk, IfErr, Ok, Err};
+ghost use Rattle.tp_tree.specs.Read.{source_tree};
+ghost use Rattle.tp_check.specs.Built.{IsBuilt};
+ghost use Rattle.tp_check.specs.Building.{ParametersOf, signatures_seen};
+ghost use Rattle.tp_check.specs.Names.{names_of};
+ghost use Rattle.tp_check.specs.Outcome.{AnswersCheck};
+ghost use Rattle.tp_check.specs.Definitions.{signatures_of};
+ghost use Rattle.tp_check.specs.Program.{ChecksTo, NamesSuffice, program_over, program_tree};
 
+use crate::binders::Binders;
+use crate::definitions::{add_names_in_bodies, find_headings, make_definitions};
+use crate::directory::Directory;
 use crate::formula::shared_formula;
 use crate::names::add_names;
 use crate::refusal::CheckRefusal;
 use crate::scope::{Scope, Visible};
+use crate::states::find_states;
 use std::alloc::Global;
 use std::rc::Rc;
-use tp_kernel::Formula;
+use tp_kernel::{Defs, Formula};
 use tp_tree::Source;
-use tp_value::Globals;
+use tp_value::{Globals, NoMemory};
 
-/// A formula, and the names of its variables.
+/// Definitions, a main formula, and the names of their variables.
 #[derive(Drop)]
 pub struct Program {
+    pub defs: Defs,
     pub main: Rc<Formula>,
     pub globals: Globals,
 }
 
-/// The program that a source is. A source runs where it has no definition and its main phrase is made of
-///
-/// * `and`, `;`, `proj`, `next`, `if`, `empty`, `more`, `skip`, `always`, `keep` and `fin` over such phrases,
-/// * `while`, `repeat`, `for` and `forall` over such phrases,
-/// * equations, of which at most one side has `next` in front,
-/// * `A gets e`, `A <- e`, `A := e`, `halt(e)`, `stable(A)`, `len(e)` and `list(A, e)`, and
-/// * expressions: a place is true, its negation makes it false, and any other is tested.
-///
-/// A place is a name with any number of indices. `for` and `forall` bind their name in their body alone. A name is that of its innermost
-/// binder, or of a variable where it has none.
-///
-/// An expression has no call, no bare word, no form, no loop, no `if` without `else`, and
-/// none of `next`, `;`, `proj`, `gets`, `<-`, `:=`, `forall` and `exists`.
-///
-/// Any other source is refused: at its first definition as not executable, or else at its first phrase that breaks this, a phrase before
-/// its operands and these in the order of the text. A form with a wrong number of operands is named as that first. Then a phrase is no
-/// expression or no place where one is due, and not executable anywhere else; a call is not executable everywhere.
-pub fn check(alloc: Global, source: &Source) -> Result<Program, CheckRefusal>
-    ensures accepted { IfOk result (λ p.
-        program_of (source_tree source.now) ≡ Ok (program_tree p)) }
-    ensures named { NamesSuffice (phrase_tree source.now.main) }
-    ensures built { IfOk result (λ p. IsBuilt p.globals (formula_tree p.main.value)) }
-    ensures refused { IfErr result (λ e.
-        e ≢ NoMemory → program_of (source_tree source.now) ≡ Err e) }
+// The names of the source's variables.
+fn names(alloc: Global, source: &Source, parameters: &[Binders]) -> Result<Globals, NoMemory>
+    requires { ParametersOf source.now.definitions parameters.now }
+    ensures { IfOk result (λ globals. globals ≡ names_of (source_tree source.now)) }
 {
-    if let Some(first) = source.definitions.items.first() {
-        return Err(CheckRefusal::NotExecutable { at: first.at });
-    }
     let mut globals = Globals::new(alloc)?;
+    add_names_in_bodies(alloc, &source.definitions, parameters, &mut globals)?;
+    add_names(alloc, &source.main, &Scope::Outermost, &mut globals)?;
+    Ok(globals)
+}
+
+// The program over these definitions and variables.
+fn make_program(
+    alloc: Global,
+    source: &Source,
+    parameters: &[Binders],
+    states: &[bool],
+    directory: &Directory,
+    globals: Globals,
+) -> Result<Program, CheckRefusal>
+    requires parameters { ParametersOf source.now.definitions parameters.now }
+    requires each { length states.now ≡ length source.now.definitions.items.items }
+    requires directory { signatures_seen directory.now
+        ≡ signatures_of (source_tree source.now).definitions states.now }
+    ensures { AnswersCheck program_tree
+        (program_over globals states.now (source_tree source.now)) result }
+{
     let scope = Scope::Outermost;
-    add_names(&source.main, &scope, &mut globals)?;
     let names = Visible {
+        directory,
         globals: &globals,
         scope: &scope,
     };
+    let defs = make_definitions(alloc, &source.definitions, parameters, states, &names)?;
     let main = shared_formula(alloc, &source.main, &names)?;
-    Ok(Program { main, globals })
+    Ok(Program {
+        defs,
+        main,
+        globals,
+    })
+}
+
+/// The program that a source is.
+///
+/// First no definition may have the name of an earlier one, and none a parameter twice. Then the bodies, in the order of the text, and the
+/// main phrase last are taken as formulas, a phrase before its operands and these in the order of the text:
+///
+/// * `and`, `;`, `proj`, `next`, `if`, `always`, `keep`, `fin`, `while`, `repeat`, `for`, `forall` and `exists` over formulas,
+/// * `empty`, `more`, `skip` and `true`,
+/// * equations, of which at most one side has `next` in front,
+/// * `A gets e`, `A <- e`, `A := e`, `halt(e)`, `stable(A)`, `len(e)` and `list(A, e)`,
+/// * calls of definitions, and
+/// * expressions: a place is true, its negation makes it false, and any other is tested.
+///
+/// A place is a name with any number of indices. A call gives a place to each upper-case parameter and an expression to each lower-case one.
+/// `for` and `forall` bind their name in their body, `exists` its names, and a definition its parameters in its body alone. A name is that of
+/// its innermost binder, or of a variable where it has none.
+///
+/// A state definition is one whose body, and each body that it reaches by calls, has no `;`, `proj`, `gets`, `<-`, `:=`, `next`, loop, `for`,
+/// `forall`, `exists`, bare word, form, or `if` without `else`. Expressions have none of these either, and call only state definitions.
+///
+/// The first phrase that breaks this is refused. A call of an unknown definition comes first, then a call or a form with a wrong number of
+/// operands, then an `exists` that binds a name twice; then a phrase is no expression or no place where one is due, and not executable
+/// anywhere else. `sometimes`, and `not` and `or` over phrases of more than one state, are not executable, nor are `input` and `display` yet.
+pub fn check(alloc: Global, source: &Source) -> Result<Program, CheckRefusal>
+    ensures accepted { IfOk result (λ p.
+        ChecksTo (source_tree source.now) (Ok (program_tree p))) }
+    ensures named { NamesSuffice (source_tree source.now) }
+    ensures built { IfOk result (λ p. IsBuilt (program_tree p)) }
+    ensures refused { IfErr result (λ e.
+        e ≢ CheckRefusal.NoMemory → ChecksTo (source_tree source.now) (Err e)) }
+{
+    let headings = find_headings(alloc, &source.definitions)?;
+    let states = find_states(alloc, &source.definitions, &headings.names)?;
+    let directory = Directory::of(alloc, &source.definitions, &states)?;
+    let globals = names(alloc, source, &headings.parameters)?;
+    make_program(
+        alloc,
+        source,
+        &headings.parameters,
+        &states,
+        &directory,
+        globals,
+    )
 }

@@ -3,19 +3,22 @@ ghost use Rattle.std.specs.Prelude.{◌≡◌, IfOk, length};
 ghost use Rattle.tp_check.specs.Scope.{binder_of};
 ghost use Rattle.tp_check.specs.Building.{names_bound};
 
-use crate::count::one_more;
+use crate::binders::Binders;
+use crate::count::{as_number, sum_of};
+use crate::directory::Directory;
 use tp_value::{Globals, NoMemory, Text};
 
-/// The names that are bound where a phrase stands, the innermost first.
+/// The names that are bound where a phrase stands, those that were bound together as one, the innermost first.
 #[derive(Clone, Copy)]
 pub enum Scope<'a> {
     Outermost,
-    Inner(&'a Text, &'a Scope<'a>),
+    Inner(&'a Binders, &'a Scope<'a>),
 }
 
-/// The names that can be read where a phrase stands: those of the variables, and the bound ones.
+/// What can be read where a phrase stands: the definitions, the variables, and the bound names.
 #[derive(Clone, Copy)]
 pub struct Visible<'a> {
+    pub directory: &'a Directory<'a>,
     pub globals: &'a Globals,
     pub scope: &'a Scope<'a>,
 }
@@ -26,8 +29,21 @@ fn bound_count(scope: &Scope) -> Result<u32, NoMemory>
 {
     match scope {
         Scope::Outermost => Ok(0),
-        Scope::Inner(_, outer) => one_more(bound_count(outer)?),
+        Scope::Inner(binders, outer) => sum_of(bound_count(outer)?, as_number(binders.len())?),
     }
+}
+
+// The most names that may be bound in each other. Each name of an `exists` makes its formula one deeper, and a formula is let go level by
+// level, on the machine's stack.
+const MOST_BOUND: u32 = 10_000;
+
+/// Want of memory, where more names would be bound in each other than the machine's stack has room for.
+pub fn take_room(scope: &Scope, more: &Binders) -> Result<(), NoMemory> {
+    let count = sum_of(bound_count(scope)?, as_number(more.len())?)?;
+    if count > MOST_BOUND {
+        return Err(NoMemory);
+    }
+    Ok(())
 }
 
 /// The number of the name's innermost binder, or none where the name isn't bound.
@@ -36,12 +52,12 @@ pub fn find_binder(scope: &Scope, name: &Text) -> Result<Option<u32>, NoMemory>
 {
     match scope {
         Scope::Outermost => Ok(None),
-        Scope::Inner(bound, outer) => {
-            if name.as_slice() == bound.as_slice() {
-                Ok(Some(bound_count(outer)?))
-            } else {
-                find_binder(outer, name)
+        Scope::Inner(binders, outer) => match binders.place(name) {
+            Some(place) => {
+                let number = sum_of(bound_count(outer)?, as_number(place)?)?;
+                Ok(Some(number))
             }
-        }
+            None => find_binder(outer, name),
+        },
     }
 }

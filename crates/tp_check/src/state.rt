@@ -1,22 +1,22 @@
 // Formulas that say something of the first state, and those that set a place.
-ghost use Rattle.std.specs.Prelude.{◌≡◌, true, false};
+ghost use Rattle.std.specs.Prelude.{◌≡◌, true, false, IfOk};
 ghost use Rattle.tp_tree.specs.Read.{phrase_tree, kind_tree};
 ghost use Rattle.tp_tree.specs.Tree.{negation as negation_kind, binary as binary_kind};
 ghost use Rattle.tp_kernel.specs.Read.{formula_tree};
 ghost use Rattle.tp_check.specs.Building.{names_seen};
 ghost use Rattle.tp_check.specs.Outcome.{AnswersCheck, mapped};
-ghost use Rattle.tp_check.specs.Positions.{expr_of, place_is, state_in, negation_in, binary_in};
+ghost use Rattle.tp_check.specs.Positions.{expr_of, place_is, is_state_in, state_in, negation_in, binary_in};
 
 use crate::equation::equation;
-use crate::expression::shared_expression;
-use crate::phrases::{is_place, is_state};
-use crate::place::place;
+use crate::expression::{place, shared_expression};
+use crate::phrases::{Callable, is_place, is_state};
 use crate::refusal::CheckRefusal;
 use crate::scope::Visible;
 use std::alloc::Global;
 use std::rc::Rc;
 use tp_kernel::{Expr, Formula, becomes, gets};
 use tp_tree::{Op, Phrase};
+use tp_value::NoMemory;
 
 // The phrase has this truth value.
 fn has_value(
@@ -31,6 +31,14 @@ fn has_value(
     let expr = shared_expression(alloc, phrase, names)?;
     let value = Rc::new(alloc, Expr::Truth(value))?;
     Ok(Formula::Eq(expr, value))
+}
+
+// Whether a phrase says something of one state, and calls state definitions alone.
+fn is_state_here(phrase: &Phrase, names: &Visible) -> Result<bool, NoMemory>
+    ensures { IfOk result (λ b.
+        b ≡ is_state_in (names_seen names.now) (phrase_tree phrase.now)) }
+{
+    is_state(phrase, Callable::StatesOf(names.directory))
 }
 
 /// A phrase that is an expression: a place is true, anything else is tested.
@@ -58,7 +66,7 @@ pub fn negation(
 {
     if is_place(operand) {
         has_value(alloc, operand, false, names)
-    } else if is_state(operand) {
+    } else if is_state_here(operand, names)? {
         state(alloc, phrase, names)
     } else {
         Err(CheckRefusal::NotExecutable { at: phrase.at })
@@ -99,7 +107,7 @@ pub fn binary(
             Ok(becomes(alloc, place, expr)?)
         }
         Op::Or => {
-            if is_state(left) && is_state(right) {
+            if is_state_here(left, names)? && is_state_here(right, names)? {
                 state(alloc, phrase, names)
             } else {
                 Err(CheckRefusal::NotExecutable { at: phrase.at })

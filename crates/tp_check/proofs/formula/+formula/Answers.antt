@@ -12,7 +12,7 @@ use Rattle.tp_kernel.specs.Read.{formula_tree}
 use Rattle.tp_kernel.specs.Equations.{formula_and}
 use Rattle.tp_check.specs.Building.{formula_seen, names_seen}
 use Rattle.tp_check.specs.Outcome.{AnswersCheck, mapped}
-use Rattle.tp_check.specs.Positions.{form_refusal, formula_of, formula_of_kind, formulas_in}
+use Rattle.tp_check.specs.Positions.{refusal_of, formula_of, formula_of_kind, formulas_in}
 use Rattle.tp_check.proofs.Several.{from_here, none_made, one_made, one_is, two_are}
 use Rattle.tp_check.proofs.Sides.{form_of_others, tree_of_and, tree_of_for, tree_of_forall}
 use Rattle.tp_check.specs.declared.refusal.CheckRefusal.TheVariants.{NotExecutable}
@@ -42,7 +42,7 @@ form_formula-returns-in_default t c = λ q.
     let seen : phrase_trees c.args.operands.now ≡ phrases_of (map phrase_tree xs) = trees_are c.args.operands.now ∙ ap (λ (ys : List Phrase). phrases_of (map phrase_tree ys)) (sym c.as_slice.ensures.value) in
     let far : (length xs < 1) ⊎ (2 < length xs) = first_of (search rules, grind (arith, common_steps)) in
     ap (λ (ts : PhraseTrees). formula_of_kind (names_seen c.args.names.now) c.args.at (form c.args.form ts)) seen
-    ∙ (form_of_others (names_seen c.args.names.now) c.args.at c.args.form (map phrase_tree xs) (rw length-map far) ∙ ap Err (ap (λ (ts : PhraseTrees). form_refusal c.args.at c.args.form ts (NotExecutable c.args.at)) (sym seen) ∙ sym c.miscounted_or.ensures))
+    ∙ (form_of_others (names_seen c.args.names.now) c.args.at c.args.form (map phrase_tree xs) (rw length-map far) ∙ ap Err (ap (λ (ts : PhraseTrees). refusal_of (names_seen c.args.names.now) c.args.at (form c.args.form ts) (NotExecutable c.args.at)) (sym seen) ∙ sym (c.miscounted_or.ensures (names_seen c.args.names.now))))
 
 pub formula-returns-in_ok-formulas-in-And : goal.formula-returns-in_ok-formulas-in-And
 formula-returns-in_ok-formulas-in-And t c =
