@@ -1,7 +1,6 @@
 -- Two runs walk through the same states.
 use Rattle.std.proofs.Common.{◌≡◌, ◌⊎◌, inl, inr, ℕ, suc, ◌+◌, ◌<◌, Bool, List, [], ◌∷◌, ◌++◌, length, refl, ap, sym, ◌∙◌, subst, arith, append-nil}
 use Rattle.tp_meaning.specs.Interval.{kinds_of}
-use Rattle.tp_meaning.specs.Fits.{DefinitionsFit}
 use Rattle.tp_kernel.specs.declared.formula.LimitKind.{LimitKind}
 use Rattle.tp_kernel.specs.declared.formula.LimitKind.TheVariants as limit
 use Rattle.tp_scene.specs.declared.answer.Cell.{Cell}
@@ -50,7 +49,7 @@ no_picture ps qs e f = subst (λ (xs : List Picture). SamePictures xs qs) (sym e
 
 module _ (plan : Plan) where
   abbrev kinds : List Bool
-  kinds = kinds_of plan.names
+  kinds = kinds_of plan.program.globals
 
   abbrev Orderly : ℕ → Moment → Type 0
   Orderly n m = IsOrderly (setting plan n) kinds m
@@ -225,11 +224,8 @@ module _ (plan : Plan) where
   parts ps (Over state l) h = record { before = ps; tail = []; moment = h.0; pictures = sym (append-nil ps); leads = h.1; end = (refl, subst (λ (k : ℕ). ReachesLimit (setting plan k) plan.reductions h.0 l) h.3 h.2, h.3, subst (λ (k : ℕ). k < plan.states) h.3 h.4) }
 
   module _ (plan_orderly : IsOrderlyPlan plan) where
-    no_definitions : DefinitionsFit [] kinds
-    no_definitions = record { formula = λ p f e. absurd (cc e); expr = λ p f e. absurd (cc e) }
-
-    start : Orderly 0 (first_moment plan.names plan.main)
-    start = begins_orderly (setting plan 0) plan.names plan.main no_definitions plan_orderly.formula plan_orderly.inputs
+    start : Orderly 0 (first_moment plan.program.globals plan.program.main)
+    start = begins_orderly (setting plan 0) plan.program.globals plan.program.main plan_orderly.program.defs plan_orderly.program.main plan_orderly.inputs
 
     itself : (n : ℕ) (m : Moment) → Orderly n m → Alike (length kinds) m m
     itself n m om = (alike_is_equivalence (setting plan n) kinds).itself m om.sound
@@ -238,7 +234,7 @@ module _ (plan : Plan) where
     agree ps turn h qs other k =
         let x = parts ps turn h in
         let y = parts qs other k in
-        let m = first_moment plan.names plan.main in
+        let m = first_moment plan.program.globals plan.program.main in
         let r = walk x.before y.before 0 m m x.moment y.moment start start (itself 0 m start) x.leads y.leads (length x.before) (length y.before) (omega arith) (omega arith) x.tail turn x.end y.tail other y.end in
         (subst (λ (zs : List Picture). SamePictures zs qs) (sym x.pictures) (subst (λ (zs : List Picture). SamePictures (x.before ++ x.tail) zs) (sym y.pictures) r.0), r.1)
 
@@ -297,4 +293,4 @@ pub runs_agree : (plan : Plan) → RunsAgree plan
 runs_agree plan o ps turn h qs other k = agree plan o ps turn h qs other k
 
 pub states_agree : (plan : Plan) → StatesAgree plan
-states_agree plan o ps m h = state_agrees plan o (length ps) m (states_orderly plan o ps 0 (first_moment plan.names plan.main) m (start plan o) h (length ps) (omega arith))
+states_agree plan o ps m h = state_agrees plan o (length ps) m (states_orderly plan o ps 0 (first_moment plan.program.globals plan.program.main) m (start plan o) h (length ps) (omega arith))

@@ -1,7 +1,6 @@
 -- What every order of picks leaves of a run: its settled states, what they show, and its end.
 use Rattle.std.specs.Prelude.{◌≡◌, ℕ, ◌<◌, List, [], ◌∷◌, length}
-use Rattle.tp_meaning.specs.Interval.{kinds_of}
-use Rattle.tp_meaning.specs.Fits.{FormulaFits}
+use Rattle.tp_meaning.specs.Fits.{ProgramFits}
 use Rattle.tp_decide.specs.Read.{shows_of}
 use Rattle.tp_scene.specs.declared.answer.Cell.{Cell}
 use Rattle.tp_scene.specs.Pick.{Moment}
@@ -53,9 +52,10 @@ SameEnd globals (StateLimit states) turn = turn ≡ StateLimit states
 SameEnd globals (InputMissing state port) turn = FailsIn state turn
 SameEnd globals (Over state limit) turn = FailsIn state turn
 
--- what is asked of a plan: its formula fits its variables, and its inputs are within the limits
+-- what is asked of a plan: the parts of its program fit each other and its variables, and its
+-- inputs are within the limits
 pub record IsOrderlyPlan (plan : Plan) : Type 0 where
-  pub formula : FormulaFits [] (kinds_of plan.names) plan.main 0
+  pub program : ProgramFits plan.program
   pub inputs : InputsWithin plan.inputs
 
 -- Two runs of a plan that have an end, whatever was picked in which order, have the same pictures

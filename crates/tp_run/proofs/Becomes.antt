@@ -1,14 +1,16 @@
 -- What becomes of a state, by what its closure comes to.
 use Rattle.std.proofs.Common.{◌≡◌, ℕ, suc, ◌<◌, ◌≤◌, Bool, List, [], ◌++◌, length, Option, refl, ap, ap₂, sym, ◌∙◌, subst, arith, inl, inr}
+use Rattle.tp_kernel.specs.declared.formula.Defs.{Defs}
 use Rattle.tp_kernel.specs.declared.formula.LimitKind.{LimitKind}
 use Rattle.tp_kernel.specs.declared.formula.LimitKind.TheVariants as limit
 use Rattle.tp_meaning.specs.Syntax.{Definition}
 use Rattle.tp_meaning.specs.Inputs.{InputLines}
 use Rattle.tp_meaning.specs.Course.{Course, Shows, ◌⊕◌, shown_at}
 use Rattle.tp_meaning.specs.Interval.{kinds_of}
+use Rattle.tp_meaning.specs.Fits.{ProgramFits}
 use Rattle.tp_decide.specs.Decided.{setting_of}
 use Rattle.tp_decide.specs.Read.{shows_of}
-use Rattle.tp_store.specs.Known.{Contents}
+use Rattle.tp_store.specs.Known.{Contents, Variable}
 use Rattle.tp_scene.specs.declared.answer.Cell.{Cell}
 use Rattle.tp_scene.specs.declared.answer.Clash.{Clash}
 use Rattle.tp_scene.specs.Step.{reduces, waits, rests, clashes, misses, passes}
@@ -23,20 +25,21 @@ use Rattle.tp_step.specs.declared.answer.Tried.TheVariants as tried
 use Rattle.tp_step.specs.declared.answer.Ending.{Ending}
 use Rattle.tp_step.specs.declared.answer.Ending.TheVariants as ending
 use Rattle.tp_pass.specs.Closes.{ClosureAnswers}
+use Rattle.tp_run.specs.declared.run.Made.{Made}
 use Rattle.tp_run.specs.declared.run.Run.{Run}
 use Rattle.tp_run.specs.declared.run.Settings.{Settings}
 use Rattle.tp_run.specs.declared.run.Stand.{Stand}
+use Rattle.tp_run.specs.declared.run.Stand.TheVariants.{Open, Answered, Spent}
 use Rattle.tp_run.specs.declared.turn.Picture.{Picture}
 use Rattle.tp_run.specs.declared.turn.Turn.{Turn}
 use Rattle.tp_run.specs.declared.turn.Turn.TheVariants.{Went, Finished, Contradictory, Undetermined, StateLimit, InputMissing, Over}
-use Rattle.tp_run.specs.States.{Plan, PlanFits, globals_of, setting, IsPictureOf, StateGoesOn, StateEnds, Standing, open_at, answered, ReachesLimit, limit_moment, state_after, StateBecomes, StoreBecomes}
+use Rattle.tp_run.specs.States.{Plan, globals_of, setting, IsPictureOf, StateGoesOn, StateEnds, Standing, open_at, answered, ReachesLimit, limit_moment, state_after, StateBecomes, StoreBecomes}
 use Rattle.tp_run.specs.Meaning.{StandingFor, StandsForItsProgram, AgreesWithFacts, AnswerMeans}
-use Rattle.tp_run.specs.Runs.{stands_at, standing_of, StandIsKept, StandsSound, IsSettingsOf, IsRunOf, HasPicture, NextOf, RestTurns}
+use Rattle.tp_run.specs.Runs.{stands_at, standing_of, StandIsKept, StandIsOf, CellIsOf, TurnIsOf, MadeIsOf, StandsSound, IsSettingsOf, IsRunOf, HasPicture, NextOf, RestTurns}
 use Rattle.tp_run.proofs.StatesMean.{leads_sound, leads_keep, goes_on_says, ends_here_says, next_sound}
-use Rattle.tp_run.proofs.HistoryLemmas.{no_definitions}
 use Rattle.tp_run.proofs.Given.{scene_laws, begin_laws}
 use Rattle.tp_scene.proofs.NamedItem.{named_item_waits}
-use Rattle.tp_run.proofs.Passing.{passes_other}
+use Rattle.tp_run.proofs.KnownItems.{passes_other, clash_is_of, cell_is_of}
 
 -- with the settings of a plan a state is read as the plan does
 pub same_setting : (plan : Plan) (settings : Settings) → IsSettingsOf plan settings → setting_of settings.setting ≡ setting plan settings.setting.state
@@ -45,8 +48,8 @@ same_setting plan settings h =
     ap₂ make h.definitions h.inputs
 
 -- what a run begins with
-pub begins : (plan : Plan) → PlanFits plan → StandsForItsProgram plan (open_at (first_moment plan.names plan.main))
-begins plan fits = (begin_laws.runs_begin (setting plan 0) plan.names plan.main (no_definitions (kinds_of plan.names)) fits).stands
+pub begins : (plan : Plan) → ProgramFits plan.program → StandsForItsProgram plan (open_at (first_moment plan.program.globals plan.program.main))
+begins plan fits = (begin_laws.runs_begin (setting plan 0) plan.program.globals plan.program.main fits.defs fits.main).stands
 
 -- an answer that an item waits
 abbrev pub IsWait : Tried → Type 0
@@ -75,6 +78,22 @@ waiting_answer w kinds room m next t a sound rest e h =
     let there = named_item_waits w kinds m t sound rest e in
     waits_answered w room m next t a there.first there.other there.outcome h
 
+-- the cell that an item is found to wait for is one of variables of the store
+pub waits_named : (w : Setting) (kinds : List Bool) (room : ℕ) (m next : Moment) (t : ℕ) (a : Tried) (cell : Cell) (other : Option Cell) → IsSound w kinds m → Tries w room m t next a → a ≡ tried.Waits cell other → CellIsOf next.store.variables cell
+waits_named w kinds room m next t a cell other sound h e =
+    let answer : Tries w room m t next (tried.Waits cell other) = subst (Tries w room m t next) e h in
+    subst (λ (z : Moment). CellIsOf z.store.variables cell) (sym answer.0) (cell_is_of w kinds m sound t cell other answer.1)
+
+-- where a run goes on it has answered nothing
+pub open_named : (stand : Stand) (store : Contents) (m : Moment) → stands_at stand store ≡ open_at m → StandIsOf store.variables stand
+open_named (Open scene) store m e = tt
+open_named (Answered turn) store m e = absurd (cc)
+open_named Spent store m e = absurd (cc)
+
+-- and where it ends it has answered this
+pub end_named : (xs : List Variable) (made : Made) (turn : Turn) → made.stand ≡ Answered turn → made.turn ≡ turn → TurnIsOf xs turn → MadeIsOf xs made
+end_named xs made turn stand is h = (subst (TurnIsOf xs) (sym is) h, subst (StandIsOf xs) (sym stand) h)
+
 module _ (plan : Plan) (n : ℕ) (m last : Moment) (before after : List ℕ) where
   -- the closure of state n, which begins with m, comes to this end
   abbrev pub Comes : Ending → Type 0
@@ -95,21 +114,21 @@ module _ (plan : Plan) (n : ℕ) (m last : Moment) (before after : List ℕ) whe
         | inr y ↦ absurd (another y.0)
       ]
 
-  reductions_used : Comes (ending.Over limit.Reductions) → (end : replay.UsesUp (setting plan n) plan.reductions m) × (end.last ≡ last)
-  reductions_used h =
+  reductions_used : (kinds : List Bool) → IsSound (setting plan n) kinds last → Comes (ending.Over limit.Reductions) → (end : replay.UsesUp (setting plan n) plan.reductions m) × (end.last ≡ last)
+  reductions_used kinds sound h =
       elim h.ends [
-        | inl x ↦ absurd (passes_other (setting plan n) last x.0 limit.Reductions x.2)
+        | inl x ↦ absurd (passes_other (setting plan n) kinds last sound x.0 limit.Reductions x.2)
         | inr y ↦ (record { picks = h.made.picks; last = last; leads = h.made.leads; all = omega (arith, h.made.spent, y.1); item = y.2.1.0; reduction = y.2.0; lives = y.2.1.1; outcome = y.2.1.2 }, refl)
       ]
 
   -- the limit is reached by the closure's own picks
-  pub limit_reached : (k : LimitKind) → Comes (ending.Over k)
+  pub limit_reached : (kinds : List Bool) → IsSound (setting plan n) kinds last → (k : LimitKind) → Comes (ending.Over k)
       → (end : ReachesLimit (setting plan n) plan.reductions m k) × (limit_moment (setting plan n) plan.reductions m k end ≡ last)
-  limit_reached limit.Reductions h = reductions_used h
-  limit_reached limit.Number h = limit_passed limit.Number (λ e. cc) h
-  limit_reached limit.List h = limit_passed limit.List (λ e. cc) h
-  limit_reached limit.Calls h = limit_passed limit.Calls (λ e. cc) h
-  limit_reached limit.Nest h = limit_passed limit.Nest (λ e. cc) h
+  limit_reached kinds sound limit.Reductions h = reductions_used kinds sound h
+  limit_reached kinds sound limit.Number h = limit_passed limit.Number (λ e. cc) h
+  limit_reached kinds sound limit.List h = limit_passed limit.List (λ e. cc) h
+  limit_reached kinds sound limit.Calls h = limit_passed limit.Calls (λ e. cc) h
+  limit_reached kinds sound limit.Nest h = limit_passed limit.Nest (λ e. cc) h
 
   module _ (within : n < plan.states) (reductions : ℕ) (first : before ≡ []) (count : reductions ≡ length after) (comes : Comes ending.Rest) where
     closed : replay.Closes (setting plan n) plan.reductions m comes.made.picks last
@@ -170,6 +189,10 @@ module _ (plan : Plan) (settings : Settings) (is : IsSettingsOf plan settings) (
   state_within : n < plan.states
   state_within = omega (arith, most, is.states, more)
 
+  -- the moment that the closure leads to is read as the plan does
+  read_so : (kinds : List Bool) → IsSound (setting_of settings.setting) kinds last → IsSound (setting plan n) kinds last
+  read_so kinds sound = subst (λ (w : Setting). IsSound w kinds last) (same_setting plan settings is) sound
+
   comes_to : (end : Ending) → found ≡ end → Comes plan n m last before after end
   comes_to end e =
       subst (λ (x : Ending). ClosureAnswers (setting plan n) plan.reductions m last before after x) e
@@ -189,10 +212,15 @@ module _ (plan : Plan) (settings : Settings) (is : IsSettingsOf plan settings) (
     pub run_rests_store : StoreBecomes plan n m new store turn
     run_rests_store = rest_stores plan n m last before after state_within reductions first count (comes_to ending.Rest e) old new standing store turn turns
 
-  pub run_reaches : (k : LimitKind) (old : Picture) (standing : Standing) (turn : Turn) → found ≡ ending.Over k → standing ≡ answered (Over n k) → turn ≡ Over n k → StateBecomes plan n m old old standing turn
-  run_reaches k old standing turn e stand turn_is =
+  pub run_reaches : (kinds : List Bool) → IsSound (setting_of settings.setting) kinds last → (k : LimitKind) (old : Picture) (standing : Standing) (turn : Turn) → found ≡ ending.Over k → standing ≡ answered (Over n k) → turn ≡ Over n k → StateBecomes plan n m old old standing turn
+  run_reaches kinds sound k old standing turn e stand turn_is =
       subst (λ (t : Turn). StateBecomes plan n m old old standing t) (sym turn_is)
-      ((limit_reached plan n m last before after k (comes_to (ending.Over k) e)).0, refl, state_within, refl, stand)
+      ((limit_reached plan n m last before after kinds (read_so kinds sound) k (comes_to (ending.Over k) e)).0, refl, state_within, refl, stand)
+
+  -- a clash is one of variables of the store
+  pub run_clashes_named : (kinds : List Bool) → IsSound (setting_of settings.setting) kinds last → (clash : Clash) → found ≡ ending.Clash clash → TurnIsOf last.store.variables (Contradictory n clash)
+  run_clashes_named kinds sound clash e =
+      let comes = comes_to (ending.Clash clash) e in clash_is_of (setting plan n) kinds last (read_so kinds sound) comes.ends.0 clash comes.ends.2
 
   -- what the store holds where the closure ends before the state is at rest
   pub run_clashes_store : (clash : Clash) (picture : Picture) (turn : Turn) → found ≡ ending.Clash clash → turn ≡ Contradictory n clash → StoreBecomes plan n m picture last.store turn
@@ -205,12 +233,12 @@ module _ (plan : Plan) (settings : Settings) (is : IsSettingsOf plan settings) (
   run_misses_store port picture turn e turn_is =
       subst (λ (t : Turn). StoreBecomes plan n m picture last.store t) (sym turn_is) (input_missed plan n m last before after port (comes_to (ending.Missing port) e), refl)
 
-  pub run_reaches_store : (k : LimitKind) (picture : Picture) (turn : Turn) → found ≡ ending.Over k → turn ≡ Over n k → StoreBecomes plan n m picture last.store turn
-  run_reaches_store k picture turn e turn_is =
-      let reached = limit_reached plan n m last before after k (comes_to (ending.Over k) e) in
+  pub run_reaches_store : (kinds : List Bool) → IsSound (setting_of settings.setting) kinds last → (k : LimitKind) (picture : Picture) (turn : Turn) → found ≡ ending.Over k → turn ≡ Over n k → StoreBecomes plan n m picture last.store turn
+  run_reaches_store kinds sound k picture turn e turn_is =
+      let reached = limit_reached plan n m last before after kinds (read_so kinds sound) k (comes_to (ending.Over k) e) in
       subst (λ (t : Turn). StoreBecomes plan n m picture last.store t) (sym turn_is) (reached.0, ap (λ (z : Moment). z.store) (sym reached.1))
 
-module _ (plan : Plan) (n : ℕ) (m : Moment) (old new : Picture) (standing : Standing) (sound : IsSound (setting plan n) (kinds_of plan.names) m) where
+module _ (plan : Plan) (n : ℕ) (m : Moment) (old new : Picture) (standing : Standing) (sound : IsSound (setting plan n) (kinds_of plan.program.globals) m) where
   abbrev Becomes : Turn → Type 0
   Becomes turn = StateBecomes plan n m old new standing turn
 
@@ -222,15 +250,15 @@ module _ (plan : Plan) (n : ℕ) (m : Moment) (old new : Picture) (standing : St
 
   clash_means : (clash : Clash) → replay.MeetsClash (setting plan n) plan.reductions m clash → (s : Course) (a b : ℕ) (S : Shows) → (s a).own ≡ n → StandingFor plan n (open_at m) s a b S → ⊥
   clash_means clash w s a b S own h =
-      let here = leads_sound scene_laws (setting plan n) (kinds_of plan.names) w.picks m w.last sound w.leads in
-      let none = (begin_laws.refusals (setting plan n) (kinds_of plan.names) w.last w.item here w.lives).clash clash w.outcome in
-      none s a b S own ((leads_keep scene_laws (setting plan n) (kinds_of plan.names) w.picks m w.last sound w.leads s a b S own).0 h)
+      let here = leads_sound scene_laws (setting plan n) (kinds_of plan.program.globals) w.picks m w.last sound w.leads in
+      let none = (begin_laws.refusals (setting plan n) (kinds_of plan.program.globals) w.last w.item here w.lives).clash clash w.outcome in
+      none s a b S own ((leads_keep scene_laws (setting plan n) (kinds_of plan.program.globals) w.picks m w.last sound w.leads s a b S own).0 h)
 
   missing_means : (port : List ℕ) → replay.MissesInput (setting plan n) plan.reductions m port → (s : Course) (a b : ℕ) (S : Shows) → (s a).own ≡ n → StandingFor plan n (open_at m) s a b S → ⊥
   missing_means port w s a b S own h =
-      let here = leads_sound scene_laws (setting plan n) (kinds_of plan.names) w.picks m w.last sound w.leads in
-      let none = (begin_laws.refusals (setting plan n) (kinds_of plan.names) w.last w.item here w.lives).missing port w.outcome in
-      none s a b S own ((leads_keep scene_laws (setting plan n) (kinds_of plan.names) w.picks m w.last sound w.leads s a b S own).0 h)
+      let here = leads_sound scene_laws (setting plan n) (kinds_of plan.program.globals) w.picks m w.last sound w.leads in
+      let none = (begin_laws.refusals (setting plan n) (kinds_of plan.program.globals) w.last w.item here w.lives).missing port w.outcome in
+      none s a b S own ((leads_keep scene_laws (setting plan n) (kinds_of plan.program.globals) w.picks m w.last sound w.leads s a b S own).0 h)
 
   -- what the answer for a state says
   pub becomes_means : (turn : Turn) → Becomes turn → AnswerMeans plan n (open_at m) standing new turn
@@ -260,36 +288,61 @@ module _ (plan : Plan) (n : ℕ) (m : Moment) (old new : Picture) (standing : St
   becomes_sound (Over state limit) w = record { within = omega (arith, w.2); stands = last_sound (Over state limit) w.4 }
 
 -- the moment at which a run stands is sound
-pub sound_at : (plan : Plan) (run : Run) (m : Moment) → IsRunOf plan run → open_at m ≡ standing_of run → IsSound (setting plan run.settings.setting.state) (kinds_of plan.names) m
+pub sound_at : (plan : Plan) (run : Run) (m : Moment) → IsRunOf plan run → open_at m ≡ standing_of run → IsSound (setting plan run.settings.setting.state) (kinds_of plan.program.globals) m
 sound_at plan run m h opened = let here : StandsSound plan run.settings.setting.state (open_at m) = subst (StandsSound plan run.settings.setting.state) (sym opened) h.sound in here
 
 -- the run with another store and stand, before a state with this number
 abbrev pub moved : Run → (next : ℕ) → Contents → Stand → Run
 moved run next store stand = record {
+  program = run.program;
   settings = record { globals = run.settings.globals; limits = run.settings.limits; order = run.settings.order; setting = record run.settings.setting { state = next } };
   store = store;
   stand = stand;
 }
 
-with_stand : (plan : Plan) (run : Run) (next : ℕ) (store : Contents) (stand : Stand) → IsRunOf plan run → next ≤ plan.states → StandsSound plan next (stands_at stand store) → StandIsKept stand
+with_stand : (plan : Plan) (run : Run) (next : ℕ) (store : Contents) (stand : Stand) → IsRunOf plan run → next ≤ plan.states → StandsSound plan next (stands_at stand store) → StandIsKept stand → StandIsOf store.variables stand
     → IsRunOf plan (moved run next store stand)
-with_stand plan run next store stand h within sound kept = record {
+with_stand plan run next store stand h within sound kept named = record {
+  program = h.program;
   settings = record { inputs = h.settings.inputs; states = h.settings.states; reductions = h.settings.reductions; globals = h.settings.globals; definitions = h.settings.definitions; order = h.settings.order };
   within = within;
   sound = sound;
   kept = kept;
+  named = named;
 }
+
+-- the definitions are lent while a state is made
+abbrev pub lent : Run → (defs : Defs) → Settings
+lent run defs = record {
+  globals = run.settings.globals;
+  limits = run.settings.limits;
+  order = run.settings.order;
+  setting = record run.settings.setting { defs = defs };
+}
+
+pub lent_settings : (plan : Plan) (run : Run) (defs : Defs) → IsRunOf plan run → defs ≡ run.program.defs → IsSettingsOf plan (lent run defs)
+lent_settings plan run defs h e = subst (λ (ds : Defs). IsSettingsOf plan (lent run ds)) (sym e) h.settings
+
+-- and given back
+abbrev pub given_back : Run → (defs left : Defs) → Run
+given_back run defs left = record { program = record run.program { defs = defs }; settings = lent run left; store = run.store; stand = run.stand }
+
+pub given_back_run : (plan : Plan) (run : Run) (defs left : Defs) → IsRunOf plan run → defs ≡ run.program.defs → IsRunOf plan (given_back run defs left)
+given_back_run plan run defs left h e =
+    let whole : IsRunOf plan (given_back run run.program.defs left) =
+    record { program = h.program; settings = h.settings; within = h.within; sound = h.sound; kept = h.kept; named = h.named } in
+    subst (λ (ds : Defs). IsRunOf plan (given_back run ds left)) (sym e) whole
 
 -- what the answer for a state leaves
 module _ (plan : Plan) (run : Run) (is_run : IsRunOf plan run) (m : Moment) (opened : open_at m ≡ standing_of run) (old new : Picture) (store : Contents) (stand : Stand) (turn : Turn)
     (becomes : StateBecomes plan run.settings.setting.state m old new (stands_at stand store) turn) where
-  sound_here : IsSound (setting plan run.settings.setting.state) (kinds_of plan.names) m
+  sound_here : IsSound (setting plan run.settings.setting.state) (kinds_of plan.program.globals) m
   sound_here = sound_at plan run m is_run opened
 
   pub answer_means : AnswerMeans plan run.settings.setting.state (standing_of run) (stands_at stand store) new turn
   answer_means = subst (λ (z : Standing). AnswerMeans plan run.settings.setting.state z (stands_at stand store) new turn) opened (becomes_means plan run.settings.setting.state m old new (stands_at stand store) sound_here turn becomes)
 
-  pub run_kept : (next : ℕ) → next ≡ state_after run.settings.setting.state turn → StandIsKept stand → IsRunOf plan (moved run next store stand)
-  run_kept next e kept =
+  pub run_kept : (next : ℕ) → next ≡ state_after run.settings.setting.state turn → StandIsKept stand → StandIsOf store.variables stand → IsRunOf plan (moved run next store stand)
+  run_kept next e kept named =
       let on = becomes_sound plan run.settings.setting.state m old new (stands_at stand store) sound_here turn becomes in
-      with_stand plan run next store stand is_run (subst (λ k. k ≤ plan.states) (sym e) on.within) (subst (λ k. StandsSound plan k (stands_at stand store)) (sym e) on.stands) kept
+      with_stand plan run next store stand is_run (subst (λ k. k ≤ plan.states) (sym e) on.within) (subst (λ k. StandsSound plan k (stands_at stand store)) (sym e) on.stands) kept named

@@ -1,5 +1,6 @@
 -- The laws of scenes and of stores, as whole runs need them.
 use Rattle.tp_meaning.specs.Interval.{kinds_of}
+use Rattle.tp_meaning.specs.Fits.{ProgramFits}
 use Rattle.tp_store.proofs.States.{same_shapes_same_store, no_clash_arises}
 use Rattle.tp_store.proofs.Chosen.{has_agreeing_state, statics_extend}
 use Rattle.tp_scene.proofs.StepLaws.{steps_keep, refusals_mean}
@@ -9,10 +10,10 @@ use Rattle.tp_scene.proofs.AdvancesFit.{advances_fit}
 use Rattle.tp_scene.proofs.Begin.{runs_begin}
 use Rattle.tp_scene.specs.StandsFor.{first_moment}
 use Rattle.tp_scene.specs.Laws.{IsSound}
-use Rattle.tp_run.specs.States.{Plan, PlanFits, setting}
+use Rattle.tp_run.specs.States.{Plan, setting}
 use Rattle.tp_run.proofs.StatesMean.{SceneLaws}
 use Rattle.tp_run.proofs.Lives.{StateLaws}
-use Rattle.tp_run.proofs.HistoryLemmas.{BeginLaws, no_definitions}
+use Rattle.tp_run.proofs.HistoryLemmas.{BeginLaws}
 
 pub scene_laws : SceneLaws
 scene_laws = record {
@@ -25,8 +26,8 @@ scene_laws = record {
   below_no_clash = λ n fs apart. no_clash_arises.below n fs apart;
 }
 
-pub first_sound : (plan : Plan) → PlanFits plan → IsSound (setting plan 0) (kinds_of plan.names) (first_moment plan.names plan.main)
-first_sound plan fits = (runs_begin (setting plan 0) plan.names plan.main (no_definitions (kinds_of plan.names)) fits).sound
+pub first_sound : (plan : Plan) → ProgramFits plan.program → IsSound (setting plan 0) (kinds_of plan.program.globals) (first_moment plan.program.globals plan.program.main)
+first_sound plan fits = (runs_begin (setting plan 0) plan.program.globals plan.program.main fits.defs fits.main).sound
 
 pub begin_laws : BeginLaws
 begin_laws = record { begin_sound = first_sound; runs_begin = runs_begin; refusals = refusals_mean }

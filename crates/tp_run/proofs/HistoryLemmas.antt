@@ -1,15 +1,17 @@
 -- What whole runs say of every interval.
-use Rattle.std.proofs.Common.{◌≡◌, ◌↔◌, ℕ, suc, ◌+◌, ◌<◌, ◌≤◌, Bool, List, [], ◌∷◌, ◌++◌, length, refl, ap, sym, ◌∙◌, subst, arith, length-append}
+use Rattle.std.proofs.Common.{◌≡◌, ◌↔◌, ℕ, suc, ◌+◌, ◌<◌, ◌≤◌, List, [], ◌∷◌, ◌++◌, length, refl, ap, sym, ◌∙◌, subst, arith, length-append}
 use Rattle.std.proofs.lemmas.List.{append-nil}
 use Rattle.tp_value.specs.Tree.{Tree}
 use Rattle.tp_meaning.specs.Course.{Course, Shows, ◌⊕◌, shown_at}
 use Rattle.tp_meaning.specs.Interval.{IsInterval, kinds_of}
-use Rattle.tp_meaning.specs.Fits.{DefinitionsFit}
+use Rattle.tp_meaning.specs.Fits.{ProgramFits}
 use Rattle.tp_meaning.specs.Holds.{Holds}
 use Rattle.tp_meaning.proofs.Shows.{join-assoc as join_assoc, join-blank}
 use Rattle.tp_store.specs.Facts.{AgreesWithAll}
-use Rattle.tp_store.specs.Known.{facts_below}
+use Rattle.tp_store.specs.Known.{Contents, facts_below}
 use Rattle.tp_decide.specs.Read.{shows_of}
+use Rattle.tp_kernel.specs.declared.formula.LimitKind.{LimitKind}
+use Rattle.tp_scene.specs.declared.answer.Cell.{Cell}
 use Rattle.tp_scene.specs.declared.answer.Clash.{Clash}
 use Rattle.tp_scene.specs.Pick.{Moment, Leads}
 use Rattle.tp_scene.specs.StandsFor.{StandsFor, first_moment, context_of}
@@ -18,15 +20,15 @@ use Rattle.tp_scene.specs.Replay as replay
 use Rattle.tp_run.specs.declared.turn.Picture.{Picture}
 use Rattle.tp_run.specs.declared.turn.Turn.{Turn}
 use Rattle.tp_run.specs.declared.turn.Turn.TheVariants.{Went, Finished, Contradictory, Undetermined, StateLimit, InputMissing, Over}
-use Rattle.tp_run.specs.States.{Plan, PlanFits, globals_of, setting, StateGoesOn, StatesLead, LeadsTo, Standing, open_at, ReachesLimit, AnswersState}
-use Rattle.tp_run.specs.History.{FinishesAt, RunEndsWith, planned_program, AgreesWithPictures, shown_from, SatisfiedExactly, Satisfiable, Unsatisfiable, ContinuesEach, EndOfRunMeans, Advances, RunsAdvance}
+use Rattle.tp_run.specs.States.{Plan, globals_of, setting, StateGoesOn, StatesLead, LeadsTo, Standing, open_at, ReachesLimit, limit_moment, AnswersState, LeavesStore}
+use Rattle.tp_run.specs.History.{FinishesAt, RunEndsWith, AgreesWithPictures, shown_from, SatisfiedExactly, Satisfiable, Unsatisfiable, ContinuesEach, EndOfRunMeans, Advances, EndsHolding, RunsAdvance}
 use Rattle.tp_run.proofs.StatesMean.{SceneLaws, leads_sound, leads_keep, lead_sound, states_say, ends_here_says, picture_agrees}
 use Rattle.tp_scene.proofs.Quiet.{says_quiet}
 use Rattle.tp_run.proofs.Lives.{StateLaws, lives, Agree, agree_at, agrees_with_less, below_keeps, picks_keep}
 
 -- what else is asked of scenes: how a run begins, and what a clash and a missing input say
 pub record BeginLaws : Type 0 where
-  pub begin_sound : (plan : Plan) → PlanFits plan → IsSound (setting plan 0) (kinds_of plan.names) (first_moment plan.names plan.main)
+  pub begin_sound : (plan : Plan) → ProgramFits plan.program → IsSound (setting plan 0) (kinds_of plan.program.globals) (first_moment plan.program.globals plan.program.main)
   pub runs_begin : RunsBegin
   pub refusals : RefusalsStandForNone
 
@@ -51,36 +53,33 @@ shown_join a (p ∷ ps) qs =
     ap (λ (T : Shows). shown_at a (shows_of p.shows) ⊕ T) (shown_join (suc a) ps qs ∙ ap (λ i. shown_from (suc a) ps ⊕ shown_from i qs) place)
     ∙ sym (join_assoc (shown_at a (shows_of p.shows)) (shown_from (suc a) ps) (shown_from (length (p ∷ ps) + a) qs))
 
-pub no_definitions : (kinds : List Bool) → DefinitionsFit [] kinds
-no_definitions kinds = record { formula = λ p f e. absurd (cc); expr = λ p f e. absurd (cc) }
-
 module _ (laws : SceneLaws) (begins : BeginLaws) (stores : StateLaws) where
   -- a program's interval satisfies it where the states agree with the pictures, and what comes after them is stood for
-  pub leads_say : (plan : Plan) (ps : List Picture) (m : Moment) → PlanFits plan → LeadsTo plan ps m → (s : Course) (a b : ℕ) (S : Shows) → IsInterval (planned_program plan) s a b
-      → ((d : ℕ) × Holds (record { defs = []; inputs = plan.inputs }) d plan.main [] s a b S)
+  pub leads_say : (plan : Plan) (ps : List Picture) (m : Moment) → ProgramFits plan.program → LeadsTo plan ps m → (s : Course) (a b : ℕ) (S : Shows) → IsInterval plan.program s a b
+      → ((d : ℕ) × Holds (record { defs = plan.program.defs; inputs = plan.inputs }) d plan.program.main [] s a b S)
       ↔ ((length ps + a ≤ b) × AgreesWithPictures s a ps × ((U : Shows) × (S ≡ shown_from a ps ⊕ U) × StandsFor (setting plan (length ps)) (globals_of plan) m s (length ps + a) b U))
   leads_say plan ps m fits leads s a b S interval =
-      let begin = begins.runs_begin (setting plan 0) plan.names plan.main (no_definitions (kinds_of plan.names)) fits in
+      let begin = begins.runs_begin (setting plan 0) plan.program.globals plan.program.main fits.defs fits.main in
       let first = begin.stands s a b S in
-      let states = states_say laws plan 0 (length ps) ps (first_moment plan.names plan.main) m (omega arith) (begins.begin_sound plan fits) leads s a b (length ps + a) S refl interval.static interval.numbered in
+      let states = states_say laws plan 0 (length ps) ps (first_moment plan.program.globals plan.program.main) m (omega arith) (begins.begin_sound plan fits) leads s a b (length ps + a) S refl interval.static interval.numbered in
       (λ h. states.0 (first.1 (interval.nonempty, h)), λ h. (first.0 (states.1 h)).1)
 
-  sound_after : (plan : Plan) (ps : List Picture) (m : Moment) → PlanFits plan → LeadsTo plan ps m → IsSound (setting plan (length ps)) (kinds_of plan.names) m
-  sound_after plan ps m fits leads = lead_sound laws plan 0 (length ps) ps (first_moment plan.names plan.main) m (omega arith) (begins.begin_sound plan fits) leads
+  sound_after : (plan : Plan) (ps : List Picture) (m : Moment) → ProgramFits plan.program → LeadsTo plan ps m → IsSound (setting plan (length ps)) (kinds_of plan.program.globals) m
+  sound_after plan ps m fits leads = lead_sound laws plan 0 (length ps) ps (first_moment plan.program.globals plan.program.main) m (omega arith) (begins.begin_sound plan fits) leads
 
   -- the state after some pictures has their number
-  number_after : (plan : Plan) (ps : List Picture) (s : Course) (a b : ℕ) → IsInterval (planned_program plan) s a b → length ps + a ≤ b → (s (length ps + a)).own ≡ length ps
+  number_after : (plan : Plan) (ps : List Picture) (s : Course) (a b : ℕ) → IsInterval plan.program s a b → length ps + a ≤ b → (s (length ps + a)).own ≡ length ps
   number_after plan ps s a b interval le = interval.numbered (length ps) le ∙ omega arith
 
   -- a run that finishes
-  pub finish_says : (plan : Plan) (ps : List Picture) (n : ℕ) → PlanFits plan → FinishesAt plan ps n → SatisfiedExactly plan ps n
+  pub finish_says : (plan : Plan) (ps : List Picture) (n : ℕ) → ProgramFits plan.program → FinishesAt plan ps n → SatisfiedExactly plan ps n
   finish_says plan ps n fits w s a b S =
       let k = length w.before in
       let here = sound_after plan w.before w.moment fits w.leads in
       let G = globals_of plan in
       let last_shows : shown_from a ps ≡ shown_from a w.before ⊕ shown_at (k + a) (shows_of w.final.shows) =
       ap (shown_from a) w.pictures ∙ shown_join a w.before (w.final ∷ []) ∙ ap (λ (T : Shows). shown_from a w.before ⊕ T) (join-blank (shown_at (k + a) (shows_of w.final.shows))) in
-      let end = λ (interval : IsInterval (planned_program plan) s a b) (le : k + a ≤ b) (U : Shows). ends_here_says laws plan k w.moment w.final here w.ends s (k + a) b U (number_after plan w.before s a b interval le) in (
+      let end = λ (interval : IsInterval plan.program s a b) (le : k + a ≤ b) (U : Shows). ends_here_says laws plan k w.moment w.final here w.ends s (k + a) b U (number_after plan w.before s a b interval le) in (
         λ h.
             let interval = h.0 in
             let x = (leads_say plan w.before w.moment fits w.leads s a b S interval).0 h.1 in
@@ -104,17 +103,17 @@ module _ (laws : SceneLaws) (begins : BeginLaws) (stores : StateLaws) where
       )
 
   -- there is such an interval
-  pub finish_satisfiable : (plan : Plan) (ps : List Picture) (n : ℕ) → PlanFits plan → FinishesAt plan ps n → Satisfiable plan
+  pub finish_satisfiable : (plan : Plan) (ps : List Picture) (n : ℕ) → ProgramFits plan.program → FinishesAt plan ps n → Satisfiable plan
   finish_satisfiable plan ps n fits w =
       let k = length w.before in
-      let kinds = kinds_of plan.names in
+      let kinds = kinds_of plan.program.globals in
       let G = globals_of plan in
       let here = sound_after plan w.before w.moment fits w.leads in
       let at_end = leads_sound laws (setting plan k) kinds w.ends.picks w.moment w.ends.last here w.ends.ends.closes.leads in
       let facts = w.ends.last.store.facts in
       let v = stores.has_state w.ends.last.store.variables facts at_end.store.no_clash at_end.store.facts in
       let before = agrees_with_less w.moment.store.facts facts v.0 here.store.no_clash (λ q sh. picks_keep (setting plan k) w.ends.picks w.moment w.ends.last q sh w.ends.ends.closes.leads) v.1 in
-      let l = lives laws stores plan 0 w.before (first_moment plan.names plan.main) w.moment (begins.begin_sound plan fits) w.leads v.0 before in
+      let l = lives laws stores plan 0 w.before (first_moment plan.program.globals plan.program.main) w.moment (begins.begin_sound plan fits) w.leads v.0 before in
       let s = l.0 in
       let below = agrees_with_less (facts_below G facts) facts v.0 (laws.below_no_clash G facts at_end.store.no_clash) (below_keeps G facts at_end.store.no_clash) v.1 in
       let final = (picture_agrees laws G facts w.final.facts at_end.store.no_clash w.ends.picture_is.facts v.0).0 below in
@@ -122,7 +121,7 @@ module _ (laws : SceneLaws) (begins : BeginLaws) (stores : StateLaws) where
       let zeros : (j : ℕ) → j ≡ j + 0 = λ j. omega arith in
       let fronts = agree_at s 0 w.before (subst (λ (t : Course). Agree t w.before) (λ i j. s (zeros j i)) l.1.agree) in
       let agrees = subst (AgreesWithPictures s 0) (sym w.pictures) (agree_join s 0 w.before (w.final ∷ []) fronts last) in
-      let interval : IsInterval (planned_program plan) s 0 n = record {
+      let interval : IsInterval plan.program s 0 n = record {
         nonempty = omega arith;
         numbered = λ j h. ap (λ i. (s i).own) (sym (zeros j)) ∙ l.1.own j;
         static = λ x e i j ai ib aj jb. l.1.statics i x e ∙ sym (l.1.statics j x e);
@@ -130,26 +129,26 @@ module _ (laws : SceneLaws) (begins : BeginLaws) (stores : StateLaws) where
       (s, 0, n, shown_from 0 ps, (finish_says plan ps n fits w s 0 n (shown_from 0 ps)).1 (interval, omega arith, agrees, refl))
 
   -- where picks lead to what nothing stands for, no interval satisfies
-  none_satisfies : (plan : Plan) (ps : List Picture) (m last : Moment) (picks : List ℕ) → PlanFits plan → LeadsTo plan ps m → Leads (setting plan (length ps)) m picks last
+  none_satisfies : (plan : Plan) (ps : List Picture) (m last : Moment) (picks : List ℕ) → ProgramFits plan.program → LeadsTo plan ps m → Leads (setting plan (length ps)) m picks last
       → ((s : Course) (a b : ℕ) (S : Shows) → (s a).own ≡ length ps → StandsFor (setting plan (length ps)) (globals_of plan) last s a b S → ⊥) → Unsatisfiable plan
   none_satisfies plan ps m last picks fits leads to none s a b S h =
       let x = (leads_say plan ps m fits leads s a b S h.0).0 h.1 in
       let own = number_after plan ps s a b h.0 x.0 in
-      none s (length ps + a) b x.2.0 own ((leads_keep laws (setting plan (length ps)) (kinds_of plan.names) picks m last (sound_after plan ps m fits leads) to s (length ps + a) b x.2.0 own).0 x.2.2)
+      none s (length ps + a) b x.2.0 own ((leads_keep laws (setting plan (length ps)) (kinds_of plan.program.globals) picks m last (sound_after plan ps m fits leads) to s (length ps + a) b x.2.0 own).0 x.2.2)
 
-  pub clash_says : (plan : Plan) (ps : List Picture) (m : Moment) (n : ℕ) (clash : Clash) → n ≡ length ps → PlanFits plan → LeadsTo plan ps m → replay.MeetsClash (setting plan n) plan.reductions m clash → Unsatisfiable plan
+  pub clash_says : (plan : Plan) (ps : List Picture) (m : Moment) (n : ℕ) (clash : Clash) → n ≡ length ps → ProgramFits plan.program → LeadsTo plan ps m → replay.MeetsClash (setting plan n) plan.reductions m clash → Unsatisfiable plan
   clash_says plan ps m n clash e fits leads h =
       let w : replay.MeetsClash (setting plan (length ps)) plan.reductions m clash = subst (λ i. replay.MeetsClash (setting plan i) plan.reductions m clash) e h in
-      let here = leads_sound laws (setting plan (length ps)) (kinds_of plan.names) w.picks m w.last (sound_after plan ps m fits leads) w.leads in
-      none_satisfies plan ps m w.last w.picks fits leads w.leads ((begins.refusals (setting plan (length ps)) (kinds_of plan.names) w.last w.item here w.lives).clash clash w.outcome)
+      let here = leads_sound laws (setting plan (length ps)) (kinds_of plan.program.globals) w.picks m w.last (sound_after plan ps m fits leads) w.leads in
+      none_satisfies plan ps m w.last w.picks fits leads w.leads ((begins.refusals (setting plan (length ps)) (kinds_of plan.program.globals) w.last w.item here w.lives).clash clash w.outcome)
 
-  pub missing_says : (plan : Plan) (ps : List Picture) (m : Moment) (n : ℕ) (port : List ℕ) → n ≡ length ps → PlanFits plan → LeadsTo plan ps m → replay.MissesInput (setting plan n) plan.reductions m port → Unsatisfiable plan
+  pub missing_says : (plan : Plan) (ps : List Picture) (m : Moment) (n : ℕ) (port : List ℕ) → n ≡ length ps → ProgramFits plan.program → LeadsTo plan ps m → replay.MissesInput (setting plan n) plan.reductions m port → Unsatisfiable plan
   missing_says plan ps m n port e fits leads h =
       let w : replay.MissesInput (setting plan (length ps)) plan.reductions m port = subst (λ i. replay.MissesInput (setting plan i) plan.reductions m port) e h in
-      let here = leads_sound laws (setting plan (length ps)) (kinds_of plan.names) w.picks m w.last (sound_after plan ps m fits leads) w.leads in
-      none_satisfies plan ps m w.last w.picks fits leads w.leads ((begins.refusals (setting plan (length ps)) (kinds_of plan.names) w.last w.item here w.lives).missing port w.outcome)
+      let here = leads_sound laws (setting plan (length ps)) (kinds_of plan.program.globals) w.picks m w.last (sound_after plan ps m fits leads) w.leads in
+      none_satisfies plan ps m w.last w.picks fits leads w.leads ((begins.refusals (setting plan (length ps)) (kinds_of plan.program.globals) w.last w.item here w.lives).missing port w.outcome)
 
-  pub continues_each : (plan : Plan) (ps : List Picture) (m : Moment) → PlanFits plan → LeadsTo plan ps m → ContinuesEach plan ps
+  pub continues_each : (plan : Plan) (ps : List Picture) (m : Moment) → ProgramFits plan.program → LeadsTo plan ps m → ContinuesEach plan ps
   continues_each plan ps m fits leads s a b S h =
       let x = (leads_say plan ps m fits leads s a b S h.0).0 h.1 in
       let here = sound_after plan ps m fits leads in
@@ -158,7 +157,7 @@ module _ (laws : SceneLaws) (begins : BeginLaws) (stores : StateLaws) where
       (x.0, x.1, λ j less. ap (λ (T : Shows). T j) x.2.1 ∙ ap (λ vs. shown_from a ps j ++ vs) (silent j less) ∙ append-nil (shown_from a ps j))
 
   -- What the end of a run says of every interval.
-  pub end_means : (plan : Plan) → PlanFits plan → (ps : List Picture) (turn : Turn) → RunEndsWith plan ps turn → EndOfRunMeans plan ps turn
+  pub end_means : (plan : Plan) → ProgramFits plan.program → (ps : List Picture) (turn : Turn) → RunEndsWith plan ps turn → EndOfRunMeans plan ps turn
   end_means plan fits ps Went w = tt
   end_means plan fits ps (Finished n) w = (finish_says plan ps n fits w, finish_satisfiable plan ps n fits w)
   end_means plan fits ps (Contradictory state clash) w = clash_says plan ps w.0 state clash w.3 fits w.1 w.2
@@ -178,7 +177,7 @@ advance_by : (plan : Plan) (ps : List Picture) (m : Moment) → LeadsTo plan ps 
     → AnswersState plan (open_at m) (length ps) old new standing next turn → Advances plan ps old new standing next turn
 advance_by plan ps m leads old new standing next Went w =
     let g = w.0.1 in
-    (w.0.0, w.0.2, lead_more plan 0 (first_moment plan.names plan.main) ps m (length ps) new w.0.0 (omega arith) leads g, w.1 ∙ omega (arith, length-append ps (new ∷ [])), g.picture_is.state)
+    (w.0.0, w.0.2, lead_more plan 0 (first_moment plan.program.globals plan.program.main) ps m (length ps) new w.0.0 (omega arith) leads g, w.1 ∙ omega (arith, length-append ps (new ∷ [])), g.picture_is.state)
 advance_by plan ps m leads old new standing next (Finished n) w =
     (record { before = ps; final = new; moment = m; pictures = refl; leads = leads; ends = w.0.0; count = w.0.1 }, w.0.0.picture_is.state)
 advance_by plan ps m leads old new standing next (Contradictory state clash) w =
@@ -191,5 +190,44 @@ advance_by plan ps m leads old new standing next (InputMissing state port) w =
 advance_by plan ps m leads old new standing next (Over state limit) w =
     let e = w.0.1 in ((m, leads, subst (λ i. ReachesLimit (setting plan i) plan.reductions m limit) (sym e) w.0.0, e, subst (λ i. i < plan.states) (sym e) w.0.2), w.0.3)
 
+-- an end of state n with what it leads to, told of another name of n
+module _ (plan : Plan) (k n : ℕ) (e : k ≡ n) (m : Moment) where
+  meets_there : (clash : Clash) (h : replay.MeetsClash (setting plan k) plan.reductions m clash) → (g : replay.MeetsClash (setting plan n) plan.reductions m clash) × (h.last ≡ g.last)
+  meets_there clash h = subst (λ i. (g : replay.MeetsClash (setting plan i) plan.reductions m clash) × (h.last ≡ g.last)) e (h, refl)
+
+  opens_there : (cell : Cell) (h : replay.IsOpen (setting plan k) plan.reductions m cell) → (g : replay.IsOpen (setting plan n) plan.reductions m cell) × (h.last ≡ g.last)
+  opens_there cell h = subst (λ i. (g : replay.IsOpen (setting plan i) plan.reductions m cell) × (h.last ≡ g.last)) e (h, refl)
+
+  misses_there : (port : List ℕ) (h : replay.MissesInput (setting plan k) plan.reductions m port) → (g : replay.MissesInput (setting plan n) plan.reductions m port) × (h.last ≡ g.last)
+  misses_there port h = subst (λ i. (g : replay.MissesInput (setting plan i) plan.reductions m port) × (h.last ≡ g.last)) e (h, refl)
+
+  reaches_there : (limit : LimitKind) (h : ReachesLimit (setting plan k) plan.reductions m limit)
+      → (g : ReachesLimit (setting plan n) plan.reductions m limit) × (limit_moment (setting plan k) plan.reductions m limit h ≡ limit_moment (setting plan n) plan.reductions m limit g)
+  reaches_there limit h =
+      subst (λ i. (g : ReachesLimit (setting plan i) plan.reductions m limit) × (limit_moment (setting plan k) plan.reductions m limit h ≡ limit_moment (setting plan i) plan.reductions m limit g)) e (h, refl)
+
+holds_by : (plan : Plan) (ps : List Picture) (m : Moment) → LeadsTo plan ps m → (old new : Picture) (standing : Standing) (next : ℕ) (turn : Turn) → AnswersState plan (open_at m) (length ps) old new standing next turn
+    → (before after : Contents) → LeavesStore plan (open_at m) (length ps) new before after turn → EndsHolding plan ps new turn after
+holds_by plan ps m leads old new standing next Went w before after h = tt
+holds_by plan ps m leads old new standing next (Finished n) w before after h =
+    (record { before = ps; final = new; moment = m; pictures = refl; leads = leads; ends = h.0; count = w.0.1 }, h.1)
+holds_by plan ps m leads old new standing next (Contradictory state clash) w before after h =
+    let e = w.0.1 in
+    let g = meets_there plan (length ps) state (sym e) m clash h.0 in
+    ((m, leads, g.0, e, subst (λ i. i < plan.states) (sym e) w.0.2), h.1 ∙ ap (λ (z : Moment). z.store) g.1)
+holds_by plan ps m leads old new standing next (Undetermined state cell) w before after h =
+    let e = w.0.1 in
+    let g = opens_there plan (length ps) state (sym e) m cell h.0 in
+    ((m, leads, g.0, e, subst (λ i. i < plan.states) (sym e) w.0.2), h.1 ∙ ap (λ (z : Moment). z.store) g.1)
+holds_by plan ps m leads old new standing next (StateLimit states) w before after h = ((m, leads, w.0.1, w.0.1 ∙ w.0.0), h)
+holds_by plan ps m leads old new standing next (InputMissing state port) w before after h =
+    let e = w.0.1 in
+    let g = misses_there plan (length ps) state (sym e) m port h.0 in
+    ((m, leads, g.0, e, subst (λ i. i < plan.states) (sym e) w.0.2), h.1 ∙ ap (λ (z : Moment). z.store) g.1)
+holds_by plan ps m leads old new standing next (Over state limit) w before after h =
+    let e = w.0.1 in
+    let g = reaches_there plan (length ps) state (sym e) m limit h.0 in
+    ((m, leads, g.0, e, subst (λ i. i < plan.states) (sym e) w.0.2), h.1 ∙ ap (λ (z : Moment). z.store) g.1)
+
 pub runs_advance : (plan : Plan) → RunsAdvance plan
-runs_advance plan = record { begins = refl; goes_on = advance_by plan }
+runs_advance plan = record { begins = refl; goes_on = advance_by plan; holds = holds_by plan }

@@ -2,8 +2,8 @@ pub mod StatesMean
 pub mod Lives
 pub mod HistoryLemmas
 pub mod Given
-pub mod Sparing
-pub mod Passing
+pub mod KnownValues
+pub mod KnownItems
 pub mod FactOrder
 pub mod Becomes
 pub mod Stores

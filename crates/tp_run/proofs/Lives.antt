@@ -100,27 +100,27 @@ after_of n u v ps p t e (suc j) le = e j (omega arith)
 
 module _ (laws : SceneLaws) (stores : StateLaws) where
   -- the facts of static variables that a state's end keeps are kept from then on
-  next_keeps : (plan : Plan) (n : ℕ) (m next : Moment) (p : Picture) → IsSound (setting plan n) (kinds_of plan.names) m → (g : StateGoesOn plan n m p next) → Keeps (lasting_facts g.last.store.facts) next.store.facts
+  next_keeps : (plan : Plan) (n : ℕ) (m next : Moment) (p : Picture) → IsSound (setting plan n) (kinds_of plan.program.globals) m → (g : StateGoesOn plan n m p next) → Keeps (lasting_facts g.last.store.facts) next.store.facts
   next_keeps plan n m next p sound g q sh h = g.goes.store.kept q ∙ h
 
   -- and by the last moment of all
-  lead_keeps : (plan : Plan) (n : ℕ) (ps : List Picture) (m last : Moment) → IsSound (setting plan n) (kinds_of plan.names) m → StatesLead plan n m ps last
+  lead_keeps : (plan : Plan) (n : ℕ) (ps : List Picture) (m last : Moment) → IsSound (setting plan n) (kinds_of plan.program.globals) m → StatesLead plan n m ps last
       → (q : Path) (sh : Shape) → q.var.lasting ≡ true → kept_shape m.store.facts q ≡ Some sh → kept_shape last.store.facts q ≡ Some sh
   lead_keeps plan n [] m last sound h q sh static k = subst (λ (z : Moment). kept_shape z.store.facts q ≡ Some sh) (sym h) k
   lead_keeps plan n (p ∷ ps) m last sound h q sh static k =
       let g = h.1 in
-      let here = leads_sound laws (setting plan n) (kinds_of plan.names) g.picks m g.last sound g.goes.closes.leads in
+      let here = leads_sound laws (setting plan n) (kinds_of plan.program.globals) g.picks m g.last sound g.goes.closes.leads in
       let at_end = picks_keep (setting plan n) g.picks m g.last q sh g.goes.closes.leads k in
       let static_at = static_kept g.last.store.facts q sh (stores.lasting_no_clash g.last.store.facts here.store.no_clash) static at_end in
       lead_keeps plan (suc n) ps h.0 last (next_sound laws plan n m h.0 p sound g (suc n)) h.2 q sh static (next_keeps plan n m h.0 p sound g q sh static_at)
 
   -- Values that agree with what the moment after some states keeps are the static ones of states that agree with the pictures.
-  pub lives : (plan : Plan) (n : ℕ) (ps : List Picture) (m last : Moment) → IsSound (setting plan n) (kinds_of plan.names) m → StatesLead plan n m ps last
-      → (v : ℕ → Tree) → AgreesWithAll v last.store.facts → (s : Course) × Lives (kinds_of plan.names) n ps v s
+  pub lives : (plan : Plan) (n : ℕ) (ps : List Picture) (m last : Moment) → IsSound (setting plan n) (kinds_of plan.program.globals) m → StatesLead plan n m ps last
+      → (v : ℕ → Tree) → AgreesWithAll v last.store.facts → (s : Course) × Lives (kinds_of plan.program.globals) n ps v s
   lives plan n [] m last sound h v agrees = ((λ j. state_with (j + n) v), record { own = λ j. refl; agree = tt; statics = λ j x e. refl; after = λ j le. refl })
   lives plan n (p ∷ ps) m last sound h v agrees =
       let g = h.1 in
-      let kinds = kinds_of plan.names in
+      let kinds = kinds_of plan.program.globals in
       let here = leads_sound laws (setting plan n) kinds g.picks m g.last sound g.goes.closes.leads in
       let facts = g.last.store.facts in
       let static : List Fact = lasting_facts facts in

@@ -74,13 +74,13 @@ module _ (laws : SceneLaws) where
       )
 
   -- one state that goes on
-  pub goes_on_says : (plan : Plan) (n : ℕ) (m next : Moment) (p : Picture) → IsSound (setting plan n) (kinds_of plan.names) m → StateGoesOn plan n m p next
-      → (s : Course) (a b : ℕ) (S : Shows) → KeepsStatics (kinds_of plan.names) s a b → (s a).own ≡ n
+  pub goes_on_says : (plan : Plan) (n : ℕ) (m next : Moment) (p : Picture) → IsSound (setting plan n) (kinds_of plan.program.globals) m → StateGoesOn plan n m p next
+      → (s : Course) (a b : ℕ) (S : Shows) → KeepsStatics (kinds_of plan.program.globals) s a b → (s a).own ≡ n
       → StandsFor (setting plan n) (globals_of plan) m s a b S
       ↔ ((a < b) × AgreesWithFacts s a p.facts × ((U : Shows) × (S ≡ shown_at a (shows_of p.shows) ⊕ U) × StandsFor (setting plan (suc n)) (globals_of plan) next s (suc a) b U))
   goes_on_says plan n m next p sound g s a b S static own =
       let w = setting plan n in
-      let kinds = kinds_of plan.names in
+      let kinds = kinds_of plan.program.globals in
       let here = leads_sound w kinds g.picks m g.last sound g.goes.closes.leads in
       let keep = leads_keep w kinds g.picks m g.last sound g.goes.closes.leads s a b S own in
       let go = laws.advances_keep w kinds g.last next here g.goes.settles g.goes.scene g.goes.store s a b S static in
@@ -92,12 +92,12 @@ module _ (laws : SceneLaws) where
       )
 
   -- one that ends the interval
-  pub ends_here_says : (plan : Plan) (n : ℕ) (m : Moment) (p : Picture) → IsSound (setting plan n) (kinds_of plan.names) m → StateEnds plan n m p
+  pub ends_here_says : (plan : Plan) (n : ℕ) (m : Moment) (p : Picture) → IsSound (setting plan n) (kinds_of plan.program.globals) m → StateEnds plan n m p
       → (s : Course) (a b : ℕ) (S : Shows) → (s a).own ≡ n
       → StandsFor (setting plan n) (globals_of plan) m s a b S ↔ ((a ≡ b) × AgreesWithFacts s a p.facts × (S ≡ shown_at a (shows_of p.shows)))
   ends_here_says plan n m p sound g s a b S own =
       let w = setting plan n in
-      let kinds = kinds_of plan.names in
+      let kinds = kinds_of plan.program.globals in
       let here = leads_sound w kinds g.picks m g.last sound g.ends.closes.leads in
       let keep = leads_keep w kinds g.picks m g.last sound g.ends.closes.leads s a b S own in
       let end = laws.ends_stand w kinds g.last here g.ends.settles s a b S in
@@ -107,20 +107,20 @@ module _ (laws : SceneLaws) where
         λ h. keep.1 (end.1 (h.0, facts.1 h.1, h.2 ∙ shows)),
       )
 
-  pub next_sound : (plan : Plan) (n : ℕ) (m next : Moment) (p : Picture) → IsSound (setting plan n) (kinds_of plan.names) m → StateGoesOn plan n m p next → (own : ℕ) → IsSound (setting plan own) (kinds_of plan.names) next
+  pub next_sound : (plan : Plan) (n : ℕ) (m next : Moment) (p : Picture) → IsSound (setting plan n) (kinds_of plan.program.globals) m → StateGoesOn plan n m p next → (own : ℕ) → IsSound (setting plan own) (kinds_of plan.program.globals) next
   next_sound plan n m next p sound g own =
       let w = setting plan n in
-      laws.advances_sound w (kinds_of plan.names) g.last next (leads_sound w (kinds_of plan.names) g.picks m g.last sound g.goes.closes.leads) g.goes.settles g.goes.scene g.goes.store own
+      laws.advances_sound w (kinds_of plan.program.globals) g.last next (leads_sound w (kinds_of plan.program.globals) g.picks m g.last sound g.goes.closes.leads) g.goes.settles g.goes.scene g.goes.store own
 
-  pub lead_sound : (plan : Plan) (n k : ℕ) (ps : List Picture) (m last : Moment) → k ≡ length ps + n → IsSound (setting plan n) (kinds_of plan.names) m → StatesLead plan n m ps last → IsSound (setting plan k) (kinds_of plan.names) last
+  pub lead_sound : (plan : Plan) (n k : ℕ) (ps : List Picture) (m last : Moment) → k ≡ length ps + n → IsSound (setting plan n) (kinds_of plan.program.globals) m → StatesLead plan n m ps last → IsSound (setting plan k) (kinds_of plan.program.globals) last
   lead_sound plan n k [] m last e sound h =
       let same : n ≡ k = omega (arith, e) in
-      subst (λ i. IsSound (setting plan i) (kinds_of plan.names) last) same (subst (IsSound (setting plan n) (kinds_of plan.names)) (sym h) sound)
+      subst (λ i. IsSound (setting plan i) (kinds_of plan.program.globals) last) same (subst (IsSound (setting plan n) (kinds_of plan.program.globals)) (sym h) sound)
   lead_sound plan n k (p ∷ ps) m last e sound h = lead_sound plan (suc n) k ps h.0 last (omega (arith, e)) (next_sound plan n m h.0 p sound h.1 (suc n)) h.2
 
   -- several states
-  pub states_say : (plan : Plan) (n k : ℕ) (ps : List Picture) (m last : Moment) → k ≡ length ps + n → IsSound (setting plan n) (kinds_of plan.names) m → StatesLead plan n m ps last
-      → (s : Course) (a b c : ℕ) (S : Shows) → c ≡ length ps + a → KeepsStatics (kinds_of plan.names) s a b → Numbered n s a b
+  pub states_say : (plan : Plan) (n k : ℕ) (ps : List Picture) (m last : Moment) → k ≡ length ps + n → IsSound (setting plan n) (kinds_of plan.program.globals) m → StatesLead plan n m ps last
+      → (s : Course) (a b c : ℕ) (S : Shows) → c ≡ length ps + a → KeepsStatics (kinds_of plan.program.globals) s a b → Numbered n s a b
       → StandsFor (setting plan n) (globals_of plan) m s a b S
       ↔ ((c ≤ b) × AgreesWithPictures s a ps × ((U : Shows) × (S ≡ shown_from a ps ⊕ U) × StandsFor (setting plan k) (globals_of plan) last s c b U))
   states_say plan n k [] m last e sound h s a b c S at static numbered =
@@ -139,7 +139,7 @@ module _ (laws : SceneLaws) where
       let place : c ≡ length ps + suc a = omega (arith, at) in
       let number : k ≡ length ps + suc n = omega (arith, e) in
       let later = next_sound plan n m h.0 p sound h.1 (suc n) in
-      let rest = λ (U : Shows). states_say plan (suc n) k ps h.0 last number later h.2 s (suc a) b c U place (later_statics (kinds_of plan.names) s a b static) (later_numbers n s a b numbered) in
+      let rest = λ (U : Shows). states_say plan (suc n) k ps h.0 last number later h.2 s (suc a) b c U place (later_statics (kinds_of plan.program.globals) s a b static) (later_numbers n s a b numbered) in
       let one = λ (le : a ≤ b). goes_on_says plan n m h.0 p sound h.1 s a b S static (first_number n s a b numbered le) in (
         λ g.
             let x = (one g.in_order).0 g in

@@ -1,7 +1,9 @@
 -- Whole runs: the states that were settled, the end, and what it says of every interval.
 use Rattle.std.specs.Prelude.{◌≡◌, ◌↔◌, ℕ, suc, ◌+◌, ◌≤◌, ◌<◌, List, [], ◌∷◌, ◌++◌, length}
 use Rattle.tp_meaning.specs.Course.{Course, Shows, blank, ◌⊕◌, shown_at}
-use Rattle.tp_meaning.specs.Interval.{ProgramTree, IsInterval, Satisfies}
+use Rattle.tp_meaning.specs.Interval.{IsInterval, Satisfies}
+use Rattle.tp_meaning.specs.Fits.{ProgramFits}
+use Rattle.tp_store.specs.Known.{Contents}
 use Rattle.tp_decide.specs.Read.{shows_of}
 use Rattle.tp_scene.specs.Pick.{Moment}
 use Rattle.tp_scene.specs.StandsFor.{first_moment}
@@ -9,7 +11,7 @@ use Rattle.tp_scene.specs.Replay as replay
 use Rattle.tp_run.specs.declared.turn.Picture.{Picture}
 use Rattle.tp_run.specs.declared.turn.Turn.{Turn}
 use Rattle.tp_run.specs.declared.turn.Turn.TheVariants.{Went, Finished, Contradictory, Undetermined, StateLimit, InputMissing, Over}
-use Rattle.tp_run.specs.States.{Plan, PlanFits, setting, StateEnds, LeadsTo, Standing, open_at, ReachesLimit, AnswersState}
+use Rattle.tp_run.specs.States.{Plan, setting, StateEnds, LeadsTo, Standing, open_at, ReachesLimit, limit_moment, AnswersState, LeavesStore}
 use Rattle.tp_run.specs.Meaning.{AgreesWithFacts}
 
 pub record FinishesAt (plan : Plan) (ps : List Picture) (n : ℕ) : Type 0 where
@@ -32,9 +34,15 @@ RunEndsWith plan ps (StateLimit states) = (m : Moment) × LeadsTo plan ps m × (
 RunEndsWith plan ps (InputMissing state port) = (m : Moment) × LeadsTo plan ps m × replay.MissesInput (setting plan state) plan.reductions m port × (state ≡ length ps) × (state < plan.states)
 RunEndsWith plan ps (Over state limit) = (m : Moment) × LeadsTo plan ps m × ReachesLimit (setting plan state) plan.reductions m limit × (state ≡ length ps) × (state < plan.states)
 
--- the program that is run
-abbrev pub planned_program : Plan → ProgramTree
-planned_program plan = record { defs = []; main = plan.main; globals = plan.names }
+-- What the run's store holds at the end: what the picks of its last state led to, or, where this state isn't begun, what it would begin with.
+abbrev pub end_store : (plan : Plan) (ps : List Picture) (turn : Turn) → RunEndsWith plan ps turn → Contents
+end_store plan ps Went end = absurd end
+end_store plan ps (Finished n) end = end.ends.last.store
+end_store plan ps (Contradictory state clash) end = end.2.last.store
+end_store plan ps (Undetermined state cell) end = end.2.last.store
+end_store plan ps (StateLimit states) end = end.0.store
+end_store plan ps (InputMissing state port) end = end.2.last.store
+end_store plan ps (Over state limit) end = (limit_moment (setting plan state) plan.reductions end.0 limit end.2).store
 
 -- each state from position a on agrees with the picture of its turn
 abbrev pub AgreesWithPictures : Course → ℕ → List Picture → Type 0
@@ -50,19 +58,19 @@ shown_from a (p ∷ ps) = shown_at a (shows_of p.shows) ⊕ shown_from (suc a) p
 -- pictures show.
 abbrev pub SatisfiedExactly : Plan → List Picture → ℕ → Type 0
 SatisfiedExactly plan ps n = (s : Course) (a b : ℕ) (S : Shows)
-    → Satisfies (planned_program plan) plan.inputs s a b S ↔ (IsInterval (planned_program plan) s a b × (b ≡ n + a) × AgreesWithPictures s a ps × (S ≡ shown_from a ps))
+    → Satisfies plan.program plan.inputs s a b S ↔ (IsInterval plan.program s a b × (b ≡ n + a) × AgreesWithPictures s a ps × (S ≡ shown_from a ps))
 
 -- there is an interval that satisfies the program
 abbrev pub Satisfiable : Plan → Type 0
-Satisfiable plan = (s : Course) × (a : ℕ) × (b : ℕ) × (S : Shows) × Satisfies (planned_program plan) plan.inputs s a b S
+Satisfiable plan = (s : Course) × (a : ℕ) × (b : ℕ) × (S : Shows) × Satisfies plan.program plan.inputs s a b S
 
 -- no interval satisfies it
 abbrev pub Unsatisfiable : Plan → Type 0
-Unsatisfiable plan = (s : Course) (a b : ℕ) (S : Shows) → Satisfies (planned_program plan) plan.inputs s a b S → ⊥
+Unsatisfiable plan = (s : Course) (a b : ℕ) (S : Shows) → Satisfies plan.program plan.inputs s a b S → ⊥
 
 -- each interval that satisfies it begins with states that agree with the pictures, shows there what these show, and has more states than these
 abbrev pub ContinuesEach : Plan → List Picture → Type 0
-ContinuesEach plan ps = (s : Course) (a b : ℕ) (S : Shows) → Satisfies (planned_program plan) plan.inputs s a b S
+ContinuesEach plan ps = (s : Course) (a b : ℕ) (S : Shows) → Satisfies plan.program plan.inputs s a b S
     → (length ps + a ≤ b) × AgreesWithPictures s a ps × ((j : ℕ) → j < length ps + a → S j ≡ shown_from a ps j)
 
 -- what the end of a run says of every interval
@@ -86,12 +94,25 @@ Advances plan ps old new standing next (StateLimit states) = RunEndsWith plan ps
 Advances plan ps old new standing next (InputMissing state port) = RunEndsWith plan ps (InputMissing state port) × (new ≡ old)
 Advances plan ps old new standing next (Over state limit) = RunEndsWith plan ps (Over state limit) × (new ≡ old)
 
--- A run begins with no settled state, and each answer advances it.
+-- Where this answer is the end of a run whose settled states have these pictures, the last of them where it finishes, the run ends so that its
+-- store holds this.
+abbrev pub EndsHolding : Plan → List Picture → (last : Picture) → Turn → Contents → Type 0
+EndsHolding plan ps last Went store = Unit {0}
+EndsHolding plan ps last (Finished n) store = (end : RunEndsWith plan (ps ++ last ∷ []) (Finished n)) × (store ≡ end_store plan (ps ++ last ∷ []) (Finished n) end)
+EndsHolding plan ps last (Contradictory state clash) store = (end : RunEndsWith plan ps (Contradictory state clash)) × (store ≡ end_store plan ps (Contradictory state clash) end)
+EndsHolding plan ps last (Undetermined state cell) store = (end : RunEndsWith plan ps (Undetermined state cell)) × (store ≡ end_store plan ps (Undetermined state cell) end)
+EndsHolding plan ps last (StateLimit states) store = (end : RunEndsWith plan ps (StateLimit states)) × (store ≡ end_store plan ps (StateLimit states) end)
+EndsHolding plan ps last (InputMissing state port) store = (end : RunEndsWith plan ps (InputMissing state port)) × (store ≡ end_store plan ps (InputMissing state port) end)
+EndsHolding plan ps last (Over state limit) store = (end : RunEndsWith plan ps (Over state limit)) × (store ≡ end_store plan ps (Over state limit) end)
+
+-- A run begins with no settled state, each answer advances it, and at the end its store holds what was known then.
 pub record RunsAdvance (plan : Plan) : Type 0 where
-  pub begins : LeadsTo plan [] (first_moment plan.names plan.main)
+  pub begins : LeadsTo plan [] (first_moment plan.program.globals plan.program.main)
   pub goes_on : (ps : List Picture) (m : Moment) → LeadsTo plan ps m → (old new : Picture) (standing : Standing) (next : ℕ) (turn : Turn)
       → AnswersState plan (open_at m) (length ps) old new standing next turn → Advances plan ps old new standing next turn
+  pub holds : (ps : List Picture) (m : Moment) → LeadsTo plan ps m → (old new : Picture) (standing : Standing) (next : ℕ) (turn : Turn)
+      → AnswersState plan (open_at m) (length ps) old new standing next turn → (before after : Contents) → LeavesStore plan (open_at m) (length ps) new before after turn → EndsHolding plan ps new turn after
 
--- The end of each run of a formula that fits its variables says of every interval what `EndOfRunMeans` has.
+-- The end of each run of a program whose parts fit each other and its variables says of every interval what `EndOfRunMeans` has.
 abbrev pub RunsMean : Plan → Type 0
-RunsMean plan = PlanFits plan → (ps : List Picture) (turn : Turn) → RunEndsWith plan ps turn → EndOfRunMeans plan ps turn
+RunsMean plan = ProgramFits plan.program → (ps : List Picture) (turn : Turn) → RunEndsWith plan ps turn → EndOfRunMeans plan ps turn

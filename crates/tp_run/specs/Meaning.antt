@@ -20,7 +20,7 @@ StandingFor plan n spent s a b S = ⊥
 
 -- before its first state a run stands for exactly the intervals on which the formula holds, with what is shown on them
 abbrev pub StandsForItsProgram : Plan → Standing → Type 0
-StandsForItsProgram plan standing = (s : Course) (a b : ℕ) (S : Shows) → StandingFor plan 0 standing s a b S ↔ ((a ≤ b) × ((d : ℕ) × Holds (context_of (setting plan 0)) d plan.main [] s a b S))
+StandsForItsProgram plan standing = (s : Course) (a b : ℕ) (S : Shows) → StandingFor plan 0 standing s a b S ↔ ((a ≤ b) × ((d : ℕ) × Holds (context_of (setting plan 0)) d plan.program.main [] s a b S))
 
 -- the state agrees with each fact
 abbrev pub AgreesWithFacts : Course → ℕ → List Fact → Type 0
@@ -33,11 +33,11 @@ AgreesWithFacts s a facts = AgreesWithAll (s a).values facts
 -- an input was missing, it stood for none.
 abbrev pub AnswerMeans : Plan → ℕ → Standing → Standing → Picture → Turn → Type 0
 AnswerMeans plan n (open_at m) new picture Went =
-    (s : Course) (a b : ℕ) (S : Shows) → KeepsStatics (kinds_of plan.names) s a b → (s a).own ≡ n
+    (s : Course) (a b : ℕ) (S : Shows) → KeepsStatics (kinds_of plan.program.globals) s a b → (s a).own ≡ n
     → StandingFor plan n (open_at m) s a b S
     ↔ ((a < b) × AgreesWithFacts s a picture.facts × ((U : Shows) × (S ≡ shown_at a (shows_of picture.shows) ⊕ U) × StandingFor plan (suc n) new s (suc a) b U))
 AnswerMeans plan n (open_at m) new picture (Finished length) =
-    (s : Course) (a b : ℕ) (S : Shows) → KeepsStatics (kinds_of plan.names) s a b → (s a).own ≡ n
+    (s : Course) (a b : ℕ) (S : Shows) → KeepsStatics (kinds_of plan.program.globals) s a b → (s a).own ≡ n
     → StandingFor plan n (open_at m) s a b S ↔ ((a ≡ b) × AgreesWithFacts s a picture.facts × (S ≡ shown_at a (shows_of picture.shows)))
 AnswerMeans plan n (open_at m) new picture (Contradictory state clash) = (s : Course) (a b : ℕ) (S : Shows) → (s a).own ≡ n → StandingFor plan n (open_at m) s a b S → ⊥
 AnswerMeans plan n (open_at m) new picture (InputMissing state port) = (s : Course) (a b : ℕ) (S : Shows) → (s a).own ≡ n → StandingFor plan n (open_at m) s a b S → ⊥

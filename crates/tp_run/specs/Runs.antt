@@ -1,18 +1,24 @@
 -- Where a run stands, and what its parts make of a state.
-use Rattle.std.specs.Prelude.{◌≡◌, ℕ, zero, suc, ◌≤◌, List, [], ◌++◌, Option, Some, None}
+use Rattle.std.specs.Prelude.{◌≡◌, ℕ, zero, suc, ◌≤◌, List, ◌++◌, Option, Some, None}
 use Rattle.tp_kernel.specs.Read.{definitions_of}
 use Rattle.tp_inputs.specs.Read.{lines_of}
-use Rattle.tp_store.specs.Known.{Contents, Variable}
+use Rattle.tp_store.specs.Known.{Contents, Variable, IsVariableOf}
 use Rattle.tp_decide.specs.Read.{shows_of}
 use Rattle.tp_slots.specs.Kept.{IsWellKept}
 use Rattle.tp_step.specs.Answers.{moment_of}
 use Rattle.tp_step.specs.declared.answer.Order.TheVariants.{First}
-use Rattle.tp_meaning.specs.Interval.{kinds_of}
+use Rattle.tp_meaning.specs.Interval.{ProgramTree, kinds_of}
+use Rattle.tp_check.specs.Program.{program_tree}
+use Rattle.tp_scene.specs.declared.answer.Cell.{Cell}
+use Rattle.tp_scene.specs.declared.answer.Cell.TheVariants.{Part, End}
+use Rattle.tp_scene.specs.declared.answer.Clash.{Clash}
+use Rattle.tp_scene.specs.declared.answer.Clash.TheVariants.{Facts, Marks, False, NoValue}
 use Rattle.tp_scene.specs.Scene as S
 use Rattle.tp_scene.specs.Pick.{Setting, Moment}
 use Rattle.tp_scene.specs.Rest.{settled, goes, ends, IsOpenCell}
 use Rattle.tp_scene.specs.Advance.{advanced, shown_in}
 use Rattle.tp_scene.specs.Laws.{IsSound, StoreGoesOn}
+use Rattle.tp_run.specs.declared.run.Made.{Made}
 use Rattle.tp_run.specs.declared.run.Run.{Run}
 use Rattle.tp_run.specs.declared.run.Settings.{Settings}
 use Rattle.tp_run.specs.declared.run.Stand.{Stand}
@@ -28,6 +34,10 @@ stands_at (Open scene) store = open_at (moment_of scene store)
 stands_at (Answered turn) store = answered turn
 stands_at Spent store = spent
 
+-- the program that is run
+abbrev pub program_of : Run → ProgramTree
+program_of run = program_tree run.program
+
 -- where the run stands, and the number of the state that it makes next
 abbrev pub standing_of : Run → Standing
 standing_of run = stands_at run.stand run.store
@@ -38,6 +48,36 @@ next_state_of run = run.settings.setting.state
 -- The first of these variables are those.
 abbrev pub HasFirst : List Variable → List Variable → Type 0
 HasFirst xs ys = (more : List Variable) × (ys ≡ xs ++ more)
+
+-- a cell, a clash and an answer that speak of these variables alone
+abbrev pub CellIsOf : List Variable → Cell → Type 0
+CellIsOf xs (Part path) = IsVariableOf xs path.var
+CellIsOf xs (End region depth) = Unit {0}
+
+abbrev pub ClashIsOf : List Variable → Clash → Type 0
+ClashIsOf xs (Facts kept new) = IsVariableOf xs kept.path.var × IsVariableOf xs new.path.var
+ClashIsOf xs (Marks depth) = Unit {0}
+ClashIsOf xs False = Unit {0}
+ClashIsOf xs (NoValue fault) = Unit {0}
+
+abbrev pub TurnIsOf : List Variable → Turn → Type 0
+TurnIsOf xs Went = Unit {0}
+TurnIsOf xs (Finished length) = Unit {0}
+TurnIsOf xs (Contradictory state clash) = ClashIsOf xs clash
+TurnIsOf xs (Undetermined state cell) = CellIsOf xs cell
+TurnIsOf xs (StateLimit states) = Unit {0}
+TurnIsOf xs (InputMissing state port) = Unit {0}
+TurnIsOf xs (Over state limit) = Unit {0}
+
+-- a run that has answered last speaks of these variables alone
+abbrev pub StandIsOf : List Variable → Stand → Type 0
+StandIsOf xs (Open scene) = Unit {0}
+StandIsOf xs (Answered turn) = TurnIsOf xs turn
+StandIsOf xs Spent = Unit {0}
+
+-- and so does an answer with where the run then stands
+abbrev pub MadeIsOf : List Variable → Made → Type 0
+MadeIsOf xs made = TurnIsOf xs made.turn × StandIsOf xs made.stand
 
 -- what its store holds
 abbrev pub store_of : Run → Contents
@@ -53,7 +93,7 @@ carried_scene n spent = None
 
 -- before a state it stands at a sound moment
 abbrev pub StandsSound : Plan → ℕ → Standing → Type 0
-StandsSound plan n (open_at m) = IsSound (setting plan n) (kinds_of plan.names) m
+StandsSound plan n (open_at m) = IsSound (setting plan n) (kinds_of plan.program.globals) m
 StandsSound plan n (answered turn) = Unit {0}
 StandsSound plan n spent = Unit {0}
 
@@ -69,15 +109,26 @@ pub record IsSettingsOf (plan : Plan) (settings : Settings) : Type 0 where
   pub states : settings.limits.states ≡ plan.states
   pub reductions : settings.limits.reductions ≡ plan.reductions
   pub globals : settings.globals ≡ globals_of plan
-  pub definitions : definitions_of settings.setting.defs ≡ []
+  pub definitions : definitions_of settings.setting.defs ≡ plan.program.defs
   pub order : settings.order ≡ First
+
+-- a run's settings while it makes a state: the program lends them its definitions
+abbrev pub settings_of : Run → Settings
+settings_of run = record {
+  globals = run.settings.globals;
+  limits = run.settings.limits;
+  order = run.settings.order;
+  setting = record run.settings.setting { defs = run.program.defs };
+}
 
 -- The run is one of this plan.
 pub record IsRunOf (plan : Plan) (run : Run) : Type 0 where
-  pub settings : IsSettingsOf plan run.settings
+  pub program : program_of run ≡ plan.program
+  pub settings : IsSettingsOf plan (settings_of run)
   pub within : next_state_of run ≤ plan.states
   pub sound : StandsSound plan (next_state_of run) (standing_of run)
   pub kept : StandIsKept run.stand
+  pub named : StandIsOf run.store.variables run.stand
 
 -- The picture of a state with this number, of so many globals, after so many reductions.
 pub record HasPicture (globals n reductions : ℕ) (m : Moment) (picture : Picture) : Type 0 where

@@ -2,10 +2,8 @@
 use Rattle.std.specs.Prelude.{◌≡◌, ℕ, suc, ◌<◌, nat_lt, eqb, ◌&&◌, ◌||◌, Bool, List, [], ◌∷◌, length, All, IsTrue}
 use Rattle.tp_value.specs.declared.path.Path.{Path}
 use Rattle.tp_value.specs.declared.path.Fact.{Fact}
-use Rattle.tp_meaning.specs.Syntax.{FormulaTree}
-use Rattle.tp_meaning.specs.Fits.{FormulaFits}
 use Rattle.tp_meaning.specs.Inputs.{InputLines}
-use Rattle.tp_meaning.specs.Interval.{kinds_of}
+use Rattle.tp_meaning.specs.Interval.{ProgramTree, kinds_of}
 use Rattle.tp_store.specs.Facts.{kept_shape}
 use Rattle.tp_store.specs.Known.{Contents, NoClash, facts_below, is_lesser}
 use Rattle.tp_decide.specs.Read.{shows_of}
@@ -19,28 +17,23 @@ use Rattle.tp_run.specs.declared.turn.Turn.TheVariants.{Went, Finished, Contradi
 use Rattle.tp_kernel.specs.declared.formula.LimitKind.{LimitKind}
 use Rattle.tp_kernel.specs.declared.formula.LimitKind.TheVariants as limit
 
--- What is run: a formula over the variables of these names, with these inputs, for at most so many states with at most so many reductions each.
+-- What is run: a program with these inputs, for at most so many states with at most so many reductions each.
 pub record Plan : Type 0 where
-  pub names : List (List ℕ)
-  pub main : FormulaTree
+  pub program : ProgramTree
   pub inputs : InputLines
   pub states : ℕ
   pub reductions : ℕ
 
-abbrev pub plan_with : (names : List (List ℕ)) → FormulaTree → InputLines → (states reductions : ℕ) → Plan
-plan_with names main inputs states reductions = record { names = names; main = main; inputs = inputs; states = states; reductions = reductions }
+abbrev pub plan_with : ProgramTree → InputLines → (states reductions : ℕ) → Plan
+plan_with program inputs states reductions = record { program = program; inputs = inputs; states = states; reductions = reductions }
 
 -- how many variables it has
 abbrev pub globals_of : Plan → ℕ
-globals_of plan = length (kinds_of plan.names)
+globals_of plan = length (kinds_of plan.program.globals)
 
--- its formula has no bound name that nothing binds, no call, and no other variable
-abbrev pub PlanFits : Plan → Type 0
-PlanFits plan = FormulaFits [] (kinds_of plan.names) plan.main 0
-
--- what state n is read with; programs have no definitions today
+-- what state n is read with
 abbrev pub setting : Plan → ℕ → Setting
-setting plan n = record { defs = []; inputs = plan.inputs; state = n }
+setting plan n = record { defs = plan.program.defs; inputs = plan.inputs; state = n }
 
 -- a fact is before another: its variable's number is less, or it is of the same variable, and its indices are a part of the other's from the
 -- start, or less where they first differ
@@ -91,7 +84,7 @@ StatesLead plan n m (p ∷ ps) last = (next : Moment) × StateGoesOn plan n m p 
 
 -- A run settles states with these pictures, and the state after them begins with this moment.
 abbrev pub LeadsTo : Plan → List Picture → Moment → Type 0
-LeadsTo plan ps m = StatesLead plan 0 (first_moment plan.names plan.main) ps m
+LeadsTo plan ps m = StatesLead plan 0 (first_moment plan.program.globals plan.program.main) ps m
 
 -- where a run stands: before a state that begins with this moment, after this last answer, or given up for want of memory
 pub data Standing : Type 0 where

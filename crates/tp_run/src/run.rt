@@ -1,8 +1,9 @@
 // The run of a program, state by state.
 ghost use Rattle.std.specs.Prelude.{◌≡◌, ◌<◌, ◌≤◌, Bool, List, [], Option, IfOk, OnErr, OnOk};
 ghost use Rattle.std.specs.Option.{option_map};
-ghost use Rattle.tp_kernel.specs.Read.{formula_tree, definitions_of};
-ghost use Rattle.tp_meaning.specs.Fits.{FormulaFits};
+ghost use Rattle.tp_kernel.specs.Read.{formula_tree};
+ghost use Rattle.tp_meaning.specs.Fits.{ProgramFits};
+ghost use Rattle.tp_check.specs.Program.{program_tree};
 ghost use Rattle.tp_inputs.specs.Read.{lines_of};
 ghost use Rattle.tp_store.specs.Known.{new_store};
 ghost use Rattle.tp_meaning.specs.Interval.{kinds_of};
@@ -19,25 +20,26 @@ ghost use Rattle.tp_step.specs.Answers.{moment_of};
 ghost use Rattle.tp_step.specs.declared.answer.Order.TheVariants.{First};
 ghost use Rattle.tp_run.specs.States.{Plan, plan_with, open_at, spent, state_after, AnswersState, StateBecomes, StoreBecomes, LeavesStore};
 ghost use Rattle.tp_run.specs.Meaning.{StandsForItsProgram, AnswerMeans};
-ghost use Rattle.tp_run.specs.Runs.{stands_at, standing_of, next_state_of, store_of, carried_scene, IsSettingsOf, IsRunOf, HasPicture, NextOf, RestTurns, StandIsKept, HasFirst};
+ghost use Rattle.tp_run.specs.Runs.{stands_at, standing_of, program_of, next_state_of, store_of, carried_scene, IsSettingsOf, IsRunOf, HasPicture, NextOf, RestTurns, StandIsKept, HasFirst, CellIsOf, TurnIsOf, MadeIsOf};
 
 use crate::picture::settled_picture;
 use crate::turn::{Limits, Picture, Turn};
 use std::alloc::Global;
 use std::mem;
-use std::rc::Rc;
 use std::sync::ledger::Ledger;
+use tp_check::Program;
 use tp_inputs::Inputs;
-use tp_kernel::{Defs, Formula};
+use tp_kernel::Defs;
 use tp_pass::close_by_passes;
 use tp_step::{
     Cell, Ending, ItemIds, Order, Scene, Setting, Settled, Steps, Tally, Tried, Waits, advance,
     settled, start, try_item,
 };
 use tp_store::Store;
-use tp_value::{Globals, NoMemory};
+use tp_value::NoMemory;
 
-/// What a run is made with, and the number of the state that it makes next, which alone changes.
+/// What a run is made with, and the number of the state that it makes next, which alone changes. The program lends its definitions while a
+/// state is made.
 #[derive(Drop)]
 struct Settings {
     globals: u64,
@@ -57,6 +59,7 @@ enum Stand {
 /// The run of a program, state by state.
 #[derive(Drop)]
 pub struct Run {
+    program: Program,
     settings: Settings,
     store: Store,
     stand: Stand,
@@ -103,7 +106,6 @@ impl Settings {
         item: u64,
         steps: &mut Steps<L>,
     ) -> Result<Cell, NoMemory>
-        requires none { definitions_of self.now.setting.defs ≡ [] }
         requires kept { IsWellKept scene.old }
         requires sound { (kinds : List Bool)
             × IsSound (setting_of self.now.setting) kinds (moment_of scene.old store.old) }
@@ -114,6 +116,7 @@ impl Settings {
             × (outcome_of (setting_of self.now.setting) store.old (scene_of scene.old) item
             ≡ waits cell other)) }
         ensures store { OnOk result (store.new ≡ store.old) }
+        ensures named { IfOk result (CellIsOf store.new.variables) }
     {
         let tried = try_item(scene, item, store, &self.setting, 0, steps)?;
         match tried {
@@ -190,7 +193,6 @@ impl Settings {
         picture: &mut Picture,
         steps: &mut Steps<L>,
     ) -> Result<Made, NoMemory>
-        requires none { definitions_of self.now.setting.defs ≡ [] }
         requires kept { IsWellKept scene }
         requires sound { (kinds : List Bool)
             × IsSound (setting_of self.now.setting) kinds (moment_of scene store.old) }
@@ -200,6 +202,7 @@ impl Settings {
             (moment_of scene store.old) picture.old picture.new (stands_at made.stand store.new)
             store.new made.turn) }
         ensures kept { IfOk result (λ made. StandIsKept made.stand) }
+        ensures named { IfOk result (MadeIsOf store.new.variables) }
         ensures err { OnErr result (picture.new ≡ picture.old) }
     {
         let state = self.setting.state;
@@ -232,7 +235,7 @@ impl Settings {
         requires within { self.now.setting.state ≤ self.now.limits.states }
         requires kept { IsWellKept scene }
         requires sound { (plan : Plan) × IsSettingsOf plan self.now
-            × IsSound (setting_of self.now.setting) (kinds_of plan.names)
+            × IsSound (setting_of self.now.setting) (kinds_of plan.program.globals)
             (moment_of scene store.old) }
         ensures made { IfOk result (λ made.
             (plan : Plan) → IsSettingsOf plan self.now
@@ -243,6 +246,7 @@ impl Settings {
             → StoreBecomes plan self.now.setting.state (moment_of scene store.old) picture.new
             store.new made.turn) }
         ensures kept { IfOk result (λ made. StandIsKept made.stand) }
+        ensures named { IfOk result (MadeIsOf store.new.variables) }
         ensures err { OnErr result (picture.new ≡ picture.old) }
     {
         let state = self.setting.state;
@@ -275,51 +279,57 @@ impl Settings {
 }
 
 impl Run {
-    /// A run of the program's formula over these variables, with these inputs, before its first state. The order is `First`.
+    /// A run of the program with these inputs, before its first state. The order is `First`.
     pub fn start(
         alloc: Global,
-        main: Rc<Formula>,
-        globals: &Globals,
+        program: Program,
         inputs: Inputs,
         limits: Limits,
         order: Order,
     ) -> Result<Run, NoMemory>
-        requires fits { FormulaFits [] (kinds_of globals.now) (formula_tree main.value) 0 }
+        requires fits { ProgramFits (program_tree program) }
         requires order { order ≡ First }
         ensures stand { IfOk result (λ run.
-            standing_of run ≡ open_at (first_moment globals.now (formula_tree main.value))) }
+            standing_of run
+            ≡ open_at (first_moment program.globals (formula_tree program.main.value))) }
         ensures state { IfOk result (λ run. next_state_of run ≡ 0) }
-        ensures store { IfOk result (λ run. store_of run ≡ new_store globals.now) }
+        ensures store { IfOk result (λ run. store_of run ≡ new_store program.globals) }
         ensures plan { IfOk result
             (IsRunOf
-            (plan_with globals.now (formula_tree main.value) (lines_of inputs) limits.states
-            limits.reductions)) }
+            (plan_with (program_tree program) (lines_of inputs) limits.states limits.reductions)) }
         ensures stands { IfOk result (λ run.
             StandsForItsProgram
-            (plan_with globals.now (formula_tree main.value) (lines_of inputs) limits.states
-            limits.reductions)
+            (plan_with (program_tree program) (lines_of inputs) limits.states limits.reductions)
             (standing_of run)) }
     {
-        let scene = start(alloc, &main)?;
-        let store = Store::new(alloc, globals)?;
-        let defs = Defs {
+        let scene = start(alloc, &program.main)?;
+        let store = Store::new(alloc, &program.globals)?;
+        let none = Defs {
             items: Vec::new(alloc),
         };
         Ok(Run {
             settings: Settings {
-                globals: globals.len(),
+                globals: program.globals.len(),
                 limits,
                 order,
                 setting: Setting {
                     alloc,
-                    defs,
+                    defs: none,
                     inputs,
                     state: 0,
                 },
             },
+            program,
             store,
             stand: Stand::Open(scene),
         })
+    }
+
+    /// The program that is run.
+    pub fn program(&self) -> &Program
+        ensures { program_tree result.now ≡ program_of self.now }
+    {
+        &self.program
     }
 
     /// What is carried to the next state: the scene that it begins with, where the last answer was `Went`; else nothing.
@@ -362,7 +372,7 @@ impl Run {
 
     /// Makes the next state, or gives the last answer again. On `Went` and `Finished` the picture is that of the state; else it
     /// stays. The store keeps what the state's reductions brought, and on `Went` goes on to the next state; its variables stay, and more may
-    /// follow them. After want of memory the run answers nothing else. Each item that is tried adds one to the steps.
+    /// follow them; a cell or a clash is one of these. After want of memory the run answers nothing else. Each item that is tried adds one to the steps.
     pub fn state<L: Ledger>(
         &mut self,
         picture: &mut Picture,
@@ -384,11 +394,15 @@ impl Run {
             (store_of self.old) (store_of self.new) turn) }
         ensures variables { OnOk result
             (HasFirst (store_of self.old).variables (store_of self.new).variables) }
+        ensures named { IfOk result (TurnIsOf (store_of self.new).variables) }
         ensures err { OnErr result ((standing_of self.new ≡ spent) × (picture.new ≡ picture.old)) }
     {
         match mem::replace(&mut self.stand, Stand::Spent) {
             Stand::Open(scene) => {
-                let made = self.settings.make(scene, &mut self.store, picture, steps)?;
+                mem::swap(&mut self.program.defs, &mut self.settings.setting.defs);
+                let made = self.settings.make(scene, &mut self.store, picture, steps);
+                mem::swap(&mut self.program.defs, &mut self.settings.setting.defs);
+                let made = made?;
                 self.settings.setting.state = self.next_number(&made.turn);
                 self.stand = made.stand;
                 Ok(made.turn)

@@ -1,7 +1,8 @@
-use Rattle.std.proofs.Common.{◌≡◌, ◌∙◌, map, ap, ap₂, sym, subst, arith, refl}
+use Rattle.std.proofs.Common.{◌≡◌, ◌∙◌, ap₂, sym, subst, arith, refl}
 use Rattle.std.proofs.lemmas.List.{length-map}
 use Rattle.tp_value.specs.Globals.{is_lower}
-use Rattle.tp_kernel.specs.Read.{formula_tree, definition_of}
+use Rattle.tp_kernel.specs.Read.{formula_tree}
+use Rattle.tp_check.specs.Program.{program_tree}
 use Rattle.tp_inputs.specs.Read.{lines_of}
 use Rattle.tp_store.specs.Known.{Contents}
 use Rattle.tp_scene.specs.Scene.{Scene}
@@ -17,30 +18,32 @@ use Rattle.tp_run.proofs.run.Run.start.Goals as goal
 
 pub returns-clause-plan : goal.returns-clause-plan
 returns-clause-plan c =
-    let names = c.args.globals.now in
-    let main = formula_tree c.args.main.value in
-    let plan : Plan = plan_with names main (lines_of c.args.inputs) c.args.limits.states c.args.limits.reductions in
+    let names = c.args.program.globals in
+    let main = formula_tree c.args.program.main.value in
+    let plan : Plan = plan_with (program_tree c.args.program) (lines_of c.args.inputs) c.args.limits.states c.args.limits.reductions in
     let make : Scene → Contents → Moment = λ s k. record { scene = s; store = k } in
     let first : moment_of c.in_ok-scene.scene c.in_ok-store.store ≡ first_moment names main = ap₂ make c.in_ok-scene.ensures.scene c.in_ok-store.ensures in
     record {
+      program = refl;
       settings = record {
         inputs = refl;
         states = refl;
         reductions = refl;
         globals = c.len.ensures ∙ sym (length-map names is_lower);
-        definitions = ap (map definition_of) c.new-2.ensures.items;
+        definitions = refl;
         order = c.requires.order;
       };
       within = omega arith;
       sound = subst (λ (m : Moment). StandsSound plan 0 (open_at m)) (sym first) (first_sound plan c.requires.fits);
       kept = c.in_ok-scene.ensures.kept;
+      named = tt;
     }
 
 pub returns-clause-stands : goal.returns-clause-stands
 returns-clause-stands c =
-    let names = c.args.globals.now in
-    let main = formula_tree c.args.main.value in
-    let plan : Plan = plan_with names main (lines_of c.args.inputs) c.args.limits.states c.args.limits.reductions in
+    let names = c.args.program.globals in
+    let main = formula_tree c.args.program.main.value in
+    let plan : Plan = plan_with (program_tree c.args.program) (lines_of c.args.inputs) c.args.limits.states c.args.limits.reductions in
     let make : Scene → Contents → Moment = λ s k. record { scene = s; store = k } in
     let first : moment_of c.in_ok-scene.scene c.in_ok-store.store ≡ first_moment names main = ap₂ make c.in_ok-scene.ensures.scene c.in_ok-store.ensures in
     subst (λ (m : Moment). StandsForItsProgram plan (open_at m)) (sym first) (begins plan c.requires.fits)
