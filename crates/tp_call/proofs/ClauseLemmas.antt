@@ -1,7 +1,6 @@
 -- What the table of the answers says of each answer.
 use Rattle.std.proofs.Common.{◌≡◌, ◌⊎◌, inl, inr, ℕ, List, length, Option, None, Some, refl, ap, sym, ◌∙◌, subst, arith}
 use Rattle.tp_io.specs.Devices.{Held, bytes_of}
-use Rattle.tp_run.specs.declared.turn.Picture.{Picture}
 use Rattle.tp_run.specs.History.{RunEndsWith, ContinuesEach}
 use Rattle.tp_scene.specs.declared.answer.Cell.{Cell}
 use Rattle.tp_scene.specs.declared.answer.Clash.{Clash}
@@ -15,7 +14,7 @@ use Rattle.tp_call.specs.Parts.{refused_status}
 use Rattle.tp_call.proofs.ProgramLemmas.{program_or_refused, refused_once}
 use Rattle.tp_call.specs.Words.{wanted_of}
 use Rattle.tp_call.specs.Written.{Wrote}
-use Rattle.tp_check.specs.Program.{CheckedProgram}
+use Rattle.tp_meaning.specs.Interval.{ProgramTree}
 use Rattle.tp_call.specs.Run.{plan_of, EndSays}
 use Rattle.tp_call.proofs.TurnLemmas.{answer_of, answer_is, ends_run}
 use Rattle.tp_call.specs.Answer.{Sourced, HoldsProgram, HoldsRefused, IsLongSource, IsTold, Refuses, CallEnds, Answers, Prints, IsOrStopped, IsOrFailed, IsEndOfRun, HasFailed}
@@ -114,7 +113,7 @@ module _ (words : List (List ℕ)) (held : Option Held) (old new : Option (List 
   told_accepted P T t none = let bad : Some t.wanted ≡ None = sym t.accepted ∙ none in cc
 
   -- a source that a run has is within the limit, and a program
-  ran_told : (status : Status) (Q : List ℕ → Type 0) → Prints words held old new status (λ p printed. EndSays p printed (answer_of status)) → IsTold words held Q → (program : CheckedProgram) × ((source : List ℕ) × HoldsProgram program source × Q source)
+  ran_told : (status : Status) (Q : List ℕ → Type 0) → Prints words held old new status (λ p printed. EndSays p printed (answer_of status)) → IsTold words held Q → (program : ProgramTree) × ((source : List ℕ) × HoldsProgram program source × Q source)
   ran_told status Q p t = (p.program, both_told words held _ Q p.source t)
 
   long_ran : (T : Type 0) (status : Status) → Prints words held old new status (λ p printed. EndSays p printed (answer_of status)) → IsTold words held IsLongSource → T
@@ -167,7 +166,7 @@ module _ (words : List (List ℕ)) (held : Option Held) (old new : Option (List 
   source_refused (NestLimit state) a refused t = refused_ran _ (NestLimit state) refused (run_alone (NestLimit state) (λ r. r) a) t
 
   -- a source that is a program
-  pub program_runs : (program : CheckedProgram) (result : Status) → Answers words held old new result → IsTold words held (HoldsProgram program) → IsEndOfRun result ⊎ HasFailed result
+  pub program_runs : (program : ProgramTree) (result : Status) → Answers words held old new result → IsTold words held (HoldsProgram program) → IsEndOfRun result ⊎ HasFailed result
   program_runs program (Finished n) a t = inl tt
   program_runs program (Contradictory state clash) a t = inl tt
   program_runs program (Undetermined state cell) a t = inl tt

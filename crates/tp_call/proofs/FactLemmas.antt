@@ -1,5 +1,5 @@
 -- The facts of a settled state: in order, without a clash, of the variables that the run has.
-use Rattle.std.proofs.Common.{◌≡◌, inl, inr, ℕ, zero, suc, ◌<◌, Bool, nat_lt, List, [], ◌∷◌, length, map, Some, slice_get, true, refl, ap, sym, ◌∙◌, subst, arith}
+use Rattle.std.proofs.Common.{◌≡◌, ℕ, zero, suc, ◌<◌, Bool, nat_lt, List, [], ◌∷◌, length, map, Some, slice_get, true, refl, ap, sym, ◌∙◌, arith}
 use Rattle.std.proofs.lemmas.Bool.{ltb-true}
 use Rattle.tp_value.specs.Globals.{is_lower}
 use Rattle.tp_value.specs.declared.path.Fact.{Fact}
@@ -53,17 +53,17 @@ facts_are names kept facts fits are = record {
 }
 
 -- the facts of a state that is settled
-pub settled_facts : (plan : Plan) (from to : Standing) (n m : ℕ) (old new : Picture) (answer : Turn) → StandsSound plan n from → StandsOpen from → AnswersState plan from n old new to m answer → is_settled answer ≡ true → AreFactsOf plan.names new.facts
+pub settled_facts : (plan : Plan) (from to : Standing) (n m : ℕ) (old new : Picture) (answer : Turn) → StandsSound plan n from → StandsOpen from → AnswersState plan from n old new to m answer → is_settled answer ≡ true → AreFactsOf plan.program.globals new.facts
 settled_facts plan (answered last) to n m old new answer r o a s = absurd o
 settled_facts plan spent to n m old new answer r o a s = absurd o
 settled_facts plan (open_at moment) to n m old new turn.Went r o a s =
     let b = a.0.1 in
-    let last = leads_sound scene_laws (setting plan n) (kinds_of plan.names) b.picks moment b.last r b.goes.closes.leads in
-    facts_are plan.names b.last.store new.facts last.store b.picture_is.facts
+    let last = leads_sound scene_laws (setting plan n) (kinds_of plan.program.globals) b.picks moment b.last r b.goes.closes.leads in
+    facts_are plan.program.globals b.last.store new.facts last.store b.picture_is.facts
 settled_facts plan (open_at moment) to n m old new (turn.Finished length) r o a s =
     let b = a.0.0 in
-    let last = leads_sound scene_laws (setting plan n) (kinds_of plan.names) b.picks moment b.last r b.ends.closes.leads in
-    facts_are plan.names b.last.store new.facts last.store b.picture_is.facts
+    let last = leads_sound scene_laws (setting plan n) (kinds_of plan.program.globals) b.picks moment b.last r b.ends.closes.leads in
+    facts_are plan.program.globals b.last.store new.facts last.store b.picture_is.facts
 settled_facts plan (open_at moment) to n m old new (turn.Contradictory state clash) r o a s = cc
 settled_facts plan (open_at moment) to n m old new (turn.Undetermined state cell) r o a s = cc
 settled_facts plan (open_at moment) to n m old new (turn.StateLimit states) r o a s = cc

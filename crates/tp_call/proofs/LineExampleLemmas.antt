@@ -16,4 +16,9 @@ line_examples = record {
   item_alone = refl;
   part_of_item = refl;
   whole_item = refl;
+  global_told = refl;
+  local_told = refl;
+  local_length = refl;
+  global_cell = refl;
+  local_cell = refl;
 }

@@ -1,5 +1,5 @@
 -- A source is one program, or is refused at one place for one cause.
-use Rattle.std.proofs.Common.{◌≡◌, inl, inr, List, ℕ, Option, Some, Ok, Err, ap, sym, ◌∙◌}
+use Rattle.std.proofs.Common.{◌≡◌, inl, inr, List, ℕ, Option, Some, Ok, Err, ap, sym, ◌∙◌, subst}
 use Rattle.tp_lex.specs.declared.token.Token.{Token}
 use Rattle.tp_lex.proofs.LawLemmas.{one_list, one_refusal, never_both}
 use Rattle.tp_tree.specs.Tree.{SourceTree}
@@ -7,7 +7,10 @@ use Rattle.tp_parse.specs.declared.refusal.ParseRefusal.{ParseRefusal}
 use Rattle.tp_parse.specs.Grammar.{Accepts}
 use Rattle.tp_parse.specs.Source.{parse_outcome}
 use Rattle.tp_parse.proofs.Exact.{accepted_read}
-use Rattle.tp_check.specs.Program.{CheckedProgram, program_of}
+use Rattle.tp_meaning.specs.Interval.{ProgramTree}
+use Rattle.tp_check.specs.Outcome.{CheckOutcome}
+use Rattle.tp_check.specs.Program.{ChecksTo}
+use Rattle.tp_check.proofs.Determined.{checks_once}
 use Rattle.tp_call.specs.declared.refused.Refused.{Refused}
 use Rattle.tp_call.specs.Source.{IsProgram, IsRefusedAt, lexer_refusal, parser_refusal, checker_refusal}
 
@@ -18,13 +21,14 @@ tree_or_refused ts us t e same a o = let good : parse_outcome ts ≡ Ok t = acce
 one_tree : (ts us : List Token) (t u : SourceTree) → ts ≡ us → Accepts ts t → Accepts us u → t ≡ u
 one_tree ts us t u same a b = let first : parse_outcome ts ≡ Ok t = accepted_read ts t a in let second : parse_outcome us ≡ Ok u = accepted_read us u b in let equal : parse_outcome ts ≡ parse_outcome us = ap parse_outcome same in cc
 
-pub program_or_refused : (source : List ℕ) (p : CheckedProgram) (r : Refused) → IsProgram source p → IsRefusedAt source r → ⊥
+pub program_or_refused : (source : List ℕ) (p : ProgramTree) (r : Refused) → IsProgram source p → IsRefusedAt source r → ⊥
 program_or_refused source p r g (inl x) = never_both source g.tokens x.refusal g.are_tokens x.is_refused
 program_or_refused source p r g (inr (inl x)) = tree_or_refused g.tokens x.tokens g.tree x.refusal (one_list source g.tokens x.tokens g.are_tokens x.are_tokens) g.accepted x.outcome
 program_or_refused source p r g (inr (inr x)) =
     let same : g.tree ≡ x.tree = one_tree g.tokens x.tokens g.tree x.tree (one_list source g.tokens x.tokens g.are_tokens x.are_tokens) g.accepted x.accepted in
-    let good : program_of x.tree ≡ Ok p = ap program_of (sym same) ∙ g.checked in
-    let bad : program_of x.tree ≡ Err x.refusal = x.outcome in
+    let good : CheckOutcome ProgramTree = Ok p in
+    let bad : CheckOutcome ProgramTree = Err x.refusal in
+    let both : good ≡ bad = checks_once x.tree (Ok p) (Err x.refusal) (subst (λ (t : SourceTree). ChecksTo t (Ok p)) same g.checked) x.outcome in
     cc
 
 -- one answer from one refusal
@@ -47,14 +51,16 @@ refused_once source r s (inr (inr x)) (inl y) = absurd (never_both source x.toke
 refused_once source r s (inr (inr x)) (inr (inl y)) = absurd (tree_or_refused x.tokens y.tokens x.tree y.refusal (one_list source x.tokens y.tokens x.are_tokens y.are_tokens) x.accepted y.outcome)
 refused_once source r s (inr (inr x)) (inr (inr y)) =
     let same : x.tree ≡ y.tree = one_tree x.tokens y.tokens x.tree y.tree (one_list source x.tokens y.tokens x.are_tokens y.are_tokens) x.accepted y.accepted in
-    let first : program_of y.tree ≡ Err x.refusal = ap program_of (sym same) ∙ x.outcome in
-    let second : program_of y.tree ≡ Err y.refusal = y.outcome in
+    let first : CheckOutcome ProgramTree = Err x.refusal in
+    let second : CheckOutcome ProgramTree = Err y.refusal in
+    let both : first ≡ second = checks_once y.tree (Err x.refusal) (Err y.refusal) (subst (λ (t : SourceTree). ChecksTo t (Err x.refusal)) same x.outcome) y.outcome in
     let equal : x.refusal ≡ y.refusal = cc in
     one_answer (checker_refusal source) x.refusal y.refusal r s equal x.answer y.answer
 
-pub one_program : (source : List ℕ) (p q : CheckedProgram) → IsProgram source p → IsProgram source q → p ≡ q
+pub one_program : (source : List ℕ) (p q : ProgramTree) → IsProgram source p → IsProgram source q → p ≡ q
 one_program source p q g h =
     let same : g.tree ≡ h.tree = one_tree g.tokens h.tokens g.tree h.tree (one_list source g.tokens h.tokens g.are_tokens h.are_tokens) g.accepted h.accepted in
-    let first : program_of h.tree ≡ Ok p = ap program_of (sym same) ∙ g.checked in
-    let second : program_of h.tree ≡ Ok q = h.checked in
+    let first : CheckOutcome ProgramTree = Ok p in
+    let second : CheckOutcome ProgramTree = Ok q in
+    let both : first ≡ second = checks_once h.tree (Ok p) (Ok q) (subst (λ (t : SourceTree). ChecksTo t (Ok p)) same g.checked) h.checked in
     cc

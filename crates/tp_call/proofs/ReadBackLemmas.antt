@@ -4,6 +4,7 @@ use Rattle.std.specs.Fmt.{decimal}
 use Rattle.std.proofs.lemmas.List.Elements.{All-head, All-tail}
 use Rattle.std.proofs.lemmas.Fmt.{decimal_injective}
 use Rattle.tp_run.specs.declared.turn.Picture.{Picture}
+use Rattle.tp_store.specs.Known.{Variable}
 use Rattle.tp_call.specs.declared.status.Status.{Status}
 use Rattle.tp_call.specs.declared.status.Status.TheVariants.{Finished, Contradictory, Undetermined, StateLimit, ReductionLimit, NumberLimit, ListLimit, CallLimit, NestLimit, InputMissing}
 use Rattle.tp_call.specs.Line.{parts_text, state_line, state_lines}
@@ -28,26 +29,26 @@ line_read names p q r s are h k e =
     (decimal_injective p.state q.state h.state k.state numbered.0, same_facts names p.facts q.facts h.facts k.facts read.0, read.1)
 
 -- an end line is no state's line, which begins with `state ` and a number
-end_apart : (names : List (List ℕ)) (s : Status) (p : Picture) (r : List ℕ) → p.state < 2 ^ 64 → IsEndOfRun s → end_line names s ≡ state_line names p ++ r → ⊥
-end_apart names (Finished n) p r low h e = let bad : 102 ≡ 115 = head_is _ _ _ _ (e ∙ line_is names p r) in absurd (omega (arith, bad))
-end_apart names (Contradictory n clash) p r low h e = let bad : 99 ≡ 115 = head_is _ _ _ _ (e ∙ line_is names p r) in absurd (omega (arith, bad))
-end_apart names (Undetermined n cell) p r low h e = let bad : 117 ≡ 115 = head_is _ _ _ _ (e ∙ line_is names p r) in absurd (omega (arith, bad))
-end_apart names (ReductionLimit n) p r low h e = let bad : 114 ≡ 115 = head_is _ _ _ _ (e ∙ line_is names p r) in absurd (omega (arith, bad))
-end_apart names (NumberLimit n) p r low h e = let bad : 110 ≡ 115 = head_is _ _ _ _ (e ∙ line_is names p r) in absurd (omega (arith, bad))
-end_apart names (ListLimit n) p r low h e = let bad : 108 ≡ 115 = head_is _ _ _ _ (e ∙ line_is names p r) in absurd (omega (arith, bad))
-end_apart names (CallLimit n) p r low h e = let bad : 99 ≡ 115 = head_is _ _ _ _ (e ∙ line_is names p r) in absurd (omega (arith, bad))
-end_apart names (NestLimit n) p r low h e = let bad : 110 ≡ 115 = head_is _ _ _ _ (e ∙ line_is names p r) in absurd (omega (arith, bad))
-end_apart names (InputMissing n port) p r low h e = let bad : 105 ≡ 115 = head_is _ _ _ _ (e ∙ line_is names p r) in absurd (omega (arith, bad))
-end_apart names (StateLimit n) p r low h e = low_apart (decimal p.state) _ _ 108 (decimal_low p.state low) (omega arith) (sym (ap (drop 6) (e ∙ line_is names p r)))
-end_apart names s p r low h e = absurd h
+end_apart : (names : List (List ℕ)) (xs : List Variable) (s : Status) (p : Picture) (r : List ℕ) → p.state < 2 ^ 64 → IsEndOfRun s → end_line names xs s ≡ state_line names p ++ r → ⊥
+end_apart names xs (Finished n) p r low h e = let bad : 102 ≡ 115 = head_is _ _ _ _ (e ∙ line_is names p r) in absurd (omega (arith, bad))
+end_apart names xs (Contradictory n clash) p r low h e = let bad : 99 ≡ 115 = head_is _ _ _ _ (e ∙ line_is names p r) in absurd (omega (arith, bad))
+end_apart names xs (Undetermined n cell) p r low h e = let bad : 117 ≡ 115 = head_is _ _ _ _ (e ∙ line_is names p r) in absurd (omega (arith, bad))
+end_apart names xs (ReductionLimit n) p r low h e = let bad : 114 ≡ 115 = head_is _ _ _ _ (e ∙ line_is names p r) in absurd (omega (arith, bad))
+end_apart names xs (NumberLimit n) p r low h e = let bad : 110 ≡ 115 = head_is _ _ _ _ (e ∙ line_is names p r) in absurd (omega (arith, bad))
+end_apart names xs (ListLimit n) p r low h e = let bad : 108 ≡ 115 = head_is _ _ _ _ (e ∙ line_is names p r) in absurd (omega (arith, bad))
+end_apart names xs (CallLimit n) p r low h e = let bad : 99 ≡ 115 = head_is _ _ _ _ (e ∙ line_is names p r) in absurd (omega (arith, bad))
+end_apart names xs (NestLimit n) p r low h e = let bad : 110 ≡ 115 = head_is _ _ _ _ (e ∙ line_is names p r) in absurd (omega (arith, bad))
+end_apart names xs (InputMissing n port) p r low h e = let bad : 105 ≡ 115 = head_is _ _ _ _ (e ∙ line_is names p r) in absurd (omega (arith, bad))
+end_apart names xs (StateLimit n) p r low h e = low_apart (decimal p.state) _ _ 108 (decimal_low p.state low) (omega arith) (sym (ap (drop 6) (e ∙ line_is names p r)))
+end_apart names xs s p r low h e = absurd h
 
-pub text_read : (names : List (List ℕ)) (ps qs : List Picture) (s t : Status) → AreNames names → All (IsStateOf names) ps → All (IsStateOf names) qs → IsEndOfRun s → IsEndOfRun t
-    → state_lines names ps ++ end_line names s ≡ state_lines names qs ++ end_line names t → (shown_states ps ≡ shown_states qs) × (end_line names s ≡ end_line names t)
-text_read names [] [] s t are n m h k e = (refl, e)
-text_read names [] (q ∷ qs) s t are n m h k e = absurd (end_apart names s q _ (All-head (IsStateOf names) q qs m).state h (e ∙ append_assoc (state_line names q) _ _))
-text_read names (p ∷ ps) [] s t are n m h k e = absurd (end_apart names t p _ (All-head (IsStateOf names) p ps n).state k (sym e ∙ append_assoc (state_line names p) _ _))
-text_read names (p ∷ ps) (q ∷ qs) s t are n m h k e =
+pub text_read : (names : List (List ℕ)) (ps qs : List Picture) (xs ys : List Variable) (s t : Status) → AreNames names → All (IsStateOf names) ps → All (IsStateOf names) qs → IsEndOfRun s → IsEndOfRun t
+    → state_lines names ps ++ end_line names xs s ≡ state_lines names qs ++ end_line names ys t → (shown_states ps ≡ shown_states qs) × (end_line names xs s ≡ end_line names ys t)
+text_read names [] [] xs ys s t are n m h k e = (refl, e)
+text_read names [] (q ∷ qs) xs ys s t are n m h k e = absurd (end_apart names xs s q _ (All-head (IsStateOf names) q qs m).state h (e ∙ append_assoc (state_line names q) _ _))
+text_read names (p ∷ ps) [] xs ys s t are n m h k e = absurd (end_apart names ys t p _ (All-head (IsStateOf names) p ps n).state k (sym e ∙ append_assoc (state_line names p) _ _))
+text_read names (p ∷ ps) (q ∷ qs) xs ys s t are n m h k e =
     let whole = sym (append_assoc (state_line names p) _ _) ∙ (e ∙ append_assoc (state_line names q) _ _) in
     let one = line_read names p q _ _ are (All-head (IsStateOf names) p ps n) (All-head (IsStateOf names) q qs m) whole in
-    let more = text_read names ps qs s t are (All-tail (IsStateOf names) p ps n) (All-tail (IsStateOf names) q qs m) h k one.2 in
+    let more = text_read names ps qs xs ys s t are (All-tail (IsStateOf names) p ps n) (All-tail (IsStateOf names) q qs m) h k one.2 in
     (cc (one.0, one.1, more.0), more.1)

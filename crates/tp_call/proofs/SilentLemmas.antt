@@ -1,13 +1,13 @@
 -- A run that finishes shows nothing: no formula of the kinds that are run does.
-use Rattle.std.proofs.Common.{◌≡◌, inl, inr, ℤ, pos, ◌+ℤ◌, ℕ, zero, suc, ◌+◌, ◌≤◌, ◌<◌, eqb, List, [], ◌∷◌, ◌++◌, refl, ap, sym, ◌∙◌, arith}
+use Rattle.std.proofs.Common.{◌≡◌, inl, inr, ℤ, pos, ◌+ℤ◌, ℕ, zero, suc, ◌+◌, ◌≤◌, ◌<◌, eqb, List, [], ◌∷◌, ◌++◌, Some, slice_get, refl, ap, sym, ◌∙◌, arith}
 use Rattle.std.proofs.lemmas.Bool.{cond_both}
 use Rattle.tp_value.specs.Tree.{Tree}
-use Rattle.tp_meaning.specs.Syntax.{FormulaTree, FormulaTrees, no_formula, formula_then, trivial, test, equation, next_equation, empty, more, next, weak_next, if_more, if_empty, always, conjunction, branch, len, assign, chop, while, for_from, forall_from, project, exists, call, input, display}
+use Rattle.tp_meaning.specs.Syntax.{FormulaTree, FormulaTrees, no_formula, formula_then, trivial, test, equation, next_equation, empty, more, next, weak_next, if_more, if_empty, always, conjunction, branch, len, assign, chop, while, for_from, forall_from, project, exists, call, input, display, Definition}
 use Rattle.tp_meaning.specs.Course.{Part, Course, Shows, blank, ◌⊕◌, shown_at, woven}
 use Rattle.tp_meaning.specs.Value.{Env, Calls, calls_at}
 use Rattle.tp_meaning.specs.Holds.{Context, CallMeanings, Pieces, Together, HoldsBy, AllHoldBy, CallHolds}
 use Rattle.tp_meaning.proofs.Shows.{joined-blank, total-blank, shown_there}
-use Rattle.tp_kernel.specs.Built.{IsBuilt, HasBuiltKinds, HaveBuiltKinds}
+use Rattle.tp_check.specs.Built.{IsBuilt, HasBuiltKinds, HaveBuiltKinds}
 use Rattle.tp_decide.specs.Read.{shows_of}
 use Rattle.tp_run.specs.declared.turn.Picture.{Picture}
 use Rattle.tp_run.specs.States.{Plan}
@@ -35,7 +35,11 @@ woven_silent (suc m) k c V T e h =
     joined-blank (woven (suc m) k c V T) (shown_at (c k) (V k)) (T k ⊕ woven m (suc k) c V T) refl (nothing_at (c k) (V k) (ap (λ (X : Shows). X k) e))
     (joined-blank (T k ⊕ woven m (suc k) c V T) (T k) (woven m (suc k) c V T) refl (h k (omega arith) (omega arith)) (woven_silent m (suc k) c V T e (λ j u v. h j (omega arith) (omega arith))))
 
-module _ (w : Context) (calls : Calls) (meanings : CallMeanings) where
+-- calls show nothing
+abbrev pub AreSilent : CallMeanings → Type 0
+AreSilent meanings = (p : ℕ) (args : Env) (s : Course) (a b : ℕ) (S : Shows) → meanings p args s a b S → S ≡ blank
+
+module _ (w : Context) (calls : Calls) (meanings : CallMeanings) (calls_silent : AreSilent meanings) where
   mutual
     silent : (f : FormulaTree) (env : Env) (s : Course) (a b : ℕ) (S : Shows) → HasBuiltKinds f → HoldsBy w calls meanings f env s a b S → S ≡ blank
     silent trivial env s a b S k h = h
@@ -63,14 +67,23 @@ module _ (w : Context) (calls : Calls) (meanings : CallMeanings) where
     silent (forall_from name from to f) env s a b S k h = together_silent _ a b (λ v T q. silent f _ s a b T k q) _ from S h.2
     silent (project f g) env s a b S k h =
         h.9 ∙ woven_silent h.1 0 h.0 h.2 h.3 (silent g _ _ 0 h.1 h.2 k.1 h.8) (λ j u v. silent f env s (h.0 j) (h.0 (suc j)) (h.3 j) k.0 (h.7 j (omega arith)))
-    silent (exists name lasting f) env s a b S k h = absurd k
-    silent (call p es) env s a b S k h = absurd k
+    silent (exists name lasting f) env s a b S k h = silent f _ s a b S k h.2
+    silent (call p es) env s a b S k h = calls_silent p h.0 s a b S h.2
     silent (input x port) env s a b S k h = absurd k
     silent (display es) env s a b S k h = absurd k
 
     all_silent : (fs : FormulaTrees) (env : Env) (s : Course) (a b : ℕ) (S : Shows) → HaveBuiltKinds fs → AllHoldBy w calls meanings fs env s a b S → S ≡ blank
     all_silent no_formula env s a b S k h = h
     all_silent (formula_then f fs) env s a b S k h = joined-blank S h.0 h.1 h.4 (silent f env s a b h.0 k.0 h.2) (all_silent fs env s a b h.1 k.1 h.3)
+
+-- no definition shows anything
+abbrev pub DefinitionsBuilt : List Definition → Type 0
+DefinitionsBuilt defs = (i : ℕ) (d : Definition) → slice_get defs i ≡ Some d → HasBuiltKinds d.formula
+
+calls_show_nothing : (w : Context) → DefinitionsBuilt w.defs → (d : ℕ) → AreSilent (CallHolds w d)
+calls_show_nothing w built zero p args s a b S h = absurd h
+calls_show_nothing w built (suc d) p args s a b S h =
+    silent w (calls_at w.defs d) (CallHolds w d) (calls_show_nothing w built d) h.0.formula args s a b S (built p h.0 h.1) h.2
 
 -- the parts of what is nothing
 first_none : {A : Type 0} (xs ys : List A) → xs ++ ys ≡ [] → xs ≡ []
@@ -90,14 +103,15 @@ none_shown (p ∷ ps) a e =
       none_shown ps (suc a) (λ i j. last_none (shown_at a vs j) (shown_from (suc a) ps j) (at j) i),
     )
 
-pub shows_nothing : (plan : Plan) (ps : List Picture) (n : ℕ) → IsBuilt plan.names plan.main → SatisfiedExactly plan ps n → Satisfiable plan → ShowNothing ps
+pub shows_nothing : (plan : Plan) (ps : List Picture) (n : ℕ) → IsBuilt plan.program → SatisfiedExactly plan ps n → Satisfiable plan → ShowNothing ps
 shows_nothing plan ps n built exactly some =
     let s = some.0 in
     let a = some.1 in
     let b = some.2 in
     let S = some.3 in
     let holds = some.4.1 in
-    let context : Context = record { defs = []; inputs = plan.inputs } in
-    let blank_is : S ≡ blank = silent context (calls_at [] holds.0) (CallHolds context holds.0) plan.main [] s a b S built.0 holds.1 in
+    let context : Context = record { defs = plan.program.defs; inputs = plan.inputs } in
+    let calls_silent = calls_show_nothing context built.definitions holds.0 in
+    let blank_is : S ≡ blank = silent context (calls_at plan.program.defs holds.0) (CallHolds context holds.0) calls_silent plan.program.main [] s a b S built.main holds.1 in
     let shown_is : S ≡ shown_from a ps = ((exactly s a b S).0 some.4).3 in
     none_shown ps a (sym shown_is ∙ blank_is)

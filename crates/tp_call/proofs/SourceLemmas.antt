@@ -15,7 +15,7 @@ use Rattle.tp_parse.specs.declared.refusal.ParseRefusal.{ParseRefusal}
 use Rattle.tp_parse.specs.declared.refusal.ParseRefusal.TheVariants as parse
 use Rattle.tp_parse.specs.Grammar.{Accepts}
 use Rattle.tp_parse.specs.Source.{parse_outcome}
-use Rattle.tp_check.specs.Program.{program_of}
+use Rattle.tp_check.specs.Program.{ChecksTo}
 use Rattle.tp_check.specs.declared.refusal.CheckRefusal.{CheckRefusal}
 use Rattle.tp_check.specs.declared.refusal.CheckRefusal.TheVariants as check
 use Rattle.tp_call.specs.Source.{IsRefusedAt, lexer_refusal, parser_refusal, checker_refusal}
@@ -55,8 +55,10 @@ no_tree source tokens parse.Unfinished are g r is = inr (inl (record { tokens = 
 no_tree source tokens (parse.TooDeep i) are g r is = inr (inl (record { tokens = tokens; refusal = parse.TooDeep i; are_tokens = are; outcome = g (λ e. cc (e)); answer = is }))
 no_tree source tokens parse.NoMemory are g r is = absurd (cc (is))
 
-pub not_run : (source : List ℕ) (tokens : List Token) (tree : SourceTree) (refusal : CheckRefusal) → AreTokens source tokens → Accepts tokens tree → (refusal ≢ check.NoMemory → program_of tree ≡ Err refusal)
+pub not_run : (source : List ℕ) (tokens : List Token) (tree : SourceTree) (refusal : CheckRefusal) → AreTokens source tokens → Accepts tokens tree → (refusal ≢ check.NoMemory → ChecksTo tree (Err refusal))
     → (r : Refused) → checker_refusal source refusal ≡ Some r → IsRefusedAt source r
+not_run source tokens tree (check.Twice at) are accepted g r is = inr (inr (record { tokens = tokens; tree = tree; refusal = check.Twice at; are_tokens = are; accepted = accepted; outcome = g (λ e. cc (e)); answer = is }))
+not_run source tokens tree (check.Unknown at) are accepted g r is = inr (inr (record { tokens = tokens; tree = tree; refusal = check.Unknown at; are_tokens = are; accepted = accepted; outcome = g (λ e. cc (e)); answer = is }))
 not_run source tokens tree (check.WrongCount at) are accepted g r is = inr (inr (record { tokens = tokens; tree = tree; refusal = check.WrongCount at; are_tokens = are; accepted = accepted; outcome = g (λ e. cc (e)); answer = is }))
 not_run source tokens tree (check.NotExpression at) are accepted g r is = inr (inr (record { tokens = tokens; tree = tree; refusal = check.NotExpression at; are_tokens = are; accepted = accepted; outcome = g (λ e. cc (e)); answer = is }))
 not_run source tokens tree (check.NotPlace at) are accepted g r is = inr (inr (record { tokens = tokens; tree = tree; refusal = check.NotPlace at; are_tokens = are; accepted = accepted; outcome = g (λ e. cc (e)); answer = is }))

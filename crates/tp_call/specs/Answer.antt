@@ -14,8 +14,8 @@ use Rattle.tp_call.specs.declared.status.Which.TheVariants.{Source}
 use Rattle.tp_call.specs.Words.{Wanted, wanted_of, files_of}
 use Rattle.tp_call.specs.Line.{state_lines}
 use Rattle.tp_call.specs.EndLine.{end_line}
-use Rattle.tp_check.specs.Program.{CheckedProgram}
-use Rattle.tp_call.specs.Run.{plan_of, EndSays, RunEnds, Settles}
+use Rattle.tp_meaning.specs.Interval.{ProgramTree}
+use Rattle.tp_call.specs.Run.{plan_of, EndSays, RunEnds, known_at_end, Settles}
 use Rattle.tp_call.specs.Written.{Wrote}
 
 -- where the value is told, it has P
@@ -29,7 +29,7 @@ pub record Sourced (words : List (List ℕ)) (held : Option Held) (P : List ℕ 
   pub source : WhereTold held (λ files. P (bytes_of files wanted.file))
 
 -- the source has at most so many bytes, and is this program
-abbrev pub HoldsProgram : CheckedProgram → List ℕ → Type 0
+abbrev pub HoldsProgram : ProgramTree → List ℕ → Type 0
 HoldsProgram program source = (length source ≤ source_limit) × IsProgram source program
 
 -- the source has at most so many bytes, and is refused there for this cause
@@ -41,12 +41,12 @@ IsLongSource source = source_limit < length source
 
 -- a run of the source's program ends with this status, and the text is that of its settled states with the end line
 pub record RunsTo (words : List (List ℕ)) (held : Option Held) (status : Status) (text : List ℕ) : Type 0 where
-  pub program : CheckedProgram
+  pub program : ProgramTree
   pub pictures : List Picture
   pub source : Sourced words held (HoldsProgram program)
   pub run : RunEnds program pictures status
   pub says : EndSays (plan_of program) pictures run.answer
-  pub written : text ≡ state_lines program.names pictures ++ end_line program.names status
+  pub written : text ≡ state_lines program.globals pictures ++ end_line program.globals (known_at_end run) status
 
 -- The cause of a refusal.
 abbrev pub Refuses : List (List ℕ) → Option Held → Status → Type 0
@@ -69,15 +69,15 @@ Refuses words held NoMemory = ⊥
 
 -- A call ends with this status and has written this text: that of a run, or the end line of a refusal alone.
 abbrev pub CallEnds : List (List ℕ) → Option Held → Status → List ℕ → Type 0
-CallEnds words held status text = RunsTo words held status text ⊎ (Refuses words held status × (text ≡ end_line [] status))
+CallEnds words held status text = RunsTo words held status text ⊎ (Refuses words held status × (text ≡ end_line [] [] status))
 
 -- the states of a run of the source's program, and their text
 pub record RunsOn (words : List (List ℕ)) (held : Option Held) (text : List ℕ) : Type 0 where
-  pub program : CheckedProgram
+  pub program : ProgramTree
   pub pictures : List Picture
   pub source : Sourced words held (HoldsProgram program)
   pub run : Settles program pictures
-  pub written : text ≡ state_lines program.names pictures
+  pub written : text ≡ state_lines program.globals pictures
 
 -- the text of no state, or of states of a run, without an end line
 abbrev pub IsUnfinishedText : List (List ℕ) → Option Held → List ℕ → Type 0
@@ -93,11 +93,11 @@ Answers words held old new status = (text : List ℕ) × CallEnds words held sta
 -- A run of the source's program ended with this status; the text of its settled states and the end line were appended; and of what is run
 -- and these states P holds.
 pub record Prints (words : List (List ℕ)) (held : Option Held) (old new : Option (List ℕ)) (status : Status) (P : Plan → List Picture → Type 0) : Type 0 where
-  pub program : CheckedProgram
+  pub program : ProgramTree
   pub pictures : List Picture
   pub source : Sourced words held (HoldsProgram program)
   pub run : RunEnds program pictures status
-  pub appended : Wrote old new (state_lines program.names pictures ++ end_line program.names status)
+  pub appended : Wrote old new (state_lines program.globals pictures ++ end_line program.globals (known_at_end run) status)
   pub says : P (plan_of program) pictures
 
 -- the place of a file among those that the words name

@@ -1,12 +1,13 @@
 -- The end line of each status, and its code.
 use Rattle.std.specs.Prelude.{ℕ, List, [], ◌++◌, codes}
 use Rattle.std.specs.Fmt.{decimal}
+use Rattle.tp_store.specs.Known.{Variable}
 use Rattle.tp_call.specs.declared.status.Status.{Status}
 use Rattle.tp_call.specs.declared.status.Status.TheVariants.{Finished, Contradictory, Undetermined, StateLimit, ReductionLimit, NumberLimit, ListLimit, CallLimit, NestLimit, InputMissing, SourceRefused, WordsRefused, TooLong, ReadFault, WriteFault, NoMemory}
 use Rattle.tp_call.specs.declared.status.Which.{Which}
 use Rattle.tp_call.specs.declared.status.Which.TheVariants.{Source}
 use Rattle.tp_call.specs.declared.status.SourceKind.{SourceKind}
-use Rattle.tp_call.specs.declared.status.SourceKind.TheVariants.{BadByte, OpenComment, NumberTooLarge, NameTooLong, Unexpected, Unfinished, TooDeep, WrongCount, NotExpression, NotPlace, NotExecutable}
+use Rattle.tp_call.specs.declared.status.SourceKind.TheVariants.{BadByte, OpenComment, NumberTooLarge, NameTooLong, Unexpected, Unfinished, TooDeep, DefinedTwice, UnknownName, WrongCount, NotExpression, NotPlace, NotExecutable}
 use Rattle.tp_call.specs.Run.{reductions_limit}
 use Rattle.tp_call.specs.Texts.{cell_text, clash_text}
 
@@ -21,6 +22,8 @@ kind_text NameTooLong = codes "name too long"
 kind_text Unexpected = codes "unexpected"
 kind_text Unfinished = codes "unfinished"
 kind_text TooDeep = codes "too deep"
+kind_text DefinedTwice = codes "defined twice"
+kind_text UnknownName = codes "unknown name"
 kind_text WrongCount = codes "wrong count"
 kind_text NotExpression = codes "not an expression"
 kind_text NotPlace = codes "not a place"
@@ -37,27 +40,28 @@ state_text word state = word ++ codes ": state " ++ decimal state
 abbrev pub reductions_text : ℕ → List ℕ
 reductions_text state = state_text (codes "reduction limit") state ++ (codes ": " ++ decimal reductions_limit) ++ codes " reductions"
 
--- what the end line of a call says that ran a program with these global variables, or none; two answers have no end line
-abbrev pub last_words : List (List ℕ) → Status → List ℕ
-last_words names (Finished length) = codes "finished: length " ++ decimal length
-last_words names (Contradictory state clash) = state_text (codes "contradictory") state ++ codes ": " ++ clash_text names clash
-last_words names (Undetermined state cell) = state_text (codes "undetermined") state ++ codes ": " ++ cell_text names cell
-last_words names (StateLimit states) = codes "state limit: " ++ decimal states
-last_words names (ReductionLimit state) = reductions_text state
-last_words names (NumberLimit state) = state_text (codes "number limit") state
-last_words names (ListLimit state) = state_text (codes "list limit") state
-last_words names (CallLimit state) = state_text (codes "call limit") state
-last_words names (NestLimit state) = state_text (codes "nest limit") state
-last_words names (InputMissing state port) = state_text (codes "input missing") state ++ codes ": port " ++ port
-last_words names (SourceRefused line column kind) = place_text line column ++ codes ": " ++ kind_text kind
-last_words names WordsRefused = codes "words refused"
-last_words names (TooLong which) = codes "too long: " ++ which_text which
-last_words names (ReadFault which) = codes "read fault: " ++ which_text which
-last_words names WriteFault = []
-last_words names NoMemory = []
+-- What the end line of a call says that ran a program with these globals, at whose end these variables were known, or none. Two answers have no
+-- end line.
+abbrev pub last_words : (globals : List (List ℕ)) (known : List Variable) → Status → List ℕ
+last_words globals known (Finished length) = codes "finished: length " ++ decimal length
+last_words globals known (Contradictory state clash) = state_text (codes "contradictory") state ++ codes ": " ++ clash_text globals known clash
+last_words globals known (Undetermined state cell) = state_text (codes "undetermined") state ++ codes ": " ++ cell_text globals known cell
+last_words globals known (StateLimit states) = codes "state limit: " ++ decimal states
+last_words globals known (ReductionLimit state) = reductions_text state
+last_words globals known (NumberLimit state) = state_text (codes "number limit") state
+last_words globals known (ListLimit state) = state_text (codes "list limit") state
+last_words globals known (CallLimit state) = state_text (codes "call limit") state
+last_words globals known (NestLimit state) = state_text (codes "nest limit") state
+last_words globals known (InputMissing state port) = state_text (codes "input missing") state ++ codes ": port " ++ port
+last_words globals known (SourceRefused line column kind) = place_text line column ++ codes ": " ++ kind_text kind
+last_words globals known WordsRefused = codes "words refused"
+last_words globals known (TooLong which) = codes "too long: " ++ which_text which
+last_words globals known (ReadFault which) = codes "read fault: " ++ which_text which
+last_words globals known WriteFault = []
+last_words globals known NoMemory = []
 
-abbrev pub end_line : List (List ℕ) → Status → List ℕ
-end_line names status = last_words names status ++ codes "\n"
+abbrev pub end_line : (globals : List (List ℕ)) (known : List Variable) → Status → List ℕ
+end_line globals known status = last_words globals known status ++ codes "\n"
 
 -- the exit status of the program
 abbrev pub code_of : Status → ℕ

@@ -5,10 +5,10 @@ use Rattle.tp_io.specs.Devices.{Held}
 use Rattle.tp_scene.specs.declared.answer.Cell.{Cell}
 use Rattle.tp_scene.specs.declared.answer.Clash.{Clash}
 use Rattle.tp_run.specs.History.{SatisfiedExactly, Satisfiable, Unsatisfiable, ContinuesEach}
-use Rattle.tp_check.specs.Program.{CheckedProgram}
+use Rattle.tp_meaning.specs.Interval.{ProgramTree}
 use Rattle.tp_call.specs.declared.refused.Refused.{Refused}
 use Rattle.tp_call.specs.declared.status.Status.{Status}
-use Rattle.tp_call.specs.declared.status.Status.TheVariants.{Finished, Contradictory, Undetermined, StateLimit, ReductionLimit, NumberLimit, ListLimit, CallLimit, NestLimit, InputMissing, SourceRefused, WordsRefused, TooLong}
+use Rattle.tp_call.specs.declared.status.Status.TheVariants.{Finished, Contradictory, Undetermined, StateLimit, InputMissing, SourceRefused, WordsRefused, TooLong}
 use Rattle.tp_call.specs.declared.status.SourceKind.{SourceKind}
 use Rattle.tp_call.specs.declared.status.Which.{Which}
 use Rattle.tp_call.specs.declared.status.Which.TheVariants.{Source}
@@ -51,7 +51,7 @@ module _ (words : List (List ℕ)) (held : Option Held) (old new : Option (List 
 module _ (words : List (List ℕ)) (held : Option Held) (result : Status) where
   -- Where the source is a program, its run ends in one of the ways above, unless a read or a write fails or memory is wanted.
   abbrev pub ProgramRuns : Type 0
-  ProgramRuns = (program : CheckedProgram) → IsTold words held (HoldsProgram program) → IsEndOfRun result ⊎ HasFailed result
+  ProgramRuns = (program : ProgramTree) → IsTold words held (HoldsProgram program) → IsEndOfRun result ⊎ HasFailed result
 
   -- The words are refused exactly where they name no file to run.
   pub record WordsRefusedExactly : Type 0 where

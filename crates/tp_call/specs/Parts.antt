@@ -1,6 +1,7 @@
 -- What the parts of a call answer.
 use Rattle.std.specs.Prelude.{◌≡◌, ◌⊎◌, ℕ, List, take, Option, None, Some}
 use Rattle.tp_io.specs.Devices.{Held}
+use Rattle.tp_store.specs.Known.{Variable}
 use Rattle.tp_call.specs.declared.status.Status.{Status}
 use Rattle.tp_call.specs.declared.status.Status.TheVariants.{SourceRefused, WriteFault, NoMemory}
 use Rattle.tp_call.specs.declared.refused.Refused.{Refused}
@@ -26,8 +27,8 @@ IsReadRefusal source status = (status ≡ NoMemory) ⊎ ((refused : Refused) × 
 abbrev pub IsProgramRefusal : List (List ℕ) → Option Held → Status → Type 0
 IsProgramRefusal words held status = (status ≡ NoMemory) ⊎ Refuses words held status
 
--- what writing the end line of a status answers and appends
-abbrev pub ClosesText : List (List ℕ) → Status → Option (List ℕ) → Option (List ℕ) → Status → Type 0
-ClosesText names status old new WriteFault = (kept : ℕ) × Wrote old new (take kept (end_line names status))
-ClosesText names status old new NoMemory = new ≡ old
-ClosesText names status old new result = (result ≡ status) × Wrote old new (end_line names status)
+-- what writing the end line of a status answers and appends, with these globals and these known variables
+abbrev pub ClosesText : (globals : List (List ℕ)) (known : List Variable) → Status → Option (List ℕ) → Option (List ℕ) → Status → Type 0
+ClosesText globals known status old new WriteFault = (kept : ℕ) × Wrote old new (take kept (end_line globals known status))
+ClosesText globals known status old new NoMemory = new ≡ old
+ClosesText globals known status old new result = (result ≡ status) × Wrote old new (end_line globals known status)

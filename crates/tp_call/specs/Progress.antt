@@ -1,27 +1,32 @@
 -- What a run has written, state by state.
-use Rattle.std.specs.Prelude.{◌≡◌, ◌⊎◌, ℕ, Bool, true, false, IsTrue, if◌then◌else◌, List, [], length, take, Option, Some, None, Result, Ok, Err}
+use Rattle.std.specs.Prelude.{◌≡◌, ◌⊎◌, ℕ, Bool, true, false, IsTrue, if◌then◌else◌, List, [], length, take, Option, Some, Result, Ok, Err, IfOk}
 use Rattle.tp_io.specs.declared.devices.WriteRefusal.{WriteRefusal}
 use Rattle.tp_io.specs.declared.devices.WriteRefusal.TheVariants as sink
+use Rattle.tp_store.specs.Known.{Contents}
 use Rattle.tp_scene.specs.Pick.{Moment}
 use Rattle.tp_run.specs.declared.turn.Picture.{Picture}
 use Rattle.tp_run.specs.declared.turn.Turn.{Turn}
 use Rattle.tp_run.specs.declared.turn.Turn.TheVariants as turn
-use Rattle.tp_run.specs.States.{Plan, Standing, open_at, LeadsTo, AnswersState}
+use Rattle.tp_run.specs.States.{Plan, Standing, open_at, LeadsTo, AnswersState, LeavesStore}
+use Rattle.tp_run.specs.Runs.{program_of, store_of}
+use Rattle.tp_call.specs.declared.run.Ended.{Ended}
 use Rattle.tp_call.specs.declared.status.Status.{Status}
 use Rattle.tp_call.specs.Line.{state_line, state_lines}
 use Rattle.tp_call.specs.Written.{Wrote}
-use Rattle.tp_check.specs.Program.{CheckedProgram}
+use Rattle.tp_meaning.specs.Interval.{ProgramTree}
 use Rattle.tp_call.specs.Run.{plan_of, status_of}
 
--- where a run stands, and the number of the state that it makes next
+-- where a run stands, the number of the state that it makes next, and what its store holds
 pub record RunPlace : Type 0 where
   pub standing : Standing
   pub state : ℕ
+  pub store : Contents
 
 -- a call of the run of this plan answers this: it goes from here to there, with this picture
 pub record Turned (plan : Plan) (from to : RunPlace) (answer : Turn) (picture : Picture) : Type 0 where
   pub earlier : Picture
   pub answers : AnswersState plan from.standing from.state earlier picture to.standing to.state answer
+  pub leaves : LeavesStore plan from.standing from.state picture from.store to.store answer
 
 -- with this answer a state was settled
 abbrev pub is_settled : Turn → Bool
@@ -61,26 +66,32 @@ TurnMade plan names from to before after (Err sink.Failed) = PartMade plan names
 TurnMade plan names from to before after (Err sink.NoMemory) = after ≡ before
 
 -- a run of the program, which stands here, has settled and written some states and goes on
-pub record HasWritten (program : CheckedProgram) (now : RunPlace) (before after : Option (List ℕ)) : Type 0 where
+pub record HasWritten (program : ProgramTree) (now : RunPlace) (before after : Option (List ℕ)) : Type 0 where
   pub pictures : List Picture
   pub next : Moment
   pub stands : now.standing ≡ open_at next
   pub count : now.state ≡ length pictures
   pub leads : LeadsTo (plan_of program) pictures next
-  pub wrote : Wrote before after (state_lines program.names pictures)
+  pub wrote : Wrote before after (state_lines program.globals pictures)
 
-abbrev pub as_turn : Result Status WriteRefusal → Result (Option Status) WriteRefusal
-as_turn (Ok status) = Ok (Some status)
+abbrev pub as_turn : Result Ended WriteRefusal → Result (Option Status) WriteRefusal
+as_turn (Ok ended) = Ok (Some ended.status)
 as_turn (Err refusal) = Err refusal
 
+-- the run that ended is one of the program, and stands there
+pub record EndedThere (program : ProgramTree) (to : RunPlace) (ended : Ended) : Type 0 where
+  pub program_is : program_of ended.run ≡ program
+  pub store : store_of ended.run ≡ to.store
+
 -- a run of the program settled and wrote some states, and then ended or was stopped
-pub record RunMade (program : CheckedProgram) (before after : Option (List ℕ)) (result : Result Status WriteRefusal) : Type 0 where
+pub record RunMade (program : ProgramTree) (before after : Option (List ℕ)) (result : Result Ended WriteRefusal) : Type 0 where
   pub from : RunPlace
   pub to : RunPlace
   pub middle : Option (List ℕ)
   pub settled : HasWritten program from before middle
-  pub stopped : TurnMade (plan_of program) program.names from to middle after (as_turn result)
+  pub stopped : TurnMade (plan_of program) program.globals from to middle after (as_turn result)
+  pub ended : IfOk result (EndedThere program to)
 
 -- the same, or memory was wanted before the run
-abbrev pub ProgramMade : CheckedProgram → Option (List ℕ) → Option (List ℕ) → Result Status WriteRefusal → Type 0
+abbrev pub ProgramMade : ProgramTree → Option (List ℕ) → Option (List ℕ) → Result Ended WriteRefusal → Type 0
 ProgramMade program before after result = ((result ≡ Err sink.NoMemory) × (after ≡ before)) ⊎ RunMade program before after result

@@ -5,6 +5,7 @@ use Rattle.tp_value.specs.declared.path.Fact.{Fact}
 use Rattle.tp_value.specs.declared.value.Shape.{Shape}
 use Rattle.tp_value.specs.declared.value.Shape.TheVariants.{Num, Truth, Items}
 use Rattle.tp_run.specs.declared.turn.Picture.{Picture}
+use Rattle.tp_store.specs.Known.{Variable}
 use Rattle.tp_call.specs.declared.status.Status.{Status}
 use Rattle.tp_call.specs.Texts.{global_name}
 use Rattle.tp_call.specs.Line.{AreFactsOf, state_lines}
@@ -54,5 +55,5 @@ shown_states pictures = map (λ (p : Picture). record { state = p.state; facts =
 
 -- Two runs with one text have the same states with the same facts, and end in the same words.
 abbrev pub TextShowsStates : Type 0
-TextShowsStates = (names : List (List ℕ)) (ps qs : List Picture) (s t : Status) → AreNames names → All (IsStateOf names) ps → All (IsStateOf names) qs → IsEndOfRun s → IsEndOfRun t
-    → state_lines names ps ++ end_line names s ≡ state_lines names qs ++ end_line names t → (shown_states ps ≡ shown_states qs) × (end_line names s ≡ end_line names t)
+TextShowsStates = (names : List (List ℕ)) (ps qs : List Picture) (xs ys : List Variable) (s t : Status) → AreNames names → All (IsStateOf names) ps → All (IsStateOf names) qs → IsEndOfRun s → IsEndOfRun t
+    → state_lines names ps ++ end_line names xs s ≡ state_lines names qs ++ end_line names ys t → (shown_states ps ≡ shown_states qs) × (end_line names xs s ≡ end_line names ys t)

@@ -2,14 +2,15 @@
 use Rattle.std.specs.Prelude.{◌≡◌, ◌⊎◌, ℕ, List, [], ◌∷◌, Option, Some, None}
 use Rattle.tp_kernel.specs.declared.formula.LimitKind.{LimitKind}
 use Rattle.tp_kernel.specs.declared.formula.LimitKind.TheVariants as limit
+use Rattle.tp_store.specs.Known.{Variable}
 use Rattle.tp_scene.specs.Pick.{Moment}
 use Rattle.tp_decide.specs.Read.{shows_of}
 use Rattle.tp_run.specs.declared.turn.Picture.{Picture}
 use Rattle.tp_run.specs.declared.turn.Turn.{Turn}
 use Rattle.tp_run.specs.declared.turn.Turn.TheVariants as turn
 use Rattle.tp_run.specs.States.{Plan, plan_with, LeadsTo}
-use Rattle.tp_run.specs.History.{RunEndsWith, SatisfiedExactly, Satisfiable, Unsatisfiable, ContinuesEach}
-use Rattle.tp_check.specs.Program.{CheckedProgram}
+use Rattle.tp_run.specs.History.{RunEndsWith, end_store, SatisfiedExactly, Satisfiable, Unsatisfiable, ContinuesEach}
+use Rattle.tp_meaning.specs.Interval.{ProgramTree}
 use Rattle.tp_call.specs.declared.status.Status.{Status}
 use Rattle.tp_call.specs.declared.status.Status.TheVariants.{Finished, Contradictory, Undetermined, StateLimit, ReductionLimit, NumberLimit, ListLimit, CallLimit, NestLimit, InputMissing}
 
@@ -20,9 +21,9 @@ states_limit = 1000
 abbrev pub reductions_limit : ℕ
 reductions_limit = 100000
 
--- What is run of a program: its main formula, with no inputs, for at most so many states of at most so many reductions each.
-abbrev pub plan_of : CheckedProgram → Plan
-plan_of program = plan_with program.names program.main [] states_limit reductions_limit
+-- What is run of a program: with no inputs, for at most so many states of at most so many reductions each.
+abbrev pub plan_of : ProgramTree → Plan
+plan_of program = plan_with program [] states_limit reductions_limit
 
 -- the status of a run that passes a limit in this state
 abbrev pub limit_end : ℕ → LimitKind → Status
@@ -44,17 +45,21 @@ status_of (turn.Over state kind) = Some (limit_end state kind)
 
 -- A run of the program settles states with these pictures and no other, and ends with an answer that has this status. At `Finished` the
 -- last of them is the state that ends.
-pub record RunEnds (program : CheckedProgram) (pictures : List Picture) (status : Status) : Type 0 where
+pub record RunEnds (program : ProgramTree) (pictures : List Picture) (status : Status) : Type 0 where
   pub answer : Turn
   pub status_is : status_of answer ≡ Some status
   pub run : RunEndsWith (plan_of program) pictures answer
 
+-- the variables that are known at the end of such a run
+abbrev pub known_at_end : {program : ProgramTree} {pictures : List Picture} {status : Status} → RunEnds program pictures status → List Variable
+known_at_end {program} {pictures} end = (end_store (plan_of program) pictures end.answer end.run).variables
+
 -- a run of the program settles these states, and goes on
-abbrev pub RunGoesOn : CheckedProgram → List Picture → Type 0
+abbrev pub RunGoesOn : ProgramTree → List Picture → Type 0
 RunGoesOn program pictures = (next : Moment) × LeadsTo (plan_of program) pictures next
 
 -- a run of the program settles these states, and goes on or finishes with the last of them
-abbrev pub Settles : CheckedProgram → List Picture → Type 0
+abbrev pub Settles : ProgramTree → List Picture → Type 0
 Settles program pictures = RunGoesOn program pictures ⊎ ((length : ℕ) × RunEnds program pictures (Finished length))
 
 -- nothing is shown in these states

@@ -10,20 +10,21 @@ use Rattle.tp_parse.specs.declared.refusal.ParseRefusal.{ParseRefusal}
 use Rattle.tp_parse.specs.declared.refusal.ParseRefusal.TheVariants as parse
 use Rattle.tp_parse.specs.Grammar.{Accepts}
 use Rattle.tp_parse.specs.Source.{parse_outcome}
-use Rattle.tp_check.specs.Program.{CheckedProgram, program_of}
+use Rattle.tp_meaning.specs.Interval.{ProgramTree}
+use Rattle.tp_check.specs.Program.{ChecksTo}
 use Rattle.tp_check.specs.declared.refusal.CheckRefusal.{CheckRefusal}
 use Rattle.tp_check.specs.declared.refusal.CheckRefusal.TheVariants as check
 use Rattle.tp_call.specs.declared.status.SourceKind.{SourceKind}
-use Rattle.tp_call.specs.declared.status.SourceKind.TheVariants.{BadByte, OpenComment, NumberTooLarge, NameTooLong, Unexpected, Unfinished, TooDeep, WrongCount, NotExpression, NotPlace, NotExecutable}
+use Rattle.tp_call.specs.declared.status.SourceKind.TheVariants.{BadByte, OpenComment, NumberTooLarge, NameTooLong, Unexpected, Unfinished, TooDeep, DefinedTwice, UnknownName, WrongCount, NotExpression, NotPlace, NotExecutable}
 use Rattle.tp_call.specs.declared.refused.Refused.{Refused}
 
 -- This text is this program: its tokens are a source of the grammar, which the checker makes the program.
-pub record IsProgram (source : List ℕ) (program : CheckedProgram) : Type 0 where
+pub record IsProgram (source : List ℕ) (program : ProgramTree) : Type 0 where
   pub tokens : List Token
   pub tree : SourceTree
   pub are_tokens : AreTokens source tokens
   pub accepted : Accepts tokens tree
-  pub checked : program_of tree ≡ Ok program
+  pub checked : ChecksTo tree (Ok program)
 
 -- the line and column of the byte, with the kind of refusal there
 abbrev pub refused_at : List ℕ → ℕ → SourceKind → Refused
@@ -48,6 +49,8 @@ parser_refusal source tokens (parse.TooDeep i) = at_token TooDeep (slice_get tok
 parser_refusal source tokens parse.NoMemory = None
 
 abbrev pub checker_refusal : List ℕ → CheckRefusal → Option Refused
+checker_refusal source (check.Twice at) = Some (refused_at source at DefinedTwice)
+checker_refusal source (check.Unknown at) = Some (refused_at source at UnknownName)
 checker_refusal source (check.WrongCount at) = Some (refused_at source at WrongCount)
 checker_refusal source (check.NotExpression at) = Some (refused_at source at NotExpression)
 checker_refusal source (check.NotPlace at) = Some (refused_at source at NotPlace)
@@ -75,7 +78,7 @@ pub record IsNotRun (source : List ℕ) (refused : Refused) : Type 0 where
   pub refusal : CheckRefusal
   pub are_tokens : AreTokens source tokens
   pub accepted : Accepts tokens tree
-  pub outcome : program_of tree ≡ Err refusal
+  pub outcome : ChecksTo tree (Err refusal)
   pub answer : checker_refusal source refusal ≡ Some refused
 
 -- This text is refused at this place, for this cause: the lexer's refusal comes before the parser's, and that before the checker's.

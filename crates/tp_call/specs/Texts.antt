@@ -2,10 +2,12 @@
 use Rattle.std.specs.Prelude.{ℕ, nat_lt, nat_le, int_le, Bool, true, false, List, [], ◌++◌, length, slice_get, unwrap_or, if◌then◌else◌, codes}
 use Rattle.std.specs.List.{flat_map}
 use Rattle.std.specs.Fmt.{decimal, signed_decimal}
+use Rattle.tp_value.specs.declared.path.VarId.{VarId}
 use Rattle.tp_value.specs.declared.path.Path.{Path}
 use Rattle.tp_value.specs.declared.path.Fact.{Fact}
 use Rattle.tp_value.specs.declared.value.Shape.{Shape}
 use Rattle.tp_value.specs.declared.value.Shape.TheVariants.{Num, Truth, Items}
+use Rattle.tp_store.specs.Known.{Variable, name_of}
 use Rattle.tp_kernel.specs.declared.formula.FaultKind.{FaultKind}
 use Rattle.tp_kernel.specs.declared.formula.FaultKind.TheVariants.{WrongKind, ZeroDivisor, NoElement}
 use Rattle.tp_scene.specs.declared.answer.Cell.{Cell}
@@ -34,12 +36,37 @@ shaped_text path (Num n) = path ++ codes "=" ++ signed_decimal n
 shaped_text path (Truth b) = path ++ codes "=" ++ truth_text b
 shaped_text path (Items n) = codes "|" ++ path ++ codes "|=" ++ decimal n
 
+-- what stands before and behind the path
+abbrev pub opening_text : Shape → List ℕ
+opening_text (Num n) = []
+opening_text (Truth b) = []
+opening_text (Items n) = codes "|"
+
+abbrev pub closing_text : Shape → List ℕ
+closing_text (Num n) = codes "=" ++ signed_decimal n
+closing_text (Truth b) = codes "=" ++ truth_text b
+closing_text (Items n) = codes "|=" ++ decimal n
+
 abbrev pub fact_text : List (List ℕ) → Fact → List ℕ
 fact_text names fact = shaped_text (path_text names fact.path) fact.shape
 
-abbrev pub cell_text : List (List ℕ) → Cell → List ℕ
-cell_text names (Part path) = path_text names path
-cell_text names (End region depth) = codes "end at depth " ++ decimal depth
+-- `globals` are the names of the globals, and `known` are the variables of a store, of which the globals are the first
+module _ (globals : List (List ℕ)) (known : List Variable) where
+  -- a global by its name, and a local by `local ` and the name that the store keeps for it
+  abbrev pub variable_text : VarId → List ℕ
+  variable_text x = if nat_lt x.number (length globals) then global_name globals x.number else codes "local " ++ unwrap_or (name_of known x) []
+
+  -- as L[1], and local Y[1]
+  abbrev pub variable_path_text : Path → List ℕ
+  variable_path_text path = variable_text path.var ++ flat_map index_text path.at
+
+  -- as A=1, local Y=2 and |local Y|=2
+  abbrev pub variable_fact_text : Fact → List ℕ
+  variable_fact_text fact = shaped_text (variable_path_text fact.path) fact.shape
+
+  abbrev pub cell_text : Cell → List ℕ
+  cell_text (Part path) = variable_path_text path
+  cell_text (End region depth) = codes "end at depth " ++ decimal depth
 
 -- numbers before truth values before lengths, then the smaller, and `false` before `true`
 abbrev pub shape_comes_first : Shape → Shape → Bool
@@ -69,8 +96,11 @@ fault_text WrongKind = codes "wrong kind"
 fault_text ZeroDivisor = codes "zero divisor"
 fault_text NoElement = codes "no element"
 
-abbrev pub clash_text : List (List ℕ) → Clash → List ℕ
-clash_text names (Facts a b) = if comes_first a b then pair_text (fact_text names a) (fact_text names b) else pair_text (fact_text names b) (fact_text names a)
-clash_text names (Marks depth) = codes "ends and goes on at depth " ++ decimal depth
-clash_text names False = codes "false"
-clash_text names (NoValue fault) = codes "no value: " ++ fault_text fault
+abbrev pub clash_text : (globals : List (List ℕ)) (known : List Variable) → Clash → List ℕ
+clash_text globals known (Facts a b) =
+    let first = variable_fact_text globals known a in
+    let second = variable_fact_text globals known b in
+    if comes_first a b then pair_text first second else pair_text second first
+clash_text globals known (Marks depth) = codes "ends and goes on at depth " ++ decimal depth
+clash_text globals known False = codes "false"
+clash_text globals known (NoValue fault) = codes "no value: " ++ fault_text fault

@@ -2,8 +2,7 @@
 ghost use Rattle.std.specs.Prelude.{◌≡◌, ◌≢◌, ◌≤◌, ◌⊎◌, ℕ, List, [], length, None, IfOk, IfErr};
 ghost use Rattle.tp_lex.specs.Place.{source_limit};
 ghost use Rattle.tp_io.specs.Devices.{Rose};
-ghost use Rattle.tp_kernel.specs.Read.{formula_tree};
-ghost use Rattle.tp_kernel.specs.Built.{IsBuilt};
+ghost use Rattle.tp_check.specs.Built.{IsBuilt};
 ghost use Rattle.tp_check.specs.Program.{program_tree};
 ghost use Rattle.tp_call.specs.Source.{IsProgram};
 ghost use Rattle.tp_call.specs.declared.status.Which.{Which};
@@ -13,7 +12,7 @@ ghost use Rattle.tp_call.specs.Parts.{refusal_end, IsReadRefusal, IsProgramRefus
 
 use crate::end_line::end_text;
 use crate::refused::{Refused, by_checker, by_lexer, by_parser};
-use crate::run::run_program;
+use crate::run::{Ended, run_program};
 use crate::source::{ReadRefusal, read_limited};
 use crate::status::{Status, Which};
 use crate::words::read_words;
@@ -24,6 +23,7 @@ use tp_io::{Files, Sink, WriteRefusal};
 use tp_lex::tokens;
 use tp_parse::parse;
 use tp_step::Steps;
+use tp_store::Store;
 use tp_value::{Globals, Text};
 
 // The greatest length of a source, in bytes.
@@ -43,7 +43,7 @@ fn refusal_status(refused: Option<Refused>) -> Status
 fn read_program(alloc: Global, source: &[u8]) -> Result<Program, Status>
     requires { length source.now ≤ source_limit }
     ensures program { IfOk result (λ p. IsProgram source.now (program_tree p)) }
-    ensures built { IfOk result (λ p. IsBuilt p.globals (formula_tree p.main.value)) }
+    ensures built { IfOk result (λ p. IsBuilt (program_tree p)) }
     ensures refused { IfErr result (IsReadRefusal source.now) }
 {
     let tokens = match tokens(alloc, source) {
@@ -64,7 +64,7 @@ fn read_program(alloc: Global, source: &[u8]) -> Result<Program, Status>
 fn program_for<F: Files>(alloc: Global, words: &[Text], files: &mut F) -> Result<Program, Status>
     ensures program { IfOk result (λ p.
         Sourced words.now (F.held files.old) (HoldsProgram (program_tree p))) }
-    ensures built { IfOk result (λ p. IsBuilt p.globals (formula_tree p.main.value)) }
+    ensures built { IfOk result (λ p. IsBuilt (program_tree p)) }
     ensures refused { IfErr result (IsProgramRefusal words.now (F.held files.old)) }
     ensures asked { AsksOnly words.now (F.asked files.old) (F.asked files.new) (λ which.
         result ≡ Err (Status.ReadFault which)) }
@@ -89,9 +89,16 @@ fn program_for<F: Files>(alloc: Global, words: &[Text], files: &mut F) -> Result
 }
 
 // Writes the end line, by one write.
-fn close<K: Sink>(alloc: Global, globals: &Globals, status: Status, out: &mut K) -> Status
+fn close<K: Sink>(
+    alloc: Global,
+    globals: &Globals,
+    store: &Store,
+    status: Status,
+    out: &mut K,
+) -> Status
     requires { status ≢ Status.WriteFault }
-    ensures written { ClosesText globals.now status (K.written out.old) (K.written out.new) result }
+    ensures written { ClosesText globals.now store.now.variables status (K.written out.old)
+        (K.written out.new) result }
     ensures memory { status ≡ Status.NoMemory → result ≡ Status.NoMemory }
     ensures later { K.faults out.old ≤ K.faults out.new }
     ensures write_fault { result ≡ Status.WriteFault
@@ -100,7 +107,7 @@ fn close<K: Sink>(alloc: Global, globals: &Globals, status: Status, out: &mut K)
     if let Status::NoMemory = &status {
         return status;
     }
-    let Ok(line) = end_text(alloc, globals, &status) else {
+    let Ok(line) = end_text(alloc, globals, store, &status) else {
         return Status::NoMemory;
     };
     match out.write(alloc, line.as_slice()) {
@@ -113,14 +120,17 @@ fn close<K: Sink>(alloc: Global, globals: &Globals, status: Status, out: &mut K)
 // The end line where no program ran.
 fn refuse<K: Sink>(alloc: Global, status: Status, out: &mut K) -> Status
     requires { status ≢ Status.WriteFault }
-    ensures written { ClosesText [] status (K.written out.old) (K.written out.new) result }
+    ensures written { ClosesText [] [] status (K.written out.old) (K.written out.new) result }
     ensures memory { status ≡ Status.NoMemory → result ≡ Status.NoMemory }
     ensures later { K.faults out.old ≤ K.faults out.new }
     ensures write_fault { result ≡ Status.WriteFault
         → Rose K.greatest (K.faults out.old) (K.faults out.new) }
 {
-    match Globals::new(alloc) {
-        Ok(globals) => close(alloc, &globals, status, out),
+    let Ok(globals) = Globals::new(alloc) else {
+        return Status::NoMemory;
+    };
+    match Store::new(alloc, &globals) {
+        Ok(store) => close(alloc, &globals, &store, status, out),
         Err(_) => Status::NoMemory,
     }
 }
@@ -145,10 +155,12 @@ fn call<F: Files, K: Sink, L: Ledger>(
 {
     match program_for(alloc, words, files) {
         Err(status) => refuse(alloc, status, out),
-        Ok(Program { main, globals }) => match run_program(alloc, main, &globals, out, steps) {
+        Ok(program) => match run_program(alloc, program, out, steps) {
             Err(WriteRefusal::Failed) => Status::WriteFault,
             Err(WriteRefusal::NoMemory) => Status::NoMemory,
-            Ok(status) => close(alloc, &globals, status, out),
+            Ok(Ended { run, status }) => {
+                close(alloc, &run.program().globals, run.store(), status, out)
+            }
         },
     }
 }

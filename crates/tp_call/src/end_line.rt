@@ -2,10 +2,12 @@
 ghost use Rattle.std.specs.Prelude.{◌≡◌, ◌++◌, IfOk, OnOk};
 ghost use Rattle.tp_call.specs.EndLine.{end_line, last_words, state_text, reductions_text, place_text, which_text};
 
+use crate::clash::{append_cell, append_clash};
 use crate::run::REDUCTIONS;
 use crate::status::{Status, Which};
-use crate::text::{append_cell, append_clash, append_counted};
+use crate::text::append_counted;
 use std::alloc::Global;
+use tp_store::Store;
 use tp_value::{Globals, NoMemory, Text};
 
 // A word for a status, and the state that it speaks of.
@@ -39,20 +41,26 @@ fn append_reductions(out: &mut Text, state: u64) -> Result<(), NoMemory>
 }
 
 // The end line without its line feed.
-fn append_last_words(out: &mut Text, globals: &Globals, status: &Status) -> Result<(), NoMemory>
-    ensures { OnOk result (out.new ≡ out.old ++ last_words globals.now status.now) }
+fn append_last_words(
+    out: &mut Text,
+    globals: &Globals,
+    store: &Store,
+    status: &Status,
+) -> Result<(), NoMemory>
+    ensures { OnOk result
+        (out.new ≡ out.old ++ last_words globals.now store.now.variables status.now) }
 {
     match status {
         Status::Finished { length } => append_counted(out, b"finished: length ", *length),
         Status::Contradictory { state, clash } => {
             append_state(out, b"contradictory", *state)?;
             out.append(b": ")?;
-            append_clash(out, globals, clash)
+            append_clash(out, globals, store, clash)
         }
         Status::Undetermined { state, cell } => {
             append_state(out, b"undetermined", *state)?;
             out.append(b": ")?;
-            append_cell(out, globals, cell)
+            append_cell(out, globals, store, cell)
         }
         Status::StateLimit { states } => append_counted(out, b"state limit: ", *states),
         Status::ReductionLimit { state } => append_reductions(out, *state),
@@ -77,12 +85,18 @@ fn append_last_words(out: &mut Text, globals: &Globals, status: &Status) -> Resu
     }
 }
 
-/// The end line of a status. The global variables are those of the program that ran, or none.
-pub fn end_text(alloc: Global, globals: &Globals, status: &Status) -> Result<Text, NoMemory>
-    ensures { IfOk result (λ text. text ≡ end_line globals.now status.now) }
+/// The end line of a status. The globals are those of the program that ran, or none, and the store is that of the end of its run.
+pub fn end_text(
+    alloc: Global,
+    globals: &Globals,
+    store: &Store,
+    status: &Status,
+) -> Result<Text, NoMemory>
+    ensures { IfOk result (λ text.
+        text ≡ end_line globals.now store.now.variables status.now) }
 {
     let mut out = Text::new(alloc);
-    append_last_words(&mut out, globals, status)?;
+    append_last_words(&mut out, globals, store, status)?;
     out.append(b"\n")?;
     Ok(out)
 }

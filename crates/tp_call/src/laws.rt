@@ -7,7 +7,7 @@ pub fn text_shows_states()
     ensures { TextShowsStates }
 {}
 
-/// How the lines of some states read: a value known as a whole, a list known in part, and an item alone.
+/// How the lines of some states read: a value known as a whole, a list known in part, and an item alone; and how a local is told.
 pub fn line_examples()
     ensures { LineExamples }
 {}

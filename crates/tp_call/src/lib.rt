@@ -2,6 +2,7 @@
 #![tactic(auto)]
 
 mod call;
+mod clash;
 mod counting;
 mod end_line;
 mod laws;

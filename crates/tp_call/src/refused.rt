@@ -73,6 +73,8 @@ pub fn by_checker(source: &[u8], refusal: CheckRefusal) -> Option<Refused>
     ensures { result ≡ checker_refusal source.now refusal }
 {
     match refusal {
+        CheckRefusal::Twice { at } => Some(at_byte(source, at as usize, SourceKind::DefinedTwice)),
+        CheckRefusal::Unknown { at } => Some(at_byte(source, at as usize, SourceKind::UnknownName)),
         CheckRefusal::WrongCount { at } => {
             Some(at_byte(source, at as usize, SourceKind::WrongCount))
         }

@@ -2,7 +2,8 @@
 ghost use Rattle.std.specs.Prelude.{◌≡◌, ◌≤◌, true, None, IfOk, IsErr, IsErrOf};
 ghost use Rattle.tp_io.specs.Devices.{Rose, Writes};
 ghost use Rattle.tp_kernel.specs.Read.{formula_tree};
-ghost use Rattle.tp_kernel.specs.Built.{IsBuilt};
+ghost use Rattle.tp_check.specs.Built.{IsBuilt};
+ghost use Rattle.tp_check.specs.Program.{program_tree};
 ghost use Rattle.tp_scene.specs.StandsFor.{first_moment};
 ghost use Rattle.tp_run.specs.States.{Plan, open_at};
 ghost use Rattle.tp_run.specs.Runs.{standing_of, next_state_of, IsRunOf};
@@ -14,11 +15,11 @@ ghost use Rattle.tp_call.specs.Places.{standing_place, StandsOpen};
 use crate::line::state_text;
 use crate::status::Status;
 use std::alloc::Global;
-use std::rc::Rc;
 use std::sync::ledger::Ledger;
+use tp_check::Program;
 use tp_inputs::Inputs;
 use tp_io::{Sink, WriteRefusal};
-use tp_kernel::{Formula, LimitKind};
+use tp_kernel::LimitKind;
 use tp_run::{Limits, Picture, Run, Turn};
 use tp_step::{Order, Shows, Steps};
 use tp_value::{Facts, Globals, NoMemory};
@@ -117,59 +118,64 @@ fn make_state<K: Sink, L: Ledger>(
     alloc: Global,
     run: &mut Run,
     picture: &mut Picture,
-    globals: &Globals,
     out: &mut K,
     steps: &mut Steps<L>,
 ) -> Result<Option<Status>, WriteRefusal>
-    requires run { (plan : Plan) × (plan.names ≡ globals.now) × IsRunOf plan run.old }
+    requires run { (plan : Plan) × IsRunOf plan run.old }
     requires open { StandsOpen (standing_of run.old) }
     ensures run { (plan : Plan) → IsRunOf plan run.old → IsRunOf plan run.new }
     ensures made { (plan : Plan) → IsRunOf plan run.old
-        → TurnMade plan globals.now (standing_place run.old) (standing_place run.new)
+        → TurnMade plan plan.program.globals (standing_place run.old) (standing_place run.new)
         (K.written out.old) (K.written out.new) result }
     ensures later { K.faults out.old ≤ K.faults out.new }
     ensures cause { IsErrOf result WriteRefusal.Failed
         → Rose K.greatest (K.faults out.old) (K.faults out.new) }
 {
     let turn = run.state(picture, steps)?;
-    write_settled(alloc, &turn, picture, globals, out)?;
+    write_settled(alloc, &turn, picture, &run.program().globals, out)?;
     Ok(status_of(turn))
 }
 
-// A run of the program's formula, without inputs, before its first state.
-fn start(alloc: Global, main: Rc<Formula>, globals: &Globals) -> Result<Run, NoMemory>
-    requires { IsBuilt globals.now (formula_tree main.value) }
+// A run of the program, without inputs, before its first state.
+fn start(alloc: Global, program: Program) -> Result<Run, NoMemory>
+    requires { IsBuilt (program_tree program) }
     ensures stands { IfOk result (λ run.
-        standing_of run ≡ open_at (first_moment globals.now (formula_tree main.value))) }
+        standing_of run
+        ≡ open_at (first_moment program.globals (formula_tree program.main.value))) }
     ensures state { IfOk result (λ run. next_state_of run ≡ 0) }
-    ensures run { IfOk result
-        (IsRunOf (plan_of (record { main = formula_tree main.value; names = globals.now }))) }
+    ensures run { IfOk result (IsRunOf (plan_of (program_tree program))) }
 {
     let inputs = Inputs::none(alloc)?;
     let limits = Limits {
         states: STATES,
         reductions: REDUCTIONS,
     };
-    let run = Run::start(alloc, main, globals, inputs, limits, Order::First)?;
+    let run = Run::start(alloc, program, inputs, limits, Order::First)?;
     Ok(run)
+}
+
+/// A run that has come to its end, and its status.
+#[derive(Drop)]
+pub struct Ended {
+    pub run: Run,
+    pub status: Status,
 }
 
 /// Runs the program, and writes each state as it is settled. At `Err` a write failed, or memory was wanted.
 pub fn run_program<K: Sink, L: Ledger>(
     alloc: Global,
-    main: Rc<Formula>,
-    globals: &Globals,
+    program: Program,
     out: &mut K,
     steps: &mut Steps<L>,
-) -> Result<Status, WriteRefusal>
-    requires { IsBuilt globals.now (formula_tree main.value) }
-    ensures made { ProgramMade (record { main = formula_tree main.value; names = globals.now })
-        (K.written out.old) (K.written out.new) result }
+) -> Result<Ended, WriteRefusal>
+    requires { IsBuilt (program_tree program) }
+    ensures made { ProgramMade (program_tree program) (K.written out.old) (K.written out.new)
+        result }
     ensures later { K.faults out.old ≤ K.faults out.new }
     ensures cause { IsErrOf result WriteRefusal.Failed
         → Rose K.greatest (K.faults out.old) (K.faults out.new) }
 {
-    let mut run = start(alloc, main, globals)?;
+    let mut run = start(alloc, program)?;
     let mut picture = Picture {
         state: 0,
         facts: Facts {
@@ -181,8 +187,8 @@ pub fn run_program<K: Sink, L: Ledger>(
         reductions: 0,
     };
     loop {
-        if let Some(status) = make_state(alloc, &mut run, &mut picture, globals, out, steps)? {
-            return Ok(status);
+        if let Some(status) = make_state(alloc, &mut run, &mut picture, out, steps)? {
+            return Ok(Ended { run, status });
         }
     }
 }

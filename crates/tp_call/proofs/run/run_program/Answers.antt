@@ -1,12 +1,20 @@
-use Rattle.std.proofs.Common.{ℕ, ◌≤◌, inr, arith}
+use Rattle.std.proofs.Common.{ℕ, ◌≤◌, inr, refl, arith}
 use Rattle.std.proofs.lemmas.Result.{err_from_is_err_and}
+use Rattle.tp_check.specs.Program.{program_tree}
 use Rattle.tp_call.specs.Places.{standing_place}
-use Rattle.tp_call.proofs.RunLemmas.{HasWritten-more, next_state}
+use Rattle.tp_call.proofs.RunLemmas.{HasWritten-none, HasWritten-more, next_state}
 use Rattle.tp_call.proofs.TurnLemmas.{went_on}
 use Rattle.tp_call.proofs.run.run_program.Goals as goal
 
 up_to : (a b c : ℕ) → a ≤ b → b ≤ c → a ≤ c
 up_to a b c h k = omega arith
+
+pub loop-picture-init : goal.loop-picture-init
+loop-picture-init g c = record {
+  written = HasWritten-none (program_tree c.args.program) (standing_place c.in_ok-run.run') (g.K.Sink.written c.args.out.now) c.in_ok-run.ensures.stands c.in_ok-run.ensures.state;
+  run = c.in_ok-run.ensures.run;
+  later = omega arith;
+}
 
 pub returns-in_err-status-clause-made : goal.returns-in_err-status-clause-made
 returns-in_err-status-clause-made g c =
@@ -17,6 +25,7 @@ returns-in_err-status-clause-made g c =
       middle = g.K.Sink.written c.loop-picture.out;
       settled = c.loop-picture.invariant.written;
       stopped = c.in_err-status.ensures.made _ c.loop-picture.invariant.run;
+      ended = tt;
     }))
 
 pub returns-in-Some-clause-made : goal.returns-in-Some-clause-made
@@ -27,6 +36,7 @@ returns-in-Some-clause-made g c =
       middle = g.K.Sink.written c.loop-picture.out;
       settled = c.loop-picture.invariant.written;
       stopped = (rw c.in-Some.is at c.in_ok-status.ensures.made) _ c.loop-picture.invariant.run;
+      ended = record { program_is = (c.in_ok-status.ensures.run _ c.loop-picture.invariant.run).program; store = refl };
     })
 
 pub loop-picture-preserved : goal.loop-picture-preserved
