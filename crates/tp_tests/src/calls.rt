@@ -1,5 +1,6 @@
 // Whole calls over files and pages in memory.
 use crate::making::{contents, series};
+use crate::tables::{cut, number};
 use std::alloc::Global;
 use std::marker::Brand;
 use std::process::Abort;
@@ -9,12 +10,15 @@ use tp_call::{SourceKind, Status, Which, counted, end_text};
 use tp_io::{Files, Sink, SurePage, SureShelf};
 use tp_kernel::FaultKind;
 use tp_run::Clash;
+use tp_store::Store;
 use tp_value::{Globals, Text};
 
 mod faults;
 mod rows;
+mod unfolded;
 
 use rows::{DERIVED, IN_PARTS, INTERVALS, LONG, NOT_RUN, REFUSED, STATES, VALUES};
+use unfolded::{ARGUMENTS, CALCULATED, LIMITS, LOCALS, REFUSED_CALLS, UNFOLDED};
 
 // The status of a call with these words.
 fn status_of<F: Files, K: Sink>(
@@ -35,50 +39,66 @@ fn status_of<F: Files, K: Sink>(
 fn expect(
     rt: &(impl Abort + AllocGlobal),
     words: &[&str],
-    source: &[u8],
-    code: u8,
-    text: &[u8],
+    source: &str,
+    code: u32,
+    text: &str,
 ) -> Result<(), Fail> {
     let alloc = rt.alloc();
-    let mut files = SureShelf::new(alloc, contents(alloc, "a.t", source)?);
+    let mut files = SureShelf::new(alloc, contents(alloc, "a.t", source.as_bytes())?);
     let mut page = SurePage::new(alloc);
     let status = status_of(alloc, words, &mut files, &mut page)?;
-    assert_eq!(rt; page.text(), text);
-    assert_eq!(rt; status.code(), code);
+    assert_eq!(rt; str::from_utf8(page.text()), Ok(text), "for {source}");
+    assert_eq!(rt; u32::from(status.code()), code, "for {source}");
     Ok(())
 }
 
-#[test]
-fn sources_are_run(rt: HostRuntime) -> Result<(), Fail> {
-    let tables: [&[(&str, u8, &str)]; 7] = [
-        &STATES, &INTERVALS, &IN_PARTS, &DERIVED, &VALUES, &REFUSED, &NOT_RUN,
-    ];
-    for table in tables {
-        for (source, code, text) in table {
-            expect(
-                &rt,
-                &["run", "a.t"],
-                source.as_bytes(),
-                *code,
-                text.as_bytes(),
-            )?;
-        }
+// The same of a row, where what stands between two `#` is repeated so many times.
+fn expect_row(rt: &(impl Abort + AllocGlobal), row: &str, times: u32) -> Result<(), Fail> {
+    let (source, row) = cut(row, "->")?;
+    let (code, text) = cut(row, "\n")?;
+    let source = series(rt.alloc(), source, times)?;
+    let text = series(rt.alloc(), text, times)?;
+    let text = format!(in rt.alloc(); "{text}\n")?;
+    let code = number(code)?;
+    expect(rt, &["run", "a.t"], source.as_str(), code, text.as_str())
+}
+
+// The same of each row of a table.
+fn expect_rows(rt: &(impl Abort + AllocGlobal), table: &str) -> Result<(), Fail> {
+    for row in table.trim().split("\n\n") {
+        expect_row(rt, row, 1)?;
     }
     Ok(())
 }
 
 #[test]
+fn sources_are_run(rt: HostRuntime) -> Result<(), Fail> {
+    for table in [
+        STATES, INTERVALS, IN_PARTS, DERIVED, VALUES, REFUSED, NOT_RUN,
+    ] {
+        expect_rows(&rt, table)?;
+    }
+    Ok(())
+}
+
+#[test]
+fn definitions_are_run(rt: HostRuntime) -> Result<(), Fail> {
+    for table in [UNFOLDED, ARGUMENTS, CALCULATED, LOCALS, REFUSED_CALLS] {
+        expect_rows(&rt, table)?;
+    }
+    Ok(())
+}
+
+#[test]
+fn calls_have_limits(rt: HostRuntime) -> Result<(), Fail> {
+    expect_rows(&rt, LIMITS)
+}
+
+#[test]
 fn long_sources_are_run(rt: HostRuntime) -> Result<(), Fail> {
-    for (count, source, code, text) in &LONG {
-        let source = series(rt.alloc(), source, *count)?;
-        let text = series(rt.alloc(), text, *count)?;
-        expect(
-            &rt,
-            &["run", "a.t"],
-            source.as_bytes(),
-            *code,
-            text.as_bytes(),
-        )?;
+    for row in LONG.trim().split("\n\n") {
+        let (times, row) = cut(row, "times")?;
+        expect_row(&rt, row, number(times)?)?;
     }
     Ok(())
 }
@@ -92,24 +112,19 @@ fn words_are_refused(rt: HostRuntime) -> Result<(), Fail> {
         &["run", "a.t", "--states", "x"],
     ];
     for words in rows {
-        expect(&rt, words, b"run empty.", 12, b"words refused\n")?;
+        expect(&rt, words, "run empty.", 12, "words refused\n")?;
     }
     Ok(())
 }
 
 #[test]
 fn sources_of_many_bytes_are_refused(rt: HostRuntime) -> Result<(), Fail> {
-    let refused = b"source refused: line 1 column 1048577: unfinished\n";
-    let mut source = vec![in rt.alloc(); b' '; 1_048_576]?;
-    expect(&rt, &["run", "a.t"], source.as_slice(), 10, refused)?;
-    source.push(b' ')?;
-    expect(
-        &rt,
-        &["run", "a.t"],
-        source.as_slice(),
-        13,
-        b"too long: source\n",
-    )
+    let words = ["run", "a.t"];
+    let refused = "source refused: line 1 column 1048577: unfinished\n";
+    let mut source = series(rt.alloc(), "# #", 1_048_576)?;
+    expect(&rt, &words, source.as_str(), 10, refused)?;
+    source.push(' ')?;
+    expect(&rt, &words, source.as_str(), 13, "too long: source\n")
 }
 
 fn no_value(fault: FaultKind) -> Status {
@@ -168,6 +183,16 @@ fn ends(alloc: Global) -> Result<Vec<(Status, u8, &'static str)>, Fail> {
             "contradictory: state 1: no value: no element\n"
         ),
         (
+            refused(SourceKind::DefinedTwice),
+            10,
+            "source refused: line 2 column 9: defined twice\n"
+        ),
+        (
+            refused(SourceKind::UnknownName),
+            10,
+            "source refused: line 2 column 9: unknown name\n"
+        ),
+        (
             refused(SourceKind::WrongCount),
             10,
             "source refused: line 2 column 9: wrong count\n"
@@ -189,8 +214,9 @@ fn ends(alloc: Global) -> Result<Vec<(Status, u8, &'static str)>, Fail> {
 #[test]
 fn ends_are_told(rt: HostRuntime) -> Result<(), Fail> {
     let globals = Globals::new(rt.alloc())?;
+    let store = Store::new(rt.alloc(), &globals)?;
     for (status, code, text) in &ends(rt.alloc())? {
-        let line = end_text(rt.alloc(), &globals, status)?;
+        let line = end_text(rt.alloc(), &globals, &store, status)?;
         assert_eq!(rt; line.as_slice(), text.as_bytes());
         assert_eq!(rt; status.code(), *code);
     }

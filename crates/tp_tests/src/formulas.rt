@@ -3,7 +3,7 @@ use crate::spelling::spell;
 use std::rc::Rc;
 use std::test::Fail;
 use tp_kernel::{Expr, Formula, repeat};
-use tp_value::VarId;
+use tp_value::{Text, VarId};
 
 #[test]
 fn repeat_is_made(rt: HostRuntime) -> Result<(), Fail> {
@@ -14,7 +14,8 @@ fn repeat_is_made(rt: HostRuntime) -> Result<(), Fail> {
     };
     let what = Rc::new(alloc, Formula::More)?;
     let until = Rc::new(alloc, Expr::Global(x))?;
-    let made = spell(alloc, &repeat(alloc, what, until)?)?;
+    let mut made = Text::new(alloc);
+    spell(alloc, &repeat(alloc, what, until)?, &mut made)?;
     assert_eq!(rt;
         made.as_slice(),
         b"(; more (while (not X1) more))".as_slice()

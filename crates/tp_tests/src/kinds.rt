@@ -10,25 +10,6 @@ use std::test::Fail;
 use tp_kernel::{Expr, Exprs, Formula};
 use tp_value::{NoMemory, Text};
 
-// A local that is 1.
-fn local_is_one(alloc: Global) -> Result<Rc<Formula>, NoMemory>
-    ensures { IfOk result (λ w. FormulaFits [] [] (formula_tree w.value) 0) }
-{
-    let local = Rc::new(alloc, Expr::Bound(0))?;
-    let one = Rc::new(alloc, Expr::Number(1))?;
-    let body = Rc::new(alloc, Formula::Eq(local, one))?;
-    let name = Text::from_slice(alloc, b"A".as_slice())?;
-    let whole = Rc::new(
-        alloc,
-        Formula::Exists {
-            name,
-            lasting: false,
-            body,
-        },
-    )?;
-    Ok(whole)
-}
-
 // The number 6 is shown.
 fn six_is_shown(alloc: Global) -> Result<Rc<Formula>, NoMemory>
     ensures { IfOk result (λ w. FormulaFits [] [] (formula_tree w.value) 0) }
@@ -51,8 +32,6 @@ fn six_comes_in(alloc: Global) -> Result<Rc<Formula>, NoMemory>
 #[test]
 fn kinds_without_a_source_are_stepped(rt: HostRuntime) -> Result<(), Fail> {
     let alloc = rt.alloc();
-    let bound = told_formula(alloc, local_is_one(alloc)?, b"01".as_slice())?;
-    assert_eq!(rt; bound.as_str(), "1+0 1, 0+1 0, EndOpen Open");
     let shown = told_formula(alloc, six_is_shown(alloc)?, b"01".as_slice())?;
     assert_eq!(rt; shown.as_str(), "1+0 1, rests 1, EndOpen Open shown");
     let missing = told_formula(alloc, six_comes_in(alloc)?, b"0".as_slice())?;

@@ -6,6 +6,8 @@ mod answers;
 #[cfg(test)]
 mod calls;
 #[cfg(test)]
+mod definitions;
+#[cfg(test)]
 mod devices;
 #[cfg(test)]
 mod formulas;
@@ -31,6 +33,8 @@ mod spelling;
 mod steps;
 #[cfg(test)]
 mod stores;
+#[cfg(test)]
+mod tables;
 #[cfg(test)]
 mod tokens;
 #[cfg(test)]

@@ -30,26 +30,32 @@ pub fn path(alloc: Global, number: u64, at: &[u32]) -> Result<Path, NoMemory>
     })
 }
 
-/// A front, a piece so many times, and what stands behind. In the piece `#` is its number, counted from 0.
-pub fn series(
-    alloc: Global,
-    pattern: &(&'static str, &'static str, &'static str),
-    count: u32,
-) -> Result<String, NoMemory> {
-    let (front, piece, behind) = *pattern;
-    let mut text = String::new(alloc);
-    text.push_str(front)?;
-    for k in 0..count {
-        let number = format!(in alloc; "{k}")?;
+// Writes a piece so many times.
+fn repeat(alloc: Global, piece: &str, times: u32, out: &mut String) -> Result<(), NoMemory> {
+    for k in 0..times {
         for letter in piece.chars() {
-            if letter == '#' {
-                text.push_str(number.as_str())?;
+            if letter == '@' {
+                out.push_str(format!(in alloc; "{k}")?.as_str())?;
             } else {
-                text.push(letter)?;
+                out.push(letter)?;
             }
         }
     }
-    text.push_str(behind)?;
+    Ok(())
+}
+
+/// A text, of which what stands between two `#` is repeated so many times. There `@` is the number of the time, counted from 0.
+pub fn series(alloc: Global, pattern: &str, times: u32) -> Result<String, NoMemory> {
+    let mut text = String::new(alloc);
+    let mut is_repeated = false;
+    for piece in pattern.split('#') {
+        if is_repeated {
+            repeat(alloc, piece, times, &mut text)?;
+        } else {
+            text.push_str(piece)?;
+        }
+        is_repeated = !is_repeated;
+    }
     Ok(text)
 }
 

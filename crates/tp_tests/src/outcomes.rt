@@ -1,8 +1,6 @@
 // The outcomes of expressions, row by row.
-ghost use Rattle.std.specs.Prelude.{◌≡◌, []};
-ghost use Rattle.tp_kernel.specs.Read.{definitions_of};
-
 use crate::making::{nested, one_variable, path, sixes};
+use crate::tables::cut;
 use std::alloc::Global;
 use std::rc::Rc;
 use std::test::Fail;
@@ -11,16 +9,14 @@ use tp_kernel::{Binding, Defs, Env, Expr, Exprs, Op2};
 use tp_store::Store;
 use tp_value::{NoMemory, Value, VarId};
 
-fn no_definitions(alloc: Global) -> Defs
-    ensures { definitions_of result ≡ [] }
-{
+fn no_definitions(alloc: Global) -> Defs {
     Defs {
         items: Vec::new(alloc),
     }
 }
 
 // A is a list of three items, of which the first is 5 and of the second nothing is known; the third is an empty list.
-fn known_state(alloc: Global) -> Result<Store, Fail> {
+pub fn known_state(alloc: Global) -> Result<Store, Fail> {
     let mut store = one_variable(alloc)?;
     store.add_length(&path(alloc, 0, &[])?, 3)?;
     store.add(&path(alloc, 0, &[0])?, &Value::Num(5))?;
@@ -29,7 +25,7 @@ fn known_state(alloc: Global) -> Result<Store, Fail> {
 }
 
 // Bound names: a list of two numbers, the place of A's second item, and a place with 100 indices.
-fn environment(alloc: Global) -> Result<Env, NoMemory> {
+pub fn environment(alloc: Global) -> Result<Env, NoMemory> {
     let items = vec![in alloc;
         Binding::Known(Rc::new(alloc, sixes(alloc, 2)?)?),
         Binding::Place(path(alloc, 0, &[1])?),
@@ -39,7 +35,7 @@ fn environment(alloc: Global) -> Result<Env, NoMemory> {
 }
 
 // The expression of one letter: a digit, the greatest number `M`, the least `i64` `L`, 65,535 `x` and 65,536 `y`, the truth values `t` and
-// `f`, the empty list `e`, a list of 65,536 items `F`, lists that are 99 and 100 deep `C` and `D`, the variable `A`, and the bound names `b`, `c`
+// `f`, the empty list `e`, a list of 65,536 items `F`, lists that are 99 and 100 deep `u` and `v`, the variable `A`, and the bound names `b`, `c`
 // and `d`.
 fn leaf(alloc: Global, letter: u8) -> Result<Option<Expr>, NoMemory> {
     let e = match letter {
@@ -54,8 +50,8 @@ fn leaf(alloc: Global, letter: u8) -> Result<Option<Expr>, NoMemory> {
             items: Vec::new(alloc),
         }),
         b'F' => Expr::Known(Rc::new(alloc, sixes(alloc, 65_536)?)?),
-        b'C' => Expr::Known(Rc::new(alloc, nested(alloc, 99)?)?),
-        b'D' => Expr::Known(Rc::new(alloc, nested(alloc, 100)?)?),
+        b'u' => Expr::Known(Rc::new(alloc, nested(alloc, 99)?)?),
+        b'v' => Expr::Known(Rc::new(alloc, nested(alloc, 100)?)?),
         b'A' => Expr::Global(VarId {
             number: 0,
             lasting: false,
@@ -123,8 +119,37 @@ fn choice(alloc: Global, stack: &mut Vec<Expr>) -> Result<Expr, Fail> {
     Ok(Expr::If(condition, first, second))
 }
 
+// The calls that the letters from `g` on spell: the number of the definition, and how many arguments there are.
+const CALLED: [(u32, usize); 12] = [
+    (0, 0),
+    (1, 1),
+    (2, 1),
+    (3, 1),
+    (4, 2),
+    (5, 1),
+    (6, 1),
+    (7, 1),
+    (8, 3),
+    (1, 0),
+    (1, 2),
+    (9, 0),
+];
+
+fn call(alloc: Global, stack: &mut Vec<Expr>, letter: u8) -> Result<Expr, Fail> {
+    let Some((number, count)) = CALLED.get(letter.saturating_sub(b'g') as usize) else {
+        return Err("no call".into());
+    };
+    let mut items = Vec::new(alloc);
+    for _ in 0..*count {
+        let e = top(stack)?;
+        items.push(e)?;
+    }
+    items.reverse();
+    Ok(Expr::Call(*number, Exprs { items }))
+}
+
 // What a letter makes of the expressions before it: `~` minus, `!` not, `s` the size, `&` and, `,` a list of two, `?` if, `|` or, `@` the
-// element, and the operators.
+// element, `g` to `r` a call, and the operators.
 fn made(alloc: Global, stack: &mut Vec<Expr>, letter: u8) -> Result<Expr, Fail> {
     match letter {
         b'~' => Ok(Expr::Minus(shared(alloc, stack)?)),
@@ -133,12 +158,13 @@ fn made(alloc: Global, stack: &mut Vec<Expr>, letter: u8) -> Result<Expr, Fail> 
         b'&' => Ok(Expr::Both(pair(alloc, stack)?)),
         b',' => Ok(Expr::List(pair(alloc, stack)?)),
         b'?' => choice(alloc, stack),
+        b'g'..=b'r' => call(alloc, stack, letter),
         _ => binary(alloc, stack, letter),
     }
 }
 
 // The expression that is spelled with its operators behind their operands.
-fn read(alloc: Global, text: &[u8]) -> Result<Expr, Fail> {
+pub fn read(alloc: Global, text: &[u8]) -> Result<Expr, Fail> {
     let mut stack = Vec::new(alloc);
     for letter in text {
         let e = match leaf(alloc, *letter)? {
@@ -150,7 +176,7 @@ fn read(alloc: Global, text: &[u8]) -> Result<Expr, Fail> {
     top(&mut stack)
 }
 
-fn outcome_text(alloc: Global, outcome: Outcome) -> Result<String, Fail> {
+pub fn outcome_text(alloc: Global, outcome: Outcome) -> Result<String, Fail> {
     let text = match outcome {
         Outcome::Value(Value::Num(n)) => format!(in alloc; "{n}")?,
         Outcome::Value(Value::Truth(b)) => format!(in alloc; "{b}")?,
@@ -188,113 +214,109 @@ fn place_text(alloc: Global, e: &Expr) -> Result<String, Fail> {
     }
 }
 
-const VALUES: [(&str, &str); 71] = [
-    ("L", "over Number"),
-    ("L~", "over Number"),
-    ("M~", "-9223372036854775807"),
-    ("M2*", "over Number"),
-    ("M1*", "9223372036854775807"),
-    ("12#", "true"),
-    ("22#", "false"),
-    ("1t#", "true"),
-    ("C1,", "list of 2"),
-    ("D1,", "over List"),
-    ("M0+", "9223372036854775807"),
-    ("M1+", "over Number"),
-    ("M~0-", "-9223372036854775807"),
-    ("M~1-", "over Number"),
-    ("23~*", "-6"),
-    ("7~2/", "-4"),
-    ("7~2%", "1"),
-    ("72~%", "-1"),
-    ("70%", "ZeroDivisor"),
-    ("10/", "ZeroDivisor"),
-    ("t~", "WrongKind"),
-    ("33<", "false"),
-    ("33(", "true"),
-    ("32>", "true"),
-    ("33)", "true"),
-    ("1t=", "false"),
-    ("1t<", "WrongKind"),
-    ("10/t~+", "ZeroDivisor"),
-    ("t~10/+", "WrongKind"),
-    ("t0/", "WrongKind"),
-    ("t10/+", "ZeroDivisor"),
-    ("t10/|", "true"),
-    ("f10/|", "ZeroDivisor"),
-    ("f1|", "WrongKind"),
-    ("fA&", "false"),
-    ("ft~&", "false"),
-    ("tt&", "true"),
-    ("1A&", "WrongKind"),
-    ("t110/?", "1"),
-    ("f10/2?", "2"),
-    ("1tf?", "WrongKind"),
-    ("t!", "false"),
-    ("1!", "WrongKind"),
-    ("10/t~,", "ZeroDivisor"),
-    ("12,s", "2"),
-    ("1s", "WrongKind"),
-    ("89,1@", "9"),
-    ("89,2@", "NoElement"),
-    ("89,1~@", "NoElement"),
-    ("89,t@", "WrongKind"),
-    ("12,34,+", "list of 4"),
-    ("12,12,=", "true"),
-    ("Fe+", "list of 65536"),
-    ("F11,+", "over List"),
-    ("A", "wait at 1"),
-    ("A0@", "5"),
-    ("A1@", "wait at 1"),
-    ("A2@", "list of 0"),
-    ("A3@", "NoElement"),
-    ("Ax@", "NoElement"),
-    ("Ay@", "over List"),
-    ("As", "3"),
-    ("A0@s", "WrongKind"),
-    ("A1@s", "wait at 1"),
-    ("A3@s", "NoElement"),
-    ("b1@", "6"),
-    ("by@", "over List"),
-    ("bs", "2"),
-    ("c", "wait at 1"),
-    ("d", "wait at 100"),
-    ("d0@", "over List"),
-];
+const VALUES: &str = "
+L => over Number
+L~ => over Number
+M~ => -9223372036854775807
+M2* => over Number
+M1* => 9223372036854775807
+12# => true
+22# => false
+1t# => true
+u1, => list of 2
+v1, => over List
+M0+ => 9223372036854775807
+M1+ => over Number
+M~0- => -9223372036854775807
+M~1- => over Number
+23~* => -6
+7~2/ => -4
+7~2% => 1
+72~% => -1
+70% => ZeroDivisor
+10/ => ZeroDivisor
+t~ => WrongKind
+33< => false
+33( => true
+32> => true
+33) => true
+1t= => false
+1t< => WrongKind
+10/t~+ => ZeroDivisor
+t~10/+ => WrongKind
+t0/ => WrongKind
+t10/+ => ZeroDivisor
+t10/| => true
+f10/| => ZeroDivisor
+f1| => WrongKind
+fA& => false
+ft~& => false
+tt& => true
+1A& => WrongKind
+t110/? => 1
+f10/2? => 2
+1tf? => WrongKind
+t! => false
+1! => WrongKind
+10/t~, => ZeroDivisor
+12,s => 2
+1s => WrongKind
+89,1@ => 9
+89,2@ => NoElement
+89,1~@ => NoElement
+89,t@ => WrongKind
+12,34,+ => list of 4
+12,12,= => true
+Fe+ => list of 65536
+F11,+ => over List
+A => wait at 1
+A0@ => 5
+A1@ => wait at 1
+A2@ => list of 0
+A3@ => NoElement
+Ax@ => NoElement
+Ay@ => over List
+As => 3
+A0@s => WrongKind
+A1@s => wait at 1
+A3@s => NoElement
+b1@ => 6
+by@ => over List
+bs => 2
+c => wait at 1
+d => wait at 100
+d0@ => over List
+";
 
-const PLACES: [(&str, &str); 8] = [
-    ("1", "no place"),
-    ("10@", "no place"),
-    ("A", "place at 0"),
-    ("Ax@", "place at 1"),
-    ("c0@", "place at 2"),
-    ("b1@", "6"),
-    ("b2@", "NoElement"),
-    ("A10/@", "ZeroDivisor"),
-];
+const PLACES: &str = "
+1 => no place
+10@ => no place
+A => place at 0
+Ax@ => place at 1
+c0@ => place at 2
+b1@ => 6
+b2@ => NoElement
+A10/@ => ZeroDivisor
+";
 
 #[test]
 fn expressions_are_evaluated(rt: HostRuntime) -> Result<(), Fail> {
-    for (spelled, expected) in &VALUES {
+    for row in VALUES.trim().lines() {
+        let (spelled, expected) = cut(row, "=>")?;
         let e = read(rt.alloc(), spelled.as_bytes())?;
-        assert_eq!(rt;
-            value_text(rt.alloc(), &e)?.as_str(),
-            *expected,
-            "for {spelled}"
-        );
+        let found = value_text(rt.alloc(), &e)?;
+        assert_eq!(rt; found.as_str(), expected, "for {spelled}");
     }
     Ok(())
 }
 
 #[test]
 fn places_are_found(rt: HostRuntime) -> Result<(), Fail> {
-    for (spelled, expected) in &PLACES {
+    for row in PLACES.trim().lines() {
+        let (spelled, expected) = cut(row, "=>")?;
         let e = read(rt.alloc(), spelled.as_bytes())?;
-        assert_eq!(rt;
-            place_text(rt.alloc(), &e)?.as_str(),
-            *expected,
-            "for {spelled}"
-        );
+        let found = place_text(rt.alloc(), &e)?;
+        assert_eq!(rt; found.as_str(), expected, "for {spelled}");
     }
     Ok(())
 }

@@ -1,22 +1,21 @@
 // Small runs to their ends: each call succeeds where there is memory enough.
-ghost use Rattle.std.specs.Prelude.{◌≡◌, ◌<◌, [], List, Bool, IfOk};
-ghost use Rattle.tp_kernel.specs.Read.{formula_tree};
-ghost use Rattle.tp_meaning.specs.Fits.{FormulaFits};
-ghost use Rattle.tp_meaning.specs.Interval.{kinds_of};
+ghost use Rattle.std.specs.Prelude.{◌≡◌, ◌<◌};
+ghost use Rattle.tp_meaning.specs.Fits.{ProgramFits};
+ghost use Rattle.tp_check.specs.Program.{program_tree};
 
 use crate::making::path;
 use crate::sources::program_of;
+use crate::tables::{cut, number};
 use std::alloc::Global;
 use std::marker::Brand;
-use std::rc::Rc;
+use std::process::Abort;
 use std::sync::ledger::{Blank, Ledger};
 use std::test::Fail;
 use tp_check::Program;
 use tp_inputs::Inputs;
-use tp_kernel::Formula;
 use tp_run::{Limits, Picture, Run, Turn};
 use tp_step::{Order, Shows, Steps};
-use tp_value::{Facts, Globals, NoMemory};
+use tp_value::{Facts, NoMemory};
 
 // What the run's store knows of the first variable: its name, and the shape of its value where one is kept.
 fn known(alloc: Global, run: &Run) -> Result<String, NoMemory> {
@@ -52,18 +51,17 @@ fn said(alloc: Global, picture: &Picture, run: &Run, out: &mut String) -> Result
 fn history<L: Ledger>(
     alloc: Global,
     blank: Blank,
-    main: Rc<Formula>,
-    globals: &Globals,
+    program: Program,
     limits: Limits,
 ) -> Result<String, Fail>
     requires name { blank.name ≡ L.name }
     requires parts { blank.parts ≡ L.parts }
     requires some { 0 < L.parts }
-    requires fits { FormulaFits [] (kinds_of globals.now) (formula_tree main.value) 0 }
+    requires fits { ProgramFits (program_tree program) }
 {
     let mut steps = Steps::<L>::new(blank);
     let inputs = Inputs::none(alloc)?;
-    let mut run = Run::start(alloc, main, globals, inputs, limits, Order::First)?;
+    let mut run = Run::start(alloc, program, inputs, limits, Order::First)?;
     let mut picture = Picture {
         state: 9,
         facts: Facts {
@@ -90,124 +88,105 @@ fn history<L: Ledger>(
 }
 
 // The states of a run that counts its tries by itself.
-fn told_history(alloc: Global, source: &[u8], limits: Limits) -> Result<String, Fail> {
-    let Program { main, globals } = program_of(alloc, source)?;
-    history::<Brand>(alloc, Blank::new(1), main, &globals, limits)
+fn told_history(alloc: Global, source: &str, limits: Limits) -> Result<String, Fail> {
+    let program = program_of(alloc, source)?;
+    history::<Brand>(alloc, Blank::new(1), program, limits)
 }
 
-// Chops in chops, so many deep: each but the innermost has the next one as its first part, and every other part is the end.
-fn chops(alloc: Global, depth: u32) -> Result<Rc<Formula>, NoMemory>
-    ensures { IfOk result (λ w.
-        (kinds : List Bool) → FormulaFits [] kinds (formula_tree w.value) 0) }
-{
-    let mut whole = Rc::new(alloc, Formula::Empty)?;
-    for _ in 0..depth {
-        let end = Rc::new(alloc, Formula::Empty)?;
-        whole = Rc::new(alloc, Formula::Chop(whole, end))?;
+// A program, the greatest numbers of states and of reductions, the states made, and the end. An empty line ends a row.
+const ROWS: &str = "
+run empty.
+9 states of 9 reductions
+?, 0 /1 ?,
+Finished { length: 0 }
+
+run len(3) and A = 0 and A gets A + 1.
+9 states of 8 reductions
+A, 0 Num(0) /8+ A, 1 Num(1) /7+ A, 2 Num(2) /7+ A, 3 Num(3) /6 A=Num(3),
+Finished { length: 3 }
+
+run len(3) and A = 0 and A gets A + 1.
+9 states of 7 reductions
+A, 9 /0 A=Num(0),
+Over { state: 0, limit: Reductions }
+
+run always(A = 1) and always(more).
+3 states of 9 reductions
+A, 0 Num(1) /7+ A, 1 Num(1) /6+ A, 2 Num(1) /6+ A, 2 Num(1) /6 A,
+StateLimit { states: 3 }
+
+run A = 1.
+9 states of 9 reductions
+A, 9 /0 A=Num(1),
+Undetermined { state: 0, cell: End { region: 0, depth: 0 } }
+
+run empty and A = A + 1.
+9 states of 9 reductions
+A, 9 /0 A,
+Undetermined { state: 0, cell: Part(Path { var: VarId { number: 0, lasting: false }, at: Indices { items: [] } }) }
+
+run A = 1 and A = 2.
+9 states of 9 reductions
+A, 9 /0 A=Num(1),
+Contradictory { state: 0, clash: Facts { kept: Fact { path: Path { var: VarId { number: 0, lasting: false }, at: Indices { items: [] } }, shape: Num(1) }, new: Fact { path: Path { var: VarId { number: 0, lasting: false }, at: Indices { items: [] } }, shape: Num(2) } } }
+
+run A = 9223372036854775807 + 1.
+9 states of 9 reductions
+A, 9 /0 A,
+Over { state: 0, limit: Number }
+
+run for i < 9223372036854775807 do empty.
+9 states of 1000 reductions
+?, 9 /0 ?,
+Over { state: 0, limit: Reductions }
+
+define p() = p(). run p().
+9 states of 1000 reductions
+?, 9 /0 ?,
+Over { state: 0, limit: Reductions }
+";
+
+// The same of regions in regions, so many deep.
+const NESTED: &str = "
+define p(n) = if n = 0 then empty else (p(n - 1); empty). run p(400).
+9 states of 2003 reductions
+?, 0 /2003 ?,
+Finished { length: 0 }
+
+define p(n) = if n = 0 then empty else (p(n - 1); empty). run p(401).
+9 states of 2003 reductions
+?, 9 /0 ?,
+Over { state: 0, limit: Nest }
+";
+
+// The limits of a row.
+fn limits_of(text: &str) -> Result<Limits, Fail> {
+    let (states, reductions) = cut(text, "states of")?;
+    let (reductions, _) = cut(reductions, "reductions")?;
+    let states = u64::from(number(states)?);
+    let reductions = u64::from(number(reductions)?);
+    Ok(Limits { states, reductions })
+}
+
+// Runs the program of each row, and expects what the row says.
+fn expect_rows(rt: &(impl Abort + AllocGlobal), table: &str) -> Result<(), Fail> {
+    for row in table.trim().split("\n\n") {
+        let (source, row) = cut(row, "\n")?;
+        let (limits, row) = cut(row, "\n")?;
+        let text = told_history(rt.alloc(), source, limits_of(limits)?)?;
+        let (made, end) = cut(row, "\n")?;
+        let expected = format!(in rt.alloc(); "{made} {end} {end}")?;
+        assert_eq!(rt; text.as_str(), expected.as_str(), "for {source}");
     }
-    Ok(whole)
+    Ok(())
 }
-
-// The run of these.
-fn told_chops(alloc: Global, depth: u32) -> Result<String, Fail> {
-    let main = chops(alloc, depth)?;
-    let globals = Globals::new(alloc)?;
-    let limits = Limits {
-        states: 9,
-        reductions: 9_999,
-    };
-    history::<Brand>(alloc, Blank::new(1), main, &globals, limits)
-}
-
-// A program, the greatest numbers of states and of reductions, the states made, and the end.
-const ROWS: [(&str, u64, u64, &str, &str); 9] = [
-    ("run empty.", 9, 9, "?, 0 /1 ?, ", "Finished { length: 0 }"),
-    (
-        "run len(3) and A = 0 and A gets A + 1.",
-        9,
-        8,
-        "A, 0 Num(0) /8+ A, 1 Num(1) /7+ A, 2 Num(2) /7+ A, 3 Num(3) /6 A=Num(3), ",
-        "Finished { length: 3 }",
-    ),
-    (
-        "run len(3) and A = 0 and A gets A + 1.",
-        9,
-        7,
-        "A, 9 /0 A=Num(0), ",
-        "Over { state: 0, limit: Reductions }",
-    ),
-    (
-        "run always(A = 1) and always(more).",
-        3,
-        9,
-        "A, 0 Num(1) /7+ A, 1 Num(1) /6+ A, 2 Num(1) /6+ A, 2 Num(1) /6 A, ",
-        "StateLimit { states: 3 }",
-    ),
-    (
-        "run A = 1.",
-        9,
-        9,
-        "A, 9 /0 A=Num(1), ",
-        "Undetermined { state: 0, cell: End { region: 0, depth: 0 } }",
-    ),
-    (
-        "run empty and A = A + 1.",
-        9,
-        9,
-        "A, 9 /0 A, ",
-        "Undetermined { state: 0, cell: Part(Path { var: VarId { number: 0, lasting: false }, at: Indices { items: [] } }) }",
-    ),
-    (
-        "run A = 1 and A = 2.",
-        9,
-        9,
-        "A, 9 /0 A=Num(1), ",
-        "Contradictory { state: 0, clash: Facts { kept: Fact { path: Path { var: VarId { number: 0, lasting: false }, at: Indices { items: [] } }, shape: Num(1) }, new: Fact { path: Path { var: VarId { number: 0, lasting: false }, at: Indices { items: [] } }, shape: Num(2) } } }",
-    ),
-    (
-        "run A = 9223372036854775807 + 1.",
-        9,
-        9,
-        "A, 9 /0 A, ",
-        "Over { state: 0, limit: Number }",
-    ),
-    (
-        "run for i < 9223372036854775807 do empty.",
-        9,
-        1000,
-        "?, 9 /0 ?, ",
-        "Over { state: 0, limit: Reductions }",
-    ),
-];
 
 #[test]
 fn runs_come_to_their_ends(rt: HostRuntime) -> Result<(), Fail> {
-    let tables: [&[(&str, u64, u64, &str, &str)]; 1] = [&ROWS];
-    for table in tables {
-        for (source, states, reductions, made, end) in table {
-            let limits = Limits {
-                states: *states,
-                reductions: *reductions,
-            };
-            let text = told_history(rt.alloc(), source.as_bytes(), limits)?;
-            let expected = format!(in rt.alloc(); "{made}{end} {end}")?;
-            assert_eq!(rt; text.as_str(), expected.as_str());
-        }
-    }
-    Ok(())
+    expect_rows(&rt, ROWS)
 }
 
 #[test]
 fn regions_are_nested_to_their_limit(rt: HostRuntime) -> Result<(), Fail> {
-    let highest = told_chops(rt.alloc(), 400)?;
-    assert_eq!(rt;
-        highest.as_str(),
-        "?, 0 /1201 ?, Finished { length: 0 } Finished { length: 0 }"
-    );
-    let higher = told_chops(rt.alloc(), 401)?;
-    assert_eq!(rt;
-        higher.as_str(),
-        "?, 9 /0 ?, Over { state: 0, limit: Nest } Over { state: 0, limit: Nest }"
-    );
-    Ok(())
+    expect_rows(&rt, NESTED)
 }

@@ -1,7 +1,7 @@
 // What is made of a text, step by step.
 ghost use Rattle.std.specs.Prelude.{IfOk};
-ghost use Rattle.tp_kernel.specs.Read.{formula_tree};
-ghost use Rattle.tp_kernel.specs.Built.{IsBuilt};
+ghost use Rattle.tp_meaning.specs.Fits.{ProgramFits};
+ghost use Rattle.tp_check.specs.Program.{program_tree};
 
 use std::alloc::Global;
 use std::test::Fail;
@@ -23,11 +23,10 @@ pub fn source_of(alloc: Global, text: &str) -> Result<Source, Fail> {
     Ok(source)
 }
 
-pub fn program_of(alloc: Global, text: &[u8]) -> Result<Program, Fail>
-    ensures built { IfOk result (λ p. IsBuilt p.globals (formula_tree p.main.value)) }
+pub fn program_of(alloc: Global, text: &str) -> Result<Program, Fail>
+    ensures fits { IfOk result (λ p. ProgramFits (program_tree p)) }
 {
-    let tokens = tokens_of(alloc, text)?;
-    let source = parse(alloc, &tokens)?;
+    let source = source_of(alloc, text)?;
     let program = check(alloc, &source)?;
     Ok(program)
 }

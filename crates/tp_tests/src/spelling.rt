@@ -1,5 +1,5 @@
 // Formulas as texts: what has operands stands in parentheses, its operator first. A state variable is written by its number behind `X`, a static
-// one behind `x`, a bound name behind `b`. In a range stand its name and its first number.
+// one behind `x`, a bound name behind `b`. In a range stand its name and its first number, in a call the number of the definition.
 use std::alloc::Global;
 use std::rc::Rc;
 use tp_kernel::{Expr, Formula, Op2};
@@ -38,7 +38,8 @@ fn expr_word(e: &Expr) -> &'static str {
         Expr::Either(_, _) => "(or",
         Expr::Op(_, _, _) => "(",
         Expr::If(_, _, _) => "(if",
-        _ => "(?",
+        Expr::Call(_, _) => "(call",
+        Expr::Known(_) => "(?",
     }
 }
 
@@ -59,6 +60,7 @@ fn expr_items<'a>(e: &'a Expr) -> &'a [Expr] {
     match e {
         Expr::List(all) => all.items.as_slice(),
         Expr::Both(all) => all.items.as_slice(),
+        Expr::Call(_, all) => all.items.as_slice(),
         _ => &[],
     }
 }
@@ -84,7 +86,11 @@ fn formula_word(w: &Formula) -> &'static str {
         Formula::For { .. } => "(for",
         Formula::Forall { .. } => "(forall",
         Formula::Proj(_, _) => "(proj",
-        _ => "(?",
+        Formula::Exists { .. } => "(exists",
+        Formula::Call(_, _) => "(call",
+        Formula::WeakNext(_) => "(?",
+        Formula::Input(_, _) => "(?",
+        Formula::Display(_) => "(?",
     }
 }
 
@@ -112,6 +118,7 @@ fn formula_parts<'a>(w: &'a Formula) -> [Option<&'a Formula>; 2] {
         Formula::While(_, a) => [Some(a), None],
         Formula::For { body, .. } => [Some(body), None],
         Formula::Forall { body, .. } => [Some(body), None],
+        Formula::Exists { body, .. } => [Some(body), None],
         Formula::Proj(a, b) => [Some(a), Some(b)],
         Formula::Chop(a, b) => [Some(a), Some(b)],
         Formula::If(_, a, b) => [Some(a), Some(b)],
@@ -122,6 +129,13 @@ fn formula_parts<'a>(w: &'a Formula) -> [Option<&'a Formula>; 2] {
 fn formula_items<'a>(w: &'a Formula) -> &'a [Rc<Formula>] {
     match w {
         Formula::And(all) => all.items.as_slice(),
+        _ => &[],
+    }
+}
+
+fn formula_arguments<'a>(w: &'a Formula) -> &'a [Expr] {
+    match w {
+        Formula::Call(_, all) => all.items.as_slice(),
         _ => &[],
     }
 }
@@ -144,6 +158,7 @@ fn append_head(alloc: Global, e: &Expr, out: &mut Text) -> Result<(), NoMemory> 
             out.append(format!(in alloc; "{kind}{}", x.number)?.as_bytes())
         }
         Expr::Op(op, _, _) => out.append(sign(*op).as_bytes()),
+        Expr::Call(number, _) => out.append(format!(in alloc; " {number}")?.as_bytes()),
         _ => Ok(()),
     }
 }
@@ -154,6 +169,11 @@ fn append_range(alloc: Global, name: &Text, from: i64, out: &mut Text) -> Result
     out.append(format!(in alloc; " {from}")?.as_bytes())
 }
 
+fn append_local(name: &Text, lasting: bool, out: &mut Text) -> Result<(), NoMemory> {
+    out.append(if lasting { b" static " } else { b" " })?;
+    out.append(name.as_slice())
+}
+
 // Writes a formula up to its operands.
 fn append_start(alloc: Global, w: &Formula, out: &mut Text) -> Result<(), NoMemory> {
     out.append(formula_word(w).as_bytes())?;
@@ -161,6 +181,8 @@ fn append_start(alloc: Global, w: &Formula, out: &mut Text) -> Result<(), NoMemo
         Formula::NextEq(count, _, _) => out.append(format!(in alloc; " {count}")?.as_bytes()),
         Formula::For { name, from, .. } => append_range(alloc, name, *from, out),
         Formula::Forall { name, from, .. } => append_range(alloc, name, *from, out),
+        Formula::Exists { name, lasting, .. } => append_local(name, *lasting, out),
+        Formula::Call(number, _) => out.append(format!(in alloc; " {number}")?.as_bytes()),
         _ => Ok(()),
     }
 }
@@ -211,27 +233,41 @@ fn begin_formula<'a>(
             left.push(Piece::Expr(operand))?;
         }
     }
+    for argument in formula_arguments(w).iter().rev() {
+        left.push(Piece::Expr(argument))?;
+    }
     Ok(())
 }
 
-/// The text of a formula, cut off after 1,000 pieces.
-pub fn spell(alloc: Global, w: &Formula) -> Result<Text, NoMemory> {
-    let mut out = Text::new(alloc);
-    let mut left = Vec::new(alloc);
-    begin_formula(alloc, w, &mut left, &mut out)?;
+// Writes what is left, cut off after 1,000 pieces.
+fn finish<'a>(alloc: Global, left: &mut Vec<Piece<'a>>, out: &mut Text) -> Result<(), NoMemory> {
     for _ in 0..1000 {
         match left.pop() {
-            None => return Ok(out),
+            None => return Ok(()),
             Some(Piece::Close) => out.append(b")")?,
             Some(Piece::Expr(e)) => {
                 out.append(b" ")?;
-                begin_expr(alloc, e, &mut left, &mut out)?;
+                begin_expr(alloc, e, left, out)?;
             }
             Some(Piece::Formula(w)) => {
                 out.append(b" ")?;
-                begin_formula(alloc, w, &mut left, &mut out)?;
+                begin_formula(alloc, w, left, out)?;
             }
         }
     }
-    Ok(out)
+    Ok(())
+}
+
+/// Writes a formula.
+pub fn spell(alloc: Global, w: &Formula, out: &mut Text) -> Result<(), NoMemory> {
+    let mut left = Vec::new(alloc);
+    begin_formula(alloc, w, &mut left, out)?;
+    finish(alloc, &mut left, out)
+}
+
+/// Writes an expression.
+pub fn spell_expr(alloc: Global, e: &Expr, out: &mut Text) -> Result<(), NoMemory> {
+    let mut left = Vec::new(alloc);
+    begin_expr(alloc, e, &mut left, out)?;
+    finish(alloc, &mut left, out)
 }

@@ -1,14 +1,15 @@
 // Steps in small: what each kind of formula becomes, and what a state comes to.
 ghost use Rattle.std.specs.Prelude.{◌≡◌, ◌<◌, [], List, Bool, IfOk, OnOk};
-ghost use Rattle.tp_kernel.specs.Read.{definitions_of, formula_tree};
-ghost use Rattle.tp_meaning.specs.Fits.{FormulaFits};
-ghost use Rattle.tp_meaning.specs.Interval.{kinds_of};
+ghost use Rattle.tp_kernel.specs.Read.{formula_tree};
+ghost use Rattle.tp_meaning.specs.Fits.{ProgramFits, FormulaFits};
+ghost use Rattle.tp_check.specs.Program.{program_tree};
 ghost use Rattle.tp_scene.specs.Laws.{IsSound};
 ghost use Rattle.tp_decide.specs.Decided.{setting_of};
 ghost use Rattle.tp_slots.specs.Kept.{IsWellKept};
 ghost use Rattle.tp_step.specs.Answers.{moment_of};
 
 use crate::sources::program_of;
+use crate::tables::{cut, number};
 use std::alloc::Global;
 use std::marker::Brand;
 use std::rc::Rc;
@@ -24,34 +25,28 @@ use tp_step::{
 use tp_store::Store;
 use tp_value::{Globals, NoMemory};
 
-// State 0, without definitions and inputs.
-fn first_setting(alloc: Global) -> Result<Setting, NoMemory>
-    ensures { IfOk result (λ setting. definitions_of setting.defs ≡ []) }
+// What a run of a program begins with, without inputs.
+fn begin(alloc: Global, program: Program) -> Result<(Scene, Store, Setting), NoMemory>
+    requires { ProgramFits (program_tree program) }
+    ensures kept { IfOk result (λ r. IsWellKept r.0) }
+    ensures sound { IfOk result (λ r.
+        (kinds : List Bool) × IsSound (setting_of r.2) kinds (moment_of r.0 r.1)) }
 {
+    let Program {
+        defs,
+        main,
+        globals,
+    } = program;
     let inputs = Inputs::none(alloc)?;
-    let defs = Defs {
-        items: Vec::new(alloc),
-    };
-    Ok(Setting {
+    let store = Store::new(alloc, &globals)?;
+    let scene = start(alloc, &main)?;
+    let setting = Setting {
         alloc,
         defs,
         inputs,
         state: 0,
-    })
-}
-
-// What a run of this program begins with.
-fn begin(alloc: Global, program: &Program, setting: &Setting) -> Result<(Scene, Store), NoMemory>
-    requires none { definitions_of setting.now.defs ≡ [] }
-    requires fits { FormulaFits [] (kinds_of program.now.globals)
-        (formula_tree program.now.main.value) 0 }
-    ensures kept { IfOk result (λ r. IsWellKept r.0) }
-    ensures sound { IfOk result (λ r.
-        (kinds : List Bool) × IsSound (setting_of setting.now) kinds (moment_of r.0 r.1)) }
-{
-    let store = Store::new(alloc, &program.globals)?;
-    let scene = start(alloc, &program.main)?;
-    Ok((scene, store))
+    };
+    Ok((scene, store, setting))
 }
 
 // How many items and facts are new, and whether the region is marked.
@@ -120,7 +115,6 @@ fn tries<L: Ledger>(
     room: u64,
     steps: &mut Steps<L>,
 ) -> Result<String, Fail>
-    requires none { definitions_of setting.now.defs ≡ [] }
     requires kept { IsWellKept scene.old }
     requires sound { (kinds : List Bool)
         × IsSound (setting_of setting.now) kinds (moment_of scene.old store.old) }
@@ -148,11 +142,9 @@ fn tries<L: Ledger>(
 
 // The scene of the next state, which is read with the setting that it leaves.
 fn go_on(scene: Scene, store: &mut Store, setting: &mut Setting) -> Result<Scene, Fail>
-    requires none { definitions_of setting.old.defs ≡ [] }
     requires kept { IsWellKept scene }
     requires sound { (kinds : List Bool)
         × IsSound (setting_of setting.old) kinds (moment_of scene store.old) }
-    ensures none { OnOk result (definitions_of setting.new.defs ≡ []) }
     ensures kept { IfOk result IsWellKept }
     ensures sound { IfOk result (λ next.
         (kinds : List Bool) × IsSound (setting_of setting.new) kinds (moment_of next store.new)) }
@@ -172,9 +164,9 @@ fn go_on(scene: Scene, store: &mut Store, setting: &mut Setting) -> Result<Scene
 
 // The first state of a run, and the second one where there are picks for it.
 fn told<L: Ledger>(
+    alloc: Global,
     blank: Blank,
-    program: &Program,
-    mut setting: Setting,
+    program: Program,
     first: &[u8],
     room: u64,
     second: Option<&[u8]>,
@@ -182,12 +174,10 @@ fn told<L: Ledger>(
     requires name { blank.name ≡ L.name }
     requires parts { blank.parts ≡ L.parts }
     requires some { 0 < L.parts }
-    requires none { definitions_of setting.defs ≡ [] }
-    requires fits { FormulaFits [] (kinds_of program.now.globals)
-        (formula_tree program.now.main.value) 0 }
+    requires fits { ProgramFits (program_tree program) }
 {
     let mut steps = Steps::<L>::new(blank);
-    let (mut scene, mut store) = begin(setting.alloc, program, &setting)?;
+    let (mut scene, mut store, mut setting) = begin(alloc, program)?;
     let mut out = tries(&mut scene, &mut store, first, &setting, room, &mut steps)?;
     let Some(second) = second else {
         return Ok(out);
@@ -202,235 +192,108 @@ fn told<L: Ledger>(
 // The same of a source, by steps that count their tries by themselves.
 fn told_items(
     alloc: Global,
-    source: &[u8],
+    source: &str,
     first: &[u8],
     room: u64,
     second: Option<&[u8]>,
 ) -> Result<String, Fail> {
     let program = program_of(alloc, source)?;
-    let setting = first_setting(alloc)?;
-    told::<Brand>(Blank::new(1), &program, setting, first, room, second)
+    told::<Brand>(alloc, Blank::new(1), program, first, room, second)
 }
 
 /// The same of a formula without variables, in its first state.
 pub fn told_formula(alloc: Global, main: Rc<Formula>, picks: &[u8]) -> Result<String, Fail>
     requires { FormulaFits [] [] (formula_tree main.value) 0 }
 {
+    let defs = Defs {
+        items: Vec::new(alloc),
+    };
     let globals = Globals::new(alloc)?;
-    let program = Program { main, globals };
-    let setting = first_setting(alloc)?;
-    told::<Brand>(Blank::new(1), &program, setting, picks, 9, None)
+    let program = Program {
+        defs,
+        main,
+        globals,
+    };
+    told::<Brand>(alloc, Blank::new(1), program, picks, 9, None)
 }
 
 // A program, the items that are tried, how many reductions are left at each, and what is answered.
-const KINDS: [(&str, &str, u64, &str); 16] = [
-    ("run true.", "0", 1, "0+0 0, EndOpen Open"),
-    ("run 1 < 2.", "0", 1, "0+0 0, EndOpen Open"),
-    ("run false.", "0", 1, "clash 1, Waiting(0) Open"),
-    ("run A < 2.", "0", 0, "waits 1, Waiting(0) Open"),
-    ("run A = 1.", "0", 1, "0+1 0, EndOpen Open"),
-    ("run A = 1.", "0", 0, "over 1, Waiting(0) Open"),
-    (
-        "run next A = 1.",
-        "0123",
-        1,
-        "2+0 2, 0+0! 1, 1+0! 1, rests 1, Goes Goes",
-    ),
-    ("run empty.", "0", 1, "0+0! 0, Ends Ends"),
-    ("run more.", "0", 1, "0+0! 0, Goes Goes"),
-    ("run next true.", "01", 1, "1+0! 1, rests 1, Goes Goes"),
-    (
-        "run always(true).",
-        "012",
-        1,
-        "2+0 2, 0+0 1, waits 1, Waiting(2) Open",
-    ),
-    (
-        "run keep(true).",
-        "01",
-        1,
-        "2+0 2, waits 2, Waiting(1) Open",
-    ),
-    ("run fin(true).", "01", 1, "2+0 2, waits 2, Waiting(1) Open"),
-    (
-        "run if true then true else empty.",
-        "01",
-        1,
-        "1+0 1, 0+0 0, EndOpen Open",
-    ),
-    ("run len(1).", "012", 1, "1+0 1, 1+0! 1, rests 1, Goes Goes"),
-    (
-        "run A <- 1.",
-        "012",
-        1,
-        "1+0 1, 2+0 2, waits 2, Waiting(2) Open",
-    ),
-];
+const KINDS: &str = "
+run true. | 0 | 1 | 0+0 0, EndOpen Open
+run 1 < 2. | 0 | 1 | 0+0 0, EndOpen Open
+run false. | 0 | 1 | clash 1, Waiting(0) Open
+run A < 2. | 0 | 0 | waits 1, Waiting(0) Open
+run A = 1. | 0 | 1 | 0+1 0, EndOpen Open
+run A = 1. | 0 | 0 | over 1, Waiting(0) Open
+run next A = 1. | 0123 | 1 | 2+0 2, 0+0! 1, 1+0! 1, rests 1, Goes Goes
+run empty. | 0 | 1 | 0+0! 0, Ends Ends
+run more. | 0 | 1 | 0+0! 0, Goes Goes
+run next true. | 01 | 1 | 1+0! 1, rests 1, Goes Goes
+run always(true). | 012 | 1 | 2+0 2, 0+0 1, waits 1, Waiting(2) Open
+run keep(true). | 01 | 1 | 2+0 2, waits 2, Waiting(1) Open
+run fin(true). | 01 | 1 | 2+0 2, waits 2, Waiting(1) Open
+run if true then true else empty. | 01 | 1 | 1+0 1, 0+0 0, EndOpen Open
+run len(1). | 012 | 1 | 1+0 1, 1+0! 1, rests 1, Goes Goes
+run A <- 1. | 012 | 1 | 1+0 1, 2+0 2, waits 2, Waiting(2) Open
+run exists A: A = 1. | 01 | 1 | 1+0 1, 0+1 0, EndOpen Open
+define p(x) = A = x. run p(1). | 01 | 1 | 1+0 1, 0+1 0, EndOpen Open
+define p(x) = true. run p(A). | 0 | 1 | waits 1, Waiting(0) Open
+define p(x) = true. run p(1 div 0). | 0 | 1 | clash 1, Waiting(0) Open
+define p(x) = true. run p(1). | 0 | 0 | over 1, Waiting(0) Open
+";
 
 // Programs of which one item meets what another has done.
-const MEETINGS: [(&str, &str, u64, &str); 9] = [
-    (
-        "run more and empty.",
-        "012",
-        9,
-        "2+0 2, 0+0! 1, clash 1, Waiting(2) Goes",
-    ),
-    (
-        "run empty and next true.",
-        "012",
-        9,
-        "2+0 2, 0+0! 1, clash 1, Waiting(2) Ends",
-    ),
-    (
-        "run A = 1 and A = 2.",
-        "012",
-        9,
-        "2+0 2, 0+1 1, clash 1, Waiting(2) Open",
-    ),
-    (
-        "run A = 1 and A < 2.",
-        "0212",
-        9,
-        "2+0 2, waits 2, 0+1 1, 0+0 0, EndOpen Open",
-    ),
-    (
-        "run more and always(true).",
-        "012453",
-        9,
-        "2+0 2, 0+0! 1, 2+0 2, 1+0 2, rests 2, 0+0 1, Goes Goes",
-    ),
-    (
-        "run empty and always(true).",
-        "01243",
-        9,
-        "2+0 2, 0+0! 1, 2+0 2, 0+0 1, 0+0 0, Ends Ends",
-    ),
-    (
-        "run more and keep(true).",
-        "012354",
-        9,
-        "2+0 2, 0+0! 1, 2+0 2, 1+0 2, 0+0 1, 1+0 1, Goes Goes",
-    ),
-    (
-        "run empty and fin(true).",
-        "012354",
-        9,
-        "2+0 2, 0+0! 1, 2+0 2, 1+0 2, 0+0 1, 0+0 0, Ends Ends",
-    ),
-    (
-        "run next true and A = 1.",
-        "01",
-        9,
-        "2+0 2, 1+0! 2, Waiting(2) Goes",
-    ),
-];
+const MEETINGS: &str = "
+run more and empty. | 012 | 9 | 2+0 2, 0+0! 1, clash 1, Waiting(2) Goes
+run empty and next true. | 012 | 9 | 2+0 2, 0+0! 1, clash 1, Waiting(2) Ends
+run A = 1 and A = 2. | 012 | 9 | 2+0 2, 0+1 1, clash 1, Waiting(2) Open
+run A = 1 and A < 2. | 0212 | 9 | 2+0 2, waits 2, 0+1 1, 0+0 0, EndOpen Open
+run more and always(true). | 012453 | 9 | 2+0 2, 0+0! 1, 2+0 2, 1+0 2, rests 2, 0+0 1, Goes Goes
+run empty and always(true). | 01243 | 9 | 2+0 2, 0+0! 1, 2+0 2, 0+0 1, 0+0 0, Ends Ends
+run more and keep(true). | 012354 | 9 | 2+0 2, 0+0! 1, 2+0 2, 1+0 2, 0+0 1, 1+0 1, Goes Goes
+run empty and fin(true). | 012354 | 9 | 2+0 2, 0+0! 1, 2+0 2, 1+0 2, 0+0 1, 0+0 0, Ends Ends
+run next true and A = 1. | 01 | 9 | 2+0 2, 1+0! 2, Waiting(2) Goes
+";
 
 // Programs of which some items hold regions.
-const REGIONS: [(&str, &str, u64, &str); 11] = [
-    (
-        "run empty ; A = 1.",
-        "0123",
-        9,
-        "2+0 2, 0+0! 1, 2+0 2, rests 2, Waiting(4) Open 1:Ends",
-    ),
-    (
-        "run more ; true.",
-        "012",
-        9,
-        "2+0 2, 0+0! 1, rests 1, Goes Goes 1:Goes",
-    ),
-    (
-        "run true ; true.",
-        "012",
-        9,
-        "2+0 2, 0+0 1, waits 1, Waiting(2) Open 1:Open",
-    ),
-    ("run true ; true.", "0", 0, "over 1, Waiting(0) Open"),
-    (
-        "run while false do true.",
-        "012",
-        9,
-        "1+0 1, 1+0 1, 0+0! 0, Ends Ends",
-    ),
-    (
-        "run while true do true.",
-        "0123",
-        9,
-        "1+0 1, 1+0 1, 2+0 2, 2+0 3, Waiting(5) Open 1:Open",
-    ),
-    (
-        "run for i < 0 do true.",
-        "01",
-        9,
-        "1+0 1, 0+0! 0, Ends Ends",
-    ),
-    (
-        "run for i < 2 do true.",
-        "01",
-        9,
-        "2+0 2, 0+0 1, Waiting(2) Open 1:Open",
-    ),
-    (
-        "run forall i < 2: A = i.",
-        "0123",
-        9,
-        "2+0 2, 0+1 1, 2+0 2, clash 2, Waiting(3) Open",
-    ),
-    (
-        "run empty proj more.",
-        "01234",
-        9,
-        "2+0 2, 0+0! 1, 3+0 3, 0+0! 2, clash 2, Waiting(4) Goes 1:Goes 2:Ends",
-    ),
-    (
-        "run empty proj empty.",
-        "012",
-        9,
-        "2+0 2, 0+0! 1, rests 1, Ends Ends 1:Ends",
-    ),
-];
+const REGIONS: &str = "
+run empty ; A = 1. | 0123 | 9 | 2+0 2, 0+0! 1, 2+0 2, rests 2, Waiting(4) Open 1:Ends
+run more ; true. | 012 | 9 | 2+0 2, 0+0! 1, rests 1, Goes Goes 1:Goes
+run true ; true. | 012 | 9 | 2+0 2, 0+0 1, waits 1, Waiting(2) Open 1:Open
+run true ; true. | 0 | 0 | over 1, Waiting(0) Open
+run while false do true. | 012 | 9 | 1+0 1, 1+0 1, 0+0! 0, Ends Ends
+run while true do true. | 0123 | 9 | 1+0 1, 1+0 1, 2+0 2, 2+0 3, Waiting(5) Open 1:Open
+run for i < 0 do true. | 01 | 9 | 1+0 1, 0+0! 0, Ends Ends
+run for i < 2 do true. | 01 | 9 | 2+0 2, 0+0 1, Waiting(2) Open 1:Open
+run forall i < 2: A = i. | 0123 | 9 | 2+0 2, 0+1 1, 2+0 2, clash 2, Waiting(3) Open
+run empty proj more. | 01234 | 9 | \
+    2+0 2, 0+0! 1, 3+0 3, 0+0! 2, clash 2, Waiting(4) Goes 1:Goes 2:Ends
+run empty proj empty. | 012 | 9 | 2+0 2, 0+0! 1, rests 1, Ends Ends 1:Ends
+";
 
 // A program, the items that are tried in the first state and in the second, and what is answered.
-const STATES: [(&str, &str, &str, &str); 5] = [
-    (
-        "run len(1).",
-        "01",
-        "01",
-        "1+0 1, 1+0! 1, Goes Goes then 1+0 1, 0+0! 0, Ends Ends",
-    ),
-    (
-        "run next A = 1.",
-        "012",
-        "0",
-        "2+0 2, 0+0! 1, 1+0! 1, Goes Goes then 0+1 0, EndOpen Open",
-    ),
-    (
-        "run next true.",
-        "0",
-        "",
-        "1+0! 1, Goes Goes then Waiting(0) Open",
-    ),
-    (
-        "run len(1) ; true.",
-        "013",
-        "0213",
-        "2+0 2, 1+0 2, 1+0! 2, Goes Goes 1:Goes then 1+0 2, 0+0! 1, 2+0 2, rests 2, Waiting(4) Open 1:Ends",
-    ),
-    (
-        "run skip proj skip.",
-        "01245",
-        "0124",
-        "2+0 2, 1+0! 2, 3+0 4, 1+0! 4, 0+0! 3, Goes Goes 1:Goes 2:Goes then 0+0! 1, 3+0 3, 0+0! 2, rests 2, Ends Ends 1:Ends 2:Ends",
-    ),
-];
+const STATES: &str = "
+run len(1). | 01 | 01 | 1+0 1, 1+0! 1, Goes Goes then 1+0 1, 0+0! 0, Ends Ends
+run next A = 1. | 012 | 0 | 2+0 2, 0+0! 1, 1+0! 1, Goes Goes then 0+1 0, EndOpen Open
+run next true. | 0 |  | 1+0! 1, Goes Goes then Waiting(0) Open
+define p(X) = skip and next (X = 1). run p(A). | 0123 | 10 | \
+    1+0 1, 2+0 2, 1+0! 2, 1+0! 2, Goes Goes then 0+1 1, 0+0! 0, Ends Ends
+run len(1) ; true. | 013 | 0213 | \
+    2+0 2, 1+0 2, 1+0! 2, Goes Goes 1:Goes then 1+0 2, 0+0! 1, 2+0 2, rests 2, Waiting(4) Open 1:Ends
+run skip proj skip. | 01245 | 0124 | \
+    2+0 2, 1+0! 2, 3+0 4, 1+0! 4, 0+0! 3, Goes Goes 1:Goes 2:Goes then 0+0! 1, 3+0 3, 0+0! 2, rests 2, Ends Ends 1:Ends 2:Ends
+";
 
 #[test]
 fn items_are_reduced(rt: HostRuntime) -> Result<(), Fail> {
-    let tables: [&[(&str, &str, u64, &str)]; 3] = [&KINDS, &MEETINGS, &REGIONS];
-    for table in tables {
-        for (source, picks, room, expected) in table {
-            let text = told_items(rt.alloc(), source.as_bytes(), picks.as_bytes(), *room, None)?;
-            assert_eq!(rt; text.as_str(), *expected, "for {source}");
+    for table in [KINDS, MEETINGS, REGIONS] {
+        for row in table.trim().lines() {
+            let (source, row) = cut(row, "|")?;
+            let (picks, row) = cut(row, "|")?;
+            let (room, expected) = cut(row, "|")?;
+            let room = u64::from(number(room)?);
+            let text = told_items(rt.alloc(), source, picks.as_bytes(), room, None)?;
+            assert_eq!(rt; text.as_str(), expected, "for {source}");
         }
     }
     Ok(())
@@ -438,13 +301,13 @@ fn items_are_reduced(rt: HostRuntime) -> Result<(), Fail> {
 
 #[test]
 fn a_state_goes_on(rt: HostRuntime) -> Result<(), Fail> {
-    let tables: [&[(&str, &str, &str, &str)]; 1] = [&STATES];
-    for table in tables {
-        for (source, first, second, expected) in table {
-            let second = Some(second.as_bytes());
-            let text = told_items(rt.alloc(), source.as_bytes(), first.as_bytes(), 9, second)?;
-            assert_eq!(rt; text.as_str(), *expected, "for {source}");
-        }
+    for row in STATES.trim().lines() {
+        let (source, row) = cut(row, "|")?;
+        let (first, row) = cut(row, "|")?;
+        let (second, expected) = cut(row, "|")?;
+        let second = Some(second.as_bytes());
+        let text = told_items(rt.alloc(), source, first.as_bytes(), 9, second)?;
+        assert_eq!(rt; text.as_str(), expected, "for {source}");
     }
     Ok(())
 }

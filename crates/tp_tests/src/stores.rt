@@ -1,8 +1,9 @@
 // A store in small: each call succeeds where there is memory enough.
-ghost use Rattle.std.specs.Prelude.{◌≡◌};
-ghost use Rattle.tp_store.specs.Known.{IsVariableOf};
+ghost use Rattle.std.specs.Prelude.{◌≡◌, ◌∷◌, [], IfOk, false};
+ghost use Rattle.tp_store.specs.Known.{IsVariableOf, global_variable};
 
 use crate::making::{nested, one_variable, path, sixes};
+use crate::tables::{cut, number};
 use std::alloc::Global;
 use std::process::Abort;
 use std::test::Fail;
@@ -90,85 +91,116 @@ fn known(alloc: Global, known: &Known) -> Result<String, NoMemory> {
     }
 }
 
-// Where, what is added there, what the store says when it is asked and when it is done, and a place and what is known there then.
-type Row = (
-    &'static [u32],
-    Added,
-    &'static str,
-    &'static str,
-    &'static [u32],
-    &'static str,
-);
+// A place, what is added there, what the store says when it is asked and when it is done, and a place and what is known there then.
+const FILLED: &str = "
+A[1] | number 7 => free | 1 new => A | open at []
+A | length 1 => 1 against 0 | 1 against 0 => A | open at []
+A | length 2 => free | 1 new => A | open at [0]
+A | length 2 => free | 0 new => A | open at [0]
+A[2] | number 7 => 0 against 1 | 0 against 1 => A[2] | absent
+A[0] | number 8 => free | 1 new => A | known
+A[1] | number 8 => 1 against 1 | 1 against 1 => A | known
+A | number 8 => 0 against 0 | 0 against 0 => A | known
+";
 
-const FILLED: [Row; 8] = [
-    (&[1], Num(7), "free", "1 new", &[], "open at []"),
-    (
-        &[],
-        Length(1),
-        "1 against 0",
-        "1 against 0",
-        &[],
-        "open at []",
-    ),
-    (&[], Length(2), "free", "1 new", &[], "open at [0]"),
-    (&[], Length(2), "free", "0 new", &[], "open at [0]"),
-    (&[2], Num(7), "0 against 1", "0 against 1", &[2], "absent"),
-    (&[0], Num(8), "free", "1 new", &[], "known"),
-    (&[1], Num(8), "1 against 1", "1 against 1", &[], "known"),
-    (&[], Num(8), "0 against 0", "0 against 0", &[], "known"),
-];
+const LISTED: &str = "
+A | sixes 2 => free | 3 new => A[1] | known
+A[0] | number 6 => free | 0 new => A[0][0] | absent
+A[0] | truth 1 => 1 against 1 | 1 against 1 => A[2] | absent
+";
 
-const LISTED: [Row; 3] = [
-    (&[], Sixes(2), "free", "3 new", &[1], "known"),
-    (&[0], Num(6), "free", "0 new", &[0, 0], "absent"),
-    (
-        &[0],
-        Truth(true),
-        "1 against 1",
-        "1 against 1",
-        &[2],
-        "absent",
-    ),
-];
-
-const TOLD: [Row; 3] = [
-    (&[], Truth(true), "free", "1 new", &[], "known"),
-    (&[], Truth(true), "free", "0 new", &[0], "absent"),
-    (
-        &[],
-        Truth(false),
-        "0 against 0",
-        "0 against 0",
-        &[],
-        "known",
-    ),
-];
+const TOLD: &str = "
+A | truth 1 => free | 1 new => A | known
+A | truth 1 => free | 0 new => A[0] | absent
+A | truth 0 => 0 against 0 | 0 against 0 => A | known
+";
 
 // One list, at most 100 deep, is a value; deeper ones are too long.
-const DEEP: [Row; 1] = [(&[], Nested(100), "free", "101 new", &[], "known")];
+const DEEP: &str = "A | nested 100 => free | 101 new => A | known";
 
-const DEEPER: [Row; 1] = [(&[], Nested(101), "free", "102 new", &[], "too long")];
+const DEEPER: &str = "A | nested 101 => free | 102 new => A | too long";
 
-fn expect(rt: &(impl Abort + AllocGlobal), rows: &[Row]) -> Result<(), Fail> {
-    let alloc = rt.alloc();
-    let mut store = one_variable(alloc)?;
-    for (at, added, free, answer, place, text) in rows {
-        let here = path(alloc, 0, at)?;
-        let found = ask(alloc, &store, &here, *added);
-        assert_eq!(rt; asked(alloc, found)?.as_str(), *free);
-        let news = put(alloc, &mut store, &here, *added);
-        assert_eq!(rt; answered(alloc, news)?.as_str(), *answer);
-        let there = path(alloc, 0, place)?;
-        assert_eq!(rt; known(alloc, &store.full(&there)?)?.as_str(), *text);
+// The place of the variable A that is written so.
+fn place(alloc: Global, text: &str) -> Result<Path, Fail>
+    ensures { IfOk result (λ path. path.var ≡ record { number = 0; lasting = false }) }
+{
+    let mut at = Vec::new(alloc);
+    for index in text.split('[').skip(1) {
+        at.push(number(index.trim_end_matches(']'))?)?;
     }
+    let place = path(alloc, 0, at.as_slice())?;
+    Ok(place)
+}
+
+fn thing_to_add(text: &str) -> Result<Added, Fail> {
+    let (kind, count) = cut(text, " ")?;
+    let count = number(count)?;
+    match kind {
+        "number" => Ok(Num(count)),
+        "truth" => Ok(Truth(count == 1)),
+        "sixes" => Ok(Sixes(count as usize)),
+        "nested" => Ok(Nested(count as usize)),
+        "length" => Ok(Length(count)),
+        _ => Err("nothing to add".into()),
+    }
+}
+
+// Asks whether this can be added, and adds it, or not.
+fn expect_added(
+    rt: &(impl Abort + AllocGlobal),
+    store: &mut Store,
+    at: &str,
+    adding: &str,
+    free: &str,
+    answer: &str,
+) -> Result<(), Fail>
+    requires { store.old.variables ≡ global_variable (65 ∷ []) ∷ [] }
+    ensures { store.new.variables ≡ store.old.variables }
+{
+    let here = place(rt.alloc(), at)?;
+    let adding = thing_to_add(adding)?;
+    let found = ask(rt.alloc(), store, &here, adding);
+    assert_eq!(rt; asked(rt.alloc(), found)?.as_str(), free);
+    let news = put(rt.alloc(), store, &here, adding);
+    assert_eq!(rt; answered(rt.alloc(), news)?.as_str(), answer);
     Ok(())
+}
+
+fn expect_known(
+    rt: &(impl Abort + AllocGlobal),
+    store: &Store,
+    at: &str,
+    text: &str,
+) -> Result<(), Fail>
+    requires { store.now.variables ≡ global_variable (65 ∷ []) ∷ [] }
+{
+    let there = place(rt.alloc(), at)?;
+    let found = store.full(&there)?;
+    assert_eq!(rt; known(rt.alloc(), &found)?.as_str(), text);
+    Ok(())
+}
+
+// Adds what a row says, and expects what it tells.
+fn expect(rt: &(impl Abort + AllocGlobal), store: &mut Store, row: &str) -> Result<(), Fail>
+    requires { store.old.variables ≡ global_variable (65 ∷ []) ∷ [] }
+    ensures { store.new.variables ≡ store.old.variables }
+{
+    let (adding, row) = cut(row, "=>")?;
+    let (answers, there) = cut(row, "=>")?;
+    let (at, adding) = cut(adding, "|")?;
+    let (free, answer) = cut(answers, "|")?;
+    expect_added(rt, store, at, adding, free, answer)?;
+    let (at, text) = cut(there, "|")?;
+    expect_known(rt, store, at, text)
 }
 
 #[test]
 fn facts_are_added(rt: HostRuntime) -> Result<(), Fail> {
-    let tables: [&[Row]; 5] = [&FILLED, &LISTED, &TOLD, &DEEP, &DEEPER];
-    for rows in tables {
-        expect(&rt, rows)?;
+    for table in [FILLED, LISTED, TOLD, DEEP, DEEPER] {
+        let mut store = one_variable(rt.alloc())?;
+        for row in table.trim().lines() {
+            expect(&rt, &mut store, row)?;
+        }
     }
     Ok(())
 }

@@ -1,12 +1,17 @@
 // Texts and their tokens, refusals and places.
+use crate::making::series;
 use crate::sources::tokens_of;
+use crate::tables::cut;
+use std::alloc::Global;
+use std::process::Abort;
 use std::test::Fail;
-use tp_lex::{Kind, LexRefusal, place_of};
+use tp_lex::{Kind, place_of};
 
-const WORDS: &[u8] =
-    b"if then else while do repeat until for forall exists define run true false and or not div mod empty more skip next always keep fin halt stable sometimes gets len list input display proj";
+const WORDS: &str = "\
+    if then else while do repeat until for forall exists define run true false and or not div mod empty more skip next \
+    always keep fin halt stable sometimes gets len list input display proj";
 
-const SYMBOLS: &[u8] = b"( ) { } [ ] < > <= >= <> = + - * ; , . : := <- |";
+const SYMBOLS: &str = "( ) { } [ ] < > <= >= <> = + - * ; , . : := <- |";
 
 // The number of the kind's word or symbol in its list, or 100 for a name and 101 for a number.
 fn number_of(kind: &Kind) -> u8 {
@@ -19,30 +24,60 @@ fn number_of(kind: &Kind) -> u8 {
     }
 }
 
+// The numbers of a text's tokens.
+fn numbers(alloc: Global, text: &str) -> Result<String, Fail> {
+    let found = tokens_of(alloc, text.as_bytes())?;
+    let mut out = String::new(alloc);
+    for token in &found.items {
+        let number = format!(in alloc; "{} ", number_of(&token.kind))?;
+        out.push_str(number.as_str())?;
+    }
+    Ok(out)
+}
+
+// Texts, and the numbers of their tokens.
+const READ: &str = "
+=>
+/* run */ /**/ =>
+run A1_b=10. => 11 100 11 101 17
+a<-1<>2<=:=: => 100 20 101 10 101 8 19 18
+ifx if run_ => 100 0 100
+12ab => 101 100
+9223372036854775807 => 101
+";
+
 #[test]
 fn reads_texts(rt: HostRuntime) -> Result<(), Fail> {
-    let alloc = rt.alloc();
-    for (text, count) in [(WORDS, 35), (SYMBOLS, 22)] {
-        let found = tokens_of(alloc, text).ok().ok_or("tokens")?;
-        assert_eq!(rt; found.items.len(), count);
-        for (i, token) in found.items.iter().enumerate() {
-            assert_eq!(rt; usize::from(number_of(&token.kind)), i);
-        }
+    for (text, times) in [(WORDS, 35), (SYMBOLS, 22)] {
+        let expected = series(rt.alloc(), "#@ #", times)?;
+        assert_eq!(rt; numbers(rt.alloc(), text)?.as_str(), expected.as_str());
     }
-    let cases: [(&[u8], &[u8]); 7] = [
-        (b"", &[]),
-        (b" \t\r\n/* run */ /**/", &[]),
-        (b"run A1_b=10.", &[11, 100, 11, 101, 17]),
-        (b"a<-1<>2<=:=:", &[100, 20, 101, 10, 101, 8, 19, 18]),
-        (b"ifx if run_", &[100, 0, 100]),
-        (b"12ab", &[101, 100]),
-        (b"9223372036854775807", &[101]),
-    ];
-    for (text, numbers) in cases {
-        let found = tokens_of(alloc, text).ok().ok_or("tokens")?;
-        assert_eq!(rt; found.items.len(), numbers.len());
-        for (token, number) in found.items.iter().zip(numbers) {
-            assert_eq!(rt; number_of(&token.kind), *number);
+    for row in READ.trim().lines() {
+        let (text, expected) = cut(row, "=>")?;
+        let found = numbers(rt.alloc(), text)?;
+        assert_eq!(rt; found.as_str().trim(), expected, "for {text}");
+    }
+    assert_eq!(rt; numbers(rt.alloc(), " \t\r\n/* run */ /**/")?.as_str(), "");
+    Ok(())
+}
+
+// Texts, and why they are refused.
+const REFUSED: &str = "
+A @ B => BadByte { at: 2 }
+_a => BadByte { at: 0 }
+A / B => BadByte { at: 2 }
+ab /*/ => OpenComment { at: 3 }
+/* /* */ */ => BadByte { at: 10 }
+1 9223372036854775808 => NumberTooLarge { at: 2 }
+/* @ => OpenComment { at: 0 }
+";
+
+fn expect_refusal(rt: &(impl Abort + AllocGlobal), text: &str, refusal: &str) -> Result<(), Fail> {
+    match tokens_of(rt.alloc(), text.as_bytes()) {
+        Ok(_) => return Err("tokens".into()),
+        Err(answer) => {
+            let answer = format!(in rt.alloc(); "{answer:?}")?;
+            assert_eq!(rt; answer.as_str(), refusal, "for {text}");
         }
     }
     Ok(())
@@ -50,43 +85,33 @@ fn reads_texts(rt: HostRuntime) -> Result<(), Fail> {
 
 #[test]
 fn refuses_texts(rt: HostRuntime) -> Result<(), Fail> {
-    let alloc = rt.alloc();
-    let long = [b'n'; 65];
-    let cases: [(&[u8], LexRefusal); 8] = [
-        (b"A @ B", LexRefusal::BadByte { at: 2 }),
-        (b"_a", LexRefusal::BadByte { at: 0 }),
-        (b"A / B", LexRefusal::BadByte { at: 2 }),
-        (b"ab /*/", LexRefusal::OpenComment { at: 3 }),
-        (b"/* /* */ */", LexRefusal::BadByte { at: 10 }),
-        (
-            b"1 9223372036854775808",
-            LexRefusal::NumberTooLarge { at: 2 },
-        ),
-        (&long, LexRefusal::NameTooLong { at: 0 }),
-        (b"/* @", LexRefusal::OpenComment { at: 0 }),
-    ];
-    for (text, refusal) in cases {
-        assert_eq!(rt; tokens_of(alloc, text).err(), Some(refusal));
+    for row in REFUSED.trim().lines() {
+        let (text, refusal) = cut(row, "=>")?;
+        expect_refusal(&rt, text, refusal)?;
     }
-    assert!(rt; tokens_of(alloc, &long[1..]).is_ok());
-    Ok(())
+    let longest = series(rt.alloc(), "#n#", 64)?;
+    assert!(rt; tokens_of(rt.alloc(), longest.as_bytes()).is_ok());
+    let longer = series(rt.alloc(), "#n#", 65)?;
+    expect_refusal(&rt, longer.as_str(), "NameTooLong { at: 0 }")
+}
+
+// A place in the text, its line and its column.
+fn expect_place(rt: &(impl Abort + AllocGlobal), text: &[u8], at: usize, place: (u32, u32)) {
+    assert!(rt; at <= text.len());
+    assert!(rt; text.len() <= 100);
+    assert_eq!(rt; place_of(text, at), place);
 }
 
 #[test]
 fn tells_places(rt: HostRuntime) -> Result<(), Fail> {
-    let text = b"a\n\nb c";
-    for (at, place) in [
-        (0, (1, 1)),
-        (1, (1, 2)),
-        (2, (2, 1)),
-        (3, (3, 1)),
-        (5, (3, 3)),
-        (6, (3, 4)),
-    ] {
-        assert!(rt; at <= text.len());
-        assert_eq!(rt; place_of(text, at), place);
-    }
-    let found = tokens_of(rt.alloc(), text).ok().ok_or("tokens")?;
+    let text = b"a\n\nb c".as_slice();
+    expect_place(&rt, text, 0, (1, 1));
+    expect_place(&rt, text, 1, (1, 2));
+    expect_place(&rt, text, 2, (2, 1));
+    expect_place(&rt, text, 3, (3, 1));
+    expect_place(&rt, text, 5, (3, 3));
+    expect_place(&rt, text, 6, (3, 4));
+    let found = tokens_of(rt.alloc(), text)?;
     let last = found.items.last().ok_or("a token")?;
     assert_eq!(rt; (last.from, last.to, last.line, last.column), (5, 6, 3, 3));
     Ok(())

@@ -3,13 +3,15 @@ ghost use Rattle.std.specs.Prelude.{IfOk};
 ghost use Rattle.tp_value.specs.Read.{tree};
 ghost use Rattle.tp_value.specs.Shape.{HasShortLists};
 
-use crate::making::{nested, sixes};
+use crate::making::{nested, series, sixes};
+use crate::tables::{cut, number};
 use std::alloc::Global;
+use std::process::Abort;
 use std::test::Fail;
 use tp_value::{
-    DEPTH_LIMIT, Fact, Globals, ITEM_LIMIT, Indices, Items, NoMemory, Path, ReadValue, Shape, Text,
-    Value, VarId, difference, is_number, is_within_list_limit, negated, product, quotient,
-    read_value, remainder, same, shape_at, sum, write_value,
+    DEPTH_LIMIT, Fact, Globals, ITEM_LIMIT, Indices, Items, NoMemory, Path, Shape, Text, Value,
+    VarId, difference, is_number, is_within_list_limit, negated, product, quotient, read_value,
+    remainder, same, shape_at, sum, write_value,
 };
 
 // The values 1, true, [1, true] and [1, false].
@@ -37,23 +39,8 @@ fn values_are_copied(rt: HostRuntime) -> Result<(), Fail> {
     Ok(())
 }
 
-#[test]
-fn texts_and_facts_are_built(rt: HostRuntime) -> Result<(), Fail> {
-    let table = [
-        ("", "", ""),
-        ("a", "", "a"),
-        ("", "b", "b"),
-        ("ab", "cd", "abcd"),
-    ];
-    for (start, end, whole) in table {
-        let mut text = Text::new(rt.alloc());
-        text.append(start.as_bytes())?;
-        text.append(end.as_bytes())?;
-        let copy = text.copy()?;
-        let made = Text::from_slice(rt.alloc(), whole.as_bytes())?;
-        assert_eq!(rt; copy.as_slice(), made.as_slice(), "at {whole}");
-        assert_eq!(rt; made.len(), whole.len(), "at {whole}");
-    }
+// A fact of a static variable is copied.
+fn expect_fact(rt: &(impl Abort + AllocGlobal)) -> Result<(), Fail> {
     let items = vec![in rt.alloc(); 4u32, 0]?;
     let var = VarId {
         number: 3,
@@ -68,29 +55,71 @@ fn texts_and_facts_are_built(rt: HostRuntime) -> Result<(), Fail> {
     assert_eq!(rt; copy.path.var, var);
     assert_eq!(rt; copy.path.at.items.as_slice(), [4, 0].as_slice());
     assert_eq!(rt; copy.shape, Shape::Items(2));
+    Ok(())
+}
+
+// A text from these two parts.
+fn expect_text(rt: &(impl Abort + AllocGlobal), start: &str, end: &str) -> Result<(), Fail> {
+    let mut text = Text::new(rt.alloc());
+    text.append(start.as_bytes())?;
+    text.append(end.as_bytes())?;
+    let copy = text.copy()?;
+    let whole = format!(in rt.alloc(); "{start}{end}")?;
+    let made = Text::from_slice(rt.alloc(), whole.as_bytes())?;
+    assert_eq!(rt; copy.as_slice(), made.as_slice(), "at {whole}");
+    assert_eq!(rt; made.len(), whole.len(), "at {whole}");
+    Ok(())
+}
+
+#[test]
+fn texts_and_facts_are_built(rt: HostRuntime) -> Result<(), Fail> {
+    expect_text(&rt, "", "")?;
+    expect_text(&rt, "a", "")?;
+    expect_text(&rt, "", "b")?;
+    expect_text(&rt, "ab", "cd")?;
+    expect_fact(&rt)?;
     let none = Indices::new(rt.alloc()).copy()?;
     assert_eq!(rt; none.items.len(), 0);
+    Ok(())
+}
+
+// Names in turn, and the variable of each.
+const NAMES: &str = "
+A => state 0
+b2 => static 1
+A => state 0
+Ab => state 2
+z => static 3
+b2 => static 1
+";
+
+// Adds a name, which is then that of this variable.
+fn expect_name(
+    rt: &(impl Abort + AllocGlobal),
+    globals: &mut Globals,
+    name: &str,
+    var: VarId,
+) -> Result<(), Fail> {
+    let text = Text::from_slice(rt.alloc(), name.as_bytes())?;
+    let added = globals.add(&text)?;
+    assert_eq!(rt; added, var, "at {name}");
+    assert_eq!(rt; globals.find(&text), Some(var), "at {name}");
+    let kept = globals.name(var.number).ok_or("no name")?;
+    assert_eq!(rt; kept.as_slice(), name.as_bytes());
     Ok(())
 }
 
 #[test]
 fn names_are_numbered(rt: HostRuntime) -> Result<(), Fail> {
     let mut globals = Globals::new(rt.alloc())?;
-    let table = [
-        ("A", 0, false),
-        ("b2", 1, true),
-        ("A", 0, false),
-        ("Ab", 2, false),
-        ("z", 3, true),
-        ("b2", 1, true),
-    ];
-    for (name, number, lasting) in table {
-        let text = Text::from_slice(rt.alloc(), name.as_bytes())?;
-        let var = globals.add(&text)?;
-        assert_eq!(rt; var, VarId { number, lasting }, "at {name}");
-        assert_eq!(rt; globals.find(&text), Some(var), "at {name}");
-        let kept = globals.name(number).ok_or("no name")?;
-        assert_eq!(rt; kept.as_slice(), name.as_bytes());
+    for row in NAMES.trim().lines() {
+        let (name, row) = cut(row, "=>")?;
+        let (kind, place) = cut(row, " ")?;
+        let var = VarId {
+            number: u64::from(number(place)?),
+            lasting: kind == "static",
+        };
+        expect_name(&rt, &mut globals, name, var)?;
     }
     assert_eq!(rt; globals.len(), 4);
     Ok(())
@@ -204,90 +233,97 @@ fn elements_have_shapes(rt: HostRuntime) -> Result<(), Fail> {
     Ok(())
 }
 
+// Texts, the places from which a value is read, the value as it is written, and the places behind it.
+const WRITTEN: &str = "
+12 | 0 | 12 | 2
+-0; | 0 | 0 | 2
+X=-007 Y=1 | 2 | -7 | 6
+9223372036854775807 | 0 | 9223372036854775807 | 19
+-9223372036854775807 | 0 | -9223372036854775807 | 20
+true1 | 0 | true | 4
+<>> | 0 | <> | 2
+< 1 ,\t<\t> , false,<-2>> | 0 | <1,<>,false,<-2>> | 23
+";
+
+fn expect_value(
+    rt: &(impl Abort + AllocGlobal),
+    text: &str,
+    from: u32,
+    canonical: &str,
+    after: u32,
+) -> Result<(), Fail> {
+    let from = from as usize;
+    if from > text.len() {
+        return Err("past the end".into());
+    }
+    let (value, place) = match read_value(rt.alloc(), text.as_bytes(), from) {
+        Ok(read) => read,
+        Err(_) => return Err("no value".into()),
+    };
+    let mut out = Text::from_slice(rt.alloc(), b"so: ")?;
+    write_value(&value, &mut out)?;
+    let expected = format!(in rt.alloc(); "so: {canonical}")?;
+    assert_eq!(rt; out.as_slice(), expected.as_bytes(), "at {text}");
+    assert_eq!(rt; place, after as usize, "at {text}");
+    Ok(())
+}
+
 #[test]
 fn values_are_read_and_written(rt: HostRuntime) -> Result<(), Fail> {
-    let table = [
-        ("12", 0, "12", 2),
-        ("-0;", 0, "0", 2),
-        ("X=-007 Y=1", 2, "-7", 6),
-        ("9223372036854775807", 0, "9223372036854775807", 19),
-        ("-9223372036854775807", 0, "-9223372036854775807", 20),
-        ("true1", 0, "true", 4),
-        ("false\n", 0, "false", 5),
-        ("<>>", 0, "<>", 2),
-        ("< 1 ,\t<\t> , false,<-2>>", 0, "<1,<>,false,<-2>>", 23),
-    ];
-    for (text, from, canonical, after) in table {
-        let (value, place) = match read_value(rt.alloc(), text.as_bytes(), from) {
-            Ok(read) => read,
-            Err(_) => return Err("no value")?,
-        };
-        let mut out = Text::from_slice(rt.alloc(), b"so: ")?;
-        write_value(&value, &mut out)?;
-        assert_eq!(rt; &out.as_slice()[4..], canonical.as_bytes(), "at {text}");
-        assert_eq!(rt; place, after, "at {text}");
+    for row in WRITTEN.trim().lines() {
+        let (text, row) = cut(row, "|")?;
+        let (from, row) = cut(row, "|")?;
+        let (canonical, after) = cut(row, "|")?;
+        expect_value(&rt, text, number(from)?, canonical, number(after)?)?;
+    }
+    expect_value(&rt, "false\n", 0, "false", 5)
+}
+
+// Texts that no value begins.
+const REFUSED: &str = "
+=> NoValue { at: 0 }
++1 => NoValue { at: 0 }
+tru => NoValue { at: 3 }
+truth => NoValue { at: 3 }
+- 1 => NoValue { at: 1 }
+<1 2> => NoValue { at: 3 }
+<1,> => NoValue { at: 3 }
+<,1> => NoValue { at: 1 }
+<1,<2> => NoValue { at: 6 }
+9223372036854775808 => TooLarge { at: 0 }
+<1,-9223372036854775808; => TooLarge { at: 3 }
+";
+
+fn expect_refusal(rt: &(impl Abort + AllocGlobal), text: &str, refusal: &str) -> Result<(), Fail> {
+    match read_value(rt.alloc(), text.as_bytes(), 0) {
+        Ok(_) => return Err("a value".into()),
+        Err(answer) => {
+            let answer = format!(in rt.alloc(); "{answer:?}")?;
+            assert_eq!(rt; answer.as_str(), refusal, "at {text}");
+        }
     }
     Ok(())
 }
 
 #[test]
 fn texts_of_no_value_are_refused(rt: HostRuntime) -> Result<(), Fail> {
-    let table = [
-        ("", ReadValue::NoValue { at: 0 }),
-        (" 1", ReadValue::NoValue { at: 0 }),
-        ("+1", ReadValue::NoValue { at: 0 }),
-        ("tru", ReadValue::NoValue { at: 3 }),
-        ("truth", ReadValue::NoValue { at: 3 }),
-        ("- 1", ReadValue::NoValue { at: 1 }),
-        ("<1 2>", ReadValue::NoValue { at: 3 }),
-        ("<1,>", ReadValue::NoValue { at: 3 }),
-        ("<,1>", ReadValue::NoValue { at: 1 }),
-        ("<1\n>", ReadValue::NoValue { at: 2 }),
-        ("<1,<2>", ReadValue::NoValue { at: 6 }),
-        ("9223372036854775808", ReadValue::TooLarge { at: 0 }),
-        ("<1,-9223372036854775808;", ReadValue::TooLarge { at: 3 }),
-    ];
-    for (text, refusal) in table {
-        match read_value(rt.alloc(), text.as_bytes(), 0) {
-            Ok(_) => return Err("a value")?,
-            Err(answer) => assert_eq!(rt; answer, refusal, "at {text}"),
-        }
+    for row in REFUSED.trim().lines() {
+        let (text, refusal) = cut(row, "=>")?;
+        expect_refusal(&rt, text, refusal)?;
     }
-    Ok(())
-}
-
-// A first text, and so many times another one.
-fn repeated(alloc: Global, first: &str, more: &str, times: usize) -> Result<Text, Fail> {
-    let mut text = Text::from_slice(alloc, first.as_bytes())?;
-    for _ in 0..times {
-        text.append(more.as_bytes())?;
-    }
-    Ok(text)
+    expect_refusal(&rt, " 1", "NoValue { at: 0 }")?;
+    expect_refusal(&rt, "<1\n>", "NoValue { at: 2 }")
 }
 
 #[test]
 fn texts_past_the_limits_are_refused(rt: HostRuntime) -> Result<(), Fail> {
-    let mut deep = repeated(rt.alloc(), "", "<", 100)?;
-    for _ in 0..100 {
-        deep.append(b">")?;
-    }
-    let mut wide = repeated(rt.alloc(), "<1", ",1", 65_535)?;
-    wide.append(b">")?;
-    for text in [&deep, &wide] {
-        let read = read_value(rt.alloc(), text.as_slice(), 0);
+    for (pattern, times) in [("#<##>#", 100), ("<1#,1#>", 65_535)] {
+        let text = series(rt.alloc(), pattern, times)?;
+        let read = read_value(rt.alloc(), text.as_bytes(), 0);
         assert!(rt; read.is_ok());
     }
-    let deeper = repeated(rt.alloc(), "", "<", 101)?;
-    let wider = repeated(rt.alloc(), "<1", ",<>", 65_536)?;
-    let table = [
-        (&deeper, ReadValue::TooDeep { at: 100 }),
-        (&wider, ReadValue::TooLong { at: 196_608 }),
-    ];
-    for (text, refusal) in table {
-        match read_value(rt.alloc(), text.as_slice(), 0) {
-            Ok(_) => return Err("a value")?,
-            Err(answer) => assert_eq!(rt; answer, refusal),
-        }
-    }
-    Ok(())
+    let deeper = series(rt.alloc(), "#<#", 101)?;
+    expect_refusal(&rt, deeper.as_str(), "TooDeep { at: 100 }")?;
+    let wider = series(rt.alloc(), "<1#,<>#", 65_536)?;
+    expect_refusal(&rt, wider.as_str(), "TooLong { at: 196608 }")
 }
