@@ -130,7 +130,7 @@ places_count bytes at within = place_counts text_start (take at bytes) ∙ (let 
 
 -- ---- cases
 
-first_stays : (z : List ℕ) (n : ℕ) → 0 < n → slice_index (take n z) 0 ≡ slice_index z 0
+pub first_stays : (z : List ℕ) (n : ℕ) → 0 < n → slice_index (take n z) 0 ≡ slice_index z 0
 first_stays [] zero some = absurd (omega arith)
 first_stays [] (suc n) some = refl
 first_stays (b ∷ z) zero some = absurd (omega arith)

@@ -3,3 +3,4 @@ pub mod Lists
 pub mod PieceLemmas
 pub mod ReadingLemmas
 pub mod SpellingLemmas
+pub mod NameLemmas

@@ -1,5 +1,6 @@
 pub mod First
 pub mod Laws
+pub mod Names
 pub mod Pieces
 pub mod Place
 pub mod Spelling

@@ -42,7 +42,8 @@ fn is_name_byte(byte: u8) -> bool
     byte.is_ascii_alphanumeric() || byte == b'_'
 }
 
-fn name_len(text: &[u8]) -> usize
+/// How many letters, digits and `_` the text begins with.
+pub fn name_len(text: &[u8]) -> usize
     ensures value { result ≡ prefix_len spec.is_name_byte text.now }
     ensures within { result ≤ length text.now }
 {

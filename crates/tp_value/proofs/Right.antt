@@ -98,7 +98,7 @@ counts_more p s t b c x = record {
 }
 
 -- the bytes from a place on begin with a text
-range_is : (bytes : List ℕ) (from to : ℕ) (text rest : List ℕ) → drop from bytes ≡ text ++ rest → to ≡ from + length text → slice_range bytes from to ≡ text
+pub range_is : (bytes : List ℕ) (from to : ℕ) (text rest : List ℕ) → drop from bytes ≡ text ++ rest → to ≡ from + length text → slice_range bytes from to ≡ text
 range_is bytes from to text rest e place =
     let long : to - from ≡ length text = omega arith in
     ap (λ n. take n (drop from bytes)) long ∙ ap (take (length text)) e ∙ take-append_seam text rest

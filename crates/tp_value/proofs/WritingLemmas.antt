@@ -3,6 +3,7 @@ use Rattle.std.proofs.Common.{◌≡◌, ℕ, zero, suc, ◌+◌, ◌<◌, ◌�
 use Rattle.std.specs.Result.{OnOk, OnErr}
 use Rattle.std.proofs.lemmas.List.{append-nil}
 use Rattle.std.specs.Prelude.{codes}
+use Rattle.tp_value.specs.Range.{HasMachineNumbers, HaveMachineNumbers}
 use Rattle.tp_value.specs.Tree.{Tree, of_items}
 use Rattle.tp_value.specs.Written.{text_of, items_text, later_text}
 
@@ -82,3 +83,21 @@ none_left f [] zero h = refl
 none_left f [] (suc i) h = refl
 none_left f (x ∷ xs) zero h = absurd (omega arith)
 none_left f (x ∷ xs) (suc i) h = none_left f xs i (omega arith)
+
+pub on_ok : {A E : Type 0} (r : Result A E) {P : Type 0} → P → OnOk r P
+on_ok (Ok a) p = p
+on_ok (Err e) p = tt
+
+-- one more item has numbers of 64 bits
+pub numbers_more : {A : Type 0} (f : A → Tree) (xs : List A) (i : ℕ) (d : A) → i < length xs → HaveMachineNumbers (of_items (map f (take i xs))) → HasMachineNumbers (f (get_or xs i d)) → HaveMachineNumbers (of_items (map f (take (i + 1) xs)))
+numbers_more f [] i d h all one = absurd (omega arith)
+numbers_more f (x ∷ xs) zero d h all one = (one, tt)
+numbers_more f (x ∷ xs) (suc i) d h all one =
+    let next : suc (i + 1) ≡ suc i + 1 = omega arith in
+    subst (λ n. HaveMachineNumbers (of_items (map f (take n (x ∷ xs))))) next (all.0, numbers_more f xs i d (omega arith) all.1 one)
+
+-- and in the end all of them
+pub numbers_all : {A : Type 0} (f : A → Tree) (xs : List A) (i : ℕ) → length xs ≤ i → HaveMachineNumbers (of_items (map f (take i xs))) → HaveMachineNumbers (of_items (map f xs))
+numbers_all f [] i h all = tt
+numbers_all f (x ∷ xs) zero h all = absurd (omega arith)
+numbers_all f (x ∷ xs) (suc i) h all = (all.0, numbers_all f xs i (omega arith) all.1)

@@ -9,3 +9,4 @@ pub mod Written
 pub mod Spelling
 pub mod Reading
 pub mod Answers
+pub mod Range

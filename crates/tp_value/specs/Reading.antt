@@ -1,5 +1,5 @@
 -- How a value's text is read, byte by byte.
-use Rattle.std.specs.Prelude.{ℕ, ◌+◌, ◌-◌, ◌==◌, nat_lt, ℤ, pos, ◌+ℤ◌, ◌-ℤ◌, ◌*ℤ◌, Bool, true, false, ◌&&◌, ◌||◌, if◌then◌else◌, List, [], ◌∷◌, ◌++◌, length, slice_index, map, reverse, Option, Some, None, Result, Ok, Err}
+use Rattle.std.specs.Prelude.{ℕ, ◌+◌, ◌-◌, ◌==◌, nat_lt, ℤ, pos, ◌+ℤ◌, ◌-ℤ◌, ◌*ℤ◌, Bool, true, false, ◌&&◌, ◌||◌, if◌then◌else◌, List, [], ◌∷◌, ◌++◌, length, slice_index, map, drop, reverse, Option, Some, None, Result, Ok, Err}
 use Rattle.std.specs.Char.{is_ascii_digit}
 use Rattle.tp_value.specs.declared.reading.ReadValue.{ReadValue}
 use Rattle.tp_value.specs.declared.reading.ReadValue.TheVariants.{NoValue, TooLarge, TooLong, TooDeep}
@@ -198,6 +198,10 @@ reading at s (b ∷ z) = answered (step at s b) (λ t. reading (at + 1) t z)
 -- where reading begins
 abbrev pub start_state : ReadingState
 start_state = record { lists = []; begun = 0; phase = Start }
+
+-- what reading a value that begins at a place answers
+abbrev pub value_answer : List ℕ → ℕ → Answer
+value_answer bytes from = reading from start_state (drop from bytes)
 
 -- the trees of the items of an open list
 abbrev pub items_seen : Items → List Tree

@@ -6,7 +6,7 @@ ghost use Rattle.tp_value.specs.Tree.{Tree};
 ghost use Rattle.tp_value.specs.Limits.{IsWithinLimits};
 ghost use Rattle.tp_value.specs.Written.{text_of};
 ghost use Rattle.tp_value.specs.Answers.{IsRead, IsReadRefused, CannotContinue, IsReadBack};
-ghost use Rattle.tp_value.specs.Reading.{found, refused, start_state, lists_of, state_of, taken, refuses, finished, closed, opened, moved, step, number_before, number_read, at_end, reading};
+ghost use Rattle.tp_value.specs.Reading.{found, refused, start_state, lists_of, state_of, taken, refuses, finished, closed, opened, moved, step, number_before, number_read, at_end, reading, value_answer};
 
 use crate::scan::{Last, Move, Phase, decide};
 use crate::{Items, NoMemory, Number, Value};
@@ -226,6 +226,11 @@ pub fn read_value(alloc: Global, bytes: &[u8], from: usize) -> Result<(Value, us
     requires { from ≤ length bytes.now }
     ensures value { IfOk result (λ p. IsRead bytes.now from (tree p.0) p.1) }
     ensures refused { IfErr result (λ e. IsReadRefused bytes.now from e) }
+
+    // The same, byte by byte.
+    ensures found { IfOk result (λ p. value_answer bytes.now from ≡ found (tree p.0) p.1) }
+    ensures not_found { IfErr result (λ e.
+        e ≢ refused_memory → value_answer bytes.now from ≡ refused e) }
 
     // The text that is written for a value is read back to it.
     ensures read_back { (t : Tree) (rest : List ℕ) → IsWithinLimits t → CannotContinue t rest

@@ -1,6 +1,8 @@
 // How values are written.
-ghost use Rattle.std.specs.Prelude.{◌≡◌, ◌++◌, OnOk, OnErr, length, take};
+ghost use Rattle.std.specs.Prelude.{◌≡◌, ◌++◌, FitsSigned, OnOk, OnErr, length, take};
 ghost use Rattle.std.specs.Fmt.{signed_decimal};
+ghost use Rattle.std.specs.Int.{w64};
+ghost use Rattle.tp_value.specs.Range.{HasMachineNumbers};
 ghost use Rattle.tp_value.specs.Read.{tree};
 ghost use Rattle.tp_value.specs.Tree.{truth as truth_tree};
 ghost use Rattle.tp_value.specs.Written.{text_of};
@@ -11,6 +13,7 @@ use itoa::Buffer;
 fn append_number(n: Number, out: &mut Text) -> Result<(), NoMemory>
     ensures ok { OnOk result (out.new ≡ out.old ++ signed_decimal n) }
     ensures err { OnErr result (out.new ≡ out.old) }
+    ensures range { FitsSigned w64 n }
 {
     let mut buffer = Buffer::new();
     out.append(buffer.format(n).as_bytes())
@@ -31,6 +34,7 @@ fn append_truth(truth: bool, out: &mut Text) -> Result<(), NoMemory>
 fn append_value(value: &Value, out: &mut Text) -> Result<(), NoMemory>
     ensures ok { OnOk result (out.new ≡ out.old ++ text_of (tree value.now)) }
     ensures err { OnErr result (take (length out.old) out.new ≡ out.old) }
+    ensures range { OnOk result (HasMachineNumbers (tree value.now)) }
 {
     match value {
         Value::Num(n) => append_number(*n, out),
@@ -53,6 +57,7 @@ fn append_value(value: &Value, out: &mut Text) -> Result<(), NoMemory>
 pub fn write_value(value: &Value, out: &mut Text) -> Result<(), NoMemory>
     ensures ok { OnOk result (out.new ≡ out.old ++ text_of (tree value.now)) }
     ensures err { OnErr result (out.new ≡ out.old) }
+    ensures range { OnOk result (HasMachineNumbers (tree value.now)) }
 {
     let before = out.len();
     let written = append_value(value, out);
