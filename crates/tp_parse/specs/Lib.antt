@@ -5,4 +5,7 @@ pub mod Grammar
 pub mod Head
 pub mod Reading
 pub mod Source
+pub mod Spelled
+pub mod SpelledText
 pub mod Place
+pub mod Names

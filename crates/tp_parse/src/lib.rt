@@ -2,6 +2,7 @@
 #![tactic(auto)]
 
 mod head;
+mod laws;
 mod mark;
 mod parser;
 mod phrase;
@@ -9,5 +10,6 @@ mod phrases;
 mod refusal;
 mod source;
 
+pub use laws::{names_are_tokens, printed_is_read_back, spellings_are_read_back};
 pub use refusal::ParseRefusal;
 pub use source::parse;

@@ -8,6 +8,7 @@ ghost use Rattle.tp_tree.specs.Tree.{SourceTree};
 ghost use Rattle.tp_tree.specs.Height.{source_height};
 ghost use Rattle.tp_parse.specs.Grammar.{Accepts};
 ghost use Rattle.tp_parse.specs.Place.{NoneGoesOn};
+ghost use Rattle.tp_parse.specs.SpelledText.{ParsesPrinted};
 ghost use Rattle.tp_parse.specs.declared.refusal.ParseRefusal.TheVariants.{NoMemory};
 
 use crate::mark::Mark;
@@ -33,6 +34,9 @@ pub fn parse(alloc: Global, tokens: &Tokens) -> Result<Source, ParseRefusal>
     ensures outcome { IsOutcome (parse_outcome tokens.now) result }
     ensures token { IfErr result (NamesToken (length tokens.now)) }
     ensures place { IfErr result (NoneGoesOn tokens.now) }
+
+    // The tokens of a source that was printed are parsed as that source, up to places.
+    ensures printed { ParsesPrinted tokens.now result }
 {
     outcome(alloc, tokens)
 }

@@ -3,3 +3,7 @@ pub mod Read
 pub mod Equations
 pub mod Places
 pub mod Height
+pub mod Names
+pub mod Levels
+pub mod Spelling
+pub mod SpellingExamples

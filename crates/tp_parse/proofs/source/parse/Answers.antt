@@ -12,6 +12,7 @@ use Rattle.tp_parse.proofs.Exact.{read_accepted, accepted_read, refusal_named}
 use Rattle.tp_tree.specs.Height.{source_height}
 use Rattle.tp_parse.proofs.Rests.{refusal_is_first}
 use Rattle.tp_parse.proofs.Heights.{accepted_low}
+use Rattle.tp_parse.proofs.TextBack.{printed_parsed}
 use Rattle.tp_parse.proofs.source.parse.Goals as goal
 
 accepted : (ts : Tokens) (r : Result Source ParseRefusal) → IsOutcome (parse_outcome ts) r → IfOk r (λ s. Accepts ts (source_tree s))
@@ -61,3 +62,6 @@ returns-clause-place c = place c.args.tokens.now c.outcome.result c.outcome.ensu
 
 pub returns-clause-low : goal.returns-clause-low
 returns-clause-low c = low c.args.tokens.now c.outcome.result c.outcome.ensures
+
+pub returns-clause-printed : goal.returns-clause-printed
+returns-clause-printed c = printed_parsed c.args.tokens.now c.outcome.result c.outcome.ensures

@@ -1,0 +1,369 @@
+-- The names and numbers of a source stand in its text, so they may stand in one.
+use Rattle.std.proofs.Common.{◌≡◌, ◌≢◌, ◌⊎◌, inl, inr, ℕ, ◌+◌, ◌≤◌, Bool, true, false, cond, eqb, List, [], ◌∷◌, ◌++◌, length, take, drop, refl, sym, ap, ◌∙◌, arith}
+use Rattle.std.specs.List.{prefix_len}
+use Rattle.std.specs.Char.{is_ascii_alphabetic, is_ascii_uppercase}
+use Rattle.std.proofs.lemmas.Bool.{eqb-true}
+use Rattle.std.proofs.lemmas.List.{take-append-drop}
+use Rattle.std.proofs.lemmas.List.Folds.{prefix_len-append, length-prefix_len}
+use Rattle.tp_lex.specs.declared.token.Token.{Token}
+use Rattle.tp_lex.specs.declared.token.Kind.{Kind}
+use Rattle.tp_lex.specs.declared.token.Kind.TheVariants as kind
+use Rattle.tp_lex.specs.declared.token.Word.{Word}
+use Rattle.tp_lex.specs.declared.token.Word.TheVariants as word
+use Rattle.tp_lex.specs.declared.token.Symbol.{Symbol}
+use Rattle.tp_lex.specs.declared.token.Symbol.TheVariants as symbol
+use Rattle.tp_lex.specs.declared.first.Piece.{Piece}
+use Rattle.tp_lex.specs.declared.first.Piece.TheVariants.{Gap, Lexeme, Refused}
+use Rattle.tp_lex.specs.First.{is_name_byte, spelled_value}
+use Rattle.tp_lex.specs.Pieces as piece
+use Rattle.tp_lex.specs.Pieces.{IsName, BeginsPiece}
+use Rattle.tp_lex.specs.Names.{IsNameText}
+use Rattle.tp_lex.specs.Tokens.{ReadsTokens, Ending, Whole, whole, gap, lexeme, fails}
+use Rattle.tp_lex.proofs.PieceLemmas.{some_name}
+use Rattle.tp_lex.proofs.LawLemmas.{first_stays}
+use Rattle.tp_tree.specs.Tree.{PhraseTree, PhraseTrees, phrases_of, DefinitionTree, SourceTree}
+use Rattle.tp_parse.specs.declared.mark.Mark.{Mark}
+use Rattle.tp_parse.specs.declared.mark.Mark.TheVariants as m
+use Rattle.tp_parse.specs.declared.mark.Start.TheVariants as s
+use Rattle.tp_parse.specs.declared.mark.Enclosure.{Enclosure}
+use Rattle.tp_parse.specs.declared.mark.Enclosure.TheVariants.{Round, Curly, Size}
+use Rattle.tp_parse.specs.declared.head.Listed.{Listed}
+use Rattle.tp_parse.specs.declared.head.Listed.TheVariants as listed
+use Rattle.tp_parse.specs.declared.head.Pair.{Pair}
+use Rattle.tp_parse.specs.declared.head.Pair.TheVariants as pair
+use Rattle.tp_parse.specs.declared.head.Head.{Head}
+use Rattle.tp_parse.specs.declared.head.Head.TheVariants as h
+use Rattle.tp_parse.specs.Marks.{same, start_of, kind_mark}
+use Rattle.tp_parse.specs.Input.{Tokens, mark, from, first_name, first_number, mark_due, past, left_of, without_half, kind_name, kind_number}
+use Rattle.tp_parse.specs.Found.{Found, Operands, atom_kind, listed_kind, enclosed_tree, pair_kind, prefixed_kind}
+use Rattle.tp_parse.specs.Grammar as g
+use Rattle.tp_parse.specs.Grammar.{ReadsNames, BeginsPrimary, Parses, Goes, Others, Listing, Parameters, Sentence, Defines, Definitions, IsSource, Accepts}
+use Rattle.tp_parse.specs.SpelledText.{IsVariableText, IsLowerText, IsNumeral, AreVariableTexts, IsSpellable, IsSpellableKind, AreSpellable, IsSpellableDefinition, AreSpellableDefinitions, SourcesAreSpellable}
+
+-- ---- the tokens of a text
+
+-- a name or a number that may stand in a text, or no such token
+abbrev IsTokenText : Kind → Type 0
+IsTokenText (kind.Upper x) = IsVariableText x
+IsTokenText (kind.Lower x) = IsLowerText x
+IsTokenText (kind.Number n) = IsNumeral n
+IsTokenText (kind.Word w) = Unit {0}
+IsTokenText (kind.Symbol x) = Unit {0}
+
+abbrev AreTokenTexts : Tokens → Type 0
+AreTokenTexts [] = Unit {0}
+AreTokenTexts (t ∷ ts) = IsTokenText t.kind × AreTokenTexts ts
+
+-- the front of a text that passes is as long as what passes of it
+front_passes : (p : ℕ → Bool) (z : List ℕ) (n : ℕ) → n ≡ prefix_len p z → length (take n z) ≡ prefix_len p (take n z)
+front_passes p z n e = by (eqb (prefix_len p (take n z)) (length (take n z))) refl
+  where
+    whole_z : prefix_len p (take n z ++ drop n z) ≡ prefix_len p z
+    whole_z = ap (prefix_len p) (take-append-drop n z)
+
+    count : length (take n z) ≡ prefix_len p z
+    count = ap (λ i. length (take i z)) e ∙ length-prefix_len p z
+
+    by : (b : Bool) → eqb (prefix_len p (take n z)) (length (take n z)) ≡ b → length (take n z) ≡ prefix_len p (take n z)
+    by true q = sym (eqb-true _ _ q)
+    by false q =
+        let seam = prefix_len-append p (take n z) (drop n z) ∙ ap (λ b. cond b (length (take n z) + prefix_len p (drop n z)) (prefix_len p (take n z))) q in
+        count ∙ (sym whole_z ∙ seam)
+
+variable_text : (z : List ℕ) (n : ℕ) → IsName z n → IsNameText (take n z)
+variable_text z n is = record { letter = ap is_ascii_alphabetic (first_stays z n (some_name z n is).0) ∙ is.letter; longest = front_passes is_name_byte z n is.longest }
+
+short_text : (z : List ℕ) (n : ℕ) → IsName z n → n ≤ 64 → length (take n z) ≤ 64
+short_text z n is low = let count : length (take n z) ≡ n = ap (λ i. length (take i z)) is.longest ∙ (length-prefix_len is_name_byte z ∙ sym is.longest) in omega (arith, count, low)
+
+abbrev IsPieceText : Piece → Type 0
+IsPieceText (Gap n) = Unit {0}
+IsPieceText (Lexeme k n) = IsTokenText k
+IsPieceText (Refused fault) = Unit {0}
+
+piece_text : (z : List ℕ) (p : Piece) → BeginsPiece z p → IsPieceText p
+piece_text z _ (piece.blank e) = tt
+piece_text z _ (piece.comment opens here before) = tt
+piece_text z _ (piece.word is e) = tt
+piece_text z _ (piece.upper {n = n} is low never u) = record { spelled = variable_text z n is; short = short_text z n is low; no_word = never }
+piece_text z _ (piece.lower {n = n} is low never u) = record {
+  variable = record { spelled = variable_text z n is; short = short_text z n is low; no_word = never };
+  lower = ap is_ascii_uppercase (first_stays z n (some_name z n is).0) ∙ u;
+}
+piece_text z _ (piece.number {n = n} are low) = (spelled_value (take n z), refl, low)
+piece_text z _ (piece.symbol is) = tt
+piece_text z _ (piece.bad_byte is) = tt
+piece_text z _ (piece.open_comment opens nowhere) = tt
+piece_text z _ (piece.large_number are high) = tt
+piece_text z _ (piece.long_name is long) = tt
+
+token_texts : (bytes : List ℕ) (at : ℕ) (ts : List Token) (end : Ending) → ReadsTokens bytes at ts end → AreTokenTexts ts
+token_texts bytes at _ _ (whole e) = tt
+token_texts bytes at ts end (gap {n = n} is r) = token_texts bytes (at + n) ts end r
+token_texts bytes at _ end (lexeme {n = n} {ts = ts} is r) = (piece_text (drop at bytes) _ is, token_texts bytes (at + n) ts end r)
+token_texts bytes at _ _ (fails is) = tt
+
+-- ---- what is left of them
+
+dropped : (ts : Tokens) → AreTokenTexts ts → AreTokenTexts (drop 1 ts)
+dropped [] are = tt
+dropped (t ∷ ts) are = are.1
+
+halved_text : (k : Kind) → IsTokenText k → IsTokenText (without_half k)
+halved_text (kind.Upper x) is = is
+halved_text (kind.Lower x) is = is
+halved_text (kind.Number n) is = is
+halved_text (kind.Word w) is = is
+halved_text (kind.Symbol x) is = tt
+
+halved_texts : (ts : Tokens) → AreTokenTexts ts → AreTokenTexts (left_of true ts)
+halved_texts [] are = tt
+halved_texts (t ∷ ts) are = (halved_text t.kind are.0, are.1)
+
+passed : (ts : Tokens) → AreTokenTexts ts → AreTokenTexts (past ts)
+unfolding past
+passed ts are = elim (same (mark_due ts) (mark ts)) as (λ b. AreTokenTexts (cond b (drop 1 ts) (left_of true ts))) [ true ↦ dropped ts are | false ↦ halved_texts ts are ]
+
+-- ---- the next token
+
+lower_variable : (k : Kind) → (kind_mark k ≡ m.Upper) ⊎ (kind_mark k ≡ m.Lower) → IsTokenText k → IsVariableText (kind_name k)
+lower_variable (kind.Upper x) e is = is
+lower_variable (kind.Lower x) e is = is.variable
+lower_variable (kind.Number n) (inl e) is = absurd cc
+lower_variable (kind.Number n) (inr e) is = absurd cc
+lower_variable (kind.Word w) (inl e) is = absurd cc
+lower_variable (kind.Word w) (inr e) is = absurd cc
+lower_variable (kind.Symbol x) (inl e) is = absurd cc
+lower_variable (kind.Symbol x) (inr e) is = absurd cc
+
+name_of : (ts : Tokens) → AreTokenTexts ts → (mark ts ≡ m.Upper) ⊎ (mark ts ≡ m.Lower) → IsVariableText (first_name ts)
+unfolding mark first_name
+name_of [] are (inl e) = absurd cc
+name_of [] are (inr e) = absurd cc
+name_of (t ∷ ts) are e = lower_variable t.kind e are.0
+
+kind_lower : (k : Kind) → kind_mark k ≡ m.Lower → IsTokenText k → IsLowerText (kind_name k)
+kind_lower (kind.Lower x) e is = is
+kind_lower (kind.Upper x) e is = absurd cc
+kind_lower (kind.Number n) e is = absurd cc
+kind_lower (kind.Word w) e is = absurd cc
+kind_lower (kind.Symbol x) e is = absurd cc
+
+lower_of : (ts : Tokens) → AreTokenTexts ts → mark ts ≡ m.Lower → IsLowerText (first_name ts)
+unfolding mark first_name
+lower_of [] are e = absurd cc
+lower_of (t ∷ ts) are e = kind_lower t.kind e are.0
+
+kind_numeral : (k : Kind) → kind_mark k ≡ m.Number → IsTokenText k → IsNumeral (kind_number k)
+kind_numeral (kind.Number n) e is = is
+kind_numeral (kind.Lower x) e is = absurd cc
+kind_numeral (kind.Upper x) e is = absurd cc
+kind_numeral (kind.Word w) e is = absurd cc
+kind_numeral (kind.Symbol x) e is = absurd cc
+
+number_of : (ts : Tokens) → AreTokenTexts ts → mark ts ≡ m.Number → IsNumeral (first_number ts)
+unfolding mark first_number
+number_of [] are e = absurd cc
+number_of (t ∷ ts) are e = kind_numeral t.kind e are.0
+
+-- what begins a name, a call or a number
+word_upper : (w : Word) → start_of (m.Word w) ≢ s.Name
+word_upper word.If e = cc
+word_upper _ e = cc
+
+word_lower : (w : Word) → start_of (m.Word w) ≢ s.NameOrCall
+word_lower word.If e = cc
+word_lower _ e = cc
+
+word_number : (w : Word) → start_of (m.Word w) ≢ s.Number
+word_number word.If e = cc
+word_number _ e = cc
+
+symbol_upper : (x : Symbol) → start_of (m.Symbol x) ≢ s.Name
+symbol_upper symbol.Bar e = cc
+symbol_upper _ e = cc
+
+symbol_lower : (x : Symbol) → start_of (m.Symbol x) ≢ s.NameOrCall
+symbol_lower symbol.Bar e = cc
+symbol_lower _ e = cc
+
+symbol_number : (x : Symbol) → start_of (m.Symbol x) ≢ s.Number
+symbol_number symbol.Bar e = cc
+symbol_number _ e = cc
+
+starts_upper : (x : Mark) → start_of x ≡ s.Name → x ≡ m.Upper
+starts_upper m.Upper e = refl
+starts_upper m.Lower e = absurd cc
+starts_upper m.End e = absurd cc
+starts_upper m.Number e = absurd cc
+starts_upper (m.Word w) e = absurd (word_upper w e)
+starts_upper (m.Symbol x) e = absurd (symbol_upper x e)
+
+starts_lower : (x : Mark) → start_of x ≡ s.NameOrCall → x ≡ m.Lower
+starts_lower m.Lower e = refl
+starts_lower m.Upper e = absurd cc
+starts_lower m.End e = absurd cc
+starts_lower m.Number e = absurd cc
+starts_lower (m.Word w) e = absurd (word_lower w e)
+starts_lower (m.Symbol x) e = absurd (symbol_lower x e)
+
+starts_number : (x : Mark) → start_of x ≡ s.Number → x ≡ m.Number
+starts_number m.Number e = refl
+starts_number m.Upper e = absurd cc
+starts_number m.Lower e = absurd cc
+starts_number m.End e = absurd cc
+starts_number (m.Word w) e = absurd (word_number w e)
+starts_number (m.Symbol x) e = absurd (symbol_number x e)
+
+names_of : {ts rest : Tokens} {xs : List (List ℕ)} → ReadsNames ts xs rest → AreTokenTexts ts → AreVariableTexts xs × AreTokenTexts rest
+names_of {ts} (g.last_name n e) are = ((name_of ts are n, tt), dropped ts are)
+names_of {ts} (g.name_then n e d) are = let later = names_of d (dropped (drop 1 ts) (dropped ts are)) in ((name_of ts are n, later.0), later.1)
+
+-- ---- heads
+
+abbrev IsListedText : Listed → Type 0
+IsListedText listed.List = Unit {0}
+IsListedText (listed.Form f) = Unit {0}
+IsListedText (listed.Call x) = IsLowerText x
+
+abbrev IsPairText : Pair → Type 0
+IsPairText pair.While = Unit {0}
+IsPairText pair.Repeat = Unit {0}
+IsPairText (pair.For x) = IsLowerText x
+IsPairText (pair.Forall x) = IsLowerText x
+
+abbrev IsHeadText : Head → Type 0
+IsHeadText (h.Atom x) = IsSpellableKind (atom_kind x)
+IsHeadText (h.Listed x) = IsListedText x
+IsHeadText (h.Enclosed e) = Unit {0}
+IsHeadText h.If = Unit {0}
+IsHeadText (h.Paired x) = IsPairText x
+IsHeadText (h.Exists xs) = AreVariableTexts xs
+
+listed_text : (x : Listed) (ps : PhraseTrees) → IsListedText x → AreSpellable ps → IsSpellableKind (listed_kind x ps)
+listed_text listed.List ps is w = w
+listed_text (listed.Form f) ps is w = w
+listed_text (listed.Call x) ps is w = (is, w)
+
+enclosed_text : (at : ℕ) (e : Enclosure) (a : PhraseTree) → IsSpellable a → IsSpellable (enclosed_tree at e a)
+enclosed_text at Size a w = w
+enclosed_text at Round a w = w
+enclosed_text at Curly a w = w
+
+pair_text : (x : Pair) (a b : PhraseTree) → IsPairText x → IsSpellable a → IsSpellable b → IsSpellableKind (pair_kind x a b)
+pair_text pair.While a b is v w = (v, w)
+pair_text pair.Repeat a b is v w = (v, w)
+pair_text (pair.For x) a b is v w = (is, v, w)
+pair_text (pair.Forall x) a b is v w = (is, v, w)
+
+prefixed_text : (x : Mark) (a : PhraseTree) → IsSpellable a → IsSpellableKind (prefixed_kind x a)
+prefixed_text (m.Word word.Not) a w = w
+prefixed_text (m.Symbol symbol.Minus) a w = w
+prefixed_text _ a w = w
+
+head_text : {ts rest : Tokens} {x : Head} → BeginsPrimary ts x rest → AreTokenTexts ts → IsHeadText x × AreTokenTexts rest
+head_text {ts} (g.number e) are = (number_of ts are (starts_number (mark ts) e), dropped ts are)
+head_text {ts} (g.truth e) are = (tt, dropped ts are)
+head_text {ts} (g.upper_name e) are = (name_of ts are (inl (starts_upper (mark ts) e)), dropped ts are)
+head_text {ts} (g.lower_name e f) are = (name_of ts are (inr (starts_lower (mark ts) e)), dropped ts are)
+head_text {ts} (g.call e f) are = (lower_of ts are (starts_lower (mark ts) e), dropped (drop 1 ts) (dropped ts are))
+head_text {ts} (g.bare e) are = (tt, dropped ts are)
+head_text {ts} (g.form e f) are = (tt, passed (drop 1 ts) (dropped ts are))
+head_text {ts} (g.empty_list e) are = (tt, dropped ts are)
+head_text {ts} (g.list e) are = (tt, passed ts are)
+head_text {ts} (g.enclosure e) are = (tt, dropped ts are)
+head_text {ts} (g.if e) are = (tt, dropped ts are)
+head_text {ts} (g.while e) are = (tt, dropped ts are)
+head_text {ts} (g.repeat e) are = (tt, dropped ts are)
+head_text {ts} (g.for e f l) are = let on = dropped ts are in (lower_of (drop 1 ts) on f, passed (drop 1 (drop 1 ts)) (dropped (drop 1 ts) on))
+head_text {ts} (g.forall e f l) are = let on = dropped ts are in (lower_of (drop 1 ts) on f, passed (drop 1 (drop 1 ts)) (dropped (drop 1 ts) on))
+head_text {ts} (g.exists {mid = mid} e d f) are = let read = names_of d (dropped ts are) in (read.0, passed mid read.1)
+
+-- ---- phrases
+
+mutual
+  phrase_text : {k : ℕ} {ts rest : Tokens} {x : Found} → Parses k ts x rest → AreTokenTexts ts → IsSpellable x.tree × AreTokenTexts rest
+  phrase_text (g.atom b) are = head_text b are
+  phrase_text (g.listed {x = x} {all = all} b o) are =
+      let head = head_text b are in
+      let operands = listing_text o head.1 in
+      (listed_text x (phrases_of all.trees) head.0 operands.0, operands.1)
+  phrase_text {ts = ts} (g.enclosed {end = end} {e = e} {x = x} b d f) are =
+      let inside = phrase_text d (head_text b are).1 in
+      (enclosed_text (from ts) e x.tree inside.0, passed end inside.1)
+  phrase_text (g.if_then {then = then} b d t e n) are =
+      let first = phrase_text d (head_text b are).1 in
+      let second = phrase_text e (passed then first.1) in
+      ((first.0, second.0), second.1)
+  phrase_text (g.if_else {then = then} {else = else} b d t e n f) are =
+      let first = phrase_text d (head_text b are).1 in
+      let second = phrase_text e (passed then first.1) in
+      let third = phrase_text f (dropped else second.1) in
+      ((first.0, second.0, third.0), third.1)
+  phrase_text (g.paired {next = next} {q = q} {x = x} {y = y} b d f e) are =
+      let head = head_text b are in
+      let first = phrase_text d head.1 in
+      let second = phrase_text e (passed next first.1) in
+      (pair_text q x.tree y.tree head.0 first.0 second.0, second.1)
+  phrase_text (g.quantified b d) are =
+      let head = head_text b are in
+      let body = phrase_text d head.1 in
+      ((head.0, body.0), body.1)
+  phrase_text {ts = ts} (g.prefixed {x = x} e d) are =
+      let operand = phrase_text d (dropped ts are) in
+      (prefixed_text (mark ts) x.tree operand.0, operand.1)
+  phrase_text (g.level d f) are = let first = phrase_text d are in goes_text first.0 f first.1
+
+  goes_text : {k at : ℕ} {a t : Found} {ts rest : Tokens} → IsSpellable a.tree → Goes k at a ts t rest → AreTokenTexts ts → IsSpellable t.tree × AreTokenTexts rest
+  goes_text w (g.ends e) are = (w, are)
+  goes_text {ts = ts} w (g.left e d f) are = let operand = phrase_text d (dropped ts are) in goes_text (w, operand.0) f operand.1
+  goes_text {ts = ts} w (g.single e d) are = let operand = phrase_text d (dropped ts are) in ((w, operand.0), operand.1)
+  goes_text {ts = ts} w (g.right e d) are = let operand = phrase_text d (dropped ts are) in ((w, operand.0), operand.1)
+  goes_text {ts = ts} w (g.indexed {end = end} e d c f) are = let operand = phrase_text d (dropped ts are) in goes_text (w, operand.0) f (passed end operand.1)
+  goes_text w (g.joins e o) are = let others = others_text o are in ((w, others.0), others.1)
+
+  others_text : {k : ℕ} {separator : Mark} {all : Operands} {ts rest : Tokens} → Others k separator ts all rest → AreTokenTexts ts → AreSpellable (phrases_of all.trees) × AreTokenTexts rest
+  others_text (g.no_more e) are = (tt, are)
+  others_text {ts = ts} (g.one_more e d o) are =
+      let first = phrase_text d (dropped ts are) in
+      let others = others_text o first.1 in
+      ((first.0, others.0), others.1)
+
+  listing_text : {k : ℕ} {close : Mark} {all : Operands} {ts rest : Tokens} → Listing k close ts all rest → AreTokenTexts ts → AreSpellable (phrases_of all.trees) × AreTokenTexts rest
+  listing_text {ts = ts} (g.no_operands e) are = (tt, passed ts are)
+  listing_text (g.operands {end = end} d o e) are =
+      let first = phrase_text d are in
+      let others = others_text o first.1 in
+      ((first.0, others.0), passed end others.1)
+
+-- ---- sources
+
+sentence_text : {ts rest : Tokens} {x : Found} → Sentence ts x rest → AreTokenTexts ts → IsSpellable x.tree × AreTokenTexts rest
+sentence_text (g.sentence {end = end} d e) are = let read = phrase_text d are in (read.0, passed end read.1)
+
+parameters_text : {ts rest : Tokens} {xs : List (List ℕ)} → Parameters ts xs rest → AreTokenTexts ts → AreVariableTexts xs × AreTokenTexts rest
+parameters_text {ts} (g.no_parameters e) are = (tt, dropped ts are)
+parameters_text (g.parameters {mid = mid} d e) are = let read = names_of d are in (read.0, passed mid read.1)
+
+defines_text : {ts rest : Tokens} {d : DefinitionTree} {i : ℕ} → Defines ts d i rest → AreTokenTexts ts → IsSpellableDefinition d × AreTokenTexts rest
+defines_text {ts} (g.defines {mid = mid} e n o ps q b) are =
+    let on = dropped ts are in
+    let bound = parameters_text ps (passed (drop 1 (drop 1 ts)) (dropped (drop 1 ts) on)) in
+    let body = sentence_text b (passed mid bound.1) in
+    ((lower_of (drop 1 ts) on n, bound.0, body.0), body.1)
+
+definitions_text : {ts rest : Tokens} {ds : List DefinitionTree} {i : ℕ} → Definitions ts ds i rest → AreTokenTexts ts → AreSpellableDefinitions ds × AreTokenTexts rest
+definitions_text (g.no_definition e) are = (tt, are)
+definitions_text (g.definition_then f e) are =
+    let first = defines_text f are in
+    let others = definitions_text e first.1 in
+    ((first.0, others.0), others.1)
+
+source_text : {ts : Tokens} {s : SourceTree} {i : ℕ} → IsSource ts s i → AreTokenTexts ts → AreSpellableDefinitions s.definitions × IsSpellable s.main
+source_text (g.source {mid = mid} d r b e) are =
+    let first = definitions_text d are in
+    let main = sentence_text b (passed mid first.1) in
+    (first.0, main.0)
+
+pub sources_are_spellable : SourcesAreSpellable
+sources_are_spellable bytes ts s are is = source_text is.source (token_texts bytes 0 ts Whole are)

@@ -1,0 +1,223 @@
+-- The canonical spelling of phrases is read as its tokens.
+use Rattle.std.proofs.Common.{◌≡◌, ℕ, Bool, true, false, cond, nat_le, List, [], ◌∷◌, ◌++◌, append_assoc, slice_index, Some, codes, refl, sym, ap, subst, ◌∙◌}
+use Rattle.std.specs.Char.{is_ascii_alphabetic, is_ascii_uppercase}
+use Rattle.tp_lex.specs.declared.token.Kind.{Kind}
+use Rattle.tp_lex.specs.declared.token.Kind.TheVariants as kind
+use Rattle.tp_lex.specs.declared.token.Word.{Word}
+use Rattle.tp_lex.specs.declared.token.Word.TheVariants as word
+use Rattle.tp_lex.specs.declared.token.Symbol.{Symbol}
+use Rattle.tp_lex.specs.declared.token.Symbol.TheVariants as symbol
+use Rattle.tp_lex.specs.Spelling.{word_spelling, symbol_spelling, longest_symbol}
+use Rattle.tp_lex.specs.First.{is_digit}
+use Rattle.tp_tree.specs.declared.operator.Op.{Op}
+use Rattle.tp_tree.specs.declared.operator.Op.TheVariants as op
+use Rattle.tp_tree.specs.Tree.{PhraseTree, phrase, KindTree, PhraseTrees, no_phrase, phrase_then}
+use Rattle.tp_tree.specs.Levels.{kind_level}
+use Rattle.tp_tree.specs.Spelling.{op_spelling, operand_spelling, operands_spelling, kind_spelling}
+use Rattle.tp_parse.specs.Spelled.{op_kind, variable_kind, comma_kind, open_kind, close_kind, list_opened, operand_kinds, more_operands, operands_kinds, kind_kinds}
+use Rattle.tp_parse.proofs.TextTokens.{IsRead, space_read, symbol_read, EndsName, word_read, other, Spells, less_stands}
+
+-- ---- what may follow a phrase
+
+pub data Follows : List ℕ → Type 0 where
+  space : {z : List ℕ} → Follows (32 ∷ z)
+  close : {z : List ℕ} → Follows (41 ∷ z)
+  comma : {z : List ℕ} → Follows (44 ∷ z)
+  stop : {z : List ℕ} → Follows (46 ∷ z)
+  greater : {z : List ℕ} → Follows (62 ∷ z)
+  open_square : {z : List ℕ} → Follows (91 ∷ z)
+  close_square : {z : List ℕ} → Follows (93 ∷ z)
+  bar : {z : List ℕ} → Follows (124 ∷ z)
+
+pub ends : {z : List ℕ} → Follows z → EndsName z
+ends space = record { name = refl; digits = refl }
+ends close = record { name = refl; digits = refl }
+ends comma = record { name = refl; digits = refl }
+ends stop = record { name = refl; digits = refl }
+ends greater = record { name = refl; digits = refl }
+ends open_square = record { name = refl; digits = refl }
+ends close_square = record { name = refl; digits = refl }
+ends bar = record { name = refl; digits = refl }
+
+pub round_ends : (z : List ℕ) → EndsName (40 ∷ z)
+round_ends z = record { name = refl; digits = refl }
+
+-- ---- symbols
+
+sym_read : (x : Symbol) (z : List ℕ) (ks : List Kind) → IsRead z ks → longest_symbol (symbol_spelling x ++ z) ≡ Some x → IsRead (symbol_spelling x ++ z) (kind.Symbol x ∷ ks)
+sym_read x z ks r e = symbol_read x z ks e r
+
+pub open_read : (z : List ℕ) (ks : List Kind) → IsRead z ks → IsRead (40 ∷ z) (open_kind ∷ ks)
+unfolding longest_symbol
+open_read z ks r = symbol_read symbol.OpenRound z ks refl r
+
+pub close_read : (z : List ℕ) (ks : List Kind) → IsRead z ks → IsRead (41 ∷ z) (close_kind ∷ ks)
+unfolding longest_symbol
+close_read z ks r = symbol_read symbol.CloseRound z ks refl r
+
+pub bar_read : (z : List ℕ) (ks : List Kind) → IsRead z ks → IsRead (124 ∷ z) (kind.Symbol symbol.Bar ∷ ks)
+unfolding longest_symbol
+bar_read z ks r = symbol_read symbol.Bar z ks refl r
+
+pub open_square_read : (z : List ℕ) (ks : List Kind) → IsRead z ks → IsRead (91 ∷ z) (kind.Symbol symbol.OpenSquare ∷ ks)
+unfolding longest_symbol
+open_square_read z ks r = symbol_read symbol.OpenSquare z ks refl r
+
+pub close_square_read : (z : List ℕ) (ks : List Kind) → IsRead z ks → IsRead (93 ∷ z) (kind.Symbol symbol.CloseSquare ∷ ks)
+unfolding longest_symbol
+close_square_read z ks r = symbol_read symbol.CloseSquare z ks refl r
+
+pub minus_read : (z : List ℕ) (ks : List Kind) → IsRead z ks → IsRead (45 ∷ z) (kind.Symbol symbol.Minus ∷ ks)
+unfolding longest_symbol
+minus_read z ks r = symbol_read symbol.Minus z ks refl r
+
+pub stop_read : (z : List ℕ) (ks : List Kind) → IsRead z ks → IsRead (46 ∷ z) (kind.Symbol symbol.Stop ∷ ks)
+unfolding longest_symbol
+stop_read z ks r = symbol_read symbol.Stop z ks refl r
+
+pub empty_list_read : (z : List ℕ) (ks : List Kind) → IsRead z ks → IsRead (60 ∷ 62 ∷ z) (kind.Symbol symbol.Differs ∷ ks)
+unfolding longest_symbol
+empty_list_read z ks r = symbol_read symbol.Differs z ks refl r
+
+-- a comma and a space
+pub comma_read : (z : List ℕ) (ks : List Kind) → IsRead z ks → IsRead (44 ∷ 32 ∷ z) (comma_kind ∷ ks)
+unfolding longest_symbol
+comma_read z ks r = symbol_read symbol.Comma (32 ∷ z) ks refl (space_read z ks r)
+
+-- a colon with a space on each side, and a `<`
+pub colon_read : (z : List ℕ) (ks : List Kind) → IsRead z ks → IsRead (32 ∷ 58 ∷ 32 ∷ z) (kind.Symbol symbol.Colon ∷ ks)
+unfolding longest_symbol
+colon_read z ks r = space_read _ _ (symbol_read symbol.Colon (32 ∷ z) ks refl (space_read z ks r))
+
+pub less_read : (z : List ℕ) (ks : List Kind) → IsRead z ks → IsRead (32 ∷ 60 ∷ 32 ∷ z) (kind.Symbol symbol.Less ∷ ks)
+unfolding longest_symbol
+less_read z ks r = space_read _ _ (symbol_read symbol.Less (32 ∷ z) ks refl (space_read z ks r))
+
+pub equal_read : (z : List ℕ) (ks : List Kind) → IsRead z ks → IsRead (41 ∷ 32 ∷ 61 ∷ 32 ∷ z) (close_kind ∷ kind.Symbol symbol.Equal ∷ ks)
+unfolding longest_symbol
+equal_read z ks r = close_read _ _ (space_read _ _ (symbol_read symbol.Equal (32 ∷ z) ks refl (space_read z ks r)))
+
+-- the end of a list
+greater_stands : {z : List ℕ} → Follows z → longest_symbol (62 ∷ z) ≡ Some symbol.Greater
+unfolding longest_symbol
+greater_stands space = refl
+greater_stands close = refl
+greater_stands comma = refl
+greater_stands stop = refl
+greater_stands greater = refl
+greater_stands open_square = refl
+greater_stands close_square = refl
+greater_stands bar = refl
+
+pub greater_read : (z : List ℕ) (ks : List Kind) → Follows z → IsRead z ks → IsRead (62 ∷ z) (kind.Symbol symbol.Greater ∷ ks)
+greater_read z ks fo r = symbol_read symbol.Greater z ks (greater_stands fo) r
+
+-- ---- words
+
+-- a word with a space behind it, and with one on each side
+pub word_then : (w : Word) (z : List ℕ) (ks : List Kind) → IsRead z ks → IsRead (word_spelling w ++ (32 ∷ z)) (kind.Word w ∷ ks)
+word_then w z ks r = word_read w (32 ∷ z) ks (ends space) (space_read z ks r)
+
+pub between : (w : Word) (z : List ℕ) (ks : List Kind) → IsRead z ks → IsRead (32 ∷ (word_spelling w ++ (32 ∷ z))) (kind.Word w ∷ ks)
+between w z ks r = space_read _ _ (word_then w z ks r)
+
+pub op_read : (o : Op) (z : List ℕ) (ks : List Kind) → IsRead z ks → IsRead (32 ∷ (op_spelling o ++ (32 ∷ z))) (op_kind o ∷ ks)
+unfolding longest_symbol
+op_read op.Chop z ks r = space_read _ _ (symbol_read symbol.Semicolon (32 ∷ z) ks refl (space_read z ks r))
+op_read op.Proj z ks r = between word.Proj z ks r
+op_read op.Or z ks r = between word.Or z ks r
+op_read op.Equal z ks r = space_read _ _ (symbol_read symbol.Equal (32 ∷ z) ks refl (space_read z ks r))
+op_read op.Differs z ks r = space_read _ _ (symbol_read symbol.Differs (32 ∷ z) ks refl (space_read z ks r))
+op_read op.Less z ks r = space_read _ _ (symbol_read symbol.Less (32 ∷ z) ks refl (space_read z ks r))
+op_read op.LessEqual z ks r = space_read _ _ (symbol_read symbol.LessEqual (32 ∷ z) ks refl (space_read z ks r))
+op_read op.Greater z ks r = space_read _ _ (symbol_read symbol.Greater (32 ∷ z) ks refl (space_read z ks r))
+op_read op.GreaterEqual z ks r = space_read _ _ (symbol_read symbol.GreaterEqual (32 ∷ z) ks refl (space_read z ks r))
+op_read op.Gets z ks r = between word.Gets z ks r
+op_read op.Arrow z ks r = space_read _ _ (symbol_read symbol.Arrow (32 ∷ z) ks refl (space_read z ks r))
+op_read op.Becomes z ks r = space_read _ _ (symbol_read symbol.Becomes (32 ∷ z) ks refl (space_read z ks r))
+op_read op.Plus z ks r = space_read _ _ (symbol_read symbol.Plus (32 ∷ z) ks refl (space_read z ks r))
+op_read op.Minus z ks r = space_read _ _ (symbol_read symbol.Minus (32 ∷ z) ks refl (space_read z ks r))
+op_read op.Times z ks r = space_read _ _ (symbol_read symbol.Times (32 ∷ z) ks refl (space_read z ks r))
+op_read op.Div z ks r = between word.Div z ks r
+op_read op.Mod z ks r = between word.Mod z ks r
+
+-- a text that begins with a word
+word_starts : (w : Word) (z : List ℕ) → longest_symbol (60 ∷ (word_spelling w ++ z)) ≡ Some symbol.Less
+unfolding longest_symbol
+word_starts word.If z = refl
+word_starts _ z = refl
+
+pub word_spells : (w : Word) (z : List ℕ) (ks : List Kind) → EndsName z → IsRead z ks → Spells (word_spelling w ++ z) (kind.Word w ∷ ks)
+word_spells w z ks e r = record { reads = word_read w z ks e r; starts = other (word_starts w z) refl }
+
+-- ---- names and numbers
+
+pub letter_starts : (x z : List ℕ) → is_ascii_alphabetic (slice_index x 0) ≡ true → longest_symbol (60 ∷ (x ++ z)) ≡ Some symbol.Less
+letter_starts [] z e = absurd cc
+letter_starts (c ∷ x) z e = less_stands c (x ++ z) (λ q. let w = sym (ap is_ascii_alphabetic q) ∙ e in cc) (λ q. let w = sym (ap is_ascii_alphabetic q) ∙ e in cc) (λ q. let w = sym (ap is_ascii_alphabetic q) ∙ e in cc)
+
+pub digit_starts : (x z : List ℕ) → is_digit (slice_index x 0) ≡ true → longest_symbol (60 ∷ (x ++ z)) ≡ Some symbol.Less
+digit_starts [] z e = absurd cc
+digit_starts (c ∷ x) z e = less_stands c (x ++ z) (λ q. let w = sym (ap is_digit q) ∙ e in cc) (λ q. let w = sym (ap is_digit q) ∙ e in cc) (λ q. let w = sym (ap is_digit q) ∙ e in cc)
+
+pub variable_opened : (x : List ℕ) (ks : List Kind) → list_opened (variable_kind x ∷ ks) ≡ kind.Symbol symbol.Less ∷ variable_kind x ∷ ks
+variable_opened x ks = by (is_ascii_uppercase (slice_index x 0))
+  where
+    by : (u : Bool) → list_opened (cond u (kind.Upper x) (kind.Lower x) ∷ ks) ≡ kind.Symbol symbol.Less ∷ cond u (kind.Upper x) (kind.Lower x) ∷ ks
+    by true = refl
+    by false = refl
+
+-- ---- phrases
+
+-- whatever follows them
+abbrev pub SpellsKind : KindTree → Type 0
+SpellsKind k = (z : List ℕ) (ks : List Kind) → Follows z → IsRead z ks → Spells (kind_spelling k ++ z) (kind_kinds k ks)
+
+abbrev pub SpellsOperand : PhraseTree → Type 0
+SpellsOperand p = (level : ℕ) (z : List ℕ) (ks : List Kind) → Follows z → IsRead z ks → Spells (operand_spelling level p ++ z) (operand_kinds level p ks)
+
+pub moved : (y z : List ℕ) (ks : List Kind) → y ≡ z → Spells z ks → Spells y ks
+moved y z ks e s = subst (λ x. Spells x ks) (sym e) s
+
+round_starts : (z : List ℕ) → longest_symbol (60 ∷ 40 ∷ z) ≡ Some symbol.Less
+unfolding longest_symbol
+round_starts z = refl
+
+round_spells : (k : KindTree) → SpellsKind k → (z : List ℕ) (ks : List Kind) → IsRead z ks → Spells (40 ∷ (kind_spelling k ++ (41 ∷ z))) (open_kind ∷ kind_kinds k (close_kind ∷ ks))
+round_spells k s z ks r = record { reads = open_read _ _ (s (41 ∷ z) (close_kind ∷ ks) close (close_read z ks r)).reads; starts = other (round_starts _) refl }
+
+pub operand_spells : (at : ℕ) (k : KindTree) → SpellsKind k → SpellsOperand (phrase at k)
+operand_spells at k s level z ks fo r = by (nat_le (kind_level k) level)
+  where
+    by : (low : Bool) → Spells (cond low (kind_spelling k) (codes "(" ++ kind_spelling k ++ codes ")") ++ z) (cond low (kind_kinds k ks) (open_kind ∷ kind_kinds k (close_kind ∷ ks)))
+    by true = s z ks fo r
+    by false =
+        let shape : (codes "(" ++ kind_spelling k ++ codes ")") ++ z ≡ 40 ∷ (kind_spelling k ++ (41 ∷ z)) = simp append_assoc in
+        moved _ _ _ shape (round_spells k s z ks r)
+
+abbrev pub SpellOperands : PhraseTrees → Type 0
+SpellOperands no_phrase = Unit {0}
+SpellOperands (phrase_then p ps) = SpellsOperand p × SpellOperands ps
+
+-- what follows an operand, where a separator with a space before or behind it may follow
+pub commas_read : (level : ℕ) (ps : PhraseTrees) → SpellOperands ps → (z : List ℕ) (ks : List Kind) → Follows z → IsRead z ks → Follows (operands_spelling (codes ", ") (codes ", ") level ps ++ z) × IsRead (operands_spelling (codes ", ") (codes ", ") level ps ++ z) (more_operands comma_kind level ps ks)
+commas_read level no_phrase s z ks fo r = (fo, r)
+commas_read level (phrase_then p ps) s z ks fo r =
+    let more = commas_read level ps s.1 z ks fo r in
+    let shape : operands_spelling (codes ", ") (codes ", ") level (phrase_then p ps) ++ z ≡ 44 ∷ 32 ∷ (operand_spelling level p ++ (operands_spelling (codes ", ") (codes ", ") level ps ++ z)) = simp append_assoc in
+    (comma, subst (λ y. IsRead y (more_operands comma_kind level (phrase_then p ps) ks)) (sym shape) (comma_read _ _ (s.0 level _ _ more.0 more.1).reads))
+
+pub ands_read : (level : ℕ) (ps : PhraseTrees) → SpellOperands ps → (z : List ℕ) (ks : List Kind) → Follows z → IsRead z ks → Follows (operands_spelling (codes " and ") (codes " and ") level ps ++ z) × IsRead (operands_spelling (codes " and ") (codes " and ") level ps ++ z) (more_operands (kind.Word word.And) level ps ks)
+ands_read level no_phrase s z ks fo r = (fo, r)
+ands_read level (phrase_then p ps) s z ks fo r =
+    let more = ands_read level ps s.1 z ks fo r in
+    let shape : operands_spelling (codes " and ") (codes " and ") level (phrase_then p ps) ++ z ≡ 32 ∷ (word_spelling word.And ++ (32 ∷ (operand_spelling level p ++ (operands_spelling (codes " and ") (codes " and ") level ps ++ z)))) = simp append_assoc in
+    (space, subst (λ y. IsRead y (more_operands (kind.Word word.And) level (phrase_then p ps) ks)) (sym shape) (between word.And _ _ (s.0 level _ _ more.0 more.1).reads))
+
+-- operands in `(` and `)`
+pub round_operands : (ps : PhraseTrees) → SpellOperands ps → (z : List ℕ) (ks : List Kind) → IsRead z ks → IsRead (40 ∷ (operands_spelling [] (codes ", ") 11 ps ++ (41 ∷ z))) (open_kind ∷ operands_kinds comma_kind 11 ps (close_kind ∷ ks))
+round_operands no_phrase s z ks r = open_read _ _ (close_read z ks r)
+round_operands (phrase_then p ps) s z ks r =
+    let more = commas_read 11 ps s.1 (41 ∷ z) (close_kind ∷ ks) close (close_read z ks r) in
+    let shape : operands_spelling [] (codes ", ") 11 (phrase_then p ps) ++ (41 ∷ z) ≡ operand_spelling 11 p ++ (operands_spelling (codes ", ") (codes ", ") 11 ps ++ (41 ∷ z)) = append_assoc (operand_spelling 11 p) _ _ in
+    open_read _ _ (subst (λ y. IsRead y (operands_kinds comma_kind 11 (phrase_then p ps) (close_kind ∷ ks))) (sym shape) (s.0 11 _ _ more.0 more.1).reads)
