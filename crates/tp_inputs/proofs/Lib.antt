@@ -1,0 +1,6 @@
+pub mod FeedLemmas
+pub mod LawLemmas
+pub mod LineLemmas
+pub mod PairLemmas
+pub mod PartLemmas
+pub mod TableLemmas

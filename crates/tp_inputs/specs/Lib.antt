@@ -1,1 +1,6 @@
+pub mod FirstPart
+pub mod Laws
+pub mod Lines
+pub mod Parts
 pub mod Read
+pub mod Table

@@ -1,0 +1,150 @@
+-- The function that finds the first part answers the one part that a line begins with.
+use Rattle.std.proofs.Common.{refl, ap, sym, ◌∙◌, ◌≡◌, ◌≢◌, ℕ, suc, zero, ◌+◌, ◌<◌, ◌≤◌, ◌==◌, Bool, true, false, cond, ◌&&◌, nat_le, List, [], ◌∷◌, length, slice_index, take, Option, Some, None, is_none, arith}
+use Rattle.std.specs.List.{prefix_len}
+use Rattle.std.specs.Char.{is_ascii_lowercase}
+use Rattle.std.proofs.lemmas.Bool.Decides.{nat_tests}
+use Rattle.tp_value.specs.Tree.{Tree}
+use Rattle.tp_value.specs.Spelling.{is_value_blank}
+use Rattle.tp_value.specs.Answers.{IsRead}
+use Rattle.tp_value.specs.Reading.{Answer, found, refused, value_answer}
+use Rattle.tp_value.proofs.ReadLemmas.{found_read, read_found}
+use Rattle.tp_lex.specs.declared.token.Word.{Word}
+use Rattle.tp_lex.specs.First.{is_name_byte, name_limit}
+use Rattle.tp_lex.specs.Spelling.{spelled_word}
+use Rattle.tp_lex.proofs.SpellingLemmas.{word_is, no_word}
+use Rattle.tp_meaning.specs.Inputs.{InputPair, port_value}
+use Rattle.tp_inputs.specs.declared.refusal.Fault.TheVariants as f
+use Rattle.tp_inputs.specs.Parts.{LinePart, Blank, Given, Faulty, BeginsPort, IsNewPort, is_set_apart, BeginsPart, blank, pair, no_port, twice, no_value, not_apart}
+use Rattle.tp_inputs.specs.FirstPart.{port_len, value_part, new_part, pair_of_len, pair_part, first_part}
+
+-- what `port_len` found
+abbrev FindsPort : List ℕ → Option ℕ → Type 0
+FindsPort z (Some n) = BeginsPort z n
+FindsPort z None = (n : ℕ) → ¬ BeginsPort z n
+
+tested : (a b : ℕ) (t : Bool) → (a == b) ≡ t → t ≡ true → a ≡ b
+tested a b t e s = grind (arith, nat_tests)
+
+port_is : (z : List ℕ) → FindsPort z (port_len z)
+unfolding port_len
+port_is z = at (is_ascii_lowercase (slice_index z 0)) (nat_le n name_limit) (spelled_word (take n z)) (slice_index z n == 61) refl refl refl refl
+  where
+    n : ℕ
+    n = prefix_len is_name_byte z
+
+    at : (lower short : Bool) (word : Option Word) (equals : Bool) → is_ascii_lowercase (slice_index z 0) ≡ lower → nat_le n name_limit ≡ short → spelled_word (take n z) ≡ word → (slice_index z n == 61) ≡ equals
+        → FindsPort z (cond (lower && (short && (is_none word && equals))) (Some n) None)
+    at true true None true e1 e2 e3 e4 = record { lower = e1; longest = refl; short = grind (arith, nat_tests); no_word = no_word (take n z) e3; equals = tested (slice_index z n) 61 true e4 refl }
+    at true true None false e1 e2 e3 e4 = λ m is. let l = is.longest in let q = is.equals in let here : slice_index z n ≡ 61 = ap (slice_index z) (sym l) ∙ q in absurd (grind (arith, nat_tests))
+    at true true (Some word) equals e1 e2 e3 e4 = λ m is. is.no_word word (ap (λ k. take k z) is.longest ∙ word_is (take n z) word e3)
+    at true false word equals e1 e2 e3 e4 = λ m is. let l = is.longest in let q = is.short in absurd (grind (arith, nat_tests))
+    at false short word equals e1 e2 e3 e4 = λ m is. let q = is.lower in absurd (cc)
+
+stands : (z : List ℕ) (n : ℕ) → slice_index z n ≡ 61 → n < length z
+stands [] n e = absurd (omega arith)
+stands (b ∷ z) zero e = omega arith
+stands (b ∷ z) (suc n) e = let below = stands z n e in omega arith
+
+port_within : (z : List ℕ) (n : ℕ) → BeginsPort z n → n < length z
+port_within z n is = stands z n is.equals
+
+port_from : (z : List ℕ) (n : ℕ) → BeginsPort z n → port_len z ≡ Some n
+port_from z n is = at (port_len z) (port_is z)
+  where
+    at : (o : Option ℕ) → FindsPort z o → o ≡ Some n
+    at (Some m) other = ap Some (other.longest ∙ sym is.longest)
+    at None never = absurd (never n is)
+
+port_none : (z : List ℕ) → ((n : ℕ) → ¬ BeginsPort z n) → port_len z ≡ None
+port_none z never = at (port_len z) (port_is z)
+  where
+    at : (o : Option ℕ) → FindsPort z o → o ≡ None
+    at (Some m) is = absurd (never m is)
+    at None e = refl
+
+-- ---- the function answers a part that the line begins with
+
+value_begins : (z : List ℕ) (seen : List InputPair) (n : ℕ) → BeginsPort z n → IsNewPort (take n z) seen → (a : Answer) → value_answer z (n + 1) ≡ a → BeginsPart z seen (value_part z (take n z) a)
+value_begins z seen n is new (refused e) told = no_value is new told
+value_begins z seen n is new (found t m) told = at (is_set_apart z m) refl
+  where
+    read : IsRead z (n + 1) t m
+    read = let low = port_within z n is in found_read z (n + 1) m t (omega arith) told
+
+    at : (b : Bool) → is_set_apart z m ≡ b → BeginsPart z seen (cond b (Given (record { port = take n z; value = t }) m) (Faulty f.Bad))
+    at true e = pair is new read e
+    at false e = not_apart is new read e
+
+new_begins : (z : List ℕ) (seen : List InputPair) (n : ℕ) → BeginsPort z n → (o : Option Tree) → port_value (take n z) seen ≡ o → BeginsPart z seen (new_part z n o)
+new_begins z seen n is None new = value_begins z seen n is new (value_answer z (n + 1)) refl
+new_begins z seen n is (Some t) given = twice is (t, given)
+
+pair_begins : (z : List ℕ) (seen : List InputPair) → z ≢ [] → is_value_blank (slice_index z 0) ≡ false → (o : Option ℕ) → FindsPort z o → BeginsPart z seen (pair_of_len z seen o)
+pair_begins z seen some no_blank None never = no_port some no_blank never
+pair_begins z seen some no_blank (Some n) is = new_begins z seen n is (port_value (take n z) seen) refl
+
+pub part_is : (z : List ℕ) (seen : List InputPair) → z ≢ [] → BeginsPart z seen (first_part z seen)
+unfolding first_part pair_part
+part_is z seen some = at (is_value_blank (slice_index z 0)) refl
+  where
+    at : (b : Bool) → is_value_blank (slice_index z 0) ≡ b → BeginsPart z seen (cond b Blank (pair_of_len z seen (port_len z)))
+    at true e = blank e
+    at false e = pair_begins z seen some e (port_len z) (port_is z)
+
+-- ---- and no other
+
+lower_no_blank : (b : ℕ) → is_ascii_lowercase b ≡ true → is_value_blank b ≡ false
+lower_no_blank b e = grind (arith, nat_tests)
+
+port_part : (z : List ℕ) (seen : List InputPair) (n : ℕ) → BeginsPort z n → first_part z seen ≡ new_part z n (port_value (take n z) seen)
+unfolding first_part pair_part
+port_part z seen n is = rw (lower_no_blank (slice_index z 0) is.lower) (ap (pair_of_len z seen) (port_from z n is))
+
+fresh_part : (z : List ℕ) (seen : List InputPair) (n : ℕ) (a : Answer) → BeginsPort z n → IsNewPort (take n z) seen → value_answer z (n + 1) ≡ a → first_part z seen ≡ value_part z (take n z) a
+fresh_part z seen n a is new told = port_part z seen n is ∙ (ap (new_part z n) new ∙ ap (value_part z (take n z)) told)
+
+blank_part : (z : List ℕ) (seen : List InputPair) → is_value_blank (slice_index z 0) ≡ true → first_part z seen ≡ Blank
+unfolding first_part
+blank_part z seen e = rw e refl
+
+no_port_part : (z : List ℕ) (seen : List InputPair) → is_value_blank (slice_index z 0) ≡ false → ((n : ℕ) → ¬ BeginsPort z n) → first_part z seen ≡ Faulty f.Bad
+unfolding first_part pair_part
+no_port_part z seen e never = rw e (ap (pair_of_len z seen) (port_none z never))
+
+pub part_one : (z : List ℕ) (seen : List InputPair) (p : LinePart) → BeginsPart z seen p → p ≡ first_part z seen
+part_one z seen _ (blank e) = sym (blank_part z seen e)
+part_one z seen _ (pair {n = n} {m = m} {t = t} is new read e) = sym (fresh_part z seen n (found t m) is new (read_found z (n + 1) m t read) ∙ ap (λ b. cond b (Given (record { port = take n z; value = t }) m) (Faulty f.Bad)) e)
+part_one z seen _ (no_port some e never) = sym (no_port_part z seen e never)
+part_one z seen _ (twice {n = n} is given) = sym (port_part z seen n is ∙ ap (new_part z n) given.1)
+part_one z seen _ (no_value {n = n} {e = e} is new told) = sym (fresh_part z seen n (refused e) is new told)
+part_one z seen _ (not_apart {n = n} {m = m} {t = t} is new read e) = sym (fresh_part z seen n (found t m) is new (read_found z (n + 1) m t read) ∙ ap (λ b. cond b (Given (record { port = take n z; value = t }) m) (Faulty f.Bad)) e)
+
+-- ---- each part but a fault has some bytes of the line
+
+abbrev pub Takes : LinePart → ℕ → Type 0
+Takes Blank most = 1 ≤ most
+Takes (Given p n) most = (0 < n) × (n ≤ most)
+Takes (Faulty fault) most = 0 < most
+
+some_blank : (z : List ℕ) → is_value_blank (slice_index z 0) ≡ true → 1 ≤ length z
+some_blank [] e = absurd cc
+some_blank (b ∷ rest) e = omega arith
+
+filled : (z : List ℕ) → z ≢ [] → 0 < length z
+filled [] full = absurd (full refl)
+filled (b ∷ z) full = omega arith
+
+pub takes : (z : List ℕ) (seen : List InputPair) (p : LinePart) → BeginsPart z seen p → Takes p (length z)
+takes z seen _ (blank e) = some_blank z e
+takes z seen _ (pair is new read e) =
+    let ordered = read.ordered in
+    let inside = read.inside in
+    (omega arith, omega arith)
+takes z seen _ (no_port some e never) = filled z some
+takes z seen _ (twice {n = n} is given) = let low = port_within z n is in omega arith
+takes z seen _ (no_value {n = n} is new told) = let low = port_within z n is in omega arith
+takes z seen _ (not_apart {n = n} is new read e) = let low = port_within z n is in omega arith
+
+pub no_more : {A : Type 0} (z : List A) → length z ≡ 0 → z ≡ []
+no_more [] e = refl
+no_more (b ∷ z) e = absurd (omega arith)

@@ -1,0 +1,22 @@
+use Rattle.std.proofs.Common.{ap, sym, ◌∙◌}
+use Rattle.tp_inputs.specs.Lines.{blank}
+use Rattle.tp_inputs.specs.Read.{pair_of, pairs_of, part_of}
+use Rattle.tp_inputs.proofs.LineLemmas.{part_found, pair_passes, new_port}
+use Rattle.tp_inputs.proofs.line.Line.take_part.Goals as goal
+
+pub add-requires : goal.add-requires
+add-requires c =
+    let old = pairs_of c.args.self.now in
+    new_port c.args.text.now old _ c.in-Pair.len (part_found c.args.text.now old _ c.requires (sym (ap part_of c.in-Pair.is) ∙ c.in_ok-first_part.ensures))
+
+pub returns-in-Blank-clause-passed : goal.returns-in-Blank-clause-passed
+returns-in-Blank-clause-passed c = blank (part_found c.args.text.now (pairs_of c.args.self.now) _ c.requires (sym (ap part_of c.in-Blank.is) ∙ c.in_ok-first_part.ensures))
+
+pub returns-in_ok-add-in-Pair-clause-passed : goal.returns-in_ok-add-in-Pair-clause-passed
+returns-in_ok-add-in-Pair-clause-passed c =
+    let old = pairs_of c.args.self.now in
+    pair_passes c.args.text.now old (pairs_of c.add.new.self) (pair_of (c.in-Pair.port, c.in-Pair.value)) c.in-Pair.len (part_found c.args.text.now old _ c.requires (sym (ap part_of c.in-Pair.is) ∙ c.in_ok-first_part.ensures))
+    c.in_ok-add-in-Pair.ensures
+
+pub returns-in-Fault-clause-refused : goal.returns-in-Fault-clause-refused
+returns-in-Fault-clause-refused c = part_found c.args.text.now (pairs_of c.args.self.now) _ c.requires (sym (ap part_of c.in-Fault.is) ∙ c.in_ok-first_part.ensures)

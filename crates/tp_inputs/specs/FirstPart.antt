@@ -1,0 +1,46 @@
+-- What a line of inputs begins with, as a function of the line.
+use Rattle.std.specs.Prelude.{ℕ, ◌+◌, ◌==◌, Bool, ◌&&◌, if◌then◌else◌, nat_le, List, take, slice_index, Option, Some, None, is_none}
+use Rattle.std.specs.List.{prefix_len}
+use Rattle.std.specs.Char.{is_ascii_lowercase}
+use Rattle.tp_value.specs.declared.reading.ReadValue.{ReadValue}
+use Rattle.tp_value.specs.Tree.{Tree}
+use Rattle.tp_value.specs.Spelling.{is_value_blank}
+use Rattle.tp_value.specs.Reading.{Answer, found, refused, value_answer}
+use Rattle.tp_lex.specs.First.{is_name_byte, name_limit}
+use Rattle.tp_lex.specs.Spelling.{spelled_word}
+use Rattle.tp_meaning.specs.Inputs.{InputPair, port_value}
+use Rattle.tp_inputs.specs.declared.refusal.Fault.TheVariants as f
+use Rattle.tp_inputs.specs.Parts.{LinePart, Blank, Given, Faulty, is_set_apart, fault_of}
+
+-- whether the first n bytes, all those of a name, are a port with `=` behind it
+abbrev pub is_port : List ℕ → ℕ → Bool
+is_port z n = is_ascii_lowercase (slice_index z 0) && (nat_le n name_limit && (is_none (spelled_word (take n z)) && slice_index z n == 61))
+
+-- how many bytes the port has that comes first
+unfoldable pub port_len : List ℕ → Option ℕ
+port_len z = let n = prefix_len is_name_byte z in if is_port z n then Some n else None
+
+-- the fault of a value that is refused
+abbrev pub refused_part : ReadValue → LinePart
+refused_part e = Faulty (fault_of e)
+
+-- the pair of the port, or a fault
+abbrev pub value_part : List ℕ → List ℕ → Answer → LinePart
+value_part z port (found t m) = if is_set_apart z m then Given (record { port = port; value = t }) m else Faulty f.Bad
+value_part z port (refused e) = refused_part e
+
+abbrev pub new_part : List ℕ → ℕ → Option Tree → LinePart
+new_part z n None = value_part z (take n z) (value_answer z (n + 1))
+new_part z n (Some t) = Faulty f.Twice
+
+abbrev pub pair_of_len : List ℕ → List InputPair → Option ℕ → LinePart
+pair_of_len z seen None = Faulty f.Bad
+pair_of_len z seen (Some n) = new_part z n (port_value (take n z) seen)
+
+-- what comes first that is no blank
+unfoldable pub pair_part : List ℕ → List InputPair → LinePart
+pair_part z seen = pair_of_len z seen (port_len z)
+
+-- what comes first, behind these pairs of the line
+unfoldable pub first_part : List ℕ → List InputPair → LinePart
+first_part z seen = if is_value_blank (slice_index z 0) then Blank else pair_part z seen

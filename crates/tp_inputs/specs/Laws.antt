@@ -1,0 +1,28 @@
+-- Bytes are one table of inputs, or have one first fault.
+use Rattle.std.specs.Prelude.{◌≡◌, ◌≢◌, ℕ, ◌≤◌, ◌⊎◌, List, length}
+use Rattle.std.specs.Str.Lines.{lines}
+use Rattle.tp_value.specs.declared.reading.ReadValue.{ReadValue}
+use Rattle.tp_value.specs.declared.reading.ReadValue.TheVariants.{NoMemory}
+use Rattle.tp_value.specs.Reading.{refused, value_answer}
+use Rattle.tp_value.specs.Answers.{IsReadRefused}
+use Rattle.tp_meaning.specs.Inputs.{InputLines}
+use Rattle.tp_inputs.specs.declared.refusal.Fault.{Fault}
+use Rattle.tp_inputs.specs.Table.{IsInputsText, IsFirstFault}
+
+-- the bytes are a table, or have a first fault
+abbrev pub EachTextIsJudged : Type 0
+EachTextIsJudged = (bytes : List ℕ) → ((table : InputLines) × IsInputsText bytes table) ⊎ ((line : ℕ) × (fault : Fault) × IsFirstFault (lines bytes) line fault)
+
+abbrev pub OneTable : Type 0
+OneTable = (bytes : List ℕ) (t u : InputLines) → IsInputsText bytes t → IsInputsText bytes u → t ≡ u
+
+abbrev pub OneFirstFault : Type 0
+OneFirstFault = (bytes : List ℕ) (m n : ℕ) (e f : Fault) → IsFirstFault (lines bytes) m e → IsFirstFault (lines bytes) n f → (m ≡ n) × (e ≡ f)
+
+-- bytes with a fault are no table
+abbrev pub NoFaultyTable : Type 0
+NoFaultyTable = (bytes : List ℕ) (t : InputLines) (n : ℕ) (f : Fault) → IsInputsText bytes t → ¬ IsFirstFault (lines bytes) n f
+
+-- a value that is refused is refused for its first cause
+abbrev pub RefusedValuesHaveTheirCause : Type 0
+RefusedValuesHaveTheirCause = (bytes : List ℕ) (from : ℕ) (e : ReadValue) → from ≤ length bytes → value_answer bytes from ≡ refused e → (e ≢ NoMemory) × IsReadRefused bytes from e
