@@ -101,8 +101,9 @@ fn append_facts(path: &Path, value: &Value, out: &mut Vec<Fact>) -> Result<(), N
     Ok(())
 }
 
-// The facts of the value at the path.
-fn value_facts(alloc: Global, path: &Path, value: &Value) -> Result<Vec<Fact>, NoMemory>
+/// The facts of the value at the path: its shape there, and then the facts of its items in order. A list of 2^32 items has no shape, and is
+/// want of memory.
+pub fn value_facts(alloc: Global, path: &Path, value: &Value) -> Result<Vec<Fact>, NoMemory>
     ensures { IfOk result (λ facts. facts.items ≡ facts_at path.now (tree value.now)) }
 {
     let mut facts = Vec::new(alloc);

@@ -9,7 +9,7 @@ mod laws;
 mod listing;
 mod store;
 
-pub use add::AddRefusal;
+pub use add::{AddRefusal, value_facts};
 pub use full::Known;
 pub use laws::{
     adding_adds_meaning, clashes_agree_nowhere, facts_say_the_value, full_is_right,
