@@ -2,7 +2,7 @@
 use Rattle.std.proofs.Common.{refl, ap, sym, subst, ◌∙◌, ◌≡◌, ℕ, zero, suc, ◌+◌, ◌<◌, ◌≤◌, ◌⊎◌, inl, inr, List, [], ◌∷◌, ◌++◌, length, slice_get, None, Some, Ok, Err, arith}
 use Rattle.std.proofs.lemmas.Option.{slice_get_within}
 use Rattle.tp_check.specs.declared.refusal.CheckRefusal.{CheckRefusal}
-use Rattle.tp_check.specs.Scope.{Signature}
+use Rattle.tp_scope.specs.Scope.{Signature}
 use Rattle.tp_check.specs.Outcome.{CheckOutcome, mapped, both, three}
 use Rattle.tp_check.specs.Refusals.{Placed, operands_there, StandsIn, StandsAmong, Breaks, turn_of, IsNoLater, IsFirstBroken, AreKept}
 

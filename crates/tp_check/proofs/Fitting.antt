@@ -16,20 +16,19 @@ use Rattle.tp_tree.specs.declared.operator.Bare.TheVariants.{Empty, More, Skip}
 use Rattle.tp_tree.specs.declared.operator.Form.TheVariants as f
 use Rattle.tp_tree.specs.Tree as k
 use Rattle.tp_tree.specs.Tree.{PhraseTree, phrase, PhraseTrees, no_phrase, phrase_then, DefinitionTree, SourceTree}
-use Rattle.tp_meaning.specs.Syntax.{ExprTree, FormulaTree, Definition, equation, while, exprs_of, formulas_of}
+use Rattle.tp_meaning.specs.Syntax.{ExprTree, FormulaTree, Definition, equation, while, input, exprs_of, formulas_of}
 use Rattle.tp_meaning.specs.Value.{is_upper}
 use Rattle.tp_meaning.specs.Interval.{kinds_of}
-use Rattle.tp_meaning.specs.Fits.{IsVariable, IsPlace, AreArguments, ExprFits, ExprsFit, FormulaFits, FormulasFit}
+use Rattle.tp_meaning.specs.Fits.{IsVariable, IsPlace, AreArguments, ExprFits, ExprsFit, FormulaFits, FormulasFit, ProgramFits}
 use Rattle.tp_meaning.specs.Derived.{next_equals_of, repeat_of}
 use Rattle.tp_check.specs.declared.refusal.CheckRefusal.{CheckRefusal}
 use Rattle.tp_check.specs.declared.refusal.CheckRefusal.TheVariants.{Twice}
-use Rattle.tp_check.specs.Built.{HasBuiltKinds, HaveBuiltKinds, IsBuilt}
-use Rattle.tp_check.specs.Scope.{Names, Signature, VisibleNames, Called, with_binder, with_binders, bound_in, binder_of, bound_or_global, called_from, called_of}
-use Rattle.tp_check.specs.Names.{has_repeat}
+use Rattle.tp_scope.specs.Scope.{Names, Signature, VisibleNames, Called, with_binder, with_binders, bound_in, binder_of, bound_or_global, called_from, called_of}
+use Rattle.tp_scope.specs.Names.{has_repeat}
 use Rattle.tp_check.specs.Outcome.{CheckOutcome, mapped, both, three, not_expression}
-use Rattle.tp_check.specs.Phrases.{is_place_phrase, is_place_kind, phrase_count, nexts_of, behind_nexts, at_of}
-use Rattle.tp_check.specs.Definitions.{signatures_of}
-use Rattle.tp_check.specs.Positions.{named_expr, operation_of, operation_at, called_expr, expr_of, expr_of_kind, exprs_in, place_phrase, arguments_in, equation_of, is_state_in, state_in, negation_in, binary_in, composition_of, composed_or, bare_of, called_formula, exists_of, formula_of, formula_of_kind, formulas_in}
+use Rattle.tp_scope.specs.Phrases.{is_place_phrase, is_place_kind, phrase_count, nexts_of, behind_nexts, at_of}
+use Rattle.tp_scope.specs.Definitions.{signatures_of}
+use Rattle.tp_check.specs.Positions.{named_expr, operation_of, operation_at, called_expr, expr_of, expr_of_kind, exprs_in, place_phrase, port_phrase, arguments_in, equation_of, is_state_in, state_in, negation_in, binary_in, composition_of, composed_or, bare_of, called_formula, exists_of, formula_of, formula_of_kind, formulas_in}
 use Rattle.tp_check.specs.Program.{expr_where, definition_with, definition_in, definitions_in, outermost, program_over}
 
 any_ok : {A : Type 0} (a : CheckOutcome A) → IfOk a (λ x. Unit {0})
@@ -267,97 +266,100 @@ module _ (defs : List Definition) where
 
   -- ---- formulas
 
-  abbrev BuiltWith : VisibleNames → FormulaTree → Type 0
-  BuiltWith names w = HasBuiltKinds w × FormulaFits defs (kinds_of names.globals) w (length names.scope)
+  abbrev FormulaFitsIn : VisibleNames → FormulaTree → Type 0
+  FormulaFitsIn names w = FormulaFits defs (kinds_of names.globals) w (length names.scope)
 
-  abbrev AllBuilt : VisibleNames → List FormulaTree → Type 0
-  AllBuilt names ws = HaveBuiltKinds (formulas_of ws) × FormulasFit defs (kinds_of names.globals) (formulas_of ws) (length names.scope)
+  abbrev FormulasFitIn : VisibleNames → List FormulaTree → Type 0
+  FormulasFitIn names ws = FormulasFit defs (kinds_of names.globals) (formulas_of ws) (length names.scope)
 
-  equation_fits : (names : VisibleNames) (n m at : ℕ) (l r : CheckOutcome ExprTree) → IfOk l (Fits names) → IfOk r (Fits names) → IfOk (equation_of n m at l r) (BuiltWith names)
-  equation_fits names zero zero at l r p q = both_ok _ l r (Fits names) (Fits names) (BuiltWith names) p q (λ x y a b. (tt, (a, b)))
+  equation_fits : (names : VisibleNames) (n m at : ℕ) (l r : CheckOutcome ExprTree) → IfOk l (Fits names) → IfOk r (Fits names) → IfOk (equation_of n m at l r) (FormulaFitsIn names)
+  equation_fits names zero zero at l r p q = both_ok _ l r (Fits names) (Fits names) (FormulaFitsIn names) p q (λ x y a b. (a, b))
   equation_fits names (suc n) zero at l r p q =
-      both_ok (λ t e. next_equals_of (suc n) t e) l r (Fits names) (Fits names) (BuiltWith names) p q (λ x y a b. ((tt, (tt, tt)), (tt, ((a, b, omega arith), tt))))
+      both_ok (λ t e. next_equals_of (suc n) t e) l r (Fits names) (Fits names) (FormulaFitsIn names) p q (λ x y a b. (tt, ((a, b, omega arith), tt)))
   equation_fits names zero (suc m) at l r p q =
-      both_ok (λ e t. next_equals_of (suc m) t e) l r (Fits names) (Fits names) (BuiltWith names) p q (λ x y a b. ((tt, (tt, tt)), (tt, ((b, a, omega arith), tt))))
+      both_ok (λ e t. next_equals_of (suc m) t e) l r (Fits names) (Fits names) (FormulaFitsIn names) p q (λ x y a b. (tt, ((b, a, omega arith), tt)))
   equation_fits names (suc n) (suc m) at l r p q =
-      both_ok equation l (not_expression at) (Fits names) (λ e. ⊥) (BuiltWith names) p tt (λ x y a h. absurd h)
+      both_ok equation l (not_expression at) (Fits names) (λ e. ⊥) (FormulaFitsIn names) p tt (λ x y a h. absurd h)
 
-  state_fits : (names : VisibleNames) → Known names → (at : ℕ) (kind : k.KindTree) → IfOk (state_in names at kind) (BuiltWith names)
+  state_fits : (names : VisibleNames) → Known names → (at : ℕ) (kind : k.KindTree) → IfOk (state_in names at kind) (FormulaFitsIn names)
   state_fits names known at kind =
       let e = expr_kind_fits names known at kind in
-      if_ok (is_place_kind kind) _ _ (BuiltWith names)
-      (λ is. mapped_ok _ (expr_of_kind names at kind) (Fits names) (BuiltWith names) e (λ x h. (tt, (h, tt))))
-      (mapped_ok _ (expr_of_kind names at kind) (Fits names) (BuiltWith names) e (λ x h. (tt, h)))
+      if_ok (is_place_kind kind) _ _ (FormulaFitsIn names)
+      (λ is. mapped_ok _ (expr_of_kind names at kind) (Fits names) (FormulaFitsIn names) e (λ x h. (h, tt)))
+      (mapped_ok _ (expr_of_kind names at kind) (Fits names) (FormulaFitsIn names) e (λ x h. h))
 
-  negation_fits : (names : VisibleNames) → Known names → (at : ℕ) (p : PhraseTree) → IfOk (negation_in names at p) (BuiltWith names)
+  negation_fits : (names : VisibleNames) → Known names → (at : ℕ) (p : PhraseTree) → IfOk (negation_in names at p) (FormulaFitsIn names)
   negation_fits names known at p =
-      if_ok (is_place_phrase p) _ _ (BuiltWith names)
-      (λ is. mapped_ok _ (expr_of names p) (Fits names) (BuiltWith names) (expr_fits names known p) (λ x h. (tt, (h, tt))))
-      (if_ok (is_state_in names p) _ _ (BuiltWith names) (λ is. state_fits names known at (k.negation p)) tt)
+      if_ok (is_place_phrase p) _ _ (FormulaFitsIn names)
+      (λ is. mapped_ok _ (expr_of names p) (Fits names) (FormulaFitsIn names) (expr_fits names known p) (λ x h. (h, tt)))
+      (if_ok (is_state_in names p) _ _ (FormulaFitsIn names) (λ is. state_fits names known at (k.negation p)) tt)
 
-  binary_fits : (names : VisibleNames) → Known names → (at : ℕ) (o : Op) (l r : PhraseTree) → IfOk (binary_in names at o l r) (BuiltWith names)
+  binary_fits : (names : VisibleNames) → Known names → (at : ℕ) (o : Op) (l r : PhraseTree) → IfOk (binary_in names at o l r) (FormulaFitsIn names)
   binary_fits names known at op.Equal l r =
       equation_fits names (nexts_of l) (nexts_of r) (at_of r) (expr_of names (behind_nexts l)) (expr_of names (behind_nexts r)) (expr_fits names known (behind_nexts l)) (expr_fits names known (behind_nexts r))
-  binary_fits names known at op.Gets l r = both_ok _ (place_phrase names l) (expr_of names r) (Fits names) (Fits names) (BuiltWith names) (place_fits names known l) (expr_fits names known r) (λ x y a b. (tt, (a, b, omega arith)))
-  binary_fits names known at op.Arrow l r = both_ok _ (place_phrase names l) (expr_of names r) (Fits names) (Fits names) (BuiltWith names) (place_fits names known l) (expr_fits names known r) (λ x y a b. (tt, (a, b)))
+  binary_fits names known at op.Gets l r = both_ok _ (place_phrase names l) (expr_of names r) (Fits names) (Fits names) (FormulaFitsIn names) (place_fits names known l) (expr_fits names known r) (λ x y a b. (a, b, omega arith))
+  binary_fits names known at op.Arrow l r = both_ok _ (place_phrase names l) (expr_of names r) (Fits names) (Fits names) (FormulaFitsIn names) (place_fits names known l) (expr_fits names known r) (λ x y a b. (a, b))
   binary_fits names known at op.Becomes l r =
-      both_ok _ (place_phrase names l) (expr_of names r) (Fits names) (Fits names) (BuiltWith names) (place_fits names known l) (expr_fits names known r) (λ x y a b. ((tt, (tt, tt)), (tt, ((a, b, omega arith), tt))))
-  binary_fits names known at op.Or l r = if_ok (is_state_in names l && is_state_in names r) _ _ (BuiltWith names) (λ is. state_fits names known at (k.binary op.Or l r)) tt
+      both_ok _ (place_phrase names l) (expr_of names r) (Fits names) (Fits names) (FormulaFitsIn names) (place_fits names known l) (expr_fits names known r) (λ x y a b. (tt, ((a, b, omega arith), tt)))
+  binary_fits names known at op.Or l r = if_ok (is_state_in names l && is_state_in names r) _ _ (FormulaFitsIn names) (λ is. state_fits names known at (k.binary op.Or l r)) tt
   binary_fits names known at o l r = state_fits names known at (k.binary o l r)
 
   -- a formula of two fits where both do
   abbrev Composes : VisibleNames → (FormulaTree → FormulaTree → FormulaTree) → Type 0
-  Composes names make = (w v : FormulaTree) → BuiltWith names w → BuiltWith names v → BuiltWith names (make w v)
+  Composes names make = (w v : FormulaTree) → FormulaFitsIn names w → FormulaFitsIn names v → FormulaFitsIn names (make w v)
 
   composed_fits : (names : VisibleNames) (make : Option (FormulaTree → FormulaTree → FormulaTree)) (w v other : CheckOutcome FormulaTree)
-      → IfSome make (Composes names) → IfOk w (BuiltWith names) → IfOk v (BuiltWith names) → IfOk other (BuiltWith names) → IfOk (composed_or make w v other) (BuiltWith names)
-  composed_fits names (Some make) w v other composes p q r = both_ok make w v (BuiltWith names) (BuiltWith names) (BuiltWith names) p q composes
+      → IfSome make (Composes names) → IfOk w (FormulaFitsIn names) → IfOk v (FormulaFitsIn names) → IfOk other (FormulaFitsIn names) → IfOk (composed_or make w v other) (FormulaFitsIn names)
+  composed_fits names (Some make) w v other composes p q r = both_ok make w v (FormulaFitsIn names) (FormulaFitsIn names) (FormulaFitsIn names) p q composes
   composed_fits names None w v other composes p q r = r
 
   compositions_fit : (names : VisibleNames) (o : Op) → IfSome (composition_of o) (Composes names)
-  compositions_fit names op.Chop = λ w v a b. ((a.0, b.0), (a.1, b.1))
-  compositions_fit names op.Proj = λ w v a b. ((a.0, b.0), (a.1, b.1))
+  compositions_fit names op.Chop = λ w v a b. (a, b)
+  compositions_fit names op.Proj = λ w v a b. (a, b)
   compositions_fit names o = tt
 
-  bare_fits : (names : VisibleNames) (word : Bare) → BuiltWith names (bare_of word)
-  bare_fits names Empty = (tt, tt)
-  bare_fits names More = (tt, tt)
-  bare_fits names Skip = (tt, tt)
+  bare_fits : (names : VisibleNames) (word : Bare) → FormulaFitsIn names (bare_of word)
+  bare_fits names Empty = tt
+  bare_fits names More = tt
+  bare_fits names Skip = tt
 
-  called_formula_fits : (names : VisibleNames) → Known names → (at : ℕ) (x : List ℕ) (o : Option Called) → called_of names.definitions x ≡ o → (ps : PhraseTrees) → IfOk (called_formula names at o ps) (BuiltWith names)
+  called_formula_fits : (names : VisibleNames) → Known names → (at : ℕ) (x : List ℕ) (o : Option Called) → called_of names.definitions x ≡ o → (ps : PhraseTrees) → IfOk (called_formula names at o ps) (FormulaFitsIn names)
   called_formula_fits names known at x None found ps = tt
   called_formula_fits names known at x (Some c) found ps =
       let xs = c.signature.parameters in
       let d = known x c found in
-      if_ok (nat_eq (phrase_count ps) (length xs)) _ _ (BuiltWith names)
-      (λ same. mapped_ok _ (arguments_in names ps xs) (ArgumentsFit names xs) (BuiltWith names) (arguments_fit names known ps xs (grind (arith, nat_tests)))
-      (λ es h. (tt, (d.0, d.1, subst (λ (ys : Names). AreArguments (exprs_of es) ys) (sym d.2.0) h.0, h.1))))
+      if_ok (nat_eq (phrase_count ps) (length xs)) _ _ (FormulaFitsIn names)
+      (λ same. mapped_ok _ (arguments_in names ps xs) (ArgumentsFit names xs) (FormulaFitsIn names) (arguments_fit names known ps xs (grind (arith, nat_tests)))
+      (λ es h. (d.0, d.1, subst (λ (ys : Names). AreArguments (exprs_of es) ys) (sym d.2.0) h.0, h.1)))
       tt
 
-  exists_fits : (names : VisibleNames) (xs : Names) (w : FormulaTree) → BuiltWith (with_binders xs names) w → BuiltWith names (exists_of xs w)
+  exists_fits : (names : VisibleNames) (xs : Names) (w : FormulaTree) → FormulaFitsIn (with_binders xs names) w → FormulaFitsIn names (exists_of xs w)
   exists_fits names [] w h = h
   exists_fits names (x ∷ xs) w h = exists_fits (with_binder x names) xs w h
 
   mutual
-    formula_fits : (names : VisibleNames) → Known names → (p : PhraseTree) → IfOk (formula_of names p) (BuiltWith names)
+    formula_fits : (names : VisibleNames) → Known names → (p : PhraseTree) → IfOk (formula_of names p) (FormulaFitsIn names)
     formula_fits names known (phrase at kind) = formula_kind_fits names known at kind
 
-    formula_kind_fits : (names : VisibleNames) → Known names → (at : ℕ) (kind : k.KindTree) → IfOk (formula_of_kind names at kind) (BuiltWith names)
-    formula_kind_fits names known at (k.conjunction ps) = mapped_ok _ (formulas_in names ps) (AllBuilt names) (BuiltWith names) (formulas_fit names known ps) (λ ws h. h)
-    formula_kind_fits names known at (k.truth true) = (tt, tt)
+    formula_kind_fits : (names : VisibleNames) → Known names → (at : ℕ) (kind : k.KindTree) → IfOk (formula_of_kind names at kind) (FormulaFitsIn names)
+    formula_kind_fits names known at (k.conjunction ps) = mapped_ok _ (formulas_in names ps) (FormulasFitIn names) (FormulaFitsIn names) (formulas_fit names known ps) (λ ws h. h)
+    formula_kind_fits names known at (k.truth true) = tt
     formula_kind_fits names known at (k.negation p) = negation_fits names known at p
     formula_kind_fits names known at (k.binary o l r) =
         composed_fits names (composition_of o) (formula_of names l) (formula_of names r) (binary_in names at o l r) (compositions_fit names o) (formula_fits names known l) (formula_fits names known r) (binary_fits names known at o l r)
     formula_kind_fits names known at (k.bare word) = bare_fits names word
-    formula_kind_fits names known at (k.next w) = mapped_ok _ (formula_of names w) (BuiltWith names) (BuiltWith names) (formula_fits names known w) (λ x h. h)
-    formula_kind_fits names known at (k.form f.Always (phrase_then w no_phrase)) = mapped_ok _ (formula_of names w) (BuiltWith names) (BuiltWith names) (formula_fits names known w) (λ x h. h)
-    formula_kind_fits names known at (k.form f.Keep (phrase_then w no_phrase)) = mapped_ok _ (formula_of names w) (BuiltWith names) (BuiltWith names) (formula_fits names known w) (λ x h. h)
-    formula_kind_fits names known at (k.form f.Fin (phrase_then w no_phrase)) = mapped_ok _ (formula_of names w) (BuiltWith names) (BuiltWith names) (formula_fits names known w) (λ x h. h)
-    formula_kind_fits names known at (k.form f.Halt (phrase_then b no_phrase)) = mapped_ok _ (expr_of names b) (Fits names) (BuiltWith names) (expr_fits names known b) (λ x h. ((tt, tt), (h, tt, tt)))
-    formula_kind_fits names known at (k.form f.Stable (phrase_then p no_phrase)) = mapped_ok _ (place_phrase names p) (Fits names) (BuiltWith names) (place_fits names known p) (λ x h. (tt, (h, h, omega arith)))
-    formula_kind_fits names known at (k.form f.Len (phrase_then e no_phrase)) = mapped_ok _ (expr_of names e) (Fits names) (BuiltWith names) (expr_fits names known e) (λ x h. (tt, h))
+    formula_kind_fits names known at (k.next w) = mapped_ok _ (formula_of names w) (FormulaFitsIn names) (FormulaFitsIn names) (formula_fits names known w) (λ x h. h)
+    formula_kind_fits names known at (k.form f.Always (phrase_then w no_phrase)) = mapped_ok _ (formula_of names w) (FormulaFitsIn names) (FormulaFitsIn names) (formula_fits names known w) (λ x h. h)
+    formula_kind_fits names known at (k.form f.Keep (phrase_then w no_phrase)) = mapped_ok _ (formula_of names w) (FormulaFitsIn names) (FormulaFitsIn names) (formula_fits names known w) (λ x h. h)
+    formula_kind_fits names known at (k.form f.Fin (phrase_then w no_phrase)) = mapped_ok _ (formula_of names w) (FormulaFitsIn names) (FormulaFitsIn names) (formula_fits names known w) (λ x h. h)
+    formula_kind_fits names known at (k.form f.Halt (phrase_then b no_phrase)) = mapped_ok _ (expr_of names b) (Fits names) (FormulaFitsIn names) (expr_fits names known b) (λ x h. (h, tt, tt))
+    formula_kind_fits names known at (k.form f.Stable (phrase_then p no_phrase)) = mapped_ok _ (place_phrase names p) (Fits names) (FormulaFitsIn names) (place_fits names known p) (λ x h. (h, h, omega arith))
+    formula_kind_fits names known at (k.form f.Len (phrase_then e no_phrase)) = mapped_ok _ (expr_of names e) (Fits names) (FormulaFitsIn names) (expr_fits names known e) (λ x h. h)
     formula_kind_fits names known at (k.form f.List (phrase_then l (phrase_then e no_phrase))) =
-        both_ok _ (place_phrase names l) (expr_of names e) (Fits names) (Fits names) (BuiltWith names) (place_fits names known l) (expr_fits names known e) (λ x y a b. (tt, (a, b)))
+        both_ok _ (place_phrase names l) (expr_of names e) (Fits names) (Fits names) (FormulaFitsIn names) (place_fits names known l) (expr_fits names known e) (λ x y a b. (a, b))
+    formula_kind_fits names known at (k.form f.Input (phrase_then x (phrase_then p no_phrase))) =
+        both_ok input (place_phrase names x) (port_phrase names p) (Fits names) (λ port. Unit {0}) (FormulaFitsIn names) (place_fits names known x) (any_ok (port_phrase names p)) (λ y port a h. a)
+    formula_kind_fits names known at (k.form f.Display (phrase_then e es)) = mapped_ok _ (exprs_in names (phrase_then e es)) (AllFit names) (FormulaFitsIn names) (exprs_fit names known (phrase_then e es)) (λ xs h. h)
     formula_kind_fits names known at (k.form f.Sometimes ps) = tt
     formula_kind_fits names known at (k.form f.Input ps) = tt
     formula_kind_fits names known at (k.form f.Display ps) = tt
@@ -369,36 +371,35 @@ module _ (defs : List Definition) where
     formula_kind_fits names known at (k.form f.Len ps) = tt
     formula_kind_fits names known at (k.form f.List ps) = tt
     formula_kind_fits names known at (k.choice b w) =
-        both_ok _ (expr_of names b) (formula_of names w) (Fits names) (BuiltWith names) (BuiltWith names) (expr_fits names known b) (formula_fits names known w) (λ x y a h. ((h.0, tt), (a, h.1, tt)))
+        both_ok _ (expr_of names b) (formula_of names w) (Fits names) (FormulaFitsIn names) (FormulaFitsIn names) (expr_fits names known b) (formula_fits names known w) (λ x y a h. (a, h, tt))
     formula_kind_fits names known at (k.choice_else b w v) =
-        three_ok _ (expr_of names b) (formula_of names w) (formula_of names v) (Fits names) (BuiltWith names) (BuiltWith names) (BuiltWith names)
-        (expr_fits names known b) (formula_fits names known w) (formula_fits names known v) (λ x y z a g h. ((g.0, h.0), (a, g.1, h.1)))
+        three_ok _ (expr_of names b) (formula_of names w) (formula_of names v) (Fits names) (FormulaFitsIn names) (FormulaFitsIn names) (FormulaFitsIn names)
+        (expr_fits names known b) (formula_fits names known w) (formula_fits names known v) (λ x y z a g h. (a, g, h))
     formula_kind_fits names known at (k.while b w) =
-        both_ok while (expr_of names b) (formula_of names w) (Fits names) (BuiltWith names) (BuiltWith names) (expr_fits names known b) (formula_fits names known w) (λ x y a h. (h.0, (a, h.1)))
+        both_ok while (expr_of names b) (formula_of names w) (Fits names) (FormulaFitsIn names) (FormulaFitsIn names) (expr_fits names known b) (formula_fits names known w) (λ x y a h. (a, h))
     formula_kind_fits names known at (k.repeat w b) =
-        both_ok repeat_of (formula_of names w) (expr_of names b) (BuiltWith names) (Fits names) (BuiltWith names) (formula_fits names known w) (expr_fits names known b) (λ x y h a. ((h.0, h.0), (h.1, (a, h.1))))
+        both_ok repeat_of (formula_of names w) (expr_of names b) (FormulaFitsIn names) (Fits names) (FormulaFitsIn names) (formula_fits names known w) (expr_fits names known b) (λ x y h a. (h, (a, h)))
     formula_kind_fits names known at (k.for x e w) =
-        both_ok _ (expr_of names e) (formula_of (with_binder x names) w) (Fits names) (BuiltWith (with_binder x names)) (BuiltWith names) (expr_fits names known e) (formula_fits (with_binder x names) known w) (λ y z a h. (h.0, (a, h.1)))
+        both_ok _ (expr_of names e) (formula_of (with_binder x names) w) (Fits names) (FormulaFitsIn (with_binder x names)) (FormulaFitsIn names) (expr_fits names known e) (formula_fits (with_binder x names) known w) (λ y z a h. (a, h))
     formula_kind_fits names known at (k.forall x e w) =
-        both_ok _ (expr_of names e) (formula_of (with_binder x names) w) (Fits names) (BuiltWith (with_binder x names)) (BuiltWith names) (expr_fits names known e) (formula_fits (with_binder x names) known w) (λ y z a h. (h.0, (a, h.1)))
+        both_ok _ (expr_of names e) (formula_of (with_binder x names) w) (Fits names) (FormulaFitsIn (with_binder x names)) (FormulaFitsIn names) (expr_fits names known e) (formula_fits (with_binder x names) known w) (λ y z a h. (a, h))
     formula_kind_fits names known at (k.exists xs w) =
         let inner = with_binders xs names in
-        else_ok (has_repeat xs) (Twice at) (mapped (exists_of xs) (formula_of inner w)) (BuiltWith names) (mapped_ok (exists_of xs) (formula_of inner w) (BuiltWith inner) (BuiltWith names) (formula_fits inner known w) (exists_fits names xs))
+        else_ok (has_repeat xs) (Twice at) (mapped (exists_of xs) (formula_of inner w)) (FormulaFitsIn names) (mapped_ok (exists_of xs) (formula_of inner w) (FormulaFitsIn inner) (FormulaFitsIn names) (formula_fits inner known w) (exists_fits names xs))
     formula_kind_fits names known at (k.call x ps) = called_formula_fits names known at x (called_of names.definitions x) refl ps
     formula_kind_fits names known at kind = state_fits names known at kind
 
-    formulas_fit : (names : VisibleNames) → Known names → (ps : PhraseTrees) → IfOk (formulas_in names ps) (AllBuilt names)
-    formulas_fit names known no_phrase = (tt, tt)
+    formulas_fit : (names : VisibleNames) → Known names → (ps : PhraseTrees) → IfOk (formulas_in names ps) (FormulasFitIn names)
+    formulas_fit names known no_phrase = tt
     formulas_fit names known (phrase_then p ps) =
-        both_ok _ (formula_of names p) (formulas_in names ps) (BuiltWith names) (AllBuilt names) (AllBuilt names) (formula_fits names known p) (formulas_fit names known ps) (λ x y g h. ((g.0, h.0), (g.1, h.1)))
+        both_ok _ (formula_of names p) (formulas_in names ps) (FormulaFitsIn names) (FormulasFitIn names) (FormulasFitIn names) (formula_fits names known p) (formulas_fit names known ps) (λ x y g h. (g, h))
 
   -- ---- definitions
 
   -- a definition of which the formula and the expression fit its parameters
   abbrev DefinitionFits : Names → Definition → Type 0
   DefinitionFits globals d =
-      HasBuiltKinds d.formula
-      × FormulaFits defs (kinds_of globals) d.formula (length d.parameters)
+      FormulaFits defs (kinds_of globals) d.formula (length d.parameters)
       × ((e : ExprTree) → d.expr ≡ Some e → ExprFits defs (kinds_of globals) e (length d.parameters))
 
   abbrev AllDefinitionsFit : Names → List Definition → Type 0
@@ -414,9 +415,9 @@ module _ (defs : List Definition) where
   definition_fits signatures globals known d b =
       let inner = with_binders d.parameters (outermost signatures globals) in
       let count : length (bound_in [] d.parameters) ≡ length d.parameters = bound_count d.parameters [] ∙ omega arith in
-      both_ok (definition_with d) (formula_of inner d.body) (expr_where b inner d.body) (BuiltWith inner) (λ o. (e : ExprTree) → o ≡ Some e → Fits inner e) (DefinitionFits globals)
+      both_ok (definition_with d) (formula_of inner d.body) (expr_where b inner d.body) (FormulaFitsIn inner) (λ o. (e : ExprTree) → o ≡ Some e → Fits inner e) (DefinitionFits globals)
       (formula_fits inner known d.body) (expr_where_fits b inner known d.body)
-      (λ w o h t. (h.0, subst (FormulaFits defs (kinds_of globals) w) count h.1, λ e same. subst (ExprFits defs (kinds_of globals) e) count (t e same)))
+      (λ w o h t. (subst (FormulaFits defs (kinds_of globals) w) count h, λ e same. subst (ExprFits defs (kinds_of globals) e) count (t e same)))
 
   one_more_fits : (globals : Names) (x : Definition) (xs : List Definition) → DefinitionFits globals x → AllDefinitionsFit globals xs → AllDefinitionsFit globals (x ∷ xs)
   one_more_fits globals x xs h t zero d e = let is : x ≡ d = cc in subst (DefinitionFits globals) is h
@@ -433,21 +434,17 @@ module _ (defs : List Definition) where
 
 -- ---- programs
 
-built_with : (globals : Names) (states : List Bool) (source : SourceTree) (made : CheckOutcome (List Definition)) → definitions_in (outermost (signatures_of source.definitions states) globals) source.definitions states ≡ made
-    → IfOk (both (λ ds main. record { defs = ds; main = main; globals = globals }) made (formula_of (outermost (signatures_of source.definitions states) globals) source.main)) IsBuilt
-built_with globals states source (Err e) is = tt
-built_with globals states source (Ok ds) is =
+fitting_with : (globals : Names) (states : List Bool) (source : SourceTree) (made : CheckOutcome (List Definition)) → definitions_in (outermost (signatures_of source.definitions states) globals) source.definitions states ≡ made
+    → IfOk (both (λ ds main. record { defs = ds; main = main; globals = globals }) made (formula_of (outermost (signatures_of source.definitions states) globals) source.main)) ProgramFits
+fitting_with globals states source (Err e) is = tt
+fitting_with globals states source (Ok ds) is =
     let signatures = signatures_of source.definitions states in
     let names = outermost signatures globals in
     let known = are_defined names source.definitions states ds is in
     let fit = IfOk-at_ok (AllDefinitionsFit ds globals) is (definitions_fit ds signatures globals known source.definitions states) in
-    mapped_ok _ (formula_of names source.main) (BuiltWith ds names) IsBuilt (formula_fits ds names known source.main)
-    (λ w h. record {
-      fits = record { defs = record { formula = λ i d e. (fit i d e).1; expr = λ i d e. (fit i d e).2 }; main = h.1 };
-      main = h.0;
-      definitions = λ i d e. (fit i d e).0;
-    })
+    mapped_ok _ (formula_of names source.main) (FormulaFitsIn ds names) ProgramFits (formula_fits ds names known source.main)
+    (λ w h. record { defs = record { formula = λ i d e. (fit i d e).0; expr = λ i d e. (fit i d e).1 }; main = h })
 
--- a program that is made is one that runs
-pub program_fits : (globals : Names) (states : List Bool) (source : SourceTree) → length states ≡ length source.definitions → IfOk (program_over globals states source) IsBuilt
-program_fits globals states source each = built_with globals states source (definitions_in (outermost (signatures_of source.definitions states) globals) source.definitions states) refl
+-- what a program is made of fits each other
+pub program_fits : (globals : Names) (states : List Bool) (source : SourceTree) → length states ≡ length source.definitions → IfOk (program_over globals states source) ProgramFits
+program_fits globals states source each = fitting_with globals states source (definitions_in (outermost (signatures_of source.definitions states) globals) source.definitions states) refl

@@ -1,5 +1,5 @@
 -- Definitions one after the other: those before, the next, and those behind it.
-use Rattle.std.proofs.Common.{Bor, refl, ap, ap₂, sym, ◌∙◌, ◌≡◌, ℕ, ◌+◌, ◌<◌, Bool, true, false, ◌||◌, if◌then◌else◌, List, [], ◌∷◌, ◌++◌, map, take, drop, drop-cons, length, get_or, Some, None, add-one, arith}
+use Rattle.std.proofs.Common.{Bor, refl, ap, ap₂, sym, ◌∙◌, ◌≡◌, ℕ, ◌+◌, ◌<◌, Bool, true, false, ◌||◌, if◌then◌else◌, List, [], ◌∷◌, ◌++◌, map, take, drop, drop-cons, length, get_or, Some, None, add-one}
 use Rattle.std.specs.List.{list_any}
 use Rattle.std.specs.Str.{bytes_eq}
 use Rattle.std.proofs.lemmas.Grind.{take_at_read}
@@ -7,15 +7,15 @@ use Rattle.std.proofs.lemmas.List.{map-append}
 use Rattle.std.proofs.lemmas.Option.{same_Some}
 use Rattle.std.proofs.lemmas.Slice.Eq.{bytes_eq-Decides}
 use Rattle.tp_tree.specs.Tree.{DefinitionTree}
-use Rattle.tp_check.specs.Scope.{Names, bound_in}
-use Rattle.tp_check.specs.Names.{has_repeat, AreApart, twice_defined, names_with, names_in, names_in_bodies}
-use Rattle.tp_check.specs.declared.scope.Scope.{Scope}
-use Rattle.tp_check.specs.declared.scope.Scope.TheVariants.{Outermost, Inner, rolls-Outermost}
-use Rattle.tp_check.specs.declared.scope.Scope.TheOpen.{Scope-F}
-use Rattle.tp_check.specs.declared.scope.Scope.TheFolds.{fold-roll-Scope}
-use Rattle.tp_check.specs.Building.{apart, scope_step, names_bound}
-use Rattle.tp_check.proofs.Apart.{bound_inner}
-use Rattle.tp_check.proofs.Several.{names_join}
+use Rattle.tp_scope.specs.Scope.{Names, bound_in}
+use Rattle.tp_scope.specs.Names.{has_repeat, AreApart, twice_defined, names_with, names_in, names_in_bodies}
+use Rattle.tp_scope.specs.declared.scope.Scope.{Scope}
+use Rattle.tp_scope.specs.declared.scope.Scope.TheVariants.{Outermost, Inner, rolls-Outermost}
+use Rattle.tp_scope.specs.declared.scope.Scope.TheOpen.{Scope-F}
+use Rattle.tp_scope.specs.declared.scope.Scope.TheFolds.{fold-roll-Scope}
+use Rattle.tp_scope.specs.Seen.{apart, scope_step, names_bound}
+use Rattle.tp_scope.proofs.Apart.{bound_inner}
+use Rattle.tp_scope.proofs.Several.{names_join}
 
 -- ---- lists
 

@@ -12,19 +12,19 @@ use Rattle.tp_tree.specs.declared.operator.Op.TheVariants as op
 use Rattle.tp_tree.specs.declared.operator.Form.TheVariants as f
 use Rattle.tp_tree.specs.Tree as k
 use Rattle.tp_tree.specs.Tree.{PhraseTree, phrase, PhraseTrees, no_phrase, phrase_then, DefinitionTree, SourceTree}
-use Rattle.tp_meaning.specs.Syntax.{ExprTree, FormulaTree, Definition, invoke, test, always, next, branch, trivial, len, assign, while, for_from, forall_from, conjunction, formulas_of, listing, exprs_of, size, index, minus, negation, choice}
+use Rattle.tp_meaning.specs.Syntax.{ExprTree, FormulaTree, Definition, invoke, test, always, next, branch, trivial, len, assign, while, for_from, forall_from, conjunction, input, display, formulas_of, listing, exprs_of, size, index, minus, negation, choice}
 use Rattle.tp_meaning.specs.Syntax as m
 use Rattle.tp_meaning.specs.Derived.{halt_of, keep_of, fin_of, gets_of, stable_of, becomes_of, list_of_length, repeat_of}
 use Rattle.tp_meaning.specs.Interval.{ProgramTree}
 use Rattle.tp_meaning.specs.Value.{is_upper}
 use Rattle.tp_check.specs.declared.refusal.CheckRefusal.{CheckRefusal}
 use Rattle.tp_check.specs.declared.refusal.CheckRefusal.TheVariants.{Twice, NotPlace, WrongCount}
-use Rattle.tp_check.specs.Scope.{Names, Signature, VisibleNames, Called, with_binder, with_binders, bound_in, binder_of, bound_or_global, called_of}
-use Rattle.tp_check.specs.Names.{has_repeat, names_with, unless_bound, names_in, names_in_kind, names_in_all, names_in_bodies, names_of}
+use Rattle.tp_scope.specs.Scope.{Names, Signature, VisibleNames, Called, with_binder, with_binders, bound_in, binder_of, bound_or_global, called_of}
+use Rattle.tp_scope.specs.Names.{has_repeat, names_with, unless_bound, names_in, names_in_kind, names_in_all, names_in_bodies, names_of}
 use Rattle.tp_check.specs.Outcome.{CheckOutcome, mapped, both, three, not_run, not_expression}
-use Rattle.tp_check.specs.Phrases.{is_place_phrase, is_place_kind, phrase_count, nexts_of, behind_nexts, behind_nexts_of, at_of}
-use Rattle.tp_check.specs.Definitions.{signatures_of}
-use Rattle.tp_check.specs.Positions.{named_expr, operation_of, operation_at, refusal_of, called_expr, expr_of, expr_of_kind, exprs_in, place_phrase, arguments_in, equation_of, place_is, is_state_in, state_in, negation_in, binary_in, composition_of, composed_or, called_formula, exists_of, formula_of, formula_of_kind, formulas_in}
+use Rattle.tp_scope.specs.Phrases.{is_place_phrase, is_place_kind, phrase_count, nexts_of, behind_nexts, behind_nexts_of, at_of}
+use Rattle.tp_scope.specs.Definitions.{signatures_of}
+use Rattle.tp_check.specs.Positions.{named_expr, operation_of, operation_at, refusal_of, called_expr, expr_of, expr_of_kind, exprs_in, place_phrase, port_phrase, arguments_in, equation_of, place_is, is_state_in, state_in, negation_in, binary_in, composition_of, composed_or, called_formula, exists_of, formula_of, formula_of_kind, formulas_in}
 use Rattle.tp_check.specs.Program.{expr_where, definition_with, definition_in, definitions_in, outermost, NamesSuffice}
 
 -- ---- names that have their variable
@@ -139,6 +139,9 @@ mutual
 place_same : (names : VisibleNames) (more : Names) (p : PhraseTree) → AreKnown names.globals (names_in names.scope p) → place_phrase (with_more names more) p ≡ place_phrase names p
 place_same names more p known = place_same_if names more p (expr_same names more p known)
 
+port_same : (names : VisibleNames) (more : Names) (p : PhraseTree) → port_phrase (with_more names more) p ≡ port_phrase names p
+port_same names more (phrase at kind) = refl
+
 mutual
   pub names_behind : (scope : Names) (p : PhraseTree) → names_in scope (behind_nexts p) ≡ names_in scope p
   names_behind scope (phrase at kind) = names_behind_kind scope at kind
@@ -199,6 +202,8 @@ mutual
   formula_kind_same names more at (k.form f.Len (phrase_then e no_phrase)) known = ap (mapped len) (expr_same names more e (front names.globals (names_in names.scope e) [] known))
   formula_kind_same names more at (k.form f.List (phrase_then l (phrase_then e no_phrase))) known =
       ap₂ (both list_of_length) (place_same names more l (front names.globals (names_in names.scope l) (names_in names.scope e ++ []) known)) (expr_same names more e (front names.globals (names_in names.scope e) [] (back names.globals (names_in names.scope l) (names_in names.scope e ++ []) known)))
+  formula_kind_same names more at (k.form f.Input (phrase_then x (phrase_then p no_phrase))) known = ap₂ (both input) (place_same names more x known) (port_same names more p)
+  formula_kind_same names more at (k.form f.Display (phrase_then e es)) known = ap (mapped (λ xs. display (exprs_of xs))) (exprs_same names more (phrase_then e es) known)
   formula_kind_same names more at (k.form f.Sometimes ps) known = refl
   formula_kind_same names more at (k.form f.Input ps) known = refl
   formula_kind_same names more at (k.form f.Display ps) known = refl

@@ -1,7 +1,5 @@
 pub mod Several
 pub mod Sides
-pub mod Apart
-pub mod Called
 pub mod Fitting
 pub mod Known
 pub mod Determined
@@ -9,6 +7,5 @@ pub mod Broken
 pub mod Refused
 pub mod StateBodies
 pub mod FirstBroken
-pub mod Listing
-pub mod Spreading
 pub mod Headings
+pub mod NameLaws

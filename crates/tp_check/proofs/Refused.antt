@@ -1,7 +1,7 @@
 -- What is made of phrases keeps the rules, and what is refused names the first that is broken.
-use Rattle.std.proofs.Common.{refl, ap, sym, subst, ◌∙◌, ◌≡◌, ℕ, zero, suc, ◌≤◌, ◌&&◌, ◌||◌, nat_eq, Bool, true, false, if◌then◌else◌, List, [], ◌∷◌, ◌++◌, length, Option, None, Some, Err, pos, arith}
+use Rattle.std.proofs.Common.{refl, ap, sym, subst, ◌∙◌, ◌≡◌, ℕ, zero, suc, ◌≤◌, ◌&&◌, ◌||◌, nat_eq, Bool, true, false, if◌then◌else◌, List, [], ◌∷◌, ◌++◌, length, Option, None, Some, Ok, Err, pos, arith}
 use Rattle.std.proofs.lemmas.Bool.Decides.{nat_tests}
-use Rattle.tp_value.specs.Globals.{variable_of}
+use Rattle.tp_value.specs.Globals.{is_lower, variable_of}
 use Rattle.tp_tree.specs.declared.operator.Op.{Op}
 use Rattle.tp_tree.specs.declared.operator.Op.TheVariants as op
 use Rattle.tp_tree.specs.declared.operator.Form.{Form}
@@ -13,14 +13,14 @@ use Rattle.tp_meaning.specs.Syntax as m
 use Rattle.tp_meaning.specs.Value.{is_upper}
 use Rattle.tp_meaning.specs.Derived.{next_equals_of, halt_of, keep_of, fin_of, gets_of, stable_of, becomes_of, list_of_length, repeat_of}
 use Rattle.tp_check.specs.declared.refusal.CheckRefusal.{CheckRefusal}
-use Rattle.tp_check.specs.declared.refusal.CheckRefusal.TheVariants.{Twice, Unknown, WrongCount, NotExpression, NotPlace, NotExecutable}
-use Rattle.tp_check.specs.Scope.{Names, Signature, VisibleNames, Called, with_binder, with_binders, bound_in, binder_of, bound_or_global, called_of}
-use Rattle.tp_check.specs.Names.{has_repeat, unless_bound, names_in, names_in_kind, names_in_all}
+use Rattle.tp_check.specs.declared.refusal.CheckRefusal.TheVariants.{Twice, Unknown, WrongCount, NotExpression, NotPlace, NotPort, NotExecutable}
+use Rattle.tp_scope.specs.Scope.{Names, Signature, VisibleNames, Called, with_binder, with_binders, bound_in, binder_of, bound_or_global, called_of}
+use Rattle.tp_scope.specs.Names.{has_repeat, unless_bound, names_in, names_in_kind, names_in_all}
 use Rattle.tp_check.specs.Outcome.{CheckOutcome, mapped, both, not_run, not_expression}
-use Rattle.tp_check.specs.Phrases.{is_place_phrase, is_place_kind, takes, phrase_count, nexts_of, behind_nexts, at_of}
-use Rattle.tp_check.specs.Definitions.{is_state_called}
-use Rattle.tp_check.specs.Positions.{named_expr, operation_of, operation_at, call_refusal, refusal_of, called_expr, expr_of, expr_of_kind, exprs_in, place_phrase, arguments_in, equation_of, is_state_in, place_is, state_in, called_formula, exists_of, formula_of, formula_of_kind, formulas_in}
-use Rattle.tp_check.specs.Refusals.{Position, formula, expression, place, Placed, as_formula, as_expression, as_place, as_formulas, as_expressions, as_arguments, arguments_of, right_side, operands_of_expression, operands_of_formula, operands_by, is_expression_kind, is_run_kind, Breaks, unknown, call_count, form_count, twice, no_expression, no_place, isnt_run, turn_of, IsFirstBroken}
+use Rattle.tp_scope.specs.Phrases.{is_place_phrase, is_place_kind, is_port_kind, takes, phrase_count, nexts_of, behind_nexts, at_of}
+use Rattle.tp_scope.specs.Definitions.{is_state_called}
+use Rattle.tp_check.specs.Positions.{named_expr, operation_of, operation_at, call_refusal, refusal_of, called_expr, expr_of, expr_of_kind, exprs_in, place_phrase, port_phrase, arguments_in, equation_of, is_state_in, place_is, state_in, called_formula, exists_of, formula_of, formula_of_kind, formulas_in}
+use Rattle.tp_check.specs.Refusals.{Position, formula, expression, place, port, Placed, as_formula, as_expression, as_place, as_port, as_formulas, as_expressions, as_arguments, arguments_of, right_side, operands_of_expression, operands_of_formula, operands_by, is_expression_kind, is_run_kind, Breaks, unknown, call_count, form_count, twice, no_expression, no_place, no_port, isnt_run, turn_of, IsFirstBroken}
 use Rattle.tp_check.proofs.Known.{AreKnown, front, back, names_behind}
 use Rattle.tp_check.proofs.Broken.{Told, Keeps, none_there, mapped_told, both_told, three_told, operands_told, told_of_operands, broken_told}
 
@@ -38,6 +38,7 @@ abbrev is_due : List Signature → Position → KindTree → Bool
 is_due definitions formula kind = is_run_kind definitions kind
 is_due definitions expression kind = is_expression_kind definitions kind
 is_due definitions place kind = is_place_kind kind
+is_due definitions port kind = is_port_kind kind
 
 abbrev placed : Position → (at : ℕ) → KindTree → Placed
 placed position at kind = record { position = position; phrase = phrase at kind }
@@ -52,6 +53,7 @@ keeps definitions position at kind everywhere due e (form_count q n word ps wron
 keeps definitions position at kind everywhere due e (twice q n xs p repeats) = absurd cc
 keeps definitions position at kind everywhere due e (no_expression n kind' wrong) = absurd cc
 keeps definitions position at kind everywhere due e (no_place n kind' wrong) = absurd cc
+keeps definitions position at kind everywhere due e (no_port n kind' wrong) = absurd cc
 keeps definitions position at kind everywhere due e (isnt_run n kind' wrong) = absurd cc
 
 -- the order of the rules that one phrase breaks
@@ -65,6 +67,7 @@ own_last definitions position at kind everywhere e (form_count q n word ps wrong
 own_last definitions position at kind everywhere e (twice q n xs p repeats) = absurd cc
 own_last definitions position at kind everywhere e (no_expression n kind' wrong) = omega arith
 own_last definitions position at kind everywhere e (no_place n kind' wrong) = omega arith
+own_last definitions position at kind everywhere e (no_port n kind' wrong) = omega arith
 own_last definitions position at kind everywhere e (isnt_run n kind' wrong) = omega arith
 
 call_known : (definitions : List Signature) (position : Position) (at : ℕ) (x : List ℕ) (ps : PhraseTrees) (c : Called) → called_of definitions x ≡ Some c → (e : CheckRefusal) → Breaks definitions position (phrase at (k.call x ps)) e → 1 ≤ turn_of e
@@ -72,18 +75,21 @@ call_known definitions position at x ps c found e (unknown q n y qs none) = absu
 call_known definitions position at x ps c found e (call_count q n y qs d other differs) = omega arith
 call_known definitions position at x ps c found e (no_expression n kind wrong) = omega arith
 call_known definitions position at x ps c found e (no_place n kind wrong) = omega arith
+call_known definitions position at x ps c found e (no_port n kind wrong) = omega arith
 call_known definitions position at x ps c found e (isnt_run n kind wrong) = omega arith
 
 form_counted : (definitions : List Signature) (position : Position) (at : ℕ) (word : Form) (ps : PhraseTrees) (e : CheckRefusal) → Breaks definitions position (phrase at (k.form word ps)) e → 1 ≤ turn_of e
 form_counted definitions position at word ps e (form_count q n other qs wrong) = omega arith
 form_counted definitions position at word ps e (no_expression n kind wrong) = omega arith
 form_counted definitions position at word ps e (no_place n kind wrong) = omega arith
+form_counted definitions position at word ps e (no_port n kind wrong) = omega arith
 form_counted definitions position at word ps e (isnt_run n kind wrong) = omega arith
 
 apart_last : (definitions : List Signature) (position : Position) (at : ℕ) (xs : Names) (p : PhraseTree) (e : CheckRefusal) → Breaks definitions position (phrase at (k.exists xs p)) e → 2 ≤ turn_of e
 apart_last definitions position at xs p e (twice q n ys r repeats) = omega arith
 apart_last definitions position at xs p e (no_expression n kind wrong) = omega arith
 apart_last definitions position at xs p e (no_place n kind wrong) = omega arith
+apart_last definitions position at xs p e (no_port n kind wrong) = omega arith
 apart_last definitions position at xs p e (isnt_run n kind wrong) = omega arith
 
 -- ---- refusals
@@ -203,6 +209,14 @@ module _ (names : VisibleNames) where
   place_told_if : (p : PhraseTree) → Told names.definitions (as_expression p ∷ []) (expr_of names p) → Told names.definitions (as_place p ∷ []) (place_phrase names p)
   place_told_if (phrase at kind) told = place_told_by at kind (is_place_kind kind) refl told
 
+  port_by : (at : ℕ) (x : List ℕ) (is_port : Bool) → is_lower x ≡ is_port → Told names.definitions (placed port at (k.name x) ∷ []) (if is_port then Ok x else Err (NotPort at))
+  port_by at x true is = made port at (k.name x) tt is (Ok x) (none_there names.definitions)
+  port_by at x false is = own_refused names.definitions port at (k.name x) (NotPort at) tt (no_port at (k.name x) is) refl
+
+  port_told : (p : PhraseTree) → Told names.definitions (as_port p ∷ []) (port_phrase names p)
+  port_told (phrase at (k.name x)) = port_by at x (is_lower x) refl
+  port_told (phrase at kind) = refusal_told port at kind (NotPort at) (no_port at kind refl) refl
+
   argument_told : (p : PhraseTree) (upper : Bool) → Told names.definitions (as_expression p ∷ []) (expr_of names p)
       → Told names.definitions ((if upper then as_place p else as_expression p) ∷ []) (if upper then place_phrase names p else expr_of names p)
   argument_told p true told = place_told_if p told
@@ -266,6 +280,9 @@ not_one : (ps : PhraseTrees) → AreNotOne ps → nat_eq (phrase_count ps) 1 ≡
 not_one no_phrase h = refl
 not_one (phrase_then p no_phrase) h = absurd h
 not_one (phrase_then p (phrase_then q ps)) h = grind (arith, nat_tests)
+
+some_taken : (p : PhraseTree) (ps : PhraseTrees) → takes f.Display (phrase_count (phrase_then p ps)) ≡ true
+some_taken p ps = grind (arith, nat_tests)
 
 abbrev AreNotTwo : PhraseTrees → Type 0
 AreNotTwo no_phrase = Unit {0}
@@ -417,9 +434,16 @@ mutual
       (both_told names.definitions list_of_length (as_place l ∷ []) (as_expression e ∷ []) (place_phrase names l) (expr_of names e)
       (place_told names l (front names.globals (names_in names.scope l) (names_in names.scope e ++ []) known))
       (expr_told names e (front names.globals (names_in names.scope e) [] (back names.globals (names_in names.scope l) (names_in names.scope e ++ []) known))))
+  formula_kind_told names at (k.form f.Input (phrase_then x (phrase_then p no_phrase))) known =
+      made names formula at (k.form f.Input (phrase_then x (phrase_then p no_phrase))) refl refl (both m.input (place_phrase names x) (port_phrase names p))
+      (both_told names.definitions m.input (as_place x ∷ []) (as_port p ∷ []) (place_phrase names x) (port_phrase names p) (place_told names x known) (port_told names p))
+  formula_kind_told names at (k.form f.Display (phrase_then e es)) known =
+      let make = λ (xs : List ExprTree). m.display (exprs_of xs) in
+      made names formula at (k.form f.Display (phrase_then e es)) (some_taken e es) refl (mapped make (exprs_in names (phrase_then e es)))
+      (mapped_told names.definitions make (as_expressions (phrase_then e es)) (exprs_in names (phrase_then e es)) (exprs_told names (phrase_then e es) known))
   formula_kind_told names at (k.form f.Sometimes ps) known = form_not_run names at f.Sometimes ps refl
-  formula_kind_told names at (k.form f.Input ps) known = form_not_run names at f.Input ps refl
-  formula_kind_told names at (k.form f.Display ps) known = form_not_run names at f.Display ps refl
+  formula_kind_told names at (k.form f.Input ps) known = miscounted_told names at f.Input ps (not_two ps tt)
+  formula_kind_told names at (k.form f.Display no_phrase) known = miscounted_told names at f.Display no_phrase refl
   formula_kind_told names at (k.form f.Always ps) known = miscounted_told names at f.Always ps (not_one ps tt)
   formula_kind_told names at (k.form f.Keep ps) known = miscounted_told names at f.Keep ps (not_one ps tt)
   formula_kind_told names at (k.form f.Fin ps) known = miscounted_told names at f.Fin ps (not_one ps tt)

@@ -1,40 +1,28 @@
 -- Equations of which a side is refused, and forms with other than one or two operands.
-use Rattle.std.proofs.Common.{refl, ap, ap₂, sym, ◌∙◌, ◌≡◌, ℕ, zero, suc, ◌<◌, ◌⊎◌, inl, inr, List, [], ◌∷◌, ◌++◌, length, Ok, Err, Global, arith}
-use Rattle.std.specs.declared.boxed.Box.{Box}
+use Rattle.std.proofs.Common.{refl, ap, sym, ◌∙◌, ◌≡◌, ◌≢◌, ℕ, zero, suc, ◌<◌, ◌≤◌, ◌⊎◌, inl, inr, nat_eq, Bool, false, if◌then◌else◌, List, [], ◌∷◌, length, Ok, Err, arith}
+use Rattle.std.proofs.lemmas.Bool.Decides.{nat_tests}
 use Rattle.tp_tree.specs.declared.phrase.Phrase.{Phrase}
 use Rattle.tp_tree.specs.declared.phrase.Phrases.{Phrases}
-use Rattle.tp_tree.specs.declared.phrase.PhraseKind.TheVariants.{And, For, Forall}
+use Rattle.tp_tree.specs.declared.phrase.PhraseKind.TheVariants.{And}
 use Rattle.tp_tree.specs.declared.operator.Form.{Form}
 use Rattle.tp_tree.specs.declared.operator.Form.TheVariants as f
-use Rattle.tp_tree.specs.Tree.{PhraseTree, phrase, conjunction, for, forall, form, phrases_of}
+use Rattle.tp_tree.specs.Tree.{PhraseTree, phrase, conjunction, form, phrases_of}
 use Rattle.tp_tree.specs.Read.{phrase_tree, phrase_trees, kind_tree}
-use Rattle.tp_tree.specs.Equations.{tree_is, tree_and, tree_for, tree_forall, trees_are}
-use Rattle.tp_meaning.specs.Syntax.{ExprTree}
+use Rattle.tp_tree.specs.Equations.{tree_is, tree_and, trees_are}
+use Rattle.tp_meaning.specs.Syntax.{ExprTree, exprs_of, display}
 use Rattle.tp_check.specs.declared.refusal.CheckRefusal.{CheckRefusal}
-use Rattle.tp_check.specs.declared.refusal.CheckRefusal.TheVariants.{NotExecutable}
-use Rattle.tp_check.specs.Scope.{Names, VisibleNames}
-use Rattle.tp_check.specs.Names.{names_in}
-use Rattle.tp_check.specs.Outcome.{CheckOutcome, not_expression}
-use Rattle.tp_check.specs.Phrases.{at_of}
-use Rattle.tp_check.specs.Positions.{equation_of, refusal_of, formula_of_kind}
+use Rattle.tp_check.specs.declared.refusal.CheckRefusal.TheVariants.{NotExecutable, WrongCount}
+use Rattle.tp_scope.specs.Scope.{VisibleNames}
+use Rattle.tp_check.specs.Outcome.{CheckOutcome, mapped, not_expression}
+use Rattle.tp_scope.specs.Phrases.{takes, phrase_count, at_of}
+use Rattle.tp_check.specs.Positions.{equation_of, refusal_of, exprs_in, formula_of_kind}
+use Rattle.tp_scope.proofs.Several.{count_is}
 
 pub at_is : (p : Phrase) → at_of (phrase_tree p) ≡ p.at
 at_is p = ap at_of (tree_is p)
 
 pub tree_of_and : (p : Phrase) (ps : Phrases) → p.kind ≡ And ps → phrase_tree p ≡ phrase p.at (conjunction (phrase_trees ps))
 tree_of_and p ps e = tree_is p ∙ ap (phrase p.at) (ap kind_tree e ∙ (tree_and ps ∙ ap conjunction (sym (trees_are ps))))
-
-pub tree_of_for : (p : Phrase) (x : List ℕ) (to body : Box Phrase Global) (t w : Phrase) → p.kind ≡ For x to body → t ≡ to.value → w ≡ body.value → phrase_tree p ≡ phrase p.at (for x (phrase_tree t) (phrase_tree w))
-tree_of_for p x to body t w e a b = tree_is p ∙ ap (phrase p.at) (ap kind_tree e ∙ (tree_for x to body ∙ sym (ap₂ (λ u v. for x (phrase_tree u) (phrase_tree v)) a b)))
-
-pub tree_of_forall : (p : Phrase) (x : List ℕ) (to body : Box Phrase Global) (t w : Phrase) → p.kind ≡ Forall x to body → t ≡ to.value → w ≡ body.value → phrase_tree p ≡ phrase p.at (forall x (phrase_tree t) (phrase_tree w))
-tree_of_forall p x to body t w e a b = tree_is p ∙ ap (phrase p.at) (ap kind_tree e ∙ (tree_forall x to body ∙ sym (ap₂ (λ u v. forall x (phrase_tree u) (phrase_tree v)) a b)))
-
--- the names in what binds a name in its body
-pub names_of_loop : (scope : Names) (p : Phrase) (x : List ℕ) (to body : Box Phrase Global) (t w : Phrase) → (p.kind ≡ For x to body) ⊎ (p.kind ≡ Forall x to body) → t ≡ to.value → w ≡ body.value
-    → names_in scope (phrase_tree p) ≡ names_in scope (phrase_tree t) ++ names_in (x ∷ scope) (phrase_tree w)
-names_of_loop scope p x to body t w (inl e) a b = ap (names_in scope) (tree_of_for p x to body t w e a b)
-names_of_loop scope p x to body t w (inr e) a b = ap (names_in scope) (tree_of_forall p x to body t w e a b)
 
 pub left_refused : (n m at : ℕ) (e : CheckRefusal) (r : CheckOutcome ExprTree) → equation_of n m at (Err e) r ≡ Err e
 left_refused zero zero at e r = refl
@@ -54,19 +42,48 @@ both_later zero m at l r a b = absurd (omega arith)
 both_later (suc n) zero at l r a b = absurd (omega arith)
 both_later (suc n) (suc m) at l r a b = refl
 
-pub form_of_others : (names : VisibleNames) (at : ℕ) (word : Form) (ts : List PhraseTree) → (length ts < 1) ⊎ (2 < length ts)
+another_count : (n k : ℕ) → (n < 1) ⊎ (2 < n) → 1 ≤ k → k ≤ 2 → nat_eq n k ≡ false
+another_count n k (inl few) least most = grind (arith, nat_tests)
+another_count n k (inr many) least most = grind (arith, nat_tests)
+
+not_taken : (word : Form) (n : ℕ) → word ≢ f.Display → (n < 1) ⊎ (2 < n) → takes word n ≡ false
+not_taken f.Display n other h = absurd (other refl)
+not_taken f.List n other h = another_count n 2 h (omega arith) (omega arith)
+not_taken f.Input n other h = another_count n 2 h (omega arith) (omega arith)
+not_taken f.Always n other h = another_count n 1 h (omega arith) (omega arith)
+not_taken f.Keep n other h = another_count n 1 h (omega arith) (omega arith)
+not_taken f.Fin n other h = another_count n 1 h (omega arith) (omega arith)
+not_taken f.Halt n other h = another_count n 1 h (omega arith) (omega arith)
+not_taken f.Stable n other h = another_count n 1 h (omega arith) (omega arith)
+not_taken f.Sometimes n other h = another_count n 1 h (omega arith) (omega arith)
+not_taken f.Len n other h = another_count n 1 h (omega arith) (omega arith)
+
+form_of_others : (names : VisibleNames) (at : ℕ) (word : Form) (ts : List PhraseTree) → word ≢ f.Display → (length ts < 1) ⊎ (2 < length ts)
     → formula_of_kind names at (form word (phrases_of ts)) ≡ Err (refusal_of names at (form word (phrases_of ts)) (NotExecutable at))
-form_of_others names at word (t ∷ []) (inl h) = absurd (omega arith)
-form_of_others names at word (t ∷ []) (inr h) = absurd (omega arith)
-form_of_others names at word (t ∷ u ∷ []) (inl h) = absurd (omega arith)
-form_of_others names at word (t ∷ u ∷ []) (inr h) = absurd (omega arith)
-form_of_others names at f.Always ts h = refl
-form_of_others names at f.Keep ts h = refl
-form_of_others names at f.Fin ts h = refl
-form_of_others names at f.Halt ts h = refl
-form_of_others names at f.Stable ts h = refl
-form_of_others names at f.Sometimes ts h = refl
-form_of_others names at f.Len ts h = refl
-form_of_others names at f.List ts h = refl
-form_of_others names at f.Input ts h = refl
-form_of_others names at f.Display ts h = refl
+form_of_others names at word (t ∷ []) other (inl h) = absurd (omega arith)
+form_of_others names at word (t ∷ []) other (inr h) = absurd (omega arith)
+form_of_others names at word (t ∷ u ∷ []) other (inl h) = absurd (omega arith)
+form_of_others names at word (t ∷ u ∷ []) other (inr h) = absurd (omega arith)
+form_of_others names at f.Always ts other h = refl
+form_of_others names at f.Keep ts other h = refl
+form_of_others names at f.Fin ts other h = refl
+form_of_others names at f.Halt ts other h = refl
+form_of_others names at f.Stable ts other h = refl
+form_of_others names at f.Sometimes ts other h = refl
+form_of_others names at f.Len ts other h = refl
+form_of_others names at f.List ts other h = refl
+form_of_others names at f.Input ts other h = refl
+form_of_others names at f.Display ts other h = absurd (other refl)
+
+-- such a form has a wrong number of operands, unless it is `display`
+pub form_miscounted : (names : VisibleNames) (at : ℕ) (word : Form) (ts : List PhraseTree) → word ≢ f.Display → (length ts < 1) ⊎ (2 < length ts)
+    → formula_of_kind names at (form word (phrases_of ts)) ≡ Err (WrongCount at)
+form_miscounted names at word ts other h =
+    let taken : takes word (phrase_count (phrases_of ts)) ≡ false = ap (takes word) (count_is ts) ∙ not_taken word (length ts) other h in
+    form_of_others names at word ts other h ∙ ap (λ (b : Bool). Err (if b then NotExecutable at else WrongCount at)) taken
+
+-- `display` of one operand or more
+pub display_of_some : (names : VisibleNames) (at : ℕ) (ts : List PhraseTree) → 0 < length ts
+    → formula_of_kind names at (form f.Display (phrases_of ts)) ≡ mapped (λ es. display (exprs_of es)) (exprs_in names (phrases_of ts))
+display_of_some names at [] h = absurd (omega arith)
+display_of_some names at (t ∷ ts) h = refl

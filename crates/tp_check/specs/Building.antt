@@ -1,5 +1,5 @@
 -- What the functions build, as plain trees.
-use Rattle.std.specs.Prelude.{◌≡◌, ◌≢◌, Result, Ok, Err, ℕ, ◌+◌, Bool, true, List, [], length, map, Option, Some, None, if◌then◌else◌}
+use Rattle.std.specs.Prelude.{◌≡◌, ◌≢◌, Result, Ok, Err, ℕ, List, [], map, Some, None}
 use Rattle.std.specs.Global.{Global}
 use Rattle.std.specs.declared.rc.Rc.{Rc}
 use Rattle.tp_kernel.specs.declared.formula.Expr.{Expr}
@@ -9,28 +9,17 @@ use Rattle.tp_kernel.specs.declared.formula.Formulas.{Formulas}
 use Rattle.tp_kernel.specs.Read.{expr_tree, formula_tree, operator_of}
 use Rattle.tp_meaning.specs.Syntax.{ExprTree, FormulaTree, either, binary, chop, project}
 use Rattle.tp_tree.specs.declared.phrase.Definitions.{Definitions}
-use Rattle.tp_check.specs.Scope.{Names, Called, VisibleNames, bound_in, binder_of}
-use Rattle.tp_check.specs.Scope as plain
-use Rattle.tp_check.specs.Names.{has_repeat, AreApart, twice_defined}
+use Rattle.tp_scope.specs.Names.{AreApart, twice_defined}
+use Rattle.tp_scope.specs.Seen.{names_of_definitions}
 use Rattle.tp_tree.specs.Read.{definition_tree}
 use Rattle.tp_check.specs.declared.refusal.CheckRefusal.{CheckRefusal}
 use Rattle.tp_check.specs.declared.refusal.CheckRefusal.TheVariants.{Twice, NoMemory}
-use Rattle.tp_check.specs.declared.binders.Binders.{Binders}
+use Rattle.tp_scope.specs.declared.binders.Binders.{Binders}
 use Rattle.tp_check.specs.declared.definitions.Headings.{Headings}
-use Rattle.tp_check.specs.Definitions.{calls_state}
-use Rattle.tp_check.specs.declared.directory.Signature.{Signature}
-use Rattle.tp_check.specs.declared.directory.Callee.{Callee}
-use Rattle.tp_check.specs.declared.directory.Directory.{Directory}
-use Rattle.tp_check.specs.declared.phrases.Callable.{Callable}
-use Rattle.tp_check.specs.declared.phrases.Callable.TheVariants.{Every, StatesOf}
 use Rattle.tp_check.specs.declared.operation.Operation.{Operation}
 use Rattle.tp_check.specs.declared.operation.Operation.TheVariants.{Either, With}
 use Rattle.tp_check.specs.declared.composition.Composition.{Composition}
 use Rattle.tp_check.specs.declared.composition.Composition.TheVariants.{Chop, Project}
-use Rattle.tp_check.specs.declared.scope.Scope.{Scope}
-use Rattle.tp_check.specs.declared.scope.Scope.TheOpen.{Scope-F}
-use Rattle.tp_check.specs.declared.scope.Scope.TheFolds.{fold-Scope}
-use Rattle.tp_check.specs.declared.scope.Visible.{Visible}
 
 -- behind an `Rc`
 abbrev pub expr_seen : Rc Expr Global → ExprTree
@@ -56,48 +45,9 @@ abbrev pub composed_by : Composition → FormulaTree → FormulaTree → Formula
 composed_by Chop = chop
 composed_by Project = project
 
--- these names, where none of them stands twice
-abbrev pub apart : Names → Option Names
-apart xs = if has_repeat xs then None else Some xs
-
--- the number of a name's binder among some that are bound together, by its place there, or else among those outside of them
-abbrev pub binder_among : (outer : Names) → List ℕ → (place : Option ℕ) → Option ℕ
-binder_among outer x (Some i) = Some (length outer + i)
-binder_among outer x None = binder_of outer x
-
--- names that are bound together, with the names outside of them already seen
-abbrev pub scope_step : Scope-F Names → Names
-scope_step Scope-F.Outermost = []
-scope_step (Scope-F.Inner binders outer) = bound_in outer.now binders.now
-
--- the names of a scope
-abbrev pub names_bound : Scope → Names
-names_bound = fold-Scope Names scope_step
-
--- what calls know of definitions
-abbrev pub signature_seen : List ℕ → Signature → plain.Signature
-signature_seen name s = record { name = name; parameters = s.parameters.now; is_state = s.is_state }
-
-abbrev pub signatures_seen : Directory → List plain.Signature
-signatures_seen d = map (λ e. signature_seen e.0 e.1) d.signatures.entries
-
--- what is called, but for its name
-abbrev pub IsCallee : Callee → Called → Type 0
-IsCallee c d = (c.number ≡ d.number) × (c.signature.parameters.now ≡ d.signature.parameters) × (c.signature.is_state ≡ d.signature.is_state)
-
--- what a call of some name calls, if it calls a definition
-abbrev pub IsFound : Option Called → Option Callee → Type 0
-IsFound (Some d) (Some c) = IsCallee c d
-IsFound None None = Unit {0}
-IsFound (Some d) None = ⊥
-IsFound None (Some c) = ⊥
-
 -- the parameters of each of the definitions
 abbrev pub ParametersOf : Definitions → List Binders → Type 0
 ParametersOf ds parameters = parameters ≡ map (λ d. d.parameters) ds.items.items
-
-abbrev pub names_of_definitions : Definitions → Names
-names_of_definitions ds = map (λ d. d.name) ds.items.items
 
 -- The headings of these definitions, none of whose names or parameters is defined twice.
 pub record AreHeadings (ds : Definitions) (headings : Headings) : Type 0 where
@@ -109,12 +59,3 @@ pub record AreHeadings (ds : Definitions) (headings : Headings) : Type 0 where
 abbrev pub AnswersHeadings : Definitions → Result Headings CheckRefusal → Type 0
 AnswersHeadings ds (Ok headings) = (twice_defined [] (map definition_tree ds.items.items) ≡ None) × AreHeadings ds headings
 AnswersHeadings ds (Err e) = e ≢ NoMemory → (at : ℕ) × (twice_defined [] (map definition_tree ds.items.items) ≡ Some at) × (e ≡ Twice at)
-
--- what may be called from a state phrase
-abbrev pub may_call : Callable → List ℕ → Bool
-may_call Every x = true
-may_call (StatesOf directory) x = calls_state (signatures_seen directory.now) x
-
--- what can be read
-abbrev pub names_seen : Visible → VisibleNames
-names_seen names = record { definitions = signatures_seen names.directory.now; globals = names.globals.now; scope = names_bound names.scope.now }

@@ -1,12 +1,7 @@
-pub mod Scope
-pub mod Names
 pub mod Outcome
-pub mod Phrases
-pub mod Definitions
-pub mod Callers
 pub mod Positions
-pub mod Built
 pub mod Building
 pub mod Program
 pub mod Refusals
 pub mod Laws
+pub mod NameLaws

@@ -7,18 +7,18 @@ use Rattle.tp_tree.specs.declared.operator.Bare.TheVariants.{Empty, More, Skip}
 use Rattle.tp_tree.specs.declared.operator.Form.TheVariants as f
 use Rattle.tp_tree.specs.Tree.{PhraseTree, phrase, KindTree, PhraseTrees, no_phrase, phrase_then}
 use Rattle.tp_tree.specs.Tree as k
-use Rattle.tp_meaning.specs.Syntax.{Equal, Differs, Less, LessEqual, Greater, GreaterEqual, Plus, Minus, Times, Div, Mod, ExprTree, numeral, boolean, listing, size, index, minus, negation, either, binary, choice, invoke, exprs_of, FormulaTree, trivial, test, equation, empty, more, next, always, conjunction, branch, len, assign, chop, while, for_from, forall_from, project, formulas_of}
+use Rattle.tp_meaning.specs.Syntax.{Equal, Differs, Less, LessEqual, Greater, GreaterEqual, Plus, Minus, Times, Div, Mod, ExprTree, numeral, boolean, listing, size, index, minus, negation, either, binary, choice, invoke, exprs_of, FormulaTree, trivial, test, equation, empty, more, next, always, conjunction, branch, len, assign, chop, while, for_from, forall_from, project, input, display, formulas_of}
 use Rattle.tp_meaning.specs.Syntax as m
 use Rattle.tp_meaning.specs.Value.{is_upper}
 use Rattle.tp_meaning.specs.Derived.{skip_of, halt_of, keep_of, fin_of, gets_of, stable_of, becomes_of, list_of_length, next_equals_of, repeat_of}
 use Rattle.tp_check.specs.declared.refusal.CheckRefusal.{CheckRefusal}
-use Rattle.tp_check.specs.declared.refusal.CheckRefusal.TheVariants.{Twice, Unknown, NotExecutable, NotExpression, NotPlace, WrongCount}
+use Rattle.tp_check.specs.declared.refusal.CheckRefusal.TheVariants.{Twice, Unknown, NotExecutable, NotExpression, NotPlace, NotPort, WrongCount}
 use Rattle.tp_value.specs.Globals.{is_lower}
-use Rattle.tp_check.specs.Scope.{Names, Called, VisibleNames, with_binder, with_binders, referent_of, called_of}
-use Rattle.tp_check.specs.Names.{has_repeat}
-use Rattle.tp_check.specs.Definitions.{calls_state}
+use Rattle.tp_scope.specs.Scope.{Names, Called, VisibleNames, with_binder, with_binders, referent_of, called_of}
+use Rattle.tp_scope.specs.Names.{has_repeat}
+use Rattle.tp_scope.specs.Definitions.{calls_state}
 use Rattle.tp_check.specs.Outcome.{CheckOutcome, not_run, not_expression, mapped, both, three}
-use Rattle.tp_check.specs.Phrases.{is_state_phrase, is_place_phrase, is_place_kind, takes, phrase_count, nexts_of, behind_nexts, at_of}
+use Rattle.tp_scope.specs.Phrases.{is_state_phrase, is_place_phrase, is_place_kind, takes, phrase_count, nexts_of, behind_nexts, at_of}
 
 -- ---- expressions
 
@@ -112,6 +112,14 @@ abbrev mutual
 -- the operand for a parameter: a place where the parameter is upper-case, an expression else
 abbrev pub argument_in : (upper : Bool) → VisibleNames → PhraseTree → CheckOutcome ExprTree
 argument_in upper names p = if upper then place_phrase names p else expr_of names p
+
+-- a port is its name as it is written, whatever that name is bound to; any other phrase is refused
+abbrev pub port_of_kind : VisibleNames → (at : ℕ) → KindTree → CheckOutcome (List ℕ)
+port_of_kind names at (k.name x) = if is_lower x then Ok x else Err (NotPort at)
+port_of_kind names at kind = Err (refusal_of names at kind (NotPort at))
+
+abbrev pub port_phrase : VisibleNames → PhraseTree → CheckOutcome (List ℕ)
+port_phrase names (phrase at kind) = port_of_kind names at kind
 
 -- ---- formulas
 
@@ -216,7 +224,9 @@ abbrev mutual
   formula_of_kind names at (k.form f.Stable (phrase_then p no_phrase)) = mapped stable_of (place_phrase names p)
   formula_of_kind names at (k.form f.Len (phrase_then e no_phrase)) = mapped len (expr_of names e)
   formula_of_kind names at (k.form f.List (phrase_then l (phrase_then e no_phrase))) = both list_of_length (place_phrase names l) (expr_of names e)
-  -- `sometimes` is never run, `input` and `display` aren't run yet, and the other forms have a wrong number of operands here
+  formula_of_kind names at (k.form f.Input (phrase_then x (phrase_then p no_phrase))) = both input (place_phrase names x) (port_phrase names p)
+  formula_of_kind names at (k.form f.Display (phrase_then e es)) = mapped (λ xs. display (exprs_of xs)) (exprs_in names (phrase_then e es))
+  -- `sometimes` is never run, and the other forms have a wrong number of operands here
   formula_of_kind names at (k.form form ps) = Err (refusal_of names at (k.form form ps) (NotExecutable at))
   formula_of_kind names at (k.choice b w) = both (λ c x. branch c x trivial) (expr_of names b) (formula_of names w)
   formula_of_kind names at (k.choice_else b w v) = three branch (expr_of names b) (formula_of names w) (formula_of names v)

@@ -7,11 +7,11 @@ use Rattle.tp_tree.specs.Tree.{PhraseTree, phrase, KindTree, number, truth, name
 use Rattle.tp_meaning.specs.Value.{is_upper}
 use Rattle.tp_meaning.specs.Interval.{ProgramTree}
 use Rattle.tp_check.specs.declared.refusal.CheckRefusal.{CheckRefusal}
-use Rattle.tp_check.specs.declared.refusal.CheckRefusal.TheVariants.{Twice, Unknown, WrongCount, NotExpression, NotPlace, NotExecutable, NoMemory}
-use Rattle.tp_check.specs.Scope.{Names, Signature, Called, called_of}
-use Rattle.tp_check.specs.Names.{has_repeat, twice_defined}
-use Rattle.tp_check.specs.Phrases.{is_state_operator, is_state_phrase, is_place_phrase, is_place_kind, takes, phrase_count, nexts_of, behind_nexts}
-use Rattle.tp_check.specs.Definitions.{signatures_of, calls_state, AreStates}
+use Rattle.tp_check.specs.declared.refusal.CheckRefusal.TheVariants.{Twice, Unknown, WrongCount, NotExpression, NotPlace, NotPort, NotExecutable, NoMemory}
+use Rattle.tp_scope.specs.Scope.{Names, Signature, Called, called_of}
+use Rattle.tp_scope.specs.Names.{has_repeat, twice_defined}
+use Rattle.tp_scope.specs.Phrases.{is_state_operator, is_state_phrase, is_place_phrase, is_place_kind, is_port_kind, takes, phrase_count, nexts_of, behind_nexts}
+use Rattle.tp_scope.specs.Definitions.{signatures_of, calls_state, AreStates}
 use Rattle.tp_check.specs.Program.{ChecksTo}
 
 -- ---- where phrases stand
@@ -21,6 +21,7 @@ pub data Position : Type 0 where
   formula : Position
   expression : Position
   place : Position
+  port : Position
 
 -- a phrase where it stands
 pub record Placed : Type 0 where
@@ -35,6 +36,9 @@ as_expression p = record { position = expression; phrase = p }
 
 abbrev pub as_place : PhraseTree → Placed
 as_place p = record { position = place; phrase = p }
+
+abbrev pub as_port : PhraseTree → Placed
+as_port p = record { position = port; phrase = p }
 
 abbrev pub as_formulas : PhraseTrees → List Placed
 as_formulas no_phrase = []
@@ -92,7 +96,9 @@ operands_of_formula definitions (form f.Halt (phrase_then b no_phrase)) = as_exp
 operands_of_formula definitions (form f.Stable (phrase_then p no_phrase)) = as_place p ∷ []
 operands_of_formula definitions (form f.Len (phrase_then e no_phrase)) = as_expression e ∷ []
 operands_of_formula definitions (form f.List (phrase_then l (phrase_then e no_phrase))) = as_place l ∷ as_expression e ∷ []
--- `sometimes`, `input` and `display`, which aren't run, and forms with a wrong number of operands
+operands_of_formula definitions (form f.Input (phrase_then x (phrase_then p no_phrase))) = as_place x ∷ as_port p ∷ []
+operands_of_formula definitions (form f.Display ps) = as_expressions ps
+-- `sometimes`, which isn't run, and forms with a wrong number of operands
 operands_of_formula definitions (form word ps) = []
 operands_of_formula definitions (choice b w) = as_expression b ∷ as_formula w ∷ []
 operands_of_formula definitions (choice_else b w v) = as_expression b ∷ as_formula w ∷ as_formula v ∷ []
@@ -108,6 +114,8 @@ abbrev pub operands_by : List Signature → Position → KindTree → List Place
 operands_by definitions formula kind = operands_of_formula definitions kind
 operands_by definitions expression kind = operands_of_expression definitions kind
 operands_by definitions place kind = operands_of_expression definitions kind
+-- nothing stands in a port
+operands_by definitions port kind = []
 
 abbrev pub kind_there : PhraseTree → KindTree
 kind_there (phrase at kind) = kind
@@ -156,13 +164,11 @@ is_expression_kind definitions (exists xs p) = false
 is_expression_kind definitions (bare w) = false
 is_expression_kind definitions (form word ps) = false
 
--- the kinds that are run as formulas: `not` over places and state phrases, `or` over state phrases, all forms but three, and all other kinds
+-- the kinds that are run as formulas: `not` over places and state phrases, `or` over state phrases, all forms but `sometimes`, and all other kinds
 abbrev pub is_run_kind : List Signature → KindTree → Bool
 is_run_kind definitions (negation p) = is_place_phrase p || is_state_phrase (calls_state definitions) p
 is_run_kind definitions (binary op.Or l r) = is_state_phrase (calls_state definitions) l && is_state_phrase (calls_state definitions) r
 is_run_kind definitions (form f.Sometimes ps) = false
-is_run_kind definitions (form f.Input ps) = false
-is_run_kind definitions (form f.Display ps) = false
 is_run_kind definitions kind = true
 
 -- A phrase breaks a rule where it stands, and this refusal names the rule and the phrase's place.
@@ -180,6 +186,8 @@ pub data Breaks (definitions : List Signature) : Position → PhraseTree → Che
   no_expression : (at : ℕ) (kind : KindTree) → is_expression_kind definitions kind ≡ false → Breaks definitions expression (phrase at kind) (NotExpression at)
   -- no place where one is due
   no_place : (at : ℕ) (kind : KindTree) → is_place_kind kind ≡ false → Breaks definitions place (phrase at kind) (NotPlace at)
+  -- no port where one is due
+  no_port : (at : ℕ) (kind : KindTree) → is_port_kind kind ≡ false → Breaks definitions port (phrase at kind) (NotPort at)
   -- what isn't run where a formula is due
   isnt_run : (at : ℕ) (kind : KindTree) → is_run_kind definitions kind ≡ false → Breaks definitions formula (phrase at kind) (NotExecutable at)
 
@@ -199,6 +207,7 @@ turn_of (WrongCount at) = 1
 turn_of (Twice at) = 2
 turn_of (NotExpression at) = 3
 turn_of (NotPlace at) = 3
+turn_of (NotPort at) = 3
 turn_of (NotExecutable at) = 3
 turn_of NoMemory = 4
 

@@ -2,15 +2,15 @@
 ghost use Rattle.tp_tree.specs.Read.{phrase_trees};
 ghost use Rattle.tp_tree.specs.Tree.{call as call_kind};
 ghost use Rattle.tp_kernel.specs.Read.{formula_tree};
-ghost use Rattle.tp_check.specs.Building.{names_seen};
+ghost use Rattle.tp_scope.specs.Seen.{names_seen};
 ghost use Rattle.tp_check.specs.Outcome.{AnswersCheck};
 ghost use Rattle.tp_check.specs.Positions.{formula_of_kind};
 
 use crate::expression::arguments;
 use crate::refusal::CheckRefusal;
-use crate::scope::Visible;
 use std::alloc::Global;
 use tp_kernel::Formula;
+use tp_scope::Visible;
 use tp_tree::Phrases;
 use tp_value::Text;
 

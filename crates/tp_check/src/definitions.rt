@@ -3,21 +3,19 @@ ghost use Rattle.std.specs.Prelude.{◌≡◌, map, length, IfOk, OnOk};
 ghost use Rattle.std.specs.Option.{option_map};
 ghost use Rattle.tp_tree.specs.Read.{definition_tree, phrase_tree};
 ghost use Rattle.tp_kernel.specs.Read.{definition_of, definitions_of};
-ghost use Rattle.tp_check.specs.Building.{AnswersHeadings, ParametersOf, expr_seen, names_seen};
-ghost use Rattle.tp_check.specs.Names.{names_with, names_in_bodies};
+ghost use Rattle.tp_scope.specs.Seen.{names_seen};
+ghost use Rattle.tp_check.specs.Building.{AnswersHeadings, ParametersOf, expr_seen};
+ghost use Rattle.tp_scope.specs.Names.{names_with, names_in_bodies};
 ghost use Rattle.tp_check.specs.Outcome.{AnswersCheck};
 ghost use Rattle.tp_check.specs.Program.{expr_where, definition_in, definitions_in};
 
-use crate::binders::Binders;
-use crate::directory::Directory;
 use crate::expression::shared_expression;
 use crate::formula::shared_formula;
-use crate::names::add_names;
 use crate::refusal::CheckRefusal;
-use crate::scope::{Scope, Visible};
 use std::alloc::Global;
 use std::rc::Rc;
 use tp_kernel::{Def, Defs, Expr};
+use tp_scope::{Binders, Directory, Scope, Visible, add_names};
 use tp_tree::{Definition, Definitions, Phrase};
 use tp_value::{Globals, NoMemory, Texts};
 

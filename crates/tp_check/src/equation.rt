@@ -2,20 +2,29 @@
 ghost use Rattle.std.specs.Prelude.{◌≡◌, ◌+◌, ℕ, ◌⊎◌, IfOk, Ok};
 ghost use Rattle.tp_tree.specs.Read.{phrase_tree};
 ghost use Rattle.tp_kernel.specs.Read.{expr_tree, formula_tree};
-ghost use Rattle.tp_check.specs.Building.{names_seen};
+ghost use Rattle.tp_scope.specs.Seen.{names_seen};
 ghost use Rattle.tp_check.specs.Outcome.{AnswersCheck};
-ghost use Rattle.tp_check.specs.Phrases.{nexts_of, behind_nexts};
+ghost use Rattle.tp_scope.specs.Phrases.{nexts_of, behind_nexts};
 ghost use Rattle.tp_check.specs.Positions.{equation_of, equation_in};
 
-use crate::count::one_more;
 use crate::expression::shared_expression;
 use crate::refusal::CheckRefusal;
-use crate::scope::Visible;
 use std::alloc::Global;
 use std::rc::Rc;
 use tp_kernel::{Expr, Formula, next_equals};
+use tp_scope::Visible;
 use tp_tree::{Phrase, PhraseKind};
 use tp_value::NoMemory;
+
+// The count and one more.
+fn one_more(count: u32) -> Result<u32, NoMemory>
+    ensures { IfOk result (λ n. n ≡ count + 1) }
+{
+    match count.checked_add(1) {
+        Some(next) => Ok(next),
+        None => Err(NoMemory),
+    }
+}
 
 // How many `next` stand in front of a phrase, and the phrase behind them.
 fn without_nexts(phrase: &Phrase) -> Result<(u32, &Phrase), NoMemory>

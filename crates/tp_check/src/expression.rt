@@ -4,18 +4,19 @@ ghost use Rattle.tp_tree.specs.Read.{phrase_tree, phrase_trees};
 ghost use Rattle.tp_kernel.specs.Read.{expr_tree};
 ghost use Rattle.tp_tree.specs.Tree.{name as name_kind, call as call_kind};
 ghost use Rattle.tp_meaning.specs.Value.{is_upper};
-ghost use Rattle.tp_check.specs.Phrases.{phrase_count};
-ghost use Rattle.tp_check.specs.Building.{expr_seen, exprs_seen, names_seen};
+ghost use Rattle.tp_scope.specs.Phrases.{phrase_count};
+ghost use Rattle.tp_scope.specs.Seen.{names_seen};
+ghost use Rattle.tp_check.specs.Building.{expr_seen, exprs_seen};
 ghost use Rattle.tp_check.specs.Outcome.{AnswersCheck};
-ghost use Rattle.tp_check.specs.Positions.{expr_of, expr_of_kind, exprs_in, place_phrase, argument_in, arguments_in};
+ghost use Rattle.tp_check.specs.Positions.{expr_of, expr_of_kind, exprs_in, place_phrase, port_phrase, argument_in, arguments_in};
 
 use crate::operation::operation_for;
-use crate::phrases::{is_place, refusal};
 use crate::refusal::CheckRefusal;
-use crate::scope::{Visible, find_binder};
+use crate::refusals::refusal;
 use std::alloc::Global;
 use std::rc::Rc;
-use tp_kernel::{Expr, Exprs, is_upper};
+use tp_kernel::{Expr, Exprs, is_lower, is_upper};
+use tp_scope::{Visible, find_binder, is_place};
 use tp_tree::{Phrase, PhraseKind, Phrases};
 use tp_value::{Text, Texts};
 
@@ -98,9 +99,9 @@ pub fn shared_expression(
     Ok(Rc::new(alloc, expr)?)
 }
 
-// The expressions that the phrases are.
+/// The expressions that the phrases are.
 #[cycle(expression)]
-fn expressions(alloc: Global, phrases: &Phrases, names: &Visible) -> Result<Exprs, CheckRefusal>
+pub fn expressions(alloc: Global, phrases: &Phrases, names: &Visible) -> Result<Exprs, CheckRefusal>
     ensures { AnswersCheck exprs_seen
         (exprs_in (names_seen names.now) (phrase_trees phrases.now)) result }
 {
@@ -121,6 +122,21 @@ pub fn place(alloc: Global, phrase: &Phrase, names: &Visible) -> Result<Rc<Expr>
     }
     let other = CheckRefusal::NotPlace { at: phrase.at };
     Err(refusal(alloc, phrase, names, other)?)
+}
+
+/// The port that a phrase is: a lower-case name. It is no variable, so it isn't looked up.
+pub fn port(alloc: Global, phrase: &Phrase, names: &Visible) -> Result<Text, CheckRefusal>
+    ensures { AnswersCheck (λ name. name)
+        (port_phrase (names_seen names.now) (phrase_tree phrase.now)) result }
+{
+    let other = CheckRefusal::NotPort { at: phrase.at };
+    let PhraseKind::Name(name) = &phrase.kind else {
+        return Err(refusal(alloc, phrase, names, other)?);
+    };
+    if !is_lower(name) {
+        return Err(other);
+    }
+    Ok(name.copy()?)
 }
 
 // A call at this place: it calls a state definition.

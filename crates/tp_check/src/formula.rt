@@ -1,27 +1,26 @@
 // Formulas.
-ghost use Rattle.std.specs.Prelude.{◌≡◌, pos, IfOk};
+ghost use Rattle.std.specs.Prelude.{◌≡◌, ◌≢◌, pos, IfOk};
 ghost use Rattle.tp_tree.specs.Read.{phrase_tree, phrase_trees};
 ghost use Rattle.tp_tree.specs.Tree.{form as form_kind, exists as exists_kind, no_phrase, phrase_then};
 ghost use Rattle.tp_meaning.specs.Syntax.{trivial, branch as branch_of, while as while_of, for_from, forall_from};
 ghost use Rattle.tp_meaning.specs.Derived.{repeat_of};
 ghost use Rattle.tp_kernel.specs.Read.{formula_tree};
-ghost use Rattle.tp_check.specs.Scope.{with_binder, with_binders};
+ghost use Rattle.tp_scope.specs.Scope.{with_binder, with_binders};
 ghost use Rattle.tp_check.specs.Outcome.{AnswersCheck, both};
-ghost use Rattle.tp_check.specs.Building.{formula_seen, formulas_seen, names_seen};
+ghost use Rattle.tp_scope.specs.Seen.{names_seen};
+ghost use Rattle.tp_check.specs.Building.{formula_seen, formulas_seen};
 ghost use Rattle.tp_check.specs.Positions.{bare_of, expr_of, formula_of, formula_of_kind, formulas_in};
 
-use crate::binders::Binders;
 use crate::calls::call;
 use crate::composition::composition_for;
-use crate::expression::{place, shared_expression};
+use crate::expression::{expressions, place, port, shared_expression};
 use crate::hiding::exists_each;
-use crate::phrases::miscounted_or;
 use crate::refusal::CheckRefusal;
-use crate::scope::{Scope, Visible, take_room};
 use crate::state::{binary, negation, state};
 use std::alloc::Global;
 use std::rc::Rc;
 use tp_kernel::{Formula, Formulas, fin, halt, keep, list, repeat, skip, stable};
+use tp_scope::{Binders, Scope, Visible, take_room};
 use tp_tree::{Bare, Form, Phrase, PhraseKind, Phrases};
 use tp_value::{NoMemory, Text, Texts};
 
@@ -277,16 +276,35 @@ fn form_formula(
         (formula_of_kind (names_seen names.now) at (form_kind form (phrase_trees operands.now)))
         result }
 {
+    if let Form::Display = form {
+        return display(alloc, at, operands, names);
+    }
     match operands.items.as_slice() {
         [operand] => form_of_one(alloc, at, form, operand, names),
         [first, second] => form_of_two(alloc, at, form, first, second, names),
-        _ => {
-            let other = CheckRefusal::NotExecutable { at };
-            Err(miscounted_or(at, form, operands, other))
-        }
+        _ => Err(CheckRefusal::WrongCount { at }),
     }
 }
 
+// `display` at this place of these operands, of which it takes any number but none.
+fn display(
+    alloc: Global,
+    at: u32,
+    operands: &Phrases,
+    names: &Visible,
+) -> Result<Formula, CheckRefusal>
+    ensures { AnswersCheck formula_tree
+        (formula_of_kind (names_seen names.now) at
+        (form_kind Form.Display (phrase_trees operands.now)))
+        result }
+{
+    if operands.items.is_empty() {
+        return Err(CheckRefusal::WrongCount { at });
+    }
+    Ok(Formula::Display(expressions(alloc, operands, names)?))
+}
+
+// Of one operand. `display` takes any number, so it isn't taken here.
 #[cycle(formula)]
 fn form_of_one(
     alloc: Global,
@@ -295,6 +313,7 @@ fn form_of_one(
     operand: &Phrase,
     names: &Visible,
 ) -> Result<Formula, CheckRefusal>
+    requires { form ≢ Form.Display }
     ensures { AnswersCheck formula_tree
         (formula_of_kind (names_seen names.now) at
         (form_kind form (phrase_then (phrase_tree operand.now) no_phrase)))
@@ -308,12 +327,11 @@ fn form_of_one(
         Form::Stable => Ok(stable(alloc, place(alloc, operand, names)?)?),
         Form::Len => Ok(Formula::Len(shared_expression(alloc, operand, names)?)),
         Form::Sometimes => Err(CheckRefusal::NotExecutable { at }),
-        Form::Display => Err(CheckRefusal::NotExecutable { at }),
-        Form::List => Err(CheckRefusal::WrongCount { at }),
-        Form::Input => Err(CheckRefusal::WrongCount { at }),
+        Form::List | Form::Input | Form::Display => Err(CheckRefusal::WrongCount { at }),
     }
 }
 
+// Of two operands, in the same way.
 fn form_of_two(
     alloc: Global,
     at: u32,
@@ -322,6 +340,7 @@ fn form_of_two(
     second: &Phrase,
     names: &Visible,
 ) -> Result<Formula, CheckRefusal>
+    requires { form ≢ Form.Display }
     ensures { AnswersCheck formula_tree
         (formula_of_kind (names_seen names.now) at
         (form_kind form
@@ -334,14 +353,18 @@ fn form_of_two(
             let count = shared_expression(alloc, second, names)?;
             Ok(list(alloc, whole, count)?)
         }
-        Form::Input => Err(CheckRefusal::NotExecutable { at }),
-        Form::Display => Err(CheckRefusal::NotExecutable { at }),
+        Form::Input => {
+            let place = place(alloc, first, names)?;
+            let port = port(alloc, second, names)?;
+            Ok(Formula::Input(place, port))
+        }
         Form::Always
         | Form::Keep
         | Form::Fin
         | Form::Halt
         | Form::Stable
         | Form::Sometimes
-        | Form::Len => Err(CheckRefusal::WrongCount { at }),
+        | Form::Len
+        | Form::Display => Err(CheckRefusal::WrongCount { at }),
     }
 }

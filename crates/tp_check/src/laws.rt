@@ -1,5 +1,6 @@
 // Laws of what becomes of sources.
 ghost use Rattle.tp_check.specs.Laws.{CheckedOnce};
+ghost use Rattle.tp_check.specs.NameLaws.{GlobalsAreApart, GlobalsStandInSource};
 ghost use Rattle.tp_check.specs.Refusals.{RefusalsNameBroken, ProgramsKeepRules};
 
 /// One thing becomes of a source: one program, or one refusal.
@@ -16,4 +17,10 @@ pub fn refusals_name_broken()
 /// In a source that is a program no phrase breaks a rule.
 pub fn programs_keep_rules()
     ensures { ProgramsKeepRules }
+{}
+
+/// The names of a program's variables stand in its source, and none of them stands twice.
+pub fn globals_are_names()
+    ensures stand { GlobalsStandInSource }
+    ensures apart { GlobalsAreApart }
 {}

@@ -1,24 +1,21 @@
 // The program that a source is.
 ghost use Rattle.std.specs.Prelude.{◌≡◌, ◌≢◌, length, IfOk, IfErr, Ok, Err};
 ghost use Rattle.tp_tree.specs.Read.{source_tree};
-ghost use Rattle.tp_check.specs.Built.{IsBuilt};
-ghost use Rattle.tp_check.specs.Building.{ParametersOf, signatures_seen};
-ghost use Rattle.tp_check.specs.Names.{names_of};
+ghost use Rattle.tp_meaning.specs.Fits.{ProgramFits};
+ghost use Rattle.tp_scope.specs.Seen.{signatures_seen};
+ghost use Rattle.tp_check.specs.Building.{ParametersOf};
+ghost use Rattle.tp_scope.specs.Names.{names_of};
 ghost use Rattle.tp_check.specs.Outcome.{AnswersCheck};
-ghost use Rattle.tp_check.specs.Definitions.{signatures_of};
+ghost use Rattle.tp_scope.specs.Definitions.{signatures_of};
 ghost use Rattle.tp_check.specs.Program.{ChecksTo, NamesSuffice, program_over, program_tree};
 
-use crate::binders::Binders;
 use crate::definitions::{add_names_in_bodies, find_headings, make_definitions};
-use crate::directory::Directory;
 use crate::formula::shared_formula;
-use crate::names::add_names;
 use crate::refusal::CheckRefusal;
-use crate::scope::{Scope, Visible};
-use crate::states::find_states;
 use std::alloc::Global;
 use std::rc::Rc;
 use tp_kernel::{Defs, Formula};
+use tp_scope::{Binders, Directory, Scope, Visible, add_names, find_states};
 use tp_tree::Source;
 use tp_value::{Globals, NoMemory};
 
@@ -81,10 +78,12 @@ fn make_program(
 /// * `empty`, `more`, `skip` and `true`,
 /// * equations, of which at most one side has `next` in front,
 /// * `A gets e`, `A <- e`, `A := e`, `halt(e)`, `stable(A)`, `len(e)` and `list(A, e)`,
+/// * `input(A, p)` with a port p, and `display(e, ..)` of one expression or more,
 /// * calls of definitions, and
 /// * expressions: a place is true, its negation makes it false, and any other is tested.
 ///
-/// A place is a name with any number of indices. A call gives a place to each upper-case parameter and an expression to each lower-case one.
+/// A place is a name with any number of indices. A port is a lower-case name, and no variable. A call gives a place to each upper-case
+/// parameter and an expression to each lower-case one.
 /// `for` and `forall` bind their name in their body, `exists` its names, and a definition its parameters in its body alone. A name is that of
 /// its innermost binder, or of a variable where it has none.
 ///
@@ -92,13 +91,13 @@ fn make_program(
 /// `forall`, `exists`, bare word, form, or `if` without `else`. Expressions have none of these either, and call only state definitions.
 ///
 /// The first phrase that breaks this is refused. A call of an unknown definition comes first, then a call or a form with a wrong number of
-/// operands, then an `exists` that binds a name twice; then a phrase is no expression or no place where one is due, and not executable
-/// anywhere else. `sometimes`, and `not` and `or` over phrases of more than one state, are not executable, nor are `input` and `display` yet.
+/// operands, then an `exists` that binds a name twice; then a phrase is no expression, no place or no port where one is due, and not
+/// executable anywhere else. `sometimes`, and `not` and `or` over phrases of more than one state, are not executable.
 pub fn check(alloc: Global, source: &Source) -> Result<Program, CheckRefusal>
     ensures accepted { IfOk result (λ p.
         ChecksTo (source_tree source.now) (Ok (program_tree p))) }
     ensures named { NamesSuffice (source_tree source.now) }
-    ensures built { IfOk result (λ p. IsBuilt (program_tree p)) }
+    ensures fits { IfOk result (λ p. ProgramFits (program_tree p)) }
     ensures refused { IfErr result (λ e.
         e ≢ CheckRefusal.NoMemory → ChecksTo (source_tree source.now) (Err e)) }
 {

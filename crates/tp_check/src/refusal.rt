@@ -18,6 +18,8 @@ pub enum CheckRefusal {
     NotExpression { at: u32 },
     /// The phrase at this place stands where a place is due, and is none.
     NotPlace { at: u32 },
+    /// The phrase at this place stands where a port is due, and is none.
+    NotPort { at: u32 },
     /// The phrase at this place isn't run.
     NotExecutable { at: u32 },
     NoMemory,

@@ -3,18 +3,17 @@ ghost use Rattle.std.specs.Prelude.{◌≡◌, true, false, IfOk};
 ghost use Rattle.tp_tree.specs.Read.{phrase_tree, kind_tree};
 ghost use Rattle.tp_tree.specs.Tree.{negation as negation_kind, binary as binary_kind};
 ghost use Rattle.tp_kernel.specs.Read.{formula_tree};
-ghost use Rattle.tp_check.specs.Building.{names_seen};
+ghost use Rattle.tp_scope.specs.Seen.{names_seen};
 ghost use Rattle.tp_check.specs.Outcome.{AnswersCheck, mapped};
 ghost use Rattle.tp_check.specs.Positions.{expr_of, place_is, is_state_in, state_in, negation_in, binary_in};
 
 use crate::equation::equation;
 use crate::expression::{place, shared_expression};
-use crate::phrases::{Callable, is_place, is_state};
 use crate::refusal::CheckRefusal;
-use crate::scope::Visible;
 use std::alloc::Global;
 use std::rc::Rc;
 use tp_kernel::{Expr, Formula, becomes, gets};
+use tp_scope::{Callable, Visible, is_place, is_state};
 use tp_tree::{Op, Phrase};
 use tp_value::NoMemory;
 

@@ -2,8 +2,8 @@ use Rattle.std.proofs.Common.{refl, ap, sym, ◌∙◌, List, map}
 use Rattle.std.proofs.lemmas.Slice.Zip.{Zip-more}
 use Rattle.tp_tree.specs.declared.phrase.Definition.{Definition}
 use Rattle.tp_tree.specs.Read.{definition_tree}
-use Rattle.tp_check.specs.Scope.{Names}
-use Rattle.tp_check.specs.Names.{names_with, names_in_bodies}
+use Rattle.tp_scope.specs.Scope.{Names}
+use Rattle.tp_scope.specs.Names.{names_with, names_in_bodies}
 use Rattle.tp_check.proofs.Headings.{same_parts, scope_of_body, one_body_more}
 use Rattle.tp_check.proofs.definitions.add_names_in_bodies.Goals as goal
 

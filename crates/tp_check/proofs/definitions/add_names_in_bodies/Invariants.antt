@@ -1,6 +1,6 @@
 use Rattle.std.proofs.Common.{◌≡◌, map}
 use Rattle.tp_tree.specs.Read.{definition_tree}
-use Rattle.tp_check.specs.Names.{names_with, names_in_bodies}
+use Rattle.tp_scope.specs.Names.{names_with, names_in_bodies}
 use Rattle.tp_check.proofs.definitions.add_names_in_bodies.Given as goal
 
 -- the names in the bodies before are there

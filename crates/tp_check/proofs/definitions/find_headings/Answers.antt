@@ -3,8 +3,8 @@ use Rattle.std.specs.List.{list_any}
 use Rattle.std.proofs.lemmas.Result.{err_from_is_err_and}
 use Rattle.tp_tree.specs.declared.phrase.Definition.{Definition}
 use Rattle.tp_tree.specs.Read.{definition_tree}
-use Rattle.tp_check.specs.Scope.{Names}
-use Rattle.tp_check.specs.Names.{AreApart, twice_defined}
+use Rattle.tp_scope.specs.Scope.{Names}
+use Rattle.tp_scope.specs.Names.{AreApart, twice_defined}
 use Rattle.tp_check.proofs.Headings.{next_is, one_more_mapped, apart_more, apart_is, not_twice}
 use Rattle.tp_check.proofs.definitions.find_headings.Goals as goal
 

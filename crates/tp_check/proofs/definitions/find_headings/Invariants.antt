@@ -1,6 +1,6 @@
 use Rattle.std.proofs.Common.{◌≡◌, [], map, take, drop}
 use Rattle.tp_tree.specs.Read.{definition_tree}
-use Rattle.tp_check.specs.Names.{AreApart, twice_defined}
+use Rattle.tp_scope.specs.Names.{AreApart, twice_defined}
 use Rattle.tp_check.proofs.definitions.find_headings.Given as goal
 
 -- none of those before is defined twice

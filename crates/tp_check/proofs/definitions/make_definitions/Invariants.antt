@@ -1,7 +1,7 @@
 use Rattle.std.proofs.Common.{◌≡◌, ◌++◌, map, drop}
 use Rattle.tp_tree.specs.Read.{definition_tree}
 use Rattle.tp_kernel.specs.Read.{definition_of}
-use Rattle.tp_check.specs.Building.{names_seen}
+use Rattle.tp_scope.specs.Seen.{names_seen}
 use Rattle.tp_check.specs.Outcome.{mapped}
 use Rattle.tp_check.specs.Program.{definitions_in}
 use Rattle.tp_check.proofs.definitions.make_definitions.Given as goal

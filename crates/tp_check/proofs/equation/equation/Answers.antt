@@ -2,9 +2,9 @@ use Rattle.std.proofs.Common.{◌≡◌, ◌⊎◌, ◌∙◌, sym, ap, ap₂, r
 use Rattle.std.proofs.lemmas.Grind.{common_steps}
 use Rattle.std.proofs.lemmas.Result.{err_from_is_err_and}
 use Rattle.tp_tree.specs.Read.{phrase_tree}
-use Rattle.tp_check.specs.Building.{names_seen}
+use Rattle.tp_scope.specs.Seen.{names_seen}
 use Rattle.tp_check.specs.Outcome.{not_expression}
-use Rattle.tp_check.specs.Phrases.{nexts_of, behind_nexts, at_of}
+use Rattle.tp_scope.specs.Phrases.{nexts_of, behind_nexts, at_of}
 use Rattle.tp_check.specs.Positions.{equation_of, expr_of}
 use Rattle.tp_check.proofs.Sides.{at_is, left_refused, right_refused, both_later}
 use Rattle.tp_check.proofs.equation.equation.Goals as goal

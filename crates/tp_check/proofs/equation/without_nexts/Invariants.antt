@@ -1,6 +1,6 @@
 use Rattle.std.proofs.Common.{◌≡◌, ◌+◌}
 use Rattle.tp_tree.specs.Read.{phrase_tree}
-use Rattle.tp_check.specs.Phrases.{nexts_of, behind_nexts}
+use Rattle.tp_scope.specs.Phrases.{nexts_of, behind_nexts}
 use Rattle.tp_check.proofs.equation.without_nexts.Given as goal
 
 -- the `next` so far, and the phrase behind them

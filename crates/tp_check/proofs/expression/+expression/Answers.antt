@@ -9,11 +9,12 @@ use Rattle.tp_tree.specs.Equations.{trees_are}
 use Rattle.tp_meaning.specs.Value.{is_upper}
 use Rattle.tp_meaning.specs.Syntax.{ExprTree}
 use Rattle.tp_kernel.specs.Read.{expr_tree}
-use Rattle.tp_check.specs.Scope.{Names}
-use Rattle.tp_check.specs.Building.{names_seen}
+use Rattle.tp_scope.specs.Scope.{Names}
+use Rattle.tp_scope.specs.Seen.{names_seen}
 use Rattle.tp_check.specs.Outcome.{mapped}
 use Rattle.tp_check.specs.Positions.{expr_of, exprs_in, argument_in, arguments_in}
-use Rattle.tp_check.proofs.Several.{from_here, none_made, one_made}
+use Rattle.tp_scope.proofs.Several.{from_here}
+use Rattle.tp_check.proofs.Several.{none_made, one_made}
 use Rattle.tp_check.proofs.expression.+expression.Goals as goal
 
 pub expressions-loop-phrase-preserved : goal.expressions-loop-phrase-preserved

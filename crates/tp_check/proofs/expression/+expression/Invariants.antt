@@ -2,7 +2,7 @@ use Rattle.std.proofs.Common.{◌≡◌, ◌++◌, map, drop}
 use Rattle.tp_tree.specs.Tree.{phrases_of}
 use Rattle.tp_tree.specs.Read.{phrase_tree, phrase_trees}
 use Rattle.tp_kernel.specs.Read.{expr_tree}
-use Rattle.tp_check.specs.Building.{names_seen}
+use Rattle.tp_scope.specs.Seen.{names_seen}
 use Rattle.tp_check.specs.Outcome.{mapped}
 use Rattle.tp_check.specs.Positions.{exprs_in, arguments_in}
 use Rattle.tp_check.proofs.expression.+expression.Given as goal

@@ -1,4 +1,4 @@
-use Rattle.std.proofs.Common.{◌≡◌, ◌+◌, ◌++◌, ◌∷◌, [], ◌∙◌, ℕ, ◌<◌, ◌⊎◌, List, sym, ap, subst, map, drop, length, Ok, Err, Global, arith, rules}
+use Rattle.std.proofs.Common.{◌≡◌, ◌+◌, ◌++◌, ◌∷◌, [], ◌∙◌, ℕ, ◌<◌, ◌⊎◌, List, sym, ap, subst, map, drop, length, Ok, Global, arith, rules}
 use Rattle.std.proofs.lemmas.List.{map-append, length-map}
 use Rattle.std.proofs.lemmas.Grind.{common_steps}
 use Rattle.std.specs.declared.rc.Rc.{Rc}
@@ -10,12 +10,14 @@ use Rattle.tp_meaning.specs.Syntax.{FormulaTree, conjunction, formulas_of}
 use Rattle.tp_kernel.specs.declared.formula.Formula.{Formula}
 use Rattle.tp_kernel.specs.Read.{formula_tree}
 use Rattle.tp_kernel.specs.Equations.{formula_and}
-use Rattle.tp_check.specs.Building.{formula_seen, names_seen}
+use Rattle.tp_scope.specs.Seen.{names_seen}
+use Rattle.tp_check.specs.Building.{formula_seen}
 use Rattle.tp_check.specs.Outcome.{AnswersCheck, mapped}
-use Rattle.tp_check.specs.Positions.{refusal_of, formula_of, formula_of_kind, formulas_in}
-use Rattle.tp_check.proofs.Several.{from_here, none_made, one_made, one_is, two_are}
-use Rattle.tp_check.proofs.Sides.{form_of_others, tree_of_and, tree_of_for, tree_of_forall}
-use Rattle.tp_check.specs.declared.refusal.CheckRefusal.TheVariants.{NotExecutable}
+use Rattle.tp_check.specs.Positions.{formula_of, formula_of_kind, formulas_in}
+use Rattle.tp_scope.proofs.Several.{from_here}
+use Rattle.tp_check.proofs.Several.{none_made, one_made, one_is, two_are}
+use Rattle.tp_scope.proofs.Loops.{tree_of_for, tree_of_forall}
+use Rattle.tp_check.proofs.Sides.{form_miscounted, tree_of_and}
 use Rattle.tp_check.proofs.formula.+formula.Goals as goal
 
 pub form_formula-returns-in-len1 : goal.form_formula-returns-in-len1
@@ -36,13 +38,13 @@ form_formula-returns-in-len2 t c =
     trees_are c.args.operands.now ∙ ap (λ (ys : List Phrase). phrases_of (map phrase_tree ys)) (sym c.as_slice.ensures.value ∙ two) in
     subst (λ (ts : PhraseTrees). AnswersCheck formula_tree (formula_of_kind (names_seen c.args.names.now) c.args.at (form c.args.form ts)) c.form_of_two.result) (sym seen) c.form_of_two.ensures
 
-pub form_formula-returns-in_default : goal.form_formula-returns-in_default
-form_formula-returns-in_default t c = λ q.
+pub form_formula-returns-in_default-as_slice : goal.form_formula-returns-in_default-as_slice
+form_formula-returns-in_default-as_slice t c = λ q.
     let xs : List Phrase = c.as_slice.result.now in
     let seen : phrase_trees c.args.operands.now ≡ phrases_of (map phrase_tree xs) = trees_are c.args.operands.now ∙ ap (λ (ys : List Phrase). phrases_of (map phrase_tree ys)) (sym c.as_slice.ensures.value) in
     let far : (length xs < 1) ⊎ (2 < length xs) = first_of (search rules, grind (arith, common_steps)) in
     ap (λ (ts : PhraseTrees). formula_of_kind (names_seen c.args.names.now) c.args.at (form c.args.form ts)) seen
-    ∙ (form_of_others (names_seen c.args.names.now) c.args.at c.args.form (map phrase_tree xs) (rw length-map far) ∙ ap Err (ap (λ (ts : PhraseTrees). refusal_of (names_seen c.args.names.now) c.args.at (form c.args.form ts) (NotExecutable c.args.at)) (sym seen) ∙ sym (c.miscounted_or.ensures (names_seen c.args.names.now))))
+    ∙ form_miscounted (names_seen c.args.names.now) c.args.at c.args.form (map phrase_tree xs) c.in_default.not-Display (rw length-map far)
 
 pub formula-returns-in_ok-formulas-in-And : goal.formula-returns-in_ok-formulas-in-And
 formula-returns-in_ok-formulas-in-And t c =

@@ -1,7 +1,8 @@
 use Rattle.std.proofs.Common.{◌≡◌, ◌++◌, map, drop}
 use Rattle.tp_tree.specs.Tree.{phrases_of}
 use Rattle.tp_tree.specs.Read.{phrase_tree, phrase_trees}
-use Rattle.tp_check.specs.Building.{formula_seen, names_seen}
+use Rattle.tp_scope.specs.Seen.{names_seen}
+use Rattle.tp_check.specs.Building.{formula_seen}
 use Rattle.tp_check.specs.Outcome.{mapped}
 use Rattle.tp_check.specs.Positions.{formulas_in}
 use Rattle.tp_check.proofs.formula.+formula.Given as goal

@@ -2,7 +2,7 @@ use Rattle.std.proofs.Common.{refl, ap, sym, ◌∙◌, ◌≡◌, ◌∷◌, �
 use Rattle.tp_meaning.specs.Syntax.{FormulaTree, exists}
 use Rattle.tp_value.specs.Globals.{is_lower}
 use Rattle.tp_kernel.specs.Read.{formula_tree}
-use Rattle.tp_check.specs.Scope.{Names}
+use Rattle.tp_scope.specs.Scope.{Names}
 use Rattle.tp_check.specs.Positions.{exists_of}
 use Rattle.tp_check.proofs.hiding.exists_each.Goals as goal
 

@@ -1,9 +1,9 @@
 use Rattle.std.proofs.Common.{◌∙◌, ap, subst, Bool, List, length, IfOk, Result, Ok, Err}
 use Rattle.tp_tree.specs.Read.{source_tree}
+use Rattle.tp_meaning.specs.Fits.{ProgramFits}
 use Rattle.tp_meaning.specs.Interval.{ProgramTree}
 use Rattle.tp_check.specs.declared.program.Program.{Program}
 use Rattle.tp_check.specs.declared.refusal.CheckRefusal.{CheckRefusal}
-use Rattle.tp_check.specs.Built.{IsBuilt}
 use Rattle.tp_check.specs.Outcome.{CheckOutcome, AnswersCheck}
 use Rattle.tp_check.specs.Program.{program_over, program_tree}
 use Rattle.tp_check.proofs.Fitting.{program_fits}
@@ -11,8 +11,8 @@ use Rattle.tp_check.proofs.Known.{own_names_suffice}
 use Rattle.tp_check.proofs.program.check.Goals as goal
 
 -- what was made is what fits
-made_fits : (o : CheckOutcome ProgramTree) (r : Result Program CheckRefusal) → AnswersCheck program_tree o r → IfOk o IsBuilt → IfOk r (λ p. IsBuilt (program_tree p))
-made_fits o (Ok p) made fits = subst (λ (o : CheckOutcome ProgramTree). IfOk o IsBuilt) made fits
+made_fits : (o : CheckOutcome ProgramTree) (r : Result Program CheckRefusal) → AnswersCheck program_tree o r → IfOk o ProgramFits → IfOk r (λ p. ProgramFits (program_tree p))
+made_fits o (Ok p) made fits = subst (λ (o : CheckOutcome ProgramTree). IfOk o ProgramFits) made fits
 made_fits o (Err e) made fits = tt
 
 pub returns-in_err-headings-clause-named : goal.returns-in_err-headings-clause-named
@@ -30,8 +30,8 @@ returns-in_err-globals-clause-named c = own_names_suffice (source_tree c.args.so
 pub returns-clause-named : goal.returns-clause-named
 returns-clause-named c = own_names_suffice (source_tree c.args.source.now)
 
-pub returns-clause-built : goal.returns-clause-built
-returns-clause-built c =
+pub returns-clause-fits : goal.returns-clause-fits
+returns-clause-fits c =
     let source = source_tree c.args.source.now in
     let states : List Bool = c.deref-4.result.now in
     let globals = c.in_ok-globals.globals in

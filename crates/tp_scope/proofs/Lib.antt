@@ -1,0 +1,6 @@
+pub mod Several
+pub mod Loops
+pub mod Apart
+pub mod Called
+pub mod Listing
+pub mod Spreading
