@@ -1,0 +1,127 @@
+-- The first line of a text, and what a line begins with.
+use Rattle.std.proofs.Common.{◌≡◌, ◌≢◌, ℕ, suc, ◌+◌, ◌<◌, ◌≤◌, ◌^◌, ◌%◌, eqb, ltb, Bool, true, false, not, cond, ◌||◌, ◌&&◌, ◌==◌, nat_eq, inl, inr, List, [], ◌∷◌, ◌++◌, length, take, drop, Option, Some, None, MatchOption, Bor, refl, sym, ap, ◌∙◌, subst, arith, tests, append_assoc, codes, add-one}
+use Rattle.std.specs.List.{slice_split, onto_first, starts_with}
+use Rattle.std.specs.Cmp.Lexicographic.{pointwise}
+use Rattle.std.specs.Str.Lines.{lines, lines_of_parts, strip_carriage_return}
+use Rattle.std.specs.Fmt.{decimal}
+use Rattle.std.proofs.lemmas.Fmt.{decimal_by_steps}
+use Rattle.std.proofs.lemmas.List.{take_all, append_cancel_left}
+use Rattle.std.proofs.lemmas.List.Splits.{slice_split_first}
+use Rattle.std.proofs.lemmas.Bool.{or_cases, or_from}
+use Rattle.tp_lex.proofs.Lists.{begins_from}
+use Rattle.tp_show.specs.declared.trace.NamedFact.{NamedFact}
+use Rattle.tp_show.specs.TraceFacts.{TracePart, parts_facts, have_clash}
+use Rattle.tp_show.specs.TraceLine.{SpellsParts, IsStateLine, state_opening, opens_with_one, passed_openings, is_passed_over, run_end_openings, refusal_openings, ends_trace}
+use Rattle.tp_show.specs.TraceReading.{len_before}
+use Rattle.tp_show.proofs.TraceDigits.{AllPass, front_passes}
+use Rattle.tp_show.proofs.TraceSpelled.{parts_unique}
+
+abbrev feeds : ℕ → Bool
+feeds b = b == 10
+
+some_parts : (xs : List ℕ) → (y : List ℕ) × (ys : List (List ℕ)) × (slice_split feeds xs ≡ y ∷ ys)
+some_parts [] = ([], [], refl)
+some_parts (x ∷ xs) = by (slice_split feeds xs) (some_parts xs) (feeds x)
+  where
+    by : (parts : List (List ℕ)) → (y : List ℕ) × (ys : List (List ℕ)) × (parts ≡ y ∷ ys) → (c : Bool) → (y : List ℕ) × (ys : List (List ℕ)) × (cond c ([] ∷ parts) (onto_first x parts) ≡ y ∷ ys)
+    by parts later true = ([], parts, refl)
+    by parts later false = (x ∷ later.0, later.1, ap (onto_first x) later.2)
+
+first_stripped : (a : List ℕ) (parts : List (List ℕ)) (y : List ℕ) (ys : List (List ℕ)) → parts ≡ y ∷ ys → lines_of_parts (a ∷ parts) ≡ strip_carriage_return a ∷ lines_of_parts parts
+first_stripped a parts y ys e = ap (λ q. lines_of_parts (a ∷ q)) e ∙ ap (λ q. strip_carriage_return a ∷ lines_of_parts q) (sym e)
+
+pub line_cut : (z : List ℕ) → len_before 10 z < length z → lines z ≡ strip_carriage_return (take (len_before 10 z) z) ∷ lines (drop (len_before 10 z + 1) z)
+line_cut z h =
+    let rest : List ℕ = drop (len_before 10 z + 1) z in
+    let more = some_parts rest in
+    ap lines_of_parts (slice_split_first feeds z 0 h) ∙ first_stripped (take (len_before 10 z) z) (slice_split feeds rest) more.0 more.1 more.2
+
+no_feed : (z : List ℕ) → AllPass (λ b. not (feeds b)) z → slice_split feeds z ≡ z ∷ []
+no_feed [] h = refl
+no_feed (b ∷ z) h = by (feeds b) h.0 ∙ ap (onto_first b) (no_feed z h.1)
+  where
+    by : (c : Bool) → not c ≡ true → cond c ([] ∷ slice_split feeds z) (onto_first b (slice_split feeds z)) ≡ onto_first b (slice_split feeds z)
+    by true e = absurd cc
+    by false e = refl
+
+pub line_whole : (z : List ℕ) → 0 < length z → length z ≤ len_before 10 z → lines z ≡ z ∷ []
+line_whole z some far =
+    let all : take (len_before 10 z) z ≡ z = take_all (len_before 10 z) z far in
+    let passes : AllPass (λ b. not (feeds b)) z = subst (AllPass (λ b. not (feeds b))) all (front_passes (λ b. not (feeds b)) z) in
+    let long : eqb (length z) 0 ≡ false = grind (arith, tests, some) in
+    ap lines_of_parts (no_feed z passes) ∙ ap (λ c. cond c [] (z ∷ [])) long
+
+pub some_length : (z : List ℕ) → (z ≡ [] → ⊥) → 0 < length z
+some_length [] h = absurd (h refl)
+some_length (b ∷ z) h = omega arith
+
+pub some_line : (z : List ℕ) → 0 < length z → (m : List ℕ) × (ms : List (List ℕ)) × (lines z ≡ m ∷ ms)
+some_line z some = by (ltb (len_before 10 z) (length z)) refl
+  where
+    by : (c : Bool) → ltb (len_before 10 z) (length z) ≡ c → (m : List ℕ) × (ms : List (List ℕ)) × (lines z ≡ m ∷ ms)
+    by true e = (strip_carriage_return (take (len_before 10 z) z), lines (drop (len_before 10 z + 1) z), line_cut z (grind (arith, tests)))
+    by false e = (z, [], line_whole z some (grind (arith, tests)))
+
+-- ---- what follows a front
+
+pub behind_both : (z a b y : List ℕ) (o : Option (Bor (List ℕ))) → z ≡ a ++ y → MatchOption o ((r : List ℕ) → y ≢ b ++ r) (λ r. y ≡ b ++ r.now) → MatchOption o ((r : List ℕ) → z ≢ (a ++ b) ++ r) (λ r. z ≡ (a ++ b) ++ r.now)
+behind_both z a b y (Some r) e m = e ∙ (ap (λ x. a ++ x) m ∙ sym (append_assoc a b r.now))
+behind_both z a b y None e m = λ r f. m r (append_cancel_left a y (b ++ r) (sym e ∙ (f ∙ append_assoc a b r)))
+
+pub behind_none : (z a b : List ℕ) → ((r : List ℕ) → z ≢ a ++ r) → (r : List ℕ) → z ≢ (a ++ b) ++ r
+behind_none z a b never r e = never (b ++ r) (e ∙ append_assoc a b r)
+
+-- ---- lines of one kind are of no other
+
+abbrev BeginsLow : List ℕ → Type 0
+BeginsLow [] = ⊥
+BeginsLow (c ∷ cs) = c < 58
+
+still_low : (ds : List ℕ) (c : ℕ) → BeginsLow ds → BeginsLow (ds ++ c ∷ [])
+still_low [] c h = absurd h
+still_low (d ∷ ds) c h = h
+
+decimal_begins_low : (n : ℕ) → n < 2 ^ 64 → BeginsLow (decimal n)
+decimal_begins_low n h = decimal_by_steps (λ n ds. BeginsLow ds) (λ n low. omega arith) (λ n ds high p. still_low ds (48 + n % 10) p) n h
+
+state_no_end : (ds rest : List ℕ) → BeginsLow ds → ends_trace (codes "state " ++ (ds ++ rest)) ≡ false
+state_no_end [] rest low = absurd low
+state_no_end (d ∷ ds) rest low =
+    let k : nat_eq 108 d ≡ false = grind (arith, tests, low) in
+    ap (λ c. ((c && pointwise nat_eq (codes "imit:") (take 5 (ds ++ rest))) || false) || false) k
+
+pub state_no_other : (n : ℕ) (line : List ℕ) (facts : List NamedFact) → n < 2 ^ 64 → IsStateLine n line facts → (is_passed_over line ≡ false) × (ends_trace line ≡ false)
+state_no_other n line facts small s =
+    let all : line ≡ codes "state " ++ (decimal n ++ (codes ":" ++ s.rest)) = s.opening ∙ ap (λ x. codes "state " ++ x) (append_assoc (decimal n) (codes ":") s.rest) in
+    (ap is_passed_over all, ap ends_trace all ∙ state_no_end (decimal n) (codes ":" ++ s.rest) (decimal_begins_low n small))
+
+pub passed_no_end : (line : List ℕ) → is_passed_over line ≡ true → ends_trace line ≡ false
+passed_no_end line e = elim (or_cases _ _ e) [
+  | inl t ↦ (let b = begins_from line (codes "show") t in ap ends_trace b.1)
+  | inr u ↦ elim (or_cases _ _ u) [
+    | inl t ↦ (let b = begins_from line (codes "reductions ") t in ap ends_trace b.1)
+    | inr v ↦ elim (or_cases _ _ v) [
+      | inl t ↦ (let b = begins_from line (codes "residual: ") t in ap ends_trace b.1)
+      | inr none ↦ absurd (cc none)
+    ]
+  ]
+]
+
+-- the line of a state gives one list of facts
+pub state_unique : (n : ℕ) (line : List ℕ) (facts other : List NamedFact) → IsStateLine n line facts → IsStateLine n line other → facts ≡ other
+state_unique n line facts other s t =
+    let rest : s.rest ≡ t.rest = append_cancel_left (state_opening n) s.rest t.rest (sym s.opening ∙ t.opening) in
+    s.given ∙ (ap parts_facts (parts_unique (subst (λ (z : List ℕ). SpellsParts z s.parts) rest s.spelled) t.spelled) ∙ sym t.given)
+
+pub no_parts_there : (n : ℕ) (line rest : List ℕ) → line ≡ state_opening n ++ rest → ((ps : List TracePart) → ¬ SpellsParts rest ps) → (facts : List NamedFact) → ¬ IsStateLine n line facts
+no_parts_there n line rest e never facts s =
+    let same : s.rest ≡ rest = append_cancel_left (state_opening n) s.rest rest (sym s.opening ∙ e) in
+    never s.parts (subst (λ (z : List ℕ). SpellsParts z s.parts) same s.spelled)
+
+pub clash_there : (n : ℕ) (line rest : List ℕ) (ps : List TracePart) → line ≡ state_opening n ++ rest → SpellsParts rest ps → have_clash (parts_facts ps) ≡ true → (facts : List NamedFact) → ¬ IsStateLine n line facts
+clash_there n line rest ps e spelled clash facts s =
+    let same : s.rest ≡ rest = append_cancel_left (state_opening n) s.rest rest (sym s.opening ∙ e) in
+    let parts : s.parts ≡ ps = parts_unique (subst (λ (z : List ℕ). SpellsParts z s.parts) same s.spelled) spelled in
+    let bad : have_clash facts ≡ true = ap have_clash s.given ∙ (ap (λ qs. have_clash (parts_facts qs)) parts ∙ clash) in
+    let good = s.no_clash in
+    cc (sym bad ∙ good)

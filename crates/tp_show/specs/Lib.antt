@@ -1,0 +1,13 @@
+pub mod Parts
+pub mod Read
+pub mod Texts
+pub mod Line
+pub mod LineExamples
+pub mod EndLine
+pub mod Told
+pub mod TraceFacts
+pub mod TraceLine
+pub mod Trace
+pub mod TraceReading
+pub mod TraceFiling
+pub mod TraceLaws

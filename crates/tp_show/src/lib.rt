@@ -1,0 +1,25 @@
+//! How the states of a run and its end are told: pictures of states, answers of runs, and their texts; and traces, read back from texts.
+#![tactic(auto)]
+
+mod clash;
+mod end_line;
+mod laws;
+mod line;
+mod parts;
+mod text;
+mod trace;
+mod trace_facts;
+mod trace_laws;
+mod trace_line;
+mod trace_part;
+mod trace_path;
+mod turn;
+
+pub use end_line::end_text;
+pub use laws::{end_line_examples, line_examples, text_shows_states, texts_tell};
+pub use line::picture_text;
+pub use parts::{LinePart, LineParts, known_parts};
+pub use tp_scene::{Cell, Clash};
+pub use trace::{NamedFact, Trace, TraceRefusal, TraceState, read_trace};
+pub use trace_laws::traces_are_read_once;
+pub use turn::{Picture, Turn};
