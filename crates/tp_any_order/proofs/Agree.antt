@@ -10,10 +10,11 @@ use Rattle.tp_scene.specs.Rest.{Settled, waiting, end_open, ends, goes, settled,
 use Rattle.tp_scene.specs.StandsFor.{first_moment}
 use Rattle.tp_scene.specs.Replay as replay
 use Rattle.tp_scene.specs.Replay.{Closes}
-use Rattle.tp_run.specs.declared.turn.Picture.{Picture}
-use Rattle.tp_run.specs.declared.turn.Turn.{Turn}
-use Rattle.tp_run.specs.declared.turn.Turn.TheVariants.{Went, Finished, Contradictory, Undetermined, StateLimit, InputMissing, Over}
+use Rattle.tp_show.specs.declared.turn.Picture.{Picture}
+use Rattle.tp_show.specs.declared.turn.Turn.{Turn}
+use Rattle.tp_show.specs.declared.turn.Turn.TheVariants.{Went, Finished, Contradictory, Undetermined, StateLimit, InputMissing, Over}
 use Rattle.tp_run.specs.History.{RunEndsWith}
+use Rattle.tp_store.specs.Known.{Contents}
 use Rattle.tp_run.specs.States.{Plan, setting, IsPictureOf, StateGoesOn, StateEnds, StatesLead, LeadsTo, Standing, StateBecomes, ReachesLimit}
 use Rattle.tp_renaming.specs.Renaming.{renamed_cell}
 use Rattle.tp_renaming.specs.Alike.{Alike, SettlesAlike}
@@ -252,14 +253,14 @@ module _ (plan : Plan) where
       tail_of p (InputMissing state port) = []
       tail_of p (Over state l) = []
 
-      becomes : (old new : Picture) (standing : Standing) (turn : Turn) → StateBecomes plan n m old new standing turn → ((turn ≡ Went) × ((next : Moment) × StateGoesOn plan n m new next)) ⊎ EndsAt n m (tail_of new turn) turn
-      becomes old new standing Went h = inl (refl, (h.0, h.1))
-      becomes old new standing (Finished k) h = inr (new, refl, h.0, h.1)
-      becomes old new standing (Contradictory state clash) h = inr (refl, h.0, h.1, h.2)
-      becomes old new standing (Undetermined state cell) h = inr (refl, h.0, h.1, h.2)
-      becomes old new standing (StateLimit states) h = inr (refl, h.1, h.0)
-      becomes old new standing (InputMissing state port) h = inr (refl, h.0, h.1, h.2)
-      becomes old new standing (Over state l) h = inr (refl, h.0, h.1, h.2)
+      becomes : (old new : Picture) (standing : Standing) (store : Contents) (turn : Turn) → StateBecomes plan n m old new standing store turn → ((turn ≡ Went) × ((next : Moment) × StateGoesOn plan n m new next)) ⊎ EndsAt n m (tail_of new turn) turn
+      becomes old new standing store Went h = inl (refl, (h.0, h.1))
+      becomes old new standing store (Finished k) h = inr (new, refl, h.0, h.1)
+      becomes old new standing store (Contradictory state clash) h = inr (refl, h.0, h.1, h.2)
+      becomes old new standing store (Undetermined state cell) h = inr (refl, h.0, h.1, h.2)
+      becomes old new standing store (StateLimit states) h = inr (refl, h.1, h.0)
+      becomes old new standing store (InputMissing state port) h = inr (refl, h.0, h.1, h.2)
+      becomes old new standing store (Over state l) h = inr (refl, h.0, h.1, h.2)
 
       same : Alike (length kinds) m m
       same = itself n m om
@@ -275,15 +276,15 @@ module _ (plan : Plan) where
 
       state_agrees : StateAgrees plan n m
       state_agrees = record {
-        goes = λ p after g old new standing turn b. elim (becomes old new standing turn b) [
+        goes = λ p after g old new standing store turn b. elim (becomes old new standing store turn b) [
           | inl x ↦ (x.0, same_picture n m m om om same g.picks g.last x.1.1.picks x.1.1.last g.goes.closes x.1.1.goes.closes p new g.picture_is x.1.1.picture_is)
           | inr x ↦ absurd (cant_go n m m om om same (tail_of new turn) turn x p after g)
         ];
-        ends = λ p x old new standing turn b. elim (becomes old new standing turn b) [
+        ends = λ p x old new standing store turn b. elim (becomes old new standing store turn b) [
           | inl y ↦ absurd (cant_go n m m om om same (p ∷ []) (Finished n) (p, refl, x, refl) new y.1.0 y.1.1)
           | inr y ↦ (let r = finishes n m m om om same (p ∷ []) n (p, refl, x, refl) (tail_of new turn) turn y in (r.1, first_of p new turn r.1 r.0))
         ];
-        is_open = λ cell l x old new standing turn b. elim (becomes old new standing turn b) [
+        is_open = λ cell l x old new standing store turn b. elim (becomes old new standing store turn b) [
           | inl y ↦ absurd (cant_go n m m om om same [] (Undetermined n cell) (refl, x, refl, l) new y.1.0 y.1.1)
           | inr y ↦ (opens n m m om om same [] n cell (refl, x, refl, l) (tail_of new turn) turn y).1
         ];

@@ -2,12 +2,13 @@
 use Rattle.std.specs.Prelude.{◌≡◌, ℕ, ◌<◌, List, [], ◌∷◌, length}
 use Rattle.tp_meaning.specs.Fits.{ProgramFits}
 use Rattle.tp_decide.specs.Read.{shows_of}
+use Rattle.tp_store.specs.Known.{Contents}
 use Rattle.tp_scene.specs.declared.answer.Cell.{Cell}
 use Rattle.tp_scene.specs.Pick.{Moment}
 use Rattle.tp_scene.specs.Replay as replay
-use Rattle.tp_run.specs.declared.turn.Picture.{Picture}
-use Rattle.tp_run.specs.declared.turn.Turn.{Turn}
-use Rattle.tp_run.specs.declared.turn.Turn.TheVariants.{Went, Finished, Contradictory, Undetermined, StateLimit, InputMissing, Over}
+use Rattle.tp_show.specs.declared.turn.Picture.{Picture}
+use Rattle.tp_show.specs.declared.turn.Turn.{Turn}
+use Rattle.tp_show.specs.declared.turn.Turn.TheVariants.{Went, Finished, Contradictory, Undetermined, StateLimit, InputMissing, Over}
 use Rattle.tp_run.specs.History.{RunEndsWith}
 use Rattle.tp_run.specs.States.{Plan, globals_of, setting, StateGoesOn, StateEnds, LeadsTo, Standing, StateBecomes}
 use Rattle.tp_growth.specs.Within.{InputsWithin}
@@ -69,17 +70,17 @@ RunsAgree plan = IsOrderlyPlan plan → (ps : List Picture) (turn : Turn) → Ru
 -- that: it finishes where it can.
 pub record StateAgrees (plan : Plan) (n : ℕ) (m : Moment) : Type 0 where
   pub goes : (p : Picture) (after : Moment) → StateGoesOn plan n m p after
-      → (old new : Picture) (standing : Standing) (turn : Turn)
-      → StateBecomes plan n m old new standing turn
+      → (old new : Picture) (standing : Standing) (store : Contents) (turn : Turn)
+      → StateBecomes plan n m old new standing store turn
       → (turn ≡ Went) × SamePicture p new
   pub ends : (p : Picture) → StateEnds plan n m p
-      → (old new : Picture) (standing : Standing) (turn : Turn)
-      → StateBecomes plan n m old new standing turn
+      → (old new : Picture) (standing : Standing) (store : Contents) (turn : Turn)
+      → StateBecomes plan n m old new standing store turn
       → (turn ≡ Finished n) × SamePicture p new
   pub is_open : (cell : Cell) → n < plan.states
       → replay.IsOpen (setting plan n) plan.reductions m cell
-      → (old new : Picture) (standing : Standing) (turn : Turn)
-      → StateBecomes plan n m old new standing turn
+      → (old new : Picture) (standing : Standing) (store : Contents) (turn : Turn)
+      → StateBecomes plan n m old new standing store turn
       → (d : Cell) × (turn ≡ Undetermined n d) × SameCell (globals_of plan) cell d
 
 -- Each state of a run does so.

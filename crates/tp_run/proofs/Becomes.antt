@@ -30,10 +30,10 @@ use Rattle.tp_run.specs.declared.run.Run.{Run}
 use Rattle.tp_run.specs.declared.run.Settings.{Settings}
 use Rattle.tp_run.specs.declared.run.Stand.{Stand}
 use Rattle.tp_run.specs.declared.run.Stand.TheVariants.{Open, Answered, Spent}
-use Rattle.tp_run.specs.declared.turn.Picture.{Picture}
-use Rattle.tp_run.specs.declared.turn.Turn.{Turn}
-use Rattle.tp_run.specs.declared.turn.Turn.TheVariants.{Went, Finished, Contradictory, Undetermined, StateLimit, InputMissing, Over}
-use Rattle.tp_run.specs.States.{Plan, globals_of, setting, IsPictureOf, StateGoesOn, StateEnds, Standing, open_at, answered, ReachesLimit, limit_moment, state_after, StateBecomes, StoreBecomes}
+use Rattle.tp_show.specs.declared.turn.Picture.{Picture}
+use Rattle.tp_show.specs.declared.turn.Turn.{Turn}
+use Rattle.tp_show.specs.declared.turn.Turn.TheVariants.{Went, Finished, Contradictory, Undetermined, StateLimit, InputMissing, Over}
+use Rattle.tp_run.specs.States.{Plan, globals_of, setting, IsPictureOf, StateGoesOn, StateEnds, Standing, open_at, answered, ReachesLimit, limit_moment, state_after, StateBecomes}
 use Rattle.tp_run.specs.Meaning.{StandingFor, StandsForItsProgram, AgreesWithFacts, AnswerMeans}
 use Rattle.tp_run.specs.Runs.{stands_at, standing_of, StandIsKept, StandIsOf, CellIsOf, TurnIsOf, MadeIsOf, StandsSound, IsSettingsOf, IsRunOf, HasPicture, NextOf, RestTurns}
 use Rattle.tp_run.proofs.StatesMean.{leads_sound, leads_keep, goes_on_says, ends_here_says, next_sound}
@@ -138,7 +138,7 @@ module _ (plan : Plan) (n : ℕ) (m last : Moment) (before after : List ℕ) whe
     counted = count ∙ ap (λ (xs : List ℕ). length xs) (comes.made.appended ∙ ap (λ (xs : List ℕ). xs ++ comes.made.picks) first)
 
     pictured : (picture : Picture) → HasPicture (globals_of plan) n reductions last picture → IsPictureOf plan n comes.made.picks last picture
-    pictured picture h = record { state = h.state; facts = h.facts; shows = h.shows; reductions = h.reductions_are ∙ counted }
+    pictured picture h = record { state = h.state; facts = h.facts; parts = h.parts; shows = h.shows; reductions = h.reductions_are ∙ counted }
 
     went_on : (new : Picture) (next : Moment) → settled last.scene ≡ goes → HasPicture (globals_of plan) n reductions last new → NextOf last next → StateGoesOn plan n m new next
     went_on new next settles picture on = record {
@@ -161,24 +161,15 @@ module _ (plan : Plan) (n : ℕ) (m last : Moment) (before after : List ℕ) whe
       abbrev pub Rests : Turn → Type 0
       Rests turn = RestTurns (setting plan n) (globals_of plan) reductions last old new standing store turn
 
-      pub rest_becomes : (turn : Turn) → Rests turn → StateBecomes plan n m old new standing turn
-      rest_becomes Went r = (r.2.0, went_on new r.2.0 r.0 r.1 r.2.1, r.2.2)
-      rest_becomes (Finished length) r = (ended_here new r.0 r.1, r.2, r.3)
-      rest_becomes (Undetermined state cell) r = (is_open cell r.0, r.1, within, r.2, r.3)
+      pub rest_becomes : (turn : Turn) → Rests turn → StateBecomes plan n m old new standing store turn
+      unfolding ended_here is_open
+      rest_becomes Went r = (r.2.0, went_on new r.2.0 r.0 r.1 r.2.1, r.2.2, r.2.3)
+      rest_becomes (Finished length) r = (ended_here new r.0 r.1, r.2, r.3, r.4)
+      rest_becomes (Undetermined state cell) r = (is_open cell r.0, r.1, within, r.2, r.3, r.4)
       rest_becomes (Contradictory state clash) r = absurd r
       rest_becomes (StateLimit states) r = absurd r
       rest_becomes (InputMissing state port) r = absurd r
       rest_becomes (Over state limit) r = absurd r
-
-      pub rest_stores : (turn : Turn) → Rests turn → StoreBecomes plan n m new store turn
-      unfolding ended_here is_open
-      rest_stores Went r = (r.2.0, went_on new r.2.0 r.0 r.1 r.2.1, r.2.3)
-      rest_stores (Finished length) r = (ended_here new r.0 r.1, r.4)
-      rest_stores (Undetermined state cell) r = (is_open cell r.0, r.4)
-      rest_stores (Contradictory state clash) r = absurd r
-      rest_stores (StateLimit states) r = absurd r
-      rest_stores (InputMissing state port) r = absurd r
-      rest_stores (Over state limit) r = absurd r
 
 -- the same with settings of the plan, with which the closure was read
 module _ (plan : Plan) (settings : Settings) (is : IsSettingsOf plan settings) (most : settings.setting.state ≤ settings.limits.states) (more : settings.setting.state ≡ settings.limits.states → ⊥) (m last : Moment) (before after : List ℕ) (found : Ending)
@@ -206,41 +197,35 @@ module _ (plan : Plan) (settings : Settings) (is : IsSettingsOf plan settings) (
         subst (λ k. RestTurns (setting plan n) k reductions last old new standing store turn) is.globals
         (subst (λ (w : Setting). RestTurns w settings.globals reductions last old new standing store turn) (same_setting plan settings is) h)
 
-    pub run_rests : StateBecomes plan n m old new standing turn
+    pub run_rests : StateBecomes plan n m old new standing store turn
     run_rests = rest_becomes plan n m last before after state_within reductions first count (comes_to ending.Rest e) old new standing store turn turns
 
-    pub run_rests_store : StoreBecomes plan n m new store turn
-    run_rests_store = rest_stores plan n m last before after state_within reductions first count (comes_to ending.Rest e) old new standing store turn turns
+  -- where the closure ends before the state is at rest
+  module _ (old : Picture) (standing : Standing) (turn : Turn) where
+    abbrev Stops : Turn → Type 0
+    Stops t = StateBecomes plan n m old old standing last.store t
 
-  pub run_reaches : (kinds : List Bool) → IsSound (setting_of settings.setting) kinds last → (k : LimitKind) (old : Picture) (standing : Standing) (turn : Turn) → found ≡ ending.Over k → standing ≡ answered (Over n k) → turn ≡ Over n k → StateBecomes plan n m old old standing turn
-  run_reaches kinds sound k old standing turn e stand turn_is =
-      subst (λ (t : Turn). StateBecomes plan n m old old standing t) (sym turn_is)
-      ((limit_reached plan n m last before after kinds (read_so kinds sound) k (comes_to (ending.Over k) e)).0, refl, state_within, refl, stand)
+    pub run_reaches : (kinds : List Bool) → IsSound (setting_of settings.setting) kinds last → (k : LimitKind) → found ≡ ending.Over k → standing ≡ answered (Over n k) → turn ≡ Over n k → Stops turn
+    run_reaches kinds sound k e stand turn_is =
+        let reached = limit_reached plan n m last before after kinds (read_so kinds sound) k (comes_to (ending.Over k) e) in
+        subst Stops (sym turn_is) (reached.0, refl, state_within, refl, stand, ap (λ (z : Moment). z.store) (sym reached.1))
+
+    pub run_clashes : (clash : Clash) → found ≡ ending.Clash clash → standing ≡ answered (Contradictory n clash) → turn ≡ Contradictory n clash → Stops turn
+    unfolding clash_met
+    run_clashes clash e stand turn_is = subst Stops (sym turn_is) (clash_met plan n m last before after clash (comes_to (ending.Clash clash) e), refl, state_within, refl, stand, refl)
+
+    pub run_misses : (port : List ℕ) → found ≡ ending.Missing port → standing ≡ answered (InputMissing n port) → turn ≡ InputMissing n port → Stops turn
+    unfolding input_missed
+    run_misses port e stand turn_is = subst Stops (sym turn_is) (input_missed plan n m last before after port (comes_to (ending.Missing port) e), refl, state_within, refl, stand, refl)
 
   -- a clash is one of variables of the store
   pub run_clashes_named : (kinds : List Bool) → IsSound (setting_of settings.setting) kinds last → (clash : Clash) → found ≡ ending.Clash clash → TurnIsOf last.store.variables (Contradictory n clash)
   run_clashes_named kinds sound clash e =
       let comes = comes_to (ending.Clash clash) e in clash_is_of (setting plan n) kinds last (read_so kinds sound) comes.ends.0 clash comes.ends.2
 
-  -- what the store holds where the closure ends before the state is at rest
-  pub run_clashes_store : (clash : Clash) (picture : Picture) (turn : Turn) → found ≡ ending.Clash clash → turn ≡ Contradictory n clash → StoreBecomes plan n m picture last.store turn
-  unfolding clash_met
-  run_clashes_store clash picture turn e turn_is =
-      subst (λ (t : Turn). StoreBecomes plan n m picture last.store t) (sym turn_is) (clash_met plan n m last before after clash (comes_to (ending.Clash clash) e), refl)
-
-  pub run_misses_store : (port : List ℕ) (picture : Picture) (turn : Turn) → found ≡ ending.Missing port → turn ≡ InputMissing n port → StoreBecomes plan n m picture last.store turn
-  unfolding input_missed
-  run_misses_store port picture turn e turn_is =
-      subst (λ (t : Turn). StoreBecomes plan n m picture last.store t) (sym turn_is) (input_missed plan n m last before after port (comes_to (ending.Missing port) e), refl)
-
-  pub run_reaches_store : (kinds : List Bool) → IsSound (setting_of settings.setting) kinds last → (k : LimitKind) (picture : Picture) (turn : Turn) → found ≡ ending.Over k → turn ≡ Over n k → StoreBecomes plan n m picture last.store turn
-  run_reaches_store kinds sound k picture turn e turn_is =
-      let reached = limit_reached plan n m last before after kinds (read_so kinds sound) k (comes_to (ending.Over k) e) in
-      subst (λ (t : Turn). StoreBecomes plan n m picture last.store t) (sym turn_is) (reached.0, ap (λ (z : Moment). z.store) (sym reached.1))
-
-module _ (plan : Plan) (n : ℕ) (m : Moment) (old new : Picture) (standing : Standing) (sound : IsSound (setting plan n) (kinds_of plan.program.globals) m) where
+module _ (plan : Plan) (n : ℕ) (m : Moment) (old new : Picture) (standing : Standing) (store : Contents) (sound : IsSound (setting plan n) (kinds_of plan.program.globals) m) where
   abbrev Becomes : Turn → Type 0
-  Becomes turn = StateBecomes plan n m old new standing turn
+  Becomes turn = StateBecomes plan n m old new standing store turn
 
   went_means : Becomes Went → AnswerMeans plan n (open_at m) standing new Went
   went_means w s a b S static own =
@@ -335,14 +320,14 @@ given_back_run plan run defs left h e =
 
 -- what the answer for a state leaves
 module _ (plan : Plan) (run : Run) (is_run : IsRunOf plan run) (m : Moment) (opened : open_at m ≡ standing_of run) (old new : Picture) (store : Contents) (stand : Stand) (turn : Turn)
-    (becomes : StateBecomes plan run.settings.setting.state m old new (stands_at stand store) turn) where
+    (becomes : StateBecomes plan run.settings.setting.state m old new (stands_at stand store) store turn) where
   sound_here : IsSound (setting plan run.settings.setting.state) (kinds_of plan.program.globals) m
   sound_here = sound_at plan run m is_run opened
 
   pub answer_means : AnswerMeans plan run.settings.setting.state (standing_of run) (stands_at stand store) new turn
-  answer_means = subst (λ (z : Standing). AnswerMeans plan run.settings.setting.state z (stands_at stand store) new turn) opened (becomes_means plan run.settings.setting.state m old new (stands_at stand store) sound_here turn becomes)
+  answer_means = subst (λ (z : Standing). AnswerMeans plan run.settings.setting.state z (stands_at stand store) new turn) opened (becomes_means plan run.settings.setting.state m old new (stands_at stand store) store sound_here turn becomes)
 
   pub run_kept : (next : ℕ) → next ≡ state_after run.settings.setting.state turn → StandIsKept stand → StandIsOf store.variables stand → IsRunOf plan (moved run next store stand)
   run_kept next e kept named =
-      let on = becomes_sound plan run.settings.setting.state m old new (stands_at stand store) sound_here turn becomes in
+      let on = becomes_sound plan run.settings.setting.state m old new (stands_at stand store) store sound_here turn becomes in
       with_stand plan run next store stand is_run (subst (λ k. k ≤ plan.states) (sym e) on.within) (subst (λ k. StandsSound plan k (stands_at stand store)) (sym e) on.stands) kept named

@@ -17,11 +17,11 @@ use Rattle.tp_scene.specs.Pick.{Moment, Leads}
 use Rattle.tp_scene.specs.StandsFor.{StandsFor, first_moment, context_of}
 use Rattle.tp_scene.specs.Laws.{IsSound, RefusalsStandForNone, RunsBegin}
 use Rattle.tp_scene.specs.Replay as replay
-use Rattle.tp_run.specs.declared.turn.Picture.{Picture}
-use Rattle.tp_run.specs.declared.turn.Turn.{Turn}
-use Rattle.tp_run.specs.declared.turn.Turn.TheVariants.{Went, Finished, Contradictory, Undetermined, StateLimit, InputMissing, Over}
-use Rattle.tp_run.specs.States.{Plan, globals_of, setting, StateGoesOn, StatesLead, LeadsTo, Standing, open_at, ReachesLimit, limit_moment, AnswersState, LeavesStore}
-use Rattle.tp_run.specs.History.{FinishesAt, RunEndsWith, AgreesWithPictures, shown_from, SatisfiedExactly, Satisfiable, Unsatisfiable, ContinuesEach, EndOfRunMeans, Advances, EndsHolding, RunsAdvance}
+use Rattle.tp_show.specs.declared.turn.Picture.{Picture}
+use Rattle.tp_show.specs.declared.turn.Turn.{Turn}
+use Rattle.tp_show.specs.declared.turn.Turn.TheVariants.{Went, Finished, Contradictory, Undetermined, StateLimit, InputMissing, Over}
+use Rattle.tp_run.specs.States.{Plan, globals_of, setting, StateGoesOn, StatesLead, LeadsTo, RunPlace, ReachesLimit, limit_moment, state_after, StateBecomes}
+use Rattle.tp_run.specs.History.{FinishesAt, RunEndsWith, AgreesWithPictures, shown_from, SatisfiedExactly, Satisfiable, Unsatisfiable, ContinuesEach, EndOfRunMeans, Advances, RunsAdvance}
 use Rattle.tp_run.proofs.StatesMean.{SceneLaws, leads_sound, leads_keep, lead_sound, states_say, ends_here_says, picture_agrees}
 use Rattle.tp_scene.proofs.Quiet.{says_quiet}
 use Rattle.tp_run.proofs.Lives.{StateLaws, lives, Agree, agree_at, agrees_with_less, below_keeps, picks_keep}
@@ -173,23 +173,6 @@ lead_more plan n r [] m k p next e h g =
     (next, subst (λ i. StateGoesOn plan i r p next) here (subst (λ (z : Moment). StateGoesOn plan k z p next) h g), refl)
 lead_more plan n r (q ∷ ps) m k p next e h g = (h.0, h.1, lead_more plan (suc n) h.0 ps m k p next (omega (arith, e)) h.2 g)
 
-advance_by : (plan : Plan) (ps : List Picture) (m : Moment) → LeadsTo plan ps m → (old new : Picture) (standing : Standing) (next : ℕ) (turn : Turn)
-    → AnswersState plan (open_at m) (length ps) old new standing next turn → Advances plan ps old new standing next turn
-advance_by plan ps m leads old new standing next Went w =
-    let g = w.0.1 in
-    (w.0.0, w.0.2, lead_more plan 0 (first_moment plan.program.globals plan.program.main) ps m (length ps) new w.0.0 (omega arith) leads g, w.1 ∙ omega (arith, length-append ps (new ∷ [])), g.picture_is.state)
-advance_by plan ps m leads old new standing next (Finished n) w =
-    (record { before = ps; final = new; moment = m; pictures = refl; leads = leads; ends = w.0.0; count = w.0.1 }, w.0.0.picture_is.state)
-advance_by plan ps m leads old new standing next (Contradictory state clash) w =
-    let e = w.0.1 in ((m, leads, subst (λ i. replay.MeetsClash (setting plan i) plan.reductions m clash) (sym e) w.0.0, e, subst (λ i. i < plan.states) (sym e) w.0.2), w.0.3)
-advance_by plan ps m leads old new standing next (Undetermined state cell) w =
-    let e = w.0.1 in ((m, leads, subst (λ i. replay.IsOpen (setting plan i) plan.reductions m cell) (sym e) w.0.0, e, subst (λ i. i < plan.states) (sym e) w.0.2), w.0.3)
-advance_by plan ps m leads old new standing next (StateLimit states) w = ((m, leads, w.0.1, w.0.1 ∙ w.0.0), w.0.2)
-advance_by plan ps m leads old new standing next (InputMissing state port) w =
-    let e = w.0.1 in ((m, leads, subst (λ i. replay.MissesInput (setting plan i) plan.reductions m port) (sym e) w.0.0, e, subst (λ i. i < plan.states) (sym e) w.0.2), w.0.3)
-advance_by plan ps m leads old new standing next (Over state limit) w =
-    let e = w.0.1 in ((m, leads, subst (λ i. ReachesLimit (setting plan i) plan.reductions m limit) (sym e) w.0.0, e, subst (λ i. i < plan.states) (sym e) w.0.2), w.0.3)
-
 -- an end of state n with what it leads to, told of another name of n
 module _ (plan : Plan) (k n : ℕ) (e : k ≡ n) (m : Moment) where
   meets_there : (clash : Clash) (h : replay.MeetsClash (setting plan k) plan.reductions m clash) → (g : replay.MeetsClash (setting plan n) plan.reductions m clash) × (h.last ≡ g.last)
@@ -206,28 +189,37 @@ module _ (plan : Plan) (k n : ℕ) (e : k ≡ n) (m : Moment) where
   reaches_there limit h =
       subst (λ i. (g : ReachesLimit (setting plan i) plan.reductions m limit) × (limit_moment (setting plan k) plan.reductions m limit h ≡ limit_moment (setting plan i) plan.reductions m limit g)) e (h, refl)
 
-holds_by : (plan : Plan) (ps : List Picture) (m : Moment) → LeadsTo plan ps m → (old new : Picture) (standing : Standing) (next : ℕ) (turn : Turn) → AnswersState plan (open_at m) (length ps) old new standing next turn
-    → (before after : Contents) → LeavesStore plan (open_at m) (length ps) new before after turn → EndsHolding plan ps new turn after
-holds_by plan ps m leads old new standing next Went w before after h = tt
-holds_by plan ps m leads old new standing next (Finished n) w before after h =
-    (record { before = ps; final = new; moment = m; pictures = refl; leads = leads; ends = h.0; count = w.0.1 }, h.1)
-holds_by plan ps m leads old new standing next (Contradictory state clash) w before after h =
-    let e = w.0.1 in
-    let g = meets_there plan (length ps) state (sym e) m clash h.0 in
-    ((m, leads, g.0, e, subst (λ i. i < plan.states) (sym e) w.0.2), h.1 ∙ ap (λ (z : Moment). z.store) g.1)
-holds_by plan ps m leads old new standing next (Undetermined state cell) w before after h =
-    let e = w.0.1 in
-    let g = opens_there plan (length ps) state (sym e) m cell h.0 in
-    ((m, leads, g.0, e, subst (λ i. i < plan.states) (sym e) w.0.2), h.1 ∙ ap (λ (z : Moment). z.store) g.1)
-holds_by plan ps m leads old new standing next (StateLimit states) w before after h = ((m, leads, w.0.1, w.0.1 ∙ w.0.0), h)
-holds_by plan ps m leads old new standing next (InputMissing state port) w before after h =
-    let e = w.0.1 in
-    let g = misses_there plan (length ps) state (sym e) m port h.0 in
-    ((m, leads, g.0, e, subst (λ i. i < plan.states) (sym e) w.0.2), h.1 ∙ ap (λ (z : Moment). z.store) g.1)
-holds_by plan ps m leads old new standing next (Over state limit) w before after h =
-    let e = w.0.1 in
-    let g = reaches_there plan (length ps) state (sym e) m limit h.0 in
-    ((m, leads, g.0, e, subst (λ i. i < plan.states) (sym e) w.0.2), h.1 ∙ ap (λ (z : Moment). z.store) g.1)
+-- the store of one moment is that of an equal one
+kept_there : (store : Contents) (a b : Moment) → a ≡ b → store ≡ a.store → store ≡ b.store
+kept_there store a b e h = h ∙ ap (λ (z : Moment). z.store) e
+
+advance_by : (plan : Plan) (ps : List Picture) (m : Moment) → LeadsTo plan ps m → (old new : Picture) (to : RunPlace) (turn : Turn)
+    → StateBecomes plan (length ps) m old new to.standing to.store turn → to.state ≡ state_after (length ps) turn → Advances plan ps old new to turn
+advance_by plan ps m leads old new to Went w next =
+    let g = w.1 in
+    (w.0, w.2, lead_more plan 0 (first_moment plan.program.globals plan.program.main) ps m (length ps) new w.0 (omega arith) leads g, next ∙ omega (arith, length-append ps (new ∷ [])), g.picture_is.state)
+advance_by plan ps m leads old new to (Finished n) w next =
+    (record { before = ps; final = new; moment = m; pictures = refl; leads = leads; ends = w.0; count = w.1 }, w.0.picture_is.state, w.3)
+advance_by plan ps m leads old new to (Contradictory state clash) w next =
+    let e = w.1 in
+    let g = meets_there plan (length ps) state (sym e) m clash w.0 in
+    ((m, leads, g.0, e, subst (λ i. i < plan.states) (sym e) w.2), w.3, kept_there to.store w.0.last g.0.last g.1 w.5)
+advance_by plan ps m leads old new to (Undetermined state cell) w next =
+    let e = w.1 in
+    let g = opens_there plan (length ps) state (sym e) m cell w.0 in
+    ((m, leads, g.0, e, subst (λ i. i < plan.states) (sym e) w.2), w.3, kept_there to.store w.0.last g.0.last g.1 w.5)
+advance_by plan ps m leads old new to (StateLimit states) w next = ((m, leads, w.1, w.1 ∙ w.0), w.2, w.4)
+advance_by plan ps m leads old new to (InputMissing state port) w next =
+    let e = w.1 in
+    let g = misses_there plan (length ps) state (sym e) m port w.0 in
+    ((m, leads, g.0, e, subst (λ i. i < plan.states) (sym e) w.2), w.3, kept_there to.store w.0.last g.0.last g.1 w.5)
+advance_by plan ps m leads old new to (Over state limit) w next =
+    let e = w.1 in
+    let g = reaches_there plan (length ps) state (sym e) m limit w.0 in (
+      (m, leads, g.0, e, subst (λ i. i < plan.states) (sym e) w.2),
+      w.3,
+      kept_there to.store (limit_moment (setting plan (length ps)) plan.reductions m limit w.0) (limit_moment (setting plan state) plan.reductions m limit g.0) g.1 w.5,
+    )
 
 pub runs_advance : (plan : Plan) → RunsAdvance plan
-runs_advance plan = record { begins = refl; goes_on = advance_by plan; holds = holds_by plan }
+runs_advance plan = record { begins = refl; goes_on = advance_by plan }

@@ -4,6 +4,6 @@ pub mod HistoryLemmas
 pub mod Given
 pub mod KnownValues
 pub mod KnownItems
-pub mod FactOrder
+pub mod GlobalFacts
 pub mod Becomes
 pub mod Stores

@@ -15,7 +15,7 @@ use Rattle.tp_scene.specs.Advance.{advanced, shown_in}
 use Rattle.tp_scene.specs.StandsFor.{StandsFor}
 use Rattle.tp_scene.specs.Laws.{IsSound, StepsKeep, StoreGoesOn as GoesOnTo, AdvancesKeep, EndsStand}
 use Rattle.tp_meaning.proofs.Shows.{join-assoc as join_assoc}
-use Rattle.tp_run.specs.declared.turn.Picture.{Picture}
+use Rattle.tp_show.specs.declared.turn.Picture.{Picture}
 use Rattle.tp_run.specs.States.{Plan, globals_of, setting, AreGlobals, StateGoesOn, StateEnds, StatesLead}
 use Rattle.tp_run.specs.Meaning.{AgreesWithFacts}
 use Rattle.tp_run.specs.History.{AgreesWithPictures, shown_from}

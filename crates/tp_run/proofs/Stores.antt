@@ -7,11 +7,12 @@ use Rattle.tp_step.specs.Answers.{moment_of}
 use Rattle.tp_run.specs.declared.run.Run.{Run}
 use Rattle.tp_run.specs.declared.run.Stand.{Stand}
 use Rattle.tp_run.specs.declared.run.Stand.TheVariants.{Open, Answered, Spent}
-use Rattle.tp_run.specs.declared.turn.Picture.{Picture}
-use Rattle.tp_run.specs.declared.turn.Turn.{Turn}
-use Rattle.tp_run.specs.declared.turn.Turn.TheVariants.{Went, Finished, Contradictory, Undetermined, StateLimit, InputMissing, Over}
+use Rattle.tp_show.specs.declared.turn.Picture.{Picture}
+use Rattle.tp_show.specs.declared.turn.Turn.{Turn}
+use Rattle.tp_show.specs.declared.turn.Turn.TheVariants.{Went, Finished, Contradictory, Undetermined, StateLimit, InputMissing, Over}
 use Rattle.tp_kernel.specs.declared.formula.LimitKind.TheVariants as kind
-use Rattle.tp_run.specs.States.{Plan, setting, Standing, open_at, StoreBecomes, LeavesStore}
+use Rattle.tp_kernel.specs.declared.formula.LimitKind.{LimitKind}
+use Rattle.tp_run.specs.States.{Plan, setting, Standing, open_at, ReachesLimit, limit_moment, StateBecomes}
 use Rattle.tp_run.specs.Runs.{stands_at, standing_of, HasFirst}
 
 -- where a run stands before a state, its store is what the state begins with
@@ -36,34 +37,34 @@ picks_make_more w [] m last h = first_all m.store.variables last.store.variables
 picks_make_more w (t ∷ ts) m last h =
     first_on m.store.variables h.1.store.variables last.store.variables (first_local h.0.local m.store.variables h.1.store.variables h.2.store.variables) (picks_make_more w ts h.1 last h.3)
 
-module _ (plan : Plan) (n : ℕ) (m : Moment) (picture : Picture) (store : Contents) where
+module _ (plan : Plan) (n : ℕ) (m : Moment) (old new : Picture) (standing : Standing) (store : Contents) where
   led : (picks : List ℕ) (last : Moment) → Leads (setting plan n) m picks last → store ≡ last.store → HasFirst m.store.variables store.variables
   led picks last leads e = subst (λ (k : Contents). HasFirst m.store.variables k.variables) (sym e) (picks_make_more (setting plan n) picks m last leads)
 
-  pub first_stay : (turn : Turn) → StoreBecomes plan n m picture store turn → HasFirst m.store.variables store.variables
+  reached : (k : LimitKind) (end : ReachesLimit (setting plan n) plan.reductions m k) → store ≡ (limit_moment (setting plan n) plan.reductions m k end).store → HasFirst m.store.variables store.variables
+  reached kind.Reductions end e = led end.picks end.last end.leads e
+  reached kind.Number end e = led end.picks end.last end.leads e
+  reached kind.List end e = led end.picks end.last end.leads e
+  reached kind.Calls end e = led end.picks end.last end.leads e
+  reached kind.Nest end e = led end.picks end.last end.leads e
+
+  pub first_stay : (turn : Turn) → StateBecomes plan n m old new standing store turn → HasFirst m.store.variables store.variables
   first_stay Went h =
       let more = picks_make_more (setting plan n) h.1.picks m h.1.last h.1.goes.closes.leads in
-      first_on m.store.variables h.1.last.store.variables store.variables more (first_all h.1.last.store.variables store.variables (ap (λ (k : Contents). k.variables) h.2 ∙ h.1.goes.store.variables))
-  first_stay (Finished length) h = led h.0.picks h.0.last h.0.ends.closes.leads h.1
-  first_stay (Contradictory state clash) h = led h.0.picks h.0.last h.0.leads h.1
-  first_stay (Undetermined state cell) h = led h.0.picks h.0.last h.0.closes.leads h.1
-  first_stay (StateLimit states) h = first_all m.store.variables store.variables (ap (λ (k : Contents). k.variables) h)
-  first_stay (InputMissing state port) h = led h.0.picks h.0.last h.0.leads h.1
-  first_stay (Over state kind.Reductions) h = led h.0.picks h.0.last h.0.leads h.1
-  first_stay (Over state kind.Number) h = led h.0.picks h.0.last h.0.leads h.1
-  first_stay (Over state kind.List) h = led h.0.picks h.0.last h.0.leads h.1
-  first_stay (Over state kind.Calls) h = led h.0.picks h.0.last h.0.leads h.1
-  first_stay (Over state kind.Nest) h = led h.0.picks h.0.last h.0.leads h.1
+      first_on m.store.variables h.1.last.store.variables store.variables more (first_all h.1.last.store.variables store.variables (ap (λ (k : Contents). k.variables) h.3 ∙ h.1.goes.store.variables))
+  first_stay (Finished length) h = led h.0.picks h.0.last h.0.ends.closes.leads h.3
+  first_stay (Contradictory state clash) h = led h.0.picks h.0.last h.0.leads h.5
+  first_stay (Undetermined state cell) h = led h.0.picks h.0.last h.0.closes.leads h.5
+  first_stay (StateLimit states) h = first_all m.store.variables store.variables (ap (λ (k : Contents). k.variables) h.4)
+  first_stay (InputMissing state port) h = led h.0.picks h.0.last h.0.leads h.5
+  first_stay (Over state limit) h = reached limit h.0 h.5
 
 -- a store that stays
 pub all_stay : (k : Contents) → HasFirst k.variables k.variables
 all_stay k = first_all k.variables k.variables refl
 
 -- the same of a run that stood before this state
-module _ (plan : Plan) (run : Run) (m : Moment) (opened : open_at m ≡ standing_of run) (same : m.store ≡ run.store) (picture : Picture) (store : Contents) (turn : Turn)
-    (becomes : StoreBecomes plan run.settings.setting.state m picture store turn) where
-  pub leaves_store : LeavesStore plan (standing_of run) run.settings.setting.state picture run.store store turn
-  leaves_store = subst (λ (z : Standing). LeavesStore plan z run.settings.setting.state picture run.store store turn) opened becomes
-
+module _ (plan : Plan) (run : Run) (m : Moment) (same : m.store ≡ run.store) (old new : Picture) (standing : Standing) (store : Contents) (turn : Turn)
+    (becomes : StateBecomes plan run.settings.setting.state m old new standing store turn) where
   pub leaves_variables : HasFirst run.store.variables store.variables
-  leaves_variables = subst (λ (k : Contents). HasFirst k.variables store.variables) same (first_stay plan run.settings.setting.state m picture store turn becomes)
+  leaves_variables = subst (λ (k : Contents). HasFirst k.variables store.variables) same (first_stay plan run.settings.setting.state m old new standing store turn becomes)

@@ -8,10 +8,10 @@ use Rattle.tp_decide.specs.Read.{shows_of}
 use Rattle.tp_scene.specs.Pick.{Moment}
 use Rattle.tp_scene.specs.StandsFor.{first_moment}
 use Rattle.tp_scene.specs.Replay as replay
-use Rattle.tp_run.specs.declared.turn.Picture.{Picture}
-use Rattle.tp_run.specs.declared.turn.Turn.{Turn}
-use Rattle.tp_run.specs.declared.turn.Turn.TheVariants.{Went, Finished, Contradictory, Undetermined, StateLimit, InputMissing, Over}
-use Rattle.tp_run.specs.States.{Plan, setting, StateEnds, LeadsTo, Standing, open_at, ReachesLimit, limit_moment, AnswersState, LeavesStore}
+use Rattle.tp_show.specs.declared.turn.Picture.{Picture}
+use Rattle.tp_show.specs.declared.turn.Turn.{Turn}
+use Rattle.tp_show.specs.declared.turn.Turn.TheVariants.{Went, Finished, Contradictory, Undetermined, StateLimit, InputMissing, Over}
+use Rattle.tp_run.specs.States.{Plan, setting, StateEnds, LeadsTo, open_at, RunPlace, ReachesLimit, limit_moment, state_after, StateBecomes}
 use Rattle.tp_run.specs.Meaning.{AgreesWithFacts}
 
 pub record FinishesAt (plan : Plan) (ps : List Picture) (n : ℕ) : Type 0 where
@@ -83,35 +83,27 @@ EndOfRunMeans plan ps (StateLimit states) = ContinuesEach plan ps
 EndOfRunMeans plan ps (InputMissing state port) = Unsatisfiable plan
 EndOfRunMeans plan ps (Over state limit) = ContinuesEach plan ps
 
--- What one more answer makes of a run whose settled states have these pictures: one state more, or the end.
-abbrev pub Advances : Plan → List Picture → (old new : Picture) → Standing → ℕ → Turn → Type 0
-Advances plan ps old new standing next Went =
-    (m : Moment) × (standing ≡ open_at m) × LeadsTo plan (ps ++ new ∷ []) m × (next ≡ length (ps ++ new ∷ [])) × (new.state ≡ length ps)
-Advances plan ps old new standing next (Finished n) = RunEndsWith plan (ps ++ new ∷ []) (Finished n) × (new.state ≡ length ps)
-Advances plan ps old new standing next (Contradictory state clash) = RunEndsWith plan ps (Contradictory state clash) × (new ≡ old)
-Advances plan ps old new standing next (Undetermined state cell) = RunEndsWith plan ps (Undetermined state cell) × (new ≡ old)
-Advances plan ps old new standing next (StateLimit states) = RunEndsWith plan ps (StateLimit states) × (new ≡ old)
-Advances plan ps old new standing next (InputMissing state port) = RunEndsWith plan ps (InputMissing state port) × (new ≡ old)
-Advances plan ps old new standing next (Over state limit) = RunEndsWith plan ps (Over state limit) × (new ≡ old)
+-- What one more answer makes of a run whose settled states have these pictures: one state more, or the end; and its store then holds what was known
+-- when it came to that.
+abbrev pub Advances : Plan → List Picture → (old new : Picture) → (to : RunPlace) → Turn → Type 0
+Advances plan ps old new to Went =
+    (m : Moment) × (to.standing ≡ open_at m) × LeadsTo plan (ps ++ new ∷ []) m × (to.state ≡ length (ps ++ new ∷ [])) × (new.state ≡ length ps)
+Advances plan ps old new to (Finished n) =
+    (end : RunEndsWith plan (ps ++ new ∷ []) (Finished n)) × (new.state ≡ length ps) × (to.store ≡ end_store plan (ps ++ new ∷ []) (Finished n) end)
+Advances plan ps old new to (Contradictory state clash) =
+    (end : RunEndsWith plan ps (Contradictory state clash)) × (new ≡ old) × (to.store ≡ end_store plan ps (Contradictory state clash) end)
+Advances plan ps old new to (Undetermined state cell) =
+    (end : RunEndsWith plan ps (Undetermined state cell)) × (new ≡ old) × (to.store ≡ end_store plan ps (Undetermined state cell) end)
+Advances plan ps old new to (StateLimit states) = (end : RunEndsWith plan ps (StateLimit states)) × (new ≡ old) × (to.store ≡ end_store plan ps (StateLimit states) end)
+Advances plan ps old new to (InputMissing state port) =
+    (end : RunEndsWith plan ps (InputMissing state port)) × (new ≡ old) × (to.store ≡ end_store plan ps (InputMissing state port) end)
+Advances plan ps old new to (Over state limit) = (end : RunEndsWith plan ps (Over state limit)) × (new ≡ old) × (to.store ≡ end_store plan ps (Over state limit) end)
 
--- Where this answer is the end of a run whose settled states have these pictures, the last of them where it finishes, the run ends so that its
--- store holds this.
-abbrev pub EndsHolding : Plan → List Picture → (last : Picture) → Turn → Contents → Type 0
-EndsHolding plan ps last Went store = Unit {0}
-EndsHolding plan ps last (Finished n) store = (end : RunEndsWith plan (ps ++ last ∷ []) (Finished n)) × (store ≡ end_store plan (ps ++ last ∷ []) (Finished n) end)
-EndsHolding plan ps last (Contradictory state clash) store = (end : RunEndsWith plan ps (Contradictory state clash)) × (store ≡ end_store plan ps (Contradictory state clash) end)
-EndsHolding plan ps last (Undetermined state cell) store = (end : RunEndsWith plan ps (Undetermined state cell)) × (store ≡ end_store plan ps (Undetermined state cell) end)
-EndsHolding plan ps last (StateLimit states) store = (end : RunEndsWith plan ps (StateLimit states)) × (store ≡ end_store plan ps (StateLimit states) end)
-EndsHolding plan ps last (InputMissing state port) store = (end : RunEndsWith plan ps (InputMissing state port)) × (store ≡ end_store plan ps (InputMissing state port) end)
-EndsHolding plan ps last (Over state limit) store = (end : RunEndsWith plan ps (Over state limit)) × (store ≡ end_store plan ps (Over state limit) end)
-
--- A run begins with no settled state, each answer advances it, and at the end its store holds what was known then.
+-- A run begins with no settled state, and each answer for the next state advances it.
 pub record RunsAdvance (plan : Plan) : Type 0 where
   pub begins : LeadsTo plan [] (first_moment plan.program.globals plan.program.main)
-  pub goes_on : (ps : List Picture) (m : Moment) → LeadsTo plan ps m → (old new : Picture) (standing : Standing) (next : ℕ) (turn : Turn)
-      → AnswersState plan (open_at m) (length ps) old new standing next turn → Advances plan ps old new standing next turn
-  pub holds : (ps : List Picture) (m : Moment) → LeadsTo plan ps m → (old new : Picture) (standing : Standing) (next : ℕ) (turn : Turn)
-      → AnswersState plan (open_at m) (length ps) old new standing next turn → (before after : Contents) → LeavesStore plan (open_at m) (length ps) new before after turn → EndsHolding plan ps new turn after
+  pub goes_on : (ps : List Picture) (m : Moment) → LeadsTo plan ps m → (old new : Picture) (to : RunPlace) (turn : Turn)
+      → StateBecomes plan (length ps) m old new to.standing to.store turn → to.state ≡ state_after (length ps) turn → Advances plan ps old new to turn
 
 -- The end of each run of a program whose parts fit each other and its variables says of every interval what `EndOfRunMeans` has.
 abbrev pub RunsMean : Plan → Type 0

@@ -7,9 +7,9 @@ use Rattle.tp_meaning.specs.Interval.{kinds_of, KeepsStatics}
 use Rattle.tp_store.specs.Facts.{AgreesWithAll}
 use Rattle.tp_decide.specs.Read.{shows_of}
 use Rattle.tp_scene.specs.StandsFor.{StandsFor, context_of}
-use Rattle.tp_run.specs.declared.turn.Picture.{Picture}
-use Rattle.tp_run.specs.declared.turn.Turn.{Turn}
-use Rattle.tp_run.specs.declared.turn.Turn.TheVariants.{Went, Finished, Contradictory, Undetermined, StateLimit, InputMissing, Over}
+use Rattle.tp_show.specs.declared.turn.Picture.{Picture}
+use Rattle.tp_show.specs.declared.turn.Turn.{Turn}
+use Rattle.tp_show.specs.declared.turn.Turn.TheVariants.{Went, Finished, Contradictory, Undetermined, StateLimit, InputMissing, Over}
 use Rattle.tp_run.specs.States.{Plan, globals_of, setting, Standing, open_at, answered, spent}
 
 -- the intervals, with what is shown on them, that the states still to come are free to be; the next one has this number

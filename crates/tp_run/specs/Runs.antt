@@ -23,10 +23,12 @@ use Rattle.tp_run.specs.declared.run.Run.{Run}
 use Rattle.tp_run.specs.declared.run.Settings.{Settings}
 use Rattle.tp_run.specs.declared.run.Stand.{Stand}
 use Rattle.tp_run.specs.declared.run.Stand.TheVariants.{Open, Answered, Spent}
-use Rattle.tp_run.specs.declared.turn.Picture.{Picture}
-use Rattle.tp_run.specs.declared.turn.Turn.{Turn}
-use Rattle.tp_run.specs.declared.turn.Turn.TheVariants.{Went, Finished, Contradictory, Undetermined, StateLimit, InputMissing, Over}
-use Rattle.tp_run.specs.States.{Plan, globals_of, setting, AreGlobals, Standing, open_at, answered, spent}
+use Rattle.tp_show.specs.declared.turn.Picture.{Picture}
+use Rattle.tp_show.specs.declared.turn.Turn.{Turn}
+use Rattle.tp_show.specs.declared.turn.Turn.TheVariants.{Went, Finished, Contradictory, Undetermined, StateLimit, InputMissing, Over}
+use Rattle.tp_show.specs.Parts.{line_parts}
+use Rattle.tp_show.specs.Read.{plain_parts}
+use Rattle.tp_run.specs.States.{Plan, RunPlace, globals_of, setting, AreGlobals, Standing, open_at, answered, spent}
 
 -- where a run stands with what its store holds
 abbrev pub stands_at : Stand → Contents → Standing
@@ -83,6 +85,10 @@ MadeIsOf xs made = TurnIsOf xs made.turn × StandIsOf xs made.stand
 abbrev pub store_of : Run → Contents
 store_of run = run.store
 
+-- all of these
+abbrev pub standing_place : Run → RunPlace
+standing_place run = record { standing = standing_of run; state = next_state_of run; store = store_of run }
+
 -- what is carried to the next state: the scene that it begins with, where one was settled before it; a run that hasn't begun, has ended or gave up
 -- carries nothing
 abbrev pub carried_scene : ℕ → Standing → Option S.Scene
@@ -134,6 +140,7 @@ pub record IsRunOf (plan : Plan) (run : Run) : Type 0 where
 pub record HasPicture (globals n reductions : ℕ) (m : Moment) (picture : Picture) : Type 0 where
   pub state : picture.state ≡ n
   pub facts : AreGlobals globals m.store.facts picture.facts
+  pub parts : plain_parts picture.parts ≡ line_parts picture.facts
   pub shows : shows_of picture.shows ≡ shown_in m.scene.root.entries
   pub reductions_are : picture.reductions ≡ reductions
 

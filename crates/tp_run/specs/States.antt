@@ -1,19 +1,21 @@
 -- The states of a run, one after the other.
-use Rattle.std.specs.Prelude.{◌≡◌, ℕ, suc, ◌<◌, nat_lt, eqb, ◌&&◌, ◌||◌, Bool, List, [], ◌∷◌, length, All, IsTrue}
+use Rattle.std.specs.Prelude.{◌≡◌, ℕ, suc, ◌<◌, List, [], ◌∷◌, length}
 use Rattle.tp_value.specs.declared.path.Path.{Path}
 use Rattle.tp_value.specs.declared.path.Fact.{Fact}
 use Rattle.tp_meaning.specs.Inputs.{InputLines}
 use Rattle.tp_meaning.specs.Interval.{ProgramTree, kinds_of}
 use Rattle.tp_store.specs.Facts.{kept_shape}
-use Rattle.tp_store.specs.Known.{Contents, NoClash, facts_below, is_lesser}
+use Rattle.tp_store.specs.Known.{Contents, NoClash, facts_below}
 use Rattle.tp_decide.specs.Read.{shows_of}
 use Rattle.tp_scene.specs.Pick.{Setting, Moment}
 use Rattle.tp_scene.specs.Advance.{shown_in}
 use Rattle.tp_scene.specs.StandsFor.{first_moment}
 use Rattle.tp_scene.specs.Replay as replay
-use Rattle.tp_run.specs.declared.turn.Picture.{Picture}
-use Rattle.tp_run.specs.declared.turn.Turn.{Turn}
-use Rattle.tp_run.specs.declared.turn.Turn.TheVariants.{Went, Finished, Contradictory, Undetermined, StateLimit, InputMissing, Over}
+use Rattle.tp_show.specs.declared.turn.Picture.{Picture}
+use Rattle.tp_show.specs.declared.turn.Turn.{Turn}
+use Rattle.tp_show.specs.declared.turn.Turn.TheVariants.{Went, Finished, Contradictory, Undetermined, StateLimit, InputMissing, Over}
+use Rattle.tp_show.specs.Parts.{AreInOrder, line_parts}
+use Rattle.tp_show.specs.Read.{plain_parts}
 use Rattle.tp_kernel.specs.declared.formula.LimitKind.{LimitKind}
 use Rattle.tp_kernel.specs.declared.formula.LimitKind.TheVariants as limit
 
@@ -35,29 +37,17 @@ globals_of plan = length (kinds_of plan.program.globals)
 abbrev pub setting : Plan → ℕ → Setting
 setting plan n = record { defs = plan.program.defs; inputs = plan.inputs; state = n }
 
--- a fact is before another: its variable's number is less, or it is of the same variable, and its indices are a part of the other's from the
--- start, or less where they first differ
-abbrev pub is_before : Fact → Fact → Bool
-is_before f g =
-    let m = f.path.var.number in
-    let n = g.path.var.number in
-    nat_lt m n || (eqb m n && is_lesser f.path.at g.path.at)
-
--- in the order of the variables, and of one variable a list before its items, and these in order
-abbrev pub AreInOrder : List Fact → Type 0
-AreInOrder [] = Unit {0}
-AreInOrder (f ∷ fs) = All (λ g. IsTrue (is_before f g)) fs × AreInOrder fs
-
 -- These facts in order are those that a store keeps of so many globals.
 pub record AreGlobals (globals : ℕ) (kept facts : List Fact) : Type 0 where
   pub order : AreInOrder facts
   pub no_clash : NoClash facts
   pub same : (p : Path) → kept_shape facts p ≡ kept_shape (facts_below globals kept) p
 
--- The picture of a settled state: its number, the facts of the globals, what is shown, and how many reductions it took.
+-- The picture of a settled state: its number, the facts of the globals, what these come to, what is shown, and how many reductions it took.
 pub record IsPictureOf (plan : Plan) (n : ℕ) (picks : List ℕ) (last : Moment) (picture : Picture) : Type 0 where
   pub state : picture.state ≡ n
   pub facts : AreGlobals (globals_of plan) last.store.facts picture.facts
+  pub parts : plain_parts picture.parts ≡ line_parts picture.facts
   pub shows : shows_of picture.shows ≡ shown_in last.scene.root.entries
   pub reductions : picture.reductions ≡ length picks
 
@@ -118,41 +108,39 @@ state_after n (StateLimit states) = n
 state_after n (InputMissing state port) = n
 state_after n (Over state limit) = n
 
--- What becomes of state n, which begins with m, with the pictures before and after, where the run then stands, and the answer. Where the state isn't
--- settled the picture stays.
-abbrev pub StateBecomes : Plan → ℕ → Moment → Picture → Picture → Standing → Turn → Type 0
-StateBecomes plan n m old new standing Went = (next : Moment) × StateGoesOn plan n m new next × (standing ≡ open_at next)
-StateBecomes plan n m old new standing (Finished length) = StateEnds plan n m new × (length ≡ n) × (standing ≡ answered (Finished length))
-StateBecomes plan n m old new standing (Contradictory state clash) =
-    replay.MeetsClash (setting plan n) plan.reductions m clash × (state ≡ n) × (n < plan.states) × (new ≡ old) × (standing ≡ answered (Contradictory state clash))
-StateBecomes plan n m old new standing (Undetermined state cell) =
-    replay.IsOpen (setting plan n) plan.reductions m cell × (state ≡ n) × (n < plan.states) × (new ≡ old) × (standing ≡ answered (Undetermined state cell))
-StateBecomes plan n m old new standing (StateLimit states) = (n ≡ plan.states) × (states ≡ n) × (new ≡ old) × (standing ≡ answered (StateLimit states))
-StateBecomes plan n m old new standing (InputMissing state port) =
-    replay.MissesInput (setting plan n) plan.reductions m port × (state ≡ n) × (n < plan.states) × (new ≡ old) × (standing ≡ answered (InputMissing state port))
-StateBecomes plan n m old new standing (Over state limit) =
-    ReachesLimit (setting plan n) plan.reductions m limit × (state ≡ n) × (n < plan.states) × (new ≡ old) × (standing ≡ answered (Over state limit))
+-- What becomes of state n, which begins with m, with the pictures before and after, where the run then stands, what its store then holds, and the
+-- answer: all of one list of picks, of which there are at most as many as a state may have. Where the run goes on, the store holds what the next state
+-- begins with; else what the state's picks led to. Where the state isn't settled the picture stays.
+abbrev pub StateBecomes : Plan → ℕ → Moment → Picture → Picture → Standing → Contents → Turn → Type 0
+StateBecomes plan n m old new standing store Went = (next : Moment) × StateGoesOn plan n m new next × (standing ≡ open_at next) × (store ≡ next.store)
+StateBecomes plan n m old new standing store (Finished length) =
+    (end : StateEnds plan n m new) × (length ≡ n) × (standing ≡ answered (Finished length)) × (store ≡ end.last.store)
+StateBecomes plan n m old new standing store (Contradictory state clash) =
+    (end : replay.MeetsClash (setting plan n) plan.reductions m clash) × (state ≡ n) × (n < plan.states) × (new ≡ old) × (standing ≡ answered (Contradictory state clash))
+    × (store ≡ end.last.store)
+StateBecomes plan n m old new standing store (Undetermined state cell) =
+    (end : replay.IsOpen (setting plan n) plan.reductions m cell) × (state ≡ n) × (n < plan.states) × (new ≡ old) × (standing ≡ answered (Undetermined state cell))
+    × (store ≡ end.last.store)
+StateBecomes plan n m old new standing store (StateLimit states) = (n ≡ plan.states) × (states ≡ n) × (new ≡ old) × (standing ≡ answered (StateLimit states)) × (store ≡ m.store)
+StateBecomes plan n m old new standing store (InputMissing state port) =
+    (end : replay.MissesInput (setting plan n) plan.reductions m port) × (state ≡ n) × (n < plan.states) × (new ≡ old) × (standing ≡ answered (InputMissing state port))
+    × (store ≡ end.last.store)
+StateBecomes plan n m old new standing store (Over state limit) =
+    (end : ReachesLimit (setting plan n) plan.reductions m limit) × (state ≡ n) × (n < plan.states) × (new ≡ old) × (standing ≡ answered (Over state limit))
+    × (store ≡ (limit_moment (setting plan n) plan.reductions m limit end).store)
 
--- What the store then holds: where the run goes on, what the next state begins with; else what the state's picks led to.
-abbrev pub StoreBecomes : Plan → ℕ → Moment → Picture → Contents → Turn → Type 0
-StoreBecomes plan n m picture store Went = (next : Moment) × StateGoesOn plan n m picture next × (store ≡ next.store)
-StoreBecomes plan n m picture store (Finished length) = (end : StateEnds plan n m picture) × (store ≡ end.last.store)
-StoreBecomes plan n m picture store (Contradictory state clash) = (end : replay.MeetsClash (setting plan n) plan.reductions m clash) × (store ≡ end.last.store)
-StoreBecomes plan n m picture store (Undetermined state cell) = (end : replay.IsOpen (setting plan n) plan.reductions m cell) × (store ≡ end.last.store)
-StoreBecomes plan n m picture store (StateLimit states) = store ≡ m.store
-StoreBecomes plan n m picture store (InputMissing state port) = (end : replay.MissesInput (setting plan n) plan.reductions m port) × (store ≡ end.last.store)
-StoreBecomes plan n m picture store (Over state limit) =
-    (end : ReachesLimit (setting plan n) plan.reductions m limit) × (store ≡ (limit_moment (setting plan n) plan.reductions m limit end).store)
+-- where a run stands, the number of the state that it makes next, and what its store holds
+pub record RunPlace : Type 0 where
+  pub standing : Standing
+  pub state : ℕ
+  pub store : Contents
 
--- What a call answers where the run stands there, with the number of the state that comes next: it makes that state, or it gives the last answer
--- again and changes nothing. A run that gave up for want of memory answers nothing else any more.
-abbrev pub AnswersState : Plan → Standing → ℕ → Picture → Picture → Standing → ℕ → Turn → Type 0
-AnswersState plan (open_at m) n old new standing next turn = StateBecomes plan n m old new standing turn × (next ≡ state_after n turn)
-AnswersState plan (answered last) n old new standing next turn = (turn ≡ last) × (new ≡ old) × (standing ≡ answered last) × (next ≡ n)
-AnswersState plan spent n old new standing next turn = ⊥
+-- What a call answers where the run stands there: it makes that state, or it gives the last answer again and changes nothing. A run that gave up for
+-- want of memory answers nothing else any more.
+abbrev AnswersAt : Plan → Standing → (from : RunPlace) → (old new : Picture) → (to : RunPlace) → Turn → Type 0
+AnswersAt plan (open_at m) from old new to turn = StateBecomes plan from.state m old new to.standing to.store turn × (to.state ≡ state_after from.state turn)
+AnswersAt plan (answered last) from old new to turn = (turn ≡ last) × (new ≡ old) × (to.standing ≡ answered last) × (to.state ≡ from.state) × (to.store ≡ from.store)
+AnswersAt plan spent from old new to turn = ⊥
 
--- What such a call leaves of what the store held: it makes a state, or it changes nothing.
-abbrev pub LeavesStore : Plan → Standing → ℕ → Picture → (old new : Contents) → Turn → Type 0
-LeavesStore plan (open_at m) n picture old new turn = StoreBecomes plan n m picture new turn
-LeavesStore plan (answered last) n picture old new turn = new ≡ old
-LeavesStore plan spent n picture old new turn = ⊥
+abbrev pub AnswersState : Plan → (from : RunPlace) → (old new : Picture) → (to : RunPlace) → Turn → Type 0
+AnswersState plan from old new to turn = AnswersAt plan from.standing from old new to turn

@@ -2,7 +2,7 @@
 ghost use Rattle.tp_run.specs.States.{Plan};
 ghost use Rattle.tp_run.specs.History.{RunsAdvance, RunsMean};
 
-/// Each answer of a run adds a settled state or is the run's end, and at the end the store holds what was known then.
+/// Each answer of a run adds a settled state or is the run's end, and at the end its store holds what was known then.
 pub fn runs_advance()
     ensures { (plan : Plan) → RunsAdvance plan }
 {}

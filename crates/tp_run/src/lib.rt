@@ -2,11 +2,10 @@
 #![tactic(auto)]
 
 mod laws;
+mod limits;
 mod picture;
 mod run;
-mod turn;
 
 pub use laws::{runs_advance, runs_mean};
+pub use limits::Limits;
 pub use run::Run;
-pub use tp_step::{Cell, Clash};
-pub use turn::{Limits, Picture, Turn};

@@ -1,15 +1,18 @@
 // The picture of a settled state.
 ghost use Rattle.std.specs.Prelude.{◌≡◌, IfOk};
 ghost use Rattle.std.specs.Ordering.{is_lt, is_gt};
+ghost use Rattle.tp_store.specs.Known.{NoClash};
 ghost use Rattle.tp_scene.specs.Advance.{shown_in};
 ghost use Rattle.tp_decide.specs.Read.{shows_of};
 ghost use Rattle.tp_slots.specs.Kept.{IsWellKept};
 ghost use Rattle.tp_slots.specs.Read.{scene_of};
-ghost use Rattle.tp_run.specs.States.{is_before, AreGlobals};
+ghost use Rattle.tp_show.specs.Parts.{is_before, line_parts};
+ghost use Rattle.tp_show.specs.Read.{plain_parts};
+ghost use Rattle.tp_run.specs.States.{AreGlobals};
 
-use crate::turn::Picture;
 use std::alloc::Global;
 use std::cmp::Ordering;
+use tp_show::{Picture, known_parts};
 use tp_step::{Scene, Setting, Shows, shown};
 use tp_store::Store;
 use tp_value::{Fact, Facts, NoMemory};
@@ -28,7 +31,8 @@ fn compare(f: &Fact, g: &Fact) -> Ordering
 
 // The facts of so many globals, in order.
 fn global_facts(alloc: Global, store: &Store, globals: u64) -> Result<Facts, NoMemory>
-    ensures { IfOk result (λ facts. AreGlobals globals store.now.facts facts) }
+    ensures facts { IfOk result (λ facts. AreGlobals globals store.now.facts facts) }
+    ensures sound { IfOk result (λ facts. NoClash store.now.facts) }
 {
     let mut facts = Facts {
         items: Vec::new(alloc),
@@ -48,6 +52,8 @@ pub fn settled_picture(
 ) -> Result<Picture, NoMemory>
     requires { IsWellKept scene.now }
     ensures facts { IfOk result (λ picture. AreGlobals globals store.now.facts picture.facts) }
+    ensures parts { IfOk result (λ picture.
+        plain_parts picture.parts ≡ line_parts picture.facts) }
     ensures shows { IfOk result (λ picture.
         shows_of picture.shows ≡ shown_in (scene_of scene.now).root.entries) }
     ensures state { IfOk result (λ picture. picture.state ≡ setting.now.state) }
@@ -55,6 +61,7 @@ pub fn settled_picture(
 {
     let alloc = setting.alloc;
     let facts = global_facts(alloc, store, globals)?;
+    let parts = known_parts(alloc, store, facts.items.as_slice())?;
     let mut shows = Shows {
         items: Vec::new(alloc),
     };
@@ -62,6 +69,7 @@ pub fn settled_picture(
     Ok(Picture {
         state: setting.state,
         facts,
+        parts,
         shows,
         reductions,
     })

@@ -18,12 +18,12 @@ ghost use Rattle.tp_slots.specs.Kept.{IsWellKept, Lives};
 ghost use Rattle.tp_slots.specs.Read.{scene_of};
 ghost use Rattle.tp_step.specs.Answers.{moment_of};
 ghost use Rattle.tp_step.specs.declared.answer.Order.TheVariants.{First};
-ghost use Rattle.tp_run.specs.States.{Plan, plan_with, open_at, spent, state_after, AnswersState, StateBecomes, StoreBecomes, LeavesStore};
+ghost use Rattle.tp_run.specs.States.{Plan, plan_with, open_at, spent, state_after, AnswersState, StateBecomes};
 ghost use Rattle.tp_run.specs.Meaning.{StandsForItsProgram, AnswerMeans};
-ghost use Rattle.tp_run.specs.Runs.{stands_at, standing_of, program_of, next_state_of, store_of, carried_scene, IsSettingsOf, IsRunOf, HasPicture, NextOf, RestTurns, StandIsKept, HasFirst, CellIsOf, TurnIsOf, MadeIsOf};
+ghost use Rattle.tp_run.specs.Runs.{stands_at, standing_of, program_of, next_state_of, standing_place, store_of, carried_scene, IsSettingsOf, IsRunOf, HasPicture, NextOf, RestTurns, StandIsKept, HasFirst, CellIsOf, TurnIsOf, MadeIsOf};
 
+use crate::limits::Limits;
 use crate::picture::settled_picture;
-use crate::turn::{Limits, Picture, Turn};
 use std::alloc::Global;
 use std::mem;
 use std::sync::ledger::Ledger;
@@ -31,9 +31,10 @@ use tp_check::Program;
 use tp_inputs::Inputs;
 use tp_kernel::Defs;
 use tp_pass::close_by_passes;
+use tp_show::{Cell, Picture, Turn};
 use tp_step::{
-    Cell, Ending, ItemIds, Order, Scene, Setting, Settled, Steps, Tally, Tried, Waits, advance,
-    settled, start, try_item,
+    Ending, ItemIds, Order, Scene, Setting, Settled, Steps, Tally, Tried, Waits, advance, settled,
+    start, try_item,
 };
 use tp_store::Store;
 use tp_value::NoMemory;
@@ -240,11 +241,7 @@ impl Settings {
         ensures made { IfOk result (λ made.
             (plan : Plan) → IsSettingsOf plan self.now
             → StateBecomes plan self.now.setting.state (moment_of scene store.old) picture.old
-            picture.new (stands_at made.stand store.new) made.turn) }
-        ensures store { IfOk result (λ made.
-            (plan : Plan) → IsSettingsOf plan self.now
-            → StoreBecomes plan self.now.setting.state (moment_of scene store.old) picture.new
-            store.new made.turn) }
+            picture.new (stands_at made.stand store.new) store.new made.turn) }
         ensures kept { IfOk result (λ made. StandIsKept made.stand) }
         ensures named { IfOk result (MadeIsOf store.new.variables) }
         ensures err { OnErr result (picture.new ≡ picture.old) }
@@ -381,17 +378,13 @@ impl Run {
         requires run { (plan : Plan) × IsRunOf plan self.old }
         ensures made { IfOk result (λ turn.
             (plan : Plan) → IsRunOf plan self.old
-            → AnswersState plan (standing_of self.old) (next_state_of self.old) picture.old
-            picture.new (standing_of self.new) (next_state_of self.new) turn) }
+            → AnswersState plan (standing_place self.old) picture.old picture.new
+            (standing_place self.new) turn) }
         ensures means { IfOk result (λ turn.
             (plan : Plan) → IsRunOf plan self.old
             → AnswerMeans plan (next_state_of self.old) (standing_of self.old)
             (standing_of self.new) picture.new turn) }
         ensures run { (plan : Plan) → IsRunOf plan self.old → IsRunOf plan self.new }
-        ensures store { IfOk result (λ turn.
-            (plan : Plan) → IsRunOf plan self.old
-            → LeavesStore plan (standing_of self.old) (next_state_of self.old) picture.new
-            (store_of self.old) (store_of self.new) turn) }
         ensures variables { OnOk result
             (HasFirst (store_of self.old).variables (store_of self.new).variables) }
         ensures named { IfOk result (TurnIsOf (store_of self.new).variables) }

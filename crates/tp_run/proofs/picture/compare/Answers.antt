@@ -1,5 +1,5 @@
 use Rattle.std.proofs.Common.{◌≡◌, ap, ◌∙◌, is_lt, is_gt, rules}
-use Rattle.tp_run.proofs.FactOrder.{order_of, before_is, after_is}
+use Rattle.tp_show.proofs.FactOrder.{order_of, before_is, after_is}
 use Rattle.tp_run.proofs.picture.compare.Goals as goal
 
 pub returns : goal.returns

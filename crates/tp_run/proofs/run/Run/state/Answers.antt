@@ -3,7 +3,7 @@ use Rattle.tp_step.specs.Answers.{moment_of}
 use Rattle.tp_run.specs.declared.run.Stand.{Stand}
 use Rattle.tp_run.specs.Runs.{stands_at}
 use Rattle.tp_run.proofs.Becomes.{answer_means, run_kept, lent_settings, given_back_run}
-use Rattle.tp_run.proofs.Stores.{leaves_store, leaves_variables}
+use Rattle.tp_run.proofs.Stores.{leaves_variables}
 use Rattle.tp_run.proofs.run.Run.state.Goals as goal
 
 pub returns-in_ok-made-in-Open-clause-means : goal.returns-in_ok-made-in-Open-clause-means
@@ -22,16 +22,11 @@ returns-in_ok-made-in-Open-clause-run g c = λ plan h.
     (c.in_ok-made-in-Open.ensures.made plan (lent_settings plan run c.swap.new.y h c.swap.ensures.y_after)) c.next_number-self.result c.next_number-self.ensures c.in_ok-made-in-Open.ensures.kept c.in_ok-made-in-Open.ensures.named.1)
     (c.swap-in-Open.ensures.x_after ∙ c.swap.ensures.y_after)
 
-pub returns-in_ok-made-in-Open-clause-store : goal.returns-in_ok-made-in-Open-clause-store
-returns-in_ok-made-in-Open-clause-store g c = λ plan h.
-    let run = c.args.self.now in
-    leaves_store plan run (moment_of c.in-Open.scene run.store) (ap (λ (s : Stand). stands_at s run.store) c.in-Open.ensures.value) refl c.make-made.new.picture c.make-made.new.store c.in_ok-made-in-Open.made.turn
-    (c.in_ok-made-in-Open.ensures.store plan (lent_settings plan run c.swap.new.y h c.swap.ensures.y_after))
-
 pub returns-in_ok-made-in-Open-clause-variables : goal.returns-in_ok-made-in-Open-clause-variables
 returns-in_ok-made-in-Open-clause-variables g c =
     let run = c.args.self.now in
     let plan = c.requires.run.0 in
     let h = c.requires.run.1 in
-    leaves_variables plan run (moment_of c.in-Open.scene run.store) (ap (λ (s : Stand). stands_at s run.store) c.in-Open.ensures.value) refl c.make-made.new.picture c.make-made.new.store c.in_ok-made-in-Open.made.turn
-    (c.in_ok-made-in-Open.ensures.store plan (lent_settings plan run c.swap.new.y h c.swap.ensures.y_after))
+    let made = c.in_ok-made-in-Open.made in
+    leaves_variables plan run (moment_of c.in-Open.scene run.store) refl c.args.picture.now c.make-made.new.picture (stands_at made.stand c.make-made.new.store) c.make-made.new.store made.turn
+    (c.in_ok-made-in-Open.ensures.made plan (lent_settings plan run c.swap.new.y h c.swap.ensures.y_after))

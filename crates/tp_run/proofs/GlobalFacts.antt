@@ -1,4 +1,4 @@
--- Facts in order.
+-- The facts of a store's globals, in order.
 use Rattle.std.proofs.Common.{◌≡◌, inl, inr, map, nat_lt, slice_get, ℕ, zero, suc, ◌+◌, ◌<◌, ◌≤◌, Bool, true, false, ◌&&◌, ◌||◌, cond, ltb, eqb, List, [], ◌∷◌, ◌++◌, length, get_or, All, IsTrue, Some, None, refl, ap, ap₂, sym, ◌∙◌, subst, arith}
 use Rattle.std.specs.List.{sum_by, AllByRecursion}
 use Rattle.std.specs.List.Sorted.{IsPermutation, IsSortedBy}
@@ -6,7 +6,7 @@ use Rattle.std.specs.Cmp.{IsTotalOrder, IsStrictWeakOrder}
 use Rattle.std.specs.Cmp.Lexicographic.{slice_cmp}
 use Rattle.std.specs.Ordering.{nat_cmp, ordering_then, is_lt, is_gt}
 use Rattle.std.specs.declared.cmp.Ordering.{Ordering}
-use Rattle.std.proofs.lemmas.Bool.{both_ways, false_from_ne_true, true_from_ne_false}
+use Rattle.std.proofs.lemmas.Bool.{both_ways, false_from_ne_true, true_from_ne_false, ltb-true, lt-ltb}
 use Rattle.std.proofs.lemmas.Bool.Decides.{nat_tests}
 use Rattle.std.proofs.lemmas.Cmp.{nat_cmp_total, nat_list_cmp_total, on_total, then_total, same_from_slice_cmp}
 use Rattle.std.proofs.lemmas.List.Elements.{recursion_from_All}
@@ -16,46 +16,17 @@ use Rattle.tp_value.specs.declared.path.VarId.{VarId}
 use Rattle.tp_value.specs.declared.path.Path.{Path}
 use Rattle.tp_value.specs.declared.path.Fact.{Fact}
 use Rattle.tp_store.specs.Facts.{same_path, clash, kept_shape, fact}
-use Rattle.tp_store.specs.Known.{Contents, Variable, NoClash, is_lesser, facts_below, IsVariableOf}
+use Rattle.tp_store.specs.Known.{Contents, Variable, NoClash, is_lesser, facts_below, full, IsVariableOf}
 use Rattle.tp_store.specs.Changes.{IsSoundStore, HaveSameShapes, HasAppended}
 use Rattle.tp_store.proofs.Paths.{same_path-decides, same_path-refl}
-use Rattle.tp_store.proofs.Members.{In, in_filter, kept_in, in_kept, kept_none, none_kept, meets_none, apart_in}
-use Rattle.tp_store.proofs.Same.{same_kept}
+use Rattle.tp_store.proofs.Members.{In, in_filter, filter_in, NoClash-filter, kept_in, in_kept, kept_none, none_kept, meets_none, apart_in}
+use Rattle.tp_store.proofs.Same.{same_kept, same_full}
+use Rattle.tp_show.specs.Parts.{parts_by, line_parts}
+use Rattle.tp_show.proofs.LineLemmas.{parts_same}
 use Rattle.tp_scene.proofs.Globals.{of_variables_in}
-use Rattle.tp_run.specs.States.{is_before, AreInOrder, AreGlobals}
-
--- the order of facts by their numbers and indices
-abbrev pub order_of : Fact → Fact → Ordering
-order_of f g = ordering_then (nat_cmp f.path.var.number g.path.var.number) (slice_cmp nat_cmp f.path.at g.path.at)
-
-order-total : IsTotalOrder order_of
-order-total = then_total (on_total (λ (f : Fact). f.path.var.number) nat_cmp_total) (on_total (λ (f : Fact). f.path.at) nat_list_cmp_total)
-
-lesser_is : (a b : List ℕ) → is_lt (slice_cmp nat_cmp a b) ≡ is_lesser a b
-lesser_is a b = same_from_slice_cmp nat_cmp is_lt is_lesser refl (λ _ _. refl) (λ _ _. refl) (λ x y xs ys o h. grind (arith, nat_tests)) a b (slice_cmp nat_cmp a b) refl
-
-greater_is : (a b : List ℕ) → is_gt (slice_cmp nat_cmp a b) ≡ is_lesser b a
-greater_is a b = same_from_slice_cmp nat_cmp is_gt (λ x y. is_lesser y x) refl (λ _ _. refl) (λ _ _. refl) (λ x y xs ys o h. grind (arith, nat_tests)) a b (slice_cmp nat_cmp a b) refl
-
-then_less : (m n : ℕ) (o : Ordering) (p : Bool) → is_lt o ≡ p → is_lt (ordering_then (nat_cmp m n) o) ≡ (ltb m n || (eqb m n && p))
-then_less m n o p h = grind (arith, nat_tests)
-
-then_greater : (m n : ℕ) (o : Ordering) (p : Bool) → is_gt o ≡ p → is_gt (ordering_then (nat_cmp m n) o) ≡ (ltb n m || (eqb n m && p))
-then_greater m n o p h = grind (arith, nat_tests)
-
-pub before_is : (f g : Fact) → is_lt (order_of f g) ≡ is_before f g
-before_is f g = then_less f.path.var.number g.path.var.number (slice_cmp nat_cmp f.path.at g.path.at) (is_lesser f.path.at g.path.at) (lesser_is f.path.at g.path.at)
-
-pub after_is : (f g : Fact) → is_gt (order_of f g) ≡ is_before g f
-after_is f g = then_greater f.path.var.number g.path.var.number (slice_cmp nat_cmp f.path.at g.path.at) (is_lesser g.path.at f.path.at) (greater_is f.path.at g.path.at)
-
-pub is_before-order : IsStrictWeakOrder is_before
-is_before-order =
-    let w : IsStrictWeakOrder (λ x y. is_lt (order_of x y)) = ranks_by order-total (λ (f : Fact). f) in
-    record {
-      one_way = λ x y h. sym (before_is y x) ∙ w.one_way x y (before_is x y ∙ h);
-      chain = λ x y z h k. sym (before_is x z) ∙ w.chain x y z (before_is x y ∙ h) (before_is y z ∙ k);
-    }
+use Rattle.tp_show.specs.Parts.{is_before, AreInOrder}
+use Rattle.tp_show.proofs.FactOrder.{is_before-order}
+use Rattle.tp_run.specs.States.{AreGlobals}
 
 neither_lesser : (a b : List ℕ) → is_lesser a b ≡ false → is_lesser b a ≡ false → a ≡ b
 neither_lesser [] [] h k = refl
@@ -194,3 +165,25 @@ pub appended_sorted : (globals : ℕ) (s : Contents) (old new xs ys : List Fact)
 appended_sorted globals s old new xs ys sound more empty is moved sorted =
     let all : xs ≡ more.appended = is ∙ more.list ∙ ap (λ l. l ++ more.appended) empty in
     sorted_globals globals s more.appended ys sound more.no_clash more.shapes (subst (λ l. IsPermutation l ys) all moved) sorted
+
+-- a fact that a store keeps of a global is one of them
+kept_global : (globals : ℕ) (kept facts : List Fact) (g : Fact) → NoClash kept → AreGlobals globals kept facts → g.path.var.number < globals → In g kept → In g facts
+kept_global globals kept facts g n are low i =
+    let below = filter_in (λ (f : Fact). nat_lt f.path.var.number globals) g kept i (lt-ltb g.path.var.number globals low) in
+    let shape : kept_shape facts g.path ≡ Some g.shape = are.same g.path ∙ in_kept (facts_below globals kept) g (NoClash-filter (λ (f : Fact). nat_lt f.path.var.number globals) kept n) below in
+    kept_in facts g.path g.shape shape
+
+-- and the other way round
+global_kept : (globals : ℕ) (kept facts : List Fact) (g : Fact) → AreGlobals globals kept facts → In g facts → In g kept × (nat_lt g.path.var.number globals ≡ true)
+global_kept globals kept facts g are i =
+    let shape : kept_shape (facts_below globals kept) g.path ≡ Some g.shape = sym (are.same g.path) ∙ in_kept facts g are.no_clash i in
+    in_filter (λ f. nat_lt f.path.var.number globals) (fact g.path g.shape) kept (kept_in (facts_below globals kept) g.path g.shape shape)
+
+-- what a store knows of its globals is known of these
+pub parts_are : (globals : ℕ) (kept facts : List Fact) → NoClash kept → AreGlobals globals kept facts → parts_by (full kept) None facts ≡ line_parts facts
+parts_are globals kept facts n are = parts_same (full kept) (full facts) None facts (λ f i.
+    let low = ltb-true f.path.var.number globals (global_kept globals kept facts f are i).1 in
+    same_full kept facts f.path are.no_clash (record {
+      there = λ g e j. kept_global globals kept facts g n are (omega (arith, low, e)) j;
+      back = λ g e j. (global_kept globals kept facts g are j).0;
+    }))
