@@ -1,0 +1,4 @@
+pub mod AppLemmas
+pub mod LimitLemmas
+pub mod WordsLemmas
+pub mod LawLemmas

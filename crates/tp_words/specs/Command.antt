@@ -1,0 +1,8 @@
+-- A command as what words ask for.
+use Rattle.std.specs.Prelude.{option_map, string_bytes}
+use Rattle.tp_words.specs.declared.command.Command.{Command}
+use Rattle.tp_words.specs.Words.{Wanted}
+
+-- what a command does, of whatever words
+abbrev pub wanted_by : Command → Wanted
+wanted_by c = record { file = string_bytes c.file; inputs = option_map string_bytes c.inputs; states = c.states; reductions = c.reductions }

@@ -1,0 +1,5 @@
+pub mod App
+pub mod Limit
+pub mod Words
+pub mod Command
+pub mod Laws

@@ -1,0 +1,51 @@
+// What accepted words ask for, and the refusal of words.
+ghost use Rattle.std.specs.Prelude.{◌≡◌};
+ghost use Rattle.tp_words.specs.declared.command.WordsRefusal.TheVariants as refusal;
+
+use std::alloc::{AllocError, AllocFailed};
+use tp_value::NoMemory;
+
+/// A run that the words ask for. It takes the items in their order, first to last.
+#[derive(Debug, Drop)]
+pub struct Command {
+    /// The name of the source.
+    pub file: String,
+    /// The name of the inputs.
+    pub inputs: Option<String>,
+    /// How many states it settles at most.
+    pub states: u64,
+    /// How many reductions it makes at most in a state.
+    pub reductions: u64,
+}
+
+/// Why there is no command.
+#[derive(Clone, Copy, Debug, PartialEq, Eq)]
+pub enum WordsRefusal {
+    /// The words aren't accepted.
+    Refused,
+    NoMemory,
+}
+
+impl From<NoMemory> for WordsRefusal {
+    ghost from_gives = { λ _ e. e ≡ refusal.NoMemory };
+
+    fn from(_: NoMemory) -> WordsRefusal {
+        WordsRefusal::NoMemory
+    }
+}
+
+impl From<AllocError> for WordsRefusal {
+    ghost from_gives = { λ _ e. e ≡ refusal.NoMemory };
+
+    fn from(_: AllocError) -> WordsRefusal {
+        WordsRefusal::NoMemory
+    }
+}
+
+impl<T: Drop> From<AllocFailed<T>> for WordsRefusal {
+    ghost from_gives = { λ _ e. e ≡ refusal.NoMemory };
+
+    fn from(_: AllocFailed<T>) -> WordsRefusal {
+        WordsRefusal::NoMemory
+    }
+}

@@ -1,0 +1,13 @@
+//! The words of the command line: a mode and a file, with options for the inputs, the limits, the order and the trace.
+#![tactic(auto)]
+
+mod app;
+mod command;
+mod laws;
+mod limit;
+mod read;
+
+pub use command::{Command, WordsRefusal};
+pub use laws::two_words_are_enough;
+pub use limit::{GREATEST_LIMIT, USUAL_REDUCTIONS, USUAL_STATES};
+pub use read::read_words;
