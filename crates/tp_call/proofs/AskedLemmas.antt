@@ -1,18 +1,95 @@
 -- The names that a call asks for.
-use Rattle.std.proofs.Common.{◌≡◌, ◌+◌, ℕ, List, Option, Some, refl}
-use Rattle.tp_io.specs.Devices.{and_one_more}
+use Rattle.std.proofs.Common.{◌≡◌, ◌+◌, inl, inr, ℕ, List, [], ◌∷◌, ◌++◌, Option, None, Some, Result, Ok, Err, IfErr, refl, sym, ap, ◌∙◌, subst, append_assoc}
+use Rattle.std.proofs.lemmas.List.{append-nil}
+use Rattle.tp_io.specs.Devices.{Held, and_one_more}
+use Rattle.tp_words.specs.Words.{Wanted, wanted_of}
+use Rattle.tp_call.specs.declared.status.Status.{Status}
+use Rattle.tp_call.specs.declared.status.Status.TheVariants.{ReadFault, NoMemory}
 use Rattle.tp_call.specs.declared.status.Which.{Which}
-use Rattle.tp_call.specs.declared.status.Which.TheVariants.{Source}
-use Rattle.tp_call.specs.Words.{wanted_of}
+use Rattle.tp_call.specs.declared.status.Which.TheVariants.{Source, Inputs}
+use Rattle.std.specs.Option.{option_map}
+use Rattle.tp_call.specs.Reading.{AsksFile, AsksTable}
+use Rattle.tp_call.specs.Parts.{IsInputsEnd}
 use Rattle.tp_call.specs.Answer.{AsksOnly, place}
 
--- one name was asked for
-pub asks_one : (words : List (List ℕ)) (name : List ℕ) (old new : Option (List (List ℕ))) (failed : Which → Type 0) → wanted_of words ≡ Some record { file = name }
-    → new ≡ and_one_more old name → AsksOnly words old new failed
-asks_one words name old new failed wanted asked = record {
-  count = 1;
-  asked = rw wanted asked;
-  last = λ which f. one which;
-} where
-  one : (which : Which) → 1 ≡ place which + 1
-  one Source = refl
+nothing_more : (old : Option (List (List ℕ))) → old ≡ option_map (λ before. before ++ []) old
+nothing_more None = refl
+nothing_more (Some x) = ap Some (sym (append-nil x))
+
+two_more : (old : Option (List (List ℕ))) (a b : List ℕ) → and_one_more (and_one_more old a) b ≡ option_map (λ before. before ++ a ∷ b ∷ []) old
+two_more None a b = refl
+two_more (Some x) a b = ap Some (append_assoc x (a ∷ []) (b ∷ []))
+
+-- no name was asked for
+pub asks_none : (words : List (List ℕ)) (old new : Option (List (List ℕ))) (failed : Which → Type 0) → new ≡ old → ((which : Which) → failed which → ⊥) → AsksOnly words old new failed
+asks_none words old new failed same never = record {
+  count = 0;
+  asked = same ∙ nothing_more old;
+  last = λ which f. absurd (never which f);
+}
+
+first_place : (which : Which) → which ≡ Source → 1 ≡ place which + 1
+first_place Source e = refl
+first_place Inputs e = absurd (cc (e))
+
+second_place : (which : Which) → which ≡ Inputs → 2 ≡ place which + 1
+second_place Source e = absurd (cc (e))
+second_place Inputs e = refl
+
+module _ (words : List (List ℕ)) (wanted : Wanted) (accepted : wanted_of words ≡ Some wanted) where
+  -- the name of the source alone
+  pub asks_source : (old new : Option (List (List ℕ))) (failed : Which → Type 0) → new ≡ and_one_more old wanted.file → ((which : Which) → failed which → which ≡ Source) → AsksOnly words old new failed
+  asks_source old new failed asked first = record {
+    count = 1;
+    asked = rw accepted asked;
+    last = λ which f. first_place which (first which f);
+  }
+
+  -- and then the name of the inputs
+  pub asks_both : (name : List ℕ) (old mid new : Option (List (List ℕ))) (failed : Which → Type 0) → wanted.inputs ≡ Some name → mid ≡ and_one_more old wanted.file → new ≡ and_one_more mid name
+      → ((which : Which) → failed which → which ≡ Inputs) → AsksOnly words old new failed
+  asks_both name old mid new failed named one two second = record {
+    count = 2;
+    asked = rw (accepted, named) (two ∙ ap (λ m. and_one_more m name) one ∙ two_more old wanted.file name);
+    last = λ which f. second_place which (second which f);
+  }
+
+  -- want of memory is no failed read
+  no_fault : {T : Type 0} (result : Result T Status) (which : Which) → result ≡ Err NoMemory → result ≡ Err (ReadFault which) → ⊥
+  no_fault result which memory fault = let bad : Err NoMemory ≡ Err (ReadFault which) = sym memory ∙ fault in cc
+
+  -- after the source: its name was asked for, or nothing
+  pub source_asked : {T : Type 0} (old new : Option (List (List ℕ))) (result : Result T Status) (failed : Which → Type 0) → AsksFile old wanted.file result new → ((which : Which) → failed which → result ≡ Err (ReadFault which))
+      → ((which : Which) → result ≡ Err (ReadFault which) → which ≡ Source) → AsksOnly words old new failed
+  source_asked old new result failed (inl one) is first = asks_source old new failed one (λ which f. first which (is which f))
+  source_asked old new result failed (inr (memory, same)) is first = asks_none words old new failed same (λ which f. no_fault result which memory (is which f))
+
+  -- the name of the source was asked for, where the program was read
+  one_asked : {T : Type 0} (old mid : Option (List (List ℕ))) (result : Result T Status) (x : T) → result ≡ Ok x → AsksFile old wanted.file result mid → mid ≡ and_one_more old wanted.file
+  one_asked old mid result x ok (inl one) = one
+  one_asked old mid result x ok (inr (memory, same)) = let bad : Ok x ≡ Err NoMemory = sym ok ∙ memory in cc
+
+  inputs_asked : {T : Type 0} (held : Option Held) (old mid new : Option (List (List ℕ))) (names : Option (List ℕ)) → wanted.inputs ≡ names → mid ≡ and_one_more old wanted.file → (table : Result T Status) → AsksTable mid names table new
+      → IfErr table (IsInputsEnd held names) → (failed : Which → Type 0) → ((which : Which) → failed which → table ≡ Err (ReadFault which)) → ((which : Which) → table ≡ Err (ReadFault which) → which ≡ Inputs) → AsksOnly words old new failed
+  inputs_asked held old mid new None named one table asked refused failed is second =
+      asks_source old new failed (asked ∙ one) (λ which f. absurd (only_memory which (is which f)))
+    where
+      only_memory : (which : Which) → table ≡ Err (ReadFault which) → ⊥
+      only_memory which e = let bad : ReadFault which ≡ NoMemory = subst (λ r. IfErr r (IsInputsEnd held None)) e refused in cc
+  inputs_asked held old mid new (Some name) named one table (inl two) refused failed is second = asks_both name old mid new failed named one two (λ which f. second which (is which f))
+  inputs_asked held old mid new (Some name) named one table (inr (memory, same)) refused failed is second =
+      asks_source old new failed (same ∙ one) (λ which f. absurd (no_fault table which memory (is which f)))
+
+  -- after the inputs: both names were asked for, or that of the source alone
+  pub table_asked : {T U : Type 0} (held : Option Held) (old mid new : Option (List (List ℕ))) (names : Option (List ℕ)) → wanted.inputs ≡ names → (source : Result U Status) (x : U) → source ≡ Ok x → AsksFile old wanted.file source mid
+      → (table : Result T Status) → AsksTable mid names table new → IfErr table (IsInputsEnd held names) → (failed : Which → Type 0) → ((which : Which) → failed which → table ≡ Err (ReadFault which))
+      → ((which : Which) → table ≡ Err (ReadFault which) → which ≡ Inputs) → AsksOnly words old new failed
+  table_asked held old mid new names named source x ok first table asked refused failed is second =
+      inputs_asked held old mid new names named (one_asked old mid source x ok first) table asked refused failed is second
+
+-- an error that is handed on
+pub same_error : {T U : Type 0} (result : Result T Status) (other : Result U Status) (status cause : Status) → result ≡ Err status → other ≡ Err status → other ≡ Err cause → result ≡ Err cause
+same_error result other status cause p q e =
+    let both : Err status ≡ Err cause = sym q ∙ e in
+    let same : status ≡ cause = cc in
+    p ∙ ap Err same

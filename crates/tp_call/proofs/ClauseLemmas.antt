@@ -1,40 +1,45 @@
 -- What the table of the answers says of each answer.
-use Rattle.std.proofs.Common.{◌≡◌, ◌⊎◌, inl, inr, ℕ, List, length, Option, None, Some, refl, ap, sym, ◌∙◌, subst, arith}
+use Rattle.std.proofs.Common.{◌≡◌, ◌⊎◌, ◌<◌, ◌^◌, inl, inr, ℕ, List, length, Option, None, Some, refl, ap, sym, ◌∙◌, subst, arith}
 use Rattle.tp_io.specs.Devices.{Held, bytes_of}
-use Rattle.tp_run.specs.History.{RunEndsWith, ContinuesEach}
+use Rattle.tp_inputs.proofs.LawLemmas.{no_faulty_table, one_first_fault}
+use Rattle.tp_meaning.specs.Interval.{ProgramTree}
 use Rattle.tp_scene.specs.declared.answer.Cell.{Cell}
 use Rattle.tp_scene.specs.declared.answer.Clash.{Clash}
+use Rattle.tp_show.specs.declared.turn.Picture.{Picture}
+use Rattle.tp_show.specs.Told.{FitsIn64Bits, IsLastTurn}
+use Rattle.tp_run.specs.States.{Plan}
+use Rattle.tp_run.specs.History.{RunEndsWith, ContinuesEach}
+use Rattle.tp_words.specs.Words.{Wanted, wanted_of}
 use Rattle.tp_call.specs.declared.status.Status.{Status}
-use Rattle.tp_call.specs.declared.status.Status.TheVariants.{Finished, Contradictory, Undetermined, StateLimit, ReductionLimit, NumberLimit, ListLimit, CallLimit, NestLimit, InputMissing, SourceRefused, WordsRefused, TooLong, ReadFault, WriteFault, NoMemory}
+use Rattle.tp_call.specs.declared.status.Status.TheVariants.{Finished, Contradictory, Undetermined, StateLimit, ReductionLimit, NumberLimit, ListLimit, CallLimit, NestLimit, InputMissing, SourceRefused, InputsRefused, WordsRefused, TooLong, ReadFault, WriteFault, NoMemory}
 use Rattle.tp_call.specs.declared.status.Which.{Which}
-use Rattle.tp_call.specs.declared.status.Which.TheVariants.{Source}
+use Rattle.tp_call.specs.declared.status.Which.TheVariants.{Source, Inputs}
 use Rattle.tp_call.specs.declared.status.SourceKind.{SourceKind}
 use Rattle.tp_call.specs.declared.refused.Refused.{Refused}
 use Rattle.tp_call.specs.Parts.{refused_status}
-use Rattle.tp_call.proofs.ProgramLemmas.{program_or_refused, refused_once}
-use Rattle.tp_call.specs.Words.{wanted_of}
 use Rattle.tp_call.specs.Written.{Wrote}
-use Rattle.tp_meaning.specs.Interval.{ProgramTree}
-use Rattle.tp_call.specs.Run.{plan_of, EndSays}
+use Rattle.tp_call.specs.Run.{EndSays}
+use Rattle.tp_call.specs.Text.{TextTells, SatisfiedAsTold, ContinuesTold, finished_line}
+use Rattle.tp_call.specs.Answer.{Sourced, Supplied, IsAskedFor, HasInputs, HoldsTable, HoldsProgram, HoldsRefused, IsLongSource, IsLongTable, HasBadLine, IsTold, IsSupplied, Refuses, RunsTo, CallEnds, Answers, Prints, IsOrStopped, IsOrFailed, IsEndOfRun, IsOpenEnd, HasFailed}
+use Rattle.tp_call.specs.Headline.{HoldsTooLong}
+use Rattle.tp_call.proofs.ProgramLemmas.{program_or_refused, refused_once}
 use Rattle.tp_call.proofs.TurnLemmas.{answer_of, answer_is, ends_run}
-use Rattle.tp_call.specs.Answer.{Sourced, HoldsProgram, HoldsRefused, IsLongSource, IsTold, Refuses, CallEnds, Answers, Prints, IsOrStopped, IsOrFailed, IsEndOfRun, HasFailed}
-
--- what the source has where the files tell it
-both_told : (words : List (List ℕ)) (held : Option Held) (P Q : List ℕ → Type 0) → Sourced words held P → IsTold words held Q → (source : List ℕ) × P source × Q source
-both_told words held P Q s t =
-    let same : s.wanted ≡ t.wanted = cc (s.accepted, t.accepted) in
-    (bytes_of t.files t.wanted.file, subst (λ w. P (bytes_of t.files w.file)) same (s.source t.files t.told), t.source)
+use Rattle.tp_call.proofs.TextLemmas.{tells_finished, tells_open}
 
 module _ (words : List (List ℕ)) (held : Option Held) (old new : Option (List ℕ)) where
   -- an answer with an end line is that of a run, or a refusal
   run_alone : (status : Status) → (Refuses words held status → ⊥) → (text : List ℕ) × CallEnds words held status text × Wrote old new text → Prints words held old new status (λ p printed. EndSays p printed (answer_of status))
   run_alone status never (text, inl run, wrote) = record {
-    program = run.program;
+    plan = run.plan;
     pictures = run.pictures;
-    source = run.source;
+    asked = run.asked;
     run = run.run;
     appended = subst (Wrote old new) run.written wrote;
-    says = subst (EndSays (plan_of run.program) run.pictures) (answer_is run.run.answer status run.run.status_is) run.says;
+    fits = run.fits;
+    names = run.names;
+    states = run.states;
+    range = run.range;
+    says = subst (EndSays run.plan run.pictures) (answer_is run.run.answer status run.run.status_is) run.says;
   }
   run_alone status never (text, inr refused, wrote) = absurd (never refused.0)
 
@@ -54,11 +59,11 @@ module _ (words : List (List ℕ)) (held : Option Held) (old new : Option (List 
 
   -- as many states were printed as there may be
   pub state_limit : (result : Status) → Answers words held old new result → (states : ℕ) → result ≡ StateLimit states
-      → Prints words held old new (StateLimit states) (λ p printed. ContinuesEach p printed × (states ≡ length printed) × (states ≡ 1000))
+      → Prints words held old new (StateLimit states) (λ p printed. ContinuesEach p printed × (states ≡ length printed) × (states ≡ p.states))
   state_limit result a states is =
       let p = run_alone (StateLimit states) (λ r. r) (subst (Answers words held old new) is a) in
-      let run = subst (RunEndsWith (plan_of p.program) p.pictures) (answer_is p.run.answer (StateLimit states) p.run.status_is) p.run.run in
-      record { program = p.program; pictures = p.pictures; source = p.source; run = p.run; appended = p.appended; says = (p.says, run.2, run.3) }
+      let run = subst (RunEndsWith p.plan p.pictures) (answer_is p.run.answer (StateLimit states) p.run.status_is) p.run.run in
+      record { plan = p.plan; pictures = p.pictures; asked = p.asked; run = p.run; appended = p.appended; fits = p.fits; names = p.names; states = p.states; range = p.range; says = (p.says, run.2, run.3) }
 
   pub reduction_limit : (result : Status) → Answers words held old new result → (state : ℕ) → result ≡ ReductionLimit state → Prints words held old new (ReductionLimit state) (λ p printed. EndSays p printed (answer_of (ReductionLimit state)))
   reduction_limit result a state is = run_alone (ReductionLimit state) (λ r. r) (subst (Answers words held old new) is a)
@@ -78,111 +83,244 @@ module _ (words : List (List ℕ)) (held : Option Held) (old new : Option (List 
   pub input_missing : (result : Status) → Answers words held old new result → (state : ℕ) (port : List ℕ) → result ≡ InputMissing state port → Prints words held old new (InputMissing state port) (λ p printed. EndSays p printed (answer_of (InputMissing state port)))
   input_missing result a state port is = run_alone (InputMissing state port) (λ r. r) (subst (Answers words held old new) is a)
 
+  -- the same for whoever has the text alone
+  pub finished_text : (result : Status) → Answers words held old new result → (length : ℕ) → result ≡ Finished length
+      → TextTells words held old new (λ plan told last. (n : ℕ) → FitsIn64Bits n → last ≡ finished_line n → SatisfiedAsTold plan told n)
+  finished_text result a n is =
+      let p = finished result a n is in
+      let answer = answer_is p.run.answer (Finished n) p.run.status_is in
+      let run = subst (RunEndsWith p.plan p.pictures) answer p.run.run in
+      let within = run.ends.within in
+      let small : n < 2 ^ 64 = omega (arith, run.count, within, p.states) in
+      tells_finished words held old new (Finished n) _ p p.fits (subst IsLastTurn (sym answer) tt) n answer small p.says.0
+
+  open_by : (status : Status) → Prints words held old new status (λ p printed. EndSays p printed (answer_of status)) → IsLastTurn (answer_of status) → ((plan : Plan) (printed : List Picture) → EndSays plan printed (answer_of status) → ContinuesEach plan printed)
+      → TextTells words held old new (λ plan told last. ContinuesTold plan told)
+  open_by status p last says =
+      let answer = answer_is p.run.answer status p.run.status_is in
+      tells_open words held old new status _ p p.fits (subst IsLastTurn (sym answer) last) (says p.plan p.pictures p.says)
+
+  pub open_text : (result : Status) → Answers words held old new result → IsOpenEnd result → TextTells words held old new (λ plan told last. ContinuesTold plan told)
+  open_text (Undetermined state cell) a o = open_by (Undetermined state cell) (run_alone (Undetermined state cell) (λ r. r) a) tt (λ plan printed h. h)
+  open_text (StateLimit states) a o = open_by (StateLimit states) (run_alone (StateLimit states) (λ r. r) a) tt (λ plan printed h. h)
+  open_text (ReductionLimit state) a o = open_by (ReductionLimit state) (run_alone (ReductionLimit state) (λ r. r) a) tt (λ plan printed h. h)
+  open_text (NumberLimit state) a o = open_by (NumberLimit state) (run_alone (NumberLimit state) (λ r. r) a) tt (λ plan printed h. h)
+  open_text (ListLimit state) a o = open_by (ListLimit state) (run_alone (ListLimit state) (λ r. r) a) tt (λ plan printed h. h)
+  open_text (CallLimit state) a o = open_by (CallLimit state) (run_alone (CallLimit state) (λ r. r) a) tt (λ plan printed h. h)
+  open_text (NestLimit state) a o = open_by (NestLimit state) (run_alone (NestLimit state) (λ r. r) a) tt (λ plan printed h. h)
+  open_text (Finished length) a o = absurd o
+  open_text (Contradictory state clash) a o = absurd o
+  open_text (InputMissing state port) a o = absurd o
+  open_text (SourceRefused line column kind) a o = absurd o
+  open_text (InputsRefused line) a o = absurd o
+  open_text WordsRefused a o = absurd o
+  open_text (TooLong which) a o = absurd o
+  open_text (ReadFault which) a o = absurd o
+  open_text WriteFault a o = absurd o
+  open_text NoMemory a o = absurd o
+
   pub words_refused_only : (result : Status) → Answers words held old new result → result ≡ WordsRefused → wanted_of words ≡ None
   words_refused_only result a is = refusal_alone WordsRefused (λ e. e) (subst (Answers words held old new) is a)
 
-  pub too_long_only : (result : Status) → Answers words held old new result → (which : Which) → result ≡ TooLong which → Sourced words held IsLongSource
+  pub too_long_only : (result : Status) → Answers words held old new result → (which : Which) → result ≡ TooLong which → HoldsTooLong words held result which
   too_long_only result a Source is = refusal_alone (TooLong Source) (λ e. e) (subst (Answers words held old new) is a)
+  too_long_only result a Inputs is = refusal_alone (TooLong Inputs) (λ e. e) (subst (Answers words held old new) is a)
 
   pub source_refused_only : (result : Status) → Answers words held old new result → (line column : ℕ) (kind : SourceKind) → result ≡ SourceRefused line column kind → Sourced words held (HoldsRefused (record { line = line; column = column; kind = kind }))
   source_refused_only result a line column kind is = refusal_alone (SourceRefused line column kind) (λ e. e) (subst (Answers words held old new) is a)
 
-  accepted_is : (P : List ℕ → Type 0) (T : Type 0) → Sourced words held P → wanted_of words ≡ None → T
-  accepted_is P T s none = let bad : Some s.wanted ≡ None = sym s.accepted ∙ none in cc
+  pub inputs_refused_only : (result : Status) → Answers words held old new result → (line : ℕ) → result ≡ InputsRefused line → Supplied words held (HasBadLine line)
+  inputs_refused_only result a line is = refusal_alone (InputsRefused line) (λ e. e) (subst (Answers words held old new) is a)
+
+  -- what an answer is that of: a run, a refusal, a failed write or want of memory
+  pub data View (result : Status) : Type 0 where
+    ran : IsEndOfRun result → (text : List ℕ) → RunsTo words held result text → View result
+    refused : Refuses words held result → View result
+    failed : (result ≡ WriteFault) ⊎ (result ≡ NoMemory) → View result
+
+  of_end : (result : Status) → (text : List ℕ) × CallEnds words held result text × Wrote old new text → View result
+  of_end result (text, inl run, wrote) = ran (ends_run run.run.answer result run.run.status_is) text run
+  of_end result (text, inr refusal, wrote) = refused refusal.0
+
+  pub view : (result : Status) → Answers words held old new result → View result
+  view WriteFault a = failed (inl refl)
+  view NoMemory a = failed (inr refl)
+  view result a = of_end result a
+
+  -- the words of two who accept them ask for the same
+  same_wanted : (w v : Wanted) → wanted_of words ≡ Some w → wanted_of words ≡ Some v → w ≡ v
+  same_wanted w v p q = let both : Some w ≡ Some v = sym p ∙ q in cc
+
+  accepted_never : (w : Wanted) (T : Type 0) → wanted_of words ≡ Some w → wanted_of words ≡ None → T
+  accepted_never w T p q = let bad : Some w ≡ None = sym p ∙ q in absurd (cc)
+
+  -- a refusal other than that of the words is one of accepted words
+  refused_words : (result : Status) → Refuses words held result → (result ≡ WordsRefused) ⊎ ((w : Wanted) × (wanted_of words ≡ Some w))
+  refused_words (SourceRefused line column kind) r = inr (r.wanted, r.accepted)
+  refused_words (InputsRefused line) r = inr (r.wanted, r.accepted)
+  refused_words WordsRefused r = inl refl
+  refused_words (TooLong Source) r = inr (r.wanted, r.accepted)
+  refused_words (TooLong Inputs) r = inr (r.wanted, r.accepted)
+  refused_words (ReadFault Source) r = inr (r.wanted, r.accepted)
+  refused_words (ReadFault Inputs) r = inr (r.wanted, r.accepted)
+  refused_words (Finished length) r = absurd r
+  refused_words (Contradictory state clash) r = absurd r
+  refused_words (Undetermined state cell) r = absurd r
+  refused_words (StateLimit states) r = absurd r
+  refused_words (ReductionLimit state) r = absurd r
+  refused_words (NumberLimit state) r = absurd r
+  refused_words (ListLimit state) r = absurd r
+  refused_words (CallLimit state) r = absurd r
+  refused_words (NestLimit state) r = absurd r
+  refused_words (InputMissing state port) r = absurd r
+  refused_words WriteFault r = absurd r
+  refused_words NoMemory r = absurd r
 
   -- words that are not accepted
   pub words_refused : (result : Status) → Answers words held old new result → wanted_of words ≡ None → IsOrStopped WordsRefused result
-  words_refused WordsRefused a none = inl refl
-  words_refused WriteFault a none = inr (inl refl)
-  words_refused NoMemory a none = inr (inr refl)
-  words_refused (SourceRefused line column kind) a none = accepted_is _ _ (refusal_alone (SourceRefused line column kind) (λ e. e) a) none
-  words_refused (TooLong Source) a none = accepted_is _ _ (refusal_alone (TooLong Source) (λ e. e) a) none
-  words_refused (ReadFault Source) a none = accepted_is _ _ (refusal_alone (ReadFault Source) (λ e. e) a) none
-  words_refused (Finished n) a none = accepted_is _ _ (run_alone (Finished n) (λ r. r) a).source none
-  words_refused (Contradictory state clash) a none = accepted_is _ _ (run_alone (Contradictory state clash) (λ r. r) a).source none
-  words_refused (Undetermined state cell) a none = accepted_is _ _ (run_alone (Undetermined state cell) (λ r. r) a).source none
-  words_refused (ReductionLimit state) a none = accepted_is _ _ (run_alone (ReductionLimit state) (λ r. r) a).source none
-  words_refused (StateLimit states) a none = accepted_is _ _ (run_alone (StateLimit states) (λ r. r) a).source none
-  words_refused (InputMissing state port) a none = accepted_is _ _ (run_alone (InputMissing state port) (λ r. r) a).source none
-  words_refused (NumberLimit state) a none = accepted_is _ _ (run_alone (NumberLimit state) (λ r. r) a).source none
-  words_refused (ListLimit state) a none = accepted_is _ _ (run_alone (ListLimit state) (λ r. r) a).source none
-  words_refused (CallLimit state) a none = accepted_is _ _ (run_alone (CallLimit state) (λ r. r) a).source none
-  words_refused (NestLimit state) a none = accepted_is _ _ (run_alone (NestLimit state) (λ r. r) a).source none
+  words_refused result a none = by (view result a) where
+    by : View result → IsOrStopped WordsRefused result
+    by (ran end text run) = accepted_never run.asked.wanted _ run.asked.accepted none
+    by (refused r) = elim (refused_words result r) [ inl e ↦ inl e | inr w ↦ accepted_never w.0 _ w.1 none ]
+    by (failed f) = inr f
 
-  told_accepted : (P : List ℕ → Type 0) (T : Type 0) → IsTold words held P → wanted_of words ≡ None → T
-  told_accepted P T t none = let bad : Some t.wanted ≡ None = sym t.accepted ∙ none in cc
+  -- the files tell what they hold: the source that the words name has Q
+  module _ (files : Held) (told : held ≡ Some files) (wanted : Wanted) (accepted : wanted_of words ≡ Some wanted) where
+    abbrev source : List ℕ
+    source = bytes_of files wanted.file
 
-  -- a source that a run has is within the limit, and a program
-  ran_told : (status : Status) (Q : List ℕ → Type 0) → Prints words held old new status (λ p printed. EndSays p printed (answer_of status)) → IsTold words held Q → (program : ProgramTree) × ((source : List ℕ) × HoldsProgram program source × Q source)
-  ran_told status Q p t = (p.program, both_told words held _ Q p.source t)
+    program_there : (w : Wanted) (program : ProgramTree) → wanted_of words ≡ Some w → ((f : Held) → held ≡ Some f → HoldsProgram program (bytes_of f w.file)) → HoldsProgram program source
+    program_there w program p h = subst (λ (v : Wanted). HoldsProgram program (bytes_of files v.file)) (same_wanted w wanted p accepted) (h files told)
 
-  long_ran : (T : Type 0) (status : Status) → Prints words held old new status (λ p printed. EndSays p printed (answer_of status)) → IsTold words held IsLongSource → T
-  long_ran T status p t = let told = ran_told status IsLongSource p t in absurd (omega (arith, told.1.1.0, told.1.2))
+    run_there : (result : Status) (text : List ℕ) → RunsTo words held result text → (program : ProgramTree) × HoldsProgram program source
+    run_there result text run = (run.plan.program, program_there run.asked.wanted run.plan.program run.asked.accepted run.asked.source)
+
+    sourced_there : (P : List ℕ → Type 0) → Sourced words held P → P source
+    sourced_there P s = subst (λ (v : Wanted). P (bytes_of files v.file)) (same_wanted s.wanted wanted s.accepted accepted) (s.source files told)
+
+    supplied_source : (P : List ℕ → Type 0) → Supplied words held P → (program : ProgramTree) × HoldsProgram program source
+    supplied_source P s = (s.program, program_there s.wanted s.program s.accepted s.source)
+
+    -- what the answer is where the source has Q: it is none of a run's, if no program has it
+    by_source : (result answer : Status) → View result → (Q : List ℕ → Type 0) → Q source → ((program : ProgramTree) → HoldsProgram program source → ⊥)
+        → ((line column : ℕ) (kind : SourceKind) → result ≡ SourceRefused line column kind → HoldsRefused (record { line = line; column = column; kind = kind }) source → IsOrFailed answer result)
+        → (result ≡ TooLong Source → IsLongSource source → IsOrFailed answer result) → IsOrFailed answer result
+    by_source result answer (ran end text run) Q q never refusal long = let p = run_there result text run in absurd (never p.0 p.1)
+    by_source result answer (failed f) Q q never refusal long = inr (inr f)
+    by_source (SourceRefused line column kind) answer (refused r) Q q never refusal long = refusal line column kind refl (sourced_there _ r)
+    by_source (InputsRefused line) answer (refused r) Q q never refusal long = let p = supplied_source _ r in absurd (never p.0 p.1)
+    by_source WordsRefused answer (refused r) Q q never refusal long = accepted_never wanted _ accepted r
+    by_source (TooLong Source) answer (refused r) Q q never refusal long = long refl (sourced_there _ r)
+    by_source (TooLong Inputs) answer (refused r) Q q never refusal long = let p = supplied_source _ r in absurd (never p.0 p.1)
+    by_source (ReadFault which) answer (refused r) Q q never refusal long = inr (inl (which, refl))
+    by_source (Finished length) answer (refused r) Q q never refusal long = absurd r
+    by_source (Contradictory state clash) answer (refused r) Q q never refusal long = absurd r
+    by_source (Undetermined state cell) answer (refused r) Q q never refusal long = absurd r
+    by_source (StateLimit states) answer (refused r) Q q never refusal long = absurd r
+    by_source (ReductionLimit state) answer (refused r) Q q never refusal long = absurd r
+    by_source (NumberLimit state) answer (refused r) Q q never refusal long = absurd r
+    by_source (ListLimit state) answer (refused r) Q q never refusal long = absurd r
+    by_source (CallLimit state) answer (refused r) Q q never refusal long = absurd r
+    by_source (NestLimit state) answer (refused r) Q q never refusal long = absurd r
+    by_source (InputMissing state port) answer (refused r) Q q never refusal long = absurd r
+    by_source WriteFault answer (refused r) Q q never refusal long = absurd r
+    by_source NoMemory answer (refused r) Q q never refusal long = absurd r
+
+    -- and where it is this program
+    module _ (program : ProgramTree) (is : HoldsProgram program source) where
+      not_refused : (refusal : Refused) → HoldsRefused refusal source → ⊥
+      not_refused refusal h = program_or_refused source program refusal is.1 h.1
+
+      not_long : IsLongSource source → ⊥
+      not_long h = omega (arith, is.0, h)
+
+      by_program : (result : Status) (T : Type 0) → View result → (IsEndOfRun result → (text : List ℕ) → RunsTo words held result text → T) → ((line : ℕ) → result ≡ InputsRefused line → Supplied words held (HasBadLine line) → T)
+          → (result ≡ TooLong Inputs → Supplied words held IsLongTable → T) → (HasFailed result → T) → T
+      by_program result T (ran end text run) run_case bad long fails = run_case end text run
+      by_program result T (failed f) run_case bad long fails = fails (inr f)
+      by_program (SourceRefused line column kind) T (refused r) run_case bad long fails = absurd (not_refused _ (sourced_there _ r))
+      by_program (InputsRefused line) T (refused r) run_case bad long fails = bad line refl r
+      by_program WordsRefused T (refused r) run_case bad long fails = accepted_never wanted _ accepted r
+      by_program (TooLong Source) T (refused r) run_case bad long fails = absurd (not_long (sourced_there _ r))
+      by_program (TooLong Inputs) T (refused r) run_case bad long fails = long refl r
+      by_program (ReadFault which) T (refused r) run_case bad long fails = fails (inl (which, refl))
+      by_program (Finished length) T (refused r) run_case bad long fails = absurd r
+      by_program (Contradictory state clash) T (refused r) run_case bad long fails = absurd r
+      by_program (Undetermined state cell) T (refused r) run_case bad long fails = absurd r
+      by_program (StateLimit states) T (refused r) run_case bad long fails = absurd r
+      by_program (ReductionLimit state) T (refused r) run_case bad long fails = absurd r
+      by_program (NumberLimit state) T (refused r) run_case bad long fails = absurd r
+      by_program (ListLimit state) T (refused r) run_case bad long fails = absurd r
+      by_program (CallLimit state) T (refused r) run_case bad long fails = absurd r
+      by_program (NestLimit state) T (refused r) run_case bad long fails = absurd r
+      by_program (InputMissing state port) T (refused r) run_case bad long fails = absurd r
+      by_program WriteFault T (refused r) run_case bad long fails = absurd r
+      by_program NoMemory T (refused r) run_case bad long fails = absurd r
+
+    -- the inputs that the words name
+    module _ (name : List ℕ) (named : wanted.inputs ≡ Some name) where
+      same_name : (w : Wanted) (n : List ℕ) → wanted_of words ≡ Some w → w.inputs ≡ Some n → n ≡ name
+      same_name w n p q =
+          let e : Some n ≡ Some name = sym q ∙ ap (λ (v : Wanted). v.inputs) (same_wanted w wanted p accepted) ∙ named in
+          cc
+
+      supplied_there : (P : List ℕ → Type 0) → Supplied words held P → P (bytes_of files name)
+      supplied_there P s = subst (λ n. P (bytes_of files n)) (same_name s.wanted s.name s.accepted s.named) (s.inputs files told)
+
+      table_there : (plan : Plan) → IsAskedFor words held plan → HoldsTable plan.inputs (bytes_of files name)
+      table_there plan a =
+          let has : HasInputs (Some name) held plan.inputs =
+          subst (λ o. HasInputs o held plan.inputs) (ap (λ (v : Wanted). v.inputs) (same_wanted a.wanted wanted a.accepted accepted) ∙ named) a.inputs in
+          has files told
 
   -- a source past the limit
   pub too_long : (result : Status) → Answers words held old new result → IsTold words held IsLongSource → IsOrFailed (TooLong Source) result
-  too_long (TooLong Source) a t = inl refl
-  too_long (ReadFault Source) a t = inr (inl refl)
-  too_long WriteFault a t = inr (inr (inl refl))
-  too_long NoMemory a t = inr (inr (inr refl))
-  too_long WordsRefused a t = told_accepted _ _ t (refusal_alone WordsRefused (λ e. e) a)
-  too_long (SourceRefused line column kind) a t =
-      let told = both_told words held _ IsLongSource (refusal_alone (SourceRefused line column kind) (λ e. e) a) t in absurd (omega (arith, told.1.0, told.2))
-  too_long (Finished n) a t = long_ran _ (Finished n) (run_alone (Finished n) (λ r. r) a) t
-  too_long (Contradictory state clash) a t = long_ran _ (Contradictory state clash) (run_alone (Contradictory state clash) (λ r. r) a) t
-  too_long (Undetermined state cell) a t = long_ran _ (Undetermined state cell) (run_alone (Undetermined state cell) (λ r. r) a) t
-  too_long (ReductionLimit state) a t = long_ran _ (ReductionLimit state) (run_alone (ReductionLimit state) (λ r. r) a) t
-  too_long (StateLimit states) a t = long_ran _ (StateLimit states) (run_alone (StateLimit states) (λ r. r) a) t
-  too_long (InputMissing state port) a t = long_ran _ (InputMissing state port) (run_alone (InputMissing state port) (λ r. r) a) t
-  too_long (NumberLimit state) a t = long_ran _ (NumberLimit state) (run_alone (NumberLimit state) (λ r. r) a) t
-  too_long (ListLimit state) a t = long_ran _ (ListLimit state) (run_alone (ListLimit state) (λ r. r) a) t
-  too_long (CallLimit state) a t = long_ran _ (CallLimit state) (run_alone (CallLimit state) (λ r. r) a) t
-  too_long (NestLimit state) a t = long_ran _ (NestLimit state) (run_alone (NestLimit state) (λ r. r) a) t
-
-  refused_ran : (T : Type 0) (status : Status) (refused : Refused) → Prints words held old new status (λ p printed. EndSays p printed (answer_of status)) → IsTold words held (HoldsRefused refused) → T
-  refused_ran T status refused p t = let told = ran_told status (HoldsRefused refused) p t in absurd (program_or_refused told.1.0 told.0 refused told.1.1.1 told.1.2.1)
+  too_long result a t =
+      by_source t.files t.told t.wanted t.accepted result (TooLong Source) (view result a) IsLongSource t.source (λ p h. omega (arith, h.0, t.source))
+      (λ line column kind e h. absurd (omega (arith, h.0, t.source))) (λ e h. inl e)
 
   -- a source that is refused
-  pub source_refused : (result : Status) → Answers words held old new result → (refused : Refused) → IsTold words held (HoldsRefused refused) → IsOrFailed (refused_status refused) result
-  source_refused (SourceRefused line column kind) a refused t =
-      let r = refusal_alone (SourceRefused line column kind) (λ e. e) a in
-      let told = both_told words held _ (HoldsRefused refused) r t in
-      inl (ap refused_status (refused_once told.0 (record { line = line; column = column; kind = kind }) refused told.1.1 told.2.1))
-  source_refused (ReadFault Source) a refused t = inr (inl refl)
-  source_refused WriteFault a refused t = inr (inr (inl refl))
-  source_refused NoMemory a refused t = inr (inr (inr refl))
-  source_refused WordsRefused a refused t = told_accepted _ _ t (refusal_alone WordsRefused (λ e. e) a)
-  source_refused (TooLong Source) a refused t =
-      let told = both_told words held IsLongSource (HoldsRefused refused) (refusal_alone (TooLong Source) (λ e. e) a) t in absurd (omega (arith, told.1, told.2.0))
-  source_refused (Finished n) a refused t = refused_ran _ (Finished n) refused (run_alone (Finished n) (λ r. r) a) t
-  source_refused (Contradictory state clash) a refused t = refused_ran _ (Contradictory state clash) refused (run_alone (Contradictory state clash) (λ r. r) a) t
-  source_refused (Undetermined state cell) a refused t = refused_ran _ (Undetermined state cell) refused (run_alone (Undetermined state cell) (λ r. r) a) t
-  source_refused (ReductionLimit state) a refused t = refused_ran _ (ReductionLimit state) refused (run_alone (ReductionLimit state) (λ r. r) a) t
-  source_refused (StateLimit states) a refused t = refused_ran _ (StateLimit states) refused (run_alone (StateLimit states) (λ r. r) a) t
-  source_refused (InputMissing state port) a refused t = refused_ran _ (InputMissing state port) refused (run_alone (InputMissing state port) (λ r. r) a) t
-  source_refused (NumberLimit state) a refused t = refused_ran _ (NumberLimit state) refused (run_alone (NumberLimit state) (λ r. r) a) t
-  source_refused (ListLimit state) a refused t = refused_ran _ (ListLimit state) refused (run_alone (ListLimit state) (λ r. r) a) t
-  source_refused (CallLimit state) a refused t = refused_ran _ (CallLimit state) refused (run_alone (CallLimit state) (λ r. r) a) t
-  source_refused (NestLimit state) a refused t = refused_ran _ (NestLimit state) refused (run_alone (NestLimit state) (λ r. r) a) t
+  pub source_refused : (result : Status) → Answers words held old new result → (refusal : Refused) → IsTold words held (HoldsRefused refusal) → IsOrFailed (refused_status refusal) result
+  source_refused result a refusal t =
+      by_source t.files t.told t.wanted t.accepted result (refused_status refusal) (view result a) (HoldsRefused refusal) t.source (λ p h. program_or_refused (bytes_of t.files t.wanted.file) p refusal h.1 t.source.1)
+      (λ line column kind e h. inl (e ∙ ap refused_status (refused_once (bytes_of t.files t.wanted.file) (record { line = line; column = column; kind = kind }) refusal h.1 t.source.1)))
+      (λ e h. absurd (omega (arith, h, t.source.0)))
 
-  -- a source that is a program
-  pub program_runs : (program : ProgramTree) (result : Status) → Answers words held old new result → IsTold words held (HoldsProgram program) → IsEndOfRun result ⊎ HasFailed result
-  program_runs program (Finished n) a t = inl tt
-  program_runs program (Contradictory state clash) a t = inl tt
-  program_runs program (Undetermined state cell) a t = inl tt
-  program_runs program (ReductionLimit state) a t = inl tt
-  program_runs program (StateLimit states) a t = inl tt
-  program_runs program (InputMissing state port) a t = inl tt
-  program_runs program (NumberLimit state) a t = inl tt
-  program_runs program (ListLimit state) a t = inl tt
-  program_runs program (CallLimit state) a t = inl tt
-  program_runs program (NestLimit state) a t = inl tt
-  program_runs program (ReadFault Source) a t = inr (inl refl)
-  program_runs program WriteFault a t = inr (inr (inl refl))
-  program_runs program NoMemory a t = inr (inr (inr refl))
-  program_runs program WordsRefused a t = told_accepted _ _ t (refusal_alone WordsRefused (λ e. e) a)
-  program_runs program (TooLong Source) a t =
-      let told = both_told words held IsLongSource (HoldsProgram program) (refusal_alone (TooLong Source) (λ e. e) a) t in absurd (omega (arith, told.1, told.2.0))
-  program_runs program (SourceRefused line column kind) a t =
-      let told = both_told words held _ (HoldsProgram program) (refusal_alone (SourceRefused line column kind) (λ e. e) a) t in
-      absurd (program_or_refused told.0 program (record { line = line; column = column; kind = kind }) told.2.1 told.1.1)
+  -- inputs past the limit
+  pub inputs_too_long : (result : Status) → Answers words held old new result → IsSupplied words held IsLongTable → IsOrFailed (TooLong Inputs) result
+  inputs_too_long result a t =
+      by_program t.files t.told t.wanted t.accepted t.program t.source result (IsOrFailed (TooLong Inputs) result) (view result a)
+      (λ end text run. let h = table_there t.files t.told t.wanted t.accepted t.name t.named run.plan run.asked in absurd (omega (arith, h.0, t.inputs)))
+      (λ line e s. let h = supplied_there t.files t.told t.wanted t.accepted t.name t.named (HasBadLine line) s in absurd (omega (arith, h.0, t.inputs)))
+      (λ e s. inl e) inr
+
+  -- inputs that are refused
+  pub inputs_refused : (result : Status) → Answers words held old new result → (line : ℕ) → IsSupplied words held (HasBadLine line) → IsOrFailed (InputsRefused line) result
+  inputs_refused result a line t =
+      let bytes = bytes_of t.files t.name in
+      by_program t.files t.told t.wanted t.accepted t.program t.source result (IsOrFailed (InputsRefused line) result) (view result a)
+      (λ end text run. let h = table_there t.files t.told t.wanted t.accepted t.name t.named run.plan run.asked in absurd (no_faulty_table bytes run.plan.inputs line t.inputs.1.0 h.1 t.inputs.1.1))
+      (λ other e s.
+      let h = supplied_there t.files t.told t.wanted t.accepted t.name t.named (HasBadLine other) s in
+      let same = one_first_fault bytes other line h.1.0 t.inputs.1.0 h.1.1 t.inputs.1.1 in
+      inl (e ∙ ap InputsRefused same.0))
+      (λ e s. let h = supplied_there t.files t.told t.wanted t.accepted t.name t.named IsLongTable s in absurd (omega (arith, h, t.inputs.0))) inr
+
+  -- what is asked for is there
+  pub program_runs : (result : Status) → Answers words held old new result → (files : Held) → held ≡ Some files → (plan : Plan) → IsAskedFor words held plan → IsEndOfRun result ⊎ HasFailed result
+  program_runs result a files told plan asked =
+      by_program files told asked.wanted asked.accepted plan.program (asked.source files told) result (IsEndOfRun result ⊎ HasFailed result) (view result a)
+      (λ end text run. inl end)
+      (λ line e s.
+      let n = name_of s in
+      let bad = supplied_there files told asked.wanted asked.accepted s.name n (HasBadLine line) s in
+      let good = table_there files told asked.wanted asked.accepted s.name n plan asked in
+      absurd (no_faulty_table (bytes_of files s.name) plan.inputs line bad.1.0 good.1 bad.1.1))
+      (λ e s.
+      let n = name_of s in
+      let long = supplied_there files told asked.wanted asked.accepted s.name n IsLongTable s in
+      let good = table_there files told asked.wanted asked.accepted s.name n plan asked in
+      absurd (omega (arith, long, good.0))) inr
+    where
+      name_of : {P : List ℕ → Type 0} → (s : Supplied words held P) → asked.wanted.inputs ≡ Some s.name
+      name_of s = ap (λ (v : Wanted). v.inputs) (same_wanted asked.wanted s.wanted asked.accepted s.accepted) ∙ s.named

@@ -1,6 +1,7 @@
--- The facts of a settled state: in order, without a clash, of the variables that the run has.
-use Rattle.std.proofs.Common.{◌≡◌, ℕ, zero, suc, ◌<◌, Bool, nat_lt, List, [], ◌∷◌, length, map, Some, slice_get, true, refl, ap, sym, ◌∙◌, arith}
+-- The facts of settled states: in order, without a clash, of the variables that the run has.
+use Rattle.std.proofs.Common.{◌≡◌, ℕ, zero, suc, ◌<◌, Bool, nat_lt, List, [], ◌∷◌, length, map, All, Some, slice_get, refl, ap, sym, subst, ◌∙◌, arith}
 use Rattle.std.proofs.lemmas.Bool.{ltb-true}
+use Rattle.std.proofs.lemmas.List.Elements.{All-nil, All-cons, All-push}
 use Rattle.tp_value.specs.Globals.{is_lower}
 use Rattle.tp_value.specs.declared.path.Fact.{Fact}
 use Rattle.tp_meaning.specs.Interval.{kinds_of}
@@ -10,16 +11,18 @@ use Rattle.tp_store.proofs.Members.{In, in_filter, kept_in, in_kept}
 use Rattle.tp_scene.specs.Laws.{StoreFits}
 use Rattle.tp_scene.specs.Fits.{kinds_in}
 use Rattle.tp_scene.proofs.Globals.{of_variables_in, in_of_variables}
-use Rattle.tp_run.specs.declared.turn.Picture.{Picture}
-use Rattle.tp_run.specs.declared.turn.Turn.{Turn}
-use Rattle.tp_run.specs.declared.turn.Turn.TheVariants as turn
-use Rattle.tp_run.specs.States.{Plan, setting, AreGlobals, Standing, open_at, answered, spent, AnswersState}
-use Rattle.tp_run.specs.Runs.{StandsSound}
-use Rattle.tp_run.proofs.StatesMean.{leads_sound}
-use Rattle.tp_run.proofs.Given.{scene_laws}
-use Rattle.tp_call.specs.Line.{AreFactsOf}
-use Rattle.tp_call.specs.Places.{StandsOpen}
-use Rattle.tp_call.specs.Progress.{is_settled}
+use Rattle.tp_meaning.specs.Fits.{ProgramFits}
+use Rattle.tp_scene.specs.Laws.{IsSound}
+use Rattle.tp_scene.specs.Pick.{Moment, Leads}
+use Rattle.tp_scene.specs.StandsFor.{first_moment}
+use Rattle.tp_show.specs.declared.turn.Picture.{Picture}
+use Rattle.tp_show.specs.declared.turn.Turn.{Turn}
+use Rattle.tp_show.specs.declared.turn.Turn.TheVariants as turn
+use Rattle.tp_show.specs.Line.{AreFactsOf}
+use Rattle.tp_run.specs.States.{Plan, setting, AreGlobals, StatesLead, LeadsTo}
+use Rattle.tp_run.specs.History.{RunEndsWith}
+use Rattle.tp_run.proofs.StatesMean.{leads_sound, next_sound, lead_sound}
+use Rattle.tp_run.proofs.Given.{scene_laws, first_sound}
 
 -- whether each variable of these names is static
 kinds_are : (names : List (List ℕ)) → map (λ (v : Variable). v.lasting) (map global_variable names) ≡ kinds_of names
@@ -52,20 +55,37 @@ facts_are names kept facts fits are = record {
   of_variables = in_of_variables (map global_variable names) facts (λ f i. of_global names kept facts f fits are i);
 }
 
--- the facts of a state that is settled
-pub settled_facts : (plan : Plan) (from to : Standing) (n m : ℕ) (old new : Picture) (answer : Turn) → StandsSound plan n from → StandsOpen from → AnswersState plan from n old new to m answer → is_settled answer ≡ true → AreFactsOf plan.program.globals new.facts
-settled_facts plan (answered last) to n m old new answer r o a s = absurd o
-settled_facts plan spent to n m old new answer r o a s = absurd o
-settled_facts plan (open_at moment) to n m old new turn.Went r o a s =
-    let b = a.0.1 in
-    let last = leads_sound scene_laws (setting plan n) (kinds_of plan.program.globals) b.picks moment b.last r b.goes.closes.leads in
-    facts_are plan.program.globals b.last.store new.facts last.store b.picture_is.facts
-settled_facts plan (open_at moment) to n m old new (turn.Finished length) r o a s =
-    let b = a.0.0 in
-    let last = leads_sound scene_laws (setting plan n) (kinds_of plan.program.globals) b.picks moment b.last r b.ends.closes.leads in
-    facts_are plan.program.globals b.last.store new.facts last.store b.picture_is.facts
-settled_facts plan (open_at moment) to n m old new (turn.Contradictory state clash) r o a s = cc
-settled_facts plan (open_at moment) to n m old new (turn.Undetermined state cell) r o a s = cc
-settled_facts plan (open_at moment) to n m old new (turn.StateLimit states) r o a s = cc
-settled_facts plan (open_at moment) to n m old new (turn.InputMissing state port) r o a s = cc
-settled_facts plan (open_at moment) to n m old new (turn.Over state limit) r o a s = cc
+-- of each state that a run settles
+module _ (plan : Plan) where
+  abbrev HasFacts : Picture → Type 0
+  HasFacts picture = AreFactsOf plan.program.globals picture.facts
+
+  abbrev Sound : ℕ → Moment → Type 0
+  Sound n m = IsSound (setting plan n) (kinds_of plan.program.globals) m
+
+  after_picks : (n : ℕ) (m last : Moment) (picks : List ℕ) (picture : Picture) → Sound n m → Leads (setting plan n) m picks last → AreGlobals (length (kinds_of plan.program.globals)) last.store.facts picture.facts → HasFacts picture
+  after_picks n m last picks picture sound leads are =
+      let there = leads_sound scene_laws (setting plan n) (kinds_of plan.program.globals) picks m last sound leads in
+      facts_are plan.program.globals last.store picture.facts there.store are
+
+  states_facts : (n : ℕ) (m last : Moment) (ps : List Picture) → Sound n m → StatesLead plan n m ps last → All HasFacts ps
+  states_facts n m last [] sound h = All-nil HasFacts
+  states_facts n m last (p ∷ ps) sound h =
+      All-cons HasFacts p ps (after_picks n m h.1.last h.1.picks p sound h.1.goes.closes.leads h.1.picture_is.facts)
+      (states_facts (suc n) h.0 last ps (next_sound scene_laws plan n m h.0 p sound h.1 (suc n)) h.2)
+
+  leads_facts : (ps : List Picture) (m : Moment) → ProgramFits plan.program → LeadsTo plan ps m → All HasFacts ps
+  leads_facts ps m fits h = states_facts 0 (first_moment plan.program.globals plan.program.main) m ps (first_sound plan fits) h
+
+  pub run_facts : (ps : List Picture) (answer : Turn) → ProgramFits plan.program → RunEndsWith plan ps answer → All HasFacts ps
+  run_facts ps turn.Went fits e = absurd e
+  run_facts ps (turn.Finished n) fits e =
+      let start = first_sound plan fits in
+      let here = lead_sound scene_laws plan 0 (length e.before) e.before (first_moment plan.program.globals plan.program.main) e.moment (omega arith) start e.leads in
+      let last = after_picks (length e.before) e.moment e.ends.last e.ends.picks e.final here e.ends.ends.closes.leads e.ends.picture_is.facts in
+      subst (All HasFacts) (sym e.pictures) (All-push HasFacts e.before e.final (leads_facts e.before e.moment fits e.leads) last)
+  run_facts ps (turn.Contradictory state clash) fits e = leads_facts ps e.0 fits e.1
+  run_facts ps (turn.Undetermined state cell) fits e = leads_facts ps e.0 fits e.1
+  run_facts ps (turn.StateLimit states) fits e = leads_facts ps e.0 fits e.1
+  run_facts ps (turn.InputMissing state port) fits e = leads_facts ps e.0 fits e.1
+  run_facts ps (turn.Over state limit) fits e = leads_facts ps e.0 fits e.1

@@ -1,10 +1,19 @@
--- A source that is refused.
-use Rattle.std.proofs.Common.{◌≡◌, ◌≢◌, ◌≤◌, inl, inr, ℕ, List, length, Option, None, Some, Err, refl, sym, subst}
+-- Files that are refused.
+use Rattle.std.proofs.Common.{◌≡◌, ◌≢◌, ◌≤◌, inl, inr, ℕ, List, length, Option, None, Some, Result, Err, IfErr, MatchOption, IsSomeAnd, refl, sym, ap, ◌∙◌, subst}
+use Rattle.std.specs.Option.{option_map}
 use Rattle.tp_lex.specs.Place.{source_limit}
 use Rattle.tp_io.specs.Devices.{Held, bytes_of}
 use Rattle.tp_call.specs.declared.status.Status.{Status}
-use Rattle.tp_call.specs.Words.{Wanted, wanted_of}
-use Rattle.tp_call.specs.Answer.{WhereTold, HoldsRefused, Sourced, Refuses}
+use Rattle.tp_call.specs.declared.status.Status.TheVariants.{TooLong, ReadFault, NoMemory}
+use Rattle.tp_call.specs.declared.status.Which.{Which}
+use Rattle.tp_call.specs.declared.status.Which.TheVariants.{Source, Inputs}
+use Rattle.tp_call.specs.declared.source.ReadRefusal.{ReadRefusal}
+use Rattle.tp_call.specs.declared.source.ReadRefusal.TheVariants as read
+use Rattle.tp_call.specs.Reading.{read_end, asked_by, AsksFile}
+use Rattle.tp_meaning.specs.Inputs.{InputLines}
+use Rattle.tp_meaning.specs.Interval.{ProgramTree}
+use Rattle.tp_words.specs.Words.{Wanted, wanted_of}
+use Rattle.tp_call.specs.Answer.{inputs_limit, WhereTold, HasInputs, HoldsProgram, HoldsRefused, HasBadLine, IsLongSource, IsLongTable, Supplied, Refuses}
 use Rattle.tp_call.specs.declared.refused.Refused.{Refused}
 use Rattle.tp_lex.specs.declared.token.Token.{Token}
 use Rattle.tp_lex.specs.declared.refusal.LexRefusal.{LexRefusal}
@@ -19,22 +28,92 @@ use Rattle.tp_check.specs.Program.{ChecksTo}
 use Rattle.tp_check.specs.declared.refusal.CheckRefusal.{CheckRefusal}
 use Rattle.tp_check.specs.declared.refusal.CheckRefusal.TheVariants as check
 use Rattle.tp_call.specs.Source.{IsRefusedAt, lexer_refusal, parser_refusal, checker_refusal}
-use Rattle.tp_call.specs.Parts.{refusal_end, IsReadRefusal, IsProgramRefusal}
+use Rattle.tp_call.specs.Parts.{refusal_end, IsReadRefusal, IsSourceRefusal, IsTableRefusal, IsInputsEnd, IsProgramRefusal}
 
--- the source is what was read
-sourced : (words : List (List ℕ)) (held : Option Held) (wanted : Wanted) (source : List ℕ) (refused : Refused) → wanted_of words ≡ Some wanted → length source ≤ source_limit
-    → WhereTold held (λ files. source ≡ bytes_of files wanted.file) → IsRefusedAt source refused → Sourced words held (HoldsRefused refused)
-sourced words held wanted source refused accepted short told cause = record {
-  wanted = wanted;
-  accepted = accepted;
-  source = λ files is. subst (HoldsRefused refused) (told files is) (short, cause);
-}
+-- the source that was read is refused
+pub source_refused : (held : Option Held) (name source : List ℕ) (status : Status) → length source ≤ source_limit → WhereTold held (λ files. source ≡ bytes_of files name) → IsReadRefusal source status → IsSourceRefusal held name status
+source_refused held name source status short told (inl memory) = inl memory
+source_refused held name source status short told (inr (refused, is, cause)) = inr (inr (inr (refused, is, λ files at. subst (HoldsRefused refused) (told files at) (short, cause))))
 
-pub refused_source : (words : List (List ℕ)) (held : Option Held) (wanted : Wanted) (source : List ℕ) (status : Status) → wanted_of words ≡ Some wanted → length source ≤ source_limit
-    → WhereTold held (λ files. source ≡ bytes_of files wanted.file) → IsReadRefusal source status → IsProgramRefusal words held status
-refused_source words held wanted source status accepted short told (inl memory) = inl memory
-refused_source words held wanted source status accepted short told (inr (refused, is, cause)) =
-    inr (subst (Refuses words held) (sym is) (sourced words held wanted source refused accepted short told cause))
+-- it can't be read
+pub source_unread : (held : Option Held) (name : List ℕ) (refusal : ReadRefusal) (status : Status) → status ≡ read_end refusal Source → (refusal ≡ read.TooLong → WhereTold held (λ files. IsLongSource (bytes_of files name))) → IsSourceRefusal held name status
+source_unread held name read.TooLong status is long = inr (inr (inl (is, long refl)))
+source_unread held name read.Failed status is long = inr (inl is)
+source_unread held name read.NoMemory status is long = inl is
+
+-- the inputs that were read are refused
+pub table_refused : (held : Option Held) (name text : List ℕ) (status : Status) → length text ≤ inputs_limit → WhereTold held (λ files. text ≡ bytes_of files name) → IsTableRefusal text status → IsInputsEnd held (Some name) status
+table_refused held name text status short told (inl memory) = inl memory
+table_refused held name text status short told (inr (line, is, cause)) = inr (inr (inr (line, is, λ files at. subst (HasBadLine line) (told files at) (short, cause))))
+
+-- they can't be read
+pub table_unread : (held : Option Held) (name : List ℕ) (refusal : ReadRefusal) (status : Status) → status ≡ read_end refusal Inputs → (refusal ≡ read.TooLong → WhereTold held (λ files. IsLongTable (bytes_of files name))) → IsInputsEnd held (Some name) status
+table_unread held name read.TooLong status is long = inr (inr (inl (is, long refl)))
+table_unread held name read.Failed status is long = inr (inl is)
+table_unread held name read.NoMemory status is long = inl is
+
+-- a read that failed is of that file
+pub fault_of_read : {T : Type 0} (result : Result T Status) (refusal : ReadRefusal) (mine : Which) (status : Status) (R : Type 0) → result ≡ Err status → status ≡ read_end refusal mine → (refusal ≡ read.Failed → R)
+    → (which : Which) → result ≡ Err (ReadFault which) → (which ≡ mine) × R
+fault_of_read result read.TooLong mine status R at is rose which e = let bad : Err (TooLong mine) ≡ Err (ReadFault which) = ap Err (sym is) ∙ sym at ∙ e in absurd (cc)
+fault_of_read result read.Failed mine status R at is rose which e = let same : Err (ReadFault mine) ≡ Err (ReadFault which) = ap Err (sym is) ∙ sym at ∙ e in (cc, rose refl)
+fault_of_read result read.NoMemory mine status R at is rose which e = let bad : Err NoMemory ≡ Err (ReadFault which) = ap Err (sym is) ∙ sym at ∙ e in absurd (cc)
+
+-- the name was asked for by a read that was refused, or memory was wanted
+pub asked_unread : {U : Type 0} (told new : Option (List (List ℕ))) (name : List ℕ) (refusal : ReadRefusal) (which : Which) (status : Status) → status ≡ read_end refusal which → new ≡ asked_by {T = List ℕ} told name (Err refusal)
+    → AsksFile {T = U} told name (Err status) new
+asked_unread told new name read.TooLong which status is asked = inl asked
+asked_unread told new name read.Failed which status is asked = inl asked
+asked_unread told new name read.NoMemory which status is asked = inr (ap Err is, asked)
+
+-- a text that was read is refused otherwise than by a failed read
+no_fault_of_source : (source : List ℕ) (which : Which) → IsReadRefusal source (ReadFault which) → ⊥
+no_fault_of_source source which (inl memory) = cc
+no_fault_of_source source which (inr (refused, is, cause)) = cc
+
+pub no_source_fault : {T : Type 0} (R : Type 0) (result : Result T Status) (source : List ℕ) → IfErr result (IsReadRefusal source) → (which : Which) → result ≡ Err (ReadFault which) → R
+no_source_fault R result source refused which e = absurd (no_fault_of_source source which (subst (λ r. IfErr r (IsReadRefusal source)) e refused))
+
+no_fault_of_table : (text : List ℕ) (which : Which) → IsTableRefusal text (ReadFault which) → ⊥
+no_fault_of_table text which (inl memory) = cc
+no_fault_of_table text which (inr (line, is, cause)) = cc
+
+pub no_table_fault : {T : Type 0} (R : Type 0) (result : Result T Status) (text : List ℕ) → IfErr result (IsTableRefusal text) → (which : Which) → result ≡ Err (ReadFault which) → R
+no_table_fault R result text refused which e = absurd (no_fault_of_table text which (subst (λ r. IfErr r (IsTableRefusal text)) e refused))
+
+module _ (words : List (List ℕ)) (held : Option Held) (wanted : Wanted) (accepted : wanted_of words ≡ Some wanted) where
+  -- the refusal of the source is one of the call
+  pub no_program : (status : Status) → IsSourceRefusal held wanted.file status → IsProgramRefusal words held status
+  no_program status (inl memory) = inl memory
+  no_program status (inr (inl is)) = inr (subst (Refuses words held) (sym is) (record { wanted = wanted; accepted = accepted; source = λ files told. tt }))
+  no_program status (inr (inr (inl (is, long)))) = inr (subst (Refuses words held) (sym is) (record { wanted = wanted; accepted = accepted; source = long }))
+  no_program status (inr (inr (inr (refused, is, cause)))) = inr (subst (Refuses words held) (sym is) (record { wanted = wanted; accepted = accepted; source = cause }))
+
+  module _ (program : ProgramTree) (source : WhereTold held (λ files. HoldsProgram program (bytes_of files wanted.file))) where
+    supplied : (name : List ℕ) (P : List ℕ → Type 0) → wanted.inputs ≡ Some name → WhereTold held (λ files. P (bytes_of files name)) → Supplied words held P
+    supplied name P named inputs = record { wanted = wanted; accepted = accepted; name = name; named = named; program = program; source = source; inputs = inputs }
+
+    -- the refusal of the inputs is one of the call
+    no_table_here : (names : Option (List ℕ)) (status : Status) → wanted.inputs ≡ names → IsInputsEnd held names status → IsProgramRefusal words held status
+    no_table_here None status named memory = inl memory
+    no_table_here (Some name) status named (inl memory) = inl memory
+    no_table_here (Some name) status named (inr (inl is)) = inr (subst (Refuses words held) (sym is) (supplied name (λ inputs. Unit {0}) named (λ files told. tt)))
+    no_table_here (Some name) status named (inr (inr (inl (is, long)))) = inr (subst (Refuses words held) (sym is) (supplied name IsLongTable named long))
+    no_table_here (Some name) status named (inr (inr (inr (line, is, cause)))) = inr (subst (Refuses words held) (sym is) (supplied name (HasBadLine line) named cause))
+
+    -- where the files that were told before the read are these
+    pub no_table : (names : Option (List ℕ)) (status : Status) (mid : Option Held) → mid ≡ held → wanted.inputs ≡ names → IsInputsEnd mid names status → IsProgramRefusal words held status
+    no_table names status mid same named end = no_table_here names status named (subst (λ m. IsInputsEnd m names status) same end)
+
+-- a table of the name that was lent, of files that tell the same
+pub inputs_held : (held mid : Option Held) (lent own : Option (List ℕ)) (table : InputLines) → mid ≡ held → lent ≡ own → HasInputs lent mid table → HasInputs own held table
+inputs_held held mid lent own table same name is = subst (λ o. HasInputs o held table) name (subst (λ m. HasInputs lent m table) same is)
+
+-- the name that a lent text gives
+pub lent_name : {A B : Type 0} (read : A → List ℕ) (owned : B → List ℕ) (lent : Option A) (own : Option B) → MatchOption own (lent ≡ None) (λ s. IsSomeAnd lent (λ t. read t ≡ owned s)) → option_map read lent ≡ option_map owned own
+lent_name read owned lent None is = ap (option_map read) is
+lent_name read owned None (Some s) is = absurd is
+lent_name read owned (Some t) (Some s) is = ap Some is
 
 -- The answer for a refusal, by what it says where it is none of memory.
 pub read_refused : (source : List ℕ) (status : Status) (refused : Option Refused) → status ≡ refusal_end refused → ((r : Refused) → refused ≡ Some r → IsRefusedAt source r) → IsReadRefusal source status
@@ -62,5 +141,6 @@ not_run source tokens tree (check.Unknown at) are accepted g r is = inr (inr (re
 not_run source tokens tree (check.WrongCount at) are accepted g r is = inr (inr (record { tokens = tokens; tree = tree; refusal = check.WrongCount at; are_tokens = are; accepted = accepted; outcome = g (λ e. cc (e)); answer = is }))
 not_run source tokens tree (check.NotExpression at) are accepted g r is = inr (inr (record { tokens = tokens; tree = tree; refusal = check.NotExpression at; are_tokens = are; accepted = accepted; outcome = g (λ e. cc (e)); answer = is }))
 not_run source tokens tree (check.NotPlace at) are accepted g r is = inr (inr (record { tokens = tokens; tree = tree; refusal = check.NotPlace at; are_tokens = are; accepted = accepted; outcome = g (λ e. cc (e)); answer = is }))
+not_run source tokens tree (check.NotPort at) are accepted g r is = inr (inr (record { tokens = tokens; tree = tree; refusal = check.NotPort at; are_tokens = are; accepted = accepted; outcome = g (λ e. cc (e)); answer = is }))
 not_run source tokens tree (check.NotExecutable at) are accepted g r is = inr (inr (record { tokens = tokens; tree = tree; refusal = check.NotExecutable at; are_tokens = are; accepted = accepted; outcome = g (λ e. cc (e)); answer = is }))
 not_run source tokens tree check.NoMemory are accepted g r is = absurd (cc (is))

@@ -9,50 +9,95 @@ use Rattle.tp_check.specs.declared.program.Program.{Program}
 use Rattle.tp_check.specs.Program.{program_tree}
 use Rattle.tp_run.specs.declared.run.Run.{Run}
 use Rattle.tp_run.specs.Runs.{program_of, IsRunOf}
-use Rattle.tp_run.specs.declared.turn.Picture.{Picture}
-use Rattle.tp_run.specs.declared.turn.Turn.{Turn}
-use Rattle.tp_run.specs.declared.turn.Turn.TheVariants as turn
-use Rattle.tp_run.specs.States.{Plan, AnswersState, LeavesStore}
+use Rattle.tp_show.specs.declared.turn.Picture.{Picture}
+use Rattle.tp_show.specs.declared.turn.Turn.{Turn}
+use Rattle.tp_show.specs.declared.turn.Turn.TheVariants as turn
+use Rattle.tp_run.specs.States.{Plan, RunPlace, Standing, open_at, answered, spent, StateBecomes, AnswersState}
+use Rattle.tp_show.specs.Parts.{line_parts}
+use Rattle.tp_show.specs.Read.{plain_parts}
+use Rattle.tp_call.specs.Places.{StandsOpen}
 use Rattle.tp_call.specs.declared.status.Status.{Status}
-use Rattle.tp_call.specs.declared.status.Status.TheVariants.{Finished, Contradictory, Undetermined, StateLimit, ReductionLimit, NumberLimit, ListLimit, CallLimit, NestLimit, InputMissing, SourceRefused, WordsRefused, TooLong, ReadFault, WriteFault, NoMemory}
-use Rattle.tp_call.specs.Line.{state_line}
-use Rattle.tp_call.specs.Run.{status_of}
+use Rattle.tp_call.specs.declared.status.Status.TheVariants.{Finished, Contradictory, Undetermined, StateLimit, ReductionLimit, NumberLimit, ListLimit, CallLimit, NestLimit, InputMissing, SourceRefused, InputsRefused, WordsRefused, TooLong, ReadFault, WriteFault, NoMemory}
+use Rattle.tp_show.specs.Line.{picture_lines}
+use Rattle.tp_show.specs.Told.{IsPictureInRange, IsLastTurn}
+use Rattle.tp_call.specs.Run.{last_answer, limit_end, status_of}
 use Rattle.tp_call.specs.Answer.{IsEndOfRun}
 use Rattle.tp_call.specs.Written.{Wrote}
-use Rattle.tp_call.specs.Progress.{RunPlace, Turned, is_settled, line_of, AnswerMade, TurnMade}
+use Rattle.tp_call.specs.Progress.{Turned, is_settled, printed_lines, AnswerMade, TurnMade}
 
 -- the names of the globals of the program that a run of this plan has
 pub names_are : (plan : Plan) (program : Program) (run : Run) → program_tree program ≡ program_of run → IsRunOf plan run → program.globals ≡ plan.program.globals
 names_are plan program run e h = ap (λ (p : ProgramTree). p.globals) (e ∙ h.program)
 
 -- the call gives this answer, and what was to be written of it was
-module _ (plan : Plan) (names : List (List ℕ)) (from to : RunPlace) (answer : Turn) (earlier picture : Picture) (answers : AnswersState plan from.standing from.state earlier picture to.standing to.state answer)
-    (leaves : LeavesStore plan from.standing from.state picture from.store to.store answer) (before : Option (List ℕ)) where
-  pub answer_made : (after : Option (List ℕ)) (status : Option Status) → status ≡ status_of answer → Wrote before after (line_of names answer picture) → AnswerMade plan names from to before after status
-  answer_made after status is wrote = record { answer = answer; status_is = is; picture = picture; turned = record { earlier = earlier; answers = answers; leaves = leaves }; wrote = wrote }
+module _ (plan : Plan) (names : List (List ℕ)) (from to : RunPlace) (answer : Turn) (earlier picture : Picture) (answers : AnswersState plan from earlier picture to answer) (before : Option (List ℕ)) where
+  pub answer_made : (after : Option (List ℕ)) (last : Option Turn) → last ≡ last_answer answer → Wrote before after (printed_lines names answer picture) → (is_settled answer ≡ true → IsPictureInRange picture)
+      → AnswerMade plan names from to before after last
+  answer_made after last is wrote range =
+      record { answer = answer; last_is = is; picture = picture; turned = record { earlier = earlier; answers = answers }; wrote = wrote; range = range }
 
-  -- a settled state whose line isn't written as a whole
-  pub write_stopped : (after : Option (List ℕ)) (refusal : WriteRefusal) → is_settled answer ≡ true → Writes {T = Unit {0}} before after (line_of names answer picture) (Err refusal)
+  -- a settled state whose lines aren't written as a whole
+  pub write_stopped : (after : Option (List ℕ)) (refusal : WriteRefusal) → is_settled answer ≡ true → Writes {T = Unit {0}} before after (printed_lines names answer picture) (Err refusal)
       → TurnMade plan names from to before after (Err refusal)
   write_stopped after sink.Failed settled wrote =
-      record { picture = picture; answer = answer; settled = settled; turned = record { earlier = earlier; answers = answers; leaves = leaves }; kept = wrote.0; wrote = rw settled at wrote.2 }
+      record { picture = picture; answer = answer; settled = settled; turned = record { earlier = earlier; answers = answers }; kept = wrote.0; wrote = rw settled at wrote.2 }
   write_stopped after sink.NoMemory settled wrote = wrote
 
   -- with these names under another name
-  pub write_stopped_as : (globals : List (List ℕ)) (after : Option (List ℕ)) (refusal : WriteRefusal) → globals ≡ names → is_settled answer ≡ true → Writes {T = Unit {0}} before after (line_of globals answer picture) (Err refusal)
+  pub write_stopped_as : (globals : List (List ℕ)) (after : Option (List ℕ)) (refusal : WriteRefusal) → globals ≡ names → is_settled answer ≡ true → Writes {T = Unit {0}} before after (printed_lines globals answer picture) (Err refusal)
       → TurnMade plan names from to before after (Err refusal)
-  write_stopped_as globals after refusal e settled wrote = write_stopped after refusal settled (subst (λ gs. Writes {T = Unit {0}} before after (line_of gs answer picture) (Err refusal)) e wrote)
+  write_stopped_as globals after refusal e settled wrote = write_stopped after refusal settled (subst (λ gs. Writes {T = Unit {0}} before after (printed_lines gs answer picture) (Err refusal)) e wrote)
 
--- an answer that has no status goes on, and its state's line was written
-pub went_on : (plan : Plan) (names : List (List ℕ)) (from to : RunPlace) (before after : Option (List ℕ)) (answer : Turn) (picture : Picture) → Turned plan from to answer picture → None ≡ status_of answer → Wrote before after (line_of names answer picture)
-    → Turned plan from to turn.Went picture × Wrote before after (state_line names picture)
-went_on plan names from to before after turn.Went picture t is wrote = (t, wrote)
-went_on plan names from to before after (turn.Finished length) picture t is wrote = cc
-went_on plan names from to before after (turn.Contradictory state clash) picture t is wrote = cc
-went_on plan names from to before after (turn.Undetermined state cell) picture t is wrote = cc
-went_on plan names from to before after (turn.StateLimit states) picture t is wrote = cc
-went_on plan names from to before after (turn.InputMissing state port) picture t is wrote = cc
-went_on plan names from to before after (turn.Over state limit) picture t is wrote = cc
+-- an answer that isn't the last one goes on, and its state's lines were written
+pub record WentOn (plan : Plan) (names : List (List ℕ)) (from to : RunPlace) (before after : Option (List ℕ)) (picture : Picture) : Type 0 where
+  pub turned : Turned plan from to turn.Went picture
+  pub wrote : Wrote before after (picture_lines names picture)
+  pub range : IsPictureInRange picture
+
+pub went_on : (plan : Plan) (names : List (List ℕ)) (from to : RunPlace) (before after : Option (List ℕ)) (made : AnswerMade plan names from to before after None) → WentOn plan names from to before after made.picture
+went_on plan names from to before after made = by made.answer refl where
+  by : (answer : Turn) → made.answer ≡ answer → WentOn plan names from to before after made.picture
+  by turn.Went e = record {
+    turned = subst (λ t. Turned plan from to t made.picture) e made.turned;
+    wrote = subst (λ t. Wrote before after (printed_lines names t made.picture)) e made.wrote;
+    range = made.range (ap is_settled e);
+  }
+  by (turn.Finished length) e = let bad : None ≡ last_answer (turn.Finished length) = made.last_is ∙ ap last_answer e in absurd (cc)
+  by (turn.Contradictory state clash) e = let bad : None ≡ last_answer (turn.Contradictory state clash) = made.last_is ∙ ap last_answer e in absurd (cc)
+  by (turn.Undetermined state cell) e = let bad : None ≡ last_answer (turn.Undetermined state cell) = made.last_is ∙ ap last_answer e in absurd (cc)
+  by (turn.StateLimit states) e = let bad : None ≡ last_answer (turn.StateLimit states) = made.last_is ∙ ap last_answer e in absurd (cc)
+  by (turn.InputMissing state port) e = let bad : None ≡ last_answer (turn.InputMissing state port) = made.last_is ∙ ap last_answer e in absurd (cc)
+  by (turn.Over state limit) e = let bad : None ≡ last_answer (turn.Over state limit) = made.last_is ∙ ap last_answer e in absurd (cc)
+
+-- the last answer is the one that was given
+pub last_is_given : (answer last : Turn) → Some last ≡ last_answer answer → answer ≡ last
+last_is_given turn.Went last e = cc
+last_is_given (turn.Finished length) last e = cc
+last_is_given (turn.Contradictory state clash) last e = cc
+last_is_given (turn.Undetermined state cell) last e = cc
+last_is_given (turn.StateLimit states) last e = cc
+last_is_given (turn.InputMissing state port) last e = cc
+last_is_given (turn.Over state limit) last e = cc
+
+-- and the run doesn't go on with it
+pub is_last : (answer last : Turn) → Some last ≡ last_answer answer → IsLastTurn last
+is_last turn.Went last e = cc
+is_last (turn.Finished length) last e = subst IsLastTurn (last_is_given (turn.Finished length) last e) tt
+is_last (turn.Contradictory state clash) last e = subst IsLastTurn (last_is_given (turn.Contradictory state clash) last e) tt
+is_last (turn.Undetermined state cell) last e = subst IsLastTurn (last_is_given (turn.Undetermined state cell) last e) tt
+is_last (turn.StateLimit states) last e = subst IsLastTurn (last_is_given (turn.StateLimit states) last e) tt
+is_last (turn.InputMissing state port) last e = subst IsLastTurn (last_is_given (turn.InputMissing state port) last e) tt
+is_last (turn.Over state limit) last e = subst IsLastTurn (last_is_given (turn.Over state limit) last e) tt
+
+-- a last answer has a status
+pub has_status : (turn : Turn) → IsLastTurn turn → status_of turn ≡ None → ⊥
+has_status turn.Went l e = l
+has_status (turn.Finished length) l e = absurd (cc)
+has_status (turn.Contradictory state clash) l e = absurd (cc)
+has_status (turn.Undetermined state cell) l e = absurd (cc)
+has_status (turn.StateLimit states) l e = absurd (cc)
+has_status (turn.InputMissing state port) l e = absurd (cc)
+has_status (turn.Over state limit) l e = absurd (cc)
 
 -- the answer with which a run ends that has this status; a status that no run ends with has none, and `Went` stands for it
 abbrev pub answer_of : Status → Turn
@@ -67,6 +112,7 @@ answer_of (CallLimit state) = turn.Over state limit.Calls
 answer_of (NestLimit state) = turn.Over state limit.Nest
 answer_of (InputMissing state port) = turn.InputMissing state port
 answer_of (SourceRefused line column kind) = turn.Went
+answer_of (InputsRefused line) = turn.Went
 answer_of WordsRefused = turn.Went
 answer_of (TooLong which) = turn.Went
 answer_of (ReadFault which) = turn.Went
@@ -103,3 +149,28 @@ ends_run (turn.Over state limit.Number) status e = subst IsEndOfRun (some_is e) 
 ends_run (turn.Over state limit.List) status e = subst IsEndOfRun (some_is e) tt
 ends_run (turn.Over state limit.Calls) status e = subst IsEndOfRun (some_is e) tt
 ends_run (turn.Over state limit.Nest) status e = subst IsEndOfRun (some_is e) tt
+
+-- the parts of the picture of a state that is settled are those of its facts
+pub settled_parts : (plan : Plan) (from to : RunPlace) (old new : Picture) (answer : Turn) → StandsOpen from.standing → AnswersState plan from old new to answer → is_settled answer ≡ true → plain_parts new.parts ≡ line_parts new.facts
+settled_parts plan from to old new answer stands made settled = at from.standing stands made where
+  at : (standing : Standing) → StandsOpen standing → AnswersState plan (record { standing = standing; state = from.state; store = from.store }) old new to answer → plain_parts new.parts ≡ line_parts new.facts
+  at (answered last) o a = absurd o
+  at spent o a = absurd o
+  at (open_at moment) o a = by answer settled a.0 where
+    by : (turn : Turn) → is_settled turn ≡ true → StateBecomes plan from.state moment old new to.standing to.store turn → plain_parts new.parts ≡ line_parts new.facts
+    by turn.Went e b = b.1.picture_is.parts
+    by (turn.Finished length) e b = b.0.picture_is.parts
+    by (turn.Contradictory state clash) e b = cc
+    by (turn.Undetermined state cell) e b = cc
+    by (turn.StateLimit states) e b = cc
+    by (turn.InputMissing state port) e b = cc
+    by (turn.Over state limit) e b = cc
+
+pub status_there : (turn : Turn) → IsLastTurn turn → (status : Status) × (status_of turn ≡ Some status)
+status_there turn.Went l = absurd l
+status_there (turn.Finished length) l = (Finished length, refl)
+status_there (turn.Contradictory state clash) l = (Contradictory state clash, refl)
+status_there (turn.Undetermined state cell) l = (Undetermined state cell, refl)
+status_there (turn.StateLimit states) l = (StateLimit states, refl)
+status_there (turn.InputMissing state port) l = (InputMissing state port, refl)
+status_there (turn.Over state kind) l = (limit_end state kind, refl)

@@ -1,21 +1,28 @@
 -- What a call may answer, and what it writes.
-use Rattle.std.specs.Prelude.{◌≡◌, ◌⊎◌, ◌≤◌, ◌<◌, ◌+◌, ℕ, List, [], ◌++◌, length, take, Option, None, Some}
+use Rattle.std.specs.Prelude.{◌≡◌, ◌⊎◌, ◌≤◌, ◌<◌, ◌^◌, ◌+◌, ℕ, List, [], ◌++◌, length, take, All, Option, None, Some}
 use Rattle.std.specs.Option.{option_map}
 use Rattle.tp_lex.specs.Place.{source_limit}
 use Rattle.tp_io.specs.Devices.{Held, bytes_of}
-use Rattle.tp_run.specs.declared.turn.Picture.{Picture}
+use Rattle.tp_show.specs.declared.turn.Picture.{Picture}
 use Rattle.tp_run.specs.States.{Plan}
 use Rattle.tp_call.specs.declared.refused.Refused.{Refused}
 use Rattle.tp_call.specs.Source.{IsProgram, IsRefusedAt}
 use Rattle.tp_call.specs.declared.status.Status.{Status}
-use Rattle.tp_call.specs.declared.status.Status.TheVariants.{Finished, Contradictory, Undetermined, StateLimit, ReductionLimit, NumberLimit, ListLimit, CallLimit, NestLimit, InputMissing, SourceRefused, WordsRefused, TooLong, ReadFault, WriteFault, NoMemory}
+use Rattle.tp_call.specs.declared.status.Status.TheVariants.{Finished, Contradictory, Undetermined, StateLimit, ReductionLimit, NumberLimit, ListLimit, CallLimit, NestLimit, InputMissing, SourceRefused, InputsRefused, WordsRefused, TooLong, ReadFault, WriteFault, NoMemory}
 use Rattle.tp_call.specs.declared.status.Which.{Which}
-use Rattle.tp_call.specs.declared.status.Which.TheVariants.{Source}
-use Rattle.tp_call.specs.Words.{Wanted, wanted_of, files_of}
-use Rattle.tp_call.specs.Line.{state_lines}
-use Rattle.tp_call.specs.EndLine.{end_line}
+use Rattle.tp_call.specs.declared.status.Which.TheVariants.{Source, Inputs}
+use Rattle.tp_words.specs.Words.{Wanted, wanted_of, files_of}
+use Rattle.std.specs.Str.Lines.{lines}
+use Rattle.tp_meaning.specs.Inputs.{InputLines}
+use Rattle.tp_inputs.specs.declared.refusal.Fault.{Fault}
+use Rattle.tp_inputs.specs.Table.{IsInputsText, IsFirstFault}
+use Rattle.tp_show.specs.Line.{pictures_text}
+use Rattle.tp_show.specs.EndLine.{end_line}
+use Rattle.tp_show.specs.Told.{AreNames, IsPictureInRange}
+use Rattle.tp_call.specs.EndLine.{refusal_line}
 use Rattle.tp_meaning.specs.Interval.{ProgramTree}
-use Rattle.tp_call.specs.Run.{plan_of, EndSays, RunEnds, known_at_end, Settles}
+use Rattle.tp_meaning.specs.Fits.{ProgramFits}
+use Rattle.tp_call.specs.Run.{EndSays, RunEnds, known_at_end, Settles}
 use Rattle.tp_call.specs.Written.{Wrote}
 
 -- where the value is told, it has P
@@ -39,21 +46,73 @@ HoldsRefused refused source = (length source ≤ source_limit) × IsRefusedAt so
 abbrev pub IsLongSource : List ℕ → Type 0
 IsLongSource source = source_limit < length source
 
--- a run of the source's program ends with this status, and the text is that of its settled states with the end line
-pub record RunsTo (words : List (List ℕ)) (held : Option Held) (status : Status) (text : List ℕ) : Type 0 where
+-- the text of a run of this plan that settled these states and ended so: the lines of the states, and the end line
+abbrev pub run_text : {plan : Plan} {pictures : List Picture} {status : Status} → RunEnds plan pictures status → List ℕ
+run_text {plan} {pictures} end = pictures_text plan.program.globals pictures ++ end_line plan.program.globals (known_at_end end) plan.reductions end.answer
+
+-- The greatest length of a file of inputs, in bytes.
+abbrev pub inputs_limit : ℕ
+inputs_limit = 16777216
+
+-- a file of at most so many bytes is this table of inputs
+abbrev pub HoldsTable : InputLines → List ℕ → Type 0
+HoldsTable table bytes = (length bytes ≤ inputs_limit) × IsInputsText bytes table
+
+-- the inputs of a file, where one is named, are this table; without a name there are none
+abbrev pub HasInputs : (name : Option (List ℕ)) → Option Held → InputLines → Type 0
+HasInputs None held table = table ≡ []
+HasInputs (Some name) held table = WhereTold held (λ files. HoldsTable table (bytes_of files name))
+
+-- What is run: the words are accepted, and name a source that is the plan's program, perhaps a file of inputs, which is its table, and its limits.
+pub record IsAskedFor (words : List (List ℕ)) (held : Option Held) (plan : Plan) : Type 0 where
+  pub wanted : Wanted
+  pub accepted : wanted_of words ≡ Some wanted
+  pub source : WhereTold held (λ files. HoldsProgram plan.program (bytes_of files wanted.file))
+  pub inputs : HasInputs wanted.inputs held plan.inputs
+  pub states : plan.states ≡ wanted.states
+  pub reductions : plan.reductions ≡ wanted.reductions
+
+-- The words are accepted and name a file of inputs, and the source that they name is a program; where the files tell what the inputs hold, that
+-- has P.
+pub record Supplied (words : List (List ℕ)) (held : Option Held) (P : List ℕ → Type 0) : Type 0 where
+  pub wanted : Wanted
+  pub accepted : wanted_of words ≡ Some wanted
+  pub name : List ℕ
+  pub named : wanted.inputs ≡ Some name
   pub program : ProgramTree
+  pub source : WhereTold held (λ files. HoldsProgram program (bytes_of files wanted.file))
+  pub inputs : WhereTold held (λ files. P (bytes_of files name))
+
+-- a file of inputs is too long, or is refused at this line
+abbrev pub IsLongTable : List ℕ → Type 0
+IsLongTable bytes = inputs_limit < length bytes
+
+abbrev pub HasBadLine : ℕ → List ℕ → Type 0
+HasBadLine line bytes = (length bytes ≤ inputs_limit) × ((fault : Fault) × IsFirstFault (lines bytes) line fault)
+
+-- a run of what is asked for ends with this status, and the text is that of its settled states with the end line; the program's parts fit
+-- each other, its names are words, and what is written are numbers of 64 bits
+pub record RunsTo (words : List (List ℕ)) (held : Option Held) (status : Status) (text : List ℕ) : Type 0 where
+  pub plan : Plan
   pub pictures : List Picture
-  pub source : Sourced words held (HoldsProgram program)
-  pub run : RunEnds program pictures status
-  pub says : EndSays (plan_of program) pictures run.answer
-  pub written : text ≡ state_lines program.globals pictures ++ end_line program.globals (known_at_end run) status
+  pub asked : IsAskedFor words held plan
+  pub run : RunEnds plan pictures status
+  pub says : EndSays plan pictures run.answer
+  pub written : text ≡ run_text run
+  pub fits : ProgramFits plan.program
+  pub names : AreNames plan.program.globals
+  pub states : plan.states < 2 ^ 64
+  pub range : All IsPictureInRange pictures
 
 -- The cause of a refusal.
 abbrev pub Refuses : List (List ℕ) → Option Held → Status → Type 0
 Refuses words held (SourceRefused line column kind) = Sourced words held (HoldsRefused (record { line = line; column = column; kind = kind }))
 Refuses words held WordsRefused = wanted_of words ≡ None
 Refuses words held (TooLong Source) = Sourced words held IsLongSource
+Refuses words held (TooLong Inputs) = Supplied words held IsLongTable
 Refuses words held (ReadFault Source) = Sourced words held (λ source. Unit {0})
+Refuses words held (ReadFault Inputs) = Supplied words held (λ inputs. Unit {0})
+Refuses words held (InputsRefused line) = Supplied words held (HasBadLine line)
 Refuses words held (Finished length) = ⊥
 Refuses words held (Contradictory state clash) = ⊥
 Refuses words held (Undetermined state cell) = ⊥
@@ -69,15 +128,15 @@ Refuses words held NoMemory = ⊥
 
 -- A call ends with this status and has written this text: that of a run, or the end line of a refusal alone.
 abbrev pub CallEnds : List (List ℕ) → Option Held → Status → List ℕ → Type 0
-CallEnds words held status text = RunsTo words held status text ⊎ (Refuses words held status × (text ≡ end_line [] [] status))
+CallEnds words held status text = RunsTo words held status text ⊎ (Refuses words held status × (text ≡ refusal_line status))
 
--- the states of a run of the source's program, and their text
+-- the states of a run of what is asked for, and their text
 pub record RunsOn (words : List (List ℕ)) (held : Option Held) (text : List ℕ) : Type 0 where
-  pub program : ProgramTree
+  pub plan : Plan
   pub pictures : List Picture
-  pub source : Sourced words held (HoldsProgram program)
-  pub run : Settles program pictures
-  pub written : text ≡ state_lines program.globals pictures
+  pub asked : IsAskedFor words held plan
+  pub run : Settles plan pictures
+  pub written : text ≡ pictures_text plan.program.globals pictures
 
 -- the text of no state, or of states of a run, without an end line
 abbrev pub IsUnfinishedText : List (List ℕ) → Option Held → List ℕ → Type 0
@@ -90,19 +149,24 @@ Answers words held old new WriteFault = (text : List ℕ) × (IsUnfinishedText w
 Answers words held old new NoMemory = (text : List ℕ) × IsUnfinishedText words held text × Wrote old new text
 Answers words held old new status = (text : List ℕ) × CallEnds words held status text × Wrote old new text
 
--- A run of the source's program ended with this status; the text of its settled states and the end line were appended; and of what is run
--- and these states P holds.
+-- A run of what is asked for ended with this status; the text of its settled states and the end line were appended; the program's parts fit each
+-- other, its names are words, and what was written are numbers of 64 bits; and of what is run and these states P holds.
 pub record Prints (words : List (List ℕ)) (held : Option Held) (old new : Option (List ℕ)) (status : Status) (P : Plan → List Picture → Type 0) : Type 0 where
-  pub program : ProgramTree
+  pub plan : Plan
   pub pictures : List Picture
-  pub source : Sourced words held (HoldsProgram program)
-  pub run : RunEnds program pictures status
-  pub appended : Wrote old new (state_lines program.globals pictures ++ end_line program.globals (known_at_end run) status)
-  pub says : P (plan_of program) pictures
+  pub asked : IsAskedFor words held plan
+  pub run : RunEnds plan pictures status
+  pub appended : Wrote old new (run_text run)
+  pub fits : ProgramFits plan.program
+  pub names : AreNames plan.program.globals
+  pub states : plan.states < 2 ^ 64
+  pub range : All IsPictureInRange pictures
+  pub says : P plan pictures
 
 -- the place of a file among those that the words name
 abbrev pub place : Which → ℕ
 place Source = 0
+place Inputs = 1
 
 -- The names that were asked for are the first of those that the words name; where a read failed,
 -- up to the one that failed.
@@ -118,6 +182,18 @@ pub record IsTold (words : List (List ℕ)) (held : Option Held) (P : List ℕ �
   pub files : Held
   pub told : held ≡ Some files
   pub source : P (bytes_of files wanted.file)
+
+-- the words are accepted, and the files tell that the source is a program and what the inputs that they name hold, which has P
+pub record IsSupplied (words : List (List ℕ)) (held : Option Held) (P : List ℕ → Type 0) : Type 0 where
+  pub wanted : Wanted
+  pub accepted : wanted_of words ≡ Some wanted
+  pub files : Held
+  pub told : held ≡ Some files
+  pub program : ProgramTree
+  pub source : HoldsProgram program (bytes_of files wanted.file)
+  pub name : List ℕ
+  pub named : wanted.inputs ≡ Some name
+  pub inputs : P (bytes_of files name)
 
 -- the answer is this one, unless a write failed or memory was wanted
 abbrev pub IsOrStopped : Status → Status → Type 0
@@ -136,15 +212,36 @@ IsEndOfRun (CallLimit state) = Unit {0}
 IsEndOfRun (NestLimit state) = Unit {0}
 IsEndOfRun (InputMissing state port) = Unit {0}
 IsEndOfRun (SourceRefused line column kind) = ⊥
+IsEndOfRun (InputsRefused line) = ⊥
 IsEndOfRun WordsRefused = ⊥
 IsEndOfRun (TooLong which) = ⊥
 IsEndOfRun (ReadFault which) = ⊥
 IsEndOfRun WriteFault = ⊥
 IsEndOfRun NoMemory = ⊥
 
+-- a run ended before it was known whether an interval satisfies the program
+abbrev pub IsOpenEnd : Status → Type 0
+IsOpenEnd (Finished length) = ⊥
+IsOpenEnd (Contradictory state clash) = ⊥
+IsOpenEnd (Undetermined state cell) = Unit {0}
+IsOpenEnd (StateLimit states) = Unit {0}
+IsOpenEnd (ReductionLimit state) = Unit {0}
+IsOpenEnd (NumberLimit state) = Unit {0}
+IsOpenEnd (ListLimit state) = Unit {0}
+IsOpenEnd (CallLimit state) = Unit {0}
+IsOpenEnd (NestLimit state) = Unit {0}
+IsOpenEnd (InputMissing state port) = ⊥
+IsOpenEnd (SourceRefused line column kind) = ⊥
+IsOpenEnd (InputsRefused line) = ⊥
+IsOpenEnd WordsRefused = ⊥
+IsOpenEnd (TooLong which) = ⊥
+IsOpenEnd (ReadFault which) = ⊥
+IsOpenEnd WriteFault = ⊥
+IsOpenEnd NoMemory = ⊥
+
 -- a read or a write failed, or memory was wanted
 abbrev pub HasFailed : Status → Type 0
-HasFailed result = (result ≡ ReadFault Source) ⊎ (result ≡ WriteFault) ⊎ (result ≡ NoMemory)
+HasFailed result = ((which : Which) × (result ≡ ReadFault which)) ⊎ (result ≡ WriteFault) ⊎ (result ≡ NoMemory)
 
 -- the answer is this one, unless a read or a write failed or memory was wanted
 abbrev pub IsOrFailed : Status → Status → Type 0

@@ -1,28 +1,29 @@
 -- What a call promises of its answer, one sentence each: of the words, of what the files hold, of what was written before and after, and of the
 -- status that is answered.
-use Rattle.std.specs.Prelude.{◌≡◌, ◌⊎◌, ℕ, List, length, Option, None}
+use Rattle.std.specs.Prelude.{◌≡◌, ◌⊎◌, ℕ, List, length, Option, None, Some}
 use Rattle.tp_io.specs.Devices.{Held}
 use Rattle.tp_scene.specs.declared.answer.Cell.{Cell}
 use Rattle.tp_scene.specs.declared.answer.Clash.{Clash}
 use Rattle.tp_run.specs.History.{SatisfiedExactly, Satisfiable, Unsatisfiable, ContinuesEach}
-use Rattle.tp_meaning.specs.Interval.{ProgramTree}
 use Rattle.tp_call.specs.declared.refused.Refused.{Refused}
 use Rattle.tp_call.specs.declared.status.Status.{Status}
-use Rattle.tp_call.specs.declared.status.Status.TheVariants.{Finished, Contradictory, Undetermined, StateLimit, InputMissing, SourceRefused, WordsRefused, TooLong}
+use Rattle.tp_call.specs.declared.status.Status.TheVariants.{Finished, Contradictory, Undetermined, StateLimit, InputMissing, SourceRefused, InputsRefused, WordsRefused, TooLong}
 use Rattle.tp_call.specs.declared.status.SourceKind.{SourceKind}
 use Rattle.tp_call.specs.declared.status.Which.{Which}
-use Rattle.tp_call.specs.declared.status.Which.TheVariants.{Source}
-use Rattle.tp_call.specs.Words.{wanted_of}
-use Rattle.tp_call.specs.Run.{ShowNothing, states_limit}
-use Rattle.tp_call.specs.Answer.{HoldsProgram, HoldsRefused, IsLongSource, IsTold, Sourced, Prints, IsOrStopped, IsOrFailed, IsEndOfRun, HasFailed}
+use Rattle.tp_call.specs.declared.status.Which.TheVariants.{Source, Inputs}
+use Rattle.tp_words.specs.Words.{wanted_of}
+use Rattle.tp_run.specs.States.{Plan}
+use Rattle.tp_show.specs.Told.{FitsIn64Bits}
+use Rattle.tp_call.specs.Text.{TextTells, SatisfiedAsTold, ContinuesTold, finished_line}
+use Rattle.tp_call.specs.Answer.{HoldsRefused, IsLongSource, IsLongTable, HasBadLine, IsAskedFor, IsTold, IsSupplied, Sourced, Supplied, Prints, IsOrStopped, IsOrFailed, IsEndOfRun, IsOpenEnd, HasFailed}
 use Rattle.tp_call.specs.Parts.{refused_status}
 
 module _ (words : List (List ℕ)) (held : Option Held) (old new : Option (List ℕ)) (result : Status) where
   -- A run that finishes with length n: an interval satisfies the program, and shows S, exactly where it has this length, agrees with each printed
-  -- state, and S is what these show, which is nothing; and there is such an interval.
+  -- state, and S is what these show; and there is such an interval.
   abbrev pub FinishedSays : Type 0
   FinishedSays = (n : ℕ) → result ≡ Finished n
-      → Prints words held old new (Finished n) (λ plan printed. SatisfiedExactly plan printed n × Satisfiable plan × ShowNothing printed)
+      → Prints words held old new (Finished n) (λ plan printed. SatisfiedExactly plan printed n × Satisfiable plan)
 
   -- Refused as contradictory: no interval satisfies the program.
   abbrev pub ContradictorySays : Type 0
@@ -36,7 +37,7 @@ module _ (words : List (List ℕ)) (held : Option Held) (old new : Option (List 
   -- Stopped at the limit of states: as many were printed as there may be, and the same holds.
   abbrev pub StateLimitSays : Type 0
   StateLimitSays = (states : ℕ) → result ≡ StateLimit states
-      → Prints words held old new (StateLimit states) (λ plan printed. ContinuesEach plan printed × (states ≡ length printed) × (states ≡ states_limit))
+      → Prints words held old new (StateLimit states) (λ plan printed. ContinuesEach plan printed × (states ≡ length printed) × (states ≡ plan.states))
 
   -- Stopped at a limit in this state: the same holds of the states before it.
   abbrev pub LimitSays : (ℕ → Status) → Type 0
@@ -47,24 +48,47 @@ module _ (words : List (List ℕ)) (held : Option Held) (old new : Option (List 
   InputMissingSays = (state : ℕ) (port : List ℕ) → result ≡ InputMissing state port
       → Prints words held old new (InputMissing state port) (λ plan printed. Unsatisfiable plan)
 
+  -- The same for whoever has the text alone. Where a run finishes: however the text is read, as lines of states and a last line with a length n, an
+  -- interval satisfies the program and shows S exactly where it has the length n, agrees with what the states' lines say, and S is what the `show`
+  -- lines say.
+  abbrev pub FinishedTextSays : Type 0
+  FinishedTextSays = (length : ℕ) → result ≡ Finished length
+      → TextTells words held old new (λ plan told last. (n : ℕ) → FitsIn64Bits n → last ≡ finished_line n → SatisfiedAsTold plan told n)
+
+  -- Where a run is undetermined or reaches a limit: however the text is read, each interval that satisfies the program begins with what it tells, and
+  -- has more states.
+  abbrev pub OpenTextSays : Type 0
+  OpenTextSays = IsOpenEnd result → TextTells words held old new (λ plan told last. ContinuesTold plan told)
+
 -- Of the words, of what the files hold, and of the status.
 module _ (words : List (List ℕ)) (held : Option Held) (result : Status) where
-  -- Where the source is a program, its run ends in one of the ways above, unless a read or a write fails or memory is wanted.
+  -- Where the source is a program and the inputs are a table, the run ends in one of the ways above, unless a read or a write fails or memory is
+  -- wanted.
   abbrev pub ProgramRuns : Type 0
-  ProgramRuns = (program : ProgramTree) → IsTold words held (HoldsProgram program) → IsEndOfRun result ⊎ HasFailed result
+  ProgramRuns = (files : Held) → held ≡ Some files → (plan : Plan) → IsAskedFor words held plan → IsEndOfRun result ⊎ HasFailed result
 
-  -- The words are refused exactly where they name no file to run.
+  -- The words are refused exactly where they are no command.
   pub record WordsRefusedExactly : Type 0 where
     pub only : result ≡ WordsRefused → wanted_of words ≡ None
     pub there : wanted_of words ≡ None → IsOrStopped WordsRefused result
 
-  -- The source is too long exactly where it has more bytes than a source may have.
+  -- A file is too long exactly where it has more bytes than it may have: the source, or the inputs of a source that is a program.
+  abbrev pub HoldsTooLong : Which → Type 0
+  HoldsTooLong Source = Sourced words held IsLongSource
+  HoldsTooLong Inputs = Supplied words held IsLongTable
+
   pub record TooLongExactly : Type 0 where
-    pub only : (which : Which) → result ≡ TooLong which → Sourced words held IsLongSource
-    pub there : IsTold words held IsLongSource → IsOrFailed (TooLong Source) result
+    pub only : (which : Which) → result ≡ TooLong which → HoldsTooLong which
+    pub for_source : IsTold words held IsLongSource → IsOrFailed (TooLong Source) result
+    pub for_inputs : IsSupplied words held IsLongTable → IsOrFailed (TooLong Inputs) result
 
   -- The source is refused exactly where it is no program, there and for the cause that its grammar and the rules of positions name first.
   pub record SourceRefusedExactly : Type 0 where
     pub only : (line column : ℕ) (kind : SourceKind) → result ≡ SourceRefused line column kind
         → Sourced words held (HoldsRefused (record { line = line; column = column; kind = kind }))
     pub there : (refused : Refused) → IsTold words held (HoldsRefused refused) → IsOrFailed (refused_status refused) result
+
+  -- The inputs of a source that is a program are refused exactly where they are no table, at the first line that is at fault.
+  pub record InputsRefusedExactly : Type 0 where
+    pub only : (line : ℕ) → result ≡ InputsRefused line → Supplied words held (HasBadLine line)
+    pub there : (line : ℕ) → IsSupplied words held (HasBadLine line) → IsOrFailed (InputsRefused line) result

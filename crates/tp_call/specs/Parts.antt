@@ -1,13 +1,15 @@
 -- What the parts of a call answer.
 use Rattle.std.specs.Prelude.{◌≡◌, ◌⊎◌, ℕ, List, take, Option, None, Some}
-use Rattle.tp_io.specs.Devices.{Held}
-use Rattle.tp_store.specs.Known.{Variable}
+use Rattle.std.specs.Str.Lines.{lines}
+use Rattle.tp_io.specs.Devices.{Held, bytes_of}
+use Rattle.tp_inputs.specs.declared.refusal.Fault.{Fault}
+use Rattle.tp_inputs.specs.Table.{IsFirstFault}
 use Rattle.tp_call.specs.declared.status.Status.{Status}
-use Rattle.tp_call.specs.declared.status.Status.TheVariants.{SourceRefused, WriteFault, NoMemory}
+use Rattle.tp_call.specs.declared.status.Status.TheVariants.{SourceRefused, InputsRefused, TooLong, ReadFault, WriteFault, NoMemory}
+use Rattle.tp_call.specs.declared.status.Which.TheVariants.{Source, Inputs}
 use Rattle.tp_call.specs.declared.refused.Refused.{Refused}
-use Rattle.tp_call.specs.EndLine.{end_line}
 use Rattle.tp_call.specs.Written.{Wrote}
-use Rattle.tp_call.specs.Answer.{Refuses}
+use Rattle.tp_call.specs.Answer.{Refuses, WhereTold, HoldsRefused, HasBadLine, IsLongSource, IsLongTable}
 use Rattle.tp_call.specs.Source.{IsRefusedAt}
 
 -- the status of a refusal
@@ -23,12 +25,30 @@ refusal_end (Some refused) = refused_status refused
 abbrev pub IsReadRefusal : List ℕ → Status → Type 0
 IsReadRefusal source status = (status ≡ NoMemory) ⊎ ((refused : Refused) × (status ≡ refused_status refused) × IsRefusedAt source refused)
 
--- there is no program for this cause, or memory was wanted
+-- there is no program for this cause: the read failed, or the file is too long, or is refused there; or memory was wanted
+abbrev pub IsSourceRefusal : Option Held → List ℕ → Status → Type 0
+IsSourceRefusal held name status = (status ≡ NoMemory) ⊎ (status ≡ ReadFault Source)
+    ⊎ ((status ≡ TooLong Source) × WhereTold held (λ files. IsLongSource (bytes_of files name)))
+    ⊎ ((refused : Refused) × (status ≡ refused_status refused) × WhereTold held (λ files. HoldsRefused refused (bytes_of files name)))
+
+-- memory was wanted, or a text is no table, for its first fault, which is in this line
+abbrev pub IsTableRefusal : List ℕ → Status → Type 0
+IsTableRefusal text status = (status ≡ NoMemory) ⊎ ((line : ℕ) × (status ≡ InputsRefused line) × ((fault : Fault) × IsFirstFault (lines text) line fault))
+
+-- there is no table for this cause: the read failed, or the file is too long, or is refused there; or memory was wanted, which
+-- alone is a cause where no file is named
+abbrev pub IsInputsEnd : Option Held → (name : Option (List ℕ)) → Status → Type 0
+IsInputsEnd held None status = status ≡ NoMemory
+IsInputsEnd held (Some name) status = (status ≡ NoMemory) ⊎ (status ≡ ReadFault Inputs)
+    ⊎ ((status ≡ TooLong Inputs) × WhereTold held (λ files. IsLongTable (bytes_of files name)))
+    ⊎ ((line : ℕ) × (status ≡ InputsRefused line) × WhereTold held (λ files. HasBadLine line (bytes_of files name)))
+
+-- there is no task for this cause, or memory was wanted
 abbrev pub IsProgramRefusal : List (List ℕ) → Option Held → Status → Type 0
 IsProgramRefusal words held status = (status ≡ NoMemory) ⊎ Refuses words held status
 
--- what writing the end line of a status answers and appends, with these globals and these known variables
-abbrev pub ClosesText : (globals : List (List ℕ)) (known : List Variable) → Status → Option (List ℕ) → Option (List ℕ) → Status → Type 0
-ClosesText globals known status old new WriteFault = (kept : ℕ) × Wrote old new (take kept (end_line globals known status))
-ClosesText globals known status old new NoMemory = new ≡ old
-ClosesText globals known status old new result = (result ≡ status) × Wrote old new (end_line globals known status)
+-- what writing the end line of a status answers and appends
+abbrev pub ClosesText : (line : List ℕ) → Status → Option (List ℕ) → Option (List ℕ) → Status → Type 0
+ClosesText line status old new WriteFault = (kept : ℕ) × Wrote old new (take kept line)
+ClosesText line status old new NoMemory = new ≡ old
+ClosesText line status old new result = (result ≡ status) × Wrote old new line

@@ -15,7 +15,7 @@ use Rattle.tp_check.specs.Program.{ChecksTo}
 use Rattle.tp_check.specs.declared.refusal.CheckRefusal.{CheckRefusal}
 use Rattle.tp_check.specs.declared.refusal.CheckRefusal.TheVariants as check
 use Rattle.tp_call.specs.declared.status.SourceKind.{SourceKind}
-use Rattle.tp_call.specs.declared.status.SourceKind.TheVariants.{BadByte, OpenComment, NumberTooLarge, NameTooLong, Unexpected, Unfinished, TooDeep, DefinedTwice, UnknownName, WrongCount, NotExpression, NotPlace, NotExecutable}
+use Rattle.tp_call.specs.declared.status.SourceKind.TheVariants.{BadByte, OpenComment, NumberTooLarge, NameTooLong, Unexpected, Unfinished, TooDeep, DefinedTwice, UnknownName, WrongCount, NotExpression, NotPlace, NotPort, NotExecutable}
 use Rattle.tp_call.specs.declared.refused.Refused.{Refused}
 
 -- This text is this program: its tokens are a source of the grammar, which the checker makes the program.
@@ -54,6 +54,7 @@ checker_refusal source (check.Unknown at) = Some (refused_at source at UnknownNa
 checker_refusal source (check.WrongCount at) = Some (refused_at source at WrongCount)
 checker_refusal source (check.NotExpression at) = Some (refused_at source at NotExpression)
 checker_refusal source (check.NotPlace at) = Some (refused_at source at NotPlace)
+checker_refusal source (check.NotPort at) = Some (refused_at source at NotPort)
 checker_refusal source (check.NotExecutable at) = Some (refused_at source at NotExecutable)
 checker_refusal source check.NoMemory = None
 

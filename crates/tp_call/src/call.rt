@@ -1,33 +1,45 @@
 // The top call.
-ghost use Rattle.std.specs.Prelude.{◌≡◌, ◌≢◌, ◌≤◌, ◌⊎◌, ℕ, List, [], length, None, IfOk, IfErr};
+ghost use Rattle.std.specs.Prelude.{◌≡◌, ◌≢◌, ◌≤◌, ◌<◌, ◌^◌, ◌⊎◌, ℕ, List, [], length, None, Some, Err, IfOk, IfErr, option_map};
 ghost use Rattle.tp_lex.specs.Place.{source_limit};
-ghost use Rattle.tp_io.specs.Devices.{Rose};
-ghost use Rattle.tp_check.specs.Built.{IsBuilt};
+ghost use Rattle.tp_io.specs.Devices.{Rose, bytes_of};
+ghost use Rattle.tp_meaning.specs.Fits.{ProgramFits};
 ghost use Rattle.tp_check.specs.Program.{program_tree};
 ghost use Rattle.tp_call.specs.Source.{IsProgram};
 ghost use Rattle.tp_call.specs.declared.status.Which.{Which};
-ghost use Rattle.tp_call.specs.Answer.{HoldsProgram, Sourced, Answers, AsksOnly};
-ghost use Rattle.tp_call.specs.Headline.{FinishedSays, ContradictorySays, UndeterminedSays, StateLimitSays, LimitSays, InputMissingSays, ProgramRuns, WordsRefusedExactly, TooLongExactly, SourceRefusedExactly};
-ghost use Rattle.tp_call.specs.Parts.{refusal_end, IsReadRefusal, IsProgramRefusal, ClosesText};
+ghost use Rattle.tp_inputs.specs.Read.{lines_of};
+ghost use Rattle.tp_inputs.specs.Table.{IsInputsText};
+ghost use Rattle.tp_call.specs.Answer.{WhereTold, HoldsProgram, HasInputs, IsAskedFor, Answers, AsksOnly};
+ghost use Rattle.tp_call.specs.Reading.{read_end, AsksFile, AsksTable};
+ghost use Rattle.tp_call.specs.Task.{plan_of};
+ghost use Rattle.tp_call.specs.Headline.{FinishedSays, FinishedTextSays, OpenTextSays, ContradictorySays, UndeterminedSays, StateLimitSays, LimitSays, InputMissingSays, ProgramRuns, WordsRefusedExactly, TooLongExactly, SourceRefusedExactly, InputsRefusedExactly};
+ghost use Rattle.tp_call.specs.Parts.{refusal_end, IsReadRefusal, IsSourceRefusal, IsTableRefusal, IsInputsEnd, IsProgramRefusal, ClosesText};
+ghost use Rattle.tp_call.specs.Progress.{line_of_end, ClosesAnswer, ClosesRun};
+ghost use Rattle.tp_call.specs.EndLine.{refusal_line};
+ghost use Rattle.tp_show.specs.Told.{AreNames, IsLastTurn};
 
-use crate::end_line::end_text;
+use crate::end_line::refusal_text;
 use crate::refused::{Refused, by_checker, by_lexer, by_parser};
-use crate::run::{Ended, run_program};
+use crate::run::{Ended, Task, run_task, status_of};
 use crate::source::{ReadRefusal, read_limited};
 use crate::status::{Status, Which};
-use crate::words::read_words;
 use std::alloc::Global;
 use std::sync::ledger::Ledger;
 use tp_check::{Program, check};
+use tp_inputs::{Inputs, InputsRefusal, read_inputs};
 use tp_io::{Files, Sink, WriteRefusal};
 use tp_lex::tokens;
 use tp_parse::parse;
+use tp_run::Limits;
+use tp_show::{Turn, end_text};
 use tp_step::Steps;
-use tp_store::Store;
-use tp_value::{Globals, Text};
+use tp_value::{NoMemory, Text};
+use tp_words::{WordsRefusal, read_words};
 
 // The greatest length of a source, in bytes.
 const SOURCE_LIMIT: usize = 1_048_576;
+
+// The greatest length of a file of inputs, in bytes.
+const INPUTS_LIMIT: usize = 16_777_216;
 
 // The status for a refusal; none stands for want of memory.
 fn refusal_status(refused: Option<Refused>) -> Status
@@ -43,7 +55,8 @@ fn refusal_status(refused: Option<Refused>) -> Status
 fn read_program(alloc: Global, source: &[u8]) -> Result<Program, Status>
     requires { length source.now ≤ source_limit }
     ensures program { IfOk result (λ p. IsProgram source.now (program_tree p)) }
-    ensures built { IfOk result (λ p. IsBuilt (program_tree p)) }
+    ensures fits { IfOk result (λ p. ProgramFits (program_tree p)) }
+    ensures names { IfOk result (λ p. AreNames p.globals) }
     ensures refused { IfErr result (IsReadRefusal source.now) }
 {
     let tokens = match tokens(alloc, source) {
@@ -60,11 +73,104 @@ fn read_program(alloc: Global, source: &[u8]) -> Result<Program, Status>
     }
 }
 
-// Reads the words, the source and the program.
-fn program_for<F: Files>(alloc: Global, words: &[Text], files: &mut F) -> Result<Program, Status>
-    ensures program { IfOk result (λ p.
-        Sourced words.now (F.held files.old) (HoldsProgram (program_tree p))) }
-    ensures built { IfOk result (λ p. IsBuilt (program_tree p)) }
+// The status of a file that can't be read.
+fn read_status(refusal: ReadRefusal, which: Which) -> Status
+    ensures { result ≡ read_end refusal which }
+{
+    match refusal {
+        ReadRefusal::TooLong => Status::TooLong { which },
+        ReadRefusal::Failed => Status::ReadFault { which },
+        ReadRefusal::NoMemory => Status::NoMemory,
+    }
+}
+
+// Reads the source, and the program that it is.
+fn read_source<F: Files>(alloc: Global, name: &str, files: &mut F) -> Result<Program, Status>
+    ensures program { IfOk result (λ p. WhereTold (F.held files.old) (λ held.
+        HoldsProgram (program_tree p) (bytes_of held name.now))) }
+    ensures fits { IfOk result (λ p. ProgramFits (program_tree p)) }
+    ensures names { IfOk result (λ p. AreNames p.globals) }
+    ensures refused { IfErr result (IsSourceRefusal (F.held files.old) name.now) }
+    ensures asked { AsksFile (F.asked files.old) name.now result (F.asked files.new) }
+    ensures held { F.held files.new ≡ F.held files.old }
+    ensures later { F.faults files.old ≤ F.faults files.new }
+    ensures read_fault { (which : Which) → result ≡ Err (Status.ReadFault which)
+        → (which ≡ Which.Source) × Rose F.greatest (F.faults files.old) (F.faults files.new) }
+{
+    match read_limited(alloc, files, name, SOURCE_LIMIT) {
+        Ok(source) => read_program(alloc, source.as_slice()),
+        Err(refusal) => Err(read_status(refusal, Which::Source)),
+    }
+}
+
+// The table of inputs of the text.
+fn table_of(alloc: Global, text: &[u8]) -> Result<Inputs, Status>
+    ensures table { IfOk result (λ t. IsInputsText text.now (lines_of t)) }
+    ensures refused { IfErr result (IsTableRefusal text.now) }
+{
+    match read_inputs(alloc, text) {
+        Ok(inputs) => Ok(inputs),
+        Err(InputsRefusal::BadLine { line }) => Err(Status::InputsRefused { line }),
+        Err(InputsRefusal::TwicePort { line }) => Err(Status::InputsRefused { line }),
+        Err(InputsRefusal::TooLong { line }) => Err(Status::InputsRefused { line }),
+        Err(InputsRefusal::NoMemory) => Err(Status::NoMemory),
+    }
+}
+
+// The table of inputs where no file is named.
+fn no_inputs(alloc: Global) -> Result<Inputs, Status>
+    ensures table { IfOk result (λ t. lines_of t ≡ []) }
+    ensures refused { IfErr result (λ status. status ≡ Status.NoMemory) }
+{
+    match Inputs::none(alloc) {
+        Ok(inputs) => Ok(inputs),
+        Err(_) => Err(Status::NoMemory),
+    }
+}
+
+// Reads the table of inputs of the file.
+fn read_table<F: Files>(alloc: Global, name: &str, files: &mut F) -> Result<Inputs, Status>
+    ensures table { IfOk result (λ t.
+        HasInputs (Some name.now) (F.held files.old) (lines_of t)) }
+    ensures refused { IfErr result (IsInputsEnd (F.held files.old) (Some name.now)) }
+    ensures asked { AsksFile (F.asked files.old) name.now result (F.asked files.new) }
+    ensures held { F.held files.new ≡ F.held files.old }
+    ensures later { F.faults files.old ≤ F.faults files.new }
+    ensures read_fault { (which : Which) → result ≡ Err (Status.ReadFault which)
+        → (which ≡ Which.Inputs) × Rose F.greatest (F.faults files.old) (F.faults files.new) }
+{
+    match read_limited(alloc, files, name, INPUTS_LIMIT) {
+        Ok(text) => table_of(alloc, text.as_slice()),
+        Err(refusal) => Err(read_status(refusal, Which::Inputs)),
+    }
+}
+
+// The table of inputs of the file, where one is named.
+fn inputs_for<F: Files>(alloc: Global, name: Option<&str>, files: &mut F) -> Result<Inputs, Status>
+    ensures table { IfOk result (λ t.
+        HasInputs (option_map (λ t. t.now) name.entry) (F.held files.old) (lines_of t)) }
+    ensures refused { IfErr result
+        (IsInputsEnd (F.held files.old) (option_map (λ t. t.now) name.entry)) }
+    ensures asked { AsksTable (F.asked files.old) (option_map (λ t. t.now) name.entry) result
+        (F.asked files.new) }
+    ensures held { F.held files.new ≡ F.held files.old }
+    ensures later { F.faults files.old ≤ F.faults files.new }
+    ensures read_fault { (which : Which) → result ≡ Err (Status.ReadFault which)
+        → (which ≡ Which.Inputs) × Rose F.greatest (F.faults files.old) (F.faults files.new) }
+{
+    match name {
+        Some(name) => read_table(alloc, name, files),
+        None => no_inputs(alloc),
+    }
+}
+
+// Reads the words, the source and the inputs.
+fn task_for<F: Files>(alloc: Global, words: &[Text], files: &mut F) -> Result<Task, Status>
+    ensures asked_for { IfOk result (λ task.
+        IsAskedFor words.now (F.held files.old) (plan_of task)) }
+    ensures fits { IfOk result (λ task. ProgramFits (program_tree task.program)) }
+    ensures names { IfOk result (λ task. AreNames task.program.globals) }
+    ensures states { IfOk result (λ task. task.limits.states < 2 ^ 64) }
     ensures refused { IfErr result (IsProgramRefusal words.now (F.held files.old)) }
     ensures asked { AsksOnly words.now (F.asked files.old) (F.asked files.new) (λ which.
         result ≡ Err (Status.ReadFault which)) }
@@ -73,32 +179,28 @@ fn program_for<F: Files>(alloc: Global, words: &[Text], files: &mut F) -> Result
     ensures read_fault { (which : Which) → result ≡ Err (Status.ReadFault which)
         → Rose F.greatest (F.faults files.old) (F.faults files.new) }
 {
-    let Some(command) = read_words(words) else {
-        return Err(Status::WordsRefused);
+    let command = match read_words(alloc, words) {
+        Ok(command) => command,
+        Err(WordsRefusal::Refused) => return Err(Status::WordsRefused),
+        Err(WordsRefusal::NoMemory) => return Err(Status::NoMemory),
     };
-    match read_limited(alloc, files, command.file, SOURCE_LIMIT) {
-        Err(ReadRefusal::TooLong) => Err(Status::TooLong {
-            which: Which::Source,
-        }),
-        Err(ReadRefusal::Failed) => Err(Status::ReadFault {
-            which: Which::Source,
-        }),
-        Err(ReadRefusal::NoMemory) => Err(Status::NoMemory),
-        Ok(source) => read_program(alloc, source.as_slice()),
-    }
+    let program = read_source(alloc, command.file.as_str(), files)?;
+    let inputs = inputs_for(alloc, command.inputs.as_deref(), files)?;
+    let limits = Limits {
+        states: command.states,
+        reductions: command.reductions,
+    };
+    Ok(Task {
+        program,
+        inputs,
+        limits,
+    })
 }
 
-// Writes the end line, by one write.
-fn close<K: Sink>(
-    alloc: Global,
-    globals: &Globals,
-    store: &Store,
-    status: Status,
-    out: &mut K,
-) -> Status
+// Writes the end line of this status, by one write.
+fn close<K: Sink>(alloc: Global, line: &[u8], status: Status, out: &mut K) -> Status
     requires { status ≢ Status.WriteFault }
-    ensures written { ClosesText globals.now store.now.variables status (K.written out.old)
-        (K.written out.new) result }
+    ensures written { ClosesText line.now status (K.written out.old) (K.written out.new) result }
     ensures memory { status ≡ Status.NoMemory → result ≡ Status.NoMemory }
     ensures later { K.faults out.old ≤ K.faults out.new }
     ensures write_fault { result ≡ Status.WriteFault
@@ -107,10 +209,7 @@ fn close<K: Sink>(
     if let Status::NoMemory = &status {
         return status;
     }
-    let Ok(line) = end_text(alloc, globals, store, &status) else {
-        return Status::NoMemory;
-    };
-    match out.write(alloc, line.as_slice()) {
+    match out.write(alloc, line) {
         Ok(()) => status,
         Err(WriteRefusal::Failed) => Status::WriteFault,
         Err(WriteRefusal::NoMemory) => Status::NoMemory,
@@ -120,17 +219,59 @@ fn close<K: Sink>(
 // The end line where no program ran.
 fn refuse<K: Sink>(alloc: Global, status: Status, out: &mut K) -> Status
     requires { status ≢ Status.WriteFault }
-    ensures written { ClosesText [] [] status (K.written out.old) (K.written out.new) result }
+    ensures written { ClosesText (refusal_line status) status (K.written out.old)
+        (K.written out.new) result }
     ensures memory { status ≡ Status.NoMemory → result ≡ Status.NoMemory }
     ensures later { K.faults out.old ≤ K.faults out.new }
     ensures write_fault { result ≡ Status.WriteFault
         → Rose K.greatest (K.faults out.old) (K.faults out.new) }
 {
-    let Ok(globals) = Globals::new(alloc) else {
-        return Status::NoMemory;
-    };
-    match Store::new(alloc, &globals) {
-        Ok(store) => close(alloc, &globals, &store, status, out),
+    match refusal_text(alloc, &status) {
+        Ok(line) => close(alloc, line.as_slice(), status, out),
+        Err(_) => Status::NoMemory,
+    }
+}
+
+// The end line of a run, where a state has at most so many reductions.
+fn last_line(alloc: Global, ended: &Ended, reductions: u64) -> Result<Text, NoMemory>
+    ensures { IfOk result (λ line. line ≡ line_of_end reductions ended.now) }
+{
+    let mut line = Text::new(alloc);
+    let globals = &ended.run.program().globals;
+    end_text(
+        &ended.turn,
+        ended.run.store(),
+        globals,
+        reductions,
+        &mut line,
+    )?;
+    Ok(line)
+}
+
+// Writes the end line of a run with this last answer.
+fn close_run<K: Sink>(alloc: Global, line: &[u8], turn: Turn, out: &mut K) -> Status
+    requires { IsLastTurn turn }
+    ensures written { ClosesAnswer line.now turn (K.written out.old) (K.written out.new) result }
+    ensures later { K.faults out.old ≤ K.faults out.new }
+    ensures write_fault { result ≡ Status.WriteFault
+        → Rose K.greatest (K.faults out.old) (K.faults out.new) }
+{
+    match status_of(turn) {
+        Some(status) => close(alloc, line, status, out),
+        None => unreachable!(),
+    }
+}
+
+// The end of a run, where a state has at most so many reductions.
+fn finish<K: Sink>(alloc: Global, ended: Ended, reductions: u64, out: &mut K) -> Status
+    requires { IsLastTurn ended.turn }
+    ensures written { ClosesRun reductions ended (K.written out.old) (K.written out.new) result }
+    ensures later { K.faults out.old ≤ K.faults out.new }
+    ensures write_fault { result ≡ Status.WriteFault
+        → Rose K.greatest (K.faults out.old) (K.faults out.new) }
+{
+    match last_line(alloc, &ended, reductions) {
+        Ok(line) => close_run(alloc, line.as_slice(), ended.turn, out),
         Err(_) => Status::NoMemory,
     }
 }
@@ -153,20 +294,21 @@ fn call<F: Files, K: Sink, L: Ledger>(
     ensures write_fault { result ≡ Status.WriteFault
         → Rose K.greatest (K.faults out.old) (K.faults out.new) }
 {
-    match program_for(alloc, words, files) {
-        Err(status) => refuse(alloc, status, out),
-        Ok(program) => match run_program(alloc, program, out, steps) {
-            Err(WriteRefusal::Failed) => Status::WriteFault,
-            Err(WriteRefusal::NoMemory) => Status::NoMemory,
-            Ok(Ended { run, status }) => {
-                close(alloc, &run.program().globals, run.store(), status, out)
-            }
-        },
+    let task = match task_for(alloc, words, files) {
+        Ok(task) => task,
+        Err(status) => return refuse(alloc, status, out),
+    };
+    let reductions = task.limits.reductions;
+    match run_task(alloc, task, out, steps) {
+        Err(WriteRefusal::Failed) => Status::WriteFault,
+        Err(WriteRefusal::NoMemory) => Status::NoMemory,
+        Ok(ended) => finish(alloc, ended, reductions, out),
     }
 }
 
-/// Runs the program of the file that the words name: `run` and a file. Each settled state is written by one write, and
-/// the end line by one more; nothing is written after a write that failed, nor where memory is wanted. Each item that is tried
+/// Runs the program of the file that the words name, with the inputs and the limits that they name: `run` and a file, and the options
+/// of the command line. Each settled state is written by one write, with a line for
+/// each list of values that it shows, and the end line by one more; nothing is written after a write that failed, nor where memory is wanted. Each item that is tried
 /// adds one to the steps.
 pub fn tempura<F: Files, K: Sink, L: Ledger>(
     alloc: Global,
@@ -202,10 +344,17 @@ pub fn tempura<F: Files, K: Sink, L: Ledger>(
         (K.written out.new) result }
     ensures program_runs { ProgramRuns words.now (F.held files.old) result }
 
+    // The headline for whoever has the text alone.
+    ensures finished_text { FinishedTextSays words.now (F.held files.old) (K.written out.old)
+        (K.written out.new) result }
+    ensures open_text { OpenTextSays words.now (F.held files.old) (K.written out.old)
+        (K.written out.new) result }
+
     // Refusals, each exactly, but for failed reads and writes and want of memory.
     ensures words_refused { WordsRefusedExactly words.now (F.held files.old) result }
     ensures too_long { TooLongExactly words.now (F.held files.old) result }
     ensures source_refused { SourceRefusedExactly words.now (F.held files.old) result }
+    ensures inputs_refused { InputsRefusedExactly words.now (F.held files.old) result }
 
     // Faults.
     ensures asked { AsksOnly words.now (F.asked files.old) (F.asked files.new) (λ which.

@@ -3,7 +3,7 @@ ghost use Rattle.std.specs.Prelude.{◌≡◌, ◌<◌, List, ℕ};
 ghost use Rattle.tp_io.specs.Devices.{Rose};
 ghost use Rattle.tp_call.specs.declared.status.Which.{Which};
 ghost use Rattle.tp_call.specs.Answer.{Answers, AsksOnly};
-ghost use Rattle.tp_call.specs.Headline.{FinishedSays, ContradictorySays, UndeterminedSays, StateLimitSays, LimitSays, InputMissingSays, ProgramRuns, WordsRefusedExactly, TooLongExactly, SourceRefusedExactly};
+ghost use Rattle.tp_call.specs.Headline.{FinishedSays, FinishedTextSays, OpenTextSays, ContradictorySays, UndeterminedSays, StateLimitSays, LimitSays, InputMissingSays, ProgramRuns, WordsRefusedExactly, TooLongExactly, SourceRefusedExactly, InputsRefusedExactly};
 
 use crate::call::tempura;
 use crate::status::Status;
@@ -51,10 +51,17 @@ pub fn counted<L: Ledger, F: Files, K: Sink>(
         (K.written out.new) result }
     ensures program_runs { ProgramRuns words.now (F.held files.old) result }
 
+    // The headline for whoever has the text alone.
+    ensures finished_text { FinishedTextSays words.now (F.held files.old) (K.written out.old)
+        (K.written out.new) result }
+    ensures open_text { OpenTextSays words.now (F.held files.old) (K.written out.old)
+        (K.written out.new) result }
+
     // Refusals, each exactly, but for failed reads and writes and want of memory.
     ensures words_refused { WordsRefusedExactly words.now (F.held files.old) result }
     ensures too_long { TooLongExactly words.now (F.held files.old) result }
     ensures source_refused { SourceRefusedExactly words.now (F.held files.old) result }
+    ensures inputs_refused { InputsRefusedExactly words.now (F.held files.old) result }
 
     // Faults.
     ensures asked { AsksOnly words.now (F.asked files.old) (F.asked files.new) (λ which.

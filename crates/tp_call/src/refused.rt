@@ -82,6 +82,7 @@ pub fn by_checker(source: &[u8], refusal: CheckRefusal) -> Option<Refused>
             Some(at_byte(source, at as usize, SourceKind::NotExpression))
         }
         CheckRefusal::NotPlace { at } => Some(at_byte(source, at as usize, SourceKind::NotPlace)),
+        CheckRefusal::NotPort { at } => Some(at_byte(source, at as usize, SourceKind::NotPort)),
         CheckRefusal::NotExecutable { at } => {
             Some(at_byte(source, at as usize, SourceKind::NotExecutable))
         }

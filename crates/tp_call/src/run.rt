@@ -1,18 +1,21 @@
 // Running a program, and writing its states.
-ghost use Rattle.std.specs.Prelude.{◌≡◌, ◌≤◌, true, None, IfOk, IsErr, IsErrOf};
+ghost use Rattle.std.specs.Prelude.{◌≡◌, ◌≤◌, true, IfOk, IsErr, IsErrOf, OnOk};
 ghost use Rattle.tp_io.specs.Devices.{Rose, Writes};
 ghost use Rattle.tp_kernel.specs.Read.{formula_tree};
-ghost use Rattle.tp_check.specs.Built.{IsBuilt};
+ghost use Rattle.tp_meaning.specs.Fits.{ProgramFits};
 ghost use Rattle.tp_check.specs.Program.{program_tree};
 ghost use Rattle.tp_scene.specs.StandsFor.{first_moment};
 ghost use Rattle.tp_run.specs.States.{Plan, open_at};
-ghost use Rattle.tp_run.specs.Runs.{standing_of, next_state_of, IsRunOf};
-ghost use Rattle.tp_call.specs.Run.{plan_of, limit_end, status_of as end_status};
-ghost use Rattle.tp_call.specs.Line.{AreFactsOf, state_line};
-ghost use Rattle.tp_call.specs.Progress.{TurnMade, ProgramMade, line_of, is_settled as is_settled_by};
-ghost use Rattle.tp_call.specs.Places.{standing_place, StandsOpen};
+ghost use Rattle.tp_run.specs.Runs.{standing_of, standing_place, next_state_of, IsRunOf};
+ghost use Rattle.tp_show.specs.Read.{plain_parts};
+ghost use Rattle.tp_show.specs.Parts.{line_parts};
+ghost use Rattle.tp_show.specs.Line.{picture_lines};
+ghost use Rattle.tp_show.specs.Told.{IsPictureInRange};
+ghost use Rattle.tp_call.specs.Task.{plan_of};
+ghost use Rattle.tp_call.specs.Run.{limit_end, last_answer as last_by, status_of as end_status};
+ghost use Rattle.tp_call.specs.Progress.{TurnMade, ProgramMade, printed_lines, is_settled as is_settled_by};
+ghost use Rattle.tp_call.specs.Places.{StandsOpen};
 
-use crate::line::state_text;
 use crate::status::Status;
 use std::alloc::Global;
 use std::sync::ledger::Ledger;
@@ -20,15 +23,10 @@ use tp_check::Program;
 use tp_inputs::Inputs;
 use tp_io::{Sink, WriteRefusal};
 use tp_kernel::LimitKind;
-use tp_run::{Limits, Picture, Run, Turn};
+use tp_run::{Limits, Run};
+use tp_show::{LineParts, Picture, Turn, picture_text};
 use tp_step::{Order, Shows, Steps};
-use tp_value::{Facts, Globals, NoMemory};
-
-/// How many states a run has at most.
-pub const STATES: u64 = 1000;
-
-/// How many reductions a state takes at most.
-pub const REDUCTIONS: u64 = 100_000;
+use tp_value::{Facts, Globals, NoMemory, Text};
 
 // Writes a settled state, by one write.
 fn write_state<K: Sink>(
@@ -37,15 +35,17 @@ fn write_state<K: Sink>(
     globals: &Globals,
     out: &mut K,
 ) -> Result<(), WriteRefusal>
-    requires { AreFactsOf globals.now picture.now.facts }
+    requires { plain_parts picture.now.parts ≡ line_parts picture.now.facts }
     ensures written { Writes (K.written out.old) (K.written out.new)
-        (state_line globals.now picture.now) result }
+        (picture_lines globals.now picture.now) result }
+    ensures range { OnOk result (IsPictureInRange picture.now) }
     ensures later { K.faults out.old ≤ K.faults out.new }
     ensures cause { IsErrOf result WriteRefusal.Failed
         → Rose K.greatest (K.faults out.old) (K.faults out.new) }
 {
-    let line = state_text(alloc, picture, globals)?;
-    out.write(alloc, line.as_slice())
+    let mut text = Text::new(alloc);
+    picture_text(picture, globals, &mut text)?;
+    out.write(alloc, text.as_slice())
 }
 
 // The status of a run that passes a limit in this state.
@@ -83,9 +83,11 @@ fn write_settled<K: Sink>(
     globals: &Globals,
     out: &mut K,
 ) -> Result<(), WriteRefusal>
-    requires { is_settled_by turn.now ≡ true → AreFactsOf globals.now picture.now.facts }
+    requires { is_settled_by turn.now ≡ true
+        → plain_parts picture.now.parts ≡ line_parts picture.now.facts }
     ensures written { Writes (K.written out.old) (K.written out.new)
-        (line_of globals.now turn.now picture.now) result }
+        (printed_lines globals.now turn.now picture.now) result }
+    ensures range { OnOk result (is_settled_by turn.now ≡ true → IsPictureInRange picture.now) }
     ensures only { IsErr result → is_settled_by turn.now ≡ true }
     ensures later { K.faults out.old ≤ K.faults out.new }
     ensures cause { IsErrOf result WriteRefusal.Failed
@@ -98,8 +100,21 @@ fn write_settled<K: Sink>(
     }
 }
 
-// The status of a run that ends with this answer; there is none where it goes on.
-fn status_of(turn: Turn) -> Option<Status>
+// The answer with which a run ends; it goes on with `Went`.
+fn last_answer(turn: Turn) -> Option<Turn>
+    ensures { result ≡ last_by turn }
+{
+    match turn {
+        Turn::Went => None,
+        Turn::Finished { .. } | Turn::Contradictory { .. } | Turn::Undetermined { .. } => Some(
+            turn,
+        ),
+        Turn::StateLimit { .. } | Turn::InputMissing { .. } | Turn::Over { .. } => Some(turn),
+    }
+}
+
+/// The status of a run that ends with this answer; there is none where it goes on.
+pub fn status_of(turn: Turn) -> Option<Status>
     ensures { result ≡ end_status turn }
 {
     match turn {
@@ -113,14 +128,14 @@ fn status_of(turn: Turn) -> Option<Status>
     }
 }
 
-// Makes the next state, and writes it where it is settled; gives the status where the run ends with it.
+// Makes the next state, and writes it where it is settled; gives the answer where the run ends with it.
 fn make_state<K: Sink, L: Ledger>(
     alloc: Global,
     run: &mut Run,
     picture: &mut Picture,
     out: &mut K,
     steps: &mut Steps<L>,
-) -> Result<Option<Status>, WriteRefusal>
+) -> Result<Option<Turn>, WriteRefusal>
     requires run { (plan : Plan) × IsRunOf plan run.old }
     requires open { StandsOpen (standing_of run.old) }
     ensures run { (plan : Plan) → IsRunOf plan run.old → IsRunOf plan run.new }
@@ -133,52 +148,62 @@ fn make_state<K: Sink, L: Ledger>(
 {
     let turn = run.state(picture, steps)?;
     write_settled(alloc, &turn, picture, &run.program().globals, out)?;
-    Ok(status_of(turn))
+    Ok(last_answer(turn))
 }
 
-// A run of the program, without inputs, before its first state.
-fn start(alloc: Global, program: Program) -> Result<Run, NoMemory>
-    requires { IsBuilt (program_tree program) }
+/// What is run: a program with its inputs, and how far.
+#[derive(Drop)]
+pub struct Task {
+    pub program: Program,
+    pub inputs: Inputs,
+    pub limits: Limits,
+}
+
+// A run of the task, before its first state.
+fn start(alloc: Global, task: Task) -> Result<Run, NoMemory>
+    requires { ProgramFits (program_tree task.program) }
     ensures stands { IfOk result (λ run.
         standing_of run
-        ≡ open_at (first_moment program.globals (formula_tree program.main.value))) }
+        ≡ open_at (first_moment task.program.globals (formula_tree task.program.main.value))) }
     ensures state { IfOk result (λ run. next_state_of run ≡ 0) }
-    ensures run { IfOk result (IsRunOf (plan_of (program_tree program))) }
+    ensures run { IfOk result (IsRunOf (plan_of task)) }
 {
-    let inputs = Inputs::none(alloc)?;
-    let limits = Limits {
-        states: STATES,
-        reductions: REDUCTIONS,
-    };
+    let Task {
+        program,
+        inputs,
+        limits,
+    } = task;
     let run = Run::start(alloc, program, inputs, limits, Order::First)?;
     Ok(run)
 }
 
-/// A run that has come to its end, and its status.
+/// A run that has come to its end, and its last answer.
 #[derive(Drop)]
 pub struct Ended {
     pub run: Run,
-    pub status: Status,
+    pub turn: Turn,
 }
 
-/// Runs the program, and writes each state as it is settled. At `Err` a write failed, or memory was wanted.
-pub fn run_program<K: Sink, L: Ledger>(
+/// Runs the task, and writes each state as it is settled. At `Err` a write failed, or memory was wanted.
+pub fn run_task<K: Sink, L: Ledger>(
     alloc: Global,
-    program: Program,
+    task: Task,
     out: &mut K,
     steps: &mut Steps<L>,
 ) -> Result<Ended, WriteRefusal>
-    requires { IsBuilt (program_tree program) }
-    ensures made { ProgramMade (program_tree program) (K.written out.old) (K.written out.new)
-        result }
+    requires { ProgramFits (program_tree task.program) }
+    ensures made { ProgramMade (plan_of task) (K.written out.old) (K.written out.new) result }
     ensures later { K.faults out.old ≤ K.faults out.new }
     ensures cause { IsErrOf result WriteRefusal.Failed
         → Rose K.greatest (K.faults out.old) (K.faults out.new) }
 {
-    let mut run = start(alloc, program)?;
+    let mut run = start(alloc, task)?;
     let mut picture = Picture {
         state: 0,
         facts: Facts {
+            items: Vec::new(alloc),
+        },
+        parts: LineParts {
             items: Vec::new(alloc),
         },
         shows: Shows {
@@ -187,8 +212,8 @@ pub fn run_program<K: Sink, L: Ledger>(
         reductions: 0,
     };
     loop {
-        if let Some(status) = make_state(alloc, &mut run, &mut picture, out, steps)? {
-            return Ok(Ended { run, status });
+        if let Some(turn) = make_state(alloc, &mut run, &mut picture, out, steps)? {
+            return Ok(Ended { run, turn });
         }
     }
 }

@@ -2,13 +2,14 @@
 ghost use Rattle.std.specs.Prelude.{◌≡◌};
 ghost use Rattle.tp_call.specs.EndLine.{code_of, which_text, kind_text};
 
-use tp_run::{Cell, Clash};
+use tp_show::{Cell, Clash};
 use tp_value::Text;
 
 /// A file that the words name.
 #[derive(Clone, Copy, Debug, PartialEq, Eq)]
 pub enum Which {
     Source,
+    Inputs,
 }
 
 impl Which {
@@ -17,6 +18,7 @@ impl Which {
     {
         match self {
             Which::Source => "source",
+            Which::Inputs => "inputs",
         }
     }
 }
@@ -36,6 +38,7 @@ pub enum SourceKind {
     WrongCount,
     NotExpression,
     NotPlace,
+    NotPort,
     NotExecutable,
 }
 
@@ -56,6 +59,7 @@ impl SourceKind {
             SourceKind::WrongCount => "wrong count",
             SourceKind::NotExpression => "not an expression",
             SourceKind::NotPlace => "not a place",
+            SourceKind::NotPort => "not a port",
             SourceKind::NotExecutable => "not executable",
         }
     }
@@ -102,6 +106,9 @@ pub enum Status {
         column: u64,
         kind: SourceKind,
     },
+    InputsRefused {
+        line: u64,
+    },
     WordsRefused,
     TooLong {
         which: Which,
@@ -130,6 +137,7 @@ impl Status {
             Status::NestLimit { .. } => 8,
             Status::InputMissing { .. } => 9,
             Status::SourceRefused { .. } => 10,
+            Status::InputsRefused { .. } => 11,
             Status::WordsRefused => 12,
             Status::TooLong { .. } => 13,
             Status::ReadFault { .. } => 14,

@@ -1,4 +1,4 @@
-use Rattle.tp_call.proofs.ClauseLemmas.{finished, contradictory, undetermined, state_limit, reduction_limit, number_limit, list_limit, call_limit, nest_limit, input_missing, program_runs, words_refused_only, words_refused, too_long_only, too_long, source_refused_only, source_refused}
+use Rattle.tp_call.proofs.ClauseLemmas.{finished, contradictory, undetermined, state_limit, reduction_limit, number_limit, list_limit, call_limit, nest_limit, input_missing, program_runs, finished_text, open_text, words_refused_only, words_refused, too_long_only, too_long, inputs_too_long, source_refused_only, source_refused, inputs_refused_only, inputs_refused}
 use Rattle.tp_call.proofs.call.tempura.Goals as goal
 
 pub returns-clause-finished : goal.returns-clause-finished
@@ -32,13 +32,22 @@ pub returns-clause-input_missing : goal.returns-clause-input_missing
 returns-clause-input_missing g c = input_missing _ _ _ _ _ c.call.ensures.answer
 
 pub returns-clause-program_runs : goal.returns-clause-program_runs
-returns-clause-program_runs g c = λ program. program_runs _ _ _ _ program _ c.call.ensures.answer
+returns-clause-program_runs g c = program_runs _ _ _ _ _ c.call.ensures.answer
+
+pub returns-clause-finished_text : goal.returns-clause-finished_text
+returns-clause-finished_text g c = finished_text _ _ _ _ _ c.call.ensures.answer
+
+pub returns-clause-open_text : goal.returns-clause-open_text
+returns-clause-open_text g c = open_text _ _ _ _ _ c.call.ensures.answer
 
 pub returns-clause-words_refused : goal.returns-clause-words_refused
 returns-clause-words_refused g c = record { only = words_refused_only _ _ _ _ _ c.call.ensures.answer; there = words_refused _ _ _ _ _ c.call.ensures.answer }
 
 pub returns-clause-too_long : goal.returns-clause-too_long
-returns-clause-too_long g c = record { only = too_long_only _ _ _ _ _ c.call.ensures.answer; there = too_long _ _ _ _ _ c.call.ensures.answer }
+returns-clause-too_long g c = record { only = too_long_only _ _ _ _ _ c.call.ensures.answer; for_source = too_long _ _ _ _ _ c.call.ensures.answer; for_inputs = inputs_too_long _ _ _ _ _ c.call.ensures.answer }
 
 pub returns-clause-source_refused : goal.returns-clause-source_refused
 returns-clause-source_refused g c = record { only = source_refused_only _ _ _ _ _ c.call.ensures.answer; there = source_refused _ _ _ _ _ c.call.ensures.answer }
+
+pub returns-clause-inputs_refused : goal.returns-clause-inputs_refused
+returns-clause-inputs_refused g c = record { only = inputs_refused_only _ _ _ _ _ c.call.ensures.answer; there = inputs_refused _ _ _ _ _ c.call.ensures.answer }

@@ -1,0 +1,58 @@
+use Rattle.std.proofs.Common.{ℕ, ◌≤◌, ◌<◌, inr, refl, arith}
+use Rattle.std.proofs.lemmas.Result.{err_from_is_err_and}
+use Rattle.tp_run.specs.Runs.{standing_place, next_state_of}
+use Rattle.tp_call.specs.Task.{plan_of}
+use Rattle.tp_call.proofs.RunLemmas.{HasWritten-none, HasWritten-more, next_state}
+use Rattle.tp_call.proofs.TurnLemmas.{went_on}
+use Rattle.tp_call.proofs.run.run_task.Goals as goal
+
+up_to : (a b c : ℕ) → a ≤ b → b ≤ c → a ≤ c
+up_to a b c h k = omega arith
+
+pub loop-picture-init : goal.loop-picture-init
+loop-picture-init g c = record {
+  written = HasWritten-none (plan_of c.args.task) (standing_place c.in_ok-run.run') (g.K.Sink.written c.args.out.now) c.in_ok-run.ensures.stands c.in_ok-run.ensures.state;
+  run = c.in_ok-run.ensures.run;
+  later = omega arith;
+}
+
+pub returns-in_err-turn-clause-made : goal.returns-in_err-turn-clause-made
+returns-in_err-turn-clause-made g c =
+    let p = err_from_is_err_and c.from_residual-in_err-turn.result c.from_residual-in_err-turn.ensures.1 in
+    rw (p.1, p.2) (inr (record {
+      from = standing_place c.loop-picture.run;
+      to = standing_place c.make_state.new.run;
+      middle = g.K.Sink.written c.loop-picture.out;
+      settled = c.loop-picture.invariant.written;
+      stopped = c.in_err-turn.ensures.made _ c.loop-picture.invariant.run;
+      ended = tt;
+    }))
+
+pub returns-in-Some-clause-made : goal.returns-in-Some-clause-made
+returns-in-Some-clause-made g c =
+    inr (record {
+      from = standing_place c.loop-picture.run;
+      to = standing_place c.make_state.new.run;
+      middle = g.K.Sink.written c.loop-picture.out;
+      settled = c.loop-picture.invariant.written;
+      stopped = (rw c.in-Some.is at c.in_ok-turn.ensures.made) _ c.loop-picture.invariant.run;
+      ended = record { program_is = (c.in_ok-turn.ensures.run _ c.loop-picture.invariant.run).program; store = refl };
+    })
+
+pub loop-picture-preserved : goal.loop-picture-preserved
+loop-picture-preserved g c =
+    let made = (rw c.in_default.is at c.in_ok-turn.ensures.made) _ c.loop-picture.invariant.run in
+    let went = went_on _ _ (standing_place c.loop-picture.run) (standing_place c.make_state.new.run) _ _ made in
+    record {
+      written = HasWritten-more _ (standing_place c.loop-picture.run) (standing_place c.make_state.new.run) _ _ _ made.picture c.loop-picture.invariant.written went;
+      run = c.in_ok-turn.ensures.run _ c.loop-picture.invariant.run;
+      later = up_to _ _ _ c.loop-picture.invariant.later c.in_ok-turn.ensures.later;
+    }
+
+pub loop-picture-smaller : goal.loop-picture-smaller
+loop-picture-smaller g c =
+    let made = (rw c.in_default.is at c.in_ok-turn.ensures.made) _ c.loop-picture.invariant.run in
+    let went = went_on _ _ (standing_place c.loop-picture.run) (standing_place c.make_state.new.run) _ _ made in
+    let next = next_state _ (standing_place c.loop-picture.run) (standing_place c.make_state.new.run) _ _ made.picture c.loop-picture.invariant.written went.turned in
+    let within : next_state_of c.loop-picture.run < c.args.task.limits.states = next.within in
+    omega (arith, within, next.next)
