@@ -6,18 +6,21 @@ use std::marker::Brand;
 use std::process::Abort;
 use std::sync::ledger::Blank;
 use std::test::Fail;
-use tp_call::{SourceKind, Status, Which, counted, end_text};
+use tp_call::{Status, counted};
 use tp_io::{Files, Sink, SurePage, SureShelf};
-use tp_kernel::FaultKind;
-use tp_run::Clash;
-use tp_store::Store;
-use tp_value::{Globals, Text};
+use tp_value::Text;
 
+mod displayed;
+mod ends;
 mod faults;
+mod long;
+mod optioned;
 mod rows;
 mod unfolded;
 
-use rows::{DERIVED, IN_PARTS, INTERVALS, LONG, NOT_RUN, REFUSED, STATES, VALUES};
+use displayed::{DISPLAYS, HANOI, IN_ORDER, NO_INPUTS, PARTS_OF_LISTS, UNSHOWN};
+use long::{LONG, LONG_LINES};
+use rows::{DERIVED, IN_PARTS, INTERVALS, NOT_RUN, REFUSED, STATES, VALUES};
 use unfolded::{ARGUMENTS, CALCULATED, LIMITS, LOCALS, REFUSED_CALLS, UNFOLDED};
 
 // The status of a call with these words.
@@ -90,31 +93,50 @@ fn definitions_are_run(rt: HostRuntime) -> Result<(), Fail> {
 }
 
 #[test]
+fn values_are_displayed(rt: HostRuntime) -> Result<(), Fail> {
+    for table in [DISPLAYS, IN_ORDER, UNSHOWN, HANOI] {
+        expect_rows(&rt, table)?;
+    }
+    Ok(())
+}
+
+#[test]
+fn inputs_are_missing_without_a_table(rt: HostRuntime) -> Result<(), Fail> {
+    expect_rows(&rt, NO_INPUTS)
+}
+
+#[test]
+fn lists_are_known_in_part(rt: HostRuntime) -> Result<(), Fail> {
+    expect_rows(&rt, PARTS_OF_LISTS)
+}
+
+#[test]
 fn calls_have_limits(rt: HostRuntime) -> Result<(), Fail> {
     expect_rows(&rt, LIMITS)
 }
 
-#[test]
-fn long_sources_are_run(rt: HostRuntime) -> Result<(), Fail> {
-    for row in LONG.trim().split("\n\n") {
+// The same of rows that begin with the number of times.
+fn expect_long_rows(rt: &(impl Abort + AllocGlobal), table: &str) -> Result<(), Fail> {
+    for row in table.trim().split("\n\n") {
         let (times, row) = cut(row, "times")?;
-        expect_row(&rt, row, number(times)?)?;
+        expect_row(rt, row, number(times)?)?;
     }
     Ok(())
 }
 
 #[test]
+fn long_sources_are_run(rt: HostRuntime) -> Result<(), Fail> {
+    expect_long_rows(&rt, LONG)
+}
+
+#[test]
+fn long_lines_are_written(rt: HostRuntime) -> Result<(), Fail> {
+    expect_long_rows(&rt, LONG_LINES)
+}
+
+#[test]
 fn words_are_refused(rt: HostRuntime) -> Result<(), Fail> {
-    let rows: [&[&str]; 4] = [
-        &[],
-        &["run"],
-        &["print", "a.t"],
-        &["run", "a.t", "--states", "x"],
-    ];
-    for words in rows {
-        expect(&rt, words, "run empty.", 12, "words refused\n")?;
-    }
-    Ok(())
+    expect(&rt, &[], "run empty.", 12, "words refused\n")
 }
 
 #[test]
@@ -125,100 +147,4 @@ fn sources_of_many_bytes_are_refused(rt: HostRuntime) -> Result<(), Fail> {
     expect(&rt, &words, source.as_str(), 10, refused)?;
     source.push(' ')?;
     expect(&rt, &words, source.as_str(), 13, "too long: source\n")
-}
-
-fn no_value(fault: FaultKind) -> Status {
-    Status::Contradictory {
-        state: 1,
-        clash: Clash::NoValue(fault),
-    }
-}
-
-fn refused(kind: SourceKind) -> Status {
-    Status::SourceRefused {
-        line: 2,
-        column: 9,
-        kind,
-    }
-}
-
-// Statuses with their end lines and exit statuses.
-fn ends(alloc: Global) -> Result<Vec<(Status, u8, &'static str)>, Fail> {
-    let port = Text::from_slice(alloc, b"p")?;
-    let which = Which::Source;
-    let all = vec![in alloc;
-        (Status::StateLimit { states: 3 }, 3, "state limit: 3\n"),
-        (
-            Status::ReductionLimit { state: 0 },
-            4,
-            "reduction limit: state 0: 100000 reductions\n"
-        ),
-        (
-            Status::NumberLimit { state: 0 },
-            5,
-            "number limit: state 0\n"
-        ),
-        (Status::ListLimit { state: 0 }, 6, "list limit: state 0\n"),
-        (Status::CallLimit { state: 2 }, 7, "call limit: state 2\n"),
-        (Status::NestLimit { state: 0 }, 8, "nest limit: state 0\n"),
-        (
-            Status::InputMissing { state: 1, port },
-            9,
-            "input missing: state 1: port p\n"
-        ),
-        (Status::ReadFault { which }, 14, "read fault: source\n"),
-        (
-            no_value(FaultKind::WrongKind),
-            1,
-            "contradictory: state 1: no value: wrong kind\n"
-        ),
-        (
-            no_value(FaultKind::ZeroDivisor),
-            1,
-            "contradictory: state 1: no value: zero divisor\n"
-        ),
-        (
-            no_value(FaultKind::NoElement),
-            1,
-            "contradictory: state 1: no value: no element\n"
-        ),
-        (
-            refused(SourceKind::DefinedTwice),
-            10,
-            "source refused: line 2 column 9: defined twice\n"
-        ),
-        (
-            refused(SourceKind::UnknownName),
-            10,
-            "source refused: line 2 column 9: unknown name\n"
-        ),
-        (
-            refused(SourceKind::WrongCount),
-            10,
-            "source refused: line 2 column 9: wrong count\n"
-        ),
-        (
-            refused(SourceKind::NotExpression),
-            10,
-            "source refused: line 2 column 9: not an expression\n"
-        ),
-        (
-            refused(SourceKind::NotPlace),
-            10,
-            "source refused: line 2 column 9: not a place\n"
-        ),
-    ]?;
-    Ok(all)
-}
-
-#[test]
-fn ends_are_told(rt: HostRuntime) -> Result<(), Fail> {
-    let globals = Globals::new(rt.alloc())?;
-    let store = Store::new(rt.alloc(), &globals)?;
-    for (status, code, text) in &ends(rt.alloc())? {
-        let line = end_text(rt.alloc(), &globals, &store, status)?;
-        assert_eq!(rt; line.as_slice(), text.as_bytes());
-        assert_eq!(rt; status.code(), *code);
-    }
-    Ok(())
 }

@@ -1,28 +1,22 @@
-// The values of ports by state, with ample memory.
+// Tables of inputs, with ample memory.
+use crate::making::series;
 use std::alloc::Global;
+use std::process::Abort;
 use std::test::Fail;
-use tp_inputs::{Inputs, Line, Pair};
-use tp_value::{Text, Value, same};
+use tp_inputs::{Inputs, read_inputs};
+use tp_value::{Text, Value, same, write_value};
 
-// One line for state 0, with the values 7 of `a` and 8 of `b`.
-fn one_line(alloc: Global) -> Result<Inputs, Fail> {
-    let pairs = vec![in alloc;
-        Pair {
-            port: Text::from_slice(alloc, b"a")?,
-            value: Value::Num(7)
-        },
-        Pair {
-            port: Text::from_slice(alloc, b"b")?,
-            value: Value::Num(8)
-        },
-    ]?;
-    let items = vec![in alloc; Line { items: pairs }]?;
-    Ok(Inputs { items })
+// The table of the text.
+fn read_table(alloc: Global, text: &str) -> Result<Inputs, Fail> {
+    match read_inputs(alloc, text.as_bytes()) {
+        Ok(inputs) => Ok(inputs),
+        Err(_) => Err("no table".into()),
+    }
 }
 
 #[test]
 fn ports_have_their_values(rt: HostRuntime) -> Result<(), Fail> {
-    let inputs = one_line(rt.alloc())?;
+    let inputs = read_table(rt.alloc(), "a=7 b=8\n")?;
     let table = [(0, "a", 7), (0, "b", 8), (0, "c", -1), (1, "a", -1)];
     for (state, name, wanted) in table {
         let port = Text::from_slice(rt.alloc(), name.as_bytes())?;
@@ -36,4 +30,113 @@ fn ports_have_their_values(rt: HostRuntime) -> Result<(), Fail> {
     let port = Text::from_slice(rt.alloc(), b"a")?;
     assert!(rt; none.at(0, &port).is_none());
     Ok(())
+}
+
+// The value of the port in the state, as it is written, or `none`.
+fn expect_value(
+    rt: &(impl Abort + AllocGlobal),
+    text: &str,
+    state: u64,
+    port: &str,
+    canonical: &str,
+) -> Result<(), Fail> {
+    let inputs = read_table(rt.alloc(), text)?;
+    let port = Text::from_slice(rt.alloc(), port.as_bytes())?;
+    let mut out = Text::new(rt.alloc());
+    match inputs.at(state, &port) {
+        Some(value) => write_value(value, &mut out)?,
+        None => out.append(b"none")?,
+    }
+    assert_eq!(rt; out.as_slice(), canonical.as_bytes(), "at {text:?}");
+    Ok(())
+}
+
+#[test]
+fn texts_are_tables(rt: HostRuntime) -> Result<(), Fail> {
+    let rows = [
+        ("", 0, "p", "none"),
+        ("p=1", 0, "p", "1"),
+        ("p=1\n", 0, "p", "1"),
+        ("p=1\n", 1, "p", "none"),
+        ("p=1\n", 18446744073709551615, "p", "none"),
+        ("p=1\r\nq=2", 0, "p", "1"),
+        ("p=1\r\nq=2", 1, "q", "2"),
+        ("\np=1\n", 0, "p", "none"),
+        ("\n\r\n \t\np=1", 3, "p", "1"),
+        (" \tp=<1, 2> q=true\t", 0, "p", "<1,2>"),
+        (" \tp=<1, 2> q=true\t", 0, "q", "true"),
+        ("p=1 q=2\nq=3\n", 1, "p", "none"),
+        ("p=1 q=2\nq=3\n", 1, "q", "3"),
+        ("p=-007 pQ_2=<\t>", 0, "p", "-7"),
+        ("p=-007 pQ_2=<\t>", 0, "pQ_2", "<>"),
+        ("ifs=1", 0, "ifs", "1"),
+        ("p=9223372036854775807", 0, "p", "9223372036854775807"),
+    ];
+    for (text, state, port, canonical) in rows {
+        expect_value(&rt, text, state, port, canonical)?;
+    }
+    Ok(())
+}
+
+fn expect_refusal(rt: &(impl Abort + AllocGlobal), text: &str, refusal: &str) -> Result<(), Fail> {
+    match read_inputs(rt.alloc(), text.as_bytes()) {
+        Ok(_) => return Err("a table".into()),
+        Err(answer) => {
+            let answer = format!(in rt.alloc(); "{answer:?}")?;
+            assert_eq!(rt; answer.as_str(), refusal, "at {text:?}");
+        }
+    }
+    Ok(())
+}
+
+// A text, and the line with its first fault, where something is no pair.
+const BAD_LINES: [(&str, u64); 22] = [
+    ("P=1", 1),
+    ("_p=1", 1),
+    ("1p=1", 1),
+    ("=1", 1),
+    ("p", 1),
+    ("p=", 1),
+    ("p = 1", 1),
+    ("p= 1", 1),
+    ("p=1q=2", 1),
+    ("p=1,q=2", 1),
+    ("p=tru", 1),
+    ("p=<1 2>", 1),
+    ("p=<1\n2>", 1),
+    ("if=1", 1),
+    ("p=1\nproj=1", 2),
+    ("p=1\r", 1),
+    ("p=1\r\r\n", 1),
+    ("p=1\n\nq\n", 3),
+    ("p=9223372036854775808", 1),
+    ("p=1 p@", 1),
+    ("p=1 @ p=2", 1),
+    ("@\np=1 p=2", 1),
+];
+
+#[test]
+fn texts_of_no_table_are_refused(rt: HostRuntime) -> Result<(), Fail> {
+    for (text, line) in BAD_LINES {
+        let refusal = format!(in rt.alloc(); "BadLine {{ line: {line} }}")?;
+        expect_refusal(&rt, text, refusal.as_str())?;
+    }
+    expect_refusal(&rt, "p=1 p=2", "TwicePort { line: 1 }")?;
+    expect_refusal(&rt, "p=1 p=@", "TwicePort { line: 1 }")?;
+    expect_refusal(&rt, "p=1\np=1 q=2 p=1 @\n@", "TwicePort { line: 2 }")
+}
+
+#[test]
+fn tables_stay_within_the_limits(rt: HostRuntime) -> Result<(), Fail> {
+    for (pattern, times) in [("p#a#=1", 63), ("p=#<##>#", 100), ("p=<1#,1#>", 65_535)] {
+        let text = series(rt.alloc(), pattern, times)?;
+        let read = read_inputs(rt.alloc(), text.as_bytes());
+        assert!(rt; read.is_ok(), "{pattern}");
+    }
+    let longer = series(rt.alloc(), "p#a#=1", 64)?;
+    expect_refusal(&rt, longer.as_str(), "BadLine { line: 1 }")?;
+    let deeper = series(rt.alloc(), "\np=#<#", 101)?;
+    expect_refusal(&rt, deeper.as_str(), "TooLong { line: 2 }")?;
+    let wider = series(rt.alloc(), "p=<1#,<>#", 65_536)?;
+    expect_refusal(&rt, wider.as_str(), "TooLong { line: 1 }")
 }

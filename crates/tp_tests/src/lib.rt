@@ -14,8 +14,6 @@ mod formulas;
 #[cfg(test)]
 mod inputs;
 #[cfg(test)]
-mod kinds;
-#[cfg(test)]
 mod making;
 #[cfg(test)]
 mod outcomes;
@@ -37,5 +35,9 @@ mod stores;
 mod tables;
 #[cfg(test)]
 mod tokens;
+#[cfg(test)]
+mod told;
+#[cfg(test)]
+mod turns;
 #[cfg(test)]
 mod values;

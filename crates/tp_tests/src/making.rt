@@ -1,11 +1,15 @@
 // What several tests make.
 ghost use Rattle.std.specs.Prelude.{◌≡◌, ◌∷◌, [], IfOk, false};
 ghost use Rattle.tp_store.specs.Known.{global_variable};
+ghost use Rattle.tp_show.specs.Parts.{line_parts};
+ghost use Rattle.tp_show.specs.Read.{plain_parts};
 
 use std::alloc::Global;
 use tp_io::Content;
+use tp_show::{LineParts, Picture};
+use tp_step::Shows;
 use tp_store::Store;
-use tp_value::{Globals, Indices, Items, NoMemory, Path, Text, Value, VarId};
+use tp_value::{Facts, Globals, Indices, Items, NoMemory, Path, Text, Value, VarId};
 
 /// One file.
 pub fn contents(alloc: Global, name: &str, bytes: &[u8]) -> Result<Vec<Content>, NoMemory> {
@@ -87,4 +91,23 @@ pub fn one_variable(alloc: Global) -> Result<Store, NoMemory>
     globals.add(&name)?;
     let store = Store::new(alloc, &globals)?;
     Ok(store)
+}
+
+/// A picture of nothing.
+pub fn no_picture(alloc: Global) -> Picture
+    ensures { plain_parts result.parts ≡ line_parts result.facts }
+{
+    Picture {
+        state: 9,
+        facts: Facts {
+            items: Vec::new(alloc),
+        },
+        parts: LineParts {
+            items: Vec::new(alloc),
+        },
+        shows: Shows {
+            items: Vec::new(alloc),
+        },
+        reductions: 0,
+    }
 }

@@ -110,6 +110,61 @@ run forall i < 1 : while L[i] do repeat halt(A = i) until L[i]. => \
 run (forall i < B : i = A) proj i = A. => (proj (forall i 0 X0 (= b0 X1)) (= x2 X1)) over B A i
 ";
 
+// Inputs from ports, which are no variables, and what is displayed.
+const INPUTS_AND_DISPLAYS: &str = "
+run input(A,p) and empty. => (and (input p X0) empty) over A
+run input(p,p). => (input p x0) over p
+run input((A),(p)). => (input p X0) over A
+run input(p,p) and p = 1. => (and (input p x0) (= x0 1)) over p
+run input(A, p) and p = 1. => (and (input p X0) (= x1 1)) over A p
+run p = 1 and input(A, p) and input(B, q). => (and (= x0 1) (input p X1) (input q X2)) over p A B
+run input(L[i], p_1). => (input p_1 (index X0 x1)) over L i
+run for p < 2 do input(A, p). => (for p 0 2 (input p X0)) over A
+run forall i < 2 : input(L[i], i). => (forall i 0 2 (input i (index X0 b0))) over L
+run exists X : input(X, x). => (exists X (input x b0)) over
+define p(X) = input(X, x). run p(A). => p X: (input x b0); (call 0 X0) over A
+define p(x) = input(X, x). run p(1). => p x: (input x X0); (call 0 1) over X
+define p() = true. run input(A, p) and p(). => p: true, true; (and (input p X0) (call 0)) over A
+run display(1). => (display 1) over
+run display(1, A+1). => (display 1 (+ X0 1)) over A
+run always(display(B, A, B)). => (always (display X0 X1 X0)) over B A
+run display(not A, <A>, a = A). => (display (not X0) (list X0) (= x1 X0)) over A a
+define f(n) = n + 1. run display(f(2)). => f n: (test (+ b0 1)), (+ b0 1); (display (call 0 2)) over
+define p() = display(1). run p(). => p: (display 1); (call 0) over
+";
+
+// Ports, places and expressions that are none, and wrong numbers of operands.
+const OTHER_OPERANDS: &str = "
+run input(A,P). => not a port at 12
+run input(A,1). => not a port at 12
+run input(A,a[1]). => not a port at 12
+run input(A,empty). => not a port at 12
+run input(A,A = 1). => not a port at 12
+run input(A). => wrong count at 4
+run input(A,p,q). => wrong count at 4
+run input(). => wrong count at 4
+run input(1,p). => not a place at 10
+run input(A + 1,P). => not a place at 10
+run input(A[next B],P). => not an expression at 12
+run input(q(),p()). => unknown name at 10
+run input(A,p()). => unknown name at 12
+define p() = A. run input(A,p()). => not a port at 28
+define p(X) = X. run input(A,p()). => wrong count at 29
+run input(A,exists X, X : X). => defined twice at 12
+run input(A,len(1, 1)). => wrong count at 12
+run input(A,len(1)). => not a port at 12
+run A = input(A,P). => not an expression at 8
+run A = input(A). => wrong count at 8
+run not input(A,p). => not executable at 4
+run display(). => wrong count at 4
+run display(empty). => not an expression at 12
+run display(1, q(), next A). => unknown name at 15
+run display(display(1)). => not an expression at 12
+run A = display(1). => not an expression at 8
+run not display(1). => not executable at 4
+run sometimes(A). => not executable at 4
+";
+
 // What isn't run, with the place of the phrase that is to blame.
 const NOT_EXECUTABLE: &str = "
 run skip; not skip. => not executable at 10
@@ -119,9 +174,6 @@ run not skip. => not executable at 4
 run not p(). => not executable at 4
 run (empty) or A. => not executable at 4
 run (A) or empty. => not executable at 4
-run input(X, p). => not executable at 4
-run display(1). => not executable at 4
-run display(1, 1, 1). => not executable at 4
 run sometimes(A). => not executable at 4
 run A and always(not skip). => not executable at 17
 ";
@@ -147,8 +199,6 @@ run A = len(1). => not an expression at 8
 run L[next 1] := 1. => not an expression at 6
 run always(skip, A). => wrong count at 4
 run list(L). => wrong count at 4
-run input(X). => wrong count at 4
-run display(). => wrong count at 4
 run sometimes(). => wrong count at 4
 run A = len(1, 1). => wrong count at 8
 run stable(display()). => wrong count at 11
@@ -252,7 +302,6 @@ run not q(). => not executable at 4
 run not (exists X, X : X). => not executable at 4
 run A = (exists X : X). => not an expression at 9
 define p() = sometimes(A). run q(). => not executable at 13
-run display(q()). => not executable at 4
 ";
 
 // A definition: its name and parameters, its formula, and its expression where it has one.
@@ -301,6 +350,7 @@ fn outcome(alloc: Global, text: &str) -> Result<Text, Fail> {
         Err(CheckRefusal::WrongCount { at }) => refused(alloc, "wrong count", at)?,
         Err(CheckRefusal::NotExpression { at }) => refused(alloc, "not an expression", at)?,
         Err(CheckRefusal::NotPlace { at }) => refused(alloc, "not a place", at)?,
+        Err(CheckRefusal::NotPort { at }) => refused(alloc, "not a port", at)?,
         Err(CheckRefusal::NotExecutable { at }) => refused(alloc, "not executable", at)?,
         Err(CheckRefusal::NoMemory) => return Err(NoMemory.into()),
     };
@@ -315,6 +365,8 @@ fn sources_are_checked(rt: HostRuntime) -> Result<(), Fail> {
         DERIVED,
         PARTS,
         SCOPES,
+        INPUTS_AND_DISPLAYS,
+        OTHER_OPERANDS,
         NOT_EXECUTABLE,
         OTHER_REFUSALS,
         DEFINITIONS,

@@ -3,7 +3,7 @@ ghost use Rattle.std.specs.Prelude.{◌≡◌, ◌<◌};
 ghost use Rattle.tp_meaning.specs.Fits.{ProgramFits};
 ghost use Rattle.tp_check.specs.Program.{program_tree};
 
-use crate::making::path;
+use crate::making::{no_picture, path};
 use crate::sources::program_of;
 use crate::tables::{cut, number};
 use std::alloc::Global;
@@ -13,9 +13,10 @@ use std::sync::ledger::{Blank, Ledger};
 use std::test::Fail;
 use tp_check::Program;
 use tp_inputs::Inputs;
-use tp_run::{Limits, Picture, Run, Turn};
-use tp_step::{Order, Shows, Steps};
-use tp_value::{Facts, NoMemory};
+use tp_run::{Limits, Run};
+use tp_show::{Picture, Turn};
+use tp_step::{Order, Steps};
+use tp_value::NoMemory;
 
 // What the run's store knows of the first variable: its name, and the shape of its value where one is kept.
 fn known(alloc: Global, run: &Run) -> Result<String, NoMemory> {
@@ -62,16 +63,7 @@ fn history<L: Ledger>(
     let mut steps = Steps::<L>::new(blank);
     let inputs = Inputs::none(alloc)?;
     let mut run = Run::start(alloc, program, inputs, limits, Order::First)?;
-    let mut picture = Picture {
-        state: 9,
-        facts: Facts {
-            items: Vec::new(alloc),
-        },
-        shows: Shows {
-            items: Vec::new(alloc),
-        },
-        reductions: 0,
-    };
+    let mut picture = no_picture(alloc);
     let mut text = known(alloc, &run)?;
     text.push_str(", ")?;
     for _ in 0..9 {

@@ -1,5 +1,5 @@
 // Formulas as texts: what has operands stands in parentheses, its operator first. A state variable is written by its number behind `X`, a static
-// one behind `x`, a bound name behind `b`. In a range stand its name and its first number, in a call the number of the definition.
+// one behind `x`, a bound name behind `b`. In a range stand its name and its first number, in a call the number of the definition, in an `input` its port.
 use std::alloc::Global;
 use std::rc::Rc;
 use tp_kernel::{Expr, Formula, Op2};
@@ -88,9 +88,9 @@ fn formula_word(w: &Formula) -> &'static str {
         Formula::Proj(_, _) => "(proj",
         Formula::Exists { .. } => "(exists",
         Formula::Call(_, _) => "(call",
+        Formula::Input(_, _) => "(input",
+        Formula::Display(_) => "(display",
         Formula::WeakNext(_) => "(?",
-        Formula::Input(_, _) => "(?",
-        Formula::Display(_) => "(?",
     }
 }
 
@@ -98,6 +98,7 @@ fn formula_exprs<'a>(w: &'a Formula) -> [Option<&'a Expr>; 2] {
     match w {
         Formula::Test(a) => [Some(a), None],
         Formula::Len(a) => [Some(a), None],
+        Formula::Input(a, _) => [Some(a), None],
         Formula::If(a, _, _) => [Some(a), None],
         Formula::While(a, _) => [Some(a), None],
         Formula::For { to, .. } => [Some(to), None],
@@ -136,6 +137,7 @@ fn formula_items<'a>(w: &'a Formula) -> &'a [Rc<Formula>] {
 fn formula_arguments<'a>(w: &'a Formula) -> &'a [Expr] {
     match w {
         Formula::Call(_, all) => all.items.as_slice(),
+        Formula::Display(all) => all.items.as_slice(),
         _ => &[],
     }
 }
@@ -182,6 +184,10 @@ fn append_start(alloc: Global, w: &Formula, out: &mut Text) -> Result<(), NoMemo
         Formula::For { name, from, .. } => append_range(alloc, name, *from, out),
         Formula::Forall { name, from, .. } => append_range(alloc, name, *from, out),
         Formula::Exists { name, lasting, .. } => append_local(name, *lasting, out),
+        Formula::Input(_, port) => {
+            out.append(b" ")?;
+            out.append(port.as_slice())
+        }
         Formula::Call(number, _) => out.append(format!(in alloc; " {number}")?.as_bytes()),
         _ => Ok(()),
     }

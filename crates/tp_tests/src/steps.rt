@@ -1,7 +1,6 @@
 // Steps in small: what each kind of formula becomes, and what a state comes to.
-ghost use Rattle.std.specs.Prelude.{◌≡◌, ◌<◌, [], List, Bool, IfOk, OnOk};
-ghost use Rattle.tp_kernel.specs.Read.{formula_tree};
-ghost use Rattle.tp_meaning.specs.Fits.{ProgramFits, FormulaFits};
+ghost use Rattle.std.specs.Prelude.{◌≡◌, ◌<◌, List, Bool, IfOk, OnOk};
+ghost use Rattle.tp_meaning.specs.Fits.{ProgramFits};
 ghost use Rattle.tp_check.specs.Program.{program_tree};
 ghost use Rattle.tp_scene.specs.Laws.{IsSound};
 ghost use Rattle.tp_decide.specs.Decided.{setting_of};
@@ -12,18 +11,16 @@ use crate::sources::program_of;
 use crate::tables::{cut, number};
 use std::alloc::Global;
 use std::marker::Brand;
-use std::rc::Rc;
 use std::sync::ledger::{Blank, Ledger};
 use std::test::Fail;
 use tp_check::Program;
 use tp_inputs::Inputs;
-use tp_kernel::{Defs, Formula};
 use tp_step::{
     ItemIds, News, Scene, Setting, Settled, Shows, Steps, Tried, advance, has_item, items, mark,
     settled, shown, start, try_item,
 };
 use tp_store::Store;
-use tp_value::{Globals, NoMemory};
+use tp_value::NoMemory;
 
 // What a run of a program begins with, without inputs.
 fn begin(alloc: Global, program: Program) -> Result<(Scene, Store, Setting), NoMemory>
@@ -201,22 +198,6 @@ fn told_items(
     told::<Brand>(alloc, Blank::new(1), program, first, room, second)
 }
 
-/// The same of a formula without variables, in its first state.
-pub fn told_formula(alloc: Global, main: Rc<Formula>, picks: &[u8]) -> Result<String, Fail>
-    requires { FormulaFits [] [] (formula_tree main.value) 0 }
-{
-    let defs = Defs {
-        items: Vec::new(alloc),
-    };
-    let globals = Globals::new(alloc)?;
-    let program = Program {
-        defs,
-        main,
-        globals,
-    };
-    told::<Brand>(alloc, Blank::new(1), program, picks, 9, None)
-}
-
 // A program, the items that are tried, how many reductions are left at each, and what is answered.
 const KINDS: &str = "
 run true. | 0 | 1 | 0+0 0, EndOpen Open
@@ -234,6 +215,10 @@ run keep(true). | 01 | 1 | 2+0 2, waits 2, Waiting(1) Open
 run fin(true). | 01 | 1 | 2+0 2, waits 2, Waiting(1) Open
 run if true then true else empty. | 01 | 1 | 1+0 1, 0+0 0, EndOpen Open
 run len(1). | 012 | 1 | 1+0 1, 1+0! 1, rests 1, Goes Goes
+run display(6). | 01 | 1 | 1+0 1, rests 1, EndOpen Open shown
+run display(1, A). | 0 | 1 | waits 1, Waiting(0) Open
+run display(1 div 0). | 0 | 1 | clash 1, Waiting(0) Open
+run input(A,p). | 0 | 1 | missing 1, Waiting(0) Open
 run A <- 1. | 012 | 1 | 1+0 1, 2+0 2, waits 2, Waiting(2) Open
 run exists A: A = 1. | 01 | 1 | 1+0 1, 0+1 0, EndOpen Open
 define p(x) = A = x. run p(1). | 01 | 1 | 1+0 1, 0+1 0, EndOpen Open

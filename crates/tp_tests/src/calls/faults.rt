@@ -8,19 +8,30 @@ use tp_value::{Bytes, Text};
 
 const SOURCE: &[u8] = b"run A=0 and next A = A+1 and next empty.";
 
-// The write with this number fails and keeps so many bytes: the exit status, and the text. A run makes one write for each settled state and one
-// for the end line, so where the fourth fails, none did.
-const WRITES: [(u64, usize, u8, &str); 4] = [
-    (1, 3, 15, "sta"),
-    (2, 4, 15, "state 0: A=0\nstat"),
-    (3, 0, 15, "state 0: A=0\nstate 1: A=1\n"),
-    (4, 0, 0, "state 0: A=0\nstate 1: A=1\nfinished: length 1\n"),
+// A state of which two lines are written.
+const SHOWN: &[u8] = b"run display(5) and skip.";
+
+// Of a source, the write with this number fails and keeps so many bytes: the exit status, and the text. A run makes one write for each settled
+// state, with the lines that it shows, and one for the end line, so where the fourth fails, none did.
+const WRITES: [(&[u8], u64, usize, u8, &str); 6] = [
+    (SOURCE, 1, 3, 15, "sta"),
+    (SOURCE, 2, 4, 15, "state 0: A=0\nstat"),
+    (SOURCE, 3, 0, 15, "state 0: A=0\nstate 1: A=1\n"),
+    (
+        SOURCE,
+        4,
+        0,
+        0,
+        "state 0: A=0\nstate 1: A=1\nfinished: length 1\n",
+    ),
+    (SHOWN, 1, 11, 15, "state 0:\nsh"),
+    (SHOWN, 2, 5, 15, "state 0:\nshow 5\nstate"),
 ];
 
 #[test]
 fn nothing_is_asked_or_written_after_a_failed_write(rt: HostRuntime) -> Result<(), Fail> {
     let alloc = rt.alloc();
-    for (call, kept, code, text) in &WRITES {
+    for (source, call, kept, code, text) in &WRITES {
         let failing = vec![in alloc;
             Failure {
                 call: *call,
@@ -34,7 +45,7 @@ fn nothing_is_asked_or_written_after_a_failed_write(rt: HostRuntime) -> Result<(
         let mut page = Page::new(alloc, failing);
         let mut shelf = Shelf::new(
             alloc,
-            contents(alloc, "a.t", SOURCE)?,
+            contents(alloc, "a.t", source)?,
             vec![in alloc; 2u64]?,
         );
         let status = status_of(alloc, &["run", "a.t"], &mut shelf, &mut page)?;

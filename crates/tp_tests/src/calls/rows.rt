@@ -375,6 +375,16 @@ source refused: line 1 column 14: not an expression
 run A+1 gets 2.
 -> 10
 source refused: line 1 column 5: not a place
+
+run
+input(X, P).
+-> 10
+source refused: line 2 column 10: not a port
+
+run
+display().
+-> 10
+source refused: line 2 column 1: wrong count
 ";
 
 // What isn't run.
@@ -385,74 +395,7 @@ A=1 or empty.
 source refused: line 2 column 1: not executable
 
 run
-input(X, p).
--> 10
-source refused: line 2 column 1: not executable
-
-run
-display(A).
--> 10
-source refused: line 2 column 1: not executable
-
-run
 sometimes(A=1).
 -> 10
 source refused: line 2 column 1: not executable
-";
-
-// The same of longer ones: what stands between two `#` is repeated so many times, with the number of the time for `@`.
-pub const LONG: &str = "
-200 times
-run #(#empty.
--> 10
-source refused: line 1 column 204: too deep
-
-1000 times
-run len(999).
--> 0
-#state @:
-#finished: length 999
-
-1000 times
-run len(1000).
--> 3
-#state @:
-#state limit: 1000
-
-1000 times
-run always(more).
--> 3
-#state @:
-#state limit: 1000
-
-64 times
-run #A#=1 and empty.
--> 0
-state 0: #A#=1
-finished: length 0
-
-1000 times
-run L=<7#,@#> and empty.
--> 0
-state 0: L=<7#,@#>
-finished: length 0
-
-101 times
-run #A@=@ and #empty.
--> 0
-state 0:# A@=@#
-finished: length 0
-
-50 times
-run #true and #empty.
--> 0
-state 0:
-finished: length 0
-
-556 times
-/* before */
-run #true and #empty.
--> 0
-state 0:
-finished: length 0
 ";

@@ -1,0 +1,104 @@
+// The answers of calls: their exit statuses, and the end lines where no program runs.
+use std::alloc::Global;
+use std::process::Abort;
+use std::test::Fail;
+use tp_call::{SourceKind, Status, Which, refusal_text};
+use tp_kernel::FaultKind;
+use tp_show::{Cell, Clash};
+use tp_value::{NoMemory, Text};
+
+const KINDS: [(SourceKind, &str); 14] = [
+    (SourceKind::BadByte, "bad byte"),
+    (SourceKind::OpenComment, "open comment"),
+    (SourceKind::NumberTooLarge, "number too large"),
+    (SourceKind::NameTooLong, "name too long"),
+    (SourceKind::Unexpected, "unexpected"),
+    (SourceKind::Unfinished, "unfinished"),
+    (SourceKind::TooDeep, "too deep"),
+    (SourceKind::DefinedTwice, "defined twice"),
+    (SourceKind::UnknownName, "unknown name"),
+    (SourceKind::WrongCount, "wrong count"),
+    (SourceKind::NotExpression, "not an expression"),
+    (SourceKind::NotPlace, "not a place"),
+    (SourceKind::NotPort, "not a port"),
+    (SourceKind::NotExecutable, "not executable"),
+];
+
+fn expect_refusal(
+    rt: &(impl Abort + AllocGlobal),
+    status: &Status,
+    code: u8,
+    text: &str,
+) -> Result<(), Fail> {
+    let line = refusal_text(rt.alloc(), status)?;
+    assert_eq!(rt; line.as_slice(), text.as_bytes());
+    assert_eq!(rt; status.code(), code);
+    Ok(())
+}
+
+#[test]
+fn refusals_are_told(rt: HostRuntime) -> Result<(), Fail> {
+    for (kind, words) in KINDS {
+        let status = Status::SourceRefused {
+            line: 2,
+            column: 9,
+            kind,
+        };
+        let text = format!(in rt.alloc(); "source refused: line 2 column 9: {words}\n")?;
+        expect_refusal(&rt, &status, 10, text.as_str())?;
+    }
+    let (which, other) = (Which::Source, Which::Inputs);
+    let rows = [
+        (
+            Status::InputsRefused { line: 3 },
+            11,
+            "inputs refused: line 3\n",
+        ),
+        (Status::WordsRefused, 12, "words refused\n"),
+        (Status::TooLong { which }, 13, "too long: source\n"),
+        (Status::TooLong { which: other }, 13, "too long: inputs\n"),
+        (Status::ReadFault { which }, 14, "read fault: source\n"),
+        (
+            Status::ReadFault { which: other },
+            14,
+            "read fault: inputs\n",
+        ),
+    ];
+    for (status, code, text) in &rows {
+        expect_refusal(&rt, status, *code, text)?;
+    }
+    Ok(())
+}
+
+// The answers with which a run ends, and those that no line tells, with their exit statuses.
+fn without_refusal(alloc: Global) -> Result<Vec<(Status, u8)>, NoMemory> {
+    let port = Text::from_slice(alloc, b"p")?;
+    let clash = Clash::NoValue(FaultKind::NoElement);
+    let cell = Cell::End {
+        region: 0,
+        depth: 0,
+    };
+    let all = vec![in alloc;
+        (Status::Finished { length: 3 }, 0),
+        (Status::Contradictory { state: 1, clash }, 1),
+        (Status::Undetermined { state: 1, cell }, 2),
+        (Status::StateLimit { states: 3 }, 3),
+        (Status::ReductionLimit { state: 0 }, 4),
+        (Status::NumberLimit { state: 0 }, 5),
+        (Status::ListLimit { state: 0 }, 6),
+        (Status::CallLimit { state: 2 }, 7),
+        (Status::NestLimit { state: 0 }, 8),
+        (Status::InputMissing { state: 1, port }, 9),
+        (Status::WriteFault, 15),
+        (Status::NoMemory, 16),
+    ]?;
+    Ok(all)
+}
+
+#[test]
+fn answers_have_exit_statuses(rt: HostRuntime) -> Result<(), Fail> {
+    for (status, code) in &without_refusal(rt.alloc())? {
+        assert_eq!(rt; status.code(), *code);
+    }
+    Ok(())
+}
