@@ -306,10 +306,10 @@ fn call<F: Files, K: Sink, L: Ledger>(
     }
 }
 
-/// Runs the program of the file that the words name, with the inputs and the limits that they name: `run` and a file, and the options
-/// of the command line. Each settled state is written by one write, with a line for
-/// each list of values that it shows, and the end line by one more; nothing is written after a write that failed, nor where memory is wanted. Each item that is tried
-/// adds one to the steps.
+/// Runs the program of the file that the words name, with the inputs and the limits that they name: `run` and a file,
+/// and the options of the command line. Each settled state is written by one write, with a line for each list of
+/// values that it shows, and the end line by one more; nothing is written after a write that failed, nor where memory
+/// is wanted. Each item that is tried adds one to the steps.
 pub fn tempura<F: Files, K: Sink, L: Ledger>(
     alloc: Global,
     words: &[Text],
