@@ -1,17 +1,17 @@
 -- The first line of a text, and what a line begins with.
-use Rattle.std.proofs.Common.{◌≡◌, ◌≢◌, ℕ, suc, ◌+◌, ◌<◌, ◌≤◌, ◌^◌, ◌%◌, eqb, ltb, Bool, true, false, not, cond, ◌||◌, ◌&&◌, ◌==◌, nat_eq, inl, inr, List, [], ◌∷◌, ◌++◌, length, take, drop, Option, Some, None, MatchOption, Bor, refl, sym, ap, ◌∙◌, subst, arith, tests, append_assoc, codes, add-one}
-use Rattle.std.specs.List.{slice_split, onto_first, starts_with}
+use Rattle.std.proofs.Common.{◌≡◌, ◌≢◌, ℕ, ◌+◌, ◌<◌, ◌≤◌, ◌^◌, ◌%◌, eqb, ltb, Bool, true, false, not, cond, ◌||◌, ◌&&◌, ◌==◌, nat_eq, inl, inr, List, [], ◌∷◌, ◌++◌, length, take, drop, Option, Some, None, MatchOption, Bor, refl, sym, ap, ◌∙◌, subst, arith, tests, append_assoc, codes}
+use Rattle.std.specs.List.{slice_split, onto_first}
 use Rattle.std.specs.Cmp.Lexicographic.{pointwise}
 use Rattle.std.specs.Str.Lines.{lines, lines_of_parts, strip_carriage_return}
 use Rattle.std.specs.Fmt.{decimal}
 use Rattle.std.proofs.lemmas.Fmt.{decimal_by_steps}
 use Rattle.std.proofs.lemmas.List.{take_all, append_cancel_left}
 use Rattle.std.proofs.lemmas.List.Splits.{slice_split_first}
-use Rattle.std.proofs.lemmas.Bool.{or_cases, or_from}
+use Rattle.std.proofs.lemmas.Bool.{or_cases}
 use Rattle.tp_lex.proofs.Lists.{begins_from}
 use Rattle.tp_show.specs.declared.trace.NamedFact.{NamedFact}
 use Rattle.tp_show.specs.TraceFacts.{TracePart, parts_facts, have_clash}
-use Rattle.tp_show.specs.TraceLine.{SpellsParts, IsStateLine, state_opening, opens_with_one, passed_openings, is_passed_over, run_end_openings, refusal_openings, ends_trace}
+use Rattle.tp_show.specs.TraceLine.{SpellsParts, IsStateLine, state_opening, is_passed_over, ends_trace}
 use Rattle.tp_show.specs.TraceReading.{len_before}
 use Rattle.tp_show.proofs.TraceDigits.{AllPass, front_passes}
 use Rattle.tp_show.proofs.TraceSpelled.{parts_unique}
