@@ -11,3 +11,4 @@ pub mod Trace
 pub mod TraceReading
 pub mod TraceFiling
 pub mod TraceLaws
+pub mod TraceOfRun
