@@ -22,3 +22,4 @@ pub mod NamedParts
 pub mod PrintedBytes
 pub mod PrintedLines
 pub mod PrintedStates
+pub mod TraceExampleLemmas

@@ -12,3 +12,4 @@ pub mod TraceReading
 pub mod TraceFiling
 pub mod TraceLaws
 pub mod TraceOfRun
+pub mod TraceExamples
