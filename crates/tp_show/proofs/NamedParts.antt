@@ -1,11 +1,9 @@
 -- The parts of a state's line, with the names of their variables, as a trace has them.
-use Rattle.std.proofs.Common.{◌≡◌, inl, inr, ◌+◌, ◌/◌, ◌%◌, ◌<◌, ◌≤◌, ◌^◌, ℕ, zero, suc, Bool, true, false, cond, List, [], ◌∷◌, ◌++◌, map, length, slice_get, All, Some, codes, refl, sym, ap, ap₂, ◌∙◌, subst, arith, tests, append_assoc}
+use Rattle.std.proofs.Common.{◌≡◌, inl, inr, ◌+◌, ◌<◌, ◌≤◌, ℕ, zero, suc, Bool, true, false, cond, List, [], ◌∷◌, ◌++◌, map, length, slice_get, All, Some, codes, refl, sym, ap, ap₂, ◌∙◌, subst, arith, append_assoc}
 use Rattle.std.specs.List.{flat_map, position_from}
 use Rattle.std.specs.Option.{option_map}
 use Rattle.std.specs.Str.{bytes_eq}
 use Rattle.std.specs.Fmt.{decimal}
-use Rattle.std.specs.Char.{is_ascii_digit}
-use Rattle.std.proofs.lemmas.Fmt.{decimal_by_steps}
 use Rattle.std.proofs.lemmas.List.{map-append}
 use Rattle.std.proofs.lemmas.List.Elements.{All-head, All-tail}
 use Rattle.std.proofs.lemmas.Slice.Eq.{bytes_eq-Decides}
@@ -13,13 +11,12 @@ use Rattle.tp_value.specs.Globals.{is_lower, variable, variable_of}
 use Rattle.tp_value.specs.Tree.{Tree, Trees, num, truth, list, nil, cons, items_of}
 use Rattle.tp_value.specs.Limits.{index_limit, length_limit}
 use Rattle.tp_value.specs.Written.{text_of}
-use Rattle.tp_value.specs.Spelling.{AreDigits, decimal_value}
+use Rattle.tp_value.specs.Spelling.{decimal_value}
 use Rattle.tp_value.specs.declared.path.VarId.{VarId}
 use Rattle.tp_value.specs.declared.path.Path.{Path}
 use Rattle.tp_value.specs.declared.path.Fact.{Fact}
 use Rattle.tp_value.specs.declared.value.Shape.TheVariants.{Items}
-use Rattle.tp_value.proofs.ToldWithin.{more_digits, value_more, all_digits}
-use Rattle.tp_value.proofs.TextSpelled.{text_spelled}
+use Rattle.tp_value.proofs.TextSpelled.{decimal_written, text_spelled}
 use Rattle.tp_store.specs.Facts.{fact, facts_at, facts_of_items}
 use Rattle.tp_store.specs.Known.{Variable, IsVariableOf, global_variable}
 use Rattle.tp_store.proofs.Members.{In}
@@ -36,34 +33,13 @@ use Rattle.tp_show.proofs.PartLemmas.{named}
 use Rattle.tp_show.proofs.TraceFiled.{ToldIn, IsFiled, filed_free}
 use Rattle.tp_show.proofs.FactsTold.{facts_told}
 
--- ---- digits
-
--- these digits are those of the number
-abbrev Writes : ℕ → List ℕ → Type 0
-Writes n ds = AreDigits ds × (decimal_value ds ≡ n)
-
-digit_byte : (d : ℕ) → d < 10 → is_ascii_digit (48 + d) ≡ true
-digit_byte d h = grind (arith, tests)
-
-one_digit : (n : ℕ) → n < 10 → Writes n ((48 + n) ∷ [])
-one_digit n h = ((digit_byte n h, tt), omega arith)
-
-digit_more : (n : ℕ) (ds : List ℕ) → 10 ≤ n → Writes (n / 10) ds → Writes n (ds ++ (48 + n % 10) ∷ [])
-digit_more n ds h w = (
-  more_digits ds (48 + n % 10) (all_digits ds w.0) (digit_byte (n % 10) (omega arith)),
-  value_more ds (48 + n % 10) ∙ omega (arith, w.1),
-)
-
-written : (n : ℕ) → n < 2 ^ 64 → Writes n (decimal n)
-written n h = decimal_by_steps Writes one_digit digit_more n h
-
 -- ---- spelled
 
 indices_spelled : (at : List ℕ) → All IsWithinIndexLimit at → SpellsIndices (flat_map index_text at) at
 indices_spelled [] h = none
 indices_spelled (i ∷ at) h =
     let small : i ≤ index_limit = All-head IsWithinIndexLimit i at h in
-    let w = written i (omega (arith, small)) in
+    let w = decimal_written i (omega (arith, small)) in
     let one : SpellsIndices (codes "[" ++ (decimal i ++ (codes "]" ++ flat_map index_text at))) (decimal_value (decimal i) ∷ at) =
     index (decimal i) (flat_map index_text at) at w.0 (omega (arith, small, w.1)) (indices_spelled at (All-tail IsWithinIndexLimit i at h)) in
     let text : codes "[" ++ (decimal i ++ (codes "]" ++ flat_map index_text at)) ≡ index_text i ++ flat_map index_text at = simp append_assoc in
@@ -93,7 +69,7 @@ module _ (names : List (List ℕ)) (are : AreVariableNames names) where
   part_spelled (valued p t) of within = value (path_text names p) (global_name names p.var.number) p.at (text_of t) t (path_spelled p of within.0) (text_spelled t within.1.numbers) within.1
   part_spelled (measured p n) of within =
       let small : n ≤ length_limit = within.1 in
-      let w = written n (omega (arith, small)) in
+      let w = decimal_written n (omega (arith, small)) in
       let path = path_text names p in
       let one : SpellsPart ((codes "|" ++ (path ++ codes "|")) ++ (codes "=" ++ decimal n)) (has_length (global_name names p.var.number) p.at (decimal_value (decimal n))) =
       list_length path (global_name names p.var.number) p.at (decimal n) (path_spelled p of within.0) w.0 (omega (arith, small, w.1)) in
