@@ -1,5 +1,5 @@
 -- The line of a state has no control characters, and so it stays whole as lines are told apart.
-use Rattle.std.proofs.Common.{◌≡◌, ◌+◌, ◌-◌, ◌/◌, ◌%◌, ℕ, ℤ, pos, negsuc, zero, suc, ltb, Bool, true, false, not, cond, ◌==◌, List, [], ◌∷◌, ◌++◌, length, slice_index, take, codes, refl, ap, subst, arith, tests, append_assoc}
+use Rattle.std.proofs.Common.{◌≡◌, ◌+◌, ◌-◌, ◌/◌, ◌%◌, ℕ, ℤ, pos, negsuc, zero, suc, ltb, Bool, true, false, cond, ◌==◌, List, [], ◌∷◌, ◌++◌, length, slice_index, take, codes, refl, ap, subst, arith, tests, append_assoc}
 use Rattle.std.specs.List.{flat_map}
 use Rattle.std.specs.Fmt.{digits, digits_onto, digit_glyph, decimal, signed_decimal}
 use Rattle.std.specs.Str.Lines.{strip_carriage_return}
@@ -75,10 +75,6 @@ indices_plain (i ∷ at) = plain_append (index_text i) (flat_map index_text at) 
         pieces ds = simp append_assoc
 
 -- ---- what is plain stays whole
-
-pub plain_fed : (z : List ℕ) → ArePlain z → AllPass (λ b. not (b == 10)) z
-plain_fed [] h = tt
-plain_fed (b ∷ z) h = (let plain : ltb 31 b ≡ true = h.0 in grind (arith, tests), plain_fed z h.1)
 
 plain_at : (z : List ℕ) (k : ℕ) → ArePlain z → (slice_index z k == 13) ≡ false
 plain_at [] k h = refl

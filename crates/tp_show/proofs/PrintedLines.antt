@@ -1,13 +1,15 @@
 -- The lines of a run's printed text: those of states, those that are passed over, and the end line.
-use Rattle.std.proofs.Common.{◌≡◌, ◌≢◌, inl, inr, ◌+◌, ◌-◌, ℕ, suc, Bool, true, false, not, cond, ◌==◌, nat_eq, ◌&&◌, List, [], ◌∷◌, ◌++◌, map, length, slice_index, take, drop, All, codes, refl, sym, ap, ap₂, ◌∙◌, subst, arith, tests, append_assoc, length-append}
+use Rattle.std.proofs.Common.{◌≡◌, ◌≢◌, inl, inr, ◌+◌, ◌-◌, ℕ, suc, Bool, true, false, not, cond, ◌==◌, nat_eq, ◌&&◌, List, [], ◌∷◌, ◌++◌, map, length, slice_index, take, drop, All, codes, refl, sym, ap, ap₂, ◌∙◌, subst, arith, tests, append_assoc}
 use Rattle.std.specs.List.{flat_map, starts_with}
-use Rattle.std.specs.Str.Lines.{lines, strip_carriage_return}
+use Rattle.std.specs.Str.Lines.{lines, lines_of_parts, strip_carriage_return}
 use Rattle.std.proofs.lemmas.Bool.{or_cases, or_left, or_right, and_parts}
-use Rattle.std.proofs.lemmas.List.{take_at, drop_at, drop_more, drop_all, take-append-drop}
-use Rattle.std.proofs.lemmas.List.Elements.{All-nil, All-cons, All-head, All-tail}
+use Rattle.std.proofs.lemmas.List.{drop_more, drop_all, take-append-drop}
+use Rattle.std.proofs.lemmas.List.Splits.{slice_split_at}
+use Rattle.std.proofs.lemmas.List.Elements.{All-weaker, All-nil, All-cons, All-head, All-tail}
 use Rattle.tp_value.specs.Tree.{Tree}
 use Rattle.tp_value.specs.Written.{text_of}
 use Rattle.tp_lex.specs.Pieces.{BeginsWith}
+use Rattle.tp_lex.proofs.FeedLemmas.{feed, more_parts}
 use Rattle.tp_lex.proofs.Lists.{begins_from, starts_from}
 use Rattle.tp_kernel.specs.declared.formula.LimitKind.{LimitKind}
 use Rattle.tp_kernel.specs.declared.formula.LimitKind.TheVariants as limit
@@ -18,32 +20,15 @@ use Rattle.tp_show.specs.declared.trace.NamedFact.{NamedFact}
 use Rattle.tp_show.specs.Line.{shown_value, show_line}
 use Rattle.tp_show.specs.EndLine.{last_words, end_line}
 use Rattle.tp_show.specs.TraceLine.{opens_with_one, passed_openings, run_end_openings, refusal_openings, ends_trace}
-use Rattle.tp_show.specs.TraceReading.{len_before}
 use Rattle.tp_show.specs.Trace.{GoesOnWith, stop, passed, end}
 use Rattle.tp_show.specs.TraceOfRun.{IsOneLine, fed_line, IsFurtherLine, IsEnding}
-use Rattle.tp_show.proofs.TraceDigits.{AllPass, front_len}
-use Rattle.tp_show.proofs.TraceLines.{line_cut}
 use Rattle.tp_show.proofs.PrintedBytes.{is_plain, ArePlain, plain_append, text_plain}
 
 -- a line and its line feed, and what follows
-pub line_at : (xs ys : List ℕ) → AllPass (λ b. not (b == 10)) xs → lines (xs ++ 10 ∷ ys) ≡ strip_carriage_return xs ∷ lines ys
-line_at xs ys h =
-    let z = xs ++ 10 ∷ ys in
-    let n : len_before 10 z ≡ length xs = front_len (λ b. not (b == 10)) xs (10 ∷ ys) h refl in
-    let long = length-append xs (10 ∷ ys) in
-    let front : take (len_before 10 z) z ≡ xs = ap (λ k. take k z) n ∙ take_at xs (10 ∷ ys) (length xs) refl in
-    let one : length (xs ++ 10 ∷ []) ≡ length xs + 1 = length-append xs (10 ∷ []) in
-    let back : drop (len_before 10 z + 1) z ≡ ys =
-    ap (λ k. drop (k + 1) z) n ∙ (ap (drop (length xs + 1)) (sym (append_assoc xs (10 ∷ []) ys)) ∙ drop_at (xs ++ 10 ∷ []) ys (length xs + 1) one) in
-    line_cut z (omega (arith, n, long)) ∙ ap₂ (λ a b. strip_carriage_return a ∷ lines b) front back
-
-one_line : (z : List ℕ) → IsOneLine z → AllPass (λ b. not (b == 10)) z
-one_line [] h = tt
-one_line (b ∷ z) h = (apart (b == 10) refl, one_line z (All-tail (λ c. c ≢ 10) b z h))
-  where
-    apart : (c : Bool) → (b == 10) ≡ c → not (b == 10) ≡ true
-    apart true e = let same : b ≡ 10 = grind (arith, tests, e) in absurd (All-head (λ c. c ≢ 10) b z h same)
-    apart false e = ap not e
+pub line_at : (xs ys : List ℕ) → IsOneLine xs → lines (xs ++ 10 ∷ ys) ≡ strip_carriage_return xs ∷ lines ys
+line_at xs ys one =
+    let apart : (b : ℕ) → b ≢ 10 → feed b ≡ false = λ b h. grind (arith, tests, h) in
+    ap lines_of_parts (slice_split_at feed xs 10 ys (All-weaker (λ b. b ≢ 10) (λ b. feed b ≡ false) apart xs one) refl) ∙ more_parts xs ys
 
 -- ---- a carriage return at a line's end changes nothing of how the line begins
 
@@ -106,7 +91,7 @@ further_pass n (line ∷ further) rest states h g =
     let later = flat_map fed_line further ++ rest in
     let text : (line ++ 10 ∷ flat_map fed_line further) ++ rest ≡ line ++ 10 ∷ later = append_assoc line (10 ∷ flat_map fed_line further) rest in
     let whole : fed_line line ++ flat_map fed_line further ≡ line ++ 10 ∷ flat_map fed_line further = append_assoc line (10 ∷ []) (flat_map fed_line further) in
-    let split : lines ((fed_line line ++ flat_map fed_line further) ++ rest) ≡ strip_carriage_return line ∷ lines later = ap (λ z. lines (z ++ rest)) whole ∙ (ap lines text ∙ line_at line later (one_line line one.0)) in
+    let split : lines ((fed_line line ++ flat_map fed_line further) ++ rest) ≡ strip_carriage_return line ∷ lines later = ap (λ z. lines (z ++ rest)) whole ∙ (ap lines text ∙ line_at line later one.0) in
     subst (λ (ts : List (List ℕ)). GoesOnWith (suc n) ts states) (sym split) (passed (strip_opens passed_openings line refl one.1) more)
 
 -- a list of values that is shown, without its line feed
@@ -117,7 +102,7 @@ values_plain : (ts : List Tree) → ArePlain (flat_map shown_value ts)
 values_plain [] = tt
 values_plain (t ∷ ts) = (refl, plain_append (text_of t) (flat_map shown_value ts) (text_plain t) (values_plain ts))
 
-plain_one : (z : List ℕ) → ArePlain z → IsOneLine z
+pub plain_one : (z : List ℕ) → ArePlain z → IsOneLine z
 plain_one [] h = All-nil (λ b. b ≢ 10)
 plain_one (b ∷ z) h = All-cons (λ c. c ≢ 10) b z (λ e. let plain : is_plain b ≡ true = h.0 in let bad : is_plain 10 ≡ true = subst (λ (x : ℕ). is_plain x ≡ true) e plain in absurd (cc bad)) (plain_one z h.1)
 
@@ -150,7 +135,7 @@ words_end globals known reductions state limit.Nest = refl
 line_ends : (n : ℕ) (words : List ℕ) → IsOneLine words → opens_with_one run_end_openings words ≡ true → GoesOnWith (suc n) (lines (words ++ codes "\n")) []
 line_ends n words one opens =
     let ends : ends_trace (strip_carriage_return words) ≡ true = or_left (opens_with_one run_end_openings (strip_carriage_return words)) (opens_with_one refusal_openings (strip_carriage_return words)) (strip_opens run_end_openings words refl opens) in
-    subst (λ (ts : List (List ℕ)). GoesOnWith (suc n) ts []) (sym (line_at words [] (one_line words one))) (end ends)
+    subst (λ (ts : List (List ℕ)). GoesOnWith (suc n) ts []) (sym (line_at words [] one)) (end ends)
 
 turn_ends : (n : ℕ) (globals : List (List ℕ)) (known : List Variable) (reductions : ℕ) (turn : Turn) → IsOneLine (last_words globals known reductions turn) → GoesOnWith (suc n) (lines (end_line globals known reductions turn)) []
 turn_ends n globals known reductions Went one = stop

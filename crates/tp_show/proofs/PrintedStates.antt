@@ -31,8 +31,8 @@ use Rattle.tp_show.proofs.PartLemmas.{named}
 use Rattle.tp_show.proofs.ToldLemmas.{beyond, IsKept, value_kept, all_in, parts_all, parts_of_variables}
 use Rattle.tp_show.proofs.FactsTold.{parts_give_facts}
 use Rattle.tp_show.proofs.NamedParts.{part_named, name_at, parts_spelled, parts_give, named_apart}
-use Rattle.tp_show.proofs.PrintedBytes.{ArePlain, plain_append, decimal_plain, text_plain, name_plain, indices_plain, plain_fed, plain_whole}
-use Rattle.tp_show.proofs.PrintedLines.{line_at, passed_lines, ending_ends}
+use Rattle.tp_show.proofs.PrintedBytes.{ArePlain, plain_append, decimal_plain, text_plain, name_plain, indices_plain, plain_whole}
+use Rattle.tp_show.proofs.PrintedLines.{line_at, plain_one, passed_lines, ending_ends}
 
 -- ---- the line of a state
 
@@ -84,7 +84,7 @@ module _ (names : List (List ℕ)) (are : AreVariableNames names) where
       let later = flat_map show_line shows ++ (flat_map fed_line s.further ++ rest) in
       let plain = words_plain s.picture h.picture in
       let split : lines (printed_state_lines names s ++ rest) ≡ words ∷ lines later =
-      ap lines (pieces (decimal s.picture.state) (flat_map (spaced_text names) (line_parts s.picture.facts)) (flat_map show_line shows) (flat_map fed_line s.further)) ∙ (line_at words later (plain_fed words plain) ∙ ap (λ z. z ∷ lines later) (plain_whole words plain)) in
+      ap lines (pieces (decimal s.picture.state) (flat_map (spaced_text names) (line_parts s.picture.facts)) (flat_map show_line shows) (flat_map fed_line s.further)) ∙ (line_at words later (plain_one words plain) ∙ ap (λ z. z ∷ lines later) (plain_whole words plain)) in
       let first : IsStateLine n words (named_facts names s.picture) = subst (λ (k : ℕ). IsStateLine k words (named_facts names s.picture)) e (state_line_is s.picture h.picture) in
       subst (λ (ts : List (List ℕ)). GoesOnWith n ts (named_facts names s.picture ∷ states)) (sym split) (state first (passed_lines n shows s.further rest states h.further g))
     where
