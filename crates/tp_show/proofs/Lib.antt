@@ -21,5 +21,6 @@ pub mod FactsTold
 pub mod NamedParts
 pub mod PrintedBytes
 pub mod PrintedLines
+pub mod EndLineBytes
 pub mod PrintedStates
 pub mod TraceExampleLemmas

@@ -41,7 +41,7 @@ pub decimal_plain : (n : ℕ) → ArePlain (decimal n)
 unfolding digits
 decimal_plain n = onto_plain 64 n [] tt
 
-signed_plain : (n : ℤ) → ArePlain (signed_decimal n)
+pub signed_plain : (n : ℤ) → ArePlain (signed_decimal n)
 signed_plain (pos n) = decimal_plain n
 signed_plain (negsuc n) = (refl, decimal_plain (suc n))
 

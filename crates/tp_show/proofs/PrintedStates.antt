@@ -32,6 +32,7 @@ use Rattle.tp_show.proofs.ToldLemmas.{beyond, IsKept, value_kept, all_in, parts_
 use Rattle.tp_show.proofs.FactsTold.{parts_give_facts}
 use Rattle.tp_show.proofs.NamedParts.{part_named, name_at, parts_spelled, parts_give, named_apart}
 use Rattle.tp_show.proofs.PrintedBytes.{ArePlain, plain_append, decimal_plain, text_plain, name_plain, indices_plain, plain_whole}
+use Rattle.tp_show.proofs.EndLineBytes.{end_lines}
 use Rattle.tp_show.proofs.PrintedLines.{line_at, plain_one, passed_lines, ending_ends}
 
 -- ---- the line of a state
@@ -188,4 +189,4 @@ facts_within names facts are small =
     parts_all IsPartWithinLimits (full facts) None facts (λ f i. part_within facts each f (each f i) (full facts f.path) refl)
 
 pub traces_tell_facts : TracesTellFacts
-traces_tell_facts = record { printed = printed_states; pictures = pictures_alone; limits = facts_within }
+traces_tell_facts = record { printed = printed_states; pictures = pictures_alone; limits = facts_within; end_lines = end_lines }

@@ -10,6 +10,7 @@ use Rattle.tp_value.specs.declared.value.Shape.TheVariants.{Num, Truth, Items}
 use Rattle.tp_store.specs.Known.{Variable}
 use Rattle.tp_show.specs.declared.turn.Picture.{Picture}
 use Rattle.tp_show.specs.declared.turn.Turn.{Turn}
+use Rattle.tp_show.specs.declared.turn.Turn.TheVariants.{Went, Finished, Contradictory, Undetermined, StateLimit, InputMissing, Over}
 use Rattle.tp_show.specs.declared.trace.NamedFact.{NamedFact}
 use Rattle.tp_show.specs.Texts.{global_name}
 use Rattle.tp_show.specs.Parts.{LinePartTree, valued, measured, line_parts}
@@ -98,6 +99,23 @@ CountFrom n (picture ∷ more) = (picture.state ≡ n) × CountFrom (suc n) more
 abbrev pub IsEnding : (globals : List (List ℕ)) → List ℕ → Type 0
 IsEnding globals end = (known : List Variable) × (reductions : ℕ) × (turn : Turn) × IsOneLine (last_words globals known reductions turn) × (end ≡ end_line globals known reductions turn)
 
+-- the port that the answer names, if it names one, has its name on one line
+abbrev pub NamesPortOnOneLine : Turn → Type 0
+NamesPortOnOneLine Went = Unit {0}
+NamesPortOnOneLine (Finished length) = Unit {0}
+NamesPortOnOneLine (Contradictory state clash) = Unit {0}
+NamesPortOnOneLine (Undetermined state cell) = Unit {0}
+NamesPortOnOneLine (StateLimit states) = Unit {0}
+NamesPortOnOneLine (InputMissing state port) = IsOneLine port
+NamesPortOnOneLine (Over state limit) = Unit {0}
+
+abbrev pub HasNameOnOneLine : Variable → Type 0
+HasNameOnOneLine variable = IsOneLine variable.name
+
+-- An end line stands on one line where the names that it may give do: those of the variables that are known, and that of a port.
+abbrev pub EndLinesAreOneLine : Type 0
+EndLinesAreOneLine = (names : List (List ℕ)) → AreVariableNames names → (known : List Variable) → All HasNameOnOneLine known → (reductions : ℕ) (turn : Turn) → NamesPortOnOneLine turn → IsOneLine (last_words names known reductions turn)
+
 -- the fact, told of its variable by the variable's name
 abbrev pub named_fact : (names : List (List ℕ)) → Fact → NamedFact
 named_fact names f = fact_named (global_name names f.path.var.number) f
@@ -121,3 +139,4 @@ pub record TracesTellFacts : Type 0 where
   pub printed : PrintedStatesAreTrace
   pub pictures : PicturesAreTrace
   pub limits : FactsAreWrittenWithinLimits
+  pub end_lines : EndLinesAreOneLine
