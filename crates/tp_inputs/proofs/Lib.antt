@@ -1,4 +1,3 @@
-pub mod FeedLemmas
 pub mod LawLemmas
 pub mod LineLemmas
 pub mod PairLemmas

@@ -4,3 +4,4 @@ pub mod PieceLemmas
 pub mod ReadingLemmas
 pub mod SpellingLemmas
 pub mod NameLemmas
+pub mod FeedLemmas

@@ -16,3 +16,11 @@ pub mod TraceFiled
 pub mod TraceLines
 pub mod TraceRuns
 pub mod TraceOnce
+pub mod PathOrder
+pub mod FactsTold
+pub mod NamedParts
+pub mod PrintedBytes
+pub mod PrintedLines
+pub mod EndLineBytes
+pub mod PrintedStates
+pub mod TraceExampleLemmas

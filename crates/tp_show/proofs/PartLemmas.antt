@@ -22,13 +22,13 @@ record IsPlace (names : List (List ℕ)) (p : Path) : Type 0 where
   variable : IsVariableOf (map global_variable names) p.var
   indices : All FitsIn64Bits p.at
 
-named : (names : List (List ℕ)) (n : ℕ) (b : Bool) → slice_get (map (λ (v : Variable). v.lasting) (map global_variable names)) n ≡ Some b → n < length names
+pub named : (names : List (List ℕ)) (n : ℕ) (b : Bool) → slice_get (map (λ (v : Variable). v.lasting) (map global_variable names)) n ≡ Some b → n < length names
 named [] n b h = absurd (cc h)
 named (name ∷ names) zero b h = omega arith
 named (name ∷ names) (suc n) b h = omega (arith, named names n b h)
 
 -- variables of one number have one kind
-one_variable : (xs : List Variable) (x y : VarId) → IsVariableOf xs x → IsVariableOf xs y → x.number ≡ y.number → x ≡ y
+pub one_variable : (xs : List Variable) (x y : VarId) → IsVariableOf xs x → IsVariableOf xs y → x.number ≡ y.number → x ≡ y
 one_variable xs x y h k e =
     let kinds = map (λ (v : Variable). v.lasting) xs in
     let some : Some x.lasting ≡ Some y.lasting = sym h ∙ (ap (slice_get kinds) e ∙ k) in

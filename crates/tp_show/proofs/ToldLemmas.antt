@@ -29,24 +29,24 @@ use Rattle.tp_show.specs.Line.{AreFactsOf}
 use Rattle.tp_show.specs.Told.{IsPartOf, HasPart, PartsTellFacts}
 
 -- the path of what stands at these indices in what stands at a path
-abbrev beyond : Path → List ℕ → Path
+abbrev pub beyond : Path → List ℕ → Path
 beyond p rest = record { var = p.var; at = p.at ++ rest }
 
-here : (p : Path) → p ≡ beyond p []
+pub here : (p : Path) → p ≡ beyond p []
 here p = ap (λ (at : List ℕ). let q : Path = record { var = p.var; at = at } in q) (sym (append-nil p.at))
 
 -- the value at a path has this fact
-record HasFact (p : Path) (t : Tree) (f : Fact) : Type 0 where
-  rest : List ℕ
-  path : f.path ≡ beyond p rest
-  shape : shape_at_path rest t ≡ Some f.shape
+pub record HasFact (p : Path) (t : Tree) (f : Fact) : Type 0 where
+  pub rest : List ℕ
+  pub path : f.path ≡ beyond p rest
+  pub shape : shape_at_path rest t ≡ Some f.shape
 
-abbrev Tells : LinePartTree → Fact → Type 0
+abbrev pub Tells : LinePartTree → Fact → Type 0
 Tells (valued p t) f = HasFact p t f
 Tells (measured p n) f = f ≡ fact p (Items n)
 
 -- one of the parts tells the fact
-abbrev AreTelling : List LinePartTree → Fact → Type 0
+abbrev pub AreTelling : List LinePartTree → Fact → Type 0
 AreTelling [] f = ⊥
 AreTelling (a ∷ rest) f = Tells a f ⊎ AreTelling rest f
 
@@ -79,11 +79,11 @@ inside_beyond p q h =
     (rest, ap₂ make (sym var) at)
 
 -- the last value that was written is a value, and has this fact
-abbrev IsLast : List Fact → Option Path → Type 0
+abbrev pub IsLast : List Fact → Option Path → Type 0
 IsLast all None = Unit {0}
 IsLast all (Some p) = (t : Tree) × (full all p ≡ value t)
 
-abbrev LastTells : List Fact → Option Path → Fact → Type 0
+abbrev pub LastTells : List Fact → Option Path → Fact → Type 0
 LastTells all None f = ⊥
 LastTells all (Some p) f = (t : Tree) × (full all p ≡ value t) × HasFact p t f
 
@@ -118,7 +118,7 @@ next_tells all last f g (value t) e l =
     let same : l.0 ≡ t = cc both in
     inl (subst (λ u. HasFact g.path u f) same l.2)
 
-all_told : (names : List (List ℕ)) (all : List Fact) → AreFactsOf names all → (last : Option Path) → IsLast all last → (fs : List Fact) → ((g : Fact) → In g fs → In g all) → (f : Fact) → In f fs
+pub all_told : (names : List (List ℕ)) (all : List Fact) → AreFactsOf names all → (last : Option Path) → IsLast all last → (fs : List Fact) → ((g : Fact) → In g fs → In g all) → (f : Fact) → In f fs
     → AreTelling (parts_by (full all) last fs) f ⊎ LastTells all last f
 all_told names all are last l [] within f i = absurd i
 all_told names all are last l (g ∷ gs) within f i =
@@ -168,7 +168,7 @@ items_all item p (suc m) k ts h =
     subst (AllKnown item p (suc m) k) both.4 (record { count = ap suc rest.count; each = items_each item p k both.0 both.1 both.2 rest.each })
 
 -- each shape of the value is kept
-abbrev IsKept : List Fact → Path → Tree → Type 0
+abbrev pub IsKept : List Fact → Path → Tree → Type 0
 IsKept all p t = (rest : List ℕ) (sh : Shape) → shape_at_path rest t ≡ Some sh → kept_shape all (beyond p rest) ≡ Some sh
 
 kept_here : (all : List Fact) (p : Path) → kept_shape all (beyond p []) ≡ kept_shape all p
@@ -221,7 +221,7 @@ full_whole false (known u) t h = within (is_within_list_limit u) h where
   within true e = cc e
   within false e = absurd (cc e)
 
-value_kept : (all : List Fact) (p : Path) (t : Tree) → full all p ≡ value t → IsKept all p t
+pub value_kept : (all : List Fact) (p : Path) (t : Tree) → full all p ≡ value t → IsKept all p t
 value_kept all p t h = whole_kept (suc (deepest all)) all p t (full_whole (is_excluded all p) (whole (suc (deepest all)) all p) t h)
 
 fact_in : (all : List Fact) (p : Path) (t : Tree) (f : Fact) → IsKept all p t → HasFact p t f → In f all
@@ -238,7 +238,7 @@ part_in all f g n i (undecided p) e h = shape_in all f g n i g.shape refl h
 part_in all f g n i too_long e h = shape_in all f g n i g.shape refl h
 part_in all f g n i (value t) e h = fact_in all g.path t f (value_kept all g.path t e) h
 
-told_in : (all : List Fact) → NoClash all → (last : Option Path) (fs : List Fact) → ((g : Fact) → In g fs → In g all) → (f : Fact) → AreTelling (parts_by (full all) last fs) f → In f all
+pub told_in : (all : List Fact) → NoClash all → (last : Option Path) (fs : List Fact) → ((g : Fact) → In g fs → In g all) → (f : Fact) → AreTelling (parts_by (full all) last fs) f → In f all
 told_in all n last [] within f h = absurd h
 told_in all n last (g ∷ gs) within f h =
     let k = full all g.path in
@@ -252,7 +252,7 @@ told_in all n last (g ∷ gs) within f h =
 
 -- Facts in order are one list where they are the same facts.
 
-all_in : (P : Fact → Type 0) (fs : List Fact) → All P fs → (f : Fact) → In f fs → P f
+pub all_in : (P : Fact → Type 0) (fs : List Fact) → All P fs → (f : Fact) → In f fs → P f
 all_in P [] h f i = absurd i
 all_in P (g ∷ gs) h f (inl e) = subst P e (All-head P g gs h)
 all_in P (g ∷ gs) h f (inr i) = all_in P gs (All-tail P g gs h) f i
@@ -260,7 +260,7 @@ all_in P (g ∷ gs) h f (inr i) = all_in P gs (All-tail P g gs h) f i
 never_both : (f g : Fact) → is_before f g ≡ true → is_before g f ≡ true → ⊥
 never_both f g h k = both_ways (is_before g f) (is_before-order.one_way f g h) k
 
-in_order_same : (fs gs : List Fact) → AreInOrder fs → AreInOrder gs → ((f : Fact) → In f fs → In f gs) → ((f : Fact) → In f gs → In f fs) → fs ≡ gs
+pub in_order_same : (fs gs : List Fact) → AreInOrder fs → AreInOrder gs → ((f : Fact) → In f fs → In f gs) → ((f : Fact) → In f gs → In f fs) → fs ≡ gs
 in_order_same [] [] o q there back = refl
 in_order_same [] (g ∷ gs) o q there back = absurd (back g (inl refl))
 in_order_same (f ∷ fs) [] o q there back = absurd (there f (inl refl))
@@ -317,7 +317,7 @@ has_known values f too_long a says = has_shape values f.path f.shape a
 has_known values f (value t) a says = says.0
 
 -- each part that the facts come to has a property
-parts_all : (P : LinePartTree → Type 0) (k : Path → Full) (last : Option Path) (fs : List Fact) → ((f : Fact) → In f fs → P (known_part f (k f.path))) → All P (parts_by k last fs)
+pub parts_all : (P : LinePartTree → Type 0) (k : Path → Full) (last : Option Path) (fs : List Fact) → ((f : Fact) → In f fs → P (known_part f (k f.path))) → All P (parts_by k last fs)
 parts_all P k last [] each = All-nil P
 parts_all P k last (f ∷ fs) each =
     let more : (g : Fact) → In g fs → P (known_part g (k g.path)) = λ g i. each g (inr i) in

@@ -1,17 +1,16 @@
 -- The facts of a line and those of a store in which they are kept.
-use Rattle.std.proofs.Common.{◌≡◌, ℕ, suc, Bool, true, false, not, ◌&&◌, ◌||◌, cond, eqb, inl, inr, ◌⊎◌, List, [], ◌∷◌, ◌++◌, map, length, Option, Some, None, refl, sym, ap, ap₂, ◌∙◌, subst, arith, rules, tests, append_assoc, append-nil, take, drop, get_or, ◌+◌, ◌<◌}
+use Rattle.std.proofs.Common.{◌≡◌, ℕ, suc, Bool, true, false, not, ◌&&◌, ◌||◌, inl, inr, ◌⊎◌, List, [], ◌∷◌, ◌++◌, map, length, Some, refl, sym, ap, ap₂, ◌∙◌, subst, append_assoc, append-nil, take, drop, get_or, ◌+◌, ◌<◌}
 use Rattle.std.specs.List.{list_any}
 use Rattle.std.specs.Str.{bytes_eq}
 use Rattle.std.proofs.lemmas.List.{map-append, map_push, take_more, take-append-drop}
 use Rattle.std.proofs.lemmas.List.Concat.{flat_map-append}
 use Rattle.std.proofs.lemmas.Option.{same_Some}
-use Rattle.std.proofs.lemmas.Bool.{or_cases, or_parts, or_left, or_right, or_from}
+use Rattle.std.proofs.lemmas.Bool.{or_left, or_right, or_from}
 use Rattle.std.proofs.lemmas.Slice.Eq.{bytes_eq-Decides}
 use Rattle.tp_value.specs.Globals.{variable_of, with_name}
 use Rattle.tp_value.specs.Tree.{Tree, Trees, num, truth, list, nil, cons, items_of}
 use Rattle.tp_value.specs.declared.value.Shape.TheVariants.{Items}
 use Rattle.tp_value.specs.declared.path.VarId.{VarId}
-use Rattle.tp_value.specs.declared.path.Path.{Path}
 use Rattle.tp_value.specs.declared.path.Fact.{Fact}
 use Rattle.tp_store.specs.Facts.{same_variable, same_indices, same_shape, leaves_out, fact, facts_at, facts_of_items, clash}
 use Rattle.tp_store.specs.Known.{NoClash, addition, adds, refuses, new_facts}

@@ -1,66 +1,24 @@
--- The first line of a text, and what a line begins with.
-use Rattle.std.proofs.Common.{◌≡◌, ◌≢◌, ℕ, suc, ◌+◌, ◌<◌, ◌≤◌, ◌^◌, ◌%◌, eqb, ltb, Bool, true, false, not, cond, ◌||◌, ◌&&◌, ◌==◌, nat_eq, inl, inr, List, [], ◌∷◌, ◌++◌, length, take, drop, Option, Some, None, MatchOption, Bor, refl, sym, ap, ◌∙◌, subst, arith, tests, append_assoc, codes, add-one}
-use Rattle.std.specs.List.{slice_split, onto_first, starts_with}
+-- What a line begins with.
+use Rattle.std.proofs.Common.{◌≡◌, ◌≢◌, ℕ, ◌+◌, ◌<◌, ◌^◌, ◌%◌, true, false, ◌||◌, ◌&&◌, nat_eq, inl, inr, List, [], ◌∷◌, ◌++◌, length, take, drop, position, Option, Some, None, MatchOption, Bor, refl, sym, ap, ◌∙◌, subst, arith, tests, append_assoc, codes}
 use Rattle.std.specs.Cmp.Lexicographic.{pointwise}
-use Rattle.std.specs.Str.Lines.{lines, lines_of_parts, strip_carriage_return}
+use Rattle.std.specs.Str.Lines.{lines, strip_carriage_return}
 use Rattle.std.specs.Fmt.{decimal}
 use Rattle.std.proofs.lemmas.Fmt.{decimal_by_steps}
-use Rattle.std.proofs.lemmas.List.{take_all, append_cancel_left}
-use Rattle.std.proofs.lemmas.List.Splits.{slice_split_first}
-use Rattle.std.proofs.lemmas.Bool.{or_cases, or_from}
+use Rattle.std.proofs.lemmas.List.{append_cancel_left}
+use Rattle.std.proofs.lemmas.Bool.{or_cases}
+use Rattle.tp_lex.proofs.FeedLemmas.{feed, line_to_feed, line_to_end}
 use Rattle.tp_lex.proofs.Lists.{begins_from}
 use Rattle.tp_show.specs.declared.trace.NamedFact.{NamedFact}
 use Rattle.tp_show.specs.TraceFacts.{TracePart, parts_facts, have_clash}
-use Rattle.tp_show.specs.TraceLine.{SpellsParts, IsStateLine, state_opening, opens_with_one, passed_openings, is_passed_over, run_end_openings, refusal_openings, ends_trace}
-use Rattle.tp_show.specs.TraceReading.{len_before}
-use Rattle.tp_show.proofs.TraceDigits.{AllPass, front_passes}
+use Rattle.tp_show.specs.TraceLine.{SpellsParts, IsStateLine, state_opening, is_passed_over, ends_trace}
 use Rattle.tp_show.proofs.TraceSpelled.{parts_unique}
 
-abbrev feeds : ℕ → Bool
-feeds b = b == 10
-
-some_parts : (xs : List ℕ) → (y : List ℕ) × (ys : List (List ℕ)) × (slice_split feeds xs ≡ y ∷ ys)
-some_parts [] = ([], [], refl)
-some_parts (x ∷ xs) = by (slice_split feeds xs) (some_parts xs) (feeds x)
-  where
-    by : (parts : List (List ℕ)) → (y : List ℕ) × (ys : List (List ℕ)) × (parts ≡ y ∷ ys) → (c : Bool) → (y : List ℕ) × (ys : List (List ℕ)) × (cond c ([] ∷ parts) (onto_first x parts) ≡ y ∷ ys)
-    by parts later true = ([], parts, refl)
-    by parts later false = (x ∷ later.0, later.1, ap (onto_first x) later.2)
-
-first_stripped : (a : List ℕ) (parts : List (List ℕ)) (y : List ℕ) (ys : List (List ℕ)) → parts ≡ y ∷ ys → lines_of_parts (a ∷ parts) ≡ strip_carriage_return a ∷ lines_of_parts parts
-first_stripped a parts y ys e = ap (λ q. lines_of_parts (a ∷ q)) e ∙ ap (λ q. strip_carriage_return a ∷ lines_of_parts q) (sym e)
-
-pub line_cut : (z : List ℕ) → len_before 10 z < length z → lines z ≡ strip_carriage_return (take (len_before 10 z) z) ∷ lines (drop (len_before 10 z + 1) z)
-line_cut z h =
-    let rest : List ℕ = drop (len_before 10 z + 1) z in
-    let more = some_parts rest in
-    ap lines_of_parts (slice_split_first feeds z 0 h) ∙ first_stripped (take (len_before 10 z) z) (slice_split feeds rest) more.0 more.1 more.2
-
-no_feed : (z : List ℕ) → AllPass (λ b. not (feeds b)) z → slice_split feeds z ≡ z ∷ []
-no_feed [] h = refl
-no_feed (b ∷ z) h = by (feeds b) h.0 ∙ ap (onto_first b) (no_feed z h.1)
-  where
-    by : (c : Bool) → not c ≡ true → cond c ([] ∷ slice_split feeds z) (onto_first b (slice_split feeds z)) ≡ onto_first b (slice_split feeds z)
-    by true e = absurd cc
-    by false e = refl
-
-pub line_whole : (z : List ℕ) → 0 < length z → length z ≤ len_before 10 z → lines z ≡ z ∷ []
-line_whole z some far =
-    let all : take (len_before 10 z) z ≡ z = take_all (len_before 10 z) z far in
-    let passes : AllPass (λ b. not (feeds b)) z = subst (AllPass (λ b. not (feeds b))) all (front_passes (λ b. not (feeds b)) z) in
-    let long : eqb (length z) 0 ≡ false = grind (arith, tests, some) in
-    ap lines_of_parts (no_feed z passes) ∙ ap (λ c. cond c [] (z ∷ [])) long
-
-pub some_length : (z : List ℕ) → (z ≡ [] → ⊥) → 0 < length z
-some_length [] h = absurd (h refl)
-some_length (b ∷ z) h = omega arith
-
 pub some_line : (z : List ℕ) → 0 < length z → (m : List ℕ) × (ms : List (List ℕ)) × (lines z ≡ m ∷ ms)
-some_line z some = by (ltb (len_before 10 z) (length z)) refl
+some_line z some = by (position feed z) refl
   where
-    by : (c : Bool) → ltb (len_before 10 z) (length z) ≡ c → (m : List ℕ) × (ms : List (List ℕ)) × (lines z ≡ m ∷ ms)
-    by true e = (strip_carriage_return (take (len_before 10 z) z), lines (drop (len_before 10 z + 1) z), line_cut z (grind (arith, tests)))
-    by false e = (z, [], line_whole z some (grind (arith, tests)))
+    by : (o : Option ℕ) → position feed z ≡ o → (m : List ℕ) × (ms : List (List ℕ)) × (lines z ≡ m ∷ ms)
+    by (Some i) e = (strip_carriage_return (take i z), lines (drop (i + 1) z), line_to_feed z i e)
+    by None e = (z, [], line_to_end z (λ f. let none : length z ≡ 0 = ap length f in omega (arith, none, some)) e)
 
 -- ---- what follows a front
 

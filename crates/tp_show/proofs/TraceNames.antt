@@ -1,11 +1,10 @@
 -- Paths: a name, and indices behind it.
-use Rattle.std.proofs.Common.{◌≡◌, ℕ, suc, ◌+◌, ◌<◌, ◌≤◌, leb, Bool, true, false, not, ◌&&◌, cond, inl, inr, ◌⊎◌, List, [], ◌∷◌, ◌++◌, length, take, drop, slice_index, Option, Some, None, is_none, refl, sym, ap, ◌∙◌, subst, arith, rules, tests, append_assoc, append-nil, codes, length-append, ◌==◌}
+use Rattle.std.proofs.Common.{◌≡◌, ℕ, ◌<◌, ◌≤◌, leb, Bool, true, false, not, ◌&&◌, List, [], ◌∷◌, ◌++◌, length, take, drop, slice_index, Option, Some, None, is_none, refl, sym, ap, ◌∙◌, subst, arith, tests, ◌==◌}
 use Rattle.std.specs.List.{prefix_len}
-use Rattle.std.specs.Char.{is_ascii_alphabetic, is_ascii_digit}
+use Rattle.std.specs.Char.{is_ascii_alphabetic}
 use Rattle.std.proofs.lemmas.Bool.{and_parts}
 use Rattle.std.proofs.lemmas.List.{take_at, drop_at, take-append-drop}
 use Rattle.tp_value.specs.Limits.{path_limit}
-use Rattle.tp_value.specs.Spelling.{AllDigits, AreDigits}
 use Rattle.tp_lex.specs.First.{is_name_byte, name_limit}
 use Rattle.tp_lex.specs.Spelling.{spelled_word}
 use Rattle.tp_lex.proofs.SpellingLemmas.{word_none, no_word}

@@ -1,11 +1,10 @@
 -- A text is one trace, or has one first bad line.
-use Rattle.std.proofs.Common.{◌≡◌, ℕ, suc, ◌+◌, ◌<◌, ◌^◌, Bool, true, false, inl, inr, ◌⊎◌, List, [], ◌∷◌, ◌++◌, length, refl, sym, ap, ◌∙◌, subst, arith, append_assoc}
+use Rattle.std.proofs.Common.{◌≡◌, ℕ, suc, ◌+◌, ◌<◌, ◌^◌, inl, inr, ◌⊎◌, List, [], ◌∷◌, ◌++◌, length, refl, sym, ap, ◌∙◌, subst, arith, append_assoc}
 use Rattle.tp_show.specs.declared.trace.NamedFact.{NamedFact}
-use Rattle.tp_show.specs.TraceLine.{ends_trace}
 use Rattle.tp_show.specs.Trace.{GoesOnWith, IsTrace, BeginsTrace, IsFirstBadLine, no_line, not_allowed}
 use Rattle.tp_show.specs.TraceLaws.{OneTrace, OneBadLine, NoBadTrace}
 use Rattle.tp_show.proofs.TraceLines.{state_no_other, passed_no_end, state_unique}
-use Rattle.tp_show.proofs.TraceRuns.{Lines, States, Next, NextState, NextPassed, NextEnd, next}
+use Rattle.tp_show.proofs.TraceRuns.{Lines, States, Next, next}
 
 goes_by : (text : List ℕ) (texts : Lines) (n : ℕ) (ss ts : States) → n < 2 ^ 64 → ((m : ℕ) (xs ys : States) → (m ≡ n) ⊎ (m ≡ suc n) → GoesOnWith m texts xs → GoesOnWith m texts ys → xs ≡ ys)
     → Next n (text ∷ texts) ss → Next n (text ∷ texts) ts → ss ≡ ts

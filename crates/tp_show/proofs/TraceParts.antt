@@ -1,17 +1,17 @@
 -- Parts: what stands in front of the `=`, and behind it.
-use Rattle.std.proofs.Common.{◌≡◌, ℕ, suc, ◌+◌, ◌<◌, ◌≤◌, Bool, true, false, not, ◌&&◌, cond, inl, inr, ◌⊎◌, List, [], ◌∷◌, ◌++◌, length, take, drop, Option, Some, None, refl, sym, ap, ◌∙◌, subst, arith, rules, tests, append_assoc, append-nil, codes, length-append, length-drop, drop-drop, ◌==◌, ◌≢◌, Result, Ok, Err, IfOk}
+use Rattle.std.proofs.Common.{◌≡◌, ℕ, suc, ◌+◌, ◌<◌, ◌≤◌, Bool, true, false, not, inl, inr, List, [], ◌∷◌, ◌++◌, length, take, drop, Option, Some, None, refl, sym, ap, ◌∙◌, subst, arith, tests, append_assoc, codes, length-append, length-drop, drop-drop, ◌==◌, ◌≢◌, Result, Ok, Err, IfOk}
 use Rattle.std.specs.Char.{is_ascii_digit}
-use Rattle.std.proofs.lemmas.Option.{same_Some, none-some}
+use Rattle.std.proofs.lemmas.Option.{same_Some}
 use Rattle.std.proofs.lemmas.List.{take_at, drop_at, take-append-drop, append_cancel_left, append_cancel_right}
 use Rattle.tp_value.specs.Tree.{Tree, num, truth, list}
 use Rattle.tp_value.specs.declared.reading.ReadValue.{ReadValue}
 use Rattle.tp_value.specs.Limits.{length_limit}
-use Rattle.tp_value.specs.Spelling.{AreDigits, decimal_value, Spells}
-use Rattle.tp_value.specs.Reading.{Answer, found, refused, start_state, reading, value_answer}
+use Rattle.tp_value.specs.Spelling.{decimal_value}
+use Rattle.tp_value.specs.Reading.{found, refused, start_state, reading, value_answer}
 use Rattle.tp_value.specs.Answers.{EndsNumber, CannotContinue}
 use Rattle.tp_value.proofs.Completes.{Goes, value_goes}
 use Rattle.tp_show.specs.TraceFacts.{TracePart, has_value, has_length}
-use Rattle.tp_show.specs.TraceLine.{SpellsPath, SpellsPart, value, list_length, SpellsParts, none, part}
+use Rattle.tp_show.specs.TraceLine.{SpellsPath, SpellsPart, value, list_length}
 use Rattle.tp_show.specs.TraceReading.{len_before, digits_within, is_apart, BeginsWithValue, IsValueAt, IsLengthAt, IsAround, BeginsWithPart, IsValuePart, IsLengthPart, IsPartAround}
 use Rattle.tp_show.specs.declared.trace_part.ReadPart.{ReadPart}
 use Rattle.tp_show.proofs.TraceDigits.{AllPass, Stops, front_len, front_stops, some_digits, within_from, within_is, IsWithin}

@@ -1,5 +1,5 @@
 -- Paths: names and indices.
-use Rattle.std.proofs.Common.{◌≡◌, ℕ, suc, ◌+◌, ◌<◌, ◌≤◌, ltb, Bool, true, false, not, cond, eqb, inl, inr, ◌⊎◌, List, [], ◌∷◌, ◌++◌, length, take, drop, get_or, Option, Some, None, refl, sym, ap, ◌∙◌, subst, arith, rules, tests, append_assoc, append-nil, codes, length-append, add-one, ◌==◌}
+use Rattle.std.proofs.Common.{◌≡◌, ℕ, suc, ◌+◌, ◌<◌, ◌≤◌, ltb, Bool, true, false, not, cond, inl, inr, ◌⊎◌, List, [], ◌∷◌, ◌++◌, length, take, drop, get_or, Option, Some, None, refl, sym, ap, ◌∙◌, subst, arith, tests, append_assoc, append-nil, codes, length-append, add-one, ◌==◌}
 use Rattle.std.specs.Option.{option_map}
 use Rattle.std.specs.Char.{is_ascii_digit}
 use Rattle.std.proofs.lemmas.Option.{same_Some, none-some}
@@ -8,7 +8,7 @@ use Rattle.tp_value.specs.Limits.{index_limit}
 use Rattle.tp_value.specs.Spelling.{AllDigits, AreDigits, decimal_value}
 use Rattle.tp_show.specs.TraceLine.{SpellsIndices, none, index}
 use Rattle.tp_show.specs.TraceReading.{len_before, digits_within, index_of_len, first_index}
-use Rattle.tp_show.proofs.TraceDigits.{AllPass, Stops, front_len, front_passes, front_stops, front_within, some_digits, within_from, within_is, IsWithin}
+use Rattle.tp_show.proofs.TraceDigits.{AllPass, Stops, front_len, front_stops, some_digits, within_from, within_is}
 
 -- the bytes in front of the first that is this, that byte, and the rest
 pub cut_at : (stop : ℕ) (z : List ℕ) → len_before stop z < length z → z ≡ take (len_before stop z) z ++ stop ∷ drop (suc (len_before stop z)) z

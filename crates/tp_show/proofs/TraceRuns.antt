@@ -1,5 +1,5 @@
 -- The lines of a trace so far.
-use Rattle.std.proofs.Common.{◌≡◌, ℕ, zero, suc, ◌+◌, ◌<◌, ◌≤◌, ◌^◌, Bool, true, false, inl, inr, ◌⊎◌, List, [], ◌∷◌, ◌++◌, length, refl, sym, ap, ◌∙◌, subst, arith, append_assoc, append-nil, codes, length-append}
+use Rattle.std.proofs.Common.{◌≡◌, ℕ, zero, suc, ◌+◌, ◌<◌, ◌^◌, true, false, inl, inr, ◌⊎◌, List, [], ◌∷◌, ◌++◌, length, refl, sym, ap, ◌∙◌, subst, arith, append_assoc, append-nil, codes, length-append}
 use Rattle.std.specs.Fmt.{decimal}
 use Rattle.std.proofs.lemmas.Fmt.{decimal_by_steps}
 use Rattle.tp_show.specs.declared.trace.NamedFact.{NamedFact}
@@ -137,7 +137,7 @@ zero_is =
 first_line_is : IsStateLine 0 (codes "state 0:") []
 first_line_is = record { rest = []; opening = ap (λ (x : List ℕ). (codes "state " ++ (x ++ codes ":")) ++ []) (sym zero_is); parts = []; spelled = none; given = refl; no_clash = refl }
 
-begins_with_nothing : BeginsTrace []
+pub begins_with_nothing : BeginsTrace []
 begins_with_nothing = (codes "state 0:" ∷ [], [] ∷ [], record { lines_told = state first_line_is stop; some_state = omega arith })
 
 -- a trace begins with the lines so far

@@ -1,7 +1,7 @@
 -- Parts, one after another.
-use Rattle.std.proofs.Common.{◌≡◌, ℕ, suc, ◌+◌, ◌<◌, ◌≤◌, Bool, true, false, inl, inr, ◌⊎◌, List, [], ◌∷◌, ◌++◌, length, drop, refl, sym, ap, ◌∙◌, subst, arith, append_assoc, append-nil, codes, length-append}
+use Rattle.std.proofs.Common.{◌≡◌, ℕ, ◌+◌, ◌<◌, true, inl, inr, ◌⊎◌, List, [], ◌∷◌, ◌++◌, length, refl, sym, ap, ◌∙◌, subst, arith, append_assoc, append-nil, codes, length-append}
 use Rattle.tp_show.specs.TraceFacts.{TracePart}
-use Rattle.tp_show.specs.TraceLine.{SpellsPart, SpellsParts, none, part}
+use Rattle.tp_show.specs.TraceLine.{SpellsParts, none, part}
 use Rattle.tp_show.specs.TraceReading.{is_apart, BeginsWithPart, ComesNext}
 use Rattle.tp_show.proofs.TraceParts.{part_unique}
 

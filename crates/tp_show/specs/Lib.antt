@@ -11,3 +11,5 @@ pub mod Trace
 pub mod TraceReading
 pub mod TraceFiling
 pub mod TraceLaws
+pub mod TraceOfRun
+pub mod TraceExamples

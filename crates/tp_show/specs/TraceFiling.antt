@@ -1,5 +1,5 @@
 -- The facts of a line, kept in a store by the variables of their names.
-use Rattle.std.specs.Prelude.{◌≡◌, ℕ, ◌⊎◌, List, [], ◌∷◌, map, Some}
+use Rattle.std.specs.Prelude.{ℕ, List, [], ◌∷◌}
 use Rattle.tp_value.specs.declared.path.VarId.{VarId}
 use Rattle.tp_value.specs.declared.path.Fact.{Fact}
 use Rattle.tp_value.specs.declared.value.Shape.TheVariants.{Items}

@@ -21,5 +21,5 @@ pub use line::picture_text;
 pub use parts::{LinePart, LineParts, known_parts};
 pub use tp_scene::{Cell, Clash};
 pub use trace::{NamedFact, Trace, TraceRefusal, TraceState, read_trace};
-pub use trace_laws::traces_are_read_once;
+pub use trace_laws::{trace_examples, traces_are_read_once, traces_tell_facts};
 pub use turn::{Picture, Turn};

@@ -3,9 +3,10 @@ ghost use Rattle.std.specs.Prelude.{◌≡◌, IfOk, IfErr};
 ghost use Rattle.tp_show.specs.declared.trace.TraceRefusal.TheVariants.{NoMemory as refused_memory};
 ghost use Rattle.tp_show.specs.Trace.{IsTraceText, IsTraceRefusal};
 
-use crate::trace_line::{LineKind, first_line, line_kind};
+use crate::trace_line::{LineKind, line_kind};
 use std::alloc::{AllocError, AllocFailed, Global};
 use std::marker::Model;
+use tp_lex::first_line;
 use tp_value::{Indices, NoMemory, Shape, Text};
 
 /// A fact of a variable that is known by its name.

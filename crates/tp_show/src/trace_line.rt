@@ -1,6 +1,5 @@
 // The lines of a trace.
-ghost use Rattle.std.specs.Prelude.{◌≡◌, ◌≢◌, ◌++◌, ◌∷◌, ◌<◌, [], ℕ, List, length, codes, IfOk, MatchOption};
-ghost use Rattle.std.specs.Str.Lines.{lines, strip_carriage_return};
+ghost use Rattle.std.specs.Prelude.{◌≡◌, ◌≢◌, ◌++◌, ℕ, List, codes, IfOk, MatchOption};
 ghost use Rattle.tp_show.specs.TraceLine.{state_opening};
 ghost use Rattle.tp_show.specs.TraceLine as spec;
 ghost use Rattle.tp_show.specs.TraceReading.{IsStateFound, found_facts, IsKindOf};
@@ -8,7 +7,6 @@ ghost use Rattle.tp_show.specs.TraceReading.{IsStateFound, found_facts, IsKindOf
 use crate::trace::{NamedFact, TraceState};
 use crate::trace_facts::{all_facts, facts_clash};
 use crate::trace_part::read_parts;
-use crate::trace_path::len_before;
 use itoa::Buffer;
 use std::alloc::Global;
 use tp_value::NoMemory;
@@ -20,30 +18,6 @@ pub enum LineKind {
     PassedOver,
     End,
     Bad,
-}
-
-// The line without the carriage return at its end, if it has one.
-fn without_return(line: &[u8]) -> &[u8]
-    ensures { result.now ≡ strip_carriage_return line.now }
-{
-    match line {
-        [text @ .., b'\r'] => text,
-        _ => line,
-    }
-}
-
-/// The first line without its end, and what follows.
-pub fn first_line(bytes: &[u8]) -> (&[u8], &[u8])
-    requires { bytes.now ≢ [] }
-    ensures lines { lines bytes.now ≡ result.0.now ∷ lines result.1.now }
-    ensures less { length result.1.now < length bytes.now }
-{
-    let end = len_before(b'\n', bytes);
-    if end < bytes.len() {
-        (without_return(&bytes[..end]), &bytes[end + 1..])
-    } else {
-        (bytes, &bytes[bytes.len()..])
-    }
 }
 
 // What follows the front, where the text begins with it.

@@ -15,7 +15,7 @@ use Rattle.tp_value.specs.Written.{text_of, later_text}
 use Rattle.tp_value.proofs.ToldWithin.{more_digits, value_more, all_digits}
 
 -- these digits are those of the number
-abbrev Writes : ℕ → List ℕ → Type 0
+abbrev pub Writes : ℕ → List ℕ → Type 0
 Writes n ds = AreDigits ds × (decimal_value ds ≡ n)
 
 digit_byte : (d : ℕ) → d < 10 → is_ascii_digit (48 + d) ≡ true
@@ -29,7 +29,7 @@ digit_more n ds h w =
     let last : n % 10 < 10 = omega arith in
     (more_digits ds (48 + n % 10) (all_digits ds w.0) (digit_byte (n % 10) last), value_more ds (48 + n % 10) ∙ omega (arith, w.1))
 
-decimal_written : (n : ℕ) → n < 2 ^ 64 → Writes n (decimal n)
+pub decimal_written : (n : ℕ) → n < 2 ^ 64 → Writes n (decimal n)
 decimal_written n h = decimal_by_steps Writes one_digit digit_more n h
 
 positive_spelled : (n : ℕ) → n < 2 ^ 64 → Spells (decimal n) (num (pos n))

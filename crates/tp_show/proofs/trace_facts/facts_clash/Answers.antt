@@ -1,9 +1,9 @@
-use Rattle.std.proofs.Common.{◌≡◌, ◌<◌, ◌+◌, ◌++◌, ℕ, List, true, false, map, length, take, drop, get_or, Some, ◌∙◌, sym, ap, subst, arith, rules}
+use Rattle.std.proofs.Common.{◌≡◌, ◌<◌, ◌+◌, ◌++◌, ℕ, List, false, map, length, take, drop, Some, ◌∙◌, sym, ap, subst, arith}
 use Rattle.std.proofs.lemmas.List.{take_all}
 use Rattle.tp_value.specs.Globals.{variable_of, with_name}
 use Rattle.tp_value.specs.declared.path.VarId.{VarId}
 use Rattle.tp_value.specs.declared.path.Fact.{Fact}
-use Rattle.tp_store.specs.Known.{IsVariableOf, Variable, global_variable, addition, adds, refuses}
+use Rattle.tp_store.specs.Known.{IsVariableOf, Variable, global_variable, addition, refuses}
 use Rattle.tp_store.specs.Answers.{IsRefusal}
 use Rattle.tp_show.specs.declared.trace.NamedFact.{NamedFact}
 use Rattle.tp_show.specs.declared.trace_part.ReadPart.{ReadPart}

@@ -1,8 +1,8 @@
-use Rattle.std.proofs.Common.{◌≡◌, ℕ, List, map, length, Some, ◌∙◌, sym, ap, subst, arith}
+use Rattle.std.proofs.Common.{◌≡◌, ℕ, List, map, length, Some, ◌∙◌, sym, ap, arith}
 use Rattle.std.proofs.lemmas.List.{length-map}
 use Rattle.tp_value.specs.Globals.{variable_of, with_name}
 use Rattle.tp_value.specs.declared.path.VarId.{VarId}
-use Rattle.tp_store.specs.Known.{Variable, global_variable}
+use Rattle.tp_store.specs.Known.{global_variable}
 use Rattle.tp_show.proofs.TraceNumbers.{fresh_variables, kept_names}
 use Rattle.tp_show.proofs.trace_facts.variable_for.Goals as goal
 

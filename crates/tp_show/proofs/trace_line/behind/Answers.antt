@@ -1,4 +1,4 @@
-use Rattle.std.proofs.Common.{◌≡◌, ◌++◌, List, ℕ, true, refl, sym, ap, ◌∙◌, length, nat_eq}
+use Rattle.std.proofs.Common.{◌++◌, List, ℕ, true, refl, sym, ap, ◌∙◌, length}
 use Rattle.std.proofs.lemmas.List.{take_rest}
 use Rattle.std.proofs.lemmas.Bool.Decides.{Decides-eqb}
 use Rattle.std.proofs.lemmas.Slice.Eq.{starts_is}

@@ -1,4 +1,4 @@
-use Rattle.std.proofs.Common.{◌≡◌, ◌++◌, ◌≢◌, List, ℕ, codes, sym, ap, ◌∙◌, subst, MatchOption, Option, Bor}
+use Rattle.std.proofs.Common.{◌≡◌, ◌++◌, ◌≢◌, List, ℕ, codes, ◌∙◌, subst, MatchOption, Bor}
 use Rattle.std.specs.Fmt.{decimal}
 use Rattle.tp_show.proofs.TraceLines.{behind_both, behind_none}
 use Rattle.tp_show.proofs.trace_line.behind_opening.Goals as goal

@@ -1,4 +1,4 @@
-use Rattle.std.proofs.Common.{◌≡◌, List, ℕ, sym, ap, ◌∙◌, subst, true, Option, Vec}
+use Rattle.std.proofs.Common.{◌≡◌, List, ℕ, sym, ap, ◌∙◌, subst, true}
 use Rattle.tp_show.specs.declared.trace_part.ReadPart.{ReadPart}
 use Rattle.tp_show.specs.TraceFacts.{parts_facts, have_clash}
 use Rattle.tp_show.specs.TraceReading.{ArePartsFound, found_parts, trace_parts_of}

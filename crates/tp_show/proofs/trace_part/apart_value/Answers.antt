@@ -1,4 +1,4 @@
-use Rattle.std.proofs.Common.{◌≡◌, ℕ, List, Bool, false, ◌∙◌, sym, ap, subst, drop}
+use Rattle.std.proofs.Common.{◌≡◌, ℕ, List, false, ◌∙◌, sym, ap, drop}
 use Rattle.std.proofs.lemmas.List.{take_rest}
 use Rattle.tp_value.specs.Read.{tree}
 use Rattle.tp_show.specs.TraceReading.{is_apart}

@@ -1,4 +1,4 @@
-use Rattle.std.proofs.Common.{◌≡◌, ◌+◌, ◌<◌, ◌-◌, ℕ, suc, List, ◌∙◌, sym, ap, subst, take, drop, length, arith, add-one, refl}
+use Rattle.std.proofs.Common.{◌≡◌, ◌+◌, ◌<◌, ◌-◌, ℕ, suc, List, ◌∙◌, ap, subst, take, drop, length, arith, add-one, refl}
 use Rattle.std.proofs.lemmas.List.{take_rest}
 use Rattle.tp_show.specs.TraceReading.{trace_part_of, IsPartAround}
 use Rattle.tp_show.proofs.TraceParts.{no_equals, first_there, none_there}

@@ -1,4 +1,4 @@
-use Rattle.std.proofs.Common.{◌≡◌, ℕ, List, ◌∙◌, sym, ap, subst, Some, None, take, drop}
+use Rattle.std.proofs.Common.{◌≡◌, ℕ, List, ◌∙◌, sym, ap, subst, Some, take, drop}
 use Rattle.std.proofs.lemmas.Option.{none-some}
 use Rattle.tp_value.specs.Limits.{length_limit}
 use Rattle.tp_show.specs.TraceFacts.{has_length}

@@ -1,4 +1,4 @@
-use Rattle.std.proofs.Common.{◌≡◌, ℕ, List, ◌∙◌, sym, ap, subst, take, drop, length, ◌-◌}
+use Rattle.std.proofs.Common.{ℕ, List, ◌∙◌, sym, ap, subst, take, drop, length, ◌-◌}
 use Rattle.std.proofs.lemmas.List.{take_rest}
 use Rattle.tp_show.specs.TraceReading.{IsPartFound, BeginsWithPart}
 use Rattle.tp_show.proofs.trace_part.next_part.Goals as goal

@@ -1,4 +1,3 @@
-use Rattle.std.proofs.Common.{◌≡◌, subst}
 use Rattle.tp_show.proofs.TraceParts.{around_of_length, around_of_value}
 use Rattle.tp_show.proofs.trace_part.part_around.Goals as goal
 

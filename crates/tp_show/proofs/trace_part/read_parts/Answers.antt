@@ -1,8 +1,7 @@
-use Rattle.std.proofs.Common.{◌≡◌, ◌<◌, ◌≤◌, ℕ, List, [], ◌∷◌, ◌++◌, ◌∙◌, sym, ap, arith, subst, length, drop, length-drop}
+use Rattle.std.proofs.Common.{◌≡◌, ◌<◌, ℕ, List, [], ◌∷◌, ◌++◌, ◌∙◌, sym, ap, arith, subst, length, drop}
 use Rattle.std.proofs.lemmas.Grind.{common_steps}
 use Rattle.std.proofs.lemmas.List.{nil_from_length, take_rest, map_push}
-use Rattle.tp_show.specs.TraceFacts.{TracePart}
-use Rattle.tp_show.specs.TraceReading.{IsNextPart, ComesNext, trace_part_of, trace_parts_of}
+use Rattle.tp_show.specs.TraceReading.{IsNextPart, trace_part_of, trace_parts_of}
 use Rattle.tp_show.specs.declared.trace_part.ReadPart.{ReadPart}
 use Rattle.tp_show.proofs.TraceSpelled.{PartsGoOn, parts_fail, parts_next, parts_end, next_longer}
 use Rattle.tp_show.proofs.trace_part.read_parts.Goals as goal

@@ -1,4 +1,4 @@
-use Rattle.std.proofs.Common.{◌≡◌, ℕ, List, ◌∙◌, sym, ap, subst, Some, None, take}
+use Rattle.std.proofs.Common.{subst}
 use Rattle.tp_show.specs.TraceReading.{IsPathFound, IsValueFound}
 use Rattle.tp_show.proofs.trace_part.value_part.Goals as goal
 

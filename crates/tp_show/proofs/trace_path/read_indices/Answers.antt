@@ -1,7 +1,6 @@
-use Rattle.std.proofs.Common.{◌≡◌, ◌<◌, ℕ, List, [], ◌∷◌, ◌++◌, Some, ◌∙◌, sym, ap, rules, arith, subst, length, drop, length-drop}
+use Rattle.std.proofs.Common.{◌≡◌, ◌<◌, ℕ, List, [], ◌∷◌, ◌++◌, ◌∙◌, sym, ap, arith, subst, length, drop, length-drop}
 use Rattle.std.proofs.lemmas.Grind.{common_steps}
 use Rattle.std.proofs.lemmas.List.{nil_from_length, take_rest}
-use Rattle.tp_show.specs.TraceReading.{first_index}
 use Rattle.tp_show.proofs.TracePaths.{IndicesGoOn, IsFirstIndex, indices_fail, indices_next, indices_end, index_is}
 use Rattle.tp_show.proofs.trace_path.read_indices.Goals as goal
 

@@ -1,7 +1,7 @@
 use Rattle.std.proofs.Common.{ap, ap₂, sym, ◌∙◌, ◌+◌, ◌∷◌, length}
 use Rattle.std.specs.Str.Lines.{lines}
-use Rattle.tp_inputs.proofs.FeedLemmas.{line_to_feed, line_to_end, rest_of, nothing_left}
-use Rattle.tp_inputs.proofs.reading.first_line.Goals as goal
+use Rattle.tp_lex.proofs.FeedLemmas.{line_to_feed, line_to_end, rest_of, nothing_left}
+use Rattle.tp_lex.proofs.line.first_line.Goals as goal
 
 pub returns-in-Some-clause-lines : goal.returns-in-Some-clause-lines
 returns-in-Some-clause-lines c =

@@ -6,11 +6,11 @@ use Rattle.std.proofs.lemmas.Bool.Decides.{nat_tests}
 use Rattle.std.proofs.lemmas.List.Splits.{slice_split_first}
 use Rattle.std.proofs.lemmas.List.Sums.{prefix_len-le-length}
 
-abbrev feed : ℕ → Bool
+abbrev pub feed : ℕ → Bool
 feed b = b == 10
 
 -- a part with others behind it is a line
-more_parts : (x y : List ℕ) → lines_of_parts (x ∷ slice_split feed y) ≡ strip_carriage_return x ∷ lines_of_parts (slice_split feed y)
+pub more_parts : (x y : List ℕ) → lines_of_parts (x ∷ slice_split feed y) ≡ strip_carriage_return x ∷ lines_of_parts (slice_split feed y)
 more_parts x [] = refl
 more_parts x (c ∷ y) = at (feed c) (slice_split feed y)
   where
