@@ -1,0 +1,58 @@
+// The trace lines of a state.
+ghost use Rattle.std.specs.Prelude.{◌≡◌, ◌++◌, IfSome, OnOk};
+ghost use Rattle.std.specs.Option.{option_map};
+ghost use Rattle.tp_kernel.specs.Read.{definitions_of};
+ghost use Rattle.tp_slots.specs.Kept.{IsWellKept};
+ghost use Rattle.tp_slots.specs.Read.{scene_of};
+ghost use Rattle.tp_residual.specs.Residual.{AreCarried, residual_of, trace_lines};
+
+use crate::scene::{Residue, append_region};
+use crate::words::append_decimal;
+use std::alloc::Global;
+use tp_kernel::Defs;
+use tp_show::Picture;
+use tp_slots::Scene;
+use tp_store::Store;
+use tp_tree::level::ANY;
+use tp_value::{NoMemory, Text};
+
+/// Appends a line with the number of reductions that a state took, and where it goes on a line with what is still to hold from the next
+/// state on, as a phrase: the scene with which that begins. Variables and definitions are named by the store and `defs`.
+pub fn trace_text(
+    alloc: Global,
+    picture: &Picture,
+    scene: Option<&Scene>,
+    store: &Store,
+    defs: &Defs,
+    out: &mut Text,
+) -> Result<(), NoMemory>
+    requires kept { IfSome scene (λ s. IsWellKept s.now) }
+    requires carried { IfSome (option_map (λ s. scene_of s.now) scene)
+        (λ s. AreCarried s.root.entries) }
+    ensures text { OnOk result
+        (out.new
+        ≡ out.old
+        ++ trace_lines picture.now.reductions
+        (residual_of store.now.variables (definitions_of defs.now)
+        (option_map (λ s. scene_of s.now) scene))) }
+{
+    out.append(b"reductions ")?;
+    append_decimal(out, picture.reductions)?;
+    out.append(b"\n")?;
+    if let Some(scene) = scene {
+        out.append(b"residual: ")?;
+        append_region(
+            out,
+            &Residue {
+                alloc,
+                scene,
+                store,
+                defs,
+            },
+            0,
+            ANY,
+        )?;
+        out.append(b"\n")?;
+    }
+    Ok(())
+}
