@@ -1,1 +1,6 @@
 mod ResidualExampleLemmas
+mod Conjunctions
+mod BoundNames
+mod Always
+mod Standing
+mod Carried

@@ -96,7 +96,7 @@ abbrev mutual
   all_exprs_spelling v no_expr = codes "true"
   all_exprs_spelling v (expr_then e no_expr) = expr_spelling v e
   all_exprs_spelling v (expr_then e (expr_then e' es)) =
-      enclosed not_level (expr_level e) (expr_spelling v e) ++ codes " and " ++ enclosed not_level (expr_level e') (expr_spelling v e') ++ exprs_spelling v (codes " and ") (codes " and ") not_level es
+      enclosed not_level (expr_level e) (expr_spelling v e) ++ (codes " and " ++ enclosed not_level (expr_level e') (expr_spelling v e') ++ exprs_spelling v (codes " and ") (codes " and ") not_level es)
 
 -- an expression as an operand
 abbrev pub operand_expr : Vocabulary → (most : ℕ) → ExprTree → List ℕ
@@ -192,4 +192,4 @@ abbrev mutual
   all_formulas_spelling v no_formula = codes "true"
   all_formulas_spelling v (formula_then w no_formula) = formula_spelling v w
   all_formulas_spelling v (formula_then w (formula_then w' ws)) =
-      enclosed not_level (formula_level w) (formula_spelling v w) ++ codes " and " ++ enclosed not_level (formula_level w') (formula_spelling v w') ++ formulas_spelling v (codes " and ") ws
+      enclosed not_level (formula_level w) (formula_spelling v w) ++ (codes " and " ++ enclosed not_level (formula_level w') (formula_spelling v w') ++ formulas_spelling v (codes " and ") ws)

@@ -1,5 +1,6 @@
 -- Items of a scene as the code has them, and how they are spelled.
-use Rattle.std.specs.Prelude.{ℕ, List, []}
+use Rattle.std.specs.Prelude.{ℕ, List, [], ◌∷◌, ◌++◌, codes}
+use Rattle.tp_tree.specs.Levels.{not_level}
 use Rattle.tp_meaning.specs.Syntax.{Definition, FormulaTree}
 use Rattle.tp_kernel.specs.Read.{definitions_of}
 use Rattle.tp_store.specs.Known.{Variable}
@@ -7,7 +8,7 @@ use Rattle.tp_scene.specs.Scene.{Bindings, Entries}
 use Rattle.tp_slots.specs.Plain.{What, bare, holds, gone, Slots, second_of, entries_at}
 use Rattle.tp_slots.specs.Read.{slots_of, item_what}
 use Rattle.tp_slots.specs.declared.scene.Scene.{Scene}
-use Rattle.tp_residual.specs.Phrases.{formula_spelling}
+use Rattle.tp_residual.specs.Phrases.{enclosed, formula_spelling}
 use Rattle.tp_residual.specs.Residual.{words_with, leaf_level, holder_level, entries_level, leaf_spelling, holder_spelling, entries_spelling}
 use Rattle.tp_residual.specs.declared.scene.Residue.{Residue}
 
@@ -38,3 +39,8 @@ region_entries_of s r = entries_at (slots_of s) r
 
 abbrev pub region_spelling : Residue → (region : ℕ) → List ℕ
 region_spelling x r = entries_spelling x.store.now.variables (definitions_of x.defs.now) (region_entries_of x.scene.now r)
+
+-- several items as the operands of `and`, each behind one but the first, which comes behind `opening`
+abbrev pub items_spelling : Residue → (opening : List ℕ) → List ℕ → List ℕ
+items_spelling x opening [] = []
+items_spelling x opening (t ∷ ts) = opening ++ enclosed not_level (item_level_in x.scene.now t) (item_spelling x t) ++ items_spelling x (codes " and ") ts

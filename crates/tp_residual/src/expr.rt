@@ -126,8 +126,17 @@ pub fn append_expr(out: &mut Text, words: &Words, expr: &Expr) -> Result<(), NoM
         Expr::Minus(operand) => append_after(out, words, b"-", operand, PREFIX),
         Expr::Not(operand) => append_after(out, words, b"not ", operand, NOT),
         Expr::Both(operands) => append_all(out, words, operands),
-        Expr::Either(left, right) => append_between(out, words, Op::Or, left, right),
-        Expr::Op(op, left, right) => append_between(out, words, operator(*op), left, right),
+        Expr::Either(left, right) => {
+            append_operand(out, words, left, left_level(Op::Or))?;
+            append_operator(out, Op::Or)?;
+            append_operand(out, words, right, right_level(Op::Or))
+        }
+        Expr::Op(op, left, right) => {
+            let op = operator(*op);
+            append_operand(out, words, left, left_level(op))?;
+            append_operator(out, op)?;
+            append_operand(out, words, right, right_level(op))
+        }
         Expr::If(condition, first, second) => {
             append_after(out, words, b"if ", condition, ANY)?;
             append_after(out, words, b" then ", first, CHOP)?;
@@ -172,27 +181,6 @@ pub fn append_operand(
         append_expr(out, words, expr)?;
         out.append(b")")
     }
-}
-
-/// Appends the operator between its operands.
-#[cycle(exprs)]
-pub fn append_between(
-    out: &mut Text,
-    words: &Words,
-    op: Op,
-    left: &Expr,
-    right: &Expr,
-) -> Result<(), NoMemory>
-    ensures { let v = vocabulary_of words.now in OnOk result
-        (out.new
-        ≡ out.old
-        ++ spec.between op
-        (spec.expr_level (expr_tree left.now)) (spec.expr_spelling v (expr_tree left.now))
-        (spec.expr_level (expr_tree right.now)) (spec.expr_spelling v (expr_tree right.now))) }
-{
-    append_operand(out, words, left, left_level(op))?;
-    append_operator(out, op)?;
-    append_operand(out, words, right, right_level(op))
 }
 
 // Appends the conjunction of the operands.
@@ -249,4 +237,24 @@ pub fn append_call(
     out.append(b"(")?;
     append_exprs(out, words, operands, b", ", ANY)?;
     out.append(b")")
+}
+
+/// Appends the operator between its operands.
+pub fn append_between(
+    out: &mut Text,
+    words: &Words,
+    op: Op,
+    left: &Expr,
+    right: &Expr,
+) -> Result<(), NoMemory>
+    ensures { let v = vocabulary_of words.now in OnOk result
+        (out.new
+        ≡ out.old
+        ++ spec.between op
+        (spec.expr_level (expr_tree left.now)) (spec.expr_spelling v (expr_tree left.now))
+        (spec.expr_level (expr_tree right.now)) (spec.expr_spelling v (expr_tree right.now))) }
+{
+    append_operand(out, words, left, left_level(op))?;
+    append_operator(out, op)?;
+    append_operand(out, words, right, right_level(op))
 }

@@ -179,7 +179,11 @@ pub fn append_formula(out: &mut Text, words: &Words, formula: &Formula) -> Resul
         }
         Formula::Len(length) => append_form(out, words, b"len", length),
         Formula::Assign(left, right) => append_between(out, words, Op::Arrow, left, right),
-        Formula::Chop(left, right) => append_joined(out, words, Op::Chop, left, right),
+        Formula::Chop(left, right) => {
+            append_part(out, words, left, left_level(Op::Chop))?;
+            append_operator(out, Op::Chop)?;
+            append_part(out, words, right, right_level(Op::Chop))
+        }
         Formula::While(condition, body) => {
             append_after(out, words, b"while ", condition, ANY)?;
             append_within(out, words, b" do ", body, ANY)
@@ -202,7 +206,11 @@ pub fn append_formula(out: &mut Text, words: &Words, formula: &Formula) -> Resul
             append_counted(out, words, b"forall ", name, *from, to)?;
             append_body(out, words, b" : ", name, body)
         }
-        Formula::Proj(piece, outer) => append_joined(out, words, Op::Proj, piece, outer),
+        Formula::Proj(piece, outer) => {
+            append_part(out, words, piece, left_level(Op::Proj))?;
+            append_operator(out, Op::Proj)?;
+            append_part(out, words, outer, right_level(Op::Proj))
+        }
         Formula::Exists { name, body, .. } => {
             out.append(b"exists ")?;
             out.append(name.as_slice())?;
@@ -214,9 +222,9 @@ pub fn append_formula(out: &mut Text, words: &Words, formula: &Formula) -> Resul
     }
 }
 
-/// Appends the text and then the formula, bare where its level is at most this, else in parentheses.
+// Appends the text and then the formula, bare where its level is at most this, else in parentheses.
 #[cycle(formulas)]
-pub fn append_within(
+fn append_within(
     out: &mut Text,
     words: &Words,
     before: &[u8],
@@ -231,6 +239,22 @@ pub fn append_within(
         (formula_spelling (vocabulary_of words.now) w))) }
 {
     out.append(before)?;
+    append_part(out, words, formula, most)
+}
+
+// Appends the formula, bare where its level is at most this, else in parentheses.
+#[cycle(formulas)]
+fn append_part(
+    out: &mut Text,
+    words: &Words,
+    formula: &Formula,
+    most: u8,
+) -> Result<(), NoMemory>
+    ensures { let w = formula_tree formula.now in OnOk result
+        (out.new
+        ≡ out.old
+        ++ enclosed most (spec.formula_level w) (formula_spelling (vocabulary_of words.now) w)) }
+{
     if formula_level(formula) <= most {
         append_formula(out, words, formula)
     } else {
@@ -268,51 +292,13 @@ fn append_always(out: &mut Text, words: &Words, formula: &Formula) -> Result<(),
         ++ formula_spelling (vocabulary_of words.now)
         (syntax.always (formula_tree formula.now))) }
 {
-    match formula {
-        Formula::IfMore(w) => append_called(out, words, b"keep(", w),
-        Formula::IfEmpty(w) => append_called(out, words, b"fin(", w),
-        Formula::True | Formula::Test(_) | Formula::Eq(_, _) | Formula::NextEq(_, _, _) => {
-            append_called(out, words, b"always(", formula)
-        }
-        Formula::Empty | Formula::More | Formula::Next(_) | Formula::WeakNext(_) => {
-            append_called(out, words, b"always(", formula)
-        }
-        Formula::Always(_) | Formula::And(_) | Formula::If(_, _, _) | Formula::Len(_) => {
-            append_called(out, words, b"always(", formula)
-        }
-        Formula::Assign(_, _) | Formula::Chop(_, _) | Formula::While(_, _) => {
-            append_called(out, words, b"always(", formula)
-        }
-        Formula::For { .. } | Formula::Forall { .. } | Formula::Proj(_, _) => {
-            append_called(out, words, b"always(", formula)
-        }
-        Formula::Exists { .. } | Formula::Call(_, _) | Formula::Input(_, _) => {
-            append_called(out, words, b"always(", formula)
-        }
-        Formula::Display(_) => append_called(out, words, b"always(", formula),
+    if let Formula::IfMore(w) = formula {
+        return append_called(out, words, b"keep(", w);
     }
-}
-
-// Appends the operator between its operands.
-#[cycle(formulas)]
-fn append_joined(
-    out: &mut Text,
-    words: &Words,
-    op: Op,
-    left: &Formula,
-    right: &Formula,
-) -> Result<(), NoMemory>
-    ensures { let v = vocabulary_of words.now in OnOk result
-        (out.new
-        ≡ out.old
-        ++ spec.between op
-        (spec.formula_level (formula_tree left.now)) (formula_spelling v (formula_tree left.now))
-        (spec.formula_level (formula_tree right.now))
-        (formula_spelling v (formula_tree right.now))) }
-{
-    append_within(out, words, b"", left, left_level(op))?;
-    append_operator(out, op)?;
-    append_within(out, words, b"", right, right_level(op))
+    if let Formula::IfEmpty(w) = formula {
+        return append_called(out, words, b"fin(", w);
+    }
+    append_called(out, words, b"always(", formula)
 }
 
 // Appends the text and then the body of a phrase that binds the name.

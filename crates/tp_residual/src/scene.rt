@@ -23,6 +23,7 @@ use tp_tree::level::{AND, CHOP, NOT, left_level, right_level};
 use tp_value::{NoMemory, Text};
 
 /// A scene of which the residual phrase is spelled, and by what the names in it are; and where memory is taken.
+#[derive(Clone, Copy)]
 pub struct Residue<'a> {
     pub alloc: Global,
     pub scene: &'a Scene,

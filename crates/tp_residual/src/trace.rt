@@ -34,7 +34,7 @@ pub fn trace_text(
         ≡ out.old
         ++ trace_lines picture.now.reductions
         (residual_of store.now.variables (definitions_of defs.now)
-        (option_map (λ s. scene_of s.now) scene))) }
+        (option_map (λ s. scene_of s.now) scene.entry))) }
 {
     out.append(b"reductions ")?;
     append_decimal(out, picture.reductions)?;

@@ -10,10 +10,11 @@ ghost use Rattle.tp_residual.specs.Words.{binding_spelling, bound_spelling, defi
 use itoa::Buffer;
 use tp_kernel::{Binding, Defs, Env};
 use tp_store::Store;
-use tp_value::{NoMemory, Path, Text, VarId, write_value};
+use tp_value::{Indices, NoMemory, Path, Text, VarId, write_value};
 
 /// The names that are bound where a phrase stands, the innermost first: those that the phrase itself binds, and those around it with
 /// what they stand for.
+#[derive(Clone, Copy)]
 pub enum Bound<'a> {
     Around(&'a Env),
     Inside {
@@ -23,6 +24,7 @@ pub enum Bound<'a> {
 }
 
 /// By what the names of a phrase are spelled.
+#[derive(Clone, Copy)]
 pub struct Words<'a> {
     pub store: &'a Store,
     pub defs: &'a Defs,
@@ -54,14 +56,20 @@ fn append_index(out: &mut Text, index: u32) -> Result<(), NoMemory>
     out.append(b"]")
 }
 
+fn append_indices(out: &mut Text, at: &Indices) -> Result<(), NoMemory>
+    ensures { OnOk result (out.new ≡ out.old ++ flat_map index_text at.now) }
+{
+    for index in &at.items {
+        append_index(out, *index)?;
+    }
+    Ok(())
+}
+
 fn append_path(out: &mut Text, store: &Store, path: &Path) -> Result<(), NoMemory>
     ensures { OnOk result (out.new ≡ out.old ++ path_spelling store.now.variables path.now) }
 {
     append_variable(out, store, path.var)?;
-    for index in &path.at.items {
-        append_index(out, *index)?;
-    }
-    Ok(())
+    append_indices(out, &path.at)
 }
 
 // Appends what a name is bound to.
