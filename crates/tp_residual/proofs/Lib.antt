@@ -4,3 +4,4 @@ mod BoundNames
 mod Always
 mod Standing
 mod Carried
+mod Reductions

@@ -102,7 +102,15 @@ module _ (variables : List Variable) (definitions : List Definition) where
   abbrev pub residual_of : Option Scene → Option (List ℕ)
   residual_of carried = option_map residual_phrase carried
 
--- How many reductions a state took, and the residual phrase where the run goes on.
+-- as reductions 8
+abbrev pub reductions_line : ℕ → List ℕ
+reductions_line n = codes "reductions " ++ decimal n ++ codes "\n"
+
+-- as residual: len(2)
+abbrev pub residual_line : List ℕ → List ℕ
+residual_line phrase = codes "residual: " ++ phrase ++ codes "\n"
+
+-- how many reductions a state took, and the residual phrase where the run goes on
 abbrev pub trace_lines : (reductions : ℕ) → (residual : Option (List ℕ)) → List ℕ
-trace_lines n None = codes "reductions " ++ decimal n ++ codes "\n"
-trace_lines n (Some phrase) = codes "reductions " ++ decimal n ++ codes "\n" ++ codes "residual: " ++ phrase ++ codes "\n"
+trace_lines n None = reductions_line n
+trace_lines n (Some phrase) = reductions_line n ++ residual_line phrase

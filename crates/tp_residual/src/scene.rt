@@ -126,9 +126,9 @@ fn append_phrase(
     }
 }
 
-/// Appends the conjunction of a region's entries, bare where its level is at most this, else in parentheses.
+// Appends the conjunction of a region's entries, bare where its level is at most this, else in parentheses.
 #[cycle(regions)]
-pub fn append_region(
+fn append_region(
     out: &mut Text,
     residue: &Residue,
     region: u64,
@@ -230,4 +230,14 @@ fn append_item(out: &mut Text, residue: &Residue, item: u64) -> Result<(), NoMem
         What::Later(_) | What::Shown(_) | What::Closed(_) | What::Opened { .. } => Ok(()),
         What::Running { .. } | What::Gone { .. } => Ok(()),
     }
+}
+
+/// Appends the conjunction of the root's entries, with no parentheses round the whole.
+#[tactic(auto, using(tp_slots::proofs::WalkLemmas::root_within))]
+pub fn append_scene(out: &mut Text, residue: &Residue) -> Result<(), NoMemory>
+    requires { IsOrdered (slots_of residue.now.scene.now) }
+    ensures { OnOk result (out.new ≡ out.old ++ region_spelling residue.now 0) }
+{
+    let items = own_items(residue.alloc, residue.scene, 0)?;
+    append_items(out, residue, 0, items.as_slice())
 }
