@@ -1,5 +1,5 @@
 -- Bound names, by their numbers.
-use Rattle.std.proofs.Common.{Bor, ◌≡◌, ℕ, zero, suc, ◌+◌, ◌-◌, ◌≤◌, ◌<◌, List, [], ◌∷◌, ◌++◌, map, length, get_or, Option, Some, None, refl, ap, sym, ◌∙◌, arith}
+use Rattle.std.proofs.Common.{Bor, ◌≡◌, ℕ, zero, suc, ◌-◌, ◌≤◌, ◌<◌, List, [], ◌∷◌, ◌++◌, map, length, get_or, Some, None, refl, ap, sym, ◌∙◌, arith}
 use Rattle.std.specs.List.{slice_get}
 use Rattle.std.specs.Option.{option_map}
 use Rattle.std.proofs.lemmas.Option.{slice_get-map, slice_get-get_or, slice_get_past}
@@ -59,8 +59,8 @@ pub bound_within : (env : Env) (i : ℕ) (x : Binding) → i < length env.items.
     → (slice_get (map stands_for (bindings_of env)) i ≡ Some (stands_for (binding_of x))) × (left_after (map stands_for (bindings_of env)) i ≡ None)
 bound_within env i x l e = (
   slice_get-map stands_for (bindings_of env) i
-  ∙ (ap (option_map stands_for) (slice_get-map binding_of env.items.items i)
-  ∙ ap (λ o. option_map stands_for (option_map binding_of o)) (slice_get-get_or env.items.items i x l ∙ ap Some (sym e))),
+      ∙ (ap (option_map stands_for) (slice_get-map binding_of env.items.items i)
+      ∙ ap (λ o. option_map stands_for (option_map binding_of o)) (slice_get-get_or env.items.items i x l ∙ ap Some (sym e))),
   within (map stands_for (bindings_of env)) i (let n = length_around env in omega (arith, n, l)),
 )
 

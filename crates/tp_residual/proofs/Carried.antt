@@ -1,11 +1,10 @@
 -- A state that goes on leaves a scene of `Do`, `Split` and `SplitProject` alone.
-use Rattle.std.proofs.Common.{◌≡◌, ℕ, ◌+◌, Bool, List, [], ◌∷◌, sym, subst}
+use Rattle.std.proofs.Common.{ℕ, ◌+◌, Bool, List, [], ◌∷◌, sym, subst}
 use Rattle.tp_meaning.specs.Syntax.{Definition}
 use Rattle.tp_store.specs.Known.{Variable}
 use Rattle.tp_scene.specs.Scene.{Head, Do, Later, Shown, Split, SplitProject, Closed, Opened, Running, Entries, none, leaf, node, Place, Scene, root_place}
 use Rattle.tp_scene.specs.Pick.{Setting, Moment, Leads}
 use Rattle.tp_scene.specs.Advance.{due, numbered, advanced}
-use Rattle.tp_scene.specs.Replay.{Goes}
 use Rattle.tp_scene.specs.Fits.{Dormant, EntriesFit}
 use Rattle.tp_scene.specs.Laws.{IsSound}
 use Rattle.tp_scene.proofs.StepsFit.{steps_fit}

@@ -1,16 +1,16 @@
 -- The items of a region itself, as the code lists them, and how its entries are spelled by them.
-use Rattle.std.proofs.Common.{◌≡◌, ℕ, zero, suc, ◌+◌, ◌-◌, ◌*◌, ◌≤◌, ◌<◌, List, [], ◌∷◌, ◌++◌, length, get_or, map, Option, Some, None, refl, ap, sym, ◌∙◌, subst, codes, arith}
+use Rattle.std.proofs.Common.{◌≡◌, ℕ, zero, suc, ◌+◌, ◌-◌, ◌≤◌, ◌<◌, List, [], ◌∷◌, ◌++◌, length, get_or, refl, ap, sym, ◌∙◌, subst, codes, arith}
 use Rattle.std.specs.List.{range_with_len}
 use Rattle.std.proofs.lemmas.List.{append_assoc, append-nil, length-map}
-use Rattle.tp_tree.specs.Levels.{not_level, and_level}
+use Rattle.tp_tree.specs.Levels.{not_level}
 use Rattle.tp_kernel.specs.Read.{definitions_of}
-use Rattle.tp_scene.specs.Scene.{Entries, none, leaf, node, append}
+use Rattle.tp_scene.specs.Scene.{Entries, none, leaf, node}
 use Rattle.tp_slots.specs.Plain as plain
 use Rattle.tp_slots.specs.Plain.{Slots, slot_at, region_slot, second_of, in_order, of_what, region_entries, entries_at, AreIn, WhatFits, IsOrdered, IsLive}
 use Rattle.tp_slots.specs.Walk.{item_front}
 use Rattle.tp_slots.specs.Own.{own_ids, own_for, own_in, own_inside}
 use Rattle.tp_slots.specs.Shown.{AreShown}
-use Rattle.tp_slots.specs.Read.{slot_of, region_slot_of, slots_of, what_of, item_what, item_home}
+use Rattle.tp_slots.specs.Read.{slot_of, region_slot_of, slots_of, what_of, item_home}
 use Rattle.tp_slots.specs.declared.scene.Scene.{Scene}
 use Rattle.tp_slots.specs.declared.scene.Region.{Region}
 use Rattle.tp_slots.specs.declared.scene.Slot.{Slot}

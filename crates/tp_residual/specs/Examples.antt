@@ -1,6 +1,5 @@
 -- Trace lines and residual phrases that tell how they are spelled.
-use Rattle.std.specs.Prelude.{◌≡◌, ℕ, ℤ, pos, negsuc, true, false, List, [], ◌∷◌, Option, Some, None, codes}
-use Rattle.tp_value.specs.declared.path.VarId.{VarId}
+use Rattle.std.specs.Prelude.{◌≡◌, ℕ, pos, negsuc, true, false, List, [], ◌∷◌, Some, None, codes}
 use Rattle.tp_value.specs.Tree.{Tree, num, truth, list, of_items}
 use Rattle.tp_meaning.specs.Syntax.{Plus, Minus, Times, Less, ExprTree, numeral, boolean, known, bound, global, listing, size, index, minus, negation, both, either, binary, choice, invoke, exprs_of, FormulaTree, trivial, test, equation, next_equation, empty, more, next, weak_next, if_more, if_empty, always, conjunction, branch, len, assign, chop, while, for_from, forall_from, project, exists, call, input, display, formulas_of, Definition, BindingTree, place_binding, known_binding}
 use Rattle.tp_store.specs.Known.{Variable}

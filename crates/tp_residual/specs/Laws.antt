@@ -1,5 +1,5 @@
 -- Where a state goes on, the next one begins with a scene of `Do`, `Split` and `SplitProject` alone.
-use Rattle.std.specs.Prelude.{◌≡◌, ℕ, Bool, List}
+use Rattle.std.specs.Prelude.{ℕ, Bool, List}
 use Rattle.tp_scene.specs.Pick.{Setting, Moment}
 use Rattle.tp_scene.specs.Replay.{Goes}
 use Rattle.tp_scene.specs.Advance.{advanced}

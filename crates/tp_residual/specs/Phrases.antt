@@ -1,11 +1,10 @@
 -- How expressions and formulas are spelled: as the canonical spelling has the phrases that they come from, with its levels.
-use Rattle.std.specs.Prelude.{ℕ, zero, suc, ℤ, pos, nat_le, List, [], ◌++◌, ◌∷◌, slice_get, if◌then◌else◌, codes}
+use Rattle.std.specs.Prelude.{ℕ, zero, suc, ℤ, pos, nat_le, List, [], ◌++◌, slice_get, if◌then◌else◌, codes}
 use Rattle.std.specs.Ordering.{int_eq}
 use Rattle.std.specs.Fmt.{signed_decimal}
 use Rattle.tp_value.specs.Written.{text_of}
 use Rattle.tp_tree.specs.declared.operator.Op.{Op}
 use Rattle.tp_tree.specs.declared.operator.Op.TheVariants as op
-use Rattle.tp_tree.specs.declared.operator.Form.{Form}
 use Rattle.tp_tree.specs.declared.operator.Form.TheVariants as f
 use Rattle.tp_tree.specs.declared.operator.Bare.TheVariants as b
 use Rattle.tp_tree.specs.Levels.{index_level, prefix_level, sum_level, relation_level, not_level, and_level, or_level, proj_level, chop_level, any_level, op_level, left_level, right_level}

@@ -165,12 +165,7 @@ pub fn append_after(
 }
 
 #[cycle(exprs)]
-pub fn append_operand(
-    out: &mut Text,
-    words: &Words,
-    expr: &Expr,
-    most: u8,
-) -> Result<(), NoMemory>
+pub fn append_operand(out: &mut Text, words: &Words, expr: &Expr, most: u8) -> Result<(), NoMemory>
     ensures { OnOk result (out.new
         ≡ out.old ++ operand_expr (vocabulary_of words.now) most (expr_tree expr.now)) }
 {

@@ -14,10 +14,8 @@ use crate::expr::{
 };
 use crate::words::{Bound, Words};
 use tp_kernel::{Expr, Exprs, Formula, Formulas};
-use tp_tree::level::{
-    AND, ANY, CHOP, NOT, PREFIX, PROJ, RELATION, SUM, left_level, right_level,
-};
 use tp_tree::Op;
+use tp_tree::level::{AND, ANY, CHOP, NOT, PREFIX, PROJ, RELATION, SUM, left_level, right_level};
 use tp_value::{NoMemory, Number, Text};
 
 /// The level of a formula.
@@ -244,12 +242,7 @@ fn append_within(
 
 // Appends the formula, bare where its level is at most this, else in parentheses.
 #[cycle(formulas)]
-fn append_part(
-    out: &mut Text,
-    words: &Words,
-    formula: &Formula,
-    most: u8,
-) -> Result<(), NoMemory>
+fn append_part(out: &mut Text, words: &Words, formula: &Formula, most: u8) -> Result<(), NoMemory>
     ensures { let w = formula_tree formula.now in OnOk result
         (out.new
         ≡ out.old

@@ -128,12 +128,7 @@ fn append_phrase(
 
 // Appends the conjunction of a region's entries, bare where its level is at most this, else in parentheses.
 #[cycle(regions)]
-fn append_region(
-    out: &mut Text,
-    residue: &Residue,
-    region: u64,
-    most: u8,
-) -> Result<(), NoMemory>
+fn append_region(out: &mut Text, residue: &Residue, region: u64, most: u8) -> Result<(), NoMemory>
     requires sound { IsOrdered (slots_of residue.now.scene.now) }
     requires region { region < length residue.now.scene.now.regions.items }
     ensures { OnOk result

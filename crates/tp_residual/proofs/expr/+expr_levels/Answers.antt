@@ -1,4 +1,4 @@
-use Rattle.std.proofs.Common.{◌≤◌, length, ap, arith, rules}
+use Rattle.std.proofs.Common.{◌≤◌, length, rules}
 use Rattle.tp_residual.proofs.Conjunctions.{exprs_level_is}
 use Rattle.tp_residual.proofs.expr.+expr_levels.Goals as goal
 

@@ -1,4 +1,4 @@
-use Rattle.std.proofs.Common.{◌≤◌, length, ap, arith, rules}
+use Rattle.std.proofs.Common.{◌≤◌, length, rules}
 use Rattle.tp_residual.proofs.Conjunctions.{formulas_level_is}
 use Rattle.tp_residual.proofs.formula.+formula_levels.Goals as goal
 

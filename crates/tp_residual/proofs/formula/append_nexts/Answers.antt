@@ -1,4 +1,3 @@
-use Rattle.std.proofs.Common.{◌≡◌, ◌++◌}
 use Rattle.tp_residual.proofs.Always.{next_written}
 use Rattle.tp_residual.proofs.formula.append_nexts.Goals as goal
 

@@ -1,4 +1,4 @@
-use Rattle.std.proofs.Common.{◌≡◌, ◌<◌, ◌≤◌, ◌++◌, ◌∷◌, [], ◌∙◌, List, ℕ, length, get_or, drop, ap, sym, codes, arith, rules}
+use Rattle.std.proofs.Common.{◌≡◌, ◌<◌, ◌≤◌, ◌++◌, [], ◌∙◌, List, ℕ, length, get_or, drop, ap, sym, codes, arith, rules}
 use Rattle.std.proofs.lemmas.Result.{on_ok_weaker}
 use Rattle.std.proofs.lemmas.List.{append-nil}
 use Rattle.std.proofs.Math.ListN.{drop_of_length-le}
@@ -43,4 +43,4 @@ append_items-returns-after-loop-i t c =
     let out = c.loop-i.out in
     let e = several_written x c.args.region ids c.requires.sound c.requires.region c.requires.items c.in_default.len_at_least in
     as_spelled c.args.out.now out (items_spelling x [] ids) (region_spelling x c.args.region) e
-        (sym (append-nil out) ∙ (ap (λ (ns : List ℕ). out ++ items_spelling x c.loop-i.opening.now ns) (sym d) ∙ c.loop-i.invariant))
+    (sym (append-nil out) ∙ (ap (λ (ns : List ℕ). out ++ items_spelling x c.loop-i.opening.now ns) (sym d) ∙ c.loop-i.invariant))

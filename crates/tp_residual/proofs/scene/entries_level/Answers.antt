@@ -1,4 +1,4 @@
-use Rattle.std.proofs.Common.{◌≡◌, ◌<◌, ◌∙◌, length, get_or, arith, rules}
+use Rattle.std.proofs.Common.{◌<◌, ◌∙◌, length, get_or, rules}
 use Rattle.tp_residual.proofs.Standing.{own_item, only_place, one_level}
 use Rattle.tp_residual.proofs.scene.entries_level.Goals as goal
 
