@@ -31,8 +31,8 @@ abbrev pub enclosed : (most level : ℕ) → List ℕ → List ℕ
 enclosed most level text = if nat_le level most then text else codes "(" ++ text ++ codes ")"
 
 -- an operator between its operands, each with its level
-abbrev pub between : Op → (left_is : ℕ) → (left : List ℕ) → (right_is : ℕ) → (right : List ℕ) → List ℕ
-between o l left r right = enclosed (left_level o) l left ++ codes " " ++ op_spelling o ++ codes " " ++ enclosed (right_level o) r right
+abbrev pub operation_spelling : Op → (left_is : ℕ) → (left : List ℕ) → (right_is : ℕ) → (right : List ℕ) → List ℕ
+operation_spelling o l left r right = enclosed (left_level o) l left ++ codes " " ++ op_spelling o ++ codes " " ++ enclosed (right_level o) r right
 
 -- a form or a call with the text of its operands
 abbrev pub called_with : (word operands : List ℕ) → List ℕ
@@ -78,8 +78,8 @@ abbrev mutual
   expr_spelling v (minus e) = codes "-" ++ enclosed prefix_level (expr_level e) (expr_spelling v e)
   expr_spelling v (negation e) = codes "not " ++ enclosed not_level (expr_level e) (expr_spelling v e)
   expr_spelling v (both es) = all_exprs_spelling v es
-  expr_spelling v (either x y) = between op.Or (expr_level x) (expr_spelling v x) (expr_level y) (expr_spelling v y)
-  expr_spelling v (binary o x y) = between (phrase_operator o) (expr_level x) (expr_spelling v x) (expr_level y) (expr_spelling v y)
+  expr_spelling v (either x y) = operation_spelling op.Or (expr_level x) (expr_spelling v x) (expr_level y) (expr_spelling v y)
+  expr_spelling v (binary o x y) = operation_spelling (phrase_operator o) (expr_level x) (expr_spelling v x) (expr_level y) (expr_spelling v y)
   expr_spelling v (choice c x y) =
       codes "if " ++ enclosed any_level (expr_level c) (expr_spelling v c) ++ codes " then " ++ enclosed chop_level (expr_level x) (expr_spelling v x)
       ++ codes " else " ++ enclosed any_level (expr_level y) (expr_spelling v y)
@@ -154,7 +154,7 @@ abbrev mutual
   pub formula_spelling : Vocabulary → FormulaTree → List ℕ
   formula_spelling v trivial = codes "true"
   formula_spelling v (test e) = expr_spelling v e
-  formula_spelling v (equation l r) = between op.Equal (expr_level l) (expr_spelling v l) (expr_level r) (expr_spelling v r)
+  formula_spelling v (equation l r) = operation_spelling op.Equal (expr_level l) (expr_spelling v l) (expr_level r) (expr_spelling v r)
   formula_spelling v (next_equation n t e) = nexts_spelling n ++ operand_expr v prefix_level t ++ codes " = " ++ operand_expr v sum_level e
   formula_spelling v empty = bare_spelling b.Empty
   formula_spelling v more = bare_spelling b.More
@@ -170,12 +170,12 @@ abbrev mutual
       codes "if " ++ operand_expr v any_level c ++ codes " then " ++ enclosed chop_level (formula_level w) (formula_spelling v w)
       ++ codes " else " ++ enclosed any_level (formula_level w') (formula_spelling v w')
   formula_spelling v (len e) = called_with (form_spelling f.Len) (expr_spelling v e)
-  formula_spelling v (assign t e) = between op.Arrow (expr_level t) (expr_spelling v t) (expr_level e) (expr_spelling v e)
-  formula_spelling v (chop w w') = between op.Chop (formula_level w) (formula_spelling v w) (formula_level w') (formula_spelling v w')
+  formula_spelling v (assign t e) = operation_spelling op.Arrow (expr_level t) (expr_spelling v t) (expr_level e) (expr_spelling v e)
+  formula_spelling v (chop w w') = operation_spelling op.Chop (formula_level w) (formula_spelling v w) (formula_level w') (formula_spelling v w')
   formula_spelling v (while c w) = codes "while " ++ operand_expr v any_level c ++ codes " do " ++ enclosed any_level (formula_level w) (formula_spelling v w)
   formula_spelling v (for_from x k e w) = counted_spelling v (codes "for ") x k e ++ codes " do " ++ enclosed any_level (formula_level w) (formula_spelling (naming v x) w)
   formula_spelling v (forall_from x k e w) = counted_spelling v (codes "forall ") x k e ++ codes " : " ++ enclosed any_level (formula_level w) (formula_spelling (naming v x) w)
-  formula_spelling v (project w w') = between op.Proj (formula_level w) (formula_spelling v w) (formula_level w') (formula_spelling v w')
+  formula_spelling v (project w w') = operation_spelling op.Proj (formula_level w) (formula_spelling v w) (formula_level w') (formula_spelling v w')
   formula_spelling v (exists x lasting w) = codes "exists " ++ x ++ codes " : " ++ enclosed any_level (formula_level w) (formula_spelling (naming v x) w)
   formula_spelling v (call p es) = called_with (definition_name v.definitions p) (exprs_spelling v [] (codes ", ") any_level es)
   formula_spelling v (input x port) = called_with (form_spelling f.Input) (expr_spelling v x ++ codes ", " ++ port)

@@ -8,7 +8,7 @@ use Rattle.tp_meaning.specs.Syntax.{Definition}
 use Rattle.tp_store.specs.Known.{Variable}
 use Rattle.tp_scene.specs.Scene.{Bindings, Leaf, Do, Later, Shown, Holder, Split, SplitProject, Closed, Opened, Running, Entries, none, leaf, node, Scene}
 use Rattle.tp_residual.specs.Words.{Vocabulary, stands_for}
-use Rattle.tp_residual.specs.Phrases.{enclosed, between, formula_level, formula_spelling}
+use Rattle.tp_residual.specs.Phrases.{enclosed, operation_spelling, formula_level, formula_spelling}
 
 abbrev pub IsDue : Leaf → Type 0
 IsDue (Do w env) = Unit {0}
@@ -73,8 +73,8 @@ module _ (variables : List Variable) (definitions : List Definition) where
 
   -- `left` and `outer` are the texts of the regions: left ; after, and left ; piece proj outer
   abbrev pub holder_spelling : Holder → (left_is : ℕ) → (left : List ℕ) → (outer_is : ℕ) → (outer : List ℕ) → List ℕ
-  holder_spelling (Split w env) l left o outer = between op.Chop l left (formula_level w) (formula_spelling (words_with env) w)
-  holder_spelling (SplitProject w env) l left o outer = between op.Chop l left proj_level (between op.Proj (formula_level w) (formula_spelling (words_with env) w) o outer)
+  holder_spelling (Split w env) l left o outer = operation_spelling op.Chop l left (formula_level w) (formula_spelling (words_with env) w)
+  holder_spelling (SplitProject w env) l left o outer = operation_spelling op.Chop l left proj_level (operation_spelling op.Proj (formula_level w) (formula_spelling (words_with env) w) o outer)
   holder_spelling Closed l left o outer = []
   holder_spelling (Opened w env) l left o outer = []
   holder_spelling (Running w env) l left o outer = []

@@ -245,7 +245,7 @@ pub fn append_between(
     ensures { let v = vocabulary_of words.now in OnOk result
         (out.new
         ≡ out.old
-        ++ spec.between op
+        ++ spec.operation_spelling op
         (spec.expr_level (expr_tree left.now)) (spec.expr_spelling v (expr_tree left.now))
         (spec.expr_level (expr_tree right.now)) (spec.expr_spelling v (expr_tree right.now))) }
 {
