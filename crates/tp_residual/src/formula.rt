@@ -1,5 +1,5 @@
 // How formulas are spelled.
-ghost use Rattle.std.specs.Prelude.{◌≡◌, ◌++◌, ◌∷◌, [], OnOk, codes};
+ghost use Rattle.std.specs.Prelude.{◌≡◌, ◌++◌, [], OnOk, codes};
 ghost use Rattle.tp_kernel.specs.Read.{expr_tree, expr_trees, formula_tree, formula_trees};
 ghost use Rattle.tp_meaning.specs.Syntax as syntax;
 ghost use Rattle.tp_tree.specs.Levels.{any_level};
