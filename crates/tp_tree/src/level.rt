@@ -1,4 +1,4 @@
-// Levels of phrases, and how operators and words are spelled.
+//! Levels of phrases, and how operators and words are spelled.
 ghost use Rattle.std.specs.Prelude.{◌≡◌};
 ghost use Rattle.tp_tree.specs.Levels as spec;
 ghost use Rattle.tp_tree.specs.Read.{kind_tree};
@@ -29,7 +29,7 @@ pub const CHOP: u8 = 10;
 pub const ANY: u8 = 11;
 
 /// The level of a phrase with this operator.
-fn op_level(op: Op) -> u8
+pub fn op_level(op: Op) -> u8
     ensures { result ≡ spec.op_level op }
 {
     match op {

@@ -2,7 +2,7 @@
 #![tactic(auto)]
 
 mod laws;
-mod level;
+pub mod level;
 mod operator;
 mod phrase;
 mod printing;

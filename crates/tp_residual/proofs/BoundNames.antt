@@ -1,0 +1,73 @@
+-- Bound names, by their numbers.
+use Rattle.std.proofs.Common.{Bor, ◌≡◌, ℕ, zero, suc, ◌-◌, ◌≤◌, ◌<◌, List, [], ◌∷◌, ◌++◌, map, length, get_or, Some, None, refl, ap, sym, ◌∙◌, arith}
+use Rattle.std.specs.List.{slice_get}
+use Rattle.std.specs.Option.{option_map}
+use Rattle.std.proofs.lemmas.Option.{slice_get-map, slice_get-get_or, slice_get_past}
+use Rattle.std.proofs.lemmas.List.{length-map}
+use Rattle.tp_kernel.specs.declared.formula.Env.{Env}
+use Rattle.tp_kernel.specs.declared.formula.Binding.{Binding}
+use Rattle.tp_kernel.specs.Read.{binding_of, bindings_of}
+use Rattle.tp_residual.specs.Words.{BoundName, stands_for, named}
+use Rattle.tp_residual.specs.Read.{bound_step, bound_names, left_after}
+use Rattle.tp_residual.specs.declared.words.Bound.{Bound}
+use Rattle.tp_residual.specs.declared.words.Bound.TheVariants.{Around, Inside, rolls-Around, rolls-Inside}
+use Rattle.tp_residual.specs.declared.words.Bound.TheOpen.{Bound-F}
+use Rattle.tp_residual.specs.declared.words.Bound.TheFolds.{fold-roll-Bound}
+
+pub names_around : (env : Bor Env) → bound_names (Around env) ≡ map stands_for (bindings_of env.now)
+names_around env = ap bound_names (sym (rolls-Around env)) ∙ fold-roll-Bound (List BoundName) bound_step (Bound-F.Around env)
+
+pub names_inside : (name : Bor (List ℕ)) (outer : Bor Bound) → bound_names (Inside name outer) ≡ bound_names outer.now ++ named name.now ∷ []
+names_inside name outer = ap bound_names (sym (rolls-Inside name outer)) ∙ fold-roll-Bound (List BoundName) bound_step (Bound-F.Inside name outer)
+
+within : (xs : List BoundName) (i : ℕ) → i < length xs → left_after xs i ≡ None
+within [] i l = absurd (omega (arith, l))
+within (x ∷ xs) zero l = refl
+within (x ∷ xs) (suc i) l = within xs i (omega (arith, l))
+
+beyond : (xs : List BoundName) (i : ℕ) → length xs ≤ i → left_after xs i ≡ Some (i - length xs)
+beyond [] i l = ap Some (omega arith)
+beyond (x ∷ xs) zero l = absurd (omega (arith, l))
+beyond (x ∷ xs) (suc i) l = beyond xs i (omega (arith, l)) ∙ ap Some (omega arith)
+
+-- one name more, by how many are left without it
+pub none_left : (xs : List BoundName) (y : BoundName) (i : ℕ) → left_after xs i ≡ None → (slice_get (xs ++ y ∷ []) i ≡ slice_get xs i) × (left_after (xs ++ y ∷ []) i ≡ None)
+none_left [] y i e = absurd (cc e)
+none_left (x ∷ xs) y zero e = (refl, refl)
+none_left (x ∷ xs) y (suc i) e = none_left xs y i e
+
+pub some_left : (xs : List BoundName) (y : BoundName) (i k : ℕ) → left_after xs i ≡ Some k → (slice_get (xs ++ y ∷ []) i ≡ slice_get (y ∷ []) k) × (left_after (xs ++ y ∷ []) i ≡ left_after (y ∷ []) k)
+some_left [] y i k e = (ap (slice_get (y ∷ [])) (cc e), ap (left_after (y ∷ [])) (cc e))
+some_left (x ∷ xs) y zero k e = absurd (cc e)
+some_left (x ∷ xs) y (suc i) k e = some_left xs y i k e
+
+pub nothing_beyond : (xs : List BoundName) (i k : ℕ) → left_after xs i ≡ Some k → slice_get xs i ≡ None
+nothing_beyond [] i k e = refl
+nothing_beyond (x ∷ xs) zero k e = absurd (cc e)
+nothing_beyond (x ∷ xs) (suc i) k e = nothing_beyond xs i k e
+
+-- of one name, all but the first are beyond
+pub one_before : (y : BoundName) (k : ℕ) → (k ≡ 0 → ⊥) → (slice_get (y ∷ []) k ≡ None) × (left_after (y ∷ []) k ≡ Some (k - 1))
+one_before y zero l = absurd (l refl)
+one_before y (suc k) l = (refl, ap Some (omega arith))
+
+-- those around the phrase
+length_around : (env : Env) → length (map stands_for (bindings_of env)) ≡ length env.items.items
+length_around env = length-map (bindings_of env) stands_for ∙ length-map env.items.items binding_of
+
+pub bound_within : (env : Env) (i : ℕ) (x : Binding) → i < length env.items.items → x ≡ get_or env.items.items i x
+    → (slice_get (map stands_for (bindings_of env)) i ≡ Some (stands_for (binding_of x))) × (left_after (map stands_for (bindings_of env)) i ≡ None)
+bound_within env i x l e = (
+  slice_get-map stands_for (bindings_of env) i
+      ∙ (ap (option_map stands_for) (slice_get-map binding_of env.items.items i)
+      ∙ ap (λ o. option_map stands_for (option_map binding_of o)) (slice_get-get_or env.items.items i x l ∙ ap Some (sym e))),
+  within (map stands_for (bindings_of env)) i (let n = length_around env in omega (arith, n, l)),
+)
+
+pub bound_beyond : (env : Env) (i : ℕ) → length env.items.items ≤ i
+    → (slice_get (map stands_for (bindings_of env)) i ≡ None) × (left_after (map stands_for (bindings_of env)) i ≡ Some (i - length env.items.items))
+bound_beyond env i l =
+    let n = length_around env in (
+      slice_get_past (map stands_for (bindings_of env)) i (omega (arith, n, l)),
+      beyond (map stands_for (bindings_of env)) i (omega (arith, n, l)) ∙ ap (λ m. Some (i - m)) n,
+    )

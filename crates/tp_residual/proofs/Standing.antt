@@ -1,0 +1,232 @@
+-- The items of a region itself, as the code lists them, and how its entries are spelled by them.
+use Rattle.std.proofs.Common.{◌≡◌, ℕ, zero, suc, ◌+◌, ◌-◌, ◌≤◌, ◌<◌, List, [], ◌∷◌, ◌++◌, length, get_or, refl, ap, sym, ◌∙◌, subst, codes, arith}
+use Rattle.std.specs.List.{range_with_len}
+use Rattle.std.proofs.lemmas.List.{append_assoc, append-nil, length-map}
+use Rattle.tp_tree.specs.Levels.{not_level}
+use Rattle.tp_kernel.specs.Read.{definitions_of}
+use Rattle.tp_scene.specs.Scene.{Entries, none, leaf, node}
+use Rattle.tp_slots.specs.Plain as plain
+use Rattle.tp_slots.specs.Plain.{Slots, slot_at, region_slot, second_of, in_order, of_what, region_entries, entries_at, AreIn, WhatFits, IsOrdered, IsLive}
+use Rattle.tp_slots.specs.Walk.{item_front}
+use Rattle.tp_slots.specs.Own.{own_ids, own_for, own_in, own_inside}
+use Rattle.tp_slots.specs.Shown.{AreShown}
+use Rattle.tp_slots.specs.Read.{slot_of, region_slot_of, slots_of, what_of, item_home}
+use Rattle.tp_slots.specs.declared.scene.Scene.{Scene}
+use Rattle.tp_slots.specs.declared.scene.Region.{Region}
+use Rattle.tp_slots.specs.declared.scene.Slot.{Slot}
+use Rattle.tp_slots.proofs.Walking.{stands_in_front, item_is, entries_are}
+use Rattle.tp_slots.proofs.WalkLemmas.{roots_are}
+use Rattle.tp_slots.proofs.Listing.{own_append, slot_is}
+use Rattle.tp_slots.proofs.Showing.{all_shown}
+use Rattle.tp_slots.proofs.Carried.{item_of_region}
+use Rattle.tp_residual.proofs.Conjunctions.{only_item}
+use Rattle.tp_residual.specs.Phrases.{enclosed}
+use Rattle.tp_residual.specs.Residual.{leaf_level, holder_level, entries_level, leaf_spelling, holder_spelling, entries_spelling, later_spelling}
+use Rattle.tp_residual.specs.Seen.{what_level, what_spelling, item_level_in, item_spelling, items_spelling, region_entries_of, region_spelling}
+use Rattle.tp_residual.specs.declared.scene.Residue.{Residue}
+
+in_order_own : (s : Slots) (ids : List ℕ) → own_ids (in_order (item_front s) ids none) ≡ own_in s ids
+in_order_own s [] = refl
+in_order_own s (t ∷ ts) =
+    ap own_ids (stands_in_front s (region_entries s (length s.regions)) (length s.slots) t (in_order (item_front s) ts none))
+    ∙ (own_append (item_front s t none) (in_order (item_front s) ts none) ∙ ap (λ ns. own_for s t ++ ns) (in_order_own s ts))
+
+live_own : (s : Slots) (t : ℕ) (w : plain.What) → IsLive w → own_ids (of_what s (entries_at s) (item_front s) t w none) ≡ t ∷ []
+live_own s t (plain.bare l) a = refl
+live_own s t (plain.holds k r q) a = refl
+live_own s t (plain.gone by) a = absurd a
+
+module _ (s : Scene) (sound : IsOrdered (slots_of s)) (t : ℕ) (x : Slot) (l : t < length s.slots.items) (is : x ≡ get_or s.slots.items t x) where
+  within : t < length (slots_of s).slots
+  within = let n = length-map s.slots.items slot_of in omega (arith, n, l)
+
+  -- what stands in a slot fits there
+  pub slot_fits : WhatFits (slots_of s) (item_home s t) t (what_of x.what)
+  slot_fits = subst (WhatFits (slots_of s) (item_home s t) t) (sym (slot_is s t x l is)) (sound.items t within).1
+
+  own_what : own_for (slots_of s) t ≡ own_ids (of_what (slots_of s) (entries_at (slots_of s)) (item_front (slots_of s)) t (what_of x.what) none)
+  own_what = ap own_ids (item_is (slots_of s) sound t none within) ∙ ap (λ w. own_ids (of_what (slots_of s) (entries_at (slots_of s)) (item_front (slots_of s)) t w none)) (sym (slot_is s t x l is))
+
+  -- an item that isn't gone stands for itself
+  pub live_written : (out new : List ℕ) → IsLive (what_of x.what) → new ≡ out ++ t ∷ [] → new ≡ out ++ own_for (slots_of s) t
+  live_written out new a e = e ∙ ap (λ ns. out ++ ns) (sym (own_what ∙ live_own (slots_of s) t (what_of x.what) a))
+
+  -- one that is gone for those that stand in its place
+  pub gone_own : (first count : ℕ) → what_of x.what ≡ plain.gone (range_with_len first count) → own_in (slots_of s) (range_with_len first count) ≡ own_for (slots_of s) t
+  gone_own first count e =
+      sym (own_what ∙ (ap (λ w. own_ids (of_what (slots_of s) (entries_at (slots_of s)) (item_front (slots_of s)) t w none)) e ∙ in_order_own (slots_of s) (range_with_len first count)))
+
+  in_range : (z : Slots) (low home first count i : ℕ) → AreIn z low home (range_with_len first count) → i < count → (low ≤ first + i) × (first + i < length z.slots)
+  in_range z low home first zero i a c = absurd (omega (arith, c))
+  in_range z low home first (suc n) zero a c = (let b = a.0 in omega (arith, b), let b = a.1 in omega (arith, b))
+  in_range z low home first (suc n) (suc i) a c = let b = in_range z low home (first + 1) n i a.3 (omega (arith, c)) in let d = b.0 in let e = b.1 in (omega (arith, d), omega (arith, e))
+
+  pub gone_item : (first count i : ℕ) → what_of x.what ≡ plain.gone (range_with_len first count) → i < count → (t < first + i) × (first + i < length s.slots.items)
+  gone_item first count i e c =
+      let n = length-map s.slots.items slot_of in
+      let a = in_range (slots_of s) (suc t) (item_home s t) first count i (subst (WhatFits (slots_of s) (item_home s t) t) e slot_fits) c in
+      let b = a.0 in
+      let d = a.1 in
+      (omega (arith, b), omega (arith, n, d))
+
+  -- a region that it holds is inside of its own
+  pub held_inside : (k : plain.What) → what_of x.what ≡ k → WhatFits (slots_of s) (item_home s t) t k
+  held_inside k e = subst (WhatFits (slots_of s) (item_home s t) t) e slot_fits
+
+-- one more of those that stand in the place of an item
+pub one_of_gone : (s : Slots) (first count i : ℕ) (out new begin : List ℕ) → i < count → out ++ own_in s (range_with_len (first + i) (count - i)) ≡ begin → new ≡ out ++ own_for s (first + i)
+    → new ++ own_in s (range_with_len (first + (i + 1)) (count - (i + 1))) ≡ begin
+one_of_gone s first count i out new begin l e f =
+    let n : count - i ≡ suc (count - (i + 1)) = omega (arith, l) in
+    let m : first + (i + 1) ≡ first + i + 1 = omega arith in
+    ap (λ ns. ns ++ own_in s (range_with_len (first + (i + 1)) (count - (i + 1)))) f
+    ∙ (append_assoc out (own_for s (first + i)) (own_in s (range_with_len (first + (i + 1)) (count - (i + 1))))
+    ∙ (ap (λ j. out ++ (own_for s (first + i) ++ own_in s (range_with_len j (count - (i + 1))))) m
+    ∙ (ap (λ j. out ++ own_in s (range_with_len (first + i) j)) (sym n) ∙ e)))
+
+-- the items that a region began with stand for its own
+pub roots_own : (s : Scene) (r : ℕ) (x : Region) → IsOrdered (slots_of s) → r < length s.regions.items → x ≡ get_or s.regions.items r x → (own_in (slots_of s) x.roots.items ≡ own_inside s r) × AreIn (slots_of s) 0 r x.roots.items
+roots_own s r x sound l e =
+    let z = slots_of s in
+    let n = length-map s.regions.items region_slot_of in
+    let within : r < length z.regions = omega (arith, n, l) in
+    let f = roots_are s r x l e in (
+      ap (own_in z) f ∙ sym (ap own_ids (entries_are z sound r within) ∙ in_order_own z (region_slot z r).roots),
+      subst (AreIn z 0 r) (sym f) (sound.regions r within),
+    )
+
+pub root_within : (s : Scene) (r i : ℕ) (ids : List ℕ) (t : ℕ) → AreIn (slots_of s) 0 r ids → i < length ids → t ≡ get_or ids i t → t < length s.slots.items
+root_within s r i ids t a l e = let n = length-map s.slots.items slot_of in let b = subst (λ u. u < length (slots_of s).slots) (sym e) (by_place i ids a l) in omega (arith, n, b)
+  where
+    by_place : (i : ℕ) (ids : List ℕ) → AreIn (slots_of s) 0 r ids → i < length ids → get_or ids i t < length (slots_of s).slots
+    by_place i [] a l = absurd (omega (arith, l))
+    by_place zero (u ∷ us) a l = a.1
+    by_place (suc i) (u ∷ us) a l = by_place i us a.3 (omega (arith, l))
+
+get_or_any : (xs : List ℕ) (i d e : ℕ) → i < length xs → get_or xs i d ≡ get_or xs i e
+get_or_any [] i d e l = absurd (omega (arith, l))
+get_or_any (x ∷ xs) zero d e l = refl
+get_or_any (x ∷ xs) (suc i) d e l = get_or_any xs i d e (omega (arith, l))
+
+-- items as they are read by their places
+pub root_item : (s : Scene) (r i : ℕ) (x : Region) (ids : List ℕ) → IsOrdered (slots_of s) → r < length s.regions.items → x ≡ get_or s.regions.items r x → ids ≡ x.roots.items → i < length ids → get_or ids i 0 < length s.slots.items
+root_item s r i x ids sound l e f n = root_within s r i ids (get_or ids i 0) (subst (AreIn (slots_of s) 0 r) (sym f) (roots_own s r x sound l e).1) n (get_or_any ids i 0 (get_or ids i 0) n)
+
+pub own_item : (s : Scene) (r i : ℕ) (ids : List ℕ) → IsOrdered (slots_of s) → r < length s.regions.items → ids ≡ own_inside s r → i < length ids → (get_or ids i 0 < length s.slots.items) × (item_home s (get_or ids i 0) ≡ r)
+own_item s r i ids sound l e n = item_of_region s r i ids (get_or ids i 0) sound l e n (get_or_any ids i 0 (get_or ids i 0) n)
+
+pub only_place : (ids : List ℕ) → 1 ≤ length ids → length ids < 2 → ids ≡ get_or ids 0 0 ∷ []
+only_place ids a b = only_item ids (get_or ids 0 0) a b (get_or_any ids 0 0 (get_or ids 0 0) (omega (arith, a)))
+
+pub no_place : (ids : List ℕ) → length ids < 1 → ids ≡ []
+no_place [] l = refl
+no_place (t ∷ ts) l = absurd (omega (arith, l))
+
+-- what was written is spelled in another way
+pub as_spelled : (out new a b : List ℕ) → a ≡ b → new ≡ out ++ a → new ≡ out ++ b
+as_spelled out new a b e f = f ∙ ap (λ text. out ++ text) e
+
+-- The entries of a region, by how many there are.
+shown : (s : Scene) (r : ℕ) → IsOrdered (slots_of s) → r < length s.regions.items → AreShown (slots_of s) r (region_entries_of s r)
+shown s r sound l = let n = length-map s.regions.items region_slot_of in all_shown (slots_of s) sound r (omega (arith, n, l))
+
+level_of_none : (es : Entries) → own_ids es ≡ [] → 0 ≡ entries_level es
+level_of_none none e = refl
+level_of_none (leaf id l rest) e = absurd (cc e)
+level_of_none (node id k h held g second rest) e = absurd (cc e)
+
+level_of_one : (s : Slots) (r t : ℕ) (es : Entries) → AreShown s r es → own_ids es ≡ t ∷ [] → what_level (slot_at s t).what ≡ entries_level es
+level_of_one s r t none a e = absurd (cc e)
+level_of_one s r t (leaf id l none) a e = let i : id ≡ t = cc e in ap (λ u. what_level (slot_at s u).what) (sym i) ∙ ap (λ (y : plain.Slot). what_level y.what) a.1
+level_of_one s r t (leaf id l (leaf id' l' rest)) a e = absurd (cc e)
+level_of_one s r t (leaf id l (node id' k h held g second rest)) a e = absurd (cc e)
+level_of_one s r t (node id k h held g second none) a e = let i : id ≡ t = cc e in ap (λ u. what_level (slot_at s u).what) (sym i) ∙ ap (λ (y : plain.Slot). what_level y.what) a.2
+level_of_one s r t (node id k h held g second (leaf id' l' rest)) a e = absurd (cc e)
+level_of_one s r t (node id k h held g second (node id' k' h' held' g' second' rest)) a e = absurd (cc e)
+
+level_of_several : (es : Entries) → 2 ≤ length (own_ids es) → 7 ≡ entries_level es
+level_of_several none e = absurd (omega (arith, e))
+level_of_several (leaf id l none) e = absurd (omega (arith, e))
+level_of_several (leaf id l (leaf id' l' rest)) e = refl
+level_of_several (leaf id l (node id' k h held g second rest)) e = refl
+level_of_several (node id k h held g second none) e = absurd (omega (arith, e))
+level_of_several (node id k h held g second (leaf id' l' rest)) e = refl
+level_of_several (node id k h held g second (node id' k' h' held' g' second' rest)) e = refl
+
+pub none_level : (s : Scene) (r : ℕ) (ids : List ℕ) → ids ≡ own_inside s r → ids ≡ [] → 0 ≡ entries_level (region_entries_of s r)
+none_level s r ids e f = level_of_none (region_entries_of s r) (sym e ∙ f)
+
+pub one_level : (s : Scene) (r t : ℕ) (ids : List ℕ) → IsOrdered (slots_of s) → r < length s.regions.items → ids ≡ own_inside s r → ids ≡ t ∷ [] → item_level_in s t ≡ entries_level (region_entries_of s r)
+one_level s r t ids sound l e f = level_of_one (slots_of s) r t (region_entries_of s r) (shown s r sound l) (sym e ∙ f)
+
+pub several_level : (s : Scene) (r : ℕ) (ids : List ℕ) → ids ≡ own_inside s r → 2 ≤ length ids → 7 ≡ entries_level (region_entries_of s r)
+several_level s r ids e l = level_of_several (region_entries_of s r) (subst (λ ns. 2 ≤ length ns) e l)
+
+module _ (x : Residue) where
+  abbrev seen : Slots
+  seen = slots_of x.scene.now
+
+  abbrev spelled : Entries → List ℕ
+  spelled es = entries_spelling x.store.now.variables (definitions_of x.defs.now) es
+
+  abbrev later : Entries → List ℕ
+  later es = later_spelling x.store.now.variables (definitions_of x.defs.now) es
+
+  text_of_none : (es : Entries) → own_ids es ≡ [] → spelled es ≡ codes "true"
+  text_of_none none e = refl
+  text_of_none (leaf id l rest) e = absurd (cc e)
+  text_of_none (node id k h held g second rest) e = absurd (cc e)
+
+  -- an entry is spelled as its item is
+  leaf_text : (r id : ℕ) (l : _) (rest : Entries) → AreShown seen r (leaf id l rest) → (item_level_in x.scene.now id ≡ leaf_level l) × (item_spelling x id ≡ leaf_spelling x.store.now.variables (definitions_of x.defs.now) l)
+  leaf_text r id l rest a = (
+    ap (λ (y : plain.Slot). what_level y.what) a.1,
+    ap (λ (y : plain.Slot). what_spelling x.store.now.variables (definitions_of x.defs.now) seen y.what) a.1,
+  )
+
+  node_text : (r id : ℕ) (k : _) (h : _) (held : Entries) (g : _) (second rest : Entries) → AreShown seen r (node id k h held g second rest)
+      → (item_level_in x.scene.now id ≡ holder_level k) × (item_spelling x id ≡ holder_spelling x.store.now.variables (definitions_of x.defs.now) k (entries_level held) (spelled held) (entries_level second) (spelled second))
+  node_text r id k h held g second rest a =
+      let b = a.4 in
+      let d = a.6 in (
+        ap (λ (y : plain.Slot). what_level y.what) a.2,
+        ap (λ (y : plain.Slot). what_spelling x.store.now.variables (definitions_of x.defs.now) seen y.what) a.2
+            ∙ sym (λ i. holder_spelling x.store.now.variables (definitions_of x.defs.now) k (entries_level (b i)) (spelled (b i)) (entries_level (d i)) (spelled (d i))),
+      )
+
+  text_of_one : (r t : ℕ) (es : Entries) → AreShown seen r es → own_ids es ≡ t ∷ [] → item_spelling x t ≡ spelled es
+  text_of_one r t none a e = absurd (cc e)
+  text_of_one r t (leaf id l none) a e = let i : id ≡ t = cc e in ap (item_spelling x) (sym i) ∙ ((leaf_text r id l none a).1 ∙ sym (append-nil _))
+  text_of_one r t (leaf id l (leaf id' l' rest)) a e = absurd (cc e)
+  text_of_one r t (leaf id l (node id' k h held g second rest)) a e = absurd (cc e)
+  text_of_one r t (node id k h held g second none) a e = let i : id ≡ t = cc e in ap (item_spelling x) (sym i) ∙ ((node_text r id k h held g second none a).1 ∙ sym (append-nil _))
+  text_of_one r t (node id k h held g second (leaf id' l' rest)) a e = absurd (cc e)
+  text_of_one r t (node id k h held g second (node id' k' h' held' g' second' rest)) a e = absurd (cc e)
+
+  text_of_later : (r : ℕ) (es : Entries) → AreShown seen r es → items_spelling x (codes " and ") (own_ids es) ≡ later es
+  text_of_later r none a = refl
+  text_of_later r (leaf id l rest) a = let b = leaf_text r id l rest a in let c = b.0 in let d = b.1 in let e = text_of_later r rest a.2 in (λ i. (codes " and " ++ enclosed not_level (c i) (d i)) ++ e i)
+  text_of_later r (node id k h held g second rest) a =
+      let b = node_text r id k h held g second rest a in let c = b.0 in let d = b.1 in let e = text_of_later r rest a.9 in (λ i. (codes " and " ++ enclosed not_level (c i) (d i)) ++ e i)
+
+  text_of_several : (r : ℕ) (es : Entries) → AreShown seen r es → 2 ≤ length (own_ids es) → items_spelling x [] (own_ids es) ≡ spelled es
+  text_of_several r none a n = absurd (omega (arith, n))
+  text_of_several r (leaf id l none) a n = absurd (omega (arith, n))
+  text_of_several r (leaf id l (leaf id' l' rest)) a n =
+      let b = leaf_text r id l (leaf id' l' rest) a in let c = b.0 in let d = b.1 in let e = text_of_later r (leaf id' l' rest) a.2 in (λ i. enclosed not_level (c i) (d i) ++ e i)
+  text_of_several r (leaf id l (node id' k h held g second rest)) a n =
+      let b = leaf_text r id l (node id' k h held g second rest) a in let c = b.0 in let d = b.1 in let e = text_of_later r (node id' k h held g second rest) a.2 in (λ i. enclosed not_level (c i) (d i) ++ e i)
+  text_of_several r (node id k h held g second none) a n = absurd (omega (arith, n))
+  text_of_several r (node id k h held g second (leaf id' l' rest)) a n =
+      let b = node_text r id k h held g second (leaf id' l' rest) a in let c = b.0 in let d = b.1 in let e = text_of_later r (leaf id' l' rest) a.9 in (λ i. enclosed not_level (c i) (d i) ++ e i)
+  text_of_several r (node id k h held g second (node id' k' h' held' g' second' rest)) a n =
+      let b = node_text r id k h held g second (node id' k' h' held' g' second' rest) a in let c = b.0 in let d = b.1 in let e = text_of_later r (node id' k' h' held' g' second' rest) a.9 in (λ i. enclosed not_level (c i) (d i) ++ e i)
+
+  pub none_written : (r : ℕ) (ids : List ℕ) → ids ≡ own_inside x.scene.now r → ids ≡ [] → region_spelling x r ≡ codes "true"
+  none_written r ids e f = text_of_none (region_entries_of x.scene.now r) (sym e ∙ f)
+
+  pub one_written : (r t : ℕ) (ids : List ℕ) → IsOrdered seen → r < length x.scene.now.regions.items → ids ≡ own_inside x.scene.now r → ids ≡ t ∷ [] → item_spelling x t ≡ region_spelling x r
+  one_written r t ids sound l e f = text_of_one r t (region_entries_of x.scene.now r) (shown x.scene.now r sound l) (sym e ∙ f)
+
+  pub several_written : (r : ℕ) (ids : List ℕ) → IsOrdered seen → r < length x.scene.now.regions.items → ids ≡ own_inside x.scene.now r → 2 ≤ length ids → items_spelling x [] ids ≡ region_spelling x r
+  several_written r ids sound l e n = ap (items_spelling x []) e ∙ text_of_several r (region_entries_of x.scene.now r) (shown x.scene.now r sound l) (subst (λ ns. 2 ≤ length ns) e n)

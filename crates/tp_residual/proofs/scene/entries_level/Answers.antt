@@ -1,0 +1,13 @@
+use Rattle.std.proofs.Common.{◌<◌, ◌∙◌, length, get_or, rules}
+use Rattle.tp_residual.proofs.Standing.{own_item, only_place, one_level}
+use Rattle.tp_residual.proofs.scene.entries_level.Goals as goal
+
+pub item_level-requires : goal.item_level-requires
+item_level-requires c =
+    let l : 0 < length c.args.items.now = search rules in
+    (own_item c.args.scene.now c.args.region 0 c.args.items.now c.requires.sound c.requires.region c.requires.items l).0
+
+pub returns-in-len1 : goal.returns-in-len1
+returns-in-len1 c =
+    let ids = c.args.items.now in
+    c.item_level.ensures ∙ one_level c.args.scene.now c.args.region (get_or ids 0 0) ids c.requires.sound c.requires.region c.requires.items (only_place ids c.in-len1.len_at_least c.in-len1.len_below)

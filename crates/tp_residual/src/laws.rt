@@ -1,0 +1,13 @@
+// Laws of residual phrases.
+ghost use Rattle.tp_residual.specs.Examples.{ResidualExamples};
+ghost use Rattle.tp_residual.specs.Laws.{NextScenesAreCarried};
+
+/// What is carried from a state to the next one has a residual phrase.
+pub fn next_scenes_are_carried()
+    ensures { NextScenesAreCarried }
+{}
+
+/// How the trace lines and the residual phrases of the examples are spelled.
+pub fn residual_examples()
+    ensures { ResidualExamples }
+{}

@@ -1,0 +1,12 @@
+//! The trace lines of a state: how many reductions it took, and what is still to hold from the next state on, as a phrase.
+#![tactic(auto)]
+
+mod expr;
+mod formula;
+mod laws;
+mod scene;
+mod trace;
+mod words;
+
+pub use laws::{next_scenes_are_carried, residual_examples};
+pub use trace::trace_text;
