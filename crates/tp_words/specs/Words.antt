@@ -31,7 +31,7 @@ is_text text (Some value) = bytes_eq value text
 
 -- `x ← o` goes on with what is there
 infixl 10 ◌>>=◌
-abbrev pub ◌>>=◌ : {A B : Type 0} → Option A → (A → Option B) → Option B
+abbrev ◌>>=◌ : {A B : Type 0} → Option A → (A → Option B) → Option B
 o >>= f = option_and_then f o
 
 -- What the matches of the words ask for, where each of them has the form that it must have.

@@ -1,5 +1,5 @@
 // What is done with the file.
-ghost use Rattle.std.specs.Prelude.{◌≡◌, option_map, codes};
+ghost use Rattle.std.specs.Prelude.{◌≡◌, option_map};
 ghost use Rattle.tp_words.specs.Mode.{mode_named, mode_given};
 
 /// What words ask to do with the source of the file.

@@ -1,5 +1,5 @@
 // The order in which a run takes its items.
-ghost use Rattle.std.specs.Prelude.{◌≡◌, option_map, codes};
+ghost use Rattle.std.specs.Prelude.{◌≡◌, option_map};
 ghost use Rattle.tp_words.specs.Order.{seed_spelled, order_named, order_set};
 
 use crate::numeral::is_numeral;
