@@ -1,5 +1,5 @@
 -- The parts of a call, put together: what it answers, and what it has written.
-use Rattle.std.proofs.Common.{◌≡◌, ◌+◌, ◌<◌, ◌^◌, inl, inr, ℕ, List, [], ◌∷◌, ◌++◌, length, take, true, All, Option, Some, Ok, Err, IsTrue, refl, sym, ap, subst}
+use Rattle.std.proofs.Common.{◌≡◌, ◌+◌, ◌<◌, ◌^◌, inl, inr, ℕ, List, [], ◌∷◌, ◌++◌, length, take, true, All, Option, Some, Ok, Err, IsTrue, refl, sym, ap, ◌∙◌, subst}
 use Rattle.std.proofs.Math.Seq.{take-append-add}
 use Rattle.std.proofs.lemmas.List.{append-nil}
 use Rattle.tp_io.specs.Devices.{Held}
@@ -14,7 +14,8 @@ use Rattle.tp_store.specs.Known.{Contents}
 use Rattle.std.proofs.lemmas.List.Elements.{All-push}
 use Rattle.tp_call.specs.declared.run.Ended.{Ended}
 use Rattle.tp_call.specs.declared.status.Status.{Status}
-use Rattle.tp_call.specs.declared.status.Status.TheVariants.{WriteFault, NoMemory}
+use Rattle.tp_call.specs.declared.status.Status.TheVariants.{Done, ReadFault, WriteFault, NoMemory}
+use Rattle.tp_call.specs.declared.status.Which.{Which}
 use Rattle.tp_show.specs.Line.{picture_lines, pictures_text}
 use Rattle.tp_show.specs.EndLine.{end_line}
 use Rattle.tp_show.specs.Told.{AreNames, IsPictureInRange, IsLastTurn}
@@ -24,9 +25,12 @@ use Rattle.tp_meaning.specs.Interval.{ProgramTree}
 use Rattle.tp_run.specs.States.{Plan, RunPlace}
 use Rattle.tp_call.specs.Run.{status_of, RunEnds, Settles}
 use Rattle.tp_call.specs.Progress.{Turned, is_settled, printed_lines, PartMade, HasWritten, ProgramMade, ClosesRun}
-use Rattle.tp_call.specs.Answer.{IsAskedFor, Refuses, RunsTo, run_text, CallEnds, Answers}
+use Rattle.tp_tree.specs.Tree.{SourceTree}
+use Rattle.tp_tree.specs.Spelling.{source_spelling}
+use Rattle.tp_call.specs.Spelling.{IsReadFromSpelling}
+use Rattle.tp_call.specs.Answer.{IsAskedFor, IsAskedToPrint, Spells, Refuses, RunsTo, run_text, CallEnds, Answers}
 use Rattle.tp_call.specs.Parts.{IsProgramRefusal, ClosesText}
-use Rattle.tp_call.proofs.TurnLemmas.{last_is_given, is_last}
+use Rattle.tp_call.proofs.TurnLemmas.{last_is_given, is_last, ends_run}
 use Rattle.tp_call.proofs.HeadlineLemmas.{end_says}
 use Rattle.tp_call.proofs.RunLemmas.{Wrote-both, Wrote-nothing, lines_more, advances}
 
@@ -203,11 +207,32 @@ module _ (words : List (List ℕ)) (held : Option Held) (plan : Plan) (fits : Pr
 -- a refusal, and its end line or a part of it
 module _ (words : List (List ℕ)) (held : Option Held) (old new : Option (List ℕ)) (status : Status) where
   refused_whole : (result : Status) → Refuses words held status → result ≡ status → Wrote old new (refusal_line status) → (text : List ℕ) × CallEnds words held result text × Wrote old new text
-  refused_whole result r is wrote = (refusal_line status, inr (subst (Refuses words held) (sym is) r, ap refusal_line (sym is)), wrote)
+  refused_whole result r is wrote = (refusal_line status, inr (inr (subst (Refuses words held) (sym is) r, ap refusal_line (sym is))), wrote)
 
   pub refused : (result : Status) → IsProgramRefusal words held status → (status ≡ NoMemory → result ≡ NoMemory) → ClosesText (refusal_line status) status old new result → Answers words held old new result
   refused NoMemory r memory c = ([], inl refl, rw c (Wrote-nothing old))
   refused WriteFault (inl none) memory c = let bad : WriteFault ≡ NoMemory = memory none in cc
-  refused WriteFault (inr r) memory c = (refusal_line status, inr (status, inr (r, refl)), c)
+  refused WriteFault (inr r) memory c = (refusal_line status, inr (status, inr (inr (r, refl))), c)
   refused result (inl none) memory c = let bad : result ≡ NoMemory = memory none in cc
   refused result (inr r) memory c = refused_whole result r c.0 c.1
+
+-- a source that is printed, and its spelling or a part of it
+module _ (words : List (List ℕ)) (held : Option Held) (tree : SourceTree) (asked : IsAskedToPrint words held tree) (back : IsReadFromSpelling tree) (old new : Option (List ℕ)) where
+  spells : (status : Status) → status ≡ Done → Spells words held status (source_spelling tree)
+  spells status is = record { tree = tree; asked = asked; status_is = is; written = refl; read_back = back }
+
+  spelled_whole : (result : Status) → result ≡ Done → Wrote old new (source_spelling tree) → (text : List ℕ) × CallEnds words held result text × Wrote old new text
+  spelled_whole result is wrote = (source_spelling tree, inr (inl (spells result is)), wrote)
+
+  pub spelled : (result : Status) → ClosesText (source_spelling tree) Done old new result → Answers words held old new result
+  spelled WriteFault c = (source_spelling tree, inr (Done, inr (inl (spells Done refl))), c)
+  spelled NoMemory c = ([], inl refl, rw c (Wrote-nothing old))
+  spelled result c = spelled_whole result c.0 c.1
+
+-- an end line is written of no failed read, unless the status is that
+pub closes_no_fault : (text : List ℕ) (status : Status) (old new : Option (List ℕ)) (result : Status) → ClosesText text status old new result → (which : Which) → result ≡ ReadFault which → status ≡ ReadFault which
+closes_no_fault text status old new result c which e = sym (subst (ClosesText text status old new) e c).0
+
+-- and a run doesn't end so
+pub run_no_fault : (reductions : ℕ) (end : Ended) (old new : Option (List ℕ)) (result : Status) → ClosesRun reductions end old new result → (which : Which) → result ≡ ReadFault which → ⊥
+run_no_fault reductions end old new result c which e = ends_run end.turn (ReadFault which) (c.1 ∙ ap Some (closes_no_fault _ c.0 old new result c.2 which e))

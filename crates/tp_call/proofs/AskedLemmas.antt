@@ -1,13 +1,15 @@
 -- The names that a call asks for.
-use Rattle.std.proofs.Common.{◌≡◌, ◌+◌, inl, inr, ℕ, List, [], ◌∷◌, ◌++◌, Option, None, Some, Result, Ok, Err, IfErr, refl, sym, ap, ◌∙◌, subst, append_assoc}
+use Rattle.std.proofs.Common.{◌≡◌, ◌+◌, inl, inr, ℕ, Bool, true, false, List, [], ◌∷◌, ◌++◌, Option, if◌then◌else◌, None, Some, Result, Ok, Err, IfErr, refl, sym, ap, ◌∙◌, subst, append_assoc}
 use Rattle.std.proofs.lemmas.List.{append-nil}
 use Rattle.tp_io.specs.Devices.{Held, and_one_more}
 use Rattle.tp_words.specs.Words.{Wanted, wanted_of}
+use Rattle.tp_words.specs.declared.mode.Mode.TheVariants.{Run}
+use Rattle.tp_call.specs.Usable.{usable_of, is_in_use, in_use, IsWordsRefusal}
 use Rattle.tp_call.specs.declared.status.Status.{Status}
 use Rattle.tp_call.specs.declared.status.Status.TheVariants.{ReadFault, NoMemory}
 use Rattle.tp_call.specs.declared.status.Which.{Which}
 use Rattle.tp_call.specs.declared.status.Which.TheVariants.{Source, Inputs}
-use Rattle.std.specs.Option.{option_map}
+use Rattle.std.specs.Option.{option_map, option_and_then}
 use Rattle.tp_call.specs.Reading.{AsksFile, AsksTable}
 use Rattle.tp_call.specs.Parts.{IsInputsEnd}
 use Rattle.tp_call.specs.Answer.{AsksOnly, place}
@@ -28,6 +30,10 @@ asks_none words old new failed same never = record {
   last = λ which f. absurd (never which f);
 }
 
+-- the same of another failure, which is one of these
+pub asks_as : (words : List (List ℕ)) (old new : Option (List (List ℕ))) (failed other : Which → Type 0) → AsksOnly words old new failed → ((which : Which) → other which → failed which) → AsksOnly words old new other
+asks_as words old new failed other a is = record { count = a.count; asked = a.asked; last = λ which o. a.last which (is which o) }
+
 first_place : (which : Which) → which ≡ Source → 1 ≡ place which + 1
 first_place Source e = refl
 first_place Inputs e = absurd (cc (e))
@@ -36,21 +42,40 @@ second_place : (which : Which) → which ≡ Inputs → 2 ≡ place which + 1
 second_place Source e = absurd (cc (e))
 second_place Inputs e = refl
 
-module _ (words : List (List ℕ)) (wanted : Wanted) (accepted : wanted_of words ≡ Some wanted) where
+-- words that ask for what a call does are accepted
+in_use_same : (wanted other : Wanted) (b : Bool) → (if b then Some wanted else None) ≡ Some other → wanted ≡ other
+in_use_same wanted other true e = cc
+in_use_same wanted other false e = absurd (cc)
+
+used : (asked : Option Wanted) (wanted : Wanted) → option_and_then in_use asked ≡ Some wanted → asked ≡ Some wanted
+used None wanted e = absurd (cc)
+used (Some other) wanted e = ap Some (in_use_same other wanted (is_in_use other.mode other.order other.trace) e)
+
+-- the words are refused, and no name was asked for
+pub words_asked : {T : Type 0} (words : List (List ℕ)) (old : Option (List (List ℕ))) (result : Result T Status) (status : Status) → result ≡ Err status → IsWordsRefusal words status → AsksOnly words old old (λ which. result ≡ Err (ReadFault which))
+words_asked words old result status is refused = asks_none words old old _ refl (λ which f. let both : Err status ≡ Err (ReadFault which) = sym is ∙ f in never refused which (cc)) where
+  never : IsWordsRefusal words status → (which : Which) → status ≡ ReadFault which → ⊥
+  never (inl memory) which e = cc
+  never (inr (refused, none)) which e = cc
+
+module _ (words : List (List ℕ)) (wanted : Wanted) (accepted : usable_of words ≡ Some wanted) where
+  is_wanted : wanted_of words ≡ Some wanted
+  is_wanted = used (wanted_of words) wanted accepted
+
   -- the name of the source alone
   pub asks_source : (old new : Option (List (List ℕ))) (failed : Which → Type 0) → new ≡ and_one_more old wanted.file → ((which : Which) → failed which → which ≡ Source) → AsksOnly words old new failed
   asks_source old new failed asked first = record {
     count = 1;
-    asked = rw accepted asked;
+    asked = rw is_wanted asked;
     last = λ which f. first_place which (first which f);
   }
 
-  -- and then the name of the inputs
-  pub asks_both : (name : List ℕ) (old mid new : Option (List (List ℕ))) (failed : Which → Type 0) → wanted.inputs ≡ Some name → mid ≡ and_one_more old wanted.file → new ≡ and_one_more mid name
+  -- and then, in a run, the name of the inputs
+  asks_both : (mode : wanted.mode ≡ Run) → (name : List ℕ) (old mid new : Option (List (List ℕ))) (failed : Which → Type 0) → wanted.inputs ≡ Some name → mid ≡ and_one_more old wanted.file → new ≡ and_one_more mid name
       → ((which : Which) → failed which → which ≡ Inputs) → AsksOnly words old new failed
-  asks_both name old mid new failed named one two second = record {
+  asks_both mode name old mid new failed named one two second = record {
     count = 2;
-    asked = rw (accepted, named) (two ∙ ap (λ m. and_one_more m name) one ∙ two_more old wanted.file name);
+    asked = rw (is_wanted, mode, named) (two ∙ ap (λ m. and_one_more m name) one ∙ two_more old wanted.file name);
     last = λ which f. second_place which (second which f);
   }
 
@@ -69,23 +94,23 @@ module _ (words : List (List ℕ)) (wanted : Wanted) (accepted : wanted_of words
   one_asked old mid result x ok (inl one) = one
   one_asked old mid result x ok (inr (memory, same)) = let bad : Ok x ≡ Err NoMemory = sym ok ∙ memory in cc
 
-  inputs_asked : {T : Type 0} (held : Option Held) (old mid new : Option (List (List ℕ))) (names : Option (List ℕ)) → wanted.inputs ≡ names → mid ≡ and_one_more old wanted.file → (table : Result T Status) → AsksTable mid names table new
+  inputs_asked : {T : Type 0} (mode : wanted.mode ≡ Run) (held : Option Held) (old mid new : Option (List (List ℕ))) (names : Option (List ℕ)) → wanted.inputs ≡ names → mid ≡ and_one_more old wanted.file → (table : Result T Status) → AsksTable mid names table new
       → IfErr table (IsInputsEnd held names) → (failed : Which → Type 0) → ((which : Which) → failed which → table ≡ Err (ReadFault which)) → ((which : Which) → table ≡ Err (ReadFault which) → which ≡ Inputs) → AsksOnly words old new failed
-  inputs_asked held old mid new None named one table asked refused failed is second =
+  inputs_asked mode held old mid new None named one table asked refused failed is second =
       asks_source old new failed (asked ∙ one) (λ which f. absurd (only_memory which (is which f)))
     where
       only_memory : (which : Which) → table ≡ Err (ReadFault which) → ⊥
       only_memory which e = let bad : ReadFault which ≡ NoMemory = subst (λ r. IfErr r (IsInputsEnd held None)) e refused in cc
-  inputs_asked held old mid new (Some name) named one table (inl two) refused failed is second = asks_both name old mid new failed named one two (λ which f. second which (is which f))
-  inputs_asked held old mid new (Some name) named one table (inr (memory, same)) refused failed is second =
+  inputs_asked mode held old mid new (Some name) named one table (inl two) refused failed is second = asks_both mode name old mid new failed named one two (λ which f. second which (is which f))
+  inputs_asked mode held old mid new (Some name) named one table (inr (memory, same)) refused failed is second =
       asks_source old new failed (same ∙ one) (λ which f. absurd (no_fault table which memory (is which f)))
 
   -- after the inputs: both names were asked for, or that of the source alone
-  pub table_asked : {T U : Type 0} (held : Option Held) (old mid new : Option (List (List ℕ))) (names : Option (List ℕ)) → wanted.inputs ≡ names → (source : Result U Status) (x : U) → source ≡ Ok x → AsksFile old wanted.file source mid
+  pub table_asked : {T U : Type 0} (mode : wanted.mode ≡ Run) (held : Option Held) (old mid new : Option (List (List ℕ))) (names : Option (List ℕ)) → wanted.inputs ≡ names → (source : Result U Status) (x : U) → source ≡ Ok x → AsksFile old wanted.file source mid
       → (table : Result T Status) → AsksTable mid names table new → IfErr table (IsInputsEnd held names) → (failed : Which → Type 0) → ((which : Which) → failed which → table ≡ Err (ReadFault which))
       → ((which : Which) → table ≡ Err (ReadFault which) → which ≡ Inputs) → AsksOnly words old new failed
-  table_asked held old mid new names named source x ok first table asked refused failed is second =
-      inputs_asked held old mid new names named (one_asked old mid source x ok first) table asked refused failed is second
+  table_asked mode held old mid new names named source x ok first table asked refused failed is second =
+      inputs_asked mode held old mid new names named (one_asked old mid source x ok first) table asked refused failed is second
 
 -- an error that is handed on
 pub same_error : {T U : Type 0} (result : Result T Status) (other : Result U Status) (status cause : Status) → result ≡ Err status → other ≡ Err status → other ≡ Err cause → result ≡ Err cause

@@ -9,9 +9,14 @@ use Rattle.tp_show.specs.declared.turn.Picture.{Picture}
 use Rattle.tp_show.specs.Told.{FitsIn64Bits, IsLastTurn}
 use Rattle.tp_run.specs.States.{Plan}
 use Rattle.tp_run.specs.History.{RunEndsWith, ContinuesEach}
-use Rattle.tp_words.specs.Words.{Wanted, wanted_of}
+use Rattle.tp_tree.specs.Tree.{SourceTree}
+use Rattle.tp_words.specs.declared.mode.Mode.{Mode}
+use Rattle.tp_words.specs.declared.mode.Mode.TheVariants.{Run, Print}
+use Rattle.tp_words.specs.Words.{Wanted}
+use Rattle.tp_call.specs.Source.{IsRefusedAt}
+use Rattle.tp_call.specs.Usable.{usable_of}
 use Rattle.tp_call.specs.declared.status.Status.{Status}
-use Rattle.tp_call.specs.declared.status.Status.TheVariants.{Finished, Contradictory, Undetermined, StateLimit, ReductionLimit, NumberLimit, ListLimit, CallLimit, NestLimit, InputMissing, SourceRefused, InputsRefused, WordsRefused, TooLong, ReadFault, WriteFault, NoMemory}
+use Rattle.tp_call.specs.declared.status.Status.TheVariants.{Finished, Done, Contradictory, Undetermined, StateLimit, ReductionLimit, NumberLimit, ListLimit, CallLimit, NestLimit, InputMissing, SourceRefused, InputsRefused, WordsRefused, TooLong, ReadFault, WriteFault, NoMemory}
 use Rattle.tp_call.specs.declared.status.Which.{Which}
 use Rattle.tp_call.specs.declared.status.Which.TheVariants.{Source, Inputs}
 use Rattle.tp_call.specs.declared.status.SourceKind.{SourceKind}
@@ -20,16 +25,16 @@ use Rattle.tp_call.specs.Parts.{refused_status}
 use Rattle.tp_call.specs.Written.{Wrote}
 use Rattle.tp_call.specs.Run.{EndSays}
 use Rattle.tp_call.specs.Text.{TextTells, SatisfiedAsTold, ContinuesTold, finished_line}
-use Rattle.tp_call.specs.Answer.{Sourced, Supplied, IsAskedFor, HasInputs, HoldsTable, HoldsProgram, HoldsRefused, IsLongSource, IsLongTable, HasBadLine, IsTold, IsSupplied, Refuses, RunsTo, CallEnds, Answers, Prints, IsOrStopped, IsOrFailed, IsEndOfRun, IsOpenEnd, HasFailed}
+use Rattle.tp_call.specs.Answer.{Sourced, Supplied, IsAskedFor, HasInputs, HoldsTable, HoldsProgram, HoldsSource, HoldsRefused, IsToPrint, Spells, WritesSpelling, IsLongSource, IsLongTable, HasBadLine, IsTold, IsSupplied, Refuses, RunsTo, CallEnds, Answers, Prints, IsOrStopped, IsOrFailed, IsEndOfRun, IsOpenEnd, HasFailed}
 use Rattle.tp_call.specs.Headline.{HoldsTooLong}
-use Rattle.tp_call.proofs.ProgramLemmas.{program_or_refused, refused_once}
+use Rattle.tp_call.proofs.ProgramLemmas.{program_or_refused, source_or_outside, refused_once}
 use Rattle.tp_call.proofs.TurnLemmas.{answer_of, answer_is, ends_run}
 use Rattle.tp_call.proofs.TextLemmas.{tells_finished, tells_open}
 
 module _ (words : List (List ℕ)) (held : Option Held) (old new : Option (List ℕ)) where
-  -- an answer with an end line is that of a run, or a refusal
-  run_alone : (status : Status) → (Refuses words held status → ⊥) → (text : List ℕ) × CallEnds words held status text × Wrote old new text → Prints words held old new status (λ p printed. EndSays p printed (answer_of status))
-  run_alone status never (text, inl run, wrote) = record {
+  -- an answer that is no failure is that of a run, of a source that is printed, or a refusal
+  run_alone : (status : Status) → (Refuses words held status → ⊥) → IsEndOfRun status → (text : List ℕ) × CallEnds words held status text × Wrote old new text → Prints words held old new status (λ p printed. EndSays p printed (answer_of status))
+  run_alone status never end (text, inl run, wrote) = record {
     plan = run.plan;
     pictures = run.pictures;
     asked = run.asked;
@@ -41,47 +46,58 @@ module _ (words : List (List ℕ)) (held : Option Held) (old new : Option (List 
     range = run.range;
     says = subst (EndSays run.plan run.pictures) (answer_is run.run.answer status run.run.status_is) run.says;
   }
-  run_alone status never (text, inr refused, wrote) = absurd (never refused.0)
+  run_alone status never end (text, inr (inl spelled), wrote) = absurd (subst IsEndOfRun spelled.status_is end)
+  run_alone status never end (text, inr (inr refused), wrote) = absurd (never refused.0)
 
   -- no run ends with such a status, which is then a refusal's
-  refusal_alone : (status : Status) → (IsEndOfRun status → ⊥) → (text : List ℕ) × CallEnds words held status text × Wrote old new text → Refuses words held status
-  refusal_alone status never (text, inl run, wrote) = absurd (never (ends_run run.run.answer status run.run.status_is))
-  refusal_alone status never (text, inr refused, wrote) = refused.0
+  refusal_alone : (status : Status) → (IsEndOfRun status → ⊥) → (status ≡ Done → ⊥) → (text : List ℕ) × CallEnds words held status text × Wrote old new text → Refuses words held status
+  refusal_alone status never other (text, inl run, wrote) = absurd (never (ends_run run.run.answer status run.run.status_is))
+  refusal_alone status never other (text, inr (inl spelled), wrote) = absurd (other spelled.status_is)
+  refusal_alone status never other (text, inr (inr refused), wrote) = refused.0
+
+  -- no run ends so, and no refusal does
+  spelling_alone : (text : List ℕ) × CallEnds words held Done text × Wrote old new text → WritesSpelling words held old new
+  spelling_alone (text, inl run, wrote) = absurd (ends_run run.run.answer Done run.run.status_is)
+  spelling_alone (text, inr (inl spelled), wrote) = record { tree = spelled.tree; asked = spelled.asked; appended = subst (Wrote old new) spelled.written wrote; read_back = spelled.read_back }
+  spelling_alone (text, inr (inr refused), wrote) = absurd refused.0
+
+  pub printed : (result : Status) → Answers words held old new result → result ≡ Done → WritesSpelling words held old new
+  printed result a is = spelling_alone (subst (Answers words held old new) is a)
 
   pub finished : (result : Status) → Answers words held old new result → (length : ℕ) → result ≡ Finished length → Prints words held old new (Finished length) (λ p printed. EndSays p printed (answer_of (Finished length)))
-  finished result a n is = run_alone (Finished n) (λ r. r) (subst (Answers words held old new) is a)
+  finished result a n is = run_alone (Finished n) (λ r. r) tt (subst (Answers words held old new) is a)
 
   pub contradictory : (result : Status) → Answers words held old new result → (state : ℕ) (clash : Clash) → result ≡ Contradictory state clash → Prints words held old new (Contradictory state clash) (λ p printed. EndSays p printed (answer_of (Contradictory state clash)))
-  contradictory result a state clash is = run_alone (Contradictory state clash) (λ r. r) (subst (Answers words held old new) is a)
+  contradictory result a state clash is = run_alone (Contradictory state clash) (λ r. r) tt (subst (Answers words held old new) is a)
 
   pub undetermined : (result : Status) → Answers words held old new result → (state : ℕ) (cell : Cell) → result ≡ Undetermined state cell → Prints words held old new (Undetermined state cell) (λ p printed. EndSays p printed (answer_of (Undetermined state cell)))
-  undetermined result a state cell is = run_alone (Undetermined state cell) (λ r. r) (subst (Answers words held old new) is a)
+  undetermined result a state cell is = run_alone (Undetermined state cell) (λ r. r) tt (subst (Answers words held old new) is a)
 
   -- as many states were printed as there may be
   pub state_limit : (result : Status) → Answers words held old new result → (states : ℕ) → result ≡ StateLimit states
       → Prints words held old new (StateLimit states) (λ p printed. ContinuesEach p printed × (states ≡ length printed) × (states ≡ p.states))
   state_limit result a states is =
-      let p = run_alone (StateLimit states) (λ r. r) (subst (Answers words held old new) is a) in
+      let p = run_alone (StateLimit states) (λ r. r) tt (subst (Answers words held old new) is a) in
       let run = subst (RunEndsWith p.plan p.pictures) (answer_is p.run.answer (StateLimit states) p.run.status_is) p.run.run in
       record { plan = p.plan; pictures = p.pictures; asked = p.asked; run = p.run; appended = p.appended; fits = p.fits; names = p.names; states = p.states; range = p.range; says = (p.says, run.2, run.3) }
 
   pub reduction_limit : (result : Status) → Answers words held old new result → (state : ℕ) → result ≡ ReductionLimit state → Prints words held old new (ReductionLimit state) (λ p printed. EndSays p printed (answer_of (ReductionLimit state)))
-  reduction_limit result a state is = run_alone (ReductionLimit state) (λ r. r) (subst (Answers words held old new) is a)
+  reduction_limit result a state is = run_alone (ReductionLimit state) (λ r. r) tt (subst (Answers words held old new) is a)
 
   pub number_limit : (result : Status) → Answers words held old new result → (state : ℕ) → result ≡ NumberLimit state → Prints words held old new (NumberLimit state) (λ p printed. EndSays p printed (answer_of (NumberLimit state)))
-  number_limit result a state is = run_alone (NumberLimit state) (λ r. r) (subst (Answers words held old new) is a)
+  number_limit result a state is = run_alone (NumberLimit state) (λ r. r) tt (subst (Answers words held old new) is a)
 
   pub list_limit : (result : Status) → Answers words held old new result → (state : ℕ) → result ≡ ListLimit state → Prints words held old new (ListLimit state) (λ p printed. EndSays p printed (answer_of (ListLimit state)))
-  list_limit result a state is = run_alone (ListLimit state) (λ r. r) (subst (Answers words held old new) is a)
+  list_limit result a state is = run_alone (ListLimit state) (λ r. r) tt (subst (Answers words held old new) is a)
 
   pub call_limit : (result : Status) → Answers words held old new result → (state : ℕ) → result ≡ CallLimit state → Prints words held old new (CallLimit state) (λ p printed. EndSays p printed (answer_of (CallLimit state)))
-  call_limit result a state is = run_alone (CallLimit state) (λ r. r) (subst (Answers words held old new) is a)
+  call_limit result a state is = run_alone (CallLimit state) (λ r. r) tt (subst (Answers words held old new) is a)
 
   pub nest_limit : (result : Status) → Answers words held old new result → (state : ℕ) → result ≡ NestLimit state → Prints words held old new (NestLimit state) (λ p printed. EndSays p printed (answer_of (NestLimit state)))
-  nest_limit result a state is = run_alone (NestLimit state) (λ r. r) (subst (Answers words held old new) is a)
+  nest_limit result a state is = run_alone (NestLimit state) (λ r. r) tt (subst (Answers words held old new) is a)
 
   pub input_missing : (result : Status) → Answers words held old new result → (state : ℕ) (port : List ℕ) → result ≡ InputMissing state port → Prints words held old new (InputMissing state port) (λ p printed. EndSays p printed (answer_of (InputMissing state port)))
-  input_missing result a state port is = run_alone (InputMissing state port) (λ r. r) (subst (Answers words held old new) is a)
+  input_missing result a state port is = run_alone (InputMissing state port) (λ r. r) tt (subst (Answers words held old new) is a)
 
   -- the same for whoever has the text alone
   pub finished_text : (result : Status) → Answers words held old new result → (length : ℕ) → result ≡ Finished length
@@ -101,16 +117,17 @@ module _ (words : List (List ℕ)) (held : Option Held) (old new : Option (List 
       tells_open words held old new status _ p p.fits (subst IsLastTurn (sym answer) last) (says p.plan p.pictures p.says)
 
   pub open_text : (result : Status) → Answers words held old new result → IsOpenEnd result → TextTells words held old new (λ plan told last. ContinuesTold plan told)
-  open_text (Undetermined state cell) a o = open_by (Undetermined state cell) (run_alone (Undetermined state cell) (λ r. r) a) tt (λ plan printed h. h)
-  open_text (StateLimit states) a o = open_by (StateLimit states) (run_alone (StateLimit states) (λ r. r) a) tt (λ plan printed h. h)
-  open_text (ReductionLimit state) a o = open_by (ReductionLimit state) (run_alone (ReductionLimit state) (λ r. r) a) tt (λ plan printed h. h)
-  open_text (NumberLimit state) a o = open_by (NumberLimit state) (run_alone (NumberLimit state) (λ r. r) a) tt (λ plan printed h. h)
-  open_text (ListLimit state) a o = open_by (ListLimit state) (run_alone (ListLimit state) (λ r. r) a) tt (λ plan printed h. h)
-  open_text (CallLimit state) a o = open_by (CallLimit state) (run_alone (CallLimit state) (λ r. r) a) tt (λ plan printed h. h)
-  open_text (NestLimit state) a o = open_by (NestLimit state) (run_alone (NestLimit state) (λ r. r) a) tt (λ plan printed h. h)
+  open_text (Undetermined state cell) a o = open_by (Undetermined state cell) (run_alone (Undetermined state cell) (λ r. r) tt a) tt (λ plan printed h. h)
+  open_text (StateLimit states) a o = open_by (StateLimit states) (run_alone (StateLimit states) (λ r. r) tt a) tt (λ plan printed h. h)
+  open_text (ReductionLimit state) a o = open_by (ReductionLimit state) (run_alone (ReductionLimit state) (λ r. r) tt a) tt (λ plan printed h. h)
+  open_text (NumberLimit state) a o = open_by (NumberLimit state) (run_alone (NumberLimit state) (λ r. r) tt a) tt (λ plan printed h. h)
+  open_text (ListLimit state) a o = open_by (ListLimit state) (run_alone (ListLimit state) (λ r. r) tt a) tt (λ plan printed h. h)
+  open_text (CallLimit state) a o = open_by (CallLimit state) (run_alone (CallLimit state) (λ r. r) tt a) tt (λ plan printed h. h)
+  open_text (NestLimit state) a o = open_by (NestLimit state) (run_alone (NestLimit state) (λ r. r) tt a) tt (λ plan printed h. h)
   open_text (Finished length) a o = absurd o
   open_text (Contradictory state clash) a o = absurd o
   open_text (InputMissing state port) a o = absurd o
+  open_text Done a o = absurd o
   open_text (SourceRefused line column kind) a o = absurd o
   open_text (InputsRefused line) a o = absurd o
   open_text WordsRefused a o = absurd o
@@ -119,28 +136,30 @@ module _ (words : List (List ℕ)) (held : Option Held) (old new : Option (List 
   open_text WriteFault a o = absurd o
   open_text NoMemory a o = absurd o
 
-  pub words_refused_only : (result : Status) → Answers words held old new result → result ≡ WordsRefused → wanted_of words ≡ None
-  words_refused_only result a is = refusal_alone WordsRefused (λ e. e) (subst (Answers words held old new) is a)
+  pub words_refused_only : (result : Status) → Answers words held old new result → result ≡ WordsRefused → usable_of words ≡ None
+  words_refused_only result a is = refusal_alone WordsRefused (λ e. e) (λ e. cc) (subst (Answers words held old new) is a)
 
   pub too_long_only : (result : Status) → Answers words held old new result → (which : Which) → result ≡ TooLong which → HoldsTooLong words held result which
-  too_long_only result a Source is = refusal_alone (TooLong Source) (λ e. e) (subst (Answers words held old new) is a)
-  too_long_only result a Inputs is = refusal_alone (TooLong Inputs) (λ e. e) (subst (Answers words held old new) is a)
+  too_long_only result a Source is = refusal_alone (TooLong Source) (λ e. e) (λ e. cc) (subst (Answers words held old new) is a)
+  too_long_only result a Inputs is = refusal_alone (TooLong Inputs) (λ e. e) (λ e. cc) (subst (Answers words held old new) is a)
 
   pub source_refused_only : (result : Status) → Answers words held old new result → (line column : ℕ) (kind : SourceKind) → result ≡ SourceRefused line column kind → Sourced words held (HoldsRefused (record { line = line; column = column; kind = kind }))
-  source_refused_only result a line column kind is = refusal_alone (SourceRefused line column kind) (λ e. e) (subst (Answers words held old new) is a)
+  source_refused_only result a line column kind is = refusal_alone (SourceRefused line column kind) (λ e. e) (λ e. cc) (subst (Answers words held old new) is a)
 
   pub inputs_refused_only : (result : Status) → Answers words held old new result → (line : ℕ) → result ≡ InputsRefused line → Supplied words held (HasBadLine line)
-  inputs_refused_only result a line is = refusal_alone (InputsRefused line) (λ e. e) (subst (Answers words held old new) is a)
+  inputs_refused_only result a line is = refusal_alone (InputsRefused line) (λ e. e) (λ e. cc) (subst (Answers words held old new) is a)
 
-  -- what an answer is that of: a run, a refusal, a failed write or want of memory
+  -- what an answer is that of: a run, a source that is printed, a refusal, a failed write or want of memory
   pub data View (result : Status) : Type 0 where
     ran : IsEndOfRun result → (text : List ℕ) → RunsTo words held result text → View result
+    spelled : (text : List ℕ) → Spells words held result text → View result
     refused : Refuses words held result → View result
     failed : (result ≡ WriteFault) ⊎ (result ≡ NoMemory) → View result
 
   of_end : (result : Status) → (text : List ℕ) × CallEnds words held result text × Wrote old new text → View result
   of_end result (text, inl run, wrote) = ran (ends_run run.run.answer result run.run.status_is) text run
-  of_end result (text, inr refusal, wrote) = refused refusal.0
+  of_end result (text, inr (inl spelling), wrote) = spelled text spelling
+  of_end result (text, inr (inr refusal), wrote) = refused refusal.0
 
   pub view : (result : Status) → Answers words held old new result → View result
   view WriteFault a = failed (inl refl)
@@ -148,14 +167,14 @@ module _ (words : List (List ℕ)) (held : Option Held) (old new : Option (List 
   view result a = of_end result a
 
   -- the words of two who accept them ask for the same
-  same_wanted : (w v : Wanted) → wanted_of words ≡ Some w → wanted_of words ≡ Some v → w ≡ v
+  same_wanted : (w v : Wanted) → usable_of words ≡ Some w → usable_of words ≡ Some v → w ≡ v
   same_wanted w v p q = let both : Some w ≡ Some v = sym p ∙ q in cc
 
-  accepted_never : (w : Wanted) (T : Type 0) → wanted_of words ≡ Some w → wanted_of words ≡ None → T
+  accepted_never : (w : Wanted) (T : Type 0) → usable_of words ≡ Some w → usable_of words ≡ None → T
   accepted_never w T p q = let bad : Some w ≡ None = sym p ∙ q in absurd (cc)
 
   -- a refusal other than that of the words is one of accepted words
-  refused_words : (result : Status) → Refuses words held result → (result ≡ WordsRefused) ⊎ ((w : Wanted) × (wanted_of words ≡ Some w))
+  refused_words : (result : Status) → Refuses words held result → (result ≡ WordsRefused) ⊎ ((w : Wanted) × (usable_of words ≡ Some w))
   refused_words (SourceRefused line column kind) r = inr (r.wanted, r.accepted)
   refused_words (InputsRefused line) r = inr (r.wanted, r.accepted)
   refused_words WordsRefused r = inl refl
@@ -164,6 +183,7 @@ module _ (words : List (List ℕ)) (held : Option Held) (old new : Option (List 
   refused_words (ReadFault Source) r = inr (r.wanted, r.accepted)
   refused_words (ReadFault Inputs) r = inr (r.wanted, r.accepted)
   refused_words (Finished length) r = absurd r
+  refused_words Done r = absurd r
   refused_words (Contradictory state clash) r = absurd r
   refused_words (Undetermined state cell) r = absurd r
   refused_words (StateLimit states) r = absurd r
@@ -177,66 +197,84 @@ module _ (words : List (List ℕ)) (held : Option Held) (old new : Option (List 
   refused_words NoMemory r = absurd r
 
   -- words that are not accepted
-  pub words_refused : (result : Status) → Answers words held old new result → wanted_of words ≡ None → IsOrStopped WordsRefused result
+  pub words_refused : (result : Status) → Answers words held old new result → usable_of words ≡ None → IsOrStopped WordsRefused result
   words_refused result a none = by (view result a) where
     by : View result → IsOrStopped WordsRefused result
     by (ran end text run) = accepted_never run.asked.wanted _ run.asked.accepted none
+    by (spelled text s) = accepted_never s.asked.wanted _ s.asked.accepted none
     by (refused r) = elim (refused_words result r) [ inl e ↦ inl e | inr w ↦ accepted_never w.0 _ w.1 none ]
     by (failed f) = inr f
 
   -- the files tell what they hold: the source that the words name has Q
-  module _ (files : Held) (told : held ≡ Some files) (wanted : Wanted) (accepted : wanted_of words ≡ Some wanted) where
+  module _ (files : Held) (told : held ≡ Some files) (wanted : Wanted) (accepted : usable_of words ≡ Some wanted) where
     abbrev source : List ℕ
     source = bytes_of files wanted.file
 
-    program_there : (w : Wanted) (program : ProgramTree) → wanted_of words ≡ Some w → ((f : Held) → held ≡ Some f → HoldsProgram program (bytes_of f w.file)) → HoldsProgram program source
-    program_there w program p h = subst (λ (v : Wanted). HoldsProgram program (bytes_of files v.file)) (same_wanted w wanted p accepted) (h files told)
+    -- what another says of accepted words, in this mode, it says of these
+    mode_there : (w : Wanted) (mode : Mode) → usable_of words ≡ Some w → w.mode ≡ mode → wanted.mode ≡ mode
+    mode_there w mode p m = subst (λ (v : Wanted). v.mode ≡ mode) (same_wanted w wanted p accepted) m
 
-    run_there : (result : Status) (text : List ℕ) → RunsTo words held result text → (program : ProgramTree) × HoldsProgram program source
-    run_there result text run = (run.plan.program, program_there run.asked.wanted run.plan.program run.asked.accepted run.asked.source)
+    held_there : (w : Wanted) (P : Mode → List ℕ → Type 0) → usable_of words ≡ Some w → ((f : Held) → held ≡ Some f → P w.mode (bytes_of f w.file)) → P wanted.mode source
+    held_there w P p h = subst (λ (v : Wanted). P v.mode (bytes_of files v.file)) (same_wanted w wanted p accepted) (h files told)
 
-    sourced_there : (P : List ℕ → Type 0) → Sourced words held P → P source
-    sourced_there P s = subst (λ (v : Wanted). P (bytes_of files v.file)) (same_wanted s.wanted wanted s.accepted accepted) (s.source files told)
+    program_there : (w : Wanted) (program : ProgramTree) → usable_of words ≡ Some w → ((f : Held) → held ≡ Some f → HoldsProgram program (bytes_of f w.file)) → HoldsProgram program source
+    program_there w program p h = held_there w (λ mode. HoldsProgram program) p h
 
-    supplied_source : (P : List ℕ → Type 0) → Supplied words held P → (program : ProgramTree) × HoldsProgram program source
-    supplied_source P s = (s.program, program_there s.wanted s.program s.accepted s.source)
+    run_there : (result : Status) (text : List ℕ) → RunsTo words held result text → (wanted.mode ≡ Run) × ((program : ProgramTree) × HoldsProgram program source)
+    run_there result text run = (mode_there run.asked.wanted Run run.asked.accepted run.asked.mode, (run.plan.program, program_there run.asked.wanted run.plan.program run.asked.accepted run.asked.source))
 
-    -- what the answer is where the source has Q: it is none of a run's, if no program has it
-    by_source : (result answer : Status) → View result → (Q : List ℕ → Type 0) → Q source → ((program : ProgramTree) → HoldsProgram program source → ⊥)
-        → ((line column : ℕ) (kind : SourceKind) → result ≡ SourceRefused line column kind → HoldsRefused (record { line = line; column = column; kind = kind }) source → IsOrFailed answer result)
-        → (result ≡ TooLong Source → IsLongSource source → IsOrFailed answer result) → IsOrFailed answer result
-    by_source result answer (ran end text run) Q q never refusal long = let p = run_there result text run in absurd (never p.0 p.1)
-    by_source result answer (failed f) Q q never refusal long = inr (inr f)
-    by_source (SourceRefused line column kind) answer (refused r) Q q never refusal long = refusal line column kind refl (sourced_there _ r)
-    by_source (InputsRefused line) answer (refused r) Q q never refusal long = let p = supplied_source _ r in absurd (never p.0 p.1)
-    by_source WordsRefused answer (refused r) Q q never refusal long = accepted_never wanted _ accepted r
-    by_source (TooLong Source) answer (refused r) Q q never refusal long = long refl (sourced_there _ r)
-    by_source (TooLong Inputs) answer (refused r) Q q never refusal long = let p = supplied_source _ r in absurd (never p.0 p.1)
-    by_source (ReadFault which) answer (refused r) Q q never refusal long = inr (inl (which, refl))
-    by_source (Finished length) answer (refused r) Q q never refusal long = absurd r
-    by_source (Contradictory state clash) answer (refused r) Q q never refusal long = absurd r
-    by_source (Undetermined state cell) answer (refused r) Q q never refusal long = absurd r
-    by_source (StateLimit states) answer (refused r) Q q never refusal long = absurd r
-    by_source (ReductionLimit state) answer (refused r) Q q never refusal long = absurd r
-    by_source (NumberLimit state) answer (refused r) Q q never refusal long = absurd r
-    by_source (ListLimit state) answer (refused r) Q q never refusal long = absurd r
-    by_source (CallLimit state) answer (refused r) Q q never refusal long = absurd r
-    by_source (NestLimit state) answer (refused r) Q q never refusal long = absurd r
-    by_source (InputMissing state port) answer (refused r) Q q never refusal long = absurd r
-    by_source WriteFault answer (refused r) Q q never refusal long = absurd r
-    by_source NoMemory answer (refused r) Q q never refusal long = absurd r
+    spelled_there : (result : Status) (text : List ℕ) → Spells words held result text → (wanted.mode ≡ Print) × ((tree : SourceTree) × HoldsSource tree source)
+    spelled_there result text s = (mode_there s.asked.wanted Print s.asked.accepted s.asked.mode, (s.tree, held_there s.asked.wanted (λ mode. HoldsSource s.tree) s.asked.accepted s.asked.source))
 
-    -- and where it is this program
-    module _ (program : ProgramTree) (is : HoldsProgram program source) where
-      not_refused : (refusal : Refused) → HoldsRefused refusal source → ⊥
-      not_refused refusal h = program_or_refused source program refusal is.1 h.1
+    sourced_there : (P : Mode → List ℕ → Type 0) → Sourced words held P → P wanted.mode source
+    sourced_there P s = held_there s.wanted P s.accepted s.source
 
-      not_long : IsLongSource source → ⊥
+    supplied_source : (P : List ℕ → Type 0) → Supplied words held P → (wanted.mode ≡ Run) × ((program : ProgramTree) × HoldsProgram program source)
+    supplied_source P s = (mode_there s.wanted Run s.accepted s.mode, (s.program, program_there s.wanted s.program s.accepted s.source))
+
+    -- what the answer is by the source alone: in no run is it a program, and it isn't printed unless it is this answer
+    by_source : (result answer : Status) → View result → (wanted.mode ≡ Run → (program : ProgramTree) → HoldsProgram program source → ⊥)
+        → (wanted.mode ≡ Print → (tree : SourceTree) → HoldsSource tree source → result ≡ Done → IsOrFailed answer result)
+        → ((line column : ℕ) (kind : SourceKind) → result ≡ SourceRefused line column kind → HoldsRefused (record { line = line; column = column; kind = kind }) wanted.mode source → IsOrFailed answer result)
+        → (result ≡ TooLong Source → IsLongSource wanted.mode source → IsOrFailed answer result) → IsOrFailed answer result
+    by_source result answer (ran end text run) never print refusal long = let p = run_there result text run in absurd (never p.0 p.1.0 p.1.1)
+    by_source result answer (spelled text s) never print refusal long = let p = spelled_there result text s in print p.0 p.1.0 p.1.1 s.status_is
+    by_source result answer (failed f) never print refusal long = inr (inr f)
+    by_source (SourceRefused line column kind) answer (refused r) never print refusal long = refusal line column kind refl (sourced_there _ r)
+    by_source (InputsRefused line) answer (refused r) never print refusal long = let p = supplied_source _ r in absurd (never p.0 p.1.0 p.1.1)
+    by_source WordsRefused answer (refused r) never print refusal long = accepted_never wanted _ accepted r
+    by_source (TooLong Source) answer (refused r) never print refusal long = long refl (sourced_there _ r)
+    by_source (TooLong Inputs) answer (refused r) never print refusal long = let p = supplied_source _ r in absurd (never p.0 p.1.0 p.1.1)
+    by_source (ReadFault which) answer (refused r) never print refusal long = inr (inl (which, refl))
+    by_source (Finished length) answer (refused r) never print refusal long = absurd r
+    by_source Done answer (refused r) never print refusal long = absurd r
+    by_source (Contradictory state clash) answer (refused r) never print refusal long = absurd r
+    by_source (Undetermined state cell) answer (refused r) never print refusal long = absurd r
+    by_source (StateLimit states) answer (refused r) never print refusal long = absurd r
+    by_source (ReductionLimit state) answer (refused r) never print refusal long = absurd r
+    by_source (NumberLimit state) answer (refused r) never print refusal long = absurd r
+    by_source (ListLimit state) answer (refused r) never print refusal long = absurd r
+    by_source (CallLimit state) answer (refused r) never print refusal long = absurd r
+    by_source (NestLimit state) answer (refused r) never print refusal long = absurd r
+    by_source (InputMissing state port) answer (refused r) never print refusal long = absurd r
+    by_source WriteFault answer (refused r) never print refusal long = absurd r
+    by_source NoMemory answer (refused r) never print refusal long = absurd r
+
+    -- and where a run is asked for, and it is this program
+    module _ (mode : wanted.mode ≡ Run) (program : ProgramTree) (is : HoldsProgram program source) where
+      not_refused : (refusal : Refused) → HoldsRefused refusal wanted.mode source → ⊥
+      not_refused refusal h = program_or_refused source program refusal is.1 (subst (λ (m : Mode). IsRefusedAt m source refusal) mode h.1)
+
+      not_long : IsLongSource wanted.mode source → ⊥
       not_long h = omega (arith, is.0, h)
+
+      not_printed : (result : Status) (text : List ℕ) → Spells words held result text → ⊥
+      not_printed result text s = let e : Run ≡ Print = sym mode ∙ (spelled_there result text s).0 in cc
 
       by_program : (result : Status) (T : Type 0) → View result → (IsEndOfRun result → (text : List ℕ) → RunsTo words held result text → T) → ((line : ℕ) → result ≡ InputsRefused line → Supplied words held (HasBadLine line) → T)
           → (result ≡ TooLong Inputs → Supplied words held IsLongTable → T) → (HasFailed result → T) → T
       by_program result T (ran end text run) run_case bad long fails = run_case end text run
+      by_program result T (spelled text s) run_case bad long fails = absurd (not_printed result text s)
       by_program result T (failed f) run_case bad long fails = fails (inr f)
       by_program (SourceRefused line column kind) T (refused r) run_case bad long fails = absurd (not_refused _ (sourced_there _ r))
       by_program (InputsRefused line) T (refused r) run_case bad long fails = bad line refl r
@@ -244,6 +282,7 @@ module _ (words : List (List ℕ)) (held : Option Held) (old new : Option (List 
       by_program (TooLong Source) T (refused r) run_case bad long fails = absurd (not_long (sourced_there _ r))
       by_program (TooLong Inputs) T (refused r) run_case bad long fails = long refl r
       by_program (ReadFault which) T (refused r) run_case bad long fails = fails (inl (which, refl))
+      by_program Done T (refused r) run_case bad long fails = absurd r
       by_program (Finished length) T (refused r) run_case bad long fails = absurd r
       by_program (Contradictory state clash) T (refused r) run_case bad long fails = absurd r
       by_program (Undetermined state cell) T (refused r) run_case bad long fails = absurd r
@@ -259,7 +298,7 @@ module _ (words : List (List ℕ)) (held : Option Held) (old new : Option (List 
 
     -- the inputs that the words name
     module _ (name : List ℕ) (named : wanted.inputs ≡ Some name) where
-      same_name : (w : Wanted) (n : List ℕ) → wanted_of words ≡ Some w → w.inputs ≡ Some n → n ≡ name
+      same_name : (w : Wanted) (n : List ℕ) → usable_of words ≡ Some w → w.inputs ≡ Some n → n ≡ name
       same_name w n p q =
           let e : Some n ≡ Some name = sym q ∙ ap (λ (v : Wanted). v.inputs) (same_wanted w wanted p accepted) ∙ named in
           cc
@@ -276,20 +315,33 @@ module _ (words : List (List ℕ)) (held : Option Held) (old new : Option (List 
   -- a source past the limit
   pub too_long : (result : Status) → Answers words held old new result → IsTold words held IsLongSource → IsOrFailed (TooLong Source) result
   too_long result a t =
-      by_source t.files t.told t.wanted t.accepted result (TooLong Source) (view result a) IsLongSource t.source (λ p h. omega (arith, h.0, t.source))
+      by_source t.files t.told t.wanted t.accepted result (TooLong Source) (view result a) (λ m p h. omega (arith, h.0, t.source)) (λ m tree h e. absurd (omega (arith, h.0, t.source)))
       (λ line column kind e h. absurd (omega (arith, h.0, t.source))) (λ e h. inl e)
 
   -- a source that is refused
   pub source_refused : (result : Status) → Answers words held old new result → (refusal : Refused) → IsTold words held (HoldsRefused refusal) → IsOrFailed (refused_status refusal) result
   source_refused result a refusal t =
-      by_source t.files t.told t.wanted t.accepted result (refused_status refusal) (view result a) (HoldsRefused refusal) t.source (λ p h. program_or_refused (bytes_of t.files t.wanted.file) p refusal h.1 t.source.1)
-      (λ line column kind e h. inl (e ∙ ap refused_status (refused_once (bytes_of t.files t.wanted.file) (record { line = line; column = column; kind = kind }) refusal h.1 t.source.1)))
+      let source = bytes_of t.files t.wanted.file in
+      by_source t.files t.told t.wanted t.accepted result (refused_status refusal) (view result a)
+      (λ m p h. program_or_refused source p refusal h.1 (subst (λ (mode : Mode). IsRefusedAt mode source refusal) m t.source.1))
+      (λ m tree h e. absurd (source_or_outside source tree refusal h.1 (subst (λ (mode : Mode). IsRefusedAt mode source refusal) m t.source.1)))
+      (λ line column kind e h. inl (e ∙ ap refused_status (refused_once t.wanted.mode source (record { line = line; column = column; kind = kind }) refusal h.1 t.source.1)))
       (λ e h. absurd (omega (arith, h, t.source.0)))
+
+  -- a source that is to be printed
+  pub source_prints : (result : Status) → Answers words held old new result → (tree : SourceTree) → IsTold words held (IsToPrint tree) → IsOrFailed Done result
+  source_prints result a tree t =
+      let source = bytes_of t.files t.wanted.file in
+      by_source t.files t.told t.wanted t.accepted result Done (view result a) (λ m p h. let e : Print ≡ Run = sym t.source.0 ∙ m in cc) (λ m other h e. inl e)
+      (λ line column kind e h.
+      absurd (source_or_outside source tree (record { line = line; column = column; kind = kind }) t.source.1.1
+      (subst (λ (mode : Mode). IsRefusedAt mode source (record { line = line; column = column; kind = kind })) t.source.0 h.1)))
+      (λ e h. absurd (omega (arith, h, t.source.1.0)))
 
   -- inputs past the limit
   pub inputs_too_long : (result : Status) → Answers words held old new result → IsSupplied words held IsLongTable → IsOrFailed (TooLong Inputs) result
   inputs_too_long result a t =
-      by_program t.files t.told t.wanted t.accepted t.program t.source result (IsOrFailed (TooLong Inputs) result) (view result a)
+      by_program t.files t.told t.wanted t.accepted t.mode t.program t.source result (IsOrFailed (TooLong Inputs) result) (view result a)
       (λ end text run. let h = table_there t.files t.told t.wanted t.accepted t.name t.named run.plan run.asked in absurd (omega (arith, h.0, t.inputs)))
       (λ line e s. let h = supplied_there t.files t.told t.wanted t.accepted t.name t.named (HasBadLine line) s in absurd (omega (arith, h.0, t.inputs)))
       (λ e s. inl e) inr
@@ -298,7 +350,7 @@ module _ (words : List (List ℕ)) (held : Option Held) (old new : Option (List 
   pub inputs_refused : (result : Status) → Answers words held old new result → (line : ℕ) → IsSupplied words held (HasBadLine line) → IsOrFailed (InputsRefused line) result
   inputs_refused result a line t =
       let bytes = bytes_of t.files t.name in
-      by_program t.files t.told t.wanted t.accepted t.program t.source result (IsOrFailed (InputsRefused line) result) (view result a)
+      by_program t.files t.told t.wanted t.accepted t.mode t.program t.source result (IsOrFailed (InputsRefused line) result) (view result a)
       (λ end text run. let h = table_there t.files t.told t.wanted t.accepted t.name t.named run.plan run.asked in absurd (no_faulty_table bytes run.plan.inputs line t.inputs.1.0 h.1 t.inputs.1.1))
       (λ other e s.
       let h = supplied_there t.files t.told t.wanted t.accepted t.name t.named (HasBadLine other) s in
@@ -309,7 +361,7 @@ module _ (words : List (List ℕ)) (held : Option Held) (old new : Option (List 
   -- what is asked for is there
   pub program_runs : (result : Status) → Answers words held old new result → (files : Held) → held ≡ Some files → (plan : Plan) → IsAskedFor words held plan → IsEndOfRun result ⊎ HasFailed result
   program_runs result a files told plan asked =
-      by_program files told asked.wanted asked.accepted plan.program (asked.source files told) result (IsEndOfRun result ⊎ HasFailed result) (view result a)
+      by_program files told asked.wanted asked.accepted asked.mode plan.program (asked.source files told) result (IsEndOfRun result ⊎ HasFailed result) (view result a)
       (λ end text run. inl end)
       (λ line e s.
       let n = name_of s in

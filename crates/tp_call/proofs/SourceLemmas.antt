@@ -12,7 +12,8 @@ use Rattle.tp_call.specs.declared.source.ReadRefusal.TheVariants as read
 use Rattle.tp_call.specs.Reading.{read_end, asked_by, AsksFile}
 use Rattle.tp_meaning.specs.Inputs.{InputLines}
 use Rattle.tp_meaning.specs.Interval.{ProgramTree}
-use Rattle.tp_words.specs.Words.{Wanted, wanted_of}
+use Rattle.tp_words.specs.Words.{Wanted}
+use Rattle.tp_call.specs.Usable.{usable_of, IsWordsRefusal}
 use Rattle.tp_call.specs.Answer.{inputs_limit, WhereTold, HasInputs, HoldsProgram, HoldsRefused, HasBadLine, IsLongSource, IsLongTable, Supplied, Refuses}
 use Rattle.tp_call.specs.declared.refused.Refused.{Refused}
 use Rattle.tp_lex.specs.declared.token.Token.{Token}
@@ -27,19 +28,22 @@ use Rattle.tp_parse.specs.Source.{parse_outcome}
 use Rattle.tp_check.specs.Program.{ChecksTo}
 use Rattle.tp_check.specs.declared.refusal.CheckRefusal.{CheckRefusal}
 use Rattle.tp_check.specs.declared.refusal.CheckRefusal.TheVariants as check
-use Rattle.tp_call.specs.Source.{IsRefusedAt, lexer_refusal, parser_refusal, checker_refusal}
+use Rattle.tp_words.specs.declared.mode.Mode.{Mode}
+use Rattle.tp_words.specs.declared.mode.Mode.TheVariants.{Run, Print}
+use Rattle.tp_call.specs.Source.{IsOutsideGrammar, IsNotRun, IsRefusedAt, lexer_refusal, parser_refusal, checker_refusal}
 use Rattle.tp_call.specs.Parts.{refusal_end, IsReadRefusal, IsSourceRefusal, IsTableRefusal, IsInputsEnd, IsProgramRefusal}
 
 -- the source that was read is refused
-pub source_refused : (held : Option Held) (name source : List ℕ) (status : Status) → length source ≤ source_limit → WhereTold held (λ files. source ≡ bytes_of files name) → IsReadRefusal source status → IsSourceRefusal held name status
-source_refused held name source status short told (inl memory) = inl memory
-source_refused held name source status short told (inr (refused, is, cause)) = inr (inr (inr (refused, is, λ files at. subst (HoldsRefused refused) (told files at) (short, cause))))
+pub source_refused : (mode : Mode) (held : Option Held) (name source : List ℕ) (status : Status) → length source ≤ source_limit → WhereTold held (λ files. source ≡ bytes_of files name) → IsReadRefusal mode source status → IsSourceRefusal mode held name status
+source_refused mode held name source status short told (inl memory) = inl memory
+source_refused mode held name source status short told (inr (refused, is, cause)) = inr (inr (inr (refused, is, λ files at. subst (HoldsRefused refused mode) (told files at) (short, cause))))
 
 -- it can't be read
-pub source_unread : (held : Option Held) (name : List ℕ) (refusal : ReadRefusal) (status : Status) → status ≡ read_end refusal Source → (refusal ≡ read.TooLong → WhereTold held (λ files. IsLongSource (bytes_of files name))) → IsSourceRefusal held name status
-source_unread held name read.TooLong status is long = inr (inr (inl (is, long refl)))
-source_unread held name read.Failed status is long = inr (inl is)
-source_unread held name read.NoMemory status is long = inl is
+pub source_unread : (mode : Mode) (held : Option Held) (name : List ℕ) (refusal : ReadRefusal) (status : Status) → status ≡ read_end refusal Source → (refusal ≡ read.TooLong → WhereTold held (λ files. IsLongSource mode (bytes_of files name)))
+    → IsSourceRefusal mode held name status
+source_unread mode held name read.TooLong status is long = inr (inr (inl (is, long refl)))
+source_unread mode held name read.Failed status is long = inr (inl is)
+source_unread mode held name read.NoMemory status is long = inl is
 
 -- the inputs that were read are refused
 pub table_refused : (held : Option Held) (name text : List ℕ) (status : Status) → length text ≤ inputs_limit → WhereTold held (λ files. text ≡ bytes_of files name) → IsTableRefusal text status → IsInputsEnd held (Some name) status
@@ -67,12 +71,12 @@ asked_unread told new name read.Failed which status is asked = inl asked
 asked_unread told new name read.NoMemory which status is asked = inr (ap Err is, asked)
 
 -- a text that was read is refused otherwise than by a failed read
-no_fault_of_source : (source : List ℕ) (which : Which) → IsReadRefusal source (ReadFault which) → ⊥
-no_fault_of_source source which (inl memory) = cc
-no_fault_of_source source which (inr (refused, is, cause)) = cc
+no_fault_of_source : (mode : Mode) (source : List ℕ) (which : Which) → IsReadRefusal mode source (ReadFault which) → ⊥
+no_fault_of_source mode source which (inl memory) = cc
+no_fault_of_source mode source which (inr (refused, is, cause)) = cc
 
-pub no_source_fault : {T : Type 0} (R : Type 0) (result : Result T Status) (source : List ℕ) → IfErr result (IsReadRefusal source) → (which : Which) → result ≡ Err (ReadFault which) → R
-no_source_fault R result source refused which e = absurd (no_fault_of_source source which (subst (λ r. IfErr r (IsReadRefusal source)) e refused))
+pub no_source_fault : {T : Type 0} (R : Type 0) (mode : Mode) (result : Result T Status) (source : List ℕ) → IfErr result (IsReadRefusal mode source) → (which : Which) → result ≡ Err (ReadFault which) → R
+no_source_fault R mode result source refused which e = absurd (no_fault_of_source mode source which (subst (λ r. IfErr r (IsReadRefusal mode source)) e refused))
 
 no_fault_of_table : (text : List ℕ) (which : Which) → IsTableRefusal text (ReadFault which) → ⊥
 no_fault_of_table text which (inl memory) = cc
@@ -81,17 +85,25 @@ no_fault_of_table text which (inr (line, is, cause)) = cc
 pub no_table_fault : {T : Type 0} (R : Type 0) (result : Result T Status) (text : List ℕ) → IfErr result (IsTableRefusal text) → (which : Which) → result ≡ Err (ReadFault which) → R
 no_table_fault R result text refused which e = absurd (no_fault_of_table text which (subst (λ r. IfErr r (IsTableRefusal text)) e refused))
 
-module _ (words : List (List ℕ)) (held : Option Held) (wanted : Wanted) (accepted : wanted_of words ≡ Some wanted) where
-  -- the refusal of the source is one of the call
-  pub no_program : (status : Status) → IsSourceRefusal held wanted.file status → IsProgramRefusal words held status
-  no_program status (inl memory) = inl memory
-  no_program status (inr (inl is)) = inr (subst (Refuses words held) (sym is) (record { wanted = wanted; accepted = accepted; source = λ files told. tt }))
-  no_program status (inr (inr (inl (is, long)))) = inr (subst (Refuses words held) (sym is) (record { wanted = wanted; accepted = accepted; source = long }))
-  no_program status (inr (inr (inr (refused, is, cause)))) = inr (subst (Refuses words held) (sym is) (record { wanted = wanted; accepted = accepted; source = cause }))
+-- words that ask for nothing that a call does
+pub no_command : (words : List (List ℕ)) (held : Option Held) (status : Status) → IsWordsRefusal words status → IsProgramRefusal words held status
+no_command words held status (inl memory) = inl memory
+no_command words held status (inr (is, none)) = inr (subst (Refuses words held) (sym is) none)
 
-  module _ (program : ProgramTree) (source : WhereTold held (λ files. HoldsProgram program (bytes_of files wanted.file))) where
+module _ (words : List (List ℕ)) (held : Option Held) (wanted : Wanted) (accepted : usable_of words ≡ Some wanted) where
+  no_source_here : (status : Status) → IsSourceRefusal wanted.mode held wanted.file status → IsProgramRefusal words held status
+  no_source_here status (inl memory) = inl memory
+  no_source_here status (inr (inl is)) = inr (subst (Refuses words held) (sym is) (record { wanted = wanted; accepted = accepted; source = λ files told. tt }))
+  no_source_here status (inr (inr (inl (is, long)))) = inr (subst (Refuses words held) (sym is) (record { wanted = wanted; accepted = accepted; source = long }))
+  no_source_here status (inr (inr (inr (refused, is, cause)))) = inr (subst (Refuses words held) (sym is) (record { wanted = wanted; accepted = accepted; source = cause }))
+
+  -- the refusal of the source is one of the call
+  pub no_source : (mode : Mode) (status : Status) → wanted.mode ≡ mode → IsSourceRefusal mode held wanted.file status → IsProgramRefusal words held status
+  no_source mode status is refusal = no_source_here status (subst (λ (m : Mode). IsSourceRefusal m held wanted.file status) (sym is) refusal)
+
+  module _ (mode : wanted.mode ≡ Run) (program : ProgramTree) (source : WhereTold held (λ files. HoldsProgram program (bytes_of files wanted.file))) where
     supplied : (name : List ℕ) (P : List ℕ → Type 0) → wanted.inputs ≡ Some name → WhereTold held (λ files. P (bytes_of files name)) → Supplied words held P
-    supplied name P named inputs = record { wanted = wanted; accepted = accepted; name = name; named = named; program = program; source = source; inputs = inputs }
+    supplied name P named inputs = record { wanted = wanted; accepted = accepted; mode = mode; name = name; named = named; program = program; source = source; inputs = inputs }
 
     -- the refusal of the inputs is one of the call
     no_table_here : (names : Option (List ℕ)) (status : Status) → wanted.inputs ≡ names → IsInputsEnd held names status → IsProgramRefusal words held status
@@ -116,11 +128,16 @@ lent_name read owned None (Some s) is = absurd is
 lent_name read owned (Some t) (Some s) is = ap Some is
 
 -- The answer for a refusal, by what it says where it is none of memory.
-pub read_refused : (source : List ℕ) (status : Status) (refused : Option Refused) → status ≡ refusal_end refused → ((r : Refused) → refused ≡ Some r → IsRefusedAt source r) → IsReadRefusal source status
-read_refused source status None is cause = inl is
-read_refused source status (Some refused) is cause = inr (refused, is, cause refused refl)
+pub read_refused : (mode : Mode) (source : List ℕ) (status : Status) (refused : Option Refused) → status ≡ refusal_end refused → ((r : Refused) → refused ≡ Some r → IsRefusedAt mode source r) → IsReadRefusal mode source status
+read_refused mode source status None is cause = inl is
+read_refused mode source status (Some refused) is cause = inr (refused, is, cause refused refl)
 
-pub no_tokens : (source : List ℕ) (refusal : LexRefusal) → IsRefusedUnlessMemory source refusal → (r : Refused) → lexer_refusal source refusal ≡ Some r → IsRefusedAt source r
+-- a text that is no source of the grammar isn't run
+pub not_parsed : (source : List ℕ) (status : Status) → IsReadRefusal Print source status → IsReadRefusal Run source status
+not_parsed source status (inl memory) = inl memory
+not_parsed source status (inr (refused, is, cause)) = inr (refused, is, inl cause)
+
+pub no_tokens : (source : List ℕ) (refusal : LexRefusal) → IsRefusedUnlessMemory source refusal → (r : Refused) → lexer_refusal source refusal ≡ Some r → IsOutsideGrammar source r
 no_tokens source (lex.BadByte at) g r is = inl (record { refusal = lex.BadByte at; is_refused = g; answer = is })
 no_tokens source (lex.OpenComment at) g r is = inl (record { refusal = lex.OpenComment at; is_refused = g; answer = is })
 no_tokens source (lex.NumberTooLarge at) g r is = inl (record { refusal = lex.NumberTooLarge at; is_refused = g; answer = is })
@@ -128,19 +145,19 @@ no_tokens source (lex.NameTooLong at) g r is = inl (record { refusal = lex.NameT
 no_tokens source lex.NoMemory g r is = absurd (cc (is))
 
 pub no_tree : (source : List ℕ) (tokens : List Token) (refusal : ParseRefusal) → AreTokens source tokens → (refusal ≢ parse.NoMemory → parse_outcome tokens ≡ Err refusal)
-    → (r : Refused) → parser_refusal source tokens refusal ≡ Some r → IsRefusedAt source r
-no_tree source tokens (parse.Unexpected i) are g r is = inr (inl (record { tokens = tokens; refusal = parse.Unexpected i; are_tokens = are; outcome = g (λ e. cc (e)); answer = is }))
-no_tree source tokens parse.Unfinished are g r is = inr (inl (record { tokens = tokens; refusal = parse.Unfinished; are_tokens = are; outcome = g (λ e. cc (e)); answer = is }))
-no_tree source tokens (parse.TooDeep i) are g r is = inr (inl (record { tokens = tokens; refusal = parse.TooDeep i; are_tokens = are; outcome = g (λ e. cc (e)); answer = is }))
+    → (r : Refused) → parser_refusal source tokens refusal ≡ Some r → IsOutsideGrammar source r
+no_tree source tokens (parse.Unexpected i) are g r is = inr (record { tokens = tokens; refusal = parse.Unexpected i; are_tokens = are; outcome = g (λ e. cc (e)); answer = is })
+no_tree source tokens parse.Unfinished are g r is = inr (record { tokens = tokens; refusal = parse.Unfinished; are_tokens = are; outcome = g (λ e. cc (e)); answer = is })
+no_tree source tokens (parse.TooDeep i) are g r is = inr (record { tokens = tokens; refusal = parse.TooDeep i; are_tokens = are; outcome = g (λ e. cc (e)); answer = is })
 no_tree source tokens parse.NoMemory are g r is = absurd (cc (is))
 
 pub not_run : (source : List ℕ) (tokens : List Token) (tree : SourceTree) (refusal : CheckRefusal) → AreTokens source tokens → Accepts tokens tree → (refusal ≢ check.NoMemory → ChecksTo tree (Err refusal))
-    → (r : Refused) → checker_refusal source refusal ≡ Some r → IsRefusedAt source r
-not_run source tokens tree (check.Twice at) are accepted g r is = inr (inr (record { tokens = tokens; tree = tree; refusal = check.Twice at; are_tokens = are; accepted = accepted; outcome = g (λ e. cc (e)); answer = is }))
-not_run source tokens tree (check.Unknown at) are accepted g r is = inr (inr (record { tokens = tokens; tree = tree; refusal = check.Unknown at; are_tokens = are; accepted = accepted; outcome = g (λ e. cc (e)); answer = is }))
-not_run source tokens tree (check.WrongCount at) are accepted g r is = inr (inr (record { tokens = tokens; tree = tree; refusal = check.WrongCount at; are_tokens = are; accepted = accepted; outcome = g (λ e. cc (e)); answer = is }))
-not_run source tokens tree (check.NotExpression at) are accepted g r is = inr (inr (record { tokens = tokens; tree = tree; refusal = check.NotExpression at; are_tokens = are; accepted = accepted; outcome = g (λ e. cc (e)); answer = is }))
-not_run source tokens tree (check.NotPlace at) are accepted g r is = inr (inr (record { tokens = tokens; tree = tree; refusal = check.NotPlace at; are_tokens = are; accepted = accepted; outcome = g (λ e. cc (e)); answer = is }))
-not_run source tokens tree (check.NotPort at) are accepted g r is = inr (inr (record { tokens = tokens; tree = tree; refusal = check.NotPort at; are_tokens = are; accepted = accepted; outcome = g (λ e. cc (e)); answer = is }))
-not_run source tokens tree (check.NotExecutable at) are accepted g r is = inr (inr (record { tokens = tokens; tree = tree; refusal = check.NotExecutable at; are_tokens = are; accepted = accepted; outcome = g (λ e. cc (e)); answer = is }))
+    → (r : Refused) → checker_refusal source refusal ≡ Some r → IsNotRun source r
+not_run source tokens tree (check.Twice at) are accepted g r is = record { tokens = tokens; tree = tree; refusal = check.Twice at; are_tokens = are; accepted = accepted; outcome = g (λ e. cc (e)); answer = is }
+not_run source tokens tree (check.Unknown at) are accepted g r is = record { tokens = tokens; tree = tree; refusal = check.Unknown at; are_tokens = are; accepted = accepted; outcome = g (λ e. cc (e)); answer = is }
+not_run source tokens tree (check.WrongCount at) are accepted g r is = record { tokens = tokens; tree = tree; refusal = check.WrongCount at; are_tokens = are; accepted = accepted; outcome = g (λ e. cc (e)); answer = is }
+not_run source tokens tree (check.NotExpression at) are accepted g r is = record { tokens = tokens; tree = tree; refusal = check.NotExpression at; are_tokens = are; accepted = accepted; outcome = g (λ e. cc (e)); answer = is }
+not_run source tokens tree (check.NotPlace at) are accepted g r is = record { tokens = tokens; tree = tree; refusal = check.NotPlace at; are_tokens = are; accepted = accepted; outcome = g (λ e. cc (e)); answer = is }
+not_run source tokens tree (check.NotPort at) are accepted g r is = record { tokens = tokens; tree = tree; refusal = check.NotPort at; are_tokens = are; accepted = accepted; outcome = g (λ e. cc (e)); answer = is }
+not_run source tokens tree (check.NotExecutable at) are accepted g r is = record { tokens = tokens; tree = tree; refusal = check.NotExecutable at; are_tokens = are; accepted = accepted; outcome = g (λ e. cc (e)); answer = is }
 not_run source tokens tree check.NoMemory are accepted g r is = absurd (cc (is))

@@ -17,7 +17,7 @@ use Rattle.tp_show.specs.Parts.{line_parts}
 use Rattle.tp_show.specs.Read.{plain_parts}
 use Rattle.tp_call.specs.Places.{StandsOpen}
 use Rattle.tp_call.specs.declared.status.Status.{Status}
-use Rattle.tp_call.specs.declared.status.Status.TheVariants.{Finished, Contradictory, Undetermined, StateLimit, ReductionLimit, NumberLimit, ListLimit, CallLimit, NestLimit, InputMissing, SourceRefused, InputsRefused, WordsRefused, TooLong, ReadFault, WriteFault, NoMemory}
+use Rattle.tp_call.specs.declared.status.Status.TheVariants.{Finished, Done, Contradictory, Undetermined, StateLimit, ReductionLimit, NumberLimit, ListLimit, CallLimit, NestLimit, InputMissing, SourceRefused, InputsRefused, WordsRefused, TooLong, ReadFault, WriteFault, NoMemory}
 use Rattle.tp_show.specs.Line.{picture_lines}
 use Rattle.tp_show.specs.Told.{IsPictureInRange, IsLastTurn}
 use Rattle.tp_call.specs.Run.{last_answer, limit_end, status_of}
@@ -111,6 +111,7 @@ answer_of (ListLimit state) = turn.Over state limit.List
 answer_of (CallLimit state) = turn.Over state limit.Calls
 answer_of (NestLimit state) = turn.Over state limit.Nest
 answer_of (InputMissing state port) = turn.InputMissing state port
+answer_of Done = turn.Went
 answer_of (SourceRefused line column kind) = turn.Went
 answer_of (InputsRefused line) = turn.Went
 answer_of WordsRefused = turn.Went

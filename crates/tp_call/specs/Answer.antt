@@ -6,12 +6,18 @@ use Rattle.tp_io.specs.Devices.{Held, bytes_of}
 use Rattle.tp_show.specs.declared.turn.Picture.{Picture}
 use Rattle.tp_run.specs.States.{Plan}
 use Rattle.tp_call.specs.declared.refused.Refused.{Refused}
-use Rattle.tp_call.specs.Source.{IsProgram, IsRefusedAt}
+use Rattle.tp_call.specs.Source.{IsProgram, IsSourceText, IsRefusedAt}
+use Rattle.tp_call.specs.Spelling.{IsReadFromSpelling}
 use Rattle.tp_call.specs.declared.status.Status.{Status}
-use Rattle.tp_call.specs.declared.status.Status.TheVariants.{Finished, Contradictory, Undetermined, StateLimit, ReductionLimit, NumberLimit, ListLimit, CallLimit, NestLimit, InputMissing, SourceRefused, InputsRefused, WordsRefused, TooLong, ReadFault, WriteFault, NoMemory}
+use Rattle.tp_call.specs.declared.status.Status.TheVariants.{Finished, Done, Contradictory, Undetermined, StateLimit, ReductionLimit, NumberLimit, ListLimit, CallLimit, NestLimit, InputMissing, SourceRefused, InputsRefused, WordsRefused, TooLong, ReadFault, WriteFault, NoMemory}
 use Rattle.tp_call.specs.declared.status.Which.{Which}
 use Rattle.tp_call.specs.declared.status.Which.TheVariants.{Source, Inputs}
-use Rattle.tp_words.specs.Words.{Wanted, wanted_of, files_of}
+use Rattle.tp_tree.specs.Tree.{SourceTree}
+use Rattle.tp_tree.specs.Spelling.{source_spelling}
+use Rattle.tp_words.specs.declared.mode.Mode.{Mode}
+use Rattle.tp_words.specs.declared.mode.Mode.TheVariants.{Run, Print}
+use Rattle.tp_words.specs.Words.{Wanted, files_of}
+use Rattle.tp_call.specs.Usable.{usable_of}
 use Rattle.std.specs.Str.Lines.{lines}
 use Rattle.tp_meaning.specs.Inputs.{InputLines}
 use Rattle.tp_inputs.specs.declared.refusal.Fault.{Fault}
@@ -29,22 +35,27 @@ use Rattle.tp_call.specs.Written.{Wrote}
 abbrev pub WhereTold : {X : Type 0} → Option X → (X → Type 0) → Type 0
 WhereTold {X} told P = (x : X) → told ≡ Some x → P x
 
--- The words are accepted and name a file; where the files tell what it holds, that has P.
-pub record Sourced (words : List (List ℕ)) (held : Option Held) (P : List ℕ → Type 0) : Type 0 where
+-- The words are accepted and name a file; where the files tell what it holds, that has P for what is to be done with it.
+pub record Sourced (words : List (List ℕ)) (held : Option Held) (P : Mode → List ℕ → Type 0) : Type 0 where
   pub wanted : Wanted
-  pub accepted : wanted_of words ≡ Some wanted
-  pub source : WhereTold held (λ files. P (bytes_of files wanted.file))
+  pub accepted : usable_of words ≡ Some wanted
+  pub source : WhereTold held (λ files. P wanted.mode (bytes_of files wanted.file))
 
 -- the source has at most so many bytes, and is this program
 abbrev pub HoldsProgram : ProgramTree → List ℕ → Type 0
 HoldsProgram program source = (length source ≤ source_limit) × IsProgram source program
 
--- the source has at most so many bytes, and is refused there for this cause
-abbrev pub HoldsRefused : Refused → List ℕ → Type 0
-HoldsRefused refused source = (length source ≤ source_limit) × IsRefusedAt source refused
+-- the source has at most so many bytes, and is one of the grammar, with this tree
+abbrev pub HoldsSource : SourceTree → List ℕ → Type 0
+HoldsSource tree source = (length source ≤ source_limit) × IsSourceText source tree
 
-abbrev pub IsLongSource : List ℕ → Type 0
-IsLongSource source = source_limit < length source
+-- the source has at most so many bytes, and is refused there for this cause
+abbrev pub HoldsRefused : Refused → Mode → List ℕ → Type 0
+HoldsRefused refused mode source = (length source ≤ source_limit) × IsRefusedAt mode source refused
+
+-- the source has more bytes, whatever is to be done with it
+abbrev pub IsLongSource : Mode → List ℕ → Type 0
+IsLongSource mode source = source_limit < length source
 
 -- the text of a run of this plan that settled these states and ended so: the lines of the states, and the end line
 abbrev pub run_text : {plan : Plan} {pictures : List Picture} {status : Status} → RunEnds plan pictures status → List ℕ
@@ -63,20 +74,29 @@ abbrev pub HasInputs : (name : Option (List ℕ)) → Option Held → InputLines
 HasInputs None held table = table ≡ []
 HasInputs (Some name) held table = WhereTold held (λ files. HoldsTable table (bytes_of files name))
 
--- What is run: the words are accepted, and name a source that is the plan's program, perhaps a file of inputs, which is its table, and its limits.
+-- What is run: the words are accepted, ask for a run, and name a source that is the plan's program, perhaps a file of inputs, which is its table, and its limits.
 pub record IsAskedFor (words : List (List ℕ)) (held : Option Held) (plan : Plan) : Type 0 where
   pub wanted : Wanted
-  pub accepted : wanted_of words ≡ Some wanted
+  pub accepted : usable_of words ≡ Some wanted
+  pub mode : wanted.mode ≡ Run
   pub source : WhereTold held (λ files. HoldsProgram plan.program (bytes_of files wanted.file))
   pub inputs : HasInputs wanted.inputs held plan.inputs
   pub states : plan.states ≡ wanted.states
   pub reductions : plan.reductions ≡ wanted.reductions
 
--- The words are accepted and name a file of inputs, and the source that they name is a program; where the files tell what the inputs hold, that
+-- What is printed: the words are accepted, ask for that, and name a source of the grammar with this tree.
+pub record IsAskedToPrint (words : List (List ℕ)) (held : Option Held) (tree : SourceTree) : Type 0 where
+  pub wanted : Wanted
+  pub accepted : usable_of words ≡ Some wanted
+  pub mode : wanted.mode ≡ Print
+  pub source : WhereTold held (λ files. HoldsSource tree (bytes_of files wanted.file))
+
+-- The words are accepted, ask for a run and name a file of inputs, and the source that they name is a program; where the files tell what the inputs hold, that
 -- has P.
 pub record Supplied (words : List (List ℕ)) (held : Option Held) (P : List ℕ → Type 0) : Type 0 where
   pub wanted : Wanted
-  pub accepted : wanted_of words ≡ Some wanted
+  pub accepted : usable_of words ≡ Some wanted
+  pub mode : wanted.mode ≡ Run
   pub name : List ℕ
   pub named : wanted.inputs ≡ Some name
   pub program : ProgramTree
@@ -104,16 +124,25 @@ pub record RunsTo (words : List (List ℕ)) (held : Option Held) (status : Statu
   pub states : plan.states < 2 ^ 64
   pub range : All IsPictureInRange pictures
 
+-- The source that is asked for was printed, which has this status, and the text is its canonical spelling, which is read back as this source.
+pub record Spells (words : List (List ℕ)) (held : Option Held) (status : Status) (text : List ℕ) : Type 0 where
+  pub tree : SourceTree
+  pub asked : IsAskedToPrint words held tree
+  pub status_is : status ≡ Done
+  pub written : text ≡ source_spelling tree
+  pub read_back : IsReadFromSpelling tree
+
 -- The cause of a refusal.
 abbrev pub Refuses : List (List ℕ) → Option Held → Status → Type 0
 Refuses words held (SourceRefused line column kind) = Sourced words held (HoldsRefused (record { line = line; column = column; kind = kind }))
-Refuses words held WordsRefused = wanted_of words ≡ None
+Refuses words held WordsRefused = usable_of words ≡ None
 Refuses words held (TooLong Source) = Sourced words held IsLongSource
 Refuses words held (TooLong Inputs) = Supplied words held IsLongTable
-Refuses words held (ReadFault Source) = Sourced words held (λ source. Unit {0})
+Refuses words held (ReadFault Source) = Sourced words held (λ mode source. Unit {0})
 Refuses words held (ReadFault Inputs) = Supplied words held (λ inputs. Unit {0})
 Refuses words held (InputsRefused line) = Supplied words held (HasBadLine line)
 Refuses words held (Finished length) = ⊥
+Refuses words held Done = ⊥
 Refuses words held (Contradictory state clash) = ⊥
 Refuses words held (Undetermined state cell) = ⊥
 Refuses words held (StateLimit states) = ⊥
@@ -126,9 +155,9 @@ Refuses words held (InputMissing state port) = ⊥
 Refuses words held WriteFault = ⊥
 Refuses words held NoMemory = ⊥
 
--- A call ends with this status and has written this text: that of a run, or the end line of a refusal alone.
+-- A call ends with this status and has written this text: that of a run, the spelling of a source, or the end line of a refusal alone.
 abbrev pub CallEnds : List (List ℕ) → Option Held → Status → List ℕ → Type 0
-CallEnds words held status text = RunsTo words held status text ⊎ (Refuses words held status × (text ≡ refusal_line status))
+CallEnds words held status text = RunsTo words held status text ⊎ Spells words held status text ⊎ (Refuses words held status × (text ≡ refusal_line status))
 
 -- the states of a run of what is asked for, and their text
 pub record RunsOn (words : List (List ℕ)) (held : Option Held) (text : List ℕ) : Type 0 where
@@ -163,6 +192,13 @@ pub record Prints (words : List (List ℕ)) (held : Option Held) (old new : Opti
   pub range : All IsPictureInRange pictures
   pub says : P plan pictures
 
+-- The source that is asked for was printed: its canonical spelling was appended, which is read back as this source.
+pub record WritesSpelling (words : List (List ℕ)) (held : Option Held) (old new : Option (List ℕ)) : Type 0 where
+  pub tree : SourceTree
+  pub asked : IsAskedToPrint words held tree
+  pub appended : Wrote old new (source_spelling tree)
+  pub read_back : IsReadFromSpelling tree
+
 -- the place of a file among those that the words name
 abbrev pub place : Which → ℕ
 place Source = 0
@@ -175,18 +211,19 @@ pub record AsksOnly (words : List (List ℕ)) (old new : Option (List (List ℕ)
   pub asked : new ≡ option_map (λ before. before ++ take count (files_of words)) old
   pub last : (which : Which) → failed which → count ≡ place which + 1
 
--- the words are accepted, and the files tell what the source holds, which has P
-pub record IsTold (words : List (List ℕ)) (held : Option Held) (P : List ℕ → Type 0) : Type 0 where
+-- the words are accepted, and the files tell what the source holds, which has P for what is to be done with it
+pub record IsTold (words : List (List ℕ)) (held : Option Held) (P : Mode → List ℕ → Type 0) : Type 0 where
   pub wanted : Wanted
-  pub accepted : wanted_of words ≡ Some wanted
+  pub accepted : usable_of words ≡ Some wanted
   pub files : Held
   pub told : held ≡ Some files
-  pub source : P (bytes_of files wanted.file)
+  pub source : P wanted.mode (bytes_of files wanted.file)
 
--- the words are accepted, and the files tell that the source is a program and what the inputs that they name hold, which has P
+-- the words are accepted and ask for a run, and the files tell that the source is a program and what the inputs that they name hold, which has P
 pub record IsSupplied (words : List (List ℕ)) (held : Option Held) (P : List ℕ → Type 0) : Type 0 where
   pub wanted : Wanted
-  pub accepted : wanted_of words ≡ Some wanted
+  pub accepted : usable_of words ≡ Some wanted
+  pub mode : wanted.mode ≡ Run
   pub files : Held
   pub told : held ≡ Some files
   pub program : ProgramTree
@@ -195,11 +232,15 @@ pub record IsSupplied (words : List (List ℕ)) (held : Option Held) (P : List �
   pub named : wanted.inputs ≡ Some name
   pub inputs : P (bytes_of files name)
 
+-- the source is to be printed, and is one of the grammar with this tree
+abbrev pub IsToPrint : SourceTree → Mode → List ℕ → Type 0
+IsToPrint tree mode source = (mode ≡ Print) × HoldsSource tree source
+
 -- the answer is this one, unless a write failed or memory was wanted
 abbrev pub IsOrStopped : Status → Status → Type 0
 IsOrStopped status result = (result ≡ status) ⊎ (result ≡ WriteFault) ⊎ (result ≡ NoMemory)
 
--- a run ended: the answer is none of a refusal, of a fault or of want of memory
+-- a run ended: the answer is none of a source that is printed, of a refusal, of a fault or of want of memory
 abbrev pub IsEndOfRun : Status → Type 0
 IsEndOfRun (Finished length) = Unit {0}
 IsEndOfRun (Contradictory state clash) = Unit {0}
@@ -211,6 +252,7 @@ IsEndOfRun (ListLimit state) = Unit {0}
 IsEndOfRun (CallLimit state) = Unit {0}
 IsEndOfRun (NestLimit state) = Unit {0}
 IsEndOfRun (InputMissing state port) = Unit {0}
+IsEndOfRun Done = ⊥
 IsEndOfRun (SourceRefused line column kind) = ⊥
 IsEndOfRun (InputsRefused line) = ⊥
 IsEndOfRun WordsRefused = ⊥
@@ -231,6 +273,7 @@ IsOpenEnd (ListLimit state) = Unit {0}
 IsOpenEnd (CallLimit state) = Unit {0}
 IsOpenEnd (NestLimit state) = Unit {0}
 IsOpenEnd (InputMissing state port) = ⊥
+IsOpenEnd Done = ⊥
 IsOpenEnd (SourceRefused line column kind) = ⊥
 IsOpenEnd (InputsRefused line) = ⊥
 IsOpenEnd WordsRefused = ⊥

@@ -2,7 +2,7 @@
 use Rattle.std.specs.Prelude.{ℕ, List, [], ◌++◌, codes}
 use Rattle.std.specs.Fmt.{decimal}
 use Rattle.tp_call.specs.declared.status.Status.{Status}
-use Rattle.tp_call.specs.declared.status.Status.TheVariants.{Finished, Contradictory, Undetermined, StateLimit, ReductionLimit, NumberLimit, ListLimit, CallLimit, NestLimit, InputMissing, SourceRefused, InputsRefused, WordsRefused, TooLong, ReadFault, WriteFault, NoMemory}
+use Rattle.tp_call.specs.declared.status.Status.TheVariants.{Finished, Done, Contradictory, Undetermined, StateLimit, ReductionLimit, NumberLimit, ListLimit, CallLimit, NestLimit, InputMissing, SourceRefused, InputsRefused, WordsRefused, TooLong, ReadFault, WriteFault, NoMemory}
 use Rattle.tp_call.specs.declared.status.Which.{Which}
 use Rattle.tp_call.specs.declared.status.Which.TheVariants.{Source, Inputs}
 use Rattle.tp_call.specs.declared.status.SourceKind.{SourceKind}
@@ -31,7 +31,7 @@ kind_text NotExecutable = codes "not executable"
 abbrev pub place_text : ℕ → ℕ → List ℕ
 place_text line column = codes "source refused: line " ++ decimal line ++ codes " column " ++ decimal column
 
--- What the end line of a refusal says. The ends of runs have end lines of their own, and two answers have none.
+-- What the end line of a refusal says. The ends of runs have end lines of their own, and three answers have none.
 abbrev pub refusal_words : Status → List ℕ
 refusal_words (SourceRefused line column kind) = place_text line column ++ codes ": " ++ kind_text kind
 refusal_words (InputsRefused line) = codes "inputs refused: line " ++ decimal line
@@ -39,6 +39,7 @@ refusal_words WordsRefused = codes "words refused"
 refusal_words (TooLong which) = codes "too long: " ++ which_text which
 refusal_words (ReadFault which) = codes "read fault: " ++ which_text which
 refusal_words (Finished length) = []
+refusal_words Done = []
 refusal_words (Contradictory state clash) = []
 refusal_words (Undetermined state cell) = []
 refusal_words (StateLimit states) = []
@@ -57,6 +58,7 @@ refusal_line status = refusal_words status ++ codes "\n"
 -- the exit status of the program
 abbrev pub code_of : Status → ℕ
 code_of (Finished length) = 0
+code_of Done = 0
 code_of (Contradictory state clash) = 1
 code_of (Undetermined state cell) = 2
 code_of (StateLimit states) = 3

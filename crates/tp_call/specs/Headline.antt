@@ -7,15 +7,16 @@ use Rattle.tp_scene.specs.declared.answer.Clash.{Clash}
 use Rattle.tp_run.specs.History.{SatisfiedExactly, Satisfiable, Unsatisfiable, ContinuesEach}
 use Rattle.tp_call.specs.declared.refused.Refused.{Refused}
 use Rattle.tp_call.specs.declared.status.Status.{Status}
-use Rattle.tp_call.specs.declared.status.Status.TheVariants.{Finished, Contradictory, Undetermined, StateLimit, InputMissing, SourceRefused, InputsRefused, WordsRefused, TooLong}
+use Rattle.tp_call.specs.declared.status.Status.TheVariants.{Finished, Done, Contradictory, Undetermined, StateLimit, InputMissing, SourceRefused, InputsRefused, WordsRefused, TooLong}
 use Rattle.tp_call.specs.declared.status.SourceKind.{SourceKind}
 use Rattle.tp_call.specs.declared.status.Which.{Which}
 use Rattle.tp_call.specs.declared.status.Which.TheVariants.{Source, Inputs}
-use Rattle.tp_words.specs.Words.{wanted_of}
+use Rattle.tp_tree.specs.Tree.{SourceTree}
+use Rattle.tp_call.specs.Usable.{usable_of}
 use Rattle.tp_run.specs.States.{Plan}
 use Rattle.tp_show.specs.Told.{FitsIn64Bits}
 use Rattle.tp_call.specs.Text.{TextTells, SatisfiedAsTold, ContinuesTold, finished_line}
-use Rattle.tp_call.specs.Answer.{HoldsRefused, IsLongSource, IsLongTable, HasBadLine, IsAskedFor, IsTold, IsSupplied, Sourced, Supplied, Prints, IsOrStopped, IsOrFailed, IsEndOfRun, IsOpenEnd, HasFailed}
+use Rattle.tp_call.specs.Answer.{HoldsRefused, IsLongSource, IsLongTable, HasBadLine, IsAskedFor, IsTold, IsSupplied, IsToPrint, Sourced, Supplied, Prints, WritesSpelling, IsOrStopped, IsOrFailed, IsEndOfRun, IsOpenEnd, HasFailed}
 use Rattle.tp_call.specs.Parts.{refused_status}
 
 module _ (words : List (List ℕ)) (held : Option Held) (old new : Option (List ℕ)) (result : Status) where
@@ -60,6 +61,10 @@ module _ (words : List (List ℕ)) (held : Option Held) (old new : Option (List 
   abbrev pub OpenTextSays : Type 0
   OpenTextSays = IsOpenEnd result → TextTells words held old new (λ plan told last. ContinuesTold plan told)
 
+  -- Done: the words ask to print a source of the grammar, and what was appended is its canonical spelling, which is read back as this source.
+  abbrev pub PrintedSays : Type 0
+  PrintedSays = result ≡ Done → WritesSpelling words held old new
+
 -- Of the words, of what the files hold, and of the status.
 module _ (words : List (List ℕ)) (held : Option Held) (result : Status) where
   -- Where the source is a program and the inputs are a table, the run ends in one of the ways above, unless a read or a write fails or memory is
@@ -67,10 +72,14 @@ module _ (words : List (List ℕ)) (held : Option Held) (result : Status) where
   abbrev pub ProgramRuns : Type 0
   ProgramRuns = (files : Held) → held ≡ Some files → (plan : Plan) → IsAskedFor words held plan → IsEndOfRun result ⊎ HasFailed result
 
-  -- The words are refused exactly where they are no command.
+  -- Where the words ask to print a file that holds a source of the grammar, this is done, unless a read or a write fails or memory is wanted.
+  abbrev pub SourcePrints : Type 0
+  SourcePrints = (tree : SourceTree) → IsTold words held (IsToPrint tree) → IsOrFailed Done result
+
+  -- The words are refused exactly where they ask for nothing that a call does.
   pub record WordsRefusedExactly : Type 0 where
-    pub only : result ≡ WordsRefused → wanted_of words ≡ None
-    pub there : wanted_of words ≡ None → IsOrStopped WordsRefused result
+    pub only : result ≡ WordsRefused → usable_of words ≡ None
+    pub there : usable_of words ≡ None → IsOrStopped WordsRefused result
 
   -- A file is too long exactly where it has more bytes than it may have: the source, or the inputs of a source that is a program.
   abbrev pub HoldsTooLong : Which → Type 0
@@ -82,7 +91,8 @@ module _ (words : List (List ℕ)) (held : Option Held) (result : Status) where
     pub for_source : IsTold words held IsLongSource → IsOrFailed (TooLong Source) result
     pub for_inputs : IsSupplied words held IsLongTable → IsOrFailed (TooLong Inputs) result
 
-  -- The source is refused exactly where it is no program, there and for the cause that its grammar and the rules of positions name first.
+  -- The source is refused exactly where it is no program, and in the mode `print` where it is no source of the grammar: there and for the cause that
+  -- its grammar names first, or for a program after it the rules of positions.
   pub record SourceRefusedExactly : Type 0 where
     pub only : (line column : ℕ) (kind : SourceKind) → result ≡ SourceRefused line column kind
         → Sourced words held (HoldsRefused (record { line = line; column = column; kind = kind }))

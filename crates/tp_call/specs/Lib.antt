@@ -2,9 +2,11 @@ pub mod Reading
 pub mod EndLine
 pub mod Written
 pub mod Run
-pub mod Task
+pub mod Usable
+pub mod Spelling
 pub mod Source
 pub mod Answer
+pub mod Task
 pub mod Parts
 pub mod Progress
 pub mod Places

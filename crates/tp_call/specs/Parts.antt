@@ -2,6 +2,7 @@
 use Rattle.std.specs.Prelude.{◌≡◌, ◌⊎◌, ℕ, List, take, Option, None, Some}
 use Rattle.std.specs.Str.Lines.{lines}
 use Rattle.tp_io.specs.Devices.{Held, bytes_of}
+use Rattle.tp_words.specs.declared.mode.Mode.{Mode}
 use Rattle.tp_inputs.specs.declared.refusal.Fault.{Fault}
 use Rattle.tp_inputs.specs.Table.{IsFirstFault}
 use Rattle.tp_call.specs.declared.status.Status.{Status}
@@ -21,15 +22,16 @@ abbrev pub refusal_end : Option Refused → Status
 refusal_end None = NoMemory
 refusal_end (Some refused) = refused_status refused
 
--- memory was wanted, or a source is refused there for this cause
-abbrev pub IsReadRefusal : List ℕ → Status → Type 0
-IsReadRefusal source status = (status ≡ NoMemory) ⊎ ((refused : Refused) × (status ≡ refused_status refused) × IsRefusedAt source refused)
+-- memory was wanted, or a source, with which this is to be done, is refused there for this cause
+abbrev pub IsReadRefusal : Mode → List ℕ → Status → Type 0
+IsReadRefusal mode source status = (status ≡ NoMemory) ⊎ ((refused : Refused) × (status ≡ refused_status refused) × IsRefusedAt mode source refused)
 
--- there is no program for this cause: the read failed, or the file is too long, or is refused there; or memory was wanted
-abbrev pub IsSourceRefusal : Option Held → List ℕ → Status → Type 0
-IsSourceRefusal held name status = (status ≡ NoMemory) ⊎ (status ≡ ReadFault Source)
-    ⊎ ((status ≡ TooLong Source) × WhereTold held (λ files. IsLongSource (bytes_of files name)))
-    ⊎ ((refused : Refused) × (status ≡ refused_status refused) × WhereTold held (λ files. HoldsRefused refused (bytes_of files name)))
+-- there is no program, or no source of the grammar, for this cause: the read failed, or the file is too long, or is refused there; or memory was
+-- wanted
+abbrev pub IsSourceRefusal : Mode → Option Held → List ℕ → Status → Type 0
+IsSourceRefusal mode held name status = (status ≡ NoMemory) ⊎ (status ≡ ReadFault Source)
+    ⊎ ((status ≡ TooLong Source) × WhereTold held (λ files. IsLongSource mode (bytes_of files name)))
+    ⊎ ((refused : Refused) × (status ≡ refused_status refused) × WhereTold held (λ files. HoldsRefused refused mode (bytes_of files name)))
 
 -- memory was wanted, or a text is no table, for its first fault, which is in this line
 abbrev pub IsTableRefusal : List ℕ → Status → Type 0
@@ -43,7 +45,7 @@ IsInputsEnd held (Some name) status = (status ≡ NoMemory) ⊎ (status ≡ Read
     ⊎ ((status ≡ TooLong Inputs) × WhereTold held (λ files. IsLongTable (bytes_of files name)))
     ⊎ ((line : ℕ) × (status ≡ InputsRefused line) × WhereTold held (λ files. HasBadLine line (bytes_of files name)))
 
--- there is no task for this cause, or memory was wanted
+-- there is nothing to do for this cause, or memory was wanted
 abbrev pub IsProgramRefusal : List (List ℕ) → Option Held → Status → Type 0
 IsProgramRefusal words held status = (status ≡ NoMemory) ⊎ Refuses words held status
 

@@ -1,4 +1,4 @@
--- Which program a source is, or where and why it is refused.
+-- Which source of the grammar and which program a text is, or where and why it is refused.
 use Rattle.std.specs.Prelude.{◌≡◌, ◌⊎◌, ℕ, List, length, Option, None, Some, slice_get, Ok, Err}
 use Rattle.tp_lex.specs.declared.token.Token.{Token}
 use Rattle.tp_lex.specs.declared.refusal.LexRefusal.{LexRefusal}
@@ -14,9 +14,17 @@ use Rattle.tp_meaning.specs.Interval.{ProgramTree}
 use Rattle.tp_check.specs.Program.{ChecksTo}
 use Rattle.tp_check.specs.declared.refusal.CheckRefusal.{CheckRefusal}
 use Rattle.tp_check.specs.declared.refusal.CheckRefusal.TheVariants as check
+use Rattle.tp_words.specs.declared.mode.Mode.{Mode}
+use Rattle.tp_words.specs.declared.mode.Mode.TheVariants.{Run, Print}
 use Rattle.tp_call.specs.declared.status.SourceKind.{SourceKind}
 use Rattle.tp_call.specs.declared.status.SourceKind.TheVariants.{BadByte, OpenComment, NumberTooLarge, NameTooLong, Unexpected, Unfinished, TooDeep, DefinedTwice, UnknownName, WrongCount, NotExpression, NotPlace, NotPort, NotExecutable}
 use Rattle.tp_call.specs.declared.refused.Refused.{Refused}
+
+-- this text is a source of the grammar, and has this tree
+pub record IsSourceText (source : List ℕ) (tree : SourceTree) : Type 0 where
+  pub tokens : List Token
+  pub are_tokens : AreTokens source tokens
+  pub accepted : Accepts tokens tree
 
 -- This text is this program: its tokens are a source of the grammar, which the checker makes the program.
 pub record IsProgram (source : List ℕ) (program : ProgramTree) : Type 0 where
@@ -82,6 +90,12 @@ pub record IsNotRun (source : List ℕ) (refused : Refused) : Type 0 where
   pub outcome : ChecksTo tree (Err refusal)
   pub answer : checker_refusal source refusal ≡ Some refused
 
--- This text is refused at this place, for this cause: the lexer's refusal comes before the parser's, and that before the checker's.
-abbrev pub IsRefusedAt : List ℕ → Refused → Type 0
-IsRefusedAt source refused = HasNoTokens source refused ⊎ HasNoTree source refused ⊎ IsNotRun source refused
+-- This text is no source of the grammar, and is refused at this place for this cause: the lexer's refusal comes before the parser's.
+abbrev pub IsOutsideGrammar : List ℕ → Refused → Type 0
+IsOutsideGrammar source refused = HasNoTokens source refused ⊎ HasNoTree source refused
+
+-- This text is refused at this place, for this cause: to be printed it has to be a source of the grammar, and to be run it has to be a
+-- program, for which it is checked last.
+abbrev pub IsRefusedAt : Mode → List ℕ → Refused → Type 0
+IsRefusedAt Print source refused = IsOutsideGrammar source refused
+IsRefusedAt Run source refused = IsOutsideGrammar source refused ⊎ IsNotRun source refused

@@ -1,8 +1,37 @@
--- The plan of a task.
+-- What a call has to do.
+use Rattle.std.specs.Prelude.{◌≡◌, ◌<◌, ◌^◌, ℕ, List, Option, Some}
+use Rattle.tp_io.specs.Devices.{Held}
+use Rattle.tp_tree.specs.Read.{source_tree}
+use Rattle.tp_meaning.specs.Fits.{ProgramFits}
 use Rattle.tp_check.specs.Program.{program_tree}
 use Rattle.tp_inputs.specs.Read.{lines_of}
+use Rattle.tp_show.specs.Told.{AreNames}
 use Rattle.tp_run.specs.States.{Plan, plan_with}
+use Rattle.tp_words.specs.declared.command.Command.{Command}
+use Rattle.tp_words.specs.Command.{wanted_by}
 use Rattle.tp_call.specs.declared.run.Task.{Task}
+use Rattle.tp_call.specs.declared.job.Job.{Job}
+use Rattle.tp_call.specs.declared.job.Job.TheVariants as job
+use Rattle.tp_call.specs.Usable.{usable_of}
+use Rattle.tp_call.specs.Spelling.{IsReadFromSpelling}
+use Rattle.tp_call.specs.Answer.{IsAskedFor, IsAskedToPrint}
 
+-- the plan of a task
 abbrev pub plan_of : Task → Plan
 plan_of task = plan_with (program_tree task.program) (lines_of task.inputs) task.limits.states task.limits.reductions
+
+-- the words ask for this
+abbrev pub AsksFor : List (List ℕ) → Command → Type 0
+AsksFor words command = usable_of words ≡ Some (wanted_by command)
+
+-- The words ask for this task; its program's parts fit each other, and its names are words.
+pub record IsTaskFor (words : List (List ℕ)) (held : Option Held) (task : Task) : Type 0 where
+  pub asked_for : IsAskedFor words held (plan_of task)
+  pub fits : ProgramFits (program_tree task.program)
+  pub names : AreNames task.program.globals
+  pub states : task.limits.states < 2 ^ 64
+
+-- the words ask for this task, or to print this source
+abbrev pub IsJobFor : List (List ℕ) → Option Held → Job → Type 0
+IsJobFor words held (job.Run task) = IsTaskFor words held task
+IsJobFor words held (job.Print source) = IsAskedToPrint words held (source_tree source) × IsReadFromSpelling (source_tree source)

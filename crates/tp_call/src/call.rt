@@ -1,7 +1,7 @@
 // The top call.
-ghost use Rattle.std.specs.Prelude.{◌≡◌, ◌≢◌, ◌≤◌, ◌<◌, ◌^◌, ◌⊎◌, ℕ, List, [], length, None, Some, Err, IfOk, IfErr, option_map};
+ghost use Rattle.std.specs.Prelude.{◌≡◌, ◌≢◌, ◌≤◌, ◌<◌, ◌^◌, ℕ, List, [], length, Option, Some, Err, IfOk, IfErr, option_map};
 ghost use Rattle.tp_lex.specs.Place.{source_limit};
-ghost use Rattle.tp_io.specs.Devices.{Rose, bytes_of};
+ghost use Rattle.tp_io.specs.Devices.{Held, Rose, bytes_of};
 ghost use Rattle.tp_meaning.specs.Fits.{ProgramFits};
 ghost use Rattle.tp_check.specs.Program.{program_tree};
 ghost use Rattle.tp_call.specs.Source.{IsProgram};
@@ -9,47 +9,35 @@ ghost use Rattle.tp_call.specs.declared.status.Which.{Which};
 ghost use Rattle.tp_inputs.specs.Read.{lines_of};
 ghost use Rattle.tp_inputs.specs.Table.{IsInputsText};
 ghost use Rattle.tp_call.specs.Answer.{WhereTold, HoldsProgram, HasInputs, IsAskedFor, Answers, AsksOnly};
-ghost use Rattle.tp_call.specs.Reading.{read_end, AsksFile, AsksTable};
-ghost use Rattle.tp_call.specs.Task.{plan_of};
-ghost use Rattle.tp_call.specs.Headline.{FinishedSays, FinishedTextSays, OpenTextSays, ContradictorySays, UndeterminedSays, StateLimitSays, LimitSays, InputMissingSays, ProgramRuns, WordsRefusedExactly, TooLongExactly, SourceRefusedExactly, InputsRefusedExactly};
-ghost use Rattle.tp_call.specs.Parts.{refusal_end, IsReadRefusal, IsSourceRefusal, IsTableRefusal, IsInputsEnd, IsProgramRefusal, ClosesText};
+ghost use Rattle.tp_call.specs.Reading.{AsksFile, AsksTable};
+ghost use Rattle.tp_call.specs.Task.{plan_of, AsksFor, IsTaskFor, IsJobFor};
+ghost use Rattle.tp_words.specs.declared.mode.Mode.TheVariants.{Run};
+ghost use Rattle.tp_call.specs.Headline.{FinishedSays, FinishedTextSays, OpenTextSays, ContradictorySays, UndeterminedSays, StateLimitSays, LimitSays, InputMissingSays, ProgramRuns, WordsRefusedExactly, TooLongExactly, SourceRefusedExactly, InputsRefusedExactly, PrintedSays, SourcePrints};
+ghost use Rattle.tp_call.specs.Parts.{IsReadRefusal, IsSourceRefusal, IsTableRefusal, IsInputsEnd, IsProgramRefusal};
 ghost use Rattle.tp_call.specs.Progress.{line_of_end, ClosesAnswer, ClosesRun};
-ghost use Rattle.tp_call.specs.EndLine.{refusal_line};
 ghost use Rattle.tp_show.specs.Told.{AreNames, IsLastTurn};
 
-use crate::end_line::refusal_text;
-use crate::refused::{Refused, by_checker, by_lexer, by_parser};
+use crate::close::{close, refuse};
+use crate::job::Job;
+use crate::printing::{parse_source, print_source, read_tree};
+use crate::refused::{by_checker, refusal_status};
 use crate::run::{Ended, Task, run_task, status_of};
-use crate::source::{ReadRefusal, read_limited};
+use crate::source::{SOURCE_LIMIT, read_limited, read_status};
 use crate::status::{Status, Which};
+use crate::usable::command_for;
 use std::alloc::Global;
 use std::sync::ledger::Ledger;
 use tp_check::{Program, check};
 use tp_inputs::{Inputs, InputsRefusal, read_inputs};
 use tp_io::{Files, Sink, WriteRefusal};
-use tp_lex::tokens;
-use tp_parse::parse;
 use tp_run::Limits;
 use tp_show::{Turn, end_text};
 use tp_step::Steps;
 use tp_value::{NoMemory, Text};
-use tp_words::{WordsRefusal, read_words};
-
-// The greatest length of a source, in bytes.
-const SOURCE_LIMIT: usize = 1_048_576;
+use tp_words::{Command, Mode};
 
 // The greatest length of a file of inputs, in bytes.
 const INPUTS_LIMIT: usize = 16_777_216;
-
-// The status for a refusal; none stands for want of memory.
-fn refusal_status(refused: Option<Refused>) -> Status
-    ensures { result ≡ refusal_end refused }
-{
-    match refused {
-        Some(Refused { line, column, kind }) => Status::SourceRefused { line, column, kind },
-        None => Status::NoMemory,
-    }
-}
 
 // Reads a program from its source.
 fn read_program(alloc: Global, source: &[u8]) -> Result<Program, Status>
@@ -57,30 +45,12 @@ fn read_program(alloc: Global, source: &[u8]) -> Result<Program, Status>
     ensures program { IfOk result (λ p. IsProgram source.now (program_tree p)) }
     ensures fits { IfOk result (λ p. ProgramFits (program_tree p)) }
     ensures names { IfOk result (λ p. AreNames p.globals) }
-    ensures refused { IfErr result (IsReadRefusal source.now) }
+    ensures refused { IfErr result (IsReadRefusal Run source.now) }
 {
-    let tokens = match tokens(alloc, source) {
-        Ok(tokens) => tokens,
-        Err(refusal) => return Err(refusal_status(by_lexer(source, refusal))),
-    };
-    let tree = match parse(alloc, &tokens) {
-        Ok(tree) => tree,
-        Err(refusal) => return Err(refusal_status(by_parser(source, &tokens, refusal))),
-    };
+    let tree = parse_source(alloc, source)?;
     match check(alloc, &tree) {
         Ok(program) => Ok(program),
         Err(refusal) => Err(refusal_status(by_checker(source, refusal))),
-    }
-}
-
-// The status of a file that can't be read.
-fn read_status(refusal: ReadRefusal, which: Which) -> Status
-    ensures { result ≡ read_end refusal which }
-{
-    match refusal {
-        ReadRefusal::TooLong => Status::TooLong { which },
-        ReadRefusal::Failed => Status::ReadFault { which },
-        ReadRefusal::NoMemory => Status::NoMemory,
     }
 }
 
@@ -90,7 +60,7 @@ fn read_source<F: Files>(alloc: Global, name: &str, files: &mut F) -> Result<Pro
         HoldsProgram (program_tree p) (bytes_of held name.now))) }
     ensures fits { IfOk result (λ p. ProgramFits (program_tree p)) }
     ensures names { IfOk result (λ p. AreNames p.globals) }
-    ensures refused { IfErr result (IsSourceRefusal (F.held files.old) name.now) }
+    ensures refused { IfErr result (IsSourceRefusal Run (F.held files.old) name.now) }
     ensures asked { AsksFile (F.asked files.old) name.now result (F.asked files.new) }
     ensures held { F.held files.new ≡ F.held files.old }
     ensures later { F.faults files.old ≤ F.faults files.new }
@@ -164,13 +134,47 @@ fn inputs_for<F: Files>(alloc: Global, name: Option<&str>, files: &mut F) -> Res
     }
 }
 
-// Reads the words, the source and the inputs.
-fn task_for<F: Files>(alloc: Global, words: &[Text], files: &mut F) -> Result<Task, Status>
-    ensures asked_for { IfOk result (λ task.
-        IsAskedFor words.now (F.held files.old) (plan_of task)) }
+// The limits of a run.
+fn limits_of(command: &Command) -> Limits
+    ensures states { result.states ≡ command.now.states }
+    ensures reductions { result.reductions ≡ command.now.reductions }
+{
+    Limits {
+        states: command.states,
+        reductions: command.reductions,
+    }
+}
+
+// Reads the source and the inputs of a run.
+fn task_for<F: Files>(alloc: Global, command: &Command, files: &mut F) -> Result<Task, Status>
+    requires { command.now.mode ≡ Run }
+    ensures asked_for { IfOk result (λ task. (words : List (List ℕ)) → AsksFor words command.now
+        → IsAskedFor words (F.held files.old) (plan_of task)) }
     ensures fits { IfOk result (λ task. ProgramFits (program_tree task.program)) }
     ensures names { IfOk result (λ task. AreNames task.program.globals) }
     ensures states { IfOk result (λ task. task.limits.states < 2 ^ 64) }
+    ensures refused { IfErr result (λ status. (words : List (List ℕ)) → AsksFor words command.now
+        → IsProgramRefusal words (F.held files.old) status) }
+    ensures asked { (words : List (List ℕ)) → AsksFor words command.now
+        → AsksOnly words (F.asked files.old) (F.asked files.new) (λ which.
+        result ≡ Err (Status.ReadFault which)) }
+    ensures held { F.held files.new ≡ F.held files.old }
+    ensures later { F.faults files.old ≤ F.faults files.new }
+    ensures read_fault { (which : Which) → result ≡ Err (Status.ReadFault which)
+        → Rose F.greatest (F.faults files.old) (F.faults files.new) }
+{
+    let program = read_source(alloc, command.file.as_str(), files)?;
+    let inputs = inputs_for(alloc, command.inputs.as_deref(), files)?;
+    Ok(Task {
+        program,
+        inputs,
+        limits: limits_of(command),
+    })
+}
+
+// Reads the words, and what they ask for.
+fn job_for<F: Files>(alloc: Global, words: &[Text], files: &mut F) -> Result<Job, Status>
+    ensures job { IfOk result (IsJobFor words.now (F.held files.old)) }
     ensures refused { IfErr result (IsProgramRefusal words.now (F.held files.old)) }
     ensures asked { AsksOnly words.now (F.asked files.old) (F.asked files.new) (λ which.
         result ≡ Err (Status.ReadFault which)) }
@@ -179,56 +183,10 @@ fn task_for<F: Files>(alloc: Global, words: &[Text], files: &mut F) -> Result<Ta
     ensures read_fault { (which : Which) → result ≡ Err (Status.ReadFault which)
         → Rose F.greatest (F.faults files.old) (F.faults files.new) }
 {
-    let command = match read_words(alloc, words) {
-        Ok(command) => command,
-        Err(WordsRefusal::Refused) => return Err(Status::WordsRefused),
-        Err(WordsRefusal::NoMemory) => return Err(Status::NoMemory),
-    };
-    let program = read_source(alloc, command.file.as_str(), files)?;
-    let inputs = inputs_for(alloc, command.inputs.as_deref(), files)?;
-    let limits = Limits {
-        states: command.states,
-        reductions: command.reductions,
-    };
-    Ok(Task {
-        program,
-        inputs,
-        limits,
-    })
-}
-
-// Writes the end line of this status, by one write.
-fn close<K: Sink>(alloc: Global, line: &[u8], status: Status, out: &mut K) -> Status
-    requires { status ≢ Status.WriteFault }
-    ensures written { ClosesText line.now status (K.written out.old) (K.written out.new) result }
-    ensures memory { status ≡ Status.NoMemory → result ≡ Status.NoMemory }
-    ensures later { K.faults out.old ≤ K.faults out.new }
-    ensures write_fault { result ≡ Status.WriteFault
-        → Rose K.greatest (K.faults out.old) (K.faults out.new) }
-{
-    if let Status::NoMemory = &status {
-        return status;
-    }
-    match out.write(alloc, line) {
-        Ok(()) => status,
-        Err(WriteRefusal::Failed) => Status::WriteFault,
-        Err(WriteRefusal::NoMemory) => Status::NoMemory,
-    }
-}
-
-// The end line where no program ran.
-fn refuse<K: Sink>(alloc: Global, status: Status, out: &mut K) -> Status
-    requires { status ≢ Status.WriteFault }
-    ensures written { ClosesText (refusal_line status) status (K.written out.old)
-        (K.written out.new) result }
-    ensures memory { status ≡ Status.NoMemory → result ≡ Status.NoMemory }
-    ensures later { K.faults out.old ≤ K.faults out.new }
-    ensures write_fault { result ≡ Status.WriteFault
-        → Rose K.greatest (K.faults out.old) (K.faults out.new) }
-{
-    match refusal_text(alloc, &status) {
-        Ok(line) => close(alloc, line.as_slice(), status, out),
-        Err(_) => Status::NoMemory,
+    let command = command_for(alloc, words)?;
+    match command.mode {
+        Mode::Run => Ok(Job::Run(task_for(alloc, &command, files)?)),
+        Mode::Print => Ok(Job::Print(read_tree(alloc, command.file.as_str(), files)?)),
     }
 }
 
@@ -276,6 +234,28 @@ fn finish<K: Sink>(alloc: Global, ended: Ended, reductions: u64, out: &mut K) ->
     }
 }
 
+// Runs the task, to its end line.
+fn run_whole<K: Sink, L: Ledger>(
+    alloc: Global,
+    task: Task,
+    out: &mut K,
+    steps: &mut Steps<L>,
+) -> Status
+    requires { ProgramFits (program_tree task.program) }
+    ensures answer { (words : List (List ℕ)) (held : Option Held) → IsTaskFor words held task
+        → Answers words held (K.written out.old) (K.written out.new) result }
+    ensures write_fault { result ≡ Status.WriteFault
+        → Rose K.greatest (K.faults out.old) (K.faults out.new) }
+    ensures read { (which : Which) → result ≢ Status.ReadFault which }
+{
+    let reductions = task.limits.reductions;
+    match run_task(alloc, task, out, steps) {
+        Err(WriteRefusal::Failed) => Status::WriteFault,
+        Err(WriteRefusal::NoMemory) => Status::NoMemory,
+        Ok(ended) => finish(alloc, ended, reductions, out),
+    }
+}
+
 // The whole call, by the table of its answers.
 fn call<F: Files, K: Sink, L: Ledger>(
     alloc: Global,
@@ -294,20 +274,16 @@ fn call<F: Files, K: Sink, L: Ledger>(
     ensures write_fault { result ≡ Status.WriteFault
         → Rose K.greatest (K.faults out.old) (K.faults out.new) }
 {
-    let task = match task_for(alloc, words, files) {
-        Ok(task) => task,
-        Err(status) => return refuse(alloc, status, out),
-    };
-    let reductions = task.limits.reductions;
-    match run_task(alloc, task, out, steps) {
-        Err(WriteRefusal::Failed) => Status::WriteFault,
-        Err(WriteRefusal::NoMemory) => Status::NoMemory,
-        Ok(ended) => finish(alloc, ended, reductions, out),
+    match job_for(alloc, words, files) {
+        Ok(Job::Run(task)) => run_whole(alloc, task, out, steps),
+        Ok(Job::Print(source)) => print_source(alloc, &source, out),
+        Err(status) => refuse(alloc, status, out),
     }
 }
 
-/// Runs the program of the file that the words name, with the inputs and the limits that they name: `run` and a file,
-/// and the options of the command line. Each settled state is written by one write, with a line for each list of
+/// Does what the words ask for: a mode and a file, and the options of the command line. `print` writes the canonical
+/// spelling of the source that the file holds, by one write, and doesn't check it. `run` runs the program of the file,
+/// with the inputs and the limits that the words name. Each settled state is written by one write, with a line for each list of
 /// values that it shows, and the end line by one more; nothing is written after a write that failed, nor where memory
 /// is wanted. Each item that is tried adds one to the steps.
 pub fn tempura<F: Files, K: Sink, L: Ledger>(
@@ -349,6 +325,11 @@ pub fn tempura<F: Files, K: Sink, L: Ledger>(
         (K.written out.new) result }
     ensures open_text { OpenTextSays words.now (F.held files.old) (K.written out.old)
         (K.written out.new) result }
+
+    // A source that is printed.
+    ensures printed { PrintedSays words.now (F.held files.old) (K.written out.old)
+        (K.written out.new) result }
+    ensures prints { SourcePrints words.now (F.held files.old) result }
 
     // Refusals, each exactly, but for failed reads and writes and want of memory.
     ensures words_refused { WordsRefusedExactly words.now (F.held files.old) result }

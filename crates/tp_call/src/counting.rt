@@ -3,7 +3,7 @@ ghost use Rattle.std.specs.Prelude.{◌≡◌, ◌<◌, List, ℕ};
 ghost use Rattle.tp_io.specs.Devices.{Rose};
 ghost use Rattle.tp_call.specs.declared.status.Which.{Which};
 ghost use Rattle.tp_call.specs.Answer.{Answers, AsksOnly};
-ghost use Rattle.tp_call.specs.Headline.{FinishedSays, FinishedTextSays, OpenTextSays, ContradictorySays, UndeterminedSays, StateLimitSays, LimitSays, InputMissingSays, ProgramRuns, WordsRefusedExactly, TooLongExactly, SourceRefusedExactly, InputsRefusedExactly};
+ghost use Rattle.tp_call.specs.Headline.{FinishedSays, FinishedTextSays, OpenTextSays, ContradictorySays, UndeterminedSays, StateLimitSays, LimitSays, InputMissingSays, ProgramRuns, WordsRefusedExactly, TooLongExactly, SourceRefusedExactly, InputsRefusedExactly, PrintedSays, SourcePrints};
 
 use crate::call::tempura;
 use crate::status::Status;
@@ -56,6 +56,11 @@ pub fn counted<L: Ledger, F: Files, K: Sink>(
         (K.written out.new) result }
     ensures open_text { OpenTextSays words.now (F.held files.old) (K.written out.old)
         (K.written out.new) result }
+
+    // A source that is printed.
+    ensures printed { PrintedSays words.now (F.held files.old) (K.written out.old)
+        (K.written out.new) result }
+    ensures prints { SourcePrints words.now (F.held files.old) result }
 
     // Refusals, each exactly, but for failed reads and writes and want of memory.
     ensures words_refused { WordsRefusedExactly words.now (F.held files.old) result }

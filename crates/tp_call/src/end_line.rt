@@ -50,7 +50,7 @@ fn append_words(out: &mut Text, status: &Status) -> Result<(), NoMemory>
         Status::ReductionLimit { .. } | Status::NumberLimit { .. } => Ok(()),
         Status::ListLimit { .. } | Status::CallLimit { .. } => Ok(()),
         Status::NestLimit { .. } | Status::InputMissing { .. } => Ok(()),
-        Status::WriteFault | Status::NoMemory => Ok(()),
+        Status::Done | Status::WriteFault | Status::NoMemory => Ok(()),
     }
 }
 

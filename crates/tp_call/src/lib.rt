@@ -2,12 +2,16 @@
 #![tactic(auto)]
 
 mod call;
+mod close;
 mod counting;
 mod end_line;
+mod job;
+mod printing;
 mod refused;
 mod run;
 mod source;
 mod status;
+mod usable;
 
 pub use call::tempura;
 pub use counting::counted;

@@ -2,8 +2,9 @@
 ghost use Rattle.std.specs.Prelude.{◌≡◌, ◌≤◌, length, slice_get};
 ghost use Rattle.tp_lex.specs.Place.{source_limit};
 ghost use Rattle.tp_call.specs.Source.{refused_at, at_token as token_refusal, lexer_refusal, parser_refusal, checker_refusal};
+ghost use Rattle.tp_call.specs.Parts.{refusal_end};
 
-use crate::status::SourceKind;
+use crate::status::{SourceKind, Status};
 use tp_check::CheckRefusal;
 use tp_lex::{LexRefusal, Tokens, place_of};
 use tp_parse::ParseRefusal;
@@ -87,5 +88,15 @@ pub fn by_checker(source: &[u8], refusal: CheckRefusal) -> Option<Refused>
             Some(at_byte(source, at as usize, SourceKind::NotExecutable))
         }
         CheckRefusal::NoMemory => None,
+    }
+}
+
+/// The status for a refusal; none stands for want of memory.
+pub fn refusal_status(refused: Option<Refused>) -> Status
+    ensures { result ≡ refusal_end refused }
+{
+    match refused {
+        Some(Refused { line, column, kind }) => Status::SourceRefused { line, column, kind },
+        None => Status::NoMemory,
     }
 }

@@ -2,11 +2,15 @@
 ghost use Rattle.std.specs.Prelude.{◌≡◌, ◌≤◌, ◌<◌, ◌^◌, length, None, Some, IfOk, OnOk, OnErr, IsErrOf, MatchOption};
 ghost use Rattle.tp_io.specs.Devices.{Rose, bytes_of};
 ghost use Rattle.tp_call.specs.Answer.{WhereTold};
-ghost use Rattle.tp_call.specs.Reading.{asked_by};
+ghost use Rattle.tp_call.specs.Reading.{asked_by, read_end};
 
+use crate::status::{Status, Which};
 use std::alloc::Global;
 use tp_io::{FileRefusal, Files};
 use tp_value::Bytes;
+
+/// The greatest length of a source, in bytes.
+pub const SOURCE_LIMIT: usize = 1_048_576;
 
 /// Why a file could not be read.
 #[derive(Clone, Copy, Debug, PartialEq, Eq)]
@@ -54,4 +58,15 @@ pub fn read_limited<F: Files>(
         return Err(ReadRefusal::TooLong);
     }
     Ok(bytes)
+}
+
+/// The status of a file that can't be read.
+pub fn read_status(refusal: ReadRefusal, which: Which) -> Status
+    ensures { result ≡ read_end refusal which }
+{
+    match refusal {
+        ReadRefusal::TooLong => Status::TooLong { which },
+        ReadRefusal::Failed => Status::ReadFault { which },
+        ReadRefusal::NoMemory => Status::NoMemory,
+    }
 }

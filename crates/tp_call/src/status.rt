@@ -65,12 +65,13 @@ impl SourceKind {
     }
 }
 
-/// The answer of a call: how the run ended, why there was none, or what stopped the call.
+/// The answer of a call: how the run ended, that the source was printed, why neither was done, or what stopped the call.
 #[derive(Debug, Drop)]
 pub enum Status {
     Finished {
         length: u64,
     },
+    Done,
     Contradictory {
         state: u64,
         clash: Clash,
@@ -127,6 +128,7 @@ impl Status {
     {
         match self {
             Status::Finished { .. } => 0,
+            Status::Done => 0,
             Status::Contradictory { .. } => 1,
             Status::Undetermined { .. } => 2,
             Status::StateLimit { .. } => 3,

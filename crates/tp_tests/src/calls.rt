@@ -15,6 +15,7 @@ mod ends;
 mod faults;
 mod long;
 mod optioned;
+mod printed;
 mod rows;
 mod unfolded;
 

@@ -41,3 +41,5 @@ mod told;
 mod turns;
 #[cfg(test)]
 mod values;
+#[cfg(test)]
+mod words;

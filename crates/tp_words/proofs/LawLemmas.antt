@@ -1,5 +1,5 @@
--- `run` and the name of a file.
-use Rattle.std.proofs.Common.{◌≡◌, ◌≢◌, ℕ, List, [], ◌∷◌, Bool, true, false, Option, None, Some, refl, arith, ap, ap₂, ◌∙◌, ◌&&◌, codes, if◌then◌else◌, slice_index}
+-- A mode and the name of a file.
+use Rattle.std.proofs.Common.{◌≡◌, ◌≢◌, ℕ, List, [], ◌∷◌, Bool, true, false, Option, None, Some, refl, arith, ap, ap₂, ◌∙◌, ◌&&◌, if◌then◌else◌, slice_index}
 use Rattle.std.specs.Prelude.{nat_eq, is_some}
 use Rattle.std.specs.Str.{IsUtf8, is_utf8}
 use Rattle.std.proofs.lemmas.Str.{is_utf8-from_IsUtf8}
@@ -10,11 +10,15 @@ use Rattle.clap.specs.Kinds.{or_else}
 use Rattle.clap.specs.Walk.{Held, Walk, Step, idle, value, word_met, walked, after_step, to_positional, arg_by_index, walk_from, nothing_held, settled, finished}
 use Rattle.clap.specs.Faults.{word_fault, turn_fault, step_fault, settle_fault, defaults_fault, check_fault, entered_fault}
 use Rattle.tp_words.specs.App.{the_app}
-use Rattle.tp_words.specs.Words.{Wanted, wanted_without, wanted_in, wanted_of_texts, wanted_of, usual_run}
+use Rattle.tp_words.specs.declared.mode.Mode.{Mode}
+use Rattle.tp_words.specs.declared.mode.Mode.TheVariants.{Run, Print}
+use Rattle.tp_words.specs.Mode.{mode_text}
+use Rattle.tp_words.specs.Words.{Wanted, wanted_without, wanted_in, wanted_of_texts, wanted_of, usual_wanted}
 
-empty_name : wanted_of_texts (codes "run" ∷ [] ∷ []) ≡ Some (usual_run [])
+empty_name : (mode : Mode) → wanted_of_texts (mode_text mode ∷ [] ∷ []) ≡ Some (usual_wanted mode [])
 unfolding clap_on_literals wanted_of_texts wanted_in
-empty_name = refl
+empty_name Run = refl
+empty_name Print = refl
 
 not_equal : (x y : ℕ) → (x ≡ y → ⊥) → nat_eq x y ≡ false
 not_equal x y apart = grind arith
@@ -41,39 +45,45 @@ module _ (x : ℕ) (xs : List ℕ) (e : nat_eq x 45 ≡ false) where
       ≡ step_fault s p h value
   turned s h p = ap₂ (λ (k : Kinds) (m : Held × Step). or_else k (step_fault s p m.0 m.1)) (no_fault s h) (met s.rules p h)
 
--- what is wanted where a walk over two words ended so, and the second had these faults
-abbrev ended : Walk → Kinds → Option Wanted
-ended w faults = wanted_without
-    (or_else (or_else (turn_fault the_shape [] first_walk (codes "run")) (or_else faults []))
-    (or_else (entered_fault (built the_app) w.stopped)
-    (or_else (settle_fault the_shape.rules the_shape.args_override_self w.held)
-    (or_else (defaults_fault (settled the_shape.rules w.held).rows the_shape.rules)
-    (check_fault the_shape (finished the_shape.rules w.held) (is_some (entered (built the_app) w.stopped)))))))
-    (finished the_shape.rules w.held)
+module _ (mode : Mode) where
+  -- what is wanted where a walk over two words ended so, and the second had these faults
+  abbrev ended : Walk → Kinds → Option Wanted
+  ended w faults = wanted_without
+      (or_else (or_else (turn_fault the_shape [] first_walk (mode_text mode)) (or_else faults []))
+      (or_else (entered_fault (built the_app) w.stopped)
+      (or_else (settle_fault the_shape.rules the_shape.args_override_self w.held)
+      (or_else (defaults_fault (settled the_shape.rules w.held).rows the_shape.rules)
+      (check_fault the_shape (finished the_shape.rules w.held) (is_some (entered (built the_app) w.stopped)))))))
+      (finished the_shape.rules w.held)
 
-abbrev second_held : Held
-second_held = (walked the_shape.rules [] first_walk (codes "run")).held
+  abbrev second_held : Held
+  second_held = (walked the_shape.rules [] first_walk (mode_text mode)).held
 
-as_ended : (file : List ℕ) → wanted_of_texts (codes "run" ∷ file ∷ [])
-    ≡ ended (walked the_shape.rules [] (record { held = second_held; waiting = idle; position = 2; is_trailing = false; stopped = None }) file)
-    (turn_fault the_shape [] (record { held = second_held; waiting = idle; position = 2; is_trailing = false; stopped = None }) file)
+  abbrev second_walk : Walk
+  second_walk = record { held = second_held; waiting = idle; position = 2; is_trailing = false; stopped = None }
+
+as_ended : (mode : Mode) (file : List ℕ) → wanted_of_texts (mode_text mode ∷ file ∷ [])
+    ≡ ended mode (walked the_shape.rules [] (second_walk mode) file) (turn_fault the_shape [] (second_walk mode) file)
 unfolding clap_on_literals wanted_of_texts
-as_ended file = refl
+as_ended Run file = refl
+as_ended Print file = refl
 
-plain_end : (file : List ℕ) → ended (to_positional the_shape.rules (arg_by_index the_shape.rules 2) file (record { held = second_held; waiting = idle; position = 2; is_trailing = false; stopped = None }) second_held)
-    (step_fault the_shape 2 second_held value) ≡ Some (usual_run file)
+plain_end : (mode : Mode) (file : List ℕ) → ended mode (to_positional the_shape.rules (arg_by_index the_shape.rules 2) file (second_walk mode) (second_held mode))
+    (step_fault the_shape 2 (second_held mode) value) ≡ Some (usual_wanted mode file)
 unfolding clap_on_literals wanted_in
-plain_end file = refl
+plain_end Run file = refl
+plain_end Print file = refl
 
-enough : (file : List ℕ) → (slice_index file 0 ≡ 45 → ⊥) → wanted_of_texts (codes "run" ∷ file ∷ []) ≡ Some (usual_run file)
-enough [] apart = empty_name
-enough (x ∷ xs) apart =
+enough : (mode : Mode) (file : List ℕ) → (slice_index file 0 ≡ 45 → ⊥) → wanted_of_texts (mode_text mode ∷ file ∷ []) ≡ Some (usual_wanted mode file)
+enough mode [] apart = empty_name mode
+enough mode (x ∷ xs) apart =
     let other : nat_eq x 45 ≡ false = not_equal x 45 apart in
-    as_ended (x ∷ xs) ∙ ap₂ ended (moved x xs other the_shape.rules second_held 2) (turned x xs other the_shape second_held 2) ∙ plain_end (x ∷ xs)
+    as_ended mode (x ∷ xs) ∙ ap₂ (ended mode) (moved x xs other the_shape.rules (second_held mode) 2) (turned x xs other the_shape (second_held mode) 2) ∙ plain_end mode (x ∷ xs)
 
-run_is_text : is_utf8 (codes "run") ≡ true
+mode_is_text : (mode : Mode) → is_utf8 (mode_text mode) ≡ true
 unfolding is_utf8 clap_on_literals
-run_is_text = refl
+mode_is_text Run = refl
+mode_is_text Print = refl
 
-pub two_words : (file : List ℕ) → IsUtf8 file → slice_index file 0 ≢ 45 → wanted_of (codes "run" ∷ file ∷ []) ≡ Some (usual_run file)
-two_words file u apart = ap (λ (b : Bool). if b then wanted_of_texts (codes "run" ∷ file ∷ []) else None) (ap₂ (λ a b. a && (b && true)) run_is_text (is_utf8-from_IsUtf8 file u)) ∙ enough file apart
+pub two_words : (mode : Mode) (file : List ℕ) → IsUtf8 file → slice_index file 0 ≢ 45 → wanted_of (mode_text mode ∷ file ∷ []) ≡ Some (usual_wanted mode file)
+two_words mode file u apart = ap (λ (b : Bool). if b then wanted_of_texts (mode_text mode ∷ file ∷ []) else None) (ap₂ (λ a b. a && (b && true)) (mode_is_text mode) (is_utf8-from_IsUtf8 file u)) ∙ enough mode file apart

@@ -1,8 +1,10 @@
 -- A law of the words.
-use Rattle.std.specs.Prelude.{◌≡◌, ◌≢◌, List, [], ◌∷◌, ℕ, Some, codes, slice_index}
+use Rattle.std.specs.Prelude.{◌≡◌, ◌≢◌, List, [], ◌∷◌, ℕ, Some, slice_index}
 use Rattle.std.specs.Str.{IsUtf8}
-use Rattle.tp_words.specs.Words.{wanted_of, usual_run}
+use Rattle.tp_words.specs.declared.mode.Mode.{Mode}
+use Rattle.tp_words.specs.Mode.{mode_text}
+use Rattle.tp_words.specs.Words.{wanted_of, usual_wanted}
 
--- `run` and the name of a file that doesn't begin with `-` (45) ask for the usual run of this file
+-- a mode and the name of a file that doesn't begin with `-` (45) ask for this mode of this file, as usual
 abbrev pub TwoWordsAreEnough : Type 0
-TwoWordsAreEnough = (file : List ℕ) → IsUtf8 file → slice_index file 0 ≢ 45 → wanted_of (codes "run" ∷ file ∷ []) ≡ Some (usual_run file)
+TwoWordsAreEnough = (mode : Mode) (file : List ℕ) → IsUtf8 file → slice_index file 0 ≢ 45 → wanted_of (mode_text mode ∷ file ∷ []) ≡ Some (usual_wanted mode file)

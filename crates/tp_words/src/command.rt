@@ -2,12 +2,15 @@
 ghost use Rattle.std.specs.Prelude.{◌≡◌};
 ghost use Rattle.tp_words.specs.declared.command.WordsRefusal.TheVariants as refusal;
 
+use crate::mode::Mode;
 use std::alloc::{AllocError, AllocFailed};
+use tp_step::Order;
 use tp_value::NoMemory;
 
-/// A run that the words ask for. It takes the items in their order, first to last.
+/// What the words ask for. All but the mode and the file is of a run.
 #[derive(Debug, Drop)]
 pub struct Command {
+    pub mode: Mode,
     /// The name of the source.
     pub file: String,
     /// The name of the inputs.
@@ -16,6 +19,10 @@ pub struct Command {
     pub states: u64,
     /// How many reductions it makes at most in a state.
     pub reductions: u64,
+    /// In which order it takes its items.
+    pub order: Order,
+    /// Whether it writes a trace.
+    pub trace: bool,
 }
 
 /// Why there is no command.

@@ -5,9 +5,13 @@ mod app;
 mod command;
 mod laws;
 mod limit;
+mod mode;
+mod numeral;
+mod order;
 mod read;
 
 pub use command::{Command, WordsRefusal};
 pub use laws::two_words_are_enough;
 pub use limit::{GREATEST_LIMIT, USUAL_REDUCTIONS, USUAL_STATES};
+pub use mode::Mode;
 pub use read::read_words;

@@ -1,8 +1,8 @@
 // The limits that words set.
 ghost use Rattle.std.specs.Prelude.{◌≡◌, option_map};
-ghost use Rattle.std.specs.Char.{is_ascii_digit};
-ghost use Rattle.std.specs.List.{list_all};
-ghost use Rattle.tp_words.specs.Limit.{is_numeral, limit_within, limit_spelled, limit_set};
+ghost use Rattle.tp_words.specs.Limit.{limit_within, limit_spelled, limit_set};
+
+use crate::numeral::is_numeral;
 
 /// The greatest limit that words can set; the least is 1.
 pub const GREATEST_LIMIT: u64 = 1_000_000;
@@ -15,20 +15,6 @@ pub const USUAL_REDUCTIONS: u64 = 100_000;
 
 // How many digits a limit is written with at most.
 const LIMIT_DIGITS: usize = 7;
-
-// Whether each byte is a decimal digit.
-fn are_digits(text: &[u8]) -> bool
-    ensures { result ≡ list_all is_ascii_digit text.now }
-{
-    text.iter().all(|byte| byte.is_ascii_digit())
-}
-
-// One decimal digit or more, and no more than a limit may have.
-fn is_numeral(text: &[u8]) -> bool
-    ensures { result ≡ is_numeral text.now }
-{
-    !text.is_empty() && text.len() <= LIMIT_DIGITS && are_digits(text)
-}
 
 // The limit, where it is no less than 1 and no more than the greatest.
 fn limit_within(limit: u64) -> Option<u64>
@@ -45,7 +31,7 @@ fn limit_within(limit: u64) -> Option<u64>
 fn limit_spelled(text: &str) -> Option<u64>
     ensures { result ≡ limit_spelled text.now }
 {
-    if !is_numeral(text.as_bytes()) {
+    if !is_numeral(text.as_bytes(), LIMIT_DIGITS) {
         return None;
     }
     match text.parse::<u64>() {

@@ -7,12 +7,14 @@ ghost use Rattle.clap.specs.Words.{first_of, found_of, kind_of, rows_of};
 ghost use Rattle.clap.specs.declared.error.kind.ErrorKind.TheVariants.{OutOfMemory};
 ghost use Rattle.tp_words.specs.Command.{wanted_by};
 ghost use Rattle.tp_words.specs.Limit.{greatest_limit, limit_set};
-ghost use Rattle.tp_words.specs.Words.{is_text, is_text_or_none, asks_for_run, wanted_in, wanted_of_texts, wanted_of};
+ghost use Rattle.tp_words.specs.Words.{is_text, wanted_in, wanted_of_texts, wanted_of};
 ghost use Rattle.tp_words.specs.declared.command.WordsRefusal.TheVariants as refusal;
 
 use crate::app::the_app;
 use crate::command::{Command, WordsRefusal};
 use crate::limit::{USUAL_REDUCTIONS, USUAL_STATES, limit_set};
+use crate::mode::mode_given;
+use crate::order::order_set;
 use clap::error::ErrorKind;
 use clap::{ArgMatches, Error};
 use std::alloc::Global;
@@ -25,16 +27,6 @@ fn is_text(text: &str, value: Option<&str>) -> bool
     match value {
         Some(value) => value == text,
         None => false,
-    }
-}
-
-// Whether the value is this text, or isn't given.
-fn is_text_or_none(text: &str, value: Option<&str>) -> bool
-    ensures { result ≡ is_text_or_none text.now (option_map (λ t. t.now) value.entry) }
-{
-    match value {
-        Some(value) => value == text,
-        None => true,
     }
 }
 
@@ -65,25 +57,17 @@ fn limit_given(matches: &ArgMatches<'_>, name: &str, usual: u64) -> Option<u64>
     limit_set(usual, given(matches, name))
 }
 
-// The one mode is `run`, and the one order is `first`. A trace isn't written yet, so `--trace` is refused.
-fn asks_for_run(matches: &ArgMatches<'_>) -> bool
-    ensures { result ≡ asks_for_run (rows_of (found_of matches.now)) }
-{
-    is_text("run", given(matches, "mode"))
-        && is_text_or_none("first", given(matches, "order"))
-        && !is_text("true", given(matches, "trace"))
-}
-
 // The command that the matches of the words ask for.
+#[tactic(auto, unfolding(crate::specs::Words::wanted_in))]
 fn command_in(alloc: Global, matches: &ArgMatches<'_>) -> Result<Command, WordsRefusal>
     ensures accepted { IfOk result (λ c.
         wanted_in (rows_of (found_of matches.now)) ≡ Some (wanted_by c)) }
     ensures refused { IfErr result (λ e. e ≡ refusal.Refused
         → wanted_in (rows_of (found_of matches.now)) ≡ None) }
 {
-    if !asks_for_run(matches) {
+    let Some(mode) = mode_given(given(matches, "mode")) else {
         return Err(WordsRefusal::Refused);
-    }
+    };
     let Some(file) = given(matches, "file") else {
         return Err(WordsRefusal::Refused);
     };
@@ -93,13 +77,19 @@ fn command_in(alloc: Global, matches: &ArgMatches<'_>) -> Result<Command, WordsR
     let Some(reductions) = limit_given(matches, "reductions", USUAL_REDUCTIONS) else {
         return Err(WordsRefusal::Refused);
     };
+    let Some(order) = order_set(given(matches, "order")) else {
+        return Err(WordsRefusal::Refused);
+    };
     let inputs = owned(alloc, given(matches, "inputs"))?;
     let file = String::from_str(alloc, file)?;
     Ok(Command {
+        mode,
         file,
         inputs,
         states,
         reductions,
+        order,
+        trace: is_text("true", given(matches, "trace")),
     })
 }
 

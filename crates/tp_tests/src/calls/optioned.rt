@@ -103,7 +103,7 @@ const NO_COMMANDS: &str = "
 run
 run a.t b.t
 a.t run
-print a.t
+print
 Run a.t
 run -a.t
 run a.t --states x
@@ -126,8 +126,8 @@ run a.t -h
 run a.t --version
 ";
 
-// The words of a line.
-fn words_in(alloc: Global, line: &str) -> Result<Vec<&str>, NoMemory> {
+/// The words of a line.
+pub fn words_in(alloc: Global, line: &str) -> Result<Vec<&str>, NoMemory> {
     let mut words = Vec::new(alloc);
     for word in line.split(' ') {
         words.push(word)?;

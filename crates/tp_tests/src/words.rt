@@ -1,0 +1,76 @@
+// Words of the command line, and what they ask for.
+use std::process::Abort;
+use std::test::Fail;
+use tp_step::Order;
+use tp_value::Text;
+use tp_words::{Command, Mode, WordsRefusal, read_words};
+
+fn command_of(rt: &impl AllocGlobal, line: &str) -> Result<Result<Command, WordsRefusal>, Fail> {
+    let mut words = Vec::new(rt.alloc());
+    for word in line.split(' ') {
+        words.push(Text::from_slice(rt.alloc(), word.as_bytes())?)?;
+    }
+    Ok(read_words(rt.alloc(), words.as_slice()))
+}
+
+fn expect(
+    rt: &(impl Abort + AllocGlobal),
+    line: &str,
+    mode: Mode,
+    order: Order,
+    trace: bool,
+) -> Result<(), Fail> {
+    let command = command_of(rt, line)?.ok().ok_or("words that are refused")?;
+    assert_eq!(rt; command.mode, mode);
+    assert_eq!(rt; command.order, order);
+    assert_eq!(rt; command.trace, trace);
+    Ok(())
+}
+
+#[test]
+fn modes_orders_and_the_trace_are_read(rt: HostRuntime) -> Result<(), Fail> {
+    let greatest = Order::Seed(18_446_744_073_709_551_615);
+    expect(&rt, "run a.t", Mode::Run, Order::First, false)?;
+    expect(&rt, "--trace print a.t", Mode::Print, Order::First, true)?;
+    expect(&rt, "run --order last a.t", Mode::Run, Order::Last, false)?;
+    expect(
+        &rt,
+        "run a.t --order 0 --trace",
+        Mode::Run,
+        Order::Seed(0),
+        true,
+    )?;
+    expect(&rt, "run a.t --order 007", Mode::Run, Order::Seed(7), false)?;
+    expect(
+        &rt,
+        "run a.t --order 18446744073709551615",
+        Mode::Run,
+        greatest,
+        false,
+    )?;
+    expect(
+        &rt,
+        "run a.t --order 00000000000000000008",
+        Mode::Run,
+        Order::Seed(8),
+        false,
+    )
+}
+
+#[test]
+fn words_of_another_form_are_refused(rt: HostRuntime) -> Result<(), Fail> {
+    for line in [
+        "run a.t --order 18446744073709551616",
+        "run a.t --order 000000000000000000008",
+        "run a.t --order +7",
+        "run a.t --order First",
+        "run a.t --order=",
+        "run a.t --trace=true",
+        "show a.t",
+        "print",
+    ] {
+        let refusal = command_of(&rt, line)?.err();
+        assert_eq!(rt; refusal, Some(WordsRefusal::Refused), "for {line}");
+    }
+    Ok(())
+}

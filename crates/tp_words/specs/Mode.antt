@@ -1,0 +1,18 @@
+-- What words ask to do with the file.
+use Rattle.std.specs.Prelude.{ℕ, List, Option, None, Some, if◌then◌else◌, codes}
+use Rattle.std.specs.Str.{bytes_eq}
+use Rattle.tp_words.specs.declared.mode.Mode.{Mode}
+use Rattle.tp_words.specs.declared.mode.Mode.TheVariants.{Run, Print}
+
+abbrev pub mode_text : Mode → List ℕ
+mode_text Run = codes "run"
+mode_text Print = codes "print"
+
+-- the mode with this name
+abbrev pub mode_named : List ℕ → Option Mode
+mode_named text = if bytes_eq text (mode_text Run) then Some Run else (if bytes_eq text (mode_text Print) then Some Print else None)
+
+-- the mode that a word names
+abbrev pub mode_given : Option (List ℕ) → Option Mode
+mode_given None = None
+mode_given (Some text) = mode_named text

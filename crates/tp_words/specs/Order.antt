@@ -1,0 +1,24 @@
+-- The order in which a run takes its items: from the first or from the last, or as a seed says.
+use Rattle.std.specs.Prelude.{◌^◌, ℕ, List, Option, None, Some, option_map, nat_lt, if◌then◌else◌, ◌&&◌, codes}
+use Rattle.std.specs.Str.{bytes_eq}
+use Rattle.std.specs.Str.Parse.{digits_value}
+use Rattle.tp_step.specs.declared.answer.Order.{Order}
+use Rattle.tp_step.specs.declared.answer.Order.TheVariants.{First, Last, Seed}
+use Rattle.tp_words.specs.Numeral.{is_numeral}
+
+-- how many digits a seed is written with at most; it is below 2 ^ 64
+abbrev pub seed_digits : ℕ
+seed_digits = 20
+
+-- the seed that a text spells
+abbrev pub seed_spelled : List ℕ → Option ℕ
+seed_spelled text = if is_numeral seed_digits text && nat_lt (digits_value 10 text) (2 ^ 64) then Some (digits_value 10 text) else None
+
+-- the order with this name, or with this seed
+abbrev pub order_named : List ℕ → Option Order
+order_named text = if bytes_eq text (codes "first") then Some First else (if bytes_eq text (codes "last") then Some Last else option_map Seed (seed_spelled text))
+
+-- the order where an option may have set one
+abbrev pub order_set : Option (List ℕ) → Option Order
+order_set None = Some First
+order_set (Some text) = order_named text
