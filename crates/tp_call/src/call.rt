@@ -12,6 +12,7 @@ ghost use Rattle.tp_call.specs.Answer.{WhereTold, HoldsProgram, HasInputs, IsAsk
 ghost use Rattle.tp_call.specs.Reading.{read_end, AsksFile, AsksTable};
 ghost use Rattle.tp_call.specs.Task.{plan_of};
 ghost use Rattle.tp_call.specs.Headline.{FinishedSays, FinishedTextSays, OpenTextSays, ContradictorySays, UndeterminedSays, StateLimitSays, LimitSays, InputMissingSays, ProgramRuns, WordsRefusedExactly, TooLongExactly, SourceRefusedExactly, InputsRefusedExactly};
+ghost use Rattle.tp_call.specs.EveryOrder.{ComesToEachEnd};
 ghost use Rattle.tp_call.specs.Parts.{refusal_end, IsReadRefusal, IsSourceRefusal, IsTableRefusal, IsInputsEnd, IsProgramRefusal, ClosesText};
 ghost use Rattle.tp_call.specs.Progress.{line_of_end, ClosesAnswer, ClosesRun};
 ghost use Rattle.tp_call.specs.EndLine.{refusal_line};
@@ -343,6 +344,8 @@ pub fn tempura<F: Files, K: Sink, L: Ledger>(
     ensures input_missing { InputMissingSays words.now (F.held files.old) (K.written out.old)
         (K.written out.new) result }
     ensures program_runs { ProgramRuns words.now (F.held files.old) result }
+    ensures every_order { ComesToEachEnd words.now (F.held files.old) (K.written out.old)
+        (K.written out.new) result }
 
     // The headline for whoever has the text alone.
     ensures finished_text { FinishedTextSays words.now (F.held files.old) (K.written out.old)
