@@ -11,7 +11,7 @@ use Rattle.tp_show.specs.declared.turn.Turn.{Turn}
 use Rattle.tp_show.specs.declared.turn.Turn.TheVariants.{Went, Finished, Contradictory, Undetermined, StateLimit, InputMissing, Over}
 use Rattle.tp_run.specs.History.{RunEndsWith}
 use Rattle.tp_run.specs.States.{Plan, globals_of, setting, StateGoesOn, StateEnds, LeadsTo, Standing, StateBecomes}
-use Rattle.tp_growth.specs.Within.{InputsWithin}
+use Rattle.tp_inputs.specs.Within.{InputsWithin}
 use Rattle.tp_renaming.specs.Renaming.{Renaming, FixesBelow, renamed_cell}
 
 -- Two pictures have the same number, the same facts, the same shows, and as many reductions.

@@ -8,4 +8,5 @@ pub mod TurnLemmas
 pub mod HeadlineLemmas
 pub mod AnswerLemmas
 pub mod ClauseLemmas
+pub mod EveryOrderLemmas
 pub mod TextLemmas

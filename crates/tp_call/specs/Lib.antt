@@ -11,4 +11,5 @@ pub mod Parts
 pub mod Progress
 pub mod Places
 pub mod Text
+pub mod EveryOrder
 pub mod Headline

@@ -19,7 +19,8 @@ use Rattle.tp_scene.specs.Fits.{IsCalm}
 use Rattle.tp_scene.proofs.Grown.{other_side}
 use Rattle.tp_growth.specs.Rows.{Grows, IsFailure}
 use Rattle.tp_growth.specs.Outcomes.{KnowsMore}
-use Rattle.tp_growth.specs.Within.{LengthsAreWithin, BindingsWithin, LeafWithin, InputsWithin}
+use Rattle.tp_inputs.specs.Within.{InputsWithin}
+use Rattle.tp_growth.specs.Within.{LengthsAreWithin, BindingsWithin, LeafWithin}
 use Rattle.tp_growth.proofs.InputsWithin.{input_within}
 use Rattle.tp_growth.proofs.Small.{values_within}
 use Rattle.tp_growth.proofs.Kept.{target_facts}

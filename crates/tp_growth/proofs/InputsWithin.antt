@@ -5,7 +5,7 @@ use Rattle.std.specs.Str.{bytes_eq}
 use Rattle.tp_value.specs.Tree.{Tree}
 use Rattle.tp_value.specs.Limits.{IsWithinListLimit}
 use Rattle.tp_meaning.specs.Inputs.{InputPair, InputLines, port_value, input_at}
-use Rattle.tp_growth.specs.Within.{LineWithin, InputsWithin}
+use Rattle.tp_inputs.specs.Within.{LineWithin, InputsWithin}
 
 port_within : (ps : List InputPair) (port : List ℕ) (t : Tree) → LineWithin ps → port_value port ps ≡ Some t → IsWithinListLimit t
 port_within [] port t h e = absurd (cc)

@@ -22,7 +22,8 @@ use Rattle.tp_scene.specs.Step.{region_limit, Reduction, PickOutcome, reduces, w
 use Rattle.tp_scene.specs.Pick.{Setting, pick, put}
 use Rattle.tp_scene.proofs.Frame.{region}
 use Rattle.tp_scene.proofs.Risen.{pick_here, pick_second, pick_first, pick_later}
-use Rattle.tp_growth.specs.Within.{LengthsAreWithin, BindingWithin, BindingsWithin, LeafWithin, HolderWithin, SecondIsOwn, EntriesWithin, InputsWithin, PicksStayWithin}
+use Rattle.tp_inputs.specs.Within.{InputsWithin}
+use Rattle.tp_growth.specs.Within.{LengthsAreWithin, BindingWithin, BindingsWithin, LeafWithin, HolderWithin, SecondIsOwn, EntriesWithin, PicksStayWithin}
 use Rattle.tp_growth.proofs.InputsWithin.{input_within}
 use Rattle.tp_growth.proofs.Small.{values_within}
 

@@ -1,5 +1,4 @@
--- What is within the limits on items: kept lengths, bound values, inputs, and the values that are
--- found.
+-- What is within the limits on items: kept lengths, bound values, and the values that are found.
 use Rattle.std.specs.Prelude.{◌≡◌, ℕ, ◌∷◌, ◌≤◌, List, [], Some}
 use Rattle.tp_value.specs.Tree.{Tree}
 use Rattle.tp_value.specs.Limits.{length_limit, IsWithinListLimit}
@@ -7,7 +6,7 @@ use Rattle.tp_value.specs.declared.value.Shape.TheVariants.{Items}
 use Rattle.tp_value.specs.declared.path.Path.{Path}
 use Rattle.tp_value.specs.declared.path.Fact.{Fact}
 use Rattle.tp_meaning.specs.Syntax.{ExprTree, Definition, BindingTree, place_binding, known_binding}
-use Rattle.tp_meaning.specs.Inputs.{InputPair, InputLines}
+use Rattle.tp_inputs.specs.Within.{InputsWithin}
 use Rattle.tp_store.specs.Facts.{kept_shape}
 use Rattle.tp_eval.specs.Outcome.{outcome, place_outcome}
 use Rattle.tp_scene.specs.Scene.{Bindings, Leaf, Do, Later, Shown, Holder, Split, SplitProject, Closed, Opened, Running, Entries, none, leaf, node, Place}
@@ -54,16 +53,6 @@ EntriesWithin none = Unit {0}
 EntriesWithin (leaf id l rest) = LeafWithin l × EntriesWithin rest
 EntriesWithin (node id k h held g second rest) = HolderWithin k × EntriesWithin held
     × EntriesWithin second × EntriesWithin rest × SecondIsOwn k second
-
--- each value of a line of inputs is within the limits
-abbrev pub LineWithin : List InputPair → Type 0
-LineWithin [] = Unit {0}
-LineWithin (p ∷ ps) = IsWithinListLimit p.value × LineWithin ps
-
--- and each value of the table, as those of an inputs file are
-abbrev pub InputsWithin : InputLines → Type 0
-InputsWithin [] = Unit {0}
-InputsWithin (l ∷ ls) = LineWithin l × InputsWithin ls
 
 -- The value that is found of an expression, and where a place is an element of a bound value that
 -- element, are within the limits.

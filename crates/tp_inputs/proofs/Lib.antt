@@ -3,3 +3,4 @@ pub mod LineLemmas
 pub mod PairLemmas
 pub mod PartLemmas
 pub mod TableLemmas
+pub mod WithinLemmas

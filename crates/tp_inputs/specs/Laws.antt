@@ -8,6 +8,7 @@ use Rattle.tp_value.specs.Answers.{IsReadRefused}
 use Rattle.tp_meaning.specs.Inputs.{InputLines}
 use Rattle.tp_inputs.specs.declared.refusal.Fault.{Fault}
 use Rattle.tp_inputs.specs.Table.{IsInputsText, IsFirstFault}
+use Rattle.tp_inputs.specs.Within.{InputsWithin}
 
 -- the bytes are a table, or have a first fault
 abbrev pub EachTextIsJudged : Type 0
@@ -26,3 +27,7 @@ NoFaultyTable = (bytes : List ℕ) (t : InputLines) (n : ℕ) (f : Fault) → Is
 -- a value that is refused is refused for its first cause
 abbrev pub RefusedValuesHaveTheirCause : Type 0
 RefusedValuesHaveTheirCause = (bytes : List ℕ) (from : ℕ) (e : ReadValue) → from ≤ length bytes → value_answer bytes from ≡ refused e → (e ≢ NoMemory) × IsReadRefused bytes from e
+
+-- the values of a table that is a text's are within the limits on items and depth
+abbrev pub TablesAreWithin : Type 0
+TablesAreWithin = (bytes : List ℕ) (table : InputLines) → IsInputsText bytes table → InputsWithin table

@@ -4,3 +4,4 @@ pub mod Lines
 pub mod Parts
 pub mod Read
 pub mod Table
+pub mod Within

@@ -11,7 +11,8 @@ use Rattle.tp_scene.specs.Advance.{advanced}
 use Rattle.tp_scene.specs.StandsFor.{first_moment}
 use Rattle.tp_scene.specs.Laws.{IsSound, StoreGoesOn}
 use Rattle.tp_growth.specs.Rows.{IsFailure}
-use Rattle.tp_growth.specs.Within.{LengthsAreWithin, EntriesWithin, InputsWithin}
+use Rattle.tp_inputs.specs.Within.{InputsWithin}
+use Rattle.tp_growth.specs.Within.{LengthsAreWithin, EntriesWithin}
 use Rattle.tp_renaming.specs.Renaming.{Renaming}
 use Rattle.tp_renaming.specs.Alike.{AlikeBy, Alike}
 

@@ -1,1 +1,3 @@
+pub mod Live
 pub mod Picks
+pub mod Sweeping

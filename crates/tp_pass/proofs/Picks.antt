@@ -1,5 +1,5 @@
--- Picks one after the other, and items below the next number.
-use Rattle.std.proofs.Common.{◌≡◌, ℕ, suc, ◌+◌, ◌<◌, Bool, true, false, List, [], ◌∷◌, ◌++◌, refl, ap, sym, ◌∙◌, subst, arith, inl, inr, append_assoc, length-append, below_more, Option, Some, None, ◌⊎◌, ◌*◌, ◌-◌, ◌^◌}
+-- Picks one after the other, in a pass.
+use Rattle.std.proofs.Common.{◌≡◌, ℕ, suc, ◌<◌, Bool, true, false, List, [], ◌∷◌, ◌++◌, refl, ap, sym, ◌∙◌, subst, arith, inl, inr, append_assoc, length-append, Option, Some, None, ◌⊎◌}
 use Rattle.std.proofs.lemmas.Bool.{both_ways}
 use Rattle.std.proofs.lemmas.List.{append-nil}
 use Rattle.tp_scene.specs.Scene.{has}
@@ -9,6 +9,10 @@ use Rattle.tp_scene.specs.Laws.{IsSound}
 use Rattle.tp_step.specs.declared.answer.Ending.{Ending}
 use Rattle.tp_step.specs.declared.answer.Tried.{Tried}
 use Rattle.tp_step.specs.declared.answer.Tried.TheVariants as tried
+use Rattle.tp_step.specs.declared.answer.Order.{Order}
+use Rattle.tp_pass.specs.declared.sweep.Sweep.{Sweep}
+use Rattle.tp_pass.specs.Sweeps.{BeginsSweep, TakesTurn}
+use Rattle.tp_pass.proofs.Sweeping.{IsToCome, begins_with_each, one_turn, no_turn}
 use Rattle.tp_pass.specs.Closes.{Made, LooksAt, Looks, Counts, Passes, ClosureEnds, ending_of, is_pick}
 
 -- one more pick
@@ -61,48 +65,56 @@ picks_have_room w t room m next (Some (tried.Clash clash)) h p = absurd (both_wa
 picks_have_room w t room m next (Some (tried.Missing port)) h p = absurd (both_ways false refl p)
 picks_have_room w t room m next (Some (tried.Over limit)) h p = absurd (both_ways false refl p)
 
--- So far in a pass: what was picked; soundness is kept; and where nothing was reduced, nothing comes of the items before this one.
-pub record Passing (w : Setting) (m here : Moment) (l0 l1 : ℕ) (b0 b1 : List ℕ) (item : ℕ) : Type 0 where
+-- So far in a pass: what was picked; soundness is kept; and where nothing was reduced, nothing comes of a live item whose turn isn't still to come.
+pub record Passing (w : Setting) (m here : Moment) (l0 l1 : ℕ) (b0 b1 : List ℕ) (sweep : Sweep) : Type 0 where
   pub made : Made w m here l0 l1 b0 b1
   pub sound : (kinds : List Bool) → IsSound w kinds m → IsSound w kinds here
-  pub idle : l1 ≡ l0 → (t : ℕ) → t < item → has t here.scene.root.entries ≡ true → IsIdle (outcome_of w here.store here.scene t)
+  pub idle : l1 ≡ l0 → (t : ℕ) → has t here.scene.root.entries ≡ true → IsToCome sweep t ⊎ IsIdle (outcome_of w here.store here.scene t)
 
-pub passing_first : (w : Setting) (m : Moment) (left : ℕ) (before : List ℕ) → Passing w m m left left before before 0
-passing_first w m left before = record { made = made_none w m left before; sound = λ kinds h. h; idle = λ e t less. absurd (omega arith) }
+pub passing_first : (w : Setting) (m : Moment) (left : ℕ) (before : List ℕ) (order after : Order) (sweep : Sweep)
+    → BeginsSweep m.scene.root.entries order after sweep → Passing w m m left left before before sweep
+passing_first w m left before order after sweep h = record {
+  made = made_none w m left before;
+  sound = λ kinds k. k;
+  idle = λ e t lives. inl (begins_with_each m.scene.root.entries order after sweep h t lives);
+}
 
 -- one item more
-pub passing_more : (w : Setting) (m here next : Moment) (l0 l1 l2 : ℕ) (b0 b1 b2 : List ℕ) (item : ℕ) → Passing w m here l0 l1 b0 b1 item
-    → ((kinds : List Bool) → IsSound w kinds here → IsSound w kinds next) → Looks w item here next l1 l2 b1 b2 None → Passing w m next l0 l2 b0 b2 (item + 1)
-passing_more w m here next l0 l1 l2 b0 b1 b2 item h sound (inl x) = record {
+pub passing_more : (w : Setting) (m here next : Moment) (l0 l1 l2 : ℕ) (b0 b1 b2 : List ℕ) (sweep after : Sweep) (n item : ℕ) → Passing w m here l0 l1 b0 b1 sweep
+    → TakesTurn n sweep after (Some item) → ((kinds : List Bool) → IsSound w kinds here → IsSound w kinds next) → Looks w item here next l1 l2 b1 b2 None → Passing w m next l0 l2 b0 b2 after
+passing_more w m here next l0 l1 l2 b0 b1 b2 sweep after n item h turn sound (inl x) = record {
   made = made_more w m here next l0 l1 l2 b0 b1 b2 item x.0 h.made x.1 x.2 x.3;
   sound = λ kinds k. sound kinds (h.sound kinds k);
   idle = λ e. absurd (omega (arith, e, x.2, h.made.spent));
 }
-passing_more w m here next l0 l1 l2 b0 b1 b2 item h sound (inr x) =
+passing_more w m here next l0 l1 l2 b0 b1 b2 sweep after n item h turn sound (inr x) =
     let same : l2 ≡ l1 = x.2 in
     let made : Made w m here l0 l2 b0 b2 = subst (λ k. Made w m here l0 k b0 b2) (sym same) (subst (λ bs. Made w m here l0 l1 b0 bs) (sym x.3) h.made) in
-    let upto : l2 ≡ l0 → (t : ℕ) → t < item + 1 → has t here.scene.root.entries ≡ true → IsIdle (outcome_of w here.store here.scene t) =
-    λ e. below_more (λ t. has t here.scene.root.entries ≡ true → IsIdle (outcome_of w here.store here.scene t)) item (h.idle (sym same ∙ e)) x.0 in
+    let IsDone : Moment → ℕ → Type 0 = λ z t. IsIdle (outcome_of w z.store z.scene t) in
+    let still : l2 ≡ l0 → (t : ℕ) → has t here.scene.root.entries ≡ true → IsToCome after t ⊎ IsDone here t =
+    λ e t lives. elim (h.idle (sym same ∙ e) t lives) [
+      | inl to_come ↦ elim (one_turn n sweep after item turn t to_come) [
+        | inl it ↦ inr (subst (IsDone here) (sym it) (x.0 (subst (λ u. has u here.scene.root.entries ≡ true) it lives)))
+        | inr later ↦ inl later
+      ]
+      | inr idle ↦ inr idle
+    ] in
     record {
       made = subst (λ (z : Moment). Made w m z l0 l2 b0 b2) (sym x.1) made;
       sound = λ kinds k. sound kinds (h.sound kinds k);
-      idle = λ e. subst (λ (z : Moment). (t : ℕ) → t < item + 1 → has t z.scene.root.entries ≡ true → IsIdle (outcome_of w z.store z.scene t)) (sym x.1) (upto e);
+      idle = λ e. subst (λ (z : Moment). (t : ℕ) → has t z.scene.root.entries ≡ true → IsToCome after t ⊎ IsDone z t) (sym x.1) (still e);
     }
 
--- a pass that has come to the last item
-pub passing_last : (w : Setting) (m here : Moment) (l0 l1 : ℕ) (b0 b1 : List ℕ) (item : ℕ) → Passing w m here l0 l1 b0 b1 item
-    → ((t : ℕ) → has t here.scene.root.entries ≡ true → t < item) → Passes w m here l0 l1 b0 b1 None
-passing_last w m here l0 l1 b0 b1 item h below = (h.made, λ e t lives. h.idle e t (below t lives) lives)
+-- a pass that has no turn left
+pub passing_last : (w : Setting) (m here : Moment) (l0 l1 : ℕ) (b0 b1 : List ℕ) (sweep after : Sweep) (n : ℕ) → Passing w m here l0 l1 b0 b1 sweep
+    → TakesTurn n sweep after None → ((t : ℕ) → has t here.scene.root.entries ≡ true → t < n) → Passes w m here l0 l1 b0 b1 None
+passing_last w m here l0 l1 b0 b1 sweep after n h turn below =
+    (h.made, λ e t lives. elim (h.idle e t lives) [ inl to_come ↦ absurd (no_turn n sweep after turn t to_come (below t lives)) | inr idle ↦ idle ])
 
 -- one that ends before
-pub passing_ends : (w : Setting) (m here next : Moment) (l0 l1 l2 : ℕ) (b0 b1 b2 : List ℕ) (item : ℕ) (ending : Ending) → Passing w m here l0 l1 b0 b1 item → Looks w item here next l1 l2 b1 b2 (Some ending) → Passes w m next l0 l2 b0 b2 (Some ending)
-passing_ends w m here next l0 l1 l2 b0 b1 b2 item ending h x =
+pub passing_ends : (w : Setting) (m here next : Moment) (l0 l1 l2 : ℕ) (b0 b1 b2 : List ℕ) (sweep : Sweep) (item : ℕ) (ending : Ending) → Passing w m here l0 l1 b0 b1 sweep → Looks w item here next l1 l2 b1 b2 (Some ending) → Passes w m next l0 l2 b0 b2 (Some ending)
+passing_ends w m here next l0 l1 l2 b0 b1 b2 sweep item ending h x =
     let same : l2 ≡ l1 = x.2 in
     let made : Made w m here l0 l2 b0 b2 = subst (λ k. Made w m here l0 k b0 b2) (sym same) (subst (λ bs. Made w m here l0 l1 b0 bs) (sym x.3) h.made) in
     let ends : ClosureEnds w l2 here ending = subst (λ k. ClosureEnds w k here ending) (sym same) x.0 in
     (subst (λ (z : Moment). Made w m z l0 l2 b0 b2) (sym x.1) made, subst (λ (z : Moment). ClosureEnds w l2 z ending) (sym x.1) ends)
-
--- the measure of a pass falls
-pub pass_falls : (left left' end end' item : ℕ) → item < end → end' < 2 ^ 64 → (left ≡ suc left') ⊎ ((left' ≡ left) × (end' ≡ end)) → left' * 2 ^ 64 + (end' - (item + 1)) < left * 2 ^ 64 + (end - item)
-pass_falls left left' end end' item less fits (inl e) = omega (arith, e)
-pass_falls left left' end end' item less fits (inr e) = omega (arith, e.0, e.1)

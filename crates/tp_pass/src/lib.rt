@@ -2,5 +2,7 @@
 #![tactic(auto)]
 
 mod pass;
+mod sweep;
 
 pub use pass::close_by_passes;
+pub use sweep::Course;

@@ -1,12 +1,12 @@
-// The closure by passes: each pass tries the live items by increasing number, until one reduces nothing.
-ghost use Rattle.std.specs.Prelude.{◌≡◌, ◌<◌, ◌^◌, true, Bool, List, IfOk, OnOk};
+// The closure by passes, until one reduces nothing.
+ghost use Rattle.std.specs.Prelude.{◌≡◌, ◌<◌, true, Bool, List, IfOk, OnOk};
 ghost use Rattle.tp_scene.specs.Laws.{IsSound};
 ghost use Rattle.tp_decide.specs.Decided.{setting_of};
 ghost use Rattle.tp_slots.specs.Kept.{IsWellKept};
-ghost use Rattle.tp_slots.specs.Read.{scene_of};
 ghost use Rattle.tp_step.specs.Answers.{moment_of};
 ghost use Rattle.tp_pass.specs.Closes.{ClosureAnswers, Counts, LooksAt, Passes, ending_of, is_pick};
 
+use crate::sweep::{Course, Sweep};
 use std::sync::ledger::Ledger;
 use tp_step::{Ending, Scene, Setting, Steps, Tally, Tried, has_item, try_item};
 use tp_store::Store;
@@ -72,20 +72,12 @@ fn record(
     }
 }
 
-// The number that the next new item takes.
-fn next_number(scene: &Scene) -> u64
-    ensures number { result ≡ (scene_of scene.now).next_item }
-    ensures fits { result < 2 ^ 64 }
-{
-    scene.slots.len() as u64
-}
-
-// Tries each live item once, by increasing number, new ones too.
+// Tries each item once whose turn comes, where it is live.
 fn pass<L: Ledger>(
     scene: &mut Scene,
     store: &mut Store,
     setting: &Setting,
-    left: &mut u64,
+    course: &mut Course,
     tally: &mut Tally,
     steps: &mut Steps<L>,
 ) -> Result<Option<Ending>, NoMemory>
@@ -99,32 +91,32 @@ fn pass<L: Ledger>(
     ensures kept { IsWellKept scene.new }
     ensures passes { IfOk result
         (Passes (setting_of setting.now) (moment_of scene.old store.old)
-        (moment_of scene.new store.new) left.old left.new tally.old.picks tally.new.picks) }
+        (moment_of scene.new store.new) course.old.room course.new.room tally.old.picks
+        tally.new.picks) }
     ensures waits { tally.new.waits ≡ tally.old.waits }
     ensures rests { tally.new.rests ≡ tally.old.rests }
 {
-    let mut item = 0;
-    let mut end = next_number(scene);
-    'items: while item < end {
-        let looked = look_at(scene, item, store, setting, *left, steps)?;
-        match record(looked, item, left, tally)? {
+    let mut sweep = Sweep::begin(setting.alloc, scene, &mut course.order)?;
+    'items: while let Some(item) = sweep.next(scene) {
+        let looked = look_at(scene, item, store, setting, course.room, steps)?;
+        match record(looked, item, &mut course.room, tally)? {
             Some(ending) => return Ok(Some(ending)),
             None => {}
         }
-        item += 1;
-        end = next_number(scene);
     }
     Ok(None)
 }
 
-/// Closes a state by passes: each tries the live items by increasing number, new ones too, and they are repeated until one reduces
-/// nothing. At most `room` items are reduced. Their numbers are appended to the tally's picks, in order; scene and store stand where
-/// these picks lead. The tally's waits and rests stay as they are.
+/// Closes a state by passes, which are repeated until one reduces nothing. In order `First` a pass tries the live items by increasing
+/// number, new ones too; in order `Last` the items that were live as it began, by decreasing number; in that of a seed those same
+/// items by increasing number, from a place that the seed chooses, and round. An item that isn't live at its turn is passed over. At
+/// most `course.room` items are reduced. Their numbers are appended to the tally's picks, in order; scene and store stand where these
+/// picks lead. The tally's waits and rests stay as they are.
 pub fn close_by_passes<L: Ledger>(
     scene: &mut Scene,
     store: &mut Store,
     setting: &Setting,
-    room: u64,
+    mut course: Course,
     tally: &mut Tally,
     steps: &mut Steps<L>,
 ) -> Result<Ending, NoMemory>
@@ -137,19 +129,18 @@ pub fn close_by_passes<L: Ledger>(
         → IsSound (setting_of setting.now) kinds (moment_of scene.new store.new)) }
     ensures kept { IsWellKept scene.new }
     ensures closes { IfOk result
-        (ClosureAnswers (setting_of setting.now) room (moment_of scene.old store.old)
+        (ClosureAnswers (setting_of setting.now) course.room (moment_of scene.old store.old)
         (moment_of scene.new store.new) tally.old.picks tally.new.picks) }
     ensures waits { tally.new.waits ≡ tally.old.waits }
     ensures rests { tally.new.rests ≡ tally.old.rests }
 {
-    let mut left = room;
     'passes: loop {
-        let before = left;
-        match pass(scene, store, setting, &mut left, tally, steps)? {
+        let before = course.room;
+        match pass(scene, store, setting, &mut course, tally, steps)? {
             Some(ending) => return Ok(ending),
             None => {}
         }
-        if left == before {
+        if course.room == before {
             return Ok(Ending::Rest);
         }
     }

@@ -289,7 +289,7 @@ with_stand : (plan : Plan) (run : Run) (next : ℕ) (store : Contents) (stand : 
     → IsRunOf plan (moved run next store stand)
 with_stand plan run next store stand h within sound kept named = record {
   program = h.program;
-  settings = record { inputs = h.settings.inputs; states = h.settings.states; reductions = h.settings.reductions; globals = h.settings.globals; definitions = h.settings.definitions; order = h.settings.order };
+  settings = record { inputs = h.settings.inputs; states = h.settings.states; reductions = h.settings.reductions; globals = h.settings.globals; definitions = h.settings.definitions };
   within = within;
   sound = sound;
   kept = kept;

@@ -13,7 +13,7 @@ use Rattle.tp_show.specs.declared.turn.Turn.TheVariants.{Went, Finished, Contrad
 use Rattle.tp_kernel.specs.declared.formula.LimitKind.TheVariants as kind
 use Rattle.tp_kernel.specs.declared.formula.LimitKind.{LimitKind}
 use Rattle.tp_run.specs.States.{Plan, setting, Standing, open_at, ReachesLimit, limit_moment, StateBecomes}
-use Rattle.tp_run.specs.Runs.{stands_at, standing_of, HasFirst}
+use Rattle.tp_run.specs.Runs.{stands_at, HasFirst}
 
 -- where a run stands before a state, its store is what the state begins with
 pub store_before : (stand : Stand) (store : Contents) (m : Moment) → stands_at stand store ≡ open_at m → store ≡ m.store

@@ -6,7 +6,6 @@ use Rattle.tp_store.specs.Known.{Contents, Variable, IsVariableOf}
 use Rattle.tp_decide.specs.Read.{shows_of}
 use Rattle.tp_slots.specs.Kept.{IsWellKept}
 use Rattle.tp_step.specs.Answers.{moment_of}
-use Rattle.tp_step.specs.declared.answer.Order.TheVariants.{First}
 use Rattle.tp_meaning.specs.Interval.{ProgramTree, kinds_of}
 use Rattle.tp_check.specs.Program.{program_tree}
 use Rattle.tp_scene.specs.declared.answer.Cell.{Cell}
@@ -116,7 +115,6 @@ pub record IsSettingsOf (plan : Plan) (settings : Settings) : Type 0 where
   pub reductions : settings.limits.reductions ≡ plan.reductions
   pub globals : settings.globals ≡ globals_of plan
   pub definitions : definitions_of settings.setting.defs ≡ plan.program.defs
-  pub order : settings.order ≡ First
 
 -- a run's settings while it makes a state: the program lends them its definitions
 abbrev pub settings_of : Run → Settings

@@ -17,7 +17,6 @@ ghost use Rattle.tp_decide.specs.Decided.{setting_of};
 ghost use Rattle.tp_slots.specs.Kept.{IsWellKept, Lives};
 ghost use Rattle.tp_slots.specs.Read.{scene_of};
 ghost use Rattle.tp_step.specs.Answers.{moment_of};
-ghost use Rattle.tp_step.specs.declared.answer.Order.TheVariants.{First};
 ghost use Rattle.tp_run.specs.States.{Plan, plan_with, open_at, spent, state_after, AnswersState, StateBecomes};
 ghost use Rattle.tp_run.specs.Meaning.{StandsForItsProgram, AnswerMeans};
 ghost use Rattle.tp_run.specs.Runs.{stands_at, standing_of, program_of, next_state_of, standing_place, store_of, carried_scene, IsSettingsOf, IsRunOf, HasPicture, NextOf, RestTurns, StandIsKept, HasFirst, CellIsOf, TurnIsOf, MadeIsOf};
@@ -30,7 +29,7 @@ use std::sync::ledger::Ledger;
 use tp_check::Program;
 use tp_inputs::Inputs;
 use tp_kernel::Defs;
-use tp_pass::close_by_passes;
+use tp_pass::{Course, close_by_passes};
 use tp_show::{Cell, Picture, Turn};
 use tp_step::{
     Ending, ItemIds, Order, Scene, Setting, Settled, Steps, Tally, Tried, Waits, advance, settled,
@@ -251,8 +250,11 @@ impl Settings {
             return stop(Turn::StateLimit { states: state });
         }
         let mut tally = no_tally(self.setting.alloc);
-        let most = self.limits.reductions;
-        let ending = close_by_passes(&mut scene, store, &self.setting, most, &mut tally, steps)?;
+        let course = Course {
+            order: self.order,
+            room: self.limits.reductions,
+        };
+        let ending = close_by_passes(&mut scene, store, &self.setting, course, &mut tally, steps)?;
         match ending {
             Ending::Rest => {
                 let reductions = tally.picks.items.len() as u64;
@@ -276,7 +278,8 @@ impl Settings {
 }
 
 impl Run {
-    /// A run of the program with these inputs, before its first state. The order is `First`.
+    /// A run of the program with these inputs, before its first state. Each state is closed in this order; the choices of a seed begin
+    /// again with each.
     pub fn start(
         alloc: Global,
         program: Program,
@@ -285,7 +288,6 @@ impl Run {
         order: Order,
     ) -> Result<Run, NoMemory>
         requires fits { ProgramFits (program_tree program) }
-        requires order { order ≡ First }
         ensures stand { IfOk result (λ run.
             standing_of run
             ≡ open_at (first_moment program.globals (formula_tree program.main.value))) }

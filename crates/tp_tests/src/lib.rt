@@ -16,6 +16,8 @@ mod inputs;
 #[cfg(test)]
 mod making;
 #[cfg(test)]
+mod orders;
+#[cfg(test)]
 mod outcomes;
 #[cfg(test)]
 mod phrases;

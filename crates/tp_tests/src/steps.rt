@@ -22,8 +22,8 @@ use tp_step::{
 use tp_store::Store;
 use tp_value::NoMemory;
 
-// What a run of a program begins with, without inputs.
-fn begin(alloc: Global, program: Program) -> Result<(Scene, Store, Setting), NoMemory>
+/// What a run of a program begins with, without inputs.
+pub fn begin(alloc: Global, program: Program) -> Result<(Scene, Store, Setting), NoMemory>
     requires { ProgramFits (program_tree program) }
     ensures kept { IfOk result (λ r. IsWellKept r.0) }
     ensures sound { IfOk result (λ r.

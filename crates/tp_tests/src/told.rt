@@ -55,6 +55,7 @@ fn told<L: Ledger>(
     blank: Blank,
     program: Program,
     inputs: Inputs,
+    order: Order,
 ) -> Result<Text, Fail>
     requires name { blank.name ≡ L.name }
     requires parts { blank.parts ≡ L.parts }
@@ -62,7 +63,7 @@ fn told<L: Ledger>(
     requires fits { ProgramFits (program_tree program) }
 {
     let mut steps = Steps::<L>::new(blank);
-    let mut run = Run::start(alloc, program, inputs, LIMITS, Order::First)?;
+    let mut run = Run::start(alloc, program, inputs, LIMITS, order)?;
     let mut picture = no_picture(alloc);
     let mut out = Text::new(alloc);
     for _ in 0..=LIMITS.states {
@@ -75,11 +76,11 @@ fn told<L: Ledger>(
     Ok(out)
 }
 
-// The same of a source and the text of a table, by a run that counts its tries by itself.
-fn told_source(alloc: Global, source: &str, table: &str) -> Result<Text, Fail> {
+/// The same of a source and the text of a table, by a run that counts its tries by itself.
+pub fn told_source(alloc: Global, source: &str, table: &str, order: Order) -> Result<Text, Fail> {
     let program = program_of(alloc, source)?;
     let inputs = read_inputs(alloc, table.as_bytes())?;
-    told::<Brand>(alloc, Blank::new(1), program, inputs)
+    told::<Brand>(alloc, Blank::new(1), program, inputs, order)
 }
 
 // Expects all that is told of a run of the source with this table of inputs.
@@ -89,7 +90,7 @@ fn expect(
     table: &str,
     text: &str,
 ) -> Result<(), Fail> {
-    let found = told_source(rt.alloc(), source, table)?;
+    let found = told_source(rt.alloc(), source, table, Order::First)?;
     assert_eq!(rt; str::from_utf8(found.as_slice()), Ok(text), "for {source}");
     Ok(())
 }

@@ -1,4 +1,5 @@
 use Rattle.tp_call.proofs.ClauseLemmas.{finished, contradictory, undetermined, state_limit, reduction_limit, number_limit, list_limit, call_limit, nest_limit, input_missing, program_runs, finished_text, open_text, printed, source_prints, words_refused_only, words_refused, too_long_only, too_long, inputs_too_long, source_refused_only, source_refused, inputs_refused_only, inputs_refused}
+use Rattle.tp_call.proofs.EveryOrderLemmas.{comes_to_each_end}
 use Rattle.tp_call.proofs.call.tempura.Goals as goal
 
 pub returns-clause-finished : goal.returns-clause-finished
@@ -33,6 +34,9 @@ returns-clause-input_missing g c = input_missing _ _ _ _ _ c.call.ensures.answer
 
 pub returns-clause-program_runs : goal.returns-clause-program_runs
 returns-clause-program_runs g c = program_runs _ _ _ _ _ c.call.ensures.answer
+
+pub returns-clause-every_order : goal.returns-clause-every_order
+returns-clause-every_order g c = comes_to_each_end _ _ _ _ _ c.call.ensures.answer
 
 pub returns-clause-finished_text : goal.returns-clause-finished_text
 returns-clause-finished_text g c = finished_text _ _ _ _ _ c.call.ensures.answer

@@ -7,6 +7,7 @@ use Rattle.tp_inputs.specs.Table.{IsInputsRefusal}
 use Rattle.tp_inputs.specs.Read.{pairs_of}
 use Rattle.tp_inputs.proofs.PartLemmas.{no_more}
 use Rattle.tp_inputs.proofs.TableLemmas.{ReadsSoFar, line_more, refused_in, table_whole}
+use Rattle.tp_inputs.proofs.WithinLemmas.{tables_within}
 use Rattle.tp_inputs.proofs.reading.read_inputs.Goals as goal
 
 pub loop-rest-preserved : goal.loop-rest-preserved
@@ -27,3 +28,8 @@ returns-in-Err-clause-refused c =
 
 pub returns-clause-table : goal.returns-clause-table
 returns-clause-table c = table_whole c.args.bytes.now c.loop-rest.rest.now _ c.loop-rest.invariant (no_more c.loop-rest.rest.now (grind (arith, common_steps)))
+
+pub returns-clause-within : goal.returns-clause-within
+returns-clause-within c =
+    let table : InputLines = map pairs_of c.loop-rest.items.items in
+    tables_within c.args.bytes.now table (table_whole c.args.bytes.now c.loop-rest.rest.now table c.loop-rest.invariant (no_more c.loop-rest.rest.now (grind (arith, common_steps))))

@@ -12,7 +12,7 @@ passes-preserved g c =
     let m = moment_of c.args.scene.now c.args.store.now in
     let here = moment_of c.passes.scene c.passes.store in
     let next = moment_of c.pass.new.scene c.pass.new.store in
-    let At : Option Ending → Type 0 = λ e. Passes w here next c.passes.left c.pass.new.left c.passes.tally.picks c.pass.new.tally.picks e in
+    let At : Option Ending → Type 0 = λ e. Passes w here next c.passes.course.room c.pass.new.course.room c.passes.tally.picks c.pass.new.tally.picks e in
     let one : At None = subst At c.in-None.is c.in_ok-ending.ensures.passes in
     record {
       made = made_on w m here next _ _ _ _ _ _ c.passes.invariant.made one.0;
@@ -28,6 +28,6 @@ returns-in-Some-clause-closes g c =
     let m = moment_of c.args.scene.now c.args.store.now in
     let here = moment_of c.passes.scene c.passes.store in
     let next = moment_of c.pass.new.scene c.pass.new.store in
-    let At : Option Ending → Type 0 = λ e. Passes w here next c.passes.left c.pass.new.left c.passes.tally.picks c.pass.new.tally.picks e in
+    let At : Option Ending → Type 0 = λ e. Passes w here next c.passes.course.room c.pass.new.course.room c.passes.tally.picks c.pass.new.tally.picks e in
     let one : At (Some c.in-Some.ending) = subst At c.in-Some.is c.in_ok-ending.ensures.passes in
-    record { left = c.pass.new.left; made = made_on w m here next _ _ _ _ _ _ c.passes.invariant.made one.0; ends = one.1 }
+    record { left = c.pass.new.course.room; made = made_on w m here next _ _ _ _ _ _ c.passes.invariant.made one.0; ends = one.1 }

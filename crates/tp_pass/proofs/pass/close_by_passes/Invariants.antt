@@ -12,7 +12,7 @@ invariant-passes g l =
     let first = moment_of l.initial.scene l.initial.store in
     let here = moment_of l.scene l.store in
     record {
-      made : Made w first here l.room l.left l.initial.tally.picks l.tally.picks;
+      made : Made w first here l.initial.course.room l.course.room l.initial.tally.picks l.tally.picks;
       sound : (kinds : List Bool) → IsSound w kinds first → IsSound w kinds here;
       kept : IsWellKept l.scene;
       waits : l.tally.waits ≡ l.initial.tally.waits;
@@ -20,4 +20,4 @@ invariant-passes g l =
     }
 
 abbrev pub decreases-passes : goal.decreases-passes
-decreases-passes g l = l.left
+decreases-passes g l = l.course.room

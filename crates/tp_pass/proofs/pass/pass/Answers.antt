@@ -1,17 +1,27 @@
-use Rattle.std.proofs.Common.{◌∙◌, ◌≤◌, ◌<◌, length, subst, arith, sym, Option}
+use Rattle.std.proofs.Common.{◌∙◌, refl, subst, sym, Option, None, Some}
 use Rattle.tp_decide.specs.Decided.{setting_of}
-use Rattle.tp_slots.specs.Plain.{entries_at}
-use Rattle.tp_slots.specs.Read.{scene_of, slots_of}
-use Rattle.tp_slots.proofs.Showing.{all_shown, has_shown}
 use Rattle.tp_step.specs.declared.answer.Ending.{Ending}
 use Rattle.tp_step.specs.Answers.{moment_of}
 use Rattle.tp_pass.specs.Closes.{Looks}
-use Rattle.tp_pass.proofs.Picks.{looked, picks_have_room, passing_more, passing_last}
+use Rattle.tp_pass.proofs.Live.{live_below}
+use Rattle.tp_pass.proofs.Picks.{looked, picks_have_room, passing_first, passing_more, passing_last, passing_ends}
 use Rattle.tp_pass.proofs.pass.pass.Goals as goal
+
+pub items-init : goal.items-init
+items-init g c =
+    let w = setting_of c.args.setting.now in
+    let m = moment_of c.args.scene.now c.args.store.now in
+    let course = c.args.course.now in
+    record {
+      passing = passing_first w m course.room c.args.tally.now.picks course.order c.begin.new.order c.in_ok-sweep.sweep c.in_ok-sweep.ensures.begins;
+      waits = refl;
+      rests = refl;
+      kept = c.requires.kept;
+    }
 
 pub record-requires : goal.record-requires
 record-requires g c =
-    let room = picks_have_room (setting_of c.args.setting.now) c.items.item c.items.left (moment_of c.items.scene c.items.store) (moment_of c.look_at.new.scene c.look_at.new.store) in
+    let room = picks_have_room (setting_of c.args.setting.now) c.in-Some.item c.items.course.room (moment_of c.items.scene c.items.store) (moment_of c.look_at.new.scene c.look_at.new.store) in
     record { left = room c.in_ok-looked.looked c.in_ok-looked.ensures.looks }
 
 pub items-preserved : goal.items-preserved
@@ -20,23 +30,40 @@ items-preserved g c =
     let m = moment_of c.args.scene.now c.args.store.now in
     let here = moment_of c.items.scene c.items.store in
     let next = moment_of c.look_at.new.scene c.look_at.new.store in
-    let At : Option Ending → Type 0 = λ e. Looks w c.items.item here next c.items.left c.record.new.left c.items.tally.picks c.record.new.tally.picks e in
-    let looks = looked w c.items.item here next c.items.left c.record.new.left c.items.tally.picks c.record.new.tally.picks c.in_ok-looked.looked c.in_ok-looked.ensures.looks c.in_ok-ending.ensures.counts in (
-      c.next_number-end-in-items.ensures.number,
-      c.next_number-end-in-items.ensures.fits,
-      passing_more w m here next _ _ _ _ _ _ c.items.item c.items.invariant.2 c.in_ok-looked.ensures.sound (subst At (sym c.in_ok-ending.ensures.ending ∙ c.in-None.is) looks),
-      c.record.ensures.waits ∙ c.items.invariant.3,
-      c.record.ensures.rests ∙ c.items.invariant.4,
-      c.look_at.ensures.kept,
-    )
+    let item = c.in-Some.item in
+    let room = c.items.course.room in
+    let left = c.record.new.left in
+    let before = c.items.tally.picks in
+    let after = c.record.new.tally.picks in
+    let At : Option Ending → Type 0 = λ e. Looks w item here next room left before after e in
+    let looks = looked w item here next room left before after c.in_ok-looked.looked c.in_ok-looked.ensures.looks c.in_ok-ending.ensures.counts in
+    let idle : At None = subst At (sym c.in_ok-ending.ensures.ending ∙ c.in-None.is) looks in
+    record {
+      passing = passing_more w m here next _ _ _ _ _ _ c.items.sweep c.next.new.self _ item c.items.invariant.passing c.in-Some.ensures.turn c.in_ok-looked.ensures.sound idle;
+      waits = c.record.ensures.waits ∙ c.items.invariant.waits;
+      rests = c.record.ensures.rests ∙ c.items.invariant.rests;
+      kept = c.look_at.ensures.kept;
+    }
 
 pub returns-clause-passes : goal.returns-clause-passes
 returns-clause-passes g c =
     let w = setting_of c.args.setting.now in
     let m = moment_of c.args.scene.now c.args.store.now in
-    let s = c.items.scene in
-    let here = moment_of s c.items.store in
-    let last : (scene_of s).next_item ≤ c.items.item = omega arith in
-    let o = c.items.invariant.5.shape.ordered in
-    passing_last w m here _ _ _ _ c.items.item c.items.invariant.2
-    (λ t lives. let l : t < length (slots_of s).slots = (has_shown (slots_of s) o t 0 (entries_at (slots_of s) 0) (all_shown (slots_of s) o 0 o.root) lives).0 in omega (arith, l, last))
+    let here = moment_of c.items.scene c.items.store in
+    passing_last w m here _ _ _ _ c.items.sweep c.next.new.self _ c.items.invariant.passing c.in_default.ensures.turn (live_below c.items.scene c.items.invariant.kept)
+
+pub returns-in-Some-2-clause-passes : goal.returns-in-Some-2-clause-passes
+returns-in-Some-2-clause-passes g c =
+    let w = setting_of c.args.setting.now in
+    let m = moment_of c.args.scene.now c.args.store.now in
+    let here = moment_of c.items.scene c.items.store in
+    let next = moment_of c.look_at.new.scene c.look_at.new.store in
+    let item = c.in-Some.item in
+    let room = c.items.course.room in
+    let left = c.record.new.left in
+    let before = c.items.tally.picks in
+    let after = c.record.new.tally.picks in
+    let At : Option Ending → Type 0 = λ e. Looks w item here next room left before after e in
+    let looks = looked w item here next room left before after c.in_ok-looked.looked c.in_ok-looked.ensures.looks c.in_ok-ending.ensures.counts in
+    let ends : At (Some c.in-Some-2.ending) = subst At (sym c.in_ok-ending.ensures.ending ∙ c.in-Some-2.is) looks in
+    passing_ends w m here next _ _ _ _ _ _ c.items.sweep item c.in-Some-2.ending c.items.invariant.passing ends

@@ -1,4 +1,4 @@
-use Rattle.std.proofs.Common.{None, List, ap, sym, ◌∙◌}
+use Rattle.std.proofs.Common.{None, List, ap, ◌∙◌}
 use Rattle.tp_value.specs.declared.path.Fact.{Fact}
 use Rattle.tp_store.specs.Known.{full}
 use Rattle.tp_show.specs.Parts.{parts_by}

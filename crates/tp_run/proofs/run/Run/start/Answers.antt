@@ -31,7 +31,6 @@ returns-clause-plan c =
         reductions = refl;
         globals = c.len.ensures ∙ sym (length-map names is_lower);
         definitions = refl;
-        order = c.requires.order;
       };
       within = omega arith;
       sound = subst (λ (m : Moment). StandsSound plan 0 (open_at m)) (sym first) (first_sound plan c.requires.fits);

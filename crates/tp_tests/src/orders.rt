@@ -1,0 +1,116 @@
+// Runs in each order: what is picked in a state, and that all that is told is the same.
+ghost use Rattle.std.specs.Prelude.{◌≡◌, ◌<◌};
+ghost use Rattle.tp_meaning.specs.Fits.{ProgramFits};
+ghost use Rattle.tp_check.specs.Program.{program_tree};
+
+use crate::sources::program_of;
+use crate::steps::begin;
+use crate::told::told_source;
+use std::alloc::Global;
+use std::marker::Brand;
+use std::sync::ledger::{Blank, Ledger};
+use std::test::Fail;
+use tp_check::Program;
+use tp_pass::{Course, close_by_passes};
+use tp_step::{ItemIds, Order, Steps, Tally, Waits};
+
+// The items that the first state of the program picks, in order.
+fn picks<L: Ledger>(
+    alloc: Global,
+    blank: Blank,
+    program: Program,
+    course: Course,
+) -> Result<ItemIds, Fail>
+    requires name { blank.name ≡ L.name }
+    requires parts { blank.parts ≡ L.parts }
+    requires some { 0 < L.parts }
+    requires fits { ProgramFits (program_tree program) }
+{
+    let mut steps = Steps::<L>::new(blank);
+    let (mut scene, mut store, setting) = begin(alloc, program)?;
+    let mut tally = Tally {
+        picks: ItemIds::new(alloc),
+        waits: Waits {
+            items: Vec::new(alloc),
+        },
+        rests: ItemIds::new(alloc),
+    };
+    close_by_passes(
+        &mut scene, &mut store, &setting, course, &mut tally, &mut steps,
+    )?;
+    Ok(tally.picks)
+}
+
+// Four conjuncts, of which each is known by the next one; and five of which each can be reduced at once.
+const CHAIN: &str = "run A = B and B = C and C = 3 and empty.";
+
+const FLAT: &str = "run A = 1 and B = 2 and C = 3 and D = 4 and empty.";
+
+// A program, an order, how many reductions there may be, and what is picked.
+const PICKS: [(&str, Order, u64, &str); 13] = [
+    (CHAIN, Order::First, 9, "[0, 3, 4, 2, 1]"),
+    (CHAIN, Order::Last, 9, "[0, 4, 3, 2, 1]"),
+    (CHAIN, Order::Seed(0), 9, "[0, 4, 3, 2, 1]"),
+    (CHAIN, Order::Seed(7), 9, "[0, 3, 4, 2, 1]"),
+    (CHAIN, Order::Last, 3, "[0, 4, 3]"),
+    (FLAT, Order::Seed(0), 9, "[0, 3, 4, 5, 1, 2]"),
+    (FLAT, Order::Seed(1), 9, "[0, 5, 1, 2, 3, 4]"),
+    (FLAT, Order::Seed(2), 9, "[0, 1, 2, 3, 4, 5]"),
+    (FLAT, Order::Seed(3), 9, "[0, 5, 1, 2, 3, 4]"),
+    (FLAT, Order::Seed(7), 9, "[0, 4, 5, 1, 2, 3]"),
+    (FLAT, Order::Seed(u64::MAX), 9, "[0, 4, 5, 1, 2, 3]"),
+    (FLAT, Order::First, 9, "[0, 1, 2, 3, 4, 5]"),
+    (FLAT, Order::Last, 9, "[0, 5, 4, 3, 2, 1]"),
+];
+
+#[test]
+fn each_order_has_its_picks(rt: HostRuntime) -> Result<(), Fail> {
+    let alloc = rt.alloc();
+    for (source, order, room, expected) in PICKS {
+        let program = program_of(alloc, source)?;
+        let course = Course { order, room };
+        let picked = picks::<Brand>(alloc, Blank::new(1), program, course)?;
+        let text = format!(in alloc; "{:?}", picked.items.as_slice())?;
+        assert_eq!(rt; text.as_str(), expected, "for {source} {order:?}");
+    }
+    Ok(())
+}
+
+// Programs with loops, chops, projections, locals, calls and displays, of which each state can be reduced in several orders.
+const SOURCES: &str = "
+run A = B and B = C and C = 3 and empty.
+run len(3) and A = 0 and A gets A + 1 and always(display(A, B)) and always(B = A * A).
+run (len(1) and A = 1 and display(A)) ; (len(1) and A = 2 and display(A)) ; (empty and A = 3).
+run A = 2 and while A > 0 do (skip and A := A - 1 and display(A)).
+run for i < 3 do (skip and B = i and display(i)).
+run exists X, Y: (X = 1 and Y = X + 1 and len(2) and X gets Y and Y gets X and always(A = X + Y)).
+run (len(2) and always(A = 1)) proj (len(2) and I = 0 and I gets I + 1 and always(display(I))).
+define double(x, Y) = Y = x + x. run double(1, A) and double(A, B) and double(B, C) and empty.
+run A = 1 and A = 2 and empty.
+run A = B and empty.
+run always(more) and A = 1 and A gets A + A.
+run A = 9223372036854775807 and B = A + 1 and empty.
+";
+
+#[test]
+fn each_order_tells_the_same(rt: HostRuntime) -> Result<(), Fail> {
+    let alloc = rt.alloc();
+    for source in SOURCES.trim().lines() {
+        let first = told_source(alloc, source, "", Order::First)?;
+        let first = str::from_utf8(first.as_slice());
+        for order in [
+            Order::Last,
+            Order::Seed(0),
+            Order::Seed(7),
+            Order::Seed(u64::MAX),
+        ] {
+            let other = told_source(alloc, source, "", order)?;
+            assert_eq!(rt;
+                str::from_utf8(other.as_slice()),
+                first,
+                "for {source} {order:?}"
+            );
+        }
+    }
+    Ok(())
+}
