@@ -1,5 +1,5 @@
 -- The parts of a call, put together: what it answers, and what it has written.
-use Rattle.std.proofs.Common.{◌≡◌, ◌+◌, ◌<◌, ◌^◌, inl, inr, ℕ, List, [], ◌∷◌, ◌++◌, length, take, true, All, Option, Some, Ok, Err, IsTrue, refl, sym, ap, ◌∙◌, subst}
+use Rattle.std.proofs.Common.{◌≡◌, ◌+◌, ◌<◌, ◌^◌, inl, inr, ℕ, Bool, List, [], ◌∷◌, ◌++◌, length, take, true, All, Option, Some, Ok, Err, IsTrue, refl, sym, ap, ◌∙◌, subst}
 use Rattle.std.proofs.Math.Seq.{take-append-add}
 use Rattle.std.proofs.lemmas.List.{append-nil}
 use Rattle.tp_io.specs.Devices.{Held}
@@ -8,18 +8,20 @@ use Rattle.tp_io.specs.declared.devices.WriteRefusal.TheVariants as sink
 use Rattle.tp_show.specs.declared.turn.Picture.{Picture}
 use Rattle.tp_show.specs.declared.turn.Turn.{Turn}
 use Rattle.tp_show.specs.declared.turn.Turn.TheVariants as turn
+use Rattle.tp_scene.specs.StandsFor.{first_moment}
 use Rattle.tp_run.specs.Runs.{program_of, store_of}
 use Rattle.tp_run.specs.History.{RunEndsWith, end_store}
+use Rattle.tp_run.proofs.HistoryLemmas.{index_first}
 use Rattle.tp_store.specs.Known.{Contents}
 use Rattle.std.proofs.lemmas.List.Elements.{All-push}
 use Rattle.tp_call.specs.declared.run.Ended.{Ended}
 use Rattle.tp_call.specs.declared.status.Status.{Status}
 use Rattle.tp_call.specs.declared.status.Status.TheVariants.{Done, ReadFault, WriteFault, NoMemory}
 use Rattle.tp_call.specs.declared.status.Which.{Which}
-use Rattle.tp_show.specs.Line.{picture_lines, pictures_text}
 use Rattle.tp_show.specs.EndLine.{end_line}
 use Rattle.tp_show.specs.Told.{AreNames, IsPictureInRange, IsLastTurn}
 use Rattle.tp_call.specs.EndLine.{refusal_line}
+use Rattle.tp_call.specs.Printed.{state_text, lead_text, ended_text, settled_text, next_moment}
 use Rattle.tp_call.specs.Written.{Wrote}
 use Rattle.tp_meaning.specs.Interval.{ProgramTree}
 use Rattle.tp_run.specs.States.{Plan, RunPlace}
@@ -32,100 +34,115 @@ use Rattle.tp_call.specs.Answer.{IsAskedFor, IsAskedToPrint, Spells, Refuses, Ru
 use Rattle.tp_call.specs.Parts.{IsProgramRefusal, ClosesText}
 use Rattle.tp_call.proofs.TurnLemmas.{last_is_given, is_last, ends_run}
 use Rattle.tp_call.proofs.HeadlineLemmas.{end_says}
-use Rattle.tp_call.proofs.RunLemmas.{Wrote-both, Wrote-nothing, lines_more, advances}
+use Rattle.tp_call.proofs.RunLemmas.{Wrote-both, Wrote-nothing, text_more, next_there, no_next, answered_there, advances}
 
 -- a part of what is written second, after all of what is written first
 pub Wrote-part : (old mid new : Option (List ℕ)) (a b : List ℕ) (kept : ℕ) → Wrote old mid a → Wrote mid new (take kept b) → Wrote old new (take (length a + kept) (a ++ b))
 Wrote-part old mid new a b kept p q = subst (Wrote old new) (sym (take-append-add a b kept)) (Wrote-both old mid new a (take kept b) p q)
 
 -- The program's run ended with this answer, its states were written, and its store holds what was known at that end.
-pub record HasEnded (plan : Plan) (before after : Option (List ℕ)) (answer : Turn) (store : Contents) : Type 0 where
+pub record HasEnded (plan : Plan) (trace : Bool) (before after : Option (List ℕ)) (answer : Turn) (store : Contents) : Type 0 where
   pub pictures : List Picture
   pub run : RunEndsWith plan pictures answer
   pub holds : store ≡ end_store plan pictures answer run
-  pub wrote : Wrote before after (pictures_text plan.program.globals pictures)
+  pub wrote : Wrote before after (ended_text trace plan pictures answer run)
   pub range : All IsPictureInRange pictures
 
--- the states that a run has settled, with one more
-lines_with : (names : List (List ℕ)) (before now after : Option (List ℕ)) (pictures : List Picture) (picture : Picture) → Wrote before now (pictures_text names pictures) → Wrote now after (picture_lines names picture)
-    → Wrote before after (pictures_text names (pictures ++ picture ∷ []))
-lines_with names before now after pictures picture p q = rw (lines_more names pictures picture) (Wrote-both before now after _ _ p q)
-
 -- a state that isn't settled ends the run: nothing more is written
-stopped_by : (plan : Plan) (from to : RunPlace) (before now after : Option (List ℕ)) (answer : Turn) → (h : HasWritten plan from before now) → Wrote now after []
-    → (end : RunEndsWith plan h.pictures answer) → to.store ≡ end_store plan h.pictures answer end → HasEnded plan before after answer to.store
-stopped_by plan from to before now after answer h wrote end holds = record {
-  pictures = h.pictures;
-  run = end;
-  holds = holds;
-  wrote = subst (Wrote before after) (append-nil (pictures_text plan.program.globals h.pictures)) (Wrote-both before now after (pictures_text plan.program.globals h.pictures) [] h.wrote wrote);
-  range = h.range;
-}
+stopped_by : (plan : Plan) (trace : Bool) (from to : RunPlace) (before now after : Option (List ℕ)) (answer : Turn) → (h : HasWritten plan trace from before now) → Wrote now after []
+    → (end : RunEndsWith plan h.pictures answer) → ended_text trace plan h.pictures answer end ≡ lead_text trace plan h.pictures h.next h.leads → to.store ≡ end_store plan h.pictures answer end → HasEnded plan trace before after answer to.store
+stopped_by plan trace from to before now after answer h wrote end same holds =
+    let text = lead_text trace plan h.pictures h.next h.leads in
+    let whole = subst (Wrote before after) (append-nil text) (Wrote-both before now after text [] h.wrote wrote) in
+    record { pictures = h.pictures; run = end; holds = holds; wrote = subst (Wrote before after) (sym same) whole; range = h.range }
 
--- an answer with which the run ends, and what it has written
-ended_by : (plan : Plan) (from to : RunPlace) (before now after : Option (List ℕ)) (answer : Turn) (picture : Picture) → IsLastTurn answer → HasWritten plan from before now → Turned plan from to answer picture
-    → Wrote now after (printed_lines plan.program.globals answer picture) → (is_settled answer ≡ true → IsPictureInRange picture) → HasEnded plan before after answer to.store
-ended_by plan from to before now after turn.Went picture l h t wrote range = absurd l
-ended_by plan from to before now after (turn.Finished n) picture l h t wrote range =
-    let end = advances plan from to before now (turn.Finished n) picture h t in
+-- the last state, which nothing comes after
+finished_by : (plan : Plan) (trace : Bool) (from to : RunPlace) (before now after : Option (List ℕ)) (n : ℕ) (picture : Picture) → (h : HasWritten plan trace from before now) → (t : Turned plan from to (turn.Finished n) picture)
+    → Wrote now after (state_text trace plan.program picture (next_moment to)) → IsPictureInRange picture → HasEnded plan trace before after (turn.Finished n) to.store
+finished_by plan trace from to before now after n picture h t wrote range =
+    let w = answered_there plan trace from to before now (turn.Finished n) picture h t in
+    let end = advances plan trace from to before now (turn.Finished n) picture h t in
+    let none : next_moment to ≡ None = no_next to (turn.Finished n) w.0.2 in
     record {
       pictures = h.pictures ++ picture ∷ [];
       run = end.0;
       holds = end.2;
-      wrote = lines_with plan.program.globals before now after h.pictures picture h.wrote wrote;
-      range = All-push IsPictureInRange h.pictures picture h.range (range refl);
+      wrote = Wrote-both before now after _ _ h.wrote (subst (λ m. Wrote now after (state_text trace plan.program picture m)) none wrote);
+      range = All-push IsPictureInRange h.pictures picture h.range range;
     }
-ended_by plan from to before now after (turn.Contradictory state clash) picture l h t wrote range =
-    let end = advances plan from to before now (turn.Contradictory state clash) picture h t in stopped_by plan from to before now after (turn.Contradictory state clash) h wrote end.0 end.2
-ended_by plan from to before now after (turn.Undetermined state cell) picture l h t wrote range =
-    let end = advances plan from to before now (turn.Undetermined state cell) picture h t in stopped_by plan from to before now after (turn.Undetermined state cell) h wrote end.0 end.2
-ended_by plan from to before now after (turn.StateLimit states) picture l h t wrote range =
-    let end = advances plan from to before now (turn.StateLimit states) picture h t in stopped_by plan from to before now after (turn.StateLimit states) h wrote end.0 end.2
-ended_by plan from to before now after (turn.InputMissing state port) picture l h t wrote range =
-    let end = advances plan from to before now (turn.InputMissing state port) picture h t in stopped_by plan from to before now after (turn.InputMissing state port) h wrote end.0 end.2
-ended_by plan from to before now after (turn.Over state limit) picture l h t wrote range =
-    let end = advances plan from to before now (turn.Over state limit) picture h t in stopped_by plan from to before now after (turn.Over state limit) h wrote end.0 end.2
 
--- the last state of these was settled, whether the run goes on or not
-settles_with : (plan : Plan) (from to : RunPlace) (before now : Option (List ℕ)) (answer : Turn) (picture : Picture) → (h : HasWritten plan from before now) → Turned plan from to answer picture
-    → IsTrue (is_settled answer) → Settles plan (h.pictures ++ picture ∷ [])
-settles_with plan from to before now turn.Went picture h t settled = let a = advances plan from to before now turn.Went picture h t in inl (a.0, a.2)
-settles_with plan from to before now (turn.Finished n) picture h t settled =
-    inr (n, record { answer = turn.Finished n; status_is = refl; run = (advances plan from to before now (turn.Finished n) picture h t).0 })
-settles_with plan from to before now (turn.Contradictory state clash) picture h t settled = cc
-settles_with plan from to before now (turn.Undetermined state cell) picture h t settled = cc
-settles_with plan from to before now (turn.StateLimit states) picture h t settled = cc
-settles_with plan from to before now (turn.InputMissing state port) picture h t settled = cc
-settles_with plan from to before now (turn.Over state limit) picture h t settled = cc
+-- an answer with which the run ends, and what it has written
+ended_by : (plan : Plan) (trace : Bool) (from to : RunPlace) (before now after : Option (List ℕ)) (answer : Turn) (picture : Picture) → IsLastTurn answer → HasWritten plan trace from before now → Turned plan from to answer picture
+    → Wrote now after (printed_lines trace plan.program answer picture (next_moment to)) → (is_settled answer ≡ true → IsPictureInRange picture) → HasEnded plan trace before after answer to.store
+ended_by plan trace from to before now after turn.Went picture l h t wrote range = absurd l
+ended_by plan trace from to before now after (turn.Finished n) picture l h t wrote range = finished_by plan trace from to before now after n picture h t wrote (range refl)
+ended_by plan trace from to before now after (turn.Contradictory state clash) picture l h t wrote range =
+    let end = advances plan trace from to before now (turn.Contradictory state clash) picture h t in stopped_by plan trace from to before now after (turn.Contradictory state clash) h wrote end.0 refl end.2
+ended_by plan trace from to before now after (turn.Undetermined state cell) picture l h t wrote range =
+    let end = advances plan trace from to before now (turn.Undetermined state cell) picture h t in stopped_by plan trace from to before now after (turn.Undetermined state cell) h wrote end.0 refl end.2
+ended_by plan trace from to before now after (turn.StateLimit states) picture l h t wrote range =
+    let end = advances plan trace from to before now (turn.StateLimit states) picture h t in stopped_by plan trace from to before now after (turn.StateLimit states) h wrote end.0 refl end.2
+ended_by plan trace from to before now after (turn.InputMissing state port) picture l h t wrote range =
+    let end = advances plan trace from to before now (turn.InputMissing state port) picture h t in stopped_by plan trace from to before now after (turn.InputMissing state port) h wrote end.0 refl end.2
+ended_by plan trace from to before now after (turn.Over state limit) picture l h t wrote range =
+    let end = advances plan trace from to before now (turn.Over state limit) picture h t in stopped_by plan trace from to before now after (turn.Over state limit) h wrote end.0 refl end.2
 
-pub ended : (plan : Plan) (before after : Option (List ℕ)) (end : Ended) → ProgramMade plan before after (Ok end) → HasEnded plan before after end.turn (store_of end.run) × (program_of end.run ≡ plan.program) × IsLastTurn end.turn
-ended plan before after end (inl none) = let bad : Ok end ≡ Err sink.NoMemory = none.0 in cc
-ended plan before after end (inr made) =
+-- The last state of these was settled, whether the run goes on or not; and this is the text of them.
+settles_with : (plan : Plan) (trace : Bool) (from to : RunPlace) (before now : Option (List ℕ)) (answer : Turn) (picture : Picture) → (h : HasWritten plan trace from before now) → Turned plan from to answer picture
+    → IsTrue (is_settled answer)
+    → (run : Settles plan (h.pictures ++ picture ∷ [])) × (settled_text trace plan (h.pictures ++ picture ∷ []) run ≡ lead_text trace plan h.pictures h.next h.leads ++ state_text trace plan.program picture (next_moment to))
+settles_with plan trace from to before now turn.Went picture h t settled =
+    let w = answered_there plan trace from to before now turn.Went picture h t in
+    let a = advances plan trace from to before now turn.Went picture h t in
+    let next = w.0.0 in
+    let there : next_moment to ≡ Some next = next_there to (length h.pictures) next w.0.2 w.1 w.0.3 in
+    let text = text_more trace plan 0 (first_moment plan.program.globals plan.program.main) h.pictures h.next (length h.pictures) picture next (index_first h.pictures) h.leads w.0.1 in
+    let before_it = lead_text trace plan h.pictures h.next h.leads in
+    (inl (a.0, a.2), text ∙ ap (λ m. before_it ++ state_text trace plan.program picture m) (sym there))
+settles_with plan trace from to before now (turn.Finished n) picture h t settled =
+    let w = answered_there plan trace from to before now (turn.Finished n) picture h t in
+    let none : next_moment to ≡ None = no_next to (turn.Finished n) w.0.2 in
+    let before_it = lead_text trace plan h.pictures h.next h.leads in (
+      inr (n, record { answer = turn.Finished n; status_is = refl; run = (advances plan trace from to before now (turn.Finished n) picture h t).0 }),
+      ap (λ m. before_it ++ state_text trace plan.program picture m) (sym none),
+    )
+settles_with plan trace from to before now (turn.Contradictory state clash) picture h t settled = cc
+settles_with plan trace from to before now (turn.Undetermined state cell) picture h t settled = cc
+settles_with plan trace from to before now (turn.StateLimit states) picture h t settled = cc
+settles_with plan trace from to before now (turn.InputMissing state port) picture h t settled = cc
+settles_with plan trace from to before now (turn.Over state limit) picture h t settled = cc
+
+pub ended : (plan : Plan) (trace : Bool) (before after : Option (List ℕ)) (end : Ended) → ProgramMade plan trace before after (Ok end) → HasEnded plan trace before after end.turn (store_of end.run) × (program_of end.run ≡ plan.program) × IsLastTurn end.turn
+ended plan trace before after end (inl none) = let bad : Ok end ≡ Err sink.NoMemory = none.0 in cc
+ended plan trace before after end (inr made) =
     let stop = made.stopped in
     let last = is_last stop.answer end.turn stop.last_is in
     let given = last_is_given stop.answer end.turn stop.last_is in
-    let whole = ended_by plan made.from made.to before made.middle after stop.answer stop.picture (subst IsLastTurn (sym given) last) made.settled stop.turned stop.wrote stop.range in (
-      subst (HasEnded plan before after end.turn) (sym made.ended.store) (subst (λ t. HasEnded plan before after t made.to.store) given whole),
+    let whole = ended_by plan trace made.from made.to before made.middle after stop.answer stop.picture (subst IsLastTurn (sym given) last) made.settled stop.turned stop.wrote stop.range in (
+      subst (HasEnded plan trace before after end.turn) (sym made.ended.store) (subst (λ t. HasEnded plan trace before after t made.to.store) given whole),
       made.ended.program_is,
       last,
     )
 
--- what an end settled
-settles_by : (plan : Plan) (pictures : List Picture) (answer : Turn) → RunEndsWith plan pictures answer → Settles plan pictures
-settles_by plan pictures turn.Went e = absurd e
-settles_by plan pictures (turn.Finished n) e = inr (n, record { answer = turn.Finished n; status_is = refl; run = e })
-settles_by plan pictures (turn.Contradictory state clash) e = inl (e.0, e.1)
-settles_by plan pictures (turn.Undetermined state cell) e = inl (e.0, e.1)
-settles_by plan pictures (turn.StateLimit states) e = inl (e.0, e.1)
-settles_by plan pictures (turn.InputMissing state port) e = inl (e.0, e.1)
-settles_by plan pictures (turn.Over state limit) e = inl (e.0, e.1)
+-- what an end settled, and the text of that
+settles_by : (plan : Plan) (trace : Bool) (pictures : List Picture) (answer : Turn) → (end : RunEndsWith plan pictures answer) → (run : Settles plan pictures) × (settled_text trace plan pictures run ≡ ended_text trace plan pictures answer end)
+settles_by plan trace pictures turn.Went e = absurd e
+settles_by plan trace pictures (turn.Finished n) e = (inr (n, record { answer = turn.Finished n; status_is = refl; run = e }), refl)
+settles_by plan trace pictures (turn.Contradictory state clash) e = (inl (e.0, e.1), refl)
+settles_by plan trace pictures (turn.Undetermined state cell) e = (inl (e.0, e.1), refl)
+settles_by plan trace pictures (turn.StateLimit states) e = (inl (e.0, e.1), refl)
+settles_by plan trace pictures (turn.InputMissing state port) e = (inl (e.0, e.1), refl)
+settles_by plan trace pictures (turn.Over state limit) e = (inl (e.0, e.1), refl)
 
 module _ (words : List (List ℕ)) (held : Option Held) (plan : Plan) (fits : ProgramFits plan.program) (names : AreNames plan.program.globals) (states : plan.states < 2 ^ 64) (asked : IsAskedFor words held plan) (old : Option (List ℕ)) where
+  abbrev trace : Bool
+  trace = asked.wanted.trace
+
   -- the run ended so, and has this status
-  abbrev ends_so : (mid : Option (List ℕ)) (answer : Turn) (store : Contents) (status : Status) → (e : HasEnded plan old mid answer store) → status_of answer ≡ Some status → RunEnds plan e.pictures status
+  abbrev ends_so : (mid : Option (List ℕ)) (answer : Turn) (store : Contents) (status : Status) → (e : HasEnded plan trace old mid answer store) → status_of answer ≡ Some status → RunEnds plan e.pictures status
   ends_so mid answer store status e is = record { answer = answer; status_is = is; run = e.run }
 
-  runs_to : (mid : Option (List ℕ)) (answer : Turn) (store : Contents) (status : Status) → (e : HasEnded plan old mid answer store) → (is : status_of answer ≡ Some status) → RunsTo words held status (run_text (ends_so mid answer store status e is))
+  runs_to : (mid : Option (List ℕ)) (answer : Turn) (store : Contents) (status : Status) → (e : HasEnded plan trace old mid answer store) → (is : status_of answer ≡ Some status) → RunsTo words held status (run_text trace (ends_so mid answer store status e is))
   runs_to mid answer store status e is =
       record { plan = plan; pictures = e.pictures; asked = asked; run = ends_so mid answer store status e is; says = end_says plan e.pictures answer fits e.run; written = refl; fits = fits; names = names; states = states; range = e.range }
 
@@ -133,39 +150,39 @@ module _ (words : List (List ℕ)) (held : Option Held) (plan : Plan) (fits : Pr
   abbrev last_line : Turn → Contents → List ℕ
   last_line answer store = end_line plan.program.globals store.variables plan.reductions answer
 
-  line_is : (mid : Option (List ℕ)) (answer : Turn) (store : Contents) (status : Status) → (e : HasEnded plan old mid answer store) → (is : status_of answer ≡ Some status)
-      → pictures_text plan.program.globals e.pictures ++ last_line answer store ≡ run_text (ends_so mid answer store status e is)
-  line_is mid answer store status e is = ap (λ (k : Contents). pictures_text plan.program.globals e.pictures ++ last_line answer k) e.holds
+  line_is : (mid : Option (List ℕ)) (answer : Turn) (store : Contents) (status : Status) → (e : HasEnded plan trace old mid answer store) → (is : status_of answer ≡ Some status)
+      → ended_text trace plan e.pictures answer e.run ++ last_line answer store ≡ run_text trace (ends_so mid answer store status e is)
+  line_is mid answer store status e is = ap (λ (k : Contents). ended_text trace plan e.pictures answer e.run ++ last_line answer k) e.holds
 
-  closed_whole : (mid new : Option (List ℕ)) (answer : Turn) (store : Contents) (status result : Status) → (e : HasEnded plan old mid answer store) → status_of answer ≡ Some status → result ≡ status → Wrote mid new (last_line answer store)
+  closed_whole : (mid new : Option (List ℕ)) (answer : Turn) (store : Contents) (status result : Status) → (e : HasEnded plan trace old mid answer store) → status_of answer ≡ Some status → result ≡ status → Wrote mid new (last_line answer store)
       → (text : List ℕ) × CallEnds words held result text × Wrote old new text
   closed_whole mid new answer store status result e has is wrote =
-      let text = run_text (ends_so mid answer store status e has) in (
+      let text = run_text trace (ends_so mid answer store status e has) in (
         text,
         inl (subst (λ r. RunsTo words held r text) (sym is) (runs_to mid answer store status e has)),
         subst (Wrote old new) (line_is mid answer store status e has) (Wrote-both old mid new _ _ e.wrote wrote),
       )
 
   -- a run that ended, and its end line or a part of it
-  closed_by : (mid new : Option (List ℕ)) (answer : Turn) (store : Contents) (status result : Status) → (e : HasEnded plan old mid answer store) → status_of answer ≡ Some status → ClosesText (last_line answer store) status mid new result
+  closed_by : (mid new : Option (List ℕ)) (answer : Turn) (store : Contents) (status result : Status) → (e : HasEnded plan trace old mid answer store) → status_of answer ≡ Some status → ClosesText (last_line answer store) status mid new result
       → Answers words held old new result
   closed_by mid new answer store status WriteFault e has c =
-      let text = run_text (ends_so mid answer store status e has) in
-      let whole = pictures_text plan.program.globals e.pictures ++ last_line answer store in
-      let count = length (pictures_text plan.program.globals e.pictures) + c.0 in (
+      let text = run_text trace (ends_so mid answer store status e has) in
+      let whole = ended_text trace plan e.pictures answer e.run ++ last_line answer store in
+      let count = length (ended_text trace plan e.pictures answer e.run) + c.0 in (
         text,
         inr (status, inl (runs_to mid answer store status e has)),
         (count, subst (λ t. Wrote old new (take count t)) (line_is mid answer store status e has) (Wrote-part old mid new _ _ c.0 e.wrote c.1)),
       )
   closed_by mid new answer store status NoMemory e has c = (
-    pictures_text plan.program.globals e.pictures,
-    inr (record { plan = plan; pictures = e.pictures; asked = asked; run = settles_by plan e.pictures answer e.run; written = refl }),
+    ended_text trace plan e.pictures answer e.run,
+    inr (record { plan = plan; pictures = e.pictures; asked = asked; run = (settles_by plan trace e.pictures answer e.run).0; written = sym (settles_by plan trace e.pictures answer e.run).1 }),
     rw c e.wrote,
   )
   closed_by mid new answer store status result e has c = closed_whole mid new answer store status result e has c.0 c.1
 
   -- with the names of the globals that the run has
-  pub closed : (mid new : Option (List ℕ)) (end : Ended) (result : Status) → HasEnded plan old mid end.turn (store_of end.run) × (program_of end.run ≡ plan.program) × IsLastTurn end.turn → ClosesRun plan.reductions end mid new result
+  pub closed : (mid new : Option (List ℕ)) (end : Ended) (result : Status) → HasEnded plan trace old mid end.turn (store_of end.run) × (program_of end.run ≡ plan.program) × IsLastTurn end.turn → ClosesRun plan.reductions end mid new result
       → Answers words held old new result
   closed mid new end result e c =
       let named : (program_of end.run).globals ≡ plan.program.globals = ap (λ (p : ProgramTree). p.globals) e.1 in
@@ -173,27 +190,24 @@ module _ (words : List (List ℕ)) (held : Option Held) (plan : Plan) (fits : Pr
       (subst (λ gs. ClosesText (end_line gs (store_of end.run).variables plan.reductions end.turn) c.0 mid new result) named c.2)
 
   -- a write of a state that failed
-  part_written : (from to : RunPlace) (now new : Option (List ℕ)) → HasWritten plan from old now → PartMade plan plan.program.globals from to now new → Answers words held old new WriteFault
-  part_written from to now new h part = (
-    pictures_text plan.program.globals (h.pictures ++ part.picture ∷ []),
-    inl (inr (record {
-      plan = plan;
-      pictures = h.pictures ++ part.picture ∷ [];
-      asked = asked;
-      run = settles_with plan from to old now part.answer part.picture h part.turned part.settled;
-      written = refl;
-    })),
-    (length (pictures_text plan.program.globals h.pictures) + part.kept, rw (lines_more plan.program.globals h.pictures part.picture) (Wrote-part old now new _ _ part.kept h.wrote part.wrote)),
-  )
+  part_written : (from to : RunPlace) (now new : Option (List ℕ)) → HasWritten plan trace from old now → PartMade plan trace from to now new → Answers words held old new WriteFault
+  part_written from to now new h part =
+      let before_it = lead_text trace plan h.pictures h.next h.leads in
+      let state = state_text trace plan.program part.picture (next_moment to) in
+      let settles = settles_with plan trace from to old now part.answer part.picture h part.turned part.settled in (
+        before_it ++ state,
+        inl (inr (record { plan = plan; pictures = h.pictures ++ part.picture ∷ []; asked = asked; run = settles.0; written = sym settles.1 })),
+        (length before_it + part.kept, Wrote-part old now new _ _ part.kept h.wrote part.wrote),
+      )
 
-  pub write_failed : (new : Option (List ℕ)) → ProgramMade plan old new (Err sink.Failed) → Answers words held old new WriteFault
+  pub write_failed : (new : Option (List ℕ)) → ProgramMade plan trace old new (Err sink.Failed) → Answers words held old new WriteFault
   write_failed new (inl none) = let bad : sink.Failed ≡ sink.NoMemory = cc (none.0) in cc
   write_failed new (inr made) = part_written made.from made.to made.middle new made.settled made.stopped
 
-  pub memory_wanted : (new : Option (List ℕ)) → ProgramMade plan old new (Err sink.NoMemory) → Answers words held old new NoMemory
+  pub memory_wanted : (new : Option (List ℕ)) → ProgramMade plan trace old new (Err sink.NoMemory) → Answers words held old new NoMemory
   memory_wanted new (inl none) = ([], inl refl, rw none.1 (Wrote-nothing old))
   memory_wanted new (inr made) = (
-    pictures_text plan.program.globals made.settled.pictures,
+    lead_text trace plan made.settled.pictures made.settled.next made.settled.leads,
     inr (record {
       plan = plan;
       pictures = made.settled.pictures;

@@ -24,7 +24,7 @@ use Rattle.tp_call.specs.declared.refused.Refused.{Refused}
 use Rattle.tp_call.specs.Parts.{refused_status}
 use Rattle.tp_call.specs.Written.{Wrote}
 use Rattle.tp_call.specs.Run.{EndSays}
-use Rattle.tp_call.specs.Text.{TextTells, SatisfiedAsTold, ContinuesTold, finished_line}
+use Rattle.tp_call.specs.Text.{AsksNoTrace, TextTells, SatisfiedAsTold, ContinuesTold, finished_line}
 use Rattle.tp_call.specs.Answer.{Sourced, Supplied, IsAskedFor, HasInputs, HoldsTable, HoldsProgram, HoldsSource, HoldsRefused, IsToPrint, Spells, WritesSpelling, IsLongSource, IsLongTable, HasBadLine, IsTold, IsSupplied, Refuses, RunsTo, CallEnds, Answers, Prints, IsOrStopped, IsOrFailed, IsEndOfRun, IsOpenEnd, HasFailed}
 use Rattle.tp_call.specs.Headline.{HoldsTooLong}
 use Rattle.tp_call.proofs.ProgramLemmas.{program_or_refused, source_or_outside, refused_once}
@@ -100,41 +100,41 @@ module _ (words : List (List ℕ)) (held : Option Held) (old new : Option (List 
   input_missing result a state port is = run_alone (InputMissing state port) (λ r. r) tt (subst (Answers words held old new) is a)
 
   -- the same for whoever has the text alone
-  pub finished_text : (result : Status) → Answers words held old new result → (length : ℕ) → result ≡ Finished length
+  pub finished_text : (result : Status) → Answers words held old new result → (length : ℕ) → result ≡ Finished length → AsksNoTrace words
       → TextTells words held old new (λ plan told last. (n : ℕ) → FitsIn64Bits n → last ≡ finished_line n → SatisfiedAsTold plan told n)
-  finished_text result a n is =
+  finished_text result a n is plain =
       let p = finished result a n is in
       let answer = answer_is p.run.answer (Finished n) p.run.status_is in
       let run = subst (RunEndsWith p.plan p.pictures) answer p.run.run in
       let within = run.ends.within in
       let small : n < 2 ^ 64 = omega (arith, run.count, within, p.states) in
-      tells_finished words held old new (Finished n) _ p p.fits (subst IsLastTurn (sym answer) tt) n answer small p.says.0
+      tells_finished words held old new (Finished n) _ p (plain p.asked.wanted p.asked.accepted) p.fits (subst IsLastTurn (sym answer) tt) n answer small p.says.0
 
-  open_by : (status : Status) → Prints words held old new status (λ p printed. EndSays p printed (answer_of status)) → IsLastTurn (answer_of status) → ((plan : Plan) (printed : List Picture) → EndSays plan printed (answer_of status) → ContinuesEach plan printed)
+  open_by : (status : Status) → Prints words held old new status (λ p printed. EndSays p printed (answer_of status)) → IsLastTurn (answer_of status) → ((plan : Plan) (printed : List Picture) → EndSays plan printed (answer_of status) → ContinuesEach plan printed) → AsksNoTrace words
       → TextTells words held old new (λ plan told last. ContinuesTold plan told)
-  open_by status p last says =
+  open_by status p last says plain =
       let answer = answer_is p.run.answer status p.run.status_is in
-      tells_open words held old new status _ p p.fits (subst IsLastTurn (sym answer) last) (says p.plan p.pictures p.says)
+      tells_open words held old new status _ p (plain p.asked.wanted p.asked.accepted) p.fits (subst IsLastTurn (sym answer) last) (says p.plan p.pictures p.says)
 
-  pub open_text : (result : Status) → Answers words held old new result → IsOpenEnd result → TextTells words held old new (λ plan told last. ContinuesTold plan told)
-  open_text (Undetermined state cell) a o = open_by (Undetermined state cell) (run_alone (Undetermined state cell) (λ r. r) tt a) tt (λ plan printed h. h)
-  open_text (StateLimit states) a o = open_by (StateLimit states) (run_alone (StateLimit states) (λ r. r) tt a) tt (λ plan printed h. h)
-  open_text (ReductionLimit state) a o = open_by (ReductionLimit state) (run_alone (ReductionLimit state) (λ r. r) tt a) tt (λ plan printed h. h)
-  open_text (NumberLimit state) a o = open_by (NumberLimit state) (run_alone (NumberLimit state) (λ r. r) tt a) tt (λ plan printed h. h)
-  open_text (ListLimit state) a o = open_by (ListLimit state) (run_alone (ListLimit state) (λ r. r) tt a) tt (λ plan printed h. h)
-  open_text (CallLimit state) a o = open_by (CallLimit state) (run_alone (CallLimit state) (λ r. r) tt a) tt (λ plan printed h. h)
-  open_text (NestLimit state) a o = open_by (NestLimit state) (run_alone (NestLimit state) (λ r. r) tt a) tt (λ plan printed h. h)
-  open_text (Finished length) a o = absurd o
-  open_text (Contradictory state clash) a o = absurd o
-  open_text (InputMissing state port) a o = absurd o
-  open_text Done a o = absurd o
-  open_text (SourceRefused line column kind) a o = absurd o
-  open_text (InputsRefused line) a o = absurd o
-  open_text WordsRefused a o = absurd o
-  open_text (TooLong which) a o = absurd o
-  open_text (ReadFault which) a o = absurd o
-  open_text WriteFault a o = absurd o
-  open_text NoMemory a o = absurd o
+  pub open_text : (result : Status) → Answers words held old new result → IsOpenEnd result → AsksNoTrace words → TextTells words held old new (λ plan told last. ContinuesTold plan told)
+  open_text (Undetermined state cell) a o plain = open_by (Undetermined state cell) (run_alone (Undetermined state cell) (λ r. r) tt a) tt (λ plan printed h. h) plain
+  open_text (StateLimit states) a o plain = open_by (StateLimit states) (run_alone (StateLimit states) (λ r. r) tt a) tt (λ plan printed h. h) plain
+  open_text (ReductionLimit state) a o plain = open_by (ReductionLimit state) (run_alone (ReductionLimit state) (λ r. r) tt a) tt (λ plan printed h. h) plain
+  open_text (NumberLimit state) a o plain = open_by (NumberLimit state) (run_alone (NumberLimit state) (λ r. r) tt a) tt (λ plan printed h. h) plain
+  open_text (ListLimit state) a o plain = open_by (ListLimit state) (run_alone (ListLimit state) (λ r. r) tt a) tt (λ plan printed h. h) plain
+  open_text (CallLimit state) a o plain = open_by (CallLimit state) (run_alone (CallLimit state) (λ r. r) tt a) tt (λ plan printed h. h) plain
+  open_text (NestLimit state) a o plain = open_by (NestLimit state) (run_alone (NestLimit state) (λ r. r) tt a) tt (λ plan printed h. h) plain
+  open_text (Finished length) a o plain = absurd o
+  open_text (Contradictory state clash) a o plain = absurd o
+  open_text (InputMissing state port) a o plain = absurd o
+  open_text Done a o plain = absurd o
+  open_text (SourceRefused line column kind) a o plain = absurd o
+  open_text (InputsRefused line) a o plain = absurd o
+  open_text WordsRefused a o plain = absurd o
+  open_text (TooLong which) a o plain = absurd o
+  open_text (ReadFault which) a o plain = absurd o
+  open_text WriteFault a o plain = absurd o
+  open_text NoMemory a o plain = absurd o
 
   pub words_refused_only : (result : Status) → Answers words held old new result → result ≡ WordsRefused → usable_of words ≡ None
   words_refused_only result a is = refusal_alone WordsRefused (λ e. e) (λ e. cc) (subst (Answers words held old new) is a)

@@ -1,17 +1,18 @@
 -- A run's states, one more at a time.
-use Rattle.std.proofs.Common.{◌≡◌, ◌+◌, ◌<◌, ℕ, List, [], ◌∷◌, ◌++◌, length, Option, Some, None, refl, ap, sym, ◌∙◌, subst, append_assoc, arith}
+use Rattle.std.proofs.Common.{◌≡◌, ◌+◌, ◌<◌, ℕ, zero, suc, Bool, List, [], ◌∷◌, ◌++◌, length, Option, Some, None, refl, ap, sym, ◌∙◌, subst, append_assoc, arith}
 use Rattle.std.proofs.lemmas.List.{append-nil}
 use Rattle.std.proofs.lemmas.List.Elements.{All-nil, All-push}
-use Rattle.std.proofs.lemmas.Grind.{flat_map-append}
+use Rattle.tp_scene.specs.Pick.{Moment}
 use Rattle.tp_scene.specs.StandsFor.{first_moment}
 use Rattle.tp_show.specs.declared.turn.Picture.{Picture}
 use Rattle.tp_show.specs.declared.turn.Turn.{Turn}
 use Rattle.tp_show.specs.declared.turn.Turn.TheVariants as turn
-use Rattle.tp_show.specs.Line.{picture_lines, pictures_text}
 use Rattle.tp_show.specs.Told.{IsPictureInRange}
-use Rattle.tp_run.specs.States.{Plan, Standing, open_at, RunPlace, AnswersState, StateBecomes, state_after}
+use Rattle.tp_run.specs.States.{Plan, Standing, open_at, answered, RunPlace, AnswersState, StateGoesOn, StatesLead, StateBecomes, state_after}
+use Rattle.tp_run.specs.Runs.{carried_scene}
 use Rattle.tp_run.specs.History.{Advances}
-use Rattle.tp_run.proofs.HistoryLemmas.{runs_advance}
+use Rattle.tp_run.proofs.HistoryLemmas.{lead_more, advance_by, index_next, index_first}
+use Rattle.tp_call.specs.Printed.{state_text, states_text, lead_text, moment_with, next_moment}
 use Rattle.tp_call.specs.Written.{Wrote}
 use Rattle.tp_call.specs.Progress.{Turned, HasWritten}
 use Rattle.tp_call.proofs.TurnLemmas.{WentOn}
@@ -26,14 +27,36 @@ pub Wrote-nothing : (old : Option (List ℕ)) → Wrote old old []
 Wrote-nothing None = refl
 Wrote-nothing (Some x) = ap Some (sym (append-nil x))
 
-pub lines_more : (names : List (List ℕ)) (pictures : List Picture) (picture : Picture) → pictures_text names (pictures ++ picture ∷ []) ≡ pictures_text names pictures ++ picture_lines names picture
-lines_more names pictures picture =
-    flat_map-append (picture_lines names) pictures (picture ∷ []) ∙ ap (λ l. pictures_text names pictures ++ l) (append-nil (picture_lines names picture))
+-- the text of one state more
+pub text_more : (trace : Bool) (plan : Plan) (n : ℕ) (r : Moment) (ps : List Picture) (m : Moment) (k : ℕ) (p : Picture) (next : Moment) (e : k ≡ length ps + n) (h : StatesLead plan n r ps m) (g : StateGoesOn plan k m p next)
+    → states_text trace plan n r (ps ++ p ∷ []) next (lead_more plan n r ps m k p next e h g) ≡ states_text trace plan n r ps m h ++ state_text trace plan.program p (Some next)
+text_more trace plan n r [] m k p next e h g = append-nil (state_text trace plan.program p (Some next))
+text_more trace plan n r (q ∷ ps) m k p next e h g =
+    let first = state_text trace plan.program q (Some h.0) in
+    let more = states_text trace plan (suc n) h.0 ps m h.2 in
+    let last = state_text trace plan.program p (Some next) in
+    ap (λ l. first ++ l) (text_more trace plan (suc n) h.0 ps m k p next (index_next k (length ps) n e) h.2 g) ∙ sym (append_assoc first more last)
+
+carries_none : (n : ℕ) (turn : Turn) → carried_scene n (answered turn) ≡ None
+carries_none zero turn = refl
+carries_none (suc n) turn = refl
+
+-- what the next state begins with, where the run goes on
+pub next_there : (to : RunPlace) (n : ℕ) (m : Moment) → to.standing ≡ open_at m → to.state ≡ suc n → to.store ≡ m.store → next_moment to ≡ Some m
+next_there to n m stands state store =
+    let scene : carried_scene to.state to.standing ≡ Some m.scene = ap (λ z. carried_scene to.state z) stands ∙ ap (λ k. carried_scene k (open_at m)) state in
+    ap (λ z. moment_with to.store z) scene ∙ ap (λ z. moment_with z (Some m.scene)) store
+
+-- after its last answer there is none
+pub no_next : (to : RunPlace) (turn : Turn) → to.standing ≡ answered turn → next_moment to ≡ None
+no_next to turn stands =
+    let scene : carried_scene to.state to.standing ≡ None = ap (λ z. carried_scene to.state z) stands ∙ carries_none to.state turn in
+    ap (λ z. moment_with to.store z) scene
 
 -- what a call answers where the run stands before the state after some that it settled
-answered_there : (plan : Plan) (from to : RunPlace) (before now : Option (List ℕ)) (answer : Turn) (picture : Picture) → (h : HasWritten plan from before now) → (t : Turned plan from to answer picture)
+pub answered_there : (plan : Plan) (trace : Bool) (from to : RunPlace) (before now : Option (List ℕ)) (answer : Turn) (picture : Picture) → (h : HasWritten plan trace from before now) → (t : Turned plan from to answer picture)
     → StateBecomes plan (length h.pictures) h.next t.earlier picture to.standing to.store answer × (to.state ≡ state_after (length h.pictures) answer)
-answered_there plan from to before now answer picture h t =
+answered_there plan trace from to before now answer picture h t =
     let place : RunPlace = record { standing = open_at h.next; state = length h.pictures; store = from.store } in
     let there : RunPlace → Type 0 = λ p. AnswersState plan p t.earlier picture to answer in
     let make : Standing → ℕ → RunPlace = λ z n. record { standing = z; state = n; store = from.store } in
@@ -42,27 +65,39 @@ answered_there plan from to before now answer picture h t =
     answers
 
 -- such an answer adds a settled state or is the run's end
-pub advances : (plan : Plan) (from to : RunPlace) (before now : Option (List ℕ)) (answer : Turn) (picture : Picture) → (h : HasWritten plan from before now) → (t : Turned plan from to answer picture)
+abbrev pub advances : (plan : Plan) (trace : Bool) (from to : RunPlace) (before now : Option (List ℕ)) (answer : Turn) (picture : Picture) → (h : HasWritten plan trace from before now) → (t : Turned plan from to answer picture)
     → Advances plan h.pictures t.earlier picture to answer
-advances plan from to before now answer picture h t =
-    let w = answered_there plan from to before now answer picture h t in
-    (runs_advance plan).goes_on h.pictures h.next h.leads t.earlier picture to answer w.0 w.1
+advances plan trace from to before now answer picture h t =
+    let w = answered_there plan trace from to before now answer picture h t in
+    advance_by plan h.pictures h.next h.leads t.earlier picture to answer w.0 w.1
 
 -- no state was settled yet
-pub HasWritten-none : (plan : Plan) (from : RunPlace) (now : Option (List ℕ)) → from.standing ≡ open_at (first_moment plan.program.globals plan.program.main) → from.state ≡ 0 → HasWritten plan from now now
-HasWritten-none plan from now stands count =
-    record { pictures = []; next = first_moment plan.program.globals plan.program.main; stands = stands; count = count; leads = (runs_advance plan).begins; wrote = Wrote-nothing now; range = All-nil IsPictureInRange }
+pub HasWritten-none : (plan : Plan) (trace : Bool) (from : RunPlace) (now : Option (List ℕ)) → from.standing ≡ open_at (first_moment plan.program.globals plan.program.main) → from.state ≡ 0 → HasWritten plan trace from now now
+HasWritten-none plan trace from now stands count =
+    record { pictures = []; next = first_moment plan.program.globals plan.program.main; stands = stands; count = count; leads = refl; wrote = Wrote-nothing now; range = All-nil IsPictureInRange }
 
-pub HasWritten-more : (plan : Plan) (from to : RunPlace) (before now after : Option (List ℕ)) (picture : Picture) → HasWritten plan from before now → WentOn plan plan.program.globals from to now after picture → HasWritten plan to before after
-HasWritten-more plan from to before now after picture h w =
-    let a = advances plan from to before now turn.Went picture h w.turned in
+-- one that goes on adds its text
+pub more_written : (plan : Plan) (trace : Bool) (from to : RunPlace) (before now after : Option (List ℕ)) (picture : Picture) → (h : HasWritten plan trace from before now) → (t : Turned plan from to turn.Went picture)
+    → Wrote now after (state_text trace plan.program picture (next_moment to))
+    → let a = advances plan trace from to before now turn.Went picture h t in Wrote before after (lead_text trace plan (h.pictures ++ picture ∷ []) a.0 a.2)
+more_written plan trace from to before now after picture h t wrote =
+    let w = answered_there plan trace from to before now turn.Went picture h t in
+    let next = w.0.0 in
+    let there : next_moment to ≡ Some next = next_there to (length h.pictures) next w.0.2 w.1 w.0.3 in
+    let text = text_more trace plan 0 (first_moment plan.program.globals plan.program.main) h.pictures h.next (length h.pictures) picture next (index_first h.pictures) h.leads w.0.1 in
+    let both = Wrote-both before now after _ _ h.wrote (subst (λ m. Wrote now after (state_text trace plan.program picture m)) there wrote) in
+    subst (Wrote before after) (sym text) both
+
+pub HasWritten-more : (plan : Plan) (trace : Bool) (from to : RunPlace) (before now after : Option (List ℕ)) (picture : Picture) → HasWritten plan trace from before now → WentOn plan trace from to now after picture → HasWritten plan trace to before after
+HasWritten-more plan trace from to before now after picture h w =
+    let a = advances plan trace from to before now turn.Went picture h w.turned in
     record {
       pictures = h.pictures ++ picture ∷ [];
       next = a.0;
       stands = a.1;
       count = a.3;
       leads = a.2;
-      wrote = rw (lines_more plan.program.globals h.pictures picture) (Wrote-both before now after _ _ h.wrote w.wrote);
+      wrote = more_written plan trace from to before now after picture h w.turned w.wrote;
       range = All-push IsPictureInRange h.pictures picture h.range w.range;
     }
 
@@ -71,8 +106,8 @@ pub record NextState (plan : Plan) (from to : RunPlace) : Type 0 where
   pub within : from.state < plan.states
   pub next : to.state ≡ from.state + 1
 
-pub next_state : (plan : Plan) (from to : RunPlace) (before now : Option (List ℕ)) (picture : Picture) → HasWritten plan from before now → Turned plan from to turn.Went picture → NextState plan from to
-next_state plan from to before now picture h t =
-    let a = answered_there plan from to before now turn.Went picture h t in
+pub next_state : (plan : Plan) (trace : Bool) (from to : RunPlace) (before now : Option (List ℕ)) (picture : Picture) → HasWritten plan trace from before now → Turned plan from to turn.Went picture → NextState plan from to
+next_state plan trace from to before now picture h t =
+    let a = answered_there plan trace from to before now turn.Went picture h t in
     let within = a.0.1.within in
     record { within = omega (arith, within, h.count); next = omega (arith, a.1, h.count) }

@@ -1,23 +1,28 @@
 -- What the text of a run says to whoever has it alone.
-use Rattle.std.proofs.Common.{◌≡◌, ◌↔◌, ◌<◌, ◌^◌, ℕ, suc, List, [], ◌∷◌, ◌++◌, length, map, drop, All, Option, refl, sym, ap, ◌∙◌, subst, arith, codes, append_assoc}
+use Rattle.std.proofs.Common.{◌≡◌, ◌↔◌, ◌<◌, ◌^◌, ℕ, suc, false, List, [], ◌∷◌, ◌++◌, length, map, drop, All, Option, refl, sym, ap, ◌∙◌, subst, arith, codes, append_assoc}
 use Rattle.std.specs.Fmt.{decimal}
-use Rattle.std.proofs.lemmas.List.{length-map}
+use Rattle.std.proofs.lemmas.List.{length-map, append-nil}
 use Rattle.std.proofs.lemmas.List.Elements.{All-nil, All-cons, All-head, All-tail}
 use Rattle.std.proofs.lemmas.Fmt.{decimal_injective}
+use Rattle.std.proofs.lemmas.Grind.{flat_map-append}
 use Rattle.tp_io.specs.Devices.{Held}
 use Rattle.tp_meaning.specs.Course.{Course, Shows, ◌⊕◌, shown_at}
 use Rattle.tp_meaning.specs.Fits.{ProgramFits}
 use Rattle.tp_decide.specs.Read.{shows_of}
 use Rattle.tp_show.specs.declared.turn.Picture.{Picture}
+use Rattle.tp_show.specs.declared.turn.Turn.{Turn}
 use Rattle.tp_show.specs.declared.turn.Turn.TheVariants as turn
-use Rattle.tp_show.specs.Line.{AreFactsOf, ToldState, told_of}
+use Rattle.tp_show.specs.Line.{AreFactsOf, ToldState, told_of, told_text, picture_lines, pictures_text}
 use Rattle.tp_show.specs.EndLine.{end_line}
 use Rattle.tp_show.specs.Told.{IsPictureInRange, FitsIn64Bits, IsEndLine, IsLastTurn, IsStateOf, AgreesWithTold, told_shows}
 use Rattle.tp_show.proofs.ReadBackLemmas.{texts_tell, pictures_told, are_told}
-use Rattle.tp_run.specs.States.{Plan}
-use Rattle.tp_run.specs.History.{AgreesWithPictures, shown_from, SatisfiedExactly, ContinuesEach}
+use Rattle.tp_scene.specs.Pick.{Moment}
+use Rattle.tp_scene.specs.StandsFor.{first_moment}
+use Rattle.tp_run.specs.States.{Plan, StatesLead, LeadsTo}
+use Rattle.tp_run.specs.History.{RunEndsWith, AgreesWithPictures, shown_from, SatisfiedExactly, ContinuesEach}
 use Rattle.tp_call.specs.declared.status.Status.{Status}
 use Rattle.tp_call.specs.Run.{known_at_end}
+use Rattle.tp_call.specs.Printed.{states_text, lead_text, ended_text}
 use Rattle.tp_call.specs.Answer.{Prints, run_text}
 use Rattle.tp_call.specs.Text.{ReadsAs, finished_line, SatisfiedAsTold, ContinuesTold, TextTells}
 use Rattle.tp_call.proofs.FactLemmas.{run_facts}
@@ -75,8 +80,33 @@ finished_length m n p q e = decimal_injective m n p q (drop_end (decimal m) (dec
   drop_end (x ∷ z ∷ a) [] h = absurd (cc)
   drop_end (x ∷ a) (y ∷ b) h = let head : x ≡ y = cc in let tail : a ≡ b = drop_end a b (cc) in cc
 
+-- without a trace the text of states is that of their pictures
+lines_more : (names : List (List ℕ)) (pictures : List Picture) (picture : Picture) → pictures_text names (pictures ++ picture ∷ []) ≡ pictures_text names pictures ++ picture_lines names picture
+lines_more names pictures picture =
+    flat_map-append (picture_lines names) pictures (picture ∷ []) ∙ ap (λ l. pictures_text names pictures ++ l) (append-nil (picture_lines names picture))
+
+untraced_states : (plan : Plan) (n : ℕ) (m : Moment) (ps : List Picture) (last : Moment) (leads : StatesLead plan n m ps last) → states_text false plan n m ps last leads ≡ pictures_text plan.program.globals ps
+untraced_states plan n m [] last leads = refl
+untraced_states plan n m (p ∷ ps) last leads = ap (λ l. picture_lines plan.program.globals p ++ l) (untraced_states plan (suc n) leads.0 ps last leads.2)
+
+untraced_end : (plan : Plan) (ps : List Picture) (answer : Turn) (end : RunEndsWith plan ps answer) → ended_text false plan ps answer end ≡ pictures_text plan.program.globals ps
+untraced_end plan ps answer end = by answer end where
+  lead : (m : Moment) (leads : LeadsTo plan ps m) → lead_text false plan ps m leads ≡ pictures_text plan.program.globals ps
+  lead m leads = untraced_states plan 0 (first_moment plan.program.globals plan.program.main) ps m leads
+  by : (turn : Turn) (end : RunEndsWith plan ps turn) → ended_text false plan ps turn end ≡ pictures_text plan.program.globals ps
+  by turn.Went end = absurd end
+  by (turn.Finished n) end =
+      let names = plan.program.globals in
+      let before = untraced_states plan 0 (first_moment names plan.program.main) end.before end.moment end.leads in
+      ap (λ l. l ++ picture_lines names end.final) before ∙ (sym (lines_more names end.before end.final) ∙ ap (pictures_text names) (sym end.pictures))
+  by (turn.Contradictory state clash) end = lead end.0 end.1
+  by (turn.Undetermined state cell) end = lead end.0 end.1
+  by (turn.StateLimit states) end = lead end.0 end.1
+  by (turn.InputMissing state port) end = lead end.0 end.1
+  by (turn.Over state limit) end = lead end.0 end.1
+
 -- a run's text can be read, and is read as its states and its end line alone
-module _ (words : List (List ℕ)) (held : Option Held) (old new : Option (List ℕ)) (status : Status) (P : Plan → List Picture → Type 0) (prints : Prints words held old new status P) (fits : ProgramFits prints.plan.program) (last : IsLastTurn prints.run.answer) where
+module _ (words : List (List ℕ)) (held : Option Held) (old new : Option (List ℕ)) (status : Status) (P : Plan → List Picture → Type 0) (prints : Prints words held old new status P) (plain : prints.asked.wanted.trace ≡ false) (fits : ProgramFits prints.plan.program) (last : IsLastTurn prints.run.answer) where
   abbrev globals : List (List ℕ)
   globals = prints.plan.program.globals
 
@@ -89,17 +119,25 @@ module _ (words : List (List ℕ)) (held : Option Held) (old new : Option (List 
   is_end : IsEndLine globals own_end
   is_end = (known_at_end prints.run, prints.plan.reductions, prints.run.answer, last, refl)
 
-  own : ReadsAs globals (run_text prints.run) (told_all prints.pictures) own_end
-  own = record { states = are_told globals prints.pictures (all_states_of globals prints.pictures facts prints.range); last = is_end; whole = ap (λ l. l ++ own_end) (pictures_told globals prints.pictures) }
+  abbrev own_text : List ℕ
+  own_text = run_text prints.asked.wanted.trace prints.run
 
-  once : (other : List ToldState) (end : List ℕ) → ReadsAs globals (run_text prints.run) other end → (told_all prints.pictures ≡ other) × (own_end ≡ end)
+  whole : own_text ≡ told_text globals (told_all prints.pictures) ++ own_end
+  whole =
+      let states = untraced_end prints.plan prints.pictures prints.run.answer prints.run.run ∙ pictures_told globals prints.pictures in
+      ap (λ t. ended_text t prints.plan prints.pictures prints.run.answer prints.run.run ++ own_end) plain ∙ ap (λ l. l ++ own_end) states
+
+  own : ReadsAs globals own_text (told_all prints.pictures) own_end
+  own = record { states = are_told globals prints.pictures (all_states_of globals prints.pictures facts prints.range); last = is_end; whole = whole }
+
+  once : (other : List ToldState) (end : List ℕ) → ReadsAs globals own_text other end → (told_all prints.pictures ≡ other) × (own_end ≡ end)
   once other end r = texts_tell.once globals prints.names (told_all prints.pictures) other own.states r.states own_end end is_end r.last (sym own.whole ∙ r.whole)
 
   pub text_tells : (Q : Plan → List ToldState → List ℕ → Type 0) → Q prints.plan (told_all prints.pictures) own_end → TextTells words held old new Q
   text_tells Q h = record {
     plan = prints.plan;
     asked = prints.asked;
-    text = run_text prints.run;
+    text = own_text;
     appended = prints.appended;
     told = told_all prints.pictures;
     end = own_end;

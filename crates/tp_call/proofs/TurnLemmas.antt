@@ -1,14 +1,10 @@
 -- What one answer of a run makes, and what is written of it.
-use Rattle.std.proofs.Common.{◌≡◌, ℕ, true, List, Option, Some, None, Err, refl, ap, ◌∙◌, subst}
+use Rattle.std.proofs.Common.{◌≡◌, ℕ, Bool, true, List, Option, Some, None, Err, refl, ap, ◌∙◌, subst}
 use Rattle.tp_io.specs.Devices.{Writes}
 use Rattle.tp_io.specs.declared.devices.WriteRefusal.{WriteRefusal}
 use Rattle.tp_io.specs.declared.devices.WriteRefusal.TheVariants as sink
 use Rattle.tp_kernel.specs.declared.formula.LimitKind.TheVariants as limit
 use Rattle.tp_meaning.specs.Interval.{ProgramTree}
-use Rattle.tp_check.specs.declared.program.Program.{Program}
-use Rattle.tp_check.specs.Program.{program_tree}
-use Rattle.tp_run.specs.declared.run.Run.{Run}
-use Rattle.tp_run.specs.Runs.{program_of, IsRunOf}
 use Rattle.tp_show.specs.declared.turn.Picture.{Picture}
 use Rattle.tp_show.specs.declared.turn.Turn.{Turn}
 use Rattle.tp_show.specs.declared.turn.Turn.TheVariants as turn
@@ -18,48 +14,46 @@ use Rattle.tp_show.specs.Read.{plain_parts}
 use Rattle.tp_call.specs.Places.{StandsOpen}
 use Rattle.tp_call.specs.declared.status.Status.{Status}
 use Rattle.tp_call.specs.declared.status.Status.TheVariants.{Finished, Done, Contradictory, Undetermined, StateLimit, ReductionLimit, NumberLimit, ListLimit, CallLimit, NestLimit, InputMissing, SourceRefused, InputsRefused, WordsRefused, TooLong, ReadFault, WriteFault, NoMemory}
-use Rattle.tp_show.specs.Line.{picture_lines}
 use Rattle.tp_show.specs.Told.{IsPictureInRange, IsLastTurn}
 use Rattle.tp_call.specs.Run.{last_answer, limit_end, status_of}
 use Rattle.tp_call.specs.Answer.{IsEndOfRun}
+use Rattle.tp_call.specs.Printed.{state_text, next_moment}
 use Rattle.tp_call.specs.Written.{Wrote}
 use Rattle.tp_call.specs.Progress.{Turned, is_settled, printed_lines, AnswerMade, TurnMade}
 
--- the names of the globals of the program that a run of this plan has
-pub names_are : (plan : Plan) (program : Program) (run : Run) → program_tree program ≡ program_of run → IsRunOf plan run → program.globals ≡ plan.program.globals
-names_are plan program run e h = ap (λ (p : ProgramTree). p.globals) (e ∙ h.program)
+-- the call gives this answer, and what was to be written of it, by the run's program, was
+module _ (plan : Plan) (trace : Bool) (from to : RunPlace) (answer : Turn) (earlier picture : Picture) (answers : AnswersState plan from earlier picture to answer) (before : Option (List ℕ)) (program : ProgramTree) (own : program ≡ plan.program) where
+  abbrev lines : ProgramTree → List ℕ
+  lines p = printed_lines trace p answer picture (next_moment to)
 
--- the call gives this answer, and what was to be written of it was
-module _ (plan : Plan) (names : List (List ℕ)) (from to : RunPlace) (answer : Turn) (earlier picture : Picture) (answers : AnswersState plan from earlier picture to answer) (before : Option (List ℕ)) where
-  pub answer_made : (after : Option (List ℕ)) (last : Option Turn) → last ≡ last_answer answer → Wrote before after (printed_lines names answer picture) → (is_settled answer ≡ true → IsPictureInRange picture)
-      → AnswerMade plan names from to before after last
+  pub answer_made : (after : Option (List ℕ)) (last : Option Turn) → last ≡ last_answer answer → Wrote before after (lines program) → (is_settled answer ≡ true → IsPictureInRange picture)
+      → AnswerMade plan trace from to before after last
   answer_made after last is wrote range =
-      record { answer = answer; last_is = is; picture = picture; turned = record { earlier = earlier; answers = answers }; wrote = wrote; range = range }
+      record { answer = answer; last_is = is; picture = picture; turned = record { earlier = earlier; answers = answers }; wrote = subst (λ p. Wrote before after (lines p)) own wrote; range = range }
 
   -- a settled state whose lines aren't written as a whole
-  pub write_stopped : (after : Option (List ℕ)) (refusal : WriteRefusal) → is_settled answer ≡ true → Writes {T = Unit {0}} before after (printed_lines names answer picture) (Err refusal)
-      → TurnMade plan names from to before after (Err refusal)
+  write_stopped : (after : Option (List ℕ)) (refusal : WriteRefusal) → is_settled answer ≡ true → Writes {T = Unit {0}} before after (lines plan.program) (Err refusal)
+      → TurnMade plan trace from to before after (Err refusal)
   write_stopped after sink.Failed settled wrote =
       record { picture = picture; answer = answer; settled = settled; turned = record { earlier = earlier; answers = answers }; kept = wrote.0; wrote = rw settled at wrote.2 }
   write_stopped after sink.NoMemory settled wrote = wrote
 
-  -- with these names under another name
-  pub write_stopped_as : (globals : List (List ℕ)) (after : Option (List ℕ)) (refusal : WriteRefusal) → globals ≡ names → is_settled answer ≡ true → Writes {T = Unit {0}} before after (printed_lines globals answer picture) (Err refusal)
-      → TurnMade plan names from to before after (Err refusal)
-  write_stopped_as globals after refusal e settled wrote = write_stopped after refusal settled (subst (λ gs. Writes {T = Unit {0}} before after (printed_lines gs answer picture) (Err refusal)) e wrote)
+  pub write_stopped_so : (after : Option (List ℕ)) (refusal : WriteRefusal) → is_settled answer ≡ true → Writes {T = Unit {0}} before after (lines program) (Err refusal)
+      → TurnMade plan trace from to before after (Err refusal)
+  write_stopped_so after refusal settled wrote = write_stopped after refusal settled (subst (λ p. Writes {T = Unit {0}} before after (lines p) (Err refusal)) own wrote)
 
 -- an answer that isn't the last one goes on, and its state's lines were written
-pub record WentOn (plan : Plan) (names : List (List ℕ)) (from to : RunPlace) (before after : Option (List ℕ)) (picture : Picture) : Type 0 where
+pub record WentOn (plan : Plan) (trace : Bool) (from to : RunPlace) (before after : Option (List ℕ)) (picture : Picture) : Type 0 where
   pub turned : Turned plan from to turn.Went picture
-  pub wrote : Wrote before after (picture_lines names picture)
+  pub wrote : Wrote before after (state_text trace plan.program picture (next_moment to))
   pub range : IsPictureInRange picture
 
-pub went_on : (plan : Plan) (names : List (List ℕ)) (from to : RunPlace) (before after : Option (List ℕ)) (made : AnswerMade plan names from to before after None) → WentOn plan names from to before after made.picture
-went_on plan names from to before after made = by made.answer refl where
-  by : (answer : Turn) → made.answer ≡ answer → WentOn plan names from to before after made.picture
+pub went_on : (plan : Plan) (trace : Bool) (from to : RunPlace) (before after : Option (List ℕ)) (made : AnswerMade plan trace from to before after None) → WentOn plan trace from to before after made.picture
+went_on plan trace from to before after made = by made.answer refl where
+  by : (answer : Turn) → made.answer ≡ answer → WentOn plan trace from to before after made.picture
   by turn.Went e = record {
     turned = subst (λ t. Turned plan from to t made.picture) e made.turned;
-    wrote = subst (λ t. Wrote before after (printed_lines names t made.picture)) e made.wrote;
+    wrote = subst (λ t. Wrote before after (printed_lines trace plan.program t made.picture (next_moment to))) e made.wrote;
     range = made.range (ap is_settled e);
   }
   by (turn.Finished length) e = let bad : None ≡ last_answer (turn.Finished length) = made.last_is ∙ ap last_answer e in absurd (cc)

@@ -1,5 +1,5 @@
 -- What a call may answer, and what it writes.
-use Rattle.std.specs.Prelude.{◌≡◌, ◌⊎◌, ◌≤◌, ◌<◌, ◌^◌, ◌+◌, ℕ, List, [], ◌++◌, length, take, All, Option, None, Some}
+use Rattle.std.specs.Prelude.{◌≡◌, ◌⊎◌, ◌≤◌, ◌<◌, ◌^◌, ◌+◌, ℕ, Bool, List, [], ◌++◌, length, take, All, Option, None, Some}
 use Rattle.std.specs.Option.{option_map}
 use Rattle.tp_lex.specs.Place.{source_limit}
 use Rattle.tp_io.specs.Devices.{Held, bytes_of}
@@ -22,13 +22,13 @@ use Rattle.std.specs.Str.Lines.{lines}
 use Rattle.tp_meaning.specs.Inputs.{InputLines}
 use Rattle.tp_inputs.specs.declared.refusal.Fault.{Fault}
 use Rattle.tp_inputs.specs.Table.{IsInputsText, IsFirstFault}
-use Rattle.tp_show.specs.Line.{pictures_text}
 use Rattle.tp_show.specs.EndLine.{end_line}
 use Rattle.tp_show.specs.Told.{AreNames, IsPictureInRange}
 use Rattle.tp_call.specs.EndLine.{refusal_line}
 use Rattle.tp_meaning.specs.Interval.{ProgramTree}
 use Rattle.tp_meaning.specs.Fits.{ProgramFits}
 use Rattle.tp_call.specs.Run.{EndSays, RunEnds, known_at_end, Settles}
+use Rattle.tp_call.specs.Printed.{ended_text, settled_text}
 use Rattle.tp_call.specs.Written.{Wrote}
 
 -- where the value is told, it has P
@@ -58,8 +58,8 @@ abbrev pub IsLongSource : Mode → List ℕ → Type 0
 IsLongSource mode source = source_limit < length source
 
 -- the text of a run of this plan that settled these states and ended so: the lines of the states, and the end line
-abbrev pub run_text : {plan : Plan} {pictures : List Picture} {status : Status} → RunEnds plan pictures status → List ℕ
-run_text {plan} {pictures} end = pictures_text plan.program.globals pictures ++ end_line plan.program.globals (known_at_end end) plan.reductions end.answer
+abbrev pub run_text : (trace : Bool) {plan : Plan} {pictures : List Picture} {status : Status} → RunEnds plan pictures status → List ℕ
+run_text trace {plan} {pictures} end = ended_text trace plan pictures end.answer end.run ++ end_line plan.program.globals (known_at_end end) plan.reductions end.answer
 
 -- The greatest length of a file of inputs, in bytes.
 abbrev pub inputs_limit : ℕ
@@ -118,7 +118,7 @@ pub record RunsTo (words : List (List ℕ)) (held : Option Held) (status : Statu
   pub asked : IsAskedFor words held plan
   pub run : RunEnds plan pictures status
   pub says : EndSays plan pictures run.answer
-  pub written : text ≡ run_text run
+  pub written : text ≡ run_text asked.wanted.trace run
   pub fits : ProgramFits plan.program
   pub names : AreNames plan.program.globals
   pub states : plan.states < 2 ^ 64
@@ -165,7 +165,7 @@ pub record RunsOn (words : List (List ℕ)) (held : Option Held) (text : List �
   pub pictures : List Picture
   pub asked : IsAskedFor words held plan
   pub run : Settles plan pictures
-  pub written : text ≡ pictures_text plan.program.globals pictures
+  pub written : text ≡ settled_text asked.wanted.trace plan pictures run
 
 -- the text of no state, or of states of a run, without an end line
 abbrev pub IsUnfinishedText : List (List ℕ) → Option Held → List ℕ → Type 0
@@ -185,7 +185,7 @@ pub record Prints (words : List (List ℕ)) (held : Option Held) (old new : Opti
   pub pictures : List Picture
   pub asked : IsAskedFor words held plan
   pub run : RunEnds plan pictures status
-  pub appended : Wrote old new (run_text run)
+  pub appended : Wrote old new (run_text asked.wanted.trace run)
   pub fits : ProgramFits plan.program
   pub names : AreNames plan.program.globals
   pub states : plan.states < 2 ^ 64

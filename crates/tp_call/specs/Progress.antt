@@ -2,6 +2,7 @@
 use Rattle.std.specs.Prelude.{◌≡◌, ◌⊎◌, ℕ, Bool, true, false, IsTrue, if◌then◌else◌, List, [], length, take, All, Option, Some, Result, Ok, Err, IfOk}
 use Rattle.tp_io.specs.declared.devices.WriteRefusal.{WriteRefusal}
 use Rattle.tp_io.specs.declared.devices.WriteRefusal.TheVariants as sink
+use Rattle.tp_meaning.specs.Interval.{ProgramTree}
 use Rattle.tp_scene.specs.Pick.{Moment}
 use Rattle.tp_show.specs.declared.turn.Picture.{Picture}
 use Rattle.tp_show.specs.declared.turn.Turn.{Turn}
@@ -9,8 +10,8 @@ use Rattle.tp_show.specs.declared.turn.Turn.TheVariants as turn
 use Rattle.tp_run.specs.States.{Plan, RunPlace, open_at, LeadsTo, AnswersState}
 use Rattle.tp_run.specs.Runs.{program_of, store_of}
 use Rattle.tp_call.specs.declared.run.Ended.{Ended}
-use Rattle.tp_show.specs.Line.{picture_lines, pictures_text}
 use Rattle.tp_show.specs.Told.{IsPictureInRange}
+use Rattle.tp_call.specs.Printed.{state_text, lead_text, next_moment}
 use Rattle.tp_call.specs.Written.{Wrote}
 use Rattle.tp_show.specs.EndLine.{end_line}
 use Rattle.tp_call.specs.declared.status.Status.{Status}
@@ -32,42 +33,42 @@ is_settled (turn.StateLimit states) = false
 is_settled (turn.InputMissing state port) = false
 is_settled (turn.Over state limit) = false
 
--- what is written of an answer and its picture: the lines of the state, where it was settled
-abbrev pub printed_lines : List (List ℕ) → Turn → Picture → List ℕ
-printed_lines names answer picture = if is_settled answer then picture_lines names picture else []
+-- what is written of an answer and its picture: that of the state, where it was settled; the next one begins with this moment, where there is one
+abbrev pub printed_lines : (trace : Bool) → ProgramTree → Turn → Picture → (next : Option Moment) → List ℕ
+printed_lines trace program answer picture next = if is_settled answer then state_text trace program picture next else []
 
 -- the call answered this, which was written; and the run ends with it, or goes on
-pub record AnswerMade (plan : Plan) (names : List (List ℕ)) (from to : RunPlace) (before after : Option (List ℕ)) (last : Option Turn) : Type 0 where
+pub record AnswerMade (plan : Plan) (trace : Bool) (from to : RunPlace) (before after : Option (List ℕ)) (last : Option Turn) : Type 0 where
   pub answer : Turn
   pub last_is : last ≡ last_answer answer
   pub picture : Picture
   pub turned : Turned plan from to answer picture
-  pub wrote : Wrote before after (printed_lines names answer picture)
+  pub wrote : Wrote before after (printed_lines trace plan.program answer picture (next_moment to))
   pub range : IsTrue (is_settled answer) → IsPictureInRange picture
 
 -- the next state was settled, and a part of its lines was written
-pub record PartMade (plan : Plan) (names : List (List ℕ)) (from to : RunPlace) (before after : Option (List ℕ)) : Type 0 where
+pub record PartMade (plan : Plan) (trace : Bool) (from to : RunPlace) (before after : Option (List ℕ)) : Type 0 where
   pub picture : Picture
   pub answer : Turn
   pub settled : IsTrue (is_settled answer)
   pub turned : Turned plan from to answer picture
   pub kept : ℕ
-  pub wrote : Wrote before after (take kept (picture_lines names picture))
+  pub wrote : Wrote before after (take kept (state_text trace plan.program picture (next_moment to)))
 
 -- what became of the next state: the run answered and wrote, a write failed, or memory was wanted
-abbrev pub TurnMade : Plan → List (List ℕ) → RunPlace → RunPlace → Option (List ℕ) → Option (List ℕ) → Result (Option Turn) WriteRefusal → Type 0
-TurnMade plan names from to before after (Ok last) = AnswerMade plan names from to before after last
-TurnMade plan names from to before after (Err sink.Failed) = PartMade plan names from to before after
-TurnMade plan names from to before after (Err sink.NoMemory) = after ≡ before
+abbrev pub TurnMade : Plan → (trace : Bool) → RunPlace → RunPlace → Option (List ℕ) → Option (List ℕ) → Result (Option Turn) WriteRefusal → Type 0
+TurnMade plan trace from to before after (Ok last) = AnswerMade plan trace from to before after last
+TurnMade plan trace from to before after (Err sink.Failed) = PartMade plan trace from to before after
+TurnMade plan trace from to before after (Err sink.NoMemory) = after ≡ before
 
 -- a run of the plan, which stands here, has settled and written some states and goes on
-pub record HasWritten (plan : Plan) (now : RunPlace) (before after : Option (List ℕ)) : Type 0 where
+pub record HasWritten (plan : Plan) (trace : Bool) (now : RunPlace) (before after : Option (List ℕ)) : Type 0 where
   pub pictures : List Picture
   pub next : Moment
   pub stands : now.standing ≡ open_at next
   pub count : now.state ≡ length pictures
   pub leads : LeadsTo plan pictures next
-  pub wrote : Wrote before after (pictures_text plan.program.globals pictures)
+  pub wrote : Wrote before after (lead_text trace plan pictures next leads)
   pub range : All IsPictureInRange pictures
 
 abbrev pub as_turn : Result Ended WriteRefusal → Result (Option Turn) WriteRefusal
@@ -80,17 +81,17 @@ pub record EndedThere (plan : Plan) (to : RunPlace) (ended : Ended) : Type 0 whe
   pub store : store_of ended.run ≡ to.store
 
 -- a run of the plan settled and wrote some states, and then ended or was stopped
-pub record RunMade (plan : Plan) (before after : Option (List ℕ)) (result : Result Ended WriteRefusal) : Type 0 where
+pub record RunMade (plan : Plan) (trace : Bool) (before after : Option (List ℕ)) (result : Result Ended WriteRefusal) : Type 0 where
   pub from : RunPlace
   pub to : RunPlace
   pub middle : Option (List ℕ)
-  pub settled : HasWritten plan from before middle
-  pub stopped : TurnMade plan plan.program.globals from to middle after (as_turn result)
+  pub settled : HasWritten plan trace from before middle
+  pub stopped : TurnMade plan trace from to middle after (as_turn result)
   pub ended : IfOk result (EndedThere plan to)
 
 -- the same, or memory was wanted before the run
-abbrev pub ProgramMade : Plan → Option (List ℕ) → Option (List ℕ) → Result Ended WriteRefusal → Type 0
-ProgramMade plan before after result = ((result ≡ Err sink.NoMemory) × (after ≡ before)) ⊎ RunMade plan before after result
+abbrev pub ProgramMade : Plan → (trace : Bool) → Option (List ℕ) → Option (List ℕ) → Result Ended WriteRefusal → Type 0
+ProgramMade plan trace before after result = ((result ≡ Err sink.NoMemory) × (after ≡ before)) ⊎ RunMade plan trace before after result
 
 -- the end line of a run that ended, where a state has at most so many reductions
 abbrev pub line_of_end : (reductions : ℕ) → Ended → List ℕ

@@ -1,5 +1,5 @@
 -- What the text of a run says to whoever has it alone.
-use Rattle.std.specs.Prelude.{◌≡◌, ◌↔◌, ◌≤◌, ◌<◌, ◌+◌, ℕ, List, ◌++◌, length, All, Option, codes}
+use Rattle.std.specs.Prelude.{◌≡◌, ◌↔◌, ◌≤◌, ◌<◌, ◌+◌, ℕ, false, List, ◌++◌, length, All, Option, Some, codes}
 use Rattle.std.specs.Fmt.{decimal}
 use Rattle.tp_io.specs.Devices.{Held}
 use Rattle.tp_meaning.specs.Course.{Course, Shows}
@@ -7,8 +7,13 @@ use Rattle.tp_meaning.specs.Interval.{IsInterval, Satisfies}
 use Rattle.tp_run.specs.States.{Plan}
 use Rattle.tp_show.specs.Line.{ToldState, told_text}
 use Rattle.tp_show.specs.Told.{IsToldOf, IsEndLine, AgreesWithTold, told_shows}
+use Rattle.tp_words.specs.Words.{Wanted, wanted_of}
 use Rattle.tp_call.specs.Written.{Wrote}
 use Rattle.tp_call.specs.Answer.{IsAskedFor}
+
+-- the words ask for no trace
+abbrev pub AsksNoTrace : List (List ℕ) → Type 0
+AsksNoTrace words = (wanted : Wanted) → wanted_of words ≡ Some wanted → wanted.trace ≡ false
 
 -- The text reads so: lines of states that tell this of the variables with these names, and then an end line.
 pub record ReadsAs (names : List (List ℕ)) (text : List ℕ) (told : List ToldState) (end : List ℕ) : Type 0 where

@@ -153,6 +153,7 @@ fn task_for<F: Files>(alloc: Global, command: &Command, files: &mut F) -> Result
         → IsAskedFor words (F.held files.old) (plan_of task)) }
     ensures fits { IfOk result (λ task. ProgramFits (program_tree task.program)) }
     ensures names { IfOk result (λ task. AreNames task.program.globals) }
+    ensures trace { IfOk result (λ task. TracesAsAsked words.now task.trace) }
     ensures states { IfOk result (λ task. task.limits.states < 2 ^ 64) }
     ensures refused { IfErr result (λ status. (words : List (List ℕ)) → AsksFor words command.now
         → IsProgramRefusal words (F.held files.old) status) }
@@ -170,6 +171,7 @@ fn task_for<F: Files>(alloc: Global, command: &Command, files: &mut F) -> Result
         program,
         inputs,
         limits: limits_of(command),
+        trace: command.trace,
     })
 }
 

@@ -6,15 +6,15 @@ ghost use Rattle.tp_meaning.specs.Fits.{ProgramFits};
 ghost use Rattle.tp_check.specs.Program.{program_tree};
 ghost use Rattle.tp_scene.specs.StandsFor.{first_moment};
 ghost use Rattle.tp_run.specs.States.{Plan, open_at};
-ghost use Rattle.tp_run.specs.Runs.{standing_of, standing_place, next_state_of, IsRunOf};
+ghost use Rattle.tp_run.specs.Runs.{standing_of, standing_place, next_state_of, program_of, IsRunOf};
 ghost use Rattle.tp_show.specs.Read.{plain_parts};
 ghost use Rattle.tp_show.specs.Parts.{line_parts};
-ghost use Rattle.tp_show.specs.Line.{picture_lines};
 ghost use Rattle.tp_show.specs.Told.{IsPictureInRange};
 ghost use Rattle.tp_call.specs.Task.{plan_of};
 ghost use Rattle.tp_call.specs.Run.{limit_end, last_answer as last_by, status_of as end_status};
 ghost use Rattle.tp_call.specs.Progress.{TurnMade, ProgramMade, printed_lines, is_settled as is_settled_by};
-ghost use Rattle.tp_call.specs.Places.{StandsOpen};
+ghost use Rattle.tp_call.specs.Places.{StandsOpen, CarriesDue};
+ghost use Rattle.tp_call.specs.Printed.{state_text, next_moment};
 
 use crate::status::Status;
 use std::alloc::Global;
@@ -23,28 +23,54 @@ use tp_check::Program;
 use tp_inputs::Inputs;
 use tp_io::{Sink, WriteRefusal};
 use tp_kernel::LimitKind;
+use tp_residual::trace_text;
 use tp_run::{Limits, Run};
 use tp_show::{LineParts, Picture, Turn, picture_text};
 use tp_step::{Order, Shows, Steps};
-use tp_value::{Facts, Globals, NoMemory, Text};
+use tp_value::{Facts, NoMemory, Text};
+
+// The lines of a settled state, and its trace lines where a trace is asked for.
+fn append_state(
+    run: &Run,
+    picture: &Picture,
+    trace: bool,
+    text: &mut Text,
+) -> Result<(), NoMemory>
+    requires parts { plain_parts picture.now.parts ≡ line_parts picture.now.facts }
+    requires carried { CarriesDue run.now }
+    ensures text { IfOk result (λ _. text.new ≡ text.old
+        ++ state_text trace (program_of run.now) picture.now
+        (next_moment (standing_place run.now))) }
+    ensures range { OnOk result (IsPictureInRange picture.now) }
+{
+    let program = run.program();
+    picture_text(picture, &program.globals, text)?;
+    if trace {
+        trace_text(picture, run.scene(), run.store(), &program.defs, text)?;
+    }
+    Ok(())
+}
 
 // Writes a settled state, by one write.
 fn write_state<K: Sink>(
     alloc: Global,
+    run: &Run,
     picture: &Picture,
-    globals: &Globals,
+    trace: bool,
     out: &mut K,
 ) -> Result<(), WriteRefusal>
-    requires { plain_parts picture.now.parts ≡ line_parts picture.now.facts }
+    requires parts { plain_parts picture.now.parts ≡ line_parts picture.now.facts }
+    requires carried { CarriesDue run.now }
     ensures written { Writes (K.written out.old) (K.written out.new)
-        (picture_lines globals.now picture.now) result }
+        (state_text trace (program_of run.now) picture.now (next_moment (standing_place run.now)))
+        result }
     ensures range { OnOk result (IsPictureInRange picture.now) }
     ensures later { K.faults out.old ≤ K.faults out.new }
     ensures cause { IsErrOf result WriteRefusal.Failed
         → Rose K.greatest (K.faults out.old) (K.faults out.new) }
 {
     let mut text = Text::new(alloc);
-    picture_text(picture, globals, &mut text)?;
+    append_state(run, picture, trace, &mut text)?;
     out.write(alloc, text.as_slice())
 }
 
@@ -78,15 +104,18 @@ fn is_settled(turn: &Turn) -> bool
 // Writes the state, where one was settled with this answer.
 fn write_settled<K: Sink>(
     alloc: Global,
+    run: &Run,
     turn: &Turn,
     picture: &Picture,
-    globals: &Globals,
+    trace: bool,
     out: &mut K,
 ) -> Result<(), WriteRefusal>
-    requires { is_settled_by turn.now ≡ true
+    requires parts { is_settled_by turn.now ≡ true
         → plain_parts picture.now.parts ≡ line_parts picture.now.facts }
+    requires carried { is_settled_by turn.now ≡ true → CarriesDue run.now }
     ensures written { Writes (K.written out.old) (K.written out.new)
-        (printed_lines globals.now turn.now picture.now) result }
+        (printed_lines trace (program_of run.now) turn.now picture.now
+        (next_moment (standing_place run.now))) result }
     ensures range { OnOk result (is_settled_by turn.now ≡ true → IsPictureInRange picture.now) }
     ensures only { IsErr result → is_settled_by turn.now ≡ true }
     ensures later { K.faults out.old ≤ K.faults out.new }
@@ -94,7 +123,7 @@ fn write_settled<K: Sink>(
         → Rose K.greatest (K.faults out.old) (K.faults out.new) }
 {
     if is_settled(turn) {
-        write_state(alloc, picture, globals, out)
+        write_state(alloc, run, picture, trace, out)
     } else {
         Ok(())
     }
@@ -133,6 +162,7 @@ fn make_state<K: Sink, L: Ledger>(
     alloc: Global,
     run: &mut Run,
     picture: &mut Picture,
+    trace: bool,
     out: &mut K,
     steps: &mut Steps<L>,
 ) -> Result<Option<Turn>, WriteRefusal>
@@ -140,23 +170,24 @@ fn make_state<K: Sink, L: Ledger>(
     requires open { StandsOpen (standing_of run.old) }
     ensures run { (plan : Plan) → IsRunOf plan run.old → IsRunOf plan run.new }
     ensures made { (plan : Plan) → IsRunOf plan run.old
-        → TurnMade plan plan.program.globals (standing_place run.old) (standing_place run.new)
+        → TurnMade plan trace (standing_place run.old) (standing_place run.new)
         (K.written out.old) (K.written out.new) result }
     ensures later { K.faults out.old ≤ K.faults out.new }
     ensures cause { IsErrOf result WriteRefusal.Failed
         → Rose K.greatest (K.faults out.old) (K.faults out.new) }
 {
     let turn = run.state(picture, steps)?;
-    write_settled(alloc, &turn, picture, &run.program().globals, out)?;
+    write_settled(alloc, run, &turn, picture, trace, out)?;
     Ok(last_answer(turn))
 }
 
-/// What is run: a program with its inputs, and how far.
+/// What is run: a program with its inputs, how far, and whether each state's trace lines are written.
 #[derive(Drop)]
 pub struct Task {
     pub program: Program,
     pub inputs: Inputs,
     pub limits: Limits,
+    pub trace: bool,
 }
 
 // A run of the task, before its first state.
@@ -172,6 +203,7 @@ fn start(alloc: Global, task: Task) -> Result<Run, NoMemory>
         program,
         inputs,
         limits,
+        trace: _,
     } = task;
     let run = Run::start(alloc, program, inputs, limits, Order::First)?;
     Ok(run)
@@ -192,11 +224,13 @@ pub fn run_task<K: Sink, L: Ledger>(
     steps: &mut Steps<L>,
 ) -> Result<Ended, WriteRefusal>
     requires { ProgramFits (program_tree task.program) }
-    ensures made { ProgramMade (plan_of task) (K.written out.old) (K.written out.new) result }
+    ensures made { ProgramMade (plan_of task) task.trace (K.written out.old) (K.written out.new)
+        result }
     ensures later { K.faults out.old ≤ K.faults out.new }
     ensures cause { IsErrOf result WriteRefusal.Failed
         → Rose K.greatest (K.faults out.old) (K.faults out.new) }
 {
+    let trace = task.trace;
     let mut run = start(alloc, task)?;
     let mut picture = Picture {
         state: 0,
@@ -212,7 +246,7 @@ pub fn run_task<K: Sink, L: Ledger>(
         reductions: 0,
     };
     loop {
-        if let Some(turn) = make_state(alloc, &mut run, &mut picture, out, steps)? {
+        if let Some(turn) = make_state(alloc, &mut run, &mut picture, trace, out, steps)? {
             return Ok(Ended { run, turn });
         }
     }

@@ -166,12 +166,20 @@ module _ (laws : SceneLaws) (begins : BeginLaws) (stores : StateLaws) where
   end_means plan fits ps (InputMissing state port) w = missing_says plan ps w.0 state port w.3 fits w.1 w.2
   end_means plan fits ps (Over state limit) w = continues_each plan ps w.0 fits w.1
 
+-- a state that goes on, told of another name of its number and of what it begins with
+goes_there : (plan : Plan) (n k : ℕ) (r m : Moment) (p : Picture) (next : Moment) → k ≡ n → m ≡ r → StateGoesOn plan k m p next → StateGoesOn plan n r p next
+goes_there plan n k r m p next e h g = subst (λ i. StateGoesOn plan i r p next) e (subst (λ (z : Moment). StateGoesOn plan k z p next) h g)
+
+index_there : (k n : ℕ) → k ≡ 0 + n → k ≡ n
+index_there k n e = omega (arith, e)
+
+pub index_next : (k m n : ℕ) → k ≡ suc m + n → k ≡ m + suc n
+index_next k m n e = omega (arith, e)
+
 -- one more state
-lead_more : (plan : Plan) (n : ℕ) (r : Moment) (ps : List Picture) (m : Moment) (k : ℕ) (p : Picture) (next : Moment) → k ≡ length ps + n → StatesLead plan n r ps m → StateGoesOn plan k m p next → StatesLead plan n r (ps ++ p ∷ []) next
-lead_more plan n r [] m k p next e h g =
-    let here : k ≡ n = omega (arith, e) in
-    (next, subst (λ i. StateGoesOn plan i r p next) here (subst (λ (z : Moment). StateGoesOn plan k z p next) h g), refl)
-lead_more plan n r (q ∷ ps) m k p next e h g = (h.0, h.1, lead_more plan (suc n) h.0 ps m k p next (omega (arith, e)) h.2 g)
+abbrev pub lead_more : (plan : Plan) (n : ℕ) (r : Moment) (ps : List Picture) (m : Moment) (k : ℕ) (p : Picture) (next : Moment) → k ≡ length ps + n → StatesLead plan n r ps m → StateGoesOn plan k m p next → StatesLead plan n r (ps ++ p ∷ []) next
+lead_more plan n r [] m k p next e h g = (next, goes_there plan n k r m p next (index_there k n e) h g, refl)
+lead_more plan n r (q ∷ ps) m k p next e h g = (h.0, h.1, lead_more plan (suc n) h.0 ps m k p next (index_next k (length ps) n e) h.2 g)
 
 -- an end of state n with what it leads to, told of another name of n
 module _ (plan : Plan) (k n : ℕ) (e : k ≡ n) (m : Moment) where
@@ -193,11 +201,17 @@ module _ (plan : Plan) (k n : ℕ) (e : k ≡ n) (m : Moment) where
 kept_there : (store : Contents) (a b : Moment) → a ≡ b → store ≡ a.store → store ≡ b.store
 kept_there store a b e h = h ∙ ap (λ (z : Moment). z.store) e
 
-advance_by : (plan : Plan) (ps : List Picture) (m : Moment) → LeadsTo plan ps m → (old new : Picture) (to : RunPlace) (turn : Turn)
+count_more : (ps : List Picture) (new : Picture) (n : ℕ) → n ≡ suc (length ps) → n ≡ length (ps ++ new ∷ [])
+count_more ps new n e = e ∙ omega (arith, length-append ps (new ∷ []))
+
+pub index_first : (ps : List Picture) → length ps ≡ length ps + 0
+index_first ps = omega arith
+
+abbrev pub advance_by : (plan : Plan) (ps : List Picture) (m : Moment) → LeadsTo plan ps m → (old new : Picture) (to : RunPlace) (turn : Turn)
     → StateBecomes plan (length ps) m old new to.standing to.store turn → to.state ≡ state_after (length ps) turn → Advances plan ps old new to turn
 advance_by plan ps m leads old new to Went w next =
     let g = w.1 in
-    (w.0, w.2, lead_more plan 0 (first_moment plan.program.globals plan.program.main) ps m (length ps) new w.0 (omega arith) leads g, next ∙ omega (arith, length-append ps (new ∷ [])), g.picture_is.state)
+    (w.0, w.2, lead_more plan 0 (first_moment plan.program.globals plan.program.main) ps m (length ps) new w.0 (index_first ps) leads g, count_more ps new to.state next, g.picture_is.state)
 advance_by plan ps m leads old new to (Finished n) w next =
     (record { before = ps; final = new; moment = m; pictures = refl; leads = leads; ends = w.0; count = w.1 }, w.0.picture_is.state, w.3)
 advance_by plan ps m leads old new to (Contradictory state clash) w next =

@@ -46,6 +46,9 @@ returns-clause-asked_for g c = λ words is.
       reductions = c.limits_of.ensures.reductions;
     }
 
+pub returns-clause-trace : goal.returns-clause-trace
+returns-clause-trace g c = λ wanted is. trace_asked _ (wanted_by c.in-Ok.command) wanted c.in-Ok.ensures.accepted is
+
 pub returns-clause-asked : goal.returns-clause-asked
 returns-clause-asked g c = λ words is.
     let name = lent_name (λ t. t.now) string_bytes c.as_deref.result c.args.command.now.inputs c.as_deref.ensures.cases in

@@ -11,7 +11,7 @@ up_to a b c h k = omega arith
 
 pub loop-picture-init : goal.loop-picture-init
 loop-picture-init g c = record {
-  written = HasWritten-none (plan_of c.args.task) (standing_place c.in_ok-run.run') (g.K.Sink.written c.args.out.now) c.in_ok-run.ensures.stands c.in_ok-run.ensures.state;
+  written = HasWritten-none (plan_of c.args.task) c.args.task.trace (standing_place c.in_ok-run.run') (g.K.Sink.written c.args.out.now) c.in_ok-run.ensures.stands c.in_ok-run.ensures.state;
   run = c.in_ok-run.ensures.run;
   later = omega arith;
 }
@@ -44,7 +44,7 @@ loop-picture-preserved g c =
     let made = (rw c.in_default.is at c.in_ok-turn.ensures.made) _ c.loop-picture.invariant.run in
     let went = went_on _ _ (standing_place c.loop-picture.run) (standing_place c.make_state.new.run) _ _ made in
     record {
-      written = HasWritten-more _ (standing_place c.loop-picture.run) (standing_place c.make_state.new.run) _ _ _ made.picture c.loop-picture.invariant.written went;
+      written = HasWritten-more _ _ (standing_place c.loop-picture.run) (standing_place c.make_state.new.run) _ _ _ made.picture c.loop-picture.invariant.written went;
       run = c.in_ok-turn.ensures.run _ c.loop-picture.invariant.run;
       later = up_to _ _ _ c.loop-picture.invariant.later c.in_ok-turn.ensures.later;
     }
@@ -53,6 +53,6 @@ pub loop-picture-smaller : goal.loop-picture-smaller
 loop-picture-smaller g c =
     let made = (rw c.in_default.is at c.in_ok-turn.ensures.made) _ c.loop-picture.invariant.run in
     let went = went_on _ _ (standing_place c.loop-picture.run) (standing_place c.make_state.new.run) _ _ made in
-    let next = next_state _ (standing_place c.loop-picture.run) (standing_place c.make_state.new.run) _ _ made.picture c.loop-picture.invariant.written went.turned in
+    let next = next_state _ _ (standing_place c.loop-picture.run) (standing_place c.make_state.new.run) _ _ made.picture c.loop-picture.invariant.written went.turned in
     let within : next_state_of c.loop-picture.run < c.args.task.limits.states = next.within in
     omega (arith, within, next.next)
