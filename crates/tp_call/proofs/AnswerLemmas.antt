@@ -134,9 +134,9 @@ settles_by plan trace pictures (turn.StateLimit states) e = (inl (e.0, e.1), ref
 settles_by plan trace pictures (turn.InputMissing state port) e = (inl (e.0, e.1), refl)
 settles_by plan trace pictures (turn.Over state limit) e = (inl (e.0, e.1), refl)
 
-module _ (words : List (List ℕ)) (held : Option Held) (plan : Plan) (fits : ProgramFits plan.program) (names : AreNames plan.program.globals) (states : plan.states < 2 ^ 64) (asked : IsAskedFor words held plan) (old : Option (List ℕ)) where
-  abbrev trace : Bool
-  trace = asked.wanted.trace
+module _ (words : List (List ℕ)) (held : Option Held) (plan : Plan) (fits : ProgramFits plan.program) (names : AreNames plan.program.globals) (states : plan.states < 2 ^ 64) (asked : IsAskedFor words held plan) (trace : Bool) (traced : asked.wanted.trace ≡ trace) (old : Option (List ℕ)) where
+  settled_as : {pictures : List Picture} (run : Settles plan pictures) (text : List ℕ) → text ≡ settled_text trace plan pictures run → text ≡ settled_text asked.wanted.trace plan pictures run
+  settled_as {pictures} run text e = e ∙ ap (λ t. settled_text t plan pictures run) (sym traced)
 
   -- the run ended so, and has this status
   abbrev ends_so : (mid : Option (List ℕ)) (answer : Turn) (store : Contents) (status : Status) → (e : HasEnded plan trace old mid answer store) → status_of answer ≡ Some status → RunEnds plan e.pictures status
@@ -144,7 +144,7 @@ module _ (words : List (List ℕ)) (held : Option Held) (plan : Plan) (fits : Pr
 
   runs_to : (mid : Option (List ℕ)) (answer : Turn) (store : Contents) (status : Status) → (e : HasEnded plan trace old mid answer store) → (is : status_of answer ≡ Some status) → RunsTo words held status (run_text trace (ends_so mid answer store status e is))
   runs_to mid answer store status e is =
-      record { plan = plan; pictures = e.pictures; asked = asked; run = ends_so mid answer store status e is; says = end_says plan e.pictures answer fits e.run; written = refl; fits = fits; names = names; states = states; range = e.range }
+      record { plan = plan; pictures = e.pictures; asked = asked; run = ends_so mid answer store status e is; says = end_says plan e.pictures answer fits e.run; written = ap (λ t. run_text t (ends_so mid answer store status e is)) (sym traced); fits = fits; names = names; states = states; range = e.range }
 
   -- the line with which it ends
   abbrev last_line : Turn → Contents → List ℕ
@@ -176,7 +176,7 @@ module _ (words : List (List ℕ)) (held : Option Held) (plan : Plan) (fits : Pr
       )
   closed_by mid new answer store status NoMemory e has c = (
     ended_text trace plan e.pictures answer e.run,
-    inr (record { plan = plan; pictures = e.pictures; asked = asked; run = (settles_by plan trace e.pictures answer e.run).0; written = sym (settles_by plan trace e.pictures answer e.run).1 }),
+    inr (record { plan = plan; pictures = e.pictures; asked = asked; run = (settles_by plan trace e.pictures answer e.run).0; written = settled_as (settles_by plan trace e.pictures answer e.run).0 _ (sym (settles_by plan trace e.pictures answer e.run).1) }),
     rw c e.wrote,
   )
   closed_by mid new answer store status result e has c = closed_whole mid new answer store status result e has c.0 c.1
@@ -196,7 +196,7 @@ module _ (words : List (List ℕ)) (held : Option Held) (plan : Plan) (fits : Pr
       let state = state_text trace plan.program part.picture (next_moment to) in
       let settles = settles_with plan trace from to old now part.answer part.picture h part.turned part.settled in (
         before_it ++ state,
-        inl (inr (record { plan = plan; pictures = h.pictures ++ part.picture ∷ []; asked = asked; run = settles.0; written = sym settles.1 })),
+        inl (inr (record { plan = plan; pictures = h.pictures ++ part.picture ∷ []; asked = asked; run = settles.0; written = settled_as settles.0 _ (sym settles.1) })),
         (length before_it + part.kept, Wrote-part old now new _ _ part.kept h.wrote part.wrote),
       )
 
@@ -213,7 +213,7 @@ module _ (words : List (List ℕ)) (held : Option Held) (plan : Plan) (fits : Pr
       pictures = made.settled.pictures;
       asked = asked;
       run = inl (made.settled.next, made.settled.leads);
-      written = refl;
+      written = settled_as (inl (made.settled.next, made.settled.leads)) _ refl;
     }),
     rw made.stopped made.settled.wrote,
   )

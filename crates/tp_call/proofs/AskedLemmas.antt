@@ -118,3 +118,7 @@ same_error result other status cause p q e =
     let both : Err status ≡ Err cause = sym q ∙ e in
     let same : status ≡ cause = cc in
     p ∙ ap Err same
+
+-- whether a trace is asked for has one answer
+pub trace_asked : (words : List (List ℕ)) (a b : Wanted) → wanted_of words ≡ Some a → wanted_of words ≡ Some b → b.trace ≡ a.trace
+trace_asked words a b p q = let same : Some a ≡ Some b = sym p ∙ q in cc

@@ -9,13 +9,12 @@ use Rattle.tp_show.specs.declared.turn.Turn.{Turn}
 use Rattle.tp_show.specs.declared.turn.Turn.TheVariants as turn
 use Rattle.tp_show.specs.Told.{IsPictureInRange}
 use Rattle.tp_run.specs.States.{Plan, Standing, open_at, answered, RunPlace, AnswersState, StateGoesOn, StatesLead, StateBecomes, state_after}
-use Rattle.tp_run.specs.Runs.{carried_scene}
 use Rattle.tp_run.specs.History.{Advances}
 use Rattle.tp_run.proofs.HistoryLemmas.{lead_more, advance_by, index_next, index_first}
 use Rattle.tp_call.specs.Printed.{state_text, states_text, lead_text, moment_with, next_moment}
 use Rattle.tp_call.specs.Written.{Wrote}
 use Rattle.tp_call.specs.Progress.{Turned, HasWritten}
-use Rattle.tp_call.proofs.TurnLemmas.{WentOn}
+use Rattle.tp_call.proofs.TurnLemmas.{WentOn, carries_next, carries_nothing}
 
 -- two writes, one after the other
 pub Wrote-both : (old mid new : Option (List ℕ)) (a b : List ℕ) → Wrote old mid a → Wrote mid new b → Wrote old new (a ++ b)
@@ -37,21 +36,14 @@ text_more trace plan n r (q ∷ ps) m k p next e h g =
     let last = state_text trace plan.program p (Some next) in
     ap (λ l. first ++ l) (text_more trace plan (suc n) h.0 ps m k p next (index_next k (length ps) n e) h.2 g) ∙ sym (append_assoc first more last)
 
-carries_none : (n : ℕ) (turn : Turn) → carried_scene n (answered turn) ≡ None
-carries_none zero turn = refl
-carries_none (suc n) turn = refl
-
 -- what the next state begins with, where the run goes on
 pub next_there : (to : RunPlace) (n : ℕ) (m : Moment) → to.standing ≡ open_at m → to.state ≡ suc n → to.store ≡ m.store → next_moment to ≡ Some m
 next_there to n m stands state store =
-    let scene : carried_scene to.state to.standing ≡ Some m.scene = ap (λ z. carried_scene to.state z) stands ∙ ap (λ k. carried_scene k (open_at m)) state in
-    ap (λ z. moment_with to.store z) scene ∙ ap (λ z. moment_with z (Some m.scene)) store
+    ap (λ z. moment_with to.store z) (carries_next to n m stands state) ∙ ap (λ z. moment_with z (Some m.scene)) store
 
 -- after its last answer there is none
 pub no_next : (to : RunPlace) (turn : Turn) → to.standing ≡ answered turn → next_moment to ≡ None
-no_next to turn stands =
-    let scene : carried_scene to.state to.standing ≡ None = ap (λ z. carried_scene to.state z) stands ∙ carries_none to.state turn in
-    ap (λ z. moment_with to.store z) scene
+no_next to turn stands = ap (λ z. moment_with to.store z) (carries_nothing to turn stands)
 
 -- what a call answers where the run stands before the state after some that it settled
 pub answered_there : (plan : Plan) (trace : Bool) (from to : RunPlace) (before now : Option (List ℕ)) (answer : Turn) (picture : Picture) → (h : HasWritten plan trace from before now) → (t : Turned plan from to answer picture)

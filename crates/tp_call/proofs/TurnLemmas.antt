@@ -1,14 +1,19 @@
 -- What one answer of a run makes, and what is written of it.
-use Rattle.std.proofs.Common.{◌≡◌, ℕ, Bool, true, List, Option, Some, None, Err, refl, ap, ◌∙◌, subst}
+use Rattle.std.proofs.Common.{◌≡◌, ℕ, zero, suc, Bool, true, List, Option, Some, None, IfSome, Err, refl, ap, sym, ◌∙◌, subst}
 use Rattle.tp_io.specs.Devices.{Writes}
 use Rattle.tp_io.specs.declared.devices.WriteRefusal.{WriteRefusal}
 use Rattle.tp_io.specs.declared.devices.WriteRefusal.TheVariants as sink
 use Rattle.tp_kernel.specs.declared.formula.LimitKind.TheVariants as limit
-use Rattle.tp_meaning.specs.Interval.{ProgramTree}
 use Rattle.tp_show.specs.declared.turn.Picture.{Picture}
 use Rattle.tp_show.specs.declared.turn.Turn.{Turn}
 use Rattle.tp_show.specs.declared.turn.Turn.TheVariants as turn
-use Rattle.tp_run.specs.States.{Plan, RunPlace, Standing, open_at, answered, spent, StateBecomes, AnswersState}
+use Rattle.tp_meaning.specs.Interval.{ProgramTree, kinds_of}
+use Rattle.tp_scene.specs.Scene.{Scene}
+use Rattle.tp_scene.specs.Pick.{Moment}
+use Rattle.tp_residual.specs.Residual.{AreCarried}
+use Rattle.tp_residual.proofs.Given.{next_scenes_are_carried}
+use Rattle.tp_run.specs.States.{Plan, setting, RunPlace, Standing, open_at, answered, spent, state_after, StateBecomes, AnswersState}
+use Rattle.tp_run.specs.Runs.{StandsSound, carried_scene}
 use Rattle.tp_show.specs.Parts.{line_parts}
 use Rattle.tp_show.specs.Read.{plain_parts}
 use Rattle.tp_call.specs.Places.{StandsOpen}
@@ -160,6 +165,40 @@ settled_parts plan from to old new answer stands made settled = at from.standing
     by (turn.StateLimit states) e b = cc
     by (turn.InputMissing state port) e b = cc
     by (turn.Over state limit) e b = cc
+
+carries_none : (n : ℕ) (turn : Turn) → carried_scene n (answered turn) ≡ None
+carries_none zero turn = refl
+carries_none (suc n) turn = refl
+
+-- what is carried to the next state
+pub carries_next : (to : RunPlace) (n : ℕ) (m : Moment) → to.standing ≡ open_at m → to.state ≡ suc n → carried_scene to.state to.standing ≡ Some m.scene
+carries_next to n m stands state = ap (λ z. carried_scene to.state z) stands ∙ ap (λ k. carried_scene k (open_at m)) state
+
+-- after its last answer a run carries nothing
+pub carries_nothing : (to : RunPlace) (turn : Turn) → to.standing ≡ answered turn → carried_scene to.state to.standing ≡ None
+carries_nothing to turn stands = ap (λ z. carried_scene to.state z) stands ∙ carries_none to.state turn
+
+-- what a settled state leaves is as a state begins
+pub settled_carries : (plan : Plan) (from to : RunPlace) (old new : Picture) (answer : Turn) → StandsOpen from.standing → StandsSound plan from.state from.standing → AnswersState plan from old new to answer → is_settled answer ≡ true
+    → IfSome (carried_scene to.state to.standing) (λ s. AreCarried s.root.entries)
+settled_carries plan from to old new answer stands sound made settled = at from.standing stands sound made where
+  abbrev Carries : Option Scene → Type 0
+  Carries carried = IfSome carried (λ s. AreCarried s.root.entries)
+  at : (standing : Standing) → StandsOpen standing → StandsSound plan from.state standing → AnswersState plan (record { standing = standing; state = from.state; store = from.store }) old new to answer → Carries (carried_scene to.state to.standing)
+  at (answered last) o s a = absurd o
+  at spent o s a = absurd o
+  at (open_at moment) o s a = by answer settled a.0 a.1 where
+    by : (turn : Turn) → is_settled turn ≡ true → StateBecomes plan from.state moment old new to.standing to.store turn → to.state ≡ state_after from.state turn → Carries (carried_scene to.state to.standing)
+    by turn.Went e b next =
+        let g = b.1.goes in
+        let due = next_scenes_are_carried.goes (setting plan from.state) (kinds_of plan.program.globals) plan.reductions moment b.1.picks b.1.last b.0 s g in
+        subst Carries (sym (carries_next to from.state b.0 b.2 next)) due
+    by (turn.Finished length) e b next = subst Carries (sym (carries_nothing to (turn.Finished length) b.2)) tt
+    by (turn.Contradictory state clash) e b next = cc
+    by (turn.Undetermined state cell) e b next = cc
+    by (turn.StateLimit states) e b next = cc
+    by (turn.InputMissing state port) e b next = cc
+    by (turn.Over state limit) e b next = cc
 
 pub status_there : (turn : Turn) → IsLastTurn turn → (status : Status) × (status_of turn ≡ Some status)
 status_there turn.Went l = absurd l

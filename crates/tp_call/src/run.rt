@@ -31,6 +31,7 @@ use tp_value::{Facts, NoMemory, Text};
 
 // The lines of a settled state, and its trace lines where a trace is asked for.
 fn append_state(
+    alloc: Global,
     run: &Run,
     picture: &Picture,
     trace: bool,
@@ -38,7 +39,7 @@ fn append_state(
 ) -> Result<(), NoMemory>
     requires parts { plain_parts picture.now.parts ≡ line_parts picture.now.facts }
     requires carried { CarriesDue run.now }
-    ensures text { IfOk result (λ _. text.new ≡ text.old
+    ensures text { OnOk result (text.new ≡ text.old
         ++ state_text trace (program_of run.now) picture.now
         (next_moment (standing_place run.now))) }
     ensures range { OnOk result (IsPictureInRange picture.now) }
@@ -46,7 +47,14 @@ fn append_state(
     let program = run.program();
     picture_text(picture, &program.globals, text)?;
     if trace {
-        trace_text(picture, run.scene(), run.store(), &program.defs, text)?;
+        trace_text(
+            alloc,
+            picture,
+            run.scene(),
+            run.store(),
+            &program.defs,
+            text,
+        )?;
     }
     Ok(())
 }
@@ -70,7 +78,7 @@ fn write_state<K: Sink>(
         → Rose K.greatest (K.faults out.old) (K.faults out.new) }
 {
     let mut text = Text::new(alloc);
-    append_state(run, picture, trace, &mut text)?;
+    append_state(alloc, run, picture, trace, &mut text)?;
     out.write(alloc, text.as_slice())
 }
 

@@ -333,8 +333,9 @@ impl Run {
 
     /// What is carried to the next state: the scene that it begins with, where the last answer was `Went`; else nothing.
     pub fn scene(&self) -> Option<&Scene>
-        ensures { option_map (λ s. scene_of s.now) result
+        ensures scene { option_map (λ s. scene_of s.now) result
             ≡ carried_scene (next_state_of self.now) (standing_of self.now) }
+        ensures kept { StandIsKept self.now.stand → IfSome result (λ s. IsWellKept s.now) }
     {
         if self.settings.setting.state == 0 {
             return None;

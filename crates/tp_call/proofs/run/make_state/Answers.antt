@@ -7,7 +7,11 @@ pub write_settled-requires-parts : goal.write_settled-requires-parts
 write_settled-requires-parts g c = λ settled. settled_parts c.requires.run.0 _ _ _ _ _ c.requires.open (c.in_ok-turn.ensures.made c.requires.run.0 c.requires.run.1) settled
 
 pub write_settled-requires-carried : goal.write_settled-requires-carried
-write_settled-requires-carried g c = λ settled. settled_carries c.requires.run.0 _ _ _ _ _ c.requires.open (c.in_ok-turn.ensures.made c.requires.run.0 c.requires.run.1) settled
+write_settled-requires-carried g c = λ settled.
+    let plan = c.requires.run.0 in
+    let before = c.requires.run.1 in
+    let after = c.state.ensures.run plan before in
+    record { kept = after.kept; carried = settled_carries plan _ _ _ _ _ c.requires.open before.sound (c.in_ok-turn.ensures.made plan before) settled }
 
 pub returns-clause-made : goal.returns-clause-made
 returns-clause-made g c = λ plan runs.
