@@ -4,7 +4,7 @@ use Rattle.std.proofs.lemmas.List.{append-nil}
 use Rattle.tp_io.specs.Devices.{Held, and_one_more}
 use Rattle.tp_words.specs.Words.{Wanted, wanted_of}
 use Rattle.tp_words.specs.declared.mode.Mode.TheVariants.{Run}
-use Rattle.tp_call.specs.Usable.{usable_of, is_in_use, in_use, IsWordsRefusal}
+use Rattle.tp_call.specs.Parts.{IsWordsRefusal}
 use Rattle.tp_call.specs.declared.status.Status.{Status}
 use Rattle.tp_call.specs.declared.status.Status.TheVariants.{ReadFault, NoMemory}
 use Rattle.tp_call.specs.declared.status.Which.{Which}
@@ -42,15 +42,6 @@ second_place : (which : Which) → which ≡ Inputs → 2 ≡ place which + 1
 second_place Source e = absurd (cc (e))
 second_place Inputs e = refl
 
--- words that ask for what a call does are accepted
-in_use_same : (wanted other : Wanted) (b : Bool) → (if b then Some wanted else None) ≡ Some other → wanted ≡ other
-in_use_same wanted other true e = cc
-in_use_same wanted other false e = absurd (cc)
-
-used : (asked : Option Wanted) (wanted : Wanted) → option_and_then in_use asked ≡ Some wanted → asked ≡ Some wanted
-used None wanted e = absurd (cc)
-used (Some other) wanted e = ap Some (in_use_same other wanted (is_in_use other.mode other.order other.trace) e)
-
 -- the words are refused, and no name was asked for
 pub words_asked : {T : Type 0} (words : List (List ℕ)) (old : Option (List (List ℕ))) (result : Result T Status) (status : Status) → result ≡ Err status → IsWordsRefusal words status → AsksOnly words old old (λ which. result ≡ Err (ReadFault which))
 words_asked words old result status is refused = asks_none words old old _ refl (λ which f. let both : Err status ≡ Err (ReadFault which) = sym is ∙ f in never refused which (cc)) where
@@ -58,15 +49,12 @@ words_asked words old result status is refused = asks_none words old old _ refl 
   never (inl memory) which e = cc
   never (inr (refused, none)) which e = cc
 
-module _ (words : List (List ℕ)) (wanted : Wanted) (accepted : usable_of words ≡ Some wanted) where
-  is_wanted : wanted_of words ≡ Some wanted
-  is_wanted = used (wanted_of words) wanted accepted
-
+module _ (words : List (List ℕ)) (wanted : Wanted) (accepted : wanted_of words ≡ Some wanted) where
   -- the name of the source alone
   pub asks_source : (old new : Option (List (List ℕ))) (failed : Which → Type 0) → new ≡ and_one_more old wanted.file → ((which : Which) → failed which → which ≡ Source) → AsksOnly words old new failed
   asks_source old new failed asked first = record {
     count = 1;
-    asked = rw is_wanted asked;
+    asked = rw accepted asked;
     last = λ which f. first_place which (first which f);
   }
 
@@ -75,7 +63,7 @@ module _ (words : List (List ℕ)) (wanted : Wanted) (accepted : usable_of words
       → ((which : Which) → failed which → which ≡ Inputs) → AsksOnly words old new failed
   asks_both mode name old mid new failed named one two second = record {
     count = 2;
-    asked = rw (is_wanted, mode, named) (two ∙ ap (λ m. and_one_more m name) one ∙ two_more old wanted.file name);
+    asked = rw (accepted, mode, named) (two ∙ ap (λ m. and_one_more m name) one ∙ two_more old wanted.file name);
     last = λ which f. second_place which (second which f);
   }
 

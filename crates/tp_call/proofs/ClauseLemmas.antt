@@ -12,9 +12,8 @@ use Rattle.tp_run.specs.History.{RunEndsWith, ContinuesEach}
 use Rattle.tp_tree.specs.Tree.{SourceTree}
 use Rattle.tp_words.specs.declared.mode.Mode.{Mode}
 use Rattle.tp_words.specs.declared.mode.Mode.TheVariants.{Run, Print}
-use Rattle.tp_words.specs.Words.{Wanted}
+use Rattle.tp_words.specs.Words.{Wanted, wanted_of}
 use Rattle.tp_call.specs.Source.{IsRefusedAt}
-use Rattle.tp_call.specs.Usable.{usable_of}
 use Rattle.tp_call.specs.declared.status.Status.{Status}
 use Rattle.tp_call.specs.declared.status.Status.TheVariants.{Finished, Done, Contradictory, Undetermined, StateLimit, ReductionLimit, NumberLimit, ListLimit, CallLimit, NestLimit, InputMissing, SourceRefused, InputsRefused, WordsRefused, TooLong, ReadFault, WriteFault, NoMemory}
 use Rattle.tp_call.specs.declared.status.Which.{Which}
@@ -136,7 +135,7 @@ module _ (words : List (List ℕ)) (held : Option Held) (old new : Option (List 
   open_text WriteFault a o plain = absurd o
   open_text NoMemory a o plain = absurd o
 
-  pub words_refused_only : (result : Status) → Answers words held old new result → result ≡ WordsRefused → usable_of words ≡ None
+  pub words_refused_only : (result : Status) → Answers words held old new result → result ≡ WordsRefused → wanted_of words ≡ None
   words_refused_only result a is = refusal_alone WordsRefused (λ e. e) (λ e. cc) (subst (Answers words held old new) is a)
 
   pub too_long_only : (result : Status) → Answers words held old new result → (which : Which) → result ≡ TooLong which → HoldsTooLong words held result which
@@ -167,14 +166,14 @@ module _ (words : List (List ℕ)) (held : Option Held) (old new : Option (List 
   view result a = of_end result a
 
   -- the words of two who accept them ask for the same
-  same_wanted : (w v : Wanted) → usable_of words ≡ Some w → usable_of words ≡ Some v → w ≡ v
+  same_wanted : (w v : Wanted) → wanted_of words ≡ Some w → wanted_of words ≡ Some v → w ≡ v
   same_wanted w v p q = let both : Some w ≡ Some v = sym p ∙ q in cc
 
-  accepted_never : (w : Wanted) (T : Type 0) → usable_of words ≡ Some w → usable_of words ≡ None → T
+  accepted_never : (w : Wanted) (T : Type 0) → wanted_of words ≡ Some w → wanted_of words ≡ None → T
   accepted_never w T p q = let bad : Some w ≡ None = sym p ∙ q in absurd (cc)
 
   -- a refusal other than that of the words is one of accepted words
-  refused_words : (result : Status) → Refuses words held result → (result ≡ WordsRefused) ⊎ ((w : Wanted) × (usable_of words ≡ Some w))
+  refused_words : (result : Status) → Refuses words held result → (result ≡ WordsRefused) ⊎ ((w : Wanted) × (wanted_of words ≡ Some w))
   refused_words (SourceRefused line column kind) r = inr (r.wanted, r.accepted)
   refused_words (InputsRefused line) r = inr (r.wanted, r.accepted)
   refused_words WordsRefused r = inl refl
@@ -197,7 +196,7 @@ module _ (words : List (List ℕ)) (held : Option Held) (old new : Option (List 
   refused_words NoMemory r = absurd r
 
   -- words that are not accepted
-  pub words_refused : (result : Status) → Answers words held old new result → usable_of words ≡ None → IsOrStopped WordsRefused result
+  pub words_refused : (result : Status) → Answers words held old new result → wanted_of words ≡ None → IsOrStopped WordsRefused result
   words_refused result a none = by (view result a) where
     by : View result → IsOrStopped WordsRefused result
     by (ran end text run) = accepted_never run.asked.wanted _ run.asked.accepted none
@@ -206,18 +205,18 @@ module _ (words : List (List ℕ)) (held : Option Held) (old new : Option (List 
     by (failed f) = inr f
 
   -- the files tell what they hold: the source that the words name has Q
-  module _ (files : Held) (told : held ≡ Some files) (wanted : Wanted) (accepted : usable_of words ≡ Some wanted) where
+  module _ (files : Held) (told : held ≡ Some files) (wanted : Wanted) (accepted : wanted_of words ≡ Some wanted) where
     abbrev source : List ℕ
     source = bytes_of files wanted.file
 
     -- what another says of accepted words, in this mode, it says of these
-    mode_there : (w : Wanted) (mode : Mode) → usable_of words ≡ Some w → w.mode ≡ mode → wanted.mode ≡ mode
+    mode_there : (w : Wanted) (mode : Mode) → wanted_of words ≡ Some w → w.mode ≡ mode → wanted.mode ≡ mode
     mode_there w mode p m = subst (λ (v : Wanted). v.mode ≡ mode) (same_wanted w wanted p accepted) m
 
-    held_there : (w : Wanted) (P : Mode → List ℕ → Type 0) → usable_of words ≡ Some w → ((f : Held) → held ≡ Some f → P w.mode (bytes_of f w.file)) → P wanted.mode source
+    held_there : (w : Wanted) (P : Mode → List ℕ → Type 0) → wanted_of words ≡ Some w → ((f : Held) → held ≡ Some f → P w.mode (bytes_of f w.file)) → P wanted.mode source
     held_there w P p h = subst (λ (v : Wanted). P v.mode (bytes_of files v.file)) (same_wanted w wanted p accepted) (h files told)
 
-    program_there : (w : Wanted) (program : ProgramTree) → usable_of words ≡ Some w → ((f : Held) → held ≡ Some f → HoldsProgram program (bytes_of f w.file)) → HoldsProgram program source
+    program_there : (w : Wanted) (program : ProgramTree) → wanted_of words ≡ Some w → ((f : Held) → held ≡ Some f → HoldsProgram program (bytes_of f w.file)) → HoldsProgram program source
     program_there w program p h = held_there w (λ mode. HoldsProgram program) p h
 
     run_there : (result : Status) (text : List ℕ) → RunsTo words held result text → (wanted.mode ≡ Run) × ((program : ProgramTree) × HoldsProgram program source)
@@ -298,7 +297,7 @@ module _ (words : List (List ℕ)) (held : Option Held) (old new : Option (List 
 
     -- the inputs that the words name
     module _ (name : List ℕ) (named : wanted.inputs ≡ Some name) where
-      same_name : (w : Wanted) (n : List ℕ) → usable_of words ≡ Some w → w.inputs ≡ Some n → n ≡ name
+      same_name : (w : Wanted) (n : List ℕ) → wanted_of words ≡ Some w → w.inputs ≡ Some n → n ≡ name
       same_name w n p q =
           let e : Some n ≡ Some name = sym q ∙ ap (λ (v : Wanted). v.inputs) (same_wanted w wanted p accepted) ∙ named in
           cc

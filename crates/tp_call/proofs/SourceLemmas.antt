@@ -12,8 +12,8 @@ use Rattle.tp_call.specs.declared.source.ReadRefusal.TheVariants as read
 use Rattle.tp_call.specs.Reading.{read_end, asked_by, AsksFile}
 use Rattle.tp_meaning.specs.Inputs.{InputLines}
 use Rattle.tp_meaning.specs.Interval.{ProgramTree}
-use Rattle.tp_words.specs.Words.{Wanted}
-use Rattle.tp_call.specs.Usable.{usable_of, IsWordsRefusal}
+use Rattle.tp_words.specs.Words.{Wanted, wanted_of}
+use Rattle.tp_call.specs.Parts.{IsWordsRefusal}
 use Rattle.tp_call.specs.Answer.{inputs_limit, WhereTold, HasInputs, HoldsProgram, HoldsRefused, HasBadLine, IsLongSource, IsLongTable, Supplied, Refuses}
 use Rattle.tp_call.specs.declared.refused.Refused.{Refused}
 use Rattle.tp_lex.specs.declared.token.Token.{Token}
@@ -85,12 +85,12 @@ no_fault_of_table text which (inr (line, is, cause)) = cc
 pub no_table_fault : {T : Type 0} (R : Type 0) (result : Result T Status) (text : List ℕ) → IfErr result (IsTableRefusal text) → (which : Which) → result ≡ Err (ReadFault which) → R
 no_table_fault R result text refused which e = absurd (no_fault_of_table text which (subst (λ r. IfErr r (IsTableRefusal text)) e refused))
 
--- words that ask for nothing that a call does
+-- words that are no command
 pub no_command : (words : List (List ℕ)) (held : Option Held) (status : Status) → IsWordsRefusal words status → IsProgramRefusal words held status
 no_command words held status (inl memory) = inl memory
 no_command words held status (inr (is, none)) = inr (subst (Refuses words held) (sym is) none)
 
-module _ (words : List (List ℕ)) (held : Option Held) (wanted : Wanted) (accepted : usable_of words ≡ Some wanted) where
+module _ (words : List (List ℕ)) (held : Option Held) (wanted : Wanted) (accepted : wanted_of words ≡ Some wanted) where
   no_source_here : (status : Status) → IsSourceRefusal wanted.mode held wanted.file status → IsProgramRefusal words held status
   no_source_here status (inl memory) = inl memory
   no_source_here status (inr (inl is)) = inr (subst (Refuses words held) (sym is) (record { wanted = wanted; accepted = accepted; source = λ files told. tt }))

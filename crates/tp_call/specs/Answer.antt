@@ -16,8 +16,7 @@ use Rattle.tp_tree.specs.Tree.{SourceTree}
 use Rattle.tp_tree.specs.Spelling.{source_spelling}
 use Rattle.tp_words.specs.declared.mode.Mode.{Mode}
 use Rattle.tp_words.specs.declared.mode.Mode.TheVariants.{Run, Print}
-use Rattle.tp_words.specs.Words.{Wanted, files_of}
-use Rattle.tp_call.specs.Usable.{usable_of}
+use Rattle.tp_words.specs.Words.{Wanted, wanted_of, files_of}
 use Rattle.std.specs.Str.Lines.{lines}
 use Rattle.tp_meaning.specs.Inputs.{InputLines}
 use Rattle.tp_inputs.specs.declared.refusal.Fault.{Fault}
@@ -38,7 +37,7 @@ WhereTold {X} told P = (x : X) → told ≡ Some x → P x
 -- The words are accepted and name a file; where the files tell what it holds, that has P for what is to be done with it.
 pub record Sourced (words : List (List ℕ)) (held : Option Held) (P : Mode → List ℕ → Type 0) : Type 0 where
   pub wanted : Wanted
-  pub accepted : usable_of words ≡ Some wanted
+  pub accepted : wanted_of words ≡ Some wanted
   pub source : WhereTold held (λ files. P wanted.mode (bytes_of files wanted.file))
 
 -- the source has at most so many bytes, and is this program
@@ -77,7 +76,7 @@ HasInputs (Some name) held table = WhereTold held (λ files. HoldsTable table (b
 -- What is run: the words are accepted, ask for a run, and name a source that is the plan's program, perhaps a file of inputs, which is its table, and its limits.
 pub record IsAskedFor (words : List (List ℕ)) (held : Option Held) (plan : Plan) : Type 0 where
   pub wanted : Wanted
-  pub accepted : usable_of words ≡ Some wanted
+  pub accepted : wanted_of words ≡ Some wanted
   pub mode : wanted.mode ≡ Run
   pub source : WhereTold held (λ files. HoldsProgram plan.program (bytes_of files wanted.file))
   pub inputs : HasInputs wanted.inputs held plan.inputs
@@ -87,7 +86,7 @@ pub record IsAskedFor (words : List (List ℕ)) (held : Option Held) (plan : Pla
 -- What is printed: the words are accepted, ask for that, and name a source of the grammar with this tree.
 pub record IsAskedToPrint (words : List (List ℕ)) (held : Option Held) (tree : SourceTree) : Type 0 where
   pub wanted : Wanted
-  pub accepted : usable_of words ≡ Some wanted
+  pub accepted : wanted_of words ≡ Some wanted
   pub mode : wanted.mode ≡ Print
   pub source : WhereTold held (λ files. HoldsSource tree (bytes_of files wanted.file))
 
@@ -95,7 +94,7 @@ pub record IsAskedToPrint (words : List (List ℕ)) (held : Option Held) (tree :
 -- has P.
 pub record Supplied (words : List (List ℕ)) (held : Option Held) (P : List ℕ → Type 0) : Type 0 where
   pub wanted : Wanted
-  pub accepted : usable_of words ≡ Some wanted
+  pub accepted : wanted_of words ≡ Some wanted
   pub mode : wanted.mode ≡ Run
   pub name : List ℕ
   pub named : wanted.inputs ≡ Some name
@@ -135,7 +134,7 @@ pub record Spells (words : List (List ℕ)) (held : Option Held) (status : Statu
 -- The cause of a refusal.
 abbrev pub Refuses : List (List ℕ) → Option Held → Status → Type 0
 Refuses words held (SourceRefused line column kind) = Sourced words held (HoldsRefused (record { line = line; column = column; kind = kind }))
-Refuses words held WordsRefused = usable_of words ≡ None
+Refuses words held WordsRefused = wanted_of words ≡ None
 Refuses words held (TooLong Source) = Sourced words held IsLongSource
 Refuses words held (TooLong Inputs) = Supplied words held IsLongTable
 Refuses words held (ReadFault Source) = Sourced words held (λ mode source. Unit {0})
@@ -214,7 +213,7 @@ pub record AsksOnly (words : List (List ℕ)) (old new : Option (List (List ℕ)
 -- the words are accepted, and the files tell what the source holds, which has P for what is to be done with it
 pub record IsTold (words : List (List ℕ)) (held : Option Held) (P : Mode → List ℕ → Type 0) : Type 0 where
   pub wanted : Wanted
-  pub accepted : usable_of words ≡ Some wanted
+  pub accepted : wanted_of words ≡ Some wanted
   pub files : Held
   pub told : held ≡ Some files
   pub source : P wanted.mode (bytes_of files wanted.file)
@@ -222,7 +221,7 @@ pub record IsTold (words : List (List ℕ)) (held : Option Held) (P : Mode → L
 -- the words are accepted and ask for a run, and the files tell that the source is a program and what the inputs that they name hold, which has P
 pub record IsSupplied (words : List (List ℕ)) (held : Option Held) (P : List ℕ → Type 0) : Type 0 where
   pub wanted : Wanted
-  pub accepted : usable_of words ≡ Some wanted
+  pub accepted : wanted_of words ≡ Some wanted
   pub mode : wanted.mode ≡ Run
   pub files : Held
   pub told : held ≡ Some files

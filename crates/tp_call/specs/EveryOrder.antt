@@ -9,7 +9,7 @@ use Rattle.tp_run.specs.History.{RunEndsWith}
 use Rattle.tp_run.specs.States.{Plan, globals_of}
 use Rattle.tp_any_order.specs.Agree.{SameCell, SamePictures}
 use Rattle.tp_call.specs.declared.status.Status.{Status}
-use Rattle.tp_call.specs.declared.status.Status.TheVariants.{Finished, Contradictory, Undetermined, StateLimit, ReductionLimit, NumberLimit, ListLimit, CallLimit, NestLimit, InputMissing, SourceRefused, InputsRefused, WordsRefused, TooLong, ReadFault, WriteFault, NoMemory}
+use Rattle.tp_call.specs.declared.status.Status.TheVariants.{Finished, Done, Contradictory, Undetermined, StateLimit, ReductionLimit, NumberLimit, ListLimit, CallLimit, NestLimit, InputMissing, SourceRefused, InputsRefused, WordsRefused, TooLong, ReadFault, WriteFault, NoMemory}
 use Rattle.tp_call.specs.Answer.{IsAskedFor, Prints, HasFailed}
 
 -- the status of a run that fails in this state: it meets a clash there, misses an input or passes a limit
@@ -22,6 +22,7 @@ IsFailureIn n (CallLimit state) = state ≡ n
 IsFailureIn n (NestLimit state) = state ≡ n
 IsFailureIn n (InputMissing state port) = state ≡ n
 IsFailureIn n (Finished length) = ⊥
+IsFailureIn n Done = ⊥
 IsFailureIn n (Undetermined state cell) = ⊥
 IsFailureIn n (StateLimit states) = ⊥
 IsFailureIn n (SourceRefused line column kind) = ⊥

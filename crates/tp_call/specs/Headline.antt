@@ -12,7 +12,7 @@ use Rattle.tp_call.specs.declared.status.SourceKind.{SourceKind}
 use Rattle.tp_call.specs.declared.status.Which.{Which}
 use Rattle.tp_call.specs.declared.status.Which.TheVariants.{Source, Inputs}
 use Rattle.tp_tree.specs.Tree.{SourceTree}
-use Rattle.tp_call.specs.Usable.{usable_of}
+use Rattle.tp_words.specs.Words.{wanted_of}
 use Rattle.tp_run.specs.States.{Plan}
 use Rattle.tp_show.specs.Told.{FitsIn64Bits}
 use Rattle.tp_call.specs.Text.{AsksNoTrace, TextTells, SatisfiedAsTold, ContinuesTold, finished_line}
@@ -78,8 +78,8 @@ module _ (words : List (List ℕ)) (held : Option Held) (result : Status) where
 
   -- The words are refused exactly where they ask for nothing that a call does.
   pub record WordsRefusedExactly : Type 0 where
-    pub only : result ≡ WordsRefused → usable_of words ≡ None
-    pub there : usable_of words ≡ None → IsOrStopped WordsRefused result
+    pub only : result ≡ WordsRefused → wanted_of words ≡ None
+    pub there : wanted_of words ≡ None → IsOrStopped WordsRefused result
 
   -- A file is too long exactly where it has more bytes than it may have: the source, or the inputs of a source that is a program.
   abbrev pub HoldsTooLong : Which → Type 0

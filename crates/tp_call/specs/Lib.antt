@@ -2,7 +2,6 @@ pub mod Reading
 pub mod EndLine
 pub mod Written
 pub mod Run
-pub mod Usable
 pub mod Spelling
 pub mod Source
 pub mod Printed

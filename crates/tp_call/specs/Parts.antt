@@ -3,10 +3,11 @@ use Rattle.std.specs.Prelude.{◌≡◌, ◌⊎◌, ℕ, List, take, Option, Non
 use Rattle.std.specs.Str.Lines.{lines}
 use Rattle.tp_io.specs.Devices.{Held, bytes_of}
 use Rattle.tp_words.specs.declared.mode.Mode.{Mode}
+use Rattle.tp_words.specs.Words.{wanted_of}
 use Rattle.tp_inputs.specs.declared.refusal.Fault.{Fault}
 use Rattle.tp_inputs.specs.Table.{IsFirstFault}
 use Rattle.tp_call.specs.declared.status.Status.{Status}
-use Rattle.tp_call.specs.declared.status.Status.TheVariants.{SourceRefused, InputsRefused, TooLong, ReadFault, WriteFault, NoMemory}
+use Rattle.tp_call.specs.declared.status.Status.TheVariants.{SourceRefused, InputsRefused, WordsRefused, TooLong, ReadFault, WriteFault, NoMemory}
 use Rattle.tp_call.specs.declared.status.Which.TheVariants.{Source, Inputs}
 use Rattle.tp_call.specs.declared.refused.Refused.{Refused}
 use Rattle.tp_call.specs.Written.{Wrote}
@@ -54,3 +55,7 @@ abbrev pub ClosesText : (line : List ℕ) → Status → Option (List ℕ) → O
 ClosesText line status old new WriteFault = (kept : ℕ) × Wrote old new (take kept line)
 ClosesText line status old new NoMemory = new ≡ old
 ClosesText line status old new result = (result ≡ status) × Wrote old new line
+
+-- memory was wanted, or the words are no command
+abbrev pub IsWordsRefusal : List (List ℕ) → Status → Type 0
+IsWordsRefusal words status = (status ≡ NoMemory) ⊎ ((status ≡ WordsRefused) × (wanted_of words ≡ None))

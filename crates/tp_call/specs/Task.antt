@@ -1,5 +1,5 @@
 -- What a call has to do.
-use Rattle.std.specs.Prelude.{◌≡◌, ◌<◌, ◌^◌, ℕ, List, Option, Some}
+use Rattle.std.specs.Prelude.{◌≡◌, ◌<◌, ◌^◌, ℕ, Bool, List, Option, Some}
 use Rattle.tp_io.specs.Devices.{Held}
 use Rattle.tp_tree.specs.Read.{source_tree}
 use Rattle.tp_meaning.specs.Fits.{ProgramFits}
@@ -9,10 +9,10 @@ use Rattle.tp_show.specs.Told.{AreNames}
 use Rattle.tp_run.specs.States.{Plan, plan_with}
 use Rattle.tp_words.specs.declared.command.Command.{Command}
 use Rattle.tp_words.specs.Command.{wanted_by}
+use Rattle.tp_words.specs.Words.{Wanted, wanted_of}
 use Rattle.tp_call.specs.declared.run.Task.{Task}
 use Rattle.tp_call.specs.declared.job.Job.{Job}
 use Rattle.tp_call.specs.declared.job.Job.TheVariants as job
-use Rattle.tp_call.specs.Usable.{usable_of}
 use Rattle.tp_call.specs.Spelling.{IsReadFromSpelling}
 use Rattle.tp_call.specs.Answer.{IsAskedFor, IsAskedToPrint}
 
@@ -22,7 +22,11 @@ plan_of task = plan_with (program_tree task.program) (lines_of task.inputs) task
 
 -- the words ask for this
 abbrev pub AsksFor : List (List ℕ) → Command → Type 0
-AsksFor words command = usable_of words ≡ Some (wanted_by command)
+AsksFor words command = wanted_of words ≡ Some (wanted_by command)
+
+-- whether trace lines are written is as the words ask
+abbrev pub TracesAsAsked : List (List ℕ) → Bool → Type 0
+TracesAsAsked words trace = (wanted : Wanted) → wanted_of words ≡ Some wanted → wanted.trace ≡ trace
 
 -- The words ask for this task; its program's parts fit each other, and its names are words.
 pub record IsTaskFor (words : List (List ℕ)) (held : Option Held) (task : Task) : Type 0 where
@@ -30,6 +34,7 @@ pub record IsTaskFor (words : List (List ℕ)) (held : Option Held) (task : Task
   pub fits : ProgramFits (program_tree task.program)
   pub names : AreNames task.program.globals
   pub states : task.limits.states < 2 ^ 64
+  pub trace : TracesAsAsked words task.trace
 
 -- the words ask for this task, or to print this source
 abbrev pub IsJobFor : List (List ℕ) → Option Held → Job → Type 0

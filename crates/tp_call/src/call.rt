@@ -10,7 +10,7 @@ ghost use Rattle.tp_inputs.specs.Read.{lines_of};
 ghost use Rattle.tp_inputs.specs.Table.{IsInputsText};
 ghost use Rattle.tp_call.specs.Answer.{WhereTold, HoldsProgram, HasInputs, IsAskedFor, Answers, AsksOnly};
 ghost use Rattle.tp_call.specs.Reading.{AsksFile, AsksTable};
-ghost use Rattle.tp_call.specs.Task.{plan_of, AsksFor, IsTaskFor, IsJobFor};
+ghost use Rattle.tp_call.specs.Task.{plan_of, AsksFor, TracesAsAsked, IsTaskFor, IsJobFor};
 ghost use Rattle.tp_words.specs.declared.mode.Mode.TheVariants.{Run};
 ghost use Rattle.tp_call.specs.Headline.{FinishedSays, FinishedTextSays, OpenTextSays, ContradictorySays, UndeterminedSays, StateLimitSays, LimitSays, InputMissingSays, ProgramRuns, WordsRefusedExactly, TooLongExactly, SourceRefusedExactly, InputsRefusedExactly, PrintedSays, SourcePrints};
 ghost use Rattle.tp_call.specs.Parts.{IsReadRefusal, IsSourceRefusal, IsTableRefusal, IsInputsEnd, IsProgramRefusal};
@@ -19,13 +19,13 @@ ghost use Rattle.tp_call.specs.Progress.{line_of_end, ClosesAnswer, ClosesRun};
 ghost use Rattle.tp_show.specs.Told.{AreNames, IsLastTurn};
 
 use crate::close::{close, refuse};
+use crate::command::command_for;
 use crate::job::Job;
 use crate::printing::{parse_source, print_source, read_tree};
 use crate::refused::{by_checker, refusal_status};
 use crate::run::{Ended, Task, run_task, status_of};
 use crate::source::{SOURCE_LIMIT, read_limited, read_status};
 use crate::status::{Status, Which};
-use crate::usable::command_for;
 use std::alloc::Global;
 use std::sync::ledger::Ledger;
 use tp_check::{Program, check};
@@ -153,7 +153,8 @@ fn task_for<F: Files>(alloc: Global, command: &Command, files: &mut F) -> Result
         → IsAskedFor words (F.held files.old) (plan_of task)) }
     ensures fits { IfOk result (λ task. ProgramFits (program_tree task.program)) }
     ensures names { IfOk result (λ task. AreNames task.program.globals) }
-    ensures trace { IfOk result (λ task. TracesAsAsked words.now task.trace) }
+    ensures trace { IfOk result (λ task. (words : List (List ℕ)) → AsksFor words command.now
+        → TracesAsAsked words task.trace) }
     ensures states { IfOk result (λ task. task.limits.states < 2 ^ 64) }
     ensures refused { IfErr result (λ status. (words : List (List ℕ)) → AsksFor words command.now
         → IsProgramRefusal words (F.held files.old) status) }
@@ -171,6 +172,7 @@ fn task_for<F: Files>(alloc: Global, command: &Command, files: &mut F) -> Result
         program,
         inputs,
         limits: limits_of(command),
+        order: command.order,
         trace: command.trace,
     })
 }

@@ -3,6 +3,7 @@
 
 mod call;
 mod close;
+mod command;
 mod counting;
 mod end_line;
 mod job;
@@ -11,7 +12,6 @@ mod refused;
 mod run;
 mod source;
 mod status;
-mod usable;
 
 pub use call::tempura;
 pub use counting::counted;

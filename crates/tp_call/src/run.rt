@@ -189,12 +189,13 @@ fn make_state<K: Sink, L: Ledger>(
     Ok(last_answer(turn))
 }
 
-/// What is run: a program with its inputs, how far, and whether each state's trace lines are written.
+/// What is run: a program with its inputs, how far, in which order, and whether each state's trace lines are written.
 #[derive(Drop)]
 pub struct Task {
     pub program: Program,
     pub inputs: Inputs,
     pub limits: Limits,
+    pub order: Order,
     pub trace: bool,
 }
 
@@ -211,9 +212,10 @@ fn start(alloc: Global, task: Task) -> Result<Run, NoMemory>
         program,
         inputs,
         limits,
+        order,
         trace: _,
     } = task;
-    let run = Run::start(alloc, program, inputs, limits, Order::First)?;
+    let run = Run::start(alloc, program, inputs, limits, order)?;
     Ok(run)
 }
 

@@ -47,7 +47,7 @@ returns-clause-asked_for g c = λ words is.
     }
 
 pub returns-clause-trace : goal.returns-clause-trace
-returns-clause-trace g c = λ wanted is. trace_asked _ (wanted_by c.in-Ok.command) wanted c.in-Ok.ensures.accepted is
+returns-clause-trace g c = λ words is wanted asks. trace_asked words (wanted_by c.args.command.now) wanted is asks
 
 pub returns-clause-asked : goal.returns-clause-asked
 returns-clause-asked g c = λ words is.
