@@ -1,17 +1,16 @@
 -- The names that a call asks for.
-use Rattle.std.proofs.Common.{◌≡◌, ◌+◌, inl, inr, ℕ, Bool, true, false, List, [], ◌∷◌, ◌++◌, Option, if◌then◌else◌, None, Some, Result, Ok, Err, IfErr, refl, sym, ap, ◌∙◌, subst, append_assoc}
+use Rattle.std.proofs.Common.{◌≡◌, ◌+◌, inl, inr, ℕ, List, [], ◌∷◌, ◌++◌, Option, None, Some, Result, Ok, Err, IfErr, refl, sym, ap, ◌∙◌, subst, append_assoc}
 use Rattle.std.proofs.lemmas.List.{append-nil}
 use Rattle.tp_io.specs.Devices.{Held, and_one_more}
 use Rattle.tp_words.specs.Words.{Wanted, wanted_of}
 use Rattle.tp_words.specs.declared.mode.Mode.TheVariants.{Run}
-use Rattle.tp_call.specs.Parts.{IsWordsRefusal}
 use Rattle.tp_call.specs.declared.status.Status.{Status}
 use Rattle.tp_call.specs.declared.status.Status.TheVariants.{ReadFault, NoMemory}
 use Rattle.tp_call.specs.declared.status.Which.{Which}
 use Rattle.tp_call.specs.declared.status.Which.TheVariants.{Source, Inputs}
-use Rattle.std.specs.Option.{option_map, option_and_then}
+use Rattle.std.specs.Option.{option_map}
 use Rattle.tp_call.specs.Reading.{AsksFile, AsksTable}
-use Rattle.tp_call.specs.Parts.{IsInputsEnd}
+use Rattle.tp_call.specs.Parts.{IsInputsEnd, IsWordsRefusal}
 use Rattle.tp_call.specs.Answer.{AsksOnly, place}
 
 nothing_more : (old : Option (List (List ℕ))) → old ≡ option_map (λ before. before ++ []) old

@@ -11,7 +11,7 @@ use Rattle.tp_meaning.specs.Interval.{ProgramTree, kinds_of}
 use Rattle.tp_scene.specs.Scene.{Scene}
 use Rattle.tp_scene.specs.Pick.{Moment}
 use Rattle.tp_residual.specs.Residual.{AreCarried}
-use Rattle.tp_residual.proofs.Given.{next_scenes_are_carried}
+use Rattle.tp_residual.proofs.Carried.{next_scenes_are_carried}
 use Rattle.tp_run.specs.States.{Plan, setting, RunPlace, Standing, open_at, answered, spent, state_after, StateBecomes, AnswersState}
 use Rattle.tp_run.specs.Runs.{StandsSound, carried_scene}
 use Rattle.tp_show.specs.Parts.{line_parts}

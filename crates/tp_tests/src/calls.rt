@@ -17,6 +17,7 @@ mod long;
 mod optioned;
 mod printed;
 mod rows;
+mod traced;
 mod unfolded;
 
 use displayed::{DISPLAYS, HANOI, IN_ORDER, NO_INPUTS, PARTS_OF_LISTS, UNSHOWN};

@@ -114,9 +114,12 @@ run a.t --states -5
 run a.t --states 3 --states 3
 run a.t --reductions 0
 run a.t --reductions 1000001
-run a.t --order last
-run a.t --order 7
-run a.t --trace
+run a.t --order Last
+run a.t --order=
+run a.t --order -7
+run a.t --order 18446744073709551616
+run a.t --trace --trace
+run a.t --trace=true
 run a.t --inputs
 run a.t --inputs -b
 run a.t --inputs b.t --inputs b.t
@@ -146,7 +149,8 @@ fn file_of(alloc: Global, name: &str, lines: &str) -> Result<Content, NoMemory> 
     Ok(Content { name, bytes })
 }
 
-fn expect_row(rt: &(impl Abort + AllocGlobal), row: &str) -> Result<(), Fail> {
+/// The call answers and writes what the row says.
+pub fn expect_row(rt: &(impl Abort + AllocGlobal), row: &str) -> Result<(), Fail> {
     let alloc = rt.alloc();
     let (words, row) = cut(row, "\n")?;
     let (source, row) = cut(row, "\n")?;
