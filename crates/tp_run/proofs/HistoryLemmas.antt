@@ -167,10 +167,10 @@ module _ (laws : SceneLaws) (begins : BeginLaws) (stores : StateLaws) where
   end_means plan fits ps (Over state limit) w = continues_each plan ps w.0 fits w.1
 
 -- a state that goes on, told of another name of its number and of what it begins with
-goes_there : (plan : Plan) (n k : ℕ) (r m : Moment) (p : Picture) (next : Moment) → k ≡ n → m ≡ r → StateGoesOn plan k m p next → StateGoesOn plan n r p next
+pub goes_there : (plan : Plan) (n k : ℕ) (r m : Moment) (p : Picture) (next : Moment) → k ≡ n → m ≡ r → StateGoesOn plan k m p next → StateGoesOn plan n r p next
 goes_there plan n k r m p next e h g = subst (λ i. StateGoesOn plan i r p next) e (subst (λ (z : Moment). StateGoesOn plan k z p next) h g)
 
-index_there : (k n : ℕ) → k ≡ 0 + n → k ≡ n
+pub index_there : (k n : ℕ) → k ≡ 0 + n → k ≡ n
 index_there k n e = omega (arith, e)
 
 pub index_next : (k m n : ℕ) → k ≡ suc m + n → k ≡ m + suc n
@@ -183,25 +183,25 @@ lead_more plan n r (q ∷ ps) m k p next e h g = (h.0, h.1, lead_more plan (suc 
 
 -- an end of state n with what it leads to, told of another name of n
 module _ (plan : Plan) (k n : ℕ) (e : k ≡ n) (m : Moment) where
-  meets_there : (clash : Clash) (h : replay.MeetsClash (setting plan k) plan.reductions m clash) → (g : replay.MeetsClash (setting plan n) plan.reductions m clash) × (h.last ≡ g.last)
+  pub meets_there : (clash : Clash) (h : replay.MeetsClash (setting plan k) plan.reductions m clash) → (g : replay.MeetsClash (setting plan n) plan.reductions m clash) × (h.last ≡ g.last)
   meets_there clash h = subst (λ i. (g : replay.MeetsClash (setting plan i) plan.reductions m clash) × (h.last ≡ g.last)) e (h, refl)
 
-  opens_there : (cell : Cell) (h : replay.IsOpen (setting plan k) plan.reductions m cell) → (g : replay.IsOpen (setting plan n) plan.reductions m cell) × (h.last ≡ g.last)
+  pub opens_there : (cell : Cell) (h : replay.IsOpen (setting plan k) plan.reductions m cell) → (g : replay.IsOpen (setting plan n) plan.reductions m cell) × (h.last ≡ g.last)
   opens_there cell h = subst (λ i. (g : replay.IsOpen (setting plan i) plan.reductions m cell) × (h.last ≡ g.last)) e (h, refl)
 
-  misses_there : (port : List ℕ) (h : replay.MissesInput (setting plan k) plan.reductions m port) → (g : replay.MissesInput (setting plan n) plan.reductions m port) × (h.last ≡ g.last)
+  pub misses_there : (port : List ℕ) (h : replay.MissesInput (setting plan k) plan.reductions m port) → (g : replay.MissesInput (setting plan n) plan.reductions m port) × (h.last ≡ g.last)
   misses_there port h = subst (λ i. (g : replay.MissesInput (setting plan i) plan.reductions m port) × (h.last ≡ g.last)) e (h, refl)
 
-  reaches_there : (limit : LimitKind) (h : ReachesLimit (setting plan k) plan.reductions m limit)
+  pub reaches_there : (limit : LimitKind) (h : ReachesLimit (setting plan k) plan.reductions m limit)
       → (g : ReachesLimit (setting plan n) plan.reductions m limit) × (limit_moment (setting plan k) plan.reductions m limit h ≡ limit_moment (setting plan n) plan.reductions m limit g)
   reaches_there limit h =
       subst (λ i. (g : ReachesLimit (setting plan i) plan.reductions m limit) × (limit_moment (setting plan k) plan.reductions m limit h ≡ limit_moment (setting plan i) plan.reductions m limit g)) e (h, refl)
 
 -- the store of one moment is that of an equal one
-kept_there : (store : Contents) (a b : Moment) → a ≡ b → store ≡ a.store → store ≡ b.store
+pub kept_there : (store : Contents) (a b : Moment) → a ≡ b → store ≡ a.store → store ≡ b.store
 kept_there store a b e h = h ∙ ap (λ (z : Moment). z.store) e
 
-count_more : (ps : List Picture) (new : Picture) (n : ℕ) → n ≡ suc (length ps) → n ≡ length (ps ++ new ∷ [])
+pub count_more : (ps : List Picture) (new : Picture) (n : ℕ) → n ≡ suc (length ps) → n ≡ length (ps ++ new ∷ [])
 count_more ps new n e = e ∙ omega (arith, length-append ps (new ∷ []))
 
 pub index_first : (ps : List Picture) → length ps ≡ length ps + 0

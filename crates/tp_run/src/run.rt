@@ -1,5 +1,5 @@
 // The run of a program, state by state.
-ghost use Rattle.std.specs.Prelude.{◌≡◌, ◌<◌, ◌≤◌, Bool, List, [], Option, IfOk, OnErr, OnOk};
+ghost use Rattle.std.specs.Prelude.{◌≡◌, ◌<◌, ◌≤◌, Bool, List, [], Option, IfOk, IfSome, OnErr, OnOk};
 ghost use Rattle.std.specs.Option.{option_map};
 ghost use Rattle.tp_kernel.specs.Read.{formula_tree};
 ghost use Rattle.tp_meaning.specs.Fits.{ProgramFits};
