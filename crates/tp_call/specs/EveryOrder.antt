@@ -7,31 +7,15 @@ use Rattle.tp_show.specs.declared.turn.Turn.{Turn}
 use Rattle.tp_show.specs.declared.turn.Turn.TheVariants as turn
 use Rattle.tp_run.specs.History.{RunEndsWith}
 use Rattle.tp_run.specs.States.{Plan, globals_of}
-use Rattle.tp_any_order.specs.Agree.{SameCell, SamePictures}
+use Rattle.tp_any_order.specs.Agree.{SameCell, SamePictures, FailsIn}
 use Rattle.tp_call.specs.declared.status.Status.{Status}
-use Rattle.tp_call.specs.declared.status.Status.TheVariants.{Finished, Done, Contradictory, Undetermined, StateLimit, ReductionLimit, NumberLimit, ListLimit, CallLimit, NestLimit, InputMissing, SourceRefused, InputsRefused, WordsRefused, TooLong, ReadFault, WriteFault, NoMemory}
+use Rattle.tp_call.specs.declared.status.Status.TheVariants.{Finished, Undetermined, StateLimit}
+use Rattle.tp_call.specs.Run.{status_of}
 use Rattle.tp_call.specs.Answer.{IsAskedFor, Prints, HasFailed}
 
 -- the status of a run that fails in this state: it meets a clash there, misses an input or passes a limit
 abbrev pub IsFailureIn : ℕ → Status → Type 0
-IsFailureIn n (Contradictory state clash) = state ≡ n
-IsFailureIn n (ReductionLimit state) = state ≡ n
-IsFailureIn n (NumberLimit state) = state ≡ n
-IsFailureIn n (ListLimit state) = state ≡ n
-IsFailureIn n (CallLimit state) = state ≡ n
-IsFailureIn n (NestLimit state) = state ≡ n
-IsFailureIn n (InputMissing state port) = state ≡ n
-IsFailureIn n (Finished length) = ⊥
-IsFailureIn n Done = ⊥
-IsFailureIn n (Undetermined state cell) = ⊥
-IsFailureIn n (StateLimit states) = ⊥
-IsFailureIn n (SourceRefused line column kind) = ⊥
-IsFailureIn n (InputsRefused line) = ⊥
-IsFailureIn n WordsRefused = ⊥
-IsFailureIn n (TooLong which) = ⊥
-IsFailureIn n (ReadFault which) = ⊥
-IsFailureIn n WriteFault = ⊥
-IsFailureIn n NoMemory = ⊥
+IsFailureIn n status = (answer : Turn) × FailsIn n answer × (status_of answer ≡ Some status)
 
 -- The status comes to the end that some run has: the same one, of a cell up to the numbers of regions and locals. Where a state
 -- fails it is free which of its failures is named.
