@@ -21,7 +21,7 @@ use Rattle.tp_call.specs.declared.status.Which.{Which}
 use Rattle.tp_show.specs.EndLine.{end_line}
 use Rattle.tp_show.specs.Told.{AreNames, IsPictureInRange, IsLastTurn}
 use Rattle.tp_call.specs.EndLine.{refusal_line}
-use Rattle.tp_call.specs.Printed.{state_text, lead_text, ended_text, settled_text, next_moment}
+use Rattle.tp_call.specs.Printed.{written_state, lead_text, ended_text, settled_text, next_moment}
 use Rattle.tp_call.specs.Written.{Wrote}
 use Rattle.tp_meaning.specs.Interval.{ProgramTree}
 use Rattle.tp_run.specs.States.{Plan, RunPlace}
@@ -58,7 +58,7 @@ stopped_by plan trace from to before now after answer h wrote end same holds =
 
 -- the last state, which nothing comes after
 finished_by : (plan : Plan) (trace : Bool) (from to : RunPlace) (before now after : Option (List ℕ)) (n : ℕ) (picture : Picture) → (h : HasWritten plan trace from before now) → (t : Turned plan from to (turn.Finished n) picture)
-    → Wrote now after (state_text trace plan.program picture (next_moment to)) → IsPictureInRange picture → HasEnded plan trace before after (turn.Finished n) to.store
+    → Wrote now after (written_state trace plan.program picture (next_moment to)) → IsPictureInRange picture → HasEnded plan trace before after (turn.Finished n) to.store
 finished_by plan trace from to before now after n picture h t wrote range =
     let w = answered_there plan trace from to before now (turn.Finished n) picture h t in
     let end = advances plan trace from to before now (turn.Finished n) picture h t in
@@ -67,7 +67,7 @@ finished_by plan trace from to before now after n picture h t wrote range =
       pictures = h.pictures ++ picture ∷ [];
       run = end.0;
       holds = end.2;
-      wrote = Wrote-both before now after _ _ h.wrote (subst (λ m. Wrote now after (state_text trace plan.program picture m)) none wrote);
+      wrote = Wrote-both before now after _ _ h.wrote (subst (λ m. Wrote now after (written_state trace plan.program picture m)) none wrote);
       range = All-push IsPictureInRange h.pictures picture h.range range;
     }
 
@@ -90,7 +90,7 @@ ended_by plan trace from to before now after (turn.Over state limit) picture l h
 -- The last state of these was settled, whether the run goes on or not; and this is the text of them.
 settles_with : (plan : Plan) (trace : Bool) (from to : RunPlace) (before now : Option (List ℕ)) (answer : Turn) (picture : Picture) → (h : HasWritten plan trace from before now) → Turned plan from to answer picture
     → IsTrue (is_settled answer)
-    → (run : Settles plan (h.pictures ++ picture ∷ [])) × (settled_text trace plan (h.pictures ++ picture ∷ []) run ≡ lead_text trace plan h.pictures h.next h.leads ++ state_text trace plan.program picture (next_moment to))
+    → (run : Settles plan (h.pictures ++ picture ∷ [])) × (settled_text trace plan (h.pictures ++ picture ∷ []) run ≡ lead_text trace plan h.pictures h.next h.leads ++ written_state trace plan.program picture (next_moment to))
 settles_with plan trace from to before now turn.Went picture h t settled =
     let w = answered_there plan trace from to before now turn.Went picture h t in
     let a = advances plan trace from to before now turn.Went picture h t in
@@ -98,13 +98,13 @@ settles_with plan trace from to before now turn.Went picture h t settled =
     let there : next_moment to ≡ Some next = next_there to (length h.pictures) next w.0.2 w.1 w.0.3 in
     let text = text_more trace plan 0 (first_moment plan.program.globals plan.program.main) h.pictures h.next (length h.pictures) picture next (index_first h.pictures) h.leads w.0.1 in
     let before_it = lead_text trace plan h.pictures h.next h.leads in
-    (inl (a.0, a.2), text ∙ ap (λ m. before_it ++ state_text trace plan.program picture m) (sym there))
+    (inl (a.0, a.2), text ∙ ap (λ m. before_it ++ written_state trace plan.program picture m) (sym there))
 settles_with plan trace from to before now (turn.Finished n) picture h t settled =
     let w = answered_there plan trace from to before now (turn.Finished n) picture h t in
     let none : next_moment to ≡ None = no_next to (turn.Finished n) w.0.2 in
     let before_it = lead_text trace plan h.pictures h.next h.leads in (
       inr (n, record { answer = turn.Finished n; status_is = refl; run = (advances plan trace from to before now (turn.Finished n) picture h t).0 }),
-      ap (λ m. before_it ++ state_text trace plan.program picture m) (sym none),
+      ap (λ m. before_it ++ written_state trace plan.program picture m) (sym none),
     )
 settles_with plan trace from to before now (turn.Contradictory state clash) picture h t settled = cc
 settles_with plan trace from to before now (turn.Undetermined state cell) picture h t settled = cc
@@ -193,7 +193,7 @@ module _ (words : List (List ℕ)) (held : Option Held) (plan : Plan) (fits : Pr
   part_written : (from to : RunPlace) (now new : Option (List ℕ)) → HasWritten plan trace from old now → PartMade plan trace from to now new → Answers words held old new WriteFault
   part_written from to now new h part =
       let before_it = lead_text trace plan h.pictures h.next h.leads in
-      let state = state_text trace plan.program part.picture (next_moment to) in
+      let state = written_state trace plan.program part.picture (next_moment to) in
       let settles = settles_with plan trace from to old now part.answer part.picture h part.turned part.settled in (
         before_it ++ state,
         inl (inr (record { plan = plan; pictures = h.pictures ++ part.picture ∷ []; asked = asked; run = settles.0; written = settled_as settles.0 _ (sym settles.1) })),

@@ -11,7 +11,7 @@ use Rattle.tp_show.specs.Told.{IsPictureInRange}
 use Rattle.tp_run.specs.States.{Plan, Standing, open_at, answered, RunPlace, AnswersState, StateGoesOn, StatesLead, StateBecomes, state_after}
 use Rattle.tp_run.specs.History.{Advances}
 use Rattle.tp_run.proofs.HistoryLemmas.{lead_more, advance_by, index_next, index_first}
-use Rattle.tp_call.specs.Printed.{state_text, states_text, lead_text, moment_with, next_moment}
+use Rattle.tp_call.specs.Printed.{written_state, states_text, lead_text, moment_with, next_moment}
 use Rattle.tp_call.specs.Written.{Wrote}
 use Rattle.tp_call.specs.Progress.{Turned, HasWritten}
 use Rattle.tp_call.proofs.TurnLemmas.{WentOn, carries_next, carries_nothing}
@@ -28,12 +28,12 @@ Wrote-nothing (Some x) = ap Some (sym (append-nil x))
 
 -- the text of one state more
 pub text_more : (trace : Bool) (plan : Plan) (n : ℕ) (r : Moment) (ps : List Picture) (m : Moment) (k : ℕ) (p : Picture) (next : Moment) (e : k ≡ length ps + n) (h : StatesLead plan n r ps m) (g : StateGoesOn plan k m p next)
-    → states_text trace plan n r (ps ++ p ∷ []) next (lead_more plan n r ps m k p next e h g) ≡ states_text trace plan n r ps m h ++ state_text trace plan.program p (Some next)
-text_more trace plan n r [] m k p next e h g = append-nil (state_text trace plan.program p (Some next))
+    → states_text trace plan n r (ps ++ p ∷ []) next (lead_more plan n r ps m k p next e h g) ≡ states_text trace plan n r ps m h ++ written_state trace plan.program p (Some next)
+text_more trace plan n r [] m k p next e h g = append-nil (written_state trace plan.program p (Some next))
 text_more trace plan n r (q ∷ ps) m k p next e h g =
-    let first = state_text trace plan.program q (Some h.0) in
+    let first = written_state trace plan.program q (Some h.0) in
     let more = states_text trace plan (suc n) h.0 ps m h.2 in
-    let last = state_text trace plan.program p (Some next) in
+    let last = written_state trace plan.program p (Some next) in
     ap (λ l. first ++ l) (text_more trace plan (suc n) h.0 ps m k p next (index_next k (length ps) n e) h.2 g) ∙ sym (append_assoc first more last)
 
 -- what the next state begins with, where the run goes on
@@ -70,14 +70,14 @@ HasWritten-none plan trace from now stands count =
 
 -- one that goes on adds its text
 pub more_written : (plan : Plan) (trace : Bool) (from to : RunPlace) (before now after : Option (List ℕ)) (picture : Picture) → (h : HasWritten plan trace from before now) → (t : Turned plan from to turn.Went picture)
-    → Wrote now after (state_text trace plan.program picture (next_moment to))
+    → Wrote now after (written_state trace plan.program picture (next_moment to))
     → let a = advances plan trace from to before now turn.Went picture h t in Wrote before after (lead_text trace plan (h.pictures ++ picture ∷ []) a.0 a.2)
 more_written plan trace from to before now after picture h t wrote =
     let w = answered_there plan trace from to before now turn.Went picture h t in
     let next = w.0.0 in
     let there : next_moment to ≡ Some next = next_there to (length h.pictures) next w.0.2 w.1 w.0.3 in
     let text = text_more trace plan 0 (first_moment plan.program.globals plan.program.main) h.pictures h.next (length h.pictures) picture next (index_first h.pictures) h.leads w.0.1 in
-    let both = Wrote-both before now after _ _ h.wrote (subst (λ m. Wrote now after (state_text trace plan.program picture m)) there wrote) in
+    let both = Wrote-both before now after _ _ h.wrote (subst (λ m. Wrote now after (written_state trace plan.program picture m)) there wrote) in
     subst (Wrote before after) (sym text) both
 
 pub HasWritten-more : (plan : Plan) (trace : Bool) (from to : RunPlace) (before now after : Option (List ℕ)) (picture : Picture) → HasWritten plan trace from before now → WentOn plan trace from to now after picture → HasWritten plan trace to before after

@@ -22,7 +22,7 @@ use Rattle.tp_call.specs.declared.status.Status.TheVariants.{Finished, Done, Con
 use Rattle.tp_show.specs.Told.{IsPictureInRange, IsLastTurn}
 use Rattle.tp_call.specs.Run.{last_answer, limit_end, status_of}
 use Rattle.tp_call.specs.Answer.{IsEndOfRun}
-use Rattle.tp_call.specs.Printed.{state_text, next_moment}
+use Rattle.tp_call.specs.Printed.{written_state, next_moment}
 use Rattle.tp_call.specs.Written.{Wrote}
 use Rattle.tp_call.specs.Progress.{Turned, is_settled, printed_lines, AnswerMade, TurnMade}
 
@@ -50,7 +50,7 @@ module _ (plan : Plan) (trace : Bool) (from to : RunPlace) (answer : Turn) (earl
 -- an answer that isn't the last one goes on, and its state's lines were written
 pub record WentOn (plan : Plan) (trace : Bool) (from to : RunPlace) (before after : Option (List ℕ)) (picture : Picture) : Type 0 where
   pub turned : Turned plan from to turn.Went picture
-  pub wrote : Wrote before after (state_text trace plan.program picture (next_moment to))
+  pub wrote : Wrote before after (written_state trace plan.program picture (next_moment to))
   pub range : IsPictureInRange picture
 
 pub went_on : (plan : Plan) (trace : Bool) (from to : RunPlace) (before after : Option (List ℕ)) (made : AnswerMade plan trace from to before after None) → WentOn plan trace from to before after made.picture

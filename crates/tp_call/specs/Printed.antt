@@ -22,14 +22,14 @@ phrase_left program m = residual_phrase m.store.variables program.defs m.scene
 
 -- What is written of a settled state: its lines, and where a trace is asked for its trace lines. The next state begins with this moment, where
 -- there is one.
-abbrev pub state_text : (trace : Bool) → ProgramTree → Picture → (next : Option Moment) → List ℕ
-state_text false program picture next = picture_lines program.globals picture
-state_text true program picture next = picture_lines program.globals picture ++ trace_lines picture.reductions (option_map (phrase_left program) next)
+abbrev pub written_state : (trace : Bool) → ProgramTree → Picture → (next : Option Moment) → List ℕ
+written_state false program picture next = picture_lines program.globals picture
+written_state true program picture next = picture_lines program.globals picture ++ trace_lines picture.reductions (option_map (phrase_left program) next)
 
 -- of the states that lead from one moment to another
 abbrev pub states_text : (trace : Bool) (plan : Plan) (n : ℕ) (m : Moment) (pictures : List Picture) (last : Moment) → StatesLead plan n m pictures last → List ℕ
 states_text trace plan n m [] last leads = []
-states_text trace plan n m (p ∷ ps) last leads = state_text trace plan.program p (Some leads.0) ++ states_text trace plan (suc n) leads.0 ps last leads.2
+states_text trace plan n m (p ∷ ps) last leads = written_state trace plan.program p (Some leads.0) ++ states_text trace plan (suc n) leads.0 ps last leads.2
 
 -- of those with which a run begins
 abbrev pub lead_text : (trace : Bool) (plan : Plan) (pictures : List Picture) (m : Moment) → LeadsTo plan pictures m → List ℕ
@@ -38,7 +38,7 @@ lead_text trace plan pictures m leads = states_text trace plan 0 (first_moment p
 -- of those of a run that ended with this answer; no state comes after the last one of a run that finished
 abbrev pub ended_text : (trace : Bool) (plan : Plan) (pictures : List Picture) (answer : Turn) → RunEndsWith plan pictures answer → List ℕ
 ended_text trace plan pictures turn.Went end = []
-ended_text trace plan pictures (turn.Finished length) end = lead_text trace plan end.before end.moment end.leads ++ state_text trace plan.program end.final None
+ended_text trace plan pictures (turn.Finished length) end = lead_text trace plan end.before end.moment end.leads ++ written_state trace plan.program end.final None
 ended_text trace plan pictures (turn.Contradictory state clash) end = lead_text trace plan pictures end.0 end.1
 ended_text trace plan pictures (turn.Undetermined state cell) end = lead_text trace plan pictures end.0 end.1
 ended_text trace plan pictures (turn.StateLimit states) end = lead_text trace plan pictures end.0 end.1

@@ -11,7 +11,7 @@ use Rattle.tp_run.specs.States.{Plan, RunPlace, open_at, LeadsTo, AnswersState}
 use Rattle.tp_run.specs.Runs.{program_of, store_of}
 use Rattle.tp_call.specs.declared.run.Ended.{Ended}
 use Rattle.tp_show.specs.Told.{IsPictureInRange}
-use Rattle.tp_call.specs.Printed.{state_text, lead_text, next_moment}
+use Rattle.tp_call.specs.Printed.{written_state, lead_text, next_moment}
 use Rattle.tp_call.specs.Written.{Wrote}
 use Rattle.tp_show.specs.EndLine.{end_line}
 use Rattle.tp_call.specs.declared.status.Status.{Status}
@@ -35,7 +35,7 @@ is_settled (turn.Over state limit) = false
 
 -- what is written of an answer and its picture: that of the state, where it was settled; the next one begins with this moment, where there is one
 abbrev pub printed_lines : (trace : Bool) → ProgramTree → Turn → Picture → (next : Option Moment) → List ℕ
-printed_lines trace program answer picture next = if is_settled answer then state_text trace program picture next else []
+printed_lines trace program answer picture next = if is_settled answer then written_state trace program picture next else []
 
 -- the call answered this, which was written; and the run ends with it, or goes on
 pub record AnswerMade (plan : Plan) (trace : Bool) (from to : RunPlace) (before after : Option (List ℕ)) (last : Option Turn) : Type 0 where
@@ -53,7 +53,7 @@ pub record PartMade (plan : Plan) (trace : Bool) (from to : RunPlace) (before af
   pub settled : IsTrue (is_settled answer)
   pub turned : Turned plan from to answer picture
   pub kept : ℕ
-  pub wrote : Wrote before after (take kept (state_text trace plan.program picture (next_moment to)))
+  pub wrote : Wrote before after (take kept (written_state trace plan.program picture (next_moment to)))
 
 -- what became of the next state: the run answered and wrote, a write failed, or memory was wanted
 abbrev pub TurnMade : Plan → (trace : Bool) → RunPlace → RunPlace → Option (List ℕ) → Option (List ℕ) → Result (Option Turn) WriteRefusal → Type 0

@@ -14,7 +14,7 @@ ghost use Rattle.tp_call.specs.Task.{plan_of};
 ghost use Rattle.tp_call.specs.Run.{limit_end, last_answer as last_by, status_of as end_status};
 ghost use Rattle.tp_call.specs.Progress.{TurnMade, ProgramMade, printed_lines, is_settled as is_settled_by};
 ghost use Rattle.tp_call.specs.Places.{StandsOpen, CarriesDue};
-ghost use Rattle.tp_call.specs.Printed.{state_text, next_moment};
+ghost use Rattle.tp_call.specs.Printed.{written_state, next_moment};
 
 use crate::status::Status;
 use std::alloc::Global;
@@ -40,7 +40,7 @@ fn append_state(
     requires parts { plain_parts picture.now.parts ≡ line_parts picture.now.facts }
     requires carried { CarriesDue run.now }
     ensures text { OnOk result (text.new ≡ text.old
-        ++ state_text trace (program_of run.now) picture.now
+        ++ written_state trace (program_of run.now) picture.now
         (next_moment (standing_place run.now))) }
     ensures range { OnOk result (IsPictureInRange picture.now) }
 {
@@ -70,7 +70,7 @@ fn write_state<K: Sink>(
     requires parts { plain_parts picture.now.parts ≡ line_parts picture.now.facts }
     requires carried { CarriesDue run.now }
     ensures written { Writes (K.written out.old) (K.written out.new)
-        (state_text trace (program_of run.now) picture.now (next_moment (standing_place run.now)))
+        (written_state trace (program_of run.now) picture.now (next_moment (standing_place run.now)))
         result }
     ensures range { OnOk result (IsPictureInRange picture.now) }
     ensures later { K.faults out.old ≤ K.faults out.new }
