@@ -178,12 +178,13 @@ carries_next to n m stands state = ap (λ z. carried_scene to.state z) stands �
 pub carries_nothing : (to : RunPlace) (turn : Turn) → to.standing ≡ answered turn → carried_scene to.state to.standing ≡ None
 carries_nothing to turn stands = ap (λ z. carried_scene to.state z) stands ∙ carries_none to.state turn
 
+abbrev Carries : Option Scene → Type 0
+Carries carried = IfSome carried (λ s. AreCarried s.root.entries)
+
 -- what a settled state leaves is as a state begins
 pub settled_carries : (plan : Plan) (from to : RunPlace) (old new : Picture) (answer : Turn) → StandsOpen from.standing → StandsSound plan from.state from.standing → AnswersState plan from old new to answer → is_settled answer ≡ true
     → IfSome (carried_scene to.state to.standing) (λ s. AreCarried s.root.entries)
 settled_carries plan from to old new answer stands sound made settled = at from.standing stands sound made where
-  abbrev Carries : Option Scene → Type 0
-  Carries carried = IfSome carried (λ s. AreCarried s.root.entries)
   at : (standing : Standing) → StandsOpen standing → StandsSound plan from.state standing → AnswersState plan (record { standing = standing; state = from.state; store = from.store }) old new to answer → Carries (carried_scene to.state to.standing)
   at (answered last) o s a = absurd o
   at spent o s a = absurd o

@@ -1,5 +1,6 @@
 -- The text of a run's states.
-use Rattle.std.specs.Prelude.{ℕ, suc, Bool, true, false, List, [], ◌∷◌, ◌++◌, length, Option, None, Some, ◌⊎◌, if◌then◌else◌}
+use Rattle.std.specs.Prelude.{ℕ, suc, Bool, true, false, List, [], ◌∷◌, ◌++◌, Option, None, Some}
+use Rattle.std.proofs.Common.{inl, inr}
 use Rattle.std.specs.Option.{option_map}
 use Rattle.tp_meaning.specs.Interval.{ProgramTree}
 use Rattle.tp_store.specs.Known.{Contents}
@@ -11,10 +12,10 @@ use Rattle.tp_show.specs.declared.turn.Turn.{Turn}
 use Rattle.tp_show.specs.declared.turn.Turn.TheVariants as turn
 use Rattle.tp_show.specs.Line.{picture_lines}
 use Rattle.tp_residual.specs.Residual.{residual_phrase, trace_lines}
-use Rattle.tp_run.specs.States.{Plan, Standing, RunPlace, StatesLead, LeadsTo}
+use Rattle.tp_run.specs.States.{Plan, RunPlace, StatesLead, LeadsTo}
 use Rattle.tp_run.specs.Runs.{carried_scene}
 use Rattle.tp_run.specs.History.{RunEndsWith}
-use Rattle.tp_call.specs.Run.{RunEnds, Settles}
+use Rattle.tp_call.specs.Run.{Settles}
 
 -- what is left to hold from a moment on, as a phrase
 abbrev pub phrase_left : ProgramTree → Moment → List ℕ

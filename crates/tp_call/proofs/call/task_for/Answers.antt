@@ -5,7 +5,7 @@ use Rattle.tp_check.specs.Program.{program_tree}
 use Rattle.tp_words.specs.Command.{wanted_by}
 use Rattle.tp_words.specs.declared.mode.Mode.TheVariants.{Run}
 use Rattle.tp_call.specs.declared.status.Status.TheVariants.{ReadFault}
-use Rattle.tp_call.proofs.AskedLemmas.{source_asked, table_asked, same_error}
+use Rattle.tp_call.proofs.AskedLemmas.{source_asked, table_asked, same_error, trace_asked}
 use Rattle.tp_call.proofs.SourceLemmas.{no_source, no_table, inputs_held, lent_name}
 use Rattle.tp_call.proofs.call.task_for.Goals as goal
 
