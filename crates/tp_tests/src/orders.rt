@@ -41,6 +41,12 @@ fn picks<L: Ledger>(
     Ok(tally.picks)
 }
 
+// The same of a source, by steps that count their tries by themselves.
+fn picks_of(alloc: Global, source: &str, course: Course) -> Result<ItemIds, Fail> {
+    let program = program_of(alloc, source)?;
+    picks::<Brand>(alloc, Blank::new(1), program, course)
+}
+
 // Four conjuncts, of which each is known by the next one; and five of which each can be reduced at once.
 const CHAIN: &str = "run A = B and B = C and C = 3 and empty.";
 
@@ -67,9 +73,7 @@ const PICKS: [(&str, Order, u64, &str); 13] = [
 fn each_order_has_its_picks(rt: HostRuntime) -> Result<(), Fail> {
     let alloc = rt.alloc();
     for (source, order, room, expected) in PICKS {
-        let program = program_of(alloc, source)?;
-        let course = Course { order, room };
-        let picked = picks::<Brand>(alloc, Blank::new(1), program, course)?;
+        let picked = picks_of(alloc, source, Course { order, room })?;
         let text = format!(in alloc; "{:?}", picked.items.as_slice())?;
         assert_eq!(rt; text.as_str(), expected, "for {source} {order:?}");
     }
