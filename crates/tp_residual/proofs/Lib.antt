@@ -3,5 +3,5 @@ mod Conjunctions
 mod BoundNames
 mod Always
 mod Standing
-mod Carried
+pub mod Carried
 mod Reductions
