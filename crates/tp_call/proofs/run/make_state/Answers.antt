@@ -3,11 +3,11 @@ use Rattle.std.proofs.lemmas.Result.{err_from_is_err_and}
 use Rattle.tp_call.proofs.TurnLemmas.{answer_made, write_stopped_so, settled_parts, settled_carries}
 use Rattle.tp_call.proofs.run.make_state.Goals as goal
 
-pub write_settled-requires-parts : goal.write_settled-requires-parts
-write_settled-requires-parts g c = λ settled. settled_parts c.requires.run.0 _ _ _ _ _ c.requires.open (c.in_ok-turn.ensures.made c.requires.run.0 c.requires.run.1) settled
+pub write_settled-requires-clause-parts : goal.write_settled-requires-clause-parts
+write_settled-requires-clause-parts g c = λ settled. settled_parts c.requires.run.0 _ _ _ _ _ c.requires.open (c.in_ok-turn.ensures.made c.requires.run.0 c.requires.run.1) settled
 
-pub write_settled-requires-carried : goal.write_settled-requires-carried
-write_settled-requires-carried g c = λ settled.
+pub write_settled-requires-clause-carried : goal.write_settled-requires-clause-carried
+write_settled-requires-clause-carried g c = λ settled.
     let plan = c.requires.run.0 in
     let before = c.requires.run.1 in
     let after = c.state.ensures.run plan before in
