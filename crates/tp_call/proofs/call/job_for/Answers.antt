@@ -32,3 +32,9 @@ pub returns-clause-asked : goal.returns-clause-asked
 returns-clause-asked g c =
     source_asked _ (wanted_by c.in_ok-command.command) c.in_ok-command.ensures.accepted _ _ _ _ (rw c.as_str.ensures.value at c.in_ok-read_tree-in-Print.ensures.asked)
     (λ which e. cc) (λ which e. (c.in_ok-read_tree-in-Print.ensures.read_fault which e).0)
+
+pub returns-in-Run-clause-job : goal.returns-in-Run-clause-job
+returns-in-Run-clause-job g c =
+    let asks = c.in_ok-command.ensures.accepted in
+    let task = c.in_ok-task_for-in-Run.ensures in
+    record { asked_for = task.asked_for _ asks; fits = task.fits; names = task.names; states = task.states; trace = task.trace _ asks }
