@@ -149,8 +149,7 @@ fn file_of(alloc: Global, name: &str, lines: &str) -> Result<Content, NoMemory> 
     Ok(Content { name, bytes })
 }
 
-/// The call answers and writes what the row says.
-pub fn expect_row(rt: &(impl Abort + AllocGlobal), row: &str) -> Result<(), Fail> {
+fn expect_row(rt: &(impl Abort + AllocGlobal), row: &str) -> Result<(), Fail> {
     let alloc = rt.alloc();
     let (words, row) = cut(row, "\n")?;
     let (source, row) = cut(row, "\n")?;

@@ -1,12 +1,14 @@
 // Calls with trace lines: how many steps each state took, and what is left to hold from the next one on.
-use crate::calls::optioned::expect_row;
+use crate::calls::expect;
+use crate::calls::optioned::words_in;
+use crate::tables::{cut, number};
+use std::process::Abort;
 use std::test::Fail;
 
-// The words, the source `a.t`, no inputs, the exit status, and the text.
+// The words, the source `a.t`, the exit status, and the text.
 const TRACED: &str = "
 run a.t --trace --states 1
 run len(3) and A=0 and A gets A+1.
-;
 -> 3
 state 0: A=0
 reductions 8
@@ -15,7 +17,6 @@ state limit: 1
 
 --trace run a.t
 run A=B and B=C and C=3 and empty.
-;
 -> 0
 state 0: A=3 B=3 C=3
 reductions 5
@@ -23,7 +24,6 @@ finished: length 0
 
 run a.t --trace
 run A=1 and (len(2) ; (B=2 and empty)).
-;
 -> 0
 state 0: A=1
 reductions 5
@@ -37,7 +37,6 @@ finished: length 2
 
 run a.t --trace --states 3
 run (len(2)) proj (len(2) and A=0 and A gets A+1).
-;
 -> 3
 state 0: A=0
 reductions 13
@@ -52,7 +51,6 @@ state limit: 3
 
 run a.t --trace
 run display(A) and A=1 and exists X : (X=0 and len(1) and X gets X+1 and next (next X = <X,-2>)).
-;
 -> 1
 state 0: A=1
 show 1
@@ -65,7 +63,6 @@ contradictory: state 1: ends and goes on at depth 0
 const ORDERED: &str = "
 run a.t --order last --trace
 run A=B and B=C and C=3 and empty.
-;
 -> 0
 state 0: A=3 B=3 C=3
 reductions 5
@@ -73,7 +70,6 @@ finished: length 0
 
 run --order 7 a.t --trace
 run A=B and B=C and C=3 and empty.
-;
 -> 0
 state 0: A=3 B=3 C=3
 reductions 5
@@ -81,7 +77,6 @@ finished: length 0
 
 run a.t --order=18446744073709551615
 run A=1 and (A := A+1 ; A := A*10).
-;
 -> 0
 state 0: A=1
 state 1: A=2
@@ -90,7 +85,6 @@ finished: length 2
 
 run a.t --order last
 run display(1) and ((empty and display(2)) ; (empty and display(3))).
-;
 -> 0
 state 0:
 show 1
@@ -100,10 +94,18 @@ finished: length 0
 
 run a.t --order last
 run A=1 and A=2 and empty.
-;
 -> 1
 contradictory: state 0: A=1 and A=2
 ";
+
+fn expect_row(rt: &(impl Abort + AllocGlobal), row: &str) -> Result<(), Fail> {
+    let (words, row) = cut(row, "\n")?;
+    let (source, row) = cut(row, "\n->")?;
+    let (code, text) = cut(row, "\n")?;
+    let words = words_in(rt.alloc(), words)?;
+    let text = format!(in rt.alloc(); "{text}\n")?;
+    expect(rt, words.as_slice(), source, number(code)?, text.as_str())
+}
 
 #[test]
 fn traces_are_written(rt: HostRuntime) -> Result<(), Fail> {
