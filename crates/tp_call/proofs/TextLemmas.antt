@@ -93,6 +93,7 @@ untraced_end : (plan : Plan) (ps : List Picture) (answer : Turn) (end : RunEndsW
 untraced_end plan ps answer end = by answer end where
   lead : (m : Moment) (leads : LeadsTo plan ps m) → lead_text false plan ps m leads ≡ pictures_text plan.program.globals ps
   lead m leads = untraced_states plan 0 (first_moment plan.program.globals plan.program.main) ps m leads
+
   by : (turn : Turn) (end : RunEndsWith plan ps turn) → ended_text false plan ps turn end ≡ pictures_text plan.program.globals ps
   by turn.Went end = absurd end
   by (turn.Finished n) end =
