@@ -4,8 +4,8 @@ use Rattle.tp_value.specs.Read.{tree}
 use Rattle.tp_value.specs.Tree.{Tree}
 use Rattle.tp_value.specs.declared.value.Value.{Value}
 use Rattle.tp_value.specs.declared.path.Fact.{Fact}
+use Rattle.tp_value.specs.Shape.{item_at}
 use Rattle.tp_meaning.specs.Syntax.{ExprTree, Definition, BindingTree}
-use Rattle.tp_meaning.specs.Value.{item_at}
 use Rattle.tp_eval.specs.Reached.{Reached, reaches}
 use Rattle.tp_eval.specs.Evaluate.{PlaceFound, at_path, inside, element_in, evaluate, find_place, depth_limit}
 use Rattle.tp_eval.specs.Outcome as found

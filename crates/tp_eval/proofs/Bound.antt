@@ -3,12 +3,13 @@ use Rattle.std.proofs.Common.{◌≡◌, ℕ, ◌+◌, ◌≤◌, Bool, List, le
 use Rattle.tp_value.specs.Tree.{Tree}
 use Rattle.tp_value.specs.declared.path.Path.{Path}
 use Rattle.tp_value.specs.declared.path.Fact.{Fact}
+use Rattle.tp_value.specs.Shape.{item_at}
 use Rattle.tp_kernel.specs.declared.formula.FaultKind.{FaultKind}
 use Rattle.tp_meaning.specs.Syntax.{ExprTree, Definition, BindingTree, place_binding}
 use Rattle.tp_meaning.specs.Fits.{ExprFits, DefinitionsFit}
 use Rattle.tp_meaning.specs.Course.{Course}
 use Rattle.tp_meaning.specs.Bindings.{Locals, meaning_of, meanings_of}
-use Rattle.tp_meaning.specs.Value.{◌>>=◌, item_at, Meaning, fixed, calls_at}
+use Rattle.tp_meaning.specs.Value.{◌>>=◌, Meaning, fixed, calls_at}
 use Rattle.tp_meaning.proofs.Deeper.{place_keeps, calls_keep}
 use Rattle.tp_store.specs.Facts.{AgreesWithAll}
 use Rattle.tp_store.specs.Known.{NoClash}

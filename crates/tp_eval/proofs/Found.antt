@@ -4,14 +4,14 @@ use Rattle.tp_value.specs.Tree.{Tree, Trees, num, truth, list, items_of, of_item
 use Rattle.std.specs.Prelude.{◌+ℤ◌, ◌-ℤ◌, ◌*ℤ◌}
 use Rattle.tp_value.specs.Number.{is_within_limit, floor_div}
 use Rattle.tp_value.specs.Limits.{is_within_list_limit}
-use Rattle.tp_value.specs.Shape.{shape_of, item_of, at_item, shape_at_path}
+use Rattle.tp_value.specs.Shape.{shape_of, item_of, at_item, shape_at_path, item_at}
 use Rattle.tp_value.specs.declared.value.Shape.{Shape}
 use Rattle.tp_value.specs.declared.value.Shape.TheVariants.{Num, Truth, Items}
 use Rattle.tp_value.specs.declared.path.Fact.{Fact}
 use Rattle.tp_kernel.specs.declared.formula.LimitKind.TheVariants as limit
 use Rattle.tp_meaning.specs.Syntax.{Operator, Equal, Differs, Less, LessEqual, Greater, GreaterEqual, Plus, Minus, Times, Div, Mod}
 use Rattle.tp_meaning.specs.Value as meaning
-use Rattle.tp_meaning.specs.Value.{◌>>=◌, item_at, list_item, list_of, truth_of, number_of, Meaning, fixed, varying, element}
+use Rattle.tp_meaning.specs.Value.{◌>>=◌, list_item, list_of, truth_of, number_of, Meaning, fixed, varying, element}
 use Rattle.tp_eval.specs.Reached.{Reached, with_reached, within_numbers, within_lists}
 use Rattle.tp_eval.specs.Evaluate.{operate_outcome, truth_in, number_in, list_items, item_in, element_in, length_of}
 use Rattle.tp_eval.proofs.Agree.{Agrees, limit_agrees}

@@ -1,13 +1,13 @@
 -- What the facts say of the values of the variables.
 use Rattle.std.proofs.Common.{◌≡◌, ℕ, suc, Bool, true, false, ◌||◌, List, [], ◌∷◌, Option, Some, None, refl, ap, sym, subst, ◌∙◌, if◌then◌else◌}
 use Rattle.tp_value.specs.Tree.{Tree}
-use Rattle.tp_value.specs.Shape.{item_of, shape_at_path}
+use Rattle.tp_value.specs.Shape.{item_of, shape_at_path, item_at}
 use Rattle.tp_value.specs.declared.value.Shape.{Shape}
 use Rattle.tp_value.specs.declared.path.Path.{Path}
 use Rattle.tp_value.specs.declared.path.Fact.{Fact}
 use Rattle.tp_kernel.specs.declared.formula.FaultKind.TheVariants.{NoElement}
-use Rattle.tp_meaning.specs.Value.{◌>>=◌, item_at}
-use Rattle.tp_store.specs.Facts.{fact, kept_shape, is_excluded, item_at_path, AgreesWithAll}
+use Rattle.tp_meaning.specs.Value.{◌>>=◌}
+use Rattle.tp_store.specs.Facts.{fact, kept_shape, is_excluded, AgreesWithAll}
 use Rattle.tp_store.specs.Known.{NoClash, deepest, whole, limited, full}
 use Rattle.tp_store.specs.Known as store
 use Rattle.tp_store.specs.Laws.{FullSays}
@@ -41,14 +41,6 @@ pub size_kept : (facts : List Fact) (p : Path) (sh : Shape) → NoClash facts �
 size_kept facts p sh h k =
     ap (λ (b : Bool). if b then fault NoElement else length_in p (kept_shape facts p)) (kept_not_excluded facts p sh h k) ∙ ap (length_in p) k
 
-same_element : (at : List ℕ) (t : Tree) → item_at at t ≡ item_at_path at t
-same_element [] t = refl
-same_element (k ∷ ks) t = further (same_element ks) (item_of t k)
-  where
-    further : ((u : Tree) → item_at ks u ≡ item_at_path ks u) → (o : Option Tree) → (o >>= item_at ks) ≡ (o >>= item_at_path ks)
-    further h None = refl
-    further h (Some u) = h u
-
 module _ (values : ℕ → Tree) (facts : List Fact) (agrees : AgreesWithAll values facts) where
   says : (p : Path) (o : store.Full) → full facts p ≡ o → FullSays p.at (values p.var.number) o
   says p o h = let P : store.Full → Type 0 = λ x. FullSays p.at (values p.var.number) x in subst P h (full_is_right facts values agrees p)
@@ -57,13 +49,13 @@ module _ (values : ℕ → Tree) (facts : List Fact) (agrees : AgreesWithAll val
   kept_is p sh k = agrees_in values facts agrees (fact p sh) (kept_in facts p sh k)
 
   absent_is : (p : Path) → full facts p ≡ store.absent → item_at p.at (values p.var.number) ≡ None
-  absent_is p h = same_element p.at (values p.var.number) ∙ says p store.absent h
+  absent_is p h = says p store.absent h
 
   excluded_is : (p : Path) → is_excluded facts p ≡ true → item_at p.at (values p.var.number) ≡ None
   excluded_is p e = absent_is p (ap (λ (b : Bool). if b then store.absent else limited (whole (suc (deepest facts)) facts p)) e)
 
   whole_is : (p : Path) (t : Tree) → full facts p ≡ store.value t → item_at p.at (values p.var.number) ≡ Some t
-  whole_is p t h = same_element p.at (values p.var.number) ∙ (says p (store.value t) h).0
+  whole_is p t h = (says p (store.value t) h).0
 
 -- in each state that agrees with them
 pub facts_are_right : (facts : List Fact) (values : ℕ → Tree) → NoClash facts → FactsAreRight facts (AgreesWithAll values facts) values

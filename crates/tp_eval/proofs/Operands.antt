@@ -3,13 +3,14 @@ use Rattle.std.proofs.Common.{◌≡◌, pos, negsuc, ℕ, suc, Bool, true, fals
 use Rattle.std.specs.Prelude.{neg_ℤ, nat_lt}
 use Rattle.tp_value.specs.Tree.{Tree, num, truth, list, of_items}
 use Rattle.tp_value.specs.declared.path.Fact.{Fact}
+use Rattle.tp_value.specs.Shape.{item_at}
 use Rattle.tp_kernel.specs.declared.formula.LimitKind.TheVariants as limit
 use Rattle.tp_meaning.specs.Syntax.{Operator, ExprTree, ExprTrees, numeral, boolean, known, bound, global, listing, size, index, minus, negation, both, either, binary, choice, invoke, no_expr, expr_then, Definition, BindingTree, known_binding}
 use Rattle.tp_meaning.specs.Fits.{ExprFits, ExprsFit}
 use Rattle.tp_meaning.specs.Course.{Course}
 use Rattle.tp_meaning.specs.Bindings.{Locals, meaning_of}
 use Rattle.tp_meaning.specs.Value as meaning
-use Rattle.tp_meaning.specs.Value.{◌>>=◌, item_at, list_item, list_of, truth_of, number_of, Meaning, fixed, varying, meant, element, Env, Calls, value_by, values_by, all_by, place_by, arguments_by, is_upper}
+use Rattle.tp_meaning.specs.Value.{◌>>=◌, list_item, list_of, truth_of, number_of, Meaning, fixed, varying, meant, element, Env, Calls, value_by, values_by, all_by, place_by, arguments_by, is_upper}
 use Rattle.tp_eval.specs.Reached.{Reached, reaches, stops, passes, Evaluation, with_reached, gives}
 use Rattle.tp_eval.specs.Evaluate.{PlaceFound, is_place, call_limit, operate_outcome, truth_in, number_in, length_of, value_at, size_at, each, all_true, one_true, negated, negative, operation_outcome, chosen, evaluated_place, element_of, indexed_value, size_of, bind_place, argument, arguments, body_of, call, part_value}
 use Rattle.tp_eval.proofs.Agree.{none_after, Agrees, same_meaning, then_agrees, beside_agrees, either_agrees}

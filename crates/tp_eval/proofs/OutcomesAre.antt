@@ -1,7 +1,7 @@
 -- Outcomes are right in each state that agrees with the facts, and what is waited for is undecided.
 use Rattle.std.proofs.Common.{◌≡◌, ℕ, zero, suc, ◌+◌, ◌≤◌, pos, Bool, true, List, [], length, Option, Some, None, refl, ap, sym, ◌∙◌, arith}
 use Rattle.tp_value.specs.Tree.{Tree, num, truth, list, items_of}
-use Rattle.tp_value.specs.Shape.{shape_of}
+use Rattle.tp_value.specs.Shape.{shape_of, item_at}
 use Rattle.tp_value.specs.declared.value.Shape.TheVariants.{Items}
 use Rattle.tp_value.specs.declared.path.Path.{Path}
 use Rattle.tp_value.specs.declared.path.Fact.{Fact}
@@ -10,7 +10,7 @@ use Rattle.tp_meaning.specs.Syntax.{ExprTree, Definition, BindingTree, bound, gl
 use Rattle.tp_meaning.specs.Fits.{ExprFits, DefinitionsFit}
 use Rattle.tp_meaning.specs.Course.{Course}
 use Rattle.tp_meaning.specs.Bindings.{Locals, meanings_of}
-use Rattle.tp_meaning.specs.Value.{◌>>=◌, item_at, calls_at, place_by, meant}
+use Rattle.tp_meaning.specs.Value.{◌>>=◌, calls_at, place_by, meant}
 use Rattle.tp_meaning.proofs.Deeper.{value_deeper}
 use Rattle.tp_store.specs.Facts.{AgreesWithAll, kept_shape, is_excluded}
 use Rattle.tp_store.specs.Known.{NoClash}

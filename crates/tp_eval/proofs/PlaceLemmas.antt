@@ -4,7 +4,7 @@ use Rattle.std.specs.Prelude.{nat_lt, nat_le}
 use Rattle.std.proofs.lemmas.Bool.{lt-ltb, ltb-true}
 use Rattle.tp_value.specs.Tree.{Tree, num, truth, list}
 use Rattle.tp_value.specs.Limits.{index_limit, path_limit}
-use Rattle.tp_value.specs.Shape.{shape_at_path}
+use Rattle.tp_value.specs.Shape.{shape_at_path, item_at}
 use Rattle.tp_value.specs.declared.value.Shape.{Shape}
 use Rattle.tp_value.specs.declared.value.Shape.TheVariants.{Num, Truth, Items}
 use Rattle.tp_value.specs.declared.path.Path.{Path}
@@ -16,7 +16,7 @@ use Rattle.tp_meaning.specs.Syntax.{BindingTree, place_binding, known_binding}
 use Rattle.tp_meaning.specs.Fits.{IsVariable}
 use Rattle.tp_meaning.specs.Course.{Course}
 use Rattle.tp_meaning.specs.Bindings.{Locals, variable_at, meaning_of, meanings_of}
-use Rattle.tp_meaning.specs.Value.{◌>>=◌, item_at, Meaning, fixed, varying, meant, element, Env}
+use Rattle.tp_meaning.specs.Value.{◌>>=◌, Meaning, fixed, varying, meant, element, Env}
 use Rattle.tp_store.specs.Facts.{kept_shape, is_excluded, item_path}
 use Rattle.tp_store.specs.Known.{full}
 use Rattle.tp_store.specs.Known as store

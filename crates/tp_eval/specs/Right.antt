@@ -1,7 +1,7 @@
 -- What the outcome of an expression says of every state that agrees with the facts.
 use Rattle.std.specs.Prelude.{◌≡◌, ℕ, ◌≤◌, pos, Bool, false, List, length, Option, None, Some}
 use Rattle.tp_value.specs.Tree.{Tree, num}
-use Rattle.tp_value.specs.Shape.{shape_at_path}
+use Rattle.tp_value.specs.Shape.{shape_at_path, item_at}
 use Rattle.tp_value.specs.declared.value.Shape.TheVariants.{Items}
 use Rattle.tp_value.specs.declared.path.Path.{Path}
 use Rattle.tp_value.specs.declared.path.Fact.{Fact}
@@ -10,7 +10,6 @@ use Rattle.tp_meaning.specs.Syntax.{ExprTree, Definition, BindingTree, size}
 use Rattle.tp_meaning.specs.Fits.{ExprFits, DefinitionsFit}
 use Rattle.tp_meaning.specs.Course.{Course}
 use Rattle.tp_meaning.specs.Bindings.{Locals, variable_at, meanings_of}
-use Rattle.tp_meaning.specs.Value.{item_at}
 use Rattle.tp_meaning.specs.Value as meaning
 use Rattle.tp_store.specs.Facts.{AgreesWithAll, kept_shape, is_excluded}
 use Rattle.tp_store.specs.Known.{NoClash}

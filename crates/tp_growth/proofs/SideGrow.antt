@@ -5,9 +5,9 @@ use Rattle.tp_value.specs.declared.value.Shape.{Shape}
 use Rattle.tp_value.specs.declared.value.Shape.TheVariants.{Num, Truth, Items}
 use Rattle.tp_value.specs.declared.path.Path.{Path}
 use Rattle.tp_value.specs.declared.path.Fact.{Fact}
+use Rattle.tp_value.specs.Shape.{item_at}
 use Rattle.tp_kernel.specs.declared.formula.FaultKind.TheVariants.{NoElement}
 use Rattle.tp_meaning.specs.Syntax.{ExprTree, numeral, boolean, known, bound, global, listing, size, index, minus, negation, both, either, binary, choice, invoke, Definition}
-use Rattle.tp_meaning.specs.Value.{item_at}
 use Rattle.tp_meaning.specs.Inputs.{InputLines}
 use Rattle.tp_store.specs.Facts.{kept_shape, is_excluded}
 use Rattle.tp_store.specs.Known.{NoClash, Full, absent, undecided, too_long, value, full}

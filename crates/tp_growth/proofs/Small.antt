@@ -3,7 +3,7 @@ use Rattle.std.proofs.Common.{◌≡◌, ℤ, ◌+ℤ◌, ◌-ℤ◌, ◌*ℤ◌
 use Rattle.std.specs.Option.{option_and_then}
 use Rattle.std.proofs.lemmas.Bool.{and_parts, leb-true, le-leb}
 use Rattle.tp_value.specs.Tree.{Tree, Trees, num, truth, list, nil, cons, items_of, of_items}
-use Rattle.tp_value.specs.Shape.{item_of}
+use Rattle.tp_value.specs.Shape.{item_of, item_at}
 use Rattle.tp_value.specs.Number.{is_within_limit, floor_div, floor_mod}
 use Rattle.tp_value.specs.Limits.{path_limit, items_in, items_within, depth_of, greatest_depth, is_within_list_limit, IsWithinListLimit}
 use Rattle.tp_value.specs.Limits as limits
@@ -12,7 +12,7 @@ use Rattle.tp_value.specs.declared.value.Shape.TheVariants.{Num, Truth, Items}
 use Rattle.tp_value.specs.declared.path.Path.{Path}
 use Rattle.tp_value.specs.declared.path.Fact.{Fact}
 use Rattle.tp_meaning.specs.Syntax.{Operator, Equal, Differs, Less, LessEqual, Greater, GreaterEqual, Plus, Minus, Times, Div, Mod, ExprTree, ExprTrees, numeral, boolean, known, bound, global, listing, size, index, minus, negation, both, either, binary, choice, invoke, no_expr, expr_then, Definition, BindingTree, place_binding, known_binding}
-use Rattle.tp_meaning.specs.Value.{item_at, is_upper}
+use Rattle.tp_meaning.specs.Value.{is_upper}
 use Rattle.tp_store.specs.Facts.{kept_shape, is_excluded}
 use Rattle.tp_store.specs.Known as store
 use Rattle.tp_store.specs.Known.{Whole, full, whole, deepest}

@@ -2,10 +2,11 @@
 use Rattle.std.proofs.Common.{◌≡◌, ℤ, pos, ℕ, zero, suc, ◌≤◌, Bool, true, false, not, List, [], ◌∷◌, length, Option, Some, None, refl, ap, sym, subst, slice_get, if◌then◌else◌}
 use Rattle.std.specs.Prelude.{neg_ℤ}
 use Rattle.tp_value.specs.Tree.{Tree, num, truth, list, of_items}
+use Rattle.tp_value.specs.Shape.{item_at}
 use Rattle.tp_meaning.specs.Syntax.{ExprTree, ExprTrees, numeral, boolean, known, bound, global, listing, size, index, minus, negation, both, either, binary, choice, invoke, no_expr, expr_then, Definition}
 use Rattle.tp_meaning.specs.Course.{Course}
 use Rattle.tp_meaning.specs.Moving.{MeaningMoved, EnvMoved, CourseMoved}
-use Rattle.tp_meaning.specs.Value.{◌>>=◌, Meaning, fixed, varying, Env, meant, element, list_item, item_at, number_of, index_of, list_of, truth_of, operate, Calls, value_by, values_by, all_by, place_by, arguments_by, is_upper, calls_at}
+use Rattle.tp_meaning.specs.Value.{◌>>=◌, Meaning, fixed, varying, Env, meant, element, list_item, number_of, index_of, list_of, truth_of, operate, Calls, value_by, values_by, all_by, place_by, arguments_by, is_upper, calls_at}
 
 module _ (f : ℕ → ℕ) (a b : ℕ) where
   abbrev pub MaybeMoved : Option Meaning → Option Meaning → Type 0

@@ -2,9 +2,10 @@
 use Rattle.std.specs.Prelude.{ℕ, List, [], ◌∷◌, if◌then◌else◌, nat_lt}
 use Rattle.tp_value.specs.Tree.{Tree}
 use Rattle.tp_value.specs.declared.path.VarId.{VarId}
+use Rattle.tp_value.specs.Shape.{item_at}
 use Rattle.tp_meaning.specs.Syntax.{BindingTree, place_binding, known_binding}
 use Rattle.tp_meaning.specs.Course.{Course}
-use Rattle.tp_meaning.specs.Value.{Meaning, fixed, varying, Env, item_at}
+use Rattle.tp_meaning.specs.Value.{Meaning, fixed, varying, Env}
 
 -- The values of the local variables by their numbers, which are those from the number of globals on: one at each position.
 abbrev pub Locals : Type 0

@@ -3,7 +3,7 @@ use Rattle.std.specs.Prelude.{ℤ, pos, negsuc, ◌+ℤ◌, ◌-ℤ◌, ◌*ℤ�
 use Rattle.std.specs.Option.{option_and_then}
 use Rattle.tp_value.specs.Tree.{Tree, num, truth, list, items_of, of_items, same_tree}
 use Rattle.tp_value.specs.Number.{floor_div}
-use Rattle.tp_value.specs.Shape.{item_of}
+use Rattle.tp_value.specs.Shape.{item_of, item_at}
 use Rattle.tp_meaning.specs.Syntax.{Operator, Equal, Differs, Less, LessEqual, Greater, GreaterEqual, Plus, Minus, Times, Div, Mod, ExprTree, ExprTrees, numeral, boolean, known, bound, global, listing, size, index, minus, negation, both, either, binary, choice, invoke, no_expr, expr_then, Definition}
 use Rattle.tp_meaning.specs.Course.{Course}
 
@@ -36,11 +36,6 @@ list_item t i = do
   n ← number_of i
   k ← index_of n
   item_of t k
-
--- the value found at a path of indices
-abbrev pub item_at : List ℕ → Tree → Option Tree
-item_at [] t = Some t
-item_at (k ∷ ks) t = item_of t k >>= item_at ks
 
 abbrev pub on_numbers : (ℤ → ℤ → Tree) → Tree → Tree → Option Tree
 on_numbers f (num a) (num b) = Some (f a b)

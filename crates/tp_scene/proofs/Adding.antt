@@ -1,11 +1,8 @@
 -- Adding facts: what the new ones say is what the added ones say, and a value stands at a path where its facts are agreed with.
-use Rattle.std.proofs.Common.{◌≡◌, ◌↔◌, inl, inr, ℕ, List, [], ◌∷◌, Option, Some, None, refl, sym, ◌∙◌}
-use Rattle.std.specs.Option.{option_and_then}
+use Rattle.std.proofs.Common.{◌≡◌, ◌↔◌, inl, inr, ℕ, List, refl}
 use Rattle.tp_value.specs.Tree.{Tree}
-use Rattle.tp_value.specs.Shape.{item_of}
 use Rattle.tp_value.specs.declared.path.Fact.{Fact}
-use Rattle.tp_meaning.specs.Value.{item_at}
-use Rattle.tp_store.specs.Facts.{item_at_path, AgreesWithAll}
+use Rattle.tp_store.specs.Facts.{AgreesWithAll}
 use Rattle.tp_store.specs.Known.{Addition, adds, refuses, new_facts, addition}
 use Rattle.tp_store.proofs.Members.{agrees_in, agrees_from}
 use Rattle.tp_store.proofs.Adding.{AddsAll, adds_all, refused_by, given_in, news_given}
@@ -24,19 +21,8 @@ adding_means kept fs (refuses g f) q = λ values ag h.
     let r = refused_by kept fs (new_facts kept fs) g f q in
     clashes_agree_nowhere values g f r.clashes (agrees_in values kept ag g r.old_kept) (agrees_in values fs h f r.new_given)
 
-same_item : (at : List ℕ) (t : Tree) → item_at_path at t ≡ item_at at t
-same_item [] t = refl
-same_item (k ∷ ks) t = further (same_item ks) (item_of t k)
-  where
-    further : ((u : Tree) → item_at_path ks u ≡ item_at ks u) → (o : Option Tree) → option_and_then (item_at_path ks) o ≡ option_and_then (item_at ks) o
-    further h None = refl
-    further h (Some u) = h u
-
 pub adding_is_right : (facts : List Fact) → AddingIsRight facts
 adding_is_right facts = record {
   adding = λ fs. adding_means facts fs (addition facts fs) refl;
-  values = λ values p t. let law = facts_say_the_value values p t in (
-    (λ h. sym (same_item p.at (values p.var.number)) ∙ law.0 h),
-    (λ h. law.1 (same_item p.at (values p.var.number) ∙ h)),
-  );
+  values = facts_say_the_value;
 }

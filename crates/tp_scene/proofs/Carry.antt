@@ -2,9 +2,10 @@
 use Rattle.std.proofs.Common.{◌≡◌, ℕ, suc, ◌≤◌, ◌<◌, Bool, true, false, cond, eqb, nat_lt, List, [], ◌∷◌, refl, ap, sym, subst, arith, if◌then◌else◌}
 use Rattle.std.proofs.lemmas.Bool.{cond_both, eqb-true, both_ways, eq-eqb}
 use Rattle.tp_value.specs.Tree.{Tree}
+use Rattle.tp_value.specs.Shape.{item_at}
 use Rattle.tp_meaning.specs.Syntax.{FormulaTree, BindingTree, place_binding, known_binding}
 use Rattle.tp_meaning.specs.Course.{Course, Shows}
-use Rattle.tp_meaning.specs.Value.{item_at, Meaning, varying}
+use Rattle.tp_meaning.specs.Value.{Meaning, varying}
 use Rattle.tp_meaning.specs.Bindings.{Locals, meaning_of, meanings_of}
 use Rattle.tp_meaning.specs.Holds.{Context, Holds}
 use Rattle.tp_meaning.proofs.DeeperHolds.{holds_deeper}

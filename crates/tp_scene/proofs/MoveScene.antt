@@ -1,8 +1,8 @@
 -- A scene says the same of a part of a course where that part is moved to.
 use Rattle.std.proofs.Common.{◌≡◌, ℕ, suc, ◌≤◌, [], ◌∷◌, nat_lt, refl, ap, sym, ◌∙◌, subst, arith, if◌then◌else◌}
+use Rattle.tp_value.specs.Shape.{item_at}
 use Rattle.tp_meaning.specs.Syntax.{FormulaTree, BindingTree, place_binding, known_binding}
 use Rattle.tp_meaning.specs.Course.{Course, Shows}
-use Rattle.tp_meaning.specs.Value.{item_at}
 use Rattle.tp_meaning.specs.Bindings.{Locals, meaning_of, meanings_of}
 use Rattle.tp_meaning.specs.Holds.{Context, Holds}
 use Rattle.tp_meaning.specs.Moving.{MeaningMoved, EnvMoved, CourseMoved}

@@ -3,7 +3,7 @@ use Rattle.std.proofs.Common.{◌≡◌, ◌↔◌, pos, negsuc, ℕ, ◌+◌, n
 use Rattle.std.proofs.lemmas.Bool.{cond_both, both_ways}
 use Rattle.tp_value.specs.Tree.{Tree, num, truth, list, same_tree}
 use Rattle.tp_value.specs.Limits.{length_limit}
-use Rattle.tp_value.specs.Shape.{shape_at_path}
+use Rattle.tp_value.specs.Shape.{shape_at_path, item_at}
 use Rattle.tp_value.specs.declared.path.Path.{Path}
 use Rattle.tp_value.specs.declared.path.Fact.{Fact}
 use Rattle.tp_value.specs.declared.value.Shape.TheVariants.{Items}
@@ -11,7 +11,6 @@ use Rattle.tp_value.proofs.Trees.{same_tree_is_equality}
 use Rattle.tp_kernel.specs.declared.formula.FaultKind.{FaultKind}
 use Rattle.tp_meaning.specs.Course.{Course, Shows, blank}
 use Rattle.tp_meaning.specs.Bindings.{Locals}
-use Rattle.tp_meaning.specs.Value.{item_at}
 use Rattle.tp_meaning.specs.Holds.{Context}
 use Rattle.tp_store.specs.Facts.{AgreesWithAll, fact, facts_at}
 use Rattle.tp_store.specs.Known.{Addition, adds, refuses, addition}

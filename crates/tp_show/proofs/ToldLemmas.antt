@@ -9,13 +9,13 @@ use Rattle.std.proofs.lemmas.Slice.Eq.{starts_is}
 use Rattle.tp_value.specs.Tree.{Tree, num, truth, list, items_of, of_items}
 use Rattle.tp_value.specs.Equations.{items_of-of_items}
 use Rattle.tp_value.specs.Limits.{is_within_list_limit}
-use Rattle.tp_value.specs.Shape.{at_item, shape_of, shape_at_path}
+use Rattle.tp_value.specs.Shape.{at_item, shape_of, shape_at_path, item_at}
 use Rattle.tp_value.specs.declared.path.VarId.{VarId}
 use Rattle.tp_value.specs.declared.path.Path.{Path}
 use Rattle.tp_value.specs.declared.path.Fact.{Fact}
 use Rattle.tp_value.specs.declared.value.Shape.{Shape}
 use Rattle.tp_value.specs.declared.value.Shape.TheVariants.{Num, Truth, Items}
-use Rattle.tp_store.specs.Facts.{same_variable, kept_shape, is_excluded, item_path, item_at_path, fact, AgreesWith, AgreesWithAll}
+use Rattle.tp_store.specs.Facts.{same_variable, kept_shape, is_excluded, item_path, fact, AgreesWith, AgreesWithAll}
 use Rattle.tp_store.specs.Known.{NoClash, Whole, known, open_at, WholeItems, all_known, item_open_at, and_items, list_of_items, items_known, with_shape, whole, deepest, Full, absent, undecided, too_long, value, limited, full, IsVariableOf, AreOfVariables, global_variable}
 use Rattle.tp_store.specs.Laws.{FullSays}
 use Rattle.tp_store.proofs.Paths.{same_variable-decides, fact_from}
@@ -52,10 +52,10 @@ AreTelling (a ∷ rest) f = Tells a f ⊎ AreTelling rest f
 
 -- Each fact is told. What a known value has at a path, a state that agrees with the facts has there.
 
-shape_beyond : (a b : List ℕ) (s t : Tree) (sh : Shape) → item_at_path a s ≡ Some t → shape_at_path (a ++ b) s ≡ Some sh → shape_at_path b t ≡ Some sh
+shape_beyond : (a b : List ℕ) (s t : Tree) (sh : Shape) → item_at a s ≡ Some t → shape_at_path (a ++ b) s ≡ Some sh → shape_at_path b t ≡ Some sh
 shape_beyond a b s t sh h e =
     let found = shape_item (a ++ b) s sh e in
-    let item : item_at_path b t ≡ Some found.0 = sym (item_append a b s ∙ ap (option_and_then (item_at_path b)) h) ∙ found.1 in
+    let item : item_at b t ≡ Some found.0 = sym (item_append a b s ∙ ap (option_and_then (item_at b)) h) ∙ found.1 in
     item_shape b t found.0 item ∙ ap Some found.2
 
 value_tells : (names : List (List ℕ)) (all : List Fact) (p : Path) (t : Tree) (f : Fact) (rest : List ℕ) → AreFactsOf names all → full all p ≡ value t → In f all → f.path ≡ beyond p rest → HasFact p t f
@@ -336,7 +336,7 @@ has_told : (values : ℕ → Tree) (a : LinePartTree) (f : Fact) → HasPart val
 has_told values (valued p t) f has tells =
     let root = values p.var.number in
     let found = shape_item tells.rest t f.shape tells.shape in
-    let item : item_at_path (p.at ++ tells.rest) root ≡ Some found.0 = item_append p.at tells.rest root ∙ (ap (option_and_then (item_at_path tells.rest)) has ∙ found.1) in
+    let item : item_at (p.at ++ tells.rest) root ≡ Some found.0 = item_append p.at tells.rest root ∙ (ap (option_and_then (item_at tells.rest)) has ∙ found.1) in
     let shape : shape_at_path (p.at ++ tells.rest) root ≡ Some f.shape = item_shape (p.at ++ tells.rest) root found.0 item ∙ ap Some found.2 in
     subst (λ (q : Path). shape_at_path q.at (values q.var.number) ≡ Some f.shape) (sym tells.path) shape
 has_told values (measured p n) f has tells = subst (AgreesWith values) (sym tells) has

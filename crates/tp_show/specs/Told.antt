@@ -2,11 +2,11 @@
 use Rattle.std.specs.Prelude.{◌≡◌, ◌↔◌, ◌<◌, ◌^◌, ℕ, suc, nat_le, ◌==◌, ◌&&◌, ◌||◌, Bool, IsTrue, List, [], ◌∷◌, ◌++◌, map, length, All, Some}
 use Rattle.tp_value.specs.Tree.{Tree}
 use Rattle.tp_value.specs.Range.{HasMachineNumbers}
-use Rattle.tp_value.specs.Shape.{shape_at_path}
+use Rattle.tp_value.specs.Shape.{shape_at_path, item_at}
 use Rattle.tp_value.specs.declared.path.Fact.{Fact}
 use Rattle.tp_value.specs.declared.value.Shape.TheVariants.{Items}
 use Rattle.tp_meaning.specs.Course.{Course, Shows, blank, ◌⊕◌, shown_at}
-use Rattle.tp_store.specs.Facts.{item_at_path, AgreesWithAll}
+use Rattle.tp_store.specs.Facts.{AgreesWithAll}
 use Rattle.tp_store.specs.Known.{Variable, IsVariableOf, global_variable}
 use Rattle.tp_decide.specs.Read.{shows_of}
 use Rattle.tp_show.specs.declared.turn.Picture.{Picture}
@@ -64,7 +64,7 @@ pub record IsToldOf (names : List (List ℕ)) (told : ToldState) : Type 0 where
 
 -- the variables' values are such as a part tells: this value stands there, or a list of this length
 abbrev pub HasPart : (values : ℕ → Tree) → LinePartTree → Type 0
-HasPart values (valued p t) = item_at_path p.at (values p.var.number) ≡ Some t
+HasPart values (valued p t) = item_at p.at (values p.var.number) ≡ Some t
 HasPart values (measured p n) = shape_at_path p.at (values p.var.number) ≡ Some (Items n)
 
 -- each state from position a on has the parts that are told of its turn

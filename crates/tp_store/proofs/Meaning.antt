@@ -7,13 +7,13 @@ use Rattle.std.proofs.lemmas.Option.{slice_get_past}
 use Rattle.tp_value.specs.Tree.{Tree, Trees, num, truth, list, nil, cons, items_of, of_items}
 use Rattle.tp_value.specs.Equations.{items_of-of_items}
 use Rattle.tp_value.specs.Limits.{is_within_list_limit}
-use Rattle.tp_value.specs.Shape.{shape_of, item_of, at_item, shape_at_path}
+use Rattle.tp_value.specs.Shape.{shape_of, item_of, at_item, shape_at_path, item_at}
 use Rattle.tp_value.specs.declared.value.Shape.{Shape}
 use Rattle.tp_value.specs.declared.value.Shape.TheVariants.{Num, Truth, Items}
 use Rattle.tp_value.specs.declared.path.VarId.{VarId}
 use Rattle.tp_value.specs.declared.path.Path.{Path}
 use Rattle.tp_value.specs.declared.path.Fact.{Fact}
-use Rattle.tp_store.specs.Facts.{same_variable, same_path, same_shape, has_item, leaves_out, excludes, kept_shape, is_excluded, item_path, fact, item_at_path, facts_at, facts_of_items, AgreesWith, AgreesWithAll}
+use Rattle.tp_store.specs.Facts.{same_variable, same_path, same_shape, has_item, leaves_out, excludes, kept_shape, is_excluded, item_path, fact, facts_at, facts_of_items, AgreesWith, AgreesWithAll}
 use Rattle.tp_store.specs.Known.{NoClash, Whole, known, open_at, WholeItems, all_known, item_open_at, and_items, list_of_items, items_known, with_shape, whole, deepest, absent, undecided, too_long, value, limited}
 use Rattle.tp_store.specs.Laws.{ClashesAgreeNowhere, FactsSayTheValue, FullSays, FullIsRight, OpenIsUndecided}
 use Rattle.tp_store.proofs.Indices.{leaves_out-shorter}
@@ -22,36 +22,36 @@ use Rattle.tp_store.proofs.Members.{kept_in, in_kept, excluded_by, excluded_from
 use Rattle.tp_store.proofs.Same.{kept_depth}
 
 -- an element with its shape
-pub shape_item : (at : List ℕ) (t : Tree) (sh : Shape) → shape_at_path at t ≡ Some sh → (u : Tree) × (item_at_path at t ≡ Some u) × (shape_of u ≡ sh)
+pub shape_item : (at : List ℕ) (t : Tree) (sh : Shape) → shape_at_path at t ≡ Some sh → (u : Tree) × (item_at at t ≡ Some u) × (shape_of u ≡ sh)
 shape_item [] t sh h = (t, refl, cc h)
 shape_item (k ∷ ks) t sh h =
-    let P : Option Tree → Type 0 = λ o. at_item o (shape_at_path ks) ≡ Some sh → (u : Tree) × (option_and_then (item_at_path ks) o ≡ Some u) × (shape_of u ≡ sh) in
+    let P : Option Tree → Type 0 = λ o. at_item o (shape_at_path ks) ≡ Some sh → (u : Tree) × (option_and_then (item_at ks) o ≡ Some u) × (shape_of u ≡ sh) in
     let none : P None = λ e. absurd (cc e) in
     let some : (u : Tree) → P (Some u) = λ u e. shape_item ks u sh e in
     let cases : P (item_of t k) = elim (item_of t k) as P [ None ↦ none | Some u ↦ some u ] in
     cases h
 
-pub item_shape : (at : List ℕ) (t u : Tree) → item_at_path at t ≡ Some u → shape_at_path at t ≡ Some (shape_of u)
+pub item_shape : (at : List ℕ) (t u : Tree) → item_at at t ≡ Some u → shape_at_path at t ≡ Some (shape_of u)
 item_shape [] t u h = let q : t ≡ u = cc h in ap (λ x. Some (shape_of x)) q
 item_shape (k ∷ ks) t u h =
-    let P : Option Tree → Type 0 = λ o. option_and_then (item_at_path ks) o ≡ Some u → at_item o (shape_at_path ks) ≡ Some (shape_of u) in
+    let P : Option Tree → Type 0 = λ o. option_and_then (item_at ks) o ≡ Some u → at_item o (shape_at_path ks) ≡ Some (shape_of u) in
     let none : P None = λ e. absurd (cc e) in
     let some : (x : Tree) → P (Some x) = λ x e. item_shape ks x u e in
     let cases : P (item_of t k) = elim (item_of t k) as P [ None ↦ none | Some x ↦ some x ] in
     cases h
 
-pub item_append : (a b : List ℕ) (t : Tree) → item_at_path (a ++ b) t ≡ option_and_then (item_at_path b) (item_at_path a t)
+pub item_append : (a b : List ℕ) (t : Tree) → item_at (a ++ b) t ≡ option_and_then (item_at b) (item_at a t)
 item_append [] b t = refl
 item_append (k ∷ a) b t =
-    let P : Option Tree → Type 0 = λ o. option_and_then (item_at_path (a ++ b)) o ≡ option_and_then (item_at_path b) (option_and_then (item_at_path a) o) in
+    let P : Option Tree → Type 0 = λ o. option_and_then (item_at (a ++ b)) o ≡ option_and_then (item_at b) (option_and_then (item_at a) o) in
     elim (item_of t k) as P [ None ↦ refl | Some u ↦ item_append a b u ]
 
 -- the item of a list
-pub item_inside : (at : List ℕ) (k : ℕ) (t : Tree) (us : Trees) → item_at_path at t ≡ Some (list us) → item_at_path (at ++ k ∷ []) t ≡ slice_get (items_of us) k
+pub item_inside : (at : List ℕ) (k : ℕ) (t : Tree) (us : Trees) → item_at at t ≡ Some (list us) → item_at (at ++ k ∷ []) t ≡ slice_get (items_of us) k
 item_inside at k t us h =
-    let P : Option Tree → Type 0 = λ o. option_and_then (item_at_path []) o ≡ o in
+    let P : Option Tree → Type 0 = λ o. option_and_then (item_at []) o ≡ o in
     let same : P (slice_get (items_of us) k) = elim (slice_get (items_of us) k) as P [ None ↦ refl | Some u ↦ refl ] in
-    item_append at (k ∷ []) t ∙ ap (option_and_then (item_at_path (k ∷ []))) h ∙ same
+    item_append at (k ∷ []) t ∙ ap (option_and_then (item_at (k ∷ []))) h ∙ same
 
 num_only : (u : Tree) (n : ℤ) → shape_of u ≡ Num n → u ≡ num n
 num_only (num m) n h = let q : m ≡ n = cc h in ap num q
@@ -97,31 +97,31 @@ no_item_of (num n) k h = refl
 no_item_of (truth b) k h = refl
 no_item_of (list ts) k h = slice_get_past (items_of ts) k (ltb-false k (length (items_of ts)) h)
 
-left_out : (at : List ℕ) (sh : Shape) (b : List ℕ) (t : Tree) → leaves_out at sh b ≡ true → shape_at_path at t ≡ Some sh → item_at_path b t ≡ None
+left_out : (at : List ℕ) (sh : Shape) (b : List ℕ) (t : Tree) → leaves_out at sh b ≡ true → shape_at_path at t ≡ Some sh → item_at b t ≡ None
 left_out [] sh [] t h s = absurd (cc h)
 left_out [] sh (k ∷ ks) t h s =
     let q : shape_of t ≡ sh = cc s in
     let no : has_item (shape_of t) k ≡ false = ap (λ x. has_item x k) q ∙ not-true (has_item sh k) h in
-    ap (option_and_then (item_at_path ks)) (no_item_of t k no)
+    ap (option_and_then (item_at ks)) (no_item_of t k no)
 left_out (j ∷ js) sh [] t h s = absurd (cc h)
 left_out (j ∷ js) sh (k ∷ ks) t h s =
     let r = and_parts (eqb j k) (leaves_out js sh ks) h in
     let e : j ≡ k = eqb-true j k r.0 in
-    let P : Option Tree → Type 0 = λ o. at_item o (shape_at_path js) ≡ Some sh → option_and_then (item_at_path ks) o ≡ None in
+    let P : Option Tree → Type 0 = λ o. at_item o (shape_at_path js) ≡ Some sh → option_and_then (item_at ks) o ≡ None in
     let none : P None = λ q. refl in
     let some : (u : Tree) → P (Some u) = λ u q. left_out js sh ks u r.1 q in
     let cases : P (item_of t j) = elim (item_of t j) as P [ None ↦ none | Some u ↦ some u ] in
-    ap (λ n. option_and_then (item_at_path ks) (item_of t n)) (sym e) ∙ cases s
+    ap (λ n. option_and_then (item_at ks) (item_of t n)) (sym e) ∙ cases s
 
-excluded_right : (values : ℕ → Tree) (f : Fact) (p : Path) → excludes f p ≡ true → AgreesWith values f → item_at_path p.at (values p.var.number) ≡ None
+excluded_right : (values : ℕ → Tree) (f : Fact) (p : Path) → excludes f p ≡ true → AgreesWith values f → item_at p.at (values p.var.number) ≡ None
 excluded_right values f p h a =
     let r = and_parts (same_variable f.path.var p.var) (leaves_out f.path.at f.shape p.at) h in
     let e : f.path.var ≡ p.var = (same_variable-decides f.path.var p.var).0 r.0 in
-    ap (λ (x : VarId). item_at_path p.at (values x.number)) (sym e) ∙ left_out f.path.at f.shape p.at (values f.path.var.number) r.1 a
+    ap (λ (x : VarId). item_at p.at (values x.number)) (sym e) ∙ left_out f.path.at f.shape p.at (values f.path.var.number) r.1 a
 
 no_shape_there : (values : ℕ → Tree) (f g : Fact) → excludes f g.path ≡ true → AgreesWith values f → AgreesWith values g → ⊥
 no_shape_there values f g h a b =
-    let none : item_at_path g.path.at (values g.path.var.number) ≡ None = excluded_right values f g.path h a in
+    let none : item_at g.path.at (values g.path.var.number) ≡ None = excluded_right values f g.path h a in
     let some = shape_item g.path.at (values g.path.var.number) g.shape b in
     let both : None ≡ Some some.0 = sym none ∙ some.1 in
     absurd (cc both)
@@ -146,17 +146,17 @@ agrees_both values [] ys h k = k
 agrees_both values (x ∷ xs) ys h k = (h.0, agrees_both values xs ys h.1 k)
 
 mutual
-  value_from : (values : ℕ → Tree) (p : Path) (t : Tree) → AgreesWithAll values (facts_at p t) → item_at_path p.at (values p.var.number) ≡ Some t
+  value_from : (values : ℕ → Tree) (p : Path) (t : Tree) → AgreesWithAll values (facts_at p t) → item_at p.at (values p.var.number) ≡ Some t
   value_from values p (num n) h = let r = shape_item p.at (values p.var.number) (Num n) h.0 in r.1 ∙ ap Some (num_only r.0 n r.2)
   value_from values p (truth b) h = let r = shape_item p.at (values p.var.number) (Truth b) h.0 in r.1 ∙ ap Some (truth_only r.0 b r.2)
   value_from values p (list ts) h =
       let r = shape_item p.at (values p.var.number) (Items (length (items_of ts))) h.0 in
       let l = list_only r.0 (length (items_of ts)) r.2 in
-      let here : item_at_path p.at (values p.var.number) ≡ Some (list l.0) = r.1 ∙ ap Some l.1 in
+      let here : item_at p.at (values p.var.number) ≡ Some (list l.0) = r.1 ∙ ap Some l.1 in
       let lengths : length (items_of l.0) ≡ 0 + length (items_of ts) = omega (arith, l.2) in
       here ∙ ap (λ us. Some (list us)) (same_items l.0 ts (items_from values p l.0 here 0 ts lengths h.1))
 
-  items_from : (values : ℕ → Tree) (p : Path) (us : Trees) → item_at_path p.at (values p.var.number) ≡ Some (list us) → (k : ℕ) (ts : Trees)
+  items_from : (values : ℕ → Tree) (p : Path) (us : Trees) → item_at p.at (values p.var.number) ≡ Some (list us) → (k : ℕ) (ts : Trees)
       → length (items_of us) ≡ k + length (items_of ts) → AgreesWithAll values (facts_of_items p k ts) → drop k (items_of us) ≡ items_of ts
   items_from values p us e k nil l h = drop_all k (items_of us) (omega arith)
   items_from values p us e k (cons t ts) l h =
@@ -166,12 +166,12 @@ mutual
       drop_at k (items_of us) t item ∙ ap (λ vs. t ∷ vs) (items_from values p us e (suc k) ts lengths parts.1)
 
 mutual
-  facts_from : (values : ℕ → Tree) (p : Path) (t : Tree) → item_at_path p.at (values p.var.number) ≡ Some t → AgreesWithAll values (facts_at p t)
+  facts_from : (values : ℕ → Tree) (p : Path) (t : Tree) → item_at p.at (values p.var.number) ≡ Some t → AgreesWithAll values (facts_at p t)
   facts_from values p (num n) h = (item_shape p.at (values p.var.number) (num n) h, tt)
   facts_from values p (truth b) h = (item_shape p.at (values p.var.number) (truth b) h, tt)
   facts_from values p (list ts) h = (item_shape p.at (values p.var.number) (list ts) h, item_facts values p ts h 0 ts refl)
 
-  item_facts : (values : ℕ → Tree) (p : Path) (us : Trees) → item_at_path p.at (values p.var.number) ≡ Some (list us) → (k : ℕ) (ts : Trees) → drop k (items_of us) ≡ items_of ts → AgreesWithAll values (facts_of_items p k ts)
+  item_facts : (values : ℕ → Tree) (p : Path) (us : Trees) → item_at p.at (values p.var.number) ≡ Some (list us) → (k : ℕ) (ts : Trees) → drop k (items_of us) ≡ items_of ts → AgreesWithAll values (facts_of_items p k ts)
   item_facts values p us e k nil d = tt
   item_facts values p us e k (cons t ts) d =
       let g = get_drop k (items_of us) (items_of ts) t d in
@@ -192,8 +192,8 @@ known_list : (w : WholeItems) (t : Tree) → list_of_items w ≡ known t → (ts
 known_list (all_known ts) t h = let q : list (of_items ts) ≡ t = cc h in (ts, refl, sym q)
 known_list (item_open_at q) t h = absurd (cc h)
 
-items_right : (values : ℕ → Tree) (p : Path) (us : Trees) (item : Path → Whole) → item_at_path p.at (values p.var.number) ≡ Some (list us)
-    → ((k : ℕ) (t : Tree) → item (item_path p k) ≡ known t → item_at_path (p.at ++ k ∷ []) (values p.var.number) ≡ Some t)
+items_right : (values : ℕ → Tree) (p : Path) (us : Trees) (item : Path → Whole) → item_at p.at (values p.var.number) ≡ Some (list us)
+    → ((k : ℕ) (t : Tree) → item (item_path p k) ≡ known t → item_at (p.at ++ k ∷ []) (values p.var.number) ≡ Some t)
     → (m k : ℕ) (ts : List Tree) → length (items_of us) ≡ k + m → items_known item p m k ≡ all_known ts → drop k (items_of us) ≡ ts
 items_right values p us item e each zero k ts l h = let q : [] ≡ ts = cc h in drop_all k (items_of us) (omega arith) ∙ q
 items_right values p us item e each (suc m) k ts l h =
@@ -202,11 +202,11 @@ items_right values p us item e each (suc m) k ts l h =
     let lengths : length (items_of us) ≡ suc k + m = omega arith in
     drop_at k (items_of us) r.0 here ∙ ap (λ vs. r.0 ∷ vs) (items_right values p us item e each m (suc k) r.1 lengths r.3) ∙ sym r.4
 
-whole_right : (d : ℕ) (fs : List Fact) (values : ℕ → Tree) → AgreesWithAll values fs → (p : Path) (t : Tree) → whole d fs p ≡ known t → item_at_path p.at (values p.var.number) ≡ Some t
+whole_right : (d : ℕ) (fs : List Fact) (values : ℕ → Tree) → AgreesWithAll values fs → (p : Path) (t : Tree) → whole d fs p ≡ known t → item_at p.at (values p.var.number) ≡ Some t
 whole_right zero fs values a p t h = absurd (cc h)
 whole_right (suc d) fs values a p t h =
     let V = values p.var.number in
-    let P : Option Shape → Type 0 = λ o. kept_shape fs p ≡ o → with_shape (whole d fs) p o ≡ known t → item_at_path p.at V ≡ Some t in
+    let P : Option Shape → Type 0 = λ o. kept_shape fs p ≡ o → with_shape (whole d fs) p o ≡ known t → item_at p.at V ≡ Some t in
     let agrees : (sh : Shape) → kept_shape fs p ≡ Some sh → shape_at_path p.at V ≡ Some sh = λ sh e. agrees_in values fs a (fact p sh) (kept_in fs p sh e) in
     let Q : Shape → Type 0 = λ sh. P (Some sh) in
     let nums : (n : ℤ) → Q (Num n) = λ n e k. (let r = shape_item p.at V (Num n) (agrees (Num n) e) in let q : num n ≡ t = cc k in r.1 ∙ ap Some (num_only r.0 n r.2 ∙ q)) in
@@ -214,7 +214,7 @@ whole_right (suc d) fs values a p t h =
     let lists : (n : ℕ) → Q (Items n) = λ n e k.
     (let r = shape_item p.at V (Items n) (agrees (Items n) e) in
     let l = list_only r.0 n r.2 in
-    let here : item_at_path p.at V ≡ Some (list l.0) = r.1 ∙ ap Some l.1 in
+    let here : item_at p.at V ≡ Some (list l.0) = r.1 ∙ ap Some l.1 in
     let w = known_list (items_known (whole d fs) p n 0) t k in
     let lengths : length (items_of l.0) ≡ 0 + n = omega (arith, l.2) in
     let items : items_of l.0 ≡ w.0 = items_right values p l.0 (whole d fs) here (λ j u q. whole_right d fs values a (item_path p j) u q) n 0 w.0 lengths w.1 in
@@ -224,7 +224,7 @@ whole_right (suc d) fs values a p t h =
     let cases : P (kept_shape fs p) = elim (kept_shape fs p) as P [ None ↦ none | Some sh ↦ some sh ] in
     cases refl h
 
-limited_right : (at : List ℕ) (s : Tree) (w : Whole) → ((t : Tree) → w ≡ known t → item_at_path at s ≡ Some t) → FullSays at s (limited w)
+limited_right : (at : List ℕ) (s : Tree) (w : Whole) → ((t : Tree) → w ≡ known t → item_at at s ≡ Some t) → FullSays at s (limited w)
 limited_right at s (open_at q) h = tt
 limited_right at s (known t) h =
     let P : Bool → Type 0 = λ b. is_within_list_limit t ≡ b → FullSays at s (cond b (value t) too_long) in

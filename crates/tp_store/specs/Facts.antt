@@ -1,9 +1,8 @@
 -- Facts, and when they clash.
 use Rattle.std.specs.Prelude.{◌≡◌, ℕ, suc, Bool, true, false, not, ◌&&◌, ◌||◌, eqb, nat_lt, List, [], ◌∷◌, ◌++◌, Option, Some, None, if◌then◌else◌}
-use Rattle.std.specs.Option.{option_and_then}
 use Rattle.std.specs.Ordering.{int_eq}
 use Rattle.tp_value.specs.Tree.{Tree, Trees, num, truth, list, nil, cons, same_truth}
-use Rattle.tp_value.specs.Shape.{shape_of, item_of, shape_at_path}
+use Rattle.tp_value.specs.Shape.{shape_of, shape_at_path}
 use Rattle.tp_value.specs.declared.value.Shape.{Shape}
 use Rattle.tp_value.specs.declared.value.Shape.TheVariants.{Num, Truth, Items}
 use Rattle.tp_value.specs.declared.path.VarId.{VarId}
@@ -79,11 +78,6 @@ abbrev mutual
   pub facts_of_items : Path → (k : ℕ) → Trees → List Fact
   facts_of_items p k nil = []
   facts_of_items p k (cons t ts) = facts_at (item_path p k) t ++ facts_of_items p (suc k) ts
-
--- the value found at a path of indices, or none
-abbrev pub item_at_path : List ℕ → Tree → Option Tree
-item_at_path [] t = Some t
-item_at_path (k ∷ ks) t = option_and_then (item_at_path ks) (item_of t k)
 
 -- the values of the variables by their numbers agree with a fact, or with each of several
 abbrev pub AgreesWith : (ℕ → Tree) → Fact → Type 0

@@ -4,7 +4,8 @@ use Rattle.tp_value.specs.Tree.{Tree}
 use Rattle.tp_value.specs.Limits.{is_within_list_limit}
 use Rattle.tp_value.specs.declared.path.Path.{Path}
 use Rattle.tp_value.specs.declared.path.Fact.{Fact}
-use Rattle.tp_store.specs.Facts.{clash, kept_shape, is_excluded, item_at_path, facts_at, AgreesWith, AgreesWithAll}
+use Rattle.tp_value.specs.Shape.{item_at}
+use Rattle.tp_store.specs.Facts.{clash, kept_shape, is_excluded, facts_at, AgreesWith, AgreesWithAll}
 use Rattle.tp_store.specs.Known.{NoClash, clashes_with_some, first_clash, adds, refuses, addition, Full, absent, undecided, too_long, value, full, Variable, AreOfVariables, lasting_facts, facts_below}
 use Rattle.tp_store.specs.Changes.{HaveSameShapes}
 
@@ -14,14 +15,14 @@ ClashesAgreeNowhere = (values : ℕ → Tree) (f g : Fact) → clash f g ≡ tru
 
 -- A state agrees with the facts of a value at a path exactly where it has this value there.
 abbrev pub FactsSayTheValue : Type 0
-FactsSayTheValue = (values : ℕ → Tree) (p : Path) (t : Tree) → AgreesWithAll values (facts_at p t) ↔ (item_at_path p.at (values p.var.number) ≡ Some t)
+FactsSayTheValue = (values : ℕ → Tree) (p : Path) (t : Tree) → AgreesWithAll values (facts_at p t) ↔ (item_at p.at (values p.var.number) ≡ Some t)
 
 -- what is known of the value at a path says of the variable's value
 abbrev pub FullSays : List ℕ → Tree → Full → Type 0
-FullSays at s absent = item_at_path at s ≡ None
+FullSays at s absent = item_at at s ≡ None
 FullSays at s (undecided q) = Unit {0}
-FullSays at s too_long = (t : Tree) × (item_at_path at s ≡ Some t) × (is_within_list_limit t ≡ false)
-FullSays at s (value t) = (item_at_path at s ≡ Some t) × (is_within_list_limit t ≡ true)
+FullSays at s too_long = (t : Tree) × (item_at at s ≡ Some t) × (is_within_list_limit t ≡ false)
+FullSays at s (value t) = (item_at at s ≡ Some t) × (is_within_list_limit t ≡ true)
 
 -- and it is right in each state that agrees with the facts.
 abbrev pub FullIsRight : Type 0

@@ -1,7 +1,7 @@
 use Rattle.std.proofs.Common.{◌≡◌, ◌+◌, refl, ap, sym, ◌∙◌, arith, Some, suc, get_or, drop}
 use Rattle.tp_value.specs.Read.{tree}
-use Rattle.tp_value.specs.Shape.{item_of}
-use Rattle.tp_meaning.specs.Value.{◌>>=◌, item_at}
+use Rattle.tp_value.specs.Shape.{item_of, item_at}
+use Rattle.tp_meaning.specs.Value.{◌>>=◌}
 use Rattle.tp_eval.proofs.Found.{one_further}
 use Rattle.tp_eval.proofs.places.element.Goals as goal
 

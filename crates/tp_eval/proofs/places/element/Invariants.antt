@@ -1,6 +1,6 @@
 use Rattle.std.proofs.Common.{◌≡◌, drop}
 use Rattle.tp_value.specs.Read.{tree}
-use Rattle.tp_meaning.specs.Value.{item_at}
+use Rattle.tp_value.specs.Shape.{item_at}
 use Rattle.tp_eval.proofs.places.element.Given as goal
 
 abbrev pub invariant-loop-index : goal.invariant-loop-index
