@@ -4,5 +4,4 @@ pub mod EquationLemmas
 pub mod RowLemmas
 pub mod DisplayLemmas
 pub mod FormulaLemmas
-pub mod PathFits
 pub mod CallLemmas

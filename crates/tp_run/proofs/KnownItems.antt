@@ -25,23 +25,13 @@ use Rattle.tp_scene.specs.Laws.{IsSound}
 use Rattle.tp_scene.proofs.Frame.{region}
 use Rattle.tp_scene.proofs.Keep.{live_fits}
 use Rattle.tp_scene.proofs.Globals.{of_variables_in}
-use Rattle.tp_scene.proofs.PathFits.{PathFits, path_fits}
 use Rattle.tp_kernel.specs.declared.formula.LimitKind.{LimitKind}
 use Rattle.tp_scene.specs.declared.answer.Cell.{Cell}
 use Rattle.tp_scene.specs.declared.answer.Clash.{Clash}
-use Rattle.tp_scene.proofs.NewFacts.{of_append}
+use Rattle.tp_scene.proofs.Parts.{MaySet, if_has, status_has, Stops, value_has, truth_has, number_has, equate_has}
+use Rattle.tp_scene.proofs.Targets.{facts_of_value, TargetIsOf, target_fits}
 use Rattle.tp_run.specs.Runs.{CellIsOf, ClashIsOf}
 use Rattle.tp_run.proofs.KnownValues.{IsOther, BindingsThere, WaitsThere, PlaceThere, outcome_there, place_there}
-
-mutual
-  facts_of_value : (xs : List Variable) (p : Path) (t : Tree) → IsVariableOf xs p.var → AreOfVariables xs (facts_at p t)
-  facts_of_value xs p (num n) h = (h, tt)
-  facts_of_value xs p (truth b) h = (h, tt)
-  facts_of_value xs p (list ts) h = (h, facts_of_parts xs p 0 ts h)
-
-  facts_of_parts : (xs : List Variable) (p : Path) (k : ℕ) (ts : Trees) → IsVariableOf xs p.var → AreOfVariables xs (facts_of_items p k ts)
-  facts_of_parts xs p k nil h = tt
-  facts_of_parts xs p k (cons t ts) h = of_append xs (facts_at (item_path p k) t) (facts_of_items p (suc k) ts) (facts_of_value xs (item_path p k) t h) (facts_of_parts xs p (suc k) ts h)
 
 -- bindings that fit are of the store's variables
 bindings_there : (variables : List Variable) (env : Bindings) → BindingsFit (kinds_in variables) env → BindingsThere (IsVariableOf variables) env
@@ -66,37 +56,26 @@ module _ (facts : List Fact) (variables : List Variable) (kept : AreOfVariables 
   Waits = WaitsThere (IsVariableOf variables)
 
   if_told : (b : Bool) (o o' : PickOutcome) → IsTold o → IsTold o' → IsTold (if b then o else o')
-  if_told true o o' h h' = h
-  if_told false o o' h h' = h'
+  if_told = if_has IsTold
+
+  stops : Stops IsTold Waits
+  stops = record { wait = λ q u. (u, tt); fault = λ k. tt; over = λ k u. u }
 
   marking_told : (z : Side) (b : Bool) (depth : ℕ) (news : Entries) (items : ℕ) → IsTold (marking z b depth news items)
   marking_told z true depth news items = tt
   marking_told z false depth news items = tt
 
   status_told : (p : Place) (o o' : PickOutcome) → IsTold o → IsTold o' → IsTold (by_status p o o')
-  status_told p o o' h h' = cond_both (p.is Going) _ _ IsTold (λ _. h) (λ _. cond_both (p.is Ending) _ _ IsTold (λ _. h') (λ _. (tt, tt)))
+  status_told p o o' h h' = status_has IsTold p o o' (λ g. h) (λ g e. h') (λ g e. (tt, tt))
 
   value_told : (o : found.Outcome) (f : Tree → PickOutcome) → Waits o → ((t : Tree) → IsTold (f t)) → IsTold (with_value o f)
-  value_told (found.value t) f u h = h t
-  value_told (found.wait p) f u h = (u, tt)
-  value_told (found.fault k) f u h = tt
-  value_told (found.over k) f u h = u
+  value_told = value_has IsTold Waits stops
 
   truth_told : (o : found.Outcome) (f : Bool → PickOutcome) → Waits o → ((b : Bool) → IsTold (f b)) → IsTold (with_truth o f)
-  truth_told (found.value (truth b)) f u h = h b
-  truth_told (found.value (num n)) f u h = tt
-  truth_told (found.value (list ts)) f u h = tt
-  truth_told (found.wait p) f u h = (u, tt)
-  truth_told (found.fault k) f u h = tt
-  truth_told (found.over k) f u h = u
+  truth_told = truth_has IsTold Waits stops
 
   number_told : (o : found.Outcome) (f : ℤ → PickOutcome) → Waits o → ((n : ℤ) → IsTold (f n)) → IsTold (with_number o f)
-  number_told (found.value (num n)) f u h = h n
-  number_told (found.value (truth b)) f u h = tt
-  number_told (found.value (list ts)) f u h = tt
-  number_told (found.wait p) f u h = (u, tt)
-  number_told (found.fault k) f u h = tt
-  number_told (found.over k) f u h = u
+  number_told = number_has IsTold Waits stops
 
   abbrev AdditionIsOf : Addition → Type 0
   AdditionIsOf (adds news) = Unit {0}
@@ -117,51 +96,15 @@ module _ (facts : List Fact) (variables : List Variable) (kept : AreOfVariables 
   added_told : (fs : List Fact) → AreOfVariables variables fs → IsTold (added (addition facts fs))
   added_told fs h = addition_told (addition facts fs) (checked_of fs (adds (new_facts facts fs)) h tt)
 
-  -- what is set is a path of a variable
-  abbrev TargetFits : Target → Type 0
-  TargetFits (value_at p) = IsVariableOf variables p.var
-  TargetFits (length_at p) = IsVariableOf variables p.var
-
-  abbrev MayFit : Option Target → Type 0
-  MayFit (Some t) = TargetFits t
-  MayFit None = Unit {0}
-
-  set_told : (t : Target) (v : Tree) → TargetFits t → IsTold (set facts t v)
+  set_told : (t : Target) (v : Tree) → TargetIsOf variables t → IsTold (set facts t v)
   set_told (value_at p) v h = added_told (facts_at p v) (facts_of_value variables p v h)
   set_told (length_at p) (num (pos n)) h = if_told (nat_lt length_limit n) _ _ tt (added_told (fact p (Items n) ∷ []) (h, tt))
   set_told (length_at p) (num (negsuc n)) h = tt
   set_told (length_at p) (truth b) h = tt
   set_told (length_at p) (list ts) h = tt
 
-  meets_told : (placed : Bool) (target : Option Target) (o : found.Outcome) (v : Tree) → MayFit target → Waits o → IsTold (meets facts (record { placed = placed; target = target; found = o }) v)
-  meets_told placed (Some t) o v h u = set_told t v h
-  meets_told placed None (found.value t) v h u = if_told (same_tree t v) _ _ tt tt
-  meets_told placed None (found.wait p) v h u = (u, tt)
-  meets_told placed None (found.fault k) v h u = tt
-  meets_told placed None (found.over k) v h u = u
-
-  wait_told : (l r : Bool) (p q : Path) → IsVariableOf variables p.var → IsVariableOf variables q.var → IsTold (both_wait facts l r p q)
-  wait_told l r p q u v = if_told (r && not l) _ _ (u, v) (v, u)
-
-  equate_told : (l r : SideOf) → MayFit l.target → MayFit r.target → Waits l.found → Waits r.found → IsTold (equate facts l r)
-  equate_told l r tl tr = go l.found r.found where
-    go : (a b : found.Outcome) → Waits a → Waits b → IsTold (equate facts (record { placed = l.placed; target = l.target; found = a }) (record { placed = r.placed; target = r.target; found = b }))
-    go (found.value t) (found.fault k) u v = tt
-    go (found.wait p) (found.fault k) u v = tt
-    go (found.fault j) (found.fault k) u v = tt
-    go (found.over j) (found.fault k) u v = tt
-    go (found.fault j) (found.value t) u v = tt
-    go (found.fault j) (found.wait q) u v = tt
-    go (found.fault j) (found.over k) u v = tt
-    go (found.value t) (found.over k) u v = v
-    go (found.wait p) (found.over k) u v = v
-    go (found.over j) (found.over k) u v = v
-    go (found.over j) (found.value t) u v = u
-    go (found.over j) (found.wait q) u v = u
-    go (found.value t) (found.value s) u v = meets_told l.placed l.target (found.value t) s tl u
-    go (found.wait p) (found.value s) u v = meets_told l.placed l.target (found.wait p) s tl u
-    go (found.value t) (found.wait q) u v = meets_told r.placed r.target (found.wait q) t tr v
-    go (found.wait p) (found.wait q) u v = wait_told l.placed r.placed p q u v
+  equate_told : (l r : SideOf) → MaySet (TargetIsOf variables) l.target → MaySet (TargetIsOf variables) r.target → Waits l.found → Waits r.found → IsTold (equate facts l r)
+  equate_told = equate_has IsTold Waits stops facts (TargetIsOf variables) set_told tt tt (λ a b p q u v. if_told (b && not a) _ _ (u, v) (v, u))
 
   module _ (kinds : List Bool) (among : (x : VarId) → IsVariable kinds x → IsVariable (kinds_in variables) x) (defs : List Definition) (definitions : DefinitionsFit defs kinds) (inputs : InputLines) (state : ℕ) where
     evaluated : (e : ExprTree) (env : Bindings) → ExprFits defs kinds e (length env) → BindingsFit (kinds_in variables) env → Waits (outcome facts defs e env)
@@ -197,39 +140,14 @@ module _ (facts : List Fact) (variables : List Variable) (kept : AreOfVariables 
     length_told (pos (suc k)) env n = tt
     length_told (negsuc k) env n = tt
 
-    port_told : (v : Option Tree) (port : List ℕ) (side : SideOf) → MayFit side.target → Waits side.found → IsTold (from_port defs inputs state facts v port side)
+    port_told : (v : Option Tree) (port : List ℕ) (side : SideOf) → MaySet (TargetIsOf variables) side.target → Waits side.found → IsTold (from_port defs inputs state facts v port side)
     port_told None port side h u = tt
     port_told (Some v) port side h u = equate_told side (side_with defs inputs state facts v) h tt u tt
-
-    target_if_fits : (b : Bool) (target : Path → Target) → ((p : Path) → IsVariableOf variables p.var → TargetFits (target p)) → (e : ExprTree) (env : Bindings) → ExprFits defs kinds e (length env) → BindingsFit (kinds_in variables) env
-        → MayFit (target_if defs inputs state facts b target e env)
-    target_if_fits false target up e env fit bs = tt
-    target_if_fits true target up e env fit bs = go (place_outcome facts defs e env) (path_fits facts defs kinds (kinds_in variables) among e env fit bs) where
-      go : (o : PlaceOutcome) → PathFits facts defs kinds (kinds_in variables) among o → MayFit (target_at target o)
-      go (found.path p) h = up p h.0
-      go (found.other o) h = tt
-
-    target_fits : (e : ExprTree) (env : Bindings) → ExprFits defs kinds e (length env) → BindingsFit (kinds_in variables) env → MayFit (target_of defs inputs state facts e env)
-    target_fits (size e) env fit bs = target_if_fits (is_place e) length_at (λ p h. h) e env fit bs
-    target_fits (numeral n) env fit bs = target_if_fits (is_place (numeral n)) value_at (λ p h. h) (numeral n) env fit bs
-    target_fits (boolean b) env fit bs = target_if_fits (is_place (boolean b)) value_at (λ p h. h) (boolean b) env fit bs
-    target_fits (known t) env fit bs = target_if_fits (is_place (known t)) value_at (λ p h. h) (known t) env fit bs
-    target_fits (bound i) env fit bs = target_if_fits (is_place (bound i)) value_at (λ p h. h) (bound i) env fit bs
-    target_fits (global x) env fit bs = target_if_fits (is_place (global x)) value_at (λ p h. h) (global x) env fit bs
-    target_fits (listing es) env fit bs = target_if_fits (is_place (listing es)) value_at (λ p h. h) (listing es) env fit bs
-    target_fits (index e i) env fit bs = target_if_fits (is_place (index e i)) value_at (λ p h. h) (index e i) env fit bs
-    target_fits (minus e) env fit bs = target_if_fits (is_place (minus e)) value_at (λ p h. h) (minus e) env fit bs
-    target_fits (negation e) env fit bs = target_if_fits (is_place (negation e)) value_at (λ p h. h) (negation e) env fit bs
-    target_fits (both es) env fit bs = target_if_fits (is_place (both es)) value_at (λ p h. h) (both es) env fit bs
-    target_fits (either a b) env fit bs = target_if_fits (is_place (either a b)) value_at (λ p h. h) (either a b) env fit bs
-    target_fits (binary o a b) env fit bs = target_if_fits (is_place (binary o a b)) value_at (λ p h. h) (binary o a b) env fit bs
-    target_fits (choice c a b) env fit bs = target_if_fits (is_place (choice c a b)) value_at (λ p h. h) (choice c a b) env fit bs
-    target_fits (invoke i es) env fit bs = target_if_fits (is_place (invoke i es)) value_at (λ p h. h) (invoke i es) env fit bs
 
     formula_told : (f : FormulaTree) (env : Bindings) (p : Place) (n : Numbers) → PhraseFits defs kinds variables f env → IsTold (formula_step defs inputs state facts f env p n)
     formula_told trivial env p n fit = tt
     formula_told (test e) env p n fit = truth_told (outcome facts defs e env) _ (evaluated e env fit.0 fit.1) (λ b. if_told b _ _ tt tt)
-    formula_told (equation l r) env p n fit = equate_told (side_of defs inputs state facts l env) (side_of defs inputs state facts r env) (target_fits l env fit.0.0 fit.1) (target_fits r env fit.0.1 fit.1) (evaluated l env fit.0.0 fit.1) (evaluated r env fit.0.1 fit.1)
+    formula_told (equation l r) env p n fit = equate_told (side_of defs inputs state facts l env) (side_of defs inputs state facts r env) (target_fits facts kinds variables among defs inputs state l env fit.0.0 fit.1) (target_fits facts kinds variables among defs inputs state r env fit.0.1 fit.1) (evaluated l env fit.0.0 fit.1) (evaluated r env fit.0.1 fit.1)
     formula_told (next_equation k t e) env p n fit = value_told (outcome facts defs e env) _ (evaluated e env fit.0.1 fit.1) (λ v. marking_told Going (p.is Ending) p.depth _ _)
     formula_told empty env p n fit = marking_told Ending (p.is Going) p.depth _ _
     formula_told more env p n fit = marking_told Going (p.is Ending) p.depth _ _
@@ -249,7 +167,7 @@ module _ (facts : List Fact) (variables : List Variable) (kept : AreOfVariables 
     formula_told (project f g) env p n fit = if_told (nat_lt p.depth region_limit) _ _ tt tt
     formula_told (exists name lasting f) env p n fit = tt
     formula_told (call i es) env p n fit = called_told (slice_get defs i) es env n fit.0.3 fit.1
-    formula_told (input x port) env p n fit = port_told (input_at inputs state port) port (side_of defs inputs state facts x env) (target_fits x env fit.0 fit.1) (evaluated x env fit.0 fit.1)
+    formula_told (input x port) env p n fit = port_told (input_at inputs state port) port (side_of defs inputs state facts x env) (target_fits facts kinds variables among defs inputs state x env fit.0 fit.1) (evaluated x env fit.0 fit.1)
     formula_told (display es) env p n fit = values_told es env _ fit.0 fit.1 (λ vs. tt)
 
     leaf_told : (l : Leaf) (p : Place) (n : Numbers) → LeafFits defs kinds variables l p → IsTold (leaf_step defs inputs state facts l p n)

@@ -1,23 +1,22 @@
 -- The facts of a reduction stand apart from each other and from those that are kept.
 use Rattle.std.proofs.Common.{◌≡◌, ℤ, pos, negsuc, int_le, ℕ, zero, suc, nat_lt, Bool, true, false, ◌&&◌, not, List, [], ◌∷◌, ◌++◌, eqb, refl, sym, subst, append-nil, if◌then◌else◌, slice_get}
 use Rattle.std.specs.Prelude.{Option, Some, None}
-use Rattle.std.proofs.lemmas.Bool.{cond_both}
-use Rattle.tp_value.specs.Tree.{Tree, num, truth, list, same_tree}
+use Rattle.tp_value.specs.Tree.{Tree, num, truth, list}
 use Rattle.tp_value.specs.Limits.{length_limit}
 use Rattle.tp_value.specs.declared.path.Path.{Path}
 use Rattle.tp_value.specs.declared.path.Fact.{Fact}
 use Rattle.tp_value.specs.declared.value.Shape.TheVariants.{Items}
-use Rattle.tp_meaning.specs.Syntax.{ExprTree, ExprTrees, no_expr, expr_then, FormulaTree, trivial, test, equation, next_equation, empty, more, next, weak_next, if_more, if_empty, always, conjunction, branch, len, assign, chop, while, for_from, forall_from, project, exists, call, input, display, Definition, BindingTree, known_binding}
-use Rattle.tp_meaning.specs.Value.{is_upper}
+use Rattle.tp_meaning.specs.Syntax.{ExprTrees, FormulaTree, trivial, test, equation, next_equation, empty, more, next, weak_next, if_more, if_empty, always, conjunction, branch, len, assign, chop, while, for_from, forall_from, project, exists, call, input, display, Definition}
 use Rattle.tp_meaning.specs.Inputs.{InputLines, input_at}
 use Rattle.tp_store.specs.Facts.{fact, facts_at}
 use Rattle.tp_store.specs.Known.{NoClash, Addition, adds, refuses, addition}
 use Rattle.tp_eval.specs.Outcome as found
 use Rattle.tp_eval.specs.Outcome.{PlaceOutcome, outcome, place_outcome}
 use Rattle.tp_scene.specs.Scene.{Bindings, Side, Ending, Going, Leaf, Do, Later, Shown, Holder, Split, SplitProject, Closed, Opened, Running, Entries, none, leaf, node, Region, second_lives, has, Place, held_place, second_place}
-use Rattle.tp_scene.specs.Step.{region_limit, PickOutcome, reduces, waits, rests, clashes, misses, passes, Numbers, marking, by_status, with_value, with_truth, with_number, Target, value_at, length_at, set, added, SideOf, meets, both_wait, equate, side_of, side_with, with_values, with_place, with_argument, with_arguments, called, length_left, from_port, formula_step, leaf_step, holder_step}
+use Rattle.tp_scene.specs.Step.{region_limit, PickOutcome, reduces, waits, rests, clashes, misses, passes, Numbers, marking, by_status, with_value, with_truth, with_number, Target, value_at, length_at, set, added, SideOf, equate, side_of, side_with, with_values, called, length_left, from_port, formula_step, leaf_step, holder_step}
 use Rattle.tp_scene.specs.Pick.{Setting, pick}
 use Rattle.tp_scene.proofs.Frame.{region}
+use Rattle.tp_scene.proofs.Parts.{if_has, status_has, Stops, value_has, truth_has, number_has, Anything, anything_set, equate_has, values_have, arguments_have, Whatever}
 
 -- the facts of a value stand apart
 abbrev pub ValuesApart : Type 0
@@ -40,37 +39,26 @@ module _ (facts : List Fact) (kept : NoClash facts) where
   nothing_new = subst (λ (fs : List Fact). NoClash fs) (sym (append-nil facts)) kept
 
   if_apart : (b : Bool) (o o' : PickOutcome) → IsApart o → IsApart o' → IsApart (if b then o else o')
-  if_apart true o o' h h' = h
-  if_apart false o o' h h' = h'
+  if_apart = if_has IsApart
+
+  stops : Stops IsApart Whatever
+  stops = record { wait = λ q u. tt; fault = λ k. tt; over = λ k u. tt }
 
   marking_apart : (z : Side) (b : Bool) (depth : ℕ) (news : Entries) (items : ℕ) → IsApart (marking z b depth news items)
   marking_apart z true depth news items = tt
   marking_apart z false depth news items = nothing_new
 
   status_apart : (p : Place) (o o' : PickOutcome) → IsApart o → IsApart o' → IsApart (by_status p o o')
-  status_apart p o o' h h' = cond_both (p.is Going) _ _ IsApart (λ _. h) (λ _. cond_both (p.is Ending) _ _ IsApart (λ _. h') (λ _. tt))
+  status_apart p o o' h h' = status_has IsApart p o o' (λ g. h) (λ g e. h') (λ g e. tt)
 
   value_apart : (o : found.Outcome) (f : Tree → PickOutcome) → ((t : Tree) → IsApart (f t)) → IsApart (with_value o f)
-  value_apart (found.value t) f h = h t
-  value_apart (found.wait p) f h = tt
-  value_apart (found.fault k) f h = tt
-  value_apart (found.over k) f h = tt
+  value_apart o f h = value_has IsApart Whatever stops o f tt h
 
   truth_apart : (o : found.Outcome) (f : Bool → PickOutcome) → ((b : Bool) → IsApart (f b)) → IsApart (with_truth o f)
-  truth_apart (found.value (truth b)) f h = h b
-  truth_apart (found.value (num n)) f h = tt
-  truth_apart (found.value (list ts)) f h = tt
-  truth_apart (found.wait p) f h = tt
-  truth_apart (found.fault k) f h = tt
-  truth_apart (found.over k) f h = tt
+  truth_apart o f h = truth_has IsApart Whatever stops o f tt h
 
   number_apart : (o : found.Outcome) (f : ℤ → PickOutcome) → ((n : ℤ) → IsApart (f n)) → IsApart (with_number o f)
-  number_apart (found.value (num n)) f h = h n
-  number_apart (found.value (truth b)) f h = tt
-  number_apart (found.value (list ts)) f h = tt
-  number_apart (found.wait p) f h = tt
-  number_apart (found.fault k) f h = tt
-  number_apart (found.over k) f h = tt
+  number_apart o f h = number_has IsApart Whatever stops o f tt h
 
   module _ (values : ValuesApart) (additions : AdditionsApart) where
     added_apart : (xs : List Fact) → NoClash xs → (o : Addition) → addition facts xs ≡ o → IsApart (added o)
@@ -84,58 +72,15 @@ module _ (facts : List Fact) (kept : NoClash facts) where
     set_apart (length_at p) (truth b) = tt
     set_apart (length_at p) (list ts) = tt
 
-    meets_apart : (side : SideOf) (v : Tree) → IsApart (meets facts side v)
-    meets_apart side v = go side.target side.found where
-      go : (target : Option Target) (o : found.Outcome) → IsApart (meets facts (record { placed = side.placed; target = target; found = o }) v)
-      go (Some t) o = set_apart t v
-      go None (found.value u) = if_apart (same_tree u v) _ _ nothing_new tt
-      go None (found.wait p) = tt
-      go None (found.fault k) = tt
-      go None (found.over k) = tt
-
-    wait_apart : (l r : Bool) (p q : Path) → IsApart (both_wait facts l r p q)
-    wait_apart l r p q = if_apart (r && not l) _ _ tt tt
-
     equate_apart : (l r : SideOf) → IsApart (equate facts l r)
-    equate_apart l r = go l.found r.found where
-      go : (a b : found.Outcome) → IsApart (equate facts (record { placed = l.placed; target = l.target; found = a }) (record { placed = r.placed; target = r.target; found = b }))
-      go (found.value t) (found.fault k) = tt
-      go (found.wait p) (found.fault k) = tt
-      go (found.fault j) (found.fault k) = tt
-      go (found.over j) (found.fault k) = tt
-      go (found.fault j) (found.value u) = tt
-      go (found.fault j) (found.wait q) = tt
-      go (found.fault j) (found.over k) = tt
-      go (found.value t) (found.over k) = tt
-      go (found.wait p) (found.over k) = tt
-      go (found.over j) (found.over k) = tt
-      go (found.over j) (found.value u) = tt
-      go (found.over j) (found.wait q) = tt
-      go (found.value t) (found.value u) = meets_apart (record { placed = l.placed; target = l.target; found = found.value t }) u
-      go (found.wait p) (found.value u) = meets_apart (record { placed = l.placed; target = l.target; found = found.wait p }) u
-      go (found.value t) (found.wait q) = meets_apart (record { placed = r.placed; target = r.target; found = found.wait q }) t
-      go (found.wait p) (found.wait q) = wait_apart l.placed r.placed p q
+    equate_apart l r = equate_has IsApart Whatever stops facts Anything (λ t v u. set_apart t v) nothing_new tt (λ a b p q u v. if_apart (b && not a) _ _ tt tt) l r (anything_set l.target) (anything_set r.target) tt tt
 
     module _ (defs : List Definition) (inputs : InputLines) (state : ℕ) where
       values_apart : (es : ExprTrees) (env : Bindings) (f : List Tree → PickOutcome) → ((vs : List Tree) → IsApart (f vs)) → IsApart (with_values defs inputs state facts es env f)
-      values_apart no_expr env f h = h []
-      values_apart (expr_then e es) env f h = value_apart (outcome facts defs e env) _ (λ v. values_apart es env _ (λ vs. h (v ∷ vs)))
-
-      place_apart : (o : PlaceOutcome) (f : BindingTree → PickOutcome) → ((b : BindingTree) → IsApart (f b)) → IsApart (with_place defs inputs state facts o f)
-      place_apart (found.path p) f h = h _
-      place_apart (found.other o) f h = value_apart o _ (λ v. h (known_binding v))
-
-      argument_apart : (x : List ℕ) (e : ExprTree) (env : Bindings) (f : BindingTree → PickOutcome) → ((b : BindingTree) → IsApart (f b)) → IsApart (with_argument defs inputs state facts x e env f)
-      argument_apart x e env f h = if_apart (is_upper x) _ _ (place_apart (place_outcome facts defs e env) f h) (value_apart (outcome facts defs e env) _ (λ v. h (known_binding v)))
-
-      arguments_apart : (es : ExprTrees) (xs : List (List ℕ)) (env : Bindings) (f : Bindings → PickOutcome) → ((bs : Bindings) → IsApart (f bs)) → IsApart (with_arguments defs inputs state facts es xs env f)
-      arguments_apart no_expr [] env f h = h []
-      arguments_apart (expr_then e es) (x ∷ xs) env f h = argument_apart x e env _ (λ b. arguments_apart es xs env _ (λ bs. h (b ∷ bs)))
-      arguments_apart no_expr (x ∷ xs) env f h = tt
-      arguments_apart (expr_then e es) [] env f h = tt
+      values_apart = values_have IsApart Whatever stops defs inputs state facts (λ e env. tt)
 
       called_apart : (d : Option Definition) (es : ExprTrees) (env : Bindings) (n : Numbers) → IsApart (called defs inputs state facts d es env n)
-      called_apart (Some d) es env n = arguments_apart es d.parameters env _ (λ bs. nothing_new)
+      called_apart (Some d) es env n = arguments_have IsApart Whatever stops defs inputs state facts (λ e env. tt) (λ e env o q. tt) es d.parameters env _ (λ bs. nothing_new)
       called_apart None es env n = tt
 
       length_apart : (k : ℤ) (env : Bindings) (n : Numbers) → IsApart (length_left defs inputs state facts k env n)

@@ -16,6 +16,7 @@ pub mod CallRows
 pub mod HolderRows
 pub mod Agree
 pub mod Law
+pub mod Parts
 pub mod Apart
 pub mod MoveScene
 pub mod Quiet
@@ -31,6 +32,7 @@ pub mod Rows
 pub mod Adding
 pub mod StepLaws
 pub mod PathFits
+pub mod Targets
 pub mod NewsFit
 pub mod Grown
 pub mod Plain

@@ -2,7 +2,7 @@
 use Rattle.std.proofs.Common.{◌≡◌, ℤ, pos, negsuc, ◌+ℤ◌, int_le, ℕ, zero, suc, ◌-◌, ◌<◌, ◌≤◌, nat_lt, Bool, true, false, ◌&&◌, ◌||◌, not, List, [], ◌∷◌, ◌++◌, length, slice_get, Option, Some, None, refl, ap, sym, subst, arith, if◌then◌else◌}
 use Rattle.std.proofs.lemmas.Bool.{cond_both, ltb-true, false≢true}
 use Rattle.std.proofs.lemmas.List.{length-append}
-use Rattle.tp_value.specs.Tree.{Tree, num, truth, list, same_tree}
+use Rattle.tp_value.specs.Tree.{Tree, num, truth, list}
 use Rattle.tp_value.specs.Limits.{length_limit}
 use Rattle.tp_value.specs.declared.path.Fact.{Fact}
 use Rattle.tp_value.specs.declared.path.VarId.{VarId}
@@ -17,9 +17,10 @@ use Rattle.tp_store.specs.Known.{Variable, Addition, adds, refuses, addition}
 use Rattle.tp_eval.specs.Outcome as found
 use Rattle.tp_eval.specs.Outcome.{PlaceOutcome, outcome, place_outcome}
 use Rattle.tp_scene.specs.Scene.{Bindings, Side, Ending, Going, marked, Leaf, Do, Later, Shown, Holder, Split, Opened, Entries, none, leaf, node, append, new_head, no_region, Place, held_place}
-use Rattle.tp_scene.specs.Step.{region_limit, PickOutcome, reduces, waits, rests, clashes, misses, passes, Numbers, marking, with_region, by_status, with_value, with_truth, with_number, Target, value_at, length_at, set, added, SideOf, meets, equate, side_of, side_with, with_values, with_place, with_argument, with_arguments, called, length_left, from_port, all_do, formula_step, leaf_step}
+use Rattle.tp_scene.specs.Step.{region_limit, PickOutcome, reduces, waits, rests, clashes, misses, passes, Numbers, marking, with_region, by_status, with_value, with_truth, with_number, Target, value_at, length_at, set, added, SideOf, equate, side_of, side_with, with_values, with_place, with_argument, with_arguments, called, length_left, from_port, all_do, formula_step, leaf_step}
 use Rattle.tp_scene.specs.Fits.{kinds_in, IsCalm, PhraseFits, LeafFits, EntriesFit}
 use Rattle.tp_scene.proofs.PathFits.{PathFits, path_fits}
+use Rattle.tp_scene.proofs.Parts.{Anything, anything_set, Stops, value_has, truth_has, number_has, equate_has, values_have, Whatever}
 
 module _ (defs : List Definition) (kinds : List Bool) (variables : List Variable) where
   pub entries_calm : (es : Entries) (p : Place) → EntriesFit defs kinds variables es p → IsCalm p
@@ -82,27 +83,17 @@ module _ (defs : List Definition) (kinds : List Bool) (definitions : Definitions
       → EntriesFit defs kinds variables (leaf id (Do f env) none) (held_place k (new_head number) (leaf id (Do f env) none) p)
   region_fits k number id f env p h calm l up = (h, ((λ e g. calm (up Ending e) (up Going g)), omega (arith, l)))
 
+  stops : (p : Place) → Stops (λ o. FitsAs o p) Whatever
+  stops p = record { wait = λ q u. tt; fault = λ k. tt; over = λ k u. tt }
+
   value_fits : (o : found.Outcome) (f : Tree → PickOutcome) (p : Place) → ((t : Tree) → FitsAs (f t) p) → FitsAs (with_value o f) p
-  value_fits (found.value t) f p h = h t
-  value_fits (found.wait q) f p h = tt
-  value_fits (found.fault k) f p h = tt
-  value_fits (found.over k) f p h = tt
+  value_fits o f p h = value_has (λ x. FitsAs x p) Whatever (stops p) o f tt h
 
   truth_fits : (o : found.Outcome) (f : Bool → PickOutcome) (p : Place) → ((b : Bool) → FitsAs (f b) p) → FitsAs (with_truth o f) p
-  truth_fits (found.value (truth b)) f p h = h b
-  truth_fits (found.value (num m)) f p h = tt
-  truth_fits (found.value (list ts)) f p h = tt
-  truth_fits (found.wait q) f p h = tt
-  truth_fits (found.fault k) f p h = tt
-  truth_fits (found.over k) f p h = tt
+  truth_fits o f p h = truth_has (λ x. FitsAs x p) Whatever (stops p) o f tt h
 
   number_fits : (o : found.Outcome) (f : ℤ → PickOutcome) (p : Place) → ((m : ℤ) → FitsAs (f m) p) → FitsAs (with_number o f) p
-  number_fits (found.value (num m)) f p h = h m
-  number_fits (found.value (truth b)) f p h = tt
-  number_fits (found.value (list ts)) f p h = tt
-  number_fits (found.wait q) f p h = tt
-  number_fits (found.fault k) f p h = tt
-  number_fits (found.over k) f p h = tt
+  number_fits o f p h = number_has (λ x. FitsAs x p) Whatever (stops p) o f tt h
 
   set_fits : (t : Target) (v : Tree) (p : Place) → FitsAs (set facts t v) p
   set_fits (value_at q) v p = go (addition facts (facts_at q v)) where
@@ -117,38 +108,12 @@ module _ (defs : List Definition) (kinds : List Bool) (definitions : Definitions
   set_fits (length_at q) (truth b) p = tt
   set_fits (length_at q) (list ts) p = tt
 
-  meets_fits : (side : SideOf) (v : Tree) (p : Place) → FitsAs (meets facts side v) p
-  meets_fits side v p = go side.target side.found where
-    go : (target : Option Target) (o : found.Outcome) → FitsAs (meets facts (record { placed = side.placed; target = target; found = o }) v) p
-    go (Some t) o = set_fits t v p
-    go None (found.value u) = cond_both (same_tree u v) _ _ (λ o. FitsAs o p) (λ _ m l rest fit. fit) (λ _. tt)
-    go None (found.wait q) = tt
-    go None (found.fault k) = tt
-    go None (found.over k) = tt
-
   equate_fits : (l r : SideOf) (p : Place) → FitsAs (equate facts l r) p
-  equate_fits l r p = go l.found r.found where
-    go : (a b : found.Outcome) → FitsAs (equate facts (record { placed = l.placed; target = l.target; found = a }) (record { placed = r.placed; target = r.target; found = b })) p
-    go (found.value t) (found.fault k) = tt
-    go (found.wait q) (found.fault k) = tt
-    go (found.fault j) (found.fault k) = tt
-    go (found.over j) (found.fault k) = tt
-    go (found.fault j) (found.value u) = tt
-    go (found.fault j) (found.wait q) = tt
-    go (found.fault j) (found.over k) = tt
-    go (found.value t) (found.over k) = tt
-    go (found.wait q) (found.over k) = tt
-    go (found.over j) (found.over k) = tt
-    go (found.over j) (found.value u) = tt
-    go (found.over j) (found.wait q) = tt
-    go (found.value t) (found.value u) = meets_fits (record { placed = l.placed; target = l.target; found = found.value t }) u p
-    go (found.wait q) (found.value u) = meets_fits (record { placed = l.placed; target = l.target; found = found.wait q }) u p
-    go (found.value t) (found.wait q) = meets_fits (record { placed = r.placed; target = r.target; found = found.wait q }) t p
-    go (found.wait q) (found.wait q') = cond_both (r.placed && not l.placed) _ _ (λ o. FitsAs o p) (λ _. tt) (λ _. tt)
+  equate_fits l r p =
+      equate_has (λ x. FitsAs x p) Whatever (stops p) facts Anything (λ t v u. set_fits t v p) (λ m x rest fit. fit) tt (λ a b x y u v. cond_both (b && not a) _ _ (λ o. FitsAs o p) (λ _. tt) (λ _. tt)) l r (anything_set l.target) (anything_set r.target) tt tt
 
   values_fit : (es : ExprTrees) (env : Bindings) (f : List Tree → PickOutcome) (p : Place) → ((vs : List Tree) → FitsAs (f vs) p) → FitsAs (with_values defs inputs state facts es env f) p
-  values_fit no_expr env f p h = h []
-  values_fit (expr_then e es) env f p h = value_fits (outcome facts defs e env) _ p (λ v. values_fit es env _ p (λ vs. h (v ∷ vs)))
+  values_fit es env f p h = values_have (λ x. FitsAs x p) Whatever (stops p) defs inputs state facts (λ e x. tt) es env f h
 
   place_fits : (o : PlaceOutcome) (f : BindingTree → PickOutcome) (p : Place) → PathFits facts defs kinds all among o → ((b : BindingTree) → BindingFits all b → FitsAs (f b) p) → FitsAs (with_place defs inputs state facts o f) p
   place_fits (found.path q) f p fit h = h (place_binding q) fit

@@ -1,22 +1,21 @@
 -- What a formula becomes: new items in order, or one new region with one item, and a mark on a side whose other side the region hasn't.
 use Rattle.std.proofs.Common.{◌≡◌, ℤ, pos, negsuc, ◌+ℤ◌, int_le, ℕ, zero, suc, nat_lt, Bool, true, false, ◌&&◌, not, List, [], ◌∷◌, ◌++◌, ◌+◌, ◌⊎◌, inl, inr, arith, refl, ap, ◌∙◌, subst, if◌then◌else◌, slice_get}
 use Rattle.std.specs.Prelude.{Option, Some, None}
-use Rattle.std.proofs.lemmas.Bool.{cond_both, false≢true}
-use Rattle.tp_value.specs.Tree.{Tree, num, truth, list, same_tree}
+use Rattle.std.proofs.lemmas.Bool.{false≢true}
+use Rattle.tp_value.specs.Tree.{Tree, num, truth, list}
 use Rattle.tp_value.specs.Limits.{length_limit}
-use Rattle.tp_value.specs.declared.path.Path.{Path}
 use Rattle.tp_value.specs.declared.path.Fact.{Fact}
 use Rattle.tp_value.specs.declared.value.Shape.TheVariants.{Items}
-use Rattle.tp_meaning.specs.Syntax.{ExprTree, numeral, ExprTrees, no_expr, expr_then, FormulaTree, trivial, test, equation, next_equation, empty, more, next, weak_next, if_more, if_empty, always, conjunction, branch, len, assign, chop, while, for_from, forall_from, project, exists, call, input, display, FormulaTrees, no_formula, formula_then, Definition, BindingTree, known_binding}
-use Rattle.tp_meaning.specs.Value.{is_upper}
+use Rattle.tp_meaning.specs.Syntax.{numeral, ExprTrees, FormulaTree, trivial, test, equation, next_equation, empty, more, next, weak_next, if_more, if_empty, always, conjunction, branch, len, assign, chop, while, for_from, forall_from, project, exists, call, input, display, FormulaTrees, no_formula, formula_then, Definition, known_binding}
 use Rattle.tp_meaning.specs.Inputs.{InputLines, input_at}
 use Rattle.tp_store.specs.Facts.{fact, facts_at}
 use Rattle.tp_store.specs.Known.{Addition, adds, refuses, addition}
 use Rattle.tp_eval.specs.Outcome as found
 use Rattle.tp_eval.specs.Outcome.{PlaceOutcome, outcome, place_outcome}
 use Rattle.tp_scene.specs.Scene.{Bindings, Side, Ending, Going, Leaf, Do, Later, Shown, Holder, Split, SplitProject, Closed, Opened, Running, Entries, none, leaf, node, new_head, no_region, Place}
-use Rattle.tp_scene.specs.Step.{region_limit, becomes, all_do, count_of, Reduction, PickOutcome, reduces, waits, rests, clashes, misses, passes, Numbers, marking, by_status, with_value, with_truth, with_number, Target, value_at, length_at, set, added, SideOf, meets, both_wait, equate, side_of, side_with, with_values, with_place, with_argument, with_arguments, called, length_left, from_port, formula_step, leaf_step}
+use Rattle.tp_scene.specs.Step.{region_limit, becomes, all_do, count_of, Reduction, PickOutcome, reduces, waits, rests, clashes, misses, passes, Numbers, marking, by_status, with_value, with_truth, with_number, Target, value_at, length_at, set, added, SideOf, equate, side_of, side_with, with_values, called, length_left, from_port, formula_step, leaf_step}
 use Rattle.tp_scene.proofs.Grown.{other_side}
+use Rattle.tp_scene.proofs.Parts.{if_has, status_has, Stops, value_has, truth_has, number_has, Anything, anything_set, equate_has, values_have, arguments_have, Whatever}
 
 -- the new items with these numbers, in order
 abbrev pub FreshLeaves : Numbers → (from : ℕ) → Entries → (to : ℕ) → Type 0
@@ -66,37 +65,26 @@ module _ (facts : List Fact) (p : Place) (n : Numbers) where
   same_mark x z q e f = let s : z ≡ x = cc in false≢true (q ∙ ap (λ (y : Side). p.is (other_side y)) s ∙ f)
 
   if_plain : (b : Bool) (o o' : PickOutcome) → IsPlain o → IsPlain o' → IsPlain (if b then o else o')
-  if_plain true o o' h h' = h
-  if_plain false o o' h h' = h'
+  if_plain = if_has IsPlain
+
+  stops : Stops IsPlain Whatever
+  stops = record { wait = λ q u. tt; fault = λ k. tt; over = λ k u. tt }
 
   marking_plain : (z : Side) (b : Bool) → b ≡ p.is (other_side z) → (depth : ℕ) (news : Entries) (items : ℕ) → FreshLeaves n 0 news items → IsPlain (marking z b depth news items)
   marking_plain z true q depth news items h = tt
   marking_plain z false q depth news items h = record { mark = λ x e f. same_mark x z q e f; news = inl (h, refl) }
 
   status_plain : (o o' : PickOutcome) → IsPlain o → IsPlain o' → IsPlain (by_status p o o')
-  status_plain o o' h h' = cond_both (p.is Going) _ _ IsPlain (λ _. h) (λ _. cond_both (p.is Ending) _ _ IsPlain (λ _. h') (λ _. tt))
+  status_plain o o' h h' = status_has IsPlain p o o' (λ g. h) (λ g e. h') (λ g e. tt)
 
   value_plain : (o : found.Outcome) (f : Tree → PickOutcome) → ((t : Tree) → IsPlain (f t)) → IsPlain (with_value o f)
-  value_plain (found.value t) f h = h t
-  value_plain (found.wait p) f h = tt
-  value_plain (found.fault k) f h = tt
-  value_plain (found.over k) f h = tt
+  value_plain o f h = value_has IsPlain Whatever stops o f tt h
 
   truth_plain : (o : found.Outcome) (f : Bool → PickOutcome) → ((b : Bool) → IsPlain (f b)) → IsPlain (with_truth o f)
-  truth_plain (found.value (truth b)) f h = h b
-  truth_plain (found.value (num n)) f h = tt
-  truth_plain (found.value (list ts)) f h = tt
-  truth_plain (found.wait p) f h = tt
-  truth_plain (found.fault k) f h = tt
-  truth_plain (found.over k) f h = tt
+  truth_plain o f h = truth_has IsPlain Whatever stops o f tt h
 
   number_plain : (o : found.Outcome) (f : ℤ → PickOutcome) → ((n : ℤ) → IsPlain (f n)) → IsPlain (with_number o f)
-  number_plain (found.value (num n)) f h = h n
-  number_plain (found.value (truth b)) f h = tt
-  number_plain (found.value (list ts)) f h = tt
-  number_plain (found.wait p) f h = tt
-  number_plain (found.fault k) f h = tt
-  number_plain (found.over k) f h = tt
+  number_plain o f h = number_has IsPlain Whatever stops o f tt h
 
   added_plain : (o : Addition) → IsPlain (added o)
   added_plain (adds news) = nothing_new
@@ -109,58 +97,15 @@ module _ (facts : List Fact) (p : Place) (n : Numbers) where
   set_plain (length_at p) (truth b) = tt
   set_plain (length_at p) (list ts) = tt
 
-  meets_plain : (side : SideOf) (v : Tree) → IsPlain (meets facts side v)
-  meets_plain side v = go side.target side.found where
-    go : (target : Option Target) (o : found.Outcome) → IsPlain (meets facts (record { placed = side.placed; target = target; found = o }) v)
-    go (Some t) o = set_plain t v
-    go None (found.value u) = if_plain (same_tree u v) _ _ nothing_new tt
-    go None (found.wait p) = tt
-    go None (found.fault k) = tt
-    go None (found.over k) = tt
-
-  wait_plain : (l r : Bool) (p q : Path) → IsPlain (both_wait facts l r p q)
-  wait_plain l r p q = if_plain (r && not l) _ _ tt tt
-
   equate_plain : (l r : SideOf) → IsPlain (equate facts l r)
-  equate_plain l r = go l.found r.found where
-    go : (a b : found.Outcome) → IsPlain (equate facts (record { placed = l.placed; target = l.target; found = a }) (record { placed = r.placed; target = r.target; found = b }))
-    go (found.value t) (found.fault k) = tt
-    go (found.wait p) (found.fault k) = tt
-    go (found.fault j) (found.fault k) = tt
-    go (found.over j) (found.fault k) = tt
-    go (found.fault j) (found.value u) = tt
-    go (found.fault j) (found.wait q) = tt
-    go (found.fault j) (found.over k) = tt
-    go (found.value t) (found.over k) = tt
-    go (found.wait p) (found.over k) = tt
-    go (found.over j) (found.over k) = tt
-    go (found.over j) (found.value u) = tt
-    go (found.over j) (found.wait q) = tt
-    go (found.value t) (found.value u) = meets_plain (record { placed = l.placed; target = l.target; found = found.value t }) u
-    go (found.wait p) (found.value u) = meets_plain (record { placed = l.placed; target = l.target; found = found.wait p }) u
-    go (found.value t) (found.wait q) = meets_plain (record { placed = r.placed; target = r.target; found = found.wait q }) t
-    go (found.wait p) (found.wait q) = wait_plain l.placed r.placed p q
+  equate_plain l r = equate_has IsPlain Whatever stops facts Anything (λ t v u. set_plain t v) nothing_new tt (λ a b x y u v. if_plain (b && not a) _ _ tt tt) l r (anything_set l.target) (anything_set r.target) tt tt
 
   module _ (defs : List Definition) (inputs : InputLines) (state : ℕ) where
     values_plain : (es : ExprTrees) (env : Bindings) (f : List Tree → PickOutcome) → ((vs : List Tree) → IsPlain (f vs)) → IsPlain (with_values defs inputs state facts es env f)
-    values_plain no_expr env f h = h []
-    values_plain (expr_then e es) env f h = value_plain (outcome facts defs e env) _ (λ v. values_plain es env _ (λ vs. h (v ∷ vs)))
-
-    place_plain : (o : PlaceOutcome) (f : BindingTree → PickOutcome) → ((b : BindingTree) → IsPlain (f b)) → IsPlain (with_place defs inputs state facts o f)
-    place_plain (found.path p) f h = h _
-    place_plain (found.other o) f h = value_plain o _ (λ v. h (known_binding v))
-
-    argument_plain : (x : List ℕ) (e : ExprTree) (env : Bindings) (f : BindingTree → PickOutcome) → ((b : BindingTree) → IsPlain (f b)) → IsPlain (with_argument defs inputs state facts x e env f)
-    argument_plain x e env f h = if_plain (is_upper x) _ _ (place_plain (place_outcome facts defs e env) f h) (value_plain (outcome facts defs e env) _ (λ v. h (known_binding v)))
-
-    arguments_plain : (es : ExprTrees) (xs : List (List ℕ)) (env : Bindings) (f : Bindings → PickOutcome) → ((bs : Bindings) → IsPlain (f bs)) → IsPlain (with_arguments defs inputs state facts es xs env f)
-    arguments_plain no_expr [] env f h = h []
-    arguments_plain (expr_then e es) (x ∷ xs) env f h = argument_plain x e env _ (λ b. arguments_plain es xs env _ (λ bs. h (b ∷ bs)))
-    arguments_plain no_expr (x ∷ xs) env f h = tt
-    arguments_plain (expr_then e es) [] env f h = tt
+    values_plain = values_have IsPlain Whatever stops defs inputs state facts (λ e env. tt)
 
     called_plain : (d : Option Definition) (es : ExprTrees) (env : Bindings) → IsPlain (called defs inputs state facts d es env n)
-    called_plain (Some d) es env = arguments_plain es d.parameters env _ (λ bs. leaves_plain _ 1 (refl, refl))
+    called_plain (Some d) es env = arguments_have IsPlain Whatever stops defs inputs state facts (λ e env. tt) (λ e env o q. tt) es d.parameters env _ (λ bs. leaves_plain _ 1 (refl, refl))
     called_plain None es env = tt
 
     length_plain : (k : ℤ) (env : Bindings) → IsPlain (length_left defs inputs state facts k env n)

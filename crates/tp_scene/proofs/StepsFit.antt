@@ -20,7 +20,8 @@ use Rattle.tp_scene.proofs.PutStatus.{side_of_mark, mark_at_other, marked_apart,
 use Rattle.tp_scene.proofs.PutFits.{marks_in, put_fits}
 use Rattle.tp_scene.proofs.PutNumbers.{between, between_in, between_before, between_after, marked_number, put_items, put_regions}
 use Rattle.tp_scene.proofs.PutInners.{put_inners}
-use Rattle.tp_scene.proofs.NewFacts.{IsOfVariables, of_append, picked_facts}
+use Rattle.tp_scene.proofs.NewFacts.{IsOfVariables, picked_facts}
+use Rattle.tp_scene.proofs.Targets.{of_append}
 
 -- With a new local the variables are those before, and it.
 kind_kept : (xs ys : List Variable) (i : ℕ) (b : Bool) → slice_get (kinds_in xs) i ≡ Some b → slice_get (kinds_in (xs ++ ys)) i ≡ Some b

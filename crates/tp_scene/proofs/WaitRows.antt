@@ -1,14 +1,12 @@
 -- What a step gives where it gives nothing: a formula that is to hold from this state on never rests, and a step waits for open cells alone.
-use Rattle.std.proofs.Common.{◌≡◌, ℤ, pos, negsuc, int_le, ℕ, zero, suc, nat_lt, Bool, true, false, ◌&&◌, not, List, [], ◌∷◌, refl, ap, if◌then◌else◌, slice_get}
+use Rattle.std.proofs.Common.{◌≡◌, ℤ, pos, negsuc, int_le, ℕ, zero, suc, nat_lt, Bool, true, false, ◌&&◌, not, List, [], ◌∷◌, refl, ap, ◌∙◌, if◌then◌else◌, slice_get}
 use Rattle.std.specs.Prelude.{Option, Some, None}
-use Rattle.std.proofs.lemmas.Bool.{cond_both}
-use Rattle.tp_value.specs.Tree.{Tree, num, truth, list, same_tree}
+use Rattle.tp_value.specs.Tree.{Tree, num, truth, list}
 use Rattle.tp_value.specs.Limits.{length_limit}
 use Rattle.tp_value.specs.declared.path.Path.{Path}
 use Rattle.tp_value.specs.declared.path.Fact.{Fact}
 use Rattle.tp_value.specs.declared.value.Shape.TheVariants.{Items}
-use Rattle.tp_meaning.specs.Syntax.{ExprTree, ExprTrees, no_expr, expr_then, FormulaTree, trivial, test, equation, next_equation, empty, more, next, weak_next, if_more, if_empty, always, conjunction, branch, len, assign, chop, while, for_from, forall_from, project, exists, call, input, display, Definition, BindingTree, known_binding}
-use Rattle.tp_meaning.specs.Value.{is_upper}
+use Rattle.tp_meaning.specs.Syntax.{ExprTree, ExprTrees, FormulaTree, trivial, test, equation, next_equation, empty, more, next, weak_next, if_more, if_empty, always, conjunction, branch, len, assign, chop, while, for_from, forall_from, project, exists, call, input, display, Definition}
 use Rattle.tp_meaning.specs.Inputs.{InputLines, input_at}
 use Rattle.tp_store.specs.Facts.{fact, facts_at, kept_shape, is_excluded}
 use Rattle.tp_store.specs.Known.{NoClash, Addition, adds, refuses, addition}
@@ -18,8 +16,9 @@ use Rattle.tp_eval.proofs.OutcomesAre.{waits_are_undecided, place_waits_are_unde
 use Rattle.tp_scene.specs.declared.answer.Cell.{Cell}
 use Rattle.tp_scene.specs.declared.answer.Cell.TheVariants.{Part, End}
 use Rattle.tp_scene.specs.Scene.{Bindings, Side, Ending, Going, Leaf, Do, Later, Shown, Holder, Split, SplitProject, Closed, Opened, Running, Entries, Region, Place}
-use Rattle.tp_scene.specs.Step.{region_limit, PickOutcome, reduces, waits, rests, clashes, misses, passes, Numbers, marking, by_status, with_value, with_truth, with_number, Target, value_at, length_at, set, added, SideOf, meets, both_wait, equate, side_of, side_with, with_values, with_place, with_argument, with_arguments, called, length_left, from_port, formula_step, leaf_step, holder_step}
+use Rattle.tp_scene.specs.Step.{region_limit, PickOutcome, reduces, waits, rests, clashes, misses, passes, Numbers, marking, by_status, with_value, with_truth, with_number, Target, value_at, length_at, set, added, SideOf, equate, side_of, side_with, with_values, called, length_left, from_port, formula_step, leaf_step, holder_step}
 use Rattle.tp_scene.specs.Rest.{is_unsettled, holds_back}
+use Rattle.tp_scene.proofs.Parts.{Anything, anything_set, if_has, status_has, Stops, value_has, truth_has, number_has, equate_has, values_have, arguments_have}
 
 -- the path has no shape, and none is excluded there
 abbrev pub IsUndecided : List Fact → Path → Type 0
@@ -58,37 +57,26 @@ module _ (facts : List Fact) (apart : NoClash facts) (Idle : Type 0) (p : Place)
   undecided_by (found.over k) h = tt
 
   if_answers : (b : Bool) (o o' : PickOutcome) → Answers o → Answers o' → Answers (if b then o else o')
-  if_answers true o o' h h' = h
-  if_answers false o o' h h' = h'
+  if_answers = if_has Answers
+
+  stops : Stops Answers Undecided
+  stops = record { wait = λ q u. (u, tt); fault = λ k. tt; over = λ k u. tt }
 
   marking_answers : (z : Side) (b : Bool) (depth : ℕ) (news : Entries) (items : ℕ) → Answers (marking z b depth news items)
   marking_answers z true depth news items = tt
   marking_answers z false depth news items = tt
 
   status_answers : (o o' : PickOutcome) → (p.is Going ≡ true → Answers o) → (p.is Going ≡ false → p.is Ending ≡ true → Answers o') → Answers (by_status p o o')
-  status_answers o o' h h' = cond_both (p.is Going) _ _ Answers h (λ g. cond_both (p.is Ending) _ _ Answers (h' g) (λ e. ((refl, e, g, refl), tt)))
+  status_answers o o' h h' = status_has Answers p o o' h h' (λ g e. ((refl, e, g, refl), tt))
 
   value_answers : (o : found.Outcome) (f : Tree → PickOutcome) → Undecided o → ((t : Tree) → Answers (f t)) → Answers (with_value o f)
-  value_answers (found.value t) f u h = h t
-  value_answers (found.wait q) f u h = (u, tt)
-  value_answers (found.fault k) f u h = tt
-  value_answers (found.over k) f u h = tt
+  value_answers = value_has Answers Undecided stops
 
   truth_answers : (o : found.Outcome) (f : Bool → PickOutcome) → Undecided o → ((b : Bool) → Answers (f b)) → Answers (with_truth o f)
-  truth_answers (found.value (truth b)) f u h = h b
-  truth_answers (found.value (num n)) f u h = tt
-  truth_answers (found.value (list ts)) f u h = tt
-  truth_answers (found.wait q) f u h = (u, tt)
-  truth_answers (found.fault k) f u h = tt
-  truth_answers (found.over k) f u h = tt
+  truth_answers = truth_has Answers Undecided stops
 
   number_answers : (o : found.Outcome) (f : ℤ → PickOutcome) → Undecided o → ((n : ℤ) → Answers (f n)) → Answers (with_number o f)
-  number_answers (found.value (num n)) f u h = h n
-  number_answers (found.value (truth b)) f u h = tt
-  number_answers (found.value (list ts)) f u h = tt
-  number_answers (found.wait q) f u h = (u, tt)
-  number_answers (found.fault k) f u h = tt
-  number_answers (found.over k) f u h = tt
+  number_answers = number_has Answers Undecided stops
 
   added_answers : (o : Addition) → Answers (added o)
   added_answers (adds news) = tt
@@ -101,35 +89,9 @@ module _ (facts : List Fact) (apart : NoClash facts) (Idle : Type 0) (p : Place)
   set_answers (length_at q) (truth b) = tt
   set_answers (length_at q) (list ts) = tt
 
-  meets_answers : (placed : Bool) (target : Option Target) (o : found.Outcome) (v : Tree) → Undecided o → Answers (meets facts (record { placed = placed; target = target; found = o }) v)
-  meets_answers placed (Some t) o v u = set_answers t v
-  meets_answers placed None (found.value x) v u = if_answers (same_tree x v) _ _ tt tt
-  meets_answers placed None (found.wait q) v u = (u, tt)
-  meets_answers placed None (found.fault k) v u = tt
-  meets_answers placed None (found.over k) v u = tt
-
-  both_answer : (l r : Bool) (x y : Path) → IsUndecided facts x → IsUndecided facts y → Answers (both_wait facts l r x y)
-  both_answer l r x y u v = if_answers (r && not l) _ _ (u, v) (v, u)
-
   equate_answers : (l r : SideOf) → Undecided l.found → Undecided r.found → Answers (equate facts l r)
-  equate_answers l r = go l.found r.found where
-    go : (a b : found.Outcome) → Undecided a → Undecided b → Answers (equate facts (record { placed = l.placed; target = l.target; found = a }) (record { placed = r.placed; target = r.target; found = b }))
-    go (found.value t) (found.fault k) u v = tt
-    go (found.wait q) (found.fault k) u v = tt
-    go (found.fault j) (found.fault k) u v = tt
-    go (found.over j) (found.fault k) u v = tt
-    go (found.fault j) (found.value t) u v = tt
-    go (found.fault j) (found.wait q) u v = tt
-    go (found.fault j) (found.over k) u v = tt
-    go (found.value t) (found.over k) u v = tt
-    go (found.wait q) (found.over k) u v = tt
-    go (found.over j) (found.over k) u v = tt
-    go (found.over j) (found.value t) u v = tt
-    go (found.over j) (found.wait q) u v = tt
-    go (found.value t) (found.value s) u v = meets_answers l.placed l.target (found.value t) s u
-    go (found.wait q) (found.value s) u v = meets_answers l.placed l.target (found.wait q) s u
-    go (found.value t) (found.wait q) u v = meets_answers r.placed r.target (found.wait q) t v
-    go (found.wait x) (found.wait y) u v = both_answer l.placed r.placed x y u v
+  equate_answers l r u v =
+      equate_has Answers Undecided stops facts Anything (λ t x h. set_answers t x) tt tt (λ a b x y i j. if_answers (b && not a) _ _ (i, j) (j, i)) l r (anything_set l.target) (anything_set r.target) u v
 
   module _ (defs : List Definition) (inputs : InputLines) (state : ℕ) where
     -- evaluation waits for undecided paths alone
@@ -137,26 +99,14 @@ module _ (facts : List Fact) (apart : NoClash facts) (Idle : Type 0) (p : Place)
     evaluated e env = undecided_by (outcome facts defs e env) (λ q r. waits_are_undecided facts defs e env q apart r)
 
     values_answer : (es : ExprTrees) (env : Bindings) (f : List Tree → PickOutcome) → ((vs : List Tree) → Answers (f vs)) → Answers (with_values defs inputs state facts es env f)
-    values_answer no_expr env f h = h []
-    values_answer (expr_then e es) env f h = value_answers (outcome facts defs e env) _ (evaluated e env) (λ v. values_answer es env _ (λ vs. h (v ∷ vs)))
+    values_answer = values_have Answers Undecided stops defs inputs state facts evaluated
 
-    place_answers : (o : PlaceOutcome) (f : BindingTree → PickOutcome) → ((q : Path) → o ≡ found.other (found.wait q) → IsUndecided facts q) → ((b : BindingTree) → Answers (f b)) → Answers (with_place defs inputs state facts o f)
-    place_answers (found.path q) f u h = h _
-    place_answers (found.other o) f u h = value_answers o _ (undecided_by o (λ q r. u q (ap found.other r))) (λ v. h (known_binding v))
-
-    argument_answers : (x : List ℕ) (e : ExprTree) (env : Bindings) (f : BindingTree → PickOutcome) → ((b : BindingTree) → Answers (f b)) → Answers (with_argument defs inputs state facts x e env f)
-    argument_answers x e env f h = if_answers (is_upper x) _ _
-        (place_answers (place_outcome facts defs e env) f (λ q r. place_waits_are_undecided facts defs e env q apart r) h)
-        (value_answers (outcome facts defs e env) _ (evaluated e env) (λ v. h (known_binding v)))
-
-    arguments_answer : (es : ExprTrees) (xs : List (List ℕ)) (env : Bindings) (f : Bindings → PickOutcome) → ((bs : Bindings) → Answers (f bs)) → Answers (with_arguments defs inputs state facts es xs env f)
-    arguments_answer no_expr [] env f h = h []
-    arguments_answer (expr_then e es) (x ∷ xs) env f h = argument_answers x e env _ (λ b. arguments_answer es xs env _ (λ bs. h (b ∷ bs)))
-    arguments_answer no_expr (x ∷ xs) env f h = tt
-    arguments_answer (expr_then e es) [] env f h = tt
+    -- and so does that of a place
+    placed : (e : ExprTree) (env : Bindings) (o : found.Outcome) → place_outcome facts defs e env ≡ found.other o → Undecided o
+    placed e env o is = undecided_by o (λ q r. place_waits_are_undecided facts defs e env q apart (is ∙ ap found.other r))
 
     called_answers : (d : Option Definition) (es : ExprTrees) (env : Bindings) (n : Numbers) → Answers (called defs inputs state facts d es env n)
-    called_answers (Some d) es env n = arguments_answer es d.parameters env _ (λ bs. tt)
+    called_answers (Some d) es env n = arguments_have Answers Undecided stops defs inputs state facts evaluated placed es d.parameters env _ (λ bs. tt)
     called_answers None es env n = tt
 
     length_answers : (k : ℤ) (env : Bindings) (n : Numbers) → Answers (length_left defs inputs state facts k env n)

@@ -4,7 +4,7 @@ use Rattle.tp_meaning.specs.Fits.{IsVariable}
 use Rattle.tp_kernel.specs.Read.{expr_tree, definitions_of, bindings_of}
 use Rattle.tp_eval.specs.Answers.{place_outcome_of}
 use Rattle.tp_scene.specs.Fits.{kinds_in}
-use Rattle.tp_decide.proofs.PathFits.{PathFits, path_fits}
+use Rattle.tp_scene.proofs.PathFits.{PathFits, path_fits}
 use Rattle.tp_decide.proofs.equation.path_of.Goals as goal
 
 pub returns-in-Place-clause-variables : goal.returns-in-Place-clause-variables
