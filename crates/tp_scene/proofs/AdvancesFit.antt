@@ -1,21 +1,19 @@
 -- The next state begins with a sound moment.
-use Rattle.std.proofs.Common.{◌≡◌, ℕ, suc, ◌+◌, ◌-◌, ◌≤◌, Bool, true, false, ◌||◌, ◌&&◌, List, [], ◌∷◌, refl, ap, sym, ◌∙◌, subst, arith, inl, inr}
-use Rattle.std.proofs.lemmas.Bool.{cases_lt, or_cases, and_parts, both_ways, false≢true}
+use Rattle.std.proofs.Common.{◌≡◌, ℕ, ◌+◌, Bool, true, false, ◌||◌, ◌&&◌, List, refl, ap, sym, ◌∙◌, subst, arith, inl, inr}
+use Rattle.std.proofs.lemmas.Bool.{or_cases, and_parts, both_ways, false≢true}
 use Rattle.tp_value.specs.declared.path.Fact.{Fact}
 use Rattle.tp_meaning.specs.Syntax.{Definition}
 use Rattle.tp_store.specs.Known.{Variable, AreOfVariables, lasting_facts}
 use Rattle.tp_store.proofs.Members.{in_kept, kept_in, in_filter}
-use Rattle.tp_scene.specs.Scene.{Side, Ending, Head, marked, Do, Later, Shown, Holder, Split, SplitProject, Closed, Opened, Running, Entries, none, leaf, node, new_head, sinks, risen, Place, root_place, held_place}
+use Rattle.tp_scene.specs.Scene.{Side, Ending, Head, marked, Do, Later, Shown, Split, SplitProject, Closed, Opened, Running, Entries, none, leaf, node, new_head, sinks, risen, Place, root_place, held_place}
 use Rattle.tp_scene.specs.Pick.{Setting, Moment}
-use Rattle.tp_scene.specs.Advance.{unmarked, due, items_in, regions_in, regions_held, numbered_head, second_head, numbered, advanced}
-use Rattle.tp_scene.specs.Fits.{IsCalm, Dormant, EntriesFit, AreNumbers, item_numbers, second_number, region_numbers}
+use Rattle.tp_scene.specs.Advance.{unmarked, due, regions_in, numbered_head, numbered, advanced}
+use Rattle.tp_scene.specs.Fits.{IsCalm, Dormant, EntriesFit}
 use Rattle.tp_scene.specs.Laws.{IsSound, StoreGoesOn, AdvancesFit}
 use Rattle.tp_scene.proofs.Globals.{of_variables_in, in_of_variables}
-use Rattle.tp_scene.proofs.Count.{count, count_none, count_first}
 use Rattle.tp_scene.proofs.PutStatus.{dormant_head, dormant_risen, or_false}
-use Rattle.tp_scene.proofs.PutNumbers.{between, between_in, between_before, between_after, between_first, between_none, items, regions, items_leaf, items_node, regions_node}
 use Rattle.tp_scene.proofs.PutInners.{dormant_inners}
-use Rattle.tp_scene.proofs.StepsFit.{once_more}
+use Rattle.tp_scene.proofs.NextNumbers.{items_once, regions_once}
 
 -- nothing is known of a region's status
 abbrev Blank : Place → Type 0
@@ -103,93 +101,6 @@ module _ (defs : List Definition) (kinds : List Bool) (variables : List Variable
   numbered_fits i r h (node id (Opened f env) k held g second rest) p p' d fit e b = elim d [ ]
   numbered_fits i r h (node id (Running f env) k held g second rest) p p' d fit e b = elim d [ ]
 
--- The numbers that are given.
-between_join : (a b c x : ℕ) → a ≤ b → b ≤ c → between a b x + between b c x ≡ between a c x
-between_join a b c x u v = elim (cases_lt x a) [
-  | inl l ↦ (let p = between_before a b x l in let q = between_before b c x (omega arith) in let r = between_before a c x l in omega (arith, p, q, r))
-  | inr l ↦ elim (cases_lt x b) [
-    | inl k ↦ (let p = between_in a b x l k in let q = between_before b c x k in let r = between_in a c x l (omega arith) in omega (arith, p, q, r))
-    | inr k ↦ elim (cases_lt x c) [
-      | inl j ↦ (let p = between_after a b x k in let q = between_in b c x k j in let r = between_in a c x l j in omega (arith, p, q, r))
-      | inr j ↦ (let p = between_after a b x k in let q = between_after b c x j in let r = between_after a c x j in omega (arith, p, q, r))
-    ]
-  ]
-]
-
-between_same : (a b c d x : ℕ) → a ≡ c → b ≡ d → between a b x ≡ between c d x
-between_same a b c d x p q = λ i. between (p i) (q i) x
-
-numbered_items : (x i r : ℕ) (es : Entries) → items x (numbered i r es) ≡ between i (i + items_in es) x
-numbered_items x i r none = let e : i + 0 ≡ i = omega arith in count_none x ∙ sym (ap (λ b. between i b x) e ∙ between_none i x)
-numbered_items x i r (leaf id l rest) =
-    let p = items_leaf x i l (numbered (i + 1) r rest) in
-    let q = numbered_items x (i + 1) r rest in
-    let s = between_first i (i + suc (items_in rest)) x (omega arith) in
-    let t = between_same (i + 1) (i + 1 + items_in rest) (suc i) (i + suc (items_in rest)) x (omega arith) (omega arith) in
-    omega (arith, p, q, s, t)
-numbered_items x i r (node id k h held g second rest) =
-    let at = i + items_in held in
-    let outer = r + 1 + regions_in held in
-    let rs = r + regions_held k + regions_in held in
-    let p = items_node x at k (numbered_head r h) (numbered i (r + 1) held) (second_head k outer g) (numbered (at + 1) rs second) (numbered (at + 1 + items_in second) (rs + regions_in second) rest) in
-    let a = numbered_items x i (r + 1) held in
-    let b = numbered_items x (at + 1) rs second in
-    let c = numbered_items x (at + 1 + items_in second) (rs + regions_in second) rest in
-    let top = i + suc (items_in held + items_in second + items_in rest) in
-    let j1 = between_join (at + 1) (at + 1 + items_in second) top x (omega arith) (omega arith) in
-    let t = between_same (at + 1 + items_in second) (at + 1 + items_in second + items_in rest) (at + 1 + items_in second) top x refl (omega arith) in
-    let f = between_first at top x (omega arith) in
-    let s = between_same (at + 1) top (suc at) top x (omega arith) refl in
-    let j2 = between_join i at top x (omega arith) (omega arith) in
-    omega (arith, p, a, b, c, j1, t, f, s, j2)
-
-one_region : (x o : ℕ) → count x (o ∷ []) ≡ between o (o + 1) x
-one_region x o =
-    let a = count_first x o [] in
-    let b = count_none x in
-    let c = between_first o (o + 1) x (omega arith) in
-    let e : suc o ≡ o + 1 = omega arith in
-    let d = ap (λ s. between s (o + 1) x) e ∙ between_none (o + 1) x in
-    omega (arith, a, b, c, d)
-
-second_counted : (x o : ℕ) (k : Holder) (g : Head) → count x (second_number k (second_head k o g)) ≡ between o (o + (regions_held k - 1)) x
-second_counted x o (Split f env) g = let e : o + 0 ≡ o = omega arith in count_none x ∙ sym (ap (λ b. between o b x) e ∙ between_none o x)
-second_counted x o (SplitProject f env) g = one_region x o
-second_counted x o Closed g = let e : o + 0 ≡ o = omega arith in count_none x ∙ sym (ap (λ b. between o b x) e ∙ between_none o x)
-second_counted x o (Opened f env) g = let e : o + 0 ≡ o = omega arith in count_none x ∙ sym (ap (λ b. between o b x) e ∙ between_none o x)
-second_counted x o (Running f env) g = one_region x o
-
-holds_one : (k : Holder) → 1 ≤ regions_held k
-holds_one (Split f env) = omega arith
-holds_one (SplitProject f env) = omega arith
-holds_one Closed = omega arith
-holds_one (Opened f env) = omega arith
-holds_one (Running f env) = omega arith
-
-numbered_regions : (x i r : ℕ) (es : Entries) → regions x (numbered i r es) ≡ between r (r + regions_in es) x
-numbered_regions x i r none = let e : r + 0 ≡ r = omega arith in count_none x ∙ sym (ap (λ b. between r b x) e ∙ between_none r x)
-numbered_regions x i r (leaf id l rest) = numbered_regions x (i + 1) r rest
-numbered_regions x i r (node id k h held g second rest) =
-    let at = i + items_in held in
-    let outer = r + 1 + regions_in held in
-    let rs = r + regions_held k + regions_in held in
-    let one = holds_one k in
-    let p = regions_node x at k (numbered_head r h) (numbered i (r + 1) held) (second_head k outer g) (numbered (at + 1) rs second) (numbered (at + 1 + items_in second) (rs + regions_in second) rest) in
-    let a = numbered_regions x i (r + 1) held in
-    let n = second_counted x outer k g in
-    let b = numbered_regions x (at + 1) rs second in
-    let c = numbered_regions x (at + 1 + items_in second) (rs + regions_in second) rest in
-    let top = r + (regions_held k + regions_in held + regions_in second + regions_in rest) in
-    let t = between_same (rs + regions_in second) (rs + regions_in second + regions_in rest) (rs + regions_in second) top x refl (omega arith) in
-    let j1 = between_join rs (rs + regions_in second) top x (omega arith) (omega arith) in
-    let s = between_same outer (outer + (regions_held k - 1)) outer rs x refl (omega (arith, one)) in
-    let j2 = between_join outer rs top x (omega (arith, one)) (omega arith) in
-    let u = between_same (r + 1) (r + 1 + regions_in held) (r + 1) outer x refl refl in
-    let j3 = between_join (r + 1) outer top x (omega arith) (omega (arith, one)) in
-    let f = between_first r top x (omega (arith, one)) in
-    let v = between_same (r + 1) top (suc r) top x (omega arith) refl in
-    omega (arith, p, a, n, b, c, t, j1, s, j2, u, j3, f, v)
-
 module _ (w : Setting) (kinds : List Bool) (m next : Moment) (sound : IsSound w kinds m) (is : next.scene ≡ advanced m.scene) (on : StoreGoesOn m.store next.store) (own : ℕ) where
   abbrev es : Entries
   es = due m.scene.root.entries
@@ -212,20 +123,6 @@ module _ (w : Setting) (kinds : List Bool) (m next : Moment) (sound : IsSound w 
   fits : EntriesFit w.defs kinds m.store.variables renumbered p'
   fits = numbered_fits w.defs kinds m.store.variables 0 1 (new_head 0) es p' p' dormant (due_fits w.defs kinds m.store.variables m.scene.root.entries (root_place m.scene.root) p' sound.moment.entries refl blank) refl blank
 
-  items_fit : AreNumbers (items_in es) (item_numbers renumbered)
-  items_fit = let e : 0 + items_in es ≡ items_in es = omega arith in
-      subst (λ (c : ℕ). AreNumbers c (item_numbers renumbered)) e (once_more 0 (items_in es) [] (item_numbers renumbered) tt (λ x. let q = numbered_items x 0 1 es in omega (arith, q)))
-
-  regions_fit : AreNumbers (1 + regions_in es) (0 ∷ region_numbers renumbered)
-  regions_fit = let e : 0 + (1 + regions_in es) ≡ 1 + regions_in es = omega arith in
-      subst (λ (c : ℕ). AreNumbers c (0 ∷ region_numbers renumbered)) e (once_more 0 (1 + regions_in es) [] (0 ∷ region_numbers renumbered) tt
-      (λ x.
-      let q = numbered_regions x 0 1 es in
-      let f = count_first x 0 (region_numbers renumbered) in
-      let b = between_first 0 (0 + (1 + regions_in es)) x (omega arith) in
-      let s = between_same 1 (1 + regions_in es) (suc 0) (0 + (1 + regions_in es)) x refl (omega arith) in
-      omega (arith, q, f, b, s)))
-
   facts_fit : AreOfVariables m.store.variables next.store.facts
   facts_fit = in_of_variables m.store.variables next.store.facts (λ f i.
       of_variables_in m.store.variables m.store.facts sound.store.facts _ (in_filter (λ (f : Fact). f.path.var.lasting) _ m.store.facts
@@ -240,7 +137,7 @@ module _ (w : Setting) (kinds : List Bool) (m next : Moment) (sound : IsSound w 
   made_sound : IsSound (record { defs = w.defs; inputs = w.inputs; state = own }) kinds made
   made_sound = record {
     definitions = sound.definitions;
-    moment = record { entries = fits; items = items_fit; regions = regions_fit; inners = dormant_inners (new_head 0) renumbered p' dormant_after };
+    moment = record { entries = fits; items = (items_once es); regions = (regions_once es); inners = dormant_inners (new_head 0) renumbered p' dormant_after };
     store = record { no_clash = on.no_clash; facts = facts_fit; globals = sound.store.globals };
   }
 

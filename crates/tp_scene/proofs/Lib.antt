@@ -42,6 +42,7 @@ pub mod PutNumbers
 pub mod PutInners
 pub mod NewFacts
 pub mod StepsFit
+pub mod NextNumbers
 pub mod AdvancesFit
 pub mod EndLaws
 pub mod StatusRules

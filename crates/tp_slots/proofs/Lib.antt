@@ -40,6 +40,5 @@ pub mod Carried
 pub mod Succeeding
 pub mod NextShape
 pub mod NextStored
-pub mod NextNumbers
 pub mod NextUnmarked
 pub mod NextKept

@@ -19,7 +19,7 @@ use Rattle.tp_slots.proofs.Carrying.{slots_count, regions_count}
 use Rattle.tp_slots.proofs.Showing.{all_shown}
 use Rattle.tp_slots.proofs.NextShape.{slots_with, holders_with, AreUnmarked, AreStored, IsItemRight, IsRegionRight, read_items, own_stored, item_found, region_found}
 use Rattle.tp_slots.proofs.NextStored.{stored}
-use Rattle.tp_slots.proofs.NextNumbers.{items_once, regions_once, item_given, region_given}
+use Rattle.tp_scene.proofs.NextNumbers.{items_once, regions_once, item_given, region_given}
 
 -- regions of which nothing is known
 abbrev ArePlain : List FullRegion → Type 0
