@@ -29,7 +29,18 @@ pub fn is_place(expr: &Expr) -> bool
         Expr::Bound(_) => true,
         Expr::Global(_) => true,
         Expr::Index(whole, _) => is_place(whole),
-        _ => false,
+        Expr::Number(_)
+        | Expr::Truth(_)
+        | Expr::Known(_)
+        | Expr::List(_)
+        | Expr::Size(_)
+        | Expr::Minus(_)
+        | Expr::Not(_)
+        | Expr::Both(_)
+        | Expr::Either(..)
+        | Expr::Op(..)
+        | Expr::If(..)
+        | Expr::Call(..) => false,
     }
 }
 
@@ -305,7 +316,18 @@ pub fn find_place(levels: u32, expr: &Expr, lookup: &Lookup, calls: &mut u32) ->
             let k = index_of(at)?;
             farther(place, k)
         }
-        _ => Err(Halt::Faults(FaultKind::NoElement)),
+        Expr::Number(_)
+        | Expr::Truth(_)
+        | Expr::Known(_)
+        | Expr::List(_)
+        | Expr::Size(_)
+        | Expr::Minus(_)
+        | Expr::Not(_)
+        | Expr::Both(_)
+        | Expr::Either(..)
+        | Expr::Op(..)
+        | Expr::If(..)
+        | Expr::Call(..) => Err(Halt::Faults(FaultKind::NoElement)),
     }
 }
 

@@ -114,7 +114,7 @@ fn item(value: &Value, at: u32) -> Option<&Value>
                 None
             }
         }
-        _ => None,
+        Value::Num(_) | Value::Truth(_) => None,
     }
 }
 
@@ -198,7 +198,7 @@ fn unkept_length(path: &Path, store: &Store) -> Result<Value, Halt>
     match store.full(path)? {
         Known::Absent => Err(Halt::Faults(FaultKind::NoElement)),
         Known::Open(path) => Err(Halt::Waits(path)),
-        _ => unreachable!(),
+        Known::TooLong | Known::Value(_) => unreachable!(),
     }
 }
 
