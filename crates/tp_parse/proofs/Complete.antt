@@ -1,28 +1,28 @@
 -- What is in the grammar is read.
-use Rattle.std.proofs.Common.{◌≡◌, ◌≢◌, ℕ, zero, suc, ◌-◌, ◌<◌, ◌≤◌, true, ◌⊎◌, inl, inr, [], ◌∷◌, length, drop, Ok, refl, sym, ap, ◌∙◌, arith}
+use Rattle.std.proofs.Common.{◌≡◌, ◌≢◌, ℕ, zero, suc, ◌-◌, ◌<◌, ◌≤◌, true, ◌⊎◌, inl, inr, [], ◌∷◌, length, drop, Ok, refl, sym, ap, subst, ◌∙◌, arith}
 use Rattle.std.proofs.lemmas.Bool.{eq-eqb, ne_eqb}
 use Rattle.tp_lex.specs.declared.token.Word.TheVariants as word
 use Rattle.tp_lex.specs.declared.token.Symbol.TheVariants as symbol
 use Rattle.tp_tree.specs.declared.operator.Op.{Op}
+use Rattle.tp_tree.specs.declared.operator.Grouping.{Grouping}
+use Rattle.tp_tree.specs.declared.operator.Grouping.TheVariants.{Left, Single, Right}
+use Rattle.tp_tree.specs.Levels.{chop_level, grouping, level_right_of, right_level}
 use Rattle.tp_parse.specs.declared.mark.Mark.{Mark}
 use Rattle.tp_parse.specs.declared.mark.Mark.TheVariants as m
 use Rattle.tp_parse.specs.declared.mark.Role.{Role}
 use Rattle.tp_parse.specs.declared.mark.Role.TheVariants.{Ends, Infix, Opens, Joins}
-use Rattle.tp_parse.specs.declared.mark.Way.{Way}
-use Rattle.tp_parse.specs.declared.mark.Way.TheVariants.{Left, Single, Right}
 use Rattle.tp_parse.specs.declared.head.Listed.{Listed}
 use Rattle.tp_parse.specs.declared.head.Listed.TheVariants as l
 use Rattle.tp_parse.specs.declared.head.Head.{Head}
 use Rattle.tp_parse.specs.declared.head.Head.TheVariants as h
-use Rattle.tp_parse.specs.Marks.{role_at, before, start_of, chop, listed_close, enclosed_close, middle}
+use Rattle.tp_parse.specs.Marks.{role_at, before, start_of, listed_close, enclosed_close, middle}
 use Rattle.tp_parse.specs.Input.{Tokens, Reader, mark, from, mark_due, past}
 use Rattle.tp_parse.specs.Head.{is_high}
 use Rattle.tp_parse.specs.Found.{Found, Operands, operand_then, then_operand, operands_of, of_infix, of_index, of_chain}
 use Rattle.tp_parse.specs.Reading as r
-use Rattle.tp_parse.specs.Reading.{operand_level}
 use Rattle.tp_parse.specs.Grammar.{BeginsPrimary, number, truth, upper_name, lower_name, call, bare, form, empty_list, list, enclosure, if, while, repeat, for, forall, exists}
 use Rattle.tp_parse.specs.Grammar.{Parses, atom, listed, enclosed, if_then, if_else, paired, quantified, prefixed, level, Goes, ends, left, single, right, indexed, joins, Others, no_more, one_more, Listing, no_operands, operands}
-use Rattle.tp_parse.proofs.Marks.{same_yes, same_no, due_begins_none}
+use Rattle.tp_parse.proofs.Marks.{same_yes, same_no, right_is, due_begins_none}
 use Rattle.tp_parse.proofs.Shapes.{tall, taken, role_taken, shorter, passed, low_before, begins_some}
 use Rattle.tp_parse.proofs.Heads.{fine, expect_is, deepen_is, fits_is, admit_is, head_complete}
 use Rattle.tp_parse.proofs.Sound.{joined, joined_none, joined_more}
@@ -30,9 +30,9 @@ use Rattle.tp_parse.proofs.Sound.{joined, joined_none, joined_more}
 mutual
   grows : {k at : ℕ} {a t : Found} {ts rest : Tokens} → Goes k at a ts t rest → a.height ≤ t.height
   grows (ends e) = omega arith
-  grows (left e d g) = omega (arith, grows g)
-  grows (single e d) = omega arith
-  grows (right e d) = omega arith
+  grows (left e w d g) = omega (arith, grows g)
+  grows (single e w d) = omega arith
+  grows (right e w d) = omega arith
   grows (indexed e d f g) = omega (arith, grows g)
   grows (joins e o) = omega arith
 
@@ -69,13 +69,14 @@ module _ (inner : ℕ → Reader Found) (room : ℕ) (complete : (k : ℕ) (ts :
   unfolding r.part
   part_is {k} {ts} {end} {a} close d low e = rw (complete k ts a end d low, expect_is close end e) refl
 
-  operated_is : (k : ℕ) (way : Way) (o : Op) (at : ℕ) (a b : Found) (ts rest : Tokens) → a.height ≤ room → b.height ≤ room → Parses (operand_level k way) (drop 1 ts) b rest
-      → r.operated inner room k way o at a ts ≡ Ok (of_infix at o a b, rest)
+  operated_is : (k : ℕ) (way : Grouping) (o : Op) (at : ℕ) (a b : Found) (ts rest : Tokens) → role_at k (mark ts) ≡ Infix o → grouping o ≡ way → a.height ≤ room → b.height ≤ room
+      → Parses (level_right_of way k) (drop 1 ts) b rest → r.operated inner room o at a ts ≡ Ok (of_infix at o a b, rest)
   unfolding r.operated
-  operated_is k way o at a b ts rest low low2 d =
-      rw (fits_is room a.height ts (omega (arith, tall d)) low, complete (operand_level k way) (drop 1 ts) b rest d low2) refl
+  operated_is k way o at a b ts rest e w low low2 d =
+      let operand = subst (λ n. Parses n (drop 1 ts) b rest) (right_is k (mark ts) o way e w) d in
+      rw (fits_is room a.height ts (omega (arith, tall d)) low, complete (right_level o) (drop 1 ts) b rest operand low2) refl
 
-  indexed_is : (at : ℕ) (a i : Found) (ts end : Tokens) → a.height ≤ room → i.height ≤ room → Parses chop (drop 1 ts) i end → mark_due end ≡ m.Symbol symbol.CloseSquare
+  indexed_is : (at : ℕ) (a i : Found) (ts end : Tokens) → a.height ≤ room → i.height ≤ room → Parses chop_level (drop 1 ts) i end → mark_due end ≡ m.Symbol symbol.CloseSquare
       → r.indexed inner room at a ts ≡ Ok (of_index at a i, past end)
   unfolding r.indexed
   indexed_is at a i ts end low low2 d f =
@@ -115,17 +116,17 @@ module _ (inner : ℕ → Reader Found) (room : ℕ) (complete : (k : ℕ) (ts :
   unfolding r.go
   go_complete (ends e) zero few some low = refl
   go_complete {k} {at} {a} {ts = ts} (ends e) (suc n) few some low = rw (turn_is k at a ts Ends e) refl
-  go_complete {k} {ts = ts} (left e d g) zero few some low = absurd (omega (arith, role_taken k ts _ e (λ q. cc)))
-  go_complete {k} {at} {a} {ts = ts} (left {j = j} {o = o} {y = b} {mid = mid} e d g) (suc n) few some low =
+  go_complete {k} {ts = ts} (left e w d g) zero few some low = absurd (omega (arith, role_taken k ts _ e (λ q. cc)))
+  go_complete {k} {at} {a} {ts = ts} (left {o = o} {y = b} {mid = mid} e w d g) (suc n) few some low =
       let grown = grows g in
-      rw (turn_is k at a ts (Infix j Left o) e, operated_is k Left o at a b ts mid (omega arith) (omega arith) d)
+      rw (turn_is k at a ts (Infix o) e, operated_is k Left o at a b ts mid e w (omega arith) (omega arith) d, w)
       (go_complete g n (omega (arith, shorter d, role_taken k ts _ e (λ q. cc))) (omega arith) low)
-  go_complete {k} {ts = ts} (single e d) zero few some low = absurd (omega (arith, role_taken k ts _ e (λ q. cc)))
-  go_complete {k} {at} {a} {ts = ts} {rest = rest} (single {j = j} {o = o} {y = b} e d) (suc n) few some low =
-      rw (turn_is k at a ts (Infix j Single o) e, operated_is k Single o at a b ts rest (omega arith) (omega arith) d) refl
-  go_complete {k} {ts = ts} (right e d) zero few some low = absurd (omega (arith, role_taken k ts _ e (λ q. cc)))
-  go_complete {k} {at} {a} {ts = ts} {rest = rest} (right {j = j} {o = o} {y = b} e d) (suc n) few some low =
-      rw (turn_is k at a ts (Infix j Right o) e, operated_is k Right o at a b ts rest (omega arith) (omega arith) d) refl
+  go_complete {k} {ts = ts} (single e w d) zero few some low = absurd (omega (arith, role_taken k ts _ e (λ q. cc)))
+  go_complete {k} {at} {a} {ts = ts} {rest = rest} (single {o = o} {y = b} e w d) (suc n) few some low =
+      rw (turn_is k at a ts (Infix o) e, operated_is k Single o at a b ts rest e w (omega arith) (omega arith) d, w) refl
+  go_complete {k} {ts = ts} (right e w d) zero few some low = absurd (omega (arith, role_taken k ts _ e (λ q. cc)))
+  go_complete {k} {at} {a} {ts = ts} {rest = rest} (right {o = o} {y = b} e w d) (suc n) few some low =
+      rw (turn_is k at a ts (Infix o) e, operated_is k Right o at a b ts rest e w (omega arith) (omega arith) d, w) refl
   go_complete {k} {ts = ts} (indexed e d f g) zero few some low = absurd (omega (arith, role_taken k ts _ e (λ q. cc)))
   go_complete {k} {at} {a} {ts = ts} (indexed {i = i} {end = end} e d f g) (suc n) few some low =
       let grown = grows g in
@@ -147,17 +148,17 @@ module _ (inner : ℕ → Reader Found) (room : ℕ) (complete : (k : ℕ) (ts :
   levels_complete (listed {mid = mid} {x = x} b o) low = primary_is b (λ q. absurd ((begins_low b q).1 _ refl)) ∙ rw (operands_is x o (omega arith)) refl
   levels_complete (enclosed {e = e} b d f) low = primary_is b (λ q. omega (arith, tall d)) ∙ rw (part_is (enclosed_close e) d (omega arith) f) refl
   levels_complete {rest = rest} (if_then {then = then} {x = x} b d f g i) low =
-      primary_is b (λ q. omega (arith, tall d)) ∙ rw (part_is (m.Word word.Then) d (omega arith) f, complete chop (past then) x rest g (omega arith), same_no (mark rest) (m.Word word.Else) i) refl
+      primary_is b (λ q. omega (arith, tall d)) ∙ rw (part_is (m.Word word.Then) d (omega arith) f, complete chop_level (past then) x rest g (omega arith), same_no (mark rest) (m.Word word.Else) i) refl
   levels_complete {rest = rest} (if_else {then = then} {else = else} {x = x} {y = y} b d f g i j) low =
       primary_is b (λ q. omega (arith, tall d)) ∙ rw (
         part_is (m.Word word.Then) d (omega arith) f,
-        complete chop (past then) x else g (omega arith),
+        complete chop_level (past then) x else g (omega arith),
         same_yes (mark else) (m.Word word.Else) i,
-        complete chop (drop 1 else) y rest j (omega arith),
+        complete chop_level (drop 1 else) y rest j (omega arith),
       ) refl
   levels_complete {rest = rest} (paired {next = next} {q = q} {y = y} b d f g) low =
-      primary_is b (λ z. omega (arith, tall d)) ∙ rw (part_is (middle q) d (omega arith) f, complete chop (past next) y rest g (omega arith)) refl
-  levels_complete {rest = rest} (quantified {mid = mid} {x = x} b d) low = primary_is b (λ q. omega (arith, tall d)) ∙ rw (complete chop mid x rest d (omega arith)) refl
+      primary_is b (λ z. omega (arith, tall d)) ∙ rw (part_is (middle q) d (omega arith) f, complete chop_level (past next) y rest g (omega arith)) refl
+  levels_complete {rest = rest} (quantified {mid = mid} {x = x} b d) low = primary_is b (λ q. omega (arith, tall d)) ∙ rw (complete chop_level mid x rest d (omega arith)) refl
   levels_complete {ts = ts} {rest = rest} (prefixed {k = k} {x = x} e d) low =
       rw (eq-eqb (before (mark ts)) (suc k) e, deepen_is room ts (omega (arith, tall d)), complete (suc k) (drop 1 ts) x rest d (omega arith)) refl
   levels_complete {ts = ts} {rest = rest} (level {k = k} {mid = mid} {x = x} d g) low =

@@ -8,7 +8,7 @@ use Rattle.tp_parse.specs.declared.mark.Mark.TheVariants as m
 use Rattle.tp_parse.specs.declared.refusal.Refusal.{Refusal}
 use Rattle.tp_parse.specs.declared.refusal.Refusal.TheVariants.{Unexpected, Unfinished, TooDeep, NoMemory}
 use Rattle.tp_parse.specs.declared.refusal.ParseRefusal.{ParseRefusal}
-use Rattle.tp_parse.specs.Marks.{chop}
+use Rattle.tp_tree.specs.Levels.{chop_level}
 use Rattle.tp_parse.specs.Input.{Tokens, ReadOutcome, Reader, and_then, mark, from, past, sees, first_name, names}
 use Rattle.tp_parse.specs.Found.{Found, limit, defined, source_of}
 use Rattle.tp_parse.specs.Reading.{read}
@@ -30,15 +30,15 @@ sentence_then : {B : Type 0} (ts : Tokens) (f : PhraseTree → Reader B) (y : B 
 unfolding s.sentence
 sentence_then ts f y e =
     let a = bind_ok (s.sentence ts) f y e in
-    let b = bind_ok (read limit chop ts) _ a.0 a.1 in
-    let is = read_sound limit chop ts b.0 b.1 in
+    let b = bind_ok (read limit chop_level ts) _ a.0 a.1 in
+    let is = read_sound limit chop_level ts b.0 b.1 in
     let c = expect_then (m.Symbol symbol.Stop) b.0.1 _ a.0 b.2 in
     let made = ok_is (b.0.0.tree, past b.0.1) a.0 c.1 in
     (b.0.0, past b.0.1, (sentence is.0 c.0, is.1), ap (λ (q : PhraseTree × Tokens). f q.0 q.1) made ∙ a.2)
 
 sentence_is : {ts rest : Tokens} {x : Found} → Sentence ts x rest → x.height ≤ limit → s.sentence ts ≡ Ok (x.tree, rest)
 unfolding s.sentence
-sentence_is {ts} (sentence {end = end} {x = x} d e) low = rw (read_complete limit chop ts x end d low, expect_is (m.Symbol symbol.Stop) end e) refl
+sentence_is {ts} (sentence {end = end} {x = x} d e) low = rw (read_complete limit chop_level ts x end d low, expect_is (m.Symbol symbol.Stop) end e) refl
 
 parameters_sound : (ts : Tokens) (q : List (List ℕ) × Tokens) → s.parameters ts ≡ Ok q → Parameters ts q.0 q.1
 unfolding s.parameters

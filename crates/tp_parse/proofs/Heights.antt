@@ -61,9 +61,9 @@ mutual
 
   goes_low : {k at : ℕ} {a t : Found} {ts rest : Tokens} → height a.tree ≤ a.height → Goes k at a ts t rest → height t.tree ≤ t.height
   goes_low low (g.ends e) = low
-  goes_low low (g.left e d h) = goes_low (omega (arith, phrase_low d)) h
-  goes_low low (g.single e d) = omega (arith, phrase_low d)
-  goes_low low (g.right e d) = omega (arith, phrase_low d)
+  goes_low low (g.left e way d h) = goes_low (omega (arith, phrase_low d)) h
+  goes_low low (g.single e way d) = omega (arith, phrase_low d)
+  goes_low low (g.right e way d) = omega (arith, phrase_low d)
   goes_low low (g.indexed e d f h) = goes_low (omega (arith, phrase_low d)) h
   goes_low low (g.joins e o) = omega (arith, others_low o)
 

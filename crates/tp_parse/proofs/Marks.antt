@@ -1,5 +1,6 @@
 -- Tests of marks, and what begins a phrase.
-use Rattle.std.proofs.Common.{◌≡◌, ◌≢◌, ◌⊎◌, inl, inr, true, false, refl, ap, rules}
+use Rattle.std.proofs.Common.{◌≡◌, ◌≢◌, ℕ, ◌⊎◌, inl, inr, true, false, cond, eqb, refl, sym, ap, ap₂, ◌∙◌, rules}
+use Rattle.std.proofs.lemmas.Bool.{eqb-true}
 use denote.Enum.Bare.{same_true, true_same}
 use Rattle.tp_lex.specs.contracts.token.Word as word_type
 use Rattle.tp_lex.specs.contracts.token.Symbol as symbol_type
@@ -7,10 +8,14 @@ use Rattle.tp_lex.specs.declared.token.Word.{Word}
 use Rattle.tp_lex.specs.declared.token.Word.TheVariants as word
 use Rattle.tp_lex.specs.declared.token.Symbol.{Symbol}
 use Rattle.tp_lex.specs.declared.token.Symbol.TheVariants as symbol
+use Rattle.tp_tree.specs.declared.operator.Op.{Op}
+use Rattle.tp_tree.specs.declared.operator.Grouping.{Grouping}
+use Rattle.tp_tree.specs.Levels.{op_level, grouping, level_right_of, right_level}
 use Rattle.tp_parse.specs.declared.mark.Mark.{Mark}
 use Rattle.tp_parse.specs.declared.mark.Mark.TheVariants as m
+use Rattle.tp_parse.specs.declared.mark.Role.TheVariants.{Ends, Infix}
 use Rattle.tp_parse.specs.declared.mark.Start.TheVariants as s
-use Rattle.tp_parse.specs.Marks.{same, before, start_of}
+use Rattle.tp_parse.specs.Marks.{same, before, role_of, level_of, role_at, start_of}
 use Rattle.tp_parse.specs.Input.{half_mark}
 
 pub same_is : (a b : Mark) → same a b ≡ true → a ≡ b
@@ -38,6 +43,18 @@ same_not a b e is = let yes = same_yes a b is in cc
 
 pub same_no : (a b : Mark) → a ≢ b → same a b ≡ false
 same_no a b not = elim (same a b) as (λ r. same a b ≡ r → r ≡ false) [ true ↦ λ e. absurd (not (same_is a b e)) | false ↦ λ e. refl ] refl
+
+-- an operator stands at its own level
+role_level : (k : ℕ) (x : Mark) (o : Op) → role_at k x ≡ Infix o → op_level o ≡ k
+unfolding role_at
+role_level k x o e = elim (eqb (level_of (role_of x)) k) as (λ b. eqb (level_of (role_of x)) k ≡ b → cond b (role_of x) Ends ≡ Infix o → op_level o ≡ k) [
+  | true ↦ λ q f. sym (ap level_of f) ∙ eqb-true _ _ q
+  | false ↦ λ q f. absurd cc
+] refl e
+
+-- and its right operand is of a level that goes by this one
+pub right_is : (k : ℕ) (x : Mark) (o : Op) (way : Grouping) → role_at k x ≡ Infix o → grouping o ≡ way → level_right_of way k ≡ right_level o
+right_is k x o way e w = ap₂ level_right_of (sym w) (sym (role_level k x o e))
 
 -- what begins a primary is no operator before an operand
 word_start_plain : (w : Word) → start_of (m.Word w) ≢ s.Nothing → before (m.Word w) ≡ 0

@@ -229,13 +229,13 @@ module _ (P : List ℕ → Type 0) where
 
     goes_held : {k at : ℕ} {a t : Found} {ts rest : Tokens} → Holds a.tree → Goes k at a ts t rest → Named ts → Holds t.tree × Named rest
     goes_held held (g.ends e) are = (held, are)
-    goes_held {a = a} {ts = ts} held (g.left {y = y} e d f) are =
+    goes_held {a = a} {ts = ts} held (g.left {y = y} e way d f) are =
         let operand = phrase_held d (dropped ts are) in
         goes_held (join (phrase_names a.tree) (phrase_names y.tree) held operand.0) f operand.1
-    goes_held {a = a} {ts = ts} held (g.single {y = y} e d) are =
+    goes_held {a = a} {ts = ts} held (g.single {y = y} e way d) are =
         let operand = phrase_held d (dropped ts are) in
         (join (phrase_names a.tree) (phrase_names y.tree) held operand.0, operand.1)
-    goes_held {a = a} {ts = ts} held (g.right {y = y} e d) are =
+    goes_held {a = a} {ts = ts} held (g.right {y = y} e way d) are =
         let operand = phrase_held d (dropped ts are) in
         (join (phrase_names a.tree) (phrase_names y.tree) held operand.0, operand.1)
     goes_held {a = a} {ts = ts} held (g.indexed {i = i} {end = end} e d c f) are =

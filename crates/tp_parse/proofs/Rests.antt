@@ -3,25 +3,25 @@ use Rattle.std.proofs.Common.{◌≡◌, ◌≢◌, ℕ, zero, suc, ◌+◌, ◌
 use Rattle.tp_lex.specs.declared.token.Word.TheVariants as word
 use Rattle.tp_lex.specs.declared.token.Symbol.TheVariants as symbol
 use Rattle.tp_tree.specs.declared.operator.Op.{Op}
+use Rattle.tp_tree.specs.Levels.{chop_level, right_level}
 use Rattle.tp_tree.specs.Tree.{DefinitionTree, SourceTree}
 use Rattle.tp_parse.specs.declared.mark.Mark.{Mark}
 use Rattle.tp_parse.specs.declared.mark.Mark.TheVariants as m
 use Rattle.tp_parse.specs.declared.mark.Role.{Role}
 use Rattle.tp_parse.specs.declared.mark.Role.TheVariants.{Ends, Infix, Opens, Joins}
-use Rattle.tp_parse.specs.declared.mark.Way.{Way}
 use Rattle.tp_parse.specs.declared.mark.Start.{Start}
 use Rattle.tp_parse.specs.declared.mark.Start.TheVariants as s
 use Rattle.tp_parse.specs.declared.head.Head.{Head}
 use Rattle.tp_parse.specs.declared.head.Head.TheVariants as h
 use Rattle.tp_parse.specs.declared.head.Atom.TheVariants as atom
 use Rattle.tp_parse.specs.declared.head.Listed.TheVariants as listed
-use Rattle.tp_parse.specs.Marks.{same, kind_mark, before, role_at, start_of, chop, comma, listed_level, listed_close, enclosed_level, enclosed_close, middle}
+use Rattle.tp_parse.specs.Marks.{same, kind_mark, before, role_at, start_of, comma, listed_level, listed_close, enclosed_level, enclosed_close, middle}
 use Rattle.tp_parse.specs.Input as input
 use Rattle.tp_parse.specs.Input.{Tokens, ReadOutcome, Reader, and_then, ◌>>=◌, pure, mark, from, first_number, first_name, mark_due, half_mark, past, sees, lower, any_name, names, names_from, expect, deepen}
 use Rattle.tp_parse.specs.Head.{name_or_call, counter, head_by, is_high, admit, begins, unfit}
 use Rattle.tp_parse.specs.Found.{Found, Operands, then_operand, operands_of, of_choice, of_choice_else, of_infix, of_index, of_chain, of_pair, of_prefix, limit, defined, source_of}
 use Rattle.tp_parse.specs.Reading as r
-use Rattle.tp_parse.specs.Reading.{operand_level, goes_on, fits}
+use Rattle.tp_parse.specs.Reading.{goes_on, fits}
 use Rattle.tp_parse.proofs.Marks.{same_no}
 use Rattle.tp_parse.proofs.Shapes.{role_end}
 use Rattle.tp_parse.proofs.Within as w
@@ -166,24 +166,24 @@ module _ (inner : ℕ → Reader Found) (room : ℕ) (within : (k : ℕ) (ts : T
   unfolding r.else_part
   elsed at b x {ts = ts} {us = us} some a =
       chosen_alike (sees (m.Word word.Else) ts) (sees (m.Word word.Else) us) (saw_alike (m.Word word.Else) some a)
-      (after_take some a (w.bind _ (within chop (drop 1 ts)) (λ y zs. w.stays {x = of_choice_else at b x y} zs)) (λ c pos d e.
-      both _ _ (alike chop _ _ _ pos d) (λ y zs. w.stays {x = of_choice_else at b x y} zs) (λ y l r q eq lens pos2 d2. stays_alike {x = of_choice_else at b x y} pos2 d2)))
+      (after_take some a (w.bind _ (within chop_level (drop 1 ts)) (λ y zs. w.stays {x = of_choice_else at b x y} zs)) (λ c pos d e.
+      both _ _ (alike chop_level _ _ _ pos d) (λ y zs. w.stays {x = of_choice_else at b x y} zs) (λ y l r q eq lens pos2 d2. stays_alike {x = of_choice_else at b x y} pos2 d2)))
       (stays_alike {x = of_choice at b x} some a)
 
   chosen : (at : ℕ) {n : ℕ} {ts us : Tokens} → 0 < n → Agrees n ts us → Alike n ts us (r.choice inner room at ts) (r.choice inner room at us)
   unfolding r.choice
   chosen at some a =
-      both _ _ (parted chop (m.Word word.Then) some a) (λ b vs. w.bind _ (within chop vs) (λ x zs. w.elsed inner room within at b x zs)) (λ b l r q eq lens pos c.
-      both _ _ (alike chop _ _ _ pos c) (λ x zs. w.elsed inner room within at b x zs) (λ x l2 r2 q2 eq2 lens2 pos2 c2. elsed at b x pos2 c2))
+      both _ _ (parted chop_level (m.Word word.Then) some a) (λ b vs. w.bind _ (within chop_level vs) (λ x zs. w.elsed inner room within at b x zs)) (λ b l r q eq lens pos c.
+      both _ _ (alike chop_level _ _ _ pos c) (λ x zs. w.elsed inner room within at b x zs) (λ x l2 r2 q2 eq2 lens2 pos2 c2. elsed at b x pos2 c2))
 
   primary_by_alike : (at : ℕ) (x : Head) {n : ℕ} {ts us : Tokens} → 0 < n → Agrees n ts us → Alike n ts us (r.primary_by inner room at x ts) (r.primary_by inner room at x us)
   primary_by_alike at (h.Atom x) some a = stays_alike some a
   primary_by_alike at (h.Listed x) some a = both _ _ (operanded (listed_level x) (listed_close x) some a) (λ all vs. w.stays vs) (λ all l r q eq lens pos b. stays_alike pos b)
   primary_by_alike at (h.Enclosed e) some a = both _ _ (parted (enclosed_level e) (enclosed_close e) some a) (λ x vs. w.stays vs) (λ x l r q eq lens pos b. stays_alike pos b)
   primary_by_alike at h.If some a = chosen at some a
-  primary_by_alike at (h.Paired p) some a = both _ _ (parted chop (middle p) some a) (λ x vs. w.bind _ (within chop vs) (λ y zs. w.stays {x = of_pair at p x y} zs)) (λ x l r q eq lens pos b.
-      both _ _ (alike chop _ _ _ pos b) (λ y zs. w.stays {x = of_pair at p x y} zs) (λ y l2 r2 q2 eq2 lens2 pos2 b2. stays_alike {x = of_pair at p x y} pos2 b2))
-  primary_by_alike at (h.Exists xs) some a = both _ _ (alike chop _ _ _ some a) (λ x vs. w.stays vs) (λ x l r q eq lens pos b. stays_alike pos b)
+  primary_by_alike at (h.Paired p) some a = both _ _ (parted chop_level (middle p) some a) (λ x vs. w.bind _ (within chop_level vs) (λ y zs. w.stays {x = of_pair at p x y} zs)) (λ x l r q eq lens pos b.
+      both _ _ (alike chop_level _ _ _ pos b) (λ y zs. w.stays {x = of_pair at p x y} zs) (λ y l2 r2 q2 eq2 lens2 pos2 b2. stays_alike {x = of_pair at p x y} pos2 b2))
+  primary_by_alike at (h.Exists xs) some a = both _ _ (alike chop_level _ _ _ some a) (λ x vs. w.stays vs) (λ x l r q eq lens pos b. stays_alike pos b)
 
   -- a primary that begins so
   abbrev begun : ℕ → Start → Reader Found
@@ -200,20 +200,20 @@ module _ (inner : ℕ → Reader Found) (room : ℕ) (within : (k : ℕ) (ts : T
       subst (λ (q : ℕ). Alike n ts us (begun (from ts) (start_of (mark ts)) ts) (begun q (start_of (mark us)) us)) (same_from some a)
       (subst (λ (q : Mark). Alike n ts us (begun (from ts) (start_of (mark ts)) ts) (begun (from ts) (start_of q) us)) (same_mark some a) (begun_alike (from ts) (start_of (mark ts)) some a))
 
-  operated_alike : (k : ℕ) (way : Way) (o : Op) (at : ℕ) (left : Found) {n : ℕ} {ts us : Tokens} → 0 < n → Agrees n ts us
-      → Alike n ts us (r.operated inner room k way o at left ts) (r.operated inner room k way o at left us)
+  operated_alike : (o : Op) (at : ℕ) (left : Found) {n : ℕ} {ts us : Tokens} → 0 < n → Agrees n ts us
+      → Alike n ts us (r.operated inner room o at left ts) (r.operated inner room o at left us)
   unfolding r.operated
-  operated_alike k way o at left some a =
-      both _ _ (fitted_alike room left.height some a) (λ u vs. w.bind _ (w.took_one vs) (λ v zs. w.bind _ (within (operand_level k way) zs) (λ x ys. w.stays {x = of_infix at o left x} ys))) (λ u l r q eq lens pos b.
-      after_take pos b (w.bind _ (within (operand_level k way) (drop 1 r)) (λ x ys. w.stays {x = of_infix at o left x} ys)) (λ c pos2 d e.
-      both _ _ (alike (operand_level k way) _ _ _ pos2 d) (λ x ys. w.stays {x = of_infix at o left x} ys) (λ x l2 r2 q2 eq2 lens2 pos3 b3. stays_alike {x = of_infix at o left x} pos3 b3)))
+  operated_alike o at left some a =
+      both _ _ (fitted_alike room left.height some a) (λ u vs. w.bind _ (w.took_one vs) (λ v zs. w.bind _ (within (right_level o) zs) (λ x ys. w.stays {x = of_infix at o left x} ys))) (λ u l r q eq lens pos b.
+      after_take pos b (w.bind _ (within (right_level o) (drop 1 r)) (λ x ys. w.stays {x = of_infix at o left x} ys)) (λ c pos2 d e.
+      both _ _ (alike (right_level o) _ _ _ pos2 d) (λ x ys. w.stays {x = of_infix at o left x} ys) (λ x l2 r2 q2 eq2 lens2 pos3 b3. stays_alike {x = of_infix at o left x} pos3 b3)))
 
   indexed_alike : (at : ℕ) (left : Found) {n : ℕ} {ts us : Tokens} → 0 < n → Agrees n ts us → Alike n ts us (r.indexed inner room at left ts) (r.indexed inner room at left us)
   unfolding r.indexed
   indexed_alike at left some a =
-      both _ _ (fitted_alike room left.height some a) (λ u vs. w.bind _ (w.took_one vs) (λ v zs. w.bind _ (w.parted inner room within chop (m.Symbol symbol.CloseSquare) zs) (λ x ys. w.stays {x = of_index at left x} ys))) (λ u l r q eq lens pos b.
-      after_take pos b (w.bind _ (w.parted inner room within chop (m.Symbol symbol.CloseSquare) (drop 1 r)) (λ x ys. w.stays {x = of_index at left x} ys)) (λ c pos2 d e.
-      both _ _ (parted chop (m.Symbol symbol.CloseSquare) pos2 d) (λ x ys. w.stays {x = of_index at left x} ys) (λ x l2 r2 q2 eq2 lens2 pos3 b3. stays_alike {x = of_index at left x} pos3 b3)))
+      both _ _ (fitted_alike room left.height some a) (λ u vs. w.bind _ (w.took_one vs) (λ v zs. w.bind _ (w.parted inner room within chop_level (m.Symbol symbol.CloseSquare) zs) (λ x ys. w.stays {x = of_index at left x} ys))) (λ u l r q eq lens pos b.
+      after_take pos b (w.bind _ (w.parted inner room within chop_level (m.Symbol symbol.CloseSquare) (drop 1 r)) (λ x ys. w.stays {x = of_index at left x} ys)) (λ c pos2 d e.
+      both _ _ (parted chop_level (m.Symbol symbol.CloseSquare) pos2 d) (λ x ys. w.stays {x = of_index at left x} ys) (λ x l2 r2 q2 eq2 lens2 pos3 b3. stays_alike {x = of_index at left x} pos3 b3)))
 
   chained_alike : (k at : ℕ) (left : Found) {n : ℕ} {ts us : Tokens} → 0 < n → Agrees n ts us → Alike n ts us (r.chained inner room k at left ts) (r.chained inner room k at left us)
   unfolding r.chained r.others
@@ -224,7 +224,7 @@ module _ (inner : ℕ → Reader Found) (room : ℕ) (within : (k : ℕ) (ts : T
 
   turn_by_alike : (k at : ℕ) (left : Found) (role : Role) {n : ℕ} {ts us : Tokens} → 0 < n → Agrees n ts us → Alike n ts us (r.turn_by inner room k at left role ts) (r.turn_by inner room k at left role us)
   turn_by_alike k at left Ends some a = stays_alike some a
-  turn_by_alike k at left (Infix l way o) some a = both _ _ (operated_alike k way o at left some a) (λ x vs. w.stays vs) (λ x l r q eq lens pos b. stays_alike pos b)
+  turn_by_alike k at left (Infix o) some a = both _ _ (operated_alike o at left some a) (λ x vs. w.stays vs) (λ x l r q eq lens pos b. stays_alike pos b)
   turn_by_alike k at left Opens some a = both _ _ (indexed_alike at left some a) (λ x vs. w.stays vs) (λ x l r q eq lens pos b. stays_alike pos b)
   turn_by_alike k at left Joins some a = both _ _ (chained_alike k at left some a) (λ x vs. w.stays vs) (λ x l r q eq lens pos b. stays_alike pos b)
 
@@ -283,7 +283,7 @@ read_alike (suc room) k some a = levels_alike (r.read room) room (w.read_within 
 
 sentence_alike : {n : ℕ} {ts us : Tokens} → 0 < n → Agrees n ts us → Alike n ts us (source.sentence ts) (source.sentence us)
 unfolding source.sentence
-sentence_alike some a = both _ _ (read_alike limit chop some a) (λ x vs. w.bind _ (w.expected (m.Symbol symbol.Stop) vs) (λ u zs. w.stays {x = x.tree} zs)) (λ x l r q eq lens pos b.
+sentence_alike some a = both _ _ (read_alike limit chop_level some a) (λ x vs. w.bind _ (w.expected (m.Symbol symbol.Stop) vs) (λ u zs. w.stays {x = x.tree} zs)) (λ x l r q eq lens pos b.
     both _ _ (expected_alike (m.Symbol symbol.Stop) pos b) (λ u zs. w.stays {x = x.tree} zs) (λ u l2 r2 q2 eq2 lens2 pos2 b2. stays_alike {x = x.tree} pos2 b2))
 
 parameters_alike : {n : ℕ} {ts us : Tokens} → 0 < n → Agrees n ts us → Alike n ts us (source.parameters ts) (source.parameters us)

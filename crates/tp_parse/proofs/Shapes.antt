@@ -27,9 +27,9 @@ mutual
 
   goes_tall : {k at : ℕ} {a t : Found} {ts rest : Tokens} → 0 < a.height → Goes k at a ts t rest → 0 < t.height
   goes_tall some (ends e) = some
-  goes_tall some (left e d g) = goes_tall (omega arith) g
-  goes_tall some (single e d) = omega arith
-  goes_tall some (right e d) = omega arith
+  goes_tall some (left e w d g) = goes_tall (omega arith) g
+  goes_tall some (single e w d) = omega arith
+  goes_tall some (right e w d) = omega arith
   goes_tall some (indexed e d f g) = goes_tall (omega arith) g
   goes_tall some (joins e o) = omega arith
 
@@ -97,9 +97,9 @@ mutual
 
   pub goes_shorter : {k at : ℕ} {a t : Found} {ts rest : Tokens} → Goes k at a ts t rest → length rest ≤ length ts
   goes_shorter (ends e) = omega arith
-  goes_shorter {ts = ts} (left e d g) = omega (arith, dropped ts, shorter d, goes_shorter g)
-  goes_shorter {ts = ts} (single e d) = omega (arith, dropped ts, shorter d)
-  goes_shorter {ts = ts} (right e d) = omega (arith, dropped ts, shorter d)
+  goes_shorter {ts = ts} (left e w d g) = omega (arith, dropped ts, shorter d, goes_shorter g)
+  goes_shorter {ts = ts} (single e w d) = omega (arith, dropped ts, shorter d)
+  goes_shorter {ts = ts} (right e w d) = omega (arith, dropped ts, shorter d)
   goes_shorter {ts = ts} (indexed {end = end} e d f g) = omega (arith, dropped ts, shorter d, passed end, goes_shorter g)
   goes_shorter (joins e o) = others_shorter o
 

@@ -5,22 +5,23 @@ use Rattle.std.proofs.lemmas.List.{append-nil}
 use Rattle.tp_lex.specs.declared.token.Word.TheVariants as word
 use Rattle.tp_lex.specs.declared.token.Symbol.TheVariants as symbol
 use Rattle.tp_tree.specs.declared.operator.Op.{Op}
+use Rattle.tp_tree.specs.declared.operator.Grouping.{Grouping}
+use Rattle.tp_tree.specs.declared.operator.Grouping.TheVariants.{Left, Single, Right}
+use Rattle.tp_tree.specs.Levels.{chop_level, grouping, level_right_of, right_level}
 use Rattle.tp_parse.specs.declared.mark.Mark.{Mark}
 use Rattle.tp_parse.specs.declared.mark.Mark.TheVariants as m
 use Rattle.tp_parse.specs.declared.mark.Role.{Role}
 use Rattle.tp_parse.specs.declared.mark.Role.TheVariants.{Ends, Infix, Opens, Joins}
-use Rattle.tp_parse.specs.declared.mark.Way.{Way}
-use Rattle.tp_parse.specs.declared.mark.Way.TheVariants.{Left, Single, Right}
 use Rattle.tp_parse.specs.declared.head.Head.{Head}
 use Rattle.tp_parse.specs.declared.head.Head.TheVariants as h
-use Rattle.tp_parse.specs.Marks.{role_at, before, same, start_of, chop, comma, listed_level, listed_close, enclosed_level, enclosed_close, middle}
+use Rattle.tp_parse.specs.Marks.{role_at, before, same, start_of, comma, listed_level, listed_close, enclosed_level, enclosed_close, middle}
 use Rattle.tp_parse.specs.Input.{Tokens, Reader, and_then, ◌>>=◌, pure, mark, from, mark_due, past, sees}
 use Rattle.tp_parse.specs.Head.{head_by}
 use Rattle.tp_parse.specs.Found.{Found, Operands, no_operand, operand_then, then_operand, operands_of, of_atom, of_operands, of_enclosed, of_choice, of_choice_else, of_pair, of_exists, of_prefix, of_infix, of_index, of_chain}
 use Rattle.tp_parse.specs.Reading as r
-use Rattle.tp_parse.specs.Reading.{operand_level, goes_on}
+use Rattle.tp_parse.specs.Reading.{goes_on}
 use Rattle.tp_parse.specs.Grammar.{BeginsPrimary, Parses, atom, listed, enclosed, if_then, if_else, paired, quantified, prefixed, level, Goes, ends, left, single, right, indexed, joins, Others, no_more, one_more, Listing, no_operands, operands}
-use Rattle.tp_parse.proofs.Marks.{same_is, same_not}
+use Rattle.tp_parse.proofs.Marks.{same_is, same_not, right_is}
 use Rattle.tp_parse.proofs.Shapes.{taken, role_end, role_taken, shorter, passed}
 use Rattle.tp_parse.proofs.Heads.{bind_ok, fine, ok_is, chosen, chosen_at, expect_then, deepen_then, fits_then, admit_then, head_sound}
 
@@ -104,13 +105,13 @@ module _ (inner : ℕ → Reader Found) (room : ℕ) (sound : (k : ℕ) (ts : To
   choice_sound : (ts mid : Tokens) (p : Found × Tokens) → BeginsPrimary ts h.If mid → r.choice inner room (from ts) mid ≡ Ok p → Is (suc room) 0 ts p
   unfolding r.choice r.else_part
   choice_sound ts mid p begins e =
-      let b = part_then chop (m.Word word.Then) mid _ p e in
-      let d = bind_ok (inner chop (past b.0.1)) _ p b.3 in
-      let yes = sound chop (past b.0.1) d.0 d.1 in
+      let b = part_then chop_level (m.Word word.Then) mid _ p e in
+      let d = bind_ok (inner chop_level (past b.0.1)) _ p b.3 in
+      let yes = sound chop_level (past b.0.1) d.0 d.1 in
       elim (chosen (sees (m.Word word.Else) d.0.1) _ _ _ d.2) [
         | inl w ↦
-            let v = bind_ok (inner chop (drop 1 d.0.1)) _ p w.1 in
-            let no = sound chop (drop 1 d.0.1) v.0 v.1 in
+            let v = bind_ok (inner chop_level (drop 1 d.0.1)) _ p w.1 in
+            let no = sound chop_level (drop 1 d.0.1) v.0 v.1 in
             moved (of_choice_else (from ts) b.0.0 d.0.0 v.0.0, v.0.1) p v.2 (if_else begins b.1.0 b.2 yes.0 (same_is _ _ w.0) no.0, omega (arith, b.1.1, yes.1, no.1))
         | inr w ↦
             moved (of_choice (from ts) b.0.0 d.0.0, d.0.1) p w.1 (if_then begins b.1.0 b.2 yes.0 (same_not _ _ w.0), omega (arith, b.1.1, yes.1))
@@ -127,13 +128,13 @@ module _ (inner : ℕ → Reader Found) (room : ℕ) (sound : (k : ℕ) (ts : To
       moved (of_enclosed (from ts) x a.0.0, past a.0.1) p a.3 (enclosed begins a.1.0 a.2, omega (arith, a.1.1))
   primary_by_sound h.If ts mid p begins e = choice_sound ts mid p begins e
   primary_by_sound (h.Paired x) ts mid p begins e =
-      let a = part_then chop (middle x) mid _ p e in
-      let b = bind_ok (inner chop (past a.0.1)) _ p a.3 in
-      let is = sound chop (past a.0.1) b.0 b.1 in
+      let a = part_then chop_level (middle x) mid _ p e in
+      let b = bind_ok (inner chop_level (past a.0.1)) _ p a.3 in
+      let is = sound chop_level (past a.0.1) b.0 b.1 in
       moved (of_pair (from ts) x a.0.0 b.0.0, b.0.1) p b.2 (paired begins a.1.0 a.2 is.0, omega (arith, a.1.1, is.1))
   primary_by_sound (h.Exists xs) ts mid p begins e =
-      let a = bind_ok (inner chop mid) _ p e in
-      let is = sound chop mid a.0 a.1 in
+      let a = bind_ok (inner chop_level mid) _ p e in
+      let is = sound chop_level mid a.0 a.1 in
       moved (of_exists (from ts) xs a.0.0, a.0.1) p a.2 (quantified begins is.0, omega (arith, is.1))
 
   primary_sound : (ts : Tokens) (p : Found × Tokens) → r.primary inner room ts ≡ Ok p → Is (suc room) 0 ts p
@@ -153,22 +154,25 @@ module _ (inner : ℕ → Reader Found) (room : ℕ) (sound : (k : ℕ) (ts : To
   abbrev HasTurned : ℕ → ℕ → Found → Tokens → (Found × Bool) × Tokens → Type 0
   HasTurned k at a ts p = Turned k at a ts p.0 p.1
 
-  operated_sound : (k l : ℕ) (way : Way) (o : Op) (at : ℕ) (a : Found) (ts : Tokens) (p : (Found × Bool) × Tokens) → role_at k (mark ts) ≡ Infix l way o
-      → (r.operated inner room k way o at a >>= λ x. pure (x, goes_on way)) ts ≡ Ok p → HasTurned k at a ts p
+  operated_sound : (k : ℕ) (o : Op) (at : ℕ) (a : Found) (ts : Tokens) (p : (Found × Bool) × Tokens) → role_at k (mark ts) ≡ Infix o
+      → (r.operated inner room o at a >>= λ x. pure (x, goes_on (grouping o))) ts ≡ Ok p → HasTurned k at a ts p
   unfolding r.operated
-  operated_sound k l way o at a ts p role e =
-      let x = bind_ok (r.operated inner room k way o at a ts) _ p e in
+  operated_sound k o at a ts p role e =
+      let x = bind_ok (r.operated inner room o at a ts) _ p e in
       let f = fits_then room a.height ts _ x.0 x.1 in
-      let b = bind_ok (inner (operand_level k way) (drop 1 ts)) _ x.0 f.1 in
-      let is = sound (operand_level k way) (drop 1 ts) b.0 b.1 in
+      let b = bind_ok (inner (right_level o) (drop 1 ts)) _ x.0 f.1 in
+      let is = sound (right_level o) (drop 1 ts) b.0 b.1 in
       let made = ok_is (of_infix at o a b.0.0, b.0.1) x.0 b.2 in
-      subst (HasTurned k at a ts) (ap (λ (q : Found × Tokens). ((q.0, goes_on way), q.1)) made ∙ ok_is _ p x.2) (by way role is.0 is.1 f.0)
+      subst (HasTurned k at a ts) (ap (λ (q : Found × Tokens). ((q.0, goes_on (grouping o)), q.1)) made ∙ ok_is _ p x.2) (by (grouping o) refl (operand (grouping o) refl is.0) is.1 f.0)
     where
-      by : (way : Way) {b : Found} {rest : Tokens} → role_at k (mark ts) ≡ Infix l way o → Parses (operand_level k way) (drop 1 ts) b rest → b.height ≤ room → a.height ≤ room
+      operand : (way : Grouping) {b : Found} {rest : Tokens} → grouping o ≡ way → Parses (right_level o) (drop 1 ts) b rest → Parses (level_right_of way k) (drop 1 ts) b rest
+      operand way {b} {rest} w d = subst (λ n. Parses n (drop 1 ts) b rest) (sym (right_is k (mark ts) o way role w)) d
+
+      by : (way : Grouping) {b : Found} {rest : Tokens} → grouping o ≡ way → Parses (level_right_of way k) (drop 1 ts) b rest → b.height ≤ room → a.height ≤ room
           → HasTurned k at a ts ((of_infix at o a b, goes_on way), rest)
-      by Left role d low low2 = record { stops = λ q. absurd cc; goes = λ q t last g. left role d g; fewer = λ q. omega (arith, shorter d, role_taken k ts _ role (λ q. cc)); low = λ q. omega arith }
-      by Single role d low low2 = record { stops = λ q. single role d; goes = λ q. absurd cc; fewer = λ q. absurd cc; low = λ q. omega arith }
-      by Right role d low low2 = record { stops = λ q. right role d; goes = λ q. absurd cc; fewer = λ q. absurd cc; low = λ q. omega arith }
+      by Left w d low low2 = record { stops = λ q. absurd cc; goes = λ q t last g. left role w d g; fewer = λ q. omega (arith, shorter d, role_taken k ts _ role (λ q. cc)); low = λ q. omega arith }
+      by Single w d low low2 = record { stops = λ q. single role w d; goes = λ q. absurd cc; fewer = λ q. absurd cc; low = λ q. omega arith }
+      by Right w d low low2 = record { stops = λ q. right role w d; goes = λ q. absurd cc; fewer = λ q. absurd cc; low = λ q. omega arith }
 
   indexed_sound : (k at : ℕ) (a : Found) (ts : Tokens) (p : (Found × Bool) × Tokens) → role_at k (mark ts) ≡ Opens
       → (r.indexed inner room at a >>= λ x. pure (x, true)) ts ≡ Ok p → HasTurned k at a ts p
@@ -176,7 +180,7 @@ module _ (inner : ℕ → Reader Found) (room : ℕ) (sound : (k : ℕ) (ts : To
   indexed_sound k at a ts p role e =
       let x = bind_ok (r.indexed inner room at a ts) _ p e in
       let f = fits_then room a.height ts _ x.0 x.1 in
-      let i = part_then chop (m.Symbol symbol.CloseSquare) (drop 1 ts) _ x.0 f.1 in
+      let i = part_then chop_level (m.Symbol symbol.CloseSquare) (drop 1 ts) _ x.0 f.1 in
       let made = ok_is (of_index at a i.0.0, past i.0.1) x.0 i.3 in
       subst (HasTurned k at a ts) (ap (λ (q : Found × Tokens). ((q.0, true), q.1)) made ∙ ok_is _ p x.2) (record {
         stops = λ q. absurd cc;
@@ -205,7 +209,7 @@ module _ (inner : ℕ → Reader Found) (room : ℕ) (sound : (k : ℕ) (ts : To
   turn_by_sound : (k at : ℕ) (a : Found) (role : Role) (ts : Tokens) (p : (Found × Bool) × Tokens) → role_at k (mark ts) ≡ role → r.turn_by inner room k at a role ts ≡ Ok p → HasTurned k at a ts p
   turn_by_sound k at a Ends ts p is e =
       subst (HasTurned k at a ts) (ok_is ((a, false), ts) p e) (record { stops = λ q. ends is; goes = λ q. absurd cc; fewer = λ q. absurd cc; low = λ q. q })
-  turn_by_sound k at a (Infix l way o) ts p is e = operated_sound k l way o at a ts p is e
+  turn_by_sound k at a (Infix o) ts p is e = operated_sound k o at a ts p is e
   turn_by_sound k at a Opens ts p is e = indexed_sound k at a ts p is e
   turn_by_sound k at a Joins ts p is e = chained_sound k at a ts p is e
 

@@ -13,19 +13,19 @@ use Rattle.tp_tree.specs.declared.operator.Form.{Form}
 use Rattle.tp_tree.specs.declared.operator.Form.TheVariants as f
 use Rattle.tp_tree.specs.Tree as t
 use Rattle.tp_tree.specs.Tree.{PhraseTree, phrase, KindTree, PhraseTrees, no_phrase, phrase_then, phrases_of}
-use Rattle.tp_tree.specs.Levels.{op_level}
+use Rattle.tp_tree.specs.declared.operator.Grouping.TheVariants.{Left, Single, Right}
+use Rattle.tp_tree.specs.Levels.{op_level, grouping}
 use Rattle.tp_tree.specs.Places.{unplaced, unplaced_kind}
 use Rattle.tp_parse.specs.declared.mark.Mark.TheVariants as m
 use Rattle.tp_parse.specs.declared.mark.Enclosure.TheVariants as enclosure
 use Rattle.tp_parse.specs.declared.mark.Role.TheVariants.{Ends, Infix, Opens, Joins}
-use Rattle.tp_parse.specs.declared.mark.Way.TheVariants.{Left, Single, Right}
 use Rattle.tp_parse.specs.declared.mark.Start.TheVariants as s
 use Rattle.tp_parse.specs.Marks.{kind_mark, before, role_of, role_at, level_of, start_of}
 use Rattle.tp_parse.specs.Input.{Tokens, past}
 use Rattle.tp_parse.specs.Found.{prefixed_kind}
 use Rattle.tp_parse.specs.Grammar as g
 use Rattle.tp_parse.specs.Grammar.{Parses, open_round}
-use Rattle.tp_parse.specs.Spelled.{OperatorsHaveOneLevel, token_kinds, op_kind, bare_kind, form_kind, open_kind, close_kind, operand_kinds, more_operands, HasTwo, HasName}
+use Rattle.tp_parse.specs.Spelled.{token_kinds, op_kind, bare_kind, form_kind, open_kind, close_kind, operand_kinds, more_operands, HasTwo, HasName}
 use Rattle.tp_parse.proofs.SpelledTokens.{next_is, next_mark, mark_next, passed_whole, opened_is, EndsBefore, lower_ends, role_ends, ReadAs, OpensAs, stays}
 use Rattle.tp_parse.proofs.SpelledParts.{grammar_level, is_left, IsOperand, AreOperands, IsKind, KindReads, others_are, listing_is, names_are}
 
@@ -189,9 +189,9 @@ index_is x y left right = record { low = omega arith; reads = λ ts ks e st. sta
 abbrev IsOpAt : ℕ → Op → Type 0
 IsOpAt i o = (ks : List Kind) → EndsBefore i (op_kind o ∷ ks)
 
-left_is : (o : Op) (i : ℕ) (x y : PhraseTree) → suc i ≤ 10 → is_left (suc i) ≡ true → IsOpAt i o → grammar_level i ≡ i → role_at (suc i) (kind_mark (op_kind o)) ≡ Infix (suc i) Left o → IsOperand x → IsOperand y
+left_is : (o : Op) (i : ℕ) (x y : PhraseTree) → suc i ≤ 10 → is_left (suc i) ≡ true → IsOpAt i o → grammar_level i ≡ i → role_at (suc i) (kind_mark (op_kind o)) ≡ Infix o → grouping o ≡ Left → IsOperand x → IsOperand y
     → (ts : Tokens) (ks : List Kind) → token_kinds ts ≡ operand_kinds (suc i) x (op_kind o ∷ operand_kinds i y ks) → EndsBefore i ks → OpensAs i ts (phrase 0 (t.binary o (unplaced x) (unplaced y))) ks
-left_is o i x y high lf at low role left right ts ks e st =
+left_is o i x y high lf at low role way left right ts ks e st =
     let w = left.opens i high lf ts _ e (at _) in
     let h = next_is w.rest (op_kind o) _ w.left in
     let r = right.reads i (drop 1 w.rest) ks h.later st in
@@ -201,41 +201,41 @@ left_is o i x y high lf at low role left right ts ks e st =
       rest = r.rest;
       left = r.left;
       same = ap₂ (λ u v. phrase 0 (t.binary o u v)) w.same r.same;
-      goes = λ z end q. w.goes z end (g.left (ap (role_at (suc i)) h.mark ∙ role) (subst (λ n. Parses n (drop 1 w.rest) r.found r.rest) down r.parses) q);
+      goes = λ z end q. w.goes z end (g.left (ap (role_at (suc i)) h.mark ∙ role) way (subst (λ n. Parses n (drop 1 w.rest) r.found r.rest) down r.parses) q);
     }
 
 -- where the operator groups to the left
-left_kind : (o : Op) (i : ℕ) (x y : PhraseTree) → suc i ≤ 10 → is_left (suc i) ≡ true → IsOpAt i o → grammar_level i ≡ i → role_at (suc i) (kind_mark (op_kind o)) ≡ Infix (suc i) Left o → IsOperand x → IsOperand y
+left_kind : (o : Op) (i : ℕ) (x y : PhraseTree) → suc i ≤ 10 → is_left (suc i) ≡ true → IsOpAt i o → grammar_level i ≡ i → role_at (suc i) (kind_mark (op_kind o)) ≡ Infix o → grouping o ≡ Left → IsOperand x → IsOperand y
     → (ts : Tokens) (ks : List Kind) → token_kinds ts ≡ operand_kinds (suc i) x (op_kind o ∷ operand_kinds i y ks) → EndsBefore (suc i) ks → ReadAs (suc i) ts (phrase 0 (t.binary o (unplaced x) (unplaced y))) ks
-left_kind o i x y high lf at low role left right ts ks e st =
-    stays i (role_ends (suc i) ks st (suc i) (omega arith)) (left_is o i x y high lf at low role left right ts ks e (lower_ends i (omega arith) st))
+left_kind o i x y high lf at low role way left right ts ks e st =
+    stays i (role_ends (suc i) ks st (suc i) (omega arith)) (left_is o i x y high lf at low role way left right ts ks e (lower_ends i (omega arith) st))
 
 -- where it groups to the right
-right_kind : (o : Op) (i : ℕ) (x y : PhraseTree) → IsOpAt i o → grammar_level i ≡ i → grammar_level (suc i) ≡ suc i → role_at (suc i) (kind_mark (op_kind o)) ≡ Infix (suc i) Right o → IsOperand x → IsOperand y
+right_kind : (o : Op) (i : ℕ) (x y : PhraseTree) → IsOpAt i o → grammar_level i ≡ i → grammar_level (suc i) ≡ suc i → role_at (suc i) (kind_mark (op_kind o)) ≡ Infix o → grouping o ≡ Right → IsOperand x → IsOperand y
     → (ts : Tokens) (ks : List Kind) → token_kinds ts ≡ operand_kinds i x (op_kind o ∷ operand_kinds (suc i) y ks) → EndsBefore (suc i) ks → ReadAs (suc i) ts (phrase 0 (t.binary o (unplaced x) (unplaced y))) ks
-right_kind o i x y at low high role left right ts ks e st =
+right_kind o i x y at low high role way left right ts ks e st =
     let w = left.reads i ts _ e (at _) in
     let h = next_is w.rest (op_kind o) _ w.left in
     let r = right.reads (suc i) (drop 1 w.rest) ks h.later st in
     record {
       found = _;
       rest = r.rest;
-      parses = g.level (subst (λ n. Parses n ts w.found w.rest) low w.parses) (g.right (ap (role_at (suc i)) h.mark ∙ role) (subst (λ n. Parses n (drop 1 w.rest) r.found r.rest) high r.parses));
+      parses = g.level (subst (λ n. Parses n ts w.found w.rest) low w.parses) (g.right (ap (role_at (suc i)) h.mark ∙ role) way (subst (λ n. Parses n (drop 1 w.rest) r.found r.rest) high r.parses));
       left = r.left;
       same = ap₂ (λ u v. phrase 0 (t.binary o u v)) w.same r.same;
     }
 
 -- where it doesn't group
-single_kind : (o : Op) (x y : PhraseTree) → IsOpAt 4 o → role_at 5 (kind_mark (op_kind o)) ≡ Infix 5 Single o → IsOperand x → IsOperand y
+single_kind : (o : Op) (x y : PhraseTree) → IsOpAt 4 o → role_at 5 (kind_mark (op_kind o)) ≡ Infix o → grouping o ≡ Single → IsOperand x → IsOperand y
     → (ts : Tokens) (ks : List Kind) → token_kinds ts ≡ operand_kinds 4 x (op_kind o ∷ operand_kinds 4 y ks) → EndsBefore 5 ks → ReadAs 5 ts (phrase 0 (t.binary o (unplaced x) (unplaced y))) ks
-single_kind o x y at role left right ts ks e st =
+single_kind o x y at role way left right ts ks e st =
     let w = left.reads 4 ts _ e (at _) in
     let h = next_is w.rest (op_kind o) _ w.left in
     let r = right.reads 4 (drop 1 w.rest) ks h.later (lower_ends 4 (omega arith) st) in
     record {
       found = _;
       rest = r.rest;
-      parses = g.level w.parses (g.single (ap (role_at 5) h.mark ∙ role) r.parses);
+      parses = g.level w.parses (g.single (ap (role_at 5) h.mark ∙ role) way r.parses);
       left = r.left;
       same = ap₂ (λ u v. phrase 0 (t.binary o u v)) w.same r.same;
     }
@@ -246,23 +246,23 @@ op_ends _ g e ks = record { role = inr (omega (arith, e)); bare = λ q. cc; last
 
 pub binary_is : (o : Op) (x y : PhraseTree) → IsOperand x → IsOperand y → IsKind (t.binary o x y)
 unfolding role_at
-binary_is op.Chop x y left right = record { low = omega arith; reads = right_kind op.Chop 9 x y (op_ends op.Chop 9 refl) refl refl refl left right; opens = λ lf ts ks e st. absurd cc }
-binary_is op.Proj x y left right = record { low = omega arith; reads = right_kind op.Proj 8 x y (op_ends op.Proj 8 refl) refl refl refl left right; opens = λ lf ts ks e st. absurd cc }
-binary_is op.Or x y left right = record { low = omega arith; reads = left_kind op.Or 7 x y (omega arith) refl (op_ends op.Or 7 refl) refl refl left right; opens = λ lf. left_is op.Or 7 x y (omega arith) refl (op_ends op.Or 7 refl) refl refl left right }
-binary_is op.Plus x y left right = record { low = omega arith; reads = left_kind op.Plus 3 x y (omega arith) refl (op_ends op.Plus 3 refl) refl refl left right; opens = λ lf. left_is op.Plus 3 x y (omega arith) refl (op_ends op.Plus 3 refl) refl refl left right }
-binary_is op.Minus x y left right = record { low = omega arith; reads = left_kind op.Minus 3 x y (omega arith) refl (op_ends op.Minus 3 refl) refl refl left right; opens = λ lf. left_is op.Minus 3 x y (omega arith) refl (op_ends op.Minus 3 refl) refl refl left right }
-binary_is op.Times x y left right = record { low = omega arith; reads = left_kind op.Times 2 x y (omega arith) refl (op_ends op.Times 2 refl) refl refl left right; opens = λ lf. left_is op.Times 2 x y (omega arith) refl (op_ends op.Times 2 refl) refl refl left right }
-binary_is op.Div x y left right = record { low = omega arith; reads = left_kind op.Div 2 x y (omega arith) refl (op_ends op.Div 2 refl) refl refl left right; opens = λ lf. left_is op.Div 2 x y (omega arith) refl (op_ends op.Div 2 refl) refl refl left right }
-binary_is op.Mod x y left right = record { low = omega arith; reads = left_kind op.Mod 2 x y (omega arith) refl (op_ends op.Mod 2 refl) refl refl left right; opens = λ lf. left_is op.Mod 2 x y (omega arith) refl (op_ends op.Mod 2 refl) refl refl left right }
-binary_is op.Equal x y left right = record { low = omega arith; reads = single_kind op.Equal x y (op_ends op.Equal 4 refl) refl left right; opens = λ lf ts ks e st. absurd cc }
-binary_is op.Differs x y left right = record { low = omega arith; reads = single_kind op.Differs x y (op_ends op.Differs 4 refl) refl left right; opens = λ lf ts ks e st. absurd cc }
-binary_is op.Less x y left right = record { low = omega arith; reads = single_kind op.Less x y (op_ends op.Less 4 refl) refl left right; opens = λ lf ts ks e st. absurd cc }
-binary_is op.LessEqual x y left right = record { low = omega arith; reads = single_kind op.LessEqual x y (op_ends op.LessEqual 4 refl) refl left right; opens = λ lf ts ks e st. absurd cc }
-binary_is op.Greater x y left right = record { low = omega arith; reads = single_kind op.Greater x y (op_ends op.Greater 4 refl) refl left right; opens = λ lf ts ks e st. absurd cc }
-binary_is op.GreaterEqual x y left right = record { low = omega arith; reads = single_kind op.GreaterEqual x y (op_ends op.GreaterEqual 4 refl) refl left right; opens = λ lf ts ks e st. absurd cc }
-binary_is op.Gets x y left right = record { low = omega arith; reads = single_kind op.Gets x y (op_ends op.Gets 4 refl) refl left right; opens = λ lf ts ks e st. absurd cc }
-binary_is op.Arrow x y left right = record { low = omega arith; reads = single_kind op.Arrow x y (op_ends op.Arrow 4 refl) refl left right; opens = λ lf ts ks e st. absurd cc }
-binary_is op.Becomes x y left right = record { low = omega arith; reads = single_kind op.Becomes x y (op_ends op.Becomes 4 refl) refl left right; opens = λ lf ts ks e st. absurd cc }
+binary_is op.Chop x y left right = record { low = omega arith; reads = right_kind op.Chop 9 x y (op_ends op.Chop 9 refl) refl refl refl refl left right; opens = λ lf ts ks e st. absurd cc }
+binary_is op.Proj x y left right = record { low = omega arith; reads = right_kind op.Proj 8 x y (op_ends op.Proj 8 refl) refl refl refl refl left right; opens = λ lf ts ks e st. absurd cc }
+binary_is op.Or x y left right = record { low = omega arith; reads = left_kind op.Or 7 x y (omega arith) refl (op_ends op.Or 7 refl) refl refl refl left right; opens = λ lf. left_is op.Or 7 x y (omega arith) refl (op_ends op.Or 7 refl) refl refl refl left right }
+binary_is op.Plus x y left right = record { low = omega arith; reads = left_kind op.Plus 3 x y (omega arith) refl (op_ends op.Plus 3 refl) refl refl refl left right; opens = λ lf. left_is op.Plus 3 x y (omega arith) refl (op_ends op.Plus 3 refl) refl refl refl left right }
+binary_is op.Minus x y left right = record { low = omega arith; reads = left_kind op.Minus 3 x y (omega arith) refl (op_ends op.Minus 3 refl) refl refl refl left right; opens = λ lf. left_is op.Minus 3 x y (omega arith) refl (op_ends op.Minus 3 refl) refl refl refl left right }
+binary_is op.Times x y left right = record { low = omega arith; reads = left_kind op.Times 2 x y (omega arith) refl (op_ends op.Times 2 refl) refl refl refl left right; opens = λ lf. left_is op.Times 2 x y (omega arith) refl (op_ends op.Times 2 refl) refl refl refl left right }
+binary_is op.Div x y left right = record { low = omega arith; reads = left_kind op.Div 2 x y (omega arith) refl (op_ends op.Div 2 refl) refl refl refl left right; opens = λ lf. left_is op.Div 2 x y (omega arith) refl (op_ends op.Div 2 refl) refl refl refl left right }
+binary_is op.Mod x y left right = record { low = omega arith; reads = left_kind op.Mod 2 x y (omega arith) refl (op_ends op.Mod 2 refl) refl refl refl left right; opens = λ lf. left_is op.Mod 2 x y (omega arith) refl (op_ends op.Mod 2 refl) refl refl refl left right }
+binary_is op.Equal x y left right = record { low = omega arith; reads = single_kind op.Equal x y (op_ends op.Equal 4 refl) refl refl left right; opens = λ lf ts ks e st. absurd cc }
+binary_is op.Differs x y left right = record { low = omega arith; reads = single_kind op.Differs x y (op_ends op.Differs 4 refl) refl refl left right; opens = λ lf ts ks e st. absurd cc }
+binary_is op.Less x y left right = record { low = omega arith; reads = single_kind op.Less x y (op_ends op.Less 4 refl) refl refl left right; opens = λ lf ts ks e st. absurd cc }
+binary_is op.LessEqual x y left right = record { low = omega arith; reads = single_kind op.LessEqual x y (op_ends op.LessEqual 4 refl) refl refl left right; opens = λ lf ts ks e st. absurd cc }
+binary_is op.Greater x y left right = record { low = omega arith; reads = single_kind op.Greater x y (op_ends op.Greater 4 refl) refl refl left right; opens = λ lf ts ks e st. absurd cc }
+binary_is op.GreaterEqual x y left right = record { low = omega arith; reads = single_kind op.GreaterEqual x y (op_ends op.GreaterEqual 4 refl) refl refl left right; opens = λ lf ts ks e st. absurd cc }
+binary_is op.Gets x y left right = record { low = omega arith; reads = single_kind op.Gets x y (op_ends op.Gets 4 refl) refl refl left right; opens = λ lf ts ks e st. absurd cc }
+binary_is op.Arrow x y left right = record { low = omega arith; reads = single_kind op.Arrow x y (op_ends op.Arrow 4 refl) refl refl left right; opens = λ lf ts ks e st. absurd cc }
+binary_is op.Becomes x y left right = record { low = omega arith; reads = single_kind op.Becomes x y (op_ends op.Becomes 4 refl) refl refl left right; opens = λ lf ts ks e st. absurd cc }
 
 -- ---- chains
 
@@ -383,24 +383,3 @@ exists_is (z ∷ zs) x some is = record {
       record { found = _; rest = w.rest; parses = g.quantified (g.exists (ap start_of h.mark) n.names d.0) w.parses; left = w.left; same = ap (λ u. phrase 0 (t.exists (z ∷ zs) u)) w.same });
   opens = λ lf ts ks e st. absurd cc;
 }
-
--- ---- the two tables of levels
-
-pub one_level : OperatorsHaveOneLevel
-one_level op.Chop = (Right, refl)
-one_level op.Proj = (Right, refl)
-one_level op.Or = (Left, refl)
-one_level op.Equal = (Single, refl)
-one_level op.Differs = (Single, refl)
-one_level op.Less = (Single, refl)
-one_level op.LessEqual = (Single, refl)
-one_level op.Greater = (Single, refl)
-one_level op.GreaterEqual = (Single, refl)
-one_level op.Gets = (Single, refl)
-one_level op.Arrow = (Single, refl)
-one_level op.Becomes = (Single, refl)
-one_level op.Plus = (Left, refl)
-one_level op.Minus = (Left, refl)
-one_level op.Times = (Left, refl)
-one_level op.Div = (Left, refl)
-one_level op.Mod = (Left, refl)

@@ -102,9 +102,9 @@ mutual
 
   goes_whole : {k at : ℕ} {a t : Found} {ts rest : Tokens} → IsWhole a.tree → Goes k at a ts t rest → IsWhole t.tree
   goes_whole w (g.ends e) = w
-  goes_whole w (g.left e d f) = goes_whole (w, phrase_whole d) f
-  goes_whole w (g.single e d) = (w, phrase_whole d)
-  goes_whole w (g.right e d) = (w, phrase_whole d)
+  goes_whole w (g.left e way d f) = goes_whole (w, phrase_whole d) f
+  goes_whole w (g.single e way d) = (w, phrase_whole d)
+  goes_whole w (g.right e way d) = (w, phrase_whole d)
   goes_whole w (g.indexed e d c f) = goes_whole (w, phrase_whole d) f
   goes_whole {k = k} {a = a} {ts = ts} w (g.joins e o) = (two a.tree (joins_and k (mark ts) e) o, (w, others_whole o))
 

@@ -316,9 +316,9 @@ mutual
 
   goes_text : {k at : ℕ} {a t : Found} {ts rest : Tokens} → IsSpellable a.tree → Goes k at a ts t rest → AreTokenTexts ts → IsSpellable t.tree × AreTokenTexts rest
   goes_text w (g.ends e) are = (w, are)
-  goes_text {ts = ts} w (g.left e d f) are = let operand = phrase_text d (dropped ts are) in goes_text (w, operand.0) f operand.1
-  goes_text {ts = ts} w (g.single e d) are = let operand = phrase_text d (dropped ts are) in ((w, operand.0), operand.1)
-  goes_text {ts = ts} w (g.right e d) are = let operand = phrase_text d (dropped ts are) in ((w, operand.0), operand.1)
+  goes_text {ts = ts} w (g.left e way d f) are = let operand = phrase_text d (dropped ts are) in goes_text (w, operand.0) f operand.1
+  goes_text {ts = ts} w (g.single e way d) are = let operand = phrase_text d (dropped ts are) in ((w, operand.0), operand.1)
+  goes_text {ts = ts} w (g.right e way d) are = let operand = phrase_text d (dropped ts are) in ((w, operand.0), operand.1)
   goes_text {ts = ts} w (g.indexed {end = end} e d c f) are = let operand = phrase_text d (dropped ts are) in goes_text (w, operand.0) f (passed end operand.1)
   goes_text w (g.joins e o) are = let others = others_text o are in ((w, others.0), others.1)
 

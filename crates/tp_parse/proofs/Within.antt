@@ -5,26 +5,26 @@ use Rattle.tp_lex.specs.declared.token.Word.TheVariants as word
 use Rattle.tp_lex.specs.declared.token.Symbol.TheVariants as symbol
 use Rattle.tp_tree.specs.Tree.{DefinitionTree, SourceTree}
 use Rattle.tp_tree.specs.declared.operator.Op.{Op}
+use Rattle.tp_tree.specs.Levels.{chop_level, right_level}
 use Rattle.tp_parse.specs.declared.refusal.Refusal.{Refusal}
 use Rattle.tp_parse.specs.declared.refusal.Refusal.TheVariants.{Unexpected, Unfinished, TooDeep, NoMemory}
 use Rattle.tp_parse.specs.declared.mark.Mark.{Mark}
 use Rattle.tp_parse.specs.declared.mark.Mark.TheVariants as m
 use Rattle.tp_parse.specs.declared.mark.Role.{Role}
 use Rattle.tp_parse.specs.declared.mark.Role.TheVariants.{Ends, Infix, Opens, Joins}
-use Rattle.tp_parse.specs.declared.mark.Way.{Way}
 use Rattle.tp_parse.specs.declared.mark.Start.{Start}
 use Rattle.tp_parse.specs.declared.mark.Start.TheVariants as s
 use Rattle.tp_parse.specs.declared.head.Head.{Head}
 use Rattle.tp_parse.specs.declared.head.Head.TheVariants as h
 use Rattle.tp_parse.specs.declared.head.Atom.TheVariants as atom
 use Rattle.tp_parse.specs.declared.head.Listed.TheVariants as listed
-use Rattle.tp_parse.specs.Marks.{same, before, role_at, start_of, chop, comma, listed_level, listed_close, enclosed_level, enclosed_close, middle}
+use Rattle.tp_parse.specs.Marks.{same, before, role_at, start_of, comma, listed_level, listed_close, enclosed_level, enclosed_close, middle}
 use Rattle.tp_parse.specs.Input as input
 use Rattle.tp_parse.specs.Input.{Tokens, ReadOutcome, Reader, and_then, ◌>>=◌, pure, mark, from, first_name, refuse, too_deep, mark_due, past, sees, take, taken_name, lower, any_name, names, names_from, expect, deepen}
 use Rattle.tp_parse.specs.Head.{name_or_call, counter, head_by, is_high, admit, begins, unfit}
 use Rattle.tp_parse.specs.Found.{Found, Operands, then_operand, operands_of, of_choice, of_choice_else, of_infix, of_index, of_prefix, limit, defined, source_of}
 use Rattle.tp_parse.specs.Reading as r
-use Rattle.tp_parse.specs.Reading.{fits, operand_level, goes_on}
+use Rattle.tp_parse.specs.Reading.{fits, goes_on}
 use Rattle.tp_parse.specs.Source as source
 use Rattle.tp_parse.proofs.Shapes.{dropped, passed, role_end}
 
@@ -196,31 +196,31 @@ module _ (inner : ℕ → Reader Found) (room : ℕ) (within : (k : ℕ) (ts : T
 
   pub elsed : (at : ℕ) (b x : Found) (ts : Tokens) → Within ts (r.else_part inner room at b x ts)
   unfolding r.else_part
-  elsed at b x ts = choose (sees (m.Word word.Else) ts) (bind _ (took_one ts) (λ u ws. bind _ (within chop ws) (λ y zs. stays {x = of_choice_else at b x y} zs))) (stays {x = of_choice at b x} ts)
+  elsed at b x ts = choose (sees (m.Word word.Else) ts) (bind _ (took_one ts) (λ u ws. bind _ (within chop_level ws) (λ y zs. stays {x = of_choice_else at b x y} zs))) (stays {x = of_choice at b x} ts)
 
   pub chosen : (at : ℕ) (ts : Tokens) → Within ts (r.choice inner room at ts)
   unfolding r.choice
-  chosen at ts = bind _ (parted chop (m.Word word.Then) ts) (λ b us. bind _ (within chop us) (λ x vs. elsed at b x vs))
+  chosen at ts = bind _ (parted chop_level (m.Word word.Then) ts) (λ b us. bind _ (within chop_level us) (λ x vs. elsed at b x vs))
 
   pub primary_by_within : (at : ℕ) (x : Head) (ts : Tokens) → Within ts (r.primary_by inner room at x ts)
   primary_by_within at (h.Atom a) ts = stays ts
   primary_by_within at (h.Listed l) ts = bind _ (operanded (listed_level l) (listed_close l) ts) (λ all us. stays us)
   primary_by_within at (h.Enclosed e) ts = bind _ (parted (enclosed_level e) (enclosed_close e) ts) (λ x us. stays us)
   primary_by_within at h.If ts = chosen at ts
-  primary_by_within at (h.Paired p) ts = bind _ (parted chop (middle p) ts) (λ x us. bind _ (within chop us) (λ y vs. stays vs))
-  primary_by_within at (h.Exists xs) ts = bind _ (within chop ts) (λ x us. stays us)
+  primary_by_within at (h.Paired p) ts = bind _ (parted chop_level (middle p) ts) (λ x us. bind _ (within chop_level us) (λ y vs. stays vs))
+  primary_by_within at (h.Exists xs) ts = bind _ (within chop_level ts) (λ x us. stays us)
 
   pub primary_within : (ts : Tokens) → Within ts (r.primary inner room ts)
   unfolding r.primary
   primary_within ts = bind _ (admitted room ts) (λ u us. bind _ (headed (start_of (mark ts)) us) (λ x vs. primary_by_within (from ts) x vs))
 
-  pub operated_within : (k : ℕ) (way : Way) (o : Op) (at : ℕ) (left : Found) (ts : Tokens) → 0 < length ts → Within ts (r.operated inner room k way o at left ts)
+  pub operated_within : (o : Op) (at : ℕ) (left : Found) (ts : Tokens) → 0 < length ts → Within ts (r.operated inner room o at left ts)
   unfolding r.operated
-  operated_within k way o at left ts some = bind _ (fitted room left.height ts some) (λ u us. bind _ (took_one us) (λ v vs. bind _ (within (operand_level k way) vs) (λ x ws. stays {x = of_infix at o left x} ws)))
+  operated_within o at left ts some = bind _ (fitted room left.height ts some) (λ u us. bind _ (took_one us) (λ v vs. bind _ (within (right_level o) vs) (λ x ws. stays {x = of_infix at o left x} ws)))
 
   pub indexed_within : (at : ℕ) (left : Found) (ts : Tokens) → 0 < length ts → Within ts (r.indexed inner room at left ts)
   unfolding r.indexed
-  indexed_within at left ts some = bind _ (fitted room left.height ts some) (λ u us. bind _ (took_one us) (λ v vs. bind _ (parted chop (m.Symbol symbol.CloseSquare) vs) (λ x ws. stays {x = of_index at left x} ws)))
+  indexed_within at left ts some = bind _ (fitted room left.height ts some) (λ u us. bind _ (took_one us) (λ v vs. bind _ (parted chop_level (m.Symbol symbol.CloseSquare) vs) (λ x ws. stays {x = of_index at left x} ws)))
 
   pub chained_within : (k at : ℕ) (left : Found) (ts : Tokens) → 0 < length ts → Within ts (r.chained inner room k at left ts)
   unfolding r.chained r.others
@@ -229,7 +229,7 @@ module _ (inner : ℕ → Reader Found) (room : ℕ) (within : (k : ℕ) (ts : T
 
   pub turn_by_within : (k at : ℕ) (left : Found) (role : Role) (ts : Tokens) → (role ≢ Ends → 0 < length ts) → Within ts (r.turn_by inner room k at left role ts)
   turn_by_within k at left Ends ts some = stays ts
-  turn_by_within k at left (Infix l way o) ts some = bind _ (operated_within k way o at left ts (some (λ q. cc))) (λ x us. stays us)
+  turn_by_within k at left (Infix o) ts some = bind _ (operated_within o at left ts (some (λ q. cc))) (λ x us. stays us)
   turn_by_within k at left Opens ts some = bind _ (indexed_within at left ts (some (λ q. cc))) (λ x us. stays us)
   turn_by_within k at left Joins ts some = bind _ (chained_within k at left ts (some (λ q. cc))) (λ x us. stays us)
 
@@ -257,7 +257,7 @@ read_within (suc room) k ts = levels_within (r.read room) room (read_within room
 
 pub sentence_within : (ts : Tokens) → Within ts (source.sentence ts)
 unfolding source.sentence
-sentence_within ts = bind _ (read_within limit chop ts) (λ x us. bind _ (expected (m.Symbol symbol.Stop) us) (λ w ws. stays {x = x.tree} ws))
+sentence_within ts = bind _ (read_within limit chop_level ts) (λ x us. bind _ (expected (m.Symbol symbol.Stop) us) (λ w ws. stays {x = x.tree} ws))
 
 pub parameters_within : (ts : Tokens) → Within ts (source.parameters ts)
 unfolding source.parameters

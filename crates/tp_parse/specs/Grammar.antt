@@ -4,6 +4,8 @@ use Rattle.std.specs.Prelude.{◌≡◌, ◌≢◌, ℕ, suc, ◌-◌, max, ◌�
 use Rattle.tp_lex.specs.declared.token.Word.TheVariants as word
 use Rattle.tp_lex.specs.declared.token.Symbol.TheVariants as symbol
 use Rattle.tp_tree.specs.declared.operator.Op.{Op}
+use Rattle.tp_tree.specs.declared.operator.Grouping.TheVariants.{Left, Single, Right}
+use Rattle.tp_tree.specs.Levels.{chop_level, grouping}
 use Rattle.tp_tree.specs.declared.operator.Bare.{Bare}
 use Rattle.tp_tree.specs.declared.operator.Form.{Form}
 use Rattle.tp_tree.specs.Tree.{DefinitionTree, SourceTree}
@@ -11,7 +13,6 @@ use Rattle.tp_parse.specs.declared.mark.Mark.{Mark}
 use Rattle.tp_parse.specs.declared.mark.Mark.TheVariants as m
 use Rattle.tp_parse.specs.declared.mark.Enclosure.{Enclosure}
 use Rattle.tp_parse.specs.declared.mark.Role.TheVariants.{Ends, Infix, Opens, Joins}
-use Rattle.tp_parse.specs.declared.mark.Way.TheVariants.{Left, Single, Right}
 use Rattle.tp_parse.specs.declared.mark.Start.{Start}
 use Rattle.tp_parse.specs.declared.mark.Start.TheVariants as s
 use Rattle.tp_parse.specs.declared.head.Atom.{Atom}
@@ -22,7 +23,7 @@ use Rattle.tp_parse.specs.declared.head.Pair.{Pair}
 use Rattle.tp_parse.specs.declared.head.Pair.TheVariants as p
 use Rattle.tp_parse.specs.declared.head.Head.{Head}
 use Rattle.tp_parse.specs.declared.head.Head.TheVariants as h
-use Rattle.tp_parse.specs.Marks.{before, role_at, start_of, chop, comma, listed_level, listed_close, enclosed_level, enclosed_close, middle}
+use Rattle.tp_parse.specs.Marks.{before, role_at, start_of, comma, listed_level, listed_close, enclosed_level, enclosed_close, middle}
 use Rattle.tp_parse.specs.Input as input
 use Rattle.tp_parse.specs.Input.{Tokens, mark, from, first_name, mark_due, past}
 use Rattle.tp_parse.specs.Found.{Found, Operands, no_operand, operand_then, of_atom, of_operands, of_enclosed, of_choice, of_choice_else, of_pair, of_exists, of_prefix, of_infix, of_index, of_chain, limit, defined, source_of}
@@ -73,27 +74,29 @@ mutual
         → Parses 0 ts (of_operands (from ts) x all) rest
     enclosed : {ts mid end : Tokens} {e : Enclosure} {x : Found} → BeginsPrimary ts (h.Enclosed e) mid → Parses (enclosed_level e) mid x end → mark_due end ≡ enclosed_close e
         → Parses 0 ts (of_enclosed (from ts) e x) (past end)
-    if_then : {ts mid then rest : Tokens} {b x : Found} → BeginsPrimary ts h.If mid → Parses chop mid b then → mark_due then ≡ m.Word word.Then → Parses chop (past then) x rest
-        → mark rest ≢ m.Word word.Else → Parses 0 ts (of_choice (from ts) b x) rest
-    if_else : {ts mid then else rest : Tokens} {b x y : Found} → BeginsPrimary ts h.If mid → Parses chop mid b then → mark_due then ≡ m.Word word.Then → Parses chop (past then) x else
-        → mark else ≡ m.Word word.Else → Parses chop (drop 1 else) y rest → Parses 0 ts (of_choice_else (from ts) b x y) rest
-    paired : {ts mid next rest : Tokens} {q : Pair} {x y : Found} → BeginsPrimary ts (h.Paired q) mid → Parses chop mid x next → mark_due next ≡ middle q → Parses chop (past next) y rest
-        → Parses 0 ts (of_pair (from ts) q x y) rest
-    quantified : {ts mid rest : Tokens} {xs : List (List ℕ)} {x : Found} → BeginsPrimary ts (h.Exists xs) mid → Parses chop mid x rest → Parses 0 ts (of_exists (from ts) xs x) rest
+    if_then : {ts mid then rest : Tokens} {b x : Found} → BeginsPrimary ts h.If mid → Parses chop_level mid b then → mark_due then ≡ m.Word word.Then
+        → Parses chop_level (past then) x rest → mark rest ≢ m.Word word.Else → Parses 0 ts (of_choice (from ts) b x) rest
+    if_else : {ts mid then else rest : Tokens} {b x y : Found} → BeginsPrimary ts h.If mid → Parses chop_level mid b then
+        → mark_due then ≡ m.Word word.Then → Parses chop_level (past then) x else
+        → mark else ≡ m.Word word.Else → Parses chop_level (drop 1 else) y rest → Parses 0 ts (of_choice_else (from ts) b x y) rest
+    paired : {ts mid next rest : Tokens} {q : Pair} {x y : Found} → BeginsPrimary ts (h.Paired q) mid → Parses chop_level mid x next
+        → mark_due next ≡ middle q → Parses chop_level (past next) y rest → Parses 0 ts (of_pair (from ts) q x y) rest
+    quantified : {ts mid rest : Tokens} {xs : List (List ℕ)} {x : Found} → BeginsPrimary ts (h.Exists xs) mid → Parses chop_level mid x rest
+        → Parses 0 ts (of_exists (from ts) xs x) rest
     prefixed : {k : ℕ} {ts rest : Tokens} {x : Found} → before (mark ts) ≡ suc k → Parses (suc k) (drop 1 ts) x rest → Parses (suc k) ts (of_prefix (from ts) (mark ts) x) rest
     level : {k : ℕ} {ts mid rest : Tokens} {x t : Found} → Parses k ts x mid → Goes (suc k) (from ts) x mid t rest → Parses (suc k) ts t rest
 
   -- At this level a phrase that begins at the place goes on from the operand x to the phrase t.
   pub data Goes : ℕ → ℕ → Found → Tokens → Found → Tokens → Type 0 where
     ends : {k at : ℕ} {x : Found} {ts : Tokens} → role_at k (mark ts) ≡ Ends → Goes k at x ts x ts
-    left : {k at j : ℕ} {o : Op} {x y t : Found} {ts mid rest : Tokens} → role_at k (mark ts) ≡ Infix j Left o → Parses (k - 1) (drop 1 ts) y mid
-        → Goes k at (of_infix at o x y) mid t rest → Goes k at x ts t rest
-    single : {k at j : ℕ} {o : Op} {x y : Found} {ts rest : Tokens} → role_at k (mark ts) ≡ Infix j Single o → Parses (k - 1) (drop 1 ts) y rest
-        → Goes k at x ts (of_infix at o x y) rest
-    right : {k at j : ℕ} {o : Op} {x y : Found} {ts rest : Tokens} → role_at k (mark ts) ≡ Infix j Right o → Parses k (drop 1 ts) y rest
-        → Goes k at x ts (of_infix at o x y) rest
-    indexed : {k at : ℕ} {x i t : Found} {ts end rest : Tokens} → role_at k (mark ts) ≡ Opens → Parses chop (drop 1 ts) i end → mark_due end ≡ m.Symbol symbol.CloseSquare
-        → Goes k at (of_index at x i) (past end) t rest → Goes k at x ts t rest
+    left : {k at : ℕ} {o : Op} {x y t : Found} {ts mid rest : Tokens} → role_at k (mark ts) ≡ Infix o → grouping o ≡ Left
+        → Parses (k - 1) (drop 1 ts) y mid → Goes k at (of_infix at o x y) mid t rest → Goes k at x ts t rest
+    single : {k at : ℕ} {o : Op} {x y : Found} {ts rest : Tokens} → role_at k (mark ts) ≡ Infix o → grouping o ≡ Single
+        → Parses (k - 1) (drop 1 ts) y rest → Goes k at x ts (of_infix at o x y) rest
+    right : {k at : ℕ} {o : Op} {x y : Found} {ts rest : Tokens} → role_at k (mark ts) ≡ Infix o → grouping o ≡ Right
+        → Parses k (drop 1 ts) y rest → Goes k at x ts (of_infix at o x y) rest
+    indexed : {k at : ℕ} {x i t : Found} {ts end rest : Tokens} → role_at k (mark ts) ≡ Opens → Parses chop_level (drop 1 ts) i end
+        → mark_due end ≡ m.Symbol symbol.CloseSquare → Goes k at (of_index at x i) (past end) t rest → Goes k at x ts t rest
     joins : {k at : ℕ} {x : Found} {all : Operands} {ts rest : Tokens} → role_at k (mark ts) ≡ Joins → Others (k - 1) (m.Word word.And) ts all rest
         → Goes k at x ts (of_chain at (operand_then x all)) rest
 
@@ -116,7 +119,7 @@ pub data Parameters : Tokens → List (List ℕ) → Tokens → Type 0 where
 
 -- a phrase of any kind, and the `.` after it
 pub data Sentence : Tokens → Found → Tokens → Type 0 where
-  sentence : {ts end : Tokens} {x : Found} → Parses chop ts x end → mark_due end ≡ m.Symbol symbol.Stop → Sentence ts x (past end)
+  sentence : {ts end : Tokens} {x : Found} → Parses chop_level ts x end → mark_due end ≡ m.Symbol symbol.Stop → Sentence ts x (past end)
 
 -- a definition, and the height of its body
 pub data Defines : Tokens → DefinitionTree → ℕ → Tokens → Type 0 where

@@ -1,5 +1,4 @@
--- What a token is without its text, and what it does in a phrase. Levels count up from the primaries, 0: index 1, prefix 2,
--- product 3, sum 4, relation 5, `not` 6, `and` 7, `or` 8, `proj` 9, `;` 10.
+-- What a token is without its text, and what it does in a phrase. The levels of operators, and how they group, are those of tp_tree.
 use Rattle.std.specs.Prelude.{ℕ, Bool, true, false, ◌==◌, if◌then◌else◌}
 use denote.Enum.Bare.{sameb}
 use Rattle.tp_lex.specs.declared.token.Kind.{Kind}
@@ -13,11 +12,11 @@ use Rattle.tp_lex.specs.contracts.token.Symbol as symbol_type
 use Rattle.tp_tree.specs.declared.operator.Op.TheVariants as op
 use Rattle.tp_tree.specs.declared.operator.Bare.TheVariants as bare
 use Rattle.tp_tree.specs.declared.operator.Form.TheVariants as form
+use Rattle.tp_tree.specs.Levels.{index_level, prefix_level, sum_level, not_level, and_level, chop_level, op_level}
 use Rattle.tp_parse.specs.declared.mark.Mark.{Mark}
 use Rattle.tp_parse.specs.declared.mark.Mark.TheVariants as m
 use Rattle.tp_parse.specs.declared.mark.Role.{Role}
 use Rattle.tp_parse.specs.declared.mark.Role.TheVariants.{Ends, Infix, Opens, Joins}
-use Rattle.tp_parse.specs.declared.mark.Way.TheVariants.{Left, Single, Right}
 use Rattle.tp_parse.specs.declared.mark.Enclosure.{Enclosure}
 use Rattle.tp_parse.specs.declared.mark.Enclosure.TheVariants.{Round, Curly, Size}
 use Rattle.tp_parse.specs.declared.mark.Start.{Start}
@@ -57,39 +56,39 @@ second_half x = x
 
 -- the level of an operator before its operand, or 0
 abbrev pub before : Mark → ℕ
-before (m.Word word.Not) = 6
-before (m.Word word.Next) = 2
-before (m.Symbol symbol.Minus) = 2
+before (m.Word word.Not) = not_level
+before (m.Word word.Next) = prefix_level
+before (m.Symbol symbol.Minus) = prefix_level
 before _ = 0
 
 -- what a token does after an operand
 abbrev pub role_of : Mark → Role
-role_of (m.Symbol symbol.Semicolon) = Infix 10 Right op.Chop
-role_of (m.Word word.Proj) = Infix 9 Right op.Proj
-role_of (m.Word word.Or) = Infix 8 Left op.Or
+role_of (m.Symbol symbol.Semicolon) = Infix op.Chop
+role_of (m.Word word.Proj) = Infix op.Proj
+role_of (m.Word word.Or) = Infix op.Or
 role_of (m.Word word.And) = Joins
-role_of (m.Symbol symbol.Equal) = Infix 5 Single op.Equal
-role_of (m.Symbol symbol.Differs) = Infix 5 Single op.Differs
-role_of (m.Symbol symbol.Less) = Infix 5 Single op.Less
-role_of (m.Symbol symbol.LessEqual) = Infix 5 Single op.LessEqual
-role_of (m.Symbol symbol.Greater) = Infix 5 Single op.Greater
-role_of (m.Symbol symbol.GreaterEqual) = Infix 5 Single op.GreaterEqual
-role_of (m.Word word.Gets) = Infix 5 Single op.Gets
-role_of (m.Symbol symbol.Arrow) = Infix 5 Single op.Arrow
-role_of (m.Symbol symbol.Becomes) = Infix 5 Single op.Becomes
-role_of (m.Symbol symbol.Plus) = Infix 4 Left op.Plus
-role_of (m.Symbol symbol.Minus) = Infix 4 Left op.Minus
-role_of (m.Symbol symbol.Times) = Infix 3 Left op.Times
-role_of (m.Word word.Div) = Infix 3 Left op.Div
-role_of (m.Word word.Mod) = Infix 3 Left op.Mod
+role_of (m.Symbol symbol.Equal) = Infix op.Equal
+role_of (m.Symbol symbol.Differs) = Infix op.Differs
+role_of (m.Symbol symbol.Less) = Infix op.Less
+role_of (m.Symbol symbol.LessEqual) = Infix op.LessEqual
+role_of (m.Symbol symbol.Greater) = Infix op.Greater
+role_of (m.Symbol symbol.GreaterEqual) = Infix op.GreaterEqual
+role_of (m.Word word.Gets) = Infix op.Gets
+role_of (m.Symbol symbol.Arrow) = Infix op.Arrow
+role_of (m.Symbol symbol.Becomes) = Infix op.Becomes
+role_of (m.Symbol symbol.Plus) = Infix op.Plus
+role_of (m.Symbol symbol.Minus) = Infix op.Minus
+role_of (m.Symbol symbol.Times) = Infix op.Times
+role_of (m.Word word.Div) = Infix op.Div
+role_of (m.Word word.Mod) = Infix op.Mod
 role_of (m.Symbol symbol.OpenSquare) = Opens
 role_of _ = Ends
 
 abbrev pub level_of : Role → ℕ
 level_of Ends = 0
-level_of (Infix level way o) = level
-level_of Opens = 1
-level_of Joins = 7
+level_of (Infix o) = op_level o
+level_of Opens = index_level
+level_of Joins = and_level
 
 -- what a token does after an operand at this level
 unfoldable pub role_at : ℕ → Mark → Role
@@ -150,28 +149,21 @@ start_of m.Number = s.Number
 start_of (m.Word w) = word_start w
 start_of (m.Symbol x) = symbol_start x
 
--- the levels of `;` and of sums
-abbrev pub chop : ℕ
-chop = 10
-
-abbrev pub sum : ℕ
-sum = 4
-
 abbrev pub comma : Mark
 comma = m.Symbol symbol.Comma
 
 -- the level of the operands, and the mark after them
 abbrev pub listed_level : Listed → ℕ
-listed_level listed.List = sum
-listed_level _ = chop
+listed_level listed.List = sum_level
+listed_level _ = chop_level
 
 abbrev pub listed_close : Listed → Mark
 listed_close listed.List = m.Symbol symbol.Greater
 listed_close _ = m.Symbol symbol.CloseRound
 
 abbrev pub enclosed_level : Enclosure → ℕ
-enclosed_level Size = sum
-enclosed_level _ = chop
+enclosed_level Size = sum_level
+enclosed_level _ = chop_level
 
 abbrev pub enclosed_close : Enclosure → Mark
 enclosed_close Round = m.Symbol symbol.CloseRound

@@ -3,27 +3,25 @@ use Rattle.std.specs.Prelude.{ℕ, zero, suc, ◌-◌, Bool, if◌then◌else◌
 use Rattle.tp_lex.specs.declared.token.Word.TheVariants as word
 use Rattle.tp_lex.specs.declared.token.Symbol.TheVariants as symbol
 use Rattle.tp_tree.specs.declared.operator.Op.{Op}
+use Rattle.tp_tree.specs.declared.operator.Grouping.{Grouping}
+use Rattle.tp_tree.specs.declared.operator.Grouping.TheVariants.{Left, Single, Right}
+use Rattle.tp_tree.specs.Levels.{chop_level, grouping, right_level}
 use Rattle.tp_parse.specs.declared.mark.Mark.{Mark}
 use Rattle.tp_parse.specs.declared.mark.Mark.TheVariants as m
 use Rattle.tp_parse.specs.declared.mark.Role.{Role}
 use Rattle.tp_parse.specs.declared.mark.Role.TheVariants.{Ends, Infix, Opens, Joins}
-use Rattle.tp_parse.specs.declared.mark.Way.{Way}
-use Rattle.tp_parse.specs.declared.mark.Way.TheVariants.{Left, Right}
 use Rattle.tp_parse.specs.declared.head.Head.{Head}
 use Rattle.tp_parse.specs.declared.head.Head.TheVariants as h
-use Rattle.tp_parse.specs.Marks.{before, role_at, start_of, same, chop, comma, listed_level, listed_close, enclosed_level, enclosed_close, middle}
+use Rattle.tp_parse.specs.Marks.{before, role_at, start_of, same, comma, listed_level, listed_close, enclosed_level, enclosed_close, middle}
 use Rattle.tp_parse.specs.Input.{Reader, ◌>>=◌, pure, mark, from, too_deep, sees, mark_due, take, past, expect, deepen}
 use Rattle.tp_parse.specs.Head.{head_by, admit, unfit}
 use Rattle.tp_parse.specs.Found.{Found, Operands, no_operand, then_operand, operands_of, of_atom, of_operands, of_enclosed, of_choice, of_choice_else, of_pair, of_exists, of_prefix, of_infix, of_index, of_chain}
 
-abbrev pub operand_level : ℕ → Way → ℕ
-operand_level k Right = k
-operand_level k _ = k - 1
-
 -- whether more operators of the level may follow
-abbrev pub goes_on : Way → Bool
+abbrev pub goes_on : Grouping → Bool
 goes_on Left = true
-goes_on _ = false
+goes_on Single = false
+goes_on Right = false
 
 -- the level at which the operator before the phrase stands, where it is no higher than k
 abbrev pub start_level : ℕ → Mark → ℕ
@@ -66,13 +64,13 @@ module _ (inner : ℕ → Reader Found) (room : ℕ) where
   unfoldable pub else_part : ℕ → Found → Found → Reader Found
   else_part at b p = λ ts. if sees (m.Word word.Else) ts then (do
     _else ← take
-    q ← inner chop
+    q ← inner chop_level
     pure (of_choice_else at b p q)) ts else pure (of_choice at b p) ts
 
   unfoldable pub choice : ℕ → Reader Found
   choice at = do
-    b ← part chop (m.Word word.Then)
-    p ← inner chop
+    b ← part chop_level (m.Word word.Then)
+    p ← inner chop_level
     else_part at b p
 
   -- what follows a head
@@ -86,11 +84,11 @@ module _ (inner : ℕ → Reader Found) (room : ℕ) where
     pure (of_enclosed at e a)
   primary_by at h.If = choice at
   primary_by at (h.Paired p) = do
-    a ← part chop (middle p)
-    b ← inner chop
+    a ← part chop_level (middle p)
+    b ← inner chop_level
     pure (of_pair at p a b)
   primary_by at (h.Exists xs) = do
-    a ← inner chop
+    a ← inner chop_level
     pure (of_exists at xs a)
 
   unfoldable pub primary : Reader Found
@@ -99,18 +97,18 @@ module _ (inner : ℕ → Reader Found) (room : ℕ) where
     head ← head_by (start_of (mark ts))
     primary_by (from ts) head) ts
 
-  unfoldable pub operated : ℕ → Way → Op → ℕ → Found → Reader Found
-  operated k way o at left = do
+  unfoldable pub operated : Op → ℕ → Found → Reader Found
+  operated o at left = do
     _fits ← fits room left.height
     _operator ← take
-    right ← inner (operand_level k way)
+    right ← inner (right_level o)
     pure (of_infix at o left right)
 
   unfoldable pub indexed : ℕ → Found → Reader Found
   indexed at left = do
     _fits ← fits room left.height
     _open ← take
-    i ← part chop (m.Symbol symbol.CloseSquare)
+    i ← part chop_level (m.Symbol symbol.CloseSquare)
     pure (of_index at left i)
 
   unfoldable pub chained : ℕ → ℕ → Found → Reader Found
@@ -122,7 +120,7 @@ module _ (inner : ℕ → Reader Found) (room : ℕ) where
   -- what goes on with an operand, and whether more may
   abbrev pub turn_by : ℕ → ℕ → Found → Role → Reader (Found × Bool)
   turn_by k at left Ends = pure (left, false)
-  turn_by k at left (Infix level way o) = operated k way o at left >>= λ x. pure (x, goes_on way)
+  turn_by k at left (Infix o) = operated o at left >>= λ x. pure (x, goes_on (grouping o))
   turn_by k at left Opens = indexed at left >>= λ x. pure (x, true)
   turn_by k at left Joins = chained k at left >>= λ x. pure (x, false)
 

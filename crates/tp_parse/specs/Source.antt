@@ -12,7 +12,7 @@ use Rattle.tp_parse.specs.declared.refusal.Refusal.TheVariants as r
 use Rattle.tp_parse.specs.declared.refusal.ParseRefusal.{ParseRefusal}
 use Rattle.tp_parse.specs.declared.refusal.ParseRefusal.TheVariants as named_at
 use Rattle.tp_parse.specs.Input.{Tokens, ReadOutcome, Reader, ◌>>=◌, pure, from, refusal, sees, take, expect, lower, names}
-use Rattle.tp_parse.specs.Marks.{chop}
+use Rattle.tp_tree.specs.Levels.{chop_level}
 use Rattle.tp_parse.specs.Found.{limit, defined, source_of}
 use Rattle.tp_parse.specs.Reading.{read}
 
@@ -22,7 +22,7 @@ definition_trees ds = map definition_tree ds.items.items
 -- a phrase and the `.` after it
 unfoldable pub sentence : Reader PhraseTree
 sentence = do
-  a ← read limit chop
+  a ← read limit chop_level
   _stop ← expect (m.Symbol symbol.Stop)
   pure a.tree
 

@@ -13,10 +13,8 @@ use Rattle.tp_tree.specs.declared.operator.Bare.TheVariants as b
 use Rattle.tp_tree.specs.declared.operator.Form.{Form}
 use Rattle.tp_tree.specs.declared.operator.Form.TheVariants as f
 use Rattle.tp_tree.specs.Tree.{PhraseTree, phrase, KindTree, number, truth, name, list, size, index, minus, next, negation, binary, conjunction, choice, choice_else, while, repeat, for, forall, exists, bare, form, call, PhraseTrees, no_phrase, phrase_then, DefinitionTree, SourceTree}
-use Rattle.tp_tree.specs.Levels.{index_level, prefix_level, sum_level, not_level, chop_level, any_level, op_level, left_level, right_level, kind_level}
+use Rattle.tp_tree.specs.Levels.{index_level, prefix_level, sum_level, not_level, chop_level, any_level, left_level, right_level, kind_level}
 use Rattle.tp_tree.specs.Places.{IsSameUpToPlaces}
-use Rattle.tp_parse.specs.declared.mark.Role.TheVariants.{Infix}
-use Rattle.tp_parse.specs.declared.mark.Way.{Way}
 use Rattle.tp_parse.specs.Marks.{kind_mark, role_of}
 use Rattle.tp_parse.specs.Input.{Tokens}
 use Rattle.tp_parse.specs.Found.{limit}
@@ -224,7 +222,3 @@ SourcesAreWhole = (ts : Tokens) (s : SourceTree) → Accepts ts s → IsWholeSou
 -- whatever tokens a whole source is spelled with, they are read back
 abbrev pub SpellingsAreReadBack : Type 0
 SpellingsAreReadBack = (us : Tokens) (s : SourceTree) → IsWholeSource s → token_kinds us ≡ source_kinds s → ReadsBack us s
-
--- the printer's level of each operator is the parser's
-abbrev pub OperatorsHaveOneLevel : Type 0
-OperatorsHaveOneLevel = (o : Op) → (way : Way) × (role_of (kind_mark (op_kind o)) ≡ Infix (op_level o) way o)

@@ -9,6 +9,7 @@ use crate::parser::Parser;
 use crate::refusal::Refusal;
 use std::alloc::Global;
 use tp_lex::{Symbol, Word};
+use tp_tree::level::{CHOP, SUM};
 use tp_tree::{Bare, Form};
 use tp_value::{Number, Text, Texts};
 
@@ -193,8 +194,8 @@ pub fn listed_level(listed: &Listed) -> u8
     ensures { result ≡ marks.listed_level listed.now }
 {
     match listed {
-        Listed::List => 4,
-        _ => 10,
+        Listed::List => SUM,
+        Listed::Form(_) | Listed::Call(_) => CHOP,
     }
 }
 
@@ -212,8 +213,8 @@ pub fn enclosed_level(enclosure: Enclosure) -> u8
     ensures { result ≡ marks.enclosed_level enclosure }
 {
     match enclosure {
-        Enclosure::Size => 4,
-        _ => 10,
+        Enclosure::Size => SUM,
+        Enclosure::Round | Enclosure::Curly => CHOP,
     }
 }
 

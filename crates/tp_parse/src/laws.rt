@@ -1,6 +1,6 @@
 // Laws of sources: their names, and their canonical spelling.
 ghost use Rattle.tp_parse.specs.Names.{NamesAreTokens};
-ghost use Rattle.tp_parse.specs.Spelled.{OperatorsHaveOneLevel, SourcesAreWhole, SpellingsAreReadBack};
+ghost use Rattle.tp_parse.specs.Spelled.{SourcesAreWhole, SpellingsAreReadBack};
 ghost use Rattle.tp_parse.specs.SpelledText.{OneSpelling, PrintedIsReadBack, SourcesAreSpellable, SpellingsHaveTheirTokens};
 
 /// Each name that stands in an accepted source is the text of one of its tokens.
@@ -10,7 +10,6 @@ pub fn names_are_tokens()
 
 /// Whatever tokens the canonical spelling of a source has, they are parsed as the source, up to places.
 pub fn spellings_are_read_back()
-    ensures levels { OperatorsHaveOneLevel }
     ensures whole { SourcesAreWhole }
     ensures read_back { SpellingsAreReadBack }
 {}

@@ -1,9 +1,9 @@
-// What a token is without its text, and what it does in a phrase. Levels count up from the primaries, 0: index 1, prefix 2,
-// product 3, sum 4, relation 5, `not` 6, `and` 7, `or` 8, `proj` 9, `;` 10.
+// What a token is without its text, and what it does in a phrase. Levels of operators are those of `tp_tree::level`.
 ghost use Rattle.std.specs.Prelude.{◌≡◌};
 ghost use Rattle.tp_parse.specs.Marks as spec;
 
 use tp_lex::{Kind, Symbol, Word};
+use tp_tree::level::{AND, INDEX, NOT, PREFIX, op_level};
 use tp_tree::{Bare, Form, Op};
 
 /// A token without its text, or the end of the tokens.
@@ -17,19 +17,11 @@ pub enum Mark {
     Symbol(Symbol),
 }
 
-/// How operators of one level group: to the left, not at all, or to the right.
-#[derive(Clone, Copy)]
-pub enum Way {
-    Left,
-    Single,
-    Right,
-}
-
-/// What a token does after an operand: nothing, an operator of a level, the `[` of an index, or the `and` of a chain.
+/// What a token does after an operand: nothing, or it is an operator, the `[` of an index, or the `and` of a chain.
 #[derive(Clone, Copy)]
 pub enum Role {
     Ends,
-    Infix(u8, Way, Op),
+    Infix(Op),
     Opens,
     Joins,
 }
@@ -110,9 +102,9 @@ pub fn before(mark: Mark) -> u8
     ensures { result ≡ spec.before mark }
 {
     match mark {
-        Mark::Word(Word::Not) => 6,
-        Mark::Word(Word::Next) => 2,
-        Mark::Symbol(Symbol::Minus) => 2,
+        Mark::Word(Word::Not) => NOT,
+        Mark::Word(Word::Next) => PREFIX,
+        Mark::Symbol(Symbol::Minus) => PREFIX,
         _ => 0,
     }
 }
@@ -121,24 +113,24 @@ pub fn role_of(mark: Mark) -> Role
     ensures { result ≡ spec.role_of mark }
 {
     match mark {
-        Mark::Symbol(Symbol::Semicolon) => Role::Infix(10, Way::Right, Op::Chop),
-        Mark::Word(Word::Proj) => Role::Infix(9, Way::Right, Op::Proj),
-        Mark::Word(Word::Or) => Role::Infix(8, Way::Left, Op::Or),
+        Mark::Symbol(Symbol::Semicolon) => Role::Infix(Op::Chop),
+        Mark::Word(Word::Proj) => Role::Infix(Op::Proj),
+        Mark::Word(Word::Or) => Role::Infix(Op::Or),
         Mark::Word(Word::And) => Role::Joins,
-        Mark::Symbol(Symbol::Equal) => Role::Infix(5, Way::Single, Op::Equal),
-        Mark::Symbol(Symbol::Differs) => Role::Infix(5, Way::Single, Op::Differs),
-        Mark::Symbol(Symbol::Less) => Role::Infix(5, Way::Single, Op::Less),
-        Mark::Symbol(Symbol::LessEqual) => Role::Infix(5, Way::Single, Op::LessEqual),
-        Mark::Symbol(Symbol::Greater) => Role::Infix(5, Way::Single, Op::Greater),
-        Mark::Symbol(Symbol::GreaterEqual) => Role::Infix(5, Way::Single, Op::GreaterEqual),
-        Mark::Word(Word::Gets) => Role::Infix(5, Way::Single, Op::Gets),
-        Mark::Symbol(Symbol::Arrow) => Role::Infix(5, Way::Single, Op::Arrow),
-        Mark::Symbol(Symbol::Becomes) => Role::Infix(5, Way::Single, Op::Becomes),
-        Mark::Symbol(Symbol::Plus) => Role::Infix(4, Way::Left, Op::Plus),
-        Mark::Symbol(Symbol::Minus) => Role::Infix(4, Way::Left, Op::Minus),
-        Mark::Symbol(Symbol::Times) => Role::Infix(3, Way::Left, Op::Times),
-        Mark::Word(Word::Div) => Role::Infix(3, Way::Left, Op::Div),
-        Mark::Word(Word::Mod) => Role::Infix(3, Way::Left, Op::Mod),
+        Mark::Symbol(Symbol::Equal) => Role::Infix(Op::Equal),
+        Mark::Symbol(Symbol::Differs) => Role::Infix(Op::Differs),
+        Mark::Symbol(Symbol::Less) => Role::Infix(Op::Less),
+        Mark::Symbol(Symbol::LessEqual) => Role::Infix(Op::LessEqual),
+        Mark::Symbol(Symbol::Greater) => Role::Infix(Op::Greater),
+        Mark::Symbol(Symbol::GreaterEqual) => Role::Infix(Op::GreaterEqual),
+        Mark::Word(Word::Gets) => Role::Infix(Op::Gets),
+        Mark::Symbol(Symbol::Arrow) => Role::Infix(Op::Arrow),
+        Mark::Symbol(Symbol::Becomes) => Role::Infix(Op::Becomes),
+        Mark::Symbol(Symbol::Plus) => Role::Infix(Op::Plus),
+        Mark::Symbol(Symbol::Minus) => Role::Infix(Op::Minus),
+        Mark::Symbol(Symbol::Times) => Role::Infix(Op::Times),
+        Mark::Word(Word::Div) => Role::Infix(Op::Div),
+        Mark::Word(Word::Mod) => Role::Infix(Op::Mod),
         Mark::Symbol(Symbol::OpenSquare) => Role::Opens,
         _ => Role::Ends,
     }
@@ -152,9 +144,9 @@ pub fn role_at(level: u8, mark: Mark) -> Role
     let role = role_of(mark);
     let own = match role {
         Role::Ends => 0,
-        Role::Infix(level, _, _) => level,
-        Role::Opens => 1,
-        Role::Joins => 7,
+        Role::Infix(op) => op_level(op),
+        Role::Opens => INDEX,
+        Role::Joins => AND,
     };
     if own == level { role } else { Role::Ends }
 }

@@ -1,5 +1,6 @@
 // Phrases, read by recursive descent. `room` is the greatest height that a phrase, or each operand, may have.
 ghost use Rattle.std.specs.Prelude.{◌≡◌, ◌+◌, ◌≤◌, ◌<◌, ◌≢◌, ℕ, IfOk, OnOk};
+ghost use Rattle.tp_tree.specs.Levels.{chop_level};
 ghost use Rattle.tp_parse.specs.Marks as marks;
 ghost use Rattle.tp_parse.specs.Input as input;
 ghost use Rattle.tp_parse.specs.Input.{ReturnsReading};
@@ -8,7 +9,7 @@ ghost use Rattle.tp_parse.specs.Reading as spec;
 ghost use Rattle.tp_parse.specs.declared.head.Head.TheVariants.{Paired};
 
 use crate::head::{Head, Pair, enclosed_close, enclosed_level, listed_close, listed_level, middle};
-use crate::mark::{Mark, Role, Way, before, role_at, same, start_of};
+use crate::mark::{Mark, Role, before, role_at, same, start_of};
 use crate::parser::Parser;
 use crate::phrases::{
     Measured, Operands, of_atom, of_chain, of_choice, of_choice_else, of_enclosed, of_exists,
@@ -17,16 +18,14 @@ use crate::phrases::{
 use crate::refusal::Refusal;
 use std::alloc::Global;
 use tp_lex::{Symbol, Word};
-use tp_tree::Op;
-
-/// The level of `;`, the weakest operator.
-pub const CHOP: u8 = 10;
+use tp_tree::level::{CHOP, grouping, right_level};
+use tp_tree::{Grouping, Op};
 
 impl Parser<'_> {
     /// A phrase of this level.
     #[cycle(phrase)]
     pub fn phrase(&mut self, alloc: Global, level: u8, room: u8) -> Result<Measured, Refusal>
-        requires { level ≤ 10 }
+        requires { level ≤ chop_level }
         ensures reads { ReturnsReading seen (spec.read room level self.old) result self.new }
         ensures low { IfOk result (λ r. r.height ≤ room) }
     {
@@ -46,7 +45,7 @@ impl Parser<'_> {
     #[cycle(phrase)]
     #[tactic(auto, using(crate::proofs::Steps::first_above), unfolding(crate::specs::Reading::prefix))]
     fn first(&mut self, alloc: Global, level: u8, room: u8) -> Result<Measured, Refusal>
-        requires low { level ≤ 10 }
+        requires low { level ≤ chop_level }
         requires own { 0 < level → marks.before (input.mark self.old) ≡ level }
         ensures reads { ReturnsReading seen (spec.first (spec.read room) room level self.old) result
             self.new }
@@ -166,7 +165,7 @@ impl Parser<'_> {
     #[cycle(phrase)]
     #[tactic(auto, unfolding(crate::specs::Reading::part))]
     fn part(&mut self, alloc: Global, level: u8, close: Mark, room: u8) -> Result<Measured, Refusal>
-        requires { level ≤ 10 }
+        requires { level ≤ chop_level }
         ensures reads { ReturnsReading seen (spec.part (spec.read room) room level close self.old)
             result self.new }
         ensures low { IfOk result (λ r. r.height ≤ room) }
@@ -186,7 +185,7 @@ impl Parser<'_> {
         close: Mark,
         room: u8,
     ) -> Result<Operands, Refusal>
-        requires { level ≤ 10 }
+        requires { level ≤ chop_level }
         ensures reads { ReturnsReading all_seen
             (spec.operands (spec.read room) room level close self.old) result self.new }
         ensures low { IfOk result (λ r. r.height ≤ room) }
@@ -214,7 +213,7 @@ impl Parser<'_> {
         room: u8,
         first: Measured,
     ) -> Result<Operands, Refusal>
-        requires level { level ≤ 10 }
+        requires level { level ≤ chop_level }
         requires low { first.height ≤ room }
         ensures reads { ReturnsReading all_seen
             (spec.others (spec.read room) room level separator (seen first) self.old) result
@@ -246,7 +245,7 @@ impl Parser<'_> {
         at: u32,
         first: Measured,
     ) -> Result<Measured, Refusal>
-        requires level { (0 < level) × (level ≤ 10) }
+        requires level { (0 < level) × (level ≤ chop_level) }
         requires low { first.height ≤ room + 1 }
         ensures reads { ReturnsReading seen
             (spec.operations (spec.read room) room level at (seen first) self.old) result self.new }
@@ -274,7 +273,7 @@ impl Parser<'_> {
         at: u32,
         left: Measured,
     ) -> Result<(Measured, bool), Refusal>
-        requires level { (0 < level) × (level ≤ 10) }
+        requires level { (0 < level) × (level ≤ chop_level) }
         requires low { left.height ≤ room + 1 }
         ensures reads { ReturnsReading turn_seen
             (spec.turn (spec.read room) room level at (seen left) self.old) result self.new }
@@ -282,9 +281,9 @@ impl Parser<'_> {
     {
         match role_at(level, self.mark()) {
             Role::Ends => Ok((left, false)),
-            Role::Infix(_, way, op) => {
-                let whole = self.operated(alloc, level, way, op, room, at, left)?;
-                Ok((whole, goes_on(way)))
+            Role::Infix(op) => {
+                let whole = self.operated(alloc, op, room, at, left)?;
+                Ok((whole, goes_on(grouping(op))))
             }
             Role::Opens => {
                 let whole = self.indexed(alloc, room, at, left)?;
@@ -302,22 +301,18 @@ impl Parser<'_> {
     fn operated(
         &mut self,
         alloc: Global,
-        level: u8,
-        way: Way,
         op: Op,
         room: u8,
         at: u32,
         left: Measured,
     ) -> Result<Measured, Refusal>
-        requires { (0 < level) × (level ≤ 10) }
         ensures reads { ReturnsReading seen
-            (spec.operated (spec.read room) room level way op at (seen left) self.old) result
-            self.new }
+            (spec.operated (spec.read room) room op at (seen left) self.old) result self.new }
         ensures low { IfOk result (λ r. r.height ≤ room + 1) }
     {
         self.fits(room, left.height)?;
         self.take();
-        let right = self.phrase(alloc, operand_level(level, way), room)?;
+        let right = self.phrase(alloc, right_level(op), room)?;
         Ok(of_infix(alloc, at, op, left, right)?)
     }
 
@@ -350,7 +345,7 @@ impl Parser<'_> {
         at: u32,
         left: Measured,
     ) -> Result<Measured, Refusal>
-        requires { (0 < level) × (level ≤ 10) }
+        requires { (0 < level) × (level ≤ chop_level) }
         ensures reads { ReturnsReading seen
             (spec.chained (spec.read room) room level at (seen left) self.old) result self.new }
         ensures low { IfOk result (λ r. r.height ≤ room + 1) }
@@ -384,22 +379,12 @@ fn start_level(level: u8, mark: Mark) -> u8
     if own <= level { own } else { 0 }
 }
 
-fn operand_level(level: u8, way: Way) -> u8
-    requires { 0 < level }
-    ensures value { result ≡ spec.operand_level level way }
-    ensures within { result ≤ level }
+/// Whether more operators of the level may follow.
+fn goes_on(grouping: Grouping) -> bool
+    ensures { result ≡ spec.goes_on grouping }
 {
-    match way {
-        Way::Right => level,
-        _ => level - 1,
-    }
-}
-
-fn goes_on(way: Way) -> bool
-    ensures { result ≡ spec.goes_on way }
-{
-    match way {
-        Way::Left => true,
-        _ => false,
+    match grouping {
+        Grouping::Left => true,
+        Grouping::Single | Grouping::Right => false,
     }
 }

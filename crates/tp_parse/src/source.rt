@@ -13,10 +13,10 @@ ghost use Rattle.tp_parse.specs.declared.refusal.ParseRefusal.TheVariants.{NoMem
 
 use crate::mark::Mark;
 use crate::parser::Parser;
-use crate::phrase::CHOP;
 use crate::refusal::{ParseRefusal, Refusal};
 use std::alloc::Global;
 use tp_lex::{Symbol, Tokens, Word};
+use tp_tree::level::CHOP;
 use tp_tree::{Definition, Definitions, Phrase, Source};
 use tp_value::Texts;
 

@@ -1,7 +1,7 @@
 // What a name stands for where it is read.
-ghost use Rattle.std.specs.Prelude.{◌≡◌, IfOk, length};
+ghost use Rattle.std.specs.Prelude.{◌≡◌, ◌+◌, ◌≤◌, IfOk, OnOk, length};
 ghost use Rattle.tp_scope.specs.Scope.{binder_of};
-ghost use Rattle.tp_scope.specs.Seen.{names_bound};
+ghost use Rattle.tp_scope.specs.Seen.{names_bound, most_bound};
 
 use crate::binders::Binders;
 use crate::count::{as_number, sum_of};
@@ -38,7 +38,9 @@ fn bound_count(scope: &Scope) -> Result<u32, NoMemory>
 const MOST_BOUND: u32 = 10_000;
 
 /// Want of memory, where more names would be bound in each other than the machine's stack has room for.
-pub fn take_room(scope: &Scope, more: &Binders) -> Result<(), NoMemory> {
+pub fn take_room(scope: &Scope, more: &Binders) -> Result<(), NoMemory>
+    ensures { OnOk result (length (names_bound scope.now) + length more.now ≤ most_bound) }
+{
     let count = sum_of(bound_count(scope)?, as_number(more.len())?)?;
     if count > MOST_BOUND {
         return Err(NoMemory);

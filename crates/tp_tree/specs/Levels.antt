@@ -1,8 +1,10 @@
 -- How loosely the parts of a phrase hang together: its level. It counts up from the phrases that stand by themselves, 0, to those
 -- that reach as far to the right as they can, 11.
-use Rattle.std.specs.Prelude.{ℕ}
+use Rattle.std.specs.Prelude.{ℕ, ◌-◌}
 use Rattle.tp_tree.specs.declared.operator.Op.{Op}
 use Rattle.tp_tree.specs.declared.operator.Op.TheVariants as op
+use Rattle.tp_tree.specs.declared.operator.Grouping.{Grouping}
+use Rattle.tp_tree.specs.declared.operator.Grouping.TheVariants.{Left, Single, Right}
 use Rattle.tp_tree.specs.Tree.{KindTree, number, truth, name, list, size, index, minus, next, negation, binary, conjunction, choice, choice_else, while, repeat, for, forall, exists, bare, form, call}
 
 abbrev pub index_level : ℕ
@@ -59,46 +61,45 @@ op_level op.Times = product_level
 op_level op.Div = product_level
 op_level op.Mod = product_level
 
--- The highest level that the left operand of an operator has without parentheses: that of the operator, where operators of its
--- level group to the left, else the one below.
-abbrev pub left_level : Op → ℕ
-left_level op.Chop = proj_level
-left_level op.Proj = or_level
-left_level op.Or = or_level
-left_level op.Equal = sum_level
-left_level op.Differs = sum_level
-left_level op.Less = sum_level
-left_level op.LessEqual = sum_level
-left_level op.Greater = sum_level
-left_level op.GreaterEqual = sum_level
-left_level op.Gets = sum_level
-left_level op.Arrow = sum_level
-left_level op.Becomes = sum_level
-left_level op.Plus = sum_level
-left_level op.Minus = sum_level
-left_level op.Times = product_level
-left_level op.Div = product_level
-left_level op.Mod = product_level
+-- how operators of its level group: to the left, not at all, or to the right
+abbrev pub grouping : Op → Grouping
+grouping op.Chop = Right
+grouping op.Proj = Right
+grouping op.Or = Left
+grouping op.Equal = Single
+grouping op.Differs = Single
+grouping op.Less = Single
+grouping op.LessEqual = Single
+grouping op.Greater = Single
+grouping op.GreaterEqual = Single
+grouping op.Gets = Single
+grouping op.Arrow = Single
+grouping op.Becomes = Single
+grouping op.Plus = Left
+grouping op.Minus = Left
+grouping op.Times = Left
+grouping op.Div = Left
+grouping op.Mod = Left
 
--- and the right operand: that of the operator, where they group to the right, else the one below
+-- where operators of a level group so, the highest level that a left operand has without parentheses: that of the operator, where
+-- they group to the left, else the one below
+abbrev pub level_left_of : Grouping → ℕ → ℕ
+level_left_of Left level = level
+level_left_of Single level = level - 1
+level_left_of Right level = level - 1
+
+-- and a right operand: that of the operator, where they group to the right, else the one below
+abbrev pub level_right_of : Grouping → ℕ → ℕ
+level_right_of Left level = level - 1
+level_right_of Single level = level - 1
+level_right_of Right level = level
+
+-- the highest level that the left operand of an operator has without parentheses, and the right one
+abbrev pub left_level : Op → ℕ
+left_level o = level_left_of (grouping o) (op_level o)
+
 abbrev pub right_level : Op → ℕ
-right_level op.Chop = chop_level
-right_level op.Proj = proj_level
-right_level op.Or = and_level
-right_level op.Equal = sum_level
-right_level op.Differs = sum_level
-right_level op.Less = sum_level
-right_level op.LessEqual = sum_level
-right_level op.Greater = sum_level
-right_level op.GreaterEqual = sum_level
-right_level op.Gets = sum_level
-right_level op.Arrow = sum_level
-right_level op.Becomes = sum_level
-right_level op.Plus = product_level
-right_level op.Minus = product_level
-right_level op.Times = prefix_level
-right_level op.Div = prefix_level
-right_level op.Mod = prefix_level
+right_level o = level_right_of (grouping o) (op_level o)
 
 -- the level of a phrase
 abbrev pub kind_level : KindTree → ℕ

@@ -1,10 +1,11 @@
 //! Levels of phrases, and how operators and words are spelled.
-ghost use Rattle.std.specs.Prelude.{◌≡◌};
+ghost use Rattle.std.specs.Prelude.{◌≡◌, ◌<◌, ◌≤◌};
 ghost use Rattle.tp_tree.specs.Levels as spec;
+ghost use Rattle.tp_tree.specs.Levels.{chop_level};
 ghost use Rattle.tp_tree.specs.Read.{kind_tree};
 ghost use Rattle.tp_tree.specs.Spelling as spelling;
 
-use crate::{Bare, Form, Op, PhraseKind};
+use crate::{Bare, Form, Grouping, Op, PhraseKind};
 
 pub const INDEX: u8 = 1;
 
@@ -30,7 +31,9 @@ pub const ANY: u8 = 11;
 
 /// The level of a phrase with this operator.
 pub fn op_level(op: Op) -> u8
-    ensures { result ≡ spec.op_level op }
+    ensures value { result ≡ spec.op_level op }
+    ensures some { 0 < result }
+    ensures low { result ≤ chop_level }
 {
     match op {
         Op::Chop => CHOP,
@@ -50,13 +53,12 @@ pub fn op_level(op: Op) -> u8
     }
 }
 
-/// The highest level that the left operand has without parentheses.
-pub fn left_level(op: Op) -> u8
-    ensures { result ≡ spec.left_level op }
+/// How operators of its level group.
+pub fn grouping(op: Op) -> Grouping
+    ensures { result ≡ spec.grouping op }
 {
     match op {
-        Op::Chop => PROJ,
-        Op::Proj | Op::Or => OR,
+        Op::Chop | Op::Proj => Grouping::Right,
         Op::Equal
         | Op::Differs
         | Op::Less
@@ -65,32 +67,30 @@ pub fn left_level(op: Op) -> u8
         | Op::GreaterEqual
         | Op::Gets
         | Op::Arrow
-        | Op::Becomes
-        | Op::Plus
-        | Op::Minus => SUM,
-        Op::Times | Op::Div | Op::Mod => PRODUCT,
+        | Op::Becomes => Grouping::Single,
+        Op::Or | Op::Plus | Op::Minus | Op::Times | Op::Div | Op::Mod => Grouping::Left,
+    }
+}
+
+/// The highest level that the left operand has without parentheses.
+pub fn left_level(op: Op) -> u8
+    ensures value { result ≡ spec.left_level op }
+    ensures low { result ≤ chop_level }
+{
+    match grouping(op) {
+        Grouping::Left => op_level(op),
+        Grouping::Single | Grouping::Right => op_level(op) - 1,
     }
 }
 
 /// And the right operand.
 pub fn right_level(op: Op) -> u8
-    ensures { result ≡ spec.right_level op }
+    ensures value { result ≡ spec.right_level op }
+    ensures low { result ≤ chop_level }
 {
-    match op {
-        Op::Chop => CHOP,
-        Op::Proj => PROJ,
-        Op::Or => AND,
-        Op::Equal
-        | Op::Differs
-        | Op::Less
-        | Op::LessEqual
-        | Op::Greater
-        | Op::GreaterEqual
-        | Op::Gets
-        | Op::Arrow
-        | Op::Becomes => SUM,
-        Op::Plus | Op::Minus => PRODUCT,
-        Op::Times | Op::Div | Op::Mod => PREFIX,
+    match grouping(op) {
+        Grouping::Right => op_level(op),
+        Grouping::Left | Grouping::Single => op_level(op) - 1,
     }
 }
 

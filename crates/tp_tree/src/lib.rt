@@ -8,6 +8,6 @@ mod phrase;
 mod printing;
 
 pub use laws::spelling_examples;
-pub use operator::{Bare, Form, Op};
+pub use operator::{Bare, Form, Grouping, Op};
 pub use phrase::{Definition, Definitions, Phrase, PhraseKind, Phrases, Source};
 pub use printing::print;

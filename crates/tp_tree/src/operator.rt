@@ -23,6 +23,14 @@ pub enum Op {
     Mod,
 }
 
+/// How the operators of one level group: to the left, not at all, or to the right.
+#[derive(Clone, Copy)]
+pub enum Grouping {
+    Left,
+    Single,
+    Right,
+}
+
 /// A word that is a phrase by itself.
 #[derive(Clone, Copy)]
 pub enum Bare {

@@ -1,10 +1,6 @@
-use Rattle.tp_parse.proofs.SpelledKinds.{one_level}
 use Rattle.tp_parse.proofs.SpelledSources.{spellings_are_read_back}
 use Rattle.tp_parse.proofs.SpelledWhole.{sources_are_whole}
 use Rattle.tp_parse.proofs.laws.spellings_are_read_back.Goals as goal
-
-pub returns-clause-levels : goal.returns-clause-levels
-returns-clause-levels c = one_level
 
 pub returns-clause-whole : goal.returns-clause-whole
 returns-clause-whole c = sources_are_whole
