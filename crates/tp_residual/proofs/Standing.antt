@@ -16,20 +16,13 @@ use Rattle.tp_slots.specs.declared.scene.Region.{Region}
 use Rattle.tp_slots.specs.declared.scene.Slot.{Slot}
 use Rattle.tp_slots.proofs.Walking.{stands_in_front, item_is, entries_are}
 use Rattle.tp_slots.proofs.WalkLemmas.{roots_are}
-use Rattle.tp_slots.proofs.Listing.{own_append, slot_is}
 use Rattle.tp_slots.proofs.Showing.{all_shown}
-use Rattle.tp_slots.proofs.Carried.{item_of_region}
 use Rattle.tp_residual.proofs.Conjunctions.{only_item}
 use Rattle.tp_residual.specs.Phrases.{enclosed}
 use Rattle.tp_residual.specs.Residual.{leaf_level, holder_level, entries_level, leaf_spelling, holder_spelling, entries_spelling, later_spelling}
 use Rattle.tp_residual.specs.Seen.{what_level, what_spelling, item_level_in, item_spelling, items_spelling, region_entries_of, region_spelling}
 use Rattle.tp_residual.specs.declared.scene.Residue.{Residue}
-
-in_order_own : (s : Slots) (ids : List ℕ) → own_ids (in_order (item_front s) ids none) ≡ own_in s ids
-in_order_own s [] = refl
-in_order_own s (t ∷ ts) =
-    ap own_ids (stands_in_front s (region_entries s (length s.regions)) (length s.slots) t (in_order (item_front s) ts none))
-    ∙ (own_append (item_front s t none) (in_order (item_front s) ts none) ∙ ap (λ ns. own_for s t ++ ns) (in_order_own s ts))
+use Rattle.tp_slots.proofs.OwnItems.{in_order_own, item_of_region, slot_is}
 
 live_own : (s : Slots) (t : ℕ) (w : plain.What) → IsLive w → own_ids (of_what s (entries_at s) (item_front s) t w none) ≡ t ∷ []
 live_own s t (plain.bare l) a = refl

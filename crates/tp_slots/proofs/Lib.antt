@@ -33,12 +33,4 @@ pub mod Waking
 pub mod Newly
 pub mod Unmarked
 pub mod Marks
-pub mod Listing
-pub mod Carrying
-pub mod CarriedRegions
-pub mod Carried
-pub mod Succeeding
-pub mod NextShape
-pub mod NextStored
-pub mod NextUnmarked
-pub mod NextKept
+pub mod OwnItems

@@ -17,4 +17,3 @@ pub mod Shown
 pub mod Reductions
 pub mod News
 pub mod Own
-pub mod Successors

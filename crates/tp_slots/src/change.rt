@@ -44,7 +44,7 @@ fn raise_mark(scene: &mut Scene, region: u64, mark: Option<Side>)
 }
 
 /// A leaf, as it stands in a slot.
-pub(crate) fn leaf_what(leaf: Leaf) -> What
+pub fn leaf_what(leaf: Leaf) -> What
     ensures { what_of result ≡ plain.bare (plain_leaf leaf) }
 {
     match leaf {
@@ -160,7 +160,7 @@ pub fn become_opened(
 }
 
 /// The same phrase, shared.
-pub(crate) fn share(phrase: &Phrase) -> Result<Phrase, NoMemory>
+pub fn share(phrase: &Phrase) -> Result<Phrase, NoMemory>
     ensures formula { IfOk result (λ a. formula_of a ≡ formula_of phrase.now) }
     ensures env { IfOk result (λ a. env_of a ≡ env_of phrase.now) }
 {

@@ -63,7 +63,7 @@ pub fn first_unsettled(alloc: Global, scene: &Scene) -> Result<Option<u64>, NoMe
 }
 
 // Equal values.
-pub(crate) fn copy_values(alloc: Global, values: &Values) -> Result<Values, NoMemory>
+pub fn copy_values(alloc: Global, values: &Values) -> Result<Values, NoMemory>
     ensures { IfOk result (λ vs. values_of vs ≡ values_of values.now) }
 {
     let mut items = Vec::new(alloc);

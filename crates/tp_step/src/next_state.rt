@@ -20,6 +20,6 @@ pub fn advance(alloc: Global, scene: Scene) -> Result<Scene, NoMemory>
     ensures means { IfOk result (AdvanceMeans scene) }
     ensures sound { IfOk result (AdvanceIsSound scene) }
 {
-    let next = tp_slots::advance(alloc, scene)?;
+    let next = tp_advance::advance(alloc, scene)?;
     Ok(next)
 }

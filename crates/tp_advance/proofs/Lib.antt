@@ -1,0 +1,9 @@
+pub mod Listing
+pub mod Carrying
+pub mod CarriedRegions
+pub mod Carried
+pub mod Succeeding
+pub mod NextShape
+pub mod NextStored
+pub mod NextUnmarked
+pub mod NextKept
