@@ -1,14 +1,20 @@
 // Variables, places in their values, and facts.
-ghost use Rattle.std.specs.Prelude.{◌≡◌, [], IfOk};
+ghost use Rattle.std.specs.Prelude.{◌≡◌, [], IfOk, nat_eq};
+ghost use Rattle.std.specs.Hash as fed;
+ghost use Rattle.std.specs.Cmp.Lexicographic.{nat_list_eq_equiv, pointwise};
+ghost use Rattle.std.specs.Cmp.{partial_equiv_from_equiv};
+ghost use Rattle.std.specs.Cmp.Rules.{hashing};
+ghost use Rattle.std.proofs.Common.{rules};
 
 use crate::NoMemory;
 use crate::value::Shape;
 use std::alloc::Global;
+use std::hash::{Hash, Hasher};
 use std::marker::Model;
 
 /// A variable, by its number. `lasting` says that it is static: it keeps one value over the whole interval. Else it is a state
 /// variable, with a value of its own in each state.
-#[derive(Clone, Copy, Debug, PartialEq, Eq)]
+#[derive(Clone, Copy, Debug, PartialEq, Eq, Hash)]
 pub struct VarId {
     pub number: u64,
     pub lasting: bool,
@@ -26,6 +32,30 @@ impl Model for Indices {
     ghost Value = { List ℕ };
 
     ghost view = { λ a. a.items.items };
+}
+
+impl PartialEq for Indices {
+    ghost eq = { pointwise nat_eq };
+
+    ghost laws = { partial_equiv_from_equiv nat_list_eq_equiv };
+
+    fn eq(&self, other: &Indices) -> bool {
+        self.items.as_slice() == other.items.as_slice()
+    }
+}
+
+impl Eq for Indices {
+    ghost laws = { nat_list_eq_equiv };
+}
+
+impl Hash for Indices {
+    ghost hash_input = { fed.slice fed.u32 };
+
+    ghost respects_eq = { Prim.search (hashing, rules) };
+
+    fn hash<H: Hasher>(&self, state: &mut H) {
+        self.items.as_slice().hash(state);
+    }
 }
 
 impl Indices {
@@ -48,7 +78,7 @@ impl Indices {
 }
 
 /// A place: a variable, and indices into its value; with no index it is the whole value.
-#[derive(Debug, Drop)]
+#[derive(Debug, PartialEq, Eq, Hash, Drop)]
 pub struct Path {
     pub var: VarId,
     pub at: Indices,
