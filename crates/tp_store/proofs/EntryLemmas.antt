@@ -12,13 +12,13 @@ use Rattle.tp_value.specs.Globals.{is_lower}
 use Rattle.std.proofs.lemmas.Bool.{false_from_ne_true}
 use Rattle.tp_store.proofs.Paths.{same_truth-decides}
 use Rattle.tp_store.specs.declared.entry.Entry.{Entry}
-use Rattle.tp_store.specs.Entries.{VariableFacts, part_in, parts_in, contents_of, facts_in, facts_there, without_facts, next_part, next_at, grown, AreParts}
+use Rattle.tp_store.specs.Entries.{VariableFacts, part_in, parts_in, contents_of, facts_in, without_facts, next_part, next_at, grown, AreParts}
 use Rattle.tp_store.proofs.Filing.{fresh_parts, part_of_variable}
 
 pub parts-push : (es fs : List Entry) (e : Entry) → fs ≡ es ++ e ∷ [] → parts_in fs ≡ parts_in es ++ part_in e ∷ []
 parts-push es fs e h = ap parts_in h ∙ map-append part_in es (e ∷ [])
 
-pub fresh_entry : (es fs : List Entry) (e : Entry) → fs ≡ es ++ e ∷ [] → e.facts.items ≡ [] → AreParts 0 (parts_in es) → AreParts 0 (parts_in fs)
+pub fresh_entry : (es fs : List Entry) (e : Entry) → fs ≡ es ++ e ∷ [] → e.facts ≡ [] → AreParts 0 (parts_in es) → AreParts 0 (parts_in fs)
 fresh_entry es fs e h n p =
     let v : Variable = record { name = e.name; lasting = e.lasting } in
     let bare : part_in e ≡ without_facts v = (let make : List Fact → VariableFacts = λ xs. record { variable = v; facts = xs } in ap make n) in
@@ -29,10 +29,7 @@ fresh_entry es fs e h n p =
 pub parts_of : (es fs : List Entry) → fs ≡ es → AreParts 0 (parts_in es) → AreParts 0 (parts_in fs)
 parts_of es fs h p = let P : List Entry → Type 0 = λ xs. AreParts 0 (parts_in xs) in subst P (sym h) p
 
--- what was read of the entries
-pub facts_read : (es fs : List Entry) (n : ℕ) (r : List Fact) → fs ≡ es → r ≡ facts_there (slice_get (parts_in fs) n) → r ≡ facts_there (slice_get (parts_in es) n)
-facts_read es fs n r h e = e ∙ ap (λ xs. facts_there (slice_get (parts_in xs) n)) h
-
+-- what is read of the entries
 get-parts : (es : List Entry) (i : ℕ) (d : Entry) → i < length es → slice_get (parts_in es) i ≡ Some (part_in (get_or es i d))
 get-parts [] i d h = absurd (omega arith)
 get-parts (e ∷ es) zero d h = refl
@@ -48,27 +45,27 @@ has_entry es v x e h =
     let P : ℕ → Type 0 = λ n. x.number < n in
     subst P (length-map es part_in) below
 
-pub parts-take : (es : List Entry) (i : ℕ) (e : Entry) → i < length es → e ≡ get_or es i e → facts_in (take (i + 1) (parts_in es)) ≡ facts_in (take i (parts_in es)) ++ e.facts.items
+pub parts-take : (es : List Entry) (i : ℕ) (e : Entry) → i < length es → e ≡ get_or es i e → facts_in (take (i + 1) (parts_in es)) ≡ facts_in (take i (parts_in es)) ++ e.facts
 parts-take [] i e h q = absurd (omega arith)
-parts-take (x ∷ es) zero e h q = let n : 0 + 1 ≡ 1 = refl in append-nil x.facts.items ∙ ap (λ (y : Entry). y.facts.items) (sym q)
+parts-take (x ∷ es) zero e h q = let n : 0 + 1 ≡ 1 = refl in append-nil x.facts ∙ ap (λ (y : Entry). y.facts) (sym q)
 parts-take (x ∷ es) (suc i) e h q =
     let n : suc i + 1 ≡ suc (i + 1) = omega arith in
-    ap (λ m. facts_in (take m (parts_in (x ∷ es)))) n ∙ ap (λ fs. x.facts.items ++ fs) (parts-take es i e (omega arith) q) ∙ sym (append_assoc x.facts.items (facts_in (take i (parts_in es))) e.facts.items)
+    ap (λ m. facts_in (take m (parts_in (x ∷ es)))) n ∙ ap (λ fs. x.facts ++ fs) (parts-take es i e (omega arith) q) ∙ sym (append_assoc x.facts (facts_in (take i (parts_in es))) e.facts)
 
-pub set-parts : (es : List Entry) (i : ℕ) (e f : Entry) (news : List Fact) → i < length es → e ≡ get_or es i e → f.name ≡ e.name → f.lasting ≡ e.lasting → f.facts.items ≡ e.facts.items ++ news → parts_in (set es i f) ≡ grown (parts_in es) i news
+pub set-parts : (es : List Entry) (i : ℕ) (e f : Entry) (news : List Fact) → i < length es → e ≡ get_or es i e → f.name ≡ e.name → f.lasting ≡ e.lasting → f.facts ≡ e.facts ++ news → parts_in (set es i f) ≡ grown (parts_in es) i news
 set-parts [] i e f news h q n l k = absurd (omega arith)
 set-parts (x ∷ es) zero e f news h q n l k =
     let make : List ℕ → Bool → List Fact → VariableFacts = λ a b fs. record { variable = record { name = a; lasting = b }; facts = fs } in
     let s : e ≡ x = q in
-    let a : part_in f ≡ make e.name e.lasting (e.facts.items ++ news) = ap (λ y. make y f.lasting f.facts.items) n ∙ ap (λ y. make e.name y f.facts.items) l ∙ ap (make e.name e.lasting) k in
-    ap (λ p. p ∷ parts_in es) (a ∙ ap (λ (y : Entry). make y.name y.lasting (y.facts.items ++ news)) s)
+    let a : part_in f ≡ make e.name e.lasting (e.facts ++ news) = ap (λ y. make y f.lasting f.facts) n ∙ ap (λ y. make e.name y f.facts) l ∙ ap (make e.name e.lasting) k in
+    ap (λ p. p ∷ parts_in es) (a ∙ ap (λ (y : Entry). make y.name y.lasting (y.facts ++ news)) s)
 set-parts (x ∷ es) (suc i) e f news h q n l k = ap (λ ps. part_in x ∷ ps) (set-parts es i e f news (omega arith) q n l k)
 
-pub set-same : (es : List Entry) (i : ℕ) (e f : Entry) → i < length es → e ≡ get_or es i e → f.name ≡ e.name → f.lasting ≡ e.lasting → f.facts.items ≡ e.facts.items → parts_in (set es i f) ≡ parts_in es
+pub set-same : (es : List Entry) (i : ℕ) (e f : Entry) → i < length es → e ≡ get_or es i e → f.name ≡ e.name → f.lasting ≡ e.lasting → f.facts ≡ e.facts → parts_in (set es i f) ≡ parts_in es
 set-same [] i e f h q n l k = absurd (omega arith)
 set-same (x ∷ es) zero e f h q n l k =
     let make : List ℕ → Bool → List Fact → VariableFacts = λ a b fs. record { variable = record { name = a; lasting = b }; facts = fs } in
-    let a : part_in f ≡ part_in e = ap (λ y. make y f.lasting f.facts.items) n ∙ ap (λ y. make e.name y f.facts.items) l ∙ ap (make e.name e.lasting) k in
+    let a : part_in f ≡ part_in e = ap (λ y. make y f.lasting f.facts) n ∙ ap (λ y. make e.name y f.facts) l ∙ ap (make e.name e.lasting) k in
     ap (λ p. p ∷ parts_in es) (a ∙ ap part_in q)
 set-same (x ∷ es) (suc i) e f h q n l k = ap (λ ps. part_in x ∷ ps) (set-same es i e f (omega arith) q n l k)
 
@@ -112,10 +109,10 @@ next_beyond (x ∷ es) (suc i) h = ap (λ ps. part_in x ∷ ps) (next_beyond es 
 pub lasting_stays : (e : Entry) → e.lasting ≡ true → part_in e ≡ next_part (part_in e)
 lasting_stays e t = sym (ap (λ b. cond b (part_in e) (without_facts (part_in e).variable)) t)
 
-pub state_goes : (e f : Entry) → e.lasting ≡ false → f.name ≡ e.name → f.lasting ≡ e.lasting → f.facts.items ≡ [] → part_in f ≡ next_part (part_in e)
+pub state_goes : (e f : Entry) → e.lasting ≡ false → f.name ≡ e.name → f.lasting ≡ e.lasting → f.facts ≡ [] → part_in f ≡ next_part (part_in e)
 state_goes e f t n l k =
     let make : List ℕ → Bool → List Fact → VariableFacts = λ a b fs. record { variable = record { name = a; lasting = b }; facts = fs } in
-    ap (λ y. make y f.lasting f.facts.items) n ∙ ap (λ y. make e.name y f.facts.items) l ∙ ap (make e.name e.lasting) k ∙ sym (ap (λ b. cond b (part_in e) (without_facts (part_in e).variable)) t)
+    ap (λ y. make y f.lasting f.facts) n ∙ ap (λ y. make e.name y f.facts) l ∙ ap (make e.name e.lasting) k ∙ sym (ap (λ b. cond b (part_in e) (without_facts (part_in e).variable)) t)
 
 -- a list that was written over another of its length
 pub written : (es fs : List Entry) (n : ℕ) → n ≡ length es → length fs ≡ length es → take n (fs ++ drop (length fs) es) ≡ fs
@@ -128,10 +125,10 @@ written es fs n h k = ap (λ m. take m (fs ++ drop (length fs) es)) h ∙ over e
     over (e ∷ es) (f ∷ fs) k = ap (λ xs. f ∷ xs) (over es fs (omega arith))
 
 -- one more global
-pub global_entry : (name : List ℕ) (e : Entry) → e.name ≡ name → e.lasting ≡ is_lower name → e.facts.items ≡ [] → part_in e ≡ without_facts (global_variable name)
+pub global_entry : (name : List ℕ) (e : Entry) → e.name ≡ name → e.lasting ≡ is_lower name → e.facts ≡ [] → part_in e ≡ without_facts (global_variable name)
 global_entry name e n l k =
     let make : List ℕ → Bool → List Fact → VariableFacts = λ a b fs. record { variable = record { name = a; lasting = b }; facts = fs } in
-    ap (λ y. make y e.lasting e.facts.items) n ∙ ap (λ y. make name y e.facts.items) l ∙ ap (make name (is_lower name)) k
+    ap (λ y. make y e.lasting e.facts) n ∙ ap (λ y. make name y e.facts) l ∙ ap (make name (is_lower name)) k
 
 pub global_more : (names : List (List ℕ)) (i : ℕ) (name : List ℕ) → slice_get names i ≡ Some name
     → map (λ n. without_facts (global_variable n)) (take i names) ++ without_facts (global_variable name) ∷ [] ≡ map (λ n. without_facts (global_variable n)) (take (i + 1) names)

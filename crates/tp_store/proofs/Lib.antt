@@ -5,6 +5,9 @@ pub mod Members
 pub mod First
 pub mod Same
 pub mod Adding
+pub mod Keys
+pub mod BoundLemmas
+pub mod FactMapLemmas
 pub mod Filing
 pub mod EntryLemmas
 pub mod Touched

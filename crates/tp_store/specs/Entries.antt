@@ -12,7 +12,7 @@ pub record VariableFacts : Type 0 where
   pub facts : List Fact
 
 abbrev pub part_in : Entry → VariableFacts
-part_in e = record { variable = record { name = e.name; lasting = e.lasting }; facts = e.facts.items }
+part_in e = record { variable = record { name = e.name; lasting = e.lasting }; facts = e.facts }
 
 abbrev pub parts_in : List Entry → List VariableFacts
 parts_in es = map part_in es

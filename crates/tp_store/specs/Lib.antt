@@ -1,6 +1,7 @@
 pub mod Facts
 pub mod Known
 pub mod Entries
+pub mod FactMap
 pub mod Changes
 pub mod Answers
 pub mod Laws

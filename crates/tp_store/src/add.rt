@@ -8,9 +8,9 @@ ghost use Rattle.tp_store.specs.Entries.{AreOf, parts_in, facts_there, grown};
 ghost use Rattle.tp_store.specs.Answers.{Adds, IsRefusal};
 ghost use Rattle.tp_store.specs.Changes.{IsSoundStore, AddsFacts};
 
-use crate::entry::{Entry, facts_of, touch};
+use crate::entry::{Entry, touch};
+use crate::fact_map::FactMap;
 use crate::full::item_path;
-use crate::listing::{copy_facts, copy_new, find_clash};
 use crate::store::Store;
 use std::alloc::{AllocError, AllocFailed, Global};
 use tp_value::{Fact, Facts, NoMemory, Path, Shape, Value, VarId};
@@ -122,29 +122,30 @@ fn length_facts(alloc: Global, path: &Path, length: u32) -> Result<Vec<Fact>, No
 }
 
 // Whether facts can be added to those that are kept of their variable.
-fn check_in(kept: &[Fact], facts: &[Fact]) -> Result<(), AddRefusal>
+fn check_in(alloc: Global, kept: &FactMap, facts: &[Fact]) -> Result<(), AddRefusal>
     ensures ok { OnOk result (addition kept.now facts.now ≡ adds (new_facts kept.now facts.now)) }
     ensures refused { IfErr result (IsRefusal (addition kept.now facts.now)) }
 {
-    if let Some((old, new)) = find_clash(kept, facts) {
-        let kept = old.copy()?;
-        let new = new.copy()?;
-        return Err(AddRefusal::Clash { kept, new });
+    for fact in facts {
+        if let Some(kept) = kept.first_clash(alloc, fact)? {
+            let new = fact.copy()?;
+            return Err(AddRefusal::Clash { kept, new });
+        }
     }
     Ok(())
 }
 
-// Adds facts of one variable to those that are kept of it.
-fn add_in(alloc: Global, kept: &mut Vec<Fact>, facts: Vec<Fact>) -> Result<Facts, AddRefusal>
-    ensures added { IfOk result (λ news. addition kept.old.items facts.items ≡ adds news) }
-    ensures refused { IfErr result (IsRefusal (addition kept.old.items facts.items)) }
-    ensures ok { IfOk result (λ news. kept.new.items ≡ kept.old.items ++ news) }
-    ensures err { OnErr result (kept.new.items ≡ kept.old.items) }
+// Adds facts of one variable, which don't clash with each other, to those that are kept of it.
+fn add_in(alloc: Global, kept: &mut FactMap, facts: Vec<Fact>) -> Result<Facts, AddRefusal>
+    requires { NoClash facts.items }
+    ensures added { IfOk result (λ news. addition kept.old facts.items ≡ adds news) }
+    ensures refused { IfErr result (IsRefusal (addition kept.old facts.items)) }
+    ensures ok { IfOk result (λ news. kept.new ≡ kept.old ++ news) }
+    ensures err { OnErr result (kept.new ≡ kept.old) }
 {
-    check_in(kept.as_slice(), facts.as_slice())?;
-    let news = copy_new(alloc, kept.as_slice(), facts.as_slice())?;
-    let mut copies = copy_facts(alloc, news.as_slice())?;
-    kept.append(&mut copies)?;
+    check_in(alloc, kept, facts.as_slice())?;
+    let news = kept.copy_new(alloc, facts.as_slice())?;
+    kept.add(alloc, news.as_slice())?;
     Ok(Facts { items: news })
 }
 
@@ -155,7 +156,8 @@ fn add_at(
     number: u64,
     facts: Vec<Fact>,
 ) -> Result<Facts, AddRefusal>
-    requires { number < length entries.old }
+    requires number { number < length entries.old }
+    requires apart { NoClash facts.items }
     ensures added { IfOk result (λ news.
         addition (facts_there (slice_get (parts_in entries.old) number)) facts.items ≡ adds news) }
     ensures refused { IfErr result
@@ -231,11 +233,12 @@ impl Store {
 
     // Whether facts of one variable can be added.
     fn check_facts(&self, var: VarId, facts: &[Fact]) -> Result<(), AddRefusal>
-        requires { AreOf var facts.now }
+        requires variable { IsVariableOf self.now.variables var }
+        requires filed { AreOf var facts.now }
         ensures ok { OnOk result (Adds (addition self.now.facts facts.now)) }
         ensures refused { IfErr result (IsRefusal (addition self.now.facts facts.now)) }
     {
-        check_in(facts_of(self.entries.as_slice(), var.number), facts)
+        check_in(self.alloc, &self.entries[var.number as usize].facts, facts)
     }
 
     // Adds facts of one variable, which don't clash with each other.

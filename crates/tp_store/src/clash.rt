@@ -1,7 +1,9 @@
 // When two facts clash.
 ghost use Rattle.std.specs.Prelude.{◌≡◌, length};
-ghost use Rattle.tp_store.specs.Facts.{same_variable, same_indices, same_path, same_shape, has_item, leaves_out, excludes, clash};
+ghost use Rattle.tp_store.specs.Facts.{same_variable, same_indices, same_path, same_shape, has_item, leaves_out, excludes, clash, fact};
 ghost use Rattle.tp_store.specs.Known.{is_lesser, is_earlier};
+ghost use Rattle.tp_store.specs.FactMap.{lacks_item};
+ghost use Rattle.tp_value.specs.declared.value.Shape.{Shape};
 
 use tp_value::{Fact, Path, Shape, VarId};
 
@@ -25,13 +27,14 @@ fn same_indices(a: &[u32], b: &[u32]) -> bool
     true
 }
 
-pub fn same_path(p: &Path, q: &Path) -> bool
+fn same_path(p: &Path, q: &Path) -> bool
     ensures { result ≡ same_path p.now q.now }
 {
     same_variable(p.var, q.var) && same_indices(p.at.items.as_slice(), q.at.items.as_slice())
 }
 
-fn same_shape(a: Shape, b: Shape) -> bool
+/// Whether the shapes are equal.
+pub fn same_shape(a: Shape, b: Shape) -> bool
     ensures { result ≡ same_shape a b }
 {
     match (a, b) {
@@ -42,13 +45,23 @@ fn same_shape(a: Shape, b: Shape) -> bool
     }
 }
 
-// The shape has an item with this index.
-fn has_item(shape: Shape, index: u32) -> bool
+/// Whether the shape has an item with this index.
+pub fn has_item(shape: Shape, index: u32) -> bool
     ensures { result ≡ has_item shape index }
 {
     match shape {
         Shape::Items(n) => index < n,
         _ => false,
+    }
+}
+
+/// Whether a shape is there, and has no item with this index.
+pub fn lacks_item(shape: Option<Shape>, index: u32) -> bool
+    ensures { result ≡ lacks_item shape index }
+{
+    match shape {
+        Some(shape) => !has_item(shape, index),
+        None => false,
     }
 }
 
@@ -67,24 +80,20 @@ fn leaves_out(at: &[u32], shape: Shape, beyond: &[u32]) -> bool
     !has_item(shape, beyond[at.len()])
 }
 
-// The fact gives a proper prefix of the path a shape that has no such element.
-pub fn excludes(fact: &Fact, path: &Path) -> bool
-    ensures { result ≡ excludes fact.now path.now }
+// A shape at this path leaves no element at the other.
+fn excludes(path: &Path, shape: Shape, other: &Path) -> bool
+    ensures { result ≡ excludes (fact path.now shape) other.now }
 {
-    same_variable(fact.path.var, path.var)
-        && leaves_out(
-            fact.path.at.items.as_slice(),
-            fact.shape,
-            path.at.items.as_slice(),
-        )
+    same_variable(path.var, other.var)
+        && leaves_out(path.at.items.as_slice(), shape, other.at.items.as_slice())
 }
 
-/// Whether the facts give one path two shapes, or one excludes the other's path.
-pub fn clashes(f: &Fact, g: &Fact) -> bool
-    ensures { result ≡ clash f.now g.now }
+/// Whether a path with this shape clashes with the fact: they give one path two shapes, or one excludes the other's path.
+pub fn clashes(path: &Path, shape: Shape, other: &Fact) -> bool
+    ensures { result ≡ clash (fact path.now shape) other.now }
 {
-    (same_path(&f.path, &g.path) && !same_shape(f.shape, g.shape))
-        || (excludes(f, &g.path) || excludes(g, &f.path))
+    (same_path(path, &other.path) && !same_shape(shape, other.shape))
+        || (excludes(path, shape, &other.path) || excludes(&other.path, other.shape, path))
 }
 
 // Of indices of one length, the lesser ones.
@@ -100,11 +109,11 @@ fn is_lesser(a: &[u32], b: &[u32]) -> bool
     false
 }
 
-/// Whether the fact has fewer indices, or as many and lesser ones.
-pub fn is_earlier(f: &Fact, g: &Fact) -> bool
-    ensures { result ≡ is_earlier f.now g.now }
+/// Whether the path has fewer indices, or as many and lesser ones.
+pub fn is_earlier(p: &Path, q: &Path) -> bool
+    ensures { (a b : Shape) → result ≡ is_earlier (fact p.now a) (fact q.now b) }
 {
-    let a = f.path.at.items.as_slice();
-    let b = g.path.at.items.as_slice();
+    let a = p.at.items.as_slice();
+    let b = q.at.items.as_slice();
     a.len() < b.len() || (a.len() == b.len() && is_lesser(a, b))
 }

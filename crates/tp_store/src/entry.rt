@@ -1,21 +1,22 @@
 // What is kept of each variable.
-ghost use Rattle.std.specs.Prelude.{◌≡◌, ◌<◌, ◌++◌, List, length, map, take, slice_get, slice_set, IfOk, OnOk};
+ghost use Rattle.std.specs.Prelude.{◌≡◌, ◌<◌, ◌++◌, [], List, length, unwrap_or, map, take, slice_get, slice_set, IfOk, OnOk};
 ghost use Rattle.tp_store.specs.Entries.{VariableFacts, part_in, parts_in, facts_in, facts_there, without_facts, next_part, next_at, grown, AreTouched};
+ghost use Rattle.tp_store.specs.Facts.{kept_shape};
 ghost use Rattle.tp_store.specs.Known.{global_variable, name_of};
 ghost use Rattle.std.specs.Option.{option_copied};
 ghost use Rattle.tp_value.specs.declared.path.Fact.{Fact};
 ghost use Rattle.tp_value.specs.Globals.{is_lower};
 
-use crate::listing::copy_facts;
+use crate::fact_map::FactMap;
 use std::alloc::Global;
-use tp_value::{Fact, Globals, NoMemory, Text, VarId};
+use tp_value::{Fact, Globals, NoMemory, Path, Shape, Text, VarId};
 
 /// A variable with its source name, whether it is static, and the facts that are kept of it.
 #[derive(Drop)]
 pub struct Entry {
     pub name: Text,
     pub lasting: bool,
-    pub facts: Vec<Fact>,
+    pub facts: FactMap,
 }
 
 // Whether variables of this name are static.
@@ -41,20 +42,32 @@ pub fn global_entries(alloc: Global, globals: &Globals) -> Result<Vec<Entry>, No
             entries.push(Entry {
                 name,
                 lasting,
-                facts: Vec::new(alloc),
+                facts: FactMap::new(alloc),
             })?;
         }
     }
     Ok(entries)
 }
 
-/// The facts of the variable with that number, none where there is none.
-pub fn facts_of(entries: &[Entry], number: u64) -> &[Fact]
-    ensures { result.now ≡ facts_there (slice_get (parts_in entries.now) number) }
+/// The facts of the variable with that number, where there is one.
+pub fn facts_of(entries: &[Entry], number: u64) -> Option<&FactMap>
+    ensures { unwrap_or (option_copied result) []
+        ≡ facts_there (slice_get (parts_in entries.now) number) }
 {
     match entries.get(number as usize) {
-        Some(entry) => entry.facts.as_slice(),
-        None => &[],
+        Some(entry) => Some(&entry.facts),
+        None => None,
+    }
+}
+
+/// The shape that is kept for the path.
+pub fn kept_shape(entries: &[Entry], path: &Path) -> Option<Shape>
+    ensures { result
+        ≡ kept_shape (facts_there (slice_get (parts_in entries.now) path.now.var.number)) path.now }
+{
+    match facts_of(entries, path.var.number) {
+        Some(facts) => facts.shape(path),
+        None => None,
     }
 }
 
@@ -81,7 +94,7 @@ pub fn copy_below(alloc: Global, entries: &[Entry], below: u64) -> Result<Vec<Fa
         if number as u64 >= below {
             return Ok(facts);
         }
-        let mut own = copy_facts(alloc, entry.facts.as_slice())?;
+        let mut own = entry.facts.copy(alloc)?;
         facts.append(&mut own)?;
     }
     Ok(facts)

@@ -1,15 +1,16 @@
 // What is known of the value at a path.
-ghost use Rattle.std.specs.Prelude.{◌≡◌, IfOk};
+ghost use Rattle.std.specs.Prelude.{◌≡◌, IfOk, slice_get};
 ghost use Rattle.tp_store.specs.Known.{full, whole, list_of_items, items_known};
 ghost use Rattle.tp_store.specs.Changes.{IsSoundStore};
 ghost use Rattle.tp_store.specs.Facts.{item_path};
+ghost use Rattle.tp_store.specs.Entries.{parts_in, facts_there};
 ghost use Rattle.tp_store.specs.Answers.{full_of, whole_of};
 
-use crate::entry::facts_of;
-use crate::listing::{depth_without, shape_in};
+use crate::entry::{Entry, facts_of};
+use crate::fact_map::FactMap;
 use crate::store::Store;
 use std::alloc::Global;
-use tp_value::{Fact, Items, NoMemory, Path, Shape, Value, is_within_list_limit};
+use tp_value::{Items, NoMemory, Path, Shape, Value, is_within_list_limit};
 
 /// What is known of the value at a path: there is no such element, the shape of this path isn't kept yet, it is longer than a list may be,
 /// or it is this value.
@@ -48,7 +49,7 @@ fn open(path: &Path) -> Result<Found, NoMemory>
 #[cycle(whole)]
 fn items_at(
     alloc: Global,
-    facts: &[Fact],
+    facts: &FactMap,
     path: &Path,
     count: u32,
     deeper: u64,
@@ -69,14 +70,14 @@ fn items_at(
 
 // The whole value at the path, where no path of the list has as many indices more.
 #[cycle(whole)]
-fn whole_at(alloc: Global, facts: &[Fact], path: &Path, deeper: u64) -> Result<Found, NoMemory>
+fn whole_at(alloc: Global, facts: &FactMap, path: &Path, deeper: u64) -> Result<Found, NoMemory>
     ensures { IfOk result (λ found. whole_of found ≡ whole deeper facts.now path.now) }
 {
     if deeper == 0 {
         let found = open(path)?;
         return Ok(found);
     }
-    match shape_in(facts, path) {
+    match facts.shape(path) {
         Some(Shape::Num(n)) => Ok(Found::Whole(Value::Num(n))),
         Some(Shape::Truth(b)) => Ok(Found::Whole(Value::Truth(b))),
         Some(Shape::Items(count)) => {
@@ -90,13 +91,13 @@ fn whole_at(alloc: Global, facts: &[Fact], path: &Path, deeper: u64) -> Result<F
     }
 }
 
-fn full_in(alloc: Global, facts: &[Fact], path: &Path) -> Result<Known, NoMemory>
+fn full_in(alloc: Global, facts: &FactMap, path: &Path) -> Result<Known, NoMemory>
     ensures { IfOk result (λ known. full_of known ≡ full facts.now path.now) }
 {
-    let Some(most) = depth_without(facts, path) else {
+    if facts.excludes(alloc, path)? {
         return Ok(Known::Absent);
-    };
-    match whole_at(alloc, facts, path, most + 1)? {
+    }
+    match whole_at(alloc, facts, path, facts.depth() + 1)? {
         Found::Open(q) => Ok(Known::Open(q)),
         Found::Whole(v) => {
             if is_within_list_limit(&v) {
@@ -108,6 +109,23 @@ fn full_in(alloc: Global, facts: &[Fact], path: &Path) -> Result<Known, NoMemory
     }
 }
 
+// What is known of the value at the path; nothing where its variable has no entry.
+fn known_at(alloc: Global, entries: &[Entry], path: &Path) -> Result<Known, NoMemory>
+    ensures { IfOk result (λ known. full_of known
+        ≡ full (facts_there (slice_get (parts_in entries.now) path.now.var.number)) path.now) }
+{
+    match facts_of(entries, path.var.number) {
+        Some(facts) => {
+            let known = full_in(alloc, facts, path)?;
+            Ok(known)
+        }
+        None => {
+            let path = path.copy()?;
+            Ok(Known::Open(path))
+        }
+    }
+}
+
 impl Store {
     /// What is known of the value at the path: it has no such element where the shape of a proper prefix leaves none; else the first path,
     /// from this one downwards in the order of the items, whose shape isn't kept; else whether the whole value is within the limit of lists.
@@ -115,8 +133,7 @@ impl Store {
         ensures value { IfOk result (λ known. full_of known ≡ full self.now.facts path.now) }
         ensures sound { IsSoundStore self.now }
     {
-        let facts = facts_of(self.entries.as_slice(), path.var.number);
-        let known = full_in(self.alloc, facts, path)?;
+        let known = known_at(self.alloc, self.entries.as_slice(), path)?;
         Ok(known)
     }
 }

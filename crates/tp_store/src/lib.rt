@@ -4,9 +4,11 @@
 mod add;
 mod clash;
 mod entry;
+mod fact_map;
 mod full;
+mod index_bounds;
 mod laws;
-mod listing;
+mod outer;
 mod store;
 
 pub use add::{AddRefusal, value_facts};

@@ -5,14 +5,14 @@ ghost use Rattle.tp_store.specs.Facts.{kept_shape};
 ghost use Rattle.tp_store.specs.Known.{new_store, name_of, lasting_facts, facts_below};
 ghost use Rattle.tp_store.specs.Changes.{IsSoundStore, HaveSameShapes, HasAppended};
 
-use crate::entry::{Entry, copy_below, drop_state_facts, facts_of, global_entries, name_of};
-use crate::listing::shape_in;
+use crate::entry::{Entry, copy_below, drop_state_facts, global_entries, kept_shape, name_of};
+use crate::fact_map::FactMap;
 use std::alloc::Global;
 use std::marker::Model;
 use tp_value::{Facts, Globals, NoMemory, Path, Shape, Text, VarId};
 
 /// What is known of a state: facts without a clash, whose order is open, and the variables, of which the i-th, from 0, has number i. A
-/// look-up goes to the facts of its variable alone.
+/// look-up goes to the facts of its variable alone, and there by its path.
 #[derive(Drop)]
 pub struct Store {
     pub(crate) alloc: Global,
@@ -53,7 +53,7 @@ impl Store {
         ensures value { result ≡ kept_shape self.now.facts path.now }
         ensures sound { IsSoundStore self.now }
     {
-        shape_in(facts_of(self.entries.as_slice(), path.var.number), path)
+        kept_shape(self.entries.as_slice(), path)
     }
 
     /// How many variables there are: the number of the next new one.
@@ -80,7 +80,7 @@ impl Store {
         self.entries.push(Entry {
             name,
             lasting,
-            facts: Vec::new(self.alloc),
+            facts: FactMap::new(self.alloc),
         })?;
         Ok(VarId { number, lasting })
     }

@@ -6,6 +6,6 @@ use Rattle.tp_store.proofs.entry.copy_below.Goals as goal
 pub loop-number-preserved : goal.loop-number-preserved
 loop-number-preserved c = (
   omega arith,
-  c.in_ok-append.ensures.items ∙ ap₂ (λ (a b : List Fact). a ++ b) c.loop-number.invariant.1 (c.in_ok-own.ensures ∙ c.as_slice.ensures.value)
+  c.in_ok-append.ensures.items ∙ ap₂ (λ (a b : List Fact). a ++ b) c.loop-number.invariant.1 c.in_ok-own.ensures
       ∙ sym (parts-take c.args.entries.now c.loop-number.number c.index-entries-number.result c.loop-number-test.true c.index-entries-number.is),
 )

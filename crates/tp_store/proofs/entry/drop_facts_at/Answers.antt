@@ -13,7 +13,7 @@ returns-then-not-entries-place c =
     let in_range = c.if-place-entries.true in
     let f : Entry = record { name = (get_or es i d).name; lasting = (get_or es i d).lasting; facts = c.clear.new.self } in
     let state = ap (λ (y : Entry). y.lasting) (is ∙ same_read es i d c.index-entries-place.result in_range) ∙ c.if-not-entries-place.true in
-    next_set es i d f in_range is (state_goes d f state (ap (λ (y : Entry). y.name) (sym is)) (ap (λ (y : Entry). y.lasting) (sym is)) c.clear.ensures.items)
+    next_set es i d f in_range is (state_goes d f state (ap (λ (y : Entry). y.name) (sym is)) (ap (λ (y : Entry). y.lasting) (sym is)) c.clear.ensures)
 
 pub returns-else-place-entries : goal.returns-else-place-entries
 returns-else-place-entries c =

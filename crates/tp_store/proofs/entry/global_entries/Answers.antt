@@ -15,7 +15,7 @@ loop-number-preserved c =
           let e : Entry = record { name = w.in_ok-name.name; lasting = w.is_lower-lasting.result; facts = w.new.result } in
           let found : slice_get c.args.globals.now c.loop-number.number ≡ Some name = sym c.name.ensures ∙ ap option_copied w.in-Some.is in
           ap parts_in (ap (λ v. v.items) w.entries-is) ∙ parts-push c.loop-number.entries.items _ e w.in_ok-push.ensures.items
-          ∙ ap₂ (λ (a : List VariableFacts) (b : VariableFacts). a ++ b ∷ []) c.loop-number.invariant (global_entry name e w.in_ok-name.ensures (w.is_lower-lasting.ensures ∙ ap is_lower w.as_slice.ensures) w.new.ensures.items)
+          ∙ ap₂ (λ (a : List VariableFacts) (b : VariableFacts). a ++ b ∷ []) c.loop-number.invariant (global_entry name e w.in_ok-name.ensures (w.is_lower-lasting.ensures ∙ ap is_lower w.as_slice.ensures) w.new.ensures)
           ∙ global_more c.args.globals.now c.loop-number.number name found)
       | in_default w ↦ absurd (no_global c.args.globals.now c.loop-number.number (sym c.name.ensures ∙ ap option_copied w.in_default.is) (omega arith))
     ]

@@ -1,4 +1,5 @@
-use Rattle.std.proofs.Common.{◌≡◌, length, ap, arith, false, true, []}
+use Rattle.std.proofs.Common.{◌≡◌, false, true, []}
+use Rattle.std.proofs.lemmas.Bool.{both_ways}
 use Rattle.tp_store.specs.Entries.{part_in, parts_in}
 use Rattle.tp_store.proofs.EntryLemmas.{part_read}
 use Rattle.tp_store.proofs.Touched.{touched_first, touched_grown}
@@ -13,9 +14,9 @@ returns-else-not-entry-clause-ok c = λ news.
     let es = c.args.entries.now in
     let e = c.index-entries-number.result in
     let is = c.index-entries-number.is in
-    let has : e.lasting ≡ false → e.facts.items ≡ [] → ⊥ = λ s n.
+    let has : e.lasting ≡ false → e.facts ≡ [] → ⊥ = λ s n.
     elim c.else-not-entry.branch [
-      | else-not-entry-via-then-not-entry+else-is_empty w ↦ (let l : length e.facts.items ≡ 0 = ap length n in grind (arith, w.is_empty.ensures, w.if-is_empty.false, e.facts.ok.0, l))
+      | else-not-entry-via-then-not-entry+else-is_empty w ↦ both_ways w.is_empty.result w.if-is_empty.false (w.is_empty.ensures.1 n)
       | else-not-entry-via-else-not-entry w ↦ (let t : e.lasting ≡ true = w.if-not-entry.false in cc (s, t))
     ] in
     touched_grown c.args.touched.now.items c.args.number (parts_in es) (part_in e) news (part_read es c.args.number e c.requires.in_range is) has c.requires.touched

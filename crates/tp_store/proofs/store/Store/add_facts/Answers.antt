@@ -13,8 +13,8 @@ use Rattle.tp_store.proofs.store.Store.add_facts.Goals as goal
 pub returns-in_err-touch-clause-sound : goal.returns-in_err-touch-clause-sound
 returns-in_err-touch-clause-sound c = sound (parts_in c.self.inside.entries.items) c.self.invariant.0
 
-pub add_at-requires : goal.add_at-requires
-add_at-requires c =
+pub add_at-requires-clause-number : goal.add_at-requires-clause-number
+add_at-requires-clause-number c =
     let es = c.self.inside.entries.items in
     let P : List Entry → Type 0 = λ xs. c.args.var.number < length xs in
     subst P (sym c.as_mut_slice.ensures.value) (has_entry es _ c.args.var c.self.view_is c.requires.variable)
