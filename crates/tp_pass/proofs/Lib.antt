@@ -1,3 +1,4 @@
+pub mod Following
 pub mod Live
 pub mod Picks
 pub mod Sweeping

@@ -1,2 +1,3 @@
 pub mod Closes
+pub mod Follows
 pub mod Sweeps

@@ -5,6 +5,7 @@ ghost use Rattle.tp_decide.specs.Decided.{setting_of};
 ghost use Rattle.tp_slots.specs.Kept.{IsWellKept};
 ghost use Rattle.tp_step.specs.Answers.{moment_of};
 ghost use Rattle.tp_pass.specs.Closes.{ClosureAnswers, Counts, LooksAt, Passes, ending_of, is_pick};
+ghost use Rattle.tp_pass.specs.Follows.{FollowsOrder, PassTurns};
 
 use crate::sweep::{Course, Sweep};
 use std::sync::ledger::Ledger;
@@ -93,6 +94,10 @@ fn pass<L: Ledger>(
         (Passes (setting_of setting.now) (moment_of scene.old store.old)
         (moment_of scene.new store.new) course.old.room course.new.room tally.old.picks
         tally.new.picks) }
+    ensures turns { IfOk result
+        (PassTurns (setting_of setting.now) (moment_of scene.old store.old)
+        (moment_of scene.new store.new) course.old.order course.new.order course.old.room
+        course.new.room tally.old.picks tally.new.picks) }
     ensures waits { tally.new.waits ≡ tally.old.waits }
     ensures rests { tally.new.rests ≡ tally.old.rests }
 {
@@ -131,6 +136,10 @@ pub fn close_by_passes<L: Ledger>(
     ensures closes { IfOk result
         (ClosureAnswers (setting_of setting.now) course.room (moment_of scene.old store.old)
         (moment_of scene.new store.new) tally.old.picks tally.new.picks) }
+    ensures order { IfOk result
+        (FollowsOrder (setting_of setting.now) course.order course.room
+        (moment_of scene.old store.old) (moment_of scene.new store.new) tally.old.picks
+        tally.new.picks) }
     ensures waits { tally.new.waits ≡ tally.old.waits }
     ensures rests { tally.new.rests ≡ tally.old.rests }
 {

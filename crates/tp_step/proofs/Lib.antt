@@ -1,3 +1,4 @@
 pub mod MeaningLemmas
 pub mod CarryLemmas
 pub mod ChoiceLemmas
+pub mod FirstWaiting

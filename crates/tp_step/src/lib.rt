@@ -4,6 +4,7 @@
 mod answer;
 mod carry;
 mod first;
+mod laws;
 mod live;
 mod next_state;
 mod step;
@@ -11,6 +12,7 @@ mod steps;
 
 pub use answer::{Ending, ItemIds, News, Order, Settled, Tally, Tried, Wait, Waits};
 pub use first::start;
+pub use laws::first_waiting_is_named;
 pub use live::{items, settled};
 pub use next_state::advance;
 pub use step::try_item;

@@ -1,10 +1,25 @@
-use Rattle.std.proofs.Common.{◌∙◌, subst, Option, None, Some}
+use Rattle.std.proofs.Common.{◌∙◌, refl, subst, Option, None, Some}
 use Rattle.tp_step.specs.declared.answer.Ending.{Ending}
 use Rattle.tp_decide.specs.Decided.{setting_of}
 use Rattle.tp_step.specs.Answers.{moment_of}
 use Rattle.tp_pass.specs.Closes.{Passes}
-use Rattle.tp_pass.proofs.Picks.{made_on}
+use Rattle.tp_pass.specs.Follows.{PassTurns}
+use Rattle.tp_pass.proofs.Following.{passes_begin, passes_go_on, closure_ends}
+use Rattle.tp_pass.proofs.Picks.{made_none, made_on}
 use Rattle.tp_pass.proofs.pass.close_by_passes.Goals as goal
+
+pub passes-init : goal.passes-init
+passes-init g c =
+    let w = setting_of c.args.setting.now in
+    let m = moment_of c.args.scene.now c.args.store.now in
+    record {
+      made = made_none w m c.args.course.room c.args.tally.now.picks;
+      passes = passes_begin w m c.args.course.order c.args.course.room c.args.tally.now.picks;
+      sound = λ kinds h. h;
+      kept = c.requires.kept;
+      waits = refl;
+      rests = refl;
+    }
 
 pub passes-preserved : goal.passes-preserved
 passes-preserved g c =
@@ -14,8 +29,11 @@ passes-preserved g c =
     let next = moment_of c.pass.new.scene c.pass.new.store in
     let At : Option Ending → Type 0 = λ e. Passes w here next c.passes.course.room c.pass.new.course.room c.passes.tally.picks c.pass.new.tally.picks e in
     let one : At None = subst At c.in-None.is c.in_ok-ending.ensures.passes in
+    let Turns : Option Ending → Type 0 = λ e. PassTurns w here next c.passes.course.order c.pass.new.course.order c.passes.course.room c.pass.new.course.room c.passes.tally.picks c.pass.new.tally.picks e in
+    let turns : Turns None = subst Turns c.in-None.is c.in_ok-ending.ensures.turns in
     record {
       made = made_on w m here next _ _ _ _ _ _ c.passes.invariant.made one.0;
+      passes = passes_go_on w m here next _ _ _ _ _ _ _ _ _ c.passes.invariant.passes turns c.if-course-before.false;
       sound = λ kinds h. c.in_ok-ending.ensures.sound kinds (c.passes.invariant.sound kinds h);
       kept = c.pass.ensures.kept;
       waits = c.in_ok-ending.ensures.waits ∙ c.passes.invariant.waits;
@@ -31,3 +49,13 @@ returns-in-Some-clause-closes g c =
     let At : Option Ending → Type 0 = λ e. Passes w here next c.passes.course.room c.pass.new.course.room c.passes.tally.picks c.pass.new.tally.picks e in
     let one : At (Some c.in-Some.ending) = subst At c.in-Some.is c.in_ok-ending.ensures.passes in
     record { left = c.pass.new.course.room; made = made_on w m here next _ _ _ _ _ _ c.passes.invariant.made one.0; ends = one.1 }
+
+pub returns-in-Some-clause-order : goal.returns-in-Some-clause-order
+returns-in-Some-clause-order g c =
+    let w = setting_of c.args.setting.now in
+    let m = moment_of c.args.scene.now c.args.store.now in
+    let here = moment_of c.passes.scene c.passes.store in
+    let next = moment_of c.pass.new.scene c.pass.new.store in
+    let Turns : Option Ending → Type 0 = λ e. PassTurns w here next c.passes.course.order c.pass.new.course.order c.passes.course.room c.pass.new.course.room c.passes.tally.picks c.pass.new.tally.picks e in
+    let turns : Turns (Some c.in-Some.ending) = subst Turns c.in-Some.is c.in_ok-ending.ensures.turns in
+    closure_ends w m here next _ _ _ _ _ _ _ _ _ c.in-Some.ending c.passes.invariant.passes turns

@@ -3,6 +3,7 @@ use Rattle.tp_decide.specs.Decided.{setting_of}
 use Rattle.tp_step.specs.declared.answer.Ending.{Ending}
 use Rattle.tp_step.specs.Answers.{moment_of}
 use Rattle.tp_pass.specs.Closes.{Looks}
+use Rattle.tp_pass.proofs.Following.{MayEndWith, may_end, pass_of, turns_begin, turns_go_on, turns_end}
 use Rattle.tp_pass.proofs.Live.{live_below}
 use Rattle.tp_pass.proofs.Picks.{looked, picks_have_room, passing_first, passing_more, passing_last, passing_ends}
 use Rattle.tp_pass.proofs.pass.pass.Goals as goal
@@ -14,6 +15,8 @@ items-init g c =
     let course = c.args.course.now in
     record {
       passing = passing_first w m course.room c.args.tally.now.picks course.order c.begin.new.order c.in_ok-sweep.sweep c.in_ok-sweep.ensures.begins;
+      turns = turns_begin w m c.in_ok-sweep.sweep course.room c.args.tally.now.picks;
+      order = refl;
       waits = refl;
       rests = refl;
       kept = c.requires.kept;
@@ -40,6 +43,8 @@ items-preserved g c =
     let idle : At None = subst At (sym c.in_ok-ending.ensures.ending ∙ c.in-None.is) looks in
     record {
       passing = passing_more w m here next _ _ _ _ _ _ c.items.sweep c.next.new.self _ item c.items.invariant.passing c.in-Some.ensures.turn c.in_ok-looked.ensures.sound idle;
+      turns = turns_go_on w m here next _ c.items.sweep c.next.new.self _ _ _ _ _ _ item c.items.invariant.turns c.in-Some.ensures.turn idle;
+      order = c.items.invariant.order;
       waits = c.record.ensures.waits ∙ c.items.invariant.waits;
       rests = c.record.ensures.rests ∙ c.items.invariant.rests;
       kept = c.look_at.ensures.kept;
@@ -67,3 +72,32 @@ returns-in-Some-2-clause-passes g c =
     let looks = looked w item here next room left before after c.in_ok-looked.looked c.in_ok-looked.ensures.looks c.in_ok-ending.ensures.counts in
     let ends : At (Some c.in-Some-2.ending) = subst At (sym c.in_ok-ending.ensures.ending ∙ c.in-Some-2.is) looks in
     passing_ends w m here next _ _ _ _ _ _ c.items.sweep item c.in-Some-2.ending c.items.invariant.passing ends
+
+pub returns-clause-turns : goal.returns-clause-turns
+returns-clause-turns g c =
+    let m = moment_of c.args.scene.now c.args.store.now in
+    let here = moment_of c.items.scene c.items.store in
+    let pass = pass_of (setting_of c.args.setting.now) m here _ _ _ c.in_ok-sweep.sweep c.items.sweep _ _ _ _ c.in_ok-sweep.ensures.begins c.items.invariant.order c.items.invariant.turns in
+    (c.items.sweep, pass, (c.next.new.self, c.in_default.ensures.turn))
+
+pub returns-in-Some-2-clause-turns : goal.returns-in-Some-2-clause-turns
+returns-in-Some-2-clause-turns g c =
+    let w = setting_of c.args.setting.now in
+    let m = moment_of c.args.scene.now c.args.store.now in
+    let here = moment_of c.items.scene c.items.store in
+    let next = moment_of c.look_at.new.scene c.look_at.new.store in
+    let item = c.in-Some.item in
+    let room = c.items.course.room in
+    let left = c.record.new.left in
+    let before = c.items.tally.picks in
+    let after = c.record.new.tally.picks in
+    let looked_at = c.in_ok-looked.ensures.looks in
+    let counts = c.in_ok-ending.ensures.counts in
+    let At : Option Ending → Type 0 = λ e. Looks w item here next room left before after e in
+    let looks = looked w item here next room left before after c.in_ok-looked.looked looked_at counts in
+    let is = sym c.in_ok-ending.ensures.ending ∙ c.in-Some-2.is in
+    let ends : At (Some c.in-Some-2.ending) = subst At is looks in
+    let with_item = subst (MayEndWith w left here item) is (may_end w item here next room left before after c.in_ok-looked.looked looked_at counts) in
+    let end = turns_end w m here next _ c.items.sweep c.next.new.self _ _ _ _ _ _ item c.in-Some-2.ending c.items.invariant.turns c.in-Some.ensures.turn ends with_item in
+    let pass = pass_of w m next _ _ _ c.in_ok-sweep.sweep c.items.sweep _ _ _ _ c.in_ok-sweep.ensures.begins c.items.invariant.order end.0 in
+    (c.items.sweep, pass, end.1)

@@ -3,6 +3,7 @@ use Rattle.tp_decide.specs.Decided.{setting_of}
 use Rattle.tp_slots.specs.Kept.{IsWellKept}
 use Rattle.tp_step.specs.Answers.{moment_of}
 use Rattle.tp_pass.specs.Sweeps.{turns_left}
+use Rattle.tp_pass.proofs.Following.{TurnsSoFar}
 use Rattle.tp_pass.proofs.Picks.{Passing}
 use Rattle.tp_pass.proofs.pass.pass.Given as goal
 
@@ -13,6 +14,8 @@ invariant-items g l =
     let here = moment_of l.scene l.store in
     record {
       passing : Passing w first here l.initial.course.room l.course.room l.initial.tally.picks l.tally.picks l.sweep;
+      turns : TurnsSoFar w first here l.initial.sweep l.sweep l.initial.course.room l.course.room l.initial.tally.picks l.tally.picks;
+      order : l.course.order ≡ l.initial.course.order;
       waits : l.tally.waits ≡ l.initial.tally.waits;
       rests : l.tally.rests ≡ l.initial.tally.rests;
       kept : IsWellKept l.scene;
