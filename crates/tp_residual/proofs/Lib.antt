@@ -5,3 +5,4 @@ mod Always
 mod Standing
 pub mod Carried
 mod Reductions
+pub mod OnePhrase

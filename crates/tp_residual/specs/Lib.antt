@@ -5,3 +5,4 @@ pub mod Read
 pub mod Seen
 pub mod Laws
 pub mod Examples
+pub mod OnePhrase

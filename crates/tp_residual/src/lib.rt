@@ -8,5 +8,5 @@ mod scene;
 mod trace;
 mod words;
 
-pub use laws::{next_scenes_are_carried, residual_examples};
+pub use laws::{alike_moments_have_one_phrase, next_scenes_are_carried, residual_examples};
 pub use trace::trace_text;
