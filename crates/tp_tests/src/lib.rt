@@ -40,6 +40,8 @@ mod tokens;
 #[cfg(test)]
 mod told;
 #[cfg(test)]
+mod traces;
+#[cfg(test)]
 mod turns;
 #[cfg(test)]
 mod values;
