@@ -9,6 +9,7 @@ use Rattle.tp_slots.specs.Plain.{Slot, RegionSlot, Slots, region_slot, head_at, 
 use Rattle.tp_slots.specs.Places.{AreHeld}
 use Rattle.tp_slots.specs.Flags.{flags_in}
 use Rattle.tp_slots.specs.Kept.{HasNumbers, IsShaped, IsWellKept}
+use Rattle.tp_slots.specs.Looks.{LooksAreRight}
 use Rattle.tp_slots.specs.Own.{own_ids}
 use Rattle.tp_slots.specs.Shown.{AreShown}
 use Rattle.tp_advance.specs.Successors.{slots_for, FullRegion, full_regions, unmarked_region, regions_for, inside_numbered, HasRegion, inside_ids}
@@ -217,13 +218,14 @@ module _ (fs : Entries) (unmarked : AreUnmarked fs) (first next : Scene) (no_ite
   status : (y : Side) (r : ℕ) → r < length (slots_of next).regions → false ≡ (marked y (head_at (slots_of next) r) || risen y (entries_at (slots_of next) r))
   status y = subst (λ (s : Slots). (r : ℕ) → r < length s.regions → false ≡ (marked y (head_at s r) || risen y (entries_at s r))) (sym is_slots) (no_status fs unmarked y)
 
-  pub next_kept : IsWellKept next
-  next_kept = record {
+  pub next_kept : LooksAreRight (slots_of next) (holders_of next) next.looks → IsWellKept next
+  next_kept looks = record {
     shape = subst (λ s. IsShaped s (holders_of next)) (sym is_slots) (subst (λ h. IsShaped (z fs unmarked) h) (sym is_holders) (shape fs unmarked));
     ending = λ r l. ends_unset r ∙ status Ending r l;
     going = λ r l. goes_unset r ∙ status Going r l;
     quiet_ends = λ r l e. ends_unset r;
     quiet_goes = λ r l e. goes_unset r;
+    looks = looks;
   }
 
   pub next_scene : (s : S.Scene) → fs ≡ due s.root.entries → scene_of next ≡ advanced s

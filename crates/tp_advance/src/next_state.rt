@@ -10,7 +10,7 @@ ghost use Rattle.tp_advance.specs.Successors.{IsExtended, HasRegion, full_region
 use crate::own::own_items;
 use std::alloc::Global;
 use tp_decide::{Leaf, Phrase};
-use tp_slots::{Region, Scene, Slot, What, copy_values, leaf_what, share};
+use tp_slots::{Region, Scene, Slot, What, copy_values, leaf_what, no_looks, share};
 use tp_value::NoMemory;
 
 /// What the next state has of a region: all of it as it is, or what is due of it then.
@@ -202,6 +202,7 @@ fn push_item(scene: &mut Scene, home: u64, what: What) -> Result<u64, NoMemory>
     ensures slots { OnOk result (all_slots scene.new.slots.items
         ≡ all_slots scene.old.slots.items ++ record { home = home; what = what_of what } ∷ []) }
     ensures regions { OnOk result (scene.new.regions.items ≡ scene.old.regions.items) }
+    ensures looks { OnOk result (scene.new.looks ≡ scene.old.looks) }
 {
     let id = scene.slots.len() as u64;
     scene.slots.push(Slot { home, what })?;
@@ -213,6 +214,7 @@ fn push_region(alloc: Global, scene: &mut Scene) -> Result<(), NoMemory>
     ensures slots { OnOk result (scene.new.slots.items ≡ scene.old.slots.items) }
     ensures regions { OnOk result (full_regions scene.new.regions.items
         ≡ full_regions scene.old.regions.items ++ unmarked_region 0 [] ∷ []) }
+    ensures looks { OnOk result (scene.new.looks ≡ scene.old.looks) }
 {
     scene.regions.push(Region {
         holder: 0,
@@ -243,6 +245,7 @@ fn fill_region(scene: &mut Scene, at: usize, holder: u64, roots: Vec<u64>)
     ensures regions { full_regions scene.new.regions.items
         ≡ slice_set (full_regions scene.old.regions.items) at
         (refilled (full_regions scene.old.regions.items) at holder roots.items) }
+    ensures looks { scene.new.looks ≡ scene.old.looks }
 {
     fill(scene.regions.as_mut_slice(), at, holder, roots);
 }
@@ -275,6 +278,7 @@ fn carry(
         (HasRegion 0 [] (region_left old.now extent region) new.old new.new) }
     ensures roots { IfOk result (λ v. v.items
         ≡ inside_ids new.old (region_left old.now extent region)) }
+    ensures looks { OnOk result (new.new.looks ≡ new.old.looks) }
 {
     let home = new.regions.len() as u64;
     push_region(alloc, new)?;
@@ -301,6 +305,7 @@ fn carry_held(
     ensures added { let fs = region_left old.now extent region in OnOk result
         (HasRegion (length new.new.slots.items) (inside_ids new.old fs) fs new.old new.new) }
     ensures number { IfOk result (λ r. r ≡ length new.old.regions.items) }
+    ensures looks { OnOk result (new.new.looks ≡ new.old.looks) }
 {
     let number = new.regions.len();
     let roots = carry(alloc, old, region, extent, new)?;
@@ -321,8 +326,9 @@ fn carry_second(
 ) -> Result<(), NoMemory>
     requires sound { IsOrdered (slots_of old.now) }
     requires region { region < length old.now.regions.items }
-    ensures { let fs = region_left old.now extent region in OnOk result
+    ensures added { let fs = region_left old.now extent region in OnOk result
         (HasRegion holder (inside_ids new.old fs) fs new.old new.new) }
+    ensures looks { OnOk result (new.new.looks ≡ new.old.looks) }
 {
     let number = new.regions.len();
     let roots = carry(alloc, old, region, extent, new)?;
@@ -346,6 +352,7 @@ fn carry_item(
         (IsExtended home (item_left old.now extent item) new.old new.new) }
     ensures number { IfOk result (λ o. number_list o
         ≡ next_ids new.old (item_left old.now extent item)) }
+    ensures looks { OnOk result (new.new.looks ≡ new.old.looks) }
 {
     let next = leave(alloc, &old.slots[item as usize].what, extent)?;
     match next {
@@ -384,6 +391,7 @@ pub fn advance(alloc: Global, scene: Scene) -> Result<Scene, NoMemory>
     let mut next = Scene {
         slots: Vec::new(alloc),
         regions: Vec::new(alloc),
+        looks: no_looks(alloc),
     };
     carry_second(alloc, &scene, 0, Extent::Due, 0, &mut next)?;
     Ok(next)

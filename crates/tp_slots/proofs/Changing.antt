@@ -11,6 +11,7 @@ use Rattle.tp_slots.specs.Plain.{What, Slots, slot_at, entries_at, scene_in, has
 use Rattle.tp_slots.specs.Flags.{Flags, FlagsAreRight, FlagsFollow, rises_what, flags_in, Pending}
 use Rattle.tp_slots.specs.Kept.{IsShaped, IsQuiet, IsWellKept, IsUnchanged}
 use Rattle.tp_slots.specs.Lives.{lives_in}
+use Rattle.tp_slots.specs.Looks.{LooksAreRight, LooksFollow}
 use Rattle.tp_slots.specs.Replace.{home_in}
 use Rattle.tp_slots.specs.Row.{begun, stepped, held_after, AllBelow}
 use Rattle.tp_slots.specs.Reductions.{IsBare, AreBare, becomes_leaves}
@@ -20,6 +21,7 @@ use Rattle.tp_slots.proofs.Told.{told, rises_all}
 use Rattle.tp_slots.proofs.Stepping.{IsStep, stepped_regions}
 use Rattle.tp_slots.proofs.Instances.{told_leaves, leaves_rise, leaves_step, begins_step, begins_rise, begins_told}
 use Rattle.tp_slots.proofs.Keeping.{scene_then, shape_then, flags_then, quiet_then, home_lives_then}
+use Rattle.tp_slots.proofs.Looking.{LeavesOpen, looks_then, bare_leave, begun_leaves}
 use Rattle.tp_slots.specs.declared.scene.Scene.{Scene}
 use Rattle.tp_slots.specs.declared.scene.Region.{Region}
 
@@ -33,9 +35,12 @@ lives_within s t sound lives =
 pub home_within : (s : Scene) (t : ℕ) → IsOrdered (slots_of s) → t < length s.slots.items → home_in (map slot_of s.slots.items) t < length s.regions.items
 home_within s t sound l = let e = length-map s.slots.items slot_of in let f = length-map s.regions.items region_slot_of in let a = (sound.items t (omega (arith, e, l))).0 in omega (arith, f, a)
 
+looks_moved : (s s' : Scene) → slots_of s' ≡ slots_of s → holders_of s' ≡ holders_of s → s'.looks ≡ s.looks → LooksAreRight (slots_of s) (holders_of s) s.looks → LooksAreRight (slots_of s') (holders_of s') s'.looks
+looks_moved s s' es eh el x = subst (λ y. LooksAreRight y (holders_of s') s'.looks) (sym es) (subst (λ h. LooksAreRight (slots_of s) h s'.looks) (sym eh) (subst (LooksAreRight (slots_of s) (holders_of s)) (sym el) x))
+
 -- nothing was changed
-pub unchanged_kept : (s s' : Scene) → IsWellKept s → IsUnchanged s s' → IsWellKept s'
-unchanged_kept s s' kept same =
+pub unchanged_kept : (s s' : Scene) → IsWellKept s → IsUnchanged s s' → s'.looks ≡ s.looks → IsWellKept s'
+unchanged_kept s s' kept same el =
     let es : slots_of s' ≡ slots_of s = λ i. record { slots = map slot_of (same.slots i); regions = map region_slot_of (same.regions i) } in
     let eh : holders_of s' ≡ holders_of s = ap (map (λ (x : Region). x.holder)) same.regions in
     let ee : ends_of s' ≡ ends_of s = ap (map (λ (x : Region). x.ends_now)) same.regions in
@@ -46,6 +51,7 @@ unchanged_kept s s' kept same =
       going = subst (λ x. FlagsAreRight x Going (flags_in (goes_of s'))) (sym es) (subst (λ (l : List Bool). FlagsAreRight (slots_of s) Going (flags_in l)) (sym eg) kept.going);
       quiet_ends = subst (λ x. IsQuiet x (holders_of s') (flags_in (ends_of s'))) (sym es) (subst (λ h. IsQuiet (slots_of s) h (flags_in (ends_of s'))) (sym eh) (subst (λ (l : List Bool). IsQuiet (slots_of s) (holders_of s) (flags_in l)) (sym ee) kept.quiet_ends));
       quiet_goes = subst (λ x. IsQuiet x (holders_of s') (flags_in (goes_of s'))) (sym es) (subst (λ h. IsQuiet (slots_of s) h (flags_in (goes_of s'))) (sym eh) (subst (λ (l : List Bool). IsQuiet (slots_of s) (holders_of s) (flags_in l)) (sym eg) kept.quiet_goes));
+      looks = looks_moved s s' es eh el kept.looks;
     }
 
 -- more flags that aren't set say the same
@@ -110,6 +116,15 @@ module _ (s : Scene) (t : ℕ) (m : Option Side) (ins outs : List What) (kept : 
   pub home_lives_put : lives_in (slots_of next) (holders_of next) (slot_at (slots_of s) t).home ≡ true
   home_lives_put = (λ i. lives_in (es i) (eh i) (slot_at (slots_of s) t).home) ∙ home_lives_then (slots_of s) (holders_of s) t m ins outs kept.shape lives step
 
+  pub looks_put : rises_all Ending (flags_in (ends_of s)) outs ≡ rises_what Ending (flags_in (ends_of s)) (slot_at (slots_of s) t).what → LeavesOpen (slots_of s) (holders_of s) t outs → next.looks ≡ s.looks → LooksFollow (slots_of next) m (holders_of next) next.looks
+  looks_put same leaves el =
+      subst (λ x. LooksFollow x m (holders_of next) next.looks) (sym es)
+      (subst (λ h. LooksFollow (stepped (slots_of s) t m ins outs) m h next.looks) (sym eh)
+      (subst (LooksFollow (stepped (slots_of s) t m ins outs) m (held_after (slots_of s) ins outs (holders_of s))) (sym el)
+      (looks_then (slots_of s) (holders_of s) t m ins outs kept.shape lives step (flags_in (ends_of s)) s.looks kept.ending
+      (flags_then (slots_of s) (holders_of s) t m ins outs kept.shape lives step Ending (flags_in (ends_of s)) kept.ending (low (ends_of s) ends_count) same)
+      leaves kept.looks)))
+
   pub ends_low : (r : ℕ) → length (slots_of s).regions ≤ r → flags_in (ends_of s) r ≡ false
   ends_low r l = low (ends_of s) ends_count r l
 
@@ -121,13 +136,14 @@ pub put_kept : (s : Scene) (t : ℕ) (ins outs : List What) (kept : IsWellKept s
     → slots_of next ≡ stepped (slots_of s) t None ins outs → holders_of next ≡ held_after (slots_of s) ins outs (holders_of s)
     → ends_of next ≡ ends_of s ++ map (λ x. false) (begun n (length ins)) → goes_of next ≡ goes_of s ++ map (λ x. false) (begun n (length ins))
     → rises_all Ending (flags_in (ends_of s)) outs ≡ rises_what Ending (flags_in (ends_of s)) (slot_at (slots_of s) t).what → rises_all Going (flags_in (goes_of s)) outs ≡ rises_what Going (flags_in (goes_of s)) (slot_at (slots_of s) t).what
-    → IsWellKept next
-put_kept s t ins outs kept lives step next n es eh ee eg a b = record {
+    → LeavesOpen (slots_of s) (holders_of s) t outs → next.looks ≡ s.looks → IsWellKept next
+put_kept s t ins outs kept lives step next n es eh ee eg a b leaves el = record {
   shape = shape_put s t None ins outs kept lives step next n es eh ee eg;
   ending = ends_put s t None ins outs kept lives step next n es eh ee eg a;
   going = goes_put s t None ins outs kept lives step next n es eh ee eg b;
   quiet_ends = quiet_ends_put s t None ins outs kept lives step next n es eh ee eg;
   quiet_goes = quiet_goes_put s t None ins outs kept lives step next n es eh ee eg;
+  looks = looks_put s t None ins outs kept lives step next n es eh ee eg a leaves el;
 }
 
 -- on either side
@@ -141,8 +157,8 @@ follow_other s Going home f h = h
 
 pub raised_kept : (s s' : Scene) (z : Side) → IsShaped (slots_of s) (holders_of s) → slots_of s' ≡ slots_of s → holders_of s' ≡ holders_of s → flags_of (other_side z) s' ≡ flags_of (other_side z) s
     → FlagsAreRight (slots_of s) z (flags_in (flags_of z s')) → IsQuiet (slots_of s) (holders_of s) (flags_in (flags_of z s'))
-    → FlagsAreRight (slots_of s) (other_side z) (flags_in (flags_of (other_side z) s)) → IsQuiet (slots_of s) (holders_of s) (flags_in (flags_of (other_side z) s)) → IsWellKept s'
-raised_kept s s' z shape es eh eo right quiet right_other quiet_other = by_side z right quiet o_right o_quiet
+    → FlagsAreRight (slots_of s) (other_side z) (flags_in (flags_of (other_side z) s)) → IsQuiet (slots_of s) (holders_of s) (flags_in (flags_of (other_side z) s)) → LooksAreRight (slots_of s) (holders_of s) s'.looks → IsWellKept s'
+raised_kept s s' z shape es eh eo right quiet right_other quiet_other looks = by_side z right quiet o_right o_quiet
   where
     o_right : FlagsAreRight (slots_of s) (other_side z) (flags_in (flags_of (other_side z) s'))
     o_right = subst (λ (l : List Bool). FlagsAreRight (slots_of s) (other_side z) (flags_in l)) (sym eo) right_other
@@ -152,6 +168,9 @@ raised_kept s s' z shape es eh eo right quiet right_other quiet_other = by_side 
 
     shape' : IsShaped (slots_of s') (holders_of s')
     shape' = subst (λ x. IsShaped x (holders_of s')) (sym es) (subst (IsShaped (slots_of s)) (sym eh) shape)
+
+    looks' : LooksAreRight (slots_of s') (holders_of s') s'.looks
+    looks' = subst (λ x. LooksAreRight x (holders_of s') s'.looks) (sym es) (subst (λ h. LooksAreRight (slots_of s) h s'.looks) (sym eh) looks)
 
     moved : (f : Flags) → IsQuiet (slots_of s) (holders_of s) f → IsQuiet (slots_of s') (holders_of s') f
     moved f q = subst (λ x. IsQuiet x (holders_of s') f) (sym es) (subst (λ h. IsQuiet (slots_of s) h f) (sym eh) q)
@@ -164,6 +183,7 @@ raised_kept s s' z shape es eh eo right quiet right_other quiet_other = by_side 
       going = subst (λ x. FlagsAreRight x Going (flags_in (goes_of s'))) (sym es) c;
       quiet_ends = moved (flags_in (ends_of s')) b;
       quiet_goes = moved (flags_in (goes_of s')) d;
+      looks = looks';
     }
     by_side Going a b c d = record {
       shape = shape';
@@ -171,10 +191,12 @@ raised_kept s s' z shape es eh eo right quiet right_other quiet_other = by_side 
       going = subst (λ x. FlagsAreRight x Going (flags_in (goes_of s'))) (sym es) a;
       quiet_ends = moved (flags_in (ends_of s')) d;
       quiet_goes = moved (flags_in (goes_of s')) b;
+      looks = looks';
     }
 
-pub unmarked_kept : (s : Scene) (home : ℕ) → IsShaped (slots_of s) (holders_of s) → ((z : Side) → FlagsFollow (slots_of s) None home z (flags_in (flags_of z s))) → ((z : Side) → IsQuiet (slots_of s) (holders_of s) (flags_in (flags_of z s))) → IsWellKept s
-unmarked_kept s home shape flags quiet = record { shape = shape; ending = flags Ending; going = flags Going; quiet_ends = quiet Ending; quiet_goes = quiet Going }
+pub unmarked_kept : (s : Scene) (home : ℕ) → IsShaped (slots_of s) (holders_of s) → ((z : Side) → FlagsFollow (slots_of s) None home z (flags_in (flags_of z s))) → ((z : Side) → IsQuiet (slots_of s) (holders_of s) (flags_in (flags_of z s)))
+    → LooksAreRight (slots_of s) (holders_of s) s.looks → IsWellKept s
+unmarked_kept s home shape flags quiet looks = record { shape = shape; ending = flags Ending; going = flags Going; quiet_ends = quiet Ending; quiet_goes = quiet Going; looks = looks }
 
 pub bare_below : (c : ℕ) (ws : List What) → AreBare ws → AllBelow c ws
 bare_below c [] b = tt
@@ -208,6 +230,9 @@ module _ (s : Scene) (t : ℕ) (m : Option Side) (outs : List What) (kept : IsWe
   leaves_quiet Ending = quiet_ends_put s t m [] outs kept lives step next n es eh ee eg
   leaves_quiet Going = quiet_goes_put s t m [] outs kept lives step next n es eh ee eg
 
+  pub leaves_looks : next.looks ≡ s.looks → LooksFollow (slots_of next) m (holders_of next) next.looks
+  leaves_looks = looks_put s t m [] outs kept lives step next n es eh ee eg (leaves_rise Ending (flags_in (ends_of s)) (slot_at (slots_of s) t).what outs free bare) (bare_leave (slots_of s) (holders_of s) t outs bare)
+
   pub leaves_live : lives_in (slots_of next) (holders_of next) (slot_at (slots_of s) t).home ≡ true
   leaves_live = home_lives_put s t m [] outs kept lives step next n es eh ee eg
 
@@ -235,8 +260,9 @@ module _ (s : Scene) (t : ℕ) (f : FormulaTree) (env : Bindings) (k : Holder) (
       scene_put s t None (plain.bare (S.Do f env) ∷ []) (plain.holds k (length (slots_of s).regions) None ∷ []) kept lives one_step next n es eh ee eg r
       (a ∙ sym (begins_told (slots_of s) t f env k kept.shape.ordered there free one asleep)) b c d
 
-  pub begins_kept : IsWellKept next
-  begins_kept =
+  pub begins_kept : next.looks ≡ s.looks → IsWellKept next
+  begins_kept el =
       put_kept s t (plain.bare (S.Do f env) ∷ []) (plain.holds k (length (slots_of s).regions) None ∷ []) kept lives one_step next n es eh ee eg
       (begins_rise (slots_of s) t f env k kept.shape.ordered there free one asleep Ending (flags_in (ends_of s)) (ends_low s t None (plain.bare (S.Do f env) ∷ []) (plain.holds k (length (slots_of s).regions) None ∷ []) kept lives one_step next n es eh ee eg (length (slots_of s).regions) (omega arith)))
       (begins_rise (slots_of s) t f env k kept.shape.ordered there free one asleep Going (flags_in (goes_of s)) (goes_low s t None (plain.bare (S.Do f env) ∷ []) (plain.holds k (length (slots_of s).regions) None ∷ []) kept lives one_step next n es eh ee eg (length (slots_of s).regions) (omega arith)))
+      (begun_leaves (slots_of s) (holders_of s) t k) el

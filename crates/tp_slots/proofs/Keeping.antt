@@ -1,6 +1,6 @@
 -- A step keeps the slots well kept.
 use Rattle.std.proofs.Common.{◌≡◌, ℕ, zero, suc, ◌+◌, ◌-◌, ◌≤◌, ◌<◌, ◌||◌, ◌&&◌, true, false, eqb, List, [], ◌∷◌, ◌++◌, map, length, get_or, Option, Some, None, refl, ap, sym, ◌∙◌, subst, arith, inl, inr}
-use Rattle.std.specs.Prelude.{IfSome}
+use Rattle.std.specs.Prelude.{IfSome, ◌⊎◌}
 use Rattle.std.specs.List.{range_with_len}
 use Rattle.std.proofs.lemmas.Bool.{cases_Bool, cases_eq, cases_lt, both_ways, false_from_ne_true, and_parts, and_from}
 use Rattle.std.proofs.lemmas.List.{get_or_append_left, length-append, length-map}
@@ -23,7 +23,7 @@ use Rattle.tp_slots.proofs.Showing.{all_shown, has_shown}
 use Rattle.tp_slots.proofs.After.{scene_edited}
 use Rattle.tp_slots.proofs.Replacing.{at_other, at_item}
 use Rattle.tp_slots.proofs.Told.{told, rises_all, slot_there, told_own, told_rises, inner_items, inner_regions, told_items, told_regions}
-use Rattle.tp_slots.proofs.Hold.{one_holds, open_leads, open_at, all_count, all_unheld, holder_in, held_by_new, it_held}
+use Rattle.tp_slots.proofs.Hold.{holds_it, one_holds, open_leads, open_at, all_count, all_unheld, holder_in, held_by_new, it_held}
 use Rattle.tp_slots.proofs.Owning.{own_kept, own_placed}
 use Rattle.tp_slots.proofs.Counting.{put_adds}
 use Rattle.tp_slots.proofs.PlaceLemmas.{outer_less}
@@ -77,7 +77,7 @@ module _ (s : Slots) (hs : List ℕ) (t : ℕ) (m : Option Side) (inner outs : L
   count_then : length z.slots ≡ n + (length inner + length outs)
   count_then = slot_count s t m inner outs sound within
 
-  regions_then : length z.regions ≡ length s.regions + length (begun n (length inner))
+  pub regions_then : length z.regions ≡ length s.regions + length (begun n (length inner))
   regions_then = stepped_regions s t m inner outs sound within
 
   -- The scene is that after a reduction to these news.
@@ -281,33 +281,46 @@ module _ (s : Slots) (hs : List ℕ) (t : ℕ) (m : Option Side) (inner outs : L
           at_most_one [] = omega arith
           at_most_one (w ∷ ws) = omega arith
 
+  -- What holds a region then that there was before: what did, or one of those that stand in the item's place, where the item did.
+  abbrev pub HolderThen : ℕ → Type 0
+  HolderThen r =
+      (slot_at z (holder_at hs' r) ≡ slot_at s (holder_at hs r))
+      ⊎ ((i : ℕ) × (slot_at z (holder_at hs' r) ≡ record { home = home; what = get_or outs i (gone []) }) × (holds_it (get_or outs i (gone [])) r ≡ true) × (holder_at hs r ≡ t))
+
+  pub holder_then : (r : ℕ) → 0 < r → r < length s.regions → HolderThen r
+  holder_then r a l = elim (cases_Bool (one_holds outs r)) [
+    | inl f ↦ inr (let n' = regions_then in
+        let q = holder_in (n + length inner) outs (hs ++ map (λ x. 0) (begun n (length inner))) r step.apart f (let k = added_count in omega (arith, l, n', k)) in
+        let i = q.1 in
+        let k = count_then in
+        let at = out_slot (n + length inner + q.0) (omega arith) (omega (arith, i, k)) in
+        let back : n + length inner + q.0 - (n + length inner) ≡ q.0 = omega arith in (
+          q.0,
+          ap (slot_at z) q.3 ∙ (at ∙ ap (λ j. record { home = home; what = get_or outs j (gone []) }) back),
+          q.2,
+          elim (step.taken r f) [ inl o ↦ absurd (omega (arith, o, l)) | inr o ↦ t_holds r o ],
+        ))
+    | inr f ↦ inl (let h = held.holders r a l in
+        let o : holder_at hs r ≡ t → ⊥ = λ g. both_ways (one_holds outs r) f (step.keeps r (subst (λ i. HoldsByNumber (slot_at s i).what r) g h.1)) in
+        ap (slot_at z) (holder_stays r l f) ∙ old_slot (holder_at hs r) h.0 o)
+  ]
+
   -- what was live stays so
-  lives_then : (d r : ℕ) → r < d → r < length s.regions → lives_in s hs r ≡ true → lives_in z hs' r ≡ true
+  pub lives_then : (d r : ℕ) → r < d → r < length s.regions → lives_in s hs r ≡ true → lives_in z hs' r ≡ true
   lives_then zero r a l e = absurd (omega (arith, a))
   lives_then (suc d) r a l e = elim (cases_eq r 0) [
     | inl c ↦ ap (lives_in z hs') c
     | inr c ↦ (let above : 0 < r = omega (arith, c) in
-        let h = held.holders r above l in
         let less = outer_less s hs sound held r above l in
         let u = and_parts (leads_to (slot_at s (holder_at hs r)).what r) (lives_in s hs (slot_at s (holder_at hs r)).home) (sym (lives_outward s hs sound held r above l) ∙ e) in
         let around = lives_then d (slot_at s (holder_at hs r)).home (omega (arith, a, less)) (omega (arith, l, less)) u.1 in
         let n' = regions_then in
         lives_outward z hs' ordered_then held_then r above (omega (arith, l, n'))
-        ∙ elim (cases_Bool (one_holds outs r)) [
-          | inl f ↦ (let q = holder_in (n + length inner) outs (hs ++ map (λ x. 0) (begun n (length inner))) r step.apart f (let k = added_count in omega (arith, l, n', k)) in
-              let i = q.1 in
-              let k = count_then in
-              let at = out_slot (n + length inner + q.0) (omega arith) (omega (arith, i, k)) in
-              let back : n + length inner + q.0 - (n + length inner) ≡ q.0 = omega arith in
-              let it_is : slot_at z (holder_at hs' r) ≡ record { home = home; what = get_or outs q.0 (gone []) } = ap (slot_at z) q.3 ∙ (at ∙ ap (λ j. record { home = home; what = get_or outs j (gone []) }) back) in
-              let was : holder_at hs r ≡ t = elim (step.taken r f) [ inl o ↦ absurd (omega (arith, o, l)) | inr o ↦ t_holds r o ] in
-              ap (λ (y : Slot). leads_to y.what r && lives_in z hs' y.home) it_is
+        ∙ elim (holder_then r above l) [
+          | inl f ↦ ap (λ (y : Slot). leads_to y.what r && lives_in z hs' y.home) f ∙ and_from (leads_to (slot_at s (holder_at hs r)).what r) (lives_in z hs' (slot_at s (holder_at hs r)).home) u.0 around
+          | inr q ↦ ap (λ (y : Slot). leads_to y.what r && lives_in z hs' y.home) q.1
               ∙ and_from (leads_to (get_or outs q.0 (gone [])) r) (lives_in z hs' home) (open_leads (get_or outs q.0 (gone [])) r (open_at outs q.0 step.open_ones) q.2)
-              (ap (λ y. lives_in z hs' (slot_at s y).home) (sym was) ∙ around))
-          | inr f ↦ (let o : holder_at hs r ≡ t → ⊥ = λ g. both_ways (one_holds outs r) f (step.keeps r (subst (λ i. HoldsByNumber (slot_at s i).what r) g h.1)) in
-              ap (λ y. leads_to (slot_at z y).what r && lives_in z hs' (slot_at z y).home) (holder_stays r l f)
-              ∙ (ap (λ (y : Slot). leads_to y.what r && lives_in z hs' y.home) (old_slot (holder_at hs r) h.0 o)
-              ∙ and_from (leads_to (slot_at s (holder_at hs r)).what r) (lives_in z hs' (slot_at s (holder_at hs r)).home) u.0 around))
+              (ap (λ y. lives_in z hs' (slot_at s y).home) (sym q.3) ∙ around)
         ])
   ]
 

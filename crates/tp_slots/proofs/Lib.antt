@@ -34,3 +34,5 @@ pub mod Newly
 pub mod Unmarked
 pub mod Marks
 pub mod OwnItems
+pub mod Looking
+pub mod Remembering

@@ -1,5 +1,5 @@
 -- An item with a region is reduced.
-use Rattle.std.proofs.Common.{◌≡◌, ℕ, ◌+◌, ◌<◌, ◌&&◌, Bool, true, false, eqb, List, [], ◌∷◌, ◌++◌, map, length, Some, None, refl, ap, sym, ◌∙◌, subst, arith}
+use Rattle.std.proofs.Common.{◌≡◌, ℕ, ◌+◌, ◌<◌, ◌&&◌, Bool, true, false, eqb, List, [], ◌∷◌, ◌++◌, map, length, Option, Some, None, refl, ap, sym, ◌∙◌, subst, arith}
 use Rattle.std.specs.Prelude.{if◌then◌else◌}
 use Rattle.std.proofs.lemmas.Bool.{eqb-false, or_parts}
 use Rattle.std.proofs.lemmas.List.{length-map}
@@ -24,12 +24,13 @@ use Rattle.tp_slots.proofs.Living.{lives_outward}
 use Rattle.tp_slots.proofs.PlaceLemmas.{held_is, pick_is}
 use Rattle.tp_slots.proofs.Instances.{close_step, close_rise, close_told, open_step, open_rise, open_told, run_step, run_rise, run_told}
 use Rattle.tp_slots.proofs.Changing.{lives_within, scene_put, put_kept, ends_low, goes_low}
+use Rattle.tp_slots.proofs.Looking.{closed_leaves, opened_leaves, running_leaves}
 use Rattle.tp_slots.specs.declared.scene.Scene.{Scene}
 
 -- what is reduced by the status of a region
-stops : (g e : Bool) (x : PickOutcome) (c : Cell) (r : Reduction) → (if g then rests else (if e then x else waits c None)) ≡ reduces r → (g ≡ false) × (x ≡ reduces r)
+stops : (g e : Bool) (x : PickOutcome) (c : Cell) (r : Reduction) → (if g then rests else (if e then x else waits c None)) ≡ reduces r → (g ≡ false) × (e ≡ true) × (x ≡ reduces r)
 stops true e x c r h = absurd (cc)
-stops false true x c r h = (refl, h)
+stops false true x c r h = (refl, refl, h)
 stops false false x c r h = absurd (cc)
 
 goes_on : (g e : Bool) (x : PickOutcome) (c : Cell) (r : Reduction) → (if g then x else (if e then rests else waits c None)) ≡ reduces r → x ≡ reduces r
@@ -37,7 +38,7 @@ goes_on true e x c r h = h
 goes_on false true x c r h = absurd (cc)
 goes_on false false x c r h = absurd (cc)
 
-pub closes : (q : Place) (x : PickOutcome) (r : Reduction) → by_status q rests x ≡ reduces r → (q.is Going ≡ false) × (x ≡ reduces r)
+pub closes : (q : Place) (x : PickOutcome) (r : Reduction) → by_status q rests x ≡ reduces r → (q.is Going ≡ false) × (q.is Ending ≡ true) × (x ≡ reduces r)
 closes q x r h = stops (q.is Going) (q.is Ending) x (End q.region q.depth) r h
 
 pub begins : (q : Place) (x : PickOutcome) (r : Reduction) → by_status q x rests ≡ reduces r → x ≡ reduces r
@@ -63,6 +64,13 @@ module _ (s : Scene) (t : ℕ) (kept : IsWellKept s) (lives : has t (scene_of s)
   not_going : (k : Holder) (p : ℕ) → p < length (slots_of s).regions → (held_place k (head_at (slots_of s) p) (entries_at (slots_of s) p) at_place).is Going ≡ false → flags_in (goes_of s) p ≡ false
   not_going k p l e = kept.going p l ∙ (or_parts _ _ (or_parts _ _ e).1).1
 
+  -- a region that ends, by its place
+  held_ends : (k : Holder) (p : ℕ) (o : Option ℕ) → (slot_at (slots_of s) t).what ≡ holds k p o → (held_place k (head_at (slots_of s) p) (entries_at (slots_of s) p) at_place).is Ending ≡ true → (place_outward (slots_of s) (holders_of s) p).is Ending ≡ true
+  held_ends k p o is e =
+      ap (λ (x : Place). x.is Ending)
+      (held_is (slots_of s) (holders_of s) kept.shape.ordered kept.shape.held t (slot_at (slots_of s) t).home p k o within (λ j. record { home = (slot_at (slots_of s) t).home; what = is j }))
+      ∙ e
+
   -- the outer region of a projection that follows a split isn't live
   pub asleep_second : (f : FormulaTree) (env : Bindings) (p q : ℕ) → (slot_at (slots_of s) t).what ≡ holds (SplitProject f env) p (Some q) → holder_at (holders_of s) q ≡ t → eqb p q ≡ false → q < length (slots_of s).regions → 0 < q
       → lives_in (slots_of s) (holders_of s) q ≡ false
@@ -76,6 +84,7 @@ module _ (s : Scene) (t : ℕ) (kept : IsWellKept s) (lives : has t (scene_of s)
     Put inner outs =
         (slots_of next ≡ stepped (slots_of s) t None inner outs) × (holders_of next ≡ held_after (slots_of s) inner outs (holders_of s))
         × (ends_of next ≡ ends_of s ++ map (λ (x : RegionSlot). false) (begun n (length inner))) × (goes_of next ≡ goes_of s ++ map (λ (x : RegionSlot). false) (begun n (length inner)))
+        × (next.looks ≡ s.looks)
 
     abbrev Done : Type 0
     Done = IsWellKept next × IsAfter t (scene_of s) (scene_of next)
@@ -96,11 +105,12 @@ module _ (s : Scene) (t : ℕ) (kept : IsWellKept s) (lives : has t (scene_of s)
         let low = not_going (Split f env) p fit.0.1 was.0 in (
           put_kept s t [] (holds Closed p None ∷ bare (S.Do f env) ∷ []) kept lives step next n put.0 put.1 put.2 put.3
               (close_rise (slots_of s) t p f env kept.shape.ordered within is Ending (flags_in (ends_of s)) (λ e. absurd (cc)))
-              (close_rise (slots_of s) t p f env kept.shape.ordered within is Going (flags_in (goes_of s)) (λ e. low)),
+              (close_rise (slots_of s) t p f env kept.shape.ordered within is Going (flags_in (goes_of s)) (λ e. low))
+              (closed_leaves (slots_of s) (holders_of s) t kept.shape (flags_in (ends_of s)) kept.ending p f env (held_ends (Split f env) p None is was.1)) put.4,
           (λ w k r e. let q = closes (held_place (Split f env) (head_at (slots_of s) p) (entries_at (slots_of s) p) at_place) (reduces made) r (sym (stepped_as w k (holds (Split f env) p None) is) ∙ e) in
               scene_put s t None [] (holds Closed p None ∷ bare (S.Do f env) ∷ []) kept lives step next n put.0 put.1 put.2 put.3 made
               (sym (close_told (slots_of s) t p f env kept.shape.ordered within is)) refl refl refl
-              ∙ ap (λ r. scene_after t r (scene_of s)) (same_reduction made r q.1)),
+              ∙ ap (λ r. scene_after t r (scene_of s)) (same_reduction made r q.2)),
         )
 
     project_done : (f : FormulaTree) (env : Bindings) (p q : ℕ) → (slot_at (slots_of s) t).what ≡ holds (SplitProject f env) p (Some q) → Put [] (holds Closed p None ∷ holds (Opened f env) q None ∷ []) → IsReduced (scene_of s) t → Done
@@ -124,11 +134,12 @@ module _ (s : Scene) (t : ℕ) (kept : IsWellKept s) (lives : has t (scene_of s)
         let sleeps = asleep_second f env p q is by.1.0 by.1.1 fit.1.1.1 (omega (arith, above)) in (
           put_kept s t [] (holds Closed p None ∷ holds (Opened f env) q None ∷ []) kept lives step next n put.0 put.1 put.2 put.3
               (open_rise (slots_of s) t p q f env kept.shape.ordered within is other Ending (flags_in (ends_of s)) (λ e. absurd (cc)) (kept.quiet_ends q fit.1.1.1 sleeps))
-              (open_rise (slots_of s) t p q f env kept.shape.ordered within is other Going (flags_in (goes_of s)) (λ e. low) (kept.quiet_goes q fit.1.1.1 sleeps)),
+              (open_rise (slots_of s) t p q f env kept.shape.ordered within is other Going (flags_in (goes_of s)) (λ e. low) (kept.quiet_goes q fit.1.1.1 sleeps))
+              (opened_leaves (slots_of s) (holders_of s) t kept.shape (flags_in (ends_of s)) kept.ending p q f env (omega (arith, above)) by.1.0 is by.1.1 (held_ends (SplitProject f env) p (Some q) is was.1)) put.4,
           (λ w k r e. let x = closes (held_place (SplitProject f env) (head_at (slots_of s) p) (entries_at (slots_of s) p) at_place) (reduces made) r (sym (stepped_as w k (holds (SplitProject f env) p (Some q)) is) ∙ e) in
               scene_put s t None [] (holds Closed p None ∷ holds (Opened f env) q None ∷ []) kept lives step next n put.0 put.1 put.2 put.3 made
               (sym (open_told (slots_of s) t p q f env kept.shape.ordered within is other)) refl refl refl
-              ∙ ap (λ r. scene_after t r (scene_of s)) (same_reduction made r x.1)),
+              ∙ ap (λ r. scene_after t r (scene_of s)) (same_reduction made r x.2)),
         )
 
     opened_done : (f : FormulaTree) (env : Bindings) (q : ℕ) → (slot_at (slots_of s) t).what ≡ holds (Opened f env) q None → Put (bare (S.Do f env) ∷ bare (S.Do more env) ∷ []) (holds (Running f env) (length (slots_of s).regions) (Some q) ∷ []) → Done
@@ -144,10 +155,14 @@ module _ (s : Scene) (t : ℕ) (kept : IsWellKept s) (lives : has t (scene_of s)
         } in
         let ins = bare (S.Do f env) ∷ bare (S.Do more env) ∷ [] in
         let outs = holds (Running f env) (length (slots_of s).regions) (Some q) ∷ [] in
+        let fit = subst (λ v. WhatFits (slots_of s) (slot_at (slots_of s) t).home t v) is (kept.shape.ordered.items t within).1 in
+        let above = fit.0.0 in
+        let by = subst (λ v. HeldBy (holders_of s) t v) is (kept.shape.held.by t within) in
         let step = run_step (slots_of s) t q f env kept.shape.ordered within is in (
           put_kept s t ins outs kept lives step next n put.0 put.1 put.2 put.3
               (run_rise (slots_of s) t q f env kept.shape.ordered within is Ending (flags_in (ends_of s)) (ends_low s t None ins outs kept lives step next n put.0 put.1 put.2 put.3 (length (slots_of s).regions) (omega arith)))
-              (run_rise (slots_of s) t q f env kept.shape.ordered within is Going (flags_in (goes_of s)) (goes_low s t None ins outs kept lives step next n put.0 put.1 put.2 put.3 (length (slots_of s).regions) (omega arith))),
+              (run_rise (slots_of s) t q f env kept.shape.ordered within is Going (flags_in (goes_of s)) (goes_low s t None ins outs kept lives step next n put.0 put.1 put.2 put.3 (length (slots_of s).regions) (omega arith)))
+              (running_leaves (slots_of s) (holders_of s) t kept.shape (flags_in (ends_of s)) kept.ending q f env (omega (arith, above)) by.0 is) put.4,
           (λ w k r e. let x = begins (held_place (Opened f env) (head_at (slots_of s) q) (entries_at (slots_of s) q) at_place) (reduces made) r (sym (stepped_as w k (holds (Opened f env) q None) is) ∙ e) in
               scene_put s t None ins outs kept lives step next n put.0 put.1 put.2 put.3 made
               (sym (run_told (slots_of s) t q f env kept.shape.ordered within is)) refl refl refl

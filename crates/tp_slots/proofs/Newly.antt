@@ -83,7 +83,7 @@ module _ (s : Scene) (t : ℕ) (kept : IsWellKept s) (lives : has t (scene_of s)
           facts = [];
         } in
         let q = closes (held_place (Split f env) (head_at (slots_of s) p) (entries_at (slots_of s) p) (at_place s t kept lives)) (reduces made) r (sym (stepped_as s t kept lives w k (holds (Split f env) p None) is) ∙ e) in
-        ap (λ (x : Reduction). filter fresh (live_items x.news)) (sym (same_reduction made r q.1))
+        ap (λ (x : Reduction). filter fresh (live_items x.news)) (sym (same_reduction made r q.2))
         ∙ (filter-append fresh (live_items (entries_at (slots_of s) p)) ((0 + n) ∷ (1 + n) ∷ [])
         ∙ ((λ i. had (Split f env) p None is i ++ filter fresh (two_numbers n i)) ∙ numbered 2))
 
@@ -106,7 +106,7 @@ module _ (s : Scene) (t : ℕ) (kept : IsWellKept s) (lives : has t (scene_of s)
         let woken = all_new fresh (entries_at (slots_of s) q) (λ u h. ap not (dormant (slots_of s) (holders_of s) kept.shape.ordered kept.shape.held kept.shape.own q fit.1.1.1 u h sleeps)) in
         let a : 0 + n ≡ n = omega arith in
         let b : 1 + n ≡ n + 1 = omega arith in
-        ap (λ (x : Reduction). filter fresh (live_items x.news)) (sym (same_reduction made r x.1))
+        ap (λ (x : Reduction). filter fresh (live_items x.news)) (sym (same_reduction made r x.2))
         ∙ (filter-append fresh (live_items (entries_at (slots_of s) p)) ((0 + n) ∷ live_items (entries_at (slots_of s) q) ++ (1 + n) ∷ [])
         ∙ ((λ i. had (SplitProject f env) p (Some q) is i ++ filter fresh (a i ∷ live_items (entries_at (slots_of s) q) ++ b i ∷ []))
         ∙ (fresh_next n (live_items (entries_at (slots_of s) q) ++ (n + 1) ∷ []) (next_is n (omega arith))

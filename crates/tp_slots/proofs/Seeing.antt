@@ -1,5 +1,5 @@
 -- What the walks outward see.
-use Rattle.std.proofs.Common.{◌≡◌, ℕ, ◌+◌, ◌<◌, ◌||◌, ◌&&◌, Bool, true, false, eqb, List, [], length, get_or, refl, ap, sym, ◌∙◌, subst, arith, inl, inr}
+use Rattle.std.proofs.Common.{◌≡◌, ℕ, zero, suc, ◌+◌, ◌≤◌, ◌<◌, ◌||◌, ◌&&◌, Bool, true, false, eqb, List, [], length, get_or, refl, ap, sym, ◌∙◌, subst, arith, inl, inr}
 use Rattle.std.specs.Prelude.{slice_set}
 use Rattle.std.proofs.lemmas.Bool.{cases_Bool, cases_lt, eqb-true, eqb-false, or_left, and_parts, false_from_ne_true}
 use Rattle.std.proofs.lemmas.List.{get_or-map, get_or-set_same, get_or-set_other, length-map}
@@ -181,9 +181,22 @@ region_is s hs sound known r l = elim (cases_lt 0 r) [
   | inr a ↦ (let e : r ≡ 0 = omega (arith, a) in ap (λ i. (place_outward s hs i).region) e ∙ sym e)
 ]
 
+pub deeper : (s : plain.Slots) (hs : List ℕ) → IsOrdered s → AreHeld s hs → (r : ℕ) → 0 < r → r < length s.regions → (place_outward s hs r).depth ≡ (place_outward s hs (slot_at s (holder_at hs r)).home).depth + 1
+deeper s hs sound known r a l = ap (λ (p : Place). p.depth) (outward s hs sound known r a l) ∙ (held_deep s r (slot_at s (holder_at hs r)).what (place_outward s hs (slot_at s (holder_at hs r)).home) (known.holders r a l).1).0
+
+-- the depth of a region is at most its number
+pub depth_small : (s : plain.Slots) (hs : List ℕ) → IsOrdered s → AreHeld s hs → (d r : ℕ) → r < d → r < length s.regions → (place_outward s hs r).depth ≤ r
+depth_small s hs sound known zero r a l = absurd (omega (arith, a))
+depth_small s hs sound known (suc d) r a l = elim (cases_lt 0 r) [
+  | inl c ↦ (let less = outer_less s hs sound known r c l in
+      let e = deeper s hs sound known r c l in
+      let q = depth_small s hs sound known d (slot_at s (holder_at hs r)).home (omega (arith, a, less)) (omega (arith, l, less)) in
+      omega (arith, less, e, q))
+  | inr c ↦ (let e : r ≡ 0 = omega (arith, c) in subst (λ i. (place_outward s hs i).depth ≤ i) (sym e) (omega arith))
+]
+
 pub next_depth : (s : Scene) (shape : IsShaped (slots_of s) (holders_of s)) (r : ℕ) (l : r < length s.regions.items) (a : 0 < r) (x : Region) (y : Slot) (ex : x ≡ get_or s.regions.items r x) (ey : y ≡ get_or s.slots.items x.holder y)
     → (place_outward (slots_of s) (holders_of s) r).depth ≡ (place_outward (slots_of s) (holders_of s) y.home).depth + 1
 next_depth s shape r l a x y ex ey =
-    ap (λ (p : Place). p.depth) (outward (slots_of s) (holders_of s) shape.ordered shape.held r a (inside s r l))
-    ∙ ((held_deep (slots_of s) r (slot_at (slots_of s) (holder_at (holders_of s) r)).what _ (shape.held.holders r a (inside s r l)).1).0
-    ∙ ap (λ (w : plain.Slot). (place_outward (slots_of s) (holders_of s) w.home).depth + 1) (sym (found s shape r l a x y ex ey)))
+    deeper (slots_of s) (holders_of s) shape.ordered shape.held r a (inside s r l)
+    ∙ ap (λ (w : plain.Slot). (place_outward (slots_of s) (holders_of s) w.home).depth + 1) (sym (found s shape r l a x y ex ey))

@@ -4,6 +4,7 @@ pub mod Read
 pub mod Places
 pub mod Lives
 pub mod Flags
+pub mod Looks
 pub mod Kept
 pub mod Picked
 pub mod Row

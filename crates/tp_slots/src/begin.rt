@@ -6,6 +6,7 @@ ghost use Rattle.tp_slots.specs.Reductions.{begins_with};
 ghost use Rattle.tp_slots.specs.Read.{scene_of};
 ghost use Rattle.tp_slots.specs.Kept.{IsWellKept};
 
+use crate::looks::no_looks;
 use crate::scene::{Region, Scene, Slot, What};
 use std::alloc::Global;
 use tp_decide::Phrase;
@@ -33,5 +34,9 @@ pub fn start(alloc: Global, phrase: Phrase) -> Result<Scene, NoMemory>
         goes_now: false,
         roots,
     })?;
-    Ok(Scene { slots, regions })
+    Ok(Scene {
+        slots,
+        regions,
+        looks: no_looks(alloc),
+    })
 }

@@ -13,8 +13,10 @@ ghost use Rattle.tp_slots.specs.Reductions.{CanMove, IsAfter, IsBare, IsReduced,
 ghost use Rattle.tp_slots.specs.Read.{holders_of, scene_of, slots_of, what_of, whats_of, item_what};
 ghost use Rattle.tp_slots.specs.Kept.{IsShaped, IsQuiet, IsWellKept, IsUnchanged, Lives, region_lives, IsReducedTo, flags_on};
 ghost use Rattle.tp_slots.specs.Flags.{FlagsFollow};
+ghost use Rattle.tp_slots.specs.Looks.{LooksFollow};
 
 use crate::flags::raise;
+use crate::looks::pass_mark;
 use crate::put::{numbers, put};
 use crate::scene::{Scene, What};
 use crate::walk::items_inside;
@@ -34,11 +36,16 @@ fn raise_mark(scene: &mut Scene, region: u64, mark: Option<Side>)
         (flags_on z scene.old) }
     requires quiet { (z : S.Side)
         → IsQuiet (slots_of scene.old) (holders_of scene.old) (flags_on z scene.old) }
+    requires looks { LooksFollow (slots_of scene.old) (option_map mark_of mark)
+        (holders_of scene.old) scene.old.looks }
     ensures slots { slots_of scene.new ≡ slots_of scene.old }
     ensures kept { IsWellKept scene.new }
 {
     match mark {
-        Some(side) => raise(scene, region, side),
+        Some(side) => {
+            raise(scene, region, side);
+            pass_mark(&mut scene.looks, side);
+        }
         None => {}
     }
 }

@@ -1,11 +1,12 @@
 // Which regions end or go on.
-ghost use Rattle.std.specs.Prelude.{◌≡◌, ◌<◌, length, map, slice_set, true};
+ghost use Rattle.std.specs.Prelude.{◌≡◌, ◌<◌, length, map, slice_set, true, false};
 ghost use Rattle.tp_decide.specs.Decided.{mark_of};
 ghost use Rattle.tp_slots.specs.Read.{flag_of, flags_of, holders_of, other_side, slots_of, what_of, region_slots, region_holders};
 ghost use Rattle.tp_slots.specs.Kept.{IsShaped, IsQuiet, IsWellKept, region_place_of, region_lives, flags_on};
 ghost use Rattle.tp_slots.specs.Lives.{leads_to};
 ghost use Rattle.tp_slots.specs.Flags.{FlagsAreRight, Pending, forced_in, rises_from, sinks_in};
 
+use crate::looks::found_of;
 use crate::scene::{Region, Scene, What};
 use tp_decide::Side;
 
@@ -80,6 +81,27 @@ fn leads(what: &What, region: u64) -> bool
     }
 }
 
+// Whether the region was found to be live.
+fn was_live(scene: &Scene, region: u64) -> bool
+    requires kept { IsWellKept scene.now }
+    requires region { region < length scene.now.regions.items }
+    ensures { result ≡ true → region_lives scene.now region ≡ true }
+{
+    found_of(&scene.looks, region).depth > 0
+}
+
+// Whether the region was found not to be so, and it still isn't.
+fn was_open(scene: &Scene, region: u64, side: Side) -> bool
+    requires kept { IsWellKept scene.now }
+    requires region { region < length scene.now.regions.items }
+    ensures { result ≡ true → (region_place_of scene.now region).is (mark_of side) ≡ false }
+{
+    match side {
+        Side::Ending => found_of(&scene.looks, region).open_in == scene.looks.round,
+        Side::Going => false,
+    }
+}
+
 /// Whether the region is live.
 pub fn lives(scene: &Scene, region: u64) -> bool
     requires kept { IsWellKept scene.now }
@@ -89,6 +111,9 @@ pub fn lives(scene: &Scene, region: u64) -> bool
     let mut at = region;
     'outward: loop {
         if at == 0 {
+            return true;
+        }
+        if was_live(scene, at) {
             return true;
         }
         let slot = &scene.slots[scene.regions[at as usize].holder as usize];
@@ -112,6 +137,9 @@ pub fn sees(scene: &Scene, region: u64, side: Side) -> bool
             return true;
         }
         if at == 0 {
+            return false;
+        }
+        if was_open(scene, at, side) {
             return false;
         }
         let slot = &scene.slots[here.holder as usize];
@@ -150,6 +178,7 @@ fn set_at(scene: &mut Scene, at: u64, side: Side)
         ≡ slice_set (flags_of (mark_of side) scene.old) at true }
     ensures other { flags_of (other_side (mark_of side)) scene.new
         ≡ flags_of (other_side (mark_of side)) scene.old }
+    ensures looks { scene.new.looks ≡ scene.old.looks }
 {
     set_so(scene.regions.as_mut_slice(), at as usize, side);
 }
@@ -167,6 +196,7 @@ pub fn raise(scene: &mut Scene, region: u64, side: Side)
     ensures holders { holders_of scene.new ≡ holders_of scene.old }
     ensures other { flags_of (other_side (mark_of side)) scene.new
         ≡ flags_of (other_side (mark_of side)) scene.old }
+    ensures looks { scene.new.looks ≡ scene.old.looks }
     ensures right { FlagsAreRight (slots_of scene.old) (mark_of side)
         (flags_on (mark_of side) scene.new) }
     ensures quiet { IsQuiet (slots_of scene.old) (holders_of scene.old)

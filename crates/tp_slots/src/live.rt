@@ -12,6 +12,7 @@ ghost use Rattle.tp_slots.specs.Kept.{IsWellKept, Lives, region_place_of, region
 ghost use Rattle.tp_slots.specs.Lives.{is_item};
 
 use crate::flags::{lives, sees};
+use crate::looks::found_of;
 use crate::scene::{Scene, What};
 use tp_decide::{Place, Side};
 
@@ -45,16 +46,19 @@ pub fn has_item(scene: &Scene, item: u64) -> bool
     }
 }
 
-// How deep the region is: of the root 0, and of every other region one more than of the region around it.
-fn depth(scene: &Scene, region: u64) -> u32
+/// How deep the region is: of the root 0, and of every other region one more than of the region around it.
+pub fn depth(scene: &Scene, region: u64) -> u64
     requires kept { IsWellKept scene.now }
     requires region { region < length scene.now.regions.items }
-    requires shallow { PlaceFits scene.now region }
     ensures { result ≡ (region_place_of scene.now region).depth }
 {
     let mut at = region;
     let mut depth = 0;
     'outward: while at != 0 {
+        let known = found_of(&scene.looks, at).depth;
+        if known > 0 {
+            return depth + known;
+        }
         let slot = &scene.slots[scene.regions[at as usize].holder as usize];
         at = slot.home;
         depth += 1;
@@ -69,7 +73,7 @@ pub fn place(scene: &Scene, region: u64) -> Place
     requires shallow { PlaceFits scene.now region }
     ensures { plain_place result ≡ region_place_of scene.now region }
 {
-    let depth = depth(scene, region);
+    let depth = depth(scene, region) as u32;
     let ends = sees(scene, region, Side::Ending);
     let goes = sees(scene, region, Side::Going);
     Place {

@@ -195,6 +195,7 @@ pub fn commit(scene: &mut Scene, item: u64, side: Option<Side>, news: News)
         (holders_of scene.old ++ region_holders news.regions.items) }
     ensures ends { ends_of scene.new ≡ ends_of scene.old ++ region_ends news.regions.items }
     ensures goes { goes_of scene.new ≡ goes_of scene.old ++ region_goes news.regions.items }
+    ensures looks { scene.new.looks ≡ scene.old.looks }
 {
     let first = scene.slots.len() as u64;
     let home = go(
@@ -238,6 +239,7 @@ pub fn put(
         ≡ ends_of scene.old ++ unset (length inner.items)) }
     ensures goes { OnOk result (goes_of scene.new
         ≡ goes_of scene.old ++ unset (length inner.items)) }
+    ensures looks { scene.new.looks ≡ scene.old.looks }
     ensures err { OnErr result (IsUnchanged scene.old scene.new) }
 {
     let first = scene.slots.len() as u64;

@@ -1,11 +1,13 @@
 // Scenes as slots by item number.
+use crate::looks::Looks;
 use tp_decide::{Phrase, Values};
 
-/// What a run has between the steps of a state: the items by number, and the regions by number. The root is region 0.
+/// What a run has between the steps of a state: the items by number, the regions by number, and what was found of these. The root is region 0.
 #[derive(Drop)]
 pub struct Scene {
     pub slots: Vec<Slot>,
     pub regions: Vec<Region>,
+    pub looks: Looks,
 }
 
 /// An item's slot: the region in which it stands, and what stands there.

@@ -13,7 +13,7 @@ use crate::carry::{carry_decision, carry_holder};
 use crate::steps::Steps;
 use std::sync::ledger::Ledger;
 use tp_decide::{Decision, HolderDecision, HolderKind, Setting, decide, decide_holder};
-use tp_slots::{Scene, What, place_inside, place_of_item};
+use tp_slots::{Scene, What, place_inside, place_of_item, remember};
 use tp_store::Store;
 use tp_value::NoMemory;
 
@@ -112,6 +112,7 @@ fn attempt(
     ensures scene_err { OnErr result (IsUnchanged scene.old scene.new) }
     ensures store_err { OnErr result (store.new ≡ store.old) }
 {
+    remember(scene, item);
     match choose(scene, item, store, setting)? {
         Choice::Leaf(decision) => {
             carry_decision(setting.alloc, scene, item, decision, store, room)

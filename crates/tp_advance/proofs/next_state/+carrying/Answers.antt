@@ -16,8 +16,9 @@ pub carry-loop-i-preserved : goal.carry-loop-i-preserved
 carry-loop-i-preserved t c =
     let ids = c.in_ok-ids.ids.items in
     let l : c.loop-i.i < length ids = search rules in
-    item_carried c.args.old.now c.args.extent c.len-home.result ids c.push_region.new.scene c.loop-i.i c.index.result.now c.loop-i.new c.carry_item.new.new c.loop-i.roots.items c.push_number.new.list.items _
-    (ap (λ y. take c.loop-i.i ids ++ y ∷ []) c.index.ensures ∙ sym (take_more ids c.loop-i.i c.index.result.now l)) c.loop-i.invariant.0 c.loop-i.invariant.1 c.in_ok-number.ensures.added c.in_ok-number.ensures.number c.in_ok-push_number.ensures
+    let x = item_carried c.args.old.now c.args.extent c.len-home.result ids c.push_region.new.scene c.loop-i.i c.index.result.now c.loop-i.new c.carry_item.new.new c.loop-i.roots.items c.push_number.new.list.items _
+    (ap (λ y. take c.loop-i.i ids ++ y ∷ []) c.index.ensures ∙ sym (take_more ids c.loop-i.i c.index.result.now l)) c.loop-i.invariant.0 c.loop-i.invariant.1 c.in_ok-number.ensures.added c.in_ok-number.ensures.number c.in_ok-push_number.ensures in
+    (x.0, x.1, c.in_ok-number.ensures.looks ∙ c.loop-i.invariant.2)
 
 pub carry-carry_item-requires : goal.carry-carry_item-requires
 carry-carry_item-requires t c =
@@ -38,7 +39,7 @@ carry-returns t c =
     let y = c.loop-i.invariant.1 ∙ ap (λ ns. next_ids c.push_region.new.scene (left_by c.args.extent (all_items s ns))) all in
     let done = region_carried c.args.old.now c.args.extent c.args.region c.len-home.result ids c.loop-i.roots.items c.args.new.now c.push_region.new.scene c.loop-i.new c.requires.sound c.requires.region c.in_ok-ids.ensures (search rules)
     c.in_ok-push_region.ensures.slots c.in_ok-push_region.ensures.regions x y in
-    record { added = done.added; roots = done.listed }
+    record { added = done.added; roots = done.listed; looks = c.loop-i.invariant.2 ∙ c.in_ok-push_region.ensures.looks }
 
 pub carry_held-returns-clause-added : goal.carry_held-returns-clause-added
 carry_held-returns-clause-added t c =
@@ -51,8 +52,8 @@ carry_held-returns-clause-added t c =
     region_filled fs (length c.fill_region.new.scene.slots.items) (inside_ids c.args.new.now fs) c.args.new.now c.carry.new.new c.fill_region.new.scene c.in_ok-roots.ensures.added same
     (c.fill_region.ensures.regions ∙ (λ i. slice_set list (at i) (refilled list (at i) ((holder ∙ sym (ap length same)) i) (roots i))))
 
-pub carry_second-returns : goal.carry_second-returns
-carry_second-returns t c =
+pub carry_second-returns-clause-added : goal.carry_second-returns-clause-added
+carry_second-returns-clause-added t c =
     let fs = region_left c.args.old.now c.args.extent c.args.region in
     let at : c.len-number.result ≡ length c.args.new.now.regions.items = search rules in
     let roots = c.in_ok-roots.ensures.roots in
@@ -78,6 +79,7 @@ carry_item-returns-in_ok-id-in-One t c =
     record {
       added = same.added (one_added c.args.home k h fs a b new fits.0 c.in_ok-region-in-One.ensures.added pushed c.in_ok-id-in-One.ensures.regions);
       number = ap (λ n. n ∷ []) c.in_ok-id-in-One.ensures.number ∙ (one_id c.args.home k h fs a b new fits.0 c.in_ok-region-in-One.ensures.added pushed c.in_ok-id-in-One.ensures.regions ∙ same.ids);
+      looks = c.in_ok-id-in-One.ensures.looks ∙ c.in_ok-region-in-One.ensures.looks;
     }
 
 pub carry_item-returns-in_ok-carry_second-in-Two : goal.carry_item-returns-in_ok-carry_second-in-Two
@@ -100,8 +102,9 @@ carry_item-returns-in_ok-carry_second-in-Two t c =
     let outer : c.len-outer.result ≡ length b.regions.items = search rules in
     let what = c.holding_both.ensures ∙ (λ j. holds k (e j) (Some (outer j))) in
     let pushed = c.in_ok-id-in-Two.ensures.slots ∙ (λ i. map slot_of b.slots.items ++ record { home = c.args.home; what = what i } ∷ []) in
-    let then = subst (λ n. HasRegion n (inside_ids d gs) gs d new) c.in_ok-id-in-Two.ensures.number c.in_ok-carry_second-in-Two.ensures in
+    let then = subst (λ n. HasRegion n (inside_ids d gs) gs d new) c.in_ok-id-in-Two.ensures.number c.in_ok-carry_second-in-Two.ensures.added in
     record {
       added = same.added (two_added c.args.home k h g fs gs a b d new fits.0 c.in_ok-region-in-Two.ensures.added pushed c.in_ok-id-in-Two.ensures.regions then);
       number = ap (λ n. n ∷ []) c.in_ok-id-in-Two.ensures.number ∙ (two_id c.args.home k h g fs gs a b d new fits.0 c.in_ok-region-in-Two.ensures.added pushed c.in_ok-id-in-Two.ensures.regions then ∙ same.ids);
+      looks = c.in_ok-carry_second-in-Two.ensures.looks ∙ (c.in_ok-id-in-Two.ensures.looks ∙ c.in_ok-region-in-Two.ensures.looks);
     }

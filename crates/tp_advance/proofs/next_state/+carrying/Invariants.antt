@@ -21,3 +21,4 @@ abbrev pub invariant-carry-loop-i : goal.invariant-carry-loop-i
 invariant-carry-loop-i l =
     IsExtended l.home (left_by l.extent (all_items (slots_of l.old) (take l.i l.ids.items))) l.initial.new l.new
     × (l.roots.items ≡ next_ids l.initial.new (left_by l.extent (all_items (slots_of l.old) (take l.i l.ids.items))))
+    × (l.new.looks ≡ l.initial.new.looks)

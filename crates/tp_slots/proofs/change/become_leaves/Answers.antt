@@ -17,7 +17,7 @@ use Rattle.tp_slots.specs.Reductions.{AreBare, becomes_leaves}
 use Rattle.tp_slots.specs.declared.scene.Slot.{Slot}
 use Rattle.tp_slots.specs.declared.scene.What as code
 use Rattle.tp_slots.proofs.Lists.{home_is}
-use Rattle.tp_slots.proofs.Changing.{bare_below, home_within, leaves_flags, leaves_home, leaves_live, leaves_quiet, leaves_scene, leaves_shape, lives_within, unchanged_kept}
+use Rattle.tp_slots.proofs.Changing.{bare_below, home_within, leaves_flags, leaves_home, leaves_live, leaves_looks, leaves_quiet, leaves_scene, leaves_shape, lives_within, unchanged_kept}
 use Rattle.tp_slots.proofs.Newly.{leaves_bare, leaves_news}
 use Rattle.tp_slots.proofs.change.become_leaves.Goals as goal
 
@@ -69,6 +69,14 @@ raise_mark-requires-clause-quiet c = leaves_quiet c.args.scene.now c.args.item (
     (c.in_ok-put.ensures.ends ∙ ap (λ (l : List code.What). ends_of c.args.scene.now ++ map (λ (x : RegionSlot). false) (begun 0 (length l))) c.new.ensures.items)
     (c.in_ok-put.ensures.goes ∙ ap (λ (l : List code.What). goes_of c.args.scene.now ++ map (λ (x : RegionSlot). false) (begun 0 (length l))) c.new.ensures.items)
 
+pub raise_mark-requires-clause-looks : goal.raise_mark-requires-clause-looks
+raise_mark-requires-clause-looks c = leaves_looks c.args.scene.now c.args.item (option_map mark_of c.args.mark) (bare_leaves c.args.news.items) c.requires.kept c.requires.lives c.requires.free (leaves_bare c.args.news.items) c.put.new.scene 0
+    (c.in_ok-put.ensures.slots ∙ (λ i. stepped (slots_of c.args.scene.now) c.args.item (option_map mark_of c.args.mark) (map what_of (c.new.ensures.items i)) (c.in_ok-outs.ensures i)))
+    (c.in_ok-put.ensures.holders ∙ (λ i. held_after (slots_of c.args.scene.now) (map what_of (c.new.ensures.items i)) (c.in_ok-outs.ensures i) (holders_of c.args.scene.now)))
+    (c.in_ok-put.ensures.ends ∙ ap (λ (l : List code.What). ends_of c.args.scene.now ++ map (λ (x : RegionSlot). false) (begun 0 (length l))) c.new.ensures.items)
+    (c.in_ok-put.ensures.goes ∙ ap (λ (l : List code.What). goes_of c.args.scene.now ++ map (λ (x : RegionSlot). false) (begun 0 (length l))) c.new.ensures.items)
+    c.put.ensures.looks
+
 pub returns-clause-scene : goal.returns-clause-scene
 returns-clause-scene c = ap scene_in c.raise_mark.ensures.slots ∙ leaves_scene c.args.scene.now c.args.item (option_map mark_of c.args.mark) (bare_leaves c.args.news.items) c.requires.kept c.requires.lives c.requires.free (leaves_bare c.args.news.items) c.put.new.scene 0
     (c.in_ok-put.ensures.slots ∙ (λ i. stepped (slots_of c.args.scene.now) c.args.item (option_map mark_of c.args.mark) (map what_of (c.new.ensures.items i)) (c.in_ok-outs.ensures i)))
@@ -99,4 +107,4 @@ pub returns-in_err-outs-clause-kept : goal.returns-in_err-outs-clause-kept
 returns-in_err-outs-clause-kept c = c.requires.kept
 
 pub returns-in_err-put-clause-kept : goal.returns-in_err-put-clause-kept
-returns-in_err-put-clause-kept c = unchanged_kept c.args.scene.now c.put.new.scene c.requires.kept c.in_err-put.ensures.err
+returns-in_err-put-clause-kept c = unchanged_kept c.args.scene.now c.put.new.scene c.requires.kept c.in_err-put.ensures.err c.put.ensures.looks

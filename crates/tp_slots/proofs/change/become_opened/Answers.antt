@@ -40,6 +40,7 @@ returns-clause-kept c = begins_kept c.args.scene.now c.args.item (formula_of c.a
     ∙ (let left = ((let n : c.len-outer.result ≡ length c.args.scene.now.regions.items = search rules in n) ∙ sym (length-map c.args.scene.now.regions.items region_slot_of)) in λ i. held_after (slots_of c.args.scene.now) (plain.bare (S.Do (formula_of c.args.first) (env_of c.args.first)) ∷ []) (plain.holds (S.Opened (formula_of c.args.piece) (env_of c.args.piece)) (left i) None ∷ []) (holders_of c.args.scene.now))))
     (c.in_ok-put.ensures.ends ∙ ap (λ (l : List code.What). ends_of c.args.scene.now ++ map (λ (x : RegionSlot). false) (begun 0 (length l))) c.in_ok-inner.ensures)
     (c.in_ok-put.ensures.goes ∙ ap (λ (l : List code.What). goes_of c.args.scene.now ++ map (λ (x : RegionSlot). false) (begun 0 (length l))) c.in_ok-inner.ensures)
+    c.put.ensures.looks
 
 pub returns-clause-scene : goal.returns-clause-scene
 returns-clause-scene c = begins_scene c.args.scene.now c.args.item (formula_of c.args.first) (env_of c.args.first) (S.Opened (formula_of c.args.piece) (env_of c.args.piece)) refl refl c.requires.kept c.requires.lives c.requires.free c.put.new.scene 0
@@ -75,4 +76,4 @@ pub returns-in_err-outs-clause-kept : goal.returns-in_err-outs-clause-kept
 returns-in_err-outs-clause-kept c = c.requires.kept
 
 pub returns-in_err-put-clause-kept : goal.returns-in_err-put-clause-kept
-returns-in_err-put-clause-kept c = unchanged_kept c.args.scene.now c.put.new.scene c.requires.kept c.in_err-put.ensures.err
+returns-in_err-put-clause-kept c = unchanged_kept c.args.scene.now c.put.new.scene c.requires.kept c.in_err-put.ensures.err c.put.ensures.looks

@@ -60,6 +60,7 @@ returns-clause-kept c =
       c.in_ok-put.ensures.holders ∙ (λ i. held_after (slots_of s) (ei i) (eo i) (holders_of s)),
       c.in_ok-put.ensures.ends ∙ ap (λ n. ends_of s ++ map (λ (x : RegionSlot). false) (begun 0 n)) size,
       c.in_ok-put.ensures.goes ∙ ap (λ n. goes_of s ++ map (λ (x : RegionSlot). false) (begun 0 n)) size,
+      c.put.ensures.looks,
     )
     c.requires.reduced).0
 
@@ -77,6 +78,7 @@ returns-clause-scene c =
       c.in_ok-put.ensures.holders ∙ (λ i. held_after (slots_of s) (ei i) (eo i) (holders_of s)),
       c.in_ok-put.ensures.ends ∙ ap (λ n. ends_of s ++ map (λ (x : RegionSlot). false) (begun 0 n)) size,
       c.in_ok-put.ensures.goes ∙ ap (λ n. goes_of s ++ map (λ (x : RegionSlot). false) (begun 0 n)) size,
+      c.put.ensures.looks,
     )
     c.requires.reduced).1
 
@@ -95,6 +97,7 @@ returns-clause-news c =
       c.in_ok-put.ensures.holders ∙ (λ i. held_after (slots_of s) (ei i) (eo i) (holders_of s)),
       c.in_ok-put.ensures.ends ∙ ap (λ n. ends_of s ++ map (λ (x : RegionSlot). false) (begun 0 n)) size,
       c.in_ok-put.ensures.goes ∙ ap (λ n. goes_of s ++ map (λ (x : RegionSlot). false) (begun 0 n)) size,
+      c.put.ensures.looks,
     )
     c.requires.reduced).1 in
     c.in_ok-fresh.ensures ∙ moved_news_are s c.args.item c.requires.kept c.requires.lives c.put.new.scene c.requires.holder c.requires.reduced after
@@ -112,4 +115,4 @@ pub returns-in_err-outs-clause-kept : goal.returns-in_err-outs-clause-kept
 returns-in_err-outs-clause-kept c = c.requires.kept
 
 pub returns-in_err-put-clause-kept : goal.returns-in_err-put-clause-kept
-returns-in_err-put-clause-kept c = unchanged_kept c.args.scene.now c.put.new.scene c.requires.kept c.in_err-put.ensures.err
+returns-in_err-put-clause-kept c = unchanged_kept c.args.scene.now c.put.new.scene c.requires.kept c.in_err-put.ensures.err c.put.ensures.looks

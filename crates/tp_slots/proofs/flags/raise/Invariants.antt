@@ -12,6 +12,7 @@ invariant-outward l = record {
   slots : slots_of l.scene ≡ slots_of l.fn.scene;
   holders : holders_of l.scene ≡ holders_of l.fn.scene;
   other : flags_of (other_side (mark_of l.side)) l.scene ≡ flags_of (other_side (mark_of l.side)) l.fn.scene;
+  looks : l.scene.looks ≡ l.fn.scene.looks;
   lives : lives_in (slots_of l.fn.scene) (holders_of l.fn.scene) l.at ≡ true;
   pending : Pending (slots_of l.fn.scene) (mark_of l.side) (flags_in (flags_of (mark_of l.side) l.scene)) l.at;
   quiet : IsQuiet (slots_of l.fn.scene) (holders_of l.fn.scene) (flags_in (flags_of (mark_of l.side) l.scene));

@@ -1,5 +1,5 @@
 -- What was put is a step by one leaf.
-use Rattle.std.proofs.Common.{◌≡◌, ℕ, ◌++◌, List, [], ◌∷◌, map, length, take, ap, ◌∙◌, sym, rules}
+use Rattle.std.proofs.Common.{◌≡◌, ℕ, ◌++◌, List, [], ◌∷◌, map, length, take, refl, ap, ◌∙◌, sym, rules}
 use Rattle.std.proofs.lemmas.List.{append-nil, length-map, map-append}
 use Rattle.std.proofs.Math.Seq.{take-append_seam}
 use Rattle.tp_scene.specs.Scene as S
@@ -19,7 +19,7 @@ front n xs ys e = ap (λ k. take k (xs ++ ys)) e ∙ take-append_seam xs ys
 pub returns-clause-kept : goal.returns-clause-kept
 returns-clause-kept c =
     let s = c.args.scene.now in
-    let next : Scene = record { slots = c.push.new.self; regions = s.regions } in
+    let next : Scene = record { slots = c.push.new.self; regions = s.regions; looks = s.looks } in
     let due = plain.bare (S.Do (formula_of c.args.phrase) (env_of c.args.phrase)) in
     let slot : Slot = record { home = c.go-home.result; what = Do c.args.phrase } in
     let first : c.len-first.result ≡ length s.slots.items = search rules in
@@ -31,12 +31,12 @@ returns-clause-kept c =
     let slots = ap (map slot_of) items ∙ (map-append slot_of c.go-home.new.list (slot ∷ []) ∙ (λ i. gone i ++ record { home = home i; what = due } ∷ [])) in
     unmarked_leaves_kept s c.args.item (due ∷ []) c.requires.kept c.requires.lives c.requires.free (tt, tt) next
     (one_stepped (slots_of s) c.args.item c.len-first.result due (map slot_of c.push.new.self.items) slots (first ∙ sym (length-map s.slots.items slot_of)))
-    (sym (append-nil (holders_of s))) (sym (append-nil (ends_of s))) (sym (append-nil (goes_of s)))
+    (sym (append-nil (holders_of s))) (sym (append-nil (ends_of s))) (sym (append-nil (goes_of s))) refl
 
 pub returns-clause-scene : goal.returns-clause-scene
 returns-clause-scene c =
     let s = c.args.scene.now in
-    let next : Scene = record { slots = c.push.new.self; regions = s.regions } in
+    let next : Scene = record { slots = c.push.new.self; regions = s.regions; looks = s.looks } in
     let due = plain.bare (S.Do (formula_of c.args.phrase) (env_of c.args.phrase)) in
     let slot : Slot = record { home = c.go-home.result; what = Do c.args.phrase } in
     let first : c.len-first.result ≡ length s.slots.items = search rules in
@@ -53,7 +53,7 @@ returns-clause-scene c =
 pub returns-clause-news : goal.returns-clause-news
 returns-clause-news c =
     let s = c.args.scene.now in
-    let next : Scene = record { slots = c.push.new.self; regions = s.regions } in
+    let next : Scene = record { slots = c.push.new.self; regions = s.regions; looks = s.looks } in
     let due = plain.bare (S.Do (formula_of c.args.phrase) (env_of c.args.phrase)) in
     let slot : Slot = record { home = c.go-home.result; what = Do c.args.phrase } in
     let first : c.len-first.result ≡ length s.slots.items = search rules in

@@ -25,6 +25,7 @@ returns-clause-kept c =
     (c.commit.ensures.holders ∙ (λ i. hold_all (length c.args.scene.now.slots.items) (map (λ (x : Slot). what_of x.what) (c.new.ensures.items i)) (holders_of c.args.scene.now ++ map (λ (x : Region). x.holder) (c.new-2.ensures.items i))))
     (c.commit.ensures.ends ∙ ap (λ (l : List Region). ends_of c.args.scene.now ++ map (λ (x : Region). x.ends_now) l) c.new-2.ensures.items)
     (c.commit.ensures.goes ∙ ap (λ (l : List Region). goes_of c.args.scene.now ++ map (λ (x : Region). x.goes_now) l) c.new-2.ensures.items)
+    c.commit.ensures.looks
 
 pub returns-clause-scene : goal.returns-clause-scene
 returns-clause-scene c =
