@@ -1,19 +1,18 @@
 -- What is carried over, as the code has it.
-use Rattle.std.proofs.Common.{◌≡◌, ℕ, zero, suc, ◌+◌, ◌<◌, List, [], ◌∷◌, ◌++◌, length, take, get_or, ap, sym, ◌∙◌, subst, arith}
+use Rattle.std.proofs.Common.{◌≡◌, ℕ, ◌+◌, ◌<◌, List, [], ◌∷◌, ◌++◌, length, take, get_or, ap, sym, ◌∙◌, subst, arith}
 use Rattle.std.specs.Prelude.{slice_set}
 use Rattle.std.proofs.lemmas.List.{map-set, get_or-map, length-map}
 use Rattle.tp_scene.specs.Scene.{Entries, none}
-use Rattle.tp_slots.specs.Plain.{Slots, slot_at, entries_at, AreIn, IsOrdered}
+use Rattle.tp_slots.specs.Plain.{slot_at, entries_at, IsOrdered}
 use Rattle.tp_slots.specs.Own.{own_inside}
 use Rattle.tp_advance.specs.Successors.{left_by, item_then, all_items, FullRegion, full_regions, full_region_of, unmarked_region, refilled, IsExtended, HasRegion, next_ids, inside_ids, item_left, region_left}
-use Rattle.tp_slots.specs.Read.{slot_of, region_slot_of, slots_of, item_home}
+use Rattle.tp_slots.specs.Read.{region_slot_of, slots_of}
 use Rattle.tp_slots.specs.declared.scene.Scene.{Scene}
 use Rattle.tp_slots.specs.declared.scene.Region.{Region}
 use Rattle.tp_advance.specs.declared.next_state.Extent.{Extent}
 use Rattle.tp_slots.proofs.Showing.{all_shown}
 use Rattle.tp_advance.proofs.Carrying.{shown_items, one_item_more, left_append, extended_more, ids_more}
 use Rattle.tp_advance.proofs.CarriedRegions.{region_begun, ids_begun}
-use Rattle.tp_slots.proofs.OwnItems.{own_in_region}
 
 -- a region that is filled
 pub refilled_is : (xs : List Region) (at holder : ℕ) (roots : List ℕ) (d y : Region) → at < length xs

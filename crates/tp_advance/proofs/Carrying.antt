@@ -3,7 +3,7 @@ use Rattle.std.proofs.Common.{◌≡◌, ℕ, suc, ◌+◌, cond, List, [], ◌�
 use Rattle.std.proofs.lemmas.List.{append_assoc, append-nil, length-append, length-map}
 use Rattle.tp_scene.specs.Scene.{Holder, Split, SplitProject, Closed, Opened, Running, Do, Later, Shown, Entries, none, leaf, node, append}
 use Rattle.tp_scene.specs.Advance.{unmarked, due, items_in, regions_in, regions_held, numbered_head, second_head, numbered}
-use Rattle.tp_slots.specs.Plain.{What, bare, holds, gone, Slot, Slots, slot_at, has_second, AreIn}
+use Rattle.tp_slots.specs.Plain.{What, bare, holds, gone, Slot, Slots, slot_at, has_second}
 use Rattle.tp_slots.specs.Shown.{AreShown}
 use Rattle.tp_slots.specs.Own.{own_ids}
 use Rattle.tp_advance.specs.Successors.{left_by, item_then, all_items, slots_for, FullRegion, full_regions, full_region_of, unmarked_region, regions_for, next_numbered, IsExtended, next_ids}

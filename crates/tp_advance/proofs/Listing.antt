@@ -1,18 +1,17 @@
 -- Listing the items of a region itself.
 use Rattle.std.proofs.Common.{◌≡◌, ℕ, suc, ◌+◌, ◌<◌, List, [], ◌∷◌, ◌++◌, length, get_or, refl, ap, sym, ◌∙◌, subst, arith}
-use Rattle.std.proofs.lemmas.List.{append_assoc, append-nil, length-map, get_or-map}
-use Rattle.tp_scene.specs.Scene.{Entries, none, leaf, node, append}
+use Rattle.std.proofs.lemmas.List.{append_assoc, append-nil, length-map}
+use Rattle.tp_scene.specs.Scene.{none}
 use Rattle.tp_slots.specs.Plain as plain
 use Rattle.tp_slots.specs.Plain.{Slots, slot_at, region_slot, second_of, in_order, of_what, item_entries, region_entries, entries_at, AreIn, WhatFits, IsOrdered}
 use Rattle.tp_slots.specs.Walk.{item_front}
 use Rattle.tp_slots.specs.Cost.{sum_over, what_cost, cost_of, cost_at}
 use Rattle.tp_slots.specs.Own.{own_ids, own_for, own_in}
 use Rattle.tp_advance.specs.Listing.{own_stacked, backward}
-use Rattle.tp_slots.specs.Read.{slot_of, region_slot_of, slots_of, what_of, item_what}
+use Rattle.tp_slots.specs.Read.{slot_of, region_slot_of, slots_of}
 use Rattle.tp_slots.specs.declared.scene.Scene.{Scene}
 use Rattle.tp_slots.specs.declared.scene.Region.{Region}
-use Rattle.tp_slots.specs.declared.scene.Slot.{Slot}
-use Rattle.tp_slots.proofs.Walking.{stands_in_front, item_is, entries_are}
+use Rattle.tp_slots.proofs.Walking.{item_is, entries_are}
 use Rattle.tp_slots.proofs.WalkLemmas.{roots_are}
 use Rattle.tp_slots.proofs.CostLemmas.{less}
 use Rattle.tp_slots.proofs.OwnItems.{in_order_own}

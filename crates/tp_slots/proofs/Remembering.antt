@@ -1,11 +1,11 @@
 -- What is kept of the region at which a try looks.
-use Rattle.std.proofs.Common.{◌≡◌, ℕ, ◌≤◌, ◌<◌, true, false, length, map, Option, refl, ap, sym, ◌∙◌, subst, arith}
+use Rattle.std.proofs.Common.{◌≡◌, ℕ, ◌≤◌, ◌<◌, true, false, length, refl, subst, arith}
 use Rattle.std.proofs.lemmas.List.{length-map}
-use Rattle.tp_scene.specs.Scene.{Holder, Ending, has}
+use Rattle.tp_scene.specs.Scene.{Ending, has}
 use Rattle.tp_slots.specs.Plain.{What, bare, holds, gone, slot_at, WhatFits}
 use Rattle.tp_slots.specs.Places.{place_outward}
 use Rattle.tp_slots.specs.Lives.{lives_in}
-use Rattle.tp_slots.specs.Kept.{IsWellKept, IsUnchanged}
+use Rattle.tp_slots.specs.Kept.{IsWellKept}
 use Rattle.tp_slots.specs.Looks.{IsKept, looked_into}
 use Rattle.tp_slots.specs.Read.{slot_of, region_slot_of, slots_of, scene_of, holders_of}
 use Rattle.tp_slots.specs.declared.looks.Look.{Look}

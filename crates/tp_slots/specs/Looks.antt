@@ -1,5 +1,5 @@
 -- What was found of regions by a look.
-use Rattle.std.specs.Prelude.{◌≡◌, ℕ, suc, ◌≤◌, ◌<◌, true, false, List, [], length, get_or, Option, Some, None, ◌⊎◌}
+use Rattle.std.specs.Prelude.{◌≡◌, ℕ, ◌≤◌, ◌<◌, true, false, List, [], length, get_or, Option, Some, None, ◌⊎◌}
 use Rattle.tp_scene.specs.Scene.{Side, Ending, Going}
 use Rattle.tp_slots.specs.Plain.{What, bare, holds, gone, Slot, Slots}
 use Rattle.tp_slots.specs.Places.{place_outward}

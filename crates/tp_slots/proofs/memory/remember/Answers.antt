@@ -1,5 +1,5 @@
 -- The region at which a try looks is live.
-use Rattle.std.proofs.Common.{◌≡◌, ◌<◌, true, length, ap, sym, ◌∙◌, subst, rules}
+use Rattle.std.proofs.Common.{◌<◌, length, ap, sym, ◌∙◌, subst, rules}
 use Rattle.tp_slots.specs.Lives.{lives_in}
 use Rattle.tp_slots.specs.Looks.{looked_at}
 use Rattle.tp_slots.specs.Read.{holders_of, slot_of, slots_of}
