@@ -30,7 +30,7 @@ use Rattle.tp_any_order.proofs.SameFacts.{same_facts}
 
 -- a scene at rest has one open cell, and none where it is settled
 module _ (w : Setting) (m : Moment) where
-  cell_by : (s : Settled) → settled m.scene ≡ s → (c d : Cell) → IsOpenCell w m c → IsOpenCell w m d → c ≡ d
+  pub cell_by : (s : Settled) → settled m.scene ≡ s → (c d : Cell) → IsOpenCell w m c → IsOpenCell w m d → c ≡ d
   cell_by (waiting t) e c d h k = let x = rw e at h in let y = rw e at k in let q : waits c x.0 ≡ waits d y.0 = sym x.1 ∙ y.1 in cc
   cell_by end_open e c d h k = let x = rw e at h in let y = rw e at k in x ∙ sym y
   cell_by ends e c d h k = elim (rw e at h) [ ]
@@ -49,17 +49,17 @@ no_picture : (ps qs : List Picture) → ps ≡ [] → qs ≡ [] → SamePictures
 no_picture ps qs e f = subst (λ (xs : List Picture). SamePictures xs qs) (sym e) (subst (λ (ys : List Picture). SamePictures [] ys) (sym f) tt)
 
 module _ (plan : Plan) where
-  abbrev kinds : List Bool
+  abbrev pub kinds : List Bool
   kinds = kinds_of plan.program.globals
 
-  abbrev Orderly : ℕ → Moment → Type 0
+  abbrev pub Orderly : ℕ → Moment → Type 0
   Orderly n m = IsOrderly (setting plan n) kinds m
 
-  abbrev ClosesBy : ℕ → Moment → List ℕ → Moment → Type 0
+  abbrev pub ClosesBy : ℕ → Moment → List ℕ → Moment → Type 0
   ClosesBy n m picks end = Closes (setting plan n) plan.reductions m picks end
 
   -- How a run ends in state n, which begins with m, and the picture of that state where it is settled.
-  abbrev EndsAt : ℕ → Moment → List Picture → Turn → Type 0
+  abbrev pub EndsAt : ℕ → Moment → List Picture → Turn → Type 0
   EndsAt n m tail Went = ⊥
   EndsAt n m tail (Finished k) = (final : Picture) × (tail ≡ final ∷ []) × StateEnds plan n m final × (k ≡ n)
   EndsAt n m tail (Contradictory state clash) = (tail ≡ []) × replay.MeetsClash (setting plan n) plan.reductions m clash × (state ≡ n) × (n < plan.states)
@@ -77,21 +77,21 @@ module _ (plan : Plan) where
 
   -- One state of two runs, which begins alike in both.
   module _ (n : ℕ) (m m' : Moment) (om : Orderly n m) (om' : Orderly n m') (a : Alike (length kinds) m m') where
-    one_way : (picks : List ℕ) (end : Moment) → ClosesBy n m picks end → ClosesOneWay (setting plan n) (length kinds) plan.reductions m' (length picks) end
+    pub one_way : (picks : List ℕ) (end : Moment) → ClosesBy n m picks end → ClosesOneWay (setting plan n) (length kinds) plan.reductions m' (length picks) end
     one_way picks end c = states_close_one_way (setting plan n) kinds plan.reductions m m' picks end om om' a c
 
     back_way : (picks : List ℕ) (end : Moment) → ClosesBy n m' picks end → ClosesOneWay (setting plan n) (length kinds) plan.reductions m (length picks) end
     back_way picks end c = states_close_one_way (setting plan n) kinds plan.reductions m' m picks end om' om ((alike_is_equivalence (setting plan n) kinds).back m m' om.sound om'.sound a) c
 
     module _ (picks : List ℕ) (end : Moment) (picks' : List ℕ) (end' : Moment) (c : ClosesBy n m picks end) (c' : ClosesBy n m' picks' end') where
-      abbrev end_alike : Alike (length kinds) end end'
+      abbrev pub end_alike : Alike (length kinds) end end'
       end_alike = (one_way picks end c).alike picks' end' c'
 
-      settle : SettlesAlike (setting plan n) (length kinds) end end' end_alike.0
+      pub settle : SettlesAlike (setting plan n) (length kinds) end end' end_alike.0
       settle = alike_moments_settle (setting plan n) kinds end end' end_alike.0
           (leads_orderly (setting plan n) kinds picks m end om c.leads).sound (leads_orderly (setting plan n) kinds picks' m' end' om' c'.leads).sound end_alike.1
 
-      same_picture : (p q : Picture) → IsPictureOf plan n picks end p → IsPictureOf plan n picks' end' q → SamePicture p q
+      pub same_picture : (p q : Picture) → IsPictureOf plan n picks end p → IsPictureOf plan n picks' end' q → SamePicture p q
       same_picture p q x y = record {
         state = y.state ∙ sym x.state;
         facts = same_facts q.facts p.facts y.facts.order x.facts.order (λ path. y.facts.same path ∙ settle.facts path ∙ sym (x.facts.same path));
@@ -103,7 +103,7 @@ module _ (plan : Plan) where
       same_cell cell cell' h k = (end_alike.0, end_alike.1.globals_fixed, cell_by (setting plan n) end' (settled end'.scene) refl cell' (renamed_cell end_alike.0 cell) k (settle.open_too cell h))
 
     -- where one goes on, the other doesn't end
-    cant_go : (tail : List Picture) (turn : Turn) → EndsAt n m tail turn → (q : Picture) (next : Moment) → StateGoesOn plan n m' q next → ⊥
+    pub cant_go : (tail : List Picture) (turn : Turn) → EndsAt n m tail turn → (q : Picture) (next : Moment) → StateGoesOn plan n m' q next → ⊥
     cant_go tail Went x q next g = x
     cant_go tail (Finished k) x q next g =
         let s = settle x.2.picks x.2.last g.picks g.last x.2.ends.closes g.goes.closes in
@@ -179,7 +179,7 @@ module _ (plan : Plan) where
     end_same tail (InputMissing state port) x tail' turn' y = failing tail tail' state turn' x.0 x.2 (fails (λ picks end c. (back_way picks end c).no_missing port x.1) x.3 tail' turn' y)
     end_same tail (Over state l) x tail' turn' y = failing tail tail' state turn' x.0 x.2 (fails (λ picks end c. within_limit n m (length kinds) (length picks) end l (back_way picks end c) x.1) x.3 tail' turn' y)
 
-  next_orderly : (n : ℕ) (m next : Moment) (p : Picture) → Orderly n m → StateGoesOn plan n m p next → Orderly (suc n) next
+  pub next_orderly : (n : ℕ) (m next : Moment) (p : Picture) → Orderly n m → StateGoesOn plan n m p next → Orderly (suc n) next
   next_orderly n m next p om g = advances_stay_orderly (setting plan n) kinds g.last next (leads_orderly (setting plan n) kinds g.picks m g.last om g.goes.closes.leads) g.goes.settles g.goes.scene g.goes.store (suc n)
 
   -- The states of two runs, one after the other.
@@ -207,15 +207,15 @@ module _ (plan : Plan) where
       ((same_picture n m m' om om' a g.picks g.last g'.picks g'.last g.goes.closes g'.goes.closes p q g.picture_is g'.picture_is, r.0), r.1)
 
   -- a run that has an end, as the states that go on and the end
-  record Parts (ps : List Picture) (turn : Turn) : Type 0 where
-    before : List Picture
-    tail : List Picture
-    moment : Moment
-    pictures : ps ≡ before ++ tail
-    leads : LeadsTo plan before moment
-    end : EndsAt (length before) moment tail turn
+  pub record Parts (ps : List Picture) (turn : Turn) : Type 0 where
+    pub before : List Picture
+    pub tail : List Picture
+    pub moment : Moment
+    pub pictures : ps ≡ before ++ tail
+    pub leads : LeadsTo plan before moment
+    pub end : EndsAt (length before) moment tail turn
 
-  parts : (ps : List Picture) (turn : Turn) → RunEndsWith plan ps turn → Parts ps turn
+  abbrev pub parts : (ps : List Picture) (turn : Turn) → RunEndsWith plan ps turn → Parts ps turn
   parts ps Went h = absurd h
   parts ps (Finished n) h = record { before = h.before; tail = h.final ∷ []; moment = h.moment; pictures = h.pictures; leads = h.leads; end = (h.final, refl, h.ends, h.count) }
   parts ps (Contradictory state clash) h = record { before = ps; tail = []; moment = h.0; pictures = sym (append-nil ps); leads = h.1; end = (refl, subst (λ (k : ℕ). replay.MeetsClash (setting plan k) plan.reductions h.0 clash) h.3 h.2, h.3, subst (λ (k : ℕ). k < plan.states) h.3 h.4) }
@@ -225,13 +225,13 @@ module _ (plan : Plan) where
   parts ps (Over state l) h = record { before = ps; tail = []; moment = h.0; pictures = sym (append-nil ps); leads = h.1; end = (refl, subst (λ (k : ℕ). ReachesLimit (setting plan k) plan.reductions h.0 l) h.3 h.2, h.3, subst (λ (k : ℕ). k < plan.states) h.3 h.4) }
 
   module _ (plan_orderly : IsOrderlyPlan plan) where
-    start : Orderly 0 (first_moment plan.program.globals plan.program.main)
+    pub start : Orderly 0 (first_moment plan.program.globals plan.program.main)
     start = begins_orderly (setting plan 0) plan.program.globals plan.program.main plan_orderly.program.defs plan_orderly.program.main plan_orderly.inputs
 
-    itself : (n : ℕ) (m : Moment) → Orderly n m → Alike (length kinds) m m
+    pub itself : (n : ℕ) (m : Moment) → Orderly n m → Alike (length kinds) m m
     itself n m om = (alike_is_equivalence (setting plan n) kinds).itself m om.sound
 
-    agree : (ps : List Picture) (turn : Turn) → RunEndsWith plan ps turn → (qs : List Picture) (other : Turn) → RunEndsWith plan qs other → SamePictures ps qs × SameEnd (length kinds) turn other
+    pub agree : (ps : List Picture) (turn : Turn) → RunEndsWith plan ps turn → (qs : List Picture) (other : Turn) → RunEndsWith plan qs other → SamePictures ps qs × SameEnd (length kinds) turn other
     agree ps turn h qs other k =
         let x = parts ps turn h in
         let y = parts qs other k in

@@ -1,2 +1,4 @@
 pub mod SameFacts
 pub mod Agree
+pub mod AlikeRuns
+pub mod Beginnings

@@ -1,5 +1,7 @@
 // Laws of runs in any order.
 ghost use Rattle.tp_any_order.specs.Agree.{RunsAgree, StatesAgree};
+ghost use Rattle.tp_any_order.specs.AlikeRuns.{AllRunsAreAlike};
+ghost use Rattle.tp_any_order.specs.Beginnings.{BeginningsGoOn};
 ghost use Rattle.tp_run.specs.States.{Plan};
 
 /// Two runs have the same settled states, the same shows, and the same end, whatever the order of picks.
@@ -10,4 +12,14 @@ pub fn runs_agree()
 /// A run settles each state that some picks settle, with the same picture, and ends where some picks end.
 pub fn states_agree()
     ensures { (plan : Plan) → StatesAgree plan }
+{}
+
+/// What is left after each settled state is alike in any two runs, and a cell at which they are open has the same name.
+pub fn all_runs_are_alike()
+    ensures { (plan : Plan) → AllRunsAreAlike plan }
+{}
+
+/// Where a run has an end that isn't a failure, every list of picks that can be made goes on to a run with this end.
+pub fn beginnings_go_on()
+    ensures { (plan : Plan) → BeginningsGoOn plan }
 {}
