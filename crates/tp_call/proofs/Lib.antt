@@ -10,3 +10,4 @@ pub mod AnswerLemmas
 pub mod ClauseLemmas
 pub mod EveryOrderLemmas
 pub mod TextLemmas
+pub mod TraceLemmas

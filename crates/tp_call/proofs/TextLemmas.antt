@@ -89,7 +89,7 @@ untraced_states : (plan : Plan) (n : ℕ) (m : Moment) (ps : List Picture) (last
 untraced_states plan n m [] last leads = refl
 untraced_states plan n m (p ∷ ps) last leads = ap (λ l. picture_lines plan.program.globals p ++ l) (untraced_states plan (suc n) leads.0 ps last leads.2)
 
-untraced_end : (plan : Plan) (ps : List Picture) (answer : Turn) (end : RunEndsWith plan ps answer) → ended_text false plan ps answer end ≡ pictures_text plan.program.globals ps
+pub untraced_end : (plan : Plan) (ps : List Picture) (answer : Turn) (end : RunEndsWith plan ps answer) → ended_text false plan ps answer end ≡ pictures_text plan.program.globals ps
 untraced_end plan ps answer end = by answer end where
   lead : (m : Moment) (leads : LeadsTo plan ps m) → lead_text false plan ps m leads ≡ pictures_text plan.program.globals ps
   lead m leads = untraced_states plan 0 (first_moment plan.program.globals plan.program.main) ps m leads

@@ -12,4 +12,5 @@ pub mod Progress
 pub mod Places
 pub mod Text
 pub mod EveryOrder
+pub mod Trace
 pub mod Headline

@@ -15,6 +15,7 @@ ghost use Rattle.tp_words.specs.declared.mode.Mode.TheVariants.{Run};
 ghost use Rattle.tp_call.specs.Headline.{FinishedSays, FinishedTextSays, OpenTextSays, ContradictorySays, UndeterminedSays, StateLimitSays, LimitSays, InputMissingSays, ProgramRuns, WordsRefusedExactly, TooLongExactly, SourceRefusedExactly, InputsRefusedExactly, PrintedSays, SourcePrints};
 ghost use Rattle.tp_call.specs.Parts.{IsReadRefusal, IsSourceRefusal, IsTableRefusal, IsInputsEnd, IsProgramRefusal};
 ghost use Rattle.tp_call.specs.EveryOrder.{ComesToEachEnd};
+ghost use Rattle.tp_call.specs.Trace.{TraceSays};
 ghost use Rattle.tp_call.specs.Progress.{line_of_end, ClosesAnswer, ClosesRun};
 ghost use Rattle.tp_show.specs.Told.{AreNames, IsLastTurn};
 
@@ -331,6 +332,8 @@ pub fn tempura<F: Files, K: Sink, L: Ledger>(
     ensures finished_text { FinishedTextSays words.now (F.held files.old) (K.written out.old)
         (K.written out.new) result }
     ensures open_text { OpenTextSays words.now (F.held files.old) (K.written out.old)
+        (K.written out.new) result }
+    ensures trace { TraceSays words.now (F.held files.old) (K.written out.old)
         (K.written out.new) result }
 
     // A source that is printed.

@@ -5,6 +5,7 @@ ghost use Rattle.tp_call.specs.declared.status.Which.{Which};
 ghost use Rattle.tp_call.specs.Answer.{Answers, AsksOnly};
 ghost use Rattle.tp_call.specs.Headline.{FinishedSays, FinishedTextSays, OpenTextSays, ContradictorySays, UndeterminedSays, StateLimitSays, LimitSays, InputMissingSays, ProgramRuns, WordsRefusedExactly, TooLongExactly, SourceRefusedExactly, InputsRefusedExactly, PrintedSays, SourcePrints};
 ghost use Rattle.tp_call.specs.EveryOrder.{ComesToEachEnd};
+ghost use Rattle.tp_call.specs.Trace.{TraceSays};
 
 use crate::call::tempura;
 use crate::status::Status;
@@ -58,6 +59,8 @@ pub fn counted<L: Ledger, F: Files, K: Sink>(
     ensures finished_text { FinishedTextSays words.now (F.held files.old) (K.written out.old)
         (K.written out.new) result }
     ensures open_text { OpenTextSays words.now (F.held files.old) (K.written out.old)
+        (K.written out.new) result }
+    ensures trace { TraceSays words.now (F.held files.old) (K.written out.old)
         (K.written out.new) result }
 
     // A source that is printed.

@@ -1,0 +1,9 @@
+pub mod Kept
+pub mod Found
+pub mod Parts
+pub mod Steps
+pub mod Moments
+pub mod Runs
+pub mod Checked
+pub mod Tables
+pub mod Tokens
