@@ -10,6 +10,8 @@ mod definitions;
 #[cfg(test)]
 mod devices;
 #[cfg(test)]
+mod expected;
+#[cfg(test)]
 mod formulas;
 #[cfg(test)]
 mod inputs;
