@@ -11,3 +11,6 @@ pub mod ClauseLemmas
 pub mod EveryOrderLemmas
 pub mod TextLemmas
 pub mod TraceLemmas
+pub mod TracedLemmas
+pub mod TracedOnce
+pub mod TracedTextLemmas

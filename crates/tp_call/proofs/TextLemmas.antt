@@ -35,7 +35,7 @@ shows_told : (a : ℕ) (ps : List Picture) → shown_from a ps ≡ told_shows a 
 shows_told a [] = refl
 shows_told a (p ∷ ps) = ap (λ (T : Shows). shown_at a (shows_of p.shows) ⊕ T) (shows_told (suc a) ps)
 
-all_states_of : (names : List (List ℕ)) (ps : List Picture) → All (λ (p : Picture). AreFactsOf names p.facts) ps → All IsPictureInRange ps → All (IsStateOf names) ps
+pub all_states_of : (names : List (List ℕ)) (ps : List Picture) → All (λ (p : Picture). AreFactsOf names p.facts) ps → All IsPictureInRange ps → All (IsStateOf names) ps
 all_states_of names [] f r = All-nil (IsStateOf names)
 all_states_of names (p ∷ ps) f r =
     let Facts : Picture → Type 0 = λ (q : Picture). AreFactsOf names q.facts in
@@ -53,14 +53,14 @@ agree_told names s a (p ∷ ps) f =
     (λ h. (one.0 h.0, more.0 h.1), λ h. (one.1 h.0, more.1 h.1))
 
 module _ (plan : Plan) (names : List (List ℕ)) (ps : List Picture) (facts : All (λ (p : Picture). AreFactsOf names p.facts) ps) where
-  exactly_told : (n : ℕ) → SatisfiedExactly plan ps n → SatisfiedAsTold plan (told_all ps) n
+  pub exactly_told : (n : ℕ) → SatisfiedExactly plan ps n → SatisfiedAsTold plan (told_all ps) n
   exactly_told n h s a b S =
       let both = agree_told names s a ps facts in (
         λ x. let y = (h s a b S).0 x in (y.0, y.1, both.0 y.2, y.3 ∙ shows_told a ps),
         λ y. (h s a b S).1 (y.0, y.1, both.1 y.2, y.3 ∙ sym (shows_told a ps)),
       )
 
-  continues_told : ContinuesEach plan ps → ContinuesTold plan (told_all ps)
+  pub continues_told : ContinuesEach plan ps → ContinuesTold plan (told_all ps)
   continues_told h s a b S x =
       let y = h s a b S x in
       let count : length (told_all ps) ≡ length ps = length-map ps told_of in (
@@ -70,7 +70,7 @@ module _ (plan : Plan) (names : List (List ℕ)) (ps : List Picture) (facts : Al
       )
 
 -- the last lines of two lengths
-finished_length : (m n : ℕ) → m < 2 ^ 64 → n < 2 ^ 64 → finished_line m ≡ finished_line n → m ≡ n
+pub finished_length : (m n : ℕ) → m < 2 ^ 64 → n < 2 ^ 64 → finished_line m ≡ finished_line n → m ≡ n
 finished_length m n p q e = decimal_injective m n p q (drop_end (decimal m) (decimal n) (ap (drop 17) e)) where
   drop_end : (a b : List ℕ) → a ++ codes "\n" ≡ b ++ codes "\n" → a ≡ b
   drop_end [] [] h = refl

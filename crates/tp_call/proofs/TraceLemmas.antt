@@ -1,5 +1,6 @@
 -- What a run printed is a trace of its states.
-use Rattle.std.proofs.Common.{◌≡◌, inl, inr, ◌+◌, ◌<◌, ℕ, suc, false, List, [], ◌∷◌, ◌++◌, map, length, All, Contains, Option, None, Some, refl, sym, ap, ◌∙◌, subst, arith}
+use Rattle.std.proofs.Common.{◌≡◌, inl, inr, ◌+◌, ◌<◌, ℕ, suc, List, [], ◌∷◌, ◌++◌, map, length, All, Contains, Option, None, Some, refl, sym, ap, ◌∙◌, subst, arith}
+use Rattle.std.proofs.lemmas.List.{length-map}
 use Rattle.std.proofs.lemmas.List.Elements.{All-nil, All-cons, All-head, All-tail, All-contains}
 use Rattle.tp_lex.specs.Names.{token_names}
 use Rattle.tp_io.specs.Devices.{Held, bytes_of}
@@ -13,11 +14,11 @@ use Rattle.tp_scene.specs.StandsFor.{first_moment}
 use Rattle.tp_show.specs.declared.turn.Picture.{Picture}
 use Rattle.tp_show.specs.declared.turn.Turn.{Turn}
 use Rattle.tp_show.specs.declared.turn.Turn.TheVariants as turn
-use Rattle.tp_show.specs.Line.{AreFactsOf, pictures_text}
-use Rattle.tp_show.specs.EndLine.{end_line}
+use Rattle.tp_show.specs.Line.{AreFactsOf}
+use Rattle.tp_show.specs.EndLine.{last_words, end_line}
 use Rattle.tp_show.specs.Trace.{IsTraceText}
 use Rattle.tp_show.specs.TraceLine.{IsVariableName}
-use Rattle.tp_show.specs.TraceOfRun.{AreVariableNames, IsReadable, IsOneLine, CountFrom, IsEnding, named_facts}
+use Rattle.tp_show.specs.TraceOfRun.{AreVariableNames, IsReadable, IsOneLine, PrintedState, printed_states_text, CountFrom, IsEnding, named_facts}
 use Rattle.tp_show.proofs.PrintedBytes.{name_plain}
 use Rattle.tp_show.proofs.PrintedLines.{plain_one}
 use Rattle.tp_show.proofs.PrintedStates.{traces_tell_facts}
@@ -35,12 +36,10 @@ use Rattle.tp_call.specs.declared.status.Status.TheVariants.{Finished, Done, Con
 use Rattle.tp_call.specs.Source.{IsProgram}
 use Rattle.tp_call.specs.Written.{Wrote}
 use Rattle.tp_call.specs.Run.{known_at_end}
-use Rattle.tp_call.specs.Printed.{ended_text}
-use Rattle.tp_call.specs.Text.{AsksNoTrace}
 use Rattle.tp_call.specs.Answer.{HoldsProgram, HasInputs, run_text, RunsTo, Refuses, CallEnds, Answers, IsEndOfRun}
 use Rattle.tp_call.specs.Trace.{PrintsTrace, TraceSays}
 use Rattle.tp_call.proofs.FactLemmas.{run_facts}
-use Rattle.tp_call.proofs.TextLemmas.{untraced_end}
+use Rattle.tp_call.proofs.TracedLemmas.{run_printed, picture_of, HasTraceLines, run_is, run_pictures, run_further, all_printed, facts_printed}
 
 -- ---- names
 
@@ -125,45 +124,64 @@ module _ (words : List (List ℕ)) (held : Option Held) (old new : Option (List 
   ran status end a = absurd end
 
   module _ (files : Held) (told : held ≡ Some files) (status : Status) (text : List ℕ) (run : RunsTo words held status text) where
-    abbrev names : List (List ℕ)
+    abbrev pub names : List (List ℕ)
     names = run.plan.program.globals
 
     is_program : IsProgram (bytes_of files run.asked.wanted.file) run.plan.program
     is_program = (run.asked.source files told).1
 
-    pub variable_names : AreVariableNames names
+    variable_names : AreVariableNames names
     variable_names = record { each = global_variables (bytes_of files run.asked.wanted.file) run.plan is_program; apart = run.names.apart }
 
     inputs_printable : (name : Option (List ℕ)) (table : InputLines) → HasInputs name held table → InputsArePrintable table
     inputs_printable None table h = subst InputsArePrintable (sym h) tt
     inputs_printable (Some name) table h = tables_are_printable (bytes_of files name) table (h files told).1
 
-    pub printable : RunIsPrintable run.plan run.pictures run.run.answer run.run.run
-    printable =
-        runs_are_printable run.plan (program_printable (bytes_of files run.asked.wanted.file) run.plan is_program) (inputs_printable run.asked.wanted.inputs run.plan.inputs run.asked.inputs)
-        run.pictures run.run.answer run.run.run
+    program_made : ProgramIsPrintable run.plan.program
+    program_made = program_printable (bytes_of files run.asked.wanted.file) run.plan is_program
 
-    pub readable : All (IsReadable names) run.pictures
+    inputs_made : InputsArePrintable run.plan.inputs
+    inputs_made = inputs_printable run.asked.wanted.inputs run.plan.inputs run.asked.inputs
+
+    printable : RunIsPrintable run.plan run.pictures run.run.answer run.run.run
+    printable = runs_are_printable run.plan program_made inputs_made run.pictures run.run.answer run.run.run
+
+    readable : All (IsReadable names) run.pictures
     readable = all_readable names run.pictures (run_facts run.plan run.pictures run.run.answer run.fits run.run.run) printable.limits
 
-    abbrev last_line : List ℕ
+    abbrev pub last_line : List ℕ
     last_line = end_line names (known_at_end run.run) run.plan.reductions run.run.answer
 
-    pub ending : IsEnding names last_line
-    ending = (known_at_end run.run, run.plan.reductions, run.run.answer, traces_tell_facts.end_lines names variable_names (known_at_end run.run) printable.variables run.plan.reductions run.run.answer printable.port, refl)
+    pub last_one : IsOneLine (last_words names (known_at_end run.run) run.plan.reductions run.run.answer)
+    last_one = traces_tell_facts.end_lines names variable_names (known_at_end run.run) printable.variables run.plan.reductions run.run.answer printable.port
 
-    untraced : run.asked.wanted.trace ≡ false → text ≡ pictures_text names run.pictures ++ last_line
-    untraced plain =
-        run.written ∙ (ap (λ t. ended_text t run.plan run.pictures run.run.answer run.run.run ++ last_line) plain
-        ∙ ap (λ l. l ++ last_line) (untraced_end run.plan run.pictures run.run.answer run.run.run))
+    ending : IsEnding names last_line
+    ending = (known_at_end run.run, run.plan.reductions, run.run.answer, last_one, refl)
 
-    is_trace : run.asked.wanted.trace ≡ false → 0 < length run.pictures → IsTraceText text (map (named_facts names) run.pictures)
-    is_trace plain some =
-        let whole = traces_tell_facts.pictures names variable_names run.pictures readable (count_run run.plan run.pictures run.run.answer run.run.run) some last_line ending in
-        subst (λ (t : List ℕ). IsTraceText t (map (named_facts names) run.pictures)) (sym (untraced plain)) whole
+    -- the states as they are printed
+    abbrev pub printed : List PrintedState
+    printed = run_printed run.asked.wanted.trace run.plan run.pictures run.run.answer run.run.run
+
+    pub pictures_are : map picture_of printed ≡ run.pictures
+    pictures_are = run_pictures run.asked.wanted.trace run.plan run.pictures run.run.answer run.run.run
+
+    pub text_is : text ≡ printed_states_text names printed ++ last_line
+    text_is = run.written ∙ ap (λ l. l ++ last_line) (run_is run.asked.wanted.trace run.plan run.pictures run.run.answer run.run.run)
+
+    pub have_trace_lines : All HasTraceLines printed
+    have_trace_lines = run_further run.asked.wanted.trace run.plan program_made inputs_made run.pictures run.run.answer run.run.run
+
+    is_trace : 0 < length run.pictures → IsTraceText text (map (named_facts names) run.pictures)
+    is_trace some =
+        let as_printed = all_printed names printed (subst (All (IsReadable names)) (sym pictures_are) readable) have_trace_lines in
+        let count = subst (CountFrom 0) (sym pictures_are) (count_run run.plan run.pictures run.run.answer run.run.run) in
+        let many : length printed ≡ length run.pictures = sym (length-map printed picture_of) ∙ ap length pictures_are in
+        let whole = traces_tell_facts.printed names variable_names printed as_printed count (omega (arith, some, many)) last_line ending in
+        let facts : map (λ (s : PrintedState). named_facts names s.picture) printed ≡ map (named_facts names) run.pictures = facts_printed names printed ∙ ap (map (named_facts names)) pictures_are in
+        subst (λ (t : List ℕ). IsTraceText t (map (named_facts names) run.pictures)) (sym text_is) (subst (IsTraceText (printed_states_text names printed ++ last_line)) facts whole)
 
   pub trace_says : (result : Status) → Answers words held old new result → TraceSays words held old new result
-  trace_says result a = λ files told end plain.
+  trace_says result a = λ files told end.
       let r = ran result end a in
       let run = r.1 in
       record {
@@ -174,5 +192,5 @@ module _ (words : List (List ℕ)) (held : Option Held) (old new : Option (List 
         says = run.says;
         text = r.0;
         appended = r.2;
-        trace = is_trace files told result r.0 run (plain run.asked.wanted run.asked.accepted);
+        trace = is_trace files told result r.0 run;
       }

@@ -13,4 +13,5 @@ pub mod Places
 pub mod Text
 pub mod EveryOrder
 pub mod Trace
+pub mod TracedText
 pub mod Headline

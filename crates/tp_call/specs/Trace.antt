@@ -8,7 +8,6 @@ use Rattle.tp_run.specs.States.{Plan}
 use Rattle.tp_call.specs.declared.status.Status.{Status}
 use Rattle.tp_call.specs.Written.{Wrote}
 use Rattle.tp_call.specs.Run.{RunEnds, EndSays}
-use Rattle.tp_call.specs.Text.{AsksNoTrace}
 use Rattle.tp_call.specs.Answer.{IsAskedFor, IsEndOfRun}
 
 -- A run of what is asked for ended with this status, and said of every interval what its end has to say of its states' pictures. Where a state was
@@ -25,6 +24,6 @@ pub record PrintsTrace (words : List (List ℕ)) (held : Option Held) (old new :
   pub trace : 0 < length pictures → IsTraceText text (map (named_facts plan.program.globals) pictures)
 
 module _ (words : List (List ℕ)) (held : Option Held) (old new : Option (List ℕ)) (result : Status) where
-  -- Where a run ends, of words that ask for no trace, and the files tell what they hold, what was printed is a trace of its states.
+  -- Where a run ends and the files tell what they hold, what was printed is a trace of its states, with trace lines or without.
   abbrev pub TraceSays : Type 0
-  TraceSays = (files : Held) → held ≡ Some files → IsEndOfRun result → AsksNoTrace words → PrintsTrace words held old new result
+  TraceSays = (files : Held) → held ≡ Some files → IsEndOfRun result → PrintsTrace words held old new result

@@ -16,6 +16,7 @@ ghost use Rattle.tp_call.specs.Headline.{FinishedSays, FinishedTextSays, OpenTex
 ghost use Rattle.tp_call.specs.Parts.{IsReadRefusal, IsSourceRefusal, IsTableRefusal, IsInputsEnd, IsProgramRefusal};
 ghost use Rattle.tp_call.specs.EveryOrder.{ComesToEachEnd};
 ghost use Rattle.tp_call.specs.Trace.{TraceSays};
+ghost use Rattle.tp_call.specs.TracedText.{FinishedTracedSays, OpenTracedSays};
 ghost use Rattle.tp_call.specs.Progress.{line_of_end, ClosesAnswer, ClosesRun};
 ghost use Rattle.tp_show.specs.Told.{AreNames, IsLastTurn};
 
@@ -334,6 +335,10 @@ pub fn tempura<F: Files, K: Sink, L: Ledger>(
     ensures open_text { OpenTextSays words.now (F.held files.old) (K.written out.old)
         (K.written out.new) result }
     ensures trace { TraceSays words.now (F.held files.old) (K.written out.old)
+        (K.written out.new) result }
+    ensures finished_traced { FinishedTracedSays words.now (F.held files.old)
+        (K.written out.old) (K.written out.new) result }
+    ensures open_traced { OpenTracedSays words.now (F.held files.old) (K.written out.old)
         (K.written out.new) result }
 
     // A source that is printed.

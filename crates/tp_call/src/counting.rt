@@ -6,6 +6,7 @@ ghost use Rattle.tp_call.specs.Answer.{Answers, AsksOnly};
 ghost use Rattle.tp_call.specs.Headline.{FinishedSays, FinishedTextSays, OpenTextSays, ContradictorySays, UndeterminedSays, StateLimitSays, LimitSays, InputMissingSays, ProgramRuns, WordsRefusedExactly, TooLongExactly, SourceRefusedExactly, InputsRefusedExactly, PrintedSays, SourcePrints};
 ghost use Rattle.tp_call.specs.EveryOrder.{ComesToEachEnd};
 ghost use Rattle.tp_call.specs.Trace.{TraceSays};
+ghost use Rattle.tp_call.specs.TracedText.{FinishedTracedSays, OpenTracedSays};
 
 use crate::call::tempura;
 use crate::status::Status;
@@ -61,6 +62,10 @@ pub fn counted<L: Ledger, F: Files, K: Sink>(
     ensures open_text { OpenTextSays words.now (F.held files.old) (K.written out.old)
         (K.written out.new) result }
     ensures trace { TraceSays words.now (F.held files.old) (K.written out.old)
+        (K.written out.new) result }
+    ensures finished_traced { FinishedTracedSays words.now (F.held files.old)
+        (K.written out.old) (K.written out.new) result }
+    ensures open_traced { OpenTracedSays words.now (F.held files.old) (K.written out.old)
         (K.written out.new) result }
 
     // A source that is printed.

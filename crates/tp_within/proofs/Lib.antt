@@ -7,3 +7,4 @@ pub mod Runs
 pub mod Checked
 pub mod Tables
 pub mod Tokens
+pub mod Phrases

@@ -5,9 +5,13 @@ use Rattle.tp_lex.specs.Tokens.{AreTokens}
 use Rattle.tp_lex.specs.Names.{token_names}
 use Rattle.tp_tree.specs.Tree.{SourceTree}
 use Rattle.tp_tree.specs.Names.{source_names}
+use Rattle.tp_meaning.specs.Syntax.{Definition}
 use Rattle.tp_meaning.specs.Interval.{ProgramTree}
 use Rattle.tp_meaning.specs.Inputs.{InputLines}
 use Rattle.tp_inputs.specs.Table.{IsInputsText}
+use Rattle.tp_store.specs.Known.{Variable}
+use Rattle.tp_scene.specs.Scene.{Scene}
+use Rattle.tp_residual.specs.Residual.{residual_phrase}
 use Rattle.tp_check.specs.Program.{ChecksTo}
 use Rattle.tp_show.specs.declared.turn.Picture.{Picture}
 use Rattle.tp_show.specs.declared.turn.Turn.{Turn}
@@ -17,7 +21,7 @@ use Rattle.tp_show.specs.TraceLine.{IsVariableName}
 use Rattle.tp_show.specs.TraceOfRun.{IsOneLine, IsPartWithinLimits, HasNameOnOneLine, NamesPortOnOneLine}
 use Rattle.tp_run.specs.States.{Plan}
 use Rattle.tp_run.specs.History.{RunEndsWith, end_store}
-use Rattle.tp_within.specs.Printable.{ProgramIsPrintable, InputsArePrintable}
+use Rattle.tp_within.specs.Printable.{DefinitionIsPrintable, ProgramIsPrintable, EntriesArePrintable, InputsArePrintable}
 
 -- Each name among the tokens of a text is a variable's name.
 abbrev pub TokenNamesAreOfVariables : Type 0
@@ -30,6 +34,10 @@ CheckedProgramsArePrintable = (source : SourceTree) (program : ProgramTree) → 
 -- So is a table of inputs.
 abbrev pub TablesArePrintable : Type 0
 TablesArePrintable = (bytes : List ℕ) (table : InputLines) → IsInputsText bytes table → InputsArePrintable table
+
+-- A residual phrase stands on one line where the scene and the definitions are printable, and the variables' names do.
+abbrev pub ResidualsAreOneLine : Type 0
+ResidualsAreOneLine = (variables : List Variable) (definitions : List Definition) (s : Scene) → All HasNameOnOneLine variables → All DefinitionIsPrintable definitions → EntriesArePrintable s.root.entries → IsOneLine (residual_phrase variables definitions s)
 
 -- what is written of the picture is within the limits, where its facts are those of the variables with these names, in order and without a clash
 abbrev pub IsWrittenWithinLimits : (names : List (List ℕ)) → Picture → Type 0

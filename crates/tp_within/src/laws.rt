@@ -1,5 +1,5 @@
 // Laws of what can be printed so that a trace is read from it.
-ghost use Rattle.tp_within.specs.Laws.{CheckedProgramsArePrintable, RunsArePrintable, TablesArePrintable, TokenNamesAreOfVariables};
+ghost use Rattle.tp_within.specs.Laws.{CheckedProgramsArePrintable, ResidualsAreOneLine, RunsArePrintable, TablesArePrintable, TokenNamesAreOfVariables};
 
 /// A name among a text's tokens is a variable's name. A checked program has each name on one line, and each value that is known in it
 /// has numbers within the limit. The values of a table of inputs are within the limits.
@@ -13,4 +13,9 @@ pub fn sources_are_printable()
 /// line.
 pub fn runs_are_printable()
     ensures { RunsArePrintable }
+{}
+
+/// A residual phrase stands on one line, where names do.
+pub fn residuals_are_one_line()
+    ensures { ResidualsAreOneLine }
 {}

@@ -4,4 +4,4 @@
 
 mod laws;
 
-pub use laws::{runs_are_printable, sources_are_printable};
+pub use laws::{residuals_are_one_line, runs_are_printable, sources_are_printable};

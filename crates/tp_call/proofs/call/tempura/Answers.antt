@@ -1,6 +1,7 @@
 use Rattle.tp_call.proofs.ClauseLemmas.{finished, contradictory, undetermined, state_limit, reduction_limit, number_limit, list_limit, call_limit, nest_limit, input_missing, program_runs, finished_text, open_text, printed, source_prints, words_refused_only, words_refused, too_long_only, too_long, inputs_too_long, source_refused_only, source_refused, inputs_refused_only, inputs_refused}
 use Rattle.tp_call.proofs.EveryOrderLemmas.{comes_to_each_end}
 use Rattle.tp_call.proofs.TraceLemmas.{trace_says}
+use Rattle.tp_call.proofs.TracedTextLemmas.{finished_traced, open_traced}
 use Rattle.tp_call.proofs.call.tempura.Goals as goal
 
 pub returns-clause-finished : goal.returns-clause-finished
@@ -47,6 +48,12 @@ returns-clause-open_text g c = open_text _ _ _ _ _ c.call.ensures.answer
 
 pub returns-clause-trace : goal.returns-clause-trace
 returns-clause-trace g c = trace_says _ _ _ _ _ c.call.ensures.answer
+
+pub returns-clause-finished_traced : goal.returns-clause-finished_traced
+returns-clause-finished_traced g c = finished_traced _ _ _ _ _ c.call.ensures.answer
+
+pub returns-clause-open_traced : goal.returns-clause-open_traced
+returns-clause-open_traced g c = open_traced _ _ _ _ _ c.call.ensures.answer
 
 pub returns-clause-words_refused : goal.returns-clause-words_refused
 returns-clause-words_refused g c = record { only = words_refused_only _ _ _ _ _ c.call.ensures.answer; there = words_refused _ _ _ _ _ c.call.ensures.answer }
