@@ -7,3 +7,4 @@ pub mod KnownItems
 pub mod GlobalFacts
 pub mod Becomes
 pub mod Stores
+pub mod Named

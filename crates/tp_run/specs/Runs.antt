@@ -6,6 +6,7 @@ use Rattle.tp_store.specs.Known.{Contents, Variable, IsVariableOf}
 use Rattle.tp_decide.specs.Read.{shows_of}
 use Rattle.tp_slots.specs.Kept.{IsWellKept}
 use Rattle.tp_step.specs.Answers.{moment_of}
+use Rattle.tp_step.specs.declared.answer.Order.{Order}
 use Rattle.tp_meaning.specs.Interval.{ProgramTree, kinds_of}
 use Rattle.tp_check.specs.Program.{program_tree}
 use Rattle.tp_scene.specs.declared.answer.Cell.{Cell}
@@ -45,6 +46,10 @@ standing_of run = stands_at run.stand run.store
 
 abbrev pub next_state_of : Run → ℕ
 next_state_of run = run.settings.setting.state
+
+-- the order in which it takes the items of each state, a seed from its first word on
+abbrev pub order_of : Run → Order
+order_of run = run.settings.order
 
 -- The first of these variables are those.
 abbrev pub HasFirst : List Variable → List Variable → Type 0

@@ -17,9 +17,10 @@ ghost use Rattle.tp_decide.specs.Decided.{setting_of};
 ghost use Rattle.tp_slots.specs.Kept.{IsWellKept, Lives};
 ghost use Rattle.tp_slots.specs.Read.{scene_of};
 ghost use Rattle.tp_step.specs.Answers.{moment_of};
-ghost use Rattle.tp_run.specs.States.{Plan, plan_with, open_at, spent, state_after, AnswersState, StateBecomes};
+ghost use Rattle.tp_run.specs.States.{Plan, plan_with, setting, open_at, spent, state_after, AnswersState, StateBecomes};
 ghost use Rattle.tp_run.specs.Meaning.{StandsForItsProgram, AnswerMeans};
-ghost use Rattle.tp_run.specs.Runs.{stands_at, standing_of, program_of, next_state_of, standing_place, store_of, carried_scene, IsSettingsOf, IsRunOf, HasPicture, NextOf, RestTurns, StandIsKept, HasFirst, CellIsOf, TurnIsOf, MadeIsOf};
+ghost use Rattle.tp_run.specs.Ordered.{IsNamedInOrder};
+ghost use Rattle.tp_run.specs.Runs.{stands_at, standing_of, program_of, next_state_of, order_of, standing_place, store_of, carried_scene, IsSettingsOf, IsRunOf, HasPicture, NextOf, RestTurns, StandIsKept, HasFirst, CellIsOf, TurnIsOf, MadeIsOf};
 
 use crate::limits::Limits;
 use crate::picture::settled_picture;
@@ -241,6 +242,9 @@ impl Settings {
             (plan : Plan) → IsSettingsOf plan self.now
             → StateBecomes plan self.now.setting.state (moment_of scene store.old) picture.old
             picture.new (stands_at made.stand store.new) store.new made.turn) }
+        ensures in_order { IfOk result (λ made.
+            IsNamedInOrder (setting_of self.now.setting) self.now.order self.now.limits.reductions
+            (moment_of scene store.old) made.turn) }
         ensures kept { IfOk result (λ made. StandIsKept made.stand) }
         ensures named { IfOk result (MadeIsOf store.new.variables) }
         ensures err { OnErr result (picture.new ≡ picture.old) }
@@ -250,6 +254,7 @@ impl Settings {
             return stop(Turn::StateLimit { states: state });
         }
         let mut tally = no_tally(self.setting.alloc);
+        // Each state begins with the run's order, so a seed's choices begin again.
         let course = Course {
             order: self.order,
             room: self.limits.reductions,
@@ -292,6 +297,7 @@ impl Run {
             standing_of run
             ≡ open_at (first_moment program.globals (formula_tree program.main.value))) }
         ensures state { IfOk result (λ run. next_state_of run ≡ 0) }
+        ensures order { IfOk result (λ run. order_of run ≡ order) }
         ensures store { IfOk result (λ run. store_of run ≡ new_store program.globals) }
         ensures plan { IfOk result
             (IsRunOf
@@ -388,6 +394,11 @@ impl Run {
             → AnswerMeans plan (next_state_of self.old) (standing_of self.old)
             (standing_of self.new) picture.new turn) }
         ensures run { (plan : Plan) → IsRunOf plan self.old → IsRunOf plan self.new }
+        ensures order { order_of self.new ≡ order_of self.old }
+        ensures in_order { IfOk result (λ turn.
+            (plan : Plan) (m : Moment) → IsRunOf plan self.old → standing_of self.old ≡ open_at m
+            → IsNamedInOrder (setting plan (next_state_of self.old)) (order_of self.old)
+            plan.reductions m turn) }
         ensures variables { OnOk result
             (HasFirst (store_of self.old).variables (store_of self.new).variables) }
         ensures named { IfOk result (TurnIsOf (store_of self.new).variables) }

@@ -2,7 +2,8 @@ use Rattle.std.proofs.Common.{ap, refl, ◌∙◌}
 use Rattle.tp_step.specs.Answers.{moment_of}
 use Rattle.tp_run.specs.declared.run.Stand.{Stand}
 use Rattle.tp_run.specs.Runs.{stands_at}
-use Rattle.tp_run.proofs.Becomes.{answer_means, run_kept, lent_settings, given_back_run}
+use Rattle.tp_run.proofs.Becomes.{answer_means, run_kept, lent, lent_settings, given_back_run}
+use Rattle.tp_run.proofs.Named.{named_by_plan}
 use Rattle.tp_run.proofs.Stores.{leaves_variables}
 use Rattle.tp_run.proofs.run.Run.state.Goals as goal
 
@@ -30,3 +31,9 @@ returns-in_ok-made-in-Open-clause-variables g c =
     let made = c.in_ok-made-in-Open.made in
     leaves_variables plan run (moment_of c.in-Open.scene run.store) refl c.args.picture.now c.make-made.new.picture (stands_at made.stand c.make-made.new.store) c.make-made.new.store made.turn
     (c.in_ok-made-in-Open.ensures.made plan (lent_settings plan run c.swap.new.y h c.swap.ensures.y_after))
+
+pub returns-in_ok-made-in-Open-clause-in_order : goal.returns-in_ok-made-in-Open-clause-in_order
+returns-in_ok-made-in-Open-clause-in_order g c = λ plan m h at.
+    let run = c.args.self.now in
+    let there = ap (λ (s : Stand). stands_at s run.store) c.in-Open.ensures.value in
+    named_by_plan plan (lent run c.swap.new.y) m (moment_of c.in-Open.scene run.store) c.in_ok-made-in-Open.made.turn (lent_settings plan run c.swap.new.y h c.swap.ensures.y_after) (there ∙ at) c.in_ok-made-in-Open.ensures.in_order

@@ -1,9 +1,13 @@
-use Rattle.std.proofs.Common.{◌≡◌, length, ap, rules}
+use Rattle.std.proofs.Common.{◌≡◌, length, refl, ap, sym, subst, rules}
 use Rattle.tp_meaning.specs.Interval.{kinds_of}
 use Rattle.tp_step.specs.Answers.{moment_of}
+use Rattle.tp_step.specs.declared.answer.Ending.TheVariants as ending
+use Rattle.tp_decide.specs.Decided.{setting_of}
 use Rattle.tp_run.specs.declared.run.Stand.{Stand}
 use Rattle.tp_show.specs.declared.turn.Turn.TheVariants.{Contradictory}
 use Rattle.tp_run.specs.Runs.{stands_at}
+use Rattle.tp_run.specs.Ordered.{IsNamedInOrder}
+use Rattle.tp_run.proofs.Named.{ends_in_order, rest_named}
 use Rattle.tp_run.proofs.Becomes.{run_rests, run_reaches, run_clashes, run_misses, run_clashes_named, end_named}
 use Rattle.tp_run.proofs.run.Settings.make.Goals as goal
 
@@ -45,3 +49,38 @@ returns-in_ok-made-in-Clash-clause-named g c =
     (run_clashes_named c.requires.sound.0 c.args.self.now c.requires.sound.1 c.requires.within c.if-state-self.false (moment_of c.args.scene c.args.store.now) (moment_of c.close_by_passes.new.scene c.close_by_passes.new.store)
     c.no_tally-tally.result.picks c.close_by_passes.new.tally.picks c.in_ok-ending.ending c.in_ok-ending.ensures.closes
     (kinds_of c.requires.sound.0.program.globals) (c.in_ok-ending.ensures.sound _ c.requires.sound.2) c.in-Clash.clash c.in-Clash.is)
+
+pub returns-in_ok-made-in-Rest-clause-in_order : goal.returns-in_ok-made-in-Rest-clause-in_order
+returns-in_ok-made-in-Rest-clause-in_order g c =
+    let s = c.args.self.now in
+    let made = c.in_ok-made-in-Rest.made in
+    rest_named (setting_of s.setting) (setting_of s.setting) s.order s.limits.reductions s.globals c.len-reductions.result (moment_of c.args.scene c.args.store.now)
+    (moment_of c.close_by_passes.new.scene c.close_by_passes.new.store) c.args.picture.now c.make_at_rest.new.picture (stands_at made.stand c.make_at_rest.new.store)
+    c.make_at_rest.new.store made.turn c.in_ok-made-in-Rest.ensures.made
+
+pub returns-in_ok-made-in-Clash-clause-in_order : goal.returns-in_ok-made-in-Clash-clause-in_order
+returns-in_ok-made-in-Clash-clause-in_order g c =
+    let s = c.args.self.now in
+    let m = moment_of c.args.scene c.args.store.now in
+    let last = moment_of c.close_by_passes.new.scene c.close_by_passes.new.store in
+    let end = ends_in_order (setting_of s.setting) s.order s.order s.limits.reductions s.limits.reductions m last c.no_tally-tally.result.picks c.close_by_passes.new.tally.picks (ending.Clash c.in-Clash.clash) c.in_ok-ending.ending c.in_ok-ending.ensures.order
+    refl refl c.no_tally-tally.ensures c.in-Clash.is in
+    subst (IsNamedInOrder (setting_of s.setting) s.order s.limits.reductions m) (sym c.in_ok-made-in-Clash.ensures.turn) end
+
+pub returns-in_ok-made-in-Missing-clause-in_order : goal.returns-in_ok-made-in-Missing-clause-in_order
+returns-in_ok-made-in-Missing-clause-in_order g c =
+    let s = c.args.self.now in
+    let m = moment_of c.args.scene c.args.store.now in
+    let last = moment_of c.close_by_passes.new.scene c.close_by_passes.new.store in
+    let end = ends_in_order (setting_of s.setting) s.order s.order s.limits.reductions s.limits.reductions m last c.no_tally-tally.result.picks c.close_by_passes.new.tally.picks (ending.Missing c.in-Missing.port) c.in_ok-ending.ending c.in_ok-ending.ensures.order
+    refl refl c.no_tally-tally.ensures c.in-Missing.is in
+    subst (IsNamedInOrder (setting_of s.setting) s.order s.limits.reductions m) (sym c.in_ok-made-in-Missing.ensures.turn) end
+
+pub returns-in_ok-made-in-Over-clause-in_order : goal.returns-in_ok-made-in-Over-clause-in_order
+returns-in_ok-made-in-Over-clause-in_order g c =
+    let s = c.args.self.now in
+    let m = moment_of c.args.scene c.args.store.now in
+    let last = moment_of c.close_by_passes.new.scene c.close_by_passes.new.store in
+    let end = ends_in_order (setting_of s.setting) s.order s.order s.limits.reductions s.limits.reductions m last c.no_tally-tally.result.picks c.close_by_passes.new.tally.picks (ending.Over c.in-Over.limit) c.in_ok-ending.ending c.in_ok-ending.ensures.order
+    refl refl c.no_tally-tally.ensures c.in-Over.is in
+    subst (IsNamedInOrder (setting_of s.setting) s.order s.limits.reductions m) (sym c.in_ok-made-in-Over.ensures.turn) end

@@ -1,0 +1,45 @@
+-- A failure of a state is the one that its order meets.
+use Rattle.std.proofs.Common.{◌≡◌, ℕ, List, [], subst}
+use Rattle.tp_scene.specs.Pick.{Setting, Moment}
+use Rattle.tp_store.specs.Known.{Contents}
+use Rattle.tp_step.specs.declared.answer.Order.{Order}
+use Rattle.tp_step.specs.declared.answer.Ending.{Ending}
+use Rattle.tp_pass.specs.Follows.{FollowsOrder}
+use Rattle.tp_decide.specs.Decided.{setting_of}
+use Rattle.tp_show.specs.declared.turn.Picture.{Picture}
+use Rattle.tp_show.specs.declared.turn.Turn.{Turn}
+use Rattle.tp_show.specs.declared.turn.Turn.TheVariants.{Went, Finished, Contradictory, Undetermined, StateLimit, InputMissing, Over}
+use Rattle.tp_run.specs.declared.run.Settings.{Settings}
+use Rattle.tp_run.specs.States.{Plan, setting, Standing, open_at}
+use Rattle.tp_run.specs.Runs.{IsSettingsOf, RestTurns}
+use Rattle.tp_run.specs.Ordered.{EndsInOrder, IsNamedInOrder}
+use Rattle.tp_run.proofs.Becomes.{same_setting}
+
+-- what a closure in this order ended with, where nothing was picked before it
+pub ends_in_order : (w : Setting) (order o : Order) (room k : ℕ) (m last : Moment) (before after : List ℕ) (end e : Ending)
+    → FollowsOrder w o k m last before after e → o ≡ order → k ≡ room → before ≡ [] → e ≡ end → EndsInOrder w order room m end
+ends_in_order w order o room k m last before after end e h a b c d =
+    let f : FollowsOrder w order k m last before after e = subst (λ x. FollowsOrder w x k m last before after e) a h in
+    let g : FollowsOrder w order room m last before after e = subst (λ x. FollowsOrder w order x m last before after e) b f in
+    let i : FollowsOrder w order room m last [] after e = subst (λ x. FollowsOrder w order room m last x after e) c g in
+    (last, after, subst (λ x. FollowsOrder w order room m last [] after x) d i)
+
+-- a state at rest fails in nothing
+pub rest_named : (w v : Setting) (order : Order) (room globals k : ℕ) (m n : Moment) (old new : Picture) (standing : Standing) (store : Contents) (turn : Turn)
+    → RestTurns v globals k n old new standing store turn → IsNamedInOrder w order room m turn
+rest_named w v order room globals k m n old new standing store Went h = tt
+rest_named w v order room globals k m n old new standing store (Finished length) h = tt
+rest_named w v order room globals k m n old new standing store (Contradictory state clash) h = absurd h
+rest_named w v order room globals k m n old new standing store (Undetermined state cell) h = tt
+rest_named w v order room globals k m n old new standing store (StateLimit states) h = tt
+rest_named w v order room globals k m n old new standing store (InputMissing state port) h = absurd h
+rest_named w v order room globals k m n old new standing store (Over state limit) h = absurd h
+
+-- by the settings of a plan, as the plan says
+pub named_by_plan : (plan : Plan) (s : Settings) (m n : Moment) (turn : Turn) → IsSettingsOf plan s → open_at n ≡ open_at m
+    → IsNamedInOrder (setting_of s.setting) s.order s.limits.reductions n turn → IsNamedInOrder (setting plan s.setting.state) s.order plan.reductions m turn
+named_by_plan plan s m n turn h at named =
+    let same : n ≡ m = cc in
+    let a = subst (λ w. IsNamedInOrder w s.order s.limits.reductions n turn) (same_setting plan s h) named in
+    let b = subst (λ k. IsNamedInOrder (setting plan s.setting.state) s.order k n turn) h.reductions a in
+    subst (λ z. IsNamedInOrder (setting plan s.setting.state) s.order plan.reductions z turn) same b
