@@ -10,3 +10,5 @@ pub mod AnswerLemmas
 pub mod ClauseLemmas
 pub mod EveryOrderLemmas
 pub mod TextLemmas
+pub mod SameText
+pub mod EachRunLemmas

@@ -13,3 +13,4 @@ pub mod Places
 pub mod Text
 pub mod EveryOrder
 pub mod Headline
+pub mod EachRun

@@ -15,6 +15,7 @@ ghost use Rattle.tp_words.specs.declared.mode.Mode.TheVariants.{Run};
 ghost use Rattle.tp_call.specs.Headline.{FinishedSays, FinishedTextSays, OpenTextSays, ContradictorySays, UndeterminedSays, StateLimitSays, LimitSays, InputMissingSays, ProgramRuns, WordsRefusedExactly, TooLongExactly, SourceRefusedExactly, InputsRefusedExactly, PrintedSays, SourcePrints};
 ghost use Rattle.tp_call.specs.Parts.{IsReadRefusal, IsSourceRefusal, IsTableRefusal, IsInputsEnd, IsProgramRefusal};
 ghost use Rattle.tp_call.specs.EveryOrder.{ComesToEachEnd};
+ghost use Rattle.tp_call.specs.EachRun.{PrintsEachRun, BeginningsComeToEnd};
 ghost use Rattle.tp_call.specs.Progress.{line_of_end, ClosesAnswer, ClosesRun};
 ghost use Rattle.tp_show.specs.Told.{AreNames, IsLastTurn};
 
@@ -326,6 +327,9 @@ pub fn tempura<F: Files, K: Sink, L: Ledger>(
     ensures program_runs { ProgramRuns words.now (F.held files.old) result }
     ensures every_order { ComesToEachEnd words.now (F.held files.old) (K.written out.old)
         (K.written out.new) result }
+    ensures every_text { PrintsEachRun words.now (F.held files.old) (K.written out.old)
+        (K.written out.new) result }
+    ensures no_dead_end { BeginningsComeToEnd words.now (F.held files.old) result }
 
     // The headline for whoever has the text alone.
     ensures finished_text { FinishedTextSays words.now (F.held files.old) (K.written out.old)

@@ -5,6 +5,7 @@ ghost use Rattle.tp_call.specs.declared.status.Which.{Which};
 ghost use Rattle.tp_call.specs.Answer.{Answers, AsksOnly};
 ghost use Rattle.tp_call.specs.Headline.{FinishedSays, FinishedTextSays, OpenTextSays, ContradictorySays, UndeterminedSays, StateLimitSays, LimitSays, InputMissingSays, ProgramRuns, WordsRefusedExactly, TooLongExactly, SourceRefusedExactly, InputsRefusedExactly, PrintedSays, SourcePrints};
 ghost use Rattle.tp_call.specs.EveryOrder.{ComesToEachEnd};
+ghost use Rattle.tp_call.specs.EachRun.{PrintsEachRun, BeginningsComeToEnd};
 
 use crate::call::tempura;
 use crate::status::Status;
@@ -53,6 +54,9 @@ pub fn counted<L: Ledger, F: Files, K: Sink>(
     ensures program_runs { ProgramRuns words.now (F.held files.old) result }
     ensures every_order { ComesToEachEnd words.now (F.held files.old) (K.written out.old)
         (K.written out.new) result }
+    ensures every_text { PrintsEachRun words.now (F.held files.old) (K.written out.old)
+        (K.written out.new) result }
+    ensures no_dead_end { BeginningsComeToEnd words.now (F.held files.old) result }
 
     // The headline for whoever has the text alone.
     ensures finished_text { FinishedTextSays words.now (F.held files.old) (K.written out.old)

@@ -1,5 +1,6 @@
 use Rattle.tp_call.proofs.ClauseLemmas.{finished, contradictory, undetermined, state_limit, reduction_limit, number_limit, list_limit, call_limit, nest_limit, input_missing, program_runs, finished_text, open_text, printed, source_prints, words_refused_only, words_refused, too_long_only, too_long, inputs_too_long, source_refused_only, source_refused, inputs_refused_only, inputs_refused}
 use Rattle.tp_call.proofs.EveryOrderLemmas.{comes_to_each_end}
+use Rattle.tp_call.proofs.EachRunLemmas.{prints_each_run, beginnings_come_to_end}
 use Rattle.tp_call.proofs.call.tempura.Goals as goal
 
 pub returns-clause-finished : goal.returns-clause-finished
@@ -37,6 +38,12 @@ returns-clause-program_runs g c = program_runs _ _ _ _ _ c.call.ensures.answer
 
 pub returns-clause-every_order : goal.returns-clause-every_order
 returns-clause-every_order g c = comes_to_each_end _ _ _ _ _ c.call.ensures.answer
+
+pub returns-clause-every_text : goal.returns-clause-every_text
+returns-clause-every_text g c = prints_each_run _ _ _ _ _ c.call.ensures.answer
+
+pub returns-clause-no_dead_end : goal.returns-clause-no_dead_end
+returns-clause-no_dead_end g c = beginnings_come_to_end _ _ _ _ _ c.call.ensures.answer
 
 pub returns-clause-finished_text : goal.returns-clause-finished_text
 returns-clause-finished_text g c = finished_text _ _ _ _ _ c.call.ensures.answer
