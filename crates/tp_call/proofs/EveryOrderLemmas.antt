@@ -36,7 +36,7 @@ comes_to globals (turn.Over state kind) other result same is = (other, same, is)
 
 module _ (words : List (List ℕ)) (held : Option Held) (old new : Option (List ℕ)) where
   -- what a run printed, whatever is said of it
-  abbrev PrintsRun : Status → Type 0
+  abbrev pub PrintsRun : Status → Type 0
   PrintsRun result = Prints words held old new result (λ p printed. Unit {0})
 
   plain : (result : Status) (P : Plan → List Picture → Type 0) → Prints words held old new result P → PrintsRun result
@@ -53,7 +53,7 @@ module _ (words : List (List ℕ)) (held : Option Held) (old new : Option (List 
     says = tt;
   }
 
-  ended : (result : Status) → IsEndOfRun result → Answers words held old new result → PrintsRun result
+  pub ended : (result : Status) → IsEndOfRun result → Answers words held old new result → PrintsRun result
   ended (Finished n) end a = plain (Finished n) _ (finished words held old new (Finished n) a n refl)
   ended (Contradictory state clash) end a = plain (Contradictory state clash) _ (contradictory words held old new (Contradictory state clash) a state clash refl)
   ended (Undetermined state cell) end a = plain (Undetermined state cell) _ (undetermined words held old new (Undetermined state cell) a state cell refl)
@@ -71,12 +71,12 @@ module _ (words : List (List ℕ)) (held : Option Held) (old new : Option (List 
     one_inputs None t u h k = h ∙ sym k
     one_inputs (Some name) t u h k = one_table (bytes_of files name) t u (h files told).1 (k files told).1
 
-    inputs_within : (name : Option (List ℕ)) (t : InputLines) → HasInputs name held t → InputsWithin t
+    pub inputs_within : (name : Option (List ℕ)) (t : InputLines) → HasInputs name held t → InputsWithin t
     inputs_within None t h = subst InputsWithin (sym h) tt
     inputs_within (Some name) t h = tables_within (bytes_of files name) t (h files told).1
 
     -- what is asked for is one plan
-    one_plan : (p q : Plan) → IsAskedFor words held p → IsAskedFor words held q → p ≡ q
+    pub one_plan : (p q : Plan) → IsAskedFor words held p → IsAskedFor words held q → p ≡ q
     one_plan p q a b =
         let both : Some a.wanted ≡ Some b.wanted = sym a.accepted ∙ b.accepted in
         let w : a.wanted ≡ b.wanted = cc in

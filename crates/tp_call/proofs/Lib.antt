@@ -14,3 +14,5 @@ pub mod TraceLemmas
 pub mod TracedLemmas
 pub mod TracedOnce
 pub mod TracedTextLemmas
+pub mod SameText
+pub mod EachRunLemmas

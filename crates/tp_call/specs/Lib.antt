@@ -15,3 +15,4 @@ pub mod EveryOrder
 pub mod Trace
 pub mod TracedText
 pub mod Headline
+pub mod EachRun

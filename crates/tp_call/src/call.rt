@@ -17,6 +17,7 @@ ghost use Rattle.tp_call.specs.Parts.{IsReadRefusal, IsSourceRefusal, IsTableRef
 ghost use Rattle.tp_call.specs.EveryOrder.{ComesToEachEnd};
 ghost use Rattle.tp_call.specs.Trace.{TraceSays};
 ghost use Rattle.tp_call.specs.TracedText.{FinishedTracedSays, OpenTracedSays};
+ghost use Rattle.tp_call.specs.EachRun.{PrintsEachRun, BeginningsComeToEnd};
 ghost use Rattle.tp_call.specs.Progress.{line_of_end, ClosesAnswer, ClosesRun};
 ghost use Rattle.tp_show.specs.Told.{AreNames, IsLastTurn};
 
@@ -328,6 +329,9 @@ pub fn tempura<F: Files, K: Sink, L: Ledger>(
     ensures program_runs { ProgramRuns words.now (F.held files.old) result }
     ensures every_order { ComesToEachEnd words.now (F.held files.old) (K.written out.old)
         (K.written out.new) result }
+    ensures every_text { PrintsEachRun words.now (F.held files.old) (K.written out.old)
+        (K.written out.new) result }
+    ensures no_dead_end { BeginningsComeToEnd words.now (F.held files.old) result }
 
     // The headline for whoever has the text alone.
     ensures finished_text { FinishedTextSays words.now (F.held files.old) (K.written out.old)

@@ -7,6 +7,7 @@ ghost use Rattle.tp_call.specs.Headline.{FinishedSays, FinishedTextSays, OpenTex
 ghost use Rattle.tp_call.specs.EveryOrder.{ComesToEachEnd};
 ghost use Rattle.tp_call.specs.Trace.{TraceSays};
 ghost use Rattle.tp_call.specs.TracedText.{FinishedTracedSays, OpenTracedSays};
+ghost use Rattle.tp_call.specs.EachRun.{PrintsEachRun, BeginningsComeToEnd};
 
 use crate::call::tempura;
 use crate::status::Status;
@@ -55,6 +56,9 @@ pub fn counted<L: Ledger, F: Files, K: Sink>(
     ensures program_runs { ProgramRuns words.now (F.held files.old) result }
     ensures every_order { ComesToEachEnd words.now (F.held files.old) (K.written out.old)
         (K.written out.new) result }
+    ensures every_text { PrintsEachRun words.now (F.held files.old) (K.written out.old)
+        (K.written out.new) result }
+    ensures no_dead_end { BeginningsComeToEnd words.now (F.held files.old) result }
 
     // The headline for whoever has the text alone.
     ensures finished_text { FinishedTextSays words.now (F.held files.old) (K.written out.old)

@@ -2,6 +2,7 @@ use Rattle.tp_call.proofs.ClauseLemmas.{finished, contradictory, undetermined, s
 use Rattle.tp_call.proofs.EveryOrderLemmas.{comes_to_each_end}
 use Rattle.tp_call.proofs.TraceLemmas.{trace_says}
 use Rattle.tp_call.proofs.TracedTextLemmas.{finished_traced, open_traced}
+use Rattle.tp_call.proofs.EachRunLemmas.{prints_each_run, beginnings_come_to_end}
 use Rattle.tp_call.proofs.call.tempura.Goals as goal
 
 pub returns-clause-finished : goal.returns-clause-finished
@@ -39,6 +40,12 @@ returns-clause-program_runs g c = program_runs _ _ _ _ _ c.call.ensures.answer
 
 pub returns-clause-every_order : goal.returns-clause-every_order
 returns-clause-every_order g c = comes_to_each_end _ _ _ _ _ c.call.ensures.answer
+
+pub returns-clause-every_text : goal.returns-clause-every_text
+returns-clause-every_text g c = prints_each_run _ _ _ _ _ c.call.ensures.answer
+
+pub returns-clause-no_dead_end : goal.returns-clause-no_dead_end
+returns-clause-no_dead_end g c = beginnings_come_to_end _ _ _ _ _ c.call.ensures.answer
 
 pub returns-clause-finished_text : goal.returns-clause-finished_text
 returns-clause-finished_text g c = finished_text _ _ _ _ _ c.call.ensures.answer
