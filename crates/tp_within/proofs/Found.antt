@@ -14,7 +14,8 @@ use Rattle.tp_value.specs.declared.value.Shape.TheVariants.{Num, Truth, Items}
 use Rattle.tp_value.specs.declared.path.Path.{Path}
 use Rattle.tp_value.specs.declared.path.Fact.{Fact}
 use Rattle.tp_meaning.specs.Syntax.{Operator, Equal, Differs, Less, LessEqual, Greater, GreaterEqual, Plus, Minus, Times, Div, Mod, ExprTree, ExprTrees, numeral, boolean, known, bound, global, listing, size, index, minus, negation, both, either, binary, choice, invoke, no_expr, expr_then, Definition, BindingTree, place_binding, known_binding}
-use Rattle.tp_meaning.specs.Value.{item_at, is_upper}
+use Rattle.tp_meaning.specs.Value.{is_upper}
+use Rattle.tp_value.specs.Shape.{item_at}
 use Rattle.tp_store.specs.Facts.{kept_shape, is_excluded}
 use Rattle.tp_store.specs.Known as store
 use Rattle.tp_store.specs.Known.{full}
