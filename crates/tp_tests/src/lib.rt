@@ -10,8 +10,6 @@ mod definitions;
 #[cfg(test)]
 mod devices;
 #[cfg(test)]
-mod expected;
-#[cfg(test)]
 mod formulas;
 #[cfg(test)]
 mod inputs;
@@ -41,8 +39,6 @@ mod tables;
 mod tokens;
 #[cfg(test)]
 mod told;
-#[cfg(test)]
-mod traces;
 #[cfg(test)]
 mod turns;
 #[cfg(test)]
