@@ -1,5 +1,5 @@
 // The trace lines of a state.
-ghost use Rattle.std.specs.Prelude.{◌≡◌, ◌++◌, IfSome, OnOk};
+ghost use Rattle.std.specs.Prelude.{◌≡◌, ◌++◌, IfSome, OnOk, OnErr};
 ghost use Rattle.std.specs.Option.{option_map};
 ghost use Rattle.tp_kernel.specs.Read.{definitions_of};
 ghost use Rattle.tp_slots.specs.Kept.{IsWellKept};
@@ -35,8 +35,42 @@ fn append_residual(out: &mut Text, residue: &Residue) -> Result<(), NoMemory>
     out.append(b"\n")
 }
 
+fn append_trace(
+    out: &mut Text,
+    alloc: Global,
+    reductions: u64,
+    scene: Option<&Scene>,
+    store: &Store,
+    defs: &Defs,
+) -> Result<(), NoMemory>
+    requires kept { IfSome scene (λ s. IsWellKept s.now) }
+    requires carried { IfSome (option_map (λ s. scene_of s.now) scene)
+        (λ s. AreCarried s.root.entries) }
+    ensures { OnOk result
+        (out.new
+        ≡ out.old
+        ++ trace_lines reductions
+        (residual_of store.now.variables (definitions_of defs.now)
+        (option_map (λ s. scene_of s.now) scene.entry))) }
+{
+    append_reductions(out, reductions)?;
+    match scene {
+        Some(scene) => {
+            let residue = Residue {
+                alloc,
+                scene,
+                store,
+                defs,
+            };
+            append_residual(out, &residue)
+        }
+        None => Ok(()),
+    }
+}
+
 /// Appends a line with the number of reductions that a state took, and where it goes on a line with what is still to hold from the next
-/// state on, as a phrase: the scene with which that begins. Variables and definitions are named by the store and `defs`.
+/// state on, as a phrase: the scene with which that begins. Variables and definitions are named by the store and `defs`. On a refusal
+/// the text is unchanged.
 pub fn trace_text(
     alloc: Global,
     picture: &Picture,
@@ -54,18 +88,10 @@ pub fn trace_text(
         ++ trace_lines picture.now.reductions
         (residual_of store.now.variables (definitions_of defs.now)
         (option_map (λ s. scene_of s.now) scene.entry))) }
+    ensures err { OnErr result (out.new ≡ out.old) }
 {
-    append_reductions(out, picture.reductions)?;
-    match scene {
-        Some(scene) => {
-            let residue = Residue {
-                alloc,
-                scene,
-                store,
-                defs,
-            };
-            append_residual(out, &residue)
-        }
-        None => Ok(()),
-    }
+    let mut text = out.copy()?;
+    append_trace(&mut text, alloc, picture.reductions, scene, store, defs)?;
+    *out = text;
+    Ok(())
 }

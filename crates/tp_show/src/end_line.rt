@@ -1,5 +1,5 @@
 // The end line of a run.
-ghost use Rattle.std.specs.Prelude.{◌≡◌, ◌++◌, OnOk};
+ghost use Rattle.std.specs.Prelude.{◌≡◌, ◌++◌, OnOk, OnErr};
 ghost use Rattle.tp_show.specs.EndLine.{end_line, last_words, limit_text, reductions_text, state_text};
 
 use crate::clash::{append_cell, append_clash};
@@ -76,14 +76,12 @@ fn append_last_words(
     }
 }
 
-/// Appends the end line of a run with this last answer, where a state has at most so many reductions; nothing where the run goes on.
-/// The globals are those of the program that ran, and the store is that of the end of its run.
-pub fn end_text(
-    turn: &Turn,
-    store: &Store,
-    globals: &Globals,
-    reductions: u64,
+fn append_end(
     out: &mut Text,
+    globals: &Globals,
+    store: &Store,
+    reductions: u64,
+    turn: &Turn,
 ) -> Result<(), NoMemory>
     ensures { OnOk result
         (out.new ≡ out.old ++ end_line globals.now store.now.variables reductions turn.now) }
@@ -93,4 +91,23 @@ pub fn end_text(
     }
     append_last_words(out, globals, store, reductions, turn)?;
     out.append(b"\n")
+}
+
+/// Appends the end line of a run with this last answer, where a state has at most so many reductions; nothing where the run goes on.
+/// The globals are those of the program that ran, and the store is that of the end of its run. On a refusal the text is unchanged.
+pub fn end_text(
+    turn: &Turn,
+    store: &Store,
+    globals: &Globals,
+    reductions: u64,
+    out: &mut Text,
+) -> Result<(), NoMemory>
+    ensures text { OnOk result
+        (out.new ≡ out.old ++ end_line globals.now store.now.variables reductions turn.now) }
+    ensures err { OnErr result (out.new ≡ out.old) }
+{
+    let mut text = out.copy()?;
+    append_end(&mut text, globals, store, reductions, turn)?;
+    *out = text;
+    Ok(())
 }

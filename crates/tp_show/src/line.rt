@@ -1,5 +1,5 @@
 // The text of a settled state.
-ghost use Rattle.std.specs.Prelude.{◌≡◌, ◌++◌, ◌∷◌, All, List, ℕ, OnOk, codes};
+ghost use Rattle.std.specs.Prelude.{◌≡◌, ◌++◌, ◌∷◌, All, List, ℕ, OnOk, OnErr, codes};
 ghost use Rattle.std.specs.List.{flat_map};
 ghost use Rattle.tp_value.specs.Range.{HasMachineNumbers};
 ghost use Rattle.tp_value.specs.Read.{tree};
@@ -77,10 +77,7 @@ fn append_shows(out: &mut Text, shows: &Shows) -> Result<(), NoMemory>
     Ok(())
 }
 
-/// Appends the line of a settled state, with its number, and for each global variable in order its value or what is known of it; and
-/// a line for each list of values that the state shows. The picture's parts are those of its facts. What was written of it are
-/// numbers of 64 bits.
-pub fn picture_text(picture: &Picture, globals: &Globals, out: &mut Text) -> Result<(), NoMemory>
+fn append_picture(out: &mut Text, picture: &Picture, globals: &Globals) -> Result<(), NoMemory>
     requires { plain_parts picture.now.parts ≡ line_parts picture.now.facts }
     ensures text { OnOk result (out.new ≡ out.old ++ picture_lines globals.now picture.now) }
     ensures range { OnOk result (IsPictureInRange picture.now) }
@@ -90,4 +87,19 @@ pub fn picture_text(picture: &Picture, globals: &Globals, out: &mut Text) -> Res
     append_parts(out, globals, &picture.parts)?;
     out.append(b"\n")?;
     append_shows(out, &picture.shows)
+}
+
+/// Appends the line of a settled state, with its number, and for each global variable in order its value or what is known of it; and
+/// a line for each list of values that the state shows. The picture's parts are those of its facts. What was written of it are
+/// numbers of 64 bits. On a refusal the text is unchanged.
+pub fn picture_text(picture: &Picture, globals: &Globals, out: &mut Text) -> Result<(), NoMemory>
+    requires { plain_parts picture.now.parts ≡ line_parts picture.now.facts }
+    ensures text { OnOk result (out.new ≡ out.old ++ picture_lines globals.now picture.now) }
+    ensures range { OnOk result (IsPictureInRange picture.now) }
+    ensures err { OnErr result (out.new ≡ out.old) }
+{
+    let mut text = out.copy()?;
+    append_picture(&mut text, picture, globals)?;
+    *out = text;
+    Ok(())
 }

@@ -1,7 +1,7 @@
 use Rattle.std.proofs.Common.{subst}
 use Rattle.tp_value.proofs.WritingLemmas.{map_ok}
 use Rattle.tp_show.specs.Told.{ArePartsInRange}
-use Rattle.tp_show.proofs.line.picture_text.Goals as goal
+use Rattle.tp_show.proofs.line.append_picture.Goals as goal
 
 pub returns-clause-range : goal.returns-clause-range
 returns-clause-range c =
