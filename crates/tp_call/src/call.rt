@@ -159,6 +159,7 @@ fn task_for<F: Files>(alloc: Global, command: &Command, files: &mut F) -> Result
     ensures trace { IfOk result (λ task. (words : List (List ℕ)) → AsksFor words command.now
         → TracesAsAsked words task.trace) }
     ensures states { IfOk result (λ task. task.limits.states < 2 ^ 64) }
+    ensures order { IfOk result (λ task. task.order ≡ command.now.order) }
     ensures refused { IfErr result (λ status. (words : List (List ℕ)) → AsksFor words command.now
         → IsProgramRefusal words (F.held files.old) status) }
     ensures asked { (words : List (List ℕ)) → AsksFor words command.now

@@ -10,6 +10,8 @@ mod definitions;
 #[cfg(test)]
 mod devices;
 #[cfg(test)]
+mod expected;
+#[cfg(test)]
 mod formulas;
 #[cfg(test)]
 mod inputs;
@@ -39,6 +41,8 @@ mod tables;
 mod tokens;
 #[cfg(test)]
 mod told;
+#[cfg(test)]
+mod traces;
 #[cfg(test)]
 mod turns;
 #[cfg(test)]

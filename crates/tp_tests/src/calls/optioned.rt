@@ -1,5 +1,6 @@
 // Calls with options: inputs of a file, and limits.
 use crate::calls::status_of;
+use crate::expected::{same_bytes, same_number};
 use crate::tables::{cut, number};
 use std::alloc::Global;
 use std::process::Abort;
@@ -90,6 +91,27 @@ define p() = p(). run p().
 -> 4
 reduction limit: state 0: 1000 reductions
 
+run a.t --order first
+run skip and next(A=1 and A=2 and 1=2).
+;
+-> 1
+state 0:
+contradictory: state 1: A=1 and A=2
+
+run a.t --order last
+run skip and next(A=1 and A=2 and 1=2).
+;
+-> 1
+state 0:
+contradictory: state 1: false
+
+run a.t --order 1
+run skip and next(A=1 and A=2 and 1=2).
+;
+-> 1
+state 0:
+contradictory: state 1: false
+
 run a.t --order first --states 0000001 --reductions 1000000
 run empty.
 ;
@@ -162,8 +184,8 @@ fn expect_row(rt: &(impl Abort + AllocGlobal), row: &str) -> Result<(), Fail> {
     let words = words_in(alloc, words)?;
     let status = status_of(alloc, words.as_slice(), &mut files, &mut page)?;
     let text = format!(in alloc; "{text}\n")?;
-    assert_eq!(rt; str::from_utf8(page.text()), Ok(text.as_str()), "for {row}");
-    assert_eq!(rt; u32::from(status.code()), number(code)?, "for {row}");
+    same_bytes(rt, page.text(), text.as_str(), row);
+    same_number(rt, u64::from(status.code()), u64::from(number(code)?), row);
     Ok(())
 }
 
@@ -184,8 +206,8 @@ fn other_words_are_refused(rt: HostRuntime) -> Result<(), Fail> {
         let mut page = SurePage::new(alloc);
         let words = words_in(alloc, line)?;
         let status = status_of(alloc, words.as_slice(), &mut files, &mut page)?;
-        assert_eq!(rt; status.code(), 12, "for {line}");
-        assert_eq!(rt; page.text(), b"words refused\n".as_slice(), "for {line}");
+        same_number(&rt, u64::from(status.code()), 12, line);
+        same_bytes(&rt, page.text(), "words refused\n", line);
     }
     Ok(())
 }
