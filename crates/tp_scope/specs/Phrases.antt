@@ -2,7 +2,7 @@
 use Rattle.std.specs.Prelude.{ℕ, suc, ◌+◌, ◌&&◌, Bool, true, false, nat_eq, nat_lt, List, [], ◌++◌, ◌∷◌}
 use Rattle.tp_value.specs.Globals.{is_lower}
 use Rattle.tp_tree.specs.declared.operator.Op.{Op}
-use Rattle.tp_tree.specs.declared.operator.Op.TheVariants.{Chop, Proj, Gets, Arrow, Becomes}
+use Rattle.tp_tree.specs.declared.operator.Op.TheVariants.{Chop, Proj, Gets, Arrow, Becomes, Or, Equal, Differs, Less, LessEqual, Greater, GreaterEqual, Plus, Minus, Times, Div, Mod}
 use Rattle.tp_tree.specs.declared.operator.Form.{Form}
 use Rattle.tp_tree.specs.declared.operator.Form.TheVariants as f
 use Rattle.tp_tree.specs.Tree.{PhraseTree, phrase, KindTree, number, truth, name, list, size, index, minus, next, negation, binary, conjunction, choice, choice_else, while, repeat, for, forall, exists, bare, form, call, PhraseTrees, no_phrase, phrase_then}
@@ -14,7 +14,18 @@ is_state_operator Proj = false
 is_state_operator Gets = false
 is_state_operator Arrow = false
 is_state_operator Becomes = false
-is_state_operator o = true
+is_state_operator Or = true
+is_state_operator Equal = true
+is_state_operator Differs = true
+is_state_operator Less = true
+is_state_operator LessEqual = true
+is_state_operator Greater = true
+is_state_operator GreaterEqual = true
+is_state_operator Plus = true
+is_state_operator Minus = true
+is_state_operator Times = true
+is_state_operator Div = true
+is_state_operator Mod = true
 
 -- A state phrase says something of one state: it has none of `;`, `proj`, `gets`, `<-`, `:=`, `next`, loops, `for`, `forall`, `exists`, bare
 -- words, forms and `if` without `else`, and calls only what may be called from it.

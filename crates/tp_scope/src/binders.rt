@@ -1,5 +1,5 @@
 // Names that are bound together.
-ghost use Rattle.std.specs.Prelude.{◌≡◌, ◌∷◌, ◌++◌, [], false, length, position, bytes_eq, IfOk, OnOk};
+ghost use Rattle.std.specs.Prelude.{◌≡◌, ◌∷◌, ◌++◌, [], false, length, position, bytes_eq, IfOk, OnOk, OnErr};
 ghost use Rattle.std.specs.List.{list_any};
 ghost use Rattle.tp_scope.specs.Scope.{Names, bound_in, binder_of};
 ghost use Rattle.tp_scope.specs.Seen.{apart, binder_among};
@@ -69,7 +69,8 @@ impl Binders {
     /// Adds a name that isn't one of them, behind the others.
     pub fn add(&mut self, name: &Text) -> Result<(), NoMemory>
         requires { list_any (bytes_eq name.now) self.old ≡ false }
-        ensures { OnOk result (self.new ≡ self.old ++ name.now ∷ []) }
+        ensures ok { OnOk result (self.new ≡ self.old ++ name.now ∷ []) }
+        ensures err { OnErr result (self.new ≡ self.old) }
     {
         self.names.insert(name.copy()?)?;
         Ok(())

@@ -110,6 +110,12 @@ pub fn is_place(phrase: &Phrase) -> bool
     match &phrase.kind {
         PhraseKind::Name(_) => true,
         PhraseKind::Index(whole, _) => is_place(whole),
-        _ => false,
+        PhraseKind::Number(_) | PhraseKind::Truth(_) | PhraseKind::List(_) | PhraseKind::Size(_) =>
+            { false }
+        PhraseKind::Minus(_) | PhraseKind::Next(_) | PhraseKind::Not(_) => false,
+        PhraseKind::Binary(_, _, _) | PhraseKind::And(_) | PhraseKind::If(_, _, _) => false,
+        PhraseKind::While(_, _) | PhraseKind::Repeat(_, _) | PhraseKind::For(_, _, _) => false,
+        PhraseKind::Forall(_, _, _) | PhraseKind::Exists(_, _) => false,
+        PhraseKind::Bare(_) | PhraseKind::Form(_, _) | PhraseKind::Call(_, _) => false,
     }
 }

@@ -1,5 +1,5 @@
 // What a name stands for where it is read.
-ghost use Rattle.std.specs.Prelude.{◌≡◌, ◌+◌, ◌≤◌, IfOk, OnOk, length};
+ghost use Rattle.std.specs.Prelude.{◌≡◌, ◌+◌, ◌≤◌, ◌<◌, ◌^◌, IfOk, OnOk, OnErr, length};
 ghost use Rattle.tp_scope.specs.Scope.{binder_of};
 ghost use Rattle.tp_scope.specs.Seen.{names_bound, most_bound};
 
@@ -25,7 +25,8 @@ pub struct Visible<'a> {
 
 // How many names are bound.
 fn bound_count(scope: &Scope) -> Result<u32, NoMemory>
-    ensures { IfOk result (λ n. n ≡ length (names_bound scope.now)) }
+    ensures ok { IfOk result (λ n. n ≡ length (names_bound scope.now)) }
+    ensures err { OnErr result (2 ^ 32 ≤ length (names_bound scope.now)) }
 {
     match scope {
         Scope::Outermost => Ok(0),
@@ -37,9 +38,10 @@ fn bound_count(scope: &Scope) -> Result<u32, NoMemory>
 // level, on the machine's stack.
 const MOST_BOUND: u32 = 10_000;
 
-/// Want of memory, where more names would be bound in each other than the machine's stack has room for.
+/// Want of memory exactly where more names would be bound in each other than the machine's stack has room for.
 pub fn take_room(scope: &Scope, more: &Binders) -> Result<(), NoMemory>
-    ensures { OnOk result (length (names_bound scope.now) + length more.now ≤ most_bound) }
+    ensures ok { OnOk result (length (names_bound scope.now) + length more.now ≤ most_bound) }
+    ensures err { OnErr result (most_bound < length (names_bound scope.now) + length more.now) }
 {
     let count = sum_of(bound_count(scope)?, as_number(more.len())?)?;
     if count > MOST_BOUND {

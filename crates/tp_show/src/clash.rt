@@ -78,8 +78,10 @@ fn shape_leads(a: &Shape, b: &Shape) -> bool
         (Shape::Num(m), Shape::Num(n)) => m <= n,
         (Shape::Truth(x), Shape::Truth(y)) => !*x || *y,
         (Shape::Items(m), Shape::Items(n)) => m <= n,
-        (Shape::Num(_), _) | (Shape::Truth(_), Shape::Items(_)) => true,
-        _ => false,
+        (Shape::Num(_), Shape::Truth(_) | Shape::Items(_)) => true,
+        (Shape::Truth(_), Shape::Items(_)) => true,
+        (Shape::Truth(_) | Shape::Items(_), Shape::Num(_)) => false,
+        (Shape::Items(_), Shape::Truth(_)) => false,
     }
 }
 

@@ -27,7 +27,7 @@ pub struct LineParts {
 fn same_variable(x: VarId, y: VarId) -> bool
     ensures { result ≡ same_variable x y }
 {
-    x.number == y.number && x.lasting == y.lasting
+    x == y
 }
 
 // The indices begin with these, and go on.

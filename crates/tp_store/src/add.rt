@@ -144,7 +144,7 @@ fn add_in(alloc: Global, kept: &mut FactMap, facts: Vec<Fact>) -> Result<Facts, 
     ensures err { OnErr result (kept.new ≡ kept.old) }
 {
     check_in(alloc, kept, facts.as_slice())?;
-    let news = kept.copy_new(alloc, facts.as_slice())?;
+    let news = kept.new_of(alloc, facts)?;
     kept.add(alloc, news.as_slice())?;
     Ok(Facts { items: news })
 }

@@ -10,39 +10,20 @@ use tp_value::{Fact, Path, Shape, VarId};
 fn same_variable(x: VarId, y: VarId) -> bool
     ensures { result ≡ same_variable x y }
 {
-    x.number == y.number && x.lasting == y.lasting
-}
-
-fn same_indices(a: &[u32], b: &[u32]) -> bool
-    ensures { result ≡ same_indices a.now b.now }
-{
-    if a.len() != b.len() {
-        return false;
-    }
-    for i in 0..a.len() {
-        if a[i] != b[i] {
-            return false;
-        }
-    }
-    true
+    x == y
 }
 
 fn same_path(p: &Path, q: &Path) -> bool
     ensures { result ≡ same_path p.now q.now }
 {
-    same_variable(p.var, q.var) && same_indices(p.at.items.as_slice(), q.at.items.as_slice())
+    p == q
 }
 
 /// Whether the shapes are equal.
 pub fn same_shape(a: Shape, b: Shape) -> bool
     ensures { result ≡ same_shape a b }
 {
-    match (a, b) {
-        (Shape::Num(m), Shape::Num(n)) => m == n,
-        (Shape::Truth(x), Shape::Truth(y)) => x == y,
-        (Shape::Items(m), Shape::Items(n)) => m == n,
-        _ => false,
-    }
+    a == b
 }
 
 /// Whether the shape has an item with this index.
@@ -51,7 +32,7 @@ pub fn has_item(shape: Shape, index: u32) -> bool
 {
     match shape {
         Shape::Items(n) => index < n,
-        _ => false,
+        Shape::Num(_) | Shape::Truth(_) => false,
     }
 }
 

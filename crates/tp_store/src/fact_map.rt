@@ -175,16 +175,16 @@ impl FactMap {
         }))
     }
 
-    /// Equal facts to those of the list whose paths have no shape yet.
-    pub fn copy_new(&self, alloc: Global, facts: &[Fact]) -> Result<Vec<Fact>, NoMemory>
-        ensures news { IfOk result (λ news. news.items ≡ new_facts self.now facts.now) }
+    /// Those facts of the list whose paths have no shape yet.
+    pub fn new_of(&self, alloc: Global, facts: Vec<Fact>) -> Result<Vec<Fact>, NoMemory>
+        ensures news { IfOk result (λ news. news.items ≡ new_facts self.now facts.items) }
         ensures apart { NoClash self.now }
     {
         let shapes = &self.shapes;
         let mut news = Vec::new(alloc);
         for fact in facts {
             if shape_in(shapes, &fact.path).is_none() {
-                news.push(fact.copy()?)?;
+                news.push(fact)?;
             }
         }
         Ok(news)

@@ -154,7 +154,7 @@ fn last_number(phase: Phase) -> Option<Number>
 {
     match phase {
         Phase::Digits { number, .. } => Some(number),
-        _ => None,
+        Phase::Start | Phase::Between(_) | Phase::Minus { .. } | Phase::Word { .. } => None,
     }
 }
 

@@ -77,7 +77,7 @@ fn item(value: &Value, at: u32) -> Option<&Value>
                 None
             }
         }
-        _ => None,
+        Value::Num(_) | Value::Truth(_) => None,
     }
 }
 
@@ -105,11 +105,11 @@ pub fn same(a: &Value, b: &Value) -> bool
     match a {
         Value::Num(m) => match b {
             Value::Num(n) => *m == *n,
-            _ => false,
+            Value::Truth(_) | Value::List(_) => false,
         },
         Value::Truth(x) => match b {
             Value::Truth(y) => *x == *y,
-            _ => false,
+            Value::Num(_) | Value::List(_) => false,
         },
         Value::List(xs) => match b {
             Value::List(ys) => {
@@ -123,7 +123,7 @@ pub fn same(a: &Value, b: &Value) -> bool
                 }
                 true
             }
-            _ => false,
+            Value::Num(_) | Value::Truth(_) => false,
         },
     }
 }

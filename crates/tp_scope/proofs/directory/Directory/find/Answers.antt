@@ -22,5 +22,6 @@ returns c =
     let here : slice_get es i ≡ Some e = c.in-Some.ensures.entry in
     let found : called_of (signatures_seen c.args.self.now) name ≡ Some (called_by (0 + i) e) =
     called_is es name ∙ (ap (called_at 0 es) (sym c.in-Some.ensures.index) ∙ ap (option_map (called_by (0 + i))) here) in
-    let number : c.in_ok-as_number.field-0 ≡ 0 + i = omega arith in
+    let given : c.in_ok-as_number.field-0 ≡ i = c.in_ok-as_number.ensures.ok in
+    let number : c.in_ok-as_number.field-0 ≡ 0 + i = omega (arith, given) in
     subst (λ (o : Option Called). IsFound o (Some (record { number = c.in_ok-as_number.field-0; signature = c.in-Some.signature.now }))) (sym found) (number, refl, refl)
