@@ -81,8 +81,9 @@ abbrev pub of_operands : ℕ → Listed → Operands → Found
 of_operands at l all = found (phrase at (listed_kind l (phrases_of all.trees))) (all.height + 1)
 
 abbrev pub enclosed_tree : ℕ → Enclosure → PhraseTree → PhraseTree
+enclosed_tree at enclosure.Round a = a
+enclosed_tree at enclosure.Curly a = a
 enclosed_tree at enclosure.Size a = phrase at (t.size a)
-enclosed_tree at _ a = a
 
 abbrev pub of_enclosed : ℕ → Enclosure → Found → Found
 of_enclosed at e a = found (enclosed_tree at e a.tree) (a.height + 1)

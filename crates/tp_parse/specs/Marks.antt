@@ -138,7 +138,22 @@ symbol_start symbol.Bar = s.Enclosed Size
 symbol_start symbol.Less = s.List
 symbol_start symbol.Arrow = s.List
 symbol_start symbol.Differs = s.EmptyList
-symbol_start _ = s.Nothing
+symbol_start symbol.CloseRound = s.Nothing
+symbol_start symbol.CloseCurly = s.Nothing
+symbol_start symbol.OpenSquare = s.Nothing
+symbol_start symbol.CloseSquare = s.Nothing
+symbol_start symbol.Greater = s.Nothing
+symbol_start symbol.LessEqual = s.Nothing
+symbol_start symbol.GreaterEqual = s.Nothing
+symbol_start symbol.Equal = s.Nothing
+symbol_start symbol.Plus = s.Nothing
+symbol_start symbol.Minus = s.Nothing
+symbol_start symbol.Times = s.Nothing
+symbol_start symbol.Semicolon = s.Nothing
+symbol_start symbol.Comma = s.Nothing
+symbol_start symbol.Stop = s.Nothing
+symbol_start symbol.Colon = s.Nothing
+symbol_start symbol.Becomes = s.Nothing
 
 -- what a token begins where an operand is due
 abbrev pub start_of : Mark → Start
@@ -155,15 +170,18 @@ comma = m.Symbol symbol.Comma
 -- the level of the operands, and the mark after them
 abbrev pub listed_level : Listed → ℕ
 listed_level listed.List = sum_level
-listed_level _ = chop_level
+listed_level (listed.Form f) = chop_level
+listed_level (listed.Call x) = chop_level
 
 abbrev pub listed_close : Listed → Mark
 listed_close listed.List = m.Symbol symbol.Greater
-listed_close _ = m.Symbol symbol.CloseRound
+listed_close (listed.Form f) = m.Symbol symbol.CloseRound
+listed_close (listed.Call x) = m.Symbol symbol.CloseRound
 
 abbrev pub enclosed_level : Enclosure → ℕ
+enclosed_level Round = chop_level
+enclosed_level Curly = chop_level
 enclosed_level Size = sum_level
-enclosed_level _ = chop_level
 
 abbrev pub enclosed_close : Enclosure → Mark
 enclosed_close Round = m.Symbol symbol.CloseRound

@@ -216,6 +216,21 @@ fn symbol_start(symbol: Symbol) -> Start
         Symbol::Less => Start::List,
         Symbol::Arrow => Start::List,
         Symbol::Differs => Start::EmptyList,
-        _ => Start::Nothing,
+        Symbol::CloseRound
+        | Symbol::CloseCurly
+        | Symbol::OpenSquare
+        | Symbol::CloseSquare
+        | Symbol::Greater
+        | Symbol::LessEqual
+        | Symbol::GreaterEqual
+        | Symbol::Equal
+        | Symbol::Plus
+        | Symbol::Minus
+        | Symbol::Times
+        | Symbol::Semicolon
+        | Symbol::Comma
+        | Symbol::Stop
+        | Symbol::Colon
+        | Symbol::Becomes => Start::Nothing,
     }
 }

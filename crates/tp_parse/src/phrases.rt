@@ -114,7 +114,7 @@ pub fn of_enclosed(
             let operand = Box::new(alloc, operand.phrase)?;
             Ok(make(at, PhraseKind::Size(operand), raised))
         }
-        _ => Ok(Measured {
+        Enclosure::Round | Enclosure::Curly => Ok(Measured {
             phrase: operand.phrase,
             height: raised,
         }),
