@@ -1,5 +1,5 @@
 -- What a token is without its text, and what it does in a phrase. The levels of operators, and how they group, are those of tp_tree.
-use Rattle.std.specs.Prelude.{ℕ, Bool, true, false, ◌==◌, if◌then◌else◌}
+use Rattle.std.specs.Prelude.{ℕ, Bool, true, false, ◌==◌, if◌then◌else◌, Option, Some, None}
 use denote.Enum.Bare.{sameb}
 use Rattle.tp_lex.specs.declared.token.Kind.{Kind}
 use Rattle.tp_lex.specs.declared.token.Kind.TheVariants as kind
@@ -17,6 +17,8 @@ use Rattle.tp_parse.specs.declared.mark.Mark.{Mark}
 use Rattle.tp_parse.specs.declared.mark.Mark.TheVariants as m
 use Rattle.tp_parse.specs.declared.mark.Role.{Role}
 use Rattle.tp_parse.specs.declared.mark.Role.TheVariants.{Ends, Infix, Opens, Joins}
+use Rattle.tp_parse.specs.declared.mark.Prefix.{Prefix}
+use Rattle.tp_parse.specs.declared.mark.Prefix.TheVariants.{Not, Minus, Next}
 use Rattle.tp_parse.specs.declared.mark.Enclosure.{Enclosure}
 use Rattle.tp_parse.specs.declared.mark.Enclosure.TheVariants.{Round, Curly, Size}
 use Rattle.tp_parse.specs.declared.mark.Start.{Start}
@@ -54,12 +56,29 @@ second_half symbol.Arrow = symbol.Minus
 second_half symbol.GreaterEqual = symbol.Equal
 second_half x = x
 
+-- the operator before an operand that a token is, if it is one
+abbrev pub prefix_of : Mark → Option Prefix
+prefix_of (m.Word word.Not) = Some Not
+prefix_of (m.Word word.Next) = Some Next
+prefix_of (m.Symbol symbol.Minus) = Some Minus
+prefix_of _ = None
+
+abbrev pub level_of_prefix : Prefix → ℕ
+level_of_prefix Not = not_level
+level_of_prefix Minus = prefix_level
+level_of_prefix Next = prefix_level
+
+abbrev pub level_before : Option Prefix → ℕ
+level_before None = 0
+level_before (Some o) = level_of_prefix o
+
 -- the level of an operator before its operand, or 0
 abbrev pub before : Mark → ℕ
-before (m.Word word.Not) = not_level
-before (m.Word word.Next) = prefix_level
-before (m.Symbol symbol.Minus) = prefix_level
-before _ = 0
+before x = level_before (prefix_of x)
+
+-- the operator before an operand that a token is, where that is of this level
+unfoldable pub prefix_at : ℕ → Mark → Option Prefix
+prefix_at level mark = if before mark == level then prefix_of mark else None
 
 -- what a token does after an operand
 abbrev pub role_of : Mark → Role
