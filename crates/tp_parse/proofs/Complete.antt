@@ -1,6 +1,5 @@
 -- What is in the grammar is read.
 use Rattle.std.proofs.Common.{◌≡◌, ◌≢◌, ℕ, zero, suc, ◌-◌, ◌<◌, ◌≤◌, true, ◌⊎◌, inl, inr, [], ◌∷◌, length, drop, Ok, refl, sym, ap, subst, ◌∙◌, arith}
-use Rattle.std.proofs.lemmas.Bool.{eq-eqb, ne_eqb}
 use Rattle.tp_lex.specs.declared.token.Word.TheVariants as word
 use Rattle.tp_lex.specs.declared.token.Symbol.TheVariants as symbol
 use Rattle.tp_tree.specs.declared.operator.Op.{Op}
@@ -15,14 +14,14 @@ use Rattle.tp_parse.specs.declared.head.Listed.{Listed}
 use Rattle.tp_parse.specs.declared.head.Listed.TheVariants as l
 use Rattle.tp_parse.specs.declared.head.Head.{Head}
 use Rattle.tp_parse.specs.declared.head.Head.TheVariants as h
-use Rattle.tp_parse.specs.Marks.{role_at, before, start_of, listed_close, enclosed_close, middle}
+use Rattle.tp_parse.specs.Marks.{role_at, start_of, listed_close, enclosed_close, middle}
 use Rattle.tp_parse.specs.Input.{Tokens, Reader, mark, from, mark_due, past}
 use Rattle.tp_parse.specs.Head.{is_high}
 use Rattle.tp_parse.specs.Found.{Found, Operands, operand_then, then_operand, operands_of, of_infix, of_index, of_chain}
 use Rattle.tp_parse.specs.Reading as r
 use Rattle.tp_parse.specs.Grammar.{BeginsPrimary, number, truth, upper_name, lower_name, call, bare, form, empty_list, list, enclosure, if, while, repeat, for, forall, exists}
 use Rattle.tp_parse.specs.Grammar.{Parses, atom, listed, enclosed, if_then, if_else, paired, quantified, prefixed, level, Goes, ends, left, single, right, indexed, joins, Others, no_more, one_more, Listing, no_operands, operands}
-use Rattle.tp_parse.proofs.Marks.{same_yes, same_no, right_is, due_begins_none}
+use Rattle.tp_parse.proofs.Marks.{no_prefix_at, same_yes, same_no, right_is, due_begins_none}
 use Rattle.tp_parse.proofs.Shapes.{tall, taken, role_taken, shorter, passed, low_before, begins_some}
 use Rattle.tp_parse.proofs.Heads.{fine, expect_is, deepen_is, fits_is, admit_is, head_complete}
 use Rattle.tp_parse.proofs.Sound.{joined, joined_none, joined_more}
@@ -143,7 +142,7 @@ module _ (inner : ℕ → Reader Found) (room : ℕ) (complete : (k : ℕ) (ts :
   primary_is {ts} b some = rw (admit_is room (start_of (mark ts)) ts some, head_complete b) refl
 
   levels_complete : {k : ℕ} {ts rest : Tokens} {x : Found} → Parses k ts x rest → x.height ≤ suc room → r.levels inner room k ts ≡ Ok (x, rest)
-  unfolding r.levels r.choice r.else_part r.level r.prefix r.operations
+  unfolding r.levels r.choice r.else_part r.level r.prefixed r.operations
   levels_complete (atom b) low = primary_is b (λ q. absurd ((begins_low b q).0 _ refl))
   levels_complete (listed {mid = mid} {x = x} b o) low = primary_is b (λ q. absurd ((begins_low b q).1 _ refl)) ∙ rw (operands_is x o (omega arith)) refl
   levels_complete (enclosed {e = e} b d f) low = primary_is b (λ q. omega (arith, tall d)) ∙ rw (part_is (enclosed_close e) d (omega arith) f) refl
@@ -160,10 +159,10 @@ module _ (inner : ℕ → Reader Found) (room : ℕ) (complete : (k : ℕ) (ts :
       primary_is b (λ z. omega (arith, tall d)) ∙ rw (part_is (middle q) d (omega arith) f, complete chop_level (past next) y rest g (omega arith)) refl
   levels_complete {rest = rest} (quantified {mid = mid} {x = x} b d) low = primary_is b (λ q. omega (arith, tall d)) ∙ rw (complete chop_level mid x rest d (omega arith)) refl
   levels_complete {ts = ts} {rest = rest} (prefixed {k = k} {x = x} e d) low =
-      rw (eq-eqb (before (mark ts)) (suc k) e, deepen_is room ts (omega (arith, tall d)), complete (suc k) (drop 1 ts) x rest d (omega arith)) refl
+      rw (e, deepen_is room ts (omega (arith, tall d)), complete (suc k) (drop 1 ts) x rest d (omega arith)) refl
   levels_complete {ts = ts} {rest = rest} (level {k = k} {mid = mid} {x = x} d g) low =
       let grown = grows g in
-      rw (ne_eqb (before (mark ts)) (suc k) (λ q. absurd (omega (arith, low_before d, q))), levels_complete d (omega arith)) (go_complete g (length mid) (omega arith) (tall d) low)
+      rw (no_prefix_at (suc k) (mark ts) (λ q. absurd (omega (arith, low_before d, q))), levels_complete d (omega arith)) (go_complete g (length mid) (omega arith) (tall d) low)
 
 pub read_complete : (room k : ℕ) (ts : Tokens) (x : Found) (rest : Tokens) → Parses k ts x rest → x.height ≤ room → r.read room k ts ≡ Ok (x, rest)
 unfolding r.read

@@ -1,11 +1,10 @@
 -- No tree is higher than what was read with its parentheses.
 use Rattle.std.proofs.Common.{ℕ, ◌+◌, ◌≤◌, max, List, arith}
-use Rattle.tp_lex.specs.declared.token.Word.TheVariants as word
-use Rattle.tp_lex.specs.declared.token.Symbol.TheVariants as symbol
 use Rattle.tp_tree.specs.Tree.{PhraseTree, phrases_of, DefinitionTree, SourceTree}
 use Rattle.tp_tree.specs.Height.{height, under, greatest, highest, source_height}
 use Rattle.tp_parse.specs.declared.mark.Mark.{Mark}
-use Rattle.tp_parse.specs.declared.mark.Mark.TheVariants as m
+use Rattle.tp_parse.specs.declared.mark.Prefix.{Prefix}
+use Rattle.tp_parse.specs.declared.mark.Prefix.TheVariants as prefix
 use Rattle.tp_parse.specs.declared.mark.Enclosure.{Enclosure}
 use Rattle.tp_parse.specs.declared.mark.Enclosure.TheVariants.{Round, Curly, Size}
 use Rattle.tp_parse.specs.declared.head.Atom.{Atom}
@@ -14,7 +13,7 @@ use Rattle.tp_parse.specs.declared.head.Listed.{Listed}
 use Rattle.tp_parse.specs.declared.head.Listed.TheVariants as listed
 use Rattle.tp_parse.specs.declared.head.Pair.{Pair}
 use Rattle.tp_parse.specs.declared.head.Pair.TheVariants as pair
-use Rattle.tp_parse.specs.Input.{Tokens, mark, from}
+use Rattle.tp_parse.specs.Input.{Tokens, from}
 use Rattle.tp_parse.specs.Found.{Found, Operands, atom_kind, listed_kind, enclosed_tree, pair_kind, prefixed_kind, limit}
 use Rattle.tp_parse.specs.Grammar as g
 use Rattle.tp_parse.specs.Grammar.{Parses, Goes, Others, Listing, Sentence, Defines, Definitions, IsSource, Accepts}
@@ -42,10 +41,10 @@ pair_under pair.Repeat a b = omega arith
 pair_under (pair.For x) a b = omega arith
 pair_under (pair.Forall x) a b = omega arith
 
-prefixed_under : (x : Mark) (a : PhraseTree) → under (prefixed_kind x a) ≤ height a
-prefixed_under (m.Word word.Not) a = omega arith
-prefixed_under (m.Symbol symbol.Minus) a = omega arith
-prefixed_under _ a = omega arith
+prefixed_under : (o : Prefix) (a : PhraseTree) → under (prefixed_kind o a) ≤ height a
+prefixed_under prefix.Not a = omega arith
+prefixed_under prefix.Minus a = omega arith
+prefixed_under prefix.Next a = omega arith
 
 mutual
   phrase_low : {k : ℕ} {ts rest : Tokens} {x : Found} → Parses k ts x rest → height x.tree ≤ x.height
@@ -56,7 +55,7 @@ mutual
   phrase_low (g.if_else b d f h i j) = omega (arith, phrase_low d, phrase_low h, phrase_low j)
   phrase_low (g.paired {q = q} {x = x} {y = y} b d f h) = omega (arith, pair_under q x.tree y.tree, phrase_low d, phrase_low h)
   phrase_low (g.quantified b d) = omega (arith, phrase_low d)
-  phrase_low {ts = ts} (g.prefixed {x = x} e d) = omega (arith, prefixed_under (mark ts) x.tree, phrase_low d)
+  phrase_low (g.prefixed {o = o} {x = x} e d) = omega (arith, prefixed_under o x.tree, phrase_low d)
   phrase_low (g.level d h) = goes_low (phrase_low d) h
 
   goes_low : {k at : ℕ} {a t : Found} {ts rest : Tokens} → height a.tree ≤ a.height → Goes k at a ts t rest → height t.tree ≤ t.height

@@ -1,6 +1,6 @@
 -- Tests of marks, and what begins a phrase.
-use Rattle.std.proofs.Common.{◌≡◌, ◌≢◌, ℕ, ◌⊎◌, inl, inr, true, false, cond, eqb, refl, sym, ap, ap₂, ◌∙◌, rules}
-use Rattle.std.proofs.lemmas.Bool.{eqb-true}
+use Rattle.std.proofs.Common.{◌≡◌, ◌≢◌, ℕ, suc, ◌⊎◌, inl, inr, Option, Some, None, true, false, cond, eqb, refl, sym, ap, ap₂, ◌∙◌, rules, arith}
+use Rattle.std.proofs.lemmas.Bool.{eqb-true, ne_eqb, eq-eqb}
 use denote.Enum.Bare.{same_true, true_same}
 use Rattle.tp_lex.specs.contracts.token.Word as word_type
 use Rattle.tp_lex.specs.contracts.token.Symbol as symbol_type
@@ -13,9 +13,11 @@ use Rattle.tp_tree.specs.declared.operator.Grouping.{Grouping}
 use Rattle.tp_tree.specs.Levels.{op_level, grouping, level_right_of, right_level}
 use Rattle.tp_parse.specs.declared.mark.Mark.{Mark}
 use Rattle.tp_parse.specs.declared.mark.Mark.TheVariants as m
+use Rattle.tp_parse.specs.declared.mark.Prefix.{Prefix}
+use Rattle.tp_parse.specs.declared.mark.Prefix.TheVariants.{Not, Minus, Next}
 use Rattle.tp_parse.specs.declared.mark.Role.TheVariants.{Ends, Infix}
 use Rattle.tp_parse.specs.declared.mark.Start.TheVariants as s
-use Rattle.tp_parse.specs.Marks.{same, before, role_of, level_of, role_at, start_of}
+use Rattle.tp_parse.specs.Marks.{same, prefix_of, level_before, before, prefix_at, role_of, level_of, role_at, start_of}
 use Rattle.tp_parse.specs.Input.{half_mark}
 
 pub same_is : (a b : Mark) → same a b ≡ true → a ≡ b
@@ -43,6 +45,42 @@ same_not a b e is = let yes = same_yes a b is in cc
 
 pub same_no : (a b : Mark) → a ≢ b → same a b ≡ false
 same_no a b not = elim (same a b) as (λ r. same a b ≡ r → r ≡ false) [ true ↦ λ e. absurd (not (same_is a b e)) | false ↦ λ e. refl ] refl
+
+-- an operator before an operand stands at its own level
+pub prefix_level_is : (k : ℕ) (x : Mark) (o : Prefix) → prefix_at k x ≡ Some o → before x ≡ k
+unfolding prefix_at
+prefix_level_is k x o e = elim (eqb (before x) k) as (λ b. eqb (before x) k ≡ b → cond b (prefix_of x) None ≡ Some o → before x ≡ k) [
+  | true ↦ λ q f. eqb-true _ _ q
+  | false ↦ λ q f. absurd cc
+] refl e
+
+pub no_prefix_at : (k : ℕ) (x : Mark) → before x ≢ k → prefix_at k x ≡ None
+unfolding prefix_at
+no_prefix_at k x other = rw (ne_eqb (before x) k other) refl
+
+no_prefix : (p : Option Prefix) → level_before p ≡ 0 → p ≡ None
+no_prefix None e = refl
+no_prefix (Some Not) e = absurd (omega (arith, e))
+no_prefix (Some Minus) e = absurd (omega (arith, e))
+no_prefix (Some Next) e = absurd (omega (arith, e))
+
+pub some_prefix_at : (k : ℕ) (x : Mark) → before x ≡ suc k → prefix_at (suc k) x ≢ None
+unfolding prefix_at
+some_prefix_at k x own none =
+    let is : prefix_of x ≡ None = rw (eq-eqb (before x) (suc k) own) at none in
+    absurd (omega (arith, own, ap level_before is))
+
+-- none stands at level 0
+pub no_prefix_at_zero : (x : Mark) → prefix_at 0 x ≡ None
+unfolding prefix_at
+no_prefix_at_zero x = elim (eqb (before x) 0) as (λ b. eqb (before x) 0 ≡ b → cond b (prefix_of x) None ≡ None) [
+  | true ↦ λ q. no_prefix (prefix_of x) (eqb-true _ _ q)
+  | false ↦ λ q. refl
+] refl
+
+pub prefix_end : (k : ℕ) → prefix_at k m.End ≡ None
+unfolding prefix_at
+prefix_end k = elim (eqb 0 k) as (λ b. cond b (prefix_of m.End) None ≡ None) [ true ↦ refl | false ↦ refl ]
 
 -- an operator stands at its own level
 role_level : (k : ℕ) (x : Mark) (o : Op) → role_at k x ≡ Infix o → op_level o ≡ k

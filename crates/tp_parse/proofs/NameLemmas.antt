@@ -12,6 +12,8 @@ use Rattle.tp_tree.specs.Tree.{PhraseTree, PhraseTrees, phrases_of, DefinitionTr
 use Rattle.tp_tree.specs.Names.{phrase_names, kind_names, operand_names, definition_names, names_in_definitions, source_names}
 use Rattle.tp_parse.specs.declared.mark.Mark.{Mark}
 use Rattle.tp_parse.specs.declared.mark.Mark.TheVariants as m
+use Rattle.tp_parse.specs.declared.mark.Prefix.{Prefix}
+use Rattle.tp_parse.specs.declared.mark.Prefix.TheVariants as prefix
 use Rattle.tp_parse.specs.declared.mark.Enclosure.{Enclosure}
 use Rattle.tp_parse.specs.declared.mark.Enclosure.TheVariants.{Round, Curly, Size}
 use Rattle.tp_parse.specs.declared.mark.Start.TheVariants as s
@@ -100,10 +102,10 @@ enclosed_names at Size a = refl
 enclosed_names at Round a = refl
 enclosed_names at Curly a = refl
 
-prefixed_names : (x : Mark) (a : PhraseTree) → kind_names (prefixed_kind x a) ≡ phrase_names a
-prefixed_names (m.Word word.Not) a = refl
-prefixed_names (m.Symbol symbol.Minus) a = refl
-prefixed_names _ a = refl
+prefixed_names : (o : Prefix) (a : PhraseTree) → kind_names (prefixed_kind o a) ≡ phrase_names a
+prefixed_names prefix.Not a = refl
+prefixed_names prefix.Minus a = refl
+prefixed_names prefix.Next a = refl
 
 module _ (P : List ℕ → Type 0) where
   -- what is asked of tokens, and of what is read from them
@@ -222,9 +224,9 @@ module _ (P : List ℕ → Type 0) where
         let head = begins_held b are in
         let body = phrase_held d head.1 in
         (join xs (phrase_names x.tree) head.0 body.0, body.1)
-    phrase_held {ts = ts} (g.prefixed {x = x} e d) are =
+    phrase_held {ts = ts} (g.prefixed {o = o} {x = x} e d) are =
         let operand = phrase_held d (dropped ts are) in
-        (subst (All P) (sym (prefixed_names (mark ts) x.tree)) operand.0, operand.1)
+        (subst (All P) (sym (prefixed_names o x.tree)) operand.0, operand.1)
     phrase_held (g.level d f) are = let first = phrase_held d are in goes_held first.0 f first.1
 
     goes_held : {k at : ℕ} {a t : Found} {ts rest : Tokens} → Holds a.tree → Goes k at a ts t rest → Named ts → Holds t.tree × Named rest

@@ -1,5 +1,5 @@
 -- A source that is refused is refused by the tokens up to the one that the refusal names.
-use Rattle.std.proofs.Common.{◌≡◌, ◌≢◌, ℕ, zero, suc, ◌+◌, ◌-◌, ◌<◌, ◌≤◌, true, false, cond, eqb, List, [], ◌∷◌, ◌++◌, length, take, drop, Ok, Err, refl, sym, ap, subst, ◌∙◌, arith}
+use Rattle.std.proofs.Common.{◌≡◌, ◌≢◌, ℕ, zero, suc, ◌+◌, ◌-◌, ◌<◌, ◌≤◌, true, false, cond, List, [], ◌∷◌, ◌++◌, length, take, drop, Ok, Err, Some, None, refl, sym, ap, subst, ◌∙◌, arith}
 use Rattle.tp_lex.specs.declared.token.Word.TheVariants as word
 use Rattle.tp_lex.specs.declared.token.Symbol.TheVariants as symbol
 use Rattle.tp_tree.specs.declared.operator.Op.{Op}
@@ -7,6 +7,7 @@ use Rattle.tp_tree.specs.Levels.{chop_level, right_level}
 use Rattle.tp_tree.specs.Tree.{DefinitionTree, SourceTree}
 use Rattle.tp_parse.specs.declared.mark.Mark.{Mark}
 use Rattle.tp_parse.specs.declared.mark.Mark.TheVariants as m
+use Rattle.tp_parse.specs.declared.mark.Prefix.{Prefix}
 use Rattle.tp_parse.specs.declared.mark.Role.{Role}
 use Rattle.tp_parse.specs.declared.mark.Role.TheVariants.{Ends, Infix, Opens, Joins}
 use Rattle.tp_parse.specs.declared.mark.Start.{Start}
@@ -15,7 +16,7 @@ use Rattle.tp_parse.specs.declared.head.Head.{Head}
 use Rattle.tp_parse.specs.declared.head.Head.TheVariants as h
 use Rattle.tp_parse.specs.declared.head.Atom.TheVariants as atom
 use Rattle.tp_parse.specs.declared.head.Listed.TheVariants as listed
-use Rattle.tp_parse.specs.Marks.{same, kind_mark, before, role_at, start_of, comma, listed_level, listed_close, enclosed_level, enclosed_close, middle}
+use Rattle.tp_parse.specs.Marks.{same, kind_mark, prefix_at, role_at, start_of, comma, listed_level, listed_close, enclosed_level, enclosed_close, middle}
 use Rattle.tp_parse.specs.Input as input
 use Rattle.tp_parse.specs.Input.{Tokens, ReadOutcome, Reader, and_then, ◌>>=◌, pure, mark, from, first_number, first_name, mark_due, half_mark, past, sees, lower, any_name, names, names_from, expect, deepen}
 use Rattle.tp_parse.specs.Head.{name_or_call, counter, head_by, is_high, admit, begins, unfit}
@@ -252,27 +253,31 @@ module _ (inner : ℕ → Reader Found) (room : ℕ) (within : (k : ℕ) (ts : T
       ] (turn_fewer inner room sound k at left ts (x, v) eq))
 
   -- an operator before its operand, at a place
-  abbrev before_at : ℕ → Mark → ℕ → Reader Found
+  abbrev before_at : ℕ → Prefix → ℕ → Reader Found
   before_at at x i = λ vs. and_then (deepen room vs) (λ u ws. and_then (inner i (drop 1 ws)) (λ y zs. Ok (of_prefix at x y, zs)))
 
-  before_alike : (at : ℕ) (x : Mark) (i : ℕ) {n : ℕ} {ts us : Tokens} → 0 < n → Agrees n ts us → Alike n ts us (before_at at x i ts) (before_at at x i us)
+  before_alike : (at : ℕ) (x : Prefix) (i : ℕ) {n : ℕ} {ts us : Tokens} → 0 < n → Agrees n ts us → Alike n ts us (before_at at x i ts) (before_at at x i us)
   before_alike at x i some a =
       both _ _ (deepened_alike room some a) (λ u vs. w.bind _ (w.took_one vs) (λ v zs. w.bind _ (within i zs) (λ y ys. w.stays {x = of_prefix at x y} ys))) (λ u l r q eq lens pos b.
       after_take pos b (w.bind _ (within i (drop 1 r)) (λ y ys. w.stays {x = of_prefix at x y} ys)) (λ c pos2 d e.
       both _ _ (alike i _ _ _ pos2 d) (λ y ys. w.stays {x = of_prefix at x y} ys) (λ y l2 r2 q2 eq2 lens2 pos3 b3. stays_alike {x = of_prefix at x y} pos3 b3)))
 
-  prefix_alike : (i : ℕ) {n : ℕ} {ts us : Tokens} → 0 < n → Agrees n ts us → Alike n ts us (before_at (from ts) (mark ts) i ts) (before_at (from us) (mark us) i us)
-  prefix_alike i {n} {ts} {us} some a =
-      subst (λ (q : ℕ). Alike n ts us (before_at (from ts) (mark ts) i ts) (before_at q (mark us) i us)) (same_from some a)
-      (subst (λ (q : Mark). Alike n ts us (before_at (from ts) (mark ts) i ts) (before_at (from ts) q i us)) (same_mark some a) (before_alike (from ts) (mark ts) i some a))
+  prefixed_alike : (i : ℕ) (o : Prefix) {n : ℕ} {ts us : Tokens} → 0 < n → Agrees n ts us → Alike n ts us (r.prefixed inner room i o ts) (r.prefixed inner room i o us)
+  unfolding r.prefixed
+  prefixed_alike i o {n} {ts} {us} some a =
+      subst (λ (q : ℕ). Alike n ts us (before_at (from ts) o i ts) (before_at q o i us)) (same_from some a) (before_alike (from ts) o i some a)
 
   levels_alike : (k : ℕ) {n : ℕ} {ts us : Tokens} → 0 < n → Agrees n ts us → Alike n ts us (r.levels inner room k ts) (r.levels inner room k us)
-  unfolding r.levels r.level r.prefix r.operations
+  unfolding r.levels r.level r.operations
   levels_alike zero some a = primary_alike some a
   levels_alike (suc k) {n} {ts} {us} some a =
-      chosen_alike (eqb (before (mark ts)) (suc k)) (eqb (before (mark us)) (suc k)) (ap (λ q. eqb (before q) (suc k)) (same_mark some a)) (prefix_alike (suc k) some a)
-      (both _ _ (levels_alike k some a) (λ x vs. w.go_within inner room within (suc k) (from ts) (length vs) x vs) (λ x l v z eq lens pos b.
-      subst (λ (at : ℕ). Alike l v z (r.go inner room (suc k) (from ts) (length v) x v) (r.go inner room (suc k) at (length z) x z)) (same_from some a) (go_alike (suc k) (from ts) (length v) (length z) x pos b (omega arith) (omega arith))))
+      let lower = r.levels inner room k in
+      subst (λ (q : Mark). Alike n ts us (r.level_by inner room (suc k) lower (prefix_at (suc k) (mark ts)) ts) (r.level_by inner room (suc k) lower (prefix_at (suc k) q) us)) (same_mark some a)
+      (elim (prefix_at (suc k) (mark ts)) as (λ p. Alike n ts us (r.level_by inner room (suc k) lower p ts) (r.level_by inner room (suc k) lower p us)) [
+        | Some o ↦ prefixed_alike (suc k) o some a
+        | None ↦ both _ _ (levels_alike k some a) (λ x vs. w.go_within inner room within (suc k) (from ts) (length vs) x vs) (λ x l v z eq lens pos b.
+            subst (λ (at : ℕ). Alike l v z (r.go inner room (suc k) (from ts) (length v) x v) (r.go inner room (suc k) at (length z) x z)) (same_from some a) (go_alike (suc k) (from ts) (length v) (length z) x pos b (omega arith) (omega arith)))
+      ])
 
 read_alike : (room k : ℕ) {n : ℕ} {ts us : Tokens} → 0 < n → Agrees n ts us → Alike n ts us (r.read room k ts) (r.read room k us)
 unfolding r.read

@@ -1,5 +1,5 @@
 -- A phrase has a height, and leaves no more tokens than there were.
-use Rattle.std.proofs.Common.{◌≡◌, ◌≢◌, ℕ, ◌<◌, ◌≤◌, true, false, cond, eqb, List, [], ◌∷◌, length, drop, refl, sym, ◌∙◌, arith}
+use Rattle.std.proofs.Common.{◌≡◌, ◌≢◌, ℕ, suc, ◌<◌, ◌≤◌, true, false, cond, eqb, List, [], ◌∷◌, length, drop, refl, sym, ◌∙◌, arith}
 use Rattle.tp_parse.specs.declared.mark.Mark.{Mark}
 use Rattle.tp_parse.specs.declared.mark.Mark.TheVariants as m
 use Rattle.tp_parse.specs.declared.mark.Role.{Role}
@@ -11,7 +11,7 @@ use Rattle.tp_parse.specs.Input.{Tokens, mark, mark_due, past, left_of}
 use Rattle.tp_parse.specs.Found.{Found, Operands}
 use Rattle.tp_parse.specs.Grammar.{ReadsNames, last_name, name_then, BeginsPrimary, number, truth, upper_name, lower_name, call, bare, form, empty_list, list, enclosure, if, while, repeat, for, forall, exists}
 use Rattle.tp_parse.specs.Grammar.{Parses, atom, listed, enclosed, if_then, if_else, paired, quantified, prefixed, level, Goes, ends, left, single, right, indexed, joins, Others, no_more, one_more, Listing, no_operands, operands}
-use Rattle.tp_parse.proofs.Marks.{start_plain, BeginsNone}
+use Rattle.tp_parse.proofs.Marks.{prefix_level_is, start_plain, BeginsNone}
 
 mutual
   pub tall : {k : ℕ} {ts rest : Tokens} {x : Found} → Parses k ts x rest → 0 < x.height
@@ -140,7 +140,7 @@ low_before (if_then b d f g i) = omega (arith, start_plain _ (begins_start b))
 low_before (if_else b d f g i j) = omega (arith, start_plain _ (begins_start b))
 low_before (paired b d f g) = omega (arith, start_plain _ (begins_start b))
 low_before (quantified b d) = omega (arith, start_plain _ (begins_start b))
-low_before (prefixed e d) = omega (arith, e)
+low_before {ts = ts} (prefixed {k = k} {o = o} e d) = omega (arith, prefix_level_is (suc k) (mark ts) o e)
 low_before (level d g) = omega (arith, low_before d)
 
 -- a phrase begins with what begins one
@@ -152,5 +152,5 @@ begins_some (if_then b d f g i) none = begins_start b none.0
 begins_some (if_else b d f g i j) none = begins_start b none.0
 begins_some (paired b d f g) none = begins_start b none.0
 begins_some (quantified b d) none = begins_start b none.0
-begins_some (prefixed e d) none = absurd (omega (arith, e, none.1))
+begins_some {ts = ts} (prefixed {k = k} {o = o} e d) none = absurd (omega (arith, prefix_level_is (suc k) (mark ts) o e, none.1))
 begins_some (level d g) none = begins_some d none

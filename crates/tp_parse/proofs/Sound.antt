@@ -1,6 +1,5 @@
 -- What is read is in the grammar.
-use Rattle.std.proofs.Common.{◌≡◌, ◌≢◌, ℕ, zero, suc, ◌-◌, ◌<◌, ◌≤◌, max, Bool, true, false, inl, inr, eqb, [], ◌∷◌, ◌++◌, length, drop, Ok, refl, sym, ap, subst, ◌∙◌, arith, append_assoc}
-use Rattle.std.proofs.lemmas.Bool.{eqb-true}
+use Rattle.std.proofs.Common.{◌≡◌, ◌≢◌, ℕ, zero, suc, ◌-◌, ◌<◌, ◌≤◌, max, Bool, true, false, inl, inr, [], ◌∷◌, ◌++◌, length, drop, Ok, Some, None, refl, sym, ap, subst, ◌∙◌, arith, append_assoc}
 use Rattle.std.proofs.lemmas.List.{append-nil}
 use Rattle.tp_lex.specs.declared.token.Word.TheVariants as word
 use Rattle.tp_lex.specs.declared.token.Symbol.TheVariants as symbol
@@ -14,7 +13,7 @@ use Rattle.tp_parse.specs.declared.mark.Role.{Role}
 use Rattle.tp_parse.specs.declared.mark.Role.TheVariants.{Ends, Infix, Opens, Joins}
 use Rattle.tp_parse.specs.declared.head.Head.{Head}
 use Rattle.tp_parse.specs.declared.head.Head.TheVariants as h
-use Rattle.tp_parse.specs.Marks.{role_at, before, same, start_of, comma, listed_level, listed_close, enclosed_level, enclosed_close, middle}
+use Rattle.tp_parse.specs.Marks.{role_at, prefix_at, same, start_of, comma, listed_level, listed_close, enclosed_level, enclosed_close, middle}
 use Rattle.tp_parse.specs.Input.{Tokens, Reader, and_then, ◌>>=◌, pure, mark, from, mark_due, past, sees}
 use Rattle.tp_parse.specs.Head.{head_by}
 use Rattle.tp_parse.specs.Found.{Found, Operands, no_operand, operand_then, then_operand, operands_of, of_atom, of_operands, of_enclosed, of_choice, of_choice_else, of_pair, of_exists, of_prefix, of_infix, of_index, of_chain}
@@ -237,21 +236,21 @@ module _ (inner : ℕ → Reader Found) (room : ℕ) (sound : (k : ℕ) (ts : To
       ]
 
   levels_sound : (k : ℕ) (ts : Tokens) (p : Found × Tokens) → r.levels inner room k ts ≡ Ok p → Is (suc room) k ts p
-  unfolding r.levels r.level r.prefix r.operations
+  unfolding r.levels r.level r.prefixed r.operations
   levels_sound zero ts p e = primary_sound ts p e
   levels_sound (suc k) ts p e =
-      elim (chosen (eqb (before (mark ts)) (suc k)) _ _ _ e) [
-        | inl w ↦
-            let a = deepen_then room ts _ p w.1 in
+      elim (prefix_at (suc k) (mark ts)) as (λ q. prefix_at (suc k) (mark ts) ≡ q → r.level_by inner room (suc k) (r.levels inner room k) q ts ≡ Ok p → Is (suc room) (suc k) ts p) [
+        | Some o ↦ λ own w.
+            let a = deepen_then room ts _ p w in
             let b = bind_ok (inner (suc k) (drop 1 ts)) _ p a in
             let is = sound (suc k) (drop 1 ts) b.0 b.1 in
-            moved (of_prefix (from ts) (mark ts) b.0.0, b.0.1) p b.2 (prefixed (eqb-true _ _ w.0) is.0, omega (arith, is.1))
-        | inr w ↦
-            let a = bind_ok (r.levels inner room k ts) _ p w.1 in
+            moved (of_prefix (from ts) o b.0.0, b.0.1) p b.2 (prefixed own is.0, omega (arith, is.1))
+        | None ↦ λ own w.
+            let a = bind_ok (r.levels inner room k ts) _ p w in
             let is = levels_sound k ts a.0 a.1 in
             let goes = go_sound (suc k) (from ts) (length a.0.1) a.0.0 a.0.1 p (omega arith) is.1 a.2 in
             (level is.0 goes.0, goes.1)
-      ]
+      ] refl e
 
 pub read_sound : (room k : ℕ) (ts : Tokens) (p : Found × Tokens) → r.read room k ts ≡ Ok p → Is room k ts p
 unfolding r.read

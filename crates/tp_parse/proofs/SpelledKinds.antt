@@ -15,14 +15,14 @@ use Rattle.tp_tree.specs.Tree as t
 use Rattle.tp_tree.specs.Tree.{PhraseTree, phrase, KindTree, PhraseTrees, no_phrase, phrase_then, phrases_of}
 use Rattle.tp_tree.specs.declared.operator.Grouping.TheVariants.{Left, Single, Right}
 use Rattle.tp_tree.specs.Levels.{op_level, grouping}
-use Rattle.tp_tree.specs.Places.{unplaced, unplaced_kind}
+use Rattle.tp_tree.specs.Places.{unplaced}
 use Rattle.tp_parse.specs.declared.mark.Mark.TheVariants as m
+use Rattle.tp_parse.specs.declared.mark.Prefix.TheVariants as prefix
 use Rattle.tp_parse.specs.declared.mark.Enclosure.TheVariants as enclosure
 use Rattle.tp_parse.specs.declared.mark.Role.TheVariants.{Ends, Infix, Opens, Joins}
 use Rattle.tp_parse.specs.declared.mark.Start.TheVariants as s
-use Rattle.tp_parse.specs.Marks.{kind_mark, before, role_of, role_at, level_of, start_of}
+use Rattle.tp_parse.specs.Marks.{kind_mark, prefix_at, role_of, role_at, level_of, start_of}
 use Rattle.tp_parse.specs.Input.{Tokens, past}
-use Rattle.tp_parse.specs.Found.{prefixed_kind}
 use Rattle.tp_parse.specs.Grammar as g
 use Rattle.tp_parse.specs.Grammar.{Parses, open_round}
 use Rattle.tp_parse.specs.Spelled.{token_kinds, op_kind, bare_kind, form_kind, open_kind, close_kind, operand_kinds, more_operands, HasTwo, HasName}
@@ -136,29 +136,32 @@ size_is x is = record {
 -- ---- operators before an operand
 
 pub minus_is : (x : PhraseTree) → IsOperand x → IsKind (t.minus x)
+unfolding prefix_at
 minus_is x is = record {
   low = omega arith;
   reads = λ ts ks e st. (let h = next_is ts (kind.Symbol symbol.Minus) _ e in
       let r = is.reads 2 (drop 1 ts) ks h.later st in
-      record { found = _; rest = r.rest; parses = g.prefixed (ap before h.mark) r.parses; left = r.left; same = ap (λ y. phrase 0 (unplaced_kind (prefixed_kind y r.found.tree))) h.mark ∙ ap (λ u. phrase 0 (t.minus u)) r.same });
+      record { found = _; rest = r.rest; parses = g.prefixed {o = prefix.Minus} (ap (prefix_at 2) h.mark) r.parses; left = r.left; same = ap (λ u. phrase 0 (t.minus u)) r.same });
   opens = λ lf ts ks e st. absurd cc;
 }
 
 pub next_phrase_is : (x : PhraseTree) → IsOperand x → IsKind (t.next x)
+unfolding prefix_at
 next_phrase_is x is = record {
   low = omega arith;
   reads = λ ts ks e st. (let h = next_is ts (kind.Word word.Next) _ e in
       let r = is.reads 2 (drop 1 ts) ks h.later st in
-      record { found = _; rest = r.rest; parses = g.prefixed (ap before h.mark) r.parses; left = r.left; same = ap (λ y. phrase 0 (unplaced_kind (prefixed_kind y r.found.tree))) h.mark ∙ ap (λ u. phrase 0 (t.next u)) r.same });
+      record { found = _; rest = r.rest; parses = g.prefixed {o = prefix.Next} (ap (prefix_at 2) h.mark) r.parses; left = r.left; same = ap (λ u. phrase 0 (t.next u)) r.same });
   opens = λ lf ts ks e st. absurd cc;
 }
 
 pub negation_is : (x : PhraseTree) → IsOperand x → IsKind (t.negation x)
+unfolding prefix_at
 negation_is x is = record {
   low = omega arith;
   reads = λ ts ks e st. (let h = next_is ts (kind.Word word.Not) _ e in
       let r = is.reads 6 (drop 1 ts) ks h.later st in
-      record { found = _; rest = r.rest; parses = g.prefixed (ap before h.mark) r.parses; left = r.left; same = ap (λ y. phrase 0 (unplaced_kind (prefixed_kind y r.found.tree))) h.mark ∙ ap (λ u. phrase 0 (t.negation u)) r.same });
+      record { found = _; rest = r.rest; parses = g.prefixed {o = prefix.Not} (ap (prefix_at 6) h.mark) r.parses; left = r.left; same = ap (λ u. phrase 0 (t.negation u)) r.same });
   opens = λ lf ts ks e st. absurd cc;
 }
 

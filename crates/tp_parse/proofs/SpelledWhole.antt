@@ -8,6 +8,8 @@ use Rattle.tp_tree.specs.Tree.{PhraseTree, PhraseTrees, phrases_of, DefinitionTr
 use Rattle.tp_parse.specs.declared.mark.Mark.{Mark}
 use Rattle.tp_parse.specs.declared.mark.Mark.TheVariants as m
 use Rattle.tp_parse.specs.declared.mark.Role.TheVariants.{Ends, Joins}
+use Rattle.tp_parse.specs.declared.mark.Prefix.{Prefix}
+use Rattle.tp_parse.specs.declared.mark.Prefix.TheVariants as prefix
 use Rattle.tp_parse.specs.declared.mark.Enclosure.{Enclosure}
 use Rattle.tp_parse.specs.declared.mark.Enclosure.TheVariants.{Round, Curly, Size}
 use Rattle.tp_parse.specs.declared.head.Atom.{Atom}
@@ -47,10 +49,10 @@ pair_whole pair.Repeat a b v w = (v, w)
 pair_whole (pair.For x) a b v w = (v, w)
 pair_whole (pair.Forall x) a b v w = (v, w)
 
-prefixed_whole : (x : Mark) (a : PhraseTree) → IsWhole a → IsWholeKind (prefixed_kind x a)
-prefixed_whole (m.Word word.Not) a w = w
-prefixed_whole (m.Symbol symbol.Minus) a w = w
-prefixed_whole _ a w = w
+prefixed_whole : (o : Prefix) (a : PhraseTree) → IsWhole a → IsWholeKind (prefixed_kind o a)
+prefixed_whole prefix.Not a w = w
+prefixed_whole prefix.Minus a w = w
+prefixed_whole prefix.Next a w = w
 
 some_names : {ts rest : Tokens} {xs : List (List ℕ)} → ReadsNames ts xs rest → HasName xs
 some_names (g.last_name n e) = tt
@@ -97,7 +99,7 @@ mutual
   phrase_whole (g.if_else b d t e n f) = (phrase_whole d, phrase_whole e, phrase_whole f)
   phrase_whole (g.paired {q = q} {x = x} {y = y} b d f e) = pair_whole q x.tree y.tree (phrase_whole d) (phrase_whole e)
   phrase_whole (g.quantified b d) = (exists_named b, phrase_whole d)
-  phrase_whole {ts = ts} (g.prefixed {x = x} e d) = prefixed_whole (mark ts) x.tree (phrase_whole d)
+  phrase_whole (g.prefixed {o = o} {x = x} e d) = prefixed_whole o x.tree (phrase_whole d)
   phrase_whole (g.level d f) = goes_whole (phrase_whole d) f
 
   goes_whole : {k at : ℕ} {a t : Found} {ts rest : Tokens} → IsWhole a.tree → Goes k at a ts t rest → IsWhole t.tree

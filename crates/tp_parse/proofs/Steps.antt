@@ -1,17 +1,12 @@
 -- Reading at a level by the level below it, and turns of a reader beside a loop that counts up.
 use Rattle.std.proofs.Common.{◌≡◌, ℕ, zero, suc, ◌+◌, ◌-◌, ◌<◌, ◌≤◌, refl, ap, subst, ◌∙◌, arith}
-use Rattle.std.proofs.Common.{Ok, Err}
-use Rattle.std.proofs.lemmas.Bool.{ne_eqb, eq-eqb}
-use Rattle.tp_parse.specs.Marks.{before}
+use Rattle.std.proofs.Common.{Ok, Err, Some, None}
+use Rattle.tp_parse.specs.Marks.{before, prefix_at}
 use Rattle.tp_parse.specs.declared.refusal.Refusal.{Refusal}
 use Rattle.tp_parse.specs.Input.{Tokens, Reader, mark, from}
 use Rattle.tp_parse.specs.Found.{Found}
-use Rattle.tp_parse.specs.Reading.{read, levels, level, first, prefix, operations}
-
-pub first_above : (inner : ℕ → Reader Found) (room k : ℕ) → 0 < k → first inner room k ≡ prefix inner room k
-unfolding first
-first_above inner room zero some = absurd (omega arith)
-first_above inner room (suc k) some = refl
+use Rattle.tp_parse.specs.Reading.{read, levels, level, level_by, first, first_by, operations}
+use Rattle.tp_parse.proofs.Marks.{no_prefix_at, no_prefix_at_zero, some_prefix_at}
 
 -- no operator before the phrase is of a level from one to another
 abbrev pub NoneBetween : ℕ → ℕ → Tokens → Type 0
@@ -25,15 +20,19 @@ read_levels (suc room) k ts some = let one : suc room - 1 ≡ room = omega arith
 module _ (inner : ℕ → Reader Found) (room : ℕ) where
   pub levels_first : (k : ℕ) (ts : Tokens) → (0 < k → before (mark ts) ≡ k) → levels inner room k ts ≡ first inner room k ts
   unfolding levels level first
-  levels_first zero ts own = refl
-  levels_first (suc k) ts own = let e : before (mark ts) ≡ suc k = own (omega arith) in rw (eq-eqb (before (mark ts)) (suc k) e) refl
+  levels_first zero ts own = rw (no_prefix_at_zero (mark ts)) refl
+  levels_first (suc k) ts own = let e : before (mark ts) ≡ suc k = own (omega arith) in
+      elim (prefix_at (suc k) (mark ts)) as (λ p. prefix_at (suc k) (mark ts) ≡ p → level_by inner room (suc k) (levels inner room k) p ts ≡ first_by inner room (suc k) p ts) [
+        | None ↦ λ none. absurd (some_prefix_at k (mark ts) e none)
+        | Some o ↦ λ is. refl
+      ] refl
 
   pub level_next : (low high : ℕ) (ts rest : Tokens) (x : Found) → NoneBetween low high ts → low < high → levels inner room low ts ≡ Ok (x, rest)
       → levels inner room (low + 1) ts ≡ operations inner room (low + 1) (from ts) x rest
   unfolding levels level
   level_next low high ts rest x others lt e =
       let one : low + 1 ≡ suc low = omega arith in
-      rw (one, ne_eqb (before (mark ts)) (suc low) (others low (omega arith) lt), e) refl
+      rw (one, no_prefix_at (suc low) (mark ts) (others low (omega arith) lt), e) refl
 
   err_up : (n low high : ℕ) (ts : Tokens) (e : Refusal) → NoneBetween low high ts → n + low ≤ high → levels inner room low ts ≡ Err e → levels inner room (n + low) ts ≡ Err e
   unfolding levels level
@@ -41,7 +40,7 @@ module _ (inner : ℕ → Reader Found) (room : ℕ) where
   err_up (suc n) low high ts e others le is =
       let same : suc n + low ≡ suc (n + low) = omega arith in
       let before_it = err_up n low high ts e others (omega arith) is in
-      rw (same, ne_eqb (before (mark ts)) (suc (n + low)) (others (n + low) (omega arith) (omega arith)), before_it) refl
+      rw (same, no_prefix_at (suc (n + low)) (mark ts) (others (n + low) (omega arith) (omega arith)), before_it) refl
 
   pub err_last : (low high : ℕ) (ts : Tokens) (e : Refusal) → NoneBetween low high ts → low ≤ high → levels inner room low ts ≡ Err e → levels inner room high ts ≡ Err e
   err_last low high ts e others le is =

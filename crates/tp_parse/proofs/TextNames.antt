@@ -25,6 +25,8 @@ use Rattle.tp_tree.specs.Tree.{PhraseTree, PhraseTrees, phrases_of, DefinitionTr
 use Rattle.tp_parse.specs.declared.mark.Mark.{Mark}
 use Rattle.tp_parse.specs.declared.mark.Mark.TheVariants as m
 use Rattle.tp_parse.specs.declared.mark.Start.TheVariants as s
+use Rattle.tp_parse.specs.declared.mark.Prefix.{Prefix}
+use Rattle.tp_parse.specs.declared.mark.Prefix.TheVariants as prefix
 use Rattle.tp_parse.specs.declared.mark.Enclosure.{Enclosure}
 use Rattle.tp_parse.specs.declared.mark.Enclosure.TheVariants.{Round, Curly, Size}
 use Rattle.tp_parse.specs.declared.head.Listed.{Listed}
@@ -256,10 +258,10 @@ pair_text pair.Repeat a b is v w = (v, w)
 pair_text (pair.For x) a b is v w = (is, v, w)
 pair_text (pair.Forall x) a b is v w = (is, v, w)
 
-prefixed_text : (x : Mark) (a : PhraseTree) → IsSpellable a → IsSpellableKind (prefixed_kind x a)
-prefixed_text (m.Word word.Not) a w = w
-prefixed_text (m.Symbol symbol.Minus) a w = w
-prefixed_text _ a w = w
+prefixed_text : (o : Prefix) (a : PhraseTree) → IsSpellable a → IsSpellableKind (prefixed_kind o a)
+prefixed_text prefix.Not a w = w
+prefixed_text prefix.Minus a w = w
+prefixed_text prefix.Next a w = w
 
 head_text : {ts rest : Tokens} {x : Head} → BeginsPrimary ts x rest → AreTokenTexts ts → IsHeadText x × AreTokenTexts rest
 head_text {ts} (g.number e) are = (number_of ts are (starts_number (mark ts) e), dropped ts are)
@@ -309,9 +311,9 @@ mutual
       let head = head_text b are in
       let body = phrase_text d head.1 in
       ((head.0, body.0), body.1)
-  phrase_text {ts = ts} (g.prefixed {x = x} e d) are =
+  phrase_text {ts = ts} (g.prefixed {o = o} {x = x} e d) are =
       let operand = phrase_text d (dropped ts are) in
-      (prefixed_text (mark ts) x.tree operand.0, operand.1)
+      (prefixed_text o x.tree operand.0, operand.1)
   phrase_text (g.level d f) are = let first = phrase_text d are in goes_text first.0 f first.1
 
   goes_text : {k at : ℕ} {a t : Found} {ts rest : Tokens} → IsSpellable a.tree → Goes k at a ts t rest → AreTokenTexts ts → IsSpellable t.tree × AreTokenTexts rest

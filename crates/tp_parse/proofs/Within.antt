@@ -1,6 +1,5 @@
 -- A reader leaves no more tokens than there were, and a refusal names one of them.
-use Rattle.std.proofs.Common.{◌≡◌, ◌≢◌, ℕ, zero, suc, ◌-◌, ◌<◌, ◌≤◌, Bool, true, false, cond, ◌||◌, leb, eqb, List, [], ◌∷◌, ◌++◌, length, drop, Ok, Err, refl, arith}
-use Rattle.std.proofs.lemmas.Bool.{eqb-true}
+use Rattle.std.proofs.Common.{◌≡◌, ◌≢◌, ℕ, zero, suc, ◌-◌, ◌<◌, ◌≤◌, Bool, true, false, cond, ◌||◌, leb, List, [], ◌∷◌, ◌++◌, length, drop, Ok, Err, Some, None, refl, arith}
 use Rattle.tp_lex.specs.declared.token.Word.TheVariants as word
 use Rattle.tp_lex.specs.declared.token.Symbol.TheVariants as symbol
 use Rattle.tp_tree.specs.Tree.{DefinitionTree, SourceTree}
@@ -18,7 +17,7 @@ use Rattle.tp_parse.specs.declared.head.Head.{Head}
 use Rattle.tp_parse.specs.declared.head.Head.TheVariants as h
 use Rattle.tp_parse.specs.declared.head.Atom.TheVariants as atom
 use Rattle.tp_parse.specs.declared.head.Listed.TheVariants as listed
-use Rattle.tp_parse.specs.Marks.{same, before, role_at, start_of, comma, listed_level, listed_close, enclosed_level, enclosed_close, middle}
+use Rattle.tp_parse.specs.Marks.{same, prefix_at, role_at, start_of, comma, listed_level, listed_close, enclosed_level, enclosed_close, middle}
 use Rattle.tp_parse.specs.Input as input
 use Rattle.tp_parse.specs.Input.{Tokens, ReadOutcome, Reader, and_then, ◌>>=◌, pure, mark, from, first_name, refuse, too_deep, mark_due, past, sees, take, taken_name, lower, any_name, names, names_from, expect, deepen}
 use Rattle.tp_parse.specs.Head.{name_or_call, counter, head_by, is_high, admit, begins, unfit}
@@ -27,6 +26,7 @@ use Rattle.tp_parse.specs.Reading as r
 use Rattle.tp_parse.specs.Reading.{fits, goes_on}
 use Rattle.tp_parse.specs.Source as source
 use Rattle.tp_parse.proofs.Shapes.{dropped, passed, role_end}
+use Rattle.tp_parse.proofs.Marks.{prefix_end}
 
 -- a refusal where so many tokens are left
 abbrev pub Names : ℕ → Refusal → Type 0
@@ -174,10 +174,10 @@ unfolding mark
 some_by_role k [] not = absurd (not (role_end k))
 some_by_role k (t ∷ ts) not = omega arith
 
-pub some_by_before : (k : ℕ) (ts : Tokens) → eqb (before (mark ts)) (suc k) ≡ true → 0 < length ts
+pub some_by_prefix : (k : ℕ) (ts : Tokens) → prefix_at k (mark ts) ≢ None → 0 < length ts
 unfolding mark
-some_by_before k [] e = absurd (omega (arith, eqb-true 0 (suc k) e))
-some_by_before k (t ∷ ts) e = omega arith
+some_by_prefix k [] some = absurd (some (prefix_end k))
+some_by_prefix k (t ∷ ts) some = omega arith
 
 module _ (inner : ℕ → Reader Found) (room : ℕ) (within : (k : ℕ) (ts : Tokens) → Within ts (inner k ts)) where
   pub parted : (k : ℕ) (close : Mark) (ts : Tokens) → Within ts (r.part inner room k close ts)
@@ -240,13 +240,12 @@ module _ (inner : ℕ → Reader Found) (room : ℕ) (within : (k : ℕ) (ts : T
       elim x.1 as (λ b. Within us (cond b (r.go inner room k at n x.0) (pure x.0) us)) [ true ↦ go_within k at n x.0 us | false ↦ stays us ])
 
   pub levels_within : (k : ℕ) (ts : Tokens) → Within ts (r.levels inner room k ts)
-  unfolding r.levels r.level r.prefix r.operations
+  unfolding r.levels r.level r.prefixed r.operations
   levels_within zero ts = primary_within ts
-  levels_within (suc k) ts = elim (eqb (before (mark ts)) (suc k)) as (λ b. (b ≡ true → 0 < length ts)
-      → Within ts (cond b (r.prefix inner room (suc k) ts) (and_then (r.levels inner room k ts) (r.operations inner room (suc k) (from ts))))) [
-        | true ↦ λ some. bind _ (deepened room ts (some refl)) (λ u us. bind _ (took_one us) (λ v vs. bind _ (within (suc k) vs) (λ x ws. stays {x = of_prefix (from ts) (mark ts) x} ws)))
-        | false ↦ λ some. bind _ (levels_within k ts) (λ x us. go_within (suc k) (from ts) (length us) x us)
-      ] (some_by_before k ts)
+  levels_within (suc k) ts = elim (prefix_at (suc k) (mark ts)) as (λ p. (p ≢ None → 0 < length ts) → Within ts (r.level_by inner room (suc k) (r.levels inner room k) p ts)) [
+    | Some o ↦ λ some. bind _ (deepened room ts (some (λ q. cc))) (λ u us. bind _ (took_one us) (λ v vs. bind _ (within (suc k) vs) (λ x ws. stays {x = of_prefix (from ts) o x} ws)))
+    | None ↦ λ some. bind _ (levels_within k ts) (λ x us. go_within (suc k) (from ts) (length us) x us)
+  ] (some_by_prefix (suc k) ts)
 
 pub read_within : (room k : ℕ) (ts : Tokens) → Within ts (r.read room k ts)
 unfolding r.read

@@ -1,13 +1,11 @@
 -- A phrase with its height, and how phrases are made of their operands.
 use Rattle.std.specs.Prelude.{ℕ, ◌+◌, ◌<◌, max, Bool, List, [], ◌∷◌, ◌++◌, map}
-use Rattle.tp_lex.specs.declared.token.Word.TheVariants as word
-use Rattle.tp_lex.specs.declared.token.Symbol.TheVariants as symbol
 use Rattle.tp_tree.specs.declared.operator.Op.{Op}
 use Rattle.tp_tree.specs.Tree as t
 use Rattle.tp_tree.specs.Tree.{PhraseTree, phrase, KindTree, PhraseTrees, no_phrase, phrases_of, DefinitionTree, SourceTree}
 use Rattle.tp_tree.specs.Read.{phrase_tree}
-use Rattle.tp_parse.specs.declared.mark.Mark.{Mark}
-use Rattle.tp_parse.specs.declared.mark.Mark.TheVariants as m
+use Rattle.tp_parse.specs.declared.mark.Prefix.{Prefix}
+use Rattle.tp_parse.specs.declared.mark.Prefix.TheVariants as prefix
 use Rattle.tp_parse.specs.declared.mark.Enclosure.{Enclosure}
 use Rattle.tp_parse.specs.declared.mark.Enclosure.TheVariants as enclosure
 use Rattle.tp_parse.specs.declared.head.Atom.{Atom}
@@ -81,8 +79,9 @@ abbrev pub of_operands : ℕ → Listed → Operands → Found
 of_operands at l all = found (phrase at (listed_kind l (phrases_of all.trees))) (all.height + 1)
 
 abbrev pub enclosed_tree : ℕ → Enclosure → PhraseTree → PhraseTree
+enclosed_tree at enclosure.Round a = a
+enclosed_tree at enclosure.Curly a = a
 enclosed_tree at enclosure.Size a = phrase at (t.size a)
-enclosed_tree at _ a = a
 
 abbrev pub of_enclosed : ℕ → Enclosure → Found → Found
 of_enclosed at e a = found (enclosed_tree at e a.tree) (a.height + 1)
@@ -105,13 +104,13 @@ of_pair at p a b = found (phrase at (pair_kind p a.tree b.tree)) (max a.height b
 abbrev pub of_exists : ℕ → List (List ℕ) → Found → Found
 of_exists at xs a = found (phrase at (t.exists xs a.tree)) (a.height + 1)
 
-abbrev pub prefixed_kind : Mark → PhraseTree → KindTree
-prefixed_kind (m.Word word.Not) a = t.negation a
-prefixed_kind (m.Symbol symbol.Minus) a = t.minus a
-prefixed_kind _ a = t.next a
+abbrev pub prefixed_kind : Prefix → PhraseTree → KindTree
+prefixed_kind prefix.Not a = t.negation a
+prefixed_kind prefix.Minus a = t.minus a
+prefixed_kind prefix.Next a = t.next a
 
-abbrev pub of_prefix : ℕ → Mark → Found → Found
-of_prefix at x a = found (phrase at (prefixed_kind x a.tree)) (a.height + 1)
+abbrev pub of_prefix : ℕ → Prefix → Found → Found
+of_prefix at o a = found (phrase at (prefixed_kind o a.tree)) (a.height + 1)
 
 abbrev pub of_infix : ℕ → Op → Found → Found → Found
 of_infix at o a b = found (phrase at (t.binary o a.tree b.tree)) (max a.height b.height + 1)

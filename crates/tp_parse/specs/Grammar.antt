@@ -1,6 +1,6 @@
 -- The grammar. In `Parses k ts a rest` the tokens ts begin with the phrase a of level k, and rest is what follows it. Levels count
 -- up from the primaries, 0, to `;`, 10. A phrase, a list and a chain reach as far to the right as the next token lets them.
-use Rattle.std.specs.Prelude.{◌≡◌, ◌≢◌, ℕ, suc, ◌-◌, max, ◌≤◌, ◌⊎◌, List, [], ◌∷◌, drop}
+use Rattle.std.specs.Prelude.{◌≡◌, ◌≢◌, ℕ, suc, ◌-◌, max, ◌≤◌, ◌⊎◌, List, [], ◌∷◌, drop, Some}
 use Rattle.tp_lex.specs.declared.token.Word.TheVariants as word
 use Rattle.tp_lex.specs.declared.token.Symbol.TheVariants as symbol
 use Rattle.tp_tree.specs.declared.operator.Op.{Op}
@@ -11,6 +11,7 @@ use Rattle.tp_tree.specs.declared.operator.Form.{Form}
 use Rattle.tp_tree.specs.Tree.{DefinitionTree, SourceTree}
 use Rattle.tp_parse.specs.declared.mark.Mark.{Mark}
 use Rattle.tp_parse.specs.declared.mark.Mark.TheVariants as m
+use Rattle.tp_parse.specs.declared.mark.Prefix.{Prefix}
 use Rattle.tp_parse.specs.declared.mark.Enclosure.{Enclosure}
 use Rattle.tp_parse.specs.declared.mark.Role.TheVariants.{Ends, Infix, Opens, Joins}
 use Rattle.tp_parse.specs.declared.mark.Start.{Start}
@@ -23,7 +24,7 @@ use Rattle.tp_parse.specs.declared.head.Pair.{Pair}
 use Rattle.tp_parse.specs.declared.head.Pair.TheVariants as p
 use Rattle.tp_parse.specs.declared.head.Head.{Head}
 use Rattle.tp_parse.specs.declared.head.Head.TheVariants as h
-use Rattle.tp_parse.specs.Marks.{before, role_at, start_of, comma, listed_level, listed_close, enclosed_level, enclosed_close, middle}
+use Rattle.tp_parse.specs.Marks.{prefix_at, role_at, start_of, comma, listed_level, listed_close, enclosed_level, enclosed_close, middle}
 use Rattle.tp_parse.specs.Input as input
 use Rattle.tp_parse.specs.Input.{Tokens, mark, from, first_name, mark_due, past}
 use Rattle.tp_parse.specs.Found.{Found, Operands, no_operand, operand_then, of_atom, of_operands, of_enclosed, of_choice, of_choice_else, of_pair, of_exists, of_prefix, of_infix, of_index, of_chain, limit, defined, source_of}
@@ -83,7 +84,8 @@ mutual
         → mark_due next ≡ middle q → Parses chop_level (past next) y rest → Parses 0 ts (of_pair (from ts) q x y) rest
     quantified : {ts mid rest : Tokens} {xs : List (List ℕ)} {x : Found} → BeginsPrimary ts (h.Exists xs) mid → Parses chop_level mid x rest
         → Parses 0 ts (of_exists (from ts) xs x) rest
-    prefixed : {k : ℕ} {ts rest : Tokens} {x : Found} → before (mark ts) ≡ suc k → Parses (suc k) (drop 1 ts) x rest → Parses (suc k) ts (of_prefix (from ts) (mark ts) x) rest
+    prefixed : {k : ℕ} {ts rest : Tokens} {o : Prefix} {x : Found} → prefix_at (suc k) (mark ts) ≡ Some o → Parses (suc k) (drop 1 ts) x rest
+        → Parses (suc k) ts (of_prefix (from ts) o x) rest
     level : {k : ℕ} {ts mid rest : Tokens} {x t : Found} → Parses k ts x mid → Goes (suc k) (from ts) x mid t rest → Parses (suc k) ts t rest
 
   -- At this level a phrase that begins at the place goes on from the operand x to the phrase t.

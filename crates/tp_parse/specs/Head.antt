@@ -69,7 +69,15 @@ is_high s.Repeat = true
 is_high s.For = true
 is_high s.Forall = true
 is_high s.Exists = true
-is_high _ = false
+is_high s.Nothing = false
+is_high s.Number = false
+is_high s.Name = false
+is_high s.NameOrCall = false
+is_high (s.Truth b) = false
+is_high (s.Bare w) = false
+is_high s.EmptyList = false
+is_high s.List = false
+is_high (s.Form f) = false
 
 -- with this room for operands
 unfoldable pub admit : ℕ → Start → Reader (Unit {0})

@@ -1,5 +1,5 @@
 -- What a token is without its text, and what it does in a phrase. The levels of operators, and how they group, are those of tp_tree.
-use Rattle.std.specs.Prelude.{ℕ, Bool, true, false, ◌==◌, if◌then◌else◌}
+use Rattle.std.specs.Prelude.{ℕ, Bool, true, false, ◌==◌, if◌then◌else◌, Option, Some, None}
 use denote.Enum.Bare.{sameb}
 use Rattle.tp_lex.specs.declared.token.Kind.{Kind}
 use Rattle.tp_lex.specs.declared.token.Kind.TheVariants as kind
@@ -17,6 +17,8 @@ use Rattle.tp_parse.specs.declared.mark.Mark.{Mark}
 use Rattle.tp_parse.specs.declared.mark.Mark.TheVariants as m
 use Rattle.tp_parse.specs.declared.mark.Role.{Role}
 use Rattle.tp_parse.specs.declared.mark.Role.TheVariants.{Ends, Infix, Opens, Joins}
+use Rattle.tp_parse.specs.declared.mark.Prefix.{Prefix}
+use Rattle.tp_parse.specs.declared.mark.Prefix.TheVariants.{Not, Minus, Next}
 use Rattle.tp_parse.specs.declared.mark.Enclosure.{Enclosure}
 use Rattle.tp_parse.specs.declared.mark.Enclosure.TheVariants.{Round, Curly, Size}
 use Rattle.tp_parse.specs.declared.mark.Start.{Start}
@@ -54,12 +56,29 @@ second_half symbol.Arrow = symbol.Minus
 second_half symbol.GreaterEqual = symbol.Equal
 second_half x = x
 
+-- the operator before an operand that a token is, if it is one
+abbrev pub prefix_of : Mark → Option Prefix
+prefix_of (m.Word word.Not) = Some Not
+prefix_of (m.Word word.Next) = Some Next
+prefix_of (m.Symbol symbol.Minus) = Some Minus
+prefix_of _ = None
+
+abbrev pub level_of_prefix : Prefix → ℕ
+level_of_prefix Not = not_level
+level_of_prefix Minus = prefix_level
+level_of_prefix Next = prefix_level
+
+abbrev pub level_before : Option Prefix → ℕ
+level_before None = 0
+level_before (Some o) = level_of_prefix o
+
 -- the level of an operator before its operand, or 0
 abbrev pub before : Mark → ℕ
-before (m.Word word.Not) = not_level
-before (m.Word word.Next) = prefix_level
-before (m.Symbol symbol.Minus) = prefix_level
-before _ = 0
+before x = level_before (prefix_of x)
+
+-- the operator before an operand that a token is, where that is of this level
+unfoldable pub prefix_at : ℕ → Mark → Option Prefix
+prefix_at level mark = if before mark == level then prefix_of mark else None
 
 -- what a token does after an operand
 abbrev pub role_of : Mark → Role
@@ -138,7 +157,22 @@ symbol_start symbol.Bar = s.Enclosed Size
 symbol_start symbol.Less = s.List
 symbol_start symbol.Arrow = s.List
 symbol_start symbol.Differs = s.EmptyList
-symbol_start _ = s.Nothing
+symbol_start symbol.CloseRound = s.Nothing
+symbol_start symbol.CloseCurly = s.Nothing
+symbol_start symbol.OpenSquare = s.Nothing
+symbol_start symbol.CloseSquare = s.Nothing
+symbol_start symbol.Greater = s.Nothing
+symbol_start symbol.LessEqual = s.Nothing
+symbol_start symbol.GreaterEqual = s.Nothing
+symbol_start symbol.Equal = s.Nothing
+symbol_start symbol.Plus = s.Nothing
+symbol_start symbol.Minus = s.Nothing
+symbol_start symbol.Times = s.Nothing
+symbol_start symbol.Semicolon = s.Nothing
+symbol_start symbol.Comma = s.Nothing
+symbol_start symbol.Stop = s.Nothing
+symbol_start symbol.Colon = s.Nothing
+symbol_start symbol.Becomes = s.Nothing
 
 -- what a token begins where an operand is due
 abbrev pub start_of : Mark → Start
@@ -155,15 +189,18 @@ comma = m.Symbol symbol.Comma
 -- the level of the operands, and the mark after them
 abbrev pub listed_level : Listed → ℕ
 listed_level listed.List = sum_level
-listed_level _ = chop_level
+listed_level (listed.Form f) = chop_level
+listed_level (listed.Call x) = chop_level
 
 abbrev pub listed_close : Listed → Mark
 listed_close listed.List = m.Symbol symbol.Greater
-listed_close _ = m.Symbol symbol.CloseRound
+listed_close (listed.Form f) = m.Symbol symbol.CloseRound
+listed_close (listed.Call x) = m.Symbol symbol.CloseRound
 
 abbrev pub enclosed_level : Enclosure → ℕ
+enclosed_level Round = chop_level
+enclosed_level Curly = chop_level
 enclosed_level Size = sum_level
-enclosed_level _ = chop_level
 
 abbrev pub enclosed_close : Enclosure → Mark
 enclosed_close Round = m.Symbol symbol.CloseRound

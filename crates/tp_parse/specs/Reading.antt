@@ -1,5 +1,5 @@
 -- Phrases from tokens, from left to right.
-use Rattle.std.specs.Prelude.{ℕ, zero, suc, ◌-◌, Bool, if◌then◌else◌, ◌==◌, nat_le, [], ◌∷◌, length, true, false, Ok, Err}
+use Rattle.std.specs.Prelude.{ℕ, zero, suc, ◌-◌, Bool, if◌then◌else◌, nat_le, [], ◌∷◌, length, true, false, Ok, Err, Option, Some, None}
 use Rattle.tp_lex.specs.declared.token.Word.TheVariants as word
 use Rattle.tp_lex.specs.declared.token.Symbol.TheVariants as symbol
 use Rattle.tp_tree.specs.declared.operator.Op.{Op}
@@ -8,11 +8,12 @@ use Rattle.tp_tree.specs.declared.operator.Grouping.TheVariants.{Left, Single, R
 use Rattle.tp_tree.specs.Levels.{chop_level, grouping, right_level}
 use Rattle.tp_parse.specs.declared.mark.Mark.{Mark}
 use Rattle.tp_parse.specs.declared.mark.Mark.TheVariants as m
+use Rattle.tp_parse.specs.declared.mark.Prefix.{Prefix}
 use Rattle.tp_parse.specs.declared.mark.Role.{Role}
 use Rattle.tp_parse.specs.declared.mark.Role.TheVariants.{Ends, Infix, Opens, Joins}
 use Rattle.tp_parse.specs.declared.head.Head.{Head}
 use Rattle.tp_parse.specs.declared.head.Head.TheVariants as h
-use Rattle.tp_parse.specs.Marks.{before, role_at, start_of, same, comma, listed_level, listed_close, enclosed_level, enclosed_close, middle}
+use Rattle.tp_parse.specs.Marks.{before, prefix_at, role_at, start_of, same, comma, listed_level, listed_close, enclosed_level, enclosed_close, middle}
 use Rattle.tp_parse.specs.Input.{Reader, ◌>>=◌, pure, mark, from, too_deep, sees, mark_due, take, past, expect, deepen}
 use Rattle.tp_parse.specs.Head.{head_by, admit, unfit}
 use Rattle.tp_parse.specs.Found.{Found, Operands, no_operand, then_operand, operands_of, of_atom, of_operands, of_enclosed, of_choice, of_choice_else, of_pair, of_exists, of_prefix, of_infix, of_index, of_chain}
@@ -136,24 +137,33 @@ module _ (inner : ℕ → Reader Found) (room : ℕ) where
   unfoldable pub operations : ℕ → ℕ → Found → Reader Found
   operations k at left = λ ts. go k at (length ts) left ts
 
-  unfoldable pub prefix : ℕ → Reader Found
-  prefix k = λ ts. (do
+  -- an operator before its operand, and that operand
+  unfoldable pub prefixed : ℕ → Prefix → Reader Found
+  prefixed k o = λ ts. (do
     _deeper ← deepen room
     _operator ← take
     a ← inner k
-    pure (of_prefix (from ts) (mark ts) a)) ts
+    pure (of_prefix (from ts) o a)) ts
+
+  -- an operator of this level and its operand, or else what the level below reads and what goes on with it
+  abbrev pub level_by : ℕ → Reader Found → Option Prefix → Reader Found
+  level_by k lower None = λ ts. (lower >>= operations k (from ts)) ts
+  level_by k lower (Some o) = prefixed k o
 
   unfoldable pub level : ℕ → Reader Found → Reader Found
-  level k lower = λ ts. if before (mark ts) == k then prefix k ts else (lower >>= operations k (from ts)) ts
+  level k lower = λ ts. level_by k lower (prefix_at k (mark ts)) ts
 
   unfoldable pub levels : ℕ → Reader Found
   levels zero = primary
   levels (suc k) = level (suc k) (levels k)
 
-  -- a primary, or at another level an operator and its operand
+  abbrev pub first_by : ℕ → Option Prefix → Reader Found
+  first_by k None = primary
+  first_by k (Some o) = prefixed k o
+
+  -- an operator of this level and its operand, or else a primary
   unfoldable pub first : ℕ → Reader Found
-  first zero = primary
-  first (suc k) = prefix (suc k)
+  first k = λ ts. first_by k (prefix_at k (mark ts)) ts
 
 -- a phrase of a level, no higher than the room
 unfoldable pub read : ℕ → ℕ → Reader Found

@@ -89,4 +89,5 @@ IsOutcome outcome (Err e) = e ≢ named_at.NoMemory → outcome ≡ Err e
 abbrev pub NamesToken : ℕ → ParseRefusal → Type 0
 NamesToken n (named_at.Unexpected i) = i < n
 NamesToken n (named_at.TooDeep i) = i < n
-NamesToken n _ = Unit {0}
+NamesToken n named_at.Unfinished = Unit {0}
+NamesToken n named_at.NoMemory = Unit {0}

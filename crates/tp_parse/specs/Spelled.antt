@@ -15,7 +15,6 @@ use Rattle.tp_tree.specs.declared.operator.Form.TheVariants as f
 use Rattle.tp_tree.specs.Tree.{PhraseTree, phrase, KindTree, number, truth, name, list, size, index, minus, next, negation, binary, conjunction, choice, choice_else, while, repeat, for, forall, exists, bare, form, call, PhraseTrees, no_phrase, phrase_then, DefinitionTree, SourceTree}
 use Rattle.tp_tree.specs.Levels.{index_level, prefix_level, sum_level, not_level, chop_level, any_level, left_level, right_level, kind_level}
 use Rattle.tp_tree.specs.Places.{IsSameUpToPlaces}
-use Rattle.tp_parse.specs.Marks.{kind_mark, role_of}
 use Rattle.tp_parse.specs.Input.{Tokens}
 use Rattle.tp_parse.specs.Found.{limit}
 use Rattle.tp_parse.specs.Grammar.{IsSource, Accepts}

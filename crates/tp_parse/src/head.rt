@@ -163,7 +163,15 @@ fn is_high(start: Start) -> bool
         Start::For => true,
         Start::Forall => true,
         Start::Exists => true,
-        _ => false,
+        Start::Nothing
+        | Start::Number
+        | Start::Name
+        | Start::NameOrCall
+        | Start::Truth(_)
+        | Start::Bare(_)
+        | Start::EmptyList
+        | Start::List
+        | Start::Form(_) => false,
     }
 }
 
@@ -205,7 +213,7 @@ pub fn listed_close(listed: &Listed) -> Mark
 {
     match listed {
         Listed::List => Mark::Symbol(Symbol::Greater),
-        _ => Mark::Symbol(Symbol::CloseRound),
+        Listed::Form(_) | Listed::Call(_) => Mark::Symbol(Symbol::CloseRound),
     }
 }
 

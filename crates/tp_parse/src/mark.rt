@@ -26,6 +26,14 @@ pub enum Role {
     Joins,
 }
 
+/// An operator before its operand.
+#[derive(Clone, Copy)]
+pub enum Prefix {
+    Not,
+    Minus,
+    Next,
+}
+
 /// Marks round one operand: `( )`, `{ }` and `| |`.
 #[derive(Clone, Copy)]
 pub enum Enclosure {
@@ -97,15 +105,46 @@ pub fn second_half(symbol: Symbol) -> Symbol
     }
 }
 
+/// The operator before an operand that the token is, if it is one.
+fn prefix_of(mark: Mark) -> Option<Prefix>
+    ensures { result ≡ spec.prefix_of mark }
+{
+    match mark {
+        Mark::Word(Word::Not) => Some(Prefix::Not),
+        Mark::Word(Word::Next) => Some(Prefix::Next),
+        Mark::Symbol(Symbol::Minus) => Some(Prefix::Minus),
+        _ => None,
+    }
+}
+
+fn level_of_prefix(prefix: Prefix) -> u8
+    ensures { result ≡ spec.level_of_prefix prefix }
+{
+    match prefix {
+        Prefix::Not => NOT,
+        Prefix::Minus | Prefix::Next => PREFIX,
+    }
+}
+
 /// The level of an operator before its operand, or 0.
 pub fn before(mark: Mark) -> u8
     ensures { result ≡ spec.before mark }
 {
-    match mark {
-        Mark::Word(Word::Not) => NOT,
-        Mark::Word(Word::Next) => PREFIX,
-        Mark::Symbol(Symbol::Minus) => PREFIX,
-        _ => 0,
+    match prefix_of(mark) {
+        None => 0,
+        Some(prefix) => level_of_prefix(prefix),
+    }
+}
+
+/// The operator before an operand that the token is, where that is of this level.
+#[tactic(auto, unfolding(crate::specs::Marks::prefix_at))]
+pub fn prefix_at(level: u8, mark: Mark) -> Option<Prefix>
+    ensures { result ≡ spec.prefix_at level mark }
+{
+    if before(mark) == level {
+        prefix_of(mark)
+    } else {
+        None
     }
 }
 
@@ -216,6 +255,21 @@ fn symbol_start(symbol: Symbol) -> Start
         Symbol::Less => Start::List,
         Symbol::Arrow => Start::List,
         Symbol::Differs => Start::EmptyList,
-        _ => Start::Nothing,
+        Symbol::CloseRound
+        | Symbol::CloseCurly
+        | Symbol::OpenSquare
+        | Symbol::CloseSquare
+        | Symbol::Greater
+        | Symbol::LessEqual
+        | Symbol::GreaterEqual
+        | Symbol::Equal
+        | Symbol::Plus
+        | Symbol::Minus
+        | Symbol::Times
+        | Symbol::Semicolon
+        | Symbol::Comma
+        | Symbol::Stop
+        | Symbol::Colon
+        | Symbol::Becomes => Start::Nothing,
     }
 }

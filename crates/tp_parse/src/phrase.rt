@@ -2,14 +2,13 @@
 ghost use Rattle.std.specs.Prelude.{◌≡◌, ◌+◌, ◌≤◌, ◌<◌, ◌≢◌, ℕ, IfOk, OnOk};
 ghost use Rattle.tp_tree.specs.Levels.{chop_level};
 ghost use Rattle.tp_parse.specs.Marks as marks;
-ghost use Rattle.tp_parse.specs.Input as input;
 ghost use Rattle.tp_parse.specs.Input.{ReturnsReading};
 ghost use Rattle.tp_parse.specs.Found.{seen, turn_seen, all_seen};
 ghost use Rattle.tp_parse.specs.Reading as spec;
 ghost use Rattle.tp_parse.specs.declared.head.Head.TheVariants.{Paired};
 
 use crate::head::{Head, Pair, enclosed_close, enclosed_level, listed_close, listed_level, middle};
-use crate::mark::{Mark, Role, before, role_at, same, start_of};
+use crate::mark::{Mark, Prefix, Role, before, prefix_at, role_at, same, start_of};
 use crate::parser::Parser;
 use crate::phrases::{
     Measured, Operands, of_atom, of_chain, of_choice, of_choice_else, of_enclosed, of_exists,
@@ -43,23 +42,39 @@ impl Parser<'_> {
 
     /// A primary, or a phrase with an operator before it, which is of this level.
     #[cycle(phrase)]
-    #[tactic(auto, using(crate::proofs::Steps::first_above), unfolding(crate::specs::Reading::prefix))]
+    #[tactic(auto, unfolding(crate::specs::Reading::first))]
     fn first(&mut self, alloc: Global, level: u8, room: u8) -> Result<Measured, Refusal>
-        requires low { level ≤ chop_level }
-        requires own { 0 < level → marks.before (input.mark self.old) ≡ level }
+        requires { level ≤ chop_level }
         ensures reads { ReturnsReading seen (spec.first (spec.read room) room level self.old) result
             self.new }
         ensures low { IfOk result (λ r. r.height ≤ room + 1) }
     {
-        if level == 0 {
-            return self.primary(alloc, room);
+        match prefix_at(level, self.mark()) {
+            None => self.primary(alloc, room),
+            Some(prefix) => self.prefixed(alloc, level, room, prefix),
         }
+    }
+
+    /// An operator before its operand, and that operand.
+    #[cycle(phrase)]
+    #[tactic(auto, unfolding(crate::specs::Reading::prefixed))]
+    fn prefixed(
+        &mut self,
+        alloc: Global,
+        level: u8,
+        room: u8,
+        prefix: Prefix,
+    ) -> Result<Measured, Refusal>
+        requires { level ≤ chop_level }
+        ensures reads { ReturnsReading seen
+            (spec.prefixed (spec.read room) room level prefix self.old) result self.new }
+        ensures low { IfOk result (λ r. r.height ≤ room + 1) }
+    {
         let at = self.from();
-        let mark = self.mark();
         self.deepen(room)?;
         self.take();
         let operand = self.phrase(alloc, level, room)?;
-        Ok(of_prefix(alloc, at, mark, operand)?)
+        Ok(of_prefix(alloc, at, prefix, operand)?)
     }
 
     #[cycle(phrase)]

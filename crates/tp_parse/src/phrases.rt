@@ -6,9 +6,8 @@ ghost use Rattle.tp_tree.specs.Read.{phrase_tree, kind_tree};
 ghost use Rattle.tp_tree.specs.Tree.{phrases_of};
 
 use crate::head::{Atom, Listed, Pair};
-use crate::mark::{Enclosure, Mark};
+use crate::mark::{Enclosure, Prefix};
 use std::alloc::Global;
-use tp_lex::{Symbol, Word};
 use tp_tree::{Op, Phrase, PhraseKind, Phrases};
 use tp_value::{NoMemory, Texts};
 
@@ -114,7 +113,7 @@ pub fn of_enclosed(
             let operand = Box::new(alloc, operand.phrase)?;
             Ok(make(at, PhraseKind::Size(operand), raised))
         }
-        _ => Ok(Measured {
+        Enclosure::Round | Enclosure::Curly => Ok(Measured {
             phrase: operand.phrase,
             height: raised,
         }),
@@ -199,28 +198,28 @@ pub fn of_exists(
     Ok(make(at, PhraseKind::Exists(names, operand), height))
 }
 
-fn prefixed_kind(mark: Mark, operand: Box<Phrase>) -> PhraseKind
-    ensures { kind_tree result ≡ spec.prefixed_kind mark (phrase_tree operand.value) }
+fn prefixed_kind(prefix: Prefix, operand: Box<Phrase>) -> PhraseKind
+    ensures { kind_tree result ≡ spec.prefixed_kind prefix (phrase_tree operand.value) }
 {
-    match mark {
-        Mark::Word(Word::Not) => PhraseKind::Not(operand),
-        Mark::Symbol(Symbol::Minus) => PhraseKind::Minus(operand),
-        _ => PhraseKind::Next(operand),
+    match prefix {
+        Prefix::Not => PhraseKind::Not(operand),
+        Prefix::Minus => PhraseKind::Minus(operand),
+        Prefix::Next => PhraseKind::Next(operand),
     }
 }
 
 pub fn of_prefix(
     alloc: Global,
     at: u32,
-    mark: Mark,
+    prefix: Prefix,
     operand: Measured,
 ) -> Result<Measured, NoMemory>
     requires { IsLow operand.height }
-    ensures { IfOk result (λ r. seen r ≡ spec.of_prefix at mark (seen operand)) }
+    ensures { IfOk result (λ r. seen r ≡ spec.of_prefix at prefix (seen operand)) }
 {
     let height = operand.height + 1;
     let operand = Box::new(alloc, operand.phrase)?;
-    Ok(make(at, prefixed_kind(mark, operand), height))
+    Ok(make(at, prefixed_kind(prefix, operand), height))
 }
 
 pub fn of_infix(

@@ -6,7 +6,7 @@ use Rattle.tp_tree.specs.Read.{phrase_tree}
 use Rattle.tp_parse.specs.Marks.{before}
 use Rattle.tp_parse.specs.Input.{Tokens, mark}
 use Rattle.tp_parse.specs.Found.{seen, operands_of}
-use Rattle.tp_parse.specs.Reading.{read, operations, go, others, others_from, first, levels}
+use Rattle.tp_parse.specs.Reading.{read, operations, go, others, others_from, levels}
 use Rattle.tp_parse.proofs.Steps.{one_more, no_more, NoneBetween, read_levels, levels_first, level_next, err_last}
 use Rattle.tp_parse.proofs.parser.Parser.+phrase.Goals as goal
 
@@ -68,10 +68,6 @@ unfolding others_from
 others-returns-clause-reads t c =
     let e = no_more (λ n. others_from (read c.args.room) c.args.room c.args.level c.args.separator n (operands_of (map phrase_tree c.loop-turn.items.items) c.loop-turn.height) c.loop-turn.self) _ c.loop-turn._turn c.loop-turn-test.false c.loop-turn.invariant.reads in
     first_of (search rules, grind (arith, common_steps))
-
-pub first-returns-then-level-eq0-clause-reads : goal.first-returns-then-level-eq0-clause-reads
-unfolding first
-first-returns-then-level-eq0-clause-reads t c = let none : c.args.level ≡ 0 = omega arith in rw none c.primary.ensures.reads
 
 none_between : (start level : ℕ) (ts : Tokens) → ((j : ℕ) → start ≤ j → j < level → before (mark ts) ≢ j + 1) → NoneBetween start level ts
 none_between start level ts others j le lt e = others j le lt (let one : j + 1 ≡ suc j = omega arith in rw one e)

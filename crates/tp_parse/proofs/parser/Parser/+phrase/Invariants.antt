@@ -10,6 +10,9 @@ decreases-phrase l = l.room * 16
 abbrev pub decreases-first : goal.decreases-first
 decreases-first l = l.room * 16 + 15
 
+abbrev pub decreases-prefixed : goal.decreases-prefixed
+decreases-prefixed l = l.room * 16 + 14
+
 abbrev pub decreases-primary : goal.decreases-primary
 decreases-primary l = l.room * 16 + 14
 
