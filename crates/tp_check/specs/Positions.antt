@@ -63,7 +63,24 @@ abbrev pub refusal_of : VisibleNames → (at : ℕ) → KindTree → (other : Ch
 refusal_of names at (k.call x ps) other = call_refusal at (called_of names.definitions x) (phrase_count ps) other
 refusal_of names at (k.form form ps) other = if takes form (phrase_count ps) then other else WrongCount at
 refusal_of names at (k.exists xs p) other = if has_repeat xs then Twice at else other
-refusal_of names at kind other = other
+refusal_of names at (k.number n) other = other
+refusal_of names at (k.truth b) other = other
+refusal_of names at (k.name x) other = other
+refusal_of names at (k.list ps) other = other
+refusal_of names at (k.size p) other = other
+refusal_of names at (k.index p i) other = other
+refusal_of names at (k.minus p) other = other
+refusal_of names at (k.next p) other = other
+refusal_of names at (k.negation p) other = other
+refusal_of names at (k.binary o l r) other = other
+refusal_of names at (k.conjunction ps) other = other
+refusal_of names at (k.choice b p) other = other
+refusal_of names at (k.choice_else b p q) other = other
+refusal_of names at (k.while b p) other = other
+refusal_of names at (k.repeat p b) other = other
+refusal_of names at (k.for x e p) other = other
+refusal_of names at (k.forall x e p) other = other
+refusal_of names at (k.bare word) other = other
 
 -- A call at this place as an expression, with so many operands, which by the parameters are these arguments: it calls a state definition.
 abbrev pub called_expr : (at : ℕ) → Option Called → (count : ℕ) → (arguments : Names → CheckOutcome (List ExprTree)) → CheckOutcome ExprTree
@@ -91,8 +108,16 @@ abbrev mutual
   expr_of_kind names at (k.conjunction ps) = mapped (λ es. m.both (exprs_of es)) (exprs_in names ps)
   expr_of_kind names at (k.choice_else b p q) = three choice (expr_of names b) (expr_of names p) (expr_of names q)
   expr_of_kind names at (k.call x ps) = called_expr at (called_of names.definitions x) (phrase_count ps) (λ parameters. arguments_in names ps parameters)
-  -- `next`, `if` without `else`, loops, `forall`, `exists`, bare words and forms
-  expr_of_kind names at kind = Err (refusal_of names at kind (NotExpression at))
+  -- no expressions
+  expr_of_kind names at (k.next p) = not_expression at
+  expr_of_kind names at (k.choice b p) = not_expression at
+  expr_of_kind names at (k.while b p) = not_expression at
+  expr_of_kind names at (k.repeat p b) = not_expression at
+  expr_of_kind names at (k.for x e p) = not_expression at
+  expr_of_kind names at (k.forall x e p) = not_expression at
+  expr_of_kind names at (k.bare word) = not_expression at
+  expr_of_kind names at (k.exists xs p) = Err (refusal_of names at (k.exists xs p) (NotExpression at))
+  expr_of_kind names at (k.form word ps) = Err (refusal_of names at (k.form word ps) (NotExpression at))
 
   -- of each of the phrases
   pub exprs_in : VisibleNames → PhraseTrees → CheckOutcome (List ExprTree)
@@ -116,7 +141,26 @@ argument_in upper names p = if upper then place_phrase names p else expr_of name
 -- a port is its name as it is written, whatever that name is bound to; any other phrase is refused
 abbrev pub port_of_kind : VisibleNames → (at : ℕ) → KindTree → CheckOutcome (List ℕ)
 port_of_kind names at (k.name x) = if is_lower x then Ok x else Err (NotPort at)
-port_of_kind names at kind = Err (refusal_of names at kind (NotPort at))
+port_of_kind names at (k.number n) = Err (NotPort at)
+port_of_kind names at (k.truth b) = Err (NotPort at)
+port_of_kind names at (k.list ps) = Err (NotPort at)
+port_of_kind names at (k.size p) = Err (NotPort at)
+port_of_kind names at (k.index p i) = Err (NotPort at)
+port_of_kind names at (k.minus p) = Err (NotPort at)
+port_of_kind names at (k.next p) = Err (NotPort at)
+port_of_kind names at (k.negation p) = Err (NotPort at)
+port_of_kind names at (k.binary o l r) = Err (NotPort at)
+port_of_kind names at (k.conjunction ps) = Err (NotPort at)
+port_of_kind names at (k.choice b p) = Err (NotPort at)
+port_of_kind names at (k.choice_else b p q) = Err (NotPort at)
+port_of_kind names at (k.while b p) = Err (NotPort at)
+port_of_kind names at (k.repeat p b) = Err (NotPort at)
+port_of_kind names at (k.for x e p) = Err (NotPort at)
+port_of_kind names at (k.forall x e p) = Err (NotPort at)
+port_of_kind names at (k.bare word) = Err (NotPort at)
+port_of_kind names at (k.exists xs p) = Err (refusal_of names at (k.exists xs p) (NotPort at))
+port_of_kind names at (k.form word ps) = Err (refusal_of names at (k.form word ps) (NotPort at))
+port_of_kind names at (k.call x ps) = Err (refusal_of names at (k.call x ps) (NotPort at))
 
 abbrev pub port_phrase : VisibleNames → PhraseTree → CheckOutcome (List ℕ)
 port_phrase names (phrase at kind) = port_of_kind names at kind
@@ -160,7 +204,19 @@ binary_in names at op.Gets l r = both gets_of (place_phrase names l) (expr_of na
 binary_in names at op.Arrow l r = both assign (place_phrase names l) (expr_of names r)
 binary_in names at op.Becomes l r = both becomes_of (place_phrase names l) (expr_of names r)
 binary_in names at op.Or l r = if is_state_in names l && is_state_in names r then state_in names at (k.binary op.Or l r) else not_run at
-binary_in names at o l r = state_in names at (k.binary o l r)
+binary_in names at op.Differs l r = state_in names at (k.binary op.Differs l r)
+binary_in names at op.Less l r = state_in names at (k.binary op.Less l r)
+binary_in names at op.LessEqual l r = state_in names at (k.binary op.LessEqual l r)
+binary_in names at op.Greater l r = state_in names at (k.binary op.Greater l r)
+binary_in names at op.GreaterEqual l r = state_in names at (k.binary op.GreaterEqual l r)
+binary_in names at op.Plus l r = state_in names at (k.binary op.Plus l r)
+binary_in names at op.Minus l r = state_in names at (k.binary op.Minus l r)
+binary_in names at op.Times l r = state_in names at (k.binary op.Times l r)
+binary_in names at op.Div l r = state_in names at (k.binary op.Div l r)
+binary_in names at op.Mod l r = state_in names at (k.binary op.Mod l r)
+-- these two compose formulas, so they don't come here
+binary_in names at op.Chop l r = state_in names at (k.binary op.Chop l r)
+binary_in names at op.Proj l r = state_in names at (k.binary op.Proj l r)
 
 -- what an operator makes of two formulas; only `;` and `proj` make one
 abbrev pub composition_of : Op → Option (FormulaTree → FormulaTree → FormulaTree)
@@ -226,8 +282,18 @@ abbrev mutual
   formula_of_kind names at (k.form f.List (phrase_then l (phrase_then e no_phrase))) = both list_of_length (place_phrase names l) (expr_of names e)
   formula_of_kind names at (k.form f.Input (phrase_then x (phrase_then p no_phrase))) = both input (place_phrase names x) (port_phrase names p)
   formula_of_kind names at (k.form f.Display (phrase_then e es)) = mapped (λ xs. display (exprs_of xs)) (exprs_in names (phrase_then e es))
-  -- `sometimes` is never run, and the other forms have a wrong number of operands here
-  formula_of_kind names at (k.form form ps) = Err (refusal_of names at (k.form form ps) (NotExecutable at))
+  -- `sometimes` is never run
+  formula_of_kind names at (k.form f.Sometimes ps) = Err (refusal_of names at (k.form f.Sometimes ps) (NotExecutable at))
+  -- and these have a wrong number of operands
+  formula_of_kind names at (k.form f.Always ps) = Err (refusal_of names at (k.form f.Always ps) (NotExecutable at))
+  formula_of_kind names at (k.form f.Keep ps) = Err (refusal_of names at (k.form f.Keep ps) (NotExecutable at))
+  formula_of_kind names at (k.form f.Fin ps) = Err (refusal_of names at (k.form f.Fin ps) (NotExecutable at))
+  formula_of_kind names at (k.form f.Halt ps) = Err (refusal_of names at (k.form f.Halt ps) (NotExecutable at))
+  formula_of_kind names at (k.form f.Stable ps) = Err (refusal_of names at (k.form f.Stable ps) (NotExecutable at))
+  formula_of_kind names at (k.form f.Len ps) = Err (refusal_of names at (k.form f.Len ps) (NotExecutable at))
+  formula_of_kind names at (k.form f.List ps) = Err (refusal_of names at (k.form f.List ps) (NotExecutable at))
+  formula_of_kind names at (k.form f.Input ps) = Err (refusal_of names at (k.form f.Input ps) (NotExecutable at))
+  formula_of_kind names at (k.form f.Display ps) = Err (refusal_of names at (k.form f.Display ps) (NotExecutable at))
   formula_of_kind names at (k.choice b w) = both (λ c x. branch c x trivial) (expr_of names b) (formula_of names w)
   formula_of_kind names at (k.choice_else b w v) = three branch (expr_of names b) (formula_of names w) (formula_of names v)
   formula_of_kind names at (k.while b w) = both while (expr_of names b) (formula_of names w)
@@ -236,8 +302,14 @@ abbrev mutual
   formula_of_kind names at (k.forall x e w) = both (forall_from x (pos 0)) (expr_of names e) (formula_of (with_binder x names) w)
   formula_of_kind names at (k.exists xs w) = if has_repeat xs then Err (Twice at) else mapped (exists_of xs) (formula_of (with_binders xs names) w)
   formula_of_kind names at (k.call x ps) = called_formula names at (called_of names.definitions x) ps
-  -- numbers, `false`, names, lists, sizes, indices and unary minus
-  formula_of_kind names at kind = state_in names at kind
+  -- expressions
+  formula_of_kind names at (k.truth false) = state_in names at (k.truth false)
+  formula_of_kind names at (k.number n) = state_in names at (k.number n)
+  formula_of_kind names at (k.name x) = state_in names at (k.name x)
+  formula_of_kind names at (k.list ps) = state_in names at (k.list ps)
+  formula_of_kind names at (k.size p) = state_in names at (k.size p)
+  formula_of_kind names at (k.index p i) = state_in names at (k.index p i)
+  formula_of_kind names at (k.minus p) = state_in names at (k.minus p)
 
   -- of each of the phrases
   pub formulas_in : VisibleNames → PhraseTrees → CheckOutcome (List FormulaTree)

@@ -76,8 +76,20 @@ operands_of_expression definitions (binary o l r) = as_expression l ∷ as_expre
 operands_of_expression definitions (conjunction ps) = as_expressions ps
 operands_of_expression definitions (choice_else b p q) = as_expression b ∷ as_expression p ∷ as_expression q ∷ []
 operands_of_expression definitions (call x ps) = arguments_of (called_of definitions x) ps
--- numbers, truth values and names; `next`, `if` without `else`, loops, `forall`, `exists`, bare words and forms
-operands_of_expression definitions kind = []
+-- these have none
+operands_of_expression definitions (number n) = []
+operands_of_expression definitions (truth b) = []
+operands_of_expression definitions (name x) = []
+-- these are no expressions
+operands_of_expression definitions (next p) = []
+operands_of_expression definitions (choice b p) = []
+operands_of_expression definitions (while b p) = []
+operands_of_expression definitions (repeat p b) = []
+operands_of_expression definitions (for x e p) = []
+operands_of_expression definitions (forall x e p) = []
+operands_of_expression definitions (exists xs p) = []
+operands_of_expression definitions (bare word) = []
+operands_of_expression definitions (form word ps) = []
 
 -- those of a phrase where a formula is due
 abbrev pub operands_of_formula : List Signature → KindTree → List Placed
@@ -98,8 +110,17 @@ operands_of_formula definitions (form f.Len (phrase_then e no_phrase)) = as_expr
 operands_of_formula definitions (form f.List (phrase_then l (phrase_then e no_phrase))) = as_place l ∷ as_expression e ∷ []
 operands_of_formula definitions (form f.Input (phrase_then x (phrase_then p no_phrase))) = as_place x ∷ as_port p ∷ []
 operands_of_formula definitions (form f.Display ps) = as_expressions ps
--- `sometimes`, which isn't run, and forms with a wrong number of operands
-operands_of_formula definitions (form word ps) = []
+-- `sometimes` isn't run
+operands_of_formula definitions (form f.Sometimes ps) = []
+-- and these have a wrong number of operands
+operands_of_formula definitions (form f.Always ps) = []
+operands_of_formula definitions (form f.Keep ps) = []
+operands_of_formula definitions (form f.Fin ps) = []
+operands_of_formula definitions (form f.Halt ps) = []
+operands_of_formula definitions (form f.Stable ps) = []
+operands_of_formula definitions (form f.Len ps) = []
+operands_of_formula definitions (form f.List ps) = []
+operands_of_formula definitions (form f.Input ps) = []
 operands_of_formula definitions (choice b w) = as_expression b ∷ as_formula w ∷ []
 operands_of_formula definitions (choice_else b w v) = as_expression b ∷ as_formula w ∷ as_formula v ∷ []
 operands_of_formula definitions (while b w) = as_expression b ∷ as_formula w ∷ []
@@ -107,8 +128,29 @@ operands_of_formula definitions (repeat w b) = as_formula w ∷ as_expression b 
 operands_of_formula definitions (for x e w) = as_expression e ∷ as_formula w ∷ []
 operands_of_formula definitions (forall x e w) = as_expression e ∷ as_formula w ∷ []
 operands_of_formula definitions (exists xs w) = as_formula w ∷ []
--- numbers, truth values, names, bare words, lists, sizes, indices, unary minus, `not`, the other operators, and calls
-operands_of_formula definitions kind = operands_of_expression definitions kind
+-- these have none
+operands_of_formula definitions (number n) = []
+operands_of_formula definitions (truth b) = []
+operands_of_formula definitions (name x) = []
+operands_of_formula definitions (bare word) = []
+-- and these have those that they have as expressions
+operands_of_formula definitions (binary op.Or l r) = operands_of_expression definitions (binary op.Or l r)
+operands_of_formula definitions (binary op.Differs l r) = operands_of_expression definitions (binary op.Differs l r)
+operands_of_formula definitions (binary op.Less l r) = operands_of_expression definitions (binary op.Less l r)
+operands_of_formula definitions (binary op.LessEqual l r) = operands_of_expression definitions (binary op.LessEqual l r)
+operands_of_formula definitions (binary op.Greater l r) = operands_of_expression definitions (binary op.Greater l r)
+operands_of_formula definitions (binary op.GreaterEqual l r) = operands_of_expression definitions (binary op.GreaterEqual l r)
+operands_of_formula definitions (binary op.Plus l r) = operands_of_expression definitions (binary op.Plus l r)
+operands_of_formula definitions (binary op.Minus l r) = operands_of_expression definitions (binary op.Minus l r)
+operands_of_formula definitions (binary op.Times l r) = operands_of_expression definitions (binary op.Times l r)
+operands_of_formula definitions (binary op.Div l r) = operands_of_expression definitions (binary op.Div l r)
+operands_of_formula definitions (binary op.Mod l r) = operands_of_expression definitions (binary op.Mod l r)
+operands_of_formula definitions (list ps) = operands_of_expression definitions (list ps)
+operands_of_formula definitions (size p) = operands_of_expression definitions (size p)
+operands_of_formula definitions (index p i) = operands_of_expression definitions (index p i)
+operands_of_formula definitions (minus p) = operands_of_expression definitions (minus p)
+operands_of_formula definitions (negation p) = operands_of_expression definitions (negation p)
+operands_of_formula definitions (call x ps) = operands_of_expression definitions (call x ps)
 
 abbrev pub operands_by : List Signature → Position → KindTree → List Placed
 operands_by definitions formula kind = operands_of_formula definitions kind
@@ -164,12 +206,55 @@ is_expression_kind definitions (exists xs p) = false
 is_expression_kind definitions (bare w) = false
 is_expression_kind definitions (form word ps) = false
 
--- the kinds that are run as formulas: `not` over places and state phrases, `or` over state phrases, all forms but `sometimes`, and all other kinds
+-- the kinds that are run as formulas: `not` over places and state phrases, `or` over state phrases, all other operators, all forms but
+-- `sometimes`, and all other kinds
 abbrev pub is_run_kind : List Signature → KindTree → Bool
 is_run_kind definitions (negation p) = is_place_phrase p || is_state_phrase (calls_state definitions) p
 is_run_kind definitions (binary op.Or l r) = is_state_phrase (calls_state definitions) l && is_state_phrase (calls_state definitions) r
+is_run_kind definitions (binary op.Chop l r) = true
+is_run_kind definitions (binary op.Proj l r) = true
+is_run_kind definitions (binary op.Equal l r) = true
+is_run_kind definitions (binary op.Differs l r) = true
+is_run_kind definitions (binary op.Less l r) = true
+is_run_kind definitions (binary op.LessEqual l r) = true
+is_run_kind definitions (binary op.Greater l r) = true
+is_run_kind definitions (binary op.GreaterEqual l r) = true
+is_run_kind definitions (binary op.Gets l r) = true
+is_run_kind definitions (binary op.Arrow l r) = true
+is_run_kind definitions (binary op.Becomes l r) = true
+is_run_kind definitions (binary op.Plus l r) = true
+is_run_kind definitions (binary op.Minus l r) = true
+is_run_kind definitions (binary op.Times l r) = true
+is_run_kind definitions (binary op.Div l r) = true
+is_run_kind definitions (binary op.Mod l r) = true
 is_run_kind definitions (form f.Sometimes ps) = false
-is_run_kind definitions kind = true
+is_run_kind definitions (form f.Always ps) = true
+is_run_kind definitions (form f.Keep ps) = true
+is_run_kind definitions (form f.Fin ps) = true
+is_run_kind definitions (form f.Halt ps) = true
+is_run_kind definitions (form f.Stable ps) = true
+is_run_kind definitions (form f.Len ps) = true
+is_run_kind definitions (form f.List ps) = true
+is_run_kind definitions (form f.Input ps) = true
+is_run_kind definitions (form f.Display ps) = true
+is_run_kind definitions (number n) = true
+is_run_kind definitions (truth b) = true
+is_run_kind definitions (name x) = true
+is_run_kind definitions (list ps) = true
+is_run_kind definitions (size p) = true
+is_run_kind definitions (index p i) = true
+is_run_kind definitions (minus p) = true
+is_run_kind definitions (next p) = true
+is_run_kind definitions (conjunction ps) = true
+is_run_kind definitions (choice b p) = true
+is_run_kind definitions (choice_else b p q) = true
+is_run_kind definitions (while b p) = true
+is_run_kind definitions (repeat p b) = true
+is_run_kind definitions (for x e p) = true
+is_run_kind definitions (forall x e p) = true
+is_run_kind definitions (exists xs p) = true
+is_run_kind definitions (bare word) = true
+is_run_kind definitions (call x ps) = true
 
 -- A phrase breaks a rule where it stands, and this refusal names the rule and the phrase's place.
 pub data Breaks (definitions : List Signature) : Position → PhraseTree → CheckRefusal → Type 0 where

@@ -1,20 +1,20 @@
-use Rattle.std.proofs.Common.{rules, ap₂, ◌≡◌, ◌+◌, ◌++◌, ◌∷◌, [], ◌∙◌, ℕ, List, sym, ap, map, drop}
+use Rattle.std.proofs.Common.{rules, refl, ap₂, ◌≡◌, ◌⊎◌, inl, inr, ◌+◌, ◌++◌, ◌∷◌, [], ◌∙◌, ℕ, List, sym, ap, map, drop, Ok}
 use Rattle.std.proofs.lemmas.List.{map-append}
-use Rattle.std.proofs.lemmas.Slice.Zip.{Zip-more}
+use Rattle.std.proofs.lemmas.Slice.Zip.{Zip-more, either_empty_from_Zip}
 use Rattle.tp_tree.specs.declared.phrase.Phrases.{out-Phrases}
 use Rattle.tp_tree.specs.declared.phrase.Phrase.{Phrase}
-use Rattle.tp_tree.specs.Tree.{phrases_of}
+use Rattle.tp_tree.specs.Tree.{PhraseTrees, no_phrase, phrase_then, phrases_of}
 use Rattle.tp_tree.specs.Read.{phrase_tree, phrase_trees}
 use Rattle.tp_tree.specs.Equations.{trees_are}
 use Rattle.tp_meaning.specs.Value.{is_upper}
 use Rattle.tp_meaning.specs.Syntax.{ExprTree}
 use Rattle.tp_kernel.specs.Read.{expr_tree}
-use Rattle.tp_scope.specs.Scope.{Names}
+use Rattle.tp_scope.specs.Scope.{Names, VisibleNames}
 use Rattle.tp_scope.specs.Seen.{names_seen}
 use Rattle.tp_check.specs.Outcome.{mapped}
 use Rattle.tp_check.specs.Positions.{expr_of, exprs_in, argument_in, arguments_in}
 use Rattle.tp_scope.proofs.Several.{from_here}
-use Rattle.tp_check.proofs.Several.{none_made, one_made}
+use Rattle.tp_check.proofs.Several.{none_made, one_made, all_made}
 use Rattle.tp_check.proofs.expression.+expression.Goals as goal
 
 pub expressions-loop-phrase-preserved : goal.expressions-loop-phrase-preserved
@@ -56,3 +56,21 @@ arguments-loop-operand-preserved t c =
     ∙ (ap₂ (λ (qs : List Phrase) (ys : Names). mapped (λ es. made ++ es) (arguments_in names (phrases_of (map phrase_tree qs)) ys)) step.0 step.1
     ∙ (one_made made (expr_tree c.in_ok-argument.field-0) (argument_in (is_upper x) names (phrase_tree p)) rest c.in_ok-argument.ensures
     ∙ ap (λ (ys : List ExprTree). mapped (λ es. ys ++ es) rest) (sym pushed)))
+
+-- where no parameter is left, and where no operand or no parameter is
+no_parameter : (names : VisibleNames) (ts : PhraseTrees) → arguments_in names ts [] ≡ Ok []
+no_parameter names no_phrase = refl
+no_parameter names (phrase_then t ts) = refl
+
+none_left : (names : VisibleNames) (ps : List Phrase) (xs : Names) → (ps ≡ []) ⊎ (xs ≡ []) → arguments_in names (phrases_of (map phrase_tree ps)) xs ≡ Ok []
+none_left names ps xs (inl e) = ap (λ (qs : List Phrase). arguments_in names (phrases_of (map phrase_tree qs)) xs) e
+none_left names ps xs (inr e) = ap (arguments_in names (phrases_of (map phrase_tree ps))) e ∙ no_parameter names (phrases_of (map phrase_tree ps))
+
+pub arguments-returns : goal.arguments-returns
+arguments-returns t c =
+    let names = names_seen c.args.names.now in
+    let ps : List Phrase = c.loop-operand.operand-iterator.a.rest.now in
+    let xs : Names = c.loop-operand.operand-iterator.b.rest.now in
+    let made = map expr_tree c.loop-operand.items.items in
+    let ended = either_empty_from_Zip c.loop-operand.operand-iterator c.next.new.self c.next.result c.in-None.is c.next.ensures.steps in
+    c.loop-operand.invariant ∙ (ap (mapped (λ es. made ++ es)) (none_left names ps xs ended) ∙ all_made made)
