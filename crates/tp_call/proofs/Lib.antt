@@ -16,3 +16,5 @@ pub mod TracedOnce
 pub mod TracedTextLemmas
 pub mod SameText
 pub mod EachRunLemmas
+pub mod OrderLemmas
+pub mod InOrderLemmas

@@ -16,3 +16,4 @@ pub mod Trace
 pub mod TracedText
 pub mod Headline
 pub mod EachRun
+pub mod InOrder

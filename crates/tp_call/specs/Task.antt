@@ -5,6 +5,7 @@ use Rattle.tp_tree.specs.Read.{source_tree}
 use Rattle.tp_meaning.specs.Fits.{ProgramFits}
 use Rattle.tp_check.specs.Program.{program_tree}
 use Rattle.tp_inputs.specs.Read.{lines_of}
+use Rattle.tp_step.specs.declared.answer.Order.{Order}
 use Rattle.tp_show.specs.Told.{AreNames}
 use Rattle.tp_run.specs.States.{Plan, plan_with}
 use Rattle.tp_words.specs.declared.command.Command.{Command}
@@ -28,6 +29,10 @@ AsksFor words command = wanted_of words ≡ Some (wanted_by command)
 abbrev pub TracesAsAsked : List (List ℕ) → Bool → Type 0
 TracesAsAsked words trace = (wanted : Wanted) → wanted_of words ≡ Some wanted → wanted.trace ≡ trace
 
+-- the order in which the items of a state are taken is the one that the words ask for
+abbrev pub OrdersAsAsked : List (List ℕ) → Order → Type 0
+OrdersAsAsked words order = (wanted : Wanted) → wanted_of words ≡ Some wanted → wanted.order ≡ order
+
 -- The words ask for this task; its program's parts fit each other, and its names are words.
 pub record IsTaskFor (words : List (List ℕ)) (held : Option Held) (task : Task) : Type 0 where
   pub asked_for : IsAskedFor words held (plan_of task)
@@ -35,6 +40,7 @@ pub record IsTaskFor (words : List (List ℕ)) (held : Option Held) (task : Task
   pub names : AreNames task.program.globals
   pub states : task.limits.states < 2 ^ 64
   pub trace : TracesAsAsked words task.trace
+  pub order : OrdersAsAsked words task.order
 
 -- the words ask for this task, or to print this source
 abbrev pub IsJobFor : List (List ℕ) → Option Held → Job → Type 0

@@ -10,7 +10,7 @@ ghost use Rattle.tp_inputs.specs.Read.{lines_of};
 ghost use Rattle.tp_inputs.specs.Table.{IsInputsText};
 ghost use Rattle.tp_call.specs.Answer.{WhereTold, HoldsProgram, HasInputs, IsAskedFor, Answers, AsksOnly};
 ghost use Rattle.tp_call.specs.Reading.{AsksFile, AsksTable};
-ghost use Rattle.tp_call.specs.Task.{plan_of, AsksFor, TracesAsAsked, IsTaskFor, IsJobFor};
+ghost use Rattle.tp_call.specs.Task.{plan_of, AsksFor, TracesAsAsked, OrdersAsAsked, IsTaskFor, IsJobFor};
 ghost use Rattle.tp_words.specs.declared.mode.Mode.TheVariants.{Run};
 ghost use Rattle.tp_call.specs.Headline.{FinishedSays, FinishedTextSays, OpenTextSays, ContradictorySays, UndeterminedSays, StateLimitSays, LimitSays, InputMissingSays, ProgramRuns, WordsRefusedExactly, TooLongExactly, SourceRefusedExactly, InputsRefusedExactly, PrintedSays, SourcePrints};
 ghost use Rattle.tp_call.specs.Parts.{IsReadRefusal, IsSourceRefusal, IsTableRefusal, IsInputsEnd, IsProgramRefusal};
@@ -18,6 +18,7 @@ ghost use Rattle.tp_call.specs.EveryOrder.{ComesToEachEnd};
 ghost use Rattle.tp_call.specs.Trace.{TraceSays};
 ghost use Rattle.tp_call.specs.TracedText.{FinishedTracedSays, OpenTracedSays};
 ghost use Rattle.tp_call.specs.EachRun.{PrintsEachRun, BeginningsComeToEnd};
+ghost use Rattle.tp_call.specs.InOrder.{StatusInOrder, FailsInOrder};
 ghost use Rattle.tp_call.specs.Progress.{line_of_end, ClosesAnswer, ClosesRun};
 ghost use Rattle.tp_show.specs.Told.{AreNames, IsLastTurn};
 
@@ -158,8 +159,9 @@ fn task_for<F: Files>(alloc: Global, command: &Command, files: &mut F) -> Result
     ensures names { IfOk result (λ task. AreNames task.program.globals) }
     ensures trace { IfOk result (λ task. (words : List (List ℕ)) → AsksFor words command.now
         → TracesAsAsked words task.trace) }
+    ensures order { IfOk result (λ task. (words : List (List ℕ)) → AsksFor words command.now
+        → OrdersAsAsked words task.order) }
     ensures states { IfOk result (λ task. task.limits.states < 2 ^ 64) }
-    ensures order { IfOk result (λ task. task.order ≡ command.now.order) }
     ensures refused { IfErr result (λ status. (words : List (List ℕ)) → AsksFor words command.now
         → IsProgramRefusal words (F.held files.old) status) }
     ensures asked { (words : List (List ℕ)) → AsksFor words command.now
@@ -253,6 +255,7 @@ fn run_whole<K: Sink, L: Ledger>(
     requires { ProgramFits (program_tree task.program) }
     ensures answer { (words : List (List ℕ)) (held : Option Held) → IsTaskFor words held task
         → Answers words held (K.written out.old) (K.written out.new) result }
+    ensures in_order { StatusInOrder (plan_of task) task.order result }
     ensures write_fault { result ≡ Status.WriteFault
         → Rose K.greatest (K.faults out.old) (K.faults out.new) }
     ensures read { (which : Which) → result ≢ Status.ReadFault which }
@@ -275,6 +278,7 @@ fn call<F: Files, K: Sink, L: Ledger>(
 ) -> Status
     ensures answer { Answers words.now (F.held files.old) (K.written out.old) (K.written out.new)
         result }
+    ensures named_in_order { FailsInOrder words.now (F.held files.old) result }
     ensures asked { AsksOnly words.now (F.asked files.old) (F.asked files.new) (λ which.
         result ≡ Status.ReadFault which) }
     ensures held { F.held files.new ≡ F.held files.old }
@@ -333,6 +337,7 @@ pub fn tempura<F: Files, K: Sink, L: Ledger>(
     ensures every_text { PrintsEachRun words.now (F.held files.old) (K.written out.old)
         (K.written out.new) result }
     ensures no_dead_end { BeginningsComeToEnd words.now (F.held files.old) result }
+    ensures named_in_order { FailsInOrder words.now (F.held files.old) result }
 
     // The headline for whoever has the text alone.
     ensures finished_text { FinishedTextSays words.now (F.held files.old) (K.written out.old)

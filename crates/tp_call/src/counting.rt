@@ -8,6 +8,7 @@ ghost use Rattle.tp_call.specs.EveryOrder.{ComesToEachEnd};
 ghost use Rattle.tp_call.specs.Trace.{TraceSays};
 ghost use Rattle.tp_call.specs.TracedText.{FinishedTracedSays, OpenTracedSays};
 ghost use Rattle.tp_call.specs.EachRun.{PrintsEachRun, BeginningsComeToEnd};
+ghost use Rattle.tp_call.specs.InOrder.{FailsInOrder};
 
 use crate::call::tempura;
 use crate::status::Status;
@@ -59,6 +60,7 @@ pub fn counted<L: Ledger, F: Files, K: Sink>(
     ensures every_text { PrintsEachRun words.now (F.held files.old) (K.written out.old)
         (K.written out.new) result }
     ensures no_dead_end { BeginningsComeToEnd words.now (F.held files.old) result }
+    ensures named_in_order { FailsInOrder words.now (F.held files.old) result }
 
     // The headline for whoever has the text alone.
     ensures finished_text { FinishedTextSays words.now (F.held files.old) (K.written out.old)

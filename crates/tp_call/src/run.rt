@@ -6,7 +6,7 @@ ghost use Rattle.tp_meaning.specs.Fits.{ProgramFits};
 ghost use Rattle.tp_check.specs.Program.{program_tree};
 ghost use Rattle.tp_scene.specs.StandsFor.{first_moment};
 ghost use Rattle.tp_run.specs.States.{Plan, open_at};
-ghost use Rattle.tp_run.specs.Runs.{standing_of, standing_place, next_state_of, program_of, IsRunOf};
+ghost use Rattle.tp_run.specs.Runs.{standing_of, standing_place, next_state_of, order_of, program_of, IsRunOf};
 ghost use Rattle.tp_show.specs.Read.{plain_parts};
 ghost use Rattle.tp_show.specs.Parts.{line_parts};
 ghost use Rattle.tp_show.specs.Told.{IsPictureInRange};
@@ -14,6 +14,7 @@ ghost use Rattle.tp_call.specs.Task.{plan_of};
 ghost use Rattle.tp_call.specs.Run.{limit_end, last_answer as last_by, status_of as end_status};
 ghost use Rattle.tp_call.specs.Progress.{TurnMade, ProgramMade, printed_lines, is_settled as is_settled_by};
 ghost use Rattle.tp_call.specs.Places.{StandsOpen, CarriesDue};
+ghost use Rattle.tp_call.specs.InOrder.{NamesInOrder, LastInOrder};
 ghost use Rattle.tp_call.specs.Printed.{written_state, next_moment};
 
 use crate::status::Status;
@@ -180,6 +181,9 @@ fn make_state<K: Sink, L: Ledger>(
     ensures made { (plan : Plan) → IsRunOf plan run.old
         → TurnMade plan trace (standing_place run.old) (standing_place run.new)
         (K.written out.old) (K.written out.new) result }
+    ensures order { order_of run.new ≡ order_of run.old }
+    ensures in_order { IfOk result (λ last. (plan : Plan) → IsRunOf plan run.old
+        → LastInOrder plan (order_of run.old) (standing_place run.old) last) }
     ensures later { K.faults out.old ≤ K.faults out.new }
     ensures cause { IsErrOf result WriteRefusal.Failed
         → Rose K.greatest (K.faults out.old) (K.faults out.new) }
@@ -206,6 +210,7 @@ fn start(alloc: Global, task: Task) -> Result<Run, NoMemory>
         standing_of run
         ≡ open_at (first_moment task.program.globals (formula_tree task.program.main.value))) }
     ensures state { IfOk result (λ run. next_state_of run ≡ 0) }
+    ensures order { IfOk result (λ run. order_of run ≡ task.order) }
     ensures run { IfOk result (IsRunOf (plan_of task)) }
 {
     let Task {
@@ -236,6 +241,7 @@ pub fn run_task<K: Sink, L: Ledger>(
     requires { ProgramFits (program_tree task.program) }
     ensures made { ProgramMade (plan_of task) task.trace (K.written out.old) (K.written out.new)
         result }
+    ensures in_order { IfOk result (λ ended. NamesInOrder (plan_of task) task.order ended.turn) }
     ensures later { K.faults out.old ≤ K.faults out.new }
     ensures cause { IsErrOf result WriteRefusal.Failed
         → Rose K.greatest (K.faults out.old) (K.faults out.new) }

@@ -47,6 +47,9 @@ returns-clause-every_text g c = prints_each_run _ _ _ _ _ c.call.ensures.answer
 pub returns-clause-no_dead_end : goal.returns-clause-no_dead_end
 returns-clause-no_dead_end g c = beginnings_come_to_end _ _ _ _ _ c.call.ensures.answer
 
+pub returns-clause-named_in_order : goal.returns-clause-named_in_order
+returns-clause-named_in_order g c = c.call.ensures.named_in_order
+
 pub returns-clause-finished_text : goal.returns-clause-finished_text
 returns-clause-finished_text g c = finished_text _ _ _ _ _ c.call.ensures.answer
 

@@ -1,6 +1,8 @@
 use Rattle.std.proofs.Common.{refl}
 use Rattle.std.proofs.lemmas.Result.{err_from_is_err_and}
+use Rattle.tp_run.specs.Runs.{order_of, standing_place}
 use Rattle.tp_call.proofs.TurnLemmas.{answer_made, write_stopped_so, settled_parts, settled_carries}
+use Rattle.tp_call.proofs.OrderLemmas.{names_last}
 use Rattle.tp_call.proofs.run.make_state.Goals as goal
 
 pub write_settled-requires-clause-parts : goal.write_settled-requires-clause-parts
@@ -16,6 +18,10 @@ write_settled-requires-clause-carried g c = λ settled.
 pub returns-clause-made : goal.returns-clause-made
 returns-clause-made g c = λ plan runs.
     answer_made _ _ _ _ _ _ _ (c.in_ok-turn.ensures.made plan runs) _ _ (c.state.ensures.run plan runs).program _ _ c.last_answer.ensures c.in_ok-write_settled.ensures.written c.in_ok-write_settled.ensures.range
+
+pub returns-clause-in_order : goal.returns-clause-in_order
+returns-clause-in_order g c = λ plan runs.
+    names_last plan (order_of c.args.run.now) (standing_place c.args.run.now) c.in_ok-turn.turn c.last_answer.result c.last_answer.ensures (λ m stands. c.in_ok-turn.ensures.in_order plan m runs stands)
 
 pub returns-in_err-write_settled-clause-made : goal.returns-in_err-write_settled-clause-made
 returns-in_err-write_settled-clause-made g c = λ plan runs.

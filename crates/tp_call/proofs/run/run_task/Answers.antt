@@ -1,9 +1,10 @@
-use Rattle.std.proofs.Common.{ℕ, ◌≤◌, ◌<◌, inr, refl, arith}
+use Rattle.std.proofs.Common.{ℕ, ◌≤◌, ◌<◌, inr, refl, ◌∙◌, arith}
 use Rattle.std.proofs.lemmas.Result.{err_from_is_err_and}
-use Rattle.tp_run.specs.Runs.{standing_place, next_state_of}
+use Rattle.tp_run.specs.Runs.{standing_place, next_state_of, order_of}
 use Rattle.tp_call.specs.Task.{plan_of}
 use Rattle.tp_call.proofs.RunLemmas.{HasWritten-none, HasWritten-more, next_state}
 use Rattle.tp_call.proofs.TurnLemmas.{went_on}
+use Rattle.tp_call.proofs.OrderLemmas.{run_names}
 use Rattle.tp_call.proofs.run.run_task.Goals as goal
 
 up_to : (a b c : ℕ) → a ≤ b → b ≤ c → a ≤ c
@@ -13,6 +14,7 @@ pub loop-picture-init : goal.loop-picture-init
 loop-picture-init g c = record {
   written = HasWritten-none (plan_of c.args.task) c.args.task.trace (standing_place c.in_ok-run.run') (g.K.Sink.written c.args.out.now) c.in_ok-run.ensures.stands c.in_ok-run.ensures.state;
   run = c.in_ok-run.ensures.run;
+  order = c.in_ok-run.ensures.order;
   later = omega arith;
 }
 
@@ -39,6 +41,14 @@ returns-in-Some-clause-made g c =
       ended = record { program_is = (c.in_ok-turn.ensures.run _ c.loop-picture.invariant.run).program; store = refl };
     })
 
+pub returns-in-Some-clause-in_order : goal.returns-in-Some-clause-in_order
+returns-in-Some-clause-in_order g c =
+    let plan = plan_of c.args.task in
+    let made = (rw c.in-Some.is at c.in_ok-turn.ensures.made) plan c.loop-picture.invariant.run in
+    let last = (rw c.in-Some.is at c.in_ok-turn.ensures.in_order) plan c.loop-picture.invariant.run in
+    run_names plan (order_of c.loop-picture.run) c.args.task.order c.args.task.trace (standing_place c.loop-picture.run) (standing_place c.make_state.new.run) _ _ _ c.in-Some.turn
+    c.loop-picture.invariant.order c.loop-picture.invariant.written made last
+
 pub loop-picture-preserved : goal.loop-picture-preserved
 loop-picture-preserved g c =
     let made = (rw c.in_default.is at c.in_ok-turn.ensures.made) _ c.loop-picture.invariant.run in
@@ -46,6 +56,7 @@ loop-picture-preserved g c =
     record {
       written = HasWritten-more _ _ (standing_place c.loop-picture.run) (standing_place c.make_state.new.run) _ _ _ made.picture c.loop-picture.invariant.written went;
       run = c.in_ok-turn.ensures.run _ c.loop-picture.invariant.run;
+      order = c.in_ok-turn.ensures.order ∙ c.loop-picture.invariant.order;
       later = up_to _ _ _ c.loop-picture.invariant.later c.in_ok-turn.ensures.later;
     }
 

@@ -1,0 +1,54 @@
+-- A call names the failure that the order of the words meets.
+use Rattle.std.proofs.Common.{◌≡◌, inl, inr, ℕ, List, Option, None, Some, sym, subst}
+use Rattle.tp_io.specs.Devices.{Held}
+use Rattle.tp_step.specs.declared.answer.Order.{Order}
+use Rattle.tp_run.specs.States.{Plan}
+use Rattle.tp_call.specs.declared.run.Task.{Task}
+use Rattle.tp_call.specs.declared.status.Status.{Status}
+use Rattle.tp_call.specs.declared.status.Status.TheVariants.{Finished, Done, Contradictory, Undetermined, StateLimit, ReductionLimit, NumberLimit, ListLimit, CallLimit, NestLimit, InputMissing}
+use Rattle.tp_call.specs.Task.{plan_of, IsTaskFor}
+use Rattle.tp_call.specs.Answer.{Refuses, IsEndOfRun}
+use Rattle.tp_call.specs.Parts.{IsProgramRefusal, ClosesText}
+use Rattle.tp_call.specs.InOrder.{StatusInOrder, FailsInOrder}
+use Rattle.tp_call.proofs.EveryOrderLemmas.{one_plan}
+use Rattle.tp_call.proofs.OrderLemmas.{no_end_in_order, closes_with}
+
+module _ (words : List (List ℕ)) (held : Option Held) where
+  -- a run of the task that is asked for
+  pub task_in_order : (task : Task) → IsTaskFor words held task → (result : Status) → StatusInOrder (plan_of task) task.order result → FailsInOrder words held result
+  task_in_order task is result named = λ files told plan asked.
+      let same : plan ≡ plan_of task = one_plan words held None None files told plan (plan_of task) asked is.asked_for in
+      let order : asked.wanted.order ≡ task.order = is.order asked.wanted asked.accepted in
+      let here : StatusInOrder plan task.order result = subst (λ (p : Plan). StatusInOrder p task.order result) (sym same) named in
+      subst (λ (o : Order). StatusInOrder plan o result) (sym order) here
+
+  -- no run ended
+  no_run_in_order : (result : Status) → (IsEndOfRun result → ⊥) → FailsInOrder words held result
+  no_run_in_order result never = λ files told plan asked. no_end_in_order plan asked.wanted.order result never
+
+  -- a refusal isn't the end of a run
+  refuses_no_run : (status : Status) → IsEndOfRun status → Refuses words held status → ⊥
+  refuses_no_run (Finished length) end r = r
+  refuses_no_run (Contradictory state clash) end r = r
+  refuses_no_run (Undetermined state cell) end r = r
+  refuses_no_run (StateLimit states) end r = r
+  refuses_no_run (ReductionLimit state) end r = r
+  refuses_no_run (NumberLimit state) end r = r
+  refuses_no_run (ListLimit state) end r = r
+  refuses_no_run (CallLimit state) end r = r
+  refuses_no_run (NestLimit state) end r = r
+  refuses_no_run (InputMissing state port) end r = r
+  refuses_no_run status end r = end
+
+  refusal_no_run : (status : Status) → IsProgramRefusal words held status → IsEndOfRun status → ⊥
+  refusal_no_run status (inl memory) end = subst IsEndOfRun memory end
+  refusal_no_run status (inr refused) end = refuses_no_run status end refused
+
+  pub refused_in_order : (status result : Status) (line : List ℕ) (old new : Option (List ℕ)) → IsProgramRefusal words held status → ClosesText line status old new result
+      → FailsInOrder words held result
+  refused_in_order status result line old new refused c =
+      no_run_in_order result (λ end. refusal_no_run status refused (subst IsEndOfRun (closes_with line status old new result c end) end))
+
+  -- a source that was printed isn't either
+  pub printed_in_order : (result : Status) (line : List ℕ) (old new : Option (List ℕ)) → ClosesText line Done old new result → FailsInOrder words held result
+  printed_in_order result line old new c = no_run_in_order result (λ end. subst IsEndOfRun (closes_with line Done old new result c end) end)
