@@ -23,7 +23,7 @@ loop-definition-preserved c =
     let within = c.loop-definition-test.true in
     let other : list_any (bytes_eq d.name) before ≡ false = sym c.has.ensures ∙ c.if-has.false in
     let parts = apart_is d.parameters c.in-Some.apart (sym c.in_ok-apart.ensures ∙ c.in-Some.is) in
-    let added : after ≡ before ++ d.name ∷ [] = c.in_ok-add.ensures in
+    let added : after ≡ before ++ d.name ∷ [] = c.in_ok-add.ensures.ok in
     record {
       names = added ∙ (ap (λ (xs : Names). xs ++ d.name ∷ []) c.loop-definition.invariant.names ∙ sym (one_more_mapped (λ (d : Definition). d.name) ds i d within c.definition-item.is));
       apart = subst AreApart (sym added) (apart_more before d.name c.loop-definition.invariant.apart other);
