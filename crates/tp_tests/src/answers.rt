@@ -1,5 +1,4 @@
 // Copies are equal.
-use crate::expected::same_text;
 use crate::making::path;
 use std::alloc::Global;
 use std::test::Fail;
@@ -35,7 +34,7 @@ fn cells_are_copied(rt: HostRuntime) -> Result<(), Fail> {
         let copy = cell.copy()?;
         let copied = format!(in rt.alloc(); "{copy:?}")?;
         let shown = format!(in rt.alloc(); "{cell:?}")?;
-        same_text(&rt, copied.as_str(), shown.as_str(), "a copy");
+        assert_eq!(rt; copied.as_str(), shown.as_str());
     }
     Ok(())
 }
@@ -62,7 +61,7 @@ fn clashes_are_copied(rt: HostRuntime) -> Result<(), Fail> {
         let copy = clash.copy()?;
         let copied = format!(in rt.alloc(); "{copy:?}")?;
         let shown = format!(in rt.alloc(); "{clash:?}")?;
-        same_text(&rt, copied.as_str(), shown.as_str(), "a copy");
+        assert_eq!(rt; copied.as_str(), shown.as_str());
     }
     Ok(())
 }

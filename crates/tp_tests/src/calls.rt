@@ -1,5 +1,4 @@
 // Whole calls over files and pages in memory.
-use crate::expected::{same_bytes, same_number};
 use crate::making::{contents, series};
 use crate::tables::{cut, number};
 use std::alloc::Global;
@@ -53,8 +52,8 @@ fn expect(
     let mut files = SureShelf::new(alloc, contents(alloc, "a.t", source.as_bytes())?);
     let mut page = SurePage::new(alloc);
     let status = status_of(alloc, words, &mut files, &mut page)?;
-    same_bytes(rt, page.text(), text, source);
-    same_number(rt, u64::from(status.code()), u64::from(code), source);
+    assert_eq!(rt; str::from_utf8(page.text()), Ok(text), "for {source}");
+    assert_eq!(rt; u32::from(status.code()), code, "for {source}");
     Ok(())
 }
 

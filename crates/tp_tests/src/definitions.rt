@@ -1,5 +1,4 @@
 // The outcomes of expressions that call definitions, row by row.
-use crate::expected::{holds, same_text};
 use crate::outcomes::{environment, known_state, outcome_text, read};
 use crate::tables::cut;
 use std::alloc::Global;
@@ -104,7 +103,7 @@ fn calls_are_evaluated(rt: HostRuntime) -> Result<(), Fail> {
         let (spelled, expected) = cut(row, "=>")?;
         let e = read(rt.alloc(), spelled.as_bytes())?;
         let found = value_text(rt.alloc(), &e)?;
-        same_text(&rt, found.as_str(), expected, spelled);
+        assert_eq!(rt; found.as_str(), expected, "for {spelled}");
     }
     Ok(())
 }
@@ -120,7 +119,7 @@ fn indices_of_a_place_call(rt: HostRuntime) -> Result<(), Fail> {
     let env = environment(alloc)?;
     let defs = definitions(alloc)?;
     match place(alloc, &e, &env, &store, &defs)? {
-        PlaceOutcome::Place(path) => holds(&rt, path.at.items.as_slice() == [7].as_slice(), "Ag@"),
+        PlaceOutcome::Place(path) => assert_eq!(rt; path.at.items.as_slice(), [7].as_slice()),
         PlaceOutcome::Other(_) => return Err("no place".into()),
     }
     Ok(())
@@ -146,9 +145,11 @@ const DEPTHS: [(u32, i64, &str); 5] = [
 fn calls_nest_within_limits(rt: HostRuntime) -> Result<(), Fail> {
     for (number, count, expected) in &DEPTHS {
         let e = counted(rt.alloc(), *number, *count)?;
-        let row = format!(in rt.alloc(); "{number} {count}")?;
-        let found = value_text(rt.alloc(), &e)?;
-        same_text(&rt, found.as_str(), expected, row.as_str());
+        assert_eq!(rt;
+            value_text(rt.alloc(), &e)?.as_str(),
+            *expected,
+            "{number} {count}"
+        );
     }
     Ok(())
 }
@@ -166,10 +167,8 @@ fn calls_beside(alloc: Global, count: usize) -> Result<Expr, Fail> {
 #[test]
 fn calls_are_counted(rt: HostRuntime) -> Result<(), Fail> {
     let most = calls_beside(rt.alloc(), 100_000)?;
-    let found = value_text(rt.alloc(), &most)?;
-    same_text(&rt, found.as_str(), "true", "100000 calls");
+    assert_eq!(rt; value_text(rt.alloc(), &most)?.as_str(), "true");
     let more = calls_beside(rt.alloc(), 100_001)?;
-    let found = value_text(rt.alloc(), &more)?;
-    same_text(&rt, found.as_str(), "over Calls", "100001 calls");
+    assert_eq!(rt; value_text(rt.alloc(), &more)?.as_str(), "over Calls");
     Ok(())
 }

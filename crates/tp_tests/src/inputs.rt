@@ -1,5 +1,4 @@
 // Tables of inputs, with ample memory.
-use crate::expected::{holds, same_bytes, same_text};
 use crate::making::series;
 use std::alloc::Global;
 use std::process::Abort;
@@ -25,11 +24,11 @@ fn ports_have_their_values(rt: HostRuntime) -> Result<(), Fail> {
             Some(value) => same(value, &Value::Num(wanted)),
             None => wanted == -1,
         };
-        holds(&rt, found, name);
+        assert!(rt; found, "{name} in state {state}");
     }
     let none = Inputs::none(rt.alloc())?;
     let port = Text::from_slice(rt.alloc(), b"a")?;
-    holds(&rt, none.at(0, &port).is_none(), "no inputs");
+    assert!(rt; none.at(0, &port).is_none());
     Ok(())
 }
 
@@ -48,7 +47,7 @@ fn expect_value(
         Some(value) => write_value(value, &mut out)?,
         None => out.append(b"none")?,
     }
-    same_bytes(rt, out.as_slice(), canonical, text);
+    assert_eq!(rt; out.as_slice(), canonical.as_bytes(), "at {text:?}");
     Ok(())
 }
 
@@ -84,7 +83,7 @@ fn expect_refusal(rt: &(impl Abort + AllocGlobal), text: &str, refusal: &str) ->
         Ok(_) => return Err("a table".into()),
         Err(answer) => {
             let answer = format!(in rt.alloc(); "{answer:?}")?;
-            same_text(rt, answer.as_str(), refusal, text);
+            assert_eq!(rt; answer.as_str(), refusal, "at {text:?}");
         }
     }
     Ok(())
@@ -132,7 +131,7 @@ fn tables_stay_within_the_limits(rt: HostRuntime) -> Result<(), Fail> {
     for (pattern, times) in [("p#a#=1", 63), ("p=#<##>#", 100), ("p=<1#,1#>", 65_535)] {
         let text = series(rt.alloc(), pattern, times)?;
         let read = read_inputs(rt.alloc(), text.as_bytes());
-        holds(&rt, read.is_ok(), pattern);
+        assert!(rt; read.is_ok(), "{pattern}");
     }
     let longer = series(rt.alloc(), "p#a#=1", 64)?;
     expect_refusal(&rt, longer.as_str(), "BadLine { line: 1 }")?;

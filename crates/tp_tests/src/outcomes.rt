@@ -1,5 +1,4 @@
 // The outcomes of expressions, row by row.
-use crate::expected::same_text;
 use crate::making::{nested, one_variable, path, sixes};
 use crate::tables::cut;
 use std::alloc::Global;
@@ -306,7 +305,7 @@ fn expressions_are_evaluated(rt: HostRuntime) -> Result<(), Fail> {
         let (spelled, expected) = cut(row, "=>")?;
         let e = read(rt.alloc(), spelled.as_bytes())?;
         let found = value_text(rt.alloc(), &e)?;
-        same_text(&rt, found.as_str(), expected, spelled);
+        assert_eq!(rt; found.as_str(), expected, "for {spelled}");
     }
     Ok(())
 }
@@ -317,7 +316,7 @@ fn places_are_found(rt: HostRuntime) -> Result<(), Fail> {
         let (spelled, expected) = cut(row, "=>")?;
         let e = read(rt.alloc(), spelled.as_bytes())?;
         let found = place_text(rt.alloc(), &e)?;
-        same_text(&rt, found.as_str(), expected, spelled);
+        assert_eq!(rt; found.as_str(), expected, "for {spelled}");
     }
     Ok(())
 }
@@ -343,9 +342,7 @@ const DEPTHS: [(usize, &str); 4] = [
 fn depths_are_limited(rt: HostRuntime) -> Result<(), Fail> {
     for (count, expected) in &DEPTHS {
         let e = negated(rt.alloc(), *count)?;
-        let found = value_text(rt.alloc(), &e)?;
-        let row = format!(in rt.alloc(); "{count}")?;
-        same_text(&rt, found.as_str(), expected, row.as_str());
+        assert_eq!(rt; value_text(rt.alloc(), &e)?.as_str(), *expected, "{count}");
     }
     Ok(())
 }

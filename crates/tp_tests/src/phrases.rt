@@ -1,10 +1,8 @@
 // Each text is parsed to the tree or the refusal that it means.
-use crate::expected::same_bytes;
 use crate::making::series;
 use crate::sources::tokens_of;
 use crate::tables::{cut, number};
 use std::alloc::Global;
-use std::process::Abort;
 use std::test::Fail;
 use tp_parse::parse;
 use tp_value::Text;
@@ -21,19 +19,20 @@ fn outcome(alloc: Global, text: &str, places: bool) -> Result<Text, Fail> {
     Ok(out)
 }
 
-fn expect_rows(rt: &(impl Abort + AllocGlobal), table: &str, places: bool) -> Result<(), Fail> {
-    for row in table.trim().lines() {
-        let (text, expected) = cut(row, "=>")?;
-        let found = outcome(rt.alloc(), text, places)?;
-        same_bytes(rt, found.as_slice(), expected, text);
-    }
-    Ok(())
-}
-
 #[test]
 fn sources_are_parsed(rt: HostRuntime) -> Result<(), Fail> {
-    expect_rows(&rt, ROWS, false)?;
-    expect_rows(&rt, PLACED, true)
+    for (table, places) in [(ROWS, false), (PLACED, true)] {
+        for row in table.trim().lines() {
+            let (text, expected) = cut(row, "=>")?;
+            let found = outcome(rt.alloc(), text, places)?;
+            assert_eq!(rt;
+                str::from_utf8(found.as_slice()),
+                Ok(expected),
+                "for {text}"
+            );
+        }
+    }
+    Ok(())
 }
 
 #[test]
@@ -43,7 +42,11 @@ fn deep_sources_are_parsed(rt: HostRuntime) -> Result<(), Fail> {
         let (pattern, expected) = cut(row, "=>")?;
         let text = series(rt.alloc(), pattern, number(times)?)?;
         let found = outcome(rt.alloc(), text.as_str(), false)?;
-        same_bytes(&rt, found.as_slice(), expected, text.as_str());
+        assert_eq!(rt;
+            str::from_utf8(found.as_slice()),
+            Ok(expected),
+            "for {text}"
+        );
     }
     Ok(())
 }

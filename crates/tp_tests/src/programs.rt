@@ -1,10 +1,8 @@
 // Each source is checked to the program or the refusal that it means.
-use crate::expected::same_bytes;
 use crate::sources::source_of;
 use crate::spelling::{spell, spell_expr};
 use crate::tables::cut;
 use std::alloc::Global;
-use std::process::Abort;
 use std::test::Fail;
 use tp_check::{CheckRefusal, Program, check};
 use tp_kernel::Def;
@@ -359,16 +357,6 @@ fn outcome(alloc: Global, text: &str) -> Result<Text, Fail> {
     Ok(out)
 }
 
-// What is made of the source of each row.
-fn expect_rows(rt: &(impl Abort + AllocGlobal), table: &str) -> Result<(), Fail> {
-    for row in table.trim().lines() {
-        let (text, expected) = cut(row, "=>")?;
-        let found = outcome(rt.alloc(), text)?;
-        same_bytes(rt, found.as_slice(), expected, text);
-    }
-    Ok(())
-}
-
 #[test]
 fn sources_are_checked(rt: HostRuntime) -> Result<(), Fail> {
     for table in [
@@ -387,7 +375,15 @@ fn sources_are_checked(rt: HostRuntime) -> Result<(), Fail> {
         UNKNOWN,
         CALLS,
     ] {
-        expect_rows(&rt, table)?;
+        for row in table.trim().lines() {
+            let (text, expected) = cut(row, "=>")?;
+            let found = outcome(rt.alloc(), text)?;
+            assert_eq!(rt;
+                str::from_utf8(found.as_slice()),
+                Ok(expected),
+                "for {text}"
+            );
+        }
     }
     Ok(())
 }

@@ -3,7 +3,6 @@ ghost use Rattle.std.specs.Prelude.{◌≡◌, ◌<◌};
 ghost use Rattle.tp_meaning.specs.Fits.{ProgramFits};
 ghost use Rattle.tp_check.specs.Program.{program_tree};
 
-use crate::expected::same_text;
 use crate::making::{no_picture, path};
 use crate::sources::program_of;
 use crate::tables::{cut, number};
@@ -169,7 +168,7 @@ fn expect_rows(rt: &(impl Abort + AllocGlobal), table: &str) -> Result<(), Fail>
         let text = told_history(rt.alloc(), source, limits_of(limits)?)?;
         let (made, end) = cut(row, "\n")?;
         let expected = format!(in rt.alloc(); "{made} {end} {end}")?;
-        same_text(rt, text.as_str(), expected.as_str(), source);
+        assert_eq!(rt; text.as_str(), expected.as_str(), "for {source}");
     }
     Ok(())
 }

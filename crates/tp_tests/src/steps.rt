@@ -7,12 +7,10 @@ ghost use Rattle.tp_decide.specs.Decided.{setting_of};
 ghost use Rattle.tp_slots.specs.Kept.{IsWellKept};
 ghost use Rattle.tp_step.specs.Answers.{moment_of};
 
-use crate::expected::same_text;
 use crate::sources::program_of;
 use crate::tables::{cut, number};
 use std::alloc::Global;
 use std::marker::Brand;
-use std::process::Abort;
 use std::sync::ledger::{Blank, Ledger};
 use std::test::Fail;
 use tp_check::Program;
@@ -271,30 +269,19 @@ run skip proj skip. | 01245 | 0124 | \
     2+0 2, 1+0! 2, 3+0 4, 1+0! 4, 0+0! 3, Goes Goes 1:Goes 2:Goes then 0+0! 1, 3+0 3, 0+0! 2, rests 2, Ends Ends 1:Ends 2:Ends
 ";
 
-// What is answered in the state of a row.
-fn expect_state(rt: &(impl Abort + AllocGlobal), row: &str) -> Result<(), Fail> {
-    let (source, row) = cut(row, "|")?;
-    let (picks, row) = cut(row, "|")?;
-    let (room, expected) = cut(row, "|")?;
-    let room = u64::from(number(room)?);
-    let text = told_items(rt.alloc(), source, picks.as_bytes(), room, None)?;
-    same_text(rt, text.as_str(), expected, source);
-    Ok(())
-}
-
-// The same of each row of a table.
-fn expect_states(rt: &(impl Abort + AllocGlobal), table: &str) -> Result<(), Fail> {
-    for row in table.trim().lines() {
-        expect_state(rt, row)?;
-    }
-    Ok(())
-}
-
 #[test]
 fn items_are_reduced(rt: HostRuntime) -> Result<(), Fail> {
-    expect_states(&rt, KINDS)?;
-    expect_states(&rt, MEETINGS)?;
-    expect_states(&rt, REGIONS)
+    for table in [KINDS, MEETINGS, REGIONS] {
+        for row in table.trim().lines() {
+            let (source, row) = cut(row, "|")?;
+            let (picks, row) = cut(row, "|")?;
+            let (room, expected) = cut(row, "|")?;
+            let room = u64::from(number(room)?);
+            let text = told_items(rt.alloc(), source, picks.as_bytes(), room, None)?;
+            assert_eq!(rt; text.as_str(), expected, "for {source}");
+        }
+    }
+    Ok(())
 }
 
 #[test]
@@ -305,7 +292,7 @@ fn a_state_goes_on(rt: HostRuntime) -> Result<(), Fail> {
         let (second, expected) = cut(row, "|")?;
         let second = Some(second.as_bytes());
         let text = told_items(rt.alloc(), source, first.as_bytes(), 9, second)?;
-        same_text(&rt, text.as_str(), expected, source);
+        assert_eq!(rt; text.as_str(), expected, "for {source}");
     }
     Ok(())
 }

@@ -1,5 +1,4 @@
 // Texts and their tokens, refusals and places.
-use crate::expected::{holds, same_text};
 use crate::making::series;
 use crate::sources::tokens_of;
 use crate::tables::cut;
@@ -51,16 +50,14 @@ ifx if run_ => 100 0 100
 fn reads_texts(rt: HostRuntime) -> Result<(), Fail> {
     for (text, times) in [(WORDS, 35), (SYMBOLS, 22)] {
         let expected = series(rt.alloc(), "#@ #", times)?;
-        let found = numbers(rt.alloc(), text)?;
-        same_text(&rt, found.as_str(), expected.as_str(), text);
+        assert_eq!(rt; numbers(rt.alloc(), text)?.as_str(), expected.as_str());
     }
     for row in READ.trim().lines() {
         let (text, expected) = cut(row, "=>")?;
         let found = numbers(rt.alloc(), text)?;
-        same_text(&rt, found.as_str().trim(), expected, text);
+        assert_eq!(rt; found.as_str().trim(), expected, "for {text}");
     }
-    let blank = " \t\r\n/* run */ /**/";
-    same_text(&rt, numbers(rt.alloc(), blank)?.as_str(), "", blank);
+    assert_eq!(rt; numbers(rt.alloc(), " \t\r\n/* run */ /**/")?.as_str(), "");
     Ok(())
 }
 
@@ -80,7 +77,7 @@ fn expect_refusal(rt: &(impl Abort + AllocGlobal), text: &str, refusal: &str) ->
         Ok(_) => return Err("tokens".into()),
         Err(answer) => {
             let answer = format!(in rt.alloc(); "{answer:?}")?;
-            same_text(rt, answer.as_str(), refusal, text);
+            assert_eq!(rt; answer.as_str(), refusal, "for {text}");
         }
     }
     Ok(())
@@ -93,8 +90,7 @@ fn refuses_texts(rt: HostRuntime) -> Result<(), Fail> {
         expect_refusal(&rt, text, refusal)?;
     }
     let longest = series(rt.alloc(), "#n#", 64)?;
-    let read = tokens_of(rt.alloc(), longest.as_bytes());
-    holds(&rt, read.is_ok(), longest.as_str());
+    assert!(rt; tokens_of(rt.alloc(), longest.as_bytes()).is_ok());
     let longer = series(rt.alloc(), "#n#", 65)?;
     expect_refusal(&rt, longer.as_str(), "NameTooLong { at: 0 }")
 }
@@ -103,8 +99,7 @@ fn refuses_texts(rt: HostRuntime) -> Result<(), Fail> {
 fn expect_place(rt: &(impl Abort + AllocGlobal), text: &[u8], at: usize, place: (u32, u32)) {
     assert!(rt; at <= text.len());
     assert!(rt; text.len() <= 100);
-    let (line, column) = place_of(text, at);
-    holds(rt, line == place.0 && column == place.1, "a place");
+    assert_eq!(rt; place_of(text, at), place);
 }
 
 #[test]
@@ -118,7 +113,6 @@ fn tells_places(rt: HostRuntime) -> Result<(), Fail> {
     expect_place(&rt, text, 6, (3, 4));
     let found = tokens_of(rt.alloc(), text)?;
     let last = found.items.last().ok_or("a token")?;
-    let found = format!(in rt.alloc(); "{} {} {} {}", last.from, last.to, last.line, last.column)?;
-    same_text(&rt, found.as_str(), "5 6 3 3", "the last token");
+    assert_eq!(rt; (last.from, last.to, last.line, last.column), (5, 6, 3, 3));
     Ok(())
 }

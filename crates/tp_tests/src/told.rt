@@ -7,7 +7,6 @@ ghost use Rattle.tp_run.specs.States.{Plan};
 ghost use Rattle.tp_show.specs.Parts.{line_parts};
 ghost use Rattle.tp_show.specs.Read.{plain_parts};
 
-use crate::expected::same_bytes;
 use crate::making::no_picture;
 use crate::sources::program_of;
 use std::alloc::Global;
@@ -92,7 +91,7 @@ fn expect(
     text: &str,
 ) -> Result<(), Fail> {
     let found = told_source(rt.alloc(), source, table, Order::First)?;
-    same_bytes(rt, found.as_slice(), text, source);
+    assert_eq!(rt; str::from_utf8(found.as_slice()), Ok(text), "for {source}");
     Ok(())
 }
 

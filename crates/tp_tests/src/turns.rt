@@ -1,5 +1,4 @@
 // The answers of runs: their end lines and their copies.
-use crate::expected::same_bytes;
 use crate::making::{one_variable, path};
 use std::alloc::Global;
 use std::process::Abort;
@@ -114,7 +113,7 @@ fn expect(rt: &(impl Abort + AllocGlobal), turn: &Turn, text: &str) -> Result<()
     for turn in [turn, &turn.copy()?] {
         let mut line = Text::new(rt.alloc());
         end_text(turn, &store, &globals, 1000, &mut line)?;
-        same_bytes(rt, line.as_slice(), text, text);
+        assert_eq!(rt; line.as_slice(), text.as_bytes(), "for {turn:?}");
     }
     Ok(())
 }

@@ -3,7 +3,6 @@ ghost use Rattle.std.specs.Prelude.{IfOk};
 ghost use Rattle.tp_value.specs.Read.{tree};
 ghost use Rattle.tp_value.specs.Shape.{HasShortLists};
 
-use crate::expected::{holds, same_bytes, same_number, same_text};
 use crate::making::{nested, series, sixes};
 use crate::tables::{cut, number};
 use std::alloc::Global;
@@ -34,7 +33,7 @@ fn values_are_copied(rt: HostRuntime) -> Result<(), Fail> {
     for (i, value) in all.iter().enumerate() {
         let copy = value.copy(rt.alloc())?;
         for (j, other) in all.iter().enumerate() {
-            holds(&rt, same(&copy, other) == (i == j), "a copy");
+            assert_eq!(rt; same(&copy, other), i == j, "at {i} and {j}");
         }
     }
     Ok(())
@@ -53,13 +52,9 @@ fn expect_fact(rt: &(impl Abort + AllocGlobal)) -> Result<(), Fail> {
         shape: Shape::Items(2),
     };
     let copy = fact.copy()?;
-    holds(rt, copy.path.var == var, "a fact's variable");
-    holds(
-        rt,
-        copy.path.at.items.as_slice() == [4, 0].as_slice(),
-        "a fact's indices",
-    );
-    holds(rt, copy.shape == Shape::Items(2), "a fact's shape");
+    assert_eq!(rt; copy.path.var, var);
+    assert_eq!(rt; copy.path.at.items.as_slice(), [4, 0].as_slice());
+    assert_eq!(rt; copy.shape, Shape::Items(2));
     Ok(())
 }
 
@@ -71,9 +66,8 @@ fn expect_text(rt: &(impl Abort + AllocGlobal), start: &str, end: &str) -> Resul
     let copy = text.copy()?;
     let whole = format!(in rt.alloc(); "{start}{end}")?;
     let made = Text::from_slice(rt.alloc(), whole.as_bytes())?;
-    same_bytes(rt, copy.as_slice(), whole.as_str(), start);
-    same_bytes(rt, made.as_slice(), whole.as_str(), start);
-    same_number(rt, made.len() as u64, whole.len() as u64, start);
+    assert_eq!(rt; copy.as_slice(), made.as_slice(), "at {whole}");
+    assert_eq!(rt; made.len(), whole.len(), "at {whole}");
     Ok(())
 }
 
@@ -85,7 +79,7 @@ fn texts_and_facts_are_built(rt: HostRuntime) -> Result<(), Fail> {
     expect_text(&rt, "ab", "cd")?;
     expect_fact(&rt)?;
     let none = Indices::new(rt.alloc()).copy()?;
-    same_number(&rt, none.items.len() as u64, 0, "no indices");
+    assert_eq!(rt; none.items.len(), 0);
     Ok(())
 }
 
@@ -108,10 +102,10 @@ fn expect_name(
 ) -> Result<(), Fail> {
     let text = Text::from_slice(rt.alloc(), name.as_bytes())?;
     let added = globals.add(&text)?;
-    holds(rt, added == var, name);
-    holds(rt, globals.find(&text) == Some(var), name);
+    assert_eq!(rt; added, var, "at {name}");
+    assert_eq!(rt; globals.find(&text), Some(var), "at {name}");
     let kept = globals.name(var.number).ok_or("no name")?;
-    same_bytes(rt, kept.as_slice(), name, name);
+    assert_eq!(rt; kept.as_slice(), name.as_bytes());
     Ok(())
 }
 
@@ -127,13 +121,8 @@ fn names_are_numbered(rt: HostRuntime) -> Result<(), Fail> {
         };
         expect_name(&rt, &mut globals, name, var)?;
     }
-    same_number(&rt, globals.len(), 4, "names");
+    assert_eq!(rt; globals.len(), 4);
     Ok(())
-}
-
-// Expects this result of two operands, or of one and 0.
-fn same_result(rt: &impl Abort, found: Option<i64>, expected: Option<i64>, a: i64, b: i64) {
-    assert_eq!(rt; found, expected, "at {a} and {b}");
 }
 
 #[test]
@@ -148,10 +137,10 @@ fn numbers_have_a_limit(rt: HostRuntime) {
         (most, -most, Some(0)),
     ];
     for (a, b, total) in table {
-        same_result(&rt, sum(a, b), total, a, b);
+        assert_eq!(rt; sum(a, b), total, "at {a} and {b}");
     }
-    holds(&rt, is_number(-most), "the least number");
-    holds(&rt, !is_number(-most - 1), "one less");
+    assert!(rt; is_number(-most));
+    assert!(rt; !is_number(-most - 1));
 }
 
 #[test]
@@ -168,8 +157,8 @@ fn numbers_are_divided(rt: HostRuntime) {
         (1, -most - 1, Some(-1), Some(-most)),
     ];
     for (a, b, whole, rest) in table {
-        same_result(&rt, quotient(a, b), whole, a, b);
-        same_result(&rt, remainder(a, b), rest, a, b);
+        assert_eq!(rt; quotient(a, b), whole, "at {a} and {b}");
+        assert_eq!(rt; remainder(a, b), rest, "at {a} and {b}");
     }
 }
 
@@ -189,12 +178,12 @@ fn numbers_are_reckoned(rt: HostRuntime) {
         ),
     ];
     for (a, b, left, times) in table {
-        same_result(&rt, difference(a, b), left, a, b);
-        same_result(&rt, product(a, b), times, a, b);
+        assert_eq!(rt; difference(a, b), left, "at {a} and {b}");
+        assert_eq!(rt; product(a, b), times, "at {a} and {b}");
     }
-    same_result(&rt, negated(3), Some(-3), 3, 0);
-    same_result(&rt, negated(-most), Some(most), -most, 0);
-    same_result(&rt, negated(-most - 1), None, -most - 1, 0);
+    assert_eq!(rt; negated(3), Some(-3));
+    assert_eq!(rt; negated(-most), Some(most));
+    assert_eq!(rt; negated(-most - 1), None);
 }
 
 // A list of one list of so many numbers.
@@ -215,7 +204,7 @@ fn lists_have_limits(rt: HostRuntime) -> Result<(), Fail> {
         (wrapped(alloc, ITEM_LIMIT)?, false),
     ]?;
     for (value, within) in &table {
-        holds(&rt, is_within_list_limit(value) == *within, "a list");
+        assert_eq!(rt; is_within_list_limit(value), *within);
     }
     Ok(())
 }
@@ -239,7 +228,7 @@ fn elements_have_shapes(rt: HostRuntime) -> Result<(), Fail> {
         (&[0, 0], None),
     ];
     for (at, shape) in table {
-        holds(&rt, shape_at(&value, at) == shape, "a shape");
+        assert_eq!(rt; shape_at(&value, at), shape);
     }
     Ok(())
 }
@@ -274,8 +263,8 @@ fn expect_value(
     let mut out = Text::from_slice(rt.alloc(), b"so: ")?;
     write_value(&value, &mut out)?;
     let expected = format!(in rt.alloc(); "so: {canonical}")?;
-    same_bytes(rt, out.as_slice(), expected.as_str(), text);
-    same_number(rt, place as u64, u64::from(after), text);
+    assert_eq!(rt; out.as_slice(), expected.as_bytes(), "at {text}");
+    assert_eq!(rt; place, after as usize, "at {text}");
     Ok(())
 }
 
@@ -310,7 +299,7 @@ fn expect_refusal(rt: &(impl Abort + AllocGlobal), text: &str, refusal: &str) ->
         Ok(_) => return Err("a value".into()),
         Err(answer) => {
             let answer = format!(in rt.alloc(); "{answer:?}")?;
-            same_text(rt, answer.as_str(), refusal, text);
+            assert_eq!(rt; answer.as_str(), refusal, "at {text}");
         }
     }
     Ok(())
@@ -331,7 +320,7 @@ fn texts_past_the_limits_are_refused(rt: HostRuntime) -> Result<(), Fail> {
     for (pattern, times) in [("#<##>#", 100), ("<1#,1#>", 65_535)] {
         let text = series(rt.alloc(), pattern, times)?;
         let read = read_value(rt.alloc(), text.as_bytes(), 0);
-        holds(&rt, read.is_ok(), pattern);
+        assert!(rt; read.is_ok());
     }
     let deeper = series(rt.alloc(), "#<#", 101)?;
     expect_refusal(&rt, deeper.as_str(), "TooDeep { at: 100 }")?;

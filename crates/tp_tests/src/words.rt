@@ -1,5 +1,4 @@
 // Words of the command line, and what they ask for.
-use crate::expected::holds;
 use std::process::Abort;
 use std::test::Fail;
 use tp_step::Order;
@@ -22,9 +21,9 @@ fn expect(
     trace: bool,
 ) -> Result<(), Fail> {
     let command = command_of(rt, line)?.ok().ok_or("words that are refused")?;
-    holds(rt, command.mode == mode, line);
-    holds(rt, command.order == order, line);
-    holds(rt, command.trace == trace, line);
+    assert_eq!(rt; command.mode, mode);
+    assert_eq!(rt; command.order, order);
+    assert_eq!(rt; command.trace, trace);
     Ok(())
 }
 
@@ -71,7 +70,7 @@ fn words_of_another_form_are_refused(rt: HostRuntime) -> Result<(), Fail> {
         "print",
     ] {
         let refusal = command_of(&rt, line)?.err();
-        holds(&rt, refusal == Some(WordsRefusal::Refused), line);
+        assert_eq!(rt; refusal, Some(WordsRefusal::Refused), "for {line}");
     }
     Ok(())
 }

@@ -1,5 +1,4 @@
 // The answers of calls: their exit statuses, and the end lines where no program runs.
-use crate::expected::{same_bytes, same_number};
 use std::alloc::Global;
 use std::process::Abort;
 use std::test::Fail;
@@ -32,8 +31,8 @@ fn expect_refusal(
     text: &str,
 ) -> Result<(), Fail> {
     let line = refusal_text(rt.alloc(), status)?;
-    same_bytes(rt, line.as_slice(), text, text);
-    same_number(rt, u64::from(status.code()), u64::from(code), text);
+    assert_eq!(rt; line.as_slice(), text.as_bytes());
+    assert_eq!(rt; status.code(), code);
     Ok(())
 }
 
@@ -99,7 +98,7 @@ fn without_refusal(alloc: Global) -> Result<Vec<(Status, u8)>, NoMemory> {
 #[test]
 fn answers_have_exit_statuses(rt: HostRuntime) -> Result<(), Fail> {
     for (status, code) in &without_refusal(rt.alloc())? {
-        same_number(&rt, u64::from(status.code()), u64::from(*code), "a status");
+        assert_eq!(rt; status.code(), *code);
     }
     Ok(())
 }

@@ -1,6 +1,5 @@
 // Calls with options: inputs of a file, and limits.
 use crate::calls::status_of;
-use crate::expected::{same_bytes, same_number};
 use crate::tables::{cut, number};
 use std::alloc::Global;
 use std::process::Abort;
@@ -184,8 +183,8 @@ fn expect_row(rt: &(impl Abort + AllocGlobal), row: &str) -> Result<(), Fail> {
     let words = words_in(alloc, words)?;
     let status = status_of(alloc, words.as_slice(), &mut files, &mut page)?;
     let text = format!(in alloc; "{text}\n")?;
-    same_bytes(rt, page.text(), text.as_str(), row);
-    same_number(rt, u64::from(status.code()), u64::from(number(code)?), row);
+    assert_eq!(rt; str::from_utf8(page.text()), Ok(text.as_str()), "for {row}");
+    assert_eq!(rt; u32::from(status.code()), number(code)?, "for {row}");
     Ok(())
 }
 
@@ -206,8 +205,8 @@ fn other_words_are_refused(rt: HostRuntime) -> Result<(), Fail> {
         let mut page = SurePage::new(alloc);
         let words = words_in(alloc, line)?;
         let status = status_of(alloc, words.as_slice(), &mut files, &mut page)?;
-        same_number(&rt, u64::from(status.code()), 12, line);
-        same_bytes(&rt, page.text(), "words refused\n", line);
+        assert_eq!(rt; status.code(), 12, "for {line}");
+        assert_eq!(rt; page.text(), b"words refused\n".as_slice(), "for {line}");
     }
     Ok(())
 }

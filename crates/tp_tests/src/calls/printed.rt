@@ -1,7 +1,6 @@
 // Sources that are printed.
 use crate::calls::optioned::words_in;
 use crate::calls::{expect, status_of};
-use crate::expected::{same_bytes, same_number};
 use crate::making::{contents, series};
 use crate::tables::{cut, number};
 use std::process::Abort;
@@ -194,8 +193,8 @@ fn a_spelling_is_one_write(rt: HostRuntime) -> Result<(), Fail> {
         let mut page = Page::new(alloc, failing);
         let mut files = SureShelf::new(alloc, contents(alloc, "a.t", b"run(empty).")?);
         let status = status_of(alloc, &["print", "a.t"], &mut files, &mut page)?;
-        same_number(&rt, u64::from(status.code()), u64::from(*code), text);
-        same_bytes(&rt, page.text(alloc)?.as_slice(), text, text);
+        assert_eq!(rt; status.code(), *code);
+        assert_eq!(rt; page.text(alloc)?.as_slice(), text.as_bytes());
     }
     Ok(())
 }
