@@ -7,7 +7,8 @@ use std::test::Fail;
 use tp_io::{Content, SurePage, SureShelf};
 use tp_value::{NoMemory, Text};
 
-// The words, the source `a.t`, the inputs `b.t` with `;` for the end of a line, the exit status, and the text.
+// The words, the source `a.t`, the inputs `b.t` with `;` for the end of a line, the exit status, and the text. The file `-b` holds
+// `p=4` in each row.
 const OPTIONED: &str = "
 run a.t --inputs b.t
 run input(A,p) and skip and next (input(A,p)).
@@ -89,6 +90,13 @@ define p() = p(). run p().
 ;
 -> 4
 reduction limit: state 0: 1000 reductions
+
+run a.t --inputs=-b
+run input(A,p) and empty.
+;
+-> 0
+state 0: A=4
+finished: length 0
 
 run a.t --order first
 run skip and next(A=1 and A=2 and 1=2).
@@ -177,7 +185,8 @@ fn expect_row(rt: &(impl Abort + AllocGlobal), row: &str) -> Result<(), Fail> {
     let (table, row) = cut(row, "->")?;
     let (code, text) = cut(row, "\n")?;
     let source = file_of(alloc, "a.t", source)?;
-    let all = vec![in alloc; source, file_of(alloc, "b.t", table)?]?;
+    let inputs = file_of(alloc, "b.t", table)?;
+    let all = vec![in alloc; source, inputs, file_of(alloc, "-b", "p=4")?]?;
     let mut files = SureShelf::new(alloc, all);
     let mut page = SurePage::new(alloc);
     let words = words_in(alloc, words)?;
