@@ -1,4 +1,5 @@
 // Whole calls over files and pages in memory.
+use crate::expected::{same_bytes, same_number};
 use crate::making::{contents, series};
 use crate::tables::{cut, number};
 use std::alloc::Global;
@@ -22,6 +23,7 @@ mod unfolded;
 
 use displayed::{DISPLAYS, HANOI, IN_ORDER, NO_INPUTS, PARTS_OF_LISTS, UNSHOWN};
 use long::{LONG, LONG_LINES};
+use optioned::words_in;
 use rows::{DERIVED, IN_PARTS, INTERVALS, NOT_RUN, REFUSED, STATES, VALUES};
 use unfolded::{ARGUMENTS, CALCULATED, LIMITS, LOCALS, REFUSED_CALLS, UNFOLDED};
 
@@ -52,26 +54,58 @@ fn expect(
     let mut files = SureShelf::new(alloc, contents(alloc, "a.t", source.as_bytes())?);
     let mut page = SurePage::new(alloc);
     let status = status_of(alloc, words, &mut files, &mut page)?;
-    assert_eq!(rt; str::from_utf8(page.text()), Ok(text), "for {source}");
-    assert_eq!(rt; u32::from(status.code()), code, "for {source}");
+    same_bytes(rt, page.text(), text, source);
+    same_number(rt, u64::from(status.code()), u64::from(code), source);
     Ok(())
 }
 
-// The same of a row, where what stands between two `#` is repeated so many times.
+// The same of a row's source, its exit status and its text, where what stands between two `#` is repeated so many times.
+fn expect_repeated(
+    rt: &(impl Abort + AllocGlobal),
+    source: &str,
+    code: u32,
+    text: &str,
+    times: u32,
+) -> Result<(), Fail> {
+    let source = series(rt.alloc(), source, times)?;
+    let text = series(rt.alloc(), text, times)?;
+    let text = with_end(rt.alloc(), text.as_str())?;
+    expect(rt, &["run", "a.t"], source.as_str(), code, text.as_str())
+}
+
 fn expect_row(rt: &(impl Abort + AllocGlobal), row: &str, times: u32) -> Result<(), Fail> {
     let (source, row) = cut(row, "->")?;
     let (code, text) = cut(row, "\n")?;
-    let source = series(rt.alloc(), source, times)?;
-    let text = series(rt.alloc(), text, times)?;
-    let text = format!(in rt.alloc(); "{text}\n")?;
-    let code = number(code)?;
-    expect(rt, &["run", "a.t"], source.as_str(), code, text.as_str())
+    expect_repeated(rt, source, number(code)?, text, times)
 }
 
 // The same of each row of a table.
 fn expect_rows(rt: &(impl Abort + AllocGlobal), table: &str) -> Result<(), Fail> {
     for row in table.trim().split("\n\n") {
         expect_row(rt, row, 1)?;
+    }
+    Ok(())
+}
+
+// A text with the end of its last line.
+fn with_end(alloc: Global, text: &str) -> Result<String, Fail> {
+    let text = format!(in alloc; "{text}\n")?;
+    Ok(text)
+}
+
+// The words of a row, its source, its exit status and its text.
+fn expect_words_row(rt: &(impl Abort + AllocGlobal), row: &str) -> Result<(), Fail> {
+    let (words, row) = cut(row, "\n")?;
+    let (source, row) = cut(row, "\n->")?;
+    let (code, text) = cut(row, "\n")?;
+    let words = words_in(rt.alloc(), words)?;
+    let text = with_end(rt.alloc(), text)?;
+    expect(rt, words.as_slice(), source, number(code)?, text.as_str())
+}
+
+fn expect_words_rows(rt: &(impl Abort + AllocGlobal), table: &str) -> Result<(), Fail> {
+    for row in table.trim().split("\n\n") {
+        expect_words_row(rt, row)?;
     }
     Ok(())
 }

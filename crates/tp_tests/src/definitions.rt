@@ -1,12 +1,14 @@
 // The outcomes of expressions that call definitions, row by row.
+use crate::expected::{holds, same_text};
 use crate::outcomes::{environment, known_state, outcome_text, read};
+use crate::rows::{Telling, expect_rows};
 use crate::tables::cut;
 use std::alloc::Global;
 use std::rc::Rc;
 use std::test::Fail;
 use tp_eval::{PlaceOutcome, eval, is_place, place};
 use tp_kernel::{Def, Defs, Expr, Exprs, Formula};
-use tp_value::{NoMemory, Text, Texts};
+use tp_value::{NoMemory, Path, Text, Texts};
 
 // The parameters of each definition, in a row, and its expression, if any, in the spelling of the outcomes.
 const DEFINITIONS: &str = "
@@ -63,7 +65,7 @@ fn value_text(alloc: Global, e: &Expr) -> Result<String, Fail> {
     let env = environment(alloc)?;
     let defs = definitions(alloc)?;
     let outcome = eval(alloc, e, &env, &store, &defs)?;
-    outcome_text(alloc, outcome)
+    outcome_text(alloc, &outcome)
 }
 
 // Calls: `g` of the first definition, and so on to `o`; `p` and `q` of the second with none and with two arguments, `r` of one that isn't there.
@@ -97,20 +99,19 @@ p => NoElement
 r => NoElement
 ";
 
-#[test]
-fn calls_are_evaluated(rt: HostRuntime) -> Result<(), Fail> {
-    for row in CALLS.trim().lines() {
-        let (spelled, expected) = cut(row, "=>")?;
-        let e = read(rt.alloc(), spelled.as_bytes())?;
-        let found = value_text(rt.alloc(), &e)?;
-        assert_eq!(rt; found.as_str(), expected, "for {spelled}");
-    }
-    Ok(())
+/// The outcome of the expression that is spelled so.
+pub fn call_of(alloc: Global, spelled: &str) -> Result<String, Fail> {
+    let e = read(alloc, spelled.as_bytes())?;
+    value_text(alloc, &e)
 }
 
 #[test]
-fn indices_of_a_place_call(rt: HostRuntime) -> Result<(), Fail> {
-    let alloc = rt.alloc();
+fn calls_are_evaluated(rt: HostRuntime) -> Result<(), Fail> {
+    expect_rows(&rt, Telling::Call, CALLS)
+}
+
+// The place that is the element of A with the first definition for its index.
+fn place_of_call(alloc: Global) -> Result<Path, Fail> {
     let e = read(alloc, b"Ag@".as_slice())?;
     if !is_place(&e) {
         return Err("no place".into());
@@ -119,9 +120,15 @@ fn indices_of_a_place_call(rt: HostRuntime) -> Result<(), Fail> {
     let env = environment(alloc)?;
     let defs = definitions(alloc)?;
     match place(alloc, &e, &env, &store, &defs)? {
-        PlaceOutcome::Place(path) => assert_eq!(rt; path.at.items.as_slice(), [7].as_slice()),
-        PlaceOutcome::Other(_) => return Err("no place".into()),
+        PlaceOutcome::Place(path) => Ok(path),
+        PlaceOutcome::Other(_) => Err("no place".into()),
     }
+}
+
+#[test]
+fn indices_of_a_place_call(rt: HostRuntime) -> Result<(), Fail> {
+    let path = place_of_call(rt.alloc())?;
+    holds(&rt, path.at.items.as_slice() == [7].as_slice(), "Ag@");
     Ok(())
 }
 
@@ -131,44 +138,46 @@ fn counted(alloc: Global, number: u32, count: i64) -> Result<Expr, NoMemory> {
     Ok(Expr::Call(number, Exprs { items }))
 }
 
+// Its outcome.
+fn counted_text(alloc: Global, number: u32, count: i64) -> Result<String, Fail> {
+    let e = counted(alloc, number, count)?;
+    value_text(alloc, &e)
+}
+
 // How many calls deep the sixth definition calls itself, and how far the seventh, which calls itself twice. It makes one call fewer than the
 // power of 2 of one more.
-const DEPTHS: [(u32, i64, &str); 5] = [
-    (5, 600, "0"),
-    (5, 998, "0"),
-    (5, 999, "over Calls"),
-    (6, 15, "0"),
-    (6, 16, "over Calls"),
+const DEPTHS: [(u32, i64, &str, &str); 5] = [
+    (5, 600, "5 600", "0"),
+    (5, 998, "5 998", "0"),
+    (5, 999, "5 999", "over Calls"),
+    (6, 15, "6 15", "0"),
+    (6, 16, "6 16", "over Calls"),
 ];
 
 #[test]
 fn calls_nest_within_limits(rt: HostRuntime) -> Result<(), Fail> {
-    for (number, count, expected) in &DEPTHS {
-        let e = counted(rt.alloc(), *number, *count)?;
-        assert_eq!(rt;
-            value_text(rt.alloc(), &e)?.as_str(),
-            *expected,
-            "{number} {count}"
-        );
+    for (number, count, row, expected) in DEPTHS {
+        let found = counted_text(rt.alloc(), number, count)?;
+        same_text(&rt, found.as_str(), expected, row);
     }
     Ok(())
 }
 
-// So many calls side by side.
-fn calls_beside(alloc: Global, count: usize) -> Result<Expr, Fail> {
+// The outcome of so many calls side by side.
+fn beside_text(alloc: Global, count: usize) -> Result<String, Fail> {
     let mut items = Vec::new(alloc);
     for _ in 0..count {
         let e = read(alloc, b"g7=".as_slice())?;
         items.push(e)?;
     }
-    Ok(Expr::Both(Exprs { items }))
+    value_text(alloc, &Expr::Both(Exprs { items }))
 }
 
 #[test]
 fn calls_are_counted(rt: HostRuntime) -> Result<(), Fail> {
-    let most = calls_beside(rt.alloc(), 100_000)?;
-    assert_eq!(rt; value_text(rt.alloc(), &most)?.as_str(), "true");
-    let more = calls_beside(rt.alloc(), 100_001)?;
-    assert_eq!(rt; value_text(rt.alloc(), &more)?.as_str(), "over Calls");
+    let most = beside_text(rt.alloc(), 100_000)?;
+    same_text(&rt, most.as_str(), "true", "100000 calls");
+    let more = beside_text(rt.alloc(), 100_001)?;
+    same_text(&rt, more.as_str(), "over Calls", "100001 calls");
     Ok(())
 }

@@ -1,4 +1,5 @@
 // Each device once: those in memory by a table, the real ones over a file that the test wrote.
+use crate::expected::{holds, same_bytes};
 use std::alloc::Global;
 use std::fs;
 use std::process::Abort;
@@ -32,11 +33,22 @@ fn expect_read<F: Files>(
 ) {
     match files.read(rt.alloc(), name, 4) {
         Ok(read) => {
-            assert_eq!(rt; read.as_slice(), bytes);
-            assert_eq!(rt; refusal, None);
+            holds(rt, read.as_slice() == bytes, name);
+            holds(rt, refusal == None, name);
         }
-        Err(found) => assert_eq!(rt; Some(found), refusal),
+        Err(found) => holds(rt, Some(found) == refusal, name),
     }
+}
+
+// Writes a piece, with this answer.
+fn expect_write<K: Sink>(
+    rt: &(impl Abort + AllocGlobal),
+    out: &mut K,
+    piece: &str,
+    answer: Result<(), WriteRefusal>,
+) {
+    let found = out.write(rt.alloc(), piece.as_bytes());
+    holds(rt, found == answer, piece);
 }
 
 #[test]
@@ -60,21 +72,21 @@ fn pages_are_written(rt: HostRuntime) -> Result<(), Fail> {
     let alloc = rt.alloc();
     let failing = vec![in alloc; Failure { call: 2, kept: 1 }, Failure { call: 3, kept: 9 }]?;
     let mut page = Page::new(alloc, failing);
-    assert_eq!(rt; page.write(alloc, b"one ".as_slice()), Ok(()));
-    assert_eq!(rt;
-        page.write(alloc, b"two ".as_slice()),
-        Err(WriteRefusal::Failed)
+    let failed = Err(WriteRefusal::Failed);
+    expect_write(&rt, &mut page, "one ", Ok(()));
+    expect_write(&rt, &mut page, "two ", failed);
+    expect_write(&rt, &mut page, "three ", failed);
+    expect_write(&rt, &mut page, "four", Ok(()));
+    same_bytes(
+        &rt,
+        page.text(alloc)?.as_slice(),
+        "one tthree four",
+        "a page",
     );
-    assert_eq!(rt;
-        page.write(alloc, b"three ".as_slice()),
-        Err(WriteRefusal::Failed)
-    );
-    assert_eq!(rt; page.write(alloc, b"four".as_slice()), Ok(()));
-    assert_eq!(rt; page.text(alloc)?.as_slice(), b"one tthree four".as_slice());
     let mut sure = SurePage::new(alloc);
-    assert_eq!(rt; sure.write(alloc, b"one ".as_slice()), Ok(()));
-    assert_eq!(rt; sure.write(alloc, b"two".as_slice()), Ok(()));
-    assert_eq!(rt; sure.text(), b"one two".as_slice());
+    expect_write(&rt, &mut sure, "one ", Ok(()));
+    expect_write(&rt, &mut sure, "two", Ok(()));
+    same_bytes(&rt, sure.text(), "one two", "a sure page");
     Ok(())
 }
 
@@ -82,8 +94,8 @@ fn pages_are_written(rt: HostRuntime) -> Result<(), Fail> {
 fn real_devices_meet(rt: HostRuntime) -> Result<(), Fail> {
     let alloc = rt.alloc();
     let mut sink = RealSink::new(fs::create(&rt, "real_devices_meet.txt")?);
-    assert_eq!(rt; sink.write(alloc, b"fi".as_slice()), Ok(()));
-    assert_eq!(rt; sink.write(alloc, b"rst".as_slice()), Ok(()));
+    expect_write(&rt, &mut sink, "fi", Ok(()));
+    expect_write(&rt, &mut sink, "rst", Ok(()));
     let mut files = RealFiles::new(&rt);
     expect_read(
         &rt,
@@ -102,9 +114,6 @@ fn real_devices_meet(rt: HostRuntime) -> Result<(), Fail> {
         failed,
     );
     let mut unread = RealSink::new(fs::open(&rt, "/dev/null")?);
-    assert_eq!(rt;
-        unread.write(alloc, b"x".as_slice()),
-        Err(WriteRefusal::Failed)
-    );
+    expect_write(&rt, &mut unread, "x", Err(WriteRefusal::Failed));
     Ok(())
 }

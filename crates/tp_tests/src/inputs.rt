@@ -1,9 +1,11 @@
 // Tables of inputs, with ample memory.
+use crate::expected::{holds, same_bytes, same_number};
 use crate::making::series;
+use crate::rows::{Telling, expect_row};
 use std::alloc::Global;
 use std::process::Abort;
 use std::test::Fail;
-use tp_inputs::{Inputs, read_inputs};
+use tp_inputs::{Inputs, InputsRefusal, read_inputs};
 use tp_value::{Text, Value, same, write_value};
 
 // The table of the text.
@@ -24,11 +26,11 @@ fn ports_have_their_values(rt: HostRuntime) -> Result<(), Fail> {
             Some(value) => same(value, &Value::Num(wanted)),
             None => wanted == -1,
         };
-        assert!(rt; found, "{name} in state {state}");
+        holds(&rt, found, name);
     }
     let none = Inputs::none(rt.alloc())?;
     let port = Text::from_slice(rt.alloc(), b"a")?;
-    assert!(rt; none.at(0, &port).is_none());
+    holds(&rt, none.at(0, &port).is_none(), "no inputs");
     Ok(())
 }
 
@@ -47,7 +49,7 @@ fn expect_value(
         Some(value) => write_value(value, &mut out)?,
         None => out.append(b"none")?,
     }
-    assert_eq!(rt; out.as_slice(), canonical.as_bytes(), "at {text:?}");
+    same_bytes(rt, out.as_slice(), canonical, text);
     Ok(())
 }
 
@@ -78,15 +80,19 @@ fn texts_are_tables(rt: HostRuntime) -> Result<(), Fail> {
     Ok(())
 }
 
-fn expect_refusal(rt: &(impl Abort + AllocGlobal), text: &str, refusal: &str) -> Result<(), Fail> {
-    match read_inputs(rt.alloc(), text.as_bytes()) {
-        Ok(_) => return Err("a table".into()),
-        Err(answer) => {
-            let answer = format!(in rt.alloc(); "{answer:?}")?;
-            assert_eq!(rt; answer.as_str(), refusal, "at {text:?}");
-        }
+/// Why the text is no table.
+pub fn no_table(alloc: Global, text: &str) -> Result<String, Fail> {
+    let refusal = read_inputs(alloc, text.as_bytes()).err().ok_or("a table")?;
+    let text = format!(in alloc; "{refusal:?}")?;
+    Ok(text)
+}
+
+// The line with the first fault of a text, where something is no pair.
+fn bad_line(alloc: Global, text: &str) -> Result<u64, Fail> {
+    match read_inputs(alloc, text.as_bytes()) {
+        Err(InputsRefusal::BadLine { line }) => Ok(line),
+        _ => Err("no bad line".into()),
     }
-    Ok(())
 }
 
 // A text, and the line with its first fault, where something is no pair.
@@ -118,25 +124,38 @@ const BAD_LINES: [(&str, u64); 22] = [
 #[test]
 fn texts_of_no_table_are_refused(rt: HostRuntime) -> Result<(), Fail> {
     for (text, line) in BAD_LINES {
-        let refusal = format!(in rt.alloc(); "BadLine {{ line: {line} }}")?;
-        expect_refusal(&rt, text, refusal.as_str())?;
+        let found = bad_line(rt.alloc(), text)?;
+        same_number(&rt, found, line, text);
     }
-    expect_refusal(&rt, "p=1 p=2", "TwicePort { line: 1 }")?;
-    expect_refusal(&rt, "p=1 p=@", "TwicePort { line: 1 }")?;
-    expect_refusal(&rt, "p=1\np=1 q=2 p=1 @\n@", "TwicePort { line: 2 }")
+    let all = "p=1\np=1 q=2 p=1 @\n@";
+    expect_row(&rt, Telling::NoTable, "p=1 p=2", "TwicePort { line: 1 }")?;
+    expect_row(&rt, Telling::NoTable, "p=1 p=@", "TwicePort { line: 1 }")?;
+    expect_row(&rt, Telling::NoTable, all, "TwicePort { line: 2 }")
+}
+
+// Whether the pattern, of which a part is repeated so many times, is a table.
+fn is_table(alloc: Global, pattern: &str, times: u32) -> Result<bool, Fail> {
+    let text = series(alloc, pattern, times)?;
+    Ok(read_inputs(alloc, text.as_bytes()).is_ok())
+}
+
+// Expects that it is none.
+fn expect_none(
+    rt: &(impl Abort + AllocGlobal),
+    pattern: &str,
+    times: u32,
+    refusal: &str,
+) -> Result<(), Fail> {
+    let text = series(rt.alloc(), pattern, times)?;
+    expect_row(rt, Telling::NoTable, text.as_str(), refusal)
 }
 
 #[test]
 fn tables_stay_within_the_limits(rt: HostRuntime) -> Result<(), Fail> {
     for (pattern, times) in [("p#a#=1", 63), ("p=#<##>#", 100), ("p=<1#,1#>", 65_535)] {
-        let text = series(rt.alloc(), pattern, times)?;
-        let read = read_inputs(rt.alloc(), text.as_bytes());
-        assert!(rt; read.is_ok(), "{pattern}");
+        holds(&rt, is_table(rt.alloc(), pattern, times)?, pattern);
     }
-    let longer = series(rt.alloc(), "p#a#=1", 64)?;
-    expect_refusal(&rt, longer.as_str(), "BadLine { line: 1 }")?;
-    let deeper = series(rt.alloc(), "\np=#<#", 101)?;
-    expect_refusal(&rt, deeper.as_str(), "TooLong { line: 2 }")?;
-    let wider = series(rt.alloc(), "p=<1#,<>#", 65_536)?;
-    expect_refusal(&rt, wider.as_str(), "TooLong { line: 1 }")
+    expect_none(&rt, "p#a#=1", 64, "BadLine { line: 1 }")?;
+    expect_none(&rt, "\np=#<#", 101, "TooLong { line: 2 }")?;
+    expect_none(&rt, "p=<1#,<>#", 65_536, "TooLong { line: 1 }")
 }

@@ -10,6 +10,8 @@ mod definitions;
 #[cfg(test)]
 mod devices;
 #[cfg(test)]
+mod expected;
+#[cfg(test)]
 mod formulas;
 #[cfg(test)]
 mod inputs;
@@ -23,6 +25,8 @@ mod outcomes;
 mod phrases;
 #[cfg(test)]
 mod programs;
+#[cfg(test)]
+mod rows;
 #[cfg(test)]
 mod runs;
 #[cfg(test)]
@@ -39,6 +43,8 @@ mod tables;
 mod tokens;
 #[cfg(test)]
 mod told;
+#[cfg(test)]
+mod traces;
 #[cfg(test)]
 mod turns;
 #[cfg(test)]

@@ -3,11 +3,13 @@ ghost use Rattle.std.specs.Prelude.{◌≡◌, ◌<◌};
 ghost use Rattle.tp_meaning.specs.Fits.{ProgramFits};
 ghost use Rattle.tp_check.specs.Program.{program_tree};
 
+use crate::expected::{same_bytes, same_text};
 use crate::sources::program_of;
 use crate::steps::begin;
 use crate::told::told_source;
 use std::alloc::Global;
 use std::marker::Brand;
+use std::process::Abort;
 use std::sync::ledger::{Blank, Ledger};
 use std::test::Fail;
 use tp_check::Program;
@@ -75,7 +77,7 @@ fn each_order_has_its_picks(rt: HostRuntime) -> Result<(), Fail> {
     for (source, order, room, expected) in PICKS {
         let picked = picks_of(alloc, source, Course { order, room })?;
         let text = format!(in alloc; "{:?}", picked.items.as_slice())?;
-        assert_eq!(rt; text.as_str(), expected, "for {source} {order:?}");
+        same_text(&rt, text.as_str(), expected, source);
     }
     Ok(())
 }
@@ -96,25 +98,32 @@ run always(more) and A = 1 and A gets A + A.
 run A = 9223372036854775807 and B = A + 1 and empty.
 ";
 
+// Expects that a run of the source in this order tells this.
+fn expect_told(
+    rt: &(impl Abort + AllocGlobal),
+    source: &str,
+    order: Order,
+    text: &str,
+) -> Result<(), Fail> {
+    let told = told_source(rt.alloc(), source, "", order)?;
+    same_bytes(rt, told.as_slice(), text, source);
+    Ok(())
+}
+
+// Expects that runs of the source in other orders tell what that in the first one does.
+fn expect_told_in_each(rt: &(impl Abort + AllocGlobal), source: &str) -> Result<(), Fail> {
+    let first = told_source(rt.alloc(), source, "", Order::First)?;
+    let text = str::from_utf8(first.as_slice()).ok().ok_or("no text")?;
+    expect_told(rt, source, Order::Last, text)?;
+    expect_told(rt, source, Order::Seed(0), text)?;
+    expect_told(rt, source, Order::Seed(7), text)?;
+    expect_told(rt, source, Order::Seed(u64::MAX), text)
+}
+
 #[test]
 fn each_order_tells_the_same(rt: HostRuntime) -> Result<(), Fail> {
-    let alloc = rt.alloc();
     for source in SOURCES.trim().lines() {
-        let first = told_source(alloc, source, "", Order::First)?;
-        let first = str::from_utf8(first.as_slice());
-        for order in [
-            Order::Last,
-            Order::Seed(0),
-            Order::Seed(7),
-            Order::Seed(u64::MAX),
-        ] {
-            let other = told_source(alloc, source, "", order)?;
-            assert_eq!(rt;
-                str::from_utf8(other.as_slice()),
-                first,
-                "for {source} {order:?}"
-            );
-        }
+        expect_told_in_each(&rt, source)?;
     }
     Ok(())
 }

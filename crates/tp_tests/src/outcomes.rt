@@ -1,11 +1,12 @@
 // The outcomes of expressions, row by row.
+use crate::expected::same_text;
 use crate::making::{nested, one_variable, path, sixes};
-use crate::tables::cut;
+use crate::rows::{Telling, expect_rows};
 use std::alloc::Global;
 use std::rc::Rc;
 use std::test::Fail;
 use tp_eval::{Outcome, PlaceOutcome, eval, is_place, place};
-use tp_kernel::{Binding, Defs, Env, Expr, Exprs, Op2};
+use tp_kernel::{Binding, Defs, Env, Expr, Exprs, FaultKind, LimitKind, Op2};
 use tp_store::Store;
 use tp_value::{NoMemory, Value, VarId};
 
@@ -176,16 +177,38 @@ pub fn read(alloc: Global, text: &[u8]) -> Result<Expr, Fail> {
     top(&mut stack)
 }
 
-pub fn outcome_text(alloc: Global, outcome: Outcome) -> Result<String, Fail> {
-    let text = match outcome {
-        Outcome::Value(Value::Num(n)) => format!(in alloc; "{n}")?,
-        Outcome::Value(Value::Truth(b)) => format!(in alloc; "{b}")?,
-        Outcome::Value(Value::List(all)) => format!(in alloc; "list of {}", all.items.len())?,
-        Outcome::Wait(path) => format!(in alloc; "wait at {}", path.at.items.len())?,
-        Outcome::Fault(kind) => format!(in alloc; "{kind:?}")?,
-        Outcome::Over(kind) => format!(in alloc; "over {kind:?}")?,
+// A number behind a word.
+fn counted(alloc: Global, word: &str, count: usize) -> Result<String, Fail> {
+    let text = format!(in alloc; "{word}{count}")?;
+    Ok(text)
+}
+
+fn fault_text(alloc: Global, kind: FaultKind) -> Result<String, Fail> {
+    let text = format!(in alloc; "{kind:?}")?;
+    Ok(text)
+}
+
+fn limit_text(alloc: Global, kind: LimitKind) -> Result<String, Fail> {
+    let text = format!(in alloc; "over {kind:?}")?;
+    Ok(text)
+}
+
+fn shown_value(alloc: Global, value: &Value) -> Result<String, Fail> {
+    let text = match value {
+        Value::Num(n) => format!(in alloc; "{n}")?,
+        Value::Truth(b) => format!(in alloc; "{b}")?,
+        Value::List(all) => return counted(alloc, "list of ", all.items.len()),
     };
     Ok(text)
+}
+
+pub fn outcome_text(alloc: Global, outcome: &Outcome) -> Result<String, Fail> {
+    match outcome {
+        Outcome::Value(value) => shown_value(alloc, value),
+        Outcome::Wait(path) => counted(alloc, "wait at ", path.at.items.len()),
+        Outcome::Fault(kind) => fault_text(alloc, *kind),
+        Outcome::Over(kind) => limit_text(alloc, *kind),
+    }
 }
 
 fn value_text(alloc: Global, e: &Expr) -> Result<String, Fail> {
@@ -193,25 +216,26 @@ fn value_text(alloc: Global, e: &Expr) -> Result<String, Fail> {
     let env = environment(alloc)?;
     let defs = no_definitions(alloc);
     let outcome = eval(alloc, e, &env, &store, &defs)?;
-    outcome_text(alloc, outcome)
+    outcome_text(alloc, &outcome)
+}
+
+fn found_text(alloc: Global, found: &PlaceOutcome) -> Result<String, Fail> {
+    match found {
+        PlaceOutcome::Place(path) => counted(alloc, "place at ", path.at.items.len()),
+        PlaceOutcome::Other(outcome) => outcome_text(alloc, outcome),
+    }
 }
 
 fn place_text(alloc: Global, e: &Expr) -> Result<String, Fail> {
+    if !is_place(e) {
+        let text = String::from_str(alloc, "no place")?;
+        return Ok(text);
+    }
     let store = known_state(alloc)?;
     let env = environment(alloc)?;
     let defs = no_definitions(alloc);
-    if !is_place(e) {
-        let text = format!(in alloc; "no place")?;
-        return Ok(text);
-    }
     let found = place(alloc, e, &env, &store, &defs)?;
-    match found {
-        PlaceOutcome::Place(path) => {
-            let text = format!(in alloc; "place at {}", path.at.items.len())?;
-            Ok(text)
-        }
-        PlaceOutcome::Other(outcome) => outcome_text(alloc, outcome),
-    }
+    found_text(alloc, &found)
 }
 
 const VALUES: &str = "
@@ -299,26 +323,26 @@ b2@ => NoElement
 A10/@ => ZeroDivisor
 ";
 
+/// The outcome of the expression that is spelled so.
+pub fn value_of(alloc: Global, spelled: &str) -> Result<String, Fail> {
+    let e = read(alloc, spelled.as_bytes())?;
+    value_text(alloc, &e)
+}
+
+/// The place that is spelled so.
+pub fn place_of(alloc: Global, spelled: &str) -> Result<String, Fail> {
+    let e = read(alloc, spelled.as_bytes())?;
+    place_text(alloc, &e)
+}
+
 #[test]
 fn expressions_are_evaluated(rt: HostRuntime) -> Result<(), Fail> {
-    for row in VALUES.trim().lines() {
-        let (spelled, expected) = cut(row, "=>")?;
-        let e = read(rt.alloc(), spelled.as_bytes())?;
-        let found = value_text(rt.alloc(), &e)?;
-        assert_eq!(rt; found.as_str(), expected, "for {spelled}");
-    }
-    Ok(())
+    expect_rows(&rt, Telling::Value, VALUES)
 }
 
 #[test]
 fn places_are_found(rt: HostRuntime) -> Result<(), Fail> {
-    for row in PLACES.trim().lines() {
-        let (spelled, expected) = cut(row, "=>")?;
-        let e = read(rt.alloc(), spelled.as_bytes())?;
-        let found = place_text(rt.alloc(), &e)?;
-        assert_eq!(rt; found.as_str(), expected, "for {spelled}");
-    }
-    Ok(())
+    expect_rows(&rt, Telling::Place, PLACES)
 }
 
 // The truth value under so many negations.
@@ -331,18 +355,24 @@ fn negated(alloc: Global, count: usize) -> Result<Expr, NoMemory> {
     Ok(e)
 }
 
-const DEPTHS: [(usize, &str); 4] = [
-    (0, "true"),
-    (200, "true"),
-    (1999, "false"),
-    (2000, "over Calls"),
+// The outcome of so many.
+fn negated_text(alloc: Global, count: usize) -> Result<String, Fail> {
+    let e = negated(alloc, count)?;
+    value_text(alloc, &e)
+}
+
+const DEPTHS: [(usize, &str, &str); 4] = [
+    (0, "0 negations", "true"),
+    (200, "200 negations", "true"),
+    (1999, "1999 negations", "false"),
+    (2000, "2000 negations", "over Calls"),
 ];
 
 #[test]
 fn depths_are_limited(rt: HostRuntime) -> Result<(), Fail> {
-    for (count, expected) in &DEPTHS {
-        let e = negated(rt.alloc(), *count)?;
-        assert_eq!(rt; value_text(rt.alloc(), &e)?.as_str(), *expected, "{count}");
+    for (count, row, expected) in DEPTHS {
+        let found = negated_text(rt.alloc(), count)?;
+        same_text(&rt, found.as_str(), expected, row);
     }
     Ok(())
 }

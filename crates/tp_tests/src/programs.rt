@@ -1,12 +1,13 @@
 // Each source is checked to the program or the refusal that it means.
+use crate::rows::{Telling, expect_rows};
 use crate::sources::source_of;
-use crate::spelling::{spell, spell_expr};
-use crate::tables::cut;
+use crate::spelling::{append_name, spell, spell_expr};
+use crate::tables::read_back;
 use std::alloc::Global;
 use std::test::Fail;
 use tp_check::{CheckRefusal, Program, check};
-use tp_kernel::Def;
-use tp_value::{NoMemory, Text};
+use tp_kernel::{Def, Defs};
+use tp_value::{Globals, NoMemory, Text, Texts};
 
 // Formulas of one state.
 const STATES: &str = "
@@ -304,57 +305,88 @@ run A = (exists X : X). => not an expression at 9
 define p() = sometimes(A). run q(). => not executable at 13
 ";
 
-// A definition: its name and parameters, its formula, and its expression where it has one.
-fn append_definition(alloc: Global, def: &Def, out: &mut Text) -> Result<(), NoMemory> {
-    out.append(def.name.as_slice())?;
-    for parameter in &def.parameters.items {
-        out.append(b" ")?;
-        out.append(parameter.as_slice())?;
+// Names, each behind a blank.
+fn append_all(names: &Texts, out: &mut Text) -> Result<(), NoMemory> {
+    for name in &names.items {
+        append_name(" ", name, out)?;
     }
-    out.append(b": ")?;
-    spell(alloc, &def.formula, out)?;
+    Ok(())
+}
+
+// A definition's expression, if any.
+fn append_expr(alloc: Global, def: &Def, out: &mut Text) -> Result<(), NoMemory> {
     if let Some(e) = &def.expr {
         out.append(b", ")?;
         spell_expr(alloc, e, out)?;
     }
+    Ok(())
+}
+
+// A definition: its name and parameters, its formula, and its expression where it has one.
+fn append_definition(alloc: Global, def: &Def, out: &mut Text) -> Result<(), NoMemory> {
+    out.append(def.name.as_slice())?;
+    append_all(&def.parameters, out)?;
+    out.append(b": ")?;
+    spell(alloc, &def.formula, out)?;
+    append_expr(alloc, def, out)?;
     out.append(b"; ")
 }
 
-// The definitions, the formula, and the names of the variables.
-fn accepted(alloc: Global, program: &Program) -> Result<Text, NoMemory> {
-    let mut out = Text::new(alloc);
-    for def in &program.defs.items {
-        append_definition(alloc, def, &mut out)?;
+fn append_definitions(alloc: Global, defs: &Defs, out: &mut Text) -> Result<(), NoMemory> {
+    for def in &defs.items {
+        append_definition(alloc, def, out)?;
     }
-    spell(alloc, &program.main, &mut out)?;
-    out.append(b" over")?;
-    for number in 0..program.globals.len() {
-        if let Some(name) = program.globals.name(number) {
-            out.append(b" ")?;
-            out.append(name.as_slice())?;
+    Ok(())
+}
+
+fn append_globals(globals: &Globals, out: &mut Text) -> Result<(), NoMemory> {
+    for number in 0..globals.len() {
+        if let Some(name) = globals.name(number) {
+            append_name(" ", name, out)?;
         }
     }
-    Ok(out)
+    Ok(())
 }
 
-fn refused(alloc: Global, kind: &str, at: u32) -> Result<Text, NoMemory> {
-    Text::from_slice(alloc, format!(in alloc; "{kind} at {at}")?.as_bytes())
+// The definitions, the formula, and the names of the variables.
+fn append_program(alloc: Global, program: &Program, out: &mut Text) -> Result<(), NoMemory> {
+    append_definitions(alloc, &program.defs, out)?;
+    spell(alloc, &program.main, out)?;
+    out.append(b" over")?;
+    append_globals(&program.globals, out)
 }
 
-// What is made of a source: the definitions, the formula and the names, or the kind and the place of the refusal.
-fn outcome(alloc: Global, text: &str) -> Result<Text, Fail> {
-    let out = match check(alloc, &source_of(alloc, text)?) {
-        Ok(program) => accepted(alloc, &program)?,
-        Err(CheckRefusal::Twice { at }) => refused(alloc, "defined twice", at)?,
-        Err(CheckRefusal::Unknown { at }) => refused(alloc, "unknown name", at)?,
-        Err(CheckRefusal::WrongCount { at }) => refused(alloc, "wrong count", at)?,
-        Err(CheckRefusal::NotExpression { at }) => refused(alloc, "not an expression", at)?,
-        Err(CheckRefusal::NotPlace { at }) => refused(alloc, "not a place", at)?,
-        Err(CheckRefusal::NotPort { at }) => refused(alloc, "not a port", at)?,
-        Err(CheckRefusal::NotExecutable { at }) => refused(alloc, "not executable", at)?,
-        Err(CheckRefusal::NoMemory) => return Err(NoMemory.into()),
+fn append_refused(alloc: Global, kind: &str, at: u32, out: &mut Text) -> Result<(), NoMemory> {
+    let text = format!(in alloc; "{kind} at {at}")?;
+    out.append(text.as_bytes())
+}
+
+// The definitions, the formula and the names, or the kind and the place of the refusal.
+fn append_checked(
+    alloc: Global,
+    checked: &Result<Program, CheckRefusal>,
+    out: &mut Text,
+) -> Result<(), NoMemory> {
+    let (kind, at) = match checked {
+        Ok(program) => return append_program(alloc, program, out),
+        Err(CheckRefusal::Twice { at }) => ("defined twice", *at),
+        Err(CheckRefusal::Unknown { at }) => ("unknown name", *at),
+        Err(CheckRefusal::WrongCount { at }) => ("wrong count", *at),
+        Err(CheckRefusal::NotExpression { at }) => ("not an expression", *at),
+        Err(CheckRefusal::NotPlace { at }) => ("not a place", *at),
+        Err(CheckRefusal::NotPort { at }) => ("not a port", *at),
+        Err(CheckRefusal::NotExecutable { at }) => ("not executable", *at),
+        Err(CheckRefusal::NoMemory) => return Err(NoMemory),
     };
-    Ok(out)
+    append_refused(alloc, kind, at, out)
+}
+
+/// What is made of a source.
+pub fn checked(alloc: Global, text: &str) -> Result<String, Fail> {
+    let source = source_of(alloc, text)?;
+    let mut out = Text::new(alloc);
+    append_checked(alloc, &check(alloc, &source), &mut out)?;
+    read_back(alloc, &out)
 }
 
 #[test]
@@ -375,15 +407,7 @@ fn sources_are_checked(rt: HostRuntime) -> Result<(), Fail> {
         UNKNOWN,
         CALLS,
     ] {
-        for row in table.trim().lines() {
-            let (text, expected) = cut(row, "=>")?;
-            let found = outcome(rt.alloc(), text)?;
-            assert_eq!(rt;
-                str::from_utf8(found.as_slice()),
-                Ok(expected),
-                "for {text}"
-            );
-        }
+        expect_rows(&rt, Telling::Checked, table)?;
     }
     Ok(())
 }

@@ -1,50 +1,80 @@
 // Small runs to their ends: each call succeeds where there is memory enough.
-ghost use Rattle.std.specs.Prelude.{◌≡◌, ◌<◌};
-ghost use Rattle.tp_meaning.specs.Fits.{ProgramFits};
+ghost use Rattle.std.specs.Prelude.{◌≡◌, ◌<◌, [], List, Bool, IfOk};
+ghost use Rattle.tp_kernel.specs.Read.{formula_tree};
+ghost use Rattle.tp_meaning.specs.Fits.{FormulaFits, ProgramFits};
 ghost use Rattle.tp_check.specs.Program.{program_tree};
 
+use crate::expected::same_text;
 use crate::making::{no_picture, path};
 use crate::sources::program_of;
 use crate::tables::{cut, number};
 use std::alloc::Global;
 use std::marker::Brand;
 use std::process::Abort;
+use std::rc::Rc;
 use std::sync::ledger::{Blank, Ledger};
 use std::test::Fail;
 use tp_check::Program;
 use tp_inputs::Inputs;
+use tp_kernel::{Defs, Formula};
 use tp_run::{Limits, Run};
 use tp_show::{Picture, Turn};
 use tp_step::{Order, Steps};
-use tp_value::NoMemory;
+use tp_value::{Globals, NoMemory, VarId};
 
-// What the run's store knows of the first variable: its name, and the shape of its value where one is kept.
-fn known(alloc: Global, run: &Run) -> Result<String, NoMemory> {
-    let path = path(alloc, 0, &[])?;
-    let is_named = match run.store().name(path.var) {
+// Whether the first variable is the state variable A.
+fn is_named(run: &Run) -> bool {
+    let first = VarId {
+        number: 0,
+        lasting: false,
+    };
+    match run.store().name(first) {
         Some(name) => name.as_slice() == b"A".as_slice(),
         None => false,
-    };
-    let name = if is_named { "A" } else { "?" };
-    let text = match run.store().shape(&path) {
-        Some(shape) => format!(in alloc; "{name}={shape:?}")?,
-        None => format!(in alloc; "{name}")?,
-    };
-    Ok(text)
+    }
 }
 
-// A picture's number, shapes and reductions, whether the run carries a scene, and what its store knows.
-fn said(alloc: Global, picture: &Picture, run: &Run, out: &mut String) -> Result<(), NoMemory> {
+// What the run's store knows of the first variable: its name, and the shape of its value where one is kept.
+fn append_known(alloc: Global, run: &Run, out: &mut String) -> Result<(), NoMemory> {
+    out.push_str(if is_named(run) { "A" } else { "?" })?;
+    let path = path(alloc, 0, &[])?;
+    if let Some(shape) = run.store().shape(&path) {
+        let text = format!(in alloc; "={shape:?}")?;
+        out.push_str(text.as_str())?;
+    }
+    out.push_str(", ")?;
+    Ok(())
+}
+
+// A picture's number and shapes.
+fn append_shapes(alloc: Global, picture: &Picture, out: &mut String) -> Result<(), NoMemory> {
     let state = format!(in alloc; "{}", picture.state)?;
     out.push_str(state.as_str())?;
     for fact in &picture.facts.items {
         let shape = format!(in alloc; " {:?}", fact.shape)?;
         out.push_str(shape.as_str())?;
     }
+    Ok(())
+}
+
+// These, its reductions, whether the run carries a scene, and what its store knows.
+fn append_state(
+    alloc: Global,
+    picture: &Picture,
+    run: &Run,
+    out: &mut String,
+) -> Result<(), NoMemory> {
+    append_shapes(alloc, picture, out)?;
     let sign = if run.scene().is_some() { "+" } else { "" };
-    let known = known(alloc, run)?;
-    let rest = format!(in alloc; " /{}{sign} {known}, ", picture.reductions)?;
-    out.push_str(rest.as_str())?;
+    let text = format!(in alloc; " /{}{sign} ", picture.reductions)?;
+    out.push_str(text.as_str())?;
+    append_known(alloc, run, out)
+}
+
+// The two answers with which a run ends.
+fn append_end(alloc: Global, turn: &Turn, again: &Turn, out: &mut String) -> Result<(), NoMemory> {
+    let text = format!(in alloc; "{turn:?} {again:?}")?;
+    out.push_str(text.as_str())?;
     Ok(())
 }
 
@@ -64,15 +94,14 @@ fn history<L: Ledger>(
     let inputs = Inputs::none(alloc)?;
     let mut run = Run::start(alloc, program, inputs, limits, Order::First)?;
     let mut picture = no_picture(alloc);
-    let mut text = known(alloc, &run)?;
-    text.push_str(", ")?;
+    let mut text = String::new(alloc);
+    append_known(alloc, &run, &mut text)?;
     for _ in 0..9 {
         let turn = run.state(&mut picture, &mut steps)?;
-        said(alloc, &picture, &run, &mut text)?;
+        append_state(alloc, &picture, &run, &mut text)?;
         if !matches!(turn, Turn::Went) {
             let again = run.state(&mut picture, &mut steps)?;
-            let end = format!(in alloc; "{turn:?} {again:?}")?;
-            text.push_str(end.as_str())?;
+            append_end(alloc, &turn, &again, &mut text)?;
             return Ok(text);
         }
     }
@@ -82,6 +111,45 @@ fn history<L: Ledger>(
 // The states of a run that counts its tries by itself.
 fn told_history(alloc: Global, source: &str, limits: Limits) -> Result<String, Fail> {
     let program = program_of(alloc, source)?;
+    history::<Brand>(alloc, Blank::new(1), program, limits)
+}
+
+// Chops in chops, so many deep: each but the innermost has the next one as its first part, and every other part is the end.
+fn chops(alloc: Global, depth: u32) -> Result<Rc<Formula>, NoMemory>
+    ensures { IfOk result (λ w.
+        (kinds : List Bool) → FormulaFits [] kinds (formula_tree w.value) 0) }
+{
+    let mut whole = Rc::new(alloc, Formula::Empty)?;
+    for _ in 0..depth {
+        let end = Rc::new(alloc, Formula::Empty)?;
+        whole = Rc::new(alloc, Formula::Chop(whole, end))?;
+    }
+    Ok(whole)
+}
+
+// The program of these alone.
+fn chops_alone(alloc: Global, depth: u32) -> Result<Program, NoMemory>
+    ensures { IfOk result (λ p. ProgramFits (program_tree p)) }
+{
+    let main = chops(alloc, depth)?;
+    let defs = Defs {
+        items: Vec::new(alloc),
+    };
+    let globals = Globals::new(alloc)?;
+    Ok(Program {
+        defs,
+        main,
+        globals,
+    })
+}
+
+// The states of their run.
+fn told_chops(alloc: Global, depth: u32) -> Result<String, Fail> {
+    let program = chops_alone(alloc, depth)?;
+    let limits = Limits {
+        states: 9,
+        reductions: 9_999,
+    };
     history::<Brand>(alloc, Blank::new(1), program, limits)
 }
 
@@ -160,15 +228,32 @@ fn limits_of(text: &str) -> Result<Limits, Fail> {
     Ok(Limits { states, reductions })
 }
 
-// Runs the program of each row, and expects what the row says.
+// What is told of a row's program, where it keeps to the limits of its second line.
+fn told_row(alloc: Global, source: &str, limits: &str) -> Result<String, Fail> {
+    let limits = limits_of(limits)?;
+    told_history(alloc, source, limits)
+}
+
+// The states that a row says, and its end twice.
+fn wanted(alloc: Global, row: &str) -> Result<String, Fail> {
+    let (made, end) = cut(row, "\n")?;
+    let text = format!(in alloc; "{made} {end} {end}")?;
+    Ok(text)
+}
+
+// Runs the program of a row, and expects what the row says.
+fn expect_row(rt: &(impl Abort + AllocGlobal), row: &str) -> Result<(), Fail> {
+    let (source, row) = cut(row, "\n")?;
+    let (limits, row) = cut(row, "\n")?;
+    let found = told_row(rt.alloc(), source, limits)?;
+    let expected = wanted(rt.alloc(), row)?;
+    same_text(rt, found.as_str(), expected.as_str(), source);
+    Ok(())
+}
+
 fn expect_rows(rt: &(impl Abort + AllocGlobal), table: &str) -> Result<(), Fail> {
     for row in table.trim().split("\n\n") {
-        let (source, row) = cut(row, "\n")?;
-        let (limits, row) = cut(row, "\n")?;
-        let text = told_history(rt.alloc(), source, limits_of(limits)?)?;
-        let (made, end) = cut(row, "\n")?;
-        let expected = format!(in rt.alloc(); "{made} {end} {end}")?;
-        assert_eq!(rt; text.as_str(), expected.as_str(), "for {source}");
+        expect_row(rt, row)?;
     }
     Ok(())
 }
@@ -181,4 +266,25 @@ fn runs_come_to_their_ends(rt: HostRuntime) -> Result<(), Fail> {
 #[test]
 fn regions_are_nested_to_their_limit(rt: HostRuntime) -> Result<(), Fail> {
     expect_rows(&rt, NESTED)
+}
+
+// How deep chops are, and what is told of their run.
+const CHOPS: [(u32, &str); 2] = [
+    (
+        400,
+        "?, 0 /1201 ?, Finished { length: 0 } Finished { length: 0 }",
+    ),
+    (
+        401,
+        "?, 9 /0 ?, Over { state: 0, limit: Nest } Over { state: 0, limit: Nest }",
+    ),
+];
+
+#[test]
+fn chops_are_nested_to_their_limit(rt: HostRuntime) -> Result<(), Fail> {
+    for (depth, expected) in CHOPS {
+        let text = told_chops(rt.alloc(), depth)?;
+        same_text(&rt, text.as_str(), expected, "chops in chops");
+    }
+    Ok(())
 }

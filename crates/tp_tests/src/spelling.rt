@@ -150,47 +150,94 @@ enum Piece<'a> {
     Close,
 }
 
+// Writes a word and an integer behind it.
+fn append_integer(alloc: Global, word: &str, n: i64, out: &mut Text) -> Result<(), NoMemory> {
+    let text = format!(in alloc; "{word}{n}")?;
+    out.append(text.as_bytes())
+}
+
+// The same of a count.
+fn append_count(alloc: Global, word: &str, n: u64, out: &mut Text) -> Result<(), NoMemory> {
+    let text = format!(in alloc; "{word}{n}")?;
+    out.append(text.as_bytes())
+}
+
+// Writes the word, and then what else stands before the operands.
 fn append_head(alloc: Global, e: &Expr, out: &mut Text) -> Result<(), NoMemory> {
     out.append(expr_word(e).as_bytes())?;
     match e {
-        Expr::Number(n) => out.append(format!(in alloc; "{n}")?.as_bytes()),
-        Expr::Bound(number) => out.append(format!(in alloc; "b{number}")?.as_bytes()),
-        Expr::Global(x) => {
-            let kind = if x.lasting { "x" } else { "X" };
-            out.append(format!(in alloc; "{kind}{}", x.number)?.as_bytes())
-        }
+        Expr::Number(n) => append_integer(alloc, "", *n, out),
+        Expr::Bound(number) => append_count(alloc, "b", u64::from(*number), out),
+        Expr::Global(x) => append_count(alloc, if x.lasting { "x" } else { "X" }, x.number, out),
         Expr::Op(op, _, _) => out.append(sign(*op).as_bytes()),
-        Expr::Call(number, _) => out.append(format!(in alloc; " {number}")?.as_bytes()),
+        Expr::Call(number, _) => append_count(alloc, " ", u64::from(*number), out),
         _ => Ok(()),
     }
 }
 
-fn append_range(alloc: Global, name: &Text, from: i64, out: &mut Text) -> Result<(), NoMemory> {
-    out.append(b" ")?;
-    out.append(name.as_slice())?;
-    out.append(format!(in alloc; " {from}")?.as_bytes())
+/// Writes a name behind a word.
+pub fn append_name(word: &str, name: &Text, out: &mut Text) -> Result<(), NoMemory> {
+    out.append(word.as_bytes())?;
+    out.append(name.as_slice())
 }
 
-fn append_local(name: &Text, lasting: bool, out: &mut Text) -> Result<(), NoMemory> {
-    out.append(if lasting { b" static " } else { b" " })?;
-    out.append(name.as_slice())
+fn append_range(alloc: Global, name: &Text, from: i64, out: &mut Text) -> Result<(), NoMemory> {
+    append_name(" ", name, out)?;
+    append_integer(alloc, " ", from, out)
 }
 
 // Writes a formula up to its operands.
 fn append_start(alloc: Global, w: &Formula, out: &mut Text) -> Result<(), NoMemory> {
     out.append(formula_word(w).as_bytes())?;
     match w {
-        Formula::NextEq(count, _, _) => out.append(format!(in alloc; " {count}")?.as_bytes()),
+        Formula::NextEq(count, _, _) => append_count(alloc, " ", u64::from(*count), out),
         Formula::For { name, from, .. } => append_range(alloc, name, *from, out),
         Formula::Forall { name, from, .. } => append_range(alloc, name, *from, out),
-        Formula::Exists { name, lasting, .. } => append_local(name, *lasting, out),
-        Formula::Input(_, port) => {
-            out.append(b" ")?;
-            out.append(port.as_slice())
+        Formula::Exists { name, lasting, .. } => {
+            append_name(if *lasting { " static " } else { " " }, name, out)
         }
-        Formula::Call(number, _) => out.append(format!(in alloc; " {number}")?.as_bytes()),
+        Formula::Input(_, port) => append_name(" ", port, out),
+        Formula::Call(number, _) => append_count(alloc, " ", u64::from(*number), out),
         _ => Ok(()),
     }
+}
+
+// Leaves the end of what has operands.
+fn leave_end<'a>(word: &str, left: &mut Vec<Piece<'a>>) -> Result<(), NoMemory> {
+    if word.starts_with('(') {
+        left.push(Piece::Close)?;
+    }
+    Ok(())
+}
+
+// Leaves these to be written, the first one next.
+fn leave_exprs<'a>(all: &'a [Expr], left: &mut Vec<Piece<'a>>) -> Result<(), NoMemory> {
+    for e in all.iter().rev() {
+        left.push(Piece::Expr(e))?;
+    }
+    Ok(())
+}
+
+fn leave_formulas<'a>(all: &'a [Rc<Formula>], left: &mut Vec<Piece<'a>>) -> Result<(), NoMemory> {
+    for w in all.iter().rev() {
+        left.push(Piece::Formula(w))?;
+    }
+    Ok(())
+}
+
+// The same of one, if any.
+fn leave_expr<'a>(e: Option<&'a Expr>, left: &mut Vec<Piece<'a>>) -> Result<(), NoMemory> {
+    if let Some(e) = e {
+        left.push(Piece::Expr(e))?;
+    }
+    Ok(())
+}
+
+fn leave_formula<'a>(w: Option<&'a Formula>, left: &mut Vec<Piece<'a>>) -> Result<(), NoMemory> {
+    if let Some(w) = w {
+        left.push(Piece::Formula(w))?;
+    }
+    Ok(())
 }
 
 // Writes an expression up to its operands, and leaves these to be written, the first one next.
@@ -201,21 +248,31 @@ fn begin_expr<'a>(
     out: &mut Text,
 ) -> Result<(), NoMemory> {
     append_head(alloc, e, out)?;
-    if expr_word(e).starts_with('(') {
-        left.push(Piece::Close)?;
-    }
-    for item in expr_items(e).iter().rev() {
-        left.push(Piece::Expr(item))?;
-    }
-    for operand in expr_operands(e).iter().rev() {
-        if let Some(operand) = operand {
-            left.push(Piece::Expr(operand))?;
-        }
-    }
-    Ok(())
+    leave_end(expr_word(e), left)?;
+    leave_exprs(expr_items(e), left)?;
+    let [first, second, third] = expr_operands(e);
+    leave_expr(third, left)?;
+    leave_expr(second, left)?;
+    leave_expr(first, left)
 }
 
-// The same of a formula.
+// Leaves the formulas of a formula.
+fn leave_parts<'a>(w: &'a Formula, left: &mut Vec<Piece<'a>>) -> Result<(), NoMemory> {
+    leave_formulas(formula_items(w), left)?;
+    let [first, second] = formula_parts(w);
+    leave_formula(second, left)?;
+    leave_formula(first, left)
+}
+
+// Leaves its expressions.
+fn leave_operands<'a>(w: &'a Formula, left: &mut Vec<Piece<'a>>) -> Result<(), NoMemory> {
+    let [first, second] = formula_exprs(w);
+    leave_expr(second, left)?;
+    leave_expr(first, left)?;
+    leave_exprs(formula_arguments(w), left)
+}
+
+// Writes a formula up to its operands, and leaves these.
 fn begin_formula<'a>(
     alloc: Global,
     w: &'a Formula,
@@ -223,26 +280,9 @@ fn begin_formula<'a>(
     out: &mut Text,
 ) -> Result<(), NoMemory> {
     append_start(alloc, w, out)?;
-    if formula_word(w).starts_with('(') {
-        left.push(Piece::Close)?;
-    }
-    for part in formula_items(w).iter().rev() {
-        left.push(Piece::Formula(part))?;
-    }
-    for part in formula_parts(w).iter().rev() {
-        if let Some(part) = part {
-            left.push(Piece::Formula(part))?;
-        }
-    }
-    for operand in formula_exprs(w).iter().rev() {
-        if let Some(operand) = operand {
-            left.push(Piece::Expr(operand))?;
-        }
-    }
-    for argument in formula_arguments(w).iter().rev() {
-        left.push(Piece::Expr(argument))?;
-    }
-    Ok(())
+    leave_end(formula_word(w), left)?;
+    leave_parts(w, left)?;
+    leave_operands(w, left)
 }
 
 // Writes what is left, cut off after 1,000 pieces.

@@ -7,10 +7,12 @@ ghost use Rattle.tp_decide.specs.Decided.{setting_of};
 ghost use Rattle.tp_slots.specs.Kept.{IsWellKept};
 ghost use Rattle.tp_step.specs.Answers.{moment_of};
 
+use crate::expected::same_text;
 use crate::sources::program_of;
 use crate::tables::{cut, number};
 use std::alloc::Global;
 use std::marker::Brand;
+use std::process::Abort;
 use std::sync::ledger::{Blank, Ledger};
 use std::test::Fail;
 use tp_check::Program;
@@ -47,26 +49,27 @@ pub fn begin(alloc: Global, program: Program) -> Result<(Scene, Store, Setting),
 }
 
 // How many items and facts are new, and whether the region is marked.
-fn brought(alloc: Global, news: &News) -> Result<String, NoMemory> {
+fn append_news(alloc: Global, news: &News, out: &mut String) -> Result<(), NoMemory> {
     let mark = if news.marked.is_some() { "!" } else { "" };
     let items = news.items.items.len();
     let facts = news.facts.items.len();
     let text = format!(in alloc; "{items}+{facts}{mark}")?;
-    Ok(text)
+    out.push_str(text.as_str())?;
+    Ok(())
 }
 
 // That, or why the item isn't reduced.
-fn said(alloc: Global, tried: &Tried) -> Result<String, NoMemory> {
+fn append_tried(alloc: Global, tried: &Tried, out: &mut String) -> Result<(), NoMemory> {
     let word = match tried {
-        Tried::Reduced(news) => return brought(alloc, news),
+        Tried::Reduced(news) => return append_news(alloc, news, out),
         Tried::Waits(_, _) => "waits",
         Tried::Rests => "rests",
         Tried::Clash(_) => "clash",
         Tried::Missing(_) => "missing",
         Tried::Over(_) => "over",
     };
-    let text = format!(in alloc; "{word}")?;
-    Ok(text)
+    out.push_str(word)?;
+    Ok(())
 }
 
 // How many items are live.
@@ -78,27 +81,64 @@ fn count(alloc: Global, scene: &Scene) -> Result<usize, NoMemory>
     Ok(live.items.len())
 }
 
-// What the state has come to, the marks of the root and of the next two regions, and how many lists of values are shown.
-fn end(alloc: Global, scene: &Scene, out: &mut String) -> Result<(), Fail>
+// How many lists of values are shown.
+fn shown_count(alloc: Global, scene: &Scene) -> Result<usize, NoMemory>
     requires { IsWellKept scene.now }
 {
     let mut shows = Shows {
         items: Vec::new(alloc),
     };
     shown(alloc, scene, &mut shows)?;
+    Ok(shows.items.len())
+}
+
+// The mark of a region behind its number, if there is one.
+fn append_mark(alloc: Global, scene: &Scene, region: u64, out: &mut String) -> Result<(), NoMemory>
+    requires { IsWellKept scene.now }
+{
+    if let Some(inner) = mark(scene, region) {
+        let text = format!(in alloc; " {region}:{inner:?}")?;
+        out.push_str(text.as_str())?;
+    }
+    Ok(())
+}
+
+// What the state has come to, and the mark of the root.
+fn come_to(alloc: Global, scene: &Scene) -> Result<String, Fail>
+    requires { IsWellKept scene.now }
+{
     let come_to = settled(alloc, scene)?;
     let root = mark(scene, 0).ok_or("no root")?;
     let text = format!(in alloc; "{come_to:?} {root:?}")?;
-    out.push_str(text.as_str())?;
-    for region in 1..3 {
-        if let Some(inner) = mark(scene, region) {
-            let text = format!(in alloc; " {region}:{inner:?}")?;
-            out.push_str(text.as_str())?;
-        }
-    }
-    for _ in 0..shows.items.len() {
+    Ok(text)
+}
+
+// That, the marks of the next two regions, and a word for each list of values that is shown.
+fn end(alloc: Global, scene: &Scene, out: &mut String) -> Result<(), Fail>
+    requires { IsWellKept scene.now }
+{
+    out.push_str(come_to(alloc, scene)?.as_str())?;
+    append_mark(alloc, scene, 1, out)?;
+    append_mark(alloc, scene, 2, out)?;
+    for _ in 0..shown_count(alloc, scene)? {
         out.push_str(" shown")?;
     }
+    Ok(())
+}
+
+// That, and how many items are live.
+fn append_answer(
+    alloc: Global,
+    tried: &Tried,
+    scene: &Scene,
+    out: &mut String,
+) -> Result<(), NoMemory>
+    requires { IsWellKept scene.now }
+{
+    append_tried(alloc, tried, out)?;
+    let live = count(alloc, scene)?;
+    let text = format!(in alloc; " {live}, ")?;
+    out.push_str(text.as_str())?;
     Ok(())
 }
 
@@ -128,10 +168,7 @@ fn tries<L: Ledger>(
             return Err("no such item".into());
         }
         let tried = try_item(scene, item, store, setting, room, steps)?;
-        let text = said(alloc, &tried)?;
-        let live = count(alloc, scene)?;
-        let text = format!(in alloc; "{text} {live}, ")?;
-        out.push_str(text.as_str())?;
+        append_answer(alloc, &tried, scene, &mut out)?;
     }
     end(alloc, scene, &mut out)?;
     Ok(out)
@@ -269,19 +306,30 @@ run skip proj skip. | 01245 | 0124 | \
     2+0 2, 1+0! 2, 3+0 4, 1+0! 4, 0+0! 3, Goes Goes 1:Goes 2:Goes then 0+0! 1, 3+0 3, 0+0! 2, rests 2, Ends Ends 1:Ends 2:Ends
 ";
 
-#[test]
-fn items_are_reduced(rt: HostRuntime) -> Result<(), Fail> {
-    for table in [KINDS, MEETINGS, REGIONS] {
-        for row in table.trim().lines() {
-            let (source, row) = cut(row, "|")?;
-            let (picks, row) = cut(row, "|")?;
-            let (room, expected) = cut(row, "|")?;
-            let room = u64::from(number(room)?);
-            let text = told_items(rt.alloc(), source, picks.as_bytes(), room, None)?;
-            assert_eq!(rt; text.as_str(), expected, "for {source}");
-        }
+// What is answered in the state of a row.
+fn expect_state(rt: &(impl Abort + AllocGlobal), row: &str) -> Result<(), Fail> {
+    let (source, row) = cut(row, "|")?;
+    let (picks, row) = cut(row, "|")?;
+    let (room, expected) = cut(row, "|")?;
+    let room = u64::from(number(room)?);
+    let text = told_items(rt.alloc(), source, picks.as_bytes(), room, None)?;
+    same_text(rt, text.as_str(), expected, source);
+    Ok(())
+}
+
+// The same of each row of a table.
+fn expect_states(rt: &(impl Abort + AllocGlobal), table: &str) -> Result<(), Fail> {
+    for row in table.trim().lines() {
+        expect_state(rt, row)?;
     }
     Ok(())
+}
+
+#[test]
+fn items_are_reduced(rt: HostRuntime) -> Result<(), Fail> {
+    expect_states(&rt, KINDS)?;
+    expect_states(&rt, MEETINGS)?;
+    expect_states(&rt, REGIONS)
 }
 
 #[test]
@@ -292,7 +340,7 @@ fn a_state_goes_on(rt: HostRuntime) -> Result<(), Fail> {
         let (second, expected) = cut(row, "|")?;
         let second = Some(second.as_bytes());
         let text = told_items(rt.alloc(), source, first.as_bytes(), 9, second)?;
-        assert_eq!(rt; text.as_str(), expected, "for {source}");
+        same_text(&rt, text.as_str(), expected, source);
     }
     Ok(())
 }

@@ -2,6 +2,7 @@
 ghost use Rattle.std.specs.Prelude.{◌≡◌, ◌∷◌, [], IfOk, false};
 ghost use Rattle.tp_store.specs.Known.{IsVariableOf, global_variable};
 
+use crate::expected::{holds, same_number, same_text};
 use crate::making::{nested, one_variable, path, sixes};
 use crate::tables::{cut, number};
 use std::alloc::Global;
@@ -160,9 +161,9 @@ fn expect_added(
     let here = place(rt.alloc(), at)?;
     let adding = thing_to_add(adding)?;
     let found = ask(rt.alloc(), store, &here, adding);
-    assert_eq!(rt; asked(rt.alloc(), found)?.as_str(), free);
+    same_text(rt, asked(rt.alloc(), found)?.as_str(), free, at);
     let news = put(rt.alloc(), store, &here, adding);
-    assert_eq!(rt; answered(rt.alloc(), news)?.as_str(), answer);
+    same_text(rt, answered(rt.alloc(), news)?.as_str(), answer, at);
     Ok(())
 }
 
@@ -176,7 +177,7 @@ fn expect_known(
 {
     let there = place(rt.alloc(), at)?;
     let found = store.full(&there)?;
-    assert_eq!(rt; known(rt.alloc(), &found)?.as_str(), text);
+    same_text(rt, known(rt.alloc(), &found)?.as_str(), text, at);
     Ok(())
 }
 
@@ -210,16 +211,16 @@ fn states_go_on(rt: HostRuntime) -> Result<(), Fail> {
     let alloc = rt.alloc();
     let mut store = one_variable(alloc)?;
     let local = store.fresh(&Text::from_slice(alloc, b"b")?, true)?;
-    assert_eq!(rt; local.number, 1);
-    assert!(rt; store.name(local).is_some());
+    same_number(&rt, local.number, 1, "a local");
+    holds(&rt, store.name(local).is_some(), "a local");
     let here = path(alloc, 0, &[])?;
     put(alloc, &mut store, &here, Num(3))?;
     let mut facts = Facts {
         items: Vec::new(alloc),
     };
     store.facts(1, &mut facts)?;
-    assert_eq!(rt; facts.items.len(), 1);
+    same_number(&rt, facts.items.len() as u64, 1, "facts");
     store.next_state();
-    assert!(rt; store.shape(&here).is_none());
+    holds(&rt, store.shape(&here).is_none(), "the next state");
     Ok(())
 }

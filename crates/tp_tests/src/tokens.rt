@@ -1,7 +1,8 @@
 // Texts and their tokens, refusals and places.
+use crate::expected::{holds, same_text};
 use crate::making::series;
+use crate::rows::{Telling, expect_row, expect_rows};
 use crate::sources::tokens_of;
-use crate::tables::cut;
 use std::alloc::Global;
 use std::process::Abort;
 use std::test::Fail;
@@ -24,13 +25,18 @@ fn number_of(kind: &Kind) -> u8 {
     }
 }
 
-// The numbers of a text's tokens.
-fn numbers(alloc: Global, text: &str) -> Result<String, Fail> {
+fn append_number(alloc: Global, number: u8, out: &mut String) -> Result<(), Fail> {
+    let text = format!(in alloc; "{number} ")?;
+    out.push_str(text.as_str())?;
+    Ok(())
+}
+
+/// The numbers of a text's tokens, each with a blank behind it.
+pub fn numbers(alloc: Global, text: &str) -> Result<String, Fail> {
     let found = tokens_of(alloc, text.as_bytes())?;
     let mut out = String::new(alloc);
     for token in &found.items {
-        let number = format!(in alloc; "{} ", number_of(&token.kind))?;
-        out.push_str(number.as_str())?;
+        append_number(alloc, number_of(&token.kind), &mut out)?;
     }
     Ok(out)
 }
@@ -46,19 +52,20 @@ ifx if run_ => 100 0 100
 9223372036854775807 => 101
 ";
 
+// Expects that the text has so many tokens, of which each has its own number.
+fn expect_counted(rt: &(impl Abort + AllocGlobal), text: &str, times: u32) -> Result<(), Fail> {
+    let expected = series(rt.alloc(), "#@ #", times)?;
+    let found = numbers(rt.alloc(), text)?;
+    same_text(rt, found.as_str(), expected.as_str(), text);
+    Ok(())
+}
+
 #[test]
 fn reads_texts(rt: HostRuntime) -> Result<(), Fail> {
-    for (text, times) in [(WORDS, 35), (SYMBOLS, 22)] {
-        let expected = series(rt.alloc(), "#@ #", times)?;
-        assert_eq!(rt; numbers(rt.alloc(), text)?.as_str(), expected.as_str());
-    }
-    for row in READ.trim().lines() {
-        let (text, expected) = cut(row, "=>")?;
-        let found = numbers(rt.alloc(), text)?;
-        assert_eq!(rt; found.as_str().trim(), expected, "for {text}");
-    }
-    assert_eq!(rt; numbers(rt.alloc(), " \t\r\n/* run */ /**/")?.as_str(), "");
-    Ok(())
+    expect_counted(&rt, WORDS, 35)?;
+    expect_counted(&rt, SYMBOLS, 22)?;
+    expect_rows(&rt, Telling::Tokens, READ)?;
+    expect_counted(&rt, " \t\r\n/* run */ /**/", 0)
 }
 
 // Texts, and why they are refused.
@@ -72,34 +79,30 @@ ab /*/ => OpenComment { at: 3 }
 /* @ => OpenComment { at: 0 }
 ";
 
-fn expect_refusal(rt: &(impl Abort + AllocGlobal), text: &str, refusal: &str) -> Result<(), Fail> {
-    match tokens_of(rt.alloc(), text.as_bytes()) {
-        Ok(_) => return Err("tokens".into()),
-        Err(answer) => {
-            let answer = format!(in rt.alloc(); "{answer:?}")?;
-            assert_eq!(rt; answer.as_str(), refusal, "for {text}");
-        }
-    }
-    Ok(())
+/// Why the text has no tokens.
+pub fn refusal_of(alloc: Global, text: &str) -> Result<String, Fail> {
+    let refusal = tokens_of(alloc, text.as_bytes()).err().ok_or("tokens")?;
+    let text = format!(in alloc; "{refusal:?}")?;
+    Ok(text)
 }
 
 #[test]
 fn refuses_texts(rt: HostRuntime) -> Result<(), Fail> {
-    for row in REFUSED.trim().lines() {
-        let (text, refusal) = cut(row, "=>")?;
-        expect_refusal(&rt, text, refusal)?;
-    }
+    expect_rows(&rt, Telling::NoTokens, REFUSED)?;
     let longest = series(rt.alloc(), "#n#", 64)?;
-    assert!(rt; tokens_of(rt.alloc(), longest.as_bytes()).is_ok());
+    let read = tokens_of(rt.alloc(), longest.as_bytes());
+    holds(&rt, read.is_ok(), "the longest name");
     let longer = series(rt.alloc(), "#n#", 65)?;
-    expect_refusal(&rt, longer.as_str(), "NameTooLong { at: 0 }")
+    let refusal = "NameTooLong { at: 0 }";
+    expect_row(&rt, Telling::NoTokens, longer.as_str(), refusal)
 }
 
 // A place in the text, its line and its column.
 fn expect_place(rt: &(impl Abort + AllocGlobal), text: &[u8], at: usize, place: (u32, u32)) {
     assert!(rt; at <= text.len());
     assert!(rt; text.len() <= 100);
-    assert_eq!(rt; place_of(text, at), place);
+    let (line, column) = place_of(text, at);
+    holds(rt, line == place.0 && column == place.1, "a place");
 }
 
 #[test]
@@ -113,6 +116,7 @@ fn tells_places(rt: HostRuntime) -> Result<(), Fail> {
     expect_place(&rt, text, 6, (3, 4));
     let found = tokens_of(rt.alloc(), text)?;
     let last = found.items.last().ok_or("a token")?;
-    assert_eq!(rt; (last.from, last.to, last.line, last.column), (5, 6, 3, 3));
+    let found = format!(in rt.alloc(); "{} {} {} {}", last.from, last.to, last.line, last.column)?;
+    same_text(&rt, found.as_str(), "5 6 3 3", "the last token");
     Ok(())
 }

@@ -3,7 +3,9 @@ ghost use Rattle.std.specs.Prelude.{IfOk};
 ghost use Rattle.tp_value.specs.Read.{tree};
 ghost use Rattle.tp_value.specs.Shape.{HasShortLists};
 
+use crate::expected::{holds, same_bytes, same_number, same_text};
 use crate::making::{nested, series, sixes};
+use crate::rows::{Telling, expect_row, expect_rows};
 use crate::tables::{cut, number};
 use std::alloc::Global;
 use std::process::Abort;
@@ -33,7 +35,7 @@ fn values_are_copied(rt: HostRuntime) -> Result<(), Fail> {
     for (i, value) in all.iter().enumerate() {
         let copy = value.copy(rt.alloc())?;
         for (j, other) in all.iter().enumerate() {
-            assert_eq!(rt; same(&copy, other), i == j, "at {i} and {j}");
+            holds(&rt, same(&copy, other) == (i == j), "a copy");
         }
     }
     Ok(())
@@ -52,9 +54,13 @@ fn expect_fact(rt: &(impl Abort + AllocGlobal)) -> Result<(), Fail> {
         shape: Shape::Items(2),
     };
     let copy = fact.copy()?;
-    assert_eq!(rt; copy.path.var, var);
-    assert_eq!(rt; copy.path.at.items.as_slice(), [4, 0].as_slice());
-    assert_eq!(rt; copy.shape, Shape::Items(2));
+    holds(rt, copy.path.var == var, "a fact's variable");
+    holds(
+        rt,
+        copy.path.at.items.as_slice() == [4, 0].as_slice(),
+        "a fact's indices",
+    );
+    holds(rt, copy.shape == Shape::Items(2), "a fact's shape");
     Ok(())
 }
 
@@ -66,8 +72,9 @@ fn expect_text(rt: &(impl Abort + AllocGlobal), start: &str, end: &str) -> Resul
     let copy = text.copy()?;
     let whole = format!(in rt.alloc(); "{start}{end}")?;
     let made = Text::from_slice(rt.alloc(), whole.as_bytes())?;
-    assert_eq!(rt; copy.as_slice(), made.as_slice(), "at {whole}");
-    assert_eq!(rt; made.len(), whole.len(), "at {whole}");
+    same_bytes(rt, copy.as_slice(), whole.as_str(), start);
+    same_bytes(rt, made.as_slice(), whole.as_str(), start);
+    same_number(rt, made.len() as u64, whole.len() as u64, start);
     Ok(())
 }
 
@@ -79,7 +86,7 @@ fn texts_and_facts_are_built(rt: HostRuntime) -> Result<(), Fail> {
     expect_text(&rt, "ab", "cd")?;
     expect_fact(&rt)?;
     let none = Indices::new(rt.alloc()).copy()?;
-    assert_eq!(rt; none.items.len(), 0);
+    same_number(&rt, none.items.len() as u64, 0, "no indices");
     Ok(())
 }
 
@@ -102,10 +109,10 @@ fn expect_name(
 ) -> Result<(), Fail> {
     let text = Text::from_slice(rt.alloc(), name.as_bytes())?;
     let added = globals.add(&text)?;
-    assert_eq!(rt; added, var, "at {name}");
-    assert_eq!(rt; globals.find(&text), Some(var), "at {name}");
+    holds(rt, added == var, name);
+    holds(rt, globals.find(&text) == Some(var), name);
     let kept = globals.name(var.number).ok_or("no name")?;
-    assert_eq!(rt; kept.as_slice(), name.as_bytes());
+    same_bytes(rt, kept.as_slice(), name, name);
     Ok(())
 }
 
@@ -121,8 +128,13 @@ fn names_are_numbered(rt: HostRuntime) -> Result<(), Fail> {
         };
         expect_name(&rt, &mut globals, name, var)?;
     }
-    assert_eq!(rt; globals.len(), 4);
+    same_number(&rt, globals.len(), 4, "names");
     Ok(())
+}
+
+// Expects this result of two operands, or of one and 0.
+fn same_result(rt: &impl Abort, found: Option<i64>, expected: Option<i64>, a: i64, b: i64) {
+    assert_eq!(rt; found, expected, "at {a} and {b}");
 }
 
 #[test]
@@ -137,10 +149,10 @@ fn numbers_have_a_limit(rt: HostRuntime) {
         (most, -most, Some(0)),
     ];
     for (a, b, total) in table {
-        assert_eq!(rt; sum(a, b), total, "at {a} and {b}");
+        same_result(&rt, sum(a, b), total, a, b);
     }
-    assert!(rt; is_number(-most));
-    assert!(rt; !is_number(-most - 1));
+    holds(&rt, is_number(-most), "the least number");
+    holds(&rt, !is_number(-most - 1), "one less");
 }
 
 #[test]
@@ -157,8 +169,8 @@ fn numbers_are_divided(rt: HostRuntime) {
         (1, -most - 1, Some(-1), Some(-most)),
     ];
     for (a, b, whole, rest) in table {
-        assert_eq!(rt; quotient(a, b), whole, "at {a} and {b}");
-        assert_eq!(rt; remainder(a, b), rest, "at {a} and {b}");
+        same_result(&rt, quotient(a, b), whole, a, b);
+        same_result(&rt, remainder(a, b), rest, a, b);
     }
 }
 
@@ -178,12 +190,12 @@ fn numbers_are_reckoned(rt: HostRuntime) {
         ),
     ];
     for (a, b, left, times) in table {
-        assert_eq!(rt; difference(a, b), left, "at {a} and {b}");
-        assert_eq!(rt; product(a, b), times, "at {a} and {b}");
+        same_result(&rt, difference(a, b), left, a, b);
+        same_result(&rt, product(a, b), times, a, b);
     }
-    assert_eq!(rt; negated(3), Some(-3));
-    assert_eq!(rt; negated(-most), Some(most));
-    assert_eq!(rt; negated(-most - 1), None);
+    same_result(&rt, negated(3), Some(-3), 3, 0);
+    same_result(&rt, negated(-most), Some(most), -most, 0);
+    same_result(&rt, negated(-most - 1), None, -most - 1, 0);
 }
 
 // A list of one list of so many numbers.
@@ -204,7 +216,7 @@ fn lists_have_limits(rt: HostRuntime) -> Result<(), Fail> {
         (wrapped(alloc, ITEM_LIMIT)?, false),
     ]?;
     for (value, within) in &table {
-        assert_eq!(rt; is_within_list_limit(value), *within);
+        holds(&rt, is_within_list_limit(value) == *within, "a list");
     }
     Ok(())
 }
@@ -228,7 +240,7 @@ fn elements_have_shapes(rt: HostRuntime) -> Result<(), Fail> {
         (&[0, 0], None),
     ];
     for (at, shape) in table {
-        assert_eq!(rt; shape_at(&value, at), shape);
+        holds(&rt, shape_at(&value, at) == shape, "a shape");
     }
     Ok(())
 }
@@ -245,6 +257,18 @@ true1 | 0 | true | 4
 < 1 ,\t<\t> , false,<-2>> | 0 | <1,<>,false,<-2>> | 23
 ";
 
+// Writes the value that stands in the text from there, and gives the place behind it.
+fn rewrite(alloc: Global, text: &str, from: usize, out: &mut Text) -> Result<usize, Fail> {
+    if from > text.len() {
+        return Err("past the end".into());
+    }
+    let (value, place) = read_value(alloc, text.as_bytes(), from)
+        .ok()
+        .ok_or("no value")?;
+    write_value(&value, out)?;
+    Ok(place)
+}
+
 fn expect_value(
     rt: &(impl Abort + AllocGlobal),
     text: &str,
@@ -252,29 +276,25 @@ fn expect_value(
     canonical: &str,
     after: u32,
 ) -> Result<(), Fail> {
-    let from = from as usize;
-    if from > text.len() {
-        return Err("past the end".into());
-    }
-    let (value, place) = match read_value(rt.alloc(), text.as_bytes(), from) {
-        Ok(read) => read,
-        Err(_) => return Err("no value".into()),
-    };
     let mut out = Text::from_slice(rt.alloc(), b"so: ")?;
-    write_value(&value, &mut out)?;
+    let place = rewrite(rt.alloc(), text, from as usize, &mut out)?;
     let expected = format!(in rt.alloc(); "so: {canonical}")?;
-    assert_eq!(rt; out.as_slice(), expected.as_bytes(), "at {text}");
-    assert_eq!(rt; place, after as usize, "at {text}");
+    same_bytes(rt, out.as_slice(), expected.as_str(), text);
+    same_number(rt, place as u64, u64::from(after), text);
     Ok(())
+}
+
+fn expect_written(rt: &(impl Abort + AllocGlobal), row: &str) -> Result<(), Fail> {
+    let (text, row) = cut(row, "|")?;
+    let (from, row) = cut(row, "|")?;
+    let (canonical, after) = cut(row, "|")?;
+    expect_value(rt, text, number(from)?, canonical, number(after)?)
 }
 
 #[test]
 fn values_are_read_and_written(rt: HostRuntime) -> Result<(), Fail> {
     for row in WRITTEN.trim().lines() {
-        let (text, row) = cut(row, "|")?;
-        let (from, row) = cut(row, "|")?;
-        let (canonical, after) = cut(row, "|")?;
-        expect_value(&rt, text, number(from)?, canonical, number(after)?)?;
+        expect_written(&rt, row)?;
     }
     expect_value(&rt, "false\n", 0, "false", 5)
 }
@@ -294,36 +314,47 @@ truth => NoValue { at: 3 }
 <1,-9223372036854775808; => TooLarge { at: 3 }
 ";
 
-fn expect_refusal(rt: &(impl Abort + AllocGlobal), text: &str, refusal: &str) -> Result<(), Fail> {
-    match read_value(rt.alloc(), text.as_bytes(), 0) {
-        Ok(_) => return Err("a value".into()),
-        Err(answer) => {
-            let answer = format!(in rt.alloc(); "{answer:?}")?;
-            assert_eq!(rt; answer.as_str(), refusal, "at {text}");
-        }
-    }
-    Ok(())
+/// Why no value begins the text.
+pub fn no_value(alloc: Global, text: &str) -> Result<String, Fail> {
+    let refusal = read_value(alloc, text.as_bytes(), 0)
+        .err()
+        .ok_or("a value")?;
+    let text = format!(in alloc; "{refusal:?}")?;
+    Ok(text)
 }
 
 #[test]
 fn texts_of_no_value_are_refused(rt: HostRuntime) -> Result<(), Fail> {
-    for row in REFUSED.trim().lines() {
-        let (text, refusal) = cut(row, "=>")?;
-        expect_refusal(&rt, text, refusal)?;
-    }
-    expect_refusal(&rt, " 1", "NoValue { at: 0 }")?;
-    expect_refusal(&rt, "<1\n>", "NoValue { at: 2 }")
+    expect_rows(&rt, Telling::NoValue, REFUSED)?;
+    expect_row(&rt, Telling::NoValue, " 1", "NoValue { at: 0 }")?;
+    expect_row(&rt, Telling::NoValue, "<1\n>", "NoValue { at: 2 }")
+}
+
+// Whether a value begins the pattern, of which a part is repeated so many times.
+fn begins_value(alloc: Global, pattern: &str, times: u32) -> Result<bool, Fail> {
+    let text = series(alloc, pattern, times)?;
+    Ok(read_value(alloc, text.as_bytes(), 0).is_ok())
+}
+
+// Expects that none does.
+fn expect_none(
+    rt: &(impl Abort + AllocGlobal),
+    pattern: &str,
+    times: u32,
+    refusal: &str,
+) -> Result<(), Fail> {
+    let text = series(rt.alloc(), pattern, times)?;
+    expect_row(rt, Telling::NoValue, text.as_str(), refusal)
 }
 
 #[test]
 fn texts_past_the_limits_are_refused(rt: HostRuntime) -> Result<(), Fail> {
-    for (pattern, times) in [("#<##>#", 100), ("<1#,1#>", 65_535)] {
-        let text = series(rt.alloc(), pattern, times)?;
-        let read = read_value(rt.alloc(), text.as_bytes(), 0);
-        assert!(rt; read.is_ok());
-    }
-    let deeper = series(rt.alloc(), "#<#", 101)?;
-    expect_refusal(&rt, deeper.as_str(), "TooDeep { at: 100 }")?;
-    let wider = series(rt.alloc(), "<1#,<>#", 65_536)?;
-    expect_refusal(&rt, wider.as_str(), "TooLong { at: 196608 }")
+    holds(&rt, begins_value(rt.alloc(), "#<##>#", 100)?, "the deepest");
+    holds(
+        &rt,
+        begins_value(rt.alloc(), "<1#,1#>", 65_535)?,
+        "the widest",
+    );
+    expect_none(&rt, "#<#", 101, "TooDeep { at: 100 }")?;
+    expect_none(&rt, "<1#,<>#", 65_536, "TooLong { at: 196608 }")
 }

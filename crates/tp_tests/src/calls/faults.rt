@@ -1,7 +1,9 @@
 // Reads and writes that fail, and how many there are of each.
 use crate::calls::status_of;
+use crate::expected::{holds, same_bytes, same_number};
 use crate::making::contents;
 use std::alloc::Global;
+use std::process::Abort;
 use std::test::Fail;
 use tp_io::{Failure, FileRefusal, Files, Page, Shelf, Sink, WriteRefusal};
 use tp_value::{Bytes, Text};
@@ -28,6 +30,15 @@ const WRITES: [(&[u8], u64, usize, u8, &str); 6] = [
     (SHOWN, 2, 5, 15, "state 0:\nshow 5\nstate"),
 ];
 
+// Expects that the next read fails, and the next write.
+fn expect_failing(rt: &(impl Abort + AllocGlobal), shelf: &mut Shelf, page: &mut Page, row: &str) {
+    let alloc = rt.alloc();
+    let read = shelf.read(alloc, "a.t", 9).err();
+    holds(rt, read == Some(FileRefusal::Failed), row);
+    let written = page.write(alloc, b"!");
+    holds(rt, written == Err(WriteRefusal::Failed), row);
+}
+
 #[test]
 fn nothing_is_asked_or_written_after_a_failed_write(rt: HostRuntime) -> Result<(), Fail> {
     let alloc = rt.alloc();
@@ -49,14 +60,10 @@ fn nothing_is_asked_or_written_after_a_failed_write(rt: HostRuntime) -> Result<(
             vec![in alloc; 2u64]?,
         );
         let status = status_of(alloc, &["run", "a.t"], &mut shelf, &mut page)?;
-        assert_eq!(rt; status.code(), *code);
+        same_number(&rt, u64::from(status.code()), u64::from(*code), text);
         // The next read is the second one, and the next write the first after that which failed.
-        assert_eq!(rt;
-            shelf.read(alloc, "a.t", 9).err(),
-            Some(FileRefusal::Failed)
-        );
-        assert_eq!(rt; page.write(alloc, b"!"), Err(WriteRefusal::Failed));
-        assert_eq!(rt; page.text(alloc)?.as_slice(), text.as_bytes());
+        expect_failing(&rt, &mut shelf, &mut page, text);
+        same_bytes(&rt, page.text(alloc)?.as_slice(), text, text);
     }
     Ok(())
 }
@@ -68,15 +75,14 @@ fn a_failed_read_is_told(rt: HostRuntime) -> Result<(), Fail> {
     let mut shelf = Shelf::new(alloc, contents(alloc, "a.t", SOURCE)?, failing);
     let mut page = Page::new(alloc, vec![in alloc; Failure { call: 2, kept: 0 }]?);
     let status = status_of(alloc, &["run", "a.t"], &mut shelf, &mut page)?;
-    assert_eq!(rt; status.code(), 14);
-    assert_eq!(rt;
-        shelf.read(alloc, "a.t", 9).err(),
-        Some(FileRefusal::Failed)
-    );
-    assert_eq!(rt; page.write(alloc, b"!"), Err(WriteRefusal::Failed));
-    assert_eq!(rt;
-        page.text(alloc)?.as_slice(),
-        b"read fault: source\n".as_slice()
+    same_number(&rt, u64::from(status.code()), 14, "a failed read");
+    expect_failing(&rt, &mut shelf, &mut page, "a failed read");
+    let text = page.text(alloc)?;
+    same_bytes(
+        &rt,
+        text.as_slice(),
+        "read fault: source\n",
+        "a failed read",
     );
     Ok(())
 }
@@ -111,7 +117,7 @@ fn one_byte_past_the_limit_is_read(rt: HostRuntime) -> Result<(), Fail> {
     let mut endless = Endless { most: 0 };
     let mut page = Page::new(alloc, Vec::new(alloc));
     let status = status_of(alloc, &["run", "a.t"], &mut endless, &mut page)?;
-    assert_eq!(rt; status.code(), 13);
-    assert_eq!(rt; endless.most, 1_048_577);
+    same_number(&rt, u64::from(status.code()), 13, "an endless file");
+    same_number(&rt, endless.most as u64, 1_048_577, "an endless file");
     Ok(())
 }

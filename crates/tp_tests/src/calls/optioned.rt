@@ -1,5 +1,6 @@
 // Calls with options: inputs of a file, and limits.
-use crate::calls::status_of;
+use crate::calls::{status_of, with_end};
+use crate::expected::{same_bytes, same_number};
 use crate::tables::{cut, number};
 use std::alloc::Global;
 use std::process::Abort;
@@ -7,7 +8,7 @@ use std::test::Fail;
 use tp_io::{Content, SurePage, SureShelf};
 use tp_value::{NoMemory, Text};
 
-// The words, the source `a.t`, the inputs `b.t` with `;` for the end of a line, the exit status, and the text.
+// The words, the source `a.t`, the inputs `b.t` with `;` for the end of a line, which `-b` holds too, the exit status, and the text.
 const OPTIONED: &str = "
 run a.t --inputs b.t
 run input(A,p) and skip and next (input(A,p)).
@@ -57,6 +58,13 @@ p=4
 -> 1
 contradictory: state 0: A=3 and A=4
 
+run a.t --inputs=-b
+run input(A,p) and empty.
+p=4
+-> 0
+state 0: A=4
+finished: length 0
+
 run a.t --inputs b.t
 run empty.
 p=1;p=1 p=2
@@ -89,6 +97,27 @@ define p() = p(). run p().
 ;
 -> 4
 reduction limit: state 0: 1000 reductions
+
+run a.t --order first
+run skip and next(A=1 and A=2 and 1=2).
+;
+-> 1
+state 0:
+contradictory: state 1: A=1 and A=2
+
+run a.t --order last
+run skip and next(A=1 and A=2 and 1=2).
+;
+-> 1
+state 0:
+contradictory: state 1: false
+
+run a.t --order 1
+run skip and next(A=1 and A=2 and 1=2).
+;
+-> 1
+state 0:
+contradictory: state 1: false
 
 run a.t --order first --states 0000001 --reductions 1000000
 run empty.
@@ -149,43 +178,56 @@ fn file_of(alloc: Global, name: &str, lines: &str) -> Result<Content, NoMemory> 
     Ok(Content { name, bytes })
 }
 
-fn expect_row(rt: &(impl Abort + AllocGlobal), row: &str) -> Result<(), Fail> {
-    let alloc = rt.alloc();
-    let (words, row) = cut(row, "\n")?;
+// The source `a.t`, and the same inputs in two files.
+fn files_of(alloc: Global, source: &str, table: &str) -> Result<SureShelf, Fail> {
+    let all = vec![in alloc;
+        file_of(alloc, "a.t", source)?,
+        file_of(alloc, "b.t", table)?,
+        file_of(alloc, "-b", table)?,
+    ]?;
+    Ok(SureShelf::new(alloc, all))
+}
+
+// The exit status and the text of a call with the words of this line.
+fn expect_line(
+    rt: &(impl Abort + AllocGlobal),
+    line: &str,
+    files: &mut SureShelf,
+    code: u32,
+    text: &str,
+) -> Result<(), Fail> {
+    let words = words_in(rt.alloc(), line)?;
+    let mut page = SurePage::new(rt.alloc());
+    let status = status_of(rt.alloc(), words.as_slice(), files, &mut page)?;
+    same_bytes(rt, page.text(), text, line);
+    same_number(rt, u64::from(status.code()), u64::from(code), line);
+    Ok(())
+}
+
+// The same of what stands behind the words of a row: its source, its inputs, its exit status and its text.
+fn expect_call(rt: &(impl Abort + AllocGlobal), words: &str, row: &str) -> Result<(), Fail> {
     let (source, row) = cut(row, "\n")?;
     let (table, row) = cut(row, "->")?;
     let (code, text) = cut(row, "\n")?;
-    let source = file_of(alloc, "a.t", source)?;
-    let all = vec![in alloc; source, file_of(alloc, "b.t", table)?]?;
-    let mut files = SureShelf::new(alloc, all);
-    let mut page = SurePage::new(alloc);
-    let words = words_in(alloc, words)?;
-    let status = status_of(alloc, words.as_slice(), &mut files, &mut page)?;
-    let text = format!(in alloc; "{text}\n")?;
-    assert_eq!(rt; str::from_utf8(page.text()), Ok(text.as_str()), "for {row}");
-    assert_eq!(rt; u32::from(status.code()), number(code)?, "for {row}");
-    Ok(())
+    let mut files = files_of(rt.alloc(), source, table)?;
+    let text = with_end(rt.alloc(), text)?;
+    expect_line(rt, words, &mut files, number(code)?, text.as_str())
 }
 
 #[test]
 fn options_are_taken(rt: HostRuntime) -> Result<(), Fail> {
     for row in OPTIONED.trim().split("\n\n") {
-        expect_row(&rt, row)?;
+        let (words, row) = cut(row, "\n")?;
+        expect_call(&rt, words, row)?;
     }
     Ok(())
 }
 
 #[test]
 fn other_words_are_refused(rt: HostRuntime) -> Result<(), Fail> {
-    let alloc = rt.alloc();
     for line in NO_COMMANDS.trim().split('\n') {
-        let all = vec![in alloc; file_of(alloc, "a.t", "run empty.")?]?;
-        let mut files = SureShelf::new(alloc, all);
-        let mut page = SurePage::new(alloc);
-        let words = words_in(alloc, line)?;
-        let status = status_of(alloc, words.as_slice(), &mut files, &mut page)?;
-        assert_eq!(rt; status.code(), 12, "for {line}");
-        assert_eq!(rt; page.text(), b"words refused\n".as_slice(), "for {line}");
+        let mut files = files_of(rt.alloc(), "run empty.", ";")?;
+        expect_line(&rt, line, &mut files, 12, "words refused\n")?;
     }
     Ok(())
 }

@@ -1,10 +1,11 @@
 // Sources that are printed.
-use crate::calls::optioned::words_in;
-use crate::calls::{expect, status_of};
+use crate::calls::{expect, expect_words_rows, status_of};
+use crate::expected::{same_bytes, same_number};
 use crate::making::{contents, series};
-use crate::tables::{cut, number};
+use std::alloc::Global;
 use std::process::Abort;
 use std::test::Fail;
+use tp_call::Status;
 use tp_io::{Failure, Page, SureShelf};
 
 // The words, the source `a.t`, the exit status, and the text.
@@ -147,21 +148,10 @@ run empty.
 words refused
 ";
 
-fn expect_row(rt: &(impl Abort + AllocGlobal), row: &str) -> Result<(), Fail> {
-    let (words, row) = cut(row, "\n")?;
-    let (source, row) = cut(row, "->")?;
-    let (code, text) = cut(row, "\n")?;
-    let words = words_in(rt.alloc(), words)?;
-    let text = format!(in rt.alloc(); "{text}\n")?;
-    expect(rt, words.as_slice(), source, number(code)?, text.as_str())
-}
-
 #[test]
 fn sources_are_printed(rt: HostRuntime) -> Result<(), Fail> {
     for table in [PRINTED, UNCHECKED, UNPARSED, UNUSED] {
-        for row in table.trim().split("\n\n") {
-            expect_row(&rt, row)?;
-        }
+        expect_words_rows(&rt, table)?;
     }
     Ok(())
 }
@@ -180,21 +170,30 @@ const WRITES: [(u64, usize, u8, &str); 3] = [
     (2, 0, 0, "run empty.\n"),
 ];
 
+// The exit status of a call that prints `a.t` on the page.
+fn print(alloc: Global, page: &mut Page) -> Result<Status, Fail> {
+    let mut files = SureShelf::new(alloc, contents(alloc, "a.t", b"run(empty).")?);
+    status_of(alloc, &["print", "a.t"], &mut files, page)
+}
+
+fn expect_write(
+    rt: &(impl Abort + AllocGlobal),
+    failure: Failure,
+    code: u8,
+    text: &str,
+) -> Result<(), Fail> {
+    let failing = vec![in rt.alloc(); failure]?;
+    let mut page = Page::new(rt.alloc(), failing);
+    let status = print(rt.alloc(), &mut page)?;
+    same_number(rt, u64::from(status.code()), u64::from(code), text);
+    same_bytes(rt, page.text(rt.alloc())?.as_slice(), text, text);
+    Ok(())
+}
+
 #[test]
 fn a_spelling_is_one_write(rt: HostRuntime) -> Result<(), Fail> {
-    let alloc = rt.alloc();
-    for (call, kept, code, text) in &WRITES {
-        let failing = vec![in alloc;
-            Failure {
-                call: *call,
-                kept: *kept
-            },
-        ]?;
-        let mut page = Page::new(alloc, failing);
-        let mut files = SureShelf::new(alloc, contents(alloc, "a.t", b"run(empty).")?);
-        let status = status_of(alloc, &["print", "a.t"], &mut files, &mut page)?;
-        assert_eq!(rt; status.code(), *code);
-        assert_eq!(rt; page.text(alloc)?.as_slice(), text.as_bytes());
+    for (call, kept, code, text) in WRITES {
+        expect_write(&rt, Failure { call, kept }, code, text)?;
     }
     Ok(())
 }

@@ -1,7 +1,7 @@
 // Trees and refusals as texts: each phrase with operands stands in parentheses, its operator first.
 use std::alloc::Global;
 use tp_parse::ParseRefusal;
-use tp_tree::{Bare, Form, Op, Phrase, PhraseKind, Phrases, Source};
+use tp_tree::{Bare, Definition, Form, Op, Phrase, PhraseKind, Source};
 use tp_value::{NoMemory, Text, Texts};
 
 fn op_name(op: Op) -> &'static str {
@@ -137,10 +137,27 @@ fn append_all(out: &mut Text, names: &Texts) -> Result<(), NoMemory> {
     Ok(())
 }
 
+// Writes a word, a number and a mark.
+fn append_count(
+    alloc: Global,
+    word: &str,
+    n: u64,
+    mark: &str,
+    out: &mut Text,
+) -> Result<(), NoMemory> {
+    let text = format!(in alloc; "{word}{n}{mark}")?;
+    out.append(text.as_bytes())
+}
+
+fn append_integer(alloc: Global, n: i64, out: &mut Text) -> Result<(), NoMemory> {
+    let text = format!(in alloc; "{n}")?;
+    out.append(text.as_bytes())
+}
+
 /// Writes the number and the names of a phrase.
 fn append_names(alloc: Global, out: &mut Text, kind: &PhraseKind) -> Result<(), NoMemory> {
     match kind {
-        PhraseKind::Number(value) => out.append(format!(in alloc; "{value}")?.as_bytes()),
+        PhraseKind::Number(value) => append_integer(alloc, *value, out),
         PhraseKind::Name(name) => out.append(name.as_slice()),
         PhraseKind::For(name, _, _) => append_name(out, name),
         PhraseKind::Forall(name, _, _) => append_name(out, name),
@@ -148,6 +165,52 @@ fn append_names(alloc: Global, out: &mut Text, kind: &PhraseKind) -> Result<(), 
         PhraseKind::Exists(names, _) => append_all(out, names),
         _ => Ok(()),
     }
+}
+
+// Leaves these to be written, the first one next.
+fn leave_all<'a>(all: &'a [Phrase], left: &mut Vec<Piece<'a>>) -> Result<(), NoMemory> {
+    for operand in all.iter().rev() {
+        left.push(Piece::Operand(operand))?;
+    }
+    Ok(())
+}
+
+// The same of one, if any.
+fn leave<'a>(operand: Option<&'a Phrase>, left: &mut Vec<Piece<'a>>) -> Result<(), NoMemory> {
+    if let Some(operand) = operand {
+        left.push(Piece::Operand(operand))?;
+    }
+    Ok(())
+}
+
+fn leave_operands<'a>(kind: &'a PhraseKind, left: &mut Vec<Piece<'a>>) -> Result<(), NoMemory> {
+    leave_all(chain(kind), left)?;
+    let [first, second, third] = operands(kind);
+    leave(third, left)?;
+    leave(second, left)?;
+    leave(first, left)
+}
+
+// Writes the parenthesis before a phrase that has one, and leaves the one behind it.
+fn open<'a>(kind: &PhraseKind, left: &mut Vec<Piece<'a>>, out: &mut Text) -> Result<(), NoMemory> {
+    if is_compound(kind) {
+        out.append(b"(")?;
+        left.push(Piece::Close)?;
+    }
+    Ok(())
+}
+
+// Writes the place of a phrase, where it is wanted.
+fn append_place(
+    alloc: Global,
+    phrase: &Phrase,
+    places: bool,
+    out: &mut Text,
+) -> Result<(), NoMemory> {
+    if places {
+        append_count(alloc, "", u64::from(phrase.at), ":", out)?;
+    }
+    Ok(())
 }
 
 /// Writes a phrase up to its operands, and leaves these to be written, the first one next.
@@ -158,41 +221,52 @@ fn begin<'a>(
     places: bool,
     left: &mut Vec<Piece<'a>>,
 ) -> Result<(), NoMemory> {
-    if places {
-        out.append(format!(in alloc; "{}:", phrase.at)?.as_bytes())?;
-    }
-    if is_compound(&phrase.kind) {
-        out.append(b"(")?;
-        left.push(Piece::Close)?;
-    }
+    append_place(alloc, phrase, places, out)?;
+    open(&phrase.kind, left, out)?;
     out.append(word_of(&phrase.kind).as_bytes())?;
     append_names(alloc, out, &phrase.kind)?;
-    for operand in chain(&phrase.kind).iter().rev() {
-        left.push(Piece::Operand(operand))?;
-    }
-    for operand in operands(&phrase.kind).iter().rev() {
-        if let Some(operand) = operand {
-            left.push(Piece::Operand(operand))?;
-        }
-    }
-    Ok(())
+    leave_operands(&phrase.kind, left)
 }
 
-/// Writes a phrase, with the places of it and its operands where these are wanted, cut off after 10,000 pieces.
-fn spell(alloc: Global, out: &mut Text, phrase: &Phrase, places: bool) -> Result<(), NoMemory> {
-    let mut left = Vec::new(alloc);
-    begin(alloc, out, phrase, places, &mut left)?;
+// Writes what is left, cut off after 10,000 pieces.
+fn finish<'a>(
+    alloc: Global,
+    out: &mut Text,
+    places: bool,
+    left: &mut Vec<Piece<'a>>,
+) -> Result<(), NoMemory> {
     for _ in 0..10_000 {
         match left.pop() {
             None => return Ok(()),
             Some(Piece::Close) => out.append(b")")?,
             Some(Piece::Operand(phrase)) => {
                 out.append(b" ")?;
-                begin(alloc, out, phrase, places, &mut left)?;
+                begin(alloc, out, phrase, places, left)?;
             }
         }
     }
     Ok(())
+}
+
+/// Writes a phrase, with the places of it and its operands where these are wanted.
+fn spell(alloc: Global, out: &mut Text, phrase: &Phrase, places: bool) -> Result<(), NoMemory> {
+    let mut left = Vec::new(alloc);
+    begin(alloc, out, phrase, places, &mut left)?;
+    finish(alloc, out, places, &mut left)
+}
+
+fn spell_definition(
+    alloc: Global,
+    out: &mut Text,
+    definition: &Definition,
+    places: bool,
+) -> Result<(), NoMemory> {
+    out.append(b"(define")?;
+    append_name(out, &definition.name)?;
+    append_all(out, &definition.parameters)?;
+    out.append(b" ")?;
+    spell(alloc, out, &definition.body, places)?;
+    out.append(b") ")
 }
 
 fn spell_source(
@@ -202,33 +276,27 @@ fn spell_source(
     places: bool,
 ) -> Result<(), NoMemory> {
     for definition in &source.definitions.items {
-        out.append(b"(define")?;
-        append_name(out, &definition.name)?;
-        append_all(out, &definition.parameters)?;
-        out.append(b" ")?;
-        spell(alloc, out, &definition.body, places)?;
-        out.append(b") ")?;
+        spell_definition(alloc, out, definition, places)?;
     }
     spell(alloc, out, &source.main, places)
 }
 
-/// The outcome of a parse.
+/// Writes the outcome of a parse.
 pub fn spelled(
     alloc: Global,
     outcome: &Result<Source, ParseRefusal>,
     places: bool,
-) -> Result<Text, NoMemory> {
-    let mut out = Text::new(alloc);
+    out: &mut Text,
+) -> Result<(), NoMemory> {
     match outcome {
-        Ok(source) => spell_source(alloc, &mut out, source, places)?,
+        Ok(source) => spell_source(alloc, out, source, places),
         Err(ParseRefusal::Unexpected { token }) => {
-            out.append(format!(in alloc; "unexpected {token}")?.as_bytes())?
+            append_count(alloc, "unexpected ", *token as u64, "", out)
         }
-        Err(ParseRefusal::Unfinished) => out.append(b"unfinished")?,
+        Err(ParseRefusal::Unfinished) => out.append(b"unfinished"),
         Err(ParseRefusal::TooDeep { token }) => {
-            out.append(format!(in alloc; "too deep {token}")?.as_bytes())?
+            append_count(alloc, "too deep ", *token as u64, "", out)
         }
-        Err(ParseRefusal::NoMemory) => out.append(b"no memory")?,
+        Err(ParseRefusal::NoMemory) => out.append(b"no memory"),
     }
-    Ok(out)
 }

@@ -1,0 +1,166 @@
+// Texts of runs, read back as traces.
+use crate::expected::holds;
+use crate::making::series;
+use crate::rows::{Telling, expect_rows};
+use crate::tables::{cut, number};
+use std::alloc::Global;
+use std::process::Abort;
+use std::test::Fail;
+use tp_show::{NamedFact, Trace, TraceRefusal, read_trace};
+use tp_value::NoMemory;
+
+// A fact: a name, indices and a shape.
+fn append_fact(alloc: Global, fact: &NamedFact, out: &mut String) -> Result<(), Fail> {
+    let name = str::from_utf8(fact.name.as_slice()).ok().ok_or("no name")?;
+    out.push(' ')?;
+    out.push_str(name)?;
+    append_kept(alloc, fact, out)
+}
+
+fn append_kept(alloc: Global, fact: &NamedFact, out: &mut String) -> Result<(), Fail> {
+    let kept = format!(in alloc; "{:?}{:?}", fact.at.items.as_slice(), fact.shape)?;
+    out.push_str(kept.as_str())?;
+    Ok(())
+}
+
+// The facts of a state behind its number.
+fn append_facts(
+    alloc: Global,
+    number: usize,
+    facts: &[NamedFact],
+    out: &mut String,
+) -> Result<(), Fail> {
+    let text = format!(in alloc; " {number}:")?;
+    out.push_str(text.as_str())?;
+    for fact in facts {
+        append_fact(alloc, fact, out)?;
+    }
+    Ok(())
+}
+
+// The same of each state.
+fn told(alloc: Global, trace: &Trace) -> Result<String, Fail> {
+    let mut out = String::new(alloc);
+    for (number, state) in trace.states.iter().enumerate() {
+        append_facts(alloc, number, state.facts.as_slice(), &mut out)?;
+    }
+    Ok(out)
+}
+
+// The text with a line feed for each `;`.
+fn lines(alloc: Global, text: &str) -> Result<String, NoMemory> {
+    let mut out = String::new(alloc);
+    for letter in text.chars() {
+        out.push(if letter == ';' { '\n' } else { letter })?;
+    }
+    Ok(out)
+}
+
+/// The states that are read of a text.
+pub fn states_of(alloc: Global, text: &str) -> Result<String, Fail> {
+    let text = lines(alloc, text)?;
+    match read_trace(alloc, text.as_bytes()) {
+        Ok(trace) => told(alloc, &trace),
+        Err(_) => Err("no trace".into()),
+    }
+}
+
+fn line_text(alloc: Global, line: u64) -> Result<String, Fail> {
+    let text = format!(in alloc; "{line}")?;
+    Ok(text)
+}
+
+// Texts with `;` for the end of a line, and their states.
+const READ: &str = "
+state 0: A=0;state 1: A=1;state 2: A=2;state 3: A=3;finished: length 3; => 0: A[]Num(0) 1: A[]Num(1) 2: A[]Num(2) 3: A[]Num(3)
+state 0: => 0:
+state 0:;state 1: b=-7 => 0: 1: b[]Num(-7)
+state 0: |L|=3 L[1]=7 L[2][0]=true;undetermined: state 1: L[0] => 0: L[]Items(3) L[1]Num(7) L[2, 0]Truth(true)
+state 0: L=< 1 ,<true>> M=<>; => 0: L[]Items(2) L[0]Num(1) L[1]Items(1) L[1, 0]Truth(true) M[]Items(0)
+state 0: A=1;show 1;reductions 8;residual: len(1) and A = 2;state 1:;show;state limit: 2 => 0: A[]Num(1) 1:
+state 0: A=0\r;show A=1\r;state 1: A=1\r;finished: length 1\r => 0: A[]Num(0) 1: A[]Num(1)
+state 0: L[007]=-01 |M[00]|=002;show => 0: L[7]Num(-1) M[0]Items(2)
+state 0: A=1 |L|=1 A=1 L=<5>; => 0: A[]Num(1) L[]Items(1) A[]Num(1) L[]Items(1) L[0]Num(5)
+";
+
+// Texts that are no traces, and the line to blame.
+const REFUSED: &str = "
+=> 1
+; => 1
+state 1: A=0; => 1
+finished: length 0; => 1
+show 1;state 0: => 1
+state 00: A=0; => 1
+state 0 : A=0; => 1
+state 0:  A=0; => 1
+state 0: A=0 ; => 1
+state 0: A = 0; => 1
+state 0: run=1; => 1
+state 0: local X=1; => 1
+state 0: A=1 A=2; => 1
+state 0: |L|=2 L[2]=1; => 1
+state 0: L[0]=1 L=true; => 1
+state 0: L[-1]=1; => 1
+state 0: |L|=-1; => 1
+state 0: A=9223372036854775808; => 1
+state 0: A=0;state 2: A=1; => 2
+state 0: A=0;;state 1: A=1; => 2
+state 0: A=0;reductions;state 1: A=1; => 2
+state 0: A=0;state 1: A=0;state 01: A=2; => 3
+state 0: A=0;finished: length 0;state 1:; => 3
+state 0: A=0\r\r;state 1: => 1
+";
+
+/// The line to blame.
+pub fn bad_line(alloc: Global, text: &str) -> Result<String, Fail> {
+    let text = lines(alloc, text)?;
+    match read_trace(alloc, text.as_bytes()) {
+        Err(TraceRefusal::BadLine { line }) => line_text(alloc, line),
+        _ => Err("no bad line".into()),
+    }
+}
+
+#[test]
+fn traces_are_read(rt: HostRuntime) -> Result<(), Fail> {
+    expect_rows(&rt, Telling::Trace, READ)
+}
+
+#[test]
+fn texts_of_no_trace_are_refused(rt: HostRuntime) -> Result<(), Fail> {
+    expect_rows(&rt, Telling::BadLine, REFUSED)
+}
+
+// Lines within each limit and past it: what stands between two `#` is repeated so many times.
+const LIMITS: &str = "
+64 times: state 0: #A#=1 => 0
+65 times: state 0: #A#=1 => 1
+100 times: state 0: A#[1]#=1 => 0
+101 times: state 0: A#[1]#=1 => 1
+0 times: state 0: A[65535]=1 |A|=65536 => 0
+0 times: state 0: A[65536]=1 => 1
+0 times: state 0: |A|=65537 => 1
+100 times: state 0: A=#<##># => 0
+101 times: state 0: A=#<##># => 1
+";
+
+// Whether the pattern, of which a part is repeated so many times, is a trace.
+fn is_trace(alloc: Global, pattern: &str, times: &str) -> Result<bool, Fail> {
+    let text = series(alloc, pattern, number(times)?)?;
+    Ok(read_trace(alloc, text.as_bytes()).is_ok())
+}
+
+fn expect_within(rt: &(impl Abort + AllocGlobal), row: &str) -> Result<(), Fail> {
+    let (times, row) = cut(row, "times:")?;
+    let (pattern, line) = cut(row, "=>")?;
+    let found = is_trace(rt.alloc(), pattern, times)?;
+    holds(rt, found == (line == "0"), pattern);
+    Ok(())
+}
+
+#[test]
+fn lines_stay_within_the_limits(rt: HostRuntime) -> Result<(), Fail> {
+    for row in LIMITS.trim().lines() {
+        expect_within(&rt, row)?;
+    }
+    Ok(())
+}
