@@ -1,22 +1,26 @@
 // Small runs to their ends: each call succeeds where there is memory enough.
-ghost use Rattle.std.specs.Prelude.{◌≡◌, ◌<◌};
-ghost use Rattle.tp_meaning.specs.Fits.{ProgramFits};
+ghost use Rattle.std.specs.Prelude.{◌≡◌, ◌<◌, [], List, Bool, IfOk};
+ghost use Rattle.tp_kernel.specs.Read.{formula_tree};
+ghost use Rattle.tp_meaning.specs.Fits.{FormulaFits, ProgramFits};
 ghost use Rattle.tp_check.specs.Program.{program_tree};
 
+use crate::expected::same_text;
 use crate::making::{no_picture, path};
 use crate::sources::program_of;
 use crate::tables::{cut, number};
 use std::alloc::Global;
 use std::marker::Brand;
 use std::process::Abort;
+use std::rc::Rc;
 use std::sync::ledger::{Blank, Ledger};
 use std::test::Fail;
 use tp_check::Program;
 use tp_inputs::Inputs;
+use tp_kernel::{Defs, Formula};
 use tp_run::{Limits, Run};
 use tp_show::{Picture, Turn};
 use tp_step::{Order, Steps};
-use tp_value::NoMemory;
+use tp_value::{Globals, NoMemory};
 
 // What the run's store knows of the first variable: its name, and the shape of its value where one is kept.
 fn known(alloc: Global, run: &Run) -> Result<String, NoMemory> {
@@ -82,6 +86,45 @@ fn history<L: Ledger>(
 // The states of a run that counts its tries by itself.
 fn told_history(alloc: Global, source: &str, limits: Limits) -> Result<String, Fail> {
     let program = program_of(alloc, source)?;
+    history::<Brand>(alloc, Blank::new(1), program, limits)
+}
+
+// Chops in chops, so many deep: each but the innermost has the next one as its first part, and every other part is the end.
+fn chops(alloc: Global, depth: u32) -> Result<Rc<Formula>, NoMemory>
+    ensures { IfOk result (λ w.
+        (kinds : List Bool) → FormulaFits [] kinds (formula_tree w.value) 0) }
+{
+    let mut whole = Rc::new(alloc, Formula::Empty)?;
+    for _ in 0..depth {
+        let end = Rc::new(alloc, Formula::Empty)?;
+        whole = Rc::new(alloc, Formula::Chop(whole, end))?;
+    }
+    Ok(whole)
+}
+
+// The program of these alone.
+fn chops_alone(alloc: Global, depth: u32) -> Result<Program, NoMemory>
+    ensures { IfOk result (λ p. ProgramFits (program_tree p)) }
+{
+    let main = chops(alloc, depth)?;
+    let defs = Defs {
+        items: Vec::new(alloc),
+    };
+    let globals = Globals::new(alloc)?;
+    Ok(Program {
+        defs,
+        main,
+        globals,
+    })
+}
+
+// The states of their run.
+fn told_chops(alloc: Global, depth: u32) -> Result<String, Fail> {
+    let program = chops_alone(alloc, depth)?;
+    let limits = Limits {
+        states: 9,
+        reductions: 9_999,
+    };
     history::<Brand>(alloc, Blank::new(1), program, limits)
 }
 
@@ -181,4 +224,25 @@ fn runs_come_to_their_ends(rt: HostRuntime) -> Result<(), Fail> {
 #[test]
 fn regions_are_nested_to_their_limit(rt: HostRuntime) -> Result<(), Fail> {
     expect_rows(&rt, NESTED)
+}
+
+// How deep chops are, and what is told of their run.
+const CHOPS: [(u32, &str); 2] = [
+    (
+        400,
+        "?, 0 /1201 ?, Finished { length: 0 } Finished { length: 0 }",
+    ),
+    (
+        401,
+        "?, 9 /0 ?, Over { state: 0, limit: Nest } Over { state: 0, limit: Nest }",
+    ),
+];
+
+#[test]
+fn chops_are_nested_to_their_limit(rt: HostRuntime) -> Result<(), Fail> {
+    for (depth, expected) in CHOPS {
+        let text = told_chops(rt.alloc(), depth)?;
+        same_text(&rt, text.as_str(), expected, "chops in chops");
+    }
+    Ok(())
 }
