@@ -173,8 +173,8 @@ module _ (plan : Plan) where
   record Onward (n : ℕ) (m : Moment) (begun : List ℕ) : Type 0 where
     further : Further n m
     more : List ℕ
-    others : List (List ℕ)
-    picks : further_picks n m further ≡ (begun ++ more) ∷ others
+    picks_later : List (List ℕ)
+    picks : further_picks n m further ≡ (begun ++ more) ∷ picks_later
 
   module _ (n : ℕ) (m m' : Moment) (om : Orderly plan n m) (om' : Orderly plan n m') (a : Alike (length (kinds plan)) m m') (begun : List ℕ)
       (there : Moment) (led : Leads (setting plan n) m' begun there) where
@@ -195,7 +195,7 @@ module _ (plan : Plan) where
             end = (x.0, refl, e.ends, refl);
           };
           more = e.more;
-          others = [];
+          picks_later = [];
           picks = ap (λ ps. ps ∷ []) e.picks_are;
         }
     end_onward tail (Contradictory state clash) safe x l = absurd safe
@@ -214,7 +214,7 @@ module _ (plan : Plan) where
             end = (refl, o.is_open, refl, l);
           };
           more = o.more;
-          others = [];
+          picks_later = [];
           picks = ap (λ ps. ps ∷ []) o.picks_are;
         }
     end_onward tail (StateLimit states) safe x l = let e = x.2 in absurd (omega (arith, l, e))
@@ -240,7 +240,7 @@ module _ (plan : Plan) where
             end = f.end;
           };
           more = x.more;
-          others = further_picks (suc n) x.next' f;
+          picks_later = further_picks (suc n) x.next' f;
           picks = ap (λ ps. ps ∷ further_picks (suc n) x.next' f) x.picks_are;
         }
 
@@ -423,7 +423,7 @@ module _ (plan : Plan) where
             later = f.before ++ f.tail;
             states = w.states ∙ append_assoc qs f.before f.tail;
             more = on.more;
-            others = on.others;
+            picks_later = on.picks_later;
             picks = w.picks_are ∙ ap (λ xs. xs ++ last_picks f.count f.last f.tail f.turn f.safe f.end) r.1
                 ∙ append_assoc (picks_before plan qs m leads) (picks_led plan (length qs) m f.before f.last f.leads)
                 (last_picks f.count f.last f.tail f.turn f.safe f.end)
@@ -433,6 +433,6 @@ module _ (plan : Plan) where
 
 pub beginnings_go_on : (plan : Plan) → BeginningsGoOn plan
 beginnings_go_on plan o ps turn run safe = record {
-  goes_on = λ qs m leads l begun there led. goes_on plan o ps turn run safe qs m leads l begun there led;
+  run_goes_on = λ qs m leads l begun there led. goes_on plan o ps turn run safe qs m leads l begun there led;
   no_failure = λ qs other another. fails_nowhere_too plan (globals_of plan) turn other safe (agree plan o ps turn run qs other another).1;
 }

@@ -48,14 +48,14 @@ module _ (plan : Plan) where
     pub later : List Picture
     pub states : pictures ≡ ps ++ later
     pub more : List ℕ
-    pub others : List (List ℕ)
-    pub picks : picks_of_run pictures end run ≡ made ++ (begun ++ more) ∷ others
+    pub picks_later : List (List ℕ)
+    pub picks : picks_of_run pictures end run ≡ made ++ (begun ++ more) ∷ picks_later
     pub comes_to : P end
 
   -- No choice of picks is a dead end: however the first states were settled, and whatever was picked in the next one so far, a run goes on from
   -- there to an end that has P. And no run fails, by a clash, for want of an input or at a limit in a state.
   pub record NoDeadEnd (P : Turn → Type 0) : Type 0 where
-    pub goes_on : (ps : List Picture) (m : Moment) (leads : LeadsTo plan ps m) → length ps < plan.states
+    pub run_goes_on : (ps : List Picture) (m : Moment) (leads : LeadsTo plan ps m) → length ps < plan.states
         → (begun : List ℕ) (there : Moment) → Leads (setting plan (length ps)) m begun there
         → RunGoesOnFrom ps (picks_before ps m leads) begun P
     pub no_failure : (ps : List Picture) (turn : Turn) → RunEndsWith plan ps turn → FailsNowhere turn

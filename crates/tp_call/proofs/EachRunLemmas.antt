@@ -106,7 +106,7 @@ module _ (words : List (List ℕ)) (held : Option Held) (old new : Option (List 
   no_dead_end result r safe =
       let none = beginnings_go_on r.plan (orderly result r) r.pictures r.run.answer r.run.run safe in
       record {
-        goes_on = λ ps m leads l begun there led. (let g = none.goes_on ps m leads l begun there led in
+        run_goes_on = λ ps m leads l begun there led. (let g = none.run_goes_on ps m leads l begun there led in
             record {
               pictures = g.pictures;
               end = g.end;
@@ -114,7 +114,7 @@ module _ (words : List (List ℕ)) (held : Option Held) (old new : Option (List 
               later = g.later;
               states = g.states;
               more = g.more;
-              others = g.others;
+              picks_later = g.picks_later;
               picks = g.picks;
               comes_to = comes_there result r g.pictures g.end g.run;
             });

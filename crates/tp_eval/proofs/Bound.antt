@@ -83,8 +83,8 @@ module _ (facts : List Fact) (defs : List Definition) (kinds : List Bool) (s : C
   unfolding place_outcome
   place_is_right w = record {
     paths = λ p q d le. path_means facts State kinds s locals a (find_place facts defs depth_limit e env 0) (mean d) p (gives_at depth_limit d le) w q;
-    values = λ t q d le. value_means facts State kinds s locals a (find_place facts defs depth_limit e env 0) (mean d) t (gives_at depth_limit d le) w q;
-    faults = λ k q d. fault_at_levels depth_limit k w q d;
+    from_values = λ t q d le. value_means facts State kinds s locals a (find_place facts defs depth_limit e env 0) (mean d) t (gives_at depth_limit d le) w q;
+    from_faults = λ k q d. fault_at_levels depth_limit k w q d;
   }
 
 pub places_mean : PlacesMean

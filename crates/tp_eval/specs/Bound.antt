@@ -26,9 +26,9 @@ module _ (facts : List Fact) (defs : List Definition) (kinds : List Bool) (s : C
     -- a path means what stands there at each position, at the greatest depth of evaluation and at each beyond
     pub paths : (p : Path) → place_outcome facts defs e env ≡ found.path p → (d : ℕ) → depth_limit ≤ d → meant_place defs d kinds s locals a e env ≡ Some (meaning_of (length kinds) s locals (place_binding p))
     -- a value that is found in a known one is fixed
-    pub values : (t : Tree) → place_outcome facts defs e env ≡ found.other (found.value t) → (d : ℕ) → depth_limit ≤ d → meant_place defs d kinds s locals a e env ≡ Some (fixed t)
+    pub from_values : (t : Tree) → place_outcome facts defs e env ≡ found.other (found.value t) → (d : ℕ) → depth_limit ≤ d → meant_place defs d kinds s locals a e env ≡ Some (fixed t)
     -- a place with a fault means nothing at any depth
-    pub faults : (k : FaultKind) → place_outcome facts defs e env ≡ found.other (found.fault k) → (d : ℕ) → meant_place defs d kinds s locals a e env ≡ None
+    pub from_faults : (k : FaultKind) → place_outcome facts defs e env ≡ found.other (found.fault k) → (d : ℕ) → meant_place defs d kinds s locals a e env ≡ None
 
 -- Places are right in each state that agrees with the facts, where the definitions and the expression fit the program's variables.
 abbrev pub PlacesMean : Type 0

@@ -50,11 +50,11 @@ module _ (p : ProgramTree) (at : ℕ → ℕ) (a b : ℕ) (step : InStep at a b)
         numbered = λ j l.
             let q = at_sum at a b step j (omega arith) in
             ap (λ k. (s' k).own) (sym q) ∙ sym (same (j + a) (omega arith) (omega arith)).own ∙ i.numbered j (omega arith);
-        static = λ x kind j k u v y z.
+        lasting = λ x kind j k u v y z.
             let l = slice_get_within (kinds_of p.globals) x true kind in
             let from = same_back (length (kinds_of p.globals)) at a b step s s' same le in
             sym ((from j u v).values x l)
-            ∙ i.static x kind (back_to j) (back_to k) (back_above at a b step j) (back_below at a b step j le u v) (back_above at a b step k) (back_below at a b step k le y z)
+            ∙ i.lasting x kind (back_to j) (back_to k) (back_above at a b step j) (back_below at a b step j le u v) (back_above at a b step k) (back_below at a b step k le y z)
             ∙ (from k y z).values x l;
       }
 

@@ -22,14 +22,14 @@ abbrev pub IsNumberedFrom : ℕ → Course → ℕ → ℕ → Type 0
 IsNumberedFrom n s a b = (j : ℕ) → j + a ≤ b → (s (j + a)).own ≡ j + n
 
 -- each static variable keeps one value
-abbrev pub KeepsStatics : List Bool → Course → ℕ → ℕ → Type 0
-KeepsStatics kinds s a b = (x : ℕ) → slice_get kinds x ≡ Some true → (i j : ℕ) → a ≤ i → i ≤ b → a ≤ j → j ≤ b → (s i).values x ≡ (s j).values x
+abbrev pub KeepsLasting : List Bool → Course → ℕ → ℕ → Type 0
+KeepsLasting kinds s a b = (x : ℕ) → slice_get kinds x ≡ Some true → (i j : ℕ) → a ≤ i → i ≤ b → a ≤ j → j ≤ b → (s i).values x ≡ (s j).values x
 
 -- An interval with these variables, whose first state has the number n and the others the numbers after it.
 pub record IsIntervalFrom (n : ℕ) (kinds : List Bool) (s : Course) (a b : ℕ) : Type 0 where
   pub nonempty : a ≤ b
   pub numbered : IsNumberedFrom n s a b
-  pub static : KeepsStatics kinds s a b
+  pub lasting : KeepsLasting kinds s a b
 
 -- An interval of the program has the state numbers 0, 1, .. and the globals as its variables.
 abbrev pub IsInterval : ProgramTree → Course → ℕ → ℕ → Type 0

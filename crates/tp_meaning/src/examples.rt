@@ -197,7 +197,7 @@ pub fn exists_formulas()
         (formulas_of
         (equation (bound 0) (number_expr 0) ∷ equation (bound 0) (number_expr 1) ∷ [])))) }
     ensures changing_holds { HoldsTo 1 (exists [] Bool.false (always (equation (bound 0) A))) [] }
-    ensures static_fails { FailsTo 1 (exists [] Bool.true (always (equation (bound 0) A))) }
+    ensures lasting_fails { FailsTo 1 (exists [] Bool.true (always (equation (bound 0) A))) }
 {}
 
 /// `len(3) and A=0 and A gets A+1` holds where A is 0, 1, 2, 3, and nowhere else.

@@ -17,7 +17,7 @@ use Rattle.tp_show.specs.Texts.{index_text}
 use Rattle.tp_renaming.specs.Renaming.{Renaming, FixesBelow, renamed_binding, renamed_bindings, renamed_leaf, renamed_holder, renamed_entries}
 use Rattle.tp_residual.specs.Words.{BoundName, stands_for, named, Vocabulary, naming, variable_spelling, bound_spelling, binding_spelling, definition_name}
 use Rattle.tp_residual.specs.Phrases.{enclosed, operation_spelling, called_with, phrase_operator, expr_level, expr_spelling, exprs_spelling, all_exprs_spelling, operand_expr, nexts_spelling, from_spelling, formula_level, formula_spelling, formulas_spelling, all_formulas_spelling}
-use Rattle.tp_residual.specs.Residual.{leaf_level, holder_level, level_before, entries_level, text_before, words_with, leaf_spelling, holder_spelling, entries_spelling, later_spelling}
+use Rattle.tp_residual.specs.Residual.{leaf_level, holder_level, level_in_front, entries_level, text_before, words_with, leaf_spelling, holder_spelling, entries_spelling, later_spelling}
 use Rattle.tp_residual.specs.OnePhrase.{AlikeMomentsHaveOnePhrase}
 
 -- the place of the entries of a dormant second region
@@ -202,7 +202,7 @@ module _ (defs : List Definition) (kinds : List Bool) where
     holder_level_same (Opened w env) = refl
     holder_level_same (Running w env) = refl
 
-    before_same : (rest : Entries) (alone : ℕ) → level_before (renamed_entries ρ rest) alone ≡ level_before rest alone
+    before_same : (rest : Entries) (alone : ℕ) → level_in_front (renamed_entries ρ rest) alone ≡ level_in_front rest alone
     before_same none alone = refl
     before_same (leaf id l rest) alone = refl
     before_same (node id k h held g second rest) alone = refl
@@ -214,8 +214,8 @@ module _ (defs : List Definition) (kinds : List Bool) where
 
     level_same : (es : Entries) → entries_level (renamed_entries ρ es) ≡ entries_level es
     level_same none = refl
-    level_same (leaf id l rest) = before_same rest (leaf_level (renamed_leaf ρ l)) ∙ ap (level_before rest) (leaf_level_same l)
-    level_same (node id k h held g second rest) = before_same rest (holder_level (renamed_holder ρ k)) ∙ ap (level_before rest) (holder_level_same k)
+    level_same (leaf id l rest) = before_same rest (leaf_level (renamed_leaf ρ l)) ∙ ap (level_in_front rest) (leaf_level_same l)
+    level_same (node id k h held g second rest) = before_same rest (holder_level (renamed_holder ρ k)) ∙ ap (level_in_front rest) (holder_level_same k)
 
     -- the texts of both regions are the same where the second one's entries fit
     holder_same : (k : Holder) (held second : Entries) (q : Place) (dormant live : Type 0) → HolderFits defs kinds xs k held q dormant live

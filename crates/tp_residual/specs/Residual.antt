@@ -43,16 +43,16 @@ holder_level (Opened w env) = 0
 holder_level (Running w env) = 0
 
 -- The level of an entry in front of the rest: one alone is no operand of `and`.
-abbrev pub level_before : (rest : Entries) → (alone : ℕ) → ℕ
-level_before none alone = alone
-level_before (leaf id l rest) alone = and_level
-level_before (node id k h held g second rest) alone = and_level
+abbrev pub level_in_front : (rest : Entries) → (alone : ℕ) → ℕ
+level_in_front none alone = alone
+level_in_front (leaf id l rest) alone = and_level
+level_in_front (node id k h held g second rest) alone = and_level
 
 -- the level of the conjunction of the entries
 abbrev pub entries_level : Entries → ℕ
 entries_level none = 0
-entries_level (leaf id l rest) = level_before rest (leaf_level l)
-entries_level (node id k h held g second rest) = level_before rest (holder_level k)
+entries_level (leaf id l rest) = level_in_front rest (leaf_level l)
+entries_level (node id k h held g second rest) = level_in_front rest (holder_level k)
 
 -- what an entry's text is in front of the rest
 abbrev pub text_before : (rest : Entries) → (level : ℕ) → List ℕ → List ℕ

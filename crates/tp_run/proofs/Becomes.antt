@@ -228,8 +228,8 @@ module _ (plan : Plan) (n : ℕ) (m : Moment) (old new : Picture) (standing : St
   Becomes turn = StateBecomes plan n m old new standing store turn
 
   went_means : Becomes Went → AnswerMeans plan n (open_at m) standing new Went
-  went_means w s a b S static own =
-      let one = goes_on_says scene_laws plan n m w.0 new sound w.1 s a b S static own in
+  went_means w s a b S lasting own =
+      let one = goes_on_says scene_laws plan n m w.0 new sound w.1 s a b S lasting own in
       let Rest : Standing → Type 0 = λ z. (a < b) × AgreesWithFacts s a new.facts × ((U : Shows) × (S ≡ shown_at a (shows_of new.shows) ⊕ U) × StandingFor plan (suc n) z s (suc a) b U) in
       (λ h. subst Rest (sym w.2) (one.0 h), λ h. one.1 (subst Rest w.2 h))
 
@@ -248,7 +248,7 @@ module _ (plan : Plan) (n : ℕ) (m : Moment) (old new : Picture) (standing : St
   -- what the answer for a state says
   pub becomes_means : (turn : Turn) → Becomes turn → AnswerMeans plan n (open_at m) standing new turn
   becomes_means Went w = went_means w
-  becomes_means (Finished length) w = λ s a b S static own. ends_here_says scene_laws plan n m new sound w.0 s a b S own
+  becomes_means (Finished length) w = λ s a b S lasting own. ends_here_says scene_laws plan n m new sound w.0 s a b S own
   becomes_means (Contradictory state clash) w = clash_means clash w.0
   becomes_means (Undetermined state cell) w = tt
   becomes_means (StateLimit states) w = tt

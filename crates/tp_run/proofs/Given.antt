@@ -2,7 +2,7 @@
 use Rattle.tp_meaning.specs.Interval.{kinds_of}
 use Rattle.tp_meaning.specs.Fits.{ProgramFits}
 use Rattle.tp_store.proofs.States.{same_shapes_same_store, no_clash_arises}
-use Rattle.tp_store.proofs.Chosen.{has_agreeing_state, statics_extend}
+use Rattle.tp_store.proofs.Chosen.{has_agreeing_state, lasting_extends}
 use Rattle.tp_scene.proofs.StepLaws.{steps_keep, refusals_mean}
 use Rattle.tp_scene.proofs.StepsFit.{steps_fit}
 use Rattle.tp_scene.proofs.EndLaws.{all_ends_stand, all_advances_keep}
@@ -35,6 +35,6 @@ begin_laws = record { begin_sound = first_sound; runs_begin = runs_begin; refusa
 pub state_laws : StateLaws
 state_laws = record {
   has_state = has_agreeing_state;
-  extends = statics_extend;
+  extends = lasting_extends;
   lasting_no_clash = λ fs apart. no_clash_arises.advancing fs apart;
 }

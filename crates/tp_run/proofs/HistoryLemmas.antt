@@ -61,7 +61,7 @@ module _ (laws : SceneLaws) (begins : BeginLaws) (stores : StateLaws) where
   leads_say plan ps m fits leads s a b S interval =
       let begin = begins.runs_begin (setting plan 0) plan.program.globals plan.program.main fits.defs fits.main in
       let first = begin.stands s a b S in
-      let states = states_say laws plan 0 (length ps) ps (first_moment plan.program.globals plan.program.main) m (omega arith) (begins.begin_sound plan fits) leads s a b (length ps + a) S refl interval.static interval.numbered in
+      let states = states_say laws plan 0 (length ps) ps (first_moment plan.program.globals plan.program.main) m (omega arith) (begins.begin_sound plan fits) leads s a b (length ps + a) S refl interval.lasting interval.numbered in
       (λ h. states.0 (first.1 (interval.nonempty, h)), λ h. (first.0 (states.1 h)).1)
 
   sound_after : (plan : Plan) (ps : List Picture) (m : Moment) → ProgramFits plan.program → LeadsTo plan ps m → IsSound (setting plan (length ps)) (kinds_of plan.program.globals) m
@@ -124,7 +124,7 @@ module _ (laws : SceneLaws) (begins : BeginLaws) (stores : StateLaws) where
       let interval : IsInterval plan.program s 0 n = record {
         nonempty = omega arith;
         numbered = λ j h. ap (λ i. (s i).own) (sym (zeros j)) ∙ l.1.own j;
-        static = λ x e i j ai ib aj jb. l.1.statics i x e ∙ sym (l.1.statics j x e);
+        lasting = λ x e i j ai ib aj jb. l.1.lasting i x e ∙ sym (l.1.lasting j x e);
       } in
       (s, 0, n, shown_from 0 ps, (finish_says plan ps n fits w s 0 n (shown_from 0 ps)).1 (interval, omega arith, agrees, refl))
 

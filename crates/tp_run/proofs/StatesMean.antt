@@ -3,7 +3,7 @@ use Rattle.std.proofs.Common.{◌≡◌, ◌↔◌, ℕ, suc, ◌+◌, ◌<◌, 
 use Rattle.tp_value.specs.Tree.{Tree}
 use Rattle.tp_value.specs.declared.path.Fact.{Fact}
 use Rattle.tp_meaning.specs.Course.{Course, Shows, ◌⊕◌, shown_at}
-use Rattle.tp_meaning.specs.Interval.{kinds_of, KeepsStatics}
+use Rattle.tp_meaning.specs.Interval.{kinds_of, KeepsLasting}
 use Rattle.tp_value.specs.declared.path.Path.{Path}
 use Rattle.tp_store.specs.Facts.{AgreesWithAll, kept_shape}
 use Rattle.tp_store.specs.Known.{facts_below, NoClash}
@@ -46,8 +46,8 @@ first_number n s a b h le = let at : 0 + a ≡ a = omega arith in let is : 0 + n
 pub later_numbers : (n : ℕ) (s : Course) (a b : ℕ) → Numbered n s a b → Numbered (suc n) s (suc a) b
 later_numbers n s a b h j le = let at : j + suc a ≡ suc j + a = omega arith in let is : suc j + n ≡ j + suc n = omega arith in ap (λ i. (s i).own) at ∙ h (suc j) (omega arith) ∙ is
 
-pub later_statics : (kinds : List Bool) (s : Course) (a b : ℕ) → KeepsStatics kinds s a b → KeepsStatics kinds s (suc a) b
-later_statics kinds s a b h x e i j ai ib aj jb = h x e i j (omega arith) ib (omega arith) jb
+pub later_lasting : (kinds : List Bool) (s : Course) (a b : ℕ) → KeepsLasting kinds s a b → KeepsLasting kinds s (suc a) b
+later_lasting kinds s a b h x e i j ai ib aj jb = h x e i j (omega arith) ib (omega arith) jb
 
 module _ (laws : SceneLaws) where
   -- the picks of one state
@@ -75,15 +75,15 @@ module _ (laws : SceneLaws) where
 
   -- one state that goes on
   pub goes_on_says : (plan : Plan) (n : ℕ) (m next : Moment) (p : Picture) → IsSound (setting plan n) (kinds_of plan.program.globals) m → StateGoesOn plan n m p next
-      → (s : Course) (a b : ℕ) (S : Shows) → KeepsStatics (kinds_of plan.program.globals) s a b → (s a).own ≡ n
+      → (s : Course) (a b : ℕ) (S : Shows) → KeepsLasting (kinds_of plan.program.globals) s a b → (s a).own ≡ n
       → StandsFor (setting plan n) (globals_of plan) m s a b S
       ↔ ((a < b) × AgreesWithFacts s a p.facts × ((U : Shows) × (S ≡ shown_at a (shows_of p.shows) ⊕ U) × StandsFor (setting plan (suc n)) (globals_of plan) next s (suc a) b U))
-  goes_on_says plan n m next p sound g s a b S static own =
+  goes_on_says plan n m next p sound g s a b S lasting own =
       let w = setting plan n in
       let kinds = kinds_of plan.program.globals in
       let here = leads_sound w kinds g.picks m g.last sound g.goes.closes.leads in
       let keep = leads_keep w kinds g.picks m g.last sound g.goes.closes.leads s a b S own in
-      let go = laws.advances_keep w kinds g.last next here g.goes.settles g.goes.scene g.goes.store s a b S static in
+      let go = laws.advances_keep w kinds g.last next here g.goes.settles g.goes.scene g.goes.store s a b S lasting in
       let facts = picture_agrees (globals_of plan) g.last.store.facts p.facts here.store.no_clash g.picture_is.facts (s a).values in
       let shows : shown_at a (shows_of p.shows) ≡ shown_at a (shown_in g.last.scene.root.entries) = ap (shown_at a) g.picture_is.shows in (
         λ h. let x = go.0 (keep.0 h) in
@@ -120,10 +120,10 @@ module _ (laws : SceneLaws) where
 
   -- several states
   pub states_say : (plan : Plan) (n k : ℕ) (ps : List Picture) (m last : Moment) → k ≡ length ps + n → IsSound (setting plan n) (kinds_of plan.program.globals) m → StatesLead plan n m ps last
-      → (s : Course) (a b c : ℕ) (S : Shows) → c ≡ length ps + a → KeepsStatics (kinds_of plan.program.globals) s a b → Numbered n s a b
+      → (s : Course) (a b c : ℕ) (S : Shows) → c ≡ length ps + a → KeepsLasting (kinds_of plan.program.globals) s a b → Numbered n s a b
       → StandsFor (setting plan n) (globals_of plan) m s a b S
       ↔ ((c ≤ b) × AgreesWithPictures s a ps × ((U : Shows) × (S ≡ shown_from a ps ⊕ U) × StandsFor (setting plan k) (globals_of plan) last s c b U))
-  states_say plan n k [] m last e sound h s a b c S at static numbered =
+  states_say plan n k [] m last e sound h s a b c S at lasting numbered =
       let here : c ≡ a = omega (arith, at) in
       let same : k ≡ n = omega (arith, e) in
       let G = globals_of plan in (
@@ -135,12 +135,12 @@ module _ (laws : SceneLaws) where
         λ g. subst (λ (z : Moment). StandsFor (setting plan n) G z s a b S) h
             (subst (λ (T : Shows). StandsFor (setting plan n) G last s a b T) (sym g.2.1) (stands_again plan k n G last s a b g.2.0 (subst (λ i. StandsFor (setting plan k) G last s i b g.2.0) here g.2.2))),
       )
-  states_say plan n k (p ∷ ps) m last e sound h s a b c S at static numbered =
+  states_say plan n k (p ∷ ps) m last e sound h s a b c S at lasting numbered =
       let place : c ≡ length ps + suc a = omega (arith, at) in
       let number : k ≡ length ps + suc n = omega (arith, e) in
       let later = next_sound plan n m h.0 p sound h.1 (suc n) in
-      let rest = λ (U : Shows). states_say plan (suc n) k ps h.0 last number later h.2 s (suc a) b c U place (later_statics (kinds_of plan.program.globals) s a b static) (later_numbers n s a b numbered) in
-      let one = λ (le : a ≤ b). goes_on_says plan n m h.0 p sound h.1 s a b S static (first_number n s a b numbered le) in (
+      let rest = λ (U : Shows). states_say plan (suc n) k ps h.0 last number later h.2 s (suc a) b c U place (later_lasting (kinds_of plan.program.globals) s a b lasting) (later_numbers n s a b numbered) in
+      let one = λ (le : a ≤ b). goes_on_says plan n m h.0 p sound h.1 s a b S lasting (first_number n s a b numbered le) in (
         λ g.
             let x = (one g.in_order).0 g in
             let y = (rest x.2.0).0 x.2.2 in

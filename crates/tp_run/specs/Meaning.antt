@@ -3,7 +3,7 @@ use Rattle.std.specs.Prelude.{◌≡◌, ◌↔◌, ℕ, suc, ◌<◌, ◌≤◌
 use Rattle.tp_value.specs.declared.path.Fact.{Fact}
 use Rattle.tp_meaning.specs.Course.{Course, Shows, Part, ◌⊕◌, shown_at}
 use Rattle.tp_meaning.specs.Holds.{Holds}
-use Rattle.tp_meaning.specs.Interval.{kinds_of, KeepsStatics}
+use Rattle.tp_meaning.specs.Interval.{kinds_of, KeepsLasting}
 use Rattle.tp_store.specs.Facts.{AgreesWithAll}
 use Rattle.tp_decide.specs.Read.{shows_of}
 use Rattle.tp_scene.specs.StandsFor.{StandsFor, context_of}
@@ -33,11 +33,11 @@ AgreesWithFacts s a facts = AgreesWithAll (s a).values facts
 -- an input was missing, it stood for none.
 abbrev pub AnswerMeans : Plan → ℕ → Standing → Standing → Picture → Turn → Type 0
 AnswerMeans plan n (open_at m) new picture Went =
-    (s : Course) (a b : ℕ) (S : Shows) → KeepsStatics (kinds_of plan.program.globals) s a b → (s a).own ≡ n
+    (s : Course) (a b : ℕ) (S : Shows) → KeepsLasting (kinds_of plan.program.globals) s a b → (s a).own ≡ n
     → StandingFor plan n (open_at m) s a b S
     ↔ ((a < b) × AgreesWithFacts s a picture.facts × ((U : Shows) × (S ≡ shown_at a (shows_of picture.shows) ⊕ U) × StandingFor plan (suc n) new s (suc a) b U))
 AnswerMeans plan n (open_at m) new picture (Finished length) =
-    (s : Course) (a b : ℕ) (S : Shows) → KeepsStatics (kinds_of plan.program.globals) s a b → (s a).own ≡ n
+    (s : Course) (a b : ℕ) (S : Shows) → KeepsLasting (kinds_of plan.program.globals) s a b → (s a).own ≡ n
     → StandingFor plan n (open_at m) s a b S ↔ ((a ≡ b) × AgreesWithFacts s a picture.facts × (S ≡ shown_at a (shows_of picture.shows)))
 AnswerMeans plan n (open_at m) new picture (Contradictory state clash) = (s : Course) (a b : ℕ) (S : Shows) → (s a).own ≡ n → StandingFor plan n (open_at m) s a b S → ⊥
 AnswerMeans plan n (open_at m) new picture (InputMissing state port) = (s : Course) (a b : ℕ) (S : Shows) → (s a).own ≡ n → StandingFor plan n (open_at m) s a b S → ⊥

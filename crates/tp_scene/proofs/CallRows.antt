@@ -85,9 +85,9 @@ module _ (w : Context) (state : ℕ) (kinds : List Bool) (facts : List Fact) (nn
         where
           by_place : (o : PlaceOutcome) → place_outcome facts w.defs x env ≡ o → Row (with_place w.defs w.inputs state facts o f)
           by_place (found.path p) q = all (place_binding p) (λ d σ ag. (placed σ s a x env fit ag).paths p q (e + d) (deep_enough w kinds facts nn.local e deep right d))
-          by_place (found.other (found.value t)) q = all (known_binding t) (λ d σ ag. (placed σ s a x env fit ag).values t q (e + d) (deep_enough w kinds facts nn.local e deep right d))
+          by_place (found.other (found.value t)) q = all (known_binding t) (λ d σ ag. (placed σ s a x env fit ag).from_values t q (e + d) (deep_enough w kinds facts nn.local e deep right d))
           by_place (found.other (found.wait p)) q = tt
-          by_place (found.other (found.fault k)) q = fails (λ d σ ag. (placed σ s a x env fit ag).faults k q d)
+          by_place (found.other (found.fault k)) q = fails (λ d σ ag. (placed σ s a x env fit ag).from_faults k q d)
           by_place (found.other (found.over k)) q = tt
       argument_row false x fit f fails all =
           with_value_row w globals facts nn.local e Old s a b (outcome facts w.defs x env) (λ v. f (known_binding v))

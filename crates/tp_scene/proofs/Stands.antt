@@ -7,7 +7,7 @@ use Rattle.tp_value.specs.declared.path.Fact.{Fact}
 use Rattle.tp_meaning.specs.Course.{Course, Shows}
 use Rattle.tp_meaning.specs.Bindings.{Locals}
 use Rattle.tp_meaning.specs.Holds.{Lasts}
-use Rattle.tp_meaning.specs.Interval.{KeepsStatics}
+use Rattle.tp_meaning.specs.Interval.{KeepsLasting}
 use Rattle.tp_meaning.proofs.Move.{stay}
 use Rattle.tp_store.specs.Facts.{AgreesWith, AgreesWithAll}
 use Rattle.tp_store.specs.Known.{Variable, lasting_facts}
@@ -83,9 +83,9 @@ module _ (w : Setting) (kinds : List Bool) (m : Moment) (sound : IsSound w kinds
     ]
 
     -- a static variable has its value in the next state too
-    static_same : (s : Course) (a b : ℕ) → KeepsStatics kinds s a b → a < b → (σ : Locals) → AllLast (locals_of globals m.store.variables) globals σ → (y : ℕ) → slice_get kinds_here y ≡ Some true
+    lasting_same : (s : Course) (a b : ℕ) → KeepsLasting kinds s a b → a < b → (σ : Locals) → AllLast (locals_of globals m.store.variables) globals σ → (y : ℕ) → slice_get kinds_here y ≡ Some true
         → values_at globals s σ (suc a) y ≡ values_at globals s σ a y
-    static_same s a b keeps l σ last y e = elim (cases_lt y globals) [
+    lasting_same s a b keeps l σ last y e = elim (cases_lt y globals) [
       | inl u ↦ at_global globals s σ (suc a) y u ∙ keeps y (global_kind y true u e) (suc a) a (omega arith) l (omega arith) (omega (arith, l)) ∙ sym (at_global globals s σ a y u)
       | inr u ↦ at_local globals s σ (suc a) y u ∙ local_lasts globals m.store.variables σ y true last u e (suc a) a ∙ sym (at_local globals s σ a y u)
     ]
@@ -93,33 +93,33 @@ module _ (w : Setting) (kinds : List Bool) (m : Moment) (sound : IsSound w kinds
     lasting_kind : (f : Fact) → In f m.store.facts → f.path.var.lasting ≡ true → slice_get kinds_here f.path.var.number ≡ Some true
     lasting_kind f i e = of_variables_in m.store.variables m.store.facts sound.store.facts f i ∙ ap Some e
 
-    agrees_on : (s : Course) (a b : ℕ) → KeepsStatics kinds s a b → a < b → (σ : Locals) → AllLast (locals_of globals m.store.variables) globals σ
+    agrees_on : (s : Course) (a b : ℕ) → KeepsLasting kinds s a b → a < b → (σ : Locals) → AllLast (locals_of globals m.store.variables) globals σ
         → AgreesWithAll (values_at globals s σ a) m.store.facts → AgreesWithAll (values_at globals s σ (suc a)) next.store.facts
     agrees_on s a b keeps l σ last h = agrees_as_kept (values_at globals s σ (suc a)) next.store.facts (lasting_facts m.store.facts) on.no_clash on.kept
         (agrees_from (values_at globals s σ (suc a)) (lasting_facts m.store.facts) (λ f i.
         let x = in_filter (λ (f : Fact). f.path.var.lasting) f m.store.facts i in
-        agrees_same (values_at globals s σ a) (values_at globals s σ (suc a)) f (static_same s a b keeps l σ last f.path.var.number (lasting_kind f x.0 x.1)) (agrees_in (values_at globals s σ a) m.store.facts h f x.0)))
+        agrees_same (values_at globals s σ a) (values_at globals s σ (suc a)) f (lasting_same s a b keeps l σ last f.path.var.number (lasting_kind f x.0 x.1)) (agrees_in (values_at globals s σ a) m.store.facts h f x.0)))
 
     -- The values of the locals before, from those after: a static one keeps its value, and another has a value that agrees.
-    abbrev is_static : Option Bool → Bool
-    is_static (Some b) = b
-    is_static None = false
+    abbrev is_lasting : Option Bool → Bool
+    is_lasting (Some b) = b
+    is_lasting None = false
 
     abbrev before : Locals → ℕ → Locals
-    before τ a y = cond (is_static (slice_get kinds_here y)) (τ y) (λ j. cond (eqb j a) (values.0 y) (τ y j))
+    before τ a y = cond (is_lasting (slice_get kinds_here y)) (τ y) (λ j. cond (eqb j a) (values.0 y) (τ y j))
 
-    before_static : (τ : Locals) (a y : ℕ) → slice_get kinds_here y ≡ Some true → before τ a y ≡ τ y
-    before_static τ a y e = cond-true (is_static (slice_get kinds_here y)) _ _ (ap is_static e)
+    before_lasting : (τ : Locals) (a y : ℕ) → slice_get kinds_here y ≡ Some true → before τ a y ≡ τ y
+    before_lasting τ a y e = cond-true (is_lasting (slice_get kinds_here y)) _ _ (ap is_lasting e)
 
     before_changing : (τ : Locals) (a y : ℕ) → slice_get kinds_here y ≡ Some false → before τ a y a ≡ values.0 y
-    before_changing τ a y e = (λ i. cond-false (is_static (slice_get kinds_here y)) (τ y) (λ j. cond (eqb j a) (values.0 y) (τ y j)) (ap is_static e) i a) ∙ cond-true (eqb a a) (values.0 y) (τ y a) (eq-eqb a a refl)
+    before_changing τ a y e = (λ i. cond-false (is_lasting (slice_get kinds_here y)) (τ y) (λ j. cond (eqb j a) (values.0 y) (τ y j)) (ap is_lasting e) i a) ∙ cond-true (eqb a a) (values.0 y) (τ y a) (eq-eqb a a refl)
 
     before_after : (τ : Locals) (a y j : ℕ) → suc a ≤ j → before τ a y j ≡ τ y j
-    before_after τ a y j l = cond_both (is_static (slice_get kinds_here y)) (τ y) (λ j. cond (eqb j a) (values.0 y) (τ y j)) (λ v. v j ≡ τ y j) (λ _. refl)
+    before_after τ a y j l = cond_both (is_lasting (slice_get kinds_here y)) (τ y) (λ j. cond (eqb j a) (values.0 y) (τ y j)) (λ v. v j ≡ τ y j) (λ _. refl)
         (λ _. cond_both (eqb j a) (values.0 y) (τ y j) (λ v. v ≡ τ y j) (λ q. absurd (let z = eqb-true j a q in omega (arith, z, l))) (λ _. refl))
 
     before_lasts : (τ : Locals) (a y : ℕ) (b : Bool) → AllLast (locals_of globals m.store.variables) globals τ → globals ≤ y → slice_get kinds_here y ≡ Some b → Lasts b (before τ a y)
-    before_lasts τ a y true last l e = subst (λ (v : ℕ → Tree). Lasts true v) (sym (before_static τ a y e)) (local_lasts globals m.store.variables τ y true last l e)
+    before_lasts τ a y true last l e = subst (λ (v : ℕ → Tree). Lasts true v) (sym (before_lasting τ a y e)) (local_lasts globals m.store.variables τ y true last l e)
     before_lasts τ a y false last l e = tt
 
     before_agrees : (s : Course) (a : ℕ) (τ : Locals) → AllLast (locals_of globals m.store.variables) globals τ → AgreesWithAll (values_at globals s τ (suc a)) next.store.facts
@@ -130,7 +130,7 @@ module _ (w : Setting) (kinds : List Bool) (m : Moment) (sound : IsSound w kinds
         elim (cases_Bool f.path.var.lasting) [
           | inl e ↦ (let k = lasting_kind f i e in
               agrees_same (values_at globals s τ (suc a)) (λ y. before τ a y a) f
-              ((λ t. before_static τ a y k t a) ∙ local_lasts globals m.store.variables τ y true last l k a (suc a) ∙ sym (at_local globals s τ (suc a) y l))
+              ((λ t. before_lasting τ a y k t a) ∙ local_lasts globals m.store.variables τ y true last l k a (suc a) ∙ sym (at_local globals s τ (suc a) y l))
               (agrees_in (values_at globals s τ (suc a)) (lasting_facts m.store.facts)
               (agrees_as_kept (values_at globals s τ (suc a)) (lasting_facts m.store.facts) next.store.facts (NoClash-filter (λ (f : Fact). f.path.var.lasting) m.store.facts sound.store.no_clash) (λ p. sym (on.kept p)) h)
               f (filter_in (λ (f : Fact). f.path.var.lasting) f m.store.facts i e)))

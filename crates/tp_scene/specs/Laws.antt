@@ -4,7 +4,7 @@ use Rattle.tp_value.specs.declared.path.Path.{Path}
 use Rattle.tp_meaning.specs.Syntax.{FormulaTree}
 use Rattle.tp_meaning.specs.Course.{Course, Shows, ◌⊕◌, shown_at}
 use Rattle.tp_meaning.specs.Holds.{Holds}
-use Rattle.tp_meaning.specs.Interval.{kinds_of, KeepsStatics}
+use Rattle.tp_meaning.specs.Interval.{kinds_of, KeepsLasting}
 use Rattle.tp_meaning.specs.Fits.{FormulaFits, DefinitionsFit}
 use Rattle.tp_store.specs.Facts.{kept_shape}
 use Rattle.tp_store.specs.Known.{Contents, NoClash, AreOfVariables, lasting_facts}
@@ -59,7 +59,7 @@ pub record StoreGoesOn (old new : Contents) : Type 0 where
 -- A settled scene that goes on stands for exactly the intervals whose first state agrees with the facts of the globals, which show there what the
 -- scene shows, and whose rest the advanced scene with the next store stands for.
 abbrev pub AdvanceStands : Setting → List Bool → (m next : Moment) → Type 0
-AdvanceStands w kinds m next = (s : Course) (a b : ℕ) (S : Shows) → KeepsStatics kinds s a b
+AdvanceStands w kinds m next = (s : Course) (a b : ℕ) (S : Shows) → KeepsLasting kinds s a b
     → StandsFor w (length kinds) m s a b S
     ↔ ((a < b) × AgreesWithGlobals (length kinds) s a m.store.facts
     × ((U : Shows) × (S ≡ shown_at a (shown_in m.scene.root.entries) ⊕ U) × StandsFor w (length kinds) next s (suc a) b U))

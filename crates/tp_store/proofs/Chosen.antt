@@ -11,7 +11,7 @@ use Rattle.tp_value.specs.declared.path.Path.{Path}
 use Rattle.tp_value.specs.declared.path.Fact.{Fact}
 use Rattle.tp_store.specs.Facts.{same_variable, same_path, same_shape, has_item, leaves_out, excludes, clash, kept_shape, fact, AgreesWith, AgreesWithAll}
 use Rattle.tp_store.specs.Known.{NoClash, Variable, IsVariableOf, AreOfVariables, lasting_facts, deepest}
-use Rattle.tp_store.specs.Laws.{HasAgreeingState, StaticsExtend}
+use Rattle.tp_store.specs.Laws.{HasAgreeingState, LastingExtends}
 use Rattle.tp_store.proofs.Paths.{same_variable-decides}
 use Rattle.tp_store.proofs.Members.{In, kept_in, in_kept, apart_in, filter_in, agrees_in, agrees_from}
 use Rattle.tp_store.proofs.Same.{kept_depth}
@@ -142,19 +142,19 @@ picked None s t = t
 picked (Some b) s t = cond b s t
 
 abbrev pub extended : List Variable → List Fact → (ℕ → Tree) → ℕ → Tree
-extended xs fs statics n = picked (slice_get (kinds xs) n) (statics n) (chosen_values xs fs n)
+extended xs fs lasting n = picked (slice_get (kinds xs) n) (lasting n) (chosen_values xs fs n)
 
-extended_agrees : (xs : List Variable) (fs : List Fact) (statics : ℕ → Tree) → NoClash fs → AgreesWithAll statics (lasting_facts fs) → (f : Fact) → In f fs → IsVariableOf xs f.path.var → AgreesWith (extended xs fs statics) f
-extended_agrees xs fs statics n a f i v =
+extended_agrees : (xs : List Variable) (fs : List Fact) (lasting : ℕ → Tree) → NoClash fs → AgreesWithAll lasting (lasting_facts fs) → (f : Fact) → In f fs → IsVariableOf xs f.path.var → AgreesWith (extended xs fs lasting) f
+extended_agrees xs fs lasting n a f i v =
     let k = f.path.var.number in
-    let both : (b : Bool) → f.path.var.lasting ≡ b → shape_at_path f.path.at (cond b (statics k) (chosen_values xs fs k)) ≡ Some f.shape = λ b.
-    (let P : Bool → Type 0 = λ c. f.path.var.lasting ≡ c → shape_at_path f.path.at (cond c (statics k) (chosen_values xs fs k)) ≡ Some f.shape in
-    elim b as P [ true ↦ λ e. agrees_in statics (lasting_facts fs) a f (filter_in (λ (x : Fact). x.path.var.lasting) f fs i e) | false ↦ λ e. chosen_agrees xs fs n f i v ]) in
-    ap (λ o. shape_at_path f.path.at (picked o (statics k) (chosen_values xs fs k))) v ∙ both f.path.var.lasting refl
+    let both : (b : Bool) → f.path.var.lasting ≡ b → shape_at_path f.path.at (cond b (lasting k) (chosen_values xs fs k)) ≡ Some f.shape = λ b.
+    (let P : Bool → Type 0 = λ c. f.path.var.lasting ≡ c → shape_at_path f.path.at (cond c (lasting k) (chosen_values xs fs k)) ≡ Some f.shape in
+    elim b as P [ true ↦ λ e. agrees_in lasting (lasting_facts fs) a f (filter_in (λ (x : Fact). x.path.var.lasting) f fs i e) | false ↦ λ e. chosen_agrees xs fs n f i v ]) in
+    ap (λ o. shape_at_path f.path.at (picked o (lasting k) (chosen_values xs fs k))) v ∙ both f.path.var.lasting refl
 
-pub statics_extend : StaticsExtend
-statics_extend xs fs n a statics s = (
-  extended xs fs statics,
-  agrees_from (extended xs fs statics) fs (λ f i. extended_agrees xs fs statics n s f i (variable_in xs fs a f i)),
-  λ k e. ap (λ o. picked o (statics k) (chosen_values xs fs k)) e,
+pub lasting_extends : LastingExtends
+lasting_extends xs fs n a lasting s = (
+  extended xs fs lasting,
+  agrees_from (extended xs fs lasting) fs (λ f i. extended_agrees xs fs lasting n s f i (variable_in xs fs a f i)),
+  λ k e. ap (λ o. picked o (lasting k) (chosen_values xs fs k)) e,
 )

@@ -66,10 +66,10 @@ abbrev pub HasAgreeingState : Type 0
 HasAgreeingState = (xs : List Variable) (facts : List Fact) → NoClash facts → AreOfVariables xs facts → (values : ℕ → Tree) × AgreesWithAll values facts
 
 -- the static variable with this number is one of these
-abbrev pub IsStatic : List Variable → ℕ → Type 0
-IsStatic xs n = slice_get (map (λ v. v.lasting) xs) n ≡ Some true
+abbrev pub IsLasting : List Variable → ℕ → Type 0
+IsLasting xs n = slice_get (map (λ v. v.lasting) xs) n ≡ Some true
 
 -- Such a state can be chosen with any values of the static variables that agree with the static facts.
-abbrev pub StaticsExtend : Type 0
-StaticsExtend = (xs : List Variable) (facts : List Fact) → NoClash facts → AreOfVariables xs facts → (statics : ℕ → Tree) → AgreesWithAll statics (lasting_facts facts)
-    → (values : ℕ → Tree) × AgreesWithAll values facts × ((n : ℕ) → IsStatic xs n → values n ≡ statics n)
+abbrev pub LastingExtends : Type 0
+LastingExtends = (xs : List Variable) (facts : List Fact) → NoClash facts → AreOfVariables xs facts → (lasting : ℕ → Tree) → AgreesWithAll lasting (lasting_facts facts)
+    → (values : ℕ → Tree) × AgreesWithAll values facts × ((n : ℕ) → IsLasting xs n → values n ≡ lasting n)

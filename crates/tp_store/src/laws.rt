@@ -1,5 +1,5 @@
 // Laws of facts and of the states that agree with them. Each function does nothing: its contract is the law.
-ghost use Rattle.tp_store.specs.Laws.{ClashesAgreeNowhere, FactsSayTheValue, FullIsRight, OpenIsUndecided, SameShapesSameStore, AddingAddsMeaning, RefusedAgreeNowhere, NoClashArises, HasAgreeingState, StaticsExtend};
+ghost use Rattle.tp_store.specs.Laws.{ClashesAgreeNowhere, FactsSayTheValue, FullIsRight, OpenIsUndecided, SameShapesSameStore, AddingAddsMeaning, RefusedAgreeNowhere, NoClashArises, HasAgreeingState, LastingExtends};
 
 /// No state agrees with two facts that clash.
 pub fn clashes_agree_nowhere()
@@ -47,6 +47,6 @@ pub fn has_agreeing_state()
 {}
 
 /// Such a state can be chosen with given values of the static variables that agree with the static facts.
-pub fn statics_extend()
-    ensures { StaticsExtend }
+pub fn lasting_extends()
+    ensures { LastingExtends }
 {}

@@ -4,7 +4,7 @@ use Rattle.std.proofs.lemmas.Option.{slice_get_within}
 use Rattle.tp_kernel.specs.Read.{definition_of, formula_tree}
 use Rattle.tp_meaning.specs.Syntax.{Definition}
 use Rattle.tp_meaning.specs.Interval.{kinds_of}
-use Rattle.tp_meaning.specs.Fits.{DefinitionsFit, ProgramFits}
+use Rattle.tp_meaning.specs.Fits.{ProgramFits}
 use Rattle.tp_tests.proofs.runs.chops_alone.Goals as goal
 
 no_definition : (p : ℕ) (f : Definition) → slice_get [] p ≡ Some f → ⊥
