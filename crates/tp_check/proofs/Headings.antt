@@ -79,6 +79,10 @@ pub not_twice : (before after : Names) (d : DefinitionTree) (ds : List Definitio
 not_twice before after d ds other apart are =
     ap₂ (λ a b. if a || b then Some d.at else twice_defined (before ++ d.name ∷ []) ds) other apart ∙ ap (λ xs. twice_defined xs ds) (sym are)
 
+-- a definition whose name or one of whose parameters was there before
+pub is_twice : (before : Names) (d : DefinitionTree) (ds : List DefinitionTree) → (list_any (bytes_eq d.name) before || has_repeat d.parameters) ≡ true → twice_defined before (d ∷ ds) ≡ Some d.at
+is_twice before d ds there = ap (λ b. if b then Some d.at else twice_defined (before ++ d.name ∷ []) ds) there
+
 -- ---- names in bodies
 
 none_bound : names_bound Outermost ≡ []

@@ -1,5 +1,7 @@
 -- What the functions build, as plain trees.
-use Rattle.std.specs.Prelude.{◌≡◌, ◌≢◌, Result, Ok, Err, ℕ, List, [], map, Some, None}
+use Rattle.std.specs.Prelude.{◌≡◌, ◌≢◌, ◌||◌, true, false, Result, Ok, Err, ℕ, List, [], map, Some, None}
+use Rattle.std.specs.List.{list_any}
+use Rattle.std.specs.Str.{bytes_eq}
 use Rattle.std.specs.Global.{Global}
 use Rattle.std.specs.declared.rc.Rc.{Rc}
 use Rattle.tp_kernel.specs.declared.formula.Expr.{Expr}
@@ -8,9 +10,11 @@ use Rattle.tp_kernel.specs.declared.formula.Formula.{Formula}
 use Rattle.tp_kernel.specs.declared.formula.Formulas.{Formulas}
 use Rattle.tp_kernel.specs.Read.{expr_tree, formula_tree, operator_of}
 use Rattle.tp_meaning.specs.Syntax.{ExprTree, FormulaTree, either, binary, chop, project}
+use Rattle.tp_tree.specs.declared.phrase.Definition.{Definition}
 use Rattle.tp_tree.specs.declared.phrase.Definitions.{Definitions}
-use Rattle.tp_scope.specs.Names.{AreApart, twice_defined}
-use Rattle.tp_scope.specs.Seen.{names_of_definitions}
+use Rattle.tp_scope.specs.Scope.{Names}
+use Rattle.tp_scope.specs.Names.{AreApart, has_repeat, twice_defined}
+use Rattle.tp_scope.specs.Seen.{apart, names_of_definitions}
 use Rattle.tp_tree.specs.Read.{definition_tree}
 use Rattle.tp_check.specs.declared.refusal.CheckRefusal.{CheckRefusal}
 use Rattle.tp_check.specs.declared.refusal.CheckRefusal.TheVariants.{Twice, NoMemory}
@@ -59,3 +63,8 @@ pub record AreHeadings (ds : Definitions) (headings : Headings) : Type 0 where
 abbrev pub AnswersHeadings : Definitions → Result Headings CheckRefusal → Type 0
 AnswersHeadings ds (Ok headings) = (twice_defined [] (map definition_tree ds.items.items) ≡ None) × AreHeadings ds headings
 AnswersHeadings ds (Err e) = e ≢ NoMemory → (at : ℕ) × (twice_defined [] (map definition_tree ds.items.items) ≡ Some at) × (e ≡ Twice at)
+
+-- the answer on the parameters of one definition more, behind those with these names; nothing is said for want of memory
+abbrev pub AnswersParameters : Names → Definition → Result Binders CheckRefusal → Type 0
+AnswersParameters before d (Ok own) = (list_any (bytes_eq d.name) before ≡ false) × (apart d.parameters ≡ Some own)
+AnswersParameters before d (Err e) = e ≢ NoMemory → ((list_any (bytes_eq d.name) before || has_repeat d.parameters) ≡ true) × (e ≡ Twice d.at)

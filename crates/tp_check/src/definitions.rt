@@ -4,7 +4,7 @@ ghost use Rattle.std.specs.Option.{option_map};
 ghost use Rattle.tp_tree.specs.Read.{definition_tree, phrase_tree};
 ghost use Rattle.tp_kernel.specs.Read.{definition_of, definitions_of};
 ghost use Rattle.tp_scope.specs.Seen.{names_seen};
-ghost use Rattle.tp_check.specs.Building.{AnswersHeadings, ParametersOf, expr_seen};
+ghost use Rattle.tp_check.specs.Building.{AnswersHeadings, AnswersParameters, ParametersOf, expr_seen};
 ghost use Rattle.tp_scope.specs.Names.{names_with, names_in_bodies};
 ghost use Rattle.tp_check.specs.Outcome.{AnswersCheck};
 ghost use Rattle.tp_check.specs.Program.{expr_where, definition_in, definitions_in};
@@ -26,6 +26,24 @@ pub struct Headings {
     pub parameters: Vec<Binders>,
 }
 
+// The parameters of a definition, where its name isn't one of these and none of them stands twice.
+fn own_parameters(
+    alloc: Global,
+    definition: &Definition,
+    before: &Binders,
+) -> Result<Binders, CheckRefusal>
+    ensures { AnswersParameters before.now definition.now result }
+{
+    let twice = CheckRefusal::Twice { at: definition.at };
+    if before.has(&definition.name) {
+        return Err(twice);
+    }
+    match Binders::of(alloc, &definition.parameters)? {
+        Some(own) => Ok(own),
+        None => Err(twice),
+    }
+}
+
 /// The names of the definitions and their parameters, where none is defined twice.
 pub fn find_headings(alloc: Global, definitions: &Definitions) -> Result<Headings, CheckRefusal>
     ensures { AnswersHeadings definitions.now result }
@@ -33,15 +51,9 @@ pub fn find_headings(alloc: Global, definitions: &Definitions) -> Result<Heading
     let mut names = Binders::none(alloc);
     let mut parameters = Vec::new(alloc);
     for definition in &definitions.items {
-        let twice = CheckRefusal::Twice { at: definition.at };
-        if names.has(&definition.name) {
-            return Err(twice);
-        }
-        let Some(apart) = Binders::of(alloc, &definition.parameters)? else {
-            return Err(twice);
-        };
+        let own = own_parameters(alloc, definition, &names)?;
         names.add(&definition.name)?;
-        parameters.push(apart)?;
+        parameters.push(own)?;
     }
     Ok(Headings { names, parameters })
 }

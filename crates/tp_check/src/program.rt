@@ -2,9 +2,9 @@
 ghost use Rattle.std.specs.Prelude.{◌≡◌, ◌≢◌, length, IfOk, IfErr, Ok, Err};
 ghost use Rattle.tp_tree.specs.Read.{source_tree};
 ghost use Rattle.tp_meaning.specs.Fits.{ProgramFits};
-ghost use Rattle.tp_scope.specs.Seen.{signatures_seen};
+ghost use Rattle.tp_scope.specs.Seen.{names_of_definitions, signatures_seen};
 ghost use Rattle.tp_check.specs.Building.{ParametersOf};
-ghost use Rattle.tp_scope.specs.Names.{names_of};
+ghost use Rattle.tp_scope.specs.Names.{AreApart, names_of};
 ghost use Rattle.tp_check.specs.Outcome.{AnswersCheck};
 ghost use Rattle.tp_scope.specs.Definitions.{signatures_of};
 ghost use Rattle.tp_check.specs.Program.{ChecksTo, NamesSuffice, program_over, program_tree};
@@ -69,6 +69,25 @@ fn make_program(
     })
 }
 
+// The program over these definitions and its own variables.
+fn program_where(
+    alloc: Global,
+    source: &Source,
+    parameters: &[Binders],
+    states: &[bool],
+) -> Result<Program, CheckRefusal>
+    requires apart { AreApart (names_of_definitions source.now.definitions) }
+    requires parameters { ParametersOf source.now.definitions parameters.now }
+    requires each { length states.now ≡ length source.now.definitions.items.items }
+    ensures { AnswersCheck program_tree
+        (program_over (names_of (source_tree source.now)) states.now (source_tree source.now))
+        result }
+{
+    let directory = Directory::of(alloc, &source.definitions, states)?;
+    let globals = names(alloc, source, parameters)?;
+    make_program(alloc, source, parameters, states, &directory, globals)
+}
+
 /// The program that a source is.
 ///
 /// First no definition may have the name of an earlier one, and none a parameter twice. Then the bodies, in the order of the text, and the
@@ -103,14 +122,5 @@ pub fn check(alloc: Global, source: &Source) -> Result<Program, CheckRefusal>
 {
     let headings = find_headings(alloc, &source.definitions)?;
     let states = find_states(alloc, &source.definitions, &headings.names)?;
-    let directory = Directory::of(alloc, &source.definitions, &states)?;
-    let globals = names(alloc, source, &headings.parameters)?;
-    make_program(
-        alloc,
-        source,
-        &headings.parameters,
-        &states,
-        &directory,
-        globals,
-    )
+    program_where(alloc, source, &headings.parameters, &states)
 }

@@ -20,6 +20,15 @@ pub fn under(what: Rc<Formula>, env: &Rc<Env>) -> Result<Phrase, NoMemory>
     Ok(Phrase { what, env })
 }
 
+/// The same of a formula that is shared as well.
+pub fn shared_under(what: &Rc<Formula>, env: &Rc<Env>) -> Result<Phrase, NoMemory>
+    ensures formula { IfOk result (λ a. formula_of a ≡ formula_tree what.now.value) }
+    ensures bindings { IfOk result (λ a. env_of a ≡ bindings_of env.now.value) }
+{
+    let what = what.clone()?;
+    under(what, env)
+}
+
 fn copy_binding(binding: &Binding) -> Result<Binding, NoMemory>
     ensures { IfOk result (λ b. binding_of b ≡ binding_of binding.now) }
 {

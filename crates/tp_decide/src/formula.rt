@@ -10,7 +10,7 @@ use crate::calls::decide_call;
 use crate::counting::{decide_instances, decide_turns};
 use crate::decision::{Decision, Leaf, Place, end, go, nothing};
 use crate::display::decide_display;
-use crate::env::under;
+use crate::env::shared_under;
 use crate::equation::{decide_equation, decide_input};
 use crate::evaluated::{
     decide_assign, decide_branch, decide_len, decide_next_equation, decide_test,
@@ -87,8 +87,7 @@ pub fn decide(
             body,
         } => {
             let found = find_number(alloc, to, env, store, setting)?;
-            let what = body.clone()?;
-            let body = under(what, env)?;
+            let body = shared_under(body, env)?;
             decide_turns(alloc, name, *from, found, &body, place)
         }
         Formula::Forall {
@@ -98,8 +97,7 @@ pub fn decide(
             body,
         } => {
             let found = find_number(alloc, to, env, store, setting)?;
-            let what = body.clone()?;
-            let body = under(what, env)?;
+            let body = shared_under(body, env)?;
             decide_instances(alloc, name, *from, found, &body)
         }
         Formula::Proj(w, v) => decide_project(w, v, env, place),

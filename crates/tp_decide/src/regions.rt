@@ -9,7 +9,7 @@ ghost use Rattle.tp_decide.specs.Fits.{IsPlain};
 ghost use Rattle.tp_decide.specs.Read.{formula_of, env_of};
 
 use crate::decision::{Decision, Place};
-use crate::env::under;
+use crate::env::shared_under;
 use crate::phrase::Phrase;
 use std::rc::Rc;
 use tp_kernel::{Env, Formula, LimitKind};
@@ -69,8 +69,8 @@ pub fn decide_chop(
         2)) }
     ensures plain { IfOk result IsPlain }
 {
-    let first = under(first.clone()?, env)?;
-    let after = under(after.clone()?, env)?;
+    let first = shared_under(first, env)?;
+    let after = shared_under(after, env)?;
     Ok(split(place, first, after))
 }
 
@@ -91,8 +91,8 @@ pub fn decide_project(
         2)) }
     ensures plain { IfOk result IsPlain }
 {
-    let outer = under(outer.clone()?, env)?;
-    let piece = under(piece.clone()?, env)?;
+    let outer = shared_under(outer, env)?;
+    let piece = shared_under(piece, env)?;
     Ok(open(place, outer, piece))
 }
 
@@ -120,7 +120,7 @@ pub fn decide_exists(
     ensures plain { IfOk result IsPlain }
 {
     let name = name.copy()?;
-    let body = under(body.clone()?, env)?;
+    let body = shared_under(body, env)?;
     Ok(Decision::Binds {
         name,
         lasting,

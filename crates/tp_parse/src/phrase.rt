@@ -74,7 +74,7 @@ impl Parser<'_> {
         self.deepen(room)?;
         self.take();
         let operand = self.phrase(alloc, level, room)?;
-        Ok(of_prefix(alloc, at, prefix, operand)?)
+        of_prefix(alloc, at, prefix, operand)
     }
 
     #[cycle(phrase)]
@@ -115,13 +115,13 @@ impl Parser<'_> {
             Head::Enclosed(enclosure) => {
                 let level = enclosed_level(enclosure);
                 let operand = self.part(alloc, level, enclosed_close(enclosure), room)?;
-                Ok(of_enclosed(alloc, at, enclosure, operand)?)
+                of_enclosed(alloc, at, enclosure, operand)
             }
             Head::If => self.choice(alloc, room, at),
             Head::Paired(pair) => self.paired(alloc, room, at, pair),
             Head::Exists(names) => {
                 let operand = self.phrase(alloc, CHOP, room)?;
-                Ok(of_exists(alloc, at, names, operand)?)
+                of_exists(alloc, at, names, operand)
             }
         }
     }
@@ -135,7 +135,7 @@ impl Parser<'_> {
     {
         let first = self.part(alloc, CHOP, middle(&pair), room)?;
         let second = self.phrase(alloc, CHOP, room)?;
-        Ok(of_pair(alloc, at, pair, first, second)?)
+        of_pair(alloc, at, pair, first, second)
     }
 
     /// The condition and the parts of an `if`.
@@ -169,11 +169,11 @@ impl Parser<'_> {
         ensures low { IfOk result (λ r. r.height ≤ room + 1) }
     {
         if !self.sees(Mark::Word(Word::Else)) {
-            return Ok(of_choice(alloc, at, condition, first)?);
+            return of_choice(alloc, at, condition, first);
         }
         self.take();
         let second = self.phrase(alloc, CHOP, room)?;
-        Ok(of_choice_else(alloc, at, condition, first, second)?)
+        of_choice_else(alloc, at, condition, first, second)
     }
 
     /// A phrase, and the mark after it.
@@ -328,7 +328,7 @@ impl Parser<'_> {
         self.fits(room, left.height)?;
         self.take();
         let right = self.phrase(alloc, right_level(op), room)?;
-        Ok(of_infix(alloc, at, op, left, right)?)
+        of_infix(alloc, at, op, left, right)
     }
 
     #[cycle(phrase)]
@@ -347,7 +347,7 @@ impl Parser<'_> {
         self.fits(room, left.height)?;
         self.take();
         let index = self.part(alloc, CHOP, Mark::Symbol(Symbol::CloseSquare), room)?;
-        Ok(of_index(alloc, at, left, index)?)
+        of_index(alloc, at, left, index)
     }
 
     #[cycle(phrase)]

@@ -1,15 +1,17 @@
 // Phrases with their heights, and how they are made of their operands.
-ghost use Rattle.std.specs.Prelude.{◌≡◌, ◌+◌, ◌<◌, max, IfOk, map};
+ghost use Rattle.std.specs.Prelude.{◌≡◌, ◌+◌, ◌<◌, max, IfOk, IfErr, map};
 ghost use Rattle.tp_parse.specs.Found as spec;
 ghost use Rattle.tp_parse.specs.Found.{seen, all_seen, IsLow};
+ghost use Rattle.tp_parse.specs.declared.refusal.Refusal.TheVariants.{NoMemory};
 ghost use Rattle.tp_tree.specs.Read.{phrase_tree, kind_tree};
 ghost use Rattle.tp_tree.specs.Tree.{phrases_of};
 
 use crate::head::{Atom, Listed, Pair};
 use crate::mark::{Enclosure, Prefix};
+use crate::refusal::Refusal;
 use std::alloc::Global;
 use tp_tree::{Op, Phrase, PhraseKind, Phrases};
-use tp_value::{NoMemory, Texts};
+use tp_value::Texts;
 
 /// A phrase that was read, and its height with its parentheses.
 #[derive(Drop)]
@@ -33,15 +35,24 @@ struct Boxed {
     height: u32,
 }
 
-fn box_both(alloc: Global, first: Measured, second: Measured) -> Result<Boxed, NoMemory>
+/// The phrase in memory of its own.
+fn in_box(alloc: Global, operand: Measured) -> Result<Box<Phrase>, Refusal>
+    ensures made { IfOk result (λ own. own.value ≡ operand.phrase) }
+    ensures memory { IfErr result (λ refusal. refusal ≡ NoMemory) }
+{
+    Ok(Box::new(alloc, operand.phrase)?)
+}
+
+fn box_both(alloc: Global, first: Measured, second: Measured) -> Result<Boxed, Refusal>
     requires { IsLow first.height × IsLow second.height }
     ensures first { IfOk result (λ both. both.first.value ≡ first.phrase) }
     ensures second { IfOk result (λ both. both.second.value ≡ second.phrase) }
     ensures height { IfOk result (λ both. both.height ≡ max first.height second.height + 1) }
+    ensures memory { IfErr result (λ refusal. refusal ≡ NoMemory) }
 {
     let height = first.height.max(second.height) + 1;
-    let first = Box::new(alloc, first.phrase)?;
-    let second = Box::new(alloc, second.phrase)?;
+    let first = in_box(alloc, first)?;
+    let second = in_box(alloc, second)?;
     Ok(Boxed {
         first,
         second,
@@ -103,14 +114,15 @@ pub fn of_enclosed(
     at: u32,
     enclosure: Enclosure,
     operand: Measured,
-) -> Result<Measured, NoMemory>
+) -> Result<Measured, Refusal>
     requires { IsLow operand.height }
-    ensures { IfOk result (λ r. seen r ≡ spec.of_enclosed at enclosure (seen operand)) }
+    ensures made { IfOk result (λ r. seen r ≡ spec.of_enclosed at enclosure (seen operand)) }
+    ensures memory { IfErr result (λ refusal. refusal ≡ NoMemory) }
 {
     let raised = operand.height + 1;
     match enclosure {
         Enclosure::Size => {
-            let operand = Box::new(alloc, operand.phrase)?;
+            let operand = in_box(alloc, operand)?;
             Ok(make(at, PhraseKind::Size(operand), raised))
         }
         Enclosure::Round | Enclosure::Curly => Ok(Measured {
@@ -125,9 +137,10 @@ pub fn of_choice(
     at: u32,
     condition: Measured,
     first: Measured,
-) -> Result<Measured, NoMemory>
+) -> Result<Measured, Refusal>
     requires { IsLow condition.height × IsLow first.height }
-    ensures { IfOk result (λ r. seen r ≡ spec.of_choice at (seen condition) (seen first)) }
+    ensures made { IfOk result (λ r. seen r ≡ spec.of_choice at (seen condition) (seen first)) }
+    ensures memory { IfErr result (λ refusal. refusal ≡ NoMemory) }
 {
     let both = box_both(alloc, condition, first)?;
     Ok(make(
@@ -143,14 +156,15 @@ pub fn of_choice_else(
     condition: Measured,
     first: Measured,
     second: Measured,
-) -> Result<Measured, NoMemory>
+) -> Result<Measured, Refusal>
     requires { IsLow condition.height × IsLow first.height × IsLow second.height }
-    ensures { IfOk result (λ r. seen r
+    ensures made { IfOk result (λ r. seen r
         ≡ spec.of_choice_else at (seen condition) (seen first) (seen second)) }
+    ensures memory { IfErr result (λ refusal. refusal ≡ NoMemory) }
 {
     let height = condition.height.max(first.height).max(second.height) + 1;
     let both = box_both(alloc, condition, first)?;
-    let second = Box::new(alloc, second.phrase)?;
+    let second = in_box(alloc, second)?;
     Ok(make(
         at,
         PhraseKind::If(both.first, both.second, Some(second)),
@@ -176,9 +190,10 @@ pub fn of_pair(
     pair: Pair,
     first: Measured,
     second: Measured,
-) -> Result<Measured, NoMemory>
+) -> Result<Measured, Refusal>
     requires { IsLow first.height × IsLow second.height }
-    ensures { IfOk result (λ r. seen r ≡ spec.of_pair at pair (seen first) (seen second)) }
+    ensures made { IfOk result (λ r. seen r ≡ spec.of_pair at pair (seen first) (seen second)) }
+    ensures memory { IfErr result (λ refusal. refusal ≡ NoMemory) }
 {
     let both = box_both(alloc, first, second)?;
     Ok(make(at, pair_kind(pair, both.first, both.second), both.height))
@@ -189,12 +204,13 @@ pub fn of_exists(
     at: u32,
     names: Texts,
     operand: Measured,
-) -> Result<Measured, NoMemory>
+) -> Result<Measured, Refusal>
     requires { IsLow operand.height }
-    ensures { IfOk result (λ r. seen r ≡ spec.of_exists at names (seen operand)) }
+    ensures made { IfOk result (λ r. seen r ≡ spec.of_exists at names (seen operand)) }
+    ensures memory { IfErr result (λ refusal. refusal ≡ NoMemory) }
 {
     let height = operand.height + 1;
-    let operand = Box::new(alloc, operand.phrase)?;
+    let operand = in_box(alloc, operand)?;
     Ok(make(at, PhraseKind::Exists(names, operand), height))
 }
 
@@ -213,12 +229,13 @@ pub fn of_prefix(
     at: u32,
     prefix: Prefix,
     operand: Measured,
-) -> Result<Measured, NoMemory>
+) -> Result<Measured, Refusal>
     requires { IsLow operand.height }
-    ensures { IfOk result (λ r. seen r ≡ spec.of_prefix at prefix (seen operand)) }
+    ensures made { IfOk result (λ r. seen r ≡ spec.of_prefix at prefix (seen operand)) }
+    ensures memory { IfErr result (λ refusal. refusal ≡ NoMemory) }
 {
     let height = operand.height + 1;
-    let operand = Box::new(alloc, operand.phrase)?;
+    let operand = in_box(alloc, operand)?;
     Ok(make(at, prefixed_kind(prefix, operand), height))
 }
 
@@ -228,9 +245,10 @@ pub fn of_infix(
     op: Op,
     left: Measured,
     right: Measured,
-) -> Result<Measured, NoMemory>
+) -> Result<Measured, Refusal>
     requires { IsLow left.height × IsLow right.height }
-    ensures { IfOk result (λ r. seen r ≡ spec.of_infix at op (seen left) (seen right)) }
+    ensures made { IfOk result (λ r. seen r ≡ spec.of_infix at op (seen left) (seen right)) }
+    ensures memory { IfErr result (λ refusal. refusal ≡ NoMemory) }
 {
     let both = box_both(alloc, left, right)?;
     Ok(make(
@@ -245,9 +263,10 @@ pub fn of_index(
     at: u32,
     whole: Measured,
     index: Measured,
-) -> Result<Measured, NoMemory>
+) -> Result<Measured, Refusal>
     requires { IsLow whole.height × IsLow index.height }
-    ensures { IfOk result (λ r. seen r ≡ spec.of_index at (seen whole) (seen index)) }
+    ensures made { IfOk result (λ r. seen r ≡ spec.of_index at (seen whole) (seen index)) }
+    ensures memory { IfErr result (λ refusal. refusal ≡ NoMemory) }
 {
     let both = box_both(alloc, whole, index)?;
     Ok(make(at, PhraseKind::Index(both.first, both.second), both.height))

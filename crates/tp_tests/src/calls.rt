@@ -1,4 +1,5 @@
 // Whole calls over files and pages in memory.
+use crate::expected::{same_lines, same_number};
 use crate::making::{contents, series};
 use crate::tables::{cut, number};
 use std::alloc::Global;
@@ -6,7 +7,7 @@ use std::marker::Brand;
 use std::process::Abort;
 use std::sync::ledger::Blank;
 use std::test::Fail;
-use tp_call::{Status, counted};
+use tp_call::counted;
 use tp_io::{Files, Sink, SurePage, SureShelf};
 use tp_value::Text;
 
@@ -25,22 +26,22 @@ use long::{LONG, LONG_LINES};
 use rows::{DERIVED, IN_PARTS, INTERVALS, NOT_RUN, REFUSED, STATES, VALUES};
 use unfolded::{ARGUMENTS, CALCULATED, LIMITS, LOCALS, REFUSED_CALLS, UNFOLDED};
 
-// The status of a call with these words.
-fn status_of<F: Files, K: Sink>(
+// The exit status of a call with these words.
+fn code_of<F: Files, K: Sink>(
     alloc: Global,
     words: &[&str],
     files: &mut F,
     out: &mut K,
-) -> Result<Status, Fail> {
+) -> Result<u64, Fail> {
     let mut texts = Vec::new(alloc);
     for word in words {
         texts.push(Text::from_slice(alloc, word.as_bytes())?)?;
     }
     let status = counted::<Brand, _, _>(alloc, texts.as_slice(), files, out, Blank::new(1));
-    Ok(status)
+    Ok(u64::from(status.code()))
 }
 
-// The exit status and the text of a call with these words, where `a.t` holds the source.
+// The exit status and the lines of a call with these words, where `a.t` holds the source.
 fn expect(
     rt: &(impl Abort + AllocGlobal),
     words: &[&str],
@@ -51,27 +52,23 @@ fn expect(
     let alloc = rt.alloc();
     let mut files = SureShelf::new(alloc, contents(alloc, "a.t", source.as_bytes())?);
     let mut page = SurePage::new(alloc);
-    let status = status_of(alloc, words, &mut files, &mut page)?;
-    assert_eq!(rt; str::from_utf8(page.text()), Ok(text), "for {source}");
-    assert_eq!(rt; u32::from(status.code()), code, "for {source}");
+    let found = code_of(alloc, words, &mut files, &mut page)?;
+    same_lines(rt, page.text(), text, source);
+    same_number(rt, found, u64::from(code), source);
     Ok(())
 }
 
-// The same of a row, where what stands between two `#` is repeated so many times.
-fn expect_row(rt: &(impl Abort + AllocGlobal), row: &str, times: u32) -> Result<(), Fail> {
+// The same of a row.
+fn expect_row(rt: &(impl Abort + AllocGlobal), words: &[&str], row: &str) -> Result<(), Fail> {
     let (source, row) = cut(row, "->")?;
     let (code, text) = cut(row, "\n")?;
-    let source = series(rt.alloc(), source, times)?;
-    let text = series(rt.alloc(), text, times)?;
-    let text = format!(in rt.alloc(); "{text}\n")?;
-    let code = number(code)?;
-    expect(rt, &["run", "a.t"], source.as_str(), code, text.as_str())
+    expect(rt, words, source, number(code)?, text)
 }
 
 // The same of each row of a table.
 fn expect_rows(rt: &(impl Abort + AllocGlobal), table: &str) -> Result<(), Fail> {
     for row in table.trim().split("\n\n") {
-        expect_row(rt, row, 1)?;
+        expect_row(rt, &["run", "a.t"], row)?;
     }
     Ok(())
 }
@@ -117,11 +114,12 @@ fn calls_have_limits(rt: HostRuntime) -> Result<(), Fail> {
     expect_rows(&rt, LIMITS)
 }
 
-// The same of rows that begin with the number of times.
+// The same of rows that begin with a number: so many times what stands between two `#` is repeated.
 fn expect_long_rows(rt: &(impl Abort + AllocGlobal), table: &str) -> Result<(), Fail> {
     for row in table.trim().split("\n\n") {
         let (times, row) = cut(row, "times")?;
-        expect_row(rt, row, number(times)?)?;
+        let row = series(rt.alloc(), row, number(times)?)?;
+        expect_row(rt, &["run", "a.t"], row.as_str())?;
     }
     Ok(())
 }
@@ -138,15 +136,15 @@ fn long_lines_are_written(rt: HostRuntime) -> Result<(), Fail> {
 
 #[test]
 fn words_are_refused(rt: HostRuntime) -> Result<(), Fail> {
-    expect(&rt, &[], "run empty.", 12, "words refused\n")
+    expect(&rt, &[], "run empty.", 12, "words refused")
 }
 
 #[test]
 fn sources_of_many_bytes_are_refused(rt: HostRuntime) -> Result<(), Fail> {
     let words = ["run", "a.t"];
-    let refused = "source refused: line 1 column 1048577: unfinished\n";
+    let refused = "source refused: line 1 column 1048577: unfinished";
     let mut source = series(rt.alloc(), "# #", 1_048_576)?;
     expect(&rt, &words, source.as_str(), 10, refused)?;
     source.push(' ')?;
-    expect(&rt, &words, source.as_str(), 13, "too long: source\n")
+    expect(&rt, &words, source.as_str(), 13, "too long: source")
 }

@@ -1,10 +1,10 @@
 // The outcomes of expressions that call definitions, row by row.
-use crate::outcomes::{environment, known_state, outcome_text, read};
+use crate::expected::same_text;
+use crate::outcomes::{place_where, read, value_where};
 use crate::tables::cut;
 use std::alloc::Global;
 use std::rc::Rc;
 use std::test::Fail;
-use tp_eval::{PlaceOutcome, eval, is_place, place};
 use tp_kernel::{Def, Defs, Expr, Exprs, Formula};
 use tp_value::{NoMemory, Text, Texts};
 
@@ -30,14 +30,17 @@ fn parameters(alloc: Global, letters: &str) -> Result<Texts, NoMemory> {
     Ok(Texts { items })
 }
 
+fn body(alloc: Global, spelled: &str) -> Result<Option<Rc<Expr>>, Fail> {
+    if spelled.is_empty() {
+        return Ok(None);
+    }
+    let e = read(alloc, spelled.as_bytes())?;
+    let e = Rc::new(alloc, e)?;
+    Ok(Some(e))
+}
+
 fn definition(alloc: Global, letters: &str, spelled: &str) -> Result<Def, Fail> {
-    let expr = if spelled.is_empty() {
-        None
-    } else {
-        let e = read(alloc, spelled.as_bytes())?;
-        let e = Rc::new(alloc, e)?;
-        Some(e)
-    };
+    let expr = body(alloc, spelled)?;
     let parameters = parameters(alloc, letters)?;
     let formula = Rc::new(alloc, Formula::True)?;
     Ok(Def {
@@ -59,11 +62,8 @@ fn definitions(alloc: Global) -> Result<Defs, Fail> {
 }
 
 fn value_text(alloc: Global, e: &Expr) -> Result<String, Fail> {
-    let store = known_state(alloc)?;
-    let env = environment(alloc)?;
     let defs = definitions(alloc)?;
-    let outcome = eval(alloc, e, &env, &store, &defs)?;
-    outcome_text(alloc, outcome)
+    value_where(alloc, e, defs)
 }
 
 // Calls: `g` of the first definition, and so on to `o`; `p` and `q` of the second with none and with two arguments, `r` of one that isn't there.
@@ -103,25 +103,17 @@ fn calls_are_evaluated(rt: HostRuntime) -> Result<(), Fail> {
         let (spelled, expected) = cut(row, "=>")?;
         let e = read(rt.alloc(), spelled.as_bytes())?;
         let found = value_text(rt.alloc(), &e)?;
-        assert_eq!(rt; found.as_str(), expected, "for {spelled}");
+        same_text(&rt, found.as_str(), expected, spelled);
     }
     Ok(())
 }
 
 #[test]
 fn indices_of_a_place_call(rt: HostRuntime) -> Result<(), Fail> {
-    let alloc = rt.alloc();
-    let e = read(alloc, b"Ag@".as_slice())?;
-    if !is_place(&e) {
-        return Err("no place".into());
-    }
-    let store = known_state(alloc)?;
-    let env = environment(alloc)?;
-    let defs = definitions(alloc)?;
-    match place(alloc, &e, &env, &store, &defs)? {
-        PlaceOutcome::Place(path) => assert_eq!(rt; path.at.items.as_slice(), [7].as_slice()),
-        PlaceOutcome::Other(_) => return Err("no place".into()),
-    }
+    let e = read(rt.alloc(), b"Ag@".as_slice())?;
+    let defs = definitions(rt.alloc())?;
+    let found = place_where(rt.alloc(), &e, defs)?;
+    same_text(&rt, found.as_str(), "place at [7]", "Ag@");
     Ok(())
 }
 
@@ -145,11 +137,8 @@ const DEPTHS: [(u32, i64, &str); 5] = [
 fn calls_nest_within_limits(rt: HostRuntime) -> Result<(), Fail> {
     for (number, count, expected) in &DEPTHS {
         let e = counted(rt.alloc(), *number, *count)?;
-        assert_eq!(rt;
-            value_text(rt.alloc(), &e)?.as_str(),
-            *expected,
-            "{number} {count}"
-        );
+        let found = value_text(rt.alloc(), &e)?;
+        same_text(&rt, found.as_str(), expected, "calls in calls");
     }
     Ok(())
 }
@@ -167,8 +156,10 @@ fn calls_beside(alloc: Global, count: usize) -> Result<Expr, Fail> {
 #[test]
 fn calls_are_counted(rt: HostRuntime) -> Result<(), Fail> {
     let most = calls_beside(rt.alloc(), 100_000)?;
-    assert_eq!(rt; value_text(rt.alloc(), &most)?.as_str(), "true");
+    let found = value_text(rt.alloc(), &most)?;
+    same_text(&rt, found.as_str(), "true", "100,000 calls");
     let more = calls_beside(rt.alloc(), 100_001)?;
-    assert_eq!(rt; value_text(rt.alloc(), &more)?.as_str(), "over Calls");
+    let found = value_text(rt.alloc(), &more)?;
+    same_text(&rt, found.as_str(), "over Calls", "100,001 calls");
     Ok(())
 }

@@ -1,8 +1,31 @@
-// What is expected of a row of a table. Each assertion is much code to prove, so these two serve many rows.
+// What is expected of a row of a table. Each assertion is much code to prove, so these serve all tests.
 use std::process::Abort;
 
 /// Expects this text of the row.
 pub fn same_text(rt: &impl Abort, found: &str, expected: &str, row: &str) {
+    assert_eq!(rt; found, expected, "for {row}");
+}
+
+/// Expects the bytes of this text of the row.
+pub fn same_bytes(rt: &impl Abort, found: &[u8], expected: &str, row: &str) {
+    same_text(
+        rt,
+        str::from_utf8(found).unwrap_or("no text"),
+        expected,
+        row,
+    );
+}
+
+/// Expects the bytes of these lines of the row, and a line feed after the last one.
+pub fn same_lines(rt: &impl Abort, found: &[u8], expected: &str, row: &str) {
+    match found {
+        [lines @ .., b'\n'] => same_bytes(rt, lines, expected, row),
+        _ => same_bytes(rt, found, "a line feed at the end", row),
+    }
+}
+
+/// Expects this number of the row.
+pub fn same_number(rt: &impl Abort, found: u64, expected: u64, row: &str) {
     assert_eq!(rt; found, expected, "for {row}");
 }
 

@@ -1,4 +1,5 @@
 // A derived operator that is made without a source. It and the nine others are among the rows of the checker.
+use crate::expected::same_bytes;
 use crate::spelling::spell;
 use std::rc::Rc;
 use std::test::Fail;
@@ -16,9 +17,11 @@ fn repeat_is_made(rt: HostRuntime) -> Result<(), Fail> {
     let until = Rc::new(alloc, Expr::Global(x))?;
     let mut made = Text::new(alloc);
     spell(alloc, &repeat(alloc, what, until)?, &mut made)?;
-    assert_eq!(rt;
+    same_bytes(
+        &rt,
         made.as_slice(),
-        b"(; more (while (not X1) more))".as_slice()
+        "(; more (while (not X1) more))",
+        "repeat",
     );
     Ok(())
 }

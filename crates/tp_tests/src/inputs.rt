@@ -1,10 +1,11 @@
 // Tables of inputs, with ample memory.
+use crate::expected::{holds, same_bytes, same_text};
 use crate::making::series;
 use std::alloc::Global;
 use std::process::Abort;
 use std::test::Fail;
 use tp_inputs::{Inputs, read_inputs};
-use tp_value::{Text, Value, same, write_value};
+use tp_value::{Text, write_value};
 
 // The table of the text.
 fn read_table(alloc: Global, text: &str) -> Result<Inputs, Fail> {
@@ -15,20 +16,10 @@ fn read_table(alloc: Global, text: &str) -> Result<Inputs, Fail> {
 }
 
 #[test]
-fn ports_have_their_values(rt: HostRuntime) -> Result<(), Fail> {
-    let inputs = read_table(rt.alloc(), "a=7 b=8\n")?;
-    let table = [(0, "a", 7), (0, "b", 8), (0, "c", -1), (1, "a", -1)];
-    for (state, name, wanted) in table {
-        let port = Text::from_slice(rt.alloc(), name.as_bytes())?;
-        let found = match inputs.at(state, &port) {
-            Some(value) => same(value, &Value::Num(wanted)),
-            None => wanted == -1,
-        };
-        assert!(rt; found, "{name} in state {state}");
-    }
+fn no_inputs_have_no_values(rt: HostRuntime) -> Result<(), Fail> {
     let none = Inputs::none(rt.alloc())?;
     let port = Text::from_slice(rt.alloc(), b"a")?;
-    assert!(rt; none.at(0, &port).is_none());
+    holds(&rt, none.at(0, &port).is_none(), "no inputs");
     Ok(())
 }
 
@@ -47,32 +38,35 @@ fn expect_value(
         Some(value) => write_value(value, &mut out)?,
         None => out.append(b"none")?,
     }
-    assert_eq!(rt; out.as_slice(), canonical.as_bytes(), "at {text:?}");
+    same_bytes(rt, out.as_slice(), canonical, text);
     Ok(())
 }
 
+// A text, a state, a port, and its value as it is written.
+const TABLES: [(&str, u64, &str, &str); 18] = [
+    ("", 0, "p", "none"),
+    ("p=1", 0, "p", "1"),
+    ("p=1\n", 0, "p", "1"),
+    ("p=1\n", 1, "p", "none"),
+    ("p=1\n", 18446744073709551615, "p", "none"),
+    ("p=1\r\nq=2", 0, "p", "1"),
+    ("p=1\r\nq=2", 1, "q", "2"),
+    ("\np=1\n", 0, "p", "none"),
+    ("\n\r\n \t\np=1", 3, "p", "1"),
+    (" \tp=<1, 2> q=true\t", 0, "p", "<1,2>"),
+    (" \tp=<1, 2> q=true\t", 0, "q", "true"),
+    ("p=1 q=2\nq=3\n", 1, "p", "none"),
+    ("p=1 q=2\nq=3\n", 1, "q", "3"),
+    ("p=1 q=2\nq=3\n", 0, "r", "none"),
+    ("p=-007 pQ_2=<\t>", 0, "p", "-7"),
+    ("p=-007 pQ_2=<\t>", 0, "pQ_2", "<>"),
+    ("ifs=1", 0, "ifs", "1"),
+    ("p=9223372036854775807", 0, "p", "9223372036854775807"),
+];
+
 #[test]
 fn texts_are_tables(rt: HostRuntime) -> Result<(), Fail> {
-    let rows = [
-        ("", 0, "p", "none"),
-        ("p=1", 0, "p", "1"),
-        ("p=1\n", 0, "p", "1"),
-        ("p=1\n", 1, "p", "none"),
-        ("p=1\n", 18446744073709551615, "p", "none"),
-        ("p=1\r\nq=2", 0, "p", "1"),
-        ("p=1\r\nq=2", 1, "q", "2"),
-        ("\np=1\n", 0, "p", "none"),
-        ("\n\r\n \t\np=1", 3, "p", "1"),
-        (" \tp=<1, 2> q=true\t", 0, "p", "<1,2>"),
-        (" \tp=<1, 2> q=true\t", 0, "q", "true"),
-        ("p=1 q=2\nq=3\n", 1, "p", "none"),
-        ("p=1 q=2\nq=3\n", 1, "q", "3"),
-        ("p=-007 pQ_2=<\t>", 0, "p", "-7"),
-        ("p=-007 pQ_2=<\t>", 0, "pQ_2", "<>"),
-        ("ifs=1", 0, "ifs", "1"),
-        ("p=9223372036854775807", 0, "p", "9223372036854775807"),
-    ];
-    for (text, state, port, canonical) in rows {
+    for (text, state, port, canonical) in TABLES {
         expect_value(&rt, text, state, port, canonical)?;
     }
     Ok(())
@@ -83,7 +77,7 @@ fn expect_refusal(rt: &(impl Abort + AllocGlobal), text: &str, refusal: &str) ->
         Ok(_) => return Err("a table".into()),
         Err(answer) => {
             let answer = format!(in rt.alloc(); "{answer:?}")?;
-            assert_eq!(rt; answer.as_str(), refusal, "at {text:?}");
+            same_text(rt, answer.as_str(), refusal, text);
         }
     }
     Ok(())
@@ -131,7 +125,7 @@ fn tables_stay_within_the_limits(rt: HostRuntime) -> Result<(), Fail> {
     for (pattern, times) in [("p#a#=1", 63), ("p=#<##>#", 100), ("p=<1#,1#>", 65_535)] {
         let text = series(rt.alloc(), pattern, times)?;
         let read = read_inputs(rt.alloc(), text.as_bytes());
-        assert!(rt; read.is_ok(), "{pattern}");
+        holds(&rt, read.is_ok(), pattern);
     }
     let longer = series(rt.alloc(), "p#a#=1", 64)?;
     expect_refusal(&rt, longer.as_str(), "BadLine { line: 1 }")?;

@@ -11,11 +11,16 @@ use tp_step::Shows;
 use tp_store::Store;
 use tp_value::{Facts, Globals, Indices, Items, NoMemory, Path, Text, Value, VarId};
 
-/// One file.
-pub fn contents(alloc: Global, name: &str, bytes: &[u8]) -> Result<Vec<Content>, NoMemory> {
+/// A file.
+pub fn content(alloc: Global, name: &str, bytes: &[u8]) -> Result<Content, NoMemory> {
     let name = Text::from_slice(alloc, name.as_bytes())?;
     let bytes = Text::from_slice(alloc, bytes)?;
-    let all = vec![in alloc; Content { name, bytes }]?;
+    Ok(Content { name, bytes })
+}
+
+/// One file.
+pub fn contents(alloc: Global, name: &str, bytes: &[u8]) -> Result<Vec<Content>, NoMemory> {
+    let all = vec![in alloc; content(alloc, name, bytes)?]?;
     Ok(all)
 }
 
@@ -37,13 +42,9 @@ pub fn path(alloc: Global, number: u64, at: &[u32]) -> Result<Path, NoMemory>
 // Writes a piece so many times.
 fn repeat(alloc: Global, piece: &str, times: u32, out: &mut String) -> Result<(), NoMemory> {
     for k in 0..times {
-        for letter in piece.chars() {
-            if letter == '@' {
-                out.push_str(format!(in alloc; "{k}")?.as_str())?;
-            } else {
-                out.push(letter)?;
-            }
-        }
+        let number = format!(in alloc; "{k}")?;
+        let piece = piece.replace(alloc, '@', number.as_str())?;
+        out.push_str(piece.as_str())?;
     }
     Ok(())
 }
@@ -82,15 +83,22 @@ pub fn sixes(alloc: Global, count: usize) -> Result<Value, NoMemory> {
     Ok(Value::List(Items { items }))
 }
 
-/// The state variable A alone.
-pub fn one_variable(alloc: Global) -> Result<Store, NoMemory>
-    ensures { IfOk result (λ store. store.variables ≡ global_variable (65 ∷ []) ∷ []) }
+/// The name A alone.
+pub fn one_name(alloc: Global) -> Result<Globals, NoMemory>
+    ensures { IfOk result (λ globals. globals ≡ (65 ∷ []) ∷ []) }
 {
     let mut globals = Globals::new(alloc)?;
     let name = Text::from_slice(alloc, b"A".as_slice())?;
     globals.add(&name)?;
-    let store = Store::new(alloc, &globals)?;
-    Ok(store)
+    Ok(globals)
+}
+
+/// The state variable A alone.
+pub fn one_variable(alloc: Global) -> Result<Store, NoMemory>
+    ensures { IfOk result (λ store. store.variables ≡ global_variable (65 ∷ []) ∷ []) }
+{
+    let globals = one_name(alloc)?;
+    Store::new(alloc, &globals)
 }
 
 /// A picture of nothing.

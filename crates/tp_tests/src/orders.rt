@@ -3,6 +3,7 @@ ghost use Rattle.std.specs.Prelude.{◌≡◌, ◌<◌};
 ghost use Rattle.tp_meaning.specs.Fits.{ProgramFits};
 ghost use Rattle.tp_check.specs.Program.{program_tree};
 
+use crate::expected::{same_bytes, same_text};
 use crate::sources::program_of;
 use crate::steps::begin;
 use crate::told::told_source;
@@ -75,7 +76,7 @@ fn each_order_has_its_picks(rt: HostRuntime) -> Result<(), Fail> {
     for (source, order, room, expected) in PICKS {
         let picked = picks_of(alloc, source, Course { order, room })?;
         let text = format!(in alloc; "{:?}", picked.items.as_slice())?;
-        assert_eq!(rt; text.as_str(), expected, "for {source} {order:?}");
+        same_text(&rt, text.as_str(), expected, source);
     }
     Ok(())
 }
@@ -101,7 +102,7 @@ fn each_order_tells_the_same(rt: HostRuntime) -> Result<(), Fail> {
     let alloc = rt.alloc();
     for source in SOURCES.trim().lines() {
         let first = told_source(alloc, source, "", Order::First)?;
-        let first = str::from_utf8(first.as_slice());
+        let first = str::from_utf8(first.as_slice()).ok().ok_or("no text")?;
         for order in [
             Order::Last,
             Order::Seed(0),
@@ -109,11 +110,7 @@ fn each_order_tells_the_same(rt: HostRuntime) -> Result<(), Fail> {
             Order::Seed(u64::MAX),
         ] {
             let other = told_source(alloc, source, "", order)?;
-            assert_eq!(rt;
-                str::from_utf8(other.as_slice()),
-                first,
-                "for {source} {order:?}"
-            );
+            same_bytes(&rt, other.as_slice(), first, source);
         }
     }
     Ok(())

@@ -1,4 +1,5 @@
 // The outcomes of expressions, row by row.
+use crate::expected::same_text;
 use crate::making::{nested, one_variable, path, sixes};
 use crate::tables::cut;
 use std::alloc::Global;
@@ -16,7 +17,7 @@ fn no_definitions(alloc: Global) -> Defs {
 }
 
 // A is a list of three items, of which the first is 5 and of the second nothing is known; the third is an empty list.
-pub fn known_state(alloc: Global) -> Result<Store, Fail> {
+fn known_state(alloc: Global) -> Result<Store, Fail> {
     let mut store = one_variable(alloc)?;
     store.add_length(&path(alloc, 0, &[])?, 3)?;
     store.add(&path(alloc, 0, &[0])?, &Value::Num(5))?;
@@ -25,7 +26,7 @@ pub fn known_state(alloc: Global) -> Result<Store, Fail> {
 }
 
 // Bound names: a list of two numbers, the place of A's second item, and a place with 100 indices.
-pub fn environment(alloc: Global) -> Result<Env, NoMemory> {
+fn environment(alloc: Global) -> Result<Env, NoMemory> {
     let items = vec![in alloc;
         Binding::Known(Rc::new(alloc, sixes(alloc, 2)?)?),
         Binding::Place(path(alloc, 0, &[1])?),
@@ -176,7 +177,7 @@ pub fn read(alloc: Global, text: &[u8]) -> Result<Expr, Fail> {
     top(&mut stack)
 }
 
-pub fn outcome_text(alloc: Global, outcome: Outcome) -> Result<String, Fail> {
+fn outcome_text(alloc: Global, outcome: Outcome) -> Result<String, Fail> {
     let text = match outcome {
         Outcome::Value(Value::Num(n)) => format!(in alloc; "{n}")?,
         Outcome::Value(Value::Truth(b)) => format!(in alloc; "{b}")?,
@@ -188,30 +189,53 @@ pub fn outcome_text(alloc: Global, outcome: Outcome) -> Result<String, Fail> {
     Ok(text)
 }
 
-fn value_text(alloc: Global, e: &Expr) -> Result<String, Fail> {
+// What expressions are evaluated in.
+#[derive(Drop)]
+struct Place {
+    store: Store,
+    env: Env,
+}
+
+fn place_in(alloc: Global) -> Result<Place, Fail> {
     let store = known_state(alloc)?;
     let env = environment(alloc)?;
-    let defs = no_definitions(alloc);
-    let outcome = eval(alloc, e, &env, &store, &defs)?;
+    Ok(Place { store, env })
+}
+
+/// The outcome of the expression where these definitions stand.
+pub fn value_where(alloc: Global, e: &Expr, defs: Defs) -> Result<String, Fail> {
+    let at = place_in(alloc)?;
+    let outcome = eval(alloc, e, &at.env, &at.store, &defs)?;
     outcome_text(alloc, outcome)
 }
 
-fn place_text(alloc: Global, e: &Expr) -> Result<String, Fail> {
-    let store = known_state(alloc)?;
-    let env = environment(alloc)?;
-    let defs = no_definitions(alloc);
-    if !is_place(e) {
-        let text = format!(in alloc; "no place")?;
-        return Ok(text);
-    }
-    let found = place(alloc, e, &env, &store, &defs)?;
+fn value_text(alloc: Global, e: &Expr) -> Result<String, Fail> {
+    value_where(alloc, e, no_definitions(alloc))
+}
+
+fn found_text(alloc: Global, found: PlaceOutcome) -> Result<String, Fail> {
     match found {
         PlaceOutcome::Place(path) => {
-            let text = format!(in alloc; "place at {}", path.at.items.len())?;
+            let text = format!(in alloc; "place at {:?}", path.at.items.as_slice())?;
             Ok(text)
         }
         PlaceOutcome::Other(outcome) => outcome_text(alloc, outcome),
     }
+}
+
+/// The same of a place.
+pub fn place_where(alloc: Global, e: &Expr, defs: Defs) -> Result<String, Fail> {
+    if !is_place(e) {
+        let text = format!(in alloc; "no place")?;
+        return Ok(text);
+    }
+    let at = place_in(alloc)?;
+    let found = place(alloc, e, &at.env, &at.store, &defs)?;
+    found_text(alloc, found)
+}
+
+fn place_text(alloc: Global, e: &Expr) -> Result<String, Fail> {
+    place_where(alloc, e, no_definitions(alloc))
 }
 
 const VALUES: &str = "
@@ -291,9 +315,9 @@ d0@ => over List
 const PLACES: &str = "
 1 => no place
 10@ => no place
-A => place at 0
-Ax@ => place at 1
-c0@ => place at 2
+A => place at []
+Ax@ => place at [65535]
+c0@ => place at [1, 0]
 b1@ => 6
 b2@ => NoElement
 A10/@ => ZeroDivisor
@@ -305,7 +329,7 @@ fn expressions_are_evaluated(rt: HostRuntime) -> Result<(), Fail> {
         let (spelled, expected) = cut(row, "=>")?;
         let e = read(rt.alloc(), spelled.as_bytes())?;
         let found = value_text(rt.alloc(), &e)?;
-        assert_eq!(rt; found.as_str(), expected, "for {spelled}");
+        same_text(&rt, found.as_str(), expected, spelled);
     }
     Ok(())
 }
@@ -316,7 +340,7 @@ fn places_are_found(rt: HostRuntime) -> Result<(), Fail> {
         let (spelled, expected) = cut(row, "=>")?;
         let e = read(rt.alloc(), spelled.as_bytes())?;
         let found = place_text(rt.alloc(), &e)?;
-        assert_eq!(rt; found.as_str(), expected, "for {spelled}");
+        same_text(&rt, found.as_str(), expected, spelled);
     }
     Ok(())
 }
@@ -342,7 +366,8 @@ const DEPTHS: [(usize, &str); 4] = [
 fn depths_are_limited(rt: HostRuntime) -> Result<(), Fail> {
     for (count, expected) in &DEPTHS {
         let e = negated(rt.alloc(), *count)?;
-        assert_eq!(rt; value_text(rt.alloc(), &e)?.as_str(), *expected, "{count}");
+        let found = value_text(rt.alloc(), &e)?;
+        same_text(&rt, found.as_str(), expected, "negations");
     }
     Ok(())
 }

@@ -1,4 +1,5 @@
 // Each text is parsed to the tree or the refusal that it means.
+use crate::expected::same_bytes;
 use crate::making::series;
 use crate::sources::tokens_of;
 use crate::tables::{cut, number};
@@ -25,11 +26,7 @@ fn sources_are_parsed(rt: HostRuntime) -> Result<(), Fail> {
         for row in table.trim().lines() {
             let (text, expected) = cut(row, "=>")?;
             let found = outcome(rt.alloc(), text, places)?;
-            assert_eq!(rt;
-                str::from_utf8(found.as_slice()),
-                Ok(expected),
-                "for {text}"
-            );
+            same_bytes(&rt, found.as_slice(), expected, text);
         }
     }
     Ok(())
@@ -42,11 +39,7 @@ fn deep_sources_are_parsed(rt: HostRuntime) -> Result<(), Fail> {
         let (pattern, expected) = cut(row, "=>")?;
         let text = series(rt.alloc(), pattern, number(times)?)?;
         let found = outcome(rt.alloc(), text.as_str(), false)?;
-        assert_eq!(rt;
-            str::from_utf8(found.as_slice()),
-            Ok(expected),
-            "for {text}"
-        );
+        same_bytes(&rt, found.as_slice(), expected, pattern);
     }
     Ok(())
 }

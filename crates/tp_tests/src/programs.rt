@@ -1,4 +1,5 @@
 // Each source is checked to the program or the refusal that it means.
+use crate::expected::same_bytes;
 use crate::sources::source_of;
 use crate::spelling::{spell, spell_expr};
 use crate::tables::cut;
@@ -378,11 +379,7 @@ fn sources_are_checked(rt: HostRuntime) -> Result<(), Fail> {
         for row in table.trim().lines() {
             let (text, expected) = cut(row, "=>")?;
             let found = outcome(rt.alloc(), text)?;
-            assert_eq!(rt;
-                str::from_utf8(found.as_slice()),
-                Ok(expected),
-                "for {text}"
-            );
+            same_bytes(&rt, found.as_slice(), expected, text);
         }
     }
     Ok(())

@@ -52,6 +52,12 @@ fn said(alloc: Global, picture: &Picture, run: &Run, out: &mut String) -> Result
     Ok(())
 }
 
+fn ended(alloc: Global, turn: &Turn, again: &Turn, out: &mut String) -> Result<(), NoMemory> {
+    let end = format!(in alloc; "{turn:?} {again:?}")?;
+    out.push_str(end.as_str())?;
+    Ok(())
+}
+
 // The states of a run, of at most nine, and its end, which is answered twice.
 fn history<L: Ledger>(
     alloc: Global,
@@ -75,8 +81,7 @@ fn history<L: Ledger>(
         said(alloc, &picture, &run, &mut text)?;
         if !matches!(turn, Turn::Went) {
             let again = run.state(&mut picture, &mut steps)?;
-            let end = format!(in alloc; "{turn:?} {again:?}")?;
-            text.push_str(end.as_str())?;
+            ended(alloc, &turn, &again, &mut text)?;
             return Ok(text);
         }
     }
@@ -211,7 +216,7 @@ fn expect_rows(rt: &(impl Abort + AllocGlobal), table: &str) -> Result<(), Fail>
         let text = told_history(rt.alloc(), source, limits_of(limits)?)?;
         let (made, end) = cut(row, "\n")?;
         let expected = format!(in rt.alloc(); "{made} {end} {end}")?;
-        assert_eq!(rt; text.as_str(), expected.as_str(), "for {source}");
+        same_text(rt, text.as_str(), expected.as_str(), source);
     }
     Ok(())
 }

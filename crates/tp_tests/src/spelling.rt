@@ -193,6 +193,36 @@ fn append_start(alloc: Global, w: &Formula, out: &mut Text) -> Result<(), NoMemo
     }
 }
 
+// Leaves these to be written, the first one next.
+fn leave_exprs<'a>(all: &'a [Expr], left: &mut Vec<Piece<'a>>) -> Result<(), NoMemory> {
+    for e in all.iter().rev() {
+        left.push(Piece::Expr(e))?;
+    }
+    Ok(())
+}
+
+fn leave_operands<'a>(all: &[Option<&'a Expr>], left: &mut Vec<Piece<'a>>) -> Result<(), NoMemory> {
+    for operand in all.iter().rev() {
+        if let Some(e) = operand {
+            left.push(Piece::Expr(e))?;
+        }
+    }
+    Ok(())
+}
+
+// Leaves the formulas in a formula to be written, the first one next.
+fn leave_formulas<'a>(w: &'a Formula, left: &mut Vec<Piece<'a>>) -> Result<(), NoMemory> {
+    for part in formula_items(w).iter().rev() {
+        left.push(Piece::Formula(part))?;
+    }
+    for part in formula_parts(w).iter().rev() {
+        if let Some(part) = part {
+            left.push(Piece::Formula(part))?;
+        }
+    }
+    Ok(())
+}
+
 // Writes an expression up to its operands, and leaves these to be written, the first one next.
 fn begin_expr<'a>(
     alloc: Global,
@@ -204,15 +234,8 @@ fn begin_expr<'a>(
     if expr_word(e).starts_with('(') {
         left.push(Piece::Close)?;
     }
-    for item in expr_items(e).iter().rev() {
-        left.push(Piece::Expr(item))?;
-    }
-    for operand in expr_operands(e).iter().rev() {
-        if let Some(operand) = operand {
-            left.push(Piece::Expr(operand))?;
-        }
-    }
-    Ok(())
+    leave_exprs(expr_items(e), left)?;
+    leave_operands(&expr_operands(e), left)
 }
 
 // The same of a formula.
@@ -226,23 +249,9 @@ fn begin_formula<'a>(
     if formula_word(w).starts_with('(') {
         left.push(Piece::Close)?;
     }
-    for part in formula_items(w).iter().rev() {
-        left.push(Piece::Formula(part))?;
-    }
-    for part in formula_parts(w).iter().rev() {
-        if let Some(part) = part {
-            left.push(Piece::Formula(part))?;
-        }
-    }
-    for operand in formula_exprs(w).iter().rev() {
-        if let Some(operand) = operand {
-            left.push(Piece::Expr(operand))?;
-        }
-    }
-    for argument in formula_arguments(w).iter().rev() {
-        left.push(Piece::Expr(argument))?;
-    }
-    Ok(())
+    leave_formulas(w, left)?;
+    leave_operands(&formula_exprs(w), left)?;
+    leave_exprs(formula_arguments(w), left)
 }
 
 // Writes what is left, cut off after 1,000 pieces.

@@ -7,10 +7,12 @@ ghost use Rattle.tp_decide.specs.Decided.{setting_of};
 ghost use Rattle.tp_slots.specs.Kept.{IsWellKept};
 ghost use Rattle.tp_step.specs.Answers.{moment_of};
 
+use crate::expected::same_text;
 use crate::sources::program_of;
-use crate::tables::{cut, number};
+use crate::tables::{number, parts};
 use std::alloc::Global;
 use std::marker::Brand;
+use std::process::Abort;
 use std::sync::ledger::{Blank, Ledger};
 use std::test::Fail;
 use tp_check::Program;
@@ -46,29 +48,6 @@ pub fn begin(alloc: Global, program: Program) -> Result<(Scene, Store, Setting),
     Ok((scene, store, setting))
 }
 
-// How many items and facts are new, and whether the region is marked.
-fn brought(alloc: Global, news: &News) -> Result<String, NoMemory> {
-    let mark = if news.marked.is_some() { "!" } else { "" };
-    let items = news.items.items.len();
-    let facts = news.facts.items.len();
-    let text = format!(in alloc; "{items}+{facts}{mark}")?;
-    Ok(text)
-}
-
-// That, or why the item isn't reduced.
-fn said(alloc: Global, tried: &Tried) -> Result<String, NoMemory> {
-    let word = match tried {
-        Tried::Reduced(news) => return brought(alloc, news),
-        Tried::Waits(_, _) => "waits",
-        Tried::Rests => "rests",
-        Tried::Clash(_) => "clash",
-        Tried::Missing(_) => "missing",
-        Tried::Over(_) => "over",
-    };
-    let text = format!(in alloc; "{word}")?;
-    Ok(text)
-}
-
 // How many items are live.
 fn count(alloc: Global, scene: &Scene) -> Result<usize, NoMemory>
     requires { IsWellKept scene.now }
@@ -78,14 +57,44 @@ fn count(alloc: Global, scene: &Scene) -> Result<usize, NoMemory>
     Ok(live.items.len())
 }
 
-// What the state has come to, the marks of the root and of the next two regions, and how many lists of values are shown.
-fn end(alloc: Global, scene: &Scene, out: &mut String) -> Result<(), Fail>
+// How many items and facts are new, whether the region is marked, and how many items are live.
+fn brought(alloc: Global, news: &News, live: usize) -> Result<String, NoMemory> {
+    let mark = if news.marked.is_some() { "!" } else { "" };
+    let items = news.items.items.len();
+    let facts = news.facts.items.len();
+    let text = format!(in alloc; "{items}+{facts}{mark} {live}, ")?;
+    Ok(text)
+}
+
+// The same, or why the item isn't reduced.
+fn said(alloc: Global, tried: &Tried, live: usize) -> Result<String, NoMemory> {
+    let word = match tried {
+        Tried::Reduced(news) => return brought(alloc, news, live),
+        Tried::Waits(_, _) => "waits",
+        Tried::Rests => "rests",
+        Tried::Clash(_) => "clash",
+        Tried::Missing(_) => "missing",
+        Tried::Over(_) => "over",
+    };
+    let text = format!(in alloc; "{word} {live}, ")?;
+    Ok(text)
+}
+
+// How many lists of values are shown.
+fn shown_count(alloc: Global, scene: &Scene) -> Result<usize, NoMemory>
     requires { IsWellKept scene.now }
 {
     let mut shows = Shows {
         items: Vec::new(alloc),
     };
     shown(alloc, scene, &mut shows)?;
+    Ok(shows.items.len())
+}
+
+// What the state has come to, the marks of the root and of the next two regions, and how many lists of values are shown.
+fn end(alloc: Global, scene: &Scene, out: &mut String) -> Result<(), Fail>
+    requires { IsWellKept scene.now }
+{
     let come_to = settled(alloc, scene)?;
     let root = mark(scene, 0).ok_or("no root")?;
     let text = format!(in alloc; "{come_to:?} {root:?}")?;
@@ -96,14 +105,39 @@ fn end(alloc: Global, scene: &Scene, out: &mut String) -> Result<(), Fail>
             out.push_str(text.as_str())?;
         }
     }
-    for _ in 0..shows.items.len() {
+    for _ in 0..shown_count(alloc, scene)? {
         out.push_str(" shown")?;
     }
     Ok(())
 }
 
-// Tries these items in order, with so many reductions left at each, and says of each what it answers, and how many items are live then; and what
-// the state has come to.
+// Tries this item with so many reductions left, and says what is answered, and how many items are live then.
+fn try_one<L: Ledger>(
+    scene: &mut Scene,
+    store: &mut Store,
+    item: u64,
+    setting: &Setting,
+    room: u64,
+    steps: &mut Steps<L>,
+) -> Result<String, Fail>
+    requires kept { IsWellKept scene.old }
+    requires sound { (kinds : List Bool)
+        × IsSound (setting_of setting.now) kinds (moment_of scene.old store.old) }
+    ensures kept { OnOk result (IsWellKept scene.new) }
+    ensures sound { OnOk result
+        ((kinds : List Bool)
+        × IsSound (setting_of setting.now) kinds (moment_of scene.new store.new)) }
+{
+    if !has_item(scene, item) {
+        return Err("no such item".into());
+    }
+    let tried = try_item(scene, item, store, setting, room, steps)?;
+    let live = count(setting.alloc, scene)?;
+    let text = said(setting.alloc, &tried, live)?;
+    Ok(text)
+}
+
+// Tries these items in order, and says what the state has come to.
 fn tries<L: Ledger>(
     scene: &mut Scene,
     store: &mut Store,
@@ -120,20 +154,13 @@ fn tries<L: Ledger>(
         ((kinds : List Bool)
         × IsSound (setting_of setting.now) kinds (moment_of scene.new store.new)) }
 {
-    let alloc = setting.alloc;
-    let mut out = String::new(alloc);
+    let mut out = String::new(setting.alloc);
     for digit in picks {
         let item = digit.saturating_sub(b'0') as u64;
-        if !has_item(scene, item) {
-            return Err("no such item".into());
-        }
-        let tried = try_item(scene, item, store, setting, room, steps)?;
-        let text = said(alloc, &tried)?;
-        let live = count(alloc, scene)?;
-        let text = format!(in alloc; "{text} {live}, ")?;
+        let text = try_one(scene, store, item, setting, room, steps)?;
         out.push_str(text.as_str())?;
     }
-    end(alloc, scene, &mut out)?;
+    end(setting.alloc, scene, &mut out)?;
     Ok(out)
 }
 
@@ -159,6 +186,23 @@ fn go_on(scene: Scene, store: &mut Store, setting: &mut Setting) -> Result<Scene
     }
 }
 
+// The second state of a run.
+fn tell_next<L: Ledger>(
+    scene: Scene,
+    store: &mut Store,
+    picks: &[u8],
+    setting: &mut Setting,
+    room: u64,
+    steps: &mut Steps<L>,
+) -> Result<String, Fail>
+    requires kept { IsWellKept scene }
+    requires sound { (kinds : List Bool)
+        × IsSound (setting_of setting.old) kinds (moment_of scene store.old) }
+{
+    let mut next = go_on(scene, store, setting)?;
+    tries(&mut next, store, picks, setting, room, steps)
+}
+
 // The first state of a run, and the second one where there are picks for it.
 fn told<L: Ledger>(
     alloc: Global,
@@ -179,8 +223,7 @@ fn told<L: Ledger>(
     let Some(second) = second else {
         return Ok(out);
     };
-    let mut next = go_on(scene, &mut store, &mut setting)?;
-    let then = tries(&mut next, &mut store, second, &setting, room, &mut steps)?;
+    let then = tell_next(scene, &mut store, second, &mut setting, room, &mut steps)?;
     out.push_str(" then ")?;
     out.push_str(then.as_str())?;
     Ok(out)
@@ -269,30 +312,42 @@ run skip proj skip. | 01245 | 0124 | \
     2+0 2, 1+0! 2, 3+0 4, 1+0! 4, 0+0! 3, Goes Goes 1:Goes 2:Goes then 0+0! 1, 3+0 3, 0+0! 2, rests 2, Ends Ends 1:Ends 2:Ends
 ";
 
+fn expect(rt: &(impl Abort + AllocGlobal), row: &str) -> Result<(), Fail> {
+    let row = parts(rt.alloc(), row, '|')?;
+    let [source, picks, room, expected] = row.as_slice() else {
+        return Err("no row".into());
+    };
+    let room = u64::from(number(room)?);
+    let text = told_items(rt.alloc(), source, picks.as_bytes(), room, None)?;
+    same_text(rt, text.as_str(), expected, source);
+    Ok(())
+}
+
 #[test]
 fn items_are_reduced(rt: HostRuntime) -> Result<(), Fail> {
     for table in [KINDS, MEETINGS, REGIONS] {
         for row in table.trim().lines() {
-            let (source, row) = cut(row, "|")?;
-            let (picks, row) = cut(row, "|")?;
-            let (room, expected) = cut(row, "|")?;
-            let room = u64::from(number(room)?);
-            let text = told_items(rt.alloc(), source, picks.as_bytes(), room, None)?;
-            assert_eq!(rt; text.as_str(), expected, "for {source}");
+            expect(&rt, row)?;
         }
     }
+    Ok(())
+}
+
+fn expect_next(rt: &(impl Abort + AllocGlobal), row: &str) -> Result<(), Fail> {
+    let row = parts(rt.alloc(), row, '|')?;
+    let [source, first, second, expected] = row.as_slice() else {
+        return Err("no row".into());
+    };
+    let second = Some(second.as_bytes());
+    let text = told_items(rt.alloc(), source, first.as_bytes(), 9, second)?;
+    same_text(rt, text.as_str(), expected, source);
     Ok(())
 }
 
 #[test]
 fn a_state_goes_on(rt: HostRuntime) -> Result<(), Fail> {
     for row in STATES.trim().lines() {
-        let (source, row) = cut(row, "|")?;
-        let (first, row) = cut(row, "|")?;
-        let (second, expected) = cut(row, "|")?;
-        let second = Some(second.as_bytes());
-        let text = told_items(rt.alloc(), source, first.as_bytes(), 9, second)?;
-        assert_eq!(rt; text.as_str(), expected, "for {source}");
+        expect_next(&rt, row)?;
     }
     Ok(())
 }

@@ -2,8 +2,9 @@
 ghost use Rattle.std.specs.Prelude.{◌≡◌, ◌∷◌, [], IfOk, false};
 ghost use Rattle.tp_store.specs.Known.{IsVariableOf, global_variable};
 
+use crate::expected::{holds, same_number, same_text};
 use crate::making::{nested, one_variable, path, sixes};
-use crate::tables::{cut, number};
+use crate::tables::{cut, number, parts};
 use std::alloc::Global;
 use std::process::Abort;
 use std::test::Fail;
@@ -93,32 +94,32 @@ fn known(alloc: Global, known: &Known) -> Result<String, NoMemory> {
 
 // A place, what is added there, what the store says when it is asked and when it is done, and a place and what is known there then.
 const FILLED: &str = "
-A[1] | number 7 => free | 1 new => A | open at []
-A | length 1 => 1 against 0 | 1 against 0 => A | open at []
-A | length 2 => free | 1 new => A | open at [0]
-A | length 2 => free | 0 new => A | open at [0]
-A[2] | number 7 => 0 against 1 | 0 against 1 => A[2] | absent
-A[0] | number 8 => free | 1 new => A | known
-A[1] | number 8 => 1 against 1 | 1 against 1 => A | known
-A | number 8 => 0 against 0 | 0 against 0 => A | known
+A[1] | number 7 | free | 1 new | A | open at []
+A | length 1 | 1 against 0 | 1 against 0 | A | open at []
+A | length 2 | free | 1 new | A | open at [0]
+A | length 2 | free | 0 new | A | open at [0]
+A[2] | number 7 | 0 against 1 | 0 against 1 | A[2] | absent
+A[0] | number 8 | free | 1 new | A | known
+A[1] | number 8 | 1 against 1 | 1 against 1 | A | known
+A | number 8 | 0 against 0 | 0 against 0 | A | known
 ";
 
 const LISTED: &str = "
-A | sixes 2 => free | 3 new => A[1] | known
-A[0] | number 6 => free | 0 new => A[0][0] | absent
-A[0] | truth 1 => 1 against 1 | 1 against 1 => A[2] | absent
+A | sixes 2 | free | 3 new | A[1] | known
+A[0] | number 6 | free | 0 new | A[0][0] | absent
+A[0] | truth 1 | 1 against 1 | 1 against 1 | A[2] | absent
 ";
 
 const TOLD: &str = "
-A | truth 1 => free | 1 new => A | known
-A | truth 1 => free | 0 new => A[0] | absent
-A | truth 0 => 0 against 0 | 0 against 0 => A | known
+A | truth 1 | free | 1 new | A | known
+A | truth 1 | free | 0 new | A[0] | absent
+A | truth 0 | 0 against 0 | 0 against 0 | A | known
 ";
 
 // One list, at most 100 deep, is a value; deeper ones are too long.
-const DEEP: &str = "A | nested 100 => free | 101 new => A | known";
+const DEEP: &str = "A | nested 100 | free | 101 new | A | known";
 
-const DEEPER: &str = "A | nested 101 => free | 102 new => A | too long";
+const DEEPER: &str = "A | nested 101 | free | 102 new | A | too long";
 
 // The place of the variable A that is written so.
 fn place(alloc: Global, text: &str) -> Result<Path, Fail>
@@ -160,9 +161,9 @@ fn expect_added(
     let here = place(rt.alloc(), at)?;
     let adding = thing_to_add(adding)?;
     let found = ask(rt.alloc(), store, &here, adding);
-    assert_eq!(rt; asked(rt.alloc(), found)?.as_str(), free);
+    same_text(rt, asked(rt.alloc(), found)?.as_str(), free, at);
     let news = put(rt.alloc(), store, &here, adding);
-    assert_eq!(rt; answered(rt.alloc(), news)?.as_str(), answer);
+    same_text(rt, answered(rt.alloc(), news)?.as_str(), answer, at);
     Ok(())
 }
 
@@ -176,7 +177,7 @@ fn expect_known(
 {
     let there = place(rt.alloc(), at)?;
     let found = store.full(&there)?;
-    assert_eq!(rt; known(rt.alloc(), &found)?.as_str(), text);
+    same_text(rt, known(rt.alloc(), &found)?.as_str(), text, at);
     Ok(())
 }
 
@@ -185,13 +186,12 @@ fn expect(rt: &(impl Abort + AllocGlobal), store: &mut Store, row: &str) -> Resu
     requires { store.old.variables ≡ global_variable (65 ∷ []) ∷ [] }
     ensures { store.new.variables ≡ store.old.variables }
 {
-    let (adding, row) = cut(row, "=>")?;
-    let (answers, there) = cut(row, "=>")?;
-    let (at, adding) = cut(adding, "|")?;
-    let (free, answer) = cut(answers, "|")?;
+    let row = parts(rt.alloc(), row, '|')?;
+    let [at, adding, free, answer, there, text] = row.as_slice() else {
+        return Err("no row".into());
+    };
     expect_added(rt, store, at, adding, free, answer)?;
-    let (at, text) = cut(there, "|")?;
-    expect_known(rt, store, at, text)
+    expect_known(rt, store, there, text)
 }
 
 #[test]
@@ -206,20 +206,27 @@ fn facts_are_added(rt: HostRuntime) -> Result<(), Fail> {
 }
 
 #[test]
+fn locals_are_named(rt: HostRuntime) -> Result<(), Fail> {
+    let mut store = one_variable(rt.alloc())?;
+    let name = Text::from_slice(rt.alloc(), b"b")?;
+    let local = store.fresh(&name, true)?;
+    same_number(&rt, local.number, 1, "a local");
+    holds(&rt, store.name(local).is_some(), "a local has a name");
+    Ok(())
+}
+
+#[test]
 fn states_go_on(rt: HostRuntime) -> Result<(), Fail> {
     let alloc = rt.alloc();
     let mut store = one_variable(alloc)?;
-    let local = store.fresh(&Text::from_slice(alloc, b"b")?, true)?;
-    assert_eq!(rt; local.number, 1);
-    assert!(rt; store.name(local).is_some());
     let here = path(alloc, 0, &[])?;
     put(alloc, &mut store, &here, Num(3))?;
     let mut facts = Facts {
         items: Vec::new(alloc),
     };
     store.facts(1, &mut facts)?;
-    assert_eq!(rt; facts.items.len(), 1);
+    same_number(&rt, facts.items.len() as u64, 1, "A=3");
     store.next_state();
-    assert!(rt; store.shape(&here).is_none());
+    holds(&rt, store.shape(&here).is_none(), "the next state");
     Ok(())
 }

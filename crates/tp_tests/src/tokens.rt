@@ -1,4 +1,5 @@
 // Texts and their tokens, refusals and places.
+use crate::expected::{holds, same_text};
 use crate::making::series;
 use crate::sources::tokens_of;
 use crate::tables::cut;
@@ -50,14 +51,16 @@ ifx if run_ => 100 0 100
 fn reads_texts(rt: HostRuntime) -> Result<(), Fail> {
     for (text, times) in [(WORDS, 35), (SYMBOLS, 22)] {
         let expected = series(rt.alloc(), "#@ #", times)?;
-        assert_eq!(rt; numbers(rt.alloc(), text)?.as_str(), expected.as_str());
+        let found = numbers(rt.alloc(), text)?;
+        same_text(&rt, found.as_str(), expected.as_str(), text);
     }
     for row in READ.trim().lines() {
         let (text, expected) = cut(row, "=>")?;
         let found = numbers(rt.alloc(), text)?;
-        assert_eq!(rt; found.as_str().trim(), expected, "for {text}");
+        same_text(&rt, found.as_str().trim(), expected, text);
     }
-    assert_eq!(rt; numbers(rt.alloc(), " \t\r\n/* run */ /**/")?.as_str(), "");
+    let found = numbers(rt.alloc(), " \t\r\n/* run */ /**/")?;
+    same_text(&rt, found.as_str(), "", "blanks");
     Ok(())
 }
 
@@ -77,7 +80,7 @@ fn expect_refusal(rt: &(impl Abort + AllocGlobal), text: &str, refusal: &str) ->
         Ok(_) => return Err("tokens".into()),
         Err(answer) => {
             let answer = format!(in rt.alloc(); "{answer:?}")?;
-            assert_eq!(rt; answer.as_str(), refusal, "for {text}");
+            same_text(rt, answer.as_str(), refusal, text);
         }
     }
     Ok(())
@@ -90,29 +93,36 @@ fn refuses_texts(rt: HostRuntime) -> Result<(), Fail> {
         expect_refusal(&rt, text, refusal)?;
     }
     let longest = series(rt.alloc(), "#n#", 64)?;
-    assert!(rt; tokens_of(rt.alloc(), longest.as_bytes()).is_ok());
+    holds(
+        &rt,
+        tokens_of(rt.alloc(), longest.as_bytes()).is_ok(),
+        "a name",
+    );
     let longer = series(rt.alloc(), "#n#", 65)?;
     expect_refusal(&rt, longer.as_str(), "NameTooLong { at: 0 }")
 }
 
 // A place in the text, its line and its column.
-fn expect_place(rt: &(impl Abort + AllocGlobal), text: &[u8], at: usize, place: (u32, u32)) {
-    assert!(rt; at <= text.len());
-    assert!(rt; text.len() <= 100);
-    assert_eq!(rt; place_of(text, at), place);
+fn expect_place(rt: &impl Abort, text: &[u8], at: usize, place: (u32, u32)) -> Result<(), Fail> {
+    if at > text.len() || text.len() > 100 {
+        return Err("past the end".into());
+    }
+    holds(rt, place_of(text, at) == place, "a place");
+    Ok(())
 }
 
 #[test]
 fn tells_places(rt: HostRuntime) -> Result<(), Fail> {
     let text = b"a\n\nb c".as_slice();
-    expect_place(&rt, text, 0, (1, 1));
-    expect_place(&rt, text, 1, (1, 2));
-    expect_place(&rt, text, 2, (2, 1));
-    expect_place(&rt, text, 3, (3, 1));
-    expect_place(&rt, text, 5, (3, 3));
-    expect_place(&rt, text, 6, (3, 4));
+    expect_place(&rt, text, 0, (1, 1))?;
+    expect_place(&rt, text, 1, (1, 2))?;
+    expect_place(&rt, text, 2, (2, 1))?;
+    expect_place(&rt, text, 3, (3, 1))?;
+    expect_place(&rt, text, 5, (3, 3))?;
+    expect_place(&rt, text, 6, (3, 4))?;
     let found = tokens_of(rt.alloc(), text)?;
     let last = found.items.last().ok_or("a token")?;
-    assert_eq!(rt; (last.from, last.to, last.line, last.column), (5, 6, 3, 3));
+    let place = (last.from, last.to, last.line, last.column);
+    holds(&rt, place == (5, 6, 3, 3), "c");
     Ok(())
 }

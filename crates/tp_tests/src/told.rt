@@ -7,6 +7,7 @@ ghost use Rattle.tp_run.specs.States.{Plan};
 ghost use Rattle.tp_show.specs.Parts.{line_parts};
 ghost use Rattle.tp_show.specs.Read.{plain_parts};
 
+use crate::expected::same_bytes;
 use crate::making::no_picture;
 use crate::sources::program_of;
 use std::alloc::Global;
@@ -91,7 +92,7 @@ fn expect(
     text: &str,
 ) -> Result<(), Fail> {
     let found = told_source(rt.alloc(), source, table, Order::First)?;
-    assert_eq!(rt; str::from_utf8(found.as_slice()), Ok(text), "for {source}");
+    same_bytes(rt, found.as_slice(), text, source);
     Ok(())
 }
 

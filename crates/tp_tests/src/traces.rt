@@ -34,10 +34,7 @@ fn told(alloc: Global, trace: &Trace) -> Result<String, Fail> {
 
 // The text with a line feed for each `;`.
 fn lines(alloc: Global, text: &str) -> Result<String, NoMemory> {
-    let mut out = String::new(alloc);
-    for letter in text.chars() {
-        out.push(if letter == ';' { '\n' } else { letter })?;
-    }
+    let out = text.replace(alloc, ';', "\n")?;
     Ok(out)
 }
 

@@ -1,87 +1,74 @@
 // The answers of runs: their end lines and their copies.
-use crate::making::{one_variable, path};
+use crate::expected::same_bytes;
+use crate::making::{one_name, one_variable, path};
 use std::alloc::Global;
 use std::process::Abort;
 use std::test::Fail;
 use tp_kernel::{FaultKind, LimitKind};
 use tp_show::{Cell, Clash, Turn, end_text};
-use tp_value::{Fact, Globals, NoMemory, Shape, Text};
+use tp_value::{Fact, NoMemory, Shape, Text};
 
 fn fact(alloc: Global, at: &[u32], shape: Shape) -> Result<Fact, NoMemory> {
     let path = path(alloc, 0, at)?;
     Ok(Fact { path, shape })
 }
 
-// Two facts, the later one first, and how they are told.
-fn clashes(alloc: Global) -> Result<Vec<(Fact, Fact, &'static str)>, NoMemory> {
-    let all = vec![in alloc;
-        (
-            fact(alloc, &[], Shape::Num(2))?,
-            fact(alloc, &[], Shape::Num(-1))?,
-            "A=-1 and A=2"
-        ),
-        (
-            fact(alloc, &[0, 1], Shape::Truth(true))?,
-            fact(alloc, &[0, 1], Shape::Truth(false))?,
-            "A[0][1]=false and A[0][1]=true"
-        ),
-        (
-            fact(alloc, &[], Shape::Truth(false))?,
-            fact(alloc, &[], Shape::Num(5))?,
-            "A=5 and A=false"
-        ),
-        (
-            fact(alloc, &[], Shape::Items(0))?,
-            fact(alloc, &[], Shape::Truth(true))?,
-            "A=true and |A|=0"
-        ),
-        (
-            fact(alloc, &[], Shape::Items(3))?,
-            fact(alloc, &[], Shape::Items(2))?,
-            "|A|=2 and |A|=3"
-        ),
-        (
-            fact(alloc, &[2], Shape::Num(1))?,
-            fact(alloc, &[], Shape::Items(2))?,
-            "|A|=2 and A[2]=1"
-        ),
-    ]?;
-    Ok(all)
-}
+// The places and the shapes of two facts, the later one first, and how they are told.
+const FACTS: [(&[u32], Shape, &[u32], Shape, &str); 6] = [
+    (&[], Shape::Num(2), &[], Shape::Num(-1), "A=-1 and A=2"),
+    (
+        &[0, 1],
+        Shape::Truth(true),
+        &[0, 1],
+        Shape::Truth(false),
+        "A[0][1]=false and A[0][1]=true",
+    ),
+    (
+        &[],
+        Shape::Truth(false),
+        &[],
+        Shape::Num(5),
+        "A=5 and A=false",
+    ),
+    (
+        &[],
+        Shape::Items(0),
+        &[],
+        Shape::Truth(true),
+        "A=true and |A|=0",
+    ),
+    (
+        &[],
+        Shape::Items(3),
+        &[],
+        Shape::Items(2),
+        "|A|=2 and |A|=3",
+    ),
+    (
+        &[2],
+        Shape::Num(1),
+        &[],
+        Shape::Items(2),
+        "|A|=2 and A[2]=1",
+    ),
+];
 
-// Answers with their end lines, where a state has at most 1000 reductions.
-fn ends(alloc: Global) -> Result<Vec<(Turn, &'static str)>, NoMemory> {
-    let port = Text::from_slice(alloc, b"p")?;
-    let part = Cell::Part(path(alloc, 0, &[1])?);
-    let end = Cell::End {
-        region: 3,
-        depth: 2,
-    };
-    let all = vec![in alloc;
-        (Turn::Went, ""),
-        (Turn::Finished { length: 3 }, "finished: length 3\n"),
-        (
-            Turn::Undetermined {
-                state: 0,
-                cell: part
+// The end lines of answers without a place, where a state has at most 1000 reductions.
+const ENDS: [(Turn, &str); 4] = [
+    (Turn::Went, ""),
+    (Turn::Finished { length: 3 }, "finished: length 3\n"),
+    (
+        Turn::Undetermined {
+            state: 4,
+            cell: Cell::End {
+                region: 3,
+                depth: 2,
             },
-            "undetermined: state 0: A[1]\n"
-        ),
-        (
-            Turn::Undetermined {
-                state: 4,
-                cell: end
-            },
-            "undetermined: state 4: end at depth 2\n"
-        ),
-        (Turn::StateLimit { states: 3 }, "state limit: 3\n"),
-        (
-            Turn::InputMissing { state: 1, port },
-            "input missing: state 1: port p\n"
-        ),
-    ]?;
-    Ok(all)
-}
+        },
+        "undetermined: state 4: end at depth 2\n",
+    ),
+    (Turn::StateLimit { states: 3 }, "state limit: 3\n"),
+];
 
 const CLASHES: [(Clash, &str); 5] = [
     (Clash::Marks { depth: 1 }, "ends and goes on at depth 1"),
@@ -105,22 +92,28 @@ const LIMITS: [(LimitKind, &str); 5] = [
     (LimitKind::Nest, "nest limit: state 2\n"),
 ];
 
+// The end line of a run's answer.
+fn end_line(alloc: Global, turn: &Turn) -> Result<Text, NoMemory> {
+    let globals = one_name(alloc)?;
+    let store = one_variable(alloc)?;
+    let mut line = Text::new(alloc);
+    end_text(turn, &store, &globals, 1000, &mut line)?;
+    Ok(line)
+}
+
 // The end line of the answer, and that of its copy.
 fn expect(rt: &(impl Abort + AllocGlobal), turn: &Turn, text: &str) -> Result<(), Fail> {
-    let mut globals = Globals::new(rt.alloc())?;
-    globals.add(&Text::from_slice(rt.alloc(), b"A")?)?;
-    let store = one_variable(rt.alloc())?;
-    for turn in [turn, &turn.copy()?] {
-        let mut line = Text::new(rt.alloc());
-        end_text(turn, &store, &globals, 1000, &mut line)?;
-        assert_eq!(rt; line.as_slice(), text.as_bytes(), "for {turn:?}");
-    }
+    let line = end_line(rt.alloc(), turn)?;
+    same_bytes(rt, line.as_slice(), text, "an end");
+    let copy = turn.copy()?;
+    let line = end_line(rt.alloc(), &copy)?;
+    same_bytes(rt, line.as_slice(), text, "its copy");
     Ok(())
 }
 
 #[test]
 fn ends_are_told(rt: HostRuntime) -> Result<(), Fail> {
-    for (turn, text) in &ends(rt.alloc())? {
+    for (turn, text) in &ENDS {
         expect(&rt, turn, text)?;
     }
     for (limit, text) in LIMITS {
@@ -129,10 +122,31 @@ fn ends_are_told(rt: HostRuntime) -> Result<(), Fail> {
     Ok(())
 }
 
+#[test]
+fn places_and_ports_are_told(rt: HostRuntime) -> Result<(), Fail> {
+    let cell = Cell::Part(path(rt.alloc(), 0, &[1])?);
+    let turn = Turn::Undetermined { state: 0, cell };
+    expect(&rt, &turn, "undetermined: state 0: A[1]\n")?;
+    let port = Text::from_slice(rt.alloc(), b"p")?;
+    let turn = Turn::InputMissing { state: 1, port };
+    expect(&rt, &turn, "input missing: state 1: port p\n")
+}
+
 fn expect_clash(rt: &(impl Abort + AllocGlobal), clash: Clash, text: &str) -> Result<(), Fail> {
     let turn = Turn::Contradictory { state: 1, clash };
     let text = format!(in rt.alloc(); "contradictory: state 1: {text}\n")?;
     expect(rt, &turn, text.as_str())
+}
+
+fn expect_facts(
+    rt: &(impl Abort + AllocGlobal),
+    kept: &Fact,
+    new: &Fact,
+    text: &str,
+) -> Result<(), Fail> {
+    let kept = kept.copy()?;
+    let new = new.copy()?;
+    expect_clash(rt, Clash::Facts { kept, new }, text)
 }
 
 #[test]
@@ -140,17 +154,11 @@ fn clashes_are_told(rt: HostRuntime) -> Result<(), Fail> {
     for (clash, text) in CLASHES {
         expect_clash(&rt, clash, text)?;
     }
-    for (later, earlier, text) in clashes(rt.alloc())? {
-        let turned = Clash::Facts {
-            kept: earlier.copy()?,
-            new: later.copy()?,
-        };
-        expect_clash(&rt, turned, text)?;
-        let clash = Clash::Facts {
-            kept: later,
-            new: earlier,
-        };
-        expect_clash(&rt, clash, text)?;
+    for (later_at, later, at, earlier, text) in FACTS {
+        let later = fact(rt.alloc(), later_at, later)?;
+        let earlier = fact(rt.alloc(), at, earlier)?;
+        expect_facts(&rt, &later, &earlier, text)?;
+        expect_facts(&rt, &earlier, &later, text)?;
     }
     Ok(())
 }

@@ -3,8 +3,9 @@ ghost use Rattle.std.specs.Prelude.{IfOk};
 ghost use Rattle.tp_value.specs.Read.{tree};
 ghost use Rattle.tp_value.specs.Shape.{HasShortLists};
 
+use crate::expected::{holds, same_bytes, same_number, same_text};
 use crate::making::{nested, series, sixes};
-use crate::tables::{cut, number};
+use crate::tables::{cut, number, parts};
 use std::alloc::Global;
 use std::process::Abort;
 use std::test::Fail;
@@ -33,7 +34,7 @@ fn values_are_copied(rt: HostRuntime) -> Result<(), Fail> {
     for (i, value) in all.iter().enumerate() {
         let copy = value.copy(rt.alloc())?;
         for (j, other) in all.iter().enumerate() {
-            assert_eq!(rt; same(&copy, other), i == j, "at {i} and {j}");
+            holds(&rt, same(&copy, other) == (i == j), "a copy");
         }
     }
     Ok(())
@@ -52,9 +53,13 @@ fn expect_fact(rt: &(impl Abort + AllocGlobal)) -> Result<(), Fail> {
         shape: Shape::Items(2),
     };
     let copy = fact.copy()?;
-    assert_eq!(rt; copy.path.var, var);
-    assert_eq!(rt; copy.path.at.items.as_slice(), [4, 0].as_slice());
-    assert_eq!(rt; copy.shape, Shape::Items(2));
+    holds(rt, copy.path.var == var, "a copied variable");
+    holds(
+        rt,
+        copy.path.at.items.as_slice() == [4, 0].as_slice(),
+        "copied indices",
+    );
+    holds(rt, copy.shape == Shape::Items(2), "a copied shape");
     Ok(())
 }
 
@@ -66,8 +71,9 @@ fn expect_text(rt: &(impl Abort + AllocGlobal), start: &str, end: &str) -> Resul
     let copy = text.copy()?;
     let whole = format!(in rt.alloc(); "{start}{end}")?;
     let made = Text::from_slice(rt.alloc(), whole.as_bytes())?;
-    assert_eq!(rt; copy.as_slice(), made.as_slice(), "at {whole}");
-    assert_eq!(rt; made.len(), whole.len(), "at {whole}");
+    same_bytes(rt, copy.as_slice(), whole.as_str(), start);
+    same_bytes(rt, made.as_slice(), whole.as_str(), start);
+    same_number(rt, made.len() as u64, whole.len() as u64, start);
     Ok(())
 }
 
@@ -79,7 +85,7 @@ fn texts_and_facts_are_built(rt: HostRuntime) -> Result<(), Fail> {
     expect_text(&rt, "ab", "cd")?;
     expect_fact(&rt)?;
     let none = Indices::new(rt.alloc()).copy()?;
-    assert_eq!(rt; none.items.len(), 0);
+    same_number(&rt, none.items.len() as u64, 0, "no indices");
     Ok(())
 }
 
@@ -102,10 +108,10 @@ fn expect_name(
 ) -> Result<(), Fail> {
     let text = Text::from_slice(rt.alloc(), name.as_bytes())?;
     let added = globals.add(&text)?;
-    assert_eq!(rt; added, var, "at {name}");
-    assert_eq!(rt; globals.find(&text), Some(var), "at {name}");
+    holds(rt, added == var, name);
+    holds(rt, globals.find(&text) == Some(var), name);
     let kept = globals.name(var.number).ok_or("no name")?;
-    assert_eq!(rt; kept.as_slice(), name.as_bytes());
+    same_bytes(rt, kept.as_slice(), name, "a number");
     Ok(())
 }
 
@@ -121,7 +127,7 @@ fn names_are_numbered(rt: HostRuntime) -> Result<(), Fail> {
         };
         expect_name(&rt, &mut globals, name, var)?;
     }
-    assert_eq!(rt; globals.len(), 4);
+    same_number(&rt, globals.len(), 4, "names");
     Ok(())
 }
 
@@ -137,10 +143,10 @@ fn numbers_have_a_limit(rt: HostRuntime) {
         (most, -most, Some(0)),
     ];
     for (a, b, total) in table {
-        assert_eq!(rt; sum(a, b), total, "at {a} and {b}");
+        holds(&rt, sum(a, b) == total, "a sum");
     }
-    assert!(rt; is_number(-most));
-    assert!(rt; !is_number(-most - 1));
+    holds(&rt, is_number(-most), "the least number");
+    holds(&rt, !is_number(-most - 1), "one less");
 }
 
 #[test]
@@ -157,8 +163,8 @@ fn numbers_are_divided(rt: HostRuntime) {
         (1, -most - 1, Some(-1), Some(-most)),
     ];
     for (a, b, whole, rest) in table {
-        assert_eq!(rt; quotient(a, b), whole, "at {a} and {b}");
-        assert_eq!(rt; remainder(a, b), rest, "at {a} and {b}");
+        holds(&rt, quotient(a, b) == whole, "a quotient");
+        holds(&rt, remainder(a, b) == rest, "a remainder");
     }
 }
 
@@ -178,12 +184,12 @@ fn numbers_are_reckoned(rt: HostRuntime) {
         ),
     ];
     for (a, b, left, times) in table {
-        assert_eq!(rt; difference(a, b), left, "at {a} and {b}");
-        assert_eq!(rt; product(a, b), times, "at {a} and {b}");
+        holds(&rt, difference(a, b) == left, "a difference");
+        holds(&rt, product(a, b) == times, "a product");
     }
-    assert_eq!(rt; negated(3), Some(-3));
-    assert_eq!(rt; negated(-most), Some(most));
-    assert_eq!(rt; negated(-most - 1), None);
+    holds(&rt, negated(3) == Some(-3), "a negation");
+    holds(&rt, negated(-most) == Some(most), "the greatest negation");
+    holds(&rt, negated(-most - 1).is_none(), "no negation");
 }
 
 // A list of one list of so many numbers.
@@ -192,19 +198,19 @@ fn wrapped(alloc: Global, count: usize) -> Result<Value, NoMemory> {
     Ok(Value::List(Items { items }))
 }
 
+fn expect_limit(rt: &impl Abort, value: Value, within: bool) {
+    holds(rt, is_within_list_limit(&value) == within, "a list's limit");
+}
+
 #[test]
 fn lists_have_limits(rt: HostRuntime) -> Result<(), Fail> {
-    let alloc = rt.alloc();
-    let table = vec![in alloc;
-        (nested(alloc, DEPTH_LIMIT)?, true),
-        (nested(alloc, DEPTH_LIMIT + 1)?, false),
-        (sixes(alloc, ITEM_LIMIT)?, true),
-        (sixes(alloc, ITEM_LIMIT + 1)?, false),
-        (wrapped(alloc, ITEM_LIMIT - 1)?, true),
-        (wrapped(alloc, ITEM_LIMIT)?, false),
-    ]?;
-    for (value, within) in &table {
-        assert_eq!(rt; is_within_list_limit(value), *within);
+    for (more, within) in [(0, true), (1, false)] {
+        let value = nested(rt.alloc(), DEPTH_LIMIT.saturating_add(more))?;
+        expect_limit(&rt, value, within);
+        let value = sixes(rt.alloc(), ITEM_LIMIT.saturating_add(more))?;
+        expect_limit(&rt, value, within);
+        let value = wrapped(rt.alloc(), (ITEM_LIMIT - 1).saturating_add(more))?;
+        expect_limit(&rt, value, within);
     }
     Ok(())
 }
@@ -228,7 +234,7 @@ fn elements_have_shapes(rt: HostRuntime) -> Result<(), Fail> {
         (&[0, 0], None),
     ];
     for (at, shape) in table {
-        assert_eq!(rt; shape_at(&value, at), shape);
+        holds(&rt, shape_at(&value, at) == shape, "a shape");
     }
     Ok(())
 }
@@ -263,18 +269,23 @@ fn expect_value(
     let mut out = Text::from_slice(rt.alloc(), b"so: ")?;
     write_value(&value, &mut out)?;
     let expected = format!(in rt.alloc(); "so: {canonical}")?;
-    assert_eq!(rt; out.as_slice(), expected.as_bytes(), "at {text}");
-    assert_eq!(rt; place, after as usize, "at {text}");
+    same_bytes(rt, out.as_slice(), expected.as_str(), text);
+    same_number(rt, place as u64, u64::from(after), text);
     Ok(())
+}
+
+fn expect_row(rt: &(impl Abort + AllocGlobal), row: &str) -> Result<(), Fail> {
+    let row = parts(rt.alloc(), row, '|')?;
+    let [text, from, canonical, after] = row.as_slice() else {
+        return Err("no row".into());
+    };
+    expect_value(rt, text, number(from)?, canonical, number(after)?)
 }
 
 #[test]
 fn values_are_read_and_written(rt: HostRuntime) -> Result<(), Fail> {
     for row in WRITTEN.trim().lines() {
-        let (text, row) = cut(row, "|")?;
-        let (from, row) = cut(row, "|")?;
-        let (canonical, after) = cut(row, "|")?;
-        expect_value(&rt, text, number(from)?, canonical, number(after)?)?;
+        expect_row(&rt, row)?;
     }
     expect_value(&rt, "false\n", 0, "false", 5)
 }
@@ -299,7 +310,7 @@ fn expect_refusal(rt: &(impl Abort + AllocGlobal), text: &str, refusal: &str) ->
         Ok(_) => return Err("a value".into()),
         Err(answer) => {
             let answer = format!(in rt.alloc(); "{answer:?}")?;
-            assert_eq!(rt; answer.as_str(), refusal, "at {text}");
+            same_text(rt, answer.as_str(), refusal, text);
         }
     }
     Ok(())
@@ -320,7 +331,7 @@ fn texts_past_the_limits_are_refused(rt: HostRuntime) -> Result<(), Fail> {
     for (pattern, times) in [("#<##>#", 100), ("<1#,1#>", 65_535)] {
         let text = series(rt.alloc(), pattern, times)?;
         let read = read_value(rt.alloc(), text.as_bytes(), 0);
-        assert!(rt; read.is_ok());
+        holds(&rt, read.is_ok(), pattern);
     }
     let deeper = series(rt.alloc(), "#<#", 101)?;
     expect_refusal(&rt, deeper.as_str(), "TooDeep { at: 100 }")?;

@@ -1,4 +1,5 @@
 // Words of the command line, and what they ask for.
+use crate::expected::holds;
 use std::process::Abort;
 use std::test::Fail;
 use tp_step::Order;
@@ -21,9 +22,9 @@ fn expect(
     trace: bool,
 ) -> Result<(), Fail> {
     let command = command_of(rt, line)?.ok().ok_or("words that are refused")?;
-    assert_eq!(rt; command.mode, mode);
-    assert_eq!(rt; command.order, order);
-    assert_eq!(rt; command.trace, trace);
+    holds(rt, command.mode == mode, line);
+    holds(rt, command.order == order, line);
+    holds(rt, command.trace == trace, line);
     Ok(())
 }
 
@@ -70,7 +71,7 @@ fn words_of_another_form_are_refused(rt: HostRuntime) -> Result<(), Fail> {
         "print",
     ] {
         let refusal = command_of(&rt, line)?.err();
-        assert_eq!(rt; refusal, Some(WordsRefusal::Refused), "for {line}");
+        holds(&rt, refusal == Some(WordsRefusal::Refused), line);
     }
     Ok(())
 }

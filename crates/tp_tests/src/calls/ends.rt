@@ -1,4 +1,5 @@
 // The answers of calls: their exit statuses, and the end lines where no program runs.
+use crate::expected::{same_bytes, same_number};
 use std::alloc::Global;
 use std::process::Abort;
 use std::test::Fail;
@@ -31,8 +32,8 @@ fn expect_refusal(
     text: &str,
 ) -> Result<(), Fail> {
     let line = refusal_text(rt.alloc(), status)?;
-    assert_eq!(rt; line.as_slice(), text.as_bytes());
-    assert_eq!(rt; status.code(), code);
+    same_bytes(rt, line.as_slice(), text, "a refusal");
+    same_number(rt, u64::from(status.code()), u64::from(code), text);
     Ok(())
 }
 
@@ -98,7 +99,7 @@ fn without_refusal(alloc: Global) -> Result<Vec<(Status, u8)>, NoMemory> {
 #[test]
 fn answers_have_exit_statuses(rt: HostRuntime) -> Result<(), Fail> {
     for (status, code) in &without_refusal(rt.alloc())? {
-        assert_eq!(rt; status.code(), *code);
+        same_number(&rt, u64::from(status.code()), u64::from(*code), "an answer");
     }
     Ok(())
 }

@@ -1,11 +1,13 @@
 // Calls with options: inputs of a file, and limits.
-use crate::calls::status_of;
-use crate::tables::{cut, number};
+use crate::calls::code_of;
+use crate::expected::{same_lines, same_number};
+use crate::making::{content, contents};
+use crate::tables::{cut, number, parts};
 use std::alloc::Global;
 use std::process::Abort;
 use std::test::Fail;
 use tp_io::{Content, SurePage, SureShelf};
-use tp_value::{NoMemory, Text};
+use tp_value::NoMemory;
 
 // The words, the source `a.t`, the inputs `b.t` with `;` for the end of a line, the exit status, and the text. The file `-b` holds
 // `p=4` in each row.
@@ -158,43 +160,47 @@ run a.t -h
 run a.t --version
 ";
 
-/// The words of a line.
-pub fn words_in(alloc: Global, line: &str) -> Result<Vec<&str>, NoMemory> {
-    let mut words = Vec::new(alloc);
-    for word in line.split(' ') {
-        words.push(word)?;
-    }
-    Ok(words)
-}
-
 // A file with these lines, which stand with `;` between them.
 fn file_of(alloc: Global, name: &str, lines: &str) -> Result<Content, NoMemory> {
-    let mut bytes = Text::new(alloc);
-    for line in lines.split(';') {
-        bytes.append(line.as_bytes())?;
-        bytes.append(b"\n")?;
+    let mut bytes = lines.replace(alloc, ';', "\n")?;
+    bytes.push('\n')?;
+    content(alloc, name, bytes.as_bytes())
+}
+
+// A source, a table of inputs, and a table in a file with the name of an option.
+fn three_files(alloc: Global, source: &str, table: &str) -> Result<Vec<Content>, NoMemory> {
+    let mut files = Vec::new(alloc);
+    for (name, lines) in [("a.t", source), ("b.t", table), ("-b", "p=4")] {
+        files.push(file_of(alloc, name, lines)?)?;
     }
-    let name = Text::from_slice(alloc, name.as_bytes())?;
-    Ok(Content { name, bytes })
+    Ok(files)
+}
+
+// What a call with the words of the line writes, and its exit status.
+fn expect_call(
+    rt: &(impl Abort + AllocGlobal),
+    line: &str,
+    files: Vec<Content>,
+    code: u32,
+    text: &str,
+) -> Result<(), Fail> {
+    let alloc = rt.alloc();
+    let words = parts(alloc, line, ' ')?;
+    let mut shelf = SureShelf::new(alloc, files);
+    let mut page = SurePage::new(alloc);
+    let found = code_of(alloc, words.as_slice(), &mut shelf, &mut page)?;
+    same_lines(rt, page.text(), text, line);
+    same_number(rt, found, u64::from(code), line);
+    Ok(())
 }
 
 fn expect_row(rt: &(impl Abort + AllocGlobal), row: &str) -> Result<(), Fail> {
-    let alloc = rt.alloc();
     let (words, row) = cut(row, "\n")?;
     let (source, row) = cut(row, "\n")?;
     let (table, row) = cut(row, "->")?;
     let (code, text) = cut(row, "\n")?;
-    let source = file_of(alloc, "a.t", source)?;
-    let inputs = file_of(alloc, "b.t", table)?;
-    let all = vec![in alloc; source, inputs, file_of(alloc, "-b", "p=4")?]?;
-    let mut files = SureShelf::new(alloc, all);
-    let mut page = SurePage::new(alloc);
-    let words = words_in(alloc, words)?;
-    let status = status_of(alloc, words.as_slice(), &mut files, &mut page)?;
-    let text = format!(in alloc; "{text}\n")?;
-    assert_eq!(rt; str::from_utf8(page.text()), Ok(text.as_str()), "for {row}");
-    assert_eq!(rt; u32::from(status.code()), number(code)?, "for {row}");
-    Ok(())
+    let files = three_files(rt.alloc(), source, table)?;
+    expect_call(rt, words, files, number(code)?, text)
 }
 
 #[test]
@@ -207,15 +213,9 @@ fn options_are_taken(rt: HostRuntime) -> Result<(), Fail> {
 
 #[test]
 fn other_words_are_refused(rt: HostRuntime) -> Result<(), Fail> {
-    let alloc = rt.alloc();
     for line in NO_COMMANDS.trim().split('\n') {
-        let all = vec![in alloc; file_of(alloc, "a.t", "run empty.")?]?;
-        let mut files = SureShelf::new(alloc, all);
-        let mut page = SurePage::new(alloc);
-        let words = words_in(alloc, line)?;
-        let status = status_of(alloc, words.as_slice(), &mut files, &mut page)?;
-        assert_eq!(rt; status.code(), 12, "for {line}");
-        assert_eq!(rt; page.text(), b"words refused\n".as_slice(), "for {line}");
+        let files = contents(rt.alloc(), "a.t", b"run empty.")?;
+        expect_call(&rt, line, files, 12, "words refused")?;
     }
     Ok(())
 }

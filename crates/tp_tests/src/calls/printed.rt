@@ -1,8 +1,8 @@
 // Sources that are printed.
-use crate::calls::optioned::words_in;
-use crate::calls::{expect, status_of};
+use crate::calls::{code_of, expect, expect_row};
+use crate::expected::{same_bytes, same_number};
 use crate::making::{contents, series};
-use crate::tables::{cut, number};
+use crate::tables::{cut, parts};
 use std::process::Abort;
 use std::test::Fail;
 use tp_io::{Failure, Page, SureShelf};
@@ -147,20 +147,18 @@ run empty.
 words refused
 ";
 
-fn expect_row(rt: &(impl Abort + AllocGlobal), row: &str) -> Result<(), Fail> {
+/// A row that begins with the words of the call.
+pub fn expect_words(rt: &(impl Abort + AllocGlobal), row: &str) -> Result<(), Fail> {
     let (words, row) = cut(row, "\n")?;
-    let (source, row) = cut(row, "->")?;
-    let (code, text) = cut(row, "\n")?;
-    let words = words_in(rt.alloc(), words)?;
-    let text = format!(in rt.alloc(); "{text}\n")?;
-    expect(rt, words.as_slice(), source, number(code)?, text.as_str())
+    let words = parts(rt.alloc(), words, ' ')?;
+    expect_row(rt, words.as_slice(), row)
 }
 
 #[test]
 fn sources_are_printed(rt: HostRuntime) -> Result<(), Fail> {
     for table in [PRINTED, UNCHECKED, UNPARSED, UNUSED] {
         for row in table.trim().split("\n\n") {
-            expect_row(&rt, row)?;
+            expect_words(&rt, row)?;
         }
     }
     Ok(())
@@ -170,11 +168,11 @@ fn sources_are_printed(rt: HostRuntime) -> Result<(), Fail> {
 fn a_source_of_too_many_bytes_is_not_printed(rt: HostRuntime) -> Result<(), Fail> {
     let source = series(rt.alloc(), "# #", 1_048_577)?;
     let words = ["print", "a.t"];
-    expect(&rt, &words, source.as_str(), 13, "too long: source\n")
+    expect(&rt, &words, source.as_str(), 13, "too long: source")
 }
 
 // The write with this number fails and keeps so many bytes: the exit status, and the text. There is one write.
-const WRITES: [(u64, usize, u8, &str); 3] = [
+const WRITES: [(u64, usize, u64, &str); 3] = [
     (1, 0, 15, ""),
     (1, 5, 15, "run e"),
     (2, 0, 0, "run empty.\n"),
@@ -192,9 +190,9 @@ fn a_spelling_is_one_write(rt: HostRuntime) -> Result<(), Fail> {
         ]?;
         let mut page = Page::new(alloc, failing);
         let mut files = SureShelf::new(alloc, contents(alloc, "a.t", b"run(empty).")?);
-        let status = status_of(alloc, &["print", "a.t"], &mut files, &mut page)?;
-        assert_eq!(rt; status.code(), *code);
-        assert_eq!(rt; page.text(alloc)?.as_slice(), text.as_bytes());
+        let found = code_of(alloc, &["print", "a.t"], &mut files, &mut page)?;
+        same_number(&rt, found, *code, text);
+        same_bytes(&rt, page.text(alloc)?.as_slice(), text, "print");
     }
     Ok(())
 }

@@ -1,8 +1,5 @@
 // Calls with trace lines: how many steps each state took, and what is left to hold from the next one on.
-use crate::calls::expect;
-use crate::calls::optioned::words_in;
-use crate::tables::{cut, number};
-use std::process::Abort;
+use crate::calls::printed::expect_words;
 use std::test::Fail;
 
 // The words, the source `a.t`, the exit status, and the text.
@@ -98,19 +95,10 @@ run A=1 and A=2 and empty.
 contradictory: state 0: A=1 and A=2
 ";
 
-fn expect_row(rt: &(impl Abort + AllocGlobal), row: &str) -> Result<(), Fail> {
-    let (words, row) = cut(row, "\n")?;
-    let (source, row) = cut(row, "\n->")?;
-    let (code, text) = cut(row, "\n")?;
-    let words = words_in(rt.alloc(), words)?;
-    let text = format!(in rt.alloc(); "{text}\n")?;
-    expect(rt, words.as_slice(), source, number(code)?, text.as_str())
-}
-
 #[test]
 fn traces_are_written(rt: HostRuntime) -> Result<(), Fail> {
     for row in TRACED.trim().split("\n\n") {
-        expect_row(&rt, row)?;
+        expect_words(&rt, row)?;
     }
     Ok(())
 }
@@ -118,7 +106,7 @@ fn traces_are_written(rt: HostRuntime) -> Result<(), Fail> {
 #[test]
 fn orders_are_taken(rt: HostRuntime) -> Result<(), Fail> {
     for row in ORDERED.trim().split("\n\n") {
-        expect_row(&rt, row)?;
+        expect_words(&rt, row)?;
     }
     Ok(())
 }

@@ -4,6 +4,7 @@ use Rattle.tp_meaning.specs.Fits.{ProgramFits}
 use Rattle.tp_meaning.specs.Interval.{ProgramTree}
 use Rattle.tp_check.specs.declared.program.Program.{Program}
 use Rattle.tp_check.specs.declared.refusal.CheckRefusal.{CheckRefusal}
+use Rattle.tp_scope.specs.Names.{names_of}
 use Rattle.tp_check.specs.Outcome.{CheckOutcome, AnswersCheck}
 use Rattle.tp_check.specs.Program.{program_over, program_tree}
 use Rattle.tp_check.proofs.Fitting.{program_fits}
@@ -21,18 +22,12 @@ returns-in_err-headings-clause-named c = own_names_suffice (source_tree c.args.s
 pub returns-in_err-states-clause-named : goal.returns-in_err-states-clause-named
 returns-in_err-states-clause-named c = own_names_suffice (source_tree c.args.source.now)
 
-pub returns-in_err-directory-clause-named : goal.returns-in_err-directory-clause-named
-returns-in_err-directory-clause-named c = own_names_suffice (source_tree c.args.source.now)
-
-pub returns-in_err-globals-clause-named : goal.returns-in_err-globals-clause-named
-returns-in_err-globals-clause-named c = own_names_suffice (source_tree c.args.source.now)
-
 pub returns-clause-named : goal.returns-clause-named
 returns-clause-named c = own_names_suffice (source_tree c.args.source.now)
 
 pub returns-clause-fits : goal.returns-clause-fits
 returns-clause-fits c =
     let source = source_tree c.args.source.now in
-    let states : List Bool = c.deref-4.result.now in
-    let globals = c.in_ok-globals.globals in
-    made_fits (program_over globals states source) c.make_program.result c.make_program.ensures (program_fits globals states source (ap length c.deref-4.ensures.value ∙ c.in_ok-states.ensures.each))
+    let states : List Bool = c.deref-2.result.now in
+    let globals = names_of source in
+    made_fits (program_over globals states source) c.program_where.result c.program_where.ensures (program_fits globals states source (ap length c.deref-2.ensures.value ∙ c.in_ok-states.ensures.each))

@@ -83,7 +83,7 @@ returns-in_ok-body-in-For-clause-outcome c =
     let seen : k ≡ c.in-For.from = omega (arith, ints) in
     let o = outcome facts defs (expr_tree c.in-For.to.value) env in
     let body = c.in_ok-body-in-For.body in
-    let same_body : formula_of body ≡ formula_tree c.in-For.body.value = c.in_ok-body-in-For.ensures.formula ∙ ap formula_tree c.in_ok-what-in-For.ensures.cases in
+    let same_body : formula_of body ≡ formula_tree c.in-For.body.value = c.in_ok-body-in-For.ensures.formula in
     let same_env : env_of body ≡ env = c.in_ok-body-in-For.ensures.bindings in
     let counted : row.Numbers → ℤ → FormulaTree → S.Bindings → row.PickOutcome = λ n i f bs. row.with_number o (λ m. row.turns [] [] 0 [] c.in-For.name i m f bs place n) in
     found_row facts c.decide_turns.result (λ o. NumberIn o found) (λ o n. row.with_number o (λ m. row.turns [] [] 0 [] c.in-For.name k m (formula_of body) (env_of body) place n))
@@ -105,7 +105,7 @@ returns-in_ok-body-in-Forall-clause-outcome c =
     let seen : k ≡ c.in-Forall.from = omega (arith, ints) in
     let o = outcome facts defs (expr_tree c.in-Forall.to.value) env in
     let body = c.in_ok-body-in-Forall.body in
-    let same_body : formula_of body ≡ formula_tree c.in-Forall.body.value = c.in_ok-body-in-Forall.ensures.formula ∙ ap formula_tree c.in_ok-what-in-Forall.ensures.cases in
+    let same_body : formula_of body ≡ formula_tree c.in-Forall.body.value = c.in_ok-body-in-Forall.ensures.formula in
     let same_env : env_of body ≡ env = c.in_ok-body-in-Forall.ensures.bindings in
     let counted : row.Numbers → ℤ → FormulaTree → S.Bindings → row.PickOutcome = λ n i f bs. row.with_number o (λ m. row.instances [] [] 0 [] c.in-Forall.name i m f bs n) in
     found_row facts c.decide_instances.result (λ o. NumberIn o found) (λ o n. row.with_number o (λ m. row.instances [] [] 0 [] c.in-Forall.name k m (formula_of body) (env_of body) n))
