@@ -42,6 +42,14 @@ fn append_limit(
     }
 }
 
+// The same, and what stands before a text behind it.
+fn append_state_and(out: &mut Text, word: &[u8], state: u64, behind: &[u8]) -> Result<(), NoMemory>
+    ensures { OnOk result (out.new ≡ out.old ++ state_text word.now state ++ behind.now) }
+{
+    append_state(out, word, state)?;
+    out.append(behind)
+}
+
 // What the end line says before its line feed.
 fn append_last_words(
     out: &mut Text,
@@ -57,19 +65,16 @@ fn append_last_words(
         Turn::Went => Ok(()),
         Turn::Finished { length } => append_counted(out, b"finished: length ", *length),
         Turn::Contradictory { state, clash } => {
-            append_state(out, b"contradictory", *state)?;
-            out.append(b": ")?;
+            append_state_and(out, b"contradictory", *state, b": ")?;
             append_clash(out, globals, store, clash)
         }
         Turn::Undetermined { state, cell } => {
-            append_state(out, b"undetermined", *state)?;
-            out.append(b": ")?;
+            append_state_and(out, b"undetermined", *state, b": ")?;
             append_cell(out, globals, store, cell)
         }
         Turn::StateLimit { states } => append_counted(out, b"state limit: ", *states),
         Turn::InputMissing { state, port } => {
-            append_state(out, b"input missing", *state)?;
-            out.append(b": port ")?;
+            append_state_and(out, b"input missing", *state, b": port ")?;
             out.append(port.as_slice())
         }
         Turn::Over { state, limit } => append_limit(out, *state, *limit, reductions),
