@@ -338,24 +338,33 @@ fn accepted(alloc: Global, program: &Program) -> Result<Text, NoMemory> {
     Ok(out)
 }
 
-fn refused(alloc: Global, kind: &str, at: u32) -> Result<Text, NoMemory> {
-    Text::from_slice(alloc, format!(in alloc; "{kind} at {at}")?.as_bytes())
+// The kind and the place of a refusal.
+fn refused(alloc: Global, refusal: CheckRefusal) -> Result<Text, Fail> {
+    let (kind, at) = match refusal {
+        CheckRefusal::Twice { at } => ("defined twice", at),
+        CheckRefusal::Unknown { at } => ("unknown name", at),
+        CheckRefusal::WrongCount { at } => ("wrong count", at),
+        CheckRefusal::NotExpression { at } => ("not an expression", at),
+        CheckRefusal::NotPlace { at } => ("not a place", at),
+        CheckRefusal::NotPort { at } => ("not a port", at),
+        CheckRefusal::NotExecutable { at } => ("not executable", at),
+        CheckRefusal::NoMemory => return Err(NoMemory.into()),
+    };
+    let told = format!(in alloc; "{kind} at {at}")?;
+    let text = Text::from_slice(alloc, told.as_bytes())?;
+    Ok(text)
 }
 
 // What is made of a source: the definitions, the formula and the names, or the kind and the place of the refusal.
 fn outcome(alloc: Global, text: &str) -> Result<Text, Fail> {
-    let out = match check(alloc, &source_of(alloc, text)?) {
-        Ok(program) => accepted(alloc, &program)?,
-        Err(CheckRefusal::Twice { at }) => refused(alloc, "defined twice", at)?,
-        Err(CheckRefusal::Unknown { at }) => refused(alloc, "unknown name", at)?,
-        Err(CheckRefusal::WrongCount { at }) => refused(alloc, "wrong count", at)?,
-        Err(CheckRefusal::NotExpression { at }) => refused(alloc, "not an expression", at)?,
-        Err(CheckRefusal::NotPlace { at }) => refused(alloc, "not a place", at)?,
-        Err(CheckRefusal::NotPort { at }) => refused(alloc, "not a port", at)?,
-        Err(CheckRefusal::NotExecutable { at }) => refused(alloc, "not executable", at)?,
-        Err(CheckRefusal::NoMemory) => return Err(NoMemory.into()),
-    };
-    Ok(out)
+    let source = source_of(alloc, text)?;
+    match check(alloc, &source) {
+        Ok(program) => {
+            let out = accepted(alloc, &program)?;
+            Ok(out)
+        }
+        Err(refusal) => refused(alloc, refusal),
+    }
 }
 
 #[test]

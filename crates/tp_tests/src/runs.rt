@@ -1,8 +1,10 @@
 // Small runs to their ends: each call succeeds where there is memory enough.
-ghost use Rattle.std.specs.Prelude.{◌≡◌, ◌<◌, [], List, Bool, IfOk};
+ghost use Rattle.std.specs.Prelude.{◌≡◌, ◌<◌, [], List, Bool, IfOk, OnOk};
 ghost use Rattle.tp_kernel.specs.Read.{formula_tree};
 ghost use Rattle.tp_meaning.specs.Fits.{FormulaFits, ProgramFits};
 ghost use Rattle.tp_check.specs.Program.{program_tree};
+ghost use Rattle.tp_run.specs.Runs.{IsRunOf};
+ghost use Rattle.tp_run.specs.States.{Plan};
 
 use crate::expected::same_text;
 use crate::making::{no_picture, path};
@@ -58,7 +60,43 @@ fn ended(alloc: Global, turn: &Turn, again: &Turn, out: &mut String) -> Result<(
     Ok(())
 }
 
-// The states of a run, of at most nine, and its end, which is answered twice.
+// Tells the next state, and the end, which is answered twice; whether the run goes on.
+fn tell_state<L: Ledger>(
+    alloc: Global,
+    run: &mut Run,
+    picture: &mut Picture,
+    steps: &mut Steps<L>,
+    out: &mut String,
+) -> Result<bool, Fail>
+    requires { (plan : Plan) × IsRunOf plan run.old }
+    ensures { OnOk result ((plan : Plan) × IsRunOf plan run.new) }
+{
+    let turn = run.state(picture, steps)?;
+    said(alloc, picture, run, out)?;
+    if matches!(turn, Turn::Went) {
+        return Ok(true);
+    }
+    let again = run.state(picture, steps)?;
+    ended(alloc, &turn, &again, out)?;
+    Ok(false)
+}
+
+// The states of a run, of at most nine.
+fn states<L: Ledger>(alloc: Global, run: &mut Run, steps: &mut Steps<L>) -> Result<String, Fail>
+    requires { (plan : Plan) × IsRunOf plan run.old }
+{
+    let mut picture = no_picture(alloc);
+    let mut text = known(alloc, run)?;
+    text.push_str(", ")?;
+    for _ in 0..9 {
+        if !tell_state(alloc, run, &mut picture, steps, &mut text)? {
+            return Ok(text);
+        }
+    }
+    Ok(text)
+}
+
+// The states of a run of this program.
 fn history<L: Ledger>(
     alloc: Global,
     blank: Blank,
@@ -73,19 +111,7 @@ fn history<L: Ledger>(
     let mut steps = Steps::<L>::new(blank);
     let inputs = Inputs::none(alloc)?;
     let mut run = Run::start(alloc, program, inputs, limits, Order::First)?;
-    let mut picture = no_picture(alloc);
-    let mut text = known(alloc, &run)?;
-    text.push_str(", ")?;
-    for _ in 0..9 {
-        let turn = run.state(&mut picture, &mut steps)?;
-        said(alloc, &picture, &run, &mut text)?;
-        if !matches!(turn, Turn::Went) {
-            let again = run.state(&mut picture, &mut steps)?;
-            ended(alloc, &turn, &again, &mut text)?;
-            return Ok(text);
-        }
-    }
-    Ok(text)
+    states(alloc, &mut run, &mut steps)
 }
 
 // The states of a run that counts its tries by itself.
