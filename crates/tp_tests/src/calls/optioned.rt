@@ -168,7 +168,11 @@ fn file_of(alloc: Global, name: &str, lines: &str) -> Result<Content, NoMemory> 
 }
 
 // A source, a table of inputs, and a table in a file with the name of an option.
-fn three_files(alloc: Global, source: &str, table: &str) -> Result<Vec<Content>, NoMemory> {
+fn three_files<'a>(
+    alloc: Global,
+    source: &'a str,
+    table: &'a str,
+) -> Result<Vec<Content>, NoMemory> {
     let mut files = Vec::new(alloc);
     for (name, lines) in [("a.t", source), ("b.t", table), ("-b", "p=4")] {
         files.push(file_of(alloc, name, lines)?)?;
