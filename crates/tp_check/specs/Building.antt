@@ -1,5 +1,5 @@
 -- What the functions build, as plain trees.
-use Rattle.std.specs.Prelude.{◌≡◌, ◌≢◌, ◌||◌, true, false, Result, Ok, Err, ℕ, List, [], map, Some, None}
+use Rattle.std.specs.Prelude.{◌≡◌, ◌≢◌, ◌||◌, true, false, Result, Ok, Err, ℕ, List, [], map, Some, None, pos}
 use Rattle.std.specs.List.{list_any}
 use Rattle.std.specs.Str.{bytes_eq}
 use Rattle.std.specs.Global.{Global}
@@ -9,7 +9,7 @@ use Rattle.tp_kernel.specs.declared.formula.Exprs.{Exprs}
 use Rattle.tp_kernel.specs.declared.formula.Formula.{Formula}
 use Rattle.tp_kernel.specs.declared.formula.Formulas.{Formulas}
 use Rattle.tp_kernel.specs.Read.{expr_tree, formula_tree, operator_of}
-use Rattle.tp_meaning.specs.Syntax.{ExprTree, FormulaTree, either, binary, chop, project}
+use Rattle.tp_meaning.specs.Syntax.{ExprTree, FormulaTree, either, binary, trivial, branch, chop, while, for_from, forall_from, project}
 use Rattle.tp_tree.specs.declared.phrase.Definition.{Definition}
 use Rattle.tp_tree.specs.declared.phrase.Definitions.{Definitions}
 use Rattle.tp_scope.specs.Scope.{Names}
@@ -24,6 +24,10 @@ use Rattle.tp_check.specs.declared.operation.Operation.{Operation}
 use Rattle.tp_check.specs.declared.operation.Operation.TheVariants.{Either, With}
 use Rattle.tp_check.specs.declared.composition.Composition.{Composition}
 use Rattle.tp_check.specs.declared.composition.Composition.TheVariants.{Chop, Project}
+use Rattle.tp_check.specs.declared.loops.Guard.{Guard}
+use Rattle.tp_check.specs.declared.loops.Guard.TheVariants.{If, While}
+use Rattle.tp_check.specs.declared.loops.Counting.{Counting}
+use Rattle.tp_check.specs.declared.loops.Counting.TheVariants.{For, Forall}
 
 -- behind an `Rc`
 abbrev pub expr_seen : Rc Expr Global → ExprTree
@@ -48,6 +52,16 @@ made_by (With o) = binary (operator_of o)
 abbrev pub composed_by : Composition → FormulaTree → FormulaTree → FormulaTree
 composed_by Chop = chop
 composed_by Project = project
+
+-- what a condition makes of the formula under it
+abbrev pub guarded_by : Guard → ExprTree → FormulaTree → FormulaTree
+guarded_by If = λ b w. branch b w trivial
+guarded_by While = while
+
+-- what a count below a bound makes of the formula in which the name is bound
+abbrev pub counted_by : Counting → (name : List ℕ) → ExprTree → FormulaTree → FormulaTree
+counted_by For x = for_from x (pos 0)
+counted_by Forall x = forall_from x (pos 0)
 
 -- the parameters of each of the definitions
 abbrev pub ParametersOf : Definitions → List Binders → Type 0

@@ -1,20 +1,20 @@
 // Formulas.
-ghost use Rattle.std.specs.Prelude.{◌≡◌, ◌≢◌, pos, IfOk};
+ghost use Rattle.std.specs.Prelude.{◌≡◌, ◌≢◌, IfOk};
 ghost use Rattle.tp_tree.specs.Read.{phrase_tree, phrase_trees};
 ghost use Rattle.tp_tree.specs.Tree.{form as form_kind, exists as exists_kind, no_phrase, phrase_then};
-ghost use Rattle.tp_meaning.specs.Syntax.{trivial, branch as branch_of, while as while_of, for_from, forall_from};
 ghost use Rattle.tp_meaning.specs.Derived.{repeat_of};
 ghost use Rattle.tp_kernel.specs.Read.{formula_tree};
 ghost use Rattle.tp_scope.specs.Scope.{with_binder, with_binders};
 ghost use Rattle.tp_check.specs.Outcome.{AnswersCheck, both};
 ghost use Rattle.tp_scope.specs.Seen.{names_seen};
-ghost use Rattle.tp_check.specs.Building.{formula_seen, formulas_seen};
+ghost use Rattle.tp_check.specs.Building.{formula_seen, formulas_seen, guarded_by, counted_by};
 ghost use Rattle.tp_check.specs.Positions.{bare_of, expr_of, formula_of, formula_of_kind, formulas_in};
 
 use crate::calls::call;
 use crate::composition::composition_for;
 use crate::expression::{expressions, place, port, shared_expression};
 use crate::hiding::exists_each;
+use crate::loops::{Counting, Guard};
 use crate::refusal::CheckRefusal;
 use crate::state::{binary, negation, state};
 use std::alloc::Global;
@@ -54,16 +54,36 @@ pub fn formula(alloc: Global, phrase: &Phrase, names: &Visible) -> Result<Formul
         PhraseKind::Bare(word) => Ok(bare(alloc, *word)?),
         PhraseKind::Next(later) => Ok(Formula::Next(shared_formula(alloc, later, names)?)),
         PhraseKind::Form(form, operands) => form_formula(alloc, phrase.at, *form, operands, names),
-        PhraseKind::If(condition, first, None) => branch(alloc, first, condition, names),
+        PhraseKind::If(condition, first, None) => guarded(
+            alloc,
+            Guard::If,
+            first,
+            condition,
+            names,
+        ),
         PhraseKind::If(condition, first, Some(second)) => {
             let condition = shared_expression(alloc, condition, names)?;
             let first = shared_formula(alloc, first, names)?;
             Ok(Formula::If(condition, first, shared_formula(alloc, second, names)?))
         }
-        PhraseKind::While(condition, body) => while_loop(alloc, body, condition, names),
+        PhraseKind::While(condition, body) => guarded(alloc, Guard::While, body, condition, names),
         PhraseKind::Repeat(body, condition) => repeat_loop(alloc, body, condition, names),
-        PhraseKind::For(name, to, body) => for_loop(alloc, body, name, to, names),
-        PhraseKind::Forall(name, to, body) => for_all(alloc, body, name, to, names),
+        PhraseKind::For(name, to, body) => over_numbers(
+            alloc,
+            Counting::For,
+            body,
+            name,
+            to,
+            names,
+        ),
+        PhraseKind::Forall(name, to, body) => over_numbers(
+            alloc,
+            Counting::Forall,
+            body,
+            name,
+            to,
+            names,
+        ),
         PhraseKind::Exists(bound, body) => hidden(alloc, phrase.at, body, bound, names),
         PhraseKind::Call(name, operands) => call(alloc, phrase.at, name, operands, names),
         PhraseKind::Truth(false)
@@ -103,42 +123,24 @@ fn formulas(alloc: Global, phrases: &Phrases, names: &Visible) -> Result<Formula
     Ok(Formulas { items })
 }
 
-// `if condition then first`
+// The body under this condition.
 #[cycle(formula)]
-fn branch(
+fn guarded(
     alloc: Global,
-    first: &Phrase,
-    condition: &Phrase,
-    names: &Visible,
-) -> Result<Formula, CheckRefusal>
-    ensures { AnswersCheck formula_tree
-        (both (λ b w. branch_of b w trivial)
-        (expr_of (names_seen names.now) (phrase_tree condition.now))
-        (formula_of (names_seen names.now) (phrase_tree first.now)))
-        result }
-{
-    let condition = shared_expression(alloc, condition, names)?;
-    let first = shared_formula(alloc, first, names)?;
-    let second = Rc::new(alloc, Formula::True)?;
-    Ok(Formula::If(condition, first, second))
-}
-
-// `while condition do body`
-#[cycle(formula)]
-fn while_loop(
-    alloc: Global,
+    guard: Guard,
     body: &Phrase,
     condition: &Phrase,
     names: &Visible,
 ) -> Result<Formula, CheckRefusal>
     ensures { AnswersCheck formula_tree
-        (both while_of
+        (both (guarded_by guard)
         (expr_of (names_seen names.now) (phrase_tree condition.now))
         (formula_of (names_seen names.now) (phrase_tree body.now)))
         result }
 {
     let condition = shared_expression(alloc, condition, names)?;
-    Ok(Formula::While(condition, shared_formula(alloc, body, names)?))
+    let body = shared_formula(alloc, body, names)?;
+    Ok(guard.make(alloc, condition, body)?)
 }
 
 // `repeat body until condition`
@@ -160,60 +162,26 @@ fn repeat_loop(
     Ok(repeat(alloc, body, condition)?)
 }
 
-// `for name < to do body`
+// The body, in which the name is bound, for each number below the bound.
 #[cycle(formula)]
-fn for_loop(
+fn over_numbers(
     alloc: Global,
+    counting: Counting,
     body: &Phrase,
     name: &Text,
     to: &Phrase,
     names: &Visible,
 ) -> Result<Formula, CheckRefusal>
     ensures { AnswersCheck formula_tree
-        (both (for_from name.now (pos 0))
+        (both (counted_by counting name.now)
         (expr_of (names_seen names.now) (phrase_tree to.now))
         (formula_of (with_binder name.now (names_seen names.now)) (phrase_tree body.now)))
         result }
 {
     let to = shared_expression(alloc, to, names)?;
     let binders = Binders::one(alloc, name)?;
-    let body = Rc::new(alloc, formula_within(alloc, body, &binders, names)?)?;
-    let name = name.copy()?;
-    let from = 0;
-    Ok(Formula::For {
-        name,
-        from,
-        to,
-        body,
-    })
-}
-
-// `forall name < to : body`
-#[cycle(formula)]
-fn for_all(
-    alloc: Global,
-    body: &Phrase,
-    name: &Text,
-    to: &Phrase,
-    names: &Visible,
-) -> Result<Formula, CheckRefusal>
-    ensures { AnswersCheck formula_tree
-        (both (forall_from name.now (pos 0))
-        (expr_of (names_seen names.now) (phrase_tree to.now))
-        (formula_of (with_binder name.now (names_seen names.now)) (phrase_tree body.now)))
-        result }
-{
-    let to = shared_expression(alloc, to, names)?;
-    let binders = Binders::one(alloc, name)?;
-    let body = Rc::new(alloc, formula_within(alloc, body, &binders, names)?)?;
-    let name = name.copy()?;
-    let from = 0;
-    Ok(Formula::Forall {
-        name,
-        from,
-        to,
-        body,
-    })
+    let body = formula_within(alloc, body, &binders, names)?;
+    Ok(counting.make(alloc, name, to, body)?)
 }
 
 // The formula of a phrase that stands where these names are bound.

@@ -9,6 +9,7 @@ mod expression;
 mod formula;
 mod hiding;
 mod laws;
+mod loops;
 mod operation;
 mod program;
 mod refusal;

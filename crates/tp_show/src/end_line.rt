@@ -17,6 +17,14 @@ fn append_state(out: &mut Text, word: &[u8], state: u64) -> Result<(), NoMemory>
     append_counted(out, b": state ", state)
 }
 
+// The same, and what stands before a text behind it.
+fn append_state_and(out: &mut Text, word: &[u8], state: u64, behind: &[u8]) -> Result<(), NoMemory>
+    ensures { OnOk result (out.new ≡ out.old ++ state_text word.now state ++ behind.now) }
+{
+    append_state(out, word, state)?;
+    out.append(behind)
+}
+
 fn append_reductions(out: &mut Text, state: u64, reductions: u64) -> Result<(), NoMemory>
     ensures { OnOk result (out.new ≡ out.old ++ reductions_text reductions state) }
 {
@@ -40,14 +48,6 @@ fn append_limit(
         LimitKind::Calls => append_state(out, b"call limit", state),
         LimitKind::Nest => append_state(out, b"nest limit", state),
     }
-}
-
-// The same, and what stands before a text behind it.
-fn append_state_and(out: &mut Text, word: &[u8], state: u64, behind: &[u8]) -> Result<(), NoMemory>
-    ensures { OnOk result (out.new ≡ out.old ++ state_text word.now state ++ behind.now) }
-{
-    append_state(out, word, state)?;
-    out.append(behind)
 }
 
 // What the end line says before its line feed.

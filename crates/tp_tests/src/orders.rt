@@ -15,6 +15,18 @@ use tp_check::Program;
 use tp_pass::{Course, close_by_passes};
 use tp_step::{ItemIds, Order, Steps, Tally, Waits};
 
+fn nothing_told(alloc: Global) -> Tally {
+    let picks = ItemIds::new(alloc);
+    let rests = ItemIds::new(alloc);
+    let items = Vec::new(alloc);
+    let waits = Waits { items };
+    Tally {
+        picks,
+        waits,
+        rests,
+    }
+}
+
 // The items that the first state of the program picks, in order.
 fn picks<L: Ledger>(
     alloc: Global,
@@ -29,13 +41,7 @@ fn picks<L: Ledger>(
 {
     let mut steps = Steps::<L>::new(blank);
     let (mut scene, mut store, setting) = begin(alloc, program)?;
-    let mut tally = Tally {
-        picks: ItemIds::new(alloc),
-        waits: Waits {
-            items: Vec::new(alloc),
-        },
-        rests: ItemIds::new(alloc),
-    };
+    let mut tally = nothing_told(alloc);
     close_by_passes(
         &mut scene, &mut store, &setting, course, &mut tally, &mut steps,
     )?;

@@ -1,4 +1,7 @@
 // The outcomes of expressions, row by row.
+ghost use Rattle.std.specs.Prelude.{◌≡◌, ◌∷◌, []};
+ghost use Rattle.tp_store.specs.Known.{global_variable};
+
 use crate::expected::same_text;
 use crate::making::{nested, one_variable, path, sixes};
 use crate::tables::cut;
@@ -16,12 +19,32 @@ fn no_definitions(alloc: Global) -> Defs {
     }
 }
 
+// Says how long the list at these indices of A is.
+fn put_length(alloc: Global, store: &mut Store, at: &[u32], length: u32) -> Result<(), Fail>
+    requires { store.old.variables ≡ global_variable (65 ∷ []) ∷ [] }
+    ensures { store.new.variables ≡ store.old.variables }
+{
+    let place = path(alloc, 0, at)?;
+    store.add_length(&place, length)?;
+    Ok(())
+}
+
+// Says which number the item at these indices of A is.
+fn put_number(alloc: Global, store: &mut Store, at: &[u32], n: i64) -> Result<(), Fail>
+    requires { store.old.variables ≡ global_variable (65 ∷ []) ∷ [] }
+    ensures { store.new.variables ≡ store.old.variables }
+{
+    let place = path(alloc, 0, at)?;
+    store.add(&place, &Value::Num(n))?;
+    Ok(())
+}
+
 // A is a list of three items, of which the first is 5 and of the second nothing is known; the third is an empty list.
 fn known_state(alloc: Global) -> Result<Store, Fail> {
     let mut store = one_variable(alloc)?;
-    store.add_length(&path(alloc, 0, &[])?, 3)?;
-    store.add(&path(alloc, 0, &[0])?, &Value::Num(5))?;
-    store.add_length(&path(alloc, 0, &[2])?, 0)?;
+    put_length(alloc, &mut store, &[], 3)?;
+    put_number(alloc, &mut store, &[0], 5)?;
+    put_length(alloc, &mut store, &[2], 0)?;
     Ok(store)
 }
 

@@ -250,16 +250,24 @@ const PLACES: [Row; 9] = [
     ("run empty.", "p=1\np=2\n", "state 0:\nfinished: length 0\n"),
 ];
 
-#[test]
-fn inputs_are_read(rt: HostRuntime) -> Result<(), Fail> {
-    for (source, table, text) in NUMBERED {
-        expect(&rt, source, table, text)?;
-    }
-    for (source, table, text) in MEETINGS {
-        expect(&rt, source, table, text)?;
-    }
-    for (source, table, text) in PLACES {
-        expect(&rt, source, table, text)?;
+fn expect_each(rt: &(impl Abort + AllocGlobal), rows: &[Row]) -> Result<(), Fail> {
+    for (source, table, text) in rows {
+        expect(rt, source, table, text)?;
     }
     Ok(())
+}
+
+#[test]
+fn lines_of_inputs_are_numbered(rt: HostRuntime) -> Result<(), Fail> {
+    expect_each(&rt, &NUMBERED)
+}
+
+#[test]
+fn inputs_meet_what_is_known(rt: HostRuntime) -> Result<(), Fail> {
+    expect_each(&rt, &MEETINGS)
+}
+
+#[test]
+fn inputs_are_put_at_places(rt: HostRuntime) -> Result<(), Fail> {
+    expect_each(&rt, &PLACES)
 }

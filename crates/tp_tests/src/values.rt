@@ -115,17 +115,20 @@ fn expect_name(
     Ok(())
 }
 
+// The variable that a row tells.
+fn variable(row: &str) -> Result<VarId, Fail> {
+    let (kind, place) = cut(row, " ")?;
+    let number = u64::from(number(place)?);
+    let lasting = kind == "static";
+    Ok(VarId { number, lasting })
+}
+
 #[test]
 fn names_are_numbered(rt: HostRuntime) -> Result<(), Fail> {
     let mut globals = Globals::new(rt.alloc())?;
     for row in NAMES.trim().lines() {
         let (name, row) = cut(row, "=>")?;
-        let (kind, place) = cut(row, " ")?;
-        let var = VarId {
-            number: u64::from(number(place)?),
-            lasting: kind == "static",
-        };
-        expect_name(&rt, &mut globals, name, var)?;
+        expect_name(&rt, &mut globals, name, variable(row)?)?;
     }
     same_number(&rt, globals.len(), 4, "names");
     Ok(())

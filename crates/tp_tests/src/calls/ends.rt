@@ -37,38 +37,44 @@ fn expect_refusal(
     Ok(())
 }
 
+fn expect_source_refusal(
+    rt: &(impl Abort + AllocGlobal),
+    kind: SourceKind,
+    words: &str,
+) -> Result<(), Fail> {
+    let (line, column) = (2, 9);
+    let status = Status::SourceRefused { line, column, kind };
+    let text = format!(in rt.alloc(); "source refused: line 2 column 9: {words}\n")?;
+    expect_refusal(rt, &status, 10, text.as_str())
+}
+
 #[test]
-fn refusals_are_told(rt: HostRuntime) -> Result<(), Fail> {
+fn source_refusals_are_told(rt: HostRuntime) -> Result<(), Fail> {
     for (kind, words) in KINDS {
-        let status = Status::SourceRefused {
-            line: 2,
-            column: 9,
-            kind,
-        };
-        let text = format!(in rt.alloc(); "source refused: line 2 column 9: {words}\n")?;
-        expect_refusal(&rt, &status, 10, text.as_str())?;
-    }
-    let (which, other) = (Which::Source, Which::Inputs);
-    let rows = [
-        (
-            Status::InputsRefused { line: 3 },
-            11,
-            "inputs refused: line 3\n",
-        ),
-        (Status::WordsRefused, 12, "words refused\n"),
-        (Status::TooLong { which }, 13, "too long: source\n"),
-        (Status::TooLong { which: other }, 13, "too long: inputs\n"),
-        (Status::ReadFault { which }, 14, "read fault: source\n"),
-        (
-            Status::ReadFault { which: other },
-            14,
-            "read fault: inputs\n",
-        ),
-    ];
-    for (status, code, text) in &rows {
-        expect_refusal(&rt, status, *code, text)?;
+        expect_source_refusal(&rt, kind, words)?;
     }
     Ok(())
+}
+
+fn expect_unread(
+    rt: &(impl Abort + AllocGlobal),
+    which: Which,
+    long: &str,
+    fault: &str,
+) -> Result<(), Fail> {
+    expect_refusal(rt, &Status::TooLong { which }, 13, long)?;
+    expect_refusal(rt, &Status::ReadFault { which }, 14, fault)
+}
+
+#[test]
+fn other_refusals_are_told(rt: HostRuntime) -> Result<(), Fail> {
+    let inputs = Status::InputsRefused { line: 3 };
+    expect_refusal(&rt, &inputs, 11, "inputs refused: line 3\n")?;
+    expect_refusal(&rt, &Status::WordsRefused, 12, "words refused\n")?;
+    let (long, fault) = ("too long: source\n", "read fault: source\n");
+    expect_unread(&rt, Which::Source, long, fault)?;
+    let (long, fault) = ("too long: inputs\n", "read fault: inputs\n");
+    expect_unread(&rt, Which::Inputs, long, fault)
 }
 
 // The answers with which a run ends, and those that no line tells, with their exit statuses.

@@ -90,20 +90,27 @@ fn is_compound(kind: &PhraseKind) -> bool {
 /// The operands that a kind has by itself, at most three.
 fn operands<'a>(kind: &'a PhraseKind) -> [Option<&'a Phrase>; 3] {
     match kind {
-        PhraseKind::Size(a) => [Some(a), None, None],
-        PhraseKind::Minus(a) => [Some(a), None, None],
-        PhraseKind::Next(a) => [Some(a), None, None],
-        PhraseKind::Not(a) => [Some(a), None, None],
-        PhraseKind::Exists(_, a) => [Some(a), None, None],
-        PhraseKind::Index(a, b) => [Some(a), Some(b), None],
-        PhraseKind::Binary(_, a, b) => [Some(a), Some(b), None],
-        PhraseKind::If(a, b, None) => [Some(a), Some(b), None],
+        PhraseKind::Size(a)
+        | PhraseKind::Minus(a)
+        | PhraseKind::Next(a)
+        | PhraseKind::Not(a)
+        | PhraseKind::Exists(_, a) => [Some(a), None, None],
+        PhraseKind::Index(a, b)
+        | PhraseKind::Binary(_, a, b)
+        | PhraseKind::If(a, b, None)
+        | PhraseKind::While(a, b)
+        | PhraseKind::Repeat(a, b)
+        | PhraseKind::For(_, a, b)
+        | PhraseKind::Forall(_, a, b) => [Some(a), Some(b), None],
         PhraseKind::If(a, b, Some(c)) => [Some(a), Some(b), Some(c)],
-        PhraseKind::While(a, b) => [Some(a), Some(b), None],
-        PhraseKind::Repeat(a, b) => [Some(a), Some(b), None],
-        PhraseKind::For(_, a, b) => [Some(a), Some(b), None],
-        PhraseKind::Forall(_, a, b) => [Some(a), Some(b), None],
-        _ => [None, None, None],
+        PhraseKind::Number(_)
+        | PhraseKind::Truth(_)
+        | PhraseKind::Name(_)
+        | PhraseKind::List(_)
+        | PhraseKind::And(_)
+        | PhraseKind::Bare(_)
+        | PhraseKind::Form(_, _)
+        | PhraseKind::Call(_, _) => [None, None, None],
     }
 }
 
@@ -178,19 +185,32 @@ fn begin<'a>(
     Ok(())
 }
 
+/// Writes a piece, and leaves the operands of a phrase to be written.
+fn append_piece<'a>(
+    alloc: Global,
+    out: &mut Text,
+    piece: Piece<'a>,
+    places: bool,
+    left: &mut Vec<Piece<'a>>,
+) -> Result<(), NoMemory> {
+    match piece {
+        Piece::Close => out.append(b")"),
+        Piece::Operand(phrase) => {
+            out.append(b" ")?;
+            begin(alloc, out, phrase, places, left)
+        }
+    }
+}
+
 /// Writes a phrase, with the places of it and its operands where these are wanted, cut off after 10,000 pieces.
 fn spell(alloc: Global, out: &mut Text, phrase: &Phrase, places: bool) -> Result<(), NoMemory> {
     let mut left = Vec::new(alloc);
     begin(alloc, out, phrase, places, &mut left)?;
     for _ in 0..10_000 {
-        match left.pop() {
-            None => return Ok(()),
-            Some(Piece::Close) => out.append(b")")?,
-            Some(Piece::Operand(phrase)) => {
-                out.append(b" ")?;
-                begin(alloc, out, phrase, places, &mut left)?;
-            }
-        }
+        let Some(piece) = left.pop() else {
+            return Ok(());
+        };
+        append_piece(alloc, out, piece, places, &mut left)?;
     }
     Ok(())
 }

@@ -55,13 +55,13 @@ pub formula-returns-in-For : goal.formula-returns-in-For
 formula-returns-in-For t c =
     let names = names_seen c.args.names.now in
     let seen = tree_of_for c.args.phrase.now c.in-For.name c.in-For.to c.in-For.body c.deref-in-For-2.result.now c.deref-in-For.result.now c.in-For.is c.deref-in-For-2.ensures c.deref-in-For.ensures in
-    subst (λ (p : PhraseTree). AnswersCheck formula_tree (formula_of names p) c.for_loop.result) (sym seen) c.for_loop.ensures
+    subst (λ (p : PhraseTree). AnswersCheck formula_tree (formula_of names p) c.over_numbers.result) (sym seen) c.over_numbers.ensures
 
 pub formula-returns-in-Forall : goal.formula-returns-in-Forall
 formula-returns-in-Forall t c =
     let names = names_seen c.args.names.now in
     let seen = tree_of_forall c.args.phrase.now c.in-Forall.name c.in-Forall.to c.in-Forall.body c.deref-in-Forall-2.result.now c.deref-in-Forall.result.now c.in-Forall.is c.deref-in-Forall-2.ensures c.deref-in-Forall.ensures in
-    subst (λ (p : PhraseTree). AnswersCheck formula_tree (formula_of names p) c.for_all.result) (sym seen) c.for_all.ensures
+    subst (λ (p : PhraseTree). AnswersCheck formula_tree (formula_of names p) c.over_numbers-in-Forall.result) (sym seen) c.over_numbers-in-Forall.ensures
 
 pub formulas-loop-phrase-init : goal.formulas-loop-phrase-init
 formulas-loop-phrase-init t c =
