@@ -1,6 +1,8 @@
 //! Runs a program of interval temporal logic.
 #![tactic(auto)]
 
+ghost use Rattle.std.specs.Prelude.{◌≡◌, ◌⊎◌, IfErr};
+
 use std::alloc::Global;
 use std::env::Env;
 use std::marker::Brand;
@@ -21,7 +23,9 @@ fn text_of(alloc: Global, word: &str) -> Result<Text, NoMemory> {
 }
 
 // The words after the program's name; at `Err` the exit status.
-fn given_words<R: Env + AllocGlobal>(rt: &R) -> Result<Vec<Text>, u8> {
+fn given_words<R: Env + AllocGlobal>(rt: &R) -> Result<Vec<Text>, u8>
+    ensures { IfErr result (λ code. (code ≡ 16) ⊎ (code ≡ 20)) }
+{
     let mut words = Vec::new(rt.alloc());
     let args = env::args(rt).map_err(|e| match e.kind() {
         io::ErrorKind::OutOfMemory => NO_MEMORY,
