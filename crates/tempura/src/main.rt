@@ -10,7 +10,7 @@ use std::process::ExitCode;
 use std::sync::ledger::Blank;
 use std::{env, io};
 use tp_call::counted;
-use tp_io::{RealFiles, RealSink};
+use tp_io::{RealFiles, RealSink, RuntimeFiles, RuntimeWriter};
 use tp_value::{NoMemory, Text};
 
 // The words could not be had, for another cause than memory.
@@ -43,8 +43,8 @@ fn main(rt: HostRuntime) -> ExitCode {
         Ok(words) => words,
         Err(code) => return ExitCode::from(code),
     };
-    let mut files = RealFiles::new(&rt);
-    let mut out = RealSink::new(io::writer(&rt));
+    let mut files = RealFiles::new(RuntimeFiles::new(&rt));
+    let mut out = RealSink::new(RuntimeWriter::new(io::writer(&rt)));
     let status = counted::<Brand, _, _>(
         rt.alloc(),
         words.as_slice(),

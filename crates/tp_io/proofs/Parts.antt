@@ -1,6 +1,6 @@
 -- Bytes that are appended in parts.
-use Rattle.std.proofs.Common.{◌≡◌, ◌+◌, ◌-◌, ℕ, List, ◌++◌, length, take, drop, Option, None, Some, ap, sym, ◌∙◌, append_assoc, arith, length-drop}
-use Rattle.std.proofs.lemmas.List.{take_all}
+use Rattle.std.proofs.Common.{◌≡◌, ◌+◌, ◌-◌, ℕ, List, [], ◌++◌, length, take, drop, Option, None, Some, ap, sym, ◌∙◌, append_assoc, arith, length-drop}
+use Rattle.std.proofs.lemmas.List.{take_all, append-nil}
 use Rattle.std.proofs.Math.Seq.{take-add}
 use Rattle.std.specs.Io.KnownBytes.{Appends, Keeps}
 
@@ -20,3 +20,8 @@ Appends_kept (Some x) (Some y) (Some z) piece h k = k ∙ h
 -- the rest of a list from n on
 pub rest_is : (n : ℕ) (l : List ℕ) → take (length l - n) (drop n l) ≡ drop n l
 rest_is n l = take_all (length l - n) (drop n l) (omega (arith, length-drop n l))
+
+-- no bytes
+pub Appends_none : (told : Option (List ℕ)) → Appends told told []
+Appends_none None = tt
+Appends_none (Some x) = sym (append-nil x)

@@ -1,45 +1,47 @@
-// The real files, and any writer of std. They tell no content and no names asked for.
-ghost use Rattle.std.specs.Prelude.{◌≡◌, ◌≤◌, ◌↔◌, IsTrue, length, take, None, Some, IfOk, IfSome, OnOk, OnErr, IsErrOf};
-ghost use Rattle.std.specs.declared.io.ErrorKind.{ErrorKind};
-ghost use Rattle.std.specs.IoError.{error_kind};
-ghost use Rattle.std.specs.Io.KnownBytes.{Appends, Keeps};
+// The real files and the real output, over the calls of the system.
+ghost use Rattle.std.specs.Prelude.{◌≡◌, ◌≤◌, ◌<◌, ◌++◌, ℕ, List, Option, length, take, drop, None, IfOk, IfSome, OnOk, OnErr, IsErrOf, false};
+ghost use Rattle.std.specs.Io.KnownBytes.{Appends, Consumes, IsAtEnd, Keeps};
 ghost use Rattle.tp_io.specs.Devices.{Reads, Rose, AppendsPart, next_count, reads_failed_after, writes_failed_after, last_count};
+ghost use Rattle.tp_io.specs.SystemCalls.{FileCall, WriteCall, ReadsFile, ReadsOpen, WritesPiece, OneRead, OneWrite, and_these, refusal_of};
 
+use crate::system::{CallFault, SystemFiles, SystemWriter};
 use crate::{FileRefusal, Files, Sink, WriteRefusal};
 use std::alloc::Global;
-use std::io::{Read, Write};
-use std::{fs, io, rt};
 use tp_value::{Bytes, Text};
 
-/// The files of a runtime. A name that is not there, or that cannot be read to the end, is a fault; each fault raises the count.
+// The most bytes that one call is asked for.
+const MOST_ASKED: usize = 65_536;
+
+/// The files of a system. A name that is not there, or that cannot be read to the end, is a fault; each fault raises the count.
 #[derive(Drop)]
-pub struct RealFiles<R: rt::Files> {
-    runtime: R,
+pub struct RealFiles<C: SystemFiles> {
+    pub system: C,
     faults: u64,
 }
 
-/// A writer of std. An error is a fault, and so is a write that takes nothing of a piece that is not empty;
+/// The writer of a system. An error is a fault, and so is a write that takes nothing of a piece that is not empty;
 /// each fault raises the count.
 #[derive(Drop)]
-pub struct RealSink<W: Write> {
-    pub writer: W,
+pub struct RealSink<C: SystemWriter> {
+    pub system: C,
     faults: u64,
 }
 
-impl<R: rt::Files> RealFiles<R> {
-    pub fn new(runtime: R) -> Self
-        ensures { ⟦<RealFiles<R> as Files>⟧.faults result ≡ 0 }
+impl<C: SystemFiles> RealFiles<C> {
+    pub fn new(system: C) -> Self
+        ensures system { result.system ≡ system }
+        ensures faults { ⟦<RealFiles<C> as Files>⟧.faults result ≡ 0 }
     {
-        RealFiles { runtime, faults: 0 }
+        RealFiles { system, faults: 0 }
     }
 }
 
-impl<W: Write> RealSink<W> {
-    pub fn new(writer: W) -> Self
-        ensures writer { result.writer ≡ writer }
-        ensures faults { ⟦<RealSink<W> as Sink>⟧.faults result ≡ 0 }
+impl<C: SystemWriter> RealSink<C> {
+    pub fn new(system: C) -> Self
+        ensures system { result.system ≡ system }
+        ensures faults { ⟦<RealSink<C> as Sink>⟧.faults result ≡ 0 }
     {
-        RealSink { writer, faults: 0 }
+        RealSink { system, faults: 0 }
     }
 }
 
@@ -50,97 +52,141 @@ fn one_more(faults: u64) -> u64
     faults.saturating_add(1)
 }
 
-// Whether memory was wanted.
-fn is_for_memory(error: &io::Error) -> bool
-    ensures { IsTrue result ↔ error_kind error.now ≡ ErrorKind.OutOfMemory }
+fn file_refusal(fault: CallFault) -> FileRefusal
+    ensures { result ≡ refusal_of fault }
 {
-    error.kind() == io::ErrorKind::OutOfMemory
-}
-
-fn file_refusal(error: &io::Error) -> FileRefusal
-    ensures { result ≡ FileRefusal.NoMemory ↔ error_kind error.now ≡ ErrorKind.OutOfMemory }
-{
-    if is_for_memory(error) {
-        FileRefusal::NoMemory
-    } else {
-        FileRefusal::Failed
+    match fault {
+        CallFault::Interrupted | CallFault::Failed => FileRefusal::Failed,
+        CallFault::NoMemory => FileRefusal::NoMemory,
     }
 }
 
-fn write_refusal(error: &io::Error) -> WriteRefusal
-    ensures { result ≡ WriteRefusal.NoMemory ↔ error_kind error.now ≡ ErrorKind.OutOfMemory }
+// One read of so many bytes, which are appended. Whether there may be more: at the file's end there is none.
+fn read_more<C: SystemFiles>(
+    alloc: Global,
+    system: &mut C,
+    asked: usize,
+    items: &mut Vec<u8>,
+) -> Result<bool, FileRefusal>
+    requires some { 0 < asked }
+    ensures call { (calls : List FileCall)
+        × (C.calls system.new ≡ and_these (C.calls system.old) calls)
+        × OneRead asked calls items.old.items items.new.items result }
+    ensures held { C.held system.new ≡ C.held system.old }
+    ensures bytes { IfOk result (λ more. (bytes : List ℕ)
+        × (items.new.items ≡ items.old.items ++ bytes)
+        × Consumes (C.remaining system.old) (C.remaining system.new) bytes
+        × (more ≡ false → IsAtEnd (C.remaining system.new))) }
 {
-    if is_for_memory(error) {
-        WriteRefusal::NoMemory
-    } else {
-        WriteRefusal::Failed
+    let mut buffer = vec![in alloc; 0u8; asked]?;
+    match system.read(buffer.as_mut_slice()) {
+        Ok(0) => Ok(false),
+        Ok(count) => {
+            buffer.truncate(count);
+            match items.append(&mut buffer) {
+                Ok(()) => Ok(true),
+                Err(_) => Err(FileRefusal::NoMemory),
+            }
+        }
+        Err(CallFault::Interrupted) => Ok(true),
+        Err(CallFault::NoMemory) => Err(FileRefusal::NoMemory),
+        Err(CallFault::Failed) => Err(FileRefusal::Failed),
     }
 }
 
-// Reads until the source gives nothing or so many bytes were read.
-fn read_first<S: Read + Drop>(alloc: Global, source: S, most: usize) -> Result<Bytes, FileRefusal>
+// Reads the open file until it gives nothing or so many bytes were read.
+fn read_open<C: SystemFiles>(
+    alloc: Global,
+    system: &mut C,
+    most: usize,
+) -> Result<Bytes, FileRefusal>
+    ensures calls { (calls : List FileCall)
+        × (C.calls system.new ≡ and_these (C.calls system.old) calls)
+        × ReadsOpen most calls result }
+    ensures held { C.held system.new ≡ C.held system.old }
     ensures within { IfOk result (λ bytes. length bytes ≤ most) }
     ensures first { IfOk result (λ bytes.
-        IfSome (S.remaining source) (λ all. bytes ≡ take most all)) }
+        IfSome (C.remaining system.old) (λ all. bytes ≡ take most all)) }
 {
     let mut items = Vec::new(alloc);
-    source
-        .take(most as u64)
-        .read_to_end(&mut items)
-        .map_err(|e| file_refusal(&e))?;
-    items.truncate(most);
-    Ok(Text { items })
+    'reads: for _ in 0..u64::MAX {
+        let asked = (most - items.len()).min(MOST_ASKED);
+        if asked == 0 {
+            return Ok(Text { items });
+        }
+        match read_more(alloc, system, asked, &mut items) {
+            Ok(true) => {}
+            Ok(false) => return Ok(Text { items }),
+            Err(refusal) => return Err(refusal),
+        }
+    }
+    Err(FileRefusal::Failed)
 }
 
-fn open_and_read<R: rt::Files>(
+fn open_and_read<C: SystemFiles>(
     alloc: Global,
-    runtime: &R,
+    system: &mut C,
     name: &str,
     most: usize,
 ) -> Result<Bytes, FileRefusal>
-    ensures within { IfOk result (λ bytes. length bytes ≤ most) }
+    ensures calls { (calls : List FileCall)
+        × (C.calls system.new ≡ and_these (C.calls system.old) calls)
+        × ReadsFile name.now most calls result }
+    ensures held { C.held system.new ≡ C.held system.old }
+    ensures bytes { IfOk result (Reads (C.held system.old) name.now most) }
     ensures opened { IfOk result (λ bytes.
-        (file : R.File) × IfSome (R.File.remaining file) (λ all. bytes ≡ take most all)) }
+        (file : C) × IfSome (C.remaining file) (λ all. bytes ≡ take most all)) }
 {
-    let file = fs::open(runtime, name).map_err(|e| file_refusal(&e))?;
-    let bytes = read_first(alloc, file, most)?;
-    Ok(bytes)
+    match system.open(name) {
+        Ok(()) => read_open(alloc, system, most),
+        Err(fault) => Err(file_refusal(fault)),
+    }
 }
 
 // Writes some of the bytes, of which there are some, and says how many; none where it was interrupted.
-fn write_some<W: Write>(writer: &mut W, bytes: &[u8]) -> Result<usize, WriteRefusal>
+fn write_some<C: SystemWriter>(system: &mut C, bytes: &[u8]) -> Result<usize, WriteRefusal>
+    ensures call { (calls : List WriteCall)
+        × (C.calls system.new ≡ and_these (C.calls system.old) calls)
+        × OneWrite bytes.now calls result }
     ensures within { IfOk result (λ count. count ≤ length bytes.now) }
     ensures ok { IfOk result (λ count.
-        Appends (W.contents writer.old) (W.contents writer.new) (take count bytes.now)) }
-    ensures err { OnErr result (Keeps (W.contents writer.old) (W.contents writer.new)) }
+        Appends (C.contents system.old) (C.contents system.new) (take count bytes.now)) }
+    ensures err { OnErr result (Keeps (C.contents system.old) (C.contents system.new)) }
 {
-    match writer.write(bytes) {
+    match system.write(bytes) {
         Ok(0) => Err(WriteRefusal::Failed),
         Ok(count) => Ok(count),
-        Err(error) if error.kind() == io::ErrorKind::Interrupted => Ok(0),
-        Err(error) => Err(write_refusal(&error)),
+        Err(CallFault::Interrupted) => Ok(0),
+        Err(CallFault::NoMemory) => Err(WriteRefusal::NoMemory),
+        Err(CallFault::Failed) => Err(WriteRefusal::Failed),
     }
 }
 
 // Writes the piece, some of it at a time. At `Err` a part of it from its start was written.
-fn write_whole<W: Write>(writer: &mut W, piece: &[u8]) -> Result<(), WriteRefusal>
-    ensures ok { OnOk result (Appends (W.contents writer.old) (W.contents writer.new) piece.now) }
+fn write_whole<C: SystemWriter>(system: &mut C, piece: &[u8]) -> Result<(), WriteRefusal>
+    ensures calls { (calls : List WriteCall)
+        × (C.calls system.new ≡ and_these (C.calls system.old) calls)
+        × WritesPiece piece.now calls result }
+    ensures ok { OnOk result
+        (Appends (C.contents system.old) (C.contents system.new) piece.now) }
     ensures err { OnErr result
-        (AppendsPart (W.contents writer.old) (W.contents writer.new) piece.now) }
+        (AppendsPart (C.contents system.old) (C.contents system.new) piece.now) }
 {
     let mut written = 0;
     'pieces: for _ in 0..u64::MAX {
         if written == piece.len() {
             return Ok(());
         }
-        let count = write_some(writer, &piece[written..])?;
-        written += count;
+        match write_some(system, &piece[written..]) {
+            Ok(count) => written += count,
+            Err(refusal) => return Err(refusal),
+        }
     }
     Err(WriteRefusal::Failed)
 }
 
-impl<R: rt::Files> Files for RealFiles<R> {
-    ghost held = { λ _. None };
+impl<C: SystemFiles> Files for RealFiles<C> {
+    ghost held = { λ s. C.held s.system };
 
     ghost asked = { λ _. None };
 
@@ -148,17 +194,23 @@ impl<R: rt::Files> Files for RealFiles<R> {
 
     ghost greatest = { last_count };
 
+    /// The calls of the system that this makes are one that opens the file and those that read it, of which none asks for more than is
+    /// still wanted, and none comes after one that failed; so a fault comes only where one of them failed.
     fn read(&mut self, alloc: Global, name: &str, most: usize) -> Result<Bytes, FileRefusal>
-        ensures bytes { IfOk result (Reads None name.now most) }
+        ensures bytes { IfOk result (Reads (C.held self.old.system) name.now most) }
+        ensures held { C.held self.new.system ≡ C.held self.old.system }
         ensures later { self.old.faults ≤ self.new.faults }
         ensures cause { IsErrOf result FileRefusal.Failed
             → Rose last_count self.old.faults self.new.faults }
 
+        ensures calls { (calls : List FileCall)
+            × (C.calls self.new.system ≡ and_these (C.calls self.old.system) calls)
+            × ReadsFile name.now most calls result }
         ensures opened { IfOk result (λ bytes.
-            (file : R.File) × IfSome (R.File.remaining file) (λ all. bytes ≡ take most all)) }
+            (file : C) × IfSome (C.remaining file) (λ all. bytes ≡ take most all)) }
         ensures count { self.new.faults ≡ reads_failed_after last_count self.old.faults result }
     {
-        let outcome = open_and_read(alloc, &self.runtime, name, most);
+        let outcome = open_and_read(alloc, &mut self.system, name, most);
         if let Err(FileRefusal::Failed) = &outcome {
             self.faults = one_more(self.faults);
         }
@@ -166,25 +218,30 @@ impl<R: rt::Files> Files for RealFiles<R> {
     }
 }
 
-impl<W: Write> Sink for RealSink<W> {
+impl<C: SystemWriter> Sink for RealSink<C> {
     ghost written = { λ _. None };
 
     ghost faults = { λ s. s.faults };
 
     ghost greatest = { last_count };
 
+    /// The calls of the system that this makes are handed all that is still to be written, and none comes after one that failed or took
+    /// nothing; so a fault comes only where one of them failed or took nothing, and want of memory only where one wanted it.
     fn write(&mut self, _alloc: Global, piece: &[u8]) -> Result<(), WriteRefusal>
         ensures later { self.old.faults ≤ self.new.faults }
         ensures cause { IsErrOf result WriteRefusal.Failed
             → Rose last_count self.old.faults self.new.faults }
 
+        ensures calls { (calls : List WriteCall)
+            × (C.calls self.new.system ≡ and_these (C.calls self.old.system) calls)
+            × WritesPiece piece.now calls result }
         ensures appended { OnOk result
-            (Appends (W.contents self.old.writer) (W.contents self.new.writer) piece.now) }
+            (Appends (C.contents self.old.system) (C.contents self.new.system) piece.now) }
         ensures part { OnErr result
-            (AppendsPart (W.contents self.old.writer) (W.contents self.new.writer) piece.now) }
+            (AppendsPart (C.contents self.old.system) (C.contents self.new.system) piece.now) }
         ensures count { self.new.faults ≡ writes_failed_after last_count self.old.faults result }
     {
-        let outcome = write_whole(&mut self.writer, piece);
+        let outcome = write_whole(&mut self.system, piece);
         if let Err(WriteRefusal::Failed) = &outcome {
             self.faults = one_more(self.faults);
         }

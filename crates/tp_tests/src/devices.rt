@@ -6,8 +6,8 @@ use std::fs;
 use std::process::Abort;
 use std::test::Fail;
 use tp_io::{
-    Content, Failure, FileRefusal, Files, Page, RealFiles, RealSink, Shelf, Sink, SurePage,
-    SureShelf, WriteRefusal,
+    Content, Failure, FileRefusal, Files, Page, RealFiles, RealSink, RuntimeFiles, RuntimeWriter,
+    Shelf, Sink, SurePage, SureShelf, WriteRefusal,
 };
 use tp_value::NoMemory;
 
@@ -87,15 +87,15 @@ fn pages_are_written(rt: HostRuntime) -> Result<(), Fail> {
 
 #[test]
 fn real_devices_meet(rt: HostRuntime) -> Result<(), Fail> {
-    let mut sink = RealSink::new(fs::create(&rt, "real_devices_meet.txt")?);
+    let mut sink = RealSink::new(RuntimeWriter::new(fs::create(&rt, "real_devices_meet.txt")?));
     expect_written(&rt, &mut sink, "fi", None);
     expect_written(&rt, &mut sink, "rst", None);
-    let mut files = RealFiles::new(&rt);
+    let mut files = RealFiles::new(RuntimeFiles::new(&rt));
     expect_read(&rt, &mut files, "real_devices_meet.txt", "firs", None);
     fs::remove_file(&rt, "real_devices_meet.txt")?;
     let failed = Some(FileRefusal::Failed);
     expect_read(&rt, &mut files, "real_devices_meet.txt", "", failed);
-    let mut unread = RealSink::new(fs::open(&rt, "/dev/null")?);
+    let mut unread = RealSink::new(RuntimeWriter::new(fs::open(&rt, "/dev/null")?));
     expect_written(&rt, &mut unread, "x", Some(WriteRefusal::Failed));
     Ok(())
 }
