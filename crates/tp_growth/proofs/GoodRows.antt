@@ -16,7 +16,7 @@ use Rattle.tp_scene.specs.Scene.{Bindings, Side, Leaf, Do, Later, Shown, Entries
 use Rattle.tp_scene.specs.Step.{Reduction, PickOutcome, reduces, passes, knows, added, Numbers, marking, Target, value_at, length_at, set, SideOf, meets, equate, side_of, from_port, formula_step, leaf_step}
 use Rattle.tp_scene.specs.Pick.{Setting}
 use Rattle.tp_scene.specs.Fits.{IsCalm}
-use Rattle.tp_scene.proofs.Grown.{other_side}
+use Rattle.tp_scene.proofs.Told.{other_side}
 use Rattle.tp_growth.specs.Rows.{Grows, IsFailure}
 use Rattle.tp_growth.specs.Outcomes.{KnowsMore}
 use Rattle.tp_inputs.specs.Within.{InputsWithin}

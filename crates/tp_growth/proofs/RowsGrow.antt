@@ -11,7 +11,7 @@ use Rattle.tp_scene.specs.Fits.{IsCalm}
 use Rattle.tp_growth.specs.Rows.{Grows, IsFailure, SameFacts, GrownTo, LeafRowsGrow, HolderGrown, HolderRowsGrow}
 use Rattle.tp_growth.specs.Outcomes.{KnowsMore}
 use Rattle.tp_growth.specs.Within.{LengthsAreWithin}
-use Rattle.tp_scene.proofs.Grown.{other_side}
+use Rattle.tp_scene.proofs.Told.{other_side}
 use Rattle.tp_growth.proofs.Table.{status_case, Respects, formula_row}
 use Rattle.tp_growth.proofs.EqGrow.{nothing_new, bad_grown, equate_grows}
 use Rattle.tp_growth.proofs.SideGrow.{side_grows, value_side}

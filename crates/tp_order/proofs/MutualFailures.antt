@@ -13,7 +13,7 @@ use Rattle.tp_scene.specs.Scene.{Side, Ending, Going, marked, Leaf, Holder, Entr
 use Rattle.tp_scene.specs.Step.{Reduction, PickOutcome, reduces, knows, Numbers, Target, value_at, length_at, set, leaf_step, holder_step}
 use Rattle.tp_scene.specs.Pick.{Setting, Moment, pick, outcome_of, Reduces}
 use Rattle.tp_scene.specs.Fits.{IsCalm}
-use Rattle.tp_scene.proofs.Grown.{other_side}
+use Rattle.tp_scene.proofs.Told.{other_side}
 use Rattle.tp_order.specs.Edits.{Edit, is_side, head_after, edited, single, Thing, of_leaf, of_holder, GrowsThing, At, this_leaf, past_leaf, this_node, in_first, in_second, past_node, edit_of}
 use Rattle.tp_growth.specs.Rows.{Grows, IsFailure, HolderGrown}
 use Rattle.tp_growth.specs.Outcomes.{KnowsMore}

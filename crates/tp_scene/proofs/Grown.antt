@@ -5,11 +5,8 @@ use Rattle.tp_meaning.specs.Syntax.{Definition}
 use Rattle.tp_store.specs.Known.{Variable}
 use Rattle.tp_scene.specs.Scene.{Side, Ending, Going, Head, marked, Leaf, Do, Later, Shown, Holder, Split, SplitProject, Closed, Opened, Running, Entries, none, leaf, node, second_lives, rises, sinks, forced, risen, Place, held_place, second_place}
 use Rattle.tp_scene.specs.Fits.{IsCalm, LeafFits, HolderFits, EntriesFit}
+use Rattle.tp_scene.proofs.Told.{other_side}
 use Rattle.tp_scene.proofs.NewsFit.{entries_calm, IsMore}
-
-abbrev pub other_side : Side → Side
-other_side Ending = Going
-other_side Going = Ending
 
 -- what rises from the entries is the region's
 abbrev pub Covers : Place → Entries → Type 0

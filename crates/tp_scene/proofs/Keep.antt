@@ -3,17 +3,19 @@ use Rattle.std.proofs.Common.{◌≡◌, ℕ, Bool, true, false, ◌&&◌, eqb, 
 use Rattle.std.proofs.lemmas.Bool.{cases_Bool, and_parts, cond-true, cond-false, false≢true}
 use Rattle.tp_meaning.specs.Syntax.{Definition}
 use Rattle.tp_meaning.specs.Course.{Course}
+use Rattle.tp_value.specs.declared.path.Fact.{Fact}
 use Rattle.tp_store.specs.Known.{Contents, Variable}
-use Rattle.tp_scene.specs.Scene.{Leaf, Head, Holder, Split, SplitProject, Closed, Opened, Running, Entries, none, leaf, node, second_lives, has, rises, sinks, forced, Place, held_place, second_place}
+use Rattle.tp_scene.specs.Scene.{Leaf, Head, Holder, Split, SplitProject, Closed, Opened, Running, Entries, none, leaf, node, Region, second_lives, has, rises, sinks, forced, Place, held_place, second_place}
 use Rattle.tp_scene.specs.Says.{Claim, Says, LeafSays, HolderSays, RegionSays}
-use Rattle.tp_scene.specs.Step.{PickOutcome, reduces, waits, rests, clashes, misses, passes, Numbers, leaf_step}
+use Rattle.tp_scene.specs.Step.{PickOutcome, reduces, waits, rests, clashes, misses, passes, Numbers, leaf_step, holder_step}
 use Rattle.tp_scene.specs.Pick.{Setting, pick, mark_at, put}
 use Rattle.tp_scene.specs.StandsFor.{context_of}
-use Rattle.tp_scene.specs.Fits.{HolderFits, EntriesFit}
+use Rattle.tp_scene.specs.Fits.{LeafFits, HolderFits, EntriesFit}
 use Rattle.tp_scene.proofs.Below.{LeafBelow, HolderBelow, IfSecond, if_second, Below, entries_below}
 use Rattle.tp_scene.proofs.Carry.{Carried, leaf_carried, holder_carried, region_carried}
 use Rattle.tp_scene.proofs.Lens.{each_side, no_side, first_lens, second_lens}
 use Rattle.tp_scene.proofs.Frame.{IsOf, region, Never, Keeps, KeepsIn, here_swap, later_swap, node_swap, descend, descend_never}
+use Rattle.tp_scene.proofs.Parts.{picked_has}
 use Rattle.tp_scene.proofs.Asked.{LeavesKeep, HoldersKeep}
 use Rattle.tp_scene.proofs.Risen.{StatusKept, status_put, pick_here, pick_second, pick_first, pick_later}
 
@@ -24,6 +26,14 @@ live_fits defs kinds variables (SplitProject f env) held q X Y e h = absurd (fal
 live_fits defs kinds variables Closed held q X Y e h = absurd (false≢true e)
 live_fits defs kinds variables (Opened f env) held q X Y e h = absurd (false≢true e)
 live_fits defs kinds variables (Running f env) held q X Y e h = h.1
+
+-- what the rows of items that fit have, what is picked among them has
+pub picked_fit : (P : PickOutcome → Type 0) (w : Setting) (facts : List Fact) (t : ℕ) (n : Numbers) (kinds : List Bool) (variables : List Variable) → P rests
+    → ((l : Leaf) (p : Place) → LeafFits w.defs kinds variables l p → P (leaf_step w.defs w.inputs w.state facts l p n))
+    → ((k : Holder) (held second : Region) (q : Place) → P (holder_step w.defs w.inputs w.state facts k held second q n))
+    → (es : Entries) (p : Place) → EntriesFit w.defs kinds variables es p → P (pick w facts t es p n)
+picked_fit P w facts t n kinds variables resting leaves holders = picked_has P w facts t n (EntriesFit w.defs kinds variables) resting (λ id l rest p fit. (leaves l p fit.0, fit.1))
+    (λ id k h held g second rest p fit. (holders k (region h held) (region g second) (held_place k h held p), (λ e. live_fits w.defs kinds variables k held _ _ _ e fit.0), fit.1, fit.2))
 
 module _ (w : Setting) (kinds : List Bool) (store : Contents) (nn : Numbers) (e : ℕ) (local : nn.local ≡ length store.variables)
     (leaves : LeavesKeep w kinds store nn e) (holders : HoldersKeep w kinds store nn e) where

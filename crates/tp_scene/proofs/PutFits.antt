@@ -13,8 +13,10 @@ use Rattle.tp_scene.specs.Fits.{kinds_in, IsCalm, Dormant, HolderFits, EntriesFi
 use Rattle.tp_scene.proofs.Frame.{region}
 use Rattle.tp_scene.proofs.Keep.{live_fits}
 use Rattle.tp_scene.proofs.Risen.{StatusKept, status_put, status_marked, pick_here, pick_second, pick_first, pick_later}
-use Rattle.tp_scene.proofs.NewsFit.{entries_calm, entries_depth, MarkIn, LocalIn, IsMore, FitsAs, leaf_fits}
-use Rattle.tp_scene.proofs.Grown.{other_side, Covers, not_both, Grown, grown_calm, grown_held, grown_second, covers_rest, covers_first, covers_second, held_covered, second_covered, same_held, same_second, leaf_grown, holder_grown, fits_grown}
+use Rattle.tp_scene.proofs.FitsTold.{LocalIn}
+use Rattle.tp_scene.proofs.NewsFit.{entries_calm, entries_depth, MarkIn, IsMore, FitsAs, leaf_fits}
+use Rattle.tp_scene.proofs.Told.{other_side}
+use Rattle.tp_scene.proofs.Grown.{Covers, not_both, Grown, grown_calm, grown_held, grown_second, covers_rest, covers_first, covers_second, held_covered, second_covered, same_held, same_second, leaf_grown, holder_grown, fits_grown}
 use Rattle.tp_scene.proofs.PutStatus.{side_of_mark, mark_at_other, mark_at_set, dormant_head, dormant_risen, or_false, marked_apart, put_rises}
 
 no_side_new : (x : Side) (b : Bool) (n : ℕ) → (b || (false || (marked x (new_head n) || false))) ≡ true → b ≡ true

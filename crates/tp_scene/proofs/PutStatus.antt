@@ -12,7 +12,8 @@ use Rattle.tp_scene.proofs.Frame.{region}
 use Rattle.tp_scene.proofs.Risen.{pick_here, pick_second, pick_first, pick_later}
 use Rattle.tp_scene.proofs.Keep.{live_fits}
 use Rattle.tp_scene.proofs.NewsFit.{entries_calm}
-use Rattle.tp_scene.proofs.Grown.{other_side, Covers, not_both, rises_sinks, covers_rest, covers_first, covers_second, held_covered, second_covered}
+use Rattle.tp_scene.proofs.Told.{other_side}
+use Rattle.tp_scene.proofs.Grown.{Covers, not_both, rises_sinks, covers_rest, covers_first, covers_second, held_covered, second_covered}
 use Rattle.tp_scene.proofs.Plain.{FreshLeaves, IsNewHolder, Plain, IsPlain, leaf_plain}
 
 -- the side of a mark, where there is one
