@@ -7,7 +7,7 @@ use Rattle.tp_meaning.specs.Syntax.{Definition}
 use Rattle.tp_meaning.specs.Inputs.{InputLines}
 use Rattle.tp_store.specs.Facts.{facts_at}
 use Rattle.tp_store.specs.Known.{NoClash, adds, addition}
-use Rattle.tp_scene.specs.Scene.{Leaf, Do, Later, Shown, Holder, Split, SplitProject, Closed, Opened, Running, Entries, Region, Place, held_place}
+use Rattle.tp_scene.specs.Scene.{Leaf, Do, Holder, Closed, Opened, Running, Entries, Region, Place, held_place}
 use Rattle.tp_scene.specs.Step.{PickOutcome, reduces, waits, rests, clashes, misses, passes, Numbers, by_status, leaf_step, holder_step}
 use Rattle.tp_scene.specs.Pick.{Setting, pick}
 use Rattle.tp_scene.proofs.Frame.{region}
@@ -49,15 +49,13 @@ module _ (facts : List Fact) (kept : NoClash facts) where
     module _ (defs : List Definition) (inputs : InputLines) (state : ℕ) where
       leaf_apart : (l : Leaf) (p : Place) (n : Numbers) → IsApart (leaf_step defs inputs state facts l p n)
       leaf_apart (Do f env) p n = apart p n _ (loose_told Whatever NoClash defs inputs state facts (λ e xs. tt) (λ e xs o q. tt) (λ v. tt) values (λ q k. (refl, refl, tt)) f env p n)
-      leaf_apart (Later f env) p n = tt
-      leaf_apart (Shown vs) p n = tt
+      leaf_apart l p n = tt
 
       holder_apart : (k : Holder) (held second : Region) (q : Place) (n : Numbers) → IsApart (holder_step defs inputs state facts k held second q n)
-      holder_apart (Split f env) held second q n = status_apart q _ _ tt nothing_new
-      holder_apart (SplitProject f env) held second q n = status_apart q _ _ tt nothing_new
       holder_apart Closed held second q n = tt
       holder_apart (Opened f env) held second q n = status_apart q _ _ nothing_new tt
       holder_apart (Running f env) held second q n = tt
+      holder_apart k held second q n = status_apart q _ _ tt nothing_new
 
 pub picked_apart : ValuesApart → AdditionsApart → (w : Setting) (facts : List Fact) (kept : NoClash facts) (t : ℕ) (es : Entries) (p : Place) (n : Numbers) → IsApart facts kept (pick w facts t es p n)
 picked_apart values additions w facts kept t es p n =

@@ -1,7 +1,7 @@
 -- The facts of globals, of static variables, of locals, and of a value at a path.
 use Rattle.std.proofs.Common.{◌≡◌, ℕ, zero, suc, ◌+◌, ◌-◌, ◌<◌, ◌≤◌, nat_lt, Bool, List, [], ◌∷◌, ◌++◌, drop, map, slice_get, Some, refl, ap, sym, ◌∙◌, subst, arith, inl, inr, if◌then◌else◌}
 use Rattle.std.proofs.lemmas.Bool.{cases_lt, ltb-true, lt-ltb, le-ltb}
-use Rattle.tp_value.specs.Tree.{Tree, Trees, num, truth, list, nil, cons}
+use Rattle.tp_value.specs.Tree.{Tree, Trees, list, nil, cons}
 use Rattle.tp_value.specs.Shape.{shape_at_path}
 use Rattle.tp_value.specs.declared.path.Path.{Path}
 use Rattle.tp_value.specs.declared.path.Fact.{Fact}
@@ -55,9 +55,8 @@ of_append xs (f ∷ fs) gs h k = (h.0, of_append xs fs gs h.1 k)
 
 mutual
   pub facts_of_value : (xs : List Variable) (p : Path) (t : Tree) → IsVariableOf xs p.var → AreOfVariables xs (facts_at p t)
-  facts_of_value xs p (num n) h = (h, tt)
-  facts_of_value xs p (truth b) h = (h, tt)
   facts_of_value xs p (list ts) h = (h, facts_of_parts xs p 0 ts h)
+  facts_of_value xs p t h = (h, tt)
 
   facts_of_parts : (xs : List Variable) (p : Path) (k : ℕ) (ts : Trees) → IsVariableOf xs p.var → AreOfVariables xs (facts_of_items p k ts)
   facts_of_parts xs p k nil h = tt

@@ -9,7 +9,7 @@ use Rattle.tp_store.specs.Facts.{kept_shape}
 use Rattle.tp_store.specs.Known.{Variable, AreOfVariables, is_none}
 use Rattle.tp_store.proofs.Members.{in_filter}
 use Rattle.tp_store.proofs.Adding.{adds_all}
-use Rattle.tp_scene.specs.Scene.{Leaf, Do, Later, Shown, Holder, Split, SplitProject, Closed, Opened, Running, Entries, Region, Place}
+use Rattle.tp_scene.specs.Scene.{Leaf, Do, Holder, Closed, Running, Entries, Region, Place}
 use Rattle.tp_scene.specs.Step.{PickOutcome, reduces, waits, rests, clashes, misses, passes, Numbers, by_status, leaf_step, holder_step}
 use Rattle.tp_scene.specs.Pick.{Setting, pick}
 use Rattle.tp_scene.specs.Fits.{kinds_in, LeafFits, EntriesFit}
@@ -44,15 +44,12 @@ module _ (facts : List Fact) (kinds : List Bool) (variables : List Variable) (am
 
     leaf_facts : (l : Leaf) (p : Place) (n : Numbers) → LeafFits defs kinds variables l p → IsOfVariables (leaf_step defs inputs state facts l p n)
     leaf_facts (Do f env) p n fit = of_told p n _ (fits_told defs kinds variables n Whatever definitions among inputs state facts (λ e xs h k. tt) (λ e xs h k o q. tt) (λ v. tt) f env p fit)
-    leaf_facts (Later f env) p n fit = tt
-    leaf_facts (Shown vs) p n fit = tt
+    leaf_facts l p n fit = tt
 
     holder_facts : (k : Holder) (held second : Region) (q : Place) (n : Numbers) → IsOfVariables (holder_step defs inputs state facts k held second q n)
-    holder_facts (Split f env) held second q n = status_facts q _ _ tt tt
-    holder_facts (SplitProject f env) held second q n = status_facts q _ _ tt tt
     holder_facts Closed held second q n = tt
-    holder_facts (Opened f env) held second q n = status_facts q _ _ tt tt
     holder_facts (Running f env) held second q n = tt
+    holder_facts k held second q n = status_facts q _ _ tt tt
 
   pub picked_facts : (w : Setting) (definitions : DefinitionsFit w.defs kinds) (t : ℕ) (es : Entries) (p : Place) (n : Numbers) → EntriesFit w.defs kinds variables es p → IsOfVariables (pick w facts t es p n)
   picked_facts w definitions t es p n fit =

@@ -7,7 +7,7 @@ use Rattle.tp_meaning.specs.Syntax.{FormulaTree, Definition}
 use Rattle.tp_meaning.specs.Inputs.{InputLines}
 use Rattle.tp_meaning.specs.Fits.{DefinitionsFit, IsVariable}
 use Rattle.tp_store.specs.Known.{Variable}
-use Rattle.tp_scene.specs.Scene.{Bindings, Side, Ending, Going, marked, Leaf, Do, Later, Shown, Holder, Split, SplitProject, Closed, Opened, Running, Entries, none, leaf, node, append, new_head, no_region, Place, held_place}
+use Rattle.tp_scene.specs.Scene.{Bindings, Side, Ending, Going, marked, Leaf, Do, Later, Shown, Holder, Split, Opened, Entries, none, leaf, node, append, new_head, no_region, Place, held_place}
 use Rattle.tp_scene.specs.Step.{region_limit, PickOutcome, reduces, waits, rests, clashes, misses, passes, Numbers, leaf_step}
 use Rattle.tp_scene.specs.Fits.{kinds_in, IsCalm, PhraseFits, LeafFits, EntriesFit}
 use Rattle.tp_scene.proofs.Parts.{Whatever}
@@ -101,10 +101,8 @@ module _ (defs : List Definition) (kinds : List Bool) (definitions : Definitions
     holder_fits : (k : Holder) → HolderTold b facts p n k → (f : FormulaTree) (env : Bindings) → PhraseFits defs kinds variables f env → p'.depth < region_limit → (rest : Entries) → EntriesFit defs kinds variables rest p'
         → EntriesFit defs kinds variables (node (n.item 1) k (new_head n.region) (leaf (n.item 0) (Do f env) none) no_region none rest) p'
     holder_fits (Split g env') h f env u d rest r = split_fits f g env env' n.region (n.item 1) u h d rest r
-    holder_fits (SplitProject g env') h f env u d rest r = absurd h
-    holder_fits Closed h f env u d rest r = absurd h
     holder_fits (Opened g env') h f env u d rest r = opened_fits f g env env' n.region (n.item 1) u h d rest r
-    holder_fits (Running g env') h f env u d rest r = absurd h
+    holder_fits k h f env u d rest r = absurd h
 
     fits_as : (o : PickOutcome) → Told b facts p n o → FitsAs o p'
     fits_as (reduces x) h = λ m l rest r. elim (h.news l) [
@@ -116,5 +114,4 @@ module _ (defs : List Definition) (kinds : List Bool) (definitions : Definitions
 
     pub leaf_fits : (l : Leaf) → LeafFits defs kinds variables l p → FitsAs (leaf_step defs inputs state facts l p n) p'
     leaf_fits (Do f env) h = fits_as _ (fits_told defs kinds variables n Whatever definitions among inputs state facts (λ e xs u v. tt) (λ e xs u v o q. tt) (λ v. tt) f env p h)
-    leaf_fits (Later f env) h = tt
-    leaf_fits (Shown vs) h = tt
+    leaf_fits l h = tt

@@ -5,7 +5,7 @@ use Rattle.std.proofs.lemmas.Bool.{false≢true}
 use Rattle.tp_value.specs.declared.path.Fact.{Fact}
 use Rattle.tp_meaning.specs.Syntax.{Definition}
 use Rattle.tp_meaning.specs.Inputs.{InputLines}
-use Rattle.tp_scene.specs.Scene.{Side, Leaf, Do, Later, Shown, Holder, Split, SplitProject, Closed, Opened, Running, Entries, none, leaf, node, new_head, no_region, Place}
+use Rattle.tp_scene.specs.Scene.{Side, Leaf, Do, Holder, Split, SplitProject, Closed, Opened, Running, Entries, none, leaf, node, new_head, no_region, Place}
 use Rattle.tp_scene.specs.Step.{Reduction, PickOutcome, reduces, waits, rests, clashes, misses, passes, Numbers, leaf_step}
 use Rattle.tp_scene.proofs.Parts.{Whatever}
 use Rattle.tp_scene.proofs.Told.{other_side, Bundle, LeavesTold, HolderTold, Told}
@@ -49,16 +49,13 @@ module _ (facts : List Fact) (p : Place) (n : Numbers) where
   b = loose Whatever (λ fs. Unit {0})
 
   fresh : (m : Option Side) (from : ℕ) (es : Entries) (to : ℕ) → LeavesTold b facts p n m from es to → FreshLeaves n from es to
-  fresh m from none to h = h
   fresh m from (leaf id l rest) to h = (h.0, fresh m (suc from) rest to h.2)
-  fresh m from (node id k i held g second rest) to h = h
+  fresh m from es to h = h
 
   new_holder : (k : Holder) → HolderTold b facts p n k → IsNewHolder k
   new_holder (Split f env) h = tt
-  new_holder (SplitProject f env) h = h
-  new_holder Closed h = h
   new_holder (Opened f env) h = tt
-  new_holder (Running f env) h = h
+  new_holder k h = h
 
   plain : (o : PickOutcome) → Told b facts p n o → IsPlain o
   plain (reduces r) h = record {
@@ -73,5 +70,4 @@ module _ (facts : List Fact) (p : Place) (n : Numbers) where
   module _ (defs : List Definition) (inputs : InputLines) (state : ℕ) where
     pub leaf_plain : (l : Leaf) → IsPlain (leaf_step defs inputs state facts l p n)
     leaf_plain (Do f env) = plain _ (loose_told Whatever (λ fs. Unit {0}) defs inputs state facts (λ e xs. tt) (λ e xs o q. tt) (λ v. tt) (λ q v. tt) (λ q k. tt) f env p n)
-    leaf_plain (Later f env) = tt
-    leaf_plain (Shown vs) = tt
+    leaf_plain l = tt

@@ -2,7 +2,7 @@
 use Rattle.std.proofs.Common.{◌≡◌, ℤ, pos, negsuc, ◌+ℤ◌, int_le, ◌⊎◌, inl, inr, ℕ, zero, suc, ◌-◌, ◌+◌, nat_lt, Bool, true, false, ◌&&◌, not, List, [], ◌∷◌, ◌++◌, length, slice_get, Option, Some, None, refl, ap, sym, subst, arith, if◌then◌else◌}
 use Rattle.std.proofs.lemmas.Bool.{cond_both}
 use Rattle.std.proofs.lemmas.List.{length-append}
-use Rattle.tp_value.specs.Tree.{Tree, num, truth, list, same_tree}
+use Rattle.tp_value.specs.Tree.{Tree, num, truth, same_tree}
 use Rattle.tp_value.specs.Limits.{length_limit}
 use Rattle.tp_value.specs.declared.path.Path.{Path}
 use Rattle.tp_value.specs.declared.path.Fact.{Fact}
@@ -228,19 +228,15 @@ module _ (b : Bundle) (defs : List Definition) (inputs : InputLines) (state : �
 
   truth_told : (o : found.Outcome) (f : Bool → PickOutcome) → b.found o → ((c : Bool) → P (f c)) → P (with_truth o f)
   truth_told (found.value (truth c)) f u h = h c
-  truth_told (found.value (num k)) f u h = tt
-  truth_told (found.value (list ts)) f u h = tt
   truth_told (found.wait q) f u h = (u, tt)
-  truth_told (found.fault k) f u h = tt
   truth_told (found.over k) f u h = inl u
+  truth_told o f u h = tt
 
   number_told : (o : found.Outcome) (f : ℤ → PickOutcome) → b.found o → ((k : ℤ) → b.found (found.value (num k)) → P (f k)) → P (with_number o f)
   number_told (found.value (num k)) f u h = h k u
-  number_told (found.value (truth c)) f u h = tt
-  number_told (found.value (list ts)) f u h = tt
   number_told (found.wait q) f u h = (u, tt)
-  number_told (found.fault k) f u h = tt
   number_told (found.over k) f u h = inl u
+  number_told o f u h = tt
 
   -- equations
   abbrev PathOf : Target → Path
@@ -258,9 +254,7 @@ module _ (b : Bundle) (defs : List Definition) (inputs : InputLines) (state : �
   set_told : (t : Target) (v : Tree) → Sets (Some t) → b.found (found.value v) → P (set facts t v)
   set_told (value_at q) v h u = added_told _ (closed.sets q v h u) (addition facts (facts_at q v)) refl
   set_told (length_at q) (num (pos k)) h u = cond_both (nat_lt length_limit k) _ _ P (λ e. inr (inl refl)) (λ e. added_told _ (closed.lengthens q k h e) (addition facts (fact q (Items k) ∷ [])) refl)
-  set_told (length_at q) (num (negsuc k)) h u = tt
-  set_told (length_at q) (truth c) h u = tt
-  set_told (length_at q) (list ts) h u = tt
+  set_told (length_at q) t h u = tt
 
   meets_told : (c : Bool) (target : Option Target) (o : found.Outcome) (v : Tree) → Sets target → b.found o → b.found (found.value v) → P (meets facts (record { placed = c; target = target; found = o }) v)
   meets_told c (Some t) o v h u w = set_told t v h w
@@ -313,8 +307,7 @@ module _ (b : Bundle) (defs : List Definition) (inputs : InputLines) (state : �
     arguments_told no_expr [] f h k = k [] closed.lists.no_binding refl
     arguments_told (expr_then e es) (x ∷ xs) f h k =
         argument_told x e (closed.lists.first_expr e es _ h) _ (λ y u. arguments_told es xs _ (closed.lists.other_exprs e es _ h) (λ ys v q. k (y ∷ ys) (closed.lists.before y ys u v) (ap suc q)))
-    arguments_told no_expr (x ∷ xs) f h k = tt
-    arguments_told (expr_then e es) [] f h k = tt
+    arguments_told x y f h k = tt
 
     called_told : (i : ℕ) (d : Option Definition) → slice_get defs i ≡ d → (es : ExprTrees) → b.exprs es (length env) → P (called defs inputs state facts d es env n)
     called_told i (Some d) e es h = arguments_told es d.parameters _ h (λ ys v q. one_told d.formula ys (subst (λ (j : ℕ). b.formula d.formula j) (sym q) (closed.body i d e), v))
