@@ -8,10 +8,10 @@ use Rattle.tp_value.specs.Number.{is_within_limit, floor_div, floor_mod}
 use Rattle.tp_value.specs.Limits.{path_limit, items_in, items_within, depth_of, greatest_depth, is_within_list_limit, IsWithinListLimit}
 use Rattle.tp_value.specs.Limits as limits
 use Rattle.tp_value.specs.declared.value.Shape.{Shape}
-use Rattle.tp_value.specs.declared.value.Shape.TheVariants.{Num, Truth, Items}
+use Rattle.tp_value.specs.declared.value.Shape.TheVariants.{Items}
 use Rattle.tp_value.specs.declared.path.Path.{Path}
 use Rattle.tp_value.specs.declared.path.Fact.{Fact}
-use Rattle.tp_meaning.specs.Syntax.{Operator, Equal, Differs, Less, LessEqual, Greater, GreaterEqual, Plus, Minus, Times, Div, Mod, ExprTree, ExprTrees, numeral, boolean, known, bound, global, listing, size, index, minus, negation, both, either, binary, choice, invoke, no_expr, expr_then, Definition, BindingTree, place_binding, known_binding}
+use Rattle.tp_meaning.specs.Syntax.{Operator, Equal, Differs, Plus, Minus, Times, Div, Mod, ExprTree, ExprTrees, numeral, boolean, known, bound, global, listing, size, index, minus, negation, both, either, binary, choice, invoke, no_expr, expr_then, Definition, BindingTree, place_binding, known_binding}
 use Rattle.tp_meaning.specs.Value.{is_upper}
 use Rattle.tp_store.specs.Facts.{kept_shape, is_excluded}
 use Rattle.tp_store.specs.Known as store
@@ -41,9 +41,8 @@ small_inside t u i h =
     rw (le-leb (depth_of u) limits.value_depth_limit (omega (arith, b, i.depth)), le-leb (items_in u) limits.item_limit (omega (arith, c, i.items))) refl
 
 item_small : (t u : Tree) (k : ℕ) → item_of t k ≡ Some u → IsWithinListLimit t → IsWithinListLimit u
-item_small (num n) u k e h = absurd (cc)
-item_small (truth b) u k e h = absurd (cc)
 item_small (list ts) u k e h = small_inside (list ts) u (in_list ts k u e) h
+item_small t u k e h = absurd (cc)
 
 element_at_small : (at : List ℕ) (t u : Tree) → item_at at t ≡ Some u → IsWithinListLimit t → IsWithinListLimit u
 element_at_small [] t u e h = let q : t ≡ u = cc in subst (λ (v : Tree). IsWithinListLimit v) q h
@@ -95,19 +94,16 @@ full_small facts p c = go (is_excluded facts p) (whole (suc (deepest facts)) fac
     limit false t h = tt
 
     go : (b : Bool) (o : Whole) → Small (of_full (if b then store.absent else store.limited o) c)
-    go true o = tt
-    go false (store.open_at q) = tt
     go false (store.known t) = limit (is_within_list_limit t) t (λ e. e)
+    go b o = tt
 
 value_at_small : (facts : List Fact) (p : PlaceFound) (c : ℕ) → PlaceWithin p → Small (ev.value_at facts p c)
 value_at_small facts (at_path p) c h = full_small facts p c
 value_at_small facts (inside t at) c h = element_small (item_at at t) c (λ u e. element_at_small at t u e h)
 
 length_small : (p : Path) (o : Option Shape) (c : ℕ) → Small (length_in p o c)
-length_small p None c = tt
 length_small p (Some (Items n)) c = refl
-length_small p (Some (Num n)) c = tt
-length_small p (Some (Truth b)) c = tt
+length_small p m c = tt
 
 length_of_small : (t : Tree) (c : ℕ) → Small (ev.length_of t c)
 length_of_small t c = anyway IsWithinListLimit (list_in t c) _ (λ ts c. refl)
@@ -121,8 +117,7 @@ numbers_small f h s t c = anyway IsWithinListLimit (number_in s c) _ (λ a c. an
 
 divisor_small : (f : ℤ → ℤ → ℤ) (a b : ℤ) (c : ℕ) → Small (ev.on_divisor_outcome f a b c)
 divisor_small f a (pos zero) c = tt
-divisor_small f a (pos (suc k)) c = number_small (f a (pos (suc k))) c
-divisor_small f a (negsuc k) c = number_small (f a (negsuc k)) c
+divisor_small f a x c = number_small (f a x) c
 
 sum_small : (s t : Tree) (c : ℕ) → Small (ev.sum_in s t c)
 sum_small (num a) t c = anyway IsWithinListLimit (number_in t c) _ (λ b c. number_small (a +ℤ b) c)
@@ -132,24 +127,20 @@ sum_small (truth b) t c = tt
 operate_small : (o : Operator) (s t : Tree) (c : ℕ) → Small (ev.operate_outcome o s t c)
 operate_small Equal s t c = refl
 operate_small Differs s t c = refl
-operate_small Less s t c = numbers_small _ (λ a b c. refl) s t c
-operate_small LessEqual s t c = numbers_small _ (λ a b c. refl) s t c
-operate_small Greater s t c = numbers_small _ (λ a b c. refl) s t c
-operate_small GreaterEqual s t c = numbers_small _ (λ a b c. refl) s t c
 operate_small Plus s t c = sum_small s t c
 operate_small Minus s t c = numbers_small _ (λ a b c. number_small (a -ℤ b) c) s t c
 operate_small Times s t c = numbers_small _ (λ a b c. number_small (a *ℤ b) c) s t c
 operate_small Div s t c = numbers_small _ (divisor_small floor_div) s t c
 operate_small Mod s t c = numbers_small _ (divisor_small floor_mod) s t c
+operate_small x s t c = numbers_small _ (λ a b c. refl) s t c
 
 between_small : (t u : Tree) (c : ℕ) → IsWithinListLimit t → Small (ev.item_between t u c)
-between_small (num n) u c h = tt
-between_small (truth b) u c h = tt
 between_small (list ts) u c h = anyway IsWithinListLimit (number_in u c) _ at
   where
     at : (n : ℤ) (c : ℕ) → Small (ev.item_in (items_of ts) n c)
     at (pos k) c = element_small (slice_get (items_of ts) k) c (λ v e. small_inside (list ts) v (in_list ts k v e) h)
     at (negsuc k) c = tt
+between_small t u c h = tt
 
 bound_small : (env : List BindingTree) (i c : ℕ) → BindingsWithin env → AllOf PlaceWithin (ev.bound_place (slice_get env i) c)
 bound_small [] i c h = tt
@@ -178,20 +169,8 @@ module _ (facts : List Fact) (env : List BindingTree) (small : BindingsWithin en
 
   place_small : (e : ExprTree) (c : ℕ) → AllOf PlaceWithin (ev.evaluated_place op pl env e c)
   place_small (bound i) c = bound_small env i c small
-  place_small (global x) c = tt
   place_small (index e i) c = then_all PlaceWithin PlaceWithin (pl e c) _ (down e c) (λ p c h. anyway PlaceWithin (op i c) _ (λ t c. anyway PlaceWithin (ev.index_in t c) _ (λ k c. farther_small p k c h)))
-  place_small (numeral n) c = tt
-  place_small (boolean b) c = tt
-  place_small (known t) c = tt
-  place_small (listing es) c = tt
-  place_small (size e) c = tt
-  place_small (minus e) c = tt
-  place_small (negation e) c = tt
-  place_small (both es) c = tt
-  place_small (either a b) c = tt
-  place_small (binary o a b) c = tt
-  place_small (choice b x y) c = tt
-  place_small (invoke p es) c = tt
+  place_small e c = tt
 
   argument_small : (u : Bool) (e : ExprTree) (c : ℕ) → AllOf BindingWithin (ev.argument op pl u e c)
   argument_small true e c = then_all PlaceWithin BindingWithin (pl e c) _ (down e c) (λ p c h. bind_small p c h)

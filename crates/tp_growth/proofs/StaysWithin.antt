@@ -16,7 +16,7 @@ use Rattle.tp_store.proofs.Members.{In, in_append, in_filter, kept_in}
 use Rattle.tp_store.proofs.Adding.{adds_all}
 use Rattle.tp_eval.specs.Outcome as found
 use Rattle.tp_eval.specs.Outcome.{PlaceOutcome, outcome, place_outcome}
-use Rattle.tp_scene.specs.Scene.{Bindings, Side, Ending, Going, Head, Leaf, Do, Later, Shown, Holder, Split, SplitProject, Closed, Opened, Running, Entries, none, leaf, node, second_lives, has, append, new_head, no_region, Place}
+use Rattle.tp_scene.specs.Scene.{Bindings, Side, Ending, Going, Head, Leaf, Do, Later, Shown, Holder, Split, SplitProject, Opened, Running, Entries, none, leaf, node, second_lives, has, append, new_head, no_region, Place}
 use Rattle.tp_scene.specs.Step.{Reduction, PickOutcome, reduces, waits, rests, clashes, misses, passes, Numbers, by_status, leaf_step, holder_step}
 use Rattle.tp_scene.specs.Pick.{Setting, pick, put}
 use Rattle.tp_scene.proofs.Frame.{region}
@@ -134,10 +134,8 @@ module _ (facts : List Fact) (defs : List Definition) (inputs : InputLines) (sta
 
   region_within : (k : Holder) → HolderTold small facts p n k → (f : FormulaTree) (env : Bindings) → BindingsWithin env → EntriesWithin (node (n.item 1) k (new_head n.region) (leaf (n.item 0) (Do f env) none) no_region none none)
   region_within (Split f env) h g xs k = (h.1, (k, tt), tt, tt, refl)
-  region_within (SplitProject f env) h g xs k = absurd h
-  region_within Closed h g xs k = absurd h
   region_within (Opened f env) h g xs k = (h.1, (k, tt), tt, tt, refl)
-  region_within (Running f env) h g xs k = absurd h
+  region_within x h g xs k = absurd h
 
   news_within : (o : PickOutcome) → Told small facts p n o → NewsWithin o
   news_within (reduces r) h = (
@@ -150,31 +148,22 @@ module _ (facts : List Fact) (defs : List Definition) (inputs : InputLines) (sta
       | inr x ↦ subst (λ (es : Entries). EntriesWithin es) (sym x.0.is) (region_within x.0.holder x.0.told x.0.item x.0.env x.0.phrase.1)
     ],
   )
-  news_within (waits first other) h = tt
-  news_within rests h = tt
-  news_within (clashes c) h = tt
-  news_within (misses port) h = tt
-  news_within (passes k) h = tt
+  news_within o h = tt
 
 module _ (w : Setting) (facts : List Fact) (within : InputsWithin w.inputs) (n : Numbers) where
   leaf_news : (l : Leaf) (p : Place) → LeafWithin l → NewsWithin (leaf_step w.defs w.inputs w.state facts l p n)
   leaf_news (Do f env) p h = news_within facts w.defs w.inputs w.state within p n _ (formula_told small w.defs w.inputs w.state facts n (known facts w.defs w.inputs w.state within p n) p f env (tt, h))
-  leaf_news (Later f env) p h = tt
-  leaf_news (Shown vs) p h = tt
+  leaf_news l p h = tt
 
   holder_news : (k : Holder) (h : Head) (held : Entries) (g : Head) (second : Entries) (q : Place) → HolderWithin k → EntriesWithin held → EntriesWithin second → NewsWithin (holder_step w.defs w.inputs w.state facts k (region h held) (region g second) q n)
   holder_news (Split f env) h held g second q a b c = status_news q _ _ tt (no_facts, (tt, b, tt, (a, tt), refl))
   holder_news (SplitProject f env) h held g second q a b c = status_news q _ _ tt (no_facts, (tt, b, tt, (a, c, tt, tt, refl), refl))
-  holder_news Closed h held g second q a b c = tt
   holder_news (Opened f env) h held g second q a b c = status_news q _ _ (no_facts, (a, (a, (a, tt)), b, tt, tt)) tt
-  holder_news (Running f env) h held g second q a b c = tt
+  holder_news k h held g second q a b c = tt
 
   live_own : (k : Holder) (s s' : Entries) → second_lives k ≡ true → SecondIsOwn k s'
-  live_own (Split f env) s s' e = absurd (false≢true e)
-  live_own (SplitProject f env) s s' e = absurd (false≢true e)
-  live_own Closed s s' e = absurd (false≢true e)
-  live_own (Opened f env) s s' e = absurd (false≢true e)
   live_own (Running f env) s s' e = tt
+  live_own k s s' e = absurd (false≢true e)
 
   module _ (t : ℕ) (r : Reduction) where
     abbrev Both : Entries → Type 0
