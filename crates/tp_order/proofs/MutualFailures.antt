@@ -1,8 +1,8 @@
 -- Where an item is bad after another one's step, that one is bad after its step.
-use Rattle.std.proofs.Common.{◌≡◌, ◌≢◌, inl, inr, ℕ, pos, negsuc, Bool, true, false, eqb, List, [], refl, ap, sym, ◌∙◌, subst}
+use Rattle.std.proofs.Common.{◌≡◌, ◌≢◌, inl, inr, ℕ, pos, Bool, true, false, eqb, List, [], refl, ap, sym, ◌∙◌, subst}
 use Rattle.std.specs.Prelude.{Some}
 use Rattle.std.proofs.lemmas.Bool.{or_left, eqb-true, false_from_ne_true}
-use Rattle.tp_value.specs.Tree.{Tree, num, truth, list}
+use Rattle.tp_value.specs.Tree.{Tree, num}
 use Rattle.tp_value.specs.declared.path.Fact.{Fact}
 use Rattle.tp_store.specs.Facts.{kept_shape}
 use Rattle.tp_store.specs.Known.{NoClash, is_none}
@@ -35,9 +35,7 @@ use Rattle.tp_order.proofs.Commute.{after, half, lives_there, both, both_step, b
 target_apart : (t : Target) (v : Tree) → NoClash (target_facts t v)
 target_apart (value_at p) v = no_clash_arises.value_facts p v
 target_apart (length_at p) (num (pos n)) = (refl, refl, tt)
-target_apart (length_at p) (num (negsuc n)) = tt
-target_apart (length_at p) (truth b) = tt
-target_apart (length_at p) (list ts) = tt
+target_apart (length_at p) t = tt
 
 facts_in : PickOutcome → List Fact
 facts_in (reduces r) = r.facts
@@ -135,13 +133,12 @@ module _ (w : Setting) (kinds : List Bool) (m : Moment) (orderly : IsOrderly w k
       (knows_after w kinds m orderly.sound r a st.store) knows_both oa.lengths orderly.inputs p q NA up calm l small SA (sym k ∙ e)
       (λ z x i. mark_ok l' q at z (ap (is_side z) (mark ∙ x) ∙ side_is z) i) set_known_there
       (subst (λ (x : PickOutcome). IsFailure x) (k' ∙ ap (λ (x : Leaf). leaf_step w.defs w.inputs w.state a.store.facts x q NA) like) bad)
-  go (of_leaf l) (of_holder k' held') p q like up calm held small at mark o o' k e z bad = absurd like
-  go (of_holder k held) (of_leaf l') p q like up calm c small at mark o o' z e z' bad = absurd like
   go (of_holder k held) (of_holder k' held') p q like up calm c small at mark o o' z e z' bad =
       let g = holder_rows_grow w m.store.facts a.store.facts k NA held held' like.1 c z.0 z.1 z.2 z.3 z'.0 z'.1 z'.2 z'.3 in
       let h = subst (λ (x : PickOutcome). HolderGrown k NA z'.0 z'.1 z'.2 z'.3 x (holder_step w.defs w.inputs w.state a.store.facts k (record { head = z'.0; entries = z'.1 }) (record { head = z'.2; entries = z'.3 }) held' NA)) (sym z.4 ∙ e) g in
       let i = z'.4 ∙ ap (λ (x : Holder). holder_step w.defs w.inputs w.state a.store.facts x (record { head = z'.0; entries = z'.1 }) (record { head = z'.2; entries = z'.3 }) held' NA) like.0 ∙ h.0 in
       subst (λ (x : PickOutcome). IsFailure x) i bad
+  go x y p q like up calm held small at mark o o' k e z bad = absurd like
 
   pub isnt_bad : IsFailure (outcome_of w a.store a.scene u) → ⊥
   isnt_bad bad =
