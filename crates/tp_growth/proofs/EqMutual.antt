@@ -21,7 +21,7 @@ use Rattle.tp_growth.specs.Outcomes.{KnowsMore, GrownOutcome}
 use Rattle.tp_growth.specs.Within.{LengthsAreWithin}
 use Rattle.tp_growth.specs.Rows.{IsFailure}
 use Rattle.tp_growth.proofs.FactsGrow.{in_more}
-use Rattle.tp_growth.proofs.Kept.{TargetKnown, target_facts}
+use Rattle.tp_growth.proofs.Kept.{TargetKnown, target_facts, target_apart, set_adds}
 use Rattle.tp_growth.proofs.EqGrow.{SideGrows, switch_to, same_switch}
 
 -- what a value can be set to
@@ -81,8 +81,11 @@ module _ (fs gs hs : List Fact) (fc : NoClash fs) (gc : NoClash gs) (hc : NoClas
   abbrev sd : Bool → Option Target → found.Outcome → SideOf
   sd b t o = record { placed = b; target = t; found = o }
 
-  -- all that the set value says is known where most is, and values that are set are within the limits
-  module _ (news : List Fact) (all : (x : Target) (v : Tree) → set fs x v ≡ knows news → (f : Fact) → In f (target_facts x v) → In f hs) where
+  -- all that was added is known where most is, and values that are set are within the limits
+  module _ (news : List Fact) (added_there : (xs : List Fact) → NoClash xs → addition fs xs ≡ adds news → (f : Fact) → In f xs → In f hs) where
+    all : (x : Target) (v : Tree) → set fs x v ≡ knows news → (f : Fact) → In f (target_facts x v) → In f hs
+    all x v e = added_there (target_facts x v) (target_apart x v) (set_adds fs x v news e)
+
     -- the right side has the value v, and the left one was set or compared
     left_ok : (b c : Bool) (l l' r' : Option Target) (x x' x'' : found.Outcome) (v : Tree) → IsWithinListLimit v → (IsOver x → ⊥) → SideKnows gs hs l x l' x' x''
         → meets fs (sd b l x) v ≡ knows news → IsFailure (equate gs (sd b l' x') (sd c r' (found.value v))) → ⊥

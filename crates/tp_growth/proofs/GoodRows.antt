@@ -23,7 +23,6 @@ use Rattle.tp_inputs.specs.Within.{InputsWithin}
 use Rattle.tp_growth.specs.Within.{LengthsAreWithin, BindingsWithin, LeafWithin}
 use Rattle.tp_growth.proofs.InputsWithin.{input_within}
 use Rattle.tp_growth.proofs.Small.{values_within}
-use Rattle.tp_growth.proofs.Kept.{target_facts}
 use Rattle.tp_growth.proofs.EqMutual.{equate_ok}
 use Rattle.tp_growth.proofs.SideGrow.{value_side}
 use Rattle.tp_growth.proofs.SideKnows.{side_knows}
@@ -82,12 +81,12 @@ module _ (fs : List Fact) where
 
 module _ (w : Setting) (fs gs hs : List Fact) (fc : NoClash fs) (gc : NoClash gs) (hc : NoClash hs) (one : KnowsMore fs gs) (two : KnowsMore gs hs) (within : LengthsAreWithin gs) (inputs : InputsWithin w.inputs)
     (p q : Place) (n : Numbers) (up : Grows p q) (calm : IsCalm q) where
-  -- what is asked of a reduction: its region isn't of the other side of its mark, and what it sets is known where both are
+  -- what is asked of a reduction: its region isn't of the other side of its mark, and what it adds is known where both are
   abbrev pub MarkOk : Reduction → Type 0
   MarkOk r = (z : Side) → r.mark ≡ Some z → q.is (other_side z) ≡ true → ⊥
 
   abbrev pub FactsOk : Reduction → Type 0
-  FactsOk r = (x : Target) (v : Tree) → set fs x v ≡ knows r.facts → (f : Fact) → In f (target_facts x v) → In f hs
+  FactsOk r = (xs : List Fact) → NoClash xs → addition fs xs ≡ adds r.facts → (f : Fact) → In f xs → In f hs
 
   abbrev pub Good : PickOutcome → PickOutcome → Type 0
   Good o u = (r : Reduction) → o ≡ reduces r → MarkOk r → FactsOk r → IsFailure u → ⊥

@@ -18,7 +18,7 @@ use Rattle.tp_store.proofs.Adding.{AddsAll, adds_all, given_in, news_given}
 use Rattle.tp_store.proofs.First.{FirstOf, first_is}
 use Rattle.tp_store.proofs.States.{no_clash_arises}
 use Rattle.tp_kernel.specs.declared.formula.LimitKind.TheVariants as limit
-use Rattle.tp_scene.specs.Step.{passes, knows, added, Target, value_at, length_at, set}
+use Rattle.tp_scene.specs.Step.{PickOutcome, reduces, passes, knows, added, Target, value_at, length_at, set}
 use Rattle.tp_growth.specs.Outcomes.{KnowsMore}
 use Rattle.tp_growth.specs.Within.{LengthsAreWithin}
 use Rattle.tp_growth.specs.Rows.{IsFailure}
@@ -140,6 +140,27 @@ set_form fs (length_at p) (num (pos n)) = go (nat_lt length_limit n) (addition f
     go false (adds news) e = inl (news, ap added e, e)
     go false (refuses old new) e = inr (subst (λ (a : Addition). IsFailure (added a)) (sym e) tt)
 set_form fs (length_at p) t = inr tt
+
+-- what a value says of a target stands apart
+pub target_apart : (t : Target) (v : Tree) → NoClash (target_facts t v)
+target_apart (value_at p) v = no_clash_arises.value_facts p v
+target_apart (length_at p) (num (pos n)) = (refl, refl, tt)
+target_apart (length_at p) t = tt
+
+facts_in : PickOutcome → List Fact
+facts_in (reduces r) = r.facts
+facts_in o = []
+
+knows_same : (xs ys : List Fact) → knows xs ≡ knows ys → xs ≡ ys
+unfolding facts_in
+knows_same xs ys e = ap facts_in e
+
+-- what a set gives is the addition of what it says
+pub set_adds : (fs : List Fact) (t : Target) (v : Tree) (news : List Fact) → set fs t v ≡ knows news → addition fs (target_facts t v) ≡ adds news
+set_adds fs t v news e = elim (set_form fs t v) [
+  | inl z ↦ subst (λ (xs : List Fact). addition fs (target_facts t v) ≡ adds xs) (knows_same z.0 news (sym z.1 ∙ e)) z.2
+  | inr bad ↦ absurd (subst (λ (o : PickOutcome). IsFailure o) e bad)
+]
 
 no_news : (gs facts : List Fact) → NoClash gs → ((f : Fact) → In f facts → In f gs) → (new_facts gs facts ≡ []) × ((ns : List Fact) → checked gs facts (adds ns) ≡ adds ns)
 no_news gs [] apart h = (refl, λ ns. refl)
