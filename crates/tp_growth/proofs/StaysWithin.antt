@@ -1,5 +1,5 @@
 -- What a step gives is within the limits where bound values and inputs are.
-use Rattle.std.proofs.Common.{◌≡◌, inl, inr, ℕ, nat_le, suc, ◌≤◌, true, ◌&&◌, eqb, List, [], ◌∷◌, ◌++◌, refl, ap, sym, ◌∙◌, subst, length, Option, arith}
+use Rattle.std.proofs.Common.{◌≡◌, inl, inr, ℕ, nat_le, suc, ◌≤◌, true, ◌&&◌, eqb, List, [], ◌∷◌, refl, sym, ◌∙◌, subst, length, Option, arith}
 use Rattle.std.proofs.lemmas.Bool.{cond_both, and_parts, leb-true, ltb-false, cases_Bool, false≢true}
 use Rattle.tp_value.specs.Tree.{Tree, Trees, num, truth, list, nil, cons, items_of}
 use Rattle.tp_value.specs.Limits.{depth_of, items_in, items_within, length_limit, IsWithinListLimit}
@@ -8,14 +8,12 @@ use Rattle.tp_value.specs.declared.path.Path.{Path}
 use Rattle.tp_value.specs.declared.path.Fact.{Fact}
 use Rattle.tp_value.specs.declared.value.Shape.{Shape}
 use Rattle.tp_value.specs.declared.value.Shape.TheVariants.{Num, Truth, Items}
-use Rattle.tp_meaning.specs.Syntax.{ExprTree, FormulaTree, Definition, BindingTree}
+use Rattle.tp_meaning.specs.Syntax.{FormulaTree, Definition}
 use Rattle.tp_meaning.specs.Inputs.{InputLines}
 use Rattle.tp_store.specs.Facts.{kept_shape, fact, facts_at, facts_of_items, item_path}
 use Rattle.tp_store.specs.Known.{is_none}
 use Rattle.tp_store.proofs.Members.{In, in_append, in_filter, kept_in}
 use Rattle.tp_store.proofs.Adding.{adds_all}
-use Rattle.tp_eval.specs.Outcome as found
-use Rattle.tp_eval.specs.Outcome.{PlaceOutcome, outcome, place_outcome}
 use Rattle.tp_scene.specs.Scene.{Bindings, Side, Ending, Going, Head, Leaf, Do, Later, Shown, Holder, Split, SplitProject, Opened, Running, Entries, none, leaf, node, second_lives, has, append, new_head, no_region, Place}
 use Rattle.tp_scene.specs.Step.{Reduction, PickOutcome, reduces, waits, rests, clashes, misses, passes, Numbers, by_status, leaf_step, holder_step}
 use Rattle.tp_scene.specs.Pick.{Setting, pick, put}
@@ -24,9 +22,10 @@ use Rattle.tp_scene.proofs.Risen.{pick_here, pick_second, pick_first, pick_later
 use Rattle.tp_inputs.specs.Within.{InputsWithin}
 use Rattle.tp_growth.specs.Within.{LengthsAreWithin, BindingWithin, BindingsWithin, LeafWithin, HolderWithin, SecondIsOwn, EntriesWithin, PicksStayWithin}
 use Rattle.tp_growth.proofs.InputsWithin.{input_within}
-use Rattle.tp_growth.proofs.Small.{values_within}
-use Rattle.tp_scene.proofs.Told.{Bundle, PlaceHas, LeavesTold, HolderTold, AreKnown, Told, formula_told}
-use Rattle.tp_scene.proofs.Free.{free, free_parts}
+use Rattle.tp_growth.proofs.Small.{ValueWithin, small, evaluates_small}
+use Rattle.tp_scene.proofs.Told.{LeavesTold, HolderTold, AreKnown, Told, formula_told}
+use Rattle.tp_scene.proofs.Free.{free_parts}
+use Rattle.tp_scene.proofs.Evaluated.{outcome_told, place_outcome_told}
 
 -- a list of this shape is no longer than a length may be
 abbrev IsShort : Shape → Type 0
@@ -71,11 +70,6 @@ append_within none fs h k = k
 append_within (leaf id l rest) fs h k = (h.0, append_within rest fs h.1 k)
 append_within (node id x i held g second rest) fs h k = (h.0, h.1, h.2, append_within rest fs h.3 k, h.4)
 
--- one more binding at the end
-one_more : (env : Bindings) (b : BindingTree) → BindingsWithin env → BindingWithin b → BindingsWithin (env ++ b ∷ [])
-one_more [] b h k = (k, tt)
-one_more (c ∷ env) b h k = (h.0, one_more env b h.1 k)
-
 abbrev NewsWithin : PickOutcome → Type 0
 NewsWithin (reduces r) = AreShort r.facts × EntriesWithin r.news
 NewsWithin (waits first other) = Unit {0}
@@ -90,54 +84,34 @@ no_facts f i = absurd i
 status_news : (p : Place) (o o' : PickOutcome) → NewsWithin o → NewsWithin o' → NewsWithin (by_status p o o')
 status_news p o o' h h' = cond_both (p.is Going) _ _ NewsWithin (λ _. h) (λ _. cond_both (p.is Ending) _ _ NewsWithin (λ _. h') (λ _. tt))
 
--- an outcome with a value within the limits, if any
-abbrev ValueWithin : found.Outcome → Type 0
-ValueWithin o = (v : Tree) → o ≡ found.value v → IsWithinListLimit v
-
-abbrev small : Bundle
-small = free BindingWithin BindingsWithin ValueWithin AreShort
-
 module _ (facts : List Fact) (defs : List Definition) (inputs : InputLines) (state : ℕ) (within : InputsWithin inputs) (p : Place) (n : Numbers) where
-  place_by : (e : ExprTree) (env : Bindings) → BindingsWithin env → (o : PlaceOutcome) → place_outcome facts defs e env ≡ o → PlaceHas small o
-  place_by e env h (found.path q) is = tt
-  place_by e env h (found.other o) is = λ v k. (values_within facts defs e env h).of_place v (is ∙ ap found.other k)
-
-  known : AreKnown small defs inputs state facts n
+  known : AreKnown (small AreShort) defs inputs state facts n
   known = record {
-    lists = record {
-      first_formula = λ g gs m h. tt;
-      other_formulas = λ g gs m h. tt;
-      first_expr = λ e es m h. tt;
-      other_exprs = λ e es m h. tt;
-      sized = λ e m h. tt;
-      no_binding = tt;
-      before = λ x xs h k. (h, k);
-      after = λ x xs h k. one_more xs x k h;
-    };
+    lists = (evaluates_small AreShort facts defs).lists;
     parts = λ g m h. free_parts BindingWithin BindingsWithin ValueWithin AreShort (λ k. refl) g m;
     body = λ i d e. tt;
-    value = λ e xs h k. (values_within facts defs e xs k).value;
-    place = λ e xs h k. place_by e xs k (place_outcome facts defs e xs) refl;
-    read = λ port v e x q. let s : v ≡ x = cc in subst (λ (t : Tree). IsWithinListLimit t) s (input_within inputs state port v within e);
-    value_bound = λ v u. u v refl;
+    value = λ e xs h k. outcome_told (small AreShort) facts defs (evaluates_small AreShort facts defs) e 0 xs tt k;
+    place = λ e xs h k. place_outcome_told (small AreShort) facts defs (evaluates_small AreShort facts defs) e 0 xs tt k;
+    read = λ port v e. input_within inputs state port v within e;
+    value_bound = λ v u. u;
     local_bound = λ x l. tt;
-    sets = λ q v h u. value_facts q v (within_items v (u v refl));
+    sets = λ q v h u. value_facts q v (within_items v u);
     lengthens = λ q k h l. one_fact (fact q (Items k)) (ltb-false length_limit k l);
   }
 
-  leaves_within : (mark : Option Side) (from : ℕ) (es : Entries) (to : ℕ) → LeavesTold small facts p n mark from es to → EntriesWithin es
+  leaves_within : (mark : Option Side) (from : ℕ) (es : Entries) (to : ℕ) → LeavesTold (small AreShort) facts p n mark from es to → EntriesWithin es
   leaves_within mark from none to h = tt
   leaves_within mark from (leaf id (Do f env) es) to h = (h.1.1, leaves_within mark (suc from) es to h.2)
   leaves_within mark from (leaf id (Later f env) es) to h = (h.1.0.1, leaves_within mark (suc from) es to h.2)
   leaves_within mark from (leaf id (Shown vs) es) to h = (tt, leaves_within mark (suc from) es to h.2)
   leaves_within mark from (node id k i held g second es) to h = absurd h
 
-  region_within : (k : Holder) → HolderTold small facts p n k → (f : FormulaTree) (env : Bindings) → BindingsWithin env → EntriesWithin (node (n.item 1) k (new_head n.region) (leaf (n.item 0) (Do f env) none) no_region none none)
+  region_within : (k : Holder) → HolderTold (small AreShort) facts p n k → (f : FormulaTree) (env : Bindings) → BindingsWithin env → EntriesWithin (node (n.item 1) k (new_head n.region) (leaf (n.item 0) (Do f env) none) no_region none none)
   region_within (Split f env) h g xs k = (h.1, (k, tt), tt, tt, refl)
   region_within (Opened f env) h g xs k = (h.1, (k, tt), tt, tt, refl)
   region_within x h g xs k = absurd h
 
-  news_within : (o : PickOutcome) → Told small facts p n o → NewsWithin o
+  news_within : (o : PickOutcome) → Told (small AreShort) facts p n o → NewsWithin o
   news_within (reduces r) h = (
     elim h.facts_of [
       | inl e ↦ subst (λ (fs : List Fact). AreShort fs) (sym e) no_facts
@@ -152,7 +126,7 @@ module _ (facts : List Fact) (defs : List Definition) (inputs : InputLines) (sta
 
 module _ (w : Setting) (facts : List Fact) (within : InputsWithin w.inputs) (n : Numbers) where
   leaf_news : (l : Leaf) (p : Place) → LeafWithin l → NewsWithin (leaf_step w.defs w.inputs w.state facts l p n)
-  leaf_news (Do f env) p h = news_within facts w.defs w.inputs w.state within p n _ (formula_told small w.defs w.inputs w.state facts n (known facts w.defs w.inputs w.state within p n) p f env (tt, h))
+  leaf_news (Do f env) p h = news_within facts w.defs w.inputs w.state within p n _ (formula_told (small AreShort) w.defs w.inputs w.state facts n (known facts w.defs w.inputs w.state within p n) p f env (tt, h))
   leaf_news l p h = tt
 
   holder_news : (k : Holder) (h : Head) (held : Entries) (g : Head) (second : Entries) (q : Place) → HolderWithin k → EntriesWithin held → EntriesWithin second → NewsWithin (holder_step w.defs w.inputs w.state facts k (region h held) (region g second) q n)

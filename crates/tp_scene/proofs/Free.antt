@@ -1,5 +1,5 @@
 -- Properties that ask nothing of formulas: what is bound and found is enough.
-use Rattle.std.proofs.Common.{◌≡◌, refl, ℤ, ℕ, List, [], ◌∷◌}
+use Rattle.std.proofs.Common.{◌≡◌, refl, ℤ, ℕ, List, [], ◌∷◌, ◌++◌}
 use Rattle.tp_value.specs.Tree.{Tree, num}
 use Rattle.tp_value.specs.declared.path.Path.{Path}
 use Rattle.tp_value.specs.declared.path.Fact.{Fact}
@@ -11,7 +11,7 @@ use Rattle.tp_eval.specs.Outcome as found
 use Rattle.tp_eval.specs.Outcome.{PlaceOutcome, outcome, place_outcome}
 use Rattle.tp_scene.specs.Scene.{Bindings, Place}
 use Rattle.tp_scene.specs.Step.{Numbers, formula_step}
-use Rattle.tp_scene.proofs.Told.{Bundle, PartsOf, PlaceHas, AreKnown, Told, formula_told}
+use Rattle.tp_scene.proofs.Told.{Bundle, Lists, PartsOf, PlaceHas, AreKnown, Told, formula_told}
 
 abbrev pub free : (BindingTree → Type 0) → (Bindings → Type 0) → (found.Outcome → Type 0) → (List Fact → Type 0) → Bundle
 free B Bs Q N = record {
@@ -43,6 +43,18 @@ module _ (B : BindingTree → Type 0) (Bs : Bindings → Type 0) (Q : found.Outc
   free_parts (input x port) m = (tt, tt)
   free_parts f m = tt
 
+  pub free_lists : Bs [] → ((x : BindingTree) (env : Bindings) → B x → Bs env → Bs (x ∷ env)) → ((x : BindingTree) (env : Bindings) → B x → Bs env → Bs (env ++ x ∷ [])) → Lists (free B Bs Q N)
+  free_lists none before after = record {
+    first_formula = λ g gs m h. tt;
+    other_formulas = λ g gs m h. tt;
+    first_expr = λ e es m h. tt;
+    other_exprs = λ e es m h. tt;
+    sized = λ e m h. tt;
+    no_binding = none;
+    before = before;
+    after = after;
+  }
+
 -- nothing is asked of bindings either
 abbrev pub loose : (found.Outcome → Type 0) → (List Fact → Type 0) → Bundle
 loose Q N = free (λ x. Unit {0}) (λ env. Unit {0}) Q N
@@ -62,16 +74,7 @@ module _ (Q : found.Outcome → Type 0) (N : List Fact → Type 0) (defs : List 
     where
       known : AreKnown (loose Q N) defs inputs state facts n
       known = record {
-        lists = record {
-          first_formula = λ g gs m h. tt;
-          other_formulas = λ g gs m h. tt;
-          first_expr = λ e es m h. tt;
-          other_exprs = λ e es m h. tt;
-          sized = λ e m h. tt;
-          no_binding = tt;
-          before = λ x xs h k. tt;
-          after = λ x xs h k. tt;
-        };
+        lists = free_lists (λ x. Unit {0}) (λ xs. Unit {0}) Q N (λ k. tt) tt (λ x xs h k. tt) (λ x xs h k. tt);
         parts = λ g m h. free_parts (λ x. Unit {0}) (λ xs. Unit {0}) Q N (λ k. tt) g m;
         body = λ i d e. tt;
         value = λ e xs h k. value e xs;

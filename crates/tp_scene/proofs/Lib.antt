@@ -19,6 +19,7 @@ pub mod Law
 pub mod Parts
 pub mod Told
 pub mod Free
+pub mod Evaluated
 pub mod FitsTold
 pub mod Apart
 pub mod MoveScene
