@@ -17,7 +17,7 @@ use Rattle.tp_scene.proofs.Keep.{picked_fit}
 use Rattle.tp_scene.proofs.Globals.{of_variables_in, in_of_variables}
 use Rattle.tp_scene.proofs.Parts.{Whatever, status_has}
 use Rattle.tp_scene.proofs.Told.{Told}
-use Rattle.tp_scene.proofs.FitsTold.{fitting, fits_told}
+use Rattle.tp_scene.proofs.FitsTold.{whatever_seen, fitting, fits_told}
 
 filtered : (xs : List Variable) (keep : Fact → Bool) (fs : List Fact) → AreOfVariables xs fs → AreOfVariables xs (filter keep fs)
 filtered xs keep fs h = in_of_variables xs (filter keep fs) (λ f i. of_variables_in xs fs h f (in_filter keep f fs i).0)
@@ -43,7 +43,7 @@ module _ (facts : List Fact) (kinds : List Bool) (variables : List Variable) (am
     of_told p n o h = tt
 
     leaf_facts : (l : Leaf) (p : Place) (n : Numbers) → LeafFits defs kinds variables l p → IsOfVariables (leaf_step defs inputs state facts l p n)
-    leaf_facts (Do f env) p n fit = of_told p n _ (fits_told defs kinds variables n Whatever definitions among inputs state facts (λ e xs h k. tt) (λ e xs h k o q. tt) (λ v. tt) f env p fit)
+    leaf_facts (Do f env) p n fit = of_told p n _ (fits_told defs kinds variables n Whatever definitions among inputs state facts (whatever_seen facts variables) f env p fit)
     leaf_facts l p n fit = tt
 
     holder_facts : (k : Holder) (held second : Region) (q : Place) (n : Numbers) → IsOfVariables (holder_step defs inputs state facts k held second q n)

@@ -12,7 +12,7 @@ use Rattle.tp_scene.specs.Step.{region_limit, PickOutcome, reduces, waits, rests
 use Rattle.tp_scene.specs.Fits.{kinds_in, IsCalm, PhraseFits, LeafFits, EntriesFit}
 use Rattle.tp_scene.proofs.Parts.{Whatever}
 use Rattle.tp_scene.proofs.Told.{Bundle, LeavesTold, HolderTold, Told}
-use Rattle.tp_scene.proofs.FitsTold.{LocalIn, fitting, fits_told}
+use Rattle.tp_scene.proofs.FitsTold.{LocalIn, whatever_seen, fitting, fits_told}
 
 module _ (defs : List Definition) (kinds : List Bool) (variables : List Variable) where
   pub entries_calm : (es : Entries) (p : Place) → EntriesFit defs kinds variables es p → IsCalm p
@@ -113,5 +113,5 @@ module _ (defs : List Definition) (kinds : List Bool) (definitions : Definitions
     fits_as o h = tt
 
     pub leaf_fits : (l : Leaf) → LeafFits defs kinds variables l p → FitsAs (leaf_step defs inputs state facts l p n) p'
-    leaf_fits (Do f env) h = fits_as _ (fits_told defs kinds variables n Whatever definitions among inputs state facts (λ e xs u v. tt) (λ e xs u v o q. tt) (λ v. tt) f env p h)
+    leaf_fits (Do f env) h = fits_as _ (fits_told defs kinds variables n Whatever definitions among inputs state facts (whatever_seen facts variables) f env p h)
     leaf_fits l h = tt
