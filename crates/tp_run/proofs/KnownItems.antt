@@ -1,19 +1,18 @@
 -- What an item's step speaks of: its cells and clashes are of variables of the store, and a limit that it passes isn't that on reductions.
-use Rattle.std.proofs.Common.{◌≡◌, inl, inr, ℕ, Bool, true, false, ◌&&◌, cond, List, [], ◌∷◌, eqb, refl, sym, subst, length, Option, Some, None, if◌then◌else◌}
-use Rattle.std.proofs.lemmas.Bool.{and_parts}
+use Rattle.std.proofs.Common.{◌≡◌, inl, inr, ℕ, Bool, List, [], ◌∷◌, sym, subst, Option, Some, None}
 use Rattle.tp_value.specs.declared.path.Fact.{Fact}
 use Rattle.tp_value.specs.declared.path.VarId.{VarId}
-use Rattle.tp_meaning.specs.Syntax.{ExprTree, Definition, place_binding, known_binding}
+use Rattle.tp_meaning.specs.Syntax.{Definition}
 use Rattle.tp_meaning.specs.Inputs.{InputLines}
-use Rattle.tp_meaning.specs.Fits.{ExprFits, DefinitionsFit, BindingsFit, IsVariable}
+use Rattle.tp_meaning.specs.Fits.{DefinitionsFit, IsVariable}
 use Rattle.tp_store.specs.Known.{Variable, IsVariableOf, AreOfVariables, Addition, adds, refuses, first_clash, refused_or, checked, new_facts}
 use Rattle.tp_store.proofs.First.{FirstOf, first_is}
 use Rattle.tp_eval.specs.Outcome as found
 use Rattle.tp_eval.specs.Outcome.{PlaceOutcome, outcome, place_outcome}
-use Rattle.tp_scene.specs.Scene.{Bindings, Leaf, Do, Later, Shown, Holder, Split, SplitProject, Closed, Opened, Running, Entries, none, leaf, node, Region, second_lives, has, Place, root_place, held_place, second_place}
+use Rattle.tp_scene.specs.Scene.{Leaf, Do, Later, Shown, Holder, Split, SplitProject, Closed, Opened, Running, Entries, Region, Place, root_place}
 use Rattle.tp_scene.specs.Step.{PickOutcome, reduces, waits, rests, clashes, misses, passes, Numbers, by_status, leaf_step, holder_step}
 use Rattle.tp_scene.specs.Pick.{Setting, Moment, pick, outcome_of, numbers_of}
-use Rattle.tp_scene.specs.Fits.{kinds_in, LeafFits, EntriesFit, HolderFits}
+use Rattle.tp_scene.specs.Fits.{kinds_in, LeafFits, EntriesFit}
 use Rattle.tp_scene.specs.Laws.{IsSound}
 use Rattle.tp_scene.proofs.Frame.{region}
 use Rattle.tp_scene.proofs.Keep.{picked_fit}
@@ -25,15 +24,9 @@ use Rattle.tp_scene.specs.declared.answer.Clash.{Clash}
 use Rattle.tp_scene.specs.declared.answer.Clash.TheVariants.{Facts, Marks, False, NoValue}
 use Rattle.tp_scene.proofs.Parts.{status_has}
 use Rattle.tp_scene.proofs.Told.{CellTold, OtherTold, ClashTold, Told}
-use Rattle.tp_scene.proofs.FitsTold.{fitting, fits_told}
+use Rattle.tp_scene.proofs.FitsTold.{Sees, fitting, fits_told}
 use Rattle.tp_run.specs.Runs.{CellIsOf, ClashIsOf}
-use Rattle.tp_run.proofs.KnownValues.{IsOther, BindingsThere, WaitsThere, PlaceThere, outcome_there, place_there}
-
--- bindings that fit are of the store's variables
-bindings_there : (variables : List Variable) (env : Bindings) → BindingsFit (kinds_in variables) env → BindingsThere (IsVariableOf variables) env
-bindings_there variables [] h = tt
-bindings_there variables (place_binding p ∷ env) h = (h.0.0, bindings_there variables env h.1)
-bindings_there variables (known_binding t ∷ env) h = (tt, bindings_there variables env h.1)
+use Rattle.tp_run.proofs.KnownValues.{IsOther, WaitsThere, undecided_of}
 
 module _ (facts : List Fact) (variables : List Variable) (kept : AreOfVariables variables facts) where
   abbrev OtherIsOf : Option Cell → Type 0
@@ -51,6 +44,15 @@ module _ (facts : List Fact) (variables : List Variable) (kept : AreOfVariables 
   abbrev Waits : found.Outcome → Type 0
   Waits = WaitsThere (IsVariableOf variables)
 
+  sees : Sees facts variables Waits
+  sees = record {
+    value = λ v. tt;
+    waiting = λ q h. h;
+    undecided = λ q p h e. subst (IsVariableOf variables) (sym (undecided_of facts q p e)) h;
+    fault = λ k. tt;
+    limits = (tt, tt, tt);
+  }
+
   status_told : (p : Place) (o o' : PickOutcome) → IsTold o → IsTold o' → IsTold (by_status p o o')
   status_told p o o' h h' = status_has IsTold p o o' (λ g. h) (λ g e. h') (λ g e. (tt, tt))
 
@@ -67,12 +69,6 @@ module _ (facts : List Fact) (variables : List Variable) (kept : AreOfVariables 
   checked_of (f ∷ fs) o h a = refused_of f h.0 (first_clash facts f) (first_is facts f) (checked facts fs o) (checked_of fs o h.1 a)
 
   module _ (kinds : List Bool) (among : (x : VarId) → IsVariable kinds x → IsVariable (kinds_in variables) x) (defs : List Definition) (definitions : DefinitionsFit defs kinds) (inputs : InputLines) (state : ℕ) where
-    evaluated : (e : ExprTree) (env : Bindings) → ExprFits defs kinds e (length env) → BindingsFit (kinds_in variables) env → Waits (outcome facts defs e env)
-    evaluated e env fit bs = outcome_there (IsVariableOf variables) facts defs kinds among definitions e (length env) env fit (bindings_there variables env bs)
-
-    placed_there : (e : ExprTree) (env : Bindings) → ExprFits defs kinds e (length env) → BindingsFit (kinds_in variables) env → PlaceThere (IsVariableOf variables) (place_outcome facts defs e env)
-    placed_there e env fit bs = place_there (IsVariableOf variables) facts defs kinds among definitions e (length env) env fit (bindings_there variables env bs)
-
     cell_of : (p : Place) (n : Numbers) (c : Cell) → CellTold (fitting defs kinds variables n Waits) facts p n c → CellIsOf variables c
     cell_of p n (Part q) h = h
     cell_of p n (End region depth) h = tt
@@ -101,11 +97,8 @@ module _ (facts : List Fact) (variables : List Variable) (kept : AreOfVariables 
       ]
     ]
 
-    other_there : (o : PlaceOutcome) → PlaceThere (IsVariableOf variables) o → (u : found.Outcome) → o ≡ found.other u → Waits u
-    other_there o h u e = let k : PlaceThere (IsVariableOf variables) (found.other u) = subst (PlaceThere (IsVariableOf variables)) e h in k
-
     leaf_told : (l : Leaf) (p : Place) (n : Numbers) → LeafFits defs kinds variables l p → IsTold (leaf_step defs inputs state facts l p n)
-    leaf_told (Do f env) p n fit = told_of p n _ (fits_told defs kinds variables n Waits definitions among inputs state facts evaluated (λ e xs h k. other_there (place_outcome facts defs e xs) (placed_there e xs h k)) (λ v. tt) f env p fit)
+    leaf_told (Do f env) p n fit = told_of p n _ (fits_told defs kinds variables n Waits definitions among inputs state facts sees f env p fit)
     leaf_told (Later f env) p n fit = tt
     leaf_told (Shown vs) p n fit = tt
 
