@@ -4,36 +4,30 @@ use Rattle.std.proofs.lemmas.Bool.{cond_both, ltb-false, cases_Bool}
 use Rattle.std.proofs.lemmas.Bool.Decides.{nat_tests}
 use Rattle.std.proofs.lemmas.List.Elements.{All-nil}
 use Rattle.std.specs.Str.{bytes_eq}
-use Rattle.tp_value.specs.Tree.{Tree, num}
+use Rattle.tp_value.specs.Tree.{Tree}
 use Rattle.tp_value.specs.Number.{IsNumber, number_limit}
 use Rattle.tp_value.specs.Limits.{length_limit, IsWithinLimits}
 use Rattle.tp_value.specs.declared.path.Fact.{Fact}
-use Rattle.tp_meaning.specs.Syntax.{known, FormulaTree, equation, next_equation, always, len, assign, while, for_from, forall_from, Definition, BindingTree}
+use Rattle.tp_meaning.specs.Syntax.{known, FormulaTree, equation, next_equation, always, len, assign, while, for_from, forall_from, Definition}
 use Rattle.tp_meaning.specs.Unfolding.{nexts}
 use Rattle.tp_meaning.specs.Inputs.{InputPair, InputLines, port_value, input_at}
 use Rattle.tp_store.specs.Known.{adds, addition, Variable}
-use Rattle.tp_eval.specs.Outcome as found
-use Rattle.tp_eval.specs.Outcome.{PlaceOutcome, outcome, place_outcome}
-use Rattle.tp_scene.specs.Scene.{Bindings, Side, Ending, Going, Head, Leaf, Do, Later, Shown, Holder, Split, SplitProject, Closed, Opened, Running, Entries, none, leaf, node, new_head, no_region, second_lives, has, append, Place, held_place, second_place}
+use Rattle.tp_scene.specs.Scene.{Bindings, Side, Ending, Going, Head, Leaf, Do, Later, Shown, Holder, Split, SplitProject, Closed, Opened, Running, Entries, none, leaf, node, new_head, no_region, second_lives, has, append, Place, held_place}
 use Rattle.tp_scene.specs.Step.{PickOutcome, reduces, waits, rests, clashes, misses, passes, Numbers, by_status, leaf_step, holder_step}
 use Rattle.tp_scene.specs.Pick.{Setting, pick, put}
 use Rattle.tp_scene.proofs.Frame.{region}
 use Rattle.tp_scene.proofs.Parts.{picked_has}
 use Rattle.tp_show.specs.TraceOfRun.{IsOneLine, IsWithinIndexLimit, HasNameOnOneLine}
-use Rattle.tp_within.specs.Printable.{ExprIsPrintable, ExprsArePrintable, FormulaIsPrintable, FormulasArePrintable, DefinitionIsPrintable, BindingIsPrintable, BindingsArePrintable, PhraseIsPrintable, LeafIsPrintable, HolderIsPrintable, EntriesArePrintable, LineIsPrintable, InputsArePrintable}
+use Rattle.tp_within.specs.Printable.{FormulaIsPrintable, DefinitionIsPrintable, PhraseIsPrintable, LeafIsPrintable, HolderIsPrintable, EntriesArePrintable, LineIsPrintable, InputsArePrintable}
 use Rattle.tp_within.proofs.Kept.{FactsArePrintable, value_added, length_added}
-use Rattle.tp_within.proofs.Found.{number_value, definition_at, value_found, PlaceIsGood, place_found}
-use Rattle.tp_scene.proofs.Told.{Bundle, PartsOf, PlaceHas, LeavesTold, HolderTold, AreKnown, Told, formula_told}
+use Rattle.tp_within.proofs.Found.{number_value, definition_at, good, lists_good, evaluates_good}
+use Rattle.tp_scene.proofs.Evaluated.{Evaluates, outcome_told, place_outcome_told}
+use Rattle.tp_scene.proofs.Told.{Bundle, PartsOf, LeavesTold, HolderTold, AreKnown, Told, formula_told}
 
 append_printable : (es fs : Entries) → EntriesArePrintable es → EntriesArePrintable fs → EntriesArePrintable (append es fs)
 append_printable none fs h k = k
 append_printable (leaf id l rest) fs h k = (h.0, append_printable rest fs h.1 k)
 append_printable (node id x i held g second rest) fs h k = (h.0, h.1, h.2, append_printable rest fs h.3 k)
-
--- one more binding at the end
-one_more : (env : Bindings) (b : BindingTree) → BindingsArePrintable env → BindingIsPrintable b → BindingsArePrintable (env ++ b ∷ [])
-one_more [] b h k = (k, tt)
-one_more (c ∷ env) b h k = (h.0, one_more env b h.1 k)
 
 under_nexts : (k : ℕ) (f : FormulaTree) → FormulaIsPrintable f → FormulaIsPrintable (nexts k f)
 under_nexts zero f h = h
@@ -76,32 +70,17 @@ module _ (facts : List Fact) where
   status_either : (p : Place) (o o' : PickOutcome) → OutcomeIsPrintable o → OutcomeIsPrintable o' → OutcomeIsPrintable (by_status p o o')
   status_either p o o' h h' = cond_both (p.is Going) _ _ OutcomeIsPrintable (λ _. h) (λ _. cond_both (p.is Ending) _ _ OutcomeIsPrintable (λ _. h') (λ _. tt))
 
-  -- the outcome has a value within the limits, if any
-  abbrev ValueIsGood : found.Outcome → Type 0
-  ValueIsGood o = (v : Tree) → o ≡ found.value v → IsWithinLimits v
-
   abbrev pub printable : Bundle
-  printable = record {
-    formula = λ f m. FormulaIsPrintable f;
-    formulas = λ fs m. FormulasArePrintable fs;
-    expr = λ e m. ExprIsPrintable e;
-    exprs = λ es m. ExprsArePrintable es;
-    binding = BindingIsPrintable;
-    bindings = BindingsArePrintable;
-    found = ValueIsGood;
-    new_facts = λ xs. (news : List Fact) → addition facts xs ≡ adds news → FactsArePrintable (facts ++ news);
-    name = IsOneLine;
-    local = λ x. Unit {0};
-  }
+  printable = good (λ xs. (news : List Fact) → addition facts xs ≡ adds news → FactsArePrintable (facts ++ news))
 
   printable_parts : (f : FormulaTree) (m : ℕ) → FormulaIsPrintable f → PartsOf printable f m
-  printable_parts (next_equation k t e) m h = (h.1, λ v u. under_nexts (k - 1) (equation t (known v)) (h.0, (u v refl).numbers))
+  printable_parts (next_equation k t e) m h = (h.1, λ v u. under_nexts (k - 1) (equation t (known v)) (h.0, u.numbers))
   printable_parts (always f) m h = (h, h)
   printable_parts (len e) m h = (h, tt, λ k. tt)
-  printable_parts (assign t e) m h = (h.1, λ v u. (h.0, (u v refl).numbers))
+  printable_parts (assign t e) m h = (h.1, λ v u. (h.0, u.numbers))
   printable_parts (while e f) m h = (h.0, ((h.1, (tt, tt)), h), tt)
-  printable_parts (for_from x k e f) m h = (h.2, tt, number_value k h.1, h.3, λ j u l. (h.0, next_number k j l h.1 (u (num j) refl).numbers, tt, h.3))
-  printable_parts (forall_from x k e f) m h = (h.2, number_value k h.1, h.3, λ j u l. (h.0, next_number k j l h.1 (u (num j) refl).numbers, tt, h.3))
+  printable_parts (for_from x k e f) m h = (h.2, tt, number_value k h.1, h.3, λ j u l. (h.0, next_number k j l h.1 u.numbers, tt, h.3))
+  printable_parts (forall_from x k e f) m h = (h.2, number_value k h.1, h.3, λ j u l. (h.0, next_number k j l h.1 u.numbers, tt, h.3))
   printable_parts f m h = h
 
   module _ (kept : FactsArePrintable facts) where
@@ -109,30 +88,20 @@ module _ (facts : List Fact) where
     no_facts = subst FactsArePrintable (sym (append-nil facts)) kept
 
     module _ (defs : List Definition) (inputs : InputLines) (state : ℕ) (definitions : All DefinitionIsPrintable defs) (table : InputsArePrintable inputs) (p : Place) (n : Numbers) where
-      place_by : (o : PlaceOutcome) → PlaceIsGood facts kept defs definitions o → PlaceHas printable o
-      place_by (found.path q) h = h
-      place_by (found.other o) h = h
+      evaluates : Evaluates printable defs facts
+      evaluates = evaluates_good printable.new_facts facts kept defs definitions
 
       known_parts : AreKnown printable defs inputs state facts n
       known_parts = record {
-        lists = record {
-          first_formula = λ g gs m h. h.0;
-          other_formulas = λ g gs m h. h.1;
-          first_expr = λ e es m h. h.0;
-          other_exprs = λ e es m h. h.1;
-          sized = λ e m h. h;
-          no_binding = tt;
-          before = λ x xs h k. (h, k);
-          after = λ x xs h k. one_more xs x k h;
-        };
+        lists = lists_good printable.new_facts;
         parts = printable_parts;
         body = λ i d e. let k : IfSome (Some d) DefinitionIsPrintable = subst (λ (o : Option Definition). IfSome o DefinitionIsPrintable) e (definition_at defs i definitions) in k.formula;
-        value = λ e xs h k. value_found facts kept defs definitions e xs h k;
-        place = λ e xs h k. place_by (place_outcome facts defs e xs) (place_found facts kept defs definitions e xs h k);
-        read = λ port v e x q. let s : v ≡ x = cc in subst (λ (t : Tree). IsWithinLimits t) s (input_within inputs state port table v e);
-        value_bound = λ v u. u v refl;
+        value = λ e xs h k. outcome_told printable facts defs evaluates e 0 xs h k;
+        place = λ e xs h k. place_outcome_told printable facts defs evaluates e 0 xs h k;
+        read = λ port v e. input_within inputs state port table v e;
+        value_bound = λ v u. u;
         local_bound = λ x l. record { few = omega arith; indices = All-nil IsWithinIndexLimit };
-        sets = λ q v path u news e. value_added facts news q v kept path (u v refl) e;
+        sets = λ q v path u news e. value_added facts news q v kept path u e;
         lengthens = λ q k path l news e. length_added facts news q k kept path (ltb-false length_limit k l) e;
       }
 
