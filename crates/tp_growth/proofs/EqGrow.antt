@@ -1,8 +1,8 @@
 -- An equation where more is known: the same is known after it, or it is bad; also where the side that is known last decides.
-use Rattle.std.proofs.Common.{◌≡◌, inl, inr, pos, negsuc, nat_lt, Bool, true, false, not, ◌&&◌, List, [], ◌∷◌, ◌++◌, Option, Some, None, refl, ap, sym, ◌∙◌, subst, if◌then◌else◌}
+use Rattle.std.proofs.Common.{◌≡◌, inl, inr, pos, nat_lt, Bool, true, false, not, ◌&&◌, List, [], ◌∷◌, ◌++◌, Option, Some, None, refl, ap, sym, ◌∙◌, subst, if◌then◌else◌}
 use Rattle.std.proofs.lemmas.Bool.{cases_Bool, cond_both, both_ways, false_from_ne_true}
 use Rattle.std.proofs.lemmas.List.{append-nil}
-use Rattle.tp_value.specs.Tree.{Tree, num, truth, list, same_tree}
+use Rattle.tp_value.specs.Tree.{Tree, num, same_tree}
 use Rattle.tp_value.proofs.Trees.{same_tree_is_equality}
 use Rattle.tp_value.specs.Limits.{length_limit}
 use Rattle.tp_value.specs.declared.path.Path.{Path}
@@ -27,25 +27,19 @@ use Rattle.tp_growth.proofs.FactsGrow.{facts_grow, kept_before, kept_after}
 use Rattle.tp_growth.proofs.Kept.{TargetKnown, target_facts, known_in, set_form, set_known, set_other, news_known}
 
 pub bad_grown : (gs : List Fact) (o u : PickOutcome) → IsFailure u → GrownTo gs o u
-bad_grown gs (reduces r) (clashes c) b = tt
-bad_grown gs (reduces r) (misses port) b = tt
-bad_grown gs (reduces r) (passes k) b = tt
 bad_grown gs (reduces r) (reduces s) b = elim b [ ]
 bad_grown gs (reduces r) (waits first other) b = elim b [ ]
 bad_grown gs (reduces r) rests b = elim b [ ]
-bad_grown gs (waits first other) u b = tt
-bad_grown gs rests u b = tt
 bad_grown gs (clashes c) u b = b
 bad_grown gs (misses port) u b = b
 bad_grown gs (passes k) u b = b
+bad_grown gs o x b = tt
 
 pub bad_stays_bad : (gs : List Fact) (o u : PickOutcome) → GrownTo gs o u → IsFailure o → IsFailure u
-bad_stays_bad gs (reduces r) u h b = elim b [ ]
-bad_stays_bad gs (waits first other) u h b = elim b [ ]
-bad_stays_bad gs rests u h b = elim b [ ]
 bad_stays_bad gs (clashes c) u h b = h
 bad_stays_bad gs (misses port) u h b = h
 bad_stays_bad gs (passes k) u h b = h
+bad_stays_bad gs o u h b = elim b [ ]
 
 -- outcomes of facts alone
 pub knows_grown : (gs news more : List Fact) → SameFacts gs news more → GrownTo gs (knows news) (knows more)
@@ -86,9 +80,8 @@ module _ (fs gs : List Fact) (fc : NoClash fs) (gc : NoClash gs) (more : KnowsMo
         each = each news more' (adds_all fs facts news x) (adds_all gs facts more' y);
         apart = no_clash_arises.adding gs facts more' y gc single;
       })
-      go (adds news) (refuses old new) x y = tt
-      go (refuses old new) (refuses o n) x y = tt
       go (refuses old new) (adds news) x y = elim (subst (λ (b : Addition). RefusesFacts b) y (stays.refused facts (subst (λ (a : Addition). RefusesFacts a) (sym x) tt))) [ ]
+      go u v x y = tt
 
   set_grows : (t : Target) (v : Tree) → GrownTo gs (set fs t v) (set gs t v)
   set_grows (value_at p) v = added_grows (facts_at p v) (no_clash_arises.value_facts p v)
@@ -97,9 +90,7 @@ module _ (fs gs : List Fact) (fc : NoClash fs) (gc : NoClash gs) (more : KnowsMo
       go : (b : Bool) → GrownTo gs (if b then passes limit.List else added (addition fs (fact p (Items n) ∷ []))) (if b then passes limit.List else added (addition gs (fact p (Items n) ∷ [])))
       go true = tt
       go false = added_grows (fact p (Items n) ∷ []) (refl, refl, tt)
-  set_grows (length_at p) (num (negsuc n)) = tt
-  set_grows (length_at p) (truth b) = tt
-  set_grows (length_at p) (list ts) = tt
+  set_grows (length_at p) t = tt
 
   -- where a target that was set is known now, nothing is to be set any more
   set_done : (t : Target) (v : Tree) → TargetKnown gs t v → GrownTo gs (set fs t v) (knows [])
@@ -164,27 +155,19 @@ module _ (fs gs : List Fact) (fc : NoClash fs) (gc : NoClash gs) (more : KnowsMo
   -- a side with a fault or a passed limit
   right_fault : (b c : Bool) (l r : Option Target) (x : found.Outcome) (k : FaultKind) → IsFailure (equate gs (side b l x) (side c r (found.fault k)))
   right_fault b c l r (found.value t) k = tt
-  right_fault b c l r (found.wait p) k = tt
-  right_fault b c l r (found.fault j) k = tt
-  right_fault b c l r (found.over j) k = tt
+  right_fault b c l r o k = tt
 
   right_over : (b c : Bool) (l r : Option Target) (x : found.Outcome) (k : LimitKind) → IsFailure (equate gs (side b l x) (side c r (found.over k)))
   right_over b c l r (found.value t) k = tt
-  right_over b c l r (found.wait p) k = tt
-  right_over b c l r (found.fault j) k = tt
-  right_over b c l r (found.over j) k = tt
+  right_over b c l r o k = tt
 
   left_fault : (b c : Bool) (l r : Option Target) (y : found.Outcome) (k : FaultKind) → IsFailure (equate gs (side b l (found.fault k)) (side c r y))
   left_fault b c l r (found.value t) k = tt
-  left_fault b c l r (found.wait p) k = tt
-  left_fault b c l r (found.fault j) k = tt
-  left_fault b c l r (found.over j) k = tt
+  left_fault b c l r o k = tt
 
   left_over : (b c : Bool) (l r : Option Target) (y : found.Outcome) (k : LimitKind) → IsFailure (equate gs (side b l (found.over k)) (side c r y))
   left_over b c l r (found.value t) k = tt
-  left_over b c l r (found.wait p) k = tt
-  left_over b c l r (found.fault j) k = tt
-  left_over b c l r (found.over j) k = tt
+  left_over b c l r o k = tt
 
   -- by what the sides have come to, and then by what they were
   both_values : (b c : Bool) (l l' r r' : Option Target) (x y : found.Outcome) (u v : Tree) → SideGrows gs l x l' (found.value u) → SideGrows gs r y r' (found.value v) → Goal b c l x r y l' (found.value u) r' (found.value v)

@@ -21,7 +21,7 @@ use Rattle.tp_growth.specs.Outcomes.{KnowsMore, GrownOutcome}
 use Rattle.tp_growth.specs.Within.{LengthsAreWithin}
 use Rattle.tp_growth.specs.Rows.{IsFailure}
 use Rattle.tp_growth.proofs.FactsGrow.{in_more}
-use Rattle.tp_growth.proofs.Kept.{TargetKnown, target_facts}
+use Rattle.tp_growth.proofs.Kept.{TargetKnown, target_facts, target_apart, set_adds}
 use Rattle.tp_growth.proofs.EqGrow.{SideGrows, switch_to, same_switch}
 
 -- what a value can be set to
@@ -51,9 +51,7 @@ module _ (fs gs hs : List Fact) (fc : NoClash fs) (gc : NoClash gs) (hc : NoClas
   settable : (x : Target) (v : Tree) (news : List Fact) → set fs x v ≡ knows news → Settable x v
   settable (value_at p) v news e = tt
   settable (length_at p) (num (pos n)) news e = tt
-  settable (length_at p) (num (negsuc n)) news e = absurd (cc)
-  settable (length_at p) (truth b) news e = absurd (cc)
-  settable (length_at p) (list ts) news e = absurd (cc)
+  settable (length_at p) t news e = absurd (cc)
 
   adding_ok : (facts : List Fact) → ((f : Fact) → In f facts → In f hs) → IsFailure (added (addition gs facts)) → ⊥
   adding_ok facts all = go (addition gs facts) refl
@@ -71,9 +69,7 @@ module _ (fs gs hs : List Fact) (fc : NoClash fs) (gc : NoClash gs) (hc : NoClas
       go : (b : Bool) → (if b then passes limit.List else added (addition fs (fact p (Items n) ∷ []))) ≡ knows news → IsFailure (if b then passes limit.List else added (addition gs (fact p (Items n) ∷ []))) → ⊥
       go true e = absurd (cc)
       go false e = adding_ok (fact p (Items n) ∷ []) all
-  set_ok (length_at p) (num (negsuc n)) news e all = absurd (cc)
-  set_ok (length_at p) (truth b) news e all = absurd (cc)
-  set_ok (length_at p) (list ts) news e all = absurd (cc)
+  set_ok (length_at p) t news e all = absurd (cc)
 
   -- what has a value where most is known is no fault and passes no limit where more is
   no_fault : (o : found.Outcome) (v : Tree) (k : FaultKind) → GrownOutcome (found.fault k) o → o ≡ found.value v → ⊥
@@ -85,8 +81,11 @@ module _ (fs gs hs : List Fact) (fc : NoClash fs) (gc : NoClash gs) (hc : NoClas
   abbrev sd : Bool → Option Target → found.Outcome → SideOf
   sd b t o = record { placed = b; target = t; found = o }
 
-  -- all that the set value says is known where most is, and values that are set are within the limits
-  module _ (news : List Fact) (all : (x : Target) (v : Tree) → set fs x v ≡ knows news → (f : Fact) → In f (target_facts x v) → In f hs) where
+  -- all that was added is known where most is, and values that are set are within the limits
+  module _ (news : List Fact) (added_there : (xs : List Fact) → NoClash xs → addition fs xs ≡ adds news → (f : Fact) → In f xs → In f hs) where
+    all : (x : Target) (v : Tree) → set fs x v ≡ knows news → (f : Fact) → In f (target_facts x v) → In f hs
+    all x v e = added_there (target_facts x v) (target_apart x v) (set_adds fs x v news e)
+
     -- the right side has the value v, and the left one was set or compared
     left_ok : (b c : Bool) (l l' r' : Option Target) (x x' x'' : found.Outcome) (v : Tree) → IsWithinListLimit v → (IsOver x → ⊥) → SideKnows gs hs l x l' x' x''
         → meets fs (sd b l x) v ≡ knows news → IsFailure (equate gs (sd b l' x') (sd c r' (found.value v))) → ⊥
@@ -112,9 +111,7 @@ module _ (fs gs hs : List Fact) (fc : NoClash fs) (gc : NoClash gs) (hc : NoClas
         go : (q : Bool) → (if q then vanishes else clashes False) ≡ knows news → IsFailure (if q then vanishes else clashes False) → ⊥
         go true e = λ z. z
         go false e = absurd (cc)
-    left_ok b c None l' r' (found.wait p) x' x'' v small over k e = absurd (cc)
-    left_ok b c None l' r' (found.fault j) x' x'' v small over k e = absurd (cc)
-    left_ok b c None l' r' (found.over j) x' x'' v small over k e = absurd (cc)
+    left_ok b c None l' r' o x' x'' v small over k e = absurd (cc)
 
     -- the left side has the value u, and the right one, which waited, was set
     right_ok : (b c : Bool) (l' r r' : Option Target) (p : Path) (y' y'' : found.Outcome) (u : Tree) → IsWithinListLimit u → ((x : Target) → l' ≡ Some x → TargetKnown gs x u)

@@ -28,9 +28,8 @@ items_more f g p h zero k ts e = e
 items_more f g p h (suc m) k ts e = go (items_more f g p h m (suc k)) (f (item_path p k)) (items_known f p m (suc k)) refl refl e
   where
     go : ((us : List Tree) → items_known f p m (suc k) ≡ all_known us → items_known g p m (suc k) ≡ all_known us) → (a : Whole) (b : WholeItems) → f (item_path p k) ≡ a → items_known f p m (suc k) ≡ b → and_items a b ≡ all_known ts → and_items (g (item_path p k)) (items_known g p m (suc k)) ≡ all_known ts
-    go up (open_at q) b x y z = absurd (cc z)
-    go up (known t) (item_open_at q) x y z = absurd (cc z)
     go up (known t) (all_known us) x y z = ap₂ and_items (h (item_path p k) t x) (up us y) ∙ z
+    go up u b x y z = absurd (cc z)
 
 shape_more : (f g : Path → Whole) (p : Path) → ((q : Path) (t : Tree) → f q ≡ known t → g q ≡ known t) → (o u : Option Shape) → ((sh : Shape) → o ≡ Some sh → u ≡ Some sh) → (t : Tree) → with_shape f p o ≡ known t → with_shape g p u ≡ known t
 shape_more f g p h None u k t e = absurd (cc e)

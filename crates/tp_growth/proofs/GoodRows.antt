@@ -1,6 +1,6 @@
 -- A formula that has a step isn't bad after another step, if nothing clashes where both are known and no region both ends and goes.
-use Rattle.std.proofs.Common.{◌≡◌, pos, negsuc, ℕ, nat_lt, Bool, true, false, not, ◌&&◌, List, [], ◌∷◌, Option, Some, None, refl, ap, sym, subst, if◌then◌else◌}
-use Rattle.tp_value.specs.Tree.{Tree, num, truth, list, same_tree}
+use Rattle.std.proofs.Common.{◌≡◌, pos, ℕ, nat_lt, Bool, true, false, not, ◌&&◌, List, [], ◌∷◌, Option, Some, None, refl, ap, sym, subst, if◌then◌else◌}
+use Rattle.tp_value.specs.Tree.{Tree, num, same_tree}
 use Rattle.tp_value.specs.Limits.{length_limit, IsWithinListLimit}
 use Rattle.tp_value.specs.declared.value.Shape.TheVariants.{Items}
 use Rattle.tp_value.specs.declared.path.Fact.{Fact}
@@ -12,18 +12,17 @@ use Rattle.tp_store.specs.Known.{NoClash, Addition, adds, refuses, addition}
 use Rattle.tp_store.proofs.Members.{In}
 use Rattle.tp_eval.specs.Outcome as found
 use Rattle.tp_eval.specs.Outcome.{outcome, place_outcome, PlaceOutcome}
-use Rattle.tp_scene.specs.Scene.{Bindings, Side, Leaf, Do, Later, Shown, Entries, Place}
+use Rattle.tp_scene.specs.Scene.{Bindings, Side, Leaf, Do, Entries, Place}
 use Rattle.tp_scene.specs.Step.{Reduction, PickOutcome, reduces, passes, knows, added, Numbers, marking, Target, value_at, length_at, set, SideOf, meets, equate, side_of, from_port, formula_step, leaf_step}
 use Rattle.tp_scene.specs.Pick.{Setting}
 use Rattle.tp_scene.specs.Fits.{IsCalm}
-use Rattle.tp_scene.proofs.Grown.{other_side}
+use Rattle.tp_scene.proofs.Told.{other_side}
 use Rattle.tp_growth.specs.Rows.{Grows, IsFailure}
 use Rattle.tp_growth.specs.Outcomes.{KnowsMore}
 use Rattle.tp_inputs.specs.Within.{InputsWithin}
 use Rattle.tp_growth.specs.Within.{LengthsAreWithin, BindingsWithin, LeafWithin}
 use Rattle.tp_growth.proofs.InputsWithin.{input_within}
 use Rattle.tp_growth.proofs.Small.{values_within}
-use Rattle.tp_growth.proofs.Kept.{target_facts}
 use Rattle.tp_growth.proofs.EqMutual.{equate_ok}
 use Rattle.tp_growth.proofs.SideGrow.{value_side}
 use Rattle.tp_growth.proofs.SideKnows.{side_knows}
@@ -47,9 +46,7 @@ set_is fs (length_at p) (num (pos n)) = go (nat_lt length_limit n)
     go : (b : Bool) → Form (if b then passes limit.List else added (addition fs (fact p (Items n) ∷ [])))
     go true = λ r e. absurd (cc)
     go false = added_form (addition fs (fact p (Items n) ∷ []))
-set_is fs (length_at p) (num (negsuc n)) = λ r e. absurd (cc)
-set_is fs (length_at p) (truth b) = λ r e. absurd (cc)
-set_is fs (length_at p) (list ts) = λ r e. absurd (cc)
+set_is fs (length_at p) t = λ r e. absurd (cc)
 
 module _ (fs : List Fact) where
   abbrev sd : Bool → Option Target → found.Outcome → SideOf
@@ -62,9 +59,7 @@ module _ (fs : List Fact) where
   meets_is : (b : Bool) (t : Option Target) (o : found.Outcome) (v : Tree) → Form (meets fs (sd b t o) v)
   meets_is b (Some t) o v = set_is fs t v
   meets_is b None (found.value u) v = if_form (same_tree u v) _ _ (knows_form []) (λ r e. absurd (cc))
-  meets_is b None (found.wait p) v = λ r e. absurd (cc)
-  meets_is b None (found.fault k) v = λ r e. absurd (cc)
-  meets_is b None (found.over k) v = λ r e. absurd (cc)
+  meets_is b None o v = λ r e. absurd (cc)
 
   equate_is : (b c : Bool) (l r : Option Target) (x y : found.Outcome) → Form (equate fs (sd b l x) (sd c r y))
   equate_is b c l r (found.value t) (found.fault k) = λ r e. absurd (cc)
@@ -86,12 +81,12 @@ module _ (fs : List Fact) where
 
 module _ (w : Setting) (fs gs hs : List Fact) (fc : NoClash fs) (gc : NoClash gs) (hc : NoClash hs) (one : KnowsMore fs gs) (two : KnowsMore gs hs) (within : LengthsAreWithin gs) (inputs : InputsWithin w.inputs)
     (p q : Place) (n : Numbers) (up : Grows p q) (calm : IsCalm q) where
-  -- what is asked of a reduction: its region isn't of the other side of its mark, and what it sets is known where both are
+  -- what is asked of a reduction: its region isn't of the other side of its mark, and what it adds is known where both are
   abbrev pub MarkOk : Reduction → Type 0
   MarkOk r = (z : Side) → r.mark ≡ Some z → q.is (other_side z) ≡ true → ⊥
 
   abbrev pub FactsOk : Reduction → Type 0
-  FactsOk r = (x : Target) (v : Tree) → set fs x v ≡ knows r.facts → (f : Fact) → In f (target_facts x v) → In f hs
+  FactsOk r = (xs : List Fact) → NoClash xs → addition fs xs ≡ adds r.facts → (f : Fact) → In f xs → In f hs
 
   abbrev pub Good : PickOutcome → PickOutcome → Type 0
   Good o u = (r : Reduction) → o ≡ reduces r → MarkOk r → FactsOk r → IsFailure u → ⊥
@@ -131,5 +126,4 @@ module _ (w : Setting) (fs gs hs : List Fact) (fc : NoClash fs) (gc : NoClash gs
 
   pub leaf_good : (l : Leaf) → LeafWithin l → Good (leaf_step w.defs w.inputs w.state fs l p n) (leaf_step w.defs w.inputs w.state gs l q n)
   leaf_good (Do f env) small = formula_row w fs gs fc gc one p q n up calm Good respects_good env (equation_row env small) (port_row env small) f
-  leaf_good (Later f env) small = λ r e. absurd (cc)
-  leaf_good (Shown vs) small = λ r e. absurd (cc)
+  leaf_good l small = λ r e. absurd (cc)

@@ -11,14 +11,14 @@ use Rattle.tp_value.specs.declared.path.Path.{Path}
 use Rattle.tp_value.specs.declared.path.Fact.{Fact}
 use Rattle.tp_store.specs.Changes.{HaveSameShapes}
 use Rattle.tp_store.specs.Facts.{same_path, same_shape, clash, kept_shape, is_excluded, item_path, fact, facts_at, facts_of_items}
-use Rattle.tp_store.specs.Known.{NoClash, is_none, first_clash, Addition, adds, refuses, refused_or, checked, new_facts, addition, Whole, known, open_at, WholeItems, all_known, item_open_at, and_items, list_of_items, items_known, with_shape, whole, deepest, absent, too_long, value, limited, full}
+use Rattle.tp_store.specs.Known.{NoClash, is_none, first_clash, Addition, adds, refuses, refused_or, checked, new_facts, addition, Whole, known, WholeItems, all_known, item_open_at, and_items, list_of_items, items_known, with_shape, whole, deepest, absent, too_long, value, limited, full}
 use Rattle.tp_store.proofs.Paths.{same_path-refl}
 use Rattle.tp_store.proofs.Members.{In, in_left, in_right, in_append, kept_in, in_kept, apart_in}
 use Rattle.tp_store.proofs.Adding.{AddsAll, adds_all, given_in, news_given}
 use Rattle.tp_store.proofs.First.{FirstOf, first_is}
 use Rattle.tp_store.proofs.States.{no_clash_arises}
 use Rattle.tp_kernel.specs.declared.formula.LimitKind.TheVariants as limit
-use Rattle.tp_scene.specs.Step.{passes, knows, added, Target, value_at, length_at, set}
+use Rattle.tp_scene.specs.Step.{PickOutcome, reduces, passes, knows, added, Target, value_at, length_at, set}
 use Rattle.tp_growth.specs.Outcomes.{KnowsMore}
 use Rattle.tp_growth.specs.Within.{LengthsAreWithin}
 use Rattle.tp_growth.specs.Rows.{IsFailure}
@@ -32,9 +32,8 @@ items_count g p zero k ts e = let q : [] ≡ ts = cc e in ap length (sym q)
 items_count g p (suc m) k ts e = go (items_count g p m (suc k)) (g (item_path p k)) (items_known g p m (suc k)) refl e
   where
     go : ((us : List Tree) → items_known g p m (suc k) ≡ all_known us → length us ≡ m) → (a : Whole) (b : WholeItems) → items_known g p m (suc k) ≡ b → and_items a b ≡ all_known ts → length ts ≡ suc m
-    go up (open_at q) b x z = absurd (cc z)
-    go up (known t) (item_open_at q) x z = absurd (cc z)
     go up (known t) (all_known us) x z = let q : (t ∷ us) ≡ ts = cc z in ap length (sym q) ∙ ap suc (up us x)
+    go up y b x z = absurd (cc z)
 
 -- the facts of a value that is known are facts of the list
 items_in : (gs : List Fact) (g : Path → Whole) → ((q : Path) (t : Tree) → g q ≡ known t → (f : Fact) → In f (facts_at q t) → In f gs)
@@ -44,13 +43,12 @@ items_in gs g h p (suc m) k ts e f i = go (items_in gs g h p m (suc k)) (g (item
   where
     go : ((us : List Tree) → items_known g p m (suc k) ≡ all_known us → (f : Fact) → In f (facts_of_items p (suc k) (of_items us)) → In f gs)
         → (a : Whole) (b : WholeItems) → g (item_path p k) ≡ a → items_known g p m (suc k) ≡ b → and_items a b ≡ all_known ts → In f gs
-    go up (open_at q) b x y z = absurd (cc z)
-    go up (known t) (item_open_at q) x y z = absurd (cc z)
     go up (known t) (all_known us) x y z = let q : (t ∷ us) ≡ ts = cc z in
         elim (in_append f (facts_at (item_path p k) t) (facts_of_items p (suc k) (of_items us)) (subst (λ (vs : List Tree). In f (facts_of_items p k (of_items vs))) (sym q) i)) [
           | inl j ↦ h (item_path p k) t x f j
           | inr j ↦ up us y f j
         ]
+    go up u b x y z = absurd (cc z)
 
 whole_in : (gs : List Fact) (d : ℕ) (p : Path) (t : Tree) → whole d gs p ≡ known t → (f : Fact) → In f (facts_at p t) → In f gs
 whole_in gs zero p t e f i = absurd (cc e)
@@ -81,9 +79,8 @@ full_whole gs p t e = go (is_excluded gs p) (whole (suc (deepest gs)) gs p) e
     limits false u z = absurd (cc z)
 
     go : (b : Bool) (w : Whole) → cond b absent (limited w) ≡ value t → w ≡ known t
-    go true w z = absurd (cc z)
-    go false (open_at q) z = absurd (cc z)
     go false (known u) z = limits (is_within_list_limit u) u z
+    go b w z = absurd (cc z)
 
 -- and where the facts of a value are facts of the list, it is known at some depth
 module _ (gs : List Fact) (apart : NoClash gs) where
@@ -142,9 +139,28 @@ set_form fs (length_at p) (num (pos n)) = go (nat_lt length_limit n) (addition f
     go true a e = inr tt
     go false (adds news) e = inl (news, ap added e, e)
     go false (refuses old new) e = inr (subst (λ (a : Addition). IsFailure (added a)) (sym e) tt)
-set_form fs (length_at p) (num (negsuc n)) = inr tt
-set_form fs (length_at p) (truth b) = inr tt
-set_form fs (length_at p) (list ts) = inr tt
+set_form fs (length_at p) t = inr tt
+
+-- what a value says of a target stands apart
+pub target_apart : (t : Target) (v : Tree) → NoClash (target_facts t v)
+target_apart (value_at p) v = no_clash_arises.value_facts p v
+target_apart (length_at p) (num (pos n)) = (refl, refl, tt)
+target_apart (length_at p) t = tt
+
+facts_in : PickOutcome → List Fact
+facts_in (reduces r) = r.facts
+facts_in o = []
+
+knows_same : (xs ys : List Fact) → knows xs ≡ knows ys → xs ≡ ys
+unfolding facts_in
+knows_same xs ys e = ap facts_in e
+
+-- what a set gives is the addition of what it says
+pub set_adds : (fs : List Fact) (t : Target) (v : Tree) (news : List Fact) → set fs t v ≡ knows news → addition fs (target_facts t v) ≡ adds news
+set_adds fs t v news e = elim (set_form fs t v) [
+  | inl z ↦ subst (λ (xs : List Fact). addition fs (target_facts t v) ≡ adds xs) (knows_same z.0 news (sym z.1 ∙ e)) z.2
+  | inr bad ↦ absurd (subst (λ (o : PickOutcome). IsFailure o) e bad)
+]
 
 no_news : (gs facts : List Fact) → NoClash gs → ((f : Fact) → In f facts → In f gs) → (new_facts gs facts ≡ []) × ((ns : List Fact) → checked gs facts (adds ns) ≡ adds ns)
 no_news gs [] apart h = (refl, λ ns. refl)
@@ -215,6 +231,4 @@ module _ (gs : List Fact) (apart : NoClash gs) where
     | inr b ↦ b
     | inl x ↦ absurd (length_clashes p k.0 m k.2 (λ q. ne (ap (λ i. num (pos i)) q ∙ sym k.1)) x.0 x.2)
   ]
-  set_other (length_at p) v (num (negsuc m)) k ne = tt
-  set_other (length_at p) v (truth b) k ne = tt
-  set_other (length_at p) v (list ts) k ne = tt
+  set_other (length_at p) v t k ne = tt

@@ -5,10 +5,10 @@ use Rattle.tp_value.specs.declared.value.Shape.{Shape}
 use Rattle.tp_value.specs.declared.path.Fact.{Fact}
 use Rattle.tp_value.specs.Shape.{item_at}
 use Rattle.tp_kernel.specs.declared.formula.FaultKind.TheVariants.{NoElement}
-use Rattle.tp_meaning.specs.Syntax.{Operator, ExprTree, ExprTrees, numeral, boolean, known, bound, global, listing, size, index, minus, negation, both, either, binary, choice, invoke, no_expr, expr_then, Definition, BindingTree}
+use Rattle.tp_meaning.specs.Syntax.{Operator, ExprTree, ExprTrees, boolean, bound, global, listing, size, index, minus, negation, both, either, binary, choice, invoke, no_expr, expr_then, Definition, BindingTree}
 use Rattle.tp_meaning.specs.Value.{is_upper}
 use Rattle.tp_store.specs.Facts.{kept_shape, is_excluded}
-use Rattle.tp_store.specs.Known.{Full, absent, undecided, too_long, value, full}
+use Rattle.tp_store.specs.Known.{Full, undecided, full}
 use Rattle.tp_eval.specs.Reached.{Stop, Reached, reaches, stops, waits, faults, passes, Evaluation, with_reached, fault}
 use Rattle.tp_eval.specs.Evaluate as ev
 use Rattle.tp_eval.specs.Evaluate.{PlaceFound, at_path, inside, is_place, element_in, of_full, length_in, length_of, bind_place, count_call, truth_in, evaluate, find_place, depth_limit}
@@ -87,18 +87,7 @@ module _ (free : Stop → Bool) where
         place_more env (bound i) c = same_more _
         place_more env (global x) c = refl
         place_more env (index e i) c = then_more _ _ _ _ (down e c) (λ p c. then_more _ _ _ _ (up i c) (λ t c. then_more _ _ _ _ (same_more (ev.index_in t c)) (λ k c. same_more (ev.farther p k c))))
-        place_more env (numeral n) c = same_more {A = PlaceFound} (stops (faults NoElement))
-        place_more env (boolean b) c = same_more {A = PlaceFound} (stops (faults NoElement))
-        place_more env (known t) c = same_more {A = PlaceFound} (stops (faults NoElement))
-        place_more env (listing es) c = same_more {A = PlaceFound} (stops (faults NoElement))
-        place_more env (size e) c = same_more {A = PlaceFound} (stops (faults NoElement))
-        place_more env (minus e) c = same_more {A = PlaceFound} (stops (faults NoElement))
-        place_more env (negation e) c = same_more {A = PlaceFound} (stops (faults NoElement))
-        place_more env (both es) c = same_more {A = PlaceFound} (stops (faults NoElement))
-        place_more env (either a b) c = same_more {A = PlaceFound} (stops (faults NoElement))
-        place_more env (binary o a b) c = same_more {A = PlaceFound} (stops (faults NoElement))
-        place_more env (choice b x y) c = same_more {A = PlaceFound} (stops (faults NoElement))
-        place_more env (invoke p es) c = same_more {A = PlaceFound} (stops (faults NoElement))
+        place_more env e c = same_more {A = PlaceFound} (stops (faults NoElement))
 
         argument_more : (u : Bool) (e : ExprTree) (c : ℕ) → More (ev.argument op pl u e c) (ev.argument op' pl' u e c)
         argument_more true e c = then_more _ _ _ _ (down e c) (λ p c. same_more (bind_place p c))
@@ -107,8 +96,7 @@ module _ (free : Stop → Bool) where
         arguments_more : (es : ExprTrees) (xs : List (List ℕ)) (c : ℕ) → More (ev.arguments op pl es xs c) (ev.arguments op' pl' es xs c)
         arguments_more no_expr [] c = refl
         arguments_more (expr_then e es) (x ∷ xs) c = then_more _ _ _ _ (argument_more (is_upper x) e c) (λ b c. then_more _ _ _ _ (arguments_more es xs c) (λ bs c. refl))
-        arguments_more no_expr (x ∷ xs) c = same_more {A = List BindingTree} (stops (faults NoElement))
-        arguments_more (expr_then e es) [] c = same_more {A = List BindingTree} (stops (faults NoElement))
+        arguments_more x y c = same_more {A = List BindingTree} (stops (faults NoElement))
 
         module _ (env : List BindingTree) where
           index_more : (b : Bool) (e i : ExprTree) (c : ℕ) → More (ev.indexed_value op pl fs env b e i c) (ev.indexed_value op' pl' gs env b e i c)
@@ -129,9 +117,7 @@ module _ (free : Stop → Bool) where
             call_more None es c = same_more {A = Tree} (stops (faults NoElement))
 
             row_more : (e : ExprTree) (c : ℕ) → More (ev.part_value op pl fs env defs body e c) (ev.part_value op' pl' gs env defs body' e c)
-            row_more (numeral n) c = same_more _
             row_more (boolean b) c = refl
-            row_more (known t) c = same_more _
             row_more (bound i) c = then_more _ _ _ _ (place_more env (bound i) c) value_at_more
             row_more (global x) c = value_at_more (at_path (record { var = x; at = [] })) c
             row_more (listing es) c = then_more _ _ _ _ (each_more es c) (λ ts c. same_more _)
@@ -144,13 +130,12 @@ module _ (free : Stop → Bool) where
             row_more (binary o a b) c = operated_more o a b c
             row_more (choice b x y) c = chosen_more b x y c
             row_more (invoke p es) c = call_more (slice_get defs p) es c
+            row_more e c = same_more _
 
 module _ (fs gs : List Fact) (more : KnowsMore fs gs) (stays : StaysKnown fs gs) where
   full_more : (a b : Full) (c : ℕ) → GrownFull a b → More is_wait (of_full a c) (of_full b c)
-  full_more absent b c h = ap (λ o. of_full o c) h
   full_more (undecided p) b c h = tt
-  full_more too_long b c h = ap (λ o. of_full o c) h
-  full_more (value t) b c h = ap (λ o. of_full o c) h
+  full_more x b c h = ap (λ o. of_full o c) h
 
   value_up : (p : PlaceFound) (c : ℕ) → More is_wait (ev.value_at fs p c) (ev.value_at gs p c)
   value_up (at_path p) c = full_more (full fs p) (full gs p) c (stays.wholes p)
@@ -184,21 +169,17 @@ module _ (fs : List Fact) (defs : List Definition) where
   )
 
 outcome_more : (r r' : Reached Tree) → More is_wait r r' → GrownOutcome (outcome_reached r) (outcome_reached r')
-outcome_more (reaches x c) r' h = ap outcome_reached h
 outcome_more (stops (waits p)) r' h = tt
-outcome_more (stops (faults k)) r' h = ap outcome_reached h
-outcome_more (stops (passes k)) r' h = ap outcome_reached h
+outcome_more r r' h = ap outcome_reached h
 
 element_found : (fs gs : List Fact) (o : Option Tree) (r : PlaceOutcome) (c : ℕ) → r ≡ found.other (outcome_reached (element_in o c)) → GrownPlace (found.other (outcome_reached (element_in o c))) r
 element_found fs gs (Some t) r c h = h
 element_found fs gs None r c h = h
 
 place_found_more : (fs gs : List Fact) (r r' : Reached PlaceFound) → More is_wait r r' → GrownPlace (place_reached fs r) (place_reached gs r')
-place_found_more fs gs (reaches (at_path p) c) r' h = ap (place_reached gs) h
 place_found_more fs gs (reaches (inside t at) c) r' h = element_found fs gs (item_at at t) (place_reached gs r') c (ap (place_reached gs) h)
 place_found_more fs gs (stops (waits p)) r' h = tt
-place_found_more fs gs (stops (faults k)) r' h = ap (place_reached gs) h
-place_found_more fs gs (stops (passes k)) r' h = ap (place_reached gs) h
+place_found_more fs gs r r' h = ap (place_reached gs) h
 
 pub outcomes_grow : OutcomesGrow
 unfolding outcome place_outcome

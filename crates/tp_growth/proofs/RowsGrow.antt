@@ -4,14 +4,14 @@ use Rattle.tp_value.specs.Tree.{Tree}
 use Rattle.tp_value.specs.declared.path.Fact.{Fact}
 use Rattle.tp_meaning.specs.Syntax.{ExprTree, equation}
 use Rattle.tp_store.specs.Known.{NoClash}
-use Rattle.tp_scene.specs.Scene.{Bindings, Side, Ending, Going, Leaf, Do, Later, Shown, Split, SplitProject, Closed, Opened, Running, Entries, Place}
+use Rattle.tp_scene.specs.Scene.{Bindings, Side, Ending, Going, Leaf, Do, Closed, Opened, Running, Entries, Place}
 use Rattle.tp_scene.specs.Step.{Reduction, PickOutcome, reduces, Numbers, marking, side_of, side_with, from_port, formula_step, leaf_step}
 use Rattle.tp_scene.specs.Pick.{Setting}
 use Rattle.tp_scene.specs.Fits.{IsCalm}
 use Rattle.tp_growth.specs.Rows.{Grows, IsFailure, SameFacts, GrownTo, LeafRowsGrow, HolderGrown, HolderRowsGrow}
 use Rattle.tp_growth.specs.Outcomes.{KnowsMore}
 use Rattle.tp_growth.specs.Within.{LengthsAreWithin}
-use Rattle.tp_scene.proofs.Grown.{other_side}
+use Rattle.tp_scene.proofs.Told.{other_side}
 use Rattle.tp_growth.proofs.Table.{status_case, Respects, formula_row}
 use Rattle.tp_growth.proofs.EqGrow.{nothing_new, bad_grown, equate_grows}
 use Rattle.tp_growth.proofs.SideGrow.{side_grows, value_side}
@@ -53,18 +53,15 @@ module _ (w : Setting) (fs gs : List Fact) (fc : NoClash fs) (gc : NoClash gs) (
 
   leaf_row : (l : Leaf) → G (leaf_step w.defs w.inputs w.state fs l p n) (leaf_step w.defs w.inputs w.state gs l q n)
   leaf_row (Do f env) = formula_row w fs gs fc gc knows p q n up calm G (respects_growth gs gc p q up) env (equation_row env) (λ v port x h. port_row env v port x) f
-  leaf_row (Later f env) = tt
-  leaf_row (Shown vs) = tt
+  leaf_row l = tt
 
 pub leaf_rows_grow : LeafRowsGrow
 leaf_rows_grow w fs gs fc gc knows within l p q n up calm = leaf_row w fs gs fc gc knows within p q n up calm l
 
 pub holder_rows_grow : HolderRowsGrow
-holder_rows_grow w fs gs (Split f env) n p q up calm h i g s h' i' g' s' =
-    status_case (HolderGrown (Split f env) n h' i' g' s') _ _ _ _ _ _ refl (refl, refl) (λ u. tt) (p.is Going) (p.is Ending) (q.is Going) (q.is Ending) (up.sides Going) (up.sides Ending) calm
-holder_rows_grow w fs gs (SplitProject f env) n p q up calm h i g s h' i' g' s' =
-    status_case (HolderGrown (SplitProject f env) n h' i' g' s') _ _ _ _ _ _ refl (refl, refl) (λ u. tt) (p.is Going) (p.is Ending) (q.is Going) (q.is Ending) (up.sides Going) (up.sides Ending) calm
 holder_rows_grow w fs gs Closed n p q up calm h i g s h' i' g' s' = refl
 holder_rows_grow w fs gs (Opened f env) n p q up calm h i g s h' i' g' s' =
     status_case (HolderGrown (Opened f env) n h' i' g' s') _ _ _ _ _ _ (refl, refl) refl (λ u. tt) (p.is Going) (p.is Ending) (q.is Going) (q.is Ending) (up.sides Going) (up.sides Ending) calm
 holder_rows_grow w fs gs (Running f env) n p q up calm h i g s h' i' g' s' = refl
+holder_rows_grow w fs gs k n p q up calm h i g s h' i' g' s' =
+    status_case (HolderGrown k n h' i' g' s') _ _ _ _ _ _ refl (refl, refl) (λ u. tt) (p.is Going) (p.is Ending) (q.is Going) (q.is Ending) (up.sides Going) (up.sides Ending) calm

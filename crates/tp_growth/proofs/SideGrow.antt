@@ -2,15 +2,15 @@
 use Rattle.std.proofs.Common.{◌≡◌, ℕ, suc, pos, Bool, true, false, List, Option, Some, None, refl, ap, sym, ◌∙◌, subst, if◌then◌else◌}
 use Rattle.tp_value.specs.Tree.{Tree, num}
 use Rattle.tp_value.specs.declared.value.Shape.{Shape}
-use Rattle.tp_value.specs.declared.value.Shape.TheVariants.{Num, Truth, Items}
+use Rattle.tp_value.specs.declared.value.Shape.TheVariants.{Items}
 use Rattle.tp_value.specs.declared.path.Path.{Path}
 use Rattle.tp_value.specs.declared.path.Fact.{Fact}
 use Rattle.tp_value.specs.Shape.{item_at}
 use Rattle.tp_kernel.specs.declared.formula.FaultKind.TheVariants.{NoElement}
-use Rattle.tp_meaning.specs.Syntax.{ExprTree, numeral, boolean, known, bound, global, listing, size, index, minus, negation, both, either, binary, choice, invoke, Definition}
+use Rattle.tp_meaning.specs.Syntax.{ExprTree, bound, global, size, index, Definition}
 use Rattle.tp_meaning.specs.Inputs.{InputLines}
 use Rattle.tp_store.specs.Facts.{kept_shape, is_excluded}
-use Rattle.tp_store.specs.Known.{NoClash, Full, absent, undecided, too_long, value, full}
+use Rattle.tp_store.specs.Known.{NoClash, Full, value, full}
 use Rattle.tp_eval.specs.Reached.{Reached, reaches, stops, waits, faults, passes, with_reached, fault}
 use Rattle.tp_eval.specs.Evaluate as ev
 use Rattle.tp_eval.specs.Evaluate.{PlaceFound, at_path, inside, is_place, element_in, of_full, length_in, evaluate, find_place, depth_limit}
@@ -28,18 +28,7 @@ pub read_place : (facts : List Fact) (defs : List Definition) (d : ℕ) (e : Exp
 read_place facts defs d (bound i) env c p = refl
 read_place facts defs d (global x) env c p = refl
 read_place facts defs d (index e i) env c p = ap (λ (b : Bool). ev.indexed_value (λ x. evaluate facts defs d x env) (λ x. find_place facts defs d x env) facts env b e i c) p
-read_place facts defs d (numeral n) env c p = absurd (cc)
-read_place facts defs d (boolean b) env c p = absurd (cc)
-read_place facts defs d (known t) env c p = absurd (cc)
-read_place facts defs d (listing es) env c p = absurd (cc)
-read_place facts defs d (size e) env c p = absurd (cc)
-read_place facts defs d (minus e) env c p = absurd (cc)
-read_place facts defs d (negation e) env c p = absurd (cc)
-read_place facts defs d (both es) env c p = absurd (cc)
-read_place facts defs d (either a b) env c p = absurd (cc)
-read_place facts defs d (binary o a b) env c p = absurd (cc)
-read_place facts defs d (choice b x y) env c p = absurd (cc)
-read_place facts defs d (invoke q es) env c p = absurd (cc)
+read_place facts defs d e env c p = absurd (cc)
 
 pub read_size : (facts : List Fact) (defs : List Definition) (d : ℕ) (e : ExprTree) (env : Bindings) (c : ℕ) → is_place e ≡ true → evaluate facts defs (suc d) (size e) env c ≡ with_reached (find_place facts defs d e env c) (ev.size_at facts)
 read_size facts defs d e env c p = ap (λ (b : Bool). ev.size_of (λ x. evaluate facts defs d x env) (λ x. find_place facts defs d x env) facts env b e c) p
@@ -58,10 +47,8 @@ goes_by facts f (stops (passes k)) u p h e = cc
 
 stays_none : (target : Path → Target) (a b : PlaceOutcome) → GrownPlace a b → ((p : Path) → a ≡ found.other (found.wait p) → ⊥) → target_at target a ≡ None → target_at target b ≡ None
 stays_none target (found.path p) b g w n = absurd (cc n)
-stays_none target (found.other (found.value t)) b g w n = ap (target_at target) g
 stays_none target (found.other (found.wait p)) b g w n = absurd (w p refl)
-stays_none target (found.other (found.fault k)) b g w n = ap (target_at target) g
-stays_none target (found.other (found.over k)) b g w n = ap (target_at target) g
+stays_none target x b g w n = ap (target_at target) g
 
 stays_some : (target : Path → Target) (a b : PlaceOutcome) → GrownPlace a b → (x : Target) → target_at target a ≡ Some x → target_at target b ≡ Some x
 stays_some target (found.path p) b g x n = ap (target_at target) g ∙ n
@@ -72,10 +59,8 @@ some_path target (found.path p) x n = let q : target p ≡ x = cc n in (p, refl,
 some_path target (found.other o) x n = absurd (cc n)
 
 full_found : (o : Full) (c : ℕ) (v : Tree) → outcome_reached (of_full o c) ≡ found.value v → o ≡ value v
-full_found absent c v e = absurd (cc e)
-full_found (undecided p) c v e = absurd (cc e)
-full_found too_long c v e = absurd (cc e)
 full_found (value t) c v e = let q : t ≡ v = cc e in ap value q
+full_found x c v e = absurd (cc e)
 
 pub path_same : (facts : List Fact) (x : PlaceFound) (c : ℕ) (p : Path) → place_reached facts (reaches x c) ≡ found.path p → x ≡ at_path p
 path_same facts (at_path q) c p e = let s : q ≡ p = cc e in ap at_path s
@@ -98,11 +83,8 @@ shape_size : (facts : List Fact) (p : Path) (c : ℕ) (v : Tree) → outcome_rea
 shape_size facts p c v h = go (is_excluded facts p) (kept_shape facts p) refl h
   where
     go : (b : Bool) (o : Option Shape) → kept_shape facts p ≡ o → outcome_reached ((if b then fault NoElement else length_in p o) c) ≡ found.value v → TargetKnown facts (length_at p) v
-    go true o x h = absurd (cc h)
-    go false None x h = absurd (cc h)
-    go false (Some (Num n)) x h = absurd (cc h)
-    go false (Some (Truth b)) x h = absurd (cc h)
     go false (Some (Items n)) x h = let q : num (pos n) ≡ v = cc h in (n, sym q, x)
+    go b o x h = absurd (cc h)
 
 place_goes : (facts : List Fact) (x : PlaceFound) (c : ℕ) (p : Path) → place_reached facts (reaches x c) ≡ found.other (found.wait p) → ⊥
 place_goes facts (at_path q) c p e = cc
@@ -163,14 +145,4 @@ module _ (defs : List Definition) (fs gs : List Fact) (fc : NoClash fs) (gc : No
     side_grows (index e i) = by_place value_at (index e i) (index e i) (place_side (index e i)) (is_place e) refl
     side_grows (bound i) = place_side (bound i) refl
     side_grows (global x) = place_side (global x) refl
-    side_grows (numeral n) = no_target (numeral n)
-    side_grows (boolean b) = no_target (boolean b)
-    side_grows (known t) = no_target (known t)
-    side_grows (listing es) = no_target (listing es)
-    side_grows (minus e) = no_target (minus e)
-    side_grows (negation e) = no_target (negation e)
-    side_grows (both es) = no_target (both es)
-    side_grows (either a b) = no_target (either a b)
-    side_grows (binary o a b) = no_target (binary o a b)
-    side_grows (choice b x y) = no_target (choice b x y)
-    side_grows (invoke q es) = no_target (invoke q es)
+    side_grows e = no_target e

@@ -1,14 +1,14 @@
 -- A side of an equation where all that was set is known.
-use Rattle.std.proofs.Common.{◌≡◌, ℕ, suc, pos, negsuc, ◌+◌, Bool, true, false, cond, List, Some, None, refl, ap, ap₂, sym, ◌∙◌, subst, inl, arith, if◌then◌else◌}
+use Rattle.std.proofs.Common.{◌≡◌, ℕ, suc, pos, ◌+◌, Bool, true, false, cond, List, Some, None, refl, ap, ap₂, sym, ◌∙◌, subst, inl, arith, if◌then◌else◌}
 use Rattle.std.proofs.lemmas.Bool.{cond-true}
-use Rattle.tp_value.specs.Tree.{Tree, num, truth, list}
+use Rattle.tp_value.specs.Tree.{Tree, num}
 use Rattle.tp_value.specs.Shape.{shape_of}
 use Rattle.tp_value.specs.Limits.{is_within_list_limit, IsWithinListLimit}
 use Rattle.tp_value.specs.declared.value.Shape.TheVariants.{Items}
 use Rattle.tp_value.specs.declared.path.Path.{Path}
 use Rattle.tp_value.specs.declared.path.Fact.{Fact}
 use Rattle.tp_kernel.specs.declared.formula.FaultKind.TheVariants.{NoElement}
-use Rattle.tp_meaning.specs.Syntax.{ExprTree, numeral, boolean, known, bound, global, listing, size, index, minus, negation, both, either, binary, choice, invoke, Definition}
+use Rattle.tp_meaning.specs.Syntax.{ExprTree, bound, global, size, index, Definition}
 use Rattle.tp_meaning.specs.Inputs.{InputLines}
 use Rattle.tp_store.specs.Facts.{fact, facts_at}
 use Rattle.tp_store.specs.Known as store
@@ -30,8 +30,7 @@ use Rattle.tp_growth.proofs.EqMutual.{Settable, IsOver, SideKnows}
 
 own_fact : (p : Path) (v : Tree) (hs : List Fact) → ((f : Fact) → In f (facts_at p v) → In f hs) → In (fact p (shape_of v)) hs
 own_fact p (num n) hs h = h _ (inl refl)
-own_fact p (truth b) hs h = h _ (inl refl)
-own_fact p (list ts) hs h = h _ (inl refl)
+own_fact p t hs h = h _ (inl refl)
 
 full_from : (hs : List Fact) → NoClash hs → (p : Path) (v : Tree) → ((f : Fact) → In f (facts_at p v) → In f hs) → IsWithinListLimit v → full hs p ≡ store.value v
 full_from hs hc p v all small =
@@ -84,9 +83,7 @@ module _ (defs : List Definition) (fs gs hs : List Fact) (fc : NoClash fs) (gc :
           let k = in_kept hs (fact p (Items n)) hc (all _ (inl refl)) in
           let a = (facts_grow hs hs hc hc (λ p sh h. h)).allowed p (Items n) k in
           ap₂ (λ b o. outcome_reached ((if b then fault NoElement else length_in p o) c)) a k
-      here p c (num (negsuc n)) ok all = elim ok [ ]
-      here p c (truth b) ok all = elim ok [ ]
-      here p c (list ts) ok all = elim ok [ ]
+      here p c t ok all = elim ok [ ]
 
   module _ (inputs : InputLines) (state : ℕ) where
     abbrev Knows : ExprTree → Type 0
@@ -111,14 +108,4 @@ module _ (defs : List Definition) (fs gs hs : List Fact) (fc : NoClash fs) (gc :
     side_knows (index e i) = made (index e i) (λ x v h o ok all small. by_value (index e i) (is_place e) refl x v h all small)
     side_knows (bound i) = made (bound i) (λ x v h o ok all small. by_value (bound i) true refl x v h all small)
     side_knows (global x) = made (global x) (λ y v h o ok all small. by_value (global x) true refl y v h all small)
-    side_knows (numeral n) = no_target (numeral n) refl
-    side_knows (boolean b) = no_target (boolean b) refl
-    side_knows (known t) = no_target (known t) refl
-    side_knows (listing es) = no_target (listing es) refl
-    side_knows (minus e) = no_target (minus e) refl
-    side_knows (negation e) = no_target (negation e) refl
-    side_knows (both es) = no_target (both es) refl
-    side_knows (either a b) = no_target (either a b) refl
-    side_knows (binary o a b) = no_target (binary o a b) refl
-    side_knows (choice b x y) = no_target (choice b x y) refl
-    side_knows (invoke q es) = no_target (invoke q es) refl
+    side_knows e = no_target e refl

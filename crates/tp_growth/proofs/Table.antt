@@ -1,8 +1,8 @@
 -- The table of formulas, each row before and after more is known, for any relation of outcomes that respects growth.
 use Rattle.std.proofs.Common.{◌≡◌, ℤ, pos, negsuc, int_le, ℕ, zero, suc, nat_lt, Bool, true, false, List, [], ◌∷◌, slice_get, Option, Some, None, refl, sym, subst, if◌then◌else◌}
-use Rattle.tp_value.specs.Tree.{Tree, num, truth, list}
+use Rattle.tp_value.specs.Tree.{Tree, num, truth}
 use Rattle.tp_value.specs.declared.path.Fact.{Fact}
-use Rattle.tp_meaning.specs.Syntax.{ExprTree, ExprTrees, no_expr, expr_then, FormulaTree, trivial, test, equation, next_equation, empty, more, next, weak_next, if_more, if_empty, always, conjunction, branch, len, assign, chop, while, for_from, forall_from, project, exists, call, input, display, Definition, BindingTree, place_binding, known_binding}
+use Rattle.tp_meaning.specs.Syntax.{ExprTree, ExprTrees, no_expr, expr_then, FormulaTree, test, equation, next_equation, empty, more, next, weak_next, if_more, if_empty, branch, len, assign, chop, for_from, forall_from, project, call, input, display, Definition, BindingTree, place_binding, known_binding}
 use Rattle.tp_meaning.specs.Value.{is_upper}
 use Rattle.tp_meaning.specs.Inputs.{input_at}
 use Rattle.tp_store.specs.Known.{NoClash}
@@ -13,7 +13,7 @@ use Rattle.tp_scene.specs.Scene.{Bindings, Side, Ending, Going, Entries, Place}
 use Rattle.tp_scene.specs.Step.{Reduction, PickOutcome, reduces, waits, Numbers, region_limit, marking, with_region, by_status, with_value, with_truth, with_number, side_of, with_values, with_place, with_argument, with_arguments, called, length_left, from_port, formula_step}
 use Rattle.tp_scene.specs.Pick.{Setting}
 use Rattle.tp_scene.specs.Fits.{IsCalm}
-use Rattle.tp_scene.proofs.Grown.{other_side}
+use Rattle.tp_scene.proofs.Told.{other_side}
 use Rattle.tp_growth.specs.Rows.{Grows, IsFailure}
 use Rattle.tp_growth.specs.Outcomes.{KnowsMore, GrownOutcome, GrownPlace}
 use Rattle.tp_growth.proofs.OutcomesGrow.{outcomes_grow}
@@ -44,24 +44,17 @@ module _ (w : Setting) (fs gs : List Fact) (fc : NoClash fs) (gc : NoClash gs) (
   value_row : (a b : found.Outcome) (f g : Tree → PickOutcome) → GrownOutcome a b → ((v : Tree) → P (f v) (g v)) → P (with_value a f) (with_value b g)
   value_row (found.value t) b f g h k = subst (λ (o : found.Outcome). P (f t) (with_value o g)) (sym h) (k t)
   value_row (found.wait x) b f g h k = respects.waiting _ _ _
-  value_row (found.fault j) b f g h k = respects.failing _ _ tt (subst (λ (o : found.Outcome). IsFailure (with_value o g)) (sym h) tt)
-  value_row (found.over j) b f g h k = respects.failing _ _ tt (subst (λ (o : found.Outcome). IsFailure (with_value o g)) (sym h) tt)
+  value_row x b f g h k = respects.failing _ _ tt (subst (λ (o : found.Outcome). IsFailure (with_value o g)) (sym h) tt)
 
   truth_row : (a b : found.Outcome) (f g : Bool → PickOutcome) → GrownOutcome a b → ((v : Bool) → P (f v) (g v)) → P (with_truth a f) (with_truth b g)
   truth_row (found.value (truth t)) b f g h k = subst (λ (o : found.Outcome). P (f t) (with_truth o g)) (sym h) (k t)
-  truth_row (found.value (num m)) b f g h k = respects.failing _ _ tt (subst (λ (o : found.Outcome). IsFailure (with_truth o g)) (sym h) tt)
-  truth_row (found.value (list ts)) b f g h k = respects.failing _ _ tt (subst (λ (o : found.Outcome). IsFailure (with_truth o g)) (sym h) tt)
   truth_row (found.wait x) b f g h k = respects.waiting _ _ _
-  truth_row (found.fault j) b f g h k = respects.failing _ _ tt (subst (λ (o : found.Outcome). IsFailure (with_truth o g)) (sym h) tt)
-  truth_row (found.over j) b f g h k = respects.failing _ _ tt (subst (λ (o : found.Outcome). IsFailure (with_truth o g)) (sym h) tt)
+  truth_row x b f g h k = respects.failing _ _ tt (subst (λ (o : found.Outcome). IsFailure (with_truth o g)) (sym h) tt)
 
   number_row : (a b : found.Outcome) (f g : ℤ → PickOutcome) → GrownOutcome a b → ((v : ℤ) → P (f v) (g v)) → P (with_number a f) (with_number b g)
   number_row (found.value (num m)) b f g h k = subst (λ (o : found.Outcome). P (f m) (with_number o g)) (sym h) (k m)
-  number_row (found.value (truth t)) b f g h k = respects.failing _ _ tt (subst (λ (o : found.Outcome). IsFailure (with_number o g)) (sym h) tt)
-  number_row (found.value (list ts)) b f g h k = respects.failing _ _ tt (subst (λ (o : found.Outcome). IsFailure (with_number o g)) (sym h) tt)
   number_row (found.wait x) b f g h k = respects.waiting _ _ _
-  number_row (found.fault j) b f g h k = respects.failing _ _ tt (subst (λ (o : found.Outcome). IsFailure (with_number o g)) (sym h) tt)
-  number_row (found.over j) b f g h k = respects.failing _ _ tt (subst (λ (o : found.Outcome). IsFailure (with_number o g)) (sym h) tt)
+  number_row x b f g h k = respects.failing _ _ tt (subst (λ (o : found.Outcome). IsFailure (with_number o g)) (sym h) tt)
 
   region_row : (news : Entries) (i : ℕ) → P (with_region p.depth news i) (with_region q.depth news i)
   region_row news i = subst (λ (d : ℕ). P (with_region p.depth news i) (with_region d news i)) (sym up.depth) (if_row (nat_lt p.depth region_limit) _ _ _ _ (respects.same _ refl) (fails _ tt))
@@ -80,8 +73,7 @@ module _ (w : Setting) (fs gs : List Fact) (fc : NoClash fs) (gc : NoClash gs) (
     place_row (found.path x) b f g h k = subst (λ (o : PlaceOutcome). P (f (place_binding x)) (with_place w.defs w.inputs w.state gs o g)) (sym h) (k (place_binding x))
     place_row (found.other (found.value t)) b f g h k = subst (λ (o : PlaceOutcome). P (f (known_binding t)) (with_place w.defs w.inputs w.state gs o g)) (sym h) (k (known_binding t))
     place_row (found.other (found.wait x)) b f g h k = respects.waiting _ _ _
-    place_row (found.other (found.fault j)) b f g h k = respects.failing _ _ tt (subst (λ (o : PlaceOutcome). IsFailure (with_place w.defs w.inputs w.state gs o g)) (sym h) tt)
-    place_row (found.other (found.over j)) b f g h k = respects.failing _ _ tt (subst (λ (o : PlaceOutcome). IsFailure (with_place w.defs w.inputs w.state gs o g)) (sym h) tt)
+    place_row x b f g h k = respects.failing _ _ tt (subst (λ (o : PlaceOutcome). IsFailure (with_place w.defs w.inputs w.state gs o g)) (sym h) tt)
 
     argument_row : (x : List ℕ) (e : ExprTree) (f g : BindingTree → PickOutcome) → ((v : BindingTree) → P (f v) (g v)) → P (with_argument w.defs w.inputs w.state fs x e env f) (with_argument w.defs w.inputs w.state gs x e env g)
     argument_row x e f g k = if_row (is_upper x) _ _ _ _ (place_row _ _ f g (outcomes_grow fs gs fc gc knows w.defs e env).1 k) (value_row _ _ _ _ (grown e) (λ v. k (known_binding v)))
@@ -89,8 +81,7 @@ module _ (w : Setting) (fs gs : List Fact) (fc : NoClash fs) (gc : NoClash gs) (
     arguments_row : (es : ExprTrees) (xs : List (List ℕ)) (f g : Bindings → PickOutcome) → ((vs : Bindings) → P (f vs) (g vs)) → P (with_arguments w.defs w.inputs w.state fs es xs env f) (with_arguments w.defs w.inputs w.state gs es xs env g)
     arguments_row no_expr [] f g k = k []
     arguments_row (expr_then e es) (x ∷ xs) f g k = argument_row x e _ _ (λ b. arguments_row es xs _ _ (λ bs. k (b ∷ bs)))
-    arguments_row no_expr (x ∷ xs) f g k = fails _ tt
-    arguments_row (expr_then e es) [] f g k = fails _ tt
+    arguments_row x y f g k = fails _ tt
 
     values_row : (es : ExprTrees) (f g : List Tree → PickOutcome) → ((vs : List Tree) → P (f vs) (g vs)) → P (with_values w.defs w.inputs w.state fs es env f) (with_values w.defs w.inputs w.state gs es env g)
     values_row no_expr f g k = k []
@@ -111,7 +102,6 @@ module _ (w : Setting) (fs gs : List Fact) (fc : NoClash fs) (gc : NoClash gs) (
     port_row (Some v) port x h = ports v port x h
 
     pub formula_row : (f : FormulaTree) → P (formula_step w.defs w.inputs w.state fs f env p n) (formula_step w.defs w.inputs w.state gs f env q n)
-    formula_row trivial = respects.same _ refl
     formula_row (test e) = truth_row _ _ _ _ (grown e) (λ b. if_row b _ _ _ _ (respects.same _ refl) (fails _ tt))
     formula_row (equation l r) = equations l r
     formula_row (next_equation k t e) = value_row _ _ _ _ (grown e) (λ v. respects.marks Going _ 1)
@@ -121,17 +111,14 @@ module _ (w : Setting) (fs gs : List Fact) (fc : NoClash fs) (gc : NoClash gs) (
     formula_row (weak_next f) = status_row _ _ (respects.same _ refl) (respects.same _ refl)
     formula_row (if_more f) = status_row _ _ (respects.same _ refl) (respects.same _ refl)
     formula_row (if_empty f) = status_row _ _ (respects.same _ refl) (respects.same _ refl)
-    formula_row (always f) = respects.same _ refl
-    formula_row (conjunction fs) = respects.same _ refl
     formula_row (branch e f g) = truth_row _ _ _ _ (grown e) (λ b. respects.same _ refl)
     formula_row (len e) = number_row _ _ _ _ (grown e) length_row
     formula_row (assign t e) = value_row _ _ _ _ (grown e) (λ v. respects.same _ refl)
     formula_row (chop f g) = region_row _ 2
-    formula_row (while e f) = respects.same _ refl
     formula_row (for_from name k e f) = number_row _ _ _ _ (grown e) (λ m. if_row (int_le m k) _ _ _ _ (respects.same _ refl) (region_row _ 2))
     formula_row (forall_from name k e f) = number_row _ _ _ _ (grown e) (λ m. if_row (int_le m k) _ _ _ _ (respects.same _ refl) (respects.same _ refl))
     formula_row (project f g) = region_row _ 2
-    formula_row (exists name lasting f) = respects.same _ refl
     formula_row (call i es) = call_row (slice_get w.defs i) es
     formula_row (input x port) = port_row (input_at w.inputs w.state port) port x refl
     formula_row (display es) = values_row es _ _ (λ vs. respects.same _ refl)
+    formula_row f = respects.same _ refl

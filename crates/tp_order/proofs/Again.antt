@@ -51,10 +51,7 @@ same_holder (Running f env) = ap (Running f) (same_bindings env)
 
 same_second : (k : Holder) (g : Head) → renamed_second no_renaming k g ≡ g
 same_second (Split f env) g = refl
-same_second (SplitProject f env) g = refl
-same_second Closed g = refl
-same_second (Opened f env) g = refl
-same_second (Running f env) g = refl
+same_second k g = refl
 
 pub same_entries : (es : Entries) → renamed_entries no_renaming es ≡ es
 same_entries none = refl
@@ -63,12 +60,10 @@ same_entries (node id k h i g s rest) = λ j. node id (same_holder k j) h (same_
 
 -- what isn't a reduction is the same whatever the numbers of new things
 pub bad_anyhow : (ρ : Renaming) (n n' : Numbers) (o u : PickOutcome) → Renamed ρ n n' o u → IsFailure o → IsFailure u
-bad_anyhow ρ n n' (reduces r) u h b = elim b [ ]
-bad_anyhow ρ n n' (waits first other) u h b = elim b [ ]
-bad_anyhow ρ n n' rests u h b = elim b [ ]
 bad_anyhow ρ n n' (clashes c) u h b = subst (λ (x : PickOutcome). IsFailure x) (sym h) tt
 bad_anyhow ρ n n' (misses port) u h b = subst (λ (x : PickOutcome). IsFailure x) (sym h) tt
 bad_anyhow ρ n n' (passes k) u h b = subst (λ (x : PickOutcome). IsFailure x) (sym h) tt
+bad_anyhow ρ n n' o u h b = elim b [ ]
 
 -- the same step, but for the regions that are carried and for facts that are known
 pub record SameStep (gs : List Fact) (x y : Thing) (n : Numbers) (r s : Reduction) : Type 0 where
@@ -97,24 +92,15 @@ Again gs x y n (passes k) o = IsFailure o
 
 leaf_again : (gs : List Fact) (l : Leaf) (n : Numbers) (o u : PickOutcome) → GrownTo gs o u → Again gs (of_leaf l) (of_leaf l) n o u
 leaf_again gs l n (reduces r) (reduces s) h = record { edit = λ j. record { mark = h.mark j; make = λ a b c d. h.news j }; items = h.items; regions = h.regions; local = h.local; facts = h.facts }
-leaf_again gs l n (reduces r) (waits first other) h = h
-leaf_again gs l n (reduces r) rests h = h
-leaf_again gs l n (reduces r) (clashes c) h = h
-leaf_again gs l n (reduces r) (misses port) h = h
-leaf_again gs l n (reduces r) (passes k) h = h
 leaf_again gs l n (waits first other) u h = tt
 leaf_again gs l n rests u h = tt
-leaf_again gs l n (clashes c) u h = h
-leaf_again gs l n (misses port) u h = h
-leaf_again gs l n (passes k) u h = h
+leaf_again gs l n o x h = h
 
 holder_again : (gs : List Fact) → NoClash gs → (k : Holder) (p q : Place) (n : Numbers) (h : Head) (i : Entries) (g : Head) (s : Entries) (o u : PickOutcome) → HolderGrown k n h i g s o u → Again gs (of_holder k p) (of_holder k q) n o u
 holder_again gs gc k p q n h i g s (reduces r) u e = subst (λ (x : PickOutcome). Again gs (of_holder k p) (of_holder k q) n (reduces r) x) (sym e.0) (record { edit = refl; items = refl; regions = refl; local = refl; facts = subst (λ (l : List Fact). SameFacts gs l l) (sym e.1) (nothing_new gs gc) })
 holder_again gs gc k p q n h i g s (waits first other) u e = tt
 holder_again gs gc k p q n h i g s rests u e = tt
-holder_again gs gc k p q n h i g s (clashes c) u e = absurd e
-holder_again gs gc k p q n h i g s (misses port) u e = absurd e
-holder_again gs gc k p q n h i g s (passes x) u e = absurd e
+holder_again gs gc k p q n h i g s o u e = absurd e
 
 module _ (w : Setting) (fs gs : List Fact) (fc : NoClash fs) (gc : NoClash gs) (knows : KnowsMore fs gs) (within : LengthsAreWithin gs) (n : Numbers) where
   -- where a thing knows as much or more it gives the same, or it is bad
@@ -123,13 +109,12 @@ module _ (w : Setting) (fs gs : List Fact) (fc : NoClash fs) (gc : NoClash gs) (
       let e : u ≡ leaf_step w.defs w.inputs w.state gs l q n = b ∙ ap (λ (x : Leaf). leaf_step w.defs w.inputs w.state gs x q n) like in
       let g : GrownTo gs o u = subst (λ (x : PickOutcome). GrownTo gs x u) (sym a) (subst (λ (y : PickOutcome). GrownTo gs (leaf_step w.defs w.inputs w.state fs l p n) y) (sym e) (leaf_rows_grow w fs gs fc gc knows within l p q n up calm)) in
       subst (λ (x : Leaf). Again gs (of_leaf l) (of_leaf x) n o u) (sym like) (leaf_again gs l n o u g)
-  thing_again (of_leaf l) (of_holder k held) p q like up calm c o u a b = absurd like
-  thing_again (of_holder k held) (of_leaf m) p q like up calm c o u a b = absurd like
   thing_again (of_holder k held) (of_holder k' held') p q like up calm c o u a b =
       let e : u ≡ holder_step w.defs w.inputs w.state gs k (record { head = b.0; entries = b.1 }) (record { head = b.2; entries = b.3 }) held' n = b.4 ∙ ap (λ (x : Holder). holder_step w.defs w.inputs w.state gs x (record { head = b.0; entries = b.1 }) (record { head = b.2; entries = b.3 }) held' n) like.0 in
       let g = holder_rows_grow w fs gs k n held held' like.1 c a.0 a.1 a.2 a.3 b.0 b.1 b.2 b.3 in
       let h : HolderGrown k n b.0 b.1 b.2 b.3 o u = subst (λ (x : PickOutcome). HolderGrown k n b.0 b.1 b.2 b.3 x u) (sym a.4) (subst (λ (y : PickOutcome). HolderGrown k n b.0 b.1 b.2 b.3 (holder_step w.defs w.inputs w.state fs k (record { head = a.0; entries = a.1 }) (record { head = a.2; entries = a.3 }) held n) y) (sym e) g) in
       subst (λ (x : Holder). Again gs (of_holder k held) (of_holder x held') n o u) (sym like.0) (holder_again gs gc k held held' n b.0 b.1 b.2 b.3 o u h)
+  thing_again x y p q like up calm c o u a b = absurd like
 
 -- The entries of a region after an edit, and where the other item stands there.
 module _ (t u : ℕ) (tu : eqb t u ≡ false) (h : Head) (es : Entries) (e : Edit) (new : New u e) (x : Thing) (p : Place) where
@@ -226,12 +211,10 @@ module _ (w : Setting) (kinds : List Bool) (m : Moment) (sound : IsSound w kinds
       b
 
 pub again_bad : (gs : List Fact) (x y : Thing) (n : Numbers) (o u : PickOutcome) → Again gs x y n o u → IsFailure o → IsFailure u
-again_bad gs x y n (reduces r) u h b = elim b [ ]
-again_bad gs x y n (waits first other) u h b = elim b [ ]
-again_bad gs x y n rests u h b = elim b [ ]
 again_bad gs x y n (clashes c) u h b = h
 again_bad gs x y n (misses port) u h b = h
 again_bad gs x y n (passes k) u h b = h
+again_bad gs x y n o u h b = elim b [ ]
 
 -- What is bad stays bad, where steps leave lengths within the limit.
 pub failures_stay : FailuresStay

@@ -9,8 +9,8 @@ use Rattle.tp_value.specs.declared.path.Path.{Path}
 use Rattle.tp_value.specs.declared.path.Fact.{Fact}
 use Rattle.tp_store.specs.Facts.{kept_shape}
 use Rattle.tp_store.specs.Known.{NoClash, Variable}
-use Rattle.tp_scene.specs.Scene.{Side, Ending, Going, Head, Holder, Split, SplitProject, Closed, Opened, Running, Entries, none, leaf, node, Region, Scene, second_lives, has, has_here, append, root_place}
-use Rattle.tp_scene.specs.Step.{Reduction, PickOutcome, reduces, waits, rests, clashes, misses, passes, Numbers}
+use Rattle.tp_scene.specs.Scene.{Side, Ending, Going, Head, Holder, SplitProject, Running, Entries, none, leaf, node, Region, Scene, second_lives, has, has_here, append, root_place}
+use Rattle.tp_scene.specs.Step.{Reduction, PickOutcome, reduces, waits, rests, Numbers}
 use Rattle.tp_scene.specs.Pick.{Setting, Moment, mark_head, mark_at, put, put_in, numbers_of, outcome_of, scene_after, with_local, IsIdle}
 use Rattle.tp_scene.specs.Rest.{AtRest}
 use Rattle.tp_renaming.specs.Renaming.{Permutation, Renaming, FixesFrom, renamed_path, renamed_facts, renamed_leaf, renamed_holder, renamed_head, renamed_second, renamed_entries, renamed_region, renamed_reduction, IfRegion, IfLocal, NumbersRenamed, Renamed}
@@ -52,11 +52,9 @@ module _ (ρ : Renaming) where
   plain_at t m g es = ap (λ b. cond b (mark_head m g) g) (sym (here_to t es))
 
   second_at : (k : Holder) (t : ℕ) (m : Option Side) (g : Head) (es : Entries) → renamed_second ρ k (mark_at t m g es) ≡ mark_at (ρ.item.to t) m (renamed_second ρ k g) (renamed_entries ρ es)
-  second_at (Split f env) t m g es = plain_at t m g es
   second_at (SplitProject f env) t m g es = at_to t m g es
-  second_at Closed t m g es = plain_at t m g es
-  second_at (Opened f env) t m g es = plain_at t m g es
   second_at (Running f env) t m g es = at_to t m g es
+  second_at k t m g es = plain_at t m g es
 
   cond_to : (b c : Bool) (x y x' y' : Entries) → c ≡ b → renamed_entries ρ x ≡ x' → renamed_entries ρ y ≡ y' → renamed_entries ρ (cond b x y) ≡ cond c x' y'
   cond_to b c x y x' y' e h k = go b ∙ ap (λ d. cond d x' y') (sym e)
@@ -79,12 +77,9 @@ module _ (ρ : Renaming) where
   put_in_to t m news r = λ j. record { head = at_to t m r.head r.entries j; entries = put_to t m news r.entries j }
 
 idle_anyhow : (ρ : Renaming) (n n' : Numbers) (o u : PickOutcome) → Renamed ρ n n' o u → IsIdle o → IsIdle u
-idle_anyhow ρ n n' (reduces r) u h i = elim i [ ]
 idle_anyhow ρ n n' (waits first other) u h i = subst (λ (x : PickOutcome). IsIdle x) (sym h) tt
 idle_anyhow ρ n n' rests u h i = subst (λ (x : PickOutcome). IsIdle x) (sym h) tt
-idle_anyhow ρ n n' (clashes c) u h i = elim i [ ]
-idle_anyhow ρ n n' (misses port) u h i = elim i [ ]
-idle_anyhow ρ n n' (passes k) u h i = elim i [ ]
+idle_anyhow ρ n n' o u h i = elim i [ ]
 
 -- one more variable at the end of both lists
 locals_to : (π : Permutation) (xs ys : List Variable) (o : Option Variable) → length ys ≡ length xs → ((i : ℕ) → slice_get ys (π.to i) ≡ slice_get xs i) → FixesFrom (length xs) π → (i : ℕ) → slice_get (with_local o ys) (π.to i) ≡ slice_get (with_local o xs) i

@@ -3,7 +3,7 @@ use Rattle.std.proofs.Common.{◌≡◌, ℕ, Bool, true, false, cond, ◌||◌,
 use Rattle.std.specs.Prelude.{Option, Some, None}
 use Rattle.std.proofs.lemmas.Bool.{cond_both, or_parts, and_from, cond-false}
 use Rattle.tp_value.specs.declared.path.Fact.{Fact}
-use Rattle.tp_scene.specs.Scene.{Side, Ending, Going, Head, Holder, Split, SplitProject, Closed, Opened, Running, Entries, none, leaf, node, second_lives, has, has_here, append, Place, held_place}
+use Rattle.tp_scene.specs.Scene.{Side, Ending, Going, Head, Holder, Closed, Opened, Running, Entries, none, leaf, node, second_lives, has, has_here, append, Place, held_place}
 use Rattle.tp_scene.specs.Step.{Reduction, PickOutcome, reduces, Numbers, leaf_step, holder_step}
 use Rattle.tp_scene.specs.Pick.{Setting, pick, mark_head, mark_at, put}
 use Rattle.tp_scene.proofs.Frame.{region}
@@ -47,10 +47,9 @@ head_is b m h f g e d = rw (e, d) (go b m h)
     with_all false = refl
 
     go : (b : Bool) (m : Option Side) (h : Head) → cond b (mark_head m h) h ≡ record { number = h.number; ends = h.ends || (b && is_side Ending m); goes = h.goes || (b && is_side Going m) }
-    go false m h = λ i. record { number = h.number; ends = sym (or_none h.ends) i; goes = sym (or_none h.goes) i }
-    go true None h = λ i. record { number = h.number; ends = sym (or_none h.ends) i; goes = sym (or_none h.goes) i }
     go true (Some Ending) h = λ i. record { number = h.number; ends = sym (with_all h.ends) i; goes = sym (or_none h.goes) i }
     go true (Some Going) h = λ i. record { number = h.number; ends = sym (or_none h.ends) i; goes = sym (with_all h.goes) i }
+    go b m h = λ i. record { number = h.number; ends = sym (or_none h.ends) i; goes = sym (or_none h.goes) i }
 
 module _ (t : ℕ) (e : Edit) where
   marks_here : (es : Entries) (x : Thing) (q p : Place) (z : Side) → At t x q es p → marks (single t e) z es ≡ (has_here t es && is_side z e.mark)
@@ -71,11 +70,10 @@ module _ (w : Setting) (facts : List Fact) (n : Numbers) (r : Reduction) (h : He
   IsMade k o = o ≡ reduces r → (r.news ≡ holder_make k n h i g s) × (r.mark ≡ None)
 
   pub holder_made : (k : Holder) (q : Place) → IsMade k (holder_step w.defs w.inputs w.state facts k (region h i) (region g s) q n)
-  holder_made (Split f env) q = cond_both (q.is Going) _ _ (IsMade (Split f env)) (λ _ e. absurd (cc)) (λ _. cond_both (q.is Ending) _ _ (IsMade (Split f env)) (λ _ e. (cc, cc)) (λ _ e. absurd (cc)))
-  holder_made (SplitProject f env) q = cond_both (q.is Going) _ _ (IsMade (SplitProject f env)) (λ _ e. absurd (cc)) (λ _. cond_both (q.is Ending) _ _ (IsMade (SplitProject f env)) (λ _ e. (cc, cc)) (λ _ e. absurd (cc)))
   holder_made Closed q = λ e. absurd (cc)
   holder_made (Opened f env) q = cond_both (q.is Going) _ _ (IsMade (Opened f env)) (λ _ e. (cc, cc)) (λ _. cond_both (q.is Ending) _ _ (IsMade (Opened f env)) (λ _ e. absurd (cc)) (λ _ e. absurd (cc)))
   holder_made (Running f env) q = λ e. absurd (cc)
+  holder_made k q = cond_both (q.is Going) _ _ (IsMade k) (λ _ e. absurd (cc)) (λ _. cond_both (q.is Ending) _ _ (IsMade k) (λ _ e. (cc, cc)) (λ _ e. absurd (cc)))
 
 module _ (w : Setting) (facts : List Fact) (t : ℕ) (n : Numbers) (r : Reduction) where
   abbrev Mark : Thing → Type 0

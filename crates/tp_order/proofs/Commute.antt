@@ -53,7 +53,7 @@ module _ (w : Setting) (kinds : List Bool) (m : Moment) (orderly : IsOrderly w k
 
   pub facts_of : (t : ℕ) (r : Reduction) → pick w m.store.facts t ES P N ≡ reduces r → AreOfVariables m.store.variables r.facts
   facts_of t r e = subst (λ (o : PickOutcome). IsOfVariables m.store.facts kinds m.store.variables (λ x h. S.store.globals x.number x.lasting h) o) e
-      (picked_facts m.store.facts kinds m.store.variables (λ x h. S.store.globals x.number x.lasting h) w t ES P N S.moment.entries)
+      (picked_facts m.store.facts kinds m.store.variables (λ x h. S.store.globals x.number x.lasting h) w S.definitions t ES P N S.moment.entries)
 
   -- Said of the item t, whose step leads to `a`, and of the item u, which has a step too.
   module _ (t u : ℕ) (ne : t ≢ u) (r s : Reduction) (a : Moment) (step : Reduces w m t r a) (live : has u ES ≡ true) (out : pick w m.store.facts u ES P N ≡ reduces s) (oa : IsOrderly w kinds a) where

@@ -5,7 +5,7 @@ use Rattle.std.proofs.lemmas.Bool.{cond_both}
 use Rattle.tp_value.specs.declared.path.Fact.{Fact}
 use Rattle.tp_meaning.specs.Syntax.{more}
 use Rattle.tp_scene.specs.Scene.{Bindings, Side, Head, Leaf, Do, Holder, Split, SplitProject, Closed, Opened, Running, Entries, none, leaf, node, new_head, no_region, Region, Scene, has, Place, root_place, held_place, second_place}
-use Rattle.tp_scene.specs.Step.{Reduction, PickOutcome, reduces, waits, rests, clashes, misses, passes, Numbers, holder_step}
+use Rattle.tp_scene.specs.Step.{Reduction, PickOutcome, reduces, waits, rests, Numbers, holder_step}
 use Rattle.tp_scene.specs.Pick.{Setting, Moment, pick, numbers_of, Reduces}
 use Rattle.tp_scene.specs.Fits.{kinds_in}
 use Rattle.tp_scene.specs.Laws.{IsSound}
@@ -37,11 +37,10 @@ abbrev Counts : Holder → Reduction → PickOutcome → Type 0
 Counts k r o = o ≡ reduces r → (r.items ≡ made_items k) × (r.regions ≡ made_regions k)
 
 counts : (w : Setting) (facts : List Fact) (n : Numbers) (r : Reduction) (h g : Region) (k : Holder) (q : Place) → Counts k r (holder_step w.defs w.inputs w.state facts k h g q n)
-counts w facts n r h g (Split f env) q = cond_both (q.is _) _ _ (Counts (Split f env) r) (λ _ e. absurd (cc)) (λ _. cond_both (q.is _) _ _ (Counts (Split f env) r) (λ _ e. (cc, cc)) (λ _ e. absurd (cc)))
-counts w facts n r h g (SplitProject f env) q = cond_both (q.is _) _ _ (Counts (SplitProject f env) r) (λ _ e. absurd (cc)) (λ _. cond_both (q.is _) _ _ (Counts (SplitProject f env) r) (λ _ e. (cc, cc)) (λ _ e. absurd (cc)))
 counts w facts n r h g Closed q = λ e. absurd (cc)
 counts w facts n r h g (Opened f env) q = cond_both (q.is _) _ _ (Counts (Opened f env) r) (λ _ e. (cc, cc)) (λ _. cond_both (q.is _) _ _ (Counts (Opened f env) r) (λ _ e. absurd (cc)) (λ _ e. absurd (cc)))
 counts w facts n r h g (Running f env) q = λ e. absurd (cc)
+counts w facts n r h g k q = cond_both (q.is _) _ _ (Counts k r) (λ _ e. absurd (cc)) (λ _. cond_both (q.is _) _ _ (Counts k r) (λ _ e. (cc, cc)) (λ _ e. absurd (cc)))
 
 -- a thing whose paths are of lesser variables
 abbrev ThingBelow : ℕ → Thing → Type 0
@@ -49,11 +48,8 @@ ThingBelow n (of_leaf l) = Unit {0}
 ThingBelow n (of_holder k held) = HolderBelow n k
 
 if_lives : (n : ℕ) (k : Holder) (X : Type 0) → Rattle.tp_scene.specs.Scene.second_lives k ≡ true → IfSecond k X → X
-if_lives n (Split f env) X e h = absurd (cc)
-if_lives n (SplitProject f env) X e h = absurd (cc)
-if_lives n Closed X e h = absurd (cc)
-if_lives n (Opened f env) X e h = absurd (cc)
 if_lives n (Running f env) X e h = h
+if_lives n k X e h = absurd (cc)
 
 thing_below : (n t : ℕ) (es : Entries) (x : Thing) (q p : Place) → At t x q es p → Below n es → ThingBelow n x
 thing_below n t none x q p at b = elim at [ ]
@@ -83,7 +79,6 @@ make_to ρ n n' (SplitProject f env) e a r h i g s = (λ j. node (sym (a 0 (omeg
     envs Closed = []
     envs (Opened f env) = env
     envs (Running f env) = env
-make_to ρ n n' Closed e a r h i g s = refl
 make_to ρ n n' (Opened f env) e a r h i g s =
     (λ j. node (sym (a 2 (omega arith)) j) (Running f (envs (e j))) (new_head (sym (r (omega arith)) j)) (leaf (sym (a 0 (omega arith)) j) (Do f (envs (e j))) (leaf (sym (a 1 (omega arith)) j) (Do more (envs (e j))) none)) (renamed_head ρ h) (renamed_entries ρ i) none)
   where
@@ -93,22 +88,19 @@ make_to ρ n n' (Opened f env) e a r h i g s =
     envs Closed = []
     envs (Opened f env) = env
     envs (Running f env) = env
-make_to ρ n n' (Running f env) e a r h i g s = refl
+make_to ρ n n' k e a r h i g s = refl
 
 -- the result of the other item after a step
 pub result : (gs : List Fact) (x y : Thing) (n : Numbers) (r : Reduction) (o : PickOutcome) → Again gs x y n (reduces r) o → ((s : Reduction) × (o ≡ reduces s) × SameStep gs x y n r s) ⊎ IsFailure o
 result gs x y n r (reduces s) h = inl (s, refl, h)
 result gs x y n r (waits first other) h = absurd h
 result gs x y n r rests h = absurd h
-result gs x y n r (clashes c) h = inr tt
-result gs x y n r (misses port) h = inr tt
-result gs x y n r (passes k) h = inr tt
+result gs x y n r o h = inr tt
 
 pub like_made : (ρ : Renaming) (x y : Thing) (e f : Edit) → GrowsThing x y → MadeAlike ρ x e f → MadeAlike ρ y e f
 like_made ρ (of_leaf l) (of_leaf m) e f like h = h
-like_made ρ (of_leaf l) (of_holder k held) e f like h = absurd like
-like_made ρ (of_holder k held) (of_leaf m) e f like h = absurd like
 like_made ρ (of_holder k held) (of_holder k' held') e f like h = subst (λ (x : Holder). MadeAlike ρ (of_holder x held') e f) (sym like.0) h
+like_made ρ x y e f like h = absurd like
 
 region_if : (ρ : Renaming) (n n' : Numbers) (k j : ℕ) → j ≡ k → IfRegion ρ n n' j → 0 < k → n'.region ≡ ρ.region.to n.region
 region_if ρ n n' k zero e h l = absurd (omega (arith, e, l))

@@ -1,19 +1,17 @@
 -- Where an item is bad after another one's step, that one is bad after its step.
-use Rattle.std.proofs.Common.{◌≡◌, ◌≢◌, inl, inr, ℕ, pos, negsuc, Bool, true, false, eqb, List, [], refl, ap, sym, ◌∙◌, subst}
+use Rattle.std.proofs.Common.{◌≡◌, ◌≢◌, inl, inr, ℕ, Bool, true, false, eqb, List, refl, ap, sym, ◌∙◌, subst}
 use Rattle.std.specs.Prelude.{Some}
 use Rattle.std.proofs.lemmas.Bool.{or_left, eqb-true, false_from_ne_true}
-use Rattle.tp_value.specs.Tree.{Tree, num, truth, list}
 use Rattle.tp_value.specs.declared.path.Fact.{Fact}
 use Rattle.tp_store.specs.Facts.{kept_shape}
-use Rattle.tp_store.specs.Known.{NoClash, is_none}
+use Rattle.tp_store.specs.Known.{NoClash, is_none, adds, addition}
 use Rattle.tp_store.proofs.Members.{In, in_kept, kept_in, NoClash-filter}
 use Rattle.tp_store.proofs.Adding.{adds_all, given_in}
-use Rattle.tp_store.proofs.States.{no_clash_arises}
 use Rattle.tp_scene.specs.Scene.{Side, Ending, Going, marked, Leaf, Holder, Entries, none, leaf, node, Region, Place, root_place}
-use Rattle.tp_scene.specs.Step.{Reduction, PickOutcome, reduces, knows, Numbers, Target, value_at, length_at, set, leaf_step, holder_step}
+use Rattle.tp_scene.specs.Step.{Reduction, PickOutcome, reduces, Numbers, leaf_step, holder_step}
 use Rattle.tp_scene.specs.Pick.{Setting, Moment, pick, outcome_of, Reduces}
 use Rattle.tp_scene.specs.Fits.{IsCalm}
-use Rattle.tp_scene.proofs.Grown.{other_side}
+use Rattle.tp_scene.proofs.Told.{other_side}
 use Rattle.tp_order.specs.Edits.{Edit, is_side, head_after, edited, single, Thing, of_leaf, of_holder, GrowsThing, At, this_leaf, past_leaf, this_node, in_first, in_second, past_node, edit_of}
 use Rattle.tp_growth.specs.Rows.{Grows, IsFailure, HolderGrown}
 use Rattle.tp_growth.specs.Outcomes.{KnowsMore}
@@ -22,7 +20,6 @@ use Rattle.tp_renaming.specs.Renaming.{renamed_region, renamed_entries}
 use Rattle.tp_order.specs.Orders.{IsOrderly, FailuresAreMutual}
 use Rattle.tp_order.proofs.Orderly.{steps_stay_orderly}
 use Rattle.tp_growth.proofs.RowsGrow.{holder_rows_grow}
-use Rattle.tp_growth.proofs.Kept.{target_facts, set_form}
 use Rattle.tp_order.proofs.Where.{CalmThing, Picked, picked, at_calm}
 use Rattle.tp_order.proofs.Again.{Moves, root_grows, knows_after}
 use Rattle.tp_renaming.proofs.GivenAlike.{root_to}
@@ -31,21 +28,6 @@ use Rattle.tp_order.proofs.Blocks.{block, fixed_facts, either_kept, KnowsThree}
 use Rattle.tp_order.proofs.Diamond.{fl}
 use Rattle.tp_growth.proofs.GoodRows.{leaf_good}
 use Rattle.tp_order.proofs.Commute.{after, half, lives_there, both, both_step, both_root, three, facts_of, out_there, owes, outer, swapped_root, S, ES, P, v, na, sa, fa, Result}
-
-target_apart : (t : Target) (v : Tree) → NoClash (target_facts t v)
-target_apart (value_at p) v = no_clash_arises.value_facts p v
-target_apart (length_at p) (num (pos n)) = (refl, refl, tt)
-target_apart (length_at p) (num (negsuc n)) = tt
-target_apart (length_at p) (truth b) = tt
-target_apart (length_at p) (list ts) = tt
-
-facts_in : PickOutcome → List Fact
-facts_in (reduces r) = r.facts
-facts_in o = []
-
-knows_same : (xs ys : List Fact) → knows xs ≡ knows ys → xs ≡ ys
-unfolding facts_in
-knows_same xs ys e = ap facts_in e
 
 side_is : (z : Side) → is_side z (Some z) ≡ true
 side_is Ending = refl
@@ -104,20 +86,16 @@ module _ (w : Setting) (kinds : List Bool) (m : Moment) (orderly : IsOrderly w k
   knows_both : KnowsMore a.store.facts second.store.facts
   knows_both p sh h = elim (either_kept m.store.facts r.facts p sh (sym (st.store.kept p) ∙ h)) [ inl i ↦ T.one p sh i | inr i ↦ T.three p sh i ]
 
-  -- what u set is known where both have stepped
-  set_known_there : (x : Target) (c : Tree) → set m.store.facts x c ≡ knows SA.facts → (f : Fact) → In f (target_facts x c) → In f second.store.facts
-  set_known_there x c e f i = elim (set_form m.store.facts x c) [
-    | inr bad ↦ absurd (subst (λ (o : PickOutcome). IsFailure o) e bad)
-    | inl z ↦ (let q : knows z.0 ≡ knows SA.facts = sym z.1 ∙ e in
-        let k : z.0 ≡ SA.facts = knows_same z.0 SA.facts q in
-        let l : SA.facts ≡ s.facts = fixed_facts m.store.variables (block m s r) (fl w kinds m orderly s r) s.facts (facts_of w kinds m orderly u s su.outcome) in
-        let d = adds_all m.store.facts (target_facts x c) z.0 z.2 in
-        elim (given_in m.store.facts (target_facts x c) z.0 d f i) [
-          | inl j ↦ kept_in second.store.facts f.path f.shape (T.one f.path f.shape (in_kept m.store.facts f orderly.sound.store.no_clash j))
-          | inr j ↦ (let apart : NoClash z.0 = subst (λ (n : List Fact). NoClash n) d.new (NoClash-filter (λ (g : Fact). is_none (kept_shape m.store.facts g.path)) (target_facts x c) (target_apart x c)) in
-              kept_in second.store.facts f.path f.shape (T.two f.path f.shape (ap (λ n. kept_shape n f.path) (sym (k ∙ l)) ∙ in_kept z.0 f apart j)))
-        ])
-  ]
+  -- what u added is known where both have stepped
+  added_known_there : (xs : List Fact) → NoClash xs → addition m.store.facts xs ≡ adds SA.facts → (f : Fact) → In f xs → In f second.store.facts
+  added_known_there xs single e f i =
+      let l : SA.facts ≡ s.facts = fixed_facts m.store.variables (block m s r) (fl w kinds m orderly s r) s.facts (facts_of w kinds m orderly u s su.outcome) in
+      let d = adds_all m.store.facts xs SA.facts e in
+      elim (given_in m.store.facts xs SA.facts d f i) [
+        | inl j ↦ kept_in second.store.facts f.path f.shape (T.one f.path f.shape (in_kept m.store.facts f orderly.sound.store.no_clash j))
+        | inr j ↦ (let apart : NoClash SA.facts = subst (λ (n : List Fact). NoClash n) d.new (NoClash-filter (λ (g : Fact). is_none (kept_shape m.store.facts g.path)) xs single) in
+            kept_in second.store.facts f.path f.shape (T.two f.path f.shape (ap (λ n. kept_shape n f.path) (sym l) ∙ in_kept SA.facts f apart j)))
+      ]
 
   -- the mark of a leaf's reduction
   mark_ok : (l : Leaf) (q : Place) → At u (of_leaf l) q a.scene.root.entries (root_place a.scene.root) → (z : Side) → is_side z FA.mark ≡ true → q.is (other_side z) ≡ true → ⊥
@@ -133,15 +111,14 @@ module _ (w : Setting) (kinds : List Bool) (m : Moment) (orderly : IsOrderly w k
   go (of_leaf l) (of_leaf l') p q like up calm held small at mark o o' k e k' bad =
       leaf_good w m.store.facts a.store.facts second.store.facts orderly.sound.store.no_clash oa.sound.store.no_clash after_both.sound.store.no_clash
       (knows_after w kinds m orderly.sound r a st.store) knows_both oa.lengths orderly.inputs p q NA up calm l small SA (sym k ∙ e)
-      (λ z x i. mark_ok l' q at z (ap (is_side z) (mark ∙ x) ∙ side_is z) i) set_known_there
+      (λ z x i. mark_ok l' q at z (ap (is_side z) (mark ∙ x) ∙ side_is z) i) added_known_there
       (subst (λ (x : PickOutcome). IsFailure x) (k' ∙ ap (λ (x : Leaf). leaf_step w.defs w.inputs w.state a.store.facts x q NA) like) bad)
-  go (of_leaf l) (of_holder k' held') p q like up calm held small at mark o o' k e z bad = absurd like
-  go (of_holder k held) (of_leaf l') p q like up calm c small at mark o o' z e z' bad = absurd like
   go (of_holder k held) (of_holder k' held') p q like up calm c small at mark o o' z e z' bad =
       let g = holder_rows_grow w m.store.facts a.store.facts k NA held held' like.1 c z.0 z.1 z.2 z.3 z'.0 z'.1 z'.2 z'.3 in
       let h = subst (λ (x : PickOutcome). HolderGrown k NA z'.0 z'.1 z'.2 z'.3 x (holder_step w.defs w.inputs w.state a.store.facts k (record { head = z'.0; entries = z'.1 }) (record { head = z'.2; entries = z'.3 }) held' NA)) (sym z.4 ∙ e) g in
       let i = z'.4 ∙ ap (λ (x : Holder). holder_step w.defs w.inputs w.state a.store.facts x (record { head = z'.0; entries = z'.1 }) (record { head = z'.2; entries = z'.3 }) held' NA) like.0 ∙ h.0 in
       subst (λ (x : PickOutcome). IsFailure x) i bad
+  go x y p q like up calm held small at mark o o' k e z bad = absurd like
 
   pub isnt_bad : IsFailure (outcome_of w a.store a.scene u) → ⊥
   isnt_bad bad =

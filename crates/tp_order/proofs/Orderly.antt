@@ -47,11 +47,9 @@ due_within (node id (Opened f env) x i g s rest) h = due_within rest h.3
 due_within (node id (Running f env) x i g s rest) h = (h.0, due_within i h.1, due_within s h.2, due_within rest h.3, tt)
 
 own_numbered : (k : Holder) (s : Entries) (a b : ℕ) → SecondIsOwn k s → SecondIsOwn k (numbered a b s)
-own_numbered (Split f env) s a b h = ap (numbered a b) h
 own_numbered (SplitProject f env) s a b h = tt
-own_numbered Closed s a b h = ap (numbered a b) h
-own_numbered (Opened f env) s a b h = ap (numbered a b) h
 own_numbered (Running f env) s a b h = tt
+own_numbered k s a b h = ap (numbered a b) h
 
 numbered_within : (a b : ℕ) (es : Entries) → EntriesWithin es → EntriesWithin (numbered a b es)
 numbered_within a b none h = h

@@ -1,6 +1,6 @@
 -- One rest for the picks of a state.
 use Rattle.std.proofs.Common.{◌≡◌, inl, inr, ℕ, zero, suc, Bool, List, [], ◌∷◌, length, refl, ap, sym, subst, arith}
-use Rattle.tp_scene.specs.Step.{Reduction, PickOutcome, reduces, waits, rests, clashes, misses, passes}
+use Rattle.tp_scene.specs.Step.{Reduction, PickOutcome, reduces, clashes, misses, passes}
 use Rattle.tp_scene.specs.Pick.{Setting, Moment, Leads, outcome_of, IsIdle}
 use Rattle.tp_scene.specs.Rest.{AtRest}
 use Rattle.tp_order.specs.OneRest.{Rules, Path, Rest}
@@ -19,12 +19,10 @@ no_step : (o : PickOutcome) (r : Reduction) → o ≡ reduces r → IsFailure o 
 no_step o r e b = subst (λ (x : PickOutcome). IsFailure x) e b
 
 idle_bad : (o : PickOutcome) → IsIdle o → IsFailure o → ⊥
-idle_bad (reduces r) i b = b
-idle_bad (waits first other) i b = b
-idle_bad rests i b = b
 idle_bad (clashes c) i b = i
 idle_bad (misses port) i b = i
 idle_bad (passes k) i b = i
+idle_bad o i b = b
 
 module _ (w : Setting) (kinds : List Bool) where
   abbrev alike : AlikeIsEquivalence w kinds

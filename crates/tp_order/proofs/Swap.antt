@@ -116,21 +116,17 @@ module _ (ρ : Renaming) where
     fixed_head h l = λ j. record { number = fr h.number l j; ends = h.ends; goes = h.goes }
 
     fixed_second : (k : Holder) (g : Head) → AreNumbers regions (second_number k g) → renamed_second ρ k g ≡ g
-    fixed_second (Split f env) g h = refl
     fixed_second (SplitProject f env) g h = fixed_head g h.0
-    fixed_second Closed g h = refl
-    fixed_second (Opened f env) g h = refl
     fixed_second (Running f env) g h = fixed_head g h.0
+    fixed_second k g h = refl
 
     none_fixed : (s : Entries) → s ≡ none → renamed_entries ρ s ≡ s
     none_fixed s e = subst (λ (x : Entries). renamed_entries ρ x ≡ x) (sym e) refl
 
     own_fixed : (k : Holder) (s : Entries) → SecondIsOwn k s → IfSecond k (Below locals s) → (Below locals s → renamed_entries ρ s ≡ s) → renamed_entries ρ s ≡ s
-    own_fixed (Split f env) s e b up = none_fixed s e
     own_fixed (SplitProject f env) s e b up = up b
-    own_fixed Closed s e b up = none_fixed s e
-    own_fixed (Opened f env) s e b up = none_fixed s e
     own_fixed (Running f env) s e b up = up b
+    own_fixed k s e b up = none_fixed s e
 
     pub fixed_entries : (es : Entries) → AreNumbers items (item_numbers es) → AreNumbers regions (region_numbers es) → Below locals es → EntriesWithin es → renamed_entries ρ es ≡ es
     fixed_entries none a b c d = refl
@@ -186,9 +182,7 @@ module _ (ρ : Renaming) where
     second_to : (k : Holder) (es : Entries) (g : Head) → renamed_second ρ k (head_after E es g) ≡ head_after F (renamed_entries ρ es) (renamed_second ρ k g)
     second_to (SplitProject x env) es g = head_to es g
     second_to (Running x env) es g = head_to es g
-    second_to (Split x env) es g = λ j. record { number = g.number; ends = g.ends || sym (marks_to Ending es) j; goes = g.goes || sym (marks_to Going es) j }
-    second_to Closed es g = λ j. record { number = g.number; ends = g.ends || sym (marks_to Ending es) j; goes = g.goes || sym (marks_to Going es) j }
-    second_to (Opened x env) es g = λ j. record { number = g.number; ends = g.ends || sym (marks_to Ending es) j; goes = g.goes || sym (marks_to Going es) j }
+    second_to k es g = λ j. record { number = g.number; ends = g.ends || sym (marks_to Ending es) j; goes = g.goes || sym (marks_to Going es) j }
 
     -- where the item doesn't occur nothing is changed on either side
     both_absent : (es : Entries) → occurs t es ≡ false → renamed_entries ρ (edited E es) ≡ edited F (renamed_entries ρ es)

@@ -38,10 +38,7 @@ module _ (ρ : Renaming) where
 
   held_regions : (k : Holder) → regions_held (renamed_holder ρ k) ≡ regions_held k
   held_regions (Split f env) = refl
-  held_regions (SplitProject f env) = refl
-  held_regions Closed = refl
-  held_regions (Opened f env) = refl
-  held_regions (Running f env) = refl
+  held_regions k = refl
 
   regions_to : (es : Entries) → regions_in (renamed_entries ρ es) ≡ regions_in es
   regions_to none = refl
@@ -50,22 +47,15 @@ module _ (ρ : Renaming) where
 
   leaf_same : (l : Leaf) → renamed_leaf ρ l ≡ renamed_leaf locals_only l
   leaf_same (Do f env) = refl
-  leaf_same (Later f env) = refl
-  leaf_same (Shown vs) = refl
+  leaf_same l = refl
 
   holder_same : (k : Holder) → renamed_holder ρ k ≡ renamed_holder locals_only k
   holder_same (Split f env) = refl
-  holder_same (SplitProject f env) = refl
-  holder_same Closed = refl
-  holder_same (Opened f env) = refl
-  holder_same (Running f env) = refl
+  holder_same k = refl
 
   second_same : (k : Holder) (g : Head) (n : ℕ) → second_head (renamed_holder ρ k) n (renamed_second ρ k g) ≡ renamed_second locals_only k (second_head k n g)
   second_same (Split f env) g n = refl
-  second_same (SplitProject f env) g n = refl
-  second_same Closed g n = refl
-  second_same (Opened f env) g n = refl
-  second_same (Running f env) g n = refl
+  second_same k g n = refl
 
   numbered_to : (i r : ℕ) (es : Entries) → numbered i r (renamed_entries ρ es) ≡ renamed_entries locals_only (numbered i r es)
   numbered_to i r none = refl

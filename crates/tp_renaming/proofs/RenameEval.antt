@@ -12,12 +12,12 @@ use Rattle.tp_value.specs.Limits.{path_limit, index_limit, is_within_list_limit}
 use Rattle.tp_value.specs.Shape.{item_at}
 use Rattle.tp_kernel.specs.declared.formula.LimitKind.TheVariants as limit
 use Rattle.tp_kernel.specs.declared.formula.FaultKind.TheVariants.{NoElement}
-use Rattle.tp_meaning.specs.Syntax.{Operator, Equal, Differs, Less, LessEqual, Greater, GreaterEqual, Plus, Minus, Times, Div, Mod, ExprTree, ExprTrees, numeral, boolean, known, bound, global, listing, size, index, minus, negation, both, either, binary, choice, invoke, no_expr, expr_then, Definition, BindingTree, place_binding, known_binding}
+use Rattle.tp_meaning.specs.Syntax.{Operator, Equal, Differs, Plus, Minus, Times, Div, Mod, ExprTree, ExprTrees, numeral, boolean, known, bound, global, listing, size, index, minus, negation, both, either, binary, choice, invoke, no_expr, expr_then, Definition, BindingTree, place_binding}
 use Rattle.tp_meaning.specs.Value.{is_upper}
 use Rattle.tp_meaning.specs.Fits.{ExprFits, ExprsFit, DefinitionsFit}
 use Rattle.tp_scene.proofs.Below.{variable_below}
 use Rattle.tp_store.specs.Facts.{kept_shape, is_excluded, item_path}
-use Rattle.tp_store.specs.Known.{NoClash, Full, absent, undecided, too_long, value, full}
+use Rattle.tp_store.specs.Known.{NoClash, Full, absent, full}
 use Rattle.tp_eval.specs.Reached.{Stop, Reached, reaches, stops, waits, faults, passes, Evaluation, with_reached, gives, stop, fault, within_numbers, within_lists}
 use Rattle.tp_eval.specs.Evaluate as ev
 use Rattle.tp_eval.specs.Evaluate.{PlaceFound, at_path, inside, is_place, element_in, of_full, length_in, length_of, bind_place, count_call, call_limit, truth_in, evaluate, find_place, depth_limit}
@@ -62,18 +62,15 @@ module _ (ρ : Renaming) where
 
   truth_free : (t : Tree) (c : ℕ) → Free (truth_in t c)
   truth_free (num n) c = refl
-  truth_free (truth b) c = refl
-  truth_free (list ts) c = refl
+  truth_free t c = refl
 
   number_free : (t : Tree) (c : ℕ) → Free (ev.number_in t c)
   number_free (num n) c = refl
-  number_free (truth b) c = refl
-  number_free (list ts) c = refl
+  number_free t c = refl
 
   items_free : (t : Tree) (c : ℕ) → Free (ev.list_items t c)
   items_free (num n) c = refl
-  items_free (truth b) c = refl
-  items_free (list ts) c = refl
+  items_free t c = refl
 
   element_free : (o : Option Tree) (c : ℕ) → Free (element_in o c)
   element_free None c = refl
@@ -100,8 +97,7 @@ module _ (ρ : Renaming) where
 
   divisor_free : (f : ℤ → ℤ → ℤ) (a b : ℤ) (c : ℕ) → Free (ev.on_divisor_outcome f a b c)
   divisor_free f a (pos zero) c = refl
-  divisor_free f a (pos (suc n)) c = value_free (f a (pos (suc n))) c
-  divisor_free f a (negsuc n) c = value_free (f a (negsuc n)) c
+  divisor_free f a x c = value_free (f a x) c
 
   numbers_free : (f : ℤ → ℤ → Evaluation Tree) (s t : Tree) (c : ℕ) → ((a b : ℤ) (c : ℕ) → Free (f a b c)) → Free (ev.on_numbers_outcome f s t c)
   numbers_free f s t c h = then_free _ _ (number_free s c) (λ a c. then_free _ _ (number_free t c) (λ b c. h a b c))
@@ -114,15 +110,12 @@ module _ (ρ : Renaming) where
   operate_free : (o : Operator) (s t : Tree) (c : ℕ) → Free (ev.operate_outcome o s t c)
   operate_free Equal s t c = refl
   operate_free Differs s t c = refl
-  operate_free Less s t c = numbers_free _ s t c (λ a b c. refl)
-  operate_free LessEqual s t c = numbers_free _ s t c (λ a b c. refl)
-  operate_free Greater s t c = numbers_free _ s t c (λ a b c. refl)
-  operate_free GreaterEqual s t c = numbers_free _ s t c (λ a b c. refl)
   operate_free Plus s t c = sum_free s t c
   operate_free Minus s t c = numbers_free _ s t c (λ a b c. value_free (a -ℤ b) c)
   operate_free Times s t c = numbers_free _ s t c (λ a b c. value_free (a *ℤ b) c)
   operate_free Div s t c = numbers_free _ s t c (divisor_free floor_div)
   operate_free Mod s t c = numbers_free _ s t c (divisor_free floor_mod)
+  operate_free x s t c = numbers_free _ s t c (λ a b c. refl)
 
   negated_free : (t : Tree) (c : ℕ) → Free (ev.negated_in t c)
   negated_free t c = then_free _ _ (truth_free t c) (λ b c. refl)
@@ -132,9 +125,7 @@ module _ (ρ : Renaming) where
 
   index_free : (t : Tree) (c : ℕ) → Free (ev.index_in t c)
   index_free (num (pos k)) c = limited_free (nat_le k index_limit) k _ c refl
-  index_free (num (negsuc k)) c = refl
-  index_free (truth b) c = refl
-  index_free (list ts) c = refl
+  index_free t c = refl
 
   length_free : (t : Tree) (c : ℕ) → Free (length_of t c)
   length_free t c = then_free _ _ (items_free t c) (λ ts c. refl)
@@ -160,14 +151,11 @@ module _ (ρ : Renaming) where
 
   bound_to : (o : Option BindingTree) (c : ℕ) → ev.bound_place (option_map (renamed_binding ρ) o) c ≡ to place_to (ev.bound_place o c)
   bound_to (Some (place_binding p)) c = refl
-  bound_to (Some (known_binding t)) c = refl
-  bound_to None c = refl
+  bound_to m c = refl
 
   full_found : (o : Full) (c : ℕ) → of_full (full_to ρ o) c ≡ to itself (of_full o c)
   full_found absent c = refl
-  full_found (undecided q) c = refl
-  full_found too_long c = refl
-  full_found (value t) c = refl
+  full_found x c = refl
 
   length_to : (p : Path) (o : Option Shape) (c : ℕ) → length_in (renamed_path ρ p) o c ≡ to itself (length_in p o c)
   length_to p None c = refl
@@ -216,18 +204,7 @@ module _ (ρ : Renaming) where
           place_is env (bound i) h c = ap (λ o. ev.bound_place o c) (slice_get-map (renamed_binding ρ) env i) ∙ bound_to (slice_get env i) c
           place_is env (global x) h c = λ i. reaches (at_path (record { var = record { number = sym (fixed x.number (variable_below kinds x.number x.lasting h)) i; lasting = x.lasting }; at = [] })) c
           place_is env (index e i) h c = then_to place_to place_to _ _ _ _ (down e h.0 c) (λ p c. then_to itself place_to _ _ _ _ (up i h.1 c) (λ t c. then_to itself place_to _ _ _ _ (index_free t c) (λ k c. farther_to p k c)))
-          place_is env (numeral m) h c = refl
-          place_is env (boolean b) h c = refl
-          place_is env (known t) h c = refl
-          place_is env (listing es) h c = refl
-          place_is env (size e) h c = refl
-          place_is env (minus e) h c = refl
-          place_is env (negation e) h c = refl
-          place_is env (both es) h c = refl
-          place_is env (either a b) h c = refl
-          place_is env (binary o a b) h c = refl
-          place_is env (choice b x y) h c = refl
-          place_is env (invoke p es) h c = refl
+          place_is env e h c = refl
 
           argument_to : (u : Bool) (e : ExprTree) → ExprFits defs kinds e n → (c : ℕ) → ev.argument op' pl' u e c ≡ to (renamed_binding ρ) (ev.argument op pl u e c)
           argument_to true e h c = then_to place_to (renamed_binding ρ) _ _ _ _ (down e h c) (λ p c. bind_to p c)

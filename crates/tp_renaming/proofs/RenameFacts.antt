@@ -1,10 +1,10 @@
 -- Facts under a renaming of variables.
 use Rattle.std.proofs.Common.{◌≡◌, inl, inr, ℕ, zero, suc, Bool, true, false, not, ◌&&◌, ◌||◌, cond, eqb, max, List, [], ◌∷◌, ◌++◌, length, Option, Some, None, refl, ap, ap₂, sym, ◌∙◌, subst, if◌then◌else◌}
 use Rattle.std.proofs.lemmas.Bool.{cases_Bool, eqb-true, eq-eqb, both_ways, false_from_ne_true}
-use Rattle.tp_value.specs.Tree.{Tree, Trees, num, truth, list, nil, cons, same_truth, items_of}
+use Rattle.tp_value.specs.Tree.{Tree, Trees, list, nil, cons, same_truth, items_of}
 use Rattle.tp_value.specs.Limits.{is_within_list_limit}
 use Rattle.tp_value.specs.declared.value.Shape.{Shape}
-use Rattle.tp_value.specs.declared.value.Shape.TheVariants.{Num, Truth, Items}
+use Rattle.tp_value.specs.declared.value.Shape.TheVariants.{Items}
 use Rattle.tp_value.specs.declared.path.VarId.{VarId}
 use Rattle.tp_value.specs.declared.path.Path.{Path}
 use Rattle.tp_value.specs.declared.path.Fact.{Fact}
@@ -118,10 +118,8 @@ module _ (ρ : Renaming) where
   items_are f g h p (suc m) k = ap₂ and_items (h (item_path p k)) (items_are f g h p m (suc k)) ∙ and_to (f (item_path p k)) (items_known f p m (suc k))
 
   shape_is : (f g : Path → Whole) → ((q : Path) → g (renamed_path ρ q) ≡ whole_to (f q)) → (p : Path) (o : Option Shape) → with_shape g (renamed_path ρ p) o ≡ whole_to (with_shape f p o)
-  shape_is f g h p None = refl
-  shape_is f g h p (Some (Num n)) = refl
-  shape_is f g h p (Some (Truth b)) = refl
   shape_is f g h p (Some (Items n)) = ap list_of_items (items_are f g h p n 0) ∙ list_to (items_known f p n 0)
+  shape_is f g h p m = refl
 
   whole_is : (d : ℕ) (fs : List Fact) (p : Path) → whole d (renamed_facts ρ fs) (renamed_path ρ p) ≡ whole_to (whole d fs p)
   whole_is zero fs p = refl
@@ -143,9 +141,8 @@ module _ (ρ : Renaming) where
       limits false t = refl
 
       go : (b : Bool) (w : Whole) → cond b absent (limited (whole_to w)) ≡ full_to (cond b absent (limited w))
-      go true w = refl
-      go false (open_at q) = refl
       go false (known t) = limits (is_within_list_limit t) t
+      go b w = refl
 
   map_append : (xs ys : List Fact) → renamed_facts ρ (xs ++ ys) ≡ renamed_facts ρ xs ++ renamed_facts ρ ys
   map_append [] ys = refl
@@ -153,9 +150,8 @@ module _ (ρ : Renaming) where
 
   mutual
     pub facts_at_to : (p : Path) (t : Tree) → facts_at (renamed_path ρ p) t ≡ renamed_facts ρ (facts_at p t)
-    facts_at_to p (num n) = refl
-    facts_at_to p (truth b) = refl
     facts_at_to p (list ts) = ap (λ l. fact (renamed_path ρ p) (Items (length (items_of ts))) ∷ l) (facts_of_items_to p 0 ts)
+    facts_at_to p t = refl
 
     facts_of_items_to : (p : Path) (k : ℕ) (ts : Trees) → facts_of_items (renamed_path ρ p) k ts ≡ renamed_facts ρ (facts_of_items p k ts)
     facts_of_items_to p k nil = refl

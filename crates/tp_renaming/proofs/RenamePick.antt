@@ -4,7 +4,7 @@ use Rattle.std.proofs.lemmas.Bool.{and_parts}
 use Rattle.tp_value.specs.declared.path.Fact.{Fact}
 use Rattle.tp_meaning.specs.Fits.{DefinitionsFit}
 use Rattle.tp_store.specs.Known.{NoClash, Variable}
-use Rattle.tp_scene.specs.Scene.{Side, Ending, Going, Head, marked, Leaf, Do, Later, Shown, Holder, Split, SplitProject, Closed, Opened, Running, Entries, none, leaf, node, second_lives, has, rises, sinks, forced, risen, Place, held_place, second_place}
+use Rattle.tp_scene.specs.Scene.{Side, Ending, Going, Head, marked, Leaf, Do, Holder, Split, SplitProject, Closed, Running, Entries, none, leaf, node, second_lives, has, rises, sinks, forced, risen, Place, held_place, second_place}
 use Rattle.tp_scene.specs.Step.{PickOutcome, Numbers, leaf_step, holder_step}
 use Rattle.tp_scene.specs.Pick.{Setting, pick}
 use Rattle.tp_scene.specs.Fits.{LeafFits, EntriesFit}
@@ -16,42 +16,28 @@ use Rattle.tp_renaming.proofs.RenameRows.{formula_row, holder_row}
 module _ (ρ : Renaming) where
   pub lives_to : (k : Holder) → second_lives (renamed_holder ρ k) ≡ second_lives k
   lives_to (Split f env) = refl
-  lives_to (SplitProject f env) = refl
-  lives_to Closed = refl
-  lives_to (Opened f env) = refl
-  lives_to (Running f env) = refl
+  lives_to k = refl
 
   rises_to : (k : Holder) (z : Side) → rises (renamed_holder ρ k) z ≡ rises k z
   rises_to (Split f env) z = refl
-  rises_to (SplitProject f env) z = refl
-  rises_to Closed z = refl
-  rises_to (Opened f env) z = refl
-  rises_to (Running f env) z = refl
+  rises_to k z = refl
 
   sinks_to : (k : Holder) (z : Side) → sinks (renamed_holder ρ k) z ≡ sinks k z
   sinks_to (Split f env) z = refl
-  sinks_to (SplitProject f env) z = refl
-  sinks_to Closed z = refl
-  sinks_to (Opened f env) z = refl
-  sinks_to (Running f env) z = refl
+  sinks_to k z = refl
 
   forced_to : (k : Holder) (z : Side) → forced (renamed_holder ρ k) z ≡ forced k z
   forced_to (Split f env) z = refl
-  forced_to (SplitProject f env) z = refl
-  forced_to Closed z = refl
-  forced_to (Opened f env) z = refl
-  forced_to (Running f env) z = refl
+  forced_to k z = refl
 
   pub marked_to : (z : Side) (h : Head) → marked z (renamed_head ρ h) ≡ marked z h
   marked_to Ending h = refl
   marked_to Going h = refl
 
   pub second_to : (z : Side) (k : Holder) (g : Head) → marked z (renamed_second ρ k g) ≡ marked z g
-  second_to z (Split f env) g = refl
   second_to z (SplitProject f env) g = marked_to z g
-  second_to z Closed g = refl
-  second_to z (Opened f env) g = refl
   second_to z (Running f env) g = marked_to z g
+  second_to z k g = refl
 
   pub has_to : (t : ℕ) (es : Entries) → has (ρ.item.to t) (renamed_entries ρ es) ≡ has t es
   has_to t none = refl
@@ -67,18 +53,13 @@ module _ (ρ : Renaming) where
   held_to k h i p = λ j. record { region = ρ.region.to h.number; depth = p.depth + 1; is = λ z. (sinks_to k z j && p.is z) || (forced_to k z j || (marked_to z h j || risen_to z i j)) }
 
   pub second_place_to : (k : Holder) (g : Head) (s : Entries) (p : Place) → second_lives k ≡ true → second_place (renamed_second ρ k g) (renamed_entries ρ s) (renamed_place ρ p) ≡ renamed_place ρ (second_place g s p)
-  second_place_to (Split f env) g s p e = absurd (cc)
-  second_place_to (SplitProject f env) g s p e = absurd (cc)
-  second_place_to Closed g s p e = absurd (cc)
-  second_place_to (Opened f env) g s p e = absurd (cc)
   second_place_to (Running f env) g s p e = λ j. record { region = ρ.region.to g.number; depth = p.depth + 1; is = λ z. p.is z || (marked_to z g j || risen_to z s j) }
+  second_place_to k g s p e = absurd (cc)
 
   second_is : (k : Holder) (g : Head) → (second_lives k ≡ true) → renamed_second ρ k g ≡ renamed_head ρ g
-  second_is (Split f env) g e = absurd (cc)
   second_is (SplitProject f env) g e = refl
-  second_is Closed g e = absurd (cc)
-  second_is (Opened f env) g e = absurd (cc)
   second_is (Running f env) g e = refl
+  second_is k g e = absurd (cc)
 
   module _ (n n' : Numbers) where
     abbrev R : PickOutcome → PickOutcome → Type 0
@@ -94,8 +75,7 @@ module _ (ρ : Renaming) where
     module _ (w : Setting) (kinds : List Bool) (fit : DefinitionsFit w.defs kinds) (fixed : FixesBelow (length kinds) ρ.local) (fs gs : List Fact) (fc : NoClash fs) (gc : NoClash gs) (alike : FactsAlike ρ fs gs) (variables : List Variable) (t : ℕ) where
       leaf_to : (l : Leaf) (p : Place) → LeafFits w.defs kinds variables l p → R (leaf_step w.defs w.inputs w.state fs l p n) (leaf_step w.defs w.inputs w.state gs (renamed_leaf ρ l) (renamed_place ρ p) n')
       leaf_to (Do f env) p h = formula_row ρ n n' fs gs fc gc alike w kinds fit fixed env f p h.0
-      leaf_to (Later f env) p h = refl
-      leaf_to (Shown vs) p h = refl
+      leaf_to l p h = refl
 
       -- a holder's second region is looked at only where it has a number of its own
       holder_to : (k : Holder) (h : Head) (i : Entries) (g : Head) (s : Entries) (p : Place)
@@ -107,11 +87,10 @@ module _ (ρ : Renaming) where
         where
           go : (k : Holder) → R (holder_step w.defs w.inputs w.state fs k (record { head = h; entries = i }) (record { head = g; entries = s }) (held_place k h i p) n)
               (holder_step w.defs w.inputs w.state gs (renamed_holder ρ k) (record { head = renamed_head ρ h; entries = renamed_entries ρ i }) (record { head = renamed_second ρ k g; entries = renamed_entries ρ s }) (renamed_place ρ (held_place k h i p)) n')
-          go (Split f env) = holder_row ρ n n' fs gs fc gc alike w (Split f env) h (record { number = ρ.region.back g.number; ends = g.ends; goes = g.goes }) i s g (held_place (Split f env) h i p) (λ j. record { number = sym (ρ.region.redone g.number) j; ends = g.ends; goes = g.goes })
           go (SplitProject f env) = holder_row ρ n n' fs gs fc gc alike w (SplitProject f env) h g i s (renamed_head ρ g) (held_place (SplitProject f env) h i p) refl
           go Closed = refl
-          go (Opened f env) = holder_row ρ n n' fs gs fc gc alike w (Opened f env) h (record { number = ρ.region.back g.number; ends = g.ends; goes = g.goes }) i s g (held_place (Opened f env) h i p) (λ j. record { number = sym (ρ.region.redone g.number) j; ends = g.ends; goes = g.goes })
           go (Running f env) = refl
+          go k = holder_row ρ n n' fs gs fc gc alike w k h (record { number = ρ.region.back g.number; ends = g.ends; goes = g.goes }) i s g (held_place k h i p) (λ j. record { number = sym (ρ.region.redone g.number) j; ends = g.ends; goes = g.goes })
 
       pub pick_to : (es : Entries) (p : Place) → EntriesFit w.defs kinds variables es p → R (pick w fs t es p n) (pick w gs (ρ.item.to t) (renamed_entries ρ es) (renamed_place ρ p) n')
       pick_to none p h = refl

@@ -1,12 +1,12 @@
 -- The rows of the table under a renaming.
 use Rattle.std.proofs.Common.{◌≡◌, ℤ, pos, negsuc, ◌+ℤ◌, int_le, ℕ, zero, suc, ◌+◌, ◌-◌, ◌<◌, nat_lt, Bool, true, false, not, ◌&&◌, List, [], ◌∷◌, ◌++◌, length, slice_get, refl, ap, ap₂, sym, ◌∙◌, subst, arith, if◌then◌else◌}
 use Rattle.std.specs.Prelude.{Option, Some, None}
-use Rattle.tp_value.specs.Tree.{Tree, num, truth, list, same_tree}
+use Rattle.tp_value.specs.Tree.{Tree, num, truth, same_tree}
 use Rattle.tp_value.specs.Limits.{length_limit}
 use Rattle.tp_value.specs.declared.value.Shape.TheVariants.{Items}
 use Rattle.tp_value.specs.declared.path.Path.{Path}
 use Rattle.tp_value.specs.declared.path.Fact.{Fact}
-use Rattle.tp_meaning.specs.Syntax.{ExprTree, ExprTrees, no_expr, expr_then, numeral, boolean, known, bound, global, listing, size, index, minus, negation, both, either, binary, choice, invoke, FormulaTree, FormulaTrees, no_formula, formula_then, trivial, test, equation, next_equation, empty, more, next, weak_next, if_more, if_empty, always, conjunction, branch, len, assign, chop, while, for_from, forall_from, project, exists, call, input, display, formulas_of, Definition, BindingTree, place_binding, known_binding}
+use Rattle.tp_meaning.specs.Syntax.{ExprTree, ExprTrees, no_expr, expr_then, numeral, known, bound, global, size, index, FormulaTree, FormulaTrees, no_formula, formula_then, trivial, test, equation, next_equation, empty, more, next, weak_next, if_more, if_empty, always, conjunction, branch, len, assign, chop, while, for_from, forall_from, project, exists, call, input, display, formulas_of, Definition, BindingTree, place_binding, known_binding}
 use Rattle.tp_meaning.specs.Unfolding.{nexts}
 use Rattle.tp_meaning.specs.Value.{is_upper}
 use Rattle.tp_meaning.specs.Inputs.{input_at}
@@ -33,25 +33,15 @@ module _ (ρ : Renaming) (n n' : Numbers) where
 
   value_row : (a b : found.Outcome) (f g : Tree → PickOutcome) → b ≡ renamed_found ρ a → ((v : Tree) → R (f v) (g v)) → R (with_value a f) (with_value b g)
   value_row (found.value t) b f g h k = subst (λ (o : found.Outcome). R (f t) (with_value o g)) (sym h) (k t)
-  value_row (found.wait p) b f g h k = ap (λ o. with_value o g) h
-  value_row (found.fault j) b f g h k = ap (λ o. with_value o g) h
-  value_row (found.over j) b f g h k = ap (λ o. with_value o g) h
+  value_row x b f g h k = ap (λ o. with_value o g) h
 
   truth_row : (a b : found.Outcome) (f g : Bool → PickOutcome) → b ≡ renamed_found ρ a → ((v : Bool) → R (f v) (g v)) → R (with_truth a f) (with_truth b g)
   truth_row (found.value (truth t)) b f g h k = subst (λ (o : found.Outcome). R (f t) (with_truth o g)) (sym h) (k t)
-  truth_row (found.value (num m)) b f g h k = ap (λ o. with_truth o g) h
-  truth_row (found.value (list ts)) b f g h k = ap (λ o. with_truth o g) h
-  truth_row (found.wait p) b f g h k = ap (λ o. with_truth o g) h
-  truth_row (found.fault j) b f g h k = ap (λ o. with_truth o g) h
-  truth_row (found.over j) b f g h k = ap (λ o. with_truth o g) h
+  truth_row x b f g h k = ap (λ o. with_truth o g) h
 
   number_row : (a b : found.Outcome) (f g : ℤ → PickOutcome) → b ≡ renamed_found ρ a → ((v : ℤ) → R (f v) (g v)) → R (with_number a f) (with_number b g)
   number_row (found.value (num m)) b f g h k = subst (λ (o : found.Outcome). R (f m) (with_number o g)) (sym h) (k m)
-  number_row (found.value (truth t)) b f g h k = ap (λ o. with_number o g) h
-  number_row (found.value (list ts)) b f g h k = ap (λ o. with_number o g) h
-  number_row (found.wait p) b f g h k = ap (λ o. with_number o g) h
-  number_row (found.fault j) b f g h k = ap (λ o. with_number o g) h
-  number_row (found.over j) b f g h k = ap (λ o. with_number o g) h
+  number_row x b f g h k = ap (λ o. with_number o g) h
 
   if_row : (b : Bool) (x x' y y' : PickOutcome) → R x x' → R y y' → R (if b then x else y) (if b then x' else y')
   if_row true x x' y y' h k = h
@@ -90,9 +80,7 @@ module _ (ρ : Renaming) (n n' : Numbers) where
     set_row : (t : Target) (v : Tree) → R (set fs t v) (set gs (target_to t) v)
     set_row (value_at p) v = subst (λ (l : List Fact). R (added (addition fs (facts_at p v))) (added (addition gs l))) (sym (facts_at_to ρ p v)) (added_row (facts_at p v))
     set_row (length_at p) (num (pos m)) = if_row (nat_lt length_limit m) _ _ _ _ refl (added_row (fact p (Items m) ∷ []))
-    set_row (length_at p) (num (negsuc m)) = refl
-    set_row (length_at p) (truth b) = refl
-    set_row (length_at p) (list ts) = refl
+    set_row (length_at p) t = refl
 
     abbrev side : Bool → Option Target → found.Outcome → SideOf
     side b t o = record { placed = b; target = t; found = o }
@@ -100,9 +88,7 @@ module _ (ρ : Renaming) (n n' : Numbers) where
     meets_row : (b : Bool) (t : Option Target) (o : found.Outcome) (v : Tree) → R (meets fs (side b t o) v) (meets gs (side b (if_target t) (renamed_found ρ o)) v)
     meets_row b (Some t) o v = set_row t v
     meets_row b None (found.value u) v = if_row (same_tree u v) _ _ _ _ (λ a. refl) refl
-    meets_row b None (found.wait p) v = refl
-    meets_row b None (found.fault k) v = refl
-    meets_row b None (found.over k) v = refl
+    meets_row b None o v = refl
 
     wait_row : (b c : Bool) (p q : Path) → R (both_wait fs b c p q) (both_wait gs b c (renamed_path ρ p) (renamed_path ρ q))
     wait_row b c p q = if_row (c && not b) _ _ _ _ refl refl
@@ -156,17 +142,7 @@ module _ (ρ : Renaming) (n n' : Numbers) where
       targets_are (index e i) h = target_row value_at (λ p. refl) (is_place e) (index e i) h
       targets_are (bound i) h = target_row value_at (λ p. refl) true (bound i) h
       targets_are (global x) h = target_row value_at (λ p. refl) true (global x) h
-      targets_are (numeral m) h = refl
-      targets_are (boolean b) h = refl
-      targets_are (known t) h = refl
-      targets_are (listing es) h = refl
-      targets_are (minus e) h = refl
-      targets_are (negation e) h = refl
-      targets_are (both es) h = refl
-      targets_are (either a b) h = refl
-      targets_are (binary o a b) h = refl
-      targets_are (choice b x y) h = refl
-      targets_are (invoke q es) h = refl
+      targets_are e h = refl
 
       sides_are : (e : ExprTree) → Fit e → side_of w.defs w.inputs w.state gs e env' ≡ side (side_of w.defs w.inputs w.state fs e env).placed (if_target (side_of w.defs w.inputs w.state fs e env).target) (renamed_found ρ (side_of w.defs w.inputs w.state fs e env).found)
       sides_are e h = λ i. record { placed = (side_of w.defs w.inputs w.state fs e env).placed; target = targets_are e h i; found = found_is e h i }
@@ -183,8 +159,7 @@ module _ (ρ : Renaming) (n n' : Numbers) where
           → R (with_arguments w.defs w.inputs w.state fs es xs env f) (with_arguments w.defs w.inputs w.state gs es xs env' g)
       arguments_row no_expr [] h f g k = k []
       arguments_row (expr_then e es) (x ∷ xs) h f g k = argument_row x e h.0 _ _ (λ b. arguments_row es xs h.1 _ _ (λ bs. k (b ∷ bs)))
-      arguments_row no_expr (x ∷ xs) h f g k = refl
-      arguments_row (expr_then e es) [] h f g k = refl
+      arguments_row x y h f g k = refl
 
       values_row : (es : ExprTrees) → ExprsFit w.defs kinds es (length env) → (f g : List Tree → PickOutcome) → ((vs : List Tree) → R (f vs) (g vs)) → R (with_values w.defs w.inputs w.state fs es env f) (with_values w.defs w.inputs w.state gs es env' g)
       values_row no_expr h f g k = k []
@@ -268,7 +243,6 @@ module _ (ρ : Renaming) (n n' : Numbers) where
     holder_row w (Split f env) h g i s g' q e = status_row q _ _ _ _ refl (becomes_row _ _ 2 (λ a. λ j. node (a 0 (omega arith) j) Closed (renamed_head ρ h) (renamed_entries ρ i) no_region none (leaf (a 1 (omega arith) j) (Do f (renamed_bindings ρ env)) none)))
     holder_row w (SplitProject f env) h g i s g' q e = status_row q _ _ _ _ refl (becomes_row _ _ 2 (λ a. λ j. node (a 0 (omega arith) j) Closed (renamed_head ρ h) (renamed_entries ρ i) no_region none
         (node (a 1 (omega arith) j) (Opened f (renamed_bindings ρ env)) (e j) (renamed_entries ρ s) no_region none none)))
-    holder_row w Closed h g i s g' q e = refl
     holder_row w (Opened f env) h g i s g' q e = status_row q _ _ _ _
         (λ a. λ j. reduces (record {
           news = node (a.items 2 (omega arith) j) (Running f (renamed_bindings ρ env)) (new_head (a.region j)) (leaf (a.items 0 (omega arith) j) (Do f (renamed_bindings ρ env)) (leaf (a.items 1 (omega arith) j) (Do more (renamed_bindings ρ env)) none)) (renamed_head ρ h) (renamed_entries ρ i) none;
@@ -279,4 +253,4 @@ module _ (ρ : Renaming) (n n' : Numbers) where
           facts = [];
         }))
         refl
-    holder_row w (Running f env) h g i s g' q e = refl
+    holder_row w k h g i s g' q e = refl

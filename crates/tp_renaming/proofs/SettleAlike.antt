@@ -29,21 +29,15 @@ only_map f false xs = refl
 module _ (ρ : Renaming) where
   holds_to : (k : Holder) (p : Place) → holds_back (renamed_holder ρ k) (renamed_place ρ p) ≡ holds_back k p
   holds_to (Split f env) p = refl
-  holds_to (SplitProject f env) p = refl
-  holds_to Closed p = refl
-  holds_to (Opened f env) p = refl
-  holds_to (Running f env) p = refl
+  holds_to k p = refl
 
   abbrev live_second : Holder → Head → Entries → Place → List ℕ
   live_second k g s p = only_if (second_lives k) (unsettled_items s (second_place g s p))
 
   second_to : (k : Holder) (g : Head) (s : Entries) (p : Place) → ((q : Place) → unsettled_items (renamed_entries ρ s) (renamed_place ρ q) ≡ map ρ.item.to (unsettled_items s q))
       → live_second (renamed_holder ρ k) (renamed_second ρ k g) (renamed_entries ρ s) (renamed_place ρ p) ≡ map ρ.item.to (live_second k g s p)
-  second_to (Split f env) g s p h = refl
-  second_to (SplitProject f env) g s p h = refl
-  second_to Closed g s p h = refl
-  second_to (Opened f env) g s p h = refl
   second_to (Running f env) g s p h = ap (unsettled_items (renamed_entries ρ s)) (second_place_to ρ (Running f env) g s p refl) ∙ h (second_place g s p)
+  second_to k g s p h = refl
 
   unsettled_to : (es : Entries) (p : Place) → unsettled_items (renamed_entries ρ es) (renamed_place ρ p) ≡ map ρ.item.to (unsettled_items es p)
   unsettled_to none p = refl
@@ -134,8 +128,7 @@ module _ (w : Setting) (kinds : List Bool) (m n : Moment) (ρ : Renaming) (sm : 
       let x = rw e at h in
       rw f (renamed_if ρ x.0, subst (λ (o : PickOutcome). Renamed ρ (numbers_of m.scene m.store.variables) (numbers_of n.scene n.store.variables) o (outcome_of w n.store n.scene (ρ.item.to t))) x.1 (given_alike w kinds m n ρ sm sn a t))
   open_by end_open e f c h = let x = rw e at h in rw f (ap (renamed_cell ρ) x ∙ ap (λ (r : Region). End r.head.number 0) (sym a.root))
-  open_by ends e f c h = elim (rw e at h) [ ]
-  open_by goes e f c h = elim (rw e at h) [ ]
+  open_by x e f c h = elim (rw e at h) [ ]
 
   -- what is kept of the globals
   global_facts : HaveSameShapes (facts_below (length kinds) n.store.facts) (facts_below (length kinds) m.store.facts)

@@ -131,16 +131,12 @@ module _ (w : Context) (globals : ℕ) where
 
   pub ends_here : (es : Entries) → Rested Ending es → EndsAs (Says w globals es) (shown_in es)
   ends_here none r = λ d σ s a S. ((λ e. e ∙ sym (shown_nil a)), (λ e. e ∙ shown_nil a))
-  ends_here (leaf id (Do f env) rest) r = elim r [ ]
-  ends_here (leaf id (Later f env) rest) r = elim r [ ]
   ends_here (leaf id (Shown vs) rest) r = pair_ends (LeafSays w globals (Shown vs)) (Says w globals rest) (vs ∷ []) (shown_in rest) (λ d σ s a S. ((λ e. e), (λ e. e))) (ends_here rest r)
-  ends_here (node id (Split f env) h held g second rest) r = elim r [ ]
-  ends_here (node id (SplitProject f env) h held g second rest) r = elim r [ ]
   ends_here (node id Closed h held g second rest) r = pair_ends (HolderSays w globals Closed (RegionSays w globals (region h held)) (RegionSays w globals (region g second))) (Says w globals rest) (shown_in held) (shown_in rest)
       (region_ends h held r.0 (ends_here held r.1)) (ends_here rest r.2)
   ends_here (node id (Opened f env) h held g second rest) r = pair_ends (HolderSays w globals (Opened f env) (RegionSays w globals (region h held)) (RegionSays w globals (region g second))) (Says w globals rest) (shown_in held) (shown_in rest)
       (opened_ends f env (RegionSays w globals (region h held)) (shown_in held) (region_ends h held r.0 (ends_here held r.1))) (ends_here rest r.2)
-  ends_here (node id (Running f env) h held g second rest) r = elim r [ ]
+  ends_here es r = elim r [ ]
 
   region_on : (h : Head) (es : Entries) → HeadIs Going h → GoesOn (Says w globals es) (shown_in es) (Says w globals (due es)) → GoesOn (RegionSays w globals (region h es)) (shown_in es) (RegionSays w globals (region (unmarked h) (due es)))
   region_on h es m p = (
@@ -184,7 +180,6 @@ module _ (w : Context) (globals : ℕ) where
     (λ d σ s a b S l z. (blank, refl, z ∙ sym (shown_nil a) ∙ sym (join-blank (shown_at a [])))),
     (λ d σ s a b U l z. (λ i. shown_nil a i ⊕ z i)),
   )
-  goes_on (leaf id (Do f env) rest) r = elim r [ ]
   goes_on (leaf id (Later f env) rest) r = pair_on (LeafSays w globals (Later f env)) (Says w globals rest) (LeafSays w globals (Do f env)) (Says w globals (due rest)) [] (shown_in rest) (leaf_quiet w globals (Do f env)) (later_on f env) (goes_on rest r)
   goes_on (leaf id (Shown vs) rest) r = only_on (LeafSays w globals (Shown vs)) (Says w globals rest) (Says w globals (due rest)) (vs ∷ []) (shown_in rest) (λ d σ s a b S. ((λ e. e), (λ e. e))) (goes_on rest r)
   goes_on (node id (Split f env) h held g second rest) r =
@@ -197,13 +192,13 @@ module _ (w : Context) (globals : ℕ) where
       (split_on (RegionSays w globals (region h held)) (RegionSays w globals (region (unmarked h) (due held))) _ (shown_in held) (region_on h held r.1 (goes_on held r.2)) (region_goes h held r.0)) (goes_on rest r.3)
   goes_on (node id Closed h held g second rest) r =
       only_on (HolderSays w globals Closed (RegionSays w globals (region h held)) (RegionSays w globals (region g second))) (Says w globals rest) (Says w globals (due rest)) (shown_in held) (shown_in rest) (closed_only h held (RegionSays w globals (region g second)) r.0 r.1) (goes_on rest r.2)
-  goes_on (node id (Opened f env) h held g second rest) r = elim r [ ]
   goes_on (node id (Running f env) h held g second rest) r =
       pair_on (HolderSays w globals (Running f env) (RegionSays w globals (region h held)) (RegionSays w globals (region g second))) (Says w globals rest) (HolderSays w globals (SplitProject f env) (RegionSays w globals (region (unmarked h) (due held))) (RegionSays w globals (region (unmarked g) (due second)))) (Says w globals (due rest)) (shown_in second ++ shown_in held) (shown_in rest)
       (holder_quiet w globals (SplitProject f env) (RegionSays w globals (region (unmarked h) (due held))) (RegionSays w globals (region (unmarked g) (due second))) (region_quiet (unmarked h) (due held)))
       (runs_on w globals f env (RegionSays w globals (region h held)) (RegionSays w globals (region g second)) (RegionSays w globals (region (unmarked h) (due held))) (RegionSays w globals (region (unmarked g) (due second))) (shown_in held) (shown_in second)
       (region_on h held r.0 (goes_on held r.2)) (region_on g second r.1 (goes_on second r.3)) (region_quiet (unmarked g) (due second)) (region_moved w globals (unmarked g) (due second)))
       (goes_on rest r.4)
+  goes_on es r = elim r [ ]
 
 -- a settled region that goes on
 pub region_goes_on : (w : Context) (globals : ℕ) (h : Head) (es : Entries) → HeadIs Going h → Rested Going es

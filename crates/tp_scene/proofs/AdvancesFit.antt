@@ -72,19 +72,13 @@ module _ (defs : List Definition) (kinds : List Bool) (variables : List Variable
   dormant_numbered : (n i r : ℕ) (h : Head) (es : Entries) → Dormant h es → Dormant (numbered_head n h) (numbered i r es)
   dormant_numbered n i r h none d = d
   dormant_numbered n i r h (leaf id (Do f env) rest) d = dormant_numbered n (i + 1) r h rest d
-  dormant_numbered n i r h (leaf id (Later f env) rest) d = elim d [ ]
-  dormant_numbered n i r h (leaf id (Shown vs) rest) d = elim d [ ]
   dormant_numbered n i r h (node id (Split f env) k held g second rest) d = (dormant_numbered r i (r + 1) k held d.0, dormant_numbered n _ _ h rest d.1)
   dormant_numbered n i r h (node id (SplitProject f env) k held g second rest) d = (dormant_numbered r i (r + 1) k held d.0, dormant_numbered _ _ _ g second d.1, dormant_numbered n _ _ h rest d.2)
-  dormant_numbered n i r h (node id Closed k held g second rest) d = elim d [ ]
-  dormant_numbered n i r h (node id (Opened f env) k held g second rest) d = elim d [ ]
-  dormant_numbered n i r h (node id (Running f env) k held g second rest) d = elim d [ ]
+  dormant_numbered n i r h es d = elim d [ ]
 
   numbered_fits : (i r : ℕ) (h : Head) (es : Entries) (p p' : Place) → Dormant h es → EntriesFit defs kinds variables es p → p'.depth ≡ p.depth → Blank p' → EntriesFit defs kinds variables (numbered i r es) p'
   numbered_fits i r h none p p' d fit e b = (blank_calm p' b, (let l = fit.1 in omega (arith, l, e)))
   numbered_fits i r h (leaf id (Do f env) rest) p p' d fit e b = (fit.0, numbered_fits (i + 1) r h rest p p' d fit.1 e b)
-  numbered_fits i r h (leaf id (Later f env) rest) p p' d fit e b = elim d [ ]
-  numbered_fits i r h (leaf id (Shown vs) rest) p p' d fit e b = elim d [ ]
   numbered_fits i r h (node id (Split f env) k held g second rest) p p' d fit e b = (
     fit.0,
     numbered_fits i (r + 1) k held _ (held_place (Split f env) (numbered_head r k) (numbered i (r + 1) held) p') d.0 fit.1 (ap (λ j. j + 1) e)
@@ -97,9 +91,7 @@ module _ (defs : List Definition) (kinds : List Bool) (variables : List Variable
         (λ x u. left_blank (sinks (SplitProject f env) x) (numbered_head r k) (numbered i (r + 1) held) p' x b (dormant_numbered r i (r + 1) k held d.0) u),
     numbered_fits _ _ h rest p p' d.2 fit.2 e b,
   )
-  numbered_fits i r h (node id Closed k held g second rest) p p' d fit e b = elim d [ ]
-  numbered_fits i r h (node id (Opened f env) k held g second rest) p p' d fit e b = elim d [ ]
-  numbered_fits i r h (node id (Running f env) k held g second rest) p p' d fit e b = elim d [ ]
+  numbered_fits i r h es p p' d fit e b = elim d [ ]
 
 module _ (w : Setting) (kinds : List Bool) (m next : Moment) (sound : IsSound w kinds m) (is : next.scene ≡ advanced m.scene) (on : StoreGoesOn m.store next.store) (own : ℕ) where
   abbrev es : Entries

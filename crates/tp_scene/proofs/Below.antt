@@ -35,11 +35,9 @@ IfSecond (Opened f env) X = Unit {0}
 IfSecond (Running f env) X = X
 
 pub if_second : (k : Holder) (X Y : Type 0) → (X → Y) → IfSecond k X → IfSecond k Y
-if_second (Split f env) X Y go x = tt
 if_second (SplitProject f env) X Y go x = go x
-if_second Closed X Y go x = tt
-if_second (Opened f env) X Y go x = tt
 if_second (Running f env) X Y go x = go x
+if_second k X Y go x = tt
 
 abbrev pub Below : ℕ → Entries → Type 0
 Below n none = Unit {0}
@@ -76,11 +74,9 @@ module _ (variables : List Variable) where
 
     -- what is asked of a second region
     pub second_fits : (k : Holder) (held : Entries) (q : Place) (X Y Z : Type 0) → (X → Z) → (Y → Z) → HolderFits defs kinds variables k held q X Y → IfSecond k Z
-    second_fits (Split f env) held q X Y Z x y h = tt
     second_fits (SplitProject f env) held q X Y Z x y h = x h.1
-    second_fits Closed held q X Y Z x y h = tt
-    second_fits (Opened f env) held q X Y Z x y h = tt
     second_fits (Running f env) held q X Y Z x y h = y h.1
+    second_fits k held q X Y Z x y h = tt
 
     pub entries_below : (es : Entries) (p : Place) → EntriesFit defs kinds variables es p → Below (length variables) es
     entries_below none p h = tt

@@ -86,9 +86,8 @@ module _ (w : Context) (state : ℕ) (kinds : List Bool) (facts : List Fact) (nn
           by_place : (o : PlaceOutcome) → place_outcome facts w.defs x env ≡ o → Row (with_place w.defs w.inputs state facts o f)
           by_place (found.path p) q = all (place_binding p) (λ d σ ag. (placed σ s a x env fit ag).paths p q (e + d) (deep_enough w kinds facts nn.local e deep right d))
           by_place (found.other (found.value t)) q = all (known_binding t) (λ d σ ag. (placed σ s a x env fit ag).from_values t q (e + d) (deep_enough w kinds facts nn.local e deep right d))
-          by_place (found.other (found.wait p)) q = tt
           by_place (found.other (found.fault k)) q = fails (λ d σ ag. (placed σ s a x env fit ag).from_faults k q d)
-          by_place (found.other (found.over k)) q = tt
+          by_place x q = tt
       argument_row false x fit f fails all =
           with_value_row w globals facts nn.local e Old s a b (outcome facts w.defs x env) (λ v. f (known_binding v))
           (λ k q. fails (λ d σ ag. none_first _ _ ((right σ s a x env fit ag).faults k q d)))
@@ -98,14 +97,13 @@ module _ (w : Context) (state : ℕ) (kinds : List Bool) (facts : List Fact) (nn
           → (NoneIs (ArgumentsAt xs names) → No) → ((ys : Bindings) → ItIs (ArgumentsAt xs names) (λ σ. meanings_of globals s σ ys) → Row (f ys))
           → Row (with_arguments w.defs w.inputs state facts xs names env f)
       arguments_row no_expr [] fits f fails all = all [] (λ d σ ag. refl)
-      arguments_row no_expr (name ∷ names) fits f fails all = fails (λ d σ ag. refl)
-      arguments_row (expr_then x xs) [] fits f fails all = fails (λ d σ ag. refl)
       arguments_row (expr_then x xs) (name ∷ names) fits f fails all =
           argument_row (is_upper name) x fits.0 (λ y. with_arguments w.defs w.inputs state facts xs names env (λ ys. f (y ∷ ys)))
           (λ z. fails (λ d σ ag. none_first _ _ (z d σ ag)))
           (λ y z. arguments_row xs names fits.1 (λ ys. f (y ∷ ys))
           (λ u. fails (λ d σ ag. none_after (ArgumentAt (is_upper name) x d σ) (ArgumentsAt xs names d σ) (λ m ms. m ∷ ms) (u d σ ag)))
           (λ ys u. all (y ∷ ys) (λ d σ ag. both_there (ArgumentAt (is_upper name) x (e + d) σ) (ArgumentsAt xs names (e + d) σ) (λ m ms. m ∷ ms) (meaning_of globals s σ y) (meanings_of globals s σ ys) (z d σ ag) (u d σ ag))))
+      arguments_row x y fits f fails all = fails (λ d σ ag. refl)
 
     same_values : (xs : ExprTrees) (d : ℕ) (σ : Locals) (us vs : List Tree) → ValuesAt xs d σ ≡ Some us → ValuesAt xs (e + d) σ ≡ Some vs → us ≡ vs
     same_values xs d σ us vs p q =

@@ -82,11 +82,9 @@ module _ (w : Context) (globals : ℕ) where
 
 -- marks on the head of a region
 mark_head_holds : (m : Option Side) (h : Head) (a i : ℕ) → MarksHold h a i → MarkSo m a i → MarksHold (mark_head m h) a i
-mark_head_holds None h a i q y z t = q z t
 mark_head_holds (Some Ending) h a i q y Ending t = y
-mark_head_holds (Some Ending) h a i q y Going t = q Going t
-mark_head_holds (Some Going) h a i q y Ending t = q Ending t
 mark_head_holds (Some Going) h a i q y Going t = y
+mark_head_holds m h a i q y z t = q z t
 
 unmarked_ends : (h : Head) (a i : ℕ) → MarksHold (mark_head (Some Ending) h) a i → MarksHold h a i
 unmarked_ends h a i q Ending t = q Ending refl

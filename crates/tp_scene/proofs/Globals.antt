@@ -1,13 +1,14 @@
--- The facts of globals, of static variables, and of locals.
-use Rattle.std.proofs.Common.{◌≡◌, ℕ, zero, suc, ◌+◌, ◌-◌, ◌<◌, ◌≤◌, nat_lt, Bool, List, [], ◌∷◌, drop, map, slice_get, Some, refl, ap, sym, ◌∙◌, subst, arith, inl, inr, if◌then◌else◌}
+-- The facts of globals, of static variables, of locals, and of a value at a path.
+use Rattle.std.proofs.Common.{◌≡◌, ℕ, zero, suc, ◌+◌, ◌-◌, ◌<◌, ◌≤◌, nat_lt, Bool, List, [], ◌∷◌, ◌++◌, drop, map, slice_get, Some, refl, ap, sym, ◌∙◌, subst, arith, inl, inr, if◌then◌else◌}
 use Rattle.std.proofs.lemmas.Bool.{cases_lt, ltb-true, lt-ltb, le-ltb}
-use Rattle.tp_value.specs.Tree.{Tree}
+use Rattle.tp_value.specs.Tree.{Tree, Trees, list, nil, cons}
 use Rattle.tp_value.specs.Shape.{shape_at_path}
+use Rattle.tp_value.specs.declared.path.Path.{Path}
 use Rattle.tp_value.specs.declared.path.Fact.{Fact}
 use Rattle.tp_meaning.specs.Course.{Course}
 use Rattle.tp_meaning.specs.Bindings.{Locals}
 use Rattle.tp_meaning.specs.Holds.{Lasts}
-use Rattle.tp_store.specs.Facts.{AgreesWith, AgreesWithAll}
+use Rattle.tp_store.specs.Facts.{AgreesWith, AgreesWithAll, facts_at, facts_of_items, item_path}
 use Rattle.tp_store.specs.Known.{AreOfVariables, Variable, IsVariableOf, facts_below}
 use Rattle.tp_store.proofs.Members.{In, in_filter, filter_in, agrees_in, agrees_from}
 use Rattle.tp_eval.specs.Right.{values_at}
@@ -47,6 +48,19 @@ of_variables_in xs (g ∷ gs) h f (inr i) = of_variables_in xs gs h.1 f i
 pub in_of_variables : (xs : List Variable) (facts : List Fact) → ((f : Fact) → In f facts → IsVariableOf xs f.path.var) → AreOfVariables xs facts
 in_of_variables xs [] h = tt
 in_of_variables xs (g ∷ gs) h = (h g (inl refl), in_of_variables xs gs (λ f i. h f (inr i)))
+
+pub of_append : (xs : List Variable) (fs gs : List Fact) → AreOfVariables xs fs → AreOfVariables xs gs → AreOfVariables xs (fs ++ gs)
+of_append xs [] gs h k = k
+of_append xs (f ∷ fs) gs h k = (h.0, of_append xs fs gs h.1 k)
+
+mutual
+  pub facts_of_value : (xs : List Variable) (p : Path) (t : Tree) → IsVariableOf xs p.var → AreOfVariables xs (facts_at p t)
+  facts_of_value xs p (list ts) h = (h, facts_of_parts xs p 0 ts h)
+  facts_of_value xs p t h = (h, tt)
+
+  facts_of_parts : (xs : List Variable) (p : Path) (k : ℕ) (ts : Trees) → IsVariableOf xs p.var → AreOfVariables xs (facts_of_items p k ts)
+  facts_of_parts xs p k nil h = tt
+  facts_of_parts xs p k (cons t ts) h = of_append xs (facts_at (item_path p k) t) (facts_of_items p (suc k) ts) (facts_of_value xs (item_path p k) t h) (facts_of_parts xs p (suc k) ts h)
 
 -- the local with that number is one of the locals
 last_at : (xs : List Variable) (n k : ℕ) (σ : Locals) (b : Bool) → AllLast xs n σ → slice_get (map (λ (x : Variable). x.lasting) xs) k ≡ Some b → Lasts b (σ (k + n))

@@ -3,13 +3,10 @@ use Rattle.std.proofs.Common.{◌≡◌, ℕ, ◌+◌, Bool, true, false, ◌||�
 use Rattle.std.proofs.lemmas.Bool.{or_cases, or_left, or_right, and_parts, and_from, false≢true}
 use Rattle.tp_meaning.specs.Syntax.{Definition}
 use Rattle.tp_store.specs.Known.{Variable}
-use Rattle.tp_scene.specs.Scene.{Side, Ending, Going, Head, marked, Leaf, Do, Later, Shown, Holder, Split, SplitProject, Closed, Opened, Running, Entries, none, leaf, node, second_lives, rises, sinks, forced, risen, Place, held_place, second_place}
+use Rattle.tp_scene.specs.Scene.{Side, Ending, Going, Head, marked, Leaf, Do, Later, Shown, Holder, Split, SplitProject, Closed, Running, Entries, none, leaf, node, second_lives, rises, sinks, forced, risen, Place, held_place, second_place}
 use Rattle.tp_scene.specs.Fits.{IsCalm, LeafFits, HolderFits, EntriesFit}
+use Rattle.tp_scene.proofs.Told.{other_side}
 use Rattle.tp_scene.proofs.NewsFit.{entries_calm, IsMore}
-
-abbrev pub other_side : Side → Side
-other_side Ending = Going
-other_side Going = Ending
 
 -- what rises from the entries is the region's
 abbrev pub Covers : Place → Entries → Type 0
@@ -25,41 +22,25 @@ calm_from Going p h = λ e g. h g e
 
 -- what sinks on one side rises on the other, and the other way round
 sinks_rises : (k : Holder) (z : Side) → sinks k z ≡ true → rises k (other_side z) ≡ true
-sinks_rises (Split f env) Ending e = refl
 sinks_rises (Split f env) Going e = absurd (false≢true e)
-sinks_rises (SplitProject f env) Ending e = refl
 sinks_rises (SplitProject f env) Going e = absurd (false≢true e)
-sinks_rises Closed Ending e = absurd (false≢true e)
-sinks_rises Closed Going e = absurd (false≢true e)
-sinks_rises (Opened f env) Ending e = refl
-sinks_rises (Opened f env) Going e = refl
-sinks_rises (Running f env) Ending e = refl
 sinks_rises (Running f env) Going e = absurd (false≢true e)
+sinks_rises Closed z e = absurd (false≢true e)
+sinks_rises k z e = refl
 
 pub rises_sinks : (k : Holder) (z : Side) → rises k z ≡ true → sinks k (other_side z) ≡ true
-rises_sinks (Split f env) Going e = refl
 rises_sinks (Split f env) Ending e = absurd (false≢true e)
-rises_sinks (SplitProject f env) Going e = refl
 rises_sinks (SplitProject f env) Ending e = absurd (false≢true e)
-rises_sinks Closed Ending e = absurd (false≢true e)
-rises_sinks Closed Going e = absurd (false≢true e)
-rises_sinks (Opened f env) Ending e = refl
-rises_sinks (Opened f env) Going e = refl
-rises_sinks (Running f env) Going e = refl
 rises_sinks (Running f env) Ending e = absurd (false≢true e)
+rises_sinks Closed z e = absurd (false≢true e)
+rises_sinks k z e = refl
 
 -- a region that is forced takes nothing
 forced_sinks : (k : Holder) (x z : Side) → forced k x ≡ true → sinks k z ≡ true → ⊥
 forced_sinks (Split f env) Ending z e s = false≢true e
-forced_sinks (Split f env) Going z e s = false≢true e
-forced_sinks (SplitProject f env) Ending z e s = false≢true e
-forced_sinks (SplitProject f env) Going z e s = false≢true e
 forced_sinks Closed x Ending e s = false≢true s
 forced_sinks Closed x Going e s = false≢true s
-forced_sinks (Opened f env) Ending z e s = false≢true e
-forced_sinks (Opened f env) Going z e s = false≢true e
-forced_sinks (Running f env) Ending z e s = false≢true e
-forced_sinks (Running f env) Going z e s = false≢true e
+forced_sinks k x z e s = false≢true e
 
 -- A region's place before and after something became so on the side z somewhere: it keeps what it is, takes nothing of the other side, and takes
 -- z only where it wasn't of the other side.
@@ -167,11 +148,10 @@ module _ (defs : List Definition) (kinds : List Bool) (variables : List Variable
   leaf_grown (Shown vs) p p' m h = tt
 
   pub holder_grown : (k : Holder) (held held' : Entries) (q q' : Place) (X X' Y Y' : Type 0) → (X → X') → (second_lives k ≡ true → Y → Y') → HolderFits defs kinds variables k held q X Y → HolderFits defs kinds variables k held' q' X' Y'
-  holder_grown (Split f env) held held' q q' X X' Y Y' x y h = h
   holder_grown (SplitProject f env) held held' q q' X X' Y Y' x y h = (h.0, x h.1)
   holder_grown Closed held held' q q' X X' Y Y' x y h = tt
-  holder_grown (Opened f env) held held' q q' X X' Y Y' x y h = h
   holder_grown (Running f env) held held' q q' X X' Y Y' x y h = (h.0, y refl h.1)
+  holder_grown k held held' q q' X X' Y Y' x y h = h
 
   pub fits_grown : (es : Entries) (p p' : Place) → Grown z p p' → Covers p es → EntriesFit defs kinds variables es p → EntriesFit defs kinds variables es p'
   fits_grown none p p' g cov fit = (grown_calm z p p' g, (let d = g.more.depth in let l = fit.1 in omega (arith, d, l)))

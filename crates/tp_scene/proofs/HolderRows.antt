@@ -7,7 +7,7 @@ use Rattle.tp_meaning.specs.Course.{Course, Shows, blank, ◌⊕◌, woven, Risi
 use Rattle.tp_meaning.specs.Bindings.{Locals}
 use Rattle.tp_meaning.specs.Holds.{Context}
 use Rattle.tp_meaning.proofs.Shows.{join-blank}
-use Rattle.tp_scene.specs.Scene.{Bindings, Ending, Going, Head, new_head, Do, Holder, Split, SplitProject, Closed, Opened, Running, Entries, none, leaf, Region, Place, held_place, closed_then, opened_then, running_then, rises, sinks, forced}
+use Rattle.tp_scene.specs.Scene.{Bindings, Ending, Going, Head, new_head, Do, Holder, Split, SplitProject, Opened, Entries, none, leaf, Region, Place, held_place, closed_then, opened_then, running_then, rises, sinks, forced}
 use Rattle.tp_scene.specs.Says.{at_cuts, locals_at_cuts, Claim, FormulaSays, OpenedSays, RunningSays, SplitSays, HolderSays, RegionSays, Says}
 use Rattle.tp_scene.specs.Step.{Numbers, PickOutcome, rests, becomes, by_status, holder_step}
 use Rattle.tp_scene.proofs.Below.{HolderBelow, IfSecond, if_second, Below}
@@ -137,7 +137,6 @@ module _ (w : Context) (state globals : ℕ) (facts : List Fact) (nn : Numbers) 
       (λ y. close_keeps After (opened_carried w globals n f env O bk (region_carried w globals n g second bs)) h held bh after s a b is.order
       (λ d σ S x. alone w globals facts n e After d σ s a b S x) (λ d σ S x. of_alone w globals facts n e After d σ s a b S x)
       (λ d σ S x. held_known (SplitProject f env) h held g second bk bh bs p s a b is.known d σ S is.order x Ending y))
-  holder_row Closed h held g second bk bh bs p s a b is = tt
   holder_row (Opened f env) h held g second bk bh bs p s a b is =
       let q = held_place (Opened f env) h held p in
       let O = RegionSays w globals (region h held) in
@@ -151,4 +150,4 @@ module _ (w : Context) (state globals : ℕ) (facts : List Fact) (nn : Numbers) 
       (λ d σ S ag x. raise Old (opened_carried w globals n f env O bk (region_carried w globals n h held bh)) d σ s a b S
       (run_back f env O d σ s a b S (of_alone w globals facts n e Run d σ s a b S x))))
       (λ _. tt)
-  holder_row (Running f env) h held g second bk bh bs p s a b is = tt
+  holder_row k h held g second bk bh bs p s a b is = tt

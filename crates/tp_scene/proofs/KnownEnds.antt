@@ -5,8 +5,8 @@ use Rattle.tp_value.specs.declared.path.Fact.{Fact}
 use Rattle.tp_store.specs.Known.{NoClash}
 use Rattle.tp_scene.specs.declared.answer.Cell.{Cell}
 use Rattle.tp_scene.specs.declared.answer.Cell.TheVariants.{Part, End}
-use Rattle.tp_scene.specs.Scene.{Side, Ending, Going, Head, Leaf, Holder, Split, SplitProject, Closed, Opened, Running, Entries, none, leaf, node, Scene, second_lives, has, Place, root_place, held_place, second_place}
-use Rattle.tp_scene.specs.Regions.{Role, HoldsRegion, by_split, by_split_project, by_closed, by_opened, by_running, by_running_second, past_leaf, past_node, LiveRegion, the_root, the_held}
+use Rattle.tp_scene.specs.Scene.{Side, Ending, Going, Head, Leaf, Holder, Running, Entries, none, leaf, node, Scene, second_lives, has, Place, root_place, held_place, second_place}
+use Rattle.tp_scene.specs.Regions.{Role, HoldsRegion, by_running_second, past_leaf, past_node, LiveRegion, the_root, the_held}
 use Rattle.tp_scene.specs.Status.{place_through, computed_place}
 use Rattle.tp_scene.specs.Step.{PickOutcome, reduces, waits, rests, clashes, misses, passes, Numbers, leaf_step, holder_step}
 use Rattle.tp_scene.specs.Pick.{Setting, Moment, pick, numbers_of}
@@ -32,11 +32,8 @@ abbrev pub KnownAt : (number : ℕ) → Side → Entries → Place → Type 0
 KnownAt r z es p = ((p.region ≡ r) × (p.is z ≡ true)) ⊎ KnownIn r z es p
 
 pub live_number : (r : ℕ) (k : Holder) (g : Head) → second_lives k ≡ true → count r (second_number k g) ≡ one_if r g.number
-live_number r (Split f env) g e = absurd (false≢true e)
-live_number r (SplitProject f env) g e = absurd (false≢true e)
-live_number r Closed g e = absurd (false≢true e)
-live_number r (Opened f env) g e = absurd (false≢true e)
 live_number r (Running f env) g e = let f = count_first r g.number [] in let n = count_none r in omega (arith, f, n)
+live_number r k g e = absurd (false≢true e)
 
 pub known_counted : (r : ℕ) (z : Side) (es : Entries) (p : Place) → KnownIn r z es p → 1 ≤ regions r es
 known_counted r z none p k = absurd k
@@ -170,20 +167,12 @@ module _ (facts : List Fact) where
   other_openly P Q f (Some c) u = f c u
 
   openly : (es fs : Entries) (p q : Place) → ((c : Cell) → IsOpenIn es p c → IsOpenIn fs q c) → (o : PickOutcome) → WaitsOpenly es p o → WaitsOpenly fs q o
-  openly es fs p q f (reduces r) u = tt
   openly es fs p q f (waits first other) u = (f first u.0, other_openly (IsOpenIn es p) (IsOpenIn fs q) f other u.1)
-  openly es fs p q f rests u = tt
-  openly es fs p q f (clashes c) u = tt
-  openly es fs p q f (misses port) u = tt
-  openly es fs p q f (passes k) u = tt
+  openly es fs p q f o u = tt
 
   answers_openly : (apart : NoClash facts) (Idle : Type 0) (es : Entries) (p : Place) → StandsOnce es p → (o : PickOutcome) → Answers facts apart Idle p o → WaitsOpenly es p o
-  answers_openly apart Idle es p once (reduces r) u = tt
   answers_openly apart Idle es p once (waits first other) u = (open_here es p once first u.0, other_openly (IsOpenAt facts p) (IsOpenIn es p) (open_here es p once) other u.1)
-  answers_openly apart Idle es p once rests u = tt
-  answers_openly apart Idle es p once (clashes c) u = tt
-  answers_openly apart Idle es p once (misses port) u = tt
-  answers_openly apart Idle es p once (passes k) u = tt
+  answers_openly apart Idle es p once o u = tt
 
   pick_openly : (w : Setting) (apart : NoClash facts) (t : ℕ) (es : Entries) (p : Place) (n : Numbers) → StandsOnce es p → WaitsOpenly es p (pick w facts t es p n)
   pick_openly w apart t none p n once = tt
@@ -211,28 +200,19 @@ module _ (facts : List Fact) where
 
 -- a region that is known stands in the scene
 known_around : (r : ℕ) (z : Side) (p : Place) (es : Entries) (role : Role) (i : Head) (held : Entries) (in_it : HoldsRegion es role i held) → KnownAt r z held (place_through in_it p) → KnownIn r z es p
-known_around r z p _ _ _ _ by_split k = inl k
-known_around r z p _ _ _ _ by_split_project k = inl k
-known_around r z p _ _ _ _ by_closed k = inl k
-known_around r z p _ _ _ _ by_opened k = inl k
-known_around r z p _ _ _ _ by_running k = inl k
 known_around r z p _ _ _ _ by_running_second k = inr (inl (refl, k))
 known_around r z p _ role i held (past_leaf in_it) k = known_around r z p _ role i held in_it k
 known_around r z p _ role i held (past_node in_it) k = inr (inr (known_around r z p _ role i held in_it k))
+known_around r z p _ _ _ _ x k = inl k
 
 known_from_root : (s : Scene) (r : ℕ) (z : Side) (h : Head) (es : Entries) (x : LiveRegion s h es) → KnownAt r z es (computed_place x) → KnownAt r z s.root.entries (root_place s.root)
 known_from_root s r z _ _ the_root k = k
 known_from_root s r z _ _ (the_held {h = h} {es = es} {role = role} {i = i} {held = held} x in_it) k = known_from_root s r z h es x (inr (known_around r z (computed_place x) es role i held in_it k))
 
 number_through : (p : Place) (es : Entries) (role : Role) (i : Head) (held : Entries) (in_it : HoldsRegion es role i held) → (place_through in_it p).region ≡ i.number
-number_through p _ _ _ _ by_split = refl
-number_through p _ _ _ _ by_split_project = refl
-number_through p _ _ _ _ by_closed = refl
-number_through p _ _ _ _ by_opened = refl
-number_through p _ _ _ _ by_running = refl
-number_through p _ _ _ _ by_running_second = refl
 number_through p _ role i held (past_leaf in_it) = number_through p _ role i held in_it
 number_through p _ role i held (past_node in_it) = number_through p _ role i held in_it
+number_through p _ _ _ _ x = refl
 
 pub number_in : (s : Scene) (h : Head) (es : Entries) (x : LiveRegion s h es) → (computed_place x).region ≡ h.number
 number_in s _ _ the_root = refl

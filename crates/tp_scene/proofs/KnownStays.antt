@@ -95,7 +95,6 @@ module _ (r : ℕ) (z : Side) where
           | inr y ↦ elim y [ inl v ↦ absurd (false≢true v.0) | inr v ↦ inr (inr (inr (inr (known_more rest p p' more v)))) ]
         ])
         (λ _. tt))
-    holder_keeps Closed id h held g second rest p p' more = tt
     holder_keeps (Opened f env) id h held g second rest p p' more =
         let q = held_place (Opened f env) h held p in
         let kept = HolderKeeps (node id (Opened f env) h held g second rest) rest p p' in
@@ -106,7 +105,7 @@ module _ (r : ℕ) (z : Side) where
           | inr y ↦ elim y [ inl v ↦ absurd (false≢true v.0) | inr v ↦ inr (inr (known_more rest p p' more v)) ]
         ])
         (λ _. cond_both (q.is Ending) _ _ kept (λ _. tt) (λ _. tt))
-    holder_keeps (Running f env) id h held g second rest p p' more = tt
+    holder_keeps k id h held g second rest p p' more = tt
 
     -- Said of a reduction of the item t.
     module _ (t : ℕ) (s : Reduction) where
@@ -200,11 +199,8 @@ pub record HoldingSecond (es : Entries) (g : Head) (second : Entries) : Type 0 w
   pub place : (p : Place) → place_through in_it p ≡ second_place g second p
 
 pub holding_second : (k : Holder) (id : ℕ) (h : Head) (held : Entries) (g : Head) (second rest : Entries) → second_lives k ≡ true → HoldingSecond (node id k h held g second rest) g second
-holding_second (Split f env) id h held g second rest e = absurd (false≢true e)
-holding_second (SplitProject f env) id h held g second rest e = absurd (false≢true e)
-holding_second Closed id h held g second rest e = absurd (false≢true e)
-holding_second (Opened f env) id h held g second rest e = absurd (false≢true e)
 holding_second (Running f env) id h held g second rest e = record { in_it = by_running_second; place = λ p. refl }
+holding_second k id h held g second rest e = absurd (false≢true e)
 
 module _ (s : Scene) (r : ℕ) (z : Side) where
   this_region : (h : Head) (es : Entries) (x : LiveRegion s h es) → h.number ≡ r → (computed_place x).is z ≡ true → IsKnownEnd s r

@@ -188,8 +188,5 @@ module _ (w : Context) (globals n : ℕ) where
 
   -- of the second region, where that is live
   pub second_lens : (k : Holder) (I : Claim) → second_lives k ≡ true → HasLens n (HolderBelow n k × Carried w globals n I) each_side no_side each_side (λ P. HolderSays w globals k I P)
-  second_lens (Split f env) I e = absurd (false≢true e)
-  second_lens (SplitProject f env) I e = absurd (false≢true e)
-  second_lens Closed I e = absurd (false≢true e)
-  second_lens (Opened f env) I e = absurd (false≢true e)
   second_lens (Running f env) I e = outer_lens f env I
+  second_lens k I e = absurd (false≢true e)

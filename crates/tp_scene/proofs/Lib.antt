@@ -17,6 +17,10 @@ pub mod HolderRows
 pub mod Agree
 pub mod Law
 pub mod Parts
+pub mod Told
+pub mod Free
+pub mod Evaluated
+pub mod FitsTold
 pub mod Apart
 pub mod MoveScene
 pub mod Quiet
@@ -32,7 +36,6 @@ pub mod Rows
 pub mod Adding
 pub mod StepLaws
 pub mod PathFits
-pub mod Targets
 pub mod NewsFit
 pub mod Grown
 pub mod Plain

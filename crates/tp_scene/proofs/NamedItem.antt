@@ -59,12 +59,8 @@ IsBusy (misses port) = Unit {0}
 IsBusy (passes k) = Unit {0}
 
 busy_by : (facts : List Fact) (apart : NoClash facts) (b : Bool) (p : Place) (o : PickOutcome) → b ≡ true → Answers facts apart (b ≡ false) p o → IsBusy o
-busy_by facts apart b p (reduces r) e h = tt
-busy_by facts apart b p (waits first other) e h = tt
 busy_by facts apart b p rests e h = absurd (false≢true (sym h ∙ e))
-busy_by facts apart b p (clashes c) e h = tt
-busy_by facts apart b p (misses port) e h = tt
-busy_by facts apart b p (passes k) e h = tt
+busy_by facts apart b p o e h = tt
 
 -- one of at most one
 one_of : (t id : ℕ) (b : Bool) → 1 ≤ count t (only_if b (id ∷ [])) → (b ≡ true) × (t ≡ id)
@@ -153,11 +149,8 @@ module _ (w : Setting) (facts : List Fact) (apart : NoClash facts) (t : ℕ) (n 
 -- what is idle and doesn't rest, waits
 waits_then : (o : PickOutcome) → IsIdle o → IsBusy o → (first : Cell) × (other : Option Cell) × (o ≡ waits first other)
 waits_then (waits first other) idle busy = (first, other, refl)
-waits_then (reduces r) idle busy = absurd idle
 waits_then rests idle busy = absurd busy
-waits_then (clashes k) idle busy = absurd idle
-waits_then (misses port) idle busy = absurd idle
-waits_then (passes k) idle busy = absurd idle
+waits_then o idle busy = absurd idle
 
 -- what settling comes to, by the unsettled items and the root's status
 pub by_settling : (ts : List ℕ) (b c : Bool) (p : Place) → p.is Ending ≡ b → p.is Going ≡ c

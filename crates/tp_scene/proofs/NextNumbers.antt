@@ -1,7 +1,7 @@
 -- The numbers that a scene's entries are given.
 use Rattle.std.proofs.Common.{◌≡◌, ℕ, suc, ◌+◌, ◌-◌, ◌≤◌, [], ◌∷◌, refl, ap, sym, ◌∙◌, subst, arith, inl, inr}
 use Rattle.std.proofs.lemmas.Bool.{cases_lt}
-use Rattle.tp_scene.specs.Scene.{Head, Holder, Split, SplitProject, Closed, Opened, Running, Entries, none, leaf, node}
+use Rattle.tp_scene.specs.Scene.{Head, Holder, Split, SplitProject, Running, Entries, none, leaf, node}
 use Rattle.tp_scene.specs.Advance.{items_in, regions_in, regions_held, numbered_head, second_head, numbered}
 use Rattle.tp_scene.specs.Fits.{AreNumbers, item_numbers, second_number, region_numbers}
 use Rattle.tp_scene.proofs.Count.{count, count_none, count_first}
@@ -57,18 +57,13 @@ one_region x o =
     omega (arith, a, b, c, d)
 
 second_counted : (x o : ℕ) (k : Holder) (g : Head) → count x (second_number k (second_head k o g)) ≡ between o (o + (regions_held k - 1)) x
-second_counted x o (Split f env) g = let e : o + 0 ≡ o = omega arith in count_none x ∙ sym (ap (λ b. between o b x) e ∙ between_none o x)
 second_counted x o (SplitProject f env) g = one_region x o
-second_counted x o Closed g = let e : o + 0 ≡ o = omega arith in count_none x ∙ sym (ap (λ b. between o b x) e ∙ between_none o x)
-second_counted x o (Opened f env) g = let e : o + 0 ≡ o = omega arith in count_none x ∙ sym (ap (λ b. between o b x) e ∙ between_none o x)
 second_counted x o (Running f env) g = one_region x o
+second_counted x o k g = let e : o + 0 ≡ o = omega arith in count_none x ∙ sym (ap (λ b. between o b x) e ∙ between_none o x)
 
 holds_one : (k : Holder) → 1 ≤ regions_held k
 holds_one (Split f env) = omega arith
-holds_one (SplitProject f env) = omega arith
-holds_one Closed = omega arith
-holds_one (Opened f env) = omega arith
-holds_one (Running f env) = omega arith
+holds_one k = omega arith
 
 pub numbered_regions : (x i r : ℕ) (es : Entries) → regions x (numbered i r es) ≡ between r (r + regions_in es) x
 numbered_regions x i r none = let e : r + 0 ≡ r = omega arith in count_none x ∙ sym (ap (λ b. between r b x) e ∙ between_none r x)

@@ -2,7 +2,7 @@
 use Rattle.std.proofs.Common.{◌≡◌, ℕ, ◌+◌, refl}
 use Rattle.std.specs.Prelude.{IsTrue}
 use Rattle.tp_meaning.specs.Holds.{Context, Joined}
-use Rattle.tp_scene.specs.Scene.{Side, Ending, Going, Head, marked, Holder, Split, SplitProject, Closed, Opened, Running, Entries, none, leaf, node}
+use Rattle.tp_scene.specs.Scene.{Side, Ending, Going, Head, marked, Holder, SplitProject, Running, Entries, none, leaf, node}
 use Rattle.tp_scene.specs.Says.{IsSo, MarksHold, LeafSays, HolderSays, Says}
 use Rattle.tp_scene.specs.Advance.{items_in, regions_in, regions_held, numbered_head, second_head, numbered}
 
@@ -14,11 +14,9 @@ marks_same : (n : ℕ) (h : Head) → MarksHold (numbered_head n h) ≡ MarksHol
 marks_same n h = λ t a b. (z : Side) → IsTrue (marked_same n h z t) → IsSo z a b
 
 second_same : (k : Holder) (n : ℕ) (g : Head) → MarksHold (second_head k n g) ≡ MarksHold g
-second_same (Split f env) n g = refl
 second_same (SplitProject f env) n g = marks_same n g
-second_same Closed n g = refl
-second_same (Opened f env) n g = refl
 second_same (Running f env) n g = marks_same n g
+second_same k n g = refl
 
 pub says_numbered : (w : Context) (globals i r : ℕ) (es : Entries) → Says w globals (numbered i r es) ≡ Says w globals es
 says_numbered w globals i r none = refl

@@ -5,7 +5,7 @@ use Rattle.std.proofs.lemmas.List.{length-append}
 use Rattle.tp_value.specs.Limits.{path_limit}
 use Rattle.tp_value.specs.declared.path.Fact.{Fact}
 use Rattle.tp_value.specs.declared.path.VarId.{VarId}
-use Rattle.tp_meaning.specs.Syntax.{ExprTree, numeral, boolean, known, bound, global, listing, size, index, minus, negation, both, either, binary, choice, invoke, Definition, BindingTree, place_binding, known_binding}
+use Rattle.tp_meaning.specs.Syntax.{ExprTree, bound, global, index, Definition, BindingTree, place_binding, known_binding}
 use Rattle.tp_meaning.specs.Fits.{ExprFits, BindingFits, BindingsFit, IsVariable}
 use Rattle.tp_eval.specs.Reached.{Reached, reaches, stops, waits, faults, passes, Evaluation, with_reached}
 use Rattle.tp_eval.specs.Evaluate.{PlaceFound, at_path, inside, bound_place, index_in, farther, evaluate, find_place, depth_limit}
@@ -43,23 +43,11 @@ module _ (facts : List Fact) (defs : List Definition) (kinds all : List Bool) (a
   farther_fit (inside t at) k calls h = tt
 
   place_fit : (d : ℕ) (e : ExprTree) (env : List BindingTree) (calls : ℕ) → ExprFits defs kinds e (length env) → BindingsFit all env → IsFit (find_place facts defs d e env calls)
-  place_fit zero e env calls h b = tt
   place_fit (suc d) (bound i) env calls h b = bound_fit env i calls b
   place_fit (suc d) (global x) env calls h b = (among x h, omega arith)
   place_fit (suc d) (index e i) env calls h b = after_place (find_place facts defs d e env calls) _ (place_fit d e env calls h.0 b) (λ p c u.
       after (evaluate facts defs d i env c) _ (λ t c'. after (index_in t c') _ (λ k c''. farther_fit p k c'' u)))
-  place_fit (suc d) (numeral n) env calls h b = tt
-  place_fit (suc d) (boolean x) env calls h b = tt
-  place_fit (suc d) (known t) env calls h b = tt
-  place_fit (suc d) (listing es) env calls h b = tt
-  place_fit (suc d) (size e) env calls h b = tt
-  place_fit (suc d) (minus e) env calls h b = tt
-  place_fit (suc d) (negation e) env calls h b = tt
-  place_fit (suc d) (both es) env calls h b = tt
-  place_fit (suc d) (either x y) env calls h b = tt
-  place_fit (suc d) (binary o x y) env calls h b = tt
-  place_fit (suc d) (choice c x y) env calls h b = tt
-  place_fit (suc d) (invoke p es) env calls h b = tt
+  place_fit n e env calls h b = tt
 
   abbrev pub PathFits : PlaceOutcome → Type 0
   PathFits (found.path p) = BindingFits all (place_binding p)

@@ -6,15 +6,17 @@ use Rattle.tp_meaning.specs.Fits.{DefinitionsFit, IsVariable}
 use Rattle.tp_value.specs.declared.path.Fact.{Fact}
 use Rattle.tp_value.specs.declared.path.VarId.{VarId}
 use Rattle.tp_store.specs.Known.{Variable}
-use Rattle.tp_scene.specs.Scene.{Side, Ending, Going, Head, marked, Do, Later, Shown, Holder, Split, SplitProject, Closed, Opened, Running, Entries, none, leaf, node, new_head, second_lives, has, has_here, sinks, risen, Place, held_place, second_place}
+use Rattle.tp_scene.specs.Scene.{Side, Ending, Going, Head, marked, Do, Holder, Split, SplitProject, Closed, Opened, Running, Entries, none, leaf, node, new_head, second_lives, has, has_here, sinks, risen, Place, held_place, second_place}
 use Rattle.tp_scene.specs.Step.{Reduction, PickOutcome, reduces, Numbers, leaf_step, holder_step}
 use Rattle.tp_scene.specs.Pick.{Setting, pick, mark_at, put}
 use Rattle.tp_scene.specs.Fits.{kinds_in, IsCalm, Dormant, HolderFits, EntriesFit}
 use Rattle.tp_scene.proofs.Frame.{region}
 use Rattle.tp_scene.proofs.Keep.{live_fits}
 use Rattle.tp_scene.proofs.Risen.{StatusKept, status_put, status_marked, pick_here, pick_second, pick_first, pick_later}
-use Rattle.tp_scene.proofs.NewsFit.{entries_calm, entries_depth, MarkIn, LocalIn, IsMore, FitsAs, leaf_fits}
-use Rattle.tp_scene.proofs.Grown.{other_side, Covers, not_both, Grown, grown_calm, grown_held, grown_second, covers_rest, covers_first, covers_second, held_covered, second_covered, same_held, same_second, leaf_grown, holder_grown, fits_grown}
+use Rattle.tp_scene.proofs.FitsTold.{LocalIn}
+use Rattle.tp_scene.proofs.NewsFit.{entries_calm, entries_depth, MarkIn, IsMore, FitsAs, leaf_fits}
+use Rattle.tp_scene.proofs.Told.{other_side}
+use Rattle.tp_scene.proofs.Grown.{Covers, not_both, Grown, grown_calm, grown_held, grown_second, covers_rest, covers_first, covers_second, held_covered, second_covered, same_held, same_second, leaf_grown, holder_grown, fits_grown}
 use Rattle.tp_scene.proofs.PutStatus.{side_of_mark, mark_at_other, mark_at_set, dormant_head, dormant_risen, or_false, marked_apart, put_rises}
 
 no_side_new : (x : Side) (b : Bool) (n : ℕ) → (b || (false || (marked x (new_head n) || false))) ≡ true → b ≡ true
@@ -31,8 +33,6 @@ module _ (defs : List Definition) (kinds : List Bool) (variables : List Variable
   awaken : (h : Head) (es : Entries) (p p' : Place) → Dormant h es → EntriesFit defs kinds variables es p → p'.depth ≡ p.depth → IsCalm p' → EntriesFit defs kinds variables es p'
   awaken h none p p' d fit e calm = (calm, (let l = fit.1 in omega (arith, e, l)))
   awaken h (leaf id (Do f env) rest) p p' d fit e calm = (fit.0, awaken h rest p p' d fit.1 e calm)
-  awaken h (leaf id (Later f env) rest) p p' d fit e calm = elim d [ ]
-  awaken h (leaf id (Shown vs) rest) p p' d fit e calm = elim d [ ]
   awaken h (node id (Split f env) i held g second rest) p p' d fit e calm = (
     fit.0,
     awaken i held _ (held_place (Split f env) i held p') d.0 fit.1 (ap (λ j. j + 1) e)
@@ -45,9 +45,7 @@ module _ (defs : List Definition) (kinds : List Bool) (variables : List Variable
         (λ u v. false≢true (dormant_is (sinks (SplitProject f env) Going && p'.is Going) (marked Going i) (risen Going held) (dormant_head i held d.0 Going) (dormant_risen i held d.0 Going) v)),
     awaken h rest p p' d.2 fit.2 e calm,
   )
-  awaken h (node id Closed i held g second rest) p p' d fit e calm = elim d [ ]
-  awaken h (node id (Opened f env) i held g second rest) p p' d fit e calm = elim d [ ]
-  awaken h (node id (Running f env) i held g second rest) p p' d fit e calm = elim d [ ]
+  awaken h es p p' d fit e calm = elim d [ ]
 
   -- a region that ends fits when it is closed
   closed_fits : (h : Head) (held : Entries) (q p' : Place) → q.depth ≡ p'.depth + 1 → q.is Ending ≡ true → Covers q held → ((x : Side) → marked x h ≡ true → q.is x ≡ true) → EntriesFit defs kinds variables held q
@@ -99,7 +97,6 @@ module _ (w : Setting) (facts : List Fact) (kinds : List Bool) (definitions : De
             r,
           ),
         )) (λ _. tt))
-    held_fits Closed id rest cov hf fit = tt
     held_fits (Opened f env) id rest0 cov hf fit =
         let q = held_place (Opened f env) h held p in
         let calm = entries_calm defs kinds variables held q fit in
@@ -122,7 +119,7 @@ module _ (w : Setting) (facts : List Fact) (kinds : List Bool) (definitions : De
           r,
         ))
         (λ _. cond_both (q.is Ending) _ _ (λ o. As o p') (λ _. tt) (λ _. tt))
-    held_fits (Running f env) id rest cov hf fit = tt
+    held_fits k id rest cov hf fit = tt
 
   -- a dormant region has no status of its own
   dormant_on : (g : Head) (second : Entries) (p p' : Place) → IsMore p p' → Dormant g second × EntriesFit defs kinds variables second (record { region = g.number; depth = p.depth + 1; is = λ z. false })
@@ -131,11 +128,8 @@ module _ (w : Setting) (facts : List Fact) (kinds : List Bool) (definitions : De
 
   -- a live second region in place of another
   live_holder : (k : Holder) → second_lives k ≡ true → (held : Entries) (q q' : Place) (X X' Y Y' : Type 0) → HolderFits defs kinds variables k held q X Y → Y' → HolderFits defs kinds variables k held q' X' Y'
-  live_holder (Split f env) e held q q' X X' Y Y' h u = absurd (false≢true e)
-  live_holder (SplitProject f env) e held q q' X X' Y Y' h u = absurd (false≢true e)
-  live_holder Closed e held q q' X X' Y Y' h u = absurd (false≢true e)
-  live_holder (Opened f env) e held q q' X X' Y Y' h u = absurd (false≢true e)
   live_holder (Running f env) e held q q' X X' Y Y' h u = (h.0, u)
+  live_holder k e held q q' X X' Y Y' h u = absurd (false≢true e)
 
   module _ (t : ℕ) (r : Reduction) (local : LocalIn r.local variables n.local) where
     abbrev z : Side

@@ -2,10 +2,10 @@
 use Rattle.std.proofs.Common.{◌≡◌, ◌⊎◌, ℕ, suc, Bool, true, false, ◌||◌, ◌&&◌, eqb, List, [], Some, None, refl, ap, sym, ◌∙◌, subst, inl, inr}
 use Rattle.std.specs.Prelude.{IsTrue}
 use Rattle.std.proofs.lemmas.Bool.{cond_both, cases_Bool, or_cases, or_left, or_right, and_parts, and_from, false≢true, cond-true, cond-false}
-use Rattle.tp_meaning.specs.Syntax.{Definition, trivial, test, equation, next_equation, empty, more, next, weak_next, if_more, if_empty, always, conjunction, branch, len, assign, chop, while, for_from, forall_from, project, exists, call, input, display}
+use Rattle.tp_meaning.specs.Syntax.{Definition, more}
 use Rattle.tp_value.specs.declared.path.Fact.{Fact}
 use Rattle.tp_store.specs.Known.{Variable}
-use Rattle.tp_scene.specs.Scene.{Bindings, Side, Ending, Going, Head, marked, Leaf, Do, Later, Shown, Holder, Split, SplitProject, Closed, Opened, Running, Entries, none, leaf, node, new_head, no_region, second_lives, has, has_here, append, sinks, forced, risen, Place, held_place, second_place}
+use Rattle.tp_scene.specs.Scene.{Bindings, Side, Ending, Going, Head, marked, Leaf, Do, Holder, Split, SplitProject, Closed, Opened, Running, Entries, none, leaf, node, new_head, no_region, second_lives, has, has_here, append, sinks, forced, risen, Place, held_place, second_place}
 use Rattle.tp_scene.specs.Step.{Reduction, PickOutcome, reduces, waits, rests, clashes, misses, passes, Numbers, leaf_step, holder_step}
 use Rattle.tp_scene.specs.declared.answer.Clash.TheVariants.{Marks}
 use Rattle.tp_scene.specs.Pick.{Setting, pick, mark_at, put}
@@ -31,60 +31,12 @@ second_up : (h h' : Head) (held held' : Entries) (p p' : Place) → Up p p' → 
 second_up h h' held held' p p' up on x e = elim (or_cases (p.is x) _ e) [ inl u ↦ or_left (p'.is x) _ (up x u) | inr u ↦ or_right (p'.is x) _ (on x u) ]
 
 more_later : (id : ℕ) (l : Leaf) (rest : Entries) → HasMore rest → HasMore (leaf id l rest)
-more_later id (Do trivial env) rest h = h
-more_later id (Do (test e) env) rest h = h
-more_later id (Do (equation l r) env) rest h = h
-more_later id (Do (next_equation k t e) env) rest h = h
-more_later id (Do empty env) rest h = h
-more_later id (Do (next f) env) rest h = h
-more_later id (Do (weak_next f) env) rest h = h
-more_later id (Do (if_more f) env) rest h = h
-more_later id (Do (if_empty f) env) rest h = h
-more_later id (Do (always f) env) rest h = h
-more_later id (Do (conjunction fs) env) rest h = h
-more_later id (Do (branch e f g) env) rest h = h
-more_later id (Do (len e) env) rest h = h
-more_later id (Do (assign t e) env) rest h = h
-more_later id (Do (chop f g) env) rest h = h
-more_later id (Do (while e f) env) rest h = h
-more_later id (Do (for_from name k e f) env) rest h = h
-more_later id (Do (forall_from name k e f) env) rest h = h
-more_later id (Do (project f g) env) rest h = h
-more_later id (Do (exists name lasting f) env) rest h = h
-more_later id (Do (call i es) env) rest h = h
-more_later id (Do (input e port) env) rest h = h
-more_later id (Do (display es) env) rest h = h
 more_later id (Do more env) rest h = tt
-more_later id (Later f env) rest h = h
-more_later id (Shown vs) rest h = h
+more_later id l rest h = h
 
 more_first : (id : ℕ) (l : Leaf) (rest : Entries) → HasMore (leaf id l rest) → ((env : Bindings) × (l ≡ Do more env)) ⊎ HasMore rest
-more_first id (Do trivial env) rest h = inr h
-more_first id (Do (test e) env) rest h = inr h
-more_first id (Do (equation l r) env) rest h = inr h
-more_first id (Do (next_equation k t e) env) rest h = inr h
-more_first id (Do empty env) rest h = inr h
-more_first id (Do (next f) env) rest h = inr h
-more_first id (Do (weak_next f) env) rest h = inr h
-more_first id (Do (if_more f) env) rest h = inr h
-more_first id (Do (if_empty f) env) rest h = inr h
-more_first id (Do (always f) env) rest h = inr h
-more_first id (Do (conjunction fs) env) rest h = inr h
-more_first id (Do (branch e f g) env) rest h = inr h
-more_first id (Do (len e) env) rest h = inr h
-more_first id (Do (assign t e) env) rest h = inr h
-more_first id (Do (chop f g) env) rest h = inr h
-more_first id (Do (while e f) env) rest h = inr h
-more_first id (Do (for_from name k e f) env) rest h = inr h
-more_first id (Do (forall_from name k e f) env) rest h = inr h
-more_first id (Do (project f g) env) rest h = inr h
-more_first id (Do (exists name lasting f) env) rest h = inr h
-more_first id (Do (call i es) env) rest h = inr h
-more_first id (Do (input e port) env) rest h = inr h
-more_first id (Do (display es) env) rest h = inr h
 more_first id (Do more env) rest h = inl (env, refl)
-more_first id (Later f env) rest h = inr h
-more_first id (Shown vs) rest h = inr h
+more_first id l rest h = inr h
 
 more_append : (news rest : Entries) → HasMore rest → HasMore (append news rest)
 more_append none rest h = h
@@ -97,32 +49,20 @@ module _ (id : ℕ) (h : Head) (held : Entries) (g : Head) (second rest : Entrie
   GoesOn k = IsTrue ((held_place k h held p).is Going) ⊎ HasMore held
 
   inners_held : (k : Holder) → InnersGo (node id k h held g second rest) p → InnersGo held (held_place k h held p)
-  inners_held (Split f env) i = i.0
-  inners_held (SplitProject f env) i = i.0
-  inners_held Closed i = i.0
-  inners_held (Opened f env) i = i.0
   inners_held (Running f env) i = i.2
+  inners_held k i = i.0
 
   inners_rest : (k : Holder) → InnersGo (node id k h held g second rest) p → InnersGo rest p
-  inners_rest (Split f env) i = i.1
-  inners_rest (SplitProject f env) i = i.1
-  inners_rest Closed i = i.1
-  inners_rest (Opened f env) i = i.1
   inners_rest (Running f env) i = i.3
+  inners_rest k i = i.1
 
   inners_second : (k : Holder) → second_lives k ≡ true → InnersGo (node id k h held g second rest) p → GoesOn k × InnersGo second (second_place g second p)
-  inners_second (Split f env) e i = absurd (false≢true e)
-  inners_second (SplitProject f env) e i = absurd (false≢true e)
-  inners_second Closed e i = absurd (false≢true e)
-  inners_second (Opened f env) e i = absurd (false≢true e)
   inners_second (Running f env) e i = (i.0, i.1)
+  inners_second k e i = absurd (false≢true e)
 
   inners_make : (k : Holder) → (second_lives k ≡ true → GoesOn k × InnersGo second (second_place g second p)) → InnersGo held (held_place k h held p) → InnersGo rest p → InnersGo (node id k h held g second rest) p
-  inners_make (Split f env) live i r = (i, r)
-  inners_make (SplitProject f env) live i r = (i, r)
-  inners_make Closed live i r = (i, r)
-  inners_make (Opened f env) live i r = (i, r)
   inners_make (Running f env) live i r = let l = live refl in (l.0, l.1, i, r)
+  inners_make k live i r = (i, r)
 
 inners_up : (es : Entries) (p p' : Place) → Up p p' → InnersGo es p → InnersGo es p'
 inners_up none p p' up i = tt
@@ -139,13 +79,9 @@ inners_up (node id k h held g second rest) p p' up i = inners_make id h held g s
 pub dormant_inners : (h : Head) (es : Entries) (p : Place) → Dormant h es → InnersGo es p
 dormant_inners h none p d = tt
 dormant_inners h (leaf id (Do f env) rest) p d = dormant_inners h rest p d
-dormant_inners h (leaf id (Later f env) rest) p d = elim d [ ]
-dormant_inners h (leaf id (Shown vs) rest) p d = elim d [ ]
 dormant_inners h (node id (Split f env) i held g second rest) p d = (dormant_inners i held _ d.0, dormant_inners h rest p d.1)
 dormant_inners h (node id (SplitProject f env) i held g second rest) p d = (dormant_inners i held _ d.0, dormant_inners h rest p d.2)
-dormant_inners h (node id Closed i held g second rest) p d = elim d [ ]
-dormant_inners h (node id (Opened f env) i held g second rest) p d = elim d [ ]
-dormant_inners h (node id (Running f env) i held g second rest) p d = elim d [ ]
+dormant_inners h es p d = elim d [ ]
 
 leaves_inners : (n : Numbers) (from to : ℕ) (es rest : Entries) (p : Place) → FreshLeaves n from es to → InnersGo rest p → InnersGo (append es rest) p
 leaves_inners n from to none rest p h i = i
@@ -154,10 +90,8 @@ leaves_inners n from to (node id k hd held g second es) rest p h i = elim h [ ]
 
 new_inners : (k : Holder) → IsNewHolder k → (a b : ℕ) (h : Head) (l : Leaf) (rest : Entries) (p : Place) → InnersGo rest p → InnersGo (node a k h (leaf b l none) no_region none rest) p
 new_inners (Split f env) u a b h l rest p i = (tt, i)
-new_inners (SplitProject f env) u a b h l rest p i = elim u [ ]
-new_inners Closed u a b h l rest p i = elim u [ ]
 new_inners (Opened f env) u a b h l rest p i = (tt, i)
-new_inners (Running f env) u a b h l rest p i = elim u [ ]
+new_inners k u a b h l rest p i = elim u [ ]
 
 plain_inners : (q : Place) (n : Numbers) (r : Reduction) → Plain q n r → (rest : Entries) (p : Place) → InnersGo rest p → InnersGo (append r.news rest) p
 plain_inners q n r h rest p i = elim (h.news) [
@@ -191,13 +125,12 @@ module _ (w : Setting) (facts : List Fact) (defs : List Definition) (kinds : Lis
       let q = held_place (SplitProject f env) h held p in
       cond_both (q.is Going) _ _ (λ o. HolderInners o rest p') (λ _. tt) (λ _. cond_both (q.is Ending) _ _ (λ o. HolderInners o rest p')
       (λ e. (inners_up held q (held_place Closed h held p') (closed_up h held q p' (entries_calm defs kinds variables held q fit) e) i.0, (dormant_inners g second _ hf.1.0, r))) (λ _. tt))
-  holder_inners Closed h held g second p p' id rest X Y up hf fit i r = tt
   holder_inners (Opened f env) h held g second p p' id rest X Y up hf fit i r =
       let q = held_place (Opened f env) h held p in
       cond_both (q.is Going) _ _ (λ o. HolderInners o rest p')
       (λ _. (inr (more_later (n.item 0) (Do f env) (leaf (n.item 1) (Do more env) none) tt), inners_up held q (second_place h held p') (λ x e. elim (or_cases (p.is x) _ e) [ inl u ↦ or_left (p'.is x) _ (up x u) | inr u ↦ or_right (p'.is x) _ u ]) i.0, tt, r))
       (λ _. cond_both (q.is Ending) _ _ (λ o. HolderInners o rest p') (λ _. tt) (λ _. tt))
-  holder_inners (Running f env) h held g second p p' id rest X Y up hf fit i r = tt
+  holder_inners k h held g second p p' id rest X Y up hf fit i r = tt
 
   module _ (t : ℕ) (r : Reduction) where
     goes_marked : (p : Place) (env : Bindings) → leaf_step w.defs w.inputs w.state facts (Do more env) p n ≡ reduces r → r.mark ≡ Some Going

@@ -114,11 +114,9 @@ pub marked_number : (t : ℕ) (m : Option Side) (h : Head) (es : Entries) → (m
 marked_number t m h es = cond_both (has_here t es) (mark_head m h) h (λ i. i.number ≡ h.number) (λ _. mark_number m h) (λ _. refl)
 
 second_marked : (x t : ℕ) (m : Option Side) (k : Holder) (g : Head) (es : Entries) → count x (second_number k (mark_at t m g es)) ≡ count x (second_number k g)
-second_marked x t m (Split f env) g es = refl
 second_marked x t m (SplitProject f env) g es = ap (λ (i : ℕ). count x (i ∷ [])) (marked_number t m g es)
-second_marked x t m Closed g es = refl
-second_marked x t m (Opened f env) g es = refl
 second_marked x t m (Running f env) g es = ap (λ (i : ℕ). count x (i ∷ [])) (marked_number t m g es)
+second_marked x t m k g es = refl
 
 -- New items take the numbers from `i` on, and new regions those from `j` on.
 module _ (w : Setting) (facts : List Fact) (n : Numbers) (i j : ℕ) (item_is : (k : ℕ) → n.item k ≡ k + i) (region_is : n.region ≡ j) (x : ℕ) where
@@ -152,10 +150,8 @@ module _ (w : Setting) (facts : List Fact) (n : Numbers) (i j : ℕ) (item_is : 
 
   new_second : (k : Holder) → IsNewHolder k → (g : Head) → count x (second_number k g) ≡ 0
   new_second (Split f env) h g = count_none x
-  new_second (SplitProject f env) h g = elim h [ ]
-  new_second Closed h g = elim h [ ]
   new_second (Opened f env) h g = count_none x
-  new_second (Running f env) h g = elim h [ ]
+  new_second k h g = elim h [ ]
 
   new_items : (k : Holder) (l : Leaf) (rest : Entries) → items x (node (n.item 1) k (new_head n.region) (leaf (n.item 0) l none) no_region none rest) ≡ between i (i + 2) x + items x rest
   new_items k l rest =
@@ -236,7 +232,6 @@ module _ (w : Setting) (facts : List Fact) (n : Numbers) (i j : ℕ) (item_is : 
       let d' = count_first x g.number [] in
       record { item_count = omega (arith, a, b, c, d, e, s, z); region_count = omega (arith, a', b', c', d', z) })
       (λ _. tt))
-  holder_adds Closed h held g second p id rest = tt
   holder_adds (Opened f env) h held g second p id rest =
       cond_both ((held_place (Opened f env) h held p).is Going) _ _ (λ o. HolderAdds o (node id (Opened f env) h held g second rest) rest)
       (λ _.
@@ -257,7 +252,7 @@ module _ (w : Setting) (facts : List Fact) (n : Numbers) (i j : ℕ) (item_is : 
       let s' = between_one j x in
       record { item_count = omega (arith, a, b, c, c2, d, e, e2, s, z); region_count = omega (arith, a', b', c', d', s', z) })
       (λ _. cond_both ((held_place (Opened f env) h held p).is Ending) _ _ (λ o. HolderAdds o (node id (Opened f env) h held g second rest) rest) (λ _. tt) (λ _. tt))
-  holder_adds (Running f env) h held g second p id rest = tt
+  holder_adds k h held g second p id rest = tt
 
   module _ (t : ℕ) (r : Reduction) where
     put_adds : (es : Entries) (p : Place) → pick w facts t es p n ≡ reduces r → Adds r (put t r.mark r.news es) es

@@ -4,7 +4,7 @@ use Rattle.std.proofs.lemmas.Bool.{cond_both, cases_Bool, or_cases, or_left, or_
 use Rattle.tp_meaning.specs.Syntax.{Definition}
 use Rattle.tp_value.specs.declared.path.Fact.{Fact}
 use Rattle.tp_store.specs.Known.{Variable}
-use Rattle.tp_scene.specs.Scene.{Side, Ending, Going, Head, marked, Leaf, Do, Later, Shown, Holder, Split, SplitProject, Closed, Opened, Running, Entries, none, leaf, node, new_head, no_region, second_lives, has, has_here, append, rises, sinks, forced, risen, Place, held_place, second_place}
+use Rattle.tp_scene.specs.Scene.{Side, Ending, Going, Head, marked, Leaf, Do, Holder, Split, SplitProject, Closed, Opened, Running, Entries, none, leaf, node, new_head, no_region, second_lives, has, has_here, append, rises, sinks, forced, risen, Place, held_place, second_place}
 use Rattle.tp_scene.specs.Step.{Reduction, PickOutcome, reduces, waits, rests, clashes, misses, passes, Numbers, leaf_step, holder_step}
 use Rattle.tp_scene.specs.Pick.{Setting, pick, mark_head, mark_at, put}
 use Rattle.tp_scene.specs.Fits.{IsCalm, Dormant, HolderFits, EntriesFit}
@@ -12,7 +12,8 @@ use Rattle.tp_scene.proofs.Frame.{region}
 use Rattle.tp_scene.proofs.Risen.{pick_here, pick_second, pick_first, pick_later}
 use Rattle.tp_scene.proofs.Keep.{live_fits}
 use Rattle.tp_scene.proofs.NewsFit.{entries_calm}
-use Rattle.tp_scene.proofs.Grown.{other_side, Covers, not_both, rises_sinks, covers_rest, covers_first, covers_second, held_covered, second_covered}
+use Rattle.tp_scene.proofs.Told.{other_side}
+use Rattle.tp_scene.proofs.Grown.{Covers, not_both, rises_sinks, covers_rest, covers_first, covers_second, held_covered, second_covered}
 use Rattle.tp_scene.proofs.Plain.{FreshLeaves, IsNewHolder, Plain, IsPlain, leaf_plain}
 
 -- the side of a mark, where there is one
@@ -38,10 +39,9 @@ mark_at_new t m h es = cond_both (has_here t es) (mark_head m h) h (λ x. marked
 
 set_mark : (m : Option Side) (x : Side) (h : Head) → m ≡ Some x → marked x (mark_head m h) ≡ true
 set_mark None x h e = absurd (cc)
-set_mark (Some Ending) Ending h e = refl
-set_mark (Some Going) Going h e = refl
 set_mark (Some Ending) Going h e = absurd (let q : Ending ≡ Going = cc in cc)
 set_mark (Some Going) Ending h e = absurd (let q : Going ≡ Ending = cc in cc)
+set_mark m z h e = refl
 
 pub mark_at_set : (t : ℕ) (m : Option Side) (x : Side) (h : Head) (es : Entries) → has_here t es ≡ true → m ≡ Some x → marked x (mark_at t m h es) ≡ true
 mark_at_set t m x h es i e = subst (λ (y : Head). marked x y ≡ true) (sym (cond-true (has_here t es) (mark_head m h) h i)) (set_mark m x h e)
@@ -61,13 +61,11 @@ new_rise (Split f env) h i id l m rest x e = elim (or_cases (rises (Split f env)
   | inl u ↦ absurd (both_ways (marked x (new_head m)) (no_mark x m) (elim (or_cases (marked x (new_head m)) false (and_parts (rises (Split f env) x) _ u).1) [ inl v ↦ v | inr v ↦ absurd (false≢true v) ]))
   | inr u ↦ u
 ]
-new_rise (SplitProject f env) h i id l m rest x e = elim h [ ]
-new_rise Closed h i id l m rest x e = elim h [ ]
 new_rise (Opened f env) h i id l m rest x e = elim (or_cases (marked x (new_head m) || false) _ e) [
   | inl u ↦ absurd (both_ways (marked x (new_head m)) (no_mark x m) (elim (or_cases (marked x (new_head m)) false u) [ inl v ↦ v | inr v ↦ absurd (false≢true v) ]))
   | inr u ↦ u
 ]
-new_rise (Running f env) h i id l m rest x e = elim h [ ]
+new_rise k h i id l m rest x e = elim h [ ]
 
 pub plain_rise : (p : Place) (n : Numbers) (r : Reduction) → Plain p n r → (rest : Entries) (x : Side) → risen x (append r.news rest) ≡ true → risen x rest ≡ true
 plain_rise p n r h rest x e = elim (h.news) [
@@ -80,13 +78,9 @@ pub dormant_head : (h : Head) (es : Entries) → Dormant h es → (x : Side) →
 dormant_head h none d Ending = d.0
 dormant_head h none d Going = d.1
 dormant_head h (leaf id (Do f env) rest) d x = dormant_head h rest d x
-dormant_head h (leaf id (Later f env) rest) d x = elim d [ ]
-dormant_head h (leaf id (Shown vs) rest) d x = elim d [ ]
 dormant_head h (node id (Split f env) i held g second rest) d x = dormant_head h rest d.1 x
 dormant_head h (node id (SplitProject f env) i held g second rest) d x = dormant_head h rest d.2 x
-dormant_head h (node id Closed i held g second rest) d x = elim d [ ]
-dormant_head h (node id (Opened f env) i held g second rest) d x = elim d [ ]
-dormant_head h (node id (Running f env) i held g second rest) d x = elim d [ ]
+dormant_head h es d x = elim d [ ]
 
 pub or_false : (a b : Bool) → a ≡ false → b ≡ false → (a || b) ≡ false
 or_false true b e f = e
@@ -99,27 +93,16 @@ and_false false b e = refl
 pub dormant_risen : (h : Head) (es : Entries) → Dormant h es → (x : Side) → risen x es ≡ false
 dormant_risen h none d x = refl
 dormant_risen h (leaf id (Do f env) rest) d x = dormant_risen h rest d x
-dormant_risen h (leaf id (Later f env) rest) d x = elim d [ ]
-dormant_risen h (leaf id (Shown vs) rest) d x = elim d [ ]
 dormant_risen h (node id (Split f env) i held g second rest) d x =
     or_false _ _ (and_false (rises (Split f env) x) _ (or_false (marked x i) _ (dormant_head i held d.0 x) (dormant_risen i held d.0 x))) (dormant_risen h rest d.1 x)
 dormant_risen h (node id (SplitProject f env) i held g second rest) d x =
     or_false _ _ (and_false (rises (SplitProject f env) x) _ (or_false (marked x i) _ (dormant_head i held d.0 x) (dormant_risen i held d.0 x))) (dormant_risen h rest d.2 x)
-dormant_risen h (node id Closed i held g second rest) d x = elim d [ ]
-dormant_risen h (node id (Opened f env) i held g second rest) d x = elim d [ ]
-dormant_risen h (node id (Running f env) i held g second rest) d x = elim d [ ]
+dormant_risen h es d x = elim d [ ]
 
 forced_rises : (k : Holder) (x : Side) → forced k x ≡ true → rises k x ≡ true → ⊥
-forced_rises (Split f env) Ending e u = false≢true e
-forced_rises (Split f env) Going e u = false≢true e
-forced_rises (SplitProject f env) Ending e u = false≢true e
-forced_rises (SplitProject f env) Going e u = false≢true e
 forced_rises Closed Ending e u = false≢true u
 forced_rises Closed Going e u = false≢true u
-forced_rises (Opened f env) Ending e u = false≢true e
-forced_rises (Opened f env) Going e u = false≢true e
-forced_rises (Running f env) Ending e u = false≢true e
-forced_rises (Running f env) Going e u = false≢true e
+forced_rises k z e u = false≢true e
 
 -- What rises from what a holder becomes rose from it; and it sets no mark.
 module _ (w : Setting) (facts : List Fact) (defs : List Definition) (kinds : List Bool) (variables : List Variable) where
@@ -148,7 +131,6 @@ module _ (w : Setting) (facts : List Fact) (defs : List Definition) (kinds : Lis
         ]),
         refl,
       )) (λ _. tt))
-  holder_rises Closed h held g second p n id rest q X Y fit = tt
   holder_rises (Opened f env) h held g second p n id rest q X Y fit =
       cond_both ((held_place (Opened f env) h held p).is Going) _ _ (λ o. HolderRises o (node id (Opened f env) h held g second rest) rest)
       (λ _. (
@@ -159,7 +141,7 @@ module _ (w : Setting) (facts : List Fact) (defs : List Definition) (kinds : Lis
         refl,
       ))
       (λ _. cond_both ((held_place (Opened f env) h held p).is Ending) _ _ (λ o. HolderRises o (node id (Opened f env) h held g second rest) rest) (λ _. tt) (λ _. tt))
-  holder_rises (Running f env) h held g second p n id rest q X Y fit = tt
+  holder_rises k h held g second p n id rest q X Y fit = tt
 
   -- Said of picking the item t.
   module _ (t : ℕ) (n : Numbers) (r : Reduction) where

@@ -1,9 +1,9 @@
 -- Replacing an item keeps a status that rises, and where picking leads.
 use Rattle.std.proofs.Common.{◌≡◌, ℕ, Bool, true, false, ◌||◌, ◌&&◌, eqb, List, refl, inl, inr}
-use Rattle.std.specs.Prelude.{Option, Some, None}
+use Rattle.std.specs.Prelude.{Option, Some}
 use Rattle.std.proofs.lemmas.Bool.{cond_both, cases_Bool, or_cases, or_left, or_right, both_ways, and_parts, and_from, cond-true, cond-false}
 use Rattle.tp_value.specs.declared.path.Fact.{Fact}
-use Rattle.tp_scene.specs.Scene.{Side, Ending, Going, Head, marked, Leaf, Holder, Split, SplitProject, Closed, Opened, Running, Entries, none, leaf, node, second_lives, has, has_here, append, new_head, rises, risen, Place, held_place, second_place}
+use Rattle.tp_scene.specs.Scene.{Side, Ending, Going, Head, marked, Leaf, Holder, Split, SplitProject, Opened, Running, Entries, none, leaf, node, second_lives, has, has_here, append, new_head, rises, risen, Place, held_place, second_place}
 use Rattle.tp_scene.specs.Step.{PickOutcome, reduces, waits, rests, clashes, misses, passes, Numbers, leaf_step, holder_step}
 use Rattle.tp_scene.specs.Pick.{Setting, pick, mark_head, mark_at, put}
 use Rattle.tp_scene.proofs.Frame.{region}
@@ -33,27 +33,15 @@ PutHere (passes k) es rest = Unit {0}
 
 leaf_kept : (id : ℕ) (l : Leaf) (rest : Entries) (o : PickOutcome) → PutHere o (leaf id l rest) rest
 leaf_kept id l rest (reduces r) = λ z g. risen_append z r.news rest g
-leaf_kept id l rest (waits first other) = tt
-leaf_kept id l rest rests = tt
-leaf_kept id l rest (clashes c) = tt
-leaf_kept id l rest (misses port) = tt
-leaf_kept id l rest (passes k) = tt
+leaf_kept id l rest o = tt
 
 here_leaf : (t id : ℕ) (l : Leaf) (rest : Entries) (o : PickOutcome) → eqb id t ≡ true → PutHere o (leaf id l rest) rest → StatusKept t o (leaf id l rest)
 here_leaf t id l rest (reduces r) e q = rw e q
-here_leaf t id l rest (waits first other) e q = tt
-here_leaf t id l rest rests e q = tt
-here_leaf t id l rest (clashes c) e q = tt
-here_leaf t id l rest (misses port) e q = tt
-here_leaf t id l rest (passes k) e q = tt
+here_leaf t id l rest o e q = tt
 
 later_leaf : (t id : ℕ) (l : Leaf) (rest : Entries) (o : PickOutcome) → eqb id t ≡ false → StatusKept t o rest → StatusKept t o (leaf id l rest)
 later_leaf t id l rest (reduces r) e q = rw e q
-later_leaf t id l rest (waits first other) e q = tt
-later_leaf t id l rest rests e q = tt
-later_leaf t id l rest (clashes c) e q = tt
-later_leaf t id l rest (misses port) e q = tt
-later_leaf t id l rest (passes k) e q = tt
+later_leaf t id l rest o e q = tt
 
 -- a left region that doesn't go makes nothing so
 not_risen : (k : Side → Bool) (z : Side) (h : Head) (held : Entries) (r : Bool) → (k Ending ≡ false) → (h.goes || risen Going held) ≡ false → ((k z && (marked z h || risen z held)) || r) ≡ true → r ≡ true
@@ -80,21 +68,16 @@ module _ (w : Setting) (facts : List Fact) where
       (λ e. cond_both ((held_place (SplitProject f env) h held p).is Ending) _ _ (λ o. PutHere o (node id (SplitProject f env) h held g second rest) rest)
       (λ _ z x. or_right (marked z g || risen z second) (risen z rest) (not_risen (rises (SplitProject f env)) z h held (risen z rest) refl e x))
       (λ _. tt))
-  holder_kept Closed h held g second p n id rest = tt
   holder_kept (Opened f env) h held g second p n id rest =
       cond_both ((held_place (Opened f env) h held p).is Going) _ _ (λ o. PutHere o (node id (Opened f env) h held g second rest) rest)
       (λ _ z x. or_right (rises (Running f env) z && (marked z (new_head n.region) || risen z none)) _ x)
       (λ e. cond_both ((held_place (Opened f env) h held p).is Ending) _ _ (λ o. PutHere o (node id (Opened f env) h held g second rest) rest) (λ _. tt) (λ _. tt))
-  holder_kept (Running f env) h held g second p n id rest = tt
+  holder_kept k h held g second p n id rest = tt
 
   module _ (t id : ℕ) (k : Holder) (h : Head) (held : Entries) (g : Head) (second rest : Entries) where
     here_node : (o : PickOutcome) → eqb id t ≡ true → PutHere o (node id k h held g second rest) rest → StatusKept t o (node id k h held g second rest)
     here_node (reduces r) e q = rw e q
-    here_node (waits first other) e q = tt
-    here_node rests e q = tt
-    here_node (clashes c) e q = tt
-    here_node (misses port) e q = tt
-    here_node (passes k) e q = tt
+    here_node o e q = tt
 
     later_node : (o : PickOutcome) → eqb id t ≡ false → (second_lives k && has t second) ≡ false → has t held ≡ false → StatusKept t o rest → StatusKept t o (node id k h held g second rest)
     later_node (reduces r) e l d q = rw (e, l, d) (λ z x.
@@ -105,18 +88,12 @@ module _ (w : Setting) (facts : List Fact) where
             | inr u ↦ or_right (second_lives k && (marked z g || risen z second)) _ (q z u)
           ])
         ])
-    later_node (waits first other) e l d q = tt
-    later_node rests e l d q = tt
-    later_node (clashes c) e l d q = tt
-    later_node (misses port) e l d q = tt
-    later_node (passes k) e l d q = tt
+    later_node o e l d q = tt
 
     mark_keeps : (z : Side) (m : Option Side) (h : Head) → marked z h ≡ true → marked z (mark_head m h) ≡ true
-    mark_keeps z None h e = e
     mark_keeps Ending (Some Ending) h e = refl
-    mark_keeps Ending (Some Going) h e = e
-    mark_keeps Going (Some Ending) h e = e
     mark_keeps Going (Some Going) h e = refl
+    mark_keeps z m h e = e
 
     pub status_marked : (z : Side) (m : Option Side) (h : Head) (es fs : Entries) → (risen z es ≡ true → risen z fs ≡ true) → (marked z h || risen z es) ≡ true → (marked z (mark_at t m h es) || risen z fs) ≡ true
     status_marked z m h es fs k e = elim (or_cases (marked z h) (risen z es) e) [
@@ -131,11 +108,7 @@ module _ (w : Setting) (facts : List Fact) where
               or_left (rises k z && (marked z (mark_at t r.mark h held) || risen z (put t r.mark r.news held))) _ (and_from (rises k z) _ u.0 (status_marked z r.mark h held (put t r.mark r.news held) (q z) u.1)))
           | inr y ↦ or_right (rises k z && (marked z (mark_at t r.mark h held) || risen z (put t r.mark r.news held))) _ y
         ])
-    first_node (waits first other) e l d q = tt
-    first_node rests e l d q = tt
-    first_node (clashes c) e l d q = tt
-    first_node (misses port) e l d q = tt
-    first_node (passes k) e l d q = tt
+    first_node o e l d q = tt
 
     second_node : (o : PickOutcome) → eqb id t ≡ false → (second_lives k && has t second) ≡ true → StatusKept t o second → StatusKept t o (node id k h held g second rest)
     second_node (reduces r) e l q = rw (e, l) (λ z x.
@@ -147,11 +120,7 @@ module _ (w : Setting) (facts : List Fact) where
             | inr u ↦ or_right (second_lives k && (marked z (mark_at t r.mark g second) || risen z (put t r.mark r.news second))) _ u
           ])
         ])
-    second_node (waits first other) e l q = tt
-    second_node rests e l q = tt
-    second_node (clashes c) e l q = tt
-    second_node (misses port) e l q = tt
-    second_node (passes k) e l q = tt
+    second_node o e l q = tt
 
     -- where picking leads
     module _ (p : Place) (n : Numbers) where

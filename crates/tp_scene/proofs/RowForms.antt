@@ -17,7 +17,7 @@ use Rattle.tp_scene.specs.Scene.{Bindings, Side, Ending, Going, Leaf, Do, new_he
 use Rattle.tp_scene.specs.Says.{IsSo, MarksHold, Claim, FormulaSays, LeafSays, Says}
 use Rattle.tp_scene.proofs.Carry.{update_self}
 use Rattle.tp_scene.proofs.Frame.{Known, MarkSo, Never, Keeps}
-use Rattle.tp_scene.specs.Step.{PickOutcome, reduces, waits, rests, clashes, misses, passes, becomes, vanishes, marking, with_region, region_limit, by_status, with_value, with_truth, with_number}
+use Rattle.tp_scene.specs.Step.{PickOutcome, reduces, clashes, misses, becomes, vanishes, marking, with_region, region_limit, by_status, with_value, with_truth, with_number}
 
 -- the state at a position agrees with these facts
 abbrev pub Agrees : (globals : ℕ) → List Fact → Locals → Course → ℕ → Type 0
@@ -109,9 +109,8 @@ module _ (w : Context) (globals : ℕ) (facts : List Fact) (n e : ℕ) where
 
     pub with_value_row : (o : found.Outcome) (f : Tree → PickOutcome) → ((k : FaultKind) → o ≡ found.fault k → No Old s a b) → ((t : Tree) → o ≡ found.value t → Row (f t) Old s a b) → Row (with_value o f) Old s a b
     with_value_row (found.value t) f never h = h t refl
-    with_value_row (found.wait p) f never h = tt
     with_value_row (found.fault k) f never h = never k refl
-    with_value_row (found.over k) f never h = tt
+    with_value_row o f never h = tt
 
     abbrev pub IsNoTruth : Tree → Type 0
     IsNoTruth t = (c : Bool) → truth c ≡ t → ⊥
@@ -121,9 +120,8 @@ module _ (w : Context) (globals : ℕ) (facts : List Fact) (n e : ℕ) where
     with_truth_row (found.value (truth c)) f never other h = h c refl
     with_truth_row (found.value (num k)) f never other h = other (num k) refl (λ c q. absurd (cc))
     with_truth_row (found.value (list ts)) f never other h = other (list ts) refl (λ c q. absurd (cc))
-    with_truth_row (found.wait p) f never other h = tt
     with_truth_row (found.fault k) f never other h = never k refl
-    with_truth_row (found.over k) f never other h = tt
+    with_truth_row o f never other h = tt
 
     abbrev pub IsNoNumber : Tree → Type 0
     IsNoNumber t = (m : ℤ) → num m ≡ t → ⊥
@@ -133,9 +131,8 @@ module _ (w : Context) (globals : ℕ) (facts : List Fact) (n e : ℕ) where
     with_number_row (found.value (num m)) f never other h = h m refl
     with_number_row (found.value (truth c)) f never other h = other (truth c) refl (λ m q. absurd (cc))
     with_number_row (found.value (list ts)) f never other h = other (list ts) refl (λ m q. absurd (cc))
-    with_number_row (found.wait p) f never other h = tt
     with_number_row (found.fault k) f never other h = never k refl
-    with_number_row (found.over k) f never other h = tt
+    with_number_row o f never other h = tt
 
   -- the same of what says the same
   pub row_as : (o : PickOutcome) (Old Old' : Claim) (s : Course) (a b : ℕ)
@@ -143,8 +140,6 @@ module _ (w : Context) (globals : ℕ) (facts : List Fact) (n e : ℕ) where
       → ((d : ℕ) (σ : Locals) (S : Shows) → Agrees globals facts σ s a → Old d σ s a b S → Old' d σ s a b S)
       → Row o Old s a b → Row o Old' s a b
   row_as (reduces r) Old Old' s a b to from h = ((λ d σ S ag x. h.0 d σ S ag (to d σ S ag x)), (λ d σ S ag l agf m x. from (e + d) σ S ag (h.1 d σ S ag l agf m x)))
-  row_as (waits first other) Old Old' s a b to from h = tt
-  row_as rests Old Old' s a b to from h = tt
   row_as (clashes c) Old Old' s a b to from h = λ d σ S ag x. h d σ S ag (to d σ S ag x)
   row_as (misses port) Old Old' s a b to from h = λ d σ S ag x. h d σ S ag (to d σ S ag x)
-  row_as (passes k) Old Old' s a b to from h = tt
+  row_as o Old Old' s a b to from h = tt

@@ -3,7 +3,7 @@ use Rattle.std.proofs.Common.{ℕ, ◌≤◌, Bool, List, length, sym, subst}
 use Rattle.tp_meaning.specs.Syntax.{FormulaTree, trivial, test, equation, next_equation, empty, more, next, weak_next, if_more, if_empty, always, conjunction, branch, len, assign, chop, while, for_from, forall_from, project, exists, call, input, display}
 use Rattle.tp_meaning.specs.Course.{Course}
 use Rattle.tp_store.specs.Known.{Contents}
-use Rattle.tp_scene.specs.Scene.{Bindings, Do, Later, Shown, Place}
+use Rattle.tp_scene.specs.Scene.{Bindings, Do, Place}
 use Rattle.tp_scene.specs.Step.{Numbers}
 use Rattle.tp_scene.specs.Pick.{Setting}
 use Rattle.tp_scene.specs.StandsFor.{context_of}
@@ -62,8 +62,7 @@ module _ (w : Setting) (kinds : List Bool) (store : Contents) (n : Numbers) (e :
 
   pub leaves_keep : LeavesKeep w kinds store n e
   leaves_keep (Do f env) p fits s a b is = formula_row f env fits p s a b is
-  leaves_keep (Later f env) p fits s a b is = tt
-  leaves_keep (Shown vs) p fits s a b is = tt
+  leaves_keep l p fits s a b is = tt
 
   pub holders_keep : HoldersKeep w kinds store n e
   holders_keep k h held g second bk bh bs p s a b is = holder_row (context_of w) w.state (length kinds) store.facts n e k h held g second bk bh bs p s a b is

@@ -157,14 +157,9 @@ picks_see_places w kinds m sound h es x =
     }
 
 deep_through : (p : Place) (es : Entries) (role : Role) (i : Head) (held : Entries) (in_it : HoldsRegion es role i held) → (place_through in_it p).depth ≡ p.depth + 1
-deep_through p _ _ _ _ by_split = refl
-deep_through p _ _ _ _ by_split_project = refl
-deep_through p _ _ _ _ by_closed = refl
-deep_through p _ _ _ _ by_opened = refl
-deep_through p _ _ _ _ by_running = refl
-deep_through p _ _ _ _ by_running_second = refl
 deep_through p _ role i held (past_leaf in_it) = deep_through p _ role i held in_it
 deep_through p _ role i held (past_node in_it) = deep_through p _ role i held in_it
+deep_through p _ _ _ _ x = refl
 
 deep_in : (s : Scene) (h : Head) (es : Entries) (x : LiveRegion s h es) → regions_around x ≡ (computed_place x).depth
 deep_in s _ _ the_root = refl
@@ -193,12 +188,8 @@ module _ (w : Setting) (facts : List Fact) (apart : NoClash facts) (s : Scene) (
   other_named h es x (Some c) u = cell_named h es x c u
 
   answers_named : (Idle : Type 0) (h : Head) (es : Entries) (x : LiveRegion s h es) (o : PickOutcome) → Answers facts apart Idle (computed_place x) o → Named o
-  answers_named Idle h es x (reduces r) u = tt
   answers_named Idle h es x (waits first other) u = (cell_named h es x first u.0, other_named h es x other u.1)
-  answers_named Idle h es x rests u = tt
-  answers_named Idle h es x (clashes c) u = tt
-  answers_named Idle h es x (misses port) u = tt
-  answers_named Idle h es x (passes k) u = tt
+  answers_named Idle h es x o u = tt
 
   pub pick_named : (left : Entries) (h : Head) (es : Entries) (x : LiveRegion s h es) → IsTail left es → Named (pick w facts t left (computed_place x) n)
   pick_named none h es x tail = tt

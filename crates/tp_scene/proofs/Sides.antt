@@ -1,7 +1,7 @@
 -- The rule of an equation keeps what it says, from what its sides mean.
-use Rattle.std.proofs.Common.{◌≡◌, ◌↔◌, pos, negsuc, ℕ, ◌+◌, nat_lt, Bool, ◌&&◌, not, List, [], ◌∷◌, Option, Some, None, refl, sym, subst}
+use Rattle.std.proofs.Common.{◌≡◌, ◌↔◌, pos, ℕ, ◌+◌, nat_lt, Bool, ◌&&◌, not, List, [], ◌∷◌, Option, Some, None, refl, sym, subst}
 use Rattle.std.proofs.lemmas.Bool.{cond_both, both_ways}
-use Rattle.tp_value.specs.Tree.{Tree, num, truth, list, same_tree}
+use Rattle.tp_value.specs.Tree.{Tree, num, same_tree}
 use Rattle.tp_value.specs.Limits.{length_limit}
 use Rattle.tp_value.specs.Shape.{shape_at_path, item_at}
 use Rattle.tp_value.specs.declared.path.Path.{Path}
@@ -85,9 +85,7 @@ module _ (w : Context) (globals : ℕ) (facts : List Fact) (n e : ℕ) (adding :
         (λ _. added_row (fact p (Items k) ∷ [])
         (λ d σ S ag h. let x = there d σ S ag h in let q = x.0.1 in let r = x.0.2 in ((cc, tt), x.1))
         (λ d σ S ag agf h. back d σ S ag (k, refl, agf.0) h))
-    set_row (length_at p) (num (negsuc k)) there back = λ d σ S ag h. let q = (there d σ S ag h).0.1 in absurd (cc)
-    set_row (length_at p) (truth c) there back = λ d σ S ag h. let q = (there d σ S ag h).0.1 in absurd (cc)
-    set_row (length_at p) (list ts) there back = λ d σ S ag h. let q = (there d σ S ag h).0.1 in absurd (cc)
+    set_row (length_at p) t there back = λ d σ S ag h. let q = (there d σ S ag h).0.1 in absurd (cc)
 
     -- the other side has the value v
     pub meets_row : (placed : Bool) (t : Option Target) (o : found.Outcome) (H : Having) → SideMeans globals facts e (record { placed = placed; target = t; found = o }) H s a → (v : Tree)
@@ -101,22 +99,13 @@ module _ (w : Context) (globals : ℕ) (facts : List Fact) (n e : ℕ) (adding :
         (λ y. gone w globals facts n e Old s a b (λ d σ S ag h. (there d σ S ag h).1)
         (λ d σ S ag h. back d σ S ag (subst (λ (t : Tree). H (e + d) σ s a t) ((same_tree_is_equality u v).0 y) (m.value_there u refl d σ ag)) h))
         (λ y d σ S ag h. both_ways (same_tree u v) y ((same_tree_is_equality u v).1 (sym (m.value_only u refl d σ ag v (there d σ S ag h).0))))
-    meets_row placed None (found.wait p) H m v there back = tt
     meets_row placed None (found.fault k) H m v there back = λ d σ S ag h. m.no_value k refl d σ ag v (there d σ S ag h).0
-    meets_row placed None (found.over k) H m v there back = tt
+    meets_row placed None o H m v there back = tt
 
   pub equate_row : (lp : Bool) (lt : Option Target) (lo : found.Outcome) (rp : Bool) (rt : Option Target) (ro : found.Outcome) (L R : Having)
       → SideMeans globals facts e (record { placed = lp; target = lt; found = lo }) L s a → SideMeans globals facts e (record { placed = rp; target = rt; found = ro }) R s a
       → Keeps w globals facts n e (equate facts (record { placed = lp; target = lt; found = lo }) (record { placed = rp; target = rt; found = ro })) (EquationSays L R) s a b
   equate_row lp lt lo rp rt (found.fault k) L R ml mr = λ d σ S ag h. mr.no_value k refl d σ ag h.0 h.2
-  equate_row lp lt (found.fault k) rp rt (found.value v) L R ml mr = λ d σ S ag h. ml.no_value k refl d σ ag h.0 h.1
-  equate_row lp lt (found.fault k) rp rt (found.wait q) L R ml mr = λ d σ S ag h. ml.no_value k refl d σ ag h.0 h.1
-  equate_row lp lt (found.fault k) rp rt (found.over q) L R ml mr = λ d σ S ag h. ml.no_value k refl d σ ag h.0 h.1
-  equate_row lp lt (found.value u) rp rt (found.over k) L R ml mr = tt
-  equate_row lp lt (found.wait p) rp rt (found.over k) L R ml mr = tt
-  equate_row lp lt (found.over l) rp rt (found.over k) L R ml mr = tt
-  equate_row lp lt (found.over k) rp rt (found.value v) L R ml mr = tt
-  equate_row lp lt (found.over k) rp rt (found.wait q) L R ml mr = tt
   equate_row lp lt (found.value u) rp rt (found.value v) L R ml mr = meets_row (EquationSays L R) lp lt (found.value u) L ml v
       (λ d σ S ag h. (subst (λ (t : Tree). L d σ s a t) (mr.value_only v refl d σ ag h.0 h.2) h.1, h.3))
       (λ d σ S ag hl h. (v, hl, mr.value_there v refl d σ ag, h))
@@ -128,3 +117,5 @@ module _ (w : Context) (globals : ℕ) (facts : List Fact) (n e : ℕ) (adding :
       (λ d σ S ag hr h. (v, ml.value_there v refl d σ ag, hr, h))
   equate_row lp lt (found.wait p) rp rt (found.wait q) L R ml mr =
       cond_both (rp && not lp) _ _ (λ o. Keeps w globals facts n e o (EquationSays L R) s a b) (λ _. tt) (λ _. tt)
+  equate_row lp lt (found.fault k) rp rt o L R ml mr = λ d σ S ag h. ml.no_value k refl d σ ag h.0 h.1
+  equate_row lp lt o rp rt x L R ml mr = tt

@@ -33,42 +33,30 @@ IsForced outer_region z = ⊥
 
 pub given_up : (z : Side) (es : Entries) (role : Role) (i : Head) (held : Entries) → HoldsRegion es role i held → GivesUp role z → (marked z i || risen z held) ≡ true → risen z es ≡ true
 given_up Going _ _ _ _ (by_split {h = h} {held = held}) u e = or_left (h.goes || risen Going held) _ e
-given_up Ending _ _ _ _ by_split u e = absurd u
 given_up Going _ _ _ _ (by_split_project {h = h} {held = held}) u e = or_left (h.goes || risen Going held) _ e
-given_up Ending _ _ _ _ by_split_project u e = absurd u
-given_up z _ _ _ _ by_closed u e = absurd u
 given_up z _ _ _ _ (by_opened {h = h} {held = held}) u e = or_left (marked z h || risen z held) _ e
 given_up Going _ _ _ _ (by_running {h = h} {held = held}) u e = or_left (h.goes || risen Going held) _ e
-given_up Ending _ _ _ _ by_running u e = absurd u
 given_up z _ _ _ _ (by_running_second {f = f} {env = env} {h = h} {g = g} {held = held} {second = second}) u e =
     or_right (rises (Running f env) z && (marked z h || risen z held)) _ (or_left (marked z g || risen z second) _ e)
 given_up z _ role i held (past_leaf in_it) u e = given_up z _ role i held in_it u e
 given_up z _ role i held (past_node {k = k} {i = j} {g = g} {first = first} {second = second} in_it) u e =
     or_right (rises k z && (marked z j || risen z first)) _ (or_right (second_lives k && (marked z g || risen z second)) _ (given_up z _ role i held in_it u e))
+given_up z _ _ _ _ x u e = absurd u
 
 pub taken_down : (z : Side) (p : Place) (es : Entries) (role : Role) (i : Head) (held : Entries) (in_it : HoldsRegion es role i held) → TakesDown role z → p.is z ≡ true → (place_through in_it p).is z ≡ true
-taken_down Ending p _ _ _ _ by_split u e = or_left (p.is Ending) _ e
 taken_down Going p _ _ _ _ by_split u e = absurd u
-taken_down Ending p _ _ _ _ by_split_project u e = or_left (p.is Ending) _ e
 taken_down Going p _ _ _ _ by_split_project u e = absurd u
 taken_down z p _ _ _ _ by_closed u e = absurd u
-taken_down z p _ _ _ _ by_opened u e = or_left (p.is z) _ e
-taken_down Ending p _ _ _ _ by_running u e = or_left (p.is Ending) _ e
 taken_down Going p _ _ _ _ by_running u e = absurd u
-taken_down z p _ _ _ _ by_running_second u e = or_left (p.is z) _ e
 taken_down z p _ role i held (past_leaf in_it) u e = taken_down z p _ role i held in_it u e
 taken_down z p _ role i held (past_node in_it) u e = taken_down z p _ role i held in_it u e
+taken_down z p _ _ _ _ x u e = or_left (p.is z) _ e
 
 pub forced_so : (z : Side) (p : Place) (es : Entries) (role : Role) (i : Head) (held : Entries) (in_it : HoldsRegion es role i held) → IsForced role z → (place_through in_it p).is z ≡ true
-forced_so z p _ _ _ _ by_split u = absurd u
-forced_so z p _ _ _ _ by_split_project u = absurd u
 forced_so Ending p _ _ _ _ by_closed u = refl
-forced_so Going p _ _ _ _ by_closed u = absurd u
-forced_so z p _ _ _ _ by_opened u = absurd u
-forced_so z p _ _ _ _ by_running u = absurd u
-forced_so z p _ _ _ _ by_running_second u = absurd u
 forced_so z p _ role i held (past_leaf in_it) u = forced_so z p _ role i held in_it u
 forced_so z p _ role i held (past_node in_it) u = forced_so z p _ role i held in_it u
+forced_so z p _ _ _ _ x u = absurd u
 
 -- a region is what it is marked and what rises in it
 pub held_so : (z : Side) (p : Place) (es : Entries) (role : Role) (i : Head) (held : Entries) (in_it : HoldsRegion es role i held) → (marked z i || risen z held) ≡ true → (place_through in_it p).is z ≡ true
@@ -126,27 +114,20 @@ held_by (after_node s) in_it = held_by s (past_node in_it)
 module _ (s : Scene) where
   -- the rules by roles
   rule_up : (role : Role) (z : Side) (h i : Head) (es held : Entries) (x : LiveRegion s h es) (in_it : HoldsRegion es role i held) → GivesUp role z → HasStatus s z i held (the_held x in_it) → HasStatus s z h es x
-  rule_up left_region Ending h i es held x in_it u d = absurd u
   rule_up left_region Going h i es held x in_it u d = left_goes x in_it d
-  rule_up closed_region z h i es held x in_it u d = absurd u
-  rule_up inner_region Ending h i es held x in_it u d = absurd u
   rule_up inner_region Going h i es held x in_it u d = inner_goes x in_it d
   rule_up outer_region z h i es held x in_it u d = outer_gives x in_it d
+  rule_up y z h i es held x in_it u d = absurd u
 
   rule_down : (role : Role) (z : Side) (h i : Head) (es held : Entries) (x : LiveRegion s h es) (in_it : HoldsRegion es role i held) → TakesDown role z → HasStatus s z h es x → HasStatus s z i held (the_held x in_it)
   rule_down left_region Ending h i es held x in_it u d = left_ends x in_it d
-  rule_down left_region Going h i es held x in_it u d = absurd u
-  rule_down closed_region z h i es held x in_it u d = absurd u
   rule_down inner_region Ending h i es held x in_it u d = inner_ends x in_it d
-  rule_down inner_region Going h i es held x in_it u d = absurd u
   rule_down outer_region z h i es held x in_it u d = outer_takes x in_it d
+  rule_down y z h i es held x in_it u d = absurd u
 
   rule_forced : (role : Role) (z : Side) (h i : Head) (es held : Entries) (x : LiveRegion s h es) (in_it : HoldsRegion es role i held) → IsForced role z → HasStatus s z i held (the_held x in_it)
-  rule_forced left_region z h i es held x in_it u = absurd u
   rule_forced closed_region Ending h i es held x in_it u = closed_ends x in_it
-  rule_forced closed_region Going h i es held x in_it u = absurd u
-  rule_forced inner_region z h i es held x in_it u = absurd u
-  rule_forced outer_region z h i es held x in_it u = absurd u
+  rule_forced y z h i es held x in_it u = absurd u
 
   rule_marked : (z : Side) (h : Head) (es : Entries) (x : LiveRegion s h es) → marked z h ≡ true → HasStatus s z h es x
   rule_marked Ending h es x e = marked_to_end x e
@@ -174,11 +155,8 @@ module _ (s : Scene) where
         goes_up Going f env e = tt
 
     second_held : (k : Holder) → second_lives k ≡ true → HoldsRegion (node id k h held g second rest) outer_region g second
-    second_held (Split f env) e = absurd (false≢true e)
-    second_held (SplitProject f env) e = absurd (false≢true e)
-    second_held Closed e = absurd (false≢true e)
-    second_held (Opened f env) e = absurd (false≢true e)
     second_held (Running f env) e = by_running_second
+    second_held k e = absurd (false≢true e)
 
   rises_by_rules : (left : Entries) (z : Side) (h : Head) (es : Entries) (x : LiveRegion s h es) → IsTail left es → risen z left ≡ true → HasStatus s z h es x
   rises_by_rules none z h es x sfx e = absurd (false≢true e)

@@ -12,16 +12,16 @@ use Rattle.tp_scene.specs.Pick.{Setting, Moment, Reduces, numbers_of, put, put_i
 use Rattle.tp_scene.specs.Fits.{kinds_in, Dormant, LeafFits, HolderFits, EntriesFit, AreNumbers, item_numbers, region_numbers}
 use Rattle.tp_scene.specs.Laws.{IsSound, StepsFit}
 use Rattle.tp_scene.proofs.Risen.{StatusKept, status_put, status_marked}
-use Rattle.tp_scene.proofs.Globals.{of_variables_in, in_of_variables}
+use Rattle.tp_scene.proofs.Globals.{of_variables_in, in_of_variables, of_append}
 use Rattle.tp_scene.proofs.Count.{one_if, count, count_first, numbers_once, once_numbers}
-use Rattle.tp_scene.proofs.NewsFit.{LocalIn}
-use Rattle.tp_scene.proofs.Grown.{other_side, Covers, Grown}
+use Rattle.tp_scene.proofs.FitsTold.{LocalIn}
+use Rattle.tp_scene.proofs.Told.{other_side}
+use Rattle.tp_scene.proofs.Grown.{Covers, Grown}
 use Rattle.tp_scene.proofs.PutStatus.{side_of_mark, mark_at_other, marked_apart, put_rises}
 use Rattle.tp_scene.proofs.PutFits.{marks_in, put_fits}
 use Rattle.tp_scene.proofs.PutNumbers.{between, between_in, between_before, between_after, marked_number, put_items, put_regions}
 use Rattle.tp_scene.proofs.PutInners.{put_inners}
 use Rattle.tp_scene.proofs.NewFacts.{IsOfVariables, picked_facts}
-use Rattle.tp_scene.proofs.Targets.{of_append}
 
 -- With a new local the variables are those before, and it.
 kind_kept : (xs ys : List Variable) (i : ℕ) (b : Bool) → slice_get (kinds_in xs) i ≡ Some b → slice_get (kinds_in (xs ++ ys)) i ≡ Some b
@@ -154,7 +154,7 @@ module _ (w : Setting) (kinds : List Bool) (m : Moment) (t : ℕ) (r : Reduction
   facts_after : AreOfVariables after next.store.facts
   facts_after =
       let old : AreOfVariables after m.store.facts = in_of_variables after m.store.facts (λ f i. local_kept r.local m.store.variables f.path.var.number f.path.var.lasting (of_variables_in m.store.variables m.store.facts sound.store.facts f i)) in
-      let new = subst (λ (o : PickOutcome). IsOfVariables m.store.facts kinds after among o) red.outcome (picked_facts m.store.facts kinds after among w t es p n fit) in
+      let new = subst (λ (o : PickOutcome). IsOfVariables m.store.facts kinds after among o) red.outcome (picked_facts m.store.facts kinds after among w sound.definitions t es p n fit) in
       in_of_variables after next.store.facts (λ f i.
       of_variables_in after (m.store.facts ++ r.facts) (of_append after m.store.facts r.facts old new) _
       (kept_in (m.store.facts ++ r.facts) f.path f.shape (sym (red.store.kept f.path) ∙ in_kept next.store.facts f red.store.no_clash i)))
