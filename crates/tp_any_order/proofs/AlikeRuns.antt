@@ -9,12 +9,13 @@ use Rattle.tp_show.specs.declared.turn.Turn.{Turn}
 use Rattle.tp_show.specs.declared.turn.Turn.TheVariants.{Went, Finished, Contradictory, Undetermined, StateLimit, InputMissing, Over}
 use Rattle.tp_run.specs.History.{RunEndsWith, end_store}
 use Rattle.tp_run.specs.States.{Plan, globals_of, setting, StatesLead}
+use Rattle.tp_run.specs.PicksOfRun.{SettledState, settled_last, led_states, beginning_of, settled_states}
 use Rattle.tp_renaming.specs.Renaming.{renamed_cell}
 use Rattle.tp_renaming.specs.Alike.{Alike}
 use Rattle.tp_renaming.proofs.AdvanceAlike.{alike_moments_advance}
 use Rattle.tp_order.proofs.Equivalence.{alike_is_equivalence}
 use Rattle.tp_any_order.specs.Agree.{SamePictures, SameEnd, IsOrderlyPlan}
-use Rattle.tp_any_order.specs.AlikeRuns.{SettledState, settled_last, led_states, beginning_of, settled_states, SameStates, SameNamedCell, SameNamedEnd, AllRunsAreAlike}
+use Rattle.tp_any_order.specs.AlikeRuns.{SameStates, SameNamedCell, SameNamedEnd, AllRunsAreAlike}
 use Rattle.tp_any_order.proofs.Agree.{kinds, Orderly, EndsAt, cell_by, end_alike, settle, same_picture, cant_go, next_orderly, Parts, parts, start, itself, agree}
 
 module _ (plan : Plan) where

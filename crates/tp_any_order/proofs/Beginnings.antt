@@ -14,14 +14,15 @@ use Rattle.tp_show.specs.declared.turn.Turn.{Turn}
 use Rattle.tp_show.specs.declared.turn.Turn.TheVariants.{Went, Finished, Contradictory, Undetermined, StateLimit, InputMissing, Over}
 use Rattle.tp_run.specs.History.{RunEndsWith}
 use Rattle.tp_run.specs.States.{Plan, globals_of, setting, IsPictureOf, StateGoesOn, StateEnds, StatesLead, LeadsTo}
+use Rattle.tp_run.specs.PicksOfRun.{picks_led, beginning_of, picks_before, picks_of_run}
 use Rattle.tp_renaming.specs.Renaming.{renamed_cell}
 use Rattle.tp_renaming.specs.Alike.{Alike}
 use Rattle.tp_renaming.proofs.AdvanceAlike.{alike_moments_advance}
 use Rattle.tp_order.proofs.CloseOneWay.{leads_orderly}
 use Rattle.tp_order.proofs.Rest.{one_rest_of}
 use Rattle.tp_any_order.specs.Agree.{SameEnd, IsOrderlyPlan}
-use Rattle.tp_any_order.specs.AlikeRuns.{FailsNowhere, beginning_of}
-use Rattle.tp_any_order.specs.Beginnings.{picks_led, picks_before, picks_of_run, RunGoesOnFrom, BeginningsGoOn}
+use Rattle.tp_any_order.specs.AlikeRuns.{FailsNowhere}
+use Rattle.tp_any_order.specs.Beginnings.{RunGoesOnFrom, BeginningsGoOn}
 use Rattle.tp_any_order.proofs.Agree.{kinds, Orderly, ClosesBy, EndsAt, one_way, end_alike, settle, cant_go, next_orderly, Parts, parts, start, itself, agree}
 
 -- the store with which the next state may begin

@@ -1,5 +1,6 @@
 pub mod States
 pub mod Meaning
 pub mod History
+pub mod PicksOfRun
 pub mod Runs
 pub mod Ordered
