@@ -1,12 +1,13 @@
 -- What becomes of a state, by what its closure comes to.
 use Rattle.std.proofs.Common.{◌≡◌, ℕ, suc, ◌<◌, ◌≤◌, Bool, List, [], ◌++◌, length, Option, refl, ap, ap₂, sym, ◌∙◌, subst, arith, inl, inr}
-use Rattle.tp_kernel.specs.declared.formula.Defs.{Defs}
+use Rattle.std.proofs.lemmas.List.{length-map}
+use Rattle.tp_value.specs.Globals.{is_lower}
 use Rattle.tp_kernel.specs.declared.formula.LimitKind.{LimitKind}
 use Rattle.tp_kernel.specs.declared.formula.LimitKind.TheVariants as limit
 use Rattle.tp_meaning.specs.Syntax.{Definition}
 use Rattle.tp_meaning.specs.Inputs.{InputLines}
 use Rattle.tp_meaning.specs.Course.{Course, Shows, ◌⊕◌, shown_at}
-use Rattle.tp_meaning.specs.Interval.{kinds_of}
+use Rattle.tp_meaning.specs.Interval.{ProgramTree, kinds_of}
 use Rattle.tp_meaning.specs.Fits.{ProgramFits}
 use Rattle.tp_decide.specs.Decided.{setting_of}
 use Rattle.tp_decide.specs.Read.{shows_of}
@@ -273,61 +274,40 @@ module _ (plan : Plan) (n : ℕ) (m : Moment) (old new : Picture) (standing : St
   becomes_sound (Over state limit) w = record { within = omega (arith, w.2); stands = last_sound (Over state limit) w.4 }
 
 -- the moment at which a run stands is sound
-pub sound_at : (plan : Plan) (run : Run) (m : Moment) → IsRunOf plan run → open_at m ≡ standing_of run → IsSound (setting plan run.settings.setting.state) (kinds_of plan.program.globals) m
-sound_at plan run m h opened = let here : StandsSound plan run.settings.setting.state (open_at m) = subst (StandsSound plan run.settings.setting.state) (sym opened) h.sound in here
+pub sound_at : (plan : Plan) (run : Run) (m : Moment) → IsRunOf plan run → open_at m ≡ standing_of run → IsSound (setting plan run.state) (kinds_of plan.program.globals) m
+sound_at plan run m h opened = let here : StandsSound plan run.state (open_at m) = subst (StandsSound plan run.state) (sym opened) h.sound in here
 
 -- the run with another store and stand, before a state with this number
 abbrev pub moved : Run → (next : ℕ) → Contents → Stand → Run
-moved run next store stand = record {
-  program = run.program;
-  settings = record { globals = run.settings.globals; limits = run.settings.limits; order = run.settings.order; setting = record run.settings.setting { state = next } };
-  store = store;
-  stand = stand;
-}
+moved run next store stand = record run { state = next; store = store; stand = stand }
 
 with_stand : (plan : Plan) (run : Run) (next : ℕ) (store : Contents) (stand : Stand) → IsRunOf plan run → next ≤ plan.states → StandsSound plan next (stands_at stand store) → StandIsKept stand → StandIsOf store.variables stand
     → IsRunOf plan (moved run next store stand)
 with_stand plan run next store stand h within sound kept named = record {
   program = h.program;
-  settings = record { inputs = h.settings.inputs; states = h.settings.states; reductions = h.settings.reductions; globals = h.settings.globals; definitions = h.settings.definitions };
+  inputs = h.inputs;
+  states = h.states;
+  reductions = h.reductions;
   within = within;
   sound = sound;
   kept = kept;
   named = named;
 }
 
--- the definitions are lent while a state is made
-abbrev pub lent : Run → (defs : Defs) → Settings
-lent run defs = record {
-  globals = run.settings.globals;
-  limits = run.settings.limits;
-  order = run.settings.order;
-  setting = record run.settings.setting { defs = defs };
-}
-
-pub lent_settings : (plan : Plan) (run : Run) (defs : Defs) → IsRunOf plan run → defs ≡ run.program.defs → IsSettingsOf plan (lent run defs)
-lent_settings plan run defs h e = subst (λ (ds : Defs). IsSettingsOf plan (lent run ds)) (sym e) h.settings
-
--- and given back
-abbrev pub given_back : Run → (defs left : Defs) → Run
-given_back run defs left = record { program = record run.program { defs = defs }; settings = lent run left; store = run.store; stand = run.stand }
-
-pub given_back_run : (plan : Plan) (run : Run) (defs left : Defs) → IsRunOf plan run → defs ≡ run.program.defs → IsRunOf plan (given_back run defs left)
-given_back_run plan run defs left h e =
-    let whole : IsRunOf plan (given_back run run.program.defs left) =
-    record { program = h.program; settings = h.settings; within = h.within; sound = h.sound; kept = h.kept; named = h.named } in
-    subst (λ (ds : Defs). IsRunOf plan (given_back run ds left)) (sym e) whole
+-- how many variables a run's program has
+pub globals_are : (plan : Plan) (run : Run) → IsRunOf plan run → length run.program.globals ≡ globals_of plan
+globals_are plan run h = sym (length-map run.program.globals is_lower) ∙ ap (λ (p : ProgramTree). length (kinds_of p.globals)) h.program
 
 -- what the answer for a state leaves
 module _ (plan : Plan) (run : Run) (is_run : IsRunOf plan run) (m : Moment) (opened : open_at m ≡ standing_of run) (old new : Picture) (store : Contents) (stand : Stand) (turn : Turn)
-    (becomes : StateBecomes plan run.settings.setting.state m old new (stands_at stand store) store turn) where
-  sound_here : IsSound (setting plan run.settings.setting.state) (kinds_of plan.program.globals) m
+    (becomes : StateBecomes plan run.state m old new (stands_at stand store) store turn) where
+  sound_here : IsSound (setting plan run.state) (kinds_of plan.program.globals) m
   sound_here = sound_at plan run m is_run opened
 
-  pub answer_means : AnswerMeans plan run.settings.setting.state (standing_of run) (stands_at stand store) new turn
-  answer_means = subst (λ (z : Standing). AnswerMeans plan run.settings.setting.state z (stands_at stand store) new turn) opened (becomes_means plan run.settings.setting.state m old new (stands_at stand store) store sound_here turn becomes)
+  pub answer_means : AnswerMeans plan run.state (standing_of run) (stands_at stand store) new turn
+  answer_means = subst (λ (z : Standing). AnswerMeans plan run.state z (stands_at stand store) new turn) opened (becomes_means plan run.state m old new (stands_at stand store) store sound_here turn becomes)
 
-  pub run_kept : (next : ℕ) → next ≡ state_after run.settings.setting.state turn → StandIsKept stand → StandIsOf store.variables stand → IsRunOf plan (moved run next store stand)
+  pub run_kept : (next : ℕ) → next ≡ state_after run.state turn → StandIsKept stand → StandIsOf store.variables stand → IsRunOf plan (moved run next store stand)
   run_kept next e kept named =
-      let on = becomes_sound plan run.settings.setting.state m old new (stands_at stand store) store sound_here turn becomes in
+      let on = becomes_sound plan run.state m old new (stands_at stand store) store sound_here turn becomes in
       with_stand plan run next store stand is_run (subst (λ k. k ≤ plan.states) (sym e) on.within) (subst (λ k. StandsSound plan k (stands_at stand store)) (sym e) on.stands) kept named

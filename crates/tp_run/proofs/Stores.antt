@@ -65,6 +65,6 @@ all_stay k = first_all k.variables k.variables refl
 
 -- the same of a run that stood before this state
 module _ (plan : Plan) (run : Run) (m : Moment) (same : m.store ≡ run.store) (old new : Picture) (standing : Standing) (store : Contents) (turn : Turn)
-    (becomes : StateBecomes plan run.settings.setting.state m old new standing store turn) where
+    (becomes : StateBecomes plan run.state m old new standing store turn) where
   pub leaves_variables : HasFirst run.store.variables store.variables
-  leaves_variables = subst (λ (k : Contents). HasFirst k.variables store.variables) same (first_stay plan run.settings.setting.state m old new standing store turn becomes)
+  leaves_variables = subst (λ (k : Contents). HasFirst k.variables store.variables) same (first_stay plan run.state m old new standing store turn becomes)

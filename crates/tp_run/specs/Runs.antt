@@ -45,11 +45,11 @@ abbrev pub standing_of : Run → Standing
 standing_of run = stands_at run.stand run.store
 
 abbrev pub next_state_of : Run → ℕ
-next_state_of run = run.settings.setting.state
+next_state_of run = run.state
 
 -- the order in which it takes the items of each state, a seed from its first word on
 abbrev pub order_of : Run → Order
-order_of run = run.settings.order
+order_of run = run.order
 
 -- The first of these variables are those.
 abbrev pub HasFirst : List Variable → List Variable → Type 0
@@ -115,25 +115,18 @@ StandIsKept Spent = Unit {0}
 
 -- The settings are those of this plan.
 pub record IsSettingsOf (plan : Plan) (settings : Settings) : Type 0 where
-  pub inputs : lines_of settings.setting.inputs ≡ plan.inputs
+  pub inputs : lines_of settings.setting.inputs.now ≡ plan.inputs
   pub states : settings.limits.states ≡ plan.states
   pub reductions : settings.limits.reductions ≡ plan.reductions
   pub globals : settings.globals ≡ globals_of plan
-  pub definitions : definitions_of settings.setting.defs ≡ plan.program.defs
-
--- a run's settings while it makes a state: the program lends them its definitions
-abbrev pub settings_of : Run → Settings
-settings_of run = record {
-  globals = run.settings.globals;
-  limits = run.settings.limits;
-  order = run.settings.order;
-  setting = record run.settings.setting { defs = run.program.defs };
-}
+  pub definitions : definitions_of settings.setting.defs.now ≡ plan.program.defs
 
 -- The run is one of this plan.
 pub record IsRunOf (plan : Plan) (run : Run) : Type 0 where
   pub program : program_of run ≡ plan.program
-  pub settings : IsSettingsOf plan (settings_of run)
+  pub inputs : lines_of run.inputs ≡ plan.inputs
+  pub states : run.limits.states ≡ plan.states
+  pub reductions : run.limits.reductions ≡ plan.reductions
   pub within : next_state_of run ≤ plan.states
   pub sound : StandsSound plan (next_state_of run) (standing_of run)
   pub kept : StandIsKept run.stand

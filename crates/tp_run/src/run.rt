@@ -29,7 +29,6 @@ use std::mem;
 use std::sync::ledger::Ledger;
 use tp_check::Program;
 use tp_inputs::Inputs;
-use tp_kernel::Defs;
 use tp_pass::{Course, close_by_passes};
 use tp_show::{Cell, Picture, Turn};
 use tp_step::{
@@ -39,14 +38,13 @@ use tp_step::{
 use tp_store::Store;
 use tp_value::NoMemory;
 
-/// What a run is made with, and the number of the state that it makes next, which alone changes. The program lends its definitions while a
-/// state is made.
-#[derive(Drop)]
-struct Settings {
+/// What a state is made with. The run makes it anew for each state.
+#[derive(Clone, Copy)]
+struct Settings<'a> {
     globals: u64,
     limits: Limits,
     order: Order,
-    setting: Setting,
+    setting: Setting<'a>,
 }
 
 /// Before a state, after the last answer, or given up for want of memory.
@@ -57,11 +55,15 @@ enum Stand {
     Spent,
 }
 
-/// The run of a program, state by state.
+/// The run of a program, state by state: what is run, and how; the number of the state that it makes next; and where it stands.
 #[derive(Drop)]
 pub struct Run {
+    alloc: Global,
     program: Program,
-    settings: Settings,
+    inputs: Inputs,
+    limits: Limits,
+    order: Order,
+    state: u64,
     store: Store,
     stand: Stand,
 }
@@ -98,7 +100,7 @@ fn no_tally(alloc: Global) -> Tally
     }
 }
 
-impl Settings {
+impl<'a> Settings<'a> {
     // The first cell that the waiting item of a scene at rest waits for.
     fn waits_for<L: Ledger>(
         &self,
@@ -309,22 +311,13 @@ impl Run {
     {
         let scene = start(alloc, &program.main)?;
         let store = Store::new(alloc, &program.globals)?;
-        let none = Defs {
-            items: Vec::new(alloc),
-        };
         Ok(Run {
-            settings: Settings {
-                globals: program.globals.len(),
-                limits,
-                order,
-                setting: Setting {
-                    alloc,
-                    defs: none,
-                    inputs,
-                    state: 0,
-                },
-            },
+            alloc,
             program,
+            inputs,
+            limits,
+            order,
+            state: 0,
             store,
             stand: Stand::Open(scene),
         })
@@ -343,7 +336,7 @@ impl Run {
             ≡ carried_scene (next_state_of self.now) (standing_of self.now) }
         ensures kept { StandIsKept self.now.stand → IfSome result (λ s. IsWellKept s.now) }
     {
-        if self.settings.setting.state == 0 {
+        if self.state == 0 {
             return None;
         }
         match &self.stand {
@@ -364,11 +357,11 @@ impl Run {
     // The number of the state that comes after this answer.
     fn next_number(&self, turn: &Turn) -> u64
         requires { turn.now ≡ Turn.Went
-            → self.now.settings.setting.state < self.now.settings.limits.states }
-        ensures { result ≡ state_after self.now.settings.setting.state turn.now }
+            → self.now.state < self.now.limits.states }
+        ensures { result ≡ state_after self.now.state turn.now }
     {
-        let state = self.settings.setting.state;
-        let most = self.settings.limits.states;
+        let state = self.state;
+        let most = self.limits.states;
         match turn {
             Turn::Went => most.min(state + 1),
             Turn::Finished { .. } | Turn::Contradictory { .. } | Turn::Undetermined { .. } => state,
@@ -406,11 +399,20 @@ impl Run {
     {
         match mem::replace(&mut self.stand, Stand::Spent) {
             Stand::Open(scene) => {
-                mem::swap(&mut self.program.defs, &mut self.settings.setting.defs);
-                let made = self.settings.make(scene, &mut self.store, picture, steps);
-                mem::swap(&mut self.program.defs, &mut self.settings.setting.defs);
-                let made = made?;
-                self.settings.setting.state = self.next_number(&made.turn);
+                let globals = self.program.globals.len();
+                let settings = Settings {
+                    globals,
+                    limits: self.limits,
+                    order: self.order,
+                    setting: Setting {
+                        alloc: self.alloc,
+                        defs: &self.program.defs,
+                        inputs: &self.inputs,
+                        state: self.state,
+                    },
+                };
+                let made = settings.make(scene, &mut self.store, picture, steps)?;
+                self.state = self.next_number(&made.turn);
                 self.stand = made.stand;
                 Ok(made.turn)
             }
