@@ -20,6 +20,7 @@ use Rattle.tp_scene.specs.Rest.{AtRest, settled, waiting, goes, ends, IsOpenCell
 use Rattle.tp_scene.specs.Replay as replay
 use Rattle.tp_scene.specs.StandsFor.{first_moment}
 use Rattle.tp_scene.specs.Laws.{IsSound}
+use Rattle.tp_slots.specs.declared.scene.Scene.{Scene}
 use Rattle.tp_step.specs.Answers.{Tries}
 use Rattle.tp_step.specs.declared.answer.Tried.{Tried}
 use Rattle.tp_step.specs.declared.answer.Tried.TheVariants as tried
@@ -88,12 +89,13 @@ waits_named w kinds room m next t a cell other sound h e =
 -- where a run goes on it has answered nothing
 pub open_named : (stand : Stand) (store : Contents) (m : Moment) → stands_at stand store ≡ open_at m → StandIsOf store.variables stand
 open_named (Open scene) store m e = tt
-open_named (Answered turn) store m e = absurd (cc)
+open_named (Answered turn scene) store m e = absurd (cc)
 open_named Spent store m e = absurd (cc)
 
 -- and where it ends it has answered this
-pub end_named : (xs : List Variable) (made : Made) (turn : Turn) → made.stand ≡ Answered turn → made.turn ≡ turn → TurnIsOf xs turn → MadeIsOf xs made
-end_named xs made turn stand is h = (subst (TurnIsOf xs) (sym is) h, subst (StandIsOf xs) (sym stand) h)
+pub end_named : (xs : List Variable) (made : Made) (turn : Turn) (scene : Scene) → made.stand ≡ Answered turn scene → made.turn ≡ turn → TurnIsOf xs turn
+    → MadeIsOf xs made
+end_named xs made turn scene stand is h = (subst (TurnIsOf xs) (sym is) h, subst (StandIsOf xs) (sym stand) h)
 
 module _ (plan : Plan) (n : ℕ) (m last : Moment) (before after : List ℕ) where
   -- the closure of state n, which begins with m, comes to this end
@@ -206,16 +208,17 @@ module _ (plan : Plan) (settings : Settings) (is : IsSettingsOf plan settings) (
     abbrev Stops : Turn → Type 0
     Stops t = StateBecomes plan n m old old standing last.store t
 
-    pub run_reaches : (kinds : List Bool) → IsSound (setting_of settings.setting) kinds last → (k : LimitKind) → found ≡ ending.Over k → standing ≡ answered (Over n k) → turn ≡ Over n k → Stops turn
+    pub run_reaches : (kinds : List Bool) → IsSound (setting_of settings.setting) kinds last → (k : LimitKind) → found ≡ ending.Over k → standing ≡ answered (Over n k) last → turn ≡ Over n k → Stops turn
     run_reaches kinds sound k e stand turn_is =
         let reached = limit_reached plan n m last before after kinds (read_so kinds sound) k (comes_to (ending.Over k) e) in
-        subst Stops (sym turn_is) (reached.0, refl, state_within, refl, stand, ap (λ (z : Moment). z.store) (sym reached.1))
+        subst Stops (sym turn_is)
+        (reached.0, refl, state_within, refl, stand ∙ ap (answered (Over n k)) (sym reached.1), ap (λ (z : Moment). z.store) (sym reached.1))
 
-    pub run_clashes : (clash : Clash) → found ≡ ending.Clash clash → standing ≡ answered (Contradictory n clash) → turn ≡ Contradictory n clash → Stops turn
+    pub run_clashes : (clash : Clash) → found ≡ ending.Clash clash → standing ≡ answered (Contradictory n clash) last → turn ≡ Contradictory n clash → Stops turn
     unfolding clash_met
     run_clashes clash e stand turn_is = subst Stops (sym turn_is) (clash_met plan n m last before after clash (comes_to (ending.Clash clash) e), refl, state_within, refl, stand, refl)
 
-    pub run_misses : (port : List ℕ) → found ≡ ending.Missing port → standing ≡ answered (InputMissing n port) → turn ≡ InputMissing n port → Stops turn
+    pub run_misses : (port : List ℕ) → found ≡ ending.Missing port → standing ≡ answered (InputMissing n port) last → turn ≡ InputMissing n port → Stops turn
     unfolding input_missed
     run_misses port e stand turn_is = subst Stops (sym turn_is) (input_missed plan n m last before after port (comes_to (ending.Missing port) e), refl, state_within, refl, stand, refl)
 
@@ -261,17 +264,17 @@ module _ (plan : Plan) (n : ℕ) (m : Moment) (old new : Picture) (standing : St
     pub within : next ≤ plan.states
     pub stands : StandsSound plan next standing
 
-  last_sound : (turn : Turn) → standing ≡ answered turn → StandsSound plan n standing
-  last_sound turn e = subst (StandsSound plan n) (sym e) tt
+  last_sound : (turn : Turn) (end : Moment) → standing ≡ answered turn end → StandsSound plan n standing
+  last_sound turn end e = subst (StandsSound plan n) (sym e) tt
 
   pub becomes_sound : (turn : Turn) → Becomes turn → StandsOn (state_after n turn)
   becomes_sound Went w = record { within = omega (arith, w.1.within); stands = subst (StandsSound plan (suc n)) (sym w.2) (next_sound scene_laws plan n m w.0 new sound w.1 (suc n)) }
-  becomes_sound (Finished length) w = record { within = omega (arith, w.0.within); stands = last_sound (Finished length) w.2 }
-  becomes_sound (Contradictory state clash) w = record { within = omega (arith, w.2); stands = last_sound (Contradictory state clash) w.4 }
-  becomes_sound (Undetermined state cell) w = record { within = omega (arith, w.2); stands = last_sound (Undetermined state cell) w.4 }
-  becomes_sound (StateLimit states) w = record { within = omega (arith, w.0); stands = last_sound (StateLimit states) w.3 }
-  becomes_sound (InputMissing state port) w = record { within = omega (arith, w.2); stands = last_sound (InputMissing state port) w.4 }
-  becomes_sound (Over state limit) w = record { within = omega (arith, w.2); stands = last_sound (Over state limit) w.4 }
+  becomes_sound (Finished length) w = record { within = omega (arith, w.0.within); stands = last_sound (Finished length) w.0.last w.2 }
+  becomes_sound (Contradictory state clash) w = record { within = omega (arith, w.2); stands = last_sound (Contradictory state clash) w.0.last w.4 }
+  becomes_sound (Undetermined state cell) w = record { within = omega (arith, w.2); stands = last_sound (Undetermined state cell) w.0.last w.4 }
+  becomes_sound (StateLimit states) w = record { within = omega (arith, w.0); stands = last_sound (StateLimit states) m w.3 }
+  becomes_sound (InputMissing state port) w = record { within = omega (arith, w.2); stands = last_sound (InputMissing state port) w.0.last w.4 }
+  becomes_sound (Over state limit) w = record { within = omega (arith, w.2); stands = last_sound (Over state limit) (limit_moment (setting plan n) plan.reductions m limit w.0) w.4 }
 
 -- the moment at which a run stands is sound
 pub sound_at : (plan : Plan) (run : Run) (m : Moment) → IsRunOf plan run → open_at m ≡ standing_of run → IsSound (setting plan run.state) (kinds_of plan.program.globals) m

@@ -33,7 +33,7 @@ use Rattle.tp_run.specs.States.{Plan, RunPlace, globals_of, setting, AreGlobals,
 -- where a run stands with what its store holds
 abbrev pub stands_at : Stand → Contents → Standing
 stands_at (Open scene) store = open_at (moment_of scene store)
-stands_at (Answered turn) store = answered turn
+stands_at (Answered turn scene) store = answered turn (moment_of scene store)
 stands_at Spent store = spent
 
 -- the program that is run
@@ -78,7 +78,7 @@ TurnIsOf xs (Over state limit) = Unit {0}
 -- a run that has answered last speaks of these variables alone
 abbrev pub StandIsOf : List Variable → Stand → Type 0
 StandIsOf xs (Open scene) = Unit {0}
-StandIsOf xs (Answered turn) = TurnIsOf xs turn
+StandIsOf xs (Answered turn scene) = TurnIsOf xs turn
 StandIsOf xs Spent = Unit {0}
 
 -- and so does an answer with where the run then stands
@@ -98,19 +98,25 @@ standing_place run = record { standing = standing_of run; state = next_state_of 
 abbrev pub carried_scene : ℕ → Standing → Option S.Scene
 carried_scene (suc n) (open_at m) = Some m.scene
 carried_scene zero (open_at m) = None
-carried_scene n (answered turn) = None
+carried_scene n (answered turn m) = None
 carried_scene n spent = None
+
+-- the scene in which a run ended: what the picks of its last state led to
+abbrev pub last_scene_in : Standing → Option S.Scene
+last_scene_in (open_at m) = None
+last_scene_in (answered turn m) = Some m.scene
+last_scene_in spent = None
 
 -- before a state it stands at a sound moment
 abbrev pub StandsSound : Plan → ℕ → Standing → Type 0
 StandsSound plan n (open_at m) = IsSound (setting plan n) (kinds_of plan.program.globals) m
-StandsSound plan n (answered turn) = Unit {0}
+StandsSound plan n (answered turn m) = Unit {0}
 StandsSound plan n spent = Unit {0}
 
--- the scene of a run before a state is well kept
+-- the scene of a run, before a state and at its end, is well kept
 abbrev pub StandIsKept : Stand → Type 0
 StandIsKept (Open scene) = IsWellKept scene
-StandIsKept (Answered turn) = Unit {0}
+StandIsKept (Answered turn scene) = IsWellKept scene
 StandIsKept Spent = Unit {0}
 
 -- The settings are those of this plan.
@@ -150,9 +156,9 @@ abbrev pub RestTurns : Setting → (globals reductions : ℕ) → Moment → Pic
 RestTurns w globals k m old new standing store Went =
     (settled m.scene ≡ goes) × HasPicture globals w.state k m new × ((next : Moment) × NextOf m next × (standing ≡ open_at next) × (store ≡ next.store))
 RestTurns w globals k m old new standing store (Finished length) =
-    (settled m.scene ≡ ends) × HasPicture globals w.state k m new × (length ≡ w.state) × (standing ≡ answered (Finished length)) × (store ≡ m.store)
+    (settled m.scene ≡ ends) × HasPicture globals w.state k m new × (length ≡ w.state) × (standing ≡ answered (Finished length) m) × (store ≡ m.store)
 RestTurns w globals k m old new standing store (Undetermined state cell) =
-    IsOpenCell w m cell × (state ≡ w.state) × (new ≡ old) × (standing ≡ answered (Undetermined state cell)) × (store ≡ m.store)
+    IsOpenCell w m cell × (state ≡ w.state) × (new ≡ old) × (standing ≡ answered (Undetermined state cell) m) × (store ≡ m.store)
 RestTurns w globals k m old new standing store (Contradictory state clash) = ⊥
 RestTurns w globals k m old new standing store (StateLimit states) = ⊥
 RestTurns w globals k m old new standing store (InputMissing state port) = ⊥

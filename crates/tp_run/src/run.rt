@@ -1,5 +1,5 @@
 // The run of a program, state by state.
-ghost use Rattle.std.specs.Prelude.{◌≡◌, ◌<◌, ◌≤◌, Bool, List, [], Option, IfOk, IfSome, OnErr, OnOk};
+ghost use Rattle.std.specs.Prelude.{◌≡◌, ◌<◌, ◌≤◌, Bool, List, [], Option, IfOk, IfSome, IsSomeAnd, OnErr, OnOk};
 ghost use Rattle.std.specs.Option.{option_map};
 ghost use Rattle.tp_kernel.specs.Read.{formula_tree};
 ghost use Rattle.tp_meaning.specs.Fits.{ProgramFits};
@@ -17,10 +17,10 @@ ghost use Rattle.tp_decide.specs.Decided.{setting_of};
 ghost use Rattle.tp_slots.specs.Kept.{IsWellKept, Lives};
 ghost use Rattle.tp_slots.specs.Read.{scene_of};
 ghost use Rattle.tp_step.specs.Answers.{moment_of};
-ghost use Rattle.tp_run.specs.States.{Plan, plan_with, setting, open_at, spent, state_after, AnswersState, StateBecomes};
+ghost use Rattle.tp_run.specs.States.{Plan, plan_with, setting, open_at, answered, spent, state_after, AnswersState, StateBecomes};
 ghost use Rattle.tp_run.specs.Meaning.{StandsForItsProgram, AnswerMeans};
 ghost use Rattle.tp_run.specs.Ordered.{IsNamedInOrder};
-ghost use Rattle.tp_run.specs.Runs.{stands_at, standing_of, program_of, next_state_of, order_of, standing_place, store_of, carried_scene, IsSettingsOf, IsRunOf, HasPicture, NextOf, RestTurns, StandIsKept, HasFirst, CellIsOf, TurnIsOf, MadeIsOf};
+ghost use Rattle.tp_run.specs.Runs.{stands_at, standing_of, program_of, next_state_of, order_of, standing_place, store_of, carried_scene, last_scene_in, IsSettingsOf, IsRunOf, HasPicture, NextOf, RestTurns, StandIsKept, HasFirst, CellIsOf, TurnIsOf, MadeIsOf};
 
 use crate::limits::Limits;
 use crate::picture::settled_picture;
@@ -47,11 +47,11 @@ struct Settings<'a> {
     setting: Setting<'a>,
 }
 
-/// Before a state, after the last answer, or given up for want of memory.
+/// Before a state, after the last answer with the scene in which the run ended, or given up for want of memory.
 #[derive(Drop)]
 enum Stand {
     Open(Scene),
-    Answered(Turn),
+    Answered(Turn, Scene),
     Spent,
 }
 
@@ -75,14 +75,14 @@ struct Made {
     turn: Turn,
 }
 
-// The run ends with this answer, and gives it again from then on.
-fn stop(turn: Turn) -> Result<Made, NoMemory>
-    ensures stand { IfOk result (λ made. made.stand ≡ Stand.Answered turn) }
+// The run ends with this answer, in this scene, and gives it again from then on.
+fn stop(turn: Turn, scene: Scene) -> Result<Made, NoMemory>
+    ensures stand { IfOk result (λ made. made.stand ≡ Stand.Answered turn scene) }
     ensures turn { IfOk result (λ made. made.turn ≡ turn) }
 {
     let again = turn.copy()?;
     Ok(Made {
-        stand: Stand::Answered(again),
+        stand: Stand::Answered(again, scene),
         turn,
     })
 }
@@ -118,7 +118,9 @@ impl<'a> Settings<'a> {
             (other : Option Cell)
             × (outcome_of (setting_of self.now.setting) store.old (scene_of scene.old) item
             ≡ waits cell other)) }
+        ensures scene { OnOk result (scene_of scene.new ≡ scene_of scene.old) }
         ensures store { OnOk result (store.new ≡ store.old) }
+        ensures kept { IsWellKept scene.new }
         ensures named { IfOk result (CellIsOf store.new.variables) }
     {
         let tried = try_item(scene, item, store, &self.setting, 0, steps)?;
@@ -135,24 +137,23 @@ impl<'a> Settings<'a> {
     // A state that ends the interval.
     fn finish(
         &self,
-        scene: &Scene,
+        scene: Scene,
         store: &Store,
         reductions: u64,
         picture: &mut Picture,
     ) -> Result<Made, NoMemory>
-        requires { IsWellKept scene.now }
+        requires { IsWellKept scene }
         ensures picture { OnOk result
             (HasPicture self.now.globals self.now.setting.state reductions
-            (moment_of scene.now store.now) picture.new) }
+            (moment_of scene store.now) picture.new) }
         ensures stand { IfOk result (λ made.
-            made.stand ≡ Stand.Answered (Turn.Finished self.now.setting.state)) }
+            made.stand ≡ Stand.Answered (Turn.Finished self.now.setting.state) scene) }
         ensures turn { IfOk result (λ made. made.turn ≡ Turn.Finished self.now.setting.state) }
         ensures err { OnErr result (picture.new ≡ picture.old) }
     {
-        let settled = settled_picture(scene, store, self.globals, &self.setting, reductions)?;
-        let made = stop(Turn::Finished {
-            length: self.setting.state,
-        })?;
+        let settled = settled_picture(&scene, store, self.globals, &self.setting, reductions)?;
+        let length = self.setting.state;
+        let made = stop(Turn::Finished { length }, scene)?;
         *picture = settled;
         Ok(made)
     }
@@ -210,20 +211,20 @@ impl<'a> Settings<'a> {
     {
         let state = self.setting.state;
         match settled(self.setting.alloc, &scene)? {
-            Settled::Ends => self.finish(&scene, store, reductions, picture),
+            Settled::Ends => self.finish(scene, store, reductions, picture),
             Settled::Goes => self.go_on(scene, store, reductions, picture),
             Settled::Waiting(item) => {
                 let cell = self.waits_for(&mut scene, store, item, steps)?;
-                stop(Turn::Undetermined { state, cell })
+                stop(Turn::Undetermined { state, cell }, scene)
             }
             // The root is region 0.
-            Settled::EndOpen => stop(Turn::Undetermined {
-                state,
-                cell: Cell::End {
+            Settled::EndOpen => {
+                let cell = Cell::End {
                     region: 0,
                     depth: 0,
-                },
-            }),
+                };
+                stop(Turn::Undetermined { state, cell }, scene)
+            }
         }
     }
 
@@ -253,7 +254,7 @@ impl<'a> Settings<'a> {
     {
         let state = self.setting.state;
         if state == self.limits.states {
-            return stop(Turn::StateLimit { states: state });
+            return stop(Turn::StateLimit { states: state }, scene);
         }
         let mut tally = no_tally(self.setting.alloc);
         // Each state begins with the run's order, so a seed's choices begin again.
@@ -269,15 +270,15 @@ impl<'a> Settings<'a> {
                 Ok(made)
             }
             Ending::Clash(clash) => {
-                let made = stop(Turn::Contradictory { state, clash })?;
+                let made = stop(Turn::Contradictory { state, clash }, scene)?;
                 Ok(made)
             }
             Ending::Missing(port) => {
-                let made = stop(Turn::InputMissing { state, port })?;
+                let made = stop(Turn::InputMissing { state, port }, scene)?;
                 Ok(made)
             }
             Ending::Over(limit) => {
-                let made = stop(Turn::Over { state, limit })?;
+                let made = stop(Turn::Over { state, limit }, scene)?;
                 Ok(made)
             }
         }
@@ -341,7 +342,23 @@ impl Run {
         }
         match &self.stand {
             Stand::Open(scene) => Some(scene),
-            Stand::Answered(_) => None,
+            Stand::Answered(_, _) => None,
+            Stand::Spent => None,
+        }
+    }
+
+    /// The scene in which the run ended: what the picks of its last state led to, or, at the limit of states, what the next one would begin
+    /// with. None before its end.
+    pub fn last_scene(&self) -> Option<&Scene>
+        ensures scene { option_map (λ s. scene_of s.now) result
+            ≡ last_scene_in (standing_of self.now) }
+        ensures moment { (turn : Turn) (m : Moment) → standing_of self.now ≡ answered turn m
+            → IsSomeAnd result (λ s. moment_of s.now (store_of self.now) ≡ m) }
+        ensures kept { StandIsKept self.now.stand → IfSome result (λ s. IsWellKept s.now) }
+    {
+        match &self.stand {
+            Stand::Open(_) => None,
+            Stand::Answered(_, scene) => Some(scene),
             Stand::Spent => None,
         }
     }
@@ -416,8 +433,8 @@ impl Run {
                 self.stand = made.stand;
                 Ok(made.turn)
             }
-            Stand::Answered(turn) => {
-                let made = stop(turn)?;
+            Stand::Answered(turn, scene) => {
+                let made = stop(turn, scene)?;
                 self.stand = made.stand;
                 Ok(made.turn)
             }
