@@ -1,4 +1,3 @@
-pub mod SameFacts
 pub mod Agree
 pub mod AlikeRuns
 pub mod Beginnings

@@ -13,7 +13,8 @@ use Rattle.tp_run.specs.States.{Plan, globals_of}
 use Rattle.tp_run.specs.PicksOfRun.{SettledState, settled_states}
 use Rattle.tp_renaming.specs.Renaming.{Renaming, FixesBelow, renamed_cell}
 use Rattle.tp_renaming.specs.Alike.{Alike}
-use Rattle.tp_any_order.specs.Agree.{SamePicture, FailsIn, IsOrderlyPlan}
+use Rattle.tp_run.specs.Same.{SamePicture, FailsIn}
+use Rattle.tp_any_order.specs.Agree.{IsOrderlyPlan}
 
 -- The end isn't a failure: the run finishes, is open at a cell, or has settled as many states as it may.
 abbrev pub FailsNowhere : Turn → Type 0

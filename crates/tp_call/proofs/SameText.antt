@@ -25,7 +25,7 @@ use Rattle.tp_run.specs.History.{RunEndsWith}
 use Rattle.tp_run.specs.States.{Plan, globals_of, StatesLead}
 use Rattle.tp_renaming.specs.Renaming.{Renaming, FixesBelow, renamed_variable, renamed_cell}
 use Rattle.tp_run.specs.PicksOfRun.{SettledState, led_states, beginning_of, settled_states}
-use Rattle.tp_any_order.specs.Agree.{SamePicture}
+use Rattle.tp_run.specs.Same.{SamePicture}
 use Rattle.tp_any_order.specs.AlikeRuns.{SameNext, SameStates, SameNamedEnd, FailsNowhere}
 use Rattle.tp_call.specs.Printed.{written_state, states_text, ended_text}
 

@@ -35,10 +35,12 @@ use Rattle.tp_run.specs.declared.run.Stand.TheVariants.{Open, Answered, Spent}
 use Rattle.tp_show.specs.declared.turn.Picture.{Picture}
 use Rattle.tp_show.specs.declared.turn.Turn.{Turn}
 use Rattle.tp_show.specs.declared.turn.Turn.TheVariants.{Went, Finished, Contradictory, Undetermined, StateLimit, InputMissing, Over}
-use Rattle.tp_run.specs.States.{Plan, globals_of, setting, IsPictureOf, StateGoesOn, StateEnds, Standing, open_at, answered, ReachesLimit, limit_moment, state_after, StateBecomes}
+use Rattle.tp_run.specs.States.{Plan, globals_of, setting, IsPictureOf, StateGoesOn, StateEnds, Standing, open_at, answered, spent, ReachesLimit, limit_moment, state_after, StateBecomes}
 use Rattle.tp_run.specs.Meaning.{StandingFor, StandsForItsProgram, AgreesWithFacts, AnswerMeans}
-use Rattle.tp_run.specs.Runs.{stands_at, standing_of, StandIsKept, StandIsOf, CellIsOf, TurnIsOf, MadeIsOf, StandsSound, IsSettingsOf, IsRunOf, HasPicture, NextOf, RestTurns}
-use Rattle.tp_run.proofs.StatesMean.{leads_sound, leads_keep, goes_on_says, ends_here_says, next_sound}
+use Rattle.tp_run.specs.Runs.{stands_at, standing_of, StandIsKept, StandIsOf, CellIsOf, TurnIsOf, MadeIsOf, StandsSound, StandsOrderly, IsSettingsOf, IsRunOf, HasPicture, NextOf, RestTurns}
+use Rattle.tp_run.specs.EachOrder.{AnswerAgrees, AnswerHasNoDeadEnd}
+use Rattle.tp_run.proofs.OneState.{Orderly, next_orderly, state_agrees, no_dead_end}
+use Rattle.tp_run.proofs.StatesMean.{leads_sound, leads_keep, goes_on_says, ends_here_says}
 use Rattle.tp_run.proofs.Given.{scene_laws, begin_laws}
 use Rattle.tp_scene.proofs.NamedItem.{named_item_waits}
 use Rattle.tp_run.proofs.KnownItems.{passes_other, clash_is_of, cell_is_of}
@@ -227,7 +229,10 @@ module _ (plan : Plan) (settings : Settings) (is : IsSettingsOf plan settings) (
   run_clashes_named kinds sound clash e =
       let comes = comes_to (ending.Clash clash) e in clash_is_of (setting plan n) kinds last (read_so kinds sound) comes.ends.0 clash comes.ends.2
 
-module _ (plan : Plan) (n : ℕ) (m : Moment) (old new : Picture) (standing : Standing) (store : Contents) (sound : IsSound (setting plan n) (kinds_of plan.program.globals) m) where
+module _ (plan : Plan) (n : ℕ) (m : Moment) (old new : Picture) (standing : Standing) (store : Contents) (orderly : Orderly plan n m) where
+  sound : IsSound (setting plan n) (kinds_of plan.program.globals) m
+  sound = orderly.sound
+
   abbrev Becomes : Turn → Type 0
   Becomes turn = StateBecomes plan n m old new standing store turn
 
@@ -262,37 +267,43 @@ module _ (plan : Plan) (n : ℕ) (m : Moment) (old new : Picture) (standing : St
   -- where the run then stands
   pub record StandsOn (next : ℕ) : Type 0 where
     pub within : next ≤ plan.states
-    pub stands : StandsSound plan next standing
+    pub stands : StandsOrderly plan next standing
 
-  last_sound : (turn : Turn) (end : Moment) → standing ≡ answered turn end → StandsSound plan n standing
-  last_sound turn end e = subst (StandsSound plan n) (sym e) tt
+  last_orderly : (turn : Turn) (end : Moment) → standing ≡ answered turn end → StandsOrderly plan n standing
+  last_orderly turn end e = subst (StandsOrderly plan n) (sym e) tt
 
-  pub becomes_sound : (turn : Turn) → Becomes turn → StandsOn (state_after n turn)
-  becomes_sound Went w = record { within = omega (arith, w.1.within); stands = subst (StandsSound plan (suc n)) (sym w.2) (next_sound scene_laws plan n m w.0 new sound w.1 (suc n)) }
-  becomes_sound (Finished length) w = record { within = omega (arith, w.0.within); stands = last_sound (Finished length) w.0.last w.2 }
-  becomes_sound (Contradictory state clash) w = record { within = omega (arith, w.2); stands = last_sound (Contradictory state clash) w.0.last w.4 }
-  becomes_sound (Undetermined state cell) w = record { within = omega (arith, w.2); stands = last_sound (Undetermined state cell) w.0.last w.4 }
-  becomes_sound (StateLimit states) w = record { within = omega (arith, w.0); stands = last_sound (StateLimit states) m w.3 }
-  becomes_sound (InputMissing state port) w = record { within = omega (arith, w.2); stands = last_sound (InputMissing state port) w.0.last w.4 }
-  becomes_sound (Over state limit) w = record { within = omega (arith, w.2); stands = last_sound (Over state limit) (limit_moment (setting plan n) plan.reductions m limit w.0) w.4 }
+  pub becomes_orderly : (turn : Turn) → Becomes turn → StandsOn (state_after n turn)
+  becomes_orderly Went w = record { within = omega (arith, w.1.within); stands = subst (StandsOrderly plan (suc n)) (sym w.2) (next_orderly plan n m w.0 new orderly w.1) }
+  becomes_orderly (Finished length) w = record { within = omega (arith, w.0.within); stands = last_orderly (Finished length) w.0.last w.2 }
+  becomes_orderly (Contradictory state clash) w = record { within = omega (arith, w.2); stands = last_orderly (Contradictory state clash) w.0.last w.4 }
+  becomes_orderly (Undetermined state cell) w = record { within = omega (arith, w.2); stands = last_orderly (Undetermined state cell) w.0.last w.4 }
+  becomes_orderly (StateLimit states) w = record { within = omega (arith, w.0); stands = last_orderly (StateLimit states) m w.3 }
+  becomes_orderly (InputMissing state port) w = record { within = omega (arith, w.2); stands = last_orderly (InputMissing state port) w.0.last w.4 }
+  becomes_orderly (Over state limit) w = record { within = omega (arith, w.2); stands = last_orderly (Over state limit) (limit_moment (setting plan n) plan.reductions m limit w.0) w.4 }
 
--- the moment at which a run stands is sound
-pub sound_at : (plan : Plan) (run : Run) (m : Moment) → IsRunOf plan run → open_at m ≡ standing_of run → IsSound (setting plan run.state) (kinds_of plan.program.globals) m
-sound_at plan run m h opened = let here : StandsSound plan run.state (open_at m) = subst (StandsSound plan run.state) (sym opened) h.sound in here
+-- the moment at which a run stands is orderly
+pub orderly_at : (plan : Plan) (run : Run) (m : Moment) → IsRunOf plan run → open_at m ≡ standing_of run → Orderly plan run.state m
+orderly_at plan run m h opened = let here : StandsOrderly plan run.state (open_at m) = subst (StandsOrderly plan run.state) (sym opened) h.orderly in here
+
+-- and sound
+pub stands_sound : (plan : Plan) (n : ℕ) (standing : Standing) → StandsOrderly plan n standing → StandsSound plan n standing
+stands_sound plan n (open_at m) h = h.sound
+stands_sound plan n (answered turn m) h = tt
+stands_sound plan n spent h = tt
 
 -- the run with another store and stand, before a state with this number
 abbrev pub moved : Run → (next : ℕ) → Contents → Stand → Run
 moved run next store stand = record run { state = next; store = store; stand = stand }
 
-with_stand : (plan : Plan) (run : Run) (next : ℕ) (store : Contents) (stand : Stand) → IsRunOf plan run → next ≤ plan.states → StandsSound plan next (stands_at stand store) → StandIsKept stand → StandIsOf store.variables stand
+with_stand : (plan : Plan) (run : Run) (next : ℕ) (store : Contents) (stand : Stand) → IsRunOf plan run → next ≤ plan.states → StandsOrderly plan next (stands_at stand store) → StandIsKept stand → StandIsOf store.variables stand
     → IsRunOf plan (moved run next store stand)
-with_stand plan run next store stand h within sound kept named = record {
+with_stand plan run next store stand h within orderly kept named = record {
   program = h.program;
   inputs = h.inputs;
   states = h.states;
   reductions = h.reductions;
   within = within;
-  sound = sound;
+  orderly = orderly;
   kept = kept;
   named = named;
 }
@@ -304,13 +315,21 @@ globals_are plan run h = sym (length-map run.program.globals is_lower) ∙ ap (�
 -- what the answer for a state leaves
 module _ (plan : Plan) (run : Run) (is_run : IsRunOf plan run) (m : Moment) (opened : open_at m ≡ standing_of run) (old new : Picture) (store : Contents) (stand : Stand) (turn : Turn)
     (becomes : StateBecomes plan run.state m old new (stands_at stand store) store turn) where
-  sound_here : IsSound (setting plan run.state) (kinds_of plan.program.globals) m
-  sound_here = sound_at plan run m is_run opened
+  orderly_here : Orderly plan run.state m
+  orderly_here = orderly_at plan run m is_run opened
 
   pub answer_means : AnswerMeans plan run.state (standing_of run) (stands_at stand store) new turn
-  answer_means = subst (λ (z : Standing). AnswerMeans plan run.state z (stands_at stand store) new turn) opened (becomes_means plan run.state m old new (stands_at stand store) store sound_here turn becomes)
+  answer_means = subst (λ (z : Standing). AnswerMeans plan run.state z (stands_at stand store) new turn) opened (becomes_means plan run.state m old new (stands_at stand store) store orderly_here turn becomes)
 
   pub run_kept : (next : ℕ) → next ≡ state_after run.state turn → StandIsKept stand → StandIsOf store.variables stand → IsRunOf plan (moved run next store stand)
   run_kept next e kept named =
-      let on = becomes_sound plan run.state m old new (stands_at stand store) store sound_here turn becomes in
-      with_stand plan run next store stand is_run (subst (λ k. k ≤ plan.states) (sym e) on.within) (subst (λ k. StandsSound plan k (stands_at stand store)) (sym e) on.stands) kept named
+      let on = becomes_orderly plan run.state m old new (stands_at stand store) store orderly_here turn becomes in
+      with_stand plan run next store stand is_run (subst (λ k. k ≤ plan.states) (sym e) on.within) (subst (λ k. StandsOrderly plan k (stands_at stand store)) (sym e) on.stands) kept named
+
+  pub answer_agrees : AnswerAgrees plan run.state (standing_of run) new turn
+  answer_agrees = subst (λ (z : Standing). AnswerAgrees plan run.state z new turn) opened
+      (state_agrees plan run.state m orderly_here old new (stands_at stand store) store turn becomes)
+
+  pub answer_goes_on : AnswerHasNoDeadEnd plan run.state (standing_of run) new turn
+  answer_goes_on = subst (λ (z : Standing). AnswerHasNoDeadEnd plan run.state z new turn) opened
+      (no_dead_end plan run.state m orderly_here old new (stands_at stand store) store turn becomes)

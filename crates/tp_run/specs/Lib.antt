@@ -4,3 +4,5 @@ pub mod History
 pub mod PicksOfRun
 pub mod Runs
 pub mod Ordered
+pub mod Same
+pub mod EachOrder

@@ -18,6 +18,7 @@ use Rattle.tp_scene.specs.Pick.{Setting, Moment}
 use Rattle.tp_scene.specs.Rest.{settled, goes, ends, IsOpenCell}
 use Rattle.tp_scene.specs.Advance.{advanced, shown_in}
 use Rattle.tp_scene.specs.Laws.{IsSound, StoreGoesOn}
+use Rattle.tp_order.specs.Orders.{IsOrderly}
 use Rattle.tp_run.specs.declared.run.Made.{Made}
 use Rattle.tp_run.specs.declared.run.Run.{Run}
 use Rattle.tp_run.specs.declared.run.Settings.{Settings}
@@ -113,6 +114,12 @@ StandsSound plan n (open_at m) = IsSound (setting plan n) (kinds_of plan.program
 StandsSound plan n (answered turn m) = Unit {0}
 StandsSound plan n spent = Unit {0}
 
+-- and at an orderly one: it is sound, and kept lengths, bound values and inputs are within the limits
+abbrev pub StandsOrderly : Plan → ℕ → Standing → Type 0
+StandsOrderly plan n (open_at m) = IsOrderly (setting plan n) (kinds_of plan.program.globals) m
+StandsOrderly plan n (answered turn m) = Unit {0}
+StandsOrderly plan n spent = Unit {0}
+
 -- the scene of a run, before a state and at its end, is well kept
 abbrev pub StandIsKept : Stand → Type 0
 StandIsKept (Open scene) = IsWellKept scene
@@ -134,7 +141,7 @@ pub record IsRunOf (plan : Plan) (run : Run) : Type 0 where
   pub states : run.limits.states ≡ plan.states
   pub reductions : run.limits.reductions ≡ plan.reductions
   pub within : next_state_of run ≤ plan.states
-  pub sound : StandsSound plan (next_state_of run) (standing_of run)
+  pub orderly : StandsOrderly plan (next_state_of run) (standing_of run)
   pub kept : StandIsKept run.stand
   pub named : StandIsOf run.store.variables run.stand
 

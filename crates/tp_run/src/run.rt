@@ -20,6 +20,7 @@ ghost use Rattle.tp_step.specs.Answers.{moment_of};
 ghost use Rattle.tp_run.specs.States.{Plan, plan_with, setting, open_at, answered, spent, state_after, AnswersState, StateBecomes};
 ghost use Rattle.tp_run.specs.Meaning.{StandsForItsProgram, AnswerMeans};
 ghost use Rattle.tp_run.specs.Ordered.{IsNamedInOrder};
+ghost use Rattle.tp_run.specs.EachOrder.{AnswerAgrees, AnswerHasNoDeadEnd};
 ghost use Rattle.tp_run.specs.Runs.{stands_at, standing_of, program_of, next_state_of, order_of, standing_place, store_of, carried_scene, last_scene_in, IsSettingsOf, IsRunOf, HasPicture, NextOf, RestTurns, StandIsKept, HasFirst, CellIsOf, TurnIsOf, MadeIsOf};
 
 use crate::limits::Limits;
@@ -403,6 +404,13 @@ impl Run {
             (plan : Plan) → IsRunOf plan self.old
             → AnswerMeans plan (next_state_of self.old) (standing_of self.old)
             (standing_of self.new) picture.new turn) }
+        ensures agrees { IfOk result (λ turn.
+            (plan : Plan) → IsRunOf plan self.old
+            → AnswerAgrees plan (next_state_of self.old) (standing_of self.old) picture.new turn) }
+        ensures no_dead_end { IfOk result (λ turn.
+            (plan : Plan) → IsRunOf plan self.old
+            → AnswerHasNoDeadEnd plan (next_state_of self.old) (standing_of self.old) picture.new
+            turn) }
         ensures run { (plan : Plan) → IsRunOf plan self.old → IsRunOf plan self.new }
         ensures order { order_of self.new ≡ order_of self.old }
         ensures in_order { IfOk result (λ turn.

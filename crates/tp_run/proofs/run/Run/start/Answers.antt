@@ -9,8 +9,8 @@ use Rattle.tp_scene.specs.StandsFor.{first_moment}
 use Rattle.tp_step.specs.Answers.{moment_of}
 use Rattle.tp_run.specs.States.{Plan, plan_with, open_at}
 use Rattle.tp_run.specs.Meaning.{StandsForItsProgram}
-use Rattle.tp_run.specs.Runs.{StandsSound}
-use Rattle.tp_run.proofs.Given.{first_sound}
+use Rattle.tp_run.specs.Runs.{StandsOrderly}
+use Rattle.tp_run.proofs.OneState.{first_orderly}
 use Rattle.tp_run.proofs.Becomes.{begins}
 use Rattle.tp_run.proofs.run.Run.start.Goals as goal
 
@@ -27,7 +27,7 @@ returns-clause-plan c =
       states = refl;
       reductions = refl;
       within = omega arith;
-      sound = subst (λ (m : Moment). StandsSound plan 0 (open_at m)) (sym first) (first_sound plan c.requires.fits);
+      orderly = subst (λ (m : Moment). StandsOrderly plan 0 (open_at m)) (sym first) (first_orderly plan c.requires.fits c.args.inputs.within);
       kept = c.in_ok-scene.ensures.kept;
       named = tt;
     }

@@ -3,7 +3,7 @@ use Rattle.tp_meaning.specs.Interval.{ProgramTree}
 use Rattle.tp_step.specs.Answers.{moment_of}
 use Rattle.tp_run.specs.declared.run.Stand.{Stand}
 use Rattle.tp_run.specs.Runs.{stands_at}
-use Rattle.tp_run.proofs.Becomes.{answer_means, run_kept, globals_are}
+use Rattle.tp_run.proofs.Becomes.{answer_means, answer_agrees, answer_goes_on, run_kept, globals_are}
 use Rattle.tp_run.proofs.Named.{named_by_plan}
 use Rattle.tp_run.proofs.Stores.{leaves_variables}
 use Rattle.tp_run.proofs.run.Run.state.Goals as goal
@@ -13,6 +13,20 @@ returns-in_ok-made-in-Open-clause-means g c = λ plan h.
     let run = c.args.self.now in
     let made = c.in_ok-made-in-Open.made in
     answer_means plan run h (moment_of c.in-Open.scene run.store) (ap (λ (s : Stand). stands_at s run.store) c.in-Open.ensures.value) c.args.picture.now c.make-made.new.picture c.make-made.new.store made.stand made.turn
+    (c.in_ok-made-in-Open.ensures.made plan (record { inputs = h.inputs; states = h.states; reductions = h.reductions; globals = c.len-globals.ensures ∙ globals_are plan run h; definitions = ap (λ (p : ProgramTree). p.defs) h.program }))
+
+pub returns-in_ok-made-in-Open-clause-agrees : goal.returns-in_ok-made-in-Open-clause-agrees
+returns-in_ok-made-in-Open-clause-agrees g c = λ plan h.
+    let run = c.args.self.now in
+    let made = c.in_ok-made-in-Open.made in
+    answer_agrees plan run h (moment_of c.in-Open.scene run.store) (ap (λ (s : Stand). stands_at s run.store) c.in-Open.ensures.value) c.args.picture.now c.make-made.new.picture c.make-made.new.store made.stand made.turn
+    (c.in_ok-made-in-Open.ensures.made plan (record { inputs = h.inputs; states = h.states; reductions = h.reductions; globals = c.len-globals.ensures ∙ globals_are plan run h; definitions = ap (λ (p : ProgramTree). p.defs) h.program }))
+
+pub returns-in_ok-made-in-Open-clause-no_dead_end : goal.returns-in_ok-made-in-Open-clause-no_dead_end
+returns-in_ok-made-in-Open-clause-no_dead_end g c = λ plan h.
+    let run = c.args.self.now in
+    let made = c.in_ok-made-in-Open.made in
+    answer_goes_on plan run h (moment_of c.in-Open.scene run.store) (ap (λ (s : Stand). stands_at s run.store) c.in-Open.ensures.value) c.args.picture.now c.make-made.new.picture c.make-made.new.store made.stand made.turn
     (c.in_ok-made-in-Open.ensures.made plan (record { inputs = h.inputs; states = h.states; reductions = h.reductions; globals = c.len-globals.ensures ∙ globals_are plan run h; definitions = ap (λ (p : ProgramTree). p.defs) h.program }))
 
 pub returns-in_ok-made-in-Open-clause-run : goal.returns-in_ok-made-in-Open-clause-run
