@@ -1,3 +1,4 @@
 pub mod Agree
 pub mod AlikeRuns
 pub mod Beginnings
+pub mod SameName
