@@ -9,13 +9,16 @@ use Rattle.tp_show.specs.declared.turn.Turn.{Turn}
 use Rattle.tp_show.specs.declared.turn.Turn.TheVariants.{Went, Finished, Contradictory, Undetermined, StateLimit, InputMissing, Over}
 use Rattle.tp_run.specs.History.{RunEndsWith, end_store}
 use Rattle.tp_run.specs.States.{Plan, globals_of, setting, StatesLead}
+use Rattle.tp_run.specs.PicksOfRun.{SettledState, settled_last, led_states, beginning_of, settled_states}
 use Rattle.tp_renaming.specs.Renaming.{renamed_cell}
 use Rattle.tp_renaming.specs.Alike.{Alike}
 use Rattle.tp_renaming.proofs.AdvanceAlike.{alike_moments_advance}
 use Rattle.tp_order.proofs.Equivalence.{alike_is_equivalence}
-use Rattle.tp_any_order.specs.Agree.{SamePictures, SameEnd, IsOrderlyPlan}
-use Rattle.tp_any_order.specs.AlikeRuns.{SettledState, settled_last, led_states, beginning_of, settled_states, SameStates, SameNamedCell, SameNamedEnd, AllRunsAreAlike}
-use Rattle.tp_any_order.proofs.Agree.{kinds, Orderly, EndsAt, cell_by, end_alike, settle, same_picture, cant_go, next_orderly, Parts, parts, start, itself, agree}
+use Rattle.tp_run.specs.Same.{SamePictures, SameEnd}
+use Rattle.tp_any_order.specs.Agree.{IsOrderlyPlan}
+use Rattle.tp_any_order.specs.AlikeRuns.{SameStates, SameNamedCell, SameNamedEnd, AllRunsAreAlike}
+use Rattle.tp_run.proofs.OneState.{kinds, Orderly, EndsAt, cell_by, end_alike, settle, same_picture, cant_go, next_orderly, first_orderly, itself}
+use Rattle.tp_any_order.proofs.Agree.{Parts, parts, agree}
 
 module _ (plan : Plan) where
   -- The states of two runs, one after the other, and what comes after them.
@@ -131,9 +134,9 @@ module _ (plan : Plan) where
     walk_both : Walked 0 (beginning_of plan) (beginning_of plan) mine.before theirs.before mine.moment theirs.moment mine.leads theirs.leads
         (length mine.before)
     walk_both =
-        let begins = start plan plan_orderly in
+        let begins = first_orderly plan plan_orderly.program plan_orderly.inputs in
         walked mine.before theirs.before 0 (beginning_of plan) (beginning_of plan) mine.moment theirs.moment begins begins
-        (itself plan plan_orderly 0 (beginning_of plan) begins) mine.leads theirs.leads
+        (itself plan 0 (beginning_of plan) begins) mine.leads theirs.leads
         (length mine.before) (length theirs.before) (omega arith) (omega arith) mine.tail turn mine.end theirs.tail other theirs.end
 
     tails_same : SamePictures mine.tail theirs.tail

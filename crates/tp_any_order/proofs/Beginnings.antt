@@ -14,15 +14,18 @@ use Rattle.tp_show.specs.declared.turn.Turn.{Turn}
 use Rattle.tp_show.specs.declared.turn.Turn.TheVariants.{Went, Finished, Contradictory, Undetermined, StateLimit, InputMissing, Over}
 use Rattle.tp_run.specs.History.{RunEndsWith}
 use Rattle.tp_run.specs.States.{Plan, globals_of, setting, IsPictureOf, StateGoesOn, StateEnds, StatesLead, LeadsTo}
+use Rattle.tp_run.specs.PicksOfRun.{picks_led, beginning_of, picks_before, picks_of_run}
 use Rattle.tp_renaming.specs.Renaming.{renamed_cell}
 use Rattle.tp_renaming.specs.Alike.{Alike}
 use Rattle.tp_renaming.proofs.AdvanceAlike.{alike_moments_advance}
 use Rattle.tp_order.proofs.CloseOneWay.{leads_orderly}
 use Rattle.tp_order.proofs.Rest.{one_rest_of}
-use Rattle.tp_any_order.specs.Agree.{SameEnd, IsOrderlyPlan}
-use Rattle.tp_any_order.specs.AlikeRuns.{FailsNowhere, beginning_of}
-use Rattle.tp_any_order.specs.Beginnings.{picks_led, picks_before, picks_of_run, RunGoesOnFrom, BeginningsGoOn}
-use Rattle.tp_any_order.proofs.Agree.{kinds, Orderly, ClosesBy, EndsAt, one_way, end_alike, settle, cant_go, next_orderly, Parts, parts, start, itself, agree}
+use Rattle.tp_run.specs.Same.{SameEnd}
+use Rattle.tp_any_order.specs.Agree.{IsOrderlyPlan}
+use Rattle.tp_any_order.specs.AlikeRuns.{FailsNowhere}
+use Rattle.tp_any_order.specs.Beginnings.{RunGoesOnFrom, BeginningsGoOn}
+use Rattle.tp_run.proofs.OneState.{kinds, Orderly, ClosesBy, EndsAt, one_way, end_alike, settle, cant_go, next_orderly, first_orderly, itself}
+use Rattle.tp_any_order.proofs.Agree.{Parts, parts, agree}
 
 -- the store with which the next state may begin
 next_store : Contents → Contents
@@ -401,9 +404,9 @@ module _ (plan : Plan) where
         (led : Leads (setting plan (length qs)) m begun there) where
       aligned : Aligned (length qs) m mine.moment (length mine.before)
       aligned =
-          let begins = start plan o in
+          let begins = first_orderly plan o.program o.inputs in
           align qs mine.before 0 (beginning_of plan) (beginning_of plan) mine.moment m begins begins
-          (itself plan o 0 (beginning_of plan) begins) mine.leads leads (length mine.before) (omega arith) (length qs)
+          (itself plan 0 (beginning_of plan) begins) mine.leads leads (length mine.before) (omega arith) (length qs)
           (omega arith) mine.tail turn mine.end
 
       on : Onward (length qs) m begun

@@ -1,4 +1,4 @@
-pub mod SameFacts
 pub mod Agree
 pub mod AlikeRuns
 pub mod Beginnings
+pub mod SameName

@@ -1,19 +1,20 @@
 -- What any two runs of a plan share beyond their pictures: what is left after each state is alike, and a cell has the same name.
-use Rattle.std.specs.Prelude.{◌≡◌, ℕ, suc, List, [], ◌∷◌, ◌++◌, length, Option, Some, None, slice_get}
+use Rattle.std.specs.Prelude.{◌≡◌, ℕ, List, [], ◌∷◌, Option, Some, None, slice_get}
 use Rattle.tp_meaning.specs.Interval.{kinds_of}
 use Rattle.tp_store.specs.Known.{Variable}
 use Rattle.tp_scene.specs.declared.answer.Cell.{Cell}
 use Rattle.tp_scene.specs.Pick.{Moment}
 use Rattle.tp_scene.specs.Fits.{MomentFits}
-use Rattle.tp_scene.specs.StandsFor.{first_moment}
 use Rattle.tp_show.specs.declared.turn.Picture.{Picture}
 use Rattle.tp_show.specs.declared.turn.Turn.{Turn}
 use Rattle.tp_show.specs.declared.turn.Turn.TheVariants.{Went, Finished, Contradictory, Undetermined, StateLimit, InputMissing, Over}
 use Rattle.tp_run.specs.History.{RunEndsWith, end_store}
-use Rattle.tp_run.specs.States.{Plan, globals_of, StatesLead}
+use Rattle.tp_run.specs.States.{Plan, globals_of}
+use Rattle.tp_run.specs.PicksOfRun.{SettledState, settled_states}
 use Rattle.tp_renaming.specs.Renaming.{Renaming, FixesBelow, renamed_cell}
 use Rattle.tp_renaming.specs.Alike.{Alike}
-use Rattle.tp_any_order.specs.Agree.{SamePicture, FailsIn, IsOrderlyPlan}
+use Rattle.tp_run.specs.Same.{SamePicture, FailsIn}
+use Rattle.tp_any_order.specs.Agree.{IsOrderlyPlan}
 
 -- The end isn't a failure: the run finishes, is open at a cell, or has settled as many states as it may.
 abbrev pub FailsNowhere : Turn → Type 0
@@ -25,37 +26,7 @@ FailsNowhere (StateLimit states) = Unit {0}
 FailsNowhere (InputMissing state port) = ⊥
 FailsNowhere (Over state limit) = ⊥
 
--- a settled state: its picture, and what the next state begins with, where there is one
-pub record SettledState : Type 0 where
-  pub picture : Picture
-  pub next : Option Moment
-
-abbrev pub settled_before : Picture → Moment → SettledState
-settled_before picture next = record { picture = picture; next = Some next }
-
-abbrev pub settled_last : Picture → SettledState
-settled_last picture = record { picture = picture; next = None }
-
--- the settled states that lead from one moment to another
-abbrev pub led_states : (plan : Plan) (n : ℕ) (m : Moment) (ps : List Picture) (last : Moment) → StatesLead plan n m ps last → List SettledState
-led_states plan n m [] last leads = []
-led_states plan n m (p ∷ ps) last leads = settled_before p leads.0 ∷ led_states plan (suc n) leads.0 ps last leads.2
-
 module _ (plan : Plan) where
-  -- what a run begins with
-  abbrev pub beginning_of : Moment
-  beginning_of = first_moment plan.program.globals plan.program.main
-
-  -- the settled states of a whole run
-  abbrev pub settled_states : (ps : List Picture) (turn : Turn) → RunEndsWith plan ps turn → List SettledState
-  settled_states ps Went end = []
-  settled_states ps (Finished n) end = led_states plan 0 beginning_of end.before end.moment end.leads ++ settled_last end.final ∷ []
-  settled_states ps (Contradictory state clash) end = led_states plan 0 beginning_of ps end.0 end.1
-  settled_states ps (Undetermined state cell) end = led_states plan 0 beginning_of ps end.0 end.1
-  settled_states ps (StateLimit states) end = led_states plan 0 beginning_of ps end.0 end.1
-  settled_states ps (InputMissing state port) end = led_states plan 0 beginning_of ps end.0 end.1
-  settled_states ps (Over state limit) end = led_states plan 0 beginning_of ps end.0 end.1
-
   -- The next states begin alike, with what fits the program; or there is none.
   abbrev pub SameNext : Option Moment → Option Moment → Type 0
   SameNext None None = Unit {0}

@@ -1,5 +1,5 @@
 // Laws of runs in any order.
-ghost use Rattle.tp_any_order.specs.Agree.{RunsAgree, StatesAgree};
+ghost use Rattle.tp_any_order.specs.Agree.{RunsAgree};
 ghost use Rattle.tp_any_order.specs.AlikeRuns.{AllRunsAreAlike};
 ghost use Rattle.tp_any_order.specs.Beginnings.{BeginningsGoOn};
 ghost use Rattle.tp_run.specs.States.{Plan};
@@ -7,11 +7,6 @@ ghost use Rattle.tp_run.specs.States.{Plan};
 /// Two runs have the same settled states, the same shows, and the same end, whatever the order of picks.
 pub fn runs_agree()
     ensures { (plan : Plan) → RunsAgree plan }
-{}
-
-/// A run settles each state that some picks settle, with the same picture, and ends where some picks end.
-pub fn states_agree()
-    ensures { (plan : Plan) → StatesAgree plan }
 {}
 
 /// What is left after each settled state is alike in any two runs, and a cell at which they are open has the same name.

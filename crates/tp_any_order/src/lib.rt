@@ -4,4 +4,4 @@
 
 mod laws;
 
-pub use laws::{all_runs_are_alike, beginnings_go_on, runs_agree, states_agree};
+pub use laws::{all_runs_are_alike, beginnings_go_on, runs_agree};

@@ -62,11 +62,11 @@ finished_by : (plan : Plan) (trace : Bool) (from to : RunPlace) (before now afte
 finished_by plan trace from to before now after n picture h t wrote range =
     let w = answered_there plan trace from to before now (turn.Finished n) picture h t in
     let end = advances plan trace from to before now (turn.Finished n) picture h t in
-    let none : next_moment to ≡ None = no_next to (turn.Finished n) w.0.2 in
+    let none : next_moment to ≡ None = no_next to (turn.Finished n) w.0.0.last w.0.2 in
     record {
       pictures = h.pictures ++ picture ∷ [];
       run = end.0;
-      holds = end.2;
+      holds = end.2.1;
       wrote = Wrote-both before now after _ _ h.wrote (subst (λ m. Wrote now after (written_state trace plan.program picture m)) none wrote);
       range = All-push IsPictureInRange h.pictures picture h.range range;
     }
@@ -77,15 +77,15 @@ ended_by : (plan : Plan) (trace : Bool) (from to : RunPlace) (before now after :
 ended_by plan trace from to before now after turn.Went picture l h t wrote range = absurd l
 ended_by plan trace from to before now after (turn.Finished n) picture l h t wrote range = finished_by plan trace from to before now after n picture h t wrote (range refl)
 ended_by plan trace from to before now after (turn.Contradictory state clash) picture l h t wrote range =
-    let end = advances plan trace from to before now (turn.Contradictory state clash) picture h t in stopped_by plan trace from to before now after (turn.Contradictory state clash) h wrote end.0 refl end.2
+    let end = advances plan trace from to before now (turn.Contradictory state clash) picture h t in stopped_by plan trace from to before now after (turn.Contradictory state clash) h wrote end.0 refl end.2.1
 ended_by plan trace from to before now after (turn.Undetermined state cell) picture l h t wrote range =
-    let end = advances plan trace from to before now (turn.Undetermined state cell) picture h t in stopped_by plan trace from to before now after (turn.Undetermined state cell) h wrote end.0 refl end.2
+    let end = advances plan trace from to before now (turn.Undetermined state cell) picture h t in stopped_by plan trace from to before now after (turn.Undetermined state cell) h wrote end.0 refl end.2.1
 ended_by plan trace from to before now after (turn.StateLimit states) picture l h t wrote range =
-    let end = advances plan trace from to before now (turn.StateLimit states) picture h t in stopped_by plan trace from to before now after (turn.StateLimit states) h wrote end.0 refl end.2
+    let end = advances plan trace from to before now (turn.StateLimit states) picture h t in stopped_by plan trace from to before now after (turn.StateLimit states) h wrote end.0 refl end.2.1
 ended_by plan trace from to before now after (turn.InputMissing state port) picture l h t wrote range =
-    let end = advances plan trace from to before now (turn.InputMissing state port) picture h t in stopped_by plan trace from to before now after (turn.InputMissing state port) h wrote end.0 refl end.2
+    let end = advances plan trace from to before now (turn.InputMissing state port) picture h t in stopped_by plan trace from to before now after (turn.InputMissing state port) h wrote end.0 refl end.2.1
 ended_by plan trace from to before now after (turn.Over state limit) picture l h t wrote range =
-    let end = advances plan trace from to before now (turn.Over state limit) picture h t in stopped_by plan trace from to before now after (turn.Over state limit) h wrote end.0 refl end.2
+    let end = advances plan trace from to before now (turn.Over state limit) picture h t in stopped_by plan trace from to before now after (turn.Over state limit) h wrote end.0 refl end.2.1
 
 -- The last state of these was settled, whether the run goes on or not; and this is the text of them.
 settles_with : (plan : Plan) (trace : Bool) (from to : RunPlace) (before now : Option (List ℕ)) (answer : Turn) (picture : Picture) → (h : HasWritten plan trace from before now) → Turned plan from to answer picture
@@ -101,7 +101,7 @@ settles_with plan trace from to before now turn.Went picture h t settled =
     (inl (a.0, a.2), text ∙ ap (λ m. before_it ++ written_state trace plan.program picture m) (sym there))
 settles_with plan trace from to before now (turn.Finished n) picture h t settled =
     let w = answered_there plan trace from to before now (turn.Finished n) picture h t in
-    let none : next_moment to ≡ None = no_next to (turn.Finished n) w.0.2 in
+    let none : next_moment to ≡ None = no_next to (turn.Finished n) w.0.0.last w.0.2 in
     let before_it = lead_text trace plan h.pictures h.next h.leads in (
       inr (n, record { answer = turn.Finished n; status_is = refl; run = (advances plan trace from to before now (turn.Finished n) picture h t).0 }),
       ap (λ m. before_it ++ written_state trace plan.program picture m) (sym none),

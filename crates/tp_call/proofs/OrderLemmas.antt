@@ -8,7 +8,7 @@ use Rattle.tp_show.specs.declared.turn.Turn.{Turn}
 use Rattle.tp_show.specs.declared.turn.Turn.TheVariants as turn
 use Rattle.tp_run.specs.States.{Plan, setting, RunPlace, Standing, open_at, StateBecomes}
 use Rattle.tp_run.specs.Ordered.{IsNamedInOrder}
-use Rattle.tp_any_order.specs.Agree.{FailsIn}
+use Rattle.tp_run.specs.Same.{FailsIn}
 use Rattle.tp_call.specs.declared.run.Ended.{Ended}
 use Rattle.tp_call.specs.declared.status.Status.{Status}
 use Rattle.tp_call.specs.declared.status.Status.TheVariants.{WriteFault, NoMemory}

@@ -42,8 +42,8 @@ next_there to n m stands state store =
     ap (λ z. moment_with to.store z) (carries_next to n m stands state) ∙ ap (λ z. moment_with z (Some m.scene)) store
 
 -- after its last answer there is none
-pub no_next : (to : RunPlace) (turn : Turn) → to.standing ≡ answered turn → next_moment to ≡ None
-no_next to turn stands = ap (λ z. moment_with to.store z) (carries_nothing to turn stands)
+pub no_next : (to : RunPlace) (turn : Turn) (m : Moment) → to.standing ≡ answered turn m → next_moment to ≡ None
+no_next to turn m stands = ap (λ z. moment_with to.store z) (carries_nothing to turn m stands)
 
 -- what a call answers where the run stands before the state after some that it settled
 pub answered_there : (plan : Plan) (trace : Bool) (from to : RunPlace) (before now : Option (List ℕ)) (answer : Turn) (picture : Picture) → (h : HasWritten plan trace from before now) → (t : Turned plan from to answer picture)

@@ -1,31 +1,27 @@
 -- Runs that are alike have one text.
-use Rattle.std.proofs.Common.{◌≡◌, inl, inr, ℕ, suc, Bool, true, false, List, [], ◌∷◌, ◌++◌, map, length, Option, Some, None, refl, ap, sym, ◌∙◌, subst, nat_lt, slice_get, if◌then◌else◌, append-nil}
-use Rattle.std.proofs.lemmas.Bool.{cases_Bool, ltb-true}
+use Rattle.std.proofs.Common.{◌≡◌, ℕ, suc, Bool, true, false, List, [], ◌∷◌, ◌++◌, Option, Some, None, refl, ap, sym, ◌∙◌, subst, append-nil}
 use Rattle.std.proofs.lemmas.List.{length-map}
 use Rattle.std.proofs.lemmas.List.Concat.{flat_map-append}
 use Rattle.std.specs.List.{flat_map}
-use Rattle.std.specs.Prelude.{unwrap_or, codes}
-use Rattle.tp_value.specs.declared.path.VarId.{VarId}
+use Rattle.std.specs.Prelude.{codes}
 use Rattle.tp_value.specs.Globals.{is_lower}
 use Rattle.tp_meaning.specs.Interval.{kinds_of}
-use Rattle.tp_store.specs.Known.{Variable, name_where}
-use Rattle.tp_scene.specs.declared.answer.Cell.{Cell}
-use Rattle.tp_scene.specs.declared.answer.Cell.TheVariants.{Part, End}
+use Rattle.tp_store.specs.Known.{Variable}
 use Rattle.tp_scene.specs.Pick.{Moment}
 use Rattle.tp_show.specs.declared.turn.Picture.{Picture}
 use Rattle.tp_show.specs.declared.turn.Turn.{Turn}
 use Rattle.tp_show.specs.declared.turn.Turn.TheVariants as turn
 use Rattle.tp_show.specs.Parts.{line_parts}
 use Rattle.tp_show.specs.Line.{told_lines, picture_lines}
-use Rattle.tp_show.specs.Texts.{global_name, index_text, variable_text, cell_text}
 use Rattle.tp_show.specs.EndLine.{state_text, end_line}
 use Rattle.tp_residual.specs.Residual.{trace_lines}
 use Rattle.tp_residual.proofs.OnePhrase.{alike_moments_have_one_phrase}
 use Rattle.tp_run.specs.History.{RunEndsWith}
 use Rattle.tp_run.specs.States.{Plan, globals_of, StatesLead}
-use Rattle.tp_renaming.specs.Renaming.{Renaming, FixesBelow, renamed_variable, renamed_cell}
-use Rattle.tp_any_order.specs.Agree.{SamePicture}
-use Rattle.tp_any_order.specs.AlikeRuns.{SettledState, led_states, beginning_of, settled_states, SameNext, SameStates, SameNamedEnd, FailsNowhere}
+use Rattle.tp_run.specs.PicksOfRun.{SettledState, led_states, beginning_of, settled_states}
+use Rattle.tp_run.specs.Same.{SamePicture}
+use Rattle.tp_any_order.specs.AlikeRuns.{SameNext, SameStates, SameNamedCell, SameNamedEnd, FailsNowhere}
+use Rattle.tp_any_order.proofs.SameName.{named_cell_text}
 use Rattle.tp_call.specs.Printed.{written_state, states_text, ended_text}
 
 module _ (trace : Bool) (plan : Plan) where
@@ -84,38 +80,6 @@ one_text trace plan ps answer run qs other another h =
     text_by_states trace plan qs other another ∙ states_same trace plan (settled_states plan ps answer run) (settled_states plan qs other another) h
     ∙ sym (text_by_states trace plan ps answer run)
 
--- The name of a variable, renamed.
-module _ (globals : List (List ℕ)) (xs ys : List Variable) (ρ : Renaming) (fixed : FixesBelow (length globals) ρ.local)
-    (names : (i : ℕ) → slice_get ys (ρ.local.to i) ≡ slice_get xs i) where
-  -- a global stays one, and a local too
-  global_test : (i : ℕ) → nat_lt (ρ.local.to i) (length globals) ≡ nat_lt i (length globals)
-  global_test i = elim (cases_Bool (nat_lt i (length globals))) [
-    | inl e ↦ ap (λ k. nat_lt k (length globals)) (fixed i (ltb-true i (length globals) e))
-    | inr e ↦ elim (cases_Bool (nat_lt (ρ.local.to i) (length globals))) [
-      | inl d ↦ (let back : ρ.local.to i ≡ i = sym (ρ.local.undone (ρ.local.to i))
-          ∙ ap ρ.local.back (fixed (ρ.local.to i) (ltb-true (ρ.local.to i) (length globals) d)) ∙ ρ.local.undone i in
-          ap (λ k. nat_lt k (length globals)) back)
-      | inr d ↦ d ∙ sym e
-    ]
-  ]
-
-  name_by : (x : VarId) (b : Bool) → nat_lt x.number (length globals) ≡ b
-      → (if b then global_name globals (ρ.local.to x.number) else codes "local "
-      ++ unwrap_or (name_where x.lasting (slice_get ys (ρ.local.to x.number))) [])
-      ≡ (if b then global_name globals x.number else codes "local " ++ unwrap_or (name_where x.lasting (slice_get xs x.number)) [])
-  name_by x true e = ap (global_name globals) (fixed x.number (ltb-true x.number (length globals) e))
-  name_by x false e = ap (λ o. codes "local " ++ unwrap_or (name_where x.lasting o) []) (names x.number)
-
-  variable_same : (x : VarId) → variable_text globals ys (renamed_variable ρ x) ≡ variable_text globals xs x
-  variable_same x =
-      ap (λ b. if b then global_name globals (ρ.local.to x.number) else codes "local "
-      ++ unwrap_or (name_where x.lasting (slice_get ys (ρ.local.to x.number))) []) (global_test x.number)
-      ∙ name_by x (nat_lt x.number (length globals)) refl
-
-  cell_same : (c : Cell) → cell_text globals ys (renamed_cell ρ c) ≡ cell_text globals xs c
-  cell_same (Part p) = ap (λ text. text ++ flat_map index_text p.at) (variable_same p.var)
-  cell_same (End region depth) = refl
-
 -- The end line of ends that aren't failures.
 pub one_end_line : (plan : Plan) (xs ys : List Variable) (reductions : ℕ) (answer other : Turn) → FailsNowhere answer
     → SameNamedEnd (globals_of plan) xs ys answer other
@@ -124,12 +88,10 @@ one_end_line plan xs ys reductions turn.Went other safe same = absurd safe
 one_end_line plan xs ys reductions (turn.Finished n) other safe same = ap (end_line plan.program.globals ys reductions) same
 one_end_line plan xs ys reductions (turn.Contradictory state clash) other safe same = absurd safe
 one_end_line plan xs ys reductions (turn.Undetermined state cell) other safe same =
-    let c = same.2 in
-    let fixed : FixesBelow (length plan.program.globals) c.0.local = subst (λ (k : ℕ). FixesBelow k c.0.local)
-    (length-map plan.program.globals is_lower) c.1 in
+    let named = subst (λ (k : ℕ). SameNamedCell k xs ys cell same.0) (length-map plan.program.globals is_lower) same.2 in
     ap (end_line plan.program.globals ys reductions) same.1
     ∙ ap (λ text. (state_text (codes "undetermined") state ++ codes ": " ++ text) ++ codes "\n")
-    (ap (cell_text plan.program.globals ys) c.3 ∙ cell_same plan.program.globals xs ys c.0 fixed c.2 cell)
+    (named_cell_text plan.program.globals xs ys cell same.0 named)
 one_end_line plan xs ys reductions (turn.StateLimit states) other safe same = ap (end_line plan.program.globals ys reductions) same
 one_end_line plan xs ys reductions (turn.InputMissing state port) other safe same = absurd safe
 one_end_line plan xs ys reductions (turn.Over state kind) other safe same = absurd safe

@@ -154,7 +154,7 @@ ends_run (turn.Over state limit.Nest) status e = subst IsEndOfRun (some_is e) tt
 pub settled_parts : (plan : Plan) (from to : RunPlace) (old new : Picture) (answer : Turn) → StandsOpen from.standing → AnswersState plan from old new to answer → is_settled answer ≡ true → plain_parts new.parts ≡ line_parts new.facts
 settled_parts plan from to old new answer stands made settled = at from.standing stands made where
   at : (standing : Standing) → StandsOpen standing → AnswersState plan (record { standing = standing; state = from.state; store = from.store }) old new to answer → plain_parts new.parts ≡ line_parts new.facts
-  at (answered last) o a = absurd o
+  at (answered last m) o a = absurd o
   at spent o a = absurd o
   at (open_at moment) o a = by answer settled a.0 where
     by : (turn : Turn) → is_settled turn ≡ true → StateBecomes plan from.state moment old new to.standing to.store turn → plain_parts new.parts ≡ line_parts new.facts
@@ -166,17 +166,17 @@ settled_parts plan from to old new answer stands made settled = at from.standing
     by (turn.InputMissing state port) e b = cc
     by (turn.Over state limit) e b = cc
 
-carries_none : (n : ℕ) (turn : Turn) → carried_scene n (answered turn) ≡ None
-carries_none zero turn = refl
-carries_none (suc n) turn = refl
+carries_none : (n : ℕ) (turn : Turn) (m : Moment) → carried_scene n (answered turn m) ≡ None
+carries_none zero turn m = refl
+carries_none (suc n) turn m = refl
 
 -- what is carried to the next state
 pub carries_next : (to : RunPlace) (n : ℕ) (m : Moment) → to.standing ≡ open_at m → to.state ≡ suc n → carried_scene to.state to.standing ≡ Some m.scene
 carries_next to n m stands state = ap (λ z. carried_scene to.state z) stands ∙ ap (λ k. carried_scene k (open_at m)) state
 
 -- after its last answer a run carries nothing
-pub carries_nothing : (to : RunPlace) (turn : Turn) → to.standing ≡ answered turn → carried_scene to.state to.standing ≡ None
-carries_nothing to turn stands = ap (λ z. carried_scene to.state z) stands ∙ carries_none to.state turn
+pub carries_nothing : (to : RunPlace) (turn : Turn) (m : Moment) → to.standing ≡ answered turn m → carried_scene to.state to.standing ≡ None
+carries_nothing to turn m stands = ap (λ z. carried_scene to.state z) stands ∙ carries_none to.state turn m
 
 abbrev Carries : Option Scene → Type 0
 Carries carried = IfSome carried (λ s. AreCarried s.root.entries)
@@ -186,7 +186,7 @@ pub settled_carries : (plan : Plan) (from to : RunPlace) (old new : Picture) (an
     → IfSome (carried_scene to.state to.standing) (λ s. AreCarried s.root.entries)
 settled_carries plan from to old new answer stands sound made settled = at from.standing stands sound made where
   at : (standing : Standing) → StandsOpen standing → StandsSound plan from.state standing → AnswersState plan (record { standing = standing; state = from.state; store = from.store }) old new to answer → Carries (carried_scene to.state to.standing)
-  at (answered last) o s a = absurd o
+  at (answered last m) o s a = absurd o
   at spent o s a = absurd o
   at (open_at moment) o s a = by answer settled a.0 a.1 where
     by : (turn : Turn) → is_settled turn ≡ true → StateBecomes plan from.state moment old new to.standing to.store turn → to.state ≡ state_after from.state turn → Carries (carried_scene to.state to.standing)
@@ -194,7 +194,7 @@ settled_carries plan from to old new answer stands sound made settled = at from.
         let g = b.1.goes in
         let due = next_scenes_are_carried.goes (setting plan from.state) (kinds_of plan.program.globals) plan.reductions moment b.1.picks b.1.last b.0 s g in
         subst Carries (sym (carries_next to from.state b.0 b.2 next)) due
-    by (turn.Finished length) e b next = subst Carries (sym (carries_nothing to (turn.Finished length) b.2)) tt
+    by (turn.Finished length) e b next = subst Carries (sym (carries_nothing to (turn.Finished length) b.0.last b.2)) tt
     by (turn.Contradictory state clash) e b next = cc
     by (turn.Undetermined state cell) e b next = cc
     by (turn.StateLimit states) e b next = cc

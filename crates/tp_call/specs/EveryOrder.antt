@@ -7,7 +7,7 @@ use Rattle.tp_show.specs.declared.turn.Turn.{Turn}
 use Rattle.tp_show.specs.declared.turn.Turn.TheVariants as turn
 use Rattle.tp_run.specs.History.{RunEndsWith}
 use Rattle.tp_run.specs.States.{Plan, globals_of}
-use Rattle.tp_any_order.specs.Agree.{SameCell, SamePictures, FailsIn}
+use Rattle.tp_run.specs.Same.{SameCell, SamePictures, FailsIn}
 use Rattle.tp_call.specs.declared.status.Status.{Status}
 use Rattle.tp_call.specs.declared.status.Status.TheVariants.{Finished, Undetermined, StateLimit}
 use Rattle.tp_call.specs.Run.{status_of}

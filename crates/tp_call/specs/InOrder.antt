@@ -7,7 +7,7 @@ use Rattle.tp_show.specs.declared.turn.Picture.{Picture}
 use Rattle.tp_show.specs.declared.turn.Turn.{Turn}
 use Rattle.tp_run.specs.States.{Plan, RunPlace, setting, open_at, LeadsTo}
 use Rattle.tp_run.specs.Ordered.{IsNamedInOrder}
-use Rattle.tp_any_order.specs.Agree.{FailsIn}
+use Rattle.tp_run.specs.Same.{FailsIn}
 use Rattle.tp_call.specs.declared.status.Status.{Status}
 use Rattle.tp_call.specs.Run.{status_of}
 use Rattle.tp_call.specs.Answer.{IsAskedFor}

@@ -8,7 +8,7 @@ use Rattle.tp_run.specs.Runs.{StandIsKept, standing_of, next_state_of, carried_s
 -- the run stands before a state
 abbrev pub StandsOpen : Standing → Type 0
 StandsOpen (open_at moment) = Unit {0}
-StandsOpen (answered turn) = ⊥
+StandsOpen (answered turn moment) = ⊥
 StandsOpen spent = ⊥
 
 -- The run's scene is well kept, and what it carries to the next state is as a state begins.

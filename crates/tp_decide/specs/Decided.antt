@@ -31,7 +31,7 @@ abbrev pub plain_place : Place → S.Place
 plain_place p = record { region = p.region; depth = p.depth; is = λ z. S.marked z (record { number = p.region; ends = p.ends; goes = p.goes }) }
 
 abbrev pub setting_of : Setting → pick.Setting
-setting_of w = record { defs = definitions_of w.defs; inputs = lines_of w.inputs; state = w.state }
+setting_of w = record { defs = definitions_of w.defs.now; inputs = lines_of w.inputs.now; state = w.state }
 
 abbrev pub plain_leaf : Leaf → S.Leaf
 plain_leaf (leaf.Do a) = S.Do (formula_of a) (env_of a)

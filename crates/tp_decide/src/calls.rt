@@ -62,13 +62,13 @@ fn find_place(
     requires { IsTrue (is_place (expr_tree expr.now)) }
     ensures bound { IfOk result (λ bound.
         BoundIn
-        (λ f. row.with_place (definitions_of setting.now.defs) [] 0 store.now.facts
-        (place_outcome store.now.facts (definitions_of setting.now.defs) (expr_tree expr.now)
+        (λ f. row.with_place (definitions_of setting.now.defs.now) [] 0 store.now.facts
+        (place_outcome store.now.facts (definitions_of setting.now.defs.now) (expr_tree expr.now)
         (bindings_of env.now)) f)
         bound) }
     ensures plain { IfOk result (λ bound. IfErr bound IsPlain) }
 {
-    match place(alloc, expr, env, store, &setting.defs)? {
+    match place(alloc, expr, env, store, setting.defs)? {
         PlaceOutcome::Place(path) => Ok(Ok(Binding::Place(path))),
         PlaceOutcome::Other(outcome) => {
             let bound = known(alloc, value(outcome))?;
@@ -89,7 +89,7 @@ fn find_binding(
     requires { IsTrue (is_upper parameter.now) → IsTrue (is_place (expr_tree expr.now)) }
     ensures bound { IfOk result
         (BoundIn (λ f.
-        row.with_argument (definitions_of setting.now.defs) [] 0 store.now.facts parameter.now
+        row.with_argument (definitions_of setting.now.defs.now) [] 0 store.now.facts parameter.now
         (expr_tree expr.now) (bindings_of env.now) f)) }
     ensures plain { IfOk result (λ bound. IfErr bound IsPlain) }
 {
@@ -115,7 +115,7 @@ fn find_bindings(
     requires { ArePlaces (expr_trees exprs.now) parameters.now }
     ensures bound { IfOk result
         (AllBoundIn (λ f.
-        row.with_arguments (definitions_of setting.now.defs) [] 0 store.now.facts
+        row.with_arguments (definitions_of setting.now.defs.now) [] 0 store.now.facts
         (expr_trees exprs.now) parameters.now (bindings_of env.now) f)) }
     ensures plain { IfOk result (λ bound. IfErr bound IsPlain) }
 {
@@ -153,7 +153,7 @@ fn unfold(
     requires { ArePlaces (expr_trees exprs.now) (definition_of def.now).parameters }
     ensures outcome { IfOk result (λ d.
         Decides d (λ n.
-        row.called (definitions_of setting.now.defs) [] 0 store.now.facts
+        row.called (definitions_of setting.now.defs.now) [] 0 store.now.facts
         (Some (definition_of def.now)) (expr_trees exprs.now) (bindings_of env.now) n)) }
     ensures plain { IfOk result IsPlain }
 {
@@ -178,16 +178,16 @@ pub fn decide_call(
     setting: &Setting,
 ) -> Result<Decision, NoMemory>
     requires { (called : Definition)
-        → slice_get (definitions_of setting.now.defs) number ≡ Some called
+        → slice_get (definitions_of setting.now.defs.now) number ≡ Some called
         → ArePlaces (expr_trees exprs.now) called.parameters }
     ensures outcome { IfOk result (λ d.
         Decides d (λ n.
-        row.called (definitions_of setting.now.defs) [] 0 store.now.facts
-        (slice_get (definitions_of setting.now.defs) number) (expr_trees exprs.now)
+        row.called (definitions_of setting.now.defs.now) [] 0 store.now.facts
+        (slice_get (definitions_of setting.now.defs.now) number) (expr_trees exprs.now)
         (bindings_of env.now) n)) }
     ensures plain { IfOk result IsPlain }
 {
-    match definition(&setting.defs, number) {
+    match definition(setting.defs, number) {
         Some(def) => {
             let decision = unfold(alloc, def, exprs, env, store, setting)?;
             Ok(decision)

@@ -25,7 +25,7 @@ fn find_values(
     setting: &Setting,
 ) -> Result<Result<Values, Decision>, NoMemory>
     ensures found { IfOk result
-        (ValuesIn store.now.facts (definitions_of setting.now.defs) (expr_trees exprs.now)
+        (ValuesIn store.now.facts (definitions_of setting.now.defs.now) (expr_trees exprs.now)
         (bindings_of env.now)) }
     ensures plain { IfOk result (λ found. IfErr found IsPlain) }
 {
@@ -49,7 +49,7 @@ pub fn decide_display(
 ) -> Result<Decision, NoMemory>
     ensures outcome { IfOk result (λ d.
         Decides d (λ n.
-        row.with_values (definitions_of setting.now.defs) [] 0 store.now.facts
+        row.with_values (definitions_of setting.now.defs.now) [] 0 store.now.facts
         (expr_trees exprs.now) (bindings_of env.now)
         (λ vs. row.becomes (S.leaf (n.item 0) (S.Shown vs) S.none) 1))) }
     ensures plain { IfOk result IsPlain }

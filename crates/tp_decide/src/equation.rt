@@ -295,9 +295,9 @@ pub fn decide_equation(
     store: &Store,
     setting: &Setting,
 ) -> Result<Decision, NoMemory>
-    requires fits_left { ExprFitsStore (definitions_of setting.now.defs) store.now.variables
+    requires fits_left { ExprFitsStore (definitions_of setting.now.defs.now) store.now.variables
         (expr_tree left.now) (bindings_of env.now) }
-    requires fits_right { ExprFitsStore (definitions_of setting.now.defs) store.now.variables
+    requires fits_right { ExprFitsStore (definitions_of setting.now.defs.now) store.now.variables
         (expr_tree right.now) (bindings_of env.now) }
     ensures outcome { let w = setting_of setting.now in
         IfOk result (λ d.
@@ -310,8 +310,8 @@ pub fn decide_equation(
         (bindings_of env.now))) }
     ensures variables { IfOk result (SetsVariables store.now.variables) }
 {
-    let left = evaluate_side(alloc, left, env, store, &setting.defs)?;
-    let right = evaluate_side(alloc, right, env, store, &setting.defs)?;
+    let left = evaluate_side(alloc, left, env, store, setting.defs)?;
+    let right = evaluate_side(alloc, right, env, store, setting.defs)?;
     Ok(equate(alloc, left, right))
 }
 
@@ -339,7 +339,7 @@ pub fn decide_input(
     store: &Store,
     setting: &Setting,
 ) -> Result<Decision, NoMemory>
-    requires fits { ExprFitsStore (definitions_of setting.now.defs) store.now.variables
+    requires fits { ExprFitsStore (definitions_of setting.now.defs.now) store.now.variables
         (expr_tree expr.now) (bindings_of env.now) }
     ensures outcome { let w = setting_of setting.now in
         IfOk result (λ d.
@@ -353,7 +353,7 @@ pub fn decide_input(
 {
     match setting.inputs.at(setting.state, port) {
         Some(value) => {
-            let left = evaluate_side(alloc, expr, env, store, &setting.defs)?;
+            let left = evaluate_side(alloc, expr, env, store, setting.defs)?;
             let right = side_with(alloc, value)?;
             Ok(equate(alloc, left, right))
         }

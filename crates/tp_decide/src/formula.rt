@@ -36,7 +36,7 @@ pub fn decide(
     store: &Store,
     setting: &Setting,
 ) -> Result<Decision, NoMemory>
-    requires fits { FitsStore (definitions_of setting.now.defs) store.now.variables
+    requires fits { FitsStore (definitions_of setting.now.defs.now) store.now.variables
         (formula_of phrase.now) (env_of phrase.now) }
     ensures outcome { let w = setting_of setting.now in
         IfOk result (λ d.
@@ -120,7 +120,7 @@ pub fn decide_leaf(
     store: &Store,
     setting: &Setting,
 ) -> Result<Decision, NoMemory>
-    requires fits { LeafFitsStore (definitions_of setting.now.defs) store.now.variables
+    requires fits { LeafFitsStore (definitions_of setting.now.defs.now) store.now.variables
         (plain_leaf leaf.now) (plain_place place) }
     ensures outcome { let w = setting_of setting.now in
         IfOk result (λ d.

@@ -69,11 +69,11 @@ pub fn find_value(
 ) -> Result<Result<Value, Decision>, NoMemory>
     ensures found { IfOk result
         (ValueIn
-        (outcome store.now.facts (definitions_of setting.now.defs) (expr_tree expr.now)
+        (outcome store.now.facts (definitions_of setting.now.defs.now) (expr_tree expr.now)
         (bindings_of env.now))) }
     ensures plain { IfOk result (λ found. IfErr found IsPlain) }
 {
-    let outcome = eval(alloc, expr, env, store, &setting.defs)?;
+    let outcome = eval(alloc, expr, env, store, setting.defs)?;
     Ok(value(outcome))
 }
 
@@ -87,11 +87,11 @@ pub fn find_truth(
 ) -> Result<Result<bool, Decision>, NoMemory>
     ensures found { IfOk result
         (TruthIn
-        (outcome store.now.facts (definitions_of setting.now.defs) (expr_tree expr.now)
+        (outcome store.now.facts (definitions_of setting.now.defs.now) (expr_tree expr.now)
         (bindings_of env.now))) }
     ensures plain { IfOk result (λ found. IfErr found IsPlain) }
 {
-    let outcome = eval(alloc, expr, env, store, &setting.defs)?;
+    let outcome = eval(alloc, expr, env, store, setting.defs)?;
     Ok(truth(outcome))
 }
 
@@ -105,10 +105,10 @@ pub fn find_number(
 ) -> Result<Result<Number, Decision>, NoMemory>
     ensures found { IfOk result
         (NumberIn
-        (outcome store.now.facts (definitions_of setting.now.defs) (expr_tree expr.now)
+        (outcome store.now.facts (definitions_of setting.now.defs.now) (expr_tree expr.now)
         (bindings_of env.now))) }
     ensures plain { IfOk result (λ found. IfErr found IsPlain) }
 {
-    let outcome = eval(alloc, expr, env, store, &setting.defs)?;
+    let outcome = eval(alloc, expr, env, store, setting.defs)?;
     Ok(number(outcome))
 }

@@ -14,7 +14,8 @@ use Rattle.tp_value.specs.Reading.{Answer, refused}
 use Rattle.tp_meaning.specs.Inputs.{port_value}
 use Rattle.tp_inputs.specs.declared.part.FoundPart.{FoundPart}
 use Rattle.tp_inputs.specs.FirstPart.{refused_part, value_part}
-use Rattle.tp_inputs.specs.Read.{pair_of, part_of}
+use Rattle.tp_inputs.specs.Pairs.{pair_of}
+use Rattle.tp_inputs.specs.Read.{part_of}
 
 abbrev Entries : Type 0
 Entries = List (List ℕ × Value)

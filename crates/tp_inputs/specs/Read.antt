@@ -1,10 +1,7 @@
 -- The plain table that a table of inputs stands for.
 use Rattle.std.specs.Prelude.{ℕ, List, map}
-use Rattle.tp_value.specs.declared.value.Value.{Value}
-use Rattle.tp_value.specs.Read.{tree}
 use Rattle.tp_meaning.specs.Inputs.{InputPair, InputLines}
 use Rattle.tp_inputs.specs.declared.inputs.Inputs.{Inputs}
-use Rattle.tp_inputs.specs.declared.line.Line.{Line}
 use Rattle.tp_inputs.specs.declared.part.FoundPart.{FoundPart}
 use Rattle.tp_inputs.specs.declared.part.FoundPart.TheVariants as p
 use Rattle.tp_inputs.specs.declared.refusal.Fault.TheVariants.{Bad, Twice, TooLong}
@@ -14,12 +11,7 @@ use Rattle.tp_inputs.specs.declared.refusal.LineRefusal.{LineRefusal}
 use Rattle.tp_inputs.specs.declared.refusal.LineRefusal.TheVariants as l
 use Rattle.tp_inputs.specs.Parts.{LinePart, Blank, Given, Faulty, BeginsPart}
 use Rattle.tp_inputs.specs.Lines.{HasFault}
-
-abbrev pub pair_of : List ℕ × Value → InputPair
-pair_of e = record { port = e.0; value = tree e.1 }
-
-abbrev pub pairs_of : Line → List InputPair
-pairs_of l = map pair_of l.pairs.entries
+use Rattle.tp_inputs.specs.Pairs.{pair_of, pairs_of}
 
 abbrev pub lines_of : Inputs → InputLines
 lines_of t = map pairs_of t.items.items

@@ -4,7 +4,8 @@ ghost use Rattle.std.specs.Option.{option_map};
 ghost use Rattle.tp_value.specs.Read.{tree};
 ghost use Rattle.tp_meaning.specs.Inputs.{port_value};
 ghost use Rattle.tp_inputs.specs.Lines.{PassesPart, IsLine};
-ghost use Rattle.tp_inputs.specs.Read.{pair_of, pairs_of, IsPartRefusal, IsLineRefusal};
+ghost use Rattle.tp_inputs.specs.Pairs.{pair_of, pairs_of};
+ghost use Rattle.tp_inputs.specs.Read.{IsPartRefusal, IsLineRefusal};
 
 use crate::part::{FoundPart, first_part};
 use crate::refusal::LineRefusal;

@@ -5,7 +5,8 @@ ghost use Rattle.tp_value.specs.Spelling.{is_value_blank};
 ghost use Rattle.tp_value.specs.Reading.{value_answer};
 ghost use Rattle.tp_inputs.specs.Parts.{is_set_apart};
 ghost use Rattle.tp_inputs.specs.FirstPart as spec;
-ghost use Rattle.tp_inputs.specs.Read.{pairs_of, part_of};
+ghost use Rattle.tp_inputs.specs.Pairs.{pairs_of};
+ghost use Rattle.tp_inputs.specs.Read.{part_of};
 
 use crate::line::Line;
 use crate::refusal::Fault;

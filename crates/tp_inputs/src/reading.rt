@@ -2,7 +2,6 @@
 ghost use Rattle.std.specs.Prelude.{IfOk, IfErr};
 ghost use Rattle.tp_inputs.specs.Read.{lines_of};
 ghost use Rattle.tp_inputs.specs.Table.{IsInputsText, IsInputsRefusal};
-ghost use Rattle.tp_inputs.specs.Within.{InputsWithin};
 
 use crate::inputs::Inputs;
 use crate::line::read_line;
@@ -16,7 +15,6 @@ use tp_lex::first_line;
 /// The first line that is refused is named, with its first fault; a port that is given twice is at fault before its second value.
 pub fn read_inputs(alloc: Global, bytes: &[u8]) -> Result<Inputs, InputsRefusal>
     ensures table { IfOk result (λ inputs. IsInputsText bytes.now (lines_of inputs)) }
-    ensures within { IfOk result (λ inputs. InputsWithin (lines_of inputs)) }
     ensures refused { IfErr result (λ refusal. IsInputsRefusal bytes.now refusal) }
 {
     let mut items = Vec::new(alloc);

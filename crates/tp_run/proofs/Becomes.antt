@@ -1,12 +1,13 @@
 -- What becomes of a state, by what its closure comes to.
 use Rattle.std.proofs.Common.{◌≡◌, ℕ, suc, ◌<◌, ◌≤◌, Bool, List, [], ◌++◌, length, Option, refl, ap, ap₂, sym, ◌∙◌, subst, arith, inl, inr}
-use Rattle.tp_kernel.specs.declared.formula.Defs.{Defs}
+use Rattle.std.proofs.lemmas.List.{length-map}
+use Rattle.tp_value.specs.Globals.{is_lower}
 use Rattle.tp_kernel.specs.declared.formula.LimitKind.{LimitKind}
 use Rattle.tp_kernel.specs.declared.formula.LimitKind.TheVariants as limit
 use Rattle.tp_meaning.specs.Syntax.{Definition}
 use Rattle.tp_meaning.specs.Inputs.{InputLines}
 use Rattle.tp_meaning.specs.Course.{Course, Shows, ◌⊕◌, shown_at}
-use Rattle.tp_meaning.specs.Interval.{kinds_of}
+use Rattle.tp_meaning.specs.Interval.{ProgramTree, kinds_of}
 use Rattle.tp_meaning.specs.Fits.{ProgramFits}
 use Rattle.tp_decide.specs.Decided.{setting_of}
 use Rattle.tp_decide.specs.Read.{shows_of}
@@ -19,6 +20,7 @@ use Rattle.tp_scene.specs.Rest.{AtRest, settled, waiting, goes, ends, IsOpenCell
 use Rattle.tp_scene.specs.Replay as replay
 use Rattle.tp_scene.specs.StandsFor.{first_moment}
 use Rattle.tp_scene.specs.Laws.{IsSound}
+use Rattle.tp_slots.specs.declared.scene.Scene.{Scene}
 use Rattle.tp_step.specs.Answers.{Tries}
 use Rattle.tp_step.specs.declared.answer.Tried.{Tried}
 use Rattle.tp_step.specs.declared.answer.Tried.TheVariants as tried
@@ -33,10 +35,12 @@ use Rattle.tp_run.specs.declared.run.Stand.TheVariants.{Open, Answered, Spent}
 use Rattle.tp_show.specs.declared.turn.Picture.{Picture}
 use Rattle.tp_show.specs.declared.turn.Turn.{Turn}
 use Rattle.tp_show.specs.declared.turn.Turn.TheVariants.{Went, Finished, Contradictory, Undetermined, StateLimit, InputMissing, Over}
-use Rattle.tp_run.specs.States.{Plan, globals_of, setting, IsPictureOf, StateGoesOn, StateEnds, Standing, open_at, answered, ReachesLimit, limit_moment, state_after, StateBecomes}
+use Rattle.tp_run.specs.States.{Plan, globals_of, setting, IsPictureOf, StateGoesOn, StateEnds, Standing, open_at, answered, spent, ReachesLimit, limit_moment, state_after, StateBecomes}
 use Rattle.tp_run.specs.Meaning.{StandingFor, StandsForItsProgram, AgreesWithFacts, AnswerMeans}
-use Rattle.tp_run.specs.Runs.{stands_at, standing_of, StandIsKept, StandIsOf, CellIsOf, TurnIsOf, MadeIsOf, StandsSound, IsSettingsOf, IsRunOf, HasPicture, NextOf, RestTurns}
-use Rattle.tp_run.proofs.StatesMean.{leads_sound, leads_keep, goes_on_says, ends_here_says, next_sound}
+use Rattle.tp_run.specs.Runs.{stands_at, standing_of, StandIsKept, StandIsOf, CellIsOf, TurnIsOf, MadeIsOf, StandsSound, StandsOrderly, IsSettingsOf, IsRunOf, HasPicture, NextOf, RestTurns}
+use Rattle.tp_run.specs.EachOrder.{AnswerAgrees, AnswerHasNoDeadEnd}
+use Rattle.tp_run.proofs.OneState.{Orderly, next_orderly, state_agrees, no_dead_end}
+use Rattle.tp_run.proofs.StatesMean.{leads_sound, leads_keep, goes_on_says, ends_here_says}
 use Rattle.tp_run.proofs.Given.{scene_laws, begin_laws}
 use Rattle.tp_scene.proofs.NamedItem.{named_item_waits}
 use Rattle.tp_run.proofs.KnownItems.{passes_other, clash_is_of, cell_is_of}
@@ -87,12 +91,13 @@ waits_named w kinds room m next t a cell other sound h e =
 -- where a run goes on it has answered nothing
 pub open_named : (stand : Stand) (store : Contents) (m : Moment) → stands_at stand store ≡ open_at m → StandIsOf store.variables stand
 open_named (Open scene) store m e = tt
-open_named (Answered turn) store m e = absurd (cc)
+open_named (Answered turn scene) store m e = absurd (cc)
 open_named Spent store m e = absurd (cc)
 
 -- and where it ends it has answered this
-pub end_named : (xs : List Variable) (made : Made) (turn : Turn) → made.stand ≡ Answered turn → made.turn ≡ turn → TurnIsOf xs turn → MadeIsOf xs made
-end_named xs made turn stand is h = (subst (TurnIsOf xs) (sym is) h, subst (StandIsOf xs) (sym stand) h)
+pub end_named : (xs : List Variable) (made : Made) (turn : Turn) (scene : Scene) → made.stand ≡ Answered turn scene → made.turn ≡ turn → TurnIsOf xs turn
+    → MadeIsOf xs made
+end_named xs made turn scene stand is h = (subst (TurnIsOf xs) (sym is) h, subst (StandIsOf xs) (sym stand) h)
 
 module _ (plan : Plan) (n : ℕ) (m last : Moment) (before after : List ℕ) where
   -- the closure of state n, which begins with m, comes to this end
@@ -205,16 +210,17 @@ module _ (plan : Plan) (settings : Settings) (is : IsSettingsOf plan settings) (
     abbrev Stops : Turn → Type 0
     Stops t = StateBecomes plan n m old old standing last.store t
 
-    pub run_reaches : (kinds : List Bool) → IsSound (setting_of settings.setting) kinds last → (k : LimitKind) → found ≡ ending.Over k → standing ≡ answered (Over n k) → turn ≡ Over n k → Stops turn
+    pub run_reaches : (kinds : List Bool) → IsSound (setting_of settings.setting) kinds last → (k : LimitKind) → found ≡ ending.Over k → standing ≡ answered (Over n k) last → turn ≡ Over n k → Stops turn
     run_reaches kinds sound k e stand turn_is =
         let reached = limit_reached plan n m last before after kinds (read_so kinds sound) k (comes_to (ending.Over k) e) in
-        subst Stops (sym turn_is) (reached.0, refl, state_within, refl, stand, ap (λ (z : Moment). z.store) (sym reached.1))
+        subst Stops (sym turn_is)
+        (reached.0, refl, state_within, refl, stand ∙ ap (answered (Over n k)) (sym reached.1), ap (λ (z : Moment). z.store) (sym reached.1))
 
-    pub run_clashes : (clash : Clash) → found ≡ ending.Clash clash → standing ≡ answered (Contradictory n clash) → turn ≡ Contradictory n clash → Stops turn
+    pub run_clashes : (clash : Clash) → found ≡ ending.Clash clash → standing ≡ answered (Contradictory n clash) last → turn ≡ Contradictory n clash → Stops turn
     unfolding clash_met
     run_clashes clash e stand turn_is = subst Stops (sym turn_is) (clash_met plan n m last before after clash (comes_to (ending.Clash clash) e), refl, state_within, refl, stand, refl)
 
-    pub run_misses : (port : List ℕ) → found ≡ ending.Missing port → standing ≡ answered (InputMissing n port) → turn ≡ InputMissing n port → Stops turn
+    pub run_misses : (port : List ℕ) → found ≡ ending.Missing port → standing ≡ answered (InputMissing n port) last → turn ≡ InputMissing n port → Stops turn
     unfolding input_missed
     run_misses port e stand turn_is = subst Stops (sym turn_is) (input_missed plan n m last before after port (comes_to (ending.Missing port) e), refl, state_within, refl, stand, refl)
 
@@ -223,7 +229,10 @@ module _ (plan : Plan) (settings : Settings) (is : IsSettingsOf plan settings) (
   run_clashes_named kinds sound clash e =
       let comes = comes_to (ending.Clash clash) e in clash_is_of (setting plan n) kinds last (read_so kinds sound) comes.ends.0 clash comes.ends.2
 
-module _ (plan : Plan) (n : ℕ) (m : Moment) (old new : Picture) (standing : Standing) (store : Contents) (sound : IsSound (setting plan n) (kinds_of plan.program.globals) m) where
+module _ (plan : Plan) (n : ℕ) (m : Moment) (old new : Picture) (standing : Standing) (store : Contents) (orderly : Orderly plan n m) where
+  sound : IsSound (setting plan n) (kinds_of plan.program.globals) m
+  sound = orderly.sound
+
   abbrev Becomes : Turn → Type 0
   Becomes turn = StateBecomes plan n m old new standing store turn
 
@@ -258,76 +267,69 @@ module _ (plan : Plan) (n : ℕ) (m : Moment) (old new : Picture) (standing : St
   -- where the run then stands
   pub record StandsOn (next : ℕ) : Type 0 where
     pub within : next ≤ plan.states
-    pub stands : StandsSound plan next standing
+    pub stands : StandsOrderly plan next standing
 
-  last_sound : (turn : Turn) → standing ≡ answered turn → StandsSound plan n standing
-  last_sound turn e = subst (StandsSound plan n) (sym e) tt
+  last_orderly : (turn : Turn) (end : Moment) → standing ≡ answered turn end → StandsOrderly plan n standing
+  last_orderly turn end e = subst (StandsOrderly plan n) (sym e) tt
 
-  pub becomes_sound : (turn : Turn) → Becomes turn → StandsOn (state_after n turn)
-  becomes_sound Went w = record { within = omega (arith, w.1.within); stands = subst (StandsSound plan (suc n)) (sym w.2) (next_sound scene_laws plan n m w.0 new sound w.1 (suc n)) }
-  becomes_sound (Finished length) w = record { within = omega (arith, w.0.within); stands = last_sound (Finished length) w.2 }
-  becomes_sound (Contradictory state clash) w = record { within = omega (arith, w.2); stands = last_sound (Contradictory state clash) w.4 }
-  becomes_sound (Undetermined state cell) w = record { within = omega (arith, w.2); stands = last_sound (Undetermined state cell) w.4 }
-  becomes_sound (StateLimit states) w = record { within = omega (arith, w.0); stands = last_sound (StateLimit states) w.3 }
-  becomes_sound (InputMissing state port) w = record { within = omega (arith, w.2); stands = last_sound (InputMissing state port) w.4 }
-  becomes_sound (Over state limit) w = record { within = omega (arith, w.2); stands = last_sound (Over state limit) w.4 }
+  pub becomes_orderly : (turn : Turn) → Becomes turn → StandsOn (state_after n turn)
+  becomes_orderly Went w = record { within = omega (arith, w.1.within); stands = subst (StandsOrderly plan (suc n)) (sym w.2) (next_orderly plan n m w.0 new orderly w.1) }
+  becomes_orderly (Finished length) w = record { within = omega (arith, w.0.within); stands = last_orderly (Finished length) w.0.last w.2 }
+  becomes_orderly (Contradictory state clash) w = record { within = omega (arith, w.2); stands = last_orderly (Contradictory state clash) w.0.last w.4 }
+  becomes_orderly (Undetermined state cell) w = record { within = omega (arith, w.2); stands = last_orderly (Undetermined state cell) w.0.last w.4 }
+  becomes_orderly (StateLimit states) w = record { within = omega (arith, w.0); stands = last_orderly (StateLimit states) m w.3 }
+  becomes_orderly (InputMissing state port) w = record { within = omega (arith, w.2); stands = last_orderly (InputMissing state port) w.0.last w.4 }
+  becomes_orderly (Over state limit) w = record { within = omega (arith, w.2); stands = last_orderly (Over state limit) (limit_moment (setting plan n) plan.reductions m limit w.0) w.4 }
 
--- the moment at which a run stands is sound
-pub sound_at : (plan : Plan) (run : Run) (m : Moment) → IsRunOf plan run → open_at m ≡ standing_of run → IsSound (setting plan run.settings.setting.state) (kinds_of plan.program.globals) m
-sound_at plan run m h opened = let here : StandsSound plan run.settings.setting.state (open_at m) = subst (StandsSound plan run.settings.setting.state) (sym opened) h.sound in here
+-- the moment at which a run stands is orderly
+pub orderly_at : (plan : Plan) (run : Run) (m : Moment) → IsRunOf plan run → open_at m ≡ standing_of run → Orderly plan run.state m
+orderly_at plan run m h opened = let here : StandsOrderly plan run.state (open_at m) = subst (StandsOrderly plan run.state) (sym opened) h.orderly in here
+
+-- and sound
+pub stands_sound : (plan : Plan) (n : ℕ) (standing : Standing) → StandsOrderly plan n standing → StandsSound plan n standing
+stands_sound plan n (open_at m) h = h.sound
+stands_sound plan n (answered turn m) h = tt
+stands_sound plan n spent h = tt
 
 -- the run with another store and stand, before a state with this number
 abbrev pub moved : Run → (next : ℕ) → Contents → Stand → Run
-moved run next store stand = record {
-  program = run.program;
-  settings = record { globals = run.settings.globals; limits = run.settings.limits; order = run.settings.order; setting = record run.settings.setting { state = next } };
-  store = store;
-  stand = stand;
-}
+moved run next store stand = record run { state = next; store = store; stand = stand }
 
-with_stand : (plan : Plan) (run : Run) (next : ℕ) (store : Contents) (stand : Stand) → IsRunOf plan run → next ≤ plan.states → StandsSound plan next (stands_at stand store) → StandIsKept stand → StandIsOf store.variables stand
+with_stand : (plan : Plan) (run : Run) (next : ℕ) (store : Contents) (stand : Stand) → IsRunOf plan run → next ≤ plan.states → StandsOrderly plan next (stands_at stand store) → StandIsKept stand → StandIsOf store.variables stand
     → IsRunOf plan (moved run next store stand)
-with_stand plan run next store stand h within sound kept named = record {
+with_stand plan run next store stand h within orderly kept named = record {
   program = h.program;
-  settings = record { inputs = h.settings.inputs; states = h.settings.states; reductions = h.settings.reductions; globals = h.settings.globals; definitions = h.settings.definitions };
+  inputs = h.inputs;
+  states = h.states;
+  reductions = h.reductions;
   within = within;
-  sound = sound;
+  orderly = orderly;
   kept = kept;
   named = named;
 }
 
--- the definitions are lent while a state is made
-abbrev pub lent : Run → (defs : Defs) → Settings
-lent run defs = record {
-  globals = run.settings.globals;
-  limits = run.settings.limits;
-  order = run.settings.order;
-  setting = record run.settings.setting { defs = defs };
-}
-
-pub lent_settings : (plan : Plan) (run : Run) (defs : Defs) → IsRunOf plan run → defs ≡ run.program.defs → IsSettingsOf plan (lent run defs)
-lent_settings plan run defs h e = subst (λ (ds : Defs). IsSettingsOf plan (lent run ds)) (sym e) h.settings
-
--- and given back
-abbrev pub given_back : Run → (defs left : Defs) → Run
-given_back run defs left = record { program = record run.program { defs = defs }; settings = lent run left; store = run.store; stand = run.stand }
-
-pub given_back_run : (plan : Plan) (run : Run) (defs left : Defs) → IsRunOf plan run → defs ≡ run.program.defs → IsRunOf plan (given_back run defs left)
-given_back_run plan run defs left h e =
-    let whole : IsRunOf plan (given_back run run.program.defs left) =
-    record { program = h.program; settings = h.settings; within = h.within; sound = h.sound; kept = h.kept; named = h.named } in
-    subst (λ (ds : Defs). IsRunOf plan (given_back run ds left)) (sym e) whole
+-- how many variables a run's program has
+pub globals_are : (plan : Plan) (run : Run) → IsRunOf plan run → length run.program.globals ≡ globals_of plan
+globals_are plan run h = sym (length-map run.program.globals is_lower) ∙ ap (λ (p : ProgramTree). length (kinds_of p.globals)) h.program
 
 -- what the answer for a state leaves
 module _ (plan : Plan) (run : Run) (is_run : IsRunOf plan run) (m : Moment) (opened : open_at m ≡ standing_of run) (old new : Picture) (store : Contents) (stand : Stand) (turn : Turn)
-    (becomes : StateBecomes plan run.settings.setting.state m old new (stands_at stand store) store turn) where
-  sound_here : IsSound (setting plan run.settings.setting.state) (kinds_of plan.program.globals) m
-  sound_here = sound_at plan run m is_run opened
+    (becomes : StateBecomes plan run.state m old new (stands_at stand store) store turn) where
+  orderly_here : Orderly plan run.state m
+  orderly_here = orderly_at plan run m is_run opened
 
-  pub answer_means : AnswerMeans plan run.settings.setting.state (standing_of run) (stands_at stand store) new turn
-  answer_means = subst (λ (z : Standing). AnswerMeans plan run.settings.setting.state z (stands_at stand store) new turn) opened (becomes_means plan run.settings.setting.state m old new (stands_at stand store) store sound_here turn becomes)
+  pub answer_means : AnswerMeans plan run.state (standing_of run) (stands_at stand store) new turn
+  answer_means = subst (λ (z : Standing). AnswerMeans plan run.state z (stands_at stand store) new turn) opened (becomes_means plan run.state m old new (stands_at stand store) store orderly_here turn becomes)
 
-  pub run_kept : (next : ℕ) → next ≡ state_after run.settings.setting.state turn → StandIsKept stand → StandIsOf store.variables stand → IsRunOf plan (moved run next store stand)
+  pub run_kept : (next : ℕ) → next ≡ state_after run.state turn → StandIsKept stand → StandIsOf store.variables stand → IsRunOf plan (moved run next store stand)
   run_kept next e kept named =
-      let on = becomes_sound plan run.settings.setting.state m old new (stands_at stand store) store sound_here turn becomes in
-      with_stand plan run next store stand is_run (subst (λ k. k ≤ plan.states) (sym e) on.within) (subst (λ k. StandsSound plan k (stands_at stand store)) (sym e) on.stands) kept named
+      let on = becomes_orderly plan run.state m old new (stands_at stand store) store orderly_here turn becomes in
+      with_stand plan run next store stand is_run (subst (λ k. k ≤ plan.states) (sym e) on.within) (subst (λ k. StandsOrderly plan k (stands_at stand store)) (sym e) on.stands) kept named
+
+  pub answer_agrees : AnswerAgrees plan run.state (standing_of run) new turn
+  answer_agrees = subst (λ (z : Standing). AnswerAgrees plan run.state z new turn) opened
+      (state_agrees plan run.state m orderly_here old new (stands_at stand store) store turn becomes)
+
+  pub answer_goes_on : AnswerHasNoDeadEnd plan run.state (standing_of run) new turn
+  answer_goes_on = subst (λ (z : Standing). AnswerHasNoDeadEnd plan run.state z new turn) opened
+      (no_dead_end plan run.state m orderly_here old new (stands_at stand store) store turn becomes)

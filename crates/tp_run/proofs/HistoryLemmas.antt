@@ -20,7 +20,7 @@ use Rattle.tp_scene.specs.Replay as replay
 use Rattle.tp_show.specs.declared.turn.Picture.{Picture}
 use Rattle.tp_show.specs.declared.turn.Turn.{Turn}
 use Rattle.tp_show.specs.declared.turn.Turn.TheVariants.{Went, Finished, Contradictory, Undetermined, StateLimit, InputMissing, Over}
-use Rattle.tp_run.specs.States.{Plan, globals_of, setting, StateGoesOn, StatesLead, LeadsTo, RunPlace, ReachesLimit, limit_moment, state_after, StateBecomes}
+use Rattle.tp_run.specs.States.{Plan, globals_of, setting, StateGoesOn, StatesLead, LeadsTo, answered, RunPlace, ReachesLimit, limit_moment, state_after, StateBecomes}
 use Rattle.tp_run.specs.History.{FinishesAt, RunEndsWith, AgreesWithPictures, shown_from, SatisfiedExactly, Satisfiable, Unsatisfiable, ContinuesEach, EndOfRunMeans, Advances, RunsAdvance}
 use Rattle.tp_run.proofs.StatesMean.{SceneLaws, leads_sound, leads_keep, lead_sound, states_say, ends_here_says, picture_agrees}
 use Rattle.tp_scene.proofs.Quiet.{says_quiet}
@@ -201,6 +201,11 @@ module _ (plan : Plan) (k n : ℕ) (e : k ≡ n) (m : Moment) where
 pub kept_there : (store : Contents) (a b : Moment) → a ≡ b → store ≡ a.store → store ≡ b.store
 kept_there store a b e h = h ∙ ap (λ (z : Moment). z.store) e
 
+-- where a run ended stays the same by the moment of an equal end
+stands_there : (to : RunPlace) (turn : Turn) (a b : Moment) → a ≡ b → to.standing ≡ answered turn a → to.store ≡ a.store
+    → (to.standing ≡ answered turn b) × (to.store ≡ b.store)
+stands_there to turn a b e stand store = (stand ∙ ap (answered turn) e, kept_there to.store a b e store)
+
 pub count_more : (ps : List Picture) (new : Picture) (n : ℕ) → n ≡ suc (length ps) → n ≡ length (ps ++ new ∷ [])
 count_more ps new n e = e ∙ omega (arith, length-append ps (new ∷ []))
 
@@ -213,26 +218,27 @@ advance_by plan ps m leads old new to Went w next =
     let g = w.1 in
     (w.0, w.2, lead_more plan 0 (first_moment plan.program.globals plan.program.main) ps m (length ps) new w.0 (index_first ps) leads g, count_more ps new to.state next, g.picture_is.state)
 advance_by plan ps m leads old new to (Finished n) w next =
-    (record { before = ps; final = new; moment = m; pictures = refl; leads = leads; ends = w.0; count = w.1 }, w.0.picture_is.state, w.3)
+    (record { before = ps; final = new; moment = m; pictures = refl; leads = leads; ends = w.0; count = w.1 }, w.0.picture_is.state, (w.2, w.3))
 advance_by plan ps m leads old new to (Contradictory state clash) w next =
     let e = w.1 in
     let g = meets_there plan (length ps) state (sym e) m clash w.0 in
-    ((m, leads, g.0, e, subst (λ i. i < plan.states) (sym e) w.2), w.3, kept_there to.store w.0.last g.0.last g.1 w.5)
+    ((m, leads, g.0, e, subst (λ i. i < plan.states) (sym e) w.2), w.3, stands_there to (Contradictory state clash) w.0.last g.0.last g.1 w.4 w.5)
 advance_by plan ps m leads old new to (Undetermined state cell) w next =
     let e = w.1 in
     let g = opens_there plan (length ps) state (sym e) m cell w.0 in
-    ((m, leads, g.0, e, subst (λ i. i < plan.states) (sym e) w.2), w.3, kept_there to.store w.0.last g.0.last g.1 w.5)
-advance_by plan ps m leads old new to (StateLimit states) w next = ((m, leads, w.1, w.1 ∙ w.0), w.2, w.4)
+    ((m, leads, g.0, e, subst (λ i. i < plan.states) (sym e) w.2), w.3, stands_there to (Undetermined state cell) w.0.last g.0.last g.1 w.4 w.5)
+advance_by plan ps m leads old new to (StateLimit states) w next = ((m, leads, w.1, w.1 ∙ w.0), w.2, (w.3, w.4))
 advance_by plan ps m leads old new to (InputMissing state port) w next =
     let e = w.1 in
     let g = misses_there plan (length ps) state (sym e) m port w.0 in
-    ((m, leads, g.0, e, subst (λ i. i < plan.states) (sym e) w.2), w.3, kept_there to.store w.0.last g.0.last g.1 w.5)
+    ((m, leads, g.0, e, subst (λ i. i < plan.states) (sym e) w.2), w.3, stands_there to (InputMissing state port) w.0.last g.0.last g.1 w.4 w.5)
 advance_by plan ps m leads old new to (Over state limit) w next =
     let e = w.1 in
     let g = reaches_there plan (length ps) state (sym e) m limit w.0 in (
       (m, leads, g.0, e, subst (λ i. i < plan.states) (sym e) w.2),
       w.3,
-      kept_there to.store (limit_moment (setting plan (length ps)) plan.reductions m limit w.0) (limit_moment (setting plan state) plan.reductions m limit g.0) g.1 w.5,
+      stands_there to (Over state limit) (limit_moment (setting plan (length ps)) plan.reductions m limit w.0) (limit_moment (setting plan state) plan.reductions m limit g.0)
+      g.1 w.4 w.5,
     )
 
 pub runs_advance : (plan : Plan) → RunsAdvance plan

@@ -5,6 +5,8 @@ pub mod Given
 pub mod KnownValues
 pub mod KnownItems
 pub mod GlobalFacts
+pub mod SameFacts
+pub mod OneState
 pub mod Becomes
 pub mod Stores
 pub mod Named

@@ -3,6 +3,7 @@ use Rattle.std.proofs.Common.{◌≡◌, ℕ, List, [], ◌∷◌, ◌++◌, Opt
 use Rattle.std.proofs.lemmas.List.{append-nil}
 use Rattle.tp_store.specs.Known.{Contents, Variable}
 use Rattle.tp_scene.specs.Pick.{Setting, Moment, Leads, with_local}
+use Rattle.tp_slots.specs.declared.scene.Scene.{Scene}
 use Rattle.tp_step.specs.Answers.{moment_of}
 use Rattle.tp_run.specs.declared.run.Run.{Run}
 use Rattle.tp_run.specs.declared.run.Stand.{Stand}
@@ -12,14 +13,23 @@ use Rattle.tp_show.specs.declared.turn.Turn.{Turn}
 use Rattle.tp_show.specs.declared.turn.Turn.TheVariants.{Went, Finished, Contradictory, Undetermined, StateLimit, InputMissing, Over}
 use Rattle.tp_kernel.specs.declared.formula.LimitKind.TheVariants as kind
 use Rattle.tp_kernel.specs.declared.formula.LimitKind.{LimitKind}
-use Rattle.tp_run.specs.States.{Plan, setting, Standing, open_at, ReachesLimit, limit_moment, StateBecomes}
+use Rattle.tp_run.specs.States.{Plan, setting, Standing, open_at, answered, ReachesLimit, limit_moment, StateBecomes}
 use Rattle.tp_run.specs.Runs.{stands_at, HasFirst}
 
 -- where a run stands before a state, its store is what the state begins with
 pub store_before : (stand : Stand) (store : Contents) (m : Moment) → stands_at stand store ≡ open_at m → store ≡ m.store
 store_before (Open scene) store m h = let same : moment_of scene store ≡ m = cc in ap (λ (z : Moment). z.store) same
-store_before (Answered turn) store m h = absurd (cc)
+store_before (Answered turn scene) store m h = absurd (cc)
 store_before Spent store m h = absurd (cc)
+
+-- at a run's end its scene and its store are the moment that it stands at
+pub moment_at_end : (stand : Stand) (store : Contents) (turn : Turn) (m : Moment) → stands_at stand store ≡ answered turn m
+    → (scene : Scene) × (stand ≡ Answered turn scene) × (moment_of scene store ≡ m)
+moment_at_end (Open scene) store turn m h = absurd (cc)
+moment_at_end (Answered last scene) store turn m h =
+    let same : last ≡ turn = cc in
+    (scene, ap (λ (t : Turn). Answered t scene) same, cc)
+moment_at_end Spent store turn m h = absurd (cc)
 
 -- the first variables stay, and picks make more
 first_all : (xs ys : List Variable) → ys ≡ xs → HasFirst xs ys
@@ -65,6 +75,6 @@ all_stay k = first_all k.variables k.variables refl
 
 -- the same of a run that stood before this state
 module _ (plan : Plan) (run : Run) (m : Moment) (same : m.store ≡ run.store) (old new : Picture) (standing : Standing) (store : Contents) (turn : Turn)
-    (becomes : StateBecomes plan run.settings.setting.state m old new standing store turn) where
+    (becomes : StateBecomes plan run.state m old new standing store turn) where
   pub leaves_variables : HasFirst run.store.variables store.variables
-  leaves_variables = subst (λ (k : Contents). HasFirst k.variables store.variables) same (first_stay plan run.settings.setting.state m old new standing store turn becomes)
+  leaves_variables = subst (λ (k : Contents). HasFirst k.variables store.variables) same (first_stay plan run.state m old new standing store turn becomes)

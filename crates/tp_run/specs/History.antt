@@ -11,7 +11,7 @@ use Rattle.tp_scene.specs.Replay as replay
 use Rattle.tp_show.specs.declared.turn.Picture.{Picture}
 use Rattle.tp_show.specs.declared.turn.Turn.{Turn}
 use Rattle.tp_show.specs.declared.turn.Turn.TheVariants.{Went, Finished, Contradictory, Undetermined, StateLimit, InputMissing, Over}
-use Rattle.tp_run.specs.States.{Plan, setting, StateEnds, LeadsTo, open_at, RunPlace, ReachesLimit, limit_moment, state_after, StateBecomes}
+use Rattle.tp_run.specs.States.{Plan, setting, StateEnds, LeadsTo, open_at, answered, RunPlace, ReachesLimit, limit_moment, state_after, StateBecomes}
 use Rattle.tp_run.specs.Meaning.{AgreesWithFacts}
 
 pub record FinishesAt (plan : Plan) (ps : List Picture) (n : ℕ) : Type 0 where
@@ -34,15 +34,19 @@ RunEndsWith plan ps (StateLimit states) = (m : Moment) × LeadsTo plan ps m × (
 RunEndsWith plan ps (InputMissing state port) = (m : Moment) × LeadsTo plan ps m × replay.MissesInput (setting plan state) plan.reductions m port × (state ≡ length ps) × (state < plan.states)
 RunEndsWith plan ps (Over state limit) = (m : Moment) × LeadsTo plan ps m × ReachesLimit (setting plan state) plan.reductions m limit × (state ≡ length ps) × (state < plan.states)
 
--- What the run's store holds at the end: what the picks of its last state led to, or, where this state isn't begun, what it would begin with.
+-- The moment in which a run ended: what the picks of its last state led to, or, where this state isn't begun, what it would begin with.
+abbrev pub end_moment : (plan : Plan) (ps : List Picture) (turn : Turn) → RunEndsWith plan ps turn → Moment
+end_moment plan ps Went end = absurd end
+end_moment plan ps (Finished n) end = end.ends.last
+end_moment plan ps (Contradictory state clash) end = end.2.last
+end_moment plan ps (Undetermined state cell) end = end.2.last
+end_moment plan ps (StateLimit states) end = end.0
+end_moment plan ps (InputMissing state port) end = end.2.last
+end_moment plan ps (Over state limit) end = limit_moment (setting plan state) plan.reductions end.0 limit end.2
+
+-- and what the run's store holds then
 abbrev pub end_store : (plan : Plan) (ps : List Picture) (turn : Turn) → RunEndsWith plan ps turn → Contents
-end_store plan ps Went end = absurd end
-end_store plan ps (Finished n) end = end.ends.last.store
-end_store plan ps (Contradictory state clash) end = end.2.last.store
-end_store plan ps (Undetermined state cell) end = end.2.last.store
-end_store plan ps (StateLimit states) end = end.0.store
-end_store plan ps (InputMissing state port) end = end.2.last.store
-end_store plan ps (Over state limit) end = (limit_moment (setting plan state) plan.reductions end.0 limit end.2).store
+end_store plan ps turn end = (end_moment plan ps turn end).store
 
 -- each state from position a on agrees with the picture of its turn
 abbrev pub AgreesWithPictures : Course → ℕ → List Picture → Type 0
@@ -83,21 +87,25 @@ EndOfRunMeans plan ps (StateLimit states) = ContinuesEach plan ps
 EndOfRunMeans plan ps (InputMissing state port) = Unsatisfiable plan
 EndOfRunMeans plan ps (Over state limit) = ContinuesEach plan ps
 
--- What one more answer makes of a run whose settled states have these pictures: one state more, or the end; and its store then holds what was known
--- when it came to that.
+-- A run that stands there has ended so: after this answer, at the moment in which this run ended.
+abbrev pub StandsAtEnd : (plan : Plan) (ps : List Picture) (to : RunPlace) (turn : Turn) → RunEndsWith plan ps turn → Type 0
+StandsAtEnd plan ps to turn end = (to.standing ≡ answered turn (end_moment plan ps turn end)) × (to.store ≡ end_store plan ps turn end)
+
+-- What one more answer makes of a run whose settled states have these pictures: one state more, or the end; and the run then stands at the moment in
+-- which it came to that.
 abbrev pub Advances : Plan → List Picture → (old new : Picture) → (to : RunPlace) → Turn → Type 0
 Advances plan ps old new to Went =
     (m : Moment) × (to.standing ≡ open_at m) × LeadsTo plan (ps ++ new ∷ []) m × (to.state ≡ length (ps ++ new ∷ [])) × (new.state ≡ length ps)
 Advances plan ps old new to (Finished n) =
-    (end : RunEndsWith plan (ps ++ new ∷ []) (Finished n)) × (new.state ≡ length ps) × (to.store ≡ end_store plan (ps ++ new ∷ []) (Finished n) end)
+    (end : RunEndsWith plan (ps ++ new ∷ []) (Finished n)) × (new.state ≡ length ps) × StandsAtEnd plan (ps ++ new ∷ []) to (Finished n) end
 Advances plan ps old new to (Contradictory state clash) =
-    (end : RunEndsWith plan ps (Contradictory state clash)) × (new ≡ old) × (to.store ≡ end_store plan ps (Contradictory state clash) end)
+    (end : RunEndsWith plan ps (Contradictory state clash)) × (new ≡ old) × StandsAtEnd plan ps to (Contradictory state clash) end
 Advances plan ps old new to (Undetermined state cell) =
-    (end : RunEndsWith plan ps (Undetermined state cell)) × (new ≡ old) × (to.store ≡ end_store plan ps (Undetermined state cell) end)
-Advances plan ps old new to (StateLimit states) = (end : RunEndsWith plan ps (StateLimit states)) × (new ≡ old) × (to.store ≡ end_store plan ps (StateLimit states) end)
+    (end : RunEndsWith plan ps (Undetermined state cell)) × (new ≡ old) × StandsAtEnd plan ps to (Undetermined state cell) end
+Advances plan ps old new to (StateLimit states) = (end : RunEndsWith plan ps (StateLimit states)) × (new ≡ old) × StandsAtEnd plan ps to (StateLimit states) end
 Advances plan ps old new to (InputMissing state port) =
-    (end : RunEndsWith plan ps (InputMissing state port)) × (new ≡ old) × (to.store ≡ end_store plan ps (InputMissing state port) end)
-Advances plan ps old new to (Over state limit) = (end : RunEndsWith plan ps (Over state limit)) × (new ≡ old) × (to.store ≡ end_store plan ps (Over state limit) end)
+    (end : RunEndsWith plan ps (InputMissing state port)) × (new ≡ old) × StandsAtEnd plan ps to (InputMissing state port) end
+Advances plan ps old new to (Over state limit) = (end : RunEndsWith plan ps (Over state limit)) × (new ≡ old) × StandsAtEnd plan ps to (Over state limit) end
 
 -- A run begins with no settled state, and each answer for the next state advances it.
 pub record RunsAdvance (plan : Plan) : Type 0 where

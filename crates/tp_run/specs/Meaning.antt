@@ -15,7 +15,7 @@ use Rattle.tp_run.specs.States.{Plan, globals_of, setting, Standing, open_at, an
 -- the intervals, with what is shown on them, that the states still to come are free to be; the next one has this number
 abbrev pub StandingFor : Plan → ℕ → Standing → Course → Part
 StandingFor plan n (open_at m) s a b S = StandsFor (setting plan n) (globals_of plan) m s a b S
-StandingFor plan n (answered turn) s a b S = ⊥
+StandingFor plan n (answered turn m) s a b S = ⊥
 StandingFor plan n spent s a b S = ⊥
 
 -- before its first state a run stands for exactly the intervals on which the formula holds, with what is shown on them
@@ -44,5 +44,5 @@ AnswerMeans plan n (open_at m) new picture (InputMissing state port) = (s : Cour
 AnswerMeans plan n (open_at m) new picture (Undetermined state cell) = Unit {0}
 AnswerMeans plan n (open_at m) new picture (StateLimit states) = Unit {0}
 AnswerMeans plan n (open_at m) new picture (Over state limit) = Unit {0}
-AnswerMeans plan n (answered last) new picture turn = Unit {0}
+AnswerMeans plan n (answered last m) new picture turn = Unit {0}
 AnswerMeans plan n spent new picture turn = Unit {0}

@@ -18,6 +18,7 @@ use Rattle.tp_scene.specs.Pick.{Setting, Moment}
 use Rattle.tp_scene.specs.Rest.{settled, goes, ends, IsOpenCell}
 use Rattle.tp_scene.specs.Advance.{advanced, shown_in}
 use Rattle.tp_scene.specs.Laws.{IsSound, StoreGoesOn}
+use Rattle.tp_order.specs.Orders.{IsOrderly}
 use Rattle.tp_run.specs.declared.run.Made.{Made}
 use Rattle.tp_run.specs.declared.run.Run.{Run}
 use Rattle.tp_run.specs.declared.run.Settings.{Settings}
@@ -33,7 +34,7 @@ use Rattle.tp_run.specs.States.{Plan, RunPlace, globals_of, setting, AreGlobals,
 -- where a run stands with what its store holds
 abbrev pub stands_at : Stand → Contents → Standing
 stands_at (Open scene) store = open_at (moment_of scene store)
-stands_at (Answered turn) store = answered turn
+stands_at (Answered turn scene) store = answered turn (moment_of scene store)
 stands_at Spent store = spent
 
 -- the program that is run
@@ -45,11 +46,11 @@ abbrev pub standing_of : Run → Standing
 standing_of run = stands_at run.stand run.store
 
 abbrev pub next_state_of : Run → ℕ
-next_state_of run = run.settings.setting.state
+next_state_of run = run.state
 
 -- the order in which it takes the items of each state, a seed from its first word on
 abbrev pub order_of : Run → Order
-order_of run = run.settings.order
+order_of run = run.order
 
 -- The first of these variables are those.
 abbrev pub HasFirst : List Variable → List Variable → Type 0
@@ -78,7 +79,7 @@ TurnIsOf xs (Over state limit) = Unit {0}
 -- a run that has answered last speaks of these variables alone
 abbrev pub StandIsOf : List Variable → Stand → Type 0
 StandIsOf xs (Open scene) = Unit {0}
-StandIsOf xs (Answered turn) = TurnIsOf xs turn
+StandIsOf xs (Answered turn scene) = TurnIsOf xs turn
 StandIsOf xs Spent = Unit {0}
 
 -- and so does an answer with where the run then stands
@@ -98,44 +99,49 @@ standing_place run = record { standing = standing_of run; state = next_state_of 
 abbrev pub carried_scene : ℕ → Standing → Option S.Scene
 carried_scene (suc n) (open_at m) = Some m.scene
 carried_scene zero (open_at m) = None
-carried_scene n (answered turn) = None
+carried_scene n (answered turn m) = None
 carried_scene n spent = None
+
+-- the scene in which a run ended: what the picks of its last state led to
+abbrev pub last_scene_in : Standing → Option S.Scene
+last_scene_in (open_at m) = None
+last_scene_in (answered turn m) = Some m.scene
+last_scene_in spent = None
 
 -- before a state it stands at a sound moment
 abbrev pub StandsSound : Plan → ℕ → Standing → Type 0
 StandsSound plan n (open_at m) = IsSound (setting plan n) (kinds_of plan.program.globals) m
-StandsSound plan n (answered turn) = Unit {0}
+StandsSound plan n (answered turn m) = Unit {0}
 StandsSound plan n spent = Unit {0}
 
--- the scene of a run before a state is well kept
+-- and at an orderly one: it is sound, and kept lengths, bound values and inputs are within the limits
+abbrev pub StandsOrderly : Plan → ℕ → Standing → Type 0
+StandsOrderly plan n (open_at m) = IsOrderly (setting plan n) (kinds_of plan.program.globals) m
+StandsOrderly plan n (answered turn m) = Unit {0}
+StandsOrderly plan n spent = Unit {0}
+
+-- the scene of a run, before a state and at its end, is well kept
 abbrev pub StandIsKept : Stand → Type 0
 StandIsKept (Open scene) = IsWellKept scene
-StandIsKept (Answered turn) = Unit {0}
+StandIsKept (Answered turn scene) = IsWellKept scene
 StandIsKept Spent = Unit {0}
 
 -- The settings are those of this plan.
 pub record IsSettingsOf (plan : Plan) (settings : Settings) : Type 0 where
-  pub inputs : lines_of settings.setting.inputs ≡ plan.inputs
+  pub inputs : lines_of settings.setting.inputs.now ≡ plan.inputs
   pub states : settings.limits.states ≡ plan.states
   pub reductions : settings.limits.reductions ≡ plan.reductions
   pub globals : settings.globals ≡ globals_of plan
-  pub definitions : definitions_of settings.setting.defs ≡ plan.program.defs
-
--- a run's settings while it makes a state: the program lends them its definitions
-abbrev pub settings_of : Run → Settings
-settings_of run = record {
-  globals = run.settings.globals;
-  limits = run.settings.limits;
-  order = run.settings.order;
-  setting = record run.settings.setting { defs = run.program.defs };
-}
+  pub definitions : definitions_of settings.setting.defs.now ≡ plan.program.defs
 
 -- The run is one of this plan.
 pub record IsRunOf (plan : Plan) (run : Run) : Type 0 where
   pub program : program_of run ≡ plan.program
-  pub settings : IsSettingsOf plan (settings_of run)
+  pub inputs : lines_of run.inputs ≡ plan.inputs
+  pub states : run.limits.states ≡ plan.states
+  pub reductions : run.limits.reductions ≡ plan.reductions
   pub within : next_state_of run ≤ plan.states
-  pub sound : StandsSound plan (next_state_of run) (standing_of run)
+  pub orderly : StandsOrderly plan (next_state_of run) (standing_of run)
   pub kept : StandIsKept run.stand
   pub named : StandIsOf run.store.variables run.stand
 
@@ -157,9 +163,9 @@ abbrev pub RestTurns : Setting → (globals reductions : ℕ) → Moment → Pic
 RestTurns w globals k m old new standing store Went =
     (settled m.scene ≡ goes) × HasPicture globals w.state k m new × ((next : Moment) × NextOf m next × (standing ≡ open_at next) × (store ≡ next.store))
 RestTurns w globals k m old new standing store (Finished length) =
-    (settled m.scene ≡ ends) × HasPicture globals w.state k m new × (length ≡ w.state) × (standing ≡ answered (Finished length)) × (store ≡ m.store)
+    (settled m.scene ≡ ends) × HasPicture globals w.state k m new × (length ≡ w.state) × (standing ≡ answered (Finished length) m) × (store ≡ m.store)
 RestTurns w globals k m old new standing store (Undetermined state cell) =
-    IsOpenCell w m cell × (state ≡ w.state) × (new ≡ old) × (standing ≡ answered (Undetermined state cell)) × (store ≡ m.store)
+    IsOpenCell w m cell × (state ≡ w.state) × (new ≡ old) × (standing ≡ answered (Undetermined state cell) m) × (store ≡ m.store)
 RestTurns w globals k m old new standing store (Contradictory state clash) = ⊥
 RestTurns w globals k m old new standing store (StateLimit states) = ⊥
 RestTurns w globals k m old new standing store (InputMissing state port) = ⊥

@@ -76,10 +76,11 @@ StatesLead plan n m (p ∷ ps) last = (next : Moment) × StateGoesOn plan n m p 
 abbrev pub LeadsTo : Plan → List Picture → Moment → Type 0
 LeadsTo plan ps m = StatesLead plan 0 (first_moment plan.program.globals plan.program.main) ps m
 
--- where a run stands: before a state that begins with this moment, after this last answer, or given up for want of memory
+-- where a run stands: before a state that begins with this moment; after this last answer, at the moment that its state's picks led to; or given up
+-- for want of memory
 pub data Standing : Type 0 where
   open_at : Moment → Standing
-  answered : Turn → Standing
+  answered : Turn → Moment → Standing
   spent : Standing
 
 -- a limit other than that on states is reached: picks lead to an item that passes it, or use up the reductions
@@ -110,23 +111,24 @@ state_after n (Over state limit) = n
 
 -- What becomes of state n, which begins with m, with the pictures before and after, where the run then stands, what its store then holds, and the
 -- answer: all of one list of picks, of which there are at most as many as a state may have. Where the run goes on, the store holds what the next state
--- begins with; else what the state's picks led to. Where the state isn't settled the picture stays.
+-- begins with; else the run stays at the moment that the state's picks led to. Where the state isn't settled the picture stays.
 abbrev pub StateBecomes : Plan → ℕ → Moment → Picture → Picture → Standing → Contents → Turn → Type 0
 StateBecomes plan n m old new standing store Went = (next : Moment) × StateGoesOn plan n m new next × (standing ≡ open_at next) × (store ≡ next.store)
 StateBecomes plan n m old new standing store (Finished length) =
-    (end : StateEnds plan n m new) × (length ≡ n) × (standing ≡ answered (Finished length)) × (store ≡ end.last.store)
+    (end : StateEnds plan n m new) × (length ≡ n) × (standing ≡ answered (Finished length) end.last) × (store ≡ end.last.store)
 StateBecomes plan n m old new standing store (Contradictory state clash) =
-    (end : replay.MeetsClash (setting plan n) plan.reductions m clash) × (state ≡ n) × (n < plan.states) × (new ≡ old) × (standing ≡ answered (Contradictory state clash))
+    (end : replay.MeetsClash (setting plan n) plan.reductions m clash) × (state ≡ n) × (n < plan.states) × (new ≡ old) × (standing ≡ answered (Contradictory state clash) end.last)
     × (store ≡ end.last.store)
 StateBecomes plan n m old new standing store (Undetermined state cell) =
-    (end : replay.IsOpen (setting plan n) plan.reductions m cell) × (state ≡ n) × (n < plan.states) × (new ≡ old) × (standing ≡ answered (Undetermined state cell))
+    (end : replay.IsOpen (setting plan n) plan.reductions m cell) × (state ≡ n) × (n < plan.states) × (new ≡ old) × (standing ≡ answered (Undetermined state cell) end.last)
     × (store ≡ end.last.store)
-StateBecomes plan n m old new standing store (StateLimit states) = (n ≡ plan.states) × (states ≡ n) × (new ≡ old) × (standing ≡ answered (StateLimit states)) × (store ≡ m.store)
+StateBecomes plan n m old new standing store (StateLimit states) = (n ≡ plan.states) × (states ≡ n) × (new ≡ old) × (standing ≡ answered (StateLimit states) m) × (store ≡ m.store)
 StateBecomes plan n m old new standing store (InputMissing state port) =
-    (end : replay.MissesInput (setting plan n) plan.reductions m port) × (state ≡ n) × (n < plan.states) × (new ≡ old) × (standing ≡ answered (InputMissing state port))
+    (end : replay.MissesInput (setting plan n) plan.reductions m port) × (state ≡ n) × (n < plan.states) × (new ≡ old) × (standing ≡ answered (InputMissing state port) end.last)
     × (store ≡ end.last.store)
 StateBecomes plan n m old new standing store (Over state limit) =
-    (end : ReachesLimit (setting plan n) plan.reductions m limit) × (state ≡ n) × (n < plan.states) × (new ≡ old) × (standing ≡ answered (Over state limit))
+    (end : ReachesLimit (setting plan n) plan.reductions m limit) × (state ≡ n) × (n < plan.states) × (new ≡ old)
+    × (standing ≡ answered (Over state limit) (limit_moment (setting plan n) plan.reductions m limit end))
     × (store ≡ (limit_moment (setting plan n) plan.reductions m limit end).store)
 
 -- where a run stands, the number of the state that it makes next, and what its store holds
@@ -139,7 +141,7 @@ pub record RunPlace : Type 0 where
 -- want of memory answers nothing else any more.
 abbrev AnswersAt : Plan → Standing → (from : RunPlace) → (old new : Picture) → (to : RunPlace) → Turn → Type 0
 AnswersAt plan (open_at m) from old new to turn = StateBecomes plan from.state m old new to.standing to.store turn × (to.state ≡ state_after from.state turn)
-AnswersAt plan (answered last) from old new to turn = (turn ≡ last) × (new ≡ old) × (to.standing ≡ answered last) × (to.state ≡ from.state) × (to.store ≡ from.store)
+AnswersAt plan (answered last m) from old new to turn = (turn ≡ last) × (new ≡ old) × (to.standing ≡ answered last m) × (to.state ≡ from.state) × (to.store ≡ from.store)
 AnswersAt plan spent from old new to turn = ⊥
 
 abbrev pub AnswersState : Plan → (from : RunPlace) → (old new : Picture) → (to : RunPlace) → Turn → Type 0

@@ -1,5 +1,5 @@
 // The run of a program, state by state.
-ghost use Rattle.std.specs.Prelude.{◌≡◌, ◌<◌, ◌≤◌, Bool, List, [], Option, IfOk, IfSome, OnErr, OnOk};
+ghost use Rattle.std.specs.Prelude.{◌≡◌, ◌<◌, ◌≤◌, Bool, List, [], Option, IfOk, IfSome, IsSomeAnd, OnErr, OnOk};
 ghost use Rattle.std.specs.Option.{option_map};
 ghost use Rattle.tp_kernel.specs.Read.{formula_tree};
 ghost use Rattle.tp_meaning.specs.Fits.{ProgramFits};
@@ -17,10 +17,11 @@ ghost use Rattle.tp_decide.specs.Decided.{setting_of};
 ghost use Rattle.tp_slots.specs.Kept.{IsWellKept, Lives};
 ghost use Rattle.tp_slots.specs.Read.{scene_of};
 ghost use Rattle.tp_step.specs.Answers.{moment_of};
-ghost use Rattle.tp_run.specs.States.{Plan, plan_with, setting, open_at, spent, state_after, AnswersState, StateBecomes};
+ghost use Rattle.tp_run.specs.States.{Plan, plan_with, setting, open_at, answered, spent, state_after, AnswersState, StateBecomes};
 ghost use Rattle.tp_run.specs.Meaning.{StandsForItsProgram, AnswerMeans};
 ghost use Rattle.tp_run.specs.Ordered.{IsNamedInOrder};
-ghost use Rattle.tp_run.specs.Runs.{stands_at, standing_of, program_of, next_state_of, order_of, standing_place, store_of, carried_scene, IsSettingsOf, IsRunOf, HasPicture, NextOf, RestTurns, StandIsKept, HasFirst, CellIsOf, TurnIsOf, MadeIsOf};
+ghost use Rattle.tp_run.specs.EachOrder.{AnswerAgrees, AnswerHasNoDeadEnd};
+ghost use Rattle.tp_run.specs.Runs.{stands_at, standing_of, program_of, next_state_of, order_of, standing_place, store_of, carried_scene, last_scene_in, IsSettingsOf, IsRunOf, HasPicture, NextOf, RestTurns, StandIsKept, HasFirst, CellIsOf, TurnIsOf, MadeIsOf};
 
 use crate::limits::Limits;
 use crate::picture::settled_picture;
@@ -29,7 +30,6 @@ use std::mem;
 use std::sync::ledger::Ledger;
 use tp_check::Program;
 use tp_inputs::Inputs;
-use tp_kernel::Defs;
 use tp_pass::{Course, close_by_passes};
 use tp_show::{Cell, Picture, Turn};
 use tp_step::{
@@ -39,29 +39,32 @@ use tp_step::{
 use tp_store::Store;
 use tp_value::NoMemory;
 
-/// What a run is made with, and the number of the state that it makes next, which alone changes. The program lends its definitions while a
-/// state is made.
-#[derive(Drop)]
-struct Settings {
+/// What a state is made with. The run makes it anew for each state.
+#[derive(Clone, Copy)]
+struct Settings<'a> {
     globals: u64,
     limits: Limits,
     order: Order,
-    setting: Setting,
+    setting: Setting<'a>,
 }
 
-/// Before a state, after the last answer, or given up for want of memory.
+/// Before a state, after the last answer with the scene in which the run ended, or given up for want of memory.
 #[derive(Drop)]
 enum Stand {
     Open(Scene),
-    Answered(Turn),
+    Answered(Turn, Scene),
     Spent,
 }
 
-/// The run of a program, state by state.
+/// The run of a program, state by state: what is run, and how; the number of the state that it makes next; and where it stands.
 #[derive(Drop)]
 pub struct Run {
+    alloc: Global,
     program: Program,
-    settings: Settings,
+    inputs: Inputs,
+    limits: Limits,
+    order: Order,
+    state: u64,
     store: Store,
     stand: Stand,
 }
@@ -73,14 +76,14 @@ struct Made {
     turn: Turn,
 }
 
-// The run ends with this answer, and gives it again from then on.
-fn stop(turn: Turn) -> Result<Made, NoMemory>
-    ensures stand { IfOk result (λ made. made.stand ≡ Stand.Answered turn) }
+// The run ends with this answer, in this scene, and gives it again from then on.
+fn stop(turn: Turn, scene: Scene) -> Result<Made, NoMemory>
+    ensures stand { IfOk result (λ made. made.stand ≡ Stand.Answered turn scene) }
     ensures turn { IfOk result (λ made. made.turn ≡ turn) }
 {
     let again = turn.copy()?;
     Ok(Made {
-        stand: Stand::Answered(again),
+        stand: Stand::Answered(again, scene),
         turn,
     })
 }
@@ -98,7 +101,7 @@ fn no_tally(alloc: Global) -> Tally
     }
 }
 
-impl Settings {
+impl<'a> Settings<'a> {
     // The first cell that the waiting item of a scene at rest waits for.
     fn waits_for<L: Ledger>(
         &self,
@@ -116,7 +119,9 @@ impl Settings {
             (other : Option Cell)
             × (outcome_of (setting_of self.now.setting) store.old (scene_of scene.old) item
             ≡ waits cell other)) }
+        ensures scene { OnOk result (scene_of scene.new ≡ scene_of scene.old) }
         ensures store { OnOk result (store.new ≡ store.old) }
+        ensures kept { IsWellKept scene.new }
         ensures named { IfOk result (CellIsOf store.new.variables) }
     {
         let tried = try_item(scene, item, store, &self.setting, 0, steps)?;
@@ -133,24 +138,23 @@ impl Settings {
     // A state that ends the interval.
     fn finish(
         &self,
-        scene: &Scene,
+        scene: Scene,
         store: &Store,
         reductions: u64,
         picture: &mut Picture,
     ) -> Result<Made, NoMemory>
-        requires { IsWellKept scene.now }
+        requires { IsWellKept scene }
         ensures picture { OnOk result
             (HasPicture self.now.globals self.now.setting.state reductions
-            (moment_of scene.now store.now) picture.new) }
+            (moment_of scene store.now) picture.new) }
         ensures stand { IfOk result (λ made.
-            made.stand ≡ Stand.Answered (Turn.Finished self.now.setting.state)) }
+            made.stand ≡ Stand.Answered (Turn.Finished self.now.setting.state) scene) }
         ensures turn { IfOk result (λ made. made.turn ≡ Turn.Finished self.now.setting.state) }
         ensures err { OnErr result (picture.new ≡ picture.old) }
     {
-        let settled = settled_picture(scene, store, self.globals, &self.setting, reductions)?;
-        let made = stop(Turn::Finished {
-            length: self.setting.state,
-        })?;
+        let settled = settled_picture(&scene, store, self.globals, &self.setting, reductions)?;
+        let length = self.setting.state;
+        let made = stop(Turn::Finished { length }, scene)?;
         *picture = settled;
         Ok(made)
     }
@@ -208,20 +212,20 @@ impl Settings {
     {
         let state = self.setting.state;
         match settled(self.setting.alloc, &scene)? {
-            Settled::Ends => self.finish(&scene, store, reductions, picture),
+            Settled::Ends => self.finish(scene, store, reductions, picture),
             Settled::Goes => self.go_on(scene, store, reductions, picture),
             Settled::Waiting(item) => {
                 let cell = self.waits_for(&mut scene, store, item, steps)?;
-                stop(Turn::Undetermined { state, cell })
+                stop(Turn::Undetermined { state, cell }, scene)
             }
             // The root is region 0.
-            Settled::EndOpen => stop(Turn::Undetermined {
-                state,
-                cell: Cell::End {
+            Settled::EndOpen => {
+                let cell = Cell::End {
                     region: 0,
                     depth: 0,
-                },
-            }),
+                };
+                stop(Turn::Undetermined { state, cell }, scene)
+            }
         }
     }
 
@@ -251,7 +255,7 @@ impl Settings {
     {
         let state = self.setting.state;
         if state == self.limits.states {
-            return stop(Turn::StateLimit { states: state });
+            return stop(Turn::StateLimit { states: state }, scene);
         }
         let mut tally = no_tally(self.setting.alloc);
         // Each state begins with the run's order, so a seed's choices begin again.
@@ -267,15 +271,15 @@ impl Settings {
                 Ok(made)
             }
             Ending::Clash(clash) => {
-                let made = stop(Turn::Contradictory { state, clash })?;
+                let made = stop(Turn::Contradictory { state, clash }, scene)?;
                 Ok(made)
             }
             Ending::Missing(port) => {
-                let made = stop(Turn::InputMissing { state, port })?;
+                let made = stop(Turn::InputMissing { state, port }, scene)?;
                 Ok(made)
             }
             Ending::Over(limit) => {
-                let made = stop(Turn::Over { state, limit })?;
+                let made = stop(Turn::Over { state, limit }, scene)?;
                 Ok(made)
             }
         }
@@ -309,22 +313,13 @@ impl Run {
     {
         let scene = start(alloc, &program.main)?;
         let store = Store::new(alloc, &program.globals)?;
-        let none = Defs {
-            items: Vec::new(alloc),
-        };
         Ok(Run {
-            settings: Settings {
-                globals: program.globals.len(),
-                limits,
-                order,
-                setting: Setting {
-                    alloc,
-                    defs: none,
-                    inputs,
-                    state: 0,
-                },
-            },
+            alloc,
             program,
+            inputs,
+            limits,
+            order,
+            state: 0,
             store,
             stand: Stand::Open(scene),
         })
@@ -343,12 +338,28 @@ impl Run {
             ≡ carried_scene (next_state_of self.now) (standing_of self.now) }
         ensures kept { StandIsKept self.now.stand → IfSome result (λ s. IsWellKept s.now) }
     {
-        if self.settings.setting.state == 0 {
+        if self.state == 0 {
             return None;
         }
         match &self.stand {
             Stand::Open(scene) => Some(scene),
-            Stand::Answered(_) => None,
+            Stand::Answered(_, _) => None,
+            Stand::Spent => None,
+        }
+    }
+
+    /// The scene in which the run ended: what the picks of its last state led to, or, at the limit of states, what the next one would begin
+    /// with. None before its end.
+    pub fn last_scene(&self) -> Option<&Scene>
+        ensures scene { option_map (λ s. scene_of s.now) result
+            ≡ last_scene_in (standing_of self.now) }
+        ensures moment { (turn : Turn) (m : Moment) → standing_of self.now ≡ answered turn m
+            → IsSomeAnd result (λ s. moment_of s.now (store_of self.now) ≡ m) }
+        ensures kept { StandIsKept self.now.stand → IfSome result (λ s. IsWellKept s.now) }
+    {
+        match &self.stand {
+            Stand::Open(_) => None,
+            Stand::Answered(_, scene) => Some(scene),
             Stand::Spent => None,
         }
     }
@@ -364,11 +375,11 @@ impl Run {
     // The number of the state that comes after this answer.
     fn next_number(&self, turn: &Turn) -> u64
         requires { turn.now ≡ Turn.Went
-            → self.now.settings.setting.state < self.now.settings.limits.states }
-        ensures { result ≡ state_after self.now.settings.setting.state turn.now }
+            → self.now.state < self.now.limits.states }
+        ensures { result ≡ state_after self.now.state turn.now }
     {
-        let state = self.settings.setting.state;
-        let most = self.settings.limits.states;
+        let state = self.state;
+        let most = self.limits.states;
         match turn {
             Turn::Went => most.min(state + 1),
             Turn::Finished { .. } | Turn::Contradictory { .. } | Turn::Undetermined { .. } => state,
@@ -393,6 +404,13 @@ impl Run {
             (plan : Plan) → IsRunOf plan self.old
             → AnswerMeans plan (next_state_of self.old) (standing_of self.old)
             (standing_of self.new) picture.new turn) }
+        ensures agrees { IfOk result (λ turn.
+            (plan : Plan) → IsRunOf plan self.old
+            → AnswerAgrees plan (next_state_of self.old) (standing_of self.old) picture.new turn) }
+        ensures no_dead_end { IfOk result (λ turn.
+            (plan : Plan) → IsRunOf plan self.old
+            → AnswerHasNoDeadEnd plan (next_state_of self.old) (standing_of self.old) picture.new
+            turn) }
         ensures run { (plan : Plan) → IsRunOf plan self.old → IsRunOf plan self.new }
         ensures order { order_of self.new ≡ order_of self.old }
         ensures in_order { IfOk result (λ turn.
@@ -406,16 +424,25 @@ impl Run {
     {
         match mem::replace(&mut self.stand, Stand::Spent) {
             Stand::Open(scene) => {
-                mem::swap(&mut self.program.defs, &mut self.settings.setting.defs);
-                let made = self.settings.make(scene, &mut self.store, picture, steps);
-                mem::swap(&mut self.program.defs, &mut self.settings.setting.defs);
-                let made = made?;
-                self.settings.setting.state = self.next_number(&made.turn);
+                let globals = self.program.globals.len();
+                let settings = Settings {
+                    globals,
+                    limits: self.limits,
+                    order: self.order,
+                    setting: Setting {
+                        alloc: self.alloc,
+                        defs: &self.program.defs,
+                        inputs: &self.inputs,
+                        state: self.state,
+                    },
+                };
+                let made = settings.make(scene, &mut self.store, picture, steps)?;
+                self.state = self.next_number(&made.turn);
                 self.stand = made.stand;
                 Ok(made.turn)
             }
-            Stand::Answered(turn) => {
-                let made = stop(turn)?;
+            Stand::Answered(turn, scene) => {
+                let made = stop(turn, scene)?;
                 self.stand = made.stand;
                 Ok(made.turn)
             }

@@ -12,6 +12,7 @@ use std::marker::Brand;
 use std::sync::ledger::{Blank, Ledger};
 use std::test::Fail;
 use tp_check::Program;
+use tp_inputs::Inputs;
 use tp_pass::{Course, close_by_passes};
 use tp_step::{ItemIds, Order, Steps, Tally, Waits};
 
@@ -40,7 +41,8 @@ fn picks<L: Ledger>(
     requires fits { ProgramFits (program_tree program) }
 {
     let mut steps = Steps::<L>::new(blank);
-    let (mut scene, mut store, setting) = begin(alloc, program)?;
+    let inputs = Inputs::none(alloc)?;
+    let (mut scene, mut store, setting) = begin(alloc, &program, &inputs)?;
     let mut tally = nothing_told(alloc);
     close_by_passes(
         &mut scene, &mut store, &setting, course, &mut tally, &mut steps,

@@ -78,6 +78,9 @@ fn tell_state<L: Ledger>(
     }
     let again = run.state(picture, steps)?;
     ended(alloc, &turn, &again, out)?;
+    if run.last_scene().is_none() {
+        return Err("no last scene".into());
+    }
     Ok(false)
 }
 

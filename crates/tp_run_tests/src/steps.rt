@@ -24,24 +24,22 @@ use tp_step::{
 use tp_store::Store;
 use tp_value::NoMemory;
 
-/// What a run of a program begins with, without inputs.
-pub fn begin(alloc: Global, program: Program) -> Result<(Scene, Store, Setting), NoMemory>
-    requires { ProgramFits (program_tree program) }
+/// What a run of a program begins with.
+pub fn begin<'a>(
+    alloc: Global,
+    program: &'a Program,
+    inputs: &'a Inputs,
+) -> Result<(Scene, Store, Setting<'a>), NoMemory>
+    requires { ProgramFits (program_tree program.now) }
     ensures kept { IfOk result (λ r. IsWellKept r.0) }
     ensures sound { IfOk result (λ r.
         (kinds : List Bool) × IsSound (setting_of r.2) kinds (moment_of r.0 r.1)) }
 {
-    let Program {
-        defs,
-        main,
-        globals,
-    } = program;
-    let inputs = Inputs::none(alloc)?;
-    let store = Store::new(alloc, &globals)?;
-    let scene = start(alloc, &main)?;
+    let store = Store::new(alloc, &program.globals)?;
+    let scene = start(alloc, &program.main)?;
     let setting = Setting {
         alloc,
-        defs,
+        defs: &program.defs,
         inputs,
         state: 0,
     };
@@ -218,7 +216,8 @@ fn told<L: Ledger>(
     requires fits { ProgramFits (program_tree program) }
 {
     let mut steps = Steps::<L>::new(blank);
-    let (mut scene, mut store, mut setting) = begin(alloc, program)?;
+    let inputs = Inputs::none(alloc)?;
+    let (mut scene, mut store, mut setting) = begin(alloc, &program, &inputs)?;
     let mut out = tries(&mut scene, &mut store, first, &setting, room, &mut steps)?;
     let Some(second) = second else {
         return Ok(out);

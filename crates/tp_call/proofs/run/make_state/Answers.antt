@@ -1,6 +1,7 @@
 use Rattle.std.proofs.Common.{refl}
 use Rattle.std.proofs.lemmas.Result.{err_from_is_err_and}
 use Rattle.tp_run.specs.Runs.{order_of, standing_place}
+use Rattle.tp_run.proofs.Becomes.{stands_sound}
 use Rattle.tp_call.proofs.TurnLemmas.{answer_made, write_stopped_so, settled_parts, settled_carries}
 use Rattle.tp_call.proofs.OrderLemmas.{names_last}
 use Rattle.tp_call.proofs.run.make_state.Goals as goal
@@ -13,7 +14,7 @@ write_settled-requires-clause-carried g c = λ settled.
     let plan = c.requires.run.0 in
     let before = c.requires.run.1 in
     let after = c.state.ensures.run plan before in
-    record { kept = after.kept; carried = settled_carries plan _ _ _ _ _ c.requires.open before.sound (c.in_ok-turn.ensures.made plan before) settled }
+    record { kept = after.kept; carried = settled_carries plan _ _ _ _ _ c.requires.open (stands_sound plan _ _ before.orderly) (c.in_ok-turn.ensures.made plan before) settled }
 
 pub returns-clause-made : goal.returns-clause-made
 returns-clause-made g c = λ plan runs.

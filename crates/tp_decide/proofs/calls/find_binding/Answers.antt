@@ -10,7 +10,7 @@ use Rattle.tp_decide.proofs.calls.find_binding.Goals as goal
 pub returns-in_ok-bound-2-clause-bound : goal.returns-in_ok-bound-2-clause-bound
 returns-in_ok-bound-2-clause-bound c =
     let facts = c.args.store.now.facts in
-    let defs = definitions_of c.args.setting.now.defs in
+    let defs = definitions_of c.args.setting.now.defs.now in
     let e = expr_tree c.args.expr.now in
     let env = bindings_of c.args.env.now in
     let lower : is_upper c.args.parameter.now ≡ false = sym c.is_upper.ensures ∙ c.if-is_upper.false in

@@ -17,7 +17,7 @@ use Rattle.tp_decide.proofs.calls.find_bindings.Goals as goal
 pub loop-expr-preserved : goal.loop-expr-preserved
 loop-expr-preserved c =
     let facts = c.args.store.now.facts in
-    let defs = definitions_of c.args.setting.now.defs in
+    let defs = definitions_of c.args.setting.now.defs.now in
     let env = bindings_of c.args.env.now in
     let e = c.in-Some.expr.now in
     let x = c.in-Some.parameter.now in
@@ -43,6 +43,6 @@ pub returns-else-len-clause-bound : goal.returns-else-len-clause-bound
 returns-else-len-clause-bound c = λ f facts n.
     let ended = either_empty_from_Zip c.loop-expr.expr-iterator c.next.new.self c.next.result c.in-None.is c.next.ensures.steps in
     c.no_element.ensures.outcome facts n
-    ∙ one_too_few c.args.store.now.facts (definitions_of c.args.setting.now.defs) (bindings_of c.args.env.now) (map binding_of c.loop-expr.items.items) (iter_rest (zip_first c.loop-expr.expr-iterator)) (iter_rest (zip_second c.loop-expr.expr-iterator)) ended
+    ∙ one_too_few c.args.store.now.facts (definitions_of c.args.setting.now.defs.now) (bindings_of c.args.env.now) (map binding_of c.loop-expr.items.items) (iter_rest (zip_first c.loop-expr.expr-iterator)) (iter_rest (zip_second c.loop-expr.expr-iterator)) ended
     (λ q. omega (arith, q, c.if-len.false, c.loop-expr.invariant.lengths, c.len.ensures, c.len-2.ensures, ap length c.parameters.view_is)) f
     ∙ c.loop-expr.invariant.bound f

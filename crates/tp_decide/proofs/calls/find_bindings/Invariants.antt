@@ -11,7 +11,7 @@ use Rattle.tp_decide.proofs.calls.find_bindings.Given as goal
 
 abbrev pub invariant-loop-expr : goal.invariant-loop-expr
 invariant-loop-expr l =
-    let defs = definitions_of l.setting.defs in
+    let defs = definitions_of l.setting.defs.now in
     let env = bindings_of l.env in
     let es = iter_rest (zip_first l.expr-iterator) in
     let xs = iter_rest (zip_second l.expr-iterator) in

@@ -9,7 +9,7 @@ use Rattle.tp_decide.proofs.calls.unfold.Goals as goal
 
 pub returns-in_ok-decision-in-Ok-clause-outcome : goal.returns-in_ok-decision-in-Ok-clause-outcome
 returns-in_ok-decision-in-Ok-clause-outcome c = λ facts n.
-    let defs = definitions_of c.args.setting.now.defs in
+    let defs = definitions_of c.args.setting.now.defs.now in
     let arguments = row.with_arguments defs [] 0 c.args.store.now.facts (expr_trees c.args.exprs.now) c.args.def.now.parameters (bindings_of c.args.env.now) in
     let bound = subst (λ (r : Result Env Decision). AllBoundIn arguments r) c.in-Ok.is c.in_ok-bound.ensures.bound in
     c.in_ok-decision-in-Ok.ensures.outcome facts n

@@ -15,7 +15,7 @@ use Rattle.tp_decide.proofs.display.find_values.Goals as goal
 pub loop-expr-init : goal.loop-expr-init
 loop-expr-init c = λ f.
     let facts = c.args.store.now.facts in
-    let defs = definitions_of c.args.setting.now.defs in
+    let defs = definitions_of c.args.setting.now.defs.now in
     let env = bindings_of c.args.env.now in
     ap (λ (vs : List Value). values_after facts defs env (map tree vs) (rest c.args.exprs.now.items.items 0) f) c.new-items.ensures.items
     ∙ ap (λ es. values_then facts defs env es f) (sym (expr_trees_is c.args.exprs.now))
@@ -23,7 +23,7 @@ loop-expr-init c = λ f.
 pub loop-expr-preserved : goal.loop-expr-preserved
 loop-expr-preserved c = λ f.
     let facts = c.args.store.now.facts in
-    let defs = definitions_of c.args.setting.now.defs in
+    let defs = definitions_of c.args.setting.now.defs.now in
     let env = bindings_of c.args.env.now in
     let es = c.args.exprs.now.items.items in
     let i = c.loop-expr.expr-index in
@@ -39,7 +39,7 @@ loop-expr-preserved c = λ f.
 pub returns-in-Err-clause-found : goal.returns-in-Err-clause-found
 returns-in-Err-clause-found c = λ f known n.
     let facts = c.args.store.now.facts in
-    let defs = definitions_of c.args.setting.now.defs in
+    let defs = definitions_of c.args.setting.now.defs.now in
     let env = bindings_of c.args.env.now in
     let es = c.args.exprs.now.items.items in
     let i = c.loop-expr.expr-index in
@@ -53,7 +53,7 @@ returns-in-Err-clause-found c = λ f known n.
 pub returns-clause-found : goal.returns-clause-found
 returns-clause-found c = λ f.
     let facts = c.args.store.now.facts in
-    let defs = definitions_of c.args.setting.now.defs in
+    let defs = definitions_of c.args.setting.now.defs.now in
     let env = bindings_of c.args.env.now in
     let es = c.args.exprs.now.items.items in
     let i = c.loop-expr.expr-index in

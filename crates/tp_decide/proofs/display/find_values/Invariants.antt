@@ -9,6 +9,6 @@ use Rattle.tp_decide.proofs.display.find_values.Given as goal
 
 abbrev pub invariant-loop-expr : goal.invariant-loop-expr
 invariant-loop-expr l =
-    let defs = definitions_of l.setting.defs in
+    let defs = definitions_of l.setting.defs.now in
     let env = bindings_of l.env in
     (f : List Tree → PickOutcome) → values_after l.store.facts defs env (map tree l.items.items) (rest l.exprs.items.items l.expr-index) f ≡ values_then l.store.facts defs env (expr_trees l.exprs) f

@@ -33,10 +33,10 @@ returns-in-More-clause-variables c = c.go.ensures.plain c.args.store.now.variabl
 pub returns-in_ok-found-in-NextEq-clause-outcome : goal.returns-in_ok-found-in-NextEq-clause-outcome
 returns-in_ok-found-in-NextEq-clause-outcome c =
     let facts = c.args.store.now.facts in
-    let defs = definitions_of c.args.setting.now.defs in
+    let defs = definitions_of c.args.setting.now.defs.now in
     let env = env_of c.args.phrase.now in
     let place = plain_place c.args.place in
-    let step = row.formula_step defs (lines_of c.args.setting.now.inputs) c.args.setting.now.state facts in
+    let step = row.formula_step defs (lines_of c.args.setting.now.inputs.now) c.args.setting.now.state facts in
     let found = c.in_ok-found-in-NextEq.found in
     let whole = ap formula_tree (sym c.deref.ensures ∙ c.in-NextEq.is) ∙ formula_next_eq c.in-NextEq.k c.in-NextEq.t c.in-NextEq.e in
     let here = subst (λ o. ValueIn o found) (same_outcome facts defs _ c.in-NextEq.e.value _ c.args.phrase.now.env.value c.deref-in-NextEq.ensures c.deref-in-NextEq-2.ensures) c.in_ok-found-in-NextEq.ensures.found in
@@ -46,10 +46,10 @@ returns-in_ok-found-in-NextEq-clause-outcome c =
 pub returns-in_ok-found-in-If-clause-outcome : goal.returns-in_ok-found-in-If-clause-outcome
 returns-in_ok-found-in-If-clause-outcome c =
     let facts = c.args.store.now.facts in
-    let defs = definitions_of c.args.setting.now.defs in
+    let defs = definitions_of c.args.setting.now.defs.now in
     let env = env_of c.args.phrase.now in
     let place = plain_place c.args.place in
-    let step = row.formula_step defs (lines_of c.args.setting.now.inputs) c.args.setting.now.state facts in
+    let step = row.formula_step defs (lines_of c.args.setting.now.inputs.now) c.args.setting.now.state facts in
     let found = c.in_ok-found-in-If.found in
     let whole = ap formula_tree (sym c.deref.ensures ∙ c.in-If.is) ∙ formula_if c.in-If.b c.in-If.yes c.in-If.no in
     let here = subst (λ o. TruthIn o found) (same_outcome facts defs _ c.in-If.b.value _ c.args.phrase.now.env.value c.deref-in-If.ensures c.deref-in-If-2.ensures) c.in_ok-found-in-If.ensures.found in
@@ -59,10 +59,10 @@ returns-in_ok-found-in-If-clause-outcome c =
 pub returns-in_ok-found-in-Assign-clause-outcome : goal.returns-in_ok-found-in-Assign-clause-outcome
 returns-in_ok-found-in-Assign-clause-outcome c =
     let facts = c.args.store.now.facts in
-    let defs = definitions_of c.args.setting.now.defs in
+    let defs = definitions_of c.args.setting.now.defs.now in
     let env = env_of c.args.phrase.now in
     let place = plain_place c.args.place in
-    let step = row.formula_step defs (lines_of c.args.setting.now.inputs) c.args.setting.now.state facts in
+    let step = row.formula_step defs (lines_of c.args.setting.now.inputs.now) c.args.setting.now.state facts in
     let found = c.in_ok-found-in-Assign.found in
     let whole = ap formula_tree (sym c.deref.ensures ∙ c.in-Assign.is) ∙ formula_assign c.in-Assign.t c.in-Assign.e in
     let here = subst (λ o. ValueIn o found) (same_outcome facts defs _ c.in-Assign.e.value _ c.args.phrase.now.env.value c.deref-in-Assign.ensures c.deref-in-Assign-2.ensures) c.in_ok-found-in-Assign.ensures.found in
@@ -72,10 +72,10 @@ returns-in_ok-found-in-Assign-clause-outcome c =
 pub returns-in_ok-body-in-For-clause-outcome : goal.returns-in_ok-body-in-For-clause-outcome
 returns-in_ok-body-in-For-clause-outcome c =
     let facts = c.args.store.now.facts in
-    let defs = definitions_of c.args.setting.now.defs in
+    let defs = definitions_of c.args.setting.now.defs.now in
     let env = env_of c.args.phrase.now in
     let place = plain_place c.args.place in
-    let step = row.formula_step defs (lines_of c.args.setting.now.inputs) c.args.setting.now.state facts in
+    let step = row.formula_step defs (lines_of c.args.setting.now.inputs.now) c.args.setting.now.state facts in
     let found = c.in_ok-found-in-For.found in
     let whole = ap formula_tree (sym c.deref.ensures ∙ c.in-For.is) ∙ formula_for c.in-For.name c.in-For.from c.in-For.to c.in-For.body in
     let here = subst (λ o. NumberIn o found) (same_outcome facts defs _ c.in-For.to.value _ c.args.phrase.now.env.value c.deref-in-For.ensures c.deref-in-For-2.ensures) c.in_ok-found-in-For.ensures.found in
@@ -94,10 +94,10 @@ returns-in_ok-body-in-For-clause-outcome c =
 pub returns-in_ok-body-in-Forall-clause-outcome : goal.returns-in_ok-body-in-Forall-clause-outcome
 returns-in_ok-body-in-Forall-clause-outcome c =
     let facts = c.args.store.now.facts in
-    let defs = definitions_of c.args.setting.now.defs in
+    let defs = definitions_of c.args.setting.now.defs.now in
     let env = env_of c.args.phrase.now in
     let place = plain_place c.args.place in
-    let step = row.formula_step defs (lines_of c.args.setting.now.inputs) c.args.setting.now.state facts in
+    let step = row.formula_step defs (lines_of c.args.setting.now.inputs.now) c.args.setting.now.state facts in
     let found = c.in_ok-found-in-Forall.found in
     let whole = ap formula_tree (sym c.deref.ensures ∙ c.in-Forall.is) ∙ formula_forall c.in-Forall.name c.in-Forall.from c.in-Forall.to c.in-Forall.body in
     let here = subst (λ o. NumberIn o found) (same_outcome facts defs _ c.in-Forall.to.value _ c.args.phrase.now.env.value c.deref-in-Forall.ensures c.deref-in-Forall-2.ensures) c.in_ok-found-in-Forall.ensures.found in
@@ -115,7 +115,7 @@ returns-in_ok-body-in-Forall-clause-outcome c =
 
 pub decide_call-requires : goal.decide_call-requires
 decide_call-requires c = λ called is.
-    let defs = definitions_of c.args.setting.now.defs in
+    let defs = definitions_of c.args.setting.now.defs.now in
     let es = expr_trees c.in-Call.exprs in
     let fits = c.requires.fits in
     let whole = ap formula_tree (sym c.deref.ensures ∙ c.in-Call.is) ∙ formula_call c.in-Call.number c.in-Call.exprs in
@@ -126,10 +126,10 @@ decide_call-requires c = λ called is.
 pub returns-in-Call-clause-outcome : goal.returns-in-Call-clause-outcome
 returns-in-Call-clause-outcome c =
     let facts = c.args.store.now.facts in
-    let defs = definitions_of c.args.setting.now.defs in
+    let defs = definitions_of c.args.setting.now.defs.now in
     let env = env_of c.args.phrase.now in
     let place = plain_place c.args.place in
-    let step = row.formula_step defs (lines_of c.args.setting.now.inputs) c.args.setting.now.state facts in
+    let step = row.formula_step defs (lines_of c.args.setting.now.inputs.now) c.args.setting.now.state facts in
     let called : Env → row.Numbers → row.PickOutcome = λ v n. row.called defs [] 0 facts (slice_get defs c.in-Call.number) (expr_trees c.in-Call.exprs) (bindings_of v) n in
     let whole = ap formula_tree (sym c.deref.ensures ∙ c.in-Call.is) ∙ formula_call c.in-Call.number c.in-Call.exprs in
     decided_row facts c.decide_call.result (called c.deref-in-Call.result.now) (λ n. step _ env place n)

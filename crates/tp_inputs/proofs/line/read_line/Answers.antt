@@ -2,7 +2,7 @@ use Rattle.std.proofs.Common.{List, ℕ, arith, subst, sym}
 use Rattle.std.proofs.lemmas.List.{take_rest}
 use Rattle.std.proofs.lemmas.Grind.{common_steps}
 use Rattle.std.proofs.lemmas.Result.{err_from_is_err_and}
-use Rattle.tp_inputs.specs.Read.{pairs_of}
+use Rattle.tp_inputs.specs.Pairs.{pairs_of}
 use Rattle.tp_inputs.proofs.PartLemmas.{no_more}
 use Rattle.tp_inputs.proofs.LineLemmas.{Continues, passes_on, refused_on, at_end}
 use Rattle.tp_inputs.proofs.line.read_line.Goals as goal

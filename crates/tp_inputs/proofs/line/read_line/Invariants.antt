@@ -1,5 +1,5 @@
 use Rattle.std.proofs.Common.{length}
-use Rattle.tp_inputs.specs.Read.{pairs_of}
+use Rattle.tp_inputs.specs.Pairs.{pairs_of}
 use Rattle.tp_inputs.proofs.LineLemmas.{Continues}
 use Rattle.tp_inputs.proofs.line.read_line.Given as goal
 

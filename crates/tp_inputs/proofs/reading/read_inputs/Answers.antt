@@ -4,7 +4,7 @@ use Rattle.std.proofs.lemmas.Grind.{common_steps}
 use Rattle.std.specs.Str.Lines.{lines}
 use Rattle.tp_meaning.specs.Inputs.{InputLines}
 use Rattle.tp_inputs.specs.Table.{IsInputsRefusal}
-use Rattle.tp_inputs.specs.Read.{pairs_of}
+use Rattle.tp_inputs.specs.Pairs.{pairs_of}
 use Rattle.tp_inputs.proofs.PartLemmas.{no_more}
 use Rattle.tp_inputs.proofs.TableLemmas.{ReadsSoFar, line_more, refused_in, table_whole}
 use Rattle.tp_inputs.proofs.WithinLemmas.{tables_within}
@@ -29,7 +29,7 @@ returns-in-Err-clause-refused c =
 pub returns-clause-table : goal.returns-clause-table
 returns-clause-table c = table_whole c.args.bytes.now c.loop-rest.rest.now _ c.loop-rest.invariant (no_more c.loop-rest.rest.now (grind (arith, common_steps)))
 
-pub returns-clause-within : goal.returns-clause-within
-returns-clause-within c =
+pub invariant_of-result : goal.invariant_of-result
+invariant_of-result c =
     let table : InputLines = map pairs_of c.loop-rest.items.items in
-    tables_within c.args.bytes.now table (table_whole c.args.bytes.now c.loop-rest.rest.now table c.loop-rest.invariant (no_more c.loop-rest.rest.now (grind (arith, common_steps))))
+    record { within = tables_within c.args.bytes.now table (table_whole c.args.bytes.now c.loop-rest.rest.now table c.loop-rest.invariant (no_more c.loop-rest.rest.now (grind (arith, common_steps)))) }

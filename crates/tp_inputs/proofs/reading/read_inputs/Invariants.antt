@@ -1,6 +1,6 @@
 use Rattle.std.proofs.Common.{length, map}
 use Rattle.std.specs.Str.Lines.{lines}
-use Rattle.tp_inputs.specs.Read.{pairs_of}
+use Rattle.tp_inputs.specs.Pairs.{pairs_of}
 use Rattle.tp_inputs.proofs.TableLemmas.{ReadsSoFar}
 use Rattle.tp_inputs.proofs.reading.read_inputs.Given as goal
 

@@ -1,5 +1,5 @@
 use Rattle.std.proofs.Common.{ap, ◌∙◌, map}
-use Rattle.tp_inputs.specs.Read.{pair_of}
+use Rattle.tp_inputs.specs.Pairs.{pair_of}
 use Rattle.tp_inputs.proofs.PairLemmas.{pair_added}
 use Rattle.tp_inputs.proofs.line.Line.add.Goals as goal
 

@@ -1,6 +1,7 @@
 use Rattle.std.proofs.Common.{ap, sym, ◌∙◌}
 use Rattle.tp_inputs.specs.Lines.{blank}
-use Rattle.tp_inputs.specs.Read.{pair_of, pairs_of, part_of}
+use Rattle.tp_inputs.specs.Pairs.{pair_of, pairs_of}
+use Rattle.tp_inputs.specs.Read.{part_of}
 use Rattle.tp_inputs.proofs.LineLemmas.{part_found, pair_passes, new_port}
 use Rattle.tp_inputs.proofs.line.Line.take_part.Goals as goal
 

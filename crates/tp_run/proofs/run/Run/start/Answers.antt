@@ -1,6 +1,4 @@
 use Rattle.std.proofs.Common.{◌≡◌, ◌∙◌, ap₂, sym, subst, arith, refl}
-use Rattle.std.proofs.lemmas.List.{length-map}
-use Rattle.tp_value.specs.Globals.{is_lower}
 use Rattle.tp_kernel.specs.Read.{formula_tree}
 use Rattle.tp_check.specs.Program.{program_tree}
 use Rattle.tp_inputs.specs.Read.{lines_of}
@@ -11,8 +9,8 @@ use Rattle.tp_scene.specs.StandsFor.{first_moment}
 use Rattle.tp_step.specs.Answers.{moment_of}
 use Rattle.tp_run.specs.States.{Plan, plan_with, open_at}
 use Rattle.tp_run.specs.Meaning.{StandsForItsProgram}
-use Rattle.tp_run.specs.Runs.{StandsSound}
-use Rattle.tp_run.proofs.Given.{first_sound}
+use Rattle.tp_run.specs.Runs.{StandsOrderly}
+use Rattle.tp_run.proofs.OneState.{first_orderly}
 use Rattle.tp_run.proofs.Becomes.{begins}
 use Rattle.tp_run.proofs.run.Run.start.Goals as goal
 
@@ -25,15 +23,11 @@ returns-clause-plan c =
     let first : moment_of c.in_ok-scene.scene c.in_ok-store.store ≡ first_moment names main = ap₂ make c.in_ok-scene.ensures.scene c.in_ok-store.ensures in
     record {
       program = refl;
-      settings = record {
-        inputs = refl;
-        states = refl;
-        reductions = refl;
-        globals = c.len.ensures ∙ sym (length-map names is_lower);
-        definitions = refl;
-      };
+      inputs = refl;
+      states = refl;
+      reductions = refl;
       within = omega arith;
-      sound = subst (λ (m : Moment). StandsSound plan 0 (open_at m)) (sym first) (first_sound plan c.requires.fits);
+      orderly = subst (λ (m : Moment). StandsOrderly plan 0 (open_at m)) (sym first) (first_orderly plan c.requires.fits c.args.inputs.within);
       kept = c.in_ok-scene.ensures.kept;
       named = tt;
     }

@@ -1,8 +1,9 @@
 use Rattle.std.proofs.Common.{ap, refl, ◌∙◌}
+use Rattle.tp_meaning.specs.Interval.{ProgramTree}
 use Rattle.tp_step.specs.Answers.{moment_of}
 use Rattle.tp_run.specs.declared.run.Stand.{Stand}
 use Rattle.tp_run.specs.Runs.{stands_at}
-use Rattle.tp_run.proofs.Becomes.{answer_means, run_kept, lent, lent_settings, given_back_run}
+use Rattle.tp_run.proofs.Becomes.{answer_means, answer_agrees, answer_goes_on, run_kept, globals_are}
 use Rattle.tp_run.proofs.Named.{named_by_plan}
 use Rattle.tp_run.proofs.Stores.{leaves_variables}
 use Rattle.tp_run.proofs.run.Run.state.Goals as goal
@@ -12,16 +13,28 @@ returns-in_ok-made-in-Open-clause-means g c = λ plan h.
     let run = c.args.self.now in
     let made = c.in_ok-made-in-Open.made in
     answer_means plan run h (moment_of c.in-Open.scene run.store) (ap (λ (s : Stand). stands_at s run.store) c.in-Open.ensures.value) c.args.picture.now c.make-made.new.picture c.make-made.new.store made.stand made.turn
-    (c.in_ok-made-in-Open.ensures.made plan (lent_settings plan run c.swap.new.y h c.swap.ensures.y_after))
+    (c.in_ok-made-in-Open.ensures.made plan (record { inputs = h.inputs; states = h.states; reductions = h.reductions; globals = c.len-globals.ensures ∙ globals_are plan run h; definitions = ap (λ (p : ProgramTree). p.defs) h.program }))
+
+pub returns-in_ok-made-in-Open-clause-agrees : goal.returns-in_ok-made-in-Open-clause-agrees
+returns-in_ok-made-in-Open-clause-agrees g c = λ plan h.
+    let run = c.args.self.now in
+    let made = c.in_ok-made-in-Open.made in
+    answer_agrees plan run h (moment_of c.in-Open.scene run.store) (ap (λ (s : Stand). stands_at s run.store) c.in-Open.ensures.value) c.args.picture.now c.make-made.new.picture c.make-made.new.store made.stand made.turn
+    (c.in_ok-made-in-Open.ensures.made plan (record { inputs = h.inputs; states = h.states; reductions = h.reductions; globals = c.len-globals.ensures ∙ globals_are plan run h; definitions = ap (λ (p : ProgramTree). p.defs) h.program }))
+
+pub returns-in_ok-made-in-Open-clause-no_dead_end : goal.returns-in_ok-made-in-Open-clause-no_dead_end
+returns-in_ok-made-in-Open-clause-no_dead_end g c = λ plan h.
+    let run = c.args.self.now in
+    let made = c.in_ok-made-in-Open.made in
+    answer_goes_on plan run h (moment_of c.in-Open.scene run.store) (ap (λ (s : Stand). stands_at s run.store) c.in-Open.ensures.value) c.args.picture.now c.make-made.new.picture c.make-made.new.store made.stand made.turn
+    (c.in_ok-made-in-Open.ensures.made plan (record { inputs = h.inputs; states = h.states; reductions = h.reductions; globals = c.len-globals.ensures ∙ globals_are plan run h; definitions = ap (λ (p : ProgramTree). p.defs) h.program }))
 
 pub returns-in_ok-made-in-Open-clause-run : goal.returns-in_ok-made-in-Open-clause-run
 returns-in_ok-made-in-Open-clause-run g c = λ plan h.
     let run = c.args.self.now in
     let made = c.in_ok-made-in-Open.made in
-    given_back_run plan _ c.swap-in-Open.new.x c.swap-in-Open.new.y
-    (run_kept plan run h (moment_of c.in-Open.scene run.store) (ap (λ (s : Stand). stands_at s run.store) c.in-Open.ensures.value) c.args.picture.now c.make-made.new.picture c.make-made.new.store made.stand made.turn
-    (c.in_ok-made-in-Open.ensures.made plan (lent_settings plan run c.swap.new.y h c.swap.ensures.y_after)) c.next_number-self.result c.next_number-self.ensures c.in_ok-made-in-Open.ensures.kept c.in_ok-made-in-Open.ensures.named.1)
-    (c.swap-in-Open.ensures.x_after ∙ c.swap.ensures.y_after)
+    run_kept plan run h (moment_of c.in-Open.scene run.store) (ap (λ (s : Stand). stands_at s run.store) c.in-Open.ensures.value) c.args.picture.now c.make-made.new.picture c.make-made.new.store made.stand made.turn
+    (c.in_ok-made-in-Open.ensures.made plan (record { inputs = h.inputs; states = h.states; reductions = h.reductions; globals = c.len-globals.ensures ∙ globals_are plan run h; definitions = ap (λ (p : ProgramTree). p.defs) h.program })) c.next_number-self.result c.next_number-self.ensures c.in_ok-made-in-Open.ensures.kept c.in_ok-made-in-Open.ensures.named.1
 
 pub returns-in_ok-made-in-Open-clause-variables : goal.returns-in_ok-made-in-Open-clause-variables
 returns-in_ok-made-in-Open-clause-variables g c =
@@ -30,10 +43,10 @@ returns-in_ok-made-in-Open-clause-variables g c =
     let h = c.requires.run.1 in
     let made = c.in_ok-made-in-Open.made in
     leaves_variables plan run (moment_of c.in-Open.scene run.store) refl c.args.picture.now c.make-made.new.picture (stands_at made.stand c.make-made.new.store) c.make-made.new.store made.turn
-    (c.in_ok-made-in-Open.ensures.made plan (lent_settings plan run c.swap.new.y h c.swap.ensures.y_after))
+    (c.in_ok-made-in-Open.ensures.made plan (record { inputs = h.inputs; states = h.states; reductions = h.reductions; globals = c.len-globals.ensures ∙ globals_are plan run h; definitions = ap (λ (p : ProgramTree). p.defs) h.program }))
 
 pub returns-in_ok-made-in-Open-clause-in_order : goal.returns-in_ok-made-in-Open-clause-in_order
 returns-in_ok-made-in-Open-clause-in_order g c = λ plan m h at.
     let run = c.args.self.now in
     let there = ap (λ (s : Stand). stands_at s run.store) c.in-Open.ensures.value in
-    named_by_plan plan (lent run c.swap.new.y) m (moment_of c.in-Open.scene run.store) c.in_ok-made-in-Open.made.turn (lent_settings plan run c.swap.new.y h c.swap.ensures.y_after) (there ∙ at) c.in_ok-made-in-Open.ensures.in_order
+    named_by_plan plan _ m (moment_of c.in-Open.scene run.store) c.in_ok-made-in-Open.made.turn (record { inputs = h.inputs; states = h.states; reductions = h.reductions; globals = c.len-globals.ensures ∙ globals_are plan run h; definitions = ap (λ (p : ProgramTree). p.defs) h.program }) (there ∙ at) c.in_ok-made-in-Open.ensures.in_order

@@ -45,7 +45,7 @@ returns-in_ok-made-in-Missing-clause-made g c = λ plan h.
 pub returns-in_ok-made-in-Clash-clause-named : goal.returns-in_ok-made-in-Clash-clause-named
 returns-in_ok-made-in-Clash-clause-named g c =
     let n = c.args.self.now.setting.state in
-    end_named c.close_by_passes.new.store.variables c.in_ok-made-in-Clash.made (Contradictory n c.in-Clash.clash) c.in_ok-made-in-Clash.ensures.stand c.in_ok-made-in-Clash.ensures.turn
+    end_named c.close_by_passes.new.store.variables c.in_ok-made-in-Clash.made (Contradictory n c.in-Clash.clash) c.close_by_passes.new.scene c.in_ok-made-in-Clash.ensures.stand c.in_ok-made-in-Clash.ensures.turn
     (run_clashes_named c.requires.sound.0 c.args.self.now c.requires.sound.1 c.requires.within c.if-state-self.false (moment_of c.args.scene c.args.store.now) (moment_of c.close_by_passes.new.scene c.close_by_passes.new.store)
     c.no_tally-tally.result.picks c.close_by_passes.new.tally.picks c.in_ok-ending.ending c.in_ok-ending.ensures.closes
     (kinds_of c.requires.sound.0.program.globals) (c.in_ok-ending.ensures.sound _ c.requires.sound.2) c.in-Clash.clash c.in-Clash.is)
