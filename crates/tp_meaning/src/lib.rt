@@ -13,9 +13,6 @@ pub use examples::{
     counting_to_three, exists_formulas, expressions, inputs, length_formulas, loop_formulas,
     next_formulas, parameters, project_formulas, recursive_calls, state_formulas,
 };
-pub use laws::{division_rounds_down, meanings_deepen, values_deepen};
-pub use moving::{
-    bindings_mean, meanings_move, meanings_read_their_part, meanings_read_variables,
-    nothing_shown_outside, satisfying_reads_states,
-};
+pub use laws::{division_rounds_down, meanings_deepen};
+pub use moving::{bindings_mean, meanings_read_their_part};
 pub use unfolding::formulas_unfold;
