@@ -4,30 +4,20 @@ ghost use Rattle.tp_meaning.specs.Syntax.{ExprTree, FormulaTree, while, for_from
 ghost use Rattle.tp_meaning.specs.Direct.{Means};
 ghost use Rattle.tp_meaning.specs.Cuts.{WhileByCuts, ForByCuts, ForallByInstances, ProjectByCuts, ExistsByValues};
 
-/// `while e do f`, by strictly rising cuts.
-pub fn while_by_cuts()
-    ensures { (e : ExprTree) (f : FormulaTree) → Means (while e f) (WhileByCuts e f) }
-{}
-
-/// `for v < e do f`, by cuts that never fall, with the numbers of its turns.
-pub fn for_by_cuts()
-    ensures { (name : List ℕ) (k : ℤ) (e : ExprTree) (f : FormulaTree)
+/// Loops, projections and bindings mean what they say of their parts at once.
+pub fn formulas_mean_by_parts()
+    // `while e do f`, by strictly rising cuts.
+    ensures while_by_cuts { (e : ExprTree) (f : FormulaTree)
+        → Means (while e f) (WhileByCuts e f) }
+    // `for v < e do f`, by cuts that never fall, with the numbers of its turns.
+    ensures for_by_cuts { (name : List ℕ) (k : ℤ) (e : ExprTree) (f : FormulaTree)
         → Means (for_from name k e f) (ForByCuts k e f) }
-{}
-
-/// `forall v < e : f`, by its instances.
-pub fn forall_by_instances()
-    ensures { (name : List ℕ) (k : ℤ) (e : ExprTree) (f : FormulaTree)
+    // `forall v < e : f`, by its instances.
+    ensures forall_by_instances { (name : List ℕ) (k : ℤ) (e : ExprTree) (f : FormulaTree)
         → Means (forall_from name k e f) (ForallByInstances k e f) }
-{}
-
-/// `f proj g`, by strictly rising cuts.
-pub fn project_by_cuts()
-    ensures { (f g : FormulaTree) → Means (project f g) (ProjectByCuts f g) }
-{}
-
-/// `exists V : f`, by values in the states of the interval.
-pub fn exists_by_values()
-    ensures { (name : List ℕ) (lasting : Bool) (f : FormulaTree)
+    // `f proj g`, by strictly rising cuts.
+    ensures project_by_cuts { (f g : FormulaTree) → Means (project f g) (ProjectByCuts f g) }
+    // `exists V : f`, by values in the states of the interval.
+    ensures exists_by_values { (name : List ℕ) (lasting : Bool) (f : FormulaTree)
         → Means (exists name lasting f) (ExistsByValues lasting f) }
 {}

@@ -13,9 +13,5 @@ mod store;
 
 pub use add::{AddRefusal, value_facts};
 pub use full::Known;
-pub use laws::{
-    adding_adds_meaning, clashes_agree_nowhere, facts_say_the_value, full_is_right,
-    has_agreeing_state, lasting_extends, no_clash_arises, open_is_undecided, refused_agree_nowhere,
-    same_shapes_same_store,
-};
+pub use laws::{adding_is_right, agreeing_states_exist, known_is_right};
 pub use store::Store;
