@@ -1,7 +1,7 @@
 // The kinds of values, and the limits on them.
+ghost use Rattle.tp_value.specs.Number.{number_width};
 ghost use Rattle.tp_value.specs.Read.{tree};
 ghost use Rattle.std.specs.Prelude.{map, IfOk, FitsSigned};
-ghost use Rattle.std.specs.Int.{w64};
 ghost use Rattle.tp_eval.specs.Reached.{within_lists};
 ghost use Rattle.tp_eval.specs.Evaluate.{number_in, truth_in, list_items};
 ghost use Rattle.tp_eval.specs.Answers.{AnswersEvaluation, number_within, as_it_is};
@@ -13,7 +13,7 @@ use tp_value::{Items, Number, Value, is_within_list_limit};
 /// The number, where the value is one.
 pub fn number_of(value: Value) -> Result<Number, Halt>
     ensures value { AnswersEvaluation as_it_is result (number_in (tree value)) }
-    ensures fits { IfOk result (λ n. FitsSigned w64 n) }
+    ensures fits { IfOk result (λ n. FitsSigned number_width n) }
 {
     match value {
         Value::Num(n) => Ok(n),

@@ -1,5 +1,6 @@
 pub mod FactsGrow
 pub mod OutcomesGrow
+pub mod OutcomesWait
 pub mod Kept
 pub mod EqGrow
 pub mod SideGrow
@@ -11,3 +12,5 @@ pub mod InputsWithin
 pub mod Small
 pub mod GoodRows
 pub mod StaysWithin
+pub mod SideWait
+pub mod RowsWait

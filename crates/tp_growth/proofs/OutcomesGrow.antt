@@ -83,7 +83,7 @@ module _ (free : Stop → Bool) where
       element_more e i c = then_more _ _ _ _ (up e c) (λ t c. then_more _ _ _ _ (up i c) (λ u c. same_more (ev.item_between t u c)))
 
       module _ (pl pl' : ExprTree → Evaluation PlaceFound) (down : (e : ExprTree) (c : ℕ) → More (pl e c) (pl' e c)) where
-        place_more : (env : List BindingTree) (e : ExprTree) (c : ℕ) → More (ev.evaluated_place op pl env e c) (ev.evaluated_place op' pl' env e c)
+        pub place_more : (env : List BindingTree) (e : ExprTree) (c : ℕ) → More (ev.evaluated_place op pl env e c) (ev.evaluated_place op' pl' env e c)
         place_more env (bound i) c = same_more _
         place_more env (global x) c = refl
         place_more env (index e i) c = then_more _ _ _ _ (down e c) (λ p c. then_more _ _ _ _ (up i c) (λ t c. then_more _ _ _ _ (same_more (ev.index_in t c)) (λ k c. same_more (ev.farther p k c))))
@@ -116,7 +116,7 @@ module _ (free : Stop → Bool) where
             call_more (Some f) es c = then_more _ _ _ _ (same_more (count_call c)) (λ n c. then_more _ _ _ _ (arguments_more es f.parameters c) (λ args c. body_more f.expr args c))
             call_more None es c = same_more {A = Tree} (stops (faults NoElement))
 
-            row_more : (e : ExprTree) (c : ℕ) → More (ev.part_value op pl fs env defs body e c) (ev.part_value op' pl' gs env defs body' e c)
+            pub row_more : (e : ExprTree) (c : ℕ) → More (ev.part_value op pl fs env defs body e c) (ev.part_value op' pl' gs env defs body' e c)
             row_more (boolean b) c = refl
             row_more (bound i) c = then_more _ _ _ _ (place_more env (bound i) c) value_at_more
             row_more (global x) c = value_at_more (at_path (record { var = x; at = [] })) c

@@ -34,7 +34,7 @@ pub read_size : (facts : List Fact) (defs : List Definition) (d : ℕ) (e : Expr
 read_size facts defs d e env c p = ap (λ (b : Bool). ev.size_of (λ x. evaluate facts defs d x env) (λ x. find_place facts defs d x env) facts env b e c) p
 
 -- what has a value doesn't wait as a place
-element_waits : (o : Option Tree) (c : ℕ) (p : Path) → found.other (outcome_reached (element_in o c)) ≡ found.other (found.wait p) → ⊥
+pub element_waits : (o : Option Tree) (c : ℕ) (p : Path) → found.other (outcome_reached (element_in o c)) ≡ found.other (found.wait p) → ⊥
 element_waits (Some t) c p e = let q : outcome_reached (element_in (Some t) c) ≡ found.wait p = cc e in cc
 element_waits None c p e = let q : outcome_reached (element_in None c) ≡ found.wait p = cc e in cc
 
@@ -86,7 +86,7 @@ shape_size facts p c v h = go (is_excluded facts p) (kept_shape facts p) refl h
     go false (Some (Items n)) x h = let q : num (pos n) ≡ v = cc h in (n, sym q, x)
     go b o x h = absurd (cc h)
 
-place_goes : (facts : List Fact) (x : PlaceFound) (c : ℕ) (p : Path) → place_reached facts (reaches x c) ≡ found.other (found.wait p) → ⊥
+pub place_goes : (facts : List Fact) (x : PlaceFound) (c : ℕ) (p : Path) → place_reached facts (reaches x c) ≡ found.other (found.wait p) → ⊥
 place_goes facts (at_path q) c p e = cc
 place_goes facts (inside t at) c p e = element_waits (item_at at t) c p e
 

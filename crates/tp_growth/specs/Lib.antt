@@ -1,3 +1,4 @@
 pub mod Outcomes
 pub mod Within
 pub mod Rows
+pub mod Waiting

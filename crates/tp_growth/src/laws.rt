@@ -1,6 +1,7 @@
 // Laws of growth: what stays where more is known.
 ghost use Rattle.tp_growth.specs.Outcomes.{FactsGrow, OutcomesGrow};
 ghost use Rattle.tp_growth.specs.Rows.{HolderRowsGrow, LeafRowsGrow};
+ghost use Rattle.tp_growth.specs.Waiting.{HolderRowsWait, LeafRowsWait, OutcomesWait};
 ghost use Rattle.tp_growth.specs.Within.{PicksStayWithin, ValuesWithin};
 
 /// What facts say of places and of additions stays so where more is known.
@@ -31,4 +32,19 @@ pub fn values_within()
 /// Steps leave bound values and kept lengths within the limits, where inputs are.
 pub fn picks_stay_within()
     ensures { PicksStayWithin }
+{}
+
+/// An expression that waits for a path goes on waiting for it where more is known, but not of that path.
+pub fn outcomes_wait()
+    ensures { OutcomesWait }
+{}
+
+/// A formula that waits goes on waiting for the same cells where more is known, but not of these; and what rests rests on.
+pub fn leaf_rows_wait()
+    ensures { LeafRowsWait }
+{}
+
+/// So does an item with a region.
+pub fn holder_rows_wait()
+    ensures { HolderRowsWait }
 {}

@@ -5,5 +5,6 @@
 mod laws;
 
 pub use laws::{
-    facts_grow, holder_rows_grow, leaf_rows_grow, outcomes_grow, picks_stay_within, values_within,
+    facts_grow, holder_rows_grow, holder_rows_wait, leaf_rows_grow, leaf_rows_wait, outcomes_grow,
+    outcomes_wait, picks_stay_within, values_within,
 };

@@ -1,7 +1,7 @@
 // What a text begins with.
 ghost use Rattle.std.specs.Prelude.{◌≡◌, ◌+◌, ◌<◌, ◌≤◌, ◌≢◌, [], length, slice_index, FitsSigned, IfOk, IfSome};
 ghost use Rattle.std.specs.List.{prefix_len};
-ghost use Rattle.std.specs.Int.{w64};
+ghost use Rattle.tp_value.specs.Number.{number_width};
 ghost use Rattle.tp_lex.specs.First as spec;
 
 use crate::spelling::{first_symbol, word_of};
@@ -68,7 +68,7 @@ fn digits_len(text: &[u8]) -> usize
 /// The number that the digits spell, where it is within the limit.
 fn value_of(digits: &[u8]) -> Option<Number>
     ensures value { result ≡ spec.number_in_limit (spec.spelled_value digits.now) }
-    ensures low { IfSome result (λ n. FitsSigned w64 n) }
+    ensures low { IfSome result (λ n. FitsSigned number_width n) }
 {
     let past_limit = NUMBER_LIMIT as u128 + 1;
     let mut n: u128 = 0;

@@ -16,3 +16,5 @@ pub mod Equivalence
 pub mod AlikeStep
 pub mod Marked
 pub mod MutualFailures
+pub mod Waiting
+pub mod LiveOnce

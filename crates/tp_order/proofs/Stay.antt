@@ -12,7 +12,7 @@ use Rattle.tp_order.proofs.Fuse.{apart}
 abbrev pub made : Holder → Numbers → Edit
 made k n = record { mark = None; make = holder_make k n }
 
-occurs_append : (t : ℕ) (xs ys : Entries) → occurs t xs ≡ false → occurs t ys ≡ false → occurs t (append xs ys) ≡ false
+pub occurs_append : (t : ℕ) (xs ys : Entries) → occurs t xs ≡ false → occurs t ys ≡ false → occurs t (append xs ys) ≡ false
 occurs_append t none ys a b = b
 occurs_append t (leaf id l rest) ys a b = let e = or_parts (eqb id t) (occurs t rest) a in rw e.0 (occurs_append t rest ys e.1 b)
 occurs_append t (node id k h i g s rest) ys a b =
@@ -103,7 +103,7 @@ module _ (t : ℕ) (e : Edit) where
       rw d.0 (λ x. node id k (absent_head i h c.0 x) (absent i c.0 x) (absent_head s g b.0 x) (absent s b.0 x) (absent rest b.1 x))
 
 module _ (t u : ℕ) (e : Edit) (new : New u e) where
-  occurs_edited : (es : Entries) → occurs u es ≡ false → occurs u (edited (single t e) es) ≡ false
+  pub occurs_edited : (es : Entries) → occurs u es ≡ false → occurs u (edited (single t e) es) ≡ false
   occurs_edited none a = refl
   occurs_edited (leaf id l rest) a =
       let d = or_parts (eqb id u) (occurs u rest) a in

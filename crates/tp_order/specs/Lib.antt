@@ -3,3 +3,5 @@ pub mod Edits
 pub mod Orders
 pub mod States
 pub mod Examples
+pub mod Waiting
+pub mod LiveOnce

@@ -3,6 +3,8 @@ ghost use Rattle.std.specs.Prelude.{List, Bool};
 ghost use Rattle.tp_scene.specs.Pick.{Setting};
 ghost use Rattle.tp_order.specs.Edits.{EditsCommute, Remains, PutIsEdit};
 ghost use Rattle.tp_order.specs.States.{StatesCloseOneWay};
+ghost use Rattle.tp_order.specs.Waiting.{RestsStay, WaitsStay};
+ghost use Rattle.tp_order.specs.LiveOnce.{ItemsLiveOnce};
 ghost use Rattle.tp_order.specs.Examples.{OrderDecides};
 ghost use Rattle.tp_order.specs.Orders.{AdvancesStayOrderly, BeginsOrderly, StepsStayOrderly, FailuresAreMutual, FailuresStay, Commute, AlikeMomentsStep, AlikeIsEquivalence, OneRestOf};
 
@@ -67,4 +69,19 @@ pub fn states_close_one_way()
 /// An example of a sound moment past a limit, in which the order of picks decides.
 pub fn lengths_matter()
     ensures { OrderDecides }
+{}
+
+/// An item that waits goes on waiting where another one is picked, as long as nothing that it waits for is decided.
+pub fn waits_stay()
+    ensures { WaitsStay }
+{}
+
+/// An item that rests rests on where another one is picked.
+pub fn rests_stay()
+    ensures { RestsStay }
+{}
+
+/// An item that is picked is gone, and no number that was a live item's becomes one again.
+pub fn items_live_once()
+    ensures { ItemsLiveOnce }
 {}

@@ -56,3 +56,5 @@ pub mod KnownStays
 pub mod Seen
 pub mod OpenCell
 pub mod LiveItems
+pub mod Listed
+pub mod Decided

@@ -12,3 +12,5 @@ pub mod Regions
 pub mod Status
 pub mod Cells
 pub mod Seen
+pub mod Listed
+pub mod Decided

@@ -4,6 +4,8 @@ ghost use Rattle.tp_scene.specs.Regions.{LiveItemsStandInLiveRegions};
 ghost use Rattle.tp_scene.specs.Status.{StatusIsLeast};
 ghost use Rattle.tp_scene.specs.Cells.{WaitsAreForUndecided, DecidedStays, NamedItemWaits, RestEndsGoesOrIsOpen, OpenCellsAreUndecided};
 ghost use Rattle.tp_scene.specs.Seen.{PicksSeePlaces, WaitedEndsAreLive};
+ghost use Rattle.tp_scene.specs.Listed.{LiveItemsAreListed};
+ghost use Rattle.tp_scene.specs.Decided.{FactsDecidePaths};
 
 /// A reduction keeps what a moment stands for, of the intervals whose first state has the state's own number.
 pub fn steps_keep()
@@ -69,4 +71,14 @@ pub fn rest_waits()
     ensures named { NamedItemWaits }
     ensures ends { RestEndsGoesOrIsOpen }
     ensures undecided { OpenCellsAreUndecided }
+{}
+
+/// The list of live items has those that are live.
+pub fn live_items_are_listed()
+    ensures { LiveItemsAreListed }
+{}
+
+/// A path that a step decides is decided by one of its facts.
+pub fn facts_decide_paths()
+    ensures { FactsDecidePaths }
 {}

@@ -1,6 +1,10 @@
 -- The limit of the language's numbers.
 use Rattle.std.specs.Prelude.{ℤ, pos, negsuc, neg_ℤ, ◌-ℤ◌, ◌*ℤ◌, int_lt, ℕ, Bool, nat_le, nat_lt, IsTrue, Option, Some, None, if◌then◌else◌}
-use Rattle.std.specs.Int.{int_div_euclid}
+use Rattle.std.specs.Int.{Width, w64, int_div_euclid}
+
+-- the width of the machine's type of numbers
+abbrev pub number_width : Width
+number_width = w64
 
 -- the greatest number; the least is its negation
 abbrev pub number_limit : ℕ

@@ -1,7 +1,7 @@
 // How values are written.
 ghost use Rattle.std.specs.Prelude.{◌≡◌, ◌++◌, FitsSigned, OnOk, OnErr, length, take};
 ghost use Rattle.std.specs.Fmt.{signed_decimal};
-ghost use Rattle.std.specs.Int.{w64};
+ghost use Rattle.tp_value.specs.Number.{number_width};
 ghost use Rattle.tp_value.specs.Range.{HasMachineNumbers};
 ghost use Rattle.tp_value.specs.Read.{tree};
 ghost use Rattle.tp_value.specs.Tree.{truth as truth_tree};
@@ -13,7 +13,7 @@ use itoa::Buffer;
 fn append_number(n: Number, out: &mut Text) -> Result<(), NoMemory>
     ensures ok { OnOk result (out.new ≡ out.old ++ signed_decimal n) }
     ensures err { OnErr result (out.new ≡ out.old) }
-    ensures range { FitsSigned w64 n }
+    ensures range { FitsSigned number_width n }
 {
     let mut buffer = Buffer::new();
     out.append(buffer.format(n).as_bytes())

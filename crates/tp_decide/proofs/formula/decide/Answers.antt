@@ -1,6 +1,7 @@
 use Rattle.std.specs.Prelude.{◌-◌, [], if◌then◌else◌}
-use Rattle.std.proofs.Common.{◌≡◌, ◌∙◌, ℤ, Some, slice_get, length, to_z, of_z, w64, arith, ap, ap₂, sym, subst}
+use Rattle.std.proofs.Common.{◌≡◌, ◌∙◌, ℤ, Some, slice_get, length, to_z, of_z, arith, ap, ap₂, sym, subst}
 use Rattle.std.proofs.lemmas.Int.{ints}
+use Rattle.tp_value.specs.Number.{number_width}
 use Rattle.tp_kernel.specs.declared.formula.Env.{Env}
 use Rattle.tp_kernel.specs.Read.{expr_tree, expr_trees, formula_tree, bindings_of, definitions_of}
 use Rattle.tp_kernel.specs.Equations.{formula_next_eq, formula_if, formula_assign, formula_for, formula_forall, formula_call}
@@ -79,7 +80,7 @@ returns-in_ok-body-in-For-clause-outcome c =
     let found = c.in_ok-found-in-For.found in
     let whole = ap formula_tree (sym c.deref.ensures ∙ c.in-For.is) ∙ formula_for c.in-For.name c.in-For.from c.in-For.to c.in-For.body in
     let here = subst (λ o. NumberIn o found) (same_outcome facts defs _ c.in-For.to.value _ c.args.phrase.now.env.value c.deref-in-For.ensures c.deref-in-For-2.ensures) c.in_ok-found-in-For.ensures.found in
-    let k = to_z w64 (of_z w64 c.in-For.from) in
+    let k = to_z number_width (of_z number_width c.in-For.from) in
     let seen : k ≡ c.in-For.from = omega (arith, ints) in
     let o = outcome facts defs (expr_tree c.in-For.to.value) env in
     let body = c.in_ok-body-in-For.body in
@@ -101,7 +102,7 @@ returns-in_ok-body-in-Forall-clause-outcome c =
     let found = c.in_ok-found-in-Forall.found in
     let whole = ap formula_tree (sym c.deref.ensures ∙ c.in-Forall.is) ∙ formula_forall c.in-Forall.name c.in-Forall.from c.in-Forall.to c.in-Forall.body in
     let here = subst (λ o. NumberIn o found) (same_outcome facts defs _ c.in-Forall.to.value _ c.args.phrase.now.env.value c.deref-in-Forall.ensures c.deref-in-Forall-2.ensures) c.in_ok-found-in-Forall.ensures.found in
-    let k = to_z w64 (of_z w64 c.in-Forall.from) in
+    let k = to_z number_width (of_z number_width c.in-Forall.from) in
     let seen : k ≡ c.in-Forall.from = omega (arith, ints) in
     let o = outcome facts defs (expr_tree c.in-Forall.to.value) env in
     let body = c.in_ok-body-in-Forall.body in

@@ -1,7 +1,8 @@
-use Rattle.std.proofs.Common.{rules, ◌≡◌, ◌≢◌, ◌-◌, Bool, true, false, ap, ap₂, sym, ◌∙◌, map, length, w64, to_z, of_z}
+use Rattle.std.proofs.Common.{rules, ◌≡◌, ◌≢◌, ◌-◌, Bool, true, false, ap, ap₂, sym, ◌∙◌, map, length, to_z, of_z}
 use Rattle.std.proofs.lemmas.Slice.Zip.{zip_end}
 use Rattle.std.specs.Iterator.Adapters.{zip_first, zip_second}
 use Rattle.std.specs.Slice.Iter.{iter_rest}
+use Rattle.tp_value.specs.Number.{number_width}
 use Rattle.tp_value.specs.Tree.{list, of_items}
 use Rattle.tp_value.specs.Read.{tree}
 use Rattle.tp_value.specs.Equations.{tree_list}
@@ -51,7 +52,7 @@ pub evaluate-returns-in-Number : goal.evaluate-returns-in-Number
 evaluate-returns-in-Number t c =
     let is = ap expr_tree c.in-Number.is ∙ expr_number c.in-Number.n in
     let here = at_level c.args.lookup.now c.args.levels (expr_tree c.args.expr.now) _ c.args.calls.now c.if-levels-eq0.false is in
-    let same : to_z w64 (of_z w64 c.in-Number.n) ≡ c.in-Number.n = search rules in
+    let same : to_z number_width (of_z number_width c.in-Number.n) ≡ c.in-Number.n = search rules in
     reached_leaf tree c.constant.result c.args.calls.now _ _ (here ∙ ap (λ n. within_numbers n c.args.calls.now) (sym same)) c.constant.ensures
 
 pub evaluate-returns-in-Bound : goal.evaluate-returns-in-Bound

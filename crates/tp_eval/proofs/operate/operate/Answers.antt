@@ -1,6 +1,7 @@
-use Rattle.std.proofs.Common.{ap, ap₂, sym, ◌∙◌, w64}
+use Rattle.std.proofs.Common.{ap, ap₂, sym, ◌∙◌}
 use Rattle.std.proofs.lemmas.Int.{to_z-of_z}
 use Rattle.std.specs.Prelude.{not}
+use Rattle.tp_value.specs.Number.{number_width}
 use Rattle.tp_value.specs.Tree.{num, truth}
 use Rattle.tp_value.specs.Read.{tree}
 use Rattle.tp_value.specs.Equations.{tree_truth}
@@ -29,5 +30,5 @@ returns-in_ok-n-in_default c =
     let all = numeric c.args.op c.in_default.not-Equal c.in_default.not-Differs c.in_default.not-Plus (tree c.args.a) (tree c.args.b) in
     let first = then_gives (number_in (tree c.args.a)) m (λ a. number_in (tree c.args.b) >>= λ b. operate_outcome op (num a) (num b)) c.in_ok-m-in_default.ensures.value in
     let second = then_gives (number_in (tree c.args.b)) n (λ b. operate_outcome op (num m) (num b)) c.in_ok-n-in_default.ensures.value in
-    let same = ap₂ (λ a b. operate_outcome op (num a) (num b)) (to_z-of_z w64 m c.in_ok-m-in_default.ensures.fits) (to_z-of_z w64 n c.in_ok-n-in_default.ensures.fits) in
+    let same = ap₂ (λ a b. operate_outcome op (num a) (num b)) (to_z-of_z number_width m c.in_ok-m-in_default.ensures.fits) (to_z-of_z number_width n c.in_ok-n-in_default.ensures.fits) in
     answers_same tree c.on_numbers.result _ _ (all ∙ first ∙ second ∙ sym same) c.on_numbers.ensures

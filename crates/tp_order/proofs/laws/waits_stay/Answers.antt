@@ -1,0 +1,5 @@
+use Rattle.tp_order.proofs.Waiting.{waits_stay as law}
+use Rattle.tp_order.proofs.laws.waits_stay.Goals as goal
+
+pub returns : goal.returns
+returns c = law
