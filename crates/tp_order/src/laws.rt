@@ -5,6 +5,7 @@ ghost use Rattle.tp_order.specs.Edits.{EditsCommute, Remains, PutIsEdit};
 ghost use Rattle.tp_order.specs.States.{StatesCloseOneWay};
 ghost use Rattle.tp_order.specs.Waiting.{RestsStay, WaitsStay};
 ghost use Rattle.tp_order.specs.LiveOnce.{ItemsLiveOnce};
+ghost use Rattle.tp_order.specs.Unmarked.{UnmarkedStepsEndNothing};
 ghost use Rattle.tp_order.specs.Examples.{OrderDecides};
 ghost use Rattle.tp_order.specs.Orders.{AdvancesStayOrderly, BeginsOrderly, StepsStayOrderly, FailuresAreMutual, FailuresStay, Commute, AlikeMomentsStep, AlikeIsEquivalence, OneRestOf};
 
@@ -84,4 +85,9 @@ pub fn rests_stay()
 /// An item that is picked is gone, and no number that was a live item's becomes one again.
 pub fn items_live_once()
     ensures { ItemsLiveOnce }
+{}
+
+/// A step without a mark makes known no end of a region that was live.
+pub fn unmarked_steps_end_nothing()
+    ensures { UnmarkedStepsEndNothing }
 {}
