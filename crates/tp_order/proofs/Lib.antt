@@ -19,3 +19,4 @@ pub mod MutualFailures
 pub mod Waiting
 pub mod LiveOnce
 pub mod Unmarked
+pub mod Woken

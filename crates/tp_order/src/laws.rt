@@ -3,7 +3,7 @@ ghost use Rattle.std.specs.Prelude.{List, Bool};
 ghost use Rattle.tp_scene.specs.Pick.{Setting};
 ghost use Rattle.tp_order.specs.Edits.{EditsCommute, Remains, PutIsEdit};
 ghost use Rattle.tp_order.specs.States.{StatesCloseOneWay};
-ghost use Rattle.tp_order.specs.Waiting.{RestsStay, WaitsStay};
+ghost use Rattle.tp_order.specs.Waiting.{RestsStay, WaitsStay, WaitsStayUntilWoken};
 ghost use Rattle.tp_order.specs.LiveOnce.{ItemsLiveOnce};
 ghost use Rattle.tp_order.specs.Unmarked.{UnmarkedStepsEndNothing};
 ghost use Rattle.tp_order.specs.Examples.{OrderDecides};
@@ -72,9 +72,11 @@ pub fn lengths_matter()
     ensures { OrderDecides }
 {}
 
-/// An item that waits goes on waiting where another one is picked, as long as nothing that it waits for is decided.
+/// An item that waits goes on waiting where another one is picked, as long as nothing that it waits for is decided; and what decides a
+/// cell that it waits for is a fact of the step, or its mark.
 pub fn waits_stay()
-    ensures { WaitsStay }
+    ensures stay { WaitsStay }
+    ensures woken { WaitsStayUntilWoken }
 {}
 
 /// An item that rests rests on where another one is picked.
