@@ -18,3 +18,5 @@ pub mod Marked
 pub mod MutualFailures
 pub mod Waiting
 pub mod LiveOnce
+pub mod Unmarked
+pub mod Woken

@@ -27,12 +27,12 @@ use Rattle.tp_order.proofs.Where.{CalmThing, at_calm, Picked, picked}
 use Rattle.tp_order.proofs.Again.{moves, knows_after}
 
 -- the place whose status decides what the thing becomes
-abbrev seen_from : Thing → Place → Place
+abbrev pub seen_from : Thing → Place → Place
 seen_from (of_leaf l) q = q
 seen_from (of_holder k held) q = held
 
 -- a region whose status is seen is one that stands there
-seen_known : (u : ℕ) (z : Side) (x : Thing) (q : Place) (es : Entries) (p : Place) → At u x q es p → (seen_from x q).is z ≡ true → KnownAt (seen_from x q).region z es p
+pub seen_known : (u : ℕ) (z : Side) (x : Thing) (q : Place) (es : Entries) (p : Place) → At u x q es p → (seen_from x q).is z ≡ true → KnownAt (seen_from x q).region z es p
 seen_known u z x q none p at e = elim at [ ]
 seen_known u z x q (leaf id l rest) p (this_leaf a b) e = inl (refl, e)
 seen_known u z x q (leaf id l rest) p (past_leaf a at) e = seen_known u z x q rest p at e
@@ -68,13 +68,13 @@ thing_idle w fs gs fc gc knows n n' (of_holder k held) (of_holder k' held') p q 
     subst (λ (y : PickOutcome). StaysIdle gs held' o y) e (subst (λ (x : PickOutcome). StaysIdle gs held' x (there k)) (sym a.4) (holder_rows_wait w fs gs k held held' n n' like.1 calm (region a.0 a.1) (region a.2 a.3) (region b.0 b.1) (region b.2 b.3)))
 
 -- The other item after a step: it is live, stands at one place, and is idle there if it was before.
-record Idle (w : Setting) (m next : Moment) (u : ℕ) : Type 0 where
-  thing : Thing
-  place : Place
-  at : At u thing place next.scene.root.entries (root_place next.scene.root)
-  stays : StaysIdle next.store.facts (seen_from thing place) (outcome_of w m.store m.scene u) (outcome_of w next.store next.scene u)
+pub record Idle (w : Setting) (m next : Moment) (u : ℕ) : Type 0 where
+  pub thing : Thing
+  pub place : Place
+  pub at : At u thing place next.scene.root.entries (root_place next.scene.root)
+  pub stays : StaysIdle next.store.facts (seen_from thing place) (outcome_of w m.store m.scene u) (outcome_of w next.store next.scene u)
 
-idle_after : (w : Setting) (kinds : List Bool) (m next : Moment) (t u : ℕ) → t ≢ u → IsSound w kinds m → (r : Reduction) → Reduces w m t r next → has u m.scene.root.entries ≡ true → Idle w m next u
+pub idle_after : (w : Setting) (kinds : List Bool) (m next : Moment) (t u : ℕ) → t ≢ u → IsSound w kinds m → (r : Reduction) → Reduces w m t r next → has u m.scene.root.entries ≡ true → Idle w m next u
 idle_after w kinds m next t u ne sound r step live =
     let after = steps_fit w kinds m t r next sound step in
     let v = moves w kinds m sound t u ne r next step live in

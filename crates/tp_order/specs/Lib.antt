@@ -5,3 +5,4 @@ pub mod States
 pub mod Examples
 pub mod Waiting
 pub mod LiveOnce
+pub mod Unmarked

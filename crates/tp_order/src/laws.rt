@@ -3,8 +3,9 @@ ghost use Rattle.std.specs.Prelude.{List, Bool};
 ghost use Rattle.tp_scene.specs.Pick.{Setting};
 ghost use Rattle.tp_order.specs.Edits.{EditsCommute, Remains, PutIsEdit};
 ghost use Rattle.tp_order.specs.States.{StatesCloseOneWay};
-ghost use Rattle.tp_order.specs.Waiting.{RestsStay, WaitsStay};
+ghost use Rattle.tp_order.specs.Waiting.{RestsStay, WaitsStay, WaitsStayUntilWoken};
 ghost use Rattle.tp_order.specs.LiveOnce.{ItemsLiveOnce};
+ghost use Rattle.tp_order.specs.Unmarked.{UnmarkedStepsEndNothing};
 ghost use Rattle.tp_order.specs.Examples.{OrderDecides};
 ghost use Rattle.tp_order.specs.Orders.{AdvancesStayOrderly, BeginsOrderly, StepsStayOrderly, FailuresAreMutual, FailuresStay, Commute, AlikeMomentsStep, AlikeIsEquivalence, OneRestOf};
 
@@ -71,9 +72,11 @@ pub fn lengths_matter()
     ensures { OrderDecides }
 {}
 
-/// An item that waits goes on waiting where another one is picked, as long as nothing that it waits for is decided.
+/// An item that waits goes on waiting where another one is picked, as long as nothing that it waits for is decided; and what decides a
+/// cell that it waits for is a fact of the step, or its mark.
 pub fn waits_stay()
-    ensures { WaitsStay }
+    ensures stay { WaitsStay }
+    ensures woken { WaitsStayUntilWoken }
 {}
 
 /// An item that rests rests on where another one is picked.
@@ -84,4 +87,9 @@ pub fn rests_stay()
 /// An item that is picked is gone, and no number that was a live item's becomes one again.
 pub fn items_live_once()
     ensures { ItemsLiveOnce }
+{}
+
+/// A step without a mark makes known no end of a region that was live.
+pub fn unmarked_steps_end_nothing()
+    ensures { UnmarkedStepsEndNothing }
 {}

@@ -7,5 +7,6 @@ mod laws;
 pub use laws::{
     alike_moments_step, edits_commute, failures_are_mutual, failures_stay, items_live_once,
     items_remain, lengths_matter, one_rest, put_is_edit, rests_stay, states_begin_orderly,
-    states_close_one_way, steps_commute, steps_stay_orderly, waits_stay,
+    states_close_one_way, steps_commute, steps_stay_orderly, unmarked_steps_end_nothing,
+    waits_stay,
 };

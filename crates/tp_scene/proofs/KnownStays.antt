@@ -20,23 +20,23 @@ use Rattle.tp_scene.proofs.StatusRules.{held_by, status_is_least}
 use Rattle.tp_scene.proofs.KnownEnds.{KnownIn, KnownAt, end_known}
 
 -- what is so in the one place is so in the other
-abbrev More : Place → Place → Type 0
+abbrev pub More : Place → Place → Type 0
 More p p' = (x : Side) → p.is x ≡ true → p'.is x ≡ true
 
-abbrev OwnMore : Head → Entries → Head → Entries → Type 0
+abbrev pub OwnMore : Head → Entries → Head → Entries → Type 0
 OwnMore h es h' es' = (x : Side) → (marked x h || risen x es) ≡ true → (marked x h' || risen x es') ≡ true
 
-held_more : (k : Holder) (h h' : Head) (held held' : Entries) (p p' : Place) → More p p' → OwnMore h held h' held' → More (held_place k h held p) (held_place k h' held' p')
+pub held_more : (k : Holder) (h h' : Head) (held held' : Entries) (p p' : Place) → More p p' → OwnMore h held h' held' → More (held_place k h held p) (held_place k h' held' p')
 held_more k h h' held held' p p' more own x e = elim (or_cases (sinks k x && p.is x) _ e) [
   | inl u ↦ (let v = and_parts (sinks k x) (p.is x) u in or_left (sinks k x && p'.is x) _ (and_from (sinks k x) (p'.is x) v.0 (more x v.1)))
   | inr u ↦ or_right (sinks k x && p'.is x) _ (elim (or_cases (forced k x) _ u) [ inl v ↦ or_left (forced k x) _ v | inr v ↦ or_right (forced k x) _ (own x v) ])
 ]
 
-second_more : (g g' : Head) (second second' : Entries) (p p' : Place) → More p p' → OwnMore g second g' second' → More (second_place g second p) (second_place g' second' p')
+pub second_more : (g g' : Head) (second second' : Entries) (p p' : Place) → More p p' → OwnMore g second g' second' → More (second_place g second p) (second_place g' second' p')
 second_more g g' second second' p p' more own x e = elim (or_cases (p.is x) _ e) [ inl u ↦ or_left (p'.is x) _ (more x u) | inr u ↦ or_right (p'.is x) _ (own x u) ]
 
 module _ (r : ℕ) (z : Side) where
-  known_more : (es : Entries) (p p' : Place) → More p p' → KnownIn r z es p → KnownIn r z es p'
+  pub known_more : (es : Entries) (p p' : Place) → More p p' → KnownIn r z es p → KnownIn r z es p'
   known_more none p p' more k = k
   known_more (leaf id l rest) p p' more k = known_more rest p p' more k
   known_more (node id k h held g second rest) p p' more x =

@@ -36,3 +36,4 @@ pub mod Marks
 pub mod OwnItems
 pub mod Looking
 pub mod Remembering
+pub mod MarksTell

@@ -18,3 +18,4 @@ pub mod Shown
 pub mod Reductions
 pub mod News
 pub mod Own
+pub mod MarksTell

@@ -17,7 +17,7 @@ mod walk;
 
 pub use begin::start;
 pub use change::{become_leaves, become_opened, become_split, leaf_what, move_on, share};
-pub use laws::places_are_shallow;
+pub use laws::{marks_tell_status, places_are_shallow};
 pub use live::{has_item, place, place_inside, place_of_item};
 pub use looks::{Look, Looks, no_looks};
 pub use memory::remember;
