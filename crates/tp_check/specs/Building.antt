@@ -75,10 +75,17 @@ pub record AreHeadings (ds : Definitions) (headings : Headings) : Type 0 where
 
 -- the answer on the headings of these definitions; nothing is said for want of memory
 abbrev pub AnswersHeadings : Definitions → Result Headings CheckRefusal → Type 0
-AnswersHeadings ds (Ok headings) = (twice_defined [] (map definition_tree ds.items.items) ≡ None) × AreHeadings ds headings
-AnswersHeadings ds (Err e) = e ≢ NoMemory → (at : ℕ) × (twice_defined [] (map definition_tree ds.items.items) ≡ Some at) × (e ≡ Twice at)
+AnswersHeadings ds (Ok headings) =
+    (twice_defined [] (map definition_tree ds.items.items) ≡ None) × AreHeadings ds headings
+AnswersHeadings ds (Err e) =
+    e ≢ NoMemory → (at : ℕ) × (twice_defined [] (map definition_tree ds.items.items) ≡ Some at)
+    × (e ≡ Twice at)
 
--- the answer on the parameters of one definition more, behind those with these names; nothing is said for want of memory
+-- the answer on the parameters of one definition more, behind those with these names; nothing is
+-- said for want of memory
 abbrev pub AnswersParameters : Names → Definition → Result Binders CheckRefusal → Type 0
-AnswersParameters before d (Ok own) = (list_any (bytes_eq d.name) before ≡ false) × (apart d.parameters ≡ Some own)
-AnswersParameters before d (Err e) = e ≢ NoMemory → ((list_any (bytes_eq d.name) before || has_repeat d.parameters) ≡ true) × (e ≡ Twice d.at)
+AnswersParameters before d (Ok own) =
+    (list_any (bytes_eq d.name) before ≡ false) × (apart d.parameters ≡ Some own)
+AnswersParameters before d (Err e) =
+    e ≢ NoMemory → ((list_any (bytes_eq d.name) before || has_repeat d.parameters) ≡ true)
+    × (e ≡ Twice d.at)

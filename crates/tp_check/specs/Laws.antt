@@ -7,4 +7,6 @@ use Rattle.tp_check.specs.Program.{ChecksTo}
 
 -- one thing becomes of a source: one program, or one refusal
 abbrev pub CheckedOnce : Type 0
-CheckedOnce = (source : SourceTree) (o o' : CheckOutcome ProgramTree) → ChecksTo source o → ChecksTo source o' → o ≡ o'
+CheckedOnce =
+    (source : SourceTree) (o o' : CheckOutcome ProgramTree) → ChecksTo source o → ChecksTo source o'
+    → o ≡ o'

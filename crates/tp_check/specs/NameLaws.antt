@@ -8,8 +8,12 @@ use Rattle.tp_check.specs.Program.{ChecksTo}
 
 -- each of them stands in the source
 abbrev pub GlobalsStandInSource : Type 0
-GlobalsStandInSource = (source : SourceTree) (program : ProgramTree) → ChecksTo source (Ok program) → All (Contains (source_names source)) program.globals
+GlobalsStandInSource =
+    (source : SourceTree) (program : ProgramTree) → ChecksTo source (Ok program)
+    → All (Contains (source_names source)) program.globals
 
 -- none of them is that of another
 abbrev pub GlobalsAreApart : Type 0
-GlobalsAreApart = (source : SourceTree) (program : ProgramTree) → ChecksTo source (Ok program) → AreApart program.globals
+GlobalsAreApart =
+    (source : SourceTree) (program : ProgramTree) → ChecksTo source (Ok program)
+    → AreApart program.globals

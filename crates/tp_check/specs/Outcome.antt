@@ -28,7 +28,8 @@ both f (Ok a) b = mapped (f a) b
 both f (Err e) b = Err e
 
 -- and of three
-abbrev pub three : {A B C D : Type 0} → (A → B → C → D) → CheckOutcome A → CheckOutcome B → CheckOutcome C → CheckOutcome D
+abbrev pub three : {A B C D : Type 0} → (A → B → C → D) → CheckOutcome A → CheckOutcome B
+    → CheckOutcome C → CheckOutcome D
 three f (Ok a) b c = both (f a) b c
 three f (Err e) b c = Err e
 

@@ -13,7 +13,8 @@ use Rattle.tp_check.specs.Outcome.{CheckOutcome, mapped, both}
 use Rattle.tp_check.specs.Positions.{expr_of, formula_of}
 
 -- the body as an expression, where it is that of a state definition
-abbrev pub expr_where : (is_state : Bool) → VisibleNames → PhraseTree → CheckOutcome (Option ExprTree)
+abbrev pub expr_where : (is_state : Bool) → VisibleNames → PhraseTree
+    → CheckOutcome (Option ExprTree)
 expr_where true names body = mapped Some (expr_of names body)
 expr_where false names body = Ok None
 
@@ -22,11 +23,16 @@ abbrev pub definition_with : DefinitionTree → FormulaTree → Option ExprTree 
 definition_with d f e = record { name = d.name; parameters = d.parameters; formula = f; expr = e }
 
 -- where these names can be read, but for the parameters
-abbrev pub definition_in : VisibleNames → DefinitionTree → (is_state : Bool) → CheckOutcome Definition
-definition_in names d is_state = both (definition_with d) (formula_of (with_binders d.parameters names) d.body) (expr_where is_state (with_binders d.parameters names) d.body)
+abbrev pub definition_in : VisibleNames → DefinitionTree → (is_state : Bool)
+    → CheckOutcome Definition
+definition_in names d is_state =
+    both (definition_with d) (formula_of (with_binders d.parameters names) d.body)
+    (expr_where is_state (with_binders d.parameters names) d.body)
 
-abbrev pub definitions_in : VisibleNames → List DefinitionTree → (states : List Bool) → CheckOutcome (List Definition)
-definitions_in names (d ∷ ds) (b ∷ bs) = both (λ x xs. x ∷ xs) (definition_in names d b) (definitions_in names ds bs)
+abbrev pub definitions_in : VisibleNames → List DefinitionTree → (states : List Bool)
+    → CheckOutcome (List Definition)
+definitions_in names (d ∷ ds) (b ∷ bs) =
+    both (λ x xs. x ∷ xs) (definition_in names d b) (definitions_in names ds bs)
 definitions_in names [] bs = Ok []
 definitions_in names (d ∷ ds) [] = Ok []
 
@@ -34,26 +40,34 @@ definitions_in names (d ∷ ds) [] = Ok []
 abbrev pub outermost : List Signature → Names → VisibleNames
 outermost definitions globals = record { definitions = definitions; globals = globals; scope = [] }
 
--- The program over these variables, where `states` says of each definition whether it is a state definition: first the bodies in the order of
--- the text, then the main phrase.
+-- The program over these variables, where `states` says of each definition whether it is a state
+-- definition: first the bodies in the order of the text, then the main phrase.
 abbrev pub program_over : Names → (states : List Bool) → SourceTree → CheckOutcome ProgramTree
 program_over globals states source =
     let names = outermost (signatures_of source.definitions states) globals in
-    both (λ ds main. record { defs = ds; main = main; globals = globals }) (definitions_in names source.definitions states) (formula_of names source.main)
+    both (λ ds main. record { defs = ds; main = main; globals = globals })
+    (definitions_in names source.definitions states) (formula_of names source.main)
 
--- What becomes of a source: a name or a parameter that is defined twice refuses it before anything else.
+-- What becomes of a source: a name or a parameter that is defined twice refuses it before anything
+-- else.
 abbrev pub ChecksTo : SourceTree → CheckOutcome ProgramTree → Type 0
 ChecksTo source o = by_twice (twice_defined [] source.definitions)
   where
     by_twice : Option ℕ → Type 0
     by_twice (Some at) = o ≡ Err (Twice at)
-    by_twice None = (states : List Bool) × AreStates source.definitions states × (program_over (names_of source) states source ≡ o)
+    by_twice None =
+        (states : List Bool) × AreStates source.definitions states
+        × (program_over (names_of source) states source ≡ o)
 
--- No name is missing among the source's names: with others behind them it becomes the same, but for these.
+-- No name is missing among the source's names: with others behind them it becomes the same, but for
+-- these.
 abbrev pub NamesSuffice : SourceTree → Type 0
 NamesSuffice source =
     (more : Names) (states : List Bool) → let names = names_of source ++ more in
-    program_over names states source ≡ mapped (λ p. record { defs = p.defs; main = p.main; globals = names }) (program_over (names_of source) states source)
+    program_over names states source
+    ≡ mapped (λ p. record { defs = p.defs; main = p.main; globals = names })
+    (program_over (names_of source) states source)
 
 abbrev pub program_tree : Program → ProgramTree
-program_tree p = record { defs = definitions_of p.defs; main = formula_tree p.main.value; globals = p.globals }
+program_tree p =
+    record { defs = definitions_of p.defs; main = formula_tree p.main.value; globals = p.globals }

@@ -24,8 +24,10 @@ Halts o (Faults k) = o ≡ stop (faults k)
 Halts o (Passes k) = o ≡ stop (passes k)
 Halts o NoMemory = Unit {0}
 
--- The evaluation gives what `read` makes of the answer, or stops as the answer says. It makes no call.
-abbrev pub AnswersEvaluation : {A B : Type 0} → (read : A → B) → Result A Halt → Evaluation B → Type 0
+-- The evaluation gives what `read` makes of the answer, or stops as the answer says. It makes no
+-- call.
+abbrev pub AnswersEvaluation : {A B : Type 0} → (read : A → B) → Result A Halt → Evaluation B
+    → Type 0
 AnswersEvaluation read answer o = MatchResult answer (λ x. o ≡ gives (read x)) (Halts o)
 
 -- What was reached is a stop as this says; nothing is said for want of memory.
@@ -35,8 +37,10 @@ Stops r (Faults k) = r ≡ stops (faults k)
 Stops r (Passes k) = r ≡ stops (passes k)
 Stops r NoMemory = Unit {0}
 
--- What was reached is what `read` makes of the answer, after so many calls, or a stop as the answer says.
-abbrev pub AnswersReached : {A B : Type 0} → (read : A → B) → Result A Halt → (calls : ℕ) → Reached B → Type 0
+-- What was reached is what `read` makes of the answer, after so many calls, or a stop as the answer
+-- says.
+abbrev pub AnswersReached : {A B : Type 0} → (read : A → B) → Result A Halt → (calls : ℕ)
+    → Reached B → Type 0
 AnswersReached read answer calls r = MatchResult answer (λ x. r ≡ reaches (read x) calls) (Stops r)
 
 abbrev pub as_it_is : {A : Type 0} → A → A
@@ -58,16 +62,20 @@ abbrev pub place_outcome_of : PlaceOutcome → found.PlaceOutcome
 place_outcome_of (place.Place p) = found.path p
 place_outcome_of (place.Other o) = found.other (outcome_tree o)
 
--- The evaluation of an expression, of a place, and of a definition's call, where so many levels are left.
+-- The evaluation of an expression, of a place, and of a definition's call, where so many levels are
+-- left.
 abbrev pub operand_in : Lookup → (levels : ℕ) → ExprTree → Evaluation Tree
-operand_in l levels e = evaluate l.store.now.facts (definitions_of l.defs.now) levels e (bindings_of l.env.now)
+operand_in l levels e =
+    evaluate l.store.now.facts (definitions_of l.defs.now) levels e (bindings_of l.env.now)
 
 abbrev pub place_at : Lookup → (levels : ℕ) → ExprTree → Evaluation PlaceFound
-place_at l levels e = find_place l.store.now.facts (definitions_of l.defs.now) levels e (bindings_of l.env.now)
+place_at l levels e =
+    find_place l.store.now.facts (definitions_of l.defs.now) levels e (bindings_of l.env.now)
 
 abbrev pub call_in : Lookup → (levels : ℕ) → Option Definition → ExprTrees → Evaluation Tree
 call_in l levels =
-    call (operand_in l levels) (place_at l levels) l.store.now.facts (bindings_of l.env.now) (definitions_of l.defs.now)
+    call (operand_in l levels) (place_at l levels) l.store.now.facts (bindings_of l.env.now)
+    (definitions_of l.defs.now)
     (λ e args. evaluate l.store.now.facts (definitions_of l.defs.now) levels e args)
 
 -- The outcome is that of an evaluation which stops as this says; want of memory has none.

@@ -86,7 +86,8 @@ negated_in t = truth_in t >>= λ b. gives (truth (not b))
 abbrev pub negative_in : Tree → Evaluation Tree
 negative_in t = number_in t >>= λ n. within_numbers (neg_ℤ n)
 
--- What a place is, a name followed by indices: a path, or an element of a known value, at these indices.
+-- What a place is, a name followed by indices: a path, or an element of a known value, at these
+-- indices.
 pub data PlaceFound : Type 0 where
   at_path : Path → PlaceFound
   inside : Tree → (at : List ℕ) → PlaceFound
@@ -119,7 +120,9 @@ index_in _ = fault WrongKind
 
 -- one index more; a path has no more than its limit
 abbrev pub farther : PlaceFound → ℕ → Evaluation PlaceFound
-farther (at_path p) k = if nat_lt (length p.at) path_limit then gives (at_path (item_path p k)) else stop (passes limit.List)
+farther (at_path p) k =
+    if nat_lt (length p.at) path_limit then gives (at_path (item_path p k))
+    else stop (passes limit.List)
 farther (inside t at) k = gives (inside t (at ++ k ∷ []))
 
 abbrev pub of_full : store.Full → Evaluation Tree
@@ -145,7 +148,9 @@ bind_place (inside t at) = element_in (item_at at t) >>= λ u. gives (known_bind
 
 -- one call more, where there may be one
 abbrev pub count_call : Evaluation ℕ
-count_call = λ calls. if nat_lt calls call_limit then reaches calls (suc calls) else stops (passes limit.Calls)
+count_call =
+    λ calls. if nat_lt calls call_limit then reaches calls (suc calls)
+    else stops (passes limit.Calls)
 
 module _ (facts : List Fact) where
   -- the value of a place
@@ -158,7 +163,8 @@ module _ (facts : List Fact) where
 
   -- the size of a place, for which its shape is enough
   abbrev pub size_at : PlaceFound → Evaluation Tree
-  size_at (at_path p) = if is_excluded facts p then fault NoElement else length_in p (kept_shape facts p)
+  size_at (at_path p) =
+      if is_excluded facts p then fault NoElement else length_in p (kept_shape facts p)
   size_at (inside t at) = element_in (item_at at t) >>= length_of
 
 -- `operand` evaluates one level deeper
@@ -277,13 +283,17 @@ module _ (operand : ExprTree → Evaluation Tree) (place : ExprTree → Evaluati
       part_value (choice b x y) = chosen operand b x y
       part_value (invoke p es) = call (slice_get defs p) es
 
--- The evaluation of an expression and of a place, where so many levels are left: at none the limit on calls is passed.
+-- The evaluation of an expression and of a place, where so many levels are left: at none the limit
+-- on calls is passed.
 module _ (facts : List Fact) (defs : List Definition) where
   abbrev mutual
     pub evaluate : (levels : ℕ) → ExprTree → List BindingTree → Evaluation Tree
     evaluate zero e env = stop (passes limit.Calls)
-    evaluate (suc d) e env = part_value (λ x. evaluate d x env) (λ x. find_place d x env) facts env defs (λ x args. evaluate d x args) e
+    evaluate (suc d) e env =
+        part_value (λ x. evaluate d x env) (λ x. find_place d x env) facts env defs
+        (λ x args. evaluate d x args) e
 
     pub find_place : (levels : ℕ) → ExprTree → List BindingTree → Evaluation PlaceFound
     find_place zero e env = stop (passes limit.Calls)
-    find_place (suc d) e env = evaluated_place (λ x. evaluate d x env) (λ x. find_place d x env) env e
+    find_place (suc d) e env =
+        evaluated_place (λ x. evaluate d x env) (λ x. find_place d x env) env e

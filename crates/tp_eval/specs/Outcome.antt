@@ -26,17 +26,20 @@ outcome_reached (stops (passes k)) = over k
 unfoldable pub outcome : List Fact → List Definition → ExprTree → List BindingTree → Outcome
 outcome facts defs e env = outcome_reached (evaluate facts defs depth_limit e env 0)
 
--- a path, or else an outcome, which is a value where the name is bound to a known value that has the element
+-- a path, or else an outcome, which is a value where the name is bound to a known value that has
+-- the element
 pub data PlaceOutcome : Type 0 where
   path : Path → PlaceOutcome
   other : Outcome → PlaceOutcome
 
 abbrev pub place_reached : List Fact → Reached PlaceFound → PlaceOutcome
 place_reached facts (reaches (at_path p) calls) = path p
-place_reached facts (reaches (inside t at) calls) = other (outcome_reached (value_at facts (inside t at) calls))
+place_reached facts (reaches (inside t at) calls) =
+    other (outcome_reached (value_at facts (inside t at) calls))
 place_reached facts (stops (waits p)) = other (wait p)
 place_reached facts (stops (faults k)) = other (fault k)
 place_reached facts (stops (passes k)) = other (over k)
 
-unfoldable pub place_outcome : List Fact → List Definition → ExprTree → List BindingTree → PlaceOutcome
+unfoldable pub place_outcome : List Fact → List Definition → ExprTree → List BindingTree
+    → PlaceOutcome
 place_outcome facts defs e env = place_reached facts (find_place facts defs depth_limit e env 0)

@@ -8,7 +8,8 @@ use Rattle.tp_kernel.specs.declared.formula.FaultKind.{FaultKind}
 use Rattle.tp_kernel.specs.declared.formula.LimitKind.{LimitKind}
 use Rattle.tp_kernel.specs.declared.formula.LimitKind.TheVariants as limit
 
--- why an evaluation stops: the shape at a path isn't known yet, the expression has no value, or a limit is passed
+-- why an evaluation stops: the shape at a path isn't known yet, the expression has no value, or a
+-- limit is passed
 pub data Stop : Type 0 where
   waits : Path → Stop
   faults : FaultKind → Stop

@@ -14,7 +14,9 @@ use Rattle.tp_inputs.specs.Parts.{LinePart, Blank, Given, Faulty, is_set_apart, 
 
 -- whether the first n bytes, all those of a name, are a port with `=` behind it
 abbrev pub is_port : List ℕ → ℕ → Bool
-is_port z n = is_ascii_lowercase (slice_index z 0) && (nat_le n name_limit && (is_none (spelled_word (take n z)) && slice_index z n == 61))
+is_port z n =
+    is_ascii_lowercase (slice_index z 0)
+    && (nat_le n name_limit && (is_none (spelled_word (take n z)) && slice_index z n == 61))
 
 -- how many bytes the port has that comes first
 unfoldable pub port_len : List ℕ → Option ℕ
@@ -26,7 +28,8 @@ refused_part e = Faulty (fault_of e)
 
 -- the pair of the port, or a fault
 abbrev pub value_part : List ℕ → List ℕ → Answer → LinePart
-value_part z port (found t m) = if is_set_apart z m then Given (record { port = port; value = t }) m else Faulty f.Bad
+value_part z port (found t m) =
+    if is_set_apart z m then Given (record { port = port; value = t }) m else Faulty f.Bad
 value_part z port (refused e) = refused_part e
 
 abbrev pub new_part : List ℕ → ℕ → Option Tree → LinePart

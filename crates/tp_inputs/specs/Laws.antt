@@ -12,22 +12,31 @@ use Rattle.tp_inputs.specs.Within.{InputsWithin}
 
 -- the bytes are a table, or have a first fault
 abbrev pub EachTextIsJudged : Type 0
-EachTextIsJudged = (bytes : List ℕ) → ((table : InputLines) × IsInputsText bytes table) ⊎ ((line : ℕ) × (fault : Fault) × IsFirstFault (lines bytes) line fault)
+EachTextIsJudged =
+    (bytes : List ℕ) → ((table : InputLines) × IsInputsText bytes table)
+    ⊎ ((line : ℕ) × (fault : Fault) × IsFirstFault (lines bytes) line fault)
 
 abbrev pub OneTable : Type 0
 OneTable = (bytes : List ℕ) (t u : InputLines) → IsInputsText bytes t → IsInputsText bytes u → t ≡ u
 
 abbrev pub OneFirstFault : Type 0
-OneFirstFault = (bytes : List ℕ) (m n : ℕ) (e f : Fault) → IsFirstFault (lines bytes) m e → IsFirstFault (lines bytes) n f → (m ≡ n) × (e ≡ f)
+OneFirstFault =
+    (bytes : List ℕ) (m n : ℕ) (e f : Fault) → IsFirstFault (lines bytes) m e
+    → IsFirstFault (lines bytes) n f → (m ≡ n) × (e ≡ f)
 
 -- bytes with a fault are no table
 abbrev pub NoFaultyTable : Type 0
-NoFaultyTable = (bytes : List ℕ) (t : InputLines) (n : ℕ) (f : Fault) → IsInputsText bytes t → ¬ IsFirstFault (lines bytes) n f
+NoFaultyTable =
+    (bytes : List ℕ) (t : InputLines) (n : ℕ) (f : Fault) → IsInputsText bytes t
+    → ¬ IsFirstFault (lines bytes) n f
 
 -- a value that is refused is refused for its first cause
 abbrev pub RefusedValuesHaveTheirCause : Type 0
-RefusedValuesHaveTheirCause = (bytes : List ℕ) (from : ℕ) (e : ReadValue) → from ≤ length bytes → value_answer bytes from ≡ refused e → (e ≢ NoMemory) × IsReadRefused bytes from e
+RefusedValuesHaveTheirCause =
+    (bytes : List ℕ) (from : ℕ) (e : ReadValue) → from ≤ length bytes
+    → value_answer bytes from ≡ refused e → (e ≢ NoMemory) × IsReadRefused bytes from e
 
 -- the values of a table that is a text's are within the limits on items and depth
 abbrev pub TablesAreWithin : Type 0
-TablesAreWithin = (bytes : List ℕ) (table : InputLines) → IsInputsText bytes table → InputsWithin table
+TablesAreWithin =
+    (bytes : List ℕ) (table : InputLines) → IsInputsText bytes table → InputsWithin table

@@ -12,13 +12,18 @@ pub data LineEnding : Type 0 where
 -- a blank or a pair of n bytes comes first, and behind it the line has these pairs
 pub data PassesPart (z : List ℕ) (seen : List InputPair) : List InputPair → ℕ → Type 0 where
   blank : BeginsPart z seen Blank → PassesPart z seen seen 1
-  pair : {p : InputPair} {n : ℕ} → BeginsPart z seen (Given p n) → PassesPart z seen (seen ++ p ∷ []) n
+  pair : {p : InputPair} {n : ℕ} → BeginsPart z seen (Given p n)
+      → PassesPart z seen (seen ++ p ∷ []) n
 
--- The rest of a line, behind the pairs that were seen, is read to its end or to a fault, and up to there the line has these pairs.
+-- The rest of a line, behind the pairs that were seen, is read to its end or to a fault, and up to
+-- there the line has these pairs.
 pub data ReadsPairs : List ℕ → List InputPair → List InputPair → LineEnding → Type 0 where
   whole : {z : List ℕ} {seen : List InputPair} → z ≡ [] → ReadsPairs z seen seen Whole
-  passes : {z : List ℕ} {n : ℕ} {seen more pairs : List InputPair} {end : LineEnding} → PassesPart z seen more n → ReadsPairs (drop n z) more pairs end → ReadsPairs z seen pairs end
-  fails : {z : List ℕ} {seen : List InputPair} {fault : Fault} → BeginsPart z seen (Faulty fault) → ReadsPairs z seen seen (Fails fault)
+  passes : {z : List ℕ} {n : ℕ} {seen more pairs : List InputPair} {end : LineEnding}
+      → PassesPart z seen more n → ReadsPairs (drop n z) more pairs end
+      → ReadsPairs z seen pairs end
+  fails : {z : List ℕ} {seen : List InputPair} {fault : Fault} → BeginsPart z seen (Faulty fault)
+      → ReadsPairs z seen seen (Fails fault)
 
 -- the line has these pairs
 abbrev pub IsLine : List ℕ → List InputPair → Type 0

@@ -20,8 +20,8 @@ pub data LinePart : Type 0 where
   Given : InputPair → ℕ → LinePart
   Faulty : Fault → LinePart
 
--- A port of n bytes, and `=` behind it: a lower-case letter, and as many letters, digits and `_` as follow, within the limit on
--- names. It is no word.
+-- A port of n bytes, and `=` behind it: a lower-case letter, and as many letters, digits and `_` as
+-- follow, within the limit on names. It is no word.
 pub record BeginsPort (z : List ℕ) (n : ℕ) : Type 0 where
   pub lower : is_ascii_lowercase (slice_index z 0) ≡ true
   pub longest : n ≡ prefix_len is_name_byte z
@@ -52,10 +52,15 @@ fault_of NoMemory = f.Bad
 -- What the rest of a line, which is not empty, begins with, behind these pairs of the line.
 pub data BeginsPart (z : List ℕ) (seen : List InputPair) : LinePart → Type 0 where
   blank : is_value_blank (slice_index z 0) ≡ true → BeginsPart z seen Blank
-  pair : {n m : ℕ} {t : Tree} → BeginsPort z n → IsNewPort (take n z) seen → IsRead z (n + 1) t m → is_set_apart z m ≡ true
+  pair : {n m : ℕ} {t : Tree} → BeginsPort z n → IsNewPort (take n z) seen → IsRead z (n + 1) t m
+      → is_set_apart z m ≡ true
       → BeginsPart z seen (Given (record { port = take n z; value = t }) m)
-  no_port : z ≢ [] → is_value_blank (slice_index z 0) ≡ false → ((n : ℕ) → ¬ BeginsPort z n) → BeginsPart z seen (Faulty f.Bad)
-  twice : {n : ℕ} → BeginsPort z n → IsGivenPort (take n z) seen → BeginsPart z seen (Faulty f.Twice)
-  no_value : {n : ℕ} {e : ReadValue} → BeginsPort z n → IsNewPort (take n z) seen → value_answer z (n + 1) ≡ refused e → BeginsPart z seen (Faulty (fault_of e))
-  not_apart : {n m : ℕ} {t : Tree} → BeginsPort z n → IsNewPort (take n z) seen → IsRead z (n + 1) t m → is_set_apart z m ≡ false
+  no_port : z ≢ [] → is_value_blank (slice_index z 0) ≡ false → ((n : ℕ) → ¬ BeginsPort z n)
+      → BeginsPart z seen (Faulty f.Bad)
+  twice : {n : ℕ} → BeginsPort z n → IsGivenPort (take n z) seen
+      → BeginsPart z seen (Faulty f.Twice)
+  no_value : {n : ℕ} {e : ReadValue} → BeginsPort z n → IsNewPort (take n z) seen
+      → value_answer z (n + 1) ≡ refused e → BeginsPart z seen (Faulty (fault_of e))
+  not_apart : {n m : ℕ} {t : Tree} → BeginsPort z n → IsNewPort (take n z) seen
+      → IsRead z (n + 1) t m → is_set_apart z m ≡ false
       → BeginsPart z seen (Faulty f.Bad)

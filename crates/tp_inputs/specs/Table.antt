@@ -15,12 +15,13 @@ AreLines [] (ps ∷ table) = ⊥
 AreLines (line ∷ texts) [] = ⊥
 AreLines (line ∷ texts) (ps ∷ table) = IsLine line ps × AreLines texts table
 
--- The bytes are the table. A line ends with a line feed, or with a carriage return and a line feed, which the last may lack; the
--- lines belong to the states in order, from state 0.
+-- The bytes are the table. A line ends with a line feed, or with a carriage return and a line feed,
+-- which the last may lack; the lines belong to the states in order, from state 0.
 abbrev pub IsInputsText : List ℕ → InputLines → Type 0
 IsInputsText bytes table = AreLines (lines bytes) table
 
--- of the lines, that with this number, from 1, has this as its first fault, and those before it have none
+-- of the lines, that with this number, from 1, has this as its first fault, and those before it
+-- have none
 pub record IsFirstFault (texts : List (List ℕ)) (number : ℕ) (fault : Fault) : Type 0 where
   pub before : List (List ℕ)
   pub line : List ℕ

@@ -17,7 +17,8 @@ InputsWithin (l ∷ ls) = LineWithin l × InputsWithin ls
 -- each of these facts has one proof at the most
 LineWithin-prop : (ps : List InputPair) → IsProp (LineWithin ps)
 LineWithin-prop [] = Unit-prop
-LineWithin-prop (p ∷ ps) = ×_prop (Coded-set coded_bool (is_within_list_limit p.value) true) (LineWithin-prop ps)
+LineWithin-prop (p ∷ ps) =
+    ×_prop (Coded-set coded_bool (is_within_list_limit p.value) true) (LineWithin-prop ps)
 
 pub InputsWithin-prop : (ls : InputLines) → IsProp (InputsWithin ls)
 InputsWithin-prop [] = Unit-prop

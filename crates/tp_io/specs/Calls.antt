@@ -8,22 +8,25 @@ use Rattle.tp_io.specs.declared.devices.WriteRefusal.{WriteRefusal}
 use Rattle.tp_io.specs.declared.devices.FileRefusal.TheVariants as file
 use Rattle.tp_io.specs.declared.devices.WriteRefusal.TheVariants as sink
 
--- The next read of this name fails: its number, counted from 1, is one of those that are to fail, or the name isn't there.
--- A read that wanted memory has no number.
+-- The next read of this name fails: its number, counted from 1, is one of those that are to fail,
+-- or the name isn't there. A read that wanted memory has no number.
 abbrev pub FailsAt : ShelfView → List ℕ → Type 0
-FailsAt shelf name = Contains shelf.failing (length shelf.asked + 1) ⊎ (get (held_of shelf.contents) name ≡ None)
+FailsAt shelf name =
+    Contains shelf.failing (length shelf.asked + 1) ⊎ (get (held_of shelf.contents) name ≡ None)
 
 abbrev pub shelf_after : {T : Type 0} → ShelfView → List ℕ → Result T FileRefusal → ShelfView
 shelf_after old name (Ok x) = record old { asked = old.asked ++ name ∷ [] }
-shelf_after old name (Err file.Failed) = record old { asked = old.asked ++ name ∷ []; faults = old.faults + 1 }
+shelf_after old name (Err file.Failed) =
+    record old { asked = old.asked ++ name ∷ []; faults = old.faults + 1 }
 shelf_after old name (Err file.NoMemory) = old
 
-abbrev pub sure_shelf_after : {T : Type 0} → SureShelfView → List ℕ → Result T FileRefusal → SureShelfView
+abbrev pub sure_shelf_after : {T : Type 0} → SureShelfView → List ℕ → Result T FileRefusal
+    → SureShelfView
 sure_shelf_after old name (Ok x) = record old { asked = old.asked ++ name ∷ [] }
 sure_shelf_after old name (Err refusal) = old
 
--- The next write fails where this tells how many bytes of its piece are kept; of two failures of one number the first counts.
--- A write that wanted memory has no number.
+-- The next write fails where this tells how many bytes of its piece are kept; of two failures of
+-- one number the first counts. A write that wanted memory has no number.
 abbrev pub failure_of : PageView → Option Failure
 failure_of page = find (λ (f : Failure). nat_eq f.call (page.calls + 1)) page.failing
 
@@ -35,5 +38,9 @@ kept_by (Some failure) = failure.kept
 abbrev pub page_after : {T : Type 0} → PageView → List ℕ → Result T WriteRefusal → PageView
 page_after old piece (Ok x) = record old { calls = old.calls + 1; text = old.text ++ piece }
 page_after old piece (Err sink.Failed) =
-    record old { calls = old.calls + 1; text = old.text ++ take (kept_by (failure_of old)) piece; faults = old.faults + 1 }
+    record old {
+      calls = old.calls + 1;
+      text = old.text ++ take (kept_by (failure_of old)) piece;
+      faults = old.faults + 1;
+    }
 page_after old piece (Err sink.NoMemory) = old

@@ -36,7 +36,8 @@ abbrev pub and_one_more : {X : Type 0} → Option (List X) → X → Option (Lis
 and_one_more told x = option_map (λ xs. xs ++ x ∷ []) told
 
 -- the names asked for after a read: one more, unless memory is wanted
-abbrev pub asked_after : {T : Type 0} → Option (List (List ℕ)) → List ℕ → Result T FileRefusal → Option (List (List ℕ))
+abbrev pub asked_after : {T : Type 0} → Option (List (List ℕ)) → List ℕ → Result T FileRefusal
+    → Option (List (List ℕ))
 asked_after told name (Ok x) = and_one_more told name
 asked_after told name (Err file.Failed) = and_one_more told name
 asked_after told name (Err file.NoMemory) = told
@@ -46,13 +47,17 @@ pub record Reads (held : Option Held) (name : List ℕ) (most : ℕ) (bytes : Li
   pub within : length bytes ≤ most
   pub first : IfSome held (λ files. bytes ≡ take most (bytes_of files name))
 
--- a write appended the piece at `Ok`, a part of it from its start at `Failed`, and nothing at `NoMemory`
-abbrev pub Writes : {T : Type 0} → Option (List ℕ) → Option (List ℕ) → List ℕ → Result T WriteRefusal → Type 0
+-- a write appended the piece at `Ok`, a part of it from its start at `Failed`, and nothing at
+-- `NoMemory`
+abbrev pub Writes : {T : Type 0} → Option (List ℕ) → Option (List ℕ) → List ℕ
+    → Result T WriteRefusal → Type 0
 Writes old new piece (Ok x) = new ≡ option_map (λ bytes. bytes ++ piece) old
-Writes old new piece (Err sink.Failed) = (kept : ℕ) × (kept ≤ length piece) × (new ≡ option_map (λ bytes. bytes ++ take kept piece) old)
+Writes old new piece (Err sink.Failed) =
+    (kept : ℕ) × (kept ≤ length piece) × (new ≡ option_map (λ bytes. bytes ++ take kept piece) old)
 Writes old new piece (Err sink.NoMemory) = new ≡ old
 
--- a count of failed reads after one more read: it rises where that failed, and at its greatest number it stands still
+-- a count of failed reads after one more read: it rises where that failed, and at its greatest
+-- number it stands still
 abbrev pub reads_failed_after : {T : Type 0} → Option ℕ → ℕ → Result T FileRefusal → ℕ
 reads_failed_after greatest count (Ok x) = count
 reads_failed_after greatest count (Err file.Failed) = next_count greatest count

@@ -25,8 +25,8 @@ text_of pieces = flat_map (λ (p : Piece). p.bytes) pieces
 abbrev pub failed_writes : List Piece → ℕ
 failed_writes pieces = count_by (λ (p : Piece). p.failed) pieces
 
--- what contracts see of a shelf: its contents, the numbers of the calls that are to fail, the names asked for,
--- and how often a read failed
+-- what contracts see of a shelf: its contents, the numbers of the calls that are to fail, the names
+-- asked for, and how often a read failed
 pub record ShelfView : Type 0 where
   pub contents : List Content
   pub failing : List ℕ
@@ -38,8 +38,8 @@ pub record SureShelfView : Type 0 where
   pub contents : List Content
   pub asked : List (List ℕ)
 
--- what contracts see of a page: the writes that are to fail, how many writes there were, what was written,
--- and how often a write failed
+-- what contracts see of a page: the writes that are to fail, how many writes there were, what was
+-- written, and how often a write failed
 pub record PageView : Type 0 where
   pub failing : List Failure
   pub calls : ℕ

@@ -1,4 +1,5 @@
--- The calls of the system that the real devices make, and which of them a read and a write are made of.
+-- The calls of the system that the real devices make, and which of them a read and a write are made
+-- of.
 use Rattle.std.specs.Prelude.{◌≡◌, ◌≢◌, ◌⊎◌, ◌≤◌, ◌<◌, ◌+◌, ◌-◌, ◌^◌, ℕ, Bool, true, false, List, [], ◌∷◌, ◌++◌, length, drop, Option, None, Some, Result, Ok, Err}
 use Rattle.std.specs.Option.{option_map}
 use Rattle.std.specs.declared.io.ErrorKind.{ErrorKind}
@@ -15,7 +16,8 @@ abbrev pub fault_in : {T : Type 0} → Result T CallFault → Option CallFault
 fault_in (Ok x) = None
 fault_in (Err e) = Some e
 
--- A call that opened a file, or didn't; and one that read so many bytes of as many as were asked for, or none.
+-- A call that opened a file, or didn't; and one that read so many bytes of as many as were asked
+-- for, or none.
 pub data FileCall : Type 0 where
   open_call : (name : List ℕ) (fault : Option CallFault) → FileCall
   read_call : (asked : ℕ) (outcome : Result ℕ CallFault) → FileCall
@@ -43,8 +45,8 @@ and_these told xs = option_map (λ ys. ys ++ xs) told
 abbrev pub most_calls : ℕ
 most_calls = 2 ^ 64 - 1
 
--- The calls that read so many bytes of an open file, of which `most` are wanted: none asked for more
--- than was still wanted; one that was interrupted was made again; and none failed.
+-- The calls that read so many bytes of an open file, of which `most` are wanted: none asked for
+-- more than was still wanted; one that was interrupted was made again; and none failed.
 pub data HaveRead (most : ℕ) : List FileCall → ℕ → Type 0 where
   none_yet : HaveRead most [] 0
   gave : {calls : List FileCall} {n : ℕ} (asked count : ℕ) → HaveRead most calls n
@@ -53,8 +55,8 @@ pub data HaveRead (most : ℕ) : List FileCall → ℕ → Type 0 where
   again : {calls : List FileCall} {n : ℕ} (asked : ℕ) → HaveRead most calls n → n + asked ≤ most
       → HaveRead most (calls ++ read_call asked (Err fault.Interrupted) ∷ []) n
 
--- Calls that read so many bytes, and then one more, with this outcome, which asked for some of what was
--- still wanted.
+-- Calls that read so many bytes, and then one more, with this outcome, which asked for some of what
+-- was still wanted.
 pub record OneMoreRead (most : ℕ) (calls : List FileCall) (n : ℕ) (outcome : Result ℕ CallFault) :
     Type 0 where
   pub before : List FileCall
@@ -64,12 +66,13 @@ pub record OneMoreRead (most : ℕ) (calls : List FileCall) (n : ℕ) (outcome :
   pub within : n + asked ≤ most
   pub last : calls ≡ before ++ read_call asked outcome ∷ []
 
--- The calls that read an open file, by what comes of them. Either all was read that is wanted, or the
--- last call gave nothing: there is no more. Or the last call failed, or as many calls were made as may
--- be. Or the last call wanted memory, or the reader did, for what was read.
+-- The calls that read an open file, by what comes of them. Either all was read that is wanted, or
+-- the last call gave nothing: there is no more. Or the last call failed, or as many calls were made
+-- as may be. Or the last call wanted memory, or the reader did, for what was read.
 abbrev pub ReadsOpen : ℕ → List FileCall → Result (List ℕ) FileRefusal → Type 0
 ReadsOpen most calls (Ok bytes) =
-    ((length bytes ≡ most) × HaveRead most calls most) ⊎ OneMoreRead most calls (length bytes) (Ok 0)
+    ((length bytes ≡ most) × HaveRead most calls most)
+    ⊎ OneMoreRead most calls (length bytes) (Ok 0)
 ReadsOpen most calls (Err file.Failed) = (n : ℕ)
     × (OneMoreRead most calls n (Err fault.Failed)
     ⊎ (HaveRead most calls n × (most_calls ≤ length calls)))
@@ -89,8 +92,8 @@ ReadsFile name most calls result =
     ⊎ ((reads : List FileCall) × (calls ≡ open_call name None ∷ reads)
     × ReadsOpen most reads result)
 
--- The calls that wrote so many bytes of the piece: each was handed all that was still to be written;
--- one that was interrupted was made again; and none failed or took nothing.
+-- The calls that wrote so many bytes of the piece: each was handed all that was still to be
+-- written; one that was interrupted was made again; and none failed or took nothing.
 pub data HaveWritten (piece : List ℕ) : List WriteCall → ℕ → Type 0 where
   none_yet : HaveWritten piece [] 0
   took : {calls : List WriteCall} {n : ℕ} (count : ℕ) → HaveWritten piece calls n → 0 < count
@@ -108,8 +111,8 @@ pub record OneMoreWrite (piece : List ℕ) (calls : List WriteCall) (outcome : R
   pub some : count < length piece
   pub last : calls ≡ before ++ write_call (drop count piece) outcome ∷ []
 
--- The calls that write a piece, by what comes of them. All of it was written; or the last call failed,
--- or took nothing, or as many were made as may be; or the last call wanted memory.
+-- The calls that write a piece, by what comes of them. All of it was written; or the last call
+-- failed, or took nothing, or as many were made as may be; or the last call wanted memory.
 abbrev pub WritesPiece : {T : Type 0} → List ℕ → List WriteCall → Result T WriteRefusal → Type 0
 WritesPiece piece calls (Ok x) = HaveWritten piece calls (length piece)
 WritesPiece piece calls (Err sink.Failed) = OneMoreWrite piece calls (Err fault.Failed)
@@ -117,9 +120,9 @@ WritesPiece piece calls (Err sink.Failed) = OneMoreWrite piece calls (Err fault.
     ⊎ ((n : ℕ) × HaveWritten piece calls n × (most_calls ≤ length calls))
 WritesPiece piece calls (Err sink.NoMemory) = OneMoreWrite piece calls (Err fault.NoMemory)
 
--- What one read of so many bytes comes to: it goes on, since it gave some, which were appended, or was
--- interrupted; or there is no more; or it failed; or it wanted memory, or the reader did, before the
--- call or for what it gave.
+-- What one read of so many bytes comes to: it goes on, since it gave some, which were appended, or
+-- was interrupted; or there is no more; or it failed; or it wanted memory, or the reader did,
+-- before the call or for what it gave.
 abbrev pub OneRead : ℕ → List FileCall → (old new : List ℕ) → Result Bool FileRefusal → Type 0
 OneRead asked calls old new (Ok true) =
     ((count : ℕ) × (0 < count) × (count ≤ asked) × (length new ≡ length old + count)

@@ -99,7 +99,13 @@ formula_trees = fold-Formulas FormulaTree FormulaTrees formula_fold formulas_ste
 
 -- a definition, and definitions by their numbers
 abbrev pub definition_of : Def → Definition
-definition_of f = record { name = f.name; parameters = f.parameters; formula = formula_tree f.formula.value; expr = option_map (λ e. expr_tree e.value) f.expr }
+definition_of f =
+    record {
+      name = f.name;
+      parameters = f.parameters;
+      formula = formula_tree f.formula.value;
+      expr = option_map (λ e. expr_tree e.value) f.expr;
+    }
 
 abbrev pub definitions_of : Defs → List Definition
 definitions_of fs = map definition_of fs.items.items

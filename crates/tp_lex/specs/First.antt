@@ -35,7 +35,8 @@ number_in_limit n = if nat_le n number_limit then Some (pos n) else None
 -- how many bytes stand before the first `*/`
 abbrev pub first_close : List ℕ → Option ℕ
 first_close [] = None
-first_close (b ∷ z) = if starts_with nat_eq (b ∷ z) (codes "*/") then Some 0 else option_map suc (first_close z)
+first_close (b ∷ z) =
+    if starts_with nat_eq (b ∷ z) (codes "*/") then Some 0 else option_map suc (first_close z)
 
 -- how many bytes a name has at most
 abbrev pub name_limit : ℕ
@@ -43,14 +44,16 @@ name_limit = 64
 
 -- the kind of a text's first n bytes, a name that is no word
 abbrev pub name_kind : ℕ → List ℕ → Kind
-name_kind n z = if is_ascii_uppercase (slice_index z 0) then k.Upper (take n z) else k.Lower (take n z)
+name_kind n z =
+    if is_ascii_uppercase (slice_index z 0) then k.Upper (take n z) else k.Lower (take n z)
 
 abbrev pub word_piece : Option Word → ℕ → List ℕ → Piece
 word_piece (Some word) n z = Lexeme (k.Word word) n
 word_piece None n z = Lexeme (name_kind n z) n
 
 abbrev pub name_of_len : ℕ → List ℕ → Piece
-name_of_len n z = if nat_le n name_limit then word_piece (spelled_word (take n z)) n z else Refused NameTooLong
+name_of_len n z =
+    if nat_le n name_limit then word_piece (spelled_word (take n z)) n z else Refused NameTooLong
 
 -- what begins with a letter
 unfoldable pub name_piece : List ℕ → Piece

@@ -13,14 +13,16 @@ abbrev pub EachTextIsRead : Type 0
 EachTextIsRead = (bytes : List ℕ) → (ts : List Token) × (end : Ending) × ReadsTokens bytes 0 ts end
 
 abbrev pub OneTokenList : Type 0
-OneTokenList = (bytes : List ℕ) (ts us : List Token) → AreTokens bytes ts → AreTokens bytes us → ts ≡ us
+OneTokenList =
+    (bytes : List ℕ) (ts us : List Token) → AreTokens bytes ts → AreTokens bytes us → ts ≡ us
 
 abbrev pub OneRefusal : Type 0
 OneRefusal = (bytes : List ℕ) (e f : LexRefusal) → IsRefused bytes e → IsRefused bytes f → e ≡ f
 
 -- a text that is refused has no tokens
 abbrev pub NeverBoth : Type 0
-NeverBoth = (bytes : List ℕ) (ts : List Token) (e : LexRefusal) → AreTokens bytes ts → ¬ IsRefused bytes e
+NeverBoth =
+    (bytes : List ℕ) (ts : List Token) (e : LexRefusal) → AreTokens bytes ts → ¬ IsRefused bytes e
 
 -- as many bytes stand before a place as it says
 abbrev pub PlacesCount : Type 0

@@ -25,4 +25,5 @@ IsNameText x = IsName x (length x)
 
 -- each name among the tokens of a text is spelled so
 abbrev pub NamesAreSpelled : Type 0
-NamesAreSpelled = (bytes : List ℕ) (ts : List Token) → AreTokens bytes ts → All IsNameText (token_names ts)
+NamesAreSpelled =
+    (bytes : List ℕ) (ts : List Token) → AreTokens bytes ts → All IsNameText (token_names ts)

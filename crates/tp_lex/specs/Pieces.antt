@@ -41,7 +41,8 @@ pub record AreLeadingDigits (z : List ℕ) (n : ℕ) : Type 0 where
 -- the longest symbol that the text begins with
 pub record IsLongestSymbol (z : List ℕ) (s : Symbol) : Type 0 where
   pub stands : BeginsWith z (symbol_spelling s)
-  pub longest : (other : Symbol) → BeginsWith z (symbol_spelling other) → length (symbol_spelling other) ≤ length (symbol_spelling s)
+  pub longest : (other : Symbol) → BeginsWith z (symbol_spelling other)
+      → length (symbol_spelling other) ≤ length (symbol_spelling s)
 
 -- the first byte begins nothing
 pub record IsBad (z : List ℕ) : Type 0 where
@@ -54,13 +55,22 @@ pub record IsBad (z : List ℕ) : Type 0 where
 
 pub data BeginsPiece : List ℕ → Piece → Type 0 where
   blank : {z : List ℕ} → is_blank (slice_index z 0) ≡ true → BeginsPiece z (Gap 1)
-  comment : {z : List ℕ} {n : ℕ} → Opens z → ClosesAt (drop 2 z) n → ((m : ℕ) → m < n → ¬ ClosesAt (drop 2 z) m) → BeginsPiece z (Gap (n + 4))
-  word : {z : List ℕ} {n : ℕ} {w : Word} → IsName z n → take n z ≡ word_spelling w → BeginsPiece z (Lexeme (k.Word w) n)
-  upper : {z : List ℕ} {n : ℕ} → IsName z n → n ≤ name_limit → IsNoWord (take n z) → is_ascii_uppercase (slice_index z 0) ≡ true → BeginsPiece z (Lexeme (k.Upper (take n z)) n)
-  lower : {z : List ℕ} {n : ℕ} → IsName z n → n ≤ name_limit → IsNoWord (take n z) → is_ascii_uppercase (slice_index z 0) ≡ false → BeginsPiece z (Lexeme (k.Lower (take n z)) n)
-  number : {z : List ℕ} {n : ℕ} → AreLeadingDigits z n → spelled_value (take n z) ≤ number_limit → BeginsPiece z (Lexeme (k.Number (pos (spelled_value (take n z)))) n)
-  symbol : {z : List ℕ} {s : Symbol} → IsLongestSymbol z s → BeginsPiece z (Lexeme (k.Symbol s) (length (symbol_spelling s)))
+  comment : {z : List ℕ} {n : ℕ} → Opens z → ClosesAt (drop 2 z) n
+      → ((m : ℕ) → m < n → ¬ ClosesAt (drop 2 z) m) → BeginsPiece z (Gap (n + 4))
+  word : {z : List ℕ} {n : ℕ} {w : Word} → IsName z n → take n z ≡ word_spelling w
+      → BeginsPiece z (Lexeme (k.Word w) n)
+  upper : {z : List ℕ} {n : ℕ} → IsName z n → n ≤ name_limit → IsNoWord (take n z)
+      → is_ascii_uppercase (slice_index z 0) ≡ true → BeginsPiece z (Lexeme (k.Upper (take n z)) n)
+  lower : {z : List ℕ} {n : ℕ} → IsName z n → n ≤ name_limit → IsNoWord (take n z)
+      → is_ascii_uppercase (slice_index z 0) ≡ false → BeginsPiece z (Lexeme (k.Lower (take n z)) n)
+  number : {z : List ℕ} {n : ℕ} → AreLeadingDigits z n → spelled_value (take n z) ≤ number_limit
+      → BeginsPiece z (Lexeme (k.Number (pos (spelled_value (take n z)))) n)
+  symbol : {z : List ℕ} {s : Symbol} → IsLongestSymbol z s
+      → BeginsPiece z (Lexeme (k.Symbol s) (length (symbol_spelling s)))
   bad_byte : {z : List ℕ} → IsBad z → BeginsPiece z (Refused BadByte)
-  open_comment : {z : List ℕ} → Opens z → ((n : ℕ) → ¬ ClosesAt (drop 2 z) n) → BeginsPiece z (Refused OpenComment)
-  large_number : {z : List ℕ} {n : ℕ} → AreLeadingDigits z n → number_limit < spelled_value (take n z) → BeginsPiece z (Refused NumberTooLarge)
-  long_name : {z : List ℕ} {n : ℕ} → IsName z n → name_limit < n → BeginsPiece z (Refused NameTooLong)
+  open_comment : {z : List ℕ} → Opens z → ((n : ℕ) → ¬ ClosesAt (drop 2 z) n)
+      → BeginsPiece z (Refused OpenComment)
+  large_number : {z : List ℕ} {n : ℕ} → AreLeadingDigits z n
+      → number_limit < spelled_value (take n z) → BeginsPiece z (Refused NumberTooLarge)
+  long_name : {z : List ℕ} {n : ℕ} → IsName z n → name_limit < n
+      → BeginsPiece z (Refused NameTooLong)

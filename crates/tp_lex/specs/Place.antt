@@ -28,4 +28,5 @@ place_of bytes at = place_from text_start (take at bytes)
 
 -- the token of so many bytes that begins at the place
 abbrev pub token_at : Kind → ℕ → Place → Token
-token_at kind n p = record { kind = kind; from = p.at; to = p.at + n; line = p.line; column = p.column }
+token_at kind n p =
+    record { kind = kind; from = p.at; to = p.at + n; line = p.line; column = p.column }

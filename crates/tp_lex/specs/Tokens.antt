@@ -25,10 +25,13 @@ pub data Ending : Type 0 where
 -- From the byte `at` on, the text reads as these tokens and ends so.
 pub data ReadsTokens (bytes : List ℕ) : ℕ → List Token → Ending → Type 0 where
   whole : {at : ℕ} → at ≡ length bytes → ReadsTokens bytes at [] Whole
-  gap : {at n : ℕ} {ts : List Token} {end : Ending} → BeginsPiece (drop at bytes) (Gap n) → ReadsTokens bytes (at + n) ts end → ReadsTokens bytes at ts end
-  lexeme : {at n : ℕ} {kind : Kind} {ts : List Token} {end : Ending} → BeginsPiece (drop at bytes) (Lexeme kind n) → ReadsTokens bytes (at + n) ts end
+  gap : {at n : ℕ} {ts : List Token} {end : Ending} → BeginsPiece (drop at bytes) (Gap n)
+      → ReadsTokens bytes (at + n) ts end → ReadsTokens bytes at ts end
+  lexeme : {at n : ℕ} {kind : Kind} {ts : List Token} {end : Ending}
+      → BeginsPiece (drop at bytes) (Lexeme kind n) → ReadsTokens bytes (at + n) ts end
       → ReadsTokens bytes at (token_at kind n (place_of bytes at) ∷ ts) end
-  fails : {at : ℕ} {fault : Fault} → BeginsPiece (drop at bytes) (Refused fault) → ReadsTokens bytes at [] (Fails (refusal_at fault at))
+  fails : {at : ℕ} {fault : Fault} → BeginsPiece (drop at bytes) (Refused fault)
+      → ReadsTokens bytes at [] (Fails (refusal_at fault at))
 
 -- the text is these tokens
 abbrev pub AreTokens : List ℕ → List Token → Type 0

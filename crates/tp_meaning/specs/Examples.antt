@@ -53,16 +53,20 @@ FailsTo b f = (d : ℕ) (S : Shows) → Holds nothing_given d f [] counting 0 b 
 
 -- len(3) and A = 0 and A gets A + 1
 abbrev pub counts_to_three : FormulaTree
-counts_to_three = conjunction (formulas_of (len (number_expr 3) ∷ A_is 0 ∷ gets_of A (binary Plus A (number_expr 1)) ∷ []))
+counts_to_three =
+    conjunction (formulas_of
+    (len (number_expr 3) ∷ A_is 0 ∷ gets_of A (binary Plus A (number_expr 1)) ∷ []))
 
 -- It holds where A is 0, 1, 2, 3, with nothing shown, and nowhere else.
 abbrev pub CountsToThree : Type 0
 CountsToThree = (d : ℕ) (s : Course) (a b : ℕ) (S : Shows) → a ≤ b →
-    Holds nothing_given d counts_to_three [] s a b S ↔ ((3 + a ≡ b) × ((j : ℕ) → j ≤ 3 → (s (j + a)).values 0 ≡ num (pos j)) × (S ≡ blank))
+    Holds nothing_given d counts_to_three [] s a b S
+    ↔ ((3 + a ≡ b) × ((j : ℕ) → j ≤ 3 → (s (j + a)).values 0 ≡ num (pos j)) × (S ≡ blank))
 
 -- one definition, with a formula alone
 abbrev pub formula_definition : (parameters : List (List ℕ)) → FormulaTree → Definition
-formula_definition parameters f = record { name = []; parameters = parameters; formula = f; expr = None }
+formula_definition parameters f =
+    record { name = []; parameters = parameters; formula = f; expr = None }
 
 abbrev pub with_definition : (parameters : List (List ℕ)) → FormulaTree → Context
 with_definition parameters f = record { defs = formula_definition parameters f ∷ []; inputs = [] }

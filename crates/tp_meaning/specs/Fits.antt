@@ -1,4 +1,5 @@
--- Which expressions, formulas, definitions, programs and bindings fit each other and their variables.
+-- Which expressions, formulas, definitions, programs and bindings fit each other and their
+-- variables.
 use Rattle.std.specs.Prelude.{◌≡◌, ℕ, suc, ◌<◌, ◌≤◌, Bool, List, [], ◌∷◌, Some, slice_get, IsTrue, length}
 use Rattle.tp_value.specs.declared.path.VarId.{VarId}
 use Rattle.tp_meaning.specs.Syntax.{ExprTree, ExprTrees, bound, global, listing, size, index, minus, negation, both, either, binary, choice, invoke, no_expr, expr_then, FormulaTree, FormulaTrees, test, equation, next_equation, next, weak_next, if_more, if_empty, always, conjunction, branch, len, assign, chop, while, for_from, forall_from, project, exists, call, input, display, no_formula, formula_then, Definition, BindingTree, place_binding, known_binding}
@@ -37,7 +38,9 @@ module _ (defs : List Definition) (kinds : List Bool) where
     ExprFits (either a b) n = ExprFits a n × ExprFits b n
     ExprFits (binary o a b) n = ExprFits a n × ExprFits b n
     ExprFits (choice b x y) n = ExprFits b n × ExprFits x n × ExprFits y n
-    ExprFits (invoke p es) n = (f : Definition) × (e : ExprTree) × (slice_get defs p ≡ Some f) × (f.expr ≡ Some e) × AreArguments es f.parameters × ExprsFit es n
+    ExprFits (invoke p es) n =
+        (f : Definition) × (e : ExprTree) × (slice_get defs p ≡ Some f) × (f.expr ≡ Some e)
+        × AreArguments es f.parameters × ExprsFit es n
     ExprFits _ n = Unit {0}
 
     pub ExprsFit : ExprTrees → (n : ℕ) → Type 0
@@ -64,7 +67,9 @@ module _ (defs : List Definition) (kinds : List Bool) where
     FormulaFits (forall_from name k e f) n = ExprFits e n × FormulaFits f (suc n)
     FormulaFits (project f g) n = FormulaFits f n × FormulaFits g n
     FormulaFits (exists name lasting f) n = FormulaFits f (suc n)
-    FormulaFits (call p es) n = (f : Definition) × (slice_get defs p ≡ Some f) × AreArguments es f.parameters × ExprsFit es n
+    FormulaFits (call p es) n =
+        (f : Definition) × (slice_get defs p ≡ Some f) × AreArguments es f.parameters
+        × ExprsFit es n
     FormulaFits (input e port) n = ExprFits e n
     FormulaFits (display es) n = ExprsFit es n
     FormulaFits _ n = Unit {0}
@@ -75,8 +80,10 @@ module _ (defs : List Definition) (kinds : List Bool) where
 
   -- each body fits the number of its parameters
   pub record DefinitionsFit : Type 0 where
-    pub formula : (p : ℕ) (f : Definition) → slice_get defs p ≡ Some f → FormulaFits f.formula (length f.parameters)
-    pub expr : (p : ℕ) (f : Definition) → slice_get defs p ≡ Some f → (e : ExprTree) → f.expr ≡ Some e → ExprFits e (length f.parameters)
+    pub formula : (p : ℕ) (f : Definition) → slice_get defs p ≡ Some f
+        → FormulaFits f.formula (length f.parameters)
+    pub expr : (p : ℕ) (f : Definition) → slice_get defs p ≡ Some f → (e : ExprTree)
+        → f.expr ≡ Some e → ExprFits e (length f.parameters)
 
 pub record ProgramFits (p : ProgramTree) : Type 0 where
   pub defs : DefinitionsFit p.defs (kinds_of p.globals)

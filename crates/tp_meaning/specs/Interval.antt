@@ -6,8 +6,8 @@ use Rattle.tp_meaning.specs.Course.{Course, Shows}
 use Rattle.tp_meaning.specs.Inputs.{InputLines}
 use Rattle.tp_meaning.specs.Holds.{Holds}
 
--- a program: its definitions, its main formula, and the names of its global variables, of which the i-th, from 0, is
--- that of variable number i
+-- a program: its definitions, its main formula, and the names of its global variables, of which the
+-- i-th, from 0, is that of variable number i
 pub record ProgramTree : Type 0 where
   pub defs : List Definition
   pub main : FormulaTree
@@ -23,9 +23,12 @@ IsNumberedFrom n s a b = (j : ℕ) → j + a ≤ b → (s (j + a)).own ≡ j + n
 
 -- each static variable keeps one value
 abbrev pub KeepsLasting : List Bool → Course → ℕ → ℕ → Type 0
-KeepsLasting kinds s a b = (x : ℕ) → slice_get kinds x ≡ Some true → (i j : ℕ) → a ≤ i → i ≤ b → a ≤ j → j ≤ b → (s i).values x ≡ (s j).values x
+KeepsLasting kinds s a b =
+    (x : ℕ) → slice_get kinds x ≡ Some true → (i j : ℕ) → a ≤ i → i ≤ b → a ≤ j → j ≤ b
+    → (s i).values x ≡ (s j).values x
 
--- An interval with these variables, whose first state has the number n and the others the numbers after it.
+-- An interval with these variables, whose first state has the number n and the others the numbers
+-- after it.
 pub record IsIntervalFrom (n : ℕ) (kinds : List Bool) (s : Course) (a b : ℕ) : Type 0 where
   pub nonempty : a ≤ b
   pub numbered : IsNumberedFrom n s a b
@@ -35,7 +38,9 @@ pub record IsIntervalFrom (n : ℕ) (kinds : List Bool) (s : Course) (a b : ℕ)
 abbrev pub IsInterval : ProgramTree → Course → ℕ → ℕ → Type 0
 IsInterval p = IsIntervalFrom 0 (kinds_of p.globals)
 
--- The interval from a to b satisfies the program and shows S: it is one of the program, and the main formula holds on it at some
--- depth, with no bindings.
+-- The interval from a to b satisfies the program and shows S: it is one of the program, and the
+-- main formula holds on it at some depth, with no bindings.
 abbrev pub Satisfies : ProgramTree → InputLines → Course → ℕ → ℕ → Shows → Type 0
-Satisfies p inputs s a b S = IsInterval p s a b × ((d : ℕ) × Holds (record { defs = p.defs; inputs = inputs }) d p.main [] s a b S)
+Satisfies p inputs s a b S =
+    IsInterval p s a b × ((d : ℕ)
+    × Holds (record { defs = p.defs; inputs = inputs }) d p.main [] s a b S)

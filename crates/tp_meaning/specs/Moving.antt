@@ -1,4 +1,5 @@
--- What a formula reads: its own part of the course and of the environment, wherever that part lies, and nothing else.
+-- What a formula reads: its own part of the course and of the environment, wherever that part lies,
+-- and nothing else.
 use Rattle.std.specs.Prelude.{◌≡◌, ℕ, suc, ◌≤◌, ◌<◌, [], ◌∷◌}
 use Rattle.tp_meaning.specs.Syntax.{FormulaTree}
 use Rattle.tp_meaning.specs.Course.{Course, Shows}
@@ -35,14 +36,21 @@ pub record ShowsMoved (at : ℕ → ℕ) (a b : ℕ) (S T : Shows) : Type 0 wher
   pub elsewhere : IsWithin (at a) (at b) T
 
 abbrev pub MeaningsMove : Type 0
-MeaningsMove = (w : Context) (d : ℕ) (f : FormulaTree) (at : ℕ → ℕ) (env env' : Env) (s s' : Course) (a b : ℕ) (S S' : Shows) → a ≤ b →
+MeaningsMove =
+    (w : Context) (d : ℕ) (f : FormulaTree) (at : ℕ → ℕ) (env env' : Env) (s s' : Course) (a b : ℕ)
+    (S S' : Shows) → a ≤ b →
     InStep at a b → EnvMoved at a b env env' → CourseMoved at a b s s' → ShowsMoved at a b S S' →
     Holds w d f env s a b S → Holds w d f env' s' (at a) (at b) S'
 
 -- the same without a move: what lies outside of the interval plays no part
 abbrev pub MeaningsReadTheirPart : Type 0
-MeaningsReadTheirPart = (w : Context) (d : ℕ) (f : FormulaTree) (env env' : Env) (s s' : Course) (a b : ℕ) (S : Shows) → a ≤ b →
-    EnvMoved (λ j. j) a b env env' → CourseMoved (λ j. j) a b s s' → Holds w d f env s a b S → Holds w d f env' s' a b S
+MeaningsReadTheirPart =
+    (w : Context) (d : ℕ) (f : FormulaTree) (env env' : Env) (s s' : Course) (a b : ℕ) (S : Shows)
+    → a ≤ b →
+    EnvMoved (λ j. j) a b env env' → CourseMoved (λ j. j) a b s s' → Holds w d f env s a b S
+    → Holds w d f env' s' a b S
 
 abbrev pub NothingShownOutside : Type 0
-NothingShownOutside = (w : Context) (d : ℕ) (f : FormulaTree) (env : Env) (s : Course) (a b : ℕ) (S : Shows) → a ≤ b → Holds w d f env s a b S → IsWithin a b S
+NothingShownOutside =
+    (w : Context) (d : ℕ) (f : FormulaTree) (env : Env) (s : Course) (a b : ℕ) (S : Shows) → a ≤ b
+    → Holds w d f env s a b S → IsWithin a b S

@@ -15,12 +15,19 @@ pub record ReadTheSame (n : ℕ) (x y : State) : Type 0 where
   pub values : (v : ℕ) → v < n → x.values v ≡ y.values v
 
 abbrev pub MeaningsReadVariables : Type 0
-MeaningsReadVariables = (w : Context) (kinds : List Bool) → DefinitionsFit w.defs kinds → (d : ℕ) (f : FormulaTree) (n : ℕ) → FormulaFits w.defs kinds f n →
-    (env : Env) (s s' : Course) (a b : ℕ) (S : Shows) → a ≤ b → ((j : ℕ) → a ≤ j → j ≤ b → ReadTheSame (length kinds) (s j) (s' j)) →
+MeaningsReadVariables =
+    (w : Context) (kinds : List Bool) → DefinitionsFit w.defs kinds
+    → (d : ℕ) (f : FormulaTree) (n : ℕ) → FormulaFits w.defs kinds f n →
+    (env : Env) (s s' : Course) (a b : ℕ) (S : Shows) → a ≤ b
+    → ((j : ℕ) → a ≤ j → j ≤ b → ReadTheSame (length kinds) (s j) (s' j)) →
     Holds w d f env s a b S → Holds w d f env s' a b S
 
--- Whether an interval satisfies a program that fits depends on its states' numbers and globals alone, wherever it lies on a course.
+-- Whether an interval satisfies a program that fits depends on its states' numbers and globals
+-- alone, wherever it lies on a course.
 abbrev pub SatisfyingReadsStates : Type 0
-SatisfyingReadsStates = (p : ProgramTree) → ProgramFits p → (inputs : InputLines) (at : ℕ → ℕ) (s s' : Course) (a b : ℕ) (S S' : Shows) →
-    InStep at a b → ((j : ℕ) → a ≤ j → j ≤ b → ReadTheSame (length p.globals) (s j) (s' (at j))) → ShowsMoved at a b S S' →
+SatisfyingReadsStates =
+    (p : ProgramTree) → ProgramFits p
+    → (inputs : InputLines) (at : ℕ → ℕ) (s s' : Course) (a b : ℕ) (S S' : Shows) →
+    InStep at a b → ((j : ℕ) → a ≤ j → j ≤ b → ReadTheSame (length p.globals) (s j) (s' (at j)))
+    → ShowsMoved at a b S S' →
     Satisfies p inputs s a b S → Satisfies p inputs s' (at a) (at b) S'

@@ -60,7 +60,8 @@ mutual
     chop : FormulaTree → FormulaTree → FormulaTree
     while : ExprTree → FormulaTree → FormulaTree
     for_from : (name : List ℕ) → (from : ℤ) → (to : ExprTree) → (body : FormulaTree) → FormulaTree
-    forall_from : (name : List ℕ) → (from : ℤ) → (to : ExprTree) → (body : FormulaTree) → FormulaTree
+    forall_from : (name : List ℕ) → (from : ℤ) → (to : ExprTree) → (body : FormulaTree)
+        → FormulaTree
     project : FormulaTree → FormulaTree → FormulaTree
     exists : (name : List ℕ) → (lasting : Bool) → (body : FormulaTree) → FormulaTree
     call : (definition : ℕ) → (arguments : ExprTrees) → FormulaTree

@@ -66,7 +66,8 @@ operate Times s t = on_numbers (λ a b. num (a *ℤ b)) s t
 operate Div s t = on_divisor floor_div s t
 operate Mod s t = on_divisor (λ a b. a -ℤ (floor_div a b *ℤ b)) s t
 
--- What a bound name means along a course: a fixed value, or something that has a value or none at each position.
+-- What a bound name means along a course: a fixed value, or something that has a value or none at
+-- each position.
 pub data Meaning : Type 0 where
   fixed : Tree → Meaning
   varying : (ℕ → Option Tree) → Meaning
@@ -157,7 +158,8 @@ module _ (defs : List Definition) (calls : Calls) where
       b ← truth_of t
       if b then all_by es env s j else Some (truth false)
 
-    -- What a place means, which is a name followed by indices: the indices are read at position j, the variable varies on.
+    -- What a place means, which is a name followed by indices: the indices are read at position j,
+    -- the variable varies on.
     pub place_by : ExprTree → Env → Course → ℕ → Option Meaning
     place_by (bound i) env s j = slice_get env i
     place_by (global x) env s j = Some (varying (λ k. Some ((s k).values x.number)))
@@ -167,7 +169,8 @@ module _ (defs : List Definition) (calls : Calls) where
       element m k
     place_by _ env s j = None
 
-    -- what the parameters mean that are bound to these arguments: places where upper-case, values else
+    -- what the parameters mean that are bound to these arguments: places where upper-case, values
+    -- else
     pub arguments_by : ExprTrees → List (List ℕ) → Env → Course → ℕ → Option Env
     arguments_by no_expr [] env s j = Some []
     arguments_by (expr_then e es) (x ∷ xs) env s j = do
@@ -176,7 +179,8 @@ module _ (defs : List Definition) (calls : Calls) where
       Some (m ∷ ms)
     arguments_by _ _ env s j = None
 
--- The value of a called definition at a depth: that of its expression at one less. At depth 0 there is none.
+-- The value of a called definition at a depth: that of its expression at one less. At depth 0 there
+-- is none.
 abbrev pub calls_at : List Definition → ℕ → Calls
 calls_at defs zero p args s j = None
 calls_at defs (suc d) p args s j = do

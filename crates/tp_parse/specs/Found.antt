@@ -90,7 +90,9 @@ abbrev pub of_choice : ℕ → Found → Found → Found
 of_choice at b p = found (phrase at (t.choice b.tree p.tree)) (max b.height p.height + 1)
 
 abbrev pub of_choice_else : ℕ → Found → Found → Found → Found
-of_choice_else at b p q = found (phrase at (t.choice_else b.tree p.tree q.tree)) (max (max b.height p.height) q.height + 1)
+of_choice_else at b p q =
+    found (phrase at (t.choice_else b.tree p.tree q.tree))
+    (max (max b.height p.height) q.height + 1)
 
 abbrev pub pair_kind : Pair → PhraseTree → PhraseTree → KindTree
 pair_kind pair.While a b = t.while a b

@@ -21,7 +21,8 @@ head_taken h = λ ts. Ok (h, drop 1 ts)
 unfoldable pub name_or_call : Reader Head
 name_or_call = do
   x ← taken_name
-  λ ts. if sees (m.Symbol symbol.OpenRound) ts then Ok (Listed (listed.Call x), drop 1 ts) else Ok (Atom (atom.Name x), ts)
+  λ ts. if sees (m.Symbol symbol.OpenRound) ts then Ok (Listed (listed.Call x), drop 1 ts)
+      else Ok (Atom (atom.Name x), ts)
 
 -- a loop's word, its variable and the `<` after it
 unfoldable pub counter : Reader (List ℕ)

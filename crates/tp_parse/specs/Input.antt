@@ -140,7 +140,9 @@ unfoldable pub deepen : ℕ → Reader (Unit {0})
 deepen zero = too_deep
 deepen (suc n) = pure tt
 
--- What a function returned, seen by view, and what it left is what reading gives, unless memory ran out.
-abbrev pub ReturnsReading : {X Y : Type 0} → (X → Y) → ReadOutcome Y → Result X Refusal → Tokens → Type 0
+-- What a function returned, seen by view, and what it left is what reading gives, unless memory ran
+-- out.
+abbrev pub ReturnsReading : {X Y : Type 0} → (X → Y) → ReadOutcome Y → Result X Refusal → Tokens
+    → Type 0
 ReturnsReading view outcome (Ok x) rest = outcome ≡ Ok (view x, rest)
 ReturnsReading view outcome (Err e) rest = e ≢ NoMemory → outcome ≡ Err e

@@ -1,4 +1,5 @@
--- What a token is without its text, and what it does in a phrase. The levels of operators, and how they group, are those of tp_tree.
+-- What a token is without its text, and what it does in a phrase. The levels of operators, and how
+-- they group, are those of tp_tree.
 use Rattle.std.specs.Prelude.{ℕ, Bool, true, false, ◌==◌, if◌then◌else◌, Option, Some, None}
 use denote.Enum.Bare.{sameb}
 use Rattle.tp_lex.specs.declared.token.Kind.{Kind}

@@ -8,4 +8,5 @@ use Rattle.tp_parse.specs.Grammar.{Accepts}
 
 -- each name that stands in a source of the grammar is the text of a token that is a name
 abbrev pub NamesAreTokens : Type 0
-NamesAreTokens = (ts : Tokens) (s : SourceTree) → Accepts ts s → All (Contains (token_names ts)) (source_names s)
+NamesAreTokens =
+    (ts : Tokens) (s : SourceTree) → Accepts ts s → All (Contains (token_names ts)) (source_names s)

@@ -8,7 +8,9 @@ use Rattle.tp_parse.specs.Grammar.{Accepts}
 
 -- No tokens that begin with these, up to the one that the refusal names, are accepted.
 abbrev pub NoneGoesOn : Tokens → ParseRefusal → Type 0
-NoneGoesOn ts (Unexpected i) = (us : Tokens) (s : SourceTree) → take (i + 1) us ≡ take (i + 1) ts → ¬ Accepts us s
-NoneGoesOn ts (TooDeep i) = (us : Tokens) (s : SourceTree) → take (i + 1) us ≡ take (i + 1) ts → ¬ Accepts us s
+NoneGoesOn ts (Unexpected i) =
+    (us : Tokens) (s : SourceTree) → take (i + 1) us ≡ take (i + 1) ts → ¬ Accepts us s
+NoneGoesOn ts (TooDeep i) =
+    (us : Tokens) (s : SourceTree) → take (i + 1) us ≡ take (i + 1) ts → ¬ Accepts us s
 NoneGoesOn ts Unfinished = Unit {0}
 NoneGoesOn ts NoMemory = Unit {0}

@@ -51,7 +51,8 @@ module _ (inner : ℕ → Reader Found) (room : ℕ) where
     others_from k separator n (then_operand all a)) ts else pure all ts
 
   unfoldable pub others : ℕ → Mark → Found → Reader Operands
-  others k separator first = λ ts. others_from k separator (length ts) (operands_of (first.tree ∷ []) first.height) ts
+  others k separator first =
+      λ ts. others_from k separator (length ts) (operands_of (first.tree ∷ []) first.height) ts
 
   -- any number of operands, with commas between them and the mark after them
   unfoldable pub operands : ℕ → Mark → Reader Operands
@@ -145,7 +146,8 @@ module _ (inner : ℕ → Reader Found) (room : ℕ) where
     a ← inner k
     pure (of_prefix (from ts) o a)) ts
 
-  -- an operator of this level and its operand, or else what the level below reads and what goes on with it
+  -- an operator of this level and its operand, or else what the level below reads and what goes on
+  -- with it
   abbrev pub level_by : ℕ → Reader Found → Option Prefix → Reader Found
   level_by k lower None = λ ts. (lower >>= operations k (from ts)) ts
   level_by k lower (Some o) = prefixed k o

@@ -101,51 +101,82 @@ list_opened (k ∷ ks) = opened_by k ks
 abbrev mutual
   -- bare where its level is at most this, else in parentheses
   pub operand_kinds : ℕ → PhraseTree → List Kind → List Kind
-  operand_kinds level (phrase at k) ks = if nat_le (kind_level k) level then kind_kinds k ks else open_kind ∷ kind_kinds k (close_kind ∷ ks)
+  operand_kinds level (phrase at k) ks =
+      if nat_le (kind_level k) level then kind_kinds k ks
+      else open_kind ∷ kind_kinds k (close_kind ∷ ks)
 
   -- such operands, each behind the separator
   pub more_operands : Kind → ℕ → PhraseTrees → List Kind → List Kind
   more_operands separator level no_phrase ks = ks
-  more_operands separator level (phrase_then p ps) ks = separator ∷ operand_kinds level p (more_operands separator level ps ks)
+  more_operands separator level (phrase_then p ps) ks =
+      separator ∷ operand_kinds level p (more_operands separator level ps ks)
 
   -- with the separator between each two
   pub operands_kinds : Kind → ℕ → PhraseTrees → List Kind → List Kind
   operands_kinds separator level no_phrase ks = ks
-  operands_kinds separator level (phrase_then p ps) ks = operand_kinds level p (more_operands separator level ps ks)
+  operands_kinds separator level (phrase_then p ps) ks =
+      operand_kinds level p (more_operands separator level ps ks)
 
   -- in `<` and `>`
   pub listed_kinds : PhraseTrees → List Kind → List Kind
   listed_kinds no_phrase ks = kind.Symbol symbol.Differs ∷ ks
-  listed_kinds (phrase_then p ps) ks = list_opened (operand_kinds sum_level p (more_operands comma_kind sum_level ps (kind.Symbol symbol.Greater ∷ ks)))
+  listed_kinds (phrase_then p ps) ks =
+      list_opened (operand_kinds sum_level p
+      (more_operands comma_kind sum_level ps (kind.Symbol symbol.Greater ∷ ks)))
 
   pub kind_kinds : KindTree → List Kind → List Kind
   kind_kinds (number n) ks = kind.Number n ∷ ks
   kind_kinds (truth b) ks = truth_kind b ∷ ks
   kind_kinds (name x) ks = variable_kind x ∷ ks
   kind_kinds (list ps) ks = listed_kinds ps ks
-  kind_kinds (size p) ks = kind.Symbol symbol.Bar ∷ operand_kinds sum_level p (kind.Symbol symbol.Bar ∷ ks)
-  kind_kinds (index p q) ks = operand_kinds index_level p (kind.Symbol symbol.OpenSquare ∷ operand_kinds any_level q (kind.Symbol symbol.CloseSquare ∷ ks))
+  kind_kinds (size p) ks =
+      kind.Symbol symbol.Bar ∷ operand_kinds sum_level p (kind.Symbol symbol.Bar ∷ ks)
+  kind_kinds (index p q) ks =
+      operand_kinds index_level p
+      (kind.Symbol symbol.OpenSquare
+      ∷ operand_kinds any_level q (kind.Symbol symbol.CloseSquare ∷ ks))
   kind_kinds (minus p) ks = kind.Symbol symbol.Minus ∷ operand_kinds prefix_level p ks
   kind_kinds (next p) ks = kind.Word word.Next ∷ operand_kinds prefix_level p ks
   kind_kinds (negation p) ks = kind.Word word.Not ∷ operand_kinds not_level p ks
-  kind_kinds (binary o p q) ks = operand_kinds (left_level o) p (op_kind o ∷ operand_kinds (right_level o) q ks)
+  kind_kinds (binary o p q) ks =
+      operand_kinds (left_level o) p (op_kind o ∷ operand_kinds (right_level o) q ks)
   kind_kinds (conjunction ps) ks = operands_kinds (kind.Word word.And) not_level ps ks
-  kind_kinds (choice b p) ks = kind.Word word.If ∷ operand_kinds any_level b (kind.Word word.Then ∷ operand_kinds chop_level p ks)
-  kind_kinds (choice_else b p q) ks = kind.Word word.If ∷ operand_kinds any_level b (kind.Word word.Then ∷ operand_kinds chop_level p (kind.Word word.Else ∷ operand_kinds any_level q ks))
-  kind_kinds (while b p) ks = kind.Word word.While ∷ operand_kinds any_level b (kind.Word word.Do ∷ operand_kinds any_level p ks)
-  kind_kinds (repeat p b) ks = kind.Word word.Repeat ∷ operand_kinds any_level p (kind.Word word.Until ∷ operand_kinds any_level b ks)
-  kind_kinds (for x e p) ks = kind.Word word.For ∷ kind.Lower x ∷ kind.Symbol symbol.Less ∷ operand_kinds any_level e (kind.Word word.Do ∷ operand_kinds any_level p ks)
-  kind_kinds (forall x e p) ks = kind.Word word.Forall ∷ kind.Lower x ∷ kind.Symbol symbol.Less ∷ operand_kinds any_level e (kind.Symbol symbol.Colon ∷ operand_kinds any_level p ks)
-  kind_kinds (exists xs p) ks = kind.Word word.Exists ∷ name_kinds xs (kind.Symbol symbol.Colon ∷ operand_kinds any_level p ks)
+  kind_kinds (choice b p) ks =
+      kind.Word word.If ∷ operand_kinds any_level b
+      (kind.Word word.Then ∷ operand_kinds chop_level p ks)
+  kind_kinds (choice_else b p q) ks =
+      kind.Word word.If ∷ operand_kinds any_level b
+      (kind.Word word.Then
+      ∷ operand_kinds chop_level p (kind.Word word.Else ∷ operand_kinds any_level q ks))
+  kind_kinds (while b p) ks =
+      kind.Word word.While
+      ∷ operand_kinds any_level b (kind.Word word.Do ∷ operand_kinds any_level p ks)
+  kind_kinds (repeat p b) ks =
+      kind.Word word.Repeat
+      ∷ operand_kinds any_level p (kind.Word word.Until ∷ operand_kinds any_level b ks)
+  kind_kinds (for x e p) ks =
+      kind.Word word.For ∷ kind.Lower x ∷ kind.Symbol symbol.Less
+      ∷ operand_kinds any_level e (kind.Word word.Do ∷ operand_kinds any_level p ks)
+  kind_kinds (forall x e p) ks =
+      kind.Word word.Forall ∷ kind.Lower x ∷ kind.Symbol symbol.Less
+      ∷ operand_kinds any_level e (kind.Symbol symbol.Colon ∷ operand_kinds any_level p ks)
+  kind_kinds (exists xs p) ks =
+      kind.Word word.Exists
+      ∷ name_kinds xs (kind.Symbol symbol.Colon ∷ operand_kinds any_level p ks)
   kind_kinds (bare w) ks = bare_kind w ∷ ks
-  kind_kinds (form f ps) ks = form_kind f ∷ open_kind ∷ operands_kinds comma_kind any_level ps (close_kind ∷ ks)
-  kind_kinds (call x ps) ks = kind.Lower x ∷ open_kind ∷ operands_kinds comma_kind any_level ps (close_kind ∷ ks)
+  kind_kinds (form f ps) ks =
+      form_kind f ∷ open_kind ∷ operands_kinds comma_kind any_level ps (close_kind ∷ ks)
+  kind_kinds (call x ps) ks =
+      kind.Lower x ∷ open_kind ∷ operands_kinds comma_kind any_level ps (close_kind ∷ ks)
 
 abbrev pub phrase_kinds : PhraseTree → List Kind → List Kind
 phrase_kinds (phrase at k) ks = kind_kinds k ks
 
 abbrev pub definition_kinds : DefinitionTree → List Kind → List Kind
-definition_kinds d ks = kind.Word word.Define ∷ kind.Lower d.name ∷ open_kind ∷ name_kinds d.parameters (close_kind ∷ kind.Symbol symbol.Equal ∷ phrase_kinds d.body (kind.Symbol symbol.Stop ∷ ks))
+definition_kinds d ks =
+    kind.Word word.Define ∷ kind.Lower d.name ∷ open_kind
+    ∷ name_kinds d.parameters
+    (close_kind ∷ kind.Symbol symbol.Equal ∷ phrase_kinds d.body (kind.Symbol symbol.Stop ∷ ks))
 
 abbrev pub definitions_kinds : List DefinitionTree → List Kind → List Kind
 definitions_kinds [] ks = ks
@@ -153,7 +184,9 @@ definitions_kinds (d ∷ ds) ks = definition_kinds d (definitions_kinds ds ks)
 
 -- the kinds of all the tokens of the source's canonical spelling
 abbrev pub source_kinds : SourceTree → List Kind
-source_kinds s = definitions_kinds s.definitions (kind.Word word.Run ∷ phrase_kinds s.main (kind.Symbol symbol.Stop ∷ []))
+source_kinds s =
+    definitions_kinds s.definitions
+    (kind.Word word.Run ∷ phrase_kinds s.main (kind.Symbol symbol.Stop ∷ []))
 
 -- a chain has two operands at least, and an `exists` one name
 abbrev pub HasTwo : PhraseTrees → Type 0
@@ -204,8 +237,8 @@ AreWholeBodies (d ∷ ds) = IsWhole d.body × AreWholeBodies ds
 abbrev pub IsWholeSource : SourceTree → Type 0
 IsWholeSource s = AreWholeBodies s.definitions × IsWhole s.main
 
--- The tokens are a source that is the same up to places, and no other. They are parsed so where no phrase is too high with its
--- parentheses.
+-- The tokens are a source that is the same up to places, and no other. They are parsed so where no
+-- phrase is too high with its parentheses.
 pub record ReadsBack (us : Tokens) (s : SourceTree) : Type 0 where
   pub tree : SourceTree
   pub height : ℕ
@@ -220,4 +253,6 @@ SourcesAreWhole = (ts : Tokens) (s : SourceTree) → Accepts ts s → IsWholeSou
 
 -- whatever tokens a whole source is spelled with, they are read back
 abbrev pub SpellingsAreReadBack : Type 0
-SpellingsAreReadBack = (us : Tokens) (s : SourceTree) → IsWholeSource s → token_kinds us ≡ source_kinds s → ReadsBack us s
+SpellingsAreReadBack =
+    (us : Tokens) (s : SourceTree) → IsWholeSource s → token_kinds us ≡ source_kinds s
+    → ReadsBack us s

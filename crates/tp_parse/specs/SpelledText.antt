@@ -1,4 +1,5 @@
--- The canonical spelling of a source that was read from a text is a text that is read back as the source.
+-- The canonical spelling of a source that was read from a text is a text that is read back as the
+-- source.
 use Rattle.std.specs.Prelude.{Result, Ok, Err, ◌≢◌, ◌<◌, ◌≡◌, ℕ, ℤ, pos, ◌≤◌, false, List, [], ◌∷◌, length, slice_index}
 use Rattle.std.specs.Char.{is_ascii_uppercase}
 use Rattle.tp_value.specs.Number.{number_limit}
@@ -82,26 +83,35 @@ IsSpellableSource s = AreSpellableDefinitions s.definitions × IsSpellable s.mai
 
 -- a source of a text has names and numbers that may stand in one
 abbrev pub SourcesAreSpellable : Type 0
-SourcesAreSpellable = (bytes : List ℕ) (ts : Tokens) (s : SourceTree) → AreTokens bytes ts → Accepts ts s → IsSpellableSource s
+SourcesAreSpellable =
+    (bytes : List ℕ) (ts : Tokens) (s : SourceTree) → AreTokens bytes ts → Accepts ts s
+    → IsSpellableSource s
 
 -- the tokens of the canonical spelling
 abbrev pub SpellingsHaveTheirTokens : Type 0
-SpellingsHaveTheirTokens = (s : SourceTree) → IsWholeSource s → IsSpellableSource s → (us : List Token) × (AreTokens (source_spelling s) us) × (token_kinds us ≡ source_kinds s)
+SpellingsHaveTheirTokens =
+    (s : SourceTree) → IsWholeSource s → IsSpellableSource s
+    → (us : List Token) × (AreTokens (source_spelling s) us) × (token_kinds us ≡ source_kinds s)
 
 -- A source is read from its canonical spelling, up to places.
 abbrev pub PrintedIsReadBack : Type 0
-PrintedIsReadBack = (bytes : List ℕ) (ts : Tokens) (s : SourceTree) → AreTokens bytes ts → Accepts ts s → (us : List Token) × (AreTokens (source_spelling s) us) × ReadsBack us s
+PrintedIsReadBack =
+    (bytes : List ℕ) (ts : Tokens) (s : SourceTree) → AreTokens bytes ts → Accepts ts s
+    → (us : List Token) × (AreTokens (source_spelling s) us) × ReadsBack us s
 
 -- Sources that are the same up to places have one spelling, so to print twice is to print once.
 abbrev pub OneSpelling : Type 0
 OneSpelling = (s t : SourceTree) → IsSameUpToPlaces s t → source_spelling s ≡ source_spelling t
 
--- What is answered for the tokens of a source's spelling: the source, up to places, unless some phrase is too high with its
--- parentheses, or memory ran out.
+-- What is answered for the tokens of a source's spelling: the source, up to places, unless some
+-- phrase is too high with its parentheses, or memory ran out.
 abbrev pub AnswersPrinted : Tokens → SourceTree → Result Source ParseRefusal → Type 0
 AnswersPrinted us s (Ok x) = IsSameUpToPlaces (source_tree x) s
-AnswersPrinted us s (Err e) = e ≢ NoMemory → (t : SourceTree) × (height : ℕ) × IsSource us t height × (limit < height)
+AnswersPrinted us s (Err e) =
+    e ≢ NoMemory → (t : SourceTree) × (height : ℕ) × IsSource us t height × (limit < height)
 
 -- where the tokens are those of the spelling of a source that was read from a text
 abbrev pub ParsesPrinted : Tokens → Result Source ParseRefusal → Type 0
-ParsesPrinted us result = (bytes : List ℕ) (ts : Tokens) (s : SourceTree) → AreTokens bytes ts → Accepts ts s → AreTokens (source_spelling s) us → AnswersPrinted us s result
+ParsesPrinted us result =
+    (bytes : List ℕ) (ts : Tokens) (s : SourceTree) → AreTokens bytes ts → Accepts ts s
+    → AreTokens (source_spelling s) us → AnswersPrinted us s result

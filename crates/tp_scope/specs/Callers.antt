@@ -26,8 +26,10 @@ abbrev pub IsListed : List (List ℕ) → (j i : ℕ) → Type 0
 IsListed lists j i = (is : List ℕ) × (slice_get lists j ≡ Some is) × Contains is i
 
 -- a number comes into each of the lists with these numbers, and nothing else does
-abbrev pub IsListedToo : (old : List (List ℕ)) → (numbers : List ℕ) → ℕ → (new : List (List ℕ)) → Type 0
-IsListedToo old numbers n new = (j i : ℕ) → IsListed new j i ↔ (IsListed old j i ⊎ (Contains numbers j × (i ≡ n)))
+abbrev pub IsListedToo : (old : List (List ℕ)) → (numbers : List ℕ) → ℕ → (new : List (List ℕ))
+    → Type 0
+IsListedToo old numbers n new =
+    (j i : ℕ) → IsListed new j i ↔ (IsListed old j i ⊎ (Contains numbers j × (i ≡ n)))
 
 -- the j-th of the lists has the numbers of those definitions whose bodies call the j-th one
 pub record AreCallers (ds : List DefinitionTree) (callers : List (List ℕ)) : Type 0 where

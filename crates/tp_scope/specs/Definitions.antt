@@ -8,7 +8,8 @@ use Rattle.tp_scope.specs.Scope.{Signature, Called, called_of}
 
 -- what calls know of definitions, where `states` says of each whether it is a state definition
 abbrev pub signatures_of : List DefinitionTree → (states : List Bool) → List Signature
-signatures_of (d ∷ ds) (b ∷ bs) = record { name = d.name; parameters = d.parameters; is_state = b } ∷ signatures_of ds bs
+signatures_of (d ∷ ds) (b ∷ bs) =
+    record { name = d.name; parameters = d.parameters; is_state = b } ∷ signatures_of ds bs
 signatures_of [] bs = []
 signatures_of (d ∷ ds) [] = []
 
@@ -20,7 +21,8 @@ is_state_called None = false
 abbrev pub calls_state : List Signature → List ℕ → Bool
 calls_state definitions x = is_state_called (called_of definitions x)
 
--- The body of the definition with the number i calls the one with the number j, which is the first of its name.
+-- The body of the definition with the number i calls the one with the number j, which is the first
+-- of its name.
 pub record CallsDefinition (ds : List DefinitionTree) (i j : ℕ) : Type 0 where
   pub caller : DefinitionTree
   pub name : List ℕ
@@ -34,9 +36,12 @@ pub data Reaches (ds : List DefinitionTree) : (from to : ℕ) → Type 0 where
   itself : (i : ℕ) → Reaches ds i i
   by_call : (i j k : ℕ) → CallsDefinition ds i j → Reaches ds j k → Reaches ds i k
 
--- A state definition: each body that is reached from it says something of one state, whatever it calls.
+-- A state definition: each body that is reached from it says something of one state, whatever it
+-- calls.
 abbrev pub IsStateDefinition : List DefinitionTree → ℕ → Type 0
-IsStateDefinition ds i = (j : ℕ) (d : DefinitionTree) → Reaches ds i j → slice_get ds j ≡ Some d → is_state_phrase (λ x. true) d.body ≡ true
+IsStateDefinition ds i =
+    (j : ℕ) (d : DefinitionTree) → Reaches ds i j → slice_get ds j ≡ Some d
+    → is_state_phrase (λ x. true) d.body ≡ true
 
 -- `states` says of each of the definitions whether it is a state definition
 pub record AreStates (ds : List DefinitionTree) (states : List Bool) : Type 0 where

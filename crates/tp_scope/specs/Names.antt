@@ -16,12 +16,16 @@ has_repeat (x ∷ xs) = list_any (bytes_eq x) xs || has_repeat xs
 abbrev pub AreApart : Names → Type 0
 AreApart xs = has_repeat xs ≡ false
 
--- the place of the first definition that has the name of one before it or has a parameter twice, where these names stand before
+-- the place of the first definition that has the name of one before it or has a parameter twice,
+-- where these names stand before
 abbrev pub twice_defined : Names → List DefinitionTree → Option ℕ
 twice_defined before [] = None
-twice_defined before (d ∷ ds) = if list_any (bytes_eq d.name) before || has_repeat d.parameters then Some d.at else twice_defined (before ++ d.name ∷ []) ds
+twice_defined before (d ∷ ds) =
+    if list_any (bytes_eq d.name) before || has_repeat d.parameters then Some d.at
+    else twice_defined (before ++ d.name ∷ []) ds
 
--- the names, and behind them those of the others that are not yet there, each once and in the order of their first occurrences
+-- the names, and behind them those of the others that are not yet there, each once and in the order
+-- of their first occurrences
 abbrev pub names_with : Names → Names → Names
 names_with names others = fold with_name names others
 
@@ -30,8 +34,9 @@ abbrev pub unless_bound : Option ℕ → List ℕ → Names
 unless_bound (Some i) x = []
 unless_bound None x = x ∷ []
 
--- The names of variables in a phrase that stands in this scope, in the order of the text. A port is no variable, so an `input` has the names of
--- its first operand alone. An `exists` that binds a name twice is refused, so what stands in it plays no part.
+-- The names of variables in a phrase that stands in this scope, in the order of the text. A port is
+-- no variable, so an `input` has the names of its first operand alone. An `exists` that binds a
+-- name twice is refused, so what stands in it plays no part.
 abbrev mutual
   pub names_in : (scope : Names) → PhraseTree → Names
   names_in scope (phrase at kind) = names_in_kind scope kind
@@ -49,7 +54,8 @@ abbrev mutual
   names_in_kind scope (binary o l r) = names_in scope l ++ names_in scope r
   names_in_kind scope (conjunction ps) = names_in_all scope ps
   names_in_kind scope (choice b p) = names_in scope b ++ names_in scope p
-  names_in_kind scope (choice_else b p q) = (names_in scope b ++ names_in scope p) ++ names_in scope q
+  names_in_kind scope (choice_else b p q) =
+      (names_in scope b ++ names_in scope p) ++ names_in scope q
   names_in_kind scope (while b p) = names_in scope b ++ names_in scope p
   names_in_kind scope (repeat p b) = names_in scope p ++ names_in scope b
   names_in_kind scope (for x e p) = names_in scope e ++ names_in (x ∷ scope) p

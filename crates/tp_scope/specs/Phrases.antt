@@ -1,4 +1,5 @@
--- Which phrases are states and places, how many operands a form takes, and what stands behind `next`.
+-- Which phrases are states and places, how many operands a form takes, and what stands behind
+-- `next`.
 use Rattle.std.specs.Prelude.{ℕ, suc, ◌+◌, ◌&&◌, Bool, true, false, nat_eq, nat_lt, List, [], ◌++◌, ◌∷◌}
 use Rattle.tp_value.specs.Globals.{is_lower}
 use Rattle.tp_tree.specs.declared.operator.Op.{Op}
@@ -27,8 +28,9 @@ is_state_operator Times = true
 is_state_operator Div = true
 is_state_operator Mod = true
 
--- A state phrase says something of one state: it has none of `;`, `proj`, `gets`, `<-`, `:=`, `next`, loops, `for`, `forall`, `exists`, bare
--- words, forms and `if` without `else`, and calls only what may be called from it.
+-- A state phrase says something of one state: it has none of `;`, `proj`, `gets`, `<-`, `:=`,
+-- `next`, loops, `for`, `forall`, `exists`, bare words, forms and `if` without `else`, and calls
+-- only what may be called from it.
 module _ (may_call : List ℕ → Bool) where
   abbrev mutual
     pub is_state_phrase : PhraseTree → Bool
@@ -45,7 +47,8 @@ module _ (may_call : List ℕ → Bool) where
     is_state_kind (negation p) = is_state_phrase p
     is_state_kind (binary o l r) = is_state_operator o && (is_state_phrase l && is_state_phrase r)
     is_state_kind (conjunction ps) = are_state_phrases ps
-    is_state_kind (choice_else b p q) = is_state_phrase b && (is_state_phrase p && is_state_phrase q)
+    is_state_kind (choice_else b p q) =
+        is_state_phrase b && (is_state_phrase p && is_state_phrase q)
     is_state_kind (call x ps) = may_call x && are_state_phrases ps
     is_state_kind (next p) = false
     is_state_kind (choice b p) = false

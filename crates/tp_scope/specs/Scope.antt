@@ -8,14 +8,16 @@ use Rattle.tp_meaning.specs.Syntax.{ExprTree, bound, global}
 abbrev pub Names : Type 0
 Names = List (List ℕ)
 
--- what a call can know of a definition: its name, its parameters' names, and whether it is a state definition
+-- what a call can know of a definition: its name, its parameters' names, and whether it is a state
+-- definition
 pub record Signature : Type 0 where
   pub name : List ℕ
   pub parameters : Names
   pub is_state : Bool
 
--- What can be read where a phrase stands: the definitions, the names of the program's variables, each by its number, and its scope, which is
--- the names that are bound there, the innermost first. One name may be bound more than once.
+-- What can be read where a phrase stands: the definitions, the names of the program's variables,
+-- each by its number, and its scope, which is the names that are bound there, the innermost first.
+-- One name may be bound more than once.
 pub record VisibleNames : Type 0 where
   pub definitions : List Signature
   pub globals : Names
@@ -23,7 +25,8 @@ pub record VisibleNames : Type 0 where
 
 -- inside of what binds one name more
 abbrev pub with_binder : List ℕ → VisibleNames → VisibleNames
-with_binder x names = record { definitions = names.definitions; globals = names.globals; scope = x ∷ names.scope }
+with_binder x names =
+    record { definitions = names.definitions; globals = names.globals; scope = x ∷ names.scope }
 
 -- a scope inside of what binds these names, of which each later one is the inner
 abbrev pub bound_in : Names → Names → Names
@@ -31,9 +34,15 @@ bound_in scope [] = scope
 bound_in scope (x ∷ xs) = bound_in (x ∷ scope) xs
 
 abbrev pub with_binders : Names → VisibleNames → VisibleNames
-with_binders xs names = record { definitions = names.definitions; globals = names.globals; scope = bound_in names.scope xs }
+with_binders xs names =
+    record {
+      definitions = names.definitions;
+      globals = names.globals;
+      scope = bound_in names.scope xs;
+    }
 
--- The innermost binder of this name in a scope, if there is one. Its number is how many binders stand outside of it.
+-- The innermost binder of this name in a scope, if there is one. Its number is how many binders
+-- stand outside of it.
 abbrev pub binder_of : Names → List ℕ → Option ℕ
 binder_of [] x = None
 binder_of (y ∷ outer) x = if bytes_eq x y then Some (length outer) else binder_of outer x
@@ -56,7 +65,9 @@ pub record Called : Type 0 where
 -- the first of this name, where the first of all has the number i
 abbrev pub called_from : (i : ℕ) → List Signature → List ℕ → Option Called
 called_from i [] x = None
-called_from i (d ∷ ds) x = if bytes_eq x d.name then Some (record { number = i; signature = d }) else called_from (suc i) ds x
+called_from i (d ∷ ds) x =
+    if bytes_eq x d.name then Some (record { number = i; signature = d })
+    else called_from (suc i) ds x
 
 -- what a call of this name calls, if it is a definition's
 abbrev pub called_of : List Signature → List ℕ → Option Called

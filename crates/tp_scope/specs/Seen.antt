@@ -19,7 +19,8 @@ use Rattle.tp_scope.specs.declared.scope.Visible.{Visible}
 abbrev pub apart : Names → Option Names
 apart xs = if has_repeat xs then None else Some xs
 
--- the number of a name's binder among some that are bound together, by its place there, or else among those outside of them
+-- the number of a name's binder among some that are bound together, by its place there, or else
+-- among those outside of them
 abbrev pub binder_among : (outer : Names) → List ℕ → (place : Option ℕ) → Option ℕ
 binder_among outer x (Some i) = Some (length outer + i)
 binder_among outer x None = binder_of outer x
@@ -46,7 +47,9 @@ signatures_seen d = map (λ e. signature_seen e.0 e.1) d.signatures.entries
 
 -- what is called, but for its name
 abbrev pub IsCallee : Callee → Called → Type 0
-IsCallee c d = (c.number ≡ d.number) × (c.signature.parameters.now ≡ d.signature.parameters) × (c.signature.is_state ≡ d.signature.is_state)
+IsCallee c d =
+    (c.number ≡ d.number) × (c.signature.parameters.now ≡ d.signature.parameters)
+    × (c.signature.is_state ≡ d.signature.is_state)
 
 -- what a call of some name calls, if it calls a definition
 abbrev pub IsFound : Option Called → Option Callee → Type 0
@@ -65,4 +68,9 @@ may_call (StatesOf directory) x = calls_state (signatures_seen directory.now) x
 
 -- what can be read
 abbrev pub names_seen : Visible → VisibleNames
-names_seen names = record { definitions = signatures_seen names.directory.now; globals = names.globals.now; scope = names_bound names.scope.now }
+names_seen names =
+    record {
+      definitions = signatures_seen names.directory.now;
+      globals = names.globals.now;
+      scope = names_bound names.scope.now;
+    }

@@ -69,4 +69,6 @@ AreParts i (p ∷ ps) = IsPart i p × AreParts (suc i) ps
 
 -- each state variable has no facts, or its number is one of these
 abbrev pub AreTouched : List ℕ → List VariableFacts → Type 0
-AreTouched numbers ps = (k : ℕ) (p : VariableFacts) → slice_get ps k ≡ Some p → p.variable.lasting ≡ false → (p.facts ≡ []) ⊎ Contains numbers k
+AreTouched numbers ps =
+    (k : ℕ) (p : VariableFacts) → slice_get ps k ≡ Some p → p.variable.lasting ≡ false
+    → (p.facts ≡ []) ⊎ Contains numbers k

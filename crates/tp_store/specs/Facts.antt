@@ -35,7 +35,8 @@ has_item (Items n) k = nat_lt k n
 has_item (Num n) k = false
 has_item (Truth b) k = false
 
--- A shape at the indices `at` leaves no element at the indices `beyond`: these go on from `at` with an index that the shape has no item for.
+-- A shape at the indices `at` leaves no element at the indices `beyond`: these go on from `at` with
+-- an index that the shape has no item for.
 abbrev pub leaves_out : (at : List ℕ) → Shape → (beyond : List ℕ) → Bool
 leaves_out [] sh [] = false
 leaves_out [] sh (k ∷ ks) = not (has_item sh k)
@@ -48,9 +49,12 @@ excludes f p = same_variable f.path.var p.var && leaves_out f.path.at f.shape p.
 
 -- Two facts clash where they give one path two shapes, or where one excludes the other's path.
 abbrev pub clash : Fact → Fact → Bool
-clash f g = (same_path f.path g.path && not (same_shape f.shape g.shape)) || (excludes f g.path || excludes g f.path)
+clash f g =
+    (same_path f.path g.path && not (same_shape f.shape g.shape))
+    || (excludes f g.path || excludes g f.path)
 
--- The shape that a fact of the list gives to the path. In a list without a clash there is one such shape at most.
+-- The shape that a fact of the list gives to the path. In a list without a clash there is one such
+-- shape at most.
 abbrev pub kept_shape : List Fact → Path → Option Shape
 kept_shape [] p = None
 kept_shape (f ∷ fs) p = if same_path f.path p then Some f.shape else kept_shape fs p

@@ -24,7 +24,8 @@ abbrev pub NoClash : List Fact → Type 0
 NoClash [] = Unit {0}
 NoClash (f ∷ fs) = (kept_shape fs f.path ≡ None) × (clashes_with_some fs f ≡ false) × NoClash fs
 
--- the lesser indices come first: fewer, or as many and with the lesser index where they first differ
+-- the lesser indices come first: fewer, or as many and with the lesser index where they first
+-- differ
 abbrev pub is_lesser : List ℕ → List ℕ → Bool
 is_lesser [] [] = false
 is_lesser [] (k ∷ ks) = true
@@ -41,12 +42,15 @@ abbrev pub earlier_of : Fact → Option Fact → Fact
 earlier_of f None = f
 earlier_of f (Some g) = if is_earlier g f then g else f
 
--- of the facts that clash with this one, that with the fewest indices, and among these with the lesser ones
+-- of the facts that clash with this one, that with the fewest indices, and among these with the
+-- lesser ones
 abbrev pub first_clash : List Fact → Fact → Option Fact
 first_clash [] f = None
-first_clash (g ∷ gs) f = if clash g f then Some (earlier_of g (first_clash gs f)) else first_clash gs f
+first_clash (g ∷ gs) f =
+    if clash g f then Some (earlier_of g (first_clash gs f)) else first_clash gs f
 
--- what comes of adding facts: those that are new, or the first of them that clashes, with the kept one that it clashes with
+-- what comes of adding facts: those that are new, or the first of them that clashes, with the kept
+-- one that it clashes with
 pub data Addition : Type 0 where
   adds : List Fact → Addition
   refuses : (kept new : Fact) → Addition
@@ -96,8 +100,8 @@ with_shape item p (Some (Num n)) = known (num n)
 with_shape item p (Some (Truth b)) = known (truth b)
 with_shape item p (Some (Items n)) = list_of_items (items_known item p n 0)
 
--- The whole value at a path, where no kept path has as many as `deeper` indices more: its items are looked at from the left, each with all
--- that is in it.
+-- The whole value at a path, where no kept path has as many as `deeper` indices more: its items are
+-- looked at from the left, each with all that is in it.
 abbrev pub whole : (deeper : ℕ) → List Fact → Path → Whole
 whole zero facts p = open_at p
 whole (suc d) facts p = with_shape (whole d facts) p (kept_shape facts p)
@@ -107,8 +111,8 @@ abbrev pub deepest : List Fact → ℕ
 deepest [] = 0
 deepest (f ∷ fs) = max (length f.path.at) (deepest fs)
 
--- What is known of the value at a path: there is no such element, the shape of this path isn't kept yet, it is longer than a list may be, or
--- it is this value.
+-- What is known of the value at a path: there is no such element, the shape of this path isn't kept
+-- yet, it is longer than a list may be, or it is this value.
 pub data Full : Type 0 where
   absent : Full
   undecided : Path → Full
@@ -127,7 +131,8 @@ pub record Variable : Type 0 where
   pub name : List ℕ
   pub lasting : Bool
 
--- What a store holds: its facts, whose order is open, and its variables, of which the i-th, from 0, has number i.
+-- What a store holds: its facts, whose order is open, and its variables, of which the i-th, from 0,
+-- has number i.
 pub record Contents : Type 0 where
   pub facts : List Fact
   pub variables : List Variable

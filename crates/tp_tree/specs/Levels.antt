@@ -1,5 +1,5 @@
--- How loosely the parts of a phrase hang together: its level. It counts up from the phrases that stand by themselves, 0, to those
--- that reach as far to the right as they can, 11.
+-- How loosely the parts of a phrase hang together: its level. It counts up from the phrases that
+-- stand by themselves, 0, to those that reach as far to the right as they can, 11.
 use Rattle.std.specs.Prelude.{ℕ, ◌-◌}
 use Rattle.tp_tree.specs.declared.operator.Op.{Op}
 use Rattle.tp_tree.specs.declared.operator.Op.TheVariants as op
@@ -81,8 +81,8 @@ grouping op.Times = Left
 grouping op.Div = Left
 grouping op.Mod = Left
 
--- where operators of a level group so, the highest level that a left operand has without parentheses: that of the operator, where
--- they group to the left, else the one below
+-- where operators of a level group so, the highest level that a left operand has without
+-- parentheses: that of the operator, where they group to the left, else the one below
 abbrev pub level_left_of : Grouping → ℕ → ℕ
 level_left_of Left level = level
 level_left_of Single level = level - 1

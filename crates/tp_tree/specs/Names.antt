@@ -1,4 +1,5 @@
--- The names that stand in phrases, definitions and sources: those of variables, of calls, and those that are bound or defined.
+-- The names that stand in phrases, definitions and sources: those of variables, of calls, and those
+-- that are bound or defined.
 use Rattle.std.specs.Prelude.{ℕ, List, [], ◌∷◌, ◌++◌}
 use Rattle.tp_tree.specs.Tree.{PhraseTree, phrase, KindTree, number, truth, name, list, size, index, minus, next, negation, binary, conjunction, choice, choice_else, while, repeat, for, forall, exists, bare, form, call, PhraseTrees, no_phrase, phrase_then, DefinitionTree, SourceTree}
 

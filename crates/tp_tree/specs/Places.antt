@@ -38,7 +38,8 @@ abbrev pub unplaced_definition : DefinitionTree → DefinitionTree
 unplaced_definition d = record d { at = 0; body = unplaced d.body }
 
 abbrev pub unplaced_source : SourceTree → SourceTree
-unplaced_source s = record { definitions = map unplaced_definition s.definitions; main = unplaced s.main }
+unplaced_source s =
+    record { definitions = map unplaced_definition s.definitions; main = unplaced s.main }
 
 -- the sources are equal up to places
 abbrev pub IsSameUpToPlaces : SourceTree → SourceTree → Type 0

@@ -50,7 +50,12 @@ abbrev pub phrase_trees : Phrases → PhraseTrees
 phrase_trees = fold-Phrases KindTree PhraseTree PhraseTrees kind_step phrase_step phrases_step
 
 abbrev pub definition_tree : Definition → DefinitionTree
-definition_tree d = record { name = d.name; at = d.at; parameters = d.parameters; body = phrase_tree d.body }
+definition_tree d =
+    record { name = d.name; at = d.at; parameters = d.parameters; body = phrase_tree d.body }
 
 abbrev pub source_tree : Source → SourceTree
-source_tree s = record { definitions = map definition_tree s.definitions.items.items; main = phrase_tree s.main }
+source_tree s =
+    record {
+      definitions = map definition_tree s.definitions.items.items;
+      main = phrase_tree s.main;
+    }

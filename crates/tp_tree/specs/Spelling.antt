@@ -62,12 +62,15 @@ abbrev mutual
 
   -- bare where its level is at most this, else in parentheses
   pub operand_spelling : ℕ → PhraseTree → List ℕ
-  operand_spelling level (phrase at k) = if nat_le (kind_level k) level then kind_spelling k else codes "(" ++ kind_spelling k ++ codes ")"
+  operand_spelling level (phrase at k) =
+      if nat_le (kind_level k) level then kind_spelling k
+      else codes "(" ++ kind_spelling k ++ codes ")"
 
   -- several such operands, the first behind `opening` and each other one behind `separator`
   pub operands_spelling : (opening separator : List ℕ) → ℕ → PhraseTrees → List ℕ
   operands_spelling opening separator level no_phrase = []
-  operands_spelling opening separator level (phrase_then p ps) = opening ++ operand_spelling level p ++ operands_spelling separator separator level ps
+  operands_spelling opening separator level (phrase_then p ps) =
+      opening ++ operand_spelling level p ++ operands_spelling separator separator level ps
 
   pub kind_spelling : KindTree → List ℕ
   kind_spelling (number n) = signed_decimal n
@@ -75,26 +78,40 @@ abbrev mutual
   kind_spelling (name x) = x
   kind_spelling (list ps) = codes "<" ++ operands_spelling [] (codes ", ") sum_level ps ++ codes ">"
   kind_spelling (size p) = codes "|" ++ operand_spelling sum_level p ++ codes "|"
-  kind_spelling (index p q) = operand_spelling index_level p ++ codes "[" ++ operand_spelling any_level q ++ codes "]"
+  kind_spelling (index p q) =
+      operand_spelling index_level p ++ codes "[" ++ operand_spelling any_level q ++ codes "]"
   kind_spelling (minus p) = codes "-" ++ operand_spelling prefix_level p
   kind_spelling (next p) = codes "next " ++ operand_spelling prefix_level p
   kind_spelling (negation p) = codes "not " ++ operand_spelling not_level p
-  kind_spelling (binary o p q) = operand_spelling (left_level o) p ++ codes " " ++ op_spelling o ++ codes " " ++ operand_spelling (right_level o) q
+  kind_spelling (binary o p q) =
+      operand_spelling (left_level o) p ++ codes " " ++ op_spelling o ++ codes " "
+      ++ operand_spelling (right_level o) q
   kind_spelling (conjunction ps) = operands_spelling [] (codes " and ") not_level ps
-  kind_spelling (choice b p) = codes "if " ++ operand_spelling any_level b ++ codes " then " ++ operand_spelling chop_level p
-  kind_spelling (choice_else b p q) = codes "if " ++ operand_spelling any_level b ++ codes " then " ++ operand_spelling chop_level p ++ codes " else " ++ operand_spelling any_level q
+  kind_spelling (choice b p) =
+      codes "if " ++ operand_spelling any_level b ++ codes " then " ++ operand_spelling chop_level p
+  kind_spelling (choice_else b p q) =
+      codes "if " ++ operand_spelling any_level b ++ codes " then " ++ operand_spelling chop_level p
+      ++ codes " else " ++ operand_spelling any_level q
   kind_spelling (while b p) = codes "while " ++ operand_spelling any_level b ++ codes " do " ++ operand_spelling any_level p
-  kind_spelling (repeat p b) = codes "repeat " ++ operand_spelling any_level p ++ codes " until " ++ operand_spelling any_level b
+  kind_spelling (repeat p b) =
+      codes "repeat " ++ operand_spelling any_level p ++ codes " until "
+      ++ operand_spelling any_level b
   kind_spelling (for x e p) = (codes "for " ++ x ++ codes " < " ++ operand_spelling any_level e) ++ codes " do " ++ operand_spelling any_level p
-  kind_spelling (forall x e p) = (codes "forall " ++ x ++ codes " < " ++ operand_spelling any_level e) ++ codes " : " ++ operand_spelling any_level p
-  kind_spelling (exists xs p) = codes "exists " ++ names_spelling [] xs ++ codes " : " ++ operand_spelling any_level p
+  kind_spelling (forall x e p) =
+      (codes "forall " ++ x ++ codes " < " ++ operand_spelling any_level e) ++ codes " : "
+      ++ operand_spelling any_level p
+  kind_spelling (exists xs p) =
+      codes "exists " ++ names_spelling [] xs ++ codes " : " ++ operand_spelling any_level p
   kind_spelling (bare w) = bare_spelling w
-  kind_spelling (form f ps) = form_spelling f ++ codes "(" ++ operands_spelling [] (codes ", ") any_level ps ++ codes ")"
-  kind_spelling (call x ps) = x ++ codes "(" ++ operands_spelling [] (codes ", ") any_level ps ++ codes ")"
+  kind_spelling (form f ps) =
+      form_spelling f ++ codes "(" ++ operands_spelling [] (codes ", ") any_level ps ++ codes ")"
+  kind_spelling (call x ps) =
+      x ++ codes "(" ++ operands_spelling [] (codes ", ") any_level ps ++ codes ")"
 
 -- a form or a call: its word and its operands
 abbrev pub called_spelling : List ℕ → PhraseTrees → List ℕ
-called_spelling word ps = word ++ codes "(" ++ operands_spelling [] (codes ", ") any_level ps ++ codes ")"
+called_spelling word ps =
+    word ++ codes "(" ++ operands_spelling [] (codes ", ") any_level ps ++ codes ")"
 
 -- the word of a loop, its variable and its bound
 abbrev pub counter_spelling : List ℕ → List ℕ → PhraseTree → List ℕ
@@ -102,7 +119,9 @@ counter_spelling word x e = word ++ x ++ codes " < " ++ operand_spelling any_lev
 
 -- a line for each definition
 abbrev pub definition_spelling : DefinitionTree → List ℕ
-definition_spelling d = codes "define " ++ d.name ++ codes "(" ++ names_spelling [] d.parameters ++ codes ") = " ++ phrase_spelling d.body ++ codes ".\n"
+definition_spelling d =
+    codes "define " ++ d.name ++ codes "(" ++ names_spelling [] d.parameters ++ codes ") = "
+    ++ phrase_spelling d.body ++ codes ".\n"
 
 abbrev pub definitions_spelling : List DefinitionTree → List ℕ
 definitions_spelling [] = []
@@ -110,4 +129,5 @@ definitions_spelling (d ∷ ds) = definition_spelling d ++ definitions_spelling 
 
 -- and one for the phrase that runs
 abbrev pub source_spelling : SourceTree → List ℕ
-source_spelling s = definitions_spelling s.definitions ++ codes "run " ++ phrase_spelling s.main ++ codes ".\n"
+source_spelling s =
+    definitions_spelling s.definitions ++ codes "run " ++ phrase_spelling s.main ++ codes ".\n"

@@ -47,17 +47,36 @@ abbrev reads : PhraseTree → List ℕ → Type 0
 reads p text = phrase_spelling p ≡ text
 
 pub record SpellingExamples : Type 0 where
-  pub source : source_spelling (record { definitions = []; main = both (joined op.Chop len_one skip) (joined op.Equal A (items (minus_one ∷ number_at 2 ∷ []))) }) ≡ codes "run (len(1) ; skip) and A = <-1, 2>.\n"
-  pub definition : source_spelling (record { definitions = record { name = codes "p"; at = 0; parameters = codes "X" ∷ codes "n" ∷ []; body = joined op.Equal (it (name (codes "X"))) (it (name (codes "n"))) } ∷ []; main = it (call (codes "p") (phrases_of (A ∷ number_at 1 ∷ []))) }) ≡ codes "define p(X, n) = X = n.\nrun p(A, 1).\n"
+  pub source : source_spelling
+      (record {
+        definitions = [];
+        main = both (joined op.Chop len_one skip)
+            (joined op.Equal A (items (minus_one ∷ number_at 2 ∷ [])));
+      })
+      ≡ codes "run (len(1) ; skip) and A = <-1, 2>.\n"
+  pub definition : source_spelling
+      (record {
+        definitions = record {
+          name = codes "p";
+          at = 0;
+          parameters = codes "X" ∷ codes "n" ∷ [];
+          body = joined op.Equal (it (name (codes "X"))) (it (name (codes "n")));
+        } ∷ [];
+        main = it (call (codes "p") (phrases_of (A ∷ number_at 1 ∷ [])));
+      })
+      ≡ codes "define p(X, n) = X = n.\nrun p(A, 1).\n"
   pub arrow : reads (joined op.Arrow A (number_at 1)) (codes "A <- 1")
   pub less : reads (joined op.Less A minus_one) (codes "A < -1")
   pub empty_list : reads (joined op.Differs A (items [])) (codes "A <> <>")
   pub list_left : reads (joined op.Equal (items (number_at 1 ∷ [])) B) (codes "<1> = B")
   pub for_bound : reads (it (for (codes "i") minus_one skip)) (codes "for i < -1 do skip")
-  pub forall_bound : reads (it (forall (codes "i") A (joined op.Chop skip skip))) (codes "forall i < A : skip ; skip")
+  pub forall_bound : reads (it (forall (codes "i") A (joined op.Chop skip skip)))
+      (codes "forall i < A : skip ; skip")
   pub chop_right : reads (joined op.Chop skip (if_then A skip)) (codes "skip ; (if A then skip)")
-  pub then_part : reads (it (choice_else A (if_then B skip) (it (bare b.Empty)))) (codes "if A then (if B then skip) else empty")
-  pub else_part : reads (it (choice_else A skip (if_then B skip))) (codes "if A then skip else if B then skip")
+  pub then_part : reads (it (choice_else A (if_then B skip) (it (bare b.Empty))))
+      (codes "if A then (if B then skip) else empty")
+  pub else_part : reads (it (choice_else A skip (if_then B skip)))
+      (codes "if A then skip else if B then skip")
   pub chain : reads (both (both A B) C) (codes "(A and B) and C")
   pub differences : reads (joined op.Minus (joined op.Minus A B) C) (codes "A - B - C")
   pub difference_right : reads (joined op.Minus A (joined op.Minus B C)) (codes "A - (B - C)")
@@ -74,9 +93,13 @@ pub record SpellingExamples : Type 0 where
   pub not_of_chain : reads (it (negation (both A B))) (codes "not (A and B)")
   pub not_of_relation : reads (it (negation (joined op.Less A B))) (codes "not A < B")
   pub size_of_sum : reads (it (size (joined op.Plus A B))) (codes "|A + B|")
-  pub list_item : reads (items (if_then A B ∷ joined op.Equal A B ∷ [])) (codes "<(if A then B), (A = B)>")
-  pub operands : reads (it (form f.Display (phrases_of (if_then A B ∷ joined op.Equal A B ∷ [])))) (codes "display(if A then B, A = B)")
+  pub list_item : reads (items (if_then A B ∷ joined op.Equal A B ∷ []))
+      (codes "<(if A then B), (A = B)>")
+  pub operands : reads (it (form f.Display (phrases_of (if_then A B ∷ joined op.Equal A B ∷ []))))
+      (codes "display(if A then B, A = B)")
   pub no_operands : reads (it (call (codes "p") (phrases_of []))) (codes "p()")
-  pub quantified : reads (both (it (exists (codes "X" ∷ codes "y" ∷ []) A)) B) (codes "(exists X, y : A) and B")
+  pub quantified : reads (both (it (exists (codes "X" ∷ codes "y" ∷ []) A)) B)
+      (codes "(exists X, y : A) and B")
   pub loops : reads (it (while A (it (repeat skip B)))) (codes "while A do repeat skip until B")
-  pub projection : reads (joined op.Proj (joined op.Or A B) (joined op.Proj B (joined op.Chop A C))) (codes "A or B proj B proj (A ; C)")
+  pub projection : reads (joined op.Proj (joined op.Or A B) (joined op.Proj B (joined op.Chop A C)))
+      (codes "A or B proj B proj (A ; C)")

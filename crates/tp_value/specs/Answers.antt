@@ -20,7 +20,8 @@ abbrev pub occurrences : ℕ → List ℕ → ℕ
 occurrences b [] = 0
 occurrences b (c ∷ z) = (if c == b then 1 else 0) + occurrences b z
 
--- how many items have begun, and whether one is due, since the last byte, blanks aside, is `<` or `,`
+-- how many items have begun, and whether one is due, since the last byte, blanks aside, is `<` or
+-- `,`
 pub record Begun : Type 0 where
   pub count : ℕ
   pub due : Bool
@@ -29,14 +30,17 @@ pub record Begun : Type 0 where
 abbrev pub with_byte : Begun → ℕ → Begun
 with_byte s b =
     if is_value_blank b then s
-    else record { count = (if s.due && begins_value b then s.count + 1 else s.count); due = b == 60 || b == 44 }
+    else record {
+      count = (if s.due && begins_value b then s.count + 1 else s.count);
+      due = b == 60 || b == 44;
+    }
 
 -- what has begun in some bytes
 abbrev pub begun_in : List ℕ → Begun
 begun_in p = fold with_byte (record { count = 0; due = false }) p
 
--- no limit is passed so far: the bytes begin the text of a value whose numbers and depth are within the limits, and have not too
--- many items
+-- no limit is passed so far: the bytes begin the text of a value whose numbers and depth are within
+-- the limits, and have not too many items
 pub record IsWithinSoFar (p : List ℕ) : Type 0 where
   pub rest : List ℕ
   pub value : Tree
@@ -50,19 +54,22 @@ pub record IsRead (bytes : List ℕ) (from : ℕ) (t : Tree) (after : ℕ) : Typ
   pub ordered : from ≤ after
   pub inside : after ≤ length bytes
   pub spelled : Spells (slice_range bytes from after) t
-  pub longest : (later : ℕ) (u : Tree) → after < later → later ≤ length bytes → ¬ Spells (slice_range bytes from later) u
+  pub longest : (later : ℕ) (u : Tree) → after < later → later ≤ length bytes
+      → ¬ Spells (slice_range bytes from later) u
   pub limits : IsWithinLimits t
 
--- no bytes spell a value, and the byte at the place, or the end, is the first at which no value's text goes on
+-- no bytes spell a value, and the byte at the place, or the end, is the first at which no value's
+-- text goes on
 pub record IsNoValue (bytes : List ℕ) (from at : ℕ) : Type 0 where
   pub ordered : from ≤ at
   pub inside : at ≤ length bytes
   pub so_far : IsWithinSoFar (slice_range bytes from at)
   pub stops : at < length bytes → ¬ BeginsValue (slice_range bytes from (at + 1))
-  pub nothing : (to : ℕ) (t : Tree) → from ≤ to → to ≤ length bytes → ¬ Spells (slice_range bytes from to) t
+  pub nothing : (to : ℕ) (t : Tree) → from ≤ to → to ≤ length bytes
+      → ¬ Spells (slice_range bytes from to) t
 
--- a number begins at the place, since it is the first or an item is due there, and the bytes from there to another place spell a
--- number past the limit
+-- a number begins at the place, since it is the first or an item is due there, and the bytes from
+-- there to another place spell a number past the limit
 pub record IsTooLarge (bytes : List ℕ) (from at : ℕ) : Type 0 where
   pub ordered : from ≤ at
   pub so_far : IsWithinSoFar (slice_range bytes from at)
@@ -81,14 +88,16 @@ pub record IsTooLong (bytes : List ℕ) (from at : ℕ) : Type 0 where
   pub goes_on : BeginsValue (slice_range bytes from (at + 1))
   pub item : (begun_in (slice_range bytes from (at + 1))).count ≡ item_limit + 1
 
--- the `<` at the place opens a list where as many are open as the limit allows, and begins no item too many
+-- the `<` at the place opens a list where as many are open as the limit allows, and begins no item
+-- too many
 pub record IsTooDeep (bytes : List ℕ) (from at : ℕ) : Type 0 where
   pub ordered : from ≤ at
   pub inside : at < length bytes
   pub so_far : IsWithinSoFar (slice_range bytes from at)
   pub goes_on : BeginsValue (slice_range bytes from (at + 1))
   pub bracket : slice_index bytes at ≡ 60
-  pub open_lists : occurrences 60 (slice_range bytes from at) ≡ occurrences 62 (slice_range bytes from at) + value_depth_limit
+  pub open_lists : occurrences 60 (slice_range bytes from at)
+      ≡ occurrences 62 (slice_range bytes from at) + value_depth_limit
   pub items : (begun_in (slice_range bytes from (at + 1))).count ≤ item_limit
 
 -- when each refusal comes; want of memory may come at any time

@@ -51,9 +51,11 @@ is_within_list_limit t = nat_le (depth_of t) value_depth_limit && nat_le (items_
 abbrev pub IsWithinListLimit : Tree → Type 0
 IsWithinListLimit t = IsTrue (is_within_list_limit t)
 
--- how much of the room for items a value leaves; none where it is deeper than the depth or has more items than the room
+-- how much of the room for items a value leaves; none where it is deeper than the depth or has more
+-- items than the room
 abbrev pub room_left : ℕ → ℕ → Tree → Option ℕ
-room_left depth room t = if nat_le (depth_of t) depth && nat_le (items_in t) room then Some (room - items_in t) else None
+room_left depth room t =
+    if nat_le (depth_of t) depth && nat_le (items_in t) room then Some (room - items_in t) else None
 
 -- each number in the value is within the limit
 abbrev mutual

@@ -48,7 +48,8 @@ first_move at depth begun b =
 -- what the first byte of an item does
 abbrev pub item_started : ℕ → ℕ → ℕ → ℕ → Result Move ReadValue
 item_started at depth begun b =
-    if begins_value b then (if nat_lt begun item_limit then first_move at depth (begun + 1) b else Err (TooLong at))
+    if begins_value b then (if nat_lt begun item_limit then first_move at depth (begun + 1) b
+    else Err (TooLong at))
     else Err (NoValue at)
 
 -- what a byte does between the parts of a list
@@ -81,7 +82,8 @@ lengthened begun begin negative None = Err (TooLarge begin)
 
 -- what a digit, or none, does to a number
 abbrev pub digit_read : ℕ → ℕ → ℕ → Bool → ℤ → Option ℕ → Result Move ReadValue
-digit_read at begun begin negative n (Some d) = lengthened begun begin negative (within_limit (continued negative n d))
+digit_read at begun begin negative n (Some d) =
+    lengthened begun begin negative (within_limit (continued negative n d))
 digit_read at begun begin negative n None = Err (NoValue at)
 
 -- what a byte of a number does that is no first digit
@@ -92,7 +94,8 @@ digits_go_on at begun begin negative n b = digit_read at begun begin negative n 
 abbrev pub letters_go_on : ℕ → ℕ → Bool → ℕ → ℕ → Result Move ReadValue
 letters_go_on at begun word k b =
     if nat_lt k (length (spelling word)) && slice_index (spelling word) k == b then
-    (if k + 1 == length (spelling word) then Ok (Word word) else Ok (Go (InWord word (k + 1)) begun))
+    (if k + 1 == length (spelling word) then Ok (Word word)
+    else Ok (Go (InWord word (k + 1)) begun))
     else Err (NoValue at)
 
 -- what the byte at a place does
@@ -103,7 +106,8 @@ next_move at depth begun (Minus begin) b = digits_go_on at begun begin true (pos
 next_move at depth begun (Digits begin negative n) b = digits_go_on at begun begin negative n b
 next_move at depth begun (InWord word k) b = letters_go_on at begun word k b
 
--- where reading stands: the items of the open lists, the innermost list first, how many items have begun, and what was read last
+-- where reading stands: the items of the open lists, the innermost list first, how many items have
+-- begun, and what was read last
 pub record ReadingState : Type 0 where
   pub lists : List (List Tree)
   pub begun : ℕ
@@ -118,7 +122,8 @@ pub data Step : Type 0 where
 -- a value ends in front of a place: it is an item of the innermost list, or the whole
 abbrev pub finished : List (List Tree) → ℕ → Tree → ℕ → Step
 finished [] begun t after = ends t after
-finished (ts ∷ lists) begun t after = goes (record { lists = (ts ++ t ∷ []) ∷ lists; begun = begun; phase = Between Item })
+finished (ts ∷ lists) begun t after =
+    goes (record { lists = (ts ++ t ∷ []) ∷ lists; begun = begun; phase = Between Item })
 
 -- the innermost list ends
 abbrev pub closed : ℕ → List (List Tree) → ℕ → Step

@@ -45,17 +45,24 @@ TakesItem Item = ⊥
 TakesItem Comma = Unit {0}
 
 mutual
-  -- the bytes spell the value: digits, perhaps with a `-` before them, `true`, `false`, or an unfinished list and `>`
+  -- the bytes spell the value: digits, perhaps with a `-` before them, `true`, `false`, or an
+  -- unfinished list and `>`
   pub data Spells : List ℕ → Tree → Type 0 where
     digits : (ds : List ℕ) → AreDigits ds → Spells ds (num (pos (decimal_value ds)))
-    minus : (ds : List ℕ) → AreDigits ds → Spells (codes "-" ++ ds) (num (neg_ℤ (pos (decimal_value ds))))
+    minus : (ds : List ℕ) → AreDigits ds
+        → Spells (codes "-" ++ ds) (num (neg_ℤ (pos (decimal_value ds))))
     word : (b : Bool) → Spells (spelling b) (truth b)
-    closed : (s : List ℕ) (ts : List Tree) (last : Last) → Unfinished s ts last → CanClose last → Spells (s ++ codes ">") (list (of_items ts))
+    closed : (s : List ℕ) (ts : List Tree) (last : Last) → Unfinished s ts last → CanClose last
+        → Spells (s ++ codes ">") (list (of_items ts))
 
-  -- the bytes spell a list with these items but for its `>`: `<`, then blanks, and items with a comma between each two; the last
-  -- part, blanks aside, is named
+  -- the bytes spell a list with these items but for its `>`: `<`, then blanks, and items with a
+  -- comma between each two; the last part, blanks aside, is named
   pub data Unfinished : List ℕ → List Tree → Last → Type 0 where
     bracket : Unfinished (codes "<") [] Bracket
-    blank : (s : List ℕ) (ts : List Tree) (last : Last) (b : ℕ) → Unfinished s ts last → is_value_blank b ≡ true → Unfinished (s ++ b ∷ []) ts last
-    item : (s : List ℕ) (ts : List Tree) (last : Last) (r : List ℕ) (t : Tree) → Unfinished s ts last → TakesItem last → Spells r t → Unfinished (s ++ r) (ts ++ t ∷ []) Item
-    comma : (s : List ℕ) (ts : List Tree) → Unfinished s ts Item → Unfinished (s ++ codes ",") ts Comma
+    blank : (s : List ℕ) (ts : List Tree) (last : Last) (b : ℕ) → Unfinished s ts last
+        → is_value_blank b ≡ true → Unfinished (s ++ b ∷ []) ts last
+    item : (s : List ℕ) (ts : List Tree) (last : Last) (r : List ℕ) (t : Tree)
+        → Unfinished s ts last → TakesItem last → Spells r t
+        → Unfinished (s ++ r) (ts ++ t ∷ []) Item
+    comma : (s : List ℕ) (ts : List Tree) → Unfinished s ts Item
+        → Unfinished (s ++ codes ",") ts Comma

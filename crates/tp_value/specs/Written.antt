@@ -3,7 +3,8 @@ use Rattle.std.specs.Prelude.{ℕ, true, false, List, [], ◌++◌, codes}
 use Rattle.std.specs.Fmt.{signed_decimal}
 use Rattle.tp_value.specs.Tree.{Tree, Trees, num, truth, list, nil, cons}
 
--- A number in decimal, `true`, `false`, or the items of a list in `<` and `>`, with a comma between each two and no blanks.
+-- A number in decimal, `true`, `false`, or the items of a list in `<` and `>`, with a comma between
+-- each two and no blanks.
 abbrev mutual
   pub text_of : Tree → List ℕ
   text_of (num n) = signed_decimal n
