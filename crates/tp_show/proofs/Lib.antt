@@ -24,3 +24,4 @@ pub mod PrintedLines
 pub mod EndLineBytes
 pub mod PrintedStates
 pub mod TraceExampleLemmas
+pub mod TraceRead

@@ -1,5 +1,5 @@
 -- The printed text of a run is a trace, which tells the facts of its states.
-use Rattle.std.specs.Prelude.{◌≡◌, ◌≢◌, ℕ, suc, ◌<◌, ◌≤◌, true, List, [], ◌∷◌, ◌++◌, map, length, All, codes}
+use Rattle.std.specs.Prelude.{◌≡◌, ◌≢◌, ◌⊎◌, Result, Ok, Err, ℕ, suc, ◌<◌, ◌≤◌, true, List, [], ◌∷◌, ◌++◌, map, length, All, codes}
 use Rattle.std.specs.List.{flat_map}
 use Rattle.tp_value.specs.Number.{IsNumber}
 use Rattle.tp_value.specs.Limits.{index_limit, path_limit, length_limit, IsWithinLimits}
@@ -12,6 +12,8 @@ use Rattle.tp_show.specs.declared.turn.Picture.{Picture}
 use Rattle.tp_show.specs.declared.turn.Turn.{Turn}
 use Rattle.tp_show.specs.declared.turn.Turn.TheVariants.{Went, Finished, Contradictory, Undetermined, StateLimit, InputMissing, Over}
 use Rattle.tp_show.specs.declared.trace.NamedFact.{NamedFact}
+use Rattle.tp_show.specs.declared.trace.TraceRefusal.{TraceRefusal}
+use Rattle.tp_show.specs.declared.trace.TraceRefusal.TheVariants.{NoMemory}
 use Rattle.tp_show.specs.Texts.{global_name}
 use Rattle.tp_show.specs.Parts.{LinePartTree, valued, measured, line_parts}
 use Rattle.tp_show.specs.Line.{AreFactsOf, picture_lines, pictures_text}
@@ -140,3 +142,13 @@ pub record TracesTellFacts : Type 0 where
   pub pictures : PicturesAreTrace
   pub limits : FactsAreWrittenWithinLimits
   pub end_lines : EndLinesAreOneLine
+
+-- What reading a text comes to that is of one or more such states, with further lines behind each or
+-- without, and then nothing or an end line: it gives exactly the facts of the pictures, and is
+-- refused for want of memory alone.
+abbrev pub ReadsPrinted : List ℕ → Result (List (List NamedFact)) TraceRefusal → Type 0
+ReadsPrinted bytes result = (names : List (List ℕ)) → AreVariableNames names
+    → (states : List PrintedState) → All (IsPrinted names) states
+    → CountFrom 0 (map (λ s. s.picture) states) → 0 < length states
+    → (end : List ℕ) → IsEnding names end → bytes ≡ printed_states_text names states ++ end
+    → (result ≡ Ok (map (λ s. named_facts names s.picture) states)) ⊎ (result ≡ Err NoMemory)

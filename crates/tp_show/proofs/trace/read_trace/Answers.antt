@@ -6,6 +6,7 @@ use Rattle.tp_show.specs.declared.trace.NamedFact.{NamedFact}
 use Rattle.tp_show.specs.TraceReading.{IsKindOf}
 use Rattle.tp_show.proofs.TraceLines.{some_line}
 use Rattle.tp_show.proofs.TraceRuns.{TraceSoFar, so_far_state, so_far_passed, end_whole, bad_here, bad_behind_end, stop_whole, stop_bad}
+use Rattle.tp_show.proofs.TraceRead.{read_printed, refused_printed}
 use Rattle.tp_show.proofs.trace.read_trace.Goals as goal
 use Rattle.tp_show.proofs.trace.read_trace.Goals.{in-State+in_ok-push-in-State, in-PassedOver}
 
@@ -95,3 +96,18 @@ returns-clause-trace c =
     let none : length c.loop-rest.rest.now ≡ 0 = grind (arith, common_steps) in
     let z : TraceSoFar all [] c.loop-rest.line states = subst (λ (ls : List (List ℕ)). TraceSoFar all ls c.loop-rest.line states) (ap lines (nil_from_length c.loop-rest.rest.now none)) c.loop-rest.invariant.so_far in
     stop_whole all c.loop-rest.line states z (grind (arith, common_steps, c.loop-rest.states.ok.0))
+
+pub returns-then-is_empty-clause-printed : goal.returns-then-is_empty-clause-printed
+returns-then-is_empty-clause-printed c = read_printed c.args.bytes.now _ (omega arith) (returns-then-is_empty-clause-trace c)
+
+pub returns-in-End-clause-printed : goal.returns-in-End-clause-printed
+returns-in-End-clause-printed c = refused_printed c.args.bytes.now _ (returns-in-End-clause-refused c)
+
+pub returns-in-Bad-clause-printed : goal.returns-in-Bad-clause-printed
+returns-in-Bad-clause-printed c = refused_printed c.args.bytes.now _ (returns-in-Bad-clause-refused c)
+
+pub returns-then-is_empty-2-clause-printed : goal.returns-then-is_empty-2-clause-printed
+returns-then-is_empty-2-clause-printed c = refused_printed c.args.bytes.now _ (returns-then-is_empty-2-clause-refused c)
+
+pub returns-clause-printed : goal.returns-clause-printed
+returns-clause-printed c = read_printed c.args.bytes.now _ (omega arith) (returns-clause-trace c)

@@ -1,0 +1,43 @@
+-- What reading a text comes to that a run prints.
+use Rattle.std.proofs.Common.{◌≡◌, ◌≤◌, ◌<◌, ◌+◌, ◌^◌, ◌==◌, cond, ℕ, suc, List, [], ◌∷◌, ◌++◌, length, map, All, Bool, true, false, Ok, Err, inl, inr, refl, sym, ap, subst, arith}
+use Rattle.std.specs.Str.Lines.{lines, lines_of_parts}
+use Rattle.std.specs.List.{slice_split, count_by}
+use Rattle.std.proofs.lemmas.List.Splits.{length-slice_split}
+use Rattle.std.proofs.lemmas.List.Sums.{count_by-le-length}
+use Rattle.tp_show.specs.declared.trace.NamedFact.{NamedFact}
+use Rattle.tp_show.specs.declared.trace.TraceRefusal.{TraceRefusal}
+use Rattle.tp_show.specs.declared.trace.TraceRefusal.TheVariants.{BadLine, NoMemory}
+use Rattle.tp_show.specs.Trace.{IsTraceText, IsTraceRefusal}
+use Rattle.tp_show.specs.TraceOfRun.{PrintedState, named_facts, ReadsPrinted}
+use Rattle.tp_show.proofs.TraceOnce.{one_trace, no_bad_trace}
+use Rattle.tp_show.proofs.PrintedStates.{traces_tell_facts}
+
+lines_in : (parts : List (List ℕ)) → length (lines_of_parts parts) ≤ length parts
+lines_in [] = omega arith
+lines_in (x ∷ []) = one (length x == 0)
+  where
+    one : (b : Bool) → length (cond b [] (x ∷ [])) ≤ 1
+    one true = omega arith
+    one false = omega arith
+lines_in (x ∷ y ∷ more) = let rest = lines_in (y ∷ more) in omega (arith, rest)
+
+-- a text has hardly more lines than bytes
+few_lines : (bytes : List ℕ) → length bytes < 2 ^ 63 → length (lines bytes) < 2 ^ 64
+few_lines bytes small =
+    let parts = slice_split (λ b. b == 10) bytes in
+    let few = lines_in parts in
+    let count = length-slice_split (λ b. b == 10) bytes in
+    let within = count_by-le-length (λ b. b == 10) bytes in
+    omega (arith, few, count, within, small)
+
+pub read_printed : (bytes : List ℕ) (trace : List (List NamedFact)) → length bytes < 2 ^ 63 → IsTraceText bytes trace → ReadsPrinted bytes (Ok trace)
+read_printed bytes trace small is names are states each count some end ending e =
+    let told : List (List NamedFact) = map (λ (s : PrintedState). named_facts names s.picture) states in
+    let printed = subst (λ (b : List ℕ). IsTraceText b told) (sym e) (traces_tell_facts.printed names are states each count some end ending) in
+    inl (ap Ok (one_trace (lines bytes) (few_lines bytes small) trace told is printed))
+
+pub refused_printed : (bytes : List ℕ) (refusal : TraceRefusal) → IsTraceRefusal bytes refusal → ReadsPrinted bytes (Err refusal)
+refused_printed bytes NoMemory is names are states each count some end ending e = inr refl
+refused_printed bytes (BadLine line) is names are states each count some end ending e =
+    let told : List (List NamedFact) = map (λ (s : PrintedState). named_facts names s.picture) states in
+    absurd (no_bad_trace (lines bytes) told line (subst (λ (b : List ℕ). IsTraceText b told) (sym e) (traces_tell_facts.printed names are states each count some end ending)) is)
