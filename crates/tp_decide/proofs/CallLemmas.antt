@@ -39,14 +39,14 @@ arguments_are_places (expr_then e es) (x ∷ xs) h = ((λ u. place_is e (h.0 u))
 
 module _ (facts : List Fact) (defs : List Definition) (env : Bindings) where
   abbrev pub arguments_then : ExprTrees → List (List ℕ) → (Bindings → PickOutcome) → PickOutcome
-  arguments_then es xs f = row.with_arguments defs [] 0 facts es xs env f
+  arguments_then es xs f = row.with_arguments defs facts es xs env f
 
   -- with what was bound before
   abbrev pub arguments_after : (done : Bindings) → ExprTrees → List (List ℕ) → (Bindings → PickOutcome) → PickOutcome
   arguments_after done es xs f = arguments_then es xs (λ bs. f (done ++ bs))
 
   pub argument_next : (done : Bindings) (b : BindingTree) (x : List ℕ) (xs : List (List ℕ)) (e : ExprTree) (es : ExprTrees) →
-      ((g : BindingTree → PickOutcome) → row.with_argument defs [] 0 facts x e env g ≡ g b) → (f : Bindings → PickOutcome) →
+      ((g : BindingTree → PickOutcome) → row.with_argument defs facts x e env g ≡ g b) → (f : Bindings → PickOutcome) →
       arguments_after (done ++ b ∷ []) es xs f ≡ arguments_after done (expr_then e es) (x ∷ xs) f
   argument_next done b x xs e es h f = sym
       (h (λ v. arguments_then es xs (λ vs. f (done ++ v ∷ vs)))

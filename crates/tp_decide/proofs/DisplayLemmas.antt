@@ -14,14 +14,14 @@ use Rattle.tp_scene.specs.Step.{PickOutcome}
 
 module _ (facts : List Fact) (defs : List Definition) (env : Bindings) where
   abbrev pub values_then : ExprTrees → (List Tree → PickOutcome) → PickOutcome
-  values_then es f = row.with_values defs [] 0 facts es env f
+  values_then es f = row.with_values defs facts es env f
 
   -- with the values that were found before
   abbrev pub values_after : (done : List Tree) → ExprTrees → (List Tree → PickOutcome) → PickOutcome
   values_after done es f = values_then es (λ vs. f (done ++ vs))
 
   abbrev value_found : Expr → found.Outcome
-  value_found e = row.value_of defs [] 0 facts (expr_tree e) env
+  value_found e = row.value_of defs facts (expr_tree e) env
 
   pub value_first : (es : List Expr) (i : ℕ) (e : Expr) (done : List Tree) → i < length es → e ≡ get_or es i e → (f : List Tree → PickOutcome) →
       values_after done (rest es i) f ≡ row.with_value (value_found e) (λ v. values_then (rest es (i + 1)) (λ vs. f (done ++ v ∷ vs)))

@@ -1,5 +1,5 @@
 -- Sides of equations.
-use Rattle.std.proofs.Common.{◌≡◌, Bool, true, cond, List, [], refl, ap, ◌∙◌, inl, inr, Option}
+use Rattle.std.proofs.Common.{◌≡◌, Bool, true, cond, List, refl, ap, ◌∙◌, inl, inr, Option}
 use Rattle.std.proofs.lemmas.Bool.{cases_Bool}
 use Rattle.tp_value.specs.Tree.{Tree, same_tree, SameTreeIsEquality}
 use Rattle.tp_value.specs.declared.path.Fact.{Fact}
@@ -13,7 +13,7 @@ use Rattle.tp_scene.specs.Step.{PickOutcome}
 use Rattle.tp_decide.specs.Found.{IsNoSize}
 
 module _ (defs : List Definition) (facts : List Fact) (env : List BindingTree) where
-  pub plain_target : (e : ExprTree) → IsNoSize e → row.target_of defs [] 0 facts e env ≡ row.target_if defs [] 0 facts (is_place e) row.value_at e env
+  pub plain_target : (e : ExprTree) → IsNoSize e → row.target_of defs facts e env ≡ row.target_if defs facts (is_place e) row.value_at e env
   plain_target (size e) h = absurd h
   plain_target (numeral n) h = refl
   plain_target (boolean b) h = refl

@@ -1,5 +1,5 @@
 -- What is found where expressions are evaluated, or decided instead.
-use Rattle.std.specs.Prelude.{◌≡◌, ℤ, pos, negsuc, zero, suc, Bool, List, [], Option, Result, Ok, Err}
+use Rattle.std.specs.Prelude.{◌≡◌, ℤ, pos, negsuc, zero, suc, Bool, List, Option, Result, Ok, Err}
 use Rattle.std.specs.Option.{option_map}
 use Rattle.tp_value.specs.Tree.{Tree, num, truth}
 use Rattle.tp_value.specs.Read.{tree}
@@ -38,8 +38,8 @@ NumberIn o (Err d) = (f : ℤ → PickOutcome) → Decides d (λ n. row.with_num
 
 -- the values of expressions from left to right, or what is decided at the first without one
 abbrev pub ValuesIn : List Fact → List Definition → ExprTrees → Bindings → Result Values Decision → Type 0
-ValuesIn facts defs es env (Ok vs) = (f : List Tree → PickOutcome) → row.with_values defs [] 0 facts es env f ≡ f (values_of vs)
-ValuesIn facts defs es env (Err d) = (f : List Tree → PickOutcome) → Decides d (λ n. row.with_values defs [] 0 facts es env f)
+ValuesIn facts defs es env (Ok vs) = (f : List Tree → PickOutcome) → row.with_values defs facts es env f ≡ f (values_of vs)
+ValuesIn facts defs es env (Err d) = (f : List Tree → PickOutcome) → Decides d (λ n. row.with_values defs facts es env f)
 
 -- What a parameter is bound to where `with_bound` goes on with it, or what is decided without one; and the same of all parameters.
 abbrev pub BoundIn : (with_bound : (BindingTree → PickOutcome) → PickOutcome) → Result Binding Decision → Type 0

@@ -1,5 +1,5 @@
 // Calls of definitions.
-ghost use Rattle.std.specs.Prelude.{◌≡◌, [], Some, slice_get, IsTrue, IfOk, IfErr};
+ghost use Rattle.std.specs.Prelude.{◌≡◌, Some, slice_get, IsTrue, IfOk, IfErr};
 ghost use Rattle.std.specs.Option.{option_map};
 ghost use Rattle.tp_meaning.specs.Syntax.{Definition, known_binding};
 ghost use Rattle.tp_meaning.specs.Value.{is_upper};
@@ -62,9 +62,8 @@ fn find_place(
     requires { IsTrue (is_place (expr_tree expr.now)) }
     ensures bound { IfOk result (λ bound.
         BoundIn
-        (λ f. row.with_place (definitions_of setting.now.defs.now) [] 0 store.now.facts
-        (place_outcome store.now.facts (definitions_of setting.now.defs.now) (expr_tree expr.now)
-        (bindings_of env.now)) f)
+        (λ f. row.with_place (place_outcome store.now.facts (definitions_of setting.now.defs.now)
+        (expr_tree expr.now) (bindings_of env.now)) f)
         bound) }
     ensures plain { IfOk result (λ bound. IfErr bound IsPlain) }
 {
@@ -89,7 +88,7 @@ fn find_binding(
     requires { IsTrue (is_upper parameter.now) → IsTrue (is_place (expr_tree expr.now)) }
     ensures bound { IfOk result
         (BoundIn (λ f.
-        row.with_argument (definitions_of setting.now.defs.now) [] 0 store.now.facts parameter.now
+        row.with_argument (definitions_of setting.now.defs.now) store.now.facts parameter.now
         (expr_tree expr.now) (bindings_of env.now) f)) }
     ensures plain { IfOk result (λ bound. IfErr bound IsPlain) }
 {
@@ -115,7 +114,7 @@ fn find_bindings(
     requires { ArePlaces (expr_trees exprs.now) parameters.now }
     ensures bound { IfOk result
         (AllBoundIn (λ f.
-        row.with_arguments (definitions_of setting.now.defs.now) [] 0 store.now.facts
+        row.with_arguments (definitions_of setting.now.defs.now) store.now.facts
         (expr_trees exprs.now) parameters.now (bindings_of env.now) f)) }
     ensures plain { IfOk result (λ bound. IfErr bound IsPlain) }
 {
@@ -153,7 +152,7 @@ fn unfold(
     requires { ArePlaces (expr_trees exprs.now) (definition_of def.now).parameters }
     ensures outcome { IfOk result (λ d.
         Decides d (λ n.
-        row.called (definitions_of setting.now.defs.now) [] 0 store.now.facts
+        row.called (definitions_of setting.now.defs.now) store.now.facts
         (Some (definition_of def.now)) (expr_trees exprs.now) (bindings_of env.now) n)) }
     ensures plain { IfOk result IsPlain }
 {
@@ -182,7 +181,7 @@ pub fn decide_call(
         → ArePlaces (expr_trees exprs.now) called.parameters }
     ensures outcome { IfOk result (λ d.
         Decides d (λ n.
-        row.called (definitions_of setting.now.defs.now) [] 0 store.now.facts
+        row.called (definitions_of setting.now.defs.now) store.now.facts
         (slice_get (definitions_of setting.now.defs.now) number) (expr_trees exprs.now)
         (bindings_of env.now) n)) }
     ensures plain { IfOk result IsPlain }

@@ -71,7 +71,7 @@ fn turns(
 ) -> Result<Decision, NoMemory>
     ensures outcome { IfOk result (λ d.
         Decides d (λ n.
-        row.turns [] [] 0 [] name.now k to (formula_of body.now) (env_of body.now)
+        row.turns name.now k to (formula_of body.now) (env_of body.now)
         (plain_place place) n)) }
     ensures plain { IfOk result IsPlain }
 {
@@ -100,7 +100,7 @@ pub fn decide_turns(
         (o : Outcome) → NumberIn o found
         → Decides d (λ n.
         row.with_number o (λ m.
-        row.turns [] [] 0 [] name.now k m (formula_of body.now) (env_of body.now)
+        row.turns name.now k m (formula_of body.now) (env_of body.now)
         (plain_place place) n))) }
     ensures plain { IfOk result IsPlain }
 {
@@ -152,7 +152,7 @@ fn instances(
 ) -> Result<Decision, NoMemory>
     ensures outcome { IfOk result (λ d.
         Decides d (λ n.
-        row.instances [] [] 0 [] name.now k to (formula_of body.now) (env_of body.now) n)) }
+        row.instances name.now k to (formula_of body.now) (env_of body.now) n)) }
     ensures plain { IfOk result IsPlain }
 {
     if to <= k {
@@ -177,7 +177,7 @@ pub fn decide_instances(
         (o : Outcome) → NumberIn o found
         → Decides d (λ n.
         row.with_number o (λ m.
-        row.instances [] [] 0 [] name.now k m (formula_of body.now) (env_of body.now) n))) }
+        row.instances name.now k m (formula_of body.now) (env_of body.now) n))) }
     ensures plain { IfOk result IsPlain }
 {
     match found {

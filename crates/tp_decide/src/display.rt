@@ -1,5 +1,5 @@
 // Values that are shown.
-ghost use Rattle.std.specs.Prelude.{[], IfOk, IfErr};
+ghost use Rattle.std.specs.Prelude.{IfOk, IfErr};
 ghost use Rattle.tp_kernel.specs.Read.{expr_trees, definitions_of, bindings_of};
 ghost use Rattle.tp_scene.specs.Scene as S;
 ghost use Rattle.tp_scene.specs.Step as row;
@@ -49,7 +49,7 @@ pub fn decide_display(
 ) -> Result<Decision, NoMemory>
     ensures outcome { IfOk result (λ d.
         Decides d (λ n.
-        row.with_values (definitions_of setting.now.defs.now) [] 0 store.now.facts
+        row.with_values (definitions_of setting.now.defs.now) store.now.facts
         (expr_trees exprs.now) (bindings_of env.now)
         (λ vs. row.becomes (S.leaf (n.item 0) (S.Shown vs) S.none) 1))) }
     ensures plain { IfOk result IsPlain }

@@ -1,11 +1,11 @@
 // What becomes of an equation.
-ghost use Rattle.std.specs.Prelude.{◌≡◌, IfOk, Bool, List, [], None, MatchOption};
+ghost use Rattle.std.specs.Prelude.{◌≡◌, IfOk, Bool, List, None, MatchOption};
 ghost use Rattle.tp_value.specs.Read.{tree};
 ghost use Rattle.tp_value.specs.Tree.{num};
 ghost use Rattle.tp_kernel.specs.Read.{expr_tree, definitions_of, bindings_of};
 ghost use Rattle.tp_value.specs.declared.path.Fact.{Fact};
 ghost use Rattle.tp_value.specs.declared.path.Path.{Path};
-ghost use Rattle.tp_meaning.specs.Syntax.{Definition, size};
+ghost use Rattle.tp_meaning.specs.Syntax.{size};
 ghost use Rattle.tp_meaning.specs.Inputs.{input_at};
 ghost use Rattle.tp_eval.specs.Outcome as found;
 ghost use Rattle.tp_eval.specs.Answers.{outcome_tree};
@@ -53,7 +53,7 @@ fn path_of(
     ensures outcome { IfOk result (λ o.
         (f : Path → row.Target)
         → PathIn o f
-        (row.target_if (definitions_of defs.now) [] 0 store.now.facts
+        (row.target_if (definitions_of defs.now) store.now.facts
         (is_place_tree (expr_tree expr.now)) f (expr_tree expr.now) (bindings_of env.now))) }
     ensures variables { IfOk result (IsPathOf store.now.variables) }
 {
@@ -89,7 +89,7 @@ fn find_target(
         (bindings_of env.now) }
     ensures outcome { IfOk result (λ o.
         option_target o
-        ≡ row.target_of (definitions_of defs.now) [] 0 store.now.facts (expr_tree expr.now)
+        ≡ row.target_of (definitions_of defs.now) store.now.facts (expr_tree expr.now)
         (bindings_of env.now)) }
     ensures variables { IfOk result (IsTargetOf store.now.variables) }
 {
@@ -113,8 +113,7 @@ fn find_target(
 
 // Whether the expression is a place or the size of one.
 fn is_placed(expr: &Expr) -> bool
-    ensures { (defs : List Definition) (facts : List Fact)
-        → result ≡ row.is_placed defs [] 0 facts (expr_tree expr.now) }
+    ensures { result ≡ row.is_placed (expr_tree expr.now) }
 {
     match expr {
         Expr::Size(inner) => is_place(inner),
@@ -133,7 +132,7 @@ fn evaluate_side(
         (bindings_of env.now) }
     ensures outcome { IfOk result (λ s.
         side_found s
-        ≡ row.side_of (definitions_of defs.now) [] 0 store.now.facts (expr_tree expr.now)
+        ≡ row.side_of (definitions_of defs.now) store.now.facts (expr_tree expr.now)
         (bindings_of env.now)) }
     ensures variables { IfOk result (λ s. IsTargetOf store.now.variables s.target) }
 {
@@ -304,9 +303,9 @@ pub fn decide_equation(
         (n : row.Numbers)
         → decided_outcome store.now.facts n d
         ≡ row.equate store.now.facts
-        (row.side_of w.defs w.inputs w.state store.now.facts (expr_tree left.now)
+        (row.side_of w.defs store.now.facts (expr_tree left.now)
         (bindings_of env.now))
-        (row.side_of w.defs w.inputs w.state store.now.facts (expr_tree right.now)
+        (row.side_of w.defs store.now.facts (expr_tree right.now)
         (bindings_of env.now))) }
     ensures variables { IfOk result (SetsVariables store.now.variables) }
 {
@@ -317,9 +316,7 @@ pub fn decide_equation(
 
 // A side that has this value, which was found before.
 fn side_with(alloc: Global, value: &Value) -> Result<Side, NoMemory>
-    ensures outcome { IfOk result (λ s.
-        (defs : List Definition) (facts : List Fact)
-        → side_found s ≡ row.side_with defs [] 0 facts (tree value.now)) }
+    ensures outcome { IfOk result (λ s. side_found s ≡ row.side_with (tree value.now)) }
     ensures variables { IfOk result (λ s. s.target ≡ None) }
 {
     let value = value.copy(alloc)?;
@@ -345,9 +342,9 @@ pub fn decide_input(
         IfOk result (λ d.
         (n : row.Numbers)
         → decided_outcome store.now.facts n d
-        ≡ row.from_port w.defs w.inputs w.state store.now.facts (input_at w.inputs w.state port.now)
+        ≡ row.from_port store.now.facts (input_at w.inputs w.state port.now)
         port.now
-        (row.side_of w.defs w.inputs w.state store.now.facts (expr_tree expr.now)
+        (row.side_of w.defs store.now.facts (expr_tree expr.now)
         (bindings_of env.now))) }
     ensures variables { IfOk result (SetsVariables store.now.variables) }
 {

@@ -1,5 +1,5 @@
 // Formulas whose expression was evaluated.
-ghost use Rattle.std.specs.Prelude.{◌≡◌, ◌≤◌, ◌-◌, pos, ◌≤ℤ◌, [], IfOk, IfErr, if◌then◌else◌};
+ghost use Rattle.std.specs.Prelude.{◌≡◌, ◌≤◌, ◌-◌, pos, ◌≤ℤ◌, IfOk, IfErr, if◌then◌else◌};
 ghost use Rattle.tp_meaning.specs.Syntax.{known, equation, always, if_empty};
 ghost use Rattle.tp_meaning.specs.Unfolding.{nexts};
 ghost use Rattle.tp_kernel.specs.Read.{expr_tree, formula_tree, bindings_of};
@@ -86,7 +86,7 @@ fn shorter(alloc: Global, left: Number) -> Result<Rc<Formula>, NoMemory>
 // A length of so many states more.
 fn decide_length(alloc: Global, left: Number, env: &Rc<Env>) -> Result<Decision, NoMemory>
     ensures outcome { IfOk result (λ d.
-        Decides d (λ n. row.length_left [] [] 0 [] left (bindings_of env.now.value) n)) }
+        Decides d (λ n. row.length_left left (bindings_of env.now.value) n)) }
     ensures plain { IfOk result IsPlain }
 {
     if left < 0 {
@@ -107,7 +107,7 @@ pub fn decide_len(
     ensures outcome { IfOk result (λ d.
         (o : Outcome) → NumberIn o found
         → Decides d (λ n.
-        row.with_number o (λ k. row.length_left [] [] 0 [] k (bindings_of env.now.value) n))) }
+        row.with_number o (λ k. row.length_left k (bindings_of env.now.value) n))) }
     ensures plain { IfOk result IsPlain }
 {
     match found {

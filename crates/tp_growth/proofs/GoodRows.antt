@@ -110,15 +110,15 @@ module _ (w : Setting) (fs gs hs : List Fact) (fc : NoClash fs) (gc : NoClash gs
   module _ (env : Bindings) (small : BindingsWithin env) where
     equation_row : (l r : ExprTree) → Good (formula_step w.defs w.inputs w.state fs (equation l r) env p n) (formula_step w.defs w.inputs w.state gs (equation l r) env q n)
     equation_row l r = λ s e m f b.
-        let L = side_of w.defs w.inputs w.state fs l env in let R = side_of w.defs w.inputs w.state fs r env in
+        let L = side_of w.defs fs l env in let R = side_of w.defs fs r env in
         equate_ok fs gs hs fc gc hc one two within s.facts f L.placed R.placed _ _ _ _ _ _ _ _ _ _ (λ v x. (values_within fs w.defs l env small).value v x) (λ v x. (values_within fs w.defs r env small).value v x)
         (side_knows w.defs fs gs hs fc gc hc one two env w.inputs w.state l) (side_knows w.defs fs gs hs fc gc hc one two env w.inputs w.state r)
         (equate_is fs L.placed R.placed L.target R.target L.found R.found s e) b
 
     port_row : (v : Tree) (port : List ℕ) (x : ExprTree) → input_at w.inputs w.state port ≡ Some v
-        → Good (from_port w.defs w.inputs w.state fs (Some v) port (side_of w.defs w.inputs w.state fs x env)) (from_port w.defs w.inputs w.state gs (Some v) port (side_of w.defs w.inputs w.state gs x env))
+        → Good (from_port fs (Some v) port (side_of w.defs fs x env)) (from_port gs (Some v) port (side_of w.defs gs x env))
     port_row v port x h = λ s e m f b.
-        let L = side_of w.defs w.inputs w.state fs x env in
+        let L = side_of w.defs fs x env in
         equate_ok fs gs hs fc gc hc one two within s.facts f L.placed false _ _ _ _ _ _ _ _ _ _ (λ u y. (values_within fs w.defs x env small).value u y) (λ u y. let z : v ≡ u = cc in subst (λ (t : Tree). IsWithinListLimit t) z (input_within w.inputs w.state port v inputs h))
         (side_knows w.defs fs gs hs fc gc hc one two env w.inputs w.state x)
         (record { sides = value_side w.defs fs gs fc gc one env v; grown = refl; set = λ y u h. absurd (cc h) })

@@ -42,13 +42,13 @@ module _ (w : Setting) (fs gs : List Fact) (fc : NoClash fs) (gc : NoClash gs) (
 
   equation_row : (env : Bindings) (l r : ExprTree) → G (formula_step w.defs w.inputs w.state fs (equation l r) env p n) (formula_step w.defs w.inputs w.state gs (equation l r) env q n)
   equation_row env l r = equate_grows fs gs fc gc knows within
-      (side_of w.defs w.inputs w.state fs l env) (side_of w.defs w.inputs w.state fs r env) (side_of w.defs w.inputs w.state gs l env) (side_of w.defs w.inputs w.state gs r env) refl refl
+      (side_of w.defs fs l env) (side_of w.defs fs r env) (side_of w.defs gs l env) (side_of w.defs gs r env) refl refl
       (side_grows w.defs fs gs fc gc knows env w.inputs w.state l) (side_grows w.defs fs gs fc gc knows env w.inputs w.state r)
 
   port_row : (env : Bindings) (v : Tree) (port : List ℕ) (x : ExprTree)
-      → G (from_port w.defs w.inputs w.state fs (Some v) port (side_of w.defs w.inputs w.state fs x env)) (from_port w.defs w.inputs w.state gs (Some v) port (side_of w.defs w.inputs w.state gs x env))
+      → G (from_port fs (Some v) port (side_of w.defs fs x env)) (from_port gs (Some v) port (side_of w.defs gs x env))
   port_row env v port x = equate_grows fs gs fc gc knows within
-      (side_of w.defs w.inputs w.state fs x env) (side_with w.defs w.inputs w.state fs v) (side_of w.defs w.inputs w.state gs x env) (side_with w.defs w.inputs w.state gs v) refl refl
+      (side_of w.defs fs x env) (side_with v) (side_of w.defs gs x env) (side_with v) refl refl
       (side_grows w.defs fs gs fc gc knows env w.inputs w.state x) (value_side w.defs fs gs fc gc knows env v)
 
   leaf_row : (l : Leaf) → G (leaf_step w.defs w.inputs w.state fs l p n) (leaf_step w.defs w.inputs w.state gs l q n)

@@ -132,11 +132,11 @@ module _ (defs : List Definition) (fs gs : List Fact) (fc : NoClash fs) (gc : No
 
   module _ (inputs : InputLines) (state : ℕ) where
     abbrev Side : ExprTree → Type 0
-    Side e = SideGrows gs (side_of defs inputs state fs e env).target (side_of defs inputs state fs e env).found (side_of defs inputs state gs e env).target (side_of defs inputs state gs e env).found
+    Side e = SideGrows gs (side_of defs fs e env).target (side_of defs fs e env).found (side_of defs gs e env).target (side_of defs gs e env).found
 
     -- by whether it is a place
     by_place : (target : Path → Target) (e x : ExprTree) → (is_place e ≡ true → Grows target e x) → (b : Bool) → is_place e ≡ b
-        → SideGrows gs (target_if defs inputs state fs b target e env) (outcome fs defs x env) (target_if defs inputs state gs b target e env) (outcome gs defs x env)
+        → SideGrows gs (target_if defs fs b target e env) (outcome fs defs x env) (target_if defs gs b target e env) (outcome gs defs x env)
     by_place target e x h true p = h p
     by_place target e x h false p = no_target x
 

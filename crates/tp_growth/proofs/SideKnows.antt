@@ -87,19 +87,19 @@ module _ (defs : List Definition) (fs gs hs : List Fact) (fc : NoClash fs) (gc :
 
   module _ (inputs : InputLines) (state : ℕ) where
     abbrev Knows : ExprTree → Type 0
-    Knows e = SideKnows gs hs (side_of defs inputs state fs e env).target (side_of defs inputs state fs e env).found (side_of defs inputs state gs e env).target (side_of defs inputs state gs e env).found (outcome hs defs e env)
+    Knows e = SideKnows gs hs (side_of defs fs e env).target (side_of defs fs e env).found (side_of defs gs e env).target (side_of defs gs e env).found (outcome hs defs e env)
 
-    made : (e : ExprTree) → ((x : Target) (v : Tree) → (side_of defs inputs state fs e env).target ≡ Some x → (IsOver (side_of defs inputs state fs e env).found → ⊥) → Settable x v → ((f : Fact) → In f (target_facts x v) → In f hs) → IsWithinListLimit v → outcome hs defs e env ≡ found.value v) → Knows e
+    made : (e : ExprTree) → ((x : Target) (v : Tree) → (side_of defs fs e env).target ≡ Some x → (IsOver (side_of defs fs e env).found → ⊥) → Settable x v → ((f : Fact) → In f (target_facts x v) → In f hs) → IsWithinListLimit v → outcome hs defs e env ≡ found.value v) → Knows e
     made e h = record { sides = side_grows defs fs gs fc gc one env inputs state e; grown = (outcomes_grow gs hs gc hc two defs e env).0; set = h }
 
-    no_target : (e : ExprTree) → (side_of defs inputs state fs e env).target ≡ None → Knows e
+    no_target : (e : ExprTree) → (side_of defs fs e env).target ≡ None → Knows e
     no_target e n = made e (λ x v h. absurd (let z : None ≡ Some x = sym n ∙ h in cc))
 
-    by_size : (e : ExprTree) (b : Bool) → is_place e ≡ b → (x : Target) (v : Tree) → target_if defs inputs state fs b length_at e env ≡ Some x → (IsOver (outcome fs defs (size e) env) → ⊥) → Settable x v → ((f : Fact) → In f (target_facts x v) → In f hs) → outcome hs defs (size e) env ≡ found.value v
+    by_size : (e : ExprTree) (b : Bool) → is_place e ≡ b → (x : Target) (v : Tree) → target_if defs fs b length_at e env ≡ Some x → (IsOver (outcome fs defs (size e) env) → ⊥) → Settable x v → ((f : Fact) → In f (target_facts x v) → In f hs) → outcome hs defs (size e) env ≡ found.value v
     by_size e true p x v h o ok all = size_set e p x v h o ok all
     by_size e false p x v h o ok all = absurd (cc h)
 
-    by_value : (e : ExprTree) (b : Bool) → is_place e ≡ b → (x : Target) (v : Tree) → target_if defs inputs state fs b value_at e env ≡ Some x → ((f : Fact) → In f (target_facts x v) → In f hs) → IsWithinListLimit v → outcome hs defs e env ≡ found.value v
+    by_value : (e : ExprTree) (b : Bool) → is_place e ≡ b → (x : Target) (v : Tree) → target_if defs fs b value_at e env ≡ Some x → ((f : Fact) → In f (target_facts x v) → In f hs) → IsWithinListLimit v → outcome hs defs e env ≡ found.value v
     by_value e true p x v h all small = place_set e p x v h all small
     by_value e false p x v h all small = absurd (cc h)
 

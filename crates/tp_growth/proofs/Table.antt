@@ -65,39 +65,39 @@ module _ (w : Setting) (fs gs : List Fact) (fc : NoClash fs) (gc : NoClash gs) (
   module _ (env : Bindings)
       (equations : (l r : ExprTree) → P (formula_step w.defs w.inputs w.state fs (equation l r) env p n) (formula_step w.defs w.inputs w.state gs (equation l r) env q n))
       (ports : (v : Tree) (port : List ℕ) (x : ExprTree) → input_at w.inputs w.state port ≡ Some v
-      → P (from_port w.defs w.inputs w.state fs (Some v) port (side_of w.defs w.inputs w.state fs x env)) (from_port w.defs w.inputs w.state gs (Some v) port (side_of w.defs w.inputs w.state gs x env))) where
+      → P (from_port fs (Some v) port (side_of w.defs fs x env)) (from_port gs (Some v) port (side_of w.defs gs x env))) where
     grown : (e : ExprTree) → GrownOutcome (outcome fs w.defs e env) (outcome gs w.defs e env)
     grown e = (outcomes_grow fs gs fc gc knows w.defs e env).0
 
-    place_row : (a b : PlaceOutcome) (f g : BindingTree → PickOutcome) → GrownPlace a b → ((v : BindingTree) → P (f v) (g v)) → P (with_place w.defs w.inputs w.state fs a f) (with_place w.defs w.inputs w.state gs b g)
-    place_row (found.path x) b f g h k = subst (λ (o : PlaceOutcome). P (f (place_binding x)) (with_place w.defs w.inputs w.state gs o g)) (sym h) (k (place_binding x))
-    place_row (found.other (found.value t)) b f g h k = subst (λ (o : PlaceOutcome). P (f (known_binding t)) (with_place w.defs w.inputs w.state gs o g)) (sym h) (k (known_binding t))
+    place_row : (a b : PlaceOutcome) (f g : BindingTree → PickOutcome) → GrownPlace a b → ((v : BindingTree) → P (f v) (g v)) → P (with_place a f) (with_place b g)
+    place_row (found.path x) b f g h k = subst (λ (o : PlaceOutcome). P (f (place_binding x)) (with_place o g)) (sym h) (k (place_binding x))
+    place_row (found.other (found.value t)) b f g h k = subst (λ (o : PlaceOutcome). P (f (known_binding t)) (with_place o g)) (sym h) (k (known_binding t))
     place_row (found.other (found.wait x)) b f g h k = respects.waiting _ _ _
-    place_row x b f g h k = respects.failing _ _ tt (subst (λ (o : PlaceOutcome). IsFailure (with_place w.defs w.inputs w.state gs o g)) (sym h) tt)
+    place_row x b f g h k = respects.failing _ _ tt (subst (λ (o : PlaceOutcome). IsFailure (with_place o g)) (sym h) tt)
 
-    argument_row : (x : List ℕ) (e : ExprTree) (f g : BindingTree → PickOutcome) → ((v : BindingTree) → P (f v) (g v)) → P (with_argument w.defs w.inputs w.state fs x e env f) (with_argument w.defs w.inputs w.state gs x e env g)
+    argument_row : (x : List ℕ) (e : ExprTree) (f g : BindingTree → PickOutcome) → ((v : BindingTree) → P (f v) (g v)) → P (with_argument w.defs fs x e env f) (with_argument w.defs gs x e env g)
     argument_row x e f g k = if_row (is_upper x) _ _ _ _ (place_row _ _ f g (outcomes_grow fs gs fc gc knows w.defs e env).1 k) (value_row _ _ _ _ (grown e) (λ v. k (known_binding v)))
 
-    arguments_row : (es : ExprTrees) (xs : List (List ℕ)) (f g : Bindings → PickOutcome) → ((vs : Bindings) → P (f vs) (g vs)) → P (with_arguments w.defs w.inputs w.state fs es xs env f) (with_arguments w.defs w.inputs w.state gs es xs env g)
+    arguments_row : (es : ExprTrees) (xs : List (List ℕ)) (f g : Bindings → PickOutcome) → ((vs : Bindings) → P (f vs) (g vs)) → P (with_arguments w.defs fs es xs env f) (with_arguments w.defs gs es xs env g)
     arguments_row no_expr [] f g k = k []
     arguments_row (expr_then e es) (x ∷ xs) f g k = argument_row x e _ _ (λ b. arguments_row es xs _ _ (λ bs. k (b ∷ bs)))
     arguments_row x y f g k = fails _ tt
 
-    values_row : (es : ExprTrees) (f g : List Tree → PickOutcome) → ((vs : List Tree) → P (f vs) (g vs)) → P (with_values w.defs w.inputs w.state fs es env f) (with_values w.defs w.inputs w.state gs es env g)
+    values_row : (es : ExprTrees) (f g : List Tree → PickOutcome) → ((vs : List Tree) → P (f vs) (g vs)) → P (with_values w.defs fs es env f) (with_values w.defs gs es env g)
     values_row no_expr f g k = k []
     values_row (expr_then e es) f g k = value_row _ _ _ _ (grown e) (λ v. values_row es _ _ (λ vs. k (v ∷ vs)))
 
-    call_row : (d : Option Definition) (es : ExprTrees) → P (called w.defs w.inputs w.state fs d es env n) (called w.defs w.inputs w.state gs d es env n)
+    call_row : (d : Option Definition) (es : ExprTrees) → P (called w.defs fs d es env n) (called w.defs gs d es env n)
     call_row (Some d) es = arguments_row es d.parameters _ _ (λ bs. respects.same _ refl)
     call_row None es = fails _ tt
 
-    length_row : (k : ℤ) → P (length_left w.defs w.inputs w.state fs k env n) (length_left w.defs w.inputs w.state gs k env n)
+    length_row : (k : ℤ) → P (length_left k env n) (length_left k env n)
     length_row (pos zero) = respects.same _ refl
     length_row (pos (suc k)) = respects.same _ refl
     length_row (negsuc k) = fails _ tt
 
     port_row : (v : Option Tree) (port : List ℕ) (x : ExprTree) → input_at w.inputs w.state port ≡ v
-        → P (from_port w.defs w.inputs w.state fs v port (side_of w.defs w.inputs w.state fs x env)) (from_port w.defs w.inputs w.state gs v port (side_of w.defs w.inputs w.state gs x env))
+        → P (from_port fs v port (side_of w.defs fs x env)) (from_port gs v port (side_of w.defs gs x env))
     port_row None port x h = fails _ tt
     port_row (Some v) port x h = ports v port x h
 

@@ -129,7 +129,7 @@ module _ (ρ : Renaming) (n n' : Numbers) where
       place_is e h = (outcomes_rename ρ w.defs kinds fit fixed fs gs fc gc alike e env h).1
 
       target_row : (target : Path → Target) → ((p : Path) → target (renamed_path ρ p) ≡ target_to (target p)) → (b : Bool) (e : ExprTree) → Fit e
-          → target_if w.defs w.inputs w.state gs b target e env' ≡ if_target (target_if w.defs w.inputs w.state fs b target e env)
+          → target_if w.defs gs b target e env' ≡ if_target (target_if w.defs fs b target e env)
       target_row target natural false e h = refl
       target_row target natural true e h = ap (target_at target) (place_is e h) ∙ go (place_outcome fs w.defs e env)
         where
@@ -137,31 +137,31 @@ module _ (ρ : Renaming) (n n' : Numbers) where
           go (found.path p) = ap Some (natural p)
           go (found.other o) = refl
 
-      targets_are : (e : ExprTree) → Fit e → target_of w.defs w.inputs w.state gs e env' ≡ if_target (target_of w.defs w.inputs w.state fs e env)
+      targets_are : (e : ExprTree) → Fit e → target_of w.defs gs e env' ≡ if_target (target_of w.defs fs e env)
       targets_are (size e) h = target_row length_at (λ p. refl) (is_place e) e h
       targets_are (index e i) h = target_row value_at (λ p. refl) (is_place e) (index e i) h
       targets_are (bound i) h = target_row value_at (λ p. refl) true (bound i) h
       targets_are (global x) h = target_row value_at (λ p. refl) true (global x) h
       targets_are e h = refl
 
-      sides_are : (e : ExprTree) → Fit e → side_of w.defs w.inputs w.state gs e env' ≡ side (side_of w.defs w.inputs w.state fs e env).placed (if_target (side_of w.defs w.inputs w.state fs e env).target) (renamed_found ρ (side_of w.defs w.inputs w.state fs e env).found)
-      sides_are e h = λ i. record { placed = (side_of w.defs w.inputs w.state fs e env).placed; target = targets_are e h i; found = found_is e h i }
+      sides_are : (e : ExprTree) → Fit e → side_of w.defs gs e env' ≡ side (side_of w.defs fs e env).placed (if_target (side_of w.defs fs e env).target) (renamed_found ρ (side_of w.defs fs e env).found)
+      sides_are e h = λ i. record { placed = (side_of w.defs fs e env).placed; target = targets_are e h i; found = found_is e h i }
 
-      place_row : (o o' : PlaceOutcome) (f g : BindingTree → PickOutcome) → o' ≡ renamed_place_found ρ o → ((b : BindingTree) → R (f b) (g (renamed_binding ρ b))) → R (with_place w.defs w.inputs w.state fs o f) (with_place w.defs w.inputs w.state gs o' g)
-      place_row (found.path p) o' f g h k = subst (λ (x : PlaceOutcome). R (f (place_binding p)) (with_place w.defs w.inputs w.state gs x g)) (sym h) (k (place_binding p))
-      place_row (found.other o) o' f g h k = subst (λ (x : PlaceOutcome). R (with_value o (λ v. f (known_binding v))) (with_place w.defs w.inputs w.state gs x g)) (sym h)
+      place_row : (o o' : PlaceOutcome) (f g : BindingTree → PickOutcome) → o' ≡ renamed_place_found ρ o → ((b : BindingTree) → R (f b) (g (renamed_binding ρ b))) → R (with_place o f) (with_place o' g)
+      place_row (found.path p) o' f g h k = subst (λ (x : PlaceOutcome). R (f (place_binding p)) (with_place x g)) (sym h) (k (place_binding p))
+      place_row (found.other o) o' f g h k = subst (λ (x : PlaceOutcome). R (with_value o (λ v. f (known_binding v))) (with_place x g)) (sym h)
           (value_row o (renamed_found ρ o) _ _ refl (λ v. k (known_binding v)))
 
-      argument_row : (x : List ℕ) (e : ExprTree) → Fit e → (f g : BindingTree → PickOutcome) → ((b : BindingTree) → R (f b) (g (renamed_binding ρ b))) → R (with_argument w.defs w.inputs w.state fs x e env f) (with_argument w.defs w.inputs w.state gs x e env' g)
+      argument_row : (x : List ℕ) (e : ExprTree) → Fit e → (f g : BindingTree → PickOutcome) → ((b : BindingTree) → R (f b) (g (renamed_binding ρ b))) → R (with_argument w.defs fs x e env f) (with_argument w.defs gs x e env' g)
       argument_row x e h f g k = if_row (is_upper x) _ _ _ _ (place_row _ _ f g (place_is e h) k) (value_row _ _ _ _ (found_is e h) (λ v. k (known_binding v)))
 
       arguments_row : (es : ExprTrees) (xs : List (List ℕ)) → ExprsFit w.defs kinds es (length env) → (f g : Bindings → PickOutcome) → ((bs : Bindings) → R (f bs) (g (renamed_bindings ρ bs)))
-          → R (with_arguments w.defs w.inputs w.state fs es xs env f) (with_arguments w.defs w.inputs w.state gs es xs env' g)
+          → R (with_arguments w.defs fs es xs env f) (with_arguments w.defs gs es xs env' g)
       arguments_row no_expr [] h f g k = k []
       arguments_row (expr_then e es) (x ∷ xs) h f g k = argument_row x e h.0 _ _ (λ b. arguments_row es xs h.1 _ _ (λ bs. k (b ∷ bs)))
       arguments_row x y h f g k = refl
 
-      values_row : (es : ExprTrees) → ExprsFit w.defs kinds es (length env) → (f g : List Tree → PickOutcome) → ((vs : List Tree) → R (f vs) (g vs)) → R (with_values w.defs w.inputs w.state fs es env f) (with_values w.defs w.inputs w.state gs es env' g)
+      values_row : (es : ExprTrees) → ExprsFit w.defs kinds es (length env) → (f g : List Tree → PickOutcome) → ((vs : List Tree) → R (f vs) (g vs)) → R (with_values w.defs fs es env f) (with_values w.defs gs es env' g)
       values_row no_expr h f g k = k []
       values_row (expr_then e es) h f g k = value_row _ _ _ _ (found_is e h.0) (λ v. values_row es h.1 _ _ (λ vs. k (v ∷ vs)))
 
@@ -172,11 +172,11 @@ module _ (ρ : Renaming) (n n' : Numbers) where
       two_leaves : (l m l' m' : Leaf) → l' ≡ renamed_leaf ρ l → m' ≡ renamed_leaf ρ m → R (becomes (leaf (n.item 0) l (leaf (n.item 1) m none)) 2) (becomes (leaf (n'.item 0) l' (leaf (n'.item 1) m' none)) 2)
       two_leaves l m l' m' h k = becomes_row _ _ 2 (λ a. λ i. leaf (a 0 (omega arith) i) (h i) (leaf (a 1 (omega arith) i) (k i) none))
 
-      call_row : (d : Option Definition) (es : ExprTrees) → ExprsFit w.defs kinds es (length env) → R (called w.defs w.inputs w.state fs d es env n) (called w.defs w.inputs w.state gs d es env' n')
+      call_row : (d : Option Definition) (es : ExprTrees) → ExprsFit w.defs kinds es (length env) → R (called w.defs fs d es env n) (called w.defs gs d es env' n')
       call_row (Some d) es h = arguments_row es d.parameters h _ _ (λ bs. one_leaf (Do d.formula bs) _ refl)
       call_row None es h = refl
 
-      length_row : (k : ℤ) → R (length_left w.defs w.inputs w.state fs k env n) (length_left w.defs w.inputs w.state gs k env' n')
+      length_row : (k : ℤ) → R (length_left k env n) (length_left k env' n')
       length_row (pos zero) = one_leaf (Do empty env) _ refl
       length_row (pos (suc k)) = one_leaf (Do (next (len (numeral (pos k)))) env) _ refl
       length_row (negsuc k) = refl
@@ -185,9 +185,9 @@ module _ (ρ : Renaming) (n n' : Numbers) where
       all_are no_formula k m a = refl
       all_are (formula_then f fs) k m a = ap₂ (λ i es. leaf i (Do f env') es) (a k (omega arith)) (all_are fs (suc k) m (λ j l. a j (omega (arith, l))))
 
-      port_row : (v : Option Tree) (port : List ℕ) (x : ExprTree) → Fit x → R (from_port w.defs w.inputs w.state fs v port (side_of w.defs w.inputs w.state fs x env)) (from_port w.defs w.inputs w.state gs v port (side_of w.defs w.inputs w.state gs x env'))
+      port_row : (v : Option Tree) (port : List ℕ) (x : ExprTree) → Fit x → R (from_port fs v port (side_of w.defs fs x env)) (from_port gs v port (side_of w.defs gs x env'))
       port_row None port x h = refl
-      port_row (Some v) port x h = equate_row (side_of w.defs w.inputs w.state fs x env) (side_with w.defs w.inputs w.state fs v) (side_of w.defs w.inputs w.state gs x env') (side_with w.defs w.inputs w.state gs v) (sides_are x h) refl
+      port_row (Some v) port x h = equate_row (side_of w.defs fs x env) (side_with v) (side_of w.defs gs x env') (side_with v) (sides_are x h) refl
 
       -- a region with one item
       split_row : (g f : FormulaTree) (e e' : Bindings) (d : ℕ) → e' ≡ renamed_bindings ρ e
@@ -203,7 +203,7 @@ module _ (ρ : Renaming) (n n' : Numbers) where
       pub formula_row : (f : FormulaTree) (p : Place) → FormulaFits w.defs kinds f (length env) → R (formula_step w.defs w.inputs w.state fs f env p n) (formula_step w.defs w.inputs w.state gs f env' (renamed_place ρ p) n')
       formula_row trivial p h = λ a. refl
       formula_row (test e) p h = truth_row _ _ _ _ (found_is e h) (λ b. if_row b _ _ _ _ (λ a. refl) refl)
-      formula_row (equation l r) p h = equate_row (side_of w.defs w.inputs w.state fs l env) (side_of w.defs w.inputs w.state fs r env) (side_of w.defs w.inputs w.state gs l env') (side_of w.defs w.inputs w.state gs r env') (sides_are l h.0) (sides_are r h.1)
+      formula_row (equation l r) p h = equate_row (side_of w.defs fs l env) (side_of w.defs fs r env) (side_of w.defs gs l env') (side_of w.defs gs r env') (sides_are l h.0) (sides_are r h.1)
       formula_row (next_equation k t e) p h = value_row _ _ _ _ (found_is e h.1) (λ v. marking_row Going (p.is Ending) p.depth _ _ 1 (λ a. ap (λ i. leaf i (Later (nexts (k - 1) (equation t (known v))) env') none) (a 0 (omega arith))))
       formula_row empty p h = marking_row Ending (p.is Going) p.depth none none 0 (λ a. refl)
       formula_row more p h = marking_row Going (p.is Ending) p.depth none none 0 (λ a. refl)

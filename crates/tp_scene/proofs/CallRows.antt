@@ -69,10 +69,10 @@ module _ (w : Context) (state : ℕ) (kinds : List Bool) (facts : List Fact) (nn
       Row o = Keeps w globals facts nn.local e o Old s a b
 
       with_values_row : (xs : ExprTrees) → ExprsFit w.defs kinds xs (length env) → (f : List Tree → PickOutcome)
-          → (NoneIs (ValuesAt xs) → No) → ((vs : List Tree) → ItIs (ValuesAt xs) (λ _. vs) → Row (f vs)) → Row (with_values w.defs w.inputs state facts xs env f)
+          → (NoneIs (ValuesAt xs) → No) → ((vs : List Tree) → ItIs (ValuesAt xs) (λ _. vs) → Row (f vs)) → Row (with_values w.defs facts xs env f)
       with_values_row no_expr fits f fails all = all [] (λ d σ ag. refl)
       with_values_row (expr_then x xs) fits f fails all =
-          with_value_row w globals facts nn.local e Old s a b (outcome facts w.defs x env) (λ v. with_values w.defs w.inputs state facts xs env (λ vs. f (v ∷ vs)))
+          with_value_row w globals facts nn.local e Old s a b (outcome facts w.defs x env) (λ v. with_values w.defs facts xs env (λ vs. f (v ∷ vs)))
           (λ k q. fails (λ d σ ag. none_first _ _ ((right σ s a x env fits.0 ag).faults k q d)))
           (λ v q. with_values_row xs fits.1 (λ vs. f (v ∷ vs))
           (λ z. fails (λ d σ ag. none_after (value w.defs d x (env_in σ) s a) (ValuesAt xs d σ) (λ t ts. t ∷ ts) (z d σ ag)))
@@ -80,10 +80,10 @@ module _ (w : Context) (state : ℕ) (kinds : List Bool) (facts : List Fact) (nn
 
       argument_row : (upper : Bool) (x : ExprTree) → ExprFits w.defs kinds x (length env) → (f : BindingTree → PickOutcome)
           → (NoneIs (ArgumentAt upper x) → No) → ((y : BindingTree) → ItIs (ArgumentAt upper x) (λ σ. meaning_of globals s σ y) → Row (f y))
-          → Row (if upper then with_place w.defs w.inputs state facts (place_outcome facts w.defs x env) f else with_value (outcome facts w.defs x env) (λ v. f (known_binding v)))
+          → Row (if upper then with_place (place_outcome facts w.defs x env) f else with_value (outcome facts w.defs x env) (λ v. f (known_binding v)))
       argument_row true x fit f fails all = by_place (place_outcome facts w.defs x env) refl
         where
-          by_place : (o : PlaceOutcome) → place_outcome facts w.defs x env ≡ o → Row (with_place w.defs w.inputs state facts o f)
+          by_place : (o : PlaceOutcome) → place_outcome facts w.defs x env ≡ o → Row (with_place o f)
           by_place (found.path p) q = all (place_binding p) (λ d σ ag. (placed σ s a x env fit ag).paths p q (e + d) (deep_enough w kinds facts nn.local e deep right d))
           by_place (found.other (found.value t)) q = all (known_binding t) (λ d σ ag. (placed σ s a x env fit ag).from_values t q (e + d) (deep_enough w kinds facts nn.local e deep right d))
           by_place (found.other (found.fault k)) q = fails (λ d σ ag. (placed σ s a x env fit ag).from_faults k q d)
@@ -95,10 +95,10 @@ module _ (w : Context) (state : ℕ) (kinds : List Bool) (facts : List Fact) (nn
 
       arguments_row : (xs : ExprTrees) (names : List (List ℕ)) → ExprsFit w.defs kinds xs (length env) → (f : Bindings → PickOutcome)
           → (NoneIs (ArgumentsAt xs names) → No) → ((ys : Bindings) → ItIs (ArgumentsAt xs names) (λ σ. meanings_of globals s σ ys) → Row (f ys))
-          → Row (with_arguments w.defs w.inputs state facts xs names env f)
+          → Row (with_arguments w.defs facts xs names env f)
       arguments_row no_expr [] fits f fails all = all [] (λ d σ ag. refl)
       arguments_row (expr_then x xs) (name ∷ names) fits f fails all =
-          argument_row (is_upper name) x fits.0 (λ y. with_arguments w.defs w.inputs state facts xs names env (λ ys. f (y ∷ ys)))
+          argument_row (is_upper name) x fits.0 (λ y. with_arguments w.defs facts xs names env (λ ys. f (y ∷ ys)))
           (λ z. fails (λ d σ ag. none_first _ _ (z d σ ag)))
           (λ y z. arguments_row xs names fits.1 (λ ys. f (y ∷ ys))
           (λ u. fails (λ d σ ag. none_after (ArgumentAt (is_upper name) x d σ) (ArgumentsAt xs names d σ) (λ m ms. m ∷ ms) (u d σ ag)))
@@ -141,7 +141,7 @@ module _ (w : Context) (state : ℕ) (kinds : List Bool) (facts : List Fact) (nn
     pub call_row : (i : ℕ) (xs : ExprTrees) → ExprsFit w.defs kinds xs (length env) → (p : Place) → FormulaKeeps w state kinds facts nn e deep right (call i xs) env p s a b
     call_row i xs fits p = by_definition (slice_get w.defs i) refl
       where
-        by_definition : (o : Option Definition) → slice_get w.defs i ≡ o → Keeps w globals facts nn.local e (called w.defs w.inputs state facts o xs env nn) (FormulaSays w globals (call i xs) env) s a b
+        by_definition : (o : Option Definition) → slice_get w.defs i ≡ o → Keeps w globals facts nn.local e (called w.defs facts o xs env nn) (FormulaSays w globals (call i xs) env) s a b
         by_definition None q = λ d σ S ag h. let r = ap (λ (o : Option Definition). o >>= λ g. ArgumentsAt xs g.parameters d σ) q in let t = h.1 in absurd (cc)
         by_definition (Some f) q = arguments_row (FormulaSays w globals (call i xs) env) xs f.parameters fits (λ ys. becomes (leaf (nn.item 0) (Do f.formula ys) none) 1)
             (λ z d σ S ag h. let r = sym (of_definition i f q xs d σ) ∙ h.1 in let t = z d σ ag in absurd (cc))

@@ -33,11 +33,11 @@ module _ (w : Context) (state : ℕ) (kinds : List Bool) (facts : List Fact) (nn
   at_path target x env t (found.path p) q h = (p, q, cc)
   at_path target x env t (found.other o) q h = absurd (cc)
 
-  if_place : (c : Bool) (target : Path → Target) (x : ExprTree) (env : Bindings) (t : Target) → target_if w.defs w.inputs state facts c target x env ≡ Some t → IsAt target x env t
+  if_place : (c : Bool) (target : Path → Target) (x : ExprTree) (env : Bindings) (t : Target) → target_if w.defs facts c target x env ≡ Some t → IsAt target x env t
   if_place true target x env t h = at_path target x env t (place_outcome facts w.defs x env) refl h
   if_place false target x env t h = absurd (cc)
 
-  target_is : (x : ExprTree) (env : Bindings) (t : Target) → target_of w.defs w.inputs state facts x env ≡ Some t → IsAt value_at x env t ⊎ Sized x env t
+  target_is : (x : ExprTree) (env : Bindings) (t : Target) → target_of w.defs facts x env ≡ Some t → IsAt value_at x env t ⊎ Sized x env t
   target_is (size y) env t h = inr (y, refl, if_place (is_place y) length_at y env t h)
   target_is x env t h = inl (if_place (is_place x) value_at x env t h)
 
@@ -61,7 +61,7 @@ module _ (w : Context) (state : ℕ) (kinds : List Bool) (facts : List Fact) (nn
     is_back (inr (y, sized, (p, q, z))) h = subst (λ (f : ExprTree). Value f env (e + d) σ s a u) (sym sized)
         (length_back y (sized_fits x y env sized fit) p q (subst (λ (r : Target). TargetIs (length kinds) r σ s a u) (sym z) h))
 
-  side_means : (x : ExprTree) (env : Bindings) → ExprFits w.defs kinds x (length env) → (s : Course) (a : ℕ) → SideMeans (length kinds) facts e (side_of w.defs w.inputs state facts x env) (Value x env) s a
+  side_means : (x : ExprTree) (env : Bindings) → ExprFits w.defs kinds x (length env) → (s : Course) (a : ℕ) → SideMeans (length kinds) facts e (side_of w.defs facts x env) (Value x env) s a
   side_means x env fit s a = record {
     value_there = λ t q d σ ag. value_found w kinds facts nn.local e deep right x env fit t q d σ s a ag;
     value_only = λ t q d σ ag u h. one_value w kinds facts nn.local e deep right x env fit t q d σ s a ag u h;
@@ -73,12 +73,12 @@ module _ (w : Context) (state : ℕ) (kinds : List Bool) (facts : List Fact) (nn
   pub equation_row : (l r : ExprTree) (env : Bindings) → ExprFits w.defs kinds l (length env) → ExprFits w.defs kinds r (length env) → (p : Place) (s : Course) (a b : ℕ)
       → FormulaKeeps w state kinds facts nn e deep right (equation l r) env p s a b
   equation_row l r env fl fr p s a b =
-      let left = side_of w.defs w.inputs state facts l env in
-      let right = side_of w.defs w.inputs state facts r env in
+      let left = side_of w.defs facts l env in
+      let right = side_of w.defs facts r env in
       equate_row w (length kinds) facts nn.local e adding s a b left.placed left.target left.found right.placed right.target right.found (Value l env) (Value r env) (side_means l env fl s a) (side_means r env fr s a)
 
   -- the other side of an input has the value that is given
-  given_means : (v : Tree) (s : Course) (a : ℕ) → SideMeans (length kinds) facts e (side_with w.defs w.inputs state facts v) (λ d σ s a u. u ≡ v) s a
+  given_means : (v : Tree) (s : Course) (a : ℕ) → SideMeans (length kinds) facts e (side_with v) (λ d σ s a u. u ≡ v) s a
   given_means v s a = record {
     value_there = λ t q d σ ag. cc;
     value_only = λ t q d σ ag u h. cc;
@@ -92,12 +92,12 @@ module _ (w : Context) (state : ℕ) (kinds : List Bool) (facts : List Fact) (nn
   input_row x port env fit p s a b own = by_port (input_at w.inputs state port) refl
     where
       by_port : (o : Option Tree) → input_at w.inputs state port ≡ o
-          → Keeps w (length kinds) facts nn.local e (from_port w.defs w.inputs state facts o port (side_of w.defs w.inputs state facts x env)) (FormulaSays w (length kinds) (input x port) env) s a b
+          → Keeps w (length kinds) facts nn.local e (from_port facts o port (side_of w.defs facts x env)) (FormulaSays w (length kinds) (input x port) env) s a b
       by_port None q = λ d σ S ag h. let r : input_at w.inputs (s a).own port ≡ None = ap (λ k. input_at w.inputs k port) own ∙ q in let z = h.1 in absurd (cc)
       by_port (Some v) q =
-          let side = side_of w.defs w.inputs state facts x env in
+          let side = side_of w.defs facts x env in
           let given : input_at w.inputs (s a).own port ≡ Some v = ap (λ k. input_at w.inputs k port) own ∙ q in
-          row_as w (length kinds) facts nn.local e (equate facts side (side_with w.defs w.inputs state facts v)) (EquationSays (Value x env) (λ d σ s a u. u ≡ v)) (FormulaSays w (length kinds) (input x port) env) s a b
+          row_as w (length kinds) facts nn.local e (equate facts side (side_with v)) (EquationSays (Value x env) (λ d σ s a u. u ≡ v)) (FormulaSays w (length kinds) (input x port) env) s a b
           (λ d σ S ag h. let z = h.1 in (h.0, h.2, cc, h.3))
           (λ d σ S ag h. (v, given, subst (λ (u : Tree). Value x env d σ s a u) h.2 h.1, h.3))
           (equate_row w (length kinds) facts nn.local e adding s a b side.placed side.target side.found false None (found.value v) (Value x env) (λ d σ s a u. u ≡ v) (side_means x env fit s a) (given_means v s a))

@@ -140,7 +140,7 @@ module _ (w : Context) (state : ℕ) (kinds : List Bool) (facts : List Fact) (nn
       with_number_bound m = env ++ known_binding (num m) ∷ []
 
       pub for_row : FormulaKeeps w state kinds facts nn e deep right (for_from name k x f) env p s a b
-      for_row = number_row w kinds facts nn.local e deep right x env fit (Said (for_from name k x f)) s a b (λ m. turns w.defs w.inputs state facts name k m f env p nn) (λ d σ S h. (h.0, h.1))
+      for_row = number_row w kinds facts nn.local e deep right x env fit (Said (for_from name k x f)) s a b (λ m. turns name k m f env p nn) (λ d σ S h. (h.0, h.1))
           (λ m q. cond_both (int_le m k) _ _ (RowOf (for_from name k x f))
           (λ y. becomes_formula w globals facts nn.local e (Said (for_from name k x f)) s a b (nn.item 0) empty env 1
           (λ d σ S ag h. ((for_unfolds name k x f m).ends (no_less m k y) w d (env_in σ) s a b S le (same_value w kinds facts nn.local e deep right x env fit (num m) q d σ s a ag (num h.0) h.1)).0 h)
@@ -155,7 +155,7 @@ module _ (w : Context) (state : ℕ) (kinds : List Bool) (facts : List Fact) (nn
       for_all_after m = forall_from name (k +ℤ pos 1) (numeral m) f
 
       pub forall_row : FormulaKeeps w state kinds facts nn e deep right (forall_from name k x f) env p s a b
-      forall_row = number_row w kinds facts nn.local e deep right x env fit (Said (forall_from name k x f)) s a b (λ m. instances w.defs w.inputs state facts name k m f env nn) (λ d σ S h. (h.0, h.1))
+      forall_row = number_row w kinds facts nn.local e deep right x env fit (Said (forall_from name k x f)) s a b (λ m. instances name k m f env nn) (λ d σ S h. (h.0, h.1))
           (λ m q. cond_both (int_le m k) _ _ (RowOf (forall_from name k x f))
           (λ y. gone w globals facts nn.local e (Said (forall_from name k x f)) s a b
           (λ d σ S ag h. ((forall_unfolds name k x f m).ends (no_less m k y) w d (env_in σ) s a b S le (same_value w kinds facts nn.local e deep right x env fit (num m) q d σ s a ag (num h.0) h.1)).0 h)

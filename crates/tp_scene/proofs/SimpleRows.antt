@@ -128,9 +128,9 @@ module _ (w : Context) (state : ℕ) (kinds : List Bool) (facts : List Fact) (nn
 
     module _ (x : ExprTree) (fit : ExprFits w.defs kinds x (length env)) where
       pub len_row : FormulaKeeps (len x) env p s a b
-      len_row = number_row w kinds facts nn.local e deep right x env fit (Said (len x)) s a b (λ k. length_left w.defs w.inputs state facts k env nn) (λ d σ S h. (pos h.0, h.1)) left
+      len_row = number_row w kinds facts nn.local e deep right x env fit (Said (len x)) s a b (λ k. length_left k env nn) (λ d σ S h. (pos h.0, h.1)) left
         where
-          left : (k : ℤ) → Finds w kinds facts nn.local e deep right x env (num k) → RowOf (len x) (length_left w.defs w.inputs state facts k env nn)
+          left : (k : ℤ) → Finds w kinds facts nn.local e deep right x env (num k) → RowOf (len x) (length_left k env nn)
           left (pos zero) q = becomes_formula w (length kinds) facts nn.local e (Said (len x)) s a b (nn.item 0) empty env 1
               (λ d σ S ag h. ((len_unfolds x).ends w d (env_in σ) s a b S le (same_value w kinds facts nn.local e deep right x env fit (num (pos 0)) q d σ s a ag (num (pos h.0)) h.1)).0 h)
               (λ d σ S ag h. ((len_unfolds x).ends w (e + d) (env_in σ) s a b S le (value_found w kinds facts nn.local e deep right x env fit (num (pos 0)) q d σ s a ag)).1 h)

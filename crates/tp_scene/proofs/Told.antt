@@ -281,46 +281,46 @@ module _ (b : Bundle) (defs : List Definition) (inputs : InputLines) (state : �
     value_of_told : (e : ExprTree) → Fit e → b.found (outcome facts defs e env)
     value_of_told e h = closed.value e env h bs
 
-    target_if_told : (target : Path → Target) → ((q : Path) → PathOf (target q) ≡ q) → (c : Bool) (e : ExprTree) → Fit e → Sets (target_if defs inputs state facts c target e env)
+    target_if_told : (target : Path → Target) → ((q : Path) → PathOf (target q) ≡ q) → (c : Bool) (e : ExprTree) → Fit e → Sets (target_if defs facts c target e env)
     target_if_told target same false e h = tt
     target_if_told target same true e h = go (place_outcome facts defs e env) (closed.place e env h bs) where
       go : (o : PlaceOutcome) → PlaceHas b o → Sets (target_at target o)
       go (found.path q) x = subst (λ (y : Path). b.binding (place_binding y)) (sym (same q)) x
       go (found.other o) x = tt
 
-    target_told : (e : ExprTree) → Fit e → Sets (target_of defs inputs state facts e env)
+    target_told : (e : ExprTree) → Fit e → Sets (target_of defs facts e env)
     target_told (size e) h = target_if_told length_at (λ q. refl) (is_place e) e (closed.lists.sized e (length env) h)
     target_told e h = target_if_told value_at (λ q. refl) (is_place e) e h
 
-    values_told : (es : ExprTrees) (f : List Tree → PickOutcome) → b.exprs es (length env) → ((vs : List Tree) → P (f vs)) → P (with_values defs inputs state facts es env f)
+    values_told : (es : ExprTrees) (f : List Tree → PickOutcome) → b.exprs es (length env) → ((vs : List Tree) → P (f vs)) → P (with_values defs facts es env f)
     values_told no_expr f h k = k []
     values_told (expr_then e es) f h k = value_told (outcome facts defs e env) _ (value_of_told e (closed.lists.first_expr e es _ h)) (λ v u. values_told es _ (closed.lists.other_exprs e es _ h) (λ vs. k (v ∷ vs)))
 
-    place_told : (o : PlaceOutcome) → PlaceHas b o → (f : BindingTree → PickOutcome) → ((x : BindingTree) → b.binding x → P (f x)) → P (with_place defs inputs state facts o f)
+    place_told : (o : PlaceOutcome) → PlaceHas b o → (f : BindingTree → PickOutcome) → ((x : BindingTree) → b.binding x → P (f x)) → P (with_place o f)
     place_told (found.path q) h f k = k (place_binding q) h
     place_told (found.other o) h f k = value_told o _ h (λ v u. k (known_binding v) (closed.value_bound v u))
 
-    argument_told : (x : List ℕ) (e : ExprTree) → Fit e → (f : BindingTree → PickOutcome) → ((y : BindingTree) → b.binding y → P (f y)) → P (with_argument defs inputs state facts x e env f)
+    argument_told : (x : List ℕ) (e : ExprTree) → Fit e → (f : BindingTree → PickOutcome) → ((y : BindingTree) → b.binding y → P (f y)) → P (with_argument defs facts x e env f)
     argument_told x e h f k = if_told (is_upper x) _ _ (place_told (place_outcome facts defs e env) (closed.place e env h bs) f k) (value_told (outcome facts defs e env) _ (value_of_told e h) (λ v u. k (known_binding v) (closed.value_bound v u)))
 
-    arguments_told : (es : ExprTrees) (xs : List (List ℕ)) (f : Bindings → PickOutcome) → b.exprs es (length env) → ((ys : Bindings) → b.bindings ys → length ys ≡ length xs → P (f ys)) → P (with_arguments defs inputs state facts es xs env f)
+    arguments_told : (es : ExprTrees) (xs : List (List ℕ)) (f : Bindings → PickOutcome) → b.exprs es (length env) → ((ys : Bindings) → b.bindings ys → length ys ≡ length xs → P (f ys)) → P (with_arguments defs facts es xs env f)
     arguments_told no_expr [] f h k = k [] closed.lists.no_binding refl
     arguments_told (expr_then e es) (x ∷ xs) f h k =
         argument_told x e (closed.lists.first_expr e es _ h) _ (λ y u. arguments_told es xs _ (closed.lists.other_exprs e es _ h) (λ ys v q. k (y ∷ ys) (closed.lists.before y ys u v) (ap suc q)))
     arguments_told x y f h k = tt
 
-    called_told : (i : ℕ) (d : Option Definition) → slice_get defs i ≡ d → (es : ExprTrees) → b.exprs es (length env) → P (called defs inputs state facts d es env n)
+    called_told : (i : ℕ) (d : Option Definition) → slice_get defs i ≡ d → (es : ExprTrees) → b.exprs es (length env) → P (called defs facts d es env n)
     called_told i (Some d) e es h = arguments_told es d.parameters _ h (λ ys v q. one_told d.formula ys (subst (λ (j : ℕ). b.formula d.formula j) (sym q) (closed.body i d e), v))
     called_told i None e es h = tt
 
-    length_told : (k : ℤ) → b.formula empty (length env) → ((j : ℕ) → b.formula (next (len (numeral (pos j)))) (length env)) → P (length_left defs inputs state facts k env n)
+    length_told : (k : ℤ) → b.formula empty (length env) → ((j : ℕ) → b.formula (next (len (numeral (pos j)))) (length env)) → P (length_left k env n)
     length_told (pos zero) h g = one_told _ _ (h, bs)
     length_told (pos (suc k)) h g = one_told _ _ (g k, bs)
     length_told (negsuc k) h g = tt
 
-    port_told : (v : Option Tree) (port : List ℕ) (x : ExprTree) → input_at inputs state port ≡ v → Fit x → b.name port → P (from_port defs inputs state facts v port (side_of defs inputs state facts x env))
+    port_told : (v : Option Tree) (port : List ℕ) (x : ExprTree) → input_at inputs state port ≡ v → Fit x → b.name port → P (from_port facts v port (side_of defs facts x env))
     port_told None port x e h m = m
-    port_told (Some v) port x e h m = equate_told (side_of defs inputs state facts x env) (side_with defs inputs state facts v) (target_told x h) tt (value_of_told x h) (closed.read port v e)
+    port_told (Some v) port x e h m = equate_told (side_of defs facts x env) (side_with v) (target_told x h) tt (value_of_told x h) (closed.read port v e)
 
     all_told : (fs : FormulaTrees) (from : ℕ) → b.formulas fs (length env) → Leaves None from (all_do fs env n.item from) (from + count_of fs)
     all_told no_formula from h = omega arith
@@ -337,7 +337,7 @@ module _ (b : Bundle) (defs : List Definition) (inputs : InputLines) (state : �
     row : (f : FormulaTree) → PartsOf b f (length env) → P (formula_step defs inputs state facts f env p n)
     row trivial h = nothing_told
     row (test e) h = truth_told _ _ (value_of_told e h) (λ c. if_told c _ _ nothing_told tt)
-    row (equation l r) h = equate_told (side_of defs inputs state facts l env) (side_of defs inputs state facts r env) (target_told l h.0) (target_told r h.1) (value_of_told l h.0) (value_of_told r h.1)
+    row (equation l r) h = equate_told (side_of defs facts l env) (side_of defs facts r env) (target_told l h.0) (target_told r h.1) (value_of_told l h.0) (value_of_told r h.1)
     row (next_equation k t e) h = value_told _ _ (value_of_told e h.0) (λ v u. marking_told Going (p.is Ending) refl _ 1 (refl, ((h.1 v u, bs), inl refl), refl))
     row empty h = marking_told Ending (p.is Going) refl none 0 refl
     row more h = marking_told Going (p.is Ending) refl none 0 refl

@@ -129,6 +129,10 @@ pub record SideOf : Type 0 where
   pub target : Option Target
   pub found : found.Outcome
 
+-- the side has a value that was found
+abbrev pub side_with : Tree → SideOf
+side_with v = record { placed = false; target = None; found = found.value v }
+
 module _ (facts : List Fact) where
   -- the target gets this value
   abbrev pub set : Target → Tree → PickOutcome
@@ -167,6 +171,11 @@ module _ (facts : List Fact) where
       by_outcomes (found.value v) (found.wait q) = meets r v
       by_outcomes (found.wait p) (found.wait q) = both_wait l.placed r.placed p q
 
+  -- the side has the value that the port has, if it has one
+  abbrev pub from_port : Option Tree → (port : List ℕ) → SideOf → PickOutcome
+  from_port None port side = misses port
+  from_port (Some v) port side = equate side (side_with v)
+
 -- the items of a conjunction
 abbrev pub all_do : FormulaTrees → Bindings → (number : ℕ → ℕ) → (from : ℕ) → Entries
 all_do no_formula env number k = none
@@ -176,8 +185,32 @@ abbrev pub count_of : FormulaTrees → ℕ
 count_of no_formula = 0
 count_of (formula_then f fs) = suc (count_of fs)
 
--- Said in a state with this number of its own, where these facts are known.
-module _ (defs : List Definition) (inputs : InputLines) (state : ℕ) (facts : List Fact) where
+abbrev pub is_placed : ExprTree → Bool
+is_placed (size e) = is_place e
+is_placed e = is_place e
+
+abbrev pub with_place : PlaceOutcome → (BindingTree → PickOutcome) → PickOutcome
+with_place (found.path p) f = f (place_binding p)
+with_place (found.other o) f = with_value o (λ v. f (known_binding v))
+
+abbrev pub length_left : ℤ → Bindings → Numbers → PickOutcome
+length_left (pos zero) env n = becomes (leaf (n.item 0) (Do empty env) none) 1
+length_left (pos (suc k)) env n = becomes (leaf (n.item 0) (Do (next (len (numeral (pos k)))) env) none) 1
+length_left (negsuc k) env n = clashes False
+
+-- a loop's turns from k to below m
+abbrev pub turns : (name : List ℕ) → (k m : ℤ) → FormulaTree → Bindings → Place → Numbers → PickOutcome
+turns name k m f env p n =
+    if int_le m k then becomes (leaf (n.item 0) (Do empty env) none) 1
+    else with_region p.depth (split_then (n.item 1) (region_of n.region (n.item 0) f (env ++ known_binding (num k) ∷ [])) (for_from name (k +ℤ pos 1) (numeral m) f) env none) 2
+
+abbrev pub instances : (name : List ℕ) → (k m : ℤ) → FormulaTree → Bindings → Numbers → PickOutcome
+instances name k m f env n =
+    if int_le m k then vanishes
+    else becomes (leaf (n.item 0) (Do f (env ++ known_binding (num k) ∷ [])) (leaf (n.item 1) (Do (forall_from name (k +ℤ pos 1) (numeral m) f) env) none)) 2
+
+-- Said where these facts are known.
+module _ (defs : List Definition) (facts : List Fact) where
   abbrev pub value_of : ExprTree → Bindings → found.Outcome
   value_of e env = outcome facts defs e env
 
@@ -190,25 +223,13 @@ module _ (defs : List Definition) (inputs : InputLines) (state : ℕ) (facts : L
   target_of (size e) env = target_if (is_place e) length_at e env
   target_of e env = target_if (is_place e) value_at e env
 
-  abbrev pub is_placed : ExprTree → Bool
-  is_placed (size e) = is_place e
-  is_placed e = is_place e
-
   abbrev pub side_of : ExprTree → Bindings → SideOf
   side_of e env = record { placed = is_placed e; target = target_of e env; found = value_of e env }
-
-  -- the side has a value that was found
-  abbrev pub side_with : Tree → SideOf
-  side_with v = record { placed = false; target = None; found = found.value v }
 
   -- the values of expressions from left to right, or the outcome of the first that has none
   abbrev pub with_values : ExprTrees → Bindings → (List Tree → PickOutcome) → PickOutcome
   with_values no_expr env f = f []
   with_values (expr_then e es) env f = with_value (value_of e env) (λ v. with_values es env (λ vs. f (v ∷ vs)))
-
-  abbrev pub with_place : PlaceOutcome → (BindingTree → PickOutcome) → PickOutcome
-  with_place (found.path p) f = f (place_binding p)
-  with_place (found.other o) f = with_value o (λ v. f (known_binding v))
 
   abbrev pub with_argument : (name : List ℕ) → ExprTree → Bindings → (BindingTree → PickOutcome) → PickOutcome
   with_argument x e env f = if is_upper x then with_place (place_outcome facts defs e env) f else with_value (value_of e env) (λ v. f (known_binding v))
@@ -224,32 +245,14 @@ module _ (defs : List Definition) (inputs : InputLines) (state : ℕ) (facts : L
   called (Some d) es env n = with_arguments es d.parameters env (λ args. becomes (leaf (n.item 0) (Do d.formula args) none) 1)
   called None es env n = clashes (NoValue NoElement)
 
-  abbrev pub length_left : ℤ → Bindings → Numbers → PickOutcome
-  length_left (pos zero) env n = becomes (leaf (n.item 0) (Do empty env) none) 1
-  length_left (pos (suc k)) env n = becomes (leaf (n.item 0) (Do (next (len (numeral (pos k)))) env) none) 1
-  length_left (negsuc k) env n = clashes False
-
-  -- a loop's turns from k to below m
-  abbrev pub turns : (name : List ℕ) → (k m : ℤ) → FormulaTree → Bindings → Place → Numbers → PickOutcome
-  turns name k m f env p n =
-      if int_le m k then becomes (leaf (n.item 0) (Do empty env) none) 1
-      else with_region p.depth (split_then (n.item 1) (region_of n.region (n.item 0) f (env ++ known_binding (num k) ∷ [])) (for_from name (k +ℤ pos 1) (numeral m) f) env none) 2
-
-  abbrev pub instances : (name : List ℕ) → (k m : ℤ) → FormulaTree → Bindings → Numbers → PickOutcome
-  instances name k m f env n =
-      if int_le m k then vanishes
-      else becomes (leaf (n.item 0) (Do f (env ++ known_binding (num k) ∷ [])) (leaf (n.item 1) (Do (forall_from name (k +ℤ pos 1) (numeral m) f) env) none)) 2
-
-  abbrev pub from_port : Option Tree → (port : List ℕ) → SideOf → PickOutcome
-  from_port None port side = misses port
-  from_port (Some v) port side = equate facts side (side_with v)
-
+-- Said in a state with this number of its own, where these facts are known.
+module _ (defs : List Definition) (inputs : InputLines) (state : ℕ) (facts : List Fact) where
   -- what a formula that is to hold from this state on becomes
   abbrev pub formula_step : FormulaTree → Bindings → Place → Numbers → PickOutcome
   formula_step trivial env p n = vanishes
-  formula_step (test e) env p n = with_truth (value_of e env) (λ b. if b then vanishes else clashes False)
-  formula_step (equation l r) env p n = equate facts (side_of l env) (side_of r env)
-  formula_step (next_equation k t e) env p n = with_value (value_of e env) (λ v. going p (leaf (n.item 0) (Later (nexts (k - 1) (equation t (known v))) env) none) 1)
+  formula_step (test e) env p n = with_truth (value_of defs facts e env) (λ b. if b then vanishes else clashes False)
+  formula_step (equation l r) env p n = equate facts (side_of defs facts l env) (side_of defs facts r env)
+  formula_step (next_equation k t e) env p n = with_value (value_of defs facts e env) (λ v. going p (leaf (n.item 0) (Later (nexts (k - 1) (equation t (known v))) env) none) 1)
   formula_step empty env p n = ending p
   formula_step more env p n = going p none 0
   formula_step (next f) env p n = going p (leaf (n.item 0) (Later f env) none) 1
@@ -258,13 +261,13 @@ module _ (defs : List Definition) (inputs : InputLines) (state : ℕ) (facts : L
   formula_step (if_empty f) env p n = by_status p vanishes (becomes (leaf (n.item 0) (Do f env) none) 1)
   formula_step (always f) env p n = becomes (leaf (n.item 0) (Do f env) (leaf (n.item 1) (Do (weak_next (always f)) env) none)) 2
   formula_step (conjunction fs) env p n = becomes (all_do fs env n.item 0) (count_of fs)
-  formula_step (branch e f g) env p n = with_truth (value_of e env) (λ b. becomes (leaf (n.item 0) (Do (if b then f else g) env) none) 1)
-  formula_step (len e) env p n = with_number (value_of e env) (λ k. length_left k env n)
-  formula_step (assign t e) env p n = with_value (value_of e env) (λ v. becomes (leaf (n.item 0) (Do (always (if_empty (equation t (known v)))) env) none) 1)
+  formula_step (branch e f g) env p n = with_truth (value_of defs facts e env) (λ b. becomes (leaf (n.item 0) (Do (if b then f else g) env) none) 1)
+  formula_step (len e) env p n = with_number (value_of defs facts e env) (λ k. length_left k env n)
+  formula_step (assign t e) env p n = with_value (value_of defs facts e env) (λ v. becomes (leaf (n.item 0) (Do (always (if_empty (equation t (known v)))) env) none) 1)
   formula_step (chop f g) env p n = with_region p.depth (split_then (n.item 1) (region_of n.region (n.item 0) f env) g env none) 2
   formula_step (while e f) env p n = becomes (leaf (n.item 0) (Do (branch e (chop (conjunction (formulas_of (f ∷ more ∷ []))) (while e f)) empty) env) none) 1
-  formula_step (for_from name k e f) env p n = with_number (value_of e env) (λ m. turns name k m f env p n)
-  formula_step (forall_from name k e f) env p n = with_number (value_of e env) (λ m. instances name k m f env n)
+  formula_step (for_from name k e f) env p n = with_number (value_of defs facts e env) (λ m. turns name k m f env p n)
+  formula_step (forall_from name k e f) env p n = with_number (value_of defs facts e env) (λ m. instances name k m f env n)
   formula_step (project f g) env p n = with_region p.depth (opened_then (n.item 1) (region_of n.region (n.item 0) g env) f env none) 2
   formula_step (exists name lasting f) env p n =
       reduces (record {
@@ -275,9 +278,9 @@ module _ (defs : List Definition) (inputs : InputLines) (state : ℕ) (facts : L
         mark = None;
         facts = [];
       })
-  formula_step (call i es) env p n = called (slice_get defs i) es env n
-  formula_step (input x port) env p n = from_port (input_at inputs state port) port (side_of x env)
-  formula_step (display es) env p n = with_values es env (λ vs. becomes (leaf (n.item 0) (Shown vs) none) 1)
+  formula_step (call i es) env p n = called defs facts (slice_get defs i) es env n
+  formula_step (input x port) env p n = from_port facts (input_at inputs state port) port (side_of defs facts x env)
+  formula_step (display es) env p n = with_values defs facts es env (λ vs. becomes (leaf (n.item 0) (Shown vs) none) 1)
 
   abbrev pub leaf_step : Leaf → Place → Numbers → PickOutcome
   leaf_step (Do f env) p n = formula_step f env p n

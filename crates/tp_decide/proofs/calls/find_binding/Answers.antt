@@ -1,4 +1,4 @@
-use Rattle.std.proofs.Common.{◌≡◌, Bool, false, [], ◌∙◌, sym, subst, if◌then◌else◌}
+use Rattle.std.proofs.Common.{◌≡◌, Bool, false, ◌∙◌, sym, subst, if◌then◌else◌}
 use Rattle.tp_meaning.specs.Syntax.{known_binding}
 use Rattle.tp_meaning.specs.Value.{is_upper}
 use Rattle.tp_kernel.specs.Read.{expr_tree, bindings_of, definitions_of}
@@ -14,5 +14,5 @@ returns-in_ok-bound-2-clause-bound c =
     let e = expr_tree c.args.expr.now in
     let env = bindings_of c.args.env.now in
     let lower : is_upper c.args.parameter.now ≡ false = sym c.is_upper.ensures ∙ c.if-is_upper.false in
-    subst (λ (upper : Bool). BoundIn (λ f. if upper then row.with_place defs [] 0 facts (place_outcome facts defs e env) f else row.with_value (outcome facts defs e env) (λ v. f (known_binding v))) c.in_ok-bound-2.bound)
+    subst (λ (upper : Bool). BoundIn (λ f. if upper then row.with_place (place_outcome facts defs e env) f else row.with_value (outcome facts defs e env) (λ v. f (known_binding v))) c.in_ok-bound-2.bound)
     (sym lower) (c.in_ok-bound-2.ensures.bound (outcome facts defs e env) c.in_ok-found.ensures.found)

@@ -27,7 +27,7 @@ loop-expr-preserved c =
     let xs = iter_rest (zip_second c.next.new.self) in
     let left = Zip-more c.loop-expr.expr-iterator c.next.new.self c.next.result (c.in-Some.expr, c.in-Some.parameter) c.in-Some.is c.next.ensures.steps in
     let places = subst (λ (us : List Expr). ArePlaces (exprs_of (map expr_tree us)) (iter_rest (zip_second c.loop-expr.expr-iterator))) left.0 c.loop-expr.invariant.places in
-    let bound = subst (λ (r : Result Binding Decision). BoundIn (λ f. row.with_argument defs [] 0 facts x (expr_tree e) env f) r) c.in-Ok.is c.in_ok-binding.ensures.bound in
+    let bound = subst (λ (r : Result Binding Decision). BoundIn (λ f. row.with_argument defs facts x (expr_tree e) env f) r) c.in-Ok.is c.in_ok-binding.ensures.bound in
     let pushed = ap (map binding_of) c.in_ok-push-in-Ok.ensures.items ∙ map-append binding_of c.loop-expr.items.items (b ∷ []) in
     record {
       bound = λ f.

@@ -1,4 +1,3 @@
-use Rattle.std.specs.Prelude.{[]}
 use Rattle.tp_scene.specs.Step.{instances}
 use Rattle.tp_decide.specs.Read.{formula_of, env_of}
 use Rattle.tp_decide.proofs.FoundLemmas.{number_without}
@@ -6,4 +5,4 @@ use Rattle.tp_decide.proofs.counting.decide_instances.Goals as goal
 
 pub returns-in-Err-clause-outcome : goal.returns-in-Err-clause-outcome
 returns-in-Err-clause-outcome c = λ o h facts n.
-    number_without o c.args.found c.in-Err.decision h c.in-Err.is (λ m. instances [] [] 0 [] c.args.name.now c.args.k m (formula_of c.args.body.now) (env_of c.args.body.now) n) facts n
+    number_without o c.args.found c.in-Err.decision h c.in-Err.is (λ m. instances c.args.name.now c.args.k m (formula_of c.args.body.now) (env_of c.args.body.now) n) facts n

@@ -1,4 +1,4 @@
-use Rattle.std.specs.Prelude.{◌-◌, [], if◌then◌else◌}
+use Rattle.std.specs.Prelude.{◌-◌, if◌then◌else◌}
 use Rattle.std.proofs.Common.{◌≡◌, ◌∙◌, ℤ, Some, slice_get, length, to_z, of_z, arith, ap, ap₂, sym, subst}
 use Rattle.std.proofs.lemmas.Int.{ints}
 use Rattle.tp_value.specs.Number.{number_width}
@@ -86,8 +86,8 @@ returns-in_ok-body-in-For-clause-outcome c =
     let body = c.in_ok-body-in-For.body in
     let same_body : formula_of body ≡ formula_tree c.in-For.body.value = c.in_ok-body-in-For.ensures.formula in
     let same_env : env_of body ≡ env = c.in_ok-body-in-For.ensures.bindings in
-    let counted : row.Numbers → ℤ → FormulaTree → S.Bindings → row.PickOutcome = λ n i f bs. row.with_number o (λ m. row.turns [] [] 0 [] c.in-For.name i m f bs place n) in
-    found_row facts c.decide_turns.result (λ o. NumberIn o found) (λ o n. row.with_number o (λ m. row.turns [] [] 0 [] c.in-For.name k m (formula_of body) (env_of body) place n))
+    let counted : row.Numbers → ℤ → FormulaTree → S.Bindings → row.PickOutcome = λ n i f bs. row.with_number o (λ m. row.turns c.in-For.name i m f bs place n) in
+    found_row facts c.decide_turns.result (λ o. NumberIn o found) (λ o n. row.with_number o (λ m. row.turns c.in-For.name k m (formula_of body) (env_of body) place n))
     o (λ n. step _ env place n) here
     (λ n. ap₂ (counted n k) same_body same_env ∙ ap (λ i. counted n i (formula_tree c.in-For.body.value) env) seen ∙ ap (λ f. step f env place n) (sym whole))
     c.decide_turns.ensures.outcome
@@ -108,8 +108,8 @@ returns-in_ok-body-in-Forall-clause-outcome c =
     let body = c.in_ok-body-in-Forall.body in
     let same_body : formula_of body ≡ formula_tree c.in-Forall.body.value = c.in_ok-body-in-Forall.ensures.formula in
     let same_env : env_of body ≡ env = c.in_ok-body-in-Forall.ensures.bindings in
-    let counted : row.Numbers → ℤ → FormulaTree → S.Bindings → row.PickOutcome = λ n i f bs. row.with_number o (λ m. row.instances [] [] 0 [] c.in-Forall.name i m f bs n) in
-    found_row facts c.decide_instances.result (λ o. NumberIn o found) (λ o n. row.with_number o (λ m. row.instances [] [] 0 [] c.in-Forall.name k m (formula_of body) (env_of body) n))
+    let counted : row.Numbers → ℤ → FormulaTree → S.Bindings → row.PickOutcome = λ n i f bs. row.with_number o (λ m. row.instances c.in-Forall.name i m f bs n) in
+    found_row facts c.decide_instances.result (λ o. NumberIn o found) (λ o n. row.with_number o (λ m. row.instances c.in-Forall.name k m (formula_of body) (env_of body) n))
     o (λ n. step _ env place n) here
     (λ n. ap₂ (counted n k) same_body same_env ∙ ap (λ i. counted n i (formula_tree c.in-Forall.body.value) env) seen ∙ ap (λ f. step f env place n) (sym whole))
     c.decide_instances.ensures.outcome
@@ -131,7 +131,7 @@ returns-in-Call-clause-outcome c =
     let env = env_of c.args.phrase.now in
     let place = plain_place c.args.place in
     let step = row.formula_step defs (lines_of c.args.setting.now.inputs.now) c.args.setting.now.state facts in
-    let called : Env → row.Numbers → row.PickOutcome = λ v n. row.called defs [] 0 facts (slice_get defs c.in-Call.number) (expr_trees c.in-Call.exprs) (bindings_of v) n in
+    let called : Env → row.Numbers → row.PickOutcome = λ v n. row.called defs facts (slice_get defs c.in-Call.number) (expr_trees c.in-Call.exprs) (bindings_of v) n in
     let whole = ap formula_tree (sym c.deref.ensures ∙ c.in-Call.is) ∙ formula_call c.in-Call.number c.in-Call.exprs in
     decided_row facts c.decide_call.result (called c.deref-in-Call.result.now) (λ n. step _ env place n)
     (λ n. ap (λ (v : Env). called v n) c.deref-in-Call.ensures ∙ ap (λ f. step f env place n) (sym whole)) c.decide_call.ensures.outcome
