@@ -6,7 +6,7 @@ use Rattle.tp_value.specs.Limits.{length_limit}
 use Rattle.tp_value.specs.declared.path.Path.{Path}
 use Rattle.tp_value.specs.declared.path.Fact.{Fact}
 use Rattle.tp_value.specs.declared.value.Shape.TheVariants.{Items}
-use Rattle.tp_meaning.specs.Syntax.{ExprTree, ExprTrees, no_expr, expr_then, FormulaTree, trivial, test, equation, next_equation, empty, more, next, weak_next, if_more, if_empty, always, conjunction, branch, len, assign, chop, while, for_from, forall_from, project, exists, call, input, display, Definition, BindingTree, place_binding, known_binding}
+use Rattle.tp_meaning.specs.Syntax.{ExprTree, ExprTrees, no_expr, expr_then, FormulaTree, test, equation, next_equation, empty, more, next, weak_next, if_more, if_empty, branch, len, assign, chop, for_from, forall_from, project, call, input, display, Definition, BindingTree, place_binding, known_binding}
 use Rattle.tp_meaning.specs.Value.{is_upper}
 use Rattle.tp_meaning.specs.Inputs.{input_at}
 use Rattle.tp_store.specs.Facts.{fact, facts_at}
@@ -65,12 +65,9 @@ module _ (gs : List Fact) (q : Place) where
   R = StaysIdle gs q
 
   busy : (o u : PickOutcome) → IsBusy o → R o u
-  busy (reduces r) u h = tt
   busy (waits first other) u h = elim h [ ]
   busy rests u h = elim h [ ]
-  busy (clashes c) u h = tt
-  busy (misses port) u h = tt
-  busy (passes k) u h = tt
+  busy o u h = tt
 
   -- by the status of a region of this place, which is more than it was
   status_row : (p : Place) → Grows p q → (a b a' b' : PickOutcome) → (p.is Going ≡ true → R a (by_status q a' b')) → (p.is Ending ≡ true → R b (by_status q a' b')) → R (by_status p a b) (by_status q a' b')
@@ -93,24 +90,17 @@ module _ (w : Setting) (fs gs : List Fact) (fc : NoClash fs) (gc : NoClash gs) (
   value_row : (a b : found.Outcome) (f g : Tree → PickOutcome) → StaysOutcome gs a b → ((v : Tree) → Idle (f v) (g v)) → Idle (with_value a f) (with_value b g)
   value_row (found.value t) b f g h k = subst (λ (o : found.Outcome). Idle (f t) (with_value o g)) (sym h) (k t)
   value_row (found.wait x) b f g h k = λ u. ap (λ (o : found.Outcome). with_value o g) (h u.0)
-  value_row (found.fault j) b f g h k = tt
-  value_row (found.over j) b f g h k = tt
+  value_row a b f g h k = tt
 
   truth_row : (a b : found.Outcome) (f g : Bool → PickOutcome) → StaysOutcome gs a b → ((v : Bool) → IsBusy (f v)) → Idle (with_truth a f) (with_truth b g)
   truth_row (found.value (truth t)) b f g h k = busy_row _ _ (k t)
-  truth_row (found.value (num m)) b f g h k = tt
-  truth_row (found.value (list ts)) b f g h k = tt
   truth_row (found.wait x) b f g h k = λ u. ap (λ (o : found.Outcome). with_truth o g) (h u.0)
-  truth_row (found.fault j) b f g h k = tt
-  truth_row (found.over j) b f g h k = tt
+  truth_row a b f g h k = tt
 
   number_row : (a b : found.Outcome) (f g : ℤ → PickOutcome) → StaysOutcome gs a b → ((v : ℤ) → IsBusy (f v)) → Idle (with_number a f) (with_number b g)
   number_row (found.value (num m)) b f g h k = busy_row _ _ (k m)
-  number_row (found.value (truth t)) b f g h k = tt
-  number_row (found.value (list ts)) b f g h k = tt
   number_row (found.wait x) b f g h k = λ u. ap (λ (o : found.Outcome). with_number o g) (h u.0)
-  number_row (found.fault j) b f g h k = tt
-  number_row (found.over j) b f g h k = tt
+  number_row a b f g h k = tt
 
   -- an equation, by what its sides were
   pair_waits : (d : Bool) (x y : Path) (u : PickOutcome) → (IsUndecided gs x → IsUndecided gs y → u ≡ (if d then waits (Part x) (Some (Part y)) else waits (Part y) (Some (Part x))))
@@ -147,18 +137,11 @@ module _ (w : Setting) (fs gs : List Fact) (fc : NoClash fs) (gc : NoClash gs) (
   parts_wait b c l l' r r' (found.value t) (found.wait o) x' y' s d = right_meets b c r l' r' o x' y' t d s.goes_on
   parts_wait b c l l' r r' (found.wait o) (found.wait a) x' y' s d = pair_waits (c && not b) o a _ (λ h k.
       ap₂ (λ (z e : found.Outcome). equate gs (side b l' z) (side c r' e)) (s.goes_on h) (d.goes_on k))
-  parts_wait b c l l' r r' (found.value t) (found.fault k) x' y' s d = tt
-  parts_wait b c l l' r r' (found.wait o) (found.fault k) x' y' s d = tt
-  parts_wait b c l l' r r' (found.fault j) (found.fault k) x' y' s d = tt
-  parts_wait b c l l' r r' (found.over j) (found.fault k) x' y' s d = tt
-  parts_wait b c l l' r r' (found.value t) (found.over k) x' y' s d = tt
-  parts_wait b c l l' r r' (found.wait o) (found.over k) x' y' s d = tt
+  parts_wait b c l l' r r' x (found.value v) x' y' s d = tt
+  parts_wait b c l l' r r' x (found.wait o) x' y' s d = tt
+  parts_wait b c l l' r r' x (found.fault k) x' y' s d = tt
   parts_wait b c l l' r r' (found.fault j) (found.over k) x' y' s d = tt
-  parts_wait b c l l' r r' (found.over j) (found.over k) x' y' s d = tt
-  parts_wait b c l l' r r' (found.fault j) (found.value v) x' y' s d = tt
-  parts_wait b c l l' r r' (found.fault j) (found.wait o) x' y' s d = tt
-  parts_wait b c l l' r r' (found.over j) (found.value v) x' y' s d = tt
-  parts_wait b c l l' r r' (found.over j) (found.wait o) x' y' s d = tt
+  parts_wait b c l l' r r' x (found.over k) x' y' s d = tt
 
   sides_wait : (l r l' r' : SideOf) → l'.placed ≡ l.placed → r'.placed ≡ r.placed → SideWaits gs l.target l.found l'.target l'.found → SideWaits gs r.target r.found r'.target r'.found → Idle (equate fs l r) (equate gs l' r')
   sides_wait l r l' r' a b s d = subst (λ (x : Bool). Idle (equate fs l r) (equate gs (side x l'.target l'.found) r')) (sym a)
@@ -174,8 +157,7 @@ module _ (w : Setting) (fs gs : List Fact) (fc : NoClash fs) (gc : NoClash gs) (
     place_row (found.path x) b f g h i k = subst (λ (o : PlaceOutcome). Idle (f (place_binding x)) (with_place w.defs w.inputs w.state gs o g)) (sym h) (k (place_binding x))
     place_row (found.other (found.value t)) b f g h i k = subst (λ (o : PlaceOutcome). Idle (f (known_binding t)) (with_place w.defs w.inputs w.state gs o g)) (sym h) (k (known_binding t))
     place_row (found.other (found.wait x)) b f g h i k = λ u. ap (λ (o : PlaceOutcome). with_place w.defs w.inputs w.state gs o g) (i x refl u.0)
-    place_row (found.other (found.fault j)) b f g h i k = tt
-    place_row (found.other (found.over j)) b f g h i k = tt
+    place_row a b f g h i k = tt
 
     argument_row : (b : Bool) (e : ExprTree) (f g : BindingTree → PickOutcome) → ((v : BindingTree) → Idle (f v) (g v))
         → Idle (if b then with_place w.defs w.inputs w.state fs (place_outcome fs w.defs e env) f else with_value (outcome fs w.defs e env) (λ v. f (known_binding v)))
@@ -209,7 +191,6 @@ module _ (w : Setting) (fs gs : List Fact) (fc : NoClash fs) (gc : NoClash gs) (
         (side_waits w.defs fs gs fc gc knows env w.inputs w.state x) (value_side w.defs fs gs fc gc knows env v)
 
     formula_row : (f : FormulaTree) → Idle (formula_step w.defs w.inputs w.state fs f env p n) (formula_step w.defs w.inputs w.state gs f env q m)
-    formula_row trivial = tt
     formula_row (test e) = truth_row _ _ _ _ (found_by e) (λ b. busy_if b _ _ tt tt)
     formula_row (equation l r) = sides_wait
         (side_of w.defs w.inputs w.state fs l env) (side_of w.defs w.inputs w.state fs r env) (side_of w.defs w.inputs w.state gs l env) (side_of w.defs w.inputs w.state gs r env) refl refl
@@ -221,20 +202,17 @@ module _ (w : Setting) (fs gs : List Fact) (fc : NoClash fs) (gc : NoClash gs) (
     formula_row (weak_next f) = status_row gs q p up _ _ _ _ (λ e. tt) (λ e. tt)
     formula_row (if_more f) = status_row gs q p up _ _ _ _ (λ e. tt) (λ e. tt)
     formula_row (if_empty f) = status_row gs q p up _ _ _ _ (λ e. tt) (λ e. tt)
-    formula_row (always f) = tt
-    formula_row (conjunction fs) = tt
     formula_row (branch e f g) = truth_row _ _ _ _ (found_by e) (λ b. tt)
     formula_row (len e) = number_row _ _ _ _ (found_by e) busy_length
     formula_row (assign t e) = value_row _ _ _ _ (found_by e) (λ v. tt)
     formula_row (chop f g) = busy_row _ _ (busy_region _ _ _)
-    formula_row (while e f) = tt
     formula_row (for_from name k e f) = number_row _ _ _ _ (found_by e) (λ i. busy_if (int_le i k) _ _ tt (busy_region _ _ _))
     formula_row (forall_from name k e f) = number_row _ _ _ _ (found_by e) (λ i. busy_if (int_le i k) _ _ tt tt)
     formula_row (project f g) = busy_row _ _ (busy_region _ _ _)
-    formula_row (exists name lasting f) = tt
     formula_row (call i es) = call_row (slice_get w.defs i) es
     formula_row (input x port) = port_row (input_at w.inputs w.state port) port x
     formula_row (display es) = values_row es _ _ (λ vs. tt)
+    formula_row f = tt
 
 pub leaf_rows_wait : LeafRowsWait
 leaf_rows_wait w fs gs fc gc knows (Do f env) p q n m up = formula_row w fs gs fc gc knows q p n m up env f

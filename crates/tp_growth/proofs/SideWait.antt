@@ -4,7 +4,7 @@ use Rattle.tp_value.specs.Tree.{Tree}
 use Rattle.tp_value.specs.declared.path.Path.{Path}
 use Rattle.tp_value.specs.declared.path.Fact.{Fact}
 use Rattle.tp_value.specs.Shape.{item_at}
-use Rattle.tp_meaning.specs.Syntax.{ExprTree, numeral, boolean, known, bound, global, listing, size, index, minus, negation, both, either, binary, choice, invoke, Definition}
+use Rattle.tp_meaning.specs.Syntax.{ExprTree, bound, global, size, index, Definition}
 use Rattle.tp_meaning.specs.Inputs.{InputLines}
 use Rattle.tp_store.specs.Known.{NoClash}
 use Rattle.tp_eval.specs.Reached.{Reached, reaches, stops, waits, faults, passes, with_reached}
@@ -40,11 +40,11 @@ pub record SideWaits (gs : List Fact) (t : Option Target) (o : found.Outcome) (t
 
 -- a place that waits, waits for what its value waits for
 value_by : (facts : List Fact) (r : Reached PlaceFound) (o p : Path) → place_reached facts r ≡ found.other (found.wait o) → outcome_reached (with_reached r (ev.value_at facts)) ≡ found.wait p → o ≡ p
-value_by facts (reaches (at_path q) c) o p e h = absurd (cc e)
+value_by facts (reaches (at_path q) c) o p e h = cc
 value_by facts (reaches (inside t at) c) o p e h = absurd (element_waits (item_at at t) c o e)
 value_by facts (stops (waits q)) o p e h = cc
-value_by facts (stops (faults k)) o p e h = absurd (cc e)
-value_by facts (stops (passes k)) o p e h = absurd (cc e)
+value_by facts (stops (faults k)) o p e h = cc
+value_by facts (stops (passes k)) o p e h = cc
 
 -- and what its size waits for
 size_by : (facts : List Fact) (r r' : Reached PlaceFound) (o p : Path) → More is_limit r r' → place_reached facts r' ≡ found.other (found.wait o) → outcome_reached (with_reached r (ev.size_at facts)) ≡ found.wait p → o ≡ p
@@ -106,14 +106,4 @@ module _ (defs : List Definition) (fs gs : List Fact) (fc : NoClash fs) (gc : No
     side_waits (index e i) = by_place value_at (index e i) (index e i) (place_side (index e i)) (is_place e) refl
     side_waits (bound i) = place_side (bound i) refl
     side_waits (global x) = place_side (global x) refl
-    side_waits (numeral n) = no_target (numeral n)
-    side_waits (boolean b) = no_target (boolean b)
-    side_waits (known t) = no_target (known t)
-    side_waits (listing es) = no_target (listing es)
-    side_waits (minus e) = no_target (minus e)
-    side_waits (negation e) = no_target (negation e)
-    side_waits (both es) = no_target (both es)
-    side_waits (either a b) = no_target (either a b)
-    side_waits (binary o a b) = no_target (binary o a b)
-    side_waits (choice b x y) = no_target (choice b x y)
-    side_waits (invoke q es) = no_target (invoke q es)
+    side_waits e = no_target e

@@ -4,7 +4,7 @@ use Rattle.std.proofs.lemmas.Bool.{cond_both, or_cases, or_left, or_right, and_p
 use Rattle.tp_value.specs.declared.path.Fact.{Fact}
 use Rattle.tp_store.specs.Known.{Variable}
 use Rattle.tp_scene.specs.Scene.{Side, Ending, Going, Head, marked, Leaf, Holder, Split, SplitProject, Closed, Opened, Running, Entries, none, leaf, node, new_head, no_region, Scene, second_lives, append, rises, risen, Region, Place, root_place, held_place, second_place}
-use Rattle.tp_scene.specs.Regions.{Role, HoldsRegion, by_split, by_split_project, by_closed, by_opened, by_running, by_running_second, past_leaf, past_node, LiveRegion, the_root, the_held}
+use Rattle.tp_scene.specs.Regions.{past_leaf, past_node}
 use Rattle.tp_scene.specs.Step.{Reduction, PickOutcome, reduces, waits, rests, clashes, misses, passes, Numbers, leaf_step, holder_step}
 use Rattle.tp_scene.specs.Pick.{Setting, Moment, Reduces, numbers_of}
 use Rattle.tp_scene.specs.Fits.{Dormant, EntriesFit, second_number, region_numbers}
@@ -15,7 +15,8 @@ use Rattle.tp_scene.proofs.PutNumbers.{regions, regions_node}
 use Rattle.tp_scene.proofs.Keep.{live_fits}
 use Rattle.tp_scene.proofs.Plain.{FreshLeaves, IsNewHolder, Plain, IsPlain, leaf_plain}
 use Rattle.tp_scene.proofs.PutStatus.{dormant_head, dormant_risen}
-use Rattle.tp_scene.proofs.KnownEnds.{KnownIn, KnownAt, live_number, known_counted, end_known}
+use Rattle.tp_scene.proofs.Standing.{live_number, StandsIn, standing_counted, standing_from_root}
+use Rattle.tp_scene.proofs.KnownEnds.{KnownIn, KnownAt, known_counted, number_in, end_known}
 use Rattle.tp_scene.proofs.KnownStays.{More, held_more, second_more, known_more, known_end}
 use Rattle.tp_growth.specs.Rows.{holder_make}
 use Rattle.tp_order.specs.Edits.{Edit, is_side, sets, marks, head_after, edited, single, Thing, of_leaf, of_holder, At, this_leaf, past_leaf, this_node, in_first, in_second, past_node, edit_of}
@@ -27,29 +28,11 @@ use Rattle.tp_order.proofs.Where.{at_of, Picked, picked}
 -- Said of one number of a region.
 module _ (r : ℕ) where
   -- a live region that stands there has this number
-  abbrev LiveIn : Entries → Type 0
-  LiveIn none = ⊥
-  LiveIn (leaf id l rest) = LiveIn rest
-  LiveIn (node id k h held g second rest) = ((h.number ≡ r) ⊎ LiveIn held) ⊎ (((second_lives k ≡ true) × ((g.number ≡ r) ⊎ LiveIn second)) ⊎ LiveIn rest)
+  abbrev LiveIn : Entries → Place → Type 0
+  LiveIn = StandsIn (λ (q : Place). q.region ≡ r)
 
-  live_counted : (es : Entries) → LiveIn es → 1 ≤ regions r es
-  live_counted none x = absurd x
-  live_counted (leaf id l rest) x = live_counted rest x
-  live_counted (node id k h held g second rest) x =
-      let n = regions_node r id k h held g second rest in
-      elim x [
-        | inl y ↦ elim y [
-          | inl u ↦ (let o = one_there r h.number (sym u) in omega (arith, n, o))
-          | inr u ↦ (let i = live_counted held u in omega (arith, n, i))
-        ]
-        | inr y ↦ elim y [
-          | inl v ↦ (let live = live_number r k g v.0 in elim (v.1) [
-            | inl u ↦ (let o = one_there r g.number (sym u) in omega (arith, n, live, o))
-            | inr u ↦ (let i = live_counted second u in omega (arith, n, i))
-          ])
-          | inr v ↦ (let i = live_counted rest v in omega (arith, n, i))
-        ]
-      ]
+  live_counted : (es : Entries) (p : Place) → LiveIn es p → 1 ≤ regions r es
+  live_counted = standing_counted (λ (q : Place). q.region ≡ r) r (λ q e. e)
 
   -- no dormant region that stands there has it
   abbrev Awake : Entries → Type 0
@@ -65,44 +48,29 @@ module _ (r : ℕ) where
       let n = regions_node r id k h held g second rest in
       ((λ _. (omega (arith, n, e), omega (arith, n, e))), awake_none held (omega (arith, n, e)), awake_none second (omega (arith, n, e)), awake_none rest (omega (arith, n, e)))
 
-  awake_live : (es : Entries) → regions r es ≤ 1 → LiveIn es → Awake es
-  awake_live none most x = tt
-  awake_live (leaf id l rest) most x = awake_live rest most x
-  awake_live (node id k h held g second rest) most x =
+  awake_live : (es : Entries) (p : Place) → regions r es ≤ 1 → LiveIn es p → Awake es
+  awake_live none p most x = tt
+  awake_live (leaf id l rest) p most x = awake_live rest p most x
+  awake_live (node id k h held g second rest) p most x =
       let n = regions_node r id k h held g second rest in
       elim x [
         | inl y ↦ elim y [
           | inl u ↦ (let o = one_there r h.number (sym u) in
               ((λ _. (omega (arith, n, o, most), omega (arith, n, o, most))), awake_none held (omega (arith, n, o, most)), awake_none second (omega (arith, n, o, most)), awake_none rest (omega (arith, n, o, most))))
-          | inr u ↦ (let i = live_counted held u in
-              ((λ _. (omega (arith, n, i, most), omega (arith, n, i, most))), awake_live held (omega (arith, n, most)) u, awake_none second (omega (arith, n, i, most)), awake_none rest (omega (arith, n, i, most))))
+          | inr u ↦ (let i = live_counted held _ u in
+              ((λ _. (omega (arith, n, i, most), omega (arith, n, i, most))), awake_live held _ (omega (arith, n, most)) u, awake_none second (omega (arith, n, i, most)), awake_none rest (omega (arith, n, i, most))))
         ]
         | inr y ↦ elim y [
           | inl v ↦ (let live = live_number r k g v.0 in elim (v.1) [
             | inl u ↦ (let o = one_there r g.number (sym u) in
                 ((λ e. absurd (both_ways (second_lives k) e v.0)), awake_none held (omega (arith, n, live, o, most)), awake_none second (omega (arith, n, live, o, most)), awake_none rest (omega (arith, n, live, o, most))))
-            | inr u ↦ (let i = live_counted second u in
-                ((λ e. absurd (both_ways (second_lives k) e v.0)), awake_none held (omega (arith, n, i, most)), awake_live second (omega (arith, n, most)) u, awake_none rest (omega (arith, n, i, most))))
+            | inr u ↦ (let i = live_counted second _ u in
+                ((λ e. absurd (both_ways (second_lives k) e v.0)), awake_none held (omega (arith, n, i, most)), awake_live second _ (omega (arith, n, most)) u, awake_none rest (omega (arith, n, i, most))))
           ])
-          | inr v ↦ (let i = live_counted rest v in
-              ((λ _. (omega (arith, n, i, most), omega (arith, n, i, most))), awake_none held (omega (arith, n, i, most)), awake_none second (omega (arith, n, i, most)), awake_live rest (omega (arith, n, most)) v))
+          | inr v ↦ (let i = live_counted rest p v in
+              ((λ _. (omega (arith, n, i, most), omega (arith, n, i, most))), awake_none held (omega (arith, n, i, most)), awake_none second (omega (arith, n, i, most)), awake_live rest p (omega (arith, n, most)) v))
         ]
       ]
-
-  -- a live region of a scene is its root or stands in it
-  held_live : (es : Entries) (role : Role) (i : Head) (held : Entries) → HoldsRegion es role i held → (i.number ≡ r) ⊎ LiveIn held → LiveIn es
-  held_live _ _ _ _ by_split x = inl x
-  held_live _ _ _ _ by_split_project x = inl x
-  held_live _ _ _ _ by_closed x = inl x
-  held_live _ _ _ _ by_opened x = inl x
-  held_live _ _ _ _ by_running x = inl x
-  held_live _ _ _ _ by_running_second x = inr (inl (refl, x))
-  held_live _ role i held (past_leaf in_it) x = held_live _ role i held in_it x
-  held_live _ role i held (past_node in_it) x = inr (inr (held_live _ role i held in_it x))
-
-  live_from_root : (s : Scene) (h : Head) (es : Entries) → LiveRegion s h es → (h.number ≡ r) ⊎ LiveIn es → (s.root.head.number ≡ r) ⊎ LiveIn s.root.entries
-  live_from_root s _ _ the_root x = x
-  live_from_root s _ _ (the_held {h = h} {es = es} {role = role} {i = i} {held = held} y in_it) x = live_from_root s h es y (inr (held_live es role i held in_it x))
 
 -- which holder has a step, by the place of the region that it holds
 abbrev CanStep : Holder → Place → Type 0
@@ -386,17 +354,17 @@ module _ (w : Setting) (kinds : List Bool) (m : Moment) (t : ℕ) (s : Reduction
       let most = (numbers_once m.scene.next_region (root.number ∷ region_numbers es) sound.moment.regions).once r in
       omega (arith, f, most)
 
-  module _ (r : ℕ) (live : (root.number ≡ r) ⊎ LiveIn r es) where
+  module _ (r : ℕ) (live : (root.number ≡ r) ⊎ LiveIn r es p) where
     awake : Awake r es
     awake = elim live [
       | inl y ↦ (let o = one_there r root.number (sym y) in let most = once r in awake_none r es (omega (arith, o, most)))
-      | inr y ↦ (let most = once r in awake_live r es (omega (arith, most)) y)
+      | inr y ↦ (let most = once r in awake_live r es p (omega (arith, most)) y)
     ]
 
     counted : 1 ≤ one_if r root.number + regions r es
     counted = elim live [
       | inl y ↦ (let o = one_there r root.number (sym y) in omega (arith, o))
-      | inr y ↦ (let c = live_counted r es y in omega (arith, c))
+      | inr y ↦ (let c = live_counted r es p y in omega (arith, c))
     ]
 
     old : n.region ≡ r → ⊥
@@ -414,5 +382,5 @@ module _ (w : Setting) (kinds : List Bool) (m : Moment) (t : ℕ) (s : Reduction
 
 pub unmarked_steps_end_nothing : UnmarkedStepsEndNothing
 unmarked_steps_end_nothing w kinds m t s next sound step unmarked r depth live known =
-    let stands = live_from_root r m.scene live.head live.entries live.region (inl live.numbered) in
+    let stands = standing_from_root (λ (q : Place). q.region ≡ r) m.scene live.head live.entries live.region (inl (number_in m.scene live.head live.entries live.region ∙ live.numbered)) in
     known_end m.scene r known.side (at_back w kinds m t s next sound step unmarked r stands known.side (end_known next.scene r known))

@@ -1,58 +1,35 @@
 -- An item waits for undecided cells alone: the end of a region is open where its status on both sides is, since no other live region has its number.
-use Rattle.std.proofs.Common.{◌≡◌, ◌⊎◌, ℕ, ◌+◌, ◌≤◌, true, false, ◌&&◌, eqb, List, [], ◌∷◌, Option, Some, None, refl, sym, ◌∙◌, subst, arith, inl, inr}
+use Rattle.std.proofs.Common.{◌≡◌, ◌⊎◌, ℕ, ◌+◌, ◌≤◌, true, false, ◌&&◌, eqb, List, ◌∷◌, Option, Some, None, refl, sym, ◌∙◌, subst, arith, inl, inr}
 use Rattle.std.proofs.lemmas.Bool.{cond_both, and_parts, both_ways, false≢true}
 use Rattle.tp_value.specs.declared.path.Fact.{Fact}
 use Rattle.tp_store.specs.Known.{NoClash}
 use Rattle.tp_scene.specs.declared.answer.Cell.{Cell}
 use Rattle.tp_scene.specs.declared.answer.Cell.TheVariants.{Part, End}
-use Rattle.tp_scene.specs.Scene.{Side, Ending, Going, Head, Leaf, Holder, Running, Entries, none, leaf, node, Scene, second_lives, has, Place, root_place, held_place, second_place}
+use Rattle.tp_scene.specs.Scene.{Side, Ending, Going, Head, Leaf, Holder, Entries, none, leaf, node, Scene, second_lives, has, Place, root_place, held_place, second_place}
 use Rattle.tp_scene.specs.Regions.{Role, HoldsRegion, by_running_second, past_leaf, past_node, LiveRegion, the_root, the_held}
 use Rattle.tp_scene.specs.Status.{place_through, computed_place}
 use Rattle.tp_scene.specs.Step.{PickOutcome, reduces, waits, rests, clashes, misses, passes, Numbers, leaf_step, holder_step}
 use Rattle.tp_scene.specs.Pick.{Setting, Moment, pick, numbers_of}
 use Rattle.tp_scene.specs.Rest.{is_unsettled, holds_back}
-use Rattle.tp_scene.specs.Fits.{second_number, region_numbers}
+use Rattle.tp_scene.specs.Fits.{region_numbers}
 use Rattle.tp_scene.specs.Cells.{IsKnownEnd, IsDecided, WaitsAreForUndecided}
 use Rattle.tp_scene.proofs.Frame.{region}
-use Rattle.tp_scene.proofs.Count.{one_if, count, count_none, count_first, one_there, numbers_once}
+use Rattle.tp_scene.proofs.Count.{one_if, count_first, one_there, numbers_once}
 use Rattle.tp_scene.proofs.PutNumbers.{regions, regions_node}
+use Rattle.tp_scene.proofs.Standing.{live_number, StandsIn, standing_counted, standing_from_root}
 use Rattle.tp_scene.proofs.WaitRows.{IsUndecided, IsOpenAt, ForOther, Answers, leaf_answers, holder_answers}
 use Rattle.tp_scene.proofs.StatusRules.{status_is_least}
 
 -- A live region with this number that stands in the entries of a region of that place is so on this side.
 abbrev pub KnownIn : (number : ℕ) → Side → Entries → Place → Type 0
-KnownIn r z none p = ⊥
-KnownIn r z (leaf id l rest) p = KnownIn r z rest p
-KnownIn r z (node id k h held g second rest) p =
-    (((h.number ≡ r) × ((held_place k h held p).is z ≡ true)) ⊎ KnownIn r z held (held_place k h held p))
-    ⊎ (((second_lives k ≡ true) × (((g.number ≡ r) × ((second_place g second p).is z ≡ true)) ⊎ KnownIn r z second (second_place g second p))) ⊎ KnownIn r z rest p)
+KnownIn r z = StandsIn (λ (q : Place). (q.region ≡ r) × (q.is z ≡ true))
 
 -- or the region itself
 abbrev pub KnownAt : (number : ℕ) → Side → Entries → Place → Type 0
 KnownAt r z es p = ((p.region ≡ r) × (p.is z ≡ true)) ⊎ KnownIn r z es p
 
-pub live_number : (r : ℕ) (k : Holder) (g : Head) → second_lives k ≡ true → count r (second_number k g) ≡ one_if r g.number
-live_number r (Running f env) g e = let f = count_first r g.number [] in let n = count_none r in omega (arith, f, n)
-live_number r k g e = absurd (false≢true e)
-
 pub known_counted : (r : ℕ) (z : Side) (es : Entries) (p : Place) → KnownIn r z es p → 1 ≤ regions r es
-known_counted r z none p k = absurd k
-known_counted r z (leaf id l rest) p k = known_counted r z rest p k
-known_counted r z (node id k h held g second rest) p x =
-    let n = regions_node r id k h held g second rest in
-    elim x [
-      | inl y ↦ elim y [
-        | inl u ↦ (let o = one_there r h.number (sym u.0) in omega (arith, n, o))
-        | inr u ↦ (let i = known_counted r z held (held_place k h held p) u in omega (arith, n, i))
-      ]
-      | inr y ↦ elim y [
-        | inl v ↦ (let live = live_number r k g v.0 in elim (v.1) [
-          | inl u ↦ (let o = one_there r g.number (sym u.0) in omega (arith, n, live, o))
-          | inr u ↦ (let i = known_counted r z second (second_place g second p) u in omega (arith, n, i))
-        ])
-        | inr v ↦ (let i = known_counted r z rest p v in omega (arith, n, i))
-      ]
-    ]
+known_counted r z = standing_counted (λ (q : Place). (q.region ≡ r) × (q.is z ≡ true)) r (λ q u. u.0)
 
 -- a number stands once at most among those of a region and of the regions in it
 abbrev pub StandsOnce : Entries → Place → Type 0
@@ -198,17 +175,6 @@ module _ (facts : List Fact) where
       (λ _. openly held whole inside p (from_held id k h held g second rest p once) _ (pick_openly w apart t held inside n (held_once id k h held g second rest p once)))
       (λ _. openly rest whole p p (from_rest id k h held g second rest p once) _ (pick_openly w apart t rest p n (rest_once id k h held g second rest p once)))))
 
--- a region that is known stands in the scene
-known_around : (r : ℕ) (z : Side) (p : Place) (es : Entries) (role : Role) (i : Head) (held : Entries) (in_it : HoldsRegion es role i held) → KnownAt r z held (place_through in_it p) → KnownIn r z es p
-known_around r z p _ _ _ _ by_running_second k = inr (inl (refl, k))
-known_around r z p _ role i held (past_leaf in_it) k = known_around r z p _ role i held in_it k
-known_around r z p _ role i held (past_node in_it) k = inr (inr (known_around r z p _ role i held in_it k))
-known_around r z p _ _ _ _ x k = inl k
-
-known_from_root : (s : Scene) (r : ℕ) (z : Side) (h : Head) (es : Entries) (x : LiveRegion s h es) → KnownAt r z es (computed_place x) → KnownAt r z s.root.entries (root_place s.root)
-known_from_root s r z _ _ the_root k = k
-known_from_root s r z _ _ (the_held {h = h} {es = es} {role = role} {i = i} {held = held} x in_it) k = known_from_root s r z h es x (inr (known_around r z (computed_place x) es role i held in_it k))
-
 number_through : (p : Place) (es : Entries) (role : Role) (i : Head) (held : Entries) (in_it : HoldsRegion es role i held) → (place_through in_it p).region ≡ i.number
 number_through p _ role i held (past_leaf in_it) = number_through p _ role i held in_it
 number_through p _ role i held (past_node in_it) = number_through p _ role i held in_it
@@ -219,7 +185,7 @@ number_in s _ _ the_root = refl
 number_in s _ _ (the_held {es = es} {role = role} {i = i} {held = held} x in_it) = number_through (computed_place x) es role i held in_it
 
 pub end_known : (s : Scene) (r : ℕ) (k : IsKnownEnd s r) → KnownAt r k.side s.root.entries (root_place s.root)
-end_known s r k = known_from_root s r k.side k.head k.entries k.region
+end_known s r k = standing_from_root (λ (q : Place). (q.region ≡ r) × (q.is k.side ≡ true)) s k.head k.entries k.region
     (inl (number_in s k.head k.entries k.region ∙ k.numbered, (status_is_least s k.head k.entries k.region k.side).1 k.status))
 
 not_decided : (m : Moment) (c : Cell) → IsOpenIn m.store.facts m.scene.root.entries (root_place m.scene.root) c → IsDecided m c → ⊥

@@ -51,6 +51,7 @@ pub mod EndLaws
 pub mod StatusRules
 pub mod WaitRows
 pub mod NamedItem
+pub mod Standing
 pub mod KnownEnds
 pub mod KnownStays
 pub mod Seen

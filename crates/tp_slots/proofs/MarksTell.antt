@@ -16,7 +16,8 @@ use Rattle.tp_scene.proofs.Count.{one_if, count, count_first, one_there, numbers
 use Rattle.tp_scene.proofs.PutNumbers.{regions, regions_node}
 use Rattle.tp_scene.proofs.StatusRules.{held_by, status_is_least}
 use Rattle.tp_scene.proofs.NewsFit.{entries_calm}
-use Rattle.tp_scene.proofs.KnownEnds.{live_number}
+use Rattle.tp_scene.proofs.Standing.{live_number, StandsIn, standing_counted, standing_from_root}
+use Rattle.tp_scene.proofs.KnownEnds.{number_in}
 use Rattle.tp_scene.proofs.KnownStays.{holding, holding_second, place_by}
 use Rattle.tp_slots.specs.Status.{either_place, place_found, place_in_scene, status, region_mark}
 use Rattle.tp_slots.specs.MarksTell.{MarkTells, MarksTell, MarksTellStatus}
@@ -27,31 +28,14 @@ use Rattle.tp_slots.proofs.Marks.{status_ends, status_goes, status_open}
 -- Said of one number.
 module _ (r : ℕ) where
   -- a live region with this number, of that place, stands in entries of a region of place p
+  abbrev IsPlaced : (q : Place) → Place → Type 0
+  IsPlaced q o = (o.region ≡ r) × (o ≡ q)
+
   abbrev PlacedIn : Place → Entries → Place → Type 0
-  PlacedIn q none p = ⊥
-  PlacedIn q (leaf id l rest) p = PlacedIn q rest p
-  PlacedIn q (node id k h held g second rest) p =
-      (((h.number ≡ r) × (held_place k h held p ≡ q)) ⊎ PlacedIn q held (held_place k h held p))
-      ⊎ (((second_lives k ≡ true) × (((g.number ≡ r) × (second_place g second p ≡ q)) ⊎ PlacedIn q second (second_place g second p))) ⊎ PlacedIn q rest p)
+  PlacedIn q = StandsIn (IsPlaced q)
 
   placed_counted : (q : Place) (es : Entries) (p : Place) → PlacedIn q es p → 1 ≤ regions r es
-  placed_counted q none p k = absurd k
-  placed_counted q (leaf id l rest) p k = placed_counted q rest p k
-  placed_counted q (node id k h held g second rest) p x =
-      let n = regions_node r id k h held g second rest in
-      elim x [
-        | inl y ↦ elim y [
-          | inl u ↦ (let o = one_there r h.number (sym u.0) in omega (arith, n, o))
-          | inr u ↦ (let i = placed_counted q held (held_place k h held p) u in omega (arith, n, i))
-        ]
-        | inr y ↦ elim y [
-          | inl v ↦ (let live = live_number r k g v.0 in elim (v.1) [
-            | inl u ↦ (let o = one_there r g.number (sym u.0) in omega (arith, n, live, o))
-            | inr u ↦ (let i = placed_counted q second (second_place g second p) u in omega (arith, n, live, i))
-          ])
-          | inr v ↦ (let i = placed_counted q rest p v in omega (arith, n, i))
-        ]
-      ]
+  placed_counted q = standing_counted (IsPlaced q) r (λ o u. u.0)
 
   another : (n : ℕ) → one_if r n ≡ 0 → eqb n r ≡ false
   another n z = false_from_ne_true (eqb n r) (λ e. let o = one_there r n (sym (eqb-true n r e)) in absurd (omega (arith, z, o)))
@@ -115,31 +99,6 @@ module _ (r : ℕ) where
               rw (a, b) (ap₂ either_place (second_none k g second p (omega (arith, n, i, most)) (none_placed second (second_place g second p) (omega (arith, n, i, most)))) f))
         ]
       ]
-
-  -- a region that an item holds, and what stands in it
-  held_placed : (p : Place) (es : Entries) (role : Role) (i : Head) (held : Entries) (in_it : HoldsRegion es role i held) → i.number ≡ r → PlacedIn (place_through in_it p) es p
-  held_placed p _ _ _ _ by_split e = inl (inl (e, refl))
-  held_placed p _ _ _ _ by_split_project e = inl (inl (e, refl))
-  held_placed p _ _ _ _ by_closed e = inl (inl (e, refl))
-  held_placed p _ _ _ _ by_opened e = inl (inl (e, refl))
-  held_placed p _ _ _ _ by_running e = inl (inl (e, refl))
-  held_placed p _ _ _ _ by_running_second e = inr (inl (refl, inl (e, refl)))
-  held_placed p _ role i held (past_leaf in_it) e = held_placed p _ role i held in_it e
-  held_placed p _ role i held (past_node in_it) e = inr (inr (held_placed p _ role i held in_it e))
-
-  placed_around : (q p : Place) (es : Entries) (role : Role) (i : Head) (held : Entries) (in_it : HoldsRegion es role i held) → PlacedIn q held (place_through in_it p) → PlacedIn q es p
-  placed_around q p _ _ _ _ by_split k = inl (inr k)
-  placed_around q p _ _ _ _ by_split_project k = inl (inr k)
-  placed_around q p _ _ _ _ by_closed k = inl (inr k)
-  placed_around q p _ _ _ _ by_opened k = inl (inr k)
-  placed_around q p _ _ _ _ by_running k = inl (inr k)
-  placed_around q p _ _ _ _ by_running_second k = inr (inl (refl, inr k))
-  placed_around q p _ role i held (past_leaf in_it) k = placed_around q p _ role i held in_it k
-  placed_around q p _ role i held (past_node in_it) k = inr (inr (placed_around q p _ role i held in_it k))
-
-  placed_from_root : (s : S.Scene) (q : Place) (h : Head) (es : Entries) (x : LiveRegion s h es) → PlacedIn q es (computed_place x) → PlacedIn q s.root.entries (root_place s.root)
-  placed_from_root s q _ _ the_root k = k
-  placed_from_root s q _ _ (the_held {h = h} {es = es} {role = role} {i = i} {held = held} x in_it) k = placed_from_root s q h es x (placed_around q (computed_place x) es role i held in_it k)
 
   -- what is found is the place of a live region with this number
   record Found (s : S.Scene) (q : Place) : Type 0 where
@@ -231,15 +190,17 @@ module _ (w : Setting) (kinds : List Bool) (m : Moment) (sound : IsSound w kinds
       omega (arith, f, most)
 
   place_of : (h : Head) (es : Entries) (x : LiveRegion s h es) → place_in_scene h.number s ≡ Some (computed_place x)
-  place_of _ _ the_root = ap (λ (b : Bool). if b then Some (root_place s.root) else place_found s.root.head.number s.root.entries (root_place s.root)) (eq-eqb s.root.head.number s.root.head.number refl)
-  place_of _ _ (the_held {h = h} {es = es} {role = role} {i = i} {held = held} x in_it) =
-      let r = i.number in
-      let q = place_through in_it (computed_place x) in
-      let placed = placed_from_root r s q h es x (held_placed r (computed_place x) es role i held in_it refl) in
-      let c = placed_counted r q s.root.entries (root_place s.root) placed in
-      let o = once r in
-      let a : eqb s.root.head.number r ≡ false = another r s.root.head.number (omega (arith, c, o)) in
-      ap (λ (b : Bool). if b then Some (root_place s.root) else place_found r s.root.entries (root_place s.root)) a ∙ placed_found r q s.root.entries (root_place s.root) (omega (arith, o)) placed
+  place_of h es x =
+      let r = h.number in
+      let q = computed_place x in
+      let root = root_place s.root in
+      let by : Bool → Option Place = λ b. if b then Some root else place_found r s.root.entries root in
+      elim (standing_from_root (IsPlaced r q) s h es x (inl (number_in s h es x, refl))) [
+        | inl u ↦ ap by (eq-eqb s.root.head.number r u.0) ∙ ap Some u.1
+        | inr u ↦ (let c = placed_counted r q s.root.entries root u in
+            let o = once r in
+            ap by (another r s.root.head.number (omega (arith, c, o))) ∙ placed_found r q s.root.entries root (omega (arith, o)) u)
+      ]
 
   fit_of : (h : Head) (es : Entries) (x : LiveRegion s h es) → EntriesFit w.defs kinds m.store.variables es (computed_place x)
   fit_of _ _ the_root = sound.moment.entries
