@@ -153,48 +153,48 @@ module _ (w : Setting) (fs gs : List Fact) (fc : NoClash fs) (gc : NoClash gs) (
     found_by = stays w.defs fs gs fc gc knows env
 
     place_row : (a b : PlaceOutcome) (f g : BindingTree → PickOutcome) → GrownPlace a b → ((x : Path) → a ≡ found.other (found.wait x) → IsUndecided gs x → b ≡ found.other (found.wait x)) → ((v : BindingTree) → Idle (f v) (g v))
-        → Idle (with_place w.defs w.inputs w.state fs a f) (with_place w.defs w.inputs w.state gs b g)
-    place_row (found.path x) b f g h i k = subst (λ (o : PlaceOutcome). Idle (f (place_binding x)) (with_place w.defs w.inputs w.state gs o g)) (sym h) (k (place_binding x))
-    place_row (found.other (found.value t)) b f g h i k = subst (λ (o : PlaceOutcome). Idle (f (known_binding t)) (with_place w.defs w.inputs w.state gs o g)) (sym h) (k (known_binding t))
-    place_row (found.other (found.wait x)) b f g h i k = λ u. ap (λ (o : PlaceOutcome). with_place w.defs w.inputs w.state gs o g) (i x refl u.0)
+        → Idle (with_place a f) (with_place b g)
+    place_row (found.path x) b f g h i k = subst (λ (o : PlaceOutcome). Idle (f (place_binding x)) (with_place o g)) (sym h) (k (place_binding x))
+    place_row (found.other (found.value t)) b f g h i k = subst (λ (o : PlaceOutcome). Idle (f (known_binding t)) (with_place o g)) (sym h) (k (known_binding t))
+    place_row (found.other (found.wait x)) b f g h i k = λ u. ap (λ (o : PlaceOutcome). with_place o g) (i x refl u.0)
     place_row a b f g h i k = tt
 
     argument_row : (b : Bool) (e : ExprTree) (f g : BindingTree → PickOutcome) → ((v : BindingTree) → Idle (f v) (g v))
-        → Idle (if b then with_place w.defs w.inputs w.state fs (place_outcome fs w.defs e env) f else with_value (outcome fs w.defs e env) (λ v. f (known_binding v)))
-        (if b then with_place w.defs w.inputs w.state gs (place_outcome gs w.defs e env) g else with_value (outcome gs w.defs e env) (λ v. g (known_binding v)))
+        → Idle (if b then with_place (place_outcome fs w.defs e env) f else with_value (outcome fs w.defs e env) (λ v. f (known_binding v)))
+        (if b then with_place (place_outcome gs w.defs e env) g else with_value (outcome gs w.defs e env) (λ v. g (known_binding v)))
     argument_row true e f g k = place_row _ _ f g (outcomes_grow fs gs fc gc knows w.defs e env).1 (λ x a u. (outcomes_wait fs gs fc gc knows w.defs e env x u).1 a) k
     argument_row false e f g k = value_row _ _ _ _ (found_by e) (λ v. k (known_binding v))
 
-    arguments_row : (es : ExprTrees) (xs : List (List ℕ)) (f g : Bindings → PickOutcome) → ((vs : Bindings) → Idle (f vs) (g vs)) → Idle (with_arguments w.defs w.inputs w.state fs es xs env f) (with_arguments w.defs w.inputs w.state gs es xs env g)
+    arguments_row : (es : ExprTrees) (xs : List (List ℕ)) (f g : Bindings → PickOutcome) → ((vs : Bindings) → Idle (f vs) (g vs)) → Idle (with_arguments w.defs fs es xs env f) (with_arguments w.defs gs es xs env g)
     arguments_row no_expr [] f g k = k []
     arguments_row (expr_then e es) (x ∷ xs) f g k = argument_row (is_upper x) e _ _ (λ b. arguments_row es xs _ _ (λ bs. k (b ∷ bs)))
     arguments_row no_expr (x ∷ xs) f g k = tt
     arguments_row (expr_then e es) [] f g k = tt
 
-    values_row : (es : ExprTrees) (f g : List Tree → PickOutcome) → ((vs : List Tree) → Idle (f vs) (g vs)) → Idle (with_values w.defs w.inputs w.state fs es env f) (with_values w.defs w.inputs w.state gs es env g)
+    values_row : (es : ExprTrees) (f g : List Tree → PickOutcome) → ((vs : List Tree) → Idle (f vs) (g vs)) → Idle (with_values w.defs fs es env f) (with_values w.defs gs es env g)
     values_row no_expr f g k = k []
     values_row (expr_then e es) f g k = value_row _ _ _ _ (found_by e) (λ v. values_row es _ _ (λ vs. k (v ∷ vs)))
 
-    call_row : (d : Option Definition) (es : ExprTrees) → Idle (called w.defs w.inputs w.state fs d es env n) (called w.defs w.inputs w.state gs d es env m)
+    call_row : (d : Option Definition) (es : ExprTrees) → Idle (called w.defs fs d es env n) (called w.defs gs d es env m)
     call_row (Some d) es = arguments_row es d.parameters _ _ (λ bs. tt)
     call_row None es = tt
 
-    busy_length : (k : ℤ) → IsBusy (length_left w.defs w.inputs w.state fs k env n)
+    busy_length : (k : ℤ) → IsBusy (length_left k env n)
     busy_length (pos zero) = tt
     busy_length (pos (suc k)) = tt
     busy_length (negsuc k) = tt
 
-    port_row : (v : Option Tree) (port : List ℕ) (x : ExprTree) → Idle (from_port w.defs w.inputs w.state fs v port (side_of w.defs w.inputs w.state fs x env)) (from_port w.defs w.inputs w.state gs v port (side_of w.defs w.inputs w.state gs x env))
+    port_row : (v : Option Tree) (port : List ℕ) (x : ExprTree) → Idle (from_port fs v port (side_of w.defs fs x env)) (from_port gs v port (side_of w.defs gs x env))
     port_row None port x = tt
     port_row (Some v) port x = sides_wait
-        (side_of w.defs w.inputs w.state fs x env) (side_with w.defs w.inputs w.state fs v) (side_of w.defs w.inputs w.state gs x env) (side_with w.defs w.inputs w.state gs v) refl refl
-        (side_waits w.defs fs gs fc gc knows env w.inputs w.state x) (value_side w.defs fs gs fc gc knows env v)
+        (side_of w.defs fs x env) (side_with v) (side_of w.defs gs x env) (side_with v) refl refl
+        (side_waits w.defs fs gs fc gc knows env x) (value_side w.defs fs gs fc gc knows env v)
 
     formula_row : (f : FormulaTree) → Idle (formula_step w.defs w.inputs w.state fs f env p n) (formula_step w.defs w.inputs w.state gs f env q m)
     formula_row (test e) = truth_row _ _ _ _ (found_by e) (λ b. busy_if b _ _ tt tt)
     formula_row (equation l r) = sides_wait
-        (side_of w.defs w.inputs w.state fs l env) (side_of w.defs w.inputs w.state fs r env) (side_of w.defs w.inputs w.state gs l env) (side_of w.defs w.inputs w.state gs r env) refl refl
-        (side_waits w.defs fs gs fc gc knows env w.inputs w.state l) (side_waits w.defs fs gs fc gc knows env w.inputs w.state r)
+        (side_of w.defs fs l env) (side_of w.defs fs r env) (side_of w.defs gs l env) (side_of w.defs gs r env) refl refl
+        (side_waits w.defs fs gs fc gc knows env l) (side_waits w.defs fs gs fc gc knows env r)
     formula_row (next_equation k t e) = value_row _ _ _ _ (found_by e) (λ v. busy_row _ _ (busy_marking Going _ _ _ _))
     formula_row empty = busy_row _ _ (busy_marking Ending _ _ _ _)
     formula_row more = busy_row _ _ (busy_marking Going _ _ _ _)

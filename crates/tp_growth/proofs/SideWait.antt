@@ -91,19 +91,18 @@ module _ (defs : List Definition) (fs gs : List Fact) (fc : NoClash fs) (gc : No
   pub value_side : (v : Tree) → SideWaits gs None (found.value v) None (found.value v)
   value_side v = record { goes_on = refl; none = λ p n w u. refl }
 
-  module _ (inputs : InputLines) (state : ℕ) where
-    abbrev Side : ExprTree → Type 0
-    Side e = SideWaits gs (side_of defs inputs state fs e env).target (side_of defs inputs state fs e env).found (side_of defs inputs state gs e env).target (side_of defs inputs state gs e env).found
+  abbrev Side : ExprTree → Type 0
+  Side e = SideWaits gs (side_of defs fs e env).target (side_of defs fs e env).found (side_of defs gs e env).target (side_of defs gs e env).found
 
-    -- by whether it is a place
-    by_place : (target : Path → Target) (e x : ExprTree) → (is_place e ≡ true → Waits target e x) → (b : Bool) → is_place e ≡ b
-        → SideWaits gs (target_if defs inputs state fs b target e env) (outcome fs defs x env) (target_if defs inputs state gs b target e env) (outcome gs defs x env)
-    by_place target e x h true p = h p
-    by_place target e x h false p = no_target x
+  -- by whether it is a place
+  by_place : (target : Path → Target) (e x : ExprTree) → (is_place e ≡ true → Waits target e x) → (b : Bool) → is_place e ≡ b
+      → SideWaits gs (target_if defs fs b target e env) (outcome fs defs x env) (target_if defs gs b target e env) (outcome gs defs x env)
+  by_place target e x h true p = h p
+  by_place target e x h false p = no_target x
 
-    pub side_waits : (e : ExprTree) → Side e
-    side_waits (size e) = by_place length_at e (size e) (size_side e) (is_place e) refl
-    side_waits (index e i) = by_place value_at (index e i) (index e i) (place_side (index e i)) (is_place e) refl
-    side_waits (bound i) = place_side (bound i) refl
-    side_waits (global x) = place_side (global x) refl
-    side_waits e = no_target e
+  pub side_waits : (e : ExprTree) → Side e
+  side_waits (size e) = by_place length_at e (size e) (size_side e) (is_place e) refl
+  side_waits (index e i) = by_place value_at (index e i) (index e i) (place_side (index e i)) (is_place e) refl
+  side_waits (bound i) = place_side (bound i) refl
+  side_waits (global x) = place_side (global x) refl
+  side_waits e = no_target e
