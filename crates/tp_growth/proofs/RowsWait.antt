@@ -61,19 +61,16 @@ busy_set facts (length_at p) (truth b) = tt
 busy_set facts (length_at p) (list ts) = tt
 
 module _ (gs : List Fact) (q : Place) where
-  abbrev pub R : PickOutcome → PickOutcome → Type 0
-  R = StaysIdle gs q
-
-  busy : (o u : PickOutcome) → IsBusy o → R o u
+  busy : (o u : PickOutcome) → IsBusy o → StaysIdle gs q o u
   busy (waits first other) u h = elim h [ ]
   busy rests u h = elim h [ ]
   busy o u h = tt
 
   -- by the status of a region of this place, which is more than it was
-  status_row : (p : Place) → Grows p q → (a b a' b' : PickOutcome) → (p.is Going ≡ true → R a (by_status q a' b')) → (p.is Ending ≡ true → R b (by_status q a' b')) → R (by_status p a b) (by_status q a' b')
+  status_row : (p : Place) → Grows p q → (a b a' b' : PickOutcome) → (p.is Going ≡ true → StaysIdle gs q a (by_status q a' b')) → (p.is Ending ≡ true → StaysIdle gs q b (by_status q a' b')) → StaysIdle gs q (by_status p a b) (by_status q a' b')
   status_row p up a b a' b' h k = go (p.is Going) (p.is Ending) refl refl
     where
-      go : (x y : Bool) → p.is Going ≡ x → p.is Ending ≡ y → R (if x then a else (if y then b else waits (End p.region p.depth) None)) (by_status q a' b')
+      go : (x y : Bool) → p.is Going ≡ x → p.is Ending ≡ y → StaysIdle gs q (if x then a else (if y then b else waits (End p.region p.depth) None)) (by_status q a' b')
       go true y e f = h e
       go false true e f = k f
       go false false e f = λ u.

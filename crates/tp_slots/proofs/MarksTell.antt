@@ -12,6 +12,7 @@ use Rattle.tp_scene.specs.Pick.{Setting, Moment}
 use Rattle.tp_scene.specs.Fits.{IsCalm, EntriesFit, second_number, region_numbers}
 use Rattle.tp_scene.specs.Laws.{IsSound}
 use Rattle.tp_scene.specs.Cells.{IsKnownEnd}
+use Rattle.tp_scene.specs.Seen.{IsLiveNumber, regions_around}
 use Rattle.tp_scene.proofs.Count.{one_if, count, count_first, one_there, numbers_once}
 use Rattle.tp_scene.proofs.PutNumbers.{regions, regions_node}
 use Rattle.tp_scene.proofs.StatusRules.{held_by, status_is_least}
@@ -240,34 +241,54 @@ module _ (w : Setting) (kinds : List Bool) (m : Moment) (sound : IsSound w kinds
   known_mark h es x Ending y = inl ((tells h es x).ends.1 y)
   known_mark h es x Going y = inr ((tells h es x).goes.1 y)
 
+  -- of a live region's number
+  live_mark : (r depth : ℕ) (l : IsLiveNumber s r depth) → region_mark r s ≡ Some (status (computed_place l.region))
+  live_mark r depth l = subst (λ (n : ℕ). region_mark n s ≡ Some (status (computed_place l.region))) l.numbered (mark_of l.head l.entries l.region)
+
+  of_found : (r : ℕ) (q : Place) → Found r s q → (z : Side) → q.is z ≡ true → IsKnownEnd s r
+  of_found r q f z e = record {
+    head = f.head;
+    entries = f.entries;
+    region = f.region;
+    numbered = f.numbered;
+    side = z;
+    status = (status_is_least s f.head f.entries f.region z).0 (ap (λ (p : Place). p.is z) f.placed ∙ e);
+  }
+
+  known_by : (r : ℕ) → (region_mark r s ≡ Some Ends) ⊎ (region_mark r s ≡ Some Goes) → IsKnownEnd s r
+  known_by r (inl y) = let f = found_by r Ends y in of_found r f.0 f.1 Ending (ends_by f.0 (sym f.2 ∙ y))
+  known_by r (inr y) = let f = found_by r Goes y in of_found r f.0 f.1 Going (goes_by f.0 (sym f.2 ∙ y))
+
+  by_known : (r : ℕ) → IsKnownEnd s r → (region_mark r s ≡ Some Ends) ⊎ (region_mark r s ≡ Some Goes)
+  by_known r k = subst (λ (n : ℕ). (region_mark n s ≡ Some Ends) ⊎ (region_mark n s ≡ Some Goes)) k.numbered (known_mark k.head k.entries k.region k.side k.status)
+
+  found_live : (r : ℕ) (q : Place) → Found r s q → (depth : ℕ) × IsLiveNumber s r depth
+  found_live r q f = (regions_around f.region, record { head = f.head; entries = f.entries; region = f.region; numbered = f.numbered; deep = refl })
+
+  unmarked : (r : ℕ) → ((depth : ℕ) → IsLiveNumber s r depth → ⊥) → region_mark r s ≡ None
+  unmarked r never = go (place_in_scene r s) refl
+    where
+      go : (o : Option Place) → place_in_scene r s ≡ o → region_mark r s ≡ None
+      go None y = ap (option_map status) y
+      go (Some q) y = let l = found_live r q (found_there r s q y) in absurd (never l.0 l.1)
+
+  open_mark : (r : ℕ) → (IsKnownEnd s r → ⊥) → (x : Mark) → region_mark r s ≡ Some x → region_mark r s ≡ Some Open
+  open_mark r never Open e = e
+  open_mark r never Ends e = absurd (never (known_by r (inl e)))
+  open_mark r never Goes e = absurd (never (known_by r (inr e)))
+
+  open_unknown : (r : ℕ) → region_mark r s ≡ Some Open → IsKnownEnd s r → ⊥
+  open_unknown r e k = elim (by_known r k) [ inl y ↦ cc (e, y) | inr y ↦ cc (e, y) ]
+
   tell : (r : ℕ) → MarksTell s r
   tell r = record {
-    none = (
-      λ e h es x same. (let z : region_mark r s ≡ Some (status (computed_place x)) = subst (λ (n : ℕ). region_mark n s ≡ Some (status (computed_place x))) same (mark_of h es x) in cc (e, z)),
-      λ never. go never (place_in_scene r s) refl,
+    none = (λ e depth l. (let y = live_mark r depth l in cc (e, y)), unmarked r);
+    unknown = (
+      λ e. (let f = found_by r Open e in (found_live r f.0 f.1, open_unknown r e)),
+      λ l. open_mark r l.1 (status (computed_place l.0.1.region)) (live_mark r l.0.0 l.0.1),
     );
-    known = (
-      λ k. subst (λ (n : ℕ). (region_mark n s ≡ Some Ends) ⊎ (region_mark n s ≡ Some Goes)) k.numbered (known_mark k.head k.entries k.region k.side k.status),
-      λ e. elim e [
-        | inl y ↦ (let f = found_by r Ends y in of_found f.0 f.1 Ending (ends_by f.0 (sym f.2 ∙ y)))
-        | inr y ↦ (let f = found_by r Goes y in of_found f.0 f.1 Going (goes_by f.0 (sym f.2 ∙ y)))
-      ],
-    );
+    known = (known_by r, by_known r);
   }
-    where
-      go : ((h : Head) (es : Entries) → LiveRegion s h es → h.number ≡ r → ⊥) → (o : Option Place) → place_in_scene r s ≡ o → region_mark r s ≡ None
-      go never None y = ap (option_map status) y
-      go never (Some q) y = let f = found_there r s q y in absurd (never f.head f.entries f.region f.numbered)
-
-      of_found : (q : Place) → Found r s q → (z : Side) → q.is z ≡ true → IsKnownEnd s r
-      of_found q f z e = record {
-        head = f.head;
-        entries = f.entries;
-        region = f.region;
-        numbered = f.numbered;
-        side = z;
-        status = (status_is_least s f.head f.entries f.region z).0 (ap (λ (p : Place). p.is z) f.placed ∙ e);
-      }
 
 pub marks_tell_status : MarksTellStatus
 marks_tell_status w kinds m sound = (tells w kinds m sound, tell w kinds m sound)

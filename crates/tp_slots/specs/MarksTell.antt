@@ -5,6 +5,7 @@ use Rattle.tp_scene.specs.Scene as S
 use Rattle.tp_scene.specs.Regions.{LiveRegion}
 use Rattle.tp_scene.specs.Status.{HasStatus}
 use Rattle.tp_scene.specs.Cells.{IsKnownEnd}
+use Rattle.tp_scene.specs.Seen.{IsLiveNumber}
 use Rattle.tp_scene.specs.Pick.{Setting, Moment}
 use Rattle.tp_scene.specs.Laws.{IsSound}
 use Rattle.tp_slots.specs.Status.{region_mark}
@@ -17,12 +18,15 @@ pub record MarkTells (s : S.Scene) (h : Head) (es : Entries) (region : LiveRegio
   pub goes : (region_mark h.number s ≡ Some Goes) ↔ HasStatus s Going h es region
   pub unknown : (region_mark h.number s ≡ Some Open) ↔ ((z : Side) → HasStatus s z h es region → ⊥)
 
--- Any number has a mark where a live region has it, and its end is known where that isn't `Open`.
+-- A number has a mark where it is that of a live region; the mark is `Open` where the region's end
+-- isn't known, and else one of the others.
 pub record MarksTell (s : S.Scene) (number : ℕ) : Type 0 where
   pub none : (region_mark number s ≡ None)
-      ↔ ((h : Head) (es : Entries) → LiveRegion s h es → h.number ≡ number → ⊥)
-  pub known : IsKnownEnd s number
-      ↔ ((region_mark number s ≡ Some Ends) ⊎ (region_mark number s ≡ Some Goes))
+      ↔ ((depth : ℕ) → IsLiveNumber s number depth → ⊥)
+  pub unknown : (region_mark number s ≡ Some Open)
+      ↔ (((depth : ℕ) × IsLiveNumber s number depth) × (IsKnownEnd s number → ⊥))
+  pub known : ((region_mark number s ≡ Some Ends) ⊎ (region_mark number s ≡ Some Goes))
+      ↔ IsKnownEnd s number
 
 -- They tell so in a sound moment.
 abbrev pub MarksTellStatus : Type 0
