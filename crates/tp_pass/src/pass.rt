@@ -4,12 +4,13 @@ ghost use Rattle.tp_scene.specs.Laws.{IsSound};
 ghost use Rattle.tp_decide.specs.Decided.{setting_of};
 ghost use Rattle.tp_slots.specs.Kept.{IsWellKept};
 ghost use Rattle.tp_step.specs.Answers.{moment_of};
-ghost use Rattle.tp_pass.specs.Closes.{ClosureAnswers, Counts, LooksAt, Passes, ending_of, is_pick};
+ghost use Rattle.tp_step.specs.Closes.{ClosureAnswers, Counts, LooksAt, ending_of, is_pick};
 ghost use Rattle.tp_pass.specs.Follows.{FollowsOrder, PassTurns};
+ghost use Rattle.tp_pass.specs.Passes.{Passes};
 
-use crate::sweep::{Course, Sweep};
+use crate::sweep::Sweep;
 use std::sync::ledger::Ledger;
-use tp_step::{Ending, Scene, Setting, Steps, Tally, Tried, has_item, try_item};
+use tp_step::{Course, Ending, Scene, Setting, Steps, Tally, Tried, has_item, try_item};
 use tp_store::Store;
 use tp_value::NoMemory;
 

@@ -24,7 +24,7 @@ use Rattle.tp_step.specs.declared.answer.Tried.{Tried}
 use Rattle.tp_step.specs.declared.answer.Tried.TheVariants as tried
 use Rattle.tp_step.specs.declared.answer.Ending.{Ending}
 use Rattle.tp_step.specs.declared.answer.Ending.TheVariants as ending
-use Rattle.tp_pass.specs.Closes.{ClosureAnswers}
+use Rattle.tp_step.specs.Closes.{ClosureAnswers}
 use Rattle.tp_run.specs.declared.run.Made.{Made}
 use Rattle.tp_run.specs.declared.run.Run.{Run}
 use Rattle.tp_run.specs.declared.run.Settings.{Settings}

@@ -30,11 +30,11 @@ use std::sync::ledger::Ledger;
 use tp_check::Program;
 use tp_inputs::Inputs;
 use tp_kernel::Defs;
-use tp_pass::{Course, close_by_passes};
+use tp_pass::close_by_passes;
 use tp_show::{Cell, Picture, Turn};
 use tp_step::{
-    Ending, ItemIds, Order, Scene, Setting, Settled, Steps, Tally, Tried, Waits, advance, settled,
-    start, try_item,
+    Course, Ending, ItemIds, Order, Scene, Setting, Settled, Steps, Tally, Tried, Waits, advance,
+    settled, start, try_item,
 };
 use tp_store::Store;
 use tp_value::NoMemory;

@@ -1,4 +1,6 @@
 pub mod Answers
 pub mod Chosen
+pub mod Closes
 pub mod Meaning
+pub mod Seeds
 pub mod Waiting

@@ -2,7 +2,7 @@ use Rattle.std.proofs.Common.{◌∙◌, refl, subst, Option, None, Some}
 use Rattle.tp_step.specs.declared.answer.Ending.{Ending}
 use Rattle.tp_decide.specs.Decided.{setting_of}
 use Rattle.tp_step.specs.Answers.{moment_of}
-use Rattle.tp_pass.specs.Closes.{Passes}
+use Rattle.tp_pass.specs.Passes.{Passes}
 use Rattle.tp_pass.specs.Follows.{PassTurns}
 use Rattle.tp_pass.proofs.Following.{passes_begin, passes_go_on, closure_ends}
 use Rattle.tp_pass.proofs.Picks.{made_none, made_on}
