@@ -2,3 +2,4 @@ pub mod MeaningLemmas
 pub mod CarryLemmas
 pub mod ChoiceLemmas
 pub mod FirstWaiting
+pub mod OtherItems

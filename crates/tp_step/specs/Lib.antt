@@ -2,5 +2,6 @@ pub mod Answers
 pub mod Chosen
 pub mod Closes
 pub mod Meaning
+pub mod OtherItems
 pub mod Seeds
 pub mod Waiting
