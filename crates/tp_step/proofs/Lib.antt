@@ -3,3 +3,4 @@ pub mod CarryLemmas
 pub mod ChoiceLemmas
 pub mod FirstWaiting
 pub mod OtherItems
+pub mod EveryRest
