@@ -6,6 +6,7 @@ ghost use Rattle.tp_slots.specs.Kept.{IsWellKept};
 ghost use Rattle.tp_step.specs.Answers.{moment_of};
 ghost use Rattle.tp_step.specs.Closes.{ClosureAnswers, Counts, LooksAt, ending_of, is_pick};
 ghost use Rattle.tp_step.specs.EveryRest.{ClosureCommutes};
+ghost use Rattle.tp_step.specs.Room.{ClosureKeepsRoom};
 ghost use Rattle.tp_pass.specs.Follows.{FollowsOrder, PassTurns};
 ghost use Rattle.tp_pass.specs.Passes.{Passes};
 
@@ -145,6 +146,9 @@ pub fn close_by_passes<L: Ledger>(
     ensures commutes { IfOk result
         (ClosureCommutes (setting_of setting.now) course.room (moment_of scene.old store.old)
         (moment_of scene.new store.new) tally.old.picks tally.new.picks) }
+    ensures room { IfOk result
+        (ClosureKeepsRoom (setting_of setting.now) course.room (moment_of scene.new store.new)
+        tally.old.picks tally.new.picks) }
     ensures waits { tally.new.waits ≡ tally.old.waits }
     ensures rests { tally.new.rests ≡ tally.old.rests }
 {

@@ -17,10 +17,11 @@ ghost use Rattle.tp_decide.specs.Decided.{setting_of};
 ghost use Rattle.tp_slots.specs.Kept.{IsWellKept, Lives};
 ghost use Rattle.tp_slots.specs.Read.{scene_of};
 ghost use Rattle.tp_step.specs.Answers.{moment_of};
+ghost use Rattle.tp_step.specs.OfVariables.{CellIsOf};
 ghost use Rattle.tp_run.specs.States.{Plan, plan_with, setting, open_at, spent, state_after, AnswersState, StateBecomes};
 ghost use Rattle.tp_run.specs.Meaning.{StandsForItsProgram, AnswerMeans};
 ghost use Rattle.tp_run.specs.Ordered.{IsNamedInOrder};
-ghost use Rattle.tp_run.specs.Runs.{stands_at, standing_of, program_of, next_state_of, order_of, standing_place, store_of, carried_scene, IsSettingsOf, IsRunOf, HasPicture, NextOf, RestTurns, StandIsKept, HasFirst, CellIsOf, TurnIsOf, MadeIsOf};
+ghost use Rattle.tp_run.specs.Runs.{stands_at, standing_of, program_of, next_state_of, order_of, standing_place, store_of, carried_scene, IsSettingsOf, IsRunOf, HasPicture, NextOf, RestTurns, StandIsKept, HasFirst, TurnIsOf, MadeIsOf};
 
 use crate::limits::Limits;
 use crate::picture::settled_picture;

@@ -4,3 +4,6 @@ pub mod ChoiceLemmas
 pub mod FirstWaiting
 pub mod OtherItems
 pub mod EveryRest
+pub mod KnownValues
+pub mod KnownItems
+pub mod Room

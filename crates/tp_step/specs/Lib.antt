@@ -3,6 +3,8 @@ pub mod Chosen
 pub mod Closes
 pub mod EveryRest
 pub mod Meaning
+pub mod OfVariables
 pub mod OtherItems
+pub mod Room
 pub mod Seeds
 pub mod Waiting

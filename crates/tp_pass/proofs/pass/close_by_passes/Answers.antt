@@ -9,6 +9,7 @@ use Rattle.tp_pass.specs.Follows.{PassTurns}
 use Rattle.tp_pass.proofs.Following.{passes_begin, passes_go_on, closure_ends}
 use Rattle.tp_pass.proofs.Picks.{made_none, made_on}
 use Rattle.tp_step.proofs.EveryRest.{closures_commute}
+use Rattle.tp_step.proofs.Room.{closures_keep_room}
 use Rattle.tp_pass.proofs.pass.close_by_passes.Goals as goal
 
 pub passes-init : goal.passes-init
@@ -67,6 +68,12 @@ pub returns-in-Some-clause-commutes : goal.returns-in-Some-clause-commutes
 returns-in-Some-clause-commutes g c =
     closures_commute (setting_of c.args.setting.now) c.args.course.room (moment_of c.args.scene.now c.args.store.now) (moment_of c.pass.new.scene c.pass.new.store) c.args.tally.now.picks c.pass.new.tally.picks c.in-Some.ending
     (returns-in-Some-clause-closes g c)
+
+pub returns-in-Some-clause-room : goal.returns-in-Some-clause-room
+returns-in-Some-clause-room g c =
+    let sound = c.requires.sound in
+    closures_keep_room (setting_of c.args.setting.now) sound.0 c.args.course.room (moment_of c.args.scene.now c.args.store.now) (moment_of c.pass.new.scene c.pass.new.store) c.args.tally.now.picks c.pass.new.tally.picks c.in-Some.ending
+    (c.in_ok-ending.ensures.sound sound.0 (c.passes.invariant.sound sound.0 sound.1)) (returns-in-Some-clause-closes g c)
 
 pub returns-then-course-before-clause-commutes : goal.returns-then-course-before-clause-commutes
 returns-then-course-before-clause-commutes g c =

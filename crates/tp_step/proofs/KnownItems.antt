@@ -30,8 +30,8 @@ use Rattle.tp_scene.specs.declared.answer.Cell.{Cell}
 use Rattle.tp_scene.specs.declared.answer.Clash.{Clash}
 use Rattle.tp_scene.proofs.Parts.{MaySet, if_has, status_has, Stops, value_has, truth_has, number_has, equate_has}
 use Rattle.tp_scene.proofs.Targets.{facts_of_value, TargetIsOf, target_fits}
-use Rattle.tp_run.specs.Runs.{CellIsOf, ClashIsOf}
-use Rattle.tp_run.proofs.KnownValues.{IsOther, BindingsThere, WaitsThere, PlaceThere, outcome_there, place_there}
+use Rattle.tp_step.specs.OfVariables.{CellIsOf, ClashIsOf}
+use Rattle.tp_step.proofs.KnownValues.{IsOther, BindingsThere, WaitsThere, PlaceThere, outcome_there, place_there}
 
 -- bindings that fit are of the store's variables
 bindings_there : (variables : List Variable) (env : Bindings) → BindingsFit (kinds_in variables) env → BindingsThere (IsVariableOf variables) env
