@@ -13,7 +13,8 @@ use Rattle.tp_step.specs.declared.answer.Order.{Order}
 use Rattle.tp_pass.specs.declared.sweep.Sweep.{Sweep}
 use Rattle.tp_pass.specs.Sweeps.{BeginsSweep, TakesTurn}
 use Rattle.tp_pass.proofs.Sweeping.{IsToCome, begins_with_each, one_turn, no_turn}
-use Rattle.tp_pass.specs.Closes.{Made, LooksAt, Looks, Counts, Passes, ClosureEnds, ending_of, is_pick}
+use Rattle.tp_step.specs.Closes.{Made, LooksAt, Looks, Counts, ClosureEnds, ending_of, is_pick}
+use Rattle.tp_pass.specs.Passes.{Passes}
 
 -- one more pick
 pub leads_more : (w : Setting) (m mid next : Moment) (ts : List ℕ) (t : ℕ) (r : Reduction) → Leads w m ts mid → Reduces w mid t r next → Leads w m (ts ++ t ∷ []) next

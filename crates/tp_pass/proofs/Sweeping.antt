@@ -8,7 +8,8 @@ use Rattle.tp_step.specs.declared.answer.Order.{Order}
 use Rattle.tp_step.specs.declared.answer.Order.TheVariants.{First, Last, Seed}
 use Rattle.tp_pass.specs.declared.sweep.Sweep.{Sweep}
 use Rattle.tp_pass.specs.declared.sweep.Sweep.TheVariants.{From, Forward, Backward}
-use Rattle.tp_pass.specs.Sweeps.{from_place, choice_of, SweepsFrom, SweepsForward, SweepsBackward, BeginsSweep, TakesTurn}
+use Rattle.tp_step.specs.Seeds.{choice_of}
+use Rattle.tp_pass.specs.Sweeps.{from_place, SweepsFrom, SweepsForward, SweepsBackward, BeginsSweep, TakesTurn}
 
 -- the item's turn is still to come
 abbrev pub IsToCome : Sweep → ℕ → Type 0

@@ -1,3 +1,3 @@
-pub mod Closes
 pub mod Follows
+pub mod Passes
 pub mod Sweeps

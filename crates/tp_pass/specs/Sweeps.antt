@@ -1,27 +1,13 @@
 -- Whose turn it is in a pass, by the order of a run.
-use Rattle.std.specs.Prelude.{◌≡◌, ◌↔◌, ℕ, zero, suc, ◌+◌, ◌-◌, ◌*◌, ◌/◌, ◌%◌, ◌^◌, ◌<◌, ◌≤◌, true, List, [], ◌∷◌, ◌++◌, length, take, drop, Option, None, Some}
+use Rattle.std.specs.Prelude.{◌≡◌, ◌↔◌, ℕ, suc, ◌-◌, ◌%◌, ◌^◌, ◌<◌, ◌≤◌, true, List, [], ◌∷◌, ◌++◌, length, take, drop, Option, None, Some}
 use Rattle.std.specs.List.{Contains}
 use Rattle.std.specs.List.Sorted.{IsStrictlyIncreasing}
 use Rattle.tp_scene.specs.Scene.{Entries, has}
 use Rattle.tp_step.specs.declared.answer.Order.{Order}
 use Rattle.tp_step.specs.declared.answer.Order.TheVariants.{First, Last, Seed}
+use Rattle.tp_step.specs.Seeds.{word_after, choice_of}
 use Rattle.tp_pass.specs.declared.sweep.Sweep.{Sweep}
 use Rattle.tp_pass.specs.declared.sweep.Sweep.TheVariants.{From, Forward, Backward}
-
--- The words of a seed: the first is the seed itself.
-abbrev pub word_after : ℕ → ℕ
-word_after x = (x * 6364136223846793005 + 1442695040888963407) % 2 ^ 64
-
-abbrev pub word_at : (seed k : ℕ) → ℕ
-word_at s zero = s
-word_at s (suc k) = word_after (word_at s k)
-
--- what a word chooses, and so the k-th choice of a seed
-abbrev pub choice_of : (word : ℕ) → ℕ
-choice_of x = x / 2 ^ 33
-
-abbrev pub choice_at : (seed k : ℕ) → ℕ
-choice_at s k = choice_of (word_at s k)
 
 -- a pass spends a choice where it has an item
 abbrev pub word_past : List ℕ → (word : ℕ) → ℕ

@@ -5,4 +5,3 @@ mod pass;
 mod sweep;
 
 pub use pass::close_by_passes;
-pub use sweep::Course;

@@ -4,12 +4,15 @@ ghost use Rattle.tp_scene.specs.Laws.{IsSound};
 ghost use Rattle.tp_decide.specs.Decided.{setting_of};
 ghost use Rattle.tp_slots.specs.Kept.{IsWellKept};
 ghost use Rattle.tp_step.specs.Answers.{moment_of};
-ghost use Rattle.tp_pass.specs.Closes.{ClosureAnswers, Counts, LooksAt, Passes, ending_of, is_pick};
+ghost use Rattle.tp_step.specs.Closes.{ClosureAnswers, Counts, LooksAt, ending_of, is_pick};
+ghost use Rattle.tp_step.specs.EveryRest.{ClosureCommutes};
+ghost use Rattle.tp_step.specs.Room.{ClosureKeepsRoom};
 ghost use Rattle.tp_pass.specs.Follows.{FollowsOrder, PassTurns};
+ghost use Rattle.tp_pass.specs.Passes.{Passes};
 
-use crate::sweep::{Course, Sweep};
+use crate::sweep::Sweep;
 use std::sync::ledger::Ledger;
-use tp_step::{Ending, Scene, Setting, Steps, Tally, Tried, has_item, try_item};
+use tp_step::{Course, Ending, Scene, Setting, Steps, Tally, Tried, has_item, try_item};
 use tp_store::Store;
 use tp_value::NoMemory;
 
@@ -140,6 +143,12 @@ pub fn close_by_passes<L: Ledger>(
         (FollowsOrder (setting_of setting.now) course.order course.room
         (moment_of scene.old store.old) (moment_of scene.new store.new) tally.old.picks
         tally.new.picks) }
+    ensures commutes { IfOk result
+        (ClosureCommutes (setting_of setting.now) course.room (moment_of scene.old store.old)
+        (moment_of scene.new store.new) tally.old.picks tally.new.picks) }
+    ensures room { IfOk result
+        (ClosureKeepsRoom (setting_of setting.now) course.room (moment_of scene.new store.new)
+        tally.old.picks tally.new.picks) }
     ensures waits { tally.new.waits ≡ tally.old.waits }
     ensures rests { tally.new.rests ≡ tally.old.rests }
 {

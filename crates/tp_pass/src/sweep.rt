@@ -2,20 +2,13 @@
 ghost use Rattle.std.specs.Prelude.{◌≡◌, ◌<◌, ◌%◌, ◌^◌, ℕ, suc, IfOk, OnSome};
 ghost use Rattle.tp_slots.specs.Kept.{IsWellKept};
 ghost use Rattle.tp_slots.specs.Read.{scene_of};
-ghost use Rattle.tp_pass.specs.Sweeps.{BeginsSweep, IsLiveByNumber, TakesTurn, choice_at, choice_of, turns_left, word_after, word_at};
+ghost use Rattle.tp_step.specs.Seeds.{choice_at, choice_of, word_after, word_at};
+ghost use Rattle.tp_pass.specs.Sweeps.{BeginsSweep, IsLiveByNumber, TakesTurn, turns_left};
 
 use std::alloc::Global;
 use std::collections::VecDeque;
 use tp_step::{Order, Scene, has_item};
 use tp_value::NoMemory;
-
-/// How a closure goes on: which item it tries next, and how many it may still reduce. Of a seed its word is kept that makes the next
-/// choice.
-#[derive(Clone, Copy, Debug, PartialEq, Eq)]
-pub struct Course {
-    pub order: Order,
-    pub room: u64,
-}
 
 /// What is still to be tried in a pass: every number from this one on, or the items that are listed, from the first or from the last.
 #[derive(Drop)]

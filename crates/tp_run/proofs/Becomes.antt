@@ -26,7 +26,8 @@ use Rattle.tp_step.specs.declared.answer.Tried.{Tried}
 use Rattle.tp_step.specs.declared.answer.Tried.TheVariants as tried
 use Rattle.tp_step.specs.declared.answer.Ending.{Ending}
 use Rattle.tp_step.specs.declared.answer.Ending.TheVariants as ending
-use Rattle.tp_pass.specs.Closes.{ClosureAnswers}
+use Rattle.tp_step.specs.Closes.{ClosureAnswers}
+use Rattle.tp_step.specs.OfVariables.{CellIsOf}
 use Rattle.tp_run.specs.declared.run.Made.{Made}
 use Rattle.tp_run.specs.declared.run.Run.{Run}
 use Rattle.tp_run.specs.declared.run.Settings.{Settings}
@@ -37,13 +38,14 @@ use Rattle.tp_show.specs.declared.turn.Turn.{Turn}
 use Rattle.tp_show.specs.declared.turn.Turn.TheVariants.{Went, Finished, Contradictory, Undetermined, StateLimit, InputMissing, Over}
 use Rattle.tp_run.specs.States.{Plan, globals_of, setting, IsPictureOf, StateGoesOn, StateEnds, Standing, open_at, answered, spent, ReachesLimit, limit_moment, state_after, StateBecomes}
 use Rattle.tp_run.specs.Meaning.{StandingFor, StandsForItsProgram, AgreesWithFacts, AnswerMeans}
-use Rattle.tp_run.specs.Runs.{stands_at, standing_of, StandIsKept, StandIsOf, CellIsOf, TurnIsOf, MadeIsOf, StandsSound, StandsOrderly, IsSettingsOf, IsRunOf, HasPicture, NextOf, RestTurns}
+use Rattle.tp_run.specs.Runs.{stands_at, standing_of, StandIsKept, StandIsOf, TurnIsOf, MadeIsOf, StandsSound, StandsOrderly, IsSettingsOf, IsRunOf, HasPicture, NextOf, RestTurns}
+use Rattle.tp_step.specs.OfVariables.{CellIsOf}
 use Rattle.tp_run.specs.EachOrder.{AnswerAgrees, AnswerHasNoDeadEnd}
 use Rattle.tp_run.proofs.OneState.{Orderly, next_orderly, state_agrees, no_dead_end}
 use Rattle.tp_run.proofs.StatesMean.{leads_sound, leads_keep, goes_on_says, ends_here_says}
 use Rattle.tp_run.proofs.Given.{scene_laws, begin_laws}
 use Rattle.tp_scene.proofs.NamedItem.{named_item_waits}
-use Rattle.tp_run.proofs.KnownItems.{passes_other, clash_is_of, cell_is_of}
+use Rattle.tp_step.proofs.KnownItems.{passes_other, clash_is_of, cell_is_of}
 
 -- with the settings of a plan a state is read as the plan does
 pub same_setting : (plan : Plan) (settings : Settings) → IsSettingsOf plan settings → setting_of settings.setting ≡ setting plan settings.setting.state

@@ -2,8 +2,6 @@ pub mod StatesMean
 pub mod Lives
 pub mod HistoryLemmas
 pub mod Given
-pub mod KnownValues
-pub mod KnownItems
 pub mod GlobalFacts
 pub mod SameFacts
 pub mod OneState

@@ -2,17 +2,14 @@
 use Rattle.std.specs.Prelude.{◌≡◌, ℕ, zero, suc, ◌≤◌, List, ◌++◌, Option, Some, None}
 use Rattle.tp_kernel.specs.Read.{definitions_of}
 use Rattle.tp_inputs.specs.Read.{lines_of}
-use Rattle.tp_store.specs.Known.{Contents, Variable, IsVariableOf}
+use Rattle.tp_store.specs.Known.{Contents, Variable}
 use Rattle.tp_decide.specs.Read.{shows_of}
 use Rattle.tp_slots.specs.Kept.{IsWellKept}
 use Rattle.tp_step.specs.Answers.{moment_of}
+use Rattle.tp_step.specs.OfVariables.{CellIsOf, ClashIsOf}
 use Rattle.tp_step.specs.declared.answer.Order.{Order}
 use Rattle.tp_meaning.specs.Interval.{ProgramTree, kinds_of}
 use Rattle.tp_check.specs.Program.{program_tree}
-use Rattle.tp_scene.specs.declared.answer.Cell.{Cell}
-use Rattle.tp_scene.specs.declared.answer.Cell.TheVariants.{Part, End}
-use Rattle.tp_scene.specs.declared.answer.Clash.{Clash}
-use Rattle.tp_scene.specs.declared.answer.Clash.TheVariants.{Facts, Marks, False, NoValue}
 use Rattle.tp_scene.specs.Scene as S
 use Rattle.tp_scene.specs.Pick.{Setting, Moment}
 use Rattle.tp_scene.specs.Rest.{settled, goes, ends, IsOpenCell}
@@ -56,17 +53,7 @@ order_of run = run.order
 abbrev pub HasFirst : List Variable → List Variable → Type 0
 HasFirst xs ys = (more : List Variable) × (ys ≡ xs ++ more)
 
--- a cell, a clash and an answer that speak of these variables alone
-abbrev pub CellIsOf : List Variable → Cell → Type 0
-CellIsOf xs (Part path) = IsVariableOf xs path.var
-CellIsOf xs (End region depth) = Unit {0}
-
-abbrev pub ClashIsOf : List Variable → Clash → Type 0
-ClashIsOf xs (Facts kept new) = IsVariableOf xs kept.path.var × IsVariableOf xs new.path.var
-ClashIsOf xs (Marks depth) = Unit {0}
-ClashIsOf xs False = Unit {0}
-ClashIsOf xs (NoValue fault) = Unit {0}
-
+-- an answer that speaks of these variables alone
 abbrev pub TurnIsOf : List Variable → Turn → Type 0
 TurnIsOf xs Went = Unit {0}
 TurnIsOf xs (Finished length) = Unit {0}

@@ -17,11 +17,12 @@ ghost use Rattle.tp_decide.specs.Decided.{setting_of};
 ghost use Rattle.tp_slots.specs.Kept.{IsWellKept, Lives};
 ghost use Rattle.tp_slots.specs.Read.{scene_of};
 ghost use Rattle.tp_step.specs.Answers.{moment_of};
+ghost use Rattle.tp_step.specs.OfVariables.{CellIsOf};
 ghost use Rattle.tp_run.specs.States.{Plan, plan_with, setting, open_at, answered, spent, state_after, AnswersState, StateBecomes};
 ghost use Rattle.tp_run.specs.Meaning.{StandsForItsProgram, AnswerMeans};
 ghost use Rattle.tp_run.specs.Ordered.{IsNamedInOrder};
 ghost use Rattle.tp_run.specs.EachOrder.{AnswerAgrees, AnswerHasNoDeadEnd};
-ghost use Rattle.tp_run.specs.Runs.{stands_at, standing_of, program_of, next_state_of, order_of, standing_place, store_of, carried_scene, last_scene_in, IsSettingsOf, IsRunOf, HasPicture, NextOf, RestTurns, StandIsKept, HasFirst, CellIsOf, TurnIsOf, MadeIsOf};
+ghost use Rattle.tp_run.specs.Runs.{stands_at, standing_of, program_of, next_state_of, order_of, standing_place, store_of, carried_scene, last_scene_in, IsSettingsOf, IsRunOf, HasPicture, NextOf, RestTurns, StandIsKept, HasFirst, TurnIsOf, MadeIsOf};
 
 use crate::limits::Limits;
 use crate::picture::settled_picture;
@@ -30,11 +31,11 @@ use std::mem;
 use std::sync::ledger::Ledger;
 use tp_check::Program;
 use tp_inputs::Inputs;
-use tp_pass::{Course, close_by_passes};
+use tp_pass::close_by_passes;
 use tp_show::{Cell, Picture, Turn};
 use tp_step::{
-    Ending, ItemIds, Order, Scene, Setting, Settled, Steps, Tally, Tried, Waits, advance, settled,
-    start, try_item,
+    Course, Ending, ItemIds, Order, Scene, Setting, Settled, Steps, Tally, Tried, Waits, advance,
+    settled, start, try_item,
 };
 use tp_store::Store;
 use tp_value::NoMemory;

@@ -13,8 +13,8 @@ use std::sync::ledger::{Blank, Ledger};
 use std::test::Fail;
 use tp_check::Program;
 use tp_inputs::Inputs;
-use tp_pass::{Course, close_by_passes};
-use tp_step::{ItemIds, Order, Steps, Tally, Waits};
+use tp_pass::close_by_passes;
+use tp_step::{Course, ItemIds, Order, Steps, Tally, Waits};
 
 fn nothing_told(alloc: Global) -> Tally {
     let picks = ItemIds::new(alloc);

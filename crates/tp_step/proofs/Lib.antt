@@ -2,3 +2,8 @@ pub mod MeaningLemmas
 pub mod CarryLemmas
 pub mod ChoiceLemmas
 pub mod FirstWaiting
+pub mod OtherItems
+pub mod EveryRest
+pub mod KnownValues
+pub mod KnownItems
+pub mod Room

@@ -1,4 +1,10 @@
 pub mod Answers
 pub mod Chosen
+pub mod Closes
+pub mod EveryRest
 pub mod Meaning
+pub mod OfVariables
+pub mod OtherItems
+pub mod Room
+pub mod Seeds
 pub mod Waiting

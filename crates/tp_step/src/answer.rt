@@ -69,6 +69,14 @@ pub enum Order {
     Seed(u64),
 }
 
+/// How a closure goes on: which item it tries next, and how many it may still reduce. Of a seed its word is kept that makes the next
+/// choice.
+#[derive(Clone, Copy, Debug, PartialEq, Eq)]
+pub struct Course {
+    pub order: Order,
+    pub room: u64,
+}
+
 /// An item that waits, with its cells.
 #[derive(Drop)]
 pub struct Wait {

@@ -10,7 +10,7 @@ mod next_state;
 mod step;
 mod steps;
 
-pub use answer::{Ending, ItemIds, News, Order, Settled, Tally, Tried, Wait, Waits};
+pub use answer::{Course, Ending, ItemIds, News, Order, Settled, Tally, Tried, Wait, Waits};
 pub use first::start;
 pub use laws::first_waiting_is_named;
 pub use live::{items, settled};

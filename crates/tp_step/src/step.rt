@@ -7,6 +7,8 @@ ghost use Rattle.tp_slots.specs.Kept.{IsWellKept, IsUnchanged, Lives};
 ghost use Rattle.tp_step.specs.Answers.{Tries, moment_of};
 ghost use Rattle.tp_step.specs.Chosen.{IsChoice, kind_in};
 ghost use Rattle.tp_step.specs.Meaning.{TryMeans};
+ghost use Rattle.tp_step.specs.OtherItems.{TryCommutes};
+ghost use Rattle.tp_step.specs.Room.{TryKeepsRoom};
 
 use crate::answer::Tried;
 use crate::carry::{carry_decision, carry_holder};
@@ -145,6 +147,11 @@ pub fn try_item<L: Ledger>(
         (kinds : List Bool)
         → IsSound (setting_of setting.now) kinds (moment_of scene.old store.old)
         → IsSound (setting_of setting.now) kinds (moment_of scene.new store.new)) }
+    ensures commutes { IfOk result
+        (TryCommutes (setting_of setting.now) (moment_of scene.old store.old) item
+        (moment_of scene.new store.new)) }
+    ensures room { IfOk result
+        (TryKeepsRoom (setting_of setting.now) room (moment_of scene.old store.old) item) }
     ensures kept { IsWellKept scene.new }
     ensures scene_err { OnErr result (scene_of scene.new ≡ scene_of scene.old) }
     ensures store_err { OnErr result (store.new ≡ store.old) }

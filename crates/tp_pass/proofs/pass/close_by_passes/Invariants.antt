@@ -3,7 +3,7 @@ use Rattle.tp_scene.specs.Laws.{IsSound}
 use Rattle.tp_decide.specs.Decided.{setting_of}
 use Rattle.tp_slots.specs.Kept.{IsWellKept}
 use Rattle.tp_step.specs.Answers.{moment_of}
-use Rattle.tp_pass.specs.Closes.{Made}
+use Rattle.tp_step.specs.Closes.{Made}
 use Rattle.tp_pass.proofs.Following.{PassesSoFar}
 use Rattle.tp_pass.proofs.pass.close_by_passes.Given as goal
 

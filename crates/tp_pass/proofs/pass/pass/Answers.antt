@@ -2,7 +2,7 @@ use Rattle.std.proofs.Common.{◌∙◌, refl, subst, sym, Option, None, Some}
 use Rattle.tp_decide.specs.Decided.{setting_of}
 use Rattle.tp_step.specs.declared.answer.Ending.{Ending}
 use Rattle.tp_step.specs.Answers.{moment_of}
-use Rattle.tp_pass.specs.Closes.{Looks}
+use Rattle.tp_step.specs.Closes.{Looks}
 use Rattle.tp_pass.proofs.Following.{MayEndWith, may_end, pass_of, turns_begin, turns_go_on, turns_end}
 use Rattle.tp_pass.proofs.Live.{live_below}
 use Rattle.tp_pass.proofs.Picks.{looked, picks_have_room, passing_first, passing_more, passing_last, passing_ends}

@@ -25,8 +25,8 @@ use Rattle.tp_scene.specs.declared.answer.Clash.TheVariants.{Facts, Marks, False
 use Rattle.tp_scene.proofs.Parts.{status_has}
 use Rattle.tp_scene.proofs.Told.{CellTold, OtherTold, ClashTold, Told}
 use Rattle.tp_scene.proofs.FitsTold.{Sees, fitting, fits_told}
-use Rattle.tp_run.specs.Runs.{CellIsOf, ClashIsOf}
-use Rattle.tp_run.proofs.KnownValues.{IsOther, WaitsThere, undecided_of}
+use Rattle.tp_step.specs.OfVariables.{CellIsOf, ClashIsOf}
+use Rattle.tp_step.proofs.KnownValues.{IsOther, WaitsThere, undecided_of}
 
 module _ (facts : List Fact) (variables : List Variable) (kept : AreOfVariables variables facts) where
   abbrev OtherIsOf : Option Cell → Type 0

@@ -1,4 +1,4 @@
--- What a closure comes to.
+-- What a closure comes to, whichever items it tries.
 use Rattle.std.specs.Prelude.{◌≡◌, ◌⊎◌, ℕ, suc, ◌+◌, Bool, true, false, List, [], ◌∷◌, ◌++◌, length, Option, None, Some}
 use Rattle.tp_kernel.specs.declared.formula.LimitKind.TheVariants.{Reductions}
 use Rattle.tp_scene.specs.Scene.{has}
@@ -72,8 +72,3 @@ Looks w t m next left left' before after None =
     ((r : Reduction) × Reduces w m t r next × (left ≡ suc left') × (after ≡ before ++ t ∷ []))
     ⊎ ((has t m.scene.root.entries ≡ true → IsIdle (outcome_of w m.store m.scene t)) × (next ≡ m) × (left' ≡ left) × (after ≡ before))
 Looks w t m next left left' before after (Some ending) = ClosureEnds w left m ending × (next ≡ m) × (left' ≡ left) × (after ≡ before)
-
--- One pass was made: where nothing was reduced in it the scene is at rest; or the closure ended in it.
-abbrev pub Passes : Setting → (m next : Moment) → (left left' : ℕ) → (before after : List ℕ) → Option Ending → Type 0
-Passes w m next left left' before after None = Made w m next left left' before after × (left' ≡ left → AtRest w next)
-Passes w m next left left' before after (Some ending) = Made w m next left left' before after × ClosureEnds w left' next ending
