@@ -8,7 +8,6 @@ use Rattle.tp_step.specs.declared.answer.Order.{Order}
 use Rattle.tp_step.specs.declared.answer.Order.TheVariants.{First}
 use Rattle.tp_words.specs.App.{the_app}
 use Rattle.tp_words.specs.declared.mode.Mode.{Mode}
-use Rattle.tp_words.specs.declared.mode.Mode.TheVariants.{Run, Print}
 use Rattle.tp_words.specs.Limit.{limit_set, usual_states, usual_reductions}
 use Rattle.tp_words.specs.Mode.{mode_given}
 use Rattle.tp_words.specs.Order.{order_set}
@@ -64,19 +63,6 @@ wanted_of_texts texts = wanted_without (fault_of the_app texts) (matches_of the_
 -- accepted words, and what they mean: each word is UTF-8, and the command line takes them
 abbrev pub wanted_of : List (List ℕ) → Option Wanted
 wanted_of words = if list_all is_utf8 words then wanted_of_texts words else None
-
--- the files that a call asks for, in order: the source, and in a run then the inputs
-abbrev pub inputs_in : Mode → Option (List ℕ) → List (List ℕ)
-inputs_in Run None = []
-inputs_in Run (Some inputs) = inputs ∷ []
-inputs_in Print inputs = []
-
-abbrev pub names_in : Option Wanted → List (List ℕ)
-names_in None = []
-names_in (Some wanted) = wanted.file ∷ inputs_in wanted.mode wanted.inputs
-
-abbrev pub files_of : List (List ℕ) → List (List ℕ)
-files_of words = names_in (wanted_of words)
 
 -- this mode with this file and nothing else said
 abbrev pub usual_wanted : Mode → List ℕ → Wanted
