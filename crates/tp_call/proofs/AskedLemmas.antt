@@ -105,9 +105,9 @@ same_error result other status cause p q e =
     let same : status ≡ cause = cc in
     p ∙ ap Err same
 
--- whether a trace is asked for has one answer
-pub trace_asked : (words : List (List ℕ)) (a b : Wanted) → wanted_of words ≡ Some a → wanted_of words ≡ Some b → b.trace ≡ a.trace
-trace_asked words a b p q = let same : Some a ≡ Some b = sym p ∙ q in cc
+-- what is to be written beside each state has one answer
+pub beside_asked : (words : List (List ℕ)) (a b : Wanted) → wanted_of words ≡ Some a → wanted_of words ≡ Some b → b.beside ≡ a.beside
+beside_asked words a b p q = let same : Some a ≡ Some b = sym p ∙ q in cc
 
 -- and so has the order in which items are taken
 pub order_asked : (words : List (List ℕ)) (a b : Wanted) → wanted_of words ≡ Some a → wanted_of words ≡ Some b → b.order ≡ a.order

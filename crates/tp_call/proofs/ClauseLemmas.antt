@@ -23,7 +23,7 @@ use Rattle.tp_call.specs.declared.refused.Refused.{Refused}
 use Rattle.tp_call.specs.Parts.{refused_status}
 use Rattle.tp_call.specs.Written.{Wrote}
 use Rattle.tp_call.specs.Run.{EndSays}
-use Rattle.tp_call.specs.Text.{AsksNoTrace, TextTells, SatisfiedAsTold, ContinuesTold, finished_line}
+use Rattle.tp_call.specs.Text.{AsksNothingBeside, TextTells, SatisfiedAsTold, ContinuesTold, finished_line}
 use Rattle.tp_call.specs.Answer.{WhereTold, AsTold, IsAskedFor, HasInputs, HoldsTable, HoldsProgram, HoldsSource, HoldsRefused, IsToPrint, Spells, WritesSpelling, IsPastLimit, HasBadLine, Serves, ReadsFile, Refuses, RunsTo, CallEnds, Answers, Prints, IsOrStopped, IsOrFailed, IsEndOfRun, IsOpenEnd, HasFailed}
 use Rattle.tp_call.proofs.FileLemmas.{where_told, source_read, inputs_read}
 use Rattle.tp_call.proofs.ProgramLemmas.{program_or_refused, source_or_outside, refused_once}
@@ -99,7 +99,7 @@ module _ (words : List (List ℕ)) (held : Option Held) (old new : Option (List 
   input_missing result a state port is = run_alone (InputMissing state port) (λ r. r) tt (subst (Answers words held old new) is a)
 
   -- the same for whoever has the text alone
-  pub finished_text : (result : Status) → Answers words held old new result → (length : ℕ) → result ≡ Finished length → AsksNoTrace words
+  pub finished_text : (result : Status) → Answers words held old new result → (length : ℕ) → result ≡ Finished length → AsksNothingBeside words
       → TextTells words held old new (λ plan told last. (n : ℕ) → FitsIn64Bits n → last ≡ finished_line n → SatisfiedAsTold plan told n)
   finished_text result a n is plain =
       let p = finished result a n is in
@@ -109,13 +109,13 @@ module _ (words : List (List ℕ)) (held : Option Held) (old new : Option (List 
       let small : n < 2 ^ 64 = omega (arith, run.count, within, p.states) in
       tells_finished words held old new (Finished n) _ p (plain p.asked.wanted p.asked.accepted) p.fits (subst IsLastTurn (sym answer) tt) n answer small p.says.0
 
-  open_by : (status : Status) → Prints words held old new status (λ p printed. EndSays p printed (answer_of status)) → IsLastTurn (answer_of status) → ((plan : Plan) (printed : List Picture) → EndSays plan printed (answer_of status) → ContinuesEach plan printed) → AsksNoTrace words
+  open_by : (status : Status) → Prints words held old new status (λ p printed. EndSays p printed (answer_of status)) → IsLastTurn (answer_of status) → ((plan : Plan) (printed : List Picture) → EndSays plan printed (answer_of status) → ContinuesEach plan printed) → AsksNothingBeside words
       → TextTells words held old new (λ plan told last. ContinuesTold plan told)
   open_by status p last says plain =
       let answer = answer_is p.run.answer status p.run.status_is in
       tells_open words held old new status _ p (plain p.asked.wanted p.asked.accepted) p.fits (subst IsLastTurn (sym answer) last) (says p.plan p.pictures p.says)
 
-  pub open_text : (result : Status) → Answers words held old new result → IsOpenEnd result → AsksNoTrace words → TextTells words held old new (λ plan told last. ContinuesTold plan told)
+  pub open_text : (result : Status) → Answers words held old new result → IsOpenEnd result → AsksNothingBeside words → TextTells words held old new (λ plan told last. ContinuesTold plan told)
   open_text (Undetermined state cell) a o plain = open_by (Undetermined state cell) (run_alone (Undetermined state cell) (λ r. r) tt a) tt (λ plan printed h. h) plain
   open_text (StateLimit states) a o plain = open_by (StateLimit states) (run_alone (StateLimit states) (λ r. r) tt a) tt (λ plan printed h. h) plain
   open_text (ReductionLimit state) a o plain = open_by (ReductionLimit state) (run_alone (ReductionLimit state) (λ r. r) tt a) tt (λ plan printed h. h) plain

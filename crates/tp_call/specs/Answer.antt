@@ -29,6 +29,7 @@ use Rattle.tp_call.specs.Run.{EndSays, RunEnds, known_at_end, Settles}
 use Rattle.tp_call.specs.Printed.{ended_text, settled_text}
 use Rattle.tp_call.specs.Written.{Wrote}
 use Rattle.tp_call.specs.Files.{files_read, IsFoundIn}
+use Rattle.tp_words.specs.declared.beside.Beside.{Beside}
 
 -- where the value is told, it has P
 abbrev pub WhereTold : {X : Type 0} → Option X → (X → Type 0) → Type 0
@@ -51,8 +52,8 @@ abbrev pub HoldsRefused : Refused → Mode → List ℕ → Type 0
 HoldsRefused refused mode source = (length source ≤ source_limit) × IsRefusedAt mode source refused
 
 -- the text of a run of this plan that settled these states and ended so: the lines of the states, and the end line
-abbrev pub run_text : (trace : Bool) {plan : Plan} {pictures : List Picture} {status : Status} → RunEnds plan pictures status → List ℕ
-run_text trace {plan} {pictures} end = ended_text trace plan pictures end.answer end.run ++ end_line plan.program.globals (known_at_end end) plan.reductions end.answer
+abbrev pub run_text : (beside : Beside) {plan : Plan} {pictures : List Picture} {status : Status} → RunEnds plan pictures status → List ℕ
+run_text beside {plan} {pictures} end = ended_text beside plan pictures end.answer end.run ++ end_line plan.program.globals (known_at_end end) plan.reductions end.answer
 
 -- The greatest length of a file of inputs, in bytes.
 abbrev pub inputs_limit : ℕ
@@ -120,7 +121,7 @@ pub record RunsTo (words : List (List ℕ)) (held : Option Held) (status : Statu
   pub asked : IsAskedFor words held plan
   pub run : RunEnds plan pictures status
   pub says : EndSays plan pictures run.answer
-  pub written : text ≡ run_text asked.wanted.trace run
+  pub written : text ≡ run_text asked.wanted.beside run
   pub fits : ProgramFits plan.program
   pub names : AreNames plan.program.globals
   pub states : plan.states < 2 ^ 64
@@ -166,7 +167,7 @@ pub record RunsOn (words : List (List ℕ)) (held : Option Held) (text : List �
   pub pictures : List Picture
   pub asked : IsAskedFor words held plan
   pub run : Settles plan pictures
-  pub written : text ≡ settled_text asked.wanted.trace plan pictures run
+  pub written : text ≡ settled_text asked.wanted.beside plan pictures run
 
 -- the text of no state, or of states of a run, without an end line
 abbrev pub IsUnfinishedText : List (List ℕ) → Option Held → List ℕ → Type 0
@@ -186,7 +187,7 @@ pub record Prints (words : List (List ℕ)) (held : Option Held) (old new : Opti
   pub pictures : List Picture
   pub asked : IsAskedFor words held plan
   pub run : RunEnds plan pictures status
-  pub appended : Wrote old new (run_text asked.wanted.trace run)
+  pub appended : Wrote old new (run_text asked.wanted.beside run)
   pub fits : ProgramFits plan.program
   pub names : AreNames plan.program.globals
   pub states : plan.states < 2 ^ 64

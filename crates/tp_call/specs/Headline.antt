@@ -15,7 +15,7 @@ use Rattle.tp_tree.specs.Tree.{SourceTree}
 use Rattle.tp_words.specs.Words.{wanted_of}
 use Rattle.tp_run.specs.States.{Plan}
 use Rattle.tp_show.specs.Told.{FitsIn64Bits}
-use Rattle.tp_call.specs.Text.{AsksNoTrace, TextTells, SatisfiedAsTold, ContinuesTold, finished_line}
+use Rattle.tp_call.specs.Text.{AsksNothingBeside, TextTells, SatisfiedAsTold, ContinuesTold, finished_line}
 use Rattle.tp_call.specs.Answer.{WhereTold, AsTold, HoldsRefused, IsPastLimit, HasBadLine, IsAskedFor, IsToPrint, ReadsFile, Prints, WritesSpelling, IsOrStopped, IsOrFailed, IsEndOfRun, IsOpenEnd, HasFailed}
 use Rattle.tp_call.specs.Parts.{refused_status}
 
@@ -49,17 +49,17 @@ module _ (words : List (List ℕ)) (held : Option Held) (old new : Option (List 
   InputMissingSays = (state : ℕ) (port : List ℕ) → result ≡ InputMissing state port
       → Prints words held old new (InputMissing state port) (λ plan printed. Unsatisfiable plan)
 
-  -- The same for whoever has the text alone, of words that ask for no trace. Where a run finishes: however the text is read, as lines of states and a last line with a length n, an
+  -- The same for whoever has the text alone, of words that ask for nothing beside the states. Where a run finishes: however the text is read, as lines of states and a last line with a length n, an
   -- interval satisfies the program and shows S exactly where it has the length n, agrees with what the states' lines say, and S is what the `show`
   -- lines say.
   abbrev pub FinishedTextSays : Type 0
-  FinishedTextSays = (length : ℕ) → result ≡ Finished length → AsksNoTrace words
+  FinishedTextSays = (length : ℕ) → result ≡ Finished length → AsksNothingBeside words
       → TextTells words held old new (λ plan told last. (n : ℕ) → FitsIn64Bits n → last ≡ finished_line n → SatisfiedAsTold plan told n)
 
   -- Where a run is undetermined or reaches a limit: however the text is read, each interval that satisfies the program begins with what it tells, and
   -- has more states.
   abbrev pub OpenTextSays : Type 0
-  OpenTextSays = IsOpenEnd result → AsksNoTrace words → TextTells words held old new (λ plan told last. ContinuesTold plan told)
+  OpenTextSays = IsOpenEnd result → AsksNothingBeside words → TextTells words held old new (λ plan told last. ContinuesTold plan told)
 
   -- Done: the words ask to print a source of the grammar, and what was appended is its canonical spelling, which is read back as this source.
   abbrev pub PrintedSays : Type 0

@@ -7,13 +7,16 @@ use Rattle.clap.specs.Words.{Row, Kinds, first_of, fault_of, matches_of}
 use Rattle.tp_step.specs.declared.answer.Order.{Order}
 use Rattle.tp_step.specs.declared.answer.Order.TheVariants.{First}
 use Rattle.tp_words.specs.App.{the_app}
+use Rattle.tp_words.specs.Beside.{beside_given}
+use Rattle.tp_words.specs.declared.beside.Beside.{Beside}
+use Rattle.tp_words.specs.declared.beside.Beside.TheVariants.{Nothing}
 use Rattle.tp_words.specs.declared.mode.Mode.{Mode}
 use Rattle.tp_words.specs.Limit.{limit_set, usual_states, usual_reductions}
 use Rattle.tp_words.specs.Mode.{mode_given}
 use Rattle.tp_words.specs.Order.{order_set}
 
 -- what is done, and with which file; and of a run the file of the inputs, the limits on states and on the reductions in a state, the order in which it
--- takes its items, and whether it writes a trace
+-- takes its items, and what it writes beside each state
 pub record Wanted : Type 0 where
   pub mode : Mode
   pub file : List ℕ
@@ -21,7 +24,7 @@ pub record Wanted : Type 0 where
   pub states : ℕ
   pub reductions : ℕ
   pub order : Order
-  pub trace : Bool
+  pub beside : Beside
 
 -- the value is there and is this text
 abbrev pub is_text : List ℕ → Option (List ℕ) → Bool
@@ -48,7 +51,7 @@ wanted_in rows = do
     states = states;
     reductions = reductions;
     order = order;
-    trace = is_text (codes "true") (first_of (codes "trace") rows);
+    beside = beside_given (is_text (codes "true") (first_of (codes "trace") rows));
   })
 
 -- the same, where the command line has no fault
@@ -66,4 +69,4 @@ wanted_of words = if list_all is_utf8 words then wanted_of_texts words else None
 
 -- this mode with this file and nothing else said
 abbrev pub usual_wanted : Mode → List ℕ → Wanted
-usual_wanted mode file = record { mode = mode; file = file; inputs = None; states = usual_states; reductions = usual_reductions; order = First; trace = false }
+usual_wanted mode file = record { mode = mode; file = file; inputs = None; states = usual_states; reductions = usual_reductions; order = First; beside = Nothing }

@@ -38,4 +38,4 @@ pub returns-in-Run-clause-job : goal.returns-in-Run-clause-job
 returns-in-Run-clause-job g c =
     let asks = c.in_ok-command.ensures.accepted in
     let task = c.in_ok-task_for-in-Run.ensures in
-    record { asked_for = task.asked_for _ asks; fits = task.fits; names = task.names; states = task.states; trace = task.trace _ asks; order = task.order _ asks }
+    record { asked_for = task.asked_for _ asks; fits = task.fits; names = task.names; states = task.states; beside = task.beside _ asks; order = task.order _ asks }

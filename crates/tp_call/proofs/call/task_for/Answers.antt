@@ -6,7 +6,7 @@ use Rattle.tp_words.specs.Command.{wanted_by}
 use Rattle.tp_words.specs.declared.mode.Mode.TheVariants.{Run}
 use Rattle.tp_call.specs.declared.status.Which.TheVariants.{Source}
 use Rattle.tp_call.specs.declared.status.Status.TheVariants.{ReadFault}
-use Rattle.tp_call.proofs.AskedLemmas.{first_asked, table_asked, same_error, trace_asked, order_asked}
+use Rattle.tp_call.proofs.AskedLemmas.{first_asked, table_asked, same_error, beside_asked, order_asked}
 use Rattle.tp_call.proofs.SourceLemmas.{no_source, no_table, inputs_held, lent_name}
 use Rattle.tp_call.proofs.call.task_for.Goals as goal
 
@@ -47,8 +47,8 @@ returns-clause-asked_for g c = λ words is.
       reductions = c.limits_of.ensures.reductions;
     }
 
-pub returns-clause-trace : goal.returns-clause-trace
-returns-clause-trace g c = λ words is wanted asks. trace_asked words (wanted_by c.args.command.now) wanted is asks
+pub returns-clause-beside : goal.returns-clause-beside
+returns-clause-beside g c = λ words is wanted asks. beside_asked words (wanted_by c.args.command.now) wanted is asks
 
 pub returns-clause-order : goal.returns-clause-order
 returns-clause-order g c = λ words is wanted asks. order_asked words (wanted_by c.args.command.now) wanted is asks
