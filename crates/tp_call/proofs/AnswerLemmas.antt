@@ -1,5 +1,5 @@
 -- The parts of a call, put together: what it answers, and what it has written.
-use Rattle.std.proofs.Common.{◌≡◌, ◌+◌, ◌<◌, ◌^◌, inl, inr, ℕ, Bool, List, [], ◌∷◌, ◌++◌, length, take, true, All, Option, Some, None, Ok, Err, IsTrue, refl, sym, ap, ◌∙◌, subst}
+use Rattle.std.proofs.Common.{◌≡◌, ◌+◌, ◌<◌, ◌^◌, inl, inr, ℕ, List, [], ◌∷◌, ◌++◌, length, take, true, All, Option, Some, None, Ok, Err, IsTrue, refl, sym, ap, ◌∙◌, subst}
 use Rattle.std.proofs.Math.Seq.{take-append-add}
 use Rattle.std.proofs.lemmas.List.{append-nil}
 use Rattle.tp_io.specs.Devices.{Held}

@@ -1,5 +1,5 @@
 -- Which failure a run names.
-use Rattle.std.proofs.Common.{◌≡◌, ℕ, Bool, List, length, Option, Some, IfSome, sym, ap, ◌∙◌, subst}
+use Rattle.std.proofs.Common.{◌≡◌, ℕ, List, length, Option, Some, IfSome, sym, ap, ◌∙◌, subst}
 use Rattle.tp_scene.specs.Pick.{Moment}
 use Rattle.tp_store.specs.Known.{Contents}
 use Rattle.tp_step.specs.declared.answer.Order.{Order}

@@ -1,5 +1,5 @@
 -- What the text of a run says to whoever has it alone.
-use Rattle.std.proofs.Common.{◌≡◌, ◌↔◌, ◌<◌, ◌^◌, ℕ, suc, false, List, [], ◌∷◌, ◌++◌, length, map, drop, All, Option, refl, sym, ap, ◌∙◌, subst, arith, codes, append_assoc}
+use Rattle.std.proofs.Common.{◌≡◌, ◌↔◌, ◌<◌, ◌^◌, ℕ, suc, List, [], ◌∷◌, ◌++◌, length, map, drop, All, Option, refl, sym, ap, ◌∙◌, subst, arith, codes, append_assoc}
 use Rattle.std.specs.Fmt.{decimal}
 use Rattle.std.proofs.lemmas.List.{length-map, append-nil}
 use Rattle.std.proofs.lemmas.List.Elements.{All-nil, All-cons, All-head, All-tail}

@@ -1,5 +1,5 @@
 -- What one answer of a run makes, and what is written of it.
-use Rattle.std.proofs.Common.{◌≡◌, ℕ, zero, suc, Bool, true, List, Option, Some, None, IfSome, Err, refl, ap, sym, ◌∙◌, subst}
+use Rattle.std.proofs.Common.{◌≡◌, ℕ, zero, suc, true, List, Option, Some, None, IfSome, Err, refl, ap, sym, ◌∙◌, subst}
 use Rattle.tp_io.specs.Devices.{Writes}
 use Rattle.tp_io.specs.declared.devices.WriteRefusal.{WriteRefusal}
 use Rattle.tp_io.specs.declared.devices.WriteRefusal.TheVariants as sink

@@ -1,5 +1,5 @@
 -- What a call may answer, and what it writes.
-use Rattle.std.specs.Prelude.{◌≡◌, ◌⊎◌, ◌≤◌, ◌<◌, ◌^◌, ℕ, Bool, List, [], ◌++◌, length, take, All, Option, None, Some}
+use Rattle.std.specs.Prelude.{◌≡◌, ◌⊎◌, ◌≤◌, ◌<◌, ◌^◌, ℕ, List, [], ◌++◌, length, take, All, Option, None, Some}
 use Rattle.tp_lex.specs.Place.{source_limit}
 use Rattle.tp_io.specs.Devices.{Held, bytes_of}
 use Rattle.tp_show.specs.declared.turn.Picture.{Picture}

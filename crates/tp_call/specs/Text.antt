@@ -1,5 +1,5 @@
 -- What the text of a run says to whoever has it alone.
-use Rattle.std.specs.Prelude.{◌≡◌, ◌↔◌, ◌≤◌, ◌<◌, ◌+◌, ℕ, false, List, ◌++◌, length, All, Option, Some, codes}
+use Rattle.std.specs.Prelude.{◌≡◌, ◌↔◌, ◌≤◌, ◌<◌, ◌+◌, ℕ, List, ◌++◌, length, All, Option, Some, codes}
 use Rattle.std.specs.Fmt.{decimal}
 use Rattle.tp_io.specs.Devices.{Held}
 use Rattle.tp_meaning.specs.Course.{Course, Shows}
