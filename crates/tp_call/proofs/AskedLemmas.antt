@@ -3,6 +3,7 @@ use Rattle.std.proofs.Common.{◌≡◌, ◌+◌, inl, inr, ℕ, List, [], ◌�
 use Rattle.std.proofs.lemmas.List.{append-nil}
 use Rattle.tp_io.specs.Devices.{Held, and_one_more}
 use Rattle.tp_words.specs.Words.{Wanted, wanted_of}
+use Rattle.tp_words.specs.declared.mode.Mode.{Mode}
 use Rattle.tp_words.specs.declared.mode.Mode.TheVariants.{Run}
 use Rattle.tp_call.specs.declared.status.Status.{Status}
 use Rattle.tp_call.specs.declared.status.Status.TheVariants.{ReadFault, NoMemory}
@@ -11,7 +12,8 @@ use Rattle.tp_call.specs.declared.status.Which.TheVariants.{Source, Inputs}
 use Rattle.std.specs.Option.{option_map}
 use Rattle.tp_call.specs.Reading.{AsksFile, AsksTable}
 use Rattle.tp_call.specs.Parts.{IsInputsEnd, IsWordsRefusal}
-use Rattle.tp_call.specs.Answer.{AsksOnly, place}
+use Rattle.tp_call.specs.Files.{NamedFile, file_named, files_named, files_read, AsksOnly}
+use Rattle.tp_call.proofs.FileLemmas.{reads_by}
 
 nothing_more : (old : Option (List (List ℕ))) → old ≡ option_map (λ before. before ++ []) old
 nothing_more None = refl
@@ -33,14 +35,6 @@ asks_none words old new failed same never = record {
 pub asks_as : (words : List (List ℕ)) (old new : Option (List (List ℕ))) (failed other : Which → Type 0) → AsksOnly words old new failed → ((which : Which) → other which → failed which) → AsksOnly words old new other
 asks_as words old new failed other a is = record { count = a.count; asked = a.asked; last = λ which o. a.last which (is which o) }
 
-first_place : (which : Which) → which ≡ Source → 1 ≡ place which + 1
-first_place Source e = refl
-first_place Inputs e = absurd (cc (e))
-
-second_place : (which : Which) → which ≡ Inputs → 2 ≡ place which + 1
-second_place Source e = absurd (cc (e))
-second_place Inputs e = refl
-
 -- the words are refused, and no name was asked for
 pub words_asked : {T : Type 0} (words : List (List ℕ)) (old : Option (List (List ℕ))) (result : Result T Status) (status : Status) → result ≡ Err status → IsWordsRefusal words status → AsksOnly words old old (λ which. result ≡ Err (ReadFault which))
 words_asked words old result status is refused = asks_none words old old _ refl (λ which f. let both : Err status ≡ Err (ReadFault which) = sym is ∙ f in never refused which (cc)) where
@@ -49,48 +43,53 @@ words_asked words old result status is refused = asks_none words old old _ refl 
   never (inr (refused, none)) which e = cc
 
 module _ (words : List (List ℕ)) (wanted : Wanted) (accepted : wanted_of words ≡ Some wanted) where
-  -- the name of the source alone
-  pub asks_source : (old new : Option (List (List ℕ))) (failed : Which → Type 0) → new ≡ and_one_more old wanted.file → ((which : Which) → failed which → which ≡ Source) → AsksOnly words old new failed
-  asks_source old new failed asked first = record {
+  -- the name of the first file that the mode reads, alone
+  asks_first : (which : Which) (name : List ℕ) (rest : List NamedFile) → files_read wanted.mode wanted ≡ file_named which name ∷ rest → (old new : Option (List (List ℕ))) (failed : Which → Type 0) → new ≡ and_one_more old name
+      → ((other : Which) → failed other → other ≡ which) → AsksOnly words old new failed
+  asks_first which name rest reads old new failed asked is = record {
     count = 1;
-    asked = rw accepted asked;
-    last = λ which f. first_place which (first which f);
+    asked = rw (accepted, reads) asked;
+    last = λ other f. rw (accepted, reads) (ap Some (sym (is other f)));
   }
 
-  -- and then, in a run, the name of the inputs
-  asks_both : (mode : wanted.mode ≡ Run) → (name : List ℕ) (old mid new : Option (List (List ℕ))) (failed : Which → Type 0) → wanted.inputs ≡ Some name → mid ≡ and_one_more old wanted.file → new ≡ and_one_more mid name
-      → ((which : Which) → failed which → which ≡ Inputs) → AsksOnly words old new failed
-  asks_both mode name old mid new failed named one two second = record {
+  -- and then that of the second one
+  asks_second : (first which : Which) (before name : List ℕ) (rest : List NamedFile) → files_read wanted.mode wanted ≡ file_named first before ∷ file_named which name ∷ rest → (old mid new : Option (List (List ℕ))) (failed : Which → Type 0)
+      → mid ≡ and_one_more old before → new ≡ and_one_more mid name → ((other : Which) → failed other → other ≡ which) → AsksOnly words old new failed
+  asks_second first which before name rest reads old mid new failed one two is = record {
     count = 2;
-    asked = rw (accepted, mode, named) (two ∙ ap (λ m. and_one_more m name) one ∙ two_more old wanted.file name);
-    last = λ which f. second_place which (second which f);
+    asked = rw (accepted, reads) (two ∙ ap (λ m. and_one_more m name) one ∙ two_more old before name);
+    last = λ other f. rw (accepted, reads) (ap Some (sym (is other f)));
   }
 
   -- want of memory is no failed read
   no_fault : {T : Type 0} (result : Result T Status) (which : Which) → result ≡ Err NoMemory → result ≡ Err (ReadFault which) → ⊥
   no_fault result which memory fault = let bad : Err NoMemory ≡ Err (ReadFault which) = sym memory ∙ fault in cc
 
-  -- after the source: its name was asked for, or nothing
-  pub source_asked : {T : Type 0} (old new : Option (List (List ℕ))) (result : Result T Status) (failed : Which → Type 0) → AsksFile old wanted.file result new → ((which : Which) → failed which → result ≡ Err (ReadFault which))
-      → ((which : Which) → result ≡ Err (ReadFault which) → which ≡ Source) → AsksOnly words old new failed
-  source_asked old new result failed (inl one) is first = asks_source old new failed one (λ which f. first which (is which f))
-  source_asked old new result failed (inr (memory, same)) is first = asks_none words old new failed same (λ which f. no_fault result which memory (is which f))
+  -- after the first file: its name was asked for, or nothing
+  pub first_asked : {T : Type 0} (mode : Mode) (which : Which) (name : List ℕ) (rest : List NamedFile) → wanted.mode ≡ mode → files_read mode wanted ≡ file_named which name ∷ rest → (old new : Option (List (List ℕ))) (result : Result T Status)
+      (failed : Which → Type 0) → AsksFile old name result new → ((other : Which) → failed other → result ≡ Err (ReadFault other)) → ((other : Which) → result ≡ Err (ReadFault other) → other ≡ which) → AsksOnly words old new failed
+  first_asked mode which name rest is reads old new result failed (inl one) fault first = asks_first which name rest (reads_by wanted mode _ is reads) old new failed one (λ other f. first other (fault other f))
+  first_asked mode which name rest is reads old new result failed (inr (memory, same)) fault first = asks_none words old new failed same (λ other f. no_fault result other memory (fault other f))
 
   -- the name of the source was asked for, where the program was read
   one_asked : {T : Type 0} (old mid : Option (List (List ℕ))) (result : Result T Status) (x : T) → result ≡ Ok x → AsksFile old wanted.file result mid → mid ≡ and_one_more old wanted.file
   one_asked old mid result x ok (inl one) = one
   one_asked old mid result x ok (inr (memory, same)) = let bad : Ok x ≡ Err NoMemory = sym ok ∙ memory in cc
 
+  run_reads : (names : Option (List ℕ)) → wanted.mode ≡ Run → wanted.inputs ≡ names → files_read wanted.mode wanted ≡ file_named Source wanted.file ∷ files_named Inputs names
+  run_reads names mode named = reads_by wanted Run _ mode (ap (λ (n : Option (List ℕ)). file_named Source wanted.file ∷ files_named Inputs n) named)
+
   inputs_asked : {T : Type 0} (mode : wanted.mode ≡ Run) (held : Option Held) (old mid new : Option (List (List ℕ))) (names : Option (List ℕ)) → wanted.inputs ≡ names → mid ≡ and_one_more old wanted.file → (table : Result T Status) → AsksTable mid names table new
       → IfErr table (IsInputsEnd held names) → (failed : Which → Type 0) → ((which : Which) → failed which → table ≡ Err (ReadFault which)) → ((which : Which) → table ≡ Err (ReadFault which) → which ≡ Inputs) → AsksOnly words old new failed
   inputs_asked mode held old mid new None named one table asked refused failed is second =
-      asks_source old new failed (asked ∙ one) (λ which f. absurd (only_memory which (is which f)))
+      asks_first Source wanted.file [] (run_reads None mode named) old new failed (asked ∙ one) (λ which f. absurd (only_memory which (is which f)))
     where
       only_memory : (which : Which) → table ≡ Err (ReadFault which) → ⊥
       only_memory which e = let bad : ReadFault which ≡ NoMemory = subst (λ r. IfErr r (IsInputsEnd held None)) e refused in cc
-  inputs_asked mode held old mid new (Some name) named one table (inl two) refused failed is second = asks_both mode name old mid new failed named one two (λ which f. second which (is which f))
+  inputs_asked mode held old mid new (Some name) named one table (inl two) refused failed is second =
+      asks_second Source Inputs wanted.file name [] (run_reads (Some name) mode named) old mid new failed one two (λ which f. second which (is which f))
   inputs_asked mode held old mid new (Some name) named one table (inr (memory, same)) refused failed is second =
-      asks_source old new failed (same ∙ one) (λ which f. absurd (no_fault table which memory (is which f)))
+      asks_first Source wanted.file (files_named Inputs (Some name)) (run_reads (Some name) mode named) old new failed (same ∙ one) (λ which f. absurd (no_fault table which memory (is which f)))
 
   -- after the inputs: both names were asked for, or that of the source alone
   pub table_asked : {T U : Type 0} (mode : wanted.mode ≡ Run) (held : Option Held) (old mid new : Option (List (List ℕ))) (names : Option (List ℕ)) → wanted.inputs ≡ names → (source : Result U Status) (x : U) → source ≡ Ok x → AsksFile old wanted.file source mid
@@ -106,9 +105,9 @@ same_error result other status cause p q e =
     let same : status ≡ cause = cc in
     p ∙ ap Err same
 
--- whether a trace is asked for has one answer
-pub trace_asked : (words : List (List ℕ)) (a b : Wanted) → wanted_of words ≡ Some a → wanted_of words ≡ Some b → b.trace ≡ a.trace
-trace_asked words a b p q = let same : Some a ≡ Some b = sym p ∙ q in cc
+-- what is to be written beside each state has one answer
+pub beside_asked : (words : List (List ℕ)) (a b : Wanted) → wanted_of words ≡ Some a → wanted_of words ≡ Some b → b.beside ≡ a.beside
+beside_asked words a b p q = let same : Some a ≡ Some b = sym p ∙ q in cc
 
 -- and so has the order in which items are taken
 pub order_asked : (words : List (List ℕ)) (a b : Wanted) → wanted_of words ≡ Some a → wanted_of words ≡ Some b → b.order ≡ a.order

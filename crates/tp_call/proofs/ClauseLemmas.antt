@@ -23,9 +23,9 @@ use Rattle.tp_call.specs.declared.refused.Refused.{Refused}
 use Rattle.tp_call.specs.Parts.{refused_status}
 use Rattle.tp_call.specs.Written.{Wrote}
 use Rattle.tp_call.specs.Run.{EndSays}
-use Rattle.tp_call.specs.Text.{AsksNoTrace, TextTells, SatisfiedAsTold, ContinuesTold, finished_line}
-use Rattle.tp_call.specs.Answer.{Sourced, Supplied, IsAskedFor, HasInputs, HoldsTable, HoldsProgram, HoldsSource, HoldsRefused, IsToPrint, Spells, WritesSpelling, IsLongSource, IsLongTable, HasBadLine, IsTold, IsSupplied, Refuses, RunsTo, CallEnds, Answers, Prints, IsOrStopped, IsOrFailed, IsEndOfRun, IsOpenEnd, HasFailed}
-use Rattle.tp_call.specs.Headline.{HoldsTooLong}
+use Rattle.tp_call.specs.Text.{AsksNothingBeside, TextTells, SatisfiedAsTold, ContinuesTold, finished_line}
+use Rattle.tp_call.specs.Answer.{WhereTold, AsTold, IsAskedFor, HasInputs, HoldsTable, HoldsProgram, HoldsSource, HoldsRefused, IsToPrint, Spells, WritesSpelling, IsPastLimit, HasBadLine, Serves, ReadsFile, Refuses, RunsTo, CallEnds, Answers, Prints, IsOrStopped, IsOrFailed, IsEndOfRun, IsOpenEnd, HasFailed}
+use Rattle.tp_call.proofs.FileLemmas.{where_told, source_read, inputs_read}
 use Rattle.tp_call.proofs.ProgramLemmas.{program_or_refused, source_or_outside, refused_once}
 use Rattle.tp_call.proofs.TurnLemmas.{answer_of, answer_is, ends_run}
 use Rattle.tp_call.proofs.TextLemmas.{tells_finished, tells_open}
@@ -99,7 +99,7 @@ module _ (words : List (List ℕ)) (held : Option Held) (old new : Option (List 
   input_missing result a state port is = run_alone (InputMissing state port) (λ r. r) tt (subst (Answers words held old new) is a)
 
   -- the same for whoever has the text alone
-  pub finished_text : (result : Status) → Answers words held old new result → (length : ℕ) → result ≡ Finished length → AsksNoTrace words
+  pub finished_text : (result : Status) → Answers words held old new result → (length : ℕ) → result ≡ Finished length → AsksNothingBeside words
       → TextTells words held old new (λ plan told last. (n : ℕ) → FitsIn64Bits n → last ≡ finished_line n → SatisfiedAsTold plan told n)
   finished_text result a n is plain =
       let p = finished result a n is in
@@ -109,13 +109,13 @@ module _ (words : List (List ℕ)) (held : Option Held) (old new : Option (List 
       let small : n < 2 ^ 64 = omega (arith, run.count, within, p.states) in
       tells_finished words held old new (Finished n) _ p (plain p.asked.wanted p.asked.accepted) p.fits (subst IsLastTurn (sym answer) tt) n answer small p.says.0
 
-  open_by : (status : Status) → Prints words held old new status (λ p printed. EndSays p printed (answer_of status)) → IsLastTurn (answer_of status) → ((plan : Plan) (printed : List Picture) → EndSays plan printed (answer_of status) → ContinuesEach plan printed) → AsksNoTrace words
+  open_by : (status : Status) → Prints words held old new status (λ p printed. EndSays p printed (answer_of status)) → IsLastTurn (answer_of status) → ((plan : Plan) (printed : List Picture) → EndSays plan printed (answer_of status) → ContinuesEach plan printed) → AsksNothingBeside words
       → TextTells words held old new (λ plan told last. ContinuesTold plan told)
   open_by status p last says plain =
       let answer = answer_is p.run.answer status p.run.status_is in
       tells_open words held old new status _ p (plain p.asked.wanted p.asked.accepted) p.fits (subst IsLastTurn (sym answer) last) (says p.plan p.pictures p.says)
 
-  pub open_text : (result : Status) → Answers words held old new result → IsOpenEnd result → AsksNoTrace words → TextTells words held old new (λ plan told last. ContinuesTold plan told)
+  pub open_text : (result : Status) → Answers words held old new result → IsOpenEnd result → AsksNothingBeside words → TextTells words held old new (λ plan told last. ContinuesTold plan told)
   open_text (Undetermined state cell) a o plain = open_by (Undetermined state cell) (run_alone (Undetermined state cell) (λ r. r) tt a) tt (λ plan printed h. h) plain
   open_text (StateLimit states) a o plain = open_by (StateLimit states) (run_alone (StateLimit states) (λ r. r) tt a) tt (λ plan printed h. h) plain
   open_text (ReductionLimit state) a o plain = open_by (ReductionLimit state) (run_alone (ReductionLimit state) (λ r. r) tt a) tt (λ plan printed h. h) plain
@@ -138,14 +138,13 @@ module _ (words : List (List ℕ)) (held : Option Held) (old new : Option (List 
   pub words_refused_only : (result : Status) → Answers words held old new result → result ≡ WordsRefused → wanted_of words ≡ None
   words_refused_only result a is = refusal_alone WordsRefused (λ e. e) (λ e. cc) (subst (Answers words held old new) is a)
 
-  pub too_long_only : (result : Status) → Answers words held old new result → (which : Which) → result ≡ TooLong which → HoldsTooLong words held result which
-  too_long_only result a Source is = refusal_alone (TooLong Source) (λ e. e) (λ e. cc) (subst (Answers words held old new) is a)
-  too_long_only result a Inputs is = refusal_alone (TooLong Inputs) (λ e. e) (λ e. cc) (subst (Answers words held old new) is a)
+  pub too_long_only : (result : Status) → Answers words held old new result → (which : Which) → result ≡ TooLong which → ReadsFile words (WhereTold held) which (λ mode. IsPastLimit which)
+  too_long_only result a which is = refusal_alone (TooLong which) (λ e. e) (λ e. cc) (subst (Answers words held old new) is a)
 
-  pub source_refused_only : (result : Status) → Answers words held old new result → (line column : ℕ) (kind : SourceKind) → result ≡ SourceRefused line column kind → Sourced words held (HoldsRefused (record { line = line; column = column; kind = kind }))
+  pub source_refused_only : (result : Status) → Answers words held old new result → (line column : ℕ) (kind : SourceKind) → result ≡ SourceRefused line column kind → ReadsFile words (WhereTold held) Source (HoldsRefused (record { line = line; column = column; kind = kind }))
   source_refused_only result a line column kind is = refusal_alone (SourceRefused line column kind) (λ e. e) (λ e. cc) (subst (Answers words held old new) is a)
 
-  pub inputs_refused_only : (result : Status) → Answers words held old new result → (line : ℕ) → result ≡ InputsRefused line → Supplied words held (HasBadLine line)
+  pub inputs_refused_only : (result : Status) → Answers words held old new result → (line : ℕ) → result ≡ InputsRefused line → ReadsFile words (WhereTold held) Inputs (λ mode. HasBadLine line)
   inputs_refused_only result a line is = refusal_alone (InputsRefused line) (λ e. e) (λ e. cc) (subst (Answers words held old new) is a)
 
   -- what an answer is that of: a run, a source that is printed, a refusal, a failed write or want of memory
@@ -177,10 +176,8 @@ module _ (words : List (List ℕ)) (held : Option Held) (old new : Option (List 
   refused_words (SourceRefused line column kind) r = inr (r.wanted, r.accepted)
   refused_words (InputsRefused line) r = inr (r.wanted, r.accepted)
   refused_words WordsRefused r = inl refl
-  refused_words (TooLong Source) r = inr (r.wanted, r.accepted)
-  refused_words (TooLong Inputs) r = inr (r.wanted, r.accepted)
-  refused_words (ReadFault Source) r = inr (r.wanted, r.accepted)
-  refused_words (ReadFault Inputs) r = inr (r.wanted, r.accepted)
+  refused_words (TooLong which) r = inr (r.wanted, r.accepted)
+  refused_words (ReadFault which) r = inr (r.wanted, r.accepted)
   refused_words (Finished length) r = absurd r
   refused_words Done r = absurd r
   refused_words (Contradictory state clash) r = absurd r
@@ -225,17 +222,20 @@ module _ (words : List (List ℕ)) (held : Option Held) (old new : Option (List 
     spelled_there : (result : Status) (text : List ℕ) → Spells words held result text → (wanted.mode ≡ Print) × ((tree : SourceTree) × HoldsSource tree source)
     spelled_there result text s = (mode_there s.asked.wanted Print s.asked.accepted s.asked.mode, (s.tree, held_there s.asked.wanted (λ mode. HoldsSource s.tree) s.asked.accepted s.asked.source))
 
-    sourced_there : (P : Mode → List ℕ → Type 0) → Sourced words held P → P wanted.mode source
-    sourced_there P s = held_there s.wanted P s.accepted s.source
+    sourced_there : (P : Mode → List ℕ → Type 0) → ReadsFile words (WhereTold held) Source P → P wanted.mode source
+    sourced_there P r = held_there r.wanted P r.accepted (source_read words (WhereTold held) P r)
 
-    supplied_source : (P : List ℕ → Type 0) → Supplied words held P → (wanted.mode ≡ Run) × ((program : ProgramTree) × HoldsProgram program source)
-    supplied_source P s = (mode_there s.wanted Run s.accepted s.mode, (s.program, program_there s.wanted s.program s.accepted s.source))
+    supplied_source : (P : Mode → List ℕ → Type 0) → ReadsFile words (WhereTold held) Inputs P → (wanted.mode ≡ Run) × ((program : ProgramTree) × HoldsProgram program source)
+    supplied_source P r =
+        let s = inputs_read words (WhereTold held) P r in
+        let mode = mode_there s.wanted Run s.accepted s.mode in
+        (mode, subst (λ (m : Mode). Serves m Source source) mode (held_there s.wanted (λ m. Serves m Source) s.accepted s.source))
 
     -- what the answer is by the source alone: in no run is it a program, and it isn't printed unless it is this answer
     by_source : (result answer : Status) → View result → (wanted.mode ≡ Run → (program : ProgramTree) → HoldsProgram program source → ⊥)
         → (wanted.mode ≡ Print → (tree : SourceTree) → HoldsSource tree source → result ≡ Done → IsOrFailed answer result)
         → ((line column : ℕ) (kind : SourceKind) → result ≡ SourceRefused line column kind → HoldsRefused (record { line = line; column = column; kind = kind }) wanted.mode source → IsOrFailed answer result)
-        → (result ≡ TooLong Source → IsLongSource wanted.mode source → IsOrFailed answer result) → IsOrFailed answer result
+        → (result ≡ TooLong Source → IsPastLimit Source source → IsOrFailed answer result) → IsOrFailed answer result
     by_source result answer (ran end text run) never print refusal long = let p = run_there result text run in absurd (never p.0 p.1.0 p.1.1)
     by_source result answer (spelled text s) never print refusal long = let p = spelled_there result text s in print p.0 p.1.0 p.1.1 s.status_is
     by_source result answer (failed f) never print refusal long = inr (inr f)
@@ -264,14 +264,14 @@ module _ (words : List (List ℕ)) (held : Option Held) (old new : Option (List 
       not_refused : (refusal : Refused) → HoldsRefused refusal wanted.mode source → ⊥
       not_refused refusal h = program_or_refused source program refusal is.1 (subst (λ (m : Mode). IsRefusedAt m source refusal) mode h.1)
 
-      not_long : IsLongSource wanted.mode source → ⊥
+      not_long : IsPastLimit Source source → ⊥
       not_long h = omega (arith, is.0, h)
 
       not_printed : (result : Status) (text : List ℕ) → Spells words held result text → ⊥
       not_printed result text s = let e : Run ≡ Print = sym mode ∙ (spelled_there result text s).0 in cc
 
-      by_program : (result : Status) (T : Type 0) → View result → (IsEndOfRun result → (text : List ℕ) → RunsTo words held result text → T) → ((line : ℕ) → result ≡ InputsRefused line → Supplied words held (HasBadLine line) → T)
-          → (result ≡ TooLong Inputs → Supplied words held IsLongTable → T) → (HasFailed result → T) → T
+      by_program : (result : Status) (T : Type 0) → View result → (IsEndOfRun result → (text : List ℕ) → RunsTo words held result text → T) → ((line : ℕ) → result ≡ InputsRefused line → ReadsFile words (WhereTold held) Inputs (λ mode. HasBadLine line) → T)
+          → (result ≡ TooLong Inputs → ReadsFile words (WhereTold held) Inputs (λ mode. IsPastLimit Inputs) → T) → (HasFailed result → T) → T
       by_program result T (ran end text run) run_case bad long fails = run_case end text run
       by_program result T (spelled text s) run_case bad long fails = absurd (not_printed result text s)
       by_program result T (failed f) run_case bad long fails = fails (inr f)
@@ -302,8 +302,10 @@ module _ (words : List (List ℕ)) (held : Option Held) (old new : Option (List 
           let e : Some n ≡ Some name = sym q ∙ ap (λ (v : Wanted). v.inputs) (same_wanted w wanted p accepted) ∙ named in
           cc
 
-      supplied_there : (P : List ℕ → Type 0) → Supplied words held P → P (bytes_of files name)
-      supplied_there P s = subst (λ n. P (bytes_of files n)) (same_name s.wanted s.name s.accepted s.named) (s.inputs files told)
+      supplied_there : (P : List ℕ → Type 0) → ReadsFile words (WhereTold held) Inputs (λ mode. P) → P (bytes_of files name)
+      supplied_there P r =
+          let s = inputs_read words (WhereTold held) (λ mode. P) r in
+          subst (λ n. P (bytes_of files n)) (same_name s.wanted s.name s.accepted s.named) (s.inputs files told)
 
       table_there : (plan : Plan) → IsAskedFor words held plan → HoldsTable plan.inputs (bytes_of files name)
       table_there plan a =
@@ -312,50 +314,87 @@ module _ (words : List (List ℕ)) (held : Option Held) (old new : Option (List 
           has files told
 
   -- a source past the limit
-  pub too_long : (result : Status) → Answers words held old new result → IsTold words held IsLongSource → IsOrFailed (TooLong Source) result
-  too_long result a t =
-      by_source t.files t.told t.wanted t.accepted result (TooLong Source) (view result a) (λ m p h. omega (arith, h.0, t.source)) (λ m tree h e. absurd (omega (arith, h.0, t.source)))
-      (λ line column kind e h. absurd (omega (arith, h.0, t.source))) (λ e h. inl e)
+  source_too_long : (result : Status) → Answers words held old new result → ReadsFile words (AsTold held) Source (λ mode. IsPastLimit Source) → IsOrFailed (TooLong Source) result
+  source_too_long result a r =
+      let t = source_read words (AsTold held) (λ mode. IsPastLimit Source) r in
+      let long = t.2 in
+      by_source t.0 t.1 r.wanted r.accepted result (TooLong Source) (view result a) (λ m p h. omega (arith, h.0, long)) (λ m tree h e. absurd (omega (arith, h.0, long)))
+      (λ line column kind e h. absurd (omega (arith, h.0, long))) (λ e h. inl e)
 
   -- a source that is refused
-  pub source_refused : (result : Status) → Answers words held old new result → (refusal : Refused) → IsTold words held (HoldsRefused refusal) → IsOrFailed (refused_status refusal) result
-  source_refused result a refusal t =
-      let source = bytes_of t.files t.wanted.file in
-      by_source t.files t.told t.wanted t.accepted result (refused_status refusal) (view result a)
-      (λ m p h. program_or_refused source p refusal h.1 (subst (λ (mode : Mode). IsRefusedAt mode source refusal) m t.source.1))
-      (λ m tree h e. absurd (source_or_outside source tree refusal h.1 (subst (λ (mode : Mode). IsRefusedAt mode source refusal) m t.source.1)))
-      (λ line column kind e h. inl (e ∙ ap refused_status (refused_once t.wanted.mode source (record { line = line; column = column; kind = kind }) refusal h.1 t.source.1)))
-      (λ e h. absurd (omega (arith, h, t.source.0)))
+  pub source_refused : (result : Status) → Answers words held old new result → (refusal : Refused) → ReadsFile words (AsTold held) Source (HoldsRefused refusal) → IsOrFailed (refused_status refusal) result
+  source_refused result a refusal r =
+      let t = source_read words (AsTold held) (HoldsRefused refusal) r in
+      let source = bytes_of t.0 r.wanted.file in
+      let short = t.2.0 in
+      by_source t.0 t.1 r.wanted r.accepted result (refused_status refusal) (view result a)
+      (λ m p h. program_or_refused source p refusal h.1 (subst (λ (mode : Mode). IsRefusedAt mode source refusal) m t.2.1))
+      (λ m tree h e. absurd (source_or_outside source tree refusal h.1 (subst (λ (mode : Mode). IsRefusedAt mode source refusal) m t.2.1)))
+      (λ line column kind e h. inl (e ∙ ap refused_status (refused_once r.wanted.mode source (record { line = line; column = column; kind = kind }) refusal h.1 t.2.1)))
+      (λ e h. absurd (omega (arith, h, short)))
 
   -- a source that is to be printed
-  pub source_prints : (result : Status) → Answers words held old new result → (tree : SourceTree) → IsTold words held (IsToPrint tree) → IsOrFailed Done result
-  source_prints result a tree t =
-      let source = bytes_of t.files t.wanted.file in
-      by_source t.files t.told t.wanted t.accepted result Done (view result a) (λ m p h. let e : Print ≡ Run = sym t.source.0 ∙ m in cc) (λ m other h e. inl e)
+  pub source_prints : (result : Status) → Answers words held old new result → (tree : SourceTree) → ReadsFile words (AsTold held) Source (IsToPrint tree) → IsOrFailed Done result
+  source_prints result a tree r =
+      let t = source_read words (AsTold held) (IsToPrint tree) r in
+      let source = bytes_of t.0 r.wanted.file in
+      let mode = t.2.0 in
+      let short = t.2.1.0 in
+      by_source t.0 t.1 r.wanted r.accepted result Done (view result a) (λ m p h. let e : Print ≡ Run = sym mode ∙ m in cc) (λ m other h e. inl e)
       (λ line column kind e h.
-      absurd (source_or_outside source tree (record { line = line; column = column; kind = kind }) t.source.1.1
-      (subst (λ (mode : Mode). IsRefusedAt mode source (record { line = line; column = column; kind = kind })) t.source.0 h.1)))
-      (λ e h. absurd (omega (arith, h, t.source.1.0)))
+      absurd (source_or_outside source tree (record { line = line; column = column; kind = kind }) t.2.1.1
+      (subst (λ (m : Mode). IsRefusedAt m source (record { line = line; column = column; kind = kind })) mode h.1)))
+      (λ e h. absurd (omega (arith, h, short)))
+
+  -- the inputs that are told, of a source that is a program
+  pub record InputsThere (P : List ℕ → Type 0) : Type 0 where
+    pub files : Held
+    pub told : held ≡ Some files
+    pub wanted : Wanted
+    pub accepted : wanted_of words ≡ Some wanted
+    pub mode : wanted.mode ≡ Run
+    pub program : ProgramTree
+    pub source : HoldsProgram program (bytes_of files wanted.file)
+    pub name : List ℕ
+    pub named : wanted.inputs ≡ Some name
+    pub inputs : P (bytes_of files name)
+
+  inputs_there : (P : List ℕ → Type 0) → ReadsFile words (AsTold held) Inputs (λ mode. P) → InputsThere P
+  inputs_there P r =
+      let s = inputs_read words (AsTold held) (λ mode. P) r in
+      let t = s.inputs in
+      let served = subst (λ (m : Mode). Serves m Source (bytes_of t.0 s.wanted.file)) s.mode (where_told held _ s.source t.0 t.1) in
+      record { files = t.0; told = t.1; wanted = s.wanted; accepted = s.accepted; mode = s.mode; program = served.0; source = served.1; name = s.name; named = s.named; inputs = t.2 }
 
   -- inputs past the limit
-  pub inputs_too_long : (result : Status) → Answers words held old new result → IsSupplied words held IsLongTable → IsOrFailed (TooLong Inputs) result
+  inputs_too_long : (result : Status) → Answers words held old new result → InputsThere (IsPastLimit Inputs) → IsOrFailed (TooLong Inputs) result
   inputs_too_long result a t =
+      let long = t.inputs in
       by_program t.files t.told t.wanted t.accepted t.mode t.program t.source result (IsOrFailed (TooLong Inputs) result) (view result a)
-      (λ end text run. let h = table_there t.files t.told t.wanted t.accepted t.name t.named run.plan run.asked in absurd (omega (arith, h.0, t.inputs)))
-      (λ line e s. let h = supplied_there t.files t.told t.wanted t.accepted t.name t.named (HasBadLine line) s in absurd (omega (arith, h.0, t.inputs)))
+      (λ end text run. let h = table_there t.files t.told t.wanted t.accepted t.name t.named run.plan run.asked in absurd (omega (arith, h.0, long)))
+      (λ line e s. let h = supplied_there t.files t.told t.wanted t.accepted t.name t.named (HasBadLine line) s in absurd (omega (arith, h.0, long)))
       (λ e s. inl e) inr
 
+  -- a file past the limit
+  pub too_long : (result : Status) → Answers words held old new result → (which : Which) → ReadsFile words (AsTold held) which (λ mode. IsPastLimit which) → IsOrFailed (TooLong which) result
+  too_long result a Source r = source_too_long result a r
+  too_long result a Inputs r = inputs_too_long result a (inputs_there (IsPastLimit Inputs) r)
+
   -- inputs that are refused
-  pub inputs_refused : (result : Status) → Answers words held old new result → (line : ℕ) → IsSupplied words held (HasBadLine line) → IsOrFailed (InputsRefused line) result
-  inputs_refused result a line t =
+  refused_there : (result : Status) → Answers words held old new result → (line : ℕ) → InputsThere (HasBadLine line) → IsOrFailed (InputsRefused line) result
+  refused_there result a line t =
       let bytes = bytes_of t.files t.name in
+      let bad = t.inputs in
       by_program t.files t.told t.wanted t.accepted t.mode t.program t.source result (IsOrFailed (InputsRefused line) result) (view result a)
-      (λ end text run. let h = table_there t.files t.told t.wanted t.accepted t.name t.named run.plan run.asked in absurd (no_faulty_table bytes run.plan.inputs line t.inputs.1.0 h.1 t.inputs.1.1))
+      (λ end text run. let h = table_there t.files t.told t.wanted t.accepted t.name t.named run.plan run.asked in absurd (no_faulty_table bytes run.plan.inputs line bad.1.0 h.1 bad.1.1))
       (λ other e s.
       let h = supplied_there t.files t.told t.wanted t.accepted t.name t.named (HasBadLine other) s in
-      let same = one_first_fault bytes other line h.1.0 t.inputs.1.0 h.1.1 t.inputs.1.1 in
+      let same = one_first_fault bytes other line h.1.0 bad.1.0 h.1.1 bad.1.1 in
       inl (e ∙ ap InputsRefused same.0))
-      (λ e s. let h = supplied_there t.files t.told t.wanted t.accepted t.name t.named IsLongTable s in absurd (omega (arith, h, t.inputs.0))) inr
+      (λ e s. let h = supplied_there t.files t.told t.wanted t.accepted t.name t.named (IsPastLimit Inputs) s in absurd (omega (arith, h, bad.0))) inr
+
+  pub inputs_refused : (result : Status) → Answers words held old new result → (line : ℕ) → ReadsFile words (AsTold held) Inputs (λ mode. HasBadLine line) → IsOrFailed (InputsRefused line) result
+  inputs_refused result a line r = refused_there result a line (inputs_there (HasBadLine line) r)
 
   -- what is asked for is there
   pub program_runs : (result : Status) → Answers words held old new result → (files : Held) → held ≡ Some files → (plan : Plan) → IsAskedFor words held plan → IsEndOfRun result ⊎ HasFailed result
@@ -363,15 +402,17 @@ module _ (words : List (List ℕ)) (held : Option Held) (old new : Option (List 
       by_program files told asked.wanted asked.accepted asked.mode plan.program (asked.source files told) result (IsEndOfRun result ⊎ HasFailed result) (view result a)
       (λ end text run. inl end)
       (λ line e s.
-      let n = name_of s in
-      let bad = supplied_there files told asked.wanted asked.accepted s.name n (HasBadLine line) s in
-      let good = table_there files told asked.wanted asked.accepted s.name n plan asked in
-      absurd (no_faulty_table (bytes_of files s.name) plan.inputs line bad.1.0 good.1 bad.1.1))
+      let n = named_by s in
+      let bad = supplied_there files told asked.wanted asked.accepted n.0 n.1 (HasBadLine line) s in
+      let good = table_there files told asked.wanted asked.accepted n.0 n.1 plan asked in
+      absurd (no_faulty_table (bytes_of files n.0) plan.inputs line bad.1.0 good.1 bad.1.1))
       (λ e s.
-      let n = name_of s in
-      let long = supplied_there files told asked.wanted asked.accepted s.name n IsLongTable s in
-      let good = table_there files told asked.wanted asked.accepted s.name n plan asked in
+      let n = named_by s in
+      let long = supplied_there files told asked.wanted asked.accepted n.0 n.1 (IsPastLimit Inputs) s in
+      let good = table_there files told asked.wanted asked.accepted n.0 n.1 plan asked in
       absurd (omega (arith, long, good.0))) inr
     where
-      name_of : {P : List ℕ → Type 0} → (s : Supplied words held P) → asked.wanted.inputs ≡ Some s.name
-      name_of s = ap (λ (v : Wanted). v.inputs) (same_wanted asked.wanted s.wanted asked.accepted s.accepted) ∙ s.named
+      named_by : {P : Mode → List ℕ → Type 0} → ReadsFile words (WhereTold held) Inputs P → (name : List ℕ) × (asked.wanted.inputs ≡ Some name)
+      named_by {P} r =
+          let s = inputs_read words (WhereTold held) P r in
+          (s.name, ap (λ (v : Wanted). v.inputs) (same_wanted asked.wanted s.wanted asked.accepted s.accepted) ∙ s.named)

@@ -68,14 +68,14 @@ module _ (words : List (List ℕ)) (held : Option Held) (old new : Option (List 
   -- The text of a run of the call's plan.
   text_of : (result : Status) (r : PrintsRun words held old new result) (asked : IsAskedFor words held r.plan) (pictures : List Picture)
       (status : Status) (run : RunEnds r.plan pictures status)
-      → WroteTextOf old new asked.wanted.trace result run
+      → WroteTextOf old new asked.wanted.beside result run
   text_of result r asked pictures status run =
       let both : Some r.asked.wanted ≡ Some asked.wanted = sym r.asked.accepted ∙ asked.accepted in
       let wanted : r.asked.wanted ≡ asked.wanted = cc in
-      let wrote : Wrote old new (run_text asked.wanted.trace r.run) = subst
-      (λ (w : Wanted). Wrote old new (run_text w.trace r.run)) wanted r.appended in
+      let wrote : Wrote old new (run_text asked.wanted.beside r.run) = subst
+      (λ (w : Wanted). Wrote old new (run_text w.beside r.run)) wanted r.appended in
       let alike = all_runs_are_alike r.plan (orderly result r) pictures run.answer run.run r.pictures r.run.answer r.run.run in
-      let states = one_text asked.wanted.trace r.plan pictures run.answer run.run r.pictures r.run.answer r.run.run alike.states in
+      let states = one_text asked.wanted.beside r.plan pictures run.answer run.run r.pictures r.run.answer r.run.run alike.states in
       let line = end_line r.plan.program.globals (known_at_end r.run) r.plan.reductions r.run.answer in
       record {
         last = r.run.answer;
@@ -89,10 +89,10 @@ module _ (words : List (List ℕ)) (held : Option Held) (old new : Option (List 
 
   text_of_each : (result : Status) → PrintsRun words held old new result
       → (plan : Plan) (asked : IsAskedFor words held plan) (pictures : List Picture) (status : Status) (run : RunEnds plan pictures status)
-      → WroteTextOf old new asked.wanted.trace result run
+      → WroteTextOf old new asked.wanted.beside result run
   text_of_each result r plan asked =
       subst (λ (p : Plan). (a : IsAskedFor words held p) (pictures : List Picture) (status : Status) (run : RunEnds p pictures status)
-      → WroteTextOf old new a.wanted.trace result run)
+      → WroteTextOf old new a.wanted.beside result run)
       (sym (one_plan words held old new files told plan r.plan asked r.asked)) (text_of result r) asked
 
   -- each run comes to the end of the call

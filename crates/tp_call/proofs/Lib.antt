@@ -1,4 +1,5 @@
 pub mod FactLemmas
+pub mod FileLemmas
 pub mod AskedLemmas
 pub mod SourceLemmas
 pub mod ProgramLemmas

@@ -1,5 +1,5 @@
 -- Which failure a run names.
-use Rattle.std.proofs.Common.{◌≡◌, ℕ, Bool, List, length, Option, Some, IfSome, sym, ap, ◌∙◌, subst}
+use Rattle.std.proofs.Common.{◌≡◌, ℕ, List, length, Option, Some, IfSome, sym, ap, ◌∙◌, subst}
 use Rattle.tp_scene.specs.Pick.{Moment}
 use Rattle.tp_store.specs.Known.{Contents}
 use Rattle.tp_step.specs.declared.answer.Order.{Order}
@@ -19,6 +19,7 @@ use Rattle.tp_call.specs.Progress.{AnswerMade, HasWritten, ClosesRun}
 use Rattle.tp_call.specs.InOrder.{NamesInOrder, StatusInOrder, LastInOrder}
 use Rattle.tp_call.proofs.TurnLemmas.{last_is_given, answer_of, answer_is, ends_run}
 use Rattle.tp_call.proofs.RunLemmas.{answered_there}
+use Rattle.tp_words.specs.declared.beside.Beside.{Beside}
 
 -- what holds of an answer holds of it as the last one
 of_last : (P : Turn → Type 0) (answer : Turn) → P answer → IfSome (last_answer answer) P
@@ -49,7 +50,7 @@ fails_there plan n m old new standing store (turn.InputMissing at port) state fa
 fails_there plan n m old new standing store (turn.Over at limit) state fails b = sym fails ∙ b.1
 
 -- the last answer of a run in this order, after the states that it settled
-pub run_names : (plan : Plan) (own order : Order) (trace : Bool) (from to : RunPlace) (before now after : Option (List ℕ)) (last : Turn) → own ≡ order
+pub run_names : (plan : Plan) (own order : Order) (trace : Beside) (from to : RunPlace) (before now after : Option (List ℕ)) (last : Turn) → own ≡ order
     → HasWritten plan trace from before now → AnswerMade plan trace from to now after (Some last) → LastInOrder plan own from (Some last)
     → NamesInOrder plan order last
 run_names plan own order trace from to before now after last same h made named = λ state fails.

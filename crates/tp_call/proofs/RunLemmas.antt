@@ -1,5 +1,5 @@
 -- A run's states, one more at a time.
-use Rattle.std.proofs.Common.{◌≡◌, ◌+◌, ◌<◌, ℕ, suc, Bool, List, [], ◌∷◌, ◌++◌, length, Option, Some, None, refl, ap, sym, ◌∙◌, subst, append_assoc, arith}
+use Rattle.std.proofs.Common.{◌≡◌, ◌+◌, ◌<◌, ℕ, suc, List, [], ◌∷◌, ◌++◌, length, Option, Some, None, refl, ap, sym, ◌∙◌, subst, append_assoc, arith}
 use Rattle.std.proofs.lemmas.List.{append-nil}
 use Rattle.std.proofs.lemmas.List.Elements.{All-nil, All-push}
 use Rattle.tp_scene.specs.Pick.{Moment}
@@ -15,6 +15,7 @@ use Rattle.tp_call.specs.Printed.{written_state, states_text, lead_text, moment_
 use Rattle.tp_call.specs.Written.{Wrote}
 use Rattle.tp_call.specs.Progress.{Turned, HasWritten}
 use Rattle.tp_call.proofs.TurnLemmas.{WentOn, carries_next, carries_nothing}
+use Rattle.tp_words.specs.declared.beside.Beside.{Beside}
 
 -- two writes, one after the other
 pub Wrote-both : (old mid new : Option (List ℕ)) (a b : List ℕ) → Wrote old mid a → Wrote mid new b → Wrote old new (a ++ b)
@@ -27,14 +28,14 @@ Wrote-nothing None = refl
 Wrote-nothing (Some x) = ap Some (sym (append-nil x))
 
 -- the text of one state more
-pub text_more : (trace : Bool) (plan : Plan) (n : ℕ) (r : Moment) (ps : List Picture) (m : Moment) (k : ℕ) (p : Picture) (next : Moment) (e : k ≡ length ps + n) (h : StatesLead plan n r ps m) (g : StateGoesOn plan k m p next)
-    → states_text trace plan n r (ps ++ p ∷ []) next (lead_more plan n r ps m k p next e h g) ≡ states_text trace plan n r ps m h ++ written_state trace plan.program p (Some next)
-text_more trace plan n r [] m k p next e h g = append-nil (written_state trace plan.program p (Some next))
-text_more trace plan n r (q ∷ ps) m k p next e h g =
-    let first = written_state trace plan.program q (Some h.0) in
-    let more = states_text trace plan (suc n) h.0 ps m h.2 in
-    let last = written_state trace plan.program p (Some next) in
-    ap (λ l. first ++ l) (text_more trace plan (suc n) h.0 ps m k p next (index_next k (length ps) n e) h.2 g) ∙ sym (append_assoc first more last)
+pub text_more : (beside : Beside) (plan : Plan) (n : ℕ) (r : Moment) (ps : List Picture) (m : Moment) (k : ℕ) (p : Picture) (next : Moment) (e : k ≡ length ps + n) (h : StatesLead plan n r ps m) (g : StateGoesOn plan k m p next)
+    → states_text beside plan n r (ps ++ p ∷ []) next (lead_more plan n r ps m k p next e h g) ≡ states_text beside plan n r ps m h ++ written_state beside plan.program p (Some next)
+text_more beside plan n r [] m k p next e h g = append-nil (written_state beside plan.program p (Some next))
+text_more beside plan n r (q ∷ ps) m k p next e h g =
+    let first = written_state beside plan.program q (Some h.0) in
+    let more = states_text beside plan (suc n) h.0 ps m h.2 in
+    let last = written_state beside plan.program p (Some next) in
+    ap (λ l. first ++ l) (text_more beside plan (suc n) h.0 ps m k p next (index_next k (length ps) n e) h.2 g) ∙ sym (append_assoc first more last)
 
 -- what the next state begins with, where the run goes on
 pub next_there : (to : RunPlace) (n : ℕ) (m : Moment) → to.standing ≡ open_at m → to.state ≡ suc n → to.store ≡ m.store → next_moment to ≡ Some m
@@ -46,9 +47,9 @@ pub no_next : (to : RunPlace) (turn : Turn) (m : Moment) → to.standing ≡ ans
 no_next to turn m stands = ap (λ z. moment_with to.store z) (carries_nothing to turn m stands)
 
 -- what a call answers where the run stands before the state after some that it settled
-pub answered_there : (plan : Plan) (trace : Bool) (from to : RunPlace) (before now : Option (List ℕ)) (answer : Turn) (picture : Picture) → (h : HasWritten plan trace from before now) → (t : Turned plan from to answer picture)
+pub answered_there : (plan : Plan) (beside : Beside) (from to : RunPlace) (before now : Option (List ℕ)) (answer : Turn) (picture : Picture) → (h : HasWritten plan beside from before now) → (t : Turned plan from to answer picture)
     → StateBecomes plan (length h.pictures) h.next t.earlier picture to.standing to.store answer × (to.state ≡ state_after (length h.pictures) answer)
-answered_there plan trace from to before now answer picture h t =
+answered_there plan beside from to before now answer picture h t =
     let place : RunPlace = record { standing = open_at h.next; state = length h.pictures; store = from.store } in
     let there : RunPlace → Type 0 = λ p. AnswersState plan p t.earlier picture to answer in
     let make : Standing → ℕ → RunPlace = λ z n. record { standing = z; state = n; store = from.store } in
@@ -57,39 +58,39 @@ answered_there plan trace from to before now answer picture h t =
     answers
 
 -- such an answer adds a settled state or is the run's end
-abbrev pub advances : (plan : Plan) (trace : Bool) (from to : RunPlace) (before now : Option (List ℕ)) (answer : Turn) (picture : Picture) → (h : HasWritten plan trace from before now) → (t : Turned plan from to answer picture)
+abbrev pub advances : (plan : Plan) (beside : Beside) (from to : RunPlace) (before now : Option (List ℕ)) (answer : Turn) (picture : Picture) → (h : HasWritten plan beside from before now) → (t : Turned plan from to answer picture)
     → Advances plan h.pictures t.earlier picture to answer
-advances plan trace from to before now answer picture h t =
-    let w = answered_there plan trace from to before now answer picture h t in
+advances plan beside from to before now answer picture h t =
+    let w = answered_there plan beside from to before now answer picture h t in
     advance_by plan h.pictures h.next h.leads t.earlier picture to answer w.0 w.1
 
 -- no state was settled yet
-pub HasWritten-none : (plan : Plan) (trace : Bool) (from : RunPlace) (now : Option (List ℕ)) → from.standing ≡ open_at (first_moment plan.program.globals plan.program.main) → from.state ≡ 0 → HasWritten plan trace from now now
-HasWritten-none plan trace from now stands count =
+pub HasWritten-none : (plan : Plan) (beside : Beside) (from : RunPlace) (now : Option (List ℕ)) → from.standing ≡ open_at (first_moment plan.program.globals plan.program.main) → from.state ≡ 0 → HasWritten plan beside from now now
+HasWritten-none plan beside from now stands count =
     record { pictures = []; next = first_moment plan.program.globals plan.program.main; stands = stands; count = count; leads = refl; wrote = Wrote-nothing now; range = All-nil IsPictureInRange }
 
 -- one that goes on adds its text
-pub more_written : (plan : Plan) (trace : Bool) (from to : RunPlace) (before now after : Option (List ℕ)) (picture : Picture) → (h : HasWritten plan trace from before now) → (t : Turned plan from to turn.Went picture)
-    → Wrote now after (written_state trace plan.program picture (next_moment to))
-    → let a = advances plan trace from to before now turn.Went picture h t in Wrote before after (lead_text trace plan (h.pictures ++ picture ∷ []) a.0 a.2)
-more_written plan trace from to before now after picture h t wrote =
-    let w = answered_there plan trace from to before now turn.Went picture h t in
+pub more_written : (plan : Plan) (beside : Beside) (from to : RunPlace) (before now after : Option (List ℕ)) (picture : Picture) → (h : HasWritten plan beside from before now) → (t : Turned plan from to turn.Went picture)
+    → Wrote now after (written_state beside plan.program picture (next_moment to))
+    → let a = advances plan beside from to before now turn.Went picture h t in Wrote before after (lead_text beside plan (h.pictures ++ picture ∷ []) a.0 a.2)
+more_written plan beside from to before now after picture h t wrote =
+    let w = answered_there plan beside from to before now turn.Went picture h t in
     let next = w.0.0 in
     let there : next_moment to ≡ Some next = next_there to (length h.pictures) next w.0.2 w.1 w.0.3 in
-    let text = text_more trace plan 0 (first_moment plan.program.globals plan.program.main) h.pictures h.next (length h.pictures) picture next (index_first h.pictures) h.leads w.0.1 in
-    let both = Wrote-both before now after _ _ h.wrote (subst (λ m. Wrote now after (written_state trace plan.program picture m)) there wrote) in
+    let text = text_more beside plan 0 (first_moment plan.program.globals plan.program.main) h.pictures h.next (length h.pictures) picture next (index_first h.pictures) h.leads w.0.1 in
+    let both = Wrote-both before now after _ _ h.wrote (subst (λ m. Wrote now after (written_state beside plan.program picture m)) there wrote) in
     subst (Wrote before after) (sym text) both
 
-pub HasWritten-more : (plan : Plan) (trace : Bool) (from to : RunPlace) (before now after : Option (List ℕ)) (picture : Picture) → HasWritten plan trace from before now → WentOn plan trace from to now after picture → HasWritten plan trace to before after
-HasWritten-more plan trace from to before now after picture h w =
-    let a = advances plan trace from to before now turn.Went picture h w.turned in
+pub HasWritten-more : (plan : Plan) (beside : Beside) (from to : RunPlace) (before now after : Option (List ℕ)) (picture : Picture) → HasWritten plan beside from before now → WentOn plan beside from to now after picture → HasWritten plan beside to before after
+HasWritten-more plan beside from to before now after picture h w =
+    let a = advances plan beside from to before now turn.Went picture h w.turned in
     record {
       pictures = h.pictures ++ picture ∷ [];
       next = a.0;
       stands = a.1;
       count = a.3;
       leads = a.2;
-      wrote = more_written plan trace from to before now after picture h w.turned w.wrote;
+      wrote = more_written plan beside from to before now after picture h w.turned w.wrote;
       range = All-push IsPictureInRange h.pictures picture h.range w.range;
     }
 
@@ -98,8 +99,8 @@ pub record NextState (plan : Plan) (from to : RunPlace) : Type 0 where
   pub within : from.state < plan.states
   pub next : to.state ≡ from.state + 1
 
-pub next_state : (plan : Plan) (trace : Bool) (from to : RunPlace) (before now : Option (List ℕ)) (picture : Picture) → HasWritten plan trace from before now → Turned plan from to turn.Went picture → NextState plan from to
-next_state plan trace from to before now picture h t =
-    let a = answered_there plan trace from to before now turn.Went picture h t in
+pub next_state : (plan : Plan) (beside : Beside) (from to : RunPlace) (before now : Option (List ℕ)) (picture : Picture) → HasWritten plan beside from before now → Turned plan from to turn.Went picture → NextState plan from to
+next_state plan beside from to before now picture h t =
+    let a = answered_there plan beside from to before now turn.Went picture h t in
     let within = a.0.1.within in
     record { within = omega (arith, within, h.count); next = omega (arith, a.1, h.count) }

@@ -23,8 +23,10 @@ use Rattle.tp_run.specs.Same.{SamePicture}
 use Rattle.tp_any_order.specs.AlikeRuns.{SameNext, SameStates, SameNamedCell, SameNamedEnd, FailsNowhere}
 use Rattle.tp_any_order.proofs.SameName.{named_cell_text}
 use Rattle.tp_call.specs.Printed.{written_state, states_text, ended_text}
+use Rattle.tp_words.specs.declared.beside.Beside.{Beside}
+use Rattle.tp_words.specs.declared.beside.Beside.TheVariants.{Nothing, TraceLines}
 
-module _ (trace : Bool) (plan : Plan) where
+module _ (trace : Beside) (plan : Plan) where
   abbrev text_of_state : SettledState → List ℕ
   text_of_state s = written_state trace plan.program s.picture s.next
 
@@ -53,17 +55,17 @@ module _ (trace : Bool) (plan : Plan) where
 picture_same : (names : List (List ℕ)) (p q : Picture) → SamePicture p q → picture_lines names q ≡ picture_lines names p
 picture_same names p q h = λ j. told_lines names (record { state = h.state j; parts = line_parts (h.facts j); shows = h.shows j })
 
-state_same : (trace : Bool) (plan : Plan) (p q : Picture) (m n : Option Moment) → SamePicture p q → SameNext plan m n
+state_same : (trace : Beside) (plan : Plan) (p q : Picture) (m n : Option Moment) → SamePicture p q → SameNext plan m n
     → written_state trace plan.program q n ≡ written_state trace plan.program p m
-state_same false plan p q m n h k = picture_same plan.program.globals p q h
-state_same true plan p q None None h k = λ j. picture_same plan.program.globals p q h j ++ trace_lines (h.reductions j) None
-state_same true plan p q None (Some n) h k = absurd k
-state_same true plan p q (Some m) None h k = absurd k
-state_same true plan p q (Some m) (Some n) h k =
+state_same Nothing plan p q m n h k = picture_same plan.program.globals p q h
+state_same TraceLines plan p q None None h k = λ j. picture_same plan.program.globals p q h j ++ trace_lines (h.reductions j) None
+state_same TraceLines plan p q None (Some n) h k = absurd k
+state_same TraceLines plan p q (Some m) None h k = absurd k
+state_same TraceLines plan p q (Some m) (Some n) h k =
     λ j. picture_same plan.program.globals p q h j
     ++ trace_lines (h.reductions j) (Some (alike_moments_have_one_phrase plan.program.defs (kinds_of plan.program.globals) m n k.0 k.1 j))
 
-states_same : (trace : Bool) (plan : Plan) (ss ts : List SettledState) → SameStates plan ss ts
+states_same : (trace : Beside) (plan : Plan) (ss ts : List SettledState) → SameStates plan ss ts
     → flat_map (text_of_state trace plan) ts ≡ flat_map (text_of_state trace plan) ss
 states_same trace plan [] [] h = refl
 states_same trace plan [] (t ∷ ts) h = absurd h
@@ -72,7 +74,7 @@ states_same trace plan (s ∷ ss) (t ∷ ts) h = λ j. state_same trace plan s.p
     ++ states_same trace plan ss ts h.1 j
 
 -- The text of the states of runs whose states are the same.
-pub one_text : (trace : Bool) (plan : Plan) (ps : List Picture) (answer : Turn) (run : RunEndsWith plan ps answer) (qs : List Picture) (other : Turn)
+pub one_text : (trace : Beside) (plan : Plan) (ps : List Picture) (answer : Turn) (run : RunEndsWith plan ps answer) (qs : List Picture) (other : Turn)
     (another : RunEndsWith plan qs other)
     → SameStates plan (settled_states plan ps answer run) (settled_states plan qs other another)
     → ended_text trace plan qs other another ≡ ended_text trace plan ps answer run

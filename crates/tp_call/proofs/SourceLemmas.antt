@@ -1,5 +1,5 @@
 -- Files that are refused.
-use Rattle.std.proofs.Common.{◌≡◌, ◌≢◌, ◌≤◌, inl, inr, ℕ, List, length, Option, None, Some, Result, Err, IfErr, MatchOption, IsSomeAnd, refl, sym, ap, ◌∙◌, subst}
+use Rattle.std.proofs.Common.{◌≡◌, ◌≢◌, ◌≤◌, inl, inr, ℕ, List, [], ◌∷◌, length, Option, None, Some, Result, Err, IfErr, MatchOption, IsSomeAnd, refl, sym, ap, ◌∙◌, subst}
 use Rattle.std.specs.Option.{option_map}
 use Rattle.tp_lex.specs.Place.{source_limit}
 use Rattle.tp_io.specs.Devices.{Held, bytes_of}
@@ -14,7 +14,9 @@ use Rattle.tp_meaning.specs.Inputs.{InputLines}
 use Rattle.tp_meaning.specs.Interval.{ProgramTree}
 use Rattle.tp_words.specs.Words.{Wanted, wanted_of}
 use Rattle.tp_call.specs.Parts.{IsWordsRefusal}
-use Rattle.tp_call.specs.Answer.{inputs_limit, WhereTold, HasInputs, HoldsProgram, HoldsRefused, HasBadLine, IsLongSource, IsLongTable, Supplied, Refuses}
+use Rattle.tp_call.specs.Files.{NamedFile, file_named, files_named, files_read}
+use Rattle.tp_call.specs.Answer.{inputs_limit, WhereTold, HasInputs, HoldsProgram, HoldsRefused, HasBadLine, IsPastLimit, Serves, ReadsFile, Refuses}
+use Rattle.tp_call.proofs.FileLemmas.{reads_by, reads_first, reads_second}
 use Rattle.tp_call.specs.declared.refused.Refused.{Refused}
 use Rattle.tp_lex.specs.declared.token.Token.{Token}
 use Rattle.tp_lex.specs.declared.refusal.LexRefusal.{LexRefusal}
@@ -39,7 +41,7 @@ source_refused mode held name source status short told (inl memory) = inl memory
 source_refused mode held name source status short told (inr (refused, is, cause)) = inr (inr (inr (refused, is, λ files at. subst (HoldsRefused refused mode) (told files at) (short, cause))))
 
 -- it can't be read
-pub source_unread : (mode : Mode) (held : Option Held) (name : List ℕ) (refusal : ReadRefusal) (status : Status) → status ≡ read_end refusal Source → (refusal ≡ read.TooLong → WhereTold held (λ files. IsLongSource mode (bytes_of files name)))
+pub source_unread : (mode : Mode) (held : Option Held) (name : List ℕ) (refusal : ReadRefusal) (status : Status) → status ≡ read_end refusal Source → (refusal ≡ read.TooLong → WhereTold held (λ files. IsPastLimit Source (bytes_of files name)))
     → IsSourceRefusal mode held name status
 source_unread mode held name read.TooLong status is long = inr (inr (inl (is, long refl)))
 source_unread mode held name read.Failed status is long = inr (inl is)
@@ -51,7 +53,7 @@ table_refused held name text status short told (inl memory) = inl memory
 table_refused held name text status short told (inr (line, is, cause)) = inr (inr (inr (line, is, λ files at. subst (HasBadLine line) (told files at) (short, cause))))
 
 -- they can't be read
-pub table_unread : (held : Option Held) (name : List ℕ) (refusal : ReadRefusal) (status : Status) → status ≡ read_end refusal Inputs → (refusal ≡ read.TooLong → WhereTold held (λ files. IsLongTable (bytes_of files name))) → IsInputsEnd held (Some name) status
+pub table_unread : (held : Option Held) (name : List ℕ) (refusal : ReadRefusal) (status : Status) → status ≡ read_end refusal Inputs → (refusal ≡ read.TooLong → WhereTold held (λ files. IsPastLimit Inputs (bytes_of files name))) → IsInputsEnd held (Some name) status
 table_unread held name read.TooLong status is long = inr (inr (inl (is, long refl)))
 table_unread held name read.Failed status is long = inr (inl is)
 table_unread held name read.NoMemory status is long = inl is
@@ -91,26 +93,30 @@ no_command words held status (inl memory) = inl memory
 no_command words held status (inr (is, none)) = inr (subst (Refuses words held) (sym is) none)
 
 module _ (words : List (List ℕ)) (held : Option Held) (wanted : Wanted) (accepted : wanted_of words ≡ Some wanted) where
-  no_source_here : (status : Status) → IsSourceRefusal wanted.mode held wanted.file status → IsProgramRefusal words held status
-  no_source_here status (inl memory) = inl memory
-  no_source_here status (inr (inl is)) = inr (subst (Refuses words held) (sym is) (record { wanted = wanted; accepted = accepted; source = λ files told. tt }))
-  no_source_here status (inr (inr (inl (is, long)))) = inr (subst (Refuses words held) (sym is) (record { wanted = wanted; accepted = accepted; source = long }))
-  no_source_here status (inr (inr (inr (refused, is, cause)))) = inr (subst (Refuses words held) (sym is) (record { wanted = wanted; accepted = accepted; source = cause }))
+  no_source_here : (rest : List NamedFile) → files_read wanted.mode wanted ≡ file_named Source wanted.file ∷ rest → (status : Status) → IsSourceRefusal wanted.mode held wanted.file status → IsProgramRefusal words held status
+  no_source_here rest reads status (inl memory) = inl memory
+  no_source_here rest reads status (inr (inl is)) = inr (subst (Refuses words held) (sym is) (reads_first words (WhereTold held) (λ mode bytes. Unit {0}) wanted accepted Source wanted.file rest reads (λ files told. tt)))
+  no_source_here rest reads status (inr (inr (inl (is, long)))) = inr (subst (Refuses words held) (sym is) (reads_first words (WhereTold held) (λ mode. IsPastLimit Source) wanted accepted Source wanted.file rest reads long))
+  no_source_here rest reads status (inr (inr (inr (refused, is, cause)))) = inr (subst (Refuses words held) (sym is) (reads_first words (WhereTold held) (HoldsRefused refused) wanted accepted Source wanted.file rest reads cause))
 
-  -- the refusal of the source is one of the call
-  pub no_source : (mode : Mode) (status : Status) → wanted.mode ≡ mode → IsSourceRefusal mode held wanted.file status → IsProgramRefusal words held status
-  no_source mode status is refusal = no_source_here status (subst (λ (m : Mode). IsSourceRefusal m held wanted.file status) (sym is) refusal)
+  -- the refusal of the source is one of the call, where it is what the mode reads first
+  pub no_source : (mode : Mode) (rest : List NamedFile) (status : Status) → wanted.mode ≡ mode → files_read mode wanted ≡ file_named Source wanted.file ∷ rest → IsSourceRefusal mode held wanted.file status → IsProgramRefusal words held status
+  no_source mode rest status is reads refusal =
+      no_source_here rest (reads_by wanted mode _ is reads) status (subst (λ (m : Mode). IsSourceRefusal m held wanted.file status) (sym is) refusal)
 
   module _ (mode : wanted.mode ≡ Run) (program : ProgramTree) (source : WhereTold held (λ files. HoldsProgram program (bytes_of files wanted.file))) where
-    supplied : (name : List ℕ) (P : List ℕ → Type 0) → wanted.inputs ≡ Some name → WhereTold held (λ files. P (bytes_of files name)) → Supplied words held P
-    supplied name P named inputs = record { wanted = wanted; accepted = accepted; mode = mode; name = name; named = named; program = program; source = source; inputs = inputs }
+    supplied : (name : List ℕ) (P : List ℕ → Type 0) → wanted.inputs ≡ Some name → WhereTold held (λ files. P (bytes_of files name)) → ReadsFile words (WhereTold held) Inputs (λ mode. P)
+    supplied name P named inputs =
+        reads_second words (WhereTold held) (λ mode. P) wanted accepted Source Inputs wanted.file name []
+        (reads_by wanted Run _ mode (ap (λ (n : Option (List ℕ)). file_named Source wanted.file ∷ files_named Inputs n) named))
+        (λ files told. subst (λ (m : Mode). Serves m Source (bytes_of files wanted.file)) (sym mode) (program, source files told)) inputs
 
     -- the refusal of the inputs is one of the call
     no_table_here : (names : Option (List ℕ)) (status : Status) → wanted.inputs ≡ names → IsInputsEnd held names status → IsProgramRefusal words held status
     no_table_here None status named memory = inl memory
     no_table_here (Some name) status named (inl memory) = inl memory
     no_table_here (Some name) status named (inr (inl is)) = inr (subst (Refuses words held) (sym is) (supplied name (λ inputs. Unit {0}) named (λ files told. tt)))
-    no_table_here (Some name) status named (inr (inr (inl (is, long)))) = inr (subst (Refuses words held) (sym is) (supplied name IsLongTable named long))
+    no_table_here (Some name) status named (inr (inr (inl (is, long)))) = inr (subst (Refuses words held) (sym is) (supplied name (IsPastLimit Inputs) named long))
     no_table_here (Some name) status named (inr (inr (inr (line, is, cause)))) = inr (subst (Refuses words held) (sym is) (supplied name (HasBadLine line) named cause))
 
     -- where the files that were told before the read are these

@@ -1,5 +1,5 @@
 -- What the text of a run says to whoever has it alone.
-use Rattle.std.proofs.Common.{◌≡◌, ◌↔◌, ◌<◌, ◌^◌, ℕ, suc, false, List, [], ◌∷◌, ◌++◌, length, map, drop, All, Option, refl, sym, ap, ◌∙◌, subst, arith, codes, append_assoc}
+use Rattle.std.proofs.Common.{◌≡◌, ◌↔◌, ◌<◌, ◌^◌, ℕ, suc, List, [], ◌∷◌, ◌++◌, length, map, drop, All, Option, refl, sym, ap, ◌∙◌, subst, arith, codes, append_assoc}
 use Rattle.std.specs.Fmt.{decimal}
 use Rattle.std.proofs.lemmas.List.{length-map, append-nil}
 use Rattle.std.proofs.lemmas.List.Elements.{All-nil, All-cons, All-head, All-tail}
@@ -26,6 +26,7 @@ use Rattle.tp_call.specs.Printed.{states_text, lead_text, ended_text}
 use Rattle.tp_call.specs.Answer.{Prints, run_text}
 use Rattle.tp_call.specs.Text.{ReadsAs, finished_line, SatisfiedAsTold, ContinuesTold, TextTells}
 use Rattle.tp_call.proofs.FactLemmas.{run_facts}
+use Rattle.tp_words.specs.declared.beside.Beside.TheVariants.{Nothing}
 
 -- what is told of pictures, one after the other
 abbrev pub told_all : List Picture → List ToldState
@@ -80,21 +81,21 @@ finished_length m n p q e = decimal_injective m n p q (drop_end (decimal m) (dec
   drop_end (x ∷ z ∷ a) [] h = absurd (cc)
   drop_end (x ∷ a) (y ∷ b) h = let head : x ≡ y = cc in let tail : a ≡ b = drop_end a b (cc) in cc
 
--- without a trace the text of states is that of their pictures
+-- with nothing beside them the text of states is that of their pictures
 lines_more : (names : List (List ℕ)) (pictures : List Picture) (picture : Picture) → pictures_text names (pictures ++ picture ∷ []) ≡ pictures_text names pictures ++ picture_lines names picture
 lines_more names pictures picture =
     flat_map-append (picture_lines names) pictures (picture ∷ []) ∙ ap (λ l. pictures_text names pictures ++ l) (append-nil (picture_lines names picture))
 
-untraced_states : (plan : Plan) (n : ℕ) (m : Moment) (ps : List Picture) (last : Moment) (leads : StatesLead plan n m ps last) → states_text false plan n m ps last leads ≡ pictures_text plan.program.globals ps
+untraced_states : (plan : Plan) (n : ℕ) (m : Moment) (ps : List Picture) (last : Moment) (leads : StatesLead plan n m ps last) → states_text Nothing plan n m ps last leads ≡ pictures_text plan.program.globals ps
 untraced_states plan n m [] last leads = refl
 untraced_states plan n m (p ∷ ps) last leads = ap (λ l. picture_lines plan.program.globals p ++ l) (untraced_states plan (suc n) leads.0 ps last leads.2)
 
-pub untraced_end : (plan : Plan) (ps : List Picture) (answer : Turn) (end : RunEndsWith plan ps answer) → ended_text false plan ps answer end ≡ pictures_text plan.program.globals ps
+pub untraced_end : (plan : Plan) (ps : List Picture) (answer : Turn) (end : RunEndsWith plan ps answer) → ended_text Nothing plan ps answer end ≡ pictures_text plan.program.globals ps
 untraced_end plan ps answer end = by answer end where
-  lead : (m : Moment) (leads : LeadsTo plan ps m) → lead_text false plan ps m leads ≡ pictures_text plan.program.globals ps
+  lead : (m : Moment) (leads : LeadsTo plan ps m) → lead_text Nothing plan ps m leads ≡ pictures_text plan.program.globals ps
   lead m leads = untraced_states plan 0 (first_moment plan.program.globals plan.program.main) ps m leads
 
-  by : (turn : Turn) (end : RunEndsWith plan ps turn) → ended_text false plan ps turn end ≡ pictures_text plan.program.globals ps
+  by : (turn : Turn) (end : RunEndsWith plan ps turn) → ended_text Nothing plan ps turn end ≡ pictures_text plan.program.globals ps
   by turn.Went end = absurd end
   by (turn.Finished n) end =
       let names = plan.program.globals in
@@ -107,7 +108,7 @@ untraced_end plan ps answer end = by answer end where
   by (turn.Over state limit) end = lead end.0 end.1
 
 -- a run's text can be read, and is read as its states and its end line alone
-module _ (words : List (List ℕ)) (held : Option Held) (old new : Option (List ℕ)) (status : Status) (P : Plan → List Picture → Type 0) (prints : Prints words held old new status P) (plain : prints.asked.wanted.trace ≡ false) (fits : ProgramFits prints.plan.program) (last : IsLastTurn prints.run.answer) where
+module _ (words : List (List ℕ)) (held : Option Held) (old new : Option (List ℕ)) (status : Status) (P : Plan → List Picture → Type 0) (prints : Prints words held old new status P) (plain : prints.asked.wanted.beside ≡ Nothing) (fits : ProgramFits prints.plan.program) (last : IsLastTurn prints.run.answer) where
   abbrev globals : List (List ℕ)
   globals = prints.plan.program.globals
 
@@ -121,7 +122,7 @@ module _ (words : List (List ℕ)) (held : Option Held) (old new : Option (List 
   is_end = (known_at_end prints.run, prints.plan.reductions, prints.run.answer, last, refl)
 
   abbrev own_text : List ℕ
-  own_text = run_text prints.asked.wanted.trace prints.run
+  own_text = run_text prints.asked.wanted.beside prints.run
 
   whole : own_text ≡ told_text globals (told_all prints.pictures) ++ own_end
   whole =

@@ -160,16 +160,16 @@ module _ (words : List (List ℕ)) (held : Option Held) (old new : Option (List 
 
     -- the states as they are printed
     abbrev pub printed : List PrintedState
-    printed = run_printed run.asked.wanted.trace run.plan run.pictures run.run.answer run.run.run
+    printed = run_printed run.asked.wanted.beside run.plan run.pictures run.run.answer run.run.run
 
     pub pictures_are : map picture_of printed ≡ run.pictures
-    pictures_are = run_pictures run.asked.wanted.trace run.plan run.pictures run.run.answer run.run.run
+    pictures_are = run_pictures run.asked.wanted.beside run.plan run.pictures run.run.answer run.run.run
 
     pub text_is : text ≡ printed_states_text names printed ++ last_line
-    text_is = run.written ∙ ap (λ l. l ++ last_line) (run_is run.asked.wanted.trace run.plan run.pictures run.run.answer run.run.run)
+    text_is = run.written ∙ ap (λ l. l ++ last_line) (run_is run.asked.wanted.beside run.plan run.pictures run.run.answer run.run.run)
 
     pub have_trace_lines : All HasTraceLines printed
-    have_trace_lines = run_further run.asked.wanted.trace run.plan program_made inputs_made run.pictures run.run.answer run.run.run
+    have_trace_lines = run_further run.asked.wanted.beside run.plan program_made inputs_made run.pictures run.run.answer run.run.run
 
     is_trace : 0 < length run.pictures → IsTraceText text (map (named_facts names) run.pictures)
     is_trace some =
@@ -192,5 +192,5 @@ module _ (words : List (List ℕ)) (held : Option Held) (old new : Option (List 
         says = run.says;
         text = r.0;
         appended = r.2;
-        trace = is_trace files told result r.0 run;
+        beside = is_trace files told result r.0 run;
       }

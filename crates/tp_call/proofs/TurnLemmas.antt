@@ -1,5 +1,5 @@
 -- What one answer of a run makes, and what is written of it.
-use Rattle.std.proofs.Common.{◌≡◌, ℕ, zero, suc, Bool, true, List, Option, Some, None, IfSome, Err, refl, ap, sym, ◌∙◌, subst}
+use Rattle.std.proofs.Common.{◌≡◌, ℕ, zero, suc, true, List, Option, Some, None, IfSome, Err, refl, ap, sym, ◌∙◌, subst}
 use Rattle.tp_io.specs.Devices.{Writes}
 use Rattle.tp_io.specs.declared.devices.WriteRefusal.{WriteRefusal}
 use Rattle.tp_io.specs.declared.devices.WriteRefusal.TheVariants as sink
@@ -25,40 +25,41 @@ use Rattle.tp_call.specs.Answer.{IsEndOfRun}
 use Rattle.tp_call.specs.Printed.{written_state, next_moment}
 use Rattle.tp_call.specs.Written.{Wrote}
 use Rattle.tp_call.specs.Progress.{Turned, is_settled, printed_lines, AnswerMade, TurnMade}
+use Rattle.tp_words.specs.declared.beside.Beside.{Beside}
 
 -- the call gives this answer, and what was to be written of it, by the run's program, was
-module _ (plan : Plan) (trace : Bool) (from to : RunPlace) (answer : Turn) (earlier picture : Picture) (answers : AnswersState plan from earlier picture to answer) (before : Option (List ℕ)) (program : ProgramTree) (own : program ≡ plan.program) where
+module _ (plan : Plan) (beside : Beside) (from to : RunPlace) (answer : Turn) (earlier picture : Picture) (answers : AnswersState plan from earlier picture to answer) (before : Option (List ℕ)) (program : ProgramTree) (own : program ≡ plan.program) where
   abbrev lines : ProgramTree → List ℕ
-  lines p = printed_lines trace p answer picture (next_moment to)
+  lines p = printed_lines beside p answer picture (next_moment to)
 
   pub answer_made : (after : Option (List ℕ)) (last : Option Turn) → last ≡ last_answer answer → Wrote before after (lines program) → (is_settled answer ≡ true → IsPictureInRange picture)
-      → AnswerMade plan trace from to before after last
+      → AnswerMade plan beside from to before after last
   answer_made after last is wrote range =
       record { answer = answer; last_is = is; picture = picture; turned = record { earlier = earlier; answers = answers }; wrote = subst (λ p. Wrote before after (lines p)) own wrote; range = range }
 
   -- a settled state whose lines aren't written as a whole
   write_stopped : (after : Option (List ℕ)) (refusal : WriteRefusal) → is_settled answer ≡ true → Writes {T = Unit {0}} before after (lines plan.program) (Err refusal)
-      → TurnMade plan trace from to before after (Err refusal)
+      → TurnMade plan beside from to before after (Err refusal)
   write_stopped after sink.Failed settled wrote =
       record { picture = picture; answer = answer; settled = settled; turned = record { earlier = earlier; answers = answers }; kept = wrote.0; wrote = rw settled at wrote.2 }
   write_stopped after sink.NoMemory settled wrote = wrote
 
   pub write_stopped_so : (after : Option (List ℕ)) (refusal : WriteRefusal) → is_settled answer ≡ true → Writes {T = Unit {0}} before after (lines program) (Err refusal)
-      → TurnMade plan trace from to before after (Err refusal)
+      → TurnMade plan beside from to before after (Err refusal)
   write_stopped_so after refusal settled wrote = write_stopped after refusal settled (subst (λ p. Writes {T = Unit {0}} before after (lines p) (Err refusal)) own wrote)
 
 -- an answer that isn't the last one goes on, and its state's lines were written
-pub record WentOn (plan : Plan) (trace : Bool) (from to : RunPlace) (before after : Option (List ℕ)) (picture : Picture) : Type 0 where
+pub record WentOn (plan : Plan) (beside : Beside) (from to : RunPlace) (before after : Option (List ℕ)) (picture : Picture) : Type 0 where
   pub turned : Turned plan from to turn.Went picture
-  pub wrote : Wrote before after (written_state trace plan.program picture (next_moment to))
+  pub wrote : Wrote before after (written_state beside plan.program picture (next_moment to))
   pub range : IsPictureInRange picture
 
-pub went_on : (plan : Plan) (trace : Bool) (from to : RunPlace) (before after : Option (List ℕ)) (made : AnswerMade plan trace from to before after None) → WentOn plan trace from to before after made.picture
-went_on plan trace from to before after made = by made.answer refl where
-  by : (answer : Turn) → made.answer ≡ answer → WentOn plan trace from to before after made.picture
+pub went_on : (plan : Plan) (beside : Beside) (from to : RunPlace) (before after : Option (List ℕ)) (made : AnswerMade plan beside from to before after None) → WentOn plan beside from to before after made.picture
+went_on plan beside from to before after made = by made.answer refl where
+  by : (answer : Turn) → made.answer ≡ answer → WentOn plan beside from to before after made.picture
   by turn.Went e = record {
     turned = subst (λ t. Turned plan from to t made.picture) e made.turned;
-    wrote = subst (λ t. Wrote before after (printed_lines trace plan.program t made.picture (next_moment to))) e made.wrote;
+    wrote = subst (λ t. Wrote before after (printed_lines beside plan.program t made.picture (next_moment to))) e made.wrote;
     range = made.range (ap is_settled e);
   }
   by (turn.Finished length) e = let bad : None ≡ last_answer (turn.Finished length) = made.last_is ∙ ap last_answer e in absurd (cc)

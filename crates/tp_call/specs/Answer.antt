@@ -1,6 +1,5 @@
 -- What a call may answer, and what it writes.
-use Rattle.std.specs.Prelude.{◌≡◌, ◌⊎◌, ◌≤◌, ◌<◌, ◌^◌, ◌+◌, ℕ, Bool, List, [], ◌++◌, length, take, All, Option, None, Some}
-use Rattle.std.specs.Option.{option_map}
+use Rattle.std.specs.Prelude.{◌≡◌, ◌⊎◌, ◌≤◌, ◌<◌, ◌^◌, ℕ, List, [], ◌++◌, length, take, All, Option, None, Some}
 use Rattle.tp_lex.specs.Place.{source_limit}
 use Rattle.tp_io.specs.Devices.{Held, bytes_of}
 use Rattle.tp_show.specs.declared.turn.Picture.{Picture}
@@ -16,7 +15,7 @@ use Rattle.tp_tree.specs.Tree.{SourceTree}
 use Rattle.tp_tree.specs.Spelling.{source_spelling}
 use Rattle.tp_words.specs.declared.mode.Mode.{Mode}
 use Rattle.tp_words.specs.declared.mode.Mode.TheVariants.{Run, Print}
-use Rattle.tp_words.specs.Words.{Wanted, wanted_of, files_of}
+use Rattle.tp_words.specs.Words.{Wanted, wanted_of}
 use Rattle.std.specs.Str.Lines.{lines}
 use Rattle.tp_meaning.specs.Inputs.{InputLines}
 use Rattle.tp_inputs.specs.declared.refusal.Fault.{Fault}
@@ -29,16 +28,16 @@ use Rattle.tp_meaning.specs.Fits.{ProgramFits}
 use Rattle.tp_call.specs.Run.{EndSays, RunEnds, known_at_end, Settles}
 use Rattle.tp_call.specs.Printed.{ended_text, settled_text}
 use Rattle.tp_call.specs.Written.{Wrote}
+use Rattle.tp_call.specs.Files.{files_read, IsFoundIn}
+use Rattle.tp_words.specs.declared.beside.Beside.{Beside}
 
 -- where the value is told, it has P
 abbrev pub WhereTold : {X : Type 0} → Option X → (X → Type 0) → Type 0
 WhereTold {X} told P = (x : X) → told ≡ Some x → P x
 
--- The words are accepted and name a file; where the files tell what it holds, that has P for what is to be done with it.
-pub record Sourced (words : List (List ℕ)) (held : Option Held) (P : Mode → List ℕ → Type 0) : Type 0 where
-  pub wanted : Wanted
-  pub accepted : wanted_of words ≡ Some wanted
-  pub source : WhereTold held (λ files. P wanted.mode (bytes_of files wanted.file))
+-- the value is told, and has P
+abbrev pub AsTold : {X : Type 0} → Option X → (X → Type 0) → Type 0
+AsTold {X} told P = (x : X) × (told ≡ Some x) × P x
 
 -- the source has at most so many bytes, and is this program
 abbrev pub HoldsProgram : ProgramTree → List ℕ → Type 0
@@ -52,13 +51,9 @@ HoldsSource tree source = (length source ≤ source_limit) × IsSourceText sourc
 abbrev pub HoldsRefused : Refused → Mode → List ℕ → Type 0
 HoldsRefused refused mode source = (length source ≤ source_limit) × IsRefusedAt mode source refused
 
--- the source has more bytes, whatever is to be done with it
-abbrev pub IsLongSource : Mode → List ℕ → Type 0
-IsLongSource mode source = source_limit < length source
-
 -- the text of a run of this plan that settled these states and ended so: the lines of the states, and the end line
-abbrev pub run_text : (trace : Bool) {plan : Plan} {pictures : List Picture} {status : Status} → RunEnds plan pictures status → List ℕ
-run_text trace {plan} {pictures} end = ended_text trace plan pictures end.answer end.run ++ end_line plan.program.globals (known_at_end end) plan.reductions end.answer
+abbrev pub run_text : (beside : Beside) {plan : Plan} {pictures : List Picture} {status : Status} → RunEnds plan pictures status → List ℕ
+run_text beside {plan} {pictures} end = ended_text beside plan pictures end.answer end.run ++ end_line plan.program.globals (known_at_end end) plan.reductions end.answer
 
 -- The greatest length of a file of inputs, in bytes.
 abbrev pub inputs_limit : ℕ
@@ -90,24 +85,33 @@ pub record IsAskedToPrint (words : List (List ℕ)) (held : Option Held) (tree :
   pub mode : wanted.mode ≡ Print
   pub source : WhereTold held (λ files. HoldsSource tree (bytes_of files wanted.file))
 
--- The words are accepted, ask for a run and name a file of inputs, and the source that they name is a program; where the files tell what the inputs hold, that
--- has P.
-pub record Supplied (words : List (List ℕ)) (held : Option Held) (P : List ℕ → Type 0) : Type 0 where
-  pub wanted : Wanted
-  pub accepted : wanted_of words ≡ Some wanted
-  pub mode : wanted.mode ≡ Run
-  pub name : List ℕ
-  pub named : wanted.inputs ≡ Some name
-  pub program : ProgramTree
-  pub source : WhereTold held (λ files. HoldsProgram program (bytes_of files wanted.file))
-  pub inputs : WhereTold held (λ files. P (bytes_of files name))
+-- a file has more bytes than it may have
+abbrev pub byte_limit : Which → ℕ
+byte_limit Source = source_limit
+byte_limit Inputs = inputs_limit
 
--- a file of inputs is too long, or is refused at this line
-abbrev pub IsLongTable : List ℕ → Type 0
-IsLongTable bytes = inputs_limit < length bytes
+abbrev pub IsPastLimit : Which → List ℕ → Type 0
+IsPastLimit which bytes = byte_limit which < length bytes
 
+-- the file of inputs is refused at this line
 abbrev pub HasBadLine : ℕ → List ℕ → Type 0
 HasBadLine line bytes = (length bytes ≤ inputs_limit) × ((fault : Fault) × IsFirstFault (lines bytes) line fault)
+
+-- What a mode needs of a file that it reads, to go on: to run, the source is a program, and the inputs are a table; to print, the source is
+-- one of the grammar.
+abbrev pub Serves : Mode → Which → List ℕ → Type 0
+Serves Run Source bytes = (program : ProgramTree) × HoldsProgram program bytes
+Serves Run Inputs bytes = (table : InputLines) × HoldsTable table bytes
+Serves Print Source bytes = (tree : SourceTree) × HoldsSource tree bytes
+Serves Print Inputs bytes = ⊥
+
+-- The words are accepted, and this file is one that their mode reads: it has P for what is to be done with it, and each one that is read before
+-- it serves the mode. `Tells` says how this is said of what the files tell: `WhereTold held` or `AsTold held`.
+pub record ReadsFile (words : List (List ℕ)) (Tells : (Held → Type 0) → Type 0) (which : Which) (P : Mode → List ℕ → Type 0) : Type 0 where
+  pub wanted : Wanted
+  pub accepted : wanted_of words ≡ Some wanted
+  pub found : IsFoundIn which (λ file. Tells (λ files. Serves wanted.mode file.which (bytes_of files file.name)))
+      (λ name. Tells (λ files. P wanted.mode (bytes_of files name))) (files_read wanted.mode wanted)
 
 -- a run of what is asked for ends with this status, and the text is that of its settled states with the end line; the program's parts fit
 -- each other, its names are words, and what is written are numbers of 64 bits
@@ -117,7 +121,7 @@ pub record RunsTo (words : List (List ℕ)) (held : Option Held) (status : Statu
   pub asked : IsAskedFor words held plan
   pub run : RunEnds plan pictures status
   pub says : EndSays plan pictures run.answer
-  pub written : text ≡ run_text asked.wanted.trace run
+  pub written : text ≡ run_text asked.wanted.beside run
   pub fits : ProgramFits plan.program
   pub names : AreNames plan.program.globals
   pub states : plan.states < 2 ^ 64
@@ -133,13 +137,12 @@ pub record Spells (words : List (List ℕ)) (held : Option Held) (status : Statu
 
 -- The cause of a refusal.
 abbrev pub Refuses : List (List ℕ) → Option Held → Status → Type 0
-Refuses words held (SourceRefused line column kind) = Sourced words held (HoldsRefused (record { line = line; column = column; kind = kind }))
+Refuses words held (SourceRefused line column kind) =
+    ReadsFile words (WhereTold held) Source (HoldsRefused (record { line = line; column = column; kind = kind }))
 Refuses words held WordsRefused = wanted_of words ≡ None
-Refuses words held (TooLong Source) = Sourced words held IsLongSource
-Refuses words held (TooLong Inputs) = Supplied words held IsLongTable
-Refuses words held (ReadFault Source) = Sourced words held (λ mode source. Unit {0})
-Refuses words held (ReadFault Inputs) = Supplied words held (λ inputs. Unit {0})
-Refuses words held (InputsRefused line) = Supplied words held (HasBadLine line)
+Refuses words held (TooLong which) = ReadsFile words (WhereTold held) which (λ mode. IsPastLimit which)
+Refuses words held (ReadFault which) = ReadsFile words (WhereTold held) which (λ mode bytes. Unit {0})
+Refuses words held (InputsRefused line) = ReadsFile words (WhereTold held) Inputs (λ mode. HasBadLine line)
 Refuses words held (Finished length) = ⊥
 Refuses words held Done = ⊥
 Refuses words held (Contradictory state clash) = ⊥
@@ -164,7 +167,7 @@ pub record RunsOn (words : List (List ℕ)) (held : Option Held) (text : List �
   pub pictures : List Picture
   pub asked : IsAskedFor words held plan
   pub run : Settles plan pictures
-  pub written : text ≡ settled_text asked.wanted.trace plan pictures run
+  pub written : text ≡ settled_text asked.wanted.beside plan pictures run
 
 -- the text of no state, or of states of a run, without an end line
 abbrev pub IsUnfinishedText : List (List ℕ) → Option Held → List ℕ → Type 0
@@ -184,7 +187,7 @@ pub record Prints (words : List (List ℕ)) (held : Option Held) (old new : Opti
   pub pictures : List Picture
   pub asked : IsAskedFor words held plan
   pub run : RunEnds plan pictures status
-  pub appended : Wrote old new (run_text asked.wanted.trace run)
+  pub appended : Wrote old new (run_text asked.wanted.beside run)
   pub fits : ProgramFits plan.program
   pub names : AreNames plan.program.globals
   pub states : plan.states < 2 ^ 64
@@ -197,39 +200,6 @@ pub record WritesSpelling (words : List (List ℕ)) (held : Option Held) (old ne
   pub asked : IsAskedToPrint words held tree
   pub appended : Wrote old new (source_spelling tree)
   pub read_back : IsReadFromSpelling tree
-
--- the place of a file among those that the words name
-abbrev pub place : Which → ℕ
-place Source = 0
-place Inputs = 1
-
--- The names that were asked for are the first of those that the words name; where a read failed,
--- up to the one that failed.
-pub record AsksOnly (words : List (List ℕ)) (old new : Option (List (List ℕ))) (failed : Which → Type 0) : Type 0 where
-  pub count : ℕ
-  pub asked : new ≡ option_map (λ before. before ++ take count (files_of words)) old
-  pub last : (which : Which) → failed which → count ≡ place which + 1
-
--- the words are accepted, and the files tell what the source holds, which has P for what is to be done with it
-pub record IsTold (words : List (List ℕ)) (held : Option Held) (P : Mode → List ℕ → Type 0) : Type 0 where
-  pub wanted : Wanted
-  pub accepted : wanted_of words ≡ Some wanted
-  pub files : Held
-  pub told : held ≡ Some files
-  pub source : P wanted.mode (bytes_of files wanted.file)
-
--- the words are accepted and ask for a run, and the files tell that the source is a program and what the inputs that they name hold, which has P
-pub record IsSupplied (words : List (List ℕ)) (held : Option Held) (P : List ℕ → Type 0) : Type 0 where
-  pub wanted : Wanted
-  pub accepted : wanted_of words ≡ Some wanted
-  pub mode : wanted.mode ≡ Run
-  pub files : Held
-  pub told : held ≡ Some files
-  pub program : ProgramTree
-  pub source : HoldsProgram program (bytes_of files wanted.file)
-  pub name : List ℕ
-  pub named : wanted.inputs ≡ Some name
-  pub inputs : P (bytes_of files name)
 
 -- the source is to be printed, and is one of the grammar with this tree
 abbrev pub IsToPrint : SourceTree → Mode → List ℕ → Type 0

@@ -15,8 +15,8 @@ use Rattle.tp_tree.specs.Tree.{SourceTree}
 use Rattle.tp_words.specs.Words.{wanted_of}
 use Rattle.tp_run.specs.States.{Plan}
 use Rattle.tp_show.specs.Told.{FitsIn64Bits}
-use Rattle.tp_call.specs.Text.{AsksNoTrace, TextTells, SatisfiedAsTold, ContinuesTold, finished_line}
-use Rattle.tp_call.specs.Answer.{HoldsRefused, IsLongSource, IsLongTable, HasBadLine, IsAskedFor, IsTold, IsSupplied, IsToPrint, Sourced, Supplied, Prints, WritesSpelling, IsOrStopped, IsOrFailed, IsEndOfRun, IsOpenEnd, HasFailed}
+use Rattle.tp_call.specs.Text.{AsksNothingBeside, TextTells, SatisfiedAsTold, ContinuesTold, finished_line}
+use Rattle.tp_call.specs.Answer.{WhereTold, AsTold, HoldsRefused, IsPastLimit, HasBadLine, IsAskedFor, IsToPrint, ReadsFile, Prints, WritesSpelling, IsOrStopped, IsOrFailed, IsEndOfRun, IsOpenEnd, HasFailed}
 use Rattle.tp_call.specs.Parts.{refused_status}
 
 module _ (words : List (List ℕ)) (held : Option Held) (old new : Option (List ℕ)) (result : Status) where
@@ -49,17 +49,17 @@ module _ (words : List (List ℕ)) (held : Option Held) (old new : Option (List 
   InputMissingSays = (state : ℕ) (port : List ℕ) → result ≡ InputMissing state port
       → Prints words held old new (InputMissing state port) (λ plan printed. Unsatisfiable plan)
 
-  -- The same for whoever has the text alone, of words that ask for no trace. Where a run finishes: however the text is read, as lines of states and a last line with a length n, an
+  -- The same for whoever has the text alone, of words that ask for nothing beside the states. Where a run finishes: however the text is read, as lines of states and a last line with a length n, an
   -- interval satisfies the program and shows S exactly where it has the length n, agrees with what the states' lines say, and S is what the `show`
   -- lines say.
   abbrev pub FinishedTextSays : Type 0
-  FinishedTextSays = (length : ℕ) → result ≡ Finished length → AsksNoTrace words
+  FinishedTextSays = (length : ℕ) → result ≡ Finished length → AsksNothingBeside words
       → TextTells words held old new (λ plan told last. (n : ℕ) → FitsIn64Bits n → last ≡ finished_line n → SatisfiedAsTold plan told n)
 
   -- Where a run is undetermined or reaches a limit: however the text is read, each interval that satisfies the program begins with what it tells, and
   -- has more states.
   abbrev pub OpenTextSays : Type 0
-  OpenTextSays = IsOpenEnd result → AsksNoTrace words → TextTells words held old new (λ plan told last. ContinuesTold plan told)
+  OpenTextSays = IsOpenEnd result → AsksNothingBeside words → TextTells words held old new (λ plan told last. ContinuesTold plan told)
 
   -- Done: the words ask to print a source of the grammar, and what was appended is its canonical spelling, which is read back as this source.
   abbrev pub PrintedSays : Type 0
@@ -74,31 +74,26 @@ module _ (words : List (List ℕ)) (held : Option Held) (result : Status) where
 
   -- Where the words ask to print a file that holds a source of the grammar, this is done, unless a read or a write fails or memory is wanted.
   abbrev pub SourcePrints : Type 0
-  SourcePrints = (tree : SourceTree) → IsTold words held (IsToPrint tree) → IsOrFailed Done result
+  SourcePrints = (tree : SourceTree) → ReadsFile words (AsTold held) Source (IsToPrint tree) → IsOrFailed Done result
 
   -- The words are refused exactly where they ask for nothing that a call does.
   pub record WordsRefusedExactly : Type 0 where
     pub only : result ≡ WordsRefused → wanted_of words ≡ None
     pub there : wanted_of words ≡ None → IsOrStopped WordsRefused result
 
-  -- A file is too long exactly where it has more bytes than it may have: the source, or the inputs of a source that is a program.
-  abbrev pub HoldsTooLong : Which → Type 0
-  HoldsTooLong Source = Sourced words held IsLongSource
-  HoldsTooLong Inputs = Supplied words held IsLongTable
-
+  -- A file is too long exactly where it has more bytes than it may have, and the files that are read before it serve what is to be done with it.
   pub record TooLongExactly : Type 0 where
-    pub only : (which : Which) → result ≡ TooLong which → HoldsTooLong which
-    pub for_source : IsTold words held IsLongSource → IsOrFailed (TooLong Source) result
-    pub for_inputs : IsSupplied words held IsLongTable → IsOrFailed (TooLong Inputs) result
+    pub only : (which : Which) → result ≡ TooLong which → ReadsFile words (WhereTold held) which (λ mode. IsPastLimit which)
+    pub there : (which : Which) → ReadsFile words (AsTold held) which (λ mode. IsPastLimit which) → IsOrFailed (TooLong which) result
 
   -- The source is refused exactly where it is no program, and in the mode `print` where it is no source of the grammar: there and for the cause that
   -- its grammar names first, or for a program after it the rules of positions.
   pub record SourceRefusedExactly : Type 0 where
     pub only : (line column : ℕ) (kind : SourceKind) → result ≡ SourceRefused line column kind
-        → Sourced words held (HoldsRefused (record { line = line; column = column; kind = kind }))
-    pub there : (refused : Refused) → IsTold words held (HoldsRefused refused) → IsOrFailed (refused_status refused) result
+        → ReadsFile words (WhereTold held) Source (HoldsRefused (record { line = line; column = column; kind = kind }))
+    pub there : (refused : Refused) → ReadsFile words (AsTold held) Source (HoldsRefused refused) → IsOrFailed (refused_status refused) result
 
   -- The inputs of a source that is a program are refused exactly where they are no table, at the first line that is at fault.
   pub record InputsRefusedExactly : Type 0 where
-    pub only : (line : ℕ) → result ≡ InputsRefused line → Supplied words held (HasBadLine line)
-    pub there : (line : ℕ) → IsSupplied words held (HasBadLine line) → IsOrFailed (InputsRefused line) result
+    pub only : (line : ℕ) → result ≡ InputsRefused line → ReadsFile words (WhereTold held) Inputs (λ mode. HasBadLine line)
+    pub there : (line : ℕ) → ReadsFile words (AsTold held) Inputs (λ mode. HasBadLine line) → IsOrFailed (InputsRefused line) result

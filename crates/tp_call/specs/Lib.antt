@@ -5,6 +5,7 @@ pub mod Run
 pub mod Spelling
 pub mod Source
 pub mod Printed
+pub mod Files
 pub mod Answer
 pub mod Task
 pub mod Parts

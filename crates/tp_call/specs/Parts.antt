@@ -11,7 +11,7 @@ use Rattle.tp_call.specs.declared.status.Status.TheVariants.{SourceRefused, Inpu
 use Rattle.tp_call.specs.declared.status.Which.TheVariants.{Source, Inputs}
 use Rattle.tp_call.specs.declared.refused.Refused.{Refused}
 use Rattle.tp_call.specs.Written.{Wrote}
-use Rattle.tp_call.specs.Answer.{Refuses, WhereTold, HoldsRefused, HasBadLine, IsLongSource, IsLongTable}
+use Rattle.tp_call.specs.Answer.{Refuses, WhereTold, HoldsRefused, HasBadLine, IsPastLimit}
 use Rattle.tp_call.specs.Source.{IsRefusedAt}
 
 -- the status of a refusal
@@ -31,7 +31,7 @@ IsReadRefusal mode source status = (status ≡ NoMemory) ⊎ ((refused : Refused
 -- wanted
 abbrev pub IsSourceRefusal : Mode → Option Held → List ℕ → Status → Type 0
 IsSourceRefusal mode held name status = (status ≡ NoMemory) ⊎ (status ≡ ReadFault Source)
-    ⊎ ((status ≡ TooLong Source) × WhereTold held (λ files. IsLongSource mode (bytes_of files name)))
+    ⊎ ((status ≡ TooLong Source) × WhereTold held (λ files. IsPastLimit Source (bytes_of files name)))
     ⊎ ((refused : Refused) × (status ≡ refused_status refused) × WhereTold held (λ files. HoldsRefused refused mode (bytes_of files name)))
 
 -- memory was wanted, or a text is no table, for its first fault, which is in this line
@@ -43,7 +43,7 @@ IsTableRefusal text status = (status ≡ NoMemory) ⊎ ((line : ℕ) × (status 
 abbrev pub IsInputsEnd : Option Held → (name : Option (List ℕ)) → Status → Type 0
 IsInputsEnd held None status = status ≡ NoMemory
 IsInputsEnd held (Some name) status = (status ≡ NoMemory) ⊎ (status ≡ ReadFault Inputs)
-    ⊎ ((status ≡ TooLong Inputs) × WhereTold held (λ files. IsLongTable (bytes_of files name)))
+    ⊎ ((status ≡ TooLong Inputs) × WhereTold held (λ files. IsPastLimit Inputs (bytes_of files name)))
     ⊎ ((line : ℕ) × (status ≡ InputsRefused line) × WhereTold held (λ files. HasBadLine line (bytes_of files name)))
 
 -- there is nothing to do for this cause, or memory was wanted

@@ -1,5 +1,5 @@
 -- The text of a run's states.
-use Rattle.std.specs.Prelude.{ℕ, suc, Bool, true, false, List, [], ◌∷◌, ◌++◌, Option, None, Some}
+use Rattle.std.specs.Prelude.{ℕ, suc, List, [], ◌∷◌, ◌++◌, Option, None, Some}
 use Rattle.std.proofs.Common.{inl, inr}
 use Rattle.std.specs.Option.{option_map}
 use Rattle.tp_meaning.specs.Interval.{ProgramTree}
@@ -16,40 +16,41 @@ use Rattle.tp_run.specs.States.{Plan, RunPlace, StatesLead, LeadsTo}
 use Rattle.tp_run.specs.Runs.{carried_scene}
 use Rattle.tp_run.specs.History.{RunEndsWith}
 use Rattle.tp_call.specs.Run.{Settles}
+use Rattle.tp_words.specs.declared.beside.Beside.{Beside}
+use Rattle.tp_words.specs.declared.beside.Beside.TheVariants.{Nothing, TraceLines}
 
 -- what is left to hold from a moment on, as a phrase
 abbrev pub phrase_left : ProgramTree → Moment → List ℕ
 phrase_left program m = residual_phrase m.store.variables program.defs m.scene
 
--- What is written of a settled state: its lines, and where a trace is asked for its trace lines. The next state begins with this moment, where
--- there is one.
-abbrev pub written_state : (trace : Bool) → ProgramTree → Picture → (next : Option Moment) → List ℕ
-written_state false program picture next = picture_lines program.globals picture
-written_state true program picture next = picture_lines program.globals picture ++ trace_lines picture.reductions (option_map (phrase_left program) next)
+-- What is written of a settled state: its lines, and what is asked for beside them. The next state begins with this moment, where there is one.
+abbrev pub written_state : (beside : Beside) → ProgramTree → Picture → (next : Option Moment) → List ℕ
+written_state Nothing program picture next = picture_lines program.globals picture
+written_state TraceLines program picture next = picture_lines program.globals picture ++ trace_lines picture.reductions (option_map (phrase_left program) next)
 
 -- of the states that lead from one moment to another
-abbrev pub states_text : (trace : Bool) (plan : Plan) (n : ℕ) (m : Moment) (pictures : List Picture) (last : Moment) → StatesLead plan n m pictures last → List ℕ
-states_text trace plan n m [] last leads = []
-states_text trace plan n m (p ∷ ps) last leads = written_state trace plan.program p (Some leads.0) ++ states_text trace plan (suc n) leads.0 ps last leads.2
+abbrev pub states_text : (beside : Beside) (plan : Plan) (n : ℕ) (m : Moment) (pictures : List Picture) (last : Moment) → StatesLead plan n m pictures last → List ℕ
+states_text beside plan n m [] last leads = []
+states_text beside plan n m (p ∷ ps) last leads = written_state beside plan.program p (Some leads.0) ++ states_text beside plan (suc n) leads.0 ps last leads.2
 
 -- of those with which a run begins
-abbrev pub lead_text : (trace : Bool) (plan : Plan) (pictures : List Picture) (m : Moment) → LeadsTo plan pictures m → List ℕ
-lead_text trace plan pictures m leads = states_text trace plan 0 (first_moment plan.program.globals plan.program.main) pictures m leads
+abbrev pub lead_text : (beside : Beside) (plan : Plan) (pictures : List Picture) (m : Moment) → LeadsTo plan pictures m → List ℕ
+lead_text beside plan pictures m leads = states_text beside plan 0 (first_moment plan.program.globals plan.program.main) pictures m leads
 
 -- of those of a run that ended with this answer; no state comes after the last one of a run that finished
-abbrev pub ended_text : (trace : Bool) (plan : Plan) (pictures : List Picture) (answer : Turn) → RunEndsWith plan pictures answer → List ℕ
-ended_text trace plan pictures turn.Went end = []
-ended_text trace plan pictures (turn.Finished length) end = lead_text trace plan end.before end.moment end.leads ++ written_state trace plan.program end.final None
-ended_text trace plan pictures (turn.Contradictory state clash) end = lead_text trace plan pictures end.0 end.1
-ended_text trace plan pictures (turn.Undetermined state cell) end = lead_text trace plan pictures end.0 end.1
-ended_text trace plan pictures (turn.StateLimit states) end = lead_text trace plan pictures end.0 end.1
-ended_text trace plan pictures (turn.InputMissing state port) end = lead_text trace plan pictures end.0 end.1
-ended_text trace plan pictures (turn.Over state limit) end = lead_text trace plan pictures end.0 end.1
+abbrev pub ended_text : (beside : Beside) (plan : Plan) (pictures : List Picture) (answer : Turn) → RunEndsWith plan pictures answer → List ℕ
+ended_text beside plan pictures turn.Went end = []
+ended_text beside plan pictures (turn.Finished length) end = lead_text beside plan end.before end.moment end.leads ++ written_state beside plan.program end.final None
+ended_text beside plan pictures (turn.Contradictory state clash) end = lead_text beside plan pictures end.0 end.1
+ended_text beside plan pictures (turn.Undetermined state cell) end = lead_text beside plan pictures end.0 end.1
+ended_text beside plan pictures (turn.StateLimit states) end = lead_text beside plan pictures end.0 end.1
+ended_text beside plan pictures (turn.InputMissing state port) end = lead_text beside plan pictures end.0 end.1
+ended_text beside plan pictures (turn.Over state limit) end = lead_text beside plan pictures end.0 end.1
 
 -- of those that a run settled, whether it goes on or has finished
-abbrev pub settled_text : (trace : Bool) (plan : Plan) (pictures : List Picture) → Settles plan pictures → List ℕ
-settled_text trace plan pictures (inl goes) = lead_text trace plan pictures goes.0 goes.1
-settled_text trace plan pictures (inr end) = ended_text trace plan pictures end.1.answer end.1.run
+abbrev pub settled_text : (beside : Beside) (plan : Plan) (pictures : List Picture) → Settles plan pictures → List ℕ
+settled_text beside plan pictures (inl goes) = lead_text beside plan pictures goes.0 goes.1
+settled_text beside plan pictures (inr end) = ended_text beside plan pictures end.1.answer end.1.run
 
 -- what the state after the last one begins with, where the run stands there
 abbrev pub moment_with : Contents → Option Scene → Option Moment

@@ -17,6 +17,7 @@ use Rattle.tp_show.specs.EndLine.{end_line}
 use Rattle.tp_call.specs.declared.status.Status.{Status}
 use Rattle.tp_call.specs.Parts.{ClosesText}
 use Rattle.tp_call.specs.Run.{last_answer, status_of}
+use Rattle.tp_words.specs.declared.beside.Beside.{Beside}
 
 -- a call of the run of this plan answers this: it goes from here to there, with this picture
 pub record Turned (plan : Plan) (from to : RunPlace) (answer : Turn) (picture : Picture) : Type 0 where
@@ -34,41 +35,41 @@ is_settled (turn.InputMissing state port) = false
 is_settled (turn.Over state limit) = false
 
 -- what is written of an answer and its picture: that of the state, where it was settled; the next one begins with this moment, where there is one
-abbrev pub printed_lines : (trace : Bool) → ProgramTree → Turn → Picture → (next : Option Moment) → List ℕ
-printed_lines trace program answer picture next = if is_settled answer then written_state trace program picture next else []
+abbrev pub printed_lines : (beside : Beside) → ProgramTree → Turn → Picture → (next : Option Moment) → List ℕ
+printed_lines beside program answer picture next = if is_settled answer then written_state beside program picture next else []
 
 -- the call answered this, which was written; and the run ends with it, or goes on
-pub record AnswerMade (plan : Plan) (trace : Bool) (from to : RunPlace) (before after : Option (List ℕ)) (last : Option Turn) : Type 0 where
+pub record AnswerMade (plan : Plan) (beside : Beside) (from to : RunPlace) (before after : Option (List ℕ)) (last : Option Turn) : Type 0 where
   pub answer : Turn
   pub last_is : last ≡ last_answer answer
   pub picture : Picture
   pub turned : Turned plan from to answer picture
-  pub wrote : Wrote before after (printed_lines trace plan.program answer picture (next_moment to))
+  pub wrote : Wrote before after (printed_lines beside plan.program answer picture (next_moment to))
   pub range : IsTrue (is_settled answer) → IsPictureInRange picture
 
 -- the next state was settled, and a part of its lines was written
-pub record PartMade (plan : Plan) (trace : Bool) (from to : RunPlace) (before after : Option (List ℕ)) : Type 0 where
+pub record PartMade (plan : Plan) (beside : Beside) (from to : RunPlace) (before after : Option (List ℕ)) : Type 0 where
   pub picture : Picture
   pub answer : Turn
   pub settled : IsTrue (is_settled answer)
   pub turned : Turned plan from to answer picture
   pub kept : ℕ
-  pub wrote : Wrote before after (take kept (written_state trace plan.program picture (next_moment to)))
+  pub wrote : Wrote before after (take kept (written_state beside plan.program picture (next_moment to)))
 
 -- what became of the next state: the run answered and wrote, a write failed, or memory was wanted
-abbrev pub TurnMade : Plan → (trace : Bool) → RunPlace → RunPlace → Option (List ℕ) → Option (List ℕ) → Result (Option Turn) WriteRefusal → Type 0
-TurnMade plan trace from to before after (Ok last) = AnswerMade plan trace from to before after last
-TurnMade plan trace from to before after (Err sink.Failed) = PartMade plan trace from to before after
-TurnMade plan trace from to before after (Err sink.NoMemory) = after ≡ before
+abbrev pub TurnMade : Plan → (beside : Beside) → RunPlace → RunPlace → Option (List ℕ) → Option (List ℕ) → Result (Option Turn) WriteRefusal → Type 0
+TurnMade plan beside from to before after (Ok last) = AnswerMade plan beside from to before after last
+TurnMade plan beside from to before after (Err sink.Failed) = PartMade plan beside from to before after
+TurnMade plan beside from to before after (Err sink.NoMemory) = after ≡ before
 
 -- a run of the plan, which stands here, has settled and written some states and goes on
-pub record HasWritten (plan : Plan) (trace : Bool) (now : RunPlace) (before after : Option (List ℕ)) : Type 0 where
+pub record HasWritten (plan : Plan) (beside : Beside) (now : RunPlace) (before after : Option (List ℕ)) : Type 0 where
   pub pictures : List Picture
   pub next : Moment
   pub stands : now.standing ≡ open_at next
   pub count : now.state ≡ length pictures
   pub leads : LeadsTo plan pictures next
-  pub wrote : Wrote before after (lead_text trace plan pictures next leads)
+  pub wrote : Wrote before after (lead_text beside plan pictures next leads)
   pub range : All IsPictureInRange pictures
 
 abbrev pub as_turn : Result Ended WriteRefusal → Result (Option Turn) WriteRefusal
@@ -81,17 +82,17 @@ pub record EndedThere (plan : Plan) (to : RunPlace) (ended : Ended) : Type 0 whe
   pub store : store_of ended.run ≡ to.store
 
 -- a run of the plan settled and wrote some states, and then ended or was stopped
-pub record RunMade (plan : Plan) (trace : Bool) (before after : Option (List ℕ)) (result : Result Ended WriteRefusal) : Type 0 where
+pub record RunMade (plan : Plan) (beside : Beside) (before after : Option (List ℕ)) (result : Result Ended WriteRefusal) : Type 0 where
   pub from : RunPlace
   pub to : RunPlace
   pub middle : Option (List ℕ)
-  pub settled : HasWritten plan trace from before middle
-  pub stopped : TurnMade plan trace from to middle after (as_turn result)
+  pub settled : HasWritten plan beside from before middle
+  pub stopped : TurnMade plan beside from to middle after (as_turn result)
   pub ended : IfOk result (EndedThere plan to)
 
 -- the same, or memory was wanted before the run
-abbrev pub ProgramMade : Plan → (trace : Bool) → Option (List ℕ) → Option (List ℕ) → Result Ended WriteRefusal → Type 0
-ProgramMade plan trace before after result = ((result ≡ Err sink.NoMemory) × (after ≡ before)) ⊎ RunMade plan trace before after result
+abbrev pub ProgramMade : Plan → (beside : Beside) → Option (List ℕ) → Option (List ℕ) → Result Ended WriteRefusal → Type 0
+ProgramMade plan beside before after result = ((result ≡ Err sink.NoMemory) × (after ≡ before)) ⊎ RunMade plan beside before after result
 
 -- the end line of a run that ended, where a state has at most so many reductions
 abbrev pub line_of_end : (reductions : ℕ) → Ended → List ℕ

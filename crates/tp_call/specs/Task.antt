@@ -1,5 +1,5 @@
 -- What a call has to do.
-use Rattle.std.specs.Prelude.{◌≡◌, ◌<◌, ◌^◌, ℕ, Bool, List, Option, Some}
+use Rattle.std.specs.Prelude.{◌≡◌, ◌<◌, ◌^◌, ℕ, List, Option, Some}
 use Rattle.tp_io.specs.Devices.{Held}
 use Rattle.tp_tree.specs.Read.{source_tree}
 use Rattle.tp_meaning.specs.Fits.{ProgramFits}
@@ -16,6 +16,7 @@ use Rattle.tp_call.specs.declared.job.Job.{Job}
 use Rattle.tp_call.specs.declared.job.Job.TheVariants as job
 use Rattle.tp_call.specs.Spelling.{IsReadFromSpelling}
 use Rattle.tp_call.specs.Answer.{IsAskedFor, IsAskedToPrint}
+use Rattle.tp_words.specs.declared.beside.Beside.{Beside}
 
 -- the plan of a task
 abbrev pub plan_of : Task → Plan
@@ -25,9 +26,9 @@ plan_of task = plan_with (program_tree task.program) (lines_of task.inputs) task
 abbrev pub AsksFor : List (List ℕ) → Command → Type 0
 AsksFor words command = wanted_of words ≡ Some (wanted_by command)
 
--- whether trace lines are written is as the words ask
-abbrev pub TracesAsAsked : List (List ℕ) → Bool → Type 0
-TracesAsAsked words trace = (wanted : Wanted) → wanted_of words ≡ Some wanted → wanted.trace ≡ trace
+-- what is written beside each state is what the words ask for
+abbrev pub WritesBesideAsAsked : List (List ℕ) → Beside → Type 0
+WritesBesideAsAsked words beside = (wanted : Wanted) → wanted_of words ≡ Some wanted → wanted.beside ≡ beside
 
 -- the order in which the items of a state are taken is the one that the words ask for
 abbrev pub OrdersAsAsked : List (List ℕ) → Order → Type 0
@@ -39,7 +40,7 @@ pub record IsTaskFor (words : List (List ℕ)) (held : Option Held) (task : Task
   pub fits : ProgramFits (program_tree task.program)
   pub names : AreNames task.program.globals
   pub states : task.limits.states < 2 ^ 64
-  pub trace : TracesAsAsked words task.trace
+  pub beside : WritesBesideAsAsked words task.beside
   pub order : OrdersAsAsked words task.order
 
 -- the words ask for this task, or to print this source

@@ -1,5 +1,5 @@
 -- What the text of a run says to whoever has it alone.
-use Rattle.std.specs.Prelude.{◌≡◌, ◌↔◌, ◌≤◌, ◌<◌, ◌+◌, ℕ, false, List, ◌++◌, length, All, Option, Some, codes}
+use Rattle.std.specs.Prelude.{◌≡◌, ◌↔◌, ◌≤◌, ◌<◌, ◌+◌, ℕ, List, ◌++◌, length, All, Option, Some, codes}
 use Rattle.std.specs.Fmt.{decimal}
 use Rattle.tp_io.specs.Devices.{Held}
 use Rattle.tp_meaning.specs.Course.{Course, Shows}
@@ -10,10 +10,11 @@ use Rattle.tp_show.specs.Told.{IsToldOf, IsEndLine, AgreesWithTold, told_shows}
 use Rattle.tp_words.specs.Words.{Wanted, wanted_of}
 use Rattle.tp_call.specs.Written.{Wrote}
 use Rattle.tp_call.specs.Answer.{IsAskedFor}
+use Rattle.tp_words.specs.declared.beside.Beside.TheVariants.{Nothing}
 
--- the words ask for no trace
-abbrev pub AsksNoTrace : List (List ℕ) → Type 0
-AsksNoTrace words = (wanted : Wanted) → wanted_of words ≡ Some wanted → wanted.trace ≡ false
+-- the words ask for nothing beside the states
+abbrev pub AsksNothingBeside : List (List ℕ) → Type 0
+AsksNothingBeside words = (wanted : Wanted) → wanted_of words ≡ Some wanted → wanted.beside ≡ Nothing
 
 -- The text reads so: lines of states that tell this of the variables with these names, and then an end line.
 pub record ReadsAs (names : List (List ℕ)) (text : List ℕ) (told : List ToldState) (end : List ℕ) : Type 0 where

@@ -8,9 +8,10 @@ ghost use Rattle.tp_call.specs.Source.{IsProgram};
 ghost use Rattle.tp_call.specs.declared.status.Which.{Which};
 ghost use Rattle.tp_inputs.specs.Read.{lines_of};
 ghost use Rattle.tp_inputs.specs.Table.{IsInputsText};
-ghost use Rattle.tp_call.specs.Answer.{WhereTold, HoldsProgram, HasInputs, IsAskedFor, Answers, AsksOnly};
+ghost use Rattle.tp_call.specs.Files.{AsksOnly};
+ghost use Rattle.tp_call.specs.Answer.{WhereTold, HoldsProgram, HasInputs, IsAskedFor, Answers};
 ghost use Rattle.tp_call.specs.Reading.{AsksFile, AsksTable};
-ghost use Rattle.tp_call.specs.Task.{plan_of, AsksFor, TracesAsAsked, OrdersAsAsked, IsTaskFor, IsJobFor};
+ghost use Rattle.tp_call.specs.Task.{plan_of, AsksFor, WritesBesideAsAsked, OrdersAsAsked, IsTaskFor, IsJobFor};
 ghost use Rattle.tp_words.specs.declared.mode.Mode.TheVariants.{Run};
 ghost use Rattle.tp_call.specs.Headline.{FinishedSays, FinishedTextSays, OpenTextSays, ContradictorySays, UndeterminedSays, StateLimitSays, LimitSays, InputMissingSays, ProgramRuns, WordsRefusedExactly, TooLongExactly, SourceRefusedExactly, InputsRefusedExactly, PrintedSays, SourcePrints};
 ghost use Rattle.tp_call.specs.Parts.{IsReadRefusal, IsSourceRefusal, IsTableRefusal, IsInputsEnd, IsProgramRefusal};
@@ -157,8 +158,8 @@ fn task_for<F: Files>(alloc: Global, command: &Command, files: &mut F) -> Result
         → IsAskedFor words (F.held files.old) (plan_of task)) }
     ensures fits { IfOk result (λ task. ProgramFits (program_tree task.program)) }
     ensures names { IfOk result (λ task. AreNames task.program.globals) }
-    ensures trace { IfOk result (λ task. (words : List (List ℕ)) → AsksFor words command.now
-        → TracesAsAsked words task.trace) }
+    ensures beside { IfOk result (λ task. (words : List (List ℕ)) → AsksFor words command.now
+        → WritesBesideAsAsked words task.beside) }
     ensures order { IfOk result (λ task. (words : List (List ℕ)) → AsksFor words command.now
         → OrdersAsAsked words task.order) }
     ensures states { IfOk result (λ task. task.limits.states < 2 ^ 64) }
@@ -179,7 +180,7 @@ fn task_for<F: Files>(alloc: Global, command: &Command, files: &mut F) -> Result
         inputs,
         limits: limits_of(command),
         order: command.order,
-        trace: command.trace,
+        beside: command.beside,
     })
 }
 

@@ -2,7 +2,8 @@
 ghost use Rattle.std.specs.Prelude.{◌≡◌, ◌<◌, List, ℕ};
 ghost use Rattle.tp_io.specs.Devices.{Rose};
 ghost use Rattle.tp_call.specs.declared.status.Which.{Which};
-ghost use Rattle.tp_call.specs.Answer.{Answers, AsksOnly};
+ghost use Rattle.tp_call.specs.Files.{AsksOnly};
+ghost use Rattle.tp_call.specs.Answer.{Answers};
 ghost use Rattle.tp_call.specs.Headline.{FinishedSays, FinishedTextSays, OpenTextSays, ContradictorySays, UndeterminedSays, StateLimitSays, LimitSays, InputMissingSays, ProgramRuns, WordsRefusedExactly, TooLongExactly, SourceRefusedExactly, InputsRefusedExactly, PrintedSays, SourcePrints};
 ghost use Rattle.tp_call.specs.EveryOrder.{ComesToEachEnd};
 ghost use Rattle.tp_call.specs.Trace.{TraceSays};

@@ -29,35 +29,36 @@ use tp_run::{Limits, Run};
 use tp_show::{LineParts, Picture, Turn, picture_text};
 use tp_step::{Order, Shows, Steps};
 use tp_value::{Facts, NoMemory, Text};
+use tp_words::Beside;
 
-// The lines of a settled state, and its trace lines where a trace is asked for.
+// The lines of a settled state, and what is asked for beside them.
 fn append_state(
     alloc: Global,
     run: &Run,
     picture: &Picture,
-    trace: bool,
+    beside: Beside,
     text: &mut Text,
 ) -> Result<(), NoMemory>
     requires parts { plain_parts picture.now.parts ≡ line_parts picture.now.facts }
     requires carried { CarriesDue run.now }
     ensures text { OnOk result (text.new ≡ text.old
-        ++ written_state trace (program_of run.now) picture.now
+        ++ written_state beside (program_of run.now) picture.now
         (next_moment (standing_place run.now))) }
     ensures range { OnOk result (IsPictureInRange picture.now) }
 {
     let program = run.program();
     picture_text(picture, &program.globals, text)?;
-    if trace {
-        trace_text(
+    match beside {
+        Beside::Nothing => Ok(()),
+        Beside::TraceLines => trace_text(
             alloc,
             picture,
             run.scene(),
             run.store(),
             &program.defs,
             text,
-        )?;
+        ),
     }
-    Ok(())
 }
 
 // Writes a settled state, by one write.
@@ -65,13 +66,13 @@ fn write_state<K: Sink>(
     alloc: Global,
     run: &Run,
     picture: &Picture,
-    trace: bool,
+    beside: Beside,
     out: &mut K,
 ) -> Result<(), WriteRefusal>
     requires parts { plain_parts picture.now.parts ≡ line_parts picture.now.facts }
     requires carried { CarriesDue run.now }
     ensures written { Writes (K.written out.old) (K.written out.new)
-        (written_state trace (program_of run.now) picture.now (next_moment (standing_place run.now)))
+        (written_state beside (program_of run.now) picture.now (next_moment (standing_place run.now)))
         result }
     ensures range { OnOk result (IsPictureInRange picture.now) }
     ensures later { K.faults out.old ≤ K.faults out.new }
@@ -79,7 +80,7 @@ fn write_state<K: Sink>(
         → Rose K.greatest (K.faults out.old) (K.faults out.new) }
 {
     let mut text = Text::new(alloc);
-    append_state(alloc, run, picture, trace, &mut text)?;
+    append_state(alloc, run, picture, beside, &mut text)?;
     out.write(alloc, text.as_slice())
 }
 
@@ -116,14 +117,14 @@ fn write_settled<K: Sink>(
     run: &Run,
     turn: &Turn,
     picture: &Picture,
-    trace: bool,
+    beside: Beside,
     out: &mut K,
 ) -> Result<(), WriteRefusal>
     requires parts { is_settled_by turn.now ≡ true
         → plain_parts picture.now.parts ≡ line_parts picture.now.facts }
     requires carried { is_settled_by turn.now ≡ true → CarriesDue run.now }
     ensures written { Writes (K.written out.old) (K.written out.new)
-        (printed_lines trace (program_of run.now) turn.now picture.now
+        (printed_lines beside (program_of run.now) turn.now picture.now
         (next_moment (standing_place run.now))) result }
     ensures range { OnOk result (is_settled_by turn.now ≡ true → IsPictureInRange picture.now) }
     ensures only { IsErr result → is_settled_by turn.now ≡ true }
@@ -132,7 +133,7 @@ fn write_settled<K: Sink>(
         → Rose K.greatest (K.faults out.old) (K.faults out.new) }
 {
     if is_settled(turn) {
-        write_state(alloc, run, picture, trace, out)
+        write_state(alloc, run, picture, beside, out)
     } else {
         Ok(())
     }
@@ -171,7 +172,7 @@ fn make_state<K: Sink, L: Ledger>(
     alloc: Global,
     run: &mut Run,
     picture: &mut Picture,
-    trace: bool,
+    beside: Beside,
     out: &mut K,
     steps: &mut Steps<L>,
 ) -> Result<Option<Turn>, WriteRefusal>
@@ -179,7 +180,7 @@ fn make_state<K: Sink, L: Ledger>(
     requires open { StandsOpen (standing_of run.old) }
     ensures run { (plan : Plan) → IsRunOf plan run.old → IsRunOf plan run.new }
     ensures made { (plan : Plan) → IsRunOf plan run.old
-        → TurnMade plan trace (standing_place run.old) (standing_place run.new)
+        → TurnMade plan beside (standing_place run.old) (standing_place run.new)
         (K.written out.old) (K.written out.new) result }
     ensures order { order_of run.new ≡ order_of run.old }
     ensures in_order { IfOk result (λ last. (plan : Plan) → IsRunOf plan run.old
@@ -189,18 +190,18 @@ fn make_state<K: Sink, L: Ledger>(
         → Rose K.greatest (K.faults out.old) (K.faults out.new) }
 {
     let turn = run.state(picture, steps)?;
-    write_settled(alloc, run, &turn, picture, trace, out)?;
+    write_settled(alloc, run, &turn, picture, beside, out)?;
     Ok(last_answer(turn))
 }
 
-/// What is run: a program with its inputs, how far, in which order, and whether each state's trace lines are written.
+/// What is run: a program with its inputs, how far, in which order, and what is written beside each state.
 #[derive(Drop)]
 pub struct Task {
     pub program: Program,
     pub inputs: Inputs,
     pub limits: Limits,
     pub order: Order,
-    pub trace: bool,
+    pub beside: Beside,
 }
 
 // A run of the task, before its first state.
@@ -218,7 +219,7 @@ fn start(alloc: Global, task: Task) -> Result<Run, NoMemory>
         inputs,
         limits,
         order,
-        trace: _,
+        beside: _,
     } = task;
     let run = Run::start(alloc, program, inputs, limits, order)?;
     Ok(run)
@@ -239,14 +240,14 @@ pub fn run_task<K: Sink, L: Ledger>(
     steps: &mut Steps<L>,
 ) -> Result<Ended, WriteRefusal>
     requires { ProgramFits (program_tree task.program) }
-    ensures made { ProgramMade (plan_of task) task.trace (K.written out.old) (K.written out.new)
+    ensures made { ProgramMade (plan_of task) task.beside (K.written out.old) (K.written out.new)
         result }
     ensures in_order { IfOk result (λ ended. NamesInOrder (plan_of task) task.order ended.turn) }
     ensures later { K.faults out.old ≤ K.faults out.new }
     ensures cause { IsErrOf result WriteRefusal.Failed
         → Rose K.greatest (K.faults out.old) (K.faults out.new) }
 {
-    let trace = task.trace;
+    let beside = task.beside;
     let mut run = start(alloc, task)?;
     let mut picture = Picture {
         state: 0,
@@ -262,7 +263,7 @@ pub fn run_task<K: Sink, L: Ledger>(
         reductions: 0,
     };
     loop {
-        if let Some(turn) = make_state(alloc, &mut run, &mut picture, trace, out, steps)? {
+        if let Some(turn) = make_state(alloc, &mut run, &mut picture, beside, out, steps)? {
             return Ok(Ended { run, turn });
         }
     }

@@ -14,5 +14,5 @@ mod places;
 
 pub use calls::{eval, place};
 pub use evaluate::is_place;
-pub use laws::{outcomes_mean, places_mean, waits_are_undecided};
+pub use laws::{outcomes_mean, waits_are_undecided};
 pub use outcome::{Outcome, PlaceOutcome};

@@ -8,14 +8,12 @@ pub fn names_are_tokens()
     ensures { NamesAreTokens }
 {}
 
-/// Whatever tokens the canonical spelling of a source has, they are parsed as the source, up to places.
-pub fn spellings_are_read_back()
-    ensures whole { SourcesAreWhole }
-    ensures read_back { SpellingsAreReadBack }
-{}
-
 /// A source that is printed is read back from its text, up to places, where that is within the limits.
 pub fn printed_is_read_back()
+    // Whatever tokens the canonical spelling of a source has, they are parsed as the source, up to places.
+    ensures whole { SourcesAreWhole }
+    ensures spellings { SpellingsAreReadBack }
+    // And the text has such tokens.
     ensures texts { SourcesAreSpellable }
     ensures tokens { SpellingsHaveTheirTokens }
     ensures read_back { PrintedIsReadBack }

@@ -4,7 +4,7 @@ use std::process::Abort;
 use std::test::Fail;
 use tp_step::Order;
 use tp_value::Text;
-use tp_words::{Command, Mode, WordsRefusal, read_words};
+use tp_words::{Beside, Command, Mode, WordsRefusal, read_words};
 
 fn command_of(rt: &impl AllocGlobal, line: &str) -> Result<Result<Command, WordsRefusal>, Fail> {
     let mut words = Vec::new(rt.alloc());
@@ -19,42 +19,60 @@ fn expect(
     line: &str,
     mode: Mode,
     order: Order,
-    trace: bool,
+    beside: Beside,
 ) -> Result<(), Fail> {
     let command = command_of(rt, line)?.ok().ok_or("words that are refused")?;
     holds(rt, command.mode == mode, line);
     holds(rt, command.order == order, line);
-    holds(rt, command.trace == trace, line);
+    holds(rt, command.beside == beside, line);
     Ok(())
 }
 
 #[test]
 fn modes_orders_and_the_trace_are_read(rt: HostRuntime) -> Result<(), Fail> {
     let greatest = Order::Seed(18_446_744_073_709_551_615);
-    expect(&rt, "run a.t", Mode::Run, Order::First, false)?;
-    expect(&rt, "--trace print a.t", Mode::Print, Order::First, true)?;
-    expect(&rt, "run --order last a.t", Mode::Run, Order::Last, false)?;
+    expect(&rt, "run a.t", Mode::Run, Order::First, Beside::Nothing)?;
+    expect(
+        &rt,
+        "--trace print a.t",
+        Mode::Print,
+        Order::First,
+        Beside::TraceLines,
+    )?;
+    expect(
+        &rt,
+        "run --order last a.t",
+        Mode::Run,
+        Order::Last,
+        Beside::Nothing,
+    )?;
     expect(
         &rt,
         "run a.t --order 0 --trace",
         Mode::Run,
         Order::Seed(0),
-        true,
+        Beside::TraceLines,
     )?;
-    expect(&rt, "run a.t --order 007", Mode::Run, Order::Seed(7), false)?;
+    expect(
+        &rt,
+        "run a.t --order 007",
+        Mode::Run,
+        Order::Seed(7),
+        Beside::Nothing,
+    )?;
     expect(
         &rt,
         "run a.t --order 18446744073709551615",
         Mode::Run,
         greatest,
-        false,
+        Beside::Nothing,
     )?;
     expect(
         &rt,
         "run a.t --order 00000000000000000008",
         Mode::Run,
         Order::Seed(8),
-        false,
+        Beside::Nothing,
     )
 }
 

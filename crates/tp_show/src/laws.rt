@@ -17,10 +17,7 @@ pub fn texts_tell()
 /// How the lines of some states read: a value known as a whole, a list known in part, and an item alone; what is shown; and how a
 /// local is told.
 pub fn line_examples()
-    ensures { LineExamples }
-{}
-
-/// How runs of each kind of end are told.
-pub fn end_line_examples()
-    ensures { EndLineExamples }
+    ensures states { LineExamples }
+    // How runs of each kind of end are told.
+    ensures ends { EndLineExamples }
 {}

@@ -16,7 +16,7 @@ mod trace_path;
 mod turn;
 
 pub use end_line::end_text;
-pub use laws::{end_line_examples, line_examples, text_shows_states, texts_tell};
+pub use laws::{line_examples, text_shows_states, texts_tell};
 pub use line::picture_text;
 pub use parts::{LinePart, LineParts, known_parts};
 pub use tp_scene::{Cell, Clash};

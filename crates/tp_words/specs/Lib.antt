@@ -3,6 +3,7 @@ pub mod Numeral
 pub mod Limit
 pub mod Mode
 pub mod Order
+pub mod Beside
 pub mod Words
 pub mod Command
 pub mod Laws

@@ -7,14 +7,16 @@ use Rattle.clap.specs.Words.{Row, Kinds, first_of, fault_of, matches_of}
 use Rattle.tp_step.specs.declared.answer.Order.{Order}
 use Rattle.tp_step.specs.declared.answer.Order.TheVariants.{First}
 use Rattle.tp_words.specs.App.{the_app}
+use Rattle.tp_words.specs.Beside.{beside_given}
+use Rattle.tp_words.specs.declared.beside.Beside.{Beside}
+use Rattle.tp_words.specs.declared.beside.Beside.TheVariants.{Nothing}
 use Rattle.tp_words.specs.declared.mode.Mode.{Mode}
-use Rattle.tp_words.specs.declared.mode.Mode.TheVariants.{Run, Print}
 use Rattle.tp_words.specs.Limit.{limit_set, usual_states, usual_reductions}
 use Rattle.tp_words.specs.Mode.{mode_given}
 use Rattle.tp_words.specs.Order.{order_set}
 
 -- what is done, and with which file; and of a run the file of the inputs, the limits on states and on the reductions in a state, the order in which it
--- takes its items, and whether it writes a trace
+-- takes its items, and what it writes beside each state
 pub record Wanted : Type 0 where
   pub mode : Mode
   pub file : List ℕ
@@ -22,7 +24,7 @@ pub record Wanted : Type 0 where
   pub states : ℕ
   pub reductions : ℕ
   pub order : Order
-  pub trace : Bool
+  pub beside : Beside
 
 -- the value is there and is this text
 abbrev pub is_text : List ℕ → Option (List ℕ) → Bool
@@ -49,7 +51,7 @@ wanted_in rows = do
     states = states;
     reductions = reductions;
     order = order;
-    trace = is_text (codes "true") (first_of (codes "trace") rows);
+    beside = beside_given (is_text (codes "true") (first_of (codes "trace") rows));
   })
 
 -- the same, where the command line has no fault
@@ -65,19 +67,6 @@ wanted_of_texts texts = wanted_without (fault_of the_app texts) (matches_of the_
 abbrev pub wanted_of : List (List ℕ) → Option Wanted
 wanted_of words = if list_all is_utf8 words then wanted_of_texts words else None
 
--- the files that a call asks for, in order: the source, and in a run then the inputs
-abbrev pub inputs_in : Mode → Option (List ℕ) → List (List ℕ)
-inputs_in Run None = []
-inputs_in Run (Some inputs) = inputs ∷ []
-inputs_in Print inputs = []
-
-abbrev pub names_in : Option Wanted → List (List ℕ)
-names_in None = []
-names_in (Some wanted) = wanted.file ∷ inputs_in wanted.mode wanted.inputs
-
-abbrev pub files_of : List (List ℕ) → List (List ℕ)
-files_of words = names_in (wanted_of words)
-
 -- this mode with this file and nothing else said
 abbrev pub usual_wanted : Mode → List ℕ → Wanted
-usual_wanted mode file = record { mode = mode; file = file; inputs = None; states = usual_states; reductions = usual_reductions; order = First; trace = false }
+usual_wanted mode file = record { mode = mode; file = file; inputs = None; states = usual_states; reductions = usual_reductions; order = First; beside = Nothing }

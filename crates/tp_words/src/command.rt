@@ -2,6 +2,7 @@
 ghost use Rattle.std.specs.Prelude.{◌≡◌};
 ghost use Rattle.tp_words.specs.declared.command.WordsRefusal.TheVariants as refusal;
 
+use crate::beside::Beside;
 use crate::mode::Mode;
 use std::alloc::{AllocError, AllocFailed};
 use tp_step::Order;
@@ -21,8 +22,8 @@ pub struct Command {
     pub reductions: u64,
     /// In which order it takes its items.
     pub order: Order,
-    /// Whether it writes a trace.
-    pub trace: bool,
+    /// What it writes beside each state.
+    pub beside: Beside,
 }
 
 /// Why there is no command.

@@ -2,6 +2,7 @@
 #![tactic(auto)]
 
 mod app;
+mod beside;
 mod command;
 mod laws;
 mod limit;
@@ -10,6 +11,7 @@ mod numeral;
 mod order;
 mod read;
 
+pub use beside::Beside;
 pub use command::{Command, WordsRefusal};
 pub use laws::two_words_are_enough;
 pub use limit::{GREATEST_LIMIT, USUAL_REDUCTIONS, USUAL_STATES};

@@ -11,6 +11,7 @@ ghost use Rattle.tp_words.specs.Words.{is_text, wanted_in, wanted_of_texts, want
 ghost use Rattle.tp_words.specs.declared.command.WordsRefusal.TheVariants as refusal;
 
 use crate::app::the_app;
+use crate::beside::beside_given;
 use crate::command::{Command, WordsRefusal};
 use crate::limit::{USUAL_REDUCTIONS, USUAL_STATES, limit_set};
 use crate::mode::mode_given;
@@ -89,7 +90,7 @@ fn command_in(alloc: Global, matches: &ArgMatches<'_>) -> Result<Command, WordsR
         states,
         reductions,
         order,
-        trace: is_text("true", given(matches, "trace")),
+        beside: beside_given(is_text("true", given(matches, "trace"))),
     })
 }
 

@@ -5,19 +5,19 @@ use Rattle.tp_call.proofs.call.run_whole.Goals as goal
 
 pub returns-in-Err-Failed-clause-answer : goal.returns-in-Err-Failed-clause-answer
 returns-in-Err-Failed-clause-answer g c = λ words held task.
-    write_failed _ _ (plan_of c.args.task) task.fits task.names task.states task.asked_for _ (task.trace _ task.asked_for.accepted) _ _ (rw c.in-Err-Failed.field-0-is at c.in-Err-Failed.ensures.made)
+    write_failed _ _ (plan_of c.args.task) task.fits task.names task.states task.asked_for _ (task.beside _ task.asked_for.accepted) _ _ (rw c.in-Err-Failed.field-0-is at c.in-Err-Failed.ensures.made)
 
 pub returns-in-Err-NoMemory-clause-answer : goal.returns-in-Err-NoMemory-clause-answer
 returns-in-Err-NoMemory-clause-answer g c = λ words held task.
-    memory_wanted _ _ (plan_of c.args.task) task.fits task.names task.states task.asked_for _ (task.trace _ task.asked_for.accepted) _ _ (rw c.in-Err-NoMemory.field-0-is at c.in-Err-NoMemory.ensures.made)
+    memory_wanted _ _ (plan_of c.args.task) task.fits task.names task.states task.asked_for _ (task.beside _ task.asked_for.accepted) _ _ (rw c.in-Err-NoMemory.field-0-is at c.in-Err-NoMemory.ensures.made)
 
 pub finish-requires : goal.finish-requires
-finish-requires g c = (ended (plan_of c.args.task) c.args.task.trace _ _ c.in-Ok.ended c.in-Ok.ensures.made).2
+finish-requires g c = (ended (plan_of c.args.task) c.args.task.beside _ _ c.in-Ok.ended c.in-Ok.ensures.made).2
 
 pub returns-in-Ok-clause-answer : goal.returns-in-Ok-clause-answer
 returns-in-Ok-clause-answer g c = λ words held task.
     let end = c.in-Ok.ended in
-    closed _ _ (plan_of c.args.task) task.fits task.names task.states task.asked_for _ (task.trace _ task.asked_for.accepted) _ _ _ end _ (ended (plan_of c.args.task) c.args.task.trace _ _ end c.in-Ok.ensures.made) c.finish.ensures.written
+    closed _ _ (plan_of c.args.task) task.fits task.names task.states task.asked_for _ (task.beside _ task.asked_for.accepted) _ _ _ end _ (ended (plan_of c.args.task) c.args.task.beside _ _ end c.in-Ok.ensures.made) c.finish.ensures.written
 
 pub returns-in-Err-Failed-clause-in_order : goal.returns-in-Err-Failed-clause-in_order
 returns-in-Err-Failed-clause-in_order g c = no_end_in_order _ _ _ (λ end. end)

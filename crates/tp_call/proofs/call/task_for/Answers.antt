@@ -4,20 +4,21 @@ use Rattle.std.proofs.lemmas.Result.{err_from_is_err_and}
 use Rattle.tp_check.specs.Program.{program_tree}
 use Rattle.tp_words.specs.Command.{wanted_by}
 use Rattle.tp_words.specs.declared.mode.Mode.TheVariants.{Run}
+use Rattle.tp_call.specs.declared.status.Which.TheVariants.{Source}
 use Rattle.tp_call.specs.declared.status.Status.TheVariants.{ReadFault}
-use Rattle.tp_call.proofs.AskedLemmas.{source_asked, table_asked, same_error, trace_asked, order_asked}
+use Rattle.tp_call.proofs.AskedLemmas.{first_asked, table_asked, same_error, beside_asked, order_asked}
 use Rattle.tp_call.proofs.SourceLemmas.{no_source, no_table, inputs_held, lent_name}
 use Rattle.tp_call.proofs.call.task_for.Goals as goal
 
 pub returns-in_err-program-clause-refused : goal.returns-in_err-program-clause-refused
 returns-in_err-program-clause-refused g c =
     let p = err_from_is_err_and c.from_residual.result c.from_residual.ensures.1 in
-    rw (p.1, p.2) (λ words is. no_source _ _ (wanted_by c.args.command.now) is Run _ c.requires (rw c.as_str.ensures.value at c.in_err-program.ensures.refused))
+    rw (p.1, p.2) (λ words is. no_source _ _ (wanted_by c.args.command.now) is Run _ _ c.requires refl (rw c.as_str.ensures.value at c.in_err-program.ensures.refused))
 
 pub returns-in_err-program-clause-asked : goal.returns-in_err-program-clause-asked
 returns-in_err-program-clause-asked g c =
     let p = err_from_is_err_and c.from_residual.result c.from_residual.ensures.1 in
-    rw (p.1, p.2) (λ words is. source_asked _ (wanted_by c.args.command.now) is _ _ _ _ (rw c.as_str.ensures.value at c.in_err-program.ensures.asked)
+    rw (p.1, p.2) (λ words is. first_asked _ (wanted_by c.args.command.now) is Run Source _ _ c.requires refl _ _ _ _ (rw c.as_str.ensures.value at c.in_err-program.ensures.asked)
     (λ which e. same_error _ _ _ (ReadFault which) refl refl e) (λ which e. (c.in_err-program.ensures.read_fault which e).0))
 
 pub returns-in_err-inputs-clause-refused : goal.returns-in_err-inputs-clause-refused
@@ -46,8 +47,8 @@ returns-clause-asked_for g c = λ words is.
       reductions = c.limits_of.ensures.reductions;
     }
 
-pub returns-clause-trace : goal.returns-clause-trace
-returns-clause-trace g c = λ words is wanted asks. trace_asked words (wanted_by c.args.command.now) wanted is asks
+pub returns-clause-beside : goal.returns-clause-beside
+returns-clause-beside g c = λ words is wanted asks. beside_asked words (wanted_by c.args.command.now) wanted is asks
 
 pub returns-clause-order : goal.returns-clause-order
 returns-clause-order g c = λ words is wanted asks. order_asked words (wanted_by c.args.command.now) wanted is asks

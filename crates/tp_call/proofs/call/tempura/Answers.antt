@@ -1,4 +1,4 @@
-use Rattle.tp_call.proofs.ClauseLemmas.{finished, contradictory, undetermined, state_limit, reduction_limit, number_limit, list_limit, call_limit, nest_limit, input_missing, program_runs, finished_text, open_text, printed, source_prints, words_refused_only, words_refused, too_long_only, too_long, inputs_too_long, source_refused_only, source_refused, inputs_refused_only, inputs_refused}
+use Rattle.tp_call.proofs.ClauseLemmas.{finished, contradictory, undetermined, state_limit, reduction_limit, number_limit, list_limit, call_limit, nest_limit, input_missing, program_runs, finished_text, open_text, printed, source_prints, words_refused_only, words_refused, too_long_only, too_long, source_refused_only, source_refused, inputs_refused_only, inputs_refused}
 use Rattle.tp_call.proofs.EveryOrderLemmas.{comes_to_each_end}
 use Rattle.tp_call.proofs.TraceLemmas.{trace_says}
 use Rattle.tp_call.proofs.TracedTextLemmas.{finished_traced, open_traced}
@@ -69,7 +69,7 @@ pub returns-clause-words_refused : goal.returns-clause-words_refused
 returns-clause-words_refused g c = record { only = words_refused_only _ _ _ _ _ c.call.ensures.answer; there = words_refused _ _ _ _ _ c.call.ensures.answer }
 
 pub returns-clause-too_long : goal.returns-clause-too_long
-returns-clause-too_long g c = record { only = too_long_only _ _ _ _ _ c.call.ensures.answer; for_source = too_long _ _ _ _ _ c.call.ensures.answer; for_inputs = inputs_too_long _ _ _ _ _ c.call.ensures.answer }
+returns-clause-too_long g c = record { only = too_long_only _ _ _ _ _ c.call.ensures.answer; there = too_long _ _ _ _ _ c.call.ensures.answer }
 
 pub returns-clause-source_refused : goal.returns-clause-source_refused
 returns-clause-source_refused g c = record { only = source_refused_only _ _ _ _ _ c.call.ensures.answer; there = source_refused _ _ _ _ _ c.call.ensures.answer }

@@ -12,7 +12,7 @@ up_to a b c h k = omega arith
 
 pub loop-picture-init : goal.loop-picture-init
 loop-picture-init g c = record {
-  written = HasWritten-none (plan_of c.args.task) c.args.task.trace (standing_place c.in_ok-run.run') (g.K.Sink.written c.args.out.now) c.in_ok-run.ensures.stands c.in_ok-run.ensures.state;
+  written = HasWritten-none (plan_of c.args.task) c.args.task.beside (standing_place c.in_ok-run.run') (g.K.Sink.written c.args.out.now) c.in_ok-run.ensures.stands c.in_ok-run.ensures.state;
   run = c.in_ok-run.ensures.run;
   order = c.in_ok-run.ensures.order;
   later = omega arith;
@@ -46,7 +46,7 @@ returns-in-Some-clause-in_order g c =
     let plan = plan_of c.args.task in
     let made = (rw c.in-Some.is at c.in_ok-turn.ensures.made) plan c.loop-picture.invariant.run in
     let last = (rw c.in-Some.is at c.in_ok-turn.ensures.in_order) plan c.loop-picture.invariant.run in
-    run_names plan (order_of c.loop-picture.run) c.args.task.order c.args.task.trace (standing_place c.loop-picture.run) (standing_place c.make_state.new.run) _ _ _ c.in-Some.turn
+    run_names plan (order_of c.loop-picture.run) c.args.task.order c.args.task.beside (standing_place c.loop-picture.run) (standing_place c.make_state.new.run) _ _ _ c.in-Some.turn
     c.loop-picture.invariant.order c.loop-picture.invariant.written made last
 
 pub loop-picture-preserved : goal.loop-picture-preserved

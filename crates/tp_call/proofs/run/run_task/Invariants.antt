@@ -6,7 +6,7 @@ use Rattle.tp_call.proofs.run.run_task.Given as goal
 
 abbrev pub invariant-loop-picture : goal.invariant-loop-picture
 invariant-loop-picture g l = record {
-  written : HasWritten (plan_of l.fn.task) l.fn.task.trace (standing_place l.run) (g.K.Sink.written l.initial.out) (g.K.Sink.written l.out);
+  written : HasWritten (plan_of l.fn.task) l.fn.task.beside (standing_place l.run) (g.K.Sink.written l.initial.out) (g.K.Sink.written l.out);
   run : IsRunOf (plan_of l.fn.task) l.run;
   order : order_of l.run ≡ l.fn.task.order;
   later : g.K.Sink.faults l.initial.out ≤ g.K.Sink.faults l.out;

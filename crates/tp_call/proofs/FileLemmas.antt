@@ -1,0 +1,79 @@
+-- Which file is found among those that a mode reads.
+use Rattle.std.proofs.Common.{◌≡◌, inl, inr, ℕ, List, ◌∷◌, Option, None, Some, refl, sym, ap, ◌∙◌, subst}
+use Rattle.tp_io.specs.Devices.{Held, bytes_of}
+use Rattle.tp_words.specs.declared.mode.Mode.{Mode}
+use Rattle.tp_words.specs.declared.mode.Mode.TheVariants.{Run, Print}
+use Rattle.tp_words.specs.Words.{Wanted, wanted_of}
+use Rattle.tp_call.specs.declared.status.Which.{Which}
+use Rattle.tp_call.specs.declared.status.Which.TheVariants.{Source, Inputs}
+use Rattle.tp_call.specs.Files.{NamedFile, file_named, files_named, files_read, IsFoundIn}
+use Rattle.tp_call.specs.Answer.{WhereTold, AsTold, Serves, ReadsFile}
+
+-- what is told is told of each value that is told
+pub where_told : {X : Type 0} (told : Option X) (P : X → Type 0) → AsTold told P → WhereTold told P
+where_told told P (x, is, p) y same = let equal : x ≡ y = (let both : Some x ≡ Some y = sym is ∙ same in cc) in subst P equal p
+
+-- the list of a mode, by another name of the mode
+pub reads_by : (wanted : Wanted) (mode : Mode) (files : List NamedFile) → wanted.mode ≡ mode → files_read mode wanted ≡ files → files_read wanted.mode wanted ≡ files
+reads_by wanted mode files is reads = ap (λ (m : Mode). files_read m wanted) is ∙ reads
+
+module _ (words : List (List ℕ)) (Tells : (Held → Type 0) → Type 0) (P : Mode → List ℕ → Type 0) (wanted : Wanted) (accepted : wanted_of words ≡ Some wanted) where
+  abbrev TellsServes : NamedFile → Type 0
+  TellsServes file = Tells (λ files. Serves wanted.mode file.which (bytes_of files file.name))
+
+  abbrev TellsOf : List ℕ → Type 0
+  TellsOf name = Tells (λ files. P wanted.mode (bytes_of files name))
+
+  -- the first file that the mode reads
+  pub reads_first : (which : Which) (name : List ℕ) (rest : List NamedFile) → files_read wanted.mode wanted ≡ file_named which name ∷ rest → TellsOf name → ReadsFile words Tells which P
+  reads_first which name rest reads has = record { wanted = wanted; accepted = accepted; found = subst (IsFoundIn which TellsServes TellsOf) (sym reads) (inl (refl, has)) }
+
+  -- the second one, where the first serves it
+  pub reads_second : (first which : Which) (before name : List ℕ) (rest : List NamedFile) → files_read wanted.mode wanted ≡ file_named first before ∷ file_named which name ∷ rest → TellsServes (file_named first before) → TellsOf name
+      → ReadsFile words Tells which P
+  reads_second first which before name rest reads serves has = record { wanted = wanted; accepted = accepted; found = subst (IsFoundIn which TellsServes TellsOf) (sym reads) (inr (serves, inl (refl, has))) }
+
+-- no source is among the inputs
+no_source_there : (inputs : Option (List ℕ)) (Q : NamedFile → Type 0) (P : List ℕ → Type 0) → IsFoundIn Source Q P (files_named Inputs inputs) → ⊥
+no_source_there None Q P found = found
+no_source_there (Some name) Q P (inl (is, p)) = absurd (cc (is))
+no_source_there (Some name) Q P (inr (q, found)) = found
+
+-- the source that a mode reads is the file of the words
+source_found : (mode : Mode) (wanted : Wanted) (Q : NamedFile → Type 0) (P : List ℕ → Type 0) → IsFoundIn Source Q P (files_read mode wanted) → P wanted.file
+source_found Run wanted Q P (inl (is, p)) = p
+source_found Run wanted Q P (inr (q, found)) = absurd (no_source_there wanted.inputs Q P found)
+source_found Print wanted Q P (inl (is, p)) = p
+source_found Print wanted Q P (inr (q, found)) = absurd found
+
+the_inputs : (inputs : Option (List ℕ)) (Q : NamedFile → Type 0) (P : List ℕ → Type 0) → IsFoundIn Inputs Q P (files_named Inputs inputs) → (name : List ℕ) × (inputs ≡ Some name) × P name
+the_inputs None Q P found = absurd found
+the_inputs (Some name) Q P (inl (is, p)) = (name, refl, p)
+the_inputs (Some name) Q P (inr (q, found)) = absurd found
+
+-- a mode that reads inputs runs the source, and reads that before
+inputs_found : (mode : Mode) (wanted : Wanted) (Q : NamedFile → Type 0) (P : List ℕ → Type 0) → IsFoundIn Inputs Q P (files_read mode wanted) → (mode ≡ Run) × Q (file_named Source wanted.file) × ((name : List ℕ) × (wanted.inputs ≡ Some name) × P name)
+inputs_found Run wanted Q P (inl (is, p)) = absurd (cc (is))
+inputs_found Run wanted Q P (inr (q, found)) = (refl, q, the_inputs wanted.inputs Q P found)
+inputs_found Print wanted Q P (inl (is, p)) = absurd (cc (is))
+inputs_found Print wanted Q P (inr (q, found)) = absurd found
+
+module _ (words : List (List ℕ)) (Tells : (Held → Type 0) → Type 0) (P : Mode → List ℕ → Type 0) where
+  -- what is told of a source that is read
+  pub source_read : (r : ReadsFile words Tells Source P) → Tells (λ files. P r.wanted.mode (bytes_of files r.wanted.file))
+  source_read r = source_found r.wanted.mode r.wanted _ _ r.found
+
+  -- and of inputs, whose source is a program
+  pub record ReadsInputs : Type 0 where
+    pub wanted : Wanted
+    pub accepted : wanted_of words ≡ Some wanted
+    pub mode : wanted.mode ≡ Run
+    pub name : List ℕ
+    pub named : wanted.inputs ≡ Some name
+    pub source : Tells (λ files. Serves wanted.mode Source (bytes_of files wanted.file))
+    pub inputs : Tells (λ files. P wanted.mode (bytes_of files name))
+
+  pub inputs_read : ReadsFile words Tells Inputs P → ReadsInputs
+  inputs_read r =
+      let there = inputs_found r.wanted.mode r.wanted _ _ r.found in
+      record { wanted = r.wanted; accepted = r.accepted; mode = there.0; name = there.2.0; named = there.2.1; source = there.1; inputs = there.2.2 }
