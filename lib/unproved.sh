@@ -8,8 +8,13 @@ TABLE_LIMIT=16777216
 
 say_unproved() {
     if ! command -v rt >/dev/null 2>&1; then
-        echo "tempura: no proved program is here, and the command rt of the Rattle toolchain, which proves and builds" \
-            "it, is not on the PATH" >&2
+        if find_proved; then
+            echo "tempura: a source is newer than the proved program, which --last runs; the command rt of the Rattle" \
+                "toolchain, which builds a newer one, is not on the PATH" >&2
+        else
+            echo "tempura: no proved program is here, and the command rt of the Rattle toolchain, which proves and" \
+                "builds it, is not on the PATH" >&2
+        fi
         exit 20
     fi
     if find_proved; then
