@@ -71,6 +71,25 @@ why_no_answer() {
     fi
 }
 
+# Tells what a try has answered, for FILE as `given`, and ends with its status.
+tell_answer() {
+    line=$(tail -n 1 "$work/said")
+    case $line in
+    "run=ended status="*" proved=no")
+        cat "$work/told"
+        status=${line#run=ended status=}
+        status=${status%% *}
+        if [ "$status" -eq 10 ] && [ -t 2 ] && [ -n "$given" ]; then
+            point_where "$(tail -n 1 "$work/told")" "$given"
+        fi
+        exit "$status"
+        ;;
+    esac
+    why_no_answer "$work/said" | sed 's/^/tempura: /' >&2
+    echo "tempura: for an answer without these bounds, bin/tempura --build proves and builds the program" >&2
+    exit 20
+}
+
 # Runs the words by a try, with FILE as `source` and TABLE as `table`.
 run_unproved() {
     # fewer words than a mode and a FILE are refused in any case, and more than these too
@@ -104,21 +123,37 @@ run_unproved() {
     give "$source" "$SOURCE_LIMIT" source
     [ -z "$given" ] || set -- --data "source=$given" "$@"
     (cd "$here/crates/tempura" && exec rt try "$@") >"$work/told" 2>"$work/said" </dev/null
-    line=$(tail -n 1 "$work/said")
+    tell_answer
+}
+
+# Writes a FILE and its words into the folder of the cases, under a number.
+write_case() {
+    give "$2" "$SOURCE_LIMIT" "cases/$1"
+    { echo run; cat "$work/options"; echo --; if [ -n "$given" ]; then echo '{}'; else echo source; fi; } \
+        >"$work/cases/$1.args"
+    if [ -z "$given" ]; then
+        : >"$work/cases/$1"
+    elif [ "$given" != "$work/cases/$1" ]; then
+        head -c "$((SOURCE_LIMIT + 1))" <"$given" >"$work/cases/$1"
+    fi
+}
+
+# Tells what a try has answered for the FILE under a number, and sets `status`.
+tell_case() {
+    line=$(grep "^case=$1 run=" "$work/said")
     case $line in
-    "run=ended status="*" proved=no")
-        cat "$work/told"
-        status=${line#run=ended status=}
+    *" run=ended status="*)
+        awk -v name="$1" '/^== [0-9]+$/ { inside = $2 == name; next } inside' "$work/told"
+        status=${line#*status=}
         status=${status%% *}
-        if [ "$status" -eq 10 ] && [ -t 2 ] && [ -n "$given" ]; then
-            point_where "$(tail -n 1 "$work/told")" "$given"
-        fi
-        exit "$status"
+        ;;
+    *)
+        sed -n "/^case=$(($1 - 1)) /,/^case=$1 /p" "$work/said" >"$work/why"
+        [ -s "$work/why" ] || cat "$work/said" >"$work/why"
+        why_no_answer "$work/why" | sed 's/^/tempura: /' >&2
+        status=20
         ;;
     esac
-    why_no_answer "$work/said" | sed 's/^/tempura: /' >&2
-    echo "tempura: for an answer without these bounds, bin/tempura --build proves and builds the program" >&2
-    exit 20
 }
 
 # Runs each FILE by one try of all. The words are the options, `--`, and the files.
@@ -130,25 +165,18 @@ run_cases_unproved() {
     : >"$work/options"
     while [ "$1" != -- ]; do
         case $1 in
-        --inputs) printf '%s\n' "--inputs=table" >>"$work/options"; shift ;;
-        --inputs=) printf '%s\n' "$1" >>"$work/options" ;;
-        --inputs=*) printf '%s\n' "--inputs=table" >>"$work/options" ;;
-        *) printf '%s\n' "$1" >>"$work/options" ;;
-        esac
+        --inputs=) echo "$1" ;;
+        --inputs) echo "--inputs=table"; shift ;;
+        --inputs=*) echo "--inputs=table" ;;
+        *) printf '%s\n' "$1" ;;
+        esac >>"$work/options"
         shift
     done
     shift
     count=10000 # of as many digits for each, so that they come in this order
     for source do
         count=$((count + 1))
-        give "$source" "$SOURCE_LIMIT" "cases/$count"
-        { echo run; cat "$work/options"; echo --; if [ -n "$given" ]; then echo '{}'; else echo source; fi; } \
-            >"$work/cases/$count.args"
-        if [ -z "$given" ]; then
-            : >"$work/cases/$count"
-        elif [ "$given" != "$work/cases/$count" ]; then
-            head -c "$((SOURCE_LIMIT + 1))" <"$given" >"$work/cases/$count"
-        fi
+        write_case "$count" "$source"
     done
     if [ -n "$table" ]; then
         give "$table" "$TABLE_LIMIT" table
@@ -160,20 +188,8 @@ run_cases_unproved() {
     count=10000
     for source do
         count=$((count + 1))
-        echo "== $source"
-        line=$(grep "^case=$count run=" "$work/said")
-        case $line in
-        *" run=ended status="*)
-            awk -v name="$count" '/^== [0-9]+$/ { inside = $2 == name; next } inside' "$work/told"
-            status=${line#*status=}
-            status=${status%% *}
-            ;;
-        *)
-            sed -n "/^case=$((count - 1)) /,/^case=$count /p" "$work/said" >"$work/why"
-            why_no_answer "$work/why" | sed 's/^/tempura: /' >&2
-            status=20
-            ;;
-        esac
+        printf '== %s\n' "$source"
+        tell_case "$count"
         echo "status $status"
         [ "$ended" -ne 0 ] || ended=$status
     done
