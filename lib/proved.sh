@@ -30,11 +30,26 @@ recorded() {
     sed -n "/^[0-9a-f]\{64\}  /q; s/^$1: //p" "$record"
 }
 
+# the crates that the program is made of, by crates.txt, each behind those that it stands on, and itself the last
+crates_of_program() {
+    awk '
+    function visit(name,    n, i, below) {
+        if (name in seen || !(name in uses)) return
+        seen[name] = 1
+        n = split(uses[name], below, " ")
+        for (i = 1; i <= n; i++) visit(below[i])
+        print name
+    }
+    $1 ~ /:$/ { name = $1; sub(/:$/, "", name); uses[name] = $0; sub(/^[^:]*:/, "", uses[name]) }
+    END { visit("tempura") }' "$1/crates.txt"
+}
+
 # the sources that the program is made of, with their sums, in a fixed order
 sums_of_sources() {
-    (cd "$1" && find crates.txt HANDLES crates -name out -prune -o -type f \
-        \( -name '*.rt' -o -name '*.antt' -o -name crates.txt -o -name HANDLES \) -print |
-        LC_ALL=C sort | tr '\n' '\0' | xargs -0 sha256sum --)
+    (cd "$1" && { echo crates.txt; echo HANDLES
+        crates_of_program . | while IFS= read -r crate; do
+            find "crates/$crate" -name out -prune -o -type f \( -name '*.rt' -o -name '*.antt' \) -print
+        done; } | LC_ALL=C sort | tr '\n' '\0' | xargs -0 sha256sum --)
 }
 
 # the sums of the sources that the record has
@@ -130,23 +145,13 @@ how_long() {
 # functions were checked where the log tells. The crates are built in the order of crates.txt's lists, each after
 # those that it stands on. The log names a crate when it begins with what an earlier check kept, and when it is done.
 progress() {
-    awk '
-    function visit(name,    n, i, below) {
-        if (name in place || !(name in uses)) return
-        place[name] = 0
-        n = split(uses[name], below, " ")
-        for (i = 1; i <= n; i++) visit(below[i])
-        place[name] = ++count; crate[count] = name
-    }
+    crates_of_program "$here" | awk '
     function at(name, done) {
         if (!(name in place) || place[name] < now || place[name] == now && !done) return
         now = place[name] + done; functions = ""
     }
-    NR == FNR {
-        if ($1 ~ /:$/) { name = $1; sub(/:$/, "", name); uses[name] = $0; sub(/^[^:]*:/, "", uses[name]) }
-        next
-    }
-    FNR == 1 { visit("tempura"); now = 1 }
+    NR == FNR { place[$1] = ++count; crate[count] = $1; next }
+    FNR == 1 { now = 1 }
     /^rt: [a-z_]+: (begins|another)/ { name = $2; sub(/:$/, "", name); at(name, 0) }
     /^rt: chose --jobs [0-9]+ for / { at($NF, 0) }
     /^crate [a-z_]+: / { name = $2; sub(/:$/, "", name); at(name, 1) }
@@ -154,7 +159,7 @@ progress() {
     END {
         if (now > count) now = count
         if (now) printf "proving %s, %d of %d%s", crate[now], now, count, functions
-    }' "$here/crates.txt" "$here/out/build.log" 2>/dev/null
+    }' - "$here/out/build.log" 2>/dev/null
 }
 
 # Says on a terminal how far the build is, in one line, as long as this script runs.
