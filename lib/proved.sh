@@ -162,11 +162,22 @@ progress() {
     }' - "$here/out/build.log" 2>/dev/null
 }
 
-# Says on a terminal how far the build is, in one line, as long as this script runs.
-watch() {
+# Says on a terminal, in one line, what a function prints, anew every two seconds, until `end_watch` or this script ends.
+watcher=
+begin_watch() {
+    [ -t 2 ] || return 0
     while sleep 2 && kill -0 "$$" 2>/dev/null; do
-        printf '\r\033[Ktempura: %s' "$(progress)" >&2
-    done
+        printf '\r\033[Ktempura: %s' "$("$1")" >&2
+    done &
+    watcher=$!
+}
+
+end_watch() {
+    [ -n "$watcher" ] || return 0
+    kill "$watcher" 2>/dev/null
+    wait "$watcher" 2>/dev/null
+    watcher=
+    printf '\r\033[K' >&2
 }
 
 fail_build() {
@@ -190,23 +201,14 @@ prove_and_build() {
     log=$here/out/build.log
     echo "tempura: proving and building the program, which takes $(how_long) (log: $log)" >&2
     started=$(mktemp "$here/out/started.XXXXXX") && sums=$(mktemp "$here/out/sums.XXXXXX") || exit 20
-    watcher=
-    trap 'rm -f "$started" "$sums"; [ -z "$watcher" ] || kill "$watcher" 2>/dev/null' EXIT
+    trap 'rm -f "$started" "$sums"; end_watch' EXIT
     trap 'exit 20' HUP INT PIPE TERM
     sums_of_sources "$here" >"$sums"
     before=$(date +%s)
-    if [ -t 2 ]; then
-        watch &
-        watcher=$!
-    fi
+    begin_watch progress
     (cd "$here/crates/tempura" && rt run) >"$log" 2>&1 </dev/null
     status=$?
-    if [ -n "$watcher" ]; then
-        kill "$watcher" 2>/dev/null
-        wait "$watcher" 2>/dev/null
-        watcher=
-        printf '\r\033[K' >&2
-    fi
+    end_watch
     if [ "$status" -ne 12 ] || [ ! -x "$here/crates/tempura/out/tempura" ]; then
         echo "tempura: the end of the log is:" >&2
         tail -n 5 "$log" | cut -c 1-300 >&2

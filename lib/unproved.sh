@@ -32,8 +32,20 @@ say_unproved() {
 # Makes the folder `work`, which goes when this script ends.
 make_work() {
     work=$(mktemp -d) || exit 20
-    trap 'rm -rf "$work"' EXIT
+    trap 'rm -rf "$work"; end_watch' EXIT
     trap 'exit 20' HUP INT PIPE TERM
+}
+
+waited() {
+    echo "compiling the sources and running them, $(($(date +%s) - began)) seconds"
+}
+
+# a try with these words, whose output goes to `told` and `said`
+try() {
+    began=$(date +%s)
+    begin_watch waited
+    (cd "$here/crates/tempura" && exec rt try "$@") >"$work/told" 2>"$work/said" </dev/null
+    end_watch
 }
 
 # The program ends with 20 where a word is no UTF-8.
@@ -122,7 +134,7 @@ run_unproved() {
     fi
     give "$source" "$SOURCE_LIMIT" source
     [ -z "$given" ] || set -- --data "source=$given" "$@"
-    (cd "$here/crates/tempura" && exec rt try "$@") >"$work/told" 2>"$work/said" </dev/null
+    try "$@"
     tell_answer
 }
 
@@ -182,8 +194,7 @@ run_cases_unproved() {
         give "$table" "$TABLE_LIMIT" table
         [ -n "$given" ] || table=
     fi
-    (cd "$here/crates/tempura" && exec rt try ${table:+--data "table=$given"} --cases "$work/cases") \
-        >"$work/told" 2>"$work/said" </dev/null
+    try ${table:+--data "table=$given"} --cases "$work/cases"
     ended=0
     count=10000
     for source do
