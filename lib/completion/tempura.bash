@@ -1,0 +1,48 @@
+# Completion of tempura for bash.
+
+_tempura() {
+    local word=${COMP_WORDS[COMP_CWORD]} before=${COMP_WORDS[COMP_CWORD - 1]} first at
+    local options="--inputs --states --reductions --order --trace"
+    COMPREPLY=()
+    # bash takes `--order=last` for three words
+    if [[ $word == = ]]; then
+        word=
+    elif [[ $before == = ]]; then
+        before=${COMP_WORDS[COMP_CWORD - 2]}
+    fi
+    for ((at = 1; at < COMP_CWORD; at++)); do
+        if [[ ${COMP_WORDS[at]} != --last ]]; then
+            first=${COMP_WORDS[at]}
+            break
+        fi
+    done
+    case $before in
+    --inputs)
+        mapfile -t COMPREPLY < <(compgen -f -- "$word")
+        return
+        ;;
+    --order)
+        mapfile -t COMPREPLY < <(compgen -W "first last" -- "$word")
+        return
+        ;;
+    --states | --reductions | -e) return ;;
+    esac
+    case $first in
+    "") mapfile -t COMPREPLY < <(compgen -W "run print explain --cases --last --build --attest --version --help" -- "$word") ;;
+    run | print | --cases)
+        if [[ $word == -* ]]; then
+            mapfile -t COMPREPLY < <(compgen -W "$options $([[ $first == --cases ]] || printf %s -e)" -- "$word")
+        else
+            mapfile -t COMPREPLY < <(compgen -f -X '!*.tempura' -- "$word"; compgen -d -- "$word")
+            ((${#COMPREPLY[@]})) || mapfile -t COMPREPLY < <(compgen -f -- "$word")
+        fi
+        ;;
+    explain)
+        mapfile -t COMPREPLY < <(compgen -W "$("${COMP_WORDS[0]}" explain 2>/dev/null | tr ' ' '\n')" -- "$word")
+        compopt +o filenames
+        ;;
+    --attest) mapfile -t COMPREPLY < <(compgen -d -- "$word") ;;
+    esac
+}
+
+complete -o filenames -F _tempura tempura

@@ -1,0 +1,35 @@
+# Completion of tempura for fish.
+
+function __tempura_first
+    set -l words (commandline -opc)
+    set -e words[1]
+    test "$words[1]" = --last; and set -e words[1]
+    test (count $words) -eq 0
+end
+
+function __tempura_has
+    set -l words (commandline -opc)
+    set -e words[1]
+    test "$words[1]" = --last; and set -e words[1]
+    test (count $words) -gt 0; and contains -- $words[1] $argv
+end
+
+complete -c tempura -f
+complete -c tempura -n __tempura_first -a run -d 'run a program'
+complete -c tempura -n __tempura_first -a print -d 'print a source in its canonical spelling'
+complete -c tempura -n __tempura_first -a explain -d 'what an end or a refusal means'
+complete -c tempura -n __tempura_first -l cases -d 'run several files'
+complete -c tempura -n __tempura_first -l last -d 'by the program proved last'
+complete -c tempura -n __tempura_first -l build -d 'prove and build the program'
+complete -c tempura -n __tempura_first -l attest -d 'compare program and sources with the record'
+complete -c tempura -n __tempura_first -l version -d 'which program this is'
+complete -c tempura -n __tempura_first -l help -d 'print a page'
+complete -c tempura -n '__tempura_has run print --cases' -k -a '(__fish_complete_suffix .tempura)'
+complete -c tempura -n '__tempura_has run print --cases' -l inputs -r -F -d 'the file of the table of inputs'
+complete -c tempura -n '__tempura_has run print --cases' -l states -x -d 'settle at most so many states'
+complete -c tempura -n '__tempura_has run print --cases' -l reductions -x -d 'make at most so many steps in a state'
+complete -c tempura -n '__tempura_has run print --cases' -l order -x -a 'first last' -d 'try the conjuncts in this order'
+complete -c tempura -n '__tempura_has run print --cases' -l trace -d 'show what is left to hold behind each state'
+complete -c tempura -n '__tempura_has run print' -s e -x -d 'the program itself'
+complete -c tempura -n '__tempura_has explain' -a '(tempura explain 2>/dev/null | string split " ")'
+complete -c tempura -n '__tempura_has --attest' -a '(__fish_complete_directories)'
