@@ -102,7 +102,7 @@ def any_of(choices):
 class World:
     """A program with its inputs, and the cells at hand."""
 
-    CALLS, WORK = 40, 60000
+    CALLS, WORK = 40, 30000
 
     def __init__(self, formula, definitions, inputs, forcing=True):
         self.formula, self.definitions, self.inputs, self.forcing = formula, definitions, inputs, forcing
@@ -148,6 +148,9 @@ class World:
         return True
 
     def whole(self, variable, state, path):
+        self.work += 1
+        if self.work > self.WORK:
+            raise OutOfWork
         shape = self.shape(variable, state, path)
         if isinstance(shape, tuple):
             return tuple(self.whole(variable, state, path + (i,)) for i in range(shape[1]))

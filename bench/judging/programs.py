@@ -45,7 +45,7 @@ class Known:
 class Maker:
     def __init__(self, chance, with_inputs=True):
         self.chance, self.with_inputs = chance, with_inputs
-        self.definitions, self.inputs, self.fresh = {}, {}, 0
+        self.definitions, self.inputs, self.fresh, self.is_whole = {}, {}, 0, True
 
     def pick(self, *choices):
         return self.chance.choice(choices)
@@ -162,7 +162,10 @@ class Maker:
 
     def constant(self, v, kind, known):
         value = equation(name(v), self.expression(kind, Known(bound=known.bound), 1))
-        return ('fin', value) if self.odds(0.1) else value
+        if self.odds(0.1):
+            self.is_whole = False
+            return ('fin', value)
+        return value
 
     def start(self, v, kind, known):
         value = self.expression(kind, known, 1)
@@ -223,6 +226,10 @@ class Maker:
         """A list by its size and its items."""
         if KIND_OF[v[0]] != 'list':
             return [equation(name(v), self.expression(KIND_OF[v[0]], here, 1))]
+        if self.odds(0.25):
+            return self.each_item(name(v), here, there)
+        if self.odds(0.15):
+            return self.nested(name(v), here)
         size = self.chance.randint(0, 2)
         sized = self.pick(('list', name(v), number(size)), equation(('size', name(v)), number(size)),
                           equation(number(size), ('size', name(v))))
@@ -238,6 +245,28 @@ class Maker:
             parts = [equation(('index', name(v), number(0)), self.small())]
         whole = conjunction(parts)
         return [self.pick(whole, ('always', whole), ('keep', whole))] if self.odds(0.6) else parts
+
+    def each_item(self, place, here, there):
+        """A list of a steady length, each item by a rule of its own."""
+        first, second = ('index', place, number(0)), ('index', place, number(1))
+        more = self.number(there, 1)
+        item = self.pick(number(0), number(1), operator('-', number(1), number(1)))
+        called = 'bump'
+        self.definitions[called] = (['X', 'n'], ('gets', name('X'), operator('+', name('X'), name('n'))))
+        return [('always', ('list', place, number(2))), equation(first, self.number(here, 1)),
+                equation(second, self.number(here, 1)),
+                self.pick(('gets', first, operator('+', first, more)), ('call', called, [('index', place, item), number(1)])),
+                self.pick(('gets', second, ('if', operator('>', first, number(2)), number(0), second)), ('stable', second),
+                          ('last', second, operator('+', second, first)))]
+
+    def nested(self, place, here):
+        """A list in a list, known in part."""
+        inner = ('index', place, number(self.pick(0, 1)))
+        parts = [self.pick(('list', inner, number(2)), equation(inner, ('items', [self.number(here, 0), number(1)])),
+                           equation(('index', inner, number(1)), self.number(here, 1))),
+                 self.pick(equation(('size', place), number(2)), ('list', place, number(2))),
+                 equation(('index', inner, number(0)), self.number(here, 1))]
+        return [p for p in parts if self.odds(0.8)] or parts
 
     def shown(self, known):
         """A display, or a test, that stands beside."""
@@ -261,7 +290,7 @@ class Maker:
         ways = ['steps', 'steps', 'assign', 'halt', 'nothing']
         if depth > 0:
             ways = ['steps', 'chop', 'chop', 'while', 'for', 'repeat', 'proj', 'if', 'exists', 'call', 'recursion', 'beside',
-                    'side', 'split']
+                    'side', 'split', 'ahead']
         return getattr(self, 'timed_' + self.pick(*ways))(list(variables), known, depth)
 
     def timed_steps(self, variables, known, depth):
@@ -283,8 +312,9 @@ class Maker:
         return self.mixed(parts), ends
 
     def timed_nothing(self, variables, known, depth):
-        parts = [self.start(v, KIND_OF[v[0]], known) for v in variables if v not in known.now and self.odds(0.7)]
-        return self.mixed(parts + [('empty',)]), set(variables)
+        fresh = [v for v in variables if v not in known.now and self.odds(0.7)]
+        parts = [self.start(v, KIND_OF[v[0]], known) for v in fresh]
+        return self.mixed(parts + [('empty',)]), set(fresh) | (known.now & set(variables))
 
     def timed_assign(self, variables, known, depth):
         parts, ends = [], set()
@@ -396,12 +426,14 @@ class Maker:
         right = self.mixed(parts + [('len', self.small(3))])
         if depth > 1 and self.odds(0.3):
             right, _ = self.timed(cutting, known, depth - 1)
-        piece = [self.pick(('skip',), ('len', number(2)), ('len', number(1)), ('len', number(2)))]
+        piece = [self.pick(('skip',), ('len', number(2)), ('len', number(1)), ('len', number(2)),
+                           ('len', self.number(steady, 1)))]
         for v in variables:
             if v not in cutting and v[0].isupper() and v not in known.now:
                 piece.append(('keep', equation(name(v), self.expression(KIND_OF[v[0]], steady, 1))))
             elif v in cutting and v[0].isupper() and self.odds(0.1):
                 piece.append(('keep', ('stable', name(v))))
+                self.is_whole = False
         if self.odds(0.3):
             piece.append(self.shown(steady))
         return ('proj', self.mixed(piece), right), set()
@@ -492,6 +524,12 @@ class Maker:
         body, more = self.timed(rest, known.also(steady=steady), depth - 1)
         return self.mixed(parts + [body]), ends | more
 
+    def timed_ahead(self, variables, known, depth):
+        """Something of this state, and the rest from the next one on."""
+        first = [self.start(v, KIND_OF[v[0]], known) for v in variables if v not in known.now and v[0].isupper()]
+        body, ends = self.timed(variables, known.each(), depth - 1)
+        return self.mixed(first + [('next', body)]), ends
+
     def mixed(self, parts):
         if self.odds(0.3):
             self.chance.shuffle(parts)
@@ -506,9 +544,11 @@ class Maker:
         known = Known(statics, statics)
         body, _ = self.timed([v for v in names if v not in statics], known, self.pick(1, 2, 2, 3))
         formula = self.mixed(parts + [body])
+        changes = self.pick(0, 0, 0, 1, 1, 2)
         if self.odds(0.1):
-            formula = conjunction([formula, self.loose(known, 2)])
-        for _ in range(self.pick(0, 0, 0, 1, 1, 2)):
+            formula, changes = conjunction([formula, self.loose(known, 2)]), changes + 1
+        self.is_whole = self.is_whole and changes == 0
+        for _ in range(changes):
             formula = self.changed(formula)
         return formula
 
@@ -620,6 +660,6 @@ class Program:
         chance = random.Random(f'{seed}:{index}')
         maker = Maker(chance, with_inputs)
         self.formula = maker.program()
-        self.definitions, self.inputs = maker.definitions, maker.inputs
+        self.definitions, self.inputs, self.is_whole = maker.definitions, maker.inputs, maker.is_whole
         self.text = source(self.definitions, self.formula, chance)
         self.chance = chance
