@@ -370,6 +370,8 @@ class Maker:
             turn = [body, ('last', name(counter), step)]
         if self.odds(0.25):
             turn.append(self.shown(Known(set(known.steady) | {counter}, known.steady, known.bound)))
+        if self.odds(0.06):
+            turn = [('len', self.small(1)), ('keep', self.start(counter, 'number', known))]
         condition = self.pick(operator('>', name(counter), number(0)), ('not', operator('<=', name(counter), number(0))),
                               operator('<>', name(counter), number(0)))
         loop = ('while', condition, self.mixed(turn))
