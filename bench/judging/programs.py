@@ -372,6 +372,7 @@ class Maker:
             turn.append(self.shown(Known(set(known.steady) | {counter}, known.steady, known.bound)))
         if self.odds(0.06):
             turn = [('len', self.small(1)), ('keep', self.start(counter, 'number', known))]
+            self.is_whole = False
         condition = self.pick(operator('>', name(counter), number(0)), ('not', operator('<=', name(counter), number(0))),
                               operator('<>', name(counter), number(0)))
         loop = ('while', condition, self.mixed(turn))
