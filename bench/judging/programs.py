@@ -356,17 +356,17 @@ class Maker:
 
     def timed_while(self, variables, known, depth):
         counter = self.counter(variables)
-        inside = known.also(now=[counter])
         others = [v for v in variables if v != counter]
+        carried = [v for v in others if v in known.now and v[0].isupper()]
         start = [] if counter in known.now else [equation(name(counter), self.small(3))]
         step = operator('-', name(counter), number(1))
+        # what a turn doesn't say is known where the first one begins, and no more where the next one does
         if self.odds(0.6):
+            inside = Known(known.steady | {counter} | set(carried), known.steady, known.bound)
             turn = [('assign', name(counter), step)]
-            for v in others:
-                if v in known.now and v[0].isupper():
-                    turn.append(('assign', name(v), self.expression(KIND_OF[v[0]], inside, 1)))
+            turn += [('assign', name(v), self.expression(KIND_OF[v[0]], inside, 1)) for v in carried]
         else:
-            body, _ = self.timed_steps(self.some(others), inside, 0)
+            body, _ = self.timed_steps(self.some(others), Known(known.steady | {counter}, known.steady, known.bound), 0)
             turn = [body, ('last', name(counter), step)]
         if self.odds(0.25):
             turn.append(self.shown(Known(set(known.steady) | {counter}, known.steady, known.bound)))
@@ -387,12 +387,12 @@ class Maker:
 
     def timed_repeat(self, variables, known, depth):
         counter = self.counter(variables)
-        inside = known.also(now=[counter])
         start = [] if counter in known.now else [equation(name(counter), self.small(2))]
         turn = [('assign', name(counter), operator('+', name(counter), number(1)))]
-        if self.odds(0.4):
-            others = [v for v in variables if v != counter and v in known.now and v[0].isupper()]
-            turn += [('assign', name(v), self.expression(KIND_OF[v[0]], inside, 1)) for v in others]
+        others = [v for v in variables if v != counter and v in known.now and v[0].isupper()]
+        others = others if self.odds(0.4) else []
+        inside = Known(known.steady | {counter} | set(others), known.steady, known.bound)
+        turn += [('assign', name(v), self.expression(KIND_OF[v[0]], inside, 1)) for v in others]
         until = operator(self.pick('>', '>='), name(counter), number(self.pick(1, 2, 3)))
         return self.mixed(start + [('repeat', self.mixed(turn), until)]), {counter}
 
