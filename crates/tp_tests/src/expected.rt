@@ -16,14 +16,6 @@ pub fn same_bytes(rt: &impl Abort, found: &[u8], expected: &str, row: &str) {
     );
 }
 
-/// Expects the bytes of these lines of the row, and a line feed after the last one.
-pub fn same_lines(rt: &impl Abort, found: &[u8], expected: &str, row: &str) {
-    match found {
-        [lines @ .., b'\n'] => same_bytes(rt, lines, expected, row),
-        _ => same_bytes(rt, found, "a line feed at the end", row),
-    }
-}
-
 /// Expects this number of the row.
 pub fn same_number(rt: &impl Abort, found: u64, expected: u64, row: &str) {
     assert_eq!(rt; found, expected, "for {row}");

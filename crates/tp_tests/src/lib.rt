@@ -1,10 +1,8 @@
-//! Tests of the calls of all other crates: tables of rows, one for each crate.
+//! Tests of the calls of the crates below those that make steps, and of the texts of runs: tables of rows, one for each crate.
 #![tactic(auto)]
 
 #[cfg(test)]
 mod answers;
-#[cfg(test)]
-mod calls;
 #[cfg(test)]
 mod definitions;
 #[cfg(test)]
@@ -18,21 +16,15 @@ mod inputs;
 #[cfg(test)]
 mod making;
 #[cfg(test)]
-mod orders;
-#[cfg(test)]
 mod outcomes;
 #[cfg(test)]
 mod phrases;
 #[cfg(test)]
 mod programs;
 #[cfg(test)]
-mod runs;
-#[cfg(test)]
 mod sources;
 #[cfg(test)]
 mod spelling;
-#[cfg(test)]
-mod steps;
 #[cfg(test)]
 mod stores;
 #[cfg(test)]
@@ -40,12 +32,8 @@ mod tables;
 #[cfg(test)]
 mod tokens;
 #[cfg(test)]
-mod told;
-#[cfg(test)]
 mod traces;
 #[cfg(test)]
 mod turns;
 #[cfg(test)]
 mod values;
-#[cfg(test)]
-mod words;

@@ -1,15 +1,11 @@
 // What several tests make.
 ghost use Rattle.std.specs.Prelude.{◌≡◌, ◌∷◌, [], IfOk, false};
 ghost use Rattle.tp_store.specs.Known.{global_variable};
-ghost use Rattle.tp_show.specs.Parts.{line_parts};
-ghost use Rattle.tp_show.specs.Read.{plain_parts};
 
 use std::alloc::Global;
 use tp_io::Content;
-use tp_show::{LineParts, Picture};
-use tp_step::Shows;
 use tp_store::Store;
-use tp_value::{Facts, Globals, Indices, Items, NoMemory, Path, Text, Value, VarId};
+use tp_value::{Globals, Indices, Items, NoMemory, Path, Text, Value, VarId};
 
 /// A file.
 pub fn content(alloc: Global, name: &str, bytes: &[u8]) -> Result<Content, NoMemory> {
@@ -99,23 +95,4 @@ pub fn one_variable(alloc: Global) -> Result<Store, NoMemory>
 {
     let globals = one_name(alloc)?;
     Store::new(alloc, &globals)
-}
-
-/// A picture of nothing.
-pub fn no_picture(alloc: Global) -> Picture
-    ensures { plain_parts result.parts ≡ line_parts result.facts }
-{
-    Picture {
-        state: 9,
-        facts: Facts {
-            items: Vec::new(alloc),
-        },
-        parts: LineParts {
-            items: Vec::new(alloc),
-        },
-        shows: Shows {
-            items: Vec::new(alloc),
-        },
-        reductions: 0,
-    }
 }
