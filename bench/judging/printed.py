@@ -5,7 +5,7 @@ import re
 ENDS = [
     ('finished', r'finished: length (\d+)', 0),
     ('contradictory', r'contradictory: state (\d+): .+', 1),
-    ('undetermined', r'undetermined: state (\d+): .+', 2),
+    ('undetermined', r'undetermined: state (\d+): (.+)', 2),
     ('state limit', r'state limit: (\d+)', 3),
     ('reduction limit', r'reduction limit: state (\d+): \d+ reductions', 4),
     ('number limit', r'number limit: state (\d+)', 5),
@@ -111,6 +111,7 @@ class Run:
             if not found:
                 continue
             self.end, number = name, int(found.group(1))
+            self.cell = found.group(2) if name == 'undetermined' else None
             states = {'finished': number + 1}.get(name, number)
             if states != self.states:
                 raise Malformed(f'{self.states} states, and then {line}')
@@ -130,6 +131,15 @@ def misplaced(run, order):
         if not told <= set(names):
             return f'state {state}: a static variable isn\'t told again'
         told |= {name for name in names if name[0].islower()}
+    return None
+
+
+def already_told(run):
+    """The cell that a run is said to be open at, where an earlier state's line has its value: that of a static variable."""
+    if run.cell and PLACE.match(run.cell):
+        variable, path = read_place(run.cell)
+        if (variable, None, path) in run.cells and variable[0].islower():
+            return f'is open at {run.cell}, which is told before'
     return None
 
 
