@@ -32,6 +32,14 @@ def is_number(value):
     return isinstance(value, int)
 
 
+def as_operators(parts):
+    """A chain of `and` between expressions, as operators that group to the left."""
+    left = parts[0]
+    for right in parts[1:]:
+        left = ('operator', 'and', left, right)
+    return left
+
+
 def shape_of(value):
     return ('list', len(value)) if isinstance(value, tuple) else value
 
@@ -173,6 +181,8 @@ class World:
             return self.item(phrase, state, env, calls)
         if kind == 'operator':
             return self.operation(phrase, state, env, calls)
+        if kind == 'conjunction':
+            return self.operation(as_operators(phrase[1]), state, env, calls)
         if kind == 'size':
             return self.size(phrase[1], state, env, calls)
         if kind == 'negative':
