@@ -1,7 +1,7 @@
 -- What is shown, and what isn't settled, in walk order.
-use Rattle.std.proofs.Common.{◌≡◌, ℕ, zero, suc, ◌+◌, ◌<◌, Bool, true, false, take, get_or, arith, List, [], ◌∷◌, ◌++◌, length, Option, Some, None, refl, ap, sym, ◌∙◌, subst, inl, inr}
+use Rattle.std.proofs.Common.{◌≡◌, ℕ, ◌<◌, Bool, true, false, List, [], ◌∷◌, ◌++◌, length, Option, Some, None, refl, ap, sym, ◌∙◌, subst}
 use Rattle.std.specs.Prelude.{filter}
-use Rattle.std.proofs.lemmas.Bool.{both_ways, cases_Bool}
+use Rattle.std.proofs.lemmas.Bool.{both_ways}
 use Rattle.std.proofs.lemmas.List.{append_assoc}
 use Rattle.std.proofs.lemmas.List.Elements.{filter-append}
 use Rattle.tp_scene.specs.Scene.{Leaf, Do, Later, Shown, Holder, Head, Entries, none, leaf, node, second_lives, only_if, live_items, held_place, second_place}
@@ -12,7 +12,6 @@ use Rattle.tp_slots.specs.Shown.{AreShown}
 use Rattle.tp_slots.specs.Places.{place_outward, AreHeld}
 use Rattle.tp_slots.specs.Settled.{what_shows, leaf_shows, shows_at, what_waits, item_waits}
 use Rattle.tp_slots.specs.Row.{AreBelow}
-use Rattle.std.proofs.Math.Seq.{take-length}
 use Rattle.tp_slots.proofs.PutEdits.{second_has}
 use Rattle.tp_slots.proofs.PlaceLemmas.{held_is, second_is}
 

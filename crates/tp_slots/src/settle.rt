@@ -40,13 +40,7 @@ fn or_itself(scene: &Scene, item: u64, what: &What, inside: Option<u64>) -> Opti
 {
     match inside {
         Some(found) => Some(found),
-        None => {
-            if waits(scene, what) {
-                Some(item)
-            } else {
-                None
-            }
-        }
+        None => { if waits(scene, what) { Some(item) } else { None } }
     }
 }
 
@@ -94,13 +88,7 @@ fn first_by(what: &What) -> Option<u64>
     ensures { result ≡ first_in (stands_by (what_of what.now)) }
 {
     match what {
-        What::Gone { first, count } => {
-            if *count > 0 {
-                Some(*first)
-            } else {
-                None
-            }
-        }
+        What::Gone { first, count } => { if *count > 0 { Some(*first) } else { None } }
         What::Do(_) | What::Later(_) | What::Shown(_) | What::Closed(_) => None,
         What::Split { .. } => None,
         What::SplitProject { .. } => None,

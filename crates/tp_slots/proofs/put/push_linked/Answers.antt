@@ -1,5 +1,5 @@
 -- Each slot is of that region, and linked to the one after it.
-use Rattle.std.proofs.Common.{◌≡◌, ℕ, ◌+◌, ◌-◌, ◌≤◌, ◌<◌, Option, ◌∷◌, ◌++◌, [], map, length, refl, ap, sym, ◌∙◌, subst, arith, rules}
+use Rattle.std.proofs.Common.{◌≡◌, ℕ, ◌+◌, ◌-◌, ◌≤◌, ◌<◌, Option, ◌∷◌, ◌++◌, [], map, length, ap, sym, ◌∙◌, arith, rules}
 use Rattle.std.proofs.lemmas.List.{map-append, append_assoc}
 use Rattle.tp_slots.specs.Row.{slots_in}
 use Rattle.tp_slots.specs.Read.{slot_of, what_of}

@@ -1,6 +1,6 @@
 -- From item to item, by what each knows to come after it.
-use Rattle.std.proofs.Common.{◌≡◌, ℕ, ◌+◌, ◌<◌, List, [], ◌∷◌, ◌++◌, take, length, get_or, Option, None, refl, ap, sym, ◌∙◌, subst, arith, rules}
-use Rattle.std.proofs.lemmas.List.{append_assoc, get_or-map, length-map}
+use Rattle.std.proofs.Common.{◌≡◌, ℕ, ◌+◌, ◌<◌, [], take, length, get_or, None, refl, ap, sym, ◌∙◌, subst, arith, rules}
+use Rattle.std.proofs.lemmas.List.{get_or-map, length-map}
 use Rattle.std.proofs.Math.Seq.{take-length}
 use Rattle.tp_slots.specs.Plain as plain
 use Rattle.tp_slots.specs.Plain.{slot_at, region_slot}
@@ -8,7 +8,7 @@ use Rattle.tp_slots.specs.Cost.{cost_of}
 use Rattle.tp_slots.specs.Read.{afters_of, region_slot_of, slot_of, slots_of, what_of}
 use Rattle.tp_slots.specs.Settled.{first_waiting, standing, stands_by, first_in}
 use Rattle.tp_slots.specs.Threads.{after_at, AreLast}
-use Rattle.tp_slots.specs.Walk.{live_in, live_inside, live_of}
+use Rattle.tp_slots.specs.Walk.{live_in, live_of}
 use Rattle.tp_slots.specs.declared.scene.Scene.{Scene}
 use Rattle.tp_slots.specs.declared.scene.Slot.{Slot}
 use Rattle.tp_slots.proofs.Firsts.{none_waits, one_waits, found, in_place, afterwards, nothing_left, measure_is, cost_after, in_at, last_at, none_up_to, some_at}

@@ -1,4 +1,4 @@
-use Rattle.std.proofs.Common.{◌≡◌, None, ℕ, ◌+◌, ◌-◌, ◌*◌, [], ◌∷◌, List, take, length}
+use Rattle.std.proofs.Common.{◌≡◌, None, ℕ, ◌+◌, ◌-◌, ◌*◌, ◌∷◌, List, take, length}
 use Rattle.tp_slots.specs.Plain.{slot_at}
 use Rattle.tp_slots.specs.Cost.{cost_of}
 use Rattle.tp_slots.specs.Read.{afters_of, slots_of}
