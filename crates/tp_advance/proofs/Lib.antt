@@ -7,3 +7,4 @@ pub mod NextShape
 pub mod NextStored
 pub mod NextUnmarked
 pub mod NextKept
+pub mod Unlinked

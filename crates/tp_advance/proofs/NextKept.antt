@@ -5,21 +5,22 @@ use Rattle.tp_scene.specs.Scene.{Side, Ending, Going, Head, new_head, marked, ri
 use Rattle.tp_scene.specs.Scene as S
 use Rattle.tp_scene.specs.Fits.{AreNumbers, item_numbers, region_numbers}
 use Rattle.tp_scene.specs.Advance.{items_in, regions_in, numbered, due, advanced}
-use Rattle.tp_slots.specs.Plain.{Slot, RegionSlot, Slots, region_slot, head_at, other_head, entries_at, scene_in, has_second, AreIn, IsOrdered}
+use Rattle.tp_slots.specs.Plain.{Slot, RegionSlot, Slots, slot_at, region_slot, head_at, other_head, entries_at, scene_in, has_second, AreIn, IsLive, IsOrdered}
 use Rattle.tp_slots.specs.Places.{AreHeld}
 use Rattle.tp_slots.specs.Flags.{flags_in}
 use Rattle.tp_slots.specs.Kept.{HasNumbers, IsShaped, IsWellKept}
 use Rattle.tp_slots.specs.Looks.{LooksAreRight}
 use Rattle.tp_slots.specs.Own.{own_ids}
 use Rattle.tp_slots.specs.Shown.{AreShown}
-use Rattle.tp_advance.specs.Successors.{slots_for, FullRegion, full_regions, unmarked_region, regions_for, inside_numbered, HasRegion, inside_ids}
-use Rattle.tp_slots.specs.Read.{slot_of, region_slot_of, slots_of, holders_of, ends_of, goes_of, scene_of}
+use Rattle.tp_advance.specs.Successors.{AreUnlinked, slots_for, FullRegion, full_regions, unmarked_region, regions_for, inside_numbered, HasRegion, inside_ids}
+use Rattle.tp_slots.specs.Read.{afters_of, slot_of, region_slot_of, slots_of, holders_of, ends_of, goes_of, scene_of}
 use Rattle.tp_slots.specs.declared.scene.Scene.{Scene}
 use Rattle.tp_slots.specs.declared.scene.Region.{Region}
 use Rattle.tp_advance.proofs.Carrying.{slots_count, regions_count}
 use Rattle.tp_slots.proofs.Showing.{all_shown}
 use Rattle.tp_advance.proofs.NextShape.{slots_with, holders_with, AreUnmarked, AreStored, IsItemRight, IsRegionRight, read_items, own_stored, item_found, region_found}
 use Rattle.tp_advance.proofs.NextStored.{stored}
+use Rattle.tp_advance.proofs.Unlinked.{live_linked, unlinked_last, own_live}
 use Rattle.tp_scene.proofs.NextNumbers.{items_once, regions_once, item_given, region_given}
 
 -- regions of which nothing is known
@@ -162,6 +163,10 @@ module _ (fs : Entries) (plain : AreUnmarked fs) where
     holders = λ r a l. let x = held_right r a l in (x.inside, x.holder);
   }
 
+  -- none is gone
+  pub all_own : (t : ℕ) → t < length z.slots → IsLive (slot_at z t).what
+  all_own t l = let x = right t l in own_live z (slot_at z t).home t (entries_at z (slot_at z t).home) (all_shown z ordered (slot_at z t).home x.home) x.own
+
   pub shape : IsShaped z (holders_with rs)
   shape = record { ordered = ordered; numbers = numbers; own = λ t l i. (right t l).own; held = held }
 
@@ -218,9 +223,19 @@ module _ (fs : Entries) (unmarked : AreUnmarked fs) (first next : Scene) (no_ite
   status : (y : Side) (r : ℕ) → r < length (slots_of next).regions → false ≡ (marked y (head_at (slots_of next) r) || risen y (entries_at (slots_of next) r))
   status y = subst (λ (s : Slots). (r : ℕ) → r < length s.regions → false ≡ (marked y (head_at s r) || risen y (entries_at s r))) (sym is_slots) (no_status fs unmarked y)
 
-  pub next_kept : LooksAreRight (slots_of next) (holders_of next) next.looks → IsWellKept next
-  next_kept looks = record {
-    shape = subst (λ s. IsShaped s (holders_of next)) (sym is_slots) (subst (λ h. IsShaped (z fs unmarked) h) (sym is_holders) (shape fs unmarked));
+  shape_next : IsShaped (slots_of next) (holders_of next)
+  shape_next = subst (λ s. IsShaped s (holders_of next)) (sym is_slots) (subst (λ h. IsShaped (z fs unmarked) h) (sym is_holders) (shape fs unmarked))
+
+  live_next : (t : ℕ) → t < length next.slots.items → IsLive (slot_at (slots_of next) t).what
+  live_next t l = subst (λ (s : Slots). IsLive (slot_at s t).what) (sym is_slots) (all_own fs unmarked t (subst (λ (s : Slots). t < length s.slots) is_slots (let e = length-map next.slots.items slot_of in omega (arith, e, l))))
+
+  pub next_kept : LooksAreRight (slots_of next) (holders_of next) next.looks → AreUnlinked next → IsWellKept next
+  next_kept looks ends = record {
+    shape = shape_next;
+    threads = record {
+      items = λ t l. live_linked (afters_of next) t (slot_at (slots_of next) t).what (live_next t (let e = length-map next.slots.items slot_of in omega (arith, e, l)));
+      roots = λ r l. unlinked_last (afters_of next) ends (region_slot (slots_of next) r).roots;
+    };
     ending = λ r l. ends_unset r ∙ status Ending r l;
     going = λ r l. goes_unset r ∙ status Going r l;
     quiet_ends = λ r l e. ends_unset r;

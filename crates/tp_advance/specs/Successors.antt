@@ -7,7 +7,8 @@ use Rattle.tp_decide.specs.Decided.{plain_leaf}
 use Rattle.tp_decide.specs.Read.{formula_of, env_of}
 use Rattle.tp_slots.specs.Plain.{What, bare, holds, gone, Slot, RegionSlot, Slots, slot_at, head_at, other_head, second_of, entries_at, has_second, IsInner}
 use Rattle.tp_slots.specs.Own.{own_ids}
-use Rattle.tp_slots.specs.Read.{slots_of, region_slot_of, all_slots, item_what}
+use Rattle.tp_slots.specs.Threads.{after_at}
+use Rattle.tp_slots.specs.Read.{afters_of, slots_of, region_slot_of, all_slots, item_what}
 use Rattle.tp_slots.specs.declared.scene.Scene.{Scene}
 use Rattle.tp_slots.specs.declared.scene.Region.{Region}
 use Rattle.tp_advance.specs.declared.next_state.Extent.{Extent}
@@ -140,6 +141,10 @@ inside_numbered s fs = numbered (length s.slots.items) (length s.regions.items +
 pub record IsExtended (home : ℕ) (fs : Entries) (old new : Scene) : Type 0 where
   pub slots : all_slots new.slots.items ≡ all_slots old.slots.items ++ slots_for home (next_numbered old fs)
   pub regions : full_regions new.regions.items ≡ full_regions old.regions.items ++ regions_for (next_numbered old fs)
+
+-- After no item anything is visited, of what stands in its place.
+abbrev pub AreUnlinked : Scene → Type 0
+AreUnlinked s = (t : ℕ) → after_at (afters_of s) t ≡ None
 
 -- The entries are added in a new region, of which the holder and the roots are these.
 pub record HasRegion (holder : ℕ) (roots : List ℕ) (fs : Entries) (old new : Scene) : Type 0 where

@@ -5,7 +5,7 @@ ghost use Rattle.tp_slots.specs.Plain as plain;
 ghost use Rattle.tp_slots.specs.Plain.{IsOrdered};
 ghost use Rattle.tp_slots.specs.Kept.{IsWellKept};
 ghost use Rattle.tp_slots.specs.Read.{all_slots, scene_of, slots_of, what_of};
-ghost use Rattle.tp_advance.specs.Successors.{IsExtended, HasRegion, full_regions, inside_ids, item_left, next_ids, number_list, one_held, one_holder_of, refilled, region_left, successor_in, successor_of, two_held, two_holder_of, unmarked_region};
+ghost use Rattle.tp_advance.specs.Successors.{AreUnlinked, IsExtended, HasRegion, full_regions, inside_ids, item_left, next_ids, number_list, one_held, one_holder_of, refilled, region_left, successor_in, successor_of, two_held, two_holder_of, unmarked_region};
 
 use crate::own::own_items;
 use std::alloc::Global;
@@ -202,10 +202,15 @@ fn push_item(scene: &mut Scene, home: u64, what: What) -> Result<u64, NoMemory>
     ensures slots { OnOk result (all_slots scene.new.slots.items
         ≡ all_slots scene.old.slots.items ++ record { home = home; what = what_of what } ∷ []) }
     ensures regions { OnOk result (scene.new.regions.items ≡ scene.old.regions.items) }
+    ensures unlinked { OnOk result (AreUnlinked scene.old → AreUnlinked scene.new) }
     ensures looks { OnOk result (scene.new.looks ≡ scene.old.looks) }
 {
     let id = scene.slots.len() as u64;
-    scene.slots.push(Slot { home, what })?;
+    scene.slots.push(Slot {
+        home,
+        after: None,
+        what,
+    })?;
     Ok(id)
 }
 
@@ -214,6 +219,7 @@ fn push_region(alloc: Global, scene: &mut Scene) -> Result<(), NoMemory>
     ensures slots { OnOk result (scene.new.slots.items ≡ scene.old.slots.items) }
     ensures regions { OnOk result (full_regions scene.new.regions.items
         ≡ full_regions scene.old.regions.items ++ unmarked_region 0 [] ∷ []) }
+    ensures unlinked { OnOk result (AreUnlinked scene.old → AreUnlinked scene.new) }
     ensures looks { OnOk result (scene.new.looks ≡ scene.old.looks) }
 {
     scene.regions.push(Region {
@@ -245,6 +251,7 @@ fn fill_region(scene: &mut Scene, at: usize, holder: u64, roots: Vec<u64>)
     ensures regions { full_regions scene.new.regions.items
         ≡ slice_set (full_regions scene.old.regions.items) at
         (refilled (full_regions scene.old.regions.items) at holder roots.items) }
+    ensures unlinked { AreUnlinked scene.old → AreUnlinked scene.new }
     ensures looks { scene.new.looks ≡ scene.old.looks }
 {
     fill(scene.regions.as_mut_slice(), at, holder, roots);
@@ -278,6 +285,7 @@ fn carry(
         (HasRegion 0 [] (region_left old.now extent region) new.old new.new) }
     ensures roots { IfOk result (λ v. v.items
         ≡ inside_ids new.old (region_left old.now extent region)) }
+    ensures unlinked { OnOk result (AreUnlinked new.old → AreUnlinked new.new) }
     ensures looks { OnOk result (new.new.looks ≡ new.old.looks) }
 {
     let home = new.regions.len() as u64;
@@ -305,6 +313,7 @@ fn carry_held(
     ensures added { let fs = region_left old.now extent region in OnOk result
         (HasRegion (length new.new.slots.items) (inside_ids new.old fs) fs new.old new.new) }
     ensures number { IfOk result (λ r. r ≡ length new.old.regions.items) }
+    ensures unlinked { OnOk result (AreUnlinked new.old → AreUnlinked new.new) }
     ensures looks { OnOk result (new.new.looks ≡ new.old.looks) }
 {
     let number = new.regions.len();
@@ -328,6 +337,7 @@ fn carry_second(
     requires region { region < length old.now.regions.items }
     ensures added { let fs = region_left old.now extent region in OnOk result
         (HasRegion holder (inside_ids new.old fs) fs new.old new.new) }
+    ensures unlinked { OnOk result (AreUnlinked new.old → AreUnlinked new.new) }
     ensures looks { OnOk result (new.new.looks ≡ new.old.looks) }
 {
     let number = new.regions.len();
@@ -352,6 +362,7 @@ fn carry_item(
         (IsExtended home (item_left old.now extent item) new.old new.new) }
     ensures number { IfOk result (λ o. number_list o
         ≡ next_ids new.old (item_left old.now extent item)) }
+    ensures unlinked { OnOk result (AreUnlinked new.old → AreUnlinked new.new) }
     ensures looks { OnOk result (new.new.looks ≡ new.old.looks) }
 {
     let next = leave(alloc, &old.slots[item as usize].what, extent)?;

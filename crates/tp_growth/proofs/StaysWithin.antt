@@ -23,7 +23,7 @@ use Rattle.tp_inputs.specs.Within.{InputsWithin}
 use Rattle.tp_growth.specs.Within.{LengthsAreWithin, BindingWithin, BindingsWithin, LeafWithin, HolderWithin, SecondIsOwn, EntriesWithin, PicksStayWithin}
 use Rattle.tp_growth.proofs.InputsWithin.{input_within}
 use Rattle.tp_growth.proofs.Small.{ValueWithin, small, evaluates_small}
-use Rattle.tp_scene.proofs.Told.{LeavesTold, HolderTold, AreKnown, Told, formula_told}
+use Rattle.tp_scene.proofs.Told.{LeavesTold, HolderTold, RowsKeep, Told, formula_told}
 use Rattle.tp_scene.proofs.Free.{free_parts}
 use Rattle.tp_scene.proofs.Evaluated.{outcome_told, place_outcome_told}
 
@@ -85,7 +85,7 @@ status_news : (p : Place) (o o' : PickOutcome) → NewsWithin o → NewsWithin o
 status_news p o o' h h' = cond_both (p.is Going) _ _ NewsWithin (λ _. h) (λ _. cond_both (p.is Ending) _ _ NewsWithin (λ _. h') (λ _. tt))
 
 module _ (facts : List Fact) (defs : List Definition) (inputs : InputLines) (state : ℕ) (within : InputsWithin inputs) (p : Place) (n : Numbers) where
-  known : AreKnown (small AreShort) defs inputs state facts n
+  known : RowsKeep (small AreShort) defs inputs state facts n
   known = record {
     lists = (evaluates_small AreShort facts defs).lists;
     parts = λ g m h. free_parts BindingWithin BindingsWithin ValueWithin AreShort (λ k. refl) g m;

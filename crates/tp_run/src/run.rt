@@ -212,7 +212,7 @@ impl<'a> Settings<'a> {
         ensures err { OnErr result (picture.new ≡ picture.old) }
     {
         let state = self.setting.state;
-        match settled(self.setting.alloc, &scene)? {
+        match settled(&scene) {
             Settled::Ends => self.finish(scene, store, reductions, picture),
             Settled::Goes => self.go_on(scene, store, reductions, picture),
             Settled::Waiting(item) => {

@@ -93,7 +93,7 @@ fn shown_count(alloc: Global, scene: &Scene) -> Result<usize, NoMemory>
 fn end(alloc: Global, scene: &Scene, out: &mut String) -> Result<(), Fail>
     requires { IsWellKept scene.now }
 {
-    let come_to = settled(alloc, scene)?;
+    let come_to = settled(scene);
     let root = mark(scene, 0).ok_or("no root")?;
     let text = format!(in alloc; "{come_to:?} {root:?}")?;
     out.push_str(text.as_str())?;
@@ -171,7 +171,7 @@ fn go_on(scene: Scene, store: &mut Store, setting: &mut Setting) -> Result<Scene
     ensures sound { IfOk result (λ next.
         (kinds : List Bool) × IsSound (setting_of setting.new) kinds (moment_of next store.new)) }
 {
-    match settled(setting.alloc, &scene)? {
+    match settled(&scene) {
         Settled::Goes => {
             store.next_state();
             let next = advance(setting.alloc, scene)?;

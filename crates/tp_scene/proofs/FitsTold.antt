@@ -22,7 +22,7 @@ use Rattle.tp_scene.specs.Fits.{kinds_in, PhraseFits}
 use Rattle.tp_scene.proofs.Parts.{Whatever}
 use Rattle.tp_scene.proofs.Globals.{facts_of_value}
 use Rattle.tp_scene.proofs.Evaluated.{ExprPartsOf, Evaluates, outcome_told, place_outcome_told}
-use Rattle.tp_scene.proofs.Told.{Bundle, Lists, PartsOf, AreKnown, Told, formula_told}
+use Rattle.tp_scene.proofs.Told.{Bundle, Lists, PartsOf, RowsKeep, Told, formula_told}
 
 -- a new local is one of the variables
 abbrev pub LocalIn : Option Variable → List Variable → ℕ → Type 0
@@ -40,6 +40,8 @@ pub record Sees (facts : List Fact) (variables : List Variable) (Q : found.Outco
 pub whatever_seen : (facts : List Fact) (variables : List Variable) → Sees facts variables Whatever
 whatever_seen facts variables = record { value = λ v. tt; waiting = λ q h. tt; undecided = λ q p h e. tt; fault = λ k. tt; limits = (tt, tt, tt) }
 
+-- `kinds` says of each of the program's variables whether it is static; all of them are among
+-- `variables`, the store's before a step or after it. Q, of outcomes, is for the table to choose.
 abbrev pub fitting : List Definition → List Bool → List Variable → Numbers → (found.Outcome → Type 0) → Bundle
 fitting defs kinds variables n Q = record {
   formula = FormulaFits defs kinds;
@@ -63,6 +65,7 @@ module _ (defs : List Definition) (kinds : List Bool) (variables : List Variable
   nexts_fit zero f m h = h
   nexts_fit (suc j) f m h = nexts_fit j f m h
 
+  -- the last line is for each kind whose row of `FormulaFits` is that of `PartsOf`
   fit_parts : (f : FormulaTree) (m : ℕ) → FormulaFits defs kinds f m → PartsOf (fitting defs kinds variables n Q) f m
   fit_parts (next_equation k t e) m h = (h.1, λ v u. nexts_fit (k - 1) (equation t (known v)) m (h.0, tt))
   fit_parts (always f) m h = (h, h)
@@ -123,7 +126,7 @@ module _ (defs : List Definition) (kinds : List Bool) (variables : List Variable
       limits = sees.limits;
     }
 
-    known_parts : AreKnown (fitting defs kinds variables n Q) defs inputs state facts n
+    known_parts : RowsKeep (fitting defs kinds variables n Q) defs inputs state facts n
     known_parts = record {
       lists = lists_fit;
       parts = fit_parts;

@@ -11,7 +11,7 @@ use Rattle.tp_eval.specs.Outcome as found
 use Rattle.tp_eval.specs.Outcome.{PlaceOutcome, outcome, place_outcome}
 use Rattle.tp_scene.specs.Scene.{Bindings, Place}
 use Rattle.tp_scene.specs.Step.{Numbers, formula_step}
-use Rattle.tp_scene.proofs.Told.{Bundle, Lists, PartsOf, PlaceHas, AreKnown, Told, formula_told}
+use Rattle.tp_scene.proofs.Told.{Bundle, Lists, PartsOf, PlaceHas, RowsKeep, Told, formula_told}
 
 abbrev pub free : (BindingTree → Type 0) → (Bindings → Type 0) → (found.Outcome → Type 0) → (List Fact → Type 0) → Bundle
 free B Bs Q N = record {
@@ -28,6 +28,7 @@ free B Bs Q N = record {
 }
 
 module _ (B : BindingTree → Type 0) (Bs : Bindings → Type 0) (Q : found.Outcome → Type 0) (N : List Fact → Type 0) (numbers : (k : ℤ) → B (known_binding (num k))) where
+  -- a line for each kind that owes more than one thing
   pub free_parts : (f : FormulaTree) (m : ℕ) → PartsOf (free B Bs Q N) f m
   free_parts (equation l r) m = (tt, tt)
   free_parts (next_equation k t e) m = (tt, λ v u. tt)
@@ -59,6 +60,8 @@ module _ (B : BindingTree → Type 0) (Bs : Bindings → Type 0) (Q : found.Outc
 abbrev pub loose : (found.Outcome → Type 0) → (List Fact → Type 0) → Bundle
 loose Q N = free (λ x. Unit {0}) (λ env. Unit {0}) Q N
 
+-- What is owed then: Q of an expression's outcome, of a place's that is no path, and of any value;
+-- and N of the facts that give a path its value, or a list its length.
 module _ (Q : found.Outcome → Type 0) (N : List Fact → Type 0) (defs : List Definition) (inputs : InputLines) (state : ℕ) (facts : List Fact)
     (value : (e : ExprTree) (env : Bindings) → Q (outcome facts defs e env))
     (other : (e : ExprTree) (env : Bindings) (o : found.Outcome) → place_outcome facts defs e env ≡ found.other o → Q o)
@@ -72,7 +75,7 @@ module _ (Q : found.Outcome → Type 0) (N : List Fact → Type 0) (defs : List 
   pub loose_told : (f : FormulaTree) (env : Bindings) (p : Place) (n : Numbers) → Told (loose Q N) facts p n (formula_step defs inputs state facts f env p n)
   loose_told f env p n = formula_told (loose Q N) defs inputs state facts n known p f env (tt, tt)
     where
-      known : AreKnown (loose Q N) defs inputs state facts n
+      known : RowsKeep (loose Q N) defs inputs state facts n
       known = record {
         lists = free_lists (λ x. Unit {0}) (λ xs. Unit {0}) Q N (λ k. tt) tt (λ x xs h k. tt) (λ x xs h k. tt);
         parts = λ g m h. free_parts (λ x. Unit {0}) (λ xs. Unit {0}) Q N (λ k. tt) g m;

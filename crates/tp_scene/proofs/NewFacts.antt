@@ -35,6 +35,7 @@ module _ (facts : List Fact) (kinds : List Bool) (variables : List Variable) (am
   status_facts p o o' h h' = status_has IsOfVariables p o o' (λ g. h) (λ g e. h') (λ g e. tt)
 
   module _ (defs : List Definition) (definitions : DefinitionsFit defs kinds) (inputs : InputLines) (state : ℕ) where
+    -- the row's facts are some of those that it was to add, and all these are of variables
     of_told : (p : Place) (n : Numbers) (o : PickOutcome) → Told (fitting defs kinds variables n Whatever) facts p n o → IsOfVariables o
     of_told p n (reduces r) h = elim h.facts_of [
       | inl e ↦ subst (λ (fs : List Fact). AreOfVariables variables fs) (sym e) tt

@@ -1,4 +1,8 @@
 -- What each row of the table of formulas gives, told by its parts, for any properties of formulas, expressions, bindings and outcomes that are closed under what the rows do.
+-- A table follows so: a `Bundle` is chosen, `RowsKeep` shown for it, `formula_told` gives `Told`,
+-- and what the table says is read off that (`of_told` in NewFacts.antt). `holder_step` isn't told:
+-- each table has rows for it. A new kind has a line in `PartsOf` and one in `row`; where it gives
+-- what no row gave so far, as two regions, `Told` changes, and the tables that take it apart.
 use Rattle.std.proofs.Common.{◌≡◌, ℤ, pos, negsuc, ◌+ℤ◌, int_le, ◌⊎◌, inl, inr, ℕ, zero, suc, ◌-◌, ◌+◌, nat_lt, Bool, true, false, ◌&&◌, not, List, [], ◌∷◌, ◌++◌, length, slice_get, Option, Some, None, refl, ap, sym, subst, arith, if◌then◌else◌}
 use Rattle.std.proofs.lemmas.Bool.{cond_both}
 use Rattle.std.proofs.lemmas.List.{length-append}
@@ -30,6 +34,8 @@ other_side Ending = Going
 other_side Going = Ending
 
 -- Properties of what rows are made of: of a formula, and an expression, under so many bindings; of bindings, an outcome, new facts before they are added, names, and a new local.
+-- New facts may be kept already; names are of locals and of ports. `local` isn't given by a row but
+-- taken: who uses `news` below shows it. In `fitting` it says that the new local is a variable.
 pub record Bundle : Type 1 where
   pub formula : FormulaTree → ℕ → Type 0
   pub formulas : FormulaTrees → ℕ → Type 0
@@ -42,7 +48,9 @@ pub record Bundle : Type 1 where
   pub name : List ℕ → Type 0
   pub local : Option Variable → Type 0
 
--- the parts of a formula that its row gives or evaluates
+-- What a formula with the property owes, where m names are bound: the property of each formula that
+-- its row gives, which may be none of its own parts (see `while`, `assign`), and of each expression
+-- that is evaluated. They are taken by position, in `row` and where they are shown (`fit_parts`).
 abbrev pub PartsOf : Bundle → FormulaTree → ℕ → Type 0
 PartsOf b trivial m = Unit {0}
 PartsOf b (test e) m = b.expr e m
@@ -69,7 +77,8 @@ PartsOf b (call i es) m = b.exprs es m
 PartsOf b (input x port) m = b.expr x m × b.name port
 PartsOf b (display es) m = b.exprs es m
 
--- of the lists of formulas and expressions, and of bindings
+-- A list passes its property on to its items, and bindings theirs to the list: `before` for what a
+-- call binds, `after` for one more name. `sized` is for an equation that sets the size of e.
 pub record Lists (b : Bundle) : Type 0 where
   pub first_formula : (f : FormulaTree) (fs : FormulaTrees) (m : ℕ) → b.formulas (formula_then f fs) m → b.formula f m
   pub other_formulas : (f : FormulaTree) (fs : FormulaTrees) (m : ℕ) → b.formulas (formula_then f fs) m → b.formulas fs m
@@ -84,22 +93,24 @@ abbrev pub PlaceHas : Bundle → PlaceOutcome → Type 0
 PlaceHas b (found.path q) = b.binding (place_binding q)
 PlaceHas b (found.other o) = b.found o
 
--- a list of leaves takes item numbers in order
+-- `facts` are kept before the step; p is where the item stands, and n the numbers that are free
 module _ (b : Bundle) (facts : List Fact) (p : Place) (n : Numbers) where
   abbrev pub PhraseTold : FormulaTree → Bindings → Type 0
   PhraseTold f env = b.formula f (length env) × b.bindings env
 
+  -- what is for the next state stands where the region goes on, by this mark or already
   abbrev pub LeafTold : Option Side → Leaf → Type 0
   LeafTold mark (Do f env) = PhraseTold f env
   LeafTold mark (Later f env) = PhraseTold f env × ((mark ≡ Some Going) ⊎ (p.is Going ≡ true))
   LeafTold mark (Shown vs) = Unit {0}
 
+  -- a list of leaves takes item numbers in order
   abbrev pub LeavesTold : Option Side → (from : ℕ) → Entries → (to : ℕ) → Type 0
   LeavesTold mark from none to = to ≡ from
   LeavesTold mark from (leaf id l rest) to = (id ≡ n.item from) × LeafTold mark l × LeavesTold mark (suc from) rest to
   LeavesTold mark from (node id k h held g second rest) to = ⊥
 
-  -- a left or an outer region
+  -- a left or an outer region: no row of a formula gives one of the others, which come of holders
   abbrev pub HolderTold : Holder → Type 0
   HolderTold (Split f env) = PhraseTold f env
   HolderTold (SplitProject f env) = ⊥
@@ -117,7 +128,7 @@ module _ (b : Bundle) (facts : List Fact) (p : Place) (n : Numbers) where
     pub shallow : nat_lt p.depth region_limit ≡ true
     pub is : es ≡ node (n.item 1) holder (new_head n.region) (leaf (n.item 0) (Do item env) none) no_region none none
 
-  -- no facts, or those of some that were new
+  -- no facts, or those of xs that weren't kept yet (`adds_all` in tp_store says so)
   abbrev pub FactsTold : List Fact → Type 0
   FactsTold fs = (fs ≡ []) ⊎ ((xs : List Fact) × b.new_facts xs × (addition facts xs ≡ adds fs))
 
@@ -141,9 +152,11 @@ module _ (b : Bundle) (facts : List Fact) (p : Place) (n : Numbers) where
   ClashTold False = Unit {0}
   ClashTold (NoValue k) = Unit {0}
 
+  -- that of an evaluation, or else of a list's length, in `set`, or of depth, in `with_region`
   abbrev pub LimitTold : LimitKind → Type 0
   LimitTold k = b.found (found.over k) ⊎ ((k ≡ limit.List) ⊎ (k ≡ limit.Nest))
 
+  -- (a formula never rests: `Later` and `Shown` do)
   abbrev pub Told : PickOutcome → Type 0
   Told (reduces r) = ReductionTold r
   Told (waits first other) = CellTold first × OtherTold other
@@ -152,8 +165,10 @@ module _ (b : Bundle) (facts : List Fact) (p : Place) (n : Numbers) where
   Told (misses port) = b.name port
   Told (passes k) = LimitTold k
 
--- what is known of evaluation, inputs, definitions and new facts
-pub record AreKnown (b : Bundle) (defs : List Definition) (inputs : InputLines) (state : ℕ) (facts : List Fact) (n : Numbers) : Type 0 where
+-- What is owed for a bundle: each property passes on to what rows make of it. `value` and `place`
+-- are had from `Evaluates` (Evaluated.antt). `body` and `value_bound` are for `call`, `read` for
+-- `input`, `local_bound` for `exists`, the last two for equations that set a value or a length.
+pub record RowsKeep (b : Bundle) (defs : List Definition) (inputs : InputLines) (state : ℕ) (facts : List Fact) (n : Numbers) : Type 0 where
   pub lists : Lists b
   pub parts : (f : FormulaTree) (m : ℕ) → b.formula f m → PartsOf b f m
   pub body : (i : ℕ) (d : Definition) → slice_get defs i ≡ Some d → b.formula d.formula (length d.parameters)
@@ -165,7 +180,7 @@ pub record AreKnown (b : Bundle) (defs : List Definition) (inputs : InputLines) 
   pub sets : (q : Path) (v : Tree) → b.binding (place_binding q) → b.found (found.value v) → b.new_facts (facts_at q v)
   pub lengthens : (q : Path) (k : ℕ) → b.binding (place_binding q) → nat_lt length_limit k ≡ false → b.new_facts (fact q (Items k) ∷ [])
 
-module _ (b : Bundle) (defs : List Definition) (inputs : InputLines) (state : ℕ) (facts : List Fact) (n : Numbers) (closed : AreKnown b defs inputs state facts n) (p : Place) where
+module _ (b : Bundle) (defs : List Definition) (inputs : InputLines) (state : ℕ) (facts : List Fact) (n : Numbers) (closed : RowsKeep b defs inputs state facts n) (p : Place) where
   abbrev P : PickOutcome → Type 0
   P = Told b facts p n
 

@@ -15,15 +15,17 @@ use Rattle.tp_slots.specs.Looks.{LooksAreRight, LooksFollow}
 use Rattle.tp_slots.specs.Replace.{home_in}
 use Rattle.tp_slots.specs.Row.{begun, stepped, held_after, AllBelow}
 use Rattle.tp_slots.specs.Reductions.{IsBare, AreBare, becomes_leaves}
-use Rattle.tp_slots.specs.Read.{slot_of, region_slot_of, slots_of, scene_of, holders_of, ends_of, goes_of, flags_of, other_side}
+use Rattle.tp_slots.specs.Threads.{AreThreaded, afters_then}
+use Rattle.tp_slots.specs.Read.{slot_of, region_slot_of, slots_of, scene_of, afters_of, holders_of, ends_of, goes_of, flags_of, other_side}
 use Rattle.tp_slots.proofs.Showing.{all_shown, has_shown}
 use Rattle.tp_slots.proofs.Told.{told, rises_all}
 use Rattle.tp_slots.proofs.Stepping.{IsStep, stepped_regions}
 use Rattle.tp_slots.proofs.Instances.{told_leaves, leaves_rise, leaves_step, begins_step, begins_rise, begins_told}
-use Rattle.tp_slots.proofs.Keeping.{scene_then, shape_then, flags_then, quiet_then, home_lives_then}
+use Rattle.tp_slots.proofs.Keeping.{scene_then, shape_then, threads_then, flags_then, quiet_then, home_lives_then}
 use Rattle.tp_slots.proofs.Looking.{LeavesOpen, looks_then, bare_leave, begun_leaves}
 use Rattle.tp_slots.specs.declared.scene.Scene.{Scene}
 use Rattle.tp_slots.specs.declared.scene.Region.{Region}
+use Rattle.tp_slots.specs.declared.scene.Slot.{Slot}
 
 pub lives_within : (s : Scene) (t : ℕ) → IsOrdered (slots_of s) → has t (scene_of s).root.entries ≡ true → t < length s.slots.items
 lives_within s t sound lives =
@@ -38,6 +40,9 @@ home_within s t sound l = let e = length-map s.slots.items slot_of in let f = le
 looks_moved : (s s' : Scene) → slots_of s' ≡ slots_of s → holders_of s' ≡ holders_of s → s'.looks ≡ s.looks → LooksAreRight (slots_of s) (holders_of s) s.looks → LooksAreRight (slots_of s') (holders_of s') s'.looks
 looks_moved s s' es eh el x = subst (λ y. LooksAreRight y (holders_of s') s'.looks) (sym es) (subst (λ h. LooksAreRight (slots_of s) h s'.looks) (sym eh) (subst (LooksAreRight (slots_of s) (holders_of s)) (sym el) x))
 
+pub threads_moved : (s s' : Scene) → slots_of s' ≡ slots_of s → afters_of s' ≡ afters_of s → AreThreaded (slots_of s) (afters_of s) → AreThreaded (slots_of s') (afters_of s')
+threads_moved s s' es ea x = subst (λ y. AreThreaded y (afters_of s')) (sym es) (subst (AreThreaded (slots_of s)) (sym ea) x)
+
 -- nothing was changed
 pub unchanged_kept : (s s' : Scene) → IsWellKept s → IsUnchanged s s' → s'.looks ≡ s.looks → IsWellKept s'
 unchanged_kept s s' kept same el =
@@ -47,6 +52,7 @@ unchanged_kept s s' kept same el =
     let eg : goes_of s' ≡ goes_of s = ap (map (λ (x : Region). x.goes_now)) same.regions in
     record {
       shape = subst (λ x. IsShaped x (holders_of s')) (sym es) (subst (IsShaped (slots_of s)) (sym eh) kept.shape);
+      threads = threads_moved s s' es (ap (map (λ (x : Slot). x.after)) same.slots) kept.threads;
       ending = subst (λ x. FlagsAreRight x Ending (flags_in (ends_of s'))) (sym es) (subst (λ (l : List Bool). FlagsAreRight (slots_of s) Ending (flags_in l)) (sym ee) kept.ending);
       going = subst (λ x. FlagsAreRight x Going (flags_in (goes_of s'))) (sym es) (subst (λ (l : List Bool). FlagsAreRight (slots_of s) Going (flags_in l)) (sym eg) kept.going);
       quiet_ends = subst (λ x. IsQuiet x (holders_of s') (flags_in (ends_of s'))) (sym es) (subst (λ h. IsQuiet (slots_of s) h (flags_in (ends_of s'))) (sym eh) (subst (λ (l : List Bool). IsQuiet (slots_of s) (holders_of s) (flags_in l)) (sym ee) kept.quiet_ends));
@@ -77,6 +83,12 @@ module _ (s : Scene) (t : ℕ) (m : Option Side) (ins outs : List What) (kept : 
 
   pub shape_put : IsShaped (slots_of next) (holders_of next)
   shape_put = subst (λ x. IsShaped x (holders_of next)) (sym es) (subst (IsShaped (stepped (slots_of s) t m ins outs)) (sym eh) (shape_then (slots_of s) (holders_of s) t m ins outs kept.shape lives step))
+
+  pub threads_put : afters_of next ≡ afters_then (afters_of s) (length ins) (length outs) t → AreThreaded (slots_of next) (afters_of next)
+  threads_put ea =
+      let count = length-map s.slots.items (λ (x : Slot). x.after) ∙ sym (length-map s.slots.items slot_of) in
+      subst (λ x. AreThreaded x (afters_of next)) (sym es)
+      (subst (AreThreaded (stepped (slots_of s) t m ins outs)) (sym ea) (threads_then (slots_of s) (holders_of s) t m ins outs kept.shape lives step (afters_of s) count kept.threads))
 
   low : (f : List Bool) → length f ≡ length (slots_of s).regions → (r : ℕ) → length (slots_of s).regions ≤ r → flags_in f r ≡ false
   low f e r l = get_or_past f r false (omega (arith, e, l))
@@ -136,9 +148,10 @@ pub put_kept : (s : Scene) (t : ℕ) (ins outs : List What) (kept : IsWellKept s
     → slots_of next ≡ stepped (slots_of s) t None ins outs → holders_of next ≡ held_after (slots_of s) ins outs (holders_of s)
     → ends_of next ≡ ends_of s ++ map (λ x. false) (begun n (length ins)) → goes_of next ≡ goes_of s ++ map (λ x. false) (begun n (length ins))
     → rises_all Ending (flags_in (ends_of s)) outs ≡ rises_what Ending (flags_in (ends_of s)) (slot_at (slots_of s) t).what → rises_all Going (flags_in (goes_of s)) outs ≡ rises_what Going (flags_in (goes_of s)) (slot_at (slots_of s) t).what
-    → LeavesOpen (slots_of s) (holders_of s) t outs → next.looks ≡ s.looks → IsWellKept next
-put_kept s t ins outs kept lives step next n es eh ee eg a b leaves el = record {
+    → LeavesOpen (slots_of s) (holders_of s) t outs → next.looks ≡ s.looks → afters_of next ≡ afters_then (afters_of s) (length ins) (length outs) t → IsWellKept next
+put_kept s t ins outs kept lives step next n es eh ee eg a b leaves el ea = record {
   shape = shape_put s t None ins outs kept lives step next n es eh ee eg;
+  threads = threads_put s t None ins outs kept lives step next n es eh ee eg ea;
   ending = ends_put s t None ins outs kept lives step next n es eh ee eg a;
   going = goes_put s t None ins outs kept lives step next n es eh ee eg b;
   quiet_ends = quiet_ends_put s t None ins outs kept lives step next n es eh ee eg;
@@ -157,8 +170,8 @@ follow_other s Going home f h = h
 
 pub raised_kept : (s s' : Scene) (z : Side) → IsShaped (slots_of s) (holders_of s) → slots_of s' ≡ slots_of s → holders_of s' ≡ holders_of s → flags_of (other_side z) s' ≡ flags_of (other_side z) s
     → FlagsAreRight (slots_of s) z (flags_in (flags_of z s')) → IsQuiet (slots_of s) (holders_of s) (flags_in (flags_of z s'))
-    → FlagsAreRight (slots_of s) (other_side z) (flags_in (flags_of (other_side z) s)) → IsQuiet (slots_of s) (holders_of s) (flags_in (flags_of (other_side z) s)) → LooksAreRight (slots_of s) (holders_of s) s'.looks → IsWellKept s'
-raised_kept s s' z shape es eh eo right quiet right_other quiet_other looks = by_side z right quiet o_right o_quiet
+    → FlagsAreRight (slots_of s) (other_side z) (flags_in (flags_of (other_side z) s)) → IsQuiet (slots_of s) (holders_of s) (flags_in (flags_of (other_side z) s)) → LooksAreRight (slots_of s) (holders_of s) s'.looks → AreThreaded (slots_of s') (afters_of s') → IsWellKept s'
+raised_kept s s' z shape es eh eo right quiet right_other quiet_other looks threads = by_side z right quiet o_right o_quiet
   where
     o_right : FlagsAreRight (slots_of s) (other_side z) (flags_in (flags_of (other_side z) s'))
     o_right = subst (λ (l : List Bool). FlagsAreRight (slots_of s) (other_side z) (flags_in l)) (sym eo) right_other
@@ -179,6 +192,7 @@ raised_kept s s' z shape es eh eo right quiet right_other quiet_other looks = by
         → IsQuiet (slots_of s) (holders_of s) (flags_in (flags_of (other_side z) s')) → IsWellKept s'
     by_side Ending a b c d = record {
       shape = shape';
+      threads = threads;
       ending = subst (λ x. FlagsAreRight x Ending (flags_in (ends_of s'))) (sym es) a;
       going = subst (λ x. FlagsAreRight x Going (flags_in (goes_of s'))) (sym es) c;
       quiet_ends = moved (flags_in (ends_of s')) b;
@@ -187,6 +201,7 @@ raised_kept s s' z shape es eh eo right quiet right_other quiet_other looks = by
     }
     by_side Going a b c d = record {
       shape = shape';
+      threads = threads;
       ending = subst (λ x. FlagsAreRight x Ending (flags_in (ends_of s'))) (sym es) c;
       going = subst (λ x. FlagsAreRight x Going (flags_in (goes_of s'))) (sym es) a;
       quiet_ends = moved (flags_in (ends_of s')) d;
@@ -195,8 +210,8 @@ raised_kept s s' z shape es eh eo right quiet right_other quiet_other looks = by
     }
 
 pub unmarked_kept : (s : Scene) (home : ℕ) → IsShaped (slots_of s) (holders_of s) → ((z : Side) → FlagsFollow (slots_of s) None home z (flags_in (flags_of z s))) → ((z : Side) → IsQuiet (slots_of s) (holders_of s) (flags_in (flags_of z s)))
-    → LooksAreRight (slots_of s) (holders_of s) s.looks → IsWellKept s
-unmarked_kept s home shape flags quiet looks = record { shape = shape; ending = flags Ending; going = flags Going; quiet_ends = quiet Ending; quiet_goes = quiet Going; looks = looks }
+    → LooksAreRight (slots_of s) (holders_of s) s.looks → AreThreaded (slots_of s) (afters_of s) → IsWellKept s
+unmarked_kept s home shape flags quiet looks threads = record { shape = shape; threads = threads; ending = flags Ending; going = flags Going; quiet_ends = quiet Ending; quiet_goes = quiet Going; looks = looks }
 
 pub bare_below : (c : ℕ) (ws : List What) → AreBare ws → AllBelow c ws
 bare_below c [] b = tt
@@ -221,6 +236,9 @@ module _ (s : Scene) (t : ℕ) (m : Option Side) (outs : List What) (kept : IsWe
 
   pub leaves_shape : IsShaped (slots_of next) (holders_of next)
   leaves_shape = shape_put s t m [] outs kept lives step next n es eh ee eg
+
+  pub leaves_threads : afters_of next ≡ afters_then (afters_of s) 0 (length outs) t → AreThreaded (slots_of next) (afters_of next)
+  leaves_threads = threads_put s t m [] outs kept lives step next n es eh ee eg
 
   pub leaves_flags : (z : Side) → FlagsFollow (slots_of next) m (slot_at (slots_of s) t).home z (flags_in (flags_of z next))
   leaves_flags Ending = ends_put s t m [] outs kept lives step next n es eh ee eg (leaves_rise Ending (flags_in (ends_of s)) (slot_at (slots_of s) t).what outs free bare)
@@ -260,9 +278,9 @@ module _ (s : Scene) (t : ℕ) (f : FormulaTree) (env : Bindings) (k : Holder) (
       scene_put s t None (plain.bare (S.Do f env) ∷ []) (plain.holds k (length (slots_of s).regions) None ∷ []) kept lives one_step next n es eh ee eg r
       (a ∙ sym (begins_told (slots_of s) t f env k kept.shape.ordered there free one asleep)) b c d
 
-  pub begins_kept : next.looks ≡ s.looks → IsWellKept next
-  begins_kept el =
+  pub begins_kept : next.looks ≡ s.looks → afters_of next ≡ afters_then (afters_of s) 1 1 t → IsWellKept next
+  begins_kept el ea =
       put_kept s t (plain.bare (S.Do f env) ∷ []) (plain.holds k (length (slots_of s).regions) None ∷ []) kept lives one_step next n es eh ee eg
       (begins_rise (slots_of s) t f env k kept.shape.ordered there free one asleep Ending (flags_in (ends_of s)) (ends_low s t None (plain.bare (S.Do f env) ∷ []) (plain.holds k (length (slots_of s).regions) None ∷ []) kept lives one_step next n es eh ee eg (length (slots_of s).regions) (omega arith)))
       (begins_rise (slots_of s) t f env k kept.shape.ordered there free one asleep Going (flags_in (goes_of s)) (goes_low s t None (plain.bare (S.Do f env) ∷ []) (plain.holds k (length (slots_of s).regions) None ∷ []) kept lives one_step next n es eh ee eg (length (slots_of s).regions) (omega arith)))
-      (begun_leaves (slots_of s) (holders_of s) t k) el
+      (begun_leaves (slots_of s) (holders_of s) t k) el ea

@@ -11,13 +11,14 @@ use Rattle.tp_scene.specs.Fits.{AreNumbers, item_numbers, region_numbers}
 use Rattle.tp_scene.proofs.Count.{count_first}
 use Rattle.tp_scene.proofs.PutNumbers.{between, between_in, between_before, between_after, items, regions}
 use Rattle.tp_scene.proofs.StepsFit.{once_more}
-use Rattle.tp_slots.specs.Plain.{What, bare, holds, gone, Slot, RegionSlot, Slots, slot_at, entries_at, scene_in, IsLive, WhatFits, IsOrdered}
+use Rattle.tp_slots.specs.Plain.{What, bare, holds, gone, Slot, RegionSlot, Slots, slot_at, region_slot, entries_at, scene_in, IsLive, WhatFits, IsOrdered}
 use Rattle.tp_slots.specs.Edit.{edited_entries, one_place, one_mark, Follows}
 use Rattle.tp_slots.specs.Places.{holder_at, HeldBy, HoldsByNumber, AreHeld}
 use Rattle.tp_slots.specs.Lives.{has_own, leads_to, lives_in, HasOwn}
 use Rattle.tp_slots.specs.Flags.{Flags, FlagsAreRight, risen_by, FlagHolds, rises_what, FlagsFollow}
 use Rattle.tp_slots.specs.Kept.{HasNumbers, IsShaped, IsQuiet}
 use Rattle.tp_slots.specs.Row.{slots_in, begun, stepped, held_after}
+use Rattle.tp_slots.specs.Threads.{after_at, AreLinked, IsLinked, AreLast, AreThreaded, afters_then}
 use Rattle.tp_slots.proofs.Read.{region_edited}
 use Rattle.tp_slots.proofs.Showing.{all_shown, has_shown}
 use Rattle.tp_slots.proofs.After.{scene_edited}
@@ -29,7 +30,8 @@ use Rattle.tp_slots.proofs.Counting.{put_adds}
 use Rattle.tp_slots.proofs.PlaceLemmas.{outer_less}
 use Rattle.tp_slots.proofs.Living.{lives_outward, home_lives}
 use Rattle.tp_slots.proofs.FlagRows.{row_follows}
-use Rattle.tp_slots.proofs.Stepping.{IsStep, slot_count, stepped_regions, ordered, follows, new_region, new_region_head, inner_at, outs_at, outs_from, old_count, bare_fit, bare_rises, bare_held, fits_below, new_marked}
+use Rattle.tp_slots.proofs.Threading.{old_after, inner_last, outs_linked, what_still, last_still, bare_linked, fit_linked, begun_last}
+use Rattle.tp_slots.proofs.Stepping.{region_new, IsStep, slot_count, stepped_regions, ordered, follows, new_region, new_region_head, inner_at, outs_at, outs_from, old_count, bare_fit, bare_rises, bare_held, fits_below, new_marked}
 
 joined : (a b c x : ℕ) → a ≤ b → b ≤ c → between a b x + between b c x ≡ between a c x
 joined a b c x u v = elim (cases_lt x a) [
@@ -254,6 +256,41 @@ module _ (s : Slots) (hs : List ℕ) (t : ℕ) (m : Option Side) (inner outs : L
 
   pub shape_then : IsShaped z hs'
   shape_then = record { ordered = ordered_then; numbers = numbers_then; own = own_then; held = held_then }
+
+  -- what is visited after each item
+  module _ (ns : List (Option ℕ)) (count : length ns ≡ n) (threads : AreThreaded s ns) where
+    abbrev ns' : List (Option ℕ)
+    ns' = afters_then ns (length inner) (length outs) t
+
+    same_after : (k : ℕ) → k < n → after_at ns' k ≡ after_at ns k
+    same_after k l = old_after ns (length inner) (length outs) t k (omega (arith, l, count))
+
+    by_linked : AreLinked ns' (range_with_len (n + length inner) (length outs)) (after_at ns t)
+    by_linked = subst (λ k. AreLinked ns' (range_with_len (k + length inner) (length outs)) (after_at ns t)) count (outs_linked ns (length inner) (length outs) t)
+
+    items_linked : (x : ℕ) → x < length z.slots → IsLinked ns' x (slot_at z x).what
+    items_linked x l = elim (cases_lt x n) [
+      | inl a ↦ elim (cases_eq x t) [
+        | inl c ↦ subst (λ (y : Slot). IsLinked ns' x y.what) (sym (ap (slot_at z) c ∙ gone_slot))
+            (subst (AreLinked ns' (range_with_len (n + length inner) (length outs))) (sym (same_after x a ∙ ap (after_at ns) c)) by_linked)
+        | inr c ↦ subst (λ (y : Slot). IsLinked ns' x y.what) (sym (old_slot x a c)) (what_still s ns ns' x (slot_at s x).what a same_after (sound.items x a).1 (threads.items x a))
+      ]
+      | inr a ↦ elim (cases_lt x (n + length inner)) [
+        | inl b ↦ subst (λ (y : Slot). IsLinked ns' x y.what) (sym (inner_slot x a b)) (bare_linked ns' x (x - n) inner step.bare)
+        | inr b ↦ subst (λ (y : Slot). IsLinked ns' x y.what) (sym (out_slot x b l)) (fit_linked z home ns' x (x - (n + length inner)) outs step.fits)
+      ]
+    ]
+
+    roots_last : (r : ℕ) → r < length z.regions → AreLast ns' (region_slot z r).roots
+    roots_last r l = elim (cases_lt r (length s.regions)) [
+      | inl a ↦ subst (AreLast ns') (sym (followed.roots r a (omega arith))) (last_still s ns ns' 0 r (region_slot s r).roots same_after (sound.regions r a) (threads.roots r a))
+      | inr a ↦ subst (λ (y : RegionSlot). AreLast ns' y.roots)
+          (sym (region_new s t (range_with_len (n + length inner) (length outs)) m (slots_in (length s.regions) inner ++ slots_in home outs) (begun n (length inner)) (r - length s.regions) r (let e : r ≡ length s.regions + (r - length s.regions) = omega (arith, a) in e)))
+          (begun_last ns' n (length inner) (r - length s.regions) (subst (λ k. AreLast ns' (range_with_len k (length inner))) count (inner_last ns (length inner) (length outs) t)))
+    ]
+
+    pub threads_then : AreThreaded z ns'
+    threads_then = record { items = items_linked; roots = roots_last }
 
   -- flags
   pub flags_then : (y : Side) (f : Flags) → FlagsAreRight s y f → ((r : ℕ) → length s.regions ≤ r → f r ≡ false) → rises_all y f outs ≡ rises_what y f (slot_at s t).what → FlagsFollow z m home y f

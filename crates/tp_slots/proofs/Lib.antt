@@ -13,6 +13,7 @@ pub mod Counting
 pub mod FlagRows
 pub mod Living
 pub mod Stepping
+pub mod Threading
 pub mod Keeping
 pub mod Instances
 pub mod Lists
@@ -26,6 +27,7 @@ pub mod Costs
 pub mod CostLemmas
 pub mod Starting
 pub mod Settling
+pub mod Firsts
 pub mod Shallow
 pub mod Finding
 pub mod News

@@ -23,10 +23,17 @@ range_more a n = subst (λ m. range_with_len a m ≡ range_with_len a n ++ (a + 
 pub home_is : (xs : List Slot) (at : ℕ) (d : Slot) → at < length xs → (get_or xs at d).home ≡ home_in (map slot_of xs) at
 home_is xs at d l = ap (λ (x : plain.Slot). x.home) (sym (get_or-map slot_of xs at d (record { home = 0; what = plain.gone [] }) l))
 
-pub gone_is : (xs : List Slot) (at : ℕ) (d : Slot) (w : What) (by : List ℕ) → at < length xs → what_of w ≡ plain.gone by → map slot_of (slice_set xs at (record { home = (get_or xs at d).home; what = w })) ≡ gone_at (map slot_of xs) at by
+pub gone_is : (xs : List Slot) (at : ℕ) (d : Slot) (w : What) (by : List ℕ) → at < length xs → what_of w ≡ plain.gone by → map slot_of (slice_set xs at (record { home = (get_or xs at d).home; after = (get_or xs at d).after; what = w })) ≡ gone_at (map slot_of xs) at by
 gone_is xs at d w by l e =
-    map-set slot_of xs at (record { home = (get_or xs at d).home; what = w })
+    map-set slot_of xs at (record { home = (get_or xs at d).home; after = (get_or xs at d).after; what = w })
     ∙ (let h = home_is xs at d l in ap (slice_set (map slot_of xs) at) (λ i. record { home = h i; what = e i }))
+
+-- what is visited after it stays
+pub after_is : (xs : List Slot) (at : ℕ) (d : Slot) (w : What) → at < length xs → map (λ x. x.after) (slice_set xs at (record { home = (get_or xs at d).home; after = (get_or xs at d).after; what = w })) ≡ map (λ x. x.after) xs
+after_is xs at d w l =
+    let after : Slot → Option ℕ = λ x. x.after in
+    map-set after xs at (record { home = (get_or xs at d).home; after = (get_or xs at d).after; what = w })
+    ∙ (ap (slice_set (map after xs) at) (sym (get_or-map after xs at d None l)) ∙ set-get_or (map after xs) at None)
 
 region_is : (xs : List Region) (at : ℕ) (d : Region) → at < length xs → region_slot_of (get_or xs at d) ≡ get_or (map region_slot_of xs) at (record { ends = false; goes = false; roots = [] })
 region_is xs at d l = sym (get_or-map region_slot_of xs at d (record { ends = false; goes = false; roots = [] }) l)

@@ -49,6 +49,7 @@ pub remembered : (s : Scene) (k : Looks) (r : ℕ) (x : Look) → IsWellKept s �
     → IsWellKept (record { slots = s.slots; regions = s.regions; looks = k })
 remembered s k r x kept l is lives deep past not_ending = record {
   shape = kept.shape;
+  threads = kept.threads;
   ending = kept.ending;
   going = kept.going;
   quiet_ends = kept.quiet_ends;

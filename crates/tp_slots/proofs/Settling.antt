@@ -1,7 +1,7 @@
 -- What is shown, and what isn't settled, in walk order.
-use Rattle.std.proofs.Common.{◌≡◌, ℕ, zero, suc, ◌+◌, ◌<◌, Bool, true, false, take, get_or, arith, List, [], ◌∷◌, ◌++◌, length, Option, Some, None, refl, ap, sym, ◌∙◌, subst, inl, inr}
+use Rattle.std.proofs.Common.{◌≡◌, ℕ, ◌<◌, Bool, true, false, List, [], ◌∷◌, ◌++◌, length, Option, Some, None, refl, ap, sym, ◌∙◌, subst}
 use Rattle.std.specs.Prelude.{filter}
-use Rattle.std.proofs.lemmas.Bool.{both_ways, cases_Bool}
+use Rattle.std.proofs.lemmas.Bool.{both_ways}
 use Rattle.std.proofs.lemmas.List.{append_assoc}
 use Rattle.std.proofs.lemmas.List.Elements.{filter-append}
 use Rattle.tp_scene.specs.Scene.{Leaf, Do, Later, Shown, Holder, Head, Entries, none, leaf, node, second_lives, only_if, live_items, held_place, second_place}
@@ -10,9 +10,8 @@ use Rattle.tp_scene.specs.Advance.{shown_in}
 use Rattle.tp_slots.specs.Plain.{What, bare, holds, gone, Slot, Slots, slot_at, other_head, second_of, entries_at, has_second, WhatFits, IsOrdered}
 use Rattle.tp_slots.specs.Shown.{AreShown}
 use Rattle.tp_slots.specs.Places.{place_outward, AreHeld}
-use Rattle.tp_slots.specs.Settled.{what_shows, leaf_shows, shows_at, what_waits, item_waits, first_in}
+use Rattle.tp_slots.specs.Settled.{what_shows, leaf_shows, shows_at, what_waits, item_waits}
 use Rattle.tp_slots.specs.Row.{AreBelow}
-use Rattle.std.proofs.Math.Seq.{take-length}
 use Rattle.tp_slots.proofs.PutEdits.{second_has}
 use Rattle.tp_slots.proofs.PlaceLemmas.{held_is, second_is}
 
@@ -84,35 +83,6 @@ module _ (s : Slots) (hs : List ℕ) (sound : IsOrdered s) (known : AreHeld s hs
       ∙ sym (filter-append (item_waits s hs) (first ++ live_items held) (id ∷ live_items rest)
       ∙ ((λ i. filter-append (item_waits s hs) first (live_items held) i ++ filter_first (item_waits s hs) (holds_back k (place_outward s hs h.number)) id (live_items rest) (ap (λ (x : Slot). what_waits s hs x.what) a.2) i)
       ∙ ap (λ l. (l ++ filter (item_waits s hs) (live_items held)) ++ (only_if (holds_back k (place_outward s hs h.number)) (id ∷ []) ++ filter (item_waits s hs) (live_items rest))) (filter_if (item_waits s hs) (second_lives k) (live_items second))))
-
--- The first that passes.
-pub first_found : (p : ℕ → Bool) (xs : List ℕ) (i d : ℕ) → i < length xs → filter p (take i xs) ≡ [] → p (get_or xs i d) ≡ true → first_in (filter p xs) ≡ Some (get_or xs i d)
-first_found p [] i d l e f = absurd (omega (arith, l))
-first_found p (x ∷ xs) zero d l e f = rw f refl
-first_found p (x ∷ xs) (suc i) d l e f = elim (cases_Bool (p x)) [
-  | inl u ↦ absurd (none (rw u at e))
-  | inr u ↦ rw u (first_found p xs i d (omega (arith, l)) (rw u at e) f)
-]
-  where
-    none : {x : ℕ} {ys : List ℕ} → x ∷ ys ≡ [] → ⊥
-    none e = cc
-
-pub none_more : (p : ℕ → Bool) (xs : List ℕ) (i d : ℕ) → i < length xs → filter p (take i xs) ≡ [] → p (get_or xs i d) ≡ false → filter p (take (i + 1) xs) ≡ []
-none_more p xs i d l e f = subst (λ n. filter p (take n xs) ≡ []) (let s : suc i ≡ i + 1 = omega arith in s) (by xs i l e f)
-  where
-    none : {x : ℕ} {ys : List ℕ} → x ∷ ys ≡ [] → ⊥
-    none e = cc
-
-    by : (xs : List ℕ) (i : ℕ) → i < length xs → filter p (take i xs) ≡ [] → p (get_or xs i d) ≡ false → filter p (take (suc i) xs) ≡ []
-    by [] i l e f = refl
-    by (x ∷ xs) zero l e f = rw f refl
-    by (x ∷ xs) (suc i) l e f = elim (cases_Bool (p x)) [
-      | inl u ↦ absurd (none (rw u at e))
-      | inr u ↦ rw u (by xs i (omega (arith, l)) (rw u at e) f)
-    ]
-
-pub none_found : (p : ℕ → Bool) (xs : List ℕ) (n : ℕ) → n ≡ length xs → filter p (take n xs) ≡ [] → first_in (filter p xs) ≡ None
-none_found p xs n e f = ap first_in (ap (filter p) (sym (ap (λ i. take i xs) e ∙ take-length xs)) ∙ f)
 
 pub what_below : (s : Slots) (home t : ℕ) (w : What) → WhatFits s home t w → AreBelow (length s.regions) w
 what_below s home t (bare l) f = tt

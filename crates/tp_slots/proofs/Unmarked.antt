@@ -10,8 +10,9 @@ use Rattle.tp_slots.specs.Kept.{IsWellKept}
 use Rattle.tp_slots.specs.News.{new_items}
 use Rattle.tp_slots.specs.Row.{stepped, held_after}
 use Rattle.tp_slots.specs.Reductions.{IsBare, AreBare, becomes_leaves}
-use Rattle.tp_slots.specs.Read.{slots_of, scene_of, holders_of, ends_of, goes_of}
-use Rattle.tp_slots.proofs.Changing.{leaves_flags, leaves_looks, leaves_quiet, leaves_scene, leaves_shape, unmarked_kept}
+use Rattle.tp_slots.specs.Threads.{afters_then}
+use Rattle.tp_slots.specs.Read.{slots_of, scene_of, afters_of, holders_of, ends_of, goes_of}
+use Rattle.tp_slots.proofs.Changing.{leaves_threads, leaves_flags, leaves_looks, leaves_quiet, leaves_scene, leaves_shape, unmarked_kept}
 use Rattle.tp_slots.proofs.Lists.{unmarked_is}
 use Rattle.tp_slots.proofs.Newly.{leaves_news}
 use Rattle.tp_slots.specs.declared.scene.Scene.{Scene}
@@ -27,10 +28,11 @@ one_stepped s t first w l e f =
 module _ (s : Scene) (t : ℕ) (outs : List What) (kept : IsWellKept s) (lives : has t (scene_of s).root.entries ≡ true) (free : IsBare (slot_at (slots_of s) t).what) (bare : AreBare outs) (next : Scene)
     (es : slots_of next ≡ stepped (slots_of s) t None [] outs) (eh : holders_of next ≡ held_after (slots_of s) [] outs (holders_of s))
     (ee : ends_of next ≡ ends_of s ++ []) (eg : goes_of next ≡ goes_of s ++ []) where
-  pub unmarked_leaves_kept : next.looks ≡ s.looks → IsWellKept next
-  unmarked_leaves_kept el =
+  pub unmarked_leaves_kept : next.looks ≡ s.looks → afters_of next ≡ afters_then (afters_of s) 0 (length outs) t → IsWellKept next
+  unmarked_leaves_kept el ea =
       unmarked_kept next (slot_at (slots_of s) t).home (leaves_shape s t None outs kept lives free bare next 0 es eh ee eg) (leaves_flags s t None outs kept lives free bare next 0 es eh ee eg)
       (leaves_quiet s t None outs kept lives free bare next 0 es eh ee eg) (leaves_looks s t None outs kept lives free bare next 0 es eh ee eg el)
+      (leaves_threads s t None outs kept lives free bare next 0 es eh ee eg ea)
 
   pub unmarked_leaves_scene : scene_of next ≡ scene_after t (becomes_leaves (scene_of s) outs None) (scene_of s)
   unmarked_leaves_scene = leaves_scene s t None outs kept lives free bare next 0 es eh ee eg

@@ -11,7 +11,8 @@ use Rattle.tp_slots.specs.Lives.{HasOwn, lives_in}
 use Rattle.tp_slots.specs.Flags.{Flags, FlagsAreRight, flags_in}
 use Rattle.tp_slots.specs.Looks.{LooksAreRight}
 use Rattle.tp_slots.specs.Row.{begun}
-use Rattle.tp_slots.specs.Read.{slots_of, scene_of, holders_of, ends_of, goes_of, flags_of}
+use Rattle.tp_slots.specs.Threads.{AreThreaded}
+use Rattle.tp_slots.specs.Read.{slots_of, scene_of, afters_of, holders_of, ends_of, goes_of, flags_of}
 use Rattle.tp_slots.specs.declared.scene.Scene.{Scene}
 
 -- no number stands twice
@@ -30,9 +31,10 @@ pub record IsShaped (s : Slots) (holders : List ℕ) : Type 0 where
 abbrev pub IsQuiet : Slots → (holders : List ℕ) → Flags → Type 0
 IsQuiet s hs f = (r : ℕ) → r < length s.regions → lives_in s hs r ≡ false → f r ≡ false
 
--- And the status that is kept with each region is right, and so is what was found of it.
+-- And it is known what is visited after each item; the status that is kept with each region is right, and so is what was found of it.
 pub record IsWellKept (s : Scene) : Type 0 where
   pub shape : IsShaped (slots_of s) (holders_of s)
+  pub threads : AreThreaded (slots_of s) (afters_of s)
   pub ending : FlagsAreRight (slots_of s) Ending (flags_in (ends_of s))
   pub going : FlagsAreRight (slots_of s) Going (flags_in (goes_of s))
   pub quiet_ends : IsQuiet (slots_of s) (holders_of s) (flags_in (ends_of s))

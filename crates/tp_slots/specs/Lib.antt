@@ -19,3 +19,4 @@ pub mod Reductions
 pub mod News
 pub mod Own
 pub mod MarksTell
+pub mod Threads

@@ -1,5 +1,5 @@
 -- What slots stand for.
-use Rattle.std.specs.Prelude.{ℕ, Bool, List, map, Some, None}
+use Rattle.std.specs.Prelude.{ℕ, Bool, List, map, Option, Some, None}
 use Rattle.std.specs.List.{range_with_len}
 use Rattle.tp_scene.specs.Scene as S
 use Rattle.tp_decide.specs.Read.{formula_of, env_of, values_of}
@@ -55,6 +55,10 @@ abbrev pub other_side : S.Side → S.Side
 other_side S.Ending = S.Going
 other_side S.Going = S.Ending
 
+-- Of each item what is visited after it.
+abbrev pub afters_of : Scene → List (Option ℕ)
+afters_of s = map (λ x. x.after) s.slots.items
+
 -- Lists of regions, of slots and of what stands in slots, read one by one.
 abbrev pub region_slots : List Region → List plain.RegionSlot
 region_slots xs = map region_slot_of xs
@@ -76,6 +80,9 @@ whats_of xs = map what_of xs
 
 abbrev pub slot_whats : List Slot → List plain.What
 slot_whats xs = map (λ x. what_of x.what) xs
+
+abbrev pub slot_afters : List Slot → List (Option ℕ)
+slot_afters xs = map (λ x. x.after) xs
 
 -- what stands in the slot of an item
 abbrev pub item_what : Scene → ℕ → plain.What

@@ -21,6 +21,7 @@ pub fn start(alloc: Global, phrase: Phrase) -> Result<Scene, NoMemory>
     let mut slots = Vec::new(alloc);
     slots.push(Slot {
         home: 0,
+        after: None,
         what: What::Do(phrase),
     })?;
     let mut roots = Vec::new(alloc);

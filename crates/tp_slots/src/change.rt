@@ -10,10 +10,11 @@ ghost use Rattle.tp_decide.specs.Read.{env_of, formula_of};
 ghost use Rattle.tp_slots.specs.News.{bare_leaves, moved_news, new_items};
 ghost use Rattle.tp_slots.specs.Plain as plain;
 ghost use Rattle.tp_slots.specs.Reductions.{CanMove, IsAfter, IsBare, IsReduced, becomes_leaves, becomes_opened, becomes_split, moved_inner, moved_outs};
-ghost use Rattle.tp_slots.specs.Read.{holders_of, scene_of, slots_of, what_of, whats_of, item_what};
+ghost use Rattle.tp_slots.specs.Read.{afters_of, holders_of, scene_of, slots_of, what_of, whats_of, item_what};
 ghost use Rattle.tp_slots.specs.Kept.{IsShaped, IsQuiet, IsWellKept, IsUnchanged, Lives, region_lives, IsReducedTo, flags_on};
 ghost use Rattle.tp_slots.specs.Flags.{FlagsFollow};
 ghost use Rattle.tp_slots.specs.Looks.{LooksFollow};
+ghost use Rattle.tp_slots.specs.Threads.{AreThreaded};
 
 use crate::flags::raise;
 use crate::looks::pass_mark;
@@ -36,6 +37,7 @@ fn raise_mark(scene: &mut Scene, region: u64, mark: Option<Side>)
         (flags_on z scene.old) }
     requires quiet { (z : S.Side)
         → IsQuiet (slots_of scene.old) (holders_of scene.old) (flags_on z scene.old) }
+    requires threads { AreThreaded (slots_of scene.old) (afters_of scene.old) }
     requires looks { LooksFollow (slots_of scene.old) (option_map mark_of mark)
         (holders_of scene.old) scene.old.looks }
     ensures slots { slots_of scene.new ≡ slots_of scene.old }

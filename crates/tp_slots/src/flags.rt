@@ -1,7 +1,7 @@
 // Which regions end or go on.
 ghost use Rattle.std.specs.Prelude.{◌≡◌, ◌<◌, length, map, slice_set, true, false};
 ghost use Rattle.tp_decide.specs.Decided.{mark_of};
-ghost use Rattle.tp_slots.specs.Read.{flag_of, flags_of, holders_of, other_side, slots_of, what_of, region_slots, region_holders};
+ghost use Rattle.tp_slots.specs.Read.{afters_of, flag_of, flags_of, holders_of, other_side, slots_of, what_of, region_slots, region_holders};
 ghost use Rattle.tp_slots.specs.Kept.{IsShaped, IsQuiet, IsWellKept, region_place_of, region_lives, flags_on};
 ghost use Rattle.tp_slots.specs.Lives.{leads_to};
 ghost use Rattle.tp_slots.specs.Flags.{FlagsAreRight, Pending, forced_in, rises_from, sinks_in};
@@ -178,6 +178,7 @@ fn set_at(scene: &mut Scene, at: u64, side: Side)
         ≡ slice_set (flags_of (mark_of side) scene.old) at true }
     ensures other { flags_of (other_side (mark_of side)) scene.new
         ≡ flags_of (other_side (mark_of side)) scene.old }
+    ensures afters { afters_of scene.new ≡ afters_of scene.old }
     ensures looks { scene.new.looks ≡ scene.old.looks }
 {
     set_so(scene.regions.as_mut_slice(), at as usize, side);
@@ -196,6 +197,7 @@ pub fn raise(scene: &mut Scene, region: u64, side: Side)
     ensures holders { holders_of scene.new ≡ holders_of scene.old }
     ensures other { flags_of (other_side (mark_of side)) scene.new
         ≡ flags_of (other_side (mark_of side)) scene.old }
+    ensures afters { afters_of scene.new ≡ afters_of scene.old }
     ensures looks { scene.new.looks ≡ scene.old.looks }
     ensures right { FlagsAreRight (slots_of scene.old) (mark_of side)
         (flags_on (mark_of side) scene.new) }

@@ -13,6 +13,7 @@ mod room;
 mod scene;
 mod settle;
 mod status;
+mod values;
 mod walk;
 
 pub use begin::start;
@@ -23,6 +24,7 @@ pub use looks::{Look, Looks, no_looks};
 pub use memory::remember;
 pub use room::{become_one, make_room, vanish};
 pub use scene::{Mark, Region, Scene, Slot, What};
-pub use settle::{copy_values, first_unsettled, shown};
+pub use settle::first_unsettled;
 pub use status::mark;
+pub use values::{copy_values, shown};
 pub use walk::{items, items_inside};

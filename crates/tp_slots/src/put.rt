@@ -7,7 +7,8 @@ ghost use Rattle.tp_slots.specs.Plain as plain;
 ghost use Rattle.tp_slots.specs.Replace.{home_in, gone_at, marked_at, replaced};
 ghost use Rattle.tp_slots.specs.Row.{AreBelow, AllBelow, begun, hold, hold_all, slots_in, stepped, held_after};
 ghost use Rattle.tp_slots.specs.Reductions.{AreBare};
-ghost use Rattle.tp_slots.specs.Read.{ends_of, goes_of, holders_of, slots_of, what_of, region_slots, region_holders, region_ends, region_goes, all_slots, whats_of, slot_whats};
+ghost use Rattle.tp_slots.specs.Read.{afters_of, ends_of, goes_of, holders_of, slots_of, what_of, region_slots, region_holders, region_ends, region_goes, all_slots, slot_afters, whats_of, slot_whats};
+ghost use Rattle.tp_slots.specs.Threads.{afters_then, links, nothing_after};
 ghost use Rattle.tp_slots.specs.Kept.{IsUnchanged, unset};
 
 use crate::scene::{Region, Scene, Slot, What};
@@ -51,13 +52,43 @@ fn begin(alloc: Global, first: u64, count: usize) -> Result<Vec<Region>, NoMemor
     Ok(regions)
 }
 
-// Appends slots of one region, or fails.
+// Appends slots of a new region, or fails: nothing is visited after them.
 fn push_in(list: &mut Vec<Slot>, home: u64, whats: Vec<What>) -> Result<(), NoMemory>
-    ensures { OnOk result (all_slots list.new.items
+    ensures slots { OnOk result (all_slots list.new.items
         ≡ all_slots list.old.items ++ slots_in home (whats_of whats.items)) }
+    ensures afters { OnOk result (slot_afters list.new.items
+        ≡ slot_afters list.old.items ++ nothing_after (length whats.items)) }
 {
     for what in whats {
-        list.push(Slot { home, what })?;
+        list.push(Slot {
+            home,
+            after: None,
+            what,
+        })?;
+    }
+    Ok(())
+}
+
+// Appends slots of one region, or fails. The first one has this number; each is visited after the one before it, and `end` after the last.
+fn push_linked(
+    list: &mut Vec<Slot>,
+    home: u64,
+    first: u64,
+    end: Option<u64>,
+    whats: Vec<What>,
+) -> Result<(), NoMemory>
+    requires { first + length whats.items < 2 ^ 64 }
+    ensures slots { OnOk result (all_slots list.new.items
+        ≡ all_slots list.old.items ++ slots_in home (whats_of whats.items)) }
+    ensures afters { OnOk result (slot_afters list.new.items
+        ≡ slot_afters list.old.items ++ links first (length whats.items) end) }
+{
+    let mut left = whats.len() as u64;
+    let last = first + left;
+    for what in whats {
+        left -= 1;
+        let after = if left == 0 { end } else { Some(last - left) };
+        list.push(Slot { home, after, what })?;
     }
     Ok(())
 }
@@ -87,12 +118,13 @@ fn push_regions(list: &mut Vec<Region>, news: Vec<Region>)
 }
 
 /// The items with the numbers from the first on stand in the place of the item at `at`. What is answered is its region.
-#[tactic(auto, using(crate::proofs::Lists::gone_is, crate::proofs::Lists::home_is))]
+#[tactic(auto, using(crate::proofs::Lists::gone_is, crate::proofs::Lists::home_is, crate::proofs::Lists::after_is))]
 pub fn go(list: &mut [Slot], at: usize, first: u64, count: u64) -> u64
     requires { at < length list.old }
     ensures slots { all_slots list.new
         ≡ gone_at (all_slots list.old) at (range_with_len first count) }
     ensures home { result ≡ home_in (all_slots list.old) at }
+    ensures afters { slot_afters list.new ≡ slot_afters list.old }
 {
     let home = list[at].home;
     list[at].what = What::Gone { first, count };
@@ -195,6 +227,7 @@ pub fn commit(scene: &mut Scene, item: u64, side: Option<Side>, news: News)
         (holders_of scene.old ++ region_holders news.regions.items) }
     ensures ends { ends_of scene.new ≡ ends_of scene.old ++ region_ends news.regions.items }
     ensures goes { goes_of scene.new ≡ goes_of scene.old ++ region_goes news.regions.items }
+    ensures afters { afters_of scene.new ≡ afters_of scene.old ++ slot_afters news.slots.items }
     ensures looks { scene.new.looks ≡ scene.old.looks }
 {
     let first = scene.slots.len() as u64;
@@ -239,6 +272,8 @@ pub fn put(
         ≡ ends_of scene.old ++ unset (length inner.items)) }
     ensures goes { OnOk result (goes_of scene.new
         ≡ goes_of scene.old ++ unset (length inner.items)) }
+    ensures afters { OnOk result (afters_of scene.new
+        ≡ afters_then (afters_of scene.old) (length inner.items) (length outs.items) item) }
     ensures looks { scene.new.looks ≡ scene.old.looks }
     ensures err { OnErr result (IsUnchanged scene.old scene.new) }
 {
@@ -247,10 +282,11 @@ pub fn put(
     let from = first + begun as u64;
     let count = outs.len() as u64;
     let home = scene.slots[item as usize].home;
+    let end = scene.slots[item as usize].after;
     let regions = begin(alloc, first, begun)?;
     let mut slots = Vec::new(alloc);
     push_in(&mut slots, scene.regions.len() as u64, inner)?;
-    push_in(&mut slots, home, outs)?;
+    push_linked(&mut slots, home, from, end, outs)?;
     scene.slots.reserve(slots.len())?;
     scene.regions.reserve(regions.len())?;
     let news = News {

@@ -57,9 +57,11 @@ pub fn become_one(scene: &mut Scene, item: u64, phrase: Phrase)
         ≡ (scene_of scene.old).next_item ∷ [] }
 {
     let first = scene.slots.len() as u64;
+    let after = scene.slots[item as usize].after;
     let home = go(scene.slots.as_mut_slice(), item as usize, first, 1);
     let slot = Slot {
         home,
+        after,
         what: What::Do(phrase),
     };
     let Ok(()) = scene.slots.push(slot) else {

@@ -10,10 +10,12 @@ pub struct Scene {
     pub looks: Looks,
 }
 
-/// An item's slot: the region in which it stands, and what stands there.
+/// An item's slot: the region in which it stands; the item to visit after it and what stands in its place, if that came in place of the
+/// same one with which the region began; and what stands there.
 #[derive(Drop)]
 pub struct Slot {
     pub home: u64,
+    pub after: Option<u64>,
     pub what: What,
 }
 

@@ -1,20 +1,17 @@
-// What a scene has come to.
-ghost use Rattle.std.specs.Prelude.{◌≡◌, ◌++◌, length, map, IfOk, OnOk, OnErr};
+// What a scene has come to: the first item that isn't done with this state.
+ghost use Rattle.std.specs.Prelude.{◌≡◌, ◌++◌, ◌∷◌, ◌<◌, [], ℕ, List, length};
 ghost use Rattle.tp_scene.specs.Scene.{root_place};
 ghost use Rattle.tp_scene.specs.Rest.{unsettled_items};
-ghost use Rattle.tp_scene.specs.Advance.{shown_in};
-ghost use Rattle.tp_decide.specs.Read.{shows_of, values_of};
 ghost use Rattle.tp_slots.specs.Row.{AreBelow};
-ghost use Rattle.tp_slots.specs.Settled.{first_in, item_waits, what_shows, what_waits};
-ghost use Rattle.tp_slots.specs.Read.{holders_of, scene_of, slots_of, what_of, item_what};
+ghost use Rattle.tp_slots.specs.Settled.{first_in, first_waiting, standing, stands_by, waiting_in, what_waits};
+ghost use Rattle.tp_slots.specs.Read.{afters_of, holders_of, scene_of, slots_of, what_of, item_what};
 ghost use Rattle.tp_slots.specs.Kept.{IsWellKept};
+ghost use Rattle.tp_slots.specs.Threads.{after_at};
+ghost use Rattle.tp_slots.specs.Walk.{live_inside, live_of};
 
 use crate::flags::sees;
 use crate::scene::{Scene, What};
-use crate::walk::items;
-use std::alloc::Global;
-use tp_decide::{Shows, Side, Values};
-use tp_value::NoMemory;
+use tp_decide::Side;
 
 // Whether what stands in a slot isn't done with this state.
 fn waits(scene: &Scene, what: &What) -> bool
@@ -33,96 +30,120 @@ fn waits(scene: &Scene, what: &What) -> bool
     }
 }
 
-// The same of an item by its number.
-fn waits_at(scene: &Scene, item: u64) -> bool
-    requires { IsWellKept scene.now }
-    ensures { result ≡ item_waits (slots_of scene.now) (holders_of scene.now) item }
+// What is found inside of an item, or else the item itself where it waits.
+fn or_itself(scene: &Scene, item: u64, what: &What, inside: Option<u64>) -> Option<u64>
+    requires kept { IsWellKept scene.now }
+    requires item { item < length scene.now.slots.items }
+    requires slot { what_of what.now ≡ item_what scene.now item }
+    ensures { (ids : List ℕ) → inside ≡ first_waiting scene.now ids
+        → result ≡ first_waiting scene.now (ids ++ item ∷ []) }
 {
-    if item >= scene.slots.len() as u64 {
-        return false;
+    match inside {
+        Some(found) => Some(found),
+        None => { if waits(scene, what) { Some(item) } else { None } }
     }
-    let slot = &scene.slots[item as usize];
-    waits(scene, &slot.what)
 }
 
-/// The first live item in walk order that isn't done with this state.
-pub fn first_unsettled(alloc: Global, scene: &Scene) -> Result<Option<u64>, NoMemory>
-    requires { IsWellKept scene.now }
-    ensures { IfOk result (λ o.
-        o
-        ≡ first_in
-        (unsettled_items (scene_of scene.now).root.entries (root_place (scene_of scene.now).root))) }
-{
-    let ids = items(alloc, scene)?;
-    for i in 0..ids.len() {
-        if waits_at(scene, ids[i]) {
-            return Ok(Some(ids[i]));
-        }
-    }
-    Ok(None)
-}
-
-// Equal values.
-pub fn copy_values(alloc: Global, values: &Values) -> Result<Values, NoMemory>
-    ensures { IfOk result (λ vs. values_of vs ≡ values_of values.now) }
-{
-    let mut items = Vec::new(alloc);
-    for value in &values.items {
-        items.push(value.copy(alloc)?)?;
-    }
-    Ok(Values { items })
-}
-
-// Adds a copy of the values that stand in a slot, if they are to be shown.
-fn add_shown(alloc: Global, what: &What, all: &mut Vec<Values>) -> Result<(), NoMemory>
-    ensures { OnOk result (map values_of all.new.items
-        ≡ map values_of all.old.items ++ what_shows (what_of what.now)) }
+// The first item that waits, of one that stands in a slot and those in its regions.
+#[cycle(first)]
+fn first_held(scene: &Scene, item: u64, what: &What) -> Option<u64>
+    requires kept { IsWellKept scene.now }
+    requires item { item < length scene.now.slots.items }
+    requires slot { what_of what.now ≡ item_what scene.now item }
+    ensures { result ≡ first_waiting scene.now (standing scene.now item (what_of what.now)) }
 {
     match what {
-        What::Shown(values) => {
-            let copy = copy_values(alloc, values)?;
-            all.push(copy)?;
-            Ok(())
+        What::Do(_) => or_itself(scene, item, what, None),
+        What::Later(_) => or_itself(scene, item, what, None),
+        What::Shown(_) => or_itself(scene, item, what, None),
+        What::Gone { .. } => None,
+        What::Split { left, .. } => {
+            let inside = first_inside(scene, *left);
+            or_itself(scene, item, what, inside)
         }
-        What::Do(_) | What::Later(_) | What::Closed(_) => Ok(()),
-        What::Gone { .. } => Ok(()),
-        What::Split { .. } => Ok(()),
-        What::SplitProject { .. } => Ok(()),
-        What::Opened { .. } => Ok(()),
-        What::Running { .. } => Ok(()),
+        What::SplitProject { left, .. } => {
+            let inside = first_inside(scene, *left);
+            or_itself(scene, item, what, inside)
+        }
+        What::Closed(closed) => {
+            let inside = first_inside(scene, *closed);
+            or_itself(scene, item, what, inside)
+        }
+        What::Opened { outer, .. } => {
+            let inside = first_inside(scene, *outer);
+            or_itself(scene, item, what, inside)
+        }
+        What::Running { inner, outer, .. } => {
+            if let Some(found) = first_inside(scene, *outer) {
+                return Some(found);
+            }
+            let inside = first_inside(scene, *inner);
+            or_itself(scene, item, what, inside)
+        }
     }
 }
 
-// The same of an item by its number.
-fn add_shown_at(
-    alloc: Global,
-    scene: &Scene,
-    item: u64,
-    all: &mut Vec<Values>,
-) -> Result<(), NoMemory>
-    ensures { OnOk result (map values_of all.new.items
-        ≡ map values_of all.old.items ++ what_shows (item_what scene.now item)) }
+// The first of the items that stand in an item's place, if any do.
+fn first_by(what: &What) -> Option<u64>
+    ensures { result ≡ first_in (stands_by (what_of what.now)) }
 {
-    if item >= scene.slots.len() as u64 {
-        return Ok(());
+    match what {
+        What::Gone { first, count } => { if *count > 0 { Some(*first) } else { None } }
+        What::Do(_) | What::Later(_) | What::Shown(_) | What::Closed(_) => None,
+        What::Split { .. } => None,
+        What::SplitProject { .. } => None,
+        What::Opened { .. } => None,
+        What::Running { .. } => None,
     }
-    let slot = &scene.slots[item as usize];
-    add_shown(alloc, &slot.what, all)?;
-    Ok(())
 }
 
-/// Appends the lists of values that are shown in walk order, or changes nothing.
-pub fn shown(alloc: Global, scene: &Scene, out: &mut Shows) -> Result<(), NoMemory>
+// The first item that waits, of those that an item with which a region began stands for.
+#[cycle(first)]
+fn first_from(scene: &Scene, root: u64) -> Option<u64>
+    requires kept { IsWellKept scene.now }
+    requires item { root < length scene.now.slots.items }
+    requires last { after_at (afters_of scene.now) root ≡ None }
+    ensures { result ≡ first_waiting scene.now (live_of (slots_of scene.now) root) }
+{
+    let mut at = root;
+    'walk: loop {
+        let slot = &scene.slots[at as usize];
+        if let Some(found) = first_held(scene, at, &slot.what) {
+            return Some(found);
+        }
+        at = match first_by(&slot.what) {
+            Some(first) => first,
+            None => match slot.after {
+                Some(next) => next,
+                None => return None,
+            },
+        };
+    }
+}
+
+// The first item of a live region that waits, in walk order.
+#[cycle(first)]
+fn first_inside(scene: &Scene, region: u64) -> Option<u64>
+    requires kept { IsWellKept scene.now }
+    requires region { region < length scene.now.regions.items }
+    ensures { result ≡ first_waiting scene.now (live_inside scene.now region) }
+{
+    let here = &scene.regions[region as usize];
+    for i in 0..here.roots.len() {
+        if let Some(found) = first_from(scene, here.roots[i]) {
+            return Some(found);
+        }
+    }
+    None
+}
+
+/// The first live item in walk order that isn't done with this state. It takes no memory: it goes from item to item, by what each knows to
+/// come after it, and into regions by a recursion, which are at most 400 deep.
+pub fn first_unsettled(scene: &Scene) -> Option<u64>
     requires { IsWellKept scene.now }
-    ensures ok { OnOk result (shows_of out.new
-        ≡ shows_of out.old ++ shown_in (scene_of scene.now).root.entries) }
-    ensures err { OnErr result (shows_of out.new ≡ shows_of out.old) }
+    ensures { result
+        ≡ first_in
+        (unsettled_items (scene_of scene.now).root.entries (root_place (scene_of scene.now).root)) }
 {
-    let ids = items(alloc, scene)?;
-    let mut all = Vec::new(alloc);
-    for i in 0..ids.len() {
-        add_shown_at(alloc, scene, ids[i], &mut all)?;
-    }
-    out.items.append(&mut all)?;
-    Ok(())
+    first_inside(scene, 0)
 }

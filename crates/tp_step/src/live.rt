@@ -1,5 +1,5 @@
 // The live items of a scene, and what it has come to.
-ghost use Rattle.std.specs.Prelude.{◌≡◌, ◌++◌, [], IfOk, OnOk, OnErr};
+ghost use Rattle.std.specs.Prelude.{◌≡◌, ◌++◌, [], OnOk, OnErr};
 ghost use Rattle.tp_scene.specs.Scene.{live_items, root_place};
 ghost use Rattle.tp_scene.specs.Rest as rest;
 ghost use Rattle.tp_slots.specs.Kept.{IsWellKept};
@@ -37,13 +37,13 @@ fn by_root(scene: &Scene) -> Settled
 }
 
 /// What the scene has come to: its first item in walk order that isn't done with this state, or else the root's status.
-pub fn settled(alloc: Global, scene: &Scene) -> Result<Settled, NoMemory>
+pub fn settled(scene: &Scene) -> Settled
     requires { IsWellKept scene.now }
-    ensures settled { IfOk result (λ s. settled_of s ≡ rest.settled (scene_of scene.now)) }
+    ensures settled { settled_of result ≡ rest.settled (scene_of scene.now) }
     ensures ends { EndMeans scene.now }
 {
-    match first_unsettled(alloc, scene)? {
-        Some(item) => Ok(Settled::Waiting(item)),
-        None => Ok(by_root(scene)),
+    match first_unsettled(scene) {
+        Some(item) => Settled::Waiting(item),
+        None => by_root(scene),
     }
 }

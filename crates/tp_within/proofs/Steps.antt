@@ -22,7 +22,7 @@ use Rattle.tp_within.specs.Printable.{FormulaIsPrintable, DefinitionIsPrintable,
 use Rattle.tp_within.proofs.Kept.{FactsArePrintable, value_added, length_added}
 use Rattle.tp_within.proofs.Found.{number_value, definition_at, good, lists_good, evaluates_good}
 use Rattle.tp_scene.proofs.Evaluated.{Evaluates, outcome_told, place_outcome_told}
-use Rattle.tp_scene.proofs.Told.{Bundle, PartsOf, LeavesTold, HolderTold, AreKnown, Told, formula_told}
+use Rattle.tp_scene.proofs.Told.{Bundle, PartsOf, LeavesTold, HolderTold, RowsKeep, Told, formula_told}
 
 append_printable : (es fs : Entries) → EntriesArePrintable es → EntriesArePrintable fs → EntriesArePrintable (append es fs)
 append_printable none fs h k = k
@@ -91,7 +91,7 @@ module _ (facts : List Fact) where
       evaluates : Evaluates printable defs facts
       evaluates = evaluates_good printable.new_facts facts kept defs definitions
 
-      known_parts : AreKnown printable defs inputs state facts n
+      known_parts : RowsKeep printable defs inputs state facts n
       known_parts = record {
         lists = lists_good printable.new_facts;
         parts = printable_parts;

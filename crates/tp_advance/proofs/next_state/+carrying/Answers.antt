@@ -18,7 +18,7 @@ carry-loop-i-preserved t c =
     let l : c.loop-i.i < length ids = search rules in
     let x = item_carried c.args.old.now c.args.extent c.len-home.result ids c.push_region.new.scene c.loop-i.i c.index.result.now c.loop-i.new c.carry_item.new.new c.loop-i.roots.items c.push_number.new.list.items _
     (ap (λ y. take c.loop-i.i ids ++ y ∷ []) c.index.ensures ∙ sym (take_more ids c.loop-i.i c.index.result.now l)) c.loop-i.invariant.0 c.loop-i.invariant.1 c.in_ok-number.ensures.added c.in_ok-number.ensures.number c.in_ok-push_number.ensures in
-    (x.0, x.1, c.in_ok-number.ensures.looks ∙ c.loop-i.invariant.2)
+    (x.0, x.1, c.in_ok-number.ensures.looks ∙ c.loop-i.invariant.2, λ h. c.in_ok-number.ensures.unlinked (c.loop-i.invariant.3 h))
 
 pub carry-carry_item-requires : goal.carry-carry_item-requires
 carry-carry_item-requires t c =
@@ -39,7 +39,7 @@ carry-returns t c =
     let y = c.loop-i.invariant.1 ∙ ap (λ ns. next_ids c.push_region.new.scene (left_by c.args.extent (all_items s ns))) all in
     let done = region_carried c.args.old.now c.args.extent c.args.region c.len-home.result ids c.loop-i.roots.items c.args.new.now c.push_region.new.scene c.loop-i.new c.requires.sound c.requires.region c.in_ok-ids.ensures (search rules)
     c.in_ok-push_region.ensures.slots c.in_ok-push_region.ensures.regions x y in
-    record { added = done.added; roots = done.listed; looks = c.loop-i.invariant.2 ∙ c.in_ok-push_region.ensures.looks }
+    record { added = done.added; roots = done.listed; looks = c.loop-i.invariant.2 ∙ c.in_ok-push_region.ensures.looks; unlinked = λ h. c.loop-i.invariant.3 (c.in_ok-push_region.ensures.unlinked h) }
 
 pub carry_held-returns-clause-added : goal.carry_held-returns-clause-added
 carry_held-returns-clause-added t c =
@@ -80,6 +80,7 @@ carry_item-returns-in_ok-id-in-One t c =
       added = same.added (one_added c.args.home k h fs a b new fits.0 c.in_ok-region-in-One.ensures.added pushed c.in_ok-id-in-One.ensures.regions);
       number = ap (λ n. n ∷ []) c.in_ok-id-in-One.ensures.number ∙ (one_id c.args.home k h fs a b new fits.0 c.in_ok-region-in-One.ensures.added pushed c.in_ok-id-in-One.ensures.regions ∙ same.ids);
       looks = c.in_ok-id-in-One.ensures.looks ∙ c.in_ok-region-in-One.ensures.looks;
+      unlinked = λ h. c.in_ok-id-in-One.ensures.unlinked (c.in_ok-region-in-One.ensures.unlinked h);
     }
 
 pub carry_item-returns-in_ok-carry_second-in-Two : goal.carry_item-returns-in_ok-carry_second-in-Two
@@ -107,4 +108,5 @@ carry_item-returns-in_ok-carry_second-in-Two t c =
       added = same.added (two_added c.args.home k h g fs gs a b d new fits.0 c.in_ok-region-in-Two.ensures.added pushed c.in_ok-id-in-Two.ensures.regions then);
       number = ap (λ n. n ∷ []) c.in_ok-id-in-Two.ensures.number ∙ (two_id c.args.home k h g fs gs a b d new fits.0 c.in_ok-region-in-Two.ensures.added pushed c.in_ok-id-in-Two.ensures.regions then ∙ same.ids);
       looks = c.in_ok-carry_second-in-Two.ensures.looks ∙ (c.in_ok-id-in-Two.ensures.looks ∙ c.in_ok-region-in-Two.ensures.looks);
+      unlinked = λ h. c.in_ok-carry_second-in-Two.ensures.unlinked (c.in_ok-id-in-Two.ensures.unlinked (c.in_ok-region-in-Two.ensures.unlinked h));
     }

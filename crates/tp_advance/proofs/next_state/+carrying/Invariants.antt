@@ -1,6 +1,6 @@
 use Rattle.std.proofs.Common.{◌≡◌, ◌+◌, ◌*◌, ◌-◌, length, take}
 use Rattle.tp_slots.specs.Read.{slots_of, item_home}
-use Rattle.tp_advance.specs.Successors.{left_by, all_items, IsExtended, next_ids}
+use Rattle.tp_advance.specs.Successors.{left_by, all_items, AreUnlinked, IsExtended, next_ids}
 use Rattle.tp_advance.proofs.next_state.+carrying.Given as goal
 
 -- A region is inside of the one whose item holds it, so fewer come after it.
@@ -22,3 +22,4 @@ invariant-carry-loop-i l =
     IsExtended l.home (left_by l.extent (all_items (slots_of l.old) (take l.i l.ids.items))) l.initial.new l.new
     × (l.roots.items ≡ next_ids l.initial.new (left_by l.extent (all_items (slots_of l.old) (take l.i l.ids.items))))
     × (l.new.looks ≡ l.initial.new.looks)
+    × (AreUnlinked l.initial.new → AreUnlinked l.new)

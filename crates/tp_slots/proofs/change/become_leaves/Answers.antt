@@ -12,12 +12,13 @@ use Rattle.tp_slots.specs.Plain.{RegionSlot, scene_in}
 use Rattle.tp_slots.specs.Flags.{FlagsFollow, flags_in}
 use Rattle.tp_slots.specs.Lives.{lives_in}
 use Rattle.tp_slots.specs.Row.{begun, stepped, held_after}
-use Rattle.tp_slots.specs.Read.{ends_of, flags_of, goes_of, holders_of, scene_of, slot_of, slots_of, what_of}
+use Rattle.tp_slots.specs.Threads.{afters_then}
+use Rattle.tp_slots.specs.Read.{afters_of, ends_of, flags_of, goes_of, holders_of, scene_of, slot_of, slots_of, what_of}
 use Rattle.tp_slots.specs.Reductions.{AreBare, becomes_leaves}
 use Rattle.tp_slots.specs.declared.scene.Slot.{Slot}
 use Rattle.tp_slots.specs.declared.scene.What as code
 use Rattle.tp_slots.proofs.Lists.{home_is}
-use Rattle.tp_slots.proofs.Changing.{bare_below, home_within, leaves_flags, leaves_home, leaves_live, leaves_looks, leaves_quiet, leaves_scene, leaves_shape, lives_within, unchanged_kept}
+use Rattle.tp_slots.proofs.Changing.{bare_below, home_within, leaves_threads, leaves_flags, leaves_home, leaves_live, leaves_looks, leaves_quiet, leaves_scene, leaves_shape, lives_within, unchanged_kept}
 use Rattle.tp_slots.proofs.Newly.{leaves_bare, leaves_news}
 use Rattle.tp_slots.proofs.change.become_leaves.Goals as goal
 
@@ -68,6 +69,17 @@ raise_mark-requires-clause-quiet c = leaves_quiet c.args.scene.now c.args.item (
     (c.in_ok-put.ensures.holders ∙ (λ i. held_after (slots_of c.args.scene.now) (map what_of (c.new.ensures.items i)) (c.in_ok-outs.ensures i) (holders_of c.args.scene.now)))
     (c.in_ok-put.ensures.ends ∙ ap (λ (l : List code.What). ends_of c.args.scene.now ++ map (λ (x : RegionSlot). false) (begun 0 (length l))) c.new.ensures.items)
     (c.in_ok-put.ensures.goes ∙ ap (λ (l : List code.What). goes_of c.args.scene.now ++ map (λ (x : RegionSlot). false) (begun 0 (length l))) c.new.ensures.items)
+
+pub raise_mark-requires-clause-threads : goal.raise_mark-requires-clause-threads
+raise_mark-requires-clause-threads c =
+    let inner = ap (λ (l : List code.What). length l) c.new.ensures.items in
+    let outs = sym (length-map c.in_ok-outs.outs.items what_of) ∙ ap (λ (l : List plain.What). length l) c.in_ok-outs.ensures in
+    leaves_threads c.args.scene.now c.args.item (option_map mark_of c.args.mark) (bare_leaves c.args.news.items) c.requires.kept c.requires.lives c.requires.free (leaves_bare c.args.news.items) c.put.new.scene 0
+    (c.in_ok-put.ensures.slots ∙ (λ i. stepped (slots_of c.args.scene.now) c.args.item (option_map mark_of c.args.mark) (map what_of (c.new.ensures.items i)) (c.in_ok-outs.ensures i)))
+    (c.in_ok-put.ensures.holders ∙ (λ i. held_after (slots_of c.args.scene.now) (map what_of (c.new.ensures.items i)) (c.in_ok-outs.ensures i) (holders_of c.args.scene.now)))
+    (c.in_ok-put.ensures.ends ∙ ap (λ (l : List code.What). ends_of c.args.scene.now ++ map (λ (x : RegionSlot). false) (begun 0 (length l))) c.new.ensures.items)
+    (c.in_ok-put.ensures.goes ∙ ap (λ (l : List code.What). goes_of c.args.scene.now ++ map (λ (x : RegionSlot). false) (begun 0 (length l))) c.new.ensures.items)
+    (c.in_ok-put.ensures.afters ∙ (λ i. afters_then (afters_of c.args.scene.now) (inner i) (outs i) c.args.item))
 
 pub raise_mark-requires-clause-looks : goal.raise_mark-requires-clause-looks
 raise_mark-requires-clause-looks c = leaves_looks c.args.scene.now c.args.item (option_map mark_of c.args.mark) (bare_leaves c.args.news.items) c.requires.kept c.requires.lives c.requires.free (leaves_bare c.args.news.items) c.put.new.scene 0

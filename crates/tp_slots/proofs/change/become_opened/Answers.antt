@@ -10,7 +10,8 @@ use Rattle.tp_decide.specs.Read.{env_of, formula_of}
 use Rattle.tp_slots.specs.Plain as plain
 use Rattle.tp_slots.specs.Plain.{RegionSlot}
 use Rattle.tp_slots.specs.Row.{AllBelow, begun, stepped, held_after}
-use Rattle.tp_slots.specs.Read.{ends_of, goes_of, holders_of, region_slot_of, scene_of, slot_of, slots_of, what_of}
+use Rattle.tp_slots.specs.Threads.{afters_then}
+use Rattle.tp_slots.specs.Read.{afters_of, ends_of, goes_of, holders_of, region_slot_of, scene_of, slot_of, slots_of, what_of}
 use Rattle.tp_slots.specs.Reductions.{AreBare, becomes_opened}
 use Rattle.tp_slots.specs.declared.scene.What as code
 use Rattle.tp_slots.proofs.Changing.{home_within, lives_within, unchanged_kept, begins_scene, begins_kept}
@@ -41,6 +42,7 @@ returns-clause-kept c = begins_kept c.args.scene.now c.args.item (formula_of c.a
     (c.in_ok-put.ensures.ends ∙ ap (λ (l : List code.What). ends_of c.args.scene.now ++ map (λ (x : RegionSlot). false) (begun 0 (length l))) c.in_ok-inner.ensures)
     (c.in_ok-put.ensures.goes ∙ ap (λ (l : List code.What). goes_of c.args.scene.now ++ map (λ (x : RegionSlot). false) (begun 0 (length l))) c.in_ok-inner.ensures)
     c.put.ensures.looks
+    (c.in_ok-put.ensures.afters ∙ (λ i. afters_then (afters_of c.args.scene.now) (length (c.in_ok-inner.ensures i)) (length (c.in_ok-outs.ensures i)) c.args.item))
 
 pub returns-clause-scene : goal.returns-clause-scene
 returns-clause-scene c = begins_scene c.args.scene.now c.args.item (formula_of c.args.first) (env_of c.args.first) (S.Opened (formula_of c.args.piece) (env_of c.args.piece)) refl refl c.requires.kept c.requires.lives c.requires.free c.put.new.scene 0

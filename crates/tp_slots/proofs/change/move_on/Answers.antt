@@ -4,7 +4,8 @@ use Rattle.std.proofs.lemmas.List.{length-map}
 use Rattle.tp_slots.specs.Plain as plain
 use Rattle.tp_slots.specs.Plain.{What, RegionSlot, slot_at}
 use Rattle.tp_slots.specs.Row.{AllBelow, begun, stepped, held_after}
-use Rattle.tp_slots.specs.Read.{ends_of, goes_of, holders_of, region_slot_of, slot_of, slots_of, what_of}
+use Rattle.tp_slots.specs.Threads.{afters_then}
+use Rattle.tp_slots.specs.Read.{afters_of, ends_of, goes_of, holders_of, region_slot_of, slot_of, slots_of, what_of}
 use Rattle.tp_slots.specs.Reductions.{AreBare, moved_inner, moved_outs}
 use Rattle.tp_slots.proofs.Changing.{home_within, lives_within, unchanged_kept}
 use Rattle.tp_slots.proofs.Moving.{moved_done, moves_bare, moves_below}
@@ -55,12 +56,14 @@ returns-clause-kept c =
     let ei = c.in_ok-inner.ensures ∙ ap moved_inner read in
     let eo = c.in_ok-outs.ensures ∙ (λ i. moved_outs (read i) (count i)) in
     let size = sym (length-map c.in_ok-inner.inner.items what_of) ∙ ap (λ (l : List What). length l) ei in
+    let places = sym (length-map c.in_ok-outs.outs.items what_of) ∙ ap (λ (l : List What). length l) eo in
     (moved_done s c.args.item c.requires.kept c.requires.lives c.put.new.scene 0 (slot_at (slots_of s) c.args.item).what refl c.requires.holder (
       c.in_ok-put.ensures.slots ∙ (λ i. stepped (slots_of s) c.args.item None (ei i) (eo i)),
       c.in_ok-put.ensures.holders ∙ (λ i. held_after (slots_of s) (ei i) (eo i) (holders_of s)),
       c.in_ok-put.ensures.ends ∙ ap (λ n. ends_of s ++ map (λ (x : RegionSlot). false) (begun 0 n)) size,
       c.in_ok-put.ensures.goes ∙ ap (λ n. goes_of s ++ map (λ (x : RegionSlot). false) (begun 0 n)) size,
       c.put.ensures.looks,
+      c.in_ok-put.ensures.afters ∙ (λ i. afters_then (afters_of s) (size i) (places i) c.args.item),
     )
     c.requires.reduced).0
 
@@ -73,12 +76,14 @@ returns-clause-scene c =
     let ei = c.in_ok-inner.ensures ∙ ap moved_inner read in
     let eo = c.in_ok-outs.ensures ∙ (λ i. moved_outs (read i) (count i)) in
     let size = sym (length-map c.in_ok-inner.inner.items what_of) ∙ ap (λ (l : List What). length l) ei in
+    let places = sym (length-map c.in_ok-outs.outs.items what_of) ∙ ap (λ (l : List What). length l) eo in
     (moved_done s c.args.item c.requires.kept c.requires.lives c.put.new.scene 0 (slot_at (slots_of s) c.args.item).what refl c.requires.holder (
       c.in_ok-put.ensures.slots ∙ (λ i. stepped (slots_of s) c.args.item None (ei i) (eo i)),
       c.in_ok-put.ensures.holders ∙ (λ i. held_after (slots_of s) (ei i) (eo i) (holders_of s)),
       c.in_ok-put.ensures.ends ∙ ap (λ n. ends_of s ++ map (λ (x : RegionSlot). false) (begun 0 n)) size,
       c.in_ok-put.ensures.goes ∙ ap (λ n. goes_of s ++ map (λ (x : RegionSlot). false) (begun 0 n)) size,
       c.put.ensures.looks,
+      c.in_ok-put.ensures.afters ∙ (λ i. afters_then (afters_of s) (size i) (places i) c.args.item),
     )
     c.requires.reduced).1
 
@@ -91,6 +96,7 @@ returns-clause-news c =
     let ei = c.in_ok-inner.ensures ∙ ap moved_inner read in
     let eo = c.in_ok-outs.ensures ∙ (λ i. moved_outs (read i) (count i)) in
     let size = sym (length-map c.in_ok-inner.inner.items what_of) ∙ ap (λ (l : List What). length l) ei in
+    let places = sym (length-map c.in_ok-outs.outs.items what_of) ∙ ap (λ (l : List What). length l) eo in
     let after =
     (moved_done s c.args.item c.requires.kept c.requires.lives c.put.new.scene 0 (slot_at (slots_of s) c.args.item).what refl c.requires.holder (
       c.in_ok-put.ensures.slots ∙ (λ i. stepped (slots_of s) c.args.item None (ei i) (eo i)),
@@ -98,6 +104,7 @@ returns-clause-news c =
       c.in_ok-put.ensures.ends ∙ ap (λ n. ends_of s ++ map (λ (x : RegionSlot). false) (begun 0 n)) size,
       c.in_ok-put.ensures.goes ∙ ap (λ n. goes_of s ++ map (λ (x : RegionSlot). false) (begun 0 n)) size,
       c.put.ensures.looks,
+      c.in_ok-put.ensures.afters ∙ (λ i. afters_then (afters_of s) (size i) (places i) c.args.item),
     )
     c.requires.reduced).1 in
     c.in_ok-fresh.ensures ∙ moved_news_are s c.args.item c.requires.kept c.requires.lives c.put.new.scene c.requires.holder c.requires.reduced after

@@ -97,6 +97,7 @@ outward-preserved c =
       slots = es;
       holders = eh;
       other = c.set_at.ensures.other ∙ c.outward.invariant.other;
+      afters = c.set_at.ensures.afters ∙ c.outward.invariant.afters;
       looks = c.set_at.ensures.looks ∙ c.outward.invariant.looks;
       lives = lives_next c.args.scene.now z c.requires.shape c.outward.at l0 (flags_of z c.outward.scene) c.outward.invariant.pending (flags_of z s) c.set_at.ensures.set k (slot_of c.index-slot.result.now) w0 a c.outward.invariant.lives;
       pending = pending_next c.args.scene.now z c.requires.shape c.outward.at l0 (flags_of z c.outward.scene) c.outward.invariant.pending (flags_of z s) c.set_at.ensures.set k (slot_of c.index-slot.result.now) w0 (sym c.rises.ensures ∙ c.if-not-rises.false);

@@ -1,15 +1,20 @@
 -- Each slot is of that region.
-use Rattle.std.proofs.Common.{◌∷◌, ◌++◌, [], map, ap, sym, ◌∙◌}
-use Rattle.std.proofs.lemmas.List.{map-append, append_assoc}
+use Rattle.std.proofs.Common.{ℕ, Option, None, length, ◌∷◌, ◌++◌, [], map, ap, sym, ◌∙◌}
+use Rattle.std.proofs.lemmas.List.{map-append, append_assoc, length-append}
 use Rattle.tp_slots.specs.Row.{slots_in}
 use Rattle.tp_slots.specs.Read.{slot_of, what_of}
 use Rattle.tp_slots.specs.declared.scene.Slot.{Slot}
+use Rattle.tp_slots.specs.Threads.{nothing_after}
 use Rattle.tp_slots.proofs.Lists.{slots_more}
+use Rattle.tp_slots.proofs.Threading.{nothing_more}
 use Rattle.tp_slots.proofs.put.push_in.Goals as goal
+
+abbrev after : Slot → Option ℕ
+after x = x.after
 
 pub loop-what-preserved : goal.loop-what-preserved
 loop-what-preserved c =
-    let x : Slot = record { home = c.args.home; what = c.in-Some.what } in
+    let x : Slot = record { home = c.args.home; after = None; what = c.in-Some.what } in
     let before = map what_of c.loop-what.yielded in (
       tt,
       tt,
@@ -18,4 +23,9 @@ loop-what-preserved c =
           ∙ (ap (λ l. l ++ slot_of x ∷ []) c.loop-what.invariant.2
           ∙ (append_assoc (map slot_of c.args.list.now.items) (slots_in c.args.home before) (slot_of x ∷ [])
           ∙ ap (λ l. map slot_of c.args.list.now.items ++ l) (sym (slots_more c.args.home before (what_of c.in-Some.what)) ∙ ap (slots_in c.args.home) (sym (map-append what_of c.loop-what.yielded (c.in-Some.what ∷ []))))))),
+      ap (map after) c.in_ok-push.ensures.items
+          ∙ (map-append after c.loop-what.list.items (x ∷ [])
+          ∙ (ap (λ l. l ++ None ∷ []) c.loop-what.invariant.3
+          ∙ (append_assoc (map after c.args.list.now.items) (nothing_after (length c.loop-what.yielded)) (None ∷ [])
+          ∙ ap (λ l. map after c.args.list.now.items ++ l) (sym (nothing_more (length c.loop-what.yielded)) ∙ ap nothing_after (sym (length-append c.loop-what.yielded (c.in-Some.what ∷ []))))))),
     )

@@ -1,4 +1,5 @@
-use Rattle.std.proofs.Common.{◌≡◌, ◌++◌, map}
+use Rattle.std.proofs.Common.{◌≡◌, ◌++◌, map, length}
+use Rattle.tp_slots.specs.Threads.{nothing_after}
 use Rattle.tp_slots.specs.Row.{slots_in}
 use Rattle.tp_slots.specs.Read.{slot_of, what_of}
 use Rattle.tp_slots.proofs.put.push_in.Given as goal
@@ -7,4 +8,5 @@ abbrev pub invariant-loop-what : goal.invariant-loop-what
 invariant-loop-what l =
     (goal.iterator-loop-what).can_next l.what-iterator ×
     (goal.iterator-loop-what).is_finite l.what-iterator ×
-    (map slot_of l.list.items ≡ map slot_of l.fn.list.items ++ slots_in l.home (map what_of l.yielded))
+    (map slot_of l.list.items ≡ map slot_of l.fn.list.items ++ slots_in l.home (map what_of l.yielded)) ×
+    (map (λ x. x.after) l.list.items ≡ map (λ x. x.after) l.fn.list.items ++ nothing_after (length l.yielded))

@@ -1,6 +1,6 @@
 -- What was put is a step by one leaf.
-use Rattle.std.proofs.Common.{◌≡◌, ℕ, ◌++◌, List, [], ◌∷◌, map, length, take, refl, ap, ◌∙◌, sym, rules}
-use Rattle.std.proofs.lemmas.List.{append-nil, length-map, map-append}
+use Rattle.std.proofs.Common.{Option, None, ◌≡◌, ℕ, ◌++◌, List, [], ◌∷◌, map, length, take, refl, ap, ◌∙◌, sym, rules}
+use Rattle.std.proofs.lemmas.List.{append-nil, get_or-map, length-map, map-append}
 use Rattle.std.proofs.Math.Seq.{take-append_seam}
 use Rattle.tp_scene.specs.Scene as S
 use Rattle.tp_decide.specs.Read.{env_of, formula_of}
@@ -10,6 +10,8 @@ use Rattle.tp_slots.specs.Read.{ends_of, goes_of, holders_of, slot_of, slots_of}
 use Rattle.tp_slots.specs.declared.scene.Slot.{Slot}
 use Rattle.tp_slots.specs.declared.scene.What.TheVariants.{Do}
 use Rattle.tp_slots.specs.declared.scene.Scene.{Scene}
+use Rattle.tp_slots.specs.Threads.{after_at}
+use Rattle.tp_slots.proofs.Changing.{lives_within}
 use Rattle.tp_slots.proofs.Unmarked.{one_stepped, unmarked_leaves_kept, unmarked_leaves_news, unmarked_leaves_scene}
 use Rattle.tp_slots.proofs.room.become_one.Goals as goal
 
@@ -21,7 +23,7 @@ returns-clause-kept c =
     let s = c.args.scene.now in
     let next : Scene = record { slots = c.push.new.self; regions = s.regions; looks = s.looks } in
     let due = plain.bare (S.Do (formula_of c.args.phrase) (env_of c.args.phrase)) in
-    let slot : Slot = record { home = c.go-home.result; what = Do c.args.phrase } in
+    let slot : Slot = record { home = c.go-home.result; after = c.index.result.now.after; what = Do c.args.phrase } in
     let first : c.len-first.result ≡ length s.slots.items = search rules in
     let from : c.as_mut_slice.result.now ≡ s.slots.items = c.as_mut_slice.ensures.value in
     let count : s.slots.len ≡ length c.go-home.new.list = search rules in
@@ -29,16 +31,20 @@ returns-clause-kept c =
     let gone = c.go-home.ensures.slots ∙ ap (λ (l : List Slot). gone_at (map slot_of l) c.args.item (c.len-first.result ∷ [])) from in
     let home = c.go-home.ensures.home ∙ ap (λ (l : List Slot). home_in (map slot_of l) c.args.item) from in
     let slots = ap (map slot_of) items ∙ (map-append slot_of c.go-home.new.list (slot ∷ []) ∙ (λ i. gone i ++ record { home = home i; what = due } ∷ [])) in
+    let within = lives_within s c.args.item c.requires.kept.shape.ordered c.requires.lives in
+    let after : Slot → Option ℕ = λ x. x.after in
+    let next_one : c.index.result.now.after ≡ after_at (map after s.slots.items) c.args.item = ap after c.index.ensures ∙ sym (get_or-map after s.slots.items c.args.item c.index.result.now None within) in
+    let afters = ap (map after) items ∙ (map-append after c.go-home.new.list (slot ∷ []) ∙ ((λ i. (c.go-home.ensures.afters ∙ ap (map after) from) i ++ next_one i ∷ []))) in
     unmarked_leaves_kept s c.args.item (due ∷ []) c.requires.kept c.requires.lives c.requires.free (tt, tt) next
     (one_stepped (slots_of s) c.args.item c.len-first.result due (map slot_of c.push.new.self.items) slots (first ∙ sym (length-map s.slots.items slot_of)))
-    (sym (append-nil (holders_of s))) (sym (append-nil (ends_of s))) (sym (append-nil (goes_of s))) refl
+    (sym (append-nil (holders_of s))) (sym (append-nil (ends_of s))) (sym (append-nil (goes_of s))) refl afters
 
 pub returns-clause-scene : goal.returns-clause-scene
 returns-clause-scene c =
     let s = c.args.scene.now in
     let next : Scene = record { slots = c.push.new.self; regions = s.regions; looks = s.looks } in
     let due = plain.bare (S.Do (formula_of c.args.phrase) (env_of c.args.phrase)) in
-    let slot : Slot = record { home = c.go-home.result; what = Do c.args.phrase } in
+    let slot : Slot = record { home = c.go-home.result; after = c.index.result.now.after; what = Do c.args.phrase } in
     let first : c.len-first.result ≡ length s.slots.items = search rules in
     let from : c.as_mut_slice.result.now ≡ s.slots.items = c.as_mut_slice.ensures.value in
     let count : s.slots.len ≡ length c.go-home.new.list = search rules in
@@ -55,7 +61,7 @@ returns-clause-news c =
     let s = c.args.scene.now in
     let next : Scene = record { slots = c.push.new.self; regions = s.regions; looks = s.looks } in
     let due = plain.bare (S.Do (formula_of c.args.phrase) (env_of c.args.phrase)) in
-    let slot : Slot = record { home = c.go-home.result; what = Do c.args.phrase } in
+    let slot : Slot = record { home = c.go-home.result; after = c.index.result.now.after; what = Do c.args.phrase } in
     let first : c.len-first.result ≡ length s.slots.items = search rules in
     let from : c.as_mut_slice.result.now ≡ s.slots.items = c.as_mut_slice.ensures.value in
     let count : s.slots.len ≡ length c.go-home.new.list = search rules in

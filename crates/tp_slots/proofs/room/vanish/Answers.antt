@@ -2,7 +2,7 @@
 use Rattle.std.proofs.Common.{◌+◌, ◌++◌, List, [], map, length, None, ap, ◌∙◌, subst, sym}
 use Rattle.tp_slots.specs.Replace.{replaced}
 use Rattle.tp_slots.specs.Row.{AllBelow, hold_all}
-use Rattle.tp_slots.specs.Read.{ends_of, goes_of, holders_of, region_slot_of, slot_of, slots_of, what_of}
+use Rattle.tp_slots.specs.Read.{afters_of, ends_of, goes_of, holders_of, region_slot_of, slot_of, slots_of, what_of}
 use Rattle.tp_slots.specs.declared.scene.Slot.{Slot}
 use Rattle.tp_slots.specs.declared.scene.Region.{Region}
 use Rattle.tp_slots.proofs.Changing.{home_within, lives_within}
@@ -26,6 +26,7 @@ returns-clause-kept c =
     (c.commit.ensures.ends ∙ ap (λ (l : List Region). ends_of c.args.scene.now ++ map (λ (x : Region). x.ends_now) l) c.new-2.ensures.items)
     (c.commit.ensures.goes ∙ ap (λ (l : List Region). goes_of c.args.scene.now ++ map (λ (x : Region). x.goes_now) l) c.new-2.ensures.items)
     c.commit.ensures.looks
+    (c.commit.ensures.afters ∙ ap (λ (l : List Slot). afters_of c.args.scene.now ++ map (λ (x : Slot). x.after) l) c.new.ensures.items)
 
 pub returns-clause-scene : goal.returns-clause-scene
 returns-clause-scene c =

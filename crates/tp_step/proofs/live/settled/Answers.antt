@@ -1,9 +1,6 @@
 use Rattle.tp_step.proofs.MeaningLemmas.{end_means}
 use Rattle.tp_step.proofs.live.settled.Goals as goal
 
-pub returns-in_err-item-clause-ends : goal.returns-in_err-item-clause-ends
-returns-in_err-item-clause-ends c = end_means c.args.scene.now
-
 pub returns-in-Some-clause-ends : goal.returns-in-Some-clause-ends
 returns-in-Some-clause-ends c = end_means c.args.scene.now
 

@@ -8,7 +8,7 @@ use Rattle.tp_slots.specs.Read.{slots_of}
 use Rattle.tp_slots.specs.Settled.{shows_at, what_shows}
 use Rattle.tp_slots.proofs.Showing.{all_shown}
 use Rattle.tp_slots.proofs.Settling.{shows_append, shown_is}
-use Rattle.tp_slots.proofs.settle.shown.Goals as goal
+use Rattle.tp_slots.proofs.values.shown.Goals as goal
 
 pub loop-i-preserved : goal.loop-i-preserved
 loop-i-preserved c =

@@ -7,7 +7,7 @@ use Rattle.tp_slots.specs.Plain.{slot_at}
 use Rattle.tp_slots.specs.Settled.{what_shows}
 use Rattle.tp_slots.specs.Read.{slot_of, slots_of}
 use Rattle.tp_slots.proofs.Seeing.{slot_read}
-use Rattle.tp_slots.proofs.settle.add_shown_at.Goals as goal
+use Rattle.tp_slots.proofs.values.add_shown_at.Goals as goal
 
 pub returns-then-item-len : goal.returns-then-item-len
 returns-then-item-len c =
