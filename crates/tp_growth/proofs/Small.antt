@@ -55,17 +55,7 @@ ValueWithin (found.fault k) = Unit {0}
 ValueWithin (found.over k) = Unit {0}
 
 abbrev pub small : (List Fact → Type 0) → Bundle
-small N = free BindingWithin BindingsWithin ValueWithin N
-
--- one more binding at the end
-pub one_more : (env : Bindings) (b : BindingTree) → BindingsWithin env → BindingWithin b → BindingsWithin (env ++ b ∷ [])
-one_more [] b h k = (k, tt)
-one_more (c ∷ env) b h k = (h.0, one_more env b h.1 k)
-
-bound_small : (env : Bindings) (i : ℕ) (b : BindingTree) → BindingsWithin env → slice_get env i ≡ Some b → BindingWithin b
-bound_small [] i b h e = absurd (cc)
-bound_small (c ∷ env) zero b h e = let q : c ≡ b = cc in subst (λ (x : BindingTree). BindingWithin x) q h.0
-bound_small (c ∷ env) (suc i) b h e = bound_small env i b h.1 e
+small N = free BindingWithin ValueWithin N
 
 module _ (N : List Fact → Type 0) (facts : List Fact) (defs : List Definition) where
   parts_small : (e : ExprTree) (m : ℕ) → ExprPartsOf (small N) e m
@@ -78,9 +68,8 @@ module _ (N : List Fact → Type 0) (facts : List Fact) (defs : List Definition)
 
   pub evaluates_small : Evaluates (small N) defs facts
   evaluates_small = record {
-    lists = free_lists BindingWithin BindingsWithin ValueWithin N (λ k. refl) tt (λ x xs h k. (h, k)) (λ x xs h k. one_more xs x k h);
+    lists = free_lists BindingWithin ValueWithin N (λ k. refl);
     parts = λ e m h. parts_small e m;
-    bound_at = bound_small;
     body = λ i d e p q. tt;
     number = λ n e. refl;
     truths = λ c. refl;

@@ -88,7 +88,7 @@ module _ (facts : List Fact) (defs : List Definition) (inputs : InputLines) (sta
   known : RowsKeep (small AreShort) defs inputs state facts n
   known = record {
     lists = (evaluates_small AreShort facts defs).lists;
-    parts = λ g m h. free_parts BindingWithin BindingsWithin ValueWithin AreShort (λ k. refl) g m;
+    parts = λ g m h. free_parts BindingWithin ValueWithin AreShort (λ k. refl) g m;
     body = λ i d e. tt;
     value = λ e xs h k. outcome_told (small AreShort) facts defs (evaluates_small AreShort facts defs) e 0 xs tt k;
     place = λ e xs h k. place_outcome_told (small AreShort) facts defs (evaluates_small AreShort facts defs) e 0 xs tt k;

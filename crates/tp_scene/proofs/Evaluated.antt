@@ -22,7 +22,7 @@ use Rattle.tp_eval.specs.Evaluate as ev
 use Rattle.tp_eval.specs.Evaluate.{PlaceFound, at_path, inside, is_place, element_in, list_items as list_in, number_in, truth_in, of_full, length_in, evaluate, find_place, depth_limit}
 use Rattle.tp_eval.specs.Outcome as found
 use Rattle.tp_eval.specs.Outcome.{outcome, place_outcome, outcome_reached, place_reached}
-use Rattle.tp_scene.proofs.Told.{Bundle, Lists, PlaceHas}
+use Rattle.tp_scene.proofs.Told.{Bundle, AllBound, bound_at, Lists, PlaceHas}
 
 module _ (b : Bundle) where
   abbrev pub Value : Tree → Type 0
@@ -54,7 +54,6 @@ module _ (b : Bundle) where
 pub record Evaluates (b : Bundle) (defs : List Definition) (facts : List Fact) : Type 0 where
   pub lists : Lists b
   pub parts : (e : ExprTree) (m : ℕ) → b.expr e m → ExprPartsOf b e m
-  pub bound_at : (env : List BindingTree) (i : ℕ) (x : BindingTree) → b.bindings env → slice_get env i ≡ Some x → b.binding x
   pub body : (i : ℕ) (d : Definition) (e : ExprTree) → slice_get defs i ≡ Some d → d.expr ≡ Some e → b.expr e (length d.parameters)
   pub number : (n : ℤ) → is_within_limit n ≡ true → Value b (num n)
   pub truths : (c : Bool) → Value b (truth c)
@@ -198,12 +197,12 @@ module _ (b : Bundle) (facts : List Fact) (defs : List Definition) (closed : Eva
   between_given t u c h = closed.fault WrongKind
 
   -- places
-  bound_given : (env : List BindingTree) (i c : ℕ) → b.bindings env → Gives PlaceIs (ev.bound_place (slice_get env i) c)
+  bound_given : (env : List BindingTree) (i c : ℕ) → AllBound b env → Gives PlaceIs (ev.bound_place (slice_get env i) c)
   bound_given env i c h = go (slice_get env i) refl
     where
       go : (o : Option BindingTree) → slice_get env i ≡ o → Gives PlaceIs (ev.bound_place o c)
-      go (Some (place_binding p)) e = closed.bound_at env i (place_binding p) h e
-      go (Some (known_binding t)) e = closed.bound_value t (closed.bound_at env i (known_binding t) h e)
+      go (Some (place_binding p)) e = bound_at b env i (place_binding p) h e
+      go (Some (known_binding t)) e = closed.bound_value t (bound_at b env i (known_binding t) h e)
       go None e = closed.fault NoElement
 
   farther_given : (p : PlaceFound) (k c : ℕ) → nat_le k index_limit ≡ true → PlaceIs p → Gives PlaceIs (ev.farther p k c)
@@ -235,7 +234,7 @@ module _ (b : Bundle) (facts : List Fact) (defs : List Definition) (closed : Eva
   size_at_given (inside t at) c h = then_gives V V (element_in (item_at at t) c) _ (inside_given t at c h) length_of_given
 
   -- one level, where operands and places have it one level deeper
-  module _ (m : ℕ) (env : List BindingTree) (bs : b.bindings env) (op : ExprTree → Evaluation Tree) (up : (e : ExprTree) (c : ℕ) → b.expr e m → Gives V (op e c))
+  module _ (m : ℕ) (env : List BindingTree) (bs : AllBound b env) (op : ExprTree → Evaluation Tree) (up : (e : ExprTree) (c : ℕ) → b.expr e m → Gives V (op e c))
       (pl : ExprTree → Evaluation PlaceFound) (down : (e : ExprTree) (c : ℕ) → b.expr e m → Gives PlaceIs (pl e c)) where
     all_given : (es : ExprTrees) (c : ℕ) → b.exprs es m → Gives V (ev.all_true op es c)
     all_given no_expr c h = closed.truths true
@@ -262,10 +261,10 @@ module _ (b : Bundle) (facts : List Fact) (defs : List Definition) (closed : Eva
     argument_given true e c h = then_gives PlaceIs b.binding (pl e c) _ (down e c h) (λ p c u. bind_given p c u)
     argument_given false e c h = then_gives V b.binding (op e c) _ (up e c h) (λ t c u. closed.value_bound t u)
 
-    arguments_given : (es : ExprTrees) (xs : List (List ℕ)) (c : ℕ) → b.exprs es m → Gives b.bindings (ev.arguments op pl es xs c)
-    arguments_given no_expr [] c h = closed.lists.no_binding
-    arguments_given (expr_then e es) (x ∷ xs) c h = then_gives b.binding b.bindings (ev.argument op pl (is_upper x) e c) _ (argument_given (is_upper x) e c (closed.lists.first_expr e es m h))
-        (λ y c u. then_gives b.bindings b.bindings (ev.arguments op pl es xs c) _ (arguments_given es xs c (closed.lists.other_exprs e es m h)) (λ ys c v. closed.lists.before y ys u v))
+    arguments_given : (es : ExprTrees) (xs : List (List ℕ)) (c : ℕ) → b.exprs es m → Gives (AllBound b) (ev.arguments op pl es xs c)
+    arguments_given no_expr [] c h = tt
+    arguments_given (expr_then e es) (x ∷ xs) c h = then_gives b.binding (AllBound b) (ev.argument op pl (is_upper x) e c) _ (argument_given (is_upper x) e c (closed.lists.first_expr e es m h))
+        (λ y c u. then_gives (AllBound b) (AllBound b) (ev.arguments op pl es xs c) _ (arguments_given es xs c (closed.lists.other_exprs e es m h)) (λ ys c v. (u, v)))
     arguments_given no_expr (x ∷ xs) c h = closed.fault NoElement
     arguments_given (expr_then e es) [] c h = closed.fault NoElement
 
@@ -281,8 +280,8 @@ module _ (b : Bundle) (facts : List Fact) (defs : List Definition) (closed : Eva
     size_value false e c h = then_gives V V (op e c) _ (up e c h) length_of_given
 
     -- where the body of a definition has it
-    module _ (body : ExprTree → List BindingTree → Evaluation Tree) (in_body : (e : ExprTree) (j : ℕ) (args : List BindingTree) (c : ℕ) → b.expr e j → b.bindings args → Gives V (body e args c)) where
-      body_given : (j : ℕ) (o : Option ExprTree) (args : List BindingTree) (c : ℕ) → ((e : ExprTree) → o ≡ Some e → b.expr e j) → b.bindings args → Gives V (ev.body_of op pl facts env defs body o args c)
+    module _ (body : ExprTree → List BindingTree → Evaluation Tree) (in_body : (e : ExprTree) (j : ℕ) (args : List BindingTree) (c : ℕ) → b.expr e j → AllBound b args → Gives V (body e args c)) where
+      body_given : (j : ℕ) (o : Option ExprTree) (args : List BindingTree) (c : ℕ) → ((e : ExprTree) → o ≡ Some e → b.expr e j) → AllBound b args → Gives V (ev.body_of op pl facts env defs body o args c)
       body_given j (Some e) args c h k = in_body e j args c (h e refl) k
       body_given j None args c h k = closed.fault NoElement
 
@@ -294,7 +293,7 @@ module _ (b : Bundle) (facts : List Fact) (defs : List Definition) (closed : Eva
           go false = closed.limits.2
 
       call_given : (i : ℕ) (d : Option Definition) → slice_get defs i ≡ d → (es : ExprTrees) (c : ℕ) → b.exprs es m → Gives V (ev.call op pl facts env defs body d es c)
-      call_given i (Some d) is es c h = then_gives Any V (ev.count_call c) _ (count_given c) (λ n c u. then_gives b.bindings V (ev.arguments op pl es d.parameters c) _ (arguments_given es d.parameters c h)
+      call_given i (Some d) is es c h = then_gives Any V (ev.count_call c) _ (count_given c) (λ n c u. then_gives (AllBound b) V (ev.arguments op pl es d.parameters c) _ (arguments_given es d.parameters c h)
           (λ args c k. body_given (length d.parameters) d.expr args c (λ e q. closed.body i d e is q) k))
       call_given i None is es c h = closed.fault NoElement
 
@@ -316,8 +315,8 @@ module _ (b : Bundle) (facts : List Fact) (defs : List Definition) (closed : Eva
       row (invoke i es) c h = call_given i (slice_get defs i) refl es c h
 
   -- at each level
-  given_at : (d : ℕ) → ((e : ExprTree) (m : ℕ) (env : List BindingTree) (c : ℕ) → b.expr e m → b.bindings env → Gives V (evaluate facts defs d e env c))
-      × ((e : ExprTree) (m : ℕ) (env : List BindingTree) (c : ℕ) → b.expr e m → b.bindings env → Gives PlaceIs (find_place facts defs d e env c))
+  given_at : (d : ℕ) → ((e : ExprTree) (m : ℕ) (env : List BindingTree) (c : ℕ) → b.expr e m → AllBound b env → Gives V (evaluate facts defs d e env c))
+      × ((e : ExprTree) (m : ℕ) (env : List BindingTree) (c : ℕ) → b.expr e m → AllBound b env → Gives PlaceIs (find_place facts defs d e env c))
   given_at zero = (λ e m env c h k. closed.limits.2, λ e m env c h k. closed.limits.2)
   given_at (suc d) = let ih = given_at d in (
     (λ e m env c h k. row m env k _ (λ x c l. ih.0 x m env c l k) _ (λ x c l. ih.1 x m env c l k) _ (λ x j args c l n. ih.0 x j args c l n) e c (closed.parts e m h)),
@@ -337,10 +336,10 @@ module _ (b : Bundle) (facts : List Fact) (defs : List Definition) (closed : Eva
   place_has (stops (faults k)) h = h
   place_has (stops (passes k)) h = h
 
-  pub outcome_told : (e : ExprTree) (m : ℕ) (env : List BindingTree) → b.expr e m → b.bindings env → b.found (outcome facts defs e env)
+  pub outcome_told : (e : ExprTree) (m : ℕ) (env : List BindingTree) → b.expr e m → AllBound b env → b.found (outcome facts defs e env)
   unfolding outcome
   outcome_told e m env h k = outcome_has (evaluate facts defs depth_limit e env 0) ((given_at depth_limit).0 e m env 0 h k)
 
-  pub place_outcome_told : (e : ExprTree) (m : ℕ) (env : List BindingTree) → b.expr e m → b.bindings env → PlaceHas b (place_outcome facts defs e env)
+  pub place_outcome_told : (e : ExprTree) (m : ℕ) (env : List BindingTree) → b.expr e m → AllBound b env → PlaceHas b (place_outcome facts defs e env)
   unfolding place_outcome
   place_outcome_told e m env h k = place_has (find_place facts defs depth_limit e env 0) ((given_at depth_limit).1 e m env 0 h k)

@@ -1,5 +1,5 @@
 -- What the row of a formula that fits gives, by parts that fit.
-use Rattle.std.proofs.Common.{◌≡◌, ℕ, zero, suc, ◌-◌, Bool, List, [], ◌∷◌, ◌++◌, length, slice_get, Option, Some, None, subst, arith}
+use Rattle.std.proofs.Common.{◌≡◌, ℕ, zero, suc, ◌-◌, Bool, List, [], ◌∷◌, length, slice_get, Option, Some, None, arith}
 use Rattle.std.proofs.lemmas.Bool.{ltb-true}
 use Rattle.std.proofs.lemmas.List.{length-append}
 use Rattle.tp_value.specs.Tree.{Tree, num, truth, list, of_items}
@@ -9,10 +9,10 @@ use Rattle.tp_value.specs.declared.path.Fact.{Fact}
 use Rattle.tp_value.specs.declared.path.VarId.{VarId}
 use Rattle.tp_kernel.specs.declared.formula.FaultKind.{FaultKind}
 use Rattle.tp_kernel.specs.declared.formula.LimitKind.TheVariants as limit
-use Rattle.tp_meaning.specs.Syntax.{ExprTree, known, bound, global, invoke, FormulaTree, equation, next_equation, always, len, assign, while, for_from, forall_from, exists, call, input, Definition, BindingTree}
+use Rattle.tp_meaning.specs.Syntax.{ExprTree, known, bound, global, invoke, FormulaTree, equation, next_equation, always, len, assign, while, for_from, forall_from, exists, call, input, Definition}
 use Rattle.tp_meaning.specs.Unfolding.{nexts}
 use Rattle.tp_meaning.specs.Inputs.{InputLines}
-use Rattle.tp_meaning.specs.Fits.{ExprFits, ExprsFit, FormulaFits, FormulasFit, DefinitionsFit, BindingFits, BindingsFit, IsVariable}
+use Rattle.tp_meaning.specs.Fits.{ExprFits, ExprsFit, FormulaFits, FormulasFit, DefinitionsFit, BindingFits, IsVariable}
 use Rattle.tp_store.specs.Known as store
 use Rattle.tp_store.specs.Known.{Variable, IsVariableOf, AreOfVariables, full}
 use Rattle.tp_eval.specs.Outcome as found
@@ -49,16 +49,11 @@ fitting defs kinds variables n Q = record {
   expr = ExprFits defs kinds;
   exprs = ExprsFit defs kinds;
   binding = BindingFits (kinds_in variables);
-  bindings = BindingsFit (kinds_in variables);
   found = Q;
   new_facts = AreOfVariables variables;
   name = λ x. Unit {0};
   local = λ x. LocalIn x variables n.local;
 }
-
-bindings_append : (all : List Bool) (env : Bindings) (b : BindingTree) → BindingsFit all env → BindingFits all b → BindingsFit all (env ++ b ∷ [])
-bindings_append all [] b h k = (k, tt)
-bindings_append all (x ∷ env) b h k = (h.0, bindings_append all env b h.1 k)
 
 module _ (defs : List Definition) (kinds : List Bool) (variables : List Variable) (n : Numbers) (Q : found.Outcome → Type 0) where
   nexts_fit : (j : ℕ) (f : FormulaTree) (m : ℕ) → FormulaFits defs kinds f m → FormulaFits defs kinds (nexts j f) m
@@ -86,11 +81,6 @@ module _ (defs : List Definition) (kinds : List Bool) (variables : List Variable
   fit_exprs values among (invoke i es) m h = h.5
   fit_exprs values among e m h = h
 
-  bound_fits : (env : Bindings) (i : ℕ) (x : BindingTree) → BindingsFit (kinds_in variables) env → slice_get env i ≡ Some x → BindingFits (kinds_in variables) x
-  bound_fits [] i x h e = absurd (cc)
-  bound_fits (y ∷ env) zero x h e = let q : y ≡ x = cc in subst (λ (z : BindingTree). BindingFits (kinds_in variables) z) q h.0
-  bound_fits (y ∷ env) (suc i) x h e = bound_fits env i x h.1 e
-
   module _ (definitions : DefinitionsFit defs kinds) (among : (x : VarId) → IsVariable kinds x → IsVariable (kinds_in variables) x) (inputs : InputLines) (state : ℕ) (facts : List Fact) (sees : Sees facts variables Q) where
     lists_fit : Lists (fitting defs kinds variables n Q)
     lists_fit = record {
@@ -99,16 +89,12 @@ module _ (defs : List Definition) (kinds : List Bool) (variables : List Variable
       first_expr = λ e es m h. h.0;
       other_exprs = λ e es m h. h.1;
       sized = λ e m h. h;
-      no_binding = tt;
-      before = λ x xs h k. (h, k);
-      after = λ x xs h k. bindings_append (kinds_in variables) xs x k h;
     }
 
     evaluates : Evaluates (fitting defs kinds variables n Q) defs facts
     evaluates = record {
       lists = lists_fit;
       parts = fit_exprs sees.value among;
-      bound_at = bound_fits;
       body = λ i d e is q. definitions.expr i d is e q;
       number = λ k e. sees.value (num k);
       truths = λ c. sees.value (truth c);

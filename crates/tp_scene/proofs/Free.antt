@@ -1,5 +1,5 @@
 -- Properties that ask nothing of formulas: what is bound and found is enough.
-use Rattle.std.proofs.Common.{◌≡◌, refl, ℤ, ℕ, List, [], ◌∷◌, ◌++◌}
+use Rattle.std.proofs.Common.{◌≡◌, refl, ℤ, ℕ, List, [], ◌∷◌}
 use Rattle.tp_value.specs.Tree.{Tree, num}
 use Rattle.tp_value.specs.declared.path.Path.{Path}
 use Rattle.tp_value.specs.declared.path.Fact.{Fact}
@@ -11,25 +11,24 @@ use Rattle.tp_eval.specs.Outcome as found
 use Rattle.tp_eval.specs.Outcome.{PlaceOutcome, outcome, place_outcome}
 use Rattle.tp_scene.specs.Scene.{Bindings, Place}
 use Rattle.tp_scene.specs.Step.{Numbers, formula_step}
-use Rattle.tp_scene.proofs.Told.{Bundle, Lists, PartsOf, PlaceHas, RowsKeep, Told, formula_told}
+use Rattle.tp_scene.proofs.Told.{Bundle, AllBound, Lists, PartsOf, PlaceHas, RowsKeep, Told, formula_told}
 
-abbrev pub free : (BindingTree → Type 0) → (Bindings → Type 0) → (found.Outcome → Type 0) → (List Fact → Type 0) → Bundle
-free B Bs Q N = record {
+abbrev pub free : (BindingTree → Type 0) → (found.Outcome → Type 0) → (List Fact → Type 0) → Bundle
+free B Q N = record {
   formula = λ f m. Unit {0};
   formulas = λ fs m. Unit {0};
   expr = λ e m. Unit {0};
   exprs = λ es m. Unit {0};
   binding = B;
-  bindings = Bs;
   found = Q;
   new_facts = N;
   name = λ x. Unit {0};
   local = λ x. Unit {0};
 }
 
-module _ (B : BindingTree → Type 0) (Bs : Bindings → Type 0) (Q : found.Outcome → Type 0) (N : List Fact → Type 0) (numbers : (k : ℤ) → B (known_binding (num k))) where
+module _ (B : BindingTree → Type 0) (Q : found.Outcome → Type 0) (N : List Fact → Type 0) (numbers : (k : ℤ) → B (known_binding (num k))) where
   -- a line for each kind that owes more than one thing
-  pub free_parts : (f : FormulaTree) (m : ℕ) → PartsOf (free B Bs Q N) f m
+  pub free_parts : (f : FormulaTree) (m : ℕ) → PartsOf (free B Q N) f m
   free_parts (equation l r) m = (tt, tt)
   free_parts (next_equation k t e) m = (tt, λ v u. tt)
   free_parts (always f) m = (tt, tt)
@@ -44,21 +43,12 @@ module _ (B : BindingTree → Type 0) (Bs : Bindings → Type 0) (Q : found.Outc
   free_parts (input x port) m = (tt, tt)
   free_parts f m = tt
 
-  pub free_lists : Bs [] → ((x : BindingTree) (env : Bindings) → B x → Bs env → Bs (x ∷ env)) → ((x : BindingTree) (env : Bindings) → B x → Bs env → Bs (env ++ x ∷ [])) → Lists (free B Bs Q N)
-  free_lists none before after = record {
-    first_formula = λ g gs m h. tt;
-    other_formulas = λ g gs m h. tt;
-    first_expr = λ e es m h. tt;
-    other_exprs = λ e es m h. tt;
-    sized = λ e m h. tt;
-    no_binding = none;
-    before = before;
-    after = after;
-  }
+  pub free_lists : Lists (free B Q N)
+  free_lists = record { first_formula = λ g gs m h. tt; other_formulas = λ g gs m h. tt; first_expr = λ e es m h. tt; other_exprs = λ e es m h. tt; sized = λ e m h. tt }
 
 -- nothing is asked of bindings either
 abbrev pub loose : (found.Outcome → Type 0) → (List Fact → Type 0) → Bundle
-loose Q N = free (λ x. Unit {0}) (λ env. Unit {0}) Q N
+loose Q N = free (λ x. Unit {0}) Q N
 
 -- What is owed then: Q of an expression's outcome, of a place's that is no path, and of any value;
 -- and N of the facts that give a path its value, or a list its length.
@@ -72,13 +62,17 @@ module _ (Q : found.Outcome → Type 0) (N : List Fact → Type 0) (defs : List 
   place_by e env (found.path q) is = tt
   place_by e env (found.other o) is = other e env o is
 
+  unasked : (env : Bindings) → AllBound (loose Q N) env
+  unasked [] = tt
+  unasked (x ∷ env) = (tt, unasked env)
+
   pub loose_told : (f : FormulaTree) (env : Bindings) (p : Place) (n : Numbers) → Told (loose Q N) facts p n (formula_step defs inputs state facts f env p n)
-  loose_told f env p n = formula_told (loose Q N) defs inputs state facts n known p f env (tt, tt)
+  loose_told f env p n = formula_told (loose Q N) defs inputs state facts n known p f env (tt, unasked env)
     where
       known : RowsKeep (loose Q N) defs inputs state facts n
       known = record {
-        lists = free_lists (λ x. Unit {0}) (λ xs. Unit {0}) Q N (λ k. tt) tt (λ x xs h k. tt) (λ x xs h k. tt);
-        parts = λ g m h. free_parts (λ x. Unit {0}) (λ xs. Unit {0}) Q N (λ k. tt) g m;
+        lists = free_lists (λ x. Unit {0}) Q N (λ k. tt);
+        parts = λ g m h. free_parts (λ x. Unit {0}) Q N (λ k. tt) g m;
         body = λ i d e. tt;
         value = λ e xs h k. value e xs;
         place = λ e xs h k. place_by e xs (place_outcome facts defs e xs) refl;

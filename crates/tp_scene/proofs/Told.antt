@@ -33,20 +33,32 @@ abbrev pub other_side : Side → Side
 other_side Ending = Going
 other_side Going = Ending
 
--- Properties of what rows are made of: of a formula, and an expression, under so many bindings; of bindings, an outcome, new facts before they are added, names, and a new local.
--- New facts may be kept already; names are of locals and of ports. `local` isn't given by a row but
--- taken: who uses `news` below shows it. In `fitting` it says that the new local is a variable.
+-- Properties of what rows are made of: of a formula, and an expression, under so many bindings; of a binding; of what an expression is found to be; of
+-- new facts before they are added; of a name of a local or a port; and of a new local, which is assumed where the new items are told.
 pub record Bundle : Type 1 where
   pub formula : FormulaTree → ℕ → Type 0
   pub formulas : FormulaTrees → ℕ → Type 0
   pub expr : ExprTree → ℕ → Type 0
   pub exprs : ExprTrees → ℕ → Type 0
   pub binding : BindingTree → Type 0
-  pub bindings : Bindings → Type 0
   pub found : found.Outcome → Type 0
   pub new_facts : List Fact → Type 0
   pub name : List ℕ → Type 0
   pub local : Option Variable → Type 0
+
+-- each of the bindings has it
+abbrev pub AllBound : Bundle → Bindings → Type 0
+AllBound b [] = Unit {0}
+AllBound b (x ∷ env) = b.binding x × AllBound b env
+
+pub bound_at : (b : Bundle) (env : Bindings) (i : ℕ) (x : BindingTree) → AllBound b env → slice_get env i ≡ Some x → b.binding x
+bound_at b [] i x h e = absurd (cc)
+bound_at b (y ∷ env) zero x h e = let q : y ≡ x = cc in subst (λ (z : BindingTree). b.binding z) q h.0
+bound_at b (y ∷ env) (suc i) x h e = bound_at b env i x h.1 e
+
+one_more : (b : Bundle) (env : Bindings) (x : BindingTree) → AllBound b env → b.binding x → AllBound b (env ++ x ∷ [])
+one_more b [] x h k = (k, tt)
+one_more b (y ∷ env) x h k = (h.0, one_more b env x h.1 k)
 
 -- What a formula with the property owes, where m names are bound: the property of each formula that
 -- its row gives, which may be none of its own parts (see `while`, `assign`), and of each expression
@@ -77,34 +89,30 @@ PartsOf b (call i es) m = b.exprs es m
 PartsOf b (input x port) m = b.expr x m × b.name port
 PartsOf b (display es) m = b.exprs es m
 
--- A list passes its property on to its items, and bindings theirs to the list: `before` for what a
--- call binds, `after` for one more name. `sized` is for an equation that sets the size of e.
+-- what has the property in a list, and under a size, has it alone
 pub record Lists (b : Bundle) : Type 0 where
   pub first_formula : (f : FormulaTree) (fs : FormulaTrees) (m : ℕ) → b.formulas (formula_then f fs) m → b.formula f m
   pub other_formulas : (f : FormulaTree) (fs : FormulaTrees) (m : ℕ) → b.formulas (formula_then f fs) m → b.formulas fs m
   pub first_expr : (e : ExprTree) (es : ExprTrees) (m : ℕ) → b.exprs (expr_then e es) m → b.expr e m
   pub other_exprs : (e : ExprTree) (es : ExprTrees) (m : ℕ) → b.exprs (expr_then e es) m → b.exprs es m
   pub sized : (e : ExprTree) (m : ℕ) → b.expr (size e) m → b.expr e m
-  pub no_binding : b.bindings []
-  pub before : (x : BindingTree) (env : Bindings) → b.binding x → b.bindings env → b.bindings (x ∷ env)
-  pub after : (x : BindingTree) (env : Bindings) → b.binding x → b.bindings env → b.bindings (env ++ x ∷ [])
 
 abbrev pub PlaceHas : Bundle → PlaceOutcome → Type 0
 PlaceHas b (found.path q) = b.binding (place_binding q)
 PlaceHas b (found.other o) = b.found o
 
--- `facts` are kept before the step; p is where the item stands, and n the numbers that are free
+-- Said of a step in a region of this place, where these facts are known and new items and regions take these numbers.
 module _ (b : Bundle) (facts : List Fact) (p : Place) (n : Numbers) where
   abbrev pub PhraseTold : FormulaTree → Bindings → Type 0
-  PhraseTold f env = b.formula f (length env) × b.bindings env
+  PhraseTold f env = b.formula f (length env) × AllBound b env
 
-  -- what is for the next state stands where the region goes on, by this mark or already
+  -- what is done later is left where the region goes on, or is marked so by the step
   abbrev pub LeafTold : Option Side → Leaf → Type 0
   LeafTold mark (Do f env) = PhraseTold f env
   LeafTold mark (Later f env) = PhraseTold f env × ((mark ≡ Some Going) ⊎ (p.is Going ≡ true))
   LeafTold mark (Shown vs) = Unit {0}
 
-  -- a list of leaves takes item numbers in order
+  -- new leaves, of which the first has this number, in order; after them comes that one
   abbrev pub LeavesTold : Option Side → (from : ℕ) → Entries → (to : ℕ) → Type 0
   LeavesTold mark from none to = to ≡ from
   LeavesTold mark from (leaf id l rest) to = (id ≡ n.item from) × LeafTold mark l × LeavesTold mark (suc from) rest to
@@ -132,12 +140,14 @@ module _ (b : Bundle) (facts : List Fact) (p : Place) (n : Numbers) where
   abbrev pub FactsTold : List Fact → Type 0
   FactsTold fs = (fs ≡ []) ⊎ ((xs : List Fact) × b.new_facts xs × (addition facts xs ≡ adds fs))
 
+  -- a region that the step marks isn't of the other side, and the step gives new leaves, or one new region
   pub record ReductionTold (r : Reduction) : Type 0 where
     pub facts_of : FactsTold r.facts
     pub mark : (z : Side) → r.mark ≡ Some z → p.is (other_side z) ≡ false
     pub name : (x : Variable) → r.local ≡ Some x → b.name x.name
     pub news : b.local r.local → (LeavesTold r.mark 0 r.news r.items × (r.regions ≡ 0)) ⊎ (RegionTold r.news × (r.items ≡ 2) × (r.regions ≡ 1))
 
+  -- a wait is for what an expression waits for, or for the end of this region, which is open
   abbrev pub CellTold : Cell → Type 0
   CellTold (Part q) = b.found (found.wait q)
   CellTold (End region depth) = (p.region ≡ region) × (p.is Ending ≡ false) × (p.is Going ≡ false) × (p.depth ≡ depth)
@@ -172,8 +182,8 @@ pub record RowsKeep (b : Bundle) (defs : List Definition) (inputs : InputLines) 
   pub lists : Lists b
   pub parts : (f : FormulaTree) (m : ℕ) → b.formula f m → PartsOf b f m
   pub body : (i : ℕ) (d : Definition) → slice_get defs i ≡ Some d → b.formula d.formula (length d.parameters)
-  pub value : (e : ExprTree) (env : Bindings) → b.expr e (length env) → b.bindings env → b.found (outcome facts defs e env)
-  pub place : (e : ExprTree) (env : Bindings) → b.expr e (length env) → b.bindings env → PlaceHas b (place_outcome facts defs e env)
+  pub value : (e : ExprTree) (env : Bindings) → b.expr e (length env) → AllBound b env → b.found (outcome facts defs e env)
+  pub place : (e : ExprTree) (env : Bindings) → b.expr e (length env) → AllBound b env → PlaceHas b (place_outcome facts defs e env)
   pub read : (port : List ℕ) (v : Tree) → input_at inputs state port ≡ Some v → b.found (found.value v)
   pub value_bound : (v : Tree) → b.found (found.value v) → b.binding (known_binding v)
   pub local_bound : (x : Variable) → b.local (Some x) → b.binding (place_binding (record { var = record { number = n.local; lasting = x.lasting }; at = [] }))
@@ -289,7 +299,7 @@ module _ (b : Bundle) (defs : List Definition) (inputs : InputLines) (state : �
     go (found.value t) (found.wait q) u v = meets_told r.placed r.target (found.wait q) t tr v u
     go (found.wait q) (found.wait s) u v = if_told (r.placed && not l.placed) _ _ (u, v) (v, u)
 
-  module _ (env : Bindings) (bs : b.bindings env) where
+  module _ (env : Bindings) (bs : AllBound b env) where
     abbrev Fit : ExprTree → Type 0
     Fit e = b.expr e (length env)
 
@@ -318,10 +328,10 @@ module _ (b : Bundle) (defs : List Definition) (inputs : InputLines) (state : �
     argument_told : (x : List ℕ) (e : ExprTree) → Fit e → (f : BindingTree → PickOutcome) → ((y : BindingTree) → b.binding y → P (f y)) → P (with_argument defs facts x e env f)
     argument_told x e h f k = if_told (is_upper x) _ _ (place_told (place_outcome facts defs e env) (closed.place e env h bs) f k) (value_told (outcome facts defs e env) _ (value_of_told e h) (λ v u. k (known_binding v) (closed.value_bound v u)))
 
-    arguments_told : (es : ExprTrees) (xs : List (List ℕ)) (f : Bindings → PickOutcome) → b.exprs es (length env) → ((ys : Bindings) → b.bindings ys → length ys ≡ length xs → P (f ys)) → P (with_arguments defs facts es xs env f)
-    arguments_told no_expr [] f h k = k [] closed.lists.no_binding refl
+    arguments_told : (es : ExprTrees) (xs : List (List ℕ)) (f : Bindings → PickOutcome) → b.exprs es (length env) → ((ys : Bindings) → AllBound b ys → length ys ≡ length xs → P (f ys)) → P (with_arguments defs facts es xs env f)
+    arguments_told no_expr [] f h k = k [] tt refl
     arguments_told (expr_then e es) (x ∷ xs) f h k =
-        argument_told x e (closed.lists.first_expr e es _ h) _ (λ y u. arguments_told es xs _ (closed.lists.other_exprs e es _ h) (λ ys v q. k (y ∷ ys) (closed.lists.before y ys u v) (ap suc q)))
+        argument_told x e (closed.lists.first_expr e es _ h) _ (λ y u. arguments_told es xs _ (closed.lists.other_exprs e es _ h) (λ ys v q. k (y ∷ ys) (u, v) (ap suc q)))
     arguments_told x y f h k = tt
 
     called_told : (i : ℕ) (d : Option Definition) → slice_get defs i ≡ d → (es : ExprTrees) → b.exprs es (length env) → P (called defs facts d es env n)
@@ -343,7 +353,7 @@ module _ (b : Bundle) (defs : List Definition) (inputs : InputLines) (state : �
 
     -- one more binding
     under : (f : FormulaTree) (x : BindingTree) → b.formula f (suc (length env)) → b.binding x → Phrase f (env ++ x ∷ [])
-    under f x h k = (subst (λ (m : ℕ). b.formula f m) (let q = length-append env (x ∷ []) in let e : suc (length env) ≡ length (env ++ x ∷ []) = omega (arith, q) in e) h, closed.lists.after x env k bs)
+    under f x h k = (subst (λ (m : ℕ). b.formula f m) (let q = length-append env (x ∷ []) in let e : suc (length env) ≡ length (env ++ x ∷ []) = omega (arith, q) in e) h, one_more b env x bs k)
 
     chosen : (c : Bool) (f g : FormulaTree) → b.formula f (length env) → b.formula g (length env) → b.formula (if c then f else g) (length env)
     chosen true f g h k = h

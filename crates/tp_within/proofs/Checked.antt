@@ -1,22 +1,21 @@
 -- A checked program is printable where each name of its source stands on one line.
-use Rattle.std.proofs.Common.{refl, ap, sym, subst, ◌∙◌, ◌≡◌, ℕ, zero, suc, ◌&&◌, Bool, true, false, if◌then◌else◌, nat_eq, List, [], ◌∷◌, ◌++◌, length, Option, None, Some, Ok, Err, IfOk, IfSome, All, Contains}
-use Rattle.std.proofs.lemmas.List.Elements.{All-nil, All-cons, All-append, All-head, All-tail, All-contains}
-use Rattle.std.proofs.lemmas.Result.{IfOk-at_ok, IfOk-weaker}
+use Rattle.std.proofs.Common.{refl, ◌≡◌, ℕ, zero, suc, ◌&&◌, Bool, true, false, if◌then◌else◌, nat_eq, List, [], ◌∷◌, ◌++◌, length, Option, None, Some, Ok, Err, IfOk, IfSome, All, Contains}
+use Rattle.std.proofs.lemmas.List.Elements.{All-nil, All-cons, All-head, All-tail, All-contains}
+use Rattle.std.proofs.lemmas.Result.{IfOk-at_ok}
 use Rattle.tp_value.specs.Globals.{is_lower}
 use Rattle.tp_value.specs.declared.path.VarId.{VarId}
 use Rattle.tp_tree.specs.declared.operator.Op.{Op}
 use Rattle.tp_tree.specs.declared.operator.Op.TheVariants as op
 use Rattle.tp_tree.specs.declared.operator.Bare.{Bare}
-use Rattle.tp_tree.specs.declared.operator.Bare.TheVariants.{Empty, More, Skip}
+use Rattle.tp_tree.specs.declared.operator.Bare.TheVariants.{Empty}
 use Rattle.tp_tree.specs.declared.operator.Form.TheVariants as f
 use Rattle.tp_tree.specs.Tree as k
 use Rattle.tp_tree.specs.Tree.{PhraseTree, phrase, PhraseTrees, no_phrase, phrase_then, DefinitionTree, SourceTree}
 use Rattle.tp_tree.specs.Names.{phrase_names, kind_names, operand_names, definition_names, names_in_definitions, source_names}
-use Rattle.tp_meaning.specs.Syntax.{ExprTree, FormulaTree, Definition, equation, while, input, exprs_of, formulas_of}
+use Rattle.tp_meaning.specs.Syntax.{ExprTree, FormulaTree, equation, while, input, exprs_of, formulas_of}
 use Rattle.tp_meaning.specs.Value.{is_upper}
 use Rattle.tp_meaning.specs.Derived.{next_equals_of, repeat_of}
 use Rattle.tp_meaning.specs.Interval.{ProgramTree}
-use Rattle.tp_check.specs.declared.refusal.CheckRefusal.{CheckRefusal}
 use Rattle.tp_check.specs.declared.refusal.CheckRefusal.TheVariants.{Twice}
 use Rattle.tp_scope.specs.Scope.{Names, VisibleNames, Called, with_binder, with_binders, binder_of, bound_or_global, called_of}
 use Rattle.tp_scope.specs.Names.{has_repeat, twice_defined, names_of}
@@ -24,11 +23,11 @@ use Rattle.tp_scope.specs.Definitions.{signatures_of, AreStates}
 use Rattle.tp_scope.specs.Phrases.{is_place_phrase, is_place_kind, phrase_count, nexts_of, behind_nexts, at_of}
 use Rattle.tp_value.specs.Globals.{variable_of}
 use Rattle.tp_check.specs.Outcome.{CheckOutcome, mapped, both, three, not_expression}
-use Rattle.tp_check.specs.Positions.{named_expr, operation_of, operation_at, called_expr, expr_of, expr_of_kind, exprs_in, place_phrase, port_of_kind, port_phrase, arguments_in, equation_of, is_state_in, state_in, negation_in, binary_in, composition_of, composed_or, bare_of, called_formula, exists_of, formula_of, formula_of_kind, formulas_in}
+use Rattle.tp_check.specs.Positions.{named_expr, operation_of, operation_at, called_expr, expr_of, expr_of_kind, exprs_in, place_phrase, port_phrase, arguments_in, equation_of, is_state_in, state_in, negation_in, binary_in, composition_of, composed_or, bare_of, called_formula, exists_of, formula_of, formula_of_kind, formulas_in}
 use Rattle.tp_check.specs.Program.{expr_where, definition_with, definition_in, definitions_in, outermost, program_over, ChecksTo}
 use Rattle.tp_check.proofs.NameLaws.{globals_stand_in_source}
 use Rattle.tp_show.specs.TraceOfRun.{IsOneLine}
-use Rattle.tp_within.specs.Printable.{ExprIsPrintable, ExprsArePrintable, FormulaIsPrintable, FormulasArePrintable, DefinitionIsPrintable, ProgramIsPrintable}
+use Rattle.tp_within.specs.Printable.{ExprIsPrintable, ExprsArePrintable, FormulaIsPrintable, FormulasArePrintable, DefinitionIsPrintable}
 use Rattle.tp_within.specs.Laws.{CheckedProgramsArePrintable}
 
 -- ---- names of a part
@@ -78,23 +77,12 @@ name_good at None (Some v) = tt
 name_good at None None = tt
 
 operation_good : (at : ℕ) (o : Op) (l r : CheckOutcome ExprTree) → IfOk l Good → IfOk r Good → IfOk (operation_at at (operation_of o) l r) Good
-operation_good at op.Or l r p q = both_ok _ l r Good Good Good p q (λ x y a b. (a, b))
-operation_good at op.Equal l r p q = both_ok _ l r Good Good Good p q (λ x y a b. (a, b))
-operation_good at op.Differs l r p q = both_ok _ l r Good Good Good p q (λ x y a b. (a, b))
-operation_good at op.Less l r p q = both_ok _ l r Good Good Good p q (λ x y a b. (a, b))
-operation_good at op.LessEqual l r p q = both_ok _ l r Good Good Good p q (λ x y a b. (a, b))
-operation_good at op.Greater l r p q = both_ok _ l r Good Good Good p q (λ x y a b. (a, b))
-operation_good at op.GreaterEqual l r p q = both_ok _ l r Good Good Good p q (λ x y a b. (a, b))
-operation_good at op.Plus l r p q = both_ok _ l r Good Good Good p q (λ x y a b. (a, b))
-operation_good at op.Minus l r p q = both_ok _ l r Good Good Good p q (λ x y a b. (a, b))
-operation_good at op.Times l r p q = both_ok _ l r Good Good Good p q (λ x y a b. (a, b))
-operation_good at op.Div l r p q = both_ok _ l r Good Good Good p q (λ x y a b. (a, b))
-operation_good at op.Mod l r p q = both_ok _ l r Good Good Good p q (λ x y a b. (a, b))
 operation_good at op.Chop l r p q = tt
 operation_good at op.Proj l r p q = tt
 operation_good at op.Gets l r p q = tt
 operation_good at op.Arrow l r p q = tt
 operation_good at op.Becomes l r p q = tt
+operation_good at u l r p q = both_ok _ l r Good Good Good p q (λ x y a b. (a, b))
 
 module _ (names : VisibleNames) where
   called_good : (at : ℕ) (o : Option Called) (ps : PhraseTrees) → ((xs : Names) → IfOk (arguments_in names ps xs) AllGood) → IfOk (called_expr at o (phrase_count ps) (λ xs. arguments_in names ps xs)) Good
@@ -130,11 +118,10 @@ module _ (names : VisibleNames) where
     exprs_good (phrase_then p ps) = both_ok _ (expr_of names p) (exprs_in names ps) Good AllGood AllGood (expr_good p) (exprs_good ps) (λ x y a b. (a, b))
 
     arguments_good : (ps : PhraseTrees) (xs : Names) → IfOk (arguments_in names ps xs) AllGood
-    arguments_good no_phrase xs = tt
-    arguments_good (phrase_then p ps) [] = tt
     arguments_good (phrase_then p ps) (x ∷ xs) =
         both_ok _ (if is_upper x then place_phrase names p else expr_of names p) (arguments_in names ps xs) Good AllGood AllGood
         (if_ok (is_upper x) (place_phrase names p) (expr_of names p) Good (place_good_if p (expr_good p)) (expr_good p)) (arguments_good ps xs) (λ e es h t. (h, t))
+    arguments_good x xs = tt
 
   place_good : (p : PhraseTree) → IfOk (place_phrase names p) Good
   place_good p = place_good_if p (expr_good p)
@@ -155,8 +142,7 @@ equation_made (suc n) (suc m) at l r p q = both_ok equation l (not_expression at
 
 bare_made : (word : Bare) → Made (bare_of word)
 bare_made Empty = tt
-bare_made More = tt
-bare_made Skip = tt
+bare_made x = tt
 
 -- a formula of two is printable where both are
 abbrev Composes : (FormulaTree → FormulaTree → FormulaTree) → Type 0
@@ -169,21 +155,7 @@ composed_made None w v other composes p q r = r
 compositions_made : (o : Op) → IfSome (composition_of o) Composes
 compositions_made op.Chop = λ w v a b. (a, b)
 compositions_made op.Proj = λ w v a b. (a, b)
-compositions_made op.Or = tt
-compositions_made op.Equal = tt
-compositions_made op.Differs = tt
-compositions_made op.Less = tt
-compositions_made op.LessEqual = tt
-compositions_made op.Greater = tt
-compositions_made op.GreaterEqual = tt
-compositions_made op.Gets = tt
-compositions_made op.Arrow = tt
-compositions_made op.Becomes = tt
-compositions_made op.Plus = tt
-compositions_made op.Minus = tt
-compositions_made op.Times = tt
-compositions_made op.Div = tt
-compositions_made op.Mod = tt
+compositions_made x = tt
 
 exists_made : (xs : Names) (w : FormulaTree) → AreLines xs → Made w → Made (exists_of xs w)
 exists_made [] w lines h = h
@@ -293,11 +265,10 @@ definition_made names d b lines =
     (λ w o h g. record { name = All-head IsOneLine d.name (d.parameters ++ phrase_names d.body) lines; parameters = front d.parameters (phrase_names d.body) rest; formula = h; expr = g })
 
 definitions_made : (names : VisibleNames) (ds : List DefinitionTree) (states : List Bool) → AreLines (names_in_definitions ds) → IfOk (definitions_in names ds states) (All DefinitionIsPrintable)
-definitions_made names [] states lines = All-nil DefinitionIsPrintable
-definitions_made names (d ∷ ds) [] lines = All-nil DefinitionIsPrintable
 definitions_made names (d ∷ ds) (b ∷ bs) lines =
     both_ok (λ x xs. x ∷ xs) (definition_in names d b) (definitions_in names ds bs) DefinitionIsPrintable (All DefinitionIsPrintable) (All DefinitionIsPrintable)
     (definition_made names d b (front (definition_names d) (names_in_definitions ds) lines)) (definitions_made names ds bs (back (definition_names d) (names_in_definitions ds) lines)) (λ x xs h t. All-cons DefinitionIsPrintable x xs h t)
+definitions_made names x states lines = All-nil DefinitionIsPrintable
 
 -- its definitions and its formula
 abbrev BodiesArePrintable : ProgramTree → Type 0

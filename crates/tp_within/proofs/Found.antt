@@ -1,6 +1,6 @@
 -- Values that are found are within the limits on numbers, items and depth, and places that are found within those on paths, where all that they are
 -- made of is.
-use Rattle.std.proofs.Common.{◌≡◌, ℤ, pos, ℕ, zero, suc, ◌≤◌, Bool, List, [], ◌∷◌, ◌++◌, Option, Some, IfSome, subst, length, slice_get, All, arith}
+use Rattle.std.proofs.Common.{◌≡◌, ℤ, pos, ℕ, zero, suc, ◌≤◌, Bool, List, [], ◌∷◌, Option, Some, IfSome, subst, length, slice_get, All, arith}
 use Rattle.std.proofs.lemmas.Bool.{leb-true, le-leb, ltb-true}
 use Rattle.std.proofs.lemmas.List.{length-append}
 use Rattle.std.proofs.lemmas.List.Elements.{All-nil, All-cons, All-append, All-head, All-tail}
@@ -9,13 +9,12 @@ use Rattle.tp_value.specs.Number.{IsNumber}
 use Rattle.tp_value.specs.Limits.{index_limit, path_limit, length_limit, items_within, HaveNumbers, IsWithinLimits}
 use Rattle.tp_value.specs.declared.value.Shape.TheVariants.{Items}
 use Rattle.tp_value.specs.declared.path.Fact.{Fact}
-use Rattle.tp_meaning.specs.Syntax.{ExprTree, known, global, Definition, BindingTree}
+use Rattle.tp_meaning.specs.Syntax.{ExprTree, known, global, Definition}
 use Rattle.tp_eval.specs.Outcome as found
-use Rattle.tp_scene.specs.Scene.{Bindings}
 use Rattle.tp_scene.proofs.Told.{Bundle, Lists}
 use Rattle.tp_scene.proofs.Evaluated.{Values, ExprPartsOf, Evaluates}
 use Rattle.tp_show.specs.TraceOfRun.{IsOneLine, IsWithinIndexLimit}
-use Rattle.tp_within.specs.Printable.{ExprIsPrintable, ExprsArePrintable, FormulaIsPrintable, FormulasArePrintable, DefinitionIsPrintable, BindingIsPrintable, BindingsArePrintable}
+use Rattle.tp_within.specs.Printable.{ExprIsPrintable, ExprsArePrintable, FormulaIsPrintable, FormulasArePrintable, DefinitionIsPrintable, BindingIsPrintable}
 use Rattle.tp_within.proofs.Kept.{FactsArePrintable, limits_of, full_within}
 
 in_list : (ts : Trees) (k : ℕ) (u : Tree) → slice_get (items_of ts) k ≡ Some u → IsWithinLimits (list ts) → IsWithinLimits u
@@ -51,16 +50,6 @@ definition_at [] p h = tt
 definition_at (d ∷ ds) zero h = All-head DefinitionIsPrintable d ds h
 definition_at (d ∷ ds) (suc p) h = definition_at ds p (All-tail DefinitionIsPrintable d ds h)
 
--- one more binding at the end
-one_more : (env : Bindings) (b : BindingTree) → BindingsArePrintable env → BindingIsPrintable b → BindingsArePrintable (env ++ b ∷ [])
-one_more [] b h k = (k, tt)
-one_more (c ∷ env) b h k = (h.0, one_more env b h.1 k)
-
-bound_printable : (env : Bindings) (i : ℕ) (b : BindingTree) → BindingsArePrintable env → slice_get env i ≡ Some b → BindingIsPrintable b
-bound_printable [] i b h e = absurd (cc)
-bound_printable (c ∷ env) zero b h e = let q : c ≡ b = cc in subst (λ (x : BindingTree). BindingIsPrintable x) q h.0
-bound_printable (c ∷ env) (suc i) b h e = bound_printable env i b h.1 e
-
 -- an outcome with a value within the limits, if any
 abbrev pub ValueIsGood : found.Outcome → Type 0
 ValueIsGood (found.value t) = IsWithinLimits t
@@ -76,7 +65,6 @@ good N = record {
   expr = λ e m. ExprIsPrintable e;
   exprs = λ es m. ExprsArePrintable es;
   binding = BindingIsPrintable;
-  bindings = BindingsArePrintable;
   found = ValueIsGood;
   new_facts = N;
   name = IsOneLine;
@@ -91,9 +79,6 @@ module _ (N : List Fact → Type 0) where
     first_expr = λ e es m h. h.0;
     other_exprs = λ e es m h. h.1;
     sized = λ e m h. h;
-    no_binding = tt;
-    before = λ x xs h k. (h, k);
-    after = λ x xs h k. one_more xs x k h;
   }
 
   have_numbers : (ts : List Tree) → Values (good N) ts → HaveNumbers (of_items ts)
@@ -110,7 +95,6 @@ module _ (N : List Fact → Type 0) where
   evaluates_good facts kept defs definitions = record {
     lists = lists_good;
     parts = parts_good;
-    bound_at = bound_printable;
     body = λ i d e is q.
         let k : IfSome (Some d) DefinitionIsPrintable = subst (λ (o : Option Definition). IfSome o DefinitionIsPrintable) is (definition_at defs i definitions) in
         let j : IfSome (Some e) ExprIsPrintable = subst (λ (o : Option ExprTree). IfSome o ExprIsPrintable) q k.expr in

@@ -1,5 +1,5 @@
 -- What is kept of a state so that all that is written of it is within the limits.
-use Rattle.std.proofs.Common.{◌≡◌, ◌⊎◌, inl, inr, ◌+◌, ◌≤◌, ◌<◌, ℤ, ℕ, zero, suc, nat_le, Bool, true, false, not, ◌&&◌, ◌||◌, cond, List, [], ◌∷◌, ◌++◌, filter, length, slice_get, All, Option, Some, None, refl, sym, ap, ◌∙◌, subst, arith, append_assoc}
+use Rattle.std.proofs.Common.{◌≡◌, ◌⊎◌, inl, inr, ◌+◌, ◌≤◌, ℤ, ℕ, suc, nat_le, Bool, true, false, not, ◌&&◌, ◌||◌, cond, List, [], ◌∷◌, ◌++◌, filter, length, slice_get, All, Option, Some, None, refl, sym, ap, ◌∙◌, subst, arith, append_assoc}
 use Rattle.std.proofs.lemmas.Bool.{and_parts, or_parts, leb-true, le-leb}
 use Rattle.std.proofs.lemmas.List.Elements.{All-nil, All-cons, All-append}
 use Rattle.tp_value.specs.Tree.{Tree, Trees, num, truth, list, nil, cons, items_of}
@@ -12,7 +12,7 @@ use Rattle.tp_value.specs.declared.path.Fact.{Fact}
 use Rattle.tp_value.specs.declared.value.Shape.{Shape}
 use Rattle.tp_value.specs.declared.value.Shape.TheVariants.{Num, Truth, Items}
 use Rattle.tp_store.specs.Facts.{kept_shape, is_excluded, item_path, fact, facts_at, facts_of_items, same_path, same_shape, excludes, clash}
-use Rattle.tp_store.specs.Known.{NoClash, is_none, Addition, adds, new_facts, addition, Whole, known, open_at, Full, absent, undecided, too_long, value, whole, deepest, limited, full}
+use Rattle.tp_store.specs.Known.{NoClash, is_none, adds, new_facts, addition, Whole, known, open_at, absent, too_long, value, whole, deepest, limited, full}
 use Rattle.tp_store.specs.Entries.{AreOf}
 use Rattle.tp_store.proofs.Paths.{same_path-refl, same_shape-decides}
 use Rattle.tp_store.proofs.Members.{In, in_append, in_filter, filter_in, kept_in, in_kept, NoClash-filter}

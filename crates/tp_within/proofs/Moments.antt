@@ -1,13 +1,11 @@
 -- The moments of a run are printable where what is run is.
-use Rattle.std.proofs.Common.{◌≡◌, ℕ, suc, ◌+◌, nat_lt, List, [], ◌∷◌, ◌++◌, length, map, All, Option, Some, None, IfSome, refl, sym, ap, ◌∙◌, subst}
+use Rattle.std.proofs.Common.{◌≡◌, ℕ, ◌+◌, List, [], ◌∷◌, ◌++◌, map, All, Option, Some, None, IfSome, sym, subst}
 use Rattle.std.proofs.lemmas.List.Elements.{All-nil, All-cons, All-head, All-tail, All-append}
-use Rattle.tp_value.specs.declared.path.Fact.{Fact}
 use Rattle.tp_meaning.specs.Syntax.{FormulaTree}
-use Rattle.tp_store.specs.Facts.{kept_shape}
-use Rattle.tp_store.specs.Known.{Variable, Contents, global_variable, lasting_facts}
+use Rattle.tp_store.specs.Known.{Variable, global_variable, lasting_facts}
 use Rattle.tp_scene.specs.Scene.{Do, Later, Shown, Split, SplitProject, Closed, Opened, Running, Entries, none, leaf, node, Scene, root_place}
-use Rattle.tp_scene.specs.Step.{Reduction, PickOutcome, reduces, misses}
-use Rattle.tp_scene.specs.Pick.{Setting, Moment, Reduces, Leads, HasAdded, numbers_of, outcome_of, with_local}
+use Rattle.tp_scene.specs.Step.{Reduction, misses}
+use Rattle.tp_scene.specs.Pick.{Setting, Moment, Reduces, Leads, numbers_of, outcome_of, with_local}
 use Rattle.tp_scene.specs.Advance.{due, numbered, advanced}
 use Rattle.tp_scene.specs.Laws.{StoreGoesOn}
 use Rattle.tp_scene.specs.StandsFor.{first_moment}

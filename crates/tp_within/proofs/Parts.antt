@@ -1,12 +1,12 @@
 -- What is written of kept facts is within the limits.
-use Rattle.std.proofs.Common.{◌≡◌, ◌⊎◌, inl, inr, ◌+◌, ◌≤◌, ◌<◌, ℕ, zero, suc, max, Bool, true, false, not, ◌&&◌, ◌||◌, cond, eqb, ltb, List, [], ◌∷◌, ◌++◌, map, length, All, IsTrue, Option, Some, None, refl, sym, ap, ap₂, ◌∙◌, subst, arith, tests, append_assoc, length-append}
+use Rattle.std.proofs.Common.{◌≡◌, ◌⊎◌, inl, inr, ◌+◌, ◌≤◌, ◌<◌, ℕ, zero, suc, Bool, true, false, not, ◌&&◌, cond, eqb, ltb, List, [], ◌∷◌, ◌++◌, map, length, All, IsTrue, Option, Some, None, refl, sym, ap, ap₂, ◌∙◌, subst, arith, tests, append_assoc, length-append}
 use Rattle.std.specs.List.{starts_with}
-use Rattle.std.proofs.lemmas.Bool.{and_parts, both_ways, cases_Bool, or_right, or_left, false_from_ne_true}
+use Rattle.std.proofs.lemmas.Bool.{and_parts, both_ways, or_right, or_left, false_from_ne_true}
 use Rattle.std.proofs.lemmas.Bool.Decides.{Decides-eqb}
 use Rattle.std.proofs.lemmas.List.Elements.{All-nil, All-cons}
 use Rattle.std.proofs.lemmas.Slice.Eq.{starts_is}
 use Rattle.tp_value.specs.Tree.{Tree, Trees, num, truth, list, nil, cons, items_of, of_items}
-use Rattle.tp_value.specs.Limits.{path_limit, is_within_list_limit, IsWithinListLimit, IsWithinLimits}
+use Rattle.tp_value.specs.Limits.{path_limit, IsWithinListLimit}
 use Rattle.tp_value.specs.Shape.{shape_of}
 use Rattle.tp_value.specs.declared.path.VarId.{VarId}
 use Rattle.tp_value.specs.declared.path.Path.{Path}
@@ -14,18 +14,18 @@ use Rattle.tp_value.specs.declared.path.Fact.{Fact}
 use Rattle.tp_value.specs.declared.value.Shape.{Shape}
 use Rattle.tp_value.specs.declared.value.Shape.TheVariants.{Num, Truth, Items}
 use Rattle.tp_store.specs.Facts.{same_variable, same_path, same_shape, kept_shape, is_excluded, excludes, clash, item_path, fact, facts_at, facts_of_items}
-use Rattle.tp_store.specs.Known.{NoClash, Variable, IsVariableOf, global_variable, Whole, known, WholeItems, all_known, and_items, list_of_items, items_known, with_shape, whole, deepest, Full, absent, undecided, too_long, value, limited, full}
+use Rattle.tp_store.specs.Known.{NoClash, global_variable, known, all_known, and_items, list_of_items, items_known, with_shape, whole, deepest, Full, absent, too_long, value, limited, full}
 use Rattle.tp_store.proofs.Paths.{same_variable-decides}
 use Rattle.tp_store.proofs.Members.{In, in_left, in_right, kept_in, in_kept, apart_in, excluded_by}
 use Rattle.tp_scene.proofs.Globals.{of_variables_in}
-use Rattle.tp_show.specs.Parts.{is_before, AreInOrder, is_deeper, is_inside, is_written, is_value, LinePartTree, valued, measured, shape_part, known_part, parts_by, line_parts}
+use Rattle.tp_show.specs.Parts.{is_before, AreInOrder, is_deeper, is_inside, is_written, is_value, shape_part, known_part, parts_by, line_parts}
 use Rattle.tp_show.specs.Line.{AreFactsOf}
-use Rattle.tp_show.specs.TraceOfRun.{IsWithinIndexLimit, IsPathWithinLimits, IsPartWithinLimits, IsShapeWithinLimits}
+use Rattle.tp_show.specs.TraceOfRun.{IsPathWithinLimits, IsPartWithinLimits, IsShapeWithinLimits}
 use Rattle.tp_show.proofs.FactOrder.{is_before-order}
 use Rattle.tp_show.proofs.PartLemmas.{one_variable}
 use Rattle.tp_show.proofs.PathOrder.{IsPast, lesser_deeper, past_then_before, past_outside, before_by, before_past}
 use Rattle.tp_show.proofs.ToldLemmas.{beyond, all_in}
-use Rattle.tp_within.proofs.Kept.{KeepsValue, IsCovered, KeptIsPrintable, FactsArePrintable, full_within}
+use Rattle.tp_within.proofs.Kept.{KeepsValue, FactsArePrintable, full_within}
 use Rattle.tp_within.proofs.Found.{number_value, truth_value}
 
 -- ---- a value of which each fact is kept is known as a whole
@@ -37,8 +37,7 @@ in_deepest (g ∷ fs) f (inr i) = let h = in_deepest fs f i in omega (arith, h)
 
 first_in : (q : Path) (v : Tree) → In (fact q (shape_of v)) (facts_at q v)
 first_in q (num n) = inl refl
-first_in q (truth b) = inl refl
-first_in q (list ts) = inl refl
+first_in q t = inl refl
 
 same_items : (ts : Trees) → of_items (items_of ts) ≡ ts
 same_items nil = refl
@@ -164,10 +163,8 @@ module _ (names : List (List ℕ)) (facts : List Fact) (are : AreFactsOf names f
   shape_within f i path (Items n) e = (path, subst IsShapeWithinLimits e (kept f.path f.shape (in_kept facts f are.no_clash i)).shape)
 
   part_within : (f : Fact) → In f facts → length f.path.at ≤ path_limit → (k : Full) → full facts f.path ≡ k → IsPartWithinLimits (known_part f k)
-  part_within f i few absent e = shape_within f i (path_within f i few) f.shape refl
-  part_within f i few (undecided q) e = shape_within f i (path_within f i few) f.shape refl
-  part_within f i few too_long e = shape_within f i (path_within f i few) f.shape refl
   part_within f i few (value t) e = (path_within f i few, full_within facts f.path t kept e)
+  part_within f i few x e = shape_within f i (path_within f i few) f.shape refl
 
   -- the parts of such facts, whatever was written last
   abbrev PartsWithin : List Fact → Type 0
@@ -231,10 +228,8 @@ module _ (names : List (List ℕ)) (facts : List Fact) (are : AreFactsOf names f
               between b.0 f h b.2 here (b.3 f (inl refl)) (after h i) (subst (λ (q : Path). is_inside q h.path ≡ true) (sym b.1) inside) (subst (λ (q : Path). is_inside q f.path ≡ false) (sym b.1) w)
 
       told : PartsWithin fs → is_written last f.path ≡ false → (k : Full) → full facts f.path ≡ k → All IsPartWithinLimits (known_part f k ∷ parts_by (full facts) (cond (is_value k) (Some f.path) last) fs)
-      told more w absent e = All-cons IsPartWithinLimits _ _ (part_within f here (own_few w) absent e) (more last (rest_open (ap is_value e)) (later last before))
-      told more w (undecided q) e = All-cons IsPartWithinLimits _ _ (part_within f here (own_few w) (undecided q) e) (more last (rest_open (ap is_value e)) (later last before))
-      told more w too_long e = All-cons IsPartWithinLimits _ _ (part_within f here (own_few w) too_long e) (more last (rest_open (ap is_value e)) (later last before))
       told more w (value t) e = All-cons IsPartWithinLimits _ _ (part_within f here (own_few w) (value t) e) (more (Some f.path) (rest_whole w) (f, refl, here, after))
+      told more w x e = All-cons IsPartWithinLimits _ _ (part_within f here (own_few w) x e) (more last (rest_open (ap is_value e)) (later last before))
 
       go : PartsWithin fs → (b : Bool) → is_written last f.path ≡ b → All IsPartWithinLimits (cond b (parts_by (full facts) last fs) (known_part f (full facts f.path) ∷ parts_by (full facts) (cond (is_value (full facts f.path)) (Some f.path) last) fs))
       go more true w = more last (skipped w) (later last before)

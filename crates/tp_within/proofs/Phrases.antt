@@ -1,5 +1,5 @@
 -- The residual phrase of a printable scene stands on one line.
-use Rattle.std.proofs.Common.{◌≡◌, ◌≢◌, ℕ, ℤ, pos, negsuc, zero, suc, nat_le, Bool, true, false, cond, not, ◌==◌, ◌&&◌, List, [], ◌∷◌, ◌++◌, map, length, slice_get, unwrap_or, if◌then◌else◌, All, Option, Some, None, codes, refl, sym, ◌∙◌, subst}
+use Rattle.std.proofs.Common.{◌≡◌, ◌≢◌, ℕ, ℤ, pos, zero, suc, nat_le, Bool, true, false, cond, not, ◌==◌, ◌&&◌, List, [], ◌∷◌, ◌++◌, map, slice_get, unwrap_or, All, Some, None, codes, refl, sym, ◌∙◌, subst}
 use Rattle.std.specs.List.{flat_map}
 use Rattle.std.specs.Ordering.{int_eq}
 use Rattle.std.specs.Fmt.{decimal, signed_decimal}
@@ -13,11 +13,11 @@ use Rattle.tp_tree.specs.declared.operator.Op.{Op}
 use Rattle.tp_tree.specs.declared.operator.Op.TheVariants as op
 use Rattle.tp_tree.specs.declared.operator.Form.{Form}
 use Rattle.tp_tree.specs.declared.operator.Form.TheVariants as f
-use Rattle.tp_tree.specs.Levels.{index_level, prefix_level, sum_level, relation_level, not_level, chop_level, proj_level, any_level, left_level, right_level}
+use Rattle.tp_tree.specs.Levels.{index_level, prefix_level, sum_level, not_level, chop_level, proj_level, any_level, left_level, right_level}
 use Rattle.tp_tree.specs.Spelling.{op_spelling, form_spelling}
 use Rattle.tp_meaning.specs.Syntax.{ExprTree, ExprTrees, no_expr, expr_then, numeral, boolean, known, bound, global, listing, size, index, minus, negation, both, either, binary, choice, invoke, FormulaTree, FormulaTrees, no_formula, formula_then, trivial, test, equation, next_equation, empty, more, next, weak_next, if_more, if_empty, always, conjunction, branch, len, assign, chop, while, for_from, forall_from, project, exists, call, input, display, Definition, BindingTree, place_binding, known_binding}
-use Rattle.tp_store.specs.Known.{Variable, name_where, name_of}
-use Rattle.tp_scene.specs.Scene.{Bindings, Leaf, Do, Later, Shown, Holder, Split, SplitProject, Closed, Opened, Running, Entries, none, leaf, node}
+use Rattle.tp_store.specs.Known.{Variable, name_where}
+use Rattle.tp_scene.specs.Scene.{Bindings, Leaf, Do, Holder, Split, SplitProject, Entries, none, leaf, node}
 use Rattle.tp_show.specs.Texts.{index_text}
 use Rattle.tp_show.specs.TraceOfRun.{IsOneLine, HasNameOnOneLine}
 use Rattle.tp_show.proofs.PrintedBytes.{decimal_plain, signed_plain, text_plain, indices_plain}
@@ -61,34 +61,11 @@ enclosed_one most level z h = cond_both (nat_le level most) _ _ IsOneLine (λ _.
 
 operator_one : (o : Op) → lacks_feed (op_spelling o) ≡ true
 operator_one op.Chop = refl
-operator_one op.Proj = refl
-operator_one op.Or = refl
-operator_one op.Equal = refl
-operator_one op.Differs = refl
-operator_one op.Less = refl
-operator_one op.LessEqual = refl
-operator_one op.Greater = refl
-operator_one op.GreaterEqual = refl
-operator_one op.Gets = refl
-operator_one op.Arrow = refl
-operator_one op.Becomes = refl
-operator_one op.Plus = refl
-operator_one op.Minus = refl
-operator_one op.Times = refl
-operator_one op.Div = refl
-operator_one op.Mod = refl
+operator_one x = refl
 
 form_one : (form : Form) → lacks_feed (form_spelling form) ≡ true
 form_one f.Always = refl
-form_one f.Keep = refl
-form_one f.Fin = refl
-form_one f.Halt = refl
-form_one f.Stable = refl
-form_one f.Sometimes = refl
-form_one f.Len = refl
-form_one f.List = refl
-form_one f.Input = refl
-form_one f.Display = refl
+form_one x = refl
 
 operation_one : (o : Op) (l r : ℕ) (left right : List ℕ) → IsOneLine left → IsOneLine right → IsOneLine (operation_spelling o l left r right)
 operation_one o l r left right h k =
@@ -227,8 +204,6 @@ mutual
   formula_one v h (next_equation n t e) p =
       let left = nexts_spelling n ++ operand_expr v prefix_level t in
       joined (left ++ codes " = ") (operand_expr v sum_level e) (behind left (codes " = ") refl (joined (nexts_spelling n) (operand_expr v prefix_level t) (nexts_one n) (operand_one v h prefix_level t))) (operand_one v h sum_level e)
-  formula_one v h empty p = written_out (codes "empty") refl
-  formula_one v h more p = written_out (codes "more") refl
   formula_one v h (next w) p = operand_after (codes "next ") prefix_level (formula_level w) (formula_spelling v w) (written_out (codes "next ") refl) (formula_one v h w p)
   formula_one v h (weak_next w) p = operand_after (codes "weak next ") prefix_level (formula_level w) (formula_spelling v w) (written_out (codes "weak next ") refl) (formula_one v h w p)
   formula_one v h (if_more w) p = called_one (codes "ifmore") (formula_spelling v w) (written_out (codes "ifmore") refl) (formula_one v h w p)
@@ -283,6 +258,8 @@ mutual
   formula_one v h (call d es) p = called_one (definition_name v.definitions d) (exprs_spelling v [] (codes ", ") any_level es) (definition_one v.definitions h.definitions d) (exprs_one v h [] (codes ", ") any_level nothing (written_out (codes ", ") refl) es)
   formula_one v h (input x port) p = form_with f.Input (expr_spelling v x ++ codes ", " ++ port) (joined (expr_spelling v x ++ codes ", ") port (behind (expr_spelling v x) (codes ", ") refl (expr_one v h x)) p.1)
   formula_one v h (display es) p = form_with f.Display (exprs_spelling v [] (codes ", ") any_level es) (exprs_one v h [] (codes ", ") any_level nothing (written_out (codes ", ") refl) es)
+  formula_one v h empty p = written_out (codes "empty") refl
+  formula_one v h more p = written_out (codes "more") refl
 
   formulas_one : (v : Vocabulary) → IsSpeakable v → (opening : List ℕ) → IsOneLine opening → (ws : FormulaTrees) → FormulasArePrintable ws → IsOneLine (formulas_spelling v opening ws)
   formulas_one v h opening a no_formula p = nothing
@@ -307,20 +284,16 @@ module _ (xs : List Variable) (ds : List Definition) (variables : All HasNameOnO
 
   leaf_one : (l : Leaf) → LeafIsPrintable l → IsOneLine (leaf_spelling xs ds l)
   leaf_one (Do w env) p = phrase_one w env p.0
-  leaf_one (Later w env) p = nothing
-  leaf_one (Shown vs) p = nothing
+  leaf_one l p = nothing
 
   holder_one : (k : Holder) → HolderIsPrintable k → (l : ℕ) (left : List ℕ) (o : ℕ) (outer : List ℕ) → IsOneLine left → IsOneLine outer → IsOneLine (holder_spelling xs ds k l left o outer)
   holder_one (Split w env) p l left o outer h k = operation_one op.Chop l (formula_level w) left _ h (phrase_one w env p.0)
   holder_one (SplitProject w env) p l left o outer h k = operation_one op.Chop l proj_level left _ h (operation_one op.Proj (formula_level w) o _ outer (phrase_one w env p.0) k)
-  holder_one Closed p l left o outer h k = nothing
-  holder_one (Opened w env) p l left o outer h k = nothing
-  holder_one (Running w env) p l left o outer h k = nothing
+  holder_one x p l left o outer h k = nothing
 
   front_one : (rest : Entries) (level : ℕ) (text : List ℕ) → IsOneLine text → IsOneLine (text_before rest level text)
   front_one none level text h = h
-  front_one (leaf id l rest) level text h = enclosed_one not_level level text h
-  front_one (node id k i held g second rest) level text h = enclosed_one not_level level text h
+  front_one es level text h = enclosed_one not_level level text h
 
   mutual
     pub entries_one : (es : Entries) → EntriesArePrintable es → IsOneLine (entries_spelling xs ds es)

@@ -1,15 +1,14 @@
 -- What runs print is within the limits.
-use Rattle.std.proofs.Common.{◌≡◌, ℕ, suc, nat_lt, List, [], ◌∷◌, ◌++◌, length, All, refl, sym, subst}
+use Rattle.std.proofs.Common.{ℕ, suc, nat_lt, List, [], ◌∷◌, length, All, sym, subst}
 use Rattle.std.proofs.lemmas.List.Elements.{All-nil, All-cons, All-append}
 use Rattle.tp_kernel.specs.declared.formula.LimitKind.{LimitKind}
 use Rattle.tp_kernel.specs.declared.formula.LimitKind.TheVariants as limit
-use Rattle.tp_store.specs.Known.{Variable, facts_below}
+use Rattle.tp_store.specs.Known.{facts_below}
 use Rattle.tp_scene.specs.Pick.{Moment, Leads}
 use Rattle.tp_scene.specs.StandsFor.{first_moment}
 use Rattle.tp_show.specs.declared.turn.Picture.{Picture}
 use Rattle.tp_show.specs.declared.turn.Turn.{Turn}
 use Rattle.tp_show.specs.declared.turn.Turn.TheVariants.{Went, Finished, Contradictory, Undetermined, StateLimit, InputMissing, Over}
-use Rattle.tp_show.specs.TraceOfRun.{HasNameOnOneLine}
 use Rattle.tp_run.specs.States.{Plan, globals_of, setting, AreGlobals, StateGoesOn, StatesLead, LeadsTo, ReachesLimit, limit_moment}
 use Rattle.tp_run.specs.History.{RunEndsWith}
 use Rattle.tp_within.specs.Printable.{ProgramIsPrintable, InputsArePrintable}
@@ -61,10 +60,7 @@ module _ (plan : Plan) (program : ProgramIsPrintable plan.program) (inputs : Inp
 
   limit_printable : (n : ℕ) (m : Moment) (kind : LimitKind) (end : ReachesLimit (setting plan n) plan.reductions m kind) → MomentIsPrintable m → MomentIsPrintable (limit_moment (setting plan n) plan.reductions m kind end)
   limit_printable n m limit.Reductions end h = after n m end.last end.picks h end.leads
-  limit_printable n m limit.Number end h = after n m end.last end.picks h end.leads
-  limit_printable n m limit.List end h = after n m end.last end.picks h end.leads
-  limit_printable n m limit.Calls end h = after n m end.last end.picks h end.leads
-  limit_printable n m limit.Nest end h = after n m end.last end.picks h end.leads
+  limit_printable n m x end h = after n m end.last end.picks h end.leads
 
   run_printable : (ps : List Picture) (turn : Turn) (end : RunEndsWith plan ps turn) → RunIsPrintable plan ps turn end
   run_printable ps Went end = absurd end

@@ -12,7 +12,7 @@ use Rattle.tp_meaning.specs.Syntax.{known, FormulaTree, equation, next_equation,
 use Rattle.tp_meaning.specs.Unfolding.{nexts}
 use Rattle.tp_meaning.specs.Inputs.{InputPair, InputLines, port_value, input_at}
 use Rattle.tp_store.specs.Known.{adds, addition, Variable}
-use Rattle.tp_scene.specs.Scene.{Bindings, Side, Ending, Going, Head, Leaf, Do, Later, Shown, Holder, Split, SplitProject, Closed, Opened, Running, Entries, none, leaf, node, new_head, no_region, second_lives, has, append, Place, held_place}
+use Rattle.tp_scene.specs.Scene.{Bindings, Side, Ending, Going, Head, Leaf, Do, Later, Shown, Holder, Split, SplitProject, Opened, Entries, none, leaf, node, new_head, no_region, second_lives, has, append, Place, held_place}
 use Rattle.tp_scene.specs.Step.{PickOutcome, reduces, waits, rests, clashes, misses, passes, Numbers, by_status, leaf_step, holder_step}
 use Rattle.tp_scene.specs.Pick.{Setting, pick, put}
 use Rattle.tp_scene.proofs.Frame.{region}
@@ -114,10 +114,8 @@ module _ (facts : List Fact) where
 
       region_printable : (k : Holder) → HolderTold printable facts p n k → (f : FormulaTree) (env : Bindings) → PhraseIsPrintable f env → EntriesArePrintable (node (n.item 1) k (new_head n.region) (leaf (n.item 0) (Do f env) none) no_region none none)
       region_printable (Split f env) h g xs k = (h, (k, tt), tt, tt)
-      region_printable (SplitProject f env) h g xs k = absurd h
-      region_printable Closed h g xs k = absurd h
       region_printable (Opened f env) h g xs k = (h, (k, tt), tt, tt)
-      region_printable (Running f env) h g xs k = absurd h
+      region_printable x h g xs k = absurd h
 
       name_printable : (o : Option Variable) → ((x : Variable) → o ≡ Some x → IsOneLine x.name) → IfSome o HasNameOnOneLine
       name_printable None h = tt
@@ -147,15 +145,13 @@ module _ (w : Setting) (facts : List Fact) (setting : SettingIsPrintable w) (kep
   leaf_good : (l : Leaf) (p : Place) → LeafIsPrintable l → OutcomeIsPrintable facts (leaf_step w.defs w.inputs w.state facts l p n)
   leaf_good (Do f env) p h = outcome_printable facts kept w.defs w.inputs w.state setting.definitions setting.inputs p n _
       (formula_told (printable facts) w.defs w.inputs w.state facts n (known_parts facts kept w.defs w.inputs w.state setting.definitions setting.inputs p n) p f env h)
-  leaf_good (Later f env) p h = tt
-  leaf_good (Shown vs) p h = tt
+  leaf_good l p h = tt
 
   holder_good : (k : Holder) (h : Head) (held : Entries) (g : Head) (second : Entries) (q : Place) → HolderIsPrintable k → EntriesArePrintable held → EntriesArePrintable second → OutcomeIsPrintable facts (holder_step w.defs w.inputs w.state facts k (region h held) (region g second) q n)
   holder_good (Split f env) h held g second q a b c = status_either facts q _ _ tt (no_facts facts kept, (tt, b, tt, (a, tt)), tt)
   holder_good (SplitProject f env) h held g second q a b c = status_either facts q _ _ tt (no_facts facts kept, (tt, b, tt, (a, c, tt, tt)), tt)
-  holder_good Closed h held g second q a b c = tt
   holder_good (Opened f env) h held g second q a b c = status_either facts q _ _ (no_facts facts kept, (a, (a, ((tt, a.1), tt)), b, tt), tt) tt
-  holder_good (Running f env) h held g second q a b c = tt
+  holder_good k h held g second q a b c = tt
 
   pub pick_printable : (t : ℕ) (es : Entries) (p : Place) → EntriesArePrintable es → OutcomeIsPrintable facts (pick w facts t es p n)
   pick_printable t = picked_has (OutcomeIsPrintable facts) w facts t n (λ es p. EntriesArePrintable es) tt (λ id l rest p h. (leaf_good l p h.0, h.1))

@@ -1,5 +1,5 @@
 -- Each name among the tokens of a text is a variable's name.
-use Rattle.std.proofs.Common.{◌≡◌, ◌+◌, ◌≤◌, ℕ, suc, min, Bool, true, false, cond, List, [], ◌∷◌, ◌++◌, length, take, drop, All, refl, sym, ap, ◌∙◌, subst, arith}
+use Rattle.std.proofs.Common.{◌≡◌, ◌+◌, ◌≤◌, ℕ, min, Bool, true, false, cond, List, [], ◌∷◌, length, take, drop, All, refl, arith}
 use Rattle.std.specs.List.{prefix_len}
 use Rattle.std.proofs.lemmas.List.{length-take}
 use Rattle.std.proofs.lemmas.List.Elements.{All-nil, All-cons, All-append, All-head, All-tail}
@@ -7,8 +7,8 @@ use Rattle.tp_lex.specs.declared.token.Token.{Token}
 use Rattle.tp_lex.specs.declared.first.Piece.{Piece}
 use Rattle.tp_lex.specs.declared.first.Piece.TheVariants.{Gap, Lexeme, Refused}
 use Rattle.tp_lex.specs.First.{is_name_byte, name_limit}
-use Rattle.tp_lex.specs.Pieces.{IsNoWord, BeginsPiece, blank, comment, word, upper, lower, number, symbol, bad_byte, open_comment, large_number, long_name}
-use Rattle.tp_lex.specs.Tokens.{ReadsTokens, Ending, Whole, whole, gap, lexeme, fails}
+use Rattle.tp_lex.specs.Pieces.{IsNoWord, BeginsPiece, word, upper, lower, number, symbol}
+use Rattle.tp_lex.specs.Tokens.{ReadsTokens, Ending, Whole, gap, lexeme}
 use Rattle.tp_lex.specs.Names.{own_names, token_names, IsNameText}
 use Rattle.tp_lex.proofs.NameLemmas.{names_are_spelled}
 use Rattle.tp_show.specs.TraceLine.{AreNameBytes, IsVariableName}
@@ -30,24 +30,18 @@ PieceIsShort (Lexeme kind n) = All IsShortAndNoWord (own_names kind)
 PieceIsShort (Refused fault) = Unit {0}
 
 piece_short : (z : List ℕ) (p : Piece) → BeginsPiece z p → PieceIsShort p
-piece_short z _ (blank e) = tt
-piece_short z _ (comment opens here before) = tt
 piece_short z _ (word is e) = All-nil IsShortAndNoWord
 piece_short z _ (upper {n = n} is low never u) = short_name z n low never
 piece_short z _ (lower {n = n} is low never u) = short_name z n low never
 piece_short z _ (number are low) = All-nil IsShortAndNoWord
 piece_short z _ (symbol is) = All-nil IsShortAndNoWord
-piece_short z _ (bad_byte is) = tt
-piece_short z _ (open_comment opens nowhere) = tt
-piece_short z _ (large_number are high) = tt
-piece_short z _ (long_name is long) = tt
+piece_short z _ x = tt
 
 short_from : (bytes : List ℕ) (at : ℕ) (ts : List Token) (end : Ending) → ReadsTokens bytes at ts end → All IsShortAndNoWord (token_names ts)
-short_from bytes at _ _ (whole e) = All-nil IsShortAndNoWord
 short_from bytes at ts end (gap {n = n} is r) = short_from bytes (at + n) ts end r
 short_from bytes at _ end (lexeme {n = n} {kind = kind} {ts = ts} is r) =
     All-append IsShortAndNoWord (own_names kind) (token_names ts) (piece_short (drop at bytes) _ is) (short_from bytes (at + n) ts end r)
-short_from bytes at _ _ (fails is) = All-nil IsShortAndNoWord
+short_from bytes at _ _ x = All-nil IsShortAndNoWord
 
 name_bytes : (x : List ℕ) → length x ≡ prefix_len is_name_byte x → AreNameBytes x
 name_bytes [] e = tt
