@@ -25,7 +25,8 @@ abbrev pub left_by : Extent → Entries → Entries
 left_by Whole es = es
 left_by Due es = due es
 
--- What stands there for one item: nothing, an item without a region, or one that holds what is left of one region, or of two.
+-- What stands there for one item: nothing, an item without a region, or one that holds what is left
+-- of one region, or of two.
 pub data Successor : Type 0 where
   nothing : Successor
   bare_item : Leaf → Successor
@@ -44,7 +45,8 @@ successor_in Due (bare (S.Shown vs)) = nothing
 successor_in Due (holds (S.Split f env) r None) = one_held (S.Split f env) r
 successor_in Due (holds (S.Split f env) r (Some q)) = nothing
 successor_in Due (holds (S.SplitProject f env) r None) = nothing
-successor_in Due (holds (S.SplitProject f env) r (Some q)) = two_held (S.SplitProject f env) r q Whole
+successor_in Due (holds (S.SplitProject f env) r (Some q)) =
+    two_held (S.SplitProject f env) r q Whole
 successor_in Due (holds S.Closed r q) = nothing
 successor_in Due (holds (S.Opened f env) r q) = nothing
 successor_in Due (holds (S.Running f env) r None) = nothing
@@ -71,20 +73,25 @@ successor_of (succ.Two k r q e) = two_held (two_holder_of k) r q e
 abbrev pub successor_entries : Slots → Extent → Successor → Entries
 successor_entries s e nothing = none
 successor_entries s e (bare_item l) = leaf 0 l none
-successor_entries s e (one_held k r) = node 0 k (head_at s r) (left_by e (entries_at s r)) no_region none none
-successor_entries s e (two_held k r q d) = node 0 k (head_at s r) (left_by e (entries_at s r)) (head_at s q) (left_by d (entries_at s q)) none
+successor_entries s e (one_held k r) =
+    node 0 k (head_at s r) (left_by e (entries_at s r)) no_region none none
+successor_entries s e (two_held k r q d) =
+    node 0 k (head_at s r) (left_by e (entries_at s r)) (head_at s q) (left_by d (entries_at s q))
+    none
 
 -- the regions that it holds lie inside of this one
 abbrev pub SuccessorFits : Slots → (home : ℕ) → Successor → Type 0
 SuccessorFits s home nothing = Unit {0}
 SuccessorFits s home (bare_item l) = Unit {0}
 SuccessorFits s home (one_held k r) = (has_second k ≡ false) × IsInner s home r
-SuccessorFits s home (two_held k r q e) = (has_second k ≡ true) × IsInner s home r × IsInner s home q
+SuccessorFits s home (two_held k r q e) =
+    (has_second k ≡ true) × IsInner s home r × IsInner s home q
 
 -- the item t, with what its slot has, in front of the rest
 abbrev pub item_then : Slots → (t : ℕ) → What → (rest : Entries) → Entries
 item_then s t (bare l) rest = leaf t l rest
-item_then s t (holds k r q) rest = node t k (head_at s r) (entries_at s r) (other_head s q) (second_of (entries_at s) q) rest
+item_then s t (holds k r q) rest =
+    node t k (head_at s r) (entries_at s r) (other_head s q) (second_of (entries_at s) q) rest
 item_then s t (gone by) rest = rest
 
 -- these items, one after the other
@@ -92,12 +99,18 @@ abbrev pub all_items : Slots → List ℕ → Entries
 all_items s [] = none
 all_items s (t ∷ ts) = item_then s t (slot_at s t).what (all_items s ts)
 
--- The slots of entries that are numbered, in walk order, where a second region comes after its holder.
+-- The slots of entries that are numbered, in walk order, where a second region comes after its
+-- holder.
 abbrev pub slots_for : (home : ℕ) → Entries → List Slot
 slots_for home none = []
 slots_for home (leaf id l rest) = record { home = home; what = bare l } ∷ slots_for home rest
 slots_for home (node id k h held g second rest) =
-    slots_for h.number held ++ record { home = home; what = holds k h.number (cond (has_second k) (Some g.number) None) } ∷ (slots_for g.number second ++ slots_for home rest)
+    slots_for h.number held
+    ++ record {
+      home = home;
+      what = holds k h.number (cond (has_second k) (Some g.number) None);
+    }
+    ∷ (slots_for g.number second ++ slots_for home rest)
 
 -- all of a region
 pub record FullRegion : Type 0 where
@@ -108,27 +121,46 @@ pub record FullRegion : Type 0 where
 
 -- the same of regions as the code has them
 abbrev pub full_region_of : Region → FullRegion
-full_region_of x = record { holder = x.holder; slot = region_slot_of x; ends_now = x.ends_now; goes_now = x.goes_now }
+full_region_of x =
+    record {
+      holder = x.holder;
+      slot = region_slot_of x;
+      ends_now = x.ends_now;
+      goes_now = x.goes_now;
+    }
 
 abbrev pub full_regions : List Region → List FullRegion
 full_regions xs = map full_region_of xs
 
 -- a region of which nothing is known yet
 abbrev pub unmarked_region : (holder : ℕ) → (roots : List ℕ) → FullRegion
-unmarked_region holder roots = record { holder = holder; slot = record { ends = false; goes = false; roots = roots }; ends_now = false; goes_now = false }
+unmarked_region holder roots =
+    record {
+      holder = holder;
+      slot = record { ends = false; goes = false; roots = roots };
+      ends_now = false;
+      goes_now = false;
+    }
 
 -- the region at this place, held by this item and with these roots
 abbrev pub refilled : List FullRegion → (at holder : ℕ) → (roots : List ℕ) → FullRegion
 refilled xs at holder roots =
     let x = get_or xs at (unmarked_region 0 []) in
-    record { holder = holder; slot = record { ends = x.slot.ends; goes = x.slot.goes; roots = roots }; ends_now = x.ends_now; goes_now = x.goes_now }
+    record {
+      holder = holder;
+      slot = record { ends = x.slot.ends; goes = x.slot.goes; roots = roots };
+      ends_now = x.ends_now;
+      goes_now = x.goes_now;
+    }
 
 -- The regions that entries hold, in the order of their numbers, without marks.
 abbrev pub regions_for : Entries → List FullRegion
 regions_for none = []
 regions_for (leaf id l rest) = regions_for rest
 regions_for (node id k h held g second rest) =
-    unmarked_region id (own_ids held) ∷ (regions_for held ++ (cond (has_second k) (unmarked_region id (own_ids second) ∷ []) [] ++ (regions_for second ++ regions_for rest)))
+    unmarked_region id (own_ids held)
+    ∷ (regions_for held ++ (cond (has_second k) (unmarked_region id (own_ids second) ∷ []) []
+    ++ (regions_for second ++ regions_for rest)))
 
 -- Entries with the next numbers of a scene, and the same inside of its next region.
 abbrev pub next_numbered : Scene → Entries → Entries
@@ -139,8 +171,10 @@ inside_numbered s fs = numbered (length s.slots.items) (length s.regions.items +
 
 -- The entries are added to a scene, as items of the region `home`.
 pub record IsExtended (home : ℕ) (fs : Entries) (old new : Scene) : Type 0 where
-  pub slots : all_slots new.slots.items ≡ all_slots old.slots.items ++ slots_for home (next_numbered old fs)
-  pub regions : full_regions new.regions.items ≡ full_regions old.regions.items ++ regions_for (next_numbered old fs)
+  pub slots : all_slots new.slots.items
+      ≡ all_slots old.slots.items ++ slots_for home (next_numbered old fs)
+  pub regions : full_regions new.regions.items
+      ≡ full_regions old.regions.items ++ regions_for (next_numbered old fs)
 
 -- After no item anything is visited, of what stands in its place.
 abbrev pub AreUnlinked : Scene → Type 0
@@ -148,8 +182,11 @@ AreUnlinked s = (t : ℕ) → after_at (afters_of s) t ≡ None
 
 -- The entries are added in a new region, of which the holder and the roots are these.
 pub record HasRegion (holder : ℕ) (roots : List ℕ) (fs : Entries) (old new : Scene) : Type 0 where
-  pub slots : all_slots new.slots.items ≡ all_slots old.slots.items ++ slots_for (length old.regions.items) (inside_numbered old fs)
-  pub regions : full_regions new.regions.items ≡ full_regions old.regions.items ++ unmarked_region holder roots ∷ regions_for (inside_numbered old fs)
+  pub slots : all_slots new.slots.items
+      ≡ all_slots old.slots.items ++ slots_for (length old.regions.items) (inside_numbered old fs)
+  pub regions : full_regions new.regions.items
+      ≡ full_regions old.regions.items
+      ++ unmarked_region holder roots ∷ regions_for (inside_numbered old fs)
 
 -- the numbers that the items of these entries get then
 abbrev pub next_ids : Scene → Entries → List ℕ

@@ -11,9 +11,10 @@ use Rattle.tp_any_order.specs.Agree.{IsOrderlyPlan}
 use Rattle.tp_any_order.specs.AlikeRuns.{FailsNowhere}
 
 module _ (plan : Plan) where
-  -- A run goes on from such a beginning: its first states have these pictures and were made by these picks, the picks of the next one begin with
-  -- these; and its end has P.
-  pub record RunGoesOnFrom (ps : List Picture) (made : List (List ℕ)) (begun : List ℕ) (P : Turn → Type 0) : Type 0 where
+  -- A run goes on from such a beginning: its first states have these pictures and were made by
+  -- these picks, the picks of the next one begin with these; and its end has P.
+  pub record RunGoesOnFrom (ps : List Picture) (made : List (List ℕ)) (begun : List ℕ)
+      (P : Turn → Type 0) : Type 0 where
     pub pictures : List Picture
     pub end : Turn
     pub run : RunEndsWith plan pictures end
@@ -24,15 +25,20 @@ module _ (plan : Plan) where
     pub picks : picks_of_run pictures end run ≡ made ++ (begun ++ more) ∷ picks_later
     pub comes_to : P end
 
-  -- No choice of picks is a dead end: however the first states were settled, and whatever was picked in the next one so far, a run goes on from
-  -- there to an end that has P. And no run fails, by a clash, for want of an input or at a limit in a state.
+  -- No choice of picks is a dead end: however the first states were settled, and whatever was
+  -- picked in the next one so far, a run goes on from there to an end that has P. And no run fails,
+  -- by a clash, for want of an input or at a limit in a state.
   pub record NoDeadEnd (P : Turn → Type 0) : Type 0 where
-    pub run_goes_on : (ps : List Picture) (m : Moment) (leads : LeadsTo plan ps m) → length ps < plan.states
+    pub run_goes_on : (ps : List Picture) (m : Moment) (leads : LeadsTo plan ps m)
+        → length ps < plan.states
         → (begun : List ℕ) (there : Moment) → Leads (setting plan (length ps)) m begun there
         → RunGoesOnFrom ps (picks_before ps m leads) begun P
-    pub no_failure : (ps : List Picture) (turn : Turn) → RunEndsWith plan ps turn → FailsNowhere turn
+    pub no_failure : (ps : List Picture) (turn : Turn) → RunEndsWith plan ps turn
+        → FailsNowhere turn
 
 -- So it is where one run has such an end: each other one comes to the same.
 abbrev pub BeginningsGoOn : Plan → Type 0
-BeginningsGoOn plan = IsOrderlyPlan plan → (ps : List Picture) (turn : Turn) → RunEndsWith plan ps turn → FailsNowhere turn
+BeginningsGoOn plan =
+    IsOrderlyPlan plan → (ps : List Picture) (turn : Turn) → RunEndsWith plan ps turn
+    → FailsNowhere turn
     → NoDeadEnd plan (λ end. SameEnd (globals_of plan) turn end)

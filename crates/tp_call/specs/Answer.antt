@@ -51,9 +51,13 @@ HoldsSource tree source = (length source ≤ source_limit) × IsSourceText sourc
 abbrev pub HoldsRefused : Refused → Mode → List ℕ → Type 0
 HoldsRefused refused mode source = (length source ≤ source_limit) × IsRefusedAt mode source refused
 
--- the text of a run of this plan that settled these states and ended so: the lines of the states, and the end line
-abbrev pub run_text : (beside : Beside) {plan : Plan} {pictures : List Picture} {status : Status} → RunEnds plan pictures status → List ℕ
-run_text beside {plan} {pictures} end = ended_text beside plan pictures end.answer end.run ++ end_line plan.program.globals (known_at_end end) plan.reductions end.answer
+-- the text of a run of this plan that settled these states and ended so: the lines of the states,
+-- and the end line
+abbrev pub run_text : (beside : Beside) {plan : Plan} {pictures : List Picture} {status : Status}
+    → RunEnds plan pictures status → List ℕ
+run_text beside {plan} {pictures} end =
+    ended_text beside plan pictures end.answer end.run
+    ++ end_line plan.program.globals (known_at_end end) plan.reductions end.answer
 
 -- The greatest length of a file of inputs, in bytes.
 abbrev pub inputs_limit : ℕ
@@ -68,7 +72,8 @@ abbrev pub HasInputs : (name : Option (List ℕ)) → Option Held → InputLines
 HasInputs None held table = table ≡ []
 HasInputs (Some name) held table = WhereTold held (λ files. HoldsTable table (bytes_of files name))
 
--- What is run: the words are accepted, ask for a run, and name a source that is the plan's program, perhaps a file of inputs, which is its table, and its limits.
+-- What is run: the words are accepted, ask for a run, and name a source that is the plan's program,
+-- perhaps a file of inputs, which is its table, and its limits.
 pub record IsAskedFor (words : List (List ℕ)) (held : Option Held) (plan : Plan) : Type 0 where
   pub wanted : Wanted
   pub accepted : wanted_of words ≡ Some wanted
@@ -78,8 +83,10 @@ pub record IsAskedFor (words : List (List ℕ)) (held : Option Held) (plan : Pla
   pub states : plan.states ≡ wanted.states
   pub reductions : plan.reductions ≡ wanted.reductions
 
--- What is printed: the words are accepted, ask for that, and name a source of the grammar with this tree.
-pub record IsAskedToPrint (words : List (List ℕ)) (held : Option Held) (tree : SourceTree) : Type 0 where
+-- What is printed: the words are accepted, ask for that, and name a source of the grammar with this
+-- tree.
+pub record IsAskedToPrint (words : List (List ℕ)) (held : Option Held)
+    (tree : SourceTree) : Type 0 where
   pub wanted : Wanted
   pub accepted : wanted_of words ≡ Some wanted
   pub mode : wanted.mode ≡ Print
@@ -95,27 +102,33 @@ IsPastLimit which bytes = byte_limit which < length bytes
 
 -- the file of inputs is refused at this line
 abbrev pub HasBadLine : ℕ → List ℕ → Type 0
-HasBadLine line bytes = (length bytes ≤ inputs_limit) × ((fault : Fault) × IsFirstFault (lines bytes) line fault)
+HasBadLine line bytes =
+    (length bytes ≤ inputs_limit) × ((fault : Fault) × IsFirstFault (lines bytes) line fault)
 
--- What a mode needs of a file that it reads, to go on: to run, the source is a program, and the inputs are a table; to print, the source is
--- one of the grammar.
+-- What a mode needs of a file that it reads, to go on: to run, the source is a program, and the
+-- inputs are a table; to print, the source is one of the grammar.
 abbrev pub Serves : Mode → Which → List ℕ → Type 0
 Serves Run Source bytes = (program : ProgramTree) × HoldsProgram program bytes
 Serves Run Inputs bytes = (table : InputLines) × HoldsTable table bytes
 Serves Print Source bytes = (tree : SourceTree) × HoldsSource tree bytes
 Serves Print Inputs bytes = ⊥
 
--- The words are accepted, and this file is one that their mode reads: it has P for what is to be done with it, and each one that is read before
--- it serves the mode. `Tells` says how this is said of what the files tell: `WhereTold held` or `AsTold held`.
-pub record ReadsFile (words : List (List ℕ)) (Tells : (Held → Type 0) → Type 0) (which : Which) (P : Mode → List ℕ → Type 0) : Type 0 where
+-- The words are accepted, and this file is one that their mode reads: it has P for what is to be
+-- done with it, and each one that is read before it serves the mode. `Tells` says how this is said
+-- of what the files tell: `WhereTold held` or `AsTold held`.
+pub record ReadsFile (words : List (List ℕ)) (Tells : (Held → Type 0) → Type 0) (which : Which)
+    (P : Mode → List ℕ → Type 0) : Type 0 where
   pub wanted : Wanted
   pub accepted : wanted_of words ≡ Some wanted
-  pub found : IsFoundIn which (λ file. Tells (λ files. Serves wanted.mode file.which (bytes_of files file.name)))
+  pub found : IsFoundIn which
+      (λ file. Tells (λ files. Serves wanted.mode file.which (bytes_of files file.name)))
       (λ name. Tells (λ files. P wanted.mode (bytes_of files name))) (files_read wanted.mode wanted)
 
--- a run of what is asked for ends with this status, and the text is that of its settled states with the end line; the program's parts fit
--- each other, its names are words, and what is written are numbers of 64 bits
-pub record RunsTo (words : List (List ℕ)) (held : Option Held) (status : Status) (text : List ℕ) : Type 0 where
+-- a run of what is asked for ends with this status, and the text is that of its settled states with
+-- the end line; the program's parts fit each other, its names are words, and what is written are
+-- numbers of 64 bits
+pub record RunsTo (words : List (List ℕ)) (held : Option Held) (status : Status)
+    (text : List ℕ) : Type 0 where
   pub plan : Plan
   pub pictures : List Picture
   pub asked : IsAskedFor words held plan
@@ -127,8 +140,10 @@ pub record RunsTo (words : List (List ℕ)) (held : Option Held) (status : Statu
   pub states : plan.states < 2 ^ 64
   pub range : All IsPictureInRange pictures
 
--- The source that is asked for was printed, which has this status, and the text is its canonical spelling, which is read back as this source.
-pub record Spells (words : List (List ℕ)) (held : Option Held) (status : Status) (text : List ℕ) : Type 0 where
+-- The source that is asked for was printed, which has this status, and the text is its canonical
+-- spelling, which is read back as this source.
+pub record Spells (words : List (List ℕ)) (held : Option Held) (status : Status)
+    (text : List ℕ) : Type 0 where
   pub tree : SourceTree
   pub asked : IsAskedToPrint words held tree
   pub status_is : status ≡ Done
@@ -138,11 +153,15 @@ pub record Spells (words : List (List ℕ)) (held : Option Held) (status : Statu
 -- The cause of a refusal.
 abbrev pub Refuses : List (List ℕ) → Option Held → Status → Type 0
 Refuses words held (SourceRefused line column kind) =
-    ReadsFile words (WhereTold held) Source (HoldsRefused (record { line = line; column = column; kind = kind }))
+    ReadsFile words (WhereTold held) Source
+    (HoldsRefused (record { line = line; column = column; kind = kind }))
 Refuses words held WordsRefused = wanted_of words ≡ None
-Refuses words held (TooLong which) = ReadsFile words (WhereTold held) which (λ mode. IsPastLimit which)
-Refuses words held (ReadFault which) = ReadsFile words (WhereTold held) which (λ mode bytes. Unit {0})
-Refuses words held (InputsRefused line) = ReadsFile words (WhereTold held) Inputs (λ mode. HasBadLine line)
+Refuses words held (TooLong which) =
+    ReadsFile words (WhereTold held) which (λ mode. IsPastLimit which)
+Refuses words held (ReadFault which) =
+    ReadsFile words (WhereTold held) which (λ mode bytes. Unit {0})
+Refuses words held (InputsRefused line) =
+    ReadsFile words (WhereTold held) Inputs (λ mode. HasBadLine line)
 Refuses words held (Finished length) = ⊥
 Refuses words held Done = ⊥
 Refuses words held (Contradictory state clash) = ⊥
@@ -157,9 +176,12 @@ Refuses words held (InputMissing state port) = ⊥
 Refuses words held WriteFault = ⊥
 Refuses words held NoMemory = ⊥
 
--- A call ends with this status and has written this text: that of a run, the spelling of a source, or the end line of a refusal alone.
+-- A call ends with this status and has written this text: that of a run, the spelling of a source,
+-- or the end line of a refusal alone.
 abbrev pub CallEnds : List (List ℕ) → Option Held → Status → List ℕ → Type 0
-CallEnds words held status text = RunsTo words held status text ⊎ Spells words held status text ⊎ (Refuses words held status × (text ≡ refusal_line status))
+CallEnds words held status text =
+    RunsTo words held status text ⊎ Spells words held status text
+    ⊎ (Refuses words held status × (text ≡ refusal_line status))
 
 -- the states of a run of what is asked for, and their text
 pub record RunsOn (words : List (List ℕ)) (held : Option Held) (text : List ℕ) : Type 0 where
@@ -173,16 +195,24 @@ pub record RunsOn (words : List (List ℕ)) (held : Option Held) (text : List �
 abbrev pub IsUnfinishedText : List (List ℕ) → Option Held → List ℕ → Type 0
 IsUnfinishedText words held text = (text ≡ []) ⊎ RunsOn words held text
 
--- What a call answered and wrote. After a failed write it is a part, from its start, of a text that a call can write;
--- where memory was wanted it is whole states.
-abbrev pub Answers : List (List ℕ) → Option Held → Option (List ℕ) → Option (List ℕ) → Status → Type 0
-Answers words held old new WriteFault = (text : List ℕ) × (IsUnfinishedText words held text ⊎ ((status : Status) × CallEnds words held status text)) × ((kept : ℕ) × Wrote old new (take kept text))
-Answers words held old new NoMemory = (text : List ℕ) × IsUnfinishedText words held text × Wrote old new text
-Answers words held old new status = (text : List ℕ) × CallEnds words held status text × Wrote old new text
+-- What a call answered and wrote. After a failed write it is a part, from its start, of a text that
+-- a call can write; where memory was wanted it is whole states.
+abbrev pub Answers : List (List ℕ) → Option Held → Option (List ℕ) → Option (List ℕ) → Status
+    → Type 0
+Answers words held old new WriteFault =
+    (text : List ℕ) × (IsUnfinishedText words held text
+    ⊎ ((status : Status) × CallEnds words held status text))
+    × ((kept : ℕ) × Wrote old new (take kept text))
+Answers words held old new NoMemory =
+    (text : List ℕ) × IsUnfinishedText words held text × Wrote old new text
+Answers words held old new status =
+    (text : List ℕ) × CallEnds words held status text × Wrote old new text
 
--- A run of what is asked for ended with this status; the text of its settled states and the end line were appended; the program's parts fit each
--- other, its names are words, and what was written are numbers of 64 bits; and of what is run and these states P holds.
-pub record Prints (words : List (List ℕ)) (held : Option Held) (old new : Option (List ℕ)) (status : Status) (P : Plan → List Picture → Type 0) : Type 0 where
+-- A run of what is asked for ended with this status; the text of its settled states and the end
+-- line were appended; the program's parts fit each other, its names are words, and what was written
+-- are numbers of 64 bits; and of what is run and these states P holds.
+pub record Prints (words : List (List ℕ)) (held : Option Held) (old new : Option (List ℕ))
+    (status : Status) (P : Plan → List Picture → Type 0) : Type 0 where
   pub plan : Plan
   pub pictures : List Picture
   pub asked : IsAskedFor words held plan
@@ -194,8 +224,10 @@ pub record Prints (words : List (List ℕ)) (held : Option Held) (old new : Opti
   pub range : All IsPictureInRange pictures
   pub says : P plan pictures
 
--- The source that is asked for was printed: its canonical spelling was appended, which is read back as this source.
-pub record WritesSpelling (words : List (List ℕ)) (held : Option Held) (old new : Option (List ℕ)) : Type 0 where
+-- The source that is asked for was printed: its canonical spelling was appended, which is read back
+-- as this source.
+pub record WritesSpelling (words : List (List ℕ)) (held : Option Held)
+    (old new : Option (List ℕ)) : Type 0 where
   pub tree : SourceTree
   pub asked : IsAskedToPrint words held tree
   pub appended : Wrote old new (source_spelling tree)
@@ -209,7 +241,8 @@ IsToPrint tree mode source = (mode ≡ Print) × HoldsSource tree source
 abbrev pub IsOrStopped : Status → Status → Type 0
 IsOrStopped status result = (result ≡ status) ⊎ (result ≡ WriteFault) ⊎ (result ≡ NoMemory)
 
--- a run ended: the answer is none of a source that is printed, of a refusal, of a fault or of want of memory
+-- a run ended: the answer is none of a source that is printed, of a refusal, of a fault or of want
+-- of memory
 abbrev pub IsEndOfRun : Status → Type 0
 IsEndOfRun (Finished length) = Unit {0}
 IsEndOfRun (Contradictory state clash) = Unit {0}
@@ -253,7 +286,8 @@ IsOpenEnd NoMemory = ⊥
 
 -- a read or a write failed, or memory was wanted
 abbrev pub HasFailed : Status → Type 0
-HasFailed result = ((which : Which) × (result ≡ ReadFault which)) ⊎ (result ≡ WriteFault) ⊎ (result ≡ NoMemory)
+HasFailed result =
+    ((which : Which) × (result ≡ ReadFault which)) ⊎ (result ≡ WriteFault) ⊎ (result ≡ NoMemory)
 
 -- the answer is this one, unless a read or a write failed or memory was wanted
 abbrev pub IsOrFailed : Status → Status → Type 0

@@ -1,4 +1,5 @@
--- The text of any run of what is asked for is the one that a call prints, and no choice of picks is a dead end.
+-- The text of any run of what is asked for is the one that a call prints, and no choice of picks is
+-- a dead end.
 use Rattle.std.specs.Prelude.{◌≡◌, ◌⊎◌, ℕ, List, ◌++◌, Option, Some}
 use Rattle.tp_io.specs.Devices.{Held}
 use Rattle.tp_store.specs.Known.{Variable}
@@ -16,28 +17,35 @@ use Rattle.tp_call.specs.Answer.{IsAskedFor, run_text, HasFailed}
 use Rattle.tp_call.specs.EveryOrder.{ComesTo}
 use Rattle.tp_words.specs.declared.beside.Beside.{Beside}
 
--- What was appended is the text of the states of this run and the end line of an answer with this status; and where the run doesn't fail, it is
--- the whole text of this run.
-pub record WroteTextOf (old new : Option (List ℕ)) (beside : Beside) (result : Status) {plan : Plan} {pictures : List Picture} {status : Status}
+-- What was appended is the text of the states of this run and the end line of an answer with this
+-- status; and where the run doesn't fail, it is the whole text of this run.
+pub record WroteTextOf (old new : Option (List ℕ)) (beside : Beside)
+    (result : Status) {plan : Plan} {pictures : List Picture} {status : Status}
     (run : RunEnds plan pictures status) : Type 0 where
   pub last : Turn
   pub status_is : status_of last ≡ Some result
   pub known : List Variable
-  pub states : Wrote old new (ended_text beside plan pictures run.answer run.run ++ end_line plan.program.globals known plan.reductions last)
+  pub states : Wrote old new
+      (ended_text beside plan pictures run.answer run.run
+      ++ end_line plan.program.globals known plan.reductions last)
   pub whole : FailsNowhere run.answer → Wrote old new (run_text beside run)
 
 module _ (words : List (List ℕ)) (held : Option Held) where
-  -- Whatever run there is of what is asked for, with any picks in any order: the call appends its text, with what is asked for beside the
-  -- states, unless a read or a write fails or memory is wanted. Where a state fails it is free which of its failures the end line names.
+  -- Whatever run there is of what is asked for, with any picks in any order: the call appends its
+  -- text, with what is asked for beside the states, unless a read or a write fails or memory is
+  -- wanted. Where a state fails it is free which of its failures the end line names.
   abbrev pub PrintsEachRun : (old new : Option (List ℕ)) → Status → Type 0
   PrintsEachRun old new result = (files : Held) → held ≡ Some files
-      → (plan : Plan) (asked : IsAskedFor words held plan) (pictures : List Picture) (status : Status) (run : RunEnds plan pictures status)
+      → (plan : Plan) (asked : IsAskedFor words held plan) (pictures : List Picture)
+      (status : Status) (run : RunEnds plan pictures status)
       → WroteTextOf old new asked.wanted.beside result run ⊎ HasFailed result
 
-  -- Where the call finishes, leaves a cell open or reaches the limit of states, no choice of picks is a dead end: however states are settled and the
-  -- next one is begun, a run of what is asked for goes on from there, and each comes to the end of the call. No run meets a clash, misses an input or
-  -- reaches another limit.
+  -- Where the call finishes, leaves a cell open or reaches the limit of states, no choice of picks
+  -- is a dead end: however states are settled and the next one is begun, a run of what is asked for
+  -- goes on from there, and each comes to the end of the call. No run meets a clash, misses an
+  -- input or reaches another limit.
   abbrev pub BeginningsComeToEnd : Status → Type 0
-  BeginningsComeToEnd result = (files : Held) → held ≡ Some files → (plan : Plan) → IsAskedFor words held plan → (end : Turn)
+  BeginningsComeToEnd result =
+      (files : Held) → held ≡ Some files → (plan : Plan) → IsAskedFor words held plan → (end : Turn)
       → status_of end ≡ Some result → FailsNowhere end
       → NoDeadEnd plan (λ other. ComesTo (globals_of plan) other result)

@@ -29,11 +29,14 @@ kind_text NotPort = codes "not a port"
 kind_text NotExecutable = codes "not executable"
 
 abbrev pub place_text : ℕ → ℕ → List ℕ
-place_text line column = codes "source refused: line " ++ decimal line ++ codes " column " ++ decimal column
+place_text line column =
+    codes "source refused: line " ++ decimal line ++ codes " column " ++ decimal column
 
--- What the end line of a refusal says. The ends of runs have end lines of their own, and three answers have none.
+-- What the end line of a refusal says. The ends of runs have end lines of their own, and three
+-- answers have none.
 abbrev pub refusal_words : Status → List ℕ
-refusal_words (SourceRefused line column kind) = place_text line column ++ codes ": " ++ kind_text kind
+refusal_words (SourceRefused line column kind) =
+    place_text line column ++ codes ": " ++ kind_text kind
 refusal_words (InputsRefused line) = codes "inputs refused: line " ++ decimal line
 refusal_words WordsRefused = codes "words refused"
 refusal_words (TooLong which) = codes "too long: " ++ which_text which

@@ -21,7 +21,8 @@ abbrev pub files_named : Which → Option (List ℕ) → List NamedFile
 files_named which None = []
 files_named which (Some name) = file_named which name ∷ []
 
--- The files that a mode reads, in order: to run, the source, and then the inputs where they are named; to print, the source.
+-- The files that a mode reads, in order: to run, the source, and then the inputs where they are
+-- named; to print, the source.
 abbrev pub files_read : Mode → Wanted → List NamedFile
 files_read Run wanted = file_named Source wanted.file ∷ files_named Inputs wanted.inputs
 files_read Print wanted = file_named Source wanted.file ∷ []
@@ -35,13 +36,19 @@ abbrev pub files_of : List (List ℕ) → List NamedFile
 files_of words = files_wanted (wanted_of words)
 
 -- this file is among these, and its name has P; each one before it has Q
-abbrev pub IsFoundIn : (which : Which) (Q : NamedFile → Type 0) (P : List ℕ → Type 0) → List NamedFile → Type 0
+abbrev pub IsFoundIn : (which : Which) (Q : NamedFile → Type 0) (P : List ℕ → Type 0)
+    → List NamedFile → Type 0
 IsFoundIn which Q P [] = ⊥
-IsFoundIn which Q P (file ∷ files) = ((file.which ≡ which) × P file.name) ⊎ (Q file × IsFoundIn which Q P files)
+IsFoundIn which Q P (file ∷ files) =
+    ((file.which ≡ which) × P file.name) ⊎ (Q file × IsFoundIn which Q P files)
 
--- The names that were asked for are those of the first of the files that the mode reads, in their order; where a read failed, the last one of
--- these is the file that the fault names.
-pub record AsksOnly (words : List (List ℕ)) (old new : Option (List (List ℕ))) (failed : Which → Type 0) : Type 0 where
+-- The names that were asked for are those of the first of the files that the mode reads, in their
+-- order; where a read failed, the last one of these is the file that the fault names.
+pub record AsksOnly (words : List (List ℕ)) (old new : Option (List (List ℕ)))
+    (failed : Which → Type 0) : Type 0 where
   pub count : ℕ
-  pub asked : new ≡ option_map (λ before. before ++ map (λ (file : NamedFile). file.name) (take count (files_of words))) old
-  pub last : (which : Which) → failed which → last_or None (map (λ (file : NamedFile). file.which) (take count (files_of words))) ≡ Some which
+  pub asked : new ≡ option_map
+      (λ before. before ++ map (λ (file : NamedFile). file.name) (take count (files_of words))) old
+  pub last : (which : Which) → failed which
+      → last_or None (map (λ (file : NamedFile). file.which) (take count (files_of words)))
+      ≡ Some which

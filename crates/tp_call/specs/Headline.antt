@@ -1,5 +1,5 @@
--- What a call promises of its answer, one sentence each: of the words, of what the files hold, of what was written before and after, and of the
--- status that is answered.
+-- What a call promises of its answer, one sentence each: of the words, of what the files hold, of
+-- what was written before and after, and of the status that is answered.
 use Rattle.std.specs.Prelude.{◌≡◌, ◌⊎◌, ℕ, List, length, Option, None, Some}
 use Rattle.tp_io.specs.Devices.{Held}
 use Rattle.tp_scene.specs.declared.answer.Cell.{Cell}
@@ -20,80 +20,108 @@ use Rattle.tp_call.specs.Answer.{WhereTold, AsTold, HoldsRefused, IsPastLimit, H
 use Rattle.tp_call.specs.Parts.{refused_status}
 
 module _ (words : List (List ℕ)) (held : Option Held) (old new : Option (List ℕ)) (result : Status) where
-  -- A run that finishes with length n: an interval satisfies the program, and shows S, exactly where it has this length, agrees with each printed
-  -- state, and S is what these show; and there is such an interval.
+  -- A run that finishes with length n: an interval satisfies the program, and shows S, exactly
+  -- where it has this length, agrees with each printed state, and S is what these show; and there
+  -- is such an interval.
   abbrev pub FinishedSays : Type 0
   FinishedSays = (n : ℕ) → result ≡ Finished n
-      → Prints words held old new (Finished n) (λ plan printed. SatisfiedExactly plan printed n × Satisfiable plan)
+      → Prints words held old new (Finished n)
+      (λ plan printed. SatisfiedExactly plan printed n × Satisfiable plan)
 
   -- Refused as contradictory: no interval satisfies the program.
   abbrev pub ContradictorySays : Type 0
   ContradictorySays = (state : ℕ) (clash : Clash) → result ≡ Contradictory state clash
       → Prints words held old new (Contradictory state clash) (λ plan printed. Unsatisfiable plan)
 
-  -- Undetermined at an open cell: each interval that satisfies the program agrees with the printed states and has more states than these.
+  -- Undetermined at an open cell: each interval that satisfies the program agrees with the printed
+  -- states and has more states than these.
   abbrev pub UndeterminedSays : Type 0
-  UndeterminedSays = (state : ℕ) (cell : Cell) → result ≡ Undetermined state cell → Prints words held old new (Undetermined state cell) ContinuesEach
+  UndeterminedSays =
+      (state : ℕ) (cell : Cell) → result ≡ Undetermined state cell
+      → Prints words held old new (Undetermined state cell) ContinuesEach
 
   -- Stopped at the limit of states: as many were printed as there may be, and the same holds.
   abbrev pub StateLimitSays : Type 0
   StateLimitSays = (states : ℕ) → result ≡ StateLimit states
-      → Prints words held old new (StateLimit states) (λ plan printed. ContinuesEach plan printed × (states ≡ length printed) × (states ≡ plan.states))
+      → Prints words held old new (StateLimit states)
+      (λ plan printed. ContinuesEach plan printed × (states ≡ length printed)
+      × (states ≡ plan.states))
 
   -- Stopped at a limit in this state: the same holds of the states before it.
   abbrev pub LimitSays : (ℕ → Status) → Type 0
-  LimitSays limit = (state : ℕ) → result ≡ limit state → Prints words held old new (limit state) ContinuesEach
+  LimitSays limit =
+      (state : ℕ) → result ≡ limit state → Prints words held old new (limit state) ContinuesEach
 
   -- An input is missing: no interval with these inputs satisfies the program.
   abbrev pub InputMissingSays : Type 0
   InputMissingSays = (state : ℕ) (port : List ℕ) → result ≡ InputMissing state port
       → Prints words held old new (InputMissing state port) (λ plan printed. Unsatisfiable plan)
 
-  -- The same for whoever has the text alone, of words that ask for nothing beside the states. Where a run finishes: however the text is read, as lines of states and a last line with a length n, an
-  -- interval satisfies the program and shows S exactly where it has the length n, agrees with what the states' lines say, and S is what the `show`
-  -- lines say.
+  -- The same for whoever has the text alone, of words that ask for nothing beside the states. Where
+  -- a run finishes: however the text is read, as lines of states and a last line with a length n,
+  -- an interval satisfies the program and shows S exactly where it has the length n, agrees with
+  -- what the states' lines say, and S is what the `show` lines say.
   abbrev pub FinishedTextSays : Type 0
   FinishedTextSays = (length : ℕ) → result ≡ Finished length → AsksNothingBeside words
-      → TextTells words held old new (λ plan told last. (n : ℕ) → FitsIn64Bits n → last ≡ finished_line n → SatisfiedAsTold plan told n)
+      → TextTells words held old new
+      (λ plan told last. (n : ℕ) → FitsIn64Bits n → last ≡ finished_line n
+      → SatisfiedAsTold plan told n)
 
-  -- Where a run is undetermined or reaches a limit: however the text is read, each interval that satisfies the program begins with what it tells, and
-  -- has more states.
+  -- Where a run is undetermined or reaches a limit: however the text is read, each interval that
+  -- satisfies the program begins with what it tells, and has more states.
   abbrev pub OpenTextSays : Type 0
-  OpenTextSays = IsOpenEnd result → AsksNothingBeside words → TextTells words held old new (λ plan told last. ContinuesTold plan told)
+  OpenTextSays =
+      IsOpenEnd result → AsksNothingBeside words
+      → TextTells words held old new (λ plan told last. ContinuesTold plan told)
 
-  -- Done: the words ask to print a source of the grammar, and what was appended is its canonical spelling, which is read back as this source.
+  -- Done: the words ask to print a source of the grammar, and what was appended is its canonical
+  -- spelling, which is read back as this source.
   abbrev pub PrintedSays : Type 0
   PrintedSays = result ≡ Done → WritesSpelling words held old new
 
 -- Of the words, of what the files hold, and of the status.
 module _ (words : List (List ℕ)) (held : Option Held) (result : Status) where
-  -- Where the source is a program and the inputs are a table, the run ends in one of the ways above, unless a read or a write fails or memory is
-  -- wanted.
+  -- Where the source is a program and the inputs are a table, the run ends in one of the ways
+  -- above, unless a read or a write fails or memory is wanted.
   abbrev pub ProgramRuns : Type 0
-  ProgramRuns = (files : Held) → held ≡ Some files → (plan : Plan) → IsAskedFor words held plan → IsEndOfRun result ⊎ HasFailed result
+  ProgramRuns =
+      (files : Held) → held ≡ Some files → (plan : Plan) → IsAskedFor words held plan
+      → IsEndOfRun result ⊎ HasFailed result
 
-  -- Where the words ask to print a file that holds a source of the grammar, this is done, unless a read or a write fails or memory is wanted.
+  -- Where the words ask to print a file that holds a source of the grammar, this is done, unless a
+  -- read or a write fails or memory is wanted.
   abbrev pub SourcePrints : Type 0
-  SourcePrints = (tree : SourceTree) → ReadsFile words (AsTold held) Source (IsToPrint tree) → IsOrFailed Done result
+  SourcePrints =
+      (tree : SourceTree) → ReadsFile words (AsTold held) Source (IsToPrint tree)
+      → IsOrFailed Done result
 
   -- The words are refused exactly where they ask for nothing that a call does.
   pub record WordsRefusedExactly : Type 0 where
     pub only : result ≡ WordsRefused → wanted_of words ≡ None
     pub there : wanted_of words ≡ None → IsOrStopped WordsRefused result
 
-  -- A file is too long exactly where it has more bytes than it may have, and the files that are read before it serve what is to be done with it.
+  -- A file is too long exactly where it has more bytes than it may have, and the files that are
+  -- read before it serve what is to be done with it.
   pub record TooLongExactly : Type 0 where
-    pub only : (which : Which) → result ≡ TooLong which → ReadsFile words (WhereTold held) which (λ mode. IsPastLimit which)
-    pub there : (which : Which) → ReadsFile words (AsTold held) which (λ mode. IsPastLimit which) → IsOrFailed (TooLong which) result
+    pub only : (which : Which) → result ≡ TooLong which
+        → ReadsFile words (WhereTold held) which (λ mode. IsPastLimit which)
+    pub there : (which : Which) → ReadsFile words (AsTold held) which (λ mode. IsPastLimit which)
+        → IsOrFailed (TooLong which) result
 
-  -- The source is refused exactly where it is no program, and in the mode `print` where it is no source of the grammar: there and for the cause that
-  -- its grammar names first, or for a program after it the rules of positions.
+  -- The source is refused exactly where it is no program, and in the mode `print` where it is no
+  -- source of the grammar: there and for the cause that its grammar names first, or for a program
+  -- after it the rules of positions.
   pub record SourceRefusedExactly : Type 0 where
     pub only : (line column : ℕ) (kind : SourceKind) → result ≡ SourceRefused line column kind
-        → ReadsFile words (WhereTold held) Source (HoldsRefused (record { line = line; column = column; kind = kind }))
-    pub there : (refused : Refused) → ReadsFile words (AsTold held) Source (HoldsRefused refused) → IsOrFailed (refused_status refused) result
+        → ReadsFile words (WhereTold held) Source
+        (HoldsRefused (record { line = line; column = column; kind = kind }))
+    pub there : (refused : Refused) → ReadsFile words (AsTold held) Source (HoldsRefused refused)
+        → IsOrFailed (refused_status refused) result
 
-  -- The inputs of a source that is a program are refused exactly where they are no table, at the first line that is at fault.
+  -- The inputs of a source that is a program are refused exactly where they are no table, at the
+  -- first line that is at fault.
   pub record InputsRefusedExactly : Type 0 where
-    pub only : (line : ℕ) → result ≡ InputsRefused line → ReadsFile words (WhereTold held) Inputs (λ mode. HasBadLine line)
-    pub there : (line : ℕ) → ReadsFile words (AsTold held) Inputs (λ mode. HasBadLine line) → IsOrFailed (InputsRefused line) result
+    pub only : (line : ℕ) → result ≡ InputsRefused line
+        → ReadsFile words (WhereTold held) Inputs (λ mode. HasBadLine line)
+    pub there : (line : ℕ) → ReadsFile words (AsTold held) Inputs (λ mode. HasBadLine line)
+        → IsOrFailed (InputsRefused line) result

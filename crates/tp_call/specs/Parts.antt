@@ -25,37 +25,47 @@ refusal_end (Some refused) = refused_status refused
 
 -- memory was wanted, or a source, with which this is to be done, is refused there for this cause
 abbrev pub IsReadRefusal : Mode → List ℕ → Status → Type 0
-IsReadRefusal mode source status = (status ≡ NoMemory) ⊎ ((refused : Refused) × (status ≡ refused_status refused) × IsRefusedAt mode source refused)
+IsReadRefusal mode source status =
+    (status ≡ NoMemory) ⊎ ((refused : Refused) × (status ≡ refused_status refused)
+    × IsRefusedAt mode source refused)
 
--- there is no program, or no source of the grammar, for this cause: the read failed, or the file is too long, or is refused there; or memory was
--- wanted
+-- there is no program, or no source of the grammar, for this cause: the read failed, or the file is
+-- too long, or is refused there; or memory was wanted
 abbrev pub IsSourceRefusal : Mode → Option Held → List ℕ → Status → Type 0
 IsSourceRefusal mode held name status = (status ≡ NoMemory) ⊎ (status ≡ ReadFault Source)
-    ⊎ ((status ≡ TooLong Source) × WhereTold held (λ files. IsPastLimit Source (bytes_of files name)))
-    ⊎ ((refused : Refused) × (status ≡ refused_status refused) × WhereTold held (λ files. HoldsRefused refused mode (bytes_of files name)))
+    ⊎ ((status ≡ TooLong Source)
+    × WhereTold held (λ files. IsPastLimit Source (bytes_of files name)))
+    ⊎ ((refused : Refused) × (status ≡ refused_status refused)
+    × WhereTold held (λ files. HoldsRefused refused mode (bytes_of files name)))
 
 -- memory was wanted, or a text is no table, for its first fault, which is in this line
 abbrev pub IsTableRefusal : List ℕ → Status → Type 0
-IsTableRefusal text status = (status ≡ NoMemory) ⊎ ((line : ℕ) × (status ≡ InputsRefused line) × ((fault : Fault) × IsFirstFault (lines text) line fault))
+IsTableRefusal text status =
+    (status ≡ NoMemory) ⊎ ((line : ℕ) × (status ≡ InputsRefused line)
+    × ((fault : Fault) × IsFirstFault (lines text) line fault))
 
--- there is no table for this cause: the read failed, or the file is too long, or is refused there; or memory was wanted, which
--- alone is a cause where no file is named
+-- there is no table for this cause: the read failed, or the file is too long, or is refused there;
+-- or memory was wanted, which alone is a cause where no file is named
 abbrev pub IsInputsEnd : Option Held → (name : Option (List ℕ)) → Status → Type 0
 IsInputsEnd held None status = status ≡ NoMemory
 IsInputsEnd held (Some name) status = (status ≡ NoMemory) ⊎ (status ≡ ReadFault Inputs)
-    ⊎ ((status ≡ TooLong Inputs) × WhereTold held (λ files. IsPastLimit Inputs (bytes_of files name)))
-    ⊎ ((line : ℕ) × (status ≡ InputsRefused line) × WhereTold held (λ files. HasBadLine line (bytes_of files name)))
+    ⊎ ((status ≡ TooLong Inputs)
+    × WhereTold held (λ files. IsPastLimit Inputs (bytes_of files name)))
+    ⊎ ((line : ℕ) × (status ≡ InputsRefused line)
+    × WhereTold held (λ files. HasBadLine line (bytes_of files name)))
 
 -- there is nothing to do for this cause, or memory was wanted
 abbrev pub IsProgramRefusal : List (List ℕ) → Option Held → Status → Type 0
 IsProgramRefusal words held status = (status ≡ NoMemory) ⊎ Refuses words held status
 
 -- what writing the end line of a status answers and appends
-abbrev pub ClosesText : (line : List ℕ) → Status → Option (List ℕ) → Option (List ℕ) → Status → Type 0
+abbrev pub ClosesText : (line : List ℕ) → Status → Option (List ℕ) → Option (List ℕ) → Status
+    → Type 0
 ClosesText line status old new WriteFault = (kept : ℕ) × Wrote old new (take kept line)
 ClosesText line status old new NoMemory = new ≡ old
 ClosesText line status old new result = (result ≡ status) × Wrote old new line
 
 -- memory was wanted, or the words are no command
 abbrev pub IsWordsRefusal : List (List ℕ) → Status → Type 0
-IsWordsRefusal words status = (status ≡ NoMemory) ⊎ ((status ≡ WordsRefused) × (wanted_of words ≡ None))
+IsWordsRefusal words status =
+    (status ≡ NoMemory) ⊎ ((status ≡ WordsRefused) × (wanted_of words ≡ None))

@@ -14,4 +14,5 @@ StandsOpen spent = ⊥
 -- The run's scene is well kept, and what it carries to the next state is as a state begins.
 pub record CarriesDue (run : Run) : Type 0 where
   pub kept : StandIsKept run.stand
-  pub carried : IfSome (carried_scene (next_state_of run) (standing_of run)) (λ s. AreCarried s.root.entries)
+  pub carried : IfSome (carried_scene (next_state_of run) (standing_of run))
+      (λ s. AreCarried s.root.entries)

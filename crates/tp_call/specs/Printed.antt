@@ -23,32 +23,51 @@ use Rattle.tp_words.specs.declared.beside.Beside.TheVariants.{Nothing, TraceLine
 abbrev pub phrase_left : ProgramTree → Moment → List ℕ
 phrase_left program m = residual_phrase m.store.variables program.defs m.scene
 
--- What is written of a settled state: its lines, and what is asked for beside them. The next state begins with this moment, where there is one.
-abbrev pub written_state : (beside : Beside) → ProgramTree → Picture → (next : Option Moment) → List ℕ
+-- What is written of a settled state: its lines, and what is asked for beside them. The next state
+-- begins with this moment, where there is one.
+abbrev pub written_state : (beside : Beside) → ProgramTree → Picture → (next : Option Moment)
+    → List ℕ
 written_state Nothing program picture next = picture_lines program.globals picture
-written_state TraceLines program picture next = picture_lines program.globals picture ++ trace_lines picture.reductions (option_map (phrase_left program) next)
+written_state TraceLines program picture next =
+    picture_lines program.globals picture
+    ++ trace_lines picture.reductions (option_map (phrase_left program) next)
 
 -- of the states that lead from one moment to another
-abbrev pub states_text : (beside : Beside) (plan : Plan) (n : ℕ) (m : Moment) (pictures : List Picture) (last : Moment) → StatesLead plan n m pictures last → List ℕ
+abbrev pub states_text : (beside : Beside) (plan : Plan) (n : ℕ) (m : Moment)
+    (pictures : List Picture) (last : Moment) → StatesLead plan n m pictures last → List ℕ
 states_text beside plan n m [] last leads = []
-states_text beside plan n m (p ∷ ps) last leads = written_state beside plan.program p (Some leads.0) ++ states_text beside plan (suc n) leads.0 ps last leads.2
+states_text beside plan n m (p ∷ ps) last leads =
+    written_state beside plan.program p (Some leads.0)
+    ++ states_text beside plan (suc n) leads.0 ps last leads.2
 
 -- of those with which a run begins
-abbrev pub lead_text : (beside : Beside) (plan : Plan) (pictures : List Picture) (m : Moment) → LeadsTo plan pictures m → List ℕ
-lead_text beside plan pictures m leads = states_text beside plan 0 (first_moment plan.program.globals plan.program.main) pictures m leads
+abbrev pub lead_text : (beside : Beside) (plan : Plan) (pictures : List Picture) (m : Moment)
+    → LeadsTo plan pictures m → List ℕ
+lead_text beside plan pictures m leads =
+    states_text beside plan 0 (first_moment plan.program.globals plan.program.main) pictures m leads
 
--- of those of a run that ended with this answer; no state comes after the last one of a run that finished
-abbrev pub ended_text : (beside : Beside) (plan : Plan) (pictures : List Picture) (answer : Turn) → RunEndsWith plan pictures answer → List ℕ
+-- of those of a run that ended with this answer; no state comes after the last one of a run that
+-- finished
+abbrev pub ended_text : (beside : Beside) (plan : Plan) (pictures : List Picture) (answer : Turn)
+    → RunEndsWith plan pictures answer → List ℕ
 ended_text beside plan pictures turn.Went end = []
-ended_text beside plan pictures (turn.Finished length) end = lead_text beside plan end.before end.moment end.leads ++ written_state beside plan.program end.final None
-ended_text beside plan pictures (turn.Contradictory state clash) end = lead_text beside plan pictures end.0 end.1
-ended_text beside plan pictures (turn.Undetermined state cell) end = lead_text beside plan pictures end.0 end.1
-ended_text beside plan pictures (turn.StateLimit states) end = lead_text beside plan pictures end.0 end.1
-ended_text beside plan pictures (turn.InputMissing state port) end = lead_text beside plan pictures end.0 end.1
-ended_text beside plan pictures (turn.Over state limit) end = lead_text beside plan pictures end.0 end.1
+ended_text beside plan pictures (turn.Finished length) end =
+    lead_text beside plan end.before end.moment end.leads
+    ++ written_state beside plan.program end.final None
+ended_text beside plan pictures (turn.Contradictory state clash) end =
+    lead_text beside plan pictures end.0 end.1
+ended_text beside plan pictures (turn.Undetermined state cell) end =
+    lead_text beside plan pictures end.0 end.1
+ended_text beside plan pictures (turn.StateLimit states) end =
+    lead_text beside plan pictures end.0 end.1
+ended_text beside plan pictures (turn.InputMissing state port) end =
+    lead_text beside plan pictures end.0 end.1
+ended_text beside plan pictures (turn.Over state limit) end =
+    lead_text beside plan pictures end.0 end.1
 
 -- of those that a run settled, whether it goes on or has finished
-abbrev pub settled_text : (beside : Beside) (plan : Plan) (pictures : List Picture) → Settles plan pictures → List ℕ
+abbrev pub settled_text : (beside : Beside) (plan : Plan) (pictures : List Picture)
+    → Settles plan pictures → List ℕ
 settled_text beside plan pictures (inl goes) = lead_text beside plan pictures goes.0 goes.1
 settled_text beside plan pictures (inr end) = ended_text beside plan pictures end.1.answer end.1.run
 

@@ -20,7 +20,8 @@ use Rattle.tp_call.specs.Run.{last_answer, status_of}
 use Rattle.tp_words.specs.declared.beside.Beside.{Beside}
 
 -- a call of the run of this plan answers this: it goes from here to there, with this picture
-pub record Turned (plan : Plan) (from to : RunPlace) (answer : Turn) (picture : Picture) : Type 0 where
+pub record Turned (plan : Plan) (from to : RunPlace) (answer : Turn)
+    (picture : Picture) : Type 0 where
   pub earlier : Picture
   pub answers : AnswersState plan from earlier picture to answer
 
@@ -34,12 +35,16 @@ is_settled (turn.StateLimit states) = false
 is_settled (turn.InputMissing state port) = false
 is_settled (turn.Over state limit) = false
 
--- what is written of an answer and its picture: that of the state, where it was settled; the next one begins with this moment, where there is one
-abbrev pub printed_lines : (beside : Beside) → ProgramTree → Turn → Picture → (next : Option Moment) → List ℕ
-printed_lines beside program answer picture next = if is_settled answer then written_state beside program picture next else []
+-- what is written of an answer and its picture: that of the state, where it was settled; the next
+-- one begins with this moment, where there is one
+abbrev pub printed_lines : (beside : Beside) → ProgramTree → Turn → Picture → (next : Option Moment)
+    → List ℕ
+printed_lines beside program answer picture next =
+    if is_settled answer then written_state beside program picture next else []
 
 -- the call answered this, which was written; and the run ends with it, or goes on
-pub record AnswerMade (plan : Plan) (beside : Beside) (from to : RunPlace) (before after : Option (List ℕ)) (last : Option Turn) : Type 0 where
+pub record AnswerMade (plan : Plan) (beside : Beside) (from to : RunPlace)
+    (before after : Option (List ℕ)) (last : Option Turn) : Type 0 where
   pub answer : Turn
   pub last_is : last ≡ last_answer answer
   pub picture : Picture
@@ -48,22 +53,28 @@ pub record AnswerMade (plan : Plan) (beside : Beside) (from to : RunPlace) (befo
   pub range : IsTrue (is_settled answer) → IsPictureInRange picture
 
 -- the next state was settled, and a part of its lines was written
-pub record PartMade (plan : Plan) (beside : Beside) (from to : RunPlace) (before after : Option (List ℕ)) : Type 0 where
+pub record PartMade (plan : Plan) (beside : Beside) (from to : RunPlace)
+    (before after : Option (List ℕ)) : Type 0 where
   pub picture : Picture
   pub answer : Turn
   pub settled : IsTrue (is_settled answer)
   pub turned : Turned plan from to answer picture
   pub kept : ℕ
-  pub wrote : Wrote before after (take kept (written_state beside plan.program picture (next_moment to)))
+  pub wrote : Wrote before after
+      (take kept (written_state beside plan.program picture (next_moment to)))
 
 -- what became of the next state: the run answered and wrote, a write failed, or memory was wanted
-abbrev pub TurnMade : Plan → (beside : Beside) → RunPlace → RunPlace → Option (List ℕ) → Option (List ℕ) → Result (Option Turn) WriteRefusal → Type 0
-TurnMade plan beside from to before after (Ok last) = AnswerMade plan beside from to before after last
-TurnMade plan beside from to before after (Err sink.Failed) = PartMade plan beside from to before after
+abbrev pub TurnMade : Plan → (beside : Beside) → RunPlace → RunPlace → Option (List ℕ)
+    → Option (List ℕ) → Result (Option Turn) WriteRefusal → Type 0
+TurnMade plan beside from to before after (Ok last) =
+    AnswerMade plan beside from to before after last
+TurnMade plan beside from to before after (Err sink.Failed) =
+    PartMade plan beside from to before after
 TurnMade plan beside from to before after (Err sink.NoMemory) = after ≡ before
 
 -- a run of the plan, which stands here, has settled and written some states and goes on
-pub record HasWritten (plan : Plan) (beside : Beside) (now : RunPlace) (before after : Option (List ℕ)) : Type 0 where
+pub record HasWritten (plan : Plan) (beside : Beside) (now : RunPlace)
+    (before after : Option (List ℕ)) : Type 0 where
   pub pictures : List Picture
   pub next : Moment
   pub stands : now.standing ≡ open_at next
@@ -82,7 +93,8 @@ pub record EndedThere (plan : Plan) (to : RunPlace) (ended : Ended) : Type 0 whe
   pub store : store_of ended.run ≡ to.store
 
 -- a run of the plan settled and wrote some states, and then ended or was stopped
-pub record RunMade (plan : Plan) (beside : Beside) (before after : Option (List ℕ)) (result : Result Ended WriteRefusal) : Type 0 where
+pub record RunMade (plan : Plan) (beside : Beside) (before after : Option (List ℕ))
+    (result : Result Ended WriteRefusal) : Type 0 where
   pub from : RunPlace
   pub to : RunPlace
   pub middle : Option (List ℕ)
@@ -91,17 +103,24 @@ pub record RunMade (plan : Plan) (beside : Beside) (before after : Option (List 
   pub ended : IfOk result (EndedThere plan to)
 
 -- the same, or memory was wanted before the run
-abbrev pub ProgramMade : Plan → (beside : Beside) → Option (List ℕ) → Option (List ℕ) → Result Ended WriteRefusal → Type 0
-ProgramMade plan beside before after result = ((result ≡ Err sink.NoMemory) × (after ≡ before)) ⊎ RunMade plan beside before after result
+abbrev pub ProgramMade : Plan → (beside : Beside) → Option (List ℕ) → Option (List ℕ)
+    → Result Ended WriteRefusal → Type 0
+ProgramMade plan beside before after result =
+    ((result ≡ Err sink.NoMemory) × (after ≡ before)) ⊎ RunMade plan beside before after result
 
 -- the end line of a run that ended, where a state has at most so many reductions
 abbrev pub line_of_end : (reductions : ℕ) → Ended → List ℕ
-line_of_end reductions ended = end_line (program_of ended.run).globals (store_of ended.run).variables reductions ended.turn
+line_of_end reductions ended =
+    end_line (program_of ended.run).globals (store_of ended.run).variables reductions ended.turn
 
 -- writing this end line for a last answer, whose status is the one that is answered
-abbrev pub ClosesAnswer : (line : List ℕ) → Turn → Option (List ℕ) → Option (List ℕ) → Status → Type 0
-ClosesAnswer line turn old new result = (status : Status) × (status_of turn ≡ Some status) × ClosesText line status old new result
+abbrev pub ClosesAnswer : (line : List ℕ) → Turn → Option (List ℕ) → Option (List ℕ) → Status
+    → Type 0
+ClosesAnswer line turn old new result =
+    (status : Status) × (status_of turn ≡ Some status) × ClosesText line status old new result
 
 -- writing the end line of a run that ended
-abbrev pub ClosesRun : (reductions : ℕ) → Ended → Option (List ℕ) → Option (List ℕ) → Status → Type 0
-ClosesRun reductions ended old new result = ClosesAnswer (line_of_end reductions ended) ended.turn old new result
+abbrev pub ClosesRun : (reductions : ℕ) → Ended → Option (List ℕ) → Option (List ℕ) → Status
+    → Type 0
+ClosesRun reductions ended old new result =
+    ClosesAnswer (line_of_end reductions ended) ended.turn old new result

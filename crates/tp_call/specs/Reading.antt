@@ -14,7 +14,8 @@ read_refusal_of file.Failed = Failed
 read_refusal_of file.NoMemory = NoMemory
 
 -- a read asks for its name unless memory is refused
-abbrev pub asked_by : {T : Type 0} → Option (List (List ℕ)) → List ℕ → Result T ReadRefusal → Option (List (List ℕ))
+abbrev pub asked_by : {T : Type 0} → Option (List (List ℕ)) → List ℕ → Result T ReadRefusal
+    → Option (List (List ℕ))
 asked_by told name (Ok x) = and_one_more told name
 asked_by told name (Err TooLong) = and_one_more told name
 asked_by told name (Err Failed) = and_one_more told name
@@ -27,10 +28,13 @@ read_end Failed which = status.ReadFault which
 read_end NoMemory which = status.NoMemory
 
 -- the name was asked for, or memory was wanted before that
-abbrev pub AsksFile : {T : Type 0} → Option (List (List ℕ)) → List ℕ → Result T Status → Option (List (List ℕ)) → Type 0
-AsksFile told name result now = (now ≡ and_one_more told name) ⊎ ((result ≡ Err status.NoMemory) × (now ≡ told))
+abbrev pub AsksFile : {T : Type 0} → Option (List (List ℕ)) → List ℕ → Result T Status
+    → Option (List (List ℕ)) → Type 0
+AsksFile told name result now =
+    (now ≡ and_one_more told name) ⊎ ((result ≡ Err status.NoMemory) × (now ≡ told))
 
 -- the same, where there is a name; without one none was asked for
-abbrev pub AsksTable : {T : Type 0} → Option (List (List ℕ)) → Option (List ℕ) → Result T Status → Option (List (List ℕ)) → Type 0
+abbrev pub AsksTable : {T : Type 0} → Option (List (List ℕ)) → Option (List ℕ) → Result T Status
+    → Option (List (List ℕ)) → Type 0
 AsksTable told None result now = now ≡ told
 AsksTable told (Some name) result now = AsksFile told name result now

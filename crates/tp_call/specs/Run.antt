@@ -40,15 +40,16 @@ last_answer (turn.StateLimit states) = Some (turn.StateLimit states)
 last_answer (turn.InputMissing state port) = Some (turn.InputMissing state port)
 last_answer (turn.Over state kind) = Some (turn.Over state kind)
 
--- A run of the plan settles states with these pictures and no other, and ends with an answer that has this status. At `Finished` the
--- last of them is the state that ends.
+-- A run of the plan settles states with these pictures and no other, and ends with an answer that
+-- has this status. At `Finished` the last of them is the state that ends.
 pub record RunEnds (plan : Plan) (pictures : List Picture) (status : Status) : Type 0 where
   pub answer : Turn
   pub status_is : status_of answer ≡ Some status
   pub run : RunEndsWith plan pictures answer
 
 -- the variables that are known at the end of such a run
-abbrev pub known_at_end : {plan : Plan} {pictures : List Picture} {status : Status} → RunEnds plan pictures status → List Variable
+abbrev pub known_at_end : {plan : Plan} {pictures : List Picture} {status : Status}
+    → RunEnds plan pictures status → List Variable
 known_at_end {plan} {pictures} end = (end_store plan pictures end.answer end.run).variables
 
 -- a run of the plan settles these states, and goes on
@@ -57,15 +58,18 @@ RunGoesOn plan pictures = (next : Moment) × LeadsTo plan pictures next
 
 -- a run of the plan settles these states, and goes on or finishes with the last of them
 abbrev pub Settles : Plan → List Picture → Type 0
-Settles plan pictures = RunGoesOn plan pictures ⊎ ((length : ℕ) × RunEnds plan pictures (Finished length))
+Settles plan pictures =
+    RunGoesOn plan pictures ⊎ ((length : ℕ) × RunEnds plan pictures (Finished length))
 
--- What the end of a run whose settled states have these pictures says of every interval. Finished: an interval satisfies the program, and
--- shows this or that, exactly where it is an interval of the program with the printed length that agrees with each printed state, and it shows
--- what these show; and there is one. Contradictory, or an input that is missing: none does. Else: each one that does agrees
--- with the printed states and has more states.
+-- What the end of a run whose settled states have these pictures says of every interval. Finished:
+-- an interval satisfies the program, and shows this or that, exactly where it is an interval of the
+-- program with the printed length that agrees with each printed state, and it shows what these
+-- show; and there is one. Contradictory, or an input that is missing: none does. Else: each one
+-- that does agrees with the printed states and has more states.
 abbrev pub EndSays : Plan → List Picture → Turn → Type 0
 EndSays plan pictures turn.Went = ⊥
-EndSays plan pictures (turn.Finished length) = SatisfiedExactly plan pictures length × Satisfiable plan
+EndSays plan pictures (turn.Finished length) =
+    SatisfiedExactly plan pictures length × Satisfiable plan
 EndSays plan pictures (turn.Contradictory state clash) = Unsatisfiable plan
 EndSays plan pictures (turn.Undetermined state cell) = ContinuesEach plan pictures
 EndSays plan pictures (turn.StateLimit states) = ContinuesEach plan pictures

@@ -26,7 +26,8 @@ pub record IsSourceText (source : List ℕ) (tree : SourceTree) : Type 0 where
   pub are_tokens : AreTokens source tokens
   pub accepted : Accepts tokens tree
 
--- This text is this program: its tokens are a source of the grammar, which the checker makes the program.
+-- This text is this program: its tokens are a source of the grammar, which the checker makes the
+-- program.
 pub record IsProgram (source : List ℕ) (program : ProgramTree) : Type 0 where
   pub tokens : List Token
   pub tree : SourceTree
@@ -36,7 +37,8 @@ pub record IsProgram (source : List ℕ) (program : ProgramTree) : Type 0 where
 
 -- the line and column of the byte, with the kind of refusal there
 abbrev pub refused_at : List ℕ → ℕ → SourceKind → Refused
-refused_at source at kind = let place = place_of source at in record { line = place.line; column = place.column; kind = kind }
+refused_at source at kind = let place = place_of source at in
+    record { line = place.line; column = place.column; kind = kind }
 
 abbrev pub lexer_refusal : List ℕ → LexRefusal → Option Refused
 lexer_refusal source (lex.BadByte at) = Some (refused_at source at BadByte)
@@ -90,12 +92,13 @@ pub record IsNotRun (source : List ℕ) (refused : Refused) : Type 0 where
   pub outcome : ChecksTo tree (Err refusal)
   pub answer : checker_refusal source refusal ≡ Some refused
 
--- This text is no source of the grammar, and is refused at this place for this cause: the lexer's refusal comes before the parser's.
+-- This text is no source of the grammar, and is refused at this place for this cause: the lexer's
+-- refusal comes before the parser's.
 abbrev pub IsOutsideGrammar : List ℕ → Refused → Type 0
 IsOutsideGrammar source refused = HasNoTokens source refused ⊎ HasNoTree source refused
 
--- This text is refused at this place, for this cause: to be printed it has to be a source of the grammar, and to be run it has to be a
--- program, for which it is checked last.
+-- This text is refused at this place, for this cause: to be printed it has to be a source of the
+-- grammar, and to be run it has to be a program, for which it is checked last.
 abbrev pub IsRefusedAt : Mode → List ℕ → Refused → Type 0
 IsRefusedAt Print source refused = IsOutsideGrammar source refused
 IsRefusedAt Run source refused = IsOutsideGrammar source refused ⊎ IsNotRun source refused

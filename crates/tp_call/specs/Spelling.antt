@@ -7,8 +7,8 @@ use Rattle.tp_tree.specs.Spelling.{source_spelling}
 use Rattle.tp_tree.specs.Places.{IsSameUpToPlaces}
 use Rattle.tp_parse.specs.Grammar.{IsSource, Accepts}
 
--- The tree's canonical spelling has tokens, and these are a source of the grammar that is this tree up to places, and no other. It is as
--- high as its parentheses make it.
+-- The tree's canonical spelling has tokens, and these are a source of the grammar that is this tree
+-- up to places, and no other. It is as high as its parentheses make it.
 pub record IsReadFromSpelling (tree : SourceTree) : Type 0 where
   pub tokens : List Token
   pub are_tokens : AreTokens (source_spelling tree) tokens

@@ -20,7 +20,9 @@ use Rattle.tp_words.specs.declared.beside.Beside.{Beside}
 
 -- the plan of a task
 abbrev pub plan_of : Task → Plan
-plan_of task = plan_with (program_tree task.program) (lines_of task.inputs) task.limits.states task.limits.reductions
+plan_of task =
+    plan_with (program_tree task.program) (lines_of task.inputs) task.limits.states
+    task.limits.reductions
 
 -- the words ask for this
 abbrev pub AsksFor : List (List ℕ) → Command → Type 0
@@ -28,7 +30,8 @@ AsksFor words command = wanted_of words ≡ Some (wanted_by command)
 
 -- what is written beside each state is what the words ask for
 abbrev pub WritesBesideAsAsked : List (List ℕ) → Beside → Type 0
-WritesBesideAsAsked words beside = (wanted : Wanted) → wanted_of words ≡ Some wanted → wanted.beside ≡ beside
+WritesBesideAsAsked words beside =
+    (wanted : Wanted) → wanted_of words ≡ Some wanted → wanted.beside ≡ beside
 
 -- the order in which the items of a state are taken is the one that the words ask for
 abbrev pub OrdersAsAsked : List (List ℕ) → Order → Type 0
@@ -46,4 +49,5 @@ pub record IsTaskFor (words : List (List ℕ)) (held : Option Held) (task : Task
 -- the words ask for this task, or to print this source
 abbrev pub IsJobFor : List (List ℕ) → Option Held → Job → Type 0
 IsJobFor words held (job.Run task) = IsTaskFor words held task
-IsJobFor words held (job.Print source) = IsAskedToPrint words held (source_tree source) × IsReadFromSpelling (source_tree source)
+IsJobFor words held (job.Print source) =
+    IsAskedToPrint words held (source_tree source) × IsReadFromSpelling (source_tree source)

@@ -14,10 +14,13 @@ use Rattle.tp_words.specs.declared.beside.Beside.TheVariants.{Nothing}
 
 -- the words ask for nothing beside the states
 abbrev pub AsksNothingBeside : List (List ℕ) → Type 0
-AsksNothingBeside words = (wanted : Wanted) → wanted_of words ≡ Some wanted → wanted.beside ≡ Nothing
+AsksNothingBeside words =
+    (wanted : Wanted) → wanted_of words ≡ Some wanted → wanted.beside ≡ Nothing
 
--- The text reads so: lines of states that tell this of the variables with these names, and then an end line.
-pub record ReadsAs (names : List (List ℕ)) (text : List ℕ) (told : List ToldState) (end : List ℕ) : Type 0 where
+-- The text reads so: lines of states that tell this of the variables with these names, and then an
+-- end line.
+pub record ReadsAs (names : List (List ℕ)) (text : List ℕ) (told : List ToldState)
+    (end : List ℕ) : Type 0 where
   pub states : All (IsToldOf names) told
   pub last : IsEndLine names end
   pub whole : text ≡ told_text names told ++ end
@@ -26,20 +29,27 @@ pub record ReadsAs (names : List (List ℕ)) (text : List ℕ) (told : List Told
 abbrev pub finished_line : ℕ → List ℕ
 finished_line n = codes "finished: length " ++ decimal n ++ codes "\n"
 
--- An interval satisfies the program and shows S exactly where it has this length, agrees with what is told of its states, and S is what is told to be
--- shown.
+-- An interval satisfies the program and shows S exactly where it has this length, agrees with what
+-- is told of its states, and S is what is told to be shown.
 abbrev pub SatisfiedAsTold : Plan → List ToldState → ℕ → Type 0
 SatisfiedAsTold plan told n = (s : Course) (a b : ℕ) (S : Shows)
-    → Satisfies plan.program plan.inputs s a b S ↔ (IsInterval plan.program s a b × (b ≡ n + a) × AgreesWithTold s a told × (S ≡ told_shows a told))
+    → Satisfies plan.program plan.inputs s a b S
+    ↔ (IsInterval plan.program s a b × (b ≡ n + a) × AgreesWithTold s a told
+    × (S ≡ told_shows a told))
 
--- Each interval that satisfies the program begins with states that agree with what is told, shows there what is told, and has more states than these.
+-- Each interval that satisfies the program begins with states that agree with what is told, shows
+-- there what is told, and has more states than these.
 abbrev pub ContinuesTold : Plan → List ToldState → Type 0
-ContinuesTold plan told = (s : Course) (a b : ℕ) (S : Shows) → Satisfies plan.program plan.inputs s a b S
-    → (length told + a ≤ b) × AgreesWithTold s a told × ((j : ℕ) → j < length told + a → S j ≡ told_shows a told j)
+ContinuesTold plan told =
+    (s : Course) (a b : ℕ) (S : Shows) → Satisfies plan.program plan.inputs s a b S
+    → (length told + a ≤ b) × AgreesWithTold s a told
+    × ((j : ℕ) → j < length told + a → S j ≡ told_shows a told j)
 
--- Of the words, of what the files hold, and of what was written before and after: a run of what is asked for appended a text, this text can be read,
--- and however it is read, what it tells and its last line have P.
-pub record TextTells (words : List (List ℕ)) (held : Option Held) (old new : Option (List ℕ)) (P : Plan → List ToldState → List ℕ → Type 0) : Type 0 where
+-- Of the words, of what the files hold, and of what was written before and after: a run of what is
+-- asked for appended a text, this text can be read, and however it is read, what it tells and its
+-- last line have P.
+pub record TextTells (words : List (List ℕ)) (held : Option Held) (old new : Option (List ℕ))
+    (P : Plan → List ToldState → List ℕ → Type 0) : Type 0 where
   pub plan : Plan
   pub asked : IsAskedFor words held plan
   pub text : List ℕ
@@ -47,4 +57,5 @@ pub record TextTells (words : List (List ℕ)) (held : Option Held) (old new : O
   pub told : List ToldState
   pub end : List ℕ
   pub reads : ReadsAs plan.program.globals text told end
-  pub means : (other : List ToldState) (last : List ℕ) → ReadsAs plan.program.globals text other last → P plan other last
+  pub means : (other : List ToldState) (last : List ℕ)
+      → ReadsAs plan.program.globals text other last → P plan other last

@@ -44,20 +44,25 @@ pub record IsTraced (names : List (List ℕ)) (s : TracedState) : Type 0 where
 -- the end line of a run with these globals, on one line
 abbrev pub IsOneEndLine : (globals : List (List ℕ)) → List ℕ → Type 0
 IsOneEndLine globals line =
-    (known : List Variable) × (reductions : ℕ) × (answer : Turn) × IsLastTurn answer × IsOneLine (last_words globals known reductions answer) × (line ≡ end_line globals known reductions answer)
+    (known : List Variable) × (reductions : ℕ) × (answer : Turn) × IsLastTurn answer
+    × IsOneLine (last_words globals known reductions answer)
+    × (line ≡ end_line globals known reductions answer)
 
--- The text reads so, where trace lines are passed over: lines of states that tell this of the variables with these names, each with trace lines
--- behind it or none, and then an end line.
-pub record ReadsTracedAs (names : List (List ℕ)) (text : List ℕ) (told : List ToldState) (end : List ℕ) : Type 0 where
+-- The text reads so, where trace lines are passed over: lines of states that tell this of the
+-- variables with these names, each with trace lines behind it or none, and then an end line.
+pub record ReadsTracedAs (names : List (List ℕ)) (text : List ℕ) (told : List ToldState)
+    (end : List ℕ) : Type 0 where
   pub states : List TracedState
   pub are : All (IsTraced names) states
   pub told_is : told ≡ map (λ s. s.told) states
   pub last : IsOneEndLine names end
   pub whole : text ≡ traced_text names states ++ end
 
--- Of the words, of what the files hold, and of what was written before and after: a run of what is asked for appended a text, this text can be read,
--- and however it is read, what it tells and its last line have P.
-pub record TracedTextTells (words : List (List ℕ)) (held : Option Held) (old new : Option (List ℕ)) (P : Plan → List ToldState → List ℕ → Type 0) : Type 0 where
+-- Of the words, of what the files hold, and of what was written before and after: a run of what is
+-- asked for appended a text, this text can be read, and however it is read, what it tells and its
+-- last line have P.
+pub record TracedTextTells (words : List (List ℕ)) (held : Option Held) (old new : Option (List ℕ))
+    (P : Plan → List ToldState → List ℕ → Type 0) : Type 0 where
   pub plan : Plan
   pub asked : IsAskedFor words held plan
   pub text : List ℕ
@@ -65,16 +70,23 @@ pub record TracedTextTells (words : List (List ℕ)) (held : Option Held) (old n
   pub told : List ToldState
   pub end : List ℕ
   pub reads : ReadsTracedAs plan.program.globals text told end
-  pub means : (other : List ToldState) (last : List ℕ) → ReadsTracedAs plan.program.globals text other last → P plan other last
+  pub means : (other : List ToldState) (last : List ℕ)
+      → ReadsTracedAs plan.program.globals text other last → P plan other last
 
 module _ (words : List (List ℕ)) (held : Option Held) (old new : Option (List ℕ)) (result : Status) where
-  -- Where a run finishes and the files tell what they hold, whether a trace is asked for or not: however the text is read, an interval satisfies the
-  -- program and shows S exactly where it has the length n of the last line, agrees with what the states' lines say, and S is what the `show` lines say.
+  -- Where a run finishes and the files tell what they hold, whether a trace is asked for or not:
+  -- however the text is read, an interval satisfies the program and shows S exactly where it has
+  -- the length n of the last line, agrees with what the states' lines say, and S is what the `show`
+  -- lines say.
   abbrev pub FinishedTracedSays : Type 0
   FinishedTracedSays = (files : Held) → held ≡ Some files → (length : ℕ) → result ≡ Finished length
-      → TracedTextTells words held old new (λ plan told last. (n : ℕ) → FitsIn64Bits n → last ≡ finished_line n → SatisfiedAsTold plan told n)
+      → TracedTextTells words held old new
+      (λ plan told last. (n : ℕ) → FitsIn64Bits n → last ≡ finished_line n
+      → SatisfiedAsTold plan told n)
 
-  -- Where a run is undetermined or reaches a limit: however the text is read, each interval that satisfies the program begins with what it tells, and
-  -- has more states.
+  -- Where a run is undetermined or reaches a limit: however the text is read, each interval that
+  -- satisfies the program begins with what it tells, and has more states.
   abbrev pub OpenTracedSays : Type 0
-  OpenTracedSays = (files : Held) → held ≡ Some files → IsOpenEnd result → TracedTextTells words held old new (λ plan told last. ContinuesTold plan told)
+  OpenTracedSays =
+      (files : Held) → held ≡ Some files → IsOpenEnd result
+      → TracedTextTells words held old new (λ plan told last. ContinuesTold plan told)

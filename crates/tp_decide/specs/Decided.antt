@@ -28,10 +28,16 @@ mark_of mark.Ending = S.Ending
 mark_of mark.Going = S.Going
 
 abbrev pub plain_place : Place → S.Place
-plain_place p = record { region = p.region; depth = p.depth; is = λ z. S.marked z (record { number = p.region; ends = p.ends; goes = p.goes }) }
+plain_place p =
+    record {
+      region = p.region;
+      depth = p.depth;
+      is = λ z. S.marked z (record { number = p.region; ends = p.ends; goes = p.goes });
+    }
 
 abbrev pub setting_of : Setting → pick.Setting
-setting_of w = record { defs = definitions_of w.defs.now; inputs = lines_of w.inputs.now; state = w.state }
+setting_of w =
+    record { defs = definitions_of w.defs.now; inputs = lines_of w.inputs.now; state = w.state }
 
 abbrev pub plain_leaf : Leaf → S.Leaf
 plain_leaf (leaf.Do a) = S.Do (formula_of a) (env_of a)
@@ -45,18 +51,42 @@ news_entries (l ∷ ls) number k = S.leaf (number k) (plain_leaf l) (news_entrie
 
 -- the item becomes one that holds a new region with one item
 abbrev pub with_new_region : S.Entries → PickOutcome
-with_new_region news = row.reduces (record { news = news; items = 2; regions = 1; local = None; mark = None; facts = [] })
+with_new_region news =
+    row.reduces (record {
+      news = news;
+      items = 2;
+      regions = 1;
+      local = None;
+      mark = None;
+      facts = [];
+    })
 
--- What a decision does where these facts are known, and new items, regions and locals take these numbers. A region is made only where it
--- isn't too deep, so the place plays no part.
+-- What a decision does where these facts are known, and new items, regions and locals take these
+-- numbers. A region is made only where it isn't too deep, so the place plays no part.
 abbrev pub decided_outcome : List Fact → Numbers → Decision → PickOutcome
 decided_outcome facts n (decision.Becomes news m) =
-    row.reduces (record { news = news_entries news.items n.item 0; items = length news.items; regions = 0; local = None; mark = option_map mark_of m; facts = [] })
-decided_outcome facts n (decision.Splits first after) = with_new_region (S.split_then (n.item 1) (row.region_of n.region (n.item 0) (formula_of first) (env_of first)) (formula_of after) (env_of after) S.none)
-decided_outcome facts n (decision.Opens outer piece) = with_new_region (S.opened_then (n.item 1) (row.region_of n.region (n.item 0) (formula_of outer) (env_of outer)) (formula_of piece) (env_of piece) S.none)
+    row.reduces (record {
+      news = news_entries news.items n.item 0;
+      items = length news.items;
+      regions = 0;
+      local = None;
+      mark = option_map mark_of m;
+      facts = [];
+    })
+decided_outcome facts n (decision.Splits first after) =
+    with_new_region (S.split_then (n.item 1)
+    (row.region_of n.region (n.item 0) (formula_of first) (env_of first)) (formula_of after)
+    (env_of after) S.none)
+decided_outcome facts n (decision.Opens outer piece) =
+    with_new_region (S.opened_then (n.item 1)
+    (row.region_of n.region (n.item 0) (formula_of outer) (env_of outer)) (formula_of piece)
+    (env_of piece) S.none)
 decided_outcome facts n (decision.Binds name lasting body) =
     row.reduces (record {
-      news = S.leaf (n.item 0) (S.Do (formula_of body) (env_of body ++ place_binding (record { var = record { number = n.local; lasting = lasting }; at = [] }) ∷ [])) S.none;
+      news = S.leaf (n.item 0)
+          (S.Do (formula_of body)
+          (env_of body ++ place_binding
+          (record { var = record { number = n.local; lasting = lasting }; at = [] }) ∷ [])) S.none;
       items = 1;
       regions = 0;
       local = Some (record { name = name; lasting = lasting });

@@ -47,23 +47,27 @@ ArePlaces _ _ = Unit {0}
 
 -- The globals are the first variables, and `kinds` says of each whether it is static.
 abbrev pub AreFirst : (kinds : List Bool) → List Variable → Type 0
-AreFirst kinds variables = (i : ℕ) (b : Bool) → slice_get kinds i ≡ Some b → slice_get (kinds_in variables) i ≡ Some b
+AreFirst kinds variables =
+    (i : ℕ) (b : Bool) → slice_get kinds i ≡ Some b → slice_get (kinds_in variables) i ≡ Some b
 
 -- A formula and its bindings fit a store with these variables, of which the first are the globals.
-pub record FitsStore (defs : List Definition) (variables : List Variable) (f : FormulaTree) (env : S.Bindings) : Type 0 where
+pub record FitsStore (defs : List Definition) (variables : List Variable) (f : FormulaTree)
+    (env : S.Bindings) : Type 0 where
   pub kinds : List Bool
   pub phrase : PhraseFits defs kinds variables f env
   pub globals : AreFirst kinds variables
 
 -- the same of an expression
-pub record ExprFitsStore (defs : List Definition) (variables : List Variable) (e : ExprTree) (env : S.Bindings) : Type 0 where
+pub record ExprFitsStore (defs : List Definition) (variables : List Variable) (e : ExprTree)
+    (env : S.Bindings) : Type 0 where
   pub kinds : List Bool
   pub expr : ExprFits defs kinds e (length env)
   pub bindings : BindingsFit (kinds_in variables) env
   pub globals : AreFirst kinds variables
 
 -- the same of an item without a region, in a region of that place
-pub record LeafFitsStore (defs : List Definition) (variables : List Variable) (l : S.Leaf) (p : S.Place) : Type 0 where
+pub record LeafFitsStore (defs : List Definition) (variables : List Variable) (l : S.Leaf)
+    (p : S.Place) : Type 0 where
   pub kinds : List Bool
   pub leaf : LeafFits defs kinds variables l p
   pub globals : AreFirst kinds variables

@@ -37,16 +37,22 @@ NumberIn o (Ok k) = o ≡ found.value (num k)
 NumberIn o (Err d) = (f : ℤ → PickOutcome) → Decides d (λ n. row.with_number o f)
 
 -- the values of expressions from left to right, or what is decided at the first without one
-abbrev pub ValuesIn : List Fact → List Definition → ExprTrees → Bindings → Result Values Decision → Type 0
-ValuesIn facts defs es env (Ok vs) = (f : List Tree → PickOutcome) → row.with_values defs facts es env f ≡ f (values_of vs)
-ValuesIn facts defs es env (Err d) = (f : List Tree → PickOutcome) → Decides d (λ n. row.with_values defs facts es env f)
+abbrev pub ValuesIn : List Fact → List Definition → ExprTrees → Bindings → Result Values Decision
+    → Type 0
+ValuesIn facts defs es env (Ok vs) =
+    (f : List Tree → PickOutcome) → row.with_values defs facts es env f ≡ f (values_of vs)
+ValuesIn facts defs es env (Err d) =
+    (f : List Tree → PickOutcome) → Decides d (λ n. row.with_values defs facts es env f)
 
--- What a parameter is bound to where `with_bound` goes on with it, or what is decided without one; and the same of all parameters.
-abbrev pub BoundIn : (with_bound : (BindingTree → PickOutcome) → PickOutcome) → Result Binding Decision → Type 0
+-- What a parameter is bound to where `with_bound` goes on with it, or what is decided without one;
+-- and the same of all parameters.
+abbrev pub BoundIn : (with_bound : (BindingTree → PickOutcome) → PickOutcome)
+    → Result Binding Decision → Type 0
 BoundIn with_bound (Ok b) = (f : BindingTree → PickOutcome) → with_bound f ≡ f (binding_of b)
 BoundIn with_bound (Err d) = (f : BindingTree → PickOutcome) → Decides d (λ n. with_bound f)
 
-abbrev pub AllBoundIn : (with_all : (Bindings → PickOutcome) → PickOutcome) → Result Env Decision → Type 0
+abbrev pub AllBoundIn : (with_all : (Bindings → PickOutcome) → PickOutcome) → Result Env Decision
+    → Type 0
 AllBoundIn with_all (Ok env) = (f : Bindings → PickOutcome) → with_all f ≡ f (bindings_of env)
 AllBoundIn with_all (Err d) = (f : Bindings → PickOutcome) → Decides d (λ n. with_all f)
 
@@ -58,7 +64,8 @@ abbrev pub option_target : Option Target → Option row.Target
 option_target o = option_map target_in o
 
 abbrev pub side_found : Side → row.SideOf
-side_found s = record { placed = s.placed; target = option_target s.target; found = outcome_tree s.found }
+side_found s =
+    record { placed = s.placed; target = option_target s.target; found = outcome_tree s.found }
 
 abbrev pub PathIn : Option Path → (Path → row.Target) → Option row.Target → Type 0
 PathIn o f t = option_map f o ≡ t

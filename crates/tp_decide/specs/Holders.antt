@@ -18,8 +18,10 @@ kind_of (S.Running f env) = kind.Running
 
 -- The left region has ended, and what follows it begins. This is of no other holder.
 abbrev pub closes : S.Holder → (left second : S.Region) → Numbers → PickOutcome
-closes (S.Split f env) left second n = row.becomes (S.closed_then (n.item 0) left (S.leaf (n.item 1) (S.Do f env) S.none)) 2
-closes (S.SplitProject f env) left second n = row.becomes (S.closed_then (n.item 0) left (S.opened_then (n.item 1) second f env S.none)) 2
+closes (S.Split f env) left second n =
+    row.becomes (S.closed_then (n.item 0) left (S.leaf (n.item 1) (S.Do f env) S.none)) 2
+closes (S.SplitProject f env) left second n =
+    row.becomes (S.closed_then (n.item 0) left (S.opened_then (n.item 1) second f env S.none)) 2
 closes S.Closed left second n = row.rests
 closes (S.Opened f env) left second n = row.rests
 closes (S.Running f env) left second n = row.rests
@@ -28,7 +30,12 @@ closes (S.Running f env) left second n = row.rests
 abbrev pub begins_piece : S.Holder → (outer : S.Region) → Numbers → PickOutcome
 begins_piece (S.Opened f env) outer n =
     row.reduces (record {
-      news = S.running_then (n.item 2) (record { head = S.new_head n.region; entries = S.leaf (n.item 0) (S.Do f env) (S.leaf (n.item 1) (S.Do more env) S.none) }) outer f env S.none;
+      news = S.running_then (n.item 2)
+          (record {
+            head = S.new_head n.region;
+            entries = S.leaf (n.item 0) (S.Do f env) (S.leaf (n.item 1) (S.Do more env) S.none);
+          })
+          outer f env S.none;
       items = 3;
       regions = 1;
       local = None;
@@ -40,14 +47,17 @@ begins_piece (S.SplitProject f env) outer n = row.rests
 begins_piece S.Closed outer n = row.rests
 begins_piece (S.Running f env) outer n = row.rests
 
--- what a decision on this holder stands for, with the regions that it holds and the numbers that new items and regions take
-abbrev pub holder_decided : S.Holder → (held second : S.Region) → Numbers → HolderDecision → PickOutcome
+-- what a decision on this holder stands for, with the regions that it holds and the numbers that
+-- new items and regions take
+abbrev pub holder_decided : S.Holder → (held second : S.Region) → Numbers → HolderDecision
+    → PickOutcome
 holder_decided k held second n decision.Rests = row.rests
 holder_decided k held second n (decision.Waits cell) = row.waits cell None
 holder_decided k held second n decision.Closes = closes k held second n
 holder_decided k held second n decision.Begins = begins_piece k held n
 
--- It is a decision on items of this kind: only a left region closes, and only an outer one begins a piece.
+-- It is a decision on items of this kind: only a left region closes, and only an outer one begins a
+-- piece.
 abbrev pub IsOfKind : HolderKind → HolderDecision → Type 0
 IsOfKind k decision.Rests = Unit {0}
 IsOfKind k (decision.Waits cell) = Unit {0}

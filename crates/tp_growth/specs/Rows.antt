@@ -92,7 +92,8 @@ holder_make (Running f env) n h i g s = none
 
 -- A holder that has a step keeps it, of the regions as they then are; it has no facts, and never
 -- fails. Where it rests it rests on.
-abbrev pub HolderGrown : Holder → Numbers → Head → Entries → Head → Entries → PickOutcome → PickOutcome
+abbrev pub HolderGrown : Holder → Numbers → Head → Entries → Head → Entries → PickOutcome
+    → PickOutcome
     → Type 0
 HolderGrown k n h i g s (reduces r) o =
     (o ≡ reduces (record r { news = holder_make k n h i g s }))

@@ -16,8 +16,8 @@ use Rattle.tp_growth.specs.Within.{LengthsAreWithin, EntriesWithin}
 use Rattle.tp_renaming.specs.Renaming.{Renaming}
 use Rattle.tp_renaming.specs.Alike.{AlikeBy, Alike}
 
--- What a run has between its steps: a sound moment in which kept lengths, bound values and inputs are
--- within the limits.
+-- What a run has between its steps: a sound moment in which kept lengths, bound values and inputs
+-- are within the limits.
 pub record IsOrderly (w : Setting) (kinds : List Bool) (m : Moment) : Type 0 where
   pub sound : IsSound w kinds m
   pub lengths : LengthsAreWithin m.store.facts

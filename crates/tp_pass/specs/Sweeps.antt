@@ -23,7 +23,8 @@ pub record IsLiveByNumber (es : Entries) (items : List ℕ) : Type 0 where
 abbrev pub from_place : ℕ → List ℕ → List ℕ
 from_place r xs = drop r xs ++ take r xs
 
--- The sweep is of every number from this one on; of these in order; of these from the last to the first.
+-- The sweep is of every number from this one on; of these in order; of these from the last to the
+-- first.
 abbrev pub SweepsFrom : ℕ → Sweep → Type 0
 SweepsFrom n (From k) = k ≡ n
 SweepsFrom n (Forward items) = ⊥
@@ -39,23 +40,28 @@ SweepsBackward xs (From k) = ⊥
 SweepsBackward xs (Forward items) = ⊥
 SweepsBackward xs (Backward items) = items.items ≡ xs
 
--- The sweep of a pass that begins with these entries, and what the order goes on as. `First` tries every number as its turn comes, so new items
--- too; `Last` the items that are live now, by decreasing number; a seed those same items by increasing number, from the one at the place that it
--- chooses, and round.
+-- The sweep of a pass that begins with these entries, and what the order goes on as. `First` tries
+-- every number as its turn comes, so new items too; `Last` the items that are live now, by
+-- decreasing number; a seed those same items by increasing number, from the one at the place that
+-- it chooses, and round.
 abbrev pub BeginsSweep : Entries → (order after : Order) → Sweep → Type 0
 BeginsSweep es First after sweep = (after ≡ First) × SweepsFrom 0 sweep
-BeginsSweep es Last after sweep = (after ≡ Last) × ((live : List ℕ) × IsLiveByNumber es live × SweepsBackward live sweep)
+BeginsSweep es Last after sweep =
+    (after ≡ Last) × ((live : List ℕ) × IsLiveByNumber es live × SweepsBackward live sweep)
 BeginsSweep es (Seed x) after sweep =
-    (live : List ℕ) × IsLiveByNumber es live × (after ≡ Seed (word_past live x)) × SweepsForward (from_place (choice_of x % length live) live) sweep
+    (live : List ℕ) × IsLiveByNumber es live × (after ≡ Seed (word_past live x))
+    × SweepsForward (from_place (choice_of x % length live) live) sweep
 
 -- A turn is taken where the next new item has this number.
 abbrev pub TakesTurn : (next_item : ℕ) → (sweep after : Sweep) → Option ℕ → Type 0
 TakesTurn n (From k) after None = (n ≤ k) × SweepsFrom k after
 TakesTurn n (From k) after (Some t) = (k < n) × (t ≡ k) × SweepsFrom (suc k) after
 TakesTurn n (Forward items) after None = (items.items ≡ []) × SweepsForward [] after
-TakesTurn n (Forward items) after (Some t) = (rest : List ℕ) × (items.items ≡ t ∷ rest) × SweepsForward rest after
+TakesTurn n (Forward items) after (Some t) =
+    (rest : List ℕ) × (items.items ≡ t ∷ rest) × SweepsForward rest after
 TakesTurn n (Backward items) after None = (items.items ≡ []) × SweepsBackward [] after
-TakesTurn n (Backward items) after (Some t) = (rest : List ℕ) × (items.items ≡ rest ++ t ∷ []) × SweepsBackward rest after
+TakesTurn n (Backward items) after (Some t) =
+    (rest : List ℕ) × (items.items ≡ rest ++ t ∷ []) × SweepsBackward rest after
 
 -- how many turns it has at the most: there are fewer than 2^64 numbers
 abbrev pub turns_left : Sweep → ℕ

@@ -39,8 +39,8 @@ FixesFrom n π = (i : ℕ) → n ≤ i → π.to i ≡ i
 abbrev pub FixesBelow : ℕ → Permutation → Type 0
 FixesBelow n π = (i : ℕ) → i < n → π.to i ≡ i
 
--- Each number in a variable, a path, a fact, an item, a region, a place or an outcome is replaced by
--- the one that it is mapped to.
+-- Each number in a variable, a path, a fact, an item, a region, a place or an outcome is replaced
+-- by the one that it is mapped to.
 module _ (ρ : Renaming) where
   abbrev pub renamed_variable : VarId → VarId
   renamed_variable x = record { number = ρ.local.to x.number; lasting = x.lasting }

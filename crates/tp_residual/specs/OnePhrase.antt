@@ -8,5 +8,8 @@ use Rattle.tp_residual.specs.Residual.{residual_phrase}
 
 -- what is alike to a moment that fits the program has the residual phrase of this one
 abbrev pub AlikeMomentsHaveOnePhrase : Type 0
-AlikeMomentsHaveOnePhrase = (defs : List Definition) (kinds : List Bool) (m n : Moment) → MomentFits defs kinds m → Alike (length kinds) m n
-    → residual_phrase n.store.variables defs n.scene ≡ residual_phrase m.store.variables defs m.scene
+AlikeMomentsHaveOnePhrase =
+    (defs : List Definition) (kinds : List Bool) (m n : Moment) → MomentFits defs kinds m
+    → Alike (length kinds) m n
+    → residual_phrase n.store.variables defs n.scene
+    ≡ residual_phrase m.store.variables defs m.scene

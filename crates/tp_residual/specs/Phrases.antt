@@ -1,4 +1,5 @@
--- How expressions and formulas are spelled: as the canonical spelling has the phrases that they come from, with its levels.
+-- How expressions and formulas are spelled: as the canonical spelling has the phrases that they
+-- come from, with its levels.
 use Rattle.std.specs.Prelude.{ℕ, zero, suc, ℤ, pos, nat_le, List, [], ◌++◌, slice_get, if◌then◌else◌, codes}
 use Rattle.std.specs.Ordering.{int_eq}
 use Rattle.std.specs.Fmt.{signed_decimal}
@@ -31,15 +32,18 @@ abbrev pub enclosed : (most level : ℕ) → List ℕ → List ℕ
 enclosed most level text = if nat_le level most then text else codes "(" ++ text ++ codes ")"
 
 -- an operator between its operands, each with its level
-abbrev pub operation_spelling : Op → (left_is : ℕ) → (left : List ℕ) → (right_is : ℕ) → (right : List ℕ) → List ℕ
-operation_spelling o l left r right = enclosed (left_level o) l left ++ codes " " ++ op_spelling o ++ codes " " ++ enclosed (right_level o) r right
+abbrev pub operation_spelling : Op → (left_is : ℕ) → (left : List ℕ) → (right_is : ℕ)
+    → (right : List ℕ) → List ℕ
+operation_spelling o l left r right =
+    enclosed (left_level o) l left ++ codes " " ++ op_spelling o ++ codes " "
+    ++ enclosed (right_level o) r right
 
 -- a form or a call with the text of its operands
 abbrev pub called_with : (word operands : List ℕ) → List ℕ
 called_with word operands = word ++ codes "(" ++ operands ++ codes ")"
 
--- The level of an expression. What a bound name is spelled by is tight enough for any operand. A conjunction of one operand is that operand, and
--- one of none is `true`.
+-- The level of an expression. What a bound name is spelled by is tight enough for any operand. A
+-- conjunction of one operand is that operand, and one of none is `true`.
 abbrev mutual
   pub expr_level : ExprTree → ℕ
   expr_level (numeral k) = 0
@@ -72,30 +76,44 @@ abbrev mutual
   expr_spelling v (known t) = text_of t
   expr_spelling v (bound i) = bound_spelling v.variables (slice_get v.bound i)
   expr_spelling v (global x) = variable_spelling v.variables x
-  expr_spelling v (listing es) = codes "<" ++ exprs_spelling v [] (codes ", ") sum_level es ++ codes ">"
-  expr_spelling v (size e) = codes "|" ++ enclosed sum_level (expr_level e) (expr_spelling v e) ++ codes "|"
-  expr_spelling v (index e i) = enclosed index_level (expr_level e) (expr_spelling v e) ++ codes "[" ++ enclosed any_level (expr_level i) (expr_spelling v i) ++ codes "]"
+  expr_spelling v (listing es) =
+      codes "<" ++ exprs_spelling v [] (codes ", ") sum_level es ++ codes ">"
+  expr_spelling v (size e) =
+      codes "|" ++ enclosed sum_level (expr_level e) (expr_spelling v e) ++ codes "|"
+  expr_spelling v (index e i) =
+      enclosed index_level (expr_level e) (expr_spelling v e) ++ codes "["
+      ++ enclosed any_level (expr_level i) (expr_spelling v i) ++ codes "]"
   expr_spelling v (minus e) = codes "-" ++ enclosed prefix_level (expr_level e) (expr_spelling v e)
-  expr_spelling v (negation e) = codes "not " ++ enclosed not_level (expr_level e) (expr_spelling v e)
+  expr_spelling v (negation e) =
+      codes "not " ++ enclosed not_level (expr_level e) (expr_spelling v e)
   expr_spelling v (both es) = all_exprs_spelling v es
-  expr_spelling v (either x y) = operation_spelling op.Or (expr_level x) (expr_spelling v x) (expr_level y) (expr_spelling v y)
-  expr_spelling v (binary o x y) = operation_spelling (phrase_operator o) (expr_level x) (expr_spelling v x) (expr_level y) (expr_spelling v y)
+  expr_spelling v (either x y) =
+      operation_spelling op.Or (expr_level x) (expr_spelling v x) (expr_level y) (expr_spelling v y)
+  expr_spelling v (binary o x y) =
+      operation_spelling (phrase_operator o) (expr_level x) (expr_spelling v x) (expr_level y)
+      (expr_spelling v y)
   expr_spelling v (choice c x y) =
-      codes "if " ++ enclosed any_level (expr_level c) (expr_spelling v c) ++ codes " then " ++ enclosed chop_level (expr_level x) (expr_spelling v x)
+      codes "if " ++ enclosed any_level (expr_level c) (expr_spelling v c) ++ codes " then "
+      ++ enclosed chop_level (expr_level x) (expr_spelling v x)
       ++ codes " else " ++ enclosed any_level (expr_level y) (expr_spelling v y)
-  expr_spelling v (invoke p es) = called_with (definition_name v.definitions p) (exprs_spelling v [] (codes ", ") any_level es)
+  expr_spelling v (invoke p es) =
+      called_with (definition_name v.definitions p) (exprs_spelling v [] (codes ", ") any_level es)
 
   -- several operands, the first behind `opening` and each other one behind `separator`
   pub exprs_spelling : Vocabulary → (opening separator : List ℕ) → (most : ℕ) → ExprTrees → List ℕ
   exprs_spelling v opening separator most no_expr = []
-  exprs_spelling v opening separator most (expr_then e es) = opening ++ enclosed most (expr_level e) (expr_spelling v e) ++ exprs_spelling v separator separator most es
+  exprs_spelling v opening separator most (expr_then e es) =
+      opening ++ enclosed most (expr_level e) (expr_spelling v e)
+      ++ exprs_spelling v separator separator most es
 
   -- the conjunction of these
   pub all_exprs_spelling : Vocabulary → ExprTrees → List ℕ
   all_exprs_spelling v no_expr = codes "true"
   all_exprs_spelling v (expr_then e no_expr) = expr_spelling v e
   all_exprs_spelling v (expr_then e (expr_then e' es)) =
-      enclosed not_level (expr_level e) (expr_spelling v e) ++ (codes " and " ++ enclosed not_level (expr_level e') (expr_spelling v e') ++ exprs_spelling v (codes " and ") (codes " and ") not_level es)
+      enclosed not_level (expr_level e) (expr_spelling v e)
+      ++ (codes " and " ++ enclosed not_level (expr_level e') (expr_spelling v e')
+      ++ exprs_spelling v (codes " and ") (codes " and ") not_level es)
 
 -- an expression as an operand
 abbrev pub operand_expr : Vocabulary → (most : ℕ) → ExprTree → List ℕ
@@ -111,8 +129,10 @@ abbrev pub from_spelling : ℤ → List ℕ
 from_spelling k = if int_eq k (pos 0) then [] else codes " from " ++ signed_decimal k
 
 -- the word of a loop, its variable, and from what number to below which
-abbrev pub counted_spelling : Vocabulary → (word name : List ℕ) → (from : ℤ) → (to : ExprTree) → List ℕ
-counted_spelling v word name k e = word ++ name ++ from_spelling k ++ codes " < " ++ operand_expr v any_level e
+abbrev pub counted_spelling : Vocabulary → (word name : List ℕ) → (from : ℤ) → (to : ExprTree)
+    → List ℕ
+counted_spelling v word name k e =
+    word ++ name ++ from_spelling k ++ codes " < " ++ operand_expr v any_level e
 
 -- The level of a formula.
 abbrev mutual
@@ -148,47 +168,72 @@ abbrev mutual
   formulas_level (formula_then w no_formula) = formula_level w
   formulas_level (formula_then w (formula_then w' ws)) = and_level
 
--- A formula, with no parentheses round the whole. `keep` and `fin` are the only derived operators that are spelled; `weak next`, `ifmore` and
--- `ifempty` are words that no source has.
+-- A formula, with no parentheses round the whole. `keep` and `fin` are the only derived operators
+-- that are spelled; `weak next`, `ifmore` and `ifempty` are words that no source has.
 abbrev mutual
   pub formula_spelling : Vocabulary → FormulaTree → List ℕ
   formula_spelling v trivial = codes "true"
   formula_spelling v (test e) = expr_spelling v e
-  formula_spelling v (equation l r) = operation_spelling op.Equal (expr_level l) (expr_spelling v l) (expr_level r) (expr_spelling v r)
-  formula_spelling v (next_equation n t e) = nexts_spelling n ++ operand_expr v prefix_level t ++ codes " = " ++ operand_expr v sum_level e
+  formula_spelling v (equation l r) =
+      operation_spelling op.Equal (expr_level l) (expr_spelling v l) (expr_level r)
+      (expr_spelling v r)
+  formula_spelling v (next_equation n t e) =
+      nexts_spelling n ++ operand_expr v prefix_level t ++ codes " = " ++ operand_expr v sum_level e
   formula_spelling v empty = bare_spelling b.Empty
   formula_spelling v more = bare_spelling b.More
-  formula_spelling v (next w) = codes "next " ++ enclosed prefix_level (formula_level w) (formula_spelling v w)
-  formula_spelling v (weak_next w) = codes "weak next " ++ enclosed prefix_level (formula_level w) (formula_spelling v w)
+  formula_spelling v (next w) =
+      codes "next " ++ enclosed prefix_level (formula_level w) (formula_spelling v w)
+  formula_spelling v (weak_next w) =
+      codes "weak next " ++ enclosed prefix_level (formula_level w) (formula_spelling v w)
   formula_spelling v (if_more w) = called_with (codes "ifmore") (formula_spelling v w)
   formula_spelling v (if_empty w) = called_with (codes "ifempty") (formula_spelling v w)
-  formula_spelling v (always (if_more w)) = called_with (form_spelling f.Keep) (formula_spelling v w)
-  formula_spelling v (always (if_empty w)) = called_with (form_spelling f.Fin) (formula_spelling v w)
+  formula_spelling v (always (if_more w)) =
+      called_with (form_spelling f.Keep) (formula_spelling v w)
+  formula_spelling v (always (if_empty w)) =
+      called_with (form_spelling f.Fin) (formula_spelling v w)
   formula_spelling v (always w) = called_with (form_spelling f.Always) (formula_spelling v w)
   formula_spelling v (conjunction ws) = all_formulas_spelling v ws
   formula_spelling v (branch c w w') =
-      codes "if " ++ operand_expr v any_level c ++ codes " then " ++ enclosed chop_level (formula_level w) (formula_spelling v w)
+      codes "if " ++ operand_expr v any_level c ++ codes " then "
+      ++ enclosed chop_level (formula_level w) (formula_spelling v w)
       ++ codes " else " ++ enclosed any_level (formula_level w') (formula_spelling v w')
   formula_spelling v (len e) = called_with (form_spelling f.Len) (expr_spelling v e)
-  formula_spelling v (assign t e) = operation_spelling op.Arrow (expr_level t) (expr_spelling v t) (expr_level e) (expr_spelling v e)
-  formula_spelling v (chop w w') = operation_spelling op.Chop (formula_level w) (formula_spelling v w) (formula_level w') (formula_spelling v w')
+  formula_spelling v (assign t e) =
+      operation_spelling op.Arrow (expr_level t) (expr_spelling v t) (expr_level e)
+      (expr_spelling v e)
+  formula_spelling v (chop w w') =
+      operation_spelling op.Chop (formula_level w) (formula_spelling v w) (formula_level w')
+      (formula_spelling v w')
   formula_spelling v (while c w) = codes "while " ++ operand_expr v any_level c ++ codes " do " ++ enclosed any_level (formula_level w) (formula_spelling v w)
   formula_spelling v (for_from x k e w) = counted_spelling v (codes "for ") x k e ++ codes " do " ++ enclosed any_level (formula_level w) (formula_spelling (naming v x) w)
-  formula_spelling v (forall_from x k e w) = counted_spelling v (codes "forall ") x k e ++ codes " : " ++ enclosed any_level (formula_level w) (formula_spelling (naming v x) w)
-  formula_spelling v (project w w') = operation_spelling op.Proj (formula_level w) (formula_spelling v w) (formula_level w') (formula_spelling v w')
-  formula_spelling v (exists x lasting w) = codes "exists " ++ x ++ codes " : " ++ enclosed any_level (formula_level w) (formula_spelling (naming v x) w)
-  formula_spelling v (call p es) = called_with (definition_name v.definitions p) (exprs_spelling v [] (codes ", ") any_level es)
-  formula_spelling v (input x port) = called_with (form_spelling f.Input) (expr_spelling v x ++ codes ", " ++ port)
-  formula_spelling v (display es) = called_with (form_spelling f.Display) (exprs_spelling v [] (codes ", ") any_level es)
+  formula_spelling v (forall_from x k e w) =
+      counted_spelling v (codes "forall ") x k e ++ codes " : "
+      ++ enclosed any_level (formula_level w) (formula_spelling (naming v x) w)
+  formula_spelling v (project w w') =
+      operation_spelling op.Proj (formula_level w) (formula_spelling v w) (formula_level w')
+      (formula_spelling v w')
+  formula_spelling v (exists x lasting w) =
+      codes "exists " ++ x ++ codes " : "
+      ++ enclosed any_level (formula_level w) (formula_spelling (naming v x) w)
+  formula_spelling v (call p es) =
+      called_with (definition_name v.definitions p) (exprs_spelling v [] (codes ", ") any_level es)
+  formula_spelling v (input x port) =
+      called_with (form_spelling f.Input) (expr_spelling v x ++ codes ", " ++ port)
+  formula_spelling v (display es) =
+      called_with (form_spelling f.Display) (exprs_spelling v [] (codes ", ") any_level es)
 
   -- several operands of `and`, each behind one
   pub formulas_spelling : Vocabulary → (opening : List ℕ) → FormulaTrees → List ℕ
   formulas_spelling v opening no_formula = []
-  formulas_spelling v opening (formula_then w ws) = opening ++ enclosed not_level (formula_level w) (formula_spelling v w) ++ formulas_spelling v (codes " and ") ws
+  formulas_spelling v opening (formula_then w ws) =
+      opening ++ enclosed not_level (formula_level w) (formula_spelling v w)
+      ++ formulas_spelling v (codes " and ") ws
 
   -- the conjunction of these
   pub all_formulas_spelling : Vocabulary → FormulaTrees → List ℕ
   all_formulas_spelling v no_formula = codes "true"
   all_formulas_spelling v (formula_then w no_formula) = formula_spelling v w
   all_formulas_spelling v (formula_then w (formula_then w' ws)) =
-      enclosed not_level (formula_level w) (formula_spelling v w) ++ (codes " and " ++ enclosed not_level (formula_level w') (formula_spelling v w') ++ formulas_spelling v (codes " and ") ws)
+      enclosed not_level (formula_level w) (formula_spelling v w)
+      ++ (codes " and " ++ enclosed not_level (formula_level w') (formula_spelling v w')
+      ++ formulas_spelling v (codes " and ") ws)

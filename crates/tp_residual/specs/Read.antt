@@ -16,7 +16,12 @@ abbrev pub bound_names : Bound → List BoundName
 bound_names = fold-Bound (List BoundName) bound_step
 
 abbrev pub vocabulary_of : Words → Vocabulary
-vocabulary_of w = record { variables = w.store.now.variables; definitions = definitions_of w.defs.now; bound = bound_names w.bound.now }
+vocabulary_of w =
+    record {
+      variables = w.store.now.variables;
+      definitions = definitions_of w.defs.now;
+      bound = bound_names w.bound.now;
+    }
 
 -- how many names further out the i-th one stands, where there are no more than these
 abbrev pub left_after : List BoundName → ℕ → Option ℕ

@@ -23,11 +23,13 @@ IsSplit Closed left outer = ⊥
 IsSplit (Opened w env) left outer = ⊥
 IsSplit (Running w env) left outer = ⊥
 
--- The entries hold only `Do`, `Split` and `SplitProject`, those of the regions in them too: so a state begins.
+-- The entries hold only `Do`, `Split` and `SplitProject`, those of the regions in them too: so a
+-- state begins.
 abbrev pub AreCarried : Entries → Type 0
 AreCarried none = Unit {0}
 AreCarried (leaf id l rest) = IsDue l × AreCarried rest
-AreCarried (node id k h held g second rest) = IsSplit k (AreCarried held) (AreCarried second) × AreCarried rest
+AreCarried (node id k h held g second rest) =
+    IsSplit k (AreCarried held) (AreCarried second) × AreCarried rest
 
 -- The level of an entry. Such entries have no other kinds than `Do` and the two of `Split`.
 abbrev pub leaf_level : Leaf → ℕ
@@ -64,7 +66,8 @@ text_before (node id k h held g second rest) level text = enclosed not_level lev
 module _ (variables : List Variable) (definitions : List Definition) where
   -- by what a formula's names are spelled where its bound names stand for these
   abbrev pub words_with : Bindings → Vocabulary
-  words_with env = record { variables = variables; definitions = definitions; bound = map stands_for env }
+  words_with env =
+      record { variables = variables; definitions = definitions; bound = map stands_for env }
 
   abbrev pub leaf_spelling : Leaf → List ℕ
   leaf_spelling (Do w env) = formula_spelling (words_with env) w
@@ -72,9 +75,13 @@ module _ (variables : List Variable) (definitions : List Definition) where
   leaf_spelling (Shown vs) = []
 
   -- `left` and `outer` are the texts of the regions: left ; after, and left ; piece proj outer
-  abbrev pub holder_spelling : Holder → (left_is : ℕ) → (left : List ℕ) → (outer_is : ℕ) → (outer : List ℕ) → List ℕ
-  holder_spelling (Split w env) l left o outer = operation_spelling op.Chop l left (formula_level w) (formula_spelling (words_with env) w)
-  holder_spelling (SplitProject w env) l left o outer = operation_spelling op.Chop l left proj_level (operation_spelling op.Proj (formula_level w) (formula_spelling (words_with env) w) o outer)
+  abbrev pub holder_spelling : Holder → (left_is : ℕ) → (left : List ℕ) → (outer_is : ℕ)
+      → (outer : List ℕ) → List ℕ
+  holder_spelling (Split w env) l left o outer =
+      operation_spelling op.Chop l left (formula_level w) (formula_spelling (words_with env) w)
+  holder_spelling (SplitProject w env) l left o outer =
+      operation_spelling op.Chop l left proj_level
+      (operation_spelling op.Proj (formula_level w) (formula_spelling (words_with env) w) o outer)
   holder_spelling Closed l left o outer = []
   holder_spelling (Opened w env) l left o outer = []
   holder_spelling (Running w env) l left o outer = []
@@ -83,16 +90,22 @@ module _ (variables : List Variable) (definitions : List Definition) where
   abbrev mutual
     pub entries_spelling : Entries → List ℕ
     entries_spelling none = codes "true"
-    entries_spelling (leaf id l rest) = text_before rest (leaf_level l) (leaf_spelling l) ++ later_spelling rest
+    entries_spelling (leaf id l rest) =
+        text_before rest (leaf_level l) (leaf_spelling l) ++ later_spelling rest
     entries_spelling (node id k h held g second rest) =
-        text_before rest (holder_level k) (holder_spelling k (entries_level held) (entries_spelling held) (entries_level second) (entries_spelling second)) ++ later_spelling rest
+        text_before rest (holder_level k)
+        (holder_spelling k (entries_level held) (entries_spelling held) (entries_level second)
+        (entries_spelling second)) ++ later_spelling rest
 
     -- those behind another one
     pub later_spelling : Entries → List ℕ
     later_spelling none = []
-    later_spelling (leaf id l rest) = codes " and " ++ enclosed not_level (leaf_level l) (leaf_spelling l) ++ later_spelling rest
+    later_spelling (leaf id l rest) =
+        codes " and " ++ enclosed not_level (leaf_level l) (leaf_spelling l) ++ later_spelling rest
     later_spelling (node id k h held g second rest) =
-        codes " and " ++ enclosed not_level (holder_level k) (holder_spelling k (entries_level held) (entries_spelling held) (entries_level second) (entries_spelling second)) ++ later_spelling rest
+        codes " and " ++ enclosed not_level (holder_level k)
+        (holder_spelling k (entries_level held) (entries_spelling held) (entries_level second)
+        (entries_spelling second)) ++ later_spelling rest
 
   -- The residual phrase: what is still to hold from the next state on.
   abbrev pub residual_phrase : Scene → List ℕ

@@ -9,7 +9,8 @@ use Rattle.tp_meaning.specs.Syntax.{Definition, BindingTree, place_binding, know
 use Rattle.tp_store.specs.Known.{Variable, name_of}
 use Rattle.tp_show.specs.Texts.{index_text}
 
--- a name that is bound: around the phrase, where it stands for a place or a value, or in the phrase itself
+-- a name that is bound: around the phrase, where it stands for a place or a value, or in the phrase
+-- itself
 pub data BoundName : Type 0 where
   stands_for : BindingTree → BoundName
   named : List ℕ → BoundName
@@ -22,9 +23,15 @@ pub record Vocabulary : Type 0 where
 
 -- with a name that the phrase itself binds
 abbrev pub naming : Vocabulary → List ℕ → Vocabulary
-naming v name = record { variables = v.variables; definitions = v.definitions; bound = v.bound ++ named name ∷ [] }
+naming v name =
+    record {
+      variables = v.variables;
+      definitions = v.definitions;
+      bound = v.bound ++ named name ∷ [];
+    }
 
--- A variable is spelled by its source name, a local too. What is no variable of the store's isn't spelled.
+-- A variable is spelled by its source name, a local too. What is no variable of the store's isn't
+-- spelled.
 abbrev pub variable_spelling : List Variable → VarId → List ℕ
 variable_spelling xs x = unwrap_or (name_of xs x) []
 

@@ -238,7 +238,7 @@ advance_by plan ps m leads old new to (Over state limit) w next =
       (m, leads, g.0, e, subst (λ i. i < plan.states) (sym e) w.2),
       w.3,
       stands_there to (Over state limit) (limit_moment (setting plan (length ps)) plan.reductions m limit w.0) (limit_moment (setting plan state) plan.reductions m limit g.0)
-      g.1 w.4 w.5,
+          g.1 w.4 w.5,
     )
 
 pub runs_advance : (plan : Plan) → RunsAdvance plan

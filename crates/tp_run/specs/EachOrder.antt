@@ -1,4 +1,5 @@
--- What each order of picks makes of a state: the answer that a run gives for it; and no choice of picks is a dead end.
+-- What each order of picks makes of a state: the answer that a run gives for it; and no choice of
+-- picks is a dead end.
 use Rattle.std.specs.Prelude.{◌≡◌, ℕ, ◌<◌, List, length}
 use Rattle.tp_scene.specs.declared.answer.Cell.{Cell}
 use Rattle.tp_scene.specs.Pick.{Moment, Leads}
@@ -10,17 +11,21 @@ use Rattle.tp_order.specs.Orders.{GoesOnToRest}
 use Rattle.tp_run.specs.States.{Plan, globals_of, setting, StateGoesOn, StateEnds, Standing, open_at, answered, spent}
 use Rattle.tp_run.specs.Same.{SamePicture, SameCell, FailsIn}
 
--- This answer for state n, which begins with m, and this picture are what any picks come to: where some settle the state, it is settled, with the same
--- picture; where some leave it open at a cell, it is open there, up to the numbers of regions and locals; and where it fails, none close it.
-pub record StateAgrees (plan : Plan) (n : ℕ) (m : Moment) (new : Picture) (turn : Turn) : Type 0 where
-  pub goes : (p : Picture) (after : Moment) → StateGoesOn plan n m p after → (turn ≡ Went) × SamePicture p new
+-- This answer for state n, which begins with m, and this picture are what any picks come to: where
+-- some settle the state, it is settled, with the same picture; where some leave it open at a cell,
+-- it is open there, up to the numbers of regions and locals; and where it fails, none close it.
+pub record StateAgrees (plan : Plan) (n : ℕ) (m : Moment) (new : Picture)
+    (turn : Turn) : Type 0 where
+  pub goes : (p : Picture) (after : Moment) → StateGoesOn plan n m p after
+      → (turn ≡ Went) × SamePicture p new
   pub ends : (p : Picture) → StateEnds plan n m p → (turn ≡ Finished n) × SamePicture p new
   pub is_open : (cell : Cell) → n < plan.states → IsOpen (setting plan n) plan.reductions m cell
       → (d : Cell) × (turn ≡ Undetermined n d) × SameCell (globals_of plan) cell d
-  pub fails : FailsIn n turn → (picks : List ℕ) (end : Moment) → ¬ Closes (setting plan n) plan.reductions m picks end
+  pub fails : FailsIn n turn → (picks : List ℕ) (end : Moment)
+      → ¬ Closes (setting plan n) plan.reductions m picks end
 
--- Some picks close state n, which begins with m; and each list of picks that can be made goes on to a rest that is alike, with as many picks in all,
--- and meets no failure.
+-- Some picks close state n, which begins with m; and each list of picks that can be made goes on to
+-- a rest that is alike, with as many picks in all, and meets no failure.
 pub record ClosesFromEach (plan : Plan) (n : ℕ) (m : Moment) : Type 0 where
   pub picks : List ℕ
   pub end : Moment
@@ -28,10 +33,12 @@ pub record ClosesFromEach (plan : Plan) (n : ℕ) (m : Moment) : Type 0 where
   pub goes_on : (begun : List ℕ) (there : Moment) → Leads (setting plan n) m begun there
       → GoesOnToRest (setting plan n) (globals_of plan) (length picks) end begun there
 
--- Where the answer for a state is no failure, no choice of picks is a dead end there; a settled state takes as many as its picture says.
+-- Where the answer for a state is no failure, no choice of picks is a dead end there; a settled
+-- state takes as many as its picture says.
 abbrev pub HasNoDeadEnd : Plan → ℕ → Moment → Picture → Turn → Type 0
 HasNoDeadEnd plan n m new Went = (c : ClosesFromEach plan n m) × (new.reductions ≡ length c.picks)
-HasNoDeadEnd plan n m new (Finished k) = (c : ClosesFromEach plan n m) × (new.reductions ≡ length c.picks)
+HasNoDeadEnd plan n m new (Finished k) =
+    (c : ClosesFromEach plan n m) × (new.reductions ≡ length c.picks)
 HasNoDeadEnd plan n m new (Contradictory state clash) = Unit {0}
 HasNoDeadEnd plan n m new (Undetermined state cell) = ClosesFromEach plan n m
 HasNoDeadEnd plan n m new (StateLimit states) = Unit {0}

@@ -23,29 +23,45 @@ pub record FinishesAt (plan : Plan) (ps : List Picture) (n : ℕ) : Type 0 where
   pub ends : StateEnds plan (length before) moment final
   pub count : n ≡ length before
 
--- A run whose settled states have these pictures ends so: it finishes with the last of them; or the state after them meets a clash, is open at a
--- cell, misses an input, or reaches a limit; or as many states were settled as there may be, and the last of them goes on.
+-- A run whose settled states have these pictures ends so: it finishes with the last of them; or the
+-- state after them meets a clash, is open at a cell, misses an input, or reaches a limit; or as
+-- many states were settled as there may be, and the last of them goes on.
 abbrev pub RunEndsWith : Plan → List Picture → Turn → Type 0
 RunEndsWith plan ps Went = ⊥
 RunEndsWith plan ps (Finished n) = FinishesAt plan ps n
-RunEndsWith plan ps (Contradictory state clash) = (m : Moment) × LeadsTo plan ps m × replay.MeetsClash (setting plan state) plan.reductions m clash × (state ≡ length ps) × (state < plan.states)
-RunEndsWith plan ps (Undetermined state cell) = (m : Moment) × LeadsTo plan ps m × replay.IsOpen (setting plan state) plan.reductions m cell × (state ≡ length ps) × (state < plan.states)
-RunEndsWith plan ps (StateLimit states) = (m : Moment) × LeadsTo plan ps m × (states ≡ length ps) × (states ≡ plan.states)
-RunEndsWith plan ps (InputMissing state port) = (m : Moment) × LeadsTo plan ps m × replay.MissesInput (setting plan state) plan.reductions m port × (state ≡ length ps) × (state < plan.states)
-RunEndsWith plan ps (Over state limit) = (m : Moment) × LeadsTo plan ps m × ReachesLimit (setting plan state) plan.reductions m limit × (state ≡ length ps) × (state < plan.states)
+RunEndsWith plan ps (Contradictory state clash) =
+    (m : Moment) × LeadsTo plan ps m
+    × replay.MeetsClash (setting plan state) plan.reductions m clash × (state ≡ length ps)
+    × (state < plan.states)
+RunEndsWith plan ps (Undetermined state cell) =
+    (m : Moment) × LeadsTo plan ps m × replay.IsOpen (setting plan state) plan.reductions m cell
+    × (state ≡ length ps) × (state < plan.states)
+RunEndsWith plan ps (StateLimit states) =
+    (m : Moment) × LeadsTo plan ps m × (states ≡ length ps) × (states ≡ plan.states)
+RunEndsWith plan ps (InputMissing state port) =
+    (m : Moment) × LeadsTo plan ps m
+    × replay.MissesInput (setting plan state) plan.reductions m port × (state ≡ length ps)
+    × (state < plan.states)
+RunEndsWith plan ps (Over state limit) =
+    (m : Moment) × LeadsTo plan ps m × ReachesLimit (setting plan state) plan.reductions m limit
+    × (state ≡ length ps) × (state < plan.states)
 
--- The moment in which a run ended: what the picks of its last state led to, or, where this state isn't begun, what it would begin with.
-abbrev pub end_moment : (plan : Plan) (ps : List Picture) (turn : Turn) → RunEndsWith plan ps turn → Moment
+-- The moment in which a run ended: what the picks of its last state led to, or, where this state
+-- isn't begun, what it would begin with.
+abbrev pub end_moment : (plan : Plan) (ps : List Picture) (turn : Turn) → RunEndsWith plan ps turn
+    → Moment
 end_moment plan ps Went end = absurd end
 end_moment plan ps (Finished n) end = end.ends.last
 end_moment plan ps (Contradictory state clash) end = end.2.last
 end_moment plan ps (Undetermined state cell) end = end.2.last
 end_moment plan ps (StateLimit states) end = end.0
 end_moment plan ps (InputMissing state port) end = end.2.last
-end_moment plan ps (Over state limit) end = limit_moment (setting plan state) plan.reductions end.0 limit end.2
+end_moment plan ps (Over state limit) end =
+    limit_moment (setting plan state) plan.reductions end.0 limit end.2
 
 -- and what the run's store holds then
-abbrev pub end_store : (plan : Plan) (ps : List Picture) (turn : Turn) → RunEndsWith plan ps turn → Contents
+abbrev pub end_store : (plan : Plan) (ps : List Picture) (turn : Turn) → RunEndsWith plan ps turn
+    → Contents
 end_store plan ps turn end = (end_moment plan ps turn end).store
 
 -- each state from position a on agrees with the picture of its turn
@@ -58,24 +74,31 @@ abbrev pub shown_from : ℕ → List Picture → Shows
 shown_from a [] = blank
 shown_from a (p ∷ ps) = shown_at a (shows_of p.shows) ⊕ shown_from (suc a) ps
 
--- An interval satisfies the program and shows S exactly where it is one of the program, has length n, agrees with each picture, and S is what the
--- pictures show.
+-- An interval satisfies the program and shows S exactly where it is one of the program, has length
+-- n, agrees with each picture, and S is what the pictures show.
 abbrev pub SatisfiedExactly : Plan → List Picture → ℕ → Type 0
 SatisfiedExactly plan ps n = (s : Course) (a b : ℕ) (S : Shows)
-    → Satisfies plan.program plan.inputs s a b S ↔ (IsInterval plan.program s a b × (b ≡ n + a) × AgreesWithPictures s a ps × (S ≡ shown_from a ps))
+    → Satisfies plan.program plan.inputs s a b S
+    ↔ (IsInterval plan.program s a b × (b ≡ n + a) × AgreesWithPictures s a ps
+    × (S ≡ shown_from a ps))
 
 -- there is an interval that satisfies the program
 abbrev pub Satisfiable : Plan → Type 0
-Satisfiable plan = (s : Course) × (a : ℕ) × (b : ℕ) × (S : Shows) × Satisfies plan.program plan.inputs s a b S
+Satisfiable plan =
+    (s : Course) × (a : ℕ) × (b : ℕ) × (S : Shows) × Satisfies plan.program plan.inputs s a b S
 
 -- no interval satisfies it
 abbrev pub Unsatisfiable : Plan → Type 0
-Unsatisfiable plan = (s : Course) (a b : ℕ) (S : Shows) → Satisfies plan.program plan.inputs s a b S → ⊥
+Unsatisfiable plan =
+    (s : Course) (a b : ℕ) (S : Shows) → Satisfies plan.program plan.inputs s a b S → ⊥
 
--- each interval that satisfies it begins with states that agree with the pictures, shows there what these show, and has more states than these
+-- each interval that satisfies it begins with states that agree with the pictures, shows there what
+-- these show, and has more states than these
 abbrev pub ContinuesEach : Plan → List Picture → Type 0
-ContinuesEach plan ps = (s : Course) (a b : ℕ) (S : Shows) → Satisfies plan.program plan.inputs s a b S
-    → (length ps + a ≤ b) × AgreesWithPictures s a ps × ((j : ℕ) → j < length ps + a → S j ≡ shown_from a ps j)
+ContinuesEach plan ps =
+    (s : Course) (a b : ℕ) (S : Shows) → Satisfies plan.program plan.inputs s a b S
+    → (length ps + a ≤ b) × AgreesWithPictures s a ps
+    × ((j : ℕ) → j < length ps + a → S j ≡ shown_from a ps j)
 
 -- what the end of a run says of every interval
 abbrev pub EndOfRunMeans : Plan → List Picture → Turn → Type 0
@@ -88,31 +111,48 @@ EndOfRunMeans plan ps (InputMissing state port) = Unsatisfiable plan
 EndOfRunMeans plan ps (Over state limit) = ContinuesEach plan ps
 
 -- A run that stands there has ended so: after this answer, at the moment in which this run ended.
-abbrev pub StandsAtEnd : (plan : Plan) (ps : List Picture) (to : RunPlace) (turn : Turn) → RunEndsWith plan ps turn → Type 0
-StandsAtEnd plan ps to turn end = (to.standing ≡ answered turn (end_moment plan ps turn end)) × (to.store ≡ end_store plan ps turn end)
+abbrev pub StandsAtEnd : (plan : Plan) (ps : List Picture) (to : RunPlace) (turn : Turn)
+    → RunEndsWith plan ps turn → Type 0
+StandsAtEnd plan ps to turn end =
+    (to.standing ≡ answered turn (end_moment plan ps turn end))
+    × (to.store ≡ end_store plan ps turn end)
 
--- What one more answer makes of a run whose settled states have these pictures: one state more, or the end; and the run then stands at the moment in
--- which it came to that.
+-- What one more answer makes of a run whose settled states have these pictures: one state more, or
+-- the end; and the run then stands at the moment in which it came to that.
 abbrev pub Advances : Plan → List Picture → (old new : Picture) → (to : RunPlace) → Turn → Type 0
 Advances plan ps old new to Went =
-    (m : Moment) × (to.standing ≡ open_at m) × LeadsTo plan (ps ++ new ∷ []) m × (to.state ≡ length (ps ++ new ∷ [])) × (new.state ≡ length ps)
+    (m : Moment) × (to.standing ≡ open_at m) × LeadsTo plan (ps ++ new ∷ []) m
+    × (to.state ≡ length (ps ++ new ∷ [])) × (new.state ≡ length ps)
 Advances plan ps old new to (Finished n) =
-    (end : RunEndsWith plan (ps ++ new ∷ []) (Finished n)) × (new.state ≡ length ps) × StandsAtEnd plan (ps ++ new ∷ []) to (Finished n) end
+    (end : RunEndsWith plan (ps ++ new ∷ []) (Finished n)) × (new.state ≡ length ps)
+    × StandsAtEnd plan (ps ++ new ∷ []) to (Finished n) end
 Advances plan ps old new to (Contradictory state clash) =
-    (end : RunEndsWith plan ps (Contradictory state clash)) × (new ≡ old) × StandsAtEnd plan ps to (Contradictory state clash) end
+    (end : RunEndsWith plan ps (Contradictory state clash)) × (new ≡ old)
+    × StandsAtEnd plan ps to (Contradictory state clash) end
 Advances plan ps old new to (Undetermined state cell) =
-    (end : RunEndsWith plan ps (Undetermined state cell)) × (new ≡ old) × StandsAtEnd plan ps to (Undetermined state cell) end
-Advances plan ps old new to (StateLimit states) = (end : RunEndsWith plan ps (StateLimit states)) × (new ≡ old) × StandsAtEnd plan ps to (StateLimit states) end
+    (end : RunEndsWith plan ps (Undetermined state cell)) × (new ≡ old)
+    × StandsAtEnd plan ps to (Undetermined state cell) end
+Advances plan ps old new to (StateLimit states) =
+    (end : RunEndsWith plan ps (StateLimit states)) × (new ≡ old)
+    × StandsAtEnd plan ps to (StateLimit states) end
 Advances plan ps old new to (InputMissing state port) =
-    (end : RunEndsWith plan ps (InputMissing state port)) × (new ≡ old) × StandsAtEnd plan ps to (InputMissing state port) end
-Advances plan ps old new to (Over state limit) = (end : RunEndsWith plan ps (Over state limit)) × (new ≡ old) × StandsAtEnd plan ps to (Over state limit) end
+    (end : RunEndsWith plan ps (InputMissing state port)) × (new ≡ old)
+    × StandsAtEnd plan ps to (InputMissing state port) end
+Advances plan ps old new to (Over state limit) =
+    (end : RunEndsWith plan ps (Over state limit)) × (new ≡ old)
+    × StandsAtEnd plan ps to (Over state limit) end
 
 -- A run begins with no settled state, and each answer for the next state advances it.
 pub record RunsAdvance (plan : Plan) : Type 0 where
   pub begins : LeadsTo plan [] (first_moment plan.program.globals plan.program.main)
-  pub goes_on : (ps : List Picture) (m : Moment) → LeadsTo plan ps m → (old new : Picture) (to : RunPlace) (turn : Turn)
-      → StateBecomes plan (length ps) m old new to.standing to.store turn → to.state ≡ state_after (length ps) turn → Advances plan ps old new to turn
+  pub goes_on : (ps : List Picture) (m : Moment) → LeadsTo plan ps m
+      → (old new : Picture) (to : RunPlace) (turn : Turn)
+      → StateBecomes plan (length ps) m old new to.standing to.store turn
+      → to.state ≡ state_after (length ps) turn → Advances plan ps old new to turn
 
--- The end of each run of a program whose parts fit each other and its variables says of every interval what `EndOfRunMeans` has.
+-- The end of each run of a program whose parts fit each other and its variables says of every
+-- interval what `EndOfRunMeans` has.
 abbrev pub RunsMean : Plan → Type 0
-RunsMean plan = ProgramFits plan.program → (ps : List Picture) (turn : Turn) → RunEndsWith plan ps turn → EndOfRunMeans plan ps turn
+RunsMean plan =
+    ProgramFits plan.program → (ps : List Picture) (turn : Turn) → RunEndsWith plan ps turn
+    → EndOfRunMeans plan ps turn

@@ -11,12 +11,15 @@ use Rattle.tp_run.specs.History.{RunEndsWith}
 use Rattle.tp_run.specs.States.{Plan, setting, StatesLead, LeadsTo, ReachesLimit}
 
 -- the picks of states that lead from one moment to another, a list for each state
-abbrev pub picks_led : (plan : Plan) (n : ℕ) (m : Moment) (ps : List Picture) (last : Moment) → StatesLead plan n m ps last → List (List ℕ)
+abbrev pub picks_led : (plan : Plan) (n : ℕ) (m : Moment) (ps : List Picture) (last : Moment)
+    → StatesLead plan n m ps last → List (List ℕ)
 picks_led plan n m [] last leads = []
-picks_led plan n m (p ∷ ps) last leads = leads.1.picks ∷ picks_led plan (suc n) leads.0 ps last leads.2
+picks_led plan n m (p ∷ ps) last leads =
+    leads.1.picks ∷ picks_led plan (suc n) leads.0 ps last leads.2
 
 -- the picks of a state in which a limit is reached
-abbrev pub limit_picks : (w : Setting) (most : ℕ) (m : Moment) (kind : LimitKind) → ReachesLimit w most m kind → List ℕ
+abbrev pub limit_picks : (w : Setting) (most : ℕ) (m : Moment) (kind : LimitKind)
+    → ReachesLimit w most m kind → List ℕ
 limit_picks w most m limit.Reductions reached = reached.picks
 limit_picks w most m limit.Number reached = reached.picks
 limit_picks w most m limit.List reached = reached.picks
@@ -35,9 +38,11 @@ abbrev pub settled_last : Picture → SettledState
 settled_last picture = record { picture = picture; next = None }
 
 -- the settled states that lead from one moment to another
-abbrev pub led_states : (plan : Plan) (n : ℕ) (m : Moment) (ps : List Picture) (last : Moment) → StatesLead plan n m ps last → List SettledState
+abbrev pub led_states : (plan : Plan) (n : ℕ) (m : Moment) (ps : List Picture) (last : Moment)
+    → StatesLead plan n m ps last → List SettledState
 led_states plan n m [] last leads = []
-led_states plan n m (p ∷ ps) last leads = settled_before p leads.0 ∷ led_states plan (suc n) leads.0 ps last leads.2
+led_states plan n m (p ∷ ps) last leads =
+    settled_before p leads.0 ∷ led_states plan (suc n) leads.0 ps last leads.2
 
 module _ (plan : Plan) where
   -- what a run begins with
@@ -49,19 +54,25 @@ module _ (plan : Plan) where
   picks_before ps m leads = picks_led plan 0 (beginning_of plan) ps m leads
 
   -- and those of all states that a whole run begins, the last one too
-  abbrev pub picks_of_run : (ps : List Picture) (turn : Turn) → RunEndsWith plan ps turn → List (List ℕ)
+  abbrev pub picks_of_run : (ps : List Picture) (turn : Turn) → RunEndsWith plan ps turn
+      → List (List ℕ)
   picks_of_run ps Went end = []
-  picks_of_run ps (Finished n) end = picks_before end.before end.moment end.leads ++ end.ends.picks ∷ []
+  picks_of_run ps (Finished n) end =
+      picks_before end.before end.moment end.leads ++ end.ends.picks ∷ []
   picks_of_run ps (Contradictory state clash) end = picks_before ps end.0 end.1 ++ end.2.picks ∷ []
   picks_of_run ps (Undetermined state cell) end = picks_before ps end.0 end.1 ++ end.2.picks ∷ []
   picks_of_run ps (StateLimit states) end = picks_before ps end.0 end.1
   picks_of_run ps (InputMissing state port) end = picks_before ps end.0 end.1 ++ end.2.picks ∷ []
-  picks_of_run ps (Over state kind) end = picks_before ps end.0 end.1 ++ limit_picks (setting plan state) plan.reductions end.0 kind end.2 ∷ []
+  picks_of_run ps (Over state kind) end =
+      picks_before ps end.0 end.1
+      ++ limit_picks (setting plan state) plan.reductions end.0 kind end.2 ∷ []
 
   -- the settled states of a whole run
-  abbrev pub settled_states : (ps : List Picture) (turn : Turn) → RunEndsWith plan ps turn → List SettledState
+  abbrev pub settled_states : (ps : List Picture) (turn : Turn) → RunEndsWith plan ps turn
+      → List SettledState
   settled_states ps Went end = []
-  settled_states ps (Finished n) end = led_states plan 0 beginning_of end.before end.moment end.leads ++ settled_last end.final ∷ []
+  settled_states ps (Finished n) end =
+      led_states plan 0 beginning_of end.before end.moment end.leads ++ settled_last end.final ∷ []
   settled_states ps (Contradictory state clash) end = led_states plan 0 beginning_of ps end.0 end.1
   settled_states ps (Undetermined state cell) end = led_states plan 0 beginning_of ps end.0 end.1
   settled_states ps (StateLimit states) end = led_states plan 0 beginning_of ps end.0 end.1

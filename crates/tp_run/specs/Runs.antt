@@ -79,10 +79,11 @@ store_of run = run.store
 
 -- all of these
 abbrev pub standing_place : Run → RunPlace
-standing_place run = record { standing = standing_of run; state = next_state_of run; store = store_of run }
+standing_place run =
+    record { standing = standing_of run; state = next_state_of run; store = store_of run }
 
--- what is carried to the next state: the scene that it begins with, where one was settled before it; a run that hasn't begun, has ended or gave up
--- carries nothing
+-- what is carried to the next state: the scene that it begins with, where one was settled before
+-- it; a run that hasn't begun, has ended or gave up carries nothing
 abbrev pub carried_scene : ℕ → Standing → Option S.Scene
 carried_scene (suc n) (open_at m) = Some m.scene
 carried_scene zero (open_at m) = None
@@ -101,7 +102,8 @@ StandsSound plan n (open_at m) = IsSound (setting plan n) (kinds_of plan.program
 StandsSound plan n (answered turn m) = Unit {0}
 StandsSound plan n spent = Unit {0}
 
--- and at an orderly one: it is sound, and kept lengths, bound values and inputs are within the limits
+-- and at an orderly one: it is sound, and kept lengths, bound values and inputs are within the
+-- limits
 abbrev pub StandsOrderly : Plan → ℕ → Standing → Type 0
 StandsOrderly plan n (open_at m) = IsOrderly (setting plan n) (kinds_of plan.program.globals) m
 StandsOrderly plan n (answered turn m) = Unit {0}
@@ -146,13 +148,17 @@ pub record NextOf (m next : Moment) : Type 0 where
   pub store : StoreGoesOn m.store next.store
 
 -- What becomes of a state at rest, where the run then stands, and what its store holds.
-abbrev pub RestTurns : Setting → (globals reductions : ℕ) → Moment → Picture → Picture → Standing → Contents → Turn → Type 0
+abbrev pub RestTurns : Setting → (globals reductions : ℕ) → Moment → Picture → Picture → Standing
+    → Contents → Turn → Type 0
 RestTurns w globals k m old new standing store Went =
-    (settled m.scene ≡ goes) × HasPicture globals w.state k m new × ((next : Moment) × NextOf m next × (standing ≡ open_at next) × (store ≡ next.store))
+    (settled m.scene ≡ goes) × HasPicture globals w.state k m new
+    × ((next : Moment) × NextOf m next × (standing ≡ open_at next) × (store ≡ next.store))
 RestTurns w globals k m old new standing store (Finished length) =
-    (settled m.scene ≡ ends) × HasPicture globals w.state k m new × (length ≡ w.state) × (standing ≡ answered (Finished length) m) × (store ≡ m.store)
+    (settled m.scene ≡ ends) × HasPicture globals w.state k m new × (length ≡ w.state)
+    × (standing ≡ answered (Finished length) m) × (store ≡ m.store)
 RestTurns w globals k m old new standing store (Undetermined state cell) =
-    IsOpenCell w m cell × (state ≡ w.state) × (new ≡ old) × (standing ≡ answered (Undetermined state cell) m) × (store ≡ m.store)
+    IsOpenCell w m cell × (state ≡ w.state) × (new ≡ old)
+    × (standing ≡ answered (Undetermined state cell) m) × (store ≡ m.store)
 RestTurns w globals k m old new standing store (Contradictory state clash) = ⊥
 RestTurns w globals k m old new standing store (StateLimit states) = ⊥
 RestTurns w globals k m old new standing store (InputMissing state port) = ⊥

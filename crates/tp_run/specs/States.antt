@@ -19,7 +19,8 @@ use Rattle.tp_show.specs.Read.{plain_parts}
 use Rattle.tp_kernel.specs.declared.formula.LimitKind.{LimitKind}
 use Rattle.tp_kernel.specs.declared.formula.LimitKind.TheVariants as limit
 
--- What is run: a program with these inputs, for at most so many states with at most so many reductions each.
+-- What is run: a program with these inputs, for at most so many states with at most so many
+-- reductions each.
 pub record Plan : Type 0 where
   pub program : ProgramTree
   pub inputs : InputLines
@@ -27,7 +28,8 @@ pub record Plan : Type 0 where
   pub reductions : ℕ
 
 abbrev pub plan_with : ProgramTree → InputLines → (states reductions : ℕ) → Plan
-plan_with program inputs states reductions = record { program = program; inputs = inputs; states = states; reductions = reductions }
+plan_with program inputs states reductions =
+    record { program = program; inputs = inputs; states = states; reductions = reductions }
 
 -- how many variables it has
 abbrev pub globals_of : Plan → ℕ
@@ -43,16 +45,20 @@ pub record AreGlobals (globals : ℕ) (kept facts : List Fact) : Type 0 where
   pub no_clash : NoClash facts
   pub same : (p : Path) → kept_shape facts p ≡ kept_shape (facts_below globals kept) p
 
--- The picture of a settled state: its number, the facts of the globals, what these come to, what is shown, and how many reductions it took.
-pub record IsPictureOf (plan : Plan) (n : ℕ) (picks : List ℕ) (last : Moment) (picture : Picture) : Type 0 where
+-- The picture of a settled state: its number, the facts of the globals, what these come to, what is
+-- shown, and how many reductions it took.
+pub record IsPictureOf (plan : Plan) (n : ℕ) (picks : List ℕ) (last : Moment)
+    (picture : Picture) : Type 0 where
   pub state : picture.state ≡ n
   pub facts : AreGlobals (globals_of plan) last.store.facts picture.facts
   pub parts : plain_parts picture.parts ≡ line_parts picture.facts
   pub shows : shows_of picture.shows ≡ shown_in last.scene.root.entries
   pub reductions : picture.reductions ≡ length picks
 
--- state n, which begins with m, is settled and has this picture, and the next one begins with `next`
-pub record StateGoesOn (plan : Plan) (n : ℕ) (m : Moment) (picture : Picture) (next : Moment) : Type 0 where
+-- state n, which begins with m, is settled and has this picture, and the next one begins with
+-- `next`
+pub record StateGoesOn (plan : Plan) (n : ℕ) (m : Moment) (picture : Picture)
+    (next : Moment) : Type 0 where
   pub within : n < plan.states
   pub picks : List ℕ
   pub last : Moment
@@ -67,23 +73,26 @@ pub record StateEnds (plan : Plan) (n : ℕ) (m : Moment) (picture : Picture) : 
   pub ends : replay.Ends (setting plan n) plan.reductions m picks last
   pub picture_is : IsPictureOf plan n picks last picture
 
--- states n, n + 1, .. with these pictures, of which each goes on to the next, and what the state after them begins with
+-- states n, n + 1, .. with these pictures, of which each goes on to the next, and what the state
+-- after them begins with
 abbrev pub StatesLead : Plan → ℕ → Moment → List Picture → Moment → Type 0
 StatesLead plan n m [] last = last ≡ m
-StatesLead plan n m (p ∷ ps) last = (next : Moment) × StateGoesOn plan n m p next × StatesLead plan (suc n) next ps last
+StatesLead plan n m (p ∷ ps) last =
+    (next : Moment) × StateGoesOn plan n m p next × StatesLead plan (suc n) next ps last
 
 -- A run settles states with these pictures, and the state after them begins with this moment.
 abbrev pub LeadsTo : Plan → List Picture → Moment → Type 0
 LeadsTo plan ps m = StatesLead plan 0 (first_moment plan.program.globals plan.program.main) ps m
 
--- where a run stands: before a state that begins with this moment; after this last answer, at the moment that its state's picks led to; or given up
--- for want of memory
+-- where a run stands: before a state that begins with this moment; after this last answer, at the
+-- moment that its state's picks led to; or given up for want of memory
 pub data Standing : Type 0 where
   open_at : Moment → Standing
   answered : Turn → Moment → Standing
   spent : Standing
 
--- a limit other than that on states is reached: picks lead to an item that passes it, or use up the reductions
+-- a limit other than that on states is reached: picks lead to an item that passes it, or use up the
+-- reductions
 abbrev pub ReachesLimit : Setting → (most : ℕ) → Moment → LimitKind → Type 0
 ReachesLimit w most m limit.Reductions = replay.UsesUp w most m
 ReachesLimit w most m limit.Number = replay.PassesLimit w most m limit.Number
@@ -92,7 +101,8 @@ ReachesLimit w most m limit.Calls = replay.PassesLimit w most m limit.Calls
 ReachesLimit w most m limit.Nest = replay.PassesLimit w most m limit.Nest
 
 -- the moment that those picks lead to
-abbrev pub limit_moment : (w : Setting) (most : ℕ) (m : Moment) (kind : LimitKind) → ReachesLimit w most m kind → Moment
+abbrev pub limit_moment : (w : Setting) (most : ℕ) (m : Moment) (kind : LimitKind)
+    → ReachesLimit w most m kind → Moment
 limit_moment w most m limit.Reductions end = end.last
 limit_moment w most m limit.Number end = end.last
 limit_moment w most m limit.List end = end.last
@@ -109,26 +119,40 @@ state_after n (StateLimit states) = n
 state_after n (InputMissing state port) = n
 state_after n (Over state limit) = n
 
--- What becomes of state n, which begins with m, with the pictures before and after, where the run then stands, what its store then holds, and the
--- answer: all of one list of picks, of which there are at most as many as a state may have. Where the run goes on, the store holds what the next state
--- begins with; else the run stays at the moment that the state's picks led to. Where the state isn't settled the picture stays.
-abbrev pub StateBecomes : Plan → ℕ → Moment → Picture → Picture → Standing → Contents → Turn → Type 0
-StateBecomes plan n m old new standing store Went = (next : Moment) × StateGoesOn plan n m new next × (standing ≡ open_at next) × (store ≡ next.store)
+-- What becomes of state n, which begins with m, with the pictures before and after, where the run
+-- then stands, what its store then holds, and the answer: all of one list of picks, of which there
+-- are at most as many as a state may have. Where the run goes on, the store holds what the next
+-- state begins with; else the run stays at the moment that the state's picks led to. Where the
+-- state isn't settled the picture stays.
+abbrev pub StateBecomes : Plan → ℕ → Moment → Picture → Picture → Standing → Contents → Turn
+    → Type 0
+StateBecomes plan n m old new standing store Went =
+    (next : Moment) × StateGoesOn plan n m new next × (standing ≡ open_at next)
+    × (store ≡ next.store)
 StateBecomes plan n m old new standing store (Finished length) =
-    (end : StateEnds plan n m new) × (length ≡ n) × (standing ≡ answered (Finished length) end.last) × (store ≡ end.last.store)
+    (end : StateEnds plan n m new) × (length ≡ n) × (standing ≡ answered (Finished length) end.last)
+    × (store ≡ end.last.store)
 StateBecomes plan n m old new standing store (Contradictory state clash) =
-    (end : replay.MeetsClash (setting plan n) plan.reductions m clash) × (state ≡ n) × (n < plan.states) × (new ≡ old) × (standing ≡ answered (Contradictory state clash) end.last)
+    (end : replay.MeetsClash (setting plan n) plan.reductions m clash) × (state ≡ n)
+    × (n < plan.states) × (new ≡ old)
+    × (standing ≡ answered (Contradictory state clash) end.last)
     × (store ≡ end.last.store)
 StateBecomes plan n m old new standing store (Undetermined state cell) =
-    (end : replay.IsOpen (setting plan n) plan.reductions m cell) × (state ≡ n) × (n < plan.states) × (new ≡ old) × (standing ≡ answered (Undetermined state cell) end.last)
+    (end : replay.IsOpen (setting plan n) plan.reductions m cell) × (state ≡ n) × (n < plan.states)
+    × (new ≡ old) × (standing ≡ answered (Undetermined state cell) end.last)
     × (store ≡ end.last.store)
-StateBecomes plan n m old new standing store (StateLimit states) = (n ≡ plan.states) × (states ≡ n) × (new ≡ old) × (standing ≡ answered (StateLimit states) m) × (store ≡ m.store)
+StateBecomes plan n m old new standing store (StateLimit states) =
+    (n ≡ plan.states) × (states ≡ n) × (new ≡ old) × (standing ≡ answered (StateLimit states) m)
+    × (store ≡ m.store)
 StateBecomes plan n m old new standing store (InputMissing state port) =
-    (end : replay.MissesInput (setting plan n) plan.reductions m port) × (state ≡ n) × (n < plan.states) × (new ≡ old) × (standing ≡ answered (InputMissing state port) end.last)
+    (end : replay.MissesInput (setting plan n) plan.reductions m port) × (state ≡ n)
+    × (n < plan.states) × (new ≡ old) × (standing ≡ answered (InputMissing state port) end.last)
     × (store ≡ end.last.store)
 StateBecomes plan n m old new standing store (Over state limit) =
-    (end : ReachesLimit (setting plan n) plan.reductions m limit) × (state ≡ n) × (n < plan.states) × (new ≡ old)
-    × (standing ≡ answered (Over state limit) (limit_moment (setting plan n) plan.reductions m limit end))
+    (end : ReachesLimit (setting plan n) plan.reductions m limit) × (state ≡ n) × (n < plan.states)
+    × (new ≡ old)
+    × (standing ≡ answered (Over state limit)
+    (limit_moment (setting plan n) plan.reductions m limit end))
     × (store ≡ (limit_moment (setting plan n) plan.reductions m limit end).store)
 
 -- where a run stands, the number of the state that it makes next, and what its store holds
@@ -137,12 +161,18 @@ pub record RunPlace : Type 0 where
   pub state : ℕ
   pub store : Contents
 
--- What a call answers where the run stands there: it makes that state, or it gives the last answer again and changes nothing. A run that gave up for
--- want of memory answers nothing else any more.
-abbrev AnswersAt : Plan → Standing → (from : RunPlace) → (old new : Picture) → (to : RunPlace) → Turn → Type 0
-AnswersAt plan (open_at m) from old new to turn = StateBecomes plan from.state m old new to.standing to.store turn × (to.state ≡ state_after from.state turn)
-AnswersAt plan (answered last m) from old new to turn = (turn ≡ last) × (new ≡ old) × (to.standing ≡ answered last m) × (to.state ≡ from.state) × (to.store ≡ from.store)
+-- What a call answers where the run stands there: it makes that state, or it gives the last answer
+-- again and changes nothing. A run that gave up for want of memory answers nothing else any more.
+abbrev AnswersAt : Plan → Standing → (from : RunPlace) → (old new : Picture) → (to : RunPlace)
+    → Turn → Type 0
+AnswersAt plan (open_at m) from old new to turn =
+    StateBecomes plan from.state m old new to.standing to.store turn
+    × (to.state ≡ state_after from.state turn)
+AnswersAt plan (answered last m) from old new to turn =
+    (turn ≡ last) × (new ≡ old) × (to.standing ≡ answered last m) × (to.state ≡ from.state)
+    × (to.store ≡ from.store)
 AnswersAt plan spent from old new to turn = ⊥
 
-abbrev pub AnswersState : Plan → (from : RunPlace) → (old new : Picture) → (to : RunPlace) → Turn → Type 0
+abbrev pub AnswersState : Plan → (from : RunPlace) → (old new : Picture) → (to : RunPlace) → Turn
+    → Type 0
 AnswersState plan from old new to turn = AnswersAt plan from.standing from old new to turn

@@ -21,9 +21,11 @@ pub record IsKnownEnd (s : Scene) (number : ℕ) : Type 0 where
   pub side : Side
   pub status : HasStatus s side head entries region
 
--- A cell is decided where a kept fact gives its path a shape or excludes it, or where it is known of its region that it ends or that it goes.
+-- A cell is decided where a kept fact gives its path a shape or excludes it, or where it is known
+-- of its region that it ends or that it goes.
 abbrev pub IsDecided : Moment → Cell → Type 0
-IsDecided m (Part p) = ((sh : Shape) × (kept_shape m.store.facts p ≡ Some sh)) ⊎ IsTrue (is_excluded m.store.facts p)
+IsDecided m (Part p) =
+    ((sh : Shape) × (kept_shape m.store.facts p ≡ Some sh)) ⊎ IsTrue (is_excluded m.store.facts p)
 IsDecided m (End region depth) = IsKnownEnd m.scene region
 
 -- None of the cells that an item waits for is decided.
@@ -32,12 +34,16 @@ pub record AreUndecided (m : Moment) (first : Cell) (other : Option Cell) : Type
   pub not_other : (cell : Cell) → other ≡ Some cell → IsDecided m cell → ⊥
 
 abbrev pub WaitsAreForUndecided : Type 0
-WaitsAreForUndecided = (w : Setting) (kinds : List Bool) (m : Moment) (t : ℕ) (first : Cell) (other : Option Cell)
-    → IsSound w kinds m → outcome_of w m.store m.scene t ≡ waits first other → AreUndecided m first other
+WaitsAreForUndecided =
+    (w : Setting) (kinds : List Bool) (m : Moment) (t : ℕ) (first : Cell) (other : Option Cell)
+    → IsSound w kinds m → outcome_of w m.store m.scene t ≡ waits first other
+    → AreUndecided m first other
 
 -- A decided cell stays decided in a state.
 abbrev pub DecidedStays : Type 0
-DecidedStays = (w : Setting) (kinds : List Bool) (m : Moment) (t : ℕ) (r : Reduction) (next : Moment) → IsSound w kinds m → Reduces w m t r next
+DecidedStays =
+    (w : Setting) (kinds : List Bool) (m : Moment) (t : ℕ) (r : Reduction) (next : Moment)
+    → IsSound w kinds m → Reduces w m t r next
     → (cell : Cell) → IsDecided m cell → IsDecided next cell
 
 -- A live item waits.
@@ -49,15 +55,18 @@ pub record ItemWaits (w : Setting) (m : Moment) (t : ℕ) : Type 0 where
 
 -- At rest, the item that settling names waits.
 abbrev pub NamedItemWaits : Type 0
-NamedItemWaits = (w : Setting) (kinds : List Bool) (m : Moment) (t : ℕ) → IsSound w kinds m → AtRest w m
+NamedItemWaits =
+    (w : Setting) (kinds : List Bool) (m : Moment) (t : ℕ) → IsSound w kinds m → AtRest w m
     → settled m.scene ≡ waiting t → ItemWaits w m t
 
 -- So what is at rest ends, goes on, or has an open cell;
 abbrev pub RestEndsGoesOrIsOpen : Type 0
-RestEndsGoesOrIsOpen = (w : Setting) (kinds : List Bool) (m : Moment) → IsSound w kinds m → AtRest w m
+RestEndsGoesOrIsOpen =
+    (w : Setting) (kinds : List Bool) (m : Moment) → IsSound w kinds m → AtRest w m
     → (settled m.scene ≡ ends) ⊎ ((settled m.scene ≡ goes) ⊎ ((cell : Cell) × IsOpenCell w m cell))
 
 -- and its open cell isn't decided.
 abbrev pub OpenCellsAreUndecided : Type 0
-OpenCellsAreUndecided = (w : Setting) (kinds : List Bool) (m : Moment) (cell : Cell) → IsSound w kinds m
+OpenCellsAreUndecided =
+    (w : Setting) (kinds : List Bool) (m : Moment) (cell : Cell) → IsSound w kinds m
     → IsOpenCell w m cell → IsDecided m cell → ⊥

@@ -24,7 +24,8 @@ AreNumbers below (n ∷ ns) = (n < below) × IsNew n ns × AreNumbers below ns
 abbrev pub item_numbers : Entries → List ℕ
 item_numbers none = []
 item_numbers (leaf id l rest) = id ∷ item_numbers rest
-item_numbers (node id k h held g second rest) = id ∷ (item_numbers held ++ (item_numbers second ++ item_numbers rest))
+item_numbers (node id k h held g second rest) =
+    id ∷ (item_numbers held ++ (item_numbers second ++ item_numbers rest))
 
 abbrev pub second_number : Holder → Head → List ℕ
 second_number (Split f env) g = []
@@ -36,20 +37,24 @@ second_number (Running f env) g = g.number ∷ []
 abbrev pub region_numbers : Entries → List ℕ
 region_numbers none = []
 region_numbers (leaf id l rest) = region_numbers rest
-region_numbers (node id k h held g second rest) = h.number ∷ (region_numbers held ++ (second_number k g ++ (region_numbers second ++ region_numbers rest)))
+region_numbers (node id k h held g second rest) =
+    h.number ∷ (region_numbers held
+    ++ (second_number k g ++ (region_numbers second ++ region_numbers rest)))
 
 -- no region both ends and goes on
 abbrev pub IsCalm : Place → Type 0
 IsCalm p = IsTrue (p.is Ending) → IsTrue (p.is Going) → ⊥
 
--- a dormant region, and each in it, holds only `Do`, `Split` and `SplitProject` items and carries no mark
+-- a dormant region, and each in it, holds only `Do`, `Split` and `SplitProject` items and carries
+-- no mark
 abbrev pub Dormant : Head → Entries → Type 0
 Dormant h none = (h.ends ≡ false) × (h.goes ≡ false)
 Dormant h (leaf id (Do f env) rest) = Dormant h rest
 Dormant h (leaf id (Later f env) rest) = ⊥
 Dormant h (leaf id (Shown vs) rest) = ⊥
 Dormant h (node id (Split f env) i held g second rest) = Dormant i held × Dormant h rest
-Dormant h (node id (SplitProject f env) i held g second rest) = Dormant i held × Dormant g second × Dormant h rest
+Dormant h (node id (SplitProject f env) i held g second rest) =
+    Dormant i held × Dormant g second × Dormant h rest
 Dormant h (node id Closed i held g second rest) = ⊥
 Dormant h (node id (Opened f env) i held g second rest) = ⊥
 Dormant h (node id (Running f env) i held g second rest) = ⊥
@@ -72,7 +77,8 @@ module _ (defs : List Definition) (kinds : List Bool) (variables : List Variable
   LeafFits (Later f env) p = PhraseFits f env × IsTrue (p.is Going)
   LeafFits (Shown vs) p = Unit {0}
 
-  -- `q` is the place of the items of the region that is held, and `second` is what is asked of the second one
+  -- `q` is the place of the items of the region that is held, and `second` is what is asked of the
+  -- second one
   abbrev pub HolderFits : Holder → (held : Entries) → (q : Place) → (dormant live : Type 0) → Type 0
   HolderFits (Split f env) held q dormant live = PhraseFits f env
   HolderFits (SplitProject f env) held q dormant live = PhraseFits f env × dormant
@@ -80,12 +86,16 @@ module _ (defs : List Definition) (kinds : List Bool) (variables : List Variable
   HolderFits (Opened f env) held q dormant live = PhraseFits f env
   HolderFits (Running f env) held q dormant live = PhraseFits f env × live
 
-  -- each formula fits its bindings, no region is too deep or both ends and goes, what holds a `Later` goes, and dormant regions are so
+  -- each formula fits its bindings, no region is too deep or both ends and goes, what holds a
+  -- `Later` goes, and dormant regions are so
   abbrev pub EntriesFit : Entries → Place → Type 0
   EntriesFit none p = IsCalm p × (p.depth ≤ region_limit)
   EntriesFit (leaf id l rest) p = LeafFits l p × EntriesFit rest p
   EntriesFit (node id k h held g second rest) p =
-      HolderFits k held (held_place k h held p) (Dormant g second × EntriesFit second (record { region = g.number; depth = p.depth + 1; is = λ z. false })) (EntriesFit second (second_place g second p))
+      HolderFits k held (held_place k h held p)
+      (Dormant g second × EntriesFit second
+      (record { region = g.number; depth = p.depth + 1; is = λ z. false }))
+      (EntriesFit second (second_place g second p))
       × EntriesFit held (held_place k h held p) × EntriesFit rest p
 
 -- The inner region of a `Running` goes on or has a `More` to be picked.
@@ -93,12 +103,17 @@ abbrev pub InnersGo : Entries → Place → Type 0
 InnersGo none p = Unit {0}
 InnersGo (leaf id l rest) p = InnersGo rest p
 InnersGo (node id (Running f env) h held g second rest) p =
-    (IsTrue ((held_place (Running f env) h held p).is Going) ⊎ HasMore held) × InnersGo second (second_place g second p) × InnersGo held (held_place (Running f env) h held p) × InnersGo rest p
-InnersGo (node id k h held g second rest) p = InnersGo held (held_place k h held p) × InnersGo rest p
+    (IsTrue ((held_place (Running f env) h held p).is Going) ⊎ HasMore held)
+    × InnersGo second (second_place g second p)
+    × InnersGo held (held_place (Running f env) h held p) × InnersGo rest p
+InnersGo (node id k h held g second rest) p =
+    InnersGo held (held_place k h held p) × InnersGo rest p
 
 -- The scene of a moment fits its store.
 pub record MomentFits (defs : List Definition) (kinds : List Bool) (m : Moment) : Type 0 where
-  pub entries : EntriesFit defs kinds m.store.variables m.scene.root.entries (root_place m.scene.root)
+  pub entries : EntriesFit defs kinds m.store.variables m.scene.root.entries
+      (root_place m.scene.root)
   pub items : AreNumbers m.scene.next_item (item_numbers m.scene.root.entries)
-  pub regions : AreNumbers m.scene.next_region (m.scene.root.head.number ∷ region_numbers m.scene.root.entries)
+  pub regions : AreNumbers m.scene.next_region
+      (m.scene.root.head.number ∷ region_numbers m.scene.root.entries)
   pub inners : InnersGo m.scene.root.entries (root_place m.scene.root)

@@ -3,20 +3,22 @@ use Rattle.std.specs.Prelude.{◌≡◌, ◌↔◌, ℕ, true}
 use Rattle.tp_meaning.specs.Syntax.{FormulaTree}
 use Rattle.tp_scene.specs.Scene.{Bindings, Head, Leaf, Holder, Split, SplitProject, Closed, Opened, Running, Entries, none, leaf, node, Scene, has}
 
--- What a live region is to the item that holds it: the left region of a `Split` or a `SplitProject`, the region of a `Closed`, the inner region of
--- a `Running`, or an outer region, which is that of an `Opened` or the second one of a `Running`.
+-- What a live region is to the item that holds it: the left region of a `Split` or a
+-- `SplitProject`, the region of a `Closed`, the inner region of a `Running`, or an outer region,
+-- which is that of an `Opened` or the second one of a `Running`.
 pub data Role : Type 0 where
   left_region : Role
   closed_region : Role
   inner_region : Role
   outer_region : Role
 
--- One of the items holds a live region in this role, with this head and these entries. The second region of a `SplitProject` sleeps, so no item
--- holds it as a live one.
+-- One of the items holds a live region in this role, with this head and these entries. The second
+-- region of a `SplitProject` sleeps, so no item holds it as a live one.
 pub data HoldsRegion : Entries → Role → Head → Entries → Type 0 where
   by_split : {id : ℕ} {f : FormulaTree} {env : Bindings} {h g : Head} {held second rest : Entries}
       → HoldsRegion (node id (Split f env) h held g second rest) left_region h held
-  by_split_project : {id : ℕ} {f : FormulaTree} {env : Bindings} {h g : Head} {held second rest : Entries}
+  by_split_project : {id : ℕ} {f : FormulaTree} {env : Bindings} {h g : Head} {held second
+      rest : Entries}
       → HoldsRegion (node id (SplitProject f env) h held g second rest) left_region h held
   by_closed : {id : ℕ} {h g : Head} {held second rest : Entries}
       → HoldsRegion (node id Closed h held g second rest) closed_region h held
@@ -24,15 +26,17 @@ pub data HoldsRegion : Entries → Role → Head → Entries → Type 0 where
       → HoldsRegion (node id (Opened f env) h held g second rest) outer_region h held
   by_running : {id : ℕ} {f : FormulaTree} {env : Bindings} {h g : Head} {held second rest : Entries}
       → HoldsRegion (node id (Running f env) h held g second rest) inner_region h held
-  by_running_second : {id : ℕ} {f : FormulaTree} {env : Bindings} {h g : Head} {held second rest : Entries}
+  by_running_second : {id : ℕ} {f : FormulaTree} {env : Bindings} {h g : Head} {held second
+      rest : Entries}
       → HoldsRegion (node id (Running f env) h held g second rest) outer_region g second
   past_leaf : {id : ℕ} {l : Leaf} {rest : Entries} {role : Role} {h : Head} {held : Entries}
       → HoldsRegion rest role h held → HoldsRegion (leaf id l rest) role h held
-  past_node : {id : ℕ} {k : Holder} {i g : Head} {first second rest : Entries} {role : Role} {h : Head} {held : Entries}
+  past_node : {id : ℕ} {k : Holder} {i g : Head} {first second
+      rest : Entries} {role : Role} {h : Head} {held : Entries}
       → HoldsRegion rest role h held → HoldsRegion (node id k i first g second rest) role h held
 
--- A live region with this head and these entries, by the way to it: it is the root, or an item of a live region holds it. Two ways are two
--- regions, also where these look alike.
+-- A live region with this head and these entries, by the way to it: it is the root, or an item of a
+-- live region holds it. Two ways are two regions, also where these look alike.
 pub data LiveRegion (s : Scene) : Head → Entries → Type 0 where
   the_root : LiveRegion s s.root.head s.root.entries
   the_held : {h : Head} {es : Entries} {role : Role} {i : Head} {held : Entries}
@@ -42,7 +46,8 @@ pub data LiveRegion (s : Scene) : Head → Entries → Type 0 where
 pub data IsTail : (tail es : Entries) → Type 0 where
   all_entries : {es : Entries} → IsTail es es
   after_leaf : {id : ℕ} {l : Leaf} {rest es : Entries} → IsTail (leaf id l rest) es → IsTail rest es
-  after_node : {id : ℕ} {k : Holder} {h g : Head} {held second rest es : Entries} → IsTail (node id k h held g second rest) es → IsTail rest es
+  after_node : {id : ℕ} {k : Holder} {h g : Head} {held second rest es : Entries}
+      → IsTail (node id k h held g second rest) es → IsTail rest es
 
 -- the first of these entries is the item t
 abbrev pub StartsWith : (t : ℕ) → Entries → Type 0

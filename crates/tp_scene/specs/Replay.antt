@@ -12,20 +12,23 @@ use Rattle.tp_scene.specs.Laws.{StoreGoesOn}
 
 -- Of a state that begins with the moment m, within which there are at most `most` picks.
 -- picking these items leads to a scene at rest
-pub record Closes (w : Setting) (most : ℕ) (m : Moment) (picks : List ℕ) (last : Moment) : Type 0 where
+pub record Closes (w : Setting) (most : ℕ) (m : Moment) (picks : List ℕ)
+    (last : Moment) : Type 0 where
   pub leads : Leads w m picks last
   pub within : length picks ≤ most
   pub rest : AtRest w last
 
 -- which is settled and goes on, and `next` is what the next state begins with
-pub record Goes (w : Setting) (most : ℕ) (m : Moment) (picks : List ℕ) (last next : Moment) : Type 0 where
+pub record Goes (w : Setting) (most : ℕ) (m : Moment) (picks : List ℕ)
+    (last next : Moment) : Type 0 where
   pub closes : Closes w most m picks last
   pub settles : settled last.scene ≡ goes
   pub scene : next.scene ≡ advanced last.scene
   pub store : StoreGoesOn last.store next.store
 
 -- which is settled and ends
-pub record Ends (w : Setting) (most : ℕ) (m : Moment) (picks : List ℕ) (last : Moment) : Type 0 where
+pub record Ends (w : Setting) (most : ℕ) (m : Moment) (picks : List ℕ)
+    (last : Moment) : Type 0 where
   pub closes : Closes w most m picks last
   pub settles : settled last.scene ≡ ends
 

@@ -38,7 +38,9 @@ module _ (w : Context) (globals : ℕ) where
 
   -- a projection of the piece, whose outer part is as `O` says on the course of the cut states
   abbrev pub OpenedSays : FormulaTree → Bindings → Claim → Claim
-  OpenedSays f env O d locals s = Projected (λ i j T. FormulaSays f env d locals s i j T) (λ c i j V. O d (locals_at_cuts c locals) (at_cuts c s) i j V)
+  OpenedSays f env O d locals s =
+      Projected (λ i j T. FormulaSays f env d locals s i j T)
+      (λ c i j V. O d (locals_at_cuts c locals) (at_cuts c s) i j V)
 
   -- the same, where there is a first piece, which is as `I` says
   abbrev pub RunningSays : FormulaTree → Bindings → Claim → Claim → Claim
@@ -64,9 +66,11 @@ module _ (w : Context) (globals : ℕ) where
   -- The entries each hold, and their shows are joined in order.
   abbrev pub Says : Entries → Claim
   Says none d locals s a b S = S ≡ blank
-  Says (leaf id l rest) d locals s a b S = Joined (LeafSays l d locals s) (Says rest d locals s) a b S
+  Says (leaf id l rest) d locals s a b S =
+      Joined (LeafSays l d locals s) (Says rest d locals s) a b S
   Says (node id k h held g second rest) d locals s a b S =
-      Joined (HolderSays k (λ d' l' s' i j V. MarksHold h i j × Says held d' l' s' i j V) (λ d' l' s' i j V. MarksHold g i j × Says second d' l' s' i j V) d locals s)
+      Joined (HolderSays k (λ d' l' s' i j V. MarksHold h i j × Says held d' l' s' i j V)
+      (λ d' l' s' i j V. MarksHold g i j × Says second d' l' s' i j V) d locals s)
       (Says rest d locals s) a b S
 
   abbrev pub RegionSays : Region → Claim

@@ -9,13 +9,19 @@ use Rattle.tp_scene.specs.Step.{waits, leaf_step, holder_step}
 use Rattle.tp_scene.specs.Pick.{Setting, Moment, outcome_of, numbers_of}
 use Rattle.tp_scene.specs.Laws.{IsSound}
 
--- Picking an item of a live region sees the region's place, and of a holder the place of the region that it holds, which is in that place.
-pub record SeenIn (w : Setting) (m : Moment) (h : Head) (es : Entries) (region : LiveRegion m.scene h es) : Type 0 where
+-- Picking an item of a live region sees the region's place, and of a holder the place of the region
+-- that it holds, which is in that place.
+pub record SeenIn (w : Setting) (m : Moment) (h : Head) (es : Entries)
+    (region : LiveRegion m.scene h es) : Type 0 where
   pub leaves : (t : ℕ) (l : Leaf) (rest : Entries) → IsTail (leaf t l rest) es
-      → outcome_of w m.store m.scene t ≡ leaf_step w.defs w.inputs w.state m.store.facts l (computed_place region) (numbers_of m.scene m.store.variables)
-  pub holders : (t : ℕ) (k : Holder) (i : Head) (held : Entries) (g : Head) (second rest : Entries) → IsTail (node t k i held g second rest) es
       → outcome_of w m.store m.scene t
-      ≡ holder_step w.defs w.inputs w.state m.store.facts k (record { head = i; entries = held }) (record { head = g; entries = second })
+      ≡ leaf_step w.defs w.inputs w.state m.store.facts l (computed_place region)
+      (numbers_of m.scene m.store.variables)
+  pub holders : (t : ℕ) (k : Holder) (i : Head) (held : Entries) (g : Head) (second rest : Entries)
+      → IsTail (node t k i held g second rest) es
+      → outcome_of w m.store m.scene t
+      ≡ holder_step w.defs w.inputs w.state m.store.facts k (record { head = i; entries = held })
+      (record { head = g; entries = second })
       (held_place k i held (computed_place region)) (numbers_of m.scene m.store.variables)
 
 abbrev pub PicksSeePlaces : Type 0
@@ -46,5 +52,7 @@ pub record AreNamed (s : Scene) (first : Cell) (other : Option Cell) : Type 0 wh
   pub names_other : (cell : Cell) → other ≡ Some cell → NamesCell s cell
 
 abbrev pub WaitedEndsAreLive : Type 0
-WaitedEndsAreLive = (w : Setting) (kinds : List Bool) (m : Moment) (t : ℕ) (first : Cell) (other : Option Cell)
-    → IsSound w kinds m → outcome_of w m.store m.scene t ≡ waits first other → AreNamed m.scene first other
+WaitedEndsAreLive =
+    (w : Setting) (kinds : List Bool) (m : Moment) (t : ℕ) (first : Cell) (other : Option Cell)
+    → IsSound w kinds m → outcome_of w m.store m.scene t ≡ waits first other
+    → AreNamed m.scene first other

@@ -23,9 +23,11 @@ locals_of globals xs = drop globals xs
 abbrev pub context_of : Setting → Context
 context_of w = record { defs = w.defs; inputs = w.inputs }
 
--- Scene and store stand for the interval from a to b of a course, and for what is shown on it: some values of the locals, of which static ones
--- keep theirs, make the first state agree with the store, and the root hold at some depth.
-pub record StandsFor (w : Setting) (globals : ℕ) (m : Moment) (s : Course) (a b : ℕ) (S : Shows) : Type 0 where
+-- Scene and store stand for the interval from a to b of a course, and for what is shown on it: some
+-- values of the locals, of which static ones keep theirs, make the first state agree with the
+-- store, and the root hold at some depth.
+pub record StandsFor (w : Setting) (globals : ℕ) (m : Moment) (s : Course) (a b : ℕ)
+    (S : Shows) : Type 0 where
   pub in_order : a ≤ b
   pub locals : Locals
   pub last : AllLast (locals_of globals m.store.variables) globals locals
@@ -35,7 +37,12 @@ pub record StandsFor (w : Setting) (globals : ℕ) (m : Moment) (s : Course) (a 
 
 -- a scene whose one item is the formula
 abbrev pub started : FormulaTree → Scene
-started main = record { root = record { head = new_head 0; entries = leaf 0 (Do main []) none }; next_item = 1; next_region = 1 }
+started main =
+    record {
+      root = record { head = new_head 0; entries = leaf 0 (Do main []) none };
+      next_item = 1;
+      next_region = 1;
+    }
 
 -- what a run begins with
 abbrev pub first_moment : (names : List (List ℕ)) → FormulaTree → Moment

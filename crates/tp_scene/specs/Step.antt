@@ -23,8 +23,9 @@ use Rattle.tp_scene.specs.declared.answer.Clash.{Clash}
 use Rattle.tp_scene.specs.declared.answer.Clash.TheVariants.{Facts, Marks, False, NoValue}
 use Rattle.tp_scene.specs.Scene.{Bindings, Side, Ending, Going, Leaf, Do, Later, Shown, Holder, Split, SplitProject, Closed, Opened, Running, Entries, none, leaf, Region, new_head, split_then, closed_then, opened_then, running_then, Place}
 
--- What a reduction gives in place of the item: new entries, of which so many items and regions took new numbers; perhaps a new local variable;
--- perhaps a mark on the region where the item stands; and new facts.
+-- What a reduction gives in place of the item: new entries, of which so many items and regions took
+-- new numbers; perhaps a new local variable; perhaps a mark on the region where the item stands;
+-- and new facts.
 pub record Reduction : Type 0 where
   pub news : Entries
   pub items : ℕ
@@ -33,8 +34,8 @@ pub record Reduction : Type 0 where
   pub mark : Option Side
   pub facts : List Fact
 
--- What comes of picking an item: it is reduced; it waits for a cell, and perhaps a second one; it rests; it meets a clash; the inputs have no
--- value for the port; or it passes a limit.
+-- What comes of picking an item: it is reduced; it waits for a cell, and perhaps a second one; it
+-- rests; it meets a clash; the inputs have no value for the port; or it passes a limit.
 pub data PickOutcome : Type 0 where
   reduces : Reduction → PickOutcome
   waits : (first : Cell) (other : Option Cell) → PickOutcome
@@ -55,18 +56,36 @@ region_limit = 400
 
 -- the item becomes these entries, of which so many items are new
 abbrev pub becomes : (news : Entries) → (items : ℕ) → PickOutcome
-becomes news n = reduces (record { news = news; items = n; regions = 0; local = None; mark = None; facts = [] })
+becomes news n =
+    reduces (record { news = news; items = n; regions = 0; local = None; mark = None; facts = [] })
 
 abbrev pub vanishes : PickOutcome
 vanishes = becomes none 0
 
 abbrev pub knows : List Fact → PickOutcome
-knows facts = reduces (record { news = none; items = 0; regions = 0; local = None; mark = None; facts = facts })
+knows facts =
+    reduces (record {
+      news = none;
+      items = 0;
+      regions = 0;
+      local = None;
+      mark = None;
+      facts = facts;
+    })
 
 -- The same, with a mark on the region. A region doesn't both end and go on.
-abbrev pub marking : Side → (is_other : Bool) → (depth : ℕ) → (news : Entries) → (items : ℕ) → PickOutcome
+abbrev pub marking : Side → (is_other : Bool) → (depth : ℕ) → (news : Entries) → (items : ℕ)
+    → PickOutcome
 marking z true depth news n = clashes (Marks depth)
-marking z false depth news n = reduces (record { news = news; items = n; regions = 0; local = None; mark = Some z; facts = [] })
+marking z false depth news n =
+    reduces (record {
+      news = news;
+      items = n;
+      regions = 0;
+      local = None;
+      mark = Some z;
+      facts = [];
+    })
 
 abbrev pub ending : Place → PickOutcome
 ending p = marking Ending (p.is Going) p.depth none 0
@@ -77,7 +96,15 @@ going p news n = marking Going (p.is Ending) p.depth news n
 -- the same, with one new region, which is one deeper than the item's
 abbrev pub with_region : (depth : ℕ) → (news : Entries) → (items : ℕ) → PickOutcome
 with_region depth news n =
-    if nat_lt depth region_limit then reduces (record { news = news; items = n; regions = 1; local = None; mark = None; facts = [] }) else passes limit.Nest
+    if nat_lt depth region_limit
+    then reduces (record {
+      news = news;
+      items = n;
+      regions = 1;
+      local = None;
+      mark = None;
+      facts = [];
+    }) else passes limit.Nest
 
 -- a region with this number and one item
 abbrev pub region_of : (number id : ℕ) → FormulaTree → Bindings → Region
@@ -85,7 +112,9 @@ region_of number id f env = record { head = new_head number; entries = leaf id (
 
 -- by whether the region goes, ends, or neither is known
 abbrev pub by_status : Place → (if_goes if_ends : PickOutcome) → PickOutcome
-by_status p if_goes if_ends = if p.is Going then if_goes else (if p.is Ending then if_ends else waits (End p.region p.depth) None)
+by_status p if_goes if_ends =
+    if p.is Going then if_goes
+    else (if p.is Ending then if_ends else waits (End p.region p.depth) None)
 
 -- the outcome of an expression decides, or its value does
 abbrev pub with_value : found.Outcome → (Tree → PickOutcome) → PickOutcome
@@ -137,7 +166,9 @@ module _ (facts : List Fact) where
   -- the target gets this value
   abbrev pub set : Target → Tree → PickOutcome
   set (value_at p) v = added (addition facts (facts_at p v))
-  set (length_at p) (num (pos n)) = if nat_lt length_limit n then passes limit.List else added (addition facts (fact p (Items n) ∷ []))
+  set (length_at p) (num (pos n)) =
+      if nat_lt length_limit n then passes limit.List
+      else added (addition facts (fact p (Items n) ∷ []))
   set (length_at p) (num (negsuc n)) = clashes False
   set (length_at p) (truth b) = clashes (NoValue WrongKind)
   set (length_at p) (list ts) = clashes (NoValue WrongKind)
@@ -155,10 +186,12 @@ module _ (facts : List Fact) where
 
   -- Both sides wait, for p on the left and for q on the right.
   abbrev pub both_wait : (left_placed right_placed : Bool) → (p q : Path) → PickOutcome
-  both_wait l r p q = if r && not l then waits (Part p) (Some (Part q)) else waits (Part q) (Some (Part p))
+  both_wait l r p q =
+      if r && not l then waits (Part p) (Some (Part q)) else waits (Part q) (Some (Part p))
 
-  -- An equation. A fault of the right side comes before one of the left side, a fault before a limit, and either before anything else. Then a
-  -- value on the right decides before one on the left.
+  -- An equation. A fault of the right side comes before one of the left side, a fault before a
+  -- limit, and either before anything else. Then a value on the right decides before one on the
+  -- left.
   abbrev pub equate : SideOf → SideOf → PickOutcome
   equate l r = by_outcomes l.found r.found
     where
@@ -195,19 +228,24 @@ with_place (found.other o) f = with_value o (λ v. f (known_binding v))
 
 abbrev pub length_left : ℤ → Bindings → Numbers → PickOutcome
 length_left (pos zero) env n = becomes (leaf (n.item 0) (Do empty env) none) 1
-length_left (pos (suc k)) env n = becomes (leaf (n.item 0) (Do (next (len (numeral (pos k)))) env) none) 1
+length_left (pos (suc k)) env n =
+    becomes (leaf (n.item 0) (Do (next (len (numeral (pos k)))) env) none) 1
 length_left (negsuc k) env n = clashes False
 
 -- a loop's turns from k to below m
-abbrev pub turns : (name : List ℕ) → (k m : ℤ) → FormulaTree → Bindings → Place → Numbers → PickOutcome
+abbrev pub turns : (name : List ℕ) → (k m : ℤ) → FormulaTree → Bindings → Place → Numbers
+    → PickOutcome
 turns name k m f env p n =
     if int_le m k then becomes (leaf (n.item 0) (Do empty env) none) 1
-    else with_region p.depth (split_then (n.item 1) (region_of n.region (n.item 0) f (env ++ known_binding (num k) ∷ [])) (for_from name (k +ℤ pos 1) (numeral m) f) env none) 2
+    else with_region p.depth
+    (split_then (n.item 1) (region_of n.region (n.item 0) f (env ++ known_binding (num k) ∷ []))
+    (for_from name (k +ℤ pos 1) (numeral m) f) env none) 2
 
 abbrev pub instances : (name : List ℕ) → (k m : ℤ) → FormulaTree → Bindings → Numbers → PickOutcome
 instances name k m f env n =
     if int_le m k then vanishes
-    else becomes (leaf (n.item 0) (Do f (env ++ known_binding (num k) ∷ [])) (leaf (n.item 1) (Do (forall_from name (k +ℤ pos 1) (numeral m) f) env) none)) 2
+    else becomes (leaf (n.item 0) (Do f (env ++ known_binding (num k) ∷ []))
+    (leaf (n.item 1) (Do (forall_from name (k +ℤ pos 1) (numeral m) f) env) none)) 2
 
 -- Said where these facts are known.
 module _ (defs : List Definition) (facts : List Fact) where
@@ -229,20 +267,28 @@ module _ (defs : List Definition) (facts : List Fact) where
   -- the values of expressions from left to right, or the outcome of the first that has none
   abbrev pub with_values : ExprTrees → Bindings → (List Tree → PickOutcome) → PickOutcome
   with_values no_expr env f = f []
-  with_values (expr_then e es) env f = with_value (value_of e env) (λ v. with_values es env (λ vs. f (v ∷ vs)))
+  with_values (expr_then e es) env f =
+      with_value (value_of e env) (λ v. with_values es env (λ vs. f (v ∷ vs)))
 
-  abbrev pub with_argument : (name : List ℕ) → ExprTree → Bindings → (BindingTree → PickOutcome) → PickOutcome
-  with_argument x e env f = if is_upper x then with_place (place_outcome facts defs e env) f else with_value (value_of e env) (λ v. f (known_binding v))
+  abbrev pub with_argument : (name : List ℕ) → ExprTree → Bindings → (BindingTree → PickOutcome)
+      → PickOutcome
+  with_argument x e env f =
+      if is_upper x then with_place (place_outcome facts defs e env) f
+      else with_value (value_of e env) (λ v. f (known_binding v))
 
   -- what the parameters are bound to, from left to right
-  abbrev pub with_arguments : ExprTrees → List (List ℕ) → Bindings → (Bindings → PickOutcome) → PickOutcome
+  abbrev pub with_arguments : ExprTrees → List (List ℕ) → Bindings → (Bindings → PickOutcome)
+      → PickOutcome
   with_arguments no_expr [] env f = f []
-  with_arguments (expr_then e es) (x ∷ xs) env f = with_argument x e env (λ b. with_arguments es xs env (λ bs. f (b ∷ bs)))
+  with_arguments (expr_then e es) (x ∷ xs) env f =
+      with_argument x e env (λ b. with_arguments es xs env (λ bs. f (b ∷ bs)))
   with_arguments no_expr (x ∷ xs) env f = clashes (NoValue NoElement)
   with_arguments (expr_then e es) [] env f = clashes (NoValue NoElement)
 
   abbrev pub called : Option Definition → ExprTrees → Bindings → Numbers → PickOutcome
-  called (Some d) es env n = with_arguments es d.parameters env (λ args. becomes (leaf (n.item 0) (Do d.formula args) none) 1)
+  called (Some d) es env n =
+      with_arguments es d.parameters env
+      (λ args. becomes (leaf (n.item 0) (Do d.formula args) none) 1)
   called None es env n = clashes (NoValue NoElement)
 
 -- Said in a state with this number of its own, where these facts are known.
@@ -250,28 +296,50 @@ module _ (defs : List Definition) (inputs : InputLines) (state : ℕ) (facts : L
   -- what a formula that is to hold from this state on becomes
   abbrev pub formula_step : FormulaTree → Bindings → Place → Numbers → PickOutcome
   formula_step trivial env p n = vanishes
-  formula_step (test e) env p n = with_truth (value_of defs facts e env) (λ b. if b then vanishes else clashes False)
-  formula_step (equation l r) env p n = equate facts (side_of defs facts l env) (side_of defs facts r env)
-  formula_step (next_equation k t e) env p n = with_value (value_of defs facts e env) (λ v. going p (leaf (n.item 0) (Later (nexts (k - 1) (equation t (known v))) env) none) 1)
+  formula_step (test e) env p n =
+      with_truth (value_of defs facts e env) (λ b. if b then vanishes else clashes False)
+  formula_step (equation l r) env p n =
+      equate facts (side_of defs facts l env) (side_of defs facts r env)
+  formula_step (next_equation k t e) env p n =
+      with_value (value_of defs facts e env)
+      (λ v. going p (leaf (n.item 0) (Later (nexts (k - 1) (equation t (known v))) env) none) 1)
   formula_step empty env p n = ending p
   formula_step more env p n = going p none 0
   formula_step (next f) env p n = going p (leaf (n.item 0) (Later f env) none) 1
-  formula_step (weak_next f) env p n = by_status p (becomes (leaf (n.item 0) (Later f env) none) 1) vanishes
-  formula_step (if_more f) env p n = by_status p (becomes (leaf (n.item 0) (Do f env) none) 1) vanishes
-  formula_step (if_empty f) env p n = by_status p vanishes (becomes (leaf (n.item 0) (Do f env) none) 1)
-  formula_step (always f) env p n = becomes (leaf (n.item 0) (Do f env) (leaf (n.item 1) (Do (weak_next (always f)) env) none)) 2
+  formula_step (weak_next f) env p n =
+      by_status p (becomes (leaf (n.item 0) (Later f env) none) 1) vanishes
+  formula_step (if_more f) env p n =
+      by_status p (becomes (leaf (n.item 0) (Do f env) none) 1) vanishes
+  formula_step (if_empty f) env p n =
+      by_status p vanishes (becomes (leaf (n.item 0) (Do f env) none) 1)
+  formula_step (always f) env p n =
+      becomes (leaf (n.item 0) (Do f env) (leaf (n.item 1) (Do (weak_next (always f)) env) none)) 2
   formula_step (conjunction fs) env p n = becomes (all_do fs env n.item 0) (count_of fs)
-  formula_step (branch e f g) env p n = with_truth (value_of defs facts e env) (λ b. becomes (leaf (n.item 0) (Do (if b then f else g) env) none) 1)
+  formula_step (branch e f g) env p n =
+      with_truth (value_of defs facts e env)
+      (λ b. becomes (leaf (n.item 0) (Do (if b then f else g) env) none) 1)
   formula_step (len e) env p n = with_number (value_of defs facts e env) (λ k. length_left k env n)
-  formula_step (assign t e) env p n = with_value (value_of defs facts e env) (λ v. becomes (leaf (n.item 0) (Do (always (if_empty (equation t (known v)))) env) none) 1)
-  formula_step (chop f g) env p n = with_region p.depth (split_then (n.item 1) (region_of n.region (n.item 0) f env) g env none) 2
-  formula_step (while e f) env p n = becomes (leaf (n.item 0) (Do (branch e (chop (conjunction (formulas_of (f ∷ more ∷ []))) (while e f)) empty) env) none) 1
-  formula_step (for_from name k e f) env p n = with_number (value_of defs facts e env) (λ m. turns name k m f env p n)
-  formula_step (forall_from name k e f) env p n = with_number (value_of defs facts e env) (λ m. instances name k m f env n)
-  formula_step (project f g) env p n = with_region p.depth (opened_then (n.item 1) (region_of n.region (n.item 0) g env) f env none) 2
+  formula_step (assign t e) env p n =
+      with_value (value_of defs facts e env)
+      (λ v. becomes (leaf (n.item 0) (Do (always (if_empty (equation t (known v)))) env) none) 1)
+  formula_step (chop f g) env p n =
+      with_region p.depth (split_then (n.item 1) (region_of n.region (n.item 0) f env) g env none) 2
+  formula_step (while e f) env p n =
+      becomes (leaf (n.item 0)
+      (Do (branch e (chop (conjunction (formulas_of (f ∷ more ∷ []))) (while e f)) empty) env) none)
+      1
+  formula_step (for_from name k e f) env p n =
+      with_number (value_of defs facts e env) (λ m. turns name k m f env p n)
+  formula_step (forall_from name k e f) env p n =
+      with_number (value_of defs facts e env) (λ m. instances name k m f env n)
+  formula_step (project f g) env p n =
+      with_region p.depth (opened_then (n.item 1) (region_of n.region (n.item 0) g env) f env none)
+      2
   formula_step (exists name lasting f) env p n =
       reduces (record {
-        news = leaf (n.item 0) (Do f (env ++ place_binding (record { var = record { number = n.local; lasting = lasting }; at = [] }) ∷ [])) none;
+        news = leaf (n.item 0)
+            (Do f (env ++ place_binding
+            (record { var = record { number = n.local; lasting = lasting }; at = [] }) ∷ [])) none;
         items = 1;
         regions = 0;
         local = Some (record { name = name; lasting = lasting });
@@ -279,22 +347,42 @@ module _ (defs : List Definition) (inputs : InputLines) (state : ℕ) (facts : L
         facts = [];
       })
   formula_step (call i es) env p n = called defs facts (slice_get defs i) es env n
-  formula_step (input x port) env p n = from_port facts (input_at inputs state port) port (side_of defs facts x env)
-  formula_step (display es) env p n = with_values defs facts es env (λ vs. becomes (leaf (n.item 0) (Shown vs) none) 1)
+  formula_step (input x port) env p n =
+      from_port facts (input_at inputs state port) port (side_of defs facts x env)
+  formula_step (display es) env p n =
+      with_values defs facts es env (λ vs. becomes (leaf (n.item 0) (Shown vs) none) 1)
 
   abbrev pub leaf_step : Leaf → Place → Numbers → PickOutcome
   leaf_step (Do f env) p n = formula_step f env p n
   leaf_step (Later f env) p n = rests
   leaf_step (Shown vs) p n = rests
 
-  -- What an item with a region becomes, by the place of that region's items. `held` and `second` are the regions.
+  -- What an item with a region becomes, by the place of that region's items. `held` and `second`
+  -- are the regions.
   abbrev pub holder_step : Holder → (held second : Region) → Place → Numbers → PickOutcome
-  holder_step (Split f env) held second q n = by_status q rests (becomes (closed_then (n.item 0) held (leaf (n.item 1) (Do f env) none)) 2)
-  holder_step (SplitProject f env) held second q n = by_status q rests (becomes (closed_then (n.item 0) held (opened_then (n.item 1) second f env none)) 2)
+  holder_step (Split f env) held second q n =
+      by_status q rests (becomes (closed_then (n.item 0) held (leaf (n.item 1) (Do f env) none)) 2)
+  holder_step (SplitProject f env) held second q n =
+      by_status q rests (becomes
+      (closed_then (n.item 0) held (opened_then (n.item 1) second f env none)) 2)
   holder_step Closed held second q n = rests
   holder_step (Opened f env) held second q n =
-      by_status q (with_inner (running_then (n.item 2) (record { head = new_head n.region; entries = leaf (n.item 0) (Do f env) (leaf (n.item 1) (Do more env) none) }) held f env none) 3) rests
+      by_status q (with_inner
+      (running_then (n.item 2)
+      (record {
+        head = new_head n.region;
+        entries = leaf (n.item 0) (Do f env) (leaf (n.item 1) (Do more env) none);
+      }) held f env
+      none) 3) rests
     where
       with_inner : Entries → ℕ → PickOutcome
-      with_inner news items = reduces (record { news = news; items = items; regions = 1; local = None; mark = None; facts = [] })
+      with_inner news items =
+          reduces (record {
+            news = news;
+            items = items;
+            regions = 1;
+            local = None;
+            mark = None;
+            facts = [];
+          })
   holder_step (Running f env) held second q n = rests

@@ -16,7 +16,8 @@ pub record AreFactsOf (names : List (List ℕ)) (facts : List Fact) : Type 0 whe
   pub no_clash : NoClash facts
   pub of_variables : AreOfVariables (map global_variable names) facts
 
--- What the text of a state tells: its number, the parts of its line, and the lists of values that are shown.
+-- What the text of a state tells: its number, the parts of its line, and the lists of values that
+-- are shown.
 pub record ToldState : Type 0 where
   pub state : ℕ
   pub parts : List LinePartTree
@@ -24,7 +25,9 @@ pub record ToldState : Type 0 where
 
 -- the state's number and its parts, as state 3: A=1 |L|=2
 abbrev pub state_line : (names : List (List ℕ)) → ToldState → List ℕ
-state_line names told = codes "state " ++ decimal told.state ++ codes ":" ++ flat_map (spaced_text names) told.parts ++ codes "\n"
+state_line names told =
+    codes "state " ++ decimal told.state ++ codes ":" ++ flat_map (spaced_text names) told.parts
+    ++ codes "\n"
 
 -- a value after a space
 abbrev pub shown_value : Tree → List ℕ
@@ -44,7 +47,12 @@ told_text names told = flat_map (told_lines names) told
 
 -- what is told of a picture: its number, what its facts come to, and what it shows
 abbrev pub told_of : Picture → ToldState
-told_of picture = record { state = picture.state; parts = line_parts picture.facts; shows = shows_of picture.shows }
+told_of picture =
+    record {
+      state = picture.state;
+      parts = line_parts picture.facts;
+      shows = shows_of picture.shows;
+    }
 
 -- the text of a settled state
 abbrev pub picture_lines : (names : List (List ℕ)) → Picture → List ℕ

@@ -1,4 +1,5 @@
--- What is known of a state's variables, in parts: whole values, and lengths of lists of which not all is known.
+-- What is known of a state's variables, in parts: whole values, and lengths of lists of which not
+-- all is known.
 use Rattle.std.specs.Prelude.{ℕ, Bool, true, false, nat_lt, eqb, ◌&&◌, ◌||◌, List, [], ◌∷◌, ◌++◌, length, All, IsTrue, Option, None, Some, if◌then◌else◌, codes}
 use Rattle.std.specs.List.{starts_with}
 use Rattle.std.specs.Fmt.{decimal}
@@ -12,8 +13,8 @@ use Rattle.tp_store.specs.Facts.{same_variable}
 use Rattle.tp_store.specs.Known.{Full, absent, undecided, too_long, value, full, is_lesser}
 use Rattle.tp_show.specs.Texts.{path_text}
 
--- a fact is before another: its variable's number is less, or it is of the same variable, and its indices are a part of the other's from the
--- start, or less where they first differ
+-- a fact is before another: its variable's number is less, or it is of the same variable, and its
+-- indices are a part of the other's from the start, or less where they first differ
 abbrev pub is_before : Fact → Fact → Bool
 is_before f g =
     let m = f.path.var.number in
@@ -54,22 +55,25 @@ shape_part p (Num n) = valued p (num n)
 shape_part p (Truth b) = valued p (truth b)
 shape_part p (Items n) = measured p n
 
--- The whole value at a fact's path, where it is known and within the limits on lists; else the fact, which is then the length of a list.
+-- The whole value at a fact's path, where it is known and within the limits on lists; else the
+-- fact, which is then the length of a list.
 abbrev pub known_part : Fact → Full → LinePartTree
 known_part f absent = shape_part f.path f.shape
 known_part f (undecided p) = shape_part f.path f.shape
 known_part f too_long = shape_part f.path f.shape
 known_part f (value t) = valued f.path t
 
--- What facts come to, where this is known of paths, after the value at `last`: a fact inside of that value makes no part, and each other one makes
--- one.
+-- What facts come to, where this is known of paths, after the value at `last`: a fact inside of
+-- that value makes no part, and each other one makes one.
 abbrev pub parts_by : (known : Path → Full) → (last : Option Path) → List Fact → List LinePartTree
 parts_by known last [] = []
 parts_by known last (f ∷ fs) =
     if is_written last f.path then parts_by known last fs
-    else known_part f (known f.path) ∷ parts_by known (if is_value (known f.path) then Some f.path else last) fs
+    else known_part f (known f.path)
+    ∷ parts_by known (if is_value (known f.path) then Some f.path else last) fs
 
--- What is known of the variables, in order: of each its value, or, where this isn't wholly known, what is known of it.
+-- What is known of the variables, in order: of each its value, or, where this isn't wholly known,
+-- what is known of it.
 abbrev pub line_parts : List Fact → List LinePartTree
 line_parts facts = parts_by (full facts) None facts
 

@@ -47,11 +47,14 @@ closing_text (Num n) = codes "=" ++ signed_decimal n
 closing_text (Truth b) = codes "=" ++ truth_text b
 closing_text (Items n) = codes "|=" ++ decimal n
 
--- `globals` are the names of the globals, and `known` are the variables of a store, of which the globals are the first
+-- `globals` are the names of the globals, and `known` are the variables of a store, of which the
+-- globals are the first
 module _ (globals : List (List ℕ)) (known : List Variable) where
   -- a global by its name, and a local by `local ` and the name that the store keeps for it
   abbrev pub variable_text : VarId → List ℕ
-  variable_text x = if nat_lt x.number (length globals) then global_name globals x.number else codes "local " ++ unwrap_or (name_of known x) []
+  variable_text x =
+      if nat_lt x.number (length globals) then global_name globals x.number
+      else codes "local " ++ unwrap_or (name_of known x) []
 
   -- as L[1], and local Y[1]
   abbrev pub variable_path_text : Path → List ℕ
@@ -82,7 +85,8 @@ shape_comes_first (Items a) (Items b) = nat_le a b
 abbrev pub comes_first : Fact → Fact → Bool
 comes_first a b =
     if nat_lt (length a.path.at) (length b.path.at) then true
-    else (if nat_lt (length b.path.at) (length a.path.at) then false else shape_comes_first a.shape b.shape)
+    else (if nat_lt (length b.path.at) (length a.path.at) then false
+    else shape_comes_first a.shape b.shape)
 
 abbrev pub pair_text : List ℕ → List ℕ → List ℕ
 pair_text first second = first ++ codes " and " ++ second

@@ -19,7 +19,9 @@ use Rattle.tp_show.specs.EndLine.{end_line}
 
 -- a letter, a digit, `_` or `-`: the bytes of names and of numbers
 abbrev pub is_word_byte : ℕ → Bool
-is_word_byte c = (nat_le 48 c && nat_le c 57) || (nat_le 65 c && nat_le c 90) || (nat_le 97 c && nat_le c 122) || (c == 95) || (c == 45)
+is_word_byte c =
+    (nat_le 48 c && nat_le c 57) || (nat_le 65 c && nat_le c 90) || (nat_le 97 c && nat_le c 122)
+    || (c == 95) || (c == 45)
 
 abbrev pub IsWord : List ℕ → Type 0
 IsWord [] = Unit {0}
@@ -28,7 +30,8 @@ IsWord (c ∷ cs) = IsTrue (is_word_byte c) × IsWord cs
 -- names of variables: each is a word, and none stands twice
 pub record AreNames (names : List (List ℕ)) : Type 0 where
   pub words : (i : ℕ) → i < length names → IsWord (global_name names i)
-  pub apart : (i j : ℕ) → i < length names → j < length names → global_name names i ≡ global_name names j → i ≡ j
+  pub apart : (i j : ℕ) → i < length names → j < length names
+      → global_name names i ≡ global_name names j → i ≡ j
 
 abbrev pub FitsIn64Bits : ℕ → Type 0
 FitsIn64Bits n = n < 2 ^ 64
@@ -70,7 +73,8 @@ HasPart values (measured p n) = shape_at_path p.at (values p.var.number) ≡ Som
 -- each state from position a on has the parts that are told of its turn
 abbrev pub AgreesWithTold : Course → ℕ → List ToldState → Type 0
 AgreesWithTold s a [] = Unit {0}
-AgreesWithTold s a (told ∷ more) = All (HasPart (s a).values) told.parts × AgreesWithTold s (suc a) more
+AgreesWithTold s a (told ∷ more) =
+    All (HasPart (s a).values) told.parts × AgreesWithTold s (suc a) more
 
 -- what is told to be shown, from position a on
 abbrev pub told_shows : ℕ → List ToldState → Shows
@@ -87,24 +91,36 @@ IsLastTurn (StateLimit states) = Unit {0}
 IsLastTurn (InputMissing state port) = Unit {0}
 IsLastTurn (Over state limit) = Unit {0}
 
--- the end line of a run with these globals: of some last answer, some variables that are known then, and some limit of reductions
+-- the end line of a run with these globals: of some last answer, some variables that are known
+-- then, and some limit of reductions
 abbrev pub IsEndLine : (globals : List (List ℕ)) → List ℕ → Type 0
-IsEndLine globals line = (known : List Variable) × (reductions : ℕ) × (turn : Turn) × IsLastTurn turn × (line ≡ end_line globals known reductions turn)
+IsEndLine globals line =
+    (known : List Variable) × (reductions : ℕ) × (turn : Turn) × IsLastTurn turn
+    × (line ≡ end_line globals known reductions turn)
 
--- What the lines of states tell before an end line is read back in one way only, and so is the end line.
+-- What the lines of states tell before an end line is read back in one way only, and so is the end
+-- line.
 abbrev pub TextsAreReadOnce : Type 0
-TextsAreReadOnce = (names : List (List ℕ)) → AreNames names → (told other : List ToldState) → All (IsToldOf names) told → All (IsToldOf names) other
-    → (end last : List ℕ) → IsEndLine names end → IsEndLine names last → told_text names told ++ end ≡ told_text names other ++ last → (told ≡ other) × (end ≡ last)
+TextsAreReadOnce =
+    (names : List (List ℕ)) → AreNames names → (told other : List ToldState)
+    → All (IsToldOf names) told → All (IsToldOf names) other
+    → (end last : List ℕ) → IsEndLine names end → IsEndLine names last
+    → told_text names told ++ end ≡ told_text names other ++ last
+    → (told ≡ other) × (end ≡ last)
 
--- What is told of facts in order and without a clash says as much as the facts: values agree with the one exactly where they agree with the other.
+-- What is told of facts in order and without a clash says as much as the facts: values agree with
+-- the one exactly where they agree with the other.
 abbrev pub PartsTellFacts : Type 0
-PartsTellFacts = (names : List (List ℕ)) (facts : List Fact) → AreFactsOf names facts → (values : ℕ → Tree) → AgreesWithAll values facts ↔ All (HasPart values) (line_parts facts)
+PartsTellFacts =
+    (names : List (List ℕ)) (facts : List Fact) → AreFactsOf names facts → (values : ℕ → Tree)
+    → AgreesWithAll values facts ↔ All (HasPart values) (line_parts facts)
 
 pub record TextsTell : Type 0 where
   pub once : TextsAreReadOnce
   pub facts : PartsTellFacts
 
--- a state of which these facts are known, in order and without a clash, of the variables with these names
+-- a state of which these facts are known, in order and without a clash, of the variables with these
+-- names
 pub record IsStateOf (names : List (List ℕ)) (picture : Picture) : Type 0 where
   pub facts : AreFactsOf names picture.facts
   pub range : IsPictureInRange picture
@@ -116,9 +132,16 @@ pub record Shown : Type 0 where
   pub shows : List (List Tree)
 
 abbrev pub shown_states : List Picture → List Shown
-shown_states pictures = map (λ (p : Picture). record { state = p.state; facts = p.facts; shows = shows_of p.shows }) pictures
+shown_states pictures =
+    map (λ (p : Picture). record { state = p.state; facts = p.facts; shows = shows_of p.shows })
+    pictures
 
--- Two runs with one text have the same states with the same facts and the same shows, and end in the same words.
+-- Two runs with one text have the same states with the same facts and the same shows, and end in
+-- the same words.
 abbrev pub TextShowsStates : Type 0
-TextShowsStates = (names : List (List ℕ)) → AreNames names → (ps qs : List Picture) → All (IsStateOf names) ps → All (IsStateOf names) qs
-    → (end last : List ℕ) → IsEndLine names end → IsEndLine names last → pictures_text names ps ++ end ≡ pictures_text names qs ++ last → (shown_states ps ≡ shown_states qs) × (end ≡ last)
+TextShowsStates =
+    (names : List (List ℕ)) → AreNames names → (ps qs : List Picture) → All (IsStateOf names) ps
+    → All (IsStateOf names) qs
+    → (end last : List ℕ) → IsEndLine names end → IsEndLine names last
+    → pictures_text names ps ++ end ≡ pictures_text names qs ++ last
+    → (shown_states ps ≡ shown_states qs) × (end ≡ last)

@@ -10,7 +10,8 @@ use Rattle.tp_value.specs.declared.value.Shape.TheVariants.{Items}
 use Rattle.tp_store.specs.Facts.{fact, facts_at, clash}
 use Rattle.tp_show.specs.declared.trace.NamedFact.{NamedFact}
 
--- a part of a state's line: the value at the path of a name and indices, or the length of the list there
+-- a part of a state's line: the value at the path of a name and indices, or the length of the list
+-- there
 pub data TracePart : Type 0 where
   has_value : (name at : List ℕ) → Tree → TracePart
   has_length : (name at : List ℕ) → ℕ → TracePart
@@ -26,7 +27,8 @@ path_in x at = record { var = x; at = at }
 abbrev pub fact_named : List ℕ → Fact → NamedFact
 fact_named name f = record { name = name; at = f.path.at; shape = f.shape }
 
--- The facts of the value, a list's length before the facts of its items and these in order; or the one fact that tells the length.
+-- The facts of the value, a list's length before the facts of its items and these in order; or the
+-- one fact that tells the length.
 abbrev pub part_facts : TracePart → List NamedFact
 part_facts (has_value name at t) = map (fact_named name) (facts_at (path_in some_variable at) t)
 part_facts (has_length name at n) = fact_named name (fact (path_in some_variable at) (Items n)) ∷ []
@@ -39,7 +41,8 @@ abbrev pub fact_in : VarId → NamedFact → Fact
 fact_in x f = fact (path_in x f.at) f.shape
 
 abbrev pub names_clash : NamedFact → NamedFact → Bool
-names_clash f g = bytes_eq f.name g.name && clash (fact_in some_variable f) (fact_in some_variable g)
+names_clash f g =
+    bytes_eq f.name g.name && clash (fact_in some_variable f) (fact_in some_variable g)
 
 -- some two of the facts clash
 abbrev pub have_clash : List NamedFact → Bool

@@ -16,7 +16,8 @@ abbrev pub AreNameBytes : List ℕ → Type 0
 AreNameBytes [] = Unit {0}
 AreNameBytes (b ∷ z) = (is_name_byte b ≡ true) × AreNameBytes z
 
--- the name of a variable: a letter, and then letters, digits and `_`; it isn't too long and is no word
+-- the name of a variable: a letter, and then letters, digits and `_`; it isn't too long and is no
+-- word
 pub record IsVariableName (name : List ℕ) : Type 0 where
   pub letter : is_ascii_alphabetic (slice_index name 0) ≡ true
   pub bytes : AreNameBytes name
@@ -26,7 +27,8 @@ pub record IsVariableName (name : List ℕ) : Type 0 where
 -- indices in brackets, one after another, as [1][02]
 pub data SpellsIndices : List ℕ → List ℕ → Type 0 where
   none : SpellsIndices [] []
-  index : (ds z is : List ℕ) → AreDigits ds → decimal_value ds ≤ index_limit → SpellsIndices z is → SpellsIndices (codes "[" ++ (ds ++ (codes "]" ++ z))) (decimal_value ds ∷ is)
+  index : (ds z is : List ℕ) → AreDigits ds → decimal_value ds ≤ index_limit → SpellsIndices z is
+      → SpellsIndices (codes "[" ++ (ds ++ (codes "]" ++ z))) (decimal_value ds ∷ is)
 
 -- a path: a name, and indices, which aren't too many, as L[1][2]
 pub record SpellsPath (text name at : List ℕ) : Type 0 where
@@ -38,20 +40,25 @@ pub record SpellsPath (text name at : List ℕ) : Type 0 where
 
 -- a part: a value as L[1]=<1, 2>, or a length as |L[1]|=2
 pub data SpellsPart : List ℕ → TracePart → Type 0 where
-  value : (path name at v : List ℕ) (t : Tree) → SpellsPath path name at → Spells v t → IsWithinLimits t → SpellsPart (path ++ (codes "=" ++ v)) (has_value name at t)
-  list_length : (path name at ds : List ℕ) → SpellsPath path name at → AreDigits ds → decimal_value ds ≤ length_limit
-      → SpellsPart ((codes "|" ++ (path ++ codes "|")) ++ (codes "=" ++ ds)) (has_length name at (decimal_value ds))
+  value : (path name at v : List ℕ) (t : Tree) → SpellsPath path name at → Spells v t
+      → IsWithinLimits t → SpellsPart (path ++ (codes "=" ++ v)) (has_value name at t)
+  list_length : (path name at ds : List ℕ) → SpellsPath path name at → AreDigits ds
+      → decimal_value ds ≤ length_limit
+      → SpellsPart ((codes "|" ++ (path ++ codes "|")) ++ (codes "=" ++ ds))
+      (has_length name at (decimal_value ds))
 
 -- parts, each after one space
 pub data SpellsParts : List ℕ → List TracePart → Type 0 where
   none : SpellsParts [] []
-  part : (s z : List ℕ) (p : TracePart) (ps : List TracePart) → SpellsPart s p → SpellsParts z ps → SpellsParts (codes " " ++ (s ++ z)) (p ∷ ps)
+  part : (s z : List ℕ) (p : TracePart) (ps : List TracePart) → SpellsPart s p → SpellsParts z ps
+      → SpellsParts (codes " " ++ (s ++ z)) (p ∷ ps)
 
 -- what the line of the state with this number begins with
 abbrev pub state_opening : ℕ → List ℕ
 state_opening number = codes "state " ++ (decimal number ++ codes ":")
 
--- the line of the state with this number, as state 2: A=1 |L|=2; its parts give these facts, of which no two clash
+-- the line of the state with this number, as state 2: A=1 |L|=2; its parts give these facts, of
+-- which no two clash
 pub record IsStateLine (number : ℕ) (line : List ℕ) (facts : List NamedFact) : Type 0 where
   pub rest : List ℕ
   pub opening : line ≡ state_opening number ++ rest
@@ -74,11 +81,15 @@ is_passed_over line = opens_with_one passed_openings line
 -- what the line begins with that ends the text of a run
 abbrev pub run_end_openings : List (List ℕ)
 run_end_openings =
-    codes "finished:" ∷ codes "contradictory:" ∷ codes "undetermined:" ∷ codes "state limit:" ∷ codes "reduction limit:" ∷ codes "number limit:" ∷ codes "list limit:" ∷ codes "call limit:" ∷ codes "nest limit:" ∷ codes "input missing:" ∷ []
+    codes "finished:" ∷ codes "contradictory:" ∷ codes "undetermined:" ∷ codes "state limit:"
+    ∷ codes "reduction limit:" ∷ codes "number limit:" ∷ codes "list limit:"
+    ∷ codes "call limit:" ∷ codes "nest limit:" ∷ codes "input missing:" ∷ []
 
 -- or that tells why there was no run
 abbrev pub refusal_openings : List (List ℕ)
-refusal_openings = codes "source refused:" ∷ codes "inputs refused:" ∷ codes "too long:" ∷ codes "read fault:" ∷ codes "words refused" ∷ []
+refusal_openings =
+    codes "source refused:" ∷ codes "inputs refused:" ∷ codes "too long:" ∷ codes "read fault:"
+    ∷ codes "words refused" ∷ []
 
 -- the line that ends a trace
 abbrev pub ends_trace : List ℕ → Bool

@@ -25,7 +25,8 @@ use Rattle.tp_show.specs.Trace.{IsTraceText}
 -- names of variables, of which none stands twice
 pub record AreVariableNames (names : List (List ℕ)) : Type 0 where
   pub each : All IsVariableName names
-  pub apart : (i j : ℕ) → i < length names → j < length names → global_name names i ≡ global_name names j → i ≡ j
+  pub apart : (i j : ℕ) → i < length names → j < length names
+      → global_name names i ≡ global_name names j → i ≡ j
 
 -- the index isn't too large
 abbrev pub IsWithinIndexLimit : ℕ → Type 0
@@ -54,10 +55,12 @@ pub record IsFactWithinLimits (f : Fact) : Type 0 where
 
 -- What is written of facts within the limits is within them too.
 abbrev pub FactsAreWrittenWithinLimits : Type 0
-FactsAreWrittenWithinLimits = (names : List (List ℕ)) (facts : List Fact) → AreFactsOf names facts → All IsFactWithinLimits facts → All IsPartWithinLimits (line_parts facts)
+FactsAreWrittenWithinLimits =
+    (names : List (List ℕ)) (facts : List Fact) → AreFactsOf names facts
+    → All IsFactWithinLimits facts → All IsPartWithinLimits (line_parts facts)
 
--- a picture whose line can be read as that of a state: its facts are those of the variables with these names, in order and without a clash, and what
--- is written of them is within the limits
+-- a picture whose line can be read as that of a state: its facts are those of the variables with
+-- these names, in order and without a clash, and what is written of them is within the limits
 pub record IsReadable (names : List (List ℕ)) (picture : Picture) : Type 0 where
   pub facts : AreFactsOf names picture.facts
   pub limits : All IsPartWithinLimits (line_parts picture.facts)
@@ -77,7 +80,8 @@ fed_line line = line ++ codes "\n"
 
 -- the picture's lines, and then the further ones
 abbrev pub printed_state_lines : (names : List (List ℕ)) → PrintedState → List ℕ
-printed_state_lines names printed = picture_lines names printed.picture ++ flat_map fed_line printed.further
+printed_state_lines names printed =
+    picture_lines names printed.picture ++ flat_map fed_line printed.further
 
 -- of several states
 abbrev pub printed_states_text : (names : List (List ℕ)) → List PrintedState → List ℕ
@@ -97,9 +101,13 @@ abbrev pub CountFrom : ℕ → List Picture → Type 0
 CountFrom n [] = Unit {0}
 CountFrom n (picture ∷ more) = (picture.state ≡ n) × CountFrom (suc n) more
 
--- the end line, on one line, of a run with these globals that gives some last answer; or nothing, where it goes on
+-- the end line, on one line, of a run with these globals that gives some last answer; or nothing,
+-- where it goes on
 abbrev pub IsEnding : (globals : List (List ℕ)) → List ℕ → Type 0
-IsEnding globals end = (known : List Variable) × (reductions : ℕ) × (turn : Turn) × IsOneLine (last_words globals known reductions turn) × (end ≡ end_line globals known reductions turn)
+IsEnding globals end =
+    (known : List Variable) × (reductions : ℕ) × (turn : Turn)
+    × IsOneLine (last_words globals known reductions turn)
+    × (end ≡ end_line globals known reductions turn)
 
 -- the port that the answer names, if it names one, has its name on one line
 abbrev pub NamesPortOnOneLine : Turn → Type 0
@@ -114,9 +122,13 @@ NamesPortOnOneLine (Over state limit) = Unit {0}
 abbrev pub HasNameOnOneLine : Variable → Type 0
 HasNameOnOneLine variable = IsOneLine variable.name
 
--- An end line stands on one line where the names that it may give do: those of the variables that are known, and that of a port.
+-- An end line stands on one line where the names that it may give do: those of the variables that
+-- are known, and that of a port.
 abbrev pub EndLinesAreOneLine : Type 0
-EndLinesAreOneLine = (names : List (List ℕ)) → AreVariableNames names → (known : List Variable) → All HasNameOnOneLine known → (reductions : ℕ) (turn : Turn) → NamesPortOnOneLine turn → IsOneLine (last_words names known reductions turn)
+EndLinesAreOneLine =
+    (names : List (List ℕ)) → AreVariableNames names → (known : List Variable)
+    → All HasNameOnOneLine known → (reductions : ℕ) (turn : Turn) → NamesPortOnOneLine turn
+    → IsOneLine (last_words names known reductions turn)
 
 -- the fact, told of its variable by the variable's name
 abbrev pub named_fact : (names : List (List ℕ)) → Fact → NamedFact
@@ -126,16 +138,23 @@ named_fact names f = fact_named (global_name names f.path.var.number) f
 abbrev pub named_facts : (names : List (List ℕ)) → Picture → List NamedFact
 named_facts names picture = map (named_fact names) picture.facts
 
--- The texts of one or more states with the numbers 0, 1, .., one after another, and then nothing or an end line, are a trace. Its states have the
--- facts of the pictures.
+-- The texts of one or more states with the numbers 0, 1, .., one after another, and then nothing or
+-- an end line, are a trace. Its states have the facts of the pictures.
 abbrev pub PrintedStatesAreTrace : Type 0
-PrintedStatesAreTrace = (names : List (List ℕ)) → AreVariableNames names → (states : List PrintedState) → All (IsPrinted names) states → CountFrom 0 (map (λ s. s.picture) states) → 0 < length states
-    → (end : List ℕ) → IsEnding names end → IsTraceText (printed_states_text names states ++ end) (map (λ s. named_facts names s.picture) states)
+PrintedStatesAreTrace =
+    (names : List (List ℕ)) → AreVariableNames names → (states : List PrintedState)
+    → All (IsPrinted names) states → CountFrom 0 (map (λ s. s.picture) states) → 0 < length states
+    → (end : List ℕ) → IsEnding names end
+    → IsTraceText (printed_states_text names states ++ end)
+    (map (λ s. named_facts names s.picture) states)
 
 -- The same of pictures with no further lines.
 abbrev pub PicturesAreTrace : Type 0
-PicturesAreTrace = (names : List (List ℕ)) → AreVariableNames names → (pictures : List Picture) → All (IsReadable names) pictures → CountFrom 0 pictures → 0 < length pictures
-    → (end : List ℕ) → IsEnding names end → IsTraceText (pictures_text names pictures ++ end) (map (named_facts names) pictures)
+PicturesAreTrace =
+    (names : List (List ℕ)) → AreVariableNames names → (pictures : List Picture)
+    → All (IsReadable names) pictures → CountFrom 0 pictures → 0 < length pictures
+    → (end : List ℕ) → IsEnding names end
+    → IsTraceText (pictures_text names pictures ++ end) (map (named_facts names) pictures)
 
 pub record TracesTellFacts : Type 0 where
   pub printed : PrintedStatesAreTrace
@@ -143,8 +162,8 @@ pub record TracesTellFacts : Type 0 where
   pub limits : FactsAreWrittenWithinLimits
   pub end_lines : EndLinesAreOneLine
 
--- What reading a text comes to that is of one or more such states, with further lines behind each or
--- without, and then nothing or an end line: it gives exactly the facts of the pictures, and is
+-- What reading a text comes to that is of one or more such states, with further lines behind each
+-- or without, and then nothing or an end line: it gives exactly the facts of the pictures, and is
 -- refused for want of memory alone.
 abbrev pub ReadsPrinted : List ℕ → Result (List (List NamedFact)) TraceRefusal → Type 0
 ReadsPrinted bytes result = (names : List (List ℕ)) → AreVariableNames names

@@ -30,11 +30,15 @@ all_digits (b ∷ z) = is_ascii_digit b && all_digits z
 
 -- the number that the whole text spells in digits, where it is within the limit
 abbrev pub digits_within : (limit : ℕ) → List ℕ → Option ℕ
-digits_within limit z = if nat_lt 0 (length z) && (all_digits z && nat_le (decimal_value z) limit) then Some (decimal_value z) else None
+digits_within limit z =
+    if nat_lt 0 (length z) && (all_digits z && nat_le (decimal_value z) limit)
+    then Some (decimal_value z) else None
 
 -- the index in brackets that comes first, and how many bytes it has with its brackets
 abbrev pub index_of_len : ℕ → List ℕ → Option (ℕ × ℕ)
-index_of_len n z = if nat_lt n (length z) then option_map (λ i. (i, suc (suc n))) (digits_within index_limit (take n z)) else None
+index_of_len n z =
+    if nat_lt n (length z)
+    then option_map (λ i. (i, suc (suc n))) (digits_within index_limit (take n z)) else None
 
 abbrev pub first_index : List ℕ → Option (ℕ × ℕ)
 first_index [] = None
@@ -42,7 +46,9 @@ first_index (b ∷ z) = if b == 91 then index_of_len (len_before 93 z) z else No
 
 -- a name whose bytes are letters, digits and `_` is one of a variable
 abbrev pub is_variable_name : List ℕ → Bool
-is_variable_name name = is_ascii_alphabetic (slice_index name 0) && (nat_le (length name) name_limit && is_none (spelled_word name))
+is_variable_name name =
+    is_ascii_alphabetic (slice_index name 0)
+    && (nat_le (length name) name_limit && is_none (spelled_word name))
 
 abbrev pub AreIndicesFound : List ℕ → Option (List ℕ) → Type 0
 AreIndicesFound z None = (at : List ℕ) → ¬ SpellsIndices z at
@@ -100,7 +106,9 @@ pub record IsLengthAt (path z : List ℕ) (p : TracePart) (rest : List ℕ) : Ty
 
 -- or either, by what stands in front of the `=`
 abbrev pub IsAround : (left z : List ℕ) → TracePart → List ℕ → Type 0
-IsAround left z p rest = IsValueAt left z p rest ⊎ ((path : List ℕ) × (left ≡ codes "|" ++ (path ++ codes "|")) × IsLengthAt path z p rest)
+IsAround left z p rest =
+    IsValueAt left z p rest
+    ⊎ ((path : List ℕ) × (left ≡ codes "|" ++ (path ++ codes "|")) × IsLengthAt path z p rest)
 
 -- a part of such a kind, and how many bytes it has
 abbrev pub IsFoundOf : (TracePart → List ℕ → Type 0) → List ℕ → Option (ReadPart × ℕ) → Type 0
@@ -154,4 +162,6 @@ abbrev pub IsKindOf : ℕ → List ℕ → LineKind → Type 0
 IsKindOf states line (State facts) = IsStateLine states line facts
 IsKindOf states line PassedOver = (0 < states) × (is_passed_over line ≡ true)
 IsKindOf states line End = (0 < states) × (ends_trace line ≡ true)
-IsKindOf states line Bad = ((facts : List NamedFact) → ¬ IsStateLine states line facts) × (0 < states → (is_passed_over line ≡ false) × (ends_trace line ≡ false))
+IsKindOf states line Bad =
+    ((facts : List NamedFact) → ¬ IsStateLine states line facts)
+    × (0 < states → (is_passed_over line ≡ false) × (ends_trace line ≡ false))

@@ -25,7 +25,8 @@ cost_in s deeper (suc n) t = suc (what_cost deeper (cost_in s deeper n) (slot_at
 
 abbrev pub region_cost : Slots → ℕ → (r : ℕ) → ℕ
 region_cost s zero r = 0
-region_cost s (suc n) r = sum_over (cost_in s (region_cost s n) (length s.slots)) (region_slot s r).roots
+region_cost s (suc n) r =
+    sum_over (cost_in s (region_cost s n) (length s.slots)) (region_slot s r).roots
 
 abbrev pub cost_of : Slots → ℕ → ℕ
 cost_of s t = cost_in s (region_cost s (length s.regions)) (length s.slots) t

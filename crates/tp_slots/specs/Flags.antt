@@ -13,13 +13,15 @@ set_flag r f q = eqb q r || f q
 
 -- The flag of each region is its status from within.
 abbrev pub FlagsAreRight : Slots → Side → Flags → Type 0
-FlagsAreRight s z f = (r : ℕ) → r < length s.regions → f r ≡ (marked z (head_at s r) || risen z (entries_at s r))
+FlagsAreRight s z f =
+    (r : ℕ) → r < length s.regions → f r ≡ (marked z (head_at s r) || risen z (entries_at s r))
 
 -- what rises, by the flags of the regions held
 abbrev pub risen_by : Side → Flags → Entries → Bool
 risen_by z f none = false
 risen_by z f (leaf id l rest) = risen_by z f rest
-risen_by z f (node id k h held g second rest) = (rises k z && f h.number) || ((second_lives k && f g.number) || risen_by z f rest)
+risen_by z f (node id k h held g second rest) =
+    (rises k z && f h.number) || ((second_lives k && f g.number) || risen_by z f rest)
 
 -- the same, a step at a time
 abbrev pub FlagHolds : Slots → Side → Flags → ℕ → Type 0
@@ -44,7 +46,8 @@ rises_from (bare l) r z = false
 rises_from (holds k p o) r z = (eqb p r && rises k z) || (second_lives k && is_second o r)
 rises_from (gone by) r z = false
 
--- What holds the region r lets through what the region around it is; it makes the region r so itself.
+-- What holds the region r lets through what the region around it is; it makes the region r so
+-- itself.
 abbrev pub sinks_in : What → (r : ℕ) → Side → Bool
 sinks_in (bare l) r z = true
 sinks_in (holds k p o) r z = cond (eqb p r) (sinks k z) true
@@ -61,7 +64,9 @@ flags_in xs q = get_or xs q false
 
 -- Flags hold but for the region r, which is so.
 abbrev pub Pending : Slots → Side → Flags → ℕ → Type 0
-Pending s z f r = ((q : ℕ) → q < length s.regions → (q ≡ r → ⊥) → FlagHolds s z f q) × ((marked z (head_at s r) || risen_by z f (entries_at s r)) ≡ true)
+Pending s z f r =
+    ((q : ℕ) → q < length s.regions → (q ≡ r → ⊥) → FlagHolds s z f q)
+    × ((marked z (head_at s r) || risen_by z f (entries_at s r)) ≡ true)
 
 -- the same after a step with that mark, on the mark's side
 abbrev pub FlagsFollow : Slots → Option Side → (home : ℕ) → Side → Flags → Type 0

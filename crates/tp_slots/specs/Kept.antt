@@ -20,7 +20,8 @@ pub record HasNumbers (s : Slots) : Type 0 where
   pub items : AreNumbers (length s.slots) (item_numbers (entries_at s 0))
   pub regions : AreNumbers (length s.regions) (0 ∷ region_numbers (entries_at s 0))
 
--- Numbers lead to greater ones, none stands twice, each item is read in its region, and each region knows what holds it.
+-- Numbers lead to greater ones, none stands twice, each item is read in its region, and each region
+-- knows what holds it.
 pub record IsShaped (s : Slots) (holders : List ℕ) : Type 0 where
   pub ordered : IsOrdered s
   pub numbers : HasNumbers s
@@ -31,7 +32,8 @@ pub record IsShaped (s : Slots) (holders : List ℕ) : Type 0 where
 abbrev pub IsQuiet : Slots → (holders : List ℕ) → Flags → Type 0
 IsQuiet s hs f = (r : ℕ) → r < length s.regions → lives_in s hs r ≡ false → f r ≡ false
 
--- And it is known what is visited after each item; the status that is kept with each region is right, and so is what was found of it.
+-- And it is known what is visited after each item; the status that is kept with each region is
+-- right, and so is what was found of it.
 pub record IsWellKept (s : Scene) : Type 0 where
   pub shape : IsShaped (slots_of s) (holders_of s)
   pub threads : AreThreaded (slots_of s) (afters_of s)

@@ -14,10 +14,14 @@ use Rattle.tp_slots.specs.declared.scene.Scene.{Scene}
 
 -- the region of the item t, and the one that it holds
 pub record IsShallow (s : Scene) (t : ℕ) : Type 0 where
-  pub stands : (place_outward (slots_of s) (holders_of s) (slot_at (slots_of s) t).home).depth ≤ region_limit
-  pub inside : IsHolding (slot_at (slots_of s) t).what → (place_outward (slots_of s) (holders_of s) (first_held (slot_at (slots_of s) t).what)).depth ≤ region_limit
+  pub stands : (place_outward (slots_of s) (holders_of s) (slot_at (slots_of s) t).home).depth
+      ≤ region_limit
+  pub inside : IsHolding (slot_at (slots_of s) t).what
+      → (place_outward (slots_of s) (holders_of s) (first_held (slot_at (slots_of s) t).what)).depth
+      ≤ region_limit
 
 abbrev pub PlacesAreShallow : Type 0
 PlacesAreShallow =
     (defs : List Definition) (kinds : List Bool) (variables : List Variable) (s : Scene) (t : ℕ)
-    → IsWellKept s → EntriesFit defs kinds variables (scene_of s).root.entries (root_place (scene_of s).root) → has t (scene_of s).root.entries ≡ true → IsShallow s t
+    → IsWellKept s → EntriesFit defs kinds variables (scene_of s).root.entries
+    (root_place (scene_of s).root) → has t (scene_of s).root.entries ≡ true → IsShallow s t

@@ -28,11 +28,15 @@ leads_to (gone by) r = false
 -- the region r is live, as far as so many regions outward
 abbrev pub lives_up : Slots → (holders : List ℕ) → ℕ → (r : ℕ) → Bool
 lives_up s hs zero r = eqb r 0
-lives_up s hs (suc n) r = eqb r 0 || (leads_to (slot_at s (holder_at hs r)).what r && lives_up s hs n (slot_at s (holder_at hs r)).home)
+lives_up s hs (suc n) r =
+    eqb r 0 || (leads_to (slot_at s (holder_at hs r)).what r
+    && lives_up s hs n (slot_at s (holder_at hs r)).home)
 
 abbrev pub lives_in : Slots → (holders : List ℕ) → (r : ℕ) → Bool
 lives_in s hs r = lives_up s hs r r
 
 -- each item is read in its region
 abbrev pub HasOwn : Slots → Type 0
-HasOwn s = (t : ℕ) → t < length s.slots → IsLive (slot_at s t).what → has_own t (entries_at s (slot_at s t).home) ≡ true
+HasOwn s =
+    (t : ℕ) → t < length s.slots → IsLive (slot_at s t).what
+    → has_own t (entries_at s (slot_at s t).home) ≡ true

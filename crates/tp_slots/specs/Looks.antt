@@ -16,17 +16,20 @@ look_at xs r = get_or xs r no_look
 abbrev pub look_in : Looks → (r : ℕ) → Look
 look_in k r = look_at k.found.items r
 
--- Where a depth was found of a region, it is live, and that deep. No look is of a later round than this one.
+-- Where a depth was found of a region, it is live, and that deep. No look is of a later round than
+-- this one.
 pub record AreKnown (s : Slots) (holders : List ℕ) (k : Looks) : Type 0 where
   pub begun : 0 < k.round
   pub few : length k.found.items ≤ length s.regions
-  pub known : (r : ℕ) → r < length s.regions → 0 < (look_in k r).depth → (lives_in s holders r ≡ true) × ((place_outward s holders r).depth ≡ (look_in k r).depth)
+  pub known : (r : ℕ) → r < length s.regions → 0 < (look_in k r).depth
+      → (lives_in s holders r ≡ true) × ((place_outward s holders r).depth ≡ (look_in k r).depth)
   pub past : (r : ℕ) → (look_in k r).open_in ≤ k.round
 
 -- And what was found not to end in this round doesn't.
 pub record LooksAreRight (s : Slots) (holders : List ℕ) (k : Looks) : Type 0 where
   pub known : AreKnown s holders k
-  pub not_ending : (r : ℕ) → r < length s.regions → (look_in k r).open_in ≡ k.round → (place_outward s holders r).is Ending ≡ false
+  pub not_ending : (r : ℕ) → r < length s.regions → (look_in k r).open_in ≡ k.round
+      → (place_outward s holders r).is Ending ≡ false
 
 -- the same after a step with that mark, before the next round
 abbrev pub LooksFollow : Slots → Option Side → (holders : List ℕ) → Looks → Type 0
@@ -36,7 +39,9 @@ LooksFollow s (Some Going) hs k = LooksAreRight s hs k
 
 -- The round is a later one, or nothing is known.
 abbrev pub IsNextRound : (old new : Looks) → Type 0
-IsNextRound old new = ((new.found.items ≡ old.found.items) × (old.round < new.round)) ⊎ ((new.found.items ≡ []) × (new.round ≡ 1))
+IsNextRound old new =
+    ((new.found.items ≡ old.found.items) × (old.round < new.round))
+    ⊎ ((new.found.items ≡ []) × (new.round ≡ 1))
 
 abbrev pub IsAfterMark : Side → (old new : Looks) → Type 0
 IsAfterMark Ending old new = IsNextRound old new

@@ -12,13 +12,18 @@ abbrev pub item_place : (t : ℕ) → Place → Entries → Place
 item_place t p none = p
 item_place t p (leaf id l rest) = cond (eqb id t) p (item_place t p rest)
 item_place t p (node id k h held g second rest) =
-    cond (eqb id t) p (cond (second_lives k && has t second) (item_place t (second_place g second p) second) (cond (has t held) (item_place t (held_place k h held p) held) (item_place t p rest)))
+    cond (eqb id t) p (cond (second_lives k && has t second)
+    (item_place t (second_place g second p) second)
+    (cond (has t held) (item_place t (held_place k h held p) held) (item_place t p rest)))
 
 -- what comes of picking what stands in a slot, in a region of that place
 abbrev pub what_step : Setting → List Fact → Slots → What → Place → Numbers → PickOutcome
 what_step w facts s (bare l) p n = leaf_step w.defs w.inputs w.state facts l p n
 what_step w facts s (holds k r q) p n =
-    holder_step w.defs w.inputs w.state facts k (record { head = head_at s r; entries = entries_at s r }) (record { head = other_head s q; entries = second_of (entries_at s) q }) (held_place k (head_at s r) (entries_at s r) p) n
+    holder_step w.defs w.inputs w.state facts k
+    (record { head = head_at s r; entries = entries_at s r })
+    (record { head = other_head s q; entries = second_of (entries_at s) q })
+    (held_place k (head_at s r) (entries_at s r) p) n
 what_step w facts s (gone by) p n = rests
 
 -- it holds a region
@@ -37,5 +42,7 @@ first_held (gone by) = 0
 abbrev pub held_step : Setting → List Fact → Slots → What → Place → Numbers → PickOutcome
 held_step w facts s (bare l) p n = rests
 held_step w facts s (holds k r q) p n =
-    holder_step w.defs w.inputs w.state facts k (record { head = head_at s r; entries = entries_at s r }) (record { head = other_head s q; entries = second_of (entries_at s) q }) p n
+    holder_step w.defs w.inputs w.state facts k
+    (record { head = head_at s r; entries = entries_at s r })
+    (record { head = other_head s q; entries = second_of (entries_at s) q }) p n
 held_step w facts s (gone by) p n = rests

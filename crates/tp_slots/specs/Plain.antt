@@ -2,7 +2,8 @@
 use Rattle.std.specs.Prelude.{◌≡◌, ℕ, zero, suc, ◌≤◌, ◌<◌, Bool, true, false, List, [], ◌∷◌, length, get_or, Option, Some, None}
 use Rattle.tp_scene.specs.Scene.{Head, no_region, Leaf, Holder, Split, SplitProject, Closed, Opened, Running, Entries, none, leaf, node, Scene}
 
--- What stands under an item's number: an item without a region; one that holds a region, or two; or the items that stand in its place, in order.
+-- What stands under an item's number: an item without a region; one that holds a region, or two; or
+-- the items that stand in its place, in order.
 pub data What : Type 0 where
   bare : Leaf → What
   holds : Holder → (held : ℕ) → (second : Option ℕ) → What
@@ -48,27 +49,36 @@ in_order each [] rest = rest
 in_order each (t ∷ ts) rest = each t (in_order each ts rest)
 
 -- what stands under the number t, in front of the rest
-abbrev pub of_what : Slots → (deeper : ℕ → Entries) → (each : ℕ → Entries → Entries) → (t : ℕ) → What → Entries → Entries
+abbrev pub of_what : Slots → (deeper : ℕ → Entries) → (each : ℕ → Entries → Entries) → (t : ℕ)
+    → What → Entries → Entries
 of_what s deeper each t (bare l) rest = leaf t l rest
-of_what s deeper each t (holds k r q) rest = node t k (head_at s r) (deeper r) (other_head s q) (second_of deeper q) rest
+of_what s deeper each t (holds k r q) rest =
+    node t k (head_at s r) (deeper r) (other_head s q) (second_of deeper q) rest
 of_what s deeper each t (gone by) rest = in_order each by rest
 
 -- the same, as far as so many replacements
 abbrev pub item_entries : Slots → (deeper : ℕ → Entries) → ℕ → (t : ℕ) → Entries → Entries
 item_entries s deeper zero t rest = rest
-item_entries s deeper (suc n) t rest = of_what s deeper (item_entries s deeper n) t (slot_at s t).what rest
+item_entries s deeper (suc n) t rest =
+    of_what s deeper (item_entries s deeper n) t (slot_at s t).what rest
 
 -- the entries of a region, as far as so many regions deep
 abbrev pub region_entries : Slots → ℕ → (r : ℕ) → Entries
 region_entries s zero r = none
-region_entries s (suc n) r = in_order (item_entries s (region_entries s n) (length s.slots)) (region_slot s r).roots none
+region_entries s (suc n) r =
+    in_order (item_entries s (region_entries s n) (length s.slots)) (region_slot s r).roots none
 
 abbrev pub entries_at : Slots → ℕ → Entries
 entries_at s r = region_entries s (length s.regions) r
 
 -- The scene: the root is region 0, and the next numbers are the lengths.
 abbrev pub scene_in : Slots → Scene
-scene_in s = record { root = record { head = head_at s 0; entries = entries_at s 0 }; next_item = length s.slots; next_region = length s.regions }
+scene_in s =
+    record {
+      root = record { head = head_at s 0; entries = entries_at s 0 };
+      next_item = length s.slots;
+      next_region = length s.regions;
+    }
 
 abbrev pub IsLive : What → Type 0
 IsLive (bare l) = Unit {0}
@@ -85,7 +95,8 @@ has_second (Running f env) = true
 -- Items of that region, with numbers from `from` on.
 abbrev pub AreIn : Slots → (from home : ℕ) → List ℕ → Type 0
 AreIn s from home [] = Unit {0}
-AreIn s from home (u ∷ us) = (from ≤ u) × (u < length s.slots) × ((slot_at s u).home ≡ home) × AreIn s from home us
+AreIn s from home (u ∷ us) =
+    (from ≤ u) × (u < length s.slots) × ((slot_at s u).home ≡ home) × AreIn s from home us
 
 -- a region inside has a greater number
 abbrev pub IsInner : Slots → (home r : ℕ) → Type 0
@@ -100,8 +111,10 @@ WhatFits s home t (bare l) = Unit {0}
 WhatFits s home t (holds k r q) = IsInner s home r × SecondFits s home k q
 WhatFits s home t (gone by) = AreIn s (suc t) home by
 
--- Numbers lead to greater ones: those of the items that stand in an item's place, and those of the regions that an item holds.
+-- Numbers lead to greater ones: those of the items that stand in an item's place, and those of the
+-- regions that an item holds.
 pub record IsOrdered (s : Slots) : Type 0 where
-  pub items : (t : ℕ) → t < length s.slots → ((slot_at s t).home < length s.regions) × WhatFits s (slot_at s t).home t (slot_at s t).what
+  pub items : (t : ℕ) → t < length s.slots
+      → ((slot_at s t).home < length s.regions) × WhatFits s (slot_at s t).home t (slot_at s t).what
   pub regions : (r : ℕ) → r < length s.regions → AreIn s 0 r (region_slot s r).roots
   pub root : 0 < length s.regions

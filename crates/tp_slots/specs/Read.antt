@@ -15,10 +15,12 @@ what_of (Do a) = plain.bare (S.Do (formula_of a) (env_of a))
 what_of (Later a) = plain.bare (S.Later (formula_of a) (env_of a))
 what_of (Shown values) = plain.bare (S.Shown (values_of values))
 what_of (Split left after) = plain.holds (S.Split (formula_of after) (env_of after)) left None
-what_of (SplitProject left outer piece) = plain.holds (S.SplitProject (formula_of piece) (env_of piece)) left (Some outer)
+what_of (SplitProject left outer piece) =
+    plain.holds (S.SplitProject (formula_of piece) (env_of piece)) left (Some outer)
 what_of (Closed closed) = plain.holds S.Closed closed None
 what_of (Opened outer piece) = plain.holds (S.Opened (formula_of piece) (env_of piece)) outer None
-what_of (Running inner outer piece) = plain.holds (S.Running (formula_of piece) (env_of piece)) inner (Some outer)
+what_of (Running inner outer piece) =
+    plain.holds (S.Running (formula_of piece) (env_of piece)) inner (Some outer)
 what_of (Gone first count) = plain.gone (range_with_len first count)
 
 abbrev pub slot_of : Slot → plain.Slot
@@ -28,13 +30,15 @@ abbrev pub region_slot_of : Region → plain.RegionSlot
 region_slot_of x = record { ends = x.ends; goes = x.goes; roots = x.roots.items }
 
 abbrev pub slots_of : Scene → plain.Slots
-slots_of s = record { slots = map slot_of s.slots.items; regions = map region_slot_of s.regions.items }
+slots_of s =
+    record { slots = map slot_of s.slots.items; regions = map region_slot_of s.regions.items }
 
 -- The scene that slots stand for.
 abbrev pub scene_of : Scene → S.Scene
 scene_of s = plain.scene_in (slots_of s)
 
--- Of each region what holds it, and whether it is known to end, or to go, by its marks or from within.
+-- Of each region what holds it, and whether it is known to end, or to go, by its marks or from
+-- within.
 abbrev pub holders_of : Scene → List ℕ
 holders_of s = map (λ x. x.holder) s.regions.items
 

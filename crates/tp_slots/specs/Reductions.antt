@@ -30,10 +30,19 @@ leaves_from n (w ∷ ws) = leaf n (leaf_in w) (leaves_from (n + 1) ws)
 
 -- these items stand in the item's place, and its region is marked so
 abbrev pub becomes_leaves : S.Scene → List What → Option Side → Reduction
-becomes_leaves s ws m = record { news = leaves_from s.next_item ws; items = length ws; regions = 0; local = None; mark = m; facts = [] }
+becomes_leaves s ws m =
+    record {
+      news = leaves_from s.next_item ws;
+      items = length ws;
+      regions = 0;
+      local = None;
+      mark = m;
+      facts = [];
+    }
 
 -- a left region with one item, and what follows it
-abbrev pub becomes_split : S.Scene → (left : FormulaTree) → Bindings → (after : FormulaTree) → Bindings → Reduction
+abbrev pub becomes_split : S.Scene → (left : FormulaTree) → Bindings → (after : FormulaTree)
+    → Bindings → Reduction
 becomes_split s f e g env = record {
   news = split_then (1 + s.next_item) (region_of s.next_region (0 + s.next_item) f e) g env none;
   items = 2;
@@ -44,7 +53,8 @@ becomes_split s f e g env = record {
 }
 
 -- an outer region with one item, and the piece that is to run in it
-abbrev pub becomes_opened : S.Scene → (outer : FormulaTree) → Bindings → (piece : FormulaTree) → Bindings → Reduction
+abbrev pub becomes_opened : S.Scene → (outer : FormulaTree) → Bindings → (piece : FormulaTree)
+    → Bindings → Reduction
 becomes_opened s f e g env = record {
   news = opened_then (1 + s.next_item) (region_of s.next_region (0 + s.next_item) f e) g env none;
   items = 2;
@@ -60,7 +70,9 @@ IsReduced s t = (w : Setting) × (k : Contents) × (r : Reduction) × (outcome_o
 
 -- and this scene is what its reduction leaves
 abbrev pub IsAfter : (t : ℕ) → (old new : S.Scene) → Type 0
-IsAfter t old new = (w : Setting) (k : Contents) (r : Reduction) → outcome_of w k old t ≡ reduces r → new ≡ scene_after t r old
+IsAfter t old new =
+    (w : Setting) (k : Contents) (r : Reduction) → outcome_of w k old t ≡ reduces r
+    → new ≡ scene_after t r old
 
 -- an item that can be reduced to what follows its region, or to its next piece
 abbrev pub CanMove : What → Type 0
@@ -90,7 +102,8 @@ abbrev pub moved_outs : What → (region : ℕ) → List What
 moved_outs (bare l) r = []
 moved_outs (holds (S.Split f env) p o) r = holds S.Closed p None ∷ bare (S.Do f env) ∷ []
 moved_outs (holds (S.SplitProject f env) p None) r = []
-moved_outs (holds (S.SplitProject f env) p (Some q)) r = holds S.Closed p None ∷ holds (S.Opened f env) q None ∷ []
+moved_outs (holds (S.SplitProject f env) p (Some q)) r =
+    holds S.Closed p None ∷ holds (S.Opened f env) q None ∷ []
 moved_outs (holds S.Closed p o) r = []
 moved_outs (holds (S.Opened f env) p o) r = holds (S.Running f env) r (Some p) ∷ []
 moved_outs (holds (S.Running f env) p o) r = []

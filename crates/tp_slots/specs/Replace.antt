@@ -16,10 +16,14 @@ abbrev pub gone_at : List Slot → (t : ℕ) → (by : List ℕ) → List Slot
 gone_at xs t by = slice_set xs t (record { home = home_in xs t; what = gone by })
 
 abbrev pub marked_at : List RegionSlot → (home : ℕ) → Option Side → List RegionSlot
-marked_at xs home m = slice_set xs home (marked_slot m (get_or xs home (record { ends = false; goes = false; roots = [] })))
+marked_at xs home m =
+    slice_set xs home (marked_slot m
+    (get_or xs home (record { ends = false; goes = false; roots = [] })))
 
--- The items `by` stand in place of the item t, whose region is marked so. These slots and regions are new.
-abbrev pub replaced : Slots → (t : ℕ) → (by : List ℕ) → Option Side → (news : List Slot) → (more : List RegionSlot) → Slots
+-- The items `by` stand in place of the item t, whose region is marked so. These slots and regions
+-- are new.
+abbrev pub replaced : Slots → (t : ℕ) → (by : List ℕ) → Option Side → (news : List Slot)
+    → (more : List RegionSlot) → Slots
 replaced s t by m news more =
     let home = (slot_at s t).home in
     record {
@@ -30,7 +34,8 @@ replaced s t by m news more =
 -- new slots from number n on, and new regions from number r on, fit
 abbrev pub NewFit : Slots → (n : ℕ) → List Slot → Type 0
 NewFit s n [] = Unit {0}
-NewFit s n (x ∷ xs) = ((x.home < length s.regions) × WhatFits s x.home n x.what) × NewFit s (suc n) xs
+NewFit s n (x ∷ xs) =
+    ((x.home < length s.regions) × WhatFits s x.home n x.what) × NewFit s (suc n) xs
 
 abbrev pub NewRegionsFit : Slots → (r : ℕ) → List RegionSlot → Type 0
 NewRegionsFit s r [] = Unit {0}

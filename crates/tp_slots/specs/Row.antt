@@ -26,15 +26,19 @@ abbrev pub begun : (from count : ℕ) → List RegionSlot
 begun n zero = []
 begun n (suc c) = record { ends = false; goes = false; roots = range_with_len n (suc c) } ∷ []
 
--- The items `inner` stand in a new region, if there are any, and the items `outs` in place of the item t, whose region is marked so.
+-- The items `inner` stand in a new region, if there are any, and the items `outs` in place of the
+-- item t, whose region is marked so.
 abbrev pub stepped : Slots → (t : ℕ) → Option Side → (inner outs : List What) → Slots
 stepped s t m inner outs =
     replaced s t (range_with_len (length s.slots + length inner) (length outs)) m
-    (slots_in (length s.regions) inner ++ slots_in (slot_at s t).home outs) (begun (length s.slots) (length inner))
+    (slots_in (length s.regions) inner ++ slots_in (slot_at s t).home outs)
+    (begun (length s.slots) (length inner))
 
 -- what holds each region then
 abbrev pub held_after : Slots → (inner outs : List What) → List ℕ → List ℕ
-held_after s inner outs hs = hold_all (length s.slots + length inner) outs (hs ++ map (λ x. 0) (begun (length s.slots) (length inner)))
+held_after s inner outs hs =
+    hold_all (length s.slots + length inner) outs
+    (hs ++ map (λ x. 0) (begun (length s.slots) (length inner)))
 
 -- each region that the item holds is one of so many
 abbrev pub AreBelow : (count : ℕ) → What → Type 0

@@ -43,10 +43,13 @@ first_in (t ∷ ts) = Some t
 abbrev pub first_waiting : Scene → List ℕ → Option ℕ
 first_waiting s ids = first_in (waiting_in s ids)
 
--- the live items of what stands in the slot of an item, itself among them; none where others stand in its place
+-- the live items of what stands in the slot of an item, itself among them; none where others stand
+-- in its place
 abbrev pub standing_in : Slots → (t : ℕ) → What → List ℕ
 standing_in s t (bare l) = t ∷ []
-standing_in s t (holds k r q) = (only_if (second_lives k) (live_items (second_of (entries_at s) q)) ++ live_items (entries_at s r)) ++ t ∷ []
+standing_in s t (holds k r q) =
+    (only_if (second_lives k) (live_items (second_of (entries_at s) q))
+    ++ live_items (entries_at s r)) ++ t ∷ []
 standing_in s t (gone by) = []
 
 abbrev pub standing : Scene → (t : ℕ) → What → List ℕ

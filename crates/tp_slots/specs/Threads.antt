@@ -27,12 +27,14 @@ abbrev pub AreLast : List (Option ℕ) → List ℕ → Type 0
 AreLast ns [] = Unit {0}
 AreLast ns (t ∷ ts) = (after_at ns t ≡ None) × AreLast ns ts
 
--- Of each item it is known what is visited after it, of what stands in the place of one with which its region began.
+-- Of each item it is known what is visited after it, of what stands in the place of one with which
+-- its region began.
 pub record AreThreaded (s : Slots) (ns : List (Option ℕ)) : Type 0 where
   pub items : (t : ℕ) → t < length s.slots → IsLinked ns t (slot_at s t).what
   pub roots : (r : ℕ) → r < length s.regions → AreLast ns (region_slot s r).roots
 
--- what is visited after so many new items, of which the first has this number: after each but the last the next one, and after that one `end`
+-- what is visited after so many new items, of which the first has this number: after each but the
+-- last the next one, and after that one `end`
 abbrev pub link : (from more : ℕ) → (end : Option ℕ) → Option ℕ
 link from zero end = end
 link from (suc n) end = Some (from + 1)

@@ -32,7 +32,8 @@ kind_in (gone by) = None
 abbrev pub held_decided : Slots → What → Numbers → HolderDecision → PickOutcome
 held_decided s (bare l) n d = rests
 held_decided s (holds k r q) n d =
-    holder_decided k (record { head = head_at s r; entries = entries_at s r }) (record { head = other_head s q; entries = second_of (entries_at s) q }) n d
+    holder_decided k (record { head = head_at s r; entries = entries_at s r })
+    (record { head = other_head s q; entries = second_of (entries_at s) q }) n d
 held_decided s (gone by) n d = rests
 
 -- a decision on an item of that kind
@@ -47,22 +48,30 @@ holder_outcome k s t d = held_decided (slots_of s) (item_what s t) (numbers_in k
 
 -- What was chosen for the item t stands for its outcome.
 abbrev pub IsChoice : Setting → Contents → Scene → (t : ℕ) → Choice → Type 0
-IsChoice w k s t (choice.Leaf d) = IsBare (item_what s t) × SetsVariables k.variables d × (outcome_in w k s t ≡ decided_outcome k.facts (numbers_in k s) d)
-IsChoice w k s t (choice.Holder d) = FitsHolder (item_what s t) d × (outcome_in w k s t ≡ holder_outcome k s t d)
+IsChoice w k s t (choice.Leaf d) =
+    IsBare (item_what s t) × SetsVariables k.variables d
+    × (outcome_in w k s t ≡ decided_outcome k.facts (numbers_in k s) d)
+IsChoice w k s t (choice.Holder d) =
+    FitsHolder (item_what s t) d × (outcome_in w k s t ≡ holder_outcome k s t d)
 
 -- Where the item t has this outcome, this is what a try of it answers and leaves.
 abbrev pub Carries : PickOutcome → (room : ℕ) → Moment → (t : ℕ) → Moment → Tried → Type 0
-Carries o room m t next tried = (w : Setting) → outcome_of w m.store m.scene t ≡ o → Tries w room m t next tried
+Carries o room m t next tried =
+    (w : Setting) → outcome_of w m.store m.scene t ≡ o → Tries w room m t next tried
 
--- The same of what a decision stands for, of what one on an item with a region does, and of a reduction that brings no fact, local or mark; whatever
--- is known.
+-- The same of what a decision stands for, of what one on an item with a region does, and of a
+-- reduction that brings no fact, local or mark; whatever is known.
 abbrev pub CarriesDecision : Decision → (room : ℕ) → (old new : Scene) → (t : ℕ) → Tried → Type 0
 CarriesDecision d room old new t tried =
-    (k : Contents) → NoClash k.facts → Carries (decided_outcome k.facts (numbers_in k old) d) room (moment_of old k) t (moment_of new k) tried
+    (k : Contents) → NoClash k.facts
+    → Carries (decided_outcome k.facts (numbers_in k old) d) room (moment_of old k) t
+    (moment_of new k) tried
 
-abbrev pub CarriesHolder : HolderDecision → (room : ℕ) → (old new : Scene) → (t : ℕ) → Tried → Type 0
+abbrev pub CarriesHolder : HolderDecision → (room : ℕ) → (old new : Scene) → (t : ℕ) → Tried
+    → Type 0
 CarriesHolder d room old new t tried =
-    (k : Contents) → NoClash k.facts → Carries (holder_outcome k old t d) room (moment_of old k) t (moment_of new k) tried
+    (k : Contents) → NoClash k.facts
+    → Carries (holder_outcome k old t d) room (moment_of old k) t (moment_of new k) tried
 
 -- a reduction that gives items and regions alone
 pub record GivesItemsAlone (r : Reduction) : Type 0 where
@@ -72,16 +81,19 @@ pub record GivesItemsAlone (r : Reduction) : Type 0 where
 
 abbrev pub CarriesMove : (room : ℕ) → (old new : Scene) → (t : ℕ) → Tried → Type 0
 CarriesMove room old new t tried =
-    (k : Contents) (r : Reduction) → NoClash k.facts → GivesItemsAlone r → Carries (reduces r) room (moment_of old k) t (moment_of new k) tried
+    (k : Contents) (r : Reduction) → NoClash k.facts → GivesItemsAlone r
+    → Carries (reduces r) room (moment_of old k) t (moment_of new k) tried
 
 -- Facts that were added are what a try of the item t answers, and it leaves no item in its place.
 abbrev pub CarriesFacts : List Fact → (old new : Scene) → (t : ℕ) → Tried → Type 0
 CarriesFacts facts old new t tried =
-    (room : ℕ) (k j : Contents) → 0 < room → HasAdded k facts None j → Carries (knows facts) room (moment_of old k) t (moment_of new j) tried
+    (room : ℕ) (k j : Contents) → 0 < room → HasAdded k facts None j
+    → Carries (knows facts) room (moment_of old k) t (moment_of new j) tried
 
 -- The item's outcome is what the decision stands for, by some setting and some store.
 abbrev pub IsHolderOutcome : Scene → (t : ℕ) → HolderDecision → Type 0
-IsHolderOutcome s t d = (w : Setting) × (k : Contents) × (outcome_in w k s t ≡ holder_outcome k s t d)
+IsHolderOutcome s t d =
+    (w : Setting) × (k : Contents) × (outcome_in w k s t ≡ holder_outcome k s t d)
 
 -- what a store says of adding facts, without adding them
 abbrev pub AllowsAddition : Addition → Result (Unit {0}) AddRefusal → Type 0

@@ -17,7 +17,8 @@ pub record WaitsFirst (w : Setting) (m : Moment) (item : ℕ) : Type 0 where
 
 -- At rest, settling names an item exactly where it is the first that waits.
 abbrev pub FirstWaitingIsNamed : Type 0
-FirstWaitingIsNamed = (w : Setting) (kinds : List Bool) (m : Moment) (item : ℕ) → IsSound w kinds m → AtRest w m
+FirstWaitingIsNamed =
+    (w : Setting) (kinds : List Bool) (m : Moment) (item : ℕ) → IsSound w kinds m → AtRest w m
     → settled m.scene ≡ waiting item ↔ WaitsFirst w m item
 
 -- Where it names none, no live item waits.

@@ -1,4 +1,5 @@
--- Checked programs and tables of inputs are printable, and what their runs print can be read by a trace.
+-- Checked programs and tables of inputs are printable, and what their runs print can be read by a
+-- trace.
 use Rattle.std.specs.Prelude.{ℕ, List, All, Ok}
 use Rattle.tp_lex.specs.declared.token.Token.{Token}
 use Rattle.tp_lex.specs.Tokens.{AreTokens}
@@ -25,31 +26,46 @@ use Rattle.tp_within.specs.Printable.{DefinitionIsPrintable, ProgramIsPrintable,
 
 -- Each name among the tokens of a text is a variable's name.
 abbrev pub TokenNamesAreOfVariables : Type 0
-TokenNamesAreOfVariables = (bytes : List ℕ) (tokens : List Token) → AreTokens bytes tokens → All IsVariableName (token_names tokens)
+TokenNamesAreOfVariables =
+    (bytes : List ℕ) (tokens : List Token) → AreTokens bytes tokens
+    → All IsVariableName (token_names tokens)
 
 -- A program that is made of a source with each name on one line is printable.
 abbrev pub CheckedProgramsArePrintable : Type 0
-CheckedProgramsArePrintable = (source : SourceTree) (program : ProgramTree) → ChecksTo source (Ok program) → All IsOneLine (source_names source) → ProgramIsPrintable program
+CheckedProgramsArePrintable =
+    (source : SourceTree) (program : ProgramTree) → ChecksTo source (Ok program)
+    → All IsOneLine (source_names source) → ProgramIsPrintable program
 
 -- So is a table of inputs.
 abbrev pub TablesArePrintable : Type 0
-TablesArePrintable = (bytes : List ℕ) (table : InputLines) → IsInputsText bytes table → InputsArePrintable table
+TablesArePrintable =
+    (bytes : List ℕ) (table : InputLines) → IsInputsText bytes table → InputsArePrintable table
 
--- A residual phrase stands on one line where the scene and the definitions are printable, and the variables' names do.
+-- A residual phrase stands on one line where the scene and the definitions are printable, and the
+-- variables' names do.
 abbrev pub ResidualsAreOneLine : Type 0
-ResidualsAreOneLine = (variables : List Variable) (definitions : List Definition) (s : Scene) → All HasNameOnOneLine variables → All DefinitionIsPrintable definitions → EntriesArePrintable s.root.entries → IsOneLine (residual_phrase variables definitions s)
+ResidualsAreOneLine =
+    (variables : List Variable) (definitions : List Definition) (s : Scene)
+    → All HasNameOnOneLine variables → All DefinitionIsPrintable definitions
+    → EntriesArePrintable s.root.entries → IsOneLine (residual_phrase variables definitions s)
 
--- what is written of the picture is within the limits, where its facts are those of the variables with these names, in order and without a clash
+-- what is written of the picture is within the limits, where its facts are those of the variables
+-- with these names, in order and without a clash
 abbrev pub IsWrittenWithinLimits : (names : List (List ℕ)) → Picture → Type 0
-IsWrittenWithinLimits names picture = AreFactsOf names picture.facts → All IsPartWithinLimits (line_parts picture.facts)
+IsWrittenWithinLimits names picture =
+    AreFactsOf names picture.facts → All IsPartWithinLimits (line_parts picture.facts)
 
--- Of a run: what is written of its states is within the limits, and the variables that are known at its end, and the port that its answer names, have
--- their names on one line.
-pub record RunIsPrintable (plan : Plan) (pictures : List Picture) (turn : Turn) (end : RunEndsWith plan pictures turn) : Type 0 where
+-- Of a run: what is written of its states is within the limits, and the variables that are known at
+-- its end, and the port that its answer names, have their names on one line.
+pub record RunIsPrintable (plan : Plan) (pictures : List Picture) (turn : Turn)
+    (end : RunEndsWith plan pictures turn) : Type 0 where
   pub limits : All (IsWrittenWithinLimits plan.program.globals) pictures
   pub variables : All HasNameOnOneLine (end_store plan pictures turn end).variables
   pub port : NamesPortOnOneLine turn
 
 -- Each run of a printable program with printable inputs is so.
 abbrev pub RunsArePrintable : Type 0
-RunsArePrintable = (plan : Plan) → ProgramIsPrintable plan.program → InputsArePrintable plan.inputs → (pictures : List Picture) (turn : Turn) (end : RunEndsWith plan pictures turn) → RunIsPrintable plan pictures turn end
+RunsArePrintable =
+    (plan : Plan) → ProgramIsPrintable plan.program → InputsArePrintable plan.inputs
+    → (pictures : List Picture) (turn : Turn) (end : RunEndsWith plan pictures turn)
+    → RunIsPrintable plan pictures turn end

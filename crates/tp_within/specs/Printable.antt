@@ -1,4 +1,5 @@
--- What can be printed so that a trace is read from it: names on one line, and numbers and paths within the limits.
+-- What can be printed so that a trace is read from it: names on one line, and numbers and paths
+-- within the limits.
 use Rattle.std.specs.Prelude.{List, [], ◌∷◌, All, IfSome}
 use Rattle.tp_value.specs.Number.{IsNumber}
 use Rattle.tp_value.specs.Limits.{HasNumbers, IsWithinLimits}
@@ -31,7 +32,8 @@ abbrev mutual
   ExprsArePrintable no_expr = Unit {0}
   ExprsArePrintable (expr_then e es) = ExprIsPrintable e × ExprsArePrintable es
 
--- each name in the formula, of a binder or a port, stands on one line; its expressions are printable, and so is the number that a loop is at
+-- each name in the formula, of a binder or a port, stands on one line; its expressions are
+-- printable, and so is the number that a loop is at
 abbrev mutual
   pub FormulaIsPrintable : FormulaTree → Type 0
   FormulaIsPrintable trivial = Unit {0}
@@ -46,13 +48,16 @@ abbrev mutual
   FormulaIsPrintable (if_empty f) = FormulaIsPrintable f
   FormulaIsPrintable (always f) = FormulaIsPrintable f
   FormulaIsPrintable (conjunction fs) = FormulasArePrintable fs
-  FormulaIsPrintable (branch e f g) = ExprIsPrintable e × FormulaIsPrintable f × FormulaIsPrintable g
+  FormulaIsPrintable (branch e f g) =
+      ExprIsPrintable e × FormulaIsPrintable f × FormulaIsPrintable g
   FormulaIsPrintable (len e) = ExprIsPrintable e
   FormulaIsPrintable (assign t e) = ExprIsPrintable t × ExprIsPrintable e
   FormulaIsPrintable (chop f g) = FormulaIsPrintable f × FormulaIsPrintable g
   FormulaIsPrintable (while e f) = ExprIsPrintable e × FormulaIsPrintable f
-  FormulaIsPrintable (for_from name k e f) = IsOneLine name × IsNumber k × ExprIsPrintable e × FormulaIsPrintable f
-  FormulaIsPrintable (forall_from name k e f) = IsOneLine name × IsNumber k × ExprIsPrintable e × FormulaIsPrintable f
+  FormulaIsPrintable (for_from name k e f) =
+      IsOneLine name × IsNumber k × ExprIsPrintable e × FormulaIsPrintable f
+  FormulaIsPrintable (forall_from name k e f) =
+      IsOneLine name × IsNumber k × ExprIsPrintable e × FormulaIsPrintable f
   FormulaIsPrintable (project f g) = FormulaIsPrintable f × FormulaIsPrintable g
   FormulaIsPrintable (exists name lasting f) = IsOneLine name × FormulaIsPrintable f
   FormulaIsPrintable (call p es) = ExprsArePrintable es
@@ -103,7 +108,9 @@ HolderIsPrintable (Running f env) = PhraseIsPrintable f env
 abbrev pub EntriesArePrintable : Entries → Type 0
 EntriesArePrintable none = Unit {0}
 EntriesArePrintable (leaf id l rest) = LeafIsPrintable l × EntriesArePrintable rest
-EntriesArePrintable (node id k h held g second rest) = HolderIsPrintable k × EntriesArePrintable held × EntriesArePrintable second × EntriesArePrintable rest
+EntriesArePrintable (node id k h held g second rest) =
+    HolderIsPrintable k × EntriesArePrintable held × EntriesArePrintable second
+    × EntriesArePrintable rest
 
 -- each value of a table of inputs is within the limits on numbers, items and depth
 abbrev pub LineIsPrintable : List InputPair → Type 0

@@ -16,7 +16,12 @@ plain_flag name = record (new_rule name) { long = Some name; action = Some SetTr
 
 -- a command that is given the words after its name, and knows neither `--help` nor `--version`
 abbrev pub bare_app : App
-bare_app = on_top (λ s. record s { no_binary_name = true; disable_help_flag = true; disable_version_flag = true }) (new_app (codes "tempura"))
+bare_app =
+    on_top (λ s. record s {
+      no_binary_name = true;
+      disable_help_flag = true;
+      disable_version_flag = true;
+    }) (new_app (codes "tempura"))
 
 -- the command line: MODE FILE [--inputs FILE] [--states N] [--reductions R] [--order O] [--trace]
 abbrev pub the_app : App

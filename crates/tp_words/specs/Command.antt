@@ -5,4 +5,13 @@ use Rattle.tp_words.specs.Words.{Wanted}
 
 -- what a command does, of whatever words
 abbrev pub wanted_by : Command → Wanted
-wanted_by c = record { mode = c.mode; file = string_bytes c.file; inputs = option_map string_bytes c.inputs; states = c.states; reductions = c.reductions; order = c.order; beside = c.beside }
+wanted_by c =
+    record {
+      mode = c.mode;
+      file = string_bytes c.file;
+      inputs = option_map string_bytes c.inputs;
+      states = c.states;
+      reductions = c.reductions;
+      order = c.order;
+      beside = c.beside;
+    }

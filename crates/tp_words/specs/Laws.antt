@@ -5,6 +5,9 @@ use Rattle.tp_words.specs.declared.mode.Mode.{Mode}
 use Rattle.tp_words.specs.Mode.{mode_text}
 use Rattle.tp_words.specs.Words.{wanted_of, usual_wanted}
 
--- a mode and the name of a file that doesn't begin with `-` (45) ask for this mode of this file, as usual
+-- a mode and the name of a file that doesn't begin with `-` (45) ask for this mode of this file, as
+-- usual
 abbrev pub TwoWordsAreEnough : Type 0
-TwoWordsAreEnough = (mode : Mode) (file : List ℕ) → IsUtf8 file → slice_index file 0 ≢ 45 → wanted_of (mode_text mode ∷ file ∷ []) ≡ Some (usual_wanted mode file)
+TwoWordsAreEnough =
+    (mode : Mode) (file : List ℕ) → IsUtf8 file → slice_index file 0 ≢ 45
+    → wanted_of (mode_text mode ∷ file ∷ []) ≡ Some (usual_wanted mode file)

@@ -1,4 +1,5 @@
--- The limits that words set: how many states a run settles, and how many reductions it makes in a state.
+-- The limits that words set: how many states a run settles, and how many reductions it makes in a
+-- state.
 use Rattle.std.specs.Prelude.{ℕ, List, Option, None, Some, nat_le, if◌then◌else◌, ◌&&◌}
 use Rattle.std.specs.Str.Parse.{digits_value}
 use Rattle.tp_words.specs.Numeral.{is_numeral}
@@ -23,7 +24,8 @@ limit_within n = if nat_le 1 n && nat_le n greatest_limit then Some n else None
 
 -- the limit that a text spells
 abbrev pub limit_spelled : List ℕ → Option ℕ
-limit_spelled text = if is_numeral limit_digits text then limit_within (digits_value 10 text) else None
+limit_spelled text =
+    if is_numeral limit_digits text then limit_within (digits_value 10 text) else None
 
 -- the limit where an option may have set one
 abbrev pub limit_set : ℕ → Option (List ℕ) → Option ℕ

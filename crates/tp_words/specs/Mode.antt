@@ -10,7 +10,9 @@ mode_text Print = codes "print"
 
 -- the mode with this name
 abbrev pub mode_named : List ℕ → Option Mode
-mode_named text = if bytes_eq text (mode_text Run) then Some Run else (if bytes_eq text (mode_text Print) then Some Print else None)
+mode_named text =
+    if bytes_eq text (mode_text Run) then Some Run
+    else (if bytes_eq text (mode_text Print) then Some Print else None)
 
 -- the mode that a word names
 abbrev pub mode_given : Option (List ℕ) → Option Mode

@@ -12,11 +12,15 @@ seed_digits = 20
 
 -- the seed that a text spells
 abbrev pub seed_spelled : List ℕ → Option ℕ
-seed_spelled text = if is_numeral seed_digits text && nat_lt (digits_value 10 text) (2 ^ 64) then Some (digits_value 10 text) else None
+seed_spelled text =
+    if is_numeral seed_digits text && nat_lt (digits_value 10 text) (2 ^ 64)
+    then Some (digits_value 10 text) else None
 
 -- the order with this name, or with this seed
 abbrev pub order_named : List ℕ → Option Order
-order_named text = if bytes_eq text (codes "first") then Some First else (if bytes_eq text (codes "last") then Some Last else option_map Seed (seed_spelled text))
+order_named text =
+    if bytes_eq text (codes "first") then Some First
+    else (if bytes_eq text (codes "last") then Some Last else option_map Seed (seed_spelled text))
 
 -- the order where an option may have set one
 abbrev pub order_set : Option (List ℕ) → Option Order

@@ -15,8 +15,9 @@ use Rattle.tp_words.specs.Limit.{limit_set, usual_states, usual_reductions}
 use Rattle.tp_words.specs.Mode.{mode_given}
 use Rattle.tp_words.specs.Order.{order_set}
 
--- what is done, and with which file; and of a run the file of the inputs, the limits on states and on the reductions in a state, the order in which it
--- takes its items, and what it writes beside each state
+-- what is done, and with which file; and of a run the file of the inputs, the limits on states and
+-- on the reductions in a state, the order in which it takes its items, and what it writes beside
+-- each state
 pub record Wanted : Type 0 where
   pub mode : Mode
   pub file : List ℕ
@@ -69,4 +70,13 @@ wanted_of words = if list_all is_utf8 words then wanted_of_texts words else None
 
 -- this mode with this file and nothing else said
 abbrev pub usual_wanted : Mode → List ℕ → Wanted
-usual_wanted mode file = record { mode = mode; file = file; inputs = None; states = usual_states; reductions = usual_reductions; order = First; beside = Nothing }
+usual_wanted mode file =
+    record {
+      mode = mode;
+      file = file;
+      inputs = None;
+      states = usual_states;
+      reductions = usual_reductions;
+      order = First;
+      beside = Nothing;
+    }
