@@ -22,7 +22,7 @@ module _ (plan : Plan) where
     pub states : pictures ≡ ps ++ later
     pub more : List ℕ
     pub picks_later : List (List ℕ)
-    pub picks : picks_of_run pictures end run ≡ made ++ (begun ++ more) ∷ picks_later
+    pub picks : picks_of_run plan pictures end run ≡ made ++ (begun ++ more) ∷ picks_later
     pub comes_to : P end
 
   -- No choice of picks is a dead end: however the first states were settled, and whatever was
@@ -32,7 +32,7 @@ module _ (plan : Plan) where
     pub run_goes_on : (ps : List Picture) (m : Moment) (leads : LeadsTo plan ps m)
         → length ps < plan.states
         → (begun : List ℕ) (there : Moment) → Leads (setting plan (length ps)) m begun there
-        → RunGoesOnFrom ps (picks_before ps m leads) begun P
+        → RunGoesOnFrom ps (picks_before plan ps m leads) begun P
     pub no_failure : (ps : List Picture) (turn : Turn) → RunEndsWith plan ps turn
         → FailsNowhere turn
 

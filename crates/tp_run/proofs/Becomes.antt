@@ -2,6 +2,8 @@
 use Rattle.std.proofs.Common.{◌≡◌, ℕ, suc, ◌<◌, ◌≤◌, Bool, List, [], ◌++◌, length, Option, refl, ap, ap₂, sym, ◌∙◌, subst, arith, inl, inr}
 use Rattle.std.proofs.lemmas.List.{length-map}
 use Rattle.tp_value.specs.Globals.{is_lower}
+use Rattle.tp_kernel.specs.Read.{definitions_of}
+use Rattle.tp_inputs.specs.Read.{lines_of}
 use Rattle.tp_kernel.specs.declared.formula.LimitKind.{LimitKind}
 use Rattle.tp_kernel.specs.declared.formula.LimitKind.TheVariants as limit
 use Rattle.tp_meaning.specs.Syntax.{Definition}
@@ -309,6 +311,15 @@ with_stand plan run next store stand h within orderly kept named = record {
   kept = kept;
   named = named;
 }
+
+-- a run reads its next state as its plan does
+abbrev pub read_with : Run → Setting
+read_with run = record { defs = definitions_of run.program.defs; inputs = lines_of run.inputs; state = run.state }
+
+pub run_setting : (plan : Plan) (run : Run) → IsRunOf plan run → read_with run ≡ setting plan run.state
+run_setting plan run h =
+    let make : List Definition → InputLines → Setting = λ ds ls. record { defs = ds; inputs = ls; state = run.state } in
+    ap₂ make (ap (λ (p : ProgramTree). p.defs) h.program) h.inputs
 
 -- how many variables a run's program has
 pub globals_are : (plan : Plan) (run : Run) → IsRunOf plan run → length run.program.globals ≡ globals_of plan

@@ -202,7 +202,7 @@ pub kept_there : (store : Contents) (a b : Moment) → a ≡ b → store ≡ a.s
 kept_there store a b e h = h ∙ ap (λ (z : Moment). z.store) e
 
 -- where a run ended stays the same by the moment of an equal end
-stands_there : (to : RunPlace) (turn : Turn) (a b : Moment) → a ≡ b → to.standing ≡ answered turn a → to.store ≡ a.store
+pub stands_there : (to : RunPlace) (turn : Turn) (a b : Moment) → a ≡ b → to.standing ≡ answered turn a → to.store ≡ a.store
     → (to.standing ≡ answered turn b) × (to.store ≡ b.store)
 stands_there to turn a b e stand store = (stand ∙ ap (answered turn) e, kept_there to.store a b e store)
 

@@ -5,15 +5,14 @@ use Rattle.tp_store.specs.Known.{Contents}
 use Rattle.tp_step.specs.declared.answer.Order.{Order}
 use Rattle.tp_step.specs.declared.answer.Ending.{Ending}
 use Rattle.tp_pass.specs.Follows.{FollowsOrder}
-use Rattle.tp_decide.specs.Decided.{setting_of}
 use Rattle.tp_show.specs.declared.turn.Picture.{Picture}
 use Rattle.tp_show.specs.declared.turn.Turn.{Turn}
 use Rattle.tp_show.specs.declared.turn.Turn.TheVariants.{Went, Finished, Contradictory, Undetermined, StateLimit, InputMissing, Over}
-use Rattle.tp_run.specs.declared.run.Settings.{Settings}
+use Rattle.tp_run.specs.declared.run.Run.{Run}
 use Rattle.tp_run.specs.States.{Plan, setting, Standing, open_at}
-use Rattle.tp_run.specs.Runs.{IsSettingsOf, RestTurns}
+use Rattle.tp_run.specs.Runs.{IsRunOf, RestTurns}
 use Rattle.tp_run.specs.Ordered.{EndsInOrder, IsNamedInOrder}
-use Rattle.tp_run.proofs.Becomes.{same_setting}
+use Rattle.tp_run.proofs.Becomes.{read_with, run_setting}
 
 -- what a closure in this order ended with, where nothing was picked before it
 pub ends_in_order : (w : Setting) (order o : Order) (room k : ℕ) (m last : Moment) (before after : List ℕ) (end e : Ending)
@@ -35,11 +34,11 @@ rest_named w v order room globals k m n old new standing store (StateLimit state
 rest_named w v order room globals k m n old new standing store (InputMissing state port) h = absurd h
 rest_named w v order room globals k m n old new standing store (Over state limit) h = absurd h
 
--- by the settings of a plan, as the plan says
-pub named_by_plan : (plan : Plan) (s : Settings) (m n : Moment) (turn : Turn) → IsSettingsOf plan s → open_at n ≡ open_at m
-    → IsNamedInOrder (setting_of s.setting) s.order s.limits.reductions n turn → IsNamedInOrder (setting plan s.setting.state) s.order plan.reductions m turn
-named_by_plan plan s m n turn h at named =
+-- as its plan says, where a run reads it
+pub named_by_plan : (plan : Plan) (run : Run) (m n : Moment) (turn : Turn) → IsRunOf plan run → open_at n ≡ open_at m
+    → IsNamedInOrder (read_with run) run.order run.limits.reductions n turn → IsNamedInOrder (setting plan run.state) run.order plan.reductions m turn
+named_by_plan plan run m n turn h at named =
     let same : n ≡ m = cc in
-    let a = subst (λ w. IsNamedInOrder w s.order s.limits.reductions n turn) (same_setting plan s h) named in
-    let b = subst (λ k. IsNamedInOrder (setting plan s.setting.state) s.order k n turn) h.reductions a in
-    subst (λ z. IsNamedInOrder (setting plan s.setting.state) s.order plan.reductions z turn) same b
+    let a = subst (λ w. IsNamedInOrder w run.order run.limits.reductions n turn) (run_setting plan run h) named in
+    let b = subst (λ k. IsNamedInOrder (setting plan run.state) run.order k n turn) h.reductions a in
+    subst (λ z. IsNamedInOrder (setting plan run.state) run.order plan.reductions z turn) same b

@@ -1,5 +1,5 @@
 -- One state, which begins alike in two runs: what its picks come to in both.
-use Rattle.std.proofs.Common.{◌≡◌, ◌⊎◌, inl, inr, ℕ, suc, ◌+◌, ◌<◌, Bool, List, [], ◌∷◌, length, refl, ap, sym, ◌∙◌, subst, arith}
+use Rattle.std.proofs.Common.{◌≡◌, ◌⊎◌, inl, inr, ℕ, suc, ◌<◌, Bool, List, [], ◌∷◌, length, refl, ap, sym, ◌∙◌, subst, arith}
 use Rattle.tp_meaning.specs.Interval.{kinds_of}
 use Rattle.tp_meaning.specs.Fits.{ProgramFits}
 use Rattle.tp_inputs.specs.Within.{InputsWithin}
@@ -20,7 +20,6 @@ use Rattle.tp_run.specs.States.{Plan, setting, IsPictureOf, StateGoesOn, StateEn
 use Rattle.tp_renaming.specs.Renaming.{renamed_cell}
 use Rattle.tp_renaming.specs.Alike.{Alike, SettlesAlike}
 use Rattle.tp_renaming.proofs.SettleAlike.{alike_moments_settle}
-use Rattle.tp_renaming.proofs.AdvanceAlike.{alike_moments_advance}
 use Rattle.tp_order.specs.Orders.{IsOrderly}
 use Rattle.tp_order.specs.States.{ClosesOneWay}
 use Rattle.tp_order.proofs.Orderly.{begins_orderly, advances_stay_orderly}

@@ -19,10 +19,11 @@ pub record StateAgrees (plan : Plan) (n : ℕ) (m : Moment) (new : Picture)
   pub goes : (p : Picture) (after : Moment) → StateGoesOn plan n m p after
       → (turn ≡ Went) × SamePicture p new
   pub ends : (p : Picture) → StateEnds plan n m p → (turn ≡ Finished n) × SamePicture p new
-  pub is_open : (cell : Cell) → n < plan.states → IsOpen (setting plan n) plan.reductions m cell
+  pub is_open : (cell : Cell) → n < plan.states
+      → IsOpen (setting plan n) plan.reductions m cell
       → (d : Cell) × (turn ≡ Undetermined n d) × SameCell (globals_of plan) cell d
-  pub fails : FailsIn n turn → (picks : List ℕ) (end : Moment)
-      → ¬ Closes (setting plan n) plan.reductions m picks end
+  pub fails : FailsIn n turn
+      → (picks : List ℕ) (end : Moment) → ¬ Closes (setting plan n) plan.reductions m picks end
 
 -- Some picks close state n, which begins with m; and each list of picks that can be made goes on to
 -- a rest that is alike, with as many picks in all, and meets no failure.
@@ -36,7 +37,8 @@ pub record ClosesFromEach (plan : Plan) (n : ℕ) (m : Moment) : Type 0 where
 -- Where the answer for a state is no failure, no choice of picks is a dead end there; a settled
 -- state takes as many as its picture says.
 abbrev pub HasNoDeadEnd : Plan → ℕ → Moment → Picture → Turn → Type 0
-HasNoDeadEnd plan n m new Went = (c : ClosesFromEach plan n m) × (new.reductions ≡ length c.picks)
+HasNoDeadEnd plan n m new Went =
+    (c : ClosesFromEach plan n m) × (new.reductions ≡ length c.picks)
 HasNoDeadEnd plan n m new (Finished k) =
     (c : ClosesFromEach plan n m) × (new.reductions ≡ length c.picks)
 HasNoDeadEnd plan n m new (Contradictory state clash) = Unit {0}

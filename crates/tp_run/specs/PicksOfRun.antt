@@ -51,7 +51,7 @@ module _ (plan : Plan) where
 
   -- the picks of the states with which a run begins
   abbrev pub picks_before : (ps : List Picture) (m : Moment) → LeadsTo plan ps m → List (List ℕ)
-  picks_before ps m leads = picks_led plan 0 (beginning_of plan) ps m leads
+  picks_before ps m leads = picks_led plan 0 beginning_of ps m leads
 
   -- and those of all states that a whole run begins, the last one too
   abbrev pub picks_of_run : (ps : List Picture) (turn : Turn) → RunEndsWith plan ps turn

@@ -1,4 +1,4 @@
-use Rattle.std.proofs.Common.{◌≡◌, ◌∙◌, ap₂, sym, subst, arith, refl}
+use Rattle.std.proofs.Common.{◌≡◌, ap₂, sym, subst, arith, refl}
 use Rattle.tp_kernel.specs.Read.{formula_tree}
 use Rattle.tp_check.specs.Program.{program_tree}
 use Rattle.tp_inputs.specs.Read.{lines_of}

@@ -12,28 +12,28 @@ pub returns-in_ok-made-in-Open-clause-means : goal.returns-in_ok-made-in-Open-cl
 returns-in_ok-made-in-Open-clause-means g c = λ plan h.
     let run = c.args.self.now in
     let made = c.in_ok-made-in-Open.made in
-    answer_means plan run h (moment_of c.in-Open.scene run.store) (ap (λ (s : Stand). stands_at s run.store) c.in-Open.ensures.value) c.args.picture.now c.make-made.new.picture c.make-made.new.store made.stand made.turn
+    answer_means plan run h (moment_of c.in-Open.scene run.store) (ap (λ (s : Stand). stands_at s run.store) c.in-Open.ensures.value) c.args.picture.now c.make.new.picture c.make.new.store made.stand made.turn
     (c.in_ok-made-in-Open.ensures.made plan (record { inputs = h.inputs; states = h.states; reductions = h.reductions; globals = c.len-globals.ensures ∙ globals_are plan run h; definitions = ap (λ (p : ProgramTree). p.defs) h.program }))
 
 pub returns-in_ok-made-in-Open-clause-agrees : goal.returns-in_ok-made-in-Open-clause-agrees
 returns-in_ok-made-in-Open-clause-agrees g c = λ plan h.
     let run = c.args.self.now in
     let made = c.in_ok-made-in-Open.made in
-    answer_agrees plan run h (moment_of c.in-Open.scene run.store) (ap (λ (s : Stand). stands_at s run.store) c.in-Open.ensures.value) c.args.picture.now c.make-made.new.picture c.make-made.new.store made.stand made.turn
+    answer_agrees plan run h (moment_of c.in-Open.scene run.store) (ap (λ (s : Stand). stands_at s run.store) c.in-Open.ensures.value) c.args.picture.now c.make.new.picture c.make.new.store made.stand made.turn
     (c.in_ok-made-in-Open.ensures.made plan (record { inputs = h.inputs; states = h.states; reductions = h.reductions; globals = c.len-globals.ensures ∙ globals_are plan run h; definitions = ap (λ (p : ProgramTree). p.defs) h.program }))
 
 pub returns-in_ok-made-in-Open-clause-no_dead_end : goal.returns-in_ok-made-in-Open-clause-no_dead_end
 returns-in_ok-made-in-Open-clause-no_dead_end g c = λ plan h.
     let run = c.args.self.now in
     let made = c.in_ok-made-in-Open.made in
-    answer_goes_on plan run h (moment_of c.in-Open.scene run.store) (ap (λ (s : Stand). stands_at s run.store) c.in-Open.ensures.value) c.args.picture.now c.make-made.new.picture c.make-made.new.store made.stand made.turn
+    answer_goes_on plan run h (moment_of c.in-Open.scene run.store) (ap (λ (s : Stand). stands_at s run.store) c.in-Open.ensures.value) c.args.picture.now c.make.new.picture c.make.new.store made.stand made.turn
     (c.in_ok-made-in-Open.ensures.made plan (record { inputs = h.inputs; states = h.states; reductions = h.reductions; globals = c.len-globals.ensures ∙ globals_are plan run h; definitions = ap (λ (p : ProgramTree). p.defs) h.program }))
 
 pub returns-in_ok-made-in-Open-clause-run : goal.returns-in_ok-made-in-Open-clause-run
 returns-in_ok-made-in-Open-clause-run g c = λ plan h.
     let run = c.args.self.now in
     let made = c.in_ok-made-in-Open.made in
-    run_kept plan run h (moment_of c.in-Open.scene run.store) (ap (λ (s : Stand). stands_at s run.store) c.in-Open.ensures.value) c.args.picture.now c.make-made.new.picture c.make-made.new.store made.stand made.turn
+    run_kept plan run h (moment_of c.in-Open.scene run.store) (ap (λ (s : Stand). stands_at s run.store) c.in-Open.ensures.value) c.args.picture.now c.make.new.picture c.make.new.store made.stand made.turn
     (c.in_ok-made-in-Open.ensures.made plan (record { inputs = h.inputs; states = h.states; reductions = h.reductions; globals = c.len-globals.ensures ∙ globals_are plan run h; definitions = ap (λ (p : ProgramTree). p.defs) h.program })) c.next_number-self.result c.next_number-self.ensures c.in_ok-made-in-Open.ensures.kept c.in_ok-made-in-Open.ensures.named.1
 
 pub returns-in_ok-made-in-Open-clause-variables : goal.returns-in_ok-made-in-Open-clause-variables
@@ -42,11 +42,11 @@ returns-in_ok-made-in-Open-clause-variables g c =
     let plan = c.requires.run.0 in
     let h = c.requires.run.1 in
     let made = c.in_ok-made-in-Open.made in
-    leaves_variables plan run (moment_of c.in-Open.scene run.store) refl c.args.picture.now c.make-made.new.picture (stands_at made.stand c.make-made.new.store) c.make-made.new.store made.turn
+    leaves_variables plan run (moment_of c.in-Open.scene run.store) refl c.args.picture.now c.make.new.picture (stands_at made.stand c.make.new.store) c.make.new.store made.turn
     (c.in_ok-made-in-Open.ensures.made plan (record { inputs = h.inputs; states = h.states; reductions = h.reductions; globals = c.len-globals.ensures ∙ globals_are plan run h; definitions = ap (λ (p : ProgramTree). p.defs) h.program }))
 
 pub returns-in_ok-made-in-Open-clause-in_order : goal.returns-in_ok-made-in-Open-clause-in_order
 returns-in_ok-made-in-Open-clause-in_order g c = λ plan m h at.
     let run = c.args.self.now in
     let there = ap (λ (s : Stand). stands_at s run.store) c.in-Open.ensures.value in
-    named_by_plan plan _ m (moment_of c.in-Open.scene run.store) c.in_ok-made-in-Open.made.turn (record { inputs = h.inputs; states = h.states; reductions = h.reductions; globals = c.len-globals.ensures ∙ globals_are plan run h; definitions = ap (λ (p : ProgramTree). p.defs) h.program }) (there ∙ at) c.in_ok-made-in-Open.ensures.in_order
+    named_by_plan plan run m (moment_of c.in-Open.scene run.store) c.in_ok-made-in-Open.made.turn h (there ∙ at) c.in_ok-made-in-Open.ensures.in_order

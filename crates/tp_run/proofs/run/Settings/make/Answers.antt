@@ -11,8 +11,8 @@ use Rattle.tp_run.proofs.Named.{ends_in_order, rest_named}
 use Rattle.tp_run.proofs.Becomes.{run_rests, run_reaches, run_clashes, run_misses, run_clashes_named, end_named}
 use Rattle.tp_run.proofs.run.Settings.make.Goals as goal
 
-pub returns-in_ok-made-in-Rest-clause-made : goal.returns-in_ok-made-in-Rest-clause-made
-returns-in_ok-made-in-Rest-clause-made g c = λ plan h.
+pub returns-in-Rest-clause-made : goal.returns-in-Rest-clause-made
+returns-in-Rest-clause-made g c = λ plan h.
     let made = c.in_ok-made-in-Rest.made in
     let count : c.len-reductions.result ≡ length c.close_by_passes.new.tally.picks = search rules in
     run_rests plan c.args.self.now h c.requires.within c.if-state-self.false (moment_of c.args.scene c.args.store.now) (moment_of c.close_by_passes.new.scene c.close_by_passes.new.store)
@@ -20,46 +20,46 @@ returns-in_ok-made-in-Rest-clause-made g c = λ plan h.
     c.len-reductions.result c.args.picture.now c.make_at_rest.new.picture (stands_at made.stand c.make_at_rest.new.store) c.make_at_rest.new.store made.turn
     c.no_tally-tally.ensures count c.in-Rest.is c.in_ok-made-in-Rest.ensures.made
 
-pub returns-in_ok-made-in-Over-clause-made : goal.returns-in_ok-made-in-Over-clause-made
-returns-in_ok-made-in-Over-clause-made g c = λ plan h.
+pub returns-clause-made : goal.returns-clause-made
+returns-clause-made g c = λ plan h.
     let made = c.in_ok-made-in-Over.made in
     run_reaches plan c.args.self.now h c.requires.within c.if-state-self.false (moment_of c.args.scene c.args.store.now) (moment_of c.close_by_passes.new.scene c.close_by_passes.new.store)
     c.no_tally-tally.result.picks c.close_by_passes.new.tally.picks c.in_ok-ending.ending c.in_ok-ending.ensures.closes c.args.picture.now (stands_at made.stand c.close_by_passes.new.store) made.turn
     (kinds_of c.requires.sound.0.program.globals) (c.in_ok-ending.ensures.sound _ c.requires.sound.2) c.in-Over.limit
     c.in-Over.is (ap (λ (s : Stand). stands_at s c.close_by_passes.new.store) c.in_ok-made-in-Over.ensures.stand) c.in_ok-made-in-Over.ensures.turn
 
-pub returns-in_ok-made-in-Clash-clause-made : goal.returns-in_ok-made-in-Clash-clause-made
-returns-in_ok-made-in-Clash-clause-made g c = λ plan h.
+pub returns-in-Clash-clause-made : goal.returns-in-Clash-clause-made
+returns-in-Clash-clause-made g c = λ plan h.
     let made = c.in_ok-made-in-Clash.made in
     run_clashes plan c.args.self.now h c.requires.within c.if-state-self.false (moment_of c.args.scene c.args.store.now) (moment_of c.close_by_passes.new.scene c.close_by_passes.new.store)
     c.no_tally-tally.result.picks c.close_by_passes.new.tally.picks c.in_ok-ending.ending c.in_ok-ending.ensures.closes c.args.picture.now (stands_at made.stand c.close_by_passes.new.store) made.turn
     c.in-Clash.clash c.in-Clash.is (ap (λ (s : Stand). stands_at s c.close_by_passes.new.store) c.in_ok-made-in-Clash.ensures.stand) c.in_ok-made-in-Clash.ensures.turn
 
-pub returns-in_ok-made-in-Missing-clause-made : goal.returns-in_ok-made-in-Missing-clause-made
-returns-in_ok-made-in-Missing-clause-made g c = λ plan h.
+pub returns-in-Missing-clause-made : goal.returns-in-Missing-clause-made
+returns-in-Missing-clause-made g c = λ plan h.
     let made = c.in_ok-made-in-Missing.made in
     run_misses plan c.args.self.now h c.requires.within c.if-state-self.false (moment_of c.args.scene c.args.store.now) (moment_of c.close_by_passes.new.scene c.close_by_passes.new.store)
     c.no_tally-tally.result.picks c.close_by_passes.new.tally.picks c.in_ok-ending.ending c.in_ok-ending.ensures.closes c.args.picture.now (stands_at made.stand c.close_by_passes.new.store) made.turn
     c.in-Missing.port c.in-Missing.is (ap (λ (s : Stand). stands_at s c.close_by_passes.new.store) c.in_ok-made-in-Missing.ensures.stand) c.in_ok-made-in-Missing.ensures.turn
 
-pub returns-in_ok-made-in-Clash-clause-named : goal.returns-in_ok-made-in-Clash-clause-named
-returns-in_ok-made-in-Clash-clause-named g c =
+pub returns-in-Clash-clause-named : goal.returns-in-Clash-clause-named
+returns-in-Clash-clause-named g c =
     let n = c.args.self.now.setting.state in
     end_named c.close_by_passes.new.store.variables c.in_ok-made-in-Clash.made (Contradictory n c.in-Clash.clash) c.close_by_passes.new.scene c.in_ok-made-in-Clash.ensures.stand c.in_ok-made-in-Clash.ensures.turn
     (run_clashes_named c.requires.sound.0 c.args.self.now c.requires.sound.1 c.requires.within c.if-state-self.false (moment_of c.args.scene c.args.store.now) (moment_of c.close_by_passes.new.scene c.close_by_passes.new.store)
     c.no_tally-tally.result.picks c.close_by_passes.new.tally.picks c.in_ok-ending.ending c.in_ok-ending.ensures.closes
     (kinds_of c.requires.sound.0.program.globals) (c.in_ok-ending.ensures.sound _ c.requires.sound.2) c.in-Clash.clash c.in-Clash.is)
 
-pub returns-in_ok-made-in-Rest-clause-in_order : goal.returns-in_ok-made-in-Rest-clause-in_order
-returns-in_ok-made-in-Rest-clause-in_order g c =
+pub returns-in-Rest-clause-in_order : goal.returns-in-Rest-clause-in_order
+returns-in-Rest-clause-in_order g c =
     let s = c.args.self.now in
     let made = c.in_ok-made-in-Rest.made in
     rest_named (setting_of s.setting) (setting_of s.setting) s.order s.limits.reductions s.globals c.len-reductions.result (moment_of c.args.scene c.args.store.now)
     (moment_of c.close_by_passes.new.scene c.close_by_passes.new.store) c.args.picture.now c.make_at_rest.new.picture (stands_at made.stand c.make_at_rest.new.store)
     c.make_at_rest.new.store made.turn c.in_ok-made-in-Rest.ensures.made
 
-pub returns-in_ok-made-in-Clash-clause-in_order : goal.returns-in_ok-made-in-Clash-clause-in_order
-returns-in_ok-made-in-Clash-clause-in_order g c =
+pub returns-in-Clash-clause-in_order : goal.returns-in-Clash-clause-in_order
+returns-in-Clash-clause-in_order g c =
     let s = c.args.self.now in
     let m = moment_of c.args.scene c.args.store.now in
     let last = moment_of c.close_by_passes.new.scene c.close_by_passes.new.store in
@@ -67,8 +67,8 @@ returns-in_ok-made-in-Clash-clause-in_order g c =
     refl refl c.no_tally-tally.ensures c.in-Clash.is in
     subst (IsNamedInOrder (setting_of s.setting) s.order s.limits.reductions m) (sym c.in_ok-made-in-Clash.ensures.turn) end
 
-pub returns-in_ok-made-in-Missing-clause-in_order : goal.returns-in_ok-made-in-Missing-clause-in_order
-returns-in_ok-made-in-Missing-clause-in_order g c =
+pub returns-in-Missing-clause-in_order : goal.returns-in-Missing-clause-in_order
+returns-in-Missing-clause-in_order g c =
     let s = c.args.self.now in
     let m = moment_of c.args.scene c.args.store.now in
     let last = moment_of c.close_by_passes.new.scene c.close_by_passes.new.store in
@@ -76,8 +76,8 @@ returns-in_ok-made-in-Missing-clause-in_order g c =
     refl refl c.no_tally-tally.ensures c.in-Missing.is in
     subst (IsNamedInOrder (setting_of s.setting) s.order s.limits.reductions m) (sym c.in_ok-made-in-Missing.ensures.turn) end
 
-pub returns-in_ok-made-in-Over-clause-in_order : goal.returns-in_ok-made-in-Over-clause-in_order
-returns-in_ok-made-in-Over-clause-in_order g c =
+pub returns-clause-in_order : goal.returns-clause-in_order
+returns-clause-in_order g c =
     let s = c.args.self.now in
     let m = moment_of c.args.scene c.args.store.now in
     let last = moment_of c.close_by_passes.new.scene c.close_by_passes.new.store in
