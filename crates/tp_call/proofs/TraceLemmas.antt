@@ -192,5 +192,5 @@ module _ (words : List (List ℕ)) (held : Option Held) (old new : Option (List 
         says = run.says;
         text = r.0;
         appended = r.2;
-        beside = is_trace files told result r.0 run;
+        trace = is_trace files told result r.0 run;
       }
