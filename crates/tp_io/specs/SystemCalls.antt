@@ -33,9 +33,9 @@ IsFaultOf k fault.NoMemory = k ≡ kind.OutOfMemory
 IsFaultOf k fault.Failed = (k ≢ kind.Interrupted) × (k ≢ kind.OutOfMemory)
 
 -- what is left of the open file; without one nothing is
-abbrev pub left_of : {F : Type 0} → (F → Option (List ℕ)) → Option F → Option (List ℕ)
-left_of remaining None = Some []
-left_of remaining (Some f) = remaining f
+abbrev pub unread_in : {F : Type 0} → (F → Option (List ℕ)) → Option F → Option (List ℕ)
+unread_in remaining None = Some []
+unread_in remaining (Some f) = remaining f
 
 -- the calls so far after these, where they are told
 abbrev pub and_these : {X : Type 0} → Option (List X) → List X → Option (List X)
@@ -80,15 +80,15 @@ ReadsOpen most calls (Err file.NoMemory) = (n : ℕ)
     × (OneMoreRead most calls n (Err fault.NoMemory) ⊎ HaveRead most calls n)
 
 -- why a file that wasn't opened couldn't be read
-abbrev pub refusal_of : CallFault → FileRefusal
-refusal_of fault.Interrupted = file.Failed
-refusal_of fault.NoMemory = file.NoMemory
-refusal_of fault.Failed = file.Failed
+abbrev pub refusal_of_fault : CallFault → FileRefusal
+refusal_of_fault fault.Interrupted = file.Failed
+refusal_of_fault fault.NoMemory = file.NoMemory
+refusal_of_fault fault.Failed = file.Failed
 
 -- The calls that read the file with this name, which is opened by the first of them alone.
-abbrev pub ReadsFile : List ℕ → ℕ → List FileCall → Result (List ℕ) FileRefusal → Type 0
-ReadsFile name most calls result =
-    ((f : CallFault) × (calls ≡ open_call name (Some f) ∷ []) × (result ≡ Err (refusal_of f)))
+abbrev pub ReadsByCalls : List ℕ → ℕ → List FileCall → Result (List ℕ) FileRefusal → Type 0
+ReadsByCalls name most calls result =
+    ((f : CallFault) × (calls ≡ open_call name (Some f) ∷ []) × (result ≡ Err (refusal_of_fault f)))
     ⊎ ((reads : List FileCall) × (calls ≡ open_call name None ∷ reads)
     × ReadsOpen most reads result)
 

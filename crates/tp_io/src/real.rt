@@ -2,7 +2,7 @@
 ghost use Rattle.std.specs.Prelude.{◌≡◌, ◌≤◌, ◌<◌, ◌++◌, ℕ, List, Option, length, take, drop, None, IfOk, IfSome, OnOk, OnErr, IsErrOf, false};
 ghost use Rattle.std.specs.Io.KnownBytes.{Appends, Consumes, IsAtEnd, Keeps};
 ghost use Rattle.tp_io.specs.Devices.{Reads, Rose, AppendsPart, next_count, reads_failed_after, writes_failed_after, last_count};
-ghost use Rattle.tp_io.specs.SystemCalls.{FileCall, WriteCall, ReadsFile, ReadsOpen, WritesPiece, OneRead, OneWrite, and_these, refusal_of};
+ghost use Rattle.tp_io.specs.SystemCalls.{FileCall, WriteCall, ReadsByCalls, ReadsOpen, WritesPiece, OneRead, OneWrite, and_these, refusal_of_fault};
 
 use crate::system::{CallFault, SystemFiles, SystemWriter};
 use crate::{FileRefusal, Files, Sink, WriteRefusal};
@@ -53,7 +53,7 @@ fn one_more(faults: u64) -> u64
 }
 
 fn file_refusal(fault: CallFault) -> FileRefusal
-    ensures { result ≡ refusal_of fault }
+    ensures { result ≡ refusal_of_fault fault }
 {
     match fault {
         CallFault::Interrupted | CallFault::Failed => FileRefusal::Failed,
@@ -131,7 +131,7 @@ fn open_and_read<C: SystemFiles>(
 ) -> Result<Bytes, FileRefusal>
     ensures calls { (calls : List FileCall)
         × (C.calls system.new ≡ and_these (C.calls system.old) calls)
-        × ReadsFile name.now most calls result }
+        × ReadsByCalls name.now most calls result }
     ensures held { C.held system.new ≡ C.held system.old }
     ensures bytes { IfOk result (Reads (C.held system.old) name.now most) }
     ensures opened { IfOk result (λ bytes.
@@ -205,7 +205,7 @@ impl<C: SystemFiles> Files for RealFiles<C> {
 
         ensures calls { (calls : List FileCall)
             × (C.calls self.new.system ≡ and_these (C.calls self.old.system) calls)
-            × ReadsFile name.now most calls result }
+            × ReadsByCalls name.now most calls result }
         ensures opened { IfOk result (λ bytes.
             (file : C) × IfSome (C.remaining file) (λ all. bytes ≡ take most all)) }
         ensures count { self.new.faults ≡ reads_failed_after last_count self.old.faults result }

@@ -107,13 +107,13 @@ fn fault_of(error: &io::Error) -> CallFault
 
 impl<R: rt::Files> SystemFiles for RuntimeFiles<R> {
     ghost use Rattle.std.specs.Prelude.{None, Some, []};
-    ghost use Rattle.tp_io.specs.SystemCalls.{left_of};
+    ghost use Rattle.tp_io.specs.SystemCalls.{unread_in};
 
     ghost calls = { λ _. None };
 
     ghost held = { λ _. None };
 
-    ghost remaining = { λ s. left_of R.File.remaining s.file };
+    ghost remaining = { λ s. unread_in R.File.remaining s.file };
 
     fn open(&mut self, name: &str) -> Result<(), CallFault> {
         let file = fs::open(&self.runtime, name).map_err(|e| fault_of(&e))?;
