@@ -1,5 +1,5 @@
 // What several tests make.
-ghost use Rattle.std.specs.Prelude.{◌≡◌, IfOk};
+ghost use Rattle.std.specs.Prelude.{◌≡◌, IfOk, false};
 ghost use Rattle.tp_show.specs.Parts.{line_parts};
 ghost use Rattle.tp_show.specs.Read.{plain_parts};
 
