@@ -14,7 +14,7 @@ HasParts picture = plain_parts picture.parts ≡ line_parts picture.facts
 parts_stay : (plan : Plan) (from to : RunPlace) (old new : Picture) (answer : Turn) → AnswersState plan from old new to answer → HasParts old → HasParts new
 parts_stay plan from to old new answer made parts = at from.standing made where
   at : (standing : Standing) → AnswersState plan (record { standing = standing; state = from.state; store = from.store }) old new to answer → HasParts new
-  at (answered last) a = subst HasParts (sym a.1) parts
+  at (answered last ended) a = subst HasParts (sym a.1) parts
   at spent a = absurd a
   at (open_at moment) a = by answer a.0 where
     by : (turn : Turn) → StateBecomes plan from.state moment old new to.standing to.store turn → HasParts new
