@@ -121,7 +121,12 @@ class Maker(Expressions, Changes):
         if not parts:
             parts = [equation(('index', name(v), number(0)), self.small())]
         whole = conjunction(parts)
-        return [self.pick(whole, ('always', whole), ('keep', whole))] if self.odds(0.6) else parts
+        if not self.odds(0.6):
+            return parts
+        chosen = self.pick(whole, ('always', whole), ('keep', whole))
+        # what is read there may be known in the first state alone
+        self.is_whole = self.is_whole and chosen is whole
+        return [chosen]
 
     def each_item(self, place, here, there):
         """A list of a steady length, each item by a rule of its own."""
