@@ -7,17 +7,7 @@ cell without a shape is free. Meaning is asked of cells that are known in part: 
 in cells without a shape, and none is left out whose shapes are tried.
 """
 
-EMPTY = frozenset()
-SHOWS_NOTHING = frozenset([()])
-DOMAIN = (0, 1, 2, 'true', 'false', ('list', 0), ('list', 1))
-
-
-class Need(Exception):
-    """A cell is read that has no shape. `forced`: no other shape than this one can make the formula true."""
-
-    def __init__(self, cell, hints=(), forced=None):
-        super().__init__()
-        self.cell, self.hints, self.forced = cell, hints, forced
+from needs import EMPTY, SHOWS_NOTHING, Need, all_of, all_of_apart, any_of, merged, rising, woven
 
 
 class OutOfWork(Exception):
@@ -52,59 +42,30 @@ def spelled(value):
     return '<' + ','.join(spelled(item) for item in value) + '>' if isinstance(value, tuple) else str(value)
 
 
-def merged(needs):
-    """The need to go on with where several parts have to hold: one with a single shape first."""
-    for need in needs:
-        if need.forced is not None:
-            return need
-    first = needs[0]
-    hints = set(first.hints)
-    for need in needs[1:]:
-        if need.cell == first.cell:
-            hints.update(need.hints)
-    return Need(first.cell, tuple(hints))
-
-
-def all_of(parts):
-    """Parts that all have to hold: what is shown by each, in order."""
-    found, needs = [], []
-    for part in parts:
-        try:
-            shows = part()
-        except Need as need:
-            needs.append(need)
-            continue
-        if not shows:
-            return EMPTY
-        found.append(shows)
-    if needs:
-        raise merged(needs)
-    result = SHOWS_NOTHING
-    for shows in found:
-        if shows is not SHOWS_NOTHING:
-            result = frozenset(a + b for a in result for b in shows)
-    return result
-
-
-def any_of(choices):
-    """Choices of which one has to hold: what is shown by any of them."""
-    found, needs = set(), []
-    for choice in choices:
-        try:
-            found |= choice()
-        except Need as need:
-            needs.append(need)
-    if not needs:
-        return frozenset(found)
-    if len(needs) == 1 and not found:
-        raise needs[0]
-    hints = set()
-    for need in needs:
-        if need.cell == needs[0].cell:
-            hints.update(need.hints)
-            if need.forced is not None:
-                hints.add(need.forced)
-    raise Need(needs[0].cell, tuple(hints))
+def computed(name, a, b):
+    """What an operator gives of two values; None where it has no value."""
+    if name == '+' and isinstance(a, tuple) and isinstance(b, tuple):
+        return a + b
+    if not is_number(a) or not is_number(b):
+        return None
+    if name == '+':
+        return a + b
+    if name == '-':
+        return a - b
+    if name == '*':
+        return a * b
+    if name == 'div':
+        return a // b if b else None
+    if name == 'mod':
+        return a % b if b else None
+    if name == '<':
+        return truth(a < b)
+    if name == '<=':
+        return truth(a <= b)
+    if name == '>':
+        return truth(a > b)
+    assert name == '>=', name
+    return truth(a >= b)
 
 
 class World:
@@ -251,28 +212,7 @@ class World:
             if is_number(a):
                 raise Need(need.cell, tuple(need.hints) + (a - 1, a, a + 1))
             raise
-        if name == '+' and isinstance(a, tuple) and isinstance(b, tuple):
-            return a + b
-        if not is_number(a) or not is_number(b):
-            return None
-        if name == '+':
-            return a + b
-        if name == '-':
-            return a - b
-        if name == '*':
-            return a * b
-        if name == 'div':
-            return a // b if b else None
-        if name == 'mod':
-            return a % b if b else None
-        if name == '<':
-            return truth(a < b)
-        if name == '<=':
-            return truth(a <= b)
-        if name == '>':
-            return truth(a > b)
-        assert name == '>=', name
-        return truth(a >= b)
+        return computed(name, a, b)
 
     def same(self, left, left_state, right, right_state, env, calls, has_to):
         """Whether both sides have one value; None where one has none. `has_to`: nothing holds where they differ."""
@@ -536,101 +476,3 @@ class World:
     def holds_call(self, phrase, states, env, where, calls):
         body, bindings = self.called(phrase, states[0], env, calls)
         return EMPTY if bindings is None else self.holds(body, states, bindings, (where, 0), calls + 1)
-
-
-def rising(last):
-    """All rows of cuts that rise from 0 to last."""
-    rows = [(0,)]
-    for cut in range(1, last + 1):
-        rows += [row + (cut,) for row in rows] if cut < last else []
-    return [row + (last,) for row in rows] if last else rows
-
-
-def all_of_apart(parts):
-    """As all_of, but what each part shows stays apart."""
-    found = all_of([lambda part=part, i=i: frozenset([((i, shows),) for shows in part()]) for i, part in enumerate(parts)])
-    return frozenset(tuple(shows for _, shows in row) for row in found)
-
-
-def woven(shows, cuts):
-    """At a cut: what the piece shows that ends, then what the right side shows, then the piece that begins."""
-    pieces, right = shows[:-1], shows[-1]
-    row = ()
-    for k, cut in enumerate(cuts):
-        row += tuple(entry for entry in right if entry[0] == cut)
-        row += pieces[k] if k < len(pieces) else ()
-    return row
-
-
-# -- the intervals that satisfy ---------------------------------------------------------------------------------------
-
-
-def shapes_for(need, cells, hints, every):
-    """The shapes that are tried for a cell; `every`: also those that can't make the formula true."""
-    if need.forced is not None and not every:
-        return [need.forced]
-    variable, state, path = need.cell
-    inside = [other[2][len(path)] for other in cells
-              if other[0] == variable and other[1] == state and len(other[2]) > len(path) and other[2][:len(path)] == path]
-    if inside:
-        return [('list', max(inside) + 1), ('list', max(inside) + 2)]
-    wanted = list(DOMAIN)
-    for shape in (need.forced,) + tuple(need.hints) + tuple(hints.get(need.cell, ())):
-        if shape is not None and shape not in wanted:
-            wanted.append(shape)
-    return wanted
-
-
-class Search:
-    """Looks through intervals with at most so many looks in all; `whole` tells whether that was enough."""
-
-    def __init__(self, world, looks, hints):
-        self.world, self.looks, self.hints, self.whole = world, looks, hints, True
-
-    def look(self, cells, length):
-        self.looks -= 1
-        self.world.cells = cells
-        try:
-            return self.world.shows(length)
-        except (OutOfWork, RecursionError):
-            self.whole = False
-            return EMPTY
-
-    def satisfying(self, length, cells, only_locals=False):
-        """The intervals of this length with these cells that satisfy, each with its cells and what it can show. With
-        `only_locals` a variable of the program's that is asked for is raised."""
-        waiting = [cells]
-        while waiting:
-            if self.looks <= 0:
-                self.whole = False
-                return
-            here = waiting.pop()
-            try:
-                shows = self.look(here, length)
-            except Need as need:
-                if only_locals and isinstance(need.cell[0], str):
-                    raise
-                for shape in reversed(shapes_for(need, here, self.hints, False)):
-                    waiting.append({**here, need.cell: shape})
-                continue
-            if shows:
-                yield here, shows
-
-    def failing(self, length, cells):
-        """An interval of this length with these cells that doesn't satisfy, or None; and all that the others can show."""
-        waiting, shown = [cells], set()
-        while waiting and self.looks > 0:
-            here = waiting.pop()
-            found = self.world.cut_short = False
-            try:
-                for _, shows in self.satisfying(length, here, only_locals=True):
-                    found = True
-                    shown |= shows
-            except Need as need:
-                for shape in reversed(shapes_for(need, here, self.hints, True)):
-                    waiting.append({**here, need.cell: shape})
-                continue
-            if not found and self.whole and not self.world.cut_short:
-                return here, shown
-        self.whole = self.whole and not waiting
-        return None, shown

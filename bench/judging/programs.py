@@ -2,135 +2,12 @@
 
 import random
 
+from changes import Changes, conjunction, number
+from expressions import KIND_OF, NUMBERS, Expressions, Known, equation, name, operator
 from written import source
 
-NUMBERS, TRUTHS, LISTS = 'ABCDN', 'PQR', 'LM'
-KIND_OF = {**{v: 'number' for v in NUMBERS + 'n' + 'm'}, **{v: 'truth' for v in TRUTHS + 'b'},
-           **{v: 'list' for v in LISTS + 't'}}
-
-
-def name(n):
-    return ('name', n)
-
-
-def number(n):
-    return ('number', n)
-
-
-def operator(o, a, b):
-    return ('operator', o, a, b)
-
-
-def equation(a, b):
-    return operator('=', a, b)
-
-
-def conjunction(parts):
-    return parts[0] if len(parts) == 1 else ('conjunction', parts) if parts else ('true',)
-
-
-class Known:
-    """What can be read: names that are known in the first state, those known in each state, and bound numbers."""
-
-    def __init__(self, now=(), steady=(), bound=()):
-        self.now, self.steady, self.bound = set(now), set(steady), set(bound)
-
-    def each(self):
-        return Known(self.steady, self.steady, self.bound)
-
-    def also(self, now=(), steady=(), bound=()):
-        return Known(self.now | set(now) | set(steady), self.steady | set(steady), self.bound | set(bound))
-
-
-class Maker:
-    def __init__(self, chance, with_inputs=True):
-        self.chance, self.with_inputs = chance, with_inputs
-        self.definitions, self.inputs, self.fresh, self.is_whole = {}, {}, 0, True
-
-    def pick(self, *choices):
-        return self.chance.choice(choices)
-
-    def odds(self, share):
-        return self.chance.random() < share
-
-    def small(self, most=3):
-        return number(self.chance.randint(0, most))
-
-    # -- expressions -----------------------------------------------------------------------------------------------
-
-    def of_kind(self, kind, known):
-        names = sorted(v for v in known.now if KIND_OF.get(v[0]) == kind)
-        if kind == 'number':
-            names += sorted(known.bound)
-        return names
-
-    def expression(self, kind, known, depth=2):
-        return getattr(self, kind)(known, depth)
-
-    def number(self, known, depth):
-        names = self.of_kind('number', known)
-        if depth <= 0 or self.odds(0.4):
-            return name(self.pick(*names)) if names and self.odds(0.75) else self.small()
-        chosen = self.chance.random()
-        if chosen < 0.5:
-            o = self.pick('+', '+', '-', '*')
-            return operator(o, self.number(known, depth - 1), self.number(known, depth - 1))
-        if chosen < 0.62:
-            return operator(self.pick('mod', 'div'), self.number(known, depth - 1), number(self.pick(2, 3, 2, -2)))
-        if chosen < 0.76:
-            return ('if', self.truth(known, depth - 1), self.number(known, depth - 1), self.number(known, depth - 1))
-        if chosen < 0.82:
-            return ('negative', self.number(known, depth - 1))
-        if chosen < 0.9 and self.of_kind('list', known):
-            of = name(self.pick(*self.of_kind('list', known)))
-            return ('size', of) if self.odds(0.7) else ('index', of, self.small(1))
-        if chosen < 0.97:
-            return self.function(known, depth)
-        return self.small()
-
-    def truth(self, known, depth):
-        names = self.of_kind('truth', known)
-        if names and (depth <= 0 or self.odds(0.3)):
-            return name(self.pick(*names))
-        if depth <= 0:
-            return (self.pick('true', 'false'),)
-        chosen = self.chance.random()
-        if chosen < 0.6:
-            o = self.pick('<', '<=', '>', '>=', '=', '<>')
-            return operator(o, self.number(known, depth - 1), self.number(known, depth - 1))
-        if chosen < 0.85:
-            return operator(self.pick('and', 'or'), self.truth(known, depth - 1), self.truth(known, depth - 1))
-        if chosen < 0.95:
-            return ('not', self.truth(known, depth - 1))
-        return (self.pick('true', 'false'),)
-
-    def list(self, known, depth):
-        names = self.of_kind('list', known)
-        if names and (depth <= 0 or self.odds(0.5)):
-            return name(self.pick(*names))
-        if names and depth > 0 and self.odds(0.2):
-            return operator('+', name(self.pick(*names)), ('items', [self.number(known, depth - 1)]))
-        kinds = [self.pick('number', 'number', 'truth') for _ in range(self.chance.randint(0, 2))]
-        return ('items', [self.expression(kind, known, depth - 1) for kind in kinds])
-
-    def function(self, known, depth):
-        chosen = self.pick('larger', 'sum', 'first', 'red')
-        a, b = self.number(known, 0), self.number(known, 0)
-        if chosen == 'larger':
-            body = ('if', operator('>', name('a'), name('b')), name('a'), name('b'))
-            self.definitions['larger'] = (['a', 'b'], body)
-            return ('call', 'larger', [a, b])
-        if chosen == 'sum':
-            again = ('call', 'sum', [operator('-', name('k'), number(1))])
-            self.definitions['sum'] = (['k'], ('if', operator('<=', name('k'), number(0)), number(0),
-                                               operator('+', name('k'), again)))
-            return ('call', 'sum', [self.small()])
-        if chosen == 'first' and self.of_kind('list', known):
-            self.definitions['first'] = (['X', 'd'], ('if', operator('>', ('size', name('X')), number(0)),
-                                                      ('index', name('X'), number(0)), name('d')))
-            return ('call', 'first', [name(self.pick(*self.of_kind('list', known))), a])
-        self.definitions['red'] = ([], number(2))
-        return ('call', 'red', [])
+class Maker(Expressions, Changes):
+    """Formulas that set variables over intervals, and say where these end."""
 
     # -- what variables do ---------------------------------------------------------------------------------------
 
@@ -244,7 +121,12 @@ class Maker:
         if not parts:
             parts = [equation(('index', name(v), number(0)), self.small())]
         whole = conjunction(parts)
-        return [self.pick(whole, ('always', whole), ('keep', whole))] if self.odds(0.6) else parts
+        if not self.odds(0.6):
+            return parts
+        chosen = self.pick(whole, ('always', whole), ('keep', whole))
+        # what is read there may be known in the first state alone
+        self.is_whole = self.is_whole and chosen is whole
+        return [chosen]
 
     def each_item(self, place, here, there):
         """A list of a steady length, each item by a rule of its own."""
@@ -555,6 +437,9 @@ class Maker:
             formula = self.changed(formula)
         return formula
 
+    def loose_anywhere(self):
+        return self.loose(Known(), 1)
+
     def loose(self, known, depth):
         """A phrase of any kind, over any names."""
         wild = Known('ABP', 'ABP', known.bound)
@@ -567,93 +452,6 @@ class Maker:
                          ('next', w), ('if', self.truth(wild, 1), w, v), ('while', self.truth(wild, 1), w),
                          ('for', bound, self.small(2), w), ('forall', bound, self.small(2), w), ('exists', ['A'], w),
                          ('repeat', w, self.truth(wild, 1)), ('halt', self.truth(wild, 1)))
-
-    # -- changes in one place --------------------------------------------------------------------------------------
-
-    def changed(self, formula):
-        places = [(path, phrase) for path, phrase in phrases_in(formula)]
-        for _ in range(20):
-            path, phrase = self.pick(*places)
-            other = self.another(phrase)
-            if other is not None:
-                return put(formula, path, other)
-        return formula
-
-    def another(self, phrase):
-        """A phrase like this one that says something else and may stand in its place; None where none is known."""
-        kind = phrase[0]
-        if kind == 'number' and phrase[1] >= 0:
-            return number(max(0, phrase[1] + self.pick(-1, 1)))
-        if kind in ('always', 'keep', 'fin', 'next') and is_formula(phrase[1]):
-            return self.pick(*[(k, phrase[1]) for k in ('always', 'keep', 'fin', 'next') if k != kind], phrase[1])
-        if kind in ('gets', 'assign', 'last'):
-            return self.pick(*[(k,) + phrase[1:] for k in ('gets', 'assign', 'last') if k != kind])
-        if kind in ('skip', 'empty', 'more'):
-            return (self.pick(*[k for k in ('skip', 'empty', 'more') if k != kind]),)
-        if kind == 'conjunction':
-            parts = list(phrase[1])
-            way = self.pick('drop', 'again', 'shuffle', 'add')
-            i = self.chance.randrange(len(parts))
-            if way == 'drop':
-                parts.pop(i)
-            elif way == 'again':
-                parts.append(self.another(parts[i]) or parts[i])
-            elif way == 'add':
-                parts.append(self.loose(Known(), 1))
-            else:
-                self.chance.shuffle(parts)
-            return conjunction(parts)
-        if kind == 'chop':
-            return self.pick(('chop', phrase[2], phrase[1]), ('conjunction', [phrase[1], phrase[2]]), ('proj',) + phrase[1:])
-        if kind == 'proj':
-            return self.pick(('proj', phrase[2], phrase[1]), ('chop',) + phrase[1:])
-        if kind in ('for', 'forall'):
-            return ('forall' if kind == 'for' else 'for',) + phrase[1:]
-        if kind == 'while':
-            return self.pick(('repeat', phrase[2], phrase[1]), ('if', phrase[1], phrase[2], None))
-        if kind == 'stable':
-            return ('display', [phrase[1]])
-        if kind == 'exists':
-            return phrase[2]
-        return None
-
-
-def is_formula(phrase):
-    return isinstance(phrase, tuple) and not (phrase[0] in ('next', 'name', 'index'))
-
-
-def phrases_in(formula, path=()):
-    """The formula and those in it, with the way to each; of expressions the numbers alone."""
-    yield path, formula
-    kind = formula[0]
-    if kind == 'conjunction':
-        for i, part in enumerate(formula[1]):
-            yield from phrases_in(part, path + (1, i))
-    elif kind in ('chop', 'proj'):
-        yield from phrases_in(formula[1], path + (1,))
-        yield from phrases_in(formula[2], path + (2,))
-    elif kind in ('always', 'keep', 'fin', 'next', 'len') or kind == 'repeat':
-        yield from phrases_in(formula[1], path + (1,))
-    elif kind in ('while', 'exists', 'gets', 'assign', 'last'):
-        yield from phrases_in(formula[2], path + (2,))
-    elif kind in ('for', 'forall'):
-        yield from phrases_in(formula[2], path + (2,))
-        yield from phrases_in(formula[3], path + (3,))
-    elif kind == 'if':
-        for i in (2, 3):
-            if formula[i] is not None:
-                yield from phrases_in(formula[i], path + (i,))
-    elif kind == 'operator':
-        for i in (2, 3):
-            if formula[i][0] == 'number':
-                yield path + (i,), formula[i]
-
-
-def put(phrase, path, other):
-    if not path:
-        return other
-    inside = put(phrase[path[0]], path[1:], other)
-    return type(phrase)(list(phrase[:path[0]]) + [inside] + list(phrase[path[0] + 1:]))
 
 
 class Program:
