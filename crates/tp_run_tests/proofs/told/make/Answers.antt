@@ -26,5 +26,10 @@ parts_stay plan from to old new answer made parts = at from.standing made where
     by (turn.InputMissing state port) b = subst HasParts (sym b.3) parts
     by (turn.Over state limit) b = subst HasParts (sym b.3) parts
 
+pub returns-clause-run : goal.returns-clause-run
+returns-clause-run g c =
+    let plan = c.requires.run.0 in
+    (plan, c.state.ensures.run plan c.requires.run.1)
+
 pub returns-clause-parts : goal.returns-clause-parts
 returns-clause-parts g c = parts_stay c.requires.run.0 _ _ _ _ _ (c.in_ok-turn.ensures.made c.requires.run.0 c.requires.run.1) c.requires.parts
