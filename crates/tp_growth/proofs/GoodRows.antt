@@ -12,11 +12,10 @@ use Rattle.tp_store.specs.Known.{NoClash, Addition, adds, refuses, addition}
 use Rattle.tp_store.proofs.Members.{In}
 use Rattle.tp_eval.specs.Outcome as found
 use Rattle.tp_eval.specs.Outcome.{outcome, place_outcome, PlaceOutcome}
-use Rattle.tp_scene.specs.Scene.{Bindings, Side, Leaf, Do, Entries, Place}
+use Rattle.tp_scene.specs.Scene.{Bindings, Side, other_side, Leaf, Do, Entries, Place}
 use Rattle.tp_scene.specs.Step.{Reduction, PickOutcome, reduces, passes, knows, added, Numbers, marking, Target, value_at, length_at, set, SideOf, meets, equate, side_of, from_port, formula_step, leaf_step}
 use Rattle.tp_scene.specs.Pick.{Setting}
 use Rattle.tp_scene.specs.Fits.{IsCalm}
-use Rattle.tp_scene.proofs.Told.{other_side}
 use Rattle.tp_growth.specs.Rows.{Grows, IsFailure}
 use Rattle.tp_growth.specs.Outcomes.{KnowsMore}
 use Rattle.tp_inputs.specs.Within.{InputsWithin}

@@ -4,14 +4,13 @@ use Rattle.tp_value.specs.Tree.{Tree}
 use Rattle.tp_value.specs.declared.path.Fact.{Fact}
 use Rattle.tp_meaning.specs.Syntax.{ExprTree, equation}
 use Rattle.tp_store.specs.Known.{NoClash}
-use Rattle.tp_scene.specs.Scene.{Bindings, Side, Ending, Going, Leaf, Do, Closed, Opened, Running, Entries, Place}
+use Rattle.tp_scene.specs.Scene.{Bindings, Side, other_side, Ending, Going, Leaf, Do, Closed, Opened, Running, Entries, Place}
 use Rattle.tp_scene.specs.Step.{Reduction, PickOutcome, reduces, Numbers, marking, side_of, side_with, from_port, formula_step, leaf_step}
 use Rattle.tp_scene.specs.Pick.{Setting}
 use Rattle.tp_scene.specs.Fits.{IsCalm}
 use Rattle.tp_growth.specs.Rows.{Grows, IsFailure, SameFacts, GrownTo, LeafRowsGrow, HolderGrown, HolderRowsGrow}
 use Rattle.tp_growth.specs.Outcomes.{KnowsMore}
 use Rattle.tp_growth.specs.Within.{LengthsAreWithin}
-use Rattle.tp_scene.proofs.Told.{other_side}
 use Rattle.tp_growth.proofs.Table.{status_case, Respects, formula_row}
 use Rattle.tp_growth.proofs.EqGrow.{nothing_new, bad_grown, equate_grows}
 use Rattle.tp_growth.proofs.SideGrow.{side_grows, value_side}

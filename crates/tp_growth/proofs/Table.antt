@@ -9,11 +9,10 @@ use Rattle.tp_store.specs.Known.{NoClash}
 use Rattle.tp_eval.specs.Outcome as found
 use Rattle.tp_eval.specs.Outcome.{outcome, place_outcome, PlaceOutcome}
 use Rattle.tp_scene.specs.declared.answer.Cell.{Cell}
-use Rattle.tp_scene.specs.Scene.{Bindings, Side, Ending, Going, Entries, Place}
+use Rattle.tp_scene.specs.Scene.{Bindings, Side, other_side, Ending, Going, Entries, Place}
 use Rattle.tp_scene.specs.Step.{Reduction, PickOutcome, reduces, waits, Numbers, region_limit, marking, with_region, by_status, with_value, with_truth, with_number, side_of, with_values, with_place, with_argument, with_arguments, called, length_left, from_port, formula_step}
 use Rattle.tp_scene.specs.Pick.{Setting}
 use Rattle.tp_scene.specs.Fits.{IsCalm}
-use Rattle.tp_scene.proofs.Told.{other_side}
 use Rattle.tp_growth.specs.Rows.{Grows, IsFailure}
 use Rattle.tp_growth.specs.Outcomes.{KnowsMore, GrownOutcome, GrownPlace}
 use Rattle.tp_growth.proofs.OutcomesGrow.{outcomes_grow}

@@ -3,9 +3,8 @@ use Rattle.std.proofs.Common.{◌≡◌, ℕ, Bool, true, ◌&&◌, List, refl, 
 use Rattle.std.proofs.lemmas.Bool.{or_left, or_right}
 use Rattle.tp_meaning.specs.Syntax.{Definition}
 use Rattle.tp_store.specs.Known.{Variable}
-use Rattle.tp_scene.specs.Scene.{Side, Ending, Going, Head, marked, Entries, none, leaf, node, second_lives, sinks, forced, Place, held_place, second_place}
+use Rattle.tp_scene.specs.Scene.{Side, other_side, Ending, Going, Head, marked, Entries, none, leaf, node, second_lives, sinks, forced, Place, held_place, second_place}
 use Rattle.tp_scene.specs.Fits.{IsCalm, EntriesFit}
-use Rattle.tp_scene.proofs.Told.{other_side}
 use Rattle.tp_scene.proofs.Grown.{not_both}
 use Rattle.tp_scene.proofs.Keep.{live_fits}
 use Rattle.tp_order.specs.Edits.{Edit, is_side, marks, head_after, edited, single, Thing, At, this_leaf, past_leaf, this_node, in_first, in_second, past_node, Carry, New}

@@ -7,11 +7,10 @@ use Rattle.tp_store.specs.Facts.{kept_shape}
 use Rattle.tp_store.specs.Known.{NoClash, is_none, adds, addition}
 use Rattle.tp_store.proofs.Members.{In, in_kept, kept_in, NoClash-filter}
 use Rattle.tp_store.proofs.Adding.{adds_all, given_in}
-use Rattle.tp_scene.specs.Scene.{Side, Ending, Going, marked, Leaf, Holder, Entries, none, leaf, node, Region, Place, root_place}
+use Rattle.tp_scene.specs.Scene.{Side, other_side, Ending, Going, marked, Leaf, Holder, Entries, none, leaf, node, Region, Place, root_place}
 use Rattle.tp_scene.specs.Step.{Reduction, PickOutcome, reduces, Numbers, leaf_step, holder_step}
 use Rattle.tp_scene.specs.Pick.{Setting, Moment, pick, outcome_of, Reduces}
 use Rattle.tp_scene.specs.Fits.{IsCalm}
-use Rattle.tp_scene.proofs.Told.{other_side}
 use Rattle.tp_order.specs.Edits.{Edit, is_side, head_after, edited, single, Thing, of_leaf, of_holder, GrowsThing, At, this_leaf, past_leaf, this_node, in_first, in_second, past_node, edit_of}
 use Rattle.tp_growth.specs.Rows.{Grows, IsFailure, HolderGrown}
 use Rattle.tp_growth.specs.Outcomes.{KnowsMore}

@@ -13,7 +13,7 @@ use Rattle.tp_scene.specs.Pick.{Setting, pick}
 use Rattle.tp_scene.proofs.Frame.{region}
 use Rattle.tp_scene.proofs.Parts.{Whatever, status_has, picked_has}
 use Rattle.tp_scene.proofs.Told.{Told}
-use Rattle.tp_scene.proofs.Free.{loose, loose_told}
+use Rattle.tp_scene.proofs.Free.{loose, LooseKeep, loose_told}
 
 -- the facts of a value stand apart
 abbrev pub ValuesApart : Type 0
@@ -48,7 +48,9 @@ module _ (facts : List Fact) (kept : NoClash facts) where
 
     module _ (defs : List Definition) (inputs : InputLines) (state : ℕ) where
       leaf_apart : (l : Leaf) (p : Place) (n : Numbers) → IsApart (leaf_step defs inputs state facts l p n)
-      leaf_apart (Do f env) p n = apart p n _ (loose_told Whatever NoClash defs inputs state facts (λ e xs. tt) (λ e xs o q. tt) (λ v. tt) values (λ q k. (refl, refl, tt)) f env p n)
+      leaf_apart (Do f env) p n = apart p n _ (loose_told Whatever NoClash defs inputs state facts keep f env p n) where
+        keep : LooseKeep Whatever NoClash defs facts
+        keep = record { value = λ e xs. tt; other = λ e xs o q. tt; values = λ v. tt; sets = values; lengthens = λ q k. (refl, refl, tt) }
       leaf_apart l p n = tt
 
       holder_apart : (k : Holder) (held second : Region) (q : Place) (n : Numbers) → IsApart (holder_step defs inputs state facts k held second q n)

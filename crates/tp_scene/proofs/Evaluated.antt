@@ -26,7 +26,7 @@ use Rattle.tp_scene.proofs.Told.{Bundle, AllBound, bound_at, Lists, PlaceHas}
 
 module _ (b : Bundle) where
   abbrev pub Value : Tree → Type 0
-  Value t = b.found (found.value t)
+  Value t = b.evaluated (found.value t)
 
   abbrev pub Values : List Tree → Type 0
   Values [] = Unit {0}
@@ -65,19 +65,19 @@ pub record Evaluates (b : Bundle) (defs : List Definition) (facts : List Fact) :
   pub value_bound : (t : Tree) → Value b t → b.binding (known_binding t)
   pub bound_value : (t : Tree) → b.binding (known_binding t) → Value b t
   pub farther : (q : Path) (k : ℕ) → b.binding (place_binding q) → nat_le k index_limit ≡ true → nat_lt (length q.at) path_limit ≡ true → b.binding (place_binding (item_path q k))
-  pub waiting : (q : Path) → b.binding (place_binding q) → b.found (found.wait q)
-  pub undecided : (q p : Path) → b.binding (place_binding q) → full facts q ≡ store.undecided p → b.found (found.wait p)
-  pub fault : (k : FaultKind) → b.found (found.fault k)
-  pub limits : b.found (found.over limit.Number) × b.found (found.over limit.List) × b.found (found.over limit.Calls)
+  pub waiting : (q : Path) → b.binding (place_binding q) → b.evaluated (found.wait q)
+  pub undecided : (q p : Path) → b.binding (place_binding q) → full facts q ≡ store.undecided p → b.evaluated (found.wait p)
+  pub fault : (k : FaultKind) → b.evaluated (found.fault k)
+  pub limits : b.evaluated (found.over limit.Number) × b.evaluated (found.over limit.List) × b.evaluated (found.over limit.Calls)
 
 module _ (b : Bundle) (facts : List Fact) (defs : List Definition) (closed : Evaluates b defs facts) where
   abbrev V : Tree → Type 0
   V = Value b
 
   abbrev StopHas : Stop → Type 0
-  StopHas (waits p) = b.found (found.wait p)
-  StopHas (faults k) = b.found (found.fault k)
-  StopHas (passes k) = b.found (found.over k)
+  StopHas (waits p) = b.evaluated (found.wait p)
+  StopHas (faults k) = b.evaluated (found.fault k)
+  StopHas (passes k) = b.evaluated (found.over k)
 
   -- what is reached has P
   abbrev Gives : {A : Type 0} → (A → Type 0) → Reached A → Type 0
@@ -323,7 +323,7 @@ module _ (b : Bundle) (facts : List Fact) (defs : List Definition) (closed : Eva
     (λ e m env c h k. place_row m env k _ (λ x c l. ih.0 x m env c l k) _ (λ x c l. ih.1 x m env c l k) e c (closed.parts e m h)),
   )
 
-  outcome_has : (r : Reached Tree) → Gives V r → b.found (outcome_reached r)
+  outcome_has : (r : Reached Tree) → Gives V r → b.evaluated (outcome_reached r)
   outcome_has (reaches t c) h = h
   outcome_has (stops (waits p)) h = h
   outcome_has (stops (faults k)) h = h
@@ -336,7 +336,7 @@ module _ (b : Bundle) (facts : List Fact) (defs : List Definition) (closed : Eva
   place_has (stops (faults k)) h = h
   place_has (stops (passes k)) h = h
 
-  pub outcome_told : (e : ExprTree) (m : ℕ) (env : List BindingTree) → b.expr e m → AllBound b env → b.found (outcome facts defs e env)
+  pub outcome_told : (e : ExprTree) (m : ℕ) (env : List BindingTree) → b.expr e m → AllBound b env → b.evaluated (outcome facts defs e env)
   unfolding outcome
   outcome_told e m env h k = outcome_has (evaluate facts defs depth_limit e env 0) ((given_at depth_limit).0 e m env 0 h k)
 

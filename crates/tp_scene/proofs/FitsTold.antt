@@ -49,7 +49,7 @@ fitting defs kinds variables n Q = record {
   expr = ExprFits defs kinds;
   exprs = ExprsFit defs kinds;
   binding = BindingFits (kinds_in variables);
-  found = Q;
+  evaluated = Q;
   new_facts = AreOfVariables variables;
   name = λ x. Unit {0};
   local = λ x. LocalIn x variables n.local;
@@ -67,8 +67,8 @@ module _ (defs : List Definition) (kinds : List Bool) (variables : List Variable
   fit_parts (len e) m h = (h, tt, λ k. tt)
   fit_parts (assign t e) m h = (h.1, λ v u. (h.0, tt))
   fit_parts (while e f) m h = (h.0, ((h.1, (tt, tt)), h), tt)
-  fit_parts (for_from x k e f) m h = (h.0, tt, tt, h.1, λ j u l. (tt, h.1))
-  fit_parts (forall_from x k e f) m h = (h.0, tt, h.1, λ j u l. (tt, h.1))
+  fit_parts (for_from x k e f) m h = (tt, record { last = h.0; number = tt; turn = h.1; left = λ j u l. (tt, h.1) })
+  fit_parts (forall_from x k e f) m h = record { last = h.0; number = tt; turn = h.1; left = λ j u l. (tt, h.1) }
   fit_parts (exists x lasting f) m h = (tt, h)
   fit_parts (call i es) m h = h.3
   fit_parts (input x port) m h = (h, tt)

@@ -20,7 +20,7 @@ free B Q N = record {
   expr = λ e m. Unit {0};
   exprs = λ es m. Unit {0};
   binding = B;
-  found = Q;
+  evaluated = Q;
   new_facts = N;
   name = λ x. Unit {0};
   local = λ x. Unit {0};
@@ -36,8 +36,8 @@ module _ (B : BindingTree → Type 0) (Q : found.Outcome → Type 0) (N : List F
   free_parts (len e) m = (tt, tt, λ k. tt)
   free_parts (assign t e) m = (tt, λ v u. tt)
   free_parts (chop f g) m = (tt, tt)
-  free_parts (for_from x k e f) m = (tt, tt, numbers k, tt, λ j u l. tt)
-  free_parts (forall_from x k e f) m = (tt, numbers k, tt, λ j u l. tt)
+  free_parts (for_from x k e f) m = (tt, record { last = tt; number = numbers k; turn = tt; left = λ j u l. tt })
+  free_parts (forall_from x k e f) m = record { last = tt; number = numbers k; turn = tt; left = λ j u l. tt }
   free_parts (project f g) m = (tt, tt)
   free_parts (exists x lasting f) m = (tt, tt)
   free_parts (input x port) m = (tt, tt)
@@ -52,15 +52,17 @@ loose Q N = free (λ x. Unit {0}) Q N
 
 -- What is owed then: Q of an expression's outcome, of a place's that is no path, and of any value;
 -- and N of the facts that give a path its value, or a list its length.
-module _ (Q : found.Outcome → Type 0) (N : List Fact → Type 0) (defs : List Definition) (inputs : InputLines) (state : ℕ) (facts : List Fact)
-    (value : (e : ExprTree) (env : Bindings) → Q (outcome facts defs e env))
-    (other : (e : ExprTree) (env : Bindings) (o : found.Outcome) → place_outcome facts defs e env ≡ found.other o → Q o)
-    (values : (v : Tree) → Q (found.value v))
-    (sets : (q : Path) (v : Tree) → N (facts_at q v))
-    (lengthens : (q : Path) (k : ℕ) → N (fact q (Items k) ∷ [])) where
+pub record LooseKeep (Q : found.Outcome → Type 0) (N : List Fact → Type 0) (defs : List Definition) (facts : List Fact) : Type 0 where
+  pub value : (e : ExprTree) (env : Bindings) → Q (outcome facts defs e env)
+  pub other : (e : ExprTree) (env : Bindings) (o : found.Outcome) → place_outcome facts defs e env ≡ found.other o → Q o
+  pub values : (v : Tree) → Q (found.value v)
+  pub sets : (q : Path) (v : Tree) → N (facts_at q v)
+  pub lengthens : (q : Path) (k : ℕ) → N (fact q (Items k) ∷ [])
+
+module _ (Q : found.Outcome → Type 0) (N : List Fact → Type 0) (defs : List Definition) (inputs : InputLines) (state : ℕ) (facts : List Fact) (keep : LooseKeep Q N defs facts) where
   place_by : (e : ExprTree) (env : Bindings) (o : PlaceOutcome) → place_outcome facts defs e env ≡ o → PlaceHas (loose Q N) o
   place_by e env (found.path q) is = tt
-  place_by e env (found.other o) is = other e env o is
+  place_by e env (found.other o) is = keep.other e env o is
 
   unasked : (env : Bindings) → AllBound (loose Q N) env
   unasked [] = tt
@@ -74,11 +76,11 @@ module _ (Q : found.Outcome → Type 0) (N : List Fact → Type 0) (defs : List 
         lists = free_lists (λ x. Unit {0}) Q N (λ k. tt);
         parts = λ g m h. free_parts (λ x. Unit {0}) Q N (λ k. tt) g m;
         body = λ i d e. tt;
-        value = λ e xs h k. value e xs;
+        value = λ e xs h k. keep.value e xs;
         place = λ e xs h k. place_by e xs (place_outcome facts defs e xs) refl;
-        read = λ port v e. values v;
+        read = λ port v e. keep.values v;
         value_bound = λ v u. tt;
         local_bound = λ x l. tt;
-        sets = λ q v h u. sets q v;
-        lengthens = λ q k h l. lengthens q k;
+        sets = λ q v h u. keep.sets q v;
+        lengthens = λ q k h l. keep.lengthens q k;
       }

@@ -3,9 +3,8 @@ use Rattle.std.proofs.Common.{◌≡◌, ℕ, ◌+◌, Bool, true, false, ◌||�
 use Rattle.std.proofs.lemmas.Bool.{or_cases, or_left, or_right, and_parts, and_from, false≢true}
 use Rattle.tp_meaning.specs.Syntax.{Definition}
 use Rattle.tp_store.specs.Known.{Variable}
-use Rattle.tp_scene.specs.Scene.{Side, Ending, Going, Head, marked, Leaf, Do, Later, Shown, Holder, Split, SplitProject, Closed, Running, Entries, none, leaf, node, second_lives, rises, sinks, forced, risen, Place, held_place, second_place}
+use Rattle.tp_scene.specs.Scene.{Side, other_side, Ending, Going, Head, marked, Leaf, Do, Later, Shown, Holder, Split, SplitProject, Closed, Running, Entries, none, leaf, node, second_lives, rises, sinks, forced, risen, Place, held_place, second_place}
 use Rattle.tp_scene.specs.Fits.{IsCalm, LeafFits, HolderFits, EntriesFit}
-use Rattle.tp_scene.proofs.Told.{other_side}
 use Rattle.tp_scene.proofs.NewsFit.{entries_calm, IsMore}
 
 -- what rises from the entries is the region's

@@ -5,11 +5,11 @@ use Rattle.std.proofs.lemmas.Bool.{false≢true}
 use Rattle.tp_value.specs.declared.path.Fact.{Fact}
 use Rattle.tp_meaning.specs.Syntax.{Definition}
 use Rattle.tp_meaning.specs.Inputs.{InputLines}
-use Rattle.tp_scene.specs.Scene.{Side, Leaf, Do, Holder, Split, SplitProject, Closed, Opened, Running, Entries, none, leaf, node, new_head, no_region, Place}
+use Rattle.tp_scene.specs.Scene.{Side, other_side, Leaf, Do, Holder, Split, SplitProject, Closed, Opened, Running, Entries, none, leaf, node, new_head, no_region, Place}
 use Rattle.tp_scene.specs.Step.{Reduction, PickOutcome, reduces, waits, rests, clashes, misses, passes, Numbers, leaf_step}
 use Rattle.tp_scene.proofs.Parts.{Whatever}
-use Rattle.tp_scene.proofs.Told.{other_side, Bundle, LeavesTold, HolderTold, Told}
-use Rattle.tp_scene.proofs.Free.{loose, loose_told}
+use Rattle.tp_scene.proofs.Told.{Bundle, LeavesTold, HolderTold, Told}
+use Rattle.tp_scene.proofs.Free.{loose, LooseKeep, loose_told}
 
 -- the new items with these numbers, in order
 abbrev pub FreshLeaves : Numbers → (from : ℕ) → Entries → (to : ℕ) → Type 0
@@ -69,5 +69,7 @@ module _ (facts : List Fact) (p : Place) (n : Numbers) where
 
   module _ (defs : List Definition) (inputs : InputLines) (state : ℕ) where
     pub leaf_plain : (l : Leaf) → IsPlain (leaf_step defs inputs state facts l p n)
-    leaf_plain (Do f env) = plain _ (loose_told Whatever (λ fs. Unit {0}) defs inputs state facts (λ e xs. tt) (λ e xs o q. tt) (λ v. tt) (λ q v. tt) (λ q k. tt) f env p n)
+    leaf_plain (Do f env) = plain _ (loose_told Whatever (λ fs. Unit {0}) defs inputs state facts keep f env p n) where
+      keep : LooseKeep Whatever (λ fs. Unit {0}) defs facts
+      keep = record { value = λ e xs. tt; other = λ e xs o q. tt; values = λ v. tt; sets = λ q v. tt; lengthens = λ q k. tt }
     leaf_plain l = tt

@@ -6,7 +6,7 @@ use Rattle.tp_meaning.specs.Fits.{DefinitionsFit, IsVariable}
 use Rattle.tp_value.specs.declared.path.Fact.{Fact}
 use Rattle.tp_value.specs.declared.path.VarId.{VarId}
 use Rattle.tp_store.specs.Known.{Variable}
-use Rattle.tp_scene.specs.Scene.{Side, Ending, Going, Head, marked, Do, Holder, Split, SplitProject, Closed, Opened, Running, Entries, none, leaf, node, new_head, second_lives, has, has_here, sinks, risen, Place, held_place, second_place}
+use Rattle.tp_scene.specs.Scene.{Side, other_side, Ending, Going, Head, marked, Do, Holder, Split, SplitProject, Closed, Opened, Running, Entries, none, leaf, node, new_head, second_lives, has, has_here, sinks, risen, Place, held_place, second_place}
 use Rattle.tp_scene.specs.Step.{Reduction, PickOutcome, reduces, Numbers, leaf_step, holder_step}
 use Rattle.tp_scene.specs.Pick.{Setting, pick, mark_at, put}
 use Rattle.tp_scene.specs.Fits.{kinds_in, IsCalm, Dormant, HolderFits, EntriesFit}
@@ -15,7 +15,6 @@ use Rattle.tp_scene.proofs.Keep.{live_fits}
 use Rattle.tp_scene.proofs.Risen.{StatusKept, status_put, status_marked, pick_here, pick_second, pick_first, pick_later}
 use Rattle.tp_scene.proofs.FitsTold.{LocalIn}
 use Rattle.tp_scene.proofs.NewsFit.{entries_calm, entries_depth, MarkIn, IsMore, FitsAs, leaf_fits}
-use Rattle.tp_scene.proofs.Told.{other_side}
 use Rattle.tp_scene.proofs.Grown.{Covers, not_both, Grown, grown_calm, grown_held, grown_second, covers_rest, covers_first, covers_second, held_covered, second_covered, same_held, same_second, leaf_grown, holder_grown, fits_grown}
 use Rattle.tp_scene.proofs.PutStatus.{side_of_mark, mark_at_other, mark_at_set, dormant_head, dormant_risen, or_false, marked_apart, put_rises}
 

@@ -4,7 +4,7 @@ use Rattle.std.proofs.lemmas.Bool.{cond_both, cases_Bool, or_cases, or_left, or_
 use Rattle.tp_meaning.specs.Syntax.{Definition}
 use Rattle.tp_value.specs.declared.path.Fact.{Fact}
 use Rattle.tp_store.specs.Known.{Variable}
-use Rattle.tp_scene.specs.Scene.{Side, Ending, Going, Head, marked, Leaf, Do, Holder, Split, SplitProject, Closed, Opened, Running, Entries, none, leaf, node, new_head, no_region, second_lives, has, has_here, append, rises, sinks, forced, risen, Place, held_place, second_place}
+use Rattle.tp_scene.specs.Scene.{Side, other_side, Ending, Going, Head, marked, Leaf, Do, Holder, Split, SplitProject, Closed, Opened, Running, Entries, none, leaf, node, new_head, no_region, second_lives, has, has_here, append, rises, sinks, forced, risen, Place, held_place, second_place}
 use Rattle.tp_scene.specs.Step.{Reduction, PickOutcome, reduces, waits, rests, clashes, misses, passes, Numbers, leaf_step, holder_step}
 use Rattle.tp_scene.specs.Pick.{Setting, pick, mark_head, mark_at, put}
 use Rattle.tp_scene.specs.Fits.{IsCalm, Dormant, HolderFits, EntriesFit}
@@ -12,7 +12,6 @@ use Rattle.tp_scene.proofs.Frame.{region}
 use Rattle.tp_scene.proofs.Risen.{pick_here, pick_second, pick_first, pick_later}
 use Rattle.tp_scene.proofs.Keep.{live_fits}
 use Rattle.tp_scene.proofs.NewsFit.{entries_calm}
-use Rattle.tp_scene.proofs.Told.{other_side}
 use Rattle.tp_scene.proofs.Grown.{Covers, not_both, rises_sinks, covers_rest, covers_first, covers_second, held_covered, second_covered}
 use Rattle.tp_scene.proofs.Plain.{FreshLeaves, IsNewHolder, Plain, IsPlain, leaf_plain}
 

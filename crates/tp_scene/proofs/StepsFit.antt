@@ -6,7 +6,7 @@ use Rattle.tp_meaning.specs.Syntax.{Definition, place_binding, known_binding}
 use Rattle.tp_meaning.specs.Fits.{BindingsFit, IsVariable}
 use Rattle.tp_store.specs.Known.{Variable, AreOfVariables}
 use Rattle.tp_store.proofs.Members.{in_kept, kept_in}
-use Rattle.tp_scene.specs.Scene.{Bindings, Side, marked, Leaf, Do, Later, Shown, Holder, Split, SplitProject, Closed, Opened, Running, Entries, none, leaf, node, risen, Place, root_place}
+use Rattle.tp_scene.specs.Scene.{Bindings, Side, other_side, marked, Leaf, Do, Later, Shown, Holder, Split, SplitProject, Closed, Opened, Running, Entries, none, leaf, node, risen, Place, root_place}
 use Rattle.tp_scene.specs.Step.{Reduction, PickOutcome, Numbers}
 use Rattle.tp_scene.specs.Pick.{Setting, Moment, Reduces, numbers_of, put, put_in, mark_at, with_local, scene_after}
 use Rattle.tp_scene.specs.Fits.{kinds_in, Dormant, LeafFits, HolderFits, EntriesFit, AreNumbers, item_numbers, region_numbers}
@@ -15,7 +15,6 @@ use Rattle.tp_scene.proofs.Risen.{StatusKept, status_put, status_marked}
 use Rattle.tp_scene.proofs.Globals.{of_variables_in, in_of_variables, of_append}
 use Rattle.tp_scene.proofs.Count.{one_if, count, count_first, numbers_once, once_numbers}
 use Rattle.tp_scene.proofs.FitsTold.{LocalIn}
-use Rattle.tp_scene.proofs.Told.{other_side}
 use Rattle.tp_scene.proofs.Grown.{Covers, Grown}
 use Rattle.tp_scene.proofs.PutStatus.{side_of_mark, mark_at_other, marked_apart, put_rises}
 use Rattle.tp_scene.proofs.PutFits.{marks_in, put_fits}

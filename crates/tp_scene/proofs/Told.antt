@@ -26,12 +26,8 @@ use Rattle.tp_scene.specs.declared.answer.Cell.{Cell}
 use Rattle.tp_scene.specs.declared.answer.Cell.TheVariants.{Part, End}
 use Rattle.tp_scene.specs.declared.answer.Clash.{Clash}
 use Rattle.tp_scene.specs.declared.answer.Clash.TheVariants.{Facts, Marks, False, NoValue}
-use Rattle.tp_scene.specs.Scene.{Bindings, Side, Ending, Going, Leaf, Do, Later, Shown, Holder, Split, SplitProject, Closed, Opened, Running, Entries, none, leaf, node, new_head, no_region, Place}
+use Rattle.tp_scene.specs.Scene.{Bindings, Side, Ending, Going, other_side, Leaf, Do, Later, Shown, Holder, Split, SplitProject, Closed, Opened, Running, Entries, none, leaf, node, new_head, no_region, Place}
 use Rattle.tp_scene.specs.Step.{region_limit, Reduction, PickOutcome, reduces, waits, rests, clashes, misses, passes, Numbers, becomes, knows, marking, with_region, by_status, with_value, with_truth, with_number, Target, value_at, length_at, target_at, target_if, target_of, set, added, SideOf, meets, equate, all_do, count_of, side_of, side_with, with_values, with_place, with_argument, with_arguments, called, length_left, from_port, formula_step}
-
-abbrev pub other_side : Side → Side
-other_side Ending = Going
-other_side Going = Ending
 
 -- Properties of what rows are made of: of a formula, and an expression, under so many bindings; of a binding; of what an expression is found to be; of
 -- new facts before they are added; of a name of a local or a port; and of a new local, which is assumed where the new items are told.
@@ -41,7 +37,7 @@ pub record Bundle : Type 1 where
   pub expr : ExprTree → ℕ → Type 0
   pub exprs : ExprTrees → ℕ → Type 0
   pub binding : BindingTree → Type 0
-  pub found : found.Outcome → Type 0
+  pub evaluated : found.Outcome → Type 0
   pub new_facts : List Fact → Type 0
   pub name : List ℕ → Type 0
   pub local : Option Variable → Type 0
@@ -60,6 +56,14 @@ one_more : (b : Bundle) (env : Bindings) (x : BindingTree) → AllBound b env �
 one_more b [] x h k = (k, tt)
 one_more b (y ∷ env) x h k = (h.0, one_more b env x h.1 k)
 
+-- What a count of turns from k owes, where m names are bound: its last number, that of the turn at
+-- hand, what is done in a turn, and, where turns are left, the count of these.
+pub record TurnParts (b : Bundle) (k : ℤ) (e : ExprTree) (f : FormulaTree) (others : ℤ → FormulaTree) (m : ℕ) : Type 0 where
+  pub last : b.expr e m
+  pub number : b.binding (known_binding (num k))
+  pub turn : b.formula f (suc m)
+  pub left : (j : ℤ) → b.evaluated (found.value (num j)) → int_le j k ≡ false → b.formula (others j) m
+
 -- What a formula with the property owes, where m names are bound: the property of each formula that
 -- its row gives, which may be none of its own parts (see `while`, `assign`), and of each expression
 -- that is evaluated. They are taken by position, in `row` and where they are shown (`fit_parts`).
@@ -67,7 +71,7 @@ abbrev pub PartsOf : Bundle → FormulaTree → ℕ → Type 0
 PartsOf b trivial m = Unit {0}
 PartsOf b (test e) m = b.expr e m
 PartsOf b (equation l r) m = b.expr l m × b.expr r m
-PartsOf b (next_equation k t e) m = b.expr e m × ((v : Tree) → b.found (found.value v) → b.formula (nexts (k - 1) (equation t (known v))) m)
+PartsOf b (next_equation k t e) m = b.expr e m × ((v : Tree) → b.evaluated (found.value v) → b.formula (nexts (k - 1) (equation t (known v))) m)
 PartsOf b empty m = Unit {0}
 PartsOf b more m = Unit {0}
 PartsOf b (next f) m = b.formula f m
@@ -78,11 +82,12 @@ PartsOf b (always f) m = b.formula f m × b.formula (weak_next (always f)) m
 PartsOf b (conjunction fs) m = b.formulas fs m
 PartsOf b (branch e f g) m = b.expr e m × b.formula f m × b.formula g m
 PartsOf b (len e) m = b.expr e m × b.formula empty m × ((k : ℕ) → b.formula (next (len (numeral (pos k)))) m)
-PartsOf b (assign t e) m = b.expr e m × ((v : Tree) → b.found (found.value v) → b.formula (always (if_empty (equation t (known v)))) m)
+PartsOf b (assign t e) m = b.expr e m × ((v : Tree) → b.evaluated (found.value v) → b.formula (always (if_empty (equation t (known v)))) m)
 PartsOf b (chop f g) m = b.formula f m × b.formula g m
 PartsOf b (while e f) m = b.formula (branch e (chop (conjunction (formulas_of (f ∷ more ∷ []))) (while e f)) empty) m
-PartsOf b (for_from x k e f) m = b.expr e m × b.formula empty m × b.binding (known_binding (num k)) × b.formula f (suc m) × ((j : ℤ) → b.found (found.value (num j)) → int_le j k ≡ false → b.formula (for_from x (k +ℤ pos 1) (numeral j) f) m)
-PartsOf b (forall_from x k e f) m = b.expr e m × b.binding (known_binding (num k)) × b.formula f (suc m) × ((j : ℤ) → b.found (found.value (num j)) → int_le j k ≡ false → b.formula (forall_from x (k +ℤ pos 1) (numeral j) f) m)
+PartsOf b (for_from x k e f) m =
+    b.formula empty m × TurnParts b k e f (λ j. for_from x (k +ℤ pos 1) (numeral j) f) m
+PartsOf b (forall_from x k e f) m = TurnParts b k e f (λ j. forall_from x (k +ℤ pos 1) (numeral j) f) m
 PartsOf b (project f g) m = b.formula f m × b.formula g m
 PartsOf b (exists x lasting f) m = b.name x × b.formula f (suc m)
 PartsOf b (call i es) m = b.exprs es m
@@ -99,7 +104,7 @@ pub record Lists (b : Bundle) : Type 0 where
 
 abbrev pub PlaceHas : Bundle → PlaceOutcome → Type 0
 PlaceHas b (found.path q) = b.binding (place_binding q)
-PlaceHas b (found.other o) = b.found o
+PlaceHas b (found.other o) = b.evaluated o
 
 -- Said of a step in a region of this place, where these facts are known and new items and regions take these numbers.
 module _ (b : Bundle) (facts : List Fact) (p : Place) (n : Numbers) where
@@ -149,7 +154,7 @@ module _ (b : Bundle) (facts : List Fact) (p : Place) (n : Numbers) where
 
   -- a wait is for what an expression waits for, or for the end of this region, which is open
   abbrev pub CellTold : Cell → Type 0
-  CellTold (Part q) = b.found (found.wait q)
+  CellTold (Part q) = b.evaluated (found.wait q)
   CellTold (End region depth) = (p.region ≡ region) × (p.is Ending ≡ false) × (p.is Going ≡ false) × (p.depth ≡ depth)
 
   abbrev pub OtherTold : Option Cell → Type 0
@@ -164,7 +169,7 @@ module _ (b : Bundle) (facts : List Fact) (p : Place) (n : Numbers) where
 
   -- that of an evaluation, or else of a list's length, in `set`, or of depth, in `with_region`
   abbrev pub LimitTold : LimitKind → Type 0
-  LimitTold k = b.found (found.over k) ⊎ ((k ≡ limit.List) ⊎ (k ≡ limit.Nest))
+  LimitTold k = b.evaluated (found.over k) ⊎ ((k ≡ limit.List) ⊎ (k ≡ limit.Nest))
 
   -- (a formula never rests: `Later` and `Shown` do)
   abbrev pub Told : PickOutcome → Type 0
@@ -182,12 +187,12 @@ pub record RowsKeep (b : Bundle) (defs : List Definition) (inputs : InputLines) 
   pub lists : Lists b
   pub parts : (f : FormulaTree) (m : ℕ) → b.formula f m → PartsOf b f m
   pub body : (i : ℕ) (d : Definition) → slice_get defs i ≡ Some d → b.formula d.formula (length d.parameters)
-  pub value : (e : ExprTree) (env : Bindings) → b.expr e (length env) → AllBound b env → b.found (outcome facts defs e env)
+  pub value : (e : ExprTree) (env : Bindings) → b.expr e (length env) → AllBound b env → b.evaluated (outcome facts defs e env)
   pub place : (e : ExprTree) (env : Bindings) → b.expr e (length env) → AllBound b env → PlaceHas b (place_outcome facts defs e env)
-  pub read : (port : List ℕ) (v : Tree) → input_at inputs state port ≡ Some v → b.found (found.value v)
-  pub value_bound : (v : Tree) → b.found (found.value v) → b.binding (known_binding v)
+  pub read : (port : List ℕ) (v : Tree) → input_at inputs state port ≡ Some v → b.evaluated (found.value v)
+  pub value_bound : (v : Tree) → b.evaluated (found.value v) → b.binding (known_binding v)
   pub local_bound : (x : Variable) → b.local (Some x) → b.binding (place_binding (record { var = record { number = n.local; lasting = x.lasting }; at = [] }))
-  pub sets : (q : Path) (v : Tree) → b.binding (place_binding q) → b.found (found.value v) → b.new_facts (facts_at q v)
+  pub sets : (q : Path) (v : Tree) → b.binding (place_binding q) → b.evaluated (found.value v) → b.new_facts (facts_at q v)
   pub lengthens : (q : Path) (k : ℕ) → b.binding (place_binding q) → nat_lt length_limit k ≡ false → b.new_facts (fact q (Items k) ∷ [])
 
 module _ (b : Bundle) (defs : List Definition) (inputs : InputLines) (state : ℕ) (facts : List Fact) (n : Numbers) (closed : RowsKeep b defs inputs state facts n) (p : Place) where
@@ -245,19 +250,19 @@ module _ (b : Bundle) (defs : List Definition) (inputs : InputLines) (state : �
   status_told : (o o' : PickOutcome) → (p.is Going ≡ true → P o) → P o' → P (by_status p o o')
   status_told o o' h h' = cond_both (p.is Going) _ _ P h (λ g. cond_both (p.is Ending) _ _ P (λ e. h') (λ e. ((refl, e, g, refl), tt)))
 
-  value_told : (o : found.Outcome) (f : Tree → PickOutcome) → b.found o → ((t : Tree) → b.found (found.value t) → P (f t)) → P (with_value o f)
+  value_told : (o : found.Outcome) (f : Tree → PickOutcome) → b.evaluated o → ((t : Tree) → b.evaluated (found.value t) → P (f t)) → P (with_value o f)
   value_told (found.value t) f u h = h t u
   value_told (found.wait q) f u h = (u, tt)
   value_told (found.fault k) f u h = tt
   value_told (found.over k) f u h = inl u
 
-  truth_told : (o : found.Outcome) (f : Bool → PickOutcome) → b.found o → ((c : Bool) → P (f c)) → P (with_truth o f)
+  truth_told : (o : found.Outcome) (f : Bool → PickOutcome) → b.evaluated o → ((c : Bool) → P (f c)) → P (with_truth o f)
   truth_told (found.value (truth c)) f u h = h c
   truth_told (found.wait q) f u h = (u, tt)
   truth_told (found.over k) f u h = inl u
   truth_told o f u h = tt
 
-  number_told : (o : found.Outcome) (f : ℤ → PickOutcome) → b.found o → ((k : ℤ) → b.found (found.value (num k)) → P (f k)) → P (with_number o f)
+  number_told : (o : found.Outcome) (f : ℤ → PickOutcome) → b.evaluated o → ((k : ℤ) → b.evaluated (found.value (num k)) → P (f k)) → P (with_number o f)
   number_told (found.value (num k)) f u h = h k u
   number_told (found.wait q) f u h = (u, tt)
   number_told (found.over k) f u h = inl u
@@ -276,21 +281,21 @@ module _ (b : Bundle) (defs : List Definition) (inputs : InputLines) (state : �
   added_told xs h (adds news) e = knows_told xs news h e
   added_told xs h (refuses old new) e = (xs, h, e)
 
-  set_told : (t : Target) (v : Tree) → Sets (Some t) → b.found (found.value v) → P (set facts t v)
+  set_told : (t : Target) (v : Tree) → Sets (Some t) → b.evaluated (found.value v) → P (set facts t v)
   set_told (value_at q) v h u = added_told _ (closed.sets q v h u) (addition facts (facts_at q v)) refl
   set_told (length_at q) (num (pos k)) h u = cond_both (nat_lt length_limit k) _ _ P (λ e. inr (inl refl)) (λ e. added_told _ (closed.lengthens q k h e) (addition facts (fact q (Items k) ∷ [])) refl)
   set_told (length_at q) t h u = tt
 
-  meets_told : (c : Bool) (target : Option Target) (o : found.Outcome) (v : Tree) → Sets target → b.found o → b.found (found.value v) → P (meets facts (record { placed = c; target = target; found = o }) v)
+  meets_told : (c : Bool) (target : Option Target) (o : found.Outcome) (v : Tree) → Sets target → b.evaluated o → b.evaluated (found.value v) → P (meets facts (record { placed = c; target = target; found = o }) v)
   meets_told c (Some t) o v h u w = set_told t v h w
   meets_told c None (found.value t) v h u w = if_told (same_tree t v) _ _ nothing_told tt
   meets_told c None (found.wait q) v h u w = (u, tt)
   meets_told c None (found.fault k) v h u w = tt
   meets_told c None (found.over k) v h u w = inl u
 
-  equate_told : (l r : SideOf) → Sets l.target → Sets r.target → b.found l.found → b.found r.found → P (equate facts l r)
+  equate_told : (l r : SideOf) → Sets l.target → Sets r.target → b.evaluated l.found → b.evaluated r.found → P (equate facts l r)
   equate_told l r tl tr = go l.found r.found where
-    go : (x y : found.Outcome) → b.found x → b.found y → P (equate facts (record { placed = l.placed; target = l.target; found = x }) (record { placed = r.placed; target = r.target; found = y }))
+    go : (x y : found.Outcome) → b.evaluated x → b.evaluated y → P (equate facts (record { placed = l.placed; target = l.target; found = x }) (record { placed = r.placed; target = r.target; found = y }))
     go x (found.fault k) u v = tt
     go (found.fault j) y u v = tt
     go x (found.over k) u v = inl v
@@ -303,7 +308,7 @@ module _ (b : Bundle) (defs : List Definition) (inputs : InputLines) (state : �
     abbrev Fit : ExprTree → Type 0
     Fit e = b.expr e (length env)
 
-    value_of_told : (e : ExprTree) → Fit e → b.found (outcome facts defs e env)
+    value_of_told : (e : ExprTree) → Fit e → b.evaluated (outcome facts defs e env)
     value_of_told e h = closed.value e env h bs
 
     target_if_told : (target : Path → Target) → ((q : Path) → PathOf (target q) ≡ q) → (c : Bool) (e : ExprTree) → Fit e → Sets (target_if defs facts c target e env)
@@ -377,10 +382,10 @@ module _ (b : Bundle) (defs : List Definition) (inputs : InputLines) (state : �
     row (assign t e) h = value_told _ _ (value_of_told e h.0) (λ v u. one_told _ env (h.1 v u, bs))
     row (chop f g) h = region_told (Split g env) (h.1, bs) f env (h.0, bs)
     row (while e f) h = one_told _ env (h, bs)
-    row (for_from x k e f) h = number_told _ _ (value_of_told e h.0) (λ m u. cond_both (int_le m k) _ _ P (λ l. one_told _ env (h.1, bs))
-        (λ l. region_told (Split (for_from x (k +ℤ pos 1) (numeral m) f) env) (h.4 m u l, bs) f _ (under f (known_binding (num k)) h.3 h.2)))
-    row (forall_from x k e f) h = number_told _ _ (value_of_told e h.0) (λ m u. cond_both (int_le m k) _ _ P (λ l. nothing_told)
-        (λ l. leaves_told _ 2 (refl, under f (known_binding (num k)) h.2 h.1, (refl, (h.3 m u l, bs), refl))))
+    row (for_from x k e f) h = number_told _ _ (value_of_told e h.1.last) (λ m u. cond_both (int_le m k) _ _ P (λ l. one_told _ env (h.0, bs))
+        (λ l. region_told (Split (for_from x (k +ℤ pos 1) (numeral m) f) env) (h.1.left m u l, bs) f _ (under f (known_binding (num k)) h.1.turn h.1.number)))
+    row (forall_from x k e f) h = number_told _ _ (value_of_told e h.last) (λ m u. cond_both (int_le m k) _ _ P (λ l. nothing_told)
+        (λ l. leaves_told _ 2 (refl, under f (known_binding (num k)) h.turn h.number, (refl, (h.left m u l, bs), refl))))
     row (project f g) h = region_told (Opened f env) (h.0, bs) g env (h.1, bs)
     row (exists x lasting f) h = record {
       facts_of = inl refl;

@@ -12,6 +12,10 @@ pub data Side : Type 0 where
   Ending : Side
   Going : Side
 
+abbrev pub other_side : Side → Side
+other_side Ending = Going
+other_side Going = Ending
+
 -- a region's number and its marks
 pub record Head : Type 0 where
   pub number : ℕ

@@ -3,7 +3,7 @@ use Rattle.std.proofs.Common.{◌≡◌, ℕ, zero, suc, ◌+◌, ◌≤◌, ◌
 use Rattle.std.proofs.lemmas.List.{get_or_past, length-map, append-nil}
 use Rattle.tp_meaning.specs.Syntax.{FormulaTree}
 use Rattle.tp_scene.specs.Scene as S
-use Rattle.tp_scene.specs.Scene.{Bindings, Side, Ending, Going, Holder, Entries, none, leaf, node, new_head, no_region, second_lives, has}
+use Rattle.tp_scene.specs.Scene.{Bindings, Side, other_side, Ending, Going, Holder, Entries, none, leaf, node, new_head, no_region, second_lives, has}
 use Rattle.tp_scene.specs.Step.{Reduction}
 use Rattle.tp_scene.specs.Pick.{scene_after}
 use Rattle.tp_slots.specs.Plain as plain
@@ -16,7 +16,7 @@ use Rattle.tp_slots.specs.Replace.{home_in}
 use Rattle.tp_slots.specs.Row.{begun, stepped, held_after, AllBelow}
 use Rattle.tp_slots.specs.Reductions.{IsBare, AreBare, becomes_leaves}
 use Rattle.tp_slots.specs.Threads.{AreThreaded, afters_then}
-use Rattle.tp_slots.specs.Read.{slot_of, region_slot_of, slots_of, scene_of, afters_of, holders_of, ends_of, goes_of, flags_of, other_side}
+use Rattle.tp_slots.specs.Read.{slot_of, region_slot_of, slots_of, scene_of, afters_of, holders_of, ends_of, goes_of, flags_of}
 use Rattle.tp_slots.proofs.Showing.{all_shown, has_shown}
 use Rattle.tp_slots.proofs.Told.{told, rises_all}
 use Rattle.tp_slots.proofs.Stepping.{IsStep, stepped_regions}

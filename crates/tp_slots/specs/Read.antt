@@ -55,10 +55,6 @@ flag_of S.Going x = x.goes_now
 abbrev pub flags_of : S.Side → Scene → List Bool
 flags_of z s = map (flag_of z) s.regions.items
 
-abbrev pub other_side : S.Side → S.Side
-other_side S.Ending = S.Going
-other_side S.Going = S.Ending
-
 -- Of each item what is visited after it.
 abbrev pub afters_of : Scene → List (Option ℕ)
 afters_of s = map (λ x. x.after) s.slots.items

@@ -1,7 +1,8 @@
 // Which regions end or go on.
 ghost use Rattle.std.specs.Prelude.{◌≡◌, ◌<◌, length, map, slice_set, true, false};
 ghost use Rattle.tp_decide.specs.Decided.{mark_of};
-ghost use Rattle.tp_slots.specs.Read.{afters_of, flag_of, flags_of, holders_of, other_side, slots_of, what_of, region_slots, region_holders};
+ghost use Rattle.tp_scene.specs.Scene.{other_side};
+ghost use Rattle.tp_slots.specs.Read.{afters_of, flag_of, flags_of, holders_of, slots_of, what_of, region_slots, region_holders};
 ghost use Rattle.tp_slots.specs.Kept.{IsShaped, IsQuiet, IsWellKept, region_place_of, region_lives, flags_on};
 ghost use Rattle.tp_slots.specs.Lives.{leads_to};
 ghost use Rattle.tp_slots.specs.Flags.{FlagsAreRight, Pending, forced_in, rises_from, sinks_in};

@@ -79,8 +79,10 @@ module _ (facts : List Fact) where
   printable_parts (len e) m h = (h, tt, λ k. tt)
   printable_parts (assign t e) m h = (h.1, λ v u. (h.0, u.numbers))
   printable_parts (while e f) m h = (h.0, ((h.1, (tt, tt)), h), tt)
-  printable_parts (for_from x k e f) m h = (h.2, tt, number_value k h.1, h.3, λ j u l. (h.0, next_number k j l h.1 u.numbers, tt, h.3))
-  printable_parts (forall_from x k e f) m h = (h.2, number_value k h.1, h.3, λ j u l. (h.0, next_number k j l h.1 u.numbers, tt, h.3))
+  printable_parts (for_from x k e f) m h =
+      (tt, record { last = h.2; number = number_value k h.1; turn = h.3; left = λ j u l. (h.0, next_number k j l h.1 u.numbers, tt, h.3) })
+  printable_parts (forall_from x k e f) m h =
+      record { last = h.2; number = number_value k h.1; turn = h.3; left = λ j u l. (h.0, next_number k j l h.1 u.numbers, tt, h.3) }
   printable_parts f m h = h
 
   module _ (kept : FactsArePrintable facts) where

@@ -2,9 +2,10 @@
 use Rattle.std.proofs.Common.{ap, subst}
 use Rattle.std.specs.Option.{option_map}
 use Rattle.tp_decide.specs.Decided.{mark_of}
+use Rattle.tp_scene.specs.Scene.{other_side}
 use Rattle.tp_slots.specs.Flags.{FlagsFollow, flags_in}
 use Rattle.tp_slots.specs.Looks.{LooksFollow, IsAfterMark}
-use Rattle.tp_slots.specs.Read.{flags_of, holders_of, other_side, slots_of}
+use Rattle.tp_slots.specs.Read.{flags_of, holders_of, slots_of}
 use Rattle.tp_slots.specs.declared.scene.Scene.{Scene}
 use Rattle.tp_slots.proofs.Looking.{marked_looks}
 use Rattle.tp_slots.proofs.Changing.{threads_moved, follow_pending, follow_other, raised_kept, unmarked_kept}

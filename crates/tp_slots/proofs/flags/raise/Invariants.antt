@@ -1,9 +1,10 @@
 use Rattle.std.proofs.Common.{◌≡◌, ◌<◌, true, length}
 use Rattle.tp_decide.specs.Decided.{mark_of}
+use Rattle.tp_scene.specs.Scene.{other_side}
 use Rattle.tp_slots.specs.Flags.{Pending, flags_in}
 use Rattle.tp_slots.specs.Kept.{IsQuiet}
 use Rattle.tp_slots.specs.Lives.{lives_in}
-use Rattle.tp_slots.specs.Read.{afters_of, flags_of, holders_of, other_side, slots_of}
+use Rattle.tp_slots.specs.Read.{afters_of, flags_of, holders_of, slots_of}
 use Rattle.tp_slots.proofs.flags.raise.Given as goal
 
 abbrev pub invariant-outward : goal.invariant-outward
