@@ -8,12 +8,12 @@ use Rattle.tp_show.specs.declared.turn.Turn.TheVariants as turn
 use Rattle.tp_show.specs.EndLine.{end_line}
 use Rattle.tp_run.specs.History.{RunEndsWith}
 use Rattle.tp_run.specs.States.{Plan, globals_of}
-use Rattle.tp_any_order.specs.Agree.{IsOrderlyPlan}
-use Rattle.tp_any_order.specs.AlikeRuns.{FailsNowhere}
-use Rattle.tp_any_order.specs.Beginnings.{NoDeadEnd}
-use Rattle.tp_any_order.proofs.Agree.{runs_agree}
-use Rattle.tp_any_order.proofs.AlikeRuns.{all_runs_are_alike}
-use Rattle.tp_any_order.proofs.Beginnings.{beginnings_go_on}
+use Rattle.tp_run_laws.specs.Agree.{IsOrderlyPlan}
+use Rattle.tp_run_laws.specs.AlikeRuns.{FailsNowhere}
+use Rattle.tp_run_laws.specs.Beginnings.{NoDeadEnd}
+use Rattle.tp_run_laws.proofs.Agree.{runs_agree}
+use Rattle.tp_run_laws.proofs.AlikeRuns.{all_runs_are_alike}
+use Rattle.tp_run_laws.proofs.Beginnings.{beginnings_go_on}
 use Rattle.tp_words.specs.Words.{Wanted}
 use Rattle.tp_call.specs.declared.status.Status.{Status}
 use Rattle.tp_call.specs.declared.status.Status.TheVariants.{Finished, Undetermined, StateLimit}

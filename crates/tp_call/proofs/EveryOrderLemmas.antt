@@ -12,8 +12,8 @@ use Rattle.tp_show.specs.declared.turn.Turn.TheVariants as turn
 use Rattle.tp_run.specs.History.{RunEndsWith}
 use Rattle.tp_run.specs.States.{Plan, plan_with, globals_of}
 use Rattle.tp_run.specs.Same.{SamePictures, SameEnd}
-use Rattle.tp_any_order.specs.Agree.{IsOrderlyPlan}
-use Rattle.tp_any_order.proofs.Agree.{runs_agree}
+use Rattle.tp_run_laws.specs.Agree.{IsOrderlyPlan}
+use Rattle.tp_run_laws.proofs.Agree.{runs_agree}
 use Rattle.tp_words.specs.Words.{Wanted}
 use Rattle.tp_call.specs.declared.status.Status.{Status}
 use Rattle.tp_call.specs.declared.status.Status.TheVariants.{Finished, Contradictory, Undetermined, StateLimit, ReductionLimit, NumberLimit, ListLimit, CallLimit, NestLimit, InputMissing}

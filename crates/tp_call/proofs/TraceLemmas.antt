@@ -24,12 +24,12 @@ use Rattle.tp_show.proofs.PrintedLines.{plain_one}
 use Rattle.tp_show.proofs.PrintedStates.{traces_tell_facts}
 use Rattle.tp_run.specs.States.{Plan, StatesLead, LeadsTo}
 use Rattle.tp_run.specs.History.{RunEndsWith}
-use Rattle.tp_within.specs.Printable.{ProgramIsPrintable, InputsArePrintable}
-use Rattle.tp_within.specs.Laws.{IsWrittenWithinLimits, RunIsPrintable}
-use Rattle.tp_within.proofs.Tokens.{token_names_are_of_variables}
-use Rattle.tp_within.proofs.Checked.{checked_programs_are_printable}
-use Rattle.tp_within.proofs.Tables.{tables_are_printable}
-use Rattle.tp_within.proofs.Runs.{runs_are_printable}
+use Rattle.tp_run_laws.specs.Printable.{ProgramIsPrintable, InputsArePrintable}
+use Rattle.tp_run_laws.specs.PrintableRuns.{IsWrittenWithinLimits, RunIsPrintable}
+use Rattle.tp_run_laws.proofs.Tokens.{token_names_are_of_variables}
+use Rattle.tp_run_laws.proofs.Checked.{checked_programs_are_printable}
+use Rattle.tp_run_laws.proofs.Tables.{tables_are_printable}
+use Rattle.tp_run_laws.proofs.Runs.{runs_are_printable}
 use Rattle.tp_words.specs.Words.{Wanted}
 use Rattle.tp_call.specs.declared.status.Status.{Status}
 use Rattle.tp_call.specs.declared.status.Status.TheVariants.{Finished, Done, Contradictory, Undetermined, StateLimit, ReductionLimit, NumberLimit, ListLimit, CallLimit, NestLimit, InputMissing}

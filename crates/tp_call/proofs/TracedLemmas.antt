@@ -17,10 +17,10 @@ use Rattle.tp_show.specs.TraceOfRun.{IsReadable, PrintedState, fed_line, printed
 use Rattle.tp_show.specs.TraceLine.{opens_with_one}
 use Rattle.tp_run.specs.States.{Plan, StatesLead, LeadsTo}
 use Rattle.tp_run.specs.History.{RunEndsWith}
-use Rattle.tp_within.specs.Printable.{ProgramIsPrintable, InputsArePrintable}
-use Rattle.tp_within.proofs.Moments.{MomentIsPrintable}
-use Rattle.tp_within.proofs.Phrases.{written_out, joined, decimal_one, entries_one}
-use Rattle.tp_within.proofs.Runs.{next_printable, begins_printable}
+use Rattle.tp_run_laws.specs.Printable.{ProgramIsPrintable, InputsArePrintable}
+use Rattle.tp_run_laws.proofs.Moments.{MomentIsPrintable}
+use Rattle.tp_run_laws.proofs.Phrases.{written_out, joined, decimal_one, entries_one}
+use Rattle.tp_run_laws.proofs.Runs.{next_printable, begins_printable}
 use Rattle.tp_call.specs.TracedText.{trace_openings, IsTraceLine}
 use Rattle.tp_call.specs.Printed.{phrase_left, written_state, states_text, lead_text, ended_text}
 use Rattle.tp_words.specs.declared.beside.Beside.{Beside}

@@ -24,7 +24,7 @@ use Rattle.tp_show.proofs.PartLemmas.{named}
 use Rattle.tp_show.proofs.PrintedBytes.{text_plain, indices_plain}
 use Rattle.tp_show.proofs.PrintedLines.{plain_one}
 use Rattle.tp_show.proofs.ReadBackLemmas.{texts_tell}
-use Rattle.tp_within.proofs.Phrases.{written_out, joined, decimal_one}
+use Rattle.tp_run_laws.proofs.Phrases.{written_out, joined, decimal_one}
 use Rattle.tp_call.specs.TracedText.{trace_openings, IsTraceLine, TracedState, traced_lines, traced_text, IsTraced, IsOneEndLine, ReadsTracedAs}
 
 -- ---- lines told apart

@@ -3,7 +3,7 @@ use Rattle.std.specs.Prelude.{◌≡◌, Bool, List, length}
 use Rattle.tp_meaning.specs.Syntax.{Definition}
 use Rattle.tp_scene.specs.Pick.{Moment}
 use Rattle.tp_scene.specs.Fits.{MomentFits}
-use Rattle.tp_renaming.specs.Alike.{Alike}
+use Rattle.tp_step_laws.specs.Alike.{Alike}
 use Rattle.tp_residual.specs.Residual.{residual_phrase}
 
 -- what is alike to a moment that fits the program has the residual phrase of this one

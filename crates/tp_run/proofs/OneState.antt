@@ -17,15 +17,15 @@ use Rattle.tp_show.specs.declared.turn.Turn.{Turn}
 use Rattle.tp_show.specs.declared.turn.Turn.TheVariants.{Went, Finished, Contradictory, Undetermined, StateLimit, InputMissing, Over}
 use Rattle.tp_store.specs.Known.{Contents}
 use Rattle.tp_run.specs.States.{Plan, setting, IsPictureOf, StateGoesOn, StateEnds, Standing, StateBecomes, ReachesLimit}
-use Rattle.tp_renaming.specs.Renaming.{renamed_cell}
-use Rattle.tp_renaming.specs.Alike.{Alike, SettlesAlike}
-use Rattle.tp_renaming.proofs.SettleAlike.{alike_moments_settle}
-use Rattle.tp_order.specs.Orders.{IsOrderly}
-use Rattle.tp_order.specs.States.{ClosesOneWay}
-use Rattle.tp_order.proofs.Orderly.{begins_orderly, advances_stay_orderly}
-use Rattle.tp_order.proofs.Equivalence.{alike_is_equivalence}
-use Rattle.tp_order.proofs.CloseOneWay.{leads_orderly, states_close_one_way}
-use Rattle.tp_order.proofs.Rest.{one_rest_of}
+use Rattle.tp_step_laws.specs.Renaming.{renamed_cell}
+use Rattle.tp_step_laws.specs.Alike.{Alike, SettlesAlike}
+use Rattle.tp_step_laws.proofs.SettleAlike.{alike_moments_settle}
+use Rattle.tp_step_laws.specs.Orders.{IsOrderly}
+use Rattle.tp_step_laws.specs.States.{ClosesOneWay}
+use Rattle.tp_step_laws.proofs.Orderly.{begins_orderly, advances_stay_orderly}
+use Rattle.tp_step_laws.proofs.Equivalence.{alike_is_equivalence}
+use Rattle.tp_step_laws.proofs.CloseOneWay.{leads_orderly, states_close_one_way}
+use Rattle.tp_step_laws.proofs.Rest.{one_rest_of}
 use Rattle.tp_run.specs.Same.{SamePicture, SamePictures, SameCell, FailsIn, SameEnd}
 use Rattle.tp_run.specs.EachOrder.{StateAgrees, ClosesFromEach, HasNoDeadEnd}
 use Rattle.tp_run.proofs.SameFacts.{same_facts}

@@ -15,7 +15,7 @@ use Rattle.tp_scene.specs.Pick.{Setting, Moment}
 use Rattle.tp_scene.specs.Rest.{settled, goes, ends, IsOpenCell}
 use Rattle.tp_scene.specs.Advance.{advanced, shown_in}
 use Rattle.tp_scene.specs.Laws.{IsSound, StoreGoesOn}
-use Rattle.tp_order.specs.Orders.{IsOrderly}
+use Rattle.tp_step_laws.specs.Orders.{IsOrderly}
 use Rattle.tp_run.specs.declared.run.Made.{Made}
 use Rattle.tp_run.specs.declared.run.Run.{Run}
 use Rattle.tp_run.specs.declared.run.Settings.{Settings}

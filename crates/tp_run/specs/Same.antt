@@ -5,7 +5,7 @@ use Rattle.tp_scene.specs.declared.answer.Cell.{Cell}
 use Rattle.tp_show.specs.declared.turn.Picture.{Picture}
 use Rattle.tp_show.specs.declared.turn.Turn.{Turn}
 use Rattle.tp_show.specs.declared.turn.Turn.TheVariants.{Went, Finished, Contradictory, Undetermined, StateLimit, InputMissing, Over}
-use Rattle.tp_renaming.specs.Renaming.{Renaming, FixesBelow, renamed_cell}
+use Rattle.tp_step_laws.specs.Renaming.{Renaming, FixesBelow, renamed_cell}
 
 -- Two pictures have the same number, the same facts, the same shows, and as many reductions.
 pub record SamePicture (p q : Picture) : Type 0 where

@@ -6,10 +6,10 @@ use Rattle.tp_scene.specs.Scene.{has}
 use Rattle.tp_scene.specs.Step.{Reduction, PickOutcome, reduces, clashes, misses, passes}
 use Rattle.tp_scene.specs.Pick.{Setting, Moment, Leads, outcome_of, IsIdle}
 use Rattle.tp_scene.specs.Rest.{AtRest}
-use Rattle.tp_growth.specs.Rows.{IsFailure}
-use Rattle.tp_order.specs.Orders.{IsOrderly, GoesOnToRest}
-use Rattle.tp_order.proofs.CloseOneWay.{leads_orderly, states_close_one_way}
-use Rattle.tp_order.proofs.Rest.{one_rest_of}
+use Rattle.tp_step_laws.specs.Rows.{IsFailure}
+use Rattle.tp_step_laws.specs.Orders.{IsOrderly, GoesOnToRest}
+use Rattle.tp_step_laws.proofs.CloseOneWay.{leads_orderly, states_close_one_way}
+use Rattle.tp_step_laws.proofs.Rest.{one_rest_of}
 use Rattle.tp_step.specs.Closes.{Meets, ClosureEnds, ClosureAnswers}
 use Rattle.tp_step.specs.EveryRest.{HasOneRest, NeverRests, RestsBeyond, EveryRest, ClosureCommutes}
 use Rattle.tp_step.specs.declared.answer.Ending.{Ending}

@@ -1,3 +1,13 @@
+pub mod Listing
+pub mod Carrying
+pub mod CarriedRegions
+pub mod Carried
+pub mod Succeeding
+pub mod NextShape
+pub mod NextStored
+pub mod NextUnmarked
+pub mod NextKept
+pub mod Unlinked
 pub mod MeaningLemmas
 pub mod CarryLemmas
 pub mod ChoiceLemmas

@@ -1,10 +1,10 @@
 -- A step commutes with those of the other items, by the laws of orders.
 use Rattle.std.proofs.Common.{ℕ}
 use Rattle.tp_scene.specs.Pick.{Setting, Moment}
-use Rattle.tp_order.proofs.Again.{failures_stay}
-use Rattle.tp_order.proofs.Commute.{commute}
-use Rattle.tp_order.proofs.MutualFailures.{failures_are_mutual}
-use Rattle.tp_order.proofs.Orderly.{steps_stay_orderly}
+use Rattle.tp_step_laws.proofs.Again.{failures_stay}
+use Rattle.tp_step_laws.proofs.Commute.{commute}
+use Rattle.tp_step_laws.proofs.MutualFailures.{failures_are_mutual}
+use Rattle.tp_step_laws.proofs.Orderly.{steps_stay_orderly}
 use Rattle.tp_step.specs.Answers.{Tries}
 use Rattle.tp_step.specs.OtherItems.{TryCommutes}
 use Rattle.tp_step.specs.declared.answer.Tried.{Tried}

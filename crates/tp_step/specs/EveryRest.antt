@@ -3,9 +3,9 @@ use Rattle.std.specs.Prelude.{◌≡◌, ℕ, ◌+◌, ◌<◌, Bool, List, leng
 use Rattle.tp_kernel.specs.declared.formula.LimitKind.TheVariants as limit
 use Rattle.tp_scene.specs.Pick.{Setting, Moment, Leads}
 use Rattle.tp_scene.specs.Rest.{AtRest}
-use Rattle.tp_renaming.specs.Alike.{Alike}
-use Rattle.tp_order.specs.Orders.{IsOrderly, GoesOnToRest}
-use Rattle.tp_order.specs.States.{ClosesOneWay}
+use Rattle.tp_step_laws.specs.Alike.{Alike}
+use Rattle.tp_step_laws.specs.Orders.{IsOrderly, GoesOnToRest}
+use Rattle.tp_step_laws.specs.States.{ClosesOneWay}
 use Rattle.tp_step.specs.declared.answer.Ending.{Ending}
 use Rattle.tp_step.specs.declared.answer.Ending.TheVariants.{Rest, Clash, Missing, Over}
 

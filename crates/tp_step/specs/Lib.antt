@@ -1,3 +1,5 @@
+pub mod Listing
+pub mod Successors
 pub mod Answers
 pub mod Chosen
 pub mod Closes

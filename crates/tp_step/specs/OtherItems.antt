@@ -1,7 +1,7 @@
 -- What a try of one item leaves of the others, where the moment before it is orderly.
 use Rattle.std.specs.Prelude.{◌≢◌, ◌⊎◌, ℕ, Bool, List, length}
 use Rattle.tp_scene.specs.Pick.{Setting, Moment}
-use Rattle.tp_order.specs.Orders.{IsOrderly, MeetsFailure, StepsTo, BothOrders}
+use Rattle.tp_step_laws.specs.Orders.{IsOrderly, MeetsFailure, StepsTo, BothOrders}
 use Rattle.tp_step.specs.declared.answer.Tried.{Tried}
 use Rattle.tp_step.specs.declared.answer.Tried.TheVariants as tried
 

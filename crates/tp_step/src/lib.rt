@@ -6,7 +6,9 @@ mod carry;
 mod first;
 mod laws;
 mod live;
+mod next_scene;
 mod next_state;
+mod own;
 mod step;
 mod steps;
 

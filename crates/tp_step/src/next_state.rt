@@ -6,6 +6,7 @@ ghost use Rattle.tp_slots.specs.Kept.{IsWellKept};
 ghost use Rattle.tp_slots.specs.Read.{scene_of};
 ghost use Rattle.tp_step.specs.Meaning.{AdvanceMeans, AdvanceIsSound};
 
+use crate::next_scene::next_scene;
 use std::alloc::Global;
 use tp_slots::Scene;
 use tp_value::NoMemory;
@@ -20,6 +21,6 @@ pub fn advance(alloc: Global, scene: Scene) -> Result<Scene, NoMemory>
     ensures means { IfOk result (AdvanceMeans scene) }
     ensures sound { IfOk result (AdvanceIsSound scene) }
 {
-    let next = tp_advance::advance(alloc, scene)?;
+    let next = next_scene(alloc, scene)?;
     Ok(next)
 }

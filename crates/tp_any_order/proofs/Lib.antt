@@ -1,4 +1,0 @@
-pub mod Agree
-pub mod AlikeRuns
-pub mod Beginnings
-pub mod SameName

@@ -1,4 +1,0 @@
-pub mod Outcomes
-pub mod Within
-pub mod Rows
-pub mod Waiting

@@ -1,0 +1,14 @@
+pub mod Agree
+pub mod AlikeRuns
+pub mod Beginnings
+pub mod SameName
+pub mod Kept
+pub mod Found
+pub mod Parts
+pub mod Steps
+pub mod Moments
+pub mod Runs
+pub mod Checked
+pub mod Tables
+pub mod Tokens
+pub mod Phrases

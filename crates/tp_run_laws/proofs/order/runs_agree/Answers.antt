@@ -1,0 +1,5 @@
+use Rattle.tp_run_laws.proofs.Agree.{runs_agree as law}
+use Rattle.tp_run_laws.proofs.order.runs_agree.Goals as goal
+
+pub returns : goal.returns
+returns c = law

@@ -1,0 +1,5 @@
+pub mod Agree
+pub mod AlikeRuns
+pub mod Beginnings
+pub mod Printable
+pub mod PrintableRuns

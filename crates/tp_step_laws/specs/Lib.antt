@@ -1,0 +1,14 @@
+pub mod Outcomes
+pub mod Within
+pub mod Rows
+pub mod WaitingRows
+pub mod Renaming
+pub mod Alike
+pub mod OneRest
+pub mod Edits
+pub mod Orders
+pub mod States
+pub mod Examples
+pub mod Waiting
+pub mod LiveOnce
+pub mod Unmarked
