@@ -12,7 +12,7 @@ ghost use Rattle.tp_decide.specs.Fits.{IsPlain};
 ghost use Rattle.tp_decide.specs.Found.{TruthIn, NumberIn, ValueIn, IsShorter};
 
 use crate::decision::{Decision, Place, becomes_one, due, nothing};
-use crate::leaves::decide_next;
+use crate::formula::decide_next;
 use std::alloc::Global;
 use std::rc::Rc;
 use tp_kernel::{Env, Expr, Formula};

@@ -12,7 +12,6 @@ mod evaluated;
 mod formula;
 mod found;
 mod holder;
-mod leaves;
 mod phrase;
 mod regions;
 mod setting;

@@ -6,8 +6,4 @@ mod answer;
 mod laws;
 
 pub use answer::{Cell, Clash};
-pub use laws::{
-    advances_fit, advances_keep, decided_stays, ends_stand, facts_decide_paths,
-    live_items_are_listed, live_items_stand_in_live_regions, refusals_stand_for_none, rest_waits,
-    runs_begin, status_is_least, steps_fit, steps_keep, waits_are_for_undecided,
-};
+pub use laws::{decided_stays, live_items_are_told, moments_stand, moments_stay_sound, rest_waits, status_is_least, waits_are_for_undecided};

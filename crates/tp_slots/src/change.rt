@@ -1,105 +1,21 @@
 // What an item becomes.
-ghost use Rattle.std.specs.Prelude.{◌≡◌, ◌<◌, length, true, [], ◌∷◌, IfOk, OnOk, OnErr};
-ghost use Rattle.std.specs.Option.{option_map};
+ghost use Rattle.std.specs.Prelude.{◌≡◌, ◌<◌, length, [], ◌∷◌, IfOk, OnOk, OnErr};
 ghost use Rattle.tp_meaning.specs.Syntax.{more};
-ghost use Rattle.tp_scene.specs.Scene as S;
 ghost use Rattle.tp_scene.specs.Scene.{has};
-ghost use Rattle.tp_scene.specs.Pick.{scene_after};
-ghost use Rattle.tp_decide.specs.Decided.{mark_of, plain_leaf};
 ghost use Rattle.tp_decide.specs.Read.{env_of, formula_of};
-ghost use Rattle.tp_slots.specs.News.{bare_leaves, moved_news, new_items};
-ghost use Rattle.tp_slots.specs.Plain as plain;
-ghost use Rattle.tp_slots.specs.Reductions.{CanMove, IsAfter, IsBare, IsReduced, becomes_leaves, becomes_opened, becomes_split, moved_inner, moved_outs};
-ghost use Rattle.tp_slots.specs.Read.{afters_of, holders_of, scene_of, slots_of, what_of, whats_of, item_what};
-ghost use Rattle.tp_slots.specs.Kept.{IsShaped, IsQuiet, IsWellKept, IsUnchanged, Lives, region_lives, IsReducedTo, flags_on};
-ghost use Rattle.tp_slots.specs.Flags.{FlagsFollow};
-ghost use Rattle.tp_slots.specs.Looks.{LooksFollow};
-ghost use Rattle.tp_slots.specs.Threads.{AreThreaded};
+ghost use Rattle.tp_slots.specs.News.{moved_news, new_items};
+ghost use Rattle.tp_slots.specs.Reductions.{CanMove, IsAfter, IsBare, IsReduced, becomes_opened, becomes_split, moved_inner, moved_outs};
+ghost use Rattle.tp_slots.specs.Read.{scene_of, slots_of, what_of, whats_of, item_what};
+ghost use Rattle.tp_slots.specs.Kept.{IsWellKept, IsUnchanged, Lives, IsReducedTo};
 
-use crate::flags::raise;
-use crate::looks::pass_mark;
 use crate::put::{numbers, put};
 use crate::scene::{Scene, What};
 use crate::walk::items_inside;
 use std::alloc::Global;
 use std::rc::Rc;
-use tp_decide::{Leaf, Phrase, Side};
+use tp_decide::Phrase;
 use tp_kernel::Formula;
 use tp_value::NoMemory;
-
-// After a step that marked the region so, the flags are set that follow from the mark.
-fn raise_mark(scene: &mut Scene, region: u64, mark: Option<Side>)
-    requires shape { IsShaped (slots_of scene.old) (holders_of scene.old) }
-    requires region { region < length scene.old.regions.items }
-    requires lives { region_lives scene.old region ≡ true }
-    requires flags { (z : S.Side)
-        → FlagsFollow (slots_of scene.old) (option_map mark_of mark) region z
-        (flags_on z scene.old) }
-    requires quiet { (z : S.Side)
-        → IsQuiet (slots_of scene.old) (holders_of scene.old) (flags_on z scene.old) }
-    requires threads { AreThreaded (slots_of scene.old) (afters_of scene.old) }
-    requires looks { LooksFollow (slots_of scene.old) (option_map mark_of mark)
-        (holders_of scene.old) scene.old.looks }
-    ensures slots { slots_of scene.new ≡ slots_of scene.old }
-    ensures kept { IsWellKept scene.new }
-{
-    match mark {
-        Some(side) => {
-            raise(scene, region, side);
-            pass_mark(&mut scene.looks, side);
-        }
-        None => {}
-    }
-}
-
-/// A leaf, as it stands in a slot.
-pub fn leaf_what(leaf: Leaf) -> What
-    ensures { what_of result ≡ plain.bare (plain_leaf leaf) }
-{
-    match leaf {
-        Leaf::Do(phrase) => What::Do(phrase),
-        Leaf::Later(phrase) => What::Later(phrase),
-        Leaf::Shown(values) => What::Shown(values),
-    }
-}
-
-// Leaves, as they stand in slots.
-fn leaf_whats(alloc: Global, leaves: Vec<Leaf>) -> Result<Vec<What>, NoMemory>
-    ensures { IfOk result (λ v. whats_of v.items ≡ bare_leaves leaves.items) }
-{
-    let mut whats = Vec::new(alloc);
-    for leaf in leaves {
-        whats.push(leaf_what(leaf))?;
-    }
-    Ok(whats)
-}
-
-/// Items that hold no region stand in an item's place, and its region is marked. What became live is answered. Or nothing changes.
-pub fn become_leaves(
-    alloc: Global,
-    scene: &mut Scene,
-    item: u64,
-    news: Vec<Leaf>,
-    mark: Option<Side>,
-) -> Result<Vec<u64>, NoMemory>
-    requires kept { IsWellKept scene.old }
-    requires lives { Lives scene.old item }
-    requires free { IsBare (item_what scene.old item) }
-    ensures kept { IsWellKept scene.new }
-    ensures scene { let reduction =
-        becomes_leaves (scene_of scene.old) (bare_leaves news.items) (option_map mark_of mark)
-        in OnOk result (IsReducedTo item reduction scene.old scene.new) }
-    ensures news { IfOk result (λ v.
-        v.items ≡ new_items (scene_of scene.old) (scene_of scene.new)) }
-    ensures err { OnErr result (IsUnchanged scene.old scene.new) }
-{
-    let fresh = numbers(alloc, scene.slots.len() as u64, news.len())?;
-    let outs = leaf_whats(alloc, news)?;
-    let home = scene.slots[item as usize].home;
-    put(alloc, scene, item, mark, Vec::new(alloc), outs)?;
-    raise_mark(scene, home, mark);
-    Ok(fresh)
-}
 
 // One item, in a list.
 fn one(alloc: Global, what: What) -> Result<Vec<What>, NoMemory>

@@ -1,4 +1,4 @@
-// Which items are live, and where they stand.
+// Which items are live, where they stand, and what is kept of that.
 ghost use Rattle.std.specs.Prelude.{◌≡◌, ◌≤◌, ◌<◌, length, true};
 ghost use Rattle.tp_store.specs.Known.{Contents};
 ghost use Rattle.tp_scene.specs.Scene.{has};
@@ -7,13 +7,14 @@ ghost use Rattle.tp_scene.specs.Pick.{Setting, numbers_of, outcome_of};
 ghost use Rattle.tp_decide.specs.Decided.{plain_place};
 ghost use Rattle.tp_slots.specs.Edit.{stands_in};
 ghost use Rattle.tp_slots.specs.Picked.{IsHolding, first_held, held_step, what_step};
-ghost use Rattle.tp_slots.specs.Read.{scene_of, slots_of, what_of, item_what, item_home};
-ghost use Rattle.tp_slots.specs.Kept.{IsWellKept, Lives, region_place_of, region_lives, PlaceFits, outcome_in, numbers_in};
+ghost use Rattle.tp_slots.specs.Read.{scene_of, slots_of, what_of, item_what, item_home, slot_of};
+ghost use Rattle.tp_slots.specs.Kept.{IsWellKept, Lives, region_place_of, region_lives, PlaceFits, outcome_in, numbers_in, IsUnchanged};
 ghost use Rattle.tp_slots.specs.Lives.{is_item};
+ghost use Rattle.tp_slots.specs.Looks.{looked_at};
 
 use crate::flags::{lives, sees};
-use crate::looks::found_of;
-use crate::scene::{Scene, What};
+use crate::looks::{Look, found_of, keep};
+use crate::scene::{Scene, Slot, What};
 use tp_decide::{Place, Side};
 
 // Whether an item stands there.
@@ -126,4 +127,48 @@ pub fn place_inside(scene: &Scene, item: u64) -> Place
 {
     let slot = &scene.slots[item as usize];
     place(scene, held(&slot.what))
+}
+
+// The region that a try of an item looks at: the first one that it holds, or else that in which it stands.
+fn region_tried(slot: &Slot) -> u64
+    ensures { result ≡ looked_at (slot_of slot.now) }
+{
+    match &slot.what {
+        What::Do(_) | What::Later(_) | What::Shown(_) => slot.home,
+        What::Gone { .. } => slot.home,
+        What::Split { left, .. } => *left,
+        What::SplitProject { left, .. } => *left,
+        What::Closed(closed) => *closed,
+        What::Opened { outer, .. } => *outer,
+        What::Running { inner, .. } => *inner,
+    }
+}
+
+// Keeps what a live region is.
+fn remember_region(scene: &mut Scene, region: u64)
+    requires kept { IsWellKept scene.old }
+    requires region { region < length scene.old.regions.items }
+    requires lives { region_lives scene.old region ≡ true }
+    ensures same { IsUnchanged scene.old scene.new }
+    ensures kept { IsWellKept scene.new }
+{
+    let depth = depth(scene, region);
+    let open_in = if sees(scene, region, Side::Ending) {
+        0
+    } else {
+        scene.looks.round
+    };
+    keep(&mut scene.looks, region, Look { depth, open_in });
+}
+
+/// Keeps what is found of the region at which a try of the live item looks, so that no later look has to walk outward from there. Only where
+/// memory is refused it isn't kept.
+pub fn remember(scene: &mut Scene, item: u64)
+    requires kept { IsWellKept scene.old }
+    requires lives { Lives scene.old item }
+    ensures same { IsUnchanged scene.old scene.new }
+    ensures kept { IsWellKept scene.new }
+{
+    let region = region_tried(&scene.slots[item as usize]);
+    remember_region(scene, region);
 }

@@ -4,47 +4,32 @@ ghost use Rattle.tp_step_laws.specs.Rows.{HolderRowsGrow, LeafRowsGrow};
 ghost use Rattle.tp_step_laws.specs.WaitingRows.{HolderRowsWait, LeafRowsWait, OutcomesWait};
 ghost use Rattle.tp_step_laws.specs.Within.{PicksStayWithin, ValuesWithin};
 
-/// What facts say of places and of additions stays so where more is known.
-pub fn facts_grow()
-    ensures { FactsGrow }
+/// What a step gives stays so where more is known, or it is a failure; and a failure stays one.
+pub fn steps_grow()
+    // What facts say of places and of additions.
+    ensures facts { FactsGrow }
+    // Values, faults and passed limits of expressions.
+    ensures outcomes { OutcomesGrow }
+    // What a formula becomes, and its failures.
+    ensures leaves { LeafRowsGrow }
+    // What an item with a region becomes.
+    ensures holders { HolderRowsGrow }
 {}
 
-/// Values, faults and passed limits of expressions stay where more is known.
-pub fn outcomes_grow()
-    ensures { OutcomesGrow }
+/// What waits goes on waiting for the same cells where more is known, but not of these; and what rests rests on.
+pub fn steps_wait()
+    // Of expressions, for paths.
+    ensures outcomes { OutcomesWait }
+    // Of formulas.
+    ensures leaves { LeafRowsWait }
+    // Of items with a region.
+    ensures holders { HolderRowsWait }
 {}
 
-/// What a formula becomes stays so where more is known, or it is a failure; and a failure stays one.
-pub fn leaf_rows_grow()
-    ensures { LeafRowsGrow }
-{}
-
-/// What an item with a region becomes stays so.
-pub fn holder_rows_grow()
-    ensures { HolderRowsGrow }
-{}
-
-/// Values that are found are within the limits on items and depth, where bound ones are.
-pub fn values_within()
-    ensures { ValuesWithin }
-{}
-
-/// Steps leave bound values and kept lengths within the limits, where inputs are.
-pub fn picks_stay_within()
-    ensures { PicksStayWithin }
-{}
-
-/// An expression that waits for a path goes on waiting for it where more is known, but not of that path.
-pub fn outcomes_wait()
-    ensures { OutcomesWait }
-{}
-
-/// A formula that waits goes on waiting for the same cells where more is known, but not of these; and what rests rests on.
-pub fn leaf_rows_wait()
-    ensures { LeafRowsWait }
-{}
-
-/// So does an item with a region.
-pub fn holder_rows_wait()
-    ensures { HolderRowsWait }
+/// What is found and kept is within the limits, where bound values and inputs are.
+pub fn steps_stay_within()
+    // Values that are found, on items and depth.
+    ensures values { ValuesWithin }
+    // Bound values and kept lengths, after a step.
+    ensures picks { PicksStayWithin }
 {}

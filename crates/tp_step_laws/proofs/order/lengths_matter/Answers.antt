@@ -1,5 +1,5 @@
-use Rattle.tp_step_laws.proofs.Examples.{order_decides as law}
+use Rattle.tp_step_laws.proofs.Examples.{order_decides}
 use Rattle.tp_step_laws.proofs.order.lengths_matter.Goals as goal
 
 pub returns : goal.returns
-returns c = law
+returns c = order_decides

@@ -1,6 +1,16 @@
-use Rattle.tp_step_laws.proofs.Waiting.{waits_stay as law}
-use Rattle.tp_step_laws.proofs.Woken.{waits_stay_until_woken as woken}
+use Rattle.tp_step_laws.proofs.Waiting.{waits_stay, rests_stay}
+use Rattle.tp_step_laws.proofs.Woken.{waits_stay_until_woken}
+use Rattle.tp_step_laws.proofs.Unmarked.{unmarked_steps_end_nothing}
 use Rattle.tp_step_laws.proofs.order.waits_stay.Goals as goal
 
-pub returns : goal.returns
-returns c = record { stay = law; woken = woken }
+pub returns-clause-stay : goal.returns-clause-stay
+returns-clause-stay c = waits_stay
+
+pub returns-clause-woken : goal.returns-clause-woken
+returns-clause-woken c = waits_stay_until_woken
+
+pub returns-clause-unmarked : goal.returns-clause-unmarked
+returns-clause-unmarked c = unmarked_steps_end_nothing
+
+pub returns-clause-rests : goal.returns-clause-rests
+returns-clause-rests c = rests_stay
