@@ -10,11 +10,16 @@ ghost use Rattle.tp_scene.specs.Scene as S;
 
 use crate::calls::decide_call;
 use crate::counting::{decide_instances, decide_turns};
-use crate::decision::{Decision, Leaf, Place, becomes, becomes_one, becomes_two, due, end, go, later, nothing, wait_for_end};
+use crate::decision::{
+    Decision, Leaf, Place, becomes, becomes_one, becomes_two, due, end, go, later, nothing,
+    wait_for_end,
+};
 use crate::display::decide_display;
 use crate::env::shared_under;
 use crate::equation::{decide_equation, decide_input};
-use crate::evaluated::{decide_assign, decide_branch, decide_len, decide_next_equation, decide_test};
+use crate::evaluated::{
+    decide_assign, decide_branch, decide_len, decide_next_equation, decide_test,
+};
 use crate::found::{find_number, find_truth, find_value};
 use crate::phrase::Phrase;
 use crate::regions::{decide_chop, decide_exists, decide_project};

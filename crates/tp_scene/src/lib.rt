@@ -6,4 +6,7 @@ mod answer;
 mod laws;
 
 pub use answer::{Cell, Clash};
-pub use laws::{decided_stays, live_items_are_told, moments_stand, moments_stay_sound, rest_waits, status_is_least, waits_are_for_undecided};
+pub use laws::{
+    decided_stays, live_items_are_told, moments_stand, moments_stay_sound, rest_waits,
+    status_is_least, waits_are_for_undecided,
+};

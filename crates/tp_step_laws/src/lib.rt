@@ -3,9 +3,12 @@
 #![tactic(auto)]
 
 mod growth;
-mod renaming;
 mod order;
+mod renaming;
 
 pub use growth::{steps_grow, steps_stay_within, steps_wait};
+pub use order::{
+    items_live_once, lengths_matter, moments_stay_orderly, states_close_one_way, steps_commute,
+    waits_stay,
+};
 pub use renaming::{alike_moments_go_on, picks_rename};
-pub use order::{items_live_once, lengths_matter, moments_stay_orderly, states_close_one_way, steps_commute, waits_stay};
