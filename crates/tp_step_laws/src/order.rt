@@ -45,7 +45,7 @@ pub fn states_close_one_way()
 
 /// An example of a sound moment past a limit, in which the order of picks decides.
 pub fn lengths_matter()
-    ensures example { OrderDecides }
+    ensures { OrderDecides }
 {}
 
 /// An item that waits or rests goes on so where another one is picked.
@@ -62,5 +62,5 @@ pub fn waits_stay()
 
 /// An item that is picked is gone, and no number that was a live item's becomes one again.
 pub fn items_live_once()
-    ensures once { ItemsLiveOnce }
+    ensures { ItemsLiveOnce }
 {}
