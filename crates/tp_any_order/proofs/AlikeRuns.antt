@@ -10,7 +10,7 @@ use Rattle.tp_show.specs.declared.turn.Turn.TheVariants.{Went, Finished, Contrad
 use Rattle.tp_run.specs.History.{RunEndsWith, end_store}
 use Rattle.tp_run.specs.States.{Plan, globals_of, setting, StatesLead}
 use Rattle.tp_run.specs.PicksOfRun.{SettledState, settled_last, led_states, beginning_of, settled_states}
-use Rattle.tp_renaming.specs.Renaming.{renamed_cell}
+use Rattle.tp_renaming.specs.Maps.{renamed_cell}
 use Rattle.tp_renaming.specs.Alike.{Alike}
 use Rattle.tp_renaming.proofs.AdvanceAlike.{alike_moments_advance}
 use Rattle.tp_order.proofs.Equivalence.{alike_is_equivalence}

@@ -17,7 +17,7 @@ use Rattle.tp_show.specs.EndLine.{end_line}
 use Rattle.tp_show.specs.Told.{IsPictureInRange, FitsIn64Bits, IsEndLine, IsLastTurn, IsStateOf, AgreesWithTold, told_shows}
 use Rattle.tp_show.proofs.ReadBackLemmas.{texts_tell, pictures_told, are_told}
 use Rattle.tp_scene.specs.Pick.{Moment}
-use Rattle.tp_scene.specs.StandsFor.{first_moment}
+use Rattle.tp_scene.specs.Beginning.{first_moment}
 use Rattle.tp_run.specs.States.{Plan, StatesLead, LeadsTo}
 use Rattle.tp_run.specs.History.{RunEndsWith, AgreesWithPictures, shown_from, SatisfiedExactly, ContinuesEach}
 use Rattle.tp_call.specs.declared.status.Status.{Status}

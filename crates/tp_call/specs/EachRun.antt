@@ -7,7 +7,7 @@ use Rattle.tp_show.specs.declared.turn.Picture.{Picture}
 use Rattle.tp_show.specs.declared.turn.Turn.{Turn}
 use Rattle.tp_show.specs.EndLine.{end_line}
 use Rattle.tp_run.specs.States.{Plan, globals_of}
-use Rattle.tp_any_order.specs.AlikeRuns.{FailsNowhere}
+use Rattle.tp_run.specs.Same.{FailsNowhere}
 use Rattle.tp_any_order.specs.Beginnings.{NoDeadEnd}
 use Rattle.tp_call.specs.declared.status.Status.{Status}
 use Rattle.tp_call.specs.Run.{status_of, RunEnds}

@@ -2,7 +2,7 @@
 use Rattle.std.proofs.Common.{refl, ap, sym, subst, ◌∙◌, ◌≡◌, ℕ, zero, suc, ◌+◌, ◌<◌, ◌≤◌, inl, inr, ◌⊎◌, List, [], ◌∷◌, ◌++◌, length, drop, arith, length-drop}
 use Rattle.std.specs.Str.Lines.{lines}
 use Rattle.tp_meaning.specs.Inputs.{InputPair, InputLines}
-use Rattle.tp_inputs.specs.declared.refusal.Fault.{Fault}
+use Rattle.tp_inputs.specs.declared.fault.Fault.{Fault}
 use Rattle.tp_inputs.specs.Parts.{LinePart, Blank, Given, Faulty, BeginsPart}
 use Rattle.tp_inputs.specs.FirstPart.{first_part}
 use Rattle.tp_inputs.specs.Lines.{PassesPart, blank, pair, ReadsPairs, LineEnding, Whole, Fails, whole, passes, fails, IsLine, HasFault}

@@ -4,16 +4,15 @@ use Rattle.std.specs.List.{prefix_len}
 use Rattle.std.specs.Char.{is_ascii_lowercase}
 use Rattle.std.proofs.lemmas.Bool.Decides.{nat_tests}
 use Rattle.tp_value.specs.Tree.{Tree}
-use Rattle.tp_value.specs.Spelling.{is_value_blank}
-use Rattle.tp_value.specs.Answers.{IsRead}
+use Rattle.tp_value.specs.Spelling.{is_value_blank, IsRead}
 use Rattle.tp_value.specs.Reading.{Answer, found, refused, value_answer}
 use Rattle.tp_value.proofs.ReadLemmas.{found_read, read_found}
 use Rattle.tp_lex.specs.declared.token.Word.{Word}
-use Rattle.tp_lex.specs.First.{is_name_byte, name_limit}
+use Rattle.tp_lex.specs.Bytes.{is_name_byte, name_limit}
 use Rattle.tp_lex.specs.Spelling.{spelled_word}
 use Rattle.tp_lex.proofs.SpellingLemmas.{word_is, no_word}
 use Rattle.tp_meaning.specs.Inputs.{InputPair, port_value}
-use Rattle.tp_inputs.specs.declared.refusal.Fault.TheVariants as f
+use Rattle.tp_inputs.specs.declared.fault.Fault.TheVariants as f
 use Rattle.tp_inputs.specs.Parts.{LinePart, Blank, Given, Faulty, BeginsPort, IsNewPort, is_set_apart, BeginsPart, blank, pair, no_port, twice, no_value, not_apart}
 use Rattle.tp_inputs.specs.FirstPart.{port_len, value_part, new_part, pair_of_len, pair_part, first_part}
 

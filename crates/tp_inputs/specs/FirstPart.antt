@@ -6,10 +6,10 @@ use Rattle.tp_value.specs.declared.reading.ReadValue.{ReadValue}
 use Rattle.tp_value.specs.Tree.{Tree}
 use Rattle.tp_value.specs.Spelling.{is_value_blank}
 use Rattle.tp_value.specs.Reading.{Answer, found, refused, value_answer}
-use Rattle.tp_lex.specs.First.{is_name_byte, name_limit}
+use Rattle.tp_lex.specs.Bytes.{is_name_byte, name_limit}
 use Rattle.tp_lex.specs.Spelling.{spelled_word}
 use Rattle.tp_meaning.specs.Inputs.{InputPair, port_value}
-use Rattle.tp_inputs.specs.declared.refusal.Fault.TheVariants as f
+use Rattle.tp_inputs.specs.declared.fault.Fault.TheVariants as f
 use Rattle.tp_inputs.specs.Parts.{LinePart, Blank, Given, Faulty, is_set_apart, fault_of}
 
 -- whether the first n bytes, all those of a name, are a port with `=` behind it

@@ -1,7 +1,7 @@
 -- The pairs of a line of inputs, or its first fault: read from the front.
 use Rattle.std.specs.Prelude.{◌≡◌, ℕ, List, [], ◌∷◌, ◌++◌, drop}
 use Rattle.tp_meaning.specs.Inputs.{InputPair}
-use Rattle.tp_inputs.specs.declared.refusal.Fault.{Fault}
+use Rattle.tp_inputs.specs.declared.fault.Fault.{Fault}
 use Rattle.tp_inputs.specs.Parts.{Blank, Given, Faulty, BeginsPart}
 
 -- how the reading of a line ends: with the whole line, or at a fault

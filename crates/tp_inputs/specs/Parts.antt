@@ -5,14 +5,13 @@ use Rattle.std.specs.Char.{is_ascii_lowercase}
 use Rattle.tp_value.specs.declared.reading.ReadValue.{ReadValue}
 use Rattle.tp_value.specs.declared.reading.ReadValue.TheVariants.{NoValue, TooLarge, TooLong, TooDeep, NoMemory}
 use Rattle.tp_value.specs.Tree.{Tree}
-use Rattle.tp_value.specs.Spelling.{is_value_blank}
+use Rattle.tp_value.specs.Spelling.{is_value_blank, IsRead}
 use Rattle.tp_value.specs.Reading.{refused, value_answer}
-use Rattle.tp_value.specs.Answers.{IsRead}
-use Rattle.tp_lex.specs.First.{is_name_byte, name_limit}
+use Rattle.tp_lex.specs.Bytes.{is_name_byte, name_limit}
 use Rattle.tp_lex.specs.Pieces.{IsNoWord}
 use Rattle.tp_meaning.specs.Inputs.{InputPair, port_value}
-use Rattle.tp_inputs.specs.declared.refusal.Fault.{Fault}
-use Rattle.tp_inputs.specs.declared.refusal.Fault.TheVariants as f
+use Rattle.tp_inputs.specs.declared.fault.Fault.{Fault}
+use Rattle.tp_inputs.specs.declared.fault.Fault.TheVariants as f
 
 -- a blank, a pair with the number of its bytes, or a fault
 pub data LinePart : Type 0 where

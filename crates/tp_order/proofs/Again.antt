@@ -13,7 +13,8 @@ use Rattle.tp_order.specs.Edits.{Edit, head_after, edited, single, Natural, Grow
 use Rattle.tp_growth.specs.Rows.{Grows, IsFailure, SameFacts, GrownTo, HolderGrown}
 use Rattle.tp_growth.specs.Outcomes.{KnowsMore}
 use Rattle.tp_growth.specs.Within.{LengthsAreWithin}
-use Rattle.tp_renaming.specs.Renaming.{Renaming, renamed_binding, renamed_bindings, renamed_leaf, renamed_holder, renamed_second, renamed_entries, Renamed}
+use Rattle.tp_renaming.specs.Renaming.{renamed_binding, renamed_bindings, renamed_leaf, renamed_holder, renamed_second, renamed_entries, Renamed}
+use Rattle.tp_renaming.specs.Maps.{Renaming}
 use Rattle.tp_order.specs.Orders.{FailuresStay}
 use Rattle.tp_order.proofs.Orderly.{steps_stay_orderly}
 use Rattle.tp_growth.proofs.FactsGrow.{kept_before}

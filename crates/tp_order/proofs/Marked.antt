@@ -10,7 +10,8 @@ use Rattle.tp_scene.proofs.Grown.{not_both}
 use Rattle.tp_scene.proofs.Keep.{live_fits}
 use Rattle.tp_order.specs.Edits.{Edit, is_side, marks, head_after, edited, single, Thing, At, this_leaf, past_leaf, this_node, in_first, in_second, past_node, Carry, New}
 use Rattle.tp_growth.specs.Rows.{Grows}
-use Rattle.tp_renaming.specs.Renaming.{Renaming, renamed_entries, renamed_place}
+use Rattle.tp_renaming.specs.Renaming.{renamed_entries, renamed_place}
+use Rattle.tp_renaming.specs.Maps.{Renaming}
 use Rattle.tp_order.proofs.Stay.{head_grows, status_up, held_grows, second_grows}
 use Rattle.tp_renaming.proofs.RenamePick.{lives_to, held_to, second_place_to}
 

@@ -7,8 +7,8 @@ use Rattle.std.proofs.lemmas.Fmt.{decimal_injective}
 use Rattle.tp_value.specs.Tree.{Tree}
 use Rattle.tp_value.specs.Range.{HasMachineNumbers}
 use Rattle.tp_value.specs.declared.path.Fact.{Fact}
-use Rattle.tp_kernel.specs.declared.formula.LimitKind.{LimitKind}
-use Rattle.tp_kernel.specs.declared.formula.LimitKind.TheVariants as limit
+use Rattle.tp_kernel.specs.declared.fault.LimitKind.{LimitKind}
+use Rattle.tp_kernel.specs.declared.fault.LimitKind.TheVariants as limit
 use Rattle.tp_store.specs.Known.{Variable}
 use Rattle.tp_decide.specs.Read.{shows_of}
 use Rattle.tp_show.specs.declared.turn.Picture.{Picture}
