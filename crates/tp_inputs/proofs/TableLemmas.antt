@@ -6,7 +6,8 @@ use Rattle.tp_inputs.specs.declared.fault.Fault.{Fault}
 use Rattle.tp_inputs.specs.declared.fault.Fault.TheVariants.{Bad, Twice, TooLong}
 use Rattle.tp_inputs.specs.declared.refusal.LineRefusal.{LineRefusal}
 use Rattle.tp_inputs.specs.declared.refusal.LineRefusal.TheVariants as l
-use Rattle.tp_inputs.specs.Lines.{IsLine, HasFault}
+use Rattle.tp_inputs.specs.Lines.{IsLine}
+use Rattle.tp_inputs.specs.Faults.{HasFault}
 use Rattle.tp_inputs.specs.Table.{AreLines, IsFirstFault, IsInputsRefusal, IsInputsText}
 use Rattle.tp_inputs.specs.Read.{refusal_in, IsLineRefusal}
 

@@ -1,5 +1,5 @@
 -- The formulas of the derived operators.
-use Rattle.std.specs.Prelude.{ℕ, [], ◌∷◌, zero, suc}
+use Rattle.std.specs.Prelude.{ℕ, [], ◌∷◌}
 use Rattle.tp_meaning.specs.Syntax.{ExprTree, FormulaTree, equation, next_equation, empty, more, next, if_more, if_empty, always, conjunction, branch, chop, while, negation, size, formulas_of}
 
 -- skip
@@ -41,8 +41,3 @@ list_of_length l e = equation (size l) e
 -- next .. next t = e, with k of `next`
 abbrev pub next_equals_of : (k : ℕ) → (t e : ExprTree) → FormulaTree
 next_equals_of k t e = conjunction (formulas_of (more ∷ next_equation k t e ∷ []))
-
--- under n times `next`
-abbrev pub nexts : ℕ → FormulaTree → FormulaTree
-nexts zero f = f
-nexts (suc n) f = next (nexts n f)

@@ -6,7 +6,8 @@ use Rattle.tp_meaning.specs.Course.{Part, Course, Shows, blank, ◌⊕◌, shown
 use Rattle.tp_meaning.specs.Value.{Env, fixed}
 use Rattle.tp_meaning.specs.Inputs.{input_at}
 use Rattle.tp_meaning.specs.Holds.{Context, Holds, Joined, Chopped, Projected, env_at_cuts}
-use Rattle.tp_meaning.specs.Derived.{fin_of, nexts}
+use Rattle.tp_meaning.specs.Derived.{fin_of}
+use Rattle.tp_meaning.specs.Nexts.{nexts}
 use Rattle.tp_meaning.specs.Direct.{DirectMeaning, Means, ValueIs}
 
 -- what f says

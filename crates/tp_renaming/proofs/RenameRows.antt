@@ -7,7 +7,7 @@ use Rattle.tp_value.specs.declared.value.Shape.TheVariants.{Items}
 use Rattle.tp_value.specs.declared.path.Path.{Path}
 use Rattle.tp_value.specs.declared.path.Fact.{Fact}
 use Rattle.tp_meaning.specs.Syntax.{ExprTree, ExprTrees, no_expr, expr_then, numeral, known, bound, global, size, index, FormulaTree, FormulaTrees, no_formula, formula_then, trivial, test, equation, next_equation, empty, more, next, weak_next, if_more, if_empty, always, conjunction, branch, len, assign, chop, while, for_from, forall_from, project, exists, call, input, display, formulas_of, Definition, BindingTree, place_binding, known_binding}
-use Rattle.tp_meaning.specs.Derived.{nexts}
+use Rattle.tp_meaning.specs.Nexts.{nexts}
 use Rattle.tp_meaning.specs.Value.{is_upper}
 use Rattle.tp_meaning.specs.Inputs.{input_at}
 use Rattle.tp_meaning.specs.Fits.{ExprFits, ExprsFit, FormulaFits, DefinitionsFit}

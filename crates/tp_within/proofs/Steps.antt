@@ -9,7 +9,7 @@ use Rattle.tp_value.specs.Number.{IsNumber, number_limit}
 use Rattle.tp_value.specs.Limits.{length_limit, IsWithinLimits}
 use Rattle.tp_value.specs.declared.path.Fact.{Fact}
 use Rattle.tp_meaning.specs.Syntax.{known, FormulaTree, equation, next_equation, always, len, assign, while, for_from, forall_from, Definition}
-use Rattle.tp_meaning.specs.Derived.{nexts}
+use Rattle.tp_meaning.specs.Nexts.{nexts}
 use Rattle.tp_meaning.specs.Inputs.{InputPair, InputLines, port_value, input_at}
 use Rattle.tp_store.specs.Known.{adds, addition, Variable}
 use Rattle.tp_scene.specs.Scene.{Bindings, Side, Ending, Going, Head, Leaf, Do, Later, Shown, Holder, Split, SplitProject, Opened, Entries, none, leaf, node, new_head, no_region, second_lives, has, append, Place, held_place}
