@@ -11,7 +11,7 @@ use Rattle.tp_show.specs.declared.turn.Turn.{Turn}
 use Rattle.tp_show.specs.declared.turn.Turn.TheVariants.{Went, Finished, Contradictory, Undetermined, StateLimit, InputMissing, Over}
 use Rattle.tp_run.specs.History.{RunEndsWith, end_store}
 use Rattle.tp_run.specs.States.{Plan, globals_of}
-use Rattle.tp_run.specs.PicksOfRun.{SettledState, settled_states}
+use Rattle.tp_run.specs.SettledStates.{SettledState, settled_states}
 use Rattle.tp_renaming.specs.Maps.{Renaming, FixesBelow, renamed_cell}
 use Rattle.tp_renaming.specs.Alike.{Alike}
 use Rattle.tp_run.specs.Same.{SamePicture, FailsIn}

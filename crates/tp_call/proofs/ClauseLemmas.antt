@@ -1,6 +1,6 @@
 -- What the table of the answers says of each answer.
 use Rattle.std.proofs.Common.{◌≡◌, ◌⊎◌, ◌<◌, ◌^◌, inl, inr, ℕ, List, length, Option, None, Some, refl, ap, sym, ◌∙◌, subst, arith}
-use Rattle.tp_io.specs.Devices.{Held, bytes_of}
+use Rattle.tp_io.specs.Held.{Held, bytes_of}
 use Rattle.tp_inputs.proofs.LawLemmas.{no_faulty_table, one_first_fault}
 use Rattle.tp_meaning.specs.Interval.{ProgramTree}
 use Rattle.tp_scene.specs.declared.answer.Cell.{Cell}

@@ -3,7 +3,7 @@ use Rattle.std.proofs.Common.{◌≡◌, inl, inr, ◌+◌, ◌<◌, ℕ, suc, L
 use Rattle.std.proofs.lemmas.List.{length-map}
 use Rattle.std.proofs.lemmas.List.Elements.{All-nil, All-cons, All-head, All-tail, All-contains}
 use Rattle.tp_lex.specs.Names.{token_names}
-use Rattle.tp_io.specs.Devices.{Held, bytes_of}
+use Rattle.tp_io.specs.Held.{Held, bytes_of}
 use Rattle.tp_tree.specs.Names.{source_names}
 use Rattle.tp_parse.proofs.NameLemmas.{names_are_tokens}
 use Rattle.tp_inputs.specs.Table.{IsInputsText}

@@ -1,7 +1,7 @@
 -- What a call may answer, and what it writes.
 use Rattle.std.specs.Prelude.{◌≡◌, ◌⊎◌, ◌≤◌, ◌<◌, ◌^◌, ℕ, List, [], ◌++◌, length, take, All, Option, None, Some}
 use Rattle.tp_lex.specs.Place.{source_limit}
-use Rattle.tp_io.specs.Devices.{Held, bytes_of}
+use Rattle.tp_io.specs.Held.{Held, bytes_of}
 use Rattle.tp_show.specs.declared.turn.Picture.{Picture}
 use Rattle.tp_run.specs.States.{Plan}
 use Rattle.tp_call.specs.declared.status.Refused.{Refused}

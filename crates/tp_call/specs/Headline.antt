@@ -1,7 +1,7 @@
 -- What a call promises of its answer, one sentence each: of the words, of what the files hold, of
 -- what was written before and after, and of the status that is answered.
 use Rattle.std.specs.Prelude.{◌≡◌, ◌⊎◌, ℕ, List, length, Option, None, Some}
-use Rattle.tp_io.specs.Devices.{Held}
+use Rattle.tp_io.specs.Held.{Held}
 use Rattle.tp_scene.specs.declared.answer.Cell.{Cell}
 use Rattle.tp_scene.specs.declared.answer.Clash.{Clash}
 use Rattle.tp_run.specs.History.{SatisfiedExactly, Satisfiable, Unsatisfiable, ContinuesEach}

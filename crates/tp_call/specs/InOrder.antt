@@ -1,7 +1,7 @@
 -- Which failure of a state a call names: the one that a closure of this state meets in the order
 -- that the words ask for.
 use Rattle.std.specs.Prelude.{◌≡◌, ℕ, List, length, Option, Some, IfSome}
-use Rattle.tp_io.specs.Devices.{Held}
+use Rattle.tp_io.specs.Held.{Held}
 use Rattle.tp_scene.specs.Pick.{Moment}
 use Rattle.tp_step.specs.declared.order.Order.{Order}
 use Rattle.tp_show.specs.declared.turn.Picture.{Picture}

@@ -1,7 +1,7 @@
 -- What the parts of a call answer.
 use Rattle.std.specs.Prelude.{◌≡◌, ◌⊎◌, ℕ, List, take, Option, None, Some}
 use Rattle.std.specs.Str.Lines.{lines}
-use Rattle.tp_io.specs.Devices.{Held, bytes_of}
+use Rattle.tp_io.specs.Held.{Held, bytes_of}
 use Rattle.tp_words.specs.declared.mode.Mode.{Mode}
 use Rattle.tp_words.specs.Words.{wanted_of}
 use Rattle.tp_inputs.specs.declared.fault.Fault.{Fault}

@@ -1,6 +1,6 @@
 -- The text of a run is a trace of its states.
 use Rattle.std.specs.Prelude.{◌≡◌, ◌<◌, ℕ, List, map, length, Option, Some}
-use Rattle.tp_io.specs.Devices.{Held}
+use Rattle.tp_io.specs.Held.{Held}
 use Rattle.tp_show.specs.declared.turn.Picture.{Picture}
 use Rattle.tp_show.specs.Trace.{IsTraceText}
 use Rattle.tp_show.specs.TraceFacts.{named_facts}

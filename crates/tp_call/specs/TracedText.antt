@@ -1,7 +1,7 @@
 -- What the text of a run says to whoever has it alone, where there may be trace lines in it.
 use Rattle.std.specs.Prelude.{◌≡◌, ℕ, true, List, [], ◌∷◌, ◌++◌, map, All, Option, Some, codes}
 use Rattle.std.specs.List.{flat_map}
-use Rattle.tp_io.specs.Devices.{Held}
+use Rattle.tp_io.specs.Held.{Held}
 use Rattle.tp_store.specs.Known.{Variable}
 use Rattle.tp_show.specs.declared.turn.Turn.{Turn}
 use Rattle.tp_show.specs.Line.{ToldState, told_lines, IsOneLine, fed_line}

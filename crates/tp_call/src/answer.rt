@@ -1,7 +1,7 @@
 // From the words to the answer.
 ghost use Rattle.std.specs.Prelude.{◌≡◌, ◌≢◌, ◌≤◌, ◌<◌, ◌^◌, ℕ, List, [], length, Option, Some, Err, IfOk, IfErr, option_map};
 ghost use Rattle.tp_lex.specs.Place.{source_limit};
-ghost use Rattle.tp_io.specs.Devices.{Held, Rose, bytes_of};
+ghost use Rattle.tp_io.specs.Held.{Held, Rose, bytes_of};
 ghost use Rattle.tp_meaning.specs.Fits.{ProgramFits};
 ghost use Rattle.tp_check.specs.Program.{program_tree};
 ghost use Rattle.tp_call.specs.Source.{IsProgram};

@@ -1,6 +1,7 @@
 // Running a program, and writing its states.
 ghost use Rattle.std.specs.Prelude.{◌≡◌, ◌≤◌, ◌++◌, true, IfOk, IsErr, IsErrOf, OnOk};
-ghost use Rattle.tp_io.specs.Devices.{Rose, Writes};
+ghost use Rattle.tp_io.specs.Devices.{Writes};
+ghost use Rattle.tp_io.specs.Held.{Rose};
 ghost use Rattle.tp_kernel.specs.Read.{formula_tree};
 ghost use Rattle.tp_meaning.specs.Fits.{ProgramFits};
 ghost use Rattle.tp_check.specs.Program.{program_tree};

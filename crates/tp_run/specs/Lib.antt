@@ -8,3 +8,4 @@ pub mod Same
 pub mod EachOrder
 pub mod Standing
 pub mod Advances
+pub mod SettledStates
