@@ -2,13 +2,13 @@
 use Rattle.std.proofs.Common.{◌≡◌, ◌+◌, ◌<◌, ◌^◌, inl, inr, ℕ, List, [], ◌∷◌, ◌++◌, length, take, true, All, Option, Some, None, Ok, Err, IsTrue, refl, sym, ap, ◌∙◌, subst}
 use Rattle.std.proofs.Math.Seq.{take-append-add}
 use Rattle.std.proofs.lemmas.List.{append-nil}
-use Rattle.tp_io.specs.Devices.{Held}
+use Rattle.tp_io.specs.Held.{Held}
 use Rattle.tp_meaning.specs.Fits.{ProgramFits}
 use Rattle.tp_io.specs.declared.devices.WriteRefusal.TheVariants as sink
 use Rattle.tp_show.specs.declared.turn.Picture.{Picture}
 use Rattle.tp_show.specs.declared.turn.Turn.{Turn}
 use Rattle.tp_show.specs.declared.turn.Turn.TheVariants as turn
-use Rattle.tp_scene.specs.StandsFor.{first_moment}
+use Rattle.tp_scene.specs.Beginning.{first_moment}
 use Rattle.tp_run.specs.Runs.{program_of, store_of}
 use Rattle.tp_run.specs.History.{RunEndsWith, end_store}
 use Rattle.tp_run.proofs.HistoryLemmas.{index_first}
@@ -24,7 +24,8 @@ use Rattle.tp_call.specs.EndLine.{refusal_line}
 use Rattle.tp_call.specs.Printed.{written_state, lead_text, ended_text, settled_text, next_moment}
 use Rattle.tp_call.specs.Written.{Wrote}
 use Rattle.tp_meaning.specs.Interval.{ProgramTree}
-use Rattle.tp_run.specs.States.{Plan, RunPlace}
+use Rattle.tp_run.specs.States.{Plan}
+use Rattle.tp_run.specs.Standing.{RunPlace}
 use Rattle.tp_call.specs.Run.{status_of, RunEnds, Settles}
 use Rattle.tp_call.specs.Progress.{Turned, is_settled, printed_lines, PartMade, HasWritten, ProgramMade, ClosesRun}
 use Rattle.tp_tree.specs.Tree.{SourceTree}

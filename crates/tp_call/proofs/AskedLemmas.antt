@@ -1,7 +1,8 @@
 -- The names that a call asks for.
 use Rattle.std.proofs.Common.{◌≡◌, ◌+◌, inl, inr, ℕ, List, [], ◌∷◌, ◌++◌, Option, None, Some, Result, Ok, Err, IfErr, refl, sym, ap, ◌∙◌, subst, append_assoc}
 use Rattle.std.proofs.lemmas.List.{append-nil}
-use Rattle.tp_io.specs.Devices.{Held, and_one_more}
+use Rattle.tp_io.specs.Devices.{and_one_more}
+use Rattle.tp_io.specs.Held.{Held}
 use Rattle.tp_words.specs.Words.{Wanted, wanted_of}
 use Rattle.tp_words.specs.declared.mode.Mode.{Mode}
 use Rattle.tp_words.specs.declared.mode.Mode.TheVariants.{Run}

@@ -1,6 +1,6 @@
 -- What the table of the answers says of each answer.
 use Rattle.std.proofs.Common.{◌≡◌, ◌⊎◌, ◌<◌, ◌^◌, inl, inr, ℕ, List, length, Option, None, Some, refl, ap, sym, ◌∙◌, subst, arith}
-use Rattle.tp_io.specs.Devices.{Held, bytes_of}
+use Rattle.tp_io.specs.Held.{Held, bytes_of}
 use Rattle.tp_inputs.proofs.LawLemmas.{no_faulty_table, one_first_fault}
 use Rattle.tp_meaning.specs.Interval.{ProgramTree}
 use Rattle.tp_scene.specs.declared.answer.Cell.{Cell}
@@ -19,12 +19,11 @@ use Rattle.tp_call.specs.declared.status.Status.TheVariants.{Finished, Done, Con
 use Rattle.tp_call.specs.declared.status.Which.{Which}
 use Rattle.tp_call.specs.declared.status.Which.TheVariants.{Source, Inputs}
 use Rattle.tp_call.specs.declared.status.SourceKind.{SourceKind}
-use Rattle.tp_call.specs.declared.refused.Refused.{Refused}
-use Rattle.tp_call.specs.Parts.{refused_status}
+use Rattle.tp_call.specs.declared.status.Refused.{Refused}
+use Rattle.tp_call.specs.Answer.{refused_status, WhereTold, AsTold, IsAskedFor, HasInputs, HoldsTable, HoldsProgram, HoldsSource, HoldsRefused, IsToPrint, Spells, WritesSpelling, IsPastLimit, HasBadLine, Serves, ReadsFile, Refuses, RunsTo, CallEnds, Answers, Prints, IsOrStopped, IsOrFailed, IsEndOfRun, IsOpenEnd, HasFailed}
 use Rattle.tp_call.specs.Written.{Wrote}
 use Rattle.tp_call.specs.Run.{EndSays}
 use Rattle.tp_call.specs.Text.{AsksNothingBeside, TextTells, SatisfiedAsTold, ContinuesTold, finished_line}
-use Rattle.tp_call.specs.Answer.{WhereTold, AsTold, IsAskedFor, HasInputs, HoldsTable, HoldsProgram, HoldsSource, HoldsRefused, IsToPrint, Spells, WritesSpelling, IsPastLimit, HasBadLine, Serves, ReadsFile, Refuses, RunsTo, CallEnds, Answers, Prints, IsOrStopped, IsOrFailed, IsEndOfRun, IsOpenEnd, HasFailed}
 use Rattle.tp_call.proofs.FileLemmas.{where_told, source_read, inputs_read}
 use Rattle.tp_call.proofs.ProgramLemmas.{program_or_refused, source_or_outside, refused_once}
 use Rattle.tp_call.proofs.TurnLemmas.{answer_of, answer_is, ends_run}

@@ -1,7 +1,7 @@
 -- A call prints the text of each run that there is, and each beginning goes on to its end.
 use Rattle.std.proofs.Common.{◌≡◌, inl, inr, ℕ, List, ◌++◌, length, Option, Some, ap₂, sym, ◌∙◌, subst}
-use Rattle.tp_io.specs.Devices.{Held}
-use Rattle.tp_kernel.specs.declared.formula.LimitKind.TheVariants as limit
+use Rattle.tp_io.specs.Held.{Held}
+use Rattle.tp_kernel.specs.declared.fault.LimitKind.TheVariants as limit
 use Rattle.tp_show.specs.declared.turn.Picture.{Picture}
 use Rattle.tp_show.specs.declared.turn.Turn.{Turn}
 use Rattle.tp_show.specs.declared.turn.Turn.TheVariants as turn
@@ -9,7 +9,7 @@ use Rattle.tp_show.specs.EndLine.{end_line}
 use Rattle.tp_run.specs.History.{RunEndsWith}
 use Rattle.tp_run.specs.States.{Plan, globals_of}
 use Rattle.tp_run_laws.specs.Agree.{IsOrderlyPlan}
-use Rattle.tp_run_laws.specs.AlikeRuns.{FailsNowhere}
+use Rattle.tp_run.specs.Same.{FailsNowhere}
 use Rattle.tp_run_laws.specs.Beginnings.{NoDeadEnd}
 use Rattle.tp_run_laws.proofs.Agree.{runs_agree}
 use Rattle.tp_run_laws.proofs.AlikeRuns.{all_runs_are_alike}

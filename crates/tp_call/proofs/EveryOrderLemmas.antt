@@ -1,6 +1,6 @@
 -- A call comes to the end of each run that there is.
 use Rattle.std.proofs.Common.{◌≡◌, inl, inr, ℕ, List, Option, None, Some, refl, ap, sym, ◌∙◌, subst}
-use Rattle.tp_io.specs.Devices.{Held, bytes_of}
+use Rattle.tp_io.specs.Held.{Held, bytes_of}
 use Rattle.tp_inputs.specs.Within.{InputsWithin}
 use Rattle.tp_inputs.proofs.LawLemmas.{one_table}
 use Rattle.tp_inputs.proofs.WithinLemmas.{tables_within}

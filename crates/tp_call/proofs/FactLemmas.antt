@@ -8,13 +8,12 @@ use Rattle.tp_meaning.specs.Interval.{kinds_of}
 use Rattle.tp_store.specs.Facts.{kept_shape, fact}
 use Rattle.tp_store.specs.Known.{Contents, Variable, IsVariableOf, facts_below, global_variable}
 use Rattle.tp_store.proofs.Members.{In, in_filter, kept_in, in_kept}
-use Rattle.tp_scene.specs.Laws.{StoreFits}
+use Rattle.tp_scene.specs.Laws.{StoreFits, IsSound}
 use Rattle.tp_scene.specs.Fits.{kinds_in}
 use Rattle.tp_scene.proofs.Globals.{of_variables_in, in_of_variables}
 use Rattle.tp_meaning.specs.Fits.{ProgramFits}
-use Rattle.tp_scene.specs.Laws.{IsSound}
 use Rattle.tp_scene.specs.Pick.{Moment, Leads}
-use Rattle.tp_scene.specs.StandsFor.{first_moment}
+use Rattle.tp_scene.specs.Beginning.{first_moment}
 use Rattle.tp_show.specs.declared.turn.Picture.{Picture}
 use Rattle.tp_show.specs.declared.turn.Turn.{Turn}
 use Rattle.tp_show.specs.declared.turn.Turn.TheVariants as turn

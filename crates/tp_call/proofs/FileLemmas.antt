@@ -1,6 +1,6 @@
 -- Which file is found among those that a mode reads.
 use Rattle.std.proofs.Common.{◌≡◌, inl, inr, ℕ, List, ◌∷◌, Option, None, Some, refl, sym, ap, ◌∙◌, subst}
-use Rattle.tp_io.specs.Devices.{Held, bytes_of}
+use Rattle.tp_io.specs.Held.{Held, bytes_of}
 use Rattle.tp_words.specs.declared.mode.Mode.{Mode}
 use Rattle.tp_words.specs.declared.mode.Mode.TheVariants.{Run, Print}
 use Rattle.tp_words.specs.Words.{Wanted, wanted_of}

@@ -1,7 +1,7 @@
 -- A call names the failure that the order of the words meets.
 use Rattle.std.proofs.Common.{◌≡◌, inl, inr, ℕ, List, Option, None, Some, sym, subst}
-use Rattle.tp_io.specs.Devices.{Held}
-use Rattle.tp_step.specs.declared.answer.Order.{Order}
+use Rattle.tp_io.specs.Held.{Held}
+use Rattle.tp_step.specs.declared.order.Order.{Order}
 use Rattle.tp_run.specs.States.{Plan}
 use Rattle.tp_call.specs.declared.run.Task.{Task}
 use Rattle.tp_call.specs.declared.status.Status.{Status}

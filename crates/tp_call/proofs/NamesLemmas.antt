@@ -6,7 +6,7 @@ use Rattle.std.proofs.lemmas.Bool.{or_parts}
 use Rattle.std.proofs.lemmas.Bool.Decides.{nat_tests}
 use Rattle.std.proofs.lemmas.List.Elements.{All-head, All-tail, All-contains}
 use Rattle.std.proofs.lemmas.Slice.Eq.{bytes_eq-Decides}
-use Rattle.tp_lex.specs.First.{is_name_byte}
+use Rattle.tp_lex.specs.Bytes.{is_name_byte}
 use Rattle.tp_lex.specs.Names.{token_names, IsNameText}
 use Rattle.tp_lex.proofs.NameLemmas.{names_are_spelled}
 use Rattle.tp_tree.specs.Names.{source_names}

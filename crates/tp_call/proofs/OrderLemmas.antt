@@ -2,11 +2,12 @@
 use Rattle.std.proofs.Common.{◌≡◌, ℕ, List, length, Option, Some, IfSome, sym, ap, ◌∙◌, subst}
 use Rattle.tp_scene.specs.Pick.{Moment}
 use Rattle.tp_store.specs.Known.{Contents}
-use Rattle.tp_step.specs.declared.answer.Order.{Order}
+use Rattle.tp_step.specs.declared.order.Order.{Order}
 use Rattle.tp_show.specs.declared.turn.Picture.{Picture}
 use Rattle.tp_show.specs.declared.turn.Turn.{Turn}
 use Rattle.tp_show.specs.declared.turn.Turn.TheVariants as turn
-use Rattle.tp_run.specs.States.{Plan, setting, RunPlace, Standing, open_at, StateBecomes}
+use Rattle.tp_run.specs.States.{Plan, setting}
+use Rattle.tp_run.specs.Standing.{RunPlace, Standing, open_at, StateBecomes}
 use Rattle.tp_run.specs.Ordered.{IsNamedInOrder}
 use Rattle.tp_run.specs.Same.{FailsIn}
 use Rattle.tp_call.specs.declared.run.Ended.{Ended}

@@ -12,7 +12,7 @@ use Rattle.tp_meaning.specs.Interval.{ProgramTree}
 use Rattle.tp_check.specs.Outcome.{CheckOutcome}
 use Rattle.tp_check.specs.Program.{ChecksTo}
 use Rattle.tp_check.proofs.Determined.{checks_once}
-use Rattle.tp_call.specs.declared.refused.Refused.{Refused}
+use Rattle.tp_call.specs.declared.status.Refused.{Refused}
 use Rattle.tp_words.specs.declared.mode.Mode.{Mode}
 use Rattle.tp_words.specs.declared.mode.Mode.TheVariants.{Run, Print}
 use Rattle.tp_call.specs.Spelling.{IsReadFromSpelling}

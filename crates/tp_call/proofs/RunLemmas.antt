@@ -3,13 +3,14 @@ use Rattle.std.proofs.Common.{◌≡◌, ◌+◌, ◌<◌, ℕ, suc, List, [], �
 use Rattle.std.proofs.lemmas.List.{append-nil}
 use Rattle.std.proofs.lemmas.List.Elements.{All-nil, All-push}
 use Rattle.tp_scene.specs.Pick.{Moment}
-use Rattle.tp_scene.specs.StandsFor.{first_moment}
+use Rattle.tp_scene.specs.Beginning.{first_moment}
 use Rattle.tp_show.specs.declared.turn.Picture.{Picture}
 use Rattle.tp_show.specs.declared.turn.Turn.{Turn}
 use Rattle.tp_show.specs.declared.turn.Turn.TheVariants as turn
 use Rattle.tp_show.specs.Told.{IsPictureInRange}
-use Rattle.tp_run.specs.States.{Plan, Standing, open_at, answered, RunPlace, AnswersState, StateGoesOn, StatesLead, StateBecomes, state_after}
-use Rattle.tp_run.specs.History.{Advances}
+use Rattle.tp_run.specs.States.{Plan, StateGoesOn, StatesLead}
+use Rattle.tp_run.specs.Standing.{Standing, open_at, answered, RunPlace, AnswersState, StateBecomes, state_after}
+use Rattle.tp_run.specs.Advances.{Advances}
 use Rattle.tp_run.proofs.HistoryLemmas.{lead_more, advance_by, index_next, index_first}
 use Rattle.tp_call.specs.Printed.{written_state, states_text, lead_text, moment_with, next_moment}
 use Rattle.tp_call.specs.Written.{Wrote}

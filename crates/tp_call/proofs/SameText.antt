@@ -18,9 +18,10 @@ use Rattle.tp_residual.specs.Residual.{trace_lines}
 use Rattle.tp_residual.proofs.OnePhrase.{alike_moments_have_one_phrase}
 use Rattle.tp_run.specs.History.{RunEndsWith}
 use Rattle.tp_run.specs.States.{Plan, globals_of, StatesLead}
-use Rattle.tp_run.specs.PicksOfRun.{SettledState, led_states, beginning_of, settled_states}
-use Rattle.tp_run.specs.Same.{SamePicture}
-use Rattle.tp_run_laws.specs.AlikeRuns.{SameNext, SameStates, SameNamedCell, SameNamedEnd, FailsNowhere}
+use Rattle.tp_run.specs.PicksOfRun.{beginning_of}
+use Rattle.tp_run.specs.SettledStates.{SettledState, led_states, settled_states}
+use Rattle.tp_run.specs.Same.{SamePicture, FailsNowhere}
+use Rattle.tp_run_laws.specs.AlikeRuns.{SameNext, SameStates, SameNamedCell, SameNamedEnd}
 use Rattle.tp_run_laws.proofs.SameName.{named_cell_text}
 use Rattle.tp_call.specs.Printed.{written_state, states_text, ended_text}
 use Rattle.tp_words.specs.declared.beside.Beside.{Beside}

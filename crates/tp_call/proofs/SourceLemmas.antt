@@ -2,7 +2,7 @@
 use Rattle.std.proofs.Common.{◌≡◌, ◌≢◌, ◌≤◌, inl, inr, ℕ, List, [], ◌∷◌, length, Option, None, Some, Result, Err, IfErr, MatchOption, IsSomeAnd, refl, sym, ap, ◌∙◌, subst}
 use Rattle.std.specs.Option.{option_map}
 use Rattle.tp_lex.specs.Place.{source_limit}
-use Rattle.tp_io.specs.Devices.{Held, bytes_of}
+use Rattle.tp_io.specs.Held.{Held, bytes_of}
 use Rattle.tp_call.specs.declared.status.Status.{Status}
 use Rattle.tp_call.specs.declared.status.Status.TheVariants.{TooLong, ReadFault, NoMemory}
 use Rattle.tp_call.specs.declared.status.Which.{Which}
@@ -13,11 +13,11 @@ use Rattle.tp_call.specs.Reading.{read_end, asked_by, AsksFile}
 use Rattle.tp_meaning.specs.Inputs.{InputLines}
 use Rattle.tp_meaning.specs.Interval.{ProgramTree}
 use Rattle.tp_words.specs.Words.{Wanted, wanted_of}
-use Rattle.tp_call.specs.Parts.{IsWordsRefusal}
+use Rattle.tp_call.specs.Parts.{IsWordsRefusal, refusal_end, IsReadRefusal, IsSourceRefusal, IsTableRefusal, IsInputsEnd, IsProgramRefusal}
 use Rattle.tp_call.specs.Files.{NamedFile, file_named, files_named, files_read}
 use Rattle.tp_call.specs.Answer.{inputs_limit, WhereTold, HasInputs, HoldsProgram, HoldsRefused, HasBadLine, IsPastLimit, Serves, ReadsFile, Refuses}
 use Rattle.tp_call.proofs.FileLemmas.{reads_by, reads_first, reads_second}
-use Rattle.tp_call.specs.declared.refused.Refused.{Refused}
+use Rattle.tp_call.specs.declared.status.Refused.{Refused}
 use Rattle.tp_lex.specs.declared.token.Token.{Token}
 use Rattle.tp_lex.specs.declared.refusal.LexRefusal.{LexRefusal}
 use Rattle.tp_lex.specs.declared.refusal.LexRefusal.TheVariants as lex
@@ -33,7 +33,6 @@ use Rattle.tp_check.specs.declared.refusal.CheckRefusal.TheVariants as check
 use Rattle.tp_words.specs.declared.mode.Mode.{Mode}
 use Rattle.tp_words.specs.declared.mode.Mode.TheVariants.{Run, Print}
 use Rattle.tp_call.specs.Source.{IsOutsideGrammar, IsNotRun, IsRefusedAt, lexer_refusal, parser_refusal, checker_refusal}
-use Rattle.tp_call.specs.Parts.{refusal_end, IsReadRefusal, IsSourceRefusal, IsTableRefusal, IsInputsEnd, IsProgramRefusal}
 
 -- the source that was read is refused
 pub source_refused : (mode : Mode) (held : Option Held) (name source : List ℕ) (status : Status) → length source ≤ source_limit → WhereTold held (λ files. source ≡ bytes_of files name) → IsReadRefusal mode source status → IsSourceRefusal mode held name status

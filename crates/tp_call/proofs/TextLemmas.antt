@@ -5,7 +5,7 @@ use Rattle.std.proofs.lemmas.List.{length-map, append-nil}
 use Rattle.std.proofs.lemmas.List.Elements.{All-nil, All-cons, All-head, All-tail}
 use Rattle.std.proofs.lemmas.Fmt.{decimal_injective}
 use Rattle.std.proofs.lemmas.Grind.{flat_map-append}
-use Rattle.tp_io.specs.Devices.{Held}
+use Rattle.tp_io.specs.Held.{Held}
 use Rattle.tp_meaning.specs.Course.{Course, Shows, ◌⊕◌, shown_at}
 use Rattle.tp_meaning.specs.Fits.{ProgramFits}
 use Rattle.tp_decide.specs.Read.{shows_of}
@@ -14,10 +14,11 @@ use Rattle.tp_show.specs.declared.turn.Turn.{Turn}
 use Rattle.tp_show.specs.declared.turn.Turn.TheVariants as turn
 use Rattle.tp_show.specs.Line.{AreFactsOf, ToldState, told_of, told_text, picture_lines, pictures_text}
 use Rattle.tp_show.specs.EndLine.{end_line}
-use Rattle.tp_show.specs.Told.{IsPictureInRange, FitsIn64Bits, IsEndLine, IsLastTurn, IsStateOf, AgreesWithTold, told_shows}
+use Rattle.tp_show.specs.Told.{IsPictureInRange, FitsIn64Bits, IsEndLine, IsLastTurn, AgreesWithTold, told_shows}
+use Rattle.tp_show.specs.ToldLaws.{IsStateOf}
 use Rattle.tp_show.proofs.ReadBackLemmas.{texts_tell, pictures_told, are_told}
 use Rattle.tp_scene.specs.Pick.{Moment}
-use Rattle.tp_scene.specs.StandsFor.{first_moment}
+use Rattle.tp_scene.specs.Beginning.{first_moment}
 use Rattle.tp_run.specs.States.{Plan, StatesLead, LeadsTo}
 use Rattle.tp_run.specs.History.{RunEndsWith, AgreesWithPictures, shown_from, SatisfiedExactly, ContinuesEach}
 use Rattle.tp_call.specs.declared.status.Status.{Status}

@@ -3,22 +3,23 @@ use Rattle.std.proofs.Common.{◌≡◌, inl, inr, ◌+◌, ◌<◌, ℕ, suc, L
 use Rattle.std.proofs.lemmas.List.{length-map}
 use Rattle.std.proofs.lemmas.List.Elements.{All-nil, All-cons, All-head, All-tail, All-contains}
 use Rattle.tp_lex.specs.Names.{token_names}
-use Rattle.tp_io.specs.Devices.{Held, bytes_of}
+use Rattle.tp_io.specs.Held.{Held, bytes_of}
 use Rattle.tp_tree.specs.Names.{source_names}
 use Rattle.tp_parse.proofs.NameLemmas.{names_are_tokens}
 use Rattle.tp_inputs.specs.Table.{IsInputsText}
 use Rattle.tp_meaning.specs.Inputs.{InputLines}
 use Rattle.tp_check.proofs.NameLaws.{globals_stand_in_source}
 use Rattle.tp_scene.specs.Pick.{Moment}
-use Rattle.tp_scene.specs.StandsFor.{first_moment}
+use Rattle.tp_scene.specs.Beginning.{first_moment}
 use Rattle.tp_show.specs.declared.turn.Picture.{Picture}
 use Rattle.tp_show.specs.declared.turn.Turn.{Turn}
 use Rattle.tp_show.specs.declared.turn.Turn.TheVariants as turn
-use Rattle.tp_show.specs.Line.{AreFactsOf}
+use Rattle.tp_show.specs.Line.{AreFactsOf, IsOneLine}
 use Rattle.tp_show.specs.EndLine.{last_words, end_line}
 use Rattle.tp_show.specs.Trace.{IsTraceText}
 use Rattle.tp_show.specs.TraceLine.{IsVariableName}
-use Rattle.tp_show.specs.TraceOfRun.{AreVariableNames, IsReadable, IsOneLine, PrintedState, printed_states_text, CountFrom, IsEnding, named_facts}
+use Rattle.tp_show.specs.TraceOfRun.{AreVariableNames, IsReadable, PrintedState, printed_states_text, CountFrom, IsEnding}
+use Rattle.tp_show.specs.TraceFacts.{named_facts}
 use Rattle.tp_show.proofs.PrintedBytes.{name_plain}
 use Rattle.tp_show.proofs.PrintedLines.{plain_one}
 use Rattle.tp_show.proofs.PrintedStates.{traces_tell_facts}

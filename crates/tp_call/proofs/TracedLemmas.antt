@@ -7,13 +7,14 @@ use Rattle.std.proofs.lemmas.Grind.{flat_map-append}
 use Rattle.std.proofs.lemmas.List.Elements.{All-nil, All-cons, All-append, All-head, All-tail}
 use Rattle.tp_meaning.specs.Interval.{ProgramTree}
 use Rattle.tp_scene.specs.Pick.{Moment}
-use Rattle.tp_scene.specs.StandsFor.{first_moment}
+use Rattle.tp_scene.specs.Beginning.{first_moment}
 use Rattle.tp_show.specs.declared.turn.Picture.{Picture}
 use Rattle.tp_show.specs.declared.turn.Turn.{Turn}
 use Rattle.tp_show.specs.declared.turn.Turn.TheVariants as turn
-use Rattle.tp_show.specs.declared.trace.NamedFact.{NamedFact}
-use Rattle.tp_show.specs.Line.{picture_lines}
-use Rattle.tp_show.specs.TraceOfRun.{IsReadable, PrintedState, fed_line, printed_state_lines, printed_states_text, IsFurtherLine, IsPrinted, named_facts}
+use Rattle.tp_show.specs.declared.named_fact.NamedFact.{NamedFact}
+use Rattle.tp_show.specs.Line.{picture_lines, fed_line}
+use Rattle.tp_show.specs.TraceOfRun.{IsReadable, PrintedState, printed_state_lines, printed_states_text, IsFurtherLine, IsPrinted}
+use Rattle.tp_show.specs.TraceFacts.{named_facts}
 use Rattle.tp_show.specs.TraceLine.{opens_with_one}
 use Rattle.tp_run.specs.States.{Plan, StatesLead, LeadsTo}
 use Rattle.tp_run.specs.History.{RunEndsWith}

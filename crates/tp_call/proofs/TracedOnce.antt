@@ -8,18 +8,17 @@ use Rattle.std.proofs.lemmas.List.Elements.{All-nil, All-cons, All-append, All-h
 use Rattle.tp_value.specs.Tree.{Tree}
 use Rattle.tp_value.specs.Written.{text_of}
 use Rattle.tp_value.specs.declared.path.Path.{Path}
-use Rattle.tp_kernel.specs.declared.formula.LimitKind.{LimitKind}
-use Rattle.tp_kernel.specs.declared.formula.LimitKind.TheVariants as limit
+use Rattle.tp_kernel.specs.declared.fault.LimitKind.{LimitKind}
+use Rattle.tp_kernel.specs.declared.fault.LimitKind.TheVariants as limit
 use Rattle.tp_store.specs.Known.{Variable, IsVariableOf, global_variable}
 use Rattle.tp_show.specs.declared.turn.Turn.{Turn}
 use Rattle.tp_show.specs.declared.turn.Turn.TheVariants.{Went, Finished, Contradictory, Undetermined, StateLimit, InputMissing, Over}
 use Rattle.tp_show.specs.Texts.{global_name, index_text, path_text}
 use Rattle.tp_show.specs.Parts.{LinePartTree, valued, measured, part_text, spaced_text}
-use Rattle.tp_show.specs.Line.{ToldState, state_line, shown_value, show_line, told_lines, told_text}
+use Rattle.tp_show.specs.Line.{ToldState, state_line, shown_value, show_line, told_lines, told_text, IsOneLine, fed_line}
 use Rattle.tp_show.specs.EndLine.{last_words, end_line}
 use Rattle.tp_show.specs.Told.{is_word_byte, IsWord, AreNames, IsPartOf, IsToldOf, IsLastTurn, IsEndLine}
 use Rattle.tp_show.specs.TraceLine.{state_opening, opens_with_one}
-use Rattle.tp_show.specs.TraceOfRun.{IsOneLine, fed_line}
 use Rattle.tp_show.proofs.PartLemmas.{named}
 use Rattle.tp_show.proofs.PrintedBytes.{text_plain, indices_plain}
 use Rattle.tp_show.proofs.PrintedLines.{plain_one}

@@ -3,7 +3,7 @@ use Rattle.std.proofs.Common.{◌≡◌, ℕ, zero, suc, true, List, Option, Som
 use Rattle.tp_io.specs.Devices.{Writes}
 use Rattle.tp_io.specs.declared.devices.WriteRefusal.{WriteRefusal}
 use Rattle.tp_io.specs.declared.devices.WriteRefusal.TheVariants as sink
-use Rattle.tp_kernel.specs.declared.formula.LimitKind.TheVariants as limit
+use Rattle.tp_kernel.specs.declared.fault.LimitKind.TheVariants as limit
 use Rattle.tp_show.specs.declared.turn.Picture.{Picture}
 use Rattle.tp_show.specs.declared.turn.Turn.{Turn}
 use Rattle.tp_show.specs.declared.turn.Turn.TheVariants as turn
@@ -12,7 +12,8 @@ use Rattle.tp_scene.specs.Scene.{Scene}
 use Rattle.tp_scene.specs.Pick.{Moment}
 use Rattle.tp_residual.specs.Residual.{AreCarried}
 use Rattle.tp_residual.proofs.Carried.{next_scenes_are_carried}
-use Rattle.tp_run.specs.States.{Plan, setting, RunPlace, Standing, open_at, answered, spent, state_after, StateBecomes, AnswersState}
+use Rattle.tp_run.specs.States.{Plan, setting}
+use Rattle.tp_run.specs.Standing.{RunPlace, Standing, open_at, answered, spent, state_after, StateBecomes, AnswersState}
 use Rattle.tp_run.specs.Runs.{StandsSound, carried_scene}
 use Rattle.tp_show.specs.Parts.{line_parts}
 use Rattle.tp_show.specs.Read.{plain_parts}

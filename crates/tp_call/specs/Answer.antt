@@ -1,10 +1,10 @@
 -- What a call may answer, and what it writes.
 use Rattle.std.specs.Prelude.{◌≡◌, ◌⊎◌, ◌≤◌, ◌<◌, ◌^◌, ℕ, List, [], ◌++◌, length, take, All, Option, None, Some}
 use Rattle.tp_lex.specs.Place.{source_limit}
-use Rattle.tp_io.specs.Devices.{Held, bytes_of}
+use Rattle.tp_io.specs.Held.{Held, bytes_of}
 use Rattle.tp_show.specs.declared.turn.Picture.{Picture}
 use Rattle.tp_run.specs.States.{Plan}
-use Rattle.tp_call.specs.declared.refused.Refused.{Refused}
+use Rattle.tp_call.specs.declared.status.Refused.{Refused}
 use Rattle.tp_call.specs.Source.{IsProgram, IsSourceText, IsRefusedAt}
 use Rattle.tp_call.specs.Spelling.{IsReadFromSpelling}
 use Rattle.tp_call.specs.declared.status.Status.{Status}
@@ -18,7 +18,7 @@ use Rattle.tp_words.specs.declared.mode.Mode.TheVariants.{Run, Print}
 use Rattle.tp_words.specs.Words.{Wanted, wanted_of}
 use Rattle.std.specs.Str.Lines.{lines}
 use Rattle.tp_meaning.specs.Inputs.{InputLines}
-use Rattle.tp_inputs.specs.declared.refusal.Fault.{Fault}
+use Rattle.tp_inputs.specs.declared.fault.Fault.{Fault}
 use Rattle.tp_inputs.specs.Table.{IsInputsText, IsFirstFault}
 use Rattle.tp_show.specs.EndLine.{end_line}
 use Rattle.tp_show.specs.Told.{AreNames, IsPictureInRange}
@@ -292,3 +292,7 @@ HasFailed result =
 -- the answer is this one, unless a read or a write failed or memory was wanted
 abbrev pub IsOrFailed : Status → Status → Type 0
 IsOrFailed status result = (result ≡ status) ⊎ HasFailed result
+
+-- the status of a refusal
+abbrev pub refused_status : Refused → Status
+refused_status refused = SourceRefused refused.line refused.column refused.kind

@@ -1,13 +1,13 @@
 -- The text of any run of what is asked for is the one that a call prints, and no choice of picks is
 -- a dead end.
 use Rattle.std.specs.Prelude.{◌≡◌, ◌⊎◌, ℕ, List, ◌++◌, Option, Some}
-use Rattle.tp_io.specs.Devices.{Held}
+use Rattle.tp_io.specs.Held.{Held}
 use Rattle.tp_store.specs.Known.{Variable}
 use Rattle.tp_show.specs.declared.turn.Picture.{Picture}
 use Rattle.tp_show.specs.declared.turn.Turn.{Turn}
 use Rattle.tp_show.specs.EndLine.{end_line}
 use Rattle.tp_run.specs.States.{Plan, globals_of}
-use Rattle.tp_run_laws.specs.AlikeRuns.{FailsNowhere}
+use Rattle.tp_run.specs.Same.{FailsNowhere}
 use Rattle.tp_run_laws.specs.Beginnings.{NoDeadEnd}
 use Rattle.tp_call.specs.declared.status.Status.{Status}
 use Rattle.tp_call.specs.Run.{status_of, RunEnds}

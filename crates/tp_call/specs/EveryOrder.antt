@@ -1,7 +1,7 @@
 -- What the runs of a plan have in common, whatever is picked in which order, and the one that a
 -- call makes with them.
 use Rattle.std.specs.Prelude.{◌≡◌, ◌⊎◌, ℕ, List, Option, Some}
-use Rattle.tp_io.specs.Devices.{Held}
+use Rattle.tp_io.specs.Held.{Held}
 use Rattle.tp_scene.specs.declared.answer.Cell.{Cell}
 use Rattle.tp_show.specs.declared.turn.Picture.{Picture}
 use Rattle.tp_show.specs.declared.turn.Turn.{Turn}

@@ -1,11 +1,11 @@
 -- What a call promises of its answer, one sentence each: of the words, of what the files hold, of
 -- what was written before and after, and of the status that is answered.
 use Rattle.std.specs.Prelude.{◌≡◌, ◌⊎◌, ℕ, List, length, Option, None, Some}
-use Rattle.tp_io.specs.Devices.{Held}
+use Rattle.tp_io.specs.Held.{Held}
 use Rattle.tp_scene.specs.declared.answer.Cell.{Cell}
 use Rattle.tp_scene.specs.declared.answer.Clash.{Clash}
 use Rattle.tp_run.specs.History.{SatisfiedExactly, Satisfiable, Unsatisfiable, ContinuesEach}
-use Rattle.tp_call.specs.declared.refused.Refused.{Refused}
+use Rattle.tp_call.specs.declared.status.Refused.{Refused}
 use Rattle.tp_call.specs.declared.status.Status.{Status}
 use Rattle.tp_call.specs.declared.status.Status.TheVariants.{Finished, Done, Contradictory, Undetermined, StateLimit, InputMissing, SourceRefused, InputsRefused, WordsRefused, TooLong}
 use Rattle.tp_call.specs.declared.status.SourceKind.{SourceKind}
@@ -16,8 +16,7 @@ use Rattle.tp_words.specs.Words.{wanted_of}
 use Rattle.tp_run.specs.States.{Plan}
 use Rattle.tp_show.specs.Told.{FitsIn64Bits}
 use Rattle.tp_call.specs.Text.{AsksNothingBeside, TextTells, SatisfiedAsTold, ContinuesTold, finished_line}
-use Rattle.tp_call.specs.Answer.{WhereTold, AsTold, HoldsRefused, IsPastLimit, HasBadLine, IsAskedFor, IsToPrint, ReadsFile, Prints, WritesSpelling, IsOrStopped, IsOrFailed, IsEndOfRun, IsOpenEnd, HasFailed}
-use Rattle.tp_call.specs.Parts.{refused_status}
+use Rattle.tp_call.specs.Answer.{WhereTold, AsTold, HoldsRefused, IsPastLimit, HasBadLine, IsAskedFor, IsToPrint, ReadsFile, Prints, WritesSpelling, IsOrStopped, IsOrFailed, IsEndOfRun, IsOpenEnd, HasFailed, refused_status}
 
 module _ (words : List (List ℕ)) (held : Option Held) (old new : Option (List ℕ)) (result : Status) where
   -- A run that finishes with length n: an interval satisfies the program, and shows S, exactly

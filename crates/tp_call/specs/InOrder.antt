@@ -1,12 +1,13 @@
 -- Which failure of a state a call names: the one that a closure of this state meets in the order
 -- that the words ask for.
 use Rattle.std.specs.Prelude.{◌≡◌, ℕ, List, length, Option, Some, IfSome}
-use Rattle.tp_io.specs.Devices.{Held}
+use Rattle.tp_io.specs.Held.{Held}
 use Rattle.tp_scene.specs.Pick.{Moment}
-use Rattle.tp_step.specs.declared.answer.Order.{Order}
+use Rattle.tp_step.specs.declared.order.Order.{Order}
 use Rattle.tp_show.specs.declared.turn.Picture.{Picture}
 use Rattle.tp_show.specs.declared.turn.Turn.{Turn}
-use Rattle.tp_run.specs.States.{Plan, RunPlace, setting, open_at, LeadsTo}
+use Rattle.tp_run.specs.States.{Plan, setting, LeadsTo}
+use Rattle.tp_run.specs.Standing.{RunPlace, open_at}
 use Rattle.tp_run.specs.Ordered.{IsNamedInOrder}
 use Rattle.tp_run.specs.Same.{FailsIn}
 use Rattle.tp_call.specs.declared.status.Status.{Status}

@@ -1,22 +1,18 @@
 -- What the parts of a call answer.
 use Rattle.std.specs.Prelude.{◌≡◌, ◌⊎◌, ℕ, List, take, Option, None, Some}
 use Rattle.std.specs.Str.Lines.{lines}
-use Rattle.tp_io.specs.Devices.{Held, bytes_of}
+use Rattle.tp_io.specs.Held.{Held, bytes_of}
 use Rattle.tp_words.specs.declared.mode.Mode.{Mode}
 use Rattle.tp_words.specs.Words.{wanted_of}
-use Rattle.tp_inputs.specs.declared.refusal.Fault.{Fault}
+use Rattle.tp_inputs.specs.declared.fault.Fault.{Fault}
 use Rattle.tp_inputs.specs.Table.{IsFirstFault}
 use Rattle.tp_call.specs.declared.status.Status.{Status}
-use Rattle.tp_call.specs.declared.status.Status.TheVariants.{SourceRefused, InputsRefused, WordsRefused, TooLong, ReadFault, WriteFault, NoMemory}
+use Rattle.tp_call.specs.declared.status.Status.TheVariants.{InputsRefused, WordsRefused, TooLong, ReadFault, WriteFault, NoMemory}
 use Rattle.tp_call.specs.declared.status.Which.TheVariants.{Source, Inputs}
-use Rattle.tp_call.specs.declared.refused.Refused.{Refused}
+use Rattle.tp_call.specs.declared.status.Refused.{Refused}
 use Rattle.tp_call.specs.Written.{Wrote}
-use Rattle.tp_call.specs.Answer.{Refuses, WhereTold, HoldsRefused, HasBadLine, IsPastLimit}
+use Rattle.tp_call.specs.Answer.{Refuses, WhereTold, HoldsRefused, HasBadLine, IsPastLimit, refused_status}
 use Rattle.tp_call.specs.Source.{IsRefusedAt}
-
--- the status of a refusal
-abbrev pub refused_status : Refused → Status
-refused_status refused = SourceRefused refused.line refused.column refused.kind
 
 -- and of the want of memory
 abbrev pub refusal_end : Option Refused → Status

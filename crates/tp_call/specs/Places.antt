@@ -2,7 +2,7 @@
 use Rattle.std.specs.Prelude.{IfSome}
 use Rattle.tp_residual.specs.Residual.{AreCarried}
 use Rattle.tp_run.specs.declared.run.Run.{Run}
-use Rattle.tp_run.specs.States.{Standing, open_at, answered, spent}
+use Rattle.tp_run.specs.Standing.{Standing, open_at, answered, spent}
 use Rattle.tp_run.specs.Runs.{StandIsKept, standing_of, next_state_of, carried_scene}
 
 -- the run stands before a state

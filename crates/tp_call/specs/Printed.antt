@@ -6,13 +6,14 @@ use Rattle.tp_meaning.specs.Interval.{ProgramTree}
 use Rattle.tp_store.specs.Known.{Contents}
 use Rattle.tp_scene.specs.Scene.{Scene}
 use Rattle.tp_scene.specs.Pick.{Moment}
-use Rattle.tp_scene.specs.StandsFor.{first_moment}
+use Rattle.tp_scene.specs.Beginning.{first_moment}
 use Rattle.tp_show.specs.declared.turn.Picture.{Picture}
 use Rattle.tp_show.specs.declared.turn.Turn.{Turn}
 use Rattle.tp_show.specs.declared.turn.Turn.TheVariants as turn
 use Rattle.tp_show.specs.Line.{picture_lines}
 use Rattle.tp_residual.specs.Residual.{residual_phrase, trace_lines}
-use Rattle.tp_run.specs.States.{Plan, RunPlace, StatesLead, LeadsTo}
+use Rattle.tp_run.specs.States.{Plan, StatesLead, LeadsTo}
+use Rattle.tp_run.specs.Standing.{RunPlace}
 use Rattle.tp_run.specs.Runs.{carried_scene}
 use Rattle.tp_run.specs.History.{RunEndsWith}
 use Rattle.tp_call.specs.Run.{Settles}

@@ -7,7 +7,8 @@ use Rattle.tp_scene.specs.Pick.{Moment}
 use Rattle.tp_show.specs.declared.turn.Picture.{Picture}
 use Rattle.tp_show.specs.declared.turn.Turn.{Turn}
 use Rattle.tp_show.specs.declared.turn.Turn.TheVariants as turn
-use Rattle.tp_run.specs.States.{Plan, RunPlace, open_at, LeadsTo, AnswersState}
+use Rattle.tp_run.specs.States.{Plan, LeadsTo}
+use Rattle.tp_run.specs.Standing.{RunPlace, open_at, AnswersState}
 use Rattle.tp_run.specs.Runs.{program_of, store_of}
 use Rattle.tp_call.specs.declared.run.Ended.{Ended}
 use Rattle.tp_show.specs.Told.{IsPictureInRange}

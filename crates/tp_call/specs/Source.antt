@@ -18,7 +18,7 @@ use Rattle.tp_words.specs.declared.mode.Mode.{Mode}
 use Rattle.tp_words.specs.declared.mode.Mode.TheVariants.{Run, Print}
 use Rattle.tp_call.specs.declared.status.SourceKind.{SourceKind}
 use Rattle.tp_call.specs.declared.status.SourceKind.TheVariants.{BadByte, OpenComment, NumberTooLarge, NameTooLong, Unexpected, Unfinished, TooDeep, DefinedTwice, UnknownName, WrongCount, NotExpression, NotPlace, NotPort, NotExecutable}
-use Rattle.tp_call.specs.declared.refused.Refused.{Refused}
+use Rattle.tp_call.specs.declared.status.Refused.{Refused}
 
 -- this text is a source of the grammar, and has this tree
 pub record IsSourceText (source : List ℕ) (tree : SourceTree) : Type 0 where

@@ -1,11 +1,11 @@
 -- What a call has to do.
 use Rattle.std.specs.Prelude.{◌≡◌, ◌<◌, ◌^◌, ℕ, List, Option, Some}
-use Rattle.tp_io.specs.Devices.{Held}
+use Rattle.tp_io.specs.Held.{Held}
 use Rattle.tp_tree.specs.Read.{source_tree}
 use Rattle.tp_meaning.specs.Fits.{ProgramFits}
 use Rattle.tp_check.specs.Program.{program_tree}
 use Rattle.tp_inputs.specs.Read.{lines_of}
-use Rattle.tp_step.specs.declared.answer.Order.{Order}
+use Rattle.tp_step.specs.declared.order.Order.{Order}
 use Rattle.tp_show.specs.Told.{AreNames}
 use Rattle.tp_run.specs.States.{Plan, plan_with}
 use Rattle.tp_words.specs.declared.command.Command.{Command}

@@ -1,7 +1,7 @@
 -- What the text of a run says to whoever has it alone.
 use Rattle.std.specs.Prelude.{◌≡◌, ◌↔◌, ◌≤◌, ◌<◌, ◌+◌, ℕ, List, ◌++◌, length, All, Option, Some, codes}
 use Rattle.std.specs.Fmt.{decimal}
-use Rattle.tp_io.specs.Devices.{Held}
+use Rattle.tp_io.specs.Held.{Held}
 use Rattle.tp_meaning.specs.Course.{Course, Shows}
 use Rattle.tp_meaning.specs.Interval.{IsInterval, Satisfies}
 use Rattle.tp_run.specs.States.{Plan}

@@ -1,9 +1,9 @@
 -- The text of a run is a trace of its states.
 use Rattle.std.specs.Prelude.{◌≡◌, ◌<◌, ℕ, List, map, length, Option, Some}
-use Rattle.tp_io.specs.Devices.{Held}
+use Rattle.tp_io.specs.Held.{Held}
 use Rattle.tp_show.specs.declared.turn.Picture.{Picture}
 use Rattle.tp_show.specs.Trace.{IsTraceText}
-use Rattle.tp_show.specs.TraceOfRun.{named_facts}
+use Rattle.tp_show.specs.TraceFacts.{named_facts}
 use Rattle.tp_run.specs.States.{Plan}
 use Rattle.tp_call.specs.declared.status.Status.{Status}
 use Rattle.tp_call.specs.Written.{Wrote}

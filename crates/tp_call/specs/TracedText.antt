@@ -1,14 +1,13 @@
 -- What the text of a run says to whoever has it alone, where there may be trace lines in it.
 use Rattle.std.specs.Prelude.{◌≡◌, ℕ, true, List, [], ◌∷◌, ◌++◌, map, All, Option, Some, codes}
 use Rattle.std.specs.List.{flat_map}
-use Rattle.tp_io.specs.Devices.{Held}
+use Rattle.tp_io.specs.Held.{Held}
 use Rattle.tp_store.specs.Known.{Variable}
 use Rattle.tp_show.specs.declared.turn.Turn.{Turn}
-use Rattle.tp_show.specs.Line.{ToldState, told_lines}
+use Rattle.tp_show.specs.Line.{ToldState, told_lines, IsOneLine, fed_line}
 use Rattle.tp_show.specs.EndLine.{last_words, end_line}
 use Rattle.tp_show.specs.Told.{IsToldOf, IsLastTurn, FitsIn64Bits}
 use Rattle.tp_show.specs.TraceLine.{opens_with_one}
-use Rattle.tp_show.specs.TraceOfRun.{IsOneLine, fed_line}
 use Rattle.tp_run.specs.States.{Plan}
 use Rattle.tp_call.specs.declared.status.Status.{Status}
 use Rattle.tp_call.specs.declared.status.Status.TheVariants.{Finished}

@@ -1,6 +1,6 @@
 // The last write of a call.
 ghost use Rattle.std.specs.Prelude.{◌≡◌, ◌≢◌, ◌≤◌};
-ghost use Rattle.tp_io.specs.Devices.{Rose};
+ghost use Rattle.tp_io.specs.Held.{Rose};
 ghost use Rattle.tp_call.specs.EndLine.{refusal_line};
 ghost use Rattle.tp_call.specs.Parts.{ClosesText};
 

@@ -1,6 +1,6 @@
 // The call, counted from 0.
 ghost use Rattle.std.specs.Prelude.{◌≡◌, ◌<◌, List, ℕ};
-ghost use Rattle.tp_io.specs.Devices.{Rose};
+ghost use Rattle.tp_io.specs.Held.{Rose};
 ghost use Rattle.tp_call.specs.declared.status.Which.{Which};
 ghost use Rattle.tp_call.specs.Files.{AsksOnly};
 ghost use Rattle.tp_call.specs.Answer.{Answers};

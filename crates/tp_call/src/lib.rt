@@ -1,6 +1,7 @@
 //! The whole call, over any files and any sink: from the words to what is written and the status.
 #![tactic(auto)]
 
+mod answer;
 mod call;
 mod close;
 mod command;
@@ -12,6 +13,7 @@ mod refused;
 mod run;
 mod source;
 mod status;
+mod status_text;
 
 pub use call::tempura;
 pub use counting::counted;

@@ -1,7 +1,7 @@
 // Reading and printing a source that isn't run.
 ghost use Rattle.std.specs.Prelude.{◌≡◌, ◌≤◌, Err, length, IfOk, IfErr};
 ghost use Rattle.tp_lex.specs.Place.{source_limit};
-ghost use Rattle.tp_io.specs.Devices.{Rose, bytes_of};
+ghost use Rattle.tp_io.specs.Held.{Rose, bytes_of};
 ghost use Rattle.tp_tree.specs.Read.{source_tree};
 ghost use Rattle.tp_tree.specs.Spelling.{source_spelling};
 ghost use Rattle.tp_words.specs.declared.mode.Mode.TheVariants.{Print};

@@ -4,18 +4,10 @@ ghost use Rattle.tp_lex.specs.Place.{source_limit};
 ghost use Rattle.tp_call.specs.Source.{refused_at, at_token as token_refusal, lexer_refusal, parser_refusal, checker_refusal};
 ghost use Rattle.tp_call.specs.Parts.{refusal_end};
 
-use crate::status::{SourceKind, Status};
+use crate::status::{Refused, SourceKind, Status};
 use tp_check::CheckRefusal;
 use tp_lex::{LexRefusal, Tokens, place_of};
 use tp_parse::ParseRefusal;
-
-/// The line and the column, counted from 1, and the kind of a refusal.
-#[derive(Clone, Copy, Debug, PartialEq, Eq)]
-pub struct Refused {
-    pub line: u64,
-    pub column: u64,
-    pub kind: SourceKind,
-}
 
 // The line and column of a byte, or of the end.
 fn at_byte(source: &[u8], at: usize, kind: SourceKind) -> Refused

@@ -1,11 +1,13 @@
 // Running a program, and writing its states.
 ghost use Rattle.std.specs.Prelude.{◌≡◌, ◌≤◌, ◌++◌, true, IfOk, IsErr, IsErrOf, OnOk};
-ghost use Rattle.tp_io.specs.Devices.{Rose, Writes};
+ghost use Rattle.tp_io.specs.Devices.{Writes};
+ghost use Rattle.tp_io.specs.Held.{Rose};
 ghost use Rattle.tp_kernel.specs.Read.{formula_tree};
 ghost use Rattle.tp_meaning.specs.Fits.{ProgramFits};
 ghost use Rattle.tp_check.specs.Program.{program_tree};
-ghost use Rattle.tp_scene.specs.StandsFor.{first_moment};
-ghost use Rattle.tp_run.specs.States.{Plan, open_at};
+ghost use Rattle.tp_scene.specs.Beginning.{first_moment};
+ghost use Rattle.tp_run.specs.States.{Plan};
+ghost use Rattle.tp_run.specs.Standing.{open_at};
 ghost use Rattle.tp_run.specs.Runs.{standing_of, standing_place, next_state_of, order_of, program_of, IsRunOf};
 ghost use Rattle.tp_show.specs.Read.{plain_parts};
 ghost use Rattle.tp_show.specs.Parts.{line_parts};

@@ -1,6 +1,6 @@
 // Reading the source.
 ghost use Rattle.std.specs.Prelude.{◌≡◌, ◌≤◌, ◌<◌, ◌^◌, length, None, Some, IfOk, OnOk, OnErr, IsErrOf, MatchOption};
-ghost use Rattle.tp_io.specs.Devices.{Rose, bytes_of};
+ghost use Rattle.tp_io.specs.Held.{Rose, bytes_of};
 ghost use Rattle.tp_call.specs.Answer.{WhereTold};
 ghost use Rattle.tp_call.specs.Reading.{asked_by, read_end};
 

@@ -3,7 +3,7 @@ use Rattle.std.proofs.Common.{◌≡◌, ℕ, List, [], ◌∷◌, ◌++◌, map
 use Rattle.std.proofs.lemmas.List.{append_assoc, append-nil}
 use Rattle.tp_value.specs.declared.path.Fact.{Fact}
 use Rattle.tp_kernel.specs.declared.formula.Expr.{Expr}
-use Rattle.tp_kernel.specs.declared.formula.FaultKind.TheVariants.{NoElement}
+use Rattle.tp_kernel.specs.declared.fault.FaultKind.TheVariants.{NoElement}
 use Rattle.tp_kernel.specs.Read.{expr_tree}
 use Rattle.tp_meaning.specs.Syntax.{Definition, BindingTree, ExprTree, ExprTrees, numeral, boolean, known, bound, global, listing, size, index, minus, negation, both, either, binary, choice, invoke, no_expr, expr_then, exprs_of}
 use Rattle.tp_meaning.specs.Fits.{IsPlace, AreArguments}

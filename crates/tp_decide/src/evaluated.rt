@@ -1,7 +1,7 @@
 // Formulas whose expression was evaluated.
 ghost use Rattle.std.specs.Prelude.{◌≡◌, ◌≤◌, ◌-◌, pos, ◌≤ℤ◌, IfOk, IfErr, if◌then◌else◌};
 ghost use Rattle.tp_meaning.specs.Syntax.{known, equation, always, if_empty};
-ghost use Rattle.tp_meaning.specs.Unfolding.{nexts};
+ghost use Rattle.tp_meaning.specs.Nexts.{nexts};
 ghost use Rattle.tp_kernel.specs.Read.{expr_tree, formula_tree, bindings_of};
 ghost use Rattle.tp_value.specs.Read.{tree};
 ghost use Rattle.tp_eval.specs.Outcome.{Outcome};

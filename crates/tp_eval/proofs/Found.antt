@@ -8,7 +8,7 @@ use Rattle.tp_value.specs.Shape.{shape_of, item_of, at_item, shape_at_path, item
 use Rattle.tp_value.specs.declared.value.Shape.{Shape}
 use Rattle.tp_value.specs.declared.value.Shape.TheVariants.{Num, Truth, Items}
 use Rattle.tp_value.specs.declared.path.Fact.{Fact}
-use Rattle.tp_kernel.specs.declared.formula.LimitKind.TheVariants as limit
+use Rattle.tp_kernel.specs.declared.fault.LimitKind.TheVariants as limit
 use Rattle.tp_meaning.specs.Syntax.{Operator, Equal, Differs, Less, LessEqual, Greater, GreaterEqual, Plus, Minus, Times, Div, Mod}
 use Rattle.tp_meaning.specs.Value as meaning
 use Rattle.tp_meaning.specs.Value.{◌>>=◌, list_item, list_of, truth_of, number_of, Meaning, fixed, varying, element}

@@ -5,7 +5,7 @@ use Rattle.tp_value.specs.Shape.{item_of, shape_at_path, item_at}
 use Rattle.tp_value.specs.declared.value.Shape.{Shape}
 use Rattle.tp_value.specs.declared.path.Path.{Path}
 use Rattle.tp_value.specs.declared.path.Fact.{Fact}
-use Rattle.tp_kernel.specs.declared.formula.FaultKind.TheVariants.{NoElement}
+use Rattle.tp_kernel.specs.declared.fault.FaultKind.TheVariants.{NoElement}
 use Rattle.tp_meaning.specs.Value.{◌>>=◌}
 use Rattle.tp_store.specs.Facts.{fact, kept_shape, is_excluded, AgreesWithAll}
 use Rattle.tp_store.specs.Known.{NoClash, deepest, whole, limited, full}

@@ -4,7 +4,7 @@ use Rattle.std.specs.Prelude.{neg_ℤ, nat_lt}
 use Rattle.tp_value.specs.Tree.{Tree, num, truth, list, of_items}
 use Rattle.tp_value.specs.declared.path.Fact.{Fact}
 use Rattle.tp_value.specs.Shape.{item_at}
-use Rattle.tp_kernel.specs.declared.formula.LimitKind.TheVariants as limit
+use Rattle.tp_kernel.specs.declared.fault.LimitKind.TheVariants as limit
 use Rattle.tp_meaning.specs.Syntax.{Operator, ExprTree, ExprTrees, numeral, boolean, known, bound, global, listing, size, index, minus, negation, both, either, binary, choice, invoke, no_expr, expr_then, Definition, BindingTree, known_binding}
 use Rattle.tp_meaning.specs.Fits.{ExprFits, ExprsFit}
 use Rattle.tp_meaning.specs.Course.{Course}

@@ -10,8 +10,8 @@ use Rattle.tp_value.specs.declared.value.Shape.TheVariants.{Num, Truth, Items}
 use Rattle.tp_value.specs.declared.path.Path.{Path}
 use Rattle.tp_value.specs.declared.path.VarId.{VarId}
 use Rattle.tp_value.specs.declared.path.Fact.{Fact}
-use Rattle.tp_kernel.specs.declared.formula.FaultKind.TheVariants.{NoElement}
-use Rattle.tp_kernel.specs.declared.formula.LimitKind.TheVariants as limit
+use Rattle.tp_kernel.specs.declared.fault.FaultKind.TheVariants.{NoElement}
+use Rattle.tp_kernel.specs.declared.fault.LimitKind.TheVariants as limit
 use Rattle.tp_meaning.specs.Syntax.{BindingTree, place_binding, known_binding}
 use Rattle.tp_meaning.specs.Fits.{IsVariable}
 use Rattle.tp_meaning.specs.Course.{Course}

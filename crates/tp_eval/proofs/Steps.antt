@@ -7,7 +7,7 @@ use Rattle.tp_kernel.specs.declared.formula.Op2.{Op2}
 use Rattle.tp_kernel.specs.declared.formula.Op2.TheVariants as op
 use Rattle.tp_eval.specs.Evaluate.{on_divisor_outcome, operate_outcome, number_in}
 use Rattle.tp_value.specs.Number.{is_within_limit, within_limit}
-use Rattle.tp_kernel.specs.declared.formula.LimitKind.TheVariants as limit
+use Rattle.tp_kernel.specs.declared.fault.LimitKind.TheVariants as limit
 use Rattle.tp_eval.specs.Reached.{Reached, reaches, Evaluation, with_reached, ◌>>=◌, gives, stop, passes, within_numbers}
 use Rattle.tp_eval.specs.declared.halt.Halt.{Halt}
 use Rattle.tp_eval.specs.declared.halt.Halt.TheVariants.{Waits, Faults, Passes, NoMemory}

@@ -3,7 +3,7 @@ use Rattle.std.specs.Prelude.{◌≡◌, ℤ, ℕ, Option, Some, None, Result, M
 use Rattle.tp_value.specs.Tree.{Tree, num}
 use Rattle.tp_value.specs.Read.{tree}
 use Rattle.tp_value.specs.declared.value.Value.{Value}
-use Rattle.tp_kernel.specs.declared.formula.LimitKind.TheVariants as limit
+use Rattle.tp_kernel.specs.declared.fault.LimitKind.TheVariants as limit
 use Rattle.tp_kernel.specs.Read.{bindings_of, definitions_of}
 use Rattle.tp_meaning.specs.Syntax.{ExprTree, ExprTrees, Definition}
 use Rattle.tp_eval.specs.Evaluate.{PlaceFound, evaluate, find_place, call}

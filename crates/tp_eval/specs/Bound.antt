@@ -3,7 +3,7 @@ use Rattle.std.specs.Prelude.{◌≡◌, ℕ, ◌≤◌, Bool, List, length, Opt
 use Rattle.tp_value.specs.Tree.{Tree}
 use Rattle.tp_value.specs.declared.path.Path.{Path}
 use Rattle.tp_value.specs.declared.path.Fact.{Fact}
-use Rattle.tp_kernel.specs.declared.formula.FaultKind.{FaultKind}
+use Rattle.tp_kernel.specs.declared.fault.FaultKind.{FaultKind}
 use Rattle.tp_meaning.specs.Syntax.{ExprTree, Definition, BindingTree, place_binding}
 use Rattle.tp_meaning.specs.Fits.{ExprFits, DefinitionsFit}
 use Rattle.tp_meaning.specs.Course.{Course}

@@ -3,8 +3,8 @@ use Rattle.std.specs.Prelude.{List}
 use Rattle.tp_value.specs.Tree.{Tree}
 use Rattle.tp_value.specs.declared.path.Path.{Path}
 use Rattle.tp_value.specs.declared.path.Fact.{Fact}
-use Rattle.tp_kernel.specs.declared.formula.FaultKind.{FaultKind}
-use Rattle.tp_kernel.specs.declared.formula.LimitKind.{LimitKind}
+use Rattle.tp_kernel.specs.declared.fault.FaultKind.{FaultKind}
+use Rattle.tp_kernel.specs.declared.fault.LimitKind.{LimitKind}
 use Rattle.tp_meaning.specs.Syntax.{ExprTree, Definition, BindingTree}
 use Rattle.tp_eval.specs.Reached.{Reached, reaches, stops, waits, faults, passes}
 use Rattle.tp_eval.specs.Evaluate.{PlaceFound, at_path, inside, evaluate, find_place, value_at, depth_limit}

@@ -4,9 +4,9 @@ use Rattle.tp_value.specs.Tree.{Tree, num}
 use Rattle.tp_value.specs.Number.{is_within_limit}
 use Rattle.tp_value.specs.Limits.{is_within_list_limit}
 use Rattle.tp_value.specs.declared.path.Path.{Path}
-use Rattle.tp_kernel.specs.declared.formula.FaultKind.{FaultKind}
-use Rattle.tp_kernel.specs.declared.formula.LimitKind.{LimitKind}
-use Rattle.tp_kernel.specs.declared.formula.LimitKind.TheVariants as limit
+use Rattle.tp_kernel.specs.declared.fault.FaultKind.{FaultKind}
+use Rattle.tp_kernel.specs.declared.fault.LimitKind.{LimitKind}
+use Rattle.tp_kernel.specs.declared.fault.LimitKind.TheVariants as limit
 
 -- why an evaluation stops: the shape at a path isn't known yet, the expression has no value, or a
 -- limit is passed

@@ -2,10 +2,10 @@
 use Rattle.std.proofs.Common.{refl, ap, sym, subst, ◌∙◌, ◌≡◌, ℕ, zero, suc, ◌+◌, ◌<◌, ◌≤◌, inl, inr, ◌⊎◌, List, [], ◌∷◌, ◌++◌, length, drop, arith, length-drop}
 use Rattle.std.specs.Str.Lines.{lines}
 use Rattle.tp_meaning.specs.Inputs.{InputPair, InputLines}
-use Rattle.tp_inputs.specs.declared.refusal.Fault.{Fault}
-use Rattle.tp_inputs.specs.Parts.{LinePart, Blank, Given, Faulty, BeginsPart}
-use Rattle.tp_inputs.specs.FirstPart.{first_part}
-use Rattle.tp_inputs.specs.Lines.{PassesPart, blank, pair, ReadsPairs, LineEnding, Whole, Fails, whole, passes, fails, IsLine, HasFault}
+use Rattle.tp_inputs.specs.declared.fault.Fault.{Fault}
+use Rattle.tp_inputs.specs.FirstPart.{LinePart, Blank, Given, Faulty, BeginsPart, first_part}
+use Rattle.tp_inputs.specs.Lines.{PassesPart, blank, given, ReadsPairs, here, passes, IsLine}
+use Rattle.tp_inputs.specs.Faults.{BeginsFault, HasFault}
 use Rattle.tp_inputs.specs.Table.{AreLines, IsFirstFault}
 use Rattle.tp_inputs.specs.Laws.{EachTextIsJudged, OneTable, OneFirstFault, NoFaultyTable, RefusedValuesHaveTheirCause}
 use Rattle.tp_value.proofs.ReadLemmas.{never_memory, refused_right}
@@ -30,64 +30,75 @@ nothing_passes z seen more n e is = let some = passed_bytes z seen more n is in 
 
 one_pass : (z : List ℕ) (seen a b : List InputPair) (n m : ℕ) → PassesPart z seen a n → PassesPart z seen b m → (a ≡ b) × (n ≡ m)
 one_pass z seen _ _ _ _ (blank is) (blank js) = (refl, refl)
-one_pass z seen _ _ _ _ (blank is) (pair {p = p} {n = n} js) = let same : Blank ≡ Given p n = one_part z seen _ _ is js in absurd cc
-one_pass z seen _ _ _ _ (pair {p = p} {n = n} is) (blank js) = let same : Given p n ≡ Blank = one_part z seen _ _ is js in absurd cc
-one_pass z seen _ _ _ _ (pair {p = p} {n = n} is) (pair {p = q} {n = m} js) =
-    let same : Given p n ≡ Given q m = one_part z seen _ _ is js in
+one_pass z seen _ _ _ _ (blank is) (given {p = p} {n = n} js) = let same : Blank ≡ Given p n = one_part z seen Blank (Given p n) is js in absurd cc
+one_pass z seen _ _ _ _ (given {p = p} {n = n} is) (blank js) = let same : Given p n ≡ Blank = one_part z seen (Given p n) Blank is js in absurd cc
+one_pass z seen _ _ _ _ (given {p = p} {n = n} is) (given {p = q} {n = m} js) =
+    let same : Given p n ≡ Given q m = one_part z seen (Given p n) (Given q m) is js in
     let pairs : p ≡ q = cc in
     (ap (λ (x : InputPair). seen ++ x ∷ []) pairs, cc)
 
-no_faulty_pass : (z : List ℕ) (seen more : List InputPair) (n : ℕ) (f : Fault) → PassesPart z seen more n → BeginsPart z seen (Faulty f) → ⊥
-no_faulty_pass z seen _ _ f (blank is) js = let same : Blank ≡ Faulty f = one_part z seen _ _ is js in cc
-no_faulty_pass z seen _ _ f (pair {p = p} {n = n} is) js = let same : Given p n ≡ Faulty f = one_part z seen _ _ is js in cc
+no_faulty_pass : (z : List ℕ) (seen more : List InputPair) (n : ℕ) (f : Fault) → PassesPart z seen more n → BeginsFault z seen f → ⊥
+no_faulty_pass z seen _ _ f (blank is) js = let same : Blank ≡ Faulty f = one_part z seen Blank (Faulty f) is js in cc
+no_faulty_pass z seen _ _ f (given {p = p} {n = n} is) js = let same : Given p n ≡ Faulty f = one_part z seen (Given p n) (Faulty f) is js in cc
 
--- what two readings of one rest have in common
-abbrev Same : List InputPair → LineEnding → List InputPair → LineEnding → Type 0
-Same ps e qs f = (ps ≡ qs) × (e ≡ f)
+-- how a reading ends: with the whole line, or at a fault
+data LineEnding : Type 0 where
+  Whole : LineEnding
+  Fails : Fault → LineEnding
 
-one_reading : (z : List ℕ) (seen ps qs : List InputPair) (e f : LineEnding) → ReadsPairs z seen ps e → ReadsPairs z seen qs f → Same ps e qs f
-one_reading z seen _ _ _ _ (whole e) (whole f) = (refl, refl)
-one_reading z seen _ _ _ _ (whole e) (passes is r) = absurd (nothing_passes z seen _ _ e is)
-one_reading z seen _ _ _ _ (whole e) (fails is) = absurd (nothing_stands z seen _ e is)
-one_reading z seen _ _ _ _ (passes is r) (whole f) = absurd (nothing_passes z seen _ _ f is)
-one_reading z seen ps qs e f (passes {n = n} {more = a} is r) (passes {n = m} {more = b} js s) =
-    let same = one_pass z seen a b n m is js in
-    one_reading (drop n z) a ps qs e f r (subst (λ (xs : List InputPair). ReadsPairs (drop n z) xs qs f) (sym same.0) (subst (λ (k : ℕ). ReadsPairs (drop k z) b qs f) (sym same.1) s))
-one_reading z seen _ _ _ _ (passes is r) (fails js) = absurd (no_faulty_pass z seen _ _ _ is js)
-one_reading z seen _ _ _ _ (fails is) (whole f) = absurd (nothing_stands z seen _ f is)
-one_reading z seen _ _ _ _ (fails is) (passes js s) = absurd (no_faulty_pass z seen _ _ _ js is)
-one_reading z seen _ _ _ _ (fails {fault = fault} is) (fails {fault = other} js) =
-    let same : Faulty fault ≡ Faulty other = one_part z seen _ _ is js in
-    let faults : fault ≡ other = cc in
-    (refl, ap Fails faults)
+abbrev Stops : List ℕ → List InputPair → LineEnding → Type 0
+Stops z seen Whole = z ≡ []
+Stops z seen (Fails fault) = BeginsFault z seen fault
+
+no_pass_stopped : (z : List ℕ) (seen more : List InputPair) (n : ℕ) (e : LineEnding) → Stops z seen e → PassesPart z seen more n → ⊥
+no_pass_stopped z seen more n Whole e is = nothing_passes z seen more n e is
+no_pass_stopped z seen more n (Fails fault) a is = no_faulty_pass z seen more n fault is a
+
+one_stop : (z : List ℕ) (seen : List InputPair) (e f : LineEnding) → Stops z seen e → Stops z seen f → e ≡ f
+one_stop z seen Whole Whole a b = refl
+one_stop z seen Whole (Fails f) a b = absurd (nothing_stands z seen (Faulty f) a b)
+one_stop z seen (Fails f) Whole a b = absurd (nothing_stands z seen (Faulty f) b a)
+one_stop z seen (Fails f) (Fails g) a b =
+    let same : Faulty f ≡ Faulty g = one_part z seen (Faulty f) (Faulty g) a b in
+    let faults : f ≡ g = cc in
+    ap Fails faults
+
+one_reading : (z : List ℕ) (seen : List InputPair) (x y : List ℕ) (ps qs : List InputPair) (e f : LineEnding) → ReadsPairs z seen x ps → Stops x ps e → ReadsPairs z seen y qs → Stops y qs f
+    → (ps ≡ qs) × (e ≡ f)
+one_reading z seen _ _ _ _ e f here a here b = (refl, one_stop z seen e f a b)
+one_reading z seen _ _ _ _ e f here a (passes {n = n} {more = more} is r) b = absurd (no_pass_stopped z seen more n e a is)
+one_reading z seen _ _ _ _ e f (passes {n = n} {more = more} is r) a here b = absurd (no_pass_stopped z seen more n f b is)
+one_reading z seen x y ps qs e f (passes {n = n} {more = more} is r) a (passes {n = m} {more = other} js s) b =
+    let same = one_pass z seen more other n m is js in
+    one_reading (drop n z) more x y ps qs e f r a (subst (λ (xs : List InputPair). ReadsPairs (drop n z) xs y qs) (sym same.0) (subst (λ (k : ℕ). ReadsPairs (drop k z) other y qs) (sym same.1) s)) b
 
 one_line : (line : List ℕ) (ps qs : List InputPair) → IsLine line ps → IsLine line qs → ps ≡ qs
-one_line line ps qs a b = (one_reading line [] ps qs Whole Whole a b).0
+one_line line ps qs a b = (one_reading line [] [] [] ps qs Whole Whole a refl b refl).0
 
 one_fault : (line : List ℕ) (e f : Fault) → HasFault line e → HasFault line f → e ≡ f
-one_fault line e f (ps, a) (qs, b) = let same = (one_reading line [] ps qs (Fails e) (Fails f) a b).1 in cc
+one_fault line e f (x, ps, a, s) (y, qs, b, t) = let same = (one_reading line [] x y ps qs (Fails e) (Fails f) a s b t).1 in cc
 
 no_faulty_line : (line : List ℕ) (ps : List InputPair) (f : Fault) → IsLine line ps → HasFault line f → ⊥
-no_faulty_line line ps f a (qs, b) = let same = (one_reading line [] ps qs Whole (Fails f) a b).1 in absurd cc
+no_faulty_line line ps f a (y, qs, b, t) = let same = (one_reading line [] [] y ps qs Whole (Fails f) a refl b t).1 in absurd cc
 
 -- ---- each line has a reading
 
 abbrev Read : List ℕ → List InputPair → Type 0
-Read z seen = (ps : List InputPair) × (end : LineEnding) × ReadsPairs z seen ps end
+Read z seen = (rest : List ℕ) × (ps : List InputPair) × (end : LineEnding) × ReadsPairs z seen rest ps × Stops rest ps end
 
 read_on : (z : List ℕ) (seen : List InputPair) (p : LinePart) → BeginsPart z seen p → Takes p (length z) → ((n : ℕ) (more : List InputPair) → 0 < n → n ≤ length z → Read (drop n z) more) → Read z seen
-read_on z seen Blank is t below = let later = below 1 seen (omega arith) t in (later.0, later.1, passes (blank is) later.2)
-read_on z seen (Given p n) is t below = let later = below n (seen ++ p ∷ []) t.0 t.1 in (later.0, later.1, passes (pair is) later.2)
-read_on z seen (Faulty fault) is t below = (seen, Fails fault, fails is)
+read_on z seen Blank is t below = let later = below 1 seen (omega arith) t in (later.0, later.1, later.2, passes (blank is) later.3, later.4)
+read_on z seen (Given p n) is t below = let later = below n (seen ++ p ∷ []) t.0 t.1 in (later.0, later.1, later.2, passes (given is) later.3, later.4)
+read_on z seen (Faulty fault) is t below = (z, seen, Fails fault, here, is)
 
 read_full : (z : List ℕ) (seen : List InputPair) → ((n : ℕ) (more : List InputPair) → 0 < n → n ≤ length z → Read (drop n z) more) → Read z seen
-read_full [] seen below = (seen, Whole, whole refl)
+read_full [] seen below = ([], seen, Whole, here, refl)
 read_full (b ∷ z) seen below =
     let is = part_is (b ∷ z) seen (λ none. let e = ap length none in absurd (omega arith)) in
-    read_on (b ∷ z) seen (first_part (b ∷ z) seen) is (takes (b ∷ z) seen _ is) below
+    read_on (b ∷ z) seen (first_part (b ∷ z) seen) is (takes (b ∷ z) seen (first_part (b ∷ z) seen) is) below
 
 some_reading : (most : ℕ) (z : List ℕ) (seen : List InputPair) → length z ≤ most → Read z seen
-some_reading zero z seen few = (seen, Whole, whole (no_more z (omega arith)))
+some_reading zero z seen few = (z, seen, Whole, here, no_more z (omega arith))
 some_reading (suc most) z seen few = read_full z seen (λ n more some low. some_reading most (drop n z) more (omega (arith, length-drop n z)))
 
 abbrev Judged : List ℕ → Type 0
@@ -97,8 +108,8 @@ judged : (line : List ℕ) → Judged line
 judged line = by (some_reading (length line) line [] (omega arith))
   where
     by : Read line [] → Judged line
-    by (ps, Whole, reads) = inl (ps, reads)
-    by (ps, Fails f, reads) = inr (f, (ps, reads))
+    by (rest, ps, Whole, reads, e) = inl (ps, subst (λ (z : List ℕ). ReadsPairs line [] z ps) e reads)
+    by (rest, ps, Fails f, reads, has) = inr (f, (rest, ps, reads, has))
 
 -- ---- texts
 

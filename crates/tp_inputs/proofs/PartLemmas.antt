@@ -4,18 +4,18 @@ use Rattle.std.specs.List.{prefix_len}
 use Rattle.std.specs.Char.{is_ascii_lowercase}
 use Rattle.std.proofs.lemmas.Bool.Decides.{nat_tests}
 use Rattle.tp_value.specs.Tree.{Tree}
-use Rattle.tp_value.specs.Spelling.{is_value_blank}
-use Rattle.tp_value.specs.Answers.{IsRead}
+use Rattle.tp_value.specs.Spelling.{is_value_blank, IsRead}
 use Rattle.tp_value.specs.Reading.{Answer, found, refused, value_answer}
 use Rattle.tp_value.proofs.ReadLemmas.{found_read, read_found}
 use Rattle.tp_lex.specs.declared.token.Word.{Word}
-use Rattle.tp_lex.specs.First.{is_name_byte, name_limit}
+use Rattle.tp_lex.specs.Bytes.{is_name_byte, name_limit}
 use Rattle.tp_lex.specs.Spelling.{spelled_word}
 use Rattle.tp_lex.proofs.SpellingLemmas.{word_is, no_word}
 use Rattle.tp_meaning.specs.Inputs.{InputPair, port_value}
-use Rattle.tp_inputs.specs.declared.refusal.Fault.TheVariants as f
-use Rattle.tp_inputs.specs.Parts.{LinePart, Blank, Given, Faulty, BeginsPort, IsNewPort, is_set_apart, BeginsPart, blank, pair, no_port, twice, no_value, not_apart}
-use Rattle.tp_inputs.specs.FirstPart.{port_len, value_part, new_part, pair_of_len, pair_part, first_part}
+use Rattle.tp_inputs.specs.declared.fault.Fault.TheVariants as f
+use Rattle.tp_inputs.specs.Parts.{BeginsPort, IsNewPort, is_set_apart, pair}
+use Rattle.tp_inputs.specs.Faults.{no_port, twice, no_value, not_apart}
+use Rattle.tp_inputs.specs.FirstPart.{LinePart, Blank, Given, Faulty, BeginsPart, port_len, value_part, new_part, pair_of_len, pair_part, first_part}
 
 -- what `port_len` found
 abbrev FindsPort : List ℕ → Option ℕ → Type 0
@@ -88,7 +88,7 @@ unfolding first_part pair_part
 part_is z seen some = at (is_value_blank (slice_index z 0)) refl
   where
     at : (b : Bool) → is_value_blank (slice_index z 0) ≡ b → BeginsPart z seen (cond b Blank (pair_of_len z seen (port_len z)))
-    at true e = blank e
+    at true e = e
     at false e = pair_begins z seen some e (port_len z) (port_is z)
 
 -- ---- and no other
@@ -112,12 +112,12 @@ unfolding first_part pair_part
 no_port_part z seen e never = rw e (ap (pair_of_len z seen) (port_none z never))
 
 pub part_one : (z : List ℕ) (seen : List InputPair) (p : LinePart) → BeginsPart z seen p → p ≡ first_part z seen
-part_one z seen _ (blank e) = sym (blank_part z seen e)
-part_one z seen _ (pair {n = n} {m = m} {t = t} is new read e) = sym (fresh_part z seen n (found t m) is new (read_found z (n + 1) m t read) ∙ ap (λ b. cond b (Given (record { port = take n z; value = t }) m) (Faulty f.Bad)) e)
-part_one z seen _ (no_port some e never) = sym (no_port_part z seen e never)
-part_one z seen _ (twice {n = n} is given) = sym (port_part z seen n is ∙ ap (new_part z n) given.1)
-part_one z seen _ (no_value {n = n} {e = e} is new told) = sym (fresh_part z seen n (refused e) is new told)
-part_one z seen _ (not_apart {n = n} {m = m} {t = t} is new read e) = sym (fresh_part z seen n (found t m) is new (read_found z (n + 1) m t read) ∙ ap (λ b. cond b (Given (record { port = take n z; value = t }) m) (Faulty f.Bad)) e)
+part_one z seen Blank e = sym (blank_part z seen e)
+part_one z seen (Given _ _) (pair {n = n} {m = m} {t = t} is new read e) = sym (fresh_part z seen n (found t m) is new (read_found z (n + 1) m t read) ∙ ap (λ b. cond b (Given (record { port = take n z; value = t }) m) (Faulty f.Bad)) e)
+part_one z seen (Faulty _) (no_port some e never) = sym (no_port_part z seen e never)
+part_one z seen (Faulty _) (twice {n = n} is given) = sym (port_part z seen n is ∙ ap (new_part z n) given.1)
+part_one z seen (Faulty _) (no_value {n = n} {e = e} is new told) = sym (fresh_part z seen n (refused e) is new told)
+part_one z seen (Faulty _) (not_apart {n = n} {m = m} {t = t} is new read e) = sym (fresh_part z seen n (found t m) is new (read_found z (n + 1) m t read) ∙ ap (λ b. cond b (Given (record { port = take n z; value = t }) m) (Faulty f.Bad)) e)
 
 -- ---- each part but a fault has some bytes of the line
 
@@ -135,15 +135,15 @@ filled [] full = absurd (full refl)
 filled (b ∷ z) full = omega arith
 
 pub takes : (z : List ℕ) (seen : List InputPair) (p : LinePart) → BeginsPart z seen p → Takes p (length z)
-takes z seen _ (blank e) = some_blank z e
-takes z seen _ (pair is new read e) =
+takes z seen Blank e = some_blank z e
+takes z seen (Given _ _) (pair is new read e) =
     let ordered = read.ordered in
     let inside = read.inside in
     (omega arith, omega arith)
-takes z seen _ (no_port some e never) = filled z some
-takes z seen _ (twice {n = n} is given) = let low = port_within z n is in omega arith
-takes z seen _ (no_value {n = n} is new told) = let low = port_within z n is in omega arith
-takes z seen _ (not_apart {n = n} is new read e) = let low = port_within z n is in omega arith
+takes z seen (Faulty _) (no_port some e never) = filled z some
+takes z seen (Faulty _) (twice {n = n} is given) = let low = port_within z n is in omega arith
+takes z seen (Faulty _) (no_value {n = n} is new told) = let low = port_within z n is in omega arith
+takes z seen (Faulty _) (not_apart {n = n} is new read e) = let low = port_within z n is in omega arith
 
 pub no_more : {A : Type 0} (z : List A) → length z ≡ 0 → z ≡ []
 no_more [] e = refl

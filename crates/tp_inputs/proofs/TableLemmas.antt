@@ -2,11 +2,12 @@
 use Rattle.std.proofs.Common.{refl, ap, sym, subst, ◌∙◌, ◌≡◌, ℕ, zero, suc, ◌+◌, List, [], ◌∷◌, ◌++◌, length, take, drop, arith}
 use Rattle.std.specs.Str.Lines.{lines}
 use Rattle.tp_meaning.specs.Inputs.{InputPair, InputLines}
-use Rattle.tp_inputs.specs.declared.refusal.Fault.{Fault}
-use Rattle.tp_inputs.specs.declared.refusal.Fault.TheVariants.{Bad, Twice, TooLong}
+use Rattle.tp_inputs.specs.declared.fault.Fault.{Fault}
+use Rattle.tp_inputs.specs.declared.fault.Fault.TheVariants.{Bad, Twice, TooLong}
 use Rattle.tp_inputs.specs.declared.refusal.LineRefusal.{LineRefusal}
 use Rattle.tp_inputs.specs.declared.refusal.LineRefusal.TheVariants as l
-use Rattle.tp_inputs.specs.Lines.{IsLine, HasFault}
+use Rattle.tp_inputs.specs.Lines.{IsLine}
+use Rattle.tp_inputs.specs.Faults.{HasFault}
 use Rattle.tp_inputs.specs.Table.{AreLines, IsFirstFault, IsInputsRefusal, IsInputsText}
 use Rattle.tp_inputs.specs.Read.{refusal_in, IsLineRefusal}
 

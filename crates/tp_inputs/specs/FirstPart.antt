@@ -1,16 +1,30 @@
 -- What a line of inputs begins with, as a function of the line.
-use Rattle.std.specs.Prelude.{ℕ, ◌+◌, ◌==◌, Bool, ◌&&◌, if◌then◌else◌, nat_le, List, take, slice_index, Option, Some, None, is_none}
+use Rattle.std.specs.Prelude.{◌≡◌, true, ℕ, ◌+◌, ◌==◌, Bool, ◌&&◌, if◌then◌else◌, nat_le, List, take, slice_index, Option, Some, None, is_none}
 use Rattle.std.specs.List.{prefix_len}
 use Rattle.std.specs.Char.{is_ascii_lowercase}
 use Rattle.tp_value.specs.declared.reading.ReadValue.{ReadValue}
 use Rattle.tp_value.specs.Tree.{Tree}
 use Rattle.tp_value.specs.Spelling.{is_value_blank}
 use Rattle.tp_value.specs.Reading.{Answer, found, refused, value_answer}
-use Rattle.tp_lex.specs.First.{is_name_byte, name_limit}
+use Rattle.tp_lex.specs.Bytes.{is_name_byte, name_limit}
 use Rattle.tp_lex.specs.Spelling.{spelled_word}
 use Rattle.tp_meaning.specs.Inputs.{InputPair, port_value}
-use Rattle.tp_inputs.specs.declared.refusal.Fault.TheVariants as f
-use Rattle.tp_inputs.specs.Parts.{LinePart, Blank, Given, Faulty, is_set_apart, fault_of}
+use Rattle.tp_inputs.specs.declared.fault.Fault.TheVariants as f
+use Rattle.tp_inputs.specs.declared.fault.Fault.{Fault}
+use Rattle.tp_inputs.specs.Parts.{is_set_apart, BeginsPair}
+use Rattle.tp_inputs.specs.Faults.{fault_of, BeginsFault}
+
+-- a blank, a pair with the number of its bytes, or a fault
+pub data LinePart : Type 0 where
+  Blank : LinePart
+  Given : InputPair → ℕ → LinePart
+  Faulty : Fault → LinePart
+
+-- the rest of a line, which is not empty, begins with this, behind these pairs of the line
+abbrev pub BeginsPart : List ℕ → List InputPair → LinePart → Type 0
+BeginsPart z seen Blank = is_value_blank (slice_index z 0) ≡ true
+BeginsPart z seen (Given p n) = BeginsPair z seen p n
+BeginsPart z seen (Faulty fault) = BeginsFault z seen fault
 
 -- whether the first n bytes, all those of a name, are a port with `=` behind it
 abbrev pub is_port : List ℕ → ℕ → Bool

@@ -6,7 +6,7 @@ use Rattle.tp_value.specs.declared.reading.ReadValue.TheVariants.{NoMemory}
 use Rattle.tp_value.specs.Reading.{refused, value_answer}
 use Rattle.tp_value.specs.Answers.{IsReadRefused}
 use Rattle.tp_meaning.specs.Inputs.{InputLines}
-use Rattle.tp_inputs.specs.declared.refusal.Fault.{Fault}
+use Rattle.tp_inputs.specs.declared.fault.Fault.{Fault}
 use Rattle.tp_inputs.specs.Table.{IsInputsText, IsFirstFault}
 use Rattle.tp_inputs.specs.Within.{InputsWithin}
 

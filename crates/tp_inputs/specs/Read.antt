@@ -4,13 +4,13 @@ use Rattle.tp_meaning.specs.Inputs.{InputPair, InputLines}
 use Rattle.tp_inputs.specs.declared.inputs.Inputs.{Inputs}
 use Rattle.tp_inputs.specs.declared.part.FoundPart.{FoundPart}
 use Rattle.tp_inputs.specs.declared.part.FoundPart.TheVariants as p
-use Rattle.tp_inputs.specs.declared.refusal.Fault.TheVariants.{Bad, Twice, TooLong}
+use Rattle.tp_inputs.specs.declared.fault.Fault.TheVariants.{Bad, Twice, TooLong}
 use Rattle.tp_inputs.specs.declared.refusal.InputsRefusal.{InputsRefusal}
 use Rattle.tp_inputs.specs.declared.refusal.InputsRefusal.TheVariants as r
 use Rattle.tp_inputs.specs.declared.refusal.LineRefusal.{LineRefusal}
 use Rattle.tp_inputs.specs.declared.refusal.LineRefusal.TheVariants as l
-use Rattle.tp_inputs.specs.Parts.{LinePart, Blank, Given, Faulty, BeginsPart}
-use Rattle.tp_inputs.specs.Lines.{HasFault}
+use Rattle.tp_inputs.specs.FirstPart.{LinePart, Blank, Given, Faulty}
+use Rattle.tp_inputs.specs.Faults.{BeginsFault, HasFault}
 use Rattle.tp_inputs.specs.Pairs.{pair_of, pairs_of}
 
 abbrev pub lines_of : Inputs → InputLines
@@ -31,7 +31,7 @@ refusal_in l.NoMemory line = r.NoMemory
 
 -- the fault that comes first in the rest of a line, behind these pairs, unless memory ran out
 abbrev pub IsPartRefusal : List ℕ → List InputPair → LineRefusal → Type 0
-IsPartRefusal z seen (l.Fault fault) = BeginsPart z seen (Faulty fault)
+IsPartRefusal z seen (l.Fault fault) = BeginsFault z seen fault
 IsPartRefusal z seen l.NoMemory = Unit {0}
 
 -- what was answered of a line, unless memory ran out

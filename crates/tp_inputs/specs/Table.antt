@@ -2,11 +2,12 @@
 use Rattle.std.specs.Prelude.{◌≡◌, ℕ, ◌+◌, List, [], ◌∷◌, ◌++◌, length}
 use Rattle.std.specs.Str.Lines.{lines}
 use Rattle.tp_meaning.specs.Inputs.{InputLines}
-use Rattle.tp_inputs.specs.declared.refusal.Fault.{Fault}
-use Rattle.tp_inputs.specs.declared.refusal.Fault.TheVariants.{Bad, Twice, TooLong}
+use Rattle.tp_inputs.specs.declared.fault.Fault.{Fault}
+use Rattle.tp_inputs.specs.declared.fault.Fault.TheVariants.{Bad, Twice, TooLong}
 use Rattle.tp_inputs.specs.declared.refusal.InputsRefusal.{InputsRefusal}
 use Rattle.tp_inputs.specs.declared.refusal.InputsRefusal.TheVariants as r
-use Rattle.tp_inputs.specs.Lines.{IsLine, HasFault}
+use Rattle.tp_inputs.specs.Lines.{IsLine}
+use Rattle.tp_inputs.specs.Faults.{HasFault}
 
 -- each text is a line with those pairs
 abbrev pub AreLines : List (List ℕ) → InputLines → Type 0

@@ -1,6 +1,7 @@
 //! The table of inputs: for each state the values of ports, read from a text.
 #![tactic(auto)]
 
+mod fault;
 mod inputs;
 mod laws;
 mod line;

@@ -8,8 +8,8 @@ ghost use Rattle.tp_inputs.specs.FirstPart as spec;
 ghost use Rattle.tp_inputs.specs.Pairs.{pairs_of};
 ghost use Rattle.tp_inputs.specs.Read.{part_of};
 
+use crate::fault::Fault;
 use crate::line::Line;
-use crate::refusal::Fault;
 use std::alloc::Global;
 use tp_lex::{NAME_LIMIT, name_len, word_of};
 use tp_value::{NoMemory, ReadValue, Text, Value, read_value};

@@ -4,6 +4,7 @@ ghost use Rattle.tp_inputs.specs.declared.refusal.InputsRefusal.TheVariants.{NoM
 ghost use Rattle.tp_inputs.specs.declared.refusal.LineRefusal.TheVariants.{NoMemory as line_memory};
 ghost use Rattle.tp_inputs.specs.Read.{refusal_in};
 
+use crate::fault::Fault;
 use std::alloc::{AllocError, AllocFailed};
 use tp_value::NoMemory;
 
@@ -17,14 +18,6 @@ pub enum InputsRefusal {
     /// A value in the line has too many items, or lists too deep in one another.
     TooLong { line: u64 },
     NoMemory,
-}
-
-/// The first fault of a line.
-#[derive(Clone, Copy)]
-pub enum Fault {
-    Bad,
-    Twice,
-    TooLong,
 }
 
 /// Why a line is refused: its first fault, or want of memory.

@@ -1,35 +1,16 @@
 -- What the calls of a set of files and of a sink do.
-use Rattle.std.specs.Prelude.{◌≡◌, ◌≤◌, ◌+◌, ◌-◌, ◌^◌, ℕ, min, List, [], ◌∷◌, ◌++◌, length, take, Option, None, Some, Result, Ok, Err, unwrap_or, IfSome}
+use Rattle.std.specs.Prelude.{◌≡◌, ◌≤◌, ◌+◌, ◌-◌, ◌^◌, ℕ, List, [], ◌∷◌, ◌++◌, length, take, Option, Some, Result, Ok, Err, IfSome}
 use Rattle.std.specs.Option.{option_map}
-use Rattle.std.specs.Ordering.{nat_cmp}
-use Rattle.std.specs.Cmp.Lexicographic.{slice_cmp}
-use Rattle.std.specs.FinMap.{FinMap, get}
 use Rattle.std.specs.Io.KnownBytes.{Appends}
 use Rattle.tp_io.specs.declared.devices.FileRefusal.{FileRefusal}
 use Rattle.tp_io.specs.declared.devices.WriteRefusal.{WriteRefusal}
 use Rattle.tp_io.specs.declared.devices.FileRefusal.TheVariants as file
 use Rattle.tp_io.specs.declared.devices.WriteRefusal.TheVariants as sink
-
--- the least number that a count has after it rose; a count stands still at its greatest number
-abbrev pub next_count : Option ℕ → ℕ → ℕ
-next_count None count = count + 1
-next_count (Some greatest) count = min (count + 1) greatest
+use Rattle.tp_io.specs.Held.{next_count, Held, bytes_of}
 
 -- the greatest number of the real files' count and of the real sink's, which have 64 bits
 abbrev pub last_count : Option ℕ
 last_count = Some (2 ^ 64 - 1)
-
--- the count rose, or it stands at its greatest number
-abbrev pub Rose : Option ℕ → ℕ → ℕ → Type 0
-Rose greatest before now = next_count greatest before ≤ now
-
--- a map from names to the bytes that they hold
-abbrev pub Held : Type 0
-Held = FinMap (slice_cmp nat_cmp) (List ℕ)
-
--- what a name holds; a name that is not in the map holds nothing
-abbrev pub bytes_of : Held → List ℕ → List ℕ
-bytes_of files name = unwrap_or (get files name) []
 
 -- the list with one more, where the list is told
 abbrev pub and_one_more : {X : Type 0} → Option (List X) → X → Option (List X)

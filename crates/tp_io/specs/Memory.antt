@@ -2,7 +2,7 @@
 use Rattle.std.specs.Prelude.{ℕ, List, map, count_by}
 use Rattle.std.specs.List.{flat_map}
 use Rattle.std.specs.FinMap.{from_entries}
-use Rattle.tp_io.specs.Devices.{Held}
+use Rattle.tp_io.specs.Held.{Held}
 use Rattle.tp_io.specs.declared.memory.Content.{Content}
 use Rattle.tp_io.specs.declared.memory.Failure.{Failure}
 use Rattle.tp_io.specs.declared.memory.Request.{Request}

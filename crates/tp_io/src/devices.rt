@@ -1,6 +1,7 @@
 // What a run asks of its files and of its sink.
 ghost use Rattle.std.specs.Prelude.{◌≡◌, ◌≤◌, ℕ, List, Option, IfOk, IsErrOf};
-ghost use Rattle.tp_io.specs.Devices.{Held, Reads, Writes, Rose, asked_after};
+ghost use Rattle.tp_io.specs.Devices.{Reads, Writes, asked_after};
+ghost use Rattle.tp_io.specs.Held.{Held, Rose};
 ghost use Rattle.tp_io.specs.declared.devices.FileRefusal.TheVariants as file;
 ghost use Rattle.tp_io.specs.declared.devices.WriteRefusal.TheVariants as sink;
 

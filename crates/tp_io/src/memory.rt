@@ -2,7 +2,8 @@
 ghost use Rattle.std.specs.Prelude.{◌≡◌, ◌≤◌, ◌+◌, ℕ, [], List, Option, Some, None, take, find, length, nat_eq, IfOk, IsErr, IsErrOf, IsNone, IsSome, OnOk};
 ghost use Rattle.std.specs.Option.{option_copied};
 ghost use Rattle.std.specs.FinMap.{get};
-ghost use Rattle.tp_io.specs.Devices.{Reads, Writes, Rose, asked_after};
+ghost use Rattle.tp_io.specs.Devices.{Reads, Writes, asked_after};
+ghost use Rattle.tp_io.specs.Held.{Rose};
 ghost use Rattle.tp_io.specs.Memory.{held_of};
 ghost use Rattle.tp_io.specs.Calls.{FailsAt, shelf_after, sure_shelf_after, failure_of, page_after};
 

@@ -1,7 +1,8 @@
 // The real files and the real output, over the calls of the system.
 ghost use Rattle.std.specs.Prelude.{◌≡◌, ◌≤◌, ◌<◌, ◌++◌, ℕ, List, Option, length, take, drop, None, IfOk, IfSome, OnOk, OnErr, IsErrOf, false};
 ghost use Rattle.std.specs.Io.KnownBytes.{Appends, Consumes, IsAtEnd, Keeps};
-ghost use Rattle.tp_io.specs.Devices.{Reads, Rose, AppendsPart, next_count, reads_failed_after, writes_failed_after, last_count};
+ghost use Rattle.tp_io.specs.Devices.{Reads, AppendsPart, reads_failed_after, writes_failed_after, last_count};
+ghost use Rattle.tp_io.specs.Held.{Rose, next_count};
 ghost use Rattle.tp_io.specs.SystemCalls.{FileCall, WriteCall, ReadsByCalls, ReadsOpen, WritesPiece, OneRead, OneWrite, and_these, refusal_of_fault};
 
 use crate::system::{CallFault, SystemFiles, SystemWriter};

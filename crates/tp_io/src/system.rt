@@ -5,7 +5,8 @@ ghost use Rattle.std.specs.declared.io.ErrorKind.{ErrorKind};
 ghost use Rattle.std.specs.IoError.{error_kind};
 ghost use Rattle.std.specs.Io.{ReadsAtMost, WritesAtMost};
 ghost use Rattle.std.specs.Io.KnownBytes.{ReadConsumes, WriteAppends};
-ghost use Rattle.tp_io.specs.Devices.{Held, bytes_of, and_one_more};
+ghost use Rattle.tp_io.specs.Devices.{and_one_more};
+ghost use Rattle.tp_io.specs.Held.{Held, bytes_of};
 ghost use Rattle.tp_io.specs.SystemCalls.{FileCall, WriteCall, IsFaultOf, open_call, read_call, write_call, fault_in};
 
 use std::io::{Read, Write};

@@ -2,11 +2,11 @@
 #![tactic(auto)]
 
 mod derived;
+mod fault;
 mod formula;
 mod letters;
 
 pub use derived::{becomes, fin, gets, halt, keep, list, next_equals, repeat, skip, stable};
-pub use formula::{
-    Binding, Def, Defs, Env, Expr, Exprs, FaultKind, Formula, Formulas, LimitKind, Op2,
-};
+pub use fault::{FaultKind, LimitKind};
+pub use formula::{Binding, Def, Defs, Env, Expr, Exprs, Formula, Formulas, Op2};
 pub use letters::{is_lower, is_upper};

@@ -6,9 +6,9 @@ use Rattle.tp_lex.specs.declared.token.Symbol.{Symbol}
 use Rattle.tp_lex.specs.Spelling.{symbol_spelling}
 use Rattle.tp_lex.proofs.SpellingLemmas.{some}
 use Rattle.tp_lex.specs.declared.token.Token.{Token}
-use Rattle.tp_lex.specs.declared.place.Place.{Place}
-use Rattle.tp_lex.specs.declared.first.Piece.{Piece}
-use Rattle.tp_lex.specs.declared.first.Piece.TheVariants.{Gap, Lexeme, Refused}
+use Rattle.tp_lex.specs.declared.token.Place.{Place}
+use Rattle.tp_lex.specs.declared.piece.Piece.{Piece}
+use Rattle.tp_lex.specs.declared.piece.Piece.TheVariants.{Gap, Lexeme, Refused}
 use Rattle.tp_lex.specs.First.{first_piece}
 use Rattle.tp_lex.specs.Place.{place_of, place_from, place_after, text_start, token_at}
 use Rattle.tp_lex.specs.Pieces.{BeginsPiece, blank, comment, word, upper, lower, number, symbol, bad_byte, open_comment, large_number, long_name}

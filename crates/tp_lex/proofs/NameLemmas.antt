@@ -5,9 +5,9 @@ use Rattle.std.specs.Char.{is_ascii_alphabetic}
 use Rattle.std.proofs.lemmas.List.Elements.{All-nil, All-cons, All-append}
 use Rattle.std.proofs.lemmas.List.Folds.{length-prefix_len}
 use Rattle.tp_lex.specs.declared.token.Token.{Token}
-use Rattle.tp_lex.specs.declared.first.Piece.{Piece}
-use Rattle.tp_lex.specs.declared.first.Piece.TheVariants.{Gap, Lexeme, Refused}
-use Rattle.tp_lex.specs.First.{is_name_byte}
+use Rattle.tp_lex.specs.declared.piece.Piece.{Piece}
+use Rattle.tp_lex.specs.declared.piece.Piece.TheVariants.{Gap, Lexeme, Refused}
+use Rattle.tp_lex.specs.Bytes.{is_name_byte}
 use Rattle.tp_lex.specs.Pieces.{IsName, BeginsPiece, blank, comment, word, upper, lower, number, symbol, bad_byte, open_comment, large_number, long_name}
 use Rattle.tp_lex.specs.Tokens.{ReadsTokens, Ending, Whole, whole, gap, lexeme, fails}
 use Rattle.tp_lex.specs.Names.{own_names, token_names, IsNameText, NamesAreSpelled}

@@ -10,12 +10,13 @@ use Rattle.tp_lex.specs.declared.token.Word.{Word}
 use Rattle.tp_lex.specs.declared.token.Symbol.{Symbol}
 use Rattle.tp_lex.specs.declared.token.Kind.{Kind}
 use Rattle.tp_lex.specs.declared.token.Kind.TheVariants as k
-use Rattle.tp_lex.specs.declared.first.Fault.TheVariants.{BadByte, NameTooLong}
-use Rattle.tp_lex.specs.declared.first.Piece.{Piece}
-use Rattle.tp_lex.specs.declared.first.Piece.TheVariants.{Gap, Lexeme, Refused}
+use Rattle.tp_lex.specs.declared.piece.Fault.TheVariants.{BadByte, NameTooLong}
+use Rattle.tp_lex.specs.declared.piece.Piece.{Piece}
+use Rattle.tp_lex.specs.declared.piece.Piece.TheVariants.{Gap, Lexeme, Refused}
 use Rattle.tp_lex.specs.Spelling.{word_spelling, symbol_spelling, spelled_word, longest_symbol}
 use Rattle.tp_lex.specs.First as f
-use Rattle.tp_lex.specs.First.{is_blank, is_name_byte, is_digit, spelled_value, name_limit, first_close, first_piece}
+use Rattle.tp_lex.specs.First.{first_close, first_piece}
+use Rattle.tp_lex.specs.Bytes.{is_blank, is_name_byte, is_digit, spelled_value, name_limit}
 use Rattle.tp_lex.specs.Pieces.{Opens, ClosesAt, IsName, AreLeadingDigits, IsLongestSymbol, IsBad, BeginsPiece, blank, comment, word, upper, lower, number, symbol, bad_byte, open_comment, large_number, long_name}
 use Rattle.tp_lex.proofs.Lists.{begins_from, starts_from, no_start, starts_not}
 use Rattle.tp_lex.proofs.SpellingLemmas.{word_is, word_from, no_word, word_none, longest_is, longest_from, no_symbol, symbol_none, symbol_byte, some, word_short}

@@ -5,10 +5,10 @@ use Rattle.std.proofs.Math.Seq.{take-add}
 use Rattle.std.proofs.lemmas.List.Sums.{fold-append}
 use Rattle.tp_lex.specs.declared.token.Token.{Token}
 use Rattle.tp_lex.specs.declared.token.Kind.{Kind}
-use Rattle.tp_lex.specs.declared.first.Fault.{Fault}
-use Rattle.tp_lex.specs.declared.first.Fault.TheVariants.{BadByte, OpenComment, NumberTooLarge, NameTooLong}
-use Rattle.tp_lex.specs.declared.first.Piece.{Piece}
-use Rattle.tp_lex.specs.declared.first.Piece.TheVariants.{Gap, Lexeme, Refused}
+use Rattle.tp_lex.specs.declared.piece.Fault.{Fault}
+use Rattle.tp_lex.specs.declared.piece.Fault.TheVariants.{BadByte, OpenComment, NumberTooLarge, NameTooLong}
+use Rattle.tp_lex.specs.declared.piece.Piece.{Piece}
+use Rattle.tp_lex.specs.declared.piece.Piece.TheVariants.{Gap, Lexeme, Refused}
 use Rattle.tp_lex.specs.Place.{place_of, place_from, place_after, token_at, text_start}
 use Rattle.tp_lex.specs.Pieces.{BeginsPiece}
 use Rattle.tp_lex.specs.Tokens.{ReadsTokens, Ending, Whole, Fails, whole, gap, lexeme, fails, refusal_at, IsRefused, IsRefusedUnlessMemory, AreTokens}

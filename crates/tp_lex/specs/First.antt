@@ -1,32 +1,18 @@
 -- What a text begins with, as a function of the text.
-use Rattle.std.specs.Prelude.{ℕ, suc, ℤ, pos, ◌+◌, ◌-◌, ◌*◌, Bool, ◌||◌, if◌then◌else◌, ◌==◌, nat_eq, nat_le, List, [], ◌∷◌, length, take, drop, fold, slice_index, codes, Option, Some, None}
+use Rattle.std.specs.Prelude.{ℕ, suc, ℤ, pos, ◌+◌, ◌*◌, if◌then◌else◌, nat_eq, nat_le, List, [], ◌∷◌, length, take, drop, slice_index, codes, Option, Some, None}
 use Rattle.std.specs.Option.{option_map}
 use Rattle.std.specs.List.{prefix_len, starts_with}
-use Rattle.std.specs.Char.{is_ascii_digit, is_ascii_alphabetic, is_ascii_alphanumeric, is_ascii_uppercase}
+use Rattle.std.specs.Char.{is_ascii_alphabetic, is_ascii_uppercase}
 use Rattle.tp_value.specs.Number.{number_limit}
 use Rattle.tp_lex.specs.declared.token.Word.{Word}
 use Rattle.tp_lex.specs.declared.token.Symbol.{Symbol}
 use Rattle.tp_lex.specs.declared.token.Kind.{Kind}
 use Rattle.tp_lex.specs.declared.token.Kind.TheVariants as k
-use Rattle.tp_lex.specs.declared.first.Fault.TheVariants.{BadByte, OpenComment, NumberTooLarge, NameTooLong}
-use Rattle.tp_lex.specs.declared.first.Piece.{Piece}
-use Rattle.tp_lex.specs.declared.first.Piece.TheVariants.{Gap, Lexeme, Refused}
+use Rattle.tp_lex.specs.declared.piece.Fault.TheVariants.{BadByte, OpenComment, NumberTooLarge, NameTooLong}
+use Rattle.tp_lex.specs.declared.piece.Piece.{Piece}
+use Rattle.tp_lex.specs.declared.piece.Piece.TheVariants.{Gap, Lexeme, Refused}
 use Rattle.tp_lex.specs.Spelling.{symbol_spelling, spelled_word, longest_symbol}
-
--- space, tab, carriage return and line feed
-abbrev pub is_blank : ℕ → Bool
-is_blank b = b == 32 || b == 9 || b == 13 || b == 10
-
--- letters, digits and `_`
-abbrev pub is_name_byte : ℕ → Bool
-is_name_byte b = is_ascii_alphanumeric b || b == 95
-
-abbrev pub is_digit : ℕ → Bool
-is_digit b = is_ascii_digit b
-
--- the number that digits spell
-abbrev pub spelled_value : List ℕ → ℕ
-spelled_value digits = fold (λ n b. 10 * n + (b - 48)) 0 digits
+use Rattle.tp_lex.specs.Bytes.{is_blank, is_name_byte, is_digit, spelled_value, name_limit}
 
 -- the number, where it is within the limit
 abbrev pub number_in_limit : ℕ → Option ℤ
@@ -37,10 +23,6 @@ abbrev pub first_close : List ℕ → Option ℕ
 first_close [] = None
 first_close (b ∷ z) =
     if starts_with nat_eq (b ∷ z) (codes "*/") then Some 0 else option_map suc (first_close z)
-
--- how many bytes a name has at most
-abbrev pub name_limit : ℕ
-name_limit = 64
 
 -- the kind of a text's first n bytes, a name that is no word
 abbrev pub name_kind : ℕ → List ℕ → Kind

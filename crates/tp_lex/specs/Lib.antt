@@ -5,3 +5,4 @@ pub mod Pieces
 pub mod Place
 pub mod Spelling
 pub mod Tokens
+pub mod Bytes

@@ -6,11 +6,11 @@ use Rattle.tp_value.specs.Number.{number_limit}
 use Rattle.tp_lex.specs.declared.token.Word.{Word}
 use Rattle.tp_lex.specs.declared.token.Symbol.{Symbol}
 use Rattle.tp_lex.specs.declared.token.Kind.TheVariants as k
-use Rattle.tp_lex.specs.declared.first.Fault.TheVariants.{BadByte, OpenComment, NumberTooLarge, NameTooLong}
-use Rattle.tp_lex.specs.declared.first.Piece.{Piece}
-use Rattle.tp_lex.specs.declared.first.Piece.TheVariants.{Gap, Lexeme, Refused}
+use Rattle.tp_lex.specs.declared.piece.Fault.TheVariants.{BadByte, OpenComment, NumberTooLarge, NameTooLong}
+use Rattle.tp_lex.specs.declared.piece.Piece.{Piece}
+use Rattle.tp_lex.specs.declared.piece.Piece.TheVariants.{Gap, Lexeme, Refused}
 use Rattle.tp_lex.specs.Spelling.{word_spelling, symbol_spelling}
-use Rattle.tp_lex.specs.First.{is_blank, is_name_byte, is_digit, spelled_value, name_limit}
+use Rattle.tp_lex.specs.Bytes.{is_blank, is_name_byte, is_digit, spelled_value, name_limit}
 
 -- the text begins with these bytes
 abbrev pub BeginsWith : List ℕ → List ℕ → Type 0

@@ -1,6 +1,6 @@
 -- Where a byte of a text stands.
 use Rattle.std.specs.Prelude.{ℕ, ◌+◌, ◌==◌, if◌then◌else◌, List, take, fold}
-use Rattle.tp_lex.specs.declared.place.Place.{Place}
+use Rattle.tp_lex.specs.declared.token.Place.{Place}
 use Rattle.tp_lex.specs.declared.token.Kind.{Kind}
 use Rattle.tp_lex.specs.declared.token.Token.{Token}
 

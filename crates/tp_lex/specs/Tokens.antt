@@ -2,9 +2,9 @@
 use Rattle.std.specs.Prelude.{◌≡◌, ℕ, ◌+◌, List, [], ◌∷◌, length, drop}
 use Rattle.tp_lex.specs.declared.token.Token.{Token}
 use Rattle.tp_lex.specs.declared.token.Kind.{Kind}
-use Rattle.tp_lex.specs.declared.first.Fault.{Fault}
-use Rattle.tp_lex.specs.declared.first.Fault.TheVariants.{BadByte, OpenComment, NumberTooLarge, NameTooLong}
-use Rattle.tp_lex.specs.declared.first.Piece.TheVariants.{Gap, Lexeme, Refused}
+use Rattle.tp_lex.specs.declared.piece.Fault.{Fault}
+use Rattle.tp_lex.specs.declared.piece.Fault.TheVariants.{BadByte, OpenComment, NumberTooLarge, NameTooLong}
+use Rattle.tp_lex.specs.declared.piece.Piece.TheVariants.{Gap, Lexeme, Refused}
 use Rattle.tp_lex.specs.declared.refusal.LexRefusal.{LexRefusal}
 use Rattle.tp_lex.specs.declared.refusal.LexRefusal.TheVariants as r
 use Rattle.tp_lex.specs.Pieces.{BeginsPiece}

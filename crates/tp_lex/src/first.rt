@@ -3,48 +3,32 @@ ghost use Rattle.std.specs.Prelude.{◌≡◌, ◌+◌, ◌<◌, ◌≤◌, ◌�
 ghost use Rattle.std.specs.List.{prefix_len};
 ghost use Rattle.tp_value.specs.Number.{number_width};
 ghost use Rattle.tp_lex.specs.First as spec;
+ghost use Rattle.tp_lex.specs.Bytes as bytes;
 
+use crate::piece::{Fault, Piece};
 use crate::spelling::{first_symbol, word_of};
 use crate::token::Kind;
 use std::alloc::Global;
 use tp_value::{NUMBER_LIMIT, NoMemory, Number, Text};
 
-/// Why a text begins with no token.
-#[derive(Clone, Copy)]
-pub enum Fault {
-    BadByte,
-    OpenComment,
-    NumberTooLarge,
-    NameTooLong,
-}
-
-/// What a text begins with, and how many bytes that has.
-#[derive(Drop)]
-pub enum Piece {
-    /// A blank or a comment.
-    Gap(usize),
-    Lexeme(Kind, usize),
-    Refused(Fault),
-}
-
 /// How many bytes a name has at most.
 pub const NAME_LIMIT: usize = 64;
 
 fn is_blank(byte: u8) -> bool
-    ensures { result ≡ spec.is_blank byte }
+    ensures { result ≡ bytes.is_blank byte }
 {
     byte == b' ' || byte == b'\t' || byte == b'\r' || byte == b'\n'
 }
 
 fn is_name_byte(byte: u8) -> bool
-    ensures { result ≡ spec.is_name_byte byte }
+    ensures { result ≡ bytes.is_name_byte byte }
 {
     byte.is_ascii_alphanumeric() || byte == b'_'
 }
 
 /// How many letters, digits and `_` the text begins with.
 pub fn name_len(text: &[u8]) -> usize
-    ensures value { result ≡ prefix_len spec.is_name_byte text.now }
+    ensures value { result ≡ prefix_len bytes.is_name_byte text.now }
     ensures within { result ≤ length text.now }
 {
     let mut end = 0;
@@ -55,7 +39,7 @@ pub fn name_len(text: &[u8]) -> usize
 }
 
 fn digits_len(text: &[u8]) -> usize
-    ensures value { result ≡ prefix_len spec.is_digit text.now }
+    ensures value { result ≡ prefix_len bytes.is_digit text.now }
     ensures within { result ≤ length text.now }
 {
     let mut end = 0;
@@ -67,7 +51,7 @@ fn digits_len(text: &[u8]) -> usize
 
 /// The number that the digits spell, where it is within the limit.
 fn value_of(digits: &[u8]) -> Option<Number>
-    ensures value { result ≡ spec.number_in_limit (spec.spelled_value digits.now) }
+    ensures value { result ≡ spec.number_in_limit (bytes.spelled_value digits.now) }
     ensures low { IfSome result (λ n. FitsSigned number_width n) }
 {
     let past_limit = NUMBER_LIMIT as u128 + 1;

@@ -4,6 +4,7 @@
 mod first;
 mod laws;
 mod line;
+mod piece;
 mod place;
 mod reading;
 mod refusal;

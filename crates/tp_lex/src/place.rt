@@ -2,15 +2,7 @@
 ghost use Rattle.std.specs.Prelude.{◌≡◌, ◌+◌, ◌≤◌, ◌<◌, ◌^◌, length, take};
 ghost use Rattle.tp_lex.specs.Place.{source_limit, place_after, place_of, place_from, token_at};
 
-use crate::token::{Kind, Token};
-
-/// A place in a text: the number of bytes before it, and its line and column, counted from 1.
-#[derive(Clone, Copy)]
-pub struct Place {
-    pub at: u32,
-    pub line: u32,
-    pub column: u32,
-}
+use crate::token::{Kind, Place, Token};
 
 impl Place {
     /// Where a text begins.

@@ -3,10 +3,10 @@ ghost use Rattle.std.specs.Prelude.{◌≡◌, ◌≤◌, length, IfOk, IfErr};
 ghost use Rattle.tp_lex.specs.Place.{source_limit};
 ghost use Rattle.tp_lex.specs.Tokens.{AreTokens, IsRefusedUnlessMemory, refusal_at};
 
-use crate::first::{Fault, Piece, first_piece};
-use crate::place::Place;
+use crate::first::first_piece;
+use crate::piece::{Fault, Piece};
 use crate::refusal::LexRefusal;
-use crate::token::Tokens;
+use crate::token::{Place, Tokens};
 use std::alloc::Global;
 
 fn refusal(fault: Fault, at: usize) -> LexRefusal

@@ -90,6 +90,14 @@ pub struct Token {
     pub column: u32,
 }
 
+/// A place in a text: the number of bytes before it, and its line and column, counted from 1.
+#[derive(Clone, Copy)]
+pub struct Place {
+    pub at: u32,
+    pub line: u32,
+    pub column: u32,
+}
+
 /// A list of tokens.
 #[derive(Drop)]
 pub struct Tokens {

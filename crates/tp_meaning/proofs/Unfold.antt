@@ -9,7 +9,8 @@ use Rattle.tp_meaning.specs.Course.{Part, Course, Shows, blank, ◌⊕◌, total
 use Rattle.tp_meaning.specs.Value.{Env, fixed}
 use Rattle.tp_meaning.specs.Holds.{Context, Pieces, Together, count_to, OnEachSuffix, Holds}
 use Rattle.tp_meaning.specs.Direct.{Means, ValueIs}
-use Rattle.tp_meaning.specs.Unfolding.{AlwaysUnfolds, WhileUnfolds, ForUnfolds, ForallUnfolds, LenUnfolds, nexts, NextEquationUnfolds, AssignUnfolds, InputUnfolds}
+use Rattle.tp_meaning.specs.Unfolding.{AlwaysUnfolds, WhileUnfolds, ForUnfolds, ForallUnfolds, LenUnfolds, NextEquationUnfolds, AssignUnfolds, InputUnfolds}
+use Rattle.tp_meaning.specs.Nexts.{nexts}
 use Rattle.tp_meaning.proofs.Shows.{join-blank, total_same, put_at, put_there, put_else}
 use Rattle.tp_meaning.proofs.Means.{fin_means}
 

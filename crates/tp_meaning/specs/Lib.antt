@@ -1,5 +1,6 @@
 pub mod Syntax
 pub mod Derived
+pub mod Nexts
 pub mod Course
 pub mod Inputs
 pub mod Value

@@ -7,6 +7,7 @@ use Rattle.tp_meaning.specs.Value.{Env, fixed}
 use Rattle.tp_meaning.specs.Inputs.{input_at}
 use Rattle.tp_meaning.specs.Holds.{Context, Holds, Joined, Chopped, Projected, env_at_cuts}
 use Rattle.tp_meaning.specs.Derived.{fin_of}
+use Rattle.tp_meaning.specs.Nexts.{nexts}
 use Rattle.tp_meaning.specs.Direct.{DirectMeaning, Means, ValueIs}
 
 -- what f says
@@ -57,11 +58,6 @@ pub record LenUnfolds (e : ExprTree) : Type 0 where
   pub ends : MeansWhere (len e) e (num (pos 0)) (SaidBy empty)
   pub goes : (k : ℕ) → MeansWhere (len e) e (num (pos (suc k)))
       (SaidBy (next (len (numeral (pos k)))))
-
--- under n times `next`
-abbrev pub nexts : ℕ → FormulaTree → FormulaTree
-nexts zero f = f
-nexts (suc n) f = next (nexts n f)
 
 -- t has the value v of e in the n-th state from now
 abbrev pub NextEquationUnfolds : Type 0

@@ -12,9 +12,9 @@ use Rattle.tp_lex.specs.declared.token.Word.{Word}
 use Rattle.tp_lex.specs.declared.token.Word.TheVariants as word
 use Rattle.tp_lex.specs.declared.token.Symbol.{Symbol}
 use Rattle.tp_lex.specs.declared.token.Symbol.TheVariants as symbol
-use Rattle.tp_lex.specs.declared.first.Piece.{Piece}
-use Rattle.tp_lex.specs.declared.first.Piece.TheVariants.{Gap, Lexeme, Refused}
-use Rattle.tp_lex.specs.First.{is_name_byte, spelled_value}
+use Rattle.tp_lex.specs.declared.piece.Piece.{Piece}
+use Rattle.tp_lex.specs.declared.piece.Piece.TheVariants.{Gap, Lexeme, Refused}
+use Rattle.tp_lex.specs.Bytes.{is_name_byte, spelled_value}
 use Rattle.tp_lex.specs.Pieces as piece
 use Rattle.tp_lex.specs.Pieces.{IsName, BeginsPiece}
 use Rattle.tp_lex.specs.Names.{IsNameText}

@@ -15,7 +15,7 @@ use Rattle.tp_parse.specs.declared.head.Listed.TheVariants as listed
 use Rattle.tp_parse.specs.declared.head.Pair.{Pair}
 use Rattle.tp_parse.specs.declared.head.Pair.TheVariants as pair
 use Rattle.tp_parse.specs.declared.phrases.Measured.{Measured}
-use Rattle.tp_parse.specs.declared.phrases.Operands as all
+use Rattle.tp_parse.specs.declared.operands.Operands as all
 
 -- a phrase, and its height with its parentheses
 pub record Found : Type 0 where

@@ -4,7 +4,7 @@ use Rattle.std.specs.Prelude.{Result, Ok, Err, ◌≢◌, ◌<◌, ◌≡◌, �
 use Rattle.std.specs.Char.{is_ascii_uppercase}
 use Rattle.tp_value.specs.Number.{number_limit}
 use Rattle.tp_lex.specs.declared.token.Token.{Token}
-use Rattle.tp_lex.specs.First.{name_limit}
+use Rattle.tp_lex.specs.Bytes.{name_limit}
 use Rattle.tp_lex.specs.Pieces.{IsNoWord}
 use Rattle.tp_lex.specs.Names.{IsNameText}
 use Rattle.tp_lex.specs.Tokens.{AreTokens}

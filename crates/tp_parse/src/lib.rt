@@ -4,10 +4,13 @@
 mod head;
 mod laws;
 mod mark;
+mod operands;
 mod parser;
 mod phrase;
 mod phrases;
+mod primary;
 mod refusal;
+mod role;
 mod source;
 
 pub use laws::{names_are_tokens, printed_is_read_back};

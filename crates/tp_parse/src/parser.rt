@@ -4,8 +4,9 @@ ghost use Rattle.tp_parse.specs.Input as spec;
 ghost use Rattle.tp_parse.specs.Input.{ReturnsReading};
 ghost use Rattle.tp_parse.specs.declared.refusal.Refusal.TheVariants.{TooDeep};
 
-use crate::mark::{Mark, first_half, mark_of, same, second_half};
+use crate::mark::Mark;
 use crate::refusal::Refusal;
+use crate::role::{first_half, mark_of, same, second_half};
 use std::alloc::Global;
 use std::marker::Model;
 use tp_lex::{Kind, Symbol, Token};

@@ -7,14 +7,17 @@ ghost use Rattle.tp_parse.specs.Found.{seen, turn_seen, all_seen};
 ghost use Rattle.tp_parse.specs.Reading as spec;
 ghost use Rattle.tp_parse.specs.declared.head.Head.TheVariants.{Paired};
 
-use crate::head::{Head, Pair, enclosed_close, enclosed_level, listed_close, listed_level, middle};
-use crate::mark::{Mark, Prefix, Role, before, prefix_at, role_at, same, start_of};
+use crate::head::{Head, Pair};
+use crate::mark::{Mark, Prefix, Role};
+use crate::operands::Operands;
 use crate::parser::Parser;
 use crate::phrases::{
-    Measured, Operands, of_atom, of_chain, of_choice, of_choice_else, of_enclosed, of_exists,
-    of_index, of_infix, of_operands, of_pair, of_prefix,
+    Measured, of_atom, of_chain, of_choice, of_choice_else, of_enclosed, of_exists, of_index,
+    of_infix, of_operands, of_pair, of_prefix,
 };
+use crate::primary::{enclosed_close, enclosed_level, listed_close, listed_level, middle};
 use crate::refusal::Refusal;
+use crate::role::{before, prefix_at, role_at, same, start_of};
 use std::alloc::Global;
 use tp_lex::{Symbol, Word};
 use tp_tree::level::{CHOP, grouping, right_level};

@@ -8,6 +8,7 @@ ghost use Rattle.tp_tree.specs.Tree.{phrases_of};
 
 use crate::head::{Atom, Listed, Pair};
 use crate::mark::{Enclosure, Prefix};
+use crate::operands::Operands;
 use crate::refusal::Refusal;
 use std::alloc::Global;
 use tp_tree::{Op, Phrase, PhraseKind, Phrases};
@@ -17,13 +18,6 @@ use tp_value::Texts;
 #[derive(Drop)]
 pub struct Measured {
     pub phrase: Phrase,
-    pub height: u32,
-}
-
-/// Operands that were read, and the greatest of their heights.
-#[derive(Drop)]
-pub struct Operands {
-    pub items: Vec<Phrase>,
     pub height: u32,
 }
 

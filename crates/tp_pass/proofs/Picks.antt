@@ -6,10 +6,10 @@ use Rattle.tp_scene.specs.Scene.{has}
 use Rattle.tp_scene.specs.Step.{Reduction}
 use Rattle.tp_scene.specs.Pick.{Setting, Moment, Reduces, Leads, outcome_of, IsIdle}
 use Rattle.tp_scene.specs.Laws.{IsSound}
-use Rattle.tp_step.specs.declared.answer.Ending.{Ending}
+use Rattle.tp_step.specs.declared.ending.Ending.{Ending}
 use Rattle.tp_step.specs.declared.answer.Tried.{Tried}
 use Rattle.tp_step.specs.declared.answer.Tried.TheVariants as tried
-use Rattle.tp_step.specs.declared.answer.Order.{Order}
+use Rattle.tp_step.specs.declared.order.Order.{Order}
 use Rattle.tp_pass.specs.declared.sweep.Sweep.{Sweep}
 use Rattle.tp_pass.specs.Sweeps.{BeginsSweep, TakesTurn}
 use Rattle.tp_pass.proofs.Sweeping.{IsToCome, begins_with_each, one_turn, no_turn}

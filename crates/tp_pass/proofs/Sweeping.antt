@@ -4,8 +4,8 @@ use Rattle.std.specs.List.{Contains}
 use Rattle.std.proofs.lemmas.List.{take-append-drop}
 use Rattle.std.proofs.lemmas.List.Elements.{Contains-append_left, Contains-append_right, Contains-append_cases}
 use Rattle.tp_scene.specs.Scene.{Entries, has}
-use Rattle.tp_step.specs.declared.answer.Order.{Order}
-use Rattle.tp_step.specs.declared.answer.Order.TheVariants.{First, Last, Seed}
+use Rattle.tp_step.specs.declared.order.Order.{Order}
+use Rattle.tp_step.specs.declared.order.Order.TheVariants.{First, Last, Seed}
 use Rattle.tp_pass.specs.declared.sweep.Sweep.{Sweep}
 use Rattle.tp_pass.specs.declared.sweep.Sweep.TheVariants.{From, Forward, Backward}
 use Rattle.tp_step.specs.Seeds.{choice_of}

@@ -1,12 +1,12 @@
 -- The picks of a closure in an order: pass after pass, each by the turns of its sweep.
 use Rattle.std.specs.Prelude.{◌≡◌, ◌⊎◌, ℕ, ◌+◌, ◌<◌, true, List, [], ◌∷◌, ◌++◌, length, Option, None, Some}
-use Rattle.tp_kernel.specs.declared.formula.LimitKind.TheVariants.{Reductions}
+use Rattle.tp_kernel.specs.declared.fault.LimitKind.TheVariants.{Reductions}
 use Rattle.tp_scene.specs.Scene.{has}
 use Rattle.tp_scene.specs.Step.{Reduction, reduces, clashes, misses, passes}
 use Rattle.tp_scene.specs.Pick.{Setting, Moment, Reduces, outcome_of, IsIdle}
-use Rattle.tp_step.specs.declared.answer.Order.{Order}
-use Rattle.tp_step.specs.declared.answer.Ending.{Ending}
-use Rattle.tp_step.specs.declared.answer.Ending.TheVariants.{Rest, Clash, Missing, Over}
+use Rattle.tp_step.specs.declared.order.Order.{Order}
+use Rattle.tp_step.specs.declared.ending.Ending.{Ending}
+use Rattle.tp_step.specs.declared.ending.Ending.TheVariants.{Rest, Clash, Missing, Over}
 use Rattle.tp_pass.specs.declared.sweep.Sweep.{Sweep}
 use Rattle.tp_pass.specs.Sweeps.{BeginsSweep, TakesTurn}
 

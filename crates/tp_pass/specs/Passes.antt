@@ -3,7 +3,7 @@ use Rattle.std.specs.Prelude.{◌≡◌, ℕ, List, Option, None, Some}
 use Rattle.tp_scene.specs.Pick.{Setting, Moment}
 use Rattle.tp_scene.specs.Rest.{AtRest}
 use Rattle.tp_step.specs.Closes.{ClosureEnds, Made}
-use Rattle.tp_step.specs.declared.answer.Ending.{Ending}
+use Rattle.tp_step.specs.declared.ending.Ending.{Ending}
 
 -- One pass was made: where nothing was reduced in it the scene is at rest; or the closure ended in
 -- it.

@@ -3,5 +3,6 @@
 
 mod pass;
 mod sweep;
+mod turn;
 
 pub use pass::close_by_passes;

@@ -4,8 +4,8 @@ use Rattle.std.proofs.lemmas.List.{length-map}
 use Rattle.tp_value.specs.Globals.{is_lower}
 use Rattle.tp_kernel.specs.Read.{definitions_of}
 use Rattle.tp_inputs.specs.Read.{lines_of}
-use Rattle.tp_kernel.specs.declared.formula.LimitKind.{LimitKind}
-use Rattle.tp_kernel.specs.declared.formula.LimitKind.TheVariants as limit
+use Rattle.tp_kernel.specs.declared.fault.LimitKind.{LimitKind}
+use Rattle.tp_kernel.specs.declared.fault.LimitKind.TheVariants as limit
 use Rattle.tp_meaning.specs.Syntax.{Definition}
 use Rattle.tp_meaning.specs.Inputs.{InputLines}
 use Rattle.tp_meaning.specs.Course.{Course, Shows, ◌⊕◌, shown_at}
@@ -20,14 +20,14 @@ use Rattle.tp_scene.specs.Step.{reduces, waits, rests, clashes, misses, passes}
 use Rattle.tp_scene.specs.Pick.{Setting, Moment, outcome_of}
 use Rattle.tp_scene.specs.Rest.{AtRest, settled, waiting, goes, ends, IsOpenCell}
 use Rattle.tp_scene.specs.Replay as replay
-use Rattle.tp_scene.specs.StandsFor.{first_moment}
+use Rattle.tp_scene.specs.Beginning.{first_moment}
 use Rattle.tp_scene.specs.Laws.{IsSound}
 use Rattle.tp_slots.specs.declared.scene.Scene.{Scene}
 use Rattle.tp_step.specs.Answers.{Tries}
 use Rattle.tp_step.specs.declared.answer.Tried.{Tried}
 use Rattle.tp_step.specs.declared.answer.Tried.TheVariants as tried
-use Rattle.tp_step.specs.declared.answer.Ending.{Ending}
-use Rattle.tp_step.specs.declared.answer.Ending.TheVariants as ending
+use Rattle.tp_step.specs.declared.ending.Ending.{Ending}
+use Rattle.tp_step.specs.declared.ending.Ending.TheVariants as ending
 use Rattle.tp_step.specs.Closes.{ClosureAnswers}
 use Rattle.tp_step.specs.OfVariables.{CellIsOf}
 use Rattle.tp_run.specs.declared.run.Made.{Made}
@@ -38,10 +38,11 @@ use Rattle.tp_run.specs.declared.run.Stand.TheVariants.{Open, Answered, Spent}
 use Rattle.tp_show.specs.declared.turn.Picture.{Picture}
 use Rattle.tp_show.specs.declared.turn.Turn.{Turn}
 use Rattle.tp_show.specs.declared.turn.Turn.TheVariants.{Went, Finished, Contradictory, Undetermined, StateLimit, InputMissing, Over}
-use Rattle.tp_run.specs.States.{Plan, globals_of, setting, IsPictureOf, StateGoesOn, StateEnds, Standing, open_at, answered, spent, ReachesLimit, limit_moment, state_after, StateBecomes}
-use Rattle.tp_run.specs.Meaning.{StandingFor, StandsForItsProgram, AgreesWithFacts, AnswerMeans}
+use Rattle.tp_run.specs.States.{Plan, globals_of, setting, IsPictureOf, StateGoesOn, StateEnds, ReachesLimit, limit_moment}
+use Rattle.tp_run.specs.Standing.{Standing, open_at, answered, spent, state_after, StateBecomes}
+use Rattle.tp_run.specs.Meaning.{StandingFor, StandsForItsProgram, AnswerMeans}
+use Rattle.tp_run.specs.History.{AgreesWithFacts}
 use Rattle.tp_run.specs.Runs.{stands_at, standing_of, StandIsKept, StandIsOf, TurnIsOf, MadeIsOf, StandsSound, StandsOrderly, IsSettingsOf, IsRunOf, HasPicture, NextOf, RestTurns}
-use Rattle.tp_step.specs.OfVariables.{CellIsOf}
 use Rattle.tp_run.specs.EachOrder.{AnswerAgrees, AnswerHasNoDeadEnd}
 use Rattle.tp_run.proofs.OneState.{Orderly, next_orderly, state_agrees, no_dead_end}
 use Rattle.tp_run.proofs.StatesMean.{leads_sound, leads_keep, goes_on_says, ends_here_says}

@@ -8,7 +8,7 @@ use Rattle.tp_scene.proofs.StepsFit.{steps_fit}
 use Rattle.tp_scene.proofs.EndLaws.{all_ends_stand, all_advances_keep}
 use Rattle.tp_scene.proofs.AdvancesFit.{advances_fit}
 use Rattle.tp_scene.proofs.Begin.{runs_begin}
-use Rattle.tp_scene.specs.StandsFor.{first_moment}
+use Rattle.tp_scene.specs.Beginning.{first_moment}
 use Rattle.tp_scene.specs.Laws.{IsSound}
 use Rattle.tp_run.specs.States.{Plan, setting}
 use Rattle.tp_run.proofs.StatesMean.{SceneLaws}

@@ -10,18 +10,21 @@ use Rattle.tp_meaning.proofs.Shows.{join-assoc as join_assoc, join-blank}
 use Rattle.tp_store.specs.Facts.{AgreesWithAll}
 use Rattle.tp_store.specs.Known.{Contents, facts_below}
 use Rattle.tp_decide.specs.Read.{shows_of}
-use Rattle.tp_kernel.specs.declared.formula.LimitKind.{LimitKind}
+use Rattle.tp_kernel.specs.declared.fault.LimitKind.{LimitKind}
 use Rattle.tp_scene.specs.declared.answer.Cell.{Cell}
 use Rattle.tp_scene.specs.declared.answer.Clash.{Clash}
 use Rattle.tp_scene.specs.Pick.{Moment, Leads}
-use Rattle.tp_scene.specs.StandsFor.{StandsFor, first_moment, context_of}
+use Rattle.tp_scene.specs.StandsFor.{StandsFor, context_of}
+use Rattle.tp_scene.specs.Beginning.{first_moment}
 use Rattle.tp_scene.specs.Laws.{IsSound, RefusalsStandForNone, RunsBegin}
 use Rattle.tp_scene.specs.Replay as replay
 use Rattle.tp_show.specs.declared.turn.Picture.{Picture}
 use Rattle.tp_show.specs.declared.turn.Turn.{Turn}
 use Rattle.tp_show.specs.declared.turn.Turn.TheVariants.{Went, Finished, Contradictory, Undetermined, StateLimit, InputMissing, Over}
-use Rattle.tp_run.specs.States.{Plan, globals_of, setting, StateGoesOn, StatesLead, LeadsTo, answered, RunPlace, ReachesLimit, limit_moment, state_after, StateBecomes}
-use Rattle.tp_run.specs.History.{FinishesAt, RunEndsWith, AgreesWithPictures, shown_from, SatisfiedExactly, Satisfiable, Unsatisfiable, ContinuesEach, EndOfRunMeans, Advances, RunsAdvance}
+use Rattle.tp_run.specs.States.{Plan, globals_of, setting, StateGoesOn, StatesLead, LeadsTo, ReachesLimit, limit_moment}
+use Rattle.tp_run.specs.Standing.{answered, RunPlace, state_after, StateBecomes}
+use Rattle.tp_run.specs.History.{FinishesAt, RunEndsWith, AgreesWithPictures, shown_from, SatisfiedExactly, Satisfiable, Unsatisfiable, ContinuesEach}
+use Rattle.tp_run.specs.Advances.{EndOfRunMeans, Advances, RunsAdvance}
 use Rattle.tp_run.proofs.StatesMean.{SceneLaws, leads_sound, leads_keep, lead_sound, states_say, ends_here_says, picture_agrees}
 use Rattle.tp_scene.proofs.Quiet.{says_quiet}
 use Rattle.tp_run.proofs.Lives.{StateLaws, lives, Agree, agree_at, agrees_with_less, below_keeps, picks_keep}

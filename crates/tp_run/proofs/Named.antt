@@ -2,14 +2,15 @@
 use Rattle.std.proofs.Common.{◌≡◌, ℕ, List, [], subst}
 use Rattle.tp_scene.specs.Pick.{Setting, Moment}
 use Rattle.tp_store.specs.Known.{Contents}
-use Rattle.tp_step.specs.declared.answer.Order.{Order}
-use Rattle.tp_step.specs.declared.answer.Ending.{Ending}
+use Rattle.tp_step.specs.declared.order.Order.{Order}
+use Rattle.tp_step.specs.declared.ending.Ending.{Ending}
 use Rattle.tp_pass.specs.Follows.{FollowsOrder}
 use Rattle.tp_show.specs.declared.turn.Picture.{Picture}
 use Rattle.tp_show.specs.declared.turn.Turn.{Turn}
 use Rattle.tp_show.specs.declared.turn.Turn.TheVariants.{Went, Finished, Contradictory, Undetermined, StateLimit, InputMissing, Over}
 use Rattle.tp_run.specs.declared.run.Run.{Run}
-use Rattle.tp_run.specs.States.{Plan, setting, Standing, open_at}
+use Rattle.tp_run.specs.States.{Plan, setting}
+use Rattle.tp_run.specs.Standing.{Standing, open_at}
 use Rattle.tp_run.specs.Runs.{IsRunOf, RestTurns}
 use Rattle.tp_run.specs.Ordered.{EndsInOrder, IsNamedInOrder}
 use Rattle.tp_run.proofs.Becomes.{read_with, run_setting}

@@ -3,21 +3,22 @@ use Rattle.std.proofs.Common.{◌≡◌, ◌⊎◌, inl, inr, ℕ, suc, ◌<◌,
 use Rattle.tp_meaning.specs.Interval.{kinds_of}
 use Rattle.tp_meaning.specs.Fits.{ProgramFits}
 use Rattle.tp_inputs.specs.Within.{InputsWithin}
-use Rattle.tp_kernel.specs.declared.formula.LimitKind.{LimitKind}
-use Rattle.tp_kernel.specs.declared.formula.LimitKind.TheVariants as limit
+use Rattle.tp_kernel.specs.declared.fault.LimitKind.{LimitKind}
+use Rattle.tp_kernel.specs.declared.fault.LimitKind.TheVariants as limit
 use Rattle.tp_scene.specs.declared.answer.Cell.{Cell}
 use Rattle.tp_scene.specs.Step.{waits}
 use Rattle.tp_scene.specs.Pick.{Setting, Moment}
 use Rattle.tp_scene.specs.Rest.{Settled, waiting, end_open, ends, goes, settled, IsOpenCell}
-use Rattle.tp_scene.specs.StandsFor.{first_moment}
+use Rattle.tp_scene.specs.Beginning.{first_moment}
 use Rattle.tp_scene.specs.Replay as replay
 use Rattle.tp_scene.specs.Replay.{Closes}
 use Rattle.tp_show.specs.declared.turn.Picture.{Picture}
 use Rattle.tp_show.specs.declared.turn.Turn.{Turn}
 use Rattle.tp_show.specs.declared.turn.Turn.TheVariants.{Went, Finished, Contradictory, Undetermined, StateLimit, InputMissing, Over}
 use Rattle.tp_store.specs.Known.{Contents}
-use Rattle.tp_run.specs.States.{Plan, setting, IsPictureOf, StateGoesOn, StateEnds, Standing, StateBecomes, ReachesLimit}
-use Rattle.tp_step_laws.specs.Renaming.{renamed_cell}
+use Rattle.tp_run.specs.States.{Plan, setting, IsPictureOf, StateGoesOn, StateEnds, ReachesLimit}
+use Rattle.tp_run.specs.Standing.{Standing, StateBecomes}
+use Rattle.tp_step_laws.specs.Maps.{renamed_cell}
 use Rattle.tp_step_laws.specs.Alike.{Alike, SettlesAlike}
 use Rattle.tp_step_laws.proofs.SettleAlike.{alike_moments_settle}
 use Rattle.tp_step_laws.specs.Orders.{IsOrderly}

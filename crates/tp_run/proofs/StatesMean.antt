@@ -11,14 +11,13 @@ use Rattle.tp_decide.specs.Read.{shows_of}
 use Rattle.tp_scene.specs.Step.{Reduction}
 use Rattle.tp_scene.specs.Pick.{Setting, Moment, Reduces, Leads}
 use Rattle.tp_scene.specs.Rest.{settled, goes}
-use Rattle.tp_scene.specs.Advance.{advanced, shown_in}
+use Rattle.tp_scene.specs.Advance.{advanced, shown_in, StoreGoesOn as GoesOnTo}
 use Rattle.tp_scene.specs.StandsFor.{StandsFor}
-use Rattle.tp_scene.specs.Laws.{IsSound, StepsKeep, StoreGoesOn as GoesOnTo, AdvancesKeep, EndsStand}
+use Rattle.tp_scene.specs.Laws.{IsSound, StepsKeep, AdvancesKeep, EndsStand}
 use Rattle.tp_meaning.proofs.Shows.{join-assoc as join_assoc}
 use Rattle.tp_show.specs.declared.turn.Picture.{Picture}
 use Rattle.tp_run.specs.States.{Plan, globals_of, setting, AreGlobals, StateGoesOn, StateEnds, StatesLead}
-use Rattle.tp_run.specs.Meaning.{AgreesWithFacts}
-use Rattle.tp_run.specs.History.{AgreesWithPictures, shown_from}
+use Rattle.tp_run.specs.History.{AgreesWithFacts, AgreesWithPictures, shown_from}
 
 -- the laws of scenes, as runs need them
 pub record SceneLaws : Type 0 where

@@ -11,9 +11,10 @@ use Rattle.tp_run.specs.declared.run.Stand.TheVariants.{Open, Answered, Spent}
 use Rattle.tp_show.specs.declared.turn.Picture.{Picture}
 use Rattle.tp_show.specs.declared.turn.Turn.{Turn}
 use Rattle.tp_show.specs.declared.turn.Turn.TheVariants.{Went, Finished, Contradictory, Undetermined, StateLimit, InputMissing, Over}
-use Rattle.tp_kernel.specs.declared.formula.LimitKind.TheVariants as kind
-use Rattle.tp_kernel.specs.declared.formula.LimitKind.{LimitKind}
-use Rattle.tp_run.specs.States.{Plan, setting, Standing, open_at, answered, ReachesLimit, limit_moment, StateBecomes}
+use Rattle.tp_kernel.specs.declared.fault.LimitKind.TheVariants as kind
+use Rattle.tp_kernel.specs.declared.fault.LimitKind.{LimitKind}
+use Rattle.tp_run.specs.States.{Plan, setting, ReachesLimit, limit_moment}
+use Rattle.tp_run.specs.Standing.{Standing, open_at, answered, StateBecomes}
 use Rattle.tp_run.specs.Runs.{stands_at, HasFirst}
 
 -- where a run stands before a state, its store is what the state begins with

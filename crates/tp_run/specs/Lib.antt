@@ -6,3 +6,6 @@ pub mod Runs
 pub mod Ordered
 pub mod Same
 pub mod EachOrder
+pub mod Standing
+pub mod Advances
+pub mod SettledStates

@@ -1,16 +1,16 @@
 -- What a run stands for, and what its answers say of every interval.
-use Rattle.std.specs.Prelude.{◌≡◌, ◌↔◌, ℕ, suc, ◌<◌, ◌≤◌, [], List, length}
-use Rattle.tp_value.specs.declared.path.Fact.{Fact}
+use Rattle.std.specs.Prelude.{◌≡◌, ◌↔◌, ℕ, suc, ◌<◌, ◌≤◌, [], length}
 use Rattle.tp_meaning.specs.Course.{Course, Shows, Part, ◌⊕◌, shown_at}
 use Rattle.tp_meaning.specs.Holds.{Holds}
 use Rattle.tp_meaning.specs.Interval.{kinds_of, KeepsLasting}
-use Rattle.tp_store.specs.Facts.{AgreesWithAll}
 use Rattle.tp_decide.specs.Read.{shows_of}
 use Rattle.tp_scene.specs.StandsFor.{StandsFor, context_of}
 use Rattle.tp_show.specs.declared.turn.Picture.{Picture}
 use Rattle.tp_show.specs.declared.turn.Turn.{Turn}
 use Rattle.tp_show.specs.declared.turn.Turn.TheVariants.{Went, Finished, Contradictory, Undetermined, StateLimit, InputMissing, Over}
-use Rattle.tp_run.specs.States.{Plan, globals_of, setting, Standing, open_at, answered, spent}
+use Rattle.tp_run.specs.States.{Plan, globals_of, setting}
+use Rattle.tp_run.specs.Standing.{Standing, open_at, answered, spent}
+use Rattle.tp_run.specs.History.{AgreesWithFacts}
 
 -- the intervals, with what is shown on them, that the states still to come are free to be; the next
 -- one has this number
@@ -25,10 +25,6 @@ abbrev pub StandsForItsProgram : Plan → Standing → Type 0
 StandsForItsProgram plan standing =
     (s : Course) (a b : ℕ) (S : Shows) → StandingFor plan 0 standing s a b S
     ↔ ((a ≤ b) × ((d : ℕ) × Holds (context_of (setting plan 0)) d plan.program.main [] s a b S))
-
--- the state agrees with each fact
-abbrev pub AgreesWithFacts : Course → ℕ → List Fact → Type 0
-AgreesWithFacts s a facts = AgreesWithAll (s a).values facts
 
 -- A run that stood at `old` before state n made that state, with this picture, and stands at `new`;
 -- or it ended with this answer. Said of the intervals on which static variables keep their values

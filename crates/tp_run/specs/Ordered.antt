@@ -1,9 +1,9 @@
 -- Which failure of a state a run names: the one that its order meets.
 use Rattle.std.specs.Prelude.{ℕ, List, []}
 use Rattle.tp_scene.specs.Pick.{Setting, Moment}
-use Rattle.tp_step.specs.declared.answer.Order.{Order}
-use Rattle.tp_step.specs.declared.answer.Ending.{Ending}
-use Rattle.tp_step.specs.declared.answer.Ending.TheVariants as ending
+use Rattle.tp_step.specs.declared.order.Order.{Order}
+use Rattle.tp_step.specs.declared.ending.Ending.{Ending}
+use Rattle.tp_step.specs.declared.ending.Ending.TheVariants as ending
 use Rattle.tp_pass.specs.Follows.{FollowsOrder}
 use Rattle.tp_show.specs.declared.turn.Turn.{Turn}
 use Rattle.tp_show.specs.declared.turn.Turn.TheVariants.{Went, Finished, Contradictory, Undetermined, StateLimit, InputMissing, Over}

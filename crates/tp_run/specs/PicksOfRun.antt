@@ -1,9 +1,9 @@
--- The picks of a run and its settled states, one list and one state after the other.
-use Rattle.std.specs.Prelude.{ℕ, suc, List, [], ◌∷◌, ◌++◌, Option, Some, None}
-use Rattle.tp_kernel.specs.declared.formula.LimitKind.{LimitKind}
-use Rattle.tp_kernel.specs.declared.formula.LimitKind.TheVariants as limit
+-- The picks of a run, one list for each state.
+use Rattle.std.specs.Prelude.{ℕ, suc, List, [], ◌∷◌, ◌++◌}
+use Rattle.tp_kernel.specs.declared.fault.LimitKind.{LimitKind}
+use Rattle.tp_kernel.specs.declared.fault.LimitKind.TheVariants as limit
 use Rattle.tp_scene.specs.Pick.{Setting, Moment}
-use Rattle.tp_scene.specs.StandsFor.{first_moment}
+use Rattle.tp_scene.specs.Beginning.{first_moment}
 use Rattle.tp_show.specs.declared.turn.Picture.{Picture}
 use Rattle.tp_show.specs.declared.turn.Turn.{Turn}
 use Rattle.tp_show.specs.declared.turn.Turn.TheVariants.{Went, Finished, Contradictory, Undetermined, StateLimit, InputMissing, Over}
@@ -25,24 +25,6 @@ limit_picks w most m limit.Number reached = reached.picks
 limit_picks w most m limit.List reached = reached.picks
 limit_picks w most m limit.Calls reached = reached.picks
 limit_picks w most m limit.Nest reached = reached.picks
-
--- a settled state: its picture, and what the next state begins with, where there is one
-pub record SettledState : Type 0 where
-  pub picture : Picture
-  pub next : Option Moment
-
-abbrev pub settled_before : Picture → Moment → SettledState
-settled_before picture next = record { picture = picture; next = Some next }
-
-abbrev pub settled_last : Picture → SettledState
-settled_last picture = record { picture = picture; next = None }
-
--- the settled states that lead from one moment to another
-abbrev pub led_states : (plan : Plan) (n : ℕ) (m : Moment) (ps : List Picture) (last : Moment)
-    → StatesLead plan n m ps last → List SettledState
-led_states plan n m [] last leads = []
-led_states plan n m (p ∷ ps) last leads =
-    settled_before p leads.0 ∷ led_states plan (suc n) leads.0 ps last leads.2
 
 module _ (plan : Plan) where
   -- what a run begins with
@@ -66,15 +48,3 @@ module _ (plan : Plan) where
   picks_of_run ps (Over state kind) end =
       picks_before ps end.0 end.1
       ++ limit_picks (setting plan state) plan.reductions end.0 kind end.2 ∷ []
-
-  -- the settled states of a whole run
-  abbrev pub settled_states : (ps : List Picture) (turn : Turn) → RunEndsWith plan ps turn
-      → List SettledState
-  settled_states ps Went end = []
-  settled_states ps (Finished n) end =
-      led_states plan 0 beginning_of end.before end.moment end.leads ++ settled_last end.final ∷ []
-  settled_states ps (Contradictory state clash) end = led_states plan 0 beginning_of ps end.0 end.1
-  settled_states ps (Undetermined state cell) end = led_states plan 0 beginning_of ps end.0 end.1
-  settled_states ps (StateLimit states) end = led_states plan 0 beginning_of ps end.0 end.1
-  settled_states ps (InputMissing state port) end = led_states plan 0 beginning_of ps end.0 end.1
-  settled_states ps (Over state limit) end = led_states plan 0 beginning_of ps end.0 end.1

@@ -7,14 +7,14 @@ use Rattle.tp_decide.specs.Read.{shows_of}
 use Rattle.tp_slots.specs.Kept.{IsWellKept}
 use Rattle.tp_step.specs.Answers.{moment_of}
 use Rattle.tp_step.specs.OfVariables.{CellIsOf, ClashIsOf}
-use Rattle.tp_step.specs.declared.answer.Order.{Order}
+use Rattle.tp_step.specs.declared.order.Order.{Order}
 use Rattle.tp_meaning.specs.Interval.{ProgramTree, kinds_of}
 use Rattle.tp_check.specs.Program.{program_tree}
 use Rattle.tp_scene.specs.Scene as S
 use Rattle.tp_scene.specs.Pick.{Setting, Moment}
 use Rattle.tp_scene.specs.Rest.{settled, goes, ends, IsOpenCell}
-use Rattle.tp_scene.specs.Advance.{advanced, shown_in}
-use Rattle.tp_scene.specs.Laws.{IsSound, StoreGoesOn}
+use Rattle.tp_scene.specs.Advance.{advanced, shown_in, StoreGoesOn}
+use Rattle.tp_scene.specs.Laws.{IsSound}
 use Rattle.tp_step_laws.specs.Orders.{IsOrderly}
 use Rattle.tp_run.specs.declared.run.Made.{Made}
 use Rattle.tp_run.specs.declared.run.Run.{Run}
@@ -26,7 +26,8 @@ use Rattle.tp_show.specs.declared.turn.Turn.{Turn}
 use Rattle.tp_show.specs.declared.turn.Turn.TheVariants.{Went, Finished, Contradictory, Undetermined, StateLimit, InputMissing, Over}
 use Rattle.tp_show.specs.Parts.{line_parts}
 use Rattle.tp_show.specs.Read.{plain_parts}
-use Rattle.tp_run.specs.States.{Plan, RunPlace, globals_of, setting, AreGlobals, Standing, open_at, answered, spent}
+use Rattle.tp_run.specs.States.{Plan, globals_of, setting, AreGlobals}
+use Rattle.tp_run.specs.Standing.{RunPlace, Standing, open_at, answered, spent}
 
 -- where a run stands with what its store holds
 abbrev pub stands_at : Stand → Contents → Standing

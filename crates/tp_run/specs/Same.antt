@@ -5,7 +5,7 @@ use Rattle.tp_scene.specs.declared.answer.Cell.{Cell}
 use Rattle.tp_show.specs.declared.turn.Picture.{Picture}
 use Rattle.tp_show.specs.declared.turn.Turn.{Turn}
 use Rattle.tp_show.specs.declared.turn.Turn.TheVariants.{Went, Finished, Contradictory, Undetermined, StateLimit, InputMissing, Over}
-use Rattle.tp_step_laws.specs.Renaming.{Renaming, FixesBelow, renamed_cell}
+use Rattle.tp_step_laws.specs.Maps.{Renaming, FixesBelow, renamed_cell}
 
 -- Two pictures have the same number, the same facts, the same shows, and as many reductions.
 pub record SamePicture (p q : Picture) : Type 0 where
@@ -45,3 +45,14 @@ SameEnd globals (Undetermined state cell) turn = (d : Cell) × (turn ≡ Undeter
 SameEnd globals (StateLimit states) turn = turn ≡ StateLimit states
 SameEnd globals (InputMissing state port) turn = FailsIn state turn
 SameEnd globals (Over state limit) turn = FailsIn state turn
+
+-- The end isn't a failure: the run finishes, is open at a cell, or has settled as many states as it
+-- may.
+abbrev pub FailsNowhere : Turn → Type 0
+FailsNowhere Went = ⊥
+FailsNowhere (Finished length) = Unit {0}
+FailsNowhere (Contradictory state clash) = ⊥
+FailsNowhere (Undetermined state cell) = Unit {0}
+FailsNowhere (StateLimit states) = Unit {0}
+FailsNowhere (InputMissing state port) = ⊥
+FailsNowhere (Over state limit) = ⊥

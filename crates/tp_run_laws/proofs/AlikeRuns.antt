@@ -9,8 +9,9 @@ use Rattle.tp_show.specs.declared.turn.Turn.{Turn}
 use Rattle.tp_show.specs.declared.turn.Turn.TheVariants.{Went, Finished, Contradictory, Undetermined, StateLimit, InputMissing, Over}
 use Rattle.tp_run.specs.History.{RunEndsWith, end_store}
 use Rattle.tp_run.specs.States.{Plan, globals_of, setting, StatesLead}
-use Rattle.tp_run.specs.PicksOfRun.{SettledState, settled_last, led_states, beginning_of, settled_states}
-use Rattle.tp_step_laws.specs.Renaming.{renamed_cell}
+use Rattle.tp_run.specs.PicksOfRun.{beginning_of}
+use Rattle.tp_run.specs.SettledStates.{SettledState, settled_last, led_states, settled_states}
+use Rattle.tp_step_laws.specs.Maps.{renamed_cell}
 use Rattle.tp_step_laws.specs.Alike.{Alike}
 use Rattle.tp_step_laws.proofs.AdvanceAlike.{alike_moments_advance}
 use Rattle.tp_step_laws.proofs.Equivalence.{alike_is_equivalence}

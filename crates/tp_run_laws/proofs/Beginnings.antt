@@ -5,8 +5,7 @@ use Rattle.tp_store.specs.Known.{Contents, NoClash, lasting_facts}
 use Rattle.tp_store.proofs.Members.{NoClash-filter}
 use Rattle.tp_scene.specs.declared.answer.Cell.{Cell}
 use Rattle.tp_scene.specs.Pick.{Moment, Leads}
-use Rattle.tp_scene.specs.Advance.{advanced}
-use Rattle.tp_scene.specs.Laws.{StoreGoesOn}
+use Rattle.tp_scene.specs.Advance.{advanced, StoreGoesOn}
 use Rattle.tp_scene.specs.Replay.{IsOpen}
 use Rattle.tp_pass.proofs.Picks.{leads_on}
 use Rattle.tp_show.specs.declared.turn.Picture.{Picture}
@@ -15,14 +14,13 @@ use Rattle.tp_show.specs.declared.turn.Turn.TheVariants.{Went, Finished, Contrad
 use Rattle.tp_run.specs.History.{RunEndsWith}
 use Rattle.tp_run.specs.States.{Plan, globals_of, setting, IsPictureOf, StateGoesOn, StateEnds, StatesLead, LeadsTo}
 use Rattle.tp_run.specs.PicksOfRun.{picks_led, beginning_of, picks_before, picks_of_run}
-use Rattle.tp_step_laws.specs.Renaming.{renamed_cell}
+use Rattle.tp_step_laws.specs.Maps.{renamed_cell}
 use Rattle.tp_step_laws.specs.Alike.{Alike}
 use Rattle.tp_step_laws.proofs.AdvanceAlike.{alike_moments_advance}
 use Rattle.tp_step_laws.proofs.CloseOneWay.{leads_orderly}
 use Rattle.tp_step_laws.proofs.Rest.{one_rest_of}
-use Rattle.tp_run.specs.Same.{SameEnd}
+use Rattle.tp_run.specs.Same.{SameEnd, FailsNowhere}
 use Rattle.tp_run_laws.specs.Agree.{IsOrderlyPlan}
-use Rattle.tp_run_laws.specs.AlikeRuns.{FailsNowhere}
 use Rattle.tp_run_laws.specs.Beginnings.{RunGoesOnFrom, BeginningsGoOn}
 use Rattle.tp_run.proofs.OneState.{kinds, Orderly, ClosesBy, EndsAt, one_way, end_alike, settle, cant_go, next_orderly, first_orderly, itself}
 use Rattle.tp_run_laws.proofs.Agree.{Parts, parts, agree}

@@ -2,7 +2,7 @@
 use Rattle.std.proofs.Common.{refl, ◌≡◌, ℕ, zero, suc, ◌&&◌, Bool, true, false, if◌then◌else◌, nat_eq, List, [], ◌∷◌, ◌++◌, length, Option, None, Some, Ok, Err, IfOk, IfSome, All, Contains}
 use Rattle.std.proofs.lemmas.List.Elements.{All-nil, All-cons, All-head, All-tail, All-contains}
 use Rattle.std.proofs.lemmas.Result.{IfOk-at_ok}
-use Rattle.tp_value.specs.Globals.{is_lower}
+use Rattle.tp_value.specs.Globals.{is_lower, variable_of}
 use Rattle.tp_value.specs.declared.path.VarId.{VarId}
 use Rattle.tp_tree.specs.declared.operator.Op.{Op}
 use Rattle.tp_tree.specs.declared.operator.Op.TheVariants as op
@@ -21,12 +21,11 @@ use Rattle.tp_scope.specs.Scope.{Names, VisibleNames, Called, with_binder, with_
 use Rattle.tp_scope.specs.Names.{has_repeat, twice_defined, names_of}
 use Rattle.tp_scope.specs.Definitions.{signatures_of, AreStates}
 use Rattle.tp_scope.specs.Phrases.{is_place_phrase, is_place_kind, phrase_count, nexts_of, behind_nexts, at_of}
-use Rattle.tp_value.specs.Globals.{variable_of}
 use Rattle.tp_check.specs.Outcome.{CheckOutcome, mapped, both, three, not_expression}
 use Rattle.tp_check.specs.Positions.{named_expr, operation_of, operation_at, called_expr, expr_of, expr_of_kind, exprs_in, place_phrase, port_phrase, arguments_in, equation_of, is_state_in, state_in, negation_in, binary_in, composition_of, composed_or, bare_of, called_formula, exists_of, formula_of, formula_of_kind, formulas_in}
 use Rattle.tp_check.specs.Program.{expr_where, definition_with, definition_in, definitions_in, outermost, program_over, ChecksTo}
 use Rattle.tp_check.proofs.NameLaws.{globals_stand_in_source}
-use Rattle.tp_show.specs.TraceOfRun.{IsOneLine}
+use Rattle.tp_show.specs.Line.{IsOneLine}
 use Rattle.tp_run_laws.specs.Printable.{ExprIsPrintable, ExprsArePrintable, FormulaIsPrintable, FormulasArePrintable, DefinitionIsPrintable}
 use Rattle.tp_run_laws.specs.PrintableRuns.{CheckedProgramsArePrintable}
 

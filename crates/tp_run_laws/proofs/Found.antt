@@ -13,7 +13,8 @@ use Rattle.tp_meaning.specs.Syntax.{ExprTree, known, global, Definition}
 use Rattle.tp_eval.specs.Outcome as found
 use Rattle.tp_scene.proofs.Told.{Bundle, Lists}
 use Rattle.tp_scene.proofs.Evaluated.{Values, ExprPartsOf, Evaluates}
-use Rattle.tp_show.specs.TraceOfRun.{IsOneLine, IsWithinIndexLimit}
+use Rattle.tp_show.specs.TraceOfRun.{IsWithinIndexLimit}
+use Rattle.tp_show.specs.Line.{IsOneLine}
 use Rattle.tp_run_laws.specs.Printable.{ExprIsPrintable, ExprsArePrintable, FormulaIsPrintable, FormulasArePrintable, DefinitionIsPrintable, BindingIsPrintable}
 use Rattle.tp_run_laws.proofs.Kept.{FactsArePrintable, limits_of, full_within}
 

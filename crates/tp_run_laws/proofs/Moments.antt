@@ -6,10 +6,10 @@ use Rattle.tp_store.specs.Known.{Variable, global_variable, lasting_facts}
 use Rattle.tp_scene.specs.Scene.{Do, Later, Shown, Split, SplitProject, Closed, Opened, Running, Entries, none, leaf, node, Scene, root_place}
 use Rattle.tp_scene.specs.Step.{Reduction, misses}
 use Rattle.tp_scene.specs.Pick.{Setting, Moment, Reduces, Leads, numbers_of, outcome_of, with_local}
-use Rattle.tp_scene.specs.Advance.{due, numbered, advanced}
-use Rattle.tp_scene.specs.Laws.{StoreGoesOn}
-use Rattle.tp_scene.specs.StandsFor.{first_moment}
-use Rattle.tp_show.specs.TraceOfRun.{IsOneLine, HasNameOnOneLine}
+use Rattle.tp_scene.specs.Advance.{due, numbered, advanced, StoreGoesOn}
+use Rattle.tp_scene.specs.Beginning.{first_moment}
+use Rattle.tp_show.specs.TraceOfRun.{HasNameOnOneLine}
+use Rattle.tp_show.specs.Line.{IsOneLine}
 use Rattle.tp_run_laws.specs.Printable.{FormulaIsPrintable, EntriesArePrintable}
 use Rattle.tp_run_laws.proofs.Kept.{FactsArePrintable, printable_same, printable_through}
 use Rattle.tp_run_laws.proofs.Steps.{SettingIsPrintable, OutcomeIsPrintable, pick_printable, put_printable}

@@ -19,7 +19,8 @@ use Rattle.tp_meaning.specs.Syntax.{ExprTree, ExprTrees, no_expr, expr_then, num
 use Rattle.tp_store.specs.Known.{Variable, name_where}
 use Rattle.tp_scene.specs.Scene.{Bindings, Leaf, Do, Holder, Split, SplitProject, Entries, none, leaf, node}
 use Rattle.tp_show.specs.Texts.{index_text}
-use Rattle.tp_show.specs.TraceOfRun.{IsOneLine, HasNameOnOneLine}
+use Rattle.tp_show.specs.TraceOfRun.{HasNameOnOneLine}
+use Rattle.tp_show.specs.Line.{IsOneLine}
 use Rattle.tp_show.proofs.PrintedBytes.{decimal_plain, signed_plain, text_plain, indices_plain}
 use Rattle.tp_show.proofs.PrintedLines.{plain_one}
 use Rattle.tp_residual.specs.Words.{BoundName, stands_for, named, Vocabulary, naming, variable_spelling, path_spelling, binding_spelling, bound_spelling, definition_name}

@@ -8,7 +8,7 @@ use Rattle.tp_store.specs.Known.{Variable, name_where}
 use Rattle.tp_scene.specs.declared.answer.Cell.{Cell}
 use Rattle.tp_scene.specs.declared.answer.Cell.TheVariants.{Part, End}
 use Rattle.tp_show.specs.Texts.{global_name, index_text, variable_text, cell_text}
-use Rattle.tp_step_laws.specs.Renaming.{Renaming, FixesBelow, renamed_variable, renamed_cell}
+use Rattle.tp_step_laws.specs.Maps.{Renaming, FixesBelow, renamed_variable, renamed_cell}
 use Rattle.tp_run_laws.specs.AlikeRuns.{SameNamedCell}
 
 -- The name of a variable, renamed.

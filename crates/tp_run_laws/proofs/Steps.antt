@@ -9,7 +9,7 @@ use Rattle.tp_value.specs.Number.{IsNumber, number_limit}
 use Rattle.tp_value.specs.Limits.{length_limit, IsWithinLimits}
 use Rattle.tp_value.specs.declared.path.Fact.{Fact}
 use Rattle.tp_meaning.specs.Syntax.{known, FormulaTree, equation, next_equation, always, len, assign, while, for_from, forall_from, Definition}
-use Rattle.tp_meaning.specs.Unfolding.{nexts}
+use Rattle.tp_meaning.specs.Nexts.{nexts}
 use Rattle.tp_meaning.specs.Inputs.{InputPair, InputLines, port_value, input_at}
 use Rattle.tp_store.specs.Known.{adds, addition, Variable}
 use Rattle.tp_scene.specs.Scene.{Bindings, Side, Ending, Going, Head, Leaf, Do, Later, Shown, Holder, Split, SplitProject, Opened, Entries, none, leaf, node, new_head, no_region, second_lives, has, append, Place, held_place}
@@ -17,7 +17,8 @@ use Rattle.tp_scene.specs.Step.{PickOutcome, reduces, waits, rests, clashes, mis
 use Rattle.tp_scene.specs.Pick.{Setting, pick, put}
 use Rattle.tp_scene.proofs.Frame.{region}
 use Rattle.tp_scene.proofs.Parts.{picked_has}
-use Rattle.tp_show.specs.TraceOfRun.{IsOneLine, IsWithinIndexLimit, HasNameOnOneLine}
+use Rattle.tp_show.specs.TraceOfRun.{IsWithinIndexLimit, HasNameOnOneLine}
+use Rattle.tp_show.specs.Line.{IsOneLine}
 use Rattle.tp_run_laws.specs.Printable.{FormulaIsPrintable, DefinitionIsPrintable, PhraseIsPrintable, LeafIsPrintable, HolderIsPrintable, EntriesArePrintable, LineIsPrintable, InputsArePrintable}
 use Rattle.tp_run_laws.proofs.Kept.{FactsArePrintable, value_added, length_added}
 use Rattle.tp_run_laws.proofs.Found.{number_value, definition_at, good, lists_good, evaluates_good}

@@ -11,22 +11,11 @@ use Rattle.tp_show.specs.declared.turn.Turn.{Turn}
 use Rattle.tp_show.specs.declared.turn.Turn.TheVariants.{Went, Finished, Contradictory, Undetermined, StateLimit, InputMissing, Over}
 use Rattle.tp_run.specs.History.{RunEndsWith, end_store}
 use Rattle.tp_run.specs.States.{Plan, globals_of}
-use Rattle.tp_run.specs.PicksOfRun.{SettledState, settled_states}
-use Rattle.tp_step_laws.specs.Renaming.{Renaming, FixesBelow, renamed_cell}
+use Rattle.tp_run.specs.SettledStates.{SettledState, settled_states}
+use Rattle.tp_step_laws.specs.Maps.{Renaming, FixesBelow, renamed_cell}
 use Rattle.tp_step_laws.specs.Alike.{Alike}
 use Rattle.tp_run.specs.Same.{SamePicture, FailsIn}
 use Rattle.tp_run_laws.specs.Agree.{IsOrderlyPlan}
-
--- The end isn't a failure: the run finishes, is open at a cell, or has settled as many states as it
--- may.
-abbrev pub FailsNowhere : Turn → Type 0
-FailsNowhere Went = ⊥
-FailsNowhere (Finished length) = Unit {0}
-FailsNowhere (Contradictory state clash) = ⊥
-FailsNowhere (Undetermined state cell) = Unit {0}
-FailsNowhere (StateLimit states) = Unit {0}
-FailsNowhere (InputMissing state port) = ⊥
-FailsNowhere (Over state limit) = ⊥
 
 module _ (plan : Plan) where
   -- The next states begin alike, with what fits the program; or there is none.

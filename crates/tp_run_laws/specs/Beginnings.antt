@@ -6,9 +6,8 @@ use Rattle.tp_show.specs.declared.turn.Turn.{Turn}
 use Rattle.tp_run.specs.History.{RunEndsWith}
 use Rattle.tp_run.specs.States.{Plan, globals_of, setting, LeadsTo}
 use Rattle.tp_run.specs.PicksOfRun.{picks_before, picks_of_run}
-use Rattle.tp_run.specs.Same.{SameEnd}
+use Rattle.tp_run.specs.Same.{SameEnd, FailsNowhere}
 use Rattle.tp_run_laws.specs.Agree.{IsOrderlyPlan}
-use Rattle.tp_run_laws.specs.AlikeRuns.{FailsNowhere}
 
 module _ (plan : Plan) where
   -- A run goes on from such a beginning: its first states have these pictures and were made by

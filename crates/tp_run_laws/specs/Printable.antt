@@ -7,7 +7,8 @@ use Rattle.tp_meaning.specs.Syntax.{ExprTree, ExprTrees, numeral, boolean, known
 use Rattle.tp_meaning.specs.Interval.{ProgramTree}
 use Rattle.tp_meaning.specs.Inputs.{InputPair, InputLines}
 use Rattle.tp_scene.specs.Scene.{Bindings, Leaf, Do, Later, Shown, Holder, Split, SplitProject, Closed, Opened, Running, Entries, none, leaf, node}
-use Rattle.tp_show.specs.TraceOfRun.{IsOneLine, IsPathWithinLimits}
+use Rattle.tp_show.specs.TraceOfRun.{IsPathWithinLimits}
+use Rattle.tp_show.specs.Line.{IsOneLine}
 
 -- each value that is known in the expression has numbers within the limit
 abbrev mutual

@@ -7,9 +7,9 @@ use Rattle.tp_store.specs.Known.{Variable, AreOfVariables, lasting_facts}
 use Rattle.tp_store.proofs.Members.{in_kept, kept_in, in_filter}
 use Rattle.tp_scene.specs.Scene.{Side, Ending, Head, marked, Do, Later, Shown, Split, SplitProject, Closed, Opened, Running, Entries, none, leaf, node, new_head, sinks, risen, Place, root_place, held_place}
 use Rattle.tp_scene.specs.Pick.{Setting, Moment}
-use Rattle.tp_scene.specs.Advance.{unmarked, due, regions_in, numbered_head, numbered, advanced}
+use Rattle.tp_scene.specs.Advance.{unmarked, due, regions_in, numbered_head, numbered, advanced, StoreGoesOn}
 use Rattle.tp_scene.specs.Fits.{IsCalm, Dormant, EntriesFit}
-use Rattle.tp_scene.specs.Laws.{IsSound, StoreGoesOn, AdvancesFit}
+use Rattle.tp_scene.specs.Laws.{IsSound, AdvancesFit}
 use Rattle.tp_scene.proofs.Globals.{of_variables_in, in_of_variables}
 use Rattle.tp_scene.proofs.PutStatus.{dormant_head, dormant_risen, or_false}
 use Rattle.tp_scene.proofs.PutInners.{dormant_inners}

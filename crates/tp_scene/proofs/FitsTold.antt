@@ -7,10 +7,10 @@ use Rattle.tp_value.specs.Limits.{path_limit}
 use Rattle.tp_value.specs.declared.path.Path.{Path}
 use Rattle.tp_value.specs.declared.path.Fact.{Fact}
 use Rattle.tp_value.specs.declared.path.VarId.{VarId}
-use Rattle.tp_kernel.specs.declared.formula.FaultKind.{FaultKind}
-use Rattle.tp_kernel.specs.declared.formula.LimitKind.TheVariants as limit
+use Rattle.tp_kernel.specs.declared.fault.FaultKind.{FaultKind}
+use Rattle.tp_kernel.specs.declared.fault.LimitKind.TheVariants as limit
 use Rattle.tp_meaning.specs.Syntax.{ExprTree, known, bound, global, invoke, FormulaTree, equation, next_equation, always, len, assign, while, for_from, forall_from, exists, call, input, Definition}
-use Rattle.tp_meaning.specs.Unfolding.{nexts}
+use Rattle.tp_meaning.specs.Nexts.{nexts}
 use Rattle.tp_meaning.specs.Inputs.{InputLines}
 use Rattle.tp_meaning.specs.Fits.{ExprFits, ExprsFit, FormulaFits, FormulasFit, DefinitionsFit, BindingFits, IsVariable}
 use Rattle.tp_store.specs.Known as store

@@ -8,7 +8,7 @@ use Rattle.tp_value.specs.declared.path.Path.{Path}
 use Rattle.tp_value.specs.declared.path.Fact.{Fact}
 use Rattle.tp_value.specs.declared.value.Shape.TheVariants.{Items}
 use Rattle.tp_value.proofs.Trees.{same_tree_is_equality}
-use Rattle.tp_kernel.specs.declared.formula.FaultKind.{FaultKind}
+use Rattle.tp_kernel.specs.declared.fault.FaultKind.{FaultKind}
 use Rattle.tp_meaning.specs.Course.{Course, Shows, blank}
 use Rattle.tp_meaning.specs.Bindings.{Locals}
 use Rattle.tp_meaning.specs.Holds.{Context}

@@ -9,7 +9,7 @@ use Rattle.tp_meaning.specs.Value.{Env, calls_at}
 use Rattle.tp_meaning.specs.Holds.{Context, AllHoldBy, CallHolds}
 use Rattle.tp_meaning.specs.Direct.{Means}
 use Rattle.tp_meaning.specs.Fits.{ExprFits}
-use Rattle.tp_meaning.specs.Unfolding.{nexts}
+use Rattle.tp_meaning.specs.Nexts.{nexts}
 use Rattle.tp_meaning.proofs.Unfold.{always_unfolds, while_unfolds, len_unfolds, next_equation_unfolds, assign_unfolds}
 use Rattle.tp_eval.specs.Evaluate.{depth_limit}
 use Rattle.tp_scene.specs.Scene.{Bindings, Ending, Going, Do, Later, none, leaf, Place}

@@ -17,10 +17,10 @@ use Rattle.tp_scene.specs.Scene.{Side, Ending, Going, Scene, new_head}
 use Rattle.tp_scene.specs.Says.{Claim, RegionSays, IsSo}
 use Rattle.tp_scene.specs.Pick.{Setting, Moment}
 use Rattle.tp_scene.specs.Rest.{ends, goes, settled}
-use Rattle.tp_scene.specs.Advance.{unmarked, due, advanced}
+use Rattle.tp_scene.specs.Advance.{unmarked, due, advanced, StoreGoesOn}
 use Rattle.tp_scene.specs.StandsFor.{AllLast, locals_of, context_of, StandsFor}
 use Rattle.tp_scene.specs.Fits.{kinds_in}
-use Rattle.tp_scene.specs.Laws.{IsSound, StoreGoesOn, AdvanceStands, EndStands}
+use Rattle.tp_scene.specs.Laws.{IsSound, AdvanceStands, EndStands}
 use Rattle.tp_scene.proofs.Frame.{region, status_means}
 use Rattle.tp_scene.proofs.Agree.{agrees_as_kept}
 use Rattle.tp_scene.proofs.Law.{known_root}

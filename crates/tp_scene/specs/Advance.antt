@@ -1,8 +1,10 @@
 -- The next state.
-use Rattle.std.specs.Prelude.{ℕ, suc, ◌+◌, List, [], ◌∷◌, ◌++◌}
+use Rattle.std.specs.Prelude.{ℕ, suc, ◌+◌, List, [], ◌∷◌, ◌++◌, ◌≡◌}
 use Rattle.tp_value.specs.Tree.{Tree}
-use Rattle.tp_store.specs.Known.{Contents, lasting_facts}
+use Rattle.tp_store.specs.Known.{Contents, lasting_facts, NoClash}
 use Rattle.tp_scene.specs.Scene.{Head, new_head, Do, Later, Shown, Holder, Split, SplitProject, Closed, Opened, Running, Entries, none, leaf, node, Scene, second_lives, only_if}
+use Rattle.tp_store.specs.Facts.{kept_shape}
+use Rattle.tp_value.specs.declared.path.Path.{Path}
 
 abbrev pub unmarked : Head → Head
 unmarked h = new_head h.number
@@ -89,3 +91,10 @@ shown_in (node id k h held g second rest) =
 -- variables.
 abbrev pub next_store : Contents → Contents
 next_store k = record { facts = lasting_facts k.facts; variables = k.variables }
+
+-- the store of the next state: the facts of static variables are kept, in any order, and its
+-- variables
+pub record StoreGoesOn (old new : Contents) : Type 0 where
+  pub kept : (p : Path) → kept_shape new.facts p ≡ kept_shape (lasting_facts old.facts) p
+  pub no_clash : NoClash new.facts
+  pub variables : new.variables ≡ old.variables

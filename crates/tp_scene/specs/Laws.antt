@@ -1,20 +1,19 @@
 -- What steps and the next state keep.
 use Rattle.std.specs.Prelude.{◌≡◌, ◌↔◌, ℕ, suc, ◌≤◌, ◌<◌, true, Bool, List, [], length, slice_get, Some}
-use Rattle.tp_value.specs.declared.path.Path.{Path}
 use Rattle.tp_meaning.specs.Syntax.{FormulaTree}
 use Rattle.tp_meaning.specs.Course.{Course, Shows, ◌⊕◌, shown_at}
 use Rattle.tp_meaning.specs.Holds.{Holds}
 use Rattle.tp_meaning.specs.Interval.{kinds_of, KeepsLasting}
 use Rattle.tp_meaning.specs.Fits.{FormulaFits, DefinitionsFit}
-use Rattle.tp_store.specs.Facts.{kept_shape}
-use Rattle.tp_store.specs.Known.{Contents, NoClash, AreOfVariables, lasting_facts}
+use Rattle.tp_store.specs.Known.{Contents, NoClash, AreOfVariables}
 use Rattle.tp_scene.specs.declared.answer.Clash.{Clash}
 use Rattle.tp_scene.specs.Scene.{has}
 use Rattle.tp_scene.specs.Step.{Reduction, clashes, misses}
 use Rattle.tp_scene.specs.Pick.{Setting, Moment, Reduces, outcome_of}
 use Rattle.tp_scene.specs.Rest.{ends, goes, settled}
-use Rattle.tp_scene.specs.Advance.{advanced, shown_in}
-use Rattle.tp_scene.specs.StandsFor.{StandsFor, context_of, first_moment, AgreesWithGlobals}
+use Rattle.tp_scene.specs.Advance.{advanced, shown_in, StoreGoesOn}
+use Rattle.tp_scene.specs.StandsFor.{StandsFor, context_of, AgreesWithGlobals}
+use Rattle.tp_scene.specs.Beginning.{first_moment}
 use Rattle.tp_scene.specs.Fits.{MomentFits, kinds_in}
 
 -- A store keeps facts of its variables without a clash, and its first variables are the globals.
@@ -61,13 +60,6 @@ abbrev pub RefusalsStandForNone : Type 0
 RefusalsStandForNone =
     (w : Setting) (kinds : List Bool) (m : Moment) (t : ℕ) → IsSound w kinds m
     → has t m.scene.root.entries ≡ true → RefusalsMean w kinds m t
-
--- the store of the next state: the facts of static variables are kept, in any order, and its
--- variables
-pub record StoreGoesOn (old new : Contents) : Type 0 where
-  pub kept : (p : Path) → kept_shape new.facts p ≡ kept_shape (lasting_facts old.facts) p
-  pub no_clash : NoClash new.facts
-  pub variables : new.variables ≡ old.variables
 
 -- A settled scene that goes on stands for exactly the intervals whose first state agrees with the
 -- facts of the globals, which show there what the scene shows, and whose rest the advanced scene

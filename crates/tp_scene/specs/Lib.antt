@@ -14,3 +14,4 @@ pub mod Cells
 pub mod Seen
 pub mod Listed
 pub mod Decided
+pub mod Beginning

@@ -1,14 +1,13 @@
 -- One state of a run: what picks lead to, and how a state ends.
 use Rattle.std.specs.Prelude.{◌≡◌, ℕ, ◌≤◌, true, List, length}
-use Rattle.tp_kernel.specs.declared.formula.LimitKind.{LimitKind}
+use Rattle.tp_kernel.specs.declared.fault.LimitKind.{LimitKind}
 use Rattle.tp_scene.specs.declared.answer.Cell.{Cell}
 use Rattle.tp_scene.specs.declared.answer.Clash.{Clash}
 use Rattle.tp_scene.specs.Scene.{has}
 use Rattle.tp_scene.specs.Step.{Reduction, reduces, clashes, misses, passes}
 use Rattle.tp_scene.specs.Pick.{Setting, Moment, Leads, outcome_of}
 use Rattle.tp_scene.specs.Rest.{AtRest, settled, goes, ends, IsOpenCell}
-use Rattle.tp_scene.specs.Advance.{advanced}
-use Rattle.tp_scene.specs.Laws.{StoreGoesOn}
+use Rattle.tp_scene.specs.Advance.{advanced, StoreGoesOn}
 
 -- Of a state that begins with the moment m, within which there are at most `most` picks.
 -- picking these items leads to a scene at rest

@@ -1,14 +1,12 @@
 -- What a scene and a store stand for.
 use Rattle.std.specs.Prelude.{ℕ, suc, ◌≤◌, List, [], ◌∷◌, drop}
 use Rattle.tp_value.specs.declared.path.Fact.{Fact}
-use Rattle.tp_meaning.specs.Syntax.{FormulaTree}
 use Rattle.tp_meaning.specs.Course.{Course, Shows}
 use Rattle.tp_meaning.specs.Bindings.{Locals}
 use Rattle.tp_meaning.specs.Holds.{Context, Lasts}
 use Rattle.tp_store.specs.Facts.{AgreesWithAll}
-use Rattle.tp_store.specs.Known.{Variable, new_store, facts_below}
+use Rattle.tp_store.specs.Known.{Variable, facts_below}
 use Rattle.tp_eval.specs.Right.{values_at}
-use Rattle.tp_scene.specs.Scene.{Do, none, leaf, new_head, Scene}
 use Rattle.tp_scene.specs.Says.{RegionSays}
 use Rattle.tp_scene.specs.Pick.{Setting, Moment}
 
@@ -34,19 +32,6 @@ pub record StandsFor (w : Setting) (globals : ℕ) (m : Moment) (s : Course) (a 
   pub agrees : AgreesWithAll (values_at globals s locals a) m.store.facts
   pub depth : ℕ
   pub says : RegionSays (context_of w) globals m.scene.root depth locals s a b S
-
--- a scene whose one item is the formula
-abbrev pub started : FormulaTree → Scene
-started main =
-    record {
-      root = record { head = new_head 0; entries = leaf 0 (Do main []) none };
-      next_item = 1;
-      next_region = 1;
-    }
-
--- what a run begins with
-abbrev pub first_moment : (names : List (List ℕ)) → FormulaTree → Moment
-first_moment names main = record { scene = started main; store = new_store names }
 
 -- the state agrees with the facts of the globals
 abbrev pub AgreesWithGlobals : (globals : ℕ) → Course → ℕ → List Fact → Type 0

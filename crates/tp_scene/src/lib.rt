@@ -3,6 +3,7 @@
 #![tactic(auto)]
 
 mod answer;
+mod copies;
 mod laws;
 
 pub use answer::{Cell, Clash};

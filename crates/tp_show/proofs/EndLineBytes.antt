@@ -11,10 +11,10 @@ use Rattle.tp_value.specs.declared.path.Fact.{Fact}
 use Rattle.tp_value.specs.declared.value.Shape.{Shape}
 use Rattle.tp_value.specs.declared.value.Shape.TheVariants.{Num, Truth, Items}
 use Rattle.tp_store.specs.Known.{Variable, name_where, name_of}
-use Rattle.tp_kernel.specs.declared.formula.FaultKind.{FaultKind}
-use Rattle.tp_kernel.specs.declared.formula.FaultKind.TheVariants.{WrongKind, ZeroDivisor, NoElement}
-use Rattle.tp_kernel.specs.declared.formula.LimitKind.{LimitKind}
-use Rattle.tp_kernel.specs.declared.formula.LimitKind.TheVariants as limit
+use Rattle.tp_kernel.specs.declared.fault.FaultKind.{FaultKind}
+use Rattle.tp_kernel.specs.declared.fault.FaultKind.TheVariants.{WrongKind, ZeroDivisor, NoElement}
+use Rattle.tp_kernel.specs.declared.fault.LimitKind.{LimitKind}
+use Rattle.tp_kernel.specs.declared.fault.LimitKind.TheVariants as limit
 use Rattle.tp_scene.specs.declared.answer.Cell.{Cell}
 use Rattle.tp_scene.specs.declared.answer.Cell.TheVariants.{Part, End}
 use Rattle.tp_scene.specs.declared.answer.Clash.{Clash}
@@ -24,7 +24,8 @@ use Rattle.tp_show.specs.declared.turn.Turn.TheVariants.{Went, Finished, Contrad
 use Rattle.tp_show.specs.Texts.{global_name, index_text, shaped_text, variable_text, variable_path_text, variable_fact_text, cell_text, comes_first, pair_text, fault_text, clash_text}
 use Rattle.tp_show.specs.EndLine.{state_text, limit_text, last_words}
 use Rattle.tp_show.specs.TraceLine.{IsVariableName}
-use Rattle.tp_show.specs.TraceOfRun.{AreVariableNames, IsOneLine, NamesPortOnOneLine, HasNameOnOneLine, EndLinesAreOneLine}
+use Rattle.tp_show.specs.TraceOfRun.{AreVariableNames, NamesPortOnOneLine, HasNameOnOneLine, EndLinesAreOneLine}
+use Rattle.tp_show.specs.Line.{IsOneLine}
 use Rattle.tp_show.proofs.PrintedBytes.{decimal_plain, signed_plain, name_plain, indices_plain}
 use Rattle.tp_show.proofs.PrintedLines.{plain_one}
 

@@ -5,7 +5,7 @@ use Rattle.std.specs.Fmt.{digits, digits_onto, digit_glyph, decimal, signed_deci
 use Rattle.std.specs.Str.Lines.{strip_carriage_return}
 use Rattle.tp_value.specs.Tree.{Tree, Trees, num, truth, list, nil, cons}
 use Rattle.tp_value.specs.Written.{text_of, items_text, later_text}
-use Rattle.tp_lex.specs.First.{is_name_byte}
+use Rattle.tp_lex.specs.Bytes.{is_name_byte}
 use Rattle.tp_show.specs.Texts.{index_text}
 use Rattle.tp_show.specs.TraceLine.{AreNameBytes}
 use Rattle.tp_show.proofs.TraceDigits.{AllPass}

@@ -11,17 +11,17 @@ use Rattle.tp_value.specs.Written.{text_of}
 use Rattle.tp_lex.specs.Pieces.{BeginsWith}
 use Rattle.tp_lex.proofs.FeedLemmas.{feed, more_parts}
 use Rattle.tp_lex.proofs.Lists.{begins_from, starts_from}
-use Rattle.tp_kernel.specs.declared.formula.LimitKind.{LimitKind}
-use Rattle.tp_kernel.specs.declared.formula.LimitKind.TheVariants as limit
+use Rattle.tp_kernel.specs.declared.fault.LimitKind.{LimitKind}
+use Rattle.tp_kernel.specs.declared.fault.LimitKind.TheVariants as limit
 use Rattle.tp_store.specs.Known.{Variable}
 use Rattle.tp_show.specs.declared.turn.Turn.{Turn}
 use Rattle.tp_show.specs.declared.turn.Turn.TheVariants.{Went, Finished, Contradictory, Undetermined, StateLimit, InputMissing, Over}
-use Rattle.tp_show.specs.declared.trace.NamedFact.{NamedFact}
-use Rattle.tp_show.specs.Line.{shown_value, show_line}
+use Rattle.tp_show.specs.declared.named_fact.NamedFact.{NamedFact}
+use Rattle.tp_show.specs.Line.{shown_value, show_line, IsOneLine, fed_line}
 use Rattle.tp_show.specs.EndLine.{last_words, end_line}
 use Rattle.tp_show.specs.TraceLine.{opens_with_one, passed_openings, run_end_openings, refusal_openings, ends_trace}
 use Rattle.tp_show.specs.Trace.{GoesOnWith, stop, passed, end}
-use Rattle.tp_show.specs.TraceOfRun.{IsOneLine, fed_line, IsFurtherLine, IsEnding}
+use Rattle.tp_show.specs.TraceOfRun.{IsFurtherLine, IsEnding}
 use Rattle.tp_show.proofs.PrintedBytes.{is_plain, ArePlain, plain_append, text_plain}
 
 -- a line and its line feed, and what follows

@@ -19,14 +19,15 @@ use Rattle.tp_store.specs.Known.{IsVariableOf, global_variable, Whole, known, op
 use Rattle.tp_store.proofs.Members.{In, kept_in}
 use Rattle.tp_decide.specs.Read.{shows_of}
 use Rattle.tp_show.specs.declared.turn.Picture.{Picture}
-use Rattle.tp_show.specs.declared.trace.NamedFact.{NamedFact}
+use Rattle.tp_show.specs.declared.named_fact.NamedFact.{NamedFact}
 use Rattle.tp_show.specs.Texts.{global_name, index_text, path_text}
 use Rattle.tp_show.specs.Parts.{LinePartTree, valued, measured, shape_part, known_part, line_parts, part_text, spaced_text}
-use Rattle.tp_show.specs.Line.{show_line, picture_lines, pictures_text}
+use Rattle.tp_show.specs.Line.{show_line, picture_lines, pictures_text, fed_line}
 use Rattle.tp_show.specs.Told.{IsPartOf}
 use Rattle.tp_show.specs.TraceLine.{IsStateLine, state_opening}
 use Rattle.tp_show.specs.Trace.{GoesOnWith, state, IsTraceText}
-use Rattle.tp_show.specs.TraceOfRun.{AreVariableNames, IsPathWithinLimits, IsPartWithinLimits, IsShapeWithinLimits, IsFactWithinLimits, FactsAreWrittenWithinLimits, IsReadable, PrintedState, fed_line, printed_state_lines, printed_states_text, IsFurtherLine, IsPrinted, CountFrom, IsEnding, named_fact, named_facts, PrintedStatesAreTrace, PicturesAreTrace, TracesTellFacts}
+use Rattle.tp_show.specs.TraceOfRun.{AreVariableNames, IsPathWithinLimits, IsPartWithinLimits, IsShapeWithinLimits, IsFactWithinLimits, FactsAreWrittenWithinLimits, IsReadable, PrintedState, printed_state_lines, printed_states_text, IsFurtherLine, IsPrinted, CountFrom, IsEnding, PrintedStatesAreTrace, PicturesAreTrace, TracesTellFacts}
+use Rattle.tp_show.specs.TraceFacts.{named_fact, named_facts}
 use Rattle.tp_show.proofs.PartLemmas.{named}
 use Rattle.tp_show.proofs.ToldLemmas.{beyond, IsKept, value_kept, all_in, parts_all, parts_of_variables}
 use Rattle.tp_show.proofs.FactsTold.{parts_give_facts}

@@ -26,7 +26,8 @@ use Rattle.tp_scene.proofs.Globals.{of_variables_in}
 use Rattle.tp_show.specs.Parts.{is_before, AreInOrder, is_deeper, is_inside, is_written, is_value, LinePartTree, valued, measured, shape_part, known_part, parts_by}
 use Rattle.tp_show.proofs.FactOrder.{is_before-order}
 use Rattle.tp_show.specs.Line.{AreFactsOf}
-use Rattle.tp_show.specs.Told.{IsPartOf, HasPart, PartsTellFacts}
+use Rattle.tp_show.specs.Told.{IsPartOf, HasPart}
+use Rattle.tp_show.specs.ToldLaws.{PartsTellFacts}
 
 -- the path of what stands at these indices in what stands at a path
 abbrev pub beyond : Path → List ℕ → Path

@@ -1,6 +1,6 @@
 -- A text is one trace, or has one first bad line.
 use Rattle.std.proofs.Common.{◌≡◌, ℕ, suc, ◌+◌, ◌<◌, ◌^◌, inl, inr, ◌⊎◌, List, [], ◌∷◌, ◌++◌, length, refl, sym, ap, ◌∙◌, subst, arith, append_assoc}
-use Rattle.tp_show.specs.declared.trace.NamedFact.{NamedFact}
+use Rattle.tp_show.specs.declared.named_fact.NamedFact.{NamedFact}
 use Rattle.tp_show.specs.Trace.{GoesOnWith, IsTrace, BeginsTrace, IsFirstBadLine, no_line, not_allowed}
 use Rattle.tp_show.specs.TraceLaws.{OneTrace, OneBadLine, NoBadTrace}
 use Rattle.tp_show.proofs.TraceLines.{state_no_other, passed_no_end, state_unique}

@@ -4,11 +4,12 @@ use Rattle.std.specs.Str.Lines.{lines, lines_of_parts}
 use Rattle.std.specs.List.{slice_split, count_by}
 use Rattle.std.proofs.lemmas.List.Splits.{length-slice_split}
 use Rattle.std.proofs.lemmas.List.Sums.{count_by-le-length}
-use Rattle.tp_show.specs.declared.trace.NamedFact.{NamedFact}
+use Rattle.tp_show.specs.declared.named_fact.NamedFact.{NamedFact}
 use Rattle.tp_show.specs.declared.trace.TraceRefusal.{TraceRefusal}
 use Rattle.tp_show.specs.declared.trace.TraceRefusal.TheVariants.{BadLine, NoMemory}
 use Rattle.tp_show.specs.Trace.{IsTraceText, IsTraceRefusal}
-use Rattle.tp_show.specs.TraceOfRun.{PrintedState, named_facts, ReadsPrinted}
+use Rattle.tp_show.specs.TraceOfRun.{PrintedState, ReadsPrinted}
+use Rattle.tp_show.specs.TraceFacts.{named_facts}
 use Rattle.tp_show.proofs.TraceOnce.{one_trace, no_bad_trace}
 use Rattle.tp_show.proofs.PrintedStates.{traces_tell_facts}
 

@@ -2,7 +2,7 @@
 use Rattle.std.proofs.Common.{◌≡◌, ℕ, zero, suc, ◌+◌, ◌<◌, ◌^◌, true, false, inl, inr, ◌⊎◌, List, [], ◌∷◌, ◌++◌, length, refl, sym, ap, ◌∙◌, subst, arith, append_assoc, append-nil, codes, length-append}
 use Rattle.std.specs.Fmt.{decimal}
 use Rattle.std.proofs.lemmas.Fmt.{decimal_by_steps}
-use Rattle.tp_show.specs.declared.trace.NamedFact.{NamedFact}
+use Rattle.tp_show.specs.declared.named_fact.NamedFact.{NamedFact}
 use Rattle.tp_show.specs.TraceLine.{none, IsStateLine, is_passed_over, ends_trace}
 use Rattle.tp_show.specs.Trace.{GoesOnWith, stop, state, passed, end, IsTrace, BeginsTrace, IsFirstBadLine, no_line, not_allowed}
 use Rattle.tp_show.proofs.TraceLines.{state_no_other, passed_no_end, state_unique}

@@ -13,3 +13,4 @@ pub mod TraceFiling
 pub mod TraceLaws
 pub mod TraceOfRun
 pub mod TraceExamples
+pub mod ToldLaws

@@ -1,5 +1,5 @@
 -- The text of a settled state.
-use Rattle.std.specs.Prelude.{ℕ, List, map, ◌++◌, codes}
+use Rattle.std.specs.Prelude.{ℕ, List, map, ◌++◌, codes, ◌≢◌, All}
 use Rattle.std.specs.List.{flat_map}
 use Rattle.std.specs.Fmt.{decimal}
 use Rattle.tp_value.specs.Tree.{Tree}
@@ -61,3 +61,11 @@ picture_lines names picture = told_lines names (told_of picture)
 -- and of several
 abbrev pub pictures_text : (names : List (List ℕ)) → List Picture → List ℕ
 pictures_text names pictures = flat_map (picture_lines names) pictures
+
+-- no byte is a line feed
+abbrev pub IsOneLine : List ℕ → Type 0
+IsOneLine text = All (λ b. b ≢ 10) text
+
+-- a line with its line feed
+abbrev pub fed_line : List ℕ → List ℕ
+fed_line line = line ++ codes "\n"

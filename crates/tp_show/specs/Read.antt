@@ -1,9 +1,9 @@
 -- The plain parts that the parts of a picture stand for.
 use Rattle.std.specs.Prelude.{List, map}
 use Rattle.tp_value.specs.Read.{tree}
-use Rattle.tp_show.specs.declared.parts.LinePart.{LinePart}
-use Rattle.tp_show.specs.declared.parts.LinePart.TheVariants.{Value, Length}
-use Rattle.tp_show.specs.declared.parts.LineParts.{LineParts}
+use Rattle.tp_show.specs.declared.line_part.LinePart.{LinePart}
+use Rattle.tp_show.specs.declared.line_part.LinePart.TheVariants.{Value, Length}
+use Rattle.tp_show.specs.declared.line_part.LineParts.{LineParts}
 use Rattle.tp_show.specs.Parts.{LinePartTree, valued, measured}
 
 abbrev pub plain_part : LinePart → LinePartTree

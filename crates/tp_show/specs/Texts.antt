@@ -8,8 +8,8 @@ use Rattle.tp_value.specs.declared.path.Fact.{Fact}
 use Rattle.tp_value.specs.declared.value.Shape.{Shape}
 use Rattle.tp_value.specs.declared.value.Shape.TheVariants.{Num, Truth, Items}
 use Rattle.tp_store.specs.Known.{Variable, name_of}
-use Rattle.tp_kernel.specs.declared.formula.FaultKind.{FaultKind}
-use Rattle.tp_kernel.specs.declared.formula.FaultKind.TheVariants.{WrongKind, ZeroDivisor, NoElement}
+use Rattle.tp_kernel.specs.declared.fault.FaultKind.{FaultKind}
+use Rattle.tp_kernel.specs.declared.fault.FaultKind.TheVariants.{WrongKind, ZeroDivisor, NoElement}
 use Rattle.tp_scene.specs.declared.answer.Cell.{Cell}
 use Rattle.tp_scene.specs.declared.answer.Cell.TheVariants.{Part, End}
 use Rattle.tp_scene.specs.declared.answer.Clash.{Clash}

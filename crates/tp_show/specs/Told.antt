@@ -1,20 +1,17 @@
 -- What the text of a run tells, and that it can be read back in one way only.
-use Rattle.std.specs.Prelude.{◌≡◌, ◌↔◌, ◌<◌, ◌^◌, ℕ, suc, nat_le, ◌==◌, ◌&&◌, ◌||◌, Bool, IsTrue, List, [], ◌∷◌, ◌++◌, map, length, All, Some}
+use Rattle.std.specs.Prelude.{◌≡◌, ◌<◌, ◌^◌, ℕ, suc, nat_le, ◌==◌, ◌&&◌, ◌||◌, Bool, IsTrue, List, [], ◌∷◌, map, length, All, Some}
 use Rattle.tp_value.specs.Tree.{Tree}
 use Rattle.tp_value.specs.Range.{HasMachineNumbers}
 use Rattle.tp_value.specs.Shape.{shape_at_path, item_at}
-use Rattle.tp_value.specs.declared.path.Fact.{Fact}
 use Rattle.tp_value.specs.declared.value.Shape.TheVariants.{Items}
 use Rattle.tp_meaning.specs.Course.{Course, Shows, blank, ◌⊕◌, shown_at}
-use Rattle.tp_store.specs.Facts.{AgreesWithAll}
 use Rattle.tp_store.specs.Known.{Variable, IsVariableOf, global_variable}
-use Rattle.tp_decide.specs.Read.{shows_of}
 use Rattle.tp_show.specs.declared.turn.Picture.{Picture}
 use Rattle.tp_show.specs.declared.turn.Turn.{Turn}
 use Rattle.tp_show.specs.declared.turn.Turn.TheVariants.{Went, Finished, Contradictory, Undetermined, StateLimit, InputMissing, Over}
 use Rattle.tp_show.specs.Texts.{global_name}
-use Rattle.tp_show.specs.Parts.{LinePartTree, valued, measured, line_parts}
-use Rattle.tp_show.specs.Line.{AreFactsOf, ToldState, told_of, told_text, pictures_text}
+use Rattle.tp_show.specs.Parts.{LinePartTree, valued, measured}
+use Rattle.tp_show.specs.Line.{ToldState, told_of}
 use Rattle.tp_show.specs.EndLine.{end_line}
 
 -- a letter, a digit, `_` or `-`: the bytes of names and of numbers
@@ -97,51 +94,3 @@ abbrev pub IsEndLine : (globals : List (List ℕ)) → List ℕ → Type 0
 IsEndLine globals line =
     (known : List Variable) × (reductions : ℕ) × (turn : Turn) × IsLastTurn turn
     × (line ≡ end_line globals known reductions turn)
-
--- What the lines of states tell before an end line is read back in one way only, and so is the end
--- line.
-abbrev pub TextsAreReadOnce : Type 0
-TextsAreReadOnce =
-    (names : List (List ℕ)) → AreNames names → (told other : List ToldState)
-    → All (IsToldOf names) told → All (IsToldOf names) other
-    → (end last : List ℕ) → IsEndLine names end → IsEndLine names last
-    → told_text names told ++ end ≡ told_text names other ++ last
-    → (told ≡ other) × (end ≡ last)
-
--- What is told of facts in order and without a clash says as much as the facts: values agree with
--- the one exactly where they agree with the other.
-abbrev pub PartsTellFacts : Type 0
-PartsTellFacts =
-    (names : List (List ℕ)) (facts : List Fact) → AreFactsOf names facts → (values : ℕ → Tree)
-    → AgreesWithAll values facts ↔ All (HasPart values) (line_parts facts)
-
-pub record TextsTell : Type 0 where
-  pub once : TextsAreReadOnce
-  pub facts : PartsTellFacts
-
--- a state of which these facts are known, in order and without a clash, of the variables with these
--- names
-pub record IsStateOf (names : List (List ℕ)) (picture : Picture) : Type 0 where
-  pub facts : AreFactsOf names picture.facts
-  pub range : IsPictureInRange picture
-
--- a state's number, its facts and its shows
-pub record Shown : Type 0 where
-  pub state : ℕ
-  pub facts : List Fact
-  pub shows : List (List Tree)
-
-abbrev pub shown_states : List Picture → List Shown
-shown_states pictures =
-    map (λ (p : Picture). record { state = p.state; facts = p.facts; shows = shows_of p.shows })
-    pictures
-
--- Two runs with one text have the same states with the same facts and the same shows, and end in
--- the same words.
-abbrev pub TextShowsStates : Type 0
-TextShowsStates =
-    (names : List (List ℕ)) → AreNames names → (ps qs : List Picture) → All (IsStateOf names) ps
-    → All (IsStateOf names) qs
-    → (end last : List ℕ) → IsEndLine names end → IsEndLine names last
-    → pictures_text names ps ++ end ≡ pictures_text names qs ++ last
-    → (shown_states ps ≡ shown_states qs) × (end ≡ last)

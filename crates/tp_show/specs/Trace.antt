@@ -1,7 +1,7 @@
 -- Which bytes are a trace, and which line is the first that isn't allowed.
 use Rattle.std.specs.Prelude.{◌≡◌, ℕ, suc, ◌<◌, true, List, [], ◌∷◌, ◌++◌, length}
 use Rattle.std.specs.Str.Lines.{lines}
-use Rattle.tp_show.specs.declared.trace.NamedFact.{NamedFact}
+use Rattle.tp_show.specs.declared.named_fact.NamedFact.{NamedFact}
 use Rattle.tp_show.specs.declared.trace.TraceRefusal.{TraceRefusal}
 use Rattle.tp_show.specs.declared.trace.TraceRefusal.TheVariants.{BadLine, NoMemory}
 use Rattle.tp_show.specs.TraceLine.{IsStateLine, is_passed_over, ends_trace}

@@ -8,7 +8,9 @@ use Rattle.tp_value.specs.declared.path.Path.{Path}
 use Rattle.tp_value.specs.declared.path.Fact.{Fact}
 use Rattle.tp_value.specs.declared.value.Shape.TheVariants.{Items}
 use Rattle.tp_store.specs.Facts.{fact, facts_at, clash}
-use Rattle.tp_show.specs.declared.trace.NamedFact.{NamedFact}
+use Rattle.tp_show.specs.declared.named_fact.NamedFact.{NamedFact}
+use Rattle.tp_show.specs.declared.turn.Picture.{Picture}
+use Rattle.tp_show.specs.Texts.{global_name}
 
 -- a part of a state's line: the value at the path of a name and indices, or the length of the list
 -- there
@@ -48,3 +50,11 @@ names_clash f g =
 abbrev pub have_clash : List NamedFact → Bool
 have_clash [] = false
 have_clash (f ∷ fs) = list_any (names_clash f) fs || have_clash fs
+
+-- the fact, told of its variable by the variable's name
+abbrev pub named_fact : (names : List (List ℕ)) → Fact → NamedFact
+named_fact names f = fact_named (global_name names f.path.var.number) f
+
+-- the facts of a picture, each under its variable's name
+abbrev pub named_facts : (names : List (List ℕ)) → Picture → List NamedFact
+named_facts names picture = map (named_fact names) picture.facts

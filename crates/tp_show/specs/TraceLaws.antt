@@ -1,6 +1,6 @@
 -- A text has one outcome as a trace.
 use Rattle.std.specs.Prelude.{◌≡◌, ℕ, ◌<◌, ◌^◌, List, length}
-use Rattle.tp_show.specs.declared.trace.NamedFact.{NamedFact}
+use Rattle.tp_show.specs.declared.named_fact.NamedFact.{NamedFact}
 use Rattle.tp_show.specs.Trace.{IsTrace, IsFirstBadLine}
 
 -- fewer lines than 64 bits count are a trace of one list of states

@@ -6,9 +6,9 @@ use Rattle.std.specs.Fmt.{decimal}
 use Rattle.tp_value.specs.Tree.{Tree}
 use Rattle.tp_value.specs.Limits.{index_limit, path_limit, length_limit, IsWithinLimits}
 use Rattle.tp_value.specs.Spelling.{AreDigits, decimal_value, Spells}
-use Rattle.tp_lex.specs.First.{is_name_byte, name_limit}
+use Rattle.tp_lex.specs.Bytes.{is_name_byte, name_limit}
 use Rattle.tp_lex.specs.Pieces.{IsNoWord}
-use Rattle.tp_show.specs.declared.trace.NamedFact.{NamedFact}
+use Rattle.tp_show.specs.declared.named_fact.NamedFact.{NamedFact}
 use Rattle.tp_show.specs.TraceFacts.{TracePart, has_value, has_length, parts_facts, have_clash}
 
 -- letters, digits and `_` alone

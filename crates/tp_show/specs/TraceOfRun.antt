@@ -1,5 +1,5 @@
 -- The printed text of a run is a trace, which tells the facts of its states.
-use Rattle.std.specs.Prelude.{◌≡◌, ◌≢◌, ◌⊎◌, Result, Ok, Err, ℕ, suc, ◌<◌, ◌≤◌, true, List, [], ◌∷◌, ◌++◌, map, length, All, codes}
+use Rattle.std.specs.Prelude.{◌≡◌, ◌⊎◌, Result, Ok, Err, ℕ, suc, ◌<◌, ◌≤◌, true, List, [], ◌∷◌, ◌++◌, map, length, All}
 use Rattle.std.specs.List.{flat_map}
 use Rattle.tp_value.specs.Number.{IsNumber}
 use Rattle.tp_value.specs.Limits.{index_limit, path_limit, length_limit, IsWithinLimits}
@@ -11,14 +11,14 @@ use Rattle.tp_store.specs.Known.{Variable}
 use Rattle.tp_show.specs.declared.turn.Picture.{Picture}
 use Rattle.tp_show.specs.declared.turn.Turn.{Turn}
 use Rattle.tp_show.specs.declared.turn.Turn.TheVariants.{Went, Finished, Contradictory, Undetermined, StateLimit, InputMissing, Over}
-use Rattle.tp_show.specs.declared.trace.NamedFact.{NamedFact}
+use Rattle.tp_show.specs.declared.named_fact.NamedFact.{NamedFact}
 use Rattle.tp_show.specs.declared.trace.TraceRefusal.{TraceRefusal}
 use Rattle.tp_show.specs.declared.trace.TraceRefusal.TheVariants.{NoMemory}
 use Rattle.tp_show.specs.Texts.{global_name}
 use Rattle.tp_show.specs.Parts.{LinePartTree, valued, measured, line_parts}
-use Rattle.tp_show.specs.Line.{AreFactsOf, picture_lines, pictures_text}
+use Rattle.tp_show.specs.Line.{AreFactsOf, picture_lines, pictures_text, IsOneLine, fed_line}
 use Rattle.tp_show.specs.EndLine.{last_words, end_line}
-use Rattle.tp_show.specs.TraceFacts.{fact_named}
+use Rattle.tp_show.specs.TraceFacts.{named_facts}
 use Rattle.tp_show.specs.TraceLine.{IsVariableName, is_passed_over}
 use Rattle.tp_show.specs.Trace.{IsTraceText}
 
@@ -65,18 +65,10 @@ pub record IsReadable (names : List (List ℕ)) (picture : Picture) : Type 0 whe
   pub facts : AreFactsOf names picture.facts
   pub limits : All IsPartWithinLimits (line_parts picture.facts)
 
--- no byte is a line feed
-abbrev pub IsOneLine : List ℕ → Type 0
-IsOneLine text = All (λ b. b ≢ 10) text
-
 -- a state as it is printed: its picture, and the further lines that stand behind the picture's
 pub record PrintedState : Type 0 where
   pub picture : Picture
   pub further : List (List ℕ)
-
--- a line with its line feed
-abbrev pub fed_line : List ℕ → List ℕ
-fed_line line = line ++ codes "\n"
 
 -- the picture's lines, and then the further ones
 abbrev pub printed_state_lines : (names : List (List ℕ)) → PrintedState → List ℕ
@@ -129,14 +121,6 @@ EndLinesAreOneLine =
     (names : List (List ℕ)) → AreVariableNames names → (known : List Variable)
     → All HasNameOnOneLine known → (reductions : ℕ) (turn : Turn) → NamesPortOnOneLine turn
     → IsOneLine (last_words names known reductions turn)
-
--- the fact, told of its variable by the variable's name
-abbrev pub named_fact : (names : List (List ℕ)) → Fact → NamedFact
-named_fact names f = fact_named (global_name names f.path.var.number) f
-
--- the facts of a picture, each under its variable's name
-abbrev pub named_facts : (names : List (List ℕ)) → Picture → List NamedFact
-named_facts names picture = map (named_fact names) picture.facts
 
 -- The texts of one or more states with the numbers 0, 1, .., one after another, and then nothing or
 -- an end line, are a trace. Its states have the facts of the pictures.

@@ -9,13 +9,13 @@ use Rattle.tp_value.specs.Limits.{index_limit, length_limit, IsWithinLimits}
 use Rattle.tp_value.specs.Spelling.{decimal_value, AreDigits, Spells}
 use Rattle.tp_value.specs.declared.value.Value.{Value}
 use Rattle.tp_value.specs.Read.{tree}
-use Rattle.tp_lex.specs.First.{name_limit}
+use Rattle.tp_lex.specs.Bytes.{name_limit}
 use Rattle.tp_lex.specs.Spelling.{spelled_word}
 use Rattle.tp_show.specs.declared.trace_part.NamedPath.{NamedPath}
 use Rattle.tp_show.specs.declared.trace_part.ReadPart.{ReadPart}
 use Rattle.tp_show.specs.declared.trace_part.ReadPart.TheVariants.{Given, Measured}
 use Rattle.tp_show.specs.TraceFacts.{TracePart, has_value, has_length}
-use Rattle.tp_show.specs.declared.trace.NamedFact.{NamedFact}
+use Rattle.tp_show.specs.declared.named_fact.NamedFact.{NamedFact}
 use Rattle.tp_show.specs.declared.trace_line.LineKind.{LineKind}
 use Rattle.tp_show.specs.declared.trace_line.LineKind.TheVariants.{State, PassedOver, End, Bad}
 use Rattle.tp_show.specs.TraceLine.{SpellsIndices, SpellsPath, SpellsPart, SpellsParts, IsStateLine, is_passed_over, ends_trace}

@@ -1,6 +1,6 @@
 // Laws of the texts.
 ghost use Rattle.tp_show.specs.LineExamples.{EndLineExamples, LineExamples};
-ghost use Rattle.tp_show.specs.Told.{TextsTell, TextShowsStates};
+ghost use Rattle.tp_show.specs.ToldLaws.{TextsTell, TextShowsStates};
 
 /// A text shows the states of its run: their numbers, their facts, of every kind, and what is shown in them can be read back in one
 /// way only.

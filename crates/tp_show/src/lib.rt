@@ -2,9 +2,12 @@
 #![tactic(auto)]
 
 mod clash;
+mod copies;
 mod end_line;
 mod laws;
 mod line;
+mod line_part;
+mod named_fact;
 mod parts;
 mod text;
 mod trace;
@@ -18,8 +21,10 @@ mod turn;
 pub use end_line::end_text;
 pub use laws::{line_examples, text_shows_states, texts_tell};
 pub use line::picture_text;
-pub use parts::{LinePart, LineParts, known_parts};
+pub use line_part::{LinePart, LineParts};
+pub use named_fact::NamedFact;
+pub use parts::known_parts;
 pub use tp_scene::{Cell, Clash};
-pub use trace::{NamedFact, Trace, TraceRefusal, TraceState, read_trace};
+pub use trace::{Trace, TraceRefusal, TraceState, read_trace};
 pub use trace_laws::{trace_examples, traces_are_read_once, traces_tell_facts};
 pub use turn::{Picture, Turn};

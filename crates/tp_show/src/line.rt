@@ -9,7 +9,7 @@ ghost use Rattle.tp_show.specs.Parts.{line_parts, spaced_text};
 ghost use Rattle.tp_show.specs.Line.{picture_lines, show_line, shown_value, state_line};
 ghost use Rattle.tp_show.specs.Told.{ArePartsInRange, AreShowsInRange, IsPartInRange, IsPictureInRange};
 
-use crate::parts::{LinePart, LineParts};
+use crate::line_part::{LinePart, LineParts};
 use crate::text::{append_counted, append_path};
 use crate::turn::Picture;
 use tp_decide::{Shows, Values};

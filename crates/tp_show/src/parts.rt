@@ -7,22 +7,10 @@ ghost use Rattle.tp_store.specs.Known.{full};
 ghost use Rattle.tp_show.specs.Read.{plain_part, plain_parts};
 ghost use Rattle.tp_show.specs.Parts.{is_deeper, is_inside, is_value, is_written, known_part, parts_by, shape_part};
 
+use crate::line_part::{LinePart, LineParts};
 use std::alloc::Global;
 use tp_store::{Known, Store};
 use tp_value::{Fact, NoMemory, Path, Shape, Value, VarId};
-
-/// A place with its whole value, or a list of which not all is known, with its length.
-#[derive(Drop)]
-pub enum LinePart {
-    Value { path: Path, value: Value },
-    Length { path: Path, length: u32 },
-}
-
-/// Parts of a line, in order.
-#[derive(Drop)]
-pub struct LineParts {
-    pub items: Vec<LinePart>,
-}
 
 fn same_variable(x: VarId, y: VarId) -> bool
     ensures { result ≡ same_variable x y }

@@ -4,19 +4,12 @@ ghost use Rattle.tp_show.specs.declared.trace.TraceRefusal.TheVariants.{NoMemory
 ghost use Rattle.tp_show.specs.TraceOfRun.{ReadsPrinted};
 ghost use Rattle.tp_show.specs.Trace.{IsTraceText, IsTraceRefusal};
 
+use crate::named_fact::NamedFact;
 use crate::trace_line::{LineKind, line_kind};
 use std::alloc::{AllocError, AllocFailed, Global};
 use std::marker::Model;
 use tp_lex::first_line;
 use tp_value::{Indices, NoMemory, Shape, Text};
-
-/// A fact of a variable that is known by its name.
-#[derive(Debug, Drop)]
-pub struct NamedFact {
-    pub name: Text,
-    pub at: Indices,
-    pub shape: Shape,
-}
 
 /// The facts of a state, in the order of its line: a list's length before the facts of its items.
 #[derive(Debug, Drop)]
@@ -26,7 +19,7 @@ pub struct TraceState {
 
 impl Model for TraceState {
     ghost use Rattle.std.specs.Prelude.{List};
-    ghost use Rattle.tp_show.specs.declared.trace.NamedFact.{NamedFact};
+    ghost use Rattle.tp_show.specs.declared.named_fact.NamedFact.{NamedFact};
 
     ghost Value = { List NamedFact };
 
@@ -41,7 +34,7 @@ pub struct Trace {
 
 impl Model for Trace {
     ghost use Rattle.std.specs.Prelude.{List};
-    ghost use Rattle.tp_show.specs.declared.trace.NamedFact.{NamedFact};
+    ghost use Rattle.tp_show.specs.declared.named_fact.NamedFact.{NamedFact};
 
     ghost Value = { List (List NamedFact) };
 

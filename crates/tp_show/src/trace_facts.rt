@@ -8,7 +8,7 @@ ghost use Rattle.tp_show.specs.TraceFacts.{fact_named, part_facts, parts_facts, 
 ghost use Rattle.tp_show.specs.TraceReading.{trace_part_of, trace_parts_of};
 ghost use Rattle.tp_show.specs.TraceFiling.{part_name, variable_facts};
 
-use crate::trace::NamedFact;
+use crate::named_fact::NamedFact;
 use crate::trace_part::ReadPart;
 use std::alloc::Global;
 use tp_store::{AddRefusal, Store, value_facts};

@@ -4,7 +4,8 @@ ghost use Rattle.tp_show.specs.TraceLine.{state_opening};
 ghost use Rattle.tp_show.specs.TraceLine as spec;
 ghost use Rattle.tp_show.specs.TraceReading.{IsStateFound, found_facts, IsKindOf};
 
-use crate::trace::{NamedFact, TraceState};
+use crate::named_fact::NamedFact;
+use crate::trace::TraceState;
 use crate::trace_facts::{all_facts, facts_clash};
 use crate::trace_part::read_parts;
 use itoa::Buffer;

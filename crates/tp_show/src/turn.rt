@@ -1,11 +1,9 @@
 // What a run answers for a state.
-ghost use Rattle.std.specs.Prelude.{◌≡◌, IfOk};
-
-use crate::parts::LineParts;
+use crate::line_part::LineParts;
 use tp_decide::Shows;
 use tp_kernel::LimitKind;
 use tp_scene::{Cell, Clash};
-use tp_value::{Facts, NoMemory, Text};
+use tp_value::{Facts, Text};
 
 /// A settled state: its number, the facts of the global variables, what these come to, what is shown, and how many reductions it
 /// took. The facts are in the order of the variables, and of one variable a list before its items and these in order. The parts are
@@ -36,42 +34,4 @@ pub enum Turn {
     InputMissing { state: u64, port: Text },
     /// An item passes this limit, or there may be no more reductions.
     Over { state: u64, limit: LimitKind },
-}
-
-impl Turn {
-    /// An equal answer.
-    pub fn copy(&self) -> Result<Turn, NoMemory>
-        ensures { IfOk result (λ turn. turn ≡ self.now) }
-    {
-        match self {
-            Turn::Went => Ok(Turn::Went),
-            Turn::Finished { length } => Ok(Turn::Finished { length: *length }),
-            Turn::Contradictory { state, clash } => {
-                let clash = clash.copy()?;
-                Ok(Turn::Contradictory {
-                    state: *state,
-                    clash,
-                })
-            }
-            Turn::Undetermined { state, cell } => {
-                let cell = cell.copy()?;
-                Ok(Turn::Undetermined {
-                    state: *state,
-                    cell,
-                })
-            }
-            Turn::StateLimit { states } => Ok(Turn::StateLimit { states: *states }),
-            Turn::InputMissing { state, port } => {
-                let port = port.copy()?;
-                Ok(Turn::InputMissing {
-                    state: *state,
-                    port,
-                })
-            }
-            Turn::Over { state, limit } => Ok(Turn::Over {
-                state: *state,
-                limit: *limit,
-            }),
-        }
-    }
 }

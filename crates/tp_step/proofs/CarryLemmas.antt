@@ -5,7 +5,7 @@ use Rattle.std.specs.Prelude.{Result, Ok, Err, IfOk, IfErr, OnOk}
 use Rattle.std.specs.Option.{option_map}
 use Rattle.tp_value.specs.declared.path.Fact.{Fact}
 use Rattle.tp_value.specs.declared.refusal.NoMemory.{NoMemory}
-use Rattle.tp_kernel.specs.declared.formula.LimitKind.TheVariants.{Reductions}
+use Rattle.tp_kernel.specs.declared.fault.LimitKind.TheVariants.{Reductions}
 use Rattle.tp_store.specs.Facts.{kept_shape}
 use Rattle.tp_store.specs.Known.{Contents, NoClash, Addition, adds, refuses}
 use Rattle.tp_store.specs.Answers.{IsRefusal, Adds}

@@ -1,7 +1,7 @@
 -- What every list of picks comes to, by what a closure answers.
 use Rattle.std.proofs.Common.{◌≡◌, ◌⊎◌, inl, inr, ℕ, suc, ◌+◌, ◌≤◌, ◌<◌, true, Bool, List, [], ◌∷◌, length, refl, sym, subst, arith, length-append}
-use Rattle.tp_kernel.specs.declared.formula.LimitKind.{LimitKind}
-use Rattle.tp_kernel.specs.declared.formula.LimitKind.TheVariants as limit
+use Rattle.tp_kernel.specs.declared.fault.LimitKind.{LimitKind}
+use Rattle.tp_kernel.specs.declared.fault.LimitKind.TheVariants as limit
 use Rattle.tp_scene.specs.Scene.{has}
 use Rattle.tp_scene.specs.Step.{Reduction, PickOutcome, reduces, clashes, misses, passes}
 use Rattle.tp_scene.specs.Pick.{Setting, Moment, Leads, outcome_of, IsIdle}
@@ -12,8 +12,8 @@ use Rattle.tp_step_laws.proofs.CloseOneWay.{leads_orderly, states_close_one_way}
 use Rattle.tp_step_laws.proofs.Rest.{one_rest_of}
 use Rattle.tp_step.specs.Closes.{Meets, ClosureEnds, ClosureAnswers}
 use Rattle.tp_step.specs.EveryRest.{HasOneRest, NeverRests, RestsBeyond, EveryRest, ClosureCommutes}
-use Rattle.tp_step.specs.declared.answer.Ending.{Ending}
-use Rattle.tp_step.specs.declared.answer.Ending.TheVariants.{Rest, Clash, Missing, Over}
+use Rattle.tp_step.specs.declared.ending.Ending.{Ending}
+use Rattle.tp_step.specs.declared.ending.Ending.TheVariants.{Rest, Clash, Missing, Over}
 
 module _ (w : Setting) (kinds : List Bool) (room : ℕ) (m last : Moment) (orderly : IsOrderly w kinds m) (picks : List ℕ) (leads : Leads w m picks last) where
   one_rest : length picks ≤ room → AtRest w last → HasOneRest w kinds room m last (length picks)

@@ -17,7 +17,7 @@ use Rattle.tp_scene.specs.Laws.{IsSound}
 use Rattle.tp_scene.proofs.Frame.{region}
 use Rattle.tp_scene.proofs.Keep.{picked_fit}
 use Rattle.tp_scene.proofs.Globals.{of_variables_in}
-use Rattle.tp_kernel.specs.declared.formula.LimitKind.{LimitKind}
+use Rattle.tp_kernel.specs.declared.fault.LimitKind.{LimitKind}
 use Rattle.tp_scene.specs.declared.answer.Cell.{Cell}
 use Rattle.tp_scene.specs.declared.answer.Cell.TheVariants.{Part, End}
 use Rattle.tp_scene.specs.declared.answer.Clash.{Clash}

@@ -14,7 +14,8 @@ use Rattle.tp_scene.specs.Scene.{has}
 use Rattle.tp_scene.specs.Pick.{Setting, Moment}
 use Rattle.tp_scene.specs.Rest as rest
 use Rattle.tp_scene.specs.Advance.{advanced}
-use Rattle.tp_scene.specs.StandsFor.{StandsFor, started, context_of}
+use Rattle.tp_scene.specs.StandsFor.{StandsFor, context_of}
+use Rattle.tp_scene.specs.Beginning.{started}
 use Rattle.tp_scene.specs.Laws.{IsSound}
 use Rattle.tp_slots.specs.declared.scene.Scene.{Scene}
 use Rattle.tp_slots.specs.Read.{scene_of}

@@ -1,7 +1,7 @@
 -- The limit on reductions is met exactly where none is left for an item that would be reduced.
 use Rattle.std.proofs.Common.{◌≡◌, ◌⊎◌, inl, inr, ℕ, ◌+◌, ◌<◌, Bool, List, ◌++◌, length, ap, sym, ◌∙◌, subst, arith, length-append}
-use Rattle.tp_kernel.specs.declared.formula.LimitKind.{LimitKind}
-use Rattle.tp_kernel.specs.declared.formula.LimitKind.TheVariants as limit
+use Rattle.tp_kernel.specs.declared.fault.LimitKind.{LimitKind}
+use Rattle.tp_kernel.specs.declared.fault.LimitKind.TheVariants as limit
 use Rattle.tp_scene.specs.Step.{Reduction, PickOutcome, reduces, waits, rests, clashes, misses, passes}
 use Rattle.tp_scene.specs.Pick.{Setting, Moment, outcome_of}
 use Rattle.tp_scene.specs.Laws.{IsSound}
@@ -10,8 +10,8 @@ use Rattle.tp_step.specs.Closes.{Meets, ClosureEnds, ClosureAnswers}
 use Rattle.tp_step.specs.Room.{TryKeepsRoom, ClosureKeepsRoom}
 use Rattle.tp_step.specs.declared.answer.Tried.{Tried}
 use Rattle.tp_step.specs.declared.answer.Tried.TheVariants as tried
-use Rattle.tp_step.specs.declared.answer.Ending.{Ending}
-use Rattle.tp_step.specs.declared.answer.Ending.TheVariants.{Rest, Clash, Missing, Over}
+use Rattle.tp_step.specs.declared.ending.Ending.{Ending}
+use Rattle.tp_step.specs.declared.ending.Ending.TheVariants.{Rest, Clash, Missing, Over}
 use Rattle.tp_step.proofs.KnownItems.{passes_other}
 
 module _ (w : Setting) (kinds : List Bool) (m : Moment) (sound : IsSound w kinds m) where

@@ -1,7 +1,7 @@
 -- What the calls' answers stand for.
 use Rattle.std.specs.Prelude.{◌≡◌, ℕ, ◌<◌, ◌⊎◌}
 use Rattle.std.specs.Option.{option_map}
-use Rattle.tp_kernel.specs.declared.formula.LimitKind.TheVariants.{Reductions}
+use Rattle.tp_kernel.specs.declared.fault.LimitKind.TheVariants.{Reductions}
 use Rattle.tp_store.specs.Known.{Contents}
 use Rattle.tp_store.specs.declared.add.AddRefusal.{AddRefusal}
 use Rattle.tp_store.specs.declared.add.AddRefusal.TheVariants as refusal

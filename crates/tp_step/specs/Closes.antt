@@ -1,6 +1,6 @@
 -- What a closure comes to, whichever items it tries.
 use Rattle.std.specs.Prelude.{◌≡◌, ◌⊎◌, ℕ, suc, ◌+◌, Bool, true, false, List, [], ◌∷◌, ◌++◌, length, Option, None, Some}
-use Rattle.tp_kernel.specs.declared.formula.LimitKind.TheVariants.{Reductions}
+use Rattle.tp_kernel.specs.declared.fault.LimitKind.TheVariants.{Reductions}
 use Rattle.tp_scene.specs.Scene.{has}
 use Rattle.tp_scene.specs.Step.{Reduction, PickOutcome, reduces, clashes, misses, passes}
 use Rattle.tp_scene.specs.Pick.{Setting, Moment, Reduces, Leads, outcome_of, IsIdle}
@@ -8,8 +8,8 @@ use Rattle.tp_scene.specs.Rest.{AtRest}
 use Rattle.tp_step.specs.Answers.{Tries}
 use Rattle.tp_step.specs.declared.answer.Tried.{Tried}
 use Rattle.tp_step.specs.declared.answer.Tried.TheVariants as tried
-use Rattle.tp_step.specs.declared.answer.Ending.{Ending}
-use Rattle.tp_step.specs.declared.answer.Ending.TheVariants.{Rest, Clash, Missing, Over}
+use Rattle.tp_step.specs.declared.ending.Ending.{Ending}
+use Rattle.tp_step.specs.declared.ending.Ending.TheVariants.{Rest, Clash, Missing, Over}
 
 -- some live item has this outcome
 abbrev pub Meets : Setting → Moment → PickOutcome → Type 0

@@ -1,13 +1,13 @@
 -- What every list of picks comes to, where a closure has made some, whichever items it tried.
 use Rattle.std.specs.Prelude.{◌≡◌, ℕ, ◌+◌, ◌<◌, Bool, List, length}
-use Rattle.tp_kernel.specs.declared.formula.LimitKind.TheVariants as limit
+use Rattle.tp_kernel.specs.declared.fault.LimitKind.TheVariants as limit
 use Rattle.tp_scene.specs.Pick.{Setting, Moment, Leads}
 use Rattle.tp_scene.specs.Rest.{AtRest}
 use Rattle.tp_step_laws.specs.Alike.{Alike}
 use Rattle.tp_step_laws.specs.Orders.{IsOrderly, GoesOnToRest}
 use Rattle.tp_step_laws.specs.States.{ClosesOneWay}
-use Rattle.tp_step.specs.declared.answer.Ending.{Ending}
-use Rattle.tp_step.specs.declared.answer.Ending.TheVariants.{Rest, Clash, Missing, Over}
+use Rattle.tp_step.specs.declared.ending.Ending.{Ending}
+use Rattle.tp_step.specs.declared.ending.Ending.TheVariants.{Rest, Clash, Missing, Over}
 
 -- So many picks led to rest, and every list of picks goes on to a rest that is alike, with as many
 -- picks in all, and meets no failure. A state that begins alike closes in one way, to what is

@@ -9,7 +9,8 @@ use Rattle.tp_store.specs.Known.{Contents, new_store}
 use Rattle.tp_scene.specs.Pick.{Setting, Moment}
 use Rattle.tp_scene.specs.Rest as rest
 use Rattle.tp_scene.specs.StandsFor.{StandsFor, context_of}
-use Rattle.tp_scene.specs.Laws.{IsSound, StandsForNone, StoreGoesOn, AdvanceStands, EndStands}
+use Rattle.tp_scene.specs.Laws.{IsSound, StandsForNone, AdvanceStands, EndStands}
+use Rattle.tp_scene.specs.Advance.{StoreGoesOn}
 use Rattle.tp_slots.specs.declared.scene.Scene.{Scene}
 use Rattle.tp_slots.specs.Read.{scene_of}
 use Rattle.tp_step.specs.Answers.{moment_of}

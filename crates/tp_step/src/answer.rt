@@ -1,6 +1,7 @@
 // What the calls on a scene answer.
 ghost use Rattle.std.specs.Prelude.{◌≡◌, []};
 
+use crate::order::Order;
 use std::alloc::Global;
 use std::marker::Model;
 use tp_kernel::LimitKind;
@@ -61,14 +62,6 @@ pub enum Settled {
     Goes,
 }
 
-/// Which item is tried next.
-#[derive(Clone, Copy, Debug, PartialEq, Eq)]
-pub enum Order {
-    First,
-    Last,
-    Seed(u64),
-}
-
 /// How a closure goes on: which item it tries next, and how many it may still reduce. Of a seed its word is kept that makes the next
 /// choice.
 #[derive(Clone, Copy, Debug, PartialEq, Eq)]
@@ -97,13 +90,4 @@ pub struct Tally {
     pub picks: ItemIds,
     pub waits: Waits,
     pub rests: ItemIds,
-}
-
-/// What a closure ends with.
-#[derive(Drop)]
-pub enum Ending {
-    Rest,
-    Clash(Clash),
-    Missing(Text),
-    Over(LimitKind),
 }

@@ -1,7 +1,7 @@
 // The first scene of a run.
 ghost use Rattle.std.specs.Prelude.{◌≡◌, IfOk};
 ghost use Rattle.tp_kernel.specs.Read.{formula_tree};
-ghost use Rattle.tp_scene.specs.StandsFor.{started};
+ghost use Rattle.tp_scene.specs.Beginning.{started};
 ghost use Rattle.tp_slots.specs.Kept.{IsWellKept};
 ghost use Rattle.tp_slots.specs.Read.{scene_of};
 ghost use Rattle.tp_step.specs.Meaning.{StandsForAllOf, StartIsSound};

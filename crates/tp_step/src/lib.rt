@@ -3,20 +3,24 @@
 
 mod answer;
 mod carry;
+mod ending;
 mod first;
 mod laws;
 mod live;
 mod next_scene;
 mod next_state;
+mod order;
 mod own;
 mod step;
 mod steps;
 
-pub use answer::{Course, Ending, ItemIds, News, Order, Settled, Tally, Tried, Wait, Waits};
+pub use answer::{Course, ItemIds, News, Settled, Tally, Tried, Wait, Waits};
+pub use ending::Ending;
 pub use first::start;
 pub use laws::first_waiting_is_named;
 pub use live::{items, settled};
 pub use next_state::advance;
+pub use order::Order;
 pub use step::try_item;
 pub use steps::Steps;
 pub use tp_decide::{Phrase, Setting, Shows, Values};

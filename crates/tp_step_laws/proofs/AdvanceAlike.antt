@@ -5,9 +5,9 @@ use Rattle.tp_store.specs.Facts.{kept_shape}
 use Rattle.tp_store.specs.Known.{Variable, lasting_facts}
 use Rattle.tp_scene.specs.Scene.{Head, new_head, Leaf, Do, Later, Shown, Holder, Split, SplitProject, Closed, Opened, Running, Entries, none, leaf, node, Scene}
 use Rattle.tp_scene.specs.Pick.{Moment}
-use Rattle.tp_scene.specs.Advance.{due, items_in, regions_held, regions_in, second_head, numbered, numbered_head, advanced}
-use Rattle.tp_scene.specs.Laws.{StoreGoesOn}
-use Rattle.tp_step_laws.specs.Renaming.{Permutation, Renaming, renamed_path, renamed_bindings, renamed_leaf, renamed_holder, renamed_head, renamed_second, renamed_entries, renamed_region}
+use Rattle.tp_scene.specs.Advance.{due, items_in, regions_held, regions_in, second_head, numbered, numbered_head, advanced, StoreGoesOn}
+use Rattle.tp_step_laws.specs.Renaming.{renamed_bindings, renamed_leaf, renamed_holder, renamed_head, renamed_second, renamed_entries, renamed_region}
+use Rattle.tp_step_laws.specs.Maps.{Permutation, Renaming, renamed_path}
 use Rattle.tp_step_laws.specs.Alike.{AlikeBy, AlikeMomentsAdvance}
 use Rattle.tp_step_laws.proofs.SettleAlike.{kept_through}
 

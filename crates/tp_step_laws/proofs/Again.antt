@@ -13,7 +13,8 @@ use Rattle.tp_step_laws.specs.Edits.{Edit, head_after, edited, single, Natural, 
 use Rattle.tp_step_laws.specs.Rows.{Grows, IsFailure, SameFacts, GrownTo, HolderGrown}
 use Rattle.tp_step_laws.specs.Outcomes.{KnowsMore}
 use Rattle.tp_step_laws.specs.Within.{LengthsAreWithin}
-use Rattle.tp_step_laws.specs.Renaming.{Renaming, renamed_binding, renamed_bindings, renamed_leaf, renamed_holder, renamed_second, renamed_entries, Renamed}
+use Rattle.tp_step_laws.specs.Renaming.{renamed_binding, renamed_bindings, renamed_leaf, renamed_holder, renamed_second, renamed_entries, Renamed}
+use Rattle.tp_step_laws.specs.Maps.{Renaming}
 use Rattle.tp_step_laws.specs.Orders.{FailuresStay}
 use Rattle.tp_step_laws.proofs.Orderly.{steps_stay_orderly}
 use Rattle.tp_step_laws.proofs.FactsGrow.{kept_before}

@@ -13,7 +13,8 @@ use Rattle.tp_scene.specs.Scene.{Side, Ending, Going, Head, Holder, SplitProject
 use Rattle.tp_scene.specs.Step.{Reduction, PickOutcome, reduces, waits, rests, Numbers}
 use Rattle.tp_scene.specs.Pick.{Setting, Moment, mark_head, mark_at, put, put_in, numbers_of, outcome_of, scene_after, with_local, IsIdle}
 use Rattle.tp_scene.specs.Rest.{AtRest}
-use Rattle.tp_step_laws.specs.Renaming.{Permutation, Renaming, FixesFrom, renamed_path, renamed_facts, renamed_leaf, renamed_holder, renamed_head, renamed_second, renamed_entries, renamed_region, renamed_reduction, IfRegion, IfLocal, NumbersRenamed, Renamed}
+use Rattle.tp_step_laws.specs.Renaming.{FixesFrom, renamed_facts, renamed_leaf, renamed_holder, renamed_head, renamed_second, renamed_entries, renamed_region, renamed_reduction, IfRegion, IfLocal, NumbersRenamed, Renamed}
+use Rattle.tp_step_laws.specs.Maps.{Permutation, Renaming, renamed_path}
 use Rattle.tp_step_laws.specs.Alike.{AlikeBy}
 use Rattle.tp_step_laws.specs.Orders.{IsOrderly, StepsTo, AlikeSteps, AlikeMomentsStep}
 use Rattle.tp_step_laws.proofs.FactsGrow.{kept_before, kept_after}

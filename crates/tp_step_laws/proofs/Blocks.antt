@@ -17,7 +17,8 @@ use Rattle.tp_scene.specs.Step.{Reduction, Numbers}
 use Rattle.tp_scene.specs.Pick.{Setting, Moment, numbers_of, with_local, Reduces}
 use Rattle.tp_scene.specs.Fits.{kinds_in}
 use Rattle.tp_scene.proofs.Below.{variable_below, kinds_length}
-use Rattle.tp_step_laws.specs.Renaming.{Renaming, FixesBelow, renamed_path, renamed_fact, renamed_facts, FactsAlike, IfRegion, IfLocal, NumbersRenamed}
+use Rattle.tp_step_laws.specs.Renaming.{renamed_fact, renamed_facts, FactsAlike, IfRegion, IfLocal, NumbersRenamed}
+use Rattle.tp_step_laws.specs.Maps.{Renaming, FixesBelow, renamed_path}
 use Rattle.tp_step_laws.proofs.FactsGrow.{kept_before, kept_after}
 use Rattle.tp_step_laws.proofs.Swap.{swapped, swap, before, in_front, behind, beyond}
 

@@ -13,7 +13,8 @@ use Rattle.tp_scene.specs.Laws.{IsSound}
 use Rattle.tp_scene.proofs.NewFacts.{IsOfVariables, picked_facts}
 use Rattle.tp_step_laws.specs.Edits.{Edit, head_after, edited, single, Thing, of_leaf, of_holder, At, edit_of}
 use Rattle.tp_step_laws.specs.Rows.{IsFailure}
-use Rattle.tp_step_laws.specs.Renaming.{Renaming, renamed_region, renamed_reduction}
+use Rattle.tp_step_laws.specs.Renaming.{renamed_region, renamed_reduction}
+use Rattle.tp_step_laws.specs.Maps.{Renaming}
 use Rattle.tp_step_laws.specs.Alike.{AlikeBy}
 use Rattle.tp_step_laws.specs.Orders.{IsOrderly, MeetsFailure, BothOrders, FailuresAreMutual, Commute}
 use Rattle.tp_step_laws.proofs.Orderly.{steps_stay_orderly}

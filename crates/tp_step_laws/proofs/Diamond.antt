@@ -13,7 +13,8 @@ use Rattle.tp_scene.proofs.Frame.{region}
 use Rattle.tp_scene.proofs.Below.{variable_below, kinds_length, HolderBelow, IfSecond, Below, entries_below}
 use Rattle.tp_step_laws.specs.Edits.{Edit, GrowsThing, Thing, of_leaf, of_holder, At, this_leaf, past_leaf, this_node, in_first, in_second, past_node, edit_of}
 use Rattle.tp_step_laws.specs.Rows.{holder_make, IsFailure}
-use Rattle.tp_step_laws.specs.Renaming.{IfRegion, Renaming, FixesBelow, renamed_holder, renamed_head, renamed_second, renamed_entries, renamed_place, renamed_reduction, FactsAlike, Renamed}
+use Rattle.tp_step_laws.specs.Renaming.{IfRegion, renamed_holder, renamed_head, renamed_second, renamed_entries, renamed_place, renamed_reduction, FactsAlike, Renamed}
+use Rattle.tp_step_laws.specs.Maps.{Renaming, FixesBelow}
 use Rattle.tp_step_laws.specs.Orders.{IsOrderly}
 use Rattle.tp_step_laws.proofs.RenamePick.{pick_to}
 use Rattle.tp_step_laws.proofs.Where.{item_below, picked}

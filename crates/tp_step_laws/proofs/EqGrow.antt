@@ -15,9 +15,9 @@ use Rattle.tp_store.proofs.Members.{In, in_filter, in_kept, kept_in, NoClash-fil
 use Rattle.tp_store.proofs.Adding.{AddsAll, adds_all, given_in, news_given}
 use Rattle.tp_store.proofs.States.{no_clash_arises}
 use Rattle.tp_eval.specs.Outcome as found
-use Rattle.tp_kernel.specs.declared.formula.FaultKind.{FaultKind}
-use Rattle.tp_kernel.specs.declared.formula.LimitKind.{LimitKind}
-use Rattle.tp_kernel.specs.declared.formula.LimitKind.TheVariants as limit
+use Rattle.tp_kernel.specs.declared.fault.FaultKind.{FaultKind}
+use Rattle.tp_kernel.specs.declared.fault.LimitKind.{LimitKind}
+use Rattle.tp_kernel.specs.declared.fault.LimitKind.TheVariants as limit
 use Rattle.tp_scene.specs.declared.answer.Clash.TheVariants.{False}
 use Rattle.tp_scene.specs.Step.{PickOutcome, reduces, waits, rests, clashes, misses, passes, vanishes, knows, added, Target, value_at, length_at, set, SideOf, meets, both_wait, equate}
 use Rattle.tp_step_laws.specs.Outcomes.{KnowsMore, RefusesFacts, AddsAlike, StaysKnown, GrownOutcome}

@@ -6,9 +6,9 @@ use Rattle.tp_value.specs.Limits.{length_limit, IsWithinListLimit}
 use Rattle.tp_value.specs.declared.path.Path.{Path}
 use Rattle.tp_value.specs.declared.path.Fact.{Fact}
 use Rattle.tp_value.specs.declared.value.Shape.TheVariants.{Items}
-use Rattle.tp_kernel.specs.declared.formula.FaultKind.{FaultKind}
-use Rattle.tp_kernel.specs.declared.formula.LimitKind.{LimitKind}
-use Rattle.tp_kernel.specs.declared.formula.LimitKind.TheVariants as limit
+use Rattle.tp_kernel.specs.declared.fault.FaultKind.{FaultKind}
+use Rattle.tp_kernel.specs.declared.fault.LimitKind.{LimitKind}
+use Rattle.tp_kernel.specs.declared.fault.LimitKind.TheVariants as limit
 use Rattle.tp_store.specs.Facts.{clash, fact, facts_at}
 use Rattle.tp_store.specs.Known.{NoClash, Addition, adds, refuses, new_facts, addition}
 use Rattle.tp_store.proofs.Members.{In, apart_in}

@@ -6,7 +6,8 @@ use Rattle.tp_store.specs.Known.{Variable}
 use Rattle.tp_scene.specs.Scene.{Bindings, Leaf, Do, Later, Shown, Split, SplitProject, Closed, Opened, Running, Entries, none, leaf, node, Scene}
 use Rattle.tp_scene.specs.Step.{Reduction, reduces}
 use Rattle.tp_scene.specs.Pick.{Setting, Moment, scene_after, with_local}
-use Rattle.tp_step_laws.specs.Renaming.{Permutation, Renaming, FixesFrom, FixesBelow, renamed_path, renamed_binding, renamed_bindings, renamed_leaf, renamed_head, renamed_entries, renamed_region}
+use Rattle.tp_step_laws.specs.Renaming.{FixesFrom, renamed_binding, renamed_bindings, renamed_leaf, renamed_head, renamed_entries, renamed_region}
+use Rattle.tp_step_laws.specs.Maps.{Permutation, Renaming, FixesBelow, renamed_path}
 use Rattle.tp_step_laws.specs.Alike.{Alike}
 use Rattle.tp_step_laws.specs.Orders.{StepsTo, AlikeIsEquivalence}
 use Rattle.tp_step_laws.proofs.Again.{no_renaming, same_entries}

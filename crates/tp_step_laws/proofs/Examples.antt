@@ -6,7 +6,7 @@ use Rattle.tp_value.specs.declared.path.Fact.{Fact}
 use Rattle.tp_eval.specs.Outcome.{outcome, place_outcome}
 use Rattle.tp_store.specs.Facts.{fact}
 use Rattle.tp_scene.specs.Scene.{none}
-use Rattle.tp_kernel.specs.declared.formula.LimitKind.TheVariants as limit
+use Rattle.tp_kernel.specs.declared.fault.LimitKind.TheVariants as limit
 use Rattle.tp_scene.specs.Step.{Reduction, reduces, passes}
 use Rattle.tp_scene.specs.Pick.{Moment, Reduces, outcome_of, scene_after}
 use Rattle.tp_scene.specs.Laws.{IsSound}

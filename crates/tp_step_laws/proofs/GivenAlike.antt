@@ -4,7 +4,8 @@ use Rattle.tp_scene.specs.Scene.{Region, has, Place, root_place}
 use Rattle.tp_scene.specs.Step.{Numbers}
 use Rattle.tp_scene.specs.Pick.{Setting, Moment, pick, numbers_of, outcome_of}
 use Rattle.tp_scene.specs.Laws.{IsSound}
-use Rattle.tp_step_laws.specs.Renaming.{Renaming, renamed_entries, renamed_region, renamed_place, Renamed}
+use Rattle.tp_step_laws.specs.Renaming.{renamed_entries, renamed_region, renamed_place, Renamed}
+use Rattle.tp_step_laws.specs.Maps.{Renaming}
 use Rattle.tp_step_laws.specs.Alike.{AlikeBy}
 use Rattle.tp_step_laws.proofs.RenamePick.{marked_to, has_to, risen_to, pick_to}
 

@@ -4,7 +4,7 @@ use Rattle.tp_value.specs.Tree.{Tree, num, same_tree}
 use Rattle.tp_value.specs.Limits.{length_limit, IsWithinListLimit}
 use Rattle.tp_value.specs.declared.value.Shape.TheVariants.{Items}
 use Rattle.tp_value.specs.declared.path.Fact.{Fact}
-use Rattle.tp_kernel.specs.declared.formula.LimitKind.TheVariants as limit
+use Rattle.tp_kernel.specs.declared.fault.LimitKind.TheVariants as limit
 use Rattle.tp_meaning.specs.Syntax.{ExprTree, equation}
 use Rattle.tp_meaning.specs.Inputs.{input_at}
 use Rattle.tp_store.specs.Facts.{fact, facts_at}

@@ -17,7 +17,7 @@ use Rattle.tp_store.proofs.Members.{In, in_left, in_right, in_append, kept_in, i
 use Rattle.tp_store.proofs.Adding.{AddsAll, adds_all, given_in, news_given}
 use Rattle.tp_store.proofs.First.{FirstOf, first_is}
 use Rattle.tp_store.proofs.States.{no_clash_arises}
-use Rattle.tp_kernel.specs.declared.formula.LimitKind.TheVariants as limit
+use Rattle.tp_kernel.specs.declared.fault.LimitKind.TheVariants as limit
 use Rattle.tp_scene.specs.Step.{PickOutcome, reduces, passes, knows, added, Target, value_at, length_at, set}
 use Rattle.tp_step_laws.specs.Outcomes.{KnowsMore}
 use Rattle.tp_step_laws.specs.Within.{LengthsAreWithin}

@@ -9,7 +9,8 @@ use Rattle.tp_scene.proofs.Grown.{not_both}
 use Rattle.tp_scene.proofs.Keep.{live_fits}
 use Rattle.tp_step_laws.specs.Edits.{Edit, is_side, marks, head_after, edited, single, Thing, At, this_leaf, past_leaf, this_node, in_first, in_second, past_node, Carry, New}
 use Rattle.tp_step_laws.specs.Rows.{Grows}
-use Rattle.tp_step_laws.specs.Renaming.{Renaming, renamed_entries, renamed_place}
+use Rattle.tp_step_laws.specs.Renaming.{renamed_entries, renamed_place}
+use Rattle.tp_step_laws.specs.Maps.{Renaming}
 use Rattle.tp_step_laws.proofs.Stay.{head_grows, status_up, held_grows, second_grows}
 use Rattle.tp_step_laws.proofs.RenamePick.{lives_to, held_to, second_place_to}
 

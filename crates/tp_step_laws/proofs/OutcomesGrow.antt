@@ -4,7 +4,7 @@ use Rattle.tp_value.specs.Tree.{Tree}
 use Rattle.tp_value.specs.declared.value.Shape.{Shape}
 use Rattle.tp_value.specs.declared.path.Fact.{Fact}
 use Rattle.tp_value.specs.Shape.{item_at}
-use Rattle.tp_kernel.specs.declared.formula.FaultKind.TheVariants.{NoElement}
+use Rattle.tp_kernel.specs.declared.fault.FaultKind.TheVariants.{NoElement}
 use Rattle.tp_meaning.specs.Syntax.{Operator, ExprTree, ExprTrees, boolean, bound, global, listing, size, index, minus, negation, both, either, binary, choice, invoke, no_expr, expr_then, Definition, BindingTree}
 use Rattle.tp_meaning.specs.Value.{is_upper}
 use Rattle.tp_store.specs.Facts.{kept_shape, is_excluded}

@@ -7,7 +7,7 @@ use Rattle.tp_value.specs.declared.value.Shape.TheVariants.{Num, Truth, Items}
 use Rattle.tp_value.specs.declared.path.Path.{Path}
 use Rattle.tp_value.specs.declared.path.Fact.{Fact}
 use Rattle.tp_value.specs.Shape.{item_at}
-use Rattle.tp_kernel.specs.declared.formula.FaultKind.TheVariants.{NoElement}
+use Rattle.tp_kernel.specs.declared.fault.FaultKind.TheVariants.{NoElement}
 use Rattle.tp_meaning.specs.Syntax.{ExprTree, Definition, BindingTree}
 use Rattle.tp_store.specs.Facts.{same_variable, leaves_out, kept_shape, is_excluded, item_path}
 use Rattle.tp_store.specs.Known.{NoClash, is_none, Whole, known, open_at, WholeItems, all_known, item_open_at, and_items, list_of_items, items_known, with_shape, whole, deepest, Full, absent, undecided, too_long, value, limited, full}

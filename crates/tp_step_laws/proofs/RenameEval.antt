@@ -10,8 +10,8 @@ use Rattle.tp_value.specs.declared.path.Fact.{Fact}
 use Rattle.tp_value.specs.Number.{is_within_limit, floor_div, floor_mod}
 use Rattle.tp_value.specs.Limits.{path_limit, index_limit, is_within_list_limit}
 use Rattle.tp_value.specs.Shape.{item_at}
-use Rattle.tp_kernel.specs.declared.formula.LimitKind.TheVariants as limit
-use Rattle.tp_kernel.specs.declared.formula.FaultKind.TheVariants.{NoElement}
+use Rattle.tp_kernel.specs.declared.fault.LimitKind.TheVariants as limit
+use Rattle.tp_kernel.specs.declared.fault.FaultKind.TheVariants.{NoElement}
 use Rattle.tp_meaning.specs.Syntax.{Operator, Equal, Differs, Plus, Minus, Times, Div, Mod, ExprTree, ExprTrees, numeral, boolean, known, bound, global, listing, size, index, minus, negation, both, either, binary, choice, invoke, no_expr, expr_then, Definition, BindingTree, place_binding}
 use Rattle.tp_meaning.specs.Value.{is_upper}
 use Rattle.tp_meaning.specs.Fits.{ExprFits, ExprsFit, DefinitionsFit}
@@ -23,7 +23,8 @@ use Rattle.tp_eval.specs.Evaluate as ev
 use Rattle.tp_eval.specs.Evaluate.{PlaceFound, at_path, inside, is_place, element_in, of_full, length_in, length_of, bind_place, count_call, call_limit, truth_in, evaluate, find_place, depth_limit}
 use Rattle.tp_eval.specs.Outcome as found
 use Rattle.tp_eval.specs.Outcome.{outcome, place_outcome, outcome_reached, place_reached, PlaceOutcome}
-use Rattle.tp_step_laws.specs.Renaming.{Renaming, FixesBelow, renamed_path, renamed_binding, renamed_bindings, renamed_found, renamed_place_found, FactsAlike, OutcomesRename}
+use Rattle.tp_step_laws.specs.Renaming.{renamed_binding, renamed_bindings, renamed_found, renamed_place_found, FactsAlike, OutcomesRename}
+use Rattle.tp_step_laws.specs.Maps.{Renaming, FixesBelow, renamed_path}
 use Rattle.tp_step_laws.proofs.RenameFacts.{full_to, fulls_alike, excluded_alike}
 
 module _ (ρ : Renaming) where

@@ -12,7 +12,8 @@ use Rattle.tp_store.specs.Changes.{HaveSameShapes}
 use Rattle.tp_store.specs.Facts.{same_variable, same_indices, same_path, same_shape, leaves_out, excludes, clash, kept_shape, is_excluded, item_path, fact, facts_at, facts_of_items}
 use Rattle.tp_store.specs.Known.{NoClash, clashes_with_some, is_none, is_earlier, earlier_of, first_clash, Addition, adds, refuses, refused_or, checked, new_facts, addition, Whole, known, open_at, WholeItems, all_known, item_open_at, and_items, list_of_items, items_known, with_shape, whole, deepest, Full, absent, undecided, too_long, value, limited, full}
 use Rattle.tp_store.proofs.States.{same_shapes_same_store}
-use Rattle.tp_step_laws.specs.Renaming.{Permutation, Renaming, renamed_variable, renamed_path, renamed_fact, renamed_facts, FactsAlike}
+use Rattle.tp_step_laws.specs.Renaming.{renamed_fact, renamed_facts, FactsAlike}
+use Rattle.tp_step_laws.specs.Maps.{Permutation, Renaming, renamed_variable, renamed_path}
 
 pub eqb_to : (π : Permutation) (a b : ℕ) → eqb (π.to a) (π.to b) ≡ eqb a b
 eqb_to π a b = elim (cases_Bool (eqb a b)) [

@@ -9,7 +9,8 @@ use Rattle.tp_scene.specs.Step.{PickOutcome, Numbers, leaf_step, holder_step}
 use Rattle.tp_scene.specs.Pick.{Setting, pick}
 use Rattle.tp_scene.specs.Fits.{LeafFits, EntriesFit}
 use Rattle.tp_scene.proofs.Keep.{live_fits}
-use Rattle.tp_step_laws.specs.Renaming.{Renaming, FixesBelow, renamed_leaf, renamed_holder, renamed_head, renamed_second, renamed_entries, renamed_place, FactsAlike, Renamed, PicksRename}
+use Rattle.tp_step_laws.specs.Renaming.{renamed_leaf, renamed_holder, renamed_head, renamed_second, renamed_entries, renamed_place, FactsAlike, Renamed, PicksRename}
+use Rattle.tp_step_laws.specs.Maps.{Renaming, FixesBelow}
 use Rattle.tp_step_laws.proofs.RenameFacts.{eqb_to}
 use Rattle.tp_step_laws.proofs.RenameRows.{formula_row, holder_row}
 

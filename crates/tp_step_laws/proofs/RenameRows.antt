@@ -7,7 +7,7 @@ use Rattle.tp_value.specs.declared.value.Shape.TheVariants.{Items}
 use Rattle.tp_value.specs.declared.path.Path.{Path}
 use Rattle.tp_value.specs.declared.path.Fact.{Fact}
 use Rattle.tp_meaning.specs.Syntax.{ExprTree, ExprTrees, no_expr, expr_then, numeral, known, bound, global, size, index, FormulaTree, FormulaTrees, no_formula, formula_then, trivial, test, equation, next_equation, empty, more, next, weak_next, if_more, if_empty, always, conjunction, branch, len, assign, chop, while, for_from, forall_from, project, exists, call, input, display, formulas_of, Definition, BindingTree, place_binding, known_binding}
-use Rattle.tp_meaning.specs.Unfolding.{nexts}
+use Rattle.tp_meaning.specs.Nexts.{nexts}
 use Rattle.tp_meaning.specs.Value.{is_upper}
 use Rattle.tp_meaning.specs.Inputs.{input_at}
 use Rattle.tp_meaning.specs.Fits.{ExprFits, ExprsFit, FormulaFits, DefinitionsFit}
@@ -19,7 +19,8 @@ use Rattle.tp_eval.specs.Outcome.{outcome, place_outcome, PlaceOutcome}
 use Rattle.tp_scene.specs.Scene.{Bindings, Side, Ending, Going, Head, Leaf, Do, Later, Shown, Holder, Split, SplitProject, Closed, Opened, Running, Entries, none, leaf, node, new_head, no_region, Place}
 use Rattle.tp_scene.specs.Step.{PickOutcome, reduces, becomes, added, Numbers, region_limit, marking, with_region, by_status, with_value, with_truth, with_number, Target, value_at, length_at, target_at, target_if, target_of, set, SideOf, meets, both_wait, equate, side_of, side_with, all_do, count_of, with_values, with_place, with_argument, with_arguments, called, length_left, from_port, formula_step, holder_step}
 use Rattle.tp_scene.specs.Pick.{Setting}
-use Rattle.tp_step_laws.specs.Renaming.{Renaming, FixesBelow, renamed_path, renamed_facts, renamed_binding, renamed_bindings, renamed_leaf, renamed_holder, renamed_head, renamed_entries, renamed_place, renamed_found, renamed_place_found, FactsAlike, Renamed}
+use Rattle.tp_step_laws.specs.Renaming.{renamed_facts, renamed_binding, renamed_bindings, renamed_leaf, renamed_holder, renamed_head, renamed_entries, renamed_place, renamed_found, renamed_place_found, FactsAlike, Renamed}
+use Rattle.tp_step_laws.specs.Maps.{Renaming, FixesBelow, renamed_path}
 use Rattle.tp_step_laws.proofs.RenameFacts.{addition_to, facts_at_to, additions_alike}
 use Rattle.tp_step_laws.proofs.RenameEval.{outcomes_rename}
 

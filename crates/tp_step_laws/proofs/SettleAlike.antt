@@ -17,7 +17,8 @@ use Rattle.tp_scene.specs.Pick.{Setting, Moment, outcome_of, numbers_of}
 use Rattle.tp_scene.specs.Rest.{holds_back, unsettled_items, Settled, waiting, end_open, ends, goes, settled_by, settled, IsOpenCell}
 use Rattle.tp_scene.specs.Advance.{shown_in}
 use Rattle.tp_scene.specs.Laws.{IsSound}
-use Rattle.tp_step_laws.specs.Renaming.{Renaming, renamed_path, renamed_holder, renamed_head, renamed_second, renamed_entries, renamed_region, renamed_place, renamed_cell, renamed_if, Renamed}
+use Rattle.tp_step_laws.specs.Renaming.{renamed_holder, renamed_head, renamed_second, renamed_entries, renamed_region, renamed_place, renamed_if, Renamed}
+use Rattle.tp_step_laws.specs.Maps.{Renaming, renamed_path, renamed_cell}
 use Rattle.tp_step_laws.specs.Alike.{AlikeBy, AlikeMomentsSettle}
 use Rattle.tp_step_laws.proofs.RenamePick.{held_to, second_place_to}
 use Rattle.tp_step_laws.proofs.GivenAlike.{root_to, given_alike}

@@ -9,7 +9,8 @@ use Rattle.tp_scene.specs.Fits.{AreNumbers, item_numbers, region_numbers, second
 use Rattle.tp_scene.proofs.Below.{BindingBelow, AllBelow, LeafBelow, HolderBelow, IfSecond, Below}
 use Rattle.tp_step_laws.specs.Edits.{Edit, Edits, is_side, sets, marks, head_after, edited, single, Thing, of_leaf, of_holder, occurs, At, this_leaf, past_leaf, this_node, in_first, in_second, past_node}
 use Rattle.tp_step_laws.specs.Within.{SecondIsOwn, EntriesWithin}
-use Rattle.tp_step_laws.specs.Renaming.{Permutation, Renaming, FixesBelow, renamed_variable, renamed_binding, renamed_bindings, renamed_leaf, renamed_holder, renamed_head, renamed_second, renamed_entries}
+use Rattle.tp_step_laws.specs.Renaming.{renamed_binding, renamed_bindings, renamed_leaf, renamed_holder, renamed_head, renamed_second, renamed_entries}
+use Rattle.tp_step_laws.specs.Maps.{Permutation, Renaming, FixesBelow, renamed_variable}
 use Rattle.tp_step_laws.proofs.Stay.{absent}
 use Rattle.tp_step_laws.proofs.RenameFacts.{eqb_to}
 use Rattle.tp_step_laws.proofs.Where.{apart_parts}

@@ -5,9 +5,10 @@ use Rattle.tp_store.specs.Changes.{HaveSameShapes}
 use Rattle.tp_scene.specs.declared.answer.Cell.{Cell}
 use Rattle.tp_scene.specs.Pick.{Setting, Moment}
 use Rattle.tp_scene.specs.Rest.{ends, goes, settled, IsOpenCell}
-use Rattle.tp_scene.specs.Advance.{advanced, shown_in}
-use Rattle.tp_scene.specs.Laws.{IsSound, StoreGoesOn}
-use Rattle.tp_step_laws.specs.Renaming.{Renaming, FactsAlike, renamed_region, FixesFrom, FixesBelow, renamed_cell}
+use Rattle.tp_scene.specs.Advance.{advanced, shown_in, StoreGoesOn}
+use Rattle.tp_scene.specs.Laws.{IsSound}
+use Rattle.tp_step_laws.specs.Renaming.{FactsAlike, renamed_region, FixesFrom}
+use Rattle.tp_step_laws.specs.Maps.{Renaming, FixesBelow, renamed_cell}
 
 -- The renaming carries the one moment into the other. It leaves the numbers alone that the next
 -- step takes, and the globals.

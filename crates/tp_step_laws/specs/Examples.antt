@@ -3,7 +3,7 @@
 use Rattle.std.specs.Prelude.{◌≡◌, pos, Bool, false, List, [], ◌∷◌}
 use Rattle.tp_value.specs.declared.value.Shape.TheVariants.{Items}
 use Rattle.tp_value.specs.declared.path.VarId.{VarId}
-use Rattle.tp_kernel.specs.declared.formula.LimitKind.TheVariants as limit
+use Rattle.tp_kernel.specs.declared.fault.LimitKind.TheVariants as limit
 use Rattle.tp_meaning.specs.Syntax.{equation, global, numeral, size}
 use Rattle.tp_store.specs.Facts.{fact}
 use Rattle.tp_store.specs.Known.{Contents}

@@ -2,6 +2,7 @@ pub mod Outcomes
 pub mod Within
 pub mod Rows
 pub mod WaitingRows
+pub mod Maps
 pub mod Renaming
 pub mod Alike
 pub mod OneRest

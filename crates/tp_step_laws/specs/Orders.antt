@@ -7,13 +7,13 @@ use Rattle.tp_scene.specs.Scene.{has}
 use Rattle.tp_scene.specs.Step.{Reduction}
 use Rattle.tp_scene.specs.Pick.{Setting, Moment, Reduces, Leads, outcome_of}
 use Rattle.tp_scene.specs.Rest.{AtRest, goes, settled}
-use Rattle.tp_scene.specs.Advance.{advanced}
-use Rattle.tp_scene.specs.StandsFor.{first_moment}
-use Rattle.tp_scene.specs.Laws.{IsSound, StoreGoesOn}
+use Rattle.tp_scene.specs.Advance.{advanced, StoreGoesOn}
+use Rattle.tp_scene.specs.Beginning.{first_moment}
+use Rattle.tp_scene.specs.Laws.{IsSound}
 use Rattle.tp_step_laws.specs.Rows.{IsFailure}
 use Rattle.tp_inputs.specs.Within.{InputsWithin}
 use Rattle.tp_step_laws.specs.Within.{LengthsAreWithin, EntriesWithin}
-use Rattle.tp_step_laws.specs.Renaming.{Renaming}
+use Rattle.tp_step_laws.specs.Maps.{Renaming}
 use Rattle.tp_step_laws.specs.Alike.{AlikeBy, Alike}
 
 -- What a run has between its steps: a sound moment in which kept lengths, bound values and inputs

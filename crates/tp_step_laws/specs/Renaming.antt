@@ -10,52 +10,29 @@ use Rattle.tp_eval.specs.Outcome.{outcome, place_outcome, PlaceOutcome}
 use Rattle.tp_scene.specs.Scene.{Bindings, Head, Leaf, Do, Later, Shown, Holder, Split, SplitProject, Closed, Opened, Running, Entries, none, leaf, node, Place, Region}
 use Rattle.tp_scene.specs.Step.{Reduction, PickOutcome, reduces, waits, rests, clashes, misses, passes, Numbers}
 use Rattle.tp_scene.specs.Pick.{Setting, pick}
-use Rattle.tp_value.specs.declared.path.VarId.{VarId}
 use Rattle.tp_meaning.specs.Fits.{ExprFits, DefinitionsFit}
 use Rattle.tp_scene.specs.declared.answer.Cell.{Cell}
-use Rattle.tp_scene.specs.declared.answer.Cell.TheVariants.{Part, End}
 use Rattle.tp_scene.specs.declared.answer.Clash.{Clash}
 use Rattle.tp_scene.specs.declared.answer.Clash.TheVariants.{Facts, Marks, False, NoValue}
 use Rattle.tp_scene.specs.Fits.{EntriesFit}
 use Rattle.tp_eval.specs.Outcome as found
+use Rattle.tp_step_laws.specs.Maps.{Permutation, Renaming, FixesBelow, renamed_path, renamed_cell}
 
--- a one-to-one map of the numbers
-pub record Permutation : Type 0 where
-  pub to : ℕ → ℕ
-  pub back : ℕ → ℕ
-  pub undone : (n : ℕ) → back (to n) ≡ n
-  pub redone : (n : ℕ) → to (back n) ≡ n
-
--- one for the numbers of items, of regions and of variables each
-pub record Renaming : Type 0 where
-  pub item : Permutation
-  pub region : Permutation
-  pub local : Permutation
-
--- each number from this one on, or below it, is its own
+-- each number from this one on is its own
 abbrev pub FixesFrom : ℕ → Permutation → Type 0
 FixesFrom n π = (i : ℕ) → n ≤ i → π.to i ≡ i
-
-abbrev pub FixesBelow : ℕ → Permutation → Type 0
-FixesBelow n π = (i : ℕ) → i < n → π.to i ≡ i
 
 -- Each number in a variable, a path, a fact, an item, a region, a place or an outcome is replaced
 -- by the one that it is mapped to.
 module _ (ρ : Renaming) where
-  abbrev pub renamed_variable : VarId → VarId
-  renamed_variable x = record { number = ρ.local.to x.number; lasting = x.lasting }
-
-  abbrev pub renamed_path : Path → Path
-  renamed_path p = record { var = renamed_variable p.var; at = p.at }
-
   abbrev pub renamed_fact : Fact → Fact
-  renamed_fact f = record { path = renamed_path f.path; shape = f.shape }
+  renamed_fact f = record { path = renamed_path ρ f.path; shape = f.shape }
 
   abbrev pub renamed_facts : List Fact → List Fact
   renamed_facts fs = map renamed_fact fs
 
   abbrev pub renamed_binding : BindingTree → BindingTree
-  renamed_binding (place_binding p) = place_binding (renamed_path p)
+  renamed_binding (place_binding p) = place_binding (renamed_path ρ p)
   renamed_binding (known_binding t) = known_binding t
 
   abbrev pub renamed_bindings : Bindings → Bindings
@@ -104,13 +81,9 @@ module _ (ρ : Renaming) where
     local = ρ.local.to n.local;
   }
 
-  abbrev pub renamed_cell : Cell → Cell
-  renamed_cell (Part p) = Part (renamed_path p)
-  renamed_cell (End r d) = End (ρ.region.to r) d
-
   abbrev pub renamed_if : Option Cell → Option Cell
   renamed_if None = None
-  renamed_if (Some c) = Some (renamed_cell c)
+  renamed_if (Some c) = Some (renamed_cell ρ c)
 
   abbrev pub renamed_clash : Clash → Clash
   renamed_clash (Facts kept new) = Facts (renamed_fact kept) (renamed_fact new)
@@ -123,7 +96,7 @@ module _ (ρ : Renaming) where
 
   abbrev pub renamed_outcome : PickOutcome → PickOutcome
   renamed_outcome (reduces r) = reduces (renamed_reduction r)
-  renamed_outcome (waits first other) = waits (renamed_cell first) (renamed_if other)
+  renamed_outcome (waits first other) = waits (renamed_cell ρ first) (renamed_if other)
   renamed_outcome rests = rests
   renamed_outcome (clashes c) = clashes (renamed_clash c)
   renamed_outcome (misses port) = misses port
@@ -131,12 +104,12 @@ module _ (ρ : Renaming) where
 
   abbrev pub renamed_found : found.Outcome → found.Outcome
   renamed_found (found.value t) = found.value t
-  renamed_found (found.wait p) = found.wait (renamed_path p)
+  renamed_found (found.wait p) = found.wait (renamed_path ρ p)
   renamed_found (found.fault k) = found.fault k
   renamed_found (found.over k) = found.over k
 
   abbrev pub renamed_place_found : PlaceOutcome → PlaceOutcome
-  renamed_place_found (found.path p) = found.path (renamed_path p)
+  renamed_place_found (found.path p) = found.path (renamed_path ρ p)
   renamed_place_found (found.other o) = found.other (renamed_found o)
 
 -- The facts are the same, of the renamed paths.

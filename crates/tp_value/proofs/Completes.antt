@@ -4,9 +4,9 @@ use Rattle.std.specs.Prelude.{codes}
 use Rattle.std.specs.Char.{is_ascii_digit}
 use Rattle.std.proofs.lemmas.Bool.{cases_lt}
 use Rattle.std.proofs.lemmas.Bool.Decides.{nat_tests}
-use Rattle.tp_value.specs.declared.scan.Last.{Last}
-use Rattle.tp_value.specs.declared.scan.Last.TheVariants.{Bracket, Item, Comma}
-use Rattle.tp_value.specs.declared.scan.Phase.TheVariants.{Start, Between}
+use Rattle.tp_value.specs.declared.phase.Last.{Last}
+use Rattle.tp_value.specs.declared.phase.Last.TheVariants.{Bracket, Item, Comma}
+use Rattle.tp_value.specs.declared.phase.Phase.TheVariants.{Start, Between}
 use Rattle.tp_value.specs.declared.reading.ReadValue.TheVariants.{TooLong, TooDeep}
 use Rattle.tp_value.specs.Number.{number_limit}
 use Rattle.tp_value.specs.Tree.{Tree, num, truth, list, of_items}

@@ -4,8 +4,8 @@ use Rattle.std.specs.Char.{is_ascii_digit}
 use Rattle.std.proofs.lemmas.Int.{ints}
 use Rattle.std.proofs.lemmas.Bool.{cases_lt}
 use Rattle.std.proofs.lemmas.Bool.Decides.{nat_tests}
-use Rattle.tp_value.specs.declared.scan.Phase.TheVariants.{Digits}
-use Rattle.tp_value.specs.declared.scan.Move.TheVariants.{Go}
+use Rattle.tp_value.specs.declared.phase.Phase.TheVariants.{Digits}
+use Rattle.tp_value.specs.declared.phase.Move.TheVariants.{Go}
 use Rattle.tp_value.specs.declared.reading.ReadValue.TheVariants.{NoValue, TooLarge, TooLong, TooDeep, NoMemory}
 use Rattle.tp_value.specs.Number.{number_limit, is_within_limit, within_limit}
 use Rattle.tp_value.specs.Tree.{Tree}

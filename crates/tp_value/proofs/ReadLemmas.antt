@@ -10,10 +10,10 @@ use Rattle.tp_value.specs.declared.value.Value.{Value}
 use Rattle.tp_value.specs.Read.{tree}
 use Rattle.tp_value.specs.Tree.{Tree, num, truth, list}
 use Rattle.tp_value.specs.Limits.{IsWithinLimits}
-use Rattle.tp_value.specs.Spelling.{Spells, digits, minus, decimal_value}
+use Rattle.tp_value.specs.Spelling.{Spells, digits, minus, decimal_value, IsRead}
 use Rattle.tp_value.specs.Written.{text_of}
 use Rattle.tp_value.specs.Reading.{Answer, found, refused, start_state, reading, value_answer}
-use Rattle.tp_value.specs.Answers.{IsRead, IsNoValue, IsReadRefused, EndsNumber, CannotContinue, IsReadBack}
+use Rattle.tp_value.specs.Answers.{IsNoValue, IsReadRefused, EndsNumber, CannotContinue, IsReadBack}
 use Rattle.tp_value.proofs.Digits.{IsOver}
 use Rattle.tp_value.proofs.Completes.{Fits, Goes, value_goes}
 use Rattle.tp_value.proofs.Longest.{ComesTo, reads_on}

@@ -3,11 +3,10 @@ use Rattle.std.proofs.Common.{◌≡◌, ℕ, zero, suc, ◌+◌, ◌-◌, ◌<�
 use Rattle.std.specs.Prelude.{◌==◌, ◌||◌, slice_index, slice_range}
 use Rattle.std.specs.Char.{is_ascii_digit}
 use Rattle.std.proofs.lemmas.List.Sums.{fold-append}
-use Rattle.std.proofs.lemmas.List.{append-nil}
+use Rattle.std.proofs.lemmas.List.{append-nil, drop-drop}
 use Rattle.std.proofs.Math.Seq.{take-append_seam, drop-append_seam}
-use Rattle.std.proofs.lemmas.List.{drop-drop}
-use Rattle.tp_value.specs.declared.scan.Last.TheVariants.{Item}
-use Rattle.tp_value.specs.declared.scan.Phase.TheVariants.{Start, Minus, Digits}
+use Rattle.tp_value.specs.declared.phase.Last.TheVariants.{Item}
+use Rattle.tp_value.specs.declared.phase.Phase.TheVariants.{Start, Minus, Digits}
 use Rattle.tp_value.specs.declared.reading.ReadValue.{ReadValue}
 use Rattle.tp_value.specs.declared.reading.ReadValue.TheVariants.{NoValue, TooLarge, TooLong, TooDeep, NoMemory}
 use Rattle.tp_value.specs.Number.{number_limit}

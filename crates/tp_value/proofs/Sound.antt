@@ -3,9 +3,9 @@ use Rattle.std.proofs.Common.{◌≡◌, ℕ, zero, suc, ◌+◌, ◌<◌, ◌�
 use Rattle.std.specs.Prelude.{◌==◌, slice_index}
 use Rattle.std.specs.Char.{is_ascii_digit}
 use Rattle.std.proofs.lemmas.Bool.Decides.{nat_tests}
-use Rattle.tp_value.specs.declared.scan.Last.TheVariants.{Bracket, Item, Comma}
-use Rattle.tp_value.specs.declared.scan.Phase.{Phase}
-use Rattle.tp_value.specs.declared.scan.Phase.TheVariants.{Start, Between, Minus, Digits, Word as InWord}
+use Rattle.tp_value.specs.declared.phase.Last.TheVariants.{Bracket, Item, Comma}
+use Rattle.tp_value.specs.declared.phase.Phase.{Phase}
+use Rattle.tp_value.specs.declared.phase.Phase.TheVariants.{Start, Between, Minus, Digits, Word as InWord}
 use Rattle.tp_value.specs.declared.reading.ReadValue.{ReadValue}
 use Rattle.tp_value.specs.declared.reading.ReadValue.TheVariants.{NoValue, TooLarge, TooLong, TooDeep, NoMemory}
 use Rattle.tp_value.specs.Number.{IsNumber}

@@ -2,9 +2,9 @@
 use Rattle.std.proofs.Common.{◌≡◌, ℕ, ◌+◌, ◌<◌, ◌≤◌, pos, neg_ℤ, Bool, true, false, List, [], ◌∷◌, ◌++◌, length, take, drop, refl, sym, ap, ◌∙◌, subst, arith, append_assoc}
 use Rattle.std.specs.Prelude.{codes}
 use Rattle.std.proofs.lemmas.List.{append-nil, take-append-drop}
-use Rattle.tp_value.specs.declared.scan.Last.{Last}
-use Rattle.tp_value.specs.declared.scan.Last.TheVariants.{Bracket, Item, Comma}
-use Rattle.tp_value.specs.declared.scan.Phase.TheVariants.{Minus, Word as InWord}
+use Rattle.tp_value.specs.declared.phase.Last.{Last}
+use Rattle.tp_value.specs.declared.phase.Last.TheVariants.{Bracket, Item, Comma}
+use Rattle.tp_value.specs.declared.phase.Phase.TheVariants.{Minus, Word as InWord}
 use Rattle.tp_value.specs.Number.{number_limit}
 use Rattle.tp_value.specs.Tree.{Tree, num, truth, list, of_items}
 use Rattle.tp_value.specs.Limits.{value_depth_limit, depth_of, HasNumbers}

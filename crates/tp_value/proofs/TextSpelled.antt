@@ -6,7 +6,7 @@ use Rattle.std.specs.Char.{is_ascii_digit}
 use Rattle.std.proofs.lemmas.Bool.Decides.{nat_tests}
 use Rattle.std.proofs.lemmas.Fmt.{decimal_by_steps}
 use Rattle.std.proofs.lemmas.List.{append-nil}
-use Rattle.tp_value.specs.declared.scan.Last.TheVariants.{Bracket, Item, Comma}
+use Rattle.tp_value.specs.declared.phase.Last.TheVariants.{Bracket, Item, Comma}
 use Rattle.tp_value.specs.Number.{IsNumber}
 use Rattle.tp_value.specs.Tree.{Tree, Trees, num, truth, list, nil, cons, items_of, of_items}
 use Rattle.tp_value.specs.Limits.{HasNumbers, HaveNumbers}

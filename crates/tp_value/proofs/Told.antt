@@ -4,11 +4,11 @@ use Rattle.std.specs.Prelude.{codes, ◌==◌, nat_lt}
 use Rattle.std.specs.Char.{is_ascii_digit}
 use Rattle.std.proofs.lemmas.Bool.{eqb-true}
 use Rattle.std.proofs.lemmas.Bool.Decides.{nat_tests}
-use Rattle.tp_value.specs.declared.scan.Last.TheVariants.{Bracket}
-use Rattle.tp_value.specs.declared.scan.Phase.{Phase}
-use Rattle.tp_value.specs.declared.scan.Phase.TheVariants.{Minus, Digits, Word as InWord}
-use Rattle.tp_value.specs.declared.scan.Move.{Move}
-use Rattle.tp_value.specs.declared.scan.Move.TheVariants.{Go, Open}
+use Rattle.tp_value.specs.declared.phase.Last.TheVariants.{Bracket}
+use Rattle.tp_value.specs.declared.phase.Phase.{Phase}
+use Rattle.tp_value.specs.declared.phase.Phase.TheVariants.{Minus, Digits, Word as InWord}
+use Rattle.tp_value.specs.declared.phase.Move.{Move}
+use Rattle.tp_value.specs.declared.phase.Move.TheVariants.{Go, Open}
 use Rattle.tp_value.specs.declared.reading.ReadValue.{ReadValue}
 use Rattle.tp_value.specs.declared.reading.ReadValue.TheVariants.{NoValue, TooDeep}
 use Rattle.tp_value.specs.Number.{number_limit}

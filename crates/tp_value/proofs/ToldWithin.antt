@@ -7,12 +7,12 @@ use Rattle.std.proofs.lemmas.Bool.Decides.{nat_tests}
 use Rattle.std.proofs.lemmas.List.Sums.{fold-append}
 use Rattle.std.proofs.lemmas.List.{append-nil}
 use Rattle.std.proofs.Math.Seq.{take-length}
-use Rattle.tp_value.specs.declared.scan.Last.{Last}
-use Rattle.tp_value.specs.declared.scan.Last.TheVariants.{Bracket, Item, Comma}
-use Rattle.tp_value.specs.declared.scan.Phase.{Phase}
-use Rattle.tp_value.specs.declared.scan.Phase.TheVariants.{Between, Word as InWord}
-use Rattle.tp_value.specs.declared.scan.Move.{Move}
-use Rattle.tp_value.specs.declared.scan.Move.TheVariants.{Go, Close, Word}
+use Rattle.tp_value.specs.declared.phase.Last.{Last}
+use Rattle.tp_value.specs.declared.phase.Last.TheVariants.{Bracket, Item, Comma}
+use Rattle.tp_value.specs.declared.phase.Phase.{Phase}
+use Rattle.tp_value.specs.declared.phase.Phase.TheVariants.{Between, Word as InWord}
+use Rattle.tp_value.specs.declared.phase.Move.{Move}
+use Rattle.tp_value.specs.declared.phase.Move.TheVariants.{Go, Close, Word}
 use Rattle.tp_value.specs.declared.reading.ReadValue.{ReadValue}
 use Rattle.tp_value.specs.declared.reading.ReadValue.TheVariants.{NoValue}
 use Rattle.tp_value.specs.Number.{number_limit, within_limit}

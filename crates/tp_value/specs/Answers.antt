@@ -7,7 +7,7 @@ use Rattle.tp_value.specs.declared.value.Value.{Value}
 use Rattle.tp_value.specs.Number.{IsNumber}
 use Rattle.tp_value.specs.Read.{tree}
 use Rattle.tp_value.specs.Tree.{Tree, num, truth, list}
-use Rattle.tp_value.specs.Limits.{item_limit, value_depth_limit, depth_of, HasNumbers, IsWithinLimits}
+use Rattle.tp_value.specs.Limits.{item_limit, value_depth_limit, depth_of, HasNumbers}
 use Rattle.tp_value.specs.Spelling.{is_value_blank, Spells}
 use Rattle.tp_value.specs.Reading.{begins_value}
 
@@ -48,15 +48,6 @@ pub record IsWithinSoFar (p : List ℕ) : Type 0 where
   pub depth : depth_of value ≤ value_depth_limit
   pub numbers : HasNumbers value
   pub items : (begun_in p).count ≤ item_limit
-
--- the value is spelled by the most bytes that spell one, and it is within the limits
-pub record IsRead (bytes : List ℕ) (from : ℕ) (t : Tree) (after : ℕ) : Type 0 where
-  pub ordered : from ≤ after
-  pub inside : after ≤ length bytes
-  pub spelled : Spells (slice_range bytes from after) t
-  pub longest : (later : ℕ) (u : Tree) → after < later → later ≤ length bytes
-      → ¬ Spells (slice_range bytes from later) u
-  pub limits : IsWithinLimits t
 
 -- no bytes spell a value, and the byte at the place, or the end, is the first at which no value's
 -- text goes on

@@ -3,15 +3,15 @@ use Rattle.std.specs.Prelude.{ℕ, ◌+◌, ◌-◌, ◌==◌, nat_lt, ℤ, pos,
 use Rattle.std.specs.Char.{is_ascii_digit}
 use Rattle.tp_value.specs.declared.reading.ReadValue.{ReadValue}
 use Rattle.tp_value.specs.declared.reading.ReadValue.TheVariants.{NoValue, TooLarge, TooLong, TooDeep}
-use Rattle.tp_value.specs.declared.reading.Reader.{Reader}
-use Rattle.tp_value.specs.declared.reading.Taken.{Taken}
-use Rattle.tp_value.specs.declared.reading.Taken.TheVariants.{More, Done}
-use Rattle.tp_value.specs.declared.scan.Last.{Last}
-use Rattle.tp_value.specs.declared.scan.Last.TheVariants.{Bracket, Item, Comma}
-use Rattle.tp_value.specs.declared.scan.Phase.{Phase}
-use Rattle.tp_value.specs.declared.scan.Phase.TheVariants.{Start, Between, Minus, Digits, Word as InWord}
-use Rattle.tp_value.specs.declared.scan.Move.{Move}
-use Rattle.tp_value.specs.declared.scan.Move.TheVariants.{Go, Open, Close, Word}
+use Rattle.tp_value.specs.declared.reader.Reader.{Reader}
+use Rattle.tp_value.specs.declared.reader.Taken.{Taken}
+use Rattle.tp_value.specs.declared.reader.Taken.TheVariants.{More, Done}
+use Rattle.tp_value.specs.declared.phase.Last.{Last}
+use Rattle.tp_value.specs.declared.phase.Last.TheVariants.{Bracket, Item, Comma}
+use Rattle.tp_value.specs.declared.phase.Phase.{Phase}
+use Rattle.tp_value.specs.declared.phase.Phase.TheVariants.{Start, Between, Minus, Digits, Word as InWord}
+use Rattle.tp_value.specs.declared.phase.Move.{Move}
+use Rattle.tp_value.specs.declared.phase.Move.TheVariants.{Go, Open, Close, Word}
 use Rattle.tp_value.specs.declared.value.Items.{Items}
 use Rattle.tp_value.specs.Number.{within_limit}
 use Rattle.tp_value.specs.Limits.{item_limit, value_depth_limit}

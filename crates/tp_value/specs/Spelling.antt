@@ -1,9 +1,10 @@
 -- Which bytes spell a value.
-use Rattle.std.specs.Prelude.{◌≡◌, ℕ, ◌+◌, ◌-◌, ◌*◌, ◌==◌, pos, neg_ℤ, Bool, true, false, ◌||◌, List, [], ◌∷◌, ◌++◌, codes, fold}
+use Rattle.std.specs.Prelude.{◌≡◌, ℕ, ◌+◌, ◌-◌, ◌*◌, ◌==◌, pos, neg_ℤ, Bool, true, false, ◌||◌, List, [], ◌∷◌, ◌++◌, codes, fold, ◌<◌, ◌≤◌, length, slice_range}
 use Rattle.std.specs.Char.{is_ascii_digit}
-use Rattle.tp_value.specs.declared.scan.Last.{Last}
-use Rattle.tp_value.specs.declared.scan.Last.TheVariants.{Bracket, Item, Comma}
+use Rattle.tp_value.specs.declared.phase.Last.{Last}
+use Rattle.tp_value.specs.declared.phase.Last.TheVariants.{Bracket, Item, Comma}
 use Rattle.tp_value.specs.Tree.{Tree, num, truth, list, of_items}
+use Rattle.tp_value.specs.Limits.{IsWithinLimits}
 
 -- spaces and tabs
 abbrev pub is_value_blank : ℕ → Bool
@@ -66,3 +67,12 @@ mutual
         → Unfinished (s ++ r) (ts ++ t ∷ []) Item
     comma : (s : List ℕ) (ts : List Tree) → Unfinished s ts Item
         → Unfinished (s ++ codes ",") ts Comma
+
+-- the value is spelled by the most bytes that spell one, and it is within the limits
+pub record IsRead (bytes : List ℕ) (from : ℕ) (t : Tree) (after : ℕ) : Type 0 where
+  pub ordered : from ≤ after
+  pub inside : after ≤ length bytes
+  pub spelled : Spells (slice_range bytes from after) t
+  pub longest : (later : ℕ) (u : Tree) → after < later → later ≤ length bytes
+      → ¬ Spells (slice_range bytes from later) u
+  pub limits : IsWithinLimits t

@@ -2,8 +2,8 @@
 use Rattle.std.specs.Prelude.{◌^◌, ℕ, List, Option, None, Some, option_map, nat_lt, if◌then◌else◌, ◌&&◌, codes}
 use Rattle.std.specs.Str.{bytes_eq}
 use Rattle.std.specs.Str.Parse.{digits_value}
-use Rattle.tp_step.specs.declared.answer.Order.{Order}
-use Rattle.tp_step.specs.declared.answer.Order.TheVariants.{First, Last, Seed}
+use Rattle.tp_step.specs.declared.order.Order.{Order}
+use Rattle.tp_step.specs.declared.order.Order.TheVariants.{First, Last, Seed}
 use Rattle.tp_words.specs.Numeral.{is_numeral}
 
 -- how many digits a seed is written with at most; it is below 2 ^ 64

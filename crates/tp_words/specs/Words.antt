@@ -4,8 +4,8 @@ use Rattle.std.specs.Option.{option_and_then}
 use Rattle.std.specs.List.{list_all}
 use Rattle.std.specs.Str.{bytes_eq, is_utf8}
 use Rattle.clap.specs.Words.{Row, Kinds, first_of, fault_of, matches_of}
-use Rattle.tp_step.specs.declared.answer.Order.{Order}
-use Rattle.tp_step.specs.declared.answer.Order.TheVariants.{First}
+use Rattle.tp_step.specs.declared.order.Order.{Order}
+use Rattle.tp_step.specs.declared.order.Order.TheVariants.{First}
 use Rattle.tp_words.specs.App.{the_app}
 use Rattle.tp_words.specs.Beside.{beside_given}
 use Rattle.tp_words.specs.declared.beside.Beside.{Beside}

@@ -7,7 +7,7 @@ use Rattle.tp_kernel.specs.Read.{expr_tree, expr_trees, formula_tree, bindings_o
 use Rattle.tp_kernel.specs.Equations.{formula_next_eq, formula_if, formula_assign, formula_for, formula_forall, formula_call}
 use Rattle.tp_meaning.specs.Syntax.{Definition, FormulaTree, known, equation, always, if_empty}
 use Rattle.tp_meaning.specs.Fits.{AreArguments, FormulaFits}
-use Rattle.tp_meaning.specs.Unfolding.{nexts}
+use Rattle.tp_meaning.specs.Nexts.{nexts}
 use Rattle.tp_inputs.specs.Read.{lines_of}
 use Rattle.tp_eval.specs.Outcome.{outcome}
 use Rattle.tp_scene.specs.Scene as S

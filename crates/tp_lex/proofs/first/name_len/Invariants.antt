@@ -1,6 +1,6 @@
 use Rattle.std.proofs.Common.{◌≡◌, ◌+◌, ◌-◌, ◌≤◌, length, drop}
 use Rattle.std.specs.List.{prefix_len}
-use Rattle.tp_lex.specs.First.{is_name_byte}
+use Rattle.tp_lex.specs.Bytes.{is_name_byte}
 use Rattle.tp_lex.proofs.first.name_len.Given as goal
 
 abbrev pub invariant-loop-end : goal.invariant-loop-end

@@ -1,5 +1,5 @@
 use Rattle.std.proofs.Common.{◌≡◌, take, min}
-use Rattle.tp_lex.specs.First.{spelled_value}
+use Rattle.tp_lex.specs.Bytes.{spelled_value}
 use Rattle.tp_lex.proofs.first.value_of.Given as goal
 
 abbrev pub invariant-loop-digit : goal.invariant-loop-digit

@@ -1,9 +1,9 @@
 use Rattle.std.proofs.Common.{◌≡◌, ℕ, ◌+◌, ◌<◌, ◌≤◌, ◌∙◌, ◌++◌, ◌∷◌, List, [], length, take, drop, arith, rules, subst, sym, ap, length-drop, length-take-le}
 use Rattle.std.proofs.lemmas.List.{take_rest}
 use Rattle.std.proofs.lemmas.Grind.{common_steps}
-use Rattle.tp_lex.specs.declared.first.Piece.TheVariants as v
+use Rattle.tp_lex.specs.declared.piece.Piece.TheVariants as v
 use Rattle.tp_lex.specs.declared.token.Token.{Token}
-use Rattle.tp_lex.specs.declared.place.Place.{Place}
+use Rattle.tp_lex.specs.declared.token.Place.{Place}
 use Rattle.tp_lex.specs.First.{first_piece}
 use Rattle.tp_lex.specs.Pieces.{BeginsPiece}
 use Rattle.tp_lex.specs.Place.{place_of, place_from, token_at}

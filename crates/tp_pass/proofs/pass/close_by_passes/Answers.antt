@@ -1,7 +1,7 @@
 use Rattle.std.proofs.Common.{◌∙◌, refl, subst, Option, None, Some}
 use Rattle.tp_step.specs.Closes.{ClosureAnswers}
-use Rattle.tp_step.specs.declared.answer.Ending.{Ending}
-use Rattle.tp_step.specs.declared.answer.Ending.TheVariants.{Rest}
+use Rattle.tp_step.specs.declared.ending.Ending.{Ending}
+use Rattle.tp_step.specs.declared.ending.Ending.TheVariants.{Rest}
 use Rattle.tp_decide.specs.Decided.{setting_of}
 use Rattle.tp_step.specs.Answers.{moment_of}
 use Rattle.tp_pass.specs.Passes.{Passes}

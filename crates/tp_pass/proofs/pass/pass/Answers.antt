@@ -1,6 +1,6 @@
 use Rattle.std.proofs.Common.{◌∙◌, refl, subst, sym, Option, None, Some}
 use Rattle.tp_decide.specs.Decided.{setting_of}
-use Rattle.tp_step.specs.declared.answer.Ending.{Ending}
+use Rattle.tp_step.specs.declared.ending.Ending.{Ending}
 use Rattle.tp_step.specs.Answers.{moment_of}
 use Rattle.tp_step.specs.Closes.{Looks}
 use Rattle.tp_pass.proofs.Following.{MayEndWith, may_end, pass_of, turns_begin, turns_go_on, turns_end}

@@ -1,4 +1,4 @@
-use Rattle.tp_scene.specs.Laws.{StoreGoesOn}
+use Rattle.tp_scene.specs.Advance.{StoreGoesOn}
 use Rattle.tp_decide.specs.Decided.{setting_of}
 use Rattle.tp_run_tests.proofs.steps.go_on.Goals as goal
 

@@ -2,7 +2,7 @@ use Rattle.std.proofs.Common.{◌≡◌, ◌<◌, ◌^◌, ◌+◌, ◌++◌, Li
 use Rattle.std.proofs.lemmas.Grind.{common_steps}
 use Rattle.std.proofs.lemmas.List.{nil_from_length}
 use Rattle.std.specs.Str.Lines.{lines}
-use Rattle.tp_show.specs.declared.trace.NamedFact.{NamedFact}
+use Rattle.tp_show.specs.declared.named_fact.NamedFact.{NamedFact}
 use Rattle.tp_show.specs.TraceReading.{IsKindOf}
 use Rattle.tp_show.proofs.TraceLines.{some_line}
 use Rattle.tp_show.proofs.TraceRuns.{TraceSoFar, so_far_state, so_far_passed, end_whole, bad_here, bad_behind_end, stop_whole, stop_bad}

@@ -5,7 +5,7 @@ use Rattle.tp_value.specs.declared.path.VarId.{VarId}
 use Rattle.tp_value.specs.declared.path.Fact.{Fact}
 use Rattle.tp_store.specs.Known.{IsVariableOf, Variable, global_variable, addition, refuses}
 use Rattle.tp_store.specs.Answers.{IsRefusal}
-use Rattle.tp_show.specs.declared.trace.NamedFact.{NamedFact}
+use Rattle.tp_show.specs.declared.named_fact.NamedFact.{NamedFact}
 use Rattle.tp_show.specs.declared.trace_part.ReadPart.{ReadPart}
 use Rattle.tp_show.specs.TraceFacts.{part_facts, parts_facts, have_clash}
 use Rattle.tp_show.specs.TraceReading.{trace_part_of, trace_parts_of}

@@ -5,9 +5,10 @@ use Rattle.tp_inputs.specs.Read.{lines_of}
 use Rattle.tp_store.specs.Known.{Contents}
 use Rattle.tp_scene.specs.Scene.{Scene}
 use Rattle.tp_scene.specs.Pick.{Moment}
-use Rattle.tp_scene.specs.StandsFor.{first_moment}
+use Rattle.tp_scene.specs.Beginning.{first_moment}
 use Rattle.tp_step.specs.Answers.{moment_of}
-use Rattle.tp_run.specs.States.{Plan, plan_with, open_at}
+use Rattle.tp_run.specs.States.{Plan, plan_with}
+use Rattle.tp_run.specs.Standing.{open_at}
 use Rattle.tp_run.specs.Meaning.{StandsForItsProgram}
 use Rattle.tp_run.specs.Runs.{StandsOrderly}
 use Rattle.tp_run.proofs.OneState.{first_orderly}

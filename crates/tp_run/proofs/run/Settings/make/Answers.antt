@@ -1,7 +1,7 @@
 use Rattle.std.proofs.Common.{◌≡◌, length, refl, ap, sym, subst, rules}
 use Rattle.tp_meaning.specs.Interval.{kinds_of}
 use Rattle.tp_step.specs.Answers.{moment_of}
-use Rattle.tp_step.specs.declared.answer.Ending.TheVariants as ending
+use Rattle.tp_step.specs.declared.ending.Ending.TheVariants as ending
 use Rattle.tp_decide.specs.Decided.{setting_of}
 use Rattle.tp_run.specs.declared.run.Stand.{Stand}
 use Rattle.tp_show.specs.declared.turn.Turn.TheVariants.{Contradictory}

@@ -1,0 +1,8 @@
+// Faults of a line of inputs.
+/// The first fault of a line.
+#[derive(Clone, Copy)]
+pub enum Fault {
+    Bad,
+    Twice,
+    TooLong,
+}

@@ -1,0 +1,217 @@
+// What each token does in a phrase. Levels of operators are those of `tp_tree::level`.
+ghost use Rattle.std.specs.Prelude.{◌≡◌};
+ghost use Rattle.tp_parse.specs.Marks as spec;
+
+use crate::mark::{Enclosure, Mark, Prefix, Role, Start};
+use tp_lex::{Kind, Symbol, Word};
+use tp_tree::level::{AND, INDEX, NOT, PREFIX, op_level};
+use tp_tree::{Bare, Form, Op};
+
+pub fn mark_of(kind: &Kind) -> Mark
+    ensures { result ≡ spec.kind_mark kind.now }
+{
+    match kind {
+        Kind::Upper(_) => Mark::Upper,
+        Kind::Lower(_) => Mark::Lower,
+        Kind::Number(_) => Mark::Number,
+        Kind::Word(word) => Mark::Word(*word),
+        Kind::Symbol(symbol) => Mark::Symbol(*symbol),
+    }
+}
+
+#[tactic(auto, unfolding(crate::specs::Marks::same))]
+pub fn same(a: Mark, b: Mark) -> bool
+    ensures { result ≡ spec.same a b }
+{
+    a == b
+}
+
+/// Where `<` or `>` is due, `<-` and `>=` are read as two symbols; others stay whole.
+pub fn first_half(symbol: Symbol) -> Symbol
+    ensures { result ≡ spec.first_half symbol }
+{
+    match symbol {
+        Symbol::Arrow => Symbol::Less,
+        Symbol::GreaterEqual => Symbol::Greater,
+        _ => symbol,
+    }
+}
+
+pub fn second_half(symbol: Symbol) -> Symbol
+    ensures { result ≡ spec.second_half symbol }
+{
+    match symbol {
+        Symbol::Arrow => Symbol::Minus,
+        Symbol::GreaterEqual => Symbol::Equal,
+        _ => symbol,
+    }
+}
+
+/// The operator before an operand that the token is, if it is one.
+fn prefix_of(mark: Mark) -> Option<Prefix>
+    ensures { result ≡ spec.prefix_of mark }
+{
+    match mark {
+        Mark::Word(Word::Not) => Some(Prefix::Not),
+        Mark::Word(Word::Next) => Some(Prefix::Next),
+        Mark::Symbol(Symbol::Minus) => Some(Prefix::Minus),
+        _ => None,
+    }
+}
+
+fn level_of_prefix(prefix: Prefix) -> u8
+    ensures { result ≡ spec.level_of_prefix prefix }
+{
+    match prefix {
+        Prefix::Not => NOT,
+        Prefix::Minus | Prefix::Next => PREFIX,
+    }
+}
+
+/// The level of an operator before its operand, or 0.
+pub fn before(mark: Mark) -> u8
+    ensures { result ≡ spec.before mark }
+{
+    match prefix_of(mark) {
+        None => 0,
+        Some(prefix) => level_of_prefix(prefix),
+    }
+}
+
+/// The operator before an operand that the token is, where that is of this level.
+#[tactic(auto, unfolding(crate::specs::Marks::prefix_at))]
+pub fn prefix_at(level: u8, mark: Mark) -> Option<Prefix>
+    ensures { result ≡ spec.prefix_at level mark }
+{
+    if before(mark) == level {
+        prefix_of(mark)
+    } else {
+        None
+    }
+}
+
+pub fn role_of(mark: Mark) -> Role
+    ensures { result ≡ spec.role_of mark }
+{
+    match mark {
+        Mark::Symbol(Symbol::Semicolon) => Role::Infix(Op::Chop),
+        Mark::Word(Word::Proj) => Role::Infix(Op::Proj),
+        Mark::Word(Word::Or) => Role::Infix(Op::Or),
+        Mark::Word(Word::And) => Role::Joins,
+        Mark::Symbol(Symbol::Equal) => Role::Infix(Op::Equal),
+        Mark::Symbol(Symbol::Differs) => Role::Infix(Op::Differs),
+        Mark::Symbol(Symbol::Less) => Role::Infix(Op::Less),
+        Mark::Symbol(Symbol::LessEqual) => Role::Infix(Op::LessEqual),
+        Mark::Symbol(Symbol::Greater) => Role::Infix(Op::Greater),
+        Mark::Symbol(Symbol::GreaterEqual) => Role::Infix(Op::GreaterEqual),
+        Mark::Word(Word::Gets) => Role::Infix(Op::Gets),
+        Mark::Symbol(Symbol::Arrow) => Role::Infix(Op::Arrow),
+        Mark::Symbol(Symbol::Becomes) => Role::Infix(Op::Becomes),
+        Mark::Symbol(Symbol::Plus) => Role::Infix(Op::Plus),
+        Mark::Symbol(Symbol::Minus) => Role::Infix(Op::Minus),
+        Mark::Symbol(Symbol::Times) => Role::Infix(Op::Times),
+        Mark::Word(Word::Div) => Role::Infix(Op::Div),
+        Mark::Word(Word::Mod) => Role::Infix(Op::Mod),
+        Mark::Symbol(Symbol::OpenSquare) => Role::Opens,
+        _ => Role::Ends,
+    }
+}
+
+/// What the token does at this level.
+#[tactic(auto, unfolding(crate::specs::Marks::role_at))]
+pub fn role_at(level: u8, mark: Mark) -> Role
+    ensures { result ≡ spec.role_at level mark }
+{
+    let role = role_of(mark);
+    let own = match role {
+        Role::Ends => 0,
+        Role::Infix(op) => op_level(op),
+        Role::Opens => INDEX,
+        Role::Joins => AND,
+    };
+    if own == level { role } else { Role::Ends }
+}
+
+pub fn start_of(mark: Mark) -> Start
+    ensures { result ≡ spec.start_of mark }
+{
+    match mark {
+        Mark::End => Start::Nothing,
+        Mark::Upper => Start::Name,
+        Mark::Lower => Start::NameOrCall,
+        Mark::Number => Start::Number,
+        Mark::Word(word) => word_start(word),
+        Mark::Symbol(symbol) => symbol_start(symbol),
+    }
+}
+
+fn word_start(word: Word) -> Start
+    ensures { result ≡ spec.word_start word }
+{
+    match word {
+        Word::True => Start::Truth(true),
+        Word::False => Start::Truth(false),
+        Word::Empty => Start::Bare(Bare::Empty),
+        Word::More => Start::Bare(Bare::More),
+        Word::Skip => Start::Bare(Bare::Skip),
+        Word::Always => Start::Form(Form::Always),
+        Word::Keep => Start::Form(Form::Keep),
+        Word::Fin => Start::Form(Form::Fin),
+        Word::Halt => Start::Form(Form::Halt),
+        Word::Stable => Start::Form(Form::Stable),
+        Word::Sometimes => Start::Form(Form::Sometimes),
+        Word::Len => Start::Form(Form::Len),
+        Word::List => Start::Form(Form::List),
+        Word::Input => Start::Form(Form::Input),
+        Word::Display => Start::Form(Form::Display),
+        Word::If => Start::If,
+        Word::While => Start::While,
+        Word::Repeat => Start::Repeat,
+        Word::For => Start::For,
+        Word::Forall => Start::Forall,
+        Word::Exists => Start::Exists,
+        Word::Then
+        | Word::Else
+        | Word::Do
+        | Word::Until
+        | Word::Define
+        | Word::Run
+        | Word::And
+        | Word::Or
+        | Word::Not
+        | Word::Div
+        | Word::Mod
+        | Word::Next
+        | Word::Gets
+        | Word::Proj => Start::Nothing,
+    }
+}
+
+fn symbol_start(symbol: Symbol) -> Start
+    ensures { result ≡ spec.symbol_start symbol }
+{
+    match symbol {
+        Symbol::OpenRound => Start::Enclosed(Enclosure::Round),
+        Symbol::OpenCurly => Start::Enclosed(Enclosure::Curly),
+        Symbol::Bar => Start::Enclosed(Enclosure::Size),
+        Symbol::Less => Start::List,
+        Symbol::Arrow => Start::List,
+        Symbol::Differs => Start::EmptyList,
+        Symbol::CloseRound
+        | Symbol::CloseCurly
+        | Symbol::OpenSquare
+        | Symbol::CloseSquare
+        | Symbol::Greater
+        | Symbol::LessEqual
+        | Symbol::GreaterEqual
+        | Symbol::Equal
+        | Symbol::Plus
+        | Symbol::Minus
+        | Symbol::Times
+        | Symbol::Semicolon
+        | Symbol::Comma
+        | Symbol::Stop
+        | Symbol::Colon
+        | Symbol::Becomes => Start::Nothing,
+    }
+}

@@ -1,0 +1,95 @@
+// Whose turn it is in a pass.
+ghost use Rattle.std.specs.Prelude.{◌≡◌, ◌<◌, ◌%◌, ◌^◌, ℕ, suc, IfOk, OnSome};
+ghost use Rattle.tp_slots.specs.Kept.{IsWellKept};
+ghost use Rattle.tp_slots.specs.Read.{scene_of};
+ghost use Rattle.tp_step.specs.Seeds.{choice_at, choice_of, word_after, word_at};
+ghost use Rattle.tp_pass.specs.Sweeps.{BeginsSweep, IsLiveByNumber, TakesTurn, turns_left};
+
+use crate::sweep::Sweep;
+use std::alloc::Global;
+use std::collections::VecDeque;
+use tp_step::{Order, Scene, has_item};
+use tp_value::NoMemory;
+
+/// The number that the next new item takes.
+pub(crate) fn next_number(scene: &Scene) -> u64
+    ensures number { result ≡ (scene_of scene.now).next_item }
+    ensures fits { result < 2 ^ 64 }
+{
+    scene.slots.len() as u64
+}
+
+// The live items by increasing number.
+fn live_by_number(alloc: Global, scene: &Scene) -> Result<VecDeque<u64>, NoMemory>
+    requires kept { IsWellKept scene.now }
+    ensures live { IfOk result (λ live.
+        IsLiveByNumber (scene_of scene.now).root.entries live.items) }
+{
+    let mut live = VecDeque::new(alloc);
+    for item in 0..next_number(scene) {
+        if has_item(scene, item) {
+            live.push_back(item)?;
+        }
+    }
+    Ok(live)
+}
+
+// Makes a choice among so many by a seed's word, which goes on to the next one.
+fn choose(word: &mut u64, count: u64) -> u64
+    requires some { 0 < count }
+    ensures choice { result ≡ choice_of word.old % count }
+    ensures word { word.new ≡ word_after word.old }
+    ensures seed { (seed k : ℕ) → word.old ≡ word_at seed k
+        → (result ≡ choice_at seed k % count) × (word.new ≡ word_at seed (suc k)) }
+{
+    let place = (*word >> 33) % count;
+    *word = word
+        .wrapping_mul(6364136223846793005)
+        .wrapping_add(1442695040888963407);
+    place
+}
+
+impl Sweep {
+    /// The sweep of a pass that begins here. A seed makes a choice for it where an item is live.
+    pub(crate) fn begin(alloc: Global, scene: &Scene, order: &mut Order) -> Result<Sweep, NoMemory>
+        requires kept { IsWellKept scene.now }
+        ensures begins { IfOk result
+            (BeginsSweep (scene_of scene.now).root.entries order.old order.new) }
+    {
+        match order {
+            Order::First => Ok(Sweep::From(0)),
+            Order::Last => {
+                let live = live_by_number(alloc, scene)?;
+                Ok(Sweep::Backward(live))
+            }
+            Order::Seed(word) => {
+                let mut live = live_by_number(alloc, scene)?;
+                if !live.is_empty() {
+                    let place = choose(word, live.len() as u64);
+                    live.rotate_left(place as usize);
+                }
+                Ok(Sweep::Forward(live))
+            }
+        }
+    }
+
+    /// The number whose turn it is, which is then taken out.
+    pub(crate) fn next(&mut self, scene: &Scene) -> Option<u64>
+        ensures turn { TakesTurn (scene_of scene.now).next_item self.old self.new result }
+        ensures ends { OnSome result (turns_left self.new < turns_left self.old) }
+    {
+        match self {
+            Sweep::From(next) => {
+                let item = *next;
+                if item < next_number(scene) {
+                    *next = item + 1;
+                    Some(item)
+                } else {
+                    None
+                }
+            }
+            Sweep::Forward(items) => items.pop_front(),
+            Sweep::Backward(items) => items.pop_back(),
+        }
+    }
+}

@@ -1,5 +1,0 @@
-use Rattle.tp_value.proofs.Trees.{same_tree_is_equality as is_equality}
-use Rattle.tp_value.proofs.value.same_tree_is_equality.Goals as goal
-
-pub returns : goal.returns
-returns c = is_equality
