@@ -8,7 +8,7 @@ same texts. Python 3.8 or later, with its standard library alone; as a program, 
 
 import re
 
-NUMBER_LIMIT = 2**63 - 1
+NUMBER_LIMIT = 2**127 - 1
 ITEM_LIMIT = 65_536  # items of a value, at every depth
 DEPTH_LIMIT = 100  # lists in each other
 INDEX_LIMIT = 65_535

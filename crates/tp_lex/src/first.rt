@@ -57,7 +57,11 @@ fn value_of(digits: &[u8]) -> Option<Number>
     let past_limit = NUMBER_LIMIT as u128 + 1;
     let mut n: u128 = 0;
     for digit in digits {
-        n = (10 * n + u128::from(digit.saturating_sub(b'0'))).min(past_limit);
+        // Ten times a number past the limit may be more than a `u128` has room for.
+        let tens = n.saturating_mul(10);
+        n = tens
+            .saturating_add(u128::from(digit.saturating_sub(b'0')))
+            .min(past_limit);
     }
     if n < past_limit {
         Some(n as Number)

@@ -1,5 +1,6 @@
 -- Reading digits.
-use Rattle.std.proofs.Common.{◌≡◌, ℕ, zero, suc, ◌+◌, ◌-◌, ◌*◌, ◌<◌, ◌≤◌, ◌⊎◌, inl, inr, ℤ, pos, neg_ℤ, Bool, true, false, List, [], ◌∷◌, ◌++◌, length, fold, Option, Some, None, Ok, cond, IsTrue, refl, sym, ap, ◌∙◌, subst, arith}
+use Rattle.std.proofs.Common.{◌≡◌, ℕ, zero, suc, ◌+◌, ◌-◌, ◌*◌, ◌<◌, ◌≤◌, ◌⊎◌, inl, inr, ℤ, pos, negsuc, neg_ℤ, ◌+ℤ◌, ◌-ℤ◌, ◌*ℤ◌, Bool, true, false, List, [], ◌∷◌, ◌++◌, length, fold, Option, Some, None, Ok, cond, IsTrue, refl, sym, ap, ◌∙◌, subst, arith}
+use Rattle.std.specs.Prelude.{FitsSigned}
 use Rattle.std.specs.Char.{is_ascii_digit}
 use Rattle.std.proofs.lemmas.Int.{ints}
 use Rattle.std.proofs.lemmas.Bool.{cases_lt}
@@ -7,7 +8,7 @@ use Rattle.std.proofs.lemmas.Bool.Decides.{nat_tests}
 use Rattle.tp_value.specs.declared.phase.Phase.TheVariants.{Digits}
 use Rattle.tp_value.specs.declared.phase.Move.TheVariants.{Go}
 use Rattle.tp_value.specs.declared.reading.ReadValue.TheVariants.{NoValue, TooLarge, TooLong, TooDeep, NoMemory}
-use Rattle.tp_value.specs.Number.{number_limit, is_within_limit, within_limit}
+use Rattle.tp_value.specs.Number.{number_width, number_limit, is_within_limit, within_limit}
 use Rattle.tp_value.specs.Tree.{Tree}
 use Rattle.tp_value.specs.Spelling.{AllDigits, with_digit}
 use Rattle.tp_value.specs.Reading.{ReadingState, Answer, found, refused, answered, digit_of, continued, first_move, lengthened, digit_read, carried, step_behind, reading}
@@ -28,6 +29,31 @@ signed false v = pos v
 pub continued_signed : (negative : Bool) (v d : ℕ) → continued negative (signed negative v) d ≡ signed negative (10 * v + d)
 continued_signed true v d = omega (arith, ints)
 continued_signed false v d = omega (arith, ints)
+
+-- what is within the limit is the number
+pub within_is : (m n : ℤ) → Some m ≡ within_limit n → m ≡ n
+within_is m n e = by_limit (is_within_limit n) e
+  where
+    by_limit : (b : Bool) → Some m ≡ cond b (Some n) None → m ≡ n
+    by_limit true e = cc
+    by_limit false e = cc
+
+-- and has room in the machine's type
+pub within_fits : (m n : ℤ) → Some m ≡ within_limit n → FitsSigned number_width m
+within_fits m n e = by_limit (is_within_limit n) refl e
+  where
+    has_room : (n : ℤ) → is_within_limit n ≡ true → FitsSigned number_width n
+    has_room (pos k) h = record { sfits = grind (arith, nat_tests, h) }
+    has_room (negsuc k) h = record { sfits = grind (arith, nat_tests, h) }
+
+    by_limit : (b : Bool) → is_within_limit n ≡ b → Some m ≡ cond b (Some n) None → FitsSigned number_width m
+    by_limit true h e = let same : n ≡ m = cc in subst (λ k. FitsSigned number_width k) same (has_room n h)
+    by_limit false h e = let bad : Some m ≡ None = e in cc
+
+-- nine times a number, and the number with a digit
+pub nines_and_rest : (negative : Bool) (n nines rest : ℤ) (d : ℕ) → nines ≡ n *ℤ pos 9 → rest ≡ cond negative (n -ℤ pos d) (n +ℤ pos d) → nines +ℤ rest ≡ continued negative n d
+nines_and_rest true n nines rest d e h = omega (arith, ints, e, h)
+nines_and_rest false n nines rest d e h = omega (arith, ints, e, h)
 
 pub signed_small : (negative : Bool) (v : ℕ) → v ≤ number_limit → within_limit (signed negative v) ≡ Some (signed negative v)
 signed_small true zero h = refl

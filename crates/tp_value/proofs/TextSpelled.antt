@@ -4,7 +4,7 @@ use Rattle.std.specs.Prelude.{codes}
 use Rattle.std.specs.Fmt.{decimal, signed_decimal}
 use Rattle.std.specs.Char.{is_ascii_digit}
 use Rattle.std.proofs.lemmas.Bool.Decides.{nat_tests}
-use Rattle.std.proofs.lemmas.Fmt.{decimal_by_steps}
+use Rattle.std.proofs.lemmas.Fmt.{decimal_by_steps_wide}
 use Rattle.std.proofs.lemmas.List.{append-nil}
 use Rattle.tp_value.specs.declared.phase.Last.TheVariants.{Bracket, Item, Comma}
 use Rattle.tp_value.specs.Number.{IsNumber}
@@ -29,13 +29,13 @@ digit_more n ds h w =
     let last : n % 10 < 10 = omega arith in
     (more_digits ds (48 + n % 10) (all_digits ds w.0) (digit_byte (n % 10) last), value_more ds (48 + n % 10) ∙ omega (arith, w.1))
 
-pub decimal_written : (n : ℕ) → n < 2 ^ 64 → Writes n (decimal n)
-decimal_written n h = decimal_by_steps Writes one_digit digit_more n h
+pub decimal_written : (n : ℕ) → n < 10 ^ 64 → Writes n (decimal n)
+decimal_written n h = decimal_by_steps_wide Writes one_digit digit_more n h
 
-positive_spelled : (n : ℕ) → n < 2 ^ 64 → Spells (decimal n) (num (pos n))
+positive_spelled : (n : ℕ) → n < 10 ^ 64 → Spells (decimal n) (num (pos n))
 positive_spelled n h = let w = decimal_written n h in subst (λ (m : ℕ). Spells (decimal n) (num (pos m))) w.1 (digits (decimal n) w.0)
 
-negative_spelled : (n : ℕ) → n < 2 ^ 64 → Spells (45 ∷ decimal n) (num (neg_ℤ (pos n)))
+negative_spelled : (n : ℕ) → n < 10 ^ 64 → Spells (45 ∷ decimal n) (num (neg_ℤ (pos n)))
 negative_spelled n h = let w = decimal_written n h in subst (λ (m : ℕ). Spells (45 ∷ decimal n) (num (neg_ℤ (pos m)))) w.1 (minus (decimal n) w.0)
 
 number_spelled : (n : ℤ) → IsNumber n → Spells (signed_decimal n) (num n)

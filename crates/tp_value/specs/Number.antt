@@ -1,14 +1,14 @@
 -- The limit of the language's numbers.
 use Rattle.std.specs.Prelude.{ℤ, pos, negsuc, neg_ℤ, ◌-ℤ◌, ◌*ℤ◌, int_lt, ℕ, Bool, nat_le, nat_lt, IsTrue, Option, Some, None, if◌then◌else◌}
-use Rattle.std.specs.Int.{Width, w64, int_div_euclid}
+use Rattle.std.specs.Int.{Width, w128, int_div_euclid}
 
 -- the width of the machine's type of numbers
 abbrev pub number_width : Width
-number_width = w64
+number_width = w128
 
 -- the greatest number; the least is its negation
 abbrev pub number_limit : ℕ
-number_limit = 9223372036854775807
+number_limit = 170141183460469231731687303715884105727
 
 -- whether a whole number is within the limit
 abbrev pub is_within_limit : ℤ → Bool

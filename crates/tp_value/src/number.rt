@@ -3,10 +3,10 @@ ghost use Rattle.std.specs.Prelude.{◌≡◌, ◌≢◌, pos, ◌+ℤ◌, ◌-�
 ghost use Rattle.tp_value.specs.Number.{is_within_limit, within_limit, floor_div, floor_mod};
 
 /// A number of the language, from `-NUMBER_LIMIT` to `NUMBER_LIMIT`.
-pub type Number = i64;
+pub type Number = i128;
 
 /// The greatest number of the language; the least is its negation.
-pub const NUMBER_LIMIT: Number = i64::MAX;
+pub const NUMBER_LIMIT: Number = i128::MAX;
 
 /// Whether the number is within the limit.
 pub fn is_number(n: Number) -> bool
@@ -20,18 +20,6 @@ fn within(n: Number) -> Option<Number>
     ensures { result ≡ within_limit n }
 {
     if is_number(n) { Some(n) } else { None }
-}
-
-/// The number, where it is within the limit.
-pub fn narrow(n: i128) -> Option<Number>
-    ensures { result ≡ within_limit n }
-{
-    let limit = i128::from(NUMBER_LIMIT);
-    if -limit <= n && n <= limit {
-        Some(n as i64)
-    } else {
-        None
-    }
 }
 
 /// The sum, where it is within the limit.
@@ -79,12 +67,19 @@ pub fn quotient(a: Number, b: Number) -> Option<Number>
     requires { b ≢ pos 0 }
     ensures { result ≡ within_limit (floor_div a b) }
 {
-    // The negation of the least `i64` is none, so the quotient is taken among wider numbers.
-    let (dividend, divisor) = (i128::from(a), i128::from(b));
-    if 0 < divisor {
-        narrow(dividend.div_euclid(divisor))
+    // Of all quotients only that of the least `i128` by -1 is none.
+    if b == -1 {
+        return negated(a);
+    }
+    let quotient = a.div_euclid(b);
+    if 0 < b {
+        return within(quotient);
+    }
+    // Its remainder is never below 0, so for a divisor below 0 it is the quotient rounded up.
+    if a.rem_euclid(b) == 0 {
+        within(quotient)
     } else {
-        narrow((-dividend).div_euclid(-divisor))
+        difference(quotient, 1)
     }
 }
 
@@ -94,10 +89,12 @@ pub fn remainder(a: Number, b: Number) -> Option<Number>
     requires { b ≢ pos 0 }
     ensures { result ≡ within_limit (floor_mod a b) }
 {
-    let (dividend, divisor) = (i128::from(a), i128::from(b));
-    if 0 < divisor {
-        narrow(dividend.rem_euclid(divisor))
-    } else {
-        narrow(-(-dividend).rem_euclid(-divisor))
+    if b == -1 {
+        return Some(0);
     }
+    let rest = a.rem_euclid(b);
+    if 0 < b {
+        return within(rest);
+    }
+    if rest == 0 { Some(0) } else { sum(rest, b) }
 }

@@ -1,12 +1,12 @@
 // What each byte of a value's text does.
-ghost use Rattle.std.specs.Prelude.{◌≡◌};
+ghost use Rattle.std.specs.Prelude.{◌≡◌, pos, ◌+ℤ◌, ◌-ℤ◌, if◌then◌else◌};
 ghost use Rattle.tp_value.specs.Number.{within_limit};
 ghost use Rattle.tp_value.specs.Spelling.{spelling as word_spelling};
 ghost use Rattle.tp_value.specs.Reading.{digit_of, begins_value as begins, continued, first_move, within_list, digits_go_on, letters_go_on, next_move};
 
 use crate::Number;
 use crate::limits::{DEPTH_LIMIT, ITEM_LIMIT};
-use crate::number::narrow;
+use crate::number::{difference, product, sum};
 use crate::phase::{Last, Move, Phase};
 use crate::reading::ReadValue;
 
@@ -27,17 +27,27 @@ fn begins_value(byte: u8) -> bool
     byte == b'<' || byte == b'-' || byte == b't' || byte == b'f' || byte.is_ascii_digit()
 }
 
+// The number with the digit taken from it or added to it, where it is within the limit.
+fn with_last(number: Number, negative: bool, digit: u8) -> Option<Number>
+    ensures { result
+        ≡ within_limit (if negative then number -ℤ pos digit else number +ℤ pos digit) }
+{
+    let digit = Number::from(digit);
+    if negative {
+        difference(number, digit)
+    } else {
+        sum(number, digit)
+    }
+}
+
 // The number with one digit more, where it is within the limit.
 fn with_digit(number: Number, negative: bool, digit: u8) -> Option<Number>
     ensures { result ≡ within_limit (continued negative number digit) }
 {
-    let tens = i128::from(number) * 10;
-    let digit = i128::from(digit);
-    if negative {
-        narrow(tens - digit)
-    } else {
-        narrow(tens + digit)
-    }
+    // Not by ten times the number: where the digit turns it back, that may be past the limit and the result within.
+    let nines = product(number, 9)?;
+    let rest = with_last(number, negative, digit)?;
+    sum(nines, rest)
 }
 
 fn spelling(truth: bool) -> &'static [u8]
@@ -70,7 +80,7 @@ fn start(at: usize, depth: usize, begun: usize, byte: u8) -> Result<Move, ReadVa
             Some(number) => Phase::Digits {
                 begin: at,
                 negative: false,
-                number: i64::from(number),
+                number: Number::from(number),
             },
             None => return Err(ReadValue::NoValue { at }),
         },

@@ -1,19 +1,27 @@
-use Rattle.std.proofs.Common.{◌≡◌, pos, ◌-ℤ◌, neg_ℤ, to_z, of_z, ap, ap₂, sym, ◌∙◌, arith, false, cond}
+use Rattle.std.proofs.Common.{◌≡◌, pos, ◌-ℤ◌, of_z, ap, ap₂, sym, ◌∙◌, arith, false}
 use Rattle.std.specs.Prelude.{int_lt}
-use Rattle.std.specs.Int.{w128, int_div_euclid}
+use Rattle.std.specs.Int.{w128, int_div_euclid, int_rem_euclid}
 use Rattle.std.proofs.lemmas.Int.{ints, to_z-of_z}
 use Rattle.tp_value.specs.Number.{within_limit}
+use Rattle.tp_value.proofs.Quotients.{floor_even, floor_uneven}
 use Rattle.tp_value.proofs.number.quotient.Goals as goal
 
-pub returns-else-divisor-gt0 : goal.returns-else-divisor-gt0
-returns-else-divisor-gt0 c =
-    let a = c.args.a in
-    let b = c.args.b in
-    let q = c.div_euclid-else-divisor-gt0.result in
-    let upper : to_z w128 (of_z w128 (pos 0 -ℤ to_z w128 (of_z w128 c.from-dividend.result))) ≡ neg_ℤ a = omega (arith, ints) in
-    let lower : to_z w128 (of_z w128 (pos 0 -ℤ to_z w128 (of_z w128 c.from-divisor.result))) ≡ neg_ℤ b = omega (arith, ints) in
-    let divisor : to_z w128 (of_z w128 c.from-divisor.result) ≡ b = omega (arith, ints) in
-    let negative : int_lt (pos 0) b ≡ false = ap (int_lt (pos 0)) (sym divisor) ∙ c.if-divisor-gt0.false in
-    c.narrow-else-divisor-gt0.ensures
-    ∙ ap within_limit (to_z-of_z w128 q (record { sfits = c.div_euclid-else-divisor-gt0.type_inv }) ∙ c.div_euclid-else-divisor-gt0.ensures ∙ ap₂ int_div_euclid upper lower
-    ∙ ap (λ test. cond test (int_div_euclid a b) (int_div_euclid (neg_ℤ a) (neg_ℤ b))) (sym negative))
+pub returns-then-rem_euclid-eq0 : goal.returns-then-rem_euclid-eq0
+returns-then-rem_euclid-eq0 c =
+    let a_is = to_z-of_z w128 c.args.a c.ranges.a in
+    let b_is = to_z-of_z w128 c.args.b c.ranges.b in
+    let negative : int_lt (pos 0) c.args.b ≡ false = ap (int_lt (pos 0)) (sym b_is) ∙ c.if-b-gt0.false in
+    let none_left : c.rem_euclid.result ≡ pos 0 = omega (arith, ints, c.if-rem_euclid-eq0.true, c.rem_euclid.type_inv) in
+    let even : int_rem_euclid c.args.a c.args.b ≡ pos 0 = sym (c.rem_euclid.ensures.value ∙ ap₂ int_rem_euclid a_is b_is) ∙ none_left in
+    c.within-then-rem_euclid-eq0.ensures
+    ∙ ap within_limit (to_z-of_z w128 c.div_euclid-quotient.result (record { sfits = c.div_euclid-quotient.type_inv }) ∙ c.div_euclid-quotient.ensures ∙ ap₂ int_div_euclid a_is b_is ∙ floor_even c.args.a c.args.b negative c.requires even)
+
+pub returns-else-rem_euclid-eq0 : goal.returns-else-rem_euclid-eq0
+returns-else-rem_euclid-eq0 c =
+    let a_is = to_z-of_z w128 c.args.a c.ranges.a in
+    let b_is = to_z-of_z w128 c.args.b c.ranges.b in
+    let negative : int_lt (pos 0) c.args.b ≡ false = ap (int_lt (pos 0)) (sym b_is) ∙ c.if-b-gt0.false in
+    let uneven : int_rem_euclid c.args.a c.args.b ≡ pos 0 → ⊥ = λ e. c.if-rem_euclid-eq0.false (ap (of_z w128) (c.rem_euclid.ensures.value ∙ ap₂ int_rem_euclid a_is b_is ∙ e)) in
+    c.difference.ensures
+    ∙ ap (λ q. within_limit (q -ℤ pos 1)) (to_z-of_z w128 c.div_euclid-quotient.result (record { sfits = c.div_euclid-quotient.type_inv }) ∙ c.div_euclid-quotient.ensures ∙ ap₂ int_div_euclid a_is b_is)
+    ∙ ap within_limit (floor_uneven c.args.a c.args.b negative c.requires uneven)
