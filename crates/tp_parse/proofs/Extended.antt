@@ -155,7 +155,7 @@ unfolding mark
 role_on [] ws k e stops = role_stopped k (mark ws) (stops.stops (omega arith)).0
 role_on (t ∷ ts) ws k e stops = e
 
-role_more : (ts ws : Tokens) (k : ℕ) (x : Role) → role_at k (mark ts) ≡ x → 0 < length ts → role_at k (mark (ts ++ ws)) ≡ x
+pub role_more : (ts ws : Tokens) (k : ℕ) (x : Role) → role_at k (mark ts) ≡ x → 0 < length ts → role_at k (mark (ts ++ ws)) ≡ x
 role_more ts ws k x e some = ap (role_at k) (mark_on ts ws some) ∙ e
 
 pub some_role : (k : ℕ) (ts : Tokens) {x : Role} → role_at k (mark ts) ≡ x → x ≢ Ends → 0 < length ts

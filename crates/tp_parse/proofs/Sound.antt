@@ -59,7 +59,7 @@ module _ (inner : ℕ → Reader Found) (room : ℕ) (sound : (k : ℕ) (ts : To
       let is = ok_is (b.0.0, past b.0.1) a.0 c.1 in
       (b.0, sound k ts b.0 b.1, c.0, ap (λ (q : Found × Tokens). f q.0 q.1) is ∙ a.2)
 
-  others_sound : (k : ℕ) (separator : Mark) (n : ℕ) (all : Operands) (ts : Tokens) (p : Operands × Tokens) → separator ≢ m.End → length ts ≤ n → all.height ≤ room
+  pub others_sound : (k : ℕ) (separator : Mark) (n : ℕ) (all : Operands) (ts : Tokens) (p : Operands × Tokens) → separator ≢ m.End → length ts ≤ n → all.height ≤ room
       → r.others_from inner room k separator n all ts ≡ Ok p → (more : Operands) × Others k separator ts more p.1 × (p.0 ≡ joined all more) × (more.height ≤ room)
   unfolding r.others_from
   others_sound k separator zero all ts p some few low e =
