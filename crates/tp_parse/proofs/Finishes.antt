@@ -84,27 +84,27 @@ any_name_err ts e is end = elim (chosen (sees m.Upper ts || sees m.Lower ts) _ _
 abbrev pub Last : Tokens → Refusal → Type 0
 Last ts e = (t : Token) × (ts ≡ t ∷ []) × (e ≢ Unfinished)
 
-deep_last : {A : Type 0} (ts : Tokens) (e : Refusal) → failed {A = A} (TooDeep (length ts)) ≡ Err e → Ended e → 0 < length ts → Last ts e
+pub deep_last : {A : Type 0} (ts : Tokens) (e : Refusal) → failed {A = A} (TooDeep (length ts)) ≡ Err e → Ended e → 0 < length ts → Last ts e
 deep_last [] e is end some = absurd (omega arith)
 deep_last (t ∷ []) e is end some = (t, refl, λ u. let same = failed_is _ e is in cc)
 deep_last (t ∷ u ∷ ts) e is end some = let one : length (t ∷ u ∷ ts) ≤ 1 = subst Ended (sym (failed_is _ e is)) end in absurd (omega arith)
 
-deepen_err : (room : ℕ) (ts : Tokens) (e : Refusal) → deepen room ts ≡ Err e → failed {A = Unit {0}} (TooDeep (length ts)) ≡ Err e
+pub deepen_err : (room : ℕ) (ts : Tokens) (e : Refusal) → deepen room ts ≡ Err e → failed {A = Unit {0}} (TooDeep (length ts)) ≡ Err e
 unfolding deepen
 deepen_err zero ts e is = is
 deepen_err (suc n) ts e is = absurd cc
 
-deepen_room : (room : ℕ) (ts : Tokens) (q : Unit {0} × Tokens) → deepen room ts ≡ Ok q → (0 < room) × (q.1 ≡ ts)
+pub deepen_room : (room : ℕ) (ts : Tokens) (q : Unit {0} × Tokens) → deepen room ts ≡ Ok q → (0 < room) × (q.1 ≡ ts)
 unfolding deepen
 deepen_room zero ts q is = absurd cc
 deepen_room (suc n) ts q is = (omega arith, ap (λ (z : Unit {0} × Tokens). z.1) (sym (ok_is (tt, ts) q is)))
 
-fits_err : (room left : ℕ) (ts : Tokens) (e : Refusal) → fits room left ts ≡ Err e → failed {A = Unit {0}} (TooDeep (length ts)) ≡ Err e
+pub fits_err : (room left : ℕ) (ts : Tokens) (e : Refusal) → fits room left ts ≡ Err e → failed {A = Unit {0}} (TooDeep (length ts)) ≡ Err e
 unfolding fits
 fits_err zero left ts e is = is
 fits_err (suc n) left ts e is = elim (chosen (leb left (suc n)) _ _ _ is) [ inl w ↦ absurd cc | inr w ↦ w.1 ]
 
-fits_room : (room left : ℕ) (ts : Tokens) (q : Unit {0} × Tokens) → fits room left ts ≡ Ok q → (0 < room) × (left ≤ room) × (q.1 ≡ ts)
+pub fits_room : (room left : ℕ) (ts : Tokens) (q : Unit {0} × Tokens) → fits room left ts ≡ Ok q → (0 < room) × (left ≤ room) × (q.1 ≡ ts)
 unfolding fits
 fits_room zero left ts q is = absurd cc
 fits_room (suc n) left ts q is = elim (chosen (leb left (suc n)) _ _ _ is) [
@@ -112,14 +112,14 @@ fits_room (suc n) left ts q is = elim (chosen (leb left (suc n)) _ _ _ is) [
   | inr w ↦ absurd cc
 ]
 
-admit_err : (room : ℕ) (x : Start) (ts : Tokens) (e : Refusal) → admit room x ts ≡ Err e → (is_high x ≡ true) × (failed {A = Unit {0}} (TooDeep (length ts)) ≡ Err e)
+pub admit_err : (room : ℕ) (x : Start) (ts : Tokens) (e : Refusal) → admit room x ts ≡ Err e → (is_high x ≡ true) × (failed {A = Unit {0}} (TooDeep (length ts)) ≡ Err e)
 unfolding admit
 admit_err room x ts e is = elim (is_high x) as (λ b. is_high x ≡ b → cond b (deepen room) (pure tt) ts ≡ Err e → (is_high x ≡ true) × (failed {A = Unit {0}} (TooDeep (length ts)) ≡ Err e)) [
   | true ↦ λ high w. (high, deepen_err room ts e w)
   | false ↦ λ high w. absurd cc
 ] refl is
 
-admit_room : (room : ℕ) (x : Start) (ts : Tokens) (q : Unit {0} × Tokens) → admit room x ts ≡ Ok q → (is_high x ≡ true → 0 < room) × (q.1 ≡ ts)
+pub admit_room : (room : ℕ) (x : Start) (ts : Tokens) (q : Unit {0} × Tokens) → admit room x ts ≡ Ok q → (is_high x ≡ true → 0 < room) × (q.1 ≡ ts)
 unfolding admit
 admit_room room x ts q is = elim (is_high x) as (λ b. is_high x ≡ b → cond b (deepen room) (pure tt) ts ≡ Ok q → (is_high x ≡ true → 0 < room) × (q.1 ≡ ts)) [
   | true ↦ λ high w. let got = deepen_room room ts q w in (λ z. got.0, got.1)
@@ -263,7 +263,7 @@ counting pair x ts begins high at some c = record {
   room = λ n r. r high;
 }
 
-some_start : (ts : Tokens) → start_of (mark ts) ≢ s.Nothing → 0 < length ts
+pub some_start : (ts : Tokens) → start_of (mark ts) ≢ s.Nothing → 0 < length ts
 unfolding mark
 some_start [] real = absurd (real refl)
 some_start (t ∷ ts) real = omega arith

@@ -91,10 +91,10 @@ past_close c ys = past_whole c.close ys c.whole
 pub stops_close : {x : Mark} (c : Closing x) (ys : Tokens) → Stops (c.close ∷ ys)
 stops_close c ys = stops_at c.close ys c.ends c.other c.plain
 
-pub by_word : (w : Word) → role_of (m.Word w) ≡ Ends → m.Word w ≢ m.Word word.Else → Closing (m.Word w)
+abbrev pub by_word : (w : Word) → role_of (m.Word w) ≡ Ends → m.Word w ≢ m.Word word.Else → Closing (m.Word w)
 by_word w e f = record { close = word_token w; is = refl; whole = refl; ends = e; other = f; plain = λ q. cc }
 
-pub by_symbol : (x : Symbol) → half_mark (m.Symbol x) ≡ m.Symbol x → role_of (m.Symbol x) ≡ Ends → m.Symbol x ≢ open_round → Closing (m.Symbol x)
+abbrev pub by_symbol : (x : Symbol) → half_mark (m.Symbol x) ≡ m.Symbol x → role_of (m.Symbol x) ≡ Ends → m.Symbol x ≢ open_round → Closing (m.Symbol x)
 by_symbol x e f i = record { close = symbol_token x; is = refl; whole = e; ends = f; other = λ q. cc; plain = i }
 
 pub enclosure_close : (e : Enclosure) → Closing (enclosed_close e)

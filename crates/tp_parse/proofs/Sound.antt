@@ -144,13 +144,13 @@ module _ (inner : ℕ → Reader Found) (room : ℕ) (sound : (k : ℕ) (ts : To
       primary_by_sound b.0.0 ts b.0.1 p (head_sound (start_of (mark ts)) ts b.0 refl b.1) b.2
 
   -- one turn: the phrase ends with it, or goes on after it
-  record Turned (k at : ℕ) (a : Found) (ts : Tokens) (x : Found × Bool) (rest : Tokens) : Type 0 where
+  pub record Turned (k at : ℕ) (a : Found) (ts : Tokens) (x : Found × Bool) (rest : Tokens) : Type 0 where
     stops : x.1 ≡ false → Goes k at a ts x.0 rest
     goes : x.1 ≡ true → (t : Found) (last : Tokens) → Goes k at x.0 rest t last → Goes k at a ts t last
     fewer : x.1 ≡ true → length rest < length ts
-    low : a.height ≤ suc room → x.0.height ≤ suc room
+    pub low : a.height ≤ suc room → x.0.height ≤ suc room
 
-  abbrev HasTurned : ℕ → ℕ → Found → Tokens → (Found × Bool) × Tokens → Type 0
+  abbrev pub HasTurned : ℕ → ℕ → Found → Tokens → (Found × Bool) × Tokens → Type 0
   HasTurned k at a ts p = Turned k at a ts p.0 p.1
 
   operated_sound : (k : ℕ) (o : Op) (at : ℕ) (a : Found) (ts : Tokens) (p : (Found × Bool) × Tokens) → role_at k (mark ts) ≡ Infix o
@@ -212,7 +212,7 @@ module _ (inner : ℕ → Reader Found) (room : ℕ) (sound : (k : ℕ) (ts : To
   turn_by_sound k at a Opens ts p is e = indexed_sound k at a ts p is e
   turn_by_sound k at a Joins ts p is e = chained_sound k at a ts p is e
 
-  turn_sound : (k at : ℕ) (a : Found) (ts : Tokens) (p : (Found × Bool) × Tokens) → r.turn inner room k at a ts ≡ Ok p → HasTurned k at a ts p
+  pub turn_sound : (k at : ℕ) (a : Found) (ts : Tokens) (p : (Found × Bool) × Tokens) → r.turn inner room k at a ts ≡ Ok p → HasTurned k at a ts p
   unfolding r.turn
   turn_sound k at a ts p e = turn_by_sound k at a (role_at k (mark ts)) ts p refl e
 
@@ -235,7 +235,7 @@ module _ (inner : ℕ → Reader Found) (room : ℕ) (sound : (k : ℕ) (ts : To
         | inr w ↦ subst (λ (q : Found × Tokens). Goes k at a ts q.0 q.1 × (q.0.height ≤ suc room)) (ok_is (x.0.0.0, x.0.1) p w.1) (is.stops w.0, is.low low)
       ]
 
-  levels_sound : (k : ℕ) (ts : Tokens) (p : Found × Tokens) → r.levels inner room k ts ≡ Ok p → Is (suc room) k ts p
+  pub levels_sound : (k : ℕ) (ts : Tokens) (p : Found × Tokens) → r.levels inner room k ts ≡ Ok p → Is (suc room) k ts p
   unfolding r.levels r.level r.prefixed r.operations
   levels_sound zero ts p e = primary_sound ts p e
   levels_sound (suc k) ts p e =
