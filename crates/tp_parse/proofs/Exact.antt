@@ -57,7 +57,7 @@ names_open (last_name (inr n) e) q = absurd cc
 names_open (name_then (inl n) e d) q = absurd cc
 names_open (name_then (inr n) e d) q = absurd cc
 
-parameters_is : {ts rest : Tokens} {xs : List (List ℕ)} → Parameters ts xs rest → s.parameters ts ≡ Ok (xs, rest)
+pub parameters_is : {ts rest : Tokens} {xs : List (List ℕ)} → Parameters ts xs rest → s.parameters ts ≡ Ok (xs, rest)
 unfolding s.parameters
 parameters_is {ts} (no_parameters e) = rw (same_yes (mark ts) (m.Symbol symbol.CloseRound) e) refl
 parameters_is {ts} (parameters {mid = mid} d e) =
@@ -92,7 +92,7 @@ parameters_shorter (parameters {mid = mid} d e) = omega (arith, names_shorter d,
 sentence_shorter : {ts rest : Tokens} {x : Found} → Sentence ts x rest → length rest ≤ length ts
 sentence_shorter (sentence {end = end} d e) = omega (arith, shorter d, passed end)
 
-defines_shorter : {ts rest : Tokens} {d : DefinitionTree} {h : ℕ} → Defines ts d h rest → length rest < length ts
+pub defines_shorter : {ts rest : Tokens} {d : DefinitionTree} {h : ℕ} → Defines ts d h rest → length rest < length ts
 defines_shorter {ts} (defines {mid = mid} begins n o xs q b) =
     omega (arith, taken ts _ begins (λ z. cc), dropped (drop 1 ts), passed (drop 1 (drop 1 ts)), parameters_shorter xs, passed mid, sentence_shorter b)
 

@@ -378,7 +378,7 @@ ended_alike x some unseen = absurd (omega arith)
 ended_alike x some ended = stays_alike some ended
 ended_alike x some (agreed a) = unexpected (omega arith)
 
-source_alike : {n : ℕ} {ts us : Tokens} → 0 < n → Agrees n ts us → Alike n ts us (source.source ts) (source.source us)
+pub source_alike : {n : ℕ} {ts us : Tokens} → 0 < n → Agrees n ts us → Alike n ts us (source.source ts) (source.source us)
 unfolding source.source source.definitions
 source_alike {ts = ts} {us = us} some a =
     both _ _ (definitions_alike (length ts) (length us) [] some a (omega arith) (omega arith)) (λ ds vs. w.bind _ (w.expected (m.Word word.Run) vs) (λ u zs. w.bind _ (w.sentence_within zs) (λ x ys. w.ended_within (source_of ds x) ys))) (λ ds l r q eq lens pos b.
@@ -387,7 +387,7 @@ source_alike {ts = ts} {us = us} some a =
 
 -- ---- no source goes on with the token
 
-agrees : (n : ℕ) (ts us : Tokens) → take n ts ≡ take n us → Agrees n ts us
+pub agrees : (n : ℕ) (ts us : Tokens) → take n ts ≡ take n us → Agrees n ts us
 agrees zero ts us e = unseen
 agrees (suc n) [] [] e = ended
 agrees (suc n) [] (u ∷ us) e = absurd cc
@@ -398,7 +398,7 @@ agrees (suc n) (t ∷ ts) (u ∷ us) e =
     subst (λ (v : Token). Agrees (suc n) (t ∷ ts) (v ∷ us)) head (agreed (agrees n ts us rest))
 
 -- a refusal that names the token i
-data Names (i : ℕ) (ts : Tokens) : ReadOutcome SourceTree → Type 0 where
+pub data Names (i : ℕ) (ts : Tokens) : ReadOutcome SourceTree → Type 0 where
   unexpected_at : {k : ℕ} → k + i ≡ length ts → Names i ts (Err (Unexpected k))
   too_deep_at : {k : ℕ} → k + i ≡ length ts → Names i ts (Err (TooDeep k))
 
@@ -409,7 +409,7 @@ refused (goes k pos a f g) n q = elim n [ ]
 refused (unexpected f) n q = absurd cc
 refused (deep f) n q = absurd cc
 
-none_goes_on : (i : ℕ) (ts us : Tokens) (x : SourceTree) → Names i ts (source.source ts) → take (i + 1) us ≡ take (i + 1) ts → ¬ Accepts us x
+pub none_goes_on : (i : ℕ) (ts us : Tokens) (x : SourceTree) → Names i ts (source.source ts) → take (i + 1) us ≡ take (i + 1) ts → ¬ Accepts us x
 none_goes_on i ts us x named e is =
     let one : i + 1 ≡ suc i = omega arith in
     let front : take (suc i) ts ≡ take (suc i) us = ap (λ n. take n ts) (sym one) ∙ sym e ∙ ap (λ n. take n us) one in
