@@ -38,150 +38,7 @@ use Rattle.tp_parse.proofs.Within.{some_by_prefix}
 use Rattle.tp_parse.proofs.Extended.{Stops, Follows, something, role_stopped, joined_not, mark_on, some_mark, some_due, some_role, some_head, role_more, due_on, phrase_on, past_phrase, drop_phrase, from_on, past_on, some_phrase, head_on, enclosed_real, middle_real}
 use Rattle.tp_parse.proofs.Fresh.{symbol_token, name_token, name_found, a_name, mark_is, past_whole, Closing, due_close, past_close, stops_close, by_symbol, by_word, enclosure_close, middle_close, list_token, list_whole, list_due, no_items, list_end, list_end_stops, last_items, HeadRoom, after_head, Alone, alone, begun_alone}
 use Rattle.tp_parse.proofs.Finishes.{Ended, failed, failed_is, bind_err, refused_end, expect_err, Last, deep_last, deepen_err, deepen_room, fits_err, fits_room, admit_err, admit_room, HeadEnding, head_finish, some_start}
-
--- What finishes a phrase of a level: with any tokens that stop it, it is no higher than the room, where the tokens alone ended.
-pub record Ending (room k : ℕ) (ts : Tokens) (e : Refusal) : Type 0 where
-  pub next : Tokens → Tokens
-  pub finished : (ys : Tokens) → Stops ys → (x : Found) × Parses k (ts ++ next ys) x ys × (e ≡ Unfinished → 0 < room → x.height ≤ room)
-  pub roomy : e ≡ Unfinished → 0 < length ts → 0 < room
-
--- and with a mark that is due after it
-abbrev PartEnding : ℕ → ℕ → Mark → Tokens → Refusal → Type 0
-PartEnding room k close ts e =
-    (next : Tokens → Tokens)
-    × ((ys : Tokens) → (x : Found) × (end : Tokens) × Parses k (ts ++ next ys) x end × (mark_due end ≡ close) × (past end ≡ ys) × (e ≡ Unfinished → x.height ≤ room))
-
--- operands that go on with those that the next tokens are
-abbrev OthersEnding : ℕ → ℕ → Mark → Tokens → Refusal → Type 0
-OthersEnding room k separator ts e =
-    (next : Tokens → Tokens)
-    × ((ys rest : Tokens) (more : Operands) → Stops ys → Others k separator ys more rest
-    → (all : Operands) × Others k separator (ts ++ next ys) all rest × (e ≡ Unfinished → more.height ≤ room → all.height ≤ room))
-    × (0 < length ts)
-
-abbrev ListEnding : ℕ → Listed → Tokens → Refusal → Type 0
-ListEnding room x ts e =
-    (next : Tokens → Tokens) × ((ys : Tokens) → (all : Operands) × Listing (listed_level x) (listed_close x) (ts ++ next ys) all ys × (e ≡ Unfinished → all.height ≤ room))
-
--- a phrase, and one that goes on from an operand, of which the operands have this room
-abbrev PhraseEnding : ℕ → ℕ → Tokens → Refusal → Type 0
-PhraseEnding room k ts e = (next : Tokens → Tokens) × ((ys : Tokens) → Stops ys → (x : Found) × Parses k (ts ++ next ys) x ys × (e ≡ Unfinished → x.height ≤ suc room))
-
-abbrev GoesEnding : ℕ → ℕ → ℕ → Found → Tokens → Refusal → Type 0
-GoesEnding room k at left ts e =
-    (next : Tokens → Tokens) × ((ys : Tokens) → Stops ys → (x : Found) × Goes k at left (ts ++ next ys) x ys × (e ≡ Unfinished → left.height ≤ suc room → x.height ≤ suc room)) × (0 < length ts)
-
-others_join : {k : ℕ} {separator : Mark} {all more : Operands} {ts rest ws end : Tokens} → Others k separator ts all rest → rest ≡ [] → separator ≢ m.End → Stops ws → Others k separator ws more end
-    → (both : Operands) × Others k separator (ts ++ ws) both end × (both.height ≡ max all.height more.height)
-others_join {k} {separator} {more = more} {ws = ws} {end = end} (g.no_more e) none real stops o = (more, subst (λ us. Others k separator (us ++ ws) more end) (sym none) o, omega arith)
-others_join {separator = separator} {ts = ts} {ws = ws} (g.one_more {x = x} {mid = mid} e d o) none real stops last =
-    let some = some_mark ts separator e real in
-    let made = others_join o none real stops last in
-    (operand_then x made.0, g.one_more (mark_on ts ws some ∙ e) (drop_phrase ts ws some (phrase_on ws d (record { stops = λ q. stops }))) made.1, omega (arith, made.2))
-
-closed : {ts : Tokens} {all : Operands} (x : Listed) (ys : Tokens) → Listing (listed_level x) (listed_close x) ts all (past (list_token x ∷ ys)) → Listing (listed_level x) (listed_close x) ts all ys
-closed {ts} {all} x ys o = subst (λ q. Listing (listed_level x) (listed_close x) ts all q) (past_whole (list_token x) ys (list_whole x)) o
-
--- only `and` joins
-joins_word : (w : Word) → role_of (m.Word w) ≡ Joins → w ≡ word.And
-joins_word word.And e = refl
-joins_word _ e = absurd cc
-
-joins_symbol : (x : Symbol) → role_of (m.Symbol x) ≡ Joins → ⊥
-joins_symbol symbol.Stop e = absurd cc
-joins_symbol _ e = absurd cc
-
-joins_of : (x : Mark) → role_of x ≡ Joins → x ≡ m.Word word.And
-joins_of (m.Word w) e = ap m.Word (joins_word w e)
-joins_of (m.Symbol x) e = absurd (joins_symbol x e)
-joins_of m.End e = absurd cc
-joins_of m.Upper e = absurd cc
-joins_of m.Lower e = absurd cc
-joins_of m.Number e = absurd cc
-
-joins_mark : (k : ℕ) (x : Mark) → role_at k x ≡ Joins → x ≡ m.Word word.And
-unfolding role_at
-joins_mark k x e = elim (eqb (level_of (role_of x)) k) as (λ b. cond b (role_of x) Ends ≡ Joins → x ≡ m.Word word.And) [ true ↦ λ q. joins_of x q | false ↦ λ q. absurd cc ] e
-
-goes_left : (way : Grouping) → goes_on way ≡ true → way ≡ Left
-goes_left Left e = refl
-goes_left Single e = absurd cc
-goes_left Right e = absurd cc
-
--- an operand after the one token that there is
-after_last : {k : ℕ} {ts ws ys : Tokens} {t : Token} {x : Found} → ts ≡ t ∷ [] → Parses k ws x ys → Parses k (drop 1 ts ++ ws) x ys
-after_last {k} {ts} {ws} {ys} {t} {x} e d = subst (λ us. Parses k (drop 1 us ++ ws) x ys) (sym e) d
-
--- an operator and its right operand, after which the phrase ends
-infix_last : (k : ℕ) (o : Op) (at : ℕ) (left : Found) (ts ws ys : Tokens) (x : Found) → role_at k (mark ts) ≡ Infix o → Parses (right_level o) (drop 1 ts ++ ws) x ys → Stops ys
-    → Goes k at left (ts ++ ws) (of_infix at o left x) ys
-infix_last k o at left ts ws ys x role d stops =
-    let some = some_role k ts role (λ q. cc) in
-    let here = role_more ts ws k (Infix o) role some in
-    let operand = drop_phrase ts ws some d in
-    let ended : Goes k at (of_infix at o left x) ys (of_infix at o left x) ys = g.ends (role_stopped k (mark ys) stops.0) in
-    elim (grouping o) as (λ w. grouping o ≡ w → Goes k at left (ts ++ ws) (of_infix at o left x) ys) [
-      | Left ↦ λ w. g.left here w (at_level Left w operand) ended
-      | Single ↦ λ w. g.single here w (at_level Single w operand)
-      | Right ↦ λ w. g.right here w (at_level Right w operand)
-    ] refl
-  where
-    at_level : (w : Grouping) → grouping o ≡ w → Parses (right_level o) (drop 1 (ts ++ ws)) x ys → Parses (level_right_of w k) (drop 1 (ts ++ ws)) x ys
-    at_level w e p = subst (λ n. Parses n (drop 1 (ts ++ ws)) x ys) (sym (right_is k (mark ts) o w role e)) p
-
-index_last : (k at : ℕ) (left : Found) (ts ws end ys : Tokens) (x : Found) → role_at k (mark ts) ≡ Opens → Parses chop_level (drop 1 ts ++ ws) x end → mark_due end ≡ m.Symbol symbol.CloseSquare → past end ≡ ys → Stops ys
-    → Goes k at left (ts ++ ws) (of_index at left x) ys
-index_last k at left ts ws end ys x role d due rest stops =
-    let some = some_role k ts role (λ q. cc) in
-    g.indexed (role_more ts ws k Opens role some) (drop_phrase ts ws some d) due
-    (subst (λ us. Goes k at (of_index at left x) us (of_index at left x) ys) (sym rest) (g.ends (role_stopped k (mark ys) stops.0)))
-
--- a head with operands has room for them, where its first token was let in
-roomed : {ts mid : Tokens} {x : Head} (room : ℕ) → BeginsPrimary ts x mid → (is_high (start_of (mark ts)) ≡ true → 0 < room) → HeadRoom room x
-roomed room (g.number e) some = tt
-roomed room (g.truth e) some = tt
-roomed room (g.upper_name e) some = tt
-roomed room (g.lower_name e f) some = tt
-roomed room (g.call e f) some = tt
-roomed room (g.bare e) some = tt
-roomed room (g.form e f) some = tt
-roomed room (g.empty_list e) some = tt
-roomed room (g.list e) some = tt
-roomed room (g.enclosure e) some = some (ap is_high e)
-roomed room (g.if e) some = some (ap is_high e)
-roomed room (g.while e) some = some (ap is_high e)
-roomed room (g.repeat e) some = some (ap is_high e)
-roomed room (g.for e f d) some = some (ap is_high e)
-roomed room (g.forall e f d) some = some (ap is_high e)
-roomed room (g.exists e d f) some = some (ap is_high e)
-
-some_begun : (k : ℕ) (ts : Tokens) → begins k (mark ts) ≡ true → 0 < length ts
-unfolding begins mark
-some_begun k [] e = absurd cc
-some_begun k (t ∷ ts) e = omega arith
-
--- where none may be 1 high
-unfit_finish : (k : ℕ) (ts : Tokens) (e : Refusal) → failed {A = Found} (unfit k ts) ≡ Err e → Ended e → Ending 0 k ts e
-unfolding unfit
-unfit_finish k ts e is end =
-    elim (begins k (mark ts)) as (λ b. begins k (mark ts) ≡ b → failed {A = Found} (cond b (TooDeep (length ts)) (input.refusal ts)) ≡ Err e → Ending 0 k ts e) [
-      | true ↦ λ yes w.
-          let last = deep_last ts e w end (some_begun k ts yes) in
-          let same : mark ts ≡ kind_mark last.0.kind = ap mark last.1 ∙ mark_is last.0 [] in
-          let one = begun_alone k last.0 (ap (begins k) (sym same) ∙ yes) in
-          record {
-            next = one.0;
-            finished = λ ys stops. let made = one.1 ys stops in (made.0, subst (λ us. Parses k (us ++ one.0 ys) made.0 ys) (sym last.1) made.1, λ u. absurd (last.2 u));
-            roomy = λ u. absurd (last.2 u);
-          }
-      | false ↦ λ no w.
-          let none = refused_end ts e w end in
-          record {
-            next = λ ys. name_token ∷ ys;
-            finished = λ ys stops. (name_found, subst (λ us. Parses k (us ++ name_token ∷ ys) name_found ys) (sym none) (a_name k ys stops), λ u some. absurd (omega (arith, some)));
-            roomy = λ u some. let empty : length ts ≡ 0 = ap length none in absurd (omega (arith, some, empty));
-          }
-    ] refl is
+use Rattle.tp_parse.proofs.Endings.{Ending, PartEnding, OthersEnding, ListEnding, PhraseEnding, GoesEnding, others_join, closed, joins_mark, goes_left, after_last, infix_last, index_last, roomed, unfit_finish, part_ok, turn_steps}
 
 module _ (inner : ℕ → Reader Found) (room : ℕ) (sound : (k : ℕ) (ts : Tokens) (p : Found × Tokens) → inner k ts ≡ Ok p → Is room k ts p)
     (finish : (k : ℕ) (ts : Tokens) (e : Refusal) → inner k ts ≡ Err e → Ended e → Ending room k ts e) where
@@ -196,26 +53,20 @@ module _ (inner : ℕ → Reader Found) (room : ℕ) (sound : (k : ℕ) (ts : To
             let got = sound k ts w.0 w.1 in
             elim (bind_err (expect close w.0.1) _ e w.2) [
               | inl v ↦
-                  let none = expect_err close w.0.1 e v end in
-                  (λ ys. c.close ∷ ys, λ ys. (
-                    w.0.0,
-                    c.close ∷ ys,
-                    subst (λ q. Parses k (ts ++ c.close ∷ ys) w.0.0 (q ++ c.close ∷ ys)) none (phrase_on (c.close ∷ ys) got.0 (record { stops = λ q. stops_close c ys })),
-                    due_close c ys,
-                    past_close c ys,
-                    λ u. got.1,
-                  ))
+                  let none = expect_err close w.0.1 e v end in (
+                    λ ys. c.close ∷ ys,
+                    λ ys. (
+                      w.0.0,
+                      c.close ∷ ys,
+                      subst (λ q. Parses k (ts ++ c.close ∷ ys) w.0.0 (q ++ c.close ∷ ys)) none (phrase_on (c.close ∷ ys) got.0 (record { stops = λ q. stops_close c ys })),
+                      due_close c ys,
+                      past_close c ys,
+                      λ u. got.1,
+                    ),
+                  )
               | inr v ↦ absurd cc
             ]
       ]
-
-  -- a part that was read
-  part_ok : (k : ℕ) (close : Mark) (ts : Tokens) (q : Found × Tokens) → r.part inner room k close ts ≡ Ok q → (p : Found × Tokens) × Is room k ts p × (mark_due p.1 ≡ close) × (q ≡ (p.0, past p.1))
-  unfolding r.part
-  part_ok k close ts q e =
-      let b = bind_ok (inner k ts) _ q e in
-      let c = expect_then close b.0.1 _ q b.2 in
-      (b.0, sound k ts b.0 b.1, c.0, sym (ok_is (b.0.0, past b.0.1) q c.1))
 
   others_finish : (k : ℕ) (separator : Mark) (n : ℕ) (all : Operands) (ts : Tokens) (e : Refusal) → separator ≢ m.End → 0 < room
       → r.others_from inner room k separator n all ts ≡ Err e → Ended e → OthersEnding room k separator ts e
@@ -228,25 +79,34 @@ module _ (inner : ℕ → Reader Found) (room : ℕ) (sound : (k : ℕ) (ts : To
             let some = some_mark ts separator here real in
             elim (bind_err (inner k (drop 1 ts)) _ e w.1) [
               | inl v ↦
-                  let f = finish k (drop 1 ts) e v end in
-                  (f.next, (λ ys rest more stops o.
-                  let made = f.finished ys stops in
-                  (operand_then made.0 more, g.one_more (mark_on ts (f.next ys) some ∙ here) (drop_phrase ts (f.next ys) some made.1) o, λ u fewer. omega (arith, made.2 u low, fewer))), some)
+                  let f = finish k (drop 1 ts) e v end in (
+                    f.next,
+                    (λ ys rest more stops o.
+                        let made = f.finished ys stops in
+                        (operand_then made.0 more, g.one_more (mark_on ts (f.next ys) some ∙ here) (drop_phrase ts (f.next ys) some made.1) o, λ u fewer. omega (arith, made.2 u low, fewer))),
+                    some,
+                  )
               | inr v ↦
                   let got = sound k (drop 1 ts) v.0 v.1 in
-                  let f = others_finish k separator n (then_operand all v.0.0) v.0.1 e real low v.2 end in
-                  (f.0, (λ ys rest more stops o.
-                  let made = f.1 ys rest more stops o in
-                  (operand_then v.0.0 made.0, g.one_more (mark_on ts (f.0 ys) some ∙ here) (drop_phrase ts (f.0 ys) some (phrase_on (f.0 ys) got.0 (something f.2))) made.1, λ u fewer. omega (arith, got.1, made.2 u fewer))), some)
+                  let f = others_finish k separator n (then_operand all v.0.0) v.0.1 e real low v.2 end in (
+                    f.0,
+                    (λ ys rest more stops o.
+                        let made = f.1 ys rest more stops o in
+                        (operand_then v.0.0 made.0, g.one_more (mark_on ts (f.0 ys) some ∙ here) (drop_phrase ts (f.0 ys) some (phrase_on (f.0 ys) got.0 (something f.2))) made.1, λ u fewer. omega (arith, got.1, made.2 u fewer))),
+                    some,
+                  )
             ]
         | inr w ↦ absurd cc
       ]
 
   first_item : (x : Listed) (ts : Tokens) (e : Refusal) → Ending room (listed_level x) ts e → ListEnding room x ts e
   first_item x [] e f = (λ ys. list_token x ∷ ys, λ ys. (no_operand, no_items x ys, λ u. omega arith))
-  first_item x (t ∷ ts) e f = (λ ys. f.next (list_end x ys), λ ys.
-      let made = f.finished (list_end x ys) (list_end_stops x ys) in
-      (operand_then made.0 (operand_then name_found no_operand), closed x ys (g.operands made.1 (last_items x ys) (list_due x ys)), λ u. let some = f.roomy u (omega arith) in omega (arith, some, made.2 u some)))
+  first_item x (t ∷ ts) e f = (
+    λ ys. f.next (list_end x ys),
+    λ ys.
+        let made = f.finished (list_end x ys) (list_end_stops x ys) in
+        (operand_then made.0 (operand_then name_found no_operand), closed x ys (g.operands made.1 (last_items x ys) (list_due x ys)), λ u. let some = f.roomy u (omega arith) in omega (arith, some, made.2 u some)),
+  )
 
   operands_finish : (x : Listed) (ts : Tokens) (e : Refusal) → r.operands inner room (listed_level x) (listed_close x) ts ≡ Err e → Ended e → ListEnding room x ts e
   unfolding r.operands r.others
@@ -261,17 +121,21 @@ module _ (inner : ℕ → Reader Found) (room : ℕ) (sound : (k : ℕ) (ts : To
               let first = operands_of (v.0.0.tree ∷ []) v.0.0.height in
               elim (bind_err (r.others_from inner room (listed_level x) comma (length v.0.1) first v.0.1) _ e v.2) [
                 | inl z ↦
-                    let f = others_finish (listed_level x) comma (length v.0.1) first v.0.1 e (λ q. cc) low z end in
-                    (λ ys. f.0 (list_end x ys), λ ys.
-                    let made = f.1 (list_end x ys) (list_token x ∷ ys) (operand_then name_found no_operand) (list_end_stops x ys) (last_items x ys) in
-                    (operand_then v.0.0 made.0, closed x ys (g.operands (phrase_on (f.0 (list_end x ys)) got.0 (something f.2)) made.1 (list_due x ys)), λ u. omega (arith, got.1, made.2 u (omega arith))))
+                    let f = others_finish (listed_level x) comma (length v.0.1) first v.0.1 e (λ q. cc) low z end in (
+                      λ ys. f.0 (list_end x ys),
+                      λ ys.
+                          let made = f.1 (list_end x ys) (list_token x ∷ ys) (operand_then name_found no_operand) (list_end_stops x ys) (last_items x ys) in
+                          (operand_then v.0.0 made.0, closed x ys (g.operands (phrase_on (f.0 (list_end x ys)) got.0 (something f.2)) made.1 (list_due x ys)), λ u. omega (arith, got.1, made.2 u (omega arith))),
+                    )
                 | inr z ↦ elim (bind_err (expect (listed_close x) z.0.1) _ e z.2) [
                   | inl y ↦
                       let none = expect_err (listed_close x) z.0.1 e y end in
-                      let more = others_sound inner room sound (listed_level x) comma (length v.0.1) first v.0.1 z.0 (λ q. cc) (omega arith) got.1 z.1 in
-                      (list_end x, λ ys.
-                      let made = others_join more.1 none (λ q. cc) (list_end_stops x ys) (last_items x ys) in
-                      (operand_then v.0.0 made.0, closed x ys (g.operands (phrase_on (list_end x ys) got.0 (record { stops = λ q. list_end_stops x ys })) made.1 (list_due x ys)), λ u. omega (arith, got.1, more.3, made.2)))
+                      let more = others_sound inner room sound (listed_level x) comma (length v.0.1) first v.0.1 z.0 (λ q. cc) (omega arith) got.1 z.1 in (
+                        list_end x,
+                        λ ys.
+                            let made = others_join more.1 none (λ q. cc) (list_end_stops x ys) (last_items x ys) in
+                            (operand_then v.0.0 made.0, closed x ys (g.operands (phrase_on (list_end x ys) got.0 (record { stops = λ q. list_end_stops x ys })) made.1 (list_due x ys)), λ u. omega (arith, got.1, more.3, made.2)),
+                      )
                   | inr y ↦ absurd cc
                 ]
               ]
@@ -284,25 +148,31 @@ module _ (inner : ℕ → Reader Found) (room : ℕ) (sound : (k : ℕ) (ts : To
       let then = by_word word.Then refl (λ q. cc) in
       elim (bind_err (r.part inner room chop_level (m.Word word.Then) mid) _ e is) [
         | inl w ↦
-            let f = part_finish chop_level (m.Word word.Then) then mid e w end (λ u. low) in
-            (λ ys. f.0 (name_token ∷ ys), λ ys stops.
-            let made = f.1 (name_token ∷ ys) in
-            let ws = f.0 (name_token ∷ ys) in
-            let second : Parses chop_level (past made.1) name_found ys = subst (λ q. Parses chop_level q name_found ys) (sym made.4) (a_name chop_level ys stops) in
-            (of_choice (from (ts ++ ws)) made.0 name_found, g.if_then (head_on ws b (λ z q. absurd cc)) made.2 made.3 second stops.1, λ u. omega (arith, low, made.5 u)))
+            let f = part_finish chop_level (m.Word word.Then) then mid e w end (λ u. low) in (
+              λ ys. f.0 (name_token ∷ ys),
+              λ ys stops.
+                  let made = f.1 (name_token ∷ ys) in
+                  let ws = f.0 (name_token ∷ ys) in
+                  let second : Parses chop_level (past made.1) name_found ys = subst (λ q. Parses chop_level q name_found ys) (sym made.4) (a_name chop_level ys stops) in
+                  (of_choice (from (ts ++ ws)) made.0 name_found, g.if_then (head_on ws b (λ z q. absurd cc)) made.2 made.3 second stops.1, λ u. omega (arith, low, made.5 u)),
+            )
         | inr w ↦
-            let one = part_ok chop_level (m.Word word.Then) mid w.0 w.1 in
+            let one = part_ok inner room sound chop_level (m.Word word.Then) mid w.0 w.1 in
             let some = some_due one.0.1 _ one.2 (λ q. cc) in
             let left : w.0.1 ≡ past one.0.1 = ap (λ (q : Found × Tokens). q.1) one.3 in
             elim (bind_err (inner chop_level w.0.1) _ e w.2) [
               | inl v ↦
-                  let f = finish chop_level w.0.1 e v end in
-                  (f.next, λ ys stops.
-                  let made = f.finished ys stops in
-                  let ws = f.next ys in
-                  let second = past_phrase one.0.1 ws some (subst (λ q. Parses chop_level (q ++ ws) made.0 ys) left made.1) in
-                  (of_choice (from (ts ++ ws)) one.0.0 made.0, g.if_then (head_on ws b (λ z q. absurd cc)) (phrase_on ws one.1.0 (something some)) (due_on one.0.1 ws _ one.2 (λ q. cc)) second stops.1,
-                  λ u. omega (arith, one.1.1, made.2 u low)))
+                  let f = finish chop_level w.0.1 e v end in (
+                    f.next,
+                    λ ys stops.
+                        let made = f.finished ys stops in
+                        let ws = f.next ys in
+                        let second = past_phrase one.0.1 ws some (subst (λ q. Parses chop_level (q ++ ws) made.0 ys) left made.1) in (
+                          of_choice (from (ts ++ ws)) one.0.0 made.0,
+                          g.if_then (head_on ws b (λ z q. absurd cc)) (phrase_on ws one.1.0 (something some)) (due_on one.0.1 ws _ one.2 (λ q. cc)) second stops.1,
+                          λ u. omega (arith, one.1.1, made.2 u low),
+                        ),
+                  )
               | inr v ↦
                   let got = sound chop_level w.0.1 v.0 v.1 in
                   elim (chosen (sees (m.Word word.Else) v.0.1) _ _ _ v.2) [
@@ -311,16 +181,19 @@ module _ (inner : ℕ → Reader Found) (room : ℕ) (sound : (k : ℕ) (ts : To
                         let some2 = some_mark v.0.1 _ here (λ q. cc) in
                         elim (bind_err (inner chop_level (drop 1 v.0.1)) _ e z.1) [
                           | inl y ↦
-                              let f = finish chop_level (drop 1 v.0.1) e y end in
-                              (f.next, λ ys stops.
-                              let made = f.finished ys stops in
-                              let ws = f.next ys in
-                              let yes : Parses chop_level (past one.0.1) v.0.0 v.0.1 = subst (λ q. Parses chop_level q v.0.0 v.0.1) left got.0 in
-                              let second = past_phrase one.0.1 ws some (phrase_on ws yes (something some2)) in
-                              let third = drop_phrase v.0.1 ws some2 made.1 in
-                              (of_choice_else (from (ts ++ ws)) one.0.0 v.0.0 made.0,
-                              g.if_else (head_on ws b (λ z q. absurd cc)) (phrase_on ws one.1.0 (something some)) (due_on one.0.1 ws _ one.2 (λ q. cc)) second (mark_on v.0.1 ws some2 ∙ here) third,
-                              λ u. omega (arith, one.1.1, got.1, made.2 u low)))
+                              let f = finish chop_level (drop 1 v.0.1) e y end in (
+                                f.next,
+                                λ ys stops.
+                                    let made = f.finished ys stops in
+                                    let ws = f.next ys in
+                                    let yes : Parses chop_level (past one.0.1) v.0.0 v.0.1 = subst (λ q. Parses chop_level q v.0.0 v.0.1) left got.0 in
+                                    let second = past_phrase one.0.1 ws some (phrase_on ws yes (something some2)) in
+                                    let third = drop_phrase v.0.1 ws some2 made.1 in (
+                                      of_choice_else (from (ts ++ ws)) one.0.0 v.0.0 made.0,
+                                      g.if_else (head_on ws b (λ z q. absurd cc)) (phrase_on ws one.1.0 (something some)) (due_on one.0.1 ws _ one.2 (λ q. cc)) second (mark_on v.0.1 ws some2 ∙ here) third,
+                                      λ u. omega (arith, one.1.1, got.1, made.2 u low),
+                                    ),
+                              )
                           | inr y ↦ absurd cc
                         ]
                     | inr z ↦ absurd cc
@@ -332,25 +205,31 @@ module _ (inner : ℕ → Reader Found) (room : ℕ) (sound : (k : ℕ) (ts : To
   paired_finish q ts mid e b low is end =
       elim (bind_err (r.part inner room chop_level (middle q) mid) _ e is) [
         | inl w ↦
-            let f = part_finish chop_level (middle q) (middle_close q) mid e w end (λ u. low) in
-            (λ ys. f.0 (name_token ∷ ys), λ ys stops.
-            let made = f.1 (name_token ∷ ys) in
-            let ws = f.0 (name_token ∷ ys) in
-            let second : Parses chop_level (past made.1) name_found ys = subst (λ us. Parses chop_level us name_found ys) (sym made.4) (a_name chop_level ys stops) in
-            (of_pair (from (ts ++ ws)) q made.0 name_found, g.paired (head_on ws b (λ z y. absurd cc)) made.2 made.3 second, λ u. omega (arith, low, made.5 u)))
+            let f = part_finish chop_level (middle q) (middle_close q) mid e w end (λ u. low) in (
+              λ ys. f.0 (name_token ∷ ys),
+              λ ys stops.
+                  let made = f.1 (name_token ∷ ys) in
+                  let ws = f.0 (name_token ∷ ys) in
+                  let second : Parses chop_level (past made.1) name_found ys = subst (λ us. Parses chop_level us name_found ys) (sym made.4) (a_name chop_level ys stops) in
+                  (of_pair (from (ts ++ ws)) q made.0 name_found, g.paired (head_on ws b (λ z y. absurd cc)) made.2 made.3 second, λ u. omega (arith, low, made.5 u)),
+            )
         | inr w ↦
-            let one = part_ok chop_level (middle q) mid w.0 w.1 in
+            let one = part_ok inner room sound chop_level (middle q) mid w.0 w.1 in
             let some = some_due one.0.1 _ one.2 (middle_real q) in
             let left : w.0.1 ≡ past one.0.1 = ap (λ (z : Found × Tokens). z.1) one.3 in
             elim (bind_err (inner chop_level w.0.1) _ e w.2) [
               | inl v ↦
-                  let f = finish chop_level w.0.1 e v end in
-                  (f.next, λ ys stops.
-                  let made = f.finished ys stops in
-                  let ws = f.next ys in
-                  let second = past_phrase one.0.1 ws some (subst (λ us. Parses chop_level (us ++ ws) made.0 ys) left made.1) in
-                  (of_pair (from (ts ++ ws)) q one.0.0 made.0, g.paired (head_on ws b (λ z y. absurd cc)) (phrase_on ws one.1.0 (something some)) (due_on one.0.1 ws _ one.2 (middle_real q)) second,
-                  λ u. omega (arith, one.1.1, made.2 u low)))
+                  let f = finish chop_level w.0.1 e v end in (
+                    f.next,
+                    λ ys stops.
+                        let made = f.finished ys stops in
+                        let ws = f.next ys in
+                        let second = past_phrase one.0.1 ws some (subst (λ us. Parses chop_level (us ++ ws) made.0 ys) left made.1) in (
+                          of_pair (from (ts ++ ws)) q one.0.0 made.0,
+                          g.paired (head_on ws b (λ z y. absurd cc)) (phrase_on ws one.1.0 (something some)) (due_on one.0.1 ws _ one.2 (middle_real q)) second,
+                          λ u. omega (arith, one.1.1, made.2 u low),
+                        ),
+                  )
               | inr v ↦ absurd cc
             ]
       ]
@@ -367,13 +246,16 @@ module _ (inner : ℕ → Reader Found) (room : ℕ) (sound : (k : ℕ) (ts : To
   primary_by_finish (h.Enclosed x) ts mid e b low is end =
       elim (bind_err (r.part inner room (enclosed_level x) (enclosed_close x) mid) _ e is) [
         | inl w ↦
-            let f = part_finish (enclosed_level x) (enclosed_close x) (enclosure_close x) mid e w end (λ u. low) in
-            (f.0, λ ys stops.
-            let made = f.1 ys in
-            let ws = f.0 ys in
-            (of_enclosed (from (ts ++ ws)) x made.0,
-            subst (λ q. Parses 0 (ts ++ ws) (of_enclosed (from (ts ++ ws)) x made.0) q) made.4 (g.enclosed (head_on ws b (λ z q. absurd cc)) made.2 made.3),
-            λ u. omega (arith, made.5 u)))
+            let f = part_finish (enclosed_level x) (enclosed_close x) (enclosure_close x) mid e w end (λ u. low) in (
+              f.0,
+              λ ys stops.
+                  let made = f.1 ys in
+                  let ws = f.0 ys in (
+                    of_enclosed (from (ts ++ ws)) x made.0,
+                    subst (λ q. Parses 0 (ts ++ ws) (of_enclosed (from (ts ++ ws)) x made.0) q) made.4 (g.enclosed (head_on ws b (λ z q. absurd cc)) made.2 made.3),
+                    λ u. omega (arith, made.5 u),
+                  ),
+            )
         | inr w ↦ absurd cc
       ]
   primary_by_finish h.If ts mid e b low is end = choice_finish ts mid e b low is end
@@ -400,14 +282,16 @@ module _ (inner : ℕ → Reader Found) (room : ℕ) (sound : (k : ℕ) (ts : To
         | inr w ↦
             let got = admit_room room (start_of (mark ts)) ts w.0 w.1 in
             let later : and_then (head_by (start_of (mark ts)) ts) (λ head vs. r.primary_by inner room (from ts) head vs) ≡ Err e =
-                subst (λ us. and_then (head_by (start_of (mark ts)) us) (λ head vs. r.primary_by inner room (from ts) head vs) ≡ Err e) got.1 w.2 in
+            subst (λ us. and_then (head_by (start_of (mark ts)) us) (λ head vs. r.primary_by inner room (from ts) head vs) ≡ Err e) got.1 w.2 in
             elim (bind_err (head_by (start_of (mark ts)) ts) _ e later) [
               | inl v ↦
                   let f = head_finish (start_of (mark ts)) ts e refl v end in
-                  let after = after_head room f.head in
-                  (λ ys. f.next (after.0 ys), λ ys stops.
-                  let made = after.1 (ts ++ f.next (after.0 ys)) ys stops (f.begun (after.0 ys)) in
-                  (made.0, made.1, λ u. made.2 (f.room room got.0)))
+                  let after = after_head room f.head in (
+                    λ ys. f.next (after.0 ys),
+                    λ ys stops.
+                        let made = after.1 (ts ++ f.next (after.0 ys)) ys stops (f.begun (after.0 ys)) in
+                        (made.0, made.1, λ u. made.2 (f.room room got.0)),
+                  )
               | inr v ↦
                   let b = head_sound (start_of (mark ts)) ts v.0 refl v.1 in
                   primary_by_finish v.0.0 ts v.0.1 e b (roomed room b got.0) v.2 end
@@ -428,11 +312,14 @@ module _ (inner : ℕ → Reader Found) (room : ℕ) (sound : (k : ℕ) (ts : To
             let got = fits_room room left.height ts w.0 w.1 in
             elim (bind_err (inner (right_level o) (drop 1 w.0.1)) _ e w.2) [
               | inl v ↦
-                  let f = finish (right_level o) (drop 1 w.0.1) e v end in
-                  (f.next, (λ ys stops.
-                  let made = f.finished ys stops in
-                  let operand = subst (λ us. Parses (right_level o) (drop 1 us ++ f.next ys) made.0 ys) got.2 made.1 in
-                  (of_infix at o left made.0, infix_last k o at left ts (f.next ys) ys made.0 role operand stops, λ u low. omega (arith, got.1, made.2 u got.0))), some)
+                  let f = finish (right_level o) (drop 1 w.0.1) e v end in (
+                    f.next,
+                    (λ ys stops.
+                        let made = f.finished ys stops in
+                        let operand = subst (λ us. Parses (right_level o) (drop 1 us ++ f.next ys) made.0 ys) got.2 made.1 in
+                        (of_infix at o left made.0, infix_last k o at left ts (f.next ys) ys made.0 role operand stops, λ u low. omega (arith, got.1, made.2 u got.0))),
+                    some,
+                  )
               | inr v ↦ absurd cc
             ]
       ]
@@ -444,19 +331,25 @@ module _ (inner : ℕ → Reader Found) (room : ℕ) (sound : (k : ℕ) (ts : To
       let close = by_symbol symbol.CloseSquare refl refl (λ q. cc) in
       elim (bind_err (fits room left.height ts) _ e is) [
         | inl w ↦
-            let last = deep_last ts e (fits_err room left.height ts e w) end some in
-            (λ ys. name_token ∷ close.close ∷ ys, (λ ys stops.
-            let i = after_last last.1 (a_name chop_level (close.close ∷ ys) (stops_close close ys)) in
-            (of_index at left name_found, index_last k at left ts (name_token ∷ close.close ∷ ys) (close.close ∷ ys) ys name_found role i (due_close close ys) (past_close close ys) stops, λ u. absurd (last.2 u))), some)
+            let last = deep_last ts e (fits_err room left.height ts e w) end some in (
+              λ ys. name_token ∷ close.close ∷ ys,
+              (λ ys stops.
+                  let i = after_last last.1 (a_name chop_level (close.close ∷ ys) (stops_close close ys)) in
+                  (of_index at left name_found, index_last k at left ts (name_token ∷ close.close ∷ ys) (close.close ∷ ys) ys name_found role i (due_close close ys) (past_close close ys) stops, λ u. absurd (last.2 u))),
+              some,
+            )
         | inr w ↦
             let got = fits_room room left.height ts w.0 w.1 in
             elim (bind_err (r.part inner room chop_level (m.Symbol symbol.CloseSquare) (drop 1 w.0.1)) _ e w.2) [
               | inl v ↦
-                  let f = part_finish chop_level (m.Symbol symbol.CloseSquare) close (drop 1 w.0.1) e v end (λ u. got.0) in
-                  (f.0, (λ ys stops.
-                  let made = f.1 ys in
-                  let i = subst (λ us. Parses chop_level (drop 1 us ++ f.0 ys) made.0 made.1) got.2 made.2 in
-                  (of_index at left made.0, index_last k at left ts (f.0 ys) made.1 ys made.0 role i made.3 made.4 stops, λ u low. omega (arith, got.1, made.5 u))), some)
+                  let f = part_finish chop_level (m.Symbol symbol.CloseSquare) close (drop 1 w.0.1) e v end (λ u. got.0) in (
+                    f.0,
+                    (λ ys stops.
+                        let made = f.1 ys in
+                        let i = subst (λ us. Parses chop_level (drop 1 us ++ f.0 ys) made.0 made.1) got.2 made.2 in
+                        (of_index at left made.0, index_last k at left ts (f.0 ys) made.1 ys made.0 role i made.3 made.4 stops, λ u low. omega (arith, got.1, made.5 u))),
+                    some,
+                  )
               | inr v ↦ absurd cc
             ]
       ]
@@ -467,22 +360,28 @@ module _ (inner : ℕ → Reader Found) (room : ℕ) (sound : (k : ℕ) (ts : To
       let some = some_role k ts role (λ q. cc) in
       elim (bind_err (fits room left.height ts) _ e is) [
         | inl w ↦
-            let last = deep_last ts e (fits_err room left.height ts e w) end some in
-            (λ ys. name_token ∷ ys, (λ ys stops.
-            let ws = name_token ∷ ys in
-            let item = drop_phrase ts ws some (after_last last.1 (a_name (k - 1) ys stops)) in
-            let chain = g.one_more (mark_on ts ws some ∙ joins_mark k (mark ts) role) item (g.no_more (joined_not (mark ys) stops.0)) in
-            (of_chain at (operand_then left (operand_then name_found no_operand)), g.joins (role_more ts ws k Joins role some) chain, λ u. absurd (last.2 u))), some)
+            let last = deep_last ts e (fits_err room left.height ts e w) end some in (
+              λ ys. name_token ∷ ys,
+              (λ ys stops.
+                  let ws = name_token ∷ ys in
+                  let item = drop_phrase ts ws some (after_last last.1 (a_name (k - 1) ys stops)) in
+                  let chain = g.one_more (mark_on ts ws some ∙ joins_mark k (mark ts) role) item (g.no_more (joined_not (mark ys) stops.0)) in
+                  (of_chain at (operand_then left (operand_then name_found no_operand)), g.joins (role_more ts ws k Joins role some) chain, λ u. absurd (last.2 u))),
+              some,
+            )
         | inr w ↦
             let got = fits_room room left.height ts w.0 w.1 in
             let first = operands_of (left.tree ∷ []) left.height in
             elim (bind_err (r.others_from inner room (k - 1) (m.Word word.And) (length w.0.1) first w.0.1) _ e w.2) [
               | inl v ↦
-                  let f = others_finish (k - 1) (m.Word word.And) (length w.0.1) first w.0.1 e (λ q. cc) got.0 v end in
-                  (f.0, (λ ys stops.
-                  let made = f.1 ys ys no_operand stops (g.no_more (joined_not (mark ys) stops.0)) in
-                  let chain = subst (λ us. Others (k - 1) (m.Word word.And) (us ++ f.0 ys) made.0 ys) got.2 made.1 in
-                  (of_chain at (operand_then left made.0), g.joins (role_more ts (f.0 ys) k Joins role some) chain, λ u low. omega (arith, got.1, made.2 u (omega arith)))), some)
+                  let f = others_finish (k - 1) (m.Word word.And) (length w.0.1) first w.0.1 e (λ q. cc) got.0 v end in (
+                    f.0,
+                    (λ ys stops.
+                        let made = f.1 ys ys no_operand stops (g.no_more (joined_not (mark ys) stops.0)) in
+                        let chain = subst (λ us. Others (k - 1) (m.Word word.And) (us ++ f.0 ys) made.0 ys) got.2 made.1 in
+                        (of_chain at (operand_then left made.0), g.joins (role_more ts (f.0 ys) k Joins role some) chain, λ u low. omega (arith, got.1, made.2 u (omega arith)))),
+                    some,
+                  )
               | inr v ↦ absurd cc
             ]
       ]
@@ -492,45 +391,6 @@ module _ (inner : ℕ → Reader Found) (room : ℕ) (sound : (k : ℕ) (ts : To
   turn_finish k at left (Infix o) ts e role is end = elim (bind_err (r.operated inner room o at left ts) _ e is) [ inl w ↦ operated_finish k o at left ts e role w end | inr w ↦ absurd cc ]
   turn_finish k at left Opens ts e role is end = elim (bind_err (r.indexed inner room at left ts) _ e is) [ inl w ↦ indexed_finish k at left ts e role w end | inr w ↦ absurd cc ]
   turn_finish k at left Joins ts e role is end = elim (bind_err (r.chained inner room k at left ts) _ e is) [ inl w ↦ chained_finish k at left ts e role w end | inr w ↦ absurd cc ]
-
-  -- what a turn did, over more tokens
-  abbrev Steps : ℕ → ℕ → Found → Tokens → (Found × Bool) × Tokens → Type 0
-  Steps k at left ts q = q.0.1 ≡ true → (ws : Tokens) → 0 < length q.1 → (x : Found) (last : Tokens) → Goes k at q.0.0 (q.1 ++ ws) x last → Goes k at left (ts ++ ws) x last
-
-  turn_by_steps : (k at : ℕ) (left : Found) (role : Role) (ts : Tokens) (q : (Found × Bool) × Tokens) → role_at k (mark ts) ≡ role → r.turn_by inner room k at left role ts ≡ Ok q → Steps k at left ts q
-  unfolding r.operated r.indexed r.part
-  turn_by_steps k at left Ends ts q role e = subst (Steps k at left ts) (ok_is ((left, false), ts) q e) (λ yes. absurd cc)
-  turn_by_steps k at left (Infix o) ts q role e =
-      let some = some_role k ts role (λ z. cc) in
-      let x = bind_ok (r.operated inner room o at left ts) _ q e in
-      let f = fits_then room left.height ts _ x.0 x.1 in
-      let b = bind_ok (inner (right_level o) (drop 1 ts)) _ x.0 f.1 in
-      let is = sound (right_level o) (drop 1 ts) b.0 b.1 in
-      let made = ok_is (of_infix at o left b.0.0, b.0.1) x.0 b.2 in
-      let whole = ap (λ (z : Found × Tokens). ((z.0, goes_on (grouping o)), z.1)) made ∙ ok_is _ q x.2 in
-      subst (Steps k at left ts) whole (λ yes ws more y last c.
-      let way = goes_left (grouping o) yes in
-      let operand : Parses (k - 1) (drop 1 ts) b.0.0 b.0.1 = subst (λ n. Parses n (drop 1 ts) b.0.0 b.0.1) (sym (right_is k (mark ts) o Left role way)) is.0 in
-      g.left (role_more ts ws k (Infix o) role some) way (drop_phrase ts ws some (phrase_on ws operand (something more))) c)
-  turn_by_steps k at left Opens ts q role e =
-      let some = some_role k ts role (λ z. cc) in
-      let x = bind_ok (r.indexed inner room at left ts) _ q e in
-      let f = fits_then room left.height ts _ x.0 x.1 in
-      let part = bind_ok (r.part inner room chop_level (m.Symbol symbol.CloseSquare) (drop 1 ts)) _ x.0 f.1 in
-      let i = part_ok chop_level (m.Symbol symbol.CloseSquare) (drop 1 ts) part.0 part.1 in
-      let due = some_due i.0.1 _ i.2 (λ z. cc) in
-      let made = ap (λ (z : Found × Tokens). (of_index at left z.0, z.1)) (sym i.3) ∙ ok_is (of_index at left part.0.0, part.0.1) x.0 part.2 in
-      let whole = ap (λ (z : Found × Tokens). ((z.0, true), z.1)) made ∙ ok_is _ q x.2 in
-      subst (Steps k at left ts) whole (λ yes ws more y last c.
-      g.indexed (role_more ts ws k Opens role some) (drop_phrase ts ws some (phrase_on ws i.1.0 (something due))) (due_on i.0.1 ws _ i.2 (λ z. cc))
-      (subst (λ us. Goes k at (of_index at left i.0.0) us y last) (sym (past_on i.0.1 ws due)) c))
-  turn_by_steps k at left Joins ts q role e =
-      let x = bind_ok (r.chained inner room k at left ts) _ q e in
-      subst (Steps k at left ts) (ok_is ((x.0.0, false), x.0.1) q x.2) (λ yes. absurd cc)
-
-  turn_steps : (k at : ℕ) (left : Found) (ts : Tokens) (q : (Found × Bool) × Tokens) → r.turn inner room k at left ts ≡ Ok q → Steps k at left ts q
-  unfolding r.turn
-  turn_steps k at left ts q e = turn_by_steps k at left (role_at k (mark ts)) ts q refl e
 
   turn_finished : (k at : ℕ) (left : Found) (ts : Tokens) (e : Refusal) → r.turn inner room k at left ts ≡ Err e → Ended e → GoesEnding room k at left ts e
   unfolding r.turn
@@ -546,7 +406,7 @@ module _ (inner : ℕ → Reader Found) (room : ℕ) (sound : (k : ℕ) (ts : To
             elim (chosen_at w.0.0.1 (r.go inner room k at n w.0.0.0) (pure w.0.0.0) w.0.1 (Err e) w.2) [
               | inl v ↦
                   let f = go_finish k at n w.0.0.0 w.0.1 e v.1 end in
-                  let step = turn_steps k at left ts w.0 w.1 v.0 in
+                  let step = turn_steps inner room sound k at left ts w.0 w.1 v.0 in
                   let turned = turn_sound inner room sound k at left ts w.0 w.1 in
                   let fewer = turn_fewer inner room sound k at left ts w.0 w.1 v.0 in
                   (f.0, (λ ys stops. let made = f.1 ys stops in (made.0, step (f.0 ys) f.2 made.0 ys made.1, λ u low. made.2 u (turned.low low))), omega (arith, fewer))
@@ -563,22 +423,27 @@ module _ (inner : ℕ → Reader Found) (room : ℕ) (sound : (k : ℕ) (ts : To
             let some = some_by_prefix (suc k) ts (λ z. absurd cc) in
             elim (bind_err (deepen room ts) _ e w) [
               | inl v ↦
-                  let last = deep_last ts e (deepen_err room ts e v) end some in
-                  (λ ys. name_token ∷ ys, λ ys stops.
-                  let ws = name_token ∷ ys in
-                  (of_prefix (from (ts ++ ws)) o name_found,
-                  g.prefixed (ap (prefix_at (suc k)) (mark_on ts ws some) ∙ own) (drop_phrase ts ws some (after_last last.1 (a_name (suc k) ys stops))),
-                  λ u. absurd (last.2 u)))
+                  let last = deep_last ts e (deepen_err room ts e v) end some in (
+                    λ ys. name_token ∷ ys,
+                    λ ys stops.
+                        let ws = name_token ∷ ys in (
+                          of_prefix (from (ts ++ ws)) o name_found,
+                          g.prefixed (ap (prefix_at (suc k)) (mark_on ts ws some) ∙ own) (drop_phrase ts ws some (after_last last.1 (a_name (suc k) ys stops))),
+                          λ u. absurd (last.2 u),
+                        ),
+                  )
               | inr v ↦
                   let got = deepen_room room ts v.0 v.1 in
                   elim (bind_err (inner (suc k) (drop 1 v.0.1)) _ e v.2) [
                     | inl z ↦
-                        let f = finish (suc k) (drop 1 v.0.1) e z end in
-                        (f.next, λ ys stops.
-                        let made = f.finished ys stops in
-                        let ws = f.next ys in
-                        let operand = subst (λ us. Parses (suc k) (drop 1 us ++ ws) made.0 ys) got.1 made.1 in
-                        (of_prefix (from (ts ++ ws)) o made.0, g.prefixed (ap (prefix_at (suc k)) (mark_on ts ws some) ∙ own) (drop_phrase ts ws some operand), λ u. omega (arith, made.2 u got.0)))
+                        let f = finish (suc k) (drop 1 v.0.1) e z end in (
+                          f.next,
+                          λ ys stops.
+                              let made = f.finished ys stops in
+                              let ws = f.next ys in
+                              let operand = subst (λ us. Parses (suc k) (drop 1 us ++ ws) made.0 ys) got.1 made.1 in
+                              (of_prefix (from (ts ++ ws)) o made.0, g.prefixed (ap (prefix_at (suc k)) (mark_on ts ws some) ∙ own) (drop_phrase ts ws some operand), λ u. omega (arith, made.2 u got.0)),
+                        )
                     | inr z ↦ absurd cc
                   ]
             ]
@@ -589,12 +454,14 @@ module _ (inner : ℕ → Reader Found) (room : ℕ) (sound : (k : ℕ) (ts : To
                   (f.0, λ ys stops. let made = f.1 ys stops in (made.0, g.level made.1 (g.ends (role_stopped (suc k) (mark ys) stops.0)), made.2))
               | inr v ↦
                   let got = levels_sound inner room sound k ts v.0 v.1 in
-                  let f = go_finish (suc k) (from ts) (length v.0.1) v.0.0 v.0.1 e v.2 end in
-                  (f.0, λ ys stops.
-                  let made = f.1 ys stops in
-                  let ws = f.0 ys in
-                  let more = subst (λ n. Goes (suc k) n v.0.0 (v.0.1 ++ ws) made.0 ys) (sym (from_on ts ws (some_phrase got.0))) made.1 in
-                  (made.0, g.level (phrase_on ws got.0 (something f.2)) more, λ u. made.2 u got.1))
+                  let f = go_finish (suc k) (from ts) (length v.0.1) v.0.0 v.0.1 e v.2 end in (
+                    f.0,
+                    λ ys stops.
+                        let made = f.1 ys stops in
+                        let ws = f.0 ys in
+                        let more = subst (λ n. Goes (suc k) n v.0.0 (v.0.1 ++ ws) made.0 ys) (sym (from_on ts ws (some_phrase got.0))) made.1 in
+                        (made.0, g.level (phrase_on ws got.0 (something f.2)) more, λ u. made.2 u got.1),
+                  )
             ]
       ] refl is
 

@@ -45,8 +45,11 @@ lower_then_err ts f e is end = elim (gate_err (sees m.Lower ts) (first_name ts, 
 
 -- ---- sentences
 
+stop_plain : m.Symbol symbol.Stop ≢ g.open_round
+stop_plain q = absurd cc
+
 abbrev stop : Closing (m.Symbol symbol.Stop)
-stop = by_symbol symbol.Stop refl refl (λ q. cc)
+stop = by_symbol symbol.Stop refl refl stop_plain
 
 abbrev SentenceEnding : Tokens → Refusal → Type 0
 SentenceEnding ts e = (next : Tokens → Tokens) × ((ys : Tokens) → (x : Found) × Sentence (ts ++ next ys) x ys × (e ≡ Unfinished → x.height ≤ limit))
@@ -64,10 +67,12 @@ sentence_finish ts e is end =
       | inr w ↦
           let got = read_sound limit chop_level ts w.0 w.1 in
           elim (expect_then_err (m.Symbol symbol.Stop) w.0.1 _ e w.2 end) [
-            | inl none ↦
-                (λ ys. stop.close ∷ ys, λ ys.
-                let more = phrase_on (stop.close ∷ ys) got.0 (record { stops = λ q. stops_close stop ys }) in
-                (w.0.0, stopped ys (subst (λ us. Parses chop_level (ts ++ stop.close ∷ ys) w.0.0 (us ++ stop.close ∷ ys)) none more), λ u. got.1))
+            | inl none ↦ (
+              λ ys. stop.close ∷ ys,
+              λ ys.
+                  let more = phrase_on (stop.close ∷ ys) got.0 (record { stops = λ q. stops_close stop ys }) in
+                  (w.0.0, stopped ys (subst (λ us. Parses chop_level (ts ++ stop.close ∷ ys) w.0.0 (us ++ stop.close ∷ ys)) none more), λ u. got.1),
+            )
             | inr v ↦ absurd cc
           ]
     ]
@@ -84,8 +89,11 @@ a_sentence ys = stopped ys (a_name chop_level (stop.close ∷ ys) (stops_close s
 abbrev ParametersEnding : Tokens → Type 0
 ParametersEnding ts = (xs : List (List ℕ)) × (next : Tokens → Tokens) × ((ys : Tokens) → Parameters (ts ++ next ys) xs ys)
 
+close_plain : m.Symbol symbol.CloseRound ≢ g.open_round
+close_plain q = absurd cc
+
 abbrev close : Closing (m.Symbol symbol.CloseRound)
-close = by_symbol symbol.CloseRound refl refl (λ q. cc)
+close = by_symbol symbol.CloseRound refl refl close_plain
 
 close_named : {ts : Tokens} {xs : List (List ℕ)} (ys : Tokens) → g.ReadsNames ts xs (close.close ∷ ys) → Parameters ts xs ys
 close_named {ts} {xs} ys d = subst (Parameters ts xs) (past_close close ys) (g.parameters d (due_close close ys))
@@ -102,10 +110,13 @@ parameters_finish ts e is end =
       | inr w ↦ elim (bind_err (names ts) _ e w.1) [
         | inl v ↦ let more = names_finish ts e v end in (more.0, λ ys. name_token ∷ close.close ∷ ys, λ ys. close_named ys (more.1 (close.close ∷ ys) (close_other ys)))
         | inr v ↦ elim (expect_then_err (m.Symbol symbol.CloseRound) v.0.1 _ e v.2 end) [
-          | inl none ↦
-              (v.0.0, λ ys. close.close ∷ ys, λ ys.
-              let more = names_on (close.close ∷ ys) (names_sound ts v.0 v.1) (λ q. close_other ys) in
-              close_named ys (subst (λ us. g.ReadsNames (ts ++ close.close ∷ ys) v.0.0 (us ++ close.close ∷ ys)) none more))
+          | inl none ↦ (
+            v.0.0,
+            λ ys. close.close ∷ ys,
+            λ ys.
+                let more = names_on (close.close ∷ ys) (names_sound ts v.0 v.1) (λ q. close_other ys) in
+                close_named ys (subst (λ us. g.ReadsNames (ts ++ close.close ∷ ys) v.0.0 (us ++ close.close ∷ ys)) none more),
+          )
           | inr z ↦ absurd cc
         ]
       ]
@@ -153,31 +164,37 @@ definition_finish (t ∷ u ∷ v ∷ vs) e begins is end =
         | inl none ↦ absurd cc
         | inr x ↦ elim (bind_err (s.parameters (past (v ∷ vs))) _ e x.1) [
           | inl y ↦
-              let f = parameters_finish (past (v ∷ vs)) e y end in
-              (λ ys. f.1 (equal_body ys), λ ys.
-              let ws = f.1 (equal_body ys) in
-              let inside = subst (λ us. Parameters us f.0 (equal_body ys)) (sym (past_on (v ∷ vs) ws (omega arith))) (f.2 (equal_body ys)) in
-              (_, _, g.defines {ts = t ∷ u ∷ v ∷ vs ++ ws} begins w.0 x.0 inside (equal_due ys) (equal_sentence ys), λ q. omega arith))
+              let f = parameters_finish (past (v ∷ vs)) e y end in (
+                λ ys. f.1 (equal_body ys),
+                λ ys.
+                    let ws = f.1 (equal_body ys) in
+                    let inside = subst (λ us. Parameters us f.0 (equal_body ys)) (sym (past_on (v ∷ vs) ws (omega arith))) (f.2 (equal_body ys)) in
+                    (_, _, g.defines {ts = t ∷ u ∷ v ∷ vs ++ ws} begins w.0 x.0 inside (equal_due ys) (equal_sentence ys), λ q. omega arith),
+              )
           | inr y ↦
               let read = parameters_sound (past (v ∷ vs)) y.0 y.1 in
               elim (expect_then_err (m.Symbol symbol.Equal) y.0.1 _ e y.2 end) [
-                | inl none ↦
-                    (equal_body, λ ys.
-                    let ws = equal_body ys in
-                    let more = subst (λ us. Parameters (past (v ∷ vs) ++ ws) y.0.0 (us ++ ws)) none (parameters_on ws read) in
-                    let inside = subst (λ us. Parameters us y.0.0 ws) (sym (past_on (v ∷ vs) ws (omega arith))) more in
-                    (_, _, g.defines {ts = t ∷ u ∷ v ∷ vs ++ ws} begins w.0 x.0 inside (equal_due ys) (equal_sentence ys), λ q. omega arith))
+                | inl none ↦ (
+                  equal_body,
+                  λ ys.
+                      let ws = equal_body ys in
+                      let more = subst (λ us. Parameters (past (v ∷ vs) ++ ws) y.0.0 (us ++ ws)) none (parameters_on ws read) in
+                      let inside = subst (λ us. Parameters us y.0.0 ws) (sym (past_on (v ∷ vs) ws (omega arith))) more in
+                      (_, _, g.defines {ts = t ∷ u ∷ v ∷ vs ++ ws} begins w.0 x.0 inside (equal_due ys) (equal_sentence ys), λ q. omega arith),
+                )
                 | inr z ↦
                     let some = some_due y.0.1 _ z.0 (λ q. cc) in
                     elim (bind_err (s.sentence (past y.0.1)) _ e z.1) [
                       | inl a ↦
-                          let f = sentence_finish (past y.0.1) e a end in
-                          (f.0, λ ys.
-                          let ws = f.0 ys in
-                          let made = f.1 ys in
-                          let inside = subst (λ us. Parameters us y.0.0 (y.0.1 ++ ws)) (sym (past_on (v ∷ vs) ws (omega arith))) (parameters_on ws read) in
-                          let main = subst (λ us. Sentence us made.0 ys) (sym (past_on y.0.1 ws some)) made.1 in
-                          (_, _, g.defines {ts = t ∷ u ∷ v ∷ vs ++ ws} begins w.0 x.0 inside (due_on y.0.1 ws _ z.0 (λ q. cc)) main, made.2))
+                          let f = sentence_finish (past y.0.1) e a end in (
+                            f.0,
+                            λ ys.
+                                let ws = f.0 ys in
+                                let made = f.1 ys in
+                                let inside = subst (λ us. Parameters us y.0.0 (y.0.1 ++ ws)) (sym (past_on (v ∷ vs) ws (omega arith))) (parameters_on ws read) in
+                                let main = subst (λ us. Sentence us made.0 ys) (sym (past_on y.0.1 ws some)) made.1 in
+                                (_, _, g.defines {ts = t ∷ u ∷ v ∷ vs ++ ws} begins w.0 x.0 inside (due_on y.0.1 ws _ z.0 (λ q. cc)) main, made.2),
+                          )
                       | inr a ↦ absurd cc
                     ]
               ]

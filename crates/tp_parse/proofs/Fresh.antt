@@ -91,11 +91,17 @@ past_close c ys = past_whole c.close ys c.whole
 pub stops_close : {x : Mark} (c : Closing x) (ys : Tokens) → Stops (c.close ∷ ys)
 stops_close c ys = stops_at c.close ys c.ends c.other c.plain
 
+pub word_plain : (w : Word) → m.Word w ≢ open_round
+word_plain w q = absurd cc
+
+pub symbol_other : (x : Symbol) → m.Symbol x ≢ m.Word word.Else
+symbol_other x q = absurd cc
+
 abbrev pub by_word : (w : Word) → role_of (m.Word w) ≡ Ends → m.Word w ≢ m.Word word.Else → Closing (m.Word w)
-by_word w e f = record { close = word_token w; is = refl; whole = refl; ends = e; other = f; plain = λ q. cc }
+by_word w e f = record { close = word_token w; is = refl; whole = refl; ends = e; other = f; plain = word_plain w }
 
 abbrev pub by_symbol : (x : Symbol) → half_mark (m.Symbol x) ≡ m.Symbol x → role_of (m.Symbol x) ≡ Ends → m.Symbol x ≢ open_round → Closing (m.Symbol x)
-by_symbol x e f i = record { close = symbol_token x; is = refl; whole = e; ends = f; other = λ q. cc; plain = i }
+by_symbol x e f i = record { close = symbol_token x; is = refl; whole = e; ends = f; other = symbol_other x; plain = i }
 
 pub enclosure_close : (e : Enclosure) → Closing (enclosed_close e)
 enclosure_close enclosure.Round = by_symbol symbol.CloseRound refl refl (λ q. cc)
@@ -197,26 +203,32 @@ pub after_head : (room : ℕ) (x : Head) → (next : Tokens → Tokens) × ((ts 
 after_head room (h.Atom x) = (λ ys. ys, λ ts ys stops b. (of_atom (from ts) x, g.atom b, λ some. omega arith))
 after_head room (h.Listed x) = (λ ys. list_token x ∷ ys, λ ts ys stops b. (of_operands (from ts) x no_operand, g.listed b (no_items x ys), λ some. omega arith))
 after_head room (h.Enclosed e) =
-    let c = enclosure_close e in
-    (λ ys. name_token ∷ c.close ∷ ys, λ ts ys stops b. (
-      of_enclosed (from ts) e name_found,
-      subst (λ q. Parses 0 ts (of_enclosed (from ts) e name_found) q) (past_close c ys) (g.enclosed b (a_name (enclosed_level e) (c.close ∷ ys) (stops_close c ys)) (due_close c ys)),
-      λ some. omega arith,
-    ))
+    let c = enclosure_close e in (
+      λ ys. name_token ∷ c.close ∷ ys,
+      λ ts ys stops b. (
+        of_enclosed (from ts) e name_found,
+        subst (λ q. Parses 0 ts (of_enclosed (from ts) e name_found) q) (past_close c ys) (g.enclosed b (a_name (enclosed_level e) (c.close ∷ ys) (stops_close c ys)) (due_close c ys)),
+        λ some. omega arith,
+      ),
+    )
 after_head room h.If =
-    let c = by_word word.Then refl (λ q. cc) in
-    (λ ys. name_token ∷ c.close ∷ name_token ∷ ys, λ ts ys stops b. (
-      of_choice (from ts) name_found name_found,
-      g.if_then b (a_name chop_level (c.close ∷ name_token ∷ ys) (stops_close c (name_token ∷ ys))) (due_close c (name_token ∷ ys)) (past_then c (a_name chop_level ys stops)) stops.1,
-      λ some. omega arith,
-    ))
+    let c = by_word word.Then refl (λ q. cc) in (
+      λ ys. name_token ∷ c.close ∷ name_token ∷ ys,
+      λ ts ys stops b. (
+        of_choice (from ts) name_found name_found,
+        g.if_then b (a_name chop_level (c.close ∷ name_token ∷ ys) (stops_close c (name_token ∷ ys))) (due_close c (name_token ∷ ys)) (past_then c (a_name chop_level ys stops)) stops.1,
+        λ some. omega arith,
+      ),
+    )
 after_head room (h.Paired x) =
-    let c = middle_close x in
-    (λ ys. name_token ∷ c.close ∷ name_token ∷ ys, λ ts ys stops b. (
-      of_pair (from ts) x name_found name_found,
-      g.paired b (a_name chop_level (c.close ∷ name_token ∷ ys) (stops_close c (name_token ∷ ys))) (due_close c (name_token ∷ ys)) (past_then c (a_name chop_level ys stops)),
-      λ some. omega arith,
-    ))
+    let c = middle_close x in (
+      λ ys. name_token ∷ c.close ∷ name_token ∷ ys,
+      λ ts ys stops b. (
+        of_pair (from ts) x name_found name_found,
+        g.paired b (a_name chop_level (c.close ∷ name_token ∷ ys) (stops_close c (name_token ∷ ys))) (due_close c (name_token ∷ ys)) (past_then c (a_name chop_level ys stops)),
+        λ some. omega arith,
+      ),
+    )
 after_head room (h.Exists xs) = (λ ys. name_token ∷ ys, λ ts ys stops b. (of_exists (from ts) xs name_found, g.quantified b (a_name chop_level ys stops), λ some. omega arith))
 
 -- ---- after a token that begins a phrase
@@ -248,21 +260,23 @@ minus_at = refl
 -- a list whose `<` is half of a token: what is left of it is a minus
 half_list : (t : Token) → t.kind ≡ kind.Symbol symbol.Arrow → Alone 0 t
 unfolding mark from first_name role_at
-half_list t at =
-    (λ ys. name_token ∷ list_token l.List ∷ ys, λ ys stops.
-    let end = list_token l.List ∷ ys in
-    let us = halved t ∷ name_token ∷ end in
-    let begun : BeginsPrimary (t ∷ name_token ∷ end) (h.Listed l.List) us =
-        subst (λ q. BeginsPrimary (t ∷ name_token ∷ end) (h.Listed l.List) q) (past_half t (name_token ∷ end) at) (g.list {ts = t ∷ name_token ∷ end} (ap (λ k. start_of (kind_mark k)) at)) in
-    let here : Parses 0 (name_token ∷ end) name_found end = g.atom (g.upper_name {ts = name_token ∷ end} refl) in
-    let name : Parses 2 (name_token ∷ end) name_found end = g.level {k = 1} (g.level {k = 0} here (g.ends refl)) (g.ends refl) in
-    let minus : prefix_at 2 (mark us) ≡ Some Minus = ap (λ k. prefix_at 2 (kind_mark (without_half k))) at ∙ minus_at in
-    let item : Parses 2 us (of_prefix (from us) Minus name_found) end = g.prefixed {k = 1} minus name in
-    let sum : Parses 4 us (of_prefix (from us) Minus name_found) end = g.level {k = 3} (g.level {k = 2} item (g.ends refl)) (g.ends refl) in
-    let all = operand_then (of_prefix (from us) Minus name_found) no_operand in
-    let listing : Listing (listed_level l.List) (listed_close l.List) us all ys =
-        subst (λ q. Listing 4 (listed_close l.List) us all q) (past_whole (list_token l.List) ys refl) (g.operands sum (g.no_more (list_other l.List ys)) (list_due l.List ys)) in
-    (of_operands t.from l.List all, g.listed begun listing))
+half_list t at = (
+  λ ys. name_token ∷ list_token l.List ∷ ys,
+  λ ys stops.
+      let end = list_token l.List ∷ ys in
+      let us = halved t ∷ name_token ∷ end in
+      let begun : BeginsPrimary (t ∷ name_token ∷ end) (h.Listed l.List) us =
+      subst (λ q. BeginsPrimary (t ∷ name_token ∷ end) (h.Listed l.List) q) (past_half t (name_token ∷ end) at) (g.list {ts = t ∷ name_token ∷ end} (ap (λ k. start_of (kind_mark k)) at)) in
+      let here : Parses 0 (name_token ∷ end) name_found end = g.atom (g.upper_name {ts = name_token ∷ end} refl) in
+      let name : Parses 2 (name_token ∷ end) name_found end = g.level {k = 1} (g.level {k = 0} here (g.ends refl)) (g.ends refl) in
+      let minus : prefix_at 2 (mark us) ≡ Some Minus = ap (λ k. prefix_at 2 (kind_mark (without_half k))) at ∙ minus_at in
+      let item : Parses 2 us (of_prefix (from us) Minus name_found) end = g.prefixed {k = 1} minus name in
+      let sum : Parses 4 us (of_prefix (from us) Minus name_found) end = g.level {k = 3} (g.level {k = 2} item (g.ends refl)) (g.ends refl) in
+      let all = operand_then (of_prefix (from us) Minus name_found) no_operand in
+      let listing : Listing (listed_level l.List) (listed_close l.List) us all ys =
+      subst (λ q. Listing 4 (listed_close l.List) us all q) (past_whole (list_token l.List) ys refl) (g.operands sum (g.no_more (list_other l.List ys)) (list_due l.List ys)) in
+      (of_operands t.from l.List all, g.listed begun listing),
+)
 
 list_alone : (t : Token) (k : Kind) → t.kind ≡ k → start_of (kind_mark k) ≡ s.List → Alone 0 t
 unfolding mark past
@@ -324,10 +338,11 @@ operator_alone t (Some o) at own ys stops =
     let made : prefix_at (before x) x ≡ Some o = rw (eq-eqb (before x) (before x) refl) at in
     let n = before x - 1 in
     let same : suc n ≡ before x = omega (arith, prefix_high o) in
-    let operand = a_name (suc n) ys stops in
-    (of_prefix (from (t ∷ name_token ∷ ys)) o name_found,
-    subst (λ i. Parses i (t ∷ name_token ∷ ys) (of_prefix (from (t ∷ name_token ∷ ys)) o name_found) ys) same
-    (g.prefixed {k = n} {ts = t ∷ name_token ∷ ys} (subst (λ i. prefix_at i x ≡ Some o) (sym same) made) operand))
+    let operand = a_name (suc n) ys stops in (
+      of_prefix (from (t ∷ name_token ∷ ys)) o name_found,
+      subst (λ i. Parses i (t ∷ name_token ∷ ys) (of_prefix (from (t ∷ name_token ∷ ys)) o name_found) ys) same
+          (g.prefixed {k = n} {ts = t ∷ name_token ∷ ys} (subst (λ i. prefix_at i x ≡ Some o) (sym same) made) operand),
+    )
 
 -- a token that begins a phrase of the level makes one with what is fresh
 pub begun_alone : (k : ℕ) (t : Token) → begins k (kind_mark t.kind) ≡ true → Alone k t
@@ -338,7 +353,10 @@ begun_alone k t e =
       | true ↦ λ plain some.
           let one = alone t (start_of x) refl (λ q. let no : is_nothing (start_of x) ≡ true = ap is_nothing q in absurd cc) in
           (one.0, λ ys stops. let made = one.1 ys stops in (made.0, raised made.1 stops (omega arith)))
-      | false ↦ λ own low. (λ ys. name_token ∷ ys, λ ys stops.
-          let made = operator_alone t (prefix_of x) refl own ys stops in
-          (made.0, raised made.1 stops (leb-true (before x) k low)))
+      | false ↦ λ own low. (
+        λ ys. name_token ∷ ys,
+        λ ys stops.
+            let made = operator_alone t (prefix_of x) refl own ys stops in
+            (made.0, raised made.1 stops (leb-true (before x) k low)),
+      )
     ] refl e

@@ -30,7 +30,6 @@ use Rattle.tp_parse.proofs.Within.{Within, left_over}
 use Rattle.tp_parse.proofs.Sound.{Is, turn_fewer, read_sound}
 use Rattle.tp_parse.specs.Source as source
 use Rattle.tp_parse.proofs.Exact.{source_complete}
-use Rattle.tp_parse.specs.Place.{NoneGoesOn}
 use Rattle.tp_parse.specs.Grammar.{Accepts}
 use Rattle.tp_parse.specs.declared.refusal.Refusal.TheVariants.{Unexpected, Unfinished, TooDeep, NoMemory}
 use Rattle.tp_parse.specs.declared.refusal.ParseRefusal.{ParseRefusal}
@@ -414,21 +413,3 @@ none_goes_on i ts us x named e is =
     let one : i + 1 ≡ suc i = omega arith in
     let front : take (suc i) ts ≡ take (suc i) us = ap (λ n. take n ts) (sym one) ∙ sym e ∙ ap (λ n. take n us) one in
     refused (source_alike (omega arith) (agrees (suc i) ts us front)) named (source_complete us x is)
-
-pub refusal_is_first : (ts : Tokens) (e : ParseRefusal) → source.parse_outcome ts ≡ Err e → NoneGoesOn ts e
-refusal_is_first ts e is = by (source.source ts) refl (w.source_within ts) is
-  where
-    by : (o : ReadOutcome SourceTree) → source.source ts ≡ o → Within ts o → source.outcome_by (length ts) o ≡ Err e → NoneGoesOn ts e
-    by (Ok q) at within made = absurd cc
-    by (Err (Unexpected k)) at within made =
-        let bounds = w.refusal_within within in
-        let named : Names (length ts - k) ts (Err (Unexpected k)) = unexpected_at (omega (arith, bounds.0, bounds.1)) in
-        let made_is : named_at.Unexpected (length ts - k) ≡ e = cc in
-        subst (NoneGoesOn ts) made_is (λ us x front. none_goes_on (length ts - k) ts us x (subst (Names (length ts - k) ts) (sym at) named) front)
-    by (Err (TooDeep k)) at within made =
-        let bounds = w.refusal_within within in
-        let named : Names (length ts - k) ts (Err (TooDeep k)) = too_deep_at (omega (arith, bounds.0, bounds.1)) in
-        let made_is : named_at.TooDeep (length ts - k) ≡ e = cc in
-        subst (NoneGoesOn ts) made_is (λ us x front. none_goes_on (length ts - k) ts us x (subst (Names (length ts - k) ts) (sym at) named) front)
-    by (Err Unfinished) at within made = let made_is : named_at.Unfinished ≡ e = cc in subst (NoneGoesOn ts) made_is tt
-    by (Err NoMemory) at within made = let made_is : named_at.NoMemory ≡ e = cc in subst (NoneGoesOn ts) made_is tt

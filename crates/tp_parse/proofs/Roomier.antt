@@ -122,6 +122,7 @@ module _ (inner wider : ℕ → Reader Found) (low high : ℕ) (le : low ≤ hig
   operanded : (k : ℕ) (close : Mark) (ts : Tokens) → Roomier (r.operands inner low k close ts) (r.operands wider high k close ts)
   unfolding r.operands r.others
   operanded k close ts = chosen (is_mark (mark_due ts) close) same (both _ _ (roomier k ts) (λ x us. both _ _ (othered k comma (length us) (operands_of (x.tree ∷ []) x.height) us) (λ all vs. same)))
+
   elsed : (at : ℕ) (b x : Found) (ts : Tokens) → Roomier (r.else_part inner low at b x ts) (r.else_part wider high at b x ts)
   unfolding r.else_part
   elsed at b x ts = chosen (sees (m.Word word.Else) ts) (both _ _ (roomier chop_level (drop 1 ts)) (λ y us. same)) same

@@ -10,6 +10,6 @@ mod phrases;
 mod refusal;
 mod source;
 
-pub use laws::{names_are_tokens, printed_is_read_back};
+pub use laws::{names_are_tokens, place_is_one, printed_is_read_back};
 pub use refusal::ParseRefusal;
 pub use source::parse;
