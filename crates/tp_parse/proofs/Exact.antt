@@ -40,7 +40,7 @@ sentence_is : {ts rest : Tokens} {x : Found} → Sentence ts x rest → x.height
 unfolding s.sentence
 sentence_is {ts} (sentence {end = end} {x = x} d e) low = rw (read_complete limit chop_level ts x end d low, expect_is (m.Symbol symbol.Stop) end e) refl
 
-parameters_sound : (ts : Tokens) (q : List (List ℕ) × Tokens) → s.parameters ts ≡ Ok q → Parameters ts q.0 q.1
+pub parameters_sound : (ts : Tokens) (q : List (List ℕ) × Tokens) → s.parameters ts ≡ Ok q → Parameters ts q.0 q.1
 unfolding s.parameters
 parameters_sound ts q e =
     elim (chosen (sees (m.Symbol symbol.CloseRound) ts) _ _ _ e) [
@@ -57,16 +57,16 @@ names_open (last_name (inr n) e) q = absurd cc
 names_open (name_then (inl n) e d) q = absurd cc
 names_open (name_then (inr n) e d) q = absurd cc
 
-parameters_is : {ts rest : Tokens} {xs : List (List ℕ)} → Parameters ts xs rest → s.parameters ts ≡ Ok (xs, rest)
+pub parameters_is : {ts rest : Tokens} {xs : List (List ℕ)} → Parameters ts xs rest → s.parameters ts ≡ Ok (xs, rest)
 unfolding s.parameters
 parameters_is {ts} (no_parameters e) = rw (same_yes (mark ts) (m.Symbol symbol.CloseRound) e) refl
 parameters_is {ts} (parameters {mid = mid} d e) =
     rw (same_no (mark ts) (m.Symbol symbol.CloseRound) (names_open d), names_complete d, expect_is (m.Symbol symbol.CloseRound) mid e) refl
 
-abbrev LowDefines : Tokens → DefinitionTree → ℕ → Tokens → Type 0
+abbrev pub LowDefines : Tokens → DefinitionTree → ℕ → Tokens → Type 0
 LowDefines ts d h rest = Defines ts d h rest × (h ≤ limit)
 
-definition_then_is : {B : Type 0} (ts : Tokens) (f : DefinitionTree → Reader B) (y : B × Tokens) → mark ts ≡ m.Word word.Define → and_then (s.definition ts) f ≡ Ok y
+pub definition_then_is : {B : Type 0} (ts : Tokens) (f : DefinitionTree → Reader B) (y : B × Tokens) → mark ts ≡ m.Word word.Define → and_then (s.definition ts) f ≡ Ok y
     → (d : DefinitionTree) × (h : ℕ) × (rest : Tokens) × LowDefines ts d h rest × (f d rest ≡ Ok y)
 unfolding s.definition
 definition_then_is ts f y begins e =
@@ -92,11 +92,11 @@ parameters_shorter (parameters {mid = mid} d e) = omega (arith, names_shorter d,
 sentence_shorter : {ts rest : Tokens} {x : Found} → Sentence ts x rest → length rest ≤ length ts
 sentence_shorter (sentence {end = end} d e) = omega (arith, shorter d, passed end)
 
-defines_shorter : {ts rest : Tokens} {d : DefinitionTree} {h : ℕ} → Defines ts d h rest → length rest < length ts
+pub defines_shorter : {ts rest : Tokens} {d : DefinitionTree} {h : ℕ} → Defines ts d h rest → length rest < length ts
 defines_shorter {ts} (defines {mid = mid} begins n o xs q b) =
     omega (arith, taken ts _ begins (λ z. cc), dropped (drop 1 ts), passed (drop 1 (drop 1 ts)), parameters_shorter xs, passed mid, sentence_shorter b)
 
-definitions_sound : (n : ℕ) (ds : List DefinitionTree) (ts : Tokens) (q : List DefinitionTree × Tokens) → length ts ≤ n → s.definitions_from n ds ts ≡ Ok q
+pub definitions_sound : (n : ℕ) (ds : List DefinitionTree) (ts : Tokens) (q : List DefinitionTree × Tokens) → length ts ≤ n → s.definitions_from n ds ts ≡ Ok q
     → (more : List DefinitionTree) × (h : ℕ) × Definitions ts more h q.1 × (q.0 ≡ ds ++ more) × (h ≤ limit)
 unfolding s.definitions_from
 definitions_sound zero ds ts q few e =

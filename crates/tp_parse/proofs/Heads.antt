@@ -82,20 +82,20 @@ admit_is room x ts some = elim (is_high x) as (λ b. (b ≡ true → 0 < room) �
 
 -- ---- names
 
-abbrev IsName : Tokens → Type 0
+abbrev pub IsName : Tokens → Type 0
 IsName ts = (mark ts ≡ m.Upper) ⊎ (mark ts ≡ m.Lower)
 
 or_is : (b c : Bool) → (b || c) ≡ true → (b ≡ true) ⊎ (c ≡ true)
 or_is true c e = inl refl
 or_is false c e = inr e
 
-any_name_then : {B : Type 0} (ts : Tokens) (f : List ℕ → Reader B) (y : B × Tokens) → and_then (any_name ts) f ≡ Ok y → IsName ts × (f (first_name ts) (drop 1 ts) ≡ Ok y)
+pub any_name_then : {B : Type 0} (ts : Tokens) (f : List ℕ → Reader B) (y : B × Tokens) → and_then (any_name ts) f ≡ Ok y → IsName ts × (f (first_name ts) (drop 1 ts) ≡ Ok y)
 unfolding any_name
 any_name_then ts f y e =
     let g = gate (sees m.Upper ts || sees m.Lower ts) (first_name ts, drop 1 ts) _ f y e in
     (elim (or_is (sees m.Upper ts) (sees m.Lower ts) g.0) [ inl q ↦ inl (same_is _ _ q) | inr q ↦ inr (same_is _ _ q) ], g.1)
 
-any_name_is : (ts : Tokens) → IsName ts → any_name ts ≡ Ok (first_name ts, drop 1 ts)
+pub any_name_is : (ts : Tokens) → IsName ts → any_name ts ≡ Ok (first_name ts, drop 1 ts)
 unfolding any_name
 any_name_is ts (inl e) = rw (same_yes (mark ts) m.Upper e) refl
 any_name_is ts (inr e) = elim (sees m.Upper ts) as (λ b. cond (b || sees m.Lower ts) (taken_name ts) (Err (input.refusal ts)) ≡ Ok (first_name ts, drop 1 ts)) [

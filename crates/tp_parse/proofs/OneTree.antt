@@ -38,7 +38,7 @@ parameters_one {ts = ts} (g.no_parameters e) (g.parameters d c) = absurd (no_clo
 parameters_one {ts = ts} (g.parameters d c) (g.no_parameters e) = absurd (no_close ts (name_begins d) e)
 parameters_one (g.parameters d c) (g.parameters e f) = let same = names_one d e in (same.0, ap past same.1)
 
-sentence_one : {ts r q : Tokens} {x y : Found} → Sentence ts x r → Sentence ts y q → (x ≡ y) × (r ≡ q)
+pub sentence_one : {ts r q : Tokens} {x y : Found} → Sentence ts x r → Sentence ts y q → (x ≡ y) × (r ≡ q)
 sentence_one (g.sentence d e) (g.sentence c f) = let same = phrase_one d c in (same.0, ap past same.1)
 
 defines_one : {ts r q : Tokens} {d e : DefinitionTree} {i j : ℕ} → Defines ts d i r → Defines ts e j q → (d ≡ e) × (r ≡ q)
@@ -50,7 +50,7 @@ defines_one {ts = ts} {q = q} (g.defines a n o xs c b) (g.defines {x = y} a2 n2 
 defines_begins : {ts r : Tokens} {d : DefinitionTree} {i : ℕ} → Defines ts d i r → mark ts ≡ m.Word word.Define
 defines_begins (g.defines a n o xs c b) = a
 
-definitions_one : {ts r q : Tokens} {ds es : List DefinitionTree} {i j : ℕ} → Definitions ts ds i r → Definitions ts es j q → (ds ≡ es) × (r ≡ q)
+pub definitions_one : {ts r q : Tokens} {ds es : List DefinitionTree} {i j : ℕ} → Definitions ts ds i r → Definitions ts es j q → (ds ≡ es) × (r ≡ q)
 definitions_one (g.no_definition e) (g.no_definition f) = (refl, refl)
 definitions_one (g.no_definition e) (g.definition_then d c) = absurd (e (defines_begins d))
 definitions_one (g.definition_then d c) (g.no_definition e) = absurd (e (defines_begins d))

@@ -30,7 +30,6 @@ use Rattle.tp_parse.proofs.Within.{Within, left_over}
 use Rattle.tp_parse.proofs.Sound.{Is, turn_fewer, read_sound}
 use Rattle.tp_parse.specs.Source as source
 use Rattle.tp_parse.proofs.Exact.{source_complete}
-use Rattle.tp_parse.specs.Place.{NoneGoesOn}
 use Rattle.tp_parse.specs.Grammar.{Accepts}
 use Rattle.tp_parse.specs.declared.refusal.Refusal.TheVariants.{Unexpected, Unfinished, TooDeep, NoMemory}
 use Rattle.tp_parse.specs.declared.refusal.ParseRefusal.{ParseRefusal}
@@ -378,7 +377,7 @@ ended_alike x some unseen = absurd (omega arith)
 ended_alike x some ended = stays_alike some ended
 ended_alike x some (agreed a) = unexpected (omega arith)
 
-source_alike : {n : ℕ} {ts us : Tokens} → 0 < n → Agrees n ts us → Alike n ts us (source.source ts) (source.source us)
+pub source_alike : {n : ℕ} {ts us : Tokens} → 0 < n → Agrees n ts us → Alike n ts us (source.source ts) (source.source us)
 unfolding source.source source.definitions
 source_alike {ts = ts} {us = us} some a =
     both _ _ (definitions_alike (length ts) (length us) [] some a (omega arith) (omega arith)) (λ ds vs. w.bind _ (w.expected (m.Word word.Run) vs) (λ u zs. w.bind _ (w.sentence_within zs) (λ x ys. w.ended_within (source_of ds x) ys))) (λ ds l r q eq lens pos b.
@@ -387,7 +386,7 @@ source_alike {ts = ts} {us = us} some a =
 
 -- ---- no source goes on with the token
 
-agrees : (n : ℕ) (ts us : Tokens) → take n ts ≡ take n us → Agrees n ts us
+pub agrees : (n : ℕ) (ts us : Tokens) → take n ts ≡ take n us → Agrees n ts us
 agrees zero ts us e = unseen
 agrees (suc n) [] [] e = ended
 agrees (suc n) [] (u ∷ us) e = absurd cc
@@ -398,7 +397,7 @@ agrees (suc n) (t ∷ ts) (u ∷ us) e =
     subst (λ (v : Token). Agrees (suc n) (t ∷ ts) (v ∷ us)) head (agreed (agrees n ts us rest))
 
 -- a refusal that names the token i
-data Names (i : ℕ) (ts : Tokens) : ReadOutcome SourceTree → Type 0 where
+pub data Names (i : ℕ) (ts : Tokens) : ReadOutcome SourceTree → Type 0 where
   unexpected_at : {k : ℕ} → k + i ≡ length ts → Names i ts (Err (Unexpected k))
   too_deep_at : {k : ℕ} → k + i ≡ length ts → Names i ts (Err (TooDeep k))
 
@@ -409,26 +408,8 @@ refused (goes k pos a f g) n q = elim n [ ]
 refused (unexpected f) n q = absurd cc
 refused (deep f) n q = absurd cc
 
-none_goes_on : (i : ℕ) (ts us : Tokens) (x : SourceTree) → Names i ts (source.source ts) → take (i + 1) us ≡ take (i + 1) ts → ¬ Accepts us x
+pub none_goes_on : (i : ℕ) (ts us : Tokens) (x : SourceTree) → Names i ts (source.source ts) → take (i + 1) us ≡ take (i + 1) ts → ¬ Accepts us x
 none_goes_on i ts us x named e is =
     let one : i + 1 ≡ suc i = omega arith in
     let front : take (suc i) ts ≡ take (suc i) us = ap (λ n. take n ts) (sym one) ∙ sym e ∙ ap (λ n. take n us) one in
     refused (source_alike (omega arith) (agrees (suc i) ts us front)) named (source_complete us x is)
-
-pub refusal_is_first : (ts : Tokens) (e : ParseRefusal) → source.parse_outcome ts ≡ Err e → NoneGoesOn ts e
-refusal_is_first ts e is = by (source.source ts) refl (w.source_within ts) is
-  where
-    by : (o : ReadOutcome SourceTree) → source.source ts ≡ o → Within ts o → source.outcome_by (length ts) o ≡ Err e → NoneGoesOn ts e
-    by (Ok q) at within made = absurd cc
-    by (Err (Unexpected k)) at within made =
-        let bounds = w.refusal_within within in
-        let named : Names (length ts - k) ts (Err (Unexpected k)) = unexpected_at (omega (arith, bounds.0, bounds.1)) in
-        let made_is : named_at.Unexpected (length ts - k) ≡ e = cc in
-        subst (NoneGoesOn ts) made_is (λ us x front. none_goes_on (length ts - k) ts us x (subst (Names (length ts - k) ts) (sym at) named) front)
-    by (Err (TooDeep k)) at within made =
-        let bounds = w.refusal_within within in
-        let named : Names (length ts - k) ts (Err (TooDeep k)) = too_deep_at (omega (arith, bounds.0, bounds.1)) in
-        let made_is : named_at.TooDeep (length ts - k) ≡ e = cc in
-        subst (NoneGoesOn ts) made_is (λ us x front. none_goes_on (length ts - k) ts us x (subst (Names (length ts - k) ts) (sym at) named) front)
-    by (Err Unfinished) at within made = let made_is : named_at.Unfinished ≡ e = cc in subst (NoneGoesOn ts) made_is tt
-    by (Err NoMemory) at within made = let made_is : named_at.NoMemory ≡ e = cc in subst (NoneGoesOn ts) made_is tt

@@ -113,7 +113,7 @@ mutual
 
 -- ---- what a phrase begins with
 
-begins_start : {ts rest : Tokens} {x : Head} → BeginsPrimary ts x rest → start_of (mark ts) ≢ s.Nothing
+pub begins_start : {ts rest : Tokens} {x : Head} → BeginsPrimary ts x rest → start_of (mark ts) ≢ s.Nothing
 begins_start (number e) nothing = absurd cc
 begins_start (truth e) nothing = absurd cc
 begins_start (upper_name e) nothing = absurd cc

@@ -59,7 +59,7 @@ module _ (inner : ℕ → Reader Found) (room : ℕ) (sound : (k : ℕ) (ts : To
       let is = ok_is (b.0.0, past b.0.1) a.0 c.1 in
       (b.0, sound k ts b.0 b.1, c.0, ap (λ (q : Found × Tokens). f q.0 q.1) is ∙ a.2)
 
-  others_sound : (k : ℕ) (separator : Mark) (n : ℕ) (all : Operands) (ts : Tokens) (p : Operands × Tokens) → separator ≢ m.End → length ts ≤ n → all.height ≤ room
+  pub others_sound : (k : ℕ) (separator : Mark) (n : ℕ) (all : Operands) (ts : Tokens) (p : Operands × Tokens) → separator ≢ m.End → length ts ≤ n → all.height ≤ room
       → r.others_from inner room k separator n all ts ≡ Ok p → (more : Operands) × Others k separator ts more p.1 × (p.0 ≡ joined all more) × (more.height ≤ room)
   unfolding r.others_from
   others_sound k separator zero all ts p some few low e =
@@ -144,13 +144,13 @@ module _ (inner : ℕ → Reader Found) (room : ℕ) (sound : (k : ℕ) (ts : To
       primary_by_sound b.0.0 ts b.0.1 p (head_sound (start_of (mark ts)) ts b.0 refl b.1) b.2
 
   -- one turn: the phrase ends with it, or goes on after it
-  record Turned (k at : ℕ) (a : Found) (ts : Tokens) (x : Found × Bool) (rest : Tokens) : Type 0 where
+  pub record Turned (k at : ℕ) (a : Found) (ts : Tokens) (x : Found × Bool) (rest : Tokens) : Type 0 where
     stops : x.1 ≡ false → Goes k at a ts x.0 rest
     goes : x.1 ≡ true → (t : Found) (last : Tokens) → Goes k at x.0 rest t last → Goes k at a ts t last
     fewer : x.1 ≡ true → length rest < length ts
-    low : a.height ≤ suc room → x.0.height ≤ suc room
+    pub low : a.height ≤ suc room → x.0.height ≤ suc room
 
-  abbrev HasTurned : ℕ → ℕ → Found → Tokens → (Found × Bool) × Tokens → Type 0
+  abbrev pub HasTurned : ℕ → ℕ → Found → Tokens → (Found × Bool) × Tokens → Type 0
   HasTurned k at a ts p = Turned k at a ts p.0 p.1
 
   operated_sound : (k : ℕ) (o : Op) (at : ℕ) (a : Found) (ts : Tokens) (p : (Found × Bool) × Tokens) → role_at k (mark ts) ≡ Infix o
@@ -212,7 +212,7 @@ module _ (inner : ℕ → Reader Found) (room : ℕ) (sound : (k : ℕ) (ts : To
   turn_by_sound k at a Opens ts p is e = indexed_sound k at a ts p is e
   turn_by_sound k at a Joins ts p is e = chained_sound k at a ts p is e
 
-  turn_sound : (k at : ℕ) (a : Found) (ts : Tokens) (p : (Found × Bool) × Tokens) → r.turn inner room k at a ts ≡ Ok p → HasTurned k at a ts p
+  pub turn_sound : (k at : ℕ) (a : Found) (ts : Tokens) (p : (Found × Bool) × Tokens) → r.turn inner room k at a ts ≡ Ok p → HasTurned k at a ts p
   unfolding r.turn
   turn_sound k at a ts p e = turn_by_sound k at a (role_at k (mark ts)) ts p refl e
 
@@ -235,7 +235,7 @@ module _ (inner : ℕ → Reader Found) (room : ℕ) (sound : (k : ℕ) (ts : To
         | inr w ↦ subst (λ (q : Found × Tokens). Goes k at a ts q.0 q.1 × (q.0.height ≤ suc room)) (ok_is (x.0.0.0, x.0.1) p w.1) (is.stops w.0, is.low low)
       ]
 
-  levels_sound : (k : ℕ) (ts : Tokens) (p : Found × Tokens) → r.levels inner room k ts ≡ Ok p → Is (suc room) k ts p
+  pub levels_sound : (k : ℕ) (ts : Tokens) (p : Found × Tokens) → r.levels inner room k ts ≡ Ok p → Is (suc room) k ts p
   unfolding r.levels r.level r.prefixed r.operations
   levels_sound zero ts p e = primary_sound ts p e
   levels_sound (suc k) ts p e =

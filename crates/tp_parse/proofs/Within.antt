@@ -33,7 +33,7 @@ abbrev pub Names : ℕ → Refusal → Type 0
 Names n (Unexpected k) = (0 < k) × (k ≤ n)
 Names n (TooDeep k) = (0 < k) × (k ≤ n)
 Names n Unfinished = Unit {0}
-Names n NoMemory = Unit {0}
+Names n NoMemory = ⊥
 
 pub data Within {A : Type 0} (ts : Tokens) : ReadOutcome A → Type 0 where
   ok : {x : A} {rest : Tokens} → length rest ≤ length ts → Within ts (Ok (x, rest))
@@ -49,7 +49,7 @@ pub names_more : (k n : ℕ) (e : Refusal) → k ≤ n → Names k e → Names n
 names_more k n (Unexpected i) le is = (is.0, omega (arith, is.1))
 names_more k n (TooDeep i) le is = (is.0, omega (arith, is.1))
 names_more k n Unfinished le is = tt
-names_more k n NoMemory le is = tt
+names_more k n NoMemory le is = is
 
 pub more : {A : Type 0} {o : ReadOutcome A} {ts us : Tokens} → length us ≤ length ts → Within us o → Within ts o
 more le (ok is) = ok (omega arith)

@@ -1,16 +1,39 @@
--- The token that a refusal names.
-use Rattle.std.specs.Prelude.{◌≡◌, ◌+◌, take}
+-- The place that a refusal names: the first token after which no accepted source goes on.
+use Rattle.std.specs.Prelude.{◌≡◌, ◌≢◌, ◌+◌, ◌<◌, ℕ, ◌++◌, length, take}
 use Rattle.tp_tree.specs.Tree.{SourceTree}
 use Rattle.tp_parse.specs.declared.refusal.ParseRefusal.{ParseRefusal}
 use Rattle.tp_parse.specs.declared.refusal.ParseRefusal.TheVariants.{Unexpected, Unfinished, TooDeep, NoMemory}
 use Rattle.tp_parse.specs.Input.{Tokens}
-use Rattle.tp_parse.specs.Grammar.{Accepts}
+use Rattle.tp_parse.specs.Grammar.{IsSource, Accepts}
 
--- No tokens that begin with these, up to the one that the refusal names, are accepted.
-abbrev pub NoneGoesOn : Tokens → ParseRefusal → Type 0
-NoneGoesOn ts (Unexpected i) =
-    (us : Tokens) (s : SourceTree) → take (i + 1) us ≡ take (i + 1) ts → ¬ Accepts us s
-NoneGoesOn ts (TooDeep i) =
-    (us : Tokens) (s : SourceTree) → take (i + 1) us ≡ take (i + 1) ts → ¬ Accepts us s
-NoneGoesOn ts Unfinished = Unit {0}
-NoneGoesOn ts NoMemory = Unit {0}
+-- some accepted source begins with the tokens
+abbrev pub GoesOn : Tokens → Type 0
+GoesOn ts = (more : Tokens) × (s : SourceTree) × Accepts (ts ++ more) s
+
+-- and so does some source of the grammar, however high its phrases
+abbrev pub GoesOnHigher : Tokens → Type 0
+GoesOnHigher ts = (more : Tokens) × (s : SourceTree) × (height : ℕ) × IsSource (ts ++ more) s height
+
+-- Some accepted source begins with the tokens before the named one, and none with it too; none of
+-- any height where it is unexpected, and some higher one where it is too deep. Where the tokens are
+-- unfinished, all of them begin an accepted source and are none.
+abbrev pub IsPlace : Tokens → ParseRefusal → Type 0
+IsPlace ts (Unexpected i) =
+    (i < length ts) × GoesOn (take i ts) × ¬ GoesOnHigher (take (i + 1) ts)
+IsPlace ts (TooDeep i) =
+    (i < length ts) × GoesOn (take i ts) × ¬ GoesOn (take (i + 1) ts)
+    × GoesOnHigher (take (i + 1) ts)
+IsPlace ts Unfinished = GoesOn ts × ((s : SourceTree) → ¬ Accepts ts s)
+IsPlace ts NoMemory = Unit {0}
+
+-- tokens have one such place
+abbrev pub OnePlace : Type 0
+OnePlace =
+    (ts : Tokens) (e f : ParseRefusal) → e ≢ NoMemory → f ≢ NoMemory → IsPlace ts e → IsPlace ts f
+    → e ≡ f
+
+-- an accepted source that is cut after fewer tokens than it has is unfinished
+abbrev pub PrefixesAreUnfinished : Type 0
+PrefixesAreUnfinished =
+    (ts : Tokens) (s : SourceTree) (n : ℕ) → Accepts ts s → n < length ts
+    → IsPlace (take n ts) Unfinished

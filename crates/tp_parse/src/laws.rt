@@ -1,5 +1,6 @@
 // Laws of sources: their names, and their canonical spelling.
 ghost use Rattle.tp_parse.specs.Names.{NamesAreTokens};
+ghost use Rattle.tp_parse.specs.Place.{OnePlace, PrefixesAreUnfinished};
 ghost use Rattle.tp_parse.specs.Spelled.{SourcesAreWhole, SpellingsAreReadBack};
 ghost use Rattle.tp_parse.specs.SpelledText.{OneSpelling, PrintedIsReadBack, SourcesAreSpellable, SpellingsHaveTheirTokens};
 
@@ -18,4 +19,10 @@ pub fn printed_is_read_back()
     ensures tokens { SpellingsHaveTheirTokens }
     ensures read_back { PrintedIsReadBack }
     ensures once { OneSpelling }
+{}
+
+/// Tokens that are refused have one place where they went wrong, and an accepted source that is cut short has none.
+pub fn place_is_one()
+    ensures one { OnePlace }
+    ensures prefixes { PrefixesAreUnfinished }
 {}

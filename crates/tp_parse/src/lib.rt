@@ -13,6 +13,6 @@ mod refusal;
 mod role;
 mod source;
 
-pub use laws::{names_are_tokens, printed_is_read_back};
+pub use laws::{names_are_tokens, place_is_one, printed_is_read_back};
 pub use refusal::ParseRefusal;
 pub use source::parse;

@@ -7,10 +7,10 @@ use Rattle.tp_parse.specs.declared.refusal.ParseRefusal.TheVariants.{Unexpected,
 use Rattle.tp_parse.specs.Input.{Tokens}
 use Rattle.tp_parse.specs.Source.{parse_outcome, IsOutcome, NamesToken}
 use Rattle.tp_parse.specs.Grammar.{Accepts}
-use Rattle.tp_parse.specs.Place.{NoneGoesOn}
+use Rattle.tp_parse.specs.Place.{IsPlace}
 use Rattle.tp_parse.proofs.Exact.{read_accepted, accepted_read, refusal_named}
 use Rattle.tp_tree.specs.Height.{source_height}
-use Rattle.tp_parse.proofs.Rests.{refusal_is_first}
+use Rattle.tp_parse.proofs.FirstToken.{refusal_is_place}
 use Rattle.tp_parse.proofs.Heights.{accepted_low}
 use Rattle.tp_parse.proofs.TextBack.{printed_parsed}
 use Rattle.tp_parse.proofs.source.parse.Goals as goal
@@ -34,12 +34,12 @@ token ts (Err Unfinished) is = tt
 token ts (Err (Unexpected i)) is = refusal_named ts (Unexpected i) (is (λ q. cc))
 token ts (Err (TooDeep i)) is = refusal_named ts (TooDeep i) (is (λ q. cc))
 
-place : (ts : Tokens) (r : Result Source ParseRefusal) → IsOutcome (parse_outcome ts) r → IfErr r (NoneGoesOn ts)
+place : (ts : Tokens) (r : Result Source ParseRefusal) → IsOutcome (parse_outcome ts) r → IfErr r (IsPlace ts)
 place ts (Ok x) is = tt
 place ts (Err NoMemory) is = tt
-place ts (Err Unfinished) is = tt
-place ts (Err (Unexpected i)) is = refusal_is_first ts (Unexpected i) (is (λ q. cc))
-place ts (Err (TooDeep i)) is = refusal_is_first ts (TooDeep i) (is (λ q. cc))
+place ts (Err Unfinished) is = refusal_is_place ts Unfinished (is (λ q. cc))
+place ts (Err (Unexpected i)) is = refusal_is_place ts (Unexpected i) (is (λ q. cc))
+place ts (Err (TooDeep i)) is = refusal_is_place ts (TooDeep i) (is (λ q. cc))
 
 low : (ts : Tokens) (r : Result Source ParseRefusal) → IsOutcome (parse_outcome ts) r → IfOk r (λ s. source_height (source_tree s) ≤ 200)
 low ts (Ok x) is = accepted_low ts (source_tree x) (read_accepted ts (source_tree x) is)
