@@ -4,7 +4,6 @@
 mod call;
 mod close;
 mod command;
-mod counting;
 mod end_line;
 mod job;
 mod printing;
@@ -14,6 +13,5 @@ mod source;
 mod status;
 
 pub use call::tempura;
-pub use counting::counted;
 pub use end_line::refusal_text;
 pub use status::{SourceKind, Status, Which};
