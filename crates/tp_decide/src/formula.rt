@@ -3,12 +3,12 @@ ghost use Rattle.std.specs.Prelude.{◌≡◌, IfOk};
 ghost use Rattle.tp_kernel.specs.Read.{definitions_of};
 ghost use Rattle.tp_scene.specs.Step as row;
 ghost use Rattle.tp_decide.specs.Read.{formula_of, env_of};
-ghost use Rattle.tp_decide.specs.Decided.{decided_outcome, plain_place, plain_leaf, setting_of};
-ghost use Rattle.tp_decide.specs.Fits.{SetsVariables, FitsStore, LeafFitsStore};
+ghost use Rattle.tp_decide.specs.Decided.{decided_outcome, plain_place, setting_of};
+ghost use Rattle.tp_decide.specs.Fits.{SetsVariables, FitsStore};
 
 use crate::calls::decide_call;
 use crate::counting::{decide_instances, decide_turns};
-use crate::decision::{Decision, Leaf, Place, end, go, nothing};
+use crate::decision::{Decision, Place, end, go, nothing};
 use crate::display::decide_display;
 use crate::env::shared_under;
 use crate::equation::{decide_equation, decide_input};
@@ -109,33 +109,5 @@ pub fn decide(
         Formula::Call(number, exprs) => decide_call(alloc, *number, exprs, env, store, setting),
         Formula::Input(x, port) => decide_input(alloc, x, port, env, store, setting),
         Formula::Display(es) => decide_display(alloc, es, env, store, setting),
-    }
-}
-
-/// What picking this item gives, in a region of that place.
-pub fn decide_leaf(
-    alloc: Global,
-    leaf: &Leaf,
-    place: Place,
-    store: &Store,
-    setting: &Setting,
-) -> Result<Decision, NoMemory>
-    requires fits { LeafFitsStore (definitions_of setting.now.defs.now) store.now.variables
-        (plain_leaf leaf.now) (plain_place place) }
-    ensures outcome { let w = setting_of setting.now in
-        IfOk result (λ d.
-        (n : row.Numbers)
-        → decided_outcome store.now.facts n d
-        ≡ row.leaf_step w.defs w.inputs w.state store.now.facts (plain_leaf leaf.now)
-        (plain_place place) n) }
-    ensures variables { IfOk result (SetsVariables store.now.variables) }
-{
-    match leaf {
-        Leaf::Do(phrase) => {
-            let decision = decide(alloc, phrase, place, store, setting)?;
-            Ok(decision)
-        }
-        Leaf::Later(_) => Ok(Decision::Rests),
-        Leaf::Shown(_) => Ok(Decision::Rests),
     }
 }
