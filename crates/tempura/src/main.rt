@@ -1,16 +1,17 @@
 //! Runs a program of interval temporal logic.
 #![tactic(auto)]
 
-ghost use Rattle.std.specs.Prelude.{◌≡◌, ◌⊎◌, IfErr};
+ghost use Rattle.std.specs.Prelude.{◌≡◌, ◌<◌, ◌⊎◌, IfErr};
 
 use std::alloc::Global;
 use std::env::Env;
 use std::marker::Brand;
 use std::process::ExitCode;
-use std::sync::ledger::Blank;
+use std::sync::ledger::{Blank, Ledger};
 use std::{env, io};
-use tp_call::counted;
-use tp_io::{RealFiles, RealSink, RuntimeFiles, RuntimeWriter};
+use tp_call::{Status, tempura};
+use tp_io::{Files, RealFiles, RealSink, RuntimeFiles, RuntimeWriter, Sink};
+use tp_step::Steps;
 use tp_value::{NoMemory, Text};
 
 // The words could not be had, for another cause than memory.
@@ -38,6 +39,23 @@ fn given_words<R: Env + AllocGlobal>(rt: &R) -> Result<Vec<Text>, u8>
     Ok(words)
 }
 
+// The call, with a count of tries of its own. Its ledger has to be a parameter: the toolchain lets a caller choose what a ledger is named
+// only at a call of which no type rests on that.
+fn call<L: Ledger, F: Files, K: Sink>(
+    alloc: Global,
+    words: &[Text],
+    files: &mut F,
+    out: &mut K,
+    blank: Blank,
+) -> Status
+    requires name { blank.name ≡ L.name }
+    requires parts { blank.parts ≡ L.parts }
+    requires some { 0 < L.parts }
+{
+    let mut steps = Steps::<L>::new(blank);
+    tempura(alloc, words, files, out, &mut steps)
+}
+
 fn main(rt: HostRuntime) -> ExitCode {
     let words = match given_words(&rt) {
         Ok(words) => words,
@@ -45,7 +63,7 @@ fn main(rt: HostRuntime) -> ExitCode {
     };
     let mut files = RealFiles::new(RuntimeFiles::new(&rt));
     let mut out = RealSink::new(RuntimeWriter::new(io::writer(&rt)));
-    let status = counted::<Brand, _, _>(
+    let status = call::<Brand, _, _>(
         rt.alloc(),
         words.as_slice(),
         &mut files,

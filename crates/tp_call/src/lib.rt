@@ -5,7 +5,6 @@ mod answer;
 mod call;
 mod close;
 mod command;
-mod counting;
 mod end_line;
 mod job;
 mod printing;
@@ -16,6 +15,5 @@ mod status;
 mod status_text;
 
 pub use call::tempura;
-pub use counting::counted;
 pub use end_line::refusal_text;
 pub use status::{SourceKind, Status, Which};

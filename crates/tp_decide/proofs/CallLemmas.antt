@@ -18,18 +18,7 @@ place_is : (e : ExprTree) → IsPlace e → IsTrue (is_place e)
 place_is (bound i) h = refl
 place_is (global x) h = refl
 place_is (index e i) h = place_is e h
-place_is (numeral n) h = absurd h
-place_is (boolean b) h = absurd h
-place_is (known t) h = absurd h
-place_is (listing es) h = absurd h
-place_is (size e) h = absurd h
-place_is (minus e) h = absurd h
-place_is (negation e) h = absurd h
-place_is (both es) h = absurd h
-place_is (either a b) h = absurd h
-place_is (binary o a b) h = absurd h
-place_is (choice b x y) h = absurd h
-place_is (invoke p es) h = absurd h
+place_is _ h = absurd h
 
 pub arguments_are_places : (es : ExprTrees) (xs : List (List ℕ)) → AreArguments es xs → ArePlaces es xs
 arguments_are_places no_expr [] h = tt

@@ -15,20 +15,7 @@ use Rattle.tp_decide.specs.Found.{IsNoSize}
 module _ (defs : List Definition) (facts : List Fact) (env : List BindingTree) where
   pub plain_target : (e : ExprTree) → IsNoSize e → row.target_of defs facts e env ≡ row.target_if defs facts (is_place e) row.value_at e env
   plain_target (size e) h = absurd h
-  plain_target (numeral n) h = refl
-  plain_target (boolean b) h = refl
-  plain_target (known t) h = refl
-  plain_target (bound i) h = refl
-  plain_target (global x) h = refl
-  plain_target (listing es) h = refl
-  plain_target (index e i) h = refl
-  plain_target (minus e) h = refl
-  plain_target (negation e) h = refl
-  plain_target (both es) h = refl
-  plain_target (either a b) h = refl
-  plain_target (binary o a b) h = refl
-  plain_target (choice b x y) h = refl
-  plain_target (invoke p es) h = refl
+  plain_target _ h = refl
 
 abbrev pub side : Bool → Option row.Target → found.Outcome → row.SideOf
 side b t o = record { placed = b; target = t; found = o }

@@ -7,7 +7,7 @@ use Rattle.tp_meaning.specs.Fits.{ExprFits, BindingsFit}
 use Rattle.tp_store.specs.Known.{Variable, IsVariableOf}
 use Rattle.tp_eval.specs.Evaluate.{is_place}
 use Rattle.tp_scene.specs.Scene as S
-use Rattle.tp_scene.specs.Fits.{kinds_in, PhraseFits, LeafFits}
+use Rattle.tp_scene.specs.Fits.{kinds_in, PhraseFits}
 use Rattle.tp_decide.specs.declared.decision.Decision.{Decision}
 use Rattle.tp_decide.specs.declared.decision.Decision.TheVariants as decision
 use Rattle.tp_decide.specs.declared.equation.Target.{Target}
@@ -63,11 +63,4 @@ pub record ExprFitsStore (defs : List Definition) (variables : List Variable) (e
   pub kinds : List Bool
   pub expr : ExprFits defs kinds e (length env)
   pub bindings : BindingsFit (kinds_in variables) env
-  pub globals : AreFirst kinds variables
-
--- the same of an item without a region, in a region of that place
-pub record LeafFitsStore (defs : List Definition) (variables : List Variable) (l : S.Leaf)
-    (p : S.Place) : Type 0 where
-  pub kinds : List Bool
-  pub leaf : LeafFits defs kinds variables l p
   pub globals : AreFirst kinds variables

@@ -3,16 +3,15 @@ ghost use Rattle.std.specs.Prelude.{◌≡◌, IfOk, ◌∷◌, []};
 ghost use Rattle.tp_kernel.specs.Read.{definitions_of, expr_tree, formula_tree, formula_trees, bindings_of};
 ghost use Rattle.tp_scene.specs.Step as row;
 ghost use Rattle.tp_decide.specs.Read.{formula_of, env_of};
-ghost use Rattle.tp_decide.specs.Decided.{decided_outcome, plain_place, plain_leaf, setting_of, Decides};
-ghost use Rattle.tp_decide.specs.Fits.{SetsVariables, FitsStore, LeafFitsStore, IsPlain};
-ghost use Rattle.tp_meaning.specs.Syntax.{always, weak_next, branch, chop, conjunction, more, empty, formulas_of};
+ghost use Rattle.tp_decide.specs.Decided.{decided_outcome, plain_place, setting_of, Decides};
+ghost use Rattle.tp_decide.specs.Fits.{SetsVariables, FitsStore, IsPlain};
 ghost use Rattle.tp_scene.specs.Scene as S;
+ghost use Rattle.tp_meaning.specs.Syntax.{always, branch, chop, conjunction, empty, formulas_of, more, weak_next};
 
 use crate::calls::decide_call;
 use crate::counting::{decide_instances, decide_turns};
 use crate::decision::{
-    Decision, Leaf, Place, becomes, becomes_one, becomes_two, due, end, go, later, nothing,
-    wait_for_end,
+    Decision, Place, becomes, becomes_one, becomes_two, due, end, go, later, nothing, wait_for_end,
 };
 use crate::display::decide_display;
 use crate::env::shared_under;
@@ -294,33 +293,5 @@ pub fn decide(
         Formula::Call(number, exprs) => decide_call(alloc, *number, exprs, env, store, setting),
         Formula::Input(x, port) => decide_input(alloc, x, port, env, store, setting),
         Formula::Display(es) => decide_display(alloc, es, env, store, setting),
-    }
-}
-
-/// What picking this item gives, in a region of that place.
-pub fn decide_leaf(
-    alloc: Global,
-    leaf: &Leaf,
-    place: Place,
-    store: &Store,
-    setting: &Setting,
-) -> Result<Decision, NoMemory>
-    requires fits { LeafFitsStore (definitions_of setting.now.defs.now) store.now.variables
-        (plain_leaf leaf.now) (plain_place place) }
-    ensures outcome { let w = setting_of setting.now in
-        IfOk result (λ d.
-        (n : row.Numbers)
-        → decided_outcome store.now.facts n d
-        ≡ row.leaf_step w.defs w.inputs w.state store.now.facts (plain_leaf leaf.now)
-        (plain_place place) n) }
-    ensures variables { IfOk result (SetsVariables store.now.variables) }
-{
-    match leaf {
-        Leaf::Do(phrase) => {
-            let decision = decide(alloc, phrase, place, store, setting)?;
-            Ok(decision)
-        }
-        Leaf::Later(_) => Ok(Decision::Rests),
-        Leaf::Shown(_) => Ok(Decision::Rests),
     }
 }

@@ -18,7 +18,7 @@ mod setting;
 
 pub use decision::{Decision, Leaf, Place, Side};
 pub use env::bind_last;
-pub use formula::{decide, decide_leaf};
+pub use formula::decide;
 pub use holder::{HolderDecision, HolderKind, decide_holder};
 pub use phrase::{Phrase, Shows, Values};
 pub use setting::Setting;

@@ -28,6 +28,38 @@ use Rattle.tp_slots.proofs.Changing.{lives_within, scene_put, put_kept, ends_low
 use Rattle.tp_slots.proofs.Looking.{closed_leaves, opened_leaves, running_leaves}
 use Rattle.tp_slots.specs.declared.scene.Scene.{Scene}
 
+-- what each becomes: closed, with the formula behind it due; closed, with the outer region open; and
+-- running, with the next piece begun
+abbrev pub split_reduced : Slots → FormulaTree → Bindings → ℕ → Reduction
+split_reduced s f env p = record {
+  news = closed_then (0 + length s.slots) (record { head = head_at s p; entries = entries_at s p }) (leaf (1 + length s.slots) (S.Do f env) none);
+  items = 2;
+  regions = 0;
+  local = None;
+  mark = None;
+  facts = [];
+}
+
+abbrev pub project_reduced : Slots → FormulaTree → Bindings → ℕ → ℕ → Reduction
+project_reduced s f env p q = record {
+  news = closed_then (0 + length s.slots) (record { head = head_at s p; entries = entries_at s p }) (opened_then (1 + length s.slots) (record { head = head_at s q; entries = entries_at s q }) f env none);
+  items = 2;
+  regions = 0;
+  local = None;
+  mark = None;
+  facts = [];
+}
+
+abbrev pub opened_reduced : Slots → FormulaTree → Bindings → ℕ → Reduction
+opened_reduced s f env q = record {
+  news = running_then (2 + length s.slots) (record { head = new_head (length s.regions); entries = leaf (0 + length s.slots) (S.Do f env) (leaf (1 + length s.slots) (S.Do more env) none) }) (record { head = head_at s q; entries = entries_at s q }) f env none;
+  items = 3;
+  regions = 1;
+  local = None;
+  mark = None;
+  facts = [];
+}
+
 -- what is reduced by the status of a region
 stops : (g e : Bool) (x : PickOutcome) (c : Cell) (r : Reduction) → (if g then rests else (if e then x else waits c None)) ≡ reduces r → (g ≡ false) × (e ≡ true) × (x ≡ reduces r)
 stops true e x c r h = absurd (cc)
@@ -92,14 +124,7 @@ module _ (s : Scene) (t : ℕ) (kept : IsWellKept s) (lives : has t (scene_of s)
 
     split_done : (f : FormulaTree) (env : Bindings) (p : ℕ) → (slot_at (slots_of s) t).what ≡ holds (Split f env) p None → Put [] (holds Closed p None ∷ bare (S.Do f env) ∷ []) → IsReduced (scene_of s) t → Done
     split_done f env p is put red =
-        let made : Reduction = record {
-          news = closed_then (0 + length (slots_of s).slots) (record { head = head_at (slots_of s) p; entries = entries_at (slots_of s) p }) (leaf (1 + length (slots_of s).slots) (S.Do f env) none);
-          items = 2;
-          regions = 0;
-          local = None;
-          mark = None;
-          facts = [];
-        } in
+        let made : Reduction = split_reduced (slots_of s) f env p in
         let step = close_step (slots_of s) t p f env kept.shape.ordered within is in
         let fit = subst (λ v. WhatFits (slots_of s) (slot_at (slots_of s) t).home t v) is (kept.shape.ordered.items t within).1 in
         let was = closes (held_place (Split f env) (head_at (slots_of s) p) (entries_at (slots_of s) p) at_place) (reduces made) red.2 (sym (stepped_as red.0 red.1 (holds (Split f env) p None) is) ∙ red.3) in
@@ -116,15 +141,7 @@ module _ (s : Scene) (t : ℕ) (kept : IsWellKept s) (lives : has t (scene_of s)
 
     project_done : (f : FormulaTree) (env : Bindings) (p q : ℕ) → (slot_at (slots_of s) t).what ≡ holds (SplitProject f env) p (Some q) → Put [] (holds Closed p None ∷ holds (Opened f env) q None ∷ []) → IsReduced (scene_of s) t → Done
     project_done f env p q is put red =
-        let made : Reduction = record {
-          news = closed_then (0 + length (slots_of s).slots) (record { head = head_at (slots_of s) p; entries = entries_at (slots_of s) p })
-              (opened_then (1 + length (slots_of s).slots) (record { head = head_at (slots_of s) q; entries = entries_at (slots_of s) q }) f env none);
-          items = 2;
-          regions = 0;
-          local = None;
-          mark = None;
-          facts = [];
-        } in
+        let made : Reduction = project_reduced (slots_of s) f env p q in
         let by = subst (λ v. HeldBy (holders_of s) t v) is (kept.shape.held.by t within) in
         let other = eqb-false p q by.1.1 in
         let step = open_step (slots_of s) t p q f env kept.shape.ordered within is other in
@@ -145,15 +162,7 @@ module _ (s : Scene) (t : ℕ) (kept : IsWellKept s) (lives : has t (scene_of s)
 
     opened_done : (f : FormulaTree) (env : Bindings) (q : ℕ) → (slot_at (slots_of s) t).what ≡ holds (Opened f env) q None → Put (bare (S.Do f env) ∷ bare (S.Do more env) ∷ []) (holds (Running f env) (length (slots_of s).regions) (Some q) ∷ []) → Done
     opened_done f env q is put =
-        let made : Reduction = record {
-          news = running_then (2 + length (slots_of s).slots) (record { head = new_head (length (slots_of s).regions); entries = leaf (0 + length (slots_of s).slots) (S.Do f env) (leaf (1 + length (slots_of s).slots) (S.Do more env) none) })
-              (record { head = head_at (slots_of s) q; entries = entries_at (slots_of s) q }) f env none;
-          items = 3;
-          regions = 1;
-          local = None;
-          mark = None;
-          facts = [];
-        } in
+        let made : Reduction = opened_reduced (slots_of s) f env q in
         let ins = bare (S.Do f env) ∷ bare (S.Do more env) ∷ [] in
         let outs = holds (Running f env) (length (slots_of s).regions) (Some q) ∷ [] in
         let fit = subst (λ v. WhatFits (slots_of s) (slot_at (slots_of s) t).home t v) is (kept.shape.ordered.items t within).1 in

@@ -19,7 +19,7 @@ use Rattle.tp_slots.specs.News.{new_items, bare_leaves, moved_news}
 use Rattle.tp_slots.specs.Reductions.{AreBare, CanMove, IsReduced, IsAfter, becomes_leaves, becomes_split, becomes_opened}
 use Rattle.tp_slots.specs.Read.{slots_of, scene_of, holders_of}
 use Rattle.tp_slots.proofs.Living.{home_lives, first_lives}
-use Rattle.tp_slots.proofs.Moving.{asleep_second, at_place, begins, closes, same_reduction, stepped_as, within}
+use Rattle.tp_slots.proofs.Moving.{asleep_second, at_place, begins, closes, opened_reduced, project_reduced, same_reduction, split_reduced, stepped_as, within}
 use Rattle.tp_slots.proofs.News.{all_new, leaves_live, news_after, none_new, not_in, range_new}
 use Rattle.tp_slots.proofs.Waking.{awake, dormant, has_no_next}
 use Rattle.tp_slots.specs.declared.scene.Scene.{Scene}
@@ -74,14 +74,7 @@ module _ (s : Scene) (t : ℕ) (kept : IsWellKept s) (lives : has t (scene_of s)
   module _ (w : Setting) (k : Contents) (r : Reduction) (e : outcome_of w k (scene_of s) t ≡ reduces r) where
     split_moved : (f : FormulaTree) (env : Bindings) (p : ℕ) → (slot_at (slots_of s) t).what ≡ holds (Split f env) p None → filter fresh (live_items r.news) ≡ range_with_len n 2
     split_moved f env p is =
-        let made : Reduction = record {
-          news = closed_then (0 + n) (record { head = head_at (slots_of s) p; entries = entries_at (slots_of s) p }) (leaf (1 + n) (S.Do f env) none);
-          items = 2;
-          regions = 0;
-          local = None;
-          mark = None;
-          facts = [];
-        } in
+        let made : Reduction = split_reduced (slots_of s) f env p in
         let q = closes (held_place (Split f env) (head_at (slots_of s) p) (entries_at (slots_of s) p) (at_place s t kept lives)) (reduces made) r (sym (stepped_as s t kept lives w k (holds (Split f env) p None) is) ∙ e) in
         ap (λ (x : Reduction). filter fresh (live_items x.news)) (sym (same_reduction made r q.2))
         ∙ (filter-append fresh (live_items (entries_at (slots_of s) p)) ((0 + n) ∷ (1 + n) ∷ [])
@@ -89,15 +82,7 @@ module _ (s : Scene) (t : ℕ) (kept : IsWellKept s) (lives : has t (scene_of s)
 
     project_moved : (f : FormulaTree) (env : Bindings) (p q : ℕ) → (slot_at (slots_of s) t).what ≡ holds (SplitProject f env) p (Some q) → filter fresh (live_items r.news) ≡ n ∷ live_items (entries_at (slots_of s) q) ++ (n + 1) ∷ []
     project_moved f env p q is =
-        let made : Reduction = record {
-          news = closed_then (0 + n) (record { head = head_at (slots_of s) p; entries = entries_at (slots_of s) p })
-              (opened_then (1 + n) (record { head = head_at (slots_of s) q; entries = entries_at (slots_of s) q }) f env none);
-          items = 2;
-          regions = 0;
-          local = None;
-          mark = None;
-          facts = [];
-        } in
+        let made : Reduction = project_reduced (slots_of s) f env p q in
         let x = closes (held_place (SplitProject f env) (head_at (slots_of s) p) (entries_at (slots_of s) p) (at_place s t kept lives)) (reduces made) r (sym (stepped_as s t kept lives w k (holds (SplitProject f env) p (Some q)) is) ∙ e) in
         let fit = fits (holds (SplitProject f env) p (Some q)) is in
         let by = subst (λ v. HeldBy (holders_of s) t v) is (kept.shape.held.by t (within s t kept lives)) in
@@ -119,15 +104,7 @@ module _ (s : Scene) (t : ℕ) (kept : IsWellKept s) (lives : has t (scene_of s)
 
     opened_moved : (f : FormulaTree) (env : Bindings) (q : ℕ) → (slot_at (slots_of s) t).what ≡ holds (Opened f env) q None → filter fresh (live_items r.news) ≡ range_with_len n 3
     opened_moved f env q is =
-        let made : Reduction = record {
-          news = running_then (2 + n) (record { head = new_head (length (slots_of s).regions); entries = leaf (0 + n) (S.Do f env) (leaf (1 + n) (S.Do more env) none) })
-              (record { head = head_at (slots_of s) q; entries = entries_at (slots_of s) q }) f env none;
-          items = 3;
-          regions = 1;
-          local = None;
-          mark = None;
-          facts = [];
-        } in
+        let made : Reduction = opened_reduced (slots_of s) f env q in
         let x = begins (held_place (Opened f env) (head_at (slots_of s) q) (entries_at (slots_of s) q) (at_place s t kept lives)) (reduces made) r (sym (stepped_as s t kept lives w k (holds (Opened f env) q None) is) ∙ e) in
         ap (λ (x : Reduction). filter fresh (live_items x.news)) (sym (same_reduction made r x))
         ∙ (ap (filter fresh) (append_assoc (live_items (entries_at (slots_of s) q)) ((0 + n) ∷ (1 + n) ∷ []) ((2 + n) ∷ []))

@@ -7,10 +7,7 @@ use Rattle.tp_slots.proofs.Read.{region_edited, item_edited}
 
 unmarked : (k : Holder) (g : Head) → cond (has_second k) g g ≡ g
 unmarked (Split f env) g = refl
-unmarked (SplitProject f env) g = refl
-unmarked Closed g = refl
-unmarked (Opened f env) g = refl
-unmarked (Running f env) g = refl
+unmarked _ g = refl
 
 pub same_edited : (es : Entries) → edited_entries (λ u. None) (λ r. None) es ≡ es
 same_edited none = refl

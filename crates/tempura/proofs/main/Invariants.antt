@@ -1,4 +1,4 @@
 use Rattle.tempura.proofs.main.Given as goal
 
-abbrev pub ghosts-counted : goal.ghosts-counted
-ghosts-counted a = record { name = a.blank.name; parts = a.blank.parts }
+abbrev pub ghosts-call : goal.ghosts-call
+ghosts-call a = record { name = a.blank.name; parts = a.blank.parts }

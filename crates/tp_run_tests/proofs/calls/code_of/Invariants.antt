@@ -1,4 +1,4 @@
 use Rattle.tp_run_tests.proofs.calls.code_of.Given as goal
 
-abbrev pub ghosts-counted : goal.ghosts-counted
-ghosts-counted g a = record { name = a.blank.name; parts = a.blank.parts }
+abbrev pub ghosts-call : goal.ghosts-call
+ghosts-call g a = record { name = a.blank.name; parts = a.blank.parts }

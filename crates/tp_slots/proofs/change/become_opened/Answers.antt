@@ -33,40 +33,35 @@ put-requires-clause-below c =
     subst (λ (l : List code.What). AllBelow (length c.args.scene.now.regions.items + length (begun 0 (length l))) (map what_of c.in_ok-outs.outs.items)) (sym c.in_ok-inner.ensures)
     (subst (λ (l : List code.What). AllBelow (length c.args.scene.now.regions.items + 1) (map what_of l)) (sym c.in_ok-outs.ensures) (omega (arith, n), tt))
 
-pub returns-clause-kept : goal.returns-clause-kept
-returns-clause-kept c = begins_kept c.args.scene.now c.args.item (formula_of c.args.first) (env_of c.args.first) (S.Opened (formula_of c.args.piece) (env_of c.args.piece)) refl refl c.requires.kept c.requires.lives c.requires.free c.put.new.scene 0
-    (c.in_ok-put.ensures.slots ∙ ((λ i. stepped (slots_of c.args.scene.now) c.args.item None (map what_of (c.in_ok-inner.ensures i)) (map what_of (c.in_ok-outs.ensures i)))
-    ∙ (let left = ((let n : c.len-outer.result ≡ length c.args.scene.now.regions.items = search rules in n) ∙ sym (length-map c.args.scene.now.regions.items region_slot_of)) in λ i. stepped (slots_of c.args.scene.now) c.args.item None (plain.bare (S.Do (formula_of c.args.first) (env_of c.args.first)) ∷ []) (plain.holds (S.Opened (formula_of c.args.piece) (env_of c.args.piece)) (left i) None ∷ []))))
-    (c.in_ok-put.ensures.holders ∙ ((λ i. held_after (slots_of c.args.scene.now) (map what_of (c.in_ok-inner.ensures i)) (map what_of (c.in_ok-outs.ensures i)) (holders_of c.args.scene.now))
-    ∙ (let left = ((let n : c.len-outer.result ≡ length c.args.scene.now.regions.items = search rules in n) ∙ sym (length-map c.args.scene.now.regions.items region_slot_of)) in λ i. held_after (slots_of c.args.scene.now) (plain.bare (S.Do (formula_of c.args.first) (env_of c.args.first)) ∷ []) (plain.holds (S.Opened (formula_of c.args.piece) (env_of c.args.piece)) (left i) None ∷ []) (holders_of c.args.scene.now))))
-    (c.in_ok-put.ensures.ends ∙ ap (λ (l : List code.What). ends_of c.args.scene.now ++ map (λ (x : RegionSlot). false) (begun 0 (length l))) c.in_ok-inner.ensures)
-    (c.in_ok-put.ensures.goes ∙ ap (λ (l : List code.What). goes_of c.args.scene.now ++ map (λ (x : RegionSlot). false) (begun 0 (length l))) c.in_ok-inner.ensures)
-    c.put.ensures.looks
-    (c.in_ok-put.ensures.afters ∙ (λ i. afters_then (afters_of c.args.scene.now) (length (c.in_ok-inner.ensures i)) (length (c.in_ok-outs.ensures i)) c.args.item))
-
-pub returns-clause-scene : goal.returns-clause-scene
-returns-clause-scene c = begins_scene c.args.scene.now c.args.item (formula_of c.args.first) (env_of c.args.first) (S.Opened (formula_of c.args.piece) (env_of c.args.piece)) refl refl c.requires.kept c.requires.lives c.requires.free c.put.new.scene 0
-    (c.in_ok-put.ensures.slots ∙ ((λ i. stepped (slots_of c.args.scene.now) c.args.item None (map what_of (c.in_ok-inner.ensures i)) (map what_of (c.in_ok-outs.ensures i)))
-    ∙ (let left = ((let n : c.len-outer.result ≡ length c.args.scene.now.regions.items = search rules in n) ∙ sym (length-map c.args.scene.now.regions.items region_slot_of)) in λ i. stepped (slots_of c.args.scene.now) c.args.item None (plain.bare (S.Do (formula_of c.args.first) (env_of c.args.first)) ∷ []) (plain.holds (S.Opened (formula_of c.args.piece) (env_of c.args.piece)) (left i) None ∷ []))))
-    (c.in_ok-put.ensures.holders ∙ ((λ i. held_after (slots_of c.args.scene.now) (map what_of (c.in_ok-inner.ensures i)) (map what_of (c.in_ok-outs.ensures i)) (holders_of c.args.scene.now))
-    ∙ (let left = ((let n : c.len-outer.result ≡ length c.args.scene.now.regions.items = search rules in n) ∙ sym (length-map c.args.scene.now.regions.items region_slot_of)) in λ i. held_after (slots_of c.args.scene.now) (plain.bare (S.Do (formula_of c.args.first) (env_of c.args.first)) ∷ []) (plain.holds (S.Opened (formula_of c.args.piece) (env_of c.args.piece)) (left i) None ∷ []) (holders_of c.args.scene.now))))
-    (c.in_ok-put.ensures.ends ∙ ap (λ (l : List code.What). ends_of c.args.scene.now ++ map (λ (x : RegionSlot). false) (begun 0 (length l))) c.in_ok-inner.ensures)
-    (c.in_ok-put.ensures.goes ∙ ap (λ (l : List code.What). goes_of c.args.scene.now ++ map (λ (x : RegionSlot). false) (begun 0 (length l))) c.in_ok-inner.ensures) (becomes_opened (scene_of c.args.scene.now) (formula_of c.args.first) (env_of c.args.first) (formula_of c.args.piece) (env_of c.args.piece)) refl refl refl refl
-
-pub returns-clause-news : goal.returns-clause-news
-returns-clause-news c =
+pub returns : goal.returns
+returns c =
+    let a = c.args in
     let s = c.args.scene.now in
-    let scene : scene_of c.put.new.scene ≡ scene_after c.args.item (becomes_opened (scene_of s) (formula_of c.args.first) (env_of c.args.first) (formula_of c.args.piece) (env_of c.args.piece)) (scene_of s) = begins_scene c.args.scene.now c.args.item (formula_of c.args.first) (env_of c.args.first) (S.Opened (formula_of c.args.piece) (env_of c.args.piece)) refl refl c.requires.kept c.requires.lives c.requires.free c.put.new.scene 0
-    (c.in_ok-put.ensures.slots ∙ ((λ i. stepped (slots_of c.args.scene.now) c.args.item None (map what_of (c.in_ok-inner.ensures i)) (map what_of (c.in_ok-outs.ensures i)))
-    ∙ (let left = ((let n : c.len-outer.result ≡ length c.args.scene.now.regions.items = search rules in n) ∙ sym (length-map c.args.scene.now.regions.items region_slot_of)) in λ i. stepped (slots_of c.args.scene.now) c.args.item None (plain.bare (S.Do (formula_of c.args.first) (env_of c.args.first)) ∷ []) (plain.holds (S.Opened (formula_of c.args.piece) (env_of c.args.piece)) (left i) None ∷ []))))
-    (c.in_ok-put.ensures.holders ∙ ((λ i. held_after (slots_of c.args.scene.now) (map what_of (c.in_ok-inner.ensures i)) (map what_of (c.in_ok-outs.ensures i)) (holders_of c.args.scene.now))
-    ∙ (let left = ((let n : c.len-outer.result ≡ length c.args.scene.now.regions.items = search rules in n) ∙ sym (length-map c.args.scene.now.regions.items region_slot_of)) in λ i. held_after (slots_of c.args.scene.now) (plain.bare (S.Do (formula_of c.args.first) (env_of c.args.first)) ∷ []) (plain.holds (S.Opened (formula_of c.args.piece) (env_of c.args.piece)) (left i) None ∷ []) (holders_of c.args.scene.now))))
-    (c.in_ok-put.ensures.ends ∙ ap (λ (l : List code.What). ends_of c.args.scene.now ++ map (λ (x : RegionSlot). false) (begun 0 (length l))) c.in_ok-inner.ensures)
-    (c.in_ok-put.ensures.goes ∙ ap (λ (l : List code.What). goes_of c.args.scene.now ++ map (λ (x : RegionSlot). false) (begun 0 (length l))) c.in_ok-inner.ensures) (becomes_opened (scene_of c.args.scene.now) (formula_of c.args.first) (env_of c.args.first) (formula_of c.args.piece) (env_of c.args.piece)) refl refl refl refl in
+    let next = c.put.new.scene in
+    let k = c.requires in
+    let put = c.in_ok-put.ensures in
+    let ins = c.in_ok-inner.ensures in
+    let outs = c.in_ok-outs.ensures in
+    let due = plain.bare (S.Do (formula_of a.first) (env_of a.first)) in
+    let holder = S.Opened (formula_of a.piece) (env_of a.piece) in
     let first : c.len.result ≡ length s.slots.items = search rules in
-    c.in_ok-fresh.ensures
-    ∙ (ap (λ n. range_with_len n 2) (first ∙ sym (length-map s.slots.items slot_of))
-    ∙ sym (ap (new_items (scene_of s)) scene ∙ opened_news s c.args.item c.requires.kept c.requires.lives (formula_of c.args.first) (env_of c.args.first) (formula_of c.args.piece) (env_of c.args.piece)))
+    let count : c.len-outer.result ≡ length s.regions.items = search rules in
+    let left = count ∙ sym (length-map s.regions.items region_slot_of) in
+    let slots = put.slots ∙ ((λ i. stepped (slots_of s) a.item None (map what_of (ins i)) (map what_of (outs i))) ∙ (λ i. stepped (slots_of s) a.item None (due ∷ []) (plain.holds holder (left i) None ∷ []))) in
+    let holders = put.holders ∙ ((λ i. held_after (slots_of s) (map what_of (ins i)) (map what_of (outs i)) (holders_of s)) ∙ (λ i. held_after (slots_of s) (due ∷ []) (plain.holds holder (left i) None ∷ []) (holders_of s))) in
+    let ends = put.ends ∙ ap (λ (l : List code.What). ends_of s ++ map (λ (x : RegionSlot). false) (begun 0 (length l))) ins in
+    let goes = put.goes ∙ ap (λ (l : List code.What). goes_of s ++ map (λ (x : RegionSlot). false) (begun 0 (length l))) ins in
+    let afters = put.afters ∙ (λ i. afters_then (afters_of s) (length (ins i)) (length (outs i)) a.item) in
+    let reduction = becomes_opened (scene_of s) (formula_of a.first) (env_of a.first) (formula_of a.piece) (env_of a.piece) in
+    let scene : scene_of next ≡ scene_after a.item reduction (scene_of s) = begins_scene s a.item (formula_of a.first) (env_of a.first) holder refl refl k.kept k.lives k.free next 0 slots holders ends goes reduction refl refl refl refl in
+    record {
+      kept = begins_kept s a.item (formula_of a.first) (env_of a.first) holder refl refl k.kept k.lives k.free next 0 slots holders ends goes c.put.ensures.looks afters;
+      scene = scene;
+      news = c.in_ok-fresh.ensures
+          ∙ (ap (λ n. range_with_len n 2) (first ∙ sym (length-map s.slots.items slot_of))
+          ∙ sym (ap (new_items (scene_of s)) scene ∙ opened_news s a.item k.kept k.lives (formula_of a.first) (env_of a.first) (formula_of a.piece) (env_of a.piece)));
+      err = tt;
+    }
 
 pub returns-in_err-fresh-clause-kept : goal.returns-in_err-fresh-clause-kept
 returns-in_err-fresh-clause-kept c = c.requires.kept

@@ -13,101 +13,57 @@ use Rattle.tp_slots.proofs.Seeing.{slot_read}
 use Rattle.tp_slots.proofs.Newly.{moved_news_are}
 use Rattle.tp_slots.proofs.change.move_on.Goals as goal
 
-pub put-requires-clause-item : goal.put-requires-clause-item
-put-requires-clause-item c = lives_within c.args.scene.now c.args.item c.requires.kept.shape.ordered c.requires.lives
-
-pub put-requires-clause-home : goal.put-requires-clause-home
-put-requires-clause-home c = home_within c.args.scene.now c.args.item c.requires.kept.shape.ordered (lives_within c.args.scene.now c.args.item c.requires.kept.shape.ordered c.requires.lives)
-
-pub put-requires-clause-bare : goal.put-requires-clause-bare
-put-requires-clause-bare c =
+pub put-requires : goal.put-requires
+put-requires c =
     let s = c.args.scene.now in
-    let within = lives_within s c.args.item c.requires.kept.shape.ordered c.requires.lives in
-    let read : what_of c.index.result.now.what ≡ (slot_at (slots_of s) c.args.item).what = ap (λ (x : plain.Slot). x.what) (ap slot_of c.index.ensures ∙ slot_read s c.args.item c.index.result.now within) in
-    let count : c.len.result ≡ length (slots_of s).regions = (let n : c.len.result ≡ length s.regions.items = search rules in n) ∙ sym (length-map s.regions.items region_slot_of) in
-    let ei = c.in_ok-inner.ensures ∙ ap moved_inner read in
-    let eo = c.in_ok-outs.ensures ∙ (λ i. moved_outs (read i) (count i)) in
-    let size = sym (length-map c.in_ok-inner.inner.items what_of) ∙ ap (λ (l : List What). length l) ei in
-    subst AreBare (sym ei) (moves_bare (slot_at (slots_of s) c.args.item).what)
-
-pub put-requires-clause-below : goal.put-requires-clause-below
-put-requires-clause-below c =
-    let s = c.args.scene.now in
-    let within = lives_within s c.args.item c.requires.kept.shape.ordered c.requires.lives in
-    let read : what_of c.index.result.now.what ≡ (slot_at (slots_of s) c.args.item).what = ap (λ (x : plain.Slot). x.what) (ap slot_of c.index.ensures ∙ slot_read s c.args.item c.index.result.now within) in
+    let ordered = c.requires.kept.shape.ordered in
+    let within = lives_within s c.args.item ordered c.requires.lives in
+    let what = (slot_at (slots_of s) c.args.item).what in
+    let read : what_of c.index.result.now.what ≡ what = ap (λ (x : plain.Slot). x.what) (ap slot_of c.index.ensures ∙ slot_read s c.args.item c.index.result.now within) in
     let count : c.len.result ≡ length (slots_of s).regions = (let n : c.len.result ≡ length s.regions.items = search rules in n) ∙ sym (length-map s.regions.items region_slot_of) in
     let ei = c.in_ok-inner.ensures ∙ ap moved_inner read in
     let eo = c.in_ok-outs.ensures ∙ (λ i. moved_outs (read i) (count i)) in
     let size = sym (length-map c.in_ok-inner.inner.items what_of) ∙ ap (λ (l : List What). length l) ei in
     let e = length-map s.slots.items slot_of in
-    let fit = (c.requires.kept.shape.ordered.items c.args.item (omega (arith, within, e))).1 in
+    let fit = (ordered.items c.args.item (omega (arith, within, e))).1 in
     let n = length-map s.regions.items region_slot_of in
-    subst (λ l. AllBelow (length s.regions.items + length (begun 0 (length c.in_ok-inner.inner.items))) l) (sym eo)
-    (subst (λ i. AllBelow (length s.regions.items + length (begun 0 i)) (moved_outs (slot_at (slots_of s) c.args.item).what (length (slots_of s).regions))) (sym size)
-    (subst (λ i. AllBelow (i + length (begun 0 (length (moved_inner (slot_at (slots_of s) c.args.item).what)))) (moved_outs (slot_at (slots_of s) c.args.item).what (length (slots_of s).regions))) n
-    (moves_below (slots_of s) (slot_at (slots_of s) c.args.item).home c.args.item (slot_at (slots_of s) c.args.item).what fit)))
+    record {
+      item = within;
+      home = home_within s c.args.item ordered within;
+      bare = subst AreBare (sym ei) (moves_bare what);
+      below = subst (λ l. AllBelow (length s.regions.items + length (begun 0 (length c.in_ok-inner.inner.items))) l) (sym eo)
+          (subst (λ i. AllBelow (length s.regions.items + length (begun 0 i)) (moved_outs what (length (slots_of s).regions))) (sym size)
+          (subst (λ i. AllBelow (i + length (begun 0 (length (moved_inner what)))) (moved_outs what (length (slots_of s).regions))) n
+          (moves_below (slots_of s) (slot_at (slots_of s) c.args.item).home c.args.item what fit)));
+    }
 
-pub returns-clause-kept : goal.returns-clause-kept
-returns-clause-kept c =
+pub returns : goal.returns
+returns c =
     let s = c.args.scene.now in
-    let within = lives_within s c.args.item c.requires.kept.shape.ordered c.requires.lives in
-    let read : what_of c.index.result.now.what ≡ (slot_at (slots_of s) c.args.item).what = ap (λ (x : plain.Slot). x.what) (ap slot_of c.index.ensures ∙ slot_read s c.args.item c.index.result.now within) in
+    let k = c.requires in
+    let within = lives_within s c.args.item k.kept.shape.ordered k.lives in
+    let what = (slot_at (slots_of s) c.args.item).what in
+    let read : what_of c.index.result.now.what ≡ what = ap (λ (x : plain.Slot). x.what) (ap slot_of c.index.ensures ∙ slot_read s c.args.item c.index.result.now within) in
     let count : c.len.result ≡ length (slots_of s).regions = (let n : c.len.result ≡ length s.regions.items = search rules in n) ∙ sym (length-map s.regions.items region_slot_of) in
     let ei = c.in_ok-inner.ensures ∙ ap moved_inner read in
     let eo = c.in_ok-outs.ensures ∙ (λ i. moved_outs (read i) (count i)) in
     let size = sym (length-map c.in_ok-inner.inner.items what_of) ∙ ap (λ (l : List What). length l) ei in
     let places = sym (length-map c.in_ok-outs.outs.items what_of) ∙ ap (λ (l : List What). length l) eo in
-    (moved_done s c.args.item c.requires.kept c.requires.lives c.put.new.scene 0 (slot_at (slots_of s) c.args.item).what refl c.requires.holder (
-      c.in_ok-put.ensures.slots ∙ (λ i. stepped (slots_of s) c.args.item None (ei i) (eo i)),
-      c.in_ok-put.ensures.holders ∙ (λ i. held_after (slots_of s) (ei i) (eo i) (holders_of s)),
-      c.in_ok-put.ensures.ends ∙ ap (λ n. ends_of s ++ map (λ (x : RegionSlot). false) (begun 0 n)) size,
-      c.in_ok-put.ensures.goes ∙ ap (λ n. goes_of s ++ map (λ (x : RegionSlot). false) (begun 0 n)) size,
+    let put = c.in_ok-put.ensures in
+    let done = moved_done s c.args.item k.kept k.lives c.put.new.scene 0 what refl k.holder (
+      put.slots ∙ (λ i. stepped (slots_of s) c.args.item None (ei i) (eo i)),
+      put.holders ∙ (λ i. held_after (slots_of s) (ei i) (eo i) (holders_of s)),
+      put.ends ∙ ap (λ n. ends_of s ++ map (λ (x : RegionSlot). false) (begun 0 n)) size,
+      put.goes ∙ ap (λ n. goes_of s ++ map (λ (x : RegionSlot). false) (begun 0 n)) size,
       c.put.ensures.looks,
-      c.in_ok-put.ensures.afters ∙ (λ i. afters_then (afters_of s) (size i) (places i) c.args.item),
-    )
-    c.requires.reduced).0
-
-pub returns-clause-scene : goal.returns-clause-scene
-returns-clause-scene c =
-    let s = c.args.scene.now in
-    let within = lives_within s c.args.item c.requires.kept.shape.ordered c.requires.lives in
-    let read : what_of c.index.result.now.what ≡ (slot_at (slots_of s) c.args.item).what = ap (λ (x : plain.Slot). x.what) (ap slot_of c.index.ensures ∙ slot_read s c.args.item c.index.result.now within) in
-    let count : c.len.result ≡ length (slots_of s).regions = (let n : c.len.result ≡ length s.regions.items = search rules in n) ∙ sym (length-map s.regions.items region_slot_of) in
-    let ei = c.in_ok-inner.ensures ∙ ap moved_inner read in
-    let eo = c.in_ok-outs.ensures ∙ (λ i. moved_outs (read i) (count i)) in
-    let size = sym (length-map c.in_ok-inner.inner.items what_of) ∙ ap (λ (l : List What). length l) ei in
-    let places = sym (length-map c.in_ok-outs.outs.items what_of) ∙ ap (λ (l : List What). length l) eo in
-    (moved_done s c.args.item c.requires.kept c.requires.lives c.put.new.scene 0 (slot_at (slots_of s) c.args.item).what refl c.requires.holder (
-      c.in_ok-put.ensures.slots ∙ (λ i. stepped (slots_of s) c.args.item None (ei i) (eo i)),
-      c.in_ok-put.ensures.holders ∙ (λ i. held_after (slots_of s) (ei i) (eo i) (holders_of s)),
-      c.in_ok-put.ensures.ends ∙ ap (λ n. ends_of s ++ map (λ (x : RegionSlot). false) (begun 0 n)) size,
-      c.in_ok-put.ensures.goes ∙ ap (λ n. goes_of s ++ map (λ (x : RegionSlot). false) (begun 0 n)) size,
-      c.put.ensures.looks,
-      c.in_ok-put.ensures.afters ∙ (λ i. afters_then (afters_of s) (size i) (places i) c.args.item),
-    )
-    c.requires.reduced).1
-
-pub returns-clause-news : goal.returns-clause-news
-returns-clause-news c =
-    let s = c.args.scene.now in
-    let within = lives_within s c.args.item c.requires.kept.shape.ordered c.requires.lives in
-    let read : what_of c.index.result.now.what ≡ (slot_at (slots_of s) c.args.item).what = ap (λ (x : plain.Slot). x.what) (ap slot_of c.index.ensures ∙ slot_read s c.args.item c.index.result.now within) in
-    let count : c.len.result ≡ length (slots_of s).regions = (let n : c.len.result ≡ length s.regions.items = search rules in n) ∙ sym (length-map s.regions.items region_slot_of) in
-    let ei = c.in_ok-inner.ensures ∙ ap moved_inner read in
-    let eo = c.in_ok-outs.ensures ∙ (λ i. moved_outs (read i) (count i)) in
-    let size = sym (length-map c.in_ok-inner.inner.items what_of) ∙ ap (λ (l : List What). length l) ei in
-    let places = sym (length-map c.in_ok-outs.outs.items what_of) ∙ ap (λ (l : List What). length l) eo in
-    let after =
-    (moved_done s c.args.item c.requires.kept c.requires.lives c.put.new.scene 0 (slot_at (slots_of s) c.args.item).what refl c.requires.holder (
-      c.in_ok-put.ensures.slots ∙ (λ i. stepped (slots_of s) c.args.item None (ei i) (eo i)),
-      c.in_ok-put.ensures.holders ∙ (λ i. held_after (slots_of s) (ei i) (eo i) (holders_of s)),
-      c.in_ok-put.ensures.ends ∙ ap (λ n. ends_of s ++ map (λ (x : RegionSlot). false) (begun 0 n)) size,
-      c.in_ok-put.ensures.goes ∙ ap (λ n. goes_of s ++ map (λ (x : RegionSlot). false) (begun 0 n)) size,
-      c.put.ensures.looks,
-      c.in_ok-put.ensures.afters ∙ (λ i. afters_then (afters_of s) (size i) (places i) c.args.item),
-    )
-    c.requires.reduced).1 in
-    c.in_ok-fresh.ensures ∙ moved_news_are s c.args.item c.requires.kept c.requires.lives c.put.new.scene c.requires.holder c.requires.reduced after
+      put.afters ∙ (λ i. afters_then (afters_of s) (size i) (places i) c.args.item),
+    ) k.reduced in
+    record {
+      kept = done.0;
+      scene = done.1;
+      news = c.in_ok-fresh.ensures ∙ moved_news_are s c.args.item k.kept k.lives c.put.new.scene k.holder k.reduced done.1;
+      err = tt;
+    }
 
 pub moved_items-requires-clause-item : goal.moved_items-requires-clause-item
 moved_items-requires-clause-item c = lives_within c.args.scene.now c.args.item c.requires.kept.shape.ordered c.requires.lives

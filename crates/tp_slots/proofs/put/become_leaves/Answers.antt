@@ -34,83 +34,58 @@ put-requires-clause-bare c = subst (λ (l : List code.What). AreBare (map what_o
 pub put-requires-clause-below : goal.put-requires-clause-below
 put-requires-clause-below c = bare_below _ (map what_of c.in_ok-outs.outs.items) (subst AreBare (sym c.in_ok-outs.ensures) (leaves_bare c.args.news.items))
 
-pub raise_mark-requires-clause-shape : goal.raise_mark-requires-clause-shape
-raise_mark-requires-clause-shape c = leaves_shape c.args.scene.now c.args.item (option_map mark_of c.args.mark) (bare_leaves c.args.news.items) c.requires.kept c.requires.lives c.requires.free (leaves_bare c.args.news.items) c.put.new.scene 0
-    (c.in_ok-put.ensures.slots ∙ (λ i. stepped (slots_of c.args.scene.now) c.args.item (option_map mark_of c.args.mark) (map what_of (c.new.ensures.items i)) (c.in_ok-outs.ensures i)))
-    (c.in_ok-put.ensures.holders ∙ (λ i. held_after (slots_of c.args.scene.now) (map what_of (c.new.ensures.items i)) (c.in_ok-outs.ensures i) (holders_of c.args.scene.now)))
-    (c.in_ok-put.ensures.ends ∙ ap (λ (l : List code.What). ends_of c.args.scene.now ++ map (λ (x : RegionSlot). false) (begun 0 (length l))) c.new.ensures.items)
-    (c.in_ok-put.ensures.goes ∙ ap (λ (l : List code.What). goes_of c.args.scene.now ++ map (λ (x : RegionSlot). false) (begun 0 (length l))) c.new.ensures.items)
-
-pub raise_mark-requires-clause-region : goal.raise_mark-requires-clause-region
-raise_mark-requires-clause-region c = subst (λ h. h < length c.put.new.scene.regions.items) (sym (ap (λ (x : Slot). x.home) c.index.ensures ∙ home_is c.args.scene.now.slots.items c.args.item c.index.result.now (lives_within c.args.scene.now c.args.item c.requires.kept.shape.ordered c.requires.lives))) (leaves_home c.args.scene.now c.args.item (option_map mark_of c.args.mark) (bare_leaves c.args.news.items) c.requires.kept c.requires.lives c.requires.free (leaves_bare c.args.news.items) c.put.new.scene 0
-    (c.in_ok-put.ensures.slots ∙ (λ i. stepped (slots_of c.args.scene.now) c.args.item (option_map mark_of c.args.mark) (map what_of (c.new.ensures.items i)) (c.in_ok-outs.ensures i)))
-    (c.in_ok-put.ensures.holders ∙ (λ i. held_after (slots_of c.args.scene.now) (map what_of (c.new.ensures.items i)) (c.in_ok-outs.ensures i) (holders_of c.args.scene.now)))
-    (c.in_ok-put.ensures.ends ∙ ap (λ (l : List code.What). ends_of c.args.scene.now ++ map (λ (x : RegionSlot). false) (begun 0 (length l))) c.new.ensures.items)
-    (c.in_ok-put.ensures.goes ∙ ap (λ (l : List code.What). goes_of c.args.scene.now ++ map (λ (x : RegionSlot). false) (begun 0 (length l))) c.new.ensures.items))
-
-pub raise_mark-requires-clause-lives : goal.raise_mark-requires-clause-lives
-raise_mark-requires-clause-lives c = ap (lives_in (slots_of c.put.new.scene) (holders_of c.put.new.scene)) (ap (λ (x : Slot). x.home) c.index.ensures ∙ home_is c.args.scene.now.slots.items c.args.item c.index.result.now (lives_within c.args.scene.now c.args.item c.requires.kept.shape.ordered c.requires.lives)) ∙ leaves_live c.args.scene.now c.args.item (option_map mark_of c.args.mark) (bare_leaves c.args.news.items) c.requires.kept c.requires.lives c.requires.free (leaves_bare c.args.news.items) c.put.new.scene 0
-    (c.in_ok-put.ensures.slots ∙ (λ i. stepped (slots_of c.args.scene.now) c.args.item (option_map mark_of c.args.mark) (map what_of (c.new.ensures.items i)) (c.in_ok-outs.ensures i)))
-    (c.in_ok-put.ensures.holders ∙ (λ i. held_after (slots_of c.args.scene.now) (map what_of (c.new.ensures.items i)) (c.in_ok-outs.ensures i) (holders_of c.args.scene.now)))
-    (c.in_ok-put.ensures.ends ∙ ap (λ (l : List code.What). ends_of c.args.scene.now ++ map (λ (x : RegionSlot). false) (begun 0 (length l))) c.new.ensures.items)
-    (c.in_ok-put.ensures.goes ∙ ap (λ (l : List code.What). goes_of c.args.scene.now ++ map (λ (x : RegionSlot). false) (begun 0 (length l))) c.new.ensures.items)
-
-pub raise_mark-requires-clause-flags : goal.raise_mark-requires-clause-flags
-raise_mark-requires-clause-flags c z =
-    subst (λ h. FlagsFollow (slots_of c.put.new.scene) (option_map mark_of c.args.mark) h z (flags_in (flags_of z c.put.new.scene))) (sym (ap (λ (x : Slot). x.home) c.index.ensures ∙ home_is c.args.scene.now.slots.items c.args.item c.index.result.now (lives_within c.args.scene.now c.args.item c.requires.kept.shape.ordered c.requires.lives))) (leaves_flags c.args.scene.now c.args.item (option_map mark_of c.args.mark) (bare_leaves c.args.news.items) c.requires.kept c.requires.lives c.requires.free (leaves_bare c.args.news.items) c.put.new.scene 0
-    (c.in_ok-put.ensures.slots ∙ (λ i. stepped (slots_of c.args.scene.now) c.args.item (option_map mark_of c.args.mark) (map what_of (c.new.ensures.items i)) (c.in_ok-outs.ensures i)))
-    (c.in_ok-put.ensures.holders ∙ (λ i. held_after (slots_of c.args.scene.now) (map what_of (c.new.ensures.items i)) (c.in_ok-outs.ensures i) (holders_of c.args.scene.now)))
-    (c.in_ok-put.ensures.ends ∙ ap (λ (l : List code.What). ends_of c.args.scene.now ++ map (λ (x : RegionSlot). false) (begun 0 (length l))) c.new.ensures.items)
-    (c.in_ok-put.ensures.goes ∙ ap (λ (l : List code.What). goes_of c.args.scene.now ++ map (λ (x : RegionSlot). false) (begun 0 (length l))) c.new.ensures.items) z)
-
-pub raise_mark-requires-clause-quiet : goal.raise_mark-requires-clause-quiet
-raise_mark-requires-clause-quiet c = leaves_quiet c.args.scene.now c.args.item (option_map mark_of c.args.mark) (bare_leaves c.args.news.items) c.requires.kept c.requires.lives c.requires.free (leaves_bare c.args.news.items) c.put.new.scene 0
-    (c.in_ok-put.ensures.slots ∙ (λ i. stepped (slots_of c.args.scene.now) c.args.item (option_map mark_of c.args.mark) (map what_of (c.new.ensures.items i)) (c.in_ok-outs.ensures i)))
-    (c.in_ok-put.ensures.holders ∙ (λ i. held_after (slots_of c.args.scene.now) (map what_of (c.new.ensures.items i)) (c.in_ok-outs.ensures i) (holders_of c.args.scene.now)))
-    (c.in_ok-put.ensures.ends ∙ ap (λ (l : List code.What). ends_of c.args.scene.now ++ map (λ (x : RegionSlot). false) (begun 0 (length l))) c.new.ensures.items)
-    (c.in_ok-put.ensures.goes ∙ ap (λ (l : List code.What). goes_of c.args.scene.now ++ map (λ (x : RegionSlot). false) (begun 0 (length l))) c.new.ensures.items)
-
-pub raise_mark-requires-clause-threads : goal.raise_mark-requires-clause-threads
-raise_mark-requires-clause-threads c =
+pub raise_mark-requires : goal.raise_mark-requires
+raise_mark-requires c =
+    let s = c.args.scene.now in
+    let k = c.requires in
+    let mark = option_map mark_of c.args.mark in
+    let leaves = bare_leaves c.args.news.items in
+    let bare = leaves_bare c.args.news.items in
+    let next = c.put.new.scene in
+    let put = c.in_ok-put.ensures in
+    let slots = put.slots ∙ (λ i. stepped (slots_of s) c.args.item mark (map what_of (c.new.ensures.items i)) (c.in_ok-outs.ensures i)) in
+    let holders = put.holders ∙ (λ i. held_after (slots_of s) (map what_of (c.new.ensures.items i)) (c.in_ok-outs.ensures i) (holders_of s)) in
+    let ends = put.ends ∙ ap (λ (l : List code.What). ends_of s ++ map (λ (x : RegionSlot). false) (begun 0 (length l))) c.new.ensures.items in
+    let goes = put.goes ∙ ap (λ (l : List code.What). goes_of s ++ map (λ (x : RegionSlot). false) (begun 0 (length l))) c.new.ensures.items in
+    let home = ap (λ (x : Slot). x.home) c.index.ensures ∙ home_is s.slots.items c.args.item c.index.result.now (lives_within s c.args.item k.kept.shape.ordered k.lives) in
     let inner = ap (λ (l : List code.What). length l) c.new.ensures.items in
     let outs = sym (length-map c.in_ok-outs.outs.items what_of) ∙ ap (λ (l : List plain.What). length l) c.in_ok-outs.ensures in
-    leaves_threads c.args.scene.now c.args.item (option_map mark_of c.args.mark) (bare_leaves c.args.news.items) c.requires.kept c.requires.lives c.requires.free (leaves_bare c.args.news.items) c.put.new.scene 0
-    (c.in_ok-put.ensures.slots ∙ (λ i. stepped (slots_of c.args.scene.now) c.args.item (option_map mark_of c.args.mark) (map what_of (c.new.ensures.items i)) (c.in_ok-outs.ensures i)))
-    (c.in_ok-put.ensures.holders ∙ (λ i. held_after (slots_of c.args.scene.now) (map what_of (c.new.ensures.items i)) (c.in_ok-outs.ensures i) (holders_of c.args.scene.now)))
-    (c.in_ok-put.ensures.ends ∙ ap (λ (l : List code.What). ends_of c.args.scene.now ++ map (λ (x : RegionSlot). false) (begun 0 (length l))) c.new.ensures.items)
-    (c.in_ok-put.ensures.goes ∙ ap (λ (l : List code.What). goes_of c.args.scene.now ++ map (λ (x : RegionSlot). false) (begun 0 (length l))) c.new.ensures.items)
-    (c.in_ok-put.ensures.afters ∙ (λ i. afters_then (afters_of c.args.scene.now) (inner i) (outs i) c.args.item))
+    record {
+      shape = leaves_shape s c.args.item mark leaves k.kept k.lives k.free bare next 0 slots holders ends goes;
+      region = subst (λ h. h < length next.regions.items) (sym home) (leaves_home s c.args.item mark leaves k.kept k.lives k.free bare next 0 slots holders ends goes);
+      lives = ap (lives_in (slots_of next) (holders_of next)) home ∙ leaves_live s c.args.item mark leaves k.kept k.lives k.free bare next 0 slots holders ends goes;
+      flags = λ z. subst (λ h. FlagsFollow (slots_of next) mark h z (flags_in (flags_of z next))) (sym home) (leaves_flags s c.args.item mark leaves k.kept k.lives k.free bare next 0 slots holders ends goes z);
+      quiet = leaves_quiet s c.args.item mark leaves k.kept k.lives k.free bare next 0 slots holders ends goes;
+      threads = leaves_threads s c.args.item mark leaves k.kept k.lives k.free bare next 0 slots holders ends goes (put.afters ∙ (λ i. afters_then (afters_of s) (inner i) (outs i) c.args.item));
+      looks = leaves_looks s c.args.item mark leaves k.kept k.lives k.free bare next 0 slots holders ends goes c.put.ensures.looks;
+    }
 
-pub raise_mark-requires-clause-looks : goal.raise_mark-requires-clause-looks
-raise_mark-requires-clause-looks c = leaves_looks c.args.scene.now c.args.item (option_map mark_of c.args.mark) (bare_leaves c.args.news.items) c.requires.kept c.requires.lives c.requires.free (leaves_bare c.args.news.items) c.put.new.scene 0
-    (c.in_ok-put.ensures.slots ∙ (λ i. stepped (slots_of c.args.scene.now) c.args.item (option_map mark_of c.args.mark) (map what_of (c.new.ensures.items i)) (c.in_ok-outs.ensures i)))
-    (c.in_ok-put.ensures.holders ∙ (λ i. held_after (slots_of c.args.scene.now) (map what_of (c.new.ensures.items i)) (c.in_ok-outs.ensures i) (holders_of c.args.scene.now)))
-    (c.in_ok-put.ensures.ends ∙ ap (λ (l : List code.What). ends_of c.args.scene.now ++ map (λ (x : RegionSlot). false) (begun 0 (length l))) c.new.ensures.items)
-    (c.in_ok-put.ensures.goes ∙ ap (λ (l : List code.What). goes_of c.args.scene.now ++ map (λ (x : RegionSlot). false) (begun 0 (length l))) c.new.ensures.items)
-    c.put.ensures.looks
-
-pub returns-clause-scene : goal.returns-clause-scene
-returns-clause-scene c = ap scene_in c.raise_mark.ensures.slots ∙ leaves_scene c.args.scene.now c.args.item (option_map mark_of c.args.mark) (bare_leaves c.args.news.items) c.requires.kept c.requires.lives c.requires.free (leaves_bare c.args.news.items) c.put.new.scene 0
-    (c.in_ok-put.ensures.slots ∙ (λ i. stepped (slots_of c.args.scene.now) c.args.item (option_map mark_of c.args.mark) (map what_of (c.new.ensures.items i)) (c.in_ok-outs.ensures i)))
-    (c.in_ok-put.ensures.holders ∙ (λ i. held_after (slots_of c.args.scene.now) (map what_of (c.new.ensures.items i)) (c.in_ok-outs.ensures i) (holders_of c.args.scene.now)))
-    (c.in_ok-put.ensures.ends ∙ ap (λ (l : List code.What). ends_of c.args.scene.now ++ map (λ (x : RegionSlot). false) (begun 0 (length l))) c.new.ensures.items)
-    (c.in_ok-put.ensures.goes ∙ ap (λ (l : List code.What). goes_of c.args.scene.now ++ map (λ (x : RegionSlot). false) (begun 0 (length l))) c.new.ensures.items)
-
-pub returns-clause-news : goal.returns-clause-news
-returns-clause-news c =
+pub returns : goal.returns
+returns c =
     let s = c.args.scene.now in
-    let scene : scene_of c.raise_mark.new.scene ≡ scene_after c.args.item (becomes_leaves (scene_of s) (bare_leaves c.args.news.items) (option_map mark_of c.args.mark)) (scene_of s) = ap scene_in c.raise_mark.ensures.slots ∙ leaves_scene c.args.scene.now c.args.item (option_map mark_of c.args.mark) (bare_leaves c.args.news.items) c.requires.kept c.requires.lives c.requires.free (leaves_bare c.args.news.items) c.put.new.scene 0
-    (c.in_ok-put.ensures.slots ∙ (λ i. stepped (slots_of c.args.scene.now) c.args.item (option_map mark_of c.args.mark) (map what_of (c.new.ensures.items i)) (c.in_ok-outs.ensures i)))
-    (c.in_ok-put.ensures.holders ∙ (λ i. held_after (slots_of c.args.scene.now) (map what_of (c.new.ensures.items i)) (c.in_ok-outs.ensures i) (holders_of c.args.scene.now)))
-    (c.in_ok-put.ensures.ends ∙ ap (λ (l : List code.What). ends_of c.args.scene.now ++ map (λ (x : RegionSlot). false) (begun 0 (length l))) c.new.ensures.items)
-    (c.in_ok-put.ensures.goes ∙ ap (λ (l : List code.What). goes_of c.args.scene.now ++ map (λ (x : RegionSlot). false) (begun 0 (length l))) c.new.ensures.items) in
+    let k = c.requires in
+    let mark = option_map mark_of c.args.mark in
+    let leaves = bare_leaves c.args.news.items in
+    let bare = leaves_bare c.args.news.items in
+    let next = c.put.new.scene in
+    let put = c.in_ok-put.ensures in
+    let slots = put.slots ∙ (λ i. stepped (slots_of s) c.args.item mark (map what_of (c.new.ensures.items i)) (c.in_ok-outs.ensures i)) in
+    let holders = put.holders ∙ (λ i. held_after (slots_of s) (map what_of (c.new.ensures.items i)) (c.in_ok-outs.ensures i) (holders_of s)) in
+    let ends = put.ends ∙ ap (λ (l : List code.What). ends_of s ++ map (λ (x : RegionSlot). false) (begun 0 (length l))) c.new.ensures.items in
+    let goes = put.goes ∙ ap (λ (l : List code.What). goes_of s ++ map (λ (x : RegionSlot). false) (begun 0 (length l))) c.new.ensures.items in
+    let scene : scene_of c.raise_mark.new.scene ≡ scene_after c.args.item (becomes_leaves (scene_of s) leaves mark) (scene_of s) = ap scene_in c.raise_mark.ensures.slots ∙ leaves_scene s c.args.item mark leaves k.kept k.lives k.free bare next 0 slots holders ends goes in
     let first : c.len.result ≡ length s.slots.items = search rules in
     let count : c.len-2.result ≡ length c.args.news.items = search rules in
-    let n = first ∙ sym (length-map s.slots.items slot_of) in
-    let k = count ∙ sym (length-map c.args.news.items (λ (l : Leaf). plain.bare (plain_leaf l))) in
-    c.in_ok-fresh.ensures
-    ∙ ((λ i. range_with_len (n i) (k i))
-    ∙ sym (ap (new_items (scene_of s)) scene ∙ leaves_news s c.args.item c.requires.kept c.requires.lives (bare_leaves c.args.news.items) (option_map mark_of c.args.mark)))
+    let from = first ∙ sym (length-map s.slots.items slot_of) in
+    let many = count ∙ sym (length-map c.args.news.items (λ (l : Leaf). plain.bare (plain_leaf l))) in
+    record {
+      kept = c.raise_mark.ensures.kept;
+      scene = scene;
+      news = c.in_ok-fresh.ensures
+          ∙ ((λ i. range_with_len (from i) (many i))
+          ∙ sym (ap (new_items (scene_of s)) scene ∙ leaves_news s c.args.item k.kept k.lives leaves mark));
+      err = tt;
+    }
 
 pub returns-in_err-fresh-clause-kept : goal.returns-in_err-fresh-clause-kept
 returns-in_err-fresh-clause-kept c = c.requires.kept

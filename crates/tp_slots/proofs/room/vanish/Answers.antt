@@ -18,28 +18,19 @@ commit-requires-clause-home c = home_within c.args.scene.now c.args.item c.requi
 pub commit-requires-clause-below : goal.commit-requires-clause-below
 commit-requires-clause-below c = subst (λ (l : List Slot). AllBelow (length c.args.scene.now.regions.items + length c.new-2.result.items) (map (λ (x : Slot). what_of x.what) l)) (sym c.new.ensures.items) tt
 
-pub returns-clause-kept : goal.returns-clause-kept
-returns-clause-kept c =
-    unmarked_leaves_kept c.args.scene.now c.args.item [] c.requires.kept c.requires.lives c.requires.free tt c.commit.new.scene
-    (c.commit.ensures.slots ∙ (λ i. replaced (slots_of c.args.scene.now) c.args.item [] None (map slot_of (c.new.ensures.items i)) (map region_slot_of (c.new-2.ensures.items i))))
-    (c.commit.ensures.holders ∙ (λ i. hold_all (length c.args.scene.now.slots.items) (map (λ (x : Slot). what_of x.what) (c.new.ensures.items i)) (holders_of c.args.scene.now ++ map (λ (x : Region). x.holder) (c.new-2.ensures.items i))))
-    (c.commit.ensures.ends ∙ ap (λ (l : List Region). ends_of c.args.scene.now ++ map (λ (x : Region). x.ends_now) l) c.new-2.ensures.items)
-    (c.commit.ensures.goes ∙ ap (λ (l : List Region). goes_of c.args.scene.now ++ map (λ (x : Region). x.goes_now) l) c.new-2.ensures.items)
-    c.commit.ensures.looks
-    (c.commit.ensures.afters ∙ ap (λ (l : List Slot). afters_of c.args.scene.now ++ map (λ (x : Slot). x.after) l) c.new.ensures.items)
-
-pub returns-clause-scene : goal.returns-clause-scene
-returns-clause-scene c =
-    unmarked_leaves_scene c.args.scene.now c.args.item [] c.requires.kept c.requires.lives c.requires.free tt c.commit.new.scene
-    (c.commit.ensures.slots ∙ (λ i. replaced (slots_of c.args.scene.now) c.args.item [] None (map slot_of (c.new.ensures.items i)) (map region_slot_of (c.new-2.ensures.items i))))
-    (c.commit.ensures.holders ∙ (λ i. hold_all (length c.args.scene.now.slots.items) (map (λ (x : Slot). what_of x.what) (c.new.ensures.items i)) (holders_of c.args.scene.now ++ map (λ (x : Region). x.holder) (c.new-2.ensures.items i))))
-    (c.commit.ensures.ends ∙ ap (λ (l : List Region). ends_of c.args.scene.now ++ map (λ (x : Region). x.ends_now) l) c.new-2.ensures.items)
-    (c.commit.ensures.goes ∙ ap (λ (l : List Region). goes_of c.args.scene.now ++ map (λ (x : Region). x.goes_now) l) c.new-2.ensures.items)
-
-pub returns-clause-news : goal.returns-clause-news
-returns-clause-news c =
-    unmarked_leaves_news c.args.scene.now c.args.item [] c.requires.kept c.requires.lives c.requires.free tt c.commit.new.scene
-    (c.commit.ensures.slots ∙ (λ i. replaced (slots_of c.args.scene.now) c.args.item [] None (map slot_of (c.new.ensures.items i)) (map region_slot_of (c.new-2.ensures.items i))))
-    (c.commit.ensures.holders ∙ (λ i. hold_all (length c.args.scene.now.slots.items) (map (λ (x : Slot). what_of x.what) (c.new.ensures.items i)) (holders_of c.args.scene.now ++ map (λ (x : Region). x.holder) (c.new-2.ensures.items i))))
-    (c.commit.ensures.ends ∙ ap (λ (l : List Region). ends_of c.args.scene.now ++ map (λ (x : Region). x.ends_now) l) c.new-2.ensures.items)
-    (c.commit.ensures.goes ∙ ap (λ (l : List Region). goes_of c.args.scene.now ++ map (λ (x : Region). x.goes_now) l) c.new-2.ensures.items)
+pub returns : goal.returns
+returns c =
+    let s = c.args.scene.now in
+    let next = c.commit.new.scene in
+    let k = c.requires in
+    let put = c.commit.ensures in
+    let slots = put.slots ∙ (λ i. replaced (slots_of s) c.args.item [] None (map slot_of (c.new.ensures.items i)) (map region_slot_of (c.new-2.ensures.items i))) in
+    let holders = put.holders ∙ (λ i. hold_all (length s.slots.items) (map (λ (x : Slot). what_of x.what) (c.new.ensures.items i)) (holders_of s ++ map (λ (x : Region). x.holder) (c.new-2.ensures.items i))) in
+    let ends = put.ends ∙ ap (λ (l : List Region). ends_of s ++ map (λ (x : Region). x.ends_now) l) c.new-2.ensures.items in
+    let goes = put.goes ∙ ap (λ (l : List Region). goes_of s ++ map (λ (x : Region). x.goes_now) l) c.new-2.ensures.items in
+    let afters = put.afters ∙ ap (λ (l : List Slot). afters_of s ++ map (λ (x : Slot). x.after) l) c.new.ensures.items in
+    record {
+      kept = unmarked_leaves_kept s c.args.item [] k.kept k.lives k.free tt next slots holders ends goes put.looks afters;
+      scene = unmarked_leaves_scene s c.args.item [] k.kept k.lives k.free tt next slots holders ends goes;
+      news = unmarked_leaves_news s c.args.item [] k.kept k.lives k.free tt next slots holders ends goes;
+    }
