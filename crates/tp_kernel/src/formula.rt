@@ -47,7 +47,6 @@ pub struct Exprs {
 }
 
 /// A formula. In `NextEq` stands the number of `next`; `For`, `Forall` and `Exists` bind one name more in their bodies.
-#[derive(Drop)]
 #[cycle(formula)]
 pub enum Formula {
     True,
@@ -95,6 +94,31 @@ pub enum Formula {
 #[cycle(formula)]
 pub struct Formulas {
     pub items: Vec<Rc<Formula>>,
+}
+
+// A chain of `Exists` is let go by a loop, for each name of an `exists` makes one.
+impl Drop for Formula {
+    #[cycle(formula)]
+    fn drop(mut self) {
+        'names: loop {
+            match self {
+                Formula::Exists { name: _, lasting: _, body } => match Rc::try_unwrap(body) {
+                    Ok(inner) => self = inner,
+                    Err(_) => return,
+                },
+                Formula::True | Formula::Empty | Formula::More => return,
+                Formula::Test(_) | Formula::Len(_) => return,
+                Formula::Eq(_, _) | Formula::NextEq(_, _, _) | Formula::Assign(_, _) => return,
+                Formula::Next(_) | Formula::WeakNext(_) | Formula::Always(_) => return,
+                Formula::IfMore(_) | Formula::IfEmpty(_) => return,
+                Formula::And(_) | Formula::If(_, _, _) | Formula::Chop(_, _) => return,
+                Formula::While(_, _) | Formula::Proj(_, _) => return,
+                Formula::For { name: _, from: _, to: _, body: _ } => return,
+                Formula::Forall { name: _, from: _, to: _, body: _ } => return,
+                Formula::Call(_, _) | Formula::Input(_, _) | Formula::Display(_) => return,
+            }
+        }
+    }
 }
 
 /// A definition, with an expression where its body is one of a single state.
