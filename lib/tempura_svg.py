@@ -9,9 +9,11 @@ the options are those of that script, which tells what they do. `draw` gives the
 text gives the same bytes. Python 3.8 or later, with its standard library alone.
 """
 
+import math
 import os
 import re
 import sys
+from bisect import bisect_right
 from itertools import groupby
 
 sys.dont_write_bytecode = True
@@ -64,7 +66,8 @@ PAINTED = (
     (".open", "fill", "mark"),
     (".open-column", "fill", "open-column"),
 )
-SHAPED = """text { font: 12px ui-monospace, "DejaVu Sans Mono", Menlo, Consolas, "Liberation Mono", monospace; white-space: pre }
+SHAPED = """text { font: 12px ui-monospace, "DejaVu Sans Mono", Menlo, Consolas, "Liberation Mono", monospace }
+text { white-space: pre }
 .axis { font-size: 10px; text-anchor: middle }
 .name, .name-show { text-anchor: end }
 .value { text-anchor: middle }
@@ -83,7 +86,7 @@ def escaped(text):
 
 
 def text_width(text):
-    return -int(-len(text) * ADVANCE // 1)
+    return math.ceil(len(text) * ADVANCE)
 
 
 def cut(text, most):
@@ -92,7 +95,7 @@ def cut(text, most):
 
 
 class Row:
-    """A place, or the `show` lines: its name, whether it is on two levels, and its texts as (first, end, text or None)."""
+    """A place: its name, whether it is on two levels, and its spans, each (first state, end, text or None)."""
 
     def __init__(self, name, texts, is_truth):
         self.name, self.is_truth, self.spans, at = name, is_truth, [], 0
@@ -100,12 +103,15 @@ class Row:
             count = sum(1 for _ in group)
             self.spans.append((at, at + count, text))
             at += count
+        self.ends = [end for _, end, _ in self.spans]
 
     def between(self, begin, end):
         """The spans of these states, each with whether it begins and whether it ends there."""
-        for first, last, text in self.spans:
-            if first < end and last > begin:
-                yield max(first, begin), min(last, end), text, first >= begin, last <= end
+        for at in range(bisect_right(self.ends, begin), len(self.spans)):
+            first, last, text = self.spans[at]
+            if first >= end:
+                return
+            yield max(first, begin), min(last, end), text, first >= begin, last <= end
 
 
 def rows_of(run):
@@ -163,7 +169,8 @@ class Picture:
     # --- elements
 
     def add(self, name, content=None, **attributes):
-        told = "".join(f' {key.rstrip("_").replace("_", "-")}="{escaped(str(value))}"' for key, value in attributes.items())
+        names = {key: key.rstrip("_").replace("_", "-") for key in attributes}  # `class` is a word of Python
+        told = "".join(f' {names[key]}="{escaped(str(value))}"' for key, value in attributes.items())
         self.out.append(f"<{name}{told}/>" if content is None else f"<{name}{told}>{content}</{name}>")
 
     def text(self, kind, x, y, text, whole=None):
@@ -188,7 +195,8 @@ class Picture:
                 self.hatch(x, to, top)
             else:
                 # an edge goes from SLANT in front of the new state to SLANT behind its beginning
-                y, at, stop = top + (HIGH if text == "true" else LOW), x + SLANT * bool(before), to - SLANT * bool(behind)
+                y = top + (HIGH if text == "true" else LOW)
+                at, stop = x + SLANT * bool(before), to - SLANT * bool(behind)
                 line += f"{'L' if before else 'M'}{at} {y}H{stop}"
                 if text == "true":
                     rise = f"M{x - SLANT * bool(before)} {top + LOW}L{at} {y}"
@@ -214,7 +222,8 @@ class Picture:
             self.path("box" if begins and ends else "inside", f"M{left} {high}H{right}{back}H{left}{front}Z")
             if not (begins and ends):  # no wall where another block has more of it
                 upper = f"M{x} {middle}L{left} {high}H{right}" if begins else f"M{left} {high}H{right}"
-                self.path("level", upper + (back if ends else f"M{right} {low}") + f"H{left}" + f"L{x} {middle}" * begins)
+                lower = (back if ends else f"M{right} {low}") + f"H{left}" + f"L{x} {middle}" * begins
+                self.path("level", upper + lower)
             told = cut(text, int((to - x - PADDING) / ADVANCE + 0.01))
             self.text("value", (x + to) // 2, middle + 4, told, text)
 
@@ -225,8 +234,8 @@ class Picture:
             if text is None:
                 continue
             x, y = self.x(state, begin) + 3, top + MIDDLE
-            mark = f'<path class="show" d="M{x} {y}l4 -4l4 4l-4 4Z"><title>{escaped(f"state {state}: show {text}")}</title></path>'
-            self.out.append(mark)
+            title = f"<title>{escaped(f'state {state}: show {text}')}</title>"
+            self.add("path", title, class_="show", d=f"M{x} {y}l4 -4l4 4l-4 4Z")
             room = int((self.column - 13) / ADVANCE)
             if len(text) <= room or room >= WORN:
                 self.text("", x + 11, y + 4, cut(text, room), text)
@@ -289,7 +298,7 @@ class Picture:
             self.text("open", middle, y + 6, "?" if self.run.end.kind == "undetermined" else "…")
 
     def draw_end(self, x, top, bottom):
-        """A double bar where the run finished, and a torn edge where it was cut off or stopped at the limit of states."""
+        """A double bar where the run finished, a torn edge where it was cut off or stopped at the limit of states."""
         if self.run.end is not None and self.run.end.kind == "finished":
             self.add("path", class_="bar", d=f"M{x + 2} {top}V{bottom}")
             self.add("path", class_="bar", d=f"M{x + 6} {top}V{bottom}", stroke_width=3)
@@ -341,11 +350,12 @@ def draw(run, width=100, cell=21, show=False, scheme=None):
     """The picture of a run, as text: `scheme` is "light", "dark", or None for both."""
     picture = Picture(run, width, cell, show)
     wide, high = picture.draw()
+    size = f'width="{wide}" height="{high}" viewBox="0 0 {wide} {high}"'
     end = run.end.line if run.end else "no end line"
     count = "1 state" if picture.states == 1 else f"{picture.states} states"
     return "\n".join(
         [
-            f'<svg xmlns="http://www.w3.org/2000/svg" width="{wide}" height="{high}" viewBox="0 0 {wide} {high}" role="img">',
+            f'<svg xmlns="http://www.w3.org/2000/svg" {size} role="img">',
             f"<title>A run of {count}: {escaped(cut(end, 200))}</title>",
             f"<style>\n{styles(scheme)}\n</style>",
             '<pattern id="hatch" width="5" height="5" patternUnits="userSpaceOnUse" patternTransform="rotate(45)">'
