@@ -1,6 +1,6 @@
 """Compares two printed runs of tempura, as lib/tempura_text.py reads them.
 
-Python 3.8 or later, with its standard library alone; as a program, it prints what it is and does nothing.
+Python 3.9 or later, with its standard library alone; as a program, it prints what it is and does nothing.
 """
 
 import os

@@ -2,7 +2,7 @@
 
 `read_source` takes the bytes of a source or of its canonical spelling. It refuses nothing that a run would refuse for
 another reason than its grammar, so whoever calls it asks the program first. examples/tools-check compares the tree of
-each example with that of what the program prints of it. Python 3.8 or later, with its standard library alone.
+each example with that of what the program prints of it. Python 3.9 or later, with its standard library alone.
 """
 
 import re
@@ -23,6 +23,17 @@ INFIX = {
 FORMS = ("always", "keep", "fin", "halt", "stable", "sometimes", "len", "list", "input", "display")
 BARE = ("empty", "more", "skip")
 CLOSE = {"(": ")", "{": "}"}
+# which parts of a formula are formulas, each said of some interval there
+FORMULAS = {
+    "and": slice(None),
+    "if": slice(1, None),
+    "while": slice(1, 2),
+    "repeat": slice(0, 1),
+    "for": slice(1, 2),
+    "forall": slice(1, 2),
+    "exists": slice(0, 1),
+}
+SAYING = {"prefix": ("next",), "infix": (";", "proj"), "form": ("always", "keep", "fin")}
 
 
 class Unread(Exception):
@@ -55,6 +66,12 @@ class Phrase:
         yield self
         for part in self.parts:
             yield from part.below()
+
+    def said(self):
+        """Of a formula the formulas right in it. To say less by one of them is to say less by the whole."""
+        if self.word in SAYING.get(self.kind, ()):
+            return self.parts
+        return self.parts[FORMULAS.get(self.kind, slice(0, 0))]
 
     def is_as(self, other):
         """Whether both are one tree, wherever they stand and whatever parentheses are around their parts."""

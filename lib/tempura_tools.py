@@ -1,9 +1,10 @@
 """What the tools over proved runs share: their words, the program, the libraries, and many runs at once.
 
-Python 3.8 or later, with its standard library alone; as a program, it prints what it is and does nothing.
+Python 3.9 or later, with its standard library alone; as a program, it prints what it is and does nothing.
 """
 
 import concurrent.futures
+import contextlib
 import os
 import re
 import subprocess
@@ -159,9 +160,16 @@ def last_line(printed):
     return printed.decode("utf-8", "replace").rstrip("\n").rpartition("\n")[2]
 
 
+@contextlib.contextmanager
 def at_once():
-    """What runs several calls at once, as many as there are processors."""
-    return concurrent.futures.ThreadPoolExecutor(os.cpu_count() or 1)
+    """What runs several calls at once, as many as there are processors; those that wait go where one fails."""
+    pool = concurrent.futures.ThreadPoolExecutor(os.cpu_count() or 1)
+    try:
+        yield pool
+    except BaseException:
+        pool.shutdown(wait=False, cancel_futures=True)
+        raise
+    pool.shutdown()
 
 
 if __name__ == "__main__":
