@@ -108,6 +108,49 @@ class Source:
         return mine == its and all(one.is_as(two) for one, two in zip(self.phrases(), other.phrases()))
 
 
+def is_infix(phrase, *words):
+    return phrase.kind == "infix" and phrase.word in words
+
+
+def is_prefix(phrase, word):
+    return phrase.kind == "prefix" and phrase.word == word
+
+
+def is_form(phrase, *words):
+    return phrase.kind == "form" and phrase.word in words
+
+
+def without_next(phrase):
+    while is_prefix(phrase, "next"):
+        phrase = phrase.parts[0]
+    return phrase
+
+
+def sized(phrase):
+    return phrase.parts[0] if phrase.kind == "size" else phrase
+
+
+def root_of(place):
+    """The name of a place, or None where it is none."""
+    while place.kind == "item":
+        place = place.parts[0]
+    return place if place.kind == "name" else None
+
+
+def formulas(phrase):
+    """The formula and all formulas in it."""
+    yield phrase
+    for part in phrase.said():
+        yield from formulas(part)
+
+
+def paths(phrase, above=()):
+    """All formulas, each with those in which it stands, the outermost first."""
+    yield phrase, above
+    for part in phrase.said():
+        yield from paths(part, (*above, phrase))
+
+
 class _Token:
     def __init__(self, kind, text, start):
         self.kind, self.text, self.start, self.end = kind, text, start, start + len(text)
