@@ -456,7 +456,7 @@ RULES = (
     Rule("two-writers", "Who writes a shared variable, and when", two_writers),
     Rule("or-test", "`Z = X or Y` is a test", or_test),
     Rule("static-turn", "A static variable is the same in all turns", static_turn),
-    Rule("always-turn", "So do turns", always_turn),
+    Rule("always-turn", "Neighbours share a state", always_turn),
     Rule("one-forall", "`forall` is no loop", one_forall),
 )
 

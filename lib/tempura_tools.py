@@ -15,6 +15,7 @@ import tempura_source
 
 LIBRARY = os.path.dirname(os.path.realpath(__file__))  # in a checkout lib, and lib/tempura where it is installed
 CHECKOUT = os.path.dirname(LIBRARY)
+COMMAND = "tempura" if os.path.isfile(f"{LIBRARY}/record") else "bin/tempura"
 FIND = 'here=$1 lib=$2; . "$lib/proved.sh" && find_proved && is_current && printf %s "$program"'
 
 
