@@ -78,7 +78,9 @@ def side_by_side(difference, names):
         head = "state 0 differs"
     else:
         head = f"state {difference.number} differs, and the states before it are the same"
-    rows = [("", *names)] + [(place, *_cells(one, two)) for place, one, two in difference.rows]
+    rows = [("", *names)]
+    for place, one, two in difference.rows:
+        rows.append((place, one or NOTHING, two or NOTHING) if place == "end" else (place, *_cells(one, two)))
     widths = [max(len(row[at]) for row in rows) for at in range(3)]
     lines = [head]
     for at, row in enumerate(rows):

@@ -29,6 +29,16 @@ class Tool:
         print(f"{self.name}: {why}", file=sys.stderr)
         raise SystemExit(status)
 
+    def start(self, main, fails=1):
+        """Ends with what `main` gives of the words, or as one that fails where nobody reads the output any more."""
+        try:
+            raise SystemExit(main(sys.argv[1:]))
+        except BrokenPipeError:
+            os.dup2(os.open(os.devnull, os.O_WRONLY), sys.stdout.fileno())
+            raise SystemExit(fails) from None
+        except KeyboardInterrupt:
+            raise SystemExit(130) from None
+
     def refuse_words(self):
         print(self.page.partition("\n")[0], file=sys.stderr)
         raise SystemExit(2)
@@ -80,7 +90,7 @@ class Tool:
     def library(self, uses):
         """The text of the libraries of these names, which stands in front of a source."""
         found = b""
-        for use in uses:
+        for use in dict.fromkeys(uses):
             name = f"{LIBRARY}/{use}.tempura"
             if not re.fullmatch(r"[a-z]+", use) or not os.path.isfile(name):
                 self.refuse(f"no library has the name {use}; there are {', '.join(libraries())}", 2)
