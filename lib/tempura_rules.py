@@ -176,6 +176,12 @@ def bound_number(program):
                 yield side, f"{side.word} is a number that the {owner.kind} counts, so this equation sets nothing"
 
 
+def is_number(program, name):
+    """Whether it is no variable: a lower-case parameter, or what a loop or a forall counts."""
+    owner = program.owner[id(name)]
+    return owner is not None and name.word[0].islower() and getattr(owner, "kind", "") != "exists"
+
+
 # --- how far something reaches
 
 
@@ -400,14 +406,17 @@ def operands_of_or(phrase):
 
 
 def set_with_number(program, binder, phrase):
-    """The plain variable that an equation sets to what depends on the number of a turn or an instance."""
+    """The plain variable that an equation sets to what depends on the number of a turn or an instance. Where the other
+    side is a place, the equation may set that."""
     if not is_infix(phrase, "=", "gets", ":="):
         return None
     one, two = phrase.parts
     for side, other in ((one, two), (two, one)) if phrase.word == "=" else ((one, two),):
         side = without_next(side)
-        free = side.kind == "name" and getattr(program.owner[id(side)], "start", -1) < binder.start
-        if free and program.owner[id(side)] is not binder and program.has_bound(other, binder):
+        place = root_of(sized(without_next(other)))
+        if side.kind != "name" or is_number(program, side) or place and not is_number(program, place):
+            continue
+        if getattr(program.owner[id(side)], "start", -1) < binder.start and program.has_bound(other, binder):
             return side
     return None
 
