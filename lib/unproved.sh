@@ -88,7 +88,7 @@ tell_answer() {
     line=$(tail -n 1 "$work/said")
     case $line in
     "run=ended status="*" proved=no")
-        cat "$work/told"
+        place_behind <"$work/told"
         status=${line#run=ended status=}
         status=${status%% *}
         if [ "$status" -eq 10 ] && [ -t 2 ] && [ -n "$given" ]; then
@@ -138,9 +138,10 @@ run_unproved() {
     tell_answer
 }
 
-# Writes a FILE and its words into the folder of the cases, under a number.
+# Writes the FILE `source` and its words into the folder of the cases, under a number.
 write_case() {
-    give "$2" "$SOURCE_LIMIT" "cases/$1"
+    join_libraries
+    give "$source" "$SOURCE_LIMIT" "cases/$1"
     { echo run; cat "$work/options"; echo --; if [ -n "$given" ]; then echo '{}'; else echo source; fi; } \
         >"$work/cases/$1.args"
     if [ -z "$given" ]; then
@@ -155,7 +156,7 @@ tell_case() {
     line=$(grep "^case=$1 run=" "$work/said")
     case $line in
     *" run=ended status="*)
-        awk -v name="$1" '/^== [0-9]+$/ { inside = $2 == name; next } inside' "$work/told"
+        awk -v name="$1" '/^== [0-9]+$/ { inside = $2 == name; next } inside' "$work/told" | place_behind
         status=${line#*status=}
         status=${status%% *}
         ;;
@@ -188,7 +189,7 @@ run_cases_unproved() {
     count=10000 # of as many digits for each, so that they come in this order
     for source do
         count=$((count + 1))
-        write_case "$count" "$source"
+        write_case "$count"
     done
     if [ -n "$table" ]; then
         give "$table" "$TABLE_LIMIT" table

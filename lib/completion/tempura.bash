@@ -2,7 +2,7 @@
 
 _tempura() {
     local word=${COMP_WORDS[COMP_CWORD]} before=${COMP_WORDS[COMP_CWORD - 1]} first at
-    local options="--inputs --states --reductions --order --trace"
+    local options="--inputs --states --reductions --order --trace --use"
     COMPREPLY=()
     # bash takes `--order=last` for three words
     if [[ $word == = ]]; then
@@ -23,6 +23,10 @@ _tempura() {
         ;;
     --order)
         mapfile -t COMPREPLY < <(compgen -W "first last" -- "$word")
+        return
+        ;;
+    --use)
+        mapfile -t COMPREPLY < <(compgen -W "bits lists signals" -- "$word")
         return
         ;;
     --states | --reductions | -e) return ;;
