@@ -138,7 +138,7 @@ class Tempura:
         if status == 16:
             return Failure(f"it asks for more than {self.bounds.megabytes} MiB of memory", [LARGE])
         if status == 20:
-            raise NoProgram(errors.removeprefix("tempura: ") if hasattr(str, "removeprefix") else errors)
+            raise NoProgram(re.sub(r"^tempura: ", "", errors))
         if not 0 <= status <= 14:
             return Failure(f"its run ends with the status {status}")
         return out.read(OUTPUT_LIMIT)
