@@ -54,6 +54,11 @@ class Failure:
     def __init__(self, line, leads=(), case=None):
         self.line, self.leads, self.case = line, list(leads), case
 
+    def named(self):
+        """The line, with the table with which it fails."""
+        table = self.case and self.case.table
+        return f"{self.line} ({os.path.basename(table)})" if table else self.line
+
 
 class Case:
     """What is expected of a program: the file that tells it, of which kind it is, and its table or None."""
