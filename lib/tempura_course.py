@@ -136,14 +136,18 @@ class Tempura:
             return self.answer(status, out, errors.read(1000).decode("utf-8", "replace").strip())
 
     def answer(self, status, out, errors):
-        if status in (-9, -24):  # SIGKILL and SIGXCPU
+        if status == -24:  # SIGXCPU
             return Failure(f"it has not ended after {self.bounds.seconds} seconds of processor", [SLOW])
+        if status == -9:
+            return Failure("the system has ended it, as it does where memory is wanted", [LARGE])
         if status == -25:  # SIGXFSZ
             return Failure(f"it prints more than {OUTPUT_LIMIT >> 20} MiB", [SLOW])
         if status == 16:
             return Failure(f"it asks for more than {self.bounds.megabytes} MiB of memory", [LARGE])
         if status == 20:
             raise NoProgram(re.sub(r"^tempura: ", "", errors))
+        if status in (126, 127):
+            raise NoProgram(f"{self.command} can't be started within {self.bounds.megabytes} MiB of memory")
         if not 0 <= status <= 14:
             return Failure(f"its run ends with the status {status}")
         return out.read(OUTPUT_LIMIT)
