@@ -115,8 +115,17 @@ class Tempura:
     def __init__(self, command, bounds):
         self.command, self.bounds = command, bounds
 
+    def run_source(self, source, words=()):
+        """The bytes that the run of a source prints, or the Failure that keeps it from printing them all.
+
+        It is run from a file of its own, so the name of its own file may be any.
+        """
+        with tempfile.NamedTemporaryFile(suffix=".tempura") as file:
+            file.write(source)
+            file.flush()
+            return self.run([*words, "--", file.name])
+
     def run(self, words):
-        """The bytes that a run prints, or the Failure that keeps it from printing them all."""
         with tempfile.TemporaryFile() as out, tempfile.TemporaryFile() as errors:
             try:
                 status = subprocess.run(
@@ -311,11 +320,11 @@ def compare(tempura, meant, got, source, given):
     return None
 
 
-def judge_run(tempura, case, path, source, given):
+def judge_run(tempura, case, source, given):
     meant = tempura_text.read_run(read(case.path, OUTPUT_LIMIT))
     words = ["--states", str(len(meant.states) + MORE_STATES)]
     words += ["--inputs", case.table] if case.table else []
-    answer = tempura.run([*words, "--", path])
+    answer = tempura.run_source(source, words)
     if isinstance(answer, Failure):
         return answer
     return compare(tempura, meant, tempura_text.read_run(answer), source, given)
@@ -351,10 +360,7 @@ def judge_trace(tempura, case, source):
     if isinstance(trace, Failure):
         return trace
     formula = read(case.path).decode().strip()
-    with tempfile.NamedTemporaryFile("w", suffix=".tempura") as file:
-        file.write(f"run ({formula_of(trace)}) and ({formula}).")
-        file.flush()
-        answer = tempura.run([file.name])
+    answer = tempura.run_source(f"run ({formula_of(trace)}) and ({formula}).".encode())
     if isinstance(answer, Failure):
         return answer
     end = tempura_text.read_run(answer).end
@@ -391,7 +397,7 @@ def judge(tempura, course, exercise, path):
     given = names_of(read(os.path.join(course.shown, f"{exercise}.{course.exercises()[exercise]}")))
     for case in cases:
         by_run = case.kind == "out"
-        failure = judge_run(tempura, case, path, source, given) if by_run else judge_trace(tempura, case, source)
+        failure = judge_run(tempura, case, source, given) if by_run else judge_trace(tempura, case, source)
         if failure:
             failure.case = case
             told = f"{os.path.basename(case.path)}: {failure.line}"
