@@ -3,9 +3,9 @@
 The exercises of docs/course stand in its folder `exercises`, and what isn't shown to students in `solutions`. Of the
 exercise 05-write a case is 05-write.NAME.out, the run that is expected, with its table 05-write.NAME.inputs where the
 program reads inputs; `NAME.` may be missing. The variables that stand in the expected run are those that are looked at.
-Where a trace is asked for, a case is 03-write.NAME.true or 03-write.NAME.false: a formula that has to be true or false of
-it. 05-write.hints has lines `WORDS => HINT`: the hint is told where the case's file name and the first failure, with a colon
-between, have these words.
+Where a trace is asked for, a case is 03-write.NAME.true or 03-write.NAME.false: a formula that has to be true or false
+of it. 05-write.hints has lines `WORDS => HINT`: the hint is told where the case's file name and the first failure, with
+a colon between, have these words.
 Python 3.8 or later, with its standard library alone; as a program, it prints what it is and does nothing.
 """
 
@@ -22,6 +22,50 @@ OUTPUT_LIMIT = 16 << 20  # bytes that a run may print
 TRACE_LIMIT = 40  # states of a trace that is written by hand
 MORE_STATES = 8  # how many states a run may go on behind the last one that is expected
 SOURCE_LIMIT = 1 << 20
+
+
+# what leads to a mistake
+SLOW = "The work in one state grows too fast, or there are too many states: look at loops, `forall` and recursion."
+LARGE = "Look for lists that grow, and for locals and calls that are made again and again in one state."
+LASTS = "A value doesn't last from one state to the next by itself: say in each step what {0} is next, also where it stays."
+COUNTED = "Count the steps, not the states: an interval of length 2 has three. Parts share a state; their lengths add up."
+
+# the same for end lines: the first one that fits
+LEADS_OF_ENDS = (
+    (
+        r"undetermined: .*: end at depth 0",
+        r"Nothing says where the run ends: say `empty`, `skip`, `len` or `halt`; `fin` ends nothing. What stands behind "
+        r"an `if` or a loop belongs to it, where no parentheses end it.",
+    ),
+    (
+        r"undetermined: .*: end at depth .*",
+        r"A first part of a `;`, a turn of a loop or a piece of a projection has to say where it ends, by `skip`, `len`, "
+        r"`halt` or `:=`; and the right side of a projection, how many pieces there are.",
+    ),
+    (
+        r"undetermined: .*: (\w+)\S*",
+        r"\1 is needed there, and nothing gives it. Equations aren't solved, and a test sets nothing.",
+    ),
+    (
+        r"contradictory: .*: ([a-z]\w*)=.* and \1=.*",
+        r"\1 begins with a small letter: it has one value over the whole interval. A variable that changes begins with a "
+        r"capital.",
+    ),
+    (
+        r"contradictory: state 0: (?:local )?\|?(\w+).*=.* and .*",
+        r"Two conjuncts say what \1 is in the first state, and they don't agree.",
+    ),
+    (
+        r"contradictory: (state \d+): (?:local )?\|?(\w+).*=.* and .*",
+        r"Two conjuncts say what \2 is in \1, and they don't agree. Neighbouring parts, turns and pieces share a state.",
+    ),
+    (
+        r"contradictory: .*: ends and goes on.*",
+        r"One conjunct ends the interval there, and another goes on: conjuncts side by side have one length, and a `next` "
+        r"under `always` asks for one more state in the last one, too.",
+    ),
+    (r"contradictory: .*: false", r"A test is false there, or two known values are said to be equal and aren't."),
+)
 
 
 class NoProgram(Exception):
@@ -170,13 +214,6 @@ class Tempura:
         return " ".join(last.split())
 
 
-SLOW = "The work in one state grows too fast, or there are too many states: look at loops, `forall` and recursive calls."
-LARGE = "Look for lists that grow, and for locals and calls that are made again and again in one state."
-LASTS = "A value doesn't last from one state to the next by itself: say in each step what {0} is next, also where it stays."
-
-COUNTED = "Count the steps, not the states: an interval of length 2 has three. Parts share a state, so their lengths add up."
-
-
 def names_of(source):
     """The names in a source that are no words of the language and no ports; comments don't count."""
     text = re.sub(r"/\*.*?\*/", " ", source.decode("latin-1"), flags=re.S)
@@ -223,7 +260,8 @@ def shifted(rows, expected, number, place):
         pairs = [(at(rows, n), at(expected, n + by)) for n in range(number, most) if 0 <= n + by < most]
         are_known = all(got is not None and got == meant for got, meant in pairs)
         if are_known and len(set(pairs)) > 1 and len(pairs) > 2:
-            return [f"This is what {place} should be in the state {'before' if by < 0 else 'behind'}: it comes a state {word}."]
+            other = "before" if by < 0 else "behind"
+            return [f"This is what {place} should be in the state {other}: it comes a state {word}."]
     return []
 
 
@@ -262,25 +300,6 @@ def compare_state(meant, got, number, watched):
         told = [f"`show {'`, `show '.join(it)}`" if it else "nothing" for it in shows]
         return Failure(f"state {number}: it shows {told[1]}, and should show {told[0]}")
     return None
-
-
-LEADS_OF_ENDS = (
-    (r"undetermined: .*: end at depth 0", "Nothing says where the run ends: say `empty`, `skip`, `len` or `halt`; `fin` "
-     "ends nothing. What stands behind an `if` or a loop belongs to it, where no parentheses end it."),
-    (r"undetermined: .*: end at depth .*", "A first part of a `;`, a turn of a loop or a piece of a projection has to say "
-     "where it ends, by `skip`, `len`, `halt` or `:=`; and the right side of a projection, how many pieces there are."),
-    (r"undetermined: .*: (\w+)\S*", r"\1 is needed there, and nothing gives it. Equations aren't solved, and a test sets "
-     r"nothing."),
-    (r"contradictory: .*: ([a-z]\w*)=.* and \1=.*", r"\1 begins with a small letter: it has one value over the whole "
-     r"interval. A variable that changes begins with a capital."),
-    (r"contradictory: state 0: (?:local )?\|?(\w+).*=.* and .*", r"Two conjuncts say what \1 is in the first state, and "
-     r"they don't agree."),
-    (r"contradictory: (state \d+): (?:local )?\|?(\w+).*=.* and .*", r"Two conjuncts say what \2 is in \1, and they "
-     r"don't agree. Neighbouring parts, turns and pieces share a state."),
-    (r"contradictory: .*: ends and goes on.*", "One conjunct ends the interval there, and another goes on: conjuncts side "
-     "by side have one length, and a `next` under `always` asks for one more state in the last one, too."),
-    (r"contradictory: .*: false", "A test is false there, or two known values are said to be equal and aren't."),
-)
 
 
 def leads_of_end(tempura, got):
