@@ -4,8 +4,8 @@ The exercises of docs/course stand in its folder `exercises`, and what isn't sho
 exercise 05-write a case is 05-write.NAME.out, the run that is expected, with its table 05-write.NAME.inputs where the
 program reads inputs; `NAME.` may be missing. The variables that stand in the expected run are those that are looked at.
 Where a trace is asked for, a case is 03-write.NAME.true or 03-write.NAME.false: a formula that has to be true or false
-of it. 05-write.hints has lines `WORDS => HINT`: the hint is told where the case's file name and the first failure, with
-a colon between, have these words.
+of it. In `hints` 05-write.txt has lines `WORDS => HINT`: the hint is told where the case's file name and the first
+failure, with a colon between, have these words.
 Python 3.8 or later, with its standard library alone; as a program, it prints what it is and does nothing.
 """
 
@@ -63,6 +63,10 @@ LEADS_OF_ENDS = (
         r"contradictory: .*: ends and goes on.*",
         r"One conjunct ends the interval there, and another goes on: conjuncts side by side have one length, and a `next` "
         r"under `always` asks for one more state in the last one, too.",
+    ),
+    (
+        r"state limit: \d+",
+        r"The end isn't met: `fin` ends nothing, and a `halt` can be stepped over; or a loop's condition stays true.",
     ),
     (r"contradictory: .*: false", r"A test is false there, or two known values are said to be equal and aren't."),
 )
@@ -122,7 +126,7 @@ class Course:
     def __init__(self, folder, extra=None):
         self.shown = os.path.join(folder, "exercises")
         self.hidden = extra or os.path.join(folder, "solutions")
-        self.solutions = os.path.join(folder, "solutions")
+        self.told = os.path.join(folder, "hints")
 
     def exercises(self):
         names = os.listdir(self.shown) if os.path.isdir(self.shown) else []
@@ -146,7 +150,7 @@ class Course:
 
     def hints(self, exercise):
         """Pairs of words and the hint that is told where a failure has them."""
-        path = os.path.join(self.solutions, f"{exercise}.hints")
+        path = os.path.join(self.told, f"{exercise}.txt")
         if not os.path.isfile(path):
             return []
         rows = [line.partition(" => ") for line in read(path).decode().splitlines()]
