@@ -28,6 +28,10 @@ SOURCE_LIMIT = 1 << 20
 SLOW = "The work in one state grows too fast, or there are too many states: look at loops, `forall` and recursion."
 LARGE = "Look for lists that grow, and for locals and calls that are made again and again in one state."
 LASTS = "A value doesn't last from one state to the next by itself: say in each step what {0} is next, also where it stays."
+READ_ONCE = (
+    "{0} comes from outside in those states alone of which `input` speaks, and doesn't last: say `always(input({0}, ..))`, "
+    "or `stable({0})`."
+)
 COUNTED = "Count the steps, not the states: an interval of length 2 has three. Parts share a state; their lengths add up."
 
 # the same for end lines: the first one that fits
@@ -306,11 +310,26 @@ def compare_state(meant, got, number, watched):
     return None
 
 
-def leads_of_end(tempura, got):
+def lead_at_place(source, told):
+    """What the text at a place says of why it is refused there."""
+    place = re.fullmatch(r"line (\d+) column (\d+): unexpected", told)
+    line = source.split(b"\n")[int(place[1]) - 1 : int(place[1])] if place else []
+    text = b"".join(line)[int(place[2]) - 1 :] if place else b""
+    if text.startswith(b"define"):
+        return ["Definitions stand in front of `run`, and one full stop ends the program."]
+    if text[:1] in (b"=", b"<", b">") or text.startswith(b"not"):
+        return ["A truth value that is computed wants parentheses on the right of `=`: `A = (B < 3)`, `A = (not B)`."]
+    return []
+
+
+def leads_of_end(tempura, got, source):
     """What leads to the mistake where a run doesn't finish."""
-    waits = re.fullmatch(r"(\w+)(\[.*)?", got.end.told) if got.end.kind == "undetermined" else None
+    if got.end.kind == "source refused":
+        return lead_at_place(source, got.end.told) or [tempura.cure(got.end.line)]
+    waits = re.fullmatch(r"([A-Z]\w*)(\[.*)?", got.end.told) if got.end.kind == "undetermined" else None
     if waits and any(part.name == waits[1] for state in got.states for part in state.parts):
-        return [LASTS.format(waits[1])]
+        is_read = re.search(rf"\binput\s*\(\s*{waits[1]}\b".encode(), source)
+        return [READ_ONCE.format(waits[1]) if is_read else LASTS.format(waits[1])]
     for pattern, lead in LEADS_OF_ENDS:
         found = re.fullmatch(pattern, got.end.line)
         if found:
@@ -327,19 +346,19 @@ def compare(tempura, meant, got, source, given):
         failure = compare_state(meant, got, number, watched)
         if failure:
             static = re.fullmatch(r"([a-z]\w*)=.* and \1=.*", got.end.told)
-            first = spelling_lead(source, watched, given) + (leads_of_end(tempura, got) if static else [])
+            first = spelling_lead(source, watched, given) + (leads_of_end(tempura, got, source) if static else [])
             failure.leads = first or failure.leads
             return failure
     last = len(meant.states) - 1
     if len(got.states) > last + 1:
         again = "" if got.end.kind == "finished" else f" ({got.end.line})"
         return Failure(f"state {last}: it goes on behind this state, which should be the last{again}",
-                       leads_of_end(tempura, got) if again else [COUNTED])
+                       leads_of_end(tempura, got, source) if again else [COUNTED])
     if got.end.kind == meant.end.kind == "finished" and len(got.states) <= last:
         ended = len(got.states) - 1
         return Failure(f"state {ended}: it ends with this state, and should go on to state {last}", [COUNTED])
     if got.end.kind != meant.end.kind:
-        return Failure(got.end.line, spelling_lead(source, watched, given) + leads_of_end(tempura, got))
+        return Failure(got.end.line, spelling_lead(source, watched, given) + leads_of_end(tempura, got, source))
     return None
 
 
