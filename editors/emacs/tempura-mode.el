@@ -2,9 +2,12 @@
 
 ;;; Commentary:
 
-;; Colours, comments and a simple indentation for programs of tempura, executable interval temporal logic.
+;; Colours, comments and a simple indentation for programs of tempura, executable interval temporal logic.  `M-x compile'
+;; runs the program in the buffer, and the place where its source is refused is one that `next-error' goes to.
 
 ;;; Code:
+
+(require 'compile)
 
 (defvar tempura-mode-syntax-table
   (let ((table (make-syntax-table)))
@@ -88,6 +91,22 @@ step, and one more for each parenthesis that is open."
       (when (> behind 0)
         (forward-char behind)))))
 
+(defvar tempura-command "tempura"
+  "The command that runs programs, or its path.")
+
+(defun tempura-refused-file ()
+  "Answer the file whose source the line at hand says to be refused.
+A line `== FILE' stands in front of what its run prints."
+  (save-match-data
+    (save-excursion
+      (when (re-search-backward "^== \\(.*\\)$" nil t)
+        (match-string-no-properties 1)))))
+
+(add-to-list 'compilation-error-regexp-alist-alist
+             '(tempura "^source refused: line \\([0-9]+\\) column \\([0-9]+\\): .*$"
+                       tempura-refused-file 1 2))
+(add-to-list 'compilation-error-regexp-alist 'tempura)
+
 ;;;###autoload
 (define-derived-mode tempura-mode prog-mode "Tempura"
   "Mode for programs of tempura."
@@ -96,6 +115,10 @@ step, and one more for each parenthesis that is open."
   (setq-local comment-start-skip "/\\*+[ \t]*")
   (setq-local comment-end-skip "[ \t]*\\*+/")
   (setq-local indent-line-function #'tempura-indent-line)
+  (when buffer-file-name
+    (setq-local compile-command
+                (concat tempura-command " --cases -- "
+                        (shell-quote-argument (file-name-nondirectory buffer-file-name)))))
   (setq-local font-lock-defaults '(tempura-font-lock-keywords)))
 
 ;;;###autoload
