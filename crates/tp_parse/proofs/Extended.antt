@@ -1,15 +1,11 @@
 -- The grammar over more tokens: what stands before goes on to be what it was, if nothing that follows goes on with it.
-use Rattle.std.proofs.Common.{◌≡◌, ◌≢◌, ℕ, zero, suc, ◌-◌, ◌<◌, ◌≤◌, max, Bool, true, false, cond, eqb, inl, inr, List, [], ◌∷◌, ◌++◌, length, drop, Some, None, refl, sym, ap, subst, ◌∙◌, arith}
+use Rattle.std.proofs.Common.{◌≡◌, ◌≢◌, ℕ, suc, ◌<◌, ◌≤◌, true, false, cond, eqb, inl, inr, List, [], ◌∷◌, ◌++◌, length, drop, refl, sym, ap, subst, ◌∙◌, arith}
 use Rattle.tp_lex.specs.declared.token.Word.TheVariants as word
-use Rattle.tp_lex.specs.declared.token.Symbol.TheVariants as symbol
-use Rattle.tp_tree.specs.declared.operator.Op.{Op}
-use Rattle.tp_tree.specs.declared.operator.Grouping.TheVariants.{Left, Single, Right}
-use Rattle.tp_tree.specs.Levels.{chop_level, grouping}
 use Rattle.tp_tree.specs.Tree.{DefinitionTree}
 use Rattle.tp_parse.specs.declared.mark.Mark.{Mark}
 use Rattle.tp_parse.specs.declared.mark.Mark.TheVariants as m
 use Rattle.tp_parse.specs.declared.mark.Role.{Role}
-use Rattle.tp_parse.specs.declared.mark.Role.TheVariants.{Ends, Infix, Opens, Joins}
+use Rattle.tp_parse.specs.declared.mark.Role.TheVariants.{Ends}
 use Rattle.tp_parse.specs.declared.head.Atom.{Atom}
 use Rattle.tp_parse.specs.declared.head.Head.{Head}
 use Rattle.tp_parse.specs.declared.head.Listed.{Listed}
@@ -19,15 +15,15 @@ use Rattle.tp_parse.specs.declared.head.Pair.TheVariants as pair
 use Rattle.tp_parse.specs.declared.mark.Enclosure.{Enclosure}
 use Rattle.tp_parse.specs.declared.mark.Enclosure.TheVariants.{Round, Curly, Size}
 use Rattle.tp_parse.specs.declared.head.Head.TheVariants as h
-use Rattle.tp_parse.specs.Marks.{same, prefix_at, role_of, role_at, start_of, level_of, comma, listed_level, listed_close, enclosed_level, enclosed_close, middle}
+use Rattle.tp_parse.specs.Marks.{same, prefix_at, role_of, role_at, level_of, comma, listed_close, enclosed_close, middle}
 use Rattle.tp_parse.specs.Input as input
 use Rattle.tp_parse.specs.Input.{Tokens, mark, from, first_number, first_name, mark_due, half_mark, past, left_of}
-use Rattle.tp_parse.specs.Found.{Found, Operands, of_atom, of_operands, of_enclosed, of_choice, of_choice_else, of_pair, of_exists, of_prefix}
+use Rattle.tp_parse.specs.Found.{Found, Operands}
 use Rattle.tp_parse.specs.Grammar.{start, open_round, close_round, ReadsNames, last_name, name_then, BeginsPrimary, number, truth, upper_name, lower_name, call, bare, form, empty_list, list, enclosure, if, while, repeat, for, forall, exists}
 use Rattle.tp_parse.specs.Grammar as g
 use Rattle.tp_parse.specs.Grammar.{Parses, atom, enclosed, if_then, if_else, paired, quantified, level, Goes, ends, left, single, right, joins, Others, no_more, one_more, Listing, no_operands, operands}
 use Rattle.tp_parse.specs.Grammar.{Parameters, no_parameters, parameters, Sentence, sentence, Defines, defines, Definitions, no_definition, definition_then}
-use Rattle.tp_parse.proofs.Shapes.{begins_some, role_end, shorter, goes_shorter, others_shorter, begins_start}
+use Rattle.tp_parse.proofs.Shapes.{begins_some, goes_shorter, others_shorter, begins_start}
 use Rattle.tp_parse.proofs.Within.{some_by_prefix, some_by_role}
 
 -- no phrase goes on with what is next

@@ -1,46 +1,33 @@
 -- A phrase whose reading came to the end of the tokens, or found no room at the last one, can be finished.
-use Rattle.std.proofs.Common.{◌≡◌, ◌≢◌, ℕ, zero, suc, ◌+◌, ◌-◌, ◌<◌, ◌≤◌, max, Bool, true, false, cond, leb, ◌⊎◌, inl, inr, Some, None, List, [], ◌∷◌, ◌++◌, length, drop, Ok, Err, refl, sym, ap, subst, ◌∙◌, arith}
+use Rattle.std.proofs.Common.{◌≡◌, ◌≢◌, ℕ, zero, suc, ◌<◌, ◌≤◌, true, false, cond, leb, ◌⊎◌, inl, inr, List, [], ◌∷◌, ◌++◌, length, drop, Ok, Err, refl, sym, ap, subst, ◌∙◌, arith}
 use Rattle.std.proofs.lemmas.Bool.{leb-true}
 use Rattle.std.proofs.Common.{◌||◌}
 use Rattle.tp_lex.specs.declared.token.Token.{Token}
-use Rattle.tp_lex.specs.declared.token.Word.TheVariants as word
 use Rattle.tp_lex.specs.declared.token.Symbol.TheVariants as symbol
-use Rattle.tp_tree.specs.declared.operator.Op.{Op}
-use Rattle.tp_tree.specs.declared.operator.Grouping.{Grouping}
-use Rattle.tp_tree.specs.declared.operator.Grouping.TheVariants.{Left, Single, Right}
-use Rattle.tp_tree.specs.Levels.{chop_level, grouping, level_right_of, right_level}
 use Rattle.tp_parse.specs.declared.refusal.Refusal.{Refusal}
 use Rattle.tp_parse.specs.declared.refusal.Refusal.TheVariants.{Unexpected, Unfinished, TooDeep, NoMemory}
 use Rattle.tp_parse.specs.declared.mark.Mark.{Mark}
 use Rattle.tp_parse.specs.declared.mark.Mark.TheVariants as m
-use Rattle.tp_parse.specs.declared.mark.Prefix.{Prefix}
-use Rattle.tp_parse.specs.declared.mark.Role.{Role}
-use Rattle.tp_parse.specs.declared.mark.Role.TheVariants.{Ends, Infix, Opens, Joins}
 use Rattle.tp_parse.specs.declared.mark.Start.{Start}
 use Rattle.tp_parse.specs.declared.mark.Start.TheVariants as s
 use Rattle.tp_parse.specs.declared.head.Atom.TheVariants as a
 use Rattle.tp_parse.specs.declared.head.Head.{Head}
 use Rattle.tp_parse.specs.declared.head.Head.TheVariants as h
-use Rattle.tp_parse.specs.declared.head.Listed.{Listed}
 use Rattle.tp_parse.specs.declared.head.Listed.TheVariants as l
 use Rattle.tp_parse.specs.declared.head.Pair.{Pair}
 use Rattle.tp_parse.specs.declared.head.Pair.TheVariants as p
 use Rattle.tp_tree.specs.declared.operator.Form.{Form}
-use Rattle.tp_parse.specs.Marks.{same, prefix_at, role_of, role_at, level_of, start_of, comma, listed_level, listed_close, enclosed_level, enclosed_close, middle}
+use Rattle.tp_parse.specs.Marks.{same, start_of, comma}
 use Rattle.tp_parse.specs.Input as input
 use Rattle.tp_parse.specs.Input.{Tokens, ReadOutcome, Reader, and_then, ◌>>=◌, pure, mark, from, first_name, mark_due, past, sees, lower, any_name, names, names_from, expect, deepen}
-use Rattle.tp_parse.specs.Head.{name_or_call, counter, head_by, is_high, admit, begins, unfit}
-use Rattle.tp_parse.specs.Found.{Found, Operands, no_operand, operand_then, then_operand, operands_of, of_operands, of_enclosed, of_choice, of_choice_else, of_pair, of_exists, of_prefix, of_infix, of_index, of_chain}
-use Rattle.tp_parse.specs.Reading as r
-use Rattle.tp_parse.specs.Reading.{goes_on, fits}
+use Rattle.tp_parse.specs.Head.{name_or_call, counter, head_by, is_high, admit, begins}
+use Rattle.tp_parse.specs.Reading.{fits}
 use Rattle.tp_parse.specs.Grammar as g
 use Rattle.tp_parse.specs.Grammar.{ReadsNames, BeginsPrimary, Parses, Goes, Others, Listing}
-use Rattle.tp_parse.proofs.Marks.{same_is, right_is}
-use Rattle.tp_parse.proofs.Shapes.{tall}
-use Rattle.tp_parse.proofs.Heads.{bind_ok, ok_is, chosen, expect_then, lower_then, IsName, any_name_then, names_sound, head_sound, fits_then}
-use Rattle.tp_parse.proofs.Sound.{Is, others_sound}
-use Rattle.tp_parse.proofs.Extended.{Stops, Follows, something, role_stopped, joined_not, mark_on, some_mark, some_due, some_role, role_more, due_on, phrase_on, past_phrase, drop_phrase, names_on, head_on, enclosed_real, middle_real}
-use Rattle.tp_parse.proofs.Fresh.{symbol_token, word_token, name_token, lower_token, name_found, a_name, past_whole, Closing, due_close, past_close, stops_close, by_word, by_symbol, enclosure_close, middle_close, list_token, list_whole, list_due, no_items, list_end, list_end_stops, last_items, HeadRoom, after_head, Alone, alone, begun_alone}
+use Rattle.tp_parse.proofs.Marks.{same_is}
+use Rattle.tp_parse.proofs.Heads.{ok_is, chosen, lower_then, IsName, any_name_then, names_sound}
+use Rattle.tp_parse.proofs.Extended.{mark_on, names_on}
+use Rattle.tp_parse.proofs.Fresh.{symbol_token, name_token, lower_token, past_whole, HeadRoom}
 
 -- the tokens ended, or the last one found no room
 abbrev pub Ended : Refusal → Type 0

@@ -1,19 +1,13 @@
 -- A phrase whose reading came to the end of the tokens, or found no room at the last one, can be finished.
-use Rattle.std.proofs.Common.{◌≡◌, ◌≢◌, ℕ, zero, suc, ◌+◌, ◌-◌, ◌<◌, ◌≤◌, max, Bool, true, false, cond, eqb, inl, inr, Some, None, List, [], ◌∷◌, ◌++◌, length, drop, Ok, Err, refl, sym, ap, subst, ◌∙◌, arith}
-use Rattle.tp_lex.specs.declared.token.Token.{Token}
-use Rattle.tp_lex.specs.declared.token.Word.{Word}
+use Rattle.std.proofs.Common.{◌≡◌, ◌≢◌, ℕ, zero, suc, ◌-◌, ◌<◌, true, inl, inr, Some, None, [], ◌∷◌, ◌++◌, length, drop, Ok, Err, refl, sym, ap, subst, ◌∙◌, arith}
 use Rattle.tp_lex.specs.declared.token.Word.TheVariants as word
-use Rattle.tp_lex.specs.declared.token.Symbol.{Symbol}
 use Rattle.tp_lex.specs.declared.token.Symbol.TheVariants as symbol
 use Rattle.tp_tree.specs.declared.operator.Op.{Op}
-use Rattle.tp_tree.specs.declared.operator.Grouping.{Grouping}
-use Rattle.tp_tree.specs.declared.operator.Grouping.TheVariants.{Left, Single, Right}
-use Rattle.tp_tree.specs.Levels.{chop_level, grouping, level_right_of, right_level}
+use Rattle.tp_tree.specs.Levels.{chop_level, right_level}
 use Rattle.tp_parse.specs.declared.refusal.Refusal.{Refusal}
-use Rattle.tp_parse.specs.declared.refusal.Refusal.TheVariants.{Unexpected, Unfinished, TooDeep, NoMemory}
+use Rattle.tp_parse.specs.declared.refusal.Refusal.TheVariants.{Unfinished}
 use Rattle.tp_parse.specs.declared.mark.Mark.{Mark}
 use Rattle.tp_parse.specs.declared.mark.Mark.TheVariants as m
-use Rattle.tp_parse.specs.declared.mark.Prefix.{Prefix}
 use Rattle.tp_parse.specs.declared.mark.Role.{Role}
 use Rattle.tp_parse.specs.declared.mark.Role.TheVariants.{Ends, Infix, Opens, Joins}
 use Rattle.tp_parse.specs.declared.mark.Start.TheVariants as s
@@ -21,24 +15,23 @@ use Rattle.tp_parse.specs.declared.head.Head.{Head}
 use Rattle.tp_parse.specs.declared.head.Head.TheVariants as h
 use Rattle.tp_parse.specs.declared.head.Listed.{Listed}
 use Rattle.tp_parse.specs.declared.head.Pair.{Pair}
-use Rattle.tp_parse.specs.Marks.{same, kind_mark, prefix_at, role_of, role_at, level_of, start_of, comma, listed_level, listed_close, enclosed_level, enclosed_close, middle}
-use Rattle.tp_parse.specs.Input as input
-use Rattle.tp_parse.specs.Input.{Tokens, ReadOutcome, Reader, and_then, ◌>>=◌, pure, mark, from, mark_due, past, sees, expect, deepen}
-use Rattle.tp_parse.specs.Head.{head_by, is_high, admit, begins, unfit}
+use Rattle.tp_parse.specs.Marks.{same, kind_mark, prefix_at, role_at, start_of, comma, listed_level, listed_close, enclosed_level, enclosed_close, middle}
+use Rattle.tp_parse.specs.Input.{Tokens, Reader, and_then, pure, mark, from, mark_due, past, sees, expect, deepen}
+use Rattle.tp_parse.specs.Head.{head_by, is_high, admit}
 use Rattle.tp_parse.specs.Found.{Found, Operands, no_operand, operand_then, then_operand, operands_of, of_operands, of_enclosed, of_choice, of_choice_else, of_pair, of_exists, of_prefix, of_infix, of_index, of_chain}
 use Rattle.tp_parse.specs.Reading as r
 use Rattle.tp_parse.specs.Reading.{goes_on, fits}
 use Rattle.tp_parse.specs.Grammar as g
 use Rattle.tp_parse.specs.Grammar.{BeginsPrimary, Parses, Goes, Others, Listing}
-use Rattle.tp_parse.proofs.Marks.{same_is, right_is}
+use Rattle.tp_parse.proofs.Marks.{same_is}
 use Rattle.tp_parse.proofs.Shapes.{tall}
-use Rattle.tp_parse.proofs.Heads.{bind_ok, ok_is, chosen, expect_then, head_sound, fits_then, chosen_at}
+use Rattle.tp_parse.proofs.Heads.{chosen, head_sound, chosen_at}
 use Rattle.tp_parse.proofs.Sound.{Is, others_sound, levels_sound, turn_sound, turn_fewer, read_sound}
 use Rattle.tp_parse.proofs.Within.{some_by_prefix}
-use Rattle.tp_parse.proofs.Extended.{Stops, Follows, something, role_stopped, joined_not, mark_on, some_mark, some_due, some_role, some_head, role_more, due_on, phrase_on, past_phrase, drop_phrase, from_on, past_on, some_phrase, head_on, enclosed_real, middle_real}
-use Rattle.tp_parse.proofs.Fresh.{symbol_token, name_token, name_found, a_name, mark_is, past_whole, Closing, due_close, past_close, stops_close, by_symbol, by_word, enclosure_close, middle_close, list_token, list_whole, list_due, no_items, list_end, list_end_stops, last_items, HeadRoom, after_head, Alone, alone, begun_alone}
-use Rattle.tp_parse.proofs.Finishes.{Ended, failed, failed_is, bind_err, refused_end, expect_err, Last, deep_last, deepen_err, deepen_room, fits_err, fits_room, admit_err, admit_room, HeadEnding, head_finish, some_start}
-use Rattle.tp_parse.proofs.Endings.{Ending, PartEnding, OthersEnding, ListEnding, PhraseEnding, GoesEnding, others_join, closed, joins_mark, goes_left, after_last, infix_last, index_last, roomed, unfit_finish, part_ok, turn_steps}
+use Rattle.tp_parse.proofs.Extended.{something, role_stopped, joined_not, mark_on, some_mark, some_due, some_role, role_more, due_on, phrase_on, past_phrase, drop_phrase, from_on, some_phrase, head_on, middle_real}
+use Rattle.tp_parse.proofs.Fresh.{name_token, name_found, a_name, mark_is, Closing, due_close, past_close, stops_close, by_symbol, by_word, enclosure_close, middle_close, list_token, list_due, no_items, list_end, list_end_stops, last_items, HeadRoom, after_head, alone}
+use Rattle.tp_parse.proofs.Finishes.{Ended, bind_err, expect_err, deep_last, deepen_err, deepen_room, fits_err, fits_room, admit_err, admit_room, head_finish, some_start}
+use Rattle.tp_parse.proofs.Endings.{Ending, PartEnding, OthersEnding, ListEnding, PhraseEnding, GoesEnding, others_join, closed, joins_mark, after_last, infix_last, index_last, roomed, unfit_finish, part_ok, turn_steps}
 
 module _ (inner : ℕ → Reader Found) (room : ℕ) (sound : (k : ℕ) (ts : Tokens) (p : Found × Tokens) → inner k ts ≡ Ok p → Is room k ts p)
     (finish : (k : ℕ) (ts : Tokens) (e : Refusal) → inner k ts ≡ Err e → Ended e → Ending room k ts e) where

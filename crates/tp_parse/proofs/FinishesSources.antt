@@ -1,18 +1,17 @@
 -- A source whose reading came to the end of the tokens, or found no room at the last one, can be finished.
-use Rattle.std.proofs.Common.{◌≡◌, ◌≢◌, ℕ, zero, suc, ◌+◌, ◌<◌, ◌≤◌, max, Bool, true, false, cond, ◌⊎◌, inl, inr, List, [], ◌∷◌, ◌++◌, length, drop, Ok, Err, refl, sym, ap, subst, ◌∙◌, arith}
+use Rattle.std.proofs.Common.{◌≡◌, ◌≢◌, ℕ, zero, suc, ◌≤◌, max, Bool, true, false, cond, ◌⊎◌, inl, inr, List, [], ◌∷◌, ◌++◌, length, drop, Ok, Err, refl, sym, ap, subst, arith}
 use Rattle.tp_lex.specs.declared.token.Token.{Token}
 use Rattle.tp_lex.specs.declared.token.Word.TheVariants as word
 use Rattle.tp_lex.specs.declared.token.Symbol.TheVariants as symbol
 use Rattle.tp_tree.specs.Levels.{chop_level}
 use Rattle.tp_tree.specs.Tree.{DefinitionTree, SourceTree}
 use Rattle.tp_parse.specs.declared.refusal.Refusal.{Refusal}
-use Rattle.tp_parse.specs.declared.refusal.Refusal.TheVariants.{Unexpected, Unfinished, TooDeep, NoMemory}
+use Rattle.tp_parse.specs.declared.refusal.Refusal.TheVariants.{Unfinished}
 use Rattle.tp_parse.specs.declared.mark.Mark.{Mark}
 use Rattle.tp_parse.specs.declared.mark.Mark.TheVariants as m
 use Rattle.tp_parse.specs.Marks.{same, comma}
-use Rattle.tp_parse.specs.Input as input
-use Rattle.tp_parse.specs.Input.{Tokens, ReadOutcome, Reader, and_then, mark, from, first_name, mark_due, past, sees, lower, names, expect}
-use Rattle.tp_parse.specs.Found.{Found, limit, defined, source_of}
+use Rattle.tp_parse.specs.Input.{Tokens, Reader, and_then, mark, from, first_name, mark_due, past, sees, lower, names, expect}
+use Rattle.tp_parse.specs.Found.{Found, limit}
 use Rattle.tp_parse.specs.Reading.{read}
 use Rattle.tp_parse.specs.Source as s
 use Rattle.tp_parse.specs.Grammar as g
@@ -21,9 +20,9 @@ use Rattle.tp_parse.proofs.Marks.{same_is}
 use Rattle.tp_parse.proofs.Heads.{chosen, names_sound, ok_is}
 use Rattle.tp_parse.proofs.Sound.{read_sound}
 use Rattle.tp_parse.proofs.Exact.{parameters_sound, definition_then_is, LowDefines, definitions_sound}
-use Rattle.tp_parse.proofs.Extended.{some_due, due_on, past_on, phrase_on, names_on, parameters_on, sentence_on, defines_on, definitions_on}
-use Rattle.tp_parse.proofs.Fresh.{symbol_token, word_token, name_token, lower_token, name_found, a_name, past_whole, due_whole, Closing, due_close, past_close, stops_close, by_symbol}
-use Rattle.tp_parse.proofs.Finishes.{Ended, failed, failed_is, bind_err, refused_end, names_finish}
+use Rattle.tp_parse.proofs.Extended.{some_due, due_on, past_on, phrase_on, names_on, parameters_on, defines_on, definitions_on}
+use Rattle.tp_parse.proofs.Fresh.{symbol_token, word_token, name_token, lower_token, name_found, a_name, past_whole, Closing, due_close, past_close, stops_close, by_symbol}
+use Rattle.tp_parse.proofs.Finishes.{Ended, failed, bind_err, refused_end, names_finish}
 use Rattle.tp_parse.proofs.FinishesPhrases.{read_finish}
 
 -- ---- steps

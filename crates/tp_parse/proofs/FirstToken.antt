@@ -1,17 +1,14 @@
 -- The token that a refusal names is the first after which no accepted source goes on.
-use Rattle.std.proofs.Common.{◌≡◌, ◌≢◌, ℕ, zero, suc, ◌+◌, ◌-◌, ◌<◌, ◌≤◌, max, List, [], ◌∷◌, ◌++◌, length, take, drop, Ok, Err, refl, sym, ap, subst, ◌∙◌, arith, append_assoc}
+use Rattle.std.proofs.Common.{◌≡◌, ◌≢◌, ℕ, zero, suc, ◌+◌, ◌-◌, ◌<◌, ◌≤◌, [], ◌∷◌, ◌++◌, length, take, drop, Ok, Err, refl, sym, ap, subst, ◌∙◌, arith, append_assoc}
 use Rattle.std.proofs.Common.{leb, true, false}
 use Rattle.std.proofs.lemmas.Bool.{leb-true, leb-false}
 use Rattle.std.proofs.lemmas.List.{append-nil, take-append-drop, length-take-le, take-take, take_at}
 use Rattle.tp_tree.specs.Tree.{SourceTree}
-use Rattle.tp_lex.specs.declared.token.Word.TheVariants as word
-use Rattle.tp_parse.specs.declared.mark.Mark.TheVariants as m
 use Rattle.tp_parse.specs.declared.refusal.Refusal.{Refusal}
 use Rattle.tp_parse.specs.declared.refusal.Refusal.TheVariants.{Unexpected, Unfinished, TooDeep, NoMemory}
 use Rattle.tp_parse.specs.declared.refusal.ParseRefusal.{ParseRefusal}
 use Rattle.tp_parse.specs.declared.refusal.ParseRefusal.TheVariants as named_at
 use Rattle.tp_parse.specs.Input.{Tokens, ReadOutcome, past}
-use Rattle.tp_parse.specs.Found.{limit}
 use Rattle.tp_parse.specs.Source as s
 use Rattle.tp_parse.specs.Grammar as g
 use Rattle.tp_parse.specs.Grammar.{Sentence, IsSource, Accepts}
@@ -24,7 +21,7 @@ use Rattle.tp_parse.proofs.Alike.{Agrees, Alike, beyond, goes, unexpected, deep}
 use Rattle.tp_parse.proofs.Rests.{agrees, source_alike, none_goes_on, unexpected_at, too_deep_at, Names}
 use Rattle.tp_parse.proofs.Finishes.{Ended}
 use Rattle.tp_parse.proofs.FinishesSources.{source_finish}
-use Rattle.tp_parse.proofs.Roomier.{Roomier, same, deep as too_low, source_roomier}
+use Rattle.tp_parse.proofs.Roomier.{Roomier, source_roomier}
 
 -- ---- what goes on
 

@@ -1,6 +1,6 @@
 -- Tokens that make a phrase of what stands before them: names for the operands that are due, and the marks after them.
-use Rattle.std.proofs.Common.{◌≡◌, ◌≢◌, ℕ, zero, suc, ◌+◌, ◌-◌, ◌<◌, ◌≤◌, Bool, true, false, cond, not, eqb, leb, Option, Some, None, inl, inr, List, [], ◌∷◌, ◌++◌, length, drop, refl, sym, ap, subst, ◌∙◌, arith}
-use Rattle.std.proofs.lemmas.Bool.{eqb-true, ne_eqb, eq-eqb, leb-true}
+use Rattle.std.proofs.Common.{◌≡◌, ◌≢◌, ℕ, zero, suc, ◌+◌, ◌-◌, ◌<◌, ◌≤◌, true, false, cond, not, eqb, leb, Option, Some, None, inl, [], ◌∷◌, refl, sym, ap, subst, ◌∙◌, arith}
+use Rattle.std.proofs.lemmas.Bool.{eq-eqb, leb-true}
 use Rattle.tp_lex.specs.declared.token.Token.{Token}
 use Rattle.tp_lex.specs.declared.token.Kind.{Kind}
 use Rattle.tp_lex.specs.declared.token.Kind.TheVariants as kind
@@ -29,7 +29,7 @@ use Rattle.tp_parse.specs.Marks.{kind_mark, same, prefix_at, prefix_of, level_be
 use Rattle.tp_parse.specs.Input as input
 use Rattle.tp_parse.specs.Input.{Tokens, mark, from, first_number, first_name, mark_due, half_mark, past, halved, without_half}
 use Rattle.tp_parse.specs.Head.{begins, is_nothing}
-use Rattle.tp_parse.specs.Found.{Found, Operands, found, no_operand, operand_then, of_atom, of_operands, of_enclosed, of_choice, of_pair, of_exists, of_prefix}
+use Rattle.tp_parse.specs.Found.{Found, no_operand, operand_then, of_atom, of_operands, of_enclosed, of_choice, of_pair, of_exists, of_prefix}
 use Rattle.tp_parse.specs.Grammar as g
 use Rattle.tp_parse.specs.Grammar.{open_round, BeginsPrimary, Parses, Goes, Others, Listing}
 use Rattle.tp_parse.proofs.Marks.{same_yes, same_no}

@@ -31,9 +31,7 @@ use Rattle.tp_parse.proofs.Sound.{Is, turn_fewer, read_sound}
 use Rattle.tp_parse.specs.Source as source
 use Rattle.tp_parse.proofs.Exact.{source_complete}
 use Rattle.tp_parse.specs.Grammar.{Accepts}
-use Rattle.tp_parse.specs.declared.refusal.Refusal.TheVariants.{Unexpected, Unfinished, TooDeep, NoMemory}
-use Rattle.tp_parse.specs.declared.refusal.ParseRefusal.{ParseRefusal}
-use Rattle.tp_parse.specs.declared.refusal.ParseRefusal.TheVariants as named_at
+use Rattle.tp_parse.specs.declared.refusal.Refusal.TheVariants.{Unexpected, TooDeep}
 use Rattle.tp_lex.specs.declared.token.Token.{Token}
 use Rattle.tp_parse.proofs.Alike.{Agrees, unseen, ended, agreed, Alike, beyond, goes, unexpected, deep, both, same_mark, same_from, same_number, same_name, refused_alike, stays_alike, took_alike, passed_alike, chosen_alike, after_take, expected_alike, deepened_alike, fitted_alike, saw_alike, lowered_alike, any_named_alike}
 

@@ -1,17 +1,15 @@
 -- With more room the same is read, or less room was too deep: nothing else that is refused is read with more room.
-use Rattle.std.proofs.Common.{◌≡◌, ◌≢◌, ℕ, zero, suc, ◌+◌, ◌-◌, ◌<◌, ◌≤◌, max, Bool, true, false, cond, not, eqb, leb, ◌⊎◌, inl, inr, Some, None, List, [], ◌∷◌, ◌++◌, length, drop, Ok, Err, refl, sym, ap, subst, ◌∙◌, arith, append_assoc}
+use Rattle.std.proofs.Common.{◌≡◌, ◌≢◌, ℕ, zero, suc, ◌-◌, ◌<◌, ◌≤◌, max, Bool, true, false, cond, not, eqb, leb, Some, None, List, [], ◌∷◌, ◌++◌, length, drop, Ok, Err, refl, ap, subst, arith, append_assoc}
 use Rattle.std.proofs.lemmas.Bool.{eqb-true, leb-true, leb-false, le-leb, eq-eqb}
 use Rattle.std.proofs.lemmas.List.{append-nil}
 use Rattle.tp_lex.specs.declared.token.Word.TheVariants as word
 use Rattle.tp_lex.specs.declared.token.Symbol.TheVariants as symbol
 use Rattle.tp_tree.specs.declared.operator.Op.{Op}
 use Rattle.tp_tree.specs.Levels.{chop_level, right_level}
-use Rattle.tp_tree.specs.Tree.{PhraseTree, DefinitionTree, SourceTree}
-use Rattle.tp_parse.specs.declared.refusal.Refusal.{Refusal}
-use Rattle.tp_parse.specs.declared.refusal.Refusal.TheVariants.{Unexpected, Unfinished, TooDeep, NoMemory}
+use Rattle.tp_tree.specs.Tree.{DefinitionTree, SourceTree}
+use Rattle.tp_parse.specs.declared.refusal.Refusal.TheVariants.{TooDeep}
 use Rattle.tp_parse.specs.declared.mark.Mark.{Mark}
 use Rattle.tp_parse.specs.declared.mark.Mark.TheVariants as m
-use Rattle.tp_parse.specs.declared.mark.Prefix.{Prefix}
 use Rattle.tp_parse.specs.declared.mark.Role.{Role}
 use Rattle.tp_parse.specs.declared.mark.Role.TheVariants.{Ends, Infix, Opens, Joins}
 use Rattle.tp_parse.specs.declared.mark.Start.{Start}
@@ -22,15 +20,15 @@ use Rattle.tp_parse.specs.Marks.{before, prefix_at, role_at, start_of, comma, li
 use Rattle.tp_parse.specs.Marks.{same as is_mark}
 use Rattle.tp_parse.specs.Input as input
 use Rattle.tp_parse.specs.Input.{Tokens, ReadOutcome, Reader, and_then, ◌>>=◌, pure, mark, from, refuse, mark_due, past, sees, expect, deepen}
-use Rattle.tp_parse.specs.Head.{head_by, is_high, is_nothing, admit, begins, unfit}
-use Rattle.tp_parse.specs.Found.{Found, Operands, then_operand, operands_of, limit, defined, source_of}
+use Rattle.tp_parse.specs.Head.{is_high, is_nothing, admit, begins, unfit}
+use Rattle.tp_parse.specs.Found.{Found, Operands, then_operand, operands_of, limit, source_of}
 use Rattle.tp_parse.specs.Reading as r
 use Rattle.tp_parse.specs.Reading.{goes_on, fits}
 use Rattle.tp_parse.specs.Source as source
 use Rattle.tp_parse.specs.Grammar as g
 use Rattle.tp_parse.specs.Grammar.{Sentence, Defines, Definitions, IsSource}
 use Rattle.tp_parse.proofs.Marks.{same_yes, same_no, no_prefix_at, start_plain}
-use Rattle.tp_parse.proofs.Heads.{lower_is, expect_is, fine}
+use Rattle.tp_parse.proofs.Heads.{lower_is, expect_is}
 use Rattle.tp_parse.proofs.Complete.{read_complete}
 use Rattle.tp_parse.proofs.Exact.{parameters_is, defines_shorter}
 
