@@ -31,7 +31,8 @@ ComesTo globals (turn.StateLimit states) status = status ≡ StateLimit states
 ComesTo globals (turn.InputMissing state port) status = IsFailureIn state status
 ComesTo globals (turn.Over state limit) status = IsFailureIn state status
 
-module _ (words : List (List ℕ)) (held : Option Held) (old new : Option (List ℕ)) (result : Status) where
+module _ (words : List (List ℕ)) (held : Option Held) (old new : Option (List ℕ))
+    (result : Status) where
   -- Whatever run there is of what is asked for, with any picks in any order: the call comes to its
   -- end and prints its states, the same facts, shows and reductions, unless a read or a write fails
   -- or memory is wanted.

@@ -26,7 +26,8 @@ pub record PrintsTrace (words : List (List ℕ)) (held : Option Held) (old new :
   pub trace : 0 < length pictures
       → IsTraceText text (map (named_facts plan.program.globals) pictures)
 
-module _ (words : List (List ℕ)) (held : Option Held) (old new : Option (List ℕ)) (result : Status) where
+module _ (words : List (List ℕ)) (held : Option Held) (old new : Option (List ℕ))
+    (result : Status) where
   -- Where a run ends and the files tell what they hold, what was printed is a trace of its states,
   -- with trace lines or without.
   abbrev pub TraceSays : Type 0

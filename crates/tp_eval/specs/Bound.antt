@@ -23,7 +23,8 @@ meant_place defs d kinds s locals a e env =
     place_by defs (calls_at defs d) e (meanings_of (length kinds) s locals env) s a
 
 -- Said of one course, with values of its locals, whose state at a position agrees with the facts.
-module _ (facts : List Fact) (defs : List Definition) (kinds : List Bool) (s : Course) (locals : Locals) (a : ℕ) where
+module _ (facts : List Fact) (defs : List Definition) (kinds : List Bool) (s : Course)
+    (locals : Locals) (a : ℕ) where
   pub record PlaceIsRight (e : ExprTree) (env : List BindingTree) : Type 0 where
     -- a path means what stands there at each position, at the greatest depth of evaluation and at
     -- each beyond

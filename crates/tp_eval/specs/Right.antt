@@ -31,7 +31,8 @@ meant_value defs d globals s locals a e env =
 
 -- Said of one course, with values of its locals, whose state at a position agrees with the facts,
 -- and of expressions that fit the program's variables, of which `kinds` says which are static.
-module _ (facts : List Fact) (defs : List Definition) (kinds : List Bool) (s : Course) (locals : Locals) (a : ℕ) where
+module _ (facts : List Fact) (defs : List Definition) (kinds : List Bool) (s : Course)
+    (locals : Locals) (a : ℕ) where
   -- the meaning of an expression at a depth, and the value of the variable of a path
   abbrev pub meant_here : (depth : ℕ) → ExprTree → List BindingTree → Option Tree
   meant_here d e env = meant_value defs d (length kinds) s locals a e env

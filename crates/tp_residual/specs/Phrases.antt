@@ -204,8 +204,12 @@ abbrev mutual
   formula_spelling v (chop w w') =
       operation_spelling op.Chop (formula_level w) (formula_spelling v w) (formula_level w')
       (formula_spelling v w')
-  formula_spelling v (while c w) = codes "while " ++ operand_expr v any_level c ++ codes " do " ++ enclosed any_level (formula_level w) (formula_spelling v w)
-  formula_spelling v (for_from x k e w) = counted_spelling v (codes "for ") x k e ++ codes " do " ++ enclosed any_level (formula_level w) (formula_spelling (naming v x) w)
+  formula_spelling v (while c w) =
+      codes "while " ++ operand_expr v any_level c ++ codes " do "
+      ++ enclosed any_level (formula_level w) (formula_spelling v w)
+  formula_spelling v (for_from x k e w) =
+      counted_spelling v (codes "for ") x k e ++ codes " do "
+      ++ enclosed any_level (formula_level w) (formula_spelling (naming v x) w)
   formula_spelling v (forall_from x k e w) =
       counted_spelling v (codes "forall ") x k e ++ codes " : "
       ++ enclosed any_level (formula_level w) (formula_spelling (naming v x) w)

@@ -87,6 +87,10 @@ waiting_answer w kinds room m next t a sound rest e h =
     let there = named_item_waits w kinds m t sound rest e in
     waits_answered w room m next t a there.first there.other there.outcome h
 
+pub waits_for_some : (a : Tried) → IsWait a → ((first : Cell) (other : Option Cell) → a ≡ tried.Waits first other → ⊥) → ⊥
+waits_for_some (tried.Waits first other) h never = never first other refl
+waits_for_some _ h never = h
+
 -- the cell that an item is found to wait for is one of variables of the store
 pub waits_named : (w : Setting) (kinds : List Bool) (room : ℕ) (m next : Moment) (t : ℕ) (a : Tried) (cell : Cell) (other : Option Cell) → IsSound w kinds m → Tries w room m t next a → a ≡ tried.Waits cell other → CellIsOf next.store.variables cell
 waits_named w kinds room m next t a cell other sound h e =

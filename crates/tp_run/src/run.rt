@@ -127,14 +127,10 @@ impl<'a> Settings<'a> {
         ensures named { IfOk result (CellIsOf store.new.variables) }
     {
         let tried = try_item(scene, item, store, &self.setting, 0, steps)?;
-        match tried {
-            Tried::Waits(cell, _) => Ok(cell),
-            Tried::Reduced(_) => unreachable!(),
-            Tried::Rests => unreachable!(),
-            Tried::Clash(_) => unreachable!(),
-            Tried::Missing(_) => unreachable!(),
-            Tried::Over(_) => unreachable!(),
-        }
+        let Tried::Waits(cell, _) = tried else {
+            unreachable!();
+        };
+        Ok(cell)
     }
 
     // A state that ends the interval.

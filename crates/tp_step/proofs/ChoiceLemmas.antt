@@ -24,7 +24,7 @@ use Rattle.tp_slots.specs.Picked.{item_place, what_step, held_step, IsHolding}
 use Rattle.tp_slots.specs.Plain as plain
 use Rattle.tp_slots.specs.Plain.{What, bare, holds, gone, Slots, slot_at, head_at, other_head, second_of, entries_at, IsLive, WhatFits}
 use Rattle.tp_slots.specs.Read.{item_what, scene_of, slot_of, slots_of, what_of}
-use Rattle.tp_slots.specs.Reductions.{CanMove}
+use Rattle.tp_slots.specs.Reductions.{CanMove, IsBare}
 use Rattle.tp_slots.specs.Shown.{AreShown}
 use Rattle.tp_slots.proofs.Changing.{lives_within}
 use Rattle.tp_slots.proofs.Picking.{pick_shown}
@@ -33,7 +33,7 @@ use Rattle.tp_slots.proofs.PutEdits.{both_so}
 use Rattle.tp_slots.proofs.Shallow.{second_fits, stands_shallow, holds_shallow}
 use Rattle.tp_slots.proofs.Showing.{all_shown, has_shown}
 use Rattle.tp_step.specs.Answers.{moment_of}
-use Rattle.tp_step.specs.Chosen.{kind_in, held_decided, FitsHolder, GivesItemsAlone}
+use Rattle.tp_step.specs.Chosen.{kind_in, IsDueIn, held_decided, FitsHolder, GivesItemsAlone}
 
 -- what stands in a live item's slot
 pub what_read : (s : Scene) (t : ℕ) (x : Slot) → IsWellKept s → Lives s t → x ≡ slice_index_or s.slots.items t x → item_what s t ≡ what_of x.what
@@ -101,6 +101,14 @@ is_not_gone s t kept lives by e =
     let never : IsLive (gone by) = subst IsLive e live in
     never
 
+-- An item without a region rests where nothing is due.
+pub rests_undue : (w : Setting) (kinds : List Bool) (k : Contents) (s : Scene) (t : ℕ) → IsSound w kinds (moment_of s k) → IsWellKept s → Lives s t → (x : What) → item_what s t ≡ x → kind_in (item_what s t) ≡ None → IsDueIn x None → IsBare (item_what s t) × (outcome_of w k (scene_of s) t ≡ rests)
+rests_undue w kinds k s t sound kept lives (bare (S.Do f env)) is apart never = absurd (never f env refl)
+rests_undue w kinds k s t sound kept lives (bare (S.Later f env)) is apart never = (subst IsBare (sym is) tt, rests_there w kinds k s t sound kept lives (S.Later f env) is (λ p. refl))
+rests_undue w kinds k s t sound kept lives (bare (S.Shown vs)) is apart never = (subst IsBare (sym is) tt, rests_there w kinds k s t sound kept lives (S.Shown vs) is (λ p. refl))
+rests_undue w kinds k s t sound kept lives (holds j r q) is apart never = absurd (is_no_holder (item_what s t) apart j r q is)
+rests_undue w kinds k s t sound kept lives (gone by) is apart never = absurd (is_not_gone s t kept lives by is)
+
 -- an item with a region
 pub holds_one : (x : What) (kind : HolderKind) → kind_in x ≡ Some kind → IsHolding x
 holds_one (bare l) kind h = absurd (none_some h)
@@ -135,10 +143,7 @@ pub closing_gives : (s : Slots) (x : What) (n : Numbers) → FitsHolder x Closes
 closing_gives s (bare l) n f = absurd f
 closing_gives s (holds (S.Split g env) r q) n f = (_, refl, record { local = refl; mark = refl; facts = refl })
 closing_gives s (holds (S.SplitProject g env) r q) n f = (_, refl, record { local = refl; mark = refl; facts = refl })
-closing_gives s (holds S.Closed r q) n f = absurd f
-closing_gives s (holds (S.Opened g env) r q) n f = absurd f
-closing_gives s (holds (S.Running g env) r q) n f = absurd f
-closing_gives s (gone by) n f = absurd f
+closing_gives s _ n f = absurd f
 
 pub beginning_gives : (s : Slots) (x : What) (n : Numbers) → FitsHolder x Begins → Gives (held_decided s x n Begins)
 beginning_gives s (bare l) n f = absurd f
@@ -156,10 +161,7 @@ shape_moves s home t (holds (S.Split g env) r None) w f = tt
 shape_moves s home t (holds (S.Split g env) r (Some q)) w f = absurd (both_ways false refl w.1.0)
 shape_moves s home t (holds (S.SplitProject g env) r None) w f = absurd (both_ways true w.1 refl)
 shape_moves s home t (holds (S.SplitProject g env) r (Some q)) w f = tt
-shape_moves s home t (holds S.Closed r q) w f = absurd f
-shape_moves s home t (holds (S.Opened g env) r q) w f = absurd f
-shape_moves s home t (holds (S.Running g env) r q) w f = absurd f
-shape_moves s home t (gone by) w f = absurd f
+shape_moves s home t _ w f = absurd f
 
 shape_begins : (s : Slots) (home t : ℕ) (x : What) → WhatFits s home t x → FitsHolder x Begins → CanMove x
 shape_begins s home t (bare l) w f = absurd f

@@ -79,9 +79,7 @@ module _ (facts : List Fact) (variables : List Variable) (kept : AreOfVariables 
 
     clash_of : (p : Place) (n : Numbers) (c : Clash) → ClashTold (fitting defs kinds variables n Waits) facts p n c → ClashIsOf variables c
     clash_of p n (Facts old new) h = subst AdditionIsOf h.2 (checked_of h.0 (adds (new_facts facts h.0)) h.1 tt)
-    clash_of p n (Marks depth) h = tt
-    clash_of p n False h = tt
-    clash_of p n (NoValue k) h = tt
+    clash_of p n _ h = tt
 
     told_of : (p : Place) (n : Numbers) (o : PickOutcome) → Told (fitting defs kinds variables n Waits) facts p n o → IsTold o
     told_of p n (reduces r) h = tt

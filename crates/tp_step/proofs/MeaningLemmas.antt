@@ -37,9 +37,7 @@ pub tries_mean : (w : Setting) (room : ℕ) (m : Moment) (t : ℕ) (next : Momen
 tries_mean w room m t next (tried.Reduced news) lives h = λ kinds sound. steps_keep w kinds m t h.0 next sound h.2
 tries_mean w room m t next (tried.Clash c) lives h = λ kinds sound. (refusals_mean w kinds m t sound lives).clash c h.1
 tries_mean w room m t next (tried.Missing port) lives h = λ kinds sound. (refusals_mean w kinds m t sound lives).missing port h.1
-tries_mean w room m t next (tried.Waits first other) lives h = tt
-tries_mean w room m t next tried.Rests lives h = tt
-tries_mean w room m t next (tried.Over limit) lives h = tt
+tries_mean w room m t next _ lives h = tt
 
 pub tries_sound : (w : Setting) (room : ℕ) (m : Moment) (t : ℕ) (next : Moment) (a : Tried) → Tries w room m t next a → (kinds : List Bool) → IsSound w kinds m → IsSound w kinds next
 tries_sound w room m t next (tried.Reduced news) h = λ kinds sound. steps_fit w kinds m t h.0 next sound h.2

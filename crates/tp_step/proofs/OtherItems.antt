@@ -17,7 +17,4 @@ tries_commute w room m t next (tried.Reduced news) h = λ kinds orderly. record 
   failures = λ u apart fails. failures_stay w kinds m next t u apart orderly (h.0, h.2) fails;
 }
 tries_commute w room m t next (tried.Waits first other) h = tt
-tries_commute w room m t next tried.Rests h = tt
-tries_commute w room m t next (tried.Clash c) h = tt
-tries_commute w room m t next (tried.Missing port) h = tt
-tries_commute w room m t next (tried.Over limit) h = tt
+tries_commute w room m t next _ h = tt

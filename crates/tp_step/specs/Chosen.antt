@@ -4,12 +4,16 @@ use Rattle.tp_value.specs.declared.path.Fact.{Fact}
 use Rattle.tp_store.specs.Answers.{Adds, IsRefusal}
 use Rattle.tp_store.specs.Known.{Addition, Contents, NoClash}
 use Rattle.tp_store.specs.declared.add.AddRefusal.{AddRefusal}
+use Rattle.tp_meaning.specs.Syntax.{FormulaTree}
+use Rattle.tp_scene.specs.Scene.{Bindings, Do}
 use Rattle.tp_scene.specs.Step.{Reduction, PickOutcome, reduces, rests, Numbers, knows}
 use Rattle.tp_scene.specs.Pick.{Setting, Moment, outcome_of, HasAdded}
 use Rattle.tp_decide.specs.declared.decision.Decision.{Decision}
 use Rattle.tp_decide.specs.declared.holder.HolderDecision.{HolderDecision}
 use Rattle.tp_decide.specs.declared.holder.HolderKind.{HolderKind}
+use Rattle.tp_decide.specs.declared.phrase.Phrase.{Phrase}
 use Rattle.tp_decide.specs.Decided.{decided_outcome}
+use Rattle.tp_decide.specs.Read.{formula_of, env_of}
 use Rattle.tp_decide.specs.Fits.{SetsVariables}
 use Rattle.tp_decide.specs.Holders.{IsOfKind, kind_of, holder_decided}
 use Rattle.tp_slots.specs.Plain.{What, bare, holds, gone, Slots, head_at, other_head, second_of, entries_at}
@@ -27,6 +31,11 @@ abbrev pub kind_in : What → Option HolderKind
 kind_in (bare l) = None
 kind_in (holds k r q) = Some (kind_of k)
 kind_in (gone by) = None
+
+-- the phrase is what is due in a slot, or nothing is due there
+abbrev pub IsDueIn : What → Option Phrase → Type 0
+IsDueIn x (Some phrase) = x ≡ bare (Do (formula_of phrase) (env_of phrase))
+IsDueIn x None = (f : FormulaTree) (env : Bindings) → x ≡ bare (Do f env) → ⊥
 
 -- what a decision on it stands for
 abbrev pub held_decided : Slots → What → Numbers → HolderDecision → PickOutcome

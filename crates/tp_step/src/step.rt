@@ -1,11 +1,12 @@
 // One step of an item.
 ghost use Rattle.std.specs.Prelude.{◌≡◌, ◌+◌, Bool, List, IfOk, OnErr};
+ghost use Rattle.std.specs.Option.{option_map};
 ghost use Rattle.tp_scene.specs.Laws.{IsSound};
 ghost use Rattle.tp_decide.specs.Decided.{setting_of};
 ghost use Rattle.tp_slots.specs.Read.{scene_of, item_what, what_of};
 ghost use Rattle.tp_slots.specs.Kept.{IsWellKept, IsUnchanged, Lives};
 ghost use Rattle.tp_step.specs.Answers.{Tries, moment_of};
-ghost use Rattle.tp_step.specs.Chosen.{IsChoice, kind_in};
+ghost use Rattle.tp_step.specs.Chosen.{IsChoice, IsDueIn, kind_in};
 ghost use Rattle.tp_step.specs.Meaning.{TryMeans};
 ghost use Rattle.tp_step.specs.OtherItems.{TryCommutes};
 ghost use Rattle.tp_step.specs.Room.{TryKeepsRoom};
@@ -14,7 +15,7 @@ use crate::answer::Tried;
 use crate::carry::{carry_decision, carry_holder};
 use crate::steps::Steps;
 use std::sync::ledger::Ledger;
-use tp_decide::{Decision, HolderDecision, HolderKind, Setting, decide, decide_holder};
+use tp_decide::{Decision, HolderDecision, HolderKind, Phrase, Setting, decide, decide_holder};
 use tp_slots::{Scene, What, place_inside, place_of_item, remember};
 use tp_store::Store;
 use tp_value::NoMemory;
@@ -41,6 +42,21 @@ fn holder_kind(what: &What) -> Option<HolderKind>
     }
 }
 
+// The phrase that is due, if any.
+fn due(what: &What) -> Option<&Phrase>
+    ensures { IsDueIn (what_of what.now) (option_map (λ phrase. phrase.now) result) }
+{
+    match what {
+        What::Do(phrase) => Some(phrase),
+        What::Later(_) | What::Shown(_) | What::Closed(_) => None,
+        What::Gone { .. } => None,
+        What::Split { .. } => None,
+        What::SplitProject { .. } => None,
+        What::Opened { .. } => None,
+        What::Running { .. } => None,
+    }
+}
+
 // What is to be done with an item that has no region.
 fn choose_for_leaf(
     scene: &Scene,
@@ -57,20 +73,14 @@ fn choose_for_leaf(
         IsChoice (setting_of setting.now) store.now scene.now item (Choice.Leaf d)) }
 {
     let slot = &scene.slots[item as usize];
-    match &slot.what {
-        What::Do(phrase) => {
+    match due(&slot.what) {
+        Some(phrase) => {
             let place = place_of_item(scene, item);
             let decision = decide(setting.alloc, phrase, place, store, setting)?;
             Ok(decision)
         }
-        What::Later(_) => Ok(Decision::Rests),
-        What::Shown(_) => Ok(Decision::Rests),
-        What::Gone { .. } => unreachable!(),
-        What::Split { .. } => unreachable!(),
-        What::SplitProject { .. } => unreachable!(),
-        What::Closed(_) => unreachable!(),
-        What::Opened { .. } => unreachable!(),
-        What::Running { .. } => unreachable!(),
+        // An item without a region rests where nothing is due.
+        None => Ok(Decision::Rests),
     }
 }
 

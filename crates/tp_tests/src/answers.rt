@@ -1,5 +1,5 @@
 // Copies are equal.
-use crate::expected::same_text;
+use crate::expected::same_shown;
 use crate::making::path;
 use std::alloc::Global;
 use std::process::Abort;
@@ -9,11 +9,7 @@ use tp_scene::{Cell, Clash};
 use tp_value::{Fact, NoMemory, Number, Shape};
 
 fn expect_cell(rt: &(impl Abort + AllocGlobal), cell: &Cell) -> Result<(), Fail> {
-    let copy = cell.copy()?;
-    let copied = format!(in rt.alloc(); "{copy:?}")?;
-    let shown = format!(in rt.alloc(); "{cell:?}")?;
-    same_text(rt, copied.as_str(), shown.as_str(), "a cell");
-    Ok(())
+    same_shown(rt, &cell.copy()?, cell, "a cell")
 }
 
 fn part(alloc: Global, number: u64, at: &[u32]) -> Result<Cell, NoMemory> {
@@ -36,11 +32,7 @@ fn cells_are_copied(rt: HostRuntime) -> Result<(), Fail> {
 const PLACES: [(u64, &[u32]); 3] = [(0, &[]), (0, &[1]), (1, &[])];
 
 fn expect_clash(rt: &(impl Abort + AllocGlobal), clash: &Clash) -> Result<(), Fail> {
-    let copy = clash.copy()?;
-    let copied = format!(in rt.alloc(); "{copy:?}")?;
-    let shown = format!(in rt.alloc(); "{clash:?}")?;
-    same_text(rt, copied.as_str(), shown.as_str(), "a clash");
-    Ok(())
+    same_shown(rt, &clash.copy()?, clash, "a clash")
 }
 
 fn fact(alloc: Global, shape: Shape) -> Result<Fact, NoMemory> {

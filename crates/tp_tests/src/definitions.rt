@@ -1,8 +1,9 @@
 // The outcomes of expressions that call definitions, row by row.
 use crate::expected::same_text;
-use crate::outcomes::{place_where, read, value_where};
+use crate::outcomes::{expect_value, place_where, read};
 use crate::tables::cut;
 use std::alloc::Global;
+use std::process::Abort;
 use std::rc::Rc;
 use std::test::Fail;
 use tp_kernel::{Def, Defs, Expr, Exprs, Formula};
@@ -61,9 +62,14 @@ fn definitions(alloc: Global) -> Result<Defs, Fail> {
     Ok(Defs { items })
 }
 
-fn value_text(alloc: Global, e: &Expr) -> Result<String, Fail> {
-    let defs = definitions(alloc)?;
-    value_where(alloc, e, defs)
+fn expect(
+    rt: &(impl Abort + AllocGlobal),
+    e: &Expr,
+    expected: &str,
+    row: &str,
+) -> Result<(), Fail> {
+    let defs = definitions(rt.alloc())?;
+    expect_value(rt, e, defs, expected, row)
 }
 
 // Calls: `g` of the first definition, and so on to `o`; `p` and `q` of the second with none and with two arguments, `r` of one that isn't there.
@@ -102,8 +108,7 @@ fn calls_are_evaluated(rt: HostRuntime) -> Result<(), Fail> {
     for row in CALLS.trim().lines() {
         let (spelled, expected) = cut(row, "=>")?;
         let e = read(rt.alloc(), spelled.as_bytes())?;
-        let found = value_text(rt.alloc(), &e)?;
-        same_text(&rt, found.as_str(), expected, spelled);
+        expect(&rt, &e, expected, spelled)?;
     }
     Ok(())
 }
@@ -137,8 +142,7 @@ const DEPTHS: [(u32, Number, &str); 5] = [
 fn calls_nest_within_limits(rt: HostRuntime) -> Result<(), Fail> {
     for (number, count, expected) in &DEPTHS {
         let e = counted(rt.alloc(), *number, *count)?;
-        let found = value_text(rt.alloc(), &e)?;
-        same_text(&rt, found.as_str(), expected, "calls in calls");
+        expect(&rt, &e, expected, "calls in calls")?;
     }
     Ok(())
 }
@@ -156,10 +160,7 @@ fn calls_beside(alloc: Global, count: usize) -> Result<Expr, Fail> {
 #[test]
 fn calls_are_counted(rt: HostRuntime) -> Result<(), Fail> {
     let most = calls_beside(rt.alloc(), 100_000)?;
-    let found = value_text(rt.alloc(), &most)?;
-    same_text(&rt, found.as_str(), "true", "100,000 calls");
+    expect(&rt, &most, "true", "100,000 calls")?;
     let more = calls_beside(rt.alloc(), 100_001)?;
-    let found = value_text(rt.alloc(), &more)?;
-    same_text(&rt, found.as_str(), "over Calls", "100,001 calls");
-    Ok(())
+    expect(&rt, &more, "over Calls", "100,001 calls")
 }

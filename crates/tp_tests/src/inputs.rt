@@ -1,5 +1,5 @@
 // Tables of inputs, with ample memory.
-use crate::expected::{holds, same_bytes, same_text};
+use crate::expected::{holds, refused, same_bytes, same_text};
 use crate::making::series;
 use std::alloc::Global;
 use std::process::Abort;
@@ -85,14 +85,7 @@ fn texts_are_tables(rt: HostRuntime) -> Result<(), Fail> {
 }
 
 fn expect_refusal(rt: &(impl Abort + AllocGlobal), text: &str, refusal: &str) -> Result<(), Fail> {
-    match read_inputs(rt.alloc(), text.as_bytes()) {
-        Ok(_) => return Err("a table".into()),
-        Err(answer) => {
-            let answer = format!(in rt.alloc(); "{answer:?}")?;
-            same_text(rt, answer.as_str(), refusal, text);
-        }
-    }
-    Ok(())
+    refused(rt, read_inputs(rt.alloc(), text.as_bytes()), refusal, text)
 }
 
 // A text, and the line with its first fault, where something is no pair.

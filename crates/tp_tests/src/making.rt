@@ -2,7 +2,9 @@
 ghost use Rattle.std.specs.Prelude.{◌≡◌, ◌∷◌, [], IfOk, false};
 ghost use Rattle.tp_store.specs.Known.{global_variable};
 
+use crate::tables::{cut, number};
 use std::alloc::Global;
+use std::test::Fail;
 use tp_io::Content;
 use tp_store::Store;
 use tp_value::{Globals, Indices, Items, NoMemory, Path, Text, Value, VarId};
@@ -58,6 +60,14 @@ pub fn series(alloc: Global, pattern: &str, times: u32) -> Result<String, NoMemo
         is_repeated = !is_repeated;
     }
     Ok(text)
+}
+
+/// The text of a row `times: pattern => expected`, its pattern, and what is expected.
+pub fn repeated<'a>(alloc: Global, row: &'a str) -> Result<(String, &'a str, &'a str), Fail> {
+    let (times, row) = cut(row, "times:")?;
+    let (pattern, expected) = cut(row, "=>")?;
+    let text = series(alloc, pattern, number(times)?)?;
+    Ok((text, pattern, expected))
 }
 
 /// A number in so many lists.

@@ -6,6 +6,7 @@ use crate::expected::same_text;
 use crate::making::{nested, one_variable, path, sixes};
 use crate::tables::cut;
 use std::alloc::Global;
+use std::process::Abort;
 use std::rc::Rc;
 use std::test::Fail;
 use tp_eval::{Outcome, PlaceOutcome, eval, is_place, place};
@@ -225,15 +226,24 @@ fn place_in(alloc: Global) -> Result<Place, Fail> {
     Ok(Place { store, env })
 }
 
-/// The outcome of the expression where these definitions stand.
-pub fn value_where(alloc: Global, e: &Expr, defs: Defs) -> Result<String, Fail> {
+// The outcome of the expression where these definitions stand.
+fn value_where(alloc: Global, e: &Expr, defs: Defs) -> Result<String, Fail> {
     let at = place_in(alloc)?;
     let outcome = eval(alloc, e, &at.env, &at.store, &defs)?;
     outcome_text(alloc, outcome)
 }
 
-fn value_text(alloc: Global, e: &Expr) -> Result<String, Fail> {
-    value_where(alloc, e, no_definitions(alloc))
+/// Expects this outcome of the expression where these definitions stand.
+pub fn expect_value(
+    rt: &(impl Abort + AllocGlobal),
+    e: &Expr,
+    defs: Defs,
+    expected: &str,
+    row: &str,
+) -> Result<(), Fail> {
+    let found = value_where(rt.alloc(), e, defs)?;
+    same_text(rt, found.as_str(), expected, row);
+    Ok(())
 }
 
 fn found_text(alloc: Global, found: PlaceOutcome) -> Result<String, Fail> {
@@ -364,8 +374,7 @@ fn expressions_are_evaluated(rt: HostRuntime) -> Result<(), Fail> {
     for row in VALUES.trim().lines() {
         let (spelled, expected) = cut(row, "=>")?;
         let e = read(rt.alloc(), spelled.as_bytes())?;
-        let found = value_text(rt.alloc(), &e)?;
-        same_text(&rt, found.as_str(), expected, spelled);
+        expect_value(&rt, &e, no_definitions(rt.alloc()), expected, spelled)?;
     }
     Ok(())
 }
@@ -402,8 +411,7 @@ const DEPTHS: [(usize, &str); 4] = [
 fn depths_are_limited(rt: HostRuntime) -> Result<(), Fail> {
     for (count, expected) in &DEPTHS {
         let e = negated(rt.alloc(), *count)?;
-        let found = value_text(rt.alloc(), &e)?;
-        same_text(&rt, found.as_str(), expected, "negations");
+        expect_value(&rt, &e, no_definitions(rt.alloc()), expected, "negations")?;
     }
     Ok(())
 }

@@ -1,8 +1,8 @@
 // Each text is parsed to the tree or the refusal that it means.
 use crate::expected::same_bytes;
-use crate::making::series;
+use crate::making::repeated;
 use crate::sources::tokens_of;
-use crate::tables::{cut, number};
+use crate::tables::cut;
 use std::alloc::Global;
 use std::test::Fail;
 use tp_parse::parse;
@@ -35,9 +35,7 @@ fn sources_are_parsed(rt: HostRuntime) -> Result<(), Fail> {
 #[test]
 fn deep_sources_are_parsed(rt: HostRuntime) -> Result<(), Fail> {
     for row in DEEP.trim().lines() {
-        let (times, row) = cut(row, "times:")?;
-        let (pattern, expected) = cut(row, "=>")?;
-        let text = series(rt.alloc(), pattern, number(times)?)?;
+        let (text, pattern, expected) = repeated(rt.alloc(), row)?;
         let found = outcome(rt.alloc(), text.as_str(), false)?;
         same_bytes(&rt, found.as_slice(), expected, pattern);
     }

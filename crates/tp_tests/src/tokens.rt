@@ -1,5 +1,5 @@
 // Texts and their tokens, refusals and places.
-use crate::expected::{holds, same_text};
+use crate::expected::{holds, refused, same_text};
 use crate::making::series;
 use crate::sources::tokens_of;
 use crate::tables::cut;
@@ -76,14 +76,7 @@ ab /*/ => OpenComment { at: 3 }
 ";
 
 fn expect_refusal(rt: &(impl Abort + AllocGlobal), text: &str, refusal: &str) -> Result<(), Fail> {
-    match tokens_of(rt.alloc(), text.as_bytes()) {
-        Ok(_) => return Err("tokens".into()),
-        Err(answer) => {
-            let answer = format!(in rt.alloc(); "{answer:?}")?;
-            same_text(rt, answer.as_str(), refusal, text);
-        }
-    }
-    Ok(())
+    refused(rt, tokens_of(rt.alloc(), text.as_bytes()), refusal, text)
 }
 
 #[test]

@@ -1,6 +1,6 @@
 // Texts of runs, read back as traces.
 use crate::expected::{holds, same_text};
-use crate::making::series;
+use crate::making::repeated;
 use crate::tables::{cut, number};
 use std::alloc::Global;
 use std::process::Abort;
@@ -135,9 +135,7 @@ const LIMITS: &str = "
 #[test]
 fn lines_stay_within_the_limits(rt: HostRuntime) -> Result<(), Fail> {
     for row in LIMITS.trim().lines() {
-        let (times, row) = cut(row, "times:")?;
-        let (pattern, line) = cut(row, "=>")?;
-        let text = series(rt.alloc(), pattern, number(times)?)?;
+        let (text, pattern, line) = repeated(rt.alloc(), row)?;
         let read = read_trace(rt.alloc(), text.as_bytes());
         holds(&rt, read.is_ok() == (line == "0"), pattern);
     }

@@ -3,7 +3,7 @@ ghost use Rattle.std.specs.Prelude.{IfOk};
 ghost use Rattle.tp_value.specs.Read.{tree};
 ghost use Rattle.tp_value.specs.Shape.{HasShortLists};
 
-use crate::expected::{holds, same_bytes, same_number, same_text};
+use crate::expected::{holds, refused, same_bytes, same_number, same_text};
 use crate::making::{nested, series, sixes};
 use crate::tables::{cut, number, parts};
 use std::alloc::Global;
@@ -317,14 +317,12 @@ truth => NoValue { at: 3 }
 ";
 
 fn expect_refusal(rt: &(impl Abort + AllocGlobal), text: &str, refusal: &str) -> Result<(), Fail> {
-    match read_value(rt.alloc(), text.as_bytes(), 0) {
-        Ok(_) => return Err("a value".into()),
-        Err(answer) => {
-            let answer = format!(in rt.alloc(); "{answer:?}")?;
-            same_text(rt, answer.as_str(), refusal, text);
-        }
-    }
-    Ok(())
+    refused(
+        rt,
+        read_value(rt.alloc(), text.as_bytes(), 0),
+        refusal,
+        text,
+    )
 }
 
 #[test]

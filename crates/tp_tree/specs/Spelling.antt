@@ -92,11 +92,14 @@ abbrev mutual
   kind_spelling (choice_else b p q) =
       codes "if " ++ operand_spelling any_level b ++ codes " then " ++ operand_spelling chop_level p
       ++ codes " else " ++ operand_spelling any_level q
-  kind_spelling (while b p) = codes "while " ++ operand_spelling any_level b ++ codes " do " ++ operand_spelling any_level p
+  kind_spelling (while b p) =
+      codes "while " ++ operand_spelling any_level b ++ codes " do " ++ operand_spelling any_level p
   kind_spelling (repeat p b) =
       codes "repeat " ++ operand_spelling any_level p ++ codes " until "
       ++ operand_spelling any_level b
-  kind_spelling (for x e p) = (codes "for " ++ x ++ codes " < " ++ operand_spelling any_level e) ++ codes " do " ++ operand_spelling any_level p
+  kind_spelling (for x e p) =
+      (codes "for " ++ x ++ codes " < " ++ operand_spelling any_level e)
+      ++ codes " do " ++ operand_spelling any_level p
   kind_spelling (forall x e p) =
       (codes "forall " ++ x ++ codes " < " ++ operand_spelling any_level e) ++ codes " : "
       ++ operand_spelling any_level p
