@@ -102,7 +102,11 @@ impl Drop for Formula {
     fn drop(mut self) {
         'names: loop {
             match self {
-                Formula::Exists { name: _, lasting: _, body } => match Rc::try_unwrap(body) {
+                Formula::Exists {
+                    name: _,
+                    lasting: _,
+                    body,
+                } => match Rc::try_unwrap(body) {
                     Ok(inner) => self = inner,
                     Err(_) => return,
                 },
@@ -113,8 +117,18 @@ impl Drop for Formula {
                 Formula::IfMore(_) | Formula::IfEmpty(_) => return,
                 Formula::And(_) | Formula::If(_, _, _) | Formula::Chop(_, _) => return,
                 Formula::While(_, _) | Formula::Proj(_, _) => return,
-                Formula::For { name: _, from: _, to: _, body: _ } => return,
-                Formula::Forall { name: _, from: _, to: _, body: _ } => return,
+                Formula::For {
+                    name: _,
+                    from: _,
+                    to: _,
+                    body: _,
+                } => return,
+                Formula::Forall {
+                    name: _,
+                    from: _,
+                    to: _,
+                    body: _,
+                } => return,
                 Formula::Call(_, _) | Formula::Input(_, _) | Formula::Display(_) => return,
             }
         }
