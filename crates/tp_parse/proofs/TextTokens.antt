@@ -5,7 +5,7 @@ use Rattle.std.specs.Fmt.{decimal}
 use Rattle.std.specs.Char.{is_ascii_alphabetic, is_ascii_uppercase}
 use Rattle.std.proofs.lemmas.Bool.{eq-eqb}
 use Rattle.std.proofs.lemmas.Bool.Decides.{nat_tests}
-use Rattle.std.proofs.lemmas.Fmt.{decimal_by_steps}
+use Rattle.std.proofs.lemmas.Fmt.{decimal_by_steps_wide}
 use Rattle.std.proofs.lemmas.List.{drop-drop, drop_at, take_at, length-append}
 use Rattle.std.proofs.lemmas.List.Sums.{fold-append}
 use Rattle.std.proofs.lemmas.List.Folds.{prefix_len-append}
@@ -150,14 +150,14 @@ next_digit n ds h is =
       value = fold-append (λ i b. 10 * i + (b - 48)) 0 ds ((48 + d) ∷ []) ∙ (ap (λ i. 10 * i + ((48 + d) - 48)) is.value ∙ v);
     }
 
-number_text : (n : ℕ) → n < 2 ^ 64 → IsNumberText n (decimal n)
-number_text n h = decimal_by_steps IsNumberText one_digit next_digit n h
+number_text : (n : ℕ) → n < 10 ^ 64 → IsNumberText n (decimal n)
+number_text n h = decimal_by_steps_wide IsNumberText one_digit next_digit n h
 
 first_digit : (ds z : List ℕ) → is_digit (slice_index ds 0) ≡ true → is_digit (slice_index (ds ++ z) 0) ≡ true
 first_digit [] z e = absurd cc
 first_digit (d ∷ ds) z e = e
 
-limit_low : (n : ℕ) → n ≤ number_limit → n < 2 ^ 64
+limit_low : (n : ℕ) → n ≤ number_limit → n < 10 ^ 64
 limit_low n h = omega (arith, h)
 
 pub number_begins : (n : ℕ) → n ≤ number_limit → is_digit (slice_index (decimal n) 0) ≡ true
