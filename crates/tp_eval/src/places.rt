@@ -70,7 +70,7 @@ fn index_from(n: Number) -> Result<u32, Halt>
     if n < 0 {
         return Err(Halt::Faults(FaultKind::NoElement));
     }
-    if n > i64::from(INDEX_LIMIT) {
+    if n > Number::from(INDEX_LIMIT) {
         return Err(Halt::Passes(LimitKind::List));
     }
     Ok(n as u32)
@@ -183,7 +183,7 @@ fn length_at(path: &Path, store: &Store) -> Result<Value, Halt>
     ensures { AnswersEvaluation tree result (size_at store.now.facts (at_path path.now)) }
 {
     match store.shape(path) {
-        Some(Shape::Items(count)) => Ok(Value::Num(i64::from(count))),
+        Some(Shape::Items(count)) => Ok(Value::Num(Number::from(count))),
         Some(Shape::Num(_)) => Err(Halt::Faults(FaultKind::WrongKind)),
         Some(Shape::Truth(_)) => Err(Halt::Faults(FaultKind::WrongKind)),
         None => unkept_length(path, store),
@@ -209,7 +209,7 @@ pub fn length_of(value: &Value) -> Result<Value, Halt>
     match value {
         Value::Num(_) => Err(Halt::Faults(FaultKind::WrongKind)),
         Value::Truth(_) => Err(Halt::Faults(FaultKind::WrongKind)),
-        Value::List(all) => Ok(Value::Num(all.items.len() as i64)),
+        Value::List(all) => Ok(Value::Num(all.items.len() as Number)),
     }
 }
 
