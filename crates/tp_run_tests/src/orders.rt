@@ -102,7 +102,7 @@ define double(x, Y) = Y = x + x. run double(1, A) and double(A, B) and double(B,
 run A = 1 and A = 2 and empty.
 run A = B and empty.
 run always(more) and A = 1 and A gets A + A.
-run A = 9223372036854775807 and B = A + 1 and empty.
+run A = 170141183460469231731687303715884105727 and B = A + 1 and empty.
 ";
 
 #[test]

@@ -199,12 +199,12 @@ run A = 1 and A = 2.
 A, 9 /0 A=Num(1),
 Contradictory { state: 0, clash: Facts { kept: Fact { path: Path { var: VarId { number: 0, lasting: false }, at: Indices { items: [] } }, shape: Num(1) }, new: Fact { path: Path { var: VarId { number: 0, lasting: false }, at: Indices { items: [] } }, shape: Num(2) } } }
 
-run A = 9223372036854775807 + 1.
+run A = 170141183460469231731687303715884105727 + 1.
 9 states of 9 reductions
 A, 9 /0 A,
 Over { state: 0, limit: Number }
 
-run for i < 9223372036854775807 do empty.
+run for i < 170141183460469231731687303715884105727 do empty.
 9 states of 1000 reductions
 ?, 9 /0 ?,
 Over { state: 0, limit: Reductions }

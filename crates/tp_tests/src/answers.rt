@@ -6,7 +6,7 @@ use std::process::Abort;
 use std::test::Fail;
 use tp_kernel::FaultKind;
 use tp_scene::{Cell, Clash};
-use tp_value::{Fact, NoMemory, Shape};
+use tp_value::{Fact, NoMemory, Number, Shape};
 
 fn expect_cell(rt: &(impl Abort + AllocGlobal), cell: &Cell) -> Result<(), Fail> {
     let copy = cell.copy()?;
@@ -48,7 +48,7 @@ fn fact(alloc: Global, shape: Shape) -> Result<Fact, NoMemory> {
     Ok(Fact { path, shape })
 }
 
-fn numbers(alloc: Global, kept: i64, new: i64) -> Result<Clash, NoMemory> {
+fn numbers(alloc: Global, kept: Number, new: Number) -> Result<Clash, NoMemory> {
     let kept = fact(alloc, Shape::Num(kept))?;
     let new = fact(alloc, Shape::Num(new))?;
     Ok(Clash::Facts { kept, new })

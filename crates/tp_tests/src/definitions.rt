@@ -6,7 +6,7 @@ use std::alloc::Global;
 use std::rc::Rc;
 use std::test::Fail;
 use tp_kernel::{Def, Defs, Expr, Exprs, Formula};
-use tp_value::{NoMemory, Text, Texts};
+use tp_value::{NoMemory, Number, Text, Texts};
 
 // The parameters of each definition, in a row, and its expression, if any, in the spelling of the outcomes.
 const DEFINITIONS: &str = "
@@ -118,14 +118,14 @@ fn indices_of_a_place_call(rt: HostRuntime) -> Result<(), Fail> {
 }
 
 // A call of the definition with this number, for this count.
-fn counted(alloc: Global, number: u32, count: i64) -> Result<Expr, NoMemory> {
+fn counted(alloc: Global, number: u32, count: Number) -> Result<Expr, NoMemory> {
     let items = vec![in alloc; Expr::Number(count)]?;
     Ok(Expr::Call(number, Exprs { items }))
 }
 
 // How many calls deep the sixth definition calls itself, and how far the seventh, which calls itself twice. It makes one call fewer than the
 // power of 2 of one more.
-const DEPTHS: [(u32, i64, &str); 5] = [
+const DEPTHS: [(u32, Number, &str); 5] = [
     (5, 600, "0"),
     (5, 998, "0"),
     (5, 999, "over Calls"),

@@ -11,7 +11,7 @@ use std::test::Fail;
 use tp_eval::{Outcome, PlaceOutcome, eval, is_place, place};
 use tp_kernel::{Binding, Defs, Env, Expr, Exprs, Op2};
 use tp_store::Store;
-use tp_value::{NoMemory, Value, VarId};
+use tp_value::{NoMemory, Number, Value, VarId};
 
 fn no_definitions(alloc: Global) -> Defs {
     Defs {
@@ -30,7 +30,7 @@ fn put_length(alloc: Global, store: &mut Store, at: &[u32], length: u32) -> Resu
 }
 
 // Says which number the item at these indices of A is.
-fn put_number(alloc: Global, store: &mut Store, at: &[u32], n: i64) -> Result<(), Fail>
+fn put_number(alloc: Global, store: &mut Store, at: &[u32], n: Number) -> Result<(), Fail>
     requires { store.old.variables ≡ global_variable (65 ∷ []) ∷ [] }
     ensures { store.new.variables ≡ store.old.variables }
 {
@@ -58,14 +58,14 @@ fn environment(alloc: Global) -> Result<Env, NoMemory> {
     Ok(Env { items })
 }
 
-// The expression of one letter: a digit, the greatest number `M`, the least `i64` `L`, 65,535 `x` and 65,536 `y`, the truth values `t` and
+// The expression of one letter: a digit, the greatest number `M`, the least `i128` `L`, 65,535 `x` and 65,536 `y`, the truth values `t` and
 // `f`, the empty list `e`, a list of 65,536 items `F`, lists that are 99 and 100 deep `u` and `v`, the variable `A`, and the bound names `b`, `c`
 // and `d`.
 fn leaf(alloc: Global, letter: u8) -> Result<Option<Expr>, NoMemory> {
     let e = match letter {
-        b'0'..=b'9' => Expr::Number((letter - 48) as i64),
-        b'M' => Expr::Number(i64::MAX),
-        b'L' => Expr::Number(i64::MIN),
+        b'0'..=b'9' => Expr::Number(Number::from(letter - 48)),
+        b'M' => Expr::Number(Number::MAX),
+        b'L' => Expr::Number(Number::MIN),
         b'x' => Expr::Number(65_535),
         b'y' => Expr::Number(65_536),
         b't' => Expr::Truth(true),
@@ -264,18 +264,31 @@ fn place_text(alloc: Global, e: &Expr) -> Result<String, Fail> {
 const VALUES: &str = "
 L => over Number
 L~ => over Number
-M~ => -9223372036854775807
+M~ => -170141183460469231731687303715884105727
 M2* => over Number
-M1* => 9223372036854775807
+M1* => 170141183460469231731687303715884105727
 12# => true
 22# => false
 1t# => true
 u1, => list of 2
 v1, => over List
-M0+ => 9223372036854775807
+M0+ => 170141183460469231731687303715884105727
 M1+ => over Number
-M~0- => -9223372036854775807
+M~0- => -170141183460469231731687303715884105727
 M~1- => over Number
+MM* => over Number
+M2/ => 85070591730234615865843651857942052863
+M~2/ => -85070591730234615865843651857942052864
+M2~/ => -85070591730234615865843651857942052864
+M~2~/ => 85070591730234615865843651857942052863
+M~1~/ => 170141183460469231731687303715884105727
+M1~/ => -170141183460469231731687303715884105727
+MM~/ => -1
+M~2% => 1
+M2~% => -1
+M~2~% => -1
+M~1~% => 0
+1M~% => -170141183460469231731687303715884105726
 23~* => -6
 7~2/ => -4
 7~2% => 1

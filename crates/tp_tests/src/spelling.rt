@@ -3,7 +3,7 @@
 use std::alloc::Global;
 use std::rc::Rc;
 use tp_kernel::{Expr, Formula, Op2};
-use tp_value::{NoMemory, Text};
+use tp_value::{NoMemory, Number, Text};
 
 fn sign(op: Op2) -> &'static str {
     match op {
@@ -165,7 +165,7 @@ fn append_head(alloc: Global, e: &Expr, out: &mut Text) -> Result<(), NoMemory> 
     }
 }
 
-fn append_range(alloc: Global, name: &Text, from: i64, out: &mut Text) -> Result<(), NoMemory> {
+fn append_range(alloc: Global, name: &Text, from: Number, out: &mut Text) -> Result<(), NoMemory> {
     out.append(b" ")?;
     out.append(name.as_slice())?;
     out.append(format!(in alloc; " {from}")?.as_bytes())

@@ -9,7 +9,7 @@ use std::alloc::Global;
 use std::process::Abort;
 use std::test::Fail;
 use tp_store::{AddRefusal, Known, Store};
-use tp_value::{Facts, NoMemory, Path, Text, Value};
+use tp_value::{Facts, NoMemory, Number, Path, Text, Value};
 
 // What is added: a number, a truth value, a list of so many numbers, a number in so many lists, or only the length of a list.
 #[derive(Clone, Copy)]
@@ -25,7 +25,7 @@ use Added::{Length, Nested, Num, Sixes, Truth};
 
 fn value(alloc: Global, added: Added) -> Result<Value, NoMemory> {
     match added {
-        Added::Num(n) => Ok(Value::Num(n as i64)),
+        Added::Num(n) => Ok(Value::Num(Number::from(n))),
         Added::Truth(b) => Ok(Value::Truth(b)),
         Added::Sixes(count) => sixes(alloc, count),
         Added::Nested(depth) => nested(alloc, depth),

@@ -58,6 +58,7 @@ state 0: L=< 1 ,<true>> M=<>; => 0: L[]Items(2) L[0]Num(1) L[1]Items(1) L[1, 0]T
 state 0: A=1;show 1;reductions 8;residual: len(1) and A = 2;state 1:;show;state limit: 2 => 0: A[]Num(1) 1:
 state 0: A=0\r;show A=1\r;state 1: A=1\r;finished: length 1\r => 0: A[]Num(0) 1: A[]Num(1)
 state 0: L[007]=-01 |M[00]|=002;show => 0: L[7]Num(-1) M[0]Items(2)
+state 0: A=170141183460469231731687303715884105727 B=-170141183460469231731687303715884105727 C=-9223372036854775808; => 0: A[]Num(170141183460469231731687303715884105727) B[]Num(-170141183460469231731687303715884105727) C[]Num(-9223372036854775808)
 state 0: A=1 |L|=1 A=1 L=<5>; => 0: A[]Num(1) L[]Items(1) A[]Num(1) L[]Items(1) L[0]Num(5)
 ";
 
@@ -80,7 +81,7 @@ state 0: |L|=2 L[2]=1; => 1
 state 0: L[0]=1 L=true; => 1
 state 0: L[-1]=1; => 1
 state 0: |L|=-1; => 1
-state 0: A=9223372036854775808; => 1
+state 0: A=170141183460469231731687303715884105728; => 1
 state 0: A=0;state 2: A=1; => 2
 state 0: A=0;;state 1: A=1; => 2
 state 0: A=0;reductions;state 1: A=1; => 2
