@@ -32,7 +32,8 @@ def _rows(first, second):
     return [(place, first.get(place), second.get(place)) for place in places]
 
 
-def _end_line(run):
+def end_line(run):
+    """The line that ends a run, or what stands for it where the text was cut off."""
     return run.end.line if run.end else "no end line"
 
 
@@ -43,7 +44,7 @@ def first_difference(first, second):
         if told_one != told_two:
             return Difference(one.number, _rows(told_one, told_two))
     common = min(len(first.states), len(second.states))
-    ends = ("end", _end_line(first), _end_line(second))
+    ends = ("end", end_line(first), end_line(second))
     if len(first.states) == len(second.states):
         return None if ends[1] == ends[2] else Difference(None, [ends])
     longer = (first if len(first.states) > common else second).states[common]

@@ -108,8 +108,9 @@ def certain(phrase):
 
 def is_alone(program, name):
     """Whether a variable of the program stands in one place only and isn't set there. One letter is no slip."""
-    owner = program.owner[id(name)]
-    return owner is None and len(name.word) > 1 and len(program.uses[owner, name.word]) == 1 and name not in program.sets
+    if program.owner[id(name)] is not None or len(name.word) < 2 or name in program.sets:
+        return False
+    return len(program.uses[None, name.word]) == 1
 
 
 def used_once(program):
@@ -255,7 +256,7 @@ def open_chop(program):
 
 
 def open_projection(program):
-    return open_operator(program, "proj", "the proj takes all these conjuncts; put what belongs together into parentheses")
+    return open_operator(program, "proj", "the `proj` takes all these conjuncts; put what belongs together into parentheses")
 
 
 # --- ends

@@ -8,7 +8,9 @@ each example with that of what the program prints of it. Python 3.9 or later, wi
 import re
 import sys
 
-TOKEN = re.compile(r"/\*.*?\*/|[ \t\r\n]+|([0-9]+)|([A-Za-z][A-Za-z0-9_]*)|(<=|>=|<>|:=|<-|[(){}\[\]<>=+\-*;,.:|])", re.S)
+TOKEN = re.compile(
+    r"/\*.*?\*/|[ \t\r\n]+|([0-9]+)|([A-Za-z][A-Za-z0-9_]*)|(<=|>=|<>|:=|<-|[(){}\[\]<>=+\-*;,.:|])", re.S
+)
 SUM, PLAIN, CHOP = 4, 0, 10
 RECURSION_LIMIT = 10_000  # a phrase is 200 high at most, and each level takes some calls
 # the infix operators of each level, and to which side they group; those of level 5 stand alone

@@ -1,4 +1,4 @@
-# Completion of tempura for bash.
+# Completion of tempura, and of the tools over its runs, for bash.
 
 _tempura() {
     local word=${COMP_WORDS[COMP_CWORD]} before=${COMP_WORDS[COMP_CWORD - 1]} first at
@@ -49,4 +49,25 @@ _tempura() {
     esac
 }
 
+# what a tool can be told stands in its page
+_tempura_tool() {
+    local word=${COMP_WORDS[COMP_CWORD]} before=${COMP_WORDS[COMP_CWORD - 1]}
+    COMPREPLY=()
+    if [[ $word == = ]]; then
+        word=
+    elif [[ $before == = ]]; then
+        before=${COMP_WORDS[COMP_CWORD - 2]}
+    fi
+    case $before:$word in
+    --use:*) mapfile -t COMPREPLY < <(compgen -W "bits lists signals" -- "$word") ;;
+    --ports:* | --states:* | --random:* | --seed:*) ;;
+    *:-*)
+        mapfile -t COMPREPLY < <(compgen -W "$("${COMP_WORDS[0]}" --help 2>/dev/null |
+            sed -n 's/^  \(--[a-z]*\) .*/\1/p')" -- "$word")
+        ;;
+    *) mapfile -t COMPREPLY < <(compgen -f -- "$word") ;;
+    esac
+}
+
 complete -o filenames -F _tempura tempura
+complete -o filenames -F _tempura_tool tempura-core tempura-diff tempura-lint tempura-sweep

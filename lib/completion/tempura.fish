@@ -1,4 +1,4 @@
-# Completion of tempura for fish.
+# Completion of tempura, and of the tools over its runs, for fish.
 
 function __tempura_first
     set -l words (commandline -opc)
@@ -34,3 +34,21 @@ complete -c tempura -n '__tempura_has run print --cases' -l use -x -a 'bits list
 complete -c tempura -n '__tempura_has run print' -s e -x -d 'the program itself'
 complete -c tempura -n '__tempura_has explain' -a '(tempura explain 2>/dev/null | string split " ")'
 complete -c tempura -n '__tempura_has --attest' -a '(__fish_complete_directories)'
+
+# the tools
+for tool in tempura-core tempura-diff tempura-lint tempura-sweep
+    complete -c $tool -F
+    complete -c $tool -l help -d 'print a page'
+end
+for tool in tempura-core tempura-lint tempura-sweep
+    complete -c $tool -l use -x -a 'bits lists signals' -d 'put the definitions of a library in front'
+end
+complete -c tempura-core -l inputs -r -F -d 'the file of the table of inputs'
+complete -c tempura-core -l states -x -d 'settle at most so many states'
+complete -c tempura-core -l print -d 'print the program of these conjuncts alone'
+complete -c tempura-sweep -l ports -x -d 'the ports with their values'
+complete -c tempura-sweep -l states -x -d 'how many states have inputs'
+complete -c tempura-sweep -l random -x -d 'so many tables by chance'
+complete -c tempura-sweep -l seed -x -d 'the number to choose by'
+complete -c tempura-sweep -l same -r -F -d 'run another program too, and compare'
+complete -c tempura-sweep -l save -r -F -d 'write the first table that fails'
