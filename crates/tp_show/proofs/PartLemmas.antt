@@ -14,7 +14,7 @@ use Rattle.tp_show.specs.Texts.{global_name, index_text, path_text}
 use Rattle.tp_show.specs.Parts.{LinePartTree, valued, measured, part_text, spaced_text}
 use Rattle.tp_show.specs.Line.{shown_value}
 use Rattle.tp_show.specs.Told.{is_word_byte, AreNames, FitsIn64Bits, IsPartOf, IsPartInRange, ArePartsInRange}
-use Rattle.tp_show.proofs.ReadWordLemmas.{EndsWord, word_read, decimal_is_word, rest_is, heads_apart}
+use Rattle.tp_show.proofs.ReadWordLemmas.{EndsWord, word_read, is_low, decimal_is_word, rest_is, heads_apart}
 use Rattle.tp_show.proofs.ReadValueLemmas.{value_read}
 
 -- a place of one of the variables
@@ -52,7 +52,7 @@ indices_read c apart (i ∷ a) (j ∷ b) r s p q e =
     let pieces = sym (index_is i (flat_map index_text a) (c ∷ r)) ∙ (e ∙ index_is j (flat_map index_text b) (c ∷ s)) in
     let low = All-head FitsIn64Bits i a p in
     let high = All-head FitsIn64Bits j b q in
-    let one = word_read (decimal i) (decimal j) _ _ (decimal_is_word i low) (decimal_is_word j high) refl refl (rest_is _ _ _ _ pieces) in
+    let one = word_read (decimal i) (decimal j) _ _ (decimal_is_word i (is_low i low)) (decimal_is_word j (is_low j high)) refl refl (rest_is _ _ _ _ pieces) in
     let more = indices_read c apart a b r s (All-tail FitsIn64Bits i a p) (All-tail FitsIn64Bits j b q) (rest_is _ _ _ _ one.1) in
     (ap₂ (λ x xs. x ∷ xs) (decimal_injective i j low high one.0) more.0, more.1)
 
@@ -103,7 +103,7 @@ part_read names (measured p m) (valued q u) r s are x y h k v w e = absurd (plac
 part_read names (measured p m) (measured q n) r s are x y h k v w e =
     let pieces = sym (measured_is names p m r) ∙ (e ∙ measured_is names q n s) in
     let path = path_read 124 refl refl names p q _ _ are (record { variable = x; indices = h.0 }) (record { variable = y; indices = k.0 }) (rest_is _ _ _ _ pieces) in
-    let number = word_read (decimal m) (decimal n) r s (decimal_is_word m h.1) (decimal_is_word n k.1) v w (rest_is _ _ _ _ path.1) in
+    let number = word_read (decimal m) (decimal n) r s (decimal_is_word m (is_low m h.1)) (decimal_is_word n (is_low n k.1)) v w (rest_is _ _ _ _ path.1) in
     (ap₂ measured path.0 (decimal_injective m n h.1 k.1 number.0), number.1)
 
 -- after a part comes a space or a line feed

@@ -18,7 +18,7 @@ use Rattle.tp_show.specs.Parts.{LinePartTree, spaced_text}
 use Rattle.tp_show.specs.Line.{ToldState, shown_value, show_line, told_lines, told_text, told_of, pictures_text, picture_lines}
 use Rattle.tp_show.specs.EndLine.{end_line}
 use Rattle.tp_show.specs.Told.{AreNames, AreShowsInRange, IsToldOf, IsLastTurn, IsEndLine, TextsAreReadOnce, TextsTell, IsStateOf, Shown, shown_states, TextShowsStates}
-use Rattle.tp_show.proofs.ReadWordLemmas.{word_read, decimal_is_word, rest_is, decimal_low, low_apart, heads_apart}
+use Rattle.tp_show.proofs.ReadWordLemmas.{word_read, is_low, decimal_is_word, rest_is, decimal_low, low_apart, heads_apart}
 use Rattle.tp_show.proofs.PartLemmas.{parts_read, values_read}
 use Rattle.tp_show.proofs.ToldLemmas.{same_facts, parts_tell_facts, parts_of_variables}
 
@@ -60,7 +60,7 @@ told_is names t r = pieces (decimal t.state) (flat_map (spaced_text names) t.par
 told_read : (names : List (List ℕ)) (t u : ToldState) (r s : List ℕ) → AreNames names → IsToldOf names t → IsToldOf names u → EndsShows r → EndsShows s → told_lines names t ++ r ≡ told_lines names u ++ s → (t ≡ u) × (r ≡ s)
 told_read names t u r s are h k v w e =
     let pieces = sym (told_is names t r) ∙ (e ∙ told_is names u s) in
-    let number = word_read (decimal t.state) (decimal u.state) _ _ (decimal_is_word t.state h.range.state) (decimal_is_word u.state k.range.state) refl refl (ap (drop 6) pieces) in
+    let number = word_read (decimal t.state) (decimal u.state) _ _ (decimal_is_word t.state (is_low t.state h.range.state)) (decimal_is_word u.state (is_low u.state k.range.state)) refl refl (ap (drop 6) pieces) in
     let parts = parts_read names t.parts u.parts _ _ are h.variables k.variables h.range.parts k.range.parts (rest_is _ _ _ _ number.1) in
     let shows = shows_read t.shows u.shows r s h.range.shows k.range.shows v w parts.1 in
     let make : ℕ → List LinePartTree → List (List Tree) → ToldState = λ n ps ss. record { state = n; parts = ps; shows = ss } in
@@ -90,7 +90,7 @@ turn_apart names known reductions (Undetermined n cell) h = other_letter names _
 turn_apart names known reductions (InputMissing n port) h = other_letter names _ _ _ refl refl
 turn_apart names known reductions (Over n kind) h = limit_apart names known reductions n kind
 -- 108 is the `l` of `state limit`, where a state's line has a digit
-turn_apart names known reductions (StateLimit n) h = (refl, λ t r low e. low_apart (decimal t.state) _ _ 108 (decimal_low t.state low) (omega arith) (sym (ap (drop 6) (e ∙ told_is names t r))))
+turn_apart names known reductions (StateLimit n) h = (refl, λ t r low e. low_apart (decimal t.state) _ _ 108 (decimal_low t.state (is_low t.state low)) (omega arith) (sym (ap (drop 6) (e ∙ told_is names t r))))
 
 end_apart : (names : List (List ℕ)) (end : List ℕ) → IsEndLine names end → IsApart names end
 end_apart names end h = subst (IsApart names) (sym h.4) (turn_apart names h.0 h.1 h.2 h.3)

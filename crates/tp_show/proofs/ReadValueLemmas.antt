@@ -1,18 +1,17 @@
 -- Reading the text of a value back.
 use Rattle.std.proofs.Common.{◌≡◌, ◌≤◌, ℤ, ℕ, true, false, List, ◌∷◌, ◌++◌, drop, codes, refl, sym, ap, ap₂, ◌∙◌, arith, append_assoc}
 use Rattle.std.specs.Fmt.{signed_decimal}
-use Rattle.std.proofs.lemmas.Fmt.{signed_decimal_injective}
 use Rattle.std.specs.Prelude.{FitsSigned}
 use Rattle.tp_value.specs.Number.{number_width}
 use Rattle.tp_value.specs.Tree.{Tree, Trees, num, truth, list, nil, cons}
 use Rattle.tp_value.specs.Range.{HasMachineNumbers, HaveMachineNumbers}
 use Rattle.tp_value.specs.Written.{text_of, items_text, later_text}
-use Rattle.tp_show.proofs.ReadWordLemmas.{EndsWord, word_read, signed_is_word, rest_is, heads_apart, signed_low, low_apart}
+use Rattle.tp_show.proofs.ReadWordLemmas.{EndsWord, word_read, signed_is_word, rest_is, heads_apart, signed_low, signed_apart, low_apart}
 
 number_read : (m n : ℤ) (r s : List ℕ) → FitsSigned number_width m → FitsSigned number_width n → EndsWord r → EndsWord s → signed_decimal m ++ r ≡ signed_decimal n ++ s → (num m ≡ num n) × (r ≡ s)
 number_read m n r s p q u v e =
     let w = word_read (signed_decimal m) (signed_decimal n) r s (signed_is_word m p.sfits) (signed_is_word n q.sfits) u v e in
-    (ap num (signed_decimal_injective m n p.sfits q.sfits w.0), w.1)
+    (ap num (signed_apart m n p.sfits q.sfits w.0), w.1)
 
 -- a number's text begins with no letter and no bracket
 number_apart : (n : ℤ) (r xs : List ℕ) (c : ℕ) → FitsSigned number_width n → 58 ≤ c → signed_decimal n ++ r ≡ c ∷ xs → ⊥

@@ -91,7 +91,7 @@ fn append_picture(out: &mut Text, picture: &Picture, globals: &Globals) -> Resul
 
 /// Appends the line of a settled state, with its number, and for each global variable in order its value or what is known of it; and
 /// a line for each list of values that the state shows. The picture's parts are those of its facts. What was written of it are
-/// numbers of 64 bits. On a refusal the text is unchanged.
+/// numbers of 128 bits. On a refusal the text is unchanged.
 pub fn picture_text(picture: &Picture, globals: &Globals, out: &mut Text) -> Result<(), NoMemory>
     requires { plain_parts picture.now.parts ≡ line_parts picture.now.facts }
     ensures text { OnOk result (out.new ≡ out.old ++ picture_lines globals.now picture.now) }
