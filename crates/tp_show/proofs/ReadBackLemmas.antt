@@ -18,8 +18,8 @@ use Rattle.tp_show.specs.Parts.{LinePartTree, spaced_text}
 use Rattle.tp_show.specs.Line.{ToldState, shown_value, show_line, told_lines, told_text, told_of, pictures_text, picture_lines}
 use Rattle.tp_show.specs.EndLine.{end_line}
 use Rattle.tp_show.specs.Told.{AreNames, AreShowsInRange, IsToldOf, IsLastTurn, IsEndLine}
-use Rattle.tp_show.specs.ToldLaws.{TextsAreReadOnce, TextsTell, IsStateOf, Shown, shown_states, TextShowsStates}
 use Rattle.tp_show.proofs.ReadWordLemmas.{word_read, is_low, decimal_is_word, rest_is, decimal_low, low_apart, heads_apart}
+use Rattle.tp_show.specs.ToldLaws.{IsStateOf, Shown, TextShowsStates, TextsAreReadOnce, TextsTell, shown_states}
 use Rattle.tp_show.proofs.PartLemmas.{parts_read, values_read}
 use Rattle.tp_show.proofs.ToldLemmas.{same_facts, parts_tell_facts, parts_of_variables}
 
