@@ -178,7 +178,7 @@ module _ (words : List (List ℕ)) (held : Option Held) (plan : Plan) (fits : Pr
       )
   closed_by mid new answer store status NoMemory e has c = (
     ended_text beside plan e.pictures answer e.run,
-    inr (record { plan = plan; pictures = e.pictures; asked = asked; run = (settles_by plan beside e.pictures answer e.run).0; written = settled_as (settles_by plan beside e.pictures answer e.run).0 _ (sym (settles_by plan beside e.pictures answer e.run).1) }),
+    inr (record { plan = plan; pictures = e.pictures; asked = asked; run = (settles_by plan beside e.pictures answer e.run).0; fits = fits; written = settled_as (settles_by plan beside e.pictures answer e.run).0 _ (sym (settles_by plan beside e.pictures answer e.run).1) }),
     rw c e.wrote,
   )
   closed_by mid new answer store status result e has c = closed_whole mid new answer store status result e has c.0 c.1
@@ -198,7 +198,7 @@ module _ (words : List (List ℕ)) (held : Option Held) (plan : Plan) (fits : Pr
       let state = written_state beside plan.program part.picture (next_moment to) in
       let settles = settles_with plan beside from to old now part.answer part.picture h part.turned part.settled in (
         before_it ++ state,
-        inl (inr (record { plan = plan; pictures = h.pictures ++ part.picture ∷ []; asked = asked; run = settles.0; written = settled_as settles.0 _ (sym settles.1) })),
+        inl (inr (record { plan = plan; pictures = h.pictures ++ part.picture ∷ []; asked = asked; run = settles.0; fits = fits; written = settled_as settles.0 _ (sym settles.1) })),
         (length before_it + part.kept, Wrote-part old now new _ _ part.kept h.wrote part.wrote),
       )
 
@@ -215,6 +215,7 @@ module _ (words : List (List ℕ)) (held : Option Held) (plan : Plan) (fits : Pr
       pictures = made.settled.pictures;
       asked = asked;
       run = inl (made.settled.next, made.settled.leads);
+      fits = fits;
       written = settled_as (inl (made.settled.next, made.settled.leads)) _ refl;
     }),
     rw made.stopped made.settled.wrote,

@@ -73,7 +73,7 @@ module _ (plan : Plan) where
       All-cons HasFacts p ps (after_picks n m h.1.last h.1.picks p sound h.1.goes.closes.leads h.1.picture_is.facts)
       (states_facts (suc n) h.0 last ps (next_sound scene_laws plan n m h.0 p sound h.1 (suc n)) h.2)
 
-  leads_facts : (ps : List Picture) (m : Moment) → ProgramFits plan.program → LeadsTo plan ps m → All HasFacts ps
+  pub leads_facts : (ps : List Picture) (m : Moment) → ProgramFits plan.program → LeadsTo plan ps m → All HasFacts ps
   leads_facts ps m fits h = states_facts 0 (first_moment plan.program.globals plan.program.main) m ps (first_sound plan fits) h
 
   pub run_facts : (ps : List Picture) (answer : Turn) → ProgramFits plan.program → RunEndsWith plan ps answer → All HasFacts ps

@@ -15,6 +15,8 @@ pub mod TraceLemmas
 pub mod TracedLemmas
 pub mod TracedOnce
 pub mod TracedTextLemmas
+pub mod LineTexts
+pub mod LastLineLemmas
 pub mod SameText
 pub mod EachRunLemmas
 pub mod OrderLemmas

@@ -66,6 +66,10 @@ module _ (source : List ℕ) (plan : Plan) (is : IsProgram source plan.program) 
   pub program_printable : ProgramIsPrintable plan.program
   program_printable = checked_programs_are_printable is.tree plan.program is.checked (each_is IsVariableName IsOneLine one_line (source_names is.tree) source_variables)
 
+pub inputs_printable : (held : Option Held) (files : Held) → held ≡ Some files → (name : Option (List ℕ)) (table : InputLines) → HasInputs name held table → InputsArePrintable table
+inputs_printable held files told None table h = subst InputsArePrintable (sym h) tt
+inputs_printable held files told (Some name) table h = tables_are_printable (bytes_of files name) table (h files told).1
+
 -- ---- numbers of states
 
 count_states : (plan : Plan) (n : ℕ) (m : Moment) (ps : List Picture) (last : Moment) → StatesLead plan n m ps last → CountFrom n ps
@@ -134,15 +138,11 @@ module _ (words : List (List ℕ)) (held : Option Held) (old new : Option (List 
     variable_names : AreVariableNames names
     variable_names = record { each = global_variables (bytes_of files run.asked.wanted.file) run.plan is_program; apart = run.names.apart }
 
-    inputs_printable : (name : Option (List ℕ)) (table : InputLines) → HasInputs name held table → InputsArePrintable table
-    inputs_printable None table h = subst InputsArePrintable (sym h) tt
-    inputs_printable (Some name) table h = tables_are_printable (bytes_of files name) table (h files told).1
-
     program_made : ProgramIsPrintable run.plan.program
     program_made = program_printable (bytes_of files run.asked.wanted.file) run.plan is_program
 
     inputs_made : InputsArePrintable run.plan.inputs
-    inputs_made = inputs_printable run.asked.wanted.inputs run.plan.inputs run.asked.inputs
+    inputs_made = inputs_printable held files told run.asked.wanted.inputs run.plan.inputs run.asked.inputs
 
     printable : RunIsPrintable run.plan run.pictures run.run.answer run.run.run
     printable = runs_are_printable run.plan program_made inputs_made run.pictures run.run.answer run.run.run

@@ -83,7 +83,7 @@ module _ (beside : Beside) (plan : Plan) where
   states_are n m [] last leads = refl
   states_are n m (p ∷ ps) last leads = ap₂ (λ a b. a ++ b) (state_printed beside plan.program p (Some leads.0)) (states_are (suc n) leads.0 ps last leads.2)
 
-  lead_is : (ps : List Picture) (m : Moment) (leads : LeadsTo plan ps m) → lead_text beside plan ps m leads ≡ printed_states_text names (lead_printed beside plan ps m leads)
+  pub lead_is : (ps : List Picture) (m : Moment) (leads : LeadsTo plan ps m) → lead_text beside plan ps m leads ≡ printed_states_text names (lead_printed beside plan ps m leads)
   lead_is ps m leads = states_are 0 (first_moment names plan.program.main) ps m leads
 
   pub run_is : (ps : List Picture) (answer : Turn) (end : RunEndsWith plan ps answer) → ended_text beside plan ps answer end ≡ printed_states_text names (run_printed beside plan ps answer end)
@@ -104,7 +104,7 @@ module _ (beside : Beside) (plan : Plan) where
   states_pictures n m [] last leads = refl
   states_pictures n m (p ∷ ps) last leads = ap (λ l. p ∷ l) (states_pictures (suc n) leads.0 ps last leads.2)
 
-  lead_pictures : (ps : List Picture) (m : Moment) (leads : LeadsTo plan ps m) → map picture_of (lead_printed beside plan ps m leads) ≡ ps
+  pub lead_pictures : (ps : List Picture) (m : Moment) (leads : LeadsTo plan ps m) → map picture_of (lead_printed beside plan ps m leads) ≡ ps
   lead_pictures ps m leads = states_pictures 0 (first_moment names plan.program.main) ps m leads
 
   pictures_one_more : (xs : List PrintedState) (s : PrintedState) → map picture_of (xs ++ s ∷ []) ≡ map picture_of xs ++ s.picture ∷ []
@@ -148,7 +148,7 @@ module _ (beside : Beside) (plan : Plan) where
         let next = next_printable plan program inputs n m leads.0 p h leads.1 in
         All-cons HasTraceLines (printed_state beside plan.program p (Some leads.0)) (states_printed beside plan (suc n) leads.0 ps last leads.2) (next_further beside p leads.0 next) (states_further (suc n) leads.0 ps last leads.2 next)
 
-    lead_further : (ps : List Picture) (m : Moment) (leads : LeadsTo plan ps m) → All HasTraceLines (lead_printed beside plan ps m leads)
+    pub lead_further : (ps : List Picture) (m : Moment) (leads : LeadsTo plan ps m) → All HasTraceLines (lead_printed beside plan ps m leads)
     lead_further ps m leads = states_further 0 (first_moment names plan.program.main) ps m leads (begins_printable plan program inputs)
 
     pub run_further : (ps : List Picture) (answer : Turn) (end : RunEndsWith plan ps answer) → All HasTraceLines (run_printed beside plan ps answer end)

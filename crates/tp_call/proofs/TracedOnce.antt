@@ -32,7 +32,7 @@ abbrev NotFeed : ℕ → Type 0
 NotFeed b = b ≢ 10
 
 -- what stands up to the first line feed, and behind it
-first_feed : (xs ys r s : List ℕ) → IsOneLine xs → IsOneLine ys → xs ++ 10 ∷ r ≡ ys ++ 10 ∷ s → (xs ≡ ys) × (r ≡ s)
+pub first_feed : (xs ys r s : List ℕ) → IsOneLine xs → IsOneLine ys → xs ++ 10 ∷ r ≡ ys ++ 10 ∷ s → (xs ≡ ys) × (r ≡ s)
 first_feed [] [] r s h k e = (refl, cc e)
 first_feed [] (y ∷ ys) r s h k e = absurd (All-head NotFeed y ys k (let same : 10 ≡ y = cc e in sym same))
 first_feed (x ∷ xs) [] r s h k e = absurd (All-head NotFeed x xs h (let same : x ≡ 10 = cc e in same))
@@ -43,10 +43,10 @@ first_feed (x ∷ xs) (y ∷ ys) r s h k e =
     (ap₂ (λ a b. a ∷ b) same more.0, more.1)
 
 -- a line with its feed, and what follows
-fed_first : (line rest : List ℕ) → fed_line line ++ rest ≡ line ++ 10 ∷ rest
+pub fed_first : (line rest : List ℕ) → fed_line line ++ rest ≡ line ++ 10 ∷ rest
 fed_first line rest = append_assoc line (10 ∷ []) rest
 
-no_line : (line rest : List ℕ) → fed_line line ++ rest ≡ [] → ⊥
+pub no_line : (line rest : List ℕ) → fed_line line ++ rest ≡ [] → ⊥
 no_line [] rest e = cc e
 no_line (b ∷ line) rest e = cc e
 
@@ -61,16 +61,16 @@ same_lines (x ∷ xs) (y ∷ ys) h k e =
 -- ---- the lines of a state
 
 -- without their line feeds
-abbrev state_words : (names : List (List ℕ)) → ToldState → List ℕ
+abbrev pub state_words : (names : List (List ℕ)) → ToldState → List ℕ
 state_words names told = state_opening told.state ++ flat_map (spaced_text names) told.parts
 
-abbrev show_words : List Tree → List ℕ
+abbrev pub show_words : List Tree → List ℕ
 show_words ts = codes "show" ++ flat_map shown_value ts
 
-abbrev told_words : (names : List (List ℕ)) → ToldState → List (List ℕ)
+abbrev pub told_words : (names : List (List ℕ)) → ToldState → List (List ℕ)
 told_words names told = state_words names told ∷ map show_words told.shows
 
-abbrev all_words : (names : List (List ℕ)) → TracedState → List (List ℕ)
+abbrev pub all_words : (names : List (List ℕ)) → TracedState → List (List ℕ)
 all_words names s = told_words names s.told ++ s.further
 
 shows_fed : (shows : List (List Tree)) → flat_map show_line shows ≡ flat_map fed_line (map show_words shows)
@@ -83,7 +83,7 @@ told_fed names told = ap₂ (λ a b. a ++ b) (pieces (decimal told.state) (flat_
     pieces : (number parts : List ℕ) → codes "state " ++ number ++ codes ":" ++ parts ++ codes "\n" ≡ ((codes "state " ++ (number ++ codes ":")) ++ parts) ++ codes "\n"
     pieces number parts = simp append_assoc
 
-traced_fed : (names : List (List ℕ)) (states : List TracedState) → traced_text names states ≡ flat_map fed_line (flat_map (all_words names) states)
+pub traced_fed : (names : List (List ℕ)) (states : List TracedState) → traced_text names states ≡ flat_map fed_line (flat_map (all_words names) states)
 traced_fed names [] = refl
 traced_fed names (s ∷ states) =
     ap₂ (λ a b. a ++ b) (ap (λ l. l ++ flat_map fed_line s.further) (told_fed names s.told) ∙ sym (flat_map-append fed_line (told_words names s.told) s.further)) (traced_fed names states)
@@ -113,21 +113,21 @@ module _ (names : List (List ℕ)) (are : AreNames names) where
   parts_one (a ∷ parts) of =
       joined (spaced_text names a) (flat_map (spaced_text names) parts) (joined (codes " ") (part_text names a) (written_out (codes " ") refl) (part_one a (All-head (IsPartOf names) a parts of))) (parts_one parts (All-tail (IsPartOf names) a parts of))
 
-  state_one : (told : ToldState) → IsToldOf names told → IsOneLine (state_words names told)
-  state_one told h =
+  pub state_one : (told : ToldState) → All (IsPartOf names) told.parts → IsOneLine (state_words names told)
+  state_one told of =
       joined (state_opening told.state) (flat_map (spaced_text names) told.parts)
       (joined (codes "state ") (decimal told.state ++ codes ":") (written_out (codes "state ") refl) (joined (decimal told.state) (codes ":") (decimal_one told.state) (written_out (codes ":") refl)))
-      (parts_one told.parts h.variables)
+      (parts_one told.parts of)
 
   values_one : (ts : List Tree) → IsOneLine (flat_map shown_value ts)
   values_one [] = nothing
   values_one (t ∷ ts) = joined (shown_value t) (flat_map shown_value ts) (joined (codes " ") (text_of t) (written_out (codes " ") refl) (plain_one (text_of t) (text_plain t))) (values_one ts)
 
-  shows_one : (shows : List (List Tree)) → All IsOneLine (map show_words shows)
+  pub shows_one : (shows : List (List Tree)) → All IsOneLine (map show_words shows)
   shows_one [] = All-nil IsOneLine
   shows_one (ts ∷ shows) = All-cons IsOneLine (show_words ts) (map show_words shows) (joined (codes "show") (flat_map shown_value ts) (written_out (codes "show") refl) (values_one ts)) (shows_one shows)
 
-  further_one : (lines : List (List ℕ)) → All IsTraceLine lines → All IsOneLine lines
+  pub further_one : (lines : List (List ℕ)) → All IsTraceLine lines → All IsOneLine lines
   further_one [] h = All-nil IsOneLine
   further_one (l ∷ ls) h = All-cons IsOneLine l ls (All-head IsTraceLine l ls h).0 (further_one ls (All-tail IsTraceLine l ls h))
 
@@ -136,7 +136,7 @@ module _ (names : List (List ℕ)) (are : AreNames names) where
   words_one (s ∷ states) h =
       let one = All-head (IsTraced names) s states h in
       All-append IsOneLine (all_words names s) (flat_map (all_words names) states)
-      (All-append IsOneLine (told_words names s.told) s.further (All-cons IsOneLine (state_words names s.told) (map show_words s.told.shows) (state_one s.told one.told) (shows_one s.told.shows)) (further_one s.further one.further))
+      (All-append IsOneLine (told_words names s.told) s.further (All-cons IsOneLine (state_words names s.told) (map show_words s.told.shows) (state_one s.told one.told.variables) (shows_one s.told.shows)) (further_one s.further one.further))
       (words_one states (All-tail (IsTraced names) s states h))
 
 -- ---- what is left without the trace lines
@@ -191,13 +191,13 @@ limit_other globals known reductions state limit.Calls = refl
 limit_other globals known reductions state limit.Nest = refl
 
 -- an end line as a line
-record EndWords (end : List ℕ) : Type 0 where
-  words : List ℕ
-  one : IsOneLine words
-  other : is_other words ≡ true
-  fed : end ≡ fed_line words
+pub record EndWords (end : List ℕ) : Type 0 where
+  pub words : List ℕ
+  pub one : IsOneLine words
+  pub other : is_other words ≡ true
+  pub fed : end ≡ fed_line words
 
-end_words : (names : List (List ℕ)) (end : List ℕ) → IsOneEndLine names end → EndWords end
+pub end_words : (names : List (List ℕ)) (end : List ℕ) → IsOneEndLine names end → EndWords end
 end_words names end (known, reductions, answer, last, one, is) = by answer last one is
   where
     made : (words : List ℕ) → IsOneLine words → is_other words ≡ true → end ≡ fed_line words → EndWords end
@@ -216,15 +216,15 @@ end_words names end (known, reductions, answer, last, one, is) = by answer last 
 
 module _ (names : List (List ℕ)) (are : AreNames names) (text : List ℕ) where
   -- all lines of a reading
-  abbrev reading_lines : (told : List ToldState) (end : List ℕ) → ReadsTracedAs names text told end → List (List ℕ)
+  abbrev pub reading_lines : (told : List ToldState) (end : List ℕ) → ReadsTracedAs names text told end → List (List ℕ)
   reading_lines told end r = flat_map (all_words names) r.states ++ (end_words names end r.last).words ∷ []
 
-  lines_one : (told : List ToldState) (end : List ℕ) (r : ReadsTracedAs names text told end) → All IsOneLine (reading_lines told end r)
+  pub lines_one : (told : List ToldState) (end : List ℕ) (r : ReadsTracedAs names text told end) → All IsOneLine (reading_lines told end r)
   lines_one told end r =
       let last = end_words names end r.last in
       All-append IsOneLine (flat_map (all_words names) r.states) (last.words ∷ []) (words_one names are r.states r.are) (All-cons IsOneLine last.words [] last.one (All-nil IsOneLine))
 
-  lines_fed : (told : List ToldState) (end : List ℕ) (r : ReadsTracedAs names text told end) → text ≡ flat_map fed_line (reading_lines told end r)
+  pub lines_fed : (told : List ToldState) (end : List ℕ) (r : ReadsTracedAs names text told end) → text ≡ flat_map fed_line (reading_lines told end r)
   lines_fed told end r =
       let last = end_words names end r.last in
       r.whole ∙ (ap₂ (λ a b. a ++ b) (traced_fed names r.states) (last.fed ∙ sym (append-nil (fed_line last.words))) ∙ sym (flat_map-append fed_line (flat_map (all_words names) r.states) (last.words ∷ [])))

@@ -29,14 +29,14 @@ use Rattle.tp_call.proofs.TraceLemmas.{ran, last_line, last_one, printed, pictur
 
 -- ---- what is told of printed states
 
-abbrev traced_of : PrintedState → TracedState
+abbrev pub traced_of : PrintedState → TracedState
 traced_of s = record { told = told_of s.picture; further = s.further }
 
 traced_told : (states : List PrintedState) → map told_of_traced (map traced_of states) ≡ told_all (map picture_of states)
 traced_told [] = refl
 traced_told (s ∷ states) = ap (λ l. told_of s.picture ∷ l) (traced_told states)
 
-traced_is : (names : List (List ℕ)) (states : List PrintedState) → printed_states_text names states ≡ traced_text names (map traced_of states)
+pub traced_is : (names : List (List ℕ)) (states : List PrintedState) → printed_states_text names states ≡ traced_text names (map traced_of states)
 traced_is names [] = refl
 traced_is names (s ∷ states) = ap (λ l. printed_state_lines names s ++ l) (traced_is names states)
 
@@ -59,7 +59,7 @@ last_turn (turn.Over state kind) status e = tt
 
 -- ---- the text of a run
 
-module _ (words : List (List ℕ)) (held : Option Held) (old new : Option (List ℕ)) (files : Held) (told : held ≡ Some files) (status : Status) (text : List ℕ) (run : RunsTo words held status text) (wrote : Wrote old new text) where
+module _ (words : List (List ℕ)) (held : Option Held) (old new : Option (List ℕ)) (files : Held) (told : held ≡ Some files) (status : Status) (text : List ℕ) (run : RunsTo words held status text) where
   abbrev names : List (List ℕ)
   names = run.plan.program.globals
 
@@ -69,7 +69,7 @@ module _ (words : List (List ℕ)) (held : Option Held) (old new : Option (List 
   abbrev states : List PrintedState
   states = printed words held old new files told status text run
 
-  facts : All (λ (p : Picture). AreFactsOf names p.facts) run.pictures
+  pub facts : All (λ (p : Picture). AreFactsOf names p.facts) run.pictures
   facts = run_facts run.plan run.pictures run.run.answer run.fits run.run.run
 
   told_are : All (IsToldOf names) (told_all run.pictures)
@@ -78,7 +78,7 @@ module _ (words : List (List ℕ)) (held : Option Held) (old new : Option (List 
   is_end : IsOneEndLine names own_end
   is_end = (known_at_end run.run, run.plan.reductions, run.run.answer, last_turn run.run.answer status run.run.status_is, last_one words held old new files told status text run, refl)
 
-  own : ReadsTracedAs names text (told_all run.pictures) own_end
+  pub own : ReadsTracedAs names text (told_all run.pictures) own_end
   own =
       let pictures = pictures_are words held old new files told status text run in
       record {
@@ -89,8 +89,8 @@ module _ (words : List (List ℕ)) (held : Option Held) (old new : Option (List 
         whole = text_is words held old new files told status text run ∙ ap (λ l. l ++ own_end) (traced_is names states);
       }
 
-  tells : (Q : Plan → List ToldState → List ℕ → Type 0) → Q run.plan (told_all run.pictures) own_end → TracedTextTells words held old new Q
-  tells Q h = record {
+  pub tells : Wrote old new text → (Q : Plan → List ToldState → List ℕ → Type 0) → Q run.plan (told_all run.pictures) own_end → TracedTextTells words held old new Q
+  tells wrote Q h = record {
     plan = run.plan;
     asked = run.asked;
     text = text;
@@ -101,8 +101,8 @@ module _ (words : List (List ℕ)) (held : Option Held) (old new : Option (List 
     means = λ other end r. let e = traced_once names run.names text (told_all run.pictures) other own_end end own r in subst (λ t. Q run.plan t end) e.0 (subst (λ l. Q run.plan (told_all run.pictures) l) e.1 h);
   }
 
-  tells_open : ContinuesEach run.plan run.pictures → TracedTextTells words held old new (λ plan told end. ContinuesTold plan told)
-  tells_open h = tells (λ plan told end. ContinuesTold plan told) (continues_told run.plan names run.pictures facts h)
+  tells_open : Wrote old new text → ContinuesEach run.plan run.pictures → TracedTextTells words held old new (λ plan told end. ContinuesTold plan told)
+  tells_open wrote h = tells wrote (λ plan told end. ContinuesTold plan told) (continues_told run.plan names run.pictures facts h)
 
   -- what the end says, by the status
   says : EndSays run.plan run.pictures (answer_of status)
@@ -119,8 +119,8 @@ module _ (words : List (List ℕ)) (held : Option Held) (old new : Option (List 
       let states = run.states in
       let count = ends.count in
       let small : n < 2 ^ 64 = omega (arith, count, within, states) in
-      let exactly = (says words held old new files told (Finished n) r.0 run r.2).0 in
-      let as_told = exactly_told run.plan run.plan.program.globals run.pictures (facts words held old new files told (Finished n) r.0 run r.2) n exactly in
+      let exactly = (says words held old new files told (Finished n) r.0 run).0 in
+      let as_told = exactly_told run.plan run.plan.program.globals run.pictures (facts words held old new files told (Finished n) r.0 run) n exactly in
       let line : last_line words held old new files told (Finished n) r.0 run ≡ finished_line n =
       ap (end_line run.plan.program.globals (known_at_end run.run) run.plan.reductions) answer ∙ append_assoc (codes "finished: length ") (decimal n) (codes "\n") in
       tells words held old new files told (Finished n) r.0 run r.2 (λ plan told end. (m : ℕ) → FitsIn64Bits m → end ≡ finished_line m → SatisfiedAsTold plan told m)
@@ -128,7 +128,7 @@ module _ (words : List (List ℕ)) (held : Option Held) (old new : Option (List 
 
   open_by : (files : Held) → held ≡ Some files → (status : Status) → ((plan : Plan) (printed : List Picture) → EndSays plan printed (answer_of status) → ContinuesEach plan printed) → (text : List ℕ) × RunsTo words held status text × Wrote old new text
       → TracedTextTells words held old new (λ plan told last. ContinuesTold plan told)
-  open_by files told status means r = tells_open words held old new files told status r.0 r.1 r.2 (means r.1.plan r.1.pictures (says words held old new files told status r.0 r.1 r.2))
+  open_by files told status means r = tells_open words held old new files told status r.0 r.1 r.2 (means r.1.plan r.1.pictures (says words held old new files told status r.0 r.1))
 
   pub open_traced : (result : Status) → Answers words held old new result → OpenTracedSays words held old new result
   open_traced (Undetermined state cell) a = λ files told o. open_by files told (Undetermined state cell) (λ plan printed h. h) (ran words held old new (Undetermined state cell) tt a)

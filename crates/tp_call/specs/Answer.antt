@@ -183,12 +183,13 @@ CallEnds words held status text =
     RunsTo words held status text ⊎ Spells words held status text
     ⊎ (Refuses words held status × (text ≡ refusal_line status))
 
--- the states of a run of what is asked for, and their text
+-- the states of a run of what is asked for, whose program's parts fit each other, and their text
 pub record RunsOn (words : List (List ℕ)) (held : Option Held) (text : List ℕ) : Type 0 where
   pub plan : Plan
   pub pictures : List Picture
   pub asked : IsAskedFor words held plan
   pub run : Settles plan pictures
+  pub fits : ProgramFits plan.program
   pub written : text ≡ settled_text asked.wanted.beside plan pictures run
 
 -- the text of no state, or of states of a run, without an end line

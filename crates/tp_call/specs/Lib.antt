@@ -15,6 +15,7 @@ pub mod Text
 pub mod EveryOrder
 pub mod Trace
 pub mod TracedText
+pub mod LastLine
 pub mod Headline
 pub mod EachRun
 pub mod InOrder

@@ -8,6 +8,7 @@ ghost use Rattle.tp_call.specs.Headline.{FinishedSays, FinishedTextSays, OpenTex
 ghost use Rattle.tp_call.specs.EveryOrder.{ComesToEachEnd};
 ghost use Rattle.tp_call.specs.Trace.{TraceSays};
 ghost use Rattle.tp_call.specs.TracedText.{FinishedTracedSays, OpenTracedSays};
+ghost use Rattle.tp_call.specs.LastLine.{LastLineSays};
 ghost use Rattle.tp_call.specs.EachRun.{PrintsEachRun, BeginningsComeToEnd};
 ghost use Rattle.tp_call.specs.InOrder.{FailsInOrder};
 
@@ -75,6 +76,8 @@ pub fn tempura<F: Files, K: Sink, L: Ledger>(
         (K.written out.old) (K.written out.new) result }
     ensures open_traced { OpenTracedSays words.now (F.held files.old) (K.written out.old)
         (K.written out.new) result }
+    ensures last_line { LastLineSays words.now (F.held files.old) (K.written out.old)
+        (K.written out.new) }
 
     // A source that is printed.
     ensures printed { PrintedSays words.now (F.held files.old) (K.written out.old)

@@ -2,6 +2,7 @@ use Rattle.tp_call.proofs.ClauseLemmas.{finished, contradictory, undetermined, s
 use Rattle.tp_call.proofs.EveryOrderLemmas.{comes_to_each_end}
 use Rattle.tp_call.proofs.TraceLemmas.{trace_says}
 use Rattle.tp_call.proofs.TracedTextLemmas.{finished_traced, open_traced}
+use Rattle.tp_call.proofs.LastLineLemmas.{last_line_says}
 use Rattle.tp_call.proofs.EachRunLemmas.{prints_each_run, beginnings_come_to_end}
 use Rattle.tp_call.proofs.call.tempura.Goals as goal
 
@@ -64,6 +65,9 @@ returns-clause-finished_traced g c = finished_traced _ _ _ _ _ c.call.ensures.an
 
 pub returns-clause-open_traced : goal.returns-clause-open_traced
 returns-clause-open_traced g c = open_traced _ _ _ _ _ c.call.ensures.answer
+
+pub returns-clause-last_line : goal.returns-clause-last_line
+returns-clause-last_line g c = last_line_says _ _ _ _ _ c.call.ensures.answer
 
 pub returns-clause-words_refused : goal.returns-clause-words_refused
 returns-clause-words_refused g c = record { only = words_refused_only _ _ _ _ _ c.call.ensures.answer; there = words_refused _ _ _ _ _ c.call.ensures.answer }

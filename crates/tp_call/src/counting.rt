@@ -1,0 +1,102 @@
+// The call, counted from 0.
+ghost use Rattle.std.specs.Prelude.{◌≡◌, ◌<◌, List, ℕ};
+ghost use Rattle.tp_io.specs.Devices.{Rose};
+ghost use Rattle.tp_call.specs.declared.status.Which.{Which};
+ghost use Rattle.tp_call.specs.Files.{AsksOnly};
+ghost use Rattle.tp_call.specs.Answer.{Answers};
+ghost use Rattle.tp_call.specs.Headline.{FinishedSays, FinishedTextSays, OpenTextSays, ContradictorySays, UndeterminedSays, StateLimitSays, LimitSays, InputMissingSays, ProgramRuns, WordsRefusedExactly, TooLongExactly, SourceRefusedExactly, InputsRefusedExactly, PrintedSays, SourcePrints};
+ghost use Rattle.tp_call.specs.EveryOrder.{ComesToEachEnd};
+ghost use Rattle.tp_call.specs.Trace.{TraceSays};
+ghost use Rattle.tp_call.specs.TracedText.{FinishedTracedSays, OpenTracedSays};
+ghost use Rattle.tp_call.specs.LastLine.{LastLineSays};
+ghost use Rattle.tp_call.specs.EachRun.{PrintsEachRun, BeginningsComeToEnd};
+ghost use Rattle.tp_call.specs.InOrder.{FailsInOrder};
+
+use crate::call::tempura;
+use crate::status::Status;
+use std::alloc::Global;
+use std::sync::ledger::{Blank, Ledger};
+use tp_io::{Files, Sink};
+use tp_step::Steps;
+use tp_value::Text;
+
+/// The call, with a count of tries of its own. It promises what `tempura` does.
+pub fn counted<L: Ledger, F: Files, K: Sink>(
+    alloc: Global,
+    words: &[Text],
+    files: &mut F,
+    out: &mut K,
+    blank: Blank,
+) -> Status
+    requires name { blank.name ≡ L.name }
+    requires parts { blank.parts ≡ L.parts }
+    requires some { 0 < L.parts }
+    ensures answer { Answers words.now (F.held files.old) (K.written out.old) (K.written out.new)
+        result }
+    ensures held { F.held files.new ≡ F.held files.old }
+
+    // The headline.
+    ensures finished { FinishedSays words.now (F.held files.old) (K.written out.old)
+        (K.written out.new) result }
+    ensures contradictory { ContradictorySays words.now (F.held files.old) (K.written out.old)
+        (K.written out.new) result }
+    ensures undetermined { UndeterminedSays words.now (F.held files.old) (K.written out.old)
+        (K.written out.new) result }
+    ensures state_limit { StateLimitSays words.now (F.held files.old) (K.written out.old)
+        (K.written out.new) result }
+    ensures reduction_limit { LimitSays words.now (F.held files.old) (K.written out.old)
+        (K.written out.new) result Status.ReductionLimit }
+    ensures number_limit { LimitSays words.now (F.held files.old) (K.written out.old)
+        (K.written out.new) result Status.NumberLimit }
+    ensures list_limit { LimitSays words.now (F.held files.old) (K.written out.old)
+        (K.written out.new) result Status.ListLimit }
+    ensures call_limit { LimitSays words.now (F.held files.old) (K.written out.old)
+        (K.written out.new) result Status.CallLimit }
+    ensures nest_limit { LimitSays words.now (F.held files.old) (K.written out.old)
+        (K.written out.new) result Status.NestLimit }
+    ensures input_missing { InputMissingSays words.now (F.held files.old) (K.written out.old)
+        (K.written out.new) result }
+    ensures program_runs { ProgramRuns words.now (F.held files.old) result }
+    ensures every_order { ComesToEachEnd words.now (F.held files.old) (K.written out.old)
+        (K.written out.new) result }
+    ensures every_text { PrintsEachRun words.now (F.held files.old) (K.written out.old)
+        (K.written out.new) result }
+    ensures no_dead_end { BeginningsComeToEnd words.now (F.held files.old) result }
+    ensures named_in_order { FailsInOrder words.now (F.held files.old) result }
+
+    // The headline for whoever has the text alone.
+    ensures finished_text { FinishedTextSays words.now (F.held files.old) (K.written out.old)
+        (K.written out.new) result }
+    ensures open_text { OpenTextSays words.now (F.held files.old) (K.written out.old)
+        (K.written out.new) result }
+    ensures trace { TraceSays words.now (F.held files.old) (K.written out.old)
+        (K.written out.new) result }
+    ensures finished_traced { FinishedTracedSays words.now (F.held files.old)
+        (K.written out.old) (K.written out.new) result }
+    ensures open_traced { OpenTracedSays words.now (F.held files.old) (K.written out.old)
+        (K.written out.new) result }
+    ensures last_line { LastLineSays words.now (F.held files.old) (K.written out.old)
+        (K.written out.new) }
+
+    // A source that is printed.
+    ensures printed { PrintedSays words.now (F.held files.old) (K.written out.old)
+        (K.written out.new) result }
+    ensures prints { SourcePrints words.now (F.held files.old) result }
+
+    // Refusals, each exactly, but for failed reads and writes and want of memory.
+    ensures words_refused { WordsRefusedExactly words.now (F.held files.old) result }
+    ensures too_long { TooLongExactly words.now (F.held files.old) result }
+    ensures source_refused { SourceRefusedExactly words.now (F.held files.old) result }
+    ensures inputs_refused { InputsRefusedExactly words.now (F.held files.old) result }
+
+    // Faults.
+    ensures asked { AsksOnly words.now (F.asked files.old) (F.asked files.new) (λ which.
+        result ≡ Status.ReadFault which) }
+    ensures read_fault { (which : Which) → result ≡ Status.ReadFault which
+        → Rose F.greatest (F.faults files.old) (F.faults files.new) }
+    ensures write_fault { result ≡ Status.WriteFault
+        → Rose K.greatest (K.faults out.old) (K.faults out.new) }
+{
+    let mut steps = Steps::<L>::new(blank);
+    tempura(alloc, words, files, out, &mut steps)
+}
