@@ -20,8 +20,8 @@ use Rattle.tp_show.specs.TraceOfRun.{IsOneLine, fed_line, PrintedState, printed_
 use Rattle.tp_show.proofs.ToldLemmas.{parts_of_variables}
 use Rattle.tp_run.specs.States.{Plan}
 use Rattle.tp_run.specs.History.{RunEndsWith, Unsatisfiable, ContinuesEach}
-use Rattle.tp_within.specs.Printable.{ProgramIsPrintable, InputsArePrintable}
-use Rattle.tp_within.proofs.Phrases.{written_out, joined, decimal_one}
+use Rattle.tp_run_laws.specs.Printable.{ProgramIsPrintable, InputsArePrintable}
+use Rattle.tp_run_laws.proofs.Phrases.{written_out, joined, decimal_one}
 use Rattle.tp_words.specs.declared.beside.Beside.{Beside}
 use Rattle.tp_words.specs.declared.mode.Mode.TheVariants.{Run, Print}
 use Rattle.tp_call.specs.declared.status.Status.{Status}
