@@ -109,10 +109,7 @@ settles_with plan beside from to before now (turn.Finished n) picture h t settle
       ap (λ m. before_it ++ written_state beside plan.program picture m) (sym none),
     )
 settles_with plan beside from to before now (turn.Contradictory state clash) picture h t settled = cc
-settles_with plan beside from to before now (turn.Undetermined state cell) picture h t settled = cc
-settles_with plan beside from to before now (turn.StateLimit states) picture h t settled = cc
-settles_with plan beside from to before now (turn.InputMissing state port) picture h t settled = cc
-settles_with plan beside from to before now (turn.Over state limit) picture h t settled = cc
+settles_with plan beside from to before now _ picture h t settled = cc
 
 pub ended : (plan : Plan) (beside : Beside) (before after : Option (List ℕ)) (end : Ended) → ProgramMade plan beside before after (Ok end) → HasEnded plan beside before after end.turn (store_of end.run) × (program_of end.run ≡ plan.program) × IsLastTurn end.turn
 ended plan beside before after end (inl none) = let bad : Ok end ≡ Err sink.NoMemory = none.0 in cc

@@ -122,17 +122,7 @@ module _ (words : List (List ℕ)) (held : Option Held) (old new : Option (List 
   open_text (ListLimit state) a o plain = open_by (ListLimit state) (run_alone (ListLimit state) (λ r. r) tt a) tt (λ plan printed h. h) plain
   open_text (CallLimit state) a o plain = open_by (CallLimit state) (run_alone (CallLimit state) (λ r. r) tt a) tt (λ plan printed h. h) plain
   open_text (NestLimit state) a o plain = open_by (NestLimit state) (run_alone (NestLimit state) (λ r. r) tt a) tt (λ plan printed h. h) plain
-  open_text (Finished length) a o plain = absurd o
-  open_text (Contradictory state clash) a o plain = absurd o
-  open_text (InputMissing state port) a o plain = absurd o
-  open_text Done a o plain = absurd o
-  open_text (SourceRefused line column kind) a o plain = absurd o
-  open_text (InputsRefused line) a o plain = absurd o
-  open_text WordsRefused a o plain = absurd o
-  open_text (TooLong which) a o plain = absurd o
-  open_text (ReadFault which) a o plain = absurd o
-  open_text WriteFault a o plain = absurd o
-  open_text NoMemory a o plain = absurd o
+  open_text _ a o plain = absurd o
 
   pub words_refused_only : (result : Status) → Answers words held old new result → result ≡ WordsRefused → wanted_of words ≡ None
   words_refused_only result a is = refusal_alone WordsRefused (λ e. e) (λ e. cc) (subst (Answers words held old new) is a)
@@ -177,19 +167,7 @@ module _ (words : List (List ℕ)) (held : Option Held) (old new : Option (List 
   refused_words WordsRefused r = inl refl
   refused_words (TooLong which) r = inr (r.wanted, r.accepted)
   refused_words (ReadFault which) r = inr (r.wanted, r.accepted)
-  refused_words (Finished length) r = absurd r
-  refused_words Done r = absurd r
-  refused_words (Contradictory state clash) r = absurd r
-  refused_words (Undetermined state cell) r = absurd r
-  refused_words (StateLimit states) r = absurd r
-  refused_words (ReductionLimit state) r = absurd r
-  refused_words (NumberLimit state) r = absurd r
-  refused_words (ListLimit state) r = absurd r
-  refused_words (CallLimit state) r = absurd r
-  refused_words (NestLimit state) r = absurd r
-  refused_words (InputMissing state port) r = absurd r
-  refused_words WriteFault r = absurd r
-  refused_words NoMemory r = absurd r
+  refused_words _ r = absurd r
 
   -- words that are not accepted
   pub words_refused : (result : Status) → Answers words held old new result → wanted_of words ≡ None → IsOrStopped WordsRefused result
@@ -244,19 +222,7 @@ module _ (words : List (List ℕ)) (held : Option Held) (old new : Option (List 
     by_source (TooLong Source) answer (refused r) never print refusal long = long refl (sourced_there _ r)
     by_source (TooLong Inputs) answer (refused r) never print refusal long = let p = supplied_source _ r in absurd (never p.0 p.1.0 p.1.1)
     by_source (ReadFault which) answer (refused r) never print refusal long = inr (inl (which, refl))
-    by_source (Finished length) answer (refused r) never print refusal long = absurd r
-    by_source Done answer (refused r) never print refusal long = absurd r
-    by_source (Contradictory state clash) answer (refused r) never print refusal long = absurd r
-    by_source (Undetermined state cell) answer (refused r) never print refusal long = absurd r
-    by_source (StateLimit states) answer (refused r) never print refusal long = absurd r
-    by_source (ReductionLimit state) answer (refused r) never print refusal long = absurd r
-    by_source (NumberLimit state) answer (refused r) never print refusal long = absurd r
-    by_source (ListLimit state) answer (refused r) never print refusal long = absurd r
-    by_source (CallLimit state) answer (refused r) never print refusal long = absurd r
-    by_source (NestLimit state) answer (refused r) never print refusal long = absurd r
-    by_source (InputMissing state port) answer (refused r) never print refusal long = absurd r
-    by_source WriteFault answer (refused r) never print refusal long = absurd r
-    by_source NoMemory answer (refused r) never print refusal long = absurd r
+    by_source _ answer (refused r) never print refusal long = absurd r
 
     -- and where a run is asked for, and it is this program
     module _ (mode : wanted.mode ≡ Run) (program : ProgramTree) (is : HoldsProgram program source) where
@@ -280,19 +246,7 @@ module _ (words : List (List ℕ)) (held : Option Held) (old new : Option (List 
       by_program (TooLong Source) T (refused r) run_case bad long fails = absurd (not_long (sourced_there _ r))
       by_program (TooLong Inputs) T (refused r) run_case bad long fails = long refl r
       by_program (ReadFault which) T (refused r) run_case bad long fails = fails (inl (which, refl))
-      by_program Done T (refused r) run_case bad long fails = absurd r
-      by_program (Finished length) T (refused r) run_case bad long fails = absurd r
-      by_program (Contradictory state clash) T (refused r) run_case bad long fails = absurd r
-      by_program (Undetermined state cell) T (refused r) run_case bad long fails = absurd r
-      by_program (StateLimit states) T (refused r) run_case bad long fails = absurd r
-      by_program (ReductionLimit state) T (refused r) run_case bad long fails = absurd r
-      by_program (NumberLimit state) T (refused r) run_case bad long fails = absurd r
-      by_program (ListLimit state) T (refused r) run_case bad long fails = absurd r
-      by_program (CallLimit state) T (refused r) run_case bad long fails = absurd r
-      by_program (NestLimit state) T (refused r) run_case bad long fails = absurd r
-      by_program (InputMissing state port) T (refused r) run_case bad long fails = absurd r
-      by_program WriteFault T (refused r) run_case bad long fails = absurd r
-      by_program NoMemory T (refused r) run_case bad long fails = absurd r
+      by_program _ T (refused r) run_case bad long fails = absurd r
 
     -- the inputs that the words name
     module _ (name : List ℕ) (named : wanted.inputs ≡ Some name) where

@@ -25,12 +25,7 @@ use Rattle.tp_words.specs.declared.beside.Beside.{Beside}
 -- what holds of an answer holds of it as the last one
 of_last : (P : Turn → Type 0) (answer : Turn) → P answer → IfSome (last_answer answer) P
 of_last P turn.Went p = tt
-of_last P (turn.Finished length) p = p
-of_last P (turn.Contradictory state clash) p = p
-of_last P (turn.Undetermined state cell) p = p
-of_last P (turn.StateLimit states) p = p
-of_last P (turn.InputMissing state port) p = p
-of_last P (turn.Over state limit) p = p
+of_last P _ p = p
 
 -- the answer of a state names what this meets in the order, so the last answer does
 pub names_last : (plan : Plan) (order : Order) (from : RunPlace) (answer : Turn) (last : Option Turn) → last ≡ last_answer answer

@@ -185,10 +185,7 @@ told_all_fed names (t ∷ told) = flat_map-append fed_line (told_words names t) 
 
 limit_other : (globals : List (List ℕ)) (known : List Variable) (reductions state : ℕ) (kind : LimitKind) → is_other (last_words globals known reductions (Over state kind)) ≡ true
 limit_other globals known reductions state limit.Reductions = refl
-limit_other globals known reductions state limit.Number = refl
-limit_other globals known reductions state limit.List = refl
-limit_other globals known reductions state limit.Calls = refl
-limit_other globals known reductions state limit.Nest = refl
+limit_other globals known reductions state _ = refl
 
 -- an end line as a line
 pub record EndWords (end : List ℕ) : Type 0 where

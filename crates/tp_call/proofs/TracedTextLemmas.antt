@@ -50,12 +50,7 @@ all_traced names (s ∷ states) h k =
 -- an answer with a status is a last one
 last_turn : (answer : Turn) (status : Status) → status_of answer ≡ Some status → IsLastTurn answer
 last_turn turn.Went status e = absurd (cc e)
-last_turn (turn.Finished n) status e = tt
-last_turn (turn.Contradictory state clash) status e = tt
-last_turn (turn.Undetermined state cell) status e = tt
-last_turn (turn.StateLimit states) status e = tt
-last_turn (turn.InputMissing state port) status e = tt
-last_turn (turn.Over state kind) status e = tt
+last_turn _ status e = tt
 
 -- ---- the text of a run
 

@@ -73,12 +73,7 @@ went_on plan beside from to before after made = by made.answer refl where
 -- the last answer is the one that was given
 pub last_is_given : (answer last : Turn) → Some last ≡ last_answer answer → answer ≡ last
 last_is_given turn.Went last e = cc
-last_is_given (turn.Finished length) last e = cc
-last_is_given (turn.Contradictory state clash) last e = cc
-last_is_given (turn.Undetermined state cell) last e = cc
-last_is_given (turn.StateLimit states) last e = cc
-last_is_given (turn.InputMissing state port) last e = cc
-last_is_given (turn.Over state limit) last e = cc
+last_is_given _ last e = cc
 
 -- and the run doesn't go on with it
 pub is_last : (answer last : Turn) → Some last ≡ last_answer answer → IsLastTurn last
@@ -162,11 +157,7 @@ settled_parts plan from to old new answer stands made settled = at from.standing
     by : (turn : Turn) → is_settled turn ≡ true → StateBecomes plan from.state moment old new to.standing to.store turn → plain_parts new.parts ≡ line_parts new.facts
     by turn.Went e b = b.1.picture_is.parts
     by (turn.Finished length) e b = b.0.picture_is.parts
-    by (turn.Contradictory state clash) e b = cc
-    by (turn.Undetermined state cell) e b = cc
-    by (turn.StateLimit states) e b = cc
-    by (turn.InputMissing state port) e b = cc
-    by (turn.Over state limit) e b = cc
+    by _ e b = cc
 
 carries_none : (n : ℕ) (turn : Turn) (m : Moment) → carried_scene n (answered turn m) ≡ None
 carries_none zero turn m = refl
@@ -197,11 +188,7 @@ settled_carries plan from to old new answer stands sound made settled = at from.
         let due = next_scenes_are_carried.goes (setting plan from.state) (kinds_of plan.program.globals) plan.reductions moment b.1.picks b.1.last b.0 s g in
         subst Carries (sym (carries_next to from.state b.0 b.2 next)) due
     by (turn.Finished length) e b next = subst Carries (sym (carries_nothing to (turn.Finished length) b.0.last b.2)) tt
-    by (turn.Contradictory state clash) e b next = cc
-    by (turn.Undetermined state cell) e b next = cc
-    by (turn.StateLimit states) e b next = cc
-    by (turn.InputMissing state port) e b next = cc
-    by (turn.Over state limit) e b next = cc
+    by _ e b next = cc
 
 pub status_there : (turn : Turn) → IsLastTurn turn → (status : Status) × (status_of turn ≡ Some status)
 status_there turn.Went l = absurd l
