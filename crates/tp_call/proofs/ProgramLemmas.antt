@@ -1,12 +1,15 @@
 -- A source is one program, or is refused at one place for one cause.
-use Rattle.std.proofs.Common.{◌≡◌, inl, inr, List, ℕ, Option, Some, Ok, Err, ap, sym, ◌∙◌, subst}
+use Rattle.std.proofs.Common.{◌≡◌, ◌≢◌, inl, inr, List, ℕ, Option, Some, None, Ok, Err, ap, sym, ◌∙◌, subst}
 use Rattle.tp_lex.specs.declared.token.Token.{Token}
 use Rattle.tp_lex.proofs.LawLemmas.{one_list, one_refusal, never_both}
 use Rattle.tp_tree.specs.Tree.{SourceTree}
 use Rattle.tp_parse.specs.declared.refusal.ParseRefusal.{ParseRefusal}
+use Rattle.tp_parse.specs.declared.refusal.ParseRefusal.TheVariants.{NoMemory}
+use Rattle.tp_parse.specs.Place.{BlamesFirst}
 use Rattle.tp_parse.specs.Grammar.{Accepts}
 use Rattle.tp_parse.specs.Source.{parse_outcome}
 use Rattle.tp_parse.proofs.Exact.{accepted_read}
+use Rattle.tp_parse.proofs.FirstToken.{no_source, one_place}
 use Rattle.tp_parse.proofs.TextBack.{printed_is_read_back}
 use Rattle.tp_meaning.specs.Interval.{ProgramTree}
 use Rattle.tp_check.specs.Outcome.{CheckOutcome}
@@ -18,9 +21,9 @@ use Rattle.tp_words.specs.declared.mode.Mode.TheVariants.{Run, Print}
 use Rattle.tp_call.specs.Spelling.{IsReadFromSpelling}
 use Rattle.tp_call.specs.Source.{IsSourceText, IsProgram, IsOutsideGrammar, IsNotRun, IsRefusedAt, lexer_refusal, parser_refusal, checker_refusal}
 
--- tokens that are a source, and the same tokens refused
-tree_or_refused : (ts us : List Token) (t : SourceTree) (e : ParseRefusal) → ts ≡ us → Accepts ts t → parse_outcome us ≡ Err e → ⊥
-tree_or_refused ts us t e same a o = let good : parse_outcome ts ≡ Ok t = accepted_read ts t a in let bad : parse_outcome ts ≡ Err e = ap parse_outcome same ∙ o in cc
+-- a refusal that the parser answers is no want of memory
+some_place : (source : List ℕ) (ts : List Token) (e : ParseRefusal) (r : Refused) → parser_refusal source ts e ≡ Some r → e ≢ NoMemory
+some_place source ts e r answer none = let both : None ≡ Some r = ap (parser_refusal source ts) (sym none) ∙ answer in cc
 
 one_tree : (ts us : List Token) (t u : SourceTree) → ts ≡ us → Accepts ts t → Accepts us u → t ≡ u
 one_tree ts us t u same a b = let first : parse_outcome ts ≡ Ok t = accepted_read ts t a in let second : parse_outcome us ≡ Ok u = accepted_read us u b in let equal : parse_outcome ts ≡ parse_outcome us = ap parse_outcome same in cc
@@ -40,7 +43,7 @@ read_from_spelling source t g =
 
 pub source_or_outside : (source : List ℕ) (t : SourceTree) (r : Refused) → IsSourceText source t → IsOutsideGrammar source r → ⊥
 source_or_outside source t r g (inl x) = never_both source g.tokens x.refusal g.are_tokens x.is_refused
-source_or_outside source t r g (inr x) = tree_or_refused g.tokens x.tokens t x.refusal (one_list source g.tokens x.tokens g.are_tokens x.are_tokens) g.accepted x.outcome
+source_or_outside source t r g (inr x) = let same = one_list source g.tokens x.tokens g.are_tokens x.are_tokens in no_source x.tokens x.refusal (some_place source x.tokens x.refusal r x.answer) x.place t (subst (λ ts. Accepts ts t) same g.accepted)
 
 pub one_source : (source : List ℕ) (t u : SourceTree) → IsSourceText source t → IsSourceText source u → t ≡ u
 one_source source t u g h = one_tree g.tokens h.tokens t u (one_list source g.tokens h.tokens g.are_tokens h.are_tokens) g.accepted h.accepted
@@ -67,9 +70,8 @@ outside_once source r s (inl x) (inr y) = absurd (never_both source y.tokens x.r
 outside_once source r s (inr x) (inl y) = absurd (never_both source x.tokens y.refusal x.are_tokens y.is_refused)
 outside_once source r s (inr x) (inr y) =
     let same : x.tokens ≡ y.tokens = one_list source x.tokens y.tokens x.are_tokens y.are_tokens in
-    let first : parse_outcome y.tokens ≡ Err x.refusal = ap parse_outcome (sym same) ∙ x.outcome in
-    let second : parse_outcome y.tokens ≡ Err y.refusal = y.outcome in
-    let equal : x.refusal ≡ y.refusal = cc in
+    let first : BlamesFirst y.tokens x.refusal = subst (λ ts. BlamesFirst ts x.refusal) same x.place in
+    let equal : x.refusal ≡ y.refusal = one_place y.tokens x.refusal y.refusal (some_place source x.tokens x.refusal r x.answer) (some_place source y.tokens y.refusal s y.answer) first y.place in
     one_answer (parser_refusal source y.tokens) x.refusal y.refusal r s equal (ap (λ ts. parser_refusal source ts x.refusal) (sym same) ∙ x.answer) y.answer
 
 pub refused_once : (mode : Mode) (source : List ℕ) (r s : Refused) → IsRefusedAt mode source r → IsRefusedAt mode source s → r ≡ s

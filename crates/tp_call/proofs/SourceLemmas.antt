@@ -24,9 +24,8 @@ use Rattle.tp_lex.specs.declared.refusal.LexRefusal.TheVariants as lex
 use Rattle.tp_lex.specs.Tokens.{AreTokens, IsRefusedUnlessMemory}
 use Rattle.tp_tree.specs.Tree.{SourceTree}
 use Rattle.tp_parse.specs.declared.refusal.ParseRefusal.{ParseRefusal}
-use Rattle.tp_parse.specs.declared.refusal.ParseRefusal.TheVariants as parse
 use Rattle.tp_parse.specs.Grammar.{Accepts}
-use Rattle.tp_parse.specs.Source.{parse_outcome}
+use Rattle.tp_parse.specs.Place.{BlamesFirst}
 use Rattle.tp_check.specs.Program.{ChecksTo}
 use Rattle.tp_check.specs.declared.refusal.CheckRefusal.{CheckRefusal}
 use Rattle.tp_check.specs.declared.refusal.CheckRefusal.TheVariants as check
@@ -149,12 +148,9 @@ no_tokens source (lex.NumberTooLarge at) g r is = inl (record { refusal = lex.Nu
 no_tokens source (lex.NameTooLong at) g r is = inl (record { refusal = lex.NameTooLong at; is_refused = g; answer = is })
 no_tokens source lex.NoMemory g r is = absurd (cc (is))
 
-pub no_tree : (source : List ℕ) (tokens : List Token) (refusal : ParseRefusal) → AreTokens source tokens → (refusal ≢ parse.NoMemory → parse_outcome tokens ≡ Err refusal)
+pub no_tree : (source : List ℕ) (tokens : List Token) (refusal : ParseRefusal) → AreTokens source tokens → BlamesFirst tokens refusal
     → (r : Refused) → parser_refusal source tokens refusal ≡ Some r → IsOutsideGrammar source r
-no_tree source tokens (parse.Unexpected i) are g r is = inr (record { tokens = tokens; refusal = parse.Unexpected i; are_tokens = are; outcome = g (λ e. cc (e)); answer = is })
-no_tree source tokens parse.Unfinished are g r is = inr (record { tokens = tokens; refusal = parse.Unfinished; are_tokens = are; outcome = g (λ e. cc (e)); answer = is })
-no_tree source tokens (parse.TooDeep i) are g r is = inr (record { tokens = tokens; refusal = parse.TooDeep i; are_tokens = are; outcome = g (λ e. cc (e)); answer = is })
-no_tree source tokens parse.NoMemory are g r is = absurd (cc (is))
+no_tree source tokens refusal are g r is = inr (record { tokens = tokens; refusal = refusal; are_tokens = are; place = g; answer = is })
 
 pub not_run : (source : List ℕ) (tokens : List Token) (tree : SourceTree) (refusal : CheckRefusal) → AreTokens source tokens → Accepts tokens tree → (refusal ≢ check.NoMemory → ChecksTo tree (Err refusal))
     → (r : Refused) → checker_refusal source refusal ≡ Some r → IsNotRun source r

@@ -9,7 +9,7 @@ use Rattle.tp_tree.specs.Tree.{SourceTree}
 use Rattle.tp_parse.specs.declared.refusal.ParseRefusal.{ParseRefusal}
 use Rattle.tp_parse.specs.declared.refusal.ParseRefusal.TheVariants as parse
 use Rattle.tp_parse.specs.Grammar.{Accepts}
-use Rattle.tp_parse.specs.Source.{parse_outcome}
+use Rattle.tp_parse.specs.Place.{BlamesFirst}
 use Rattle.tp_meaning.specs.Interval.{ProgramTree}
 use Rattle.tp_check.specs.Program.{ChecksTo}
 use Rattle.tp_check.specs.declared.refusal.CheckRefusal.{CheckRefusal}
@@ -74,12 +74,12 @@ pub record HasNoTokens (source : List ℕ) (refused : Refused) : Type 0 where
   pub is_refused : IsRefused source refusal
   pub answer : lexer_refusal source refusal ≡ Some refused
 
--- the text has tokens that are no source of the grammar
+-- the text has tokens that are no source of the grammar, and this is where they went wrong
 pub record HasNoTree (source : List ℕ) (refused : Refused) : Type 0 where
   pub tokens : List Token
   pub refusal : ParseRefusal
   pub are_tokens : AreTokens source tokens
-  pub outcome : parse_outcome tokens ≡ Err refusal
+  pub place : BlamesFirst tokens refusal
   pub answer : parser_refusal source tokens refusal ≡ Some refused
 
 -- the text is a source of the grammar that isn't run

@@ -12,7 +12,7 @@ use Rattle.tp_parse.specs.Input.{Tokens, ReadOutcome, past}
 use Rattle.tp_parse.specs.Source as s
 use Rattle.tp_parse.specs.Grammar as g
 use Rattle.tp_parse.specs.Grammar.{Sentence, IsSource, Accepts}
-use Rattle.tp_parse.specs.Place.{GoesOn, GoesOnHigher, IsPlace, OnePlace, PrefixesAreUnfinished}
+use Rattle.tp_parse.specs.Place.{GoesOn, GoesOnHigher, BlamesFirst, OnePlace, PrefixesAreUnfinished}
 use Rattle.tp_parse.proofs.Within.{Within, refusal_within, source_within}
 use Rattle.tp_parse.proofs.OneTree.{definitions_one, sentence_one}
 use Rattle.tp_parse.proofs.Extended.{some_due, past_on, definitions_on, sentence_on}
@@ -127,10 +127,10 @@ some_higher i k ts less e at =
 
 -- ---- the place
 
-pub refusal_is_place : (ts : Tokens) (e : ParseRefusal) → s.parse_outcome ts ≡ Err e → IsPlace ts e
+pub refusal_is_place : (ts : Tokens) (e : ParseRefusal) → s.parse_outcome ts ≡ Err e → BlamesFirst ts e
 refusal_is_place ts e is = by (s.source ts) refl (source_within ts) is
   where
-    by : (o : ReadOutcome SourceTree) → s.source ts ≡ o → Within ts o → s.outcome_by (length ts) o ≡ Err e → IsPlace ts e
+    by : (o : ReadOutcome SourceTree) → s.source ts ≡ o → Within ts o → s.outcome_by (length ts) o ≡ Err e → BlamesFirst ts e
     by (Ok q) at within made = absurd cc
     by (Err (Unexpected k)) at within made =
         let bounds = refusal_within within in
@@ -138,7 +138,7 @@ refusal_is_place ts e is = by (s.source ts) refl (source_within ts) is
         let sum : k + i ≡ length ts = omega (arith, bounds.0, bounds.1) in
         let named : Names i ts (s.source ts) = subst (Names i ts) (sym at) (unexpected_at sum) in
         let same : named_at.Unexpected i ≡ e = cc in
-        subst (IsPlace ts) same (omega (arith, bounds.0, bounds.1), before_it i ts (omega arith) named, none_higher i k ts at sum bounds.0)
+        subst (BlamesFirst ts) same (omega (arith, bounds.0, bounds.1), before_it i ts (omega arith) named, none_higher i k ts at sum bounds.0)
     by (Err (TooDeep k)) at within made =
         let bounds = refusal_within within in
         let i = length ts - k in
@@ -146,10 +146,10 @@ refusal_is_place ts e is = by (s.source ts) refl (source_within ts) is
         let less : i < length ts = omega (arith, bounds.0, bounds.1) in
         let named : Names i ts (s.source ts) = subst (Names i ts) (sym at) (too_deep_at sum) in
         let same : named_at.TooDeep i ≡ e = cc in
-        subst (IsPlace ts) same (less, before_it i ts (omega arith) named, none_accepted i ts less named, some_higher i k ts less at sum)
+        subst (BlamesFirst ts) same (less, before_it i ts (omega arith) named, none_accepted i ts less named, some_higher i k ts less at sum)
     by (Err Unfinished) at within made =
         let same : named_at.Unfinished ≡ e = cc in
-        subst (IsPlace ts) same (goes_on_unfinished ts at, λ x is. let read = source_complete ts x is in absurd cc)
+        subst (BlamesFirst ts) same (goes_on_unfinished ts at, λ x is. let read = source_complete ts x is in absurd cc)
     by (Err NoMemory) at within made = absurd (refusal_within within)
 
 -- ---- there is one place
@@ -174,16 +174,16 @@ not_before ts i j one other less = one.1 (subst GoesOn (take-take (i + 1) j ts (
 one_token : (ts : Tokens) (i j : ℕ) → Stuck ts i → Stuck ts j → i ≡ j
 one_token ts i j one other = same_number i j (not_before ts i j one other) (not_before ts j i other one)
 
-stuck_unexpected : (ts : Tokens) (i : ℕ) → IsPlace ts (named_at.Unexpected i) → Stuck ts i
+stuck_unexpected : (ts : Tokens) (i : ℕ) → BlamesFirst ts (named_at.Unexpected i) → Stuck ts i
 stuck_unexpected ts i is = (is.1, λ more. is.2 (higher (take (i + 1) ts) more))
 
-stuck_deep : (ts : Tokens) (i : ℕ) → IsPlace ts (named_at.TooDeep i) → Stuck ts i
+stuck_deep : (ts : Tokens) (i : ℕ) → BlamesFirst ts (named_at.TooDeep i) → Stuck ts i
 stuck_deep ts i is = (is.1, is.2)
 
 not_whole : (ts : Tokens) (i : ℕ) → Stuck ts i → GoesOn ts → ⊥
 not_whole ts i stuck more = stuck.1 (prefix_goes_on (i + 1) ts more)
 
-kinds_apart : (ts : Tokens) (i j : ℕ) → IsPlace ts (named_at.Unexpected i) → IsPlace ts (named_at.TooDeep j) → ⊥
+kinds_apart : (ts : Tokens) (i j : ℕ) → BlamesFirst ts (named_at.Unexpected i) → BlamesFirst ts (named_at.TooDeep j) → ⊥
 kinds_apart ts i j one other =
     let same = one_token ts i j (stuck_unexpected ts i one) (stuck_deep ts j other) in
     one.2 (subst (λ n. GoesOnHigher (take (n + 1) ts)) (sym same) other.3)
@@ -204,7 +204,7 @@ one_place ts (named_at.TooDeep i) named_at.Unfinished some others p q = absurd (
 one_place ts named_at.Unfinished (named_at.TooDeep j) some others p q = absurd (not_whole ts j (stuck_deep ts j q) p.0)
 
 -- tokens that have a place are no source
-pub no_source : (ts : Tokens) (e : ParseRefusal) → e ≢ named_at.NoMemory → IsPlace ts e → (x : SourceTree) → ¬ Accepts ts x
+pub no_source : (ts : Tokens) (e : ParseRefusal) → e ≢ named_at.NoMemory → BlamesFirst ts e → (x : SourceTree) → ¬ Accepts ts x
 no_source ts (named_at.Unexpected i) some place x is = not_whole ts i (stuck_unexpected ts i place) (accepted_goes_on ts x is)
 no_source ts (named_at.TooDeep i) some place x is = not_whole ts i (stuck_deep ts i place) (accepted_goes_on ts x is)
 no_source ts named_at.Unfinished some place x is = place.1 x is

@@ -17,23 +17,23 @@ GoesOnHigher ts = (more : Tokens) × (s : SourceTree) × (height : ℕ) × IsSou
 -- Some accepted source begins with the tokens before the named one, and none with it too; none of
 -- any height where it is unexpected, and some higher one where it is too deep. Where the tokens are
 -- unfinished, all of them begin an accepted source and are none.
-abbrev pub IsPlace : Tokens → ParseRefusal → Type 0
-IsPlace ts (Unexpected i) =
+abbrev pub BlamesFirst : Tokens → ParseRefusal → Type 0
+BlamesFirst ts (Unexpected i) =
     (i < length ts) × GoesOn (take i ts) × ¬ GoesOnHigher (take (i + 1) ts)
-IsPlace ts (TooDeep i) =
+BlamesFirst ts (TooDeep i) =
     (i < length ts) × GoesOn (take i ts) × ¬ GoesOn (take (i + 1) ts)
     × GoesOnHigher (take (i + 1) ts)
-IsPlace ts Unfinished = GoesOn ts × ((s : SourceTree) → ¬ Accepts ts s)
-IsPlace ts NoMemory = Unit {0}
+BlamesFirst ts Unfinished = GoesOn ts × ((s : SourceTree) → ¬ Accepts ts s)
+BlamesFirst ts NoMemory = Unit {0}
 
 -- tokens have one such place
 abbrev pub OnePlace : Type 0
 OnePlace =
-    (ts : Tokens) (e f : ParseRefusal) → e ≢ NoMemory → f ≢ NoMemory → IsPlace ts e → IsPlace ts f
+    (ts : Tokens) (e f : ParseRefusal) → e ≢ NoMemory → f ≢ NoMemory → BlamesFirst ts e → BlamesFirst ts f
     → e ≡ f
 
 -- an accepted source that is cut after fewer tokens than it has is unfinished
 abbrev pub PrefixesAreUnfinished : Type 0
 PrefixesAreUnfinished =
     (ts : Tokens) (s : SourceTree) (n : ℕ) → Accepts ts s → n < length ts
-    → IsPlace (take n ts) Unfinished
+    → BlamesFirst (take n ts) Unfinished

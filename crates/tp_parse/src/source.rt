@@ -7,7 +7,7 @@ ghost use Rattle.tp_tree.specs.Read.{phrase_tree, definition_tree, source_tree};
 ghost use Rattle.tp_tree.specs.Tree.{SourceTree};
 ghost use Rattle.tp_tree.specs.Height.{source_height};
 ghost use Rattle.tp_parse.specs.Grammar.{Accepts};
-ghost use Rattle.tp_parse.specs.Place.{IsPlace};
+ghost use Rattle.tp_parse.specs.Place.{BlamesFirst};
 ghost use Rattle.tp_parse.specs.SpelledText.{ParsesPrinted};
 ghost use Rattle.tp_parse.specs.declared.refusal.ParseRefusal.TheVariants.{NoMemory};
 
@@ -33,7 +33,7 @@ pub fn parse(alloc: Global, tokens: &Tokens) -> Result<Source, ParseRefusal>
     ensures refused { IfErr result (λ e. e ≢ NoMemory → (t : SourceTree) → ¬ Accepts tokens.now t) }
     ensures outcome { IsOutcome (parse_outcome tokens.now) result }
     ensures token { IfErr result (NamesToken (length tokens.now)) }
-    ensures place { IfErr result (IsPlace tokens.now) }
+    ensures place { IfErr result (BlamesFirst tokens.now) }
 
     // The tokens of a source that was printed are parsed as that source, up to places.
     ensures printed { ParsesPrinted tokens.now result }

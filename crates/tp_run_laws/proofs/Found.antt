@@ -5,7 +5,7 @@ use Rattle.std.proofs.lemmas.Bool.{leb-true, le-leb, ltb-true}
 use Rattle.std.proofs.lemmas.List.{length-append}
 use Rattle.std.proofs.lemmas.List.Elements.{All-nil, All-cons, All-append, All-head, All-tail}
 use Rattle.tp_value.specs.Tree.{Tree, Trees, num, truth, list, nil, cons, items_of, of_items}
-use Rattle.tp_value.specs.Number.{IsNumber}
+use Rattle.tp_value.specs.Number.{number_limit, IsNumber}
 use Rattle.tp_value.specs.Limits.{index_limit, path_limit, length_limit, items_within, HaveNumbers, IsWithinLimits}
 use Rattle.tp_value.specs.declared.value.Shape.TheVariants.{Items}
 use Rattle.tp_value.specs.declared.path.Fact.{Fact}
@@ -40,7 +40,7 @@ natural_value : (n : ℕ) → n ≤ length_limit → IsWithinLimits (num (pos n)
 natural_value n h = number_value (pos n) (within n h)
   where
     within : (m : ℕ) → m ≤ length_limit → IsNumber (pos m)
-    within m k = le-leb m 9223372036854775807 (omega (arith, k))
+    within m k = le-leb m number_limit (omega (arith, k))
 
 items_few : (ts : Trees) → length (items_of ts) ≤ items_within ts
 items_few nil = omega arith

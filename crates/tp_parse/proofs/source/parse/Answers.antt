@@ -7,7 +7,7 @@ use Rattle.tp_parse.specs.declared.refusal.ParseRefusal.TheVariants.{Unexpected,
 use Rattle.tp_parse.specs.Input.{Tokens}
 use Rattle.tp_parse.specs.Source.{parse_outcome, IsOutcome, NamesToken}
 use Rattle.tp_parse.specs.Grammar.{Accepts}
-use Rattle.tp_parse.specs.Place.{IsPlace}
+use Rattle.tp_parse.specs.Place.{BlamesFirst}
 use Rattle.tp_parse.proofs.Exact.{read_accepted, accepted_read, refusal_named}
 use Rattle.tp_tree.specs.Height.{source_height}
 use Rattle.tp_parse.proofs.FirstToken.{refusal_is_place}
@@ -34,7 +34,7 @@ token ts (Err Unfinished) is = tt
 token ts (Err (Unexpected i)) is = refusal_named ts (Unexpected i) (is (λ q. cc))
 token ts (Err (TooDeep i)) is = refusal_named ts (TooDeep i) (is (λ q. cc))
 
-place : (ts : Tokens) (r : Result Source ParseRefusal) → IsOutcome (parse_outcome ts) r → IfErr r (IsPlace ts)
+place : (ts : Tokens) (r : Result Source ParseRefusal) → IsOutcome (parse_outcome ts) r → IfErr r (BlamesFirst ts)
 place ts (Ok x) is = tt
 place ts (Err NoMemory) is = tt
 place ts (Err Unfinished) is = refusal_is_place ts Unfinished (is (λ q. cc))
