@@ -5,18 +5,18 @@ use Rattle.std.specs.Fmt.{decimal}
 use Rattle.std.specs.Option.{option_map}
 use Rattle.std.proofs.lemmas.List.{append_cancel_left, take-append-drop}
 use Rattle.std.proofs.lemmas.List.Elements.{All-nil, All-cons, All-append, All-head, All-tail}
-use Rattle.tp_io.specs.Devices.{Held, bytes_of}
-use Rattle.tp_kernel.specs.declared.formula.LimitKind.{LimitKind}
-use Rattle.tp_kernel.specs.declared.formula.LimitKind.TheVariants as limit
+use Rattle.tp_io.specs.Held.{Held, bytes_of}
+use Rattle.tp_kernel.specs.declared.fault.LimitKind.{LimitKind}
+use Rattle.tp_kernel.specs.declared.fault.LimitKind.TheVariants as limit
 use Rattle.tp_store.specs.Known.{Variable}
 use Rattle.tp_show.specs.declared.turn.Picture.{Picture}
 use Rattle.tp_show.specs.declared.turn.Turn.{Turn}
 use Rattle.tp_show.specs.declared.turn.Turn.TheVariants as turn
-use Rattle.tp_show.specs.Line.{AreFactsOf}
+use Rattle.tp_show.specs.Line.{AreFactsOf, IsOneLine, fed_line}
 use Rattle.tp_show.specs.EndLine.{end_line}
 use Rattle.tp_show.specs.Told.{AreNames, IsPartOf}
 use Rattle.tp_show.specs.TraceLine.{opens_with_one}
-use Rattle.tp_show.specs.TraceOfRun.{IsOneLine, fed_line, PrintedState, printed_states_text}
+use Rattle.tp_show.specs.TraceOfRun.{PrintedState, printed_states_text}
 use Rattle.tp_show.proofs.ToldLemmas.{parts_of_variables}
 use Rattle.tp_run.specs.States.{Plan}
 use Rattle.tp_run.specs.History.{RunEndsWith, Unsatisfiable, ContinuesEach}

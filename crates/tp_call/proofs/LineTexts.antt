@@ -8,9 +8,8 @@ use Rattle.std.proofs.lemmas.Slice.Eq.{starts_is}
 use Rattle.std.proofs.lemmas.Grind.{flat_map-append}
 use Rattle.std.proofs.lemmas.List.Elements.{All-nil, All-cons, All-append, All-head, All-tail}
 use Rattle.tp_value.specs.Tree.{Tree}
-use Rattle.tp_show.specs.Line.{ToldState}
+use Rattle.tp_show.specs.Line.{ToldState, IsOneLine, fed_line}
 use Rattle.tp_show.specs.TraceLine.{opens_with_one}
-use Rattle.tp_show.specs.TraceOfRun.{IsOneLine, fed_line}
 use Rattle.tp_show.proofs.TraceDigits.{AllPass}
 use Rattle.tp_call.specs.TracedText.{IsTraceLine}
 use Rattle.tp_call.specs.LastLine.{last_openings, EndsInLine}

@@ -1,11 +1,10 @@
 -- What the last line of a text says to whoever has the text alone, whatever the status is.
 use Rattle.std.specs.Prelude.{◌≡◌, ℕ, true, List, [], ◌∷◌, ◌++◌, All, Option, Some, codes}
 use Rattle.std.specs.List.{flat_map}
-use Rattle.tp_io.specs.Devices.{Held}
-use Rattle.tp_show.specs.Line.{ToldState}
+use Rattle.tp_io.specs.Held.{Held}
+use Rattle.tp_show.specs.Line.{ToldState, IsOneLine, fed_line}
 use Rattle.tp_show.specs.Told.{FitsIn64Bits}
 use Rattle.tp_show.specs.TraceLine.{opens_with_one}
-use Rattle.tp_show.specs.TraceOfRun.{IsOneLine, fed_line}
 use Rattle.tp_run.specs.States.{Plan}
 use Rattle.tp_run.specs.History.{Unsatisfiable}
 use Rattle.tp_words.specs.Words.{Wanted, wanted_of}
