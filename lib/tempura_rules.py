@@ -465,7 +465,7 @@ RULES = (
     Rule("gets-under-if", "`stable` and `gets` under an `if` speak of all states to come", gets_under_if),
     Rule("two-writers", "Who writes a shared variable, and when", two_writers),
     Rule("or-test", "`Z = X or Y` is a test", or_test),
-    Rule("static-turn", "A static variable is the same in all turns", static_turn),
+    Rule("static-turn", "A lower-case name is static", static_turn),
     Rule("always-turn", "Neighbours share a state", always_turn),
     Rule("one-forall", "`forall` is no loop", one_forall),
 )
