@@ -23,6 +23,13 @@ ONE_LENGTH = "One conjunct ends the interval there, and another goes on: conjunc
 
 # the same for a place at which a text is refused: the first one that fits, with @ for the place
 LEADS_AT_PLACES = (
+    (r"^@\xef\xbb\xbf", "The file begins with a byte order mark: let the editor save it as UTF-8 without one."),
+    (r"^@(\xff\xfe|\xfe\xff)", "The file is written in UTF-16: let the editor save it as UTF-8 or ASCII."),
+    (
+        r"@[\x80-\xff]",
+        "Outside of comments stand ASCII letters and signs alone: a dash, a quote or a blank that was copied can be "
+        "another sign than it looks like.",
+    ),
     (r"@define", "Definitions stand in front of `run`, and one full stop ends the program."),
     (r"=@=", "There is no `==`: `=` says that both sides have one value."),
     (
