@@ -25,6 +25,7 @@ SOURCE_LIMIT = 1 << 20
 
 # what leads to a mistake
 SLOW = "The work in one state grows too fast, or there are too many states: look at loops, `forall` and recursion."
+OTHER_TABLE = "With the table that the exercise shows it is right: is something said that holds with that one alone?"
 LARGE = "Look for lists that grow, and for locals and calls that are made again and again in one state."
 
 
@@ -231,7 +232,7 @@ def compare(tempura, meant, got, source, given):
             failure.leads = first or failure.leads
             return failure
     last = len(meant.states) - 1
-    leads = [lead_of_length(source)]
+    leads = [lead_of_length(source, len(got.states) <= last)]
     if len(got.states) > last + 1:
         again = "" if got.end.kind == "finished" else f" ({got.end.line})"
         return Failure(f"state {last}: it goes on behind this state, which should be the last{again}",
@@ -319,7 +320,8 @@ def judge(tempura, course, exercise, path):
             text = text_of(source)
             hints = course.hints(exercise)
             hint = next((hint for words, of_text, hint in hints if words in told and of_text in text), None)
-            failure.leads = [hint] if hint else failure.leads
+            other = [OTHER_TABLE] if case is not cases[0] and by_run else []
+            failure.leads = [hint] if hint else failure.leads or other
             return failure, len(cases)
     return None, len(cases)
 

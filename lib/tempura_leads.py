@@ -14,6 +14,7 @@ READ_ONCE = (
     "or `stable({0})`."
 )
 COUNTED = "Count the steps, not the states: an interval of length 2 has three. Parts share a state; their lengths add up."
+HALTED_EARLY = "`halt` ends with the first state in which its condition is true, and here this is an earlier one."
 HALTED = (
     "`halt` ends with the first state in which its condition is true: is that one stepped over, or its bound left out, by "
     "`<` for `<=`?"
@@ -42,6 +43,10 @@ LEADS_AT_PLACES = (
     (r"\[[^]]*@:", "There is no operator for a part of a list: say the items, by `forall` or by a function."),
     (r"@,", "Conjuncts are joined by `and`; commas stand between items and between operands."),
     (r"\bdefine\s+@[A-Z]", "The name of a definition begins with a small letter."),
+    (
+        r"\bif\b[^()]*@(empty|more|skip|len|halt|fin|always|keep|stable)\b",
+        "An `if` that is a value takes all that follows: put it into parentheses.",
+    ),
     (
         r"@next\b",
         "`next` is no part of an expression: it stands in front of one side of an equation, as in `next A = B + 1`.",
@@ -164,8 +169,9 @@ def lead_at_place(source, told):
     place = re.fullmatch(r"line (\d+) column (\d+): (unexpected|bad byte|not an expression)", told)
     if not place:
         return []
-    line, column = source.decode("latin-1").split("\n")[int(place[1]) - 1], int(place[2]) - 1
-    text = line[:column].replace("@", " ") + "@" + line[column:]
+    lines, column = source.decode("latin-1").split("\n")[: int(place[1])], int(place[2]) - 1
+    before, behind = "\n".join([*lines[:-1], lines[-1][:column]]), lines[-1][column:]
+    text = before.replace("@", " ") + "@" + behind
     return next(([lead] for pattern, lead in LEADS_AT_PLACES if re.search(pattern, text)), [])
 
 
@@ -212,10 +218,10 @@ def leads_of_end(got, source, cure):
     return [cure(got.end.line)]
 
 
-def lead_of_length(source):
-    """What leads to a run that is too long or too short."""
+def lead_of_length(source, is_early):
+    """What leads to a run that is too long, or ends too early."""
     is_halted = re.search(rb"\bhalt\s*\(", source) and not re.search(rb"\blen\s*\(", source)
-    return HALTED if is_halted else COUNTED
+    return (HALTED_EARLY if is_early else HALTED) if is_halted else COUNTED
 
 
 def trace_lead(end, last):
