@@ -346,7 +346,7 @@ def styles(scheme):
     return "\n".join(told)
 
 
-def draw(run, width=100, cell=21, show=False, scheme=None):
+def draw(run, width=100, cell=41, show=False, scheme=None):
     """The picture of a run, as text: `scheme` is "light", "dark", or None for both."""
     picture = Picture(run, width, cell, show)
     wide, high = picture.draw()
