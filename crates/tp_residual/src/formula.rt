@@ -5,9 +5,11 @@ ghost use Rattle.tp_meaning.specs.Syntax as syntax;
 ghost use Rattle.tp_tree.specs.Levels.{any_level};
 ghost use Rattle.tp_residual.specs.Phrases as spec;
 ghost use Rattle.tp_residual.specs.Phrases.{all_formulas_spelling, called_with, counted_spelling, enclosed, formula_spelling, formulas_spelling, from_spelling, nexts_spelling};
+ghost use Rattle.tp_residual.specs.Chain.{exists_spelling};
 ghost use Rattle.tp_residual.specs.Read.{vocabulary_of};
 ghost use Rattle.tp_residual.specs.Words.{naming};
 
+use crate::chain::{append_chain, append_hidden};
 use crate::expr::{
     append_after, append_between, append_call, append_expr, append_exprs, append_number,
     append_operand, append_operator, expr_level,
@@ -16,7 +18,7 @@ use crate::words::{Bound, Words};
 use tp_kernel::{Expr, Exprs, Formula, Formulas};
 use tp_tree::Op;
 use tp_tree::level::{AND, ANY, CHOP, NOT, PREFIX, PROJ, RELATION, SUM, left_level, right_level};
-use tp_value::{NoMemory, Number, Text};
+use tp_value::{NoMemory, Number, Text, Texts};
 
 /// The level of a formula.
 #[cycle(formula_levels)]
@@ -209,11 +211,7 @@ pub fn append_formula(out: &mut Text, words: &Words, formula: &Formula) -> Resul
             append_operator(out, Op::Proj)?;
             append_part(out, words, outer, right_level(Op::Proj))
         }
-        Formula::Exists { name, body, .. } => {
-            out.append(b"exists ")?;
-            out.append(name.as_slice())?;
-            append_body(out, words, b" : ", name, body)
-        }
+        Formula::Exists { name, body, .. } => append_exists(out, words, name, body),
         Formula::Call(number, operands) => append_call(out, words, *number, operands),
         Formula::Input(place, port) => append_input(out, words, place, port),
         Formula::Display(values) => append_display(out, words, values),
@@ -315,11 +313,38 @@ fn append_body(
         outer: words.bound,
     };
     let inner = Words {
+        alloc: words.alloc,
         store: words.store,
         defs: words.defs,
         bound: &bound,
     };
     append_within(out, &inner, before, body, ANY)
+}
+
+// Appends `exists` with its name, and then the body; the names of a chain of them by a loop.
+#[cycle(formulas)]
+fn append_exists(out: &mut Text, words: &Words, name: &Text, body: &Formula) -> Result<(), NoMemory>
+    ensures { OnOk result
+        (out.new
+        ≡ out.old
+        ++ exists_spelling (vocabulary_of words.now) name.now (formula_tree body.now)) }
+{
+    let mut names = Texts {
+        items: Vec::new(words.alloc),
+    };
+    append_hidden(out, name, &mut names)?;
+    let within = append_chain(out, body, &mut names)?;
+    let bound = Bound::Chain {
+        names: &names,
+        outer: words.bound,
+    };
+    let inner = Words {
+        alloc: words.alloc,
+        store: words.store,
+        defs: words.defs,
+        bound: &bound,
+    };
+    append_part(out, &inner, within, ANY)
 }
 
 // Appends the conjunction of the operands.
