@@ -1,8 +1,6 @@
 use Rattle.std.proofs.Common.{◌≡◌, ◌++◌, ◌<◌, ◌≤◌, ◌-◌, ◌∙◌, Some, length, ap, sym, rules}
-use Rattle.std.specs.List.{slice_get}
 use Rattle.std.proofs.lemmas.List.{append-nil}
 use Rattle.tp_residual.specs.Words.{bound_spelling}
-use Rattle.tp_residual.specs.Read.{own_names, left_after}
 use Rattle.tp_residual.proofs.BoundNames.{own_within, own_beyond}
 use Rattle.tp_residual.proofs.words.append_own.Goals as goal
 
