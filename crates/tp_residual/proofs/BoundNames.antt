@@ -8,7 +8,7 @@ use Rattle.tp_kernel.specs.declared.formula.Env.{Env}
 use Rattle.tp_kernel.specs.declared.formula.Binding.{Binding}
 use Rattle.tp_kernel.specs.Read.{binding_of, bindings_of}
 use Rattle.tp_residual.specs.Words.{BoundName, stands_for, named}
-use Rattle.tp_residual.specs.Read.{bound_step, bound_names, left_after, own_names}
+use Rattle.tp_residual.specs.Read.{bound_step, bound_names, left_after, own_bound_names}
 use Rattle.tp_residual.specs.declared.words.Bound.{Bound}
 use Rattle.tp_residual.specs.declared.words.Bound.TheVariants.{Around, Inside, Chain, rolls-Around, rolls-Inside, rolls-Chain}
 use Rattle.tp_residual.specs.declared.words.Bound.TheOpen.{Bound-F}
@@ -20,7 +20,7 @@ names_around env = ap bound_names (sym (rolls-Around env)) ∙ fold-roll-Bound (
 pub names_inside : (name : Bor (List ℕ)) (outer : Bor Bound) → bound_names (Inside name outer) ≡ bound_names outer.now ++ named name.now ∷ []
 names_inside name outer = ap bound_names (sym (rolls-Inside name outer)) ∙ fold-roll-Bound (List BoundName) bound_step (Bound-F.Inside name outer)
 
-pub names_chained : (names : Bor (List (List ℕ))) (outer : Bor Bound) → bound_names (Chain names outer) ≡ bound_names outer.now ++ own_names names.now
+pub names_chained : (names : Bor (List (List ℕ))) (outer : Bor Bound) → bound_names (Chain names outer) ≡ bound_names outer.now ++ own_bound_names names.now
 names_chained names outer = ap bound_names (sym (rolls-Chain names outer)) ∙ fold-roll-Bound (List BoundName) bound_step (Bound-F.Chain names outer)
 
 within : (xs : List BoundName) (i : ℕ) → i < length xs → left_after xs i ≡ None
@@ -50,20 +50,20 @@ nothing_beyond (x ∷ xs) zero k e = absurd (cc e)
 nothing_beyond (x ∷ xs) (suc i) k e = nothing_beyond xs i k e
 
 -- those of a chain
-length_own : (names : List (List ℕ)) → length (own_names names) ≡ length names
+length_own : (names : List (List ℕ)) → length (own_bound_names names) ≡ length names
 length_own names = length-map names named
 
-pub own_within : (names : List (List ℕ)) (i : ℕ) (x : List ℕ) → i < length names → x ≡ get_or names i x → (slice_get (own_names names) i ≡ Some (named x)) × (left_after (own_names names) i ≡ None)
+pub own_within : (names : List (List ℕ)) (i : ℕ) (x : List ℕ) → i < length names → x ≡ get_or names i x → (slice_get (own_bound_names names) i ≡ Some (named x)) × (left_after (own_bound_names names) i ≡ None)
 own_within names i x l e = (
   slice_get-map named names i ∙ ap (option_map named) (slice_get-get_or names i x l ∙ ap Some (sym e)),
-  within (own_names names) i (let n = length_own names in omega (arith, n, l)),
+  within (own_bound_names names) i (let n = length_own names in omega (arith, n, l)),
 )
 
-pub own_beyond : (names : List (List ℕ)) (i : ℕ) → length names ≤ i → (slice_get (own_names names) i ≡ None) × (left_after (own_names names) i ≡ Some (i - length names))
+pub own_beyond : (names : List (List ℕ)) (i : ℕ) → length names ≤ i → (slice_get (own_bound_names names) i ≡ None) × (left_after (own_bound_names names) i ≡ Some (i - length names))
 own_beyond names i l =
     let n = length_own names in (
-      slice_get_past (own_names names) i (omega (arith, n, l)),
-      beyond (own_names names) i (omega (arith, n, l)) ∙ ap (λ m. Some (i - m)) n,
+      slice_get_past (own_bound_names names) i (omega (arith, n, l)),
+      beyond (own_bound_names names) i (omega (arith, n, l)) ∙ ap (λ m. Some (i - m)) n,
     )
 
 -- of one name, all but the first are beyond

@@ -9,7 +9,7 @@ use Rattle.tp_kernel.specs.Read.{formula_tree}
 use Rattle.tp_kernel.specs.Equations.{formula_exists}
 use Rattle.tp_residual.specs.Phrases.{formula_spelling}
 use Rattle.tp_residual.specs.Words.{BoundName, Vocabulary, naming}
-use Rattle.tp_residual.specs.Read.{bound_names, own_names}
+use Rattle.tp_residual.specs.Read.{bound_names, own_bound_names}
 use Rattle.tp_residual.specs.Chain.{naming_all, within_spelling}
 use Rattle.tp_residual.specs.declared.words.Bound.{Bound}
 use Rattle.tp_residual.specs.declared.words.Bound.TheVariants.{Chain}
@@ -34,7 +34,7 @@ pub hiding_written : (v : Vocabulary) (outer : Bor Bound) (names : Bor (List (Li
     → new ≡ out ++ within_spelling (record { variables = v.variables; definitions = v.definitions; bound = bound_names (Chain names outer) }) w
     → new ≡ out ++ within_spelling (naming_all v names.now) w
 hiding_written v outer names w out new e h =
-    let all = ap (bound_as v) (names_chained names outer ∙ ap (λ b. b ++ own_names names.now) (sym e)) in
+    let all = ap (bound_as v) (names_chained names outer ∙ ap (λ b. b ++ own_bound_names names.now) (sym e)) in
     h ∙ ap (λ u. out ++ within_spelling u w) all
 
 -- a chain, with its first name and what it is hidden in

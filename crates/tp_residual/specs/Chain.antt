@@ -6,7 +6,7 @@ use Rattle.tp_kernel.specs.declared.formula.Formula.TheViews.{size-Formula}
 use Rattle.tp_tree.specs.Levels.{any_level}
 use Rattle.tp_residual.specs.Words.{Vocabulary}
 use Rattle.tp_residual.specs.Phrases.{enclosed, formula_level, formula_spelling}
-use Rattle.tp_residual.specs.Read.{own_names}
+use Rattle.tp_residual.specs.Read.{own_bound_names}
 
 -- with names that the phrase itself binds, the outermost first
 abbrev pub naming_all : Vocabulary → List (List ℕ) → Vocabulary
@@ -14,7 +14,7 @@ naming_all v names =
     record {
       variables = v.variables;
       definitions = v.definitions;
-      bound = v.bound ++ own_names names;
+      bound = v.bound ++ own_bound_names names;
     }
 
 -- the body of a phrase that binds names

@@ -5,7 +5,7 @@ ghost use Rattle.std.specs.Fmt.{decimal};
 ghost use Rattle.tp_kernel.specs.Read.{binding_of, definitions_of};
 ghost use Rattle.tp_show.specs.Texts.{index_text};
 ghost use Rattle.tp_store.specs.Known.{Variable};
-ghost use Rattle.tp_residual.specs.Read.{bound_names, left_after, own_names};
+ghost use Rattle.tp_residual.specs.Read.{bound_names, left_after, own_bound_names};
 ghost use Rattle.tp_residual.specs.Words.{binding_spelling, bound_spelling, definition_name, path_spelling, variable_spelling};
 
 use itoa::Buffer;
@@ -94,8 +94,8 @@ fn append_binding(out: &mut Text, store: &Store, binding: &Binding) -> Result<()
 // stand.
 fn append_own(out: &mut Text, names: &Texts, number: u64) -> Result<Option<u64>, NoMemory>
     ensures text { OnOk result ((xs : List Variable) → out.new
-        ≡ out.old ++ bound_spelling xs (slice_get (own_names names.now) number)) }
-    ensures left { IfOk result (λ left. left ≡ left_after (own_names names.now) number) }
+        ≡ out.old ++ bound_spelling xs (slice_get (own_bound_names names.now) number)) }
+    ensures left { IfOk result (λ left. left ≡ left_after (own_bound_names names.now) number) }
 {
     let count = names.items.len() as u64;
     if number < count {

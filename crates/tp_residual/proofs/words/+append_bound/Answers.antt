@@ -3,7 +3,7 @@ use Rattle.std.proofs.lemmas.Result.{on_ok_weaker}
 use Rattle.std.specs.List.{slice_get}
 use Rattle.std.proofs.lemmas.List.{append-nil}
 use Rattle.tp_residual.specs.Words.{named, bound_spelling}
-use Rattle.tp_residual.specs.Read.{bound_names, left_after, own_names}
+use Rattle.tp_residual.specs.Read.{bound_names, left_after, own_bound_names}
 use Rattle.tp_residual.proofs.BoundNames.{names_around, names_inside, names_chained, bound_within, bound_beyond, none_left, some_left, nothing_beyond, one_before}
 use Rattle.tp_residual.proofs.words.+append_bound.Goals as goal
 
@@ -87,14 +87,14 @@ returns-in-Some-clause-left t c =
 pub returns-in-None-2-clause-text : goal.returns-in-None-2-clause-text
 returns-in-None-2-clause-text t c =
     let i = c.args.number in
-    let x = none_left (bound_names c.in-Chain.outer.now) (own_names c.in-Chain.names.now) i (sym c.in_ok-append_bound-in-Chain.ensures.left ∙ c.in-None-2.is) in
+    let x = none_left (bound_names c.in-Chain.outer.now) (own_bound_names c.in-Chain.names.now) i (sym c.in_ok-append_bound-in-Chain.ensures.left ∙ c.in-None-2.is) in
     c.in_ok-append_bound-in-Chain.ensures.text
     ∙ ap (λ o. c.args.out.now ++ bound_spelling c.args.store.now.variables o) (sym (ap (λ xs. slice_get xs i) (ap bound_names c.in-Chain.is ∙ names_chained c.in-Chain.names c.in-Chain.outer) ∙ x.0))
 
 pub returns-in-None-2-clause-left : goal.returns-in-None-2-clause-left
 returns-in-None-2-clause-left t c =
     let i = c.args.number in
-    let x = none_left (bound_names c.in-Chain.outer.now) (own_names c.in-Chain.names.now) i (sym c.in_ok-append_bound-in-Chain.ensures.left ∙ c.in-None-2.is) in
+    let x = none_left (bound_names c.in-Chain.outer.now) (own_bound_names c.in-Chain.names.now) i (sym c.in_ok-append_bound-in-Chain.ensures.left ∙ c.in-None-2.is) in
     sym (ap (λ xs. left_after xs i) (ap bound_names c.in-Chain.is ∙ names_chained c.in-Chain.names c.in-Chain.outer) ∙ x.1)
 
 pub returns-in-Some-2-clause-text : goal.returns-in-Some-2-clause-text
@@ -103,7 +103,7 @@ returns-in-Some-2-clause-text t c =
     let vs = c.args.store.now.variables in
     let outer = bound_names c.in-Chain.outer.now in
     let left = sym c.in_ok-append_bound-in-Chain.ensures.left ∙ c.in-Some-2.is in
-    let x = some_left outer (own_names c.in-Chain.names.now) i c.in-Some-2.left left in
+    let x = some_left outer (own_bound_names c.in-Chain.names.now) i c.in-Some-2.left left in
     let all = ap (λ ns. slice_get ns i) (ap bound_names c.in-Chain.is ∙ names_chained c.in-Chain.names c.in-Chain.outer) ∙ x.0 in
     let before : c.append_bound-in-Chain.new.out ≡ c.args.out.now = c.in_ok-append_bound-in-Chain.ensures.text ∙ (ap (λ o. c.args.out.now ++ bound_spelling vs o) (nothing_beyond outer i c.in-Some-2.left left) ∙ append-nil c.args.out.now) in
     on_ok_weaker c.append_own.result (λ h. h vs ∙ ap₂ (λ a o. a ++ bound_spelling vs o) before (sym all)) c.append_own.ensures.text
@@ -111,6 +111,6 @@ returns-in-Some-2-clause-text t c =
 pub returns-in-Some-2-clause-left : goal.returns-in-Some-2-clause-left
 returns-in-Some-2-clause-left t c =
     let i = c.args.number in
-    let x = some_left (bound_names c.in-Chain.outer.now) (own_names c.in-Chain.names.now) i c.in-Some-2.left (sym c.in_ok-append_bound-in-Chain.ensures.left ∙ c.in-Some-2.is) in
+    let x = some_left (bound_names c.in-Chain.outer.now) (own_bound_names c.in-Chain.names.now) i c.in-Some-2.left (sym c.in_ok-append_bound-in-Chain.ensures.left ∙ c.in-Some-2.is) in
     let all = ap (λ xs. left_after xs i) (ap bound_names c.in-Chain.is ∙ names_chained c.in-Chain.names c.in-Chain.outer) ∙ x.1 in
     subst (λ o. IfOk c.append_own.result (λ left. left ≡ o)) (sym all) c.append_own.ensures.left
