@@ -20,7 +20,7 @@ use crate::state::{binary, negation, state};
 use std::alloc::Global;
 use std::rc::Rc;
 use tp_kernel::{Formula, Formulas, fin, halt, keep, list, repeat, skip, stable};
-use tp_scope::{Binders, Scope, Visible, take_room};
+use tp_scope::{Binders, Scope, Visible};
 use tp_tree::{Bare, Form, Phrase, PhraseKind, Phrases};
 use tp_value::{NoMemory, Text, Texts};
 
@@ -226,7 +226,6 @@ fn hidden(
     let Some(binders) = Binders::of(alloc, bound)? else {
         return Err(CheckRefusal::Twice { at });
     };
-    take_room(names.scope, &binders)?;
     let body = formula_within(alloc, body, &binders, names)?;
     Ok(exists_each(alloc, bound, body)?)
 }

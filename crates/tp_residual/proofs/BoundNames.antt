@@ -8,9 +8,9 @@ use Rattle.tp_kernel.specs.declared.formula.Env.{Env}
 use Rattle.tp_kernel.specs.declared.formula.Binding.{Binding}
 use Rattle.tp_kernel.specs.Read.{binding_of, bindings_of}
 use Rattle.tp_residual.specs.Words.{BoundName, stands_for, named}
-use Rattle.tp_residual.specs.Read.{bound_step, bound_names, left_after}
+use Rattle.tp_residual.specs.Read.{bound_step, bound_names, left_after, own_bound_names}
 use Rattle.tp_residual.specs.declared.words.Bound.{Bound}
-use Rattle.tp_residual.specs.declared.words.Bound.TheVariants.{Around, Inside, rolls-Around, rolls-Inside}
+use Rattle.tp_residual.specs.declared.words.Bound.TheVariants.{Around, Inside, Chain, rolls-Around, rolls-Inside, rolls-Chain}
 use Rattle.tp_residual.specs.declared.words.Bound.TheOpen.{Bound-F}
 use Rattle.tp_residual.specs.declared.words.Bound.TheFolds.{fold-roll-Bound}
 
@@ -19,6 +19,9 @@ names_around env = ap bound_names (sym (rolls-Around env)) ∙ fold-roll-Bound (
 
 pub names_inside : (name : Bor (List ℕ)) (outer : Bor Bound) → bound_names (Inside name outer) ≡ bound_names outer.now ++ named name.now ∷ []
 names_inside name outer = ap bound_names (sym (rolls-Inside name outer)) ∙ fold-roll-Bound (List BoundName) bound_step (Bound-F.Inside name outer)
+
+pub names_chained : (names : Bor (List (List ℕ))) (outer : Bor Bound) → bound_names (Chain names outer) ≡ bound_names outer.now ++ own_bound_names names.now
+names_chained names outer = ap bound_names (sym (rolls-Chain names outer)) ∙ fold-roll-Bound (List BoundName) bound_step (Bound-F.Chain names outer)
 
 within : (xs : List BoundName) (i : ℕ) → i < length xs → left_after xs i ≡ None
 within [] i l = absurd (omega (arith, l))
@@ -30,21 +33,38 @@ beyond [] i l = ap Some (omega arith)
 beyond (x ∷ xs) zero l = absurd (omega (arith, l))
 beyond (x ∷ xs) (suc i) l = beyond xs i (omega (arith, l)) ∙ ap Some (omega arith)
 
--- one name more, by how many are left without it
-pub none_left : (xs : List BoundName) (y : BoundName) (i : ℕ) → left_after xs i ≡ None → (slice_get (xs ++ y ∷ []) i ≡ slice_get xs i) × (left_after (xs ++ y ∷ []) i ≡ None)
-none_left [] y i e = absurd (cc e)
-none_left (x ∷ xs) y zero e = (refl, refl)
-none_left (x ∷ xs) y (suc i) e = none_left xs y i e
+-- more names, by how many are left without them
+pub none_left : (xs ys : List BoundName) (i : ℕ) → left_after xs i ≡ None → (slice_get (xs ++ ys) i ≡ slice_get xs i) × (left_after (xs ++ ys) i ≡ None)
+none_left [] ys i e = absurd (cc e)
+none_left (x ∷ xs) ys zero e = (refl, refl)
+none_left (x ∷ xs) ys (suc i) e = none_left xs ys i e
 
-pub some_left : (xs : List BoundName) (y : BoundName) (i k : ℕ) → left_after xs i ≡ Some k → (slice_get (xs ++ y ∷ []) i ≡ slice_get (y ∷ []) k) × (left_after (xs ++ y ∷ []) i ≡ left_after (y ∷ []) k)
-some_left [] y i k e = (ap (slice_get (y ∷ [])) (cc e), ap (left_after (y ∷ [])) (cc e))
-some_left (x ∷ xs) y zero k e = absurd (cc e)
-some_left (x ∷ xs) y (suc i) k e = some_left xs y i k e
+pub some_left : (xs ys : List BoundName) (i k : ℕ) → left_after xs i ≡ Some k → (slice_get (xs ++ ys) i ≡ slice_get ys k) × (left_after (xs ++ ys) i ≡ left_after ys k)
+some_left [] ys i k e = (ap (slice_get ys) (cc e), ap (left_after ys) (cc e))
+some_left (x ∷ xs) ys zero k e = absurd (cc e)
+some_left (x ∷ xs) ys (suc i) k e = some_left xs ys i k e
 
 pub nothing_beyond : (xs : List BoundName) (i k : ℕ) → left_after xs i ≡ Some k → slice_get xs i ≡ None
 nothing_beyond [] i k e = refl
 nothing_beyond (x ∷ xs) zero k e = absurd (cc e)
 nothing_beyond (x ∷ xs) (suc i) k e = nothing_beyond xs i k e
+
+-- those of a chain
+length_own : (names : List (List ℕ)) → length (own_bound_names names) ≡ length names
+length_own names = length-map names named
+
+pub own_within : (names : List (List ℕ)) (i : ℕ) (x : List ℕ) → i < length names → x ≡ get_or names i x → (slice_get (own_bound_names names) i ≡ Some (named x)) × (left_after (own_bound_names names) i ≡ None)
+own_within names i x l e = (
+  slice_get-map named names i ∙ ap (option_map named) (slice_get-get_or names i x l ∙ ap Some (sym e)),
+  within (own_bound_names names) i (let n = length_own names in omega (arith, n, l)),
+)
+
+pub own_beyond : (names : List (List ℕ)) (i : ℕ) → length names ≤ i → (slice_get (own_bound_names names) i ≡ None) × (left_after (own_bound_names names) i ≡ Some (i - length names))
+own_beyond names i l =
+    let n = length_own names in (
+      slice_get_past (own_bound_names names) i (omega (arith, n, l)),
+      beyond (own_bound_names names) i (omega (arith, n, l)) ∙ ap (λ m. Some (i - m)) n,
+    )
 
 -- of one name, all but the first are beyond
 pub one_before : (y : BoundName) (k : ℕ) → (k ≡ 0 → ⊥) → (slice_get (y ∷ []) k ≡ None) × (left_after (y ∷ []) k ≡ Some (k - 1))

@@ -14,7 +14,7 @@ use Rattle.tp_slots.specs.Read.{slot_of, region_slot_of, slots_of, what_of, item
 use Rattle.tp_slots.specs.declared.scene.Scene.{Scene}
 use Rattle.tp_slots.specs.declared.scene.Region.{Region}
 use Rattle.tp_slots.specs.declared.scene.Slot.{Slot}
-use Rattle.tp_slots.proofs.Walking.{stands_in_front, item_is, entries_are}
+use Rattle.tp_slots.proofs.Walking.{item_is, entries_are}
 use Rattle.tp_slots.proofs.WalkLemmas.{roots_are}
 use Rattle.tp_slots.proofs.Showing.{all_shown}
 use Rattle.tp_residual.proofs.Conjunctions.{only_item}

@@ -2,6 +2,7 @@ pub mod Words
 pub mod Phrases
 pub mod Residual
 pub mod Read
+pub mod Chain
 pub mod Seen
 pub mod Laws
 pub mod Examples

@@ -7,10 +7,15 @@ use Rattle.tp_residual.specs.declared.words.Bound.TheOpen.{Bound-F}
 use Rattle.tp_residual.specs.declared.words.Bound.TheFolds.{fold-Bound}
 use Rattle.tp_residual.specs.declared.words.Words.{Words}
 
+-- names that a phrase itself binds
+abbrev pub own_bound_names : List (List ℕ) → List BoundName
+own_bound_names names = map named names
+
 -- one binder, with the names outside of it already seen
 abbrev pub bound_step : Bound-F (List BoundName) → List BoundName
 bound_step (Bound-F.Around env) = map stands_for (bindings_of env.now)
 bound_step (Bound-F.Inside name outer) = outer.now ++ named name.now ∷ []
+bound_step (Bound-F.Chain names outer) = outer.now ++ own_bound_names names.now
 
 abbrev pub bound_names : Bound → List BoundName
 bound_names = fold-Bound (List BoundName) bound_step

@@ -5,9 +5,11 @@ ghost use Rattle.tp_meaning.specs.Syntax as syntax;
 ghost use Rattle.tp_tree.specs.Levels.{any_level};
 ghost use Rattle.tp_residual.specs.Phrases as spec;
 ghost use Rattle.tp_residual.specs.Phrases.{all_formulas_spelling, called_with, counted_spelling, enclosed, formula_spelling, formulas_spelling, from_spelling, nexts_spelling};
+ghost use Rattle.tp_residual.specs.Chain.{naming_all, within_spelling};
 ghost use Rattle.tp_residual.specs.Read.{vocabulary_of};
 ghost use Rattle.tp_residual.specs.Words.{naming};
 
+use crate::chain::{append_chain, append_hidden};
 use crate::expr::{
     append_after, append_between, append_call, append_expr, append_exprs, append_number,
     append_operand, append_operator, expr_level,
@@ -16,7 +18,7 @@ use crate::words::{Bound, Words};
 use tp_kernel::{Expr, Exprs, Formula, Formulas};
 use tp_tree::Op;
 use tp_tree::level::{AND, ANY, CHOP, NOT, PREFIX, PROJ, RELATION, SUM, left_level, right_level};
-use tp_value::{NoMemory, Number, Text};
+use tp_value::{NoMemory, Number, Text, Texts};
 
 /// The level of a formula.
 #[cycle(formula_levels)]
@@ -210,9 +212,12 @@ pub fn append_formula(out: &mut Text, words: &Words, formula: &Formula) -> Resul
             append_part(out, words, outer, right_level(Op::Proj))
         }
         Formula::Exists { name, body, .. } => {
-            out.append(b"exists ")?;
-            out.append(name.as_slice())?;
-            append_body(out, words, b" : ", name, body)
+            let mut names = Texts {
+                items: Vec::new(words.alloc),
+            };
+            append_hidden(out, name, &mut names)?;
+            let within = append_chain(out, body, &mut names)?;
+            append_hiding(out, words, &names, within)
         }
         Formula::Call(number, operands) => append_call(out, words, *number, operands),
         Formula::Input(place, port) => append_input(out, words, place, port),
@@ -315,11 +320,36 @@ fn append_body(
         outer: words.bound,
     };
     let inner = Words {
+        alloc: words.alloc,
         store: words.store,
         defs: words.defs,
         bound: &bound,
     };
     append_within(out, &inner, before, body, ANY)
+}
+
+// Appends what these names are hidden in.
+#[cycle(formulas)]
+fn append_hiding(
+    out: &mut Text,
+    words: &Words,
+    names: &Texts,
+    body: &Formula,
+) -> Result<(), NoMemory>
+    ensures { let v = naming_all (vocabulary_of words.now) names.now in OnOk result
+        (out.new ≡ out.old ++ within_spelling v (formula_tree body.now)) }
+{
+    let bound = Bound::Chain {
+        names,
+        outer: words.bound,
+    };
+    let inner = Words {
+        alloc: words.alloc,
+        store: words.store,
+        defs: words.defs,
+        bound: &bound,
+    };
+    append_part(out, &inner, body, ANY)
 }
 
 // Appends the conjunction of the operands.

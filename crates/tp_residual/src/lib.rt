@@ -1,6 +1,7 @@
 //! The trace lines of a state: how many reductions it took, and what is still to hold from the next state on, as a phrase.
 #![tactic(auto)]
 
+mod chain;
 mod expr;
 mod formula;
 mod laws;

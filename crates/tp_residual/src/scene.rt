@@ -97,6 +97,7 @@ fn append_whole(out: &mut Text, residue: &Residue, phrase: &Phrase) -> Result<()
 {
     let bound = Bound::Around(&phrase.env);
     let words = Words {
+        alloc: residue.alloc,
         store: residue.store,
         defs: residue.defs,
         bound: &bound,

@@ -1,19 +1,21 @@
 // By what the names of a phrase are spelled.
-ghost use Rattle.std.specs.Prelude.{◌≡◌, ◌++◌, slice_get, IfOk, OnOk};
+ghost use Rattle.std.specs.Prelude.{◌≡◌, ◌++◌, List, slice_get, IfOk, OnOk};
 ghost use Rattle.std.specs.List.{flat_map};
 ghost use Rattle.std.specs.Fmt.{decimal};
 ghost use Rattle.tp_kernel.specs.Read.{binding_of, definitions_of};
 ghost use Rattle.tp_show.specs.Texts.{index_text};
-ghost use Rattle.tp_residual.specs.Read.{bound_names, left_after};
+ghost use Rattle.tp_store.specs.Known.{Variable};
+ghost use Rattle.tp_residual.specs.Read.{bound_names, left_after, own_bound_names};
 ghost use Rattle.tp_residual.specs.Words.{binding_spelling, bound_spelling, definition_name, path_spelling, variable_spelling};
 
 use itoa::Buffer;
+use std::alloc::Global;
 use tp_kernel::{Binding, Defs, Env};
 use tp_store::Store;
-use tp_value::{Indices, NoMemory, Path, Text, VarId, write_value};
+use tp_value::{Indices, NoMemory, Path, Text, Texts, VarId, write_value};
 
-/// The names that are bound where a phrase stands, the innermost first: those that the phrase itself binds, and those around it with
-/// what they stand for.
+/// The names that are bound where a phrase stands, the innermost first: those that the phrase itself binds, one by one, or a chain of
+/// them with the outermost first, and those around it with what they stand for.
 #[derive(Clone, Copy)]
 pub enum Bound<'a> {
     Around(&'a Env),
@@ -21,11 +23,16 @@ pub enum Bound<'a> {
         name: &'a Text,
         outer: &'a Bound<'a>,
     },
+    Chain {
+        names: &'a Texts,
+        outer: &'a Bound<'a>,
+    },
 }
 
-/// By what the names of a phrase are spelled.
+/// By what the names of a phrase are spelled, and where memory is taken.
 #[derive(Clone, Copy)]
 pub struct Words<'a> {
+    pub alloc: Global,
     pub store: &'a Store,
     pub defs: &'a Defs,
     pub bound: &'a Bound<'a>,
@@ -83,6 +90,22 @@ fn append_binding(out: &mut Text, store: &Store, binding: &Binding) -> Result<()
     }
 }
 
+// Appends the name with this number. Where there are fewer nothing is appended, and what is answered is how many names further in it would
+// stand.
+fn append_own(out: &mut Text, names: &Texts, number: u64) -> Result<Option<u64>, NoMemory>
+    ensures text { OnOk result ((xs : List Variable) → out.new
+        ≡ out.old ++ bound_spelling xs (slice_get (own_bound_names names.now) number)) }
+    ensures left { IfOk result (λ left. left ≡ left_after (own_bound_names names.now) number) }
+{
+    let count = names.items.len() as u64;
+    if number < count {
+        out.append(names.items[number as usize].as_slice())?;
+        Ok(None)
+    } else {
+        Ok(Some(number - count))
+    }
+}
+
 /// Appends what the bound name of this number, counted from the outermost, is spelled by. Where fewer names are bound nothing is appended, and
 /// what is answered is how many names further in it would stand.
 pub fn append_bound(
@@ -114,6 +137,10 @@ pub fn append_bound(
                 Ok(None)
             }
             Some(left) => Ok(Some(left - 1)),
+        },
+        Bound::Chain { names, outer } => match append_bound(out, store, outer, number)? {
+            None => Ok(None),
+            Some(left) => append_own(out, names, left),
         },
     }
 }

@@ -34,10 +34,6 @@ scope_step (Scope-F.Inner binders outer) = bound_in outer.now binders.now
 abbrev pub names_bound : Scope → Names
 names_bound = fold-Scope Names scope_step
 
--- the most names that may be bound in each other
-abbrev pub most_bound : ℕ
-most_bound = 10000
-
 -- what calls know of definitions
 abbrev pub signature_seen : List ℕ → Signature → plain.Signature
 signature_seen name s = record { name = name; parameters = s.parameters.now; is_state = s.is_state }

@@ -13,5 +13,5 @@ pub use binders::Binders;
 pub use directory::{Callee, Directory, Signature};
 pub use names::add_names;
 pub use phrases::{Callable, is_place, is_state};
-pub use scope::{Scope, Visible, find_binder, take_room};
+pub use scope::{Scope, Visible, find_binder};
 pub use states::find_states;

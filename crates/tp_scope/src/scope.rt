@@ -1,7 +1,7 @@
 // What a name stands for where it is read.
-ghost use Rattle.std.specs.Prelude.{◌≡◌, ◌+◌, ◌≤◌, ◌<◌, ◌^◌, IfOk, OnOk, OnErr, length};
+ghost use Rattle.std.specs.Prelude.{◌≡◌, ◌≤◌, ◌^◌, IfOk, OnErr, length};
 ghost use Rattle.tp_scope.specs.Scope.{binder_of};
-ghost use Rattle.tp_scope.specs.Seen.{names_bound, most_bound};
+ghost use Rattle.tp_scope.specs.Seen.{names_bound};
 
 use crate::binders::Binders;
 use crate::count::{as_number, sum_of};
@@ -32,22 +32,6 @@ fn bound_count(scope: &Scope) -> Result<u32, NoMemory>
         Scope::Outermost => Ok(0),
         Scope::Inner(binders, outer) => sum_of(bound_count(outer)?, as_number(binders.len())?),
     }
-}
-
-// The most names that may be bound in each other. Each name of an `exists` makes its formula one deeper, and a formula is let go level by
-// level, on the machine's stack.
-const MOST_BOUND: u32 = 10_000;
-
-/// Want of memory exactly where more names would be bound in each other than the machine's stack has room for.
-pub fn take_room(scope: &Scope, more: &Binders) -> Result<(), NoMemory>
-    ensures ok { OnOk result (length (names_bound scope.now) + length more.now ≤ most_bound) }
-    ensures err { OnErr result (most_bound < length (names_bound scope.now) + length more.now) }
-{
-    let count = sum_of(bound_count(scope)?, as_number(more.len())?)?;
-    if count > MOST_BOUND {
-        return Err(NoMemory);
-    }
-    Ok(())
 }
 
 /// The number of the name's innermost binder, or none where the name isn't bound.

@@ -1,4 +1,4 @@
-use Rattle.std.proofs.Common.{◌≡◌, ◌∷◌, [], ◌≤◌, List, length, rules}
+use Rattle.std.proofs.Common.{◌≡◌, ◌∷◌, [], ◌≤◌, List, length, refl, rules}
 use Rattle.std.proofs.lemmas.Result.{on_ok_weaker}
 use Rattle.std.specs.declared.rc.Rc.{Rc}
 use Rattle.std.specs.declared.alloc.Global.{Global}
@@ -6,6 +6,8 @@ use Rattle.tp_kernel.specs.declared.formula.Formula.{Formula}
 use Rattle.tp_residual.specs.Read.{vocabulary_of}
 use Rattle.tp_residual.proofs.Conjunctions.{only_item, one_formula_written, several_formulas_written, formulas_to_write}
 use Rattle.tp_residual.proofs.Always.{keep_written, fin_written, always_written}
+use Rattle.tp_kernel.specs.Read.{formula_tree}
+use Rattle.tp_residual.proofs.Chains.{hiding_written, exists_written}
 use Rattle.tp_residual.proofs.formula.+formulas.Goals as goal
 
 pub append_all-returns-in-len1 : goal.append_all-returns-in-len1
@@ -44,3 +46,17 @@ append_operands-loop-operand-init t c =
     let xs : List (Rc Formula Global) = c.deref-operand-items.result.now in
     let is : xs ≡ c.args.operands.now.items.items = search rules in
     formulas_to_write c.args.out.now c.as_slice-opening.result.now (vocabulary_of c.args.words.now) c.args.operands.now xs c.as_slice-opening.ensures is
+
+pub append_hiding-returns : goal.append_hiding-returns
+append_hiding-returns t c =
+    let v = vocabulary_of c.args.words.now in
+    on_ok_weaker c.append_part.result (hiding_written v c.args.words.now.bound _ (formula_tree c.args.body.now) c.args.out.now c.append_part.new.out refl) c.append_part.ensures
+
+pub append_formula-returns-in_ok-within-in-Exists : goal.append_formula-returns-in_ok-within-in-Exists
+append_formula-returns-in_ok-within-in-Exists t c =
+    let v = vocabulary_of c.args.words.now in
+    let name = c.in-Exists.name in
+    let within = formula_tree c.in_ok-within-in-Exists.within.now in
+    let one : c.append_hidden.new.names ≡ name ∷ [] = search rules in
+    on_ok_weaker c.append_hiding.result
+    (exists_written v c.args.formula.now name c.in-Exists.lasting c.in-Exists.body c.deref-in-Exists.result.now within c.args.out.now c.append_hidden.new.out c.append_chain.new.out c.append_hiding.new.out c.append_hidden.new.names c.append_chain.new.names c.in-Exists.is c.deref-in-Exists.ensures c.in_ok-append_hidden-in-Exists.ensures.text one (c.in_ok-within-in-Exists.ensures.text v)) c.append_hiding.ensures
