@@ -4,7 +4,7 @@ use Rattle.tp_io.specs.Held.{Held, bytes_of}
 use Rattle.tp_inputs.specs.Within.{InputsWithin}
 use Rattle.tp_inputs.proofs.LawLemmas.{one_table}
 use Rattle.tp_inputs.proofs.WithinLemmas.{tables_within}
-use Rattle.tp_meaning.specs.Inputs.{InputLines}
+use Rattle.tp_meaning.specs.Inputs.{InputTable}
 use Rattle.tp_meaning.specs.Interval.{ProgramTree}
 use Rattle.tp_show.specs.declared.turn.Picture.{Picture}
 use Rattle.tp_show.specs.declared.turn.Turn.{Turn}
@@ -68,11 +68,11 @@ module _ (words : List (List ℕ)) (held : Option Held) (old new : Option (List 
   ended result end a = absurd end
 
   module _ (files : Held) (told : held ≡ Some files) where
-    one_inputs : (name : Option (List ℕ)) (t u : InputLines) → HasInputs name held t → HasInputs name held u → t ≡ u
+    one_inputs : (name : Option (List ℕ)) (t u : InputTable) → HasInputs name held t → HasInputs name held u → t ≡ u
     one_inputs None t u h k = h ∙ sym k
     one_inputs (Some name) t u h k = one_table (bytes_of files name) t u (h files told).1 (k files told).1
 
-    pub inputs_within : (name : Option (List ℕ)) (t : InputLines) → HasInputs name held t → InputsWithin t
+    pub inputs_within : (name : Option (List ℕ)) (t : InputTable) → HasInputs name held t → InputsWithin t
     inputs_within None t h = subst InputsWithin (sym h) tt
     inputs_within (Some name) t h = tables_within (bytes_of files name) t (h files told).1
 
@@ -87,7 +87,7 @@ module _ (words : List (List ℕ)) (held : Option Held) (old new : Option (List 
         let inputs : p.inputs ≡ q.inputs = one_inputs b.wanted.inputs p.inputs q.inputs has b.inputs in
         let states : p.states ≡ q.states = a.states ∙ ap (λ (v : Wanted). v.states) w ∙ sym b.states in
         let reductions : p.reductions ≡ q.reductions = a.reductions ∙ ap (λ (v : Wanted). v.reductions) w ∙ sym b.reductions in
-        ap (λ (x : ProgramTree). plan_with x p.inputs p.states p.reductions) program ∙ ap (λ (x : InputLines). plan_with q.program x p.states p.reductions) inputs
+        ap (λ (x : ProgramTree). plan_with x p.inputs p.states p.reductions) program ∙ ap (λ (x : InputTable). plan_with q.program x p.states p.reductions) inputs
         ∙ ap (λ n. plan_with q.program q.inputs n p.reductions) states ∙ ap (plan_with q.program q.inputs q.states) reductions
 
     -- The call's run agrees with every other one.

@@ -10,7 +10,7 @@ use Rattle.tp_call.specs.declared.status.Which.TheVariants.{Source, Inputs}
 use Rattle.tp_call.specs.declared.source.ReadRefusal.{ReadRefusal}
 use Rattle.tp_call.specs.declared.source.ReadRefusal.TheVariants as read
 use Rattle.tp_call.specs.Reading.{read_end, asked_by, AsksFile}
-use Rattle.tp_meaning.specs.Inputs.{InputLines}
+use Rattle.tp_meaning.specs.Inputs.{InputTable}
 use Rattle.tp_meaning.specs.Interval.{ProgramTree}
 use Rattle.tp_words.specs.Words.{Wanted, wanted_of}
 use Rattle.tp_call.specs.Parts.{IsWordsRefusal, refusal_end, IsReadRefusal, IsSourceRefusal, IsTableRefusal, IsInputsEnd, IsProgramRefusal}
@@ -122,7 +122,7 @@ module _ (words : List (List ℕ)) (held : Option Held) (wanted : Wanted) (accep
     no_table names status mid same named end = no_table_here names status named (subst (λ m. IsInputsEnd m names status) same end)
 
 -- a table of the name that was lent, of files that tell the same
-pub inputs_held : (held mid : Option Held) (lent own : Option (List ℕ)) (table : InputLines) → mid ≡ held → lent ≡ own → HasInputs lent mid table → HasInputs own held table
+pub inputs_held : (held mid : Option Held) (lent own : Option (List ℕ)) (table : InputTable) → mid ≡ held → lent ≡ own → HasInputs lent mid table → HasInputs own held table
 inputs_held held mid lent own table same name is = subst (λ o. HasInputs o held table) name (subst (λ m. HasInputs lent m table) same is)
 
 -- the name that a lent text gives

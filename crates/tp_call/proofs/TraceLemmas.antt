@@ -7,7 +7,7 @@ use Rattle.tp_io.specs.Held.{Held, bytes_of}
 use Rattle.tp_tree.specs.Names.{source_names}
 use Rattle.tp_parse.proofs.NameLemmas.{names_are_tokens}
 use Rattle.tp_inputs.specs.Table.{IsInputsText}
-use Rattle.tp_meaning.specs.Inputs.{InputLines}
+use Rattle.tp_meaning.specs.Inputs.{InputTable}
 use Rattle.tp_check.proofs.NameLaws.{globals_stand_in_source}
 use Rattle.tp_scene.specs.Pick.{Moment}
 use Rattle.tp_scene.specs.Beginning.{first_moment}
@@ -66,7 +66,7 @@ module _ (source : List ℕ) (plan : Plan) (is : IsProgram source plan.program) 
   pub program_printable : ProgramIsPrintable plan.program
   program_printable = checked_programs_are_printable is.tree plan.program is.checked (each_is IsVariableName IsOneLine one_line (source_names is.tree) source_variables)
 
-pub inputs_printable : (held : Option Held) (files : Held) → held ≡ Some files → (name : Option (List ℕ)) (table : InputLines) → HasInputs name held table → InputsArePrintable table
+pub inputs_printable : (held : Option Held) (files : Held) → held ≡ Some files → (name : Option (List ℕ)) (table : InputTable) → HasInputs name held table → InputsArePrintable table
 inputs_printable held files told None table h = subst InputsArePrintable (sym h) tt
 inputs_printable held files told (Some name) table h = tables_are_printable (bytes_of files name) table (h files told).1
 

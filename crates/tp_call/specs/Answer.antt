@@ -17,7 +17,7 @@ use Rattle.tp_words.specs.declared.mode.Mode.{Mode}
 use Rattle.tp_words.specs.declared.mode.Mode.TheVariants.{Run, Print}
 use Rattle.tp_words.specs.Words.{Wanted, wanted_of}
 use Rattle.std.specs.Str.Lines.{lines}
-use Rattle.tp_meaning.specs.Inputs.{InputLines}
+use Rattle.tp_meaning.specs.Inputs.{InputTable}
 use Rattle.tp_inputs.specs.declared.fault.Fault.{Fault}
 use Rattle.tp_inputs.specs.Table.{IsInputsText, IsFirstFault}
 use Rattle.tp_show.specs.EndLine.{end_line}
@@ -64,11 +64,11 @@ abbrev pub inputs_limit : ℕ
 inputs_limit = 16777216
 
 -- a file of at most so many bytes is this table of inputs
-abbrev pub HoldsTable : InputLines → List ℕ → Type 0
+abbrev pub HoldsTable : InputTable → List ℕ → Type 0
 HoldsTable table bytes = (length bytes ≤ inputs_limit) × IsInputsText bytes table
 
 -- the inputs of a file, where one is named, are this table; without a name there are none
-abbrev pub HasInputs : (name : Option (List ℕ)) → Option Held → InputLines → Type 0
+abbrev pub HasInputs : (name : Option (List ℕ)) → Option Held → InputTable → Type 0
 HasInputs None held table = table ≡ []
 HasInputs (Some name) held table = WhereTold held (λ files. HoldsTable table (bytes_of files name))
 
@@ -109,7 +109,7 @@ HasBadLine line bytes =
 -- inputs are a table; to print, the source is one of the grammar.
 abbrev pub Serves : Mode → Which → List ℕ → Type 0
 Serves Run Source bytes = (program : ProgramTree) × HoldsProgram program bytes
-Serves Run Inputs bytes = (table : InputLines) × HoldsTable table bytes
+Serves Run Inputs bytes = (table : InputTable) × HoldsTable table bytes
 Serves Print Source bytes = (tree : SourceTree) × HoldsSource tree bytes
 Serves Print Inputs bytes = ⊥
 

@@ -4,7 +4,7 @@ use Rattle.tp_io.specs.Held.{Held}
 use Rattle.tp_tree.specs.Read.{source_tree}
 use Rattle.tp_meaning.specs.Fits.{ProgramFits}
 use Rattle.tp_check.specs.Program.{program_tree}
-use Rattle.tp_inputs.specs.Read.{lines_of}
+use Rattle.tp_inputs.specs.Read.{inputs_of}
 use Rattle.tp_step.specs.declared.order.Order.{Order}
 use Rattle.tp_show.specs.Told.{AreNames}
 use Rattle.tp_run.specs.States.{Plan, plan_with}
@@ -21,7 +21,7 @@ use Rattle.tp_words.specs.declared.beside.Beside.{Beside}
 -- the plan of a task
 abbrev pub plan_of : Task → Plan
 plan_of task =
-    plan_with (program_tree task.program) (lines_of task.inputs) task.limits.states
+    plan_with (program_tree task.program) (inputs_of task.inputs) task.limits.states
     task.limits.reductions
 
 -- the words ask for this

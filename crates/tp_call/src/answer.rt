@@ -6,7 +6,7 @@ ghost use Rattle.tp_meaning.specs.Fits.{ProgramFits};
 ghost use Rattle.tp_check.specs.Program.{program_tree};
 ghost use Rattle.tp_call.specs.Source.{IsProgram};
 ghost use Rattle.tp_call.specs.declared.status.Which.{Which};
-ghost use Rattle.tp_inputs.specs.Read.{lines_of};
+ghost use Rattle.tp_inputs.specs.Read.{inputs_of};
 ghost use Rattle.tp_inputs.specs.Table.{IsInputsText};
 ghost use Rattle.tp_call.specs.Files.{AsksOnly};
 ghost use Rattle.tp_call.specs.Answer.{WhereTold, HoldsProgram, HasInputs, IsAskedFor, Answers};
@@ -76,7 +76,7 @@ fn read_source<F: Files>(alloc: Global, name: &str, files: &mut F) -> Result<Pro
 
 // The table of inputs of the text.
 fn table_of(alloc: Global, text: &[u8]) -> Result<Inputs, Status>
-    ensures table { IfOk result (λ t. IsInputsText text.now (lines_of t)) }
+    ensures table { IfOk result (λ t. IsInputsText text.now (inputs_of t)) }
     ensures refused { IfErr result (IsTableRefusal text.now) }
 {
     match read_inputs(alloc, text) {
@@ -90,7 +90,7 @@ fn table_of(alloc: Global, text: &[u8]) -> Result<Inputs, Status>
 
 // The table of inputs where no file is named.
 fn no_inputs(alloc: Global) -> Result<Inputs, Status>
-    ensures table { IfOk result (λ t. lines_of t ≡ []) }
+    ensures table { IfOk result (λ t. inputs_of t ≡ []) }
     ensures refused { IfErr result (λ status. status ≡ Status.NoMemory) }
 {
     match Inputs::none(alloc) {
@@ -102,7 +102,7 @@ fn no_inputs(alloc: Global) -> Result<Inputs, Status>
 // Reads the table of inputs of the file.
 fn read_table<F: Files>(alloc: Global, name: &str, files: &mut F) -> Result<Inputs, Status>
     ensures table { IfOk result (λ t.
-        HasInputs (Some name.now) (F.held files.old) (lines_of t)) }
+        HasInputs (Some name.now) (F.held files.old) (inputs_of t)) }
     ensures refused { IfErr result (IsInputsEnd (F.held files.old) (Some name.now)) }
     ensures asked { AsksFile (F.asked files.old) name.now result (F.asked files.new) }
     ensures held { F.held files.new ≡ F.held files.old }
@@ -119,7 +119,7 @@ fn read_table<F: Files>(alloc: Global, name: &str, files: &mut F) -> Result<Inpu
 // The table of inputs of the file, where one is named.
 fn inputs_for<F: Files>(alloc: Global, name: Option<&str>, files: &mut F) -> Result<Inputs, Status>
     ensures table { IfOk result (λ t.
-        HasInputs (option_map (λ t. t.now) name.entry) (F.held files.old) (lines_of t)) }
+        HasInputs (option_map (λ t. t.now) name.entry) (F.held files.old) (inputs_of t)) }
     ensures refused { IfErr result
         (IsInputsEnd (F.held files.old) (option_map (λ t. t.now) name.entry)) }
     ensures asked { AsksTable (F.asked files.old) (option_map (λ t. t.now) name.entry) result

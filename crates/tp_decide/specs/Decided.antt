@@ -8,7 +8,7 @@ use Rattle.tp_value.specs.declared.value.Shape.TheVariants.{Items}
 use Rattle.tp_kernel.specs.Read.{definitions_of}
 use Rattle.tp_store.specs.Facts.{fact, facts_at}
 use Rattle.tp_store.specs.Known.{addition}
-use Rattle.tp_inputs.specs.Read.{lines_of}
+use Rattle.tp_inputs.specs.Read.{inputs_of}
 use Rattle.tp_scene.specs.Scene as S
 use Rattle.tp_scene.specs.Step as row
 use Rattle.tp_scene.specs.Step.{PickOutcome, Numbers}
@@ -37,7 +37,7 @@ plain_place p =
 
 abbrev pub setting_of : Setting → pick.Setting
 setting_of w =
-    record { defs = definitions_of w.defs.now; inputs = lines_of w.inputs.now; state = w.state }
+    record { defs = definitions_of w.defs.now; inputs = inputs_of w.inputs.now; state = w.state }
 
 abbrev pub plain_leaf : Leaf → S.Leaf
 plain_leaf (leaf.Do a) = S.Do (formula_of a) (env_of a)

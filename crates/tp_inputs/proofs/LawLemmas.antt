@@ -1,7 +1,7 @@
 -- A text is one table of inputs, or has one first fault.
 use Rattle.std.proofs.Common.{refl, ap, sym, subst, ◌∙◌, ◌≡◌, ℕ, zero, suc, ◌+◌, ◌<◌, ◌≤◌, inl, inr, ◌⊎◌, List, [], ◌∷◌, ◌++◌, length, drop, arith, length-drop}
 use Rattle.std.specs.Str.Lines.{lines}
-use Rattle.tp_meaning.specs.Inputs.{InputPair, InputLines}
+use Rattle.tp_meaning.specs.Inputs.{InputPair, InputTable}
 use Rattle.tp_inputs.specs.declared.fault.Fault.{Fault}
 use Rattle.tp_inputs.specs.FirstPart.{LinePart, Blank, Given, Faulty, BeginsPart, first_part}
 use Rattle.tp_inputs.specs.Lines.{PassesPart, blank, given, ReadsPairs, here, passes, IsLine}
@@ -114,7 +114,7 @@ judged line = by (some_reading (length line) line [] (omega arith))
 -- ---- texts
 
 abbrev TextsJudged : List (List ℕ) → Type 0
-TextsJudged texts = ((table : InputLines) × AreLines texts table) ⊎ ((number : ℕ) × (f : Fault) × IsFirstFault texts number f)
+TextsJudged texts = ((table : InputTable) × AreLines texts table) ⊎ ((number : ℕ) × (f : Fault) × IsFirstFault texts number f)
 
 judged_on : (line : List ℕ) (texts : List (List ℕ)) → Judged line → TextsJudged texts → TextsJudged (line ∷ texts)
 judged_on line texts (inr (f, has)) below = inr (1, f, record { before = []; line = line; after = texts; split = refl; numbered = omega arith; table = []; good = tt; faulty = has })
@@ -139,7 +139,7 @@ texts_judged : (texts : List (List ℕ)) → TextsJudged texts
 texts_judged [] = inl ([], tt)
 texts_judged (line ∷ texts) = judged_on line texts (judged line) (texts_judged texts)
 
-one_table_of : (texts : List (List ℕ)) (t u : InputLines) → AreLines texts t → AreLines texts u → t ≡ u
+one_table_of : (texts : List (List ℕ)) (t u : InputTable) → AreLines texts t → AreLines texts u → t ≡ u
 one_table_of [] [] [] a b = refl
 one_table_of [] [] (qs ∷ u) a b = absurd b
 one_table_of [] (ps ∷ t) u a b = absurd a
@@ -147,13 +147,13 @@ one_table_of (line ∷ texts) [] u a b = absurd a
 one_table_of (line ∷ texts) (ps ∷ t) [] a b = absurd b
 one_table_of (line ∷ texts) (ps ∷ t) (qs ∷ u) a b = let first = one_line line ps qs a.0 b.0 in let others = one_table_of texts t u a.1 b.1 in cc
 
-no_fault_within : (before : List (List ℕ)) (line : List ℕ) (after : List (List ℕ)) (t : InputLines) (f : Fault) → AreLines (before ++ line ∷ after) t → HasFault line f → ⊥
+no_fault_within : (before : List (List ℕ)) (line : List ℕ) (after : List (List ℕ)) (t : InputTable) (f : Fault) → AreLines (before ++ line ∷ after) t → HasFault line f → ⊥
 no_fault_within [] line after [] f are has = are
 no_fault_within [] line after (ps ∷ t) f are has = no_faulty_line line ps f are.0 has
 no_fault_within (text ∷ before) line after [] f are has = are
 no_fault_within (text ∷ before) line after (ps ∷ t) f are has = no_fault_within before line after t f are.1 has
 
-one_place : (b c : List (List ℕ)) (k m : List ℕ) (x y : List (List ℕ)) (t u : InputLines) (e f : Fault) → b ++ k ∷ x ≡ c ++ m ∷ y → AreLines b t → AreLines c u → HasFault k e → HasFault m f
+one_place : (b c : List (List ℕ)) (k m : List ℕ) (x y : List (List ℕ)) (t u : InputTable) (e f : Fault) → b ++ k ∷ x ≡ c ++ m ∷ y → AreLines b t → AreLines c u → HasFault k e → HasFault m f
     → (length b ≡ length c) × (e ≡ f)
 one_place [] [] k m x y t u e f q a d g h = let same : k ≡ m = cc in (refl, one_fault m e f (subst (λ (z : List ℕ). HasFault z e) same g) h)
 one_place [] (text ∷ c) k m x y t [] e f q a d g h = absurd d

@@ -1,6 +1,5 @@
 pub mod LawLemmas
 pub mod LineLemmas
-pub mod PairLemmas
 pub mod PartLemmas
 pub mod TableLemmas
 pub mod WithinLemmas

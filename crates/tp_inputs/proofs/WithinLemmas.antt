@@ -4,7 +4,7 @@ use Rattle.std.specs.Str.Lines.{lines}
 use Rattle.std.proofs.lemmas.Bool.{le-leb}
 use Rattle.tp_value.specs.Tree.{Tree}
 use Rattle.tp_value.specs.Limits.{item_limit, value_depth_limit, items_in, depth_of, IsWithinLimits, IsWithinListLimit}
-use Rattle.tp_meaning.specs.Inputs.{InputPair, InputLines}
+use Rattle.tp_meaning.specs.Inputs.{InputPair, InputTable}
 use Rattle.tp_inputs.specs.Parts.{BeginsPair, pair}
 use Rattle.tp_inputs.specs.Lines.{PassesPart, blank, given, ReadsPairs, here, passes}
 use Rattle.tp_inputs.specs.Table.{IsInputsText, AreLines}
@@ -16,9 +16,9 @@ given_limits : (z : List ℕ) (seen : List InputPair) (p : InputPair) (n : ℕ) 
 given_limits z seen _ n (pair {t = t} is new read apart) = read.limits
 
 -- of a line, to which a pair whose value is within the limits may be added, and of a table, to which such a line may be
-module _ (Line : List InputPair → Type 0) (Table : InputLines → Type 0) (no_pair : Line []) (no_line : Table [])
+module _ (Line : List InputPair → Type 0) (Table : InputTable → Type 0) (no_pair : Line []) (no_line : Table [])
     (pair_added : (ps : List InputPair) (p : InputPair) → Line ps → IsWithinLimits p.value → Line (ps ++ p ∷ []))
-    (line_added : (ps : List InputPair) (table : InputLines) → Line ps → Table table → Table (ps ∷ table)) where
+    (line_added : (ps : List InputPair) (table : InputTable) → Line ps → Table table → Table (ps ∷ table)) where
   part_has : (z : List ℕ) (seen more : List InputPair) (n : ℕ) → PassesPart z seen more n → Line seen → Line more
   part_has z seen _ _ (blank is) h = h
   part_has z seen _ _ (given {p = p} {n = n} is) h = pair_added seen p h (given_limits z seen p n is)
@@ -27,13 +27,13 @@ module _ (Line : List InputPair → Type 0) (Table : InputLines → Type 0) (no_
   pairs_have z seen _ _ here h = h
   pairs_have z seen rest pairs (passes {n = n} {more = more} is r) h = pairs_have (drop n z) more rest pairs r (part_has z seen more n is h)
 
-  lines_have : (texts : List (List ℕ)) (table : InputLines) → AreLines texts table → Table table
+  lines_have : (texts : List (List ℕ)) (table : InputTable) → AreLines texts table → Table table
   lines_have [] [] h = no_line
   lines_have [] (ps ∷ table) h = absurd h
   lines_have (line ∷ texts) [] h = absurd h
   lines_have (line ∷ texts) (ps ∷ table) h = line_added ps table (pairs_have line [] [] ps h.0 no_pair) (lines_have texts table h.1)
 
-  pub tables_have : (bytes : List ℕ) (table : InputLines) → IsInputsText bytes table → Table table
+  pub tables_have : (bytes : List ℕ) (table : InputTable) → IsInputsText bytes table → Table table
   tables_have bytes table h = lines_have (lines bytes) table h
 
 value_within : (t : Tree) → IsWithinLimits t → IsWithinListLimit t

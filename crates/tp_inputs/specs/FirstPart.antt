@@ -1,5 +1,5 @@
 -- What a line of inputs begins with, as a function of the line.
-use Rattle.std.specs.Prelude.{◌≡◌, true, ℕ, ◌+◌, ◌==◌, Bool, ◌&&◌, if◌then◌else◌, nat_le, List, take, slice_index, Option, Some, None, is_none}
+use Rattle.std.specs.Prelude.{◌≡◌, ℕ, ◌+◌, ◌==◌, Bool, true, false, ◌&&◌, if◌then◌else◌, nat_le, List, take, slice_index, Option, Some, None, is_none}
 use Rattle.std.specs.List.{prefix_len}
 use Rattle.std.specs.Char.{is_ascii_lowercase}
 use Rattle.tp_value.specs.declared.reading.ReadValue.{ReadValue}
@@ -8,7 +8,9 @@ use Rattle.tp_value.specs.Spelling.{is_value_blank}
 use Rattle.tp_value.specs.Reading.{Answer, found, refused, value_answer}
 use Rattle.tp_lex.specs.Bytes.{is_name_byte, name_limit}
 use Rattle.tp_lex.specs.Spelling.{spelled_word}
-use Rattle.tp_meaning.specs.Inputs.{InputPair, port_value}
+use Rattle.tp_meaning.specs.Inputs.{InputTable}
+use Rattle.tp_inputs.specs.declared.span.Span.{Span}
+use Rattle.tp_inputs.specs.Spans.{is_given}
 use Rattle.tp_inputs.specs.declared.fault.Fault.TheVariants as f
 use Rattle.tp_inputs.specs.declared.fault.Fault.{Fault}
 use Rattle.tp_inputs.specs.Parts.{is_set_apart, BeginsPair}
@@ -17,14 +19,14 @@ use Rattle.tp_inputs.specs.Faults.{fault_of, BeginsFault}
 -- a blank, a pair with the number of its bytes, or a fault
 pub data LinePart : Type 0 where
   Blank : LinePart
-  Given : InputPair → ℕ → LinePart
+  Given : List ℕ → Tree → ℕ → LinePart
   Faulty : Fault → LinePart
 
--- the rest of a line, which is not empty, begins with this, behind these pairs of the line
-abbrev pub BeginsPart : List ℕ → List InputPair → LinePart → Type 0
-BeginsPart z seen Blank = is_value_blank (slice_index z 0) ≡ true
-BeginsPart z seen (Given p n) = BeginsPair z seen p n
-BeginsPart z seen (Faulty fault) = BeginsFault z seen fault
+-- the rest of a line, which is not empty and speaks for this span behind this table, begins with this
+abbrev pub BeginsPart : Span → InputTable → List ℕ → LinePart → Type 0
+BeginsPart span table z Blank = is_value_blank (slice_index z 0) ≡ true
+BeginsPart span table z (Given port t n) = BeginsPair span table z port t n
+BeginsPart span table z (Faulty fault) = BeginsFault span table z fault
 
 -- whether the first n bytes, all those of a name, are a port with `=` behind it
 abbrev pub is_port : List ℕ → ℕ → Bool
@@ -43,21 +45,23 @@ refused_part e = Faulty (fault_of e)
 -- the pair of the port, or a fault
 abbrev pub value_part : List ℕ → List ℕ → Answer → LinePart
 value_part z port (found t m) =
-    if is_set_apart z m then Given (record { port = port; value = t }) m else Faulty f.Bad
+    if is_set_apart z m then Given port t m else Faulty f.Bad
 value_part z port (refused e) = refused_part e
 
-abbrev pub new_part : List ℕ → ℕ → Option Tree → LinePart
-new_part z n None = value_part z (take n z) (value_answer z (n + 1))
-new_part z n (Some t) = Faulty f.Twice
+-- the part of a port that is given already, or that is new
+abbrev pub port_part : List ℕ → ℕ → Bool → LinePart
+port_part z n true = Faulty f.Twice
+port_part z n false = value_part z (take n z) (value_answer z (n + 1))
 
-abbrev pub pair_of_len : List ℕ → List InputPair → Option ℕ → LinePart
-pair_of_len z seen None = Faulty f.Bad
-pair_of_len z seen (Some n) = new_part z n (port_value (take n z) seen)
+abbrev pub pair_of_len : Span → InputTable → List ℕ → Option ℕ → LinePart
+pair_of_len span table z None = Faulty f.Bad
+pair_of_len span table z (Some n) = port_part z n (is_given table span (take n z))
 
 -- what comes first that is no blank
-unfoldable pub pair_part : List ℕ → List InputPair → LinePart
-pair_part z seen = pair_of_len z seen (port_len z)
+unfoldable pub pair_part : Span → InputTable → List ℕ → LinePart
+pair_part span table z = pair_of_len span table z (port_len z)
 
--- what comes first, behind these pairs of the line
-unfoldable pub first_part : List ℕ → List InputPair → LinePart
-first_part z seen = if is_value_blank (slice_index z 0) then Blank else pair_part z seen
+-- what comes first, in a line that speaks for this span behind this table
+unfoldable pub first_part : Span → InputTable → List ℕ → LinePart
+first_part span table z =
+    if is_value_blank (slice_index z 0) then Blank else pair_part span table z

@@ -5,7 +5,7 @@ use Rattle.tp_value.specs.declared.reading.ReadValue.{ReadValue}
 use Rattle.tp_value.specs.declared.reading.ReadValue.TheVariants.{NoMemory}
 use Rattle.tp_value.specs.Reading.{refused, value_answer}
 use Rattle.tp_value.specs.Answers.{IsReadRefused}
-use Rattle.tp_meaning.specs.Inputs.{InputLines}
+use Rattle.tp_meaning.specs.Inputs.{InputTable}
 use Rattle.tp_inputs.specs.declared.fault.Fault.{Fault}
 use Rattle.tp_inputs.specs.Table.{IsInputsText, IsFirstFault}
 use Rattle.tp_inputs.specs.Within.{InputsWithin}
@@ -13,11 +13,11 @@ use Rattle.tp_inputs.specs.Within.{InputsWithin}
 -- the bytes are a table, or have a first fault
 abbrev pub EachTextIsJudged : Type 0
 EachTextIsJudged =
-    (bytes : List ℕ) → ((table : InputLines) × IsInputsText bytes table)
+    (bytes : List ℕ) → ((table : InputTable) × IsInputsText bytes table)
     ⊎ ((line : ℕ) × (fault : Fault) × IsFirstFault (lines bytes) line fault)
 
 abbrev pub OneTable : Type 0
-OneTable = (bytes : List ℕ) (t u : InputLines) → IsInputsText bytes t → IsInputsText bytes u → t ≡ u
+OneTable = (bytes : List ℕ) (t u : InputTable) → IsInputsText bytes t → IsInputsText bytes u → t ≡ u
 
 abbrev pub OneFirstFault : Type 0
 OneFirstFault =
@@ -27,7 +27,7 @@ OneFirstFault =
 -- bytes with a fault are no table
 abbrev pub NoFaultyTable : Type 0
 NoFaultyTable =
-    (bytes : List ℕ) (t : InputLines) (n : ℕ) (f : Fault) → IsInputsText bytes t
+    (bytes : List ℕ) (t : InputTable) (n : ℕ) (f : Fault) → IsInputsText bytes t
     → ¬ IsFirstFault (lines bytes) n f
 
 -- a value that is refused is refused for its first cause
@@ -39,4 +39,4 @@ RefusedValuesHaveTheirCause =
 -- the values of a table that is a text's are within the limits on items and depth
 abbrev pub TablesAreWithin : Type 0
 TablesAreWithin =
-    (bytes : List ℕ) (table : InputLines) → IsInputsText bytes table → InputsWithin table
+    (bytes : List ℕ) (table : InputTable) → IsInputsText bytes table → InputsWithin table

@@ -1,9 +1,14 @@
+pub mod Bounds
+pub mod Canonical
 pub mod Faults
 pub mod FirstPart
+pub mod Heads
 pub mod Laws
 pub mod Lines
-pub mod Pairs
+pub mod Model
+pub mod Moves
 pub mod Parts
 pub mod Read
+pub mod Spans
 pub mod Table
 pub mod Within

@@ -1,21 +1,31 @@
--- The pairs of a line of inputs, read from the front.
-use Rattle.std.specs.Prelude.{◌≡◌, ℕ, true, List, [], ◌∷◌, ◌++◌, drop, slice_index}
+-- What a line of inputs says, read from the front.
+use Rattle.std.specs.Prelude.{◌≡◌, ℕ, true, List, [], drop, slice_index}
+use Rattle.tp_value.specs.Tree.{Tree}
 use Rattle.tp_value.specs.Spelling.{is_value_blank}
-use Rattle.tp_meaning.specs.Inputs.{InputPair}
+use Rattle.tp_meaning.specs.Inputs.{InputTable}
+use Rattle.tp_inputs.specs.declared.span.Span.{Span}
+use Rattle.tp_inputs.specs.declared.head.Head.{Head}
+use Rattle.tp_inputs.specs.declared.head.Head.TheVariants.{Speaks, Silent, Unheard}
+use Rattle.tp_inputs.specs.Spans.{Gives}
 use Rattle.tp_inputs.specs.Parts.{BeginsPair}
 
--- a blank or a pair of n bytes comes first, and behind it the line has these pairs
-pub data PassesPart (z : List ℕ) (seen : List InputPair) : List InputPair → ℕ → Type 0 where
-  blank : is_value_blank (slice_index z 0) ≡ true → PassesPart z seen seen 1
-  given : {p : InputPair} {n : ℕ} → BeginsPair z seen p n → PassesPart z seen (seen ++ p ∷ []) n
+-- a blank or a pair of n bytes comes first, and with it the table becomes this one
+pub data PassesPart (span : Span) (z : List ℕ) (table : InputTable) : InputTable → ℕ → Type 0
+    where
+  blank : is_value_blank (slice_index z 0) ≡ true → PassesPart span z table table 1
+  given : {port : List ℕ} {value : Tree} {n : ℕ} {more : InputTable}
+      → BeginsPair span table z port value n → Gives span port value table more
+      → PassesPart span z table more n
 
--- From where the line has the pairs that were seen it is read on to a rest, and up to there it has
--- these pairs.
-pub data ReadsPairs : List ℕ → List InputPair → List ℕ → List InputPair → Type 0 where
-  here : {z : List ℕ} {seen : List InputPair} → ReadsPairs z seen z seen
-  passes : {z rest : List ℕ} {n : ℕ} {seen more pairs : List InputPair} → PassesPart z seen more n
-      → ReadsPairs (drop n z) more rest pairs → ReadsPairs z seen rest pairs
+-- From the first table on, the line is read up to a rest, where the table has become the second.
+pub data ReadsPairs (span : Span) : List ℕ → InputTable → List ℕ → InputTable → Type 0 where
+  here : {z : List ℕ} {table : InputTable} → ReadsPairs span z table z table
+  passes : {z rest : List ℕ} {n : ℕ} {table more all : InputTable}
+      → PassesPart span z table more n → ReadsPairs span (drop n z) more rest all
+      → ReadsPairs span z table rest all
 
--- the line has these pairs
-abbrev pub IsLine : List ℕ → List InputPair → Type 0
-IsLine line pairs = ReadsPairs line [] [] pairs
+-- with what the line says, the first table becomes the second
+abbrev pub IsLine : Head → List ℕ → InputTable → InputTable → Type 0
+IsLine (Speaks span n) line table more = ReadsPairs span (drop n line) table [] more
+IsLine Silent line table more = more ≡ table
+IsLine Unheard line table more = ⊥

@@ -1,6 +1,7 @@
--- The plain table that a table of inputs stands for.
-use Rattle.std.specs.Prelude.{ℕ, List, map}
-use Rattle.tp_meaning.specs.Inputs.{InputPair, InputLines}
+-- The plain table that a table of inputs stands for, and what the code answers of a line.
+use Rattle.std.specs.Prelude.{ℕ, List}
+use Rattle.tp_value.specs.Read.{tree}
+use Rattle.tp_meaning.specs.Inputs.{InputTable}
 use Rattle.tp_inputs.specs.declared.inputs.Inputs.{Inputs}
 use Rattle.tp_inputs.specs.declared.part.FoundPart.{FoundPart}
 use Rattle.tp_inputs.specs.declared.part.FoundPart.TheVariants as p
@@ -9,17 +10,19 @@ use Rattle.tp_inputs.specs.declared.refusal.InputsRefusal.{InputsRefusal}
 use Rattle.tp_inputs.specs.declared.refusal.InputsRefusal.TheVariants as r
 use Rattle.tp_inputs.specs.declared.refusal.LineRefusal.{LineRefusal}
 use Rattle.tp_inputs.specs.declared.refusal.LineRefusal.TheVariants as l
+use Rattle.tp_inputs.specs.declared.span.Span.{Span}
+use Rattle.tp_inputs.specs.declared.head.Head.{Head}
 use Rattle.tp_inputs.specs.FirstPart.{LinePart, Blank, Given, Faulty}
-use Rattle.tp_inputs.specs.Faults.{BeginsFault, HasFault}
-use Rattle.tp_inputs.specs.Pairs.{pair_of, pairs_of}
+use Rattle.tp_inputs.specs.Faults.{BeginsFault, StopsAt, HasFault}
+use Rattle.tp_inputs.specs.Model.{table_of}
 
-abbrev pub lines_of : Inputs → InputLines
-lines_of t = map pairs_of t.items.items
+abbrev pub inputs_of : Inputs → InputTable
+inputs_of t = table_of t.ports
 
 -- the part that the code found
 abbrev pub part_of : FoundPart → LinePart
 part_of p.Blank = Blank
-part_of (p.Pair port value len) = Given (pair_of (port, value)) len
+part_of (p.Pair port value len) = Given port (tree value) len
 part_of (p.Fault fault) = Faulty fault
 
 -- the refusal of a text whose line with that number is refused so
@@ -29,12 +32,17 @@ refusal_in (l.Fault Twice) line = r.TwicePort line
 refusal_in (l.Fault TooLong) line = r.TooLong line
 refusal_in l.NoMemory line = r.NoMemory
 
--- the fault that comes first in the rest of a line, behind these pairs, unless memory ran out
-abbrev pub IsPartRefusal : List ℕ → List InputPair → LineRefusal → Type 0
-IsPartRefusal z seen (l.Fault fault) = BeginsFault z seen fault
-IsPartRefusal z seen l.NoMemory = Unit {0}
+-- the fault that comes first in the rest of a line, behind this table, unless memory ran out
+abbrev pub IsPartRefusal : Span → InputTable → List ℕ → LineRefusal → Type 0
+IsPartRefusal span table z (l.Fault fault) = BeginsFault span table z fault
+IsPartRefusal span table z l.NoMemory = Unit {0}
+
+-- the fault of what is left of a line, unless memory ran out
+abbrev pub IsPairsRefusal : Span → InputTable → List ℕ → LineRefusal → Type 0
+IsPairsRefusal span table z (l.Fault fault) = StopsAt span z table fault
+IsPairsRefusal span table z l.NoMemory = Unit {0}
 
 -- what was answered of a line, unless memory ran out
-abbrev pub IsLineRefusal : List ℕ → LineRefusal → Type 0
-IsLineRefusal line (l.Fault fault) = HasFault line fault
-IsLineRefusal line l.NoMemory = Unit {0}
+abbrev pub IsLineRefusal : Head → List ℕ → InputTable → LineRefusal → Type 0
+IsLineRefusal head line table (l.Fault fault) = HasFault head line table fault
+IsLineRefusal head line table l.NoMemory = Unit {0}

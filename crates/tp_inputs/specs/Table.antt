@@ -1,25 +1,27 @@
 -- Which bytes are a table of inputs, and why others are none.
-use Rattle.std.specs.Prelude.{◌≡◌, ℕ, ◌+◌, List, [], ◌∷◌, ◌++◌, length}
+use Rattle.std.specs.Prelude.{◌≡◌, ℕ, ◌+◌, Bool, List, [], ◌∷◌, ◌++◌, length}
 use Rattle.std.specs.Str.Lines.{lines}
-use Rattle.tp_meaning.specs.Inputs.{InputLines}
+use Rattle.tp_meaning.specs.Inputs.{InputTable}
 use Rattle.tp_inputs.specs.declared.fault.Fault.{Fault}
 use Rattle.tp_inputs.specs.declared.fault.Fault.TheVariants.{Bad, Twice, TooLong}
 use Rattle.tp_inputs.specs.declared.refusal.InputsRefusal.{InputsRefusal}
 use Rattle.tp_inputs.specs.declared.refusal.InputsRefusal.TheVariants as r
+use Rattle.tp_inputs.specs.Heads.{is_second, head_of}
 use Rattle.tp_inputs.specs.Lines.{IsLine}
 use Rattle.tp_inputs.specs.Faults.{HasFault}
 
--- each text is a line with those pairs
-abbrev pub AreLines : List (List ℕ) → InputLines → Type 0
-AreLines [] [] = Unit {0}
-AreLines [] (ps ∷ table) = ⊥
-AreLines (line ∷ texts) [] = ⊥
-AreLines (line ∷ texts) (ps ∷ table) = IsLine line ps × AreLines texts table
+-- With the lines, of which the first has this number, the first table becomes the second.
+abbrev pub AreLines : (second : Bool) → ℕ → List (List ℕ) → InputTable → InputTable → Type 0
+AreLines second k [] table all = all ≡ table
+AreLines second k (line ∷ texts) table all =
+    (more : InputTable) × IsLine (head_of second k line) line table more
+    × AreLines second (k + 1) texts more all
 
--- The bytes are the table. A line ends with a line feed, or with a carriage return and a line feed,
--- which the last may lack; the lines belong to the states in order, from state 0.
-abbrev pub IsInputsText : List ℕ → InputLines → Type 0
-IsInputsText bytes table = AreLines (lines bytes) table
+-- The bytes are the table, which is in its one form. A line ends with a line feed, or with a
+-- carriage return and a line feed, which the last may lack. Where the first line is `inputs 2`, the
+-- others say for which states they speak; else each speaks for the state of its number, from 0.
+abbrev pub IsInputsText : List ℕ → InputTable → Type 0
+IsInputsText bytes table = AreLines (is_second (lines bytes)) 0 (lines bytes) [] table
 
 -- of the lines, that with this number, from 1, has this as its first fault, and those before it
 -- have none
@@ -29,9 +31,9 @@ pub record IsFirstFault (texts : List (List ℕ)) (number : ℕ) (fault : Fault)
   pub after : List (List ℕ)
   pub split : texts ≡ before ++ line ∷ after
   pub numbered : number ≡ length before + 1
-  pub table : InputLines
-  pub good : AreLines before table
-  pub faulty : HasFault line fault
+  pub table : InputTable
+  pub good : AreLines (is_second texts) 0 before [] table
+  pub faulty : HasFault (head_of (is_second texts) (length before) line) line table fault
 
 -- when each refusal comes; want of memory may come at any time
 abbrev pub IsInputsRefusal : List ℕ → InputsRefusal → Type 0

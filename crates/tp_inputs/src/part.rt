@@ -1,15 +1,18 @@
 // What a line of inputs begins with.
-ghost use Rattle.std.specs.Prelude.{◌≡◌, ◌≢◌, ◌+◌, ◌<◌, ◌≤◌, [], length, take, IfOk, IfSome, Some};
+ghost use Rattle.std.specs.Prelude.{◌≡◌, ◌≢◌, ◌+◌, ◌<◌, ◌≤◌, [], length, take, true, IfOk, IfSome, Some};
 ghost use Rattle.tp_value.specs.declared.reading.ReadValue.TheVariants.{NoMemory as refused_memory};
-ghost use Rattle.tp_value.specs.Spelling.{is_value_blank};
+ghost use Rattle.tp_value.specs.Read.{tree};
 ghost use Rattle.tp_value.specs.Reading.{value_answer};
 ghost use Rattle.tp_inputs.specs.Parts.{is_set_apart};
 ghost use Rattle.tp_inputs.specs.FirstPart as spec;
-ghost use Rattle.tp_inputs.specs.Pairs.{pairs_of};
+ghost use Rattle.tp_inputs.specs.Canonical.{are_ports};
+ghost use Rattle.tp_inputs.specs.Model.{table_of};
 ghost use Rattle.tp_inputs.specs.Read.{part_of};
 
 use crate::fault::Fault;
-use crate::line::Line;
+use crate::head::is_blank;
+use crate::ports::Ports;
+use crate::span::Span;
 use std::alloc::Global;
 use tp_lex::{NAME_LIMIT, name_len, word_of};
 use tp_value::{NoMemory, ReadValue, Text, Value, read_value};
@@ -21,12 +24,6 @@ pub enum FoundPart {
     /// A port, its value, and how many bytes the pair has.
     Pair(Text, Value, usize),
     Fault(Fault),
-}
-
-fn is_blank(byte: u8) -> bool
-    ensures { result ≡ is_value_blank byte }
-{
-    byte == b' ' || byte == b'\t'
 }
 
 // Whether behind the first bytes comes a blank or the line's end.
@@ -86,31 +83,36 @@ fn valued_part(alloc: Global, text: &[u8], port: Text, from: usize) -> Result<Fo
 
 // What comes first that is no blank.
 #[tactic(auto, unfolding(crate::specs::FirstPart::pair_part))]
-fn pair_part(alloc: Global, text: &[u8], line: &Line) -> Result<FoundPart, NoMemory>
-    requires { text.now ≢ [] }
-    ensures { IfOk result (λ part. part_of part ≡ spec.pair_part text.now (pairs_of line.now)) }
+fn pair_part(alloc: Global, text: &[u8], span: Span, ports: &Ports) -> Result<FoundPart, NoMemory>
+    requires some { text.now ≢ [] }
+    requires ports { are_ports (table_of ports.now) ≡ true }
+    ensures { IfOk result (λ part.
+        part_of part ≡ spec.pair_part span (table_of ports.now) text.now) }
 {
     match port_len(text) {
         Some(len) => {
             let port = Text::from_slice(alloc, &text[..len])?;
-            match line.value(&port) {
-                None => valued_part(alloc, text, port, len + 1),
-                Some(_) => Ok(FoundPart::Fault(Fault::Twice)),
+            if ports.has(span, &port) {
+                Ok(FoundPart::Fault(Fault::Twice))
+            } else {
+                valued_part(alloc, text, port, len + 1)
             }
         }
         None => Ok(FoundPart::Fault(Fault::Bad)),
     }
 }
 
-/// What the rest of a line begins with, behind the pairs of the line so far.
+/// What the rest of a line begins with that speaks for this span, behind what the ports have so far.
 #[tactic(auto, unfolding(crate::specs::FirstPart::first_part))]
-pub fn first_part(alloc: Global, text: &[u8], line: &Line) -> Result<FoundPart, NoMemory>
-    requires { text.now ≢ [] }
-    ensures { IfOk result (λ part. part_of part ≡ spec.first_part text.now (pairs_of line.now)) }
+pub fn first_part(alloc: Global, text: &[u8], span: Span, ports: &Ports) -> Result<FoundPart, NoMemory>
+    requires some { text.now ≢ [] }
+    requires ports { are_ports (table_of ports.now) ≡ true }
+    ensures { IfOk result (λ part.
+        part_of part ≡ spec.first_part span (table_of ports.now) text.now) }
 {
     if is_blank(text[0]) {
         Ok(FoundPart::Blank)
     } else {
-        pair_part(alloc, text, line)
+        pair_part(alloc, text, span, ports)
     }
 }

@@ -1,31 +1,64 @@
 // The table of inputs from its text.
-ghost use Rattle.std.specs.Prelude.{IfOk, IfErr};
-ghost use Rattle.tp_inputs.specs.Read.{lines_of};
+ghost use Rattle.std.specs.Prelude.{◌≡◌, ◌<◌, ◌^◌, Bool, true, length, IfOk, IfErr};
+ghost use Rattle.std.specs.Str.Lines.{lines};
+ghost use Rattle.tp_inputs.specs.Bounds.{HeadBounds};
+ghost use Rattle.tp_inputs.specs.Heads as spec;
+ghost use Rattle.tp_inputs.specs.Read.{inputs_of};
 ghost use Rattle.tp_inputs.specs.Table.{IsInputsText, IsInputsRefusal};
 
+use crate::head::{Head, ranged_head};
 use crate::inputs::Inputs;
-use crate::line::read_line;
+use crate::line::take_line;
+use crate::ports::Ports;
 use crate::refusal::InputsRefusal;
+use crate::span::Span;
 use std::alloc::Global;
 use tp_lex::first_line;
 
+// Whether the first line says that the others name the states for which they speak.
+fn is_second(bytes: &[u8]) -> bool
+    ensures { result ≡ spec.is_second (lines bytes.now) }
+{
+    !bytes.is_empty() && first_line(bytes).0 == b"inputs 2".as_slice()
+}
+
+// For which states the line with that number, from 0, speaks.
+fn head_of(second: bool, number: u64, line: &[u8]) -> Head
+    requires { number < 2 ^ 63 }
+    ensures value { result ≡ spec.head_of second number line.now }
+    ensures within { HeadBounds line.now result }
+{
+    if !second {
+        let states = Span::States { first: number, last: number };
+        Head::Speaks(states, 0)
+    } else if number == 0 {
+        Head::Silent
+    } else {
+        ranged_head(line)
+    }
+}
+
 /// The table of inputs of the text. Its lines end with a line feed, or a carriage return and a line feed, which the last line may
-/// lack, and the line with number k + 1 belongs to state k. A line holds any number of pairs `port=value`, with spaces and tabs
-/// between them and at both ends. A port is a name that begins with a lower-case letter and is no word, and has one value in a line.
-/// The first line that is refused is named, with its first fault; a port that is given twice is at fault before its second value.
+/// lack. Where the first line is not `inputs 2`, the line with number k + 1 speaks for state k; else each later line is blank, or
+/// begins with the states for which it speaks and a colon: `k`, `k-m`, `k-` for all from k on, or `*` for those for which nothing
+/// else is said. A line holds any number of pairs `port=value`, with spaces and tabs between them and at both ends. A port is a
+/// name that begins with a lower-case letter and is no word, and has one value in a state, and one default. The first line that is
+/// refused is named, with its first fault; a port that is given twice is at fault before its second value.
 pub fn read_inputs(alloc: Global, bytes: &[u8]) -> Result<Inputs, InputsRefusal>
-    ensures table { IfOk result (λ inputs. IsInputsText bytes.now (lines_of inputs)) }
+    ensures table { IfOk result (λ inputs. IsInputsText bytes.now (inputs_of inputs)) }
     ensures refused { IfErr result (λ refusal. IsInputsRefusal bytes.now refusal) }
 {
-    let mut items = Vec::new(alloc);
+    let second = is_second(bytes);
+    let mut ports = Ports::new(alloc);
+    let mut number: u64 = 0;
     let mut rest = bytes;
     while !rest.is_empty() {
-        let (text, after) = first_line(rest);
-        match read_line(alloc, text) {
-            Ok(line) => items.push(line)?,
-            Err(refusal) => return Err(refusal.in_line(items.len() as u64 + 1)),
+        let (line, after) = first_line(rest);
+        number += 1;
+        if let Err(refusal) = take_line(alloc, line, head_of(second, number - 1, line), &mut ports) {
+            return Err(refusal.in_line(number));
         }
         rest = after;
     }
-    Ok(Inputs { items })
+    Ok(Inputs { ports })
 }

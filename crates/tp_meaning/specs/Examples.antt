@@ -5,7 +5,7 @@ use Rattle.tp_meaning.specs.Syntax.{Plus, ExprTree, global, numeral, binary, For
 use Rattle.tp_meaning.specs.Derived.{gets_of}
 use Rattle.tp_meaning.specs.Course.{Course, Shows, blank}
 use Rattle.tp_meaning.specs.Value.{value}
-use Rattle.tp_meaning.specs.Inputs.{InputPair, InputLines}
+use Rattle.tp_meaning.specs.Inputs.{InputRow}
 use Rattle.tp_meaning.specs.Holds.{Context, Holds}
 
 -- no definitions and no inputs
@@ -98,13 +98,15 @@ indexed_values (suc j) (suc x) = num (pos 1)
 abbrev pub indexed_course : Course
 indexed_course j = record { own = j; values = indexed_values j }
 
--- no definitions, and these inputs
-abbrev pub with_inputs : InputLines → Context
-with_inputs lines = record { defs = []; inputs = lines }
-
--- the port p, and p = n
+-- the port p
 abbrev pub port : List ℕ
 port = 112 ∷ []
 
-abbrev pub port_is : ℕ → InputPair
-port_is n = record { port = port; value = num (pos n) }
+-- no definitions, and these values of p, with this default
+abbrev pub with_inputs : List InputRow → Option Tree → Context
+with_inputs rows default =
+    record { defs = []; inputs = record { port = port; rows = rows; default = default } ∷ [] }
+
+-- p = n from state a to state b
+abbrev pub row_is : (a b n : ℕ) → InputRow
+row_is a b n = record { first = a; last = b; value = num (pos n) }

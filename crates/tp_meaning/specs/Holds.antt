@@ -4,12 +4,12 @@ use Rattle.tp_value.specs.Tree.{Tree, num, truth}
 use Rattle.tp_meaning.specs.Syntax.{ExprTree, FormulaTree, FormulaTrees, trivial, test, equation, next_equation, empty, more, next, weak_next, if_more, if_empty, always, conjunction, branch, len, assign, chop, while, for_from, forall_from, project, exists, call, input, display, no_formula, formula_then, Definition}
 use Rattle.tp_meaning.specs.Course.{Course, Shows, Part, blank, ◌⊕◌, shown_at, total, woven, Rising}
 use Rattle.tp_meaning.specs.Value.{◌>>=◌, Meaning, fixed, varying, Env, Calls, value_by, values_by, arguments_by, calls_at}
-use Rattle.tp_meaning.specs.Inputs.{InputLines, input_at}
+use Rattle.tp_meaning.specs.Inputs.{InputTable, input_at}
 
 -- what a formula is read with: the program's definitions, and the inputs
 pub record Context : Type 0 where
   pub defs : List Definition
-  pub inputs : InputLines
+  pub inputs : InputTable
 
 -- how many numbers there are from 0 to below n
 abbrev pub count_to : ℤ → ℕ

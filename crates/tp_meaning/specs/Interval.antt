@@ -3,7 +3,7 @@ use Rattle.std.specs.Prelude.{◌≡◌, ℕ, ◌+◌, ◌≤◌, Bool, List, []
 use Rattle.tp_value.specs.Globals.{is_lower}
 use Rattle.tp_meaning.specs.Syntax.{FormulaTree, Definition}
 use Rattle.tp_meaning.specs.Course.{Course, Shows}
-use Rattle.tp_meaning.specs.Inputs.{InputLines}
+use Rattle.tp_meaning.specs.Inputs.{InputTable}
 use Rattle.tp_meaning.specs.Holds.{Holds}
 
 -- a program: its definitions, its main formula, and the names of its global variables, of which the
@@ -40,7 +40,7 @@ IsInterval p = IsIntervalFrom 0 (kinds_of p.globals)
 
 -- The interval from a to b satisfies the program and shows S: it is one of the program, and the
 -- main formula holds on it at some depth, with no bindings.
-abbrev pub Satisfies : ProgramTree → InputLines → Course → ℕ → ℕ → Shows → Type 0
+abbrev pub Satisfies : ProgramTree → InputTable → Course → ℕ → ℕ → Shows → Type 0
 Satisfies p inputs s a b S =
     IsInterval p s a b × ((d : ℕ)
     × Holds (record { defs = p.defs; inputs = inputs }) d p.main [] s a b S)

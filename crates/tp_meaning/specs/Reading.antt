@@ -5,7 +5,7 @@ use Rattle.tp_meaning.specs.Course.{State, Course, Shows}
 use Rattle.tp_meaning.specs.Value.{Env}
 use Rattle.tp_meaning.specs.Holds.{Context, Holds}
 use Rattle.tp_meaning.specs.Interval.{ProgramTree, Satisfies}
-use Rattle.tp_meaning.specs.Inputs.{InputLines}
+use Rattle.tp_meaning.specs.Inputs.{InputTable}
 use Rattle.tp_meaning.specs.Moving.{InStep, ShowsMoved}
 use Rattle.tp_meaning.specs.Fits.{FormulaFits, DefinitionsFit, ProgramFits}
 
@@ -27,7 +27,7 @@ MeaningsReadVariables =
 abbrev pub SatisfyingReadsStates : Type 0
 SatisfyingReadsStates =
     (p : ProgramTree) → ProgramFits p
-    → (inputs : InputLines) (at : ℕ → ℕ) (s s' : Course) (a b : ℕ) (S S' : Shows) →
+    → (inputs : InputTable) (at : ℕ → ℕ) (s s' : Course) (a b : ℕ) (S S' : Shows) →
     InStep at a b → ((j : ℕ) → a ≤ j → j ≤ b → ReadTheSame (length p.globals) (s j) (s' (at j)))
     → ShowsMoved at a b S S' →
     Satisfies p inputs s a b S → Satisfies p inputs s' (at a) (at b) S'

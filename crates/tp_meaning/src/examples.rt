@@ -7,7 +7,7 @@ ghost use Rattle.tp_meaning.specs.Course.{Shows, blank};
 ghost use Rattle.tp_meaning.specs.Value.{fixed};
 ghost use Rattle.tp_meaning.specs.Holds.{Holds};
 ghost use Rattle.tp_meaning.specs.Derived.{skip_of, fin_of};
-ghost use Rattle.tp_meaning.specs.Examples.{nothing_given, counting, A, I, number_expr, A_is, display_of, value_at_first, listed, one_shown, HoldsTo, FailsTo, CountsToThree, with_definition, call_it, on_and_on, upper_parameter, lower_parameter, indexed_course, with_inputs, port, port_is};
+ghost use Rattle.tp_meaning.specs.Examples.{nothing_given, counting, A, I, number_expr, A_is, display_of, value_at_first, listed, one_shown, HoldsTo, FailsTo, CountsToThree, with_definition, call_it, on_and_on, upper_parameter, lower_parameter, indexed_course, with_inputs, port, row_is};
 
 /// Values of expressions: quotients are rounded down, and `and` and `or` look at no more than they need.
 pub fn expressions()
@@ -244,13 +244,18 @@ pub fn parameters()
         → ⊥ }
 {}
 
-/// An input is read by the state's own number, in a projection too.
+/// An input is read by the state's own number, in a projection too: the value of the range that has the state, else the default.
 pub fn inputs()
-    ensures holds { Holds (with_inputs ((port_is 0 ∷ []) ∷ [])) 0 (input A port) [] counting 0 0
+    ensures holds { Holds (with_inputs (row_is 0 0 0 ∷ []) None) 0 (input A port) [] counting 0 0
         blank }
     ensures fails_without { FailsTo 0 (input A port) }
     ensures fails_with_another { (d : ℕ) (S : Shows)
-        → Holds (with_inputs ((port_is 1 ∷ []) ∷ [])) d (input A port) [] counting 0 0 S → ⊥ }
-    ensures own_number { Holds (with_inputs ([] ∷ (port_is 9 ∷ []) ∷ (port_is 2 ∷ []) ∷ [])) 0
+        → Holds (with_inputs (row_is 0 0 1 ∷ []) None) d (input A port) [] counting 0 0 S → ⊥ }
+    ensures own_number { Holds (with_inputs (row_is 1 1 9 ∷ row_is 2 4 2 ∷ []) None) 0
         (project (len (number_expr 2)) (next (input A port))) [] counting 0 2 blank }
+    ensures default { Holds (with_inputs (row_is 1 1 9 ∷ []) (Some (num (pos 0)))) 0 (input A port) []
+        counting 0 0 blank }
+    ensures over_default { (d : ℕ) (S : Shows)
+        → Holds (with_inputs (row_is 0 2 9 ∷ []) (Some (num (pos 0)))) d (input A port) [] counting 0
+        0 S → ⊥ }
 {}

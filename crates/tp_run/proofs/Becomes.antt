@@ -3,11 +3,11 @@ use Rattle.std.proofs.Common.{◌≡◌, ℕ, suc, ◌<◌, ◌≤◌, Bool, Lis
 use Rattle.std.proofs.lemmas.List.{length-map}
 use Rattle.tp_value.specs.Globals.{is_lower}
 use Rattle.tp_kernel.specs.Read.{definitions_of}
-use Rattle.tp_inputs.specs.Read.{lines_of}
+use Rattle.tp_inputs.specs.Read.{inputs_of}
 use Rattle.tp_kernel.specs.declared.fault.LimitKind.{LimitKind}
 use Rattle.tp_kernel.specs.declared.fault.LimitKind.TheVariants as limit
 use Rattle.tp_meaning.specs.Syntax.{Definition}
-use Rattle.tp_meaning.specs.Inputs.{InputLines}
+use Rattle.tp_meaning.specs.Inputs.{InputTable}
 use Rattle.tp_meaning.specs.Course.{Course, Shows, ◌⊕◌, shown_at}
 use Rattle.tp_meaning.specs.Interval.{ProgramTree, kinds_of}
 use Rattle.tp_meaning.specs.Fits.{ProgramFits}
@@ -53,7 +53,7 @@ use Rattle.tp_step.proofs.KnownItems.{passes_other, clash_is_of, cell_is_of}
 -- with the settings of a plan a state is read as the plan does
 pub same_setting : (plan : Plan) (settings : Settings) → IsSettingsOf plan settings → setting_of settings.setting ≡ setting plan settings.setting.state
 same_setting plan settings h =
-    let make : List Definition → InputLines → Setting = λ ds ls. record { defs = ds; inputs = ls; state = settings.setting.state } in
+    let make : List Definition → InputTable → Setting = λ ds ls. record { defs = ds; inputs = ls; state = settings.setting.state } in
     ap₂ make h.definitions h.inputs
 
 -- what a run begins with
@@ -319,11 +319,11 @@ with_stand plan run next store stand h within orderly kept named = record {
 
 -- a run reads its next state as its plan does
 abbrev pub read_with : Run → Setting
-read_with run = record { defs = definitions_of run.program.defs; inputs = lines_of run.inputs; state = run.state }
+read_with run = record { defs = definitions_of run.program.defs; inputs = inputs_of run.inputs; state = run.state }
 
 pub run_setting : (plan : Plan) (run : Run) → IsRunOf plan run → read_with run ≡ setting plan run.state
 run_setting plan run h =
-    let make : List Definition → InputLines → Setting = λ ds ls. record { defs = ds; inputs = ls; state = run.state } in
+    let make : List Definition → InputTable → Setting = λ ds ls. record { defs = ds; inputs = ls; state = run.state } in
     ap₂ make (ap (λ (p : ProgramTree). p.defs) h.program) h.inputs
 
 -- how many variables a run's program has

@@ -1,7 +1,7 @@
 -- Where a run stands, and what its parts make of a state.
 use Rattle.std.specs.Prelude.{◌≡◌, ℕ, zero, suc, ◌≤◌, List, ◌++◌, Option, Some, None}
 use Rattle.tp_kernel.specs.Read.{definitions_of}
-use Rattle.tp_inputs.specs.Read.{lines_of}
+use Rattle.tp_inputs.specs.Read.{inputs_of}
 use Rattle.tp_store.specs.Known.{Contents, Variable}
 use Rattle.tp_decide.specs.Read.{shows_of}
 use Rattle.tp_slots.specs.Kept.{IsWellKept}
@@ -118,7 +118,7 @@ StandIsKept Spent = Unit {0}
 
 -- The settings are those of this plan.
 pub record IsSettingsOf (plan : Plan) (settings : Settings) : Type 0 where
-  pub inputs : lines_of settings.setting.inputs.now ≡ plan.inputs
+  pub inputs : inputs_of settings.setting.inputs.now ≡ plan.inputs
   pub states : settings.limits.states ≡ plan.states
   pub reductions : settings.limits.reductions ≡ plan.reductions
   pub globals : settings.globals ≡ globals_of plan
@@ -127,7 +127,7 @@ pub record IsSettingsOf (plan : Plan) (settings : Settings) : Type 0 where
 -- The run is one of this plan.
 pub record IsRunOf (plan : Plan) (run : Run) : Type 0 where
   pub program : program_of run ≡ plan.program
-  pub inputs : lines_of run.inputs ≡ plan.inputs
+  pub inputs : inputs_of run.inputs ≡ plan.inputs
   pub states : run.limits.states ≡ plan.states
   pub reductions : run.limits.reductions ≡ plan.reductions
   pub within : next_state_of run ≤ plan.states

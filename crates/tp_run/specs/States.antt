@@ -2,7 +2,7 @@
 use Rattle.std.specs.Prelude.{◌≡◌, ℕ, suc, ◌<◌, List, [], ◌∷◌, length}
 use Rattle.tp_value.specs.declared.path.Path.{Path}
 use Rattle.tp_value.specs.declared.path.Fact.{Fact}
-use Rattle.tp_meaning.specs.Inputs.{InputLines}
+use Rattle.tp_meaning.specs.Inputs.{InputTable}
 use Rattle.tp_meaning.specs.Interval.{ProgramTree, kinds_of}
 use Rattle.tp_store.specs.Facts.{kept_shape}
 use Rattle.tp_store.specs.Known.{NoClash, facts_below}
@@ -21,11 +21,11 @@ use Rattle.tp_kernel.specs.declared.fault.LimitKind.TheVariants as limit
 -- reductions each.
 pub record Plan : Type 0 where
   pub program : ProgramTree
-  pub inputs : InputLines
+  pub inputs : InputTable
   pub states : ℕ
   pub reductions : ℕ
 
-abbrev pub plan_with : ProgramTree → InputLines → (states reductions : ℕ) → Plan
+abbrev pub plan_with : ProgramTree → InputTable → (states reductions : ℕ) → Plan
 plan_with program inputs states reductions =
     record { program = program; inputs = inputs; states = states; reductions = reductions }
 

@@ -4,7 +4,7 @@ ghost use Rattle.std.specs.Option.{option_map};
 ghost use Rattle.tp_kernel.specs.Read.{formula_tree};
 ghost use Rattle.tp_meaning.specs.Fits.{ProgramFits};
 ghost use Rattle.tp_check.specs.Program.{program_tree};
-ghost use Rattle.tp_inputs.specs.Read.{lines_of};
+ghost use Rattle.tp_inputs.specs.Read.{inputs_of};
 ghost use Rattle.tp_store.specs.Known.{new_store};
 ghost use Rattle.tp_meaning.specs.Interval.{kinds_of};
 ghost use Rattle.tp_scene.specs.Step.{waits};
@@ -303,10 +303,10 @@ impl Run {
         ensures store { IfOk result (λ run. store_of run ≡ new_store program.globals) }
         ensures plan { IfOk result
             (IsRunOf
-            (plan_with (program_tree program) (lines_of inputs) limits.states limits.reductions)) }
+            (plan_with (program_tree program) (inputs_of inputs) limits.states limits.reductions)) }
         ensures stands { IfOk result (λ run.
             StandsForItsProgram
-            (plan_with (program_tree program) (lines_of inputs) limits.states limits.reductions)
+            (plan_with (program_tree program) (inputs_of inputs) limits.states limits.reductions)
             (standing_of run)) }
     {
         let scene = start(alloc, &program.main)?;

@@ -10,7 +10,7 @@ use Rattle.tp_value.specs.Limits.{length_limit, IsWithinLimits}
 use Rattle.tp_value.specs.declared.path.Fact.{Fact}
 use Rattle.tp_meaning.specs.Syntax.{known, FormulaTree, equation, next_equation, always, len, assign, while, for_from, forall_from, Definition}
 use Rattle.tp_meaning.specs.Nexts.{nexts}
-use Rattle.tp_meaning.specs.Inputs.{InputPair, InputLines, port_value, input_at}
+use Rattle.tp_meaning.specs.Inputs.{InputPair, InputTable, port_value, input_at}
 use Rattle.tp_store.specs.Known.{adds, addition, Variable}
 use Rattle.tp_scene.specs.Scene.{Bindings, Side, Ending, Going, Head, Leaf, Do, Later, Shown, Holder, Split, SplitProject, Opened, Entries, none, leaf, node, new_head, no_region, second_lives, has, append, Place, held_place}
 use Rattle.tp_scene.specs.Step.{PickOutcome, reduces, waits, rests, clashes, misses, passes, Numbers, by_status, leaf_step, holder_step}
@@ -53,7 +53,7 @@ port_within (q ∷ ps) name k t e = elim (cases_Bool (bytes_eq name q.port)) [
   | inr c ↦ port_within ps name k.1 t (rw c at e)
 ]
 
-input_within : (ls : InputLines) (i : ℕ) (name : List ℕ) → InputsArePrintable ls → (t : Tree) → input_at ls i name ≡ Some t → IsWithinLimits t
+input_within : (ls : InputTable) (i : ℕ) (name : List ℕ) → InputsArePrintable ls → (t : Tree) → input_at ls i name ≡ Some t → IsWithinLimits t
 input_within [] i name k t e = absurd (cc)
 input_within (l ∷ ls) zero name k t e = port_within l name k.0 t e
 input_within (l ∷ ls) (suc i) name k t e = input_within ls i name k.1 t e
@@ -90,7 +90,7 @@ module _ (facts : List Fact) where
     no_facts : FactsArePrintable (facts ++ [])
     no_facts = subst FactsArePrintable (sym (append-nil facts)) kept
 
-    module _ (defs : List Definition) (inputs : InputLines) (state : ℕ) (definitions : All DefinitionIsPrintable defs) (table : InputsArePrintable inputs) (p : Place) (n : Numbers) where
+    module _ (defs : List Definition) (inputs : InputTable) (state : ℕ) (definitions : All DefinitionIsPrintable defs) (table : InputsArePrintable inputs) (p : Place) (n : Numbers) where
       evaluates : Evaluates printable defs facts
       evaluates = evaluates_good printable.new_facts facts kept defs definitions
 

@@ -8,7 +8,7 @@ use Rattle.tp_tree.specs.Tree.{SourceTree}
 use Rattle.tp_tree.specs.Names.{source_names}
 use Rattle.tp_meaning.specs.Syntax.{Definition}
 use Rattle.tp_meaning.specs.Interval.{ProgramTree}
-use Rattle.tp_meaning.specs.Inputs.{InputLines}
+use Rattle.tp_meaning.specs.Inputs.{InputTable}
 use Rattle.tp_inputs.specs.Table.{IsInputsText}
 use Rattle.tp_store.specs.Known.{Variable}
 use Rattle.tp_scene.specs.Scene.{Scene}
@@ -39,7 +39,7 @@ CheckedProgramsArePrintable =
 -- So is a table of inputs.
 abbrev pub TablesArePrintable : Type 0
 TablesArePrintable =
-    (bytes : List ℕ) (table : InputLines) → IsInputsText bytes table → InputsArePrintable table
+    (bytes : List ℕ) (table : InputTable) → IsInputsText bytes table → InputsArePrintable table
 
 -- A residual phrase stands on one line where the scene and the definitions are printable, and the
 -- variables' names do.

@@ -4,7 +4,7 @@ use Rattle.tp_value.specs.Tree.{Tree}
 use Rattle.tp_value.specs.declared.path.Path.{Path}
 use Rattle.tp_value.specs.declared.path.Fact.{Fact}
 use Rattle.tp_meaning.specs.Syntax.{Definition}
-use Rattle.tp_meaning.specs.Inputs.{InputLines}
+use Rattle.tp_meaning.specs.Inputs.{InputTable}
 use Rattle.tp_store.specs.Facts.{facts_at}
 use Rattle.tp_store.specs.Known.{NoClash, adds, addition}
 use Rattle.tp_scene.specs.Scene.{Leaf, Do, Holder, Closed, Opened, Running, Entries, Region, Place, held_place}
@@ -46,7 +46,7 @@ module _ (facts : List Fact) (kept : NoClash facts) where
     ]
     apart p n o h = tt
 
-    module _ (defs : List Definition) (inputs : InputLines) (state : ℕ) where
+    module _ (defs : List Definition) (inputs : InputTable) (state : ℕ) where
       leaf_apart : (l : Leaf) (p : Place) (n : Numbers) → IsApart (leaf_step defs inputs state facts l p n)
       leaf_apart (Do f env) p n = apart p n _ (loose_told Whatever NoClash defs inputs state facts keep f env p n) where
         keep : LooseKeep Whatever NoClash defs facts

@@ -11,7 +11,7 @@ use Rattle.tp_kernel.specs.declared.fault.FaultKind.{FaultKind}
 use Rattle.tp_kernel.specs.declared.fault.LimitKind.TheVariants as limit
 use Rattle.tp_meaning.specs.Syntax.{ExprTree, known, bound, global, invoke, FormulaTree, equation, next_equation, always, len, assign, while, for_from, forall_from, exists, call, input, Definition}
 use Rattle.tp_meaning.specs.Nexts.{nexts}
-use Rattle.tp_meaning.specs.Inputs.{InputLines}
+use Rattle.tp_meaning.specs.Inputs.{InputTable}
 use Rattle.tp_meaning.specs.Fits.{ExprFits, ExprsFit, FormulaFits, FormulasFit, DefinitionsFit, BindingFits, IsVariable}
 use Rattle.tp_store.specs.Known as store
 use Rattle.tp_store.specs.Known.{Variable, IsVariableOf, AreOfVariables, full}
@@ -81,7 +81,7 @@ module _ (defs : List Definition) (kinds : List Bool) (variables : List Variable
   fit_exprs values among (invoke i es) m h = h.5
   fit_exprs values among e m h = h
 
-  module _ (definitions : DefinitionsFit defs kinds) (among : (x : VarId) → IsVariable kinds x → IsVariable (kinds_in variables) x) (inputs : InputLines) (state : ℕ) (facts : List Fact) (sees : Sees facts variables Q) where
+  module _ (definitions : DefinitionsFit defs kinds) (among : (x : VarId) → IsVariable kinds x → IsVariable (kinds_in variables) x) (inputs : InputTable) (state : ℕ) (facts : List Fact) (sees : Sees facts variables Q) where
     lists_fit : Lists (fitting defs kinds variables n Q)
     lists_fit = record {
       first_formula = λ g gs m h. h.0;

@@ -5,7 +5,7 @@ use Rattle.tp_value.specs.declared.path.Path.{Path}
 use Rattle.tp_value.specs.declared.path.Fact.{Fact}
 use Rattle.tp_value.specs.declared.value.Shape.TheVariants.{Items}
 use Rattle.tp_meaning.specs.Syntax.{ExprTree, FormulaTree, equation, next_equation, always, branch, len, assign, chop, for_from, forall_from, project, exists, input, Definition, BindingTree, known_binding}
-use Rattle.tp_meaning.specs.Inputs.{InputLines}
+use Rattle.tp_meaning.specs.Inputs.{InputTable}
 use Rattle.tp_store.specs.Facts.{fact, facts_at}
 use Rattle.tp_eval.specs.Outcome as found
 use Rattle.tp_eval.specs.Outcome.{PlaceOutcome, outcome, place_outcome}
@@ -59,7 +59,7 @@ pub record LooseKeep (Q : found.Outcome → Type 0) (N : List Fact → Type 0) (
   pub sets : (q : Path) (v : Tree) → N (facts_at q v)
   pub lengthens : (q : Path) (k : ℕ) → N (fact q (Items k) ∷ [])
 
-module _ (Q : found.Outcome → Type 0) (N : List Fact → Type 0) (defs : List Definition) (inputs : InputLines) (state : ℕ) (facts : List Fact) (keep : LooseKeep Q N defs facts) where
+module _ (Q : found.Outcome → Type 0) (N : List Fact → Type 0) (defs : List Definition) (inputs : InputTable) (state : ℕ) (facts : List Fact) (keep : LooseKeep Q N defs facts) where
   place_by : (e : ExprTree) (env : Bindings) (o : PlaceOutcome) → place_outcome facts defs e env ≡ o → PlaceHas (loose Q N) o
   place_by e env (found.path q) is = tt
   place_by e env (found.other o) is = keep.other e env o is

@@ -3,7 +3,7 @@ use Rattle.std.proofs.Common.{ℕ, Bool, List, filter, inl, inr, sym, subst}
 use Rattle.tp_value.specs.declared.path.Fact.{Fact}
 use Rattle.tp_value.specs.declared.path.VarId.{VarId}
 use Rattle.tp_meaning.specs.Syntax.{Definition}
-use Rattle.tp_meaning.specs.Inputs.{InputLines}
+use Rattle.tp_meaning.specs.Inputs.{InputTable}
 use Rattle.tp_meaning.specs.Fits.{DefinitionsFit, IsVariable}
 use Rattle.tp_store.specs.Facts.{kept_shape}
 use Rattle.tp_store.specs.Known.{Variable, AreOfVariables, is_none}
@@ -34,7 +34,7 @@ module _ (facts : List Fact) (kinds : List Bool) (variables : List Variable) (am
   status_facts : (p : Place) (o o' : PickOutcome) → IsOfVariables o → IsOfVariables o' → IsOfVariables (by_status p o o')
   status_facts p o o' h h' = status_has IsOfVariables p o o' (λ g. h) (λ g e. h') (λ g e. tt)
 
-  module _ (defs : List Definition) (definitions : DefinitionsFit defs kinds) (inputs : InputLines) (state : ℕ) where
+  module _ (defs : List Definition) (definitions : DefinitionsFit defs kinds) (inputs : InputTable) (state : ℕ) where
     -- the row's facts are some of those that it was to add, and all these are of variables
     of_told : (p : Place) (n : Numbers) (o : PickOutcome) → Told (fitting defs kinds variables n Whatever) facts p n o → IsOfVariables o
     of_told p n (reduces r) h = elim h.facts_of [

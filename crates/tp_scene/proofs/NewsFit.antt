@@ -4,7 +4,7 @@ use Rattle.std.proofs.lemmas.Bool.{ltb-true, false≢true}
 use Rattle.tp_value.specs.declared.path.Fact.{Fact}
 use Rattle.tp_value.specs.declared.path.VarId.{VarId}
 use Rattle.tp_meaning.specs.Syntax.{FormulaTree, Definition}
-use Rattle.tp_meaning.specs.Inputs.{InputLines}
+use Rattle.tp_meaning.specs.Inputs.{InputTable}
 use Rattle.tp_meaning.specs.Fits.{DefinitionsFit, IsVariable}
 use Rattle.tp_store.specs.Known.{Variable}
 use Rattle.tp_scene.specs.Scene.{Bindings, Side, Ending, Going, marked, Leaf, Do, Later, Shown, Holder, Split, Opened, Entries, none, leaf, node, append, new_head, no_region, Place, held_place}
@@ -37,7 +37,7 @@ pub record IsMore (p p' : Place) : Type 0 where
 
 -- `variables` are those of the store after the step
 module _ (defs : List Definition) (kinds : List Bool) (definitions : DefinitionsFit defs kinds) (variables : List Variable) (among : (x : VarId) → IsVariable kinds x → IsVariable (kinds_in variables) x)
-    (inputs : InputLines) (state : ℕ) (facts : List Fact) (n : Numbers) where
+    (inputs : InputTable) (state : ℕ) (facts : List Fact) (n : Numbers) where
   abbrev all : List Bool
   all = kinds_in variables
 

@@ -4,7 +4,7 @@ use Rattle.std.specs.Prelude.{Option, Some}
 use Rattle.std.proofs.lemmas.Bool.{false≢true}
 use Rattle.tp_value.specs.declared.path.Fact.{Fact}
 use Rattle.tp_meaning.specs.Syntax.{Definition}
-use Rattle.tp_meaning.specs.Inputs.{InputLines}
+use Rattle.tp_meaning.specs.Inputs.{InputTable}
 use Rattle.tp_scene.specs.Scene.{Side, other_side, Leaf, Do, Holder, Split, SplitProject, Closed, Opened, Running, Entries, none, leaf, node, new_head, no_region, Place}
 use Rattle.tp_scene.specs.Step.{Reduction, PickOutcome, reduces, waits, rests, clashes, misses, passes, Numbers, leaf_step}
 use Rattle.tp_scene.proofs.Parts.{Whatever}
@@ -67,7 +67,7 @@ module _ (facts : List Fact) (p : Place) (n : Numbers) where
   }
   plain o h = tt
 
-  module _ (defs : List Definition) (inputs : InputLines) (state : ℕ) where
+  module _ (defs : List Definition) (inputs : InputTable) (state : ℕ) where
     pub leaf_plain : (l : Leaf) → IsPlain (leaf_step defs inputs state facts l p n)
     leaf_plain (Do f env) = plain _ (loose_told Whatever (λ fs. Unit {0}) defs inputs state facts keep f env p n) where
       keep : LooseKeep Whatever (λ fs. Unit {0}) defs facts

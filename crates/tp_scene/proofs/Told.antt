@@ -16,7 +16,7 @@ use Rattle.tp_kernel.specs.declared.fault.LimitKind.TheVariants as limit
 use Rattle.tp_meaning.specs.Syntax.{ExprTree, ExprTrees, no_expr, expr_then, numeral, known, size, FormulaTree, FormulaTrees, no_formula, formula_then, formulas_of, trivial, test, equation, next_equation, empty, more, next, weak_next, if_more, if_empty, always, conjunction, branch, len, assign, chop, while, for_from, forall_from, project, exists, call, input, display, Definition, BindingTree, place_binding, known_binding}
 use Rattle.tp_meaning.specs.Nexts.{nexts}
 use Rattle.tp_meaning.specs.Value.{is_upper}
-use Rattle.tp_meaning.specs.Inputs.{InputLines, input_at}
+use Rattle.tp_meaning.specs.Inputs.{InputTable, input_at}
 use Rattle.tp_store.specs.Facts.{fact, facts_at}
 use Rattle.tp_store.specs.Known.{Variable, Addition, adds, refuses, addition}
 use Rattle.tp_eval.specs.Evaluate.{is_place}
@@ -183,7 +183,7 @@ module _ (b : Bundle) (facts : List Fact) (p : Place) (n : Numbers) where
 -- What is owed for a bundle: each property passes on to what rows make of it. `value` and `place`
 -- are had from `Evaluates` (Evaluated.antt). `body` and `value_bound` are for `call`, `read` for
 -- `input`, `local_bound` for `exists`, the last two for equations that set a value or a length.
-pub record RowsKeep (b : Bundle) (defs : List Definition) (inputs : InputLines) (state : ℕ) (facts : List Fact) (n : Numbers) : Type 0 where
+pub record RowsKeep (b : Bundle) (defs : List Definition) (inputs : InputTable) (state : ℕ) (facts : List Fact) (n : Numbers) : Type 0 where
   pub lists : Lists b
   pub parts : (f : FormulaTree) (m : ℕ) → b.formula f m → PartsOf b f m
   pub body : (i : ℕ) (d : Definition) → slice_get defs i ≡ Some d → b.formula d.formula (length d.parameters)
@@ -195,7 +195,7 @@ pub record RowsKeep (b : Bundle) (defs : List Definition) (inputs : InputLines) 
   pub sets : (q : Path) (v : Tree) → b.binding (place_binding q) → b.evaluated (found.value v) → b.new_facts (facts_at q v)
   pub lengthens : (q : Path) (k : ℕ) → b.binding (place_binding q) → nat_lt length_limit k ≡ false → b.new_facts (fact q (Items k) ∷ [])
 
-module _ (b : Bundle) (defs : List Definition) (inputs : InputLines) (state : ℕ) (facts : List Fact) (n : Numbers) (closed : RowsKeep b defs inputs state facts n) (p : Place) where
+module _ (b : Bundle) (defs : List Definition) (inputs : InputTable) (state : ℕ) (facts : List Fact) (n : Numbers) (closed : RowsKeep b defs inputs state facts n) (p : Place) where
   abbrev P : PickOutcome → Type 0
   P = Told b facts p n
 

@@ -3,7 +3,7 @@ use Rattle.std.specs.Prelude.{◌≡◌, ℕ, ◌+◌, ◌&&◌, true, cond, eqb
 use Rattle.tp_value.specs.declared.path.Fact.{Fact}
 use Rattle.tp_value.specs.declared.path.Path.{Path}
 use Rattle.tp_meaning.specs.Syntax.{Definition}
-use Rattle.tp_meaning.specs.Inputs.{InputLines}
+use Rattle.tp_meaning.specs.Inputs.{InputTable}
 use Rattle.tp_store.specs.Facts.{kept_shape}
 use Rattle.tp_store.specs.Known.{Contents, Variable, NoClash}
 use Rattle.tp_scene.specs.Scene.{Side, Ending, Going, Head, Entries, none, leaf, node, Region, Scene, second_lives, has, has_here, append, Place, root_place, held_place, second_place}
@@ -12,7 +12,7 @@ use Rattle.tp_scene.specs.Step.{Reduction, PickOutcome, reduces, waits, rests, c
 -- what a state is read with: the program's definitions, the inputs, and the state's own number
 pub record Setting : Type 0 where
   pub defs : List Definition
-  pub inputs : InputLines
+  pub inputs : InputTable
   pub state : ℕ
 
 module _ (w : Setting) (facts : List Fact) where

@@ -11,7 +11,7 @@ use Rattle.tp_kernel.specs.declared.fault.LimitKind.TheVariants as limit
 use Rattle.tp_meaning.specs.Syntax.{ExprTree, ExprTrees, no_expr, expr_then, numeral, known, size, FormulaTree, FormulaTrees, trivial, test, equation, next_equation, empty, more, next, weak_next, if_more, if_empty, always, conjunction, branch, len, assign, chop, while, for_from, forall_from, project, exists, call, input, display, no_formula, formula_then, formulas_of, Definition, BindingTree, place_binding, known_binding}
 use Rattle.tp_meaning.specs.Nexts.{nexts}
 use Rattle.tp_meaning.specs.Value.{is_upper}
-use Rattle.tp_meaning.specs.Inputs.{InputLines, input_at}
+use Rattle.tp_meaning.specs.Inputs.{InputTable, input_at}
 use Rattle.tp_store.specs.Facts.{fact, facts_at}
 use Rattle.tp_store.specs.Known.{Addition, adds, refuses, addition, Variable}
 use Rattle.tp_eval.specs.Evaluate.{is_place}
@@ -292,7 +292,7 @@ module _ (defs : List Definition) (facts : List Fact) where
   called None es env n = clashes (NoValue NoElement)
 
 -- Said in a state with this number of its own, where these facts are known.
-module _ (defs : List Definition) (inputs : InputLines) (state : ℕ) (facts : List Fact) where
+module _ (defs : List Definition) (inputs : InputTable) (state : ℕ) (facts : List Fact) where
   -- what a formula that is to hold from this state on becomes
   abbrev pub formula_step : FormulaTree → Bindings → Place → Numbers → PickOutcome
   formula_step trivial env p n = vanishes

@@ -3,7 +3,7 @@ use Rattle.std.proofs.Common.{◌≡◌, inl, inr, ℕ, Bool, List, [], ◌∷�
 use Rattle.tp_value.specs.declared.path.Fact.{Fact}
 use Rattle.tp_value.specs.declared.path.VarId.{VarId}
 use Rattle.tp_meaning.specs.Syntax.{Definition}
-use Rattle.tp_meaning.specs.Inputs.{InputLines}
+use Rattle.tp_meaning.specs.Inputs.{InputTable}
 use Rattle.tp_meaning.specs.Fits.{DefinitionsFit, IsVariable}
 use Rattle.tp_store.specs.Known.{Variable, IsVariableOf, AreOfVariables, Addition, adds, refuses, first_clash, refused_or, checked, new_facts}
 use Rattle.tp_store.proofs.First.{FirstOf, first_is}
@@ -68,7 +68,7 @@ module _ (facts : List Fact) (variables : List Variable) (kept : AreOfVariables 
   checked_of [] o h a = a
   checked_of (f ∷ fs) o h a = refused_of f h.0 (first_clash facts f) (first_is facts f) (checked facts fs o) (checked_of fs o h.1 a)
 
-  module _ (kinds : List Bool) (among : (x : VarId) → IsVariable kinds x → IsVariable (kinds_in variables) x) (defs : List Definition) (definitions : DefinitionsFit defs kinds) (inputs : InputLines) (state : ℕ) where
+  module _ (kinds : List Bool) (among : (x : VarId) → IsVariable kinds x → IsVariable (kinds_in variables) x) (defs : List Definition) (definitions : DefinitionsFit defs kinds) (inputs : InputTable) (state : ℕ) where
     cell_of : (p : Place) (n : Numbers) (c : Cell) → CellTold (fitting defs kinds variables n Waits) facts p n c → CellIsOf variables c
     cell_of p n (Part q) h = h
     cell_of p n (End region depth) h = tt

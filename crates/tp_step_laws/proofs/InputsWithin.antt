@@ -4,7 +4,7 @@ use Rattle.std.proofs.lemmas.Bool.{cases_Bool}
 use Rattle.std.specs.Str.{bytes_eq}
 use Rattle.tp_value.specs.Tree.{Tree}
 use Rattle.tp_value.specs.Limits.{IsWithinListLimit}
-use Rattle.tp_meaning.specs.Inputs.{InputPair, InputLines, port_value, input_at}
+use Rattle.tp_meaning.specs.Inputs.{InputPair, InputTable, port_value, input_at}
 use Rattle.tp_inputs.specs.Within.{LineWithin, InputsWithin}
 
 port_within : (ps : List InputPair) (port : List ℕ) (t : Tree) → LineWithin ps → port_value port ps ≡ Some t → IsWithinListLimit t
@@ -14,7 +14,7 @@ port_within (p ∷ ps) port t h e = elim (cases_Bool (bytes_eq port p.port)) [
   | inr c ↦ port_within ps port t h.1 (rw c at e)
 ]
 
-pub input_within : (inputs : InputLines) (state : ℕ) (port : List ℕ) (t : Tree) → InputsWithin inputs → input_at inputs state port ≡ Some t → IsWithinListLimit t
+pub input_within : (inputs : InputTable) (state : ℕ) (port : List ℕ) (t : Tree) → InputsWithin inputs → input_at inputs state port ≡ Some t → IsWithinListLimit t
 input_within [] state port t h e = absurd (cc)
 input_within (l ∷ ls) zero port t h e = port_within l port t h.0 e
 input_within (l ∷ ls) (suc n) port t h e = input_within ls n port t h.1 e

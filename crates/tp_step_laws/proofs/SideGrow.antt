@@ -8,7 +8,7 @@ use Rattle.tp_value.specs.declared.path.Fact.{Fact}
 use Rattle.tp_value.specs.Shape.{item_at}
 use Rattle.tp_kernel.specs.declared.fault.FaultKind.TheVariants.{NoElement}
 use Rattle.tp_meaning.specs.Syntax.{ExprTree, bound, global, size, index, Definition}
-use Rattle.tp_meaning.specs.Inputs.{InputLines}
+use Rattle.tp_meaning.specs.Inputs.{InputTable}
 use Rattle.tp_store.specs.Facts.{kept_shape, is_excluded}
 use Rattle.tp_store.specs.Known.{NoClash, Full, value, full}
 use Rattle.tp_eval.specs.Reached.{Reached, reaches, stops, waits, faults, passes, with_reached, fault}
@@ -130,7 +130,7 @@ module _ (defs : List Definition) (fs gs : List Fact) (fc : NoClash fs) (gc : No
   pub value_side : (v : Tree) → SideGrows gs None (found.value v) None (found.value v)
   value_side v = record { target = λ x h. absurd (cc h); none = λ n u h. refl; grown = refl; known = λ x v h k. absurd (cc h) }
 
-  module _ (inputs : InputLines) (state : ℕ) where
+  module _ (inputs : InputTable) (state : ℕ) where
     abbrev Side : ExprTree → Type 0
     Side e = SideGrows gs (side_of defs fs e env).target (side_of defs fs e env).found (side_of defs gs e env).target (side_of defs gs e env).found
 

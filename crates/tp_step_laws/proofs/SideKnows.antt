@@ -9,7 +9,7 @@ use Rattle.tp_value.specs.declared.path.Path.{Path}
 use Rattle.tp_value.specs.declared.path.Fact.{Fact}
 use Rattle.tp_kernel.specs.declared.fault.FaultKind.TheVariants.{NoElement}
 use Rattle.tp_meaning.specs.Syntax.{ExprTree, bound, global, size, index, Definition}
-use Rattle.tp_meaning.specs.Inputs.{InputLines}
+use Rattle.tp_meaning.specs.Inputs.{InputTable}
 use Rattle.tp_store.specs.Facts.{fact, facts_at}
 use Rattle.tp_store.specs.Known as store
 use Rattle.tp_store.specs.Known.{NoClash, whole, deepest, absent, limited, full}
@@ -85,7 +85,7 @@ module _ (defs : List Definition) (fs gs hs : List Fact) (fc : NoClash fs) (gc :
           ap₂ (λ b o. outcome_reached ((if b then fault NoElement else length_in p o) c)) a k
       here p c t ok all = elim ok [ ]
 
-  module _ (inputs : InputLines) (state : ℕ) where
+  module _ (inputs : InputTable) (state : ℕ) where
     abbrev Knows : ExprTree → Type 0
     Knows e = SideKnows gs hs (side_of defs fs e env).target (side_of defs fs e env).found (side_of defs gs e env).target (side_of defs gs e env).found (outcome hs defs e env)
 

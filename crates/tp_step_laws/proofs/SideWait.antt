@@ -5,7 +5,7 @@ use Rattle.tp_value.specs.declared.path.Path.{Path}
 use Rattle.tp_value.specs.declared.path.Fact.{Fact}
 use Rattle.tp_value.specs.Shape.{item_at}
 use Rattle.tp_meaning.specs.Syntax.{ExprTree, bound, global, size, index, Definition}
-use Rattle.tp_meaning.specs.Inputs.{InputLines}
+use Rattle.tp_meaning.specs.Inputs.{InputTable}
 use Rattle.tp_store.specs.Known.{NoClash}
 use Rattle.tp_eval.specs.Reached.{Reached, reaches, stops, waits, faults, passes, with_reached}
 use Rattle.tp_eval.specs.Evaluate as ev

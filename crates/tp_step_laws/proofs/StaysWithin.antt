@@ -9,7 +9,7 @@ use Rattle.tp_value.specs.declared.path.Fact.{Fact}
 use Rattle.tp_value.specs.declared.value.Shape.{Shape}
 use Rattle.tp_value.specs.declared.value.Shape.TheVariants.{Num, Truth, Items}
 use Rattle.tp_meaning.specs.Syntax.{FormulaTree, Definition}
-use Rattle.tp_meaning.specs.Inputs.{InputLines}
+use Rattle.tp_meaning.specs.Inputs.{InputTable}
 use Rattle.tp_store.specs.Facts.{kept_shape, fact, facts_at, facts_of_items, item_path}
 use Rattle.tp_store.specs.Known.{is_none}
 use Rattle.tp_store.proofs.Members.{In, in_append, in_filter, kept_in}
@@ -84,7 +84,7 @@ no_facts f i = absurd i
 status_news : (p : Place) (o o' : PickOutcome) → NewsWithin o → NewsWithin o' → NewsWithin (by_status p o o')
 status_news p o o' h h' = cond_both (p.is Going) _ _ NewsWithin (λ _. h) (λ _. cond_both (p.is Ending) _ _ NewsWithin (λ _. h') (λ _. tt))
 
-module _ (facts : List Fact) (defs : List Definition) (inputs : InputLines) (state : ℕ) (within : InputsWithin inputs) (p : Place) (n : Numbers) where
+module _ (facts : List Fact) (defs : List Definition) (inputs : InputTable) (state : ℕ) (within : InputsWithin inputs) (p : Place) (n : Numbers) where
   known : RowsKeep (small AreShort) defs inputs state facts n
   known = record {
     lists = (evaluates_small AreShort facts defs).lists;

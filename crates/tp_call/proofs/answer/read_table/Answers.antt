@@ -1,6 +1,6 @@
 use Rattle.std.proofs.Common.{inl, subst, refl, ap, Err}
 use Rattle.std.proofs.lemmas.Result.{MatchResult-weaker}
-use Rattle.tp_inputs.specs.Read.{lines_of}
+use Rattle.tp_inputs.specs.Read.{inputs_of}
 use Rattle.tp_call.specs.Answer.{HoldsTable}
 use Rattle.tp_call.specs.declared.status.Which.TheVariants.{Inputs}
 use Rattle.tp_call.proofs.SourceLemmas.{table_refused, table_unread, asked_unread, fault_of_read, no_table_fault}
@@ -9,7 +9,7 @@ use Rattle.tp_call.proofs.answer.read_table.Goals as goal
 pub returns-in-Ok-clause-table : goal.returns-in-Ok-clause-table
 returns-in-Ok-clause-table g c =
     let bytes = c.in-Ok.ensures.bytes in
-    MatchResult-weaker c.table_of.result (rw c.as_slice.ensures at c.table_of.ensures.table) (λ t is. λ files told. subst (HoldsTable (lines_of t)) (bytes.1 files told) (bytes.0, is)) (λ status any. any)
+    MatchResult-weaker c.table_of.result (rw c.as_slice.ensures at c.table_of.ensures.table) (λ t is. λ files told. subst (HoldsTable (inputs_of t)) (bytes.1 files told) (bytes.0, is)) (λ status any. any)
 
 pub returns-in-Ok-clause-refused : goal.returns-in-Ok-clause-refused
 returns-in-Ok-clause-refused g c =

@@ -8,7 +8,7 @@ use Rattle.tp_kernel.specs.Equations.{formula_next_eq, formula_if, formula_assig
 use Rattle.tp_meaning.specs.Syntax.{Definition, FormulaTree, known, equation, always, if_empty}
 use Rattle.tp_meaning.specs.Fits.{AreArguments, FormulaFits}
 use Rattle.tp_meaning.specs.Nexts.{nexts}
-use Rattle.tp_inputs.specs.Read.{lines_of}
+use Rattle.tp_inputs.specs.Read.{inputs_of}
 use Rattle.tp_eval.specs.Outcome.{outcome}
 use Rattle.tp_scene.specs.Scene as S
 use Rattle.tp_scene.specs.Step as row
@@ -37,7 +37,7 @@ returns-in_ok-found-in-NextEq-clause-outcome c =
     let defs = definitions_of c.args.setting.now.defs.now in
     let env = env_of c.args.phrase.now in
     let place = plain_place c.args.place in
-    let step = row.formula_step defs (lines_of c.args.setting.now.inputs.now) c.args.setting.now.state facts in
+    let step = row.formula_step defs (inputs_of c.args.setting.now.inputs.now) c.args.setting.now.state facts in
     let found = c.in_ok-found-in-NextEq.found in
     let whole = ap formula_tree (sym c.deref.ensures ∙ c.in-NextEq.is) ∙ formula_next_eq c.in-NextEq.k c.in-NextEq.t c.in-NextEq.e in
     let here = subst (λ o. ValueIn o found) (same_outcome facts defs _ c.in-NextEq.e.value _ c.args.phrase.now.env.value c.deref-in-NextEq.ensures c.deref-in-NextEq-2.ensures) c.in_ok-found-in-NextEq.ensures.found in
@@ -50,7 +50,7 @@ returns-in_ok-found-in-If-clause-outcome c =
     let defs = definitions_of c.args.setting.now.defs.now in
     let env = env_of c.args.phrase.now in
     let place = plain_place c.args.place in
-    let step = row.formula_step defs (lines_of c.args.setting.now.inputs.now) c.args.setting.now.state facts in
+    let step = row.formula_step defs (inputs_of c.args.setting.now.inputs.now) c.args.setting.now.state facts in
     let found = c.in_ok-found-in-If.found in
     let whole = ap formula_tree (sym c.deref.ensures ∙ c.in-If.is) ∙ formula_if c.in-If.b c.in-If.yes c.in-If.no in
     let here = subst (λ o. TruthIn o found) (same_outcome facts defs _ c.in-If.b.value _ c.args.phrase.now.env.value c.deref-in-If.ensures c.deref-in-If-2.ensures) c.in_ok-found-in-If.ensures.found in
@@ -63,7 +63,7 @@ returns-in_ok-found-in-Assign-clause-outcome c =
     let defs = definitions_of c.args.setting.now.defs.now in
     let env = env_of c.args.phrase.now in
     let place = plain_place c.args.place in
-    let step = row.formula_step defs (lines_of c.args.setting.now.inputs.now) c.args.setting.now.state facts in
+    let step = row.formula_step defs (inputs_of c.args.setting.now.inputs.now) c.args.setting.now.state facts in
     let found = c.in_ok-found-in-Assign.found in
     let whole = ap formula_tree (sym c.deref.ensures ∙ c.in-Assign.is) ∙ formula_assign c.in-Assign.t c.in-Assign.e in
     let here = subst (λ o. ValueIn o found) (same_outcome facts defs _ c.in-Assign.e.value _ c.args.phrase.now.env.value c.deref-in-Assign.ensures c.deref-in-Assign-2.ensures) c.in_ok-found-in-Assign.ensures.found in
@@ -76,7 +76,7 @@ returns-in_ok-body-in-For-clause-outcome c =
     let defs = definitions_of c.args.setting.now.defs.now in
     let env = env_of c.args.phrase.now in
     let place = plain_place c.args.place in
-    let step = row.formula_step defs (lines_of c.args.setting.now.inputs.now) c.args.setting.now.state facts in
+    let step = row.formula_step defs (inputs_of c.args.setting.now.inputs.now) c.args.setting.now.state facts in
     let found = c.in_ok-found-in-For.found in
     let whole = ap formula_tree (sym c.deref.ensures ∙ c.in-For.is) ∙ formula_for c.in-For.name c.in-For.from c.in-For.to c.in-For.body in
     let here = subst (λ o. NumberIn o found) (same_outcome facts defs _ c.in-For.to.value _ c.args.phrase.now.env.value c.deref-in-For.ensures c.deref-in-For-2.ensures) c.in_ok-found-in-For.ensures.found in
@@ -98,7 +98,7 @@ returns-in_ok-body-in-Forall-clause-outcome c =
     let defs = definitions_of c.args.setting.now.defs.now in
     let env = env_of c.args.phrase.now in
     let place = plain_place c.args.place in
-    let step = row.formula_step defs (lines_of c.args.setting.now.inputs.now) c.args.setting.now.state facts in
+    let step = row.formula_step defs (inputs_of c.args.setting.now.inputs.now) c.args.setting.now.state facts in
     let found = c.in_ok-found-in-Forall.found in
     let whole = ap formula_tree (sym c.deref.ensures ∙ c.in-Forall.is) ∙ formula_forall c.in-Forall.name c.in-Forall.from c.in-Forall.to c.in-Forall.body in
     let here = subst (λ o. NumberIn o found) (same_outcome facts defs _ c.in-Forall.to.value _ c.args.phrase.now.env.value c.deref-in-Forall.ensures c.deref-in-Forall-2.ensures) c.in_ok-found-in-Forall.ensures.found in
@@ -130,7 +130,7 @@ returns-in-Call-clause-outcome c =
     let defs = definitions_of c.args.setting.now.defs.now in
     let env = env_of c.args.phrase.now in
     let place = plain_place c.args.place in
-    let step = row.formula_step defs (lines_of c.args.setting.now.inputs.now) c.args.setting.now.state facts in
+    let step = row.formula_step defs (inputs_of c.args.setting.now.inputs.now) c.args.setting.now.state facts in
     let called : Env → row.Numbers → row.PickOutcome = λ v n. row.called defs facts (slice_get defs c.in-Call.number) (expr_trees c.in-Call.exprs) (bindings_of v) n in
     let whole = ap formula_tree (sym c.deref.ensures ∙ c.in-Call.is) ∙ formula_call c.in-Call.number c.in-Call.exprs in
     decided_row facts c.decide_call.result (called c.deref-in-Call.result.now) (λ n. step _ env place n)

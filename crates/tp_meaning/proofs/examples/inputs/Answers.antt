@@ -7,6 +7,9 @@ use Rattle.tp_meaning.proofs.examples.inputs.Goals as goal
 pub returns-clause-holds : goal.returns-clause-holds
 returns-clause-holds c = (num (pos 0), refl, refl, refl)
 
+pub returns-clause-default : goal.returns-clause-default
+returns-clause-default c = (num (pos 0), refl, refl, refl)
+
 pub returns-clause-own_number : goal.returns-clause-own_number
 returns-clause-own_number c = (
   (λ k. 2 * k),

@@ -1,7 +1,7 @@
 use Rattle.std.proofs.Common.{◌≡◌, ap₂, sym, subst, arith, refl}
 use Rattle.tp_kernel.specs.Read.{formula_tree}
 use Rattle.tp_check.specs.Program.{program_tree}
-use Rattle.tp_inputs.specs.Read.{lines_of}
+use Rattle.tp_inputs.specs.Read.{inputs_of}
 use Rattle.tp_store.specs.Known.{Contents}
 use Rattle.tp_scene.specs.Scene.{Scene}
 use Rattle.tp_scene.specs.Pick.{Moment}
@@ -19,7 +19,7 @@ pub returns-clause-plan : goal.returns-clause-plan
 returns-clause-plan c =
     let names = c.args.program.globals in
     let main = formula_tree c.args.program.main.value in
-    let plan : Plan = plan_with (program_tree c.args.program) (lines_of c.args.inputs) c.args.limits.states c.args.limits.reductions in
+    let plan : Plan = plan_with (program_tree c.args.program) (inputs_of c.args.inputs) c.args.limits.states c.args.limits.reductions in
     let make : Scene → Contents → Moment = λ s k. record { scene = s; store = k } in
     let first : moment_of c.in_ok-scene.scene c.in_ok-store.store ≡ first_moment names main = ap₂ make c.in_ok-scene.ensures.scene c.in_ok-store.ensures in
     record {
@@ -37,7 +37,7 @@ pub returns-clause-stands : goal.returns-clause-stands
 returns-clause-stands c =
     let names = c.args.program.globals in
     let main = formula_tree c.args.program.main.value in
-    let plan : Plan = plan_with (program_tree c.args.program) (lines_of c.args.inputs) c.args.limits.states c.args.limits.reductions in
+    let plan : Plan = plan_with (program_tree c.args.program) (inputs_of c.args.inputs) c.args.limits.states c.args.limits.reductions in
     let make : Scene → Contents → Moment = λ s k. record { scene = s; store = k } in
     let first : moment_of c.in_ok-scene.scene c.in_ok-store.store ≡ first_moment names main = ap₂ make c.in_ok-scene.ensures.scene c.in_ok-store.ensures in
     subst (λ (m : Moment). StandsForItsProgram plan (open_at m)) (sym first) (begins plan c.requires.fits)

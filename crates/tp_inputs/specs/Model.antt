@@ -1,0 +1,26 @@
+-- The plain table that ports stand for.
+use Rattle.std.specs.Prelude.{ℕ, List, map, Option}
+use Rattle.std.specs.Option.{option_map}
+use Rattle.tp_value.specs.declared.value.Value.{Value}
+use Rattle.tp_value.specs.Tree.{Tree}
+use Rattle.tp_value.specs.Read.{tree}
+use Rattle.tp_meaning.specs.Inputs.{InputRow, InputPort, InputTable}
+use Rattle.tp_inputs.specs.declared.ranges.Row.{Row}
+use Rattle.tp_inputs.specs.declared.ranges.Ranges.{Ranges}
+use Rattle.tp_inputs.specs.declared.ports.Port.{Port}
+use Rattle.tp_inputs.specs.declared.ports.Ports.{Ports}
+
+abbrev pub row_of : ℕ × Row → InputRow
+row_of e = record { first = e.0; last = e.1.last; value = tree e.1.value }
+
+abbrev pub rows_of : Ranges → List InputRow
+rows_of r = map row_of r.rows.entries
+
+abbrev pub default_of : Port → Option Tree
+default_of p = option_map tree p.default
+
+abbrev pub named_port : List ℕ → Port → InputPort
+named_port name p = record { port = name; rows = rows_of p.ranges; default = default_of p }
+
+abbrev pub table_of : Ports → InputTable
+table_of t = map (λ e. named_port e.0.items e.1) t.by_name.entries

@@ -1,0 +1,37 @@
+-- What the calls on ranges and on a port change.
+use Rattle.std.specs.Prelude.{◌≡◌, ◌≢◌, ℕ, suc, ◌+◌, ◌≤◌, ◌&&◌, nat_le, true, List, Option, Some, None, if◌then◌else◌}
+use Rattle.tp_value.specs.Tree.{Tree}
+use Rattle.tp_meaning.specs.Inputs.{InputRow, InputPort, row_value}
+use Rattle.tp_inputs.specs.declared.span.Span.{Span}
+use Rattle.tp_inputs.specs.Canonical.{are_rows, is_told}
+use Rattle.tp_inputs.specs.Spans.{span_has, is_others}
+
+-- The row from a to b is taken away, which has the state and the value; the states beside it have
+-- another value, or none.
+pub record IsTaken (rows : List InputRow) (state : ℕ) (value : Tree) (a b : ℕ)
+    (left : List InputRow) : Type 0 where
+  pub apart : are_rows left ≡ true
+  pub begins : a ≤ state
+  pub ends : state ≤ b
+  pub had : (n : ℕ) → a ≤ n → n ≤ b → row_value rows n ≡ Some value
+  pub has : (n : ℕ) → row_value left n ≡ (if nat_le a n && nat_le n b then None else row_value rows n)
+  pub before : (k : ℕ) → suc k ≡ a → row_value rows k ≢ Some value
+  pub after : row_value rows (b + 1) ≢ Some value
+
+abbrev pub TakesRow : List InputRow → ℕ → Tree → Option (ℕ × ℕ) → List InputRow → Type 0
+TakesRow rows state value None left = (left ≡ rows) × (row_value rows state ≢ Some value)
+TakesRow rows state value (Some e) left = IsTaken rows state value e.0 e.1 left
+
+-- the states from a to b have the value besides
+pub record GivesRows (a b : ℕ) (value : Tree) (rows more : List InputRow) : Type 0 where
+  pub apart : are_rows more ≡ true
+  pub has : (n : ℕ) → row_value more n
+      ≡ (if nat_le a n && nat_le n b then Some value else row_value rows n)
+
+-- the port has the value besides for the span
+pub record GivesPort (span : Span) (value : Tree) (p q : InputPort) : Type 0 where
+  pub apart : are_rows q.rows ≡ true
+  pub told : is_told q ≡ true
+  pub has : (n : ℕ) → row_value q.rows n
+      ≡ (if span_has span n then Some value else row_value p.rows n)
+  pub default : q.default ≡ (if is_others span then Some value else p.default)

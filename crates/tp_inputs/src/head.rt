@@ -1,0 +1,129 @@
+// What a line of inputs begins with.
+ghost use Rattle.std.specs.Prelude.{◌≡◌, ◌≤◌, ◌<◌, length, IfSome};
+ghost use Rattle.std.specs.List.{prefix_len, position};
+ghost use Rattle.tp_value.specs.Spelling.{is_value_blank};
+ghost use Rattle.tp_inputs.specs.Heads as spec;
+ghost use Rattle.tp_inputs.specs.Bounds.{IsSpan, HeadBounds};
+
+use crate::span::Span;
+
+/// The last state that a range may name.
+pub const LAST_STATE: u64 = 99_999_999;
+
+/// What a line begins with: the states for which it speaks, and how many bytes that takes; nothing, since it says nothing; or
+/// something else.
+#[derive(Clone, Copy)]
+pub enum Head {
+    Speaks(Span, usize),
+    Silent,
+    Unheard,
+}
+
+pub fn is_blank(byte: u8) -> bool
+    ensures { result ≡ is_value_blank byte }
+{
+    byte == b' ' || byte == b'\t'
+}
+
+fn is_range_byte(byte: u8) -> bool
+    ensures { result ≡ spec.is_range_byte byte }
+{
+    byte.is_ascii_digit() || byte == b'-' || byte == b'*'
+}
+
+// How many blanks the text begins with.
+fn blank_len(text: &[u8]) -> usize
+    ensures value { result ≡ prefix_len is_value_blank text.now }
+    ensures within { result ≤ length text.now }
+{
+    let mut end = 0;
+    while end < text.len() && is_blank(text[end]) {
+        end += 1;
+    }
+    end
+}
+
+// How many bytes of a range the text begins with.
+fn range_len(text: &[u8]) -> usize
+    ensures value { result ≡ prefix_len spec.is_range_byte text.now }
+    ensures within { result ≤ length text.now }
+{
+    let mut end = 0;
+    while end < text.len() && is_range_byte(text[end]) {
+        end += 1;
+    }
+    end
+}
+
+// The state that one to eight digits name.
+#[tactic(auto, unfolding(crate::specs::Heads::state_of))]
+fn state_of(digits: &[u8]) -> Option<u64>
+    ensures value { result ≡ spec.state_of digits.now }
+    ensures within { IfSome result (λ state. state ≤ spec.last_state) }
+{
+    if digits.is_empty() || digits.len() > 8 || !digits.iter().all(|b| b.is_ascii_digit()) {
+        return None;
+    }
+    let mut state = 0;
+    for digit in digits {
+        state = 10 * state + u64::from(*digit - b'0');
+    }
+    Some(state)
+}
+
+// From one state to another that isn't before it.
+fn between(first: Option<u64>, last: Option<u64>) -> Option<Span>
+    requires first { IfSome first (λ state. state ≤ spec.last_state) }
+    requires last { IfSome last (λ state. state ≤ spec.last_state) }
+    ensures value { result ≡ spec.between first last }
+    ensures within { IfSome result IsSpan }
+{
+    let (first, last) = (first?, last?);
+    if first <= last { Some(Span::States { first, last }) } else { None }
+}
+
+// What stands behind the `-` of a range.
+fn end_of(text: &[u8]) -> Option<u64>
+    ensures value { result ≡ spec.end_of text.now }
+    ensures within { IfSome result (λ state. state ≤ spec.last_state) }
+{
+    if text.is_empty() { Some(LAST_STATE) } else { state_of(text) }
+}
+
+// `k`, `k-m`, `k-`, or `*`.
+#[tactic(auto, unfolding(crate::specs::Heads::range_of))]
+fn range_of(text: &[u8]) -> Option<Span>
+    ensures value { result ≡ spec.range_of text.now }
+    ensures within { IfSome result IsSpan }
+{
+    if text == b"*".as_slice() {
+        return Some(Span::Others);
+    }
+    match text.iter().position(|byte| *byte == b'-') {
+        Some(cut) => between(state_of(&text[..cut]), end_of(&text[cut + 1..])),
+        None => between(state_of(text), state_of(text)),
+    }
+}
+
+/// What a line of the second format begins with.
+#[tactic(auto, unfolding(crate::specs::Heads::ranged_head))]
+pub fn ranged_head(line: &[u8]) -> Head
+    ensures value { result ≡ spec.ranged_head line.now }
+    ensures within { HeadBounds line.now result }
+{
+    let blanks = blank_len(line);
+    if blanks == line.len() {
+        return Head::Silent;
+    }
+    let rest = &line[blanks..];
+    let len = range_len(rest);
+    let after = &rest[len..];
+    let more = blank_len(after);
+    if more == after.len() || after[more] != b':' {
+        return Head::Unheard;
+    }
+    match range_of(&rest[..len]) {
+        Some(span) => Head::Speaks(span, blanks + len + more + 1),
+        None => Head::Unheard,
+    }
+}
