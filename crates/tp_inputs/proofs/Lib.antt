@@ -1,5 +1,9 @@
 pub mod LawLemmas
 pub mod LineLemmas
+pub mod EntryLemmas
+pub mod LastEntry
+pub mod RowLemmas
+pub mod RowMoves
 pub mod PartLemmas
 pub mod TableLemmas
 pub mod WithinLemmas
