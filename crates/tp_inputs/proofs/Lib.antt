@@ -5,5 +5,6 @@ pub mod LastEntry
 pub mod RowLemmas
 pub mod RowMoves
 pub mod PartLemmas
+pub mod PortLemmas
 pub mod TableLemmas
 pub mod WithinLemmas
