@@ -25,6 +25,10 @@ use Rattle.tp_inputs.specs.Moves.{GivesPort}
 abbrev pub Key : Type 0
 Key = Vec ℕ Global
 
+-- keys by their bytes
+abbrev pub key_cmp : Key → Key → Ordering
+key_cmp a b = slice_cmp nat_cmp a.items b.items
+
 abbrev pub Entries : Type 0
 Entries = List (Key × Port)
 

@@ -18,7 +18,7 @@ use Rattle.tp_inputs.specs.Canonical.{are_ports}
 use Rattle.tp_inputs.specs.Spans.{span_has, is_others, port_meets, Gives}
 use Rattle.tp_inputs.specs.Model.{rows_of, default_of, named_port}
 use Rattle.tp_inputs.specs.Moves.{GivesPort}
-use Rattle.tp_inputs.proofs.PortLemmas.{Key, Entries, name_cmp, table_in, Changes, named, met, rows_apart, gives, set_changes, insert_changes, set_ports, insert_ports, names_ordered, rows_in, default_in}
+use Rattle.tp_inputs.proofs.PortLemmas.{Key, key_cmp, Entries, name_cmp, table_in, Changes, named, met, rows_apart, gives, set_changes, insert_changes, set_ports, insert_ports, names_ordered, rows_in, default_in}
 use Rattle.tp_inputs.proofs.ports.Ports.give.Goals as goal
 
 named_meets : (name other : List ℕ) (span : Span) (p : Port) → port_meets (Some (named_port name p)) span ≡ port_meets (Some (named_port other p)) span
@@ -67,7 +67,7 @@ returns-in-Some c =
     let slice = c.as_slice.result.now in
     let w = c.give.new.self in
     let written = c.get_mut.follows.holds w in
-    on_ok c.give.result (set_gives _ (λ a b. refl) es c.args.span (tree c.args.value) w c.requires.ports slice c.args.port c.in-Some.known.now _ c.as_slice.ensures (sym c.in-Some.ensures.value) written.0 written.4) c.give.ensures
+    on_ok c.give.result (set_gives key_cmp (λ a b. refl) es c.args.span (tree c.args.value) w c.requires.ports slice c.args.port c.in-Some.known.now _ c.as_slice.ensures (sym c.in-Some.ensures.value) written.0 written.4) c.give.ensures
 
 pub returns-in_ok-insert-in-None : goal.returns-in_ok-insert-in-None
 returns-in_ok-insert-in-None c =
@@ -75,6 +75,6 @@ returns-in_ok-insert-in-None c =
     let slice = c.as_slice.result.now in
     let w = c.give-in-None.new.self in
     let k = c.port.inside.items in
-    let key : k.items ≡ c.args.port = sym c.port.view_is in
-    insert_gives _ (λ a b. refl) es c.args.span (tree c.args.value) w c.requires.ports k c.args.port c.insert.new.self.entries key (ap (λ z. named z es) (key ∙ sym c.as_slice.ensures) ∙ sym c.in-None.ensures.value)
-    (c.in_ok-insert-in-None.ensures.entries ∙ ap (λ m. insert_entry _ m.entries k w) c.get_mut.follows.holds-at-none) c.insert.ensures.ordered c.new-new.result c.new-new.ensures.ranges c.new-new.ensures.default c.in_ok-give-in-None.ensures
+    let key : k.items ≡ c.args.port = c.port.view_is in
+    insert_gives key_cmp (λ a b. refl) es c.args.span (tree c.args.value) w c.requires.ports k c.args.port c.insert.new.self.entries key (ap (λ z. named z es) (key ∙ sym c.as_slice.ensures) ∙ sym c.in-None.ensures.value)
+    (c.in_ok-insert-in-None.ensures.entries ∙ ap (λ m. insert_entry key_cmp m.entries k w) c.get_mut.follows.holds-at-none) c.insert.ensures.ordered c.new-new.result c.new-new.ensures.ranges c.new-new.ensures.default c.in_ok-give-in-None.ensures
