@@ -1,6 +1,7 @@
 pub mod LawLemmas
 pub mod LineLemmas
 pub mod EntryLemmas
+pub mod HeadLemmas
 pub mod LastEntry
 pub mod RowLemmas
 pub mod RowMoves
