@@ -1,3 +1,4 @@
+pub mod ConvertLemmas
 pub mod LawLemmas
 pub mod LineLemmas
 pub mod PartLemmas
