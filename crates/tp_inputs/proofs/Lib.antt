@@ -1,3 +1,4 @@
+pub mod CanonicalLemmas
 pub mod LawLemmas
 pub mod LineLemmas
 pub mod PartLemmas
