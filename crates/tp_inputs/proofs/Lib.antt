@@ -1,4 +1,5 @@
 pub mod CanonicalLemmas
+pub mod Existence
 pub mod LawLemmas
 pub mod LineLemmas
 pub mod PartLemmas
