@@ -347,6 +347,10 @@ same_rest p q ps qs is js e same = record { ranges = λ n k. range n k (cases_Bo
         let there : default_value (q ∷ qs) k ≡ default_value qs k = let g = apart k h in rw g refl in
         sym here ∙ same.defaults k ∙ there
 
+pub none_canonical : IsCanonical []
+unfolding IsStrictlySortedBy
+none_canonical = record { ordered = tt; ports = refl }
+
 -- canonical tables that say the same are one
 pub one_canonical : (t u : InputTable) → IsCanonical t → IsCanonical u → SaySame t u → t ≡ u
 one_canonical [] [] is js same = refl

@@ -18,6 +18,7 @@ use Rattle.tp_inputs.specs.declared.span.Span.TheVariants.{States, Others}
 use Rattle.tp_inputs.specs.Canonical.{is_ahead, are_rows, is_told, are_ports, IsCanonical}
 use Rattle.tp_inputs.specs.Spans.{span_has, is_others, rows_meet, port_meets, is_given, Gives}
 use Rattle.tp_inputs.specs.Moves.{GivesRows, GivesPort}
+use Rattle.tp_inputs.proofs.HeadLemmas.{IsOrdered}
 use Rattle.tp_inputs.proofs.CanonicalLemmas.{has_yes, has_before, has_behind, row_at, row_past, rows_parts, rows_from, none_before, Behind, behind_ahead, rows_behind, first_has, row, ports_parts, ports_from, names, cmp, same_name, name_is, later, port_here, port_past, all_later, below_apart, range_at, default_at, rest_canonical, input_port}
 
 -- ---- rows
@@ -213,10 +214,6 @@ port_or k (Some p) = p
 
 abbrev AddsPort : Span → Tree → InputPort → Type 0
 AddsPort span v p = (q : InputPort) × GivesPort span v p q × (q.port ≡ p.port)
-
-abbrev pub IsOrdered : Span → Type 0
-IsOrdered (States a b) = a ≤ b
-IsOrdered Others = Unit {0}
 
 some_rows : (rs : List InputRow) (n : ℕ) (v : Tree) → row_value rs n ≡ Some v → nat_lt 0 (length rs) ≡ true
 some_rows [] n v e = absurd cc

@@ -1,5 +1,6 @@
 pub mod CanonicalLemmas
 pub mod Existence
+pub mod HeadLemmas
 pub mod LawLemmas
 pub mod LineLemmas
 pub mod PartLemmas
