@@ -1,4 +1,7 @@
+pub mod CanonicalLemmas
 pub mod ConvertLemmas
+pub mod Existence
+pub mod HeadLemmas
 pub mod LawLemmas
 pub mod LineLemmas
 pub mod PartLemmas

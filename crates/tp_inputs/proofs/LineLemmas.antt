@@ -1,40 +1,40 @@
 -- One more part of a line.
-use Rattle.std.proofs.Common.{sym, subst, ◌≡◌, ◌≢◌, ℕ, ◌<◌, ◌≤◌, List, [], ◌∷◌, ◌++◌, length, drop, None, arith}
-use Rattle.tp_meaning.specs.Inputs.{InputPair, port_value}
+use Rattle.std.proofs.Common.{sym, subst, ◌≡◌, ◌≢◌, ℕ, ◌<◌, ◌≤◌, List, [], ◌∷◌, length, drop, false, arith}
+use Rattle.tp_value.specs.Tree.{Tree}
+use Rattle.tp_meaning.specs.Inputs.{InputTable}
 use Rattle.tp_inputs.specs.declared.refusal.LineRefusal.{LineRefusal}
 use Rattle.tp_inputs.specs.declared.refusal.LineRefusal.TheVariants as l
+use Rattle.tp_inputs.specs.declared.span.Span.{Span}
+use Rattle.tp_inputs.specs.Spans.{is_given}
 use Rattle.tp_inputs.specs.Parts.{BeginsPair, pair}
 use Rattle.tp_inputs.specs.FirstPart.{LinePart, Blank, Given, BeginsPart, first_part}
-use Rattle.tp_inputs.specs.Lines.{PassesPart, blank, given, ReadsPairs, here, passes, IsLine}
-use Rattle.tp_inputs.specs.Read.{IsPartRefusal, IsLineRefusal}
+use Rattle.tp_inputs.specs.Lines.{PassesPart, blank, given, ReadsPairs, here, passes}
+use Rattle.tp_inputs.specs.Read.{IsPartRefusal, IsPairsRefusal}
 use Rattle.tp_inputs.proofs.PartLemmas.{part_is, takes}
 
--- where the rest is read on to, behind these pairs, the line is read on to
-abbrev pub Continues : List ℕ → List ℕ → List InputPair → Type 0
-Continues line rest seen = (more : List ℕ) (pairs : List InputPair) → ReadsPairs rest seen more pairs → ReadsPairs line [] more pairs
+-- where the rest is read on to behind this table, the whole is
+abbrev pub Continues : Span → List ℕ → InputTable → List ℕ → InputTable → Type 0
+Continues span text first rest table = (more : List ℕ) (all : InputTable) → ReadsPairs span rest table more all → ReadsPairs span text first more all
 
 -- the part that stands first
-pub part_found : (z : List ℕ) (seen : List InputPair) (p : LinePart) → z ≢ [] → p ≡ first_part z seen → BeginsPart z seen p
-part_found z seen p some e = subst (BeginsPart z seen) (sym e) (part_is z seen some)
-
-pub pair_passes : (z : List ℕ) (old new : List InputPair) (p : InputPair) (n : ℕ) → BeginsPart z old (Given p n) → new ≡ old ++ p ∷ [] → PassesPart z old new n
-pair_passes z old new p n is e = subst (λ (ps : List InputPair). PassesPart z old ps n) (sym e) (given is)
+pub part_found : (span : Span) (table : InputTable) (z : List ℕ) (p : LinePart) → z ≢ [] → p ≡ first_part span table z → BeginsPart span table z p
+part_found span table z p some e = subst (BeginsPart span table z) (sym e) (part_is span table z some)
 
 -- the port of a pair has no value before
-pub new_port : (z : List ℕ) (seen : List InputPair) (p : InputPair) (n : ℕ) → BeginsPart z seen (Given p n) → port_value p.port seen ≡ None
-new_port z seen _ n (pair is new read e) = new
+pub new_port : (span : Span) (table : InputTable) (z port : List ℕ) (t : Tree) (n : ℕ) → BeginsPart span table z (Given port t n) → is_given table span port ≡ false
+new_port span table z _ t n (pair is new read e) = new
 
 -- a part that is passed has some bytes of the line
-pub passed_bytes : (z : List ℕ) (old new : List InputPair) (n : ℕ) → PassesPart z old new n → (0 < n) × (n ≤ length z)
-passed_bytes z old _ _ (blank is) = (omega arith, takes z old Blank is)
-passed_bytes z old _ _ (given {p = p} {n = n} is) = takes z old (Given p n) is
+pub passed_bytes : (span : Span) (z : List ℕ) (old new : InputTable) (n : ℕ) → PassesPart span z old new n → (0 < n) × (n ≤ length z)
+passed_bytes span z old _ _ (blank is) = (omega arith, takes span old z Blank is)
+passed_bytes span z old _ _ (given {port = port} {value = t} {n = n} is gives) = takes span old z (Given port t n) is
 
-pub passes_on : (line z : List ℕ) (old new : List InputPair) (n : ℕ) → Continues line z old → PassesPart z old new n → Continues line (drop n z) new
-passes_on line z old new n so_far is more pairs reads = so_far more pairs (passes is reads)
+pub passes_on : (span : Span) (text z : List ℕ) (first old new : InputTable) (n : ℕ) → Continues span text first z old → PassesPart span z old new n → Continues span text first (drop n z) new
+passes_on span text z first old new n so_far is more all reads = so_far more all (passes is reads)
 
-pub refused_on : (line z : List ℕ) (seen : List InputPair) (e : LineRefusal) → Continues line z seen → IsPartRefusal z seen e → IsLineRefusal line e
-refused_on line z seen (l.Fault fault) so_far is = (z, seen, so_far z seen here, is)
-refused_on line z seen l.NoMemory so_far is = tt
+pub refused_on : (span : Span) (text z : List ℕ) (first table : InputTable) (e : LineRefusal) → Continues span text first z table → IsPartRefusal span table z e → IsPairsRefusal span first text e
+refused_on span text z first table (l.Fault fault) so_far is = record { rest = z; more = table; reads = so_far z table here; faulty = is }
+refused_on span text z first table l.NoMemory so_far is = tt
 
-pub at_end : (line z : List ℕ) (seen : List InputPair) → Continues line z seen → z ≡ [] → IsLine line seen
-at_end line z seen so_far e = so_far [] seen (subst (λ (rest : List ℕ). ReadsPairs z seen rest seen) e here)
+pub at_end : (span : Span) (text z : List ℕ) (first table : InputTable) → Continues span text first z table → z ≡ [] → ReadsPairs span text first [] table
+at_end span text z first table so_far e = so_far [] table (subst (λ (rest : List ℕ). ReadsPairs span z table rest table) e here)

@@ -1,8 +1,12 @@
 -- The function that finds the first part answers the one part that a line begins with.
-use Rattle.std.proofs.Common.{refl, ap, sym, ◌∙◌, ◌≡◌, ◌≢◌, ℕ, suc, zero, ◌+◌, ◌<◌, ◌≤◌, ◌==◌, Bool, true, false, cond, ◌&&◌, nat_le, List, [], ◌∷◌, length, slice_index, take, Option, Some, None, is_none, arith}
+use Rattle.std.proofs.Common.{refl, ap, sym, ◌∙◌, ◌≡◌, ◌≢◌, ℕ, suc, zero, ◌+◌, ◌<◌, ◌≤◌, ◌==◌, Bool, true, false, cond, ◌&&◌, nat_le, List, [], ◌∷◌, length, slice_index, take, Option, Some, None, is_none, Result, Ok, Err, arith}
+use Rattle.std.specs.Prelude.{IfOk}
 use Rattle.std.specs.List.{prefix_len}
 use Rattle.std.specs.Char.{is_ascii_lowercase}
 use Rattle.std.proofs.lemmas.Bool.Decides.{nat_tests}
+use Rattle.tp_value.specs.declared.reading.ReadValue.{ReadValue}
+use Rattle.tp_value.specs.declared.reading.ReadValue.TheVariants.{NoMemory}
+use Rattle.tp_value.specs.declared.refusal.NoMemory.{NoMemory as Want}
 use Rattle.tp_value.specs.Tree.{Tree}
 use Rattle.tp_value.specs.Spelling.{is_value_blank, IsRead}
 use Rattle.tp_value.specs.Reading.{Answer, found, refused, value_answer}
@@ -11,11 +15,15 @@ use Rattle.tp_lex.specs.declared.token.Word.{Word}
 use Rattle.tp_lex.specs.Bytes.{is_name_byte, name_limit}
 use Rattle.tp_lex.specs.Spelling.{spelled_word}
 use Rattle.tp_lex.proofs.SpellingLemmas.{word_is, no_word}
-use Rattle.tp_meaning.specs.Inputs.{InputPair, port_value}
+use Rattle.tp_meaning.specs.Inputs.{InputTable}
 use Rattle.tp_inputs.specs.declared.fault.Fault.TheVariants as f
+use Rattle.tp_inputs.specs.declared.part.FoundPart.{FoundPart}
+use Rattle.tp_inputs.specs.declared.span.Span.{Span}
+use Rattle.tp_inputs.specs.Spans.{is_given}
+use Rattle.tp_inputs.specs.Read.{part_of}
 use Rattle.tp_inputs.specs.Parts.{BeginsPort, IsNewPort, is_set_apart, pair}
 use Rattle.tp_inputs.specs.Faults.{no_port, twice, no_value, not_apart}
-use Rattle.tp_inputs.specs.FirstPart.{LinePart, Blank, Given, Faulty, BeginsPart, port_len, value_part, new_part, pair_of_len, pair_part, first_part}
+use Rattle.tp_inputs.specs.FirstPart.{LinePart, Blank, Given, Faulty, BeginsPart, port_len, refused_part, value_part, port_part, pair_of_len, pair_part, first_part}
 
 -- what `port_len` found
 abbrev FindsPort : List ℕ → Option ℕ → Type 0
@@ -64,66 +72,73 @@ port_none z never = at (port_len z) (port_is z)
 
 -- ---- the function answers a part that the line begins with
 
-value_begins : (z : List ℕ) (seen : List InputPair) (n : ℕ) → BeginsPort z n → IsNewPort (take n z) seen → (a : Answer) → value_answer z (n + 1) ≡ a → BeginsPart z seen (value_part z (take n z) a)
-value_begins z seen n is new (refused e) told = no_value is new told
-value_begins z seen n is new (found t m) told = at (is_set_apart z m) refl
-  where
-    read : IsRead z (n + 1) t m
-    read = let low = port_within z n is in found_read z (n + 1) m t (omega arith) told
+module _ (span : Span) (table : InputTable) where
+  value_begins : (z : List ℕ) (n : ℕ) → BeginsPort z n → IsNewPort span table (take n z) → (a : Answer) → value_answer z (n + 1) ≡ a → BeginsPart span table z (value_part z (take n z) a)
+  value_begins z n is new (refused e) told = no_value is new told
+  value_begins z n is new (found t m) told = at (is_set_apart z m) refl
+    where
+      read : IsRead z (n + 1) t m
+      read = let low = port_within z n is in found_read z (n + 1) m t (omega arith) told
 
-    at : (b : Bool) → is_set_apart z m ≡ b → BeginsPart z seen (cond b (Given (record { port = take n z; value = t }) m) (Faulty f.Bad))
-    at true e = pair is new read e
-    at false e = not_apart is new read e
+      at : (b : Bool) → is_set_apart z m ≡ b → BeginsPart span table z (cond b (Given (take n z) t m) (Faulty f.Bad))
+      at true e = pair is new read e
+      at false e = not_apart is new read e
 
-new_begins : (z : List ℕ) (seen : List InputPair) (n : ℕ) → BeginsPort z n → (o : Option Tree) → port_value (take n z) seen ≡ o → BeginsPart z seen (new_part z n o)
-new_begins z seen n is None new = value_begins z seen n is new (value_answer z (n + 1)) refl
-new_begins z seen n is (Some t) given = twice is (t, given)
+  port_begins : (z : List ℕ) (n : ℕ) → BeginsPort z n → (b : Bool) → is_given table span (take n z) ≡ b → BeginsPart span table z (port_part z n b)
+  port_begins z n is false new = value_begins z n is new (value_answer z (n + 1)) refl
+  port_begins z n is true given = twice is given
 
-pair_begins : (z : List ℕ) (seen : List InputPair) → z ≢ [] → is_value_blank (slice_index z 0) ≡ false → (o : Option ℕ) → FindsPort z o → BeginsPart z seen (pair_of_len z seen o)
-pair_begins z seen some no_blank None never = no_port some no_blank never
-pair_begins z seen some no_blank (Some n) is = new_begins z seen n is (port_value (take n z) seen) refl
+  pair_begins : (z : List ℕ) → z ≢ [] → is_value_blank (slice_index z 0) ≡ false → (o : Option ℕ) → FindsPort z o → BeginsPart span table z (pair_of_len span table z o)
+  pair_begins z some no_blank None never = no_port some no_blank never
+  pair_begins z some no_blank (Some n) is = port_begins z n is (is_given table span (take n z)) refl
 
-pub part_is : (z : List ℕ) (seen : List InputPair) → z ≢ [] → BeginsPart z seen (first_part z seen)
-unfolding first_part pair_part
-part_is z seen some = at (is_value_blank (slice_index z 0)) refl
-  where
-    at : (b : Bool) → is_value_blank (slice_index z 0) ≡ b → BeginsPart z seen (cond b Blank (pair_of_len z seen (port_len z)))
-    at true e = e
-    at false e = pair_begins z seen some e (port_len z) (port_is z)
+  pub part_is : (z : List ℕ) → z ≢ [] → BeginsPart span table z (first_part span table z)
+  unfolding first_part pair_part
+  part_is z some = at (is_value_blank (slice_index z 0)) refl
+    where
+      at : (b : Bool) → is_value_blank (slice_index z 0) ≡ b → BeginsPart span table z (cond b Blank (pair_of_len span table z (port_len z)))
+      at true e = e
+      at false e = pair_begins z some e (port_len z) (port_is z)
 
--- ---- and no other
+  -- ---- and no other
 
-lower_no_blank : (b : ℕ) → is_ascii_lowercase b ≡ true → is_value_blank b ≡ false
-lower_no_blank b e = grind (arith, nat_tests)
+  lower_no_blank : (b : ℕ) → is_ascii_lowercase b ≡ true → is_value_blank b ≡ false
+  lower_no_blank b e = grind (arith, nat_tests)
 
-port_part : (z : List ℕ) (seen : List InputPair) (n : ℕ) → BeginsPort z n → first_part z seen ≡ new_part z n (port_value (take n z) seen)
-unfolding first_part pair_part
-port_part z seen n is = rw (lower_no_blank (slice_index z 0) is.lower) (ap (pair_of_len z seen) (port_from z n is))
+  ported : (z : List ℕ) (n : ℕ) → BeginsPort z n → first_part span table z ≡ port_part z n (is_given table span (take n z))
+  unfolding first_part pair_part
+  ported z n is = rw (lower_no_blank (slice_index z 0) is.lower) (ap (pair_of_len span table z) (port_from z n is))
 
-fresh_part : (z : List ℕ) (seen : List InputPair) (n : ℕ) (a : Answer) → BeginsPort z n → IsNewPort (take n z) seen → value_answer z (n + 1) ≡ a → first_part z seen ≡ value_part z (take n z) a
-fresh_part z seen n a is new told = port_part z seen n is ∙ (ap (new_part z n) new ∙ ap (value_part z (take n z)) told)
+  fresh_part : (z : List ℕ) (n : ℕ) (a : Answer) → BeginsPort z n → IsNewPort span table (take n z) → value_answer z (n + 1) ≡ a → first_part span table z ≡ value_part z (take n z) a
+  fresh_part z n a is new told = ported z n is ∙ (ap (port_part z n) new ∙ ap (value_part z (take n z)) told)
 
-blank_part : (z : List ℕ) (seen : List InputPair) → is_value_blank (slice_index z 0) ≡ true → first_part z seen ≡ Blank
-unfolding first_part
-blank_part z seen e = rw e refl
+  blank_part : (z : List ℕ) → is_value_blank (slice_index z 0) ≡ true → first_part span table z ≡ Blank
+  unfolding first_part
+  blank_part z e = rw e refl
 
-no_port_part : (z : List ℕ) (seen : List InputPair) → is_value_blank (slice_index z 0) ≡ false → ((n : ℕ) → ¬ BeginsPort z n) → first_part z seen ≡ Faulty f.Bad
-unfolding first_part pair_part
-no_port_part z seen e never = rw e (ap (pair_of_len z seen) (port_none z never))
+  no_port_part : (z : List ℕ) → is_value_blank (slice_index z 0) ≡ false → ((n : ℕ) → ¬ BeginsPort z n) → first_part span table z ≡ Faulty f.Bad
+  unfolding first_part pair_part
+  no_port_part z e never = rw e (ap (pair_of_len span table z) (port_none z never))
 
-pub part_one : (z : List ℕ) (seen : List InputPair) (p : LinePart) → BeginsPart z seen p → p ≡ first_part z seen
-part_one z seen Blank e = sym (blank_part z seen e)
-part_one z seen (Given _ _) (pair {n = n} {m = m} {t = t} is new read e) = sym (fresh_part z seen n (found t m) is new (read_found z (n + 1) m t read) ∙ ap (λ b. cond b (Given (record { port = take n z; value = t }) m) (Faulty f.Bad)) e)
-part_one z seen (Faulty _) (no_port some e never) = sym (no_port_part z seen e never)
-part_one z seen (Faulty _) (twice {n = n} is given) = sym (port_part z seen n is ∙ ap (new_part z n) given.1)
-part_one z seen (Faulty _) (no_value {n = n} {e = e} is new told) = sym (fresh_part z seen n (refused e) is new told)
-part_one z seen (Faulty _) (not_apart {n = n} {m = m} {t = t} is new read e) = sym (fresh_part z seen n (found t m) is new (read_found z (n + 1) m t read) ∙ ap (λ b. cond b (Given (record { port = take n z; value = t }) m) (Faulty f.Bad)) e)
+  pub part_one : (z : List ℕ) (p : LinePart) → BeginsPart span table z p → p ≡ first_part span table z
+  part_one z Blank e = sym (blank_part z e)
+  part_one z (Given _ _ _) (pair {n = n} {m = m} {t = t} is new read e) = sym (fresh_part z n (found t m) is new (read_found z (n + 1) m t read) ∙ ap (λ b. cond b (Given (take n z) t m) (Faulty f.Bad)) e)
+  part_one z (Faulty _) (no_port some e never) = sym (no_port_part z e never)
+  part_one z (Faulty _) (twice {n = n} is given) = sym (ported z n is ∙ ap (port_part z n) given)
+  part_one z (Faulty _) (no_value {n = n} {e = e} is new told) = sym (fresh_part z n (refused e) is new told)
+  part_one z (Faulty _) (not_apart {n = n} {m = m} {t = t} is new read e) = sym (fresh_part z n (found t m) is new (read_found z (n + 1) m t read) ∙ ap (λ b. cond b (Given (take n z) t m) (Faulty f.Bad)) e)
+
+-- what a refused value gives
+pub refused_value : (z port : List ℕ) (a : Answer) (e : ReadValue) (r : Result FoundPart Want) → IfOk r (λ p. part_of p ≡ refused_part e) → IfOk r (λ _. e ≢ NoMemory) → (e ≢ NoMemory → a ≡ refused e)
+    → IfOk r (λ p. part_of p ≡ value_part z port a)
+refused_value z port a e (Ok p) is told says = is ∙ sym (ap (value_part z port) (says told))
+refused_value z port a e (Err w) is told says = tt
 
 -- ---- each part but a fault has some bytes of the line
 
 abbrev pub Takes : LinePart → ℕ → Type 0
 Takes Blank most = 1 ≤ most
-Takes (Given p n) most = (0 < n) × (n ≤ most)
+Takes (Given port t n) most = (0 < n) × (n ≤ most)
 Takes (Faulty fault) most = 0 < most
 
 some_blank : (z : List ℕ) → is_value_blank (slice_index z 0) ≡ true → 1 ≤ length z
@@ -134,16 +149,16 @@ filled : (z : List ℕ) → z ≢ [] → 0 < length z
 filled [] full = absurd (full refl)
 filled (b ∷ z) full = omega arith
 
-pub takes : (z : List ℕ) (seen : List InputPair) (p : LinePart) → BeginsPart z seen p → Takes p (length z)
-takes z seen Blank e = some_blank z e
-takes z seen (Given _ _) (pair is new read e) =
+pub takes : (span : Span) (table : InputTable) (z : List ℕ) (p : LinePart) → BeginsPart span table z p → Takes p (length z)
+takes span table z Blank e = some_blank z e
+takes span table z (Given _ _ _) (pair is new read e) =
     let ordered = read.ordered in
     let inside = read.inside in
     (omega arith, omega arith)
-takes z seen (Faulty _) (no_port some e never) = filled z some
-takes z seen (Faulty _) (twice {n = n} is given) = let low = port_within z n is in omega arith
-takes z seen (Faulty _) (no_value {n = n} is new told) = let low = port_within z n is in omega arith
-takes z seen (Faulty _) (not_apart {n = n} is new read e) = let low = port_within z n is in omega arith
+takes span table z (Faulty _) (no_port some e never) = filled z some
+takes span table z (Faulty _) (twice {n = n} is given) = let low = port_within z n is in omega arith
+takes span table z (Faulty _) (no_value {n = n} is new told) = let low = port_within z n is in omega arith
+takes span table z (Faulty _) (not_apart {n = n} is new read e) = let low = port_within z n is in omega arith
 
 pub no_more : {A : Type 0} (z : List A) → length z ≡ 0 → z ≡ []
 no_more [] e = refl

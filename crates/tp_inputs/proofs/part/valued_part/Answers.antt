@@ -1,5 +1,5 @@
 use Rattle.tp_value.specs.Reading.{value_answer}
-use Rattle.tp_inputs.proofs.PairLemmas.{refused_value}
+use Rattle.tp_inputs.proofs.PartLemmas.{refused_value}
 use Rattle.tp_inputs.proofs.part.valued_part.Goals as goal
 
 pub returns-in-Err : goal.returns-in-Err
