@@ -1,4 +1,11 @@
 pub mod CanonicalLemmas
+pub mod ConvertedEnds
+pub mod ConvertedFacts
+pub mod ConvertedHeads
+pub mod ConvertedLine
+pub mod ConvertedReads
+pub mod ConvertedTables
+pub mod ConvertedWithin
 pub mod ConvertLemmas
 pub mod Existence
 pub mod HeadLemmas

@@ -1,6 +1,6 @@
 -- How a table of inputs is written.
-use Rattle.std.specs.Prelude.{ℕ, ◌==◌, List, [], ◌∷◌, ◌++◌, Option, Some, None, codes, if◌then◌else◌, map}
-use Rattle.std.specs.List.{flat_map}
+use Rattle.std.specs.Prelude.{ℕ, ◌==◌, ◌≤◌, List, [], ◌∷◌, ◌++◌, Option, Some, None, codes, if◌then◌else◌, map}
+use Rattle.std.specs.List.{flat_map, AllByRecursion}
 use Rattle.std.specs.Fmt.{decimal}
 use Rattle.tp_value.specs.Tree.{Tree}
 use Rattle.tp_value.specs.Written.{text_of}
@@ -48,3 +48,7 @@ ended line = line ++ codes "\n"
 -- the table in the second format, each line with a line feed
 abbrev pub converted : InputTable → List ℕ
 converted table = flat_map ended (converted_lines table)
+
+-- the rows end at the last state that a range may name, or before it
+abbrev pub EndsWithin : InputTable → Type 0
+EndsWithin table = AllByRecursion (λ p. AllByRecursion (λ r. r.last ≤ last_state) p.rows) table
