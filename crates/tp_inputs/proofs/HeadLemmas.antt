@@ -1,46 +1,75 @@
--- Eight digits spell no number past the last state.
-use Rattle.std.proofs.Common.{refl, sym, subst, ◌≡◌, ℕ, zero, suc, ◌+◌, ◌-◌, ◌*◌, ◌≤◌, Bool, true, false, ◌&&◌, List, [], ◌∷◌, length, fold, min, arith}
-use Rattle.std.specs.List.{list_all}
-use Rattle.std.specs.Char.{is_ascii_digit}
-use Rattle.std.proofs.lemmas.Bool.Decides.{nat_tests}
-use Rattle.tp_value.specs.Spelling.{with_digit, decimal_value}
-use Rattle.tp_inputs.specs.Heads.{last_state}
+-- The states of a head are in order.
+use Rattle.std.proofs.Common.{refl, ◌≡◌, ℕ, zero, suc, ◌+◌, ◌≤◌, ◌==◌, Bool, true, false, nat_le, cond, List, length, take, drop, slice_index, Option, Some, None, codes, arith}
+use Rattle.std.specs.List.{position, prefix_len}
+use Rattle.std.specs.Str.{bytes_eq}
+use Rattle.std.proofs.lemmas.Bool.{leb-true}
+use Rattle.tp_value.specs.Spelling.{is_value_blank}
+use Rattle.tp_inputs.specs.declared.span.Span.{Span}
+use Rattle.tp_inputs.specs.declared.span.Span.TheVariants.{States, Others}
+use Rattle.tp_inputs.specs.declared.head.Head.{Head}
+use Rattle.tp_inputs.specs.declared.head.Head.TheVariants.{Speaks, Silent, Unheard}
+use Rattle.tp_inputs.specs.Heads.{state_of, between, end_of, cut_range, range_of, is_range_byte, head_at, colon_head, ranged_head, head_of}
 
--- the greatest number with so many digits behind b
-abbrev nines : ℕ → ℕ → ℕ
-nines b zero = b
-nines b (suc k) = nines (10 * b + 9) k
+-- a first state that isn't past the last
+abbrev pub IsOrdered : Span → Type 0
+IsOrdered (States a b) = a ≤ b
+IsOrdered Others = Unit {0}
 
-nines_up : (b c k : ℕ) → b ≤ c → nines b k ≤ nines c k
-nines_up b c zero h = h
-nines_up b c (suc k) h = nines_up (10 * b + 9) (10 * c + 9) k (omega arith)
+abbrev pub HeadIsOrdered : Head → Type 0
+HeadIsOrdered (Speaks span n) = IsOrdered span
+HeadIsOrdered Silent = Unit {0}
+HeadIsOrdered Unheard = Unit {0}
 
-nines_more : (b k j : ℕ) → nines b k ≤ nines b (k + j)
-nines_more b zero zero = omega arith
-nines_more b zero (suc j) = let up = nines_more b zero j in let more = nines_up b (10 * b + 9) j (omega arith) in omega arith
-nines_more b (suc k) j = nines_more (10 * b + 9) k j
+abbrev SpanIsOrdered : Option Span → Type 0
+SpanIsOrdered None = Unit {0}
+SpanIsOrdered (Some span) = IsOrdered span
 
-low_digit : (d : ℕ) → is_ascii_digit d ≡ true → d - 48 ≤ 9
-low_digit d e = grind (arith, nat_tests)
-
-within_nines : (n b : ℕ) (ds : List ℕ) → n ≤ b → list_all is_ascii_digit ds ≡ true → fold with_digit n ds ≤ nines b (length ds)
-within_nines n b [] h e = h
-within_nines n b (d ∷ ds) h e = at (is_ascii_digit d) refl e (λ low f. within_nines (with_digit n d) (10 * b + 9) ds low f)
+between_ordered : (a b : Option ℕ) → SpanIsOrdered (between a b)
+between_ordered None b = tt
+between_ordered (Some a) None = tt
+between_ordered (Some a) (Some b) = at (nat_le a b) refl
   where
-    at : (p : Bool) → is_ascii_digit d ≡ p → p && list_all is_ascii_digit ds ≡ true → (with_digit n d ≤ 10 * b + 9 → list_all is_ascii_digit ds ≡ true → fold with_digit (with_digit n d) ds ≤ nines (10 * b + 9) (length ds)) → fold with_digit n (d ∷ ds) ≤ nines b (length (d ∷ ds))
-    at true x f later = let low = low_digit d x in later (omega arith) f
-    at false x f later = absurd cc
+    at : (t : Bool) → nat_le a b ≡ t → SpanIsOrdered (cond t (Some (States a b)) None)
+    at true e = leb-true a b e
+    at false e = tt
 
-pub state_within : (ds : List ℕ) → list_all is_ascii_digit ds ≡ true → length ds ≤ 8 → decimal_value ds ≤ last_state
-state_within ds e short =
-    let most = within_nines 0 0 ds (omega arith) e in
-    let more = nines_more 0 (length ds) (8 - length ds) in
-    let sum : length ds + (8 - length ds) ≡ 8 = omega arith in
-    let eight : nines 0 (length ds) ≤ nines 0 8 = subst (λ (k : ℕ). nines 0 (length ds) ≤ nines 0 k) sum more in
-    at most eight
+cut_ordered : (z : List ℕ) (o : Option ℕ) → SpanIsOrdered (cut_range z o)
+cut_ordered z None = between_ordered (state_of z) (state_of z)
+cut_ordered z (Some i) = between_ordered (state_of (take i z)) (end_of (drop (i + 1) z))
+
+range_ordered : (z : List ℕ) → SpanIsOrdered (range_of z)
+unfolding range_of
+range_ordered z = at (bytes_eq z (codes "*"))
   where
-    at : fold with_digit 0 ds ≤ nines 0 (length ds) → nines 0 (length ds) ≤ last_state → decimal_value ds ≤ last_state
-    at a b = omega arith
+    at : (t : Bool) → SpanIsOrdered (cond t (Some Others) (cut_range z (position (λ b. b == 45) z)))
+    at true = tt
+    at false = cut_ordered z (position (λ b. b == 45) z)
 
-pub state_whole : (ds : List ℕ) → list_all is_ascii_digit ds ≡ true → length ds ≤ 8 → min (decimal_value ds) last_state ≡ decimal_value ds
-state_whole ds e short = let low = state_within ds e short in omega arith
+at_ordered : (o : Option Span) (n : ℕ) → SpanIsOrdered o → HeadIsOrdered (head_at o n)
+at_ordered None n is = tt
+at_ordered (Some span) n is = is
+
+test_ordered : (t : Bool) (h : Head) → HeadIsOrdered h → HeadIsOrdered (cond t h Unheard)
+test_ordered true h is = is
+test_ordered false h is = tt
+
+blank_ordered : (t : Bool) (h : Head) → HeadIsOrdered h → HeadIsOrdered (cond t Silent h)
+blank_ordered true h is = tt
+blank_ordered false h is = is
+
+colon_ordered : (line : List ℕ) (blanks : ℕ) → HeadIsOrdered (colon_head line blanks)
+colon_ordered line blanks =
+    let rest = drop blanks line in
+    let n = prefix_len is_range_byte rest in
+    let after = drop n rest in
+    let more = prefix_len is_value_blank after in
+    test_ordered (slice_index after more == 58) (head_at (range_of (take n rest)) (blanks + n + more + 1)) (at_ordered (range_of (take n rest)) (blanks + n + more + 1) (range_ordered (take n rest)))
+
+ranged_ordered : (line : List ℕ) → HeadIsOrdered (ranged_head line)
+unfolding ranged_head
+ranged_ordered line = let blanks = prefix_len is_value_blank line in blank_ordered (blanks == length line) (colon_head line blanks) (colon_ordered line blanks)
+
+pub head_ordered : (second : Bool) (k : ℕ) (line : List ℕ) → HeadIsOrdered (head_of second k line)
+head_ordered false k line = omega arith
+head_ordered true zero line = tt
+head_ordered true (suc k) line = ranged_ordered line

@@ -8,9 +8,10 @@ ghost use Rattle.tp_inputs.specs.Spans.{rows_meet};
 ghost use Rattle.tp_inputs.specs.Model.{rows_of, FindsRow};
 ghost use Rattle.tp_inputs.specs.Moves.{TakesRow, IsOpened, IsClosed, GivesRows};
 
+use crate::convert::append_row;
 use std::alloc::Global;
 use std::collections::BTreeMap;
-use tp_value::{NoMemory, Value, same};
+use tp_value::{NoMemory, Text, Value, same};
 
 /// A value for the states up to the last.
 #[derive(Drop)]
@@ -120,6 +121,23 @@ impl Ranges {
         let from = self.open(first, &value);
         let to = self.close(last, &value);
         self.rows.insert(from, Row { last: to, value })?;
+        Ok(())
+    }
+}
+
+impl Ranges {
+    ghost use Rattle.std.specs.Prelude.{◌++◌};
+    ghost use Rattle.std.specs.List.{flat_map};
+    ghost use Rattle.tp_inputs.specs.Converted.{row_line, ended};
+
+    /// Appends a line for each range of states, as the port's.
+    pub fn append_lines(&self, out: &mut Text, port: &[u8]) -> Result<(), NoMemory>
+        ensures { OnOk result (out.new ≡ out.old
+            ++ flat_map (λ r. ended (row_line port.now r)) (rows_of self.now)) }
+    {
+        for (first, row) in &self.rows {
+            append_row(out, port, *first, row.last, &row.value)?;
+        }
         Ok(())
     }
 }
