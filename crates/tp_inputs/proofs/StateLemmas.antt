@@ -11,14 +11,14 @@ abbrev nines : ℕ → ℕ → ℕ
 nines b zero = b
 nines b (suc k) = nines (10 * b + 9) k
 
-nines_up : (b c k : ℕ) → b ≤ c → nines b k ≤ nines c k
-nines_up b c zero h = h
-nines_up b c (suc k) h = nines_up (10 * b + 9) (10 * c + 9) k (omega arith)
+nines_least : (b k : ℕ) → b ≤ nines b k
+nines_least b zero = omega arith
+nines_least b (suc k) = let more = nines_least (10 * b + 9) k in omega arith
 
-nines_more : (b k j : ℕ) → nines b k ≤ nines b (k + j)
-nines_more b zero zero = omega arith
-nines_more b zero (suc j) = let up = nines_more b zero j in let more = nines_up b (10 * b + 9) j (omega arith) in omega arith
-nines_more b (suc k) j = nines_more (10 * b + 9) k j
+nines_more : (b k m : ℕ) → k ≤ m → nines b k ≤ nines b m
+nines_more b zero m h = nines_least b m
+nines_more b (suc k) zero h = absurd (omega arith)
+nines_more b (suc k) (suc m) h = nines_more (10 * b + 9) k m (omega arith)
 
 low_digit : (d : ℕ) → is_ascii_digit d ≡ true → d - 48 ≤ 9
 low_digit d e = grind (arith, nat_tests)
@@ -32,12 +32,7 @@ within_nines n b (d ∷ ds) h e = at (is_ascii_digit d) refl e (λ low f. within
     at false x f later = absurd cc
 
 pub state_within : (ds : List ℕ) → list_all is_ascii_digit ds ≡ true → length ds ≤ 8 → decimal_value ds ≤ last_state
-state_within ds e short =
-    let most = within_nines 0 0 ds (omega arith) e in
-    let more = nines_more 0 (length ds) (8 - length ds) in
-    let sum : length ds + (8 - length ds) ≡ 8 = omega arith in
-    let eight : nines 0 (length ds) ≤ nines 0 8 = subst (λ (k : ℕ). nines 0 (length ds) ≤ nines 0 k) sum more in
-    at most eight
+state_within ds e short = at (within_nines 0 0 ds (omega arith) e) (nines_more 0 (length ds) 8 short)
   where
     at : fold with_digit 0 ds ≤ nines 0 (length ds) → nines 0 (length ds) ≤ last_state → decimal_value ds ≤ last_state
     at a b = omega arith
