@@ -54,10 +54,10 @@ pub fn read_inputs(alloc: Global, bytes: &[u8]) -> Result<Inputs, InputsRefusal>
     let mut rest = bytes;
     while !rest.is_empty() {
         let (line, after) = first_line(rest);
-        number += 1;
-        if let Err(refusal) = take_line(alloc, line, head_of(second, number - 1, line), &mut ports) {
-            return Err(refusal.in_line(number));
+        if let Err(refusal) = take_line(alloc, line, head_of(second, number, line), &mut ports) {
+            return Err(refusal.in_line(number + 1));
         }
+        number += 1;
         rest = after;
     }
     Ok(Inputs { ports })
