@@ -1,5 +1,5 @@
 -- What holds of each value that is read holds of a table of inputs; so its values are within the limits.
-use Rattle.std.proofs.Common.{◌≡◌, ℕ, ◌+◌, ◌<◌, ◌≤◌, inl, inr, ◌⊎◌, Bool, true, false, ◌&&◌, cond, List, [], ◌∷◌, Option, Some, None, drop, refl, sym, ap, subst, ◌∙◌}
+use Rattle.std.proofs.Common.{◌≡◌, ℕ, ◌+◌, ◌<◌, ◌≤◌, inl, inr, ◌⊎◌, Bool, true, false, ◌&&◌, List, [], ◌∷◌, Option, Some, None, drop, refl, sym, subst, ◌∙◌}
 use Rattle.std.specs.Prelude.{if◌then◌else◌}
 use Rattle.std.specs.Str.{bytes_eq}
 use Rattle.std.specs.Str.Lines.{lines}
@@ -15,12 +15,12 @@ use Rattle.tp_inputs.specs.declared.head.Head.TheVariants.{Speaks, Silent, Unhea
 use Rattle.tp_inputs.specs.Canonical.{are_rows, IsCanonical}
 use Rattle.tp_inputs.specs.Spans.{span_has, is_others, Gives}
 use Rattle.tp_inputs.specs.Heads.{is_second, head_of}
-use Rattle.tp_inputs.specs.Parts.{BeginsPair, pair}
+use Rattle.tp_inputs.specs.Parts.{pair}
 use Rattle.tp_inputs.specs.Lines.{PassesPart, blank, given, ReadsPairs, here, passes, IsLine}
 use Rattle.tp_inputs.specs.Table.{IsInputsText, AreLines}
 use Rattle.tp_inputs.specs.Laws.{TablesAreWithin}
-use Rattle.tp_inputs.specs.Within.{RowsHave, DefaultHas, PortHas, ValuesHave, InputsWithin}
-use Rattle.tp_inputs.proofs.CanonicalLemmas.{has_behind, row_past, rows_parts, rows_behind, first_has, port_here, port_past, no_port, later, names, same_name, ports_parts, rest_canonical, range_at, default_at}
+use Rattle.tp_inputs.specs.Within.{RowsHave, DefaultHas, PortHas, ValuesHave}
+use Rattle.tp_inputs.proofs.CanonicalLemmas.{has_behind, row_past, rows_parts, rows_behind, first_has, port_here, no_port, later, same_name, ports_parts, rest_canonical, range_at, default_at}
 
 module _ (P : Tree → Type 0) where
   -- ---- what is found has what each value has
@@ -87,8 +87,7 @@ module _ (P : Tree → Type 0) where
 
   has_port : (p : InputPort) (ps : InputTable) → IsCanonical (p ∷ ps) → EachHas (p ∷ ps) → PortHas P p
   has_port p ps is each =
-      let found = port_here p ps p.port refl in
-      (
+      let found = port_here p ps p.port refl in (
         rows_have p.rows (ports_parts p ps is.ports).rows (λ n t e. each.ranges n p.port t (range_at (p ∷ ps) n p.port (Some p) found ∙ e)),
         has_default p.default (λ t e. each.defaults p.port t (default_at (p ∷ ps) p.port (Some p) found ∙ e)),
       )
