@@ -21,11 +21,13 @@ abbrev pub is_second : List (List ℕ) → Bool
 is_second [] = false
 is_second (line ∷ texts) = bytes_eq line format_line
 
--- the state that one to eight digits name
+-- one to eight digits
+abbrev pub is_state : List ℕ → Bool
+is_state z = nat_lt 0 (length z) && (nat_le (length z) 8 && list_all is_ascii_digit z)
+
+-- the state that they name
 unfoldable pub state_of : List ℕ → Option ℕ
-state_of z =
-    if nat_lt 0 (length z) && (nat_le (length z) 8 && list_all is_ascii_digit z)
-    then Some (decimal_value z) else None
+state_of z = if is_state z then Some (decimal_value z) else None
 
 -- from one state to another that isn't before it
 abbrev pub between : Option ℕ → Option ℕ → Option Span

@@ -7,6 +7,8 @@ use Rattle.tp_value.specs.Reading.{refused, value_answer}
 use Rattle.tp_value.specs.Answers.{IsReadRefused}
 use Rattle.tp_meaning.specs.Inputs.{InputTable}
 use Rattle.tp_inputs.specs.declared.fault.Fault.{Fault}
+use Rattle.tp_inputs.specs.Heads.{last_state}
+use Rattle.tp_inputs.specs.Converted.{EndsWithin, converted}
 use Rattle.tp_inputs.specs.Table.{IsInputsText, IsFirstFault}
 use Rattle.tp_inputs.specs.Within.{InputsWithin}
 
@@ -40,3 +42,15 @@ RefusedValuesHaveTheirCause =
 abbrev pub TablesAreWithin : Type 0
 TablesAreWithin =
     (bytes : List ℕ) (table : InputTable) → IsInputsText bytes table → InputsWithin table
+
+-- what is written of the table of a text is read as that table, where its rows end in time
+abbrev pub ConvertedIsTheTable : Type 0
+ConvertedIsTheTable =
+    (bytes : List ℕ) (table : InputTable) → IsInputsText bytes table → EndsWithin table
+    → IsInputsText (converted table) table
+
+-- and they do, where the text has no more bytes than that
+abbrev pub TablesEndWithin : Type 0
+TablesEndWithin =
+    (bytes : List ℕ) (table : InputTable) → length bytes ≤ last_state → IsInputsText bytes table
+    → EndsWithin table

@@ -1,5 +1,6 @@
 pub mod Bounds
 pub mod Canonical
+pub mod Converted
 pub mod Faults
 pub mod FirstPart
 pub mod Heads

@@ -1,6 +1,7 @@
 //! The table of inputs: for ranges of states the values of ports, with defaults, read from a text.
 #![tactic(auto)]
 
+mod convert;
 mod fault;
 mod head;
 mod inputs;

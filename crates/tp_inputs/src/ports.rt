@@ -9,6 +9,7 @@ ghost use Rattle.tp_inputs.specs.Spans.{is_given, port_meets, Gives};
 ghost use Rattle.tp_inputs.specs.Model.{rows_of, default_of, named_port, table_of};
 ghost use Rattle.tp_inputs.specs.Moves.{GivesPort};
 
+use crate::convert::append_default;
 use crate::ranges::Ranges;
 use crate::span::Span;
 use std::alloc::Global;
@@ -123,5 +124,35 @@ impl Ports {
                 Ok(())
             }
         }
+    }
+}
+
+impl Ports {
+    ghost use Rattle.std.specs.Prelude.{◌++◌};
+    ghost use Rattle.std.specs.List.{flat_map};
+    ghost use Rattle.tp_inputs.specs.Converted.{row_lines, default_lines, ended};
+
+    /// Appends a line for each range of states in which a port has a value.
+    pub fn append_rows(&self, out: &mut Text) -> Result<(), NoMemory>
+        ensures { OnOk result (out.new ≡ out.old
+            ++ flat_map ended (flat_map row_lines (table_of self.now))) }
+    {
+        for (name, port) in &self.by_name {
+            port.ranges.append_lines(out, name)?;
+        }
+        Ok(())
+    }
+
+    /// Appends a line for each default.
+    pub fn append_defaults(&self, out: &mut Text) -> Result<(), NoMemory>
+        ensures { OnOk result (out.new ≡ out.old
+            ++ flat_map ended (flat_map default_lines (table_of self.now))) }
+    {
+        for (name, port) in &self.by_name {
+            if let Some(value) = &port.default {
+                append_default(out, name, value)?;
+            }
+        }
+        Ok(())
     }
 }
