@@ -19,32 +19,32 @@ use Rattle.tp_inputs.specs.Parts.{pair}
 use Rattle.tp_inputs.specs.Lines.{PassesPart, blank, given, ReadsPairs, here, passes, IsLine}
 use Rattle.tp_inputs.specs.Table.{IsInputsText, AreLines}
 use Rattle.tp_inputs.specs.Laws.{TablesAreWithin}
-use Rattle.tp_inputs.specs.Within.{RowsHave, DefaultHas, PortHas, ValuesHave}
+use Rattle.tp_inputs.specs.Within.{RowValuesHave, DefaultValueHas, PortValuesHave, ValuesHave}
 use Rattle.tp_inputs.proofs.CanonicalLemmas.{has_behind, row_past, rows_parts, rows_behind, first_has, port_here, no_port, later, same_name, ports_parts, rest_canonical, range_at, default_at}
 
 module _ (P : Tree → Type 0) where
   -- ---- what is found has what each value has
 
-  row_has : (rs : List InputRow) (n : ℕ) (t : Tree) → RowsHave P rs → row_value rs n ≡ Some t → P t
+  row_has : (rs : List InputRow) (n : ℕ) (t : Tree) → RowValuesHave P rs → row_value rs n ≡ Some t → P t
   row_has [] n t h e = absurd cc
   row_has (r ∷ rs) n t h e = elim (cases_Bool (has_state r n)) [
     | inl c ↦ (let same : Some r.value ≡ Some t = rw c at e in subst P (same_Some _ _ same) h.0)
     | inr c ↦ row_has rs n t h.1 (rw c at e)
   ]
 
-  default_has : (d : Option Tree) (t : Tree) → DefaultHas P d → d ≡ Some t → P t
+  default_has : (d : Option Tree) (t : Tree) → DefaultValueHas P d → d ≡ Some t → P t
   default_has None t h e = absurd cc
   default_has (Some u) t h e = subst P (same_Some _ _ e) h
 
   abbrev FoundHas : Option InputPort → Type 0
   FoundHas None = Unit {0}
-  FoundHas (Some p) = PortHas P p
+  FoundHas (Some p) = PortValuesHave P p
 
   port_has : (table : InputTable) (k : List ℕ) → ValuesHave P table → FoundHas (port_of table k)
   port_has [] k h = tt
   port_has (p ∷ ps) k h = by (bytes_eq k p.port) h.0 (port_has ps k h.1)
     where
-      by : (b : Bool) → PortHas P p → FoundHas (port_of ps k) → FoundHas (if b then Some p else port_of ps k)
+      by : (b : Bool) → PortValuesHave P p → FoundHas (port_of ps k) → FoundHas (if b then Some p else port_of ps k)
       by true front below = front
       by false front below = below
 
@@ -73,7 +73,7 @@ module _ (P : Tree → Type 0) where
   each_has : (table : InputTable) → ValuesHave P table → EachHas table
   each_has table h = record { ranges = λ n k t e. found_range (port_of table k) n t (port_has table k h) e; defaults = λ k t e. found_default (port_of table k) t (port_has table k h) e }
 
-  rows_have : (rs : List InputRow) → are_rows rs ≡ true → ((n : ℕ) (t : Tree) → row_value rs n ≡ Some t → P t) → RowsHave P rs
+  rows_have : (rs : List InputRow) → are_rows rs ≡ true → ((n : ℕ) (t : Tree) → row_value rs n ≡ Some t → P t) → RowValuesHave P rs
   rows_have [] e each = tt
   rows_have (r ∷ rs) e each = (each r.first r.value (first_has r rs e), rows_have rs (rows_parts r rs e).others (λ n t x. each n t (behind n t x (cases_lt r.last n))))
     where
@@ -81,11 +81,11 @@ module _ (P : Tree → Type 0) where
       behind n t x (inl h) = row_past r rs n (has_behind r n h) ∙ x
       behind n t x (inr h) = let bad : None ≡ Some t = sym ((rows_behind r rs e).free n h) ∙ x in absurd cc
 
-  has_default : (d : Option Tree) → ((t : Tree) → d ≡ Some t → P t) → DefaultHas P d
+  has_default : (d : Option Tree) → ((t : Tree) → d ≡ Some t → P t) → DefaultValueHas P d
   has_default None each = tt
   has_default (Some t) each = each t refl
 
-  has_port : (p : InputPort) (ps : InputTable) → IsCanonical (p ∷ ps) → EachHas (p ∷ ps) → PortHas P p
+  has_port : (p : InputPort) (ps : InputTable) → IsCanonical (p ∷ ps) → EachHas (p ∷ ps) → PortValuesHave P p
   has_port p ps is each =
       let found = port_here p ps p.port refl in (
         rows_have p.rows (ports_parts p ps is.ports).rows (λ n t e. each.ranges n p.port t (range_at (p ∷ ps) n p.port (Some p) found ∙ e)),

@@ -6,22 +6,22 @@ use Rattle.tp_value.specs.Limits.{is_within_list_limit, IsWithinListLimit}
 use Rattle.tp_meaning.specs.Inputs.{InputRow, InputPort, InputTable}
 
 -- the property holds of each value of the rows
-abbrev pub RowsHave : (Tree → Type 0) → List InputRow → Type 0
-RowsHave P [] = Unit {0}
-RowsHave P (r ∷ rs) = P r.value × RowsHave P rs
+abbrev pub RowValuesHave : (Tree → Type 0) → List InputRow → Type 0
+RowValuesHave P [] = Unit {0}
+RowValuesHave P (r ∷ rs) = P r.value × RowValuesHave P rs
 
-abbrev pub DefaultHas : (Tree → Type 0) → Option Tree → Type 0
-DefaultHas P None = Unit {0}
-DefaultHas P (Some t) = P t
+abbrev pub DefaultValueHas : (Tree → Type 0) → Option Tree → Type 0
+DefaultValueHas P None = Unit {0}
+DefaultValueHas P (Some t) = P t
 
 -- of each value of the port
-abbrev pub PortHas : (Tree → Type 0) → InputPort → Type 0
-PortHas P p = RowsHave P p.rows × DefaultHas P p.default
+abbrev pub PortValuesHave : (Tree → Type 0) → InputPort → Type 0
+PortValuesHave P p = RowValuesHave P p.rows × DefaultValueHas P p.default
 
 -- and of each value of the table
 abbrev pub ValuesHave : (Tree → Type 0) → InputTable → Type 0
 ValuesHave P [] = Unit {0}
-ValuesHave P (p ∷ ps) = PortHas P p × ValuesHave P ps
+ValuesHave P (p ∷ ps) = PortValuesHave P p × ValuesHave P ps
 
 -- each value is within the limits, as those of an inputs file are
 abbrev pub InputsWithin : InputTable → Type 0
@@ -31,11 +31,11 @@ InputsWithin table = ValuesHave IsWithinListLimit table
 value_prop : (t : Tree) → IsProp (IsWithinListLimit t)
 value_prop t = Coded-set coded_bool (is_within_list_limit t) true
 
-rows_prop : (rs : List InputRow) → IsProp (RowsHave IsWithinListLimit rs)
+rows_prop : (rs : List InputRow) → IsProp (RowValuesHave IsWithinListLimit rs)
 rows_prop [] = Unit-prop
 rows_prop (r ∷ rs) = ×_prop (value_prop r.value) (rows_prop rs)
 
-default_prop : (d : Option Tree) → IsProp (DefaultHas IsWithinListLimit d)
+default_prop : (d : Option Tree) → IsProp (DefaultValueHas IsWithinListLimit d)
 default_prop None = Unit-prop
 default_prop (Some t) = value_prop t
 
