@@ -12,7 +12,7 @@ use Rattle.tp_inputs.specs.Spans.{Gives}
 use Rattle.tp_inputs.specs.Heads.{is_second, head_of}
 use Rattle.tp_inputs.specs.FirstPart.{LinePart, Blank, Given, Faulty, BeginsPart, first_part}
 use Rattle.tp_inputs.specs.Lines.{PassesPart, blank, given, ReadsPairs, here, passes, IsLine}
-use Rattle.tp_inputs.specs.Faults.{BeginsFault, StopsAt, HasFault}
+use Rattle.tp_inputs.specs.Faults.{BeginsFault, HasFault}
 use Rattle.tp_inputs.specs.Table.{AreLines, IsFirstFault}
 use Rattle.tp_inputs.specs.Laws.{EachTextIsJudged, OneTable, OneFirstFault, NoFaultyTable, RefusedValuesHaveTheirCause}
 use Rattle.tp_value.proofs.ReadLemmas.{never_memory, refused_right}
@@ -200,7 +200,7 @@ module _ (second : Bool) where
   texts_judged k [] table c = inl (table, refl)
   texts_judged k (line ∷ texts) table c =
       judged_on k line texts table (judged (head_of second k line) line table (head_ordered second k line) c)
-        (λ more is. texts_judged (k + 1) texts more (line_canonical (head_of second k line) line table more is c))
+      (λ more is. texts_judged (k + 1) texts more (line_canonical (head_of second k line) line table more is c))
 
   one_table_of : (k : ℕ) (texts : List (List ℕ)) (table t u : InputTable) → AreLines second k texts table t → AreLines second k texts table u → t ≡ u
   one_table_of k [] table t u a b = a ∙ sym b
