@@ -17,7 +17,7 @@ use Rattle.tp_value.proofs.Trees.{same_tree_is_equality}
 use Rattle.tp_meaning.specs.Inputs.{InputRow, InputPort, InputTable, has_state, row_value, port_of, range_value, default_value}
 use Rattle.tp_inputs.specs.declared.span.Span.{Span}
 use Rattle.tp_inputs.specs.Canonical.{is_ahead, are_rows, is_told, are_ports, IsCanonical}
-use Rattle.tp_inputs.specs.Spans.{Gives}
+use Rattle.tp_inputs.specs.Spans.{GivesValue}
 
 -- ---- a row
 
@@ -359,5 +359,5 @@ one_canonical (p ∷ ps) (q ∷ qs) is js same =
     cc
 
 -- what is added makes one table
-pub one_given : (span : Span) (port : List ℕ) (value : Tree) (t u v : InputTable) → Gives span port value t u → Gives span port value t v → u ≡ v
+pub one_given : (span : Span) (port : List ℕ) (value : Tree) (t u v : InputTable) → GivesValue span port value t u → GivesValue span port value t v → u ≡ v
 one_given span port value t u v a b = one_canonical u v a.canonical b.canonical (record { ranges = λ n q. a.ranges n q ∙ sym (b.ranges n q); defaults = λ q. a.defaults q ∙ sym (b.defaults q) })

@@ -16,7 +16,7 @@ use Rattle.tp_meaning.specs.Inputs.{InputRow, InputPort, InputTable, has_state, 
 use Rattle.tp_inputs.specs.declared.span.Span.{Span}
 use Rattle.tp_inputs.specs.declared.span.Span.TheVariants.{States, Others}
 use Rattle.tp_inputs.specs.Canonical.{are_rows, is_told, IsCanonical}
-use Rattle.tp_inputs.specs.Spans.{span_has, is_others, rows_meet, port_meets, is_given, Gives}
+use Rattle.tp_inputs.specs.Spans.{span_has, is_others, rows_meet, port_meets, is_given, GivesValue}
 use Rattle.tp_inputs.specs.Moves.{GivesRows, GivesPort}
 use Rattle.tp_inputs.proofs.HeadLemmas.{IsOrdered}
 use Rattle.tp_inputs.proofs.CanonicalLemmas.{has_yes, has_before, has_behind, row_at, row_past, rows_parts, rows_from, none_before, Behind, behind_ahead, rows_behind, first_has, row, ports_parts, ports_from, names, cmp, same_name, later, port_here, port_past, all_later, below_apart, range_at, default_at, rest_canonical, input_port}
@@ -333,7 +333,7 @@ old_default : (k : List ℕ) (o : Option InputPort) → (port_or k o).default �
 old_default k None = refl
 old_default k (Some p) = refl
 
-table_gives : (span : Span) (k : List ℕ) (v : Tree) (t u : InputTable) (q : InputPort) → q.port ≡ k → GivesPort span v (port_or k (port_of t k)) q → HasPort q t u → Gives span k v t u
+table_gives : (span : Span) (k : List ℕ) (v : Tree) (t u : InputTable) (q : InputPort) → q.port ≡ k → GivesPort span v (port_or k (port_of t k)) q → HasPort q t u → GivesValue span k v t u
 table_gives span k v t u q name is has = record { canonical = has.canonical; ranges = λ n m. range n m (cases_Bool (bytes_eq m k)); defaults = λ m. default m (cases_Bool (bytes_eq m k)) }
   where
     found : (m : List ℕ) → bytes_eq m k ≡ true → port_of u m ≡ Some q
@@ -355,7 +355,7 @@ table_gives span k v t u q name is has = record { canonical = has.canonical; ran
     default m (inr h) = default_at u m (port_of t m) (kept m h) ∙ rw h refl
 
 -- what isn't said so far can be added
-pub some_given : (span : Span) (port : List ℕ) (value : Tree) (table : InputTable) → IsOrdered span → IsCanonical table → is_given table span port ≡ false → (more : InputTable) × Gives span port value table more
+pub some_given : (span : Span) (port : List ℕ) (value : Tree) (table : InputTable) → IsOrdered span → IsCanonical table → is_given table span port ≡ false → (more : InputTable) × GivesValue span port value table more
 some_given span port value table order is new =
     let old = port_or port (port_of table port) in
     let added = add_port span value old order (found_rows table port is) (meets_none port (port_of table port) span new) in

@@ -18,7 +18,7 @@ use Rattle.tp_meaning.specs.Inputs.{InputRow, InputPort, InputTable, row_value, 
 use Rattle.tp_inputs.specs.declared.span.Span.{Span}
 use Rattle.tp_inputs.specs.declared.ports.Port.{Port}
 use Rattle.tp_inputs.specs.Canonical.{are_rows, is_told, are_ports, IsCanonical}
-use Rattle.tp_inputs.specs.Spans.{span_has, is_others, port_meets, is_given, Gives}
+use Rattle.tp_inputs.specs.Spans.{span_has, is_others, port_meets, is_given, GivesValue}
 use Rattle.tp_inputs.specs.Model.{rows_of, default_of, named_port}
 use Rattle.tp_inputs.specs.Moves.{GivesPort}
 
@@ -202,7 +202,7 @@ names_ordered cmp is (e ∷ es) h = (below_all cmp is e.0 es h.0, names_ordered 
 pub gives : (es fs : Entries) (span : Span) (port : List ℕ) (v : Tree) (w : Port) → Changes port w es fs
     → IsStrictlySortedBy (slice_cmp nat_cmp) (map (λ p. p.port) (table_in fs)) → are_ports (table_in fs) ≡ true
     → ((n : ℕ) → row_value (rows_of w.ranges) n ≡ cond (span_has span n) (Some v) (row_value (rows_in (named port es)) n)) → default_of w ≡ cond (is_others span) (Some v) (default_in (named port es))
-    → Gives span port v (table_in es) (table_in fs)
+    → GivesValue span port v (table_in es) (table_in fs)
 gives es fs span port v w changes ordered ports rows default = record {
   canonical = record { ordered = ordered; ports = ports };
   ranges = λ n q. ranged fs n q ∙ (ap (λ o. row_value (rows_in o) n) (changes q) ∙ (at_row n q (bytes_eq q port) refl ∙ ap (cond (bytes_eq q port && span_has span n) (Some v)) (sym (ranged es n q))));

@@ -7,7 +7,7 @@ use Rattle.tp_inputs.specs.declared.fault.Fault.{Fault}
 use Rattle.tp_inputs.specs.declared.fault.Fault.TheVariants.{Bad, Twice, TooLong}
 use Rattle.tp_inputs.specs.declared.refusal.LineRefusal.{LineRefusal}
 use Rattle.tp_inputs.specs.declared.refusal.LineRefusal.TheVariants as l
-use Rattle.tp_inputs.specs.Heads.{is_second, head_of}
+use Rattle.tp_inputs.specs.Heads.{has_ranges, head_of}
 use Rattle.tp_inputs.specs.Lines.{IsLine}
 use Rattle.tp_inputs.specs.Faults.{HasFault}
 use Rattle.tp_inputs.specs.Table.{AreLines, IsFirstFault, IsInputsRefusal, IsInputsText}
@@ -42,8 +42,8 @@ line_more second texts number table more line left r is = record {
   good = lines_more second 0 r.before line [] table more r.good (subst (λ (n : ℕ). IsLine (head_of second n line) line table more) (let a = r.numbered in omega arith) is);
 }
 
-fault_in : (texts : List (List ℕ)) (number : ℕ) (table : InputTable) (line : List ℕ) (left : List (List ℕ)) (fault : Fault) → ReadsSoFar (is_second texts) texts number table (line ∷ left)
-    → HasFault (head_of (is_second texts) number line) line table fault → IsFirstFault texts (number + 1) fault
+fault_in : (texts : List (List ℕ)) (number : ℕ) (table : InputTable) (line : List ℕ) (left : List (List ℕ)) (fault : Fault) → ReadsSoFar (has_ranges texts) texts number table (line ∷ left)
+    → HasFault (head_of (has_ranges texts) number line) line table fault → IsFirstFault texts (number + 1) fault
 fault_in texts number table line left fault r has = record {
   before = r.before;
   line = line;
@@ -52,17 +52,17 @@ fault_in texts number table line left fault r has = record {
   numbered = ap (λ n. n + 1) r.numbered;
   table = table;
   good = r.good;
-  faulty = subst (λ (n : ℕ). HasFault (head_of (is_second texts) n line) line table fault) r.numbered has;
+  faulty = subst (λ (n : ℕ). HasFault (head_of (has_ranges texts) n line) line table fault) r.numbered has;
 }
 
-pub refused_in : (bytes : List ℕ) (number : ℕ) (table : InputTable) (line : List ℕ) (left : List (List ℕ)) (e : LineRefusal) → ReadsSoFar (is_second (lines bytes)) (lines bytes) number table (line ∷ left)
-    → IsLineRefusal (head_of (is_second (lines bytes)) number line) line table e → IsInputsRefusal bytes (refusal_in e (number + 1))
+pub refused_in : (bytes : List ℕ) (number : ℕ) (table : InputTable) (line : List ℕ) (left : List (List ℕ)) (e : LineRefusal) → ReadsSoFar (has_ranges (lines bytes)) (lines bytes) number table (line ∷ left)
+    → IsLineRefusal (head_of (has_ranges (lines bytes)) number line) line table e → IsInputsRefusal bytes (refusal_in e (number + 1))
 refused_in bytes number table line left (l.Fault Bad) r has = fault_in (lines bytes) number table line left Bad r has
 refused_in bytes number table line left (l.Fault Twice) r has = fault_in (lines bytes) number table line left Twice r has
 refused_in bytes number table line left (l.Fault TooLong) r has = fault_in (lines bytes) number table line left TooLong r has
 refused_in bytes number table line left l.NoMemory r has = tt
 
-pub table_whole : (bytes rest : List ℕ) (number : ℕ) (table : InputTable) → ReadsSoFar (is_second (lines bytes)) (lines bytes) number table (lines rest) → rest ≡ [] → IsInputsText bytes table
+pub table_whole : (bytes rest : List ℕ) (number : ℕ) (table : InputTable) → ReadsSoFar (has_ranges (lines bytes)) (lines bytes) number table (lines rest) → rest ≡ [] → IsInputsText bytes table
 table_whole bytes rest number table r e =
     let texts : lines bytes ≡ r.before = r.split ∙ (ap (λ z. r.before ++ lines z) e ∙ append-nil r.before) in
-    subst (λ (z : List (List ℕ)). AreLines (is_second (lines bytes)) 0 z [] table) (sym texts) r.good
+    subst (λ (z : List (List ℕ)). AreLines (has_ranges (lines bytes)) 0 z [] table) (sym texts) r.good

@@ -13,8 +13,8 @@ use Rattle.tp_inputs.specs.declared.span.Span.{Span}
 use Rattle.tp_inputs.specs.declared.head.Head.{Head}
 use Rattle.tp_inputs.specs.declared.head.Head.TheVariants.{Speaks, Silent, Unheard}
 use Rattle.tp_inputs.specs.Canonical.{are_rows, IsCanonical}
-use Rattle.tp_inputs.specs.Spans.{span_has, is_others, Gives}
-use Rattle.tp_inputs.specs.Heads.{is_second, head_of}
+use Rattle.tp_inputs.specs.Spans.{span_has, is_others, GivesValue}
+use Rattle.tp_inputs.specs.Heads.{has_ranges, head_of}
 use Rattle.tp_inputs.specs.Parts.{pair}
 use Rattle.tp_inputs.specs.Lines.{PassesPart, blank, given, ReadsPairs, here, passes, IsLine}
 use Rattle.tp_inputs.specs.Table.{IsInputsText, AreLines}
@@ -116,7 +116,7 @@ module _ (P : Tree → Type 0) where
   either_has true v t o h k e = subst P (same_Some _ _ e) h
   either_has false v t o h k e = k e
 
-  given_has : (span : Span) (port : List ℕ) (v : Tree) (table more : InputTable) → Gives span port v table more → P v → ValuesHave P table → ValuesHave P more
+  given_has : (span : Span) (port : List ℕ) (v : Tree) (table more : InputTable) → GivesValue span port v table more → P v → ValuesHave P table → ValuesHave P more
   given_has span port v table more g h old =
       let each = each_has table old in
       values_have more g.canonical (record {
@@ -145,7 +145,7 @@ module _ (P : Tree → Type 0) where
     lines_have second k (line ∷ texts) old new (more, is, are) h = lines_have second (k + 1) texts more new are (line_has (head_of second k line) line old more is h)
 
     pub tables_have : (bytes : List ℕ) (table : InputTable) → IsInputsText bytes table → ValuesHave P table
-    tables_have bytes table is = lines_have (is_second (lines bytes)) 0 (lines bytes) [] table is tt
+    tables_have bytes table is = lines_have (has_ranges (lines bytes)) 0 (lines bytes) [] table is tt
 
 value_within : (t : Tree) → IsWithinLimits t → IsWithinListLimit t
 value_within t h = rw (le-leb (depth_of t) value_depth_limit h.depth, le-leb (items_in t) item_limit h.items) refl

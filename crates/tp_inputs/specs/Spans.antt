@@ -32,7 +32,7 @@ abbrev pub is_given : InputTable → Span → List ℕ → Bool
 is_given table span port = port_meets (port_of table port) span
 
 -- The second table says what the first says, and besides that the port has this value for the span.
-pub record Gives (span : Span) (port : List ℕ) (value : Tree) (table more : InputTable) : Type 0
+pub record GivesValue (span : Span) (port : List ℕ) (value : Tree) (table more : InputTable) : Type 0
     where
   pub canonical : IsCanonical more
   pub ranges : (n : ℕ) (q : List ℕ) → range_value more n q

@@ -93,9 +93,9 @@ fn dash_place(text: &[u8]) -> Option<usize>
 }
 
 // The state that one to eight digits name.
-#[tactic(auto, unfolding(crate::specs::Heads::state_of))]
-fn state_of(digits: &[u8]) -> Option<u64>
-    ensures value { result ≡ spec.state_of digits.now }
+#[tactic(auto, unfolding(crate::specs::Heads::named_state))]
+fn named_state(digits: &[u8]) -> Option<u64>
+    ensures value { result ≡ spec.named_state digits.now }
     ensures within { IfSome result (λ state. state ≤ spec.last_state) }
 {
     // Eight digits spell no number past the last state.
@@ -118,7 +118,7 @@ fn end_of(text: &[u8]) -> Option<u64>
     ensures value { result ≡ spec.end_of text.now }
     ensures within { IfSome result (λ state. state ≤ spec.last_state) }
 {
-    if text.is_empty() { Some(LAST_STATE) } else { state_of(text) }
+    if text.is_empty() { Some(LAST_STATE) } else { named_state(text) }
 }
 
 // `k`, `k-m`, `k-`, or `*`.
@@ -131,8 +131,8 @@ fn range_of(text: &[u8]) -> Option<Span>
         return Some(Span::Others);
     }
     match dash_place(text) {
-        Some(cut) => between(state_of(&text[..cut]), end_of(&text[cut + 1..])),
-        None => between(state_of(text), state_of(text)),
+        Some(cut) => between(named_state(&text[..cut]), end_of(&text[cut + 1..])),
+        None => between(named_state(text), named_state(text)),
     }
 }
 

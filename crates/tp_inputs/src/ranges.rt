@@ -109,7 +109,7 @@ impl Ranges {
         }
     }
 
-    /// Gives the value for the states from the first to the last, for which there is none yet. Ranges that touch and have one value
+    /// GivesValue the value for the states from the first to the last, for which there is none yet. Ranges that touch and have one value
     /// become one.
     pub fn give(&mut self, first: u64, last: u64, value: Value) -> Result<(), NoMemory>
         requires rows { are_rows (rows_of self.old) ≡ true }
@@ -128,12 +128,12 @@ impl Ranges {
 impl Ranges {
     ghost use Rattle.std.specs.Prelude.{◌++◌};
     ghost use Rattle.std.specs.List.{flat_map};
-    ghost use Rattle.tp_inputs.specs.Converted.{row_line, ended};
+    ghost use Rattle.tp_inputs.specs.Converted.{row_line, with_feed};
 
     /// Appends a line for each range of states, as the port's.
     pub fn append_lines(&self, out: &mut Text, port: &[u8]) -> Result<(), NoMemory>
         ensures { OnOk result (out.new ≡ out.old
-            ++ flat_map (λ r. ended (row_line port.now r)) (rows_of self.now)) }
+            ++ flat_map (λ r. with_feed (row_line port.now r)) (rows_of self.now)) }
     {
         for (first, row) in &self.rows {
             append_row(out, port, *first, row.last, &row.value)?;

@@ -16,8 +16,8 @@ use std::alloc::Global;
 use tp_lex::first_line;
 
 // Whether the first line says that the others name the states for which they speak.
-fn is_second(bytes: &[u8]) -> bool
-    ensures { result ≡ spec.is_second (lines bytes.now) }
+fn has_ranges(bytes: &[u8]) -> bool
+    ensures { result ≡ spec.has_ranges (lines bytes.now) }
 {
     !bytes.is_empty() && first_line(bytes).0 == b"inputs 2".as_slice()
 }
@@ -48,7 +48,7 @@ pub fn read_inputs(alloc: Global, bytes: &[u8]) -> Result<Inputs, InputsRefusal>
     ensures table { IfOk result (λ inputs. IsInputsText bytes.now (inputs_of inputs)) }
     ensures refused { IfErr result (λ refusal. IsInputsRefusal bytes.now refusal) }
 {
-    let second = is_second(bytes);
+    let second = has_ranges(bytes);
     let mut ports = Ports::new(alloc);
     let mut number: u64 = 0;
     let mut rest = bytes;

@@ -15,7 +15,7 @@ use Rattle.tp_inputs.specs.declared.span.Span.{Span}
 use Rattle.tp_inputs.specs.declared.span.Span.TheVariants.{States, Others}
 use Rattle.tp_inputs.specs.declared.ports.Port.{Port}
 use Rattle.tp_inputs.specs.Canonical.{are_ports}
-use Rattle.tp_inputs.specs.Spans.{span_has, is_others, port_meets, Gives}
+use Rattle.tp_inputs.specs.Spans.{span_has, is_others, port_meets, GivesValue}
 use Rattle.tp_inputs.specs.Model.{rows_of, default_of, named_port}
 use Rattle.tp_inputs.specs.Moves.{GivesPort}
 use Rattle.tp_inputs.proofs.PortLemmas.{Key, key_cmp, Entries, name_cmp, table_in, Changes, named, met, rows_apart, gives, set_changes, insert_changes, set_ports, insert_ports, names_ordered, rows_in, default_in}
@@ -42,9 +42,9 @@ on_ok (Err e) f a = tt
 
 module _ (cmp : Key → Key → Ordering) (is : (a b : Key) → cmp a b ≡ slice_cmp nat_cmp a.items b.items) (es : Entries) (span : Span) (v : Tree) (w : Port) (ports : are_ports (table_in es) ≡ true) where
   set_gives : (slice port : List ℕ) (p : Port) (fs : Entries) → slice ≡ port → named slice es ≡ Some p → fs ≡ set_value (λ k. is_eq (name_cmp slice k)) es w → IsStrictlySortedBy cmp (keys_of fs)
-      → GivesPort span v (named_port [] p) (named_port [] w) → Gives span port v (table_in es) (table_in fs)
+      → GivesPort span v (named_port [] p) (named_port [] w) → GivesValue span port v (table_in es) (table_in fs)
   set_gives slice port p fs same there entries sorted g =
-      subst (λ (z : List ℕ). Gives span z v (table_in es) (table_in fs)) same
+      subst (λ (z : List ℕ). GivesValue span z v (table_in es) (table_in fs)) same
       (gives es fs span slice v w (subst (λ (z : Entries). Changes slice w es z) (sym entries) (set_changes es slice w (rw there refl)))
         (names_ordered cmp is fs sorted)
         (subst (λ (z : Entries). are_ports (table_in z) ≡ true) (sym entries) (set_ports es (λ k. is_eq (name_cmp slice k)) w ports g.apart (λ name. g.told)))
@@ -52,9 +52,9 @@ module _ (cmp : Key → Key → Ordering) (is : (a b : Key) → cmp a b ≡ slic
         (g.default ∙ ap (λ o. cond (is_others span) (Some v) (default_in o)) (sym there)))
 
   insert_gives : (k : Key) (port : List ℕ) (fs : Entries) → k.items ≡ port → named k.items es ≡ None → fs ≡ insert_entry cmp es k w → IsStrictlySortedBy cmp (keys_of fs)
-      → (p : Port) → rows_of p.ranges ≡ [] → default_of p ≡ None → GivesPort span v (named_port [] p) (named_port [] w) → Gives span port v (table_in es) (table_in fs)
+      → (p : Port) → rows_of p.ranges ≡ [] → default_of p ≡ None → GivesPort span v (named_port [] p) (named_port [] w) → GivesValue span port v (table_in es) (table_in fs)
   insert_gives k port fs same none entries sorted p no_rows no_default g =
-      subst (λ (z : List ℕ). Gives span z v (table_in es) (table_in fs)) same
+      subst (λ (z : List ℕ). GivesValue span z v (table_in es) (table_in fs)) same
       (gives es fs span k.items v w (subst (λ (z : Entries). Changes k.items w es z) (sym entries) (insert_changes cmp is es k w none))
         (names_ordered cmp is fs sorted)
         (subst (λ (z : Entries). are_ports (table_in z) ≡ true) (sym entries) (insert_ports cmp es k w ports g.apart (λ name. g.told)))

@@ -3,9 +3,9 @@ use Rattle.std.specs.Char.{is_ascii_digit}
 use Rattle.std.specs.List.{list_all}
 use Rattle.std.proofs.lemmas.Bool.Decides.{nat_tests}
 use Rattle.tp_value.specs.Spelling.{decimal_value}
-use Rattle.tp_inputs.specs.Heads.{is_state, state_of, last_state}
+use Rattle.tp_inputs.specs.Heads.{is_state, named_state, last_state}
 use Rattle.tp_inputs.proofs.StateLemmas.{state_whole}
-use Rattle.tp_inputs.proofs.head.state_of.Goals as goal
+use Rattle.tp_inputs.proofs.head.named_state.Goals as goal
 
 whole : (z : List ℕ) → is_state z ≡ true → min (decimal_value z) last_state ≡ decimal_value z
 whole z e = at (nat_lt 0 (length z)) (nat_le (length z) 8) (list_all is_ascii_digit z) refl refl e
@@ -17,7 +17,7 @@ whole z e = at (nat_lt 0 (length z)) (nat_le (length z) 8) (list_all is_ascii_di
     at false q r x y h = absurd cc
 
 pub returns-then-is_state-clause-value : goal.returns-then-is_state-clause-value
-unfolding state_of
+unfolding named_state
 returns-then-is_state-clause-value c =
     let z = c.args.digits.now in
     let yes : is_state z ≡ true = sym c.is_state.ensures ∙ c.if-is_state.true in
