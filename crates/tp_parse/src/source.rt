@@ -7,7 +7,7 @@ ghost use Rattle.tp_tree.specs.Read.{phrase_tree, definition_tree, source_tree};
 ghost use Rattle.tp_tree.specs.Tree.{SourceTree};
 ghost use Rattle.tp_tree.specs.Height.{source_height};
 ghost use Rattle.tp_parse.specs.Grammar.{Accepts};
-ghost use Rattle.tp_parse.specs.Place.{BlamesFirst};
+ghost use Rattle.tp_parse.specs.Place.{BlamesFirst, BlamesFirstInEachText};
 ghost use Rattle.tp_parse.specs.SpelledText.{ParsesPrinted};
 ghost use Rattle.tp_parse.specs.declared.refusal.ParseRefusal.TheVariants.{NoMemory};
 
@@ -34,6 +34,7 @@ pub fn parse(alloc: Global, tokens: &Tokens) -> Result<Source, ParseRefusal>
     ensures outcome { IsOutcome (parse_outcome tokens.now) result }
     ensures token { IfErr result (NamesToken (length tokens.now)) }
     ensures place { IfErr result (BlamesFirst tokens.now) }
+    ensures text { IfErr result (BlamesFirstInEachText tokens.now) }
 
     // The tokens of a source that was printed are parsed as that source, up to places.
     ensures printed { ParsesPrinted tokens.now result }

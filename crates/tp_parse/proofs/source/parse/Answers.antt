@@ -7,12 +7,13 @@ use Rattle.tp_parse.specs.declared.refusal.ParseRefusal.TheVariants.{Unexpected,
 use Rattle.tp_parse.specs.Input.{Tokens}
 use Rattle.tp_parse.specs.Source.{parse_outcome, IsOutcome, NamesToken}
 use Rattle.tp_parse.specs.Grammar.{Accepts}
-use Rattle.tp_parse.specs.Place.{BlamesFirst}
+use Rattle.tp_parse.specs.Place.{BlamesFirst, BlamesFirstInEachText}
 use Rattle.tp_parse.proofs.Exact.{read_accepted, accepted_read, refusal_named}
 use Rattle.tp_tree.specs.Height.{source_height}
 use Rattle.tp_parse.proofs.FirstToken.{refusal_is_place}
 use Rattle.tp_parse.proofs.Heights.{accepted_low}
 use Rattle.tp_parse.proofs.TextBack.{printed_parsed}
+use Rattle.tp_parse.proofs.TextPlace.{place_in_text}
 use Rattle.tp_parse.proofs.source.parse.Goals as goal
 
 accepted : (ts : Tokens) (r : Result Source ParseRefusal) → IsOutcome (parse_outcome ts) r → IfOk r (λ s. Accepts ts (source_tree s))
@@ -41,6 +42,10 @@ place ts (Err Unfinished) is = refusal_is_place ts Unfinished (is (λ q. cc))
 place ts (Err (Unexpected i)) is = refusal_is_place ts (Unexpected i) (is (λ q. cc))
 place ts (Err (TooDeep i)) is = refusal_is_place ts (TooDeep i) (is (λ q. cc))
 
+text : (ts : Tokens) (r : Result Source ParseRefusal) → IsOutcome (parse_outcome ts) r → IfErr r (BlamesFirstInEachText ts)
+text ts (Ok x) is = tt
+text ts (Err e) is = λ bytes are. place_in_text bytes ts e are (place ts (Err e) is)
+
 low : (ts : Tokens) (r : Result Source ParseRefusal) → IsOutcome (parse_outcome ts) r → IfOk r (λ s. source_height (source_tree s) ≤ 200)
 low ts (Ok x) is = accepted_low ts (source_tree x) (read_accepted ts (source_tree x) is)
 low ts (Err e) is = tt
@@ -59,6 +64,9 @@ returns-clause-token c = token c.args.tokens.now c.outcome.result c.outcome.ensu
 
 pub returns-clause-place : goal.returns-clause-place
 returns-clause-place c = place c.args.tokens.now c.outcome.result c.outcome.ensures
+
+pub returns-clause-text : goal.returns-clause-text
+returns-clause-text c = text c.args.tokens.now c.outcome.result c.outcome.ensures
 
 pub returns-clause-low : goal.returns-clause-low
 returns-clause-low c = low c.args.tokens.now c.outcome.result c.outcome.ensures
