@@ -1,0 +1,7 @@
+//! Which formulas a printed run satisfies, wider ones than those that can be run. Definitions, and their laws: no code reads a run yet. Each
+//! law is a clause of a function that does nothing; a proof elsewhere cites its lemma.
+#![tactic(auto)]
+
+mod wide;
+
+pub use wide::wide_formulas_hold_alike;
