@@ -1,2 +1,7 @@
 pub mod Wide
 pub mod Widened
+pub mod Verdict
+pub mod Table
+pub mod Trace
+pub mod Sound
+pub mod Examples

@@ -2,6 +2,8 @@
 //! law is a clause of a function that does nothing; a proof elsewhere cites its lemma.
 #![tactic(auto)]
 
+mod examples;
 mod wide;
 
+pub use examples::counted_runs;
 pub use wide::wide_formulas_hold_alike;
