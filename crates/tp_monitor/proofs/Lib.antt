@@ -1,1 +1,4 @@
 pub mod Widened
+pub mod Judged
+pub mod Sound
+pub mod Right

@@ -3,7 +3,10 @@
 #![tactic(auto)]
 
 mod examples;
+mod laws;
+
 mod wide;
 
 pub use examples::counted_runs;
+pub use laws::verdicts_are_right;
 pub use wide::wide_formulas_hold_alike;
