@@ -1,31 +1,29 @@
 -- Verdicts on whole runs are right.
-use Rattle.std.proofs.Common.{◌≡◌, ℕ, zero, suc, ◌+◌, ◌-◌, ◌≤◌, ◌<◌, ◌⊎◌, inl, inr, Bool, true, false, not, ◌||◌, nat_lt, List, [], ◌∷◌, ◌++◌, length, Option, Some, None, slice_get, refl, sym, ap, subst, ◌∙◌, arith, if◌then◌else◌, filter}
+use Rattle.std.proofs.Common.{◌≡◌, ℕ, zero, suc, ◌+◌, ◌-◌, ◌≤◌, ◌<◌, inl, inr, Bool, true, false, not, nat_lt, List, [], ◌∷◌, length, Some, None, slice_get, refl, sym, ap, subst, ◌∙◌, arith, if◌then◌else◌, filter}
 use Rattle.std.specs.List.{flat_map, list_any}
 use Rattle.std.proofs.lemmas.Bool.{or_parts, or_cases, not-true}
 use Rattle.tp_value.specs.Tree.{Tree}
 use Rattle.tp_value.specs.Shape.{shape_at_path}
-use Rattle.tp_value.specs.declared.path.Path.{Path}
 use Rattle.tp_value.specs.declared.path.Fact.{Fact}
 use Rattle.tp_meaning.specs.Syntax.{ExprTree, Definition}
-use Rattle.tp_meaning.specs.Course.{Course, Shows, blank}
-use Rattle.tp_meaning.specs.Interval.{KeepsLasting}
+use Rattle.tp_meaning.specs.Course.{Course, blank}
 use Rattle.tp_meaning.specs.Bindings.{Locals}
-use Rattle.tp_meaning.specs.Value.{value, value_by}
+use Rattle.tp_meaning.specs.Value.{value_by}
 use Rattle.tp_meaning.specs.Fits.{IsVariable, ExprFits, DefinitionsFit}
-use Rattle.tp_store.specs.Facts.{same_path, clash, kept_shape, AgreesWith, AgreesWithAll}
+use Rattle.tp_store.specs.Facts.{same_path, clash, AgreesWith, AgreesWithAll}
 use Rattle.tp_store.specs.Known.{NoClash, clashes_with_some, lasting_facts}
-use Rattle.tp_store.proofs.Members.{In, in_left, in_right, in_append, in_filter, filter_in, kept_none, meets_none, none_meets, NoClash-filter, agrees_in, agrees_from}
+use Rattle.tp_store.proofs.Members.{In, in_append, in_filter, kept_none, meets_none, none_meets, NoClash-filter, agrees_in, agrees_from}
 use Rattle.tp_store.proofs.Meaning.{clashes_agree_nowhere}
 use Rattle.tp_eval.specs.Evaluate.{depth_limit}
 use Rattle.tp_eval.specs.Outcome as found
 use Rattle.tp_eval.specs.Outcome.{Outcome, outcome}
 use Rattle.tp_eval.specs.Right.{values_at, OutcomesAreRight}
 use Rattle.tp_eval.proofs.OutcomesAre.{outcomes_mean}
-use Rattle.tp_monitor.specs.Wide.{WideTree, HasValue, Somehow, WideHolds}
-use Rattle.tp_monitor.specs.Verdict.{Verdict, yes, no, undecided}
+use Rattle.tp_monitor.specs.Wide.{WideTree, Somehow, WideHolds}
+use Rattle.tp_monitor.specs.Verdict.{no}
 use Rattle.tp_monitor.specs.Table.{verdict}
-use Rattle.tp_monitor.specs.Trace.{FactsOfStates, given_of, known_with, each_path_once, known_in, clash_somewhere, is_torn, whole_verdict, IsTold}
-use Rattle.tp_monitor.specs.Sound.{WideFits, AreOfKinds, StatesAreOfKinds, VerdictIsRight, VerdictsAreRight}
+use Rattle.tp_monitor.specs.Trace.{FactsOfStates, given_of, known_with, each_path_once, known_in, clash_somewhere, is_torn, IsTold}
+use Rattle.tp_monitor.specs.Sound.{WideFits, AreOfKinds, StatesAreOfKinds, VerdictsAreRight}
 use Rattle.tp_monitor.proofs.Widened.{no_calls}
 use Rattle.tp_monitor.proofs.Judged.{Judged, as_no, OutcomeSays}
 use Rattle.tp_monitor.proofs.Sound.{sound}
@@ -157,7 +155,7 @@ module _ (kinds : List Bool) (trace : FactsOfStates) (of : StatesAreOfKinds kind
         let agrees = known_agrees i own.0 own.1 in
         let once = agrees_from (s (i + a)).values (each_path_once fs) (λ f h. agrees_in (s (i + a)).values fs agrees f (once_in fs f h)) in
         subst (λ o. OutcomeSays s (outcome (each_path_once (known_with trace (given_of o))) [] e []) e (i + a)) (sym own.1)
-            (outcome_right kinds s e fits (each_path_once fs) (i + a) apart once)
+        (outcome_right kinds s e fits (each_path_once fs) (i + a) apart once)
 
   judged : (w : WideTree) → WideFits kinds w → (t : Bool) → is_torn trace ≡ t
       → Judged (if t then no else verdict (known_in trace) w 0 (length trace - 1)) (WideHolds w s a b blank) (Somehow (WideHolds w s) a b)

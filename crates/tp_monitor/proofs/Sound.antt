@@ -1,16 +1,16 @@
 -- Verdicts on parts of a run are right, where outcomes are.
-use Rattle.std.proofs.Common.{◌≡◌, pos, ℤ, ◌+ℤ◌, ℕ, zero, suc, ◌+◌, ◌-◌, ◌≤◌, ◌<◌, ◌⊎◌, inl, inr, Bool, true, false, eqb, nat_le, nat_lt, List, [], refl, sym, ap, subst, ◌∙◌, arith, if◌then◌else◌, Some}
+use Rattle.std.proofs.Common.{◌≡◌, pos, ℤ, ◌+ℤ◌, ℕ, zero, suc, ◌+◌, ◌-◌, ◌≤◌, ◌<◌, inl, inr, Bool, true, false, eqb, nat_le, nat_lt, List, [], refl, sym, ap, subst, arith}
 use Rattle.std.proofs.lemmas.Bool.{eqb-true, eqb-false, ltb-true, ltb-false, leb-true, leb-false}
 use Rattle.tp_value.specs.Tree.{Tree, num, truth}
 use Rattle.tp_value.specs.declared.path.Fact.{Fact}
 use Rattle.tp_meaning.specs.Syntax.{ExprTree}
-use Rattle.tp_meaning.specs.Course.{Course, Shows, Part, blank, ◌⊕◌, total}
+use Rattle.tp_meaning.specs.Course.{Course, Shows, Part, blank}
 use Rattle.tp_meaning.specs.Holds.{Pieces}
 use Rattle.tp_meaning.specs.Fits.{ExprFits}
 use Rattle.tp_meaning.proofs.Shows.{total-of-blank}
-use Rattle.tp_eval.specs.Outcome.{Outcome, outcome}
+use Rattle.tp_eval.specs.Outcome.{outcome}
 use Rattle.tp_monitor.specs.Wide.{WideTree, WideTrees, HasValue, Somehow, WideHolds, AllHoldWidely, trivial, test, equation, next_equation, empty, more, next, if_more, if_empty, always, conjunction, branch, len, assign, chop, while, disjunction, negation, sometimes, no_formula, formula_then}
-use Rattle.tp_monitor.specs.Verdict.{Verdict, no, yes, both_of, one_of, all_from, some_from, value_verdict, equality_verdict}
+use Rattle.tp_monitor.specs.Verdict.{Verdict, no, yes, both_of, equality_verdict}
 use Rattle.tp_monitor.specs.Table.{looped, outcome_in, has_in, verdict, all_verdicts}
 use Rattle.tp_monitor.specs.Sound.{WideFits, AllFitWidely}
 use Rattle.tp_monitor.proofs.Judged.{Judged, as_yes, as_no, judged_as, both_judged, one_judged, opposite_judged, truth_judged, if_judged, all_judged, some_judged, OutcomeSays, value_judged, HaveOneValue, equality_judged}
@@ -90,10 +90,10 @@ module _ (kinds : List Bool) (s : Course) (a : ℕ) (known : ℕ → List Fact) 
     loop_right zero i j l u r = if_judged (eqb i j) (Falses i) no (λ q. at_end i j (eqb-true i j q) (omega (arith, l, u))) (λ q. absurd (eqb-false i j q (omega (arith, l, r))))
     loop_right (suc m) i j l u r = if_judged (eqb i j) (Falses i) _ (λ q. at_end i j (eqb-true i j q) (omega (arith, l, u)))
         (λ q. let ne = eqb-false i j q in let lt : i < j = omega (arith, l, ne) in
-          judged_as (turned i j) (λ h. turns i j lt h.0 h.1)
-            (both_judged (Trues i) _ (has_judged e fits (truth true) i (omega (arith, l, u)))
-              (some_judged (λ k. both_of (verdict known w i k) (at_most m k j)) (Onward true i j) (Onward false i j) (j - i) (suc i)
-                (λ k lo hi. both_judged (verdict known w i k) (at_most m k j) (body i k (omega (arith, lo)) (omega (arith, lo, hi, u))) (loop_right m k j (omega (arith, lo, hi)) u (omega (arith, lo, r)))))))
+        judged_as (turned i j) (λ h. turns i j lt h.0 h.1)
+        (both_judged (Trues i) _ (has_judged e fits (truth true) i (omega (arith, l, u)))
+        (some_judged (λ k. both_of (verdict known w i k) (at_most m k j)) (Onward true i j) (Onward false i j) (j - i) (suc i)
+        (λ k lo hi. both_judged (verdict known w i k) (at_most m k j) (body i k (omega (arith, lo)) (omega (arith, lo, hi, u))) (loop_right m k j (omega (arith, lo, hi)) u (omega (arith, lo, r)))))))
 
   mutual
     pub sound : (w : WideTree) → WideFits kinds w → (i j : ℕ) → i ≤ j → j ≤ last → Right w i j
@@ -102,16 +102,16 @@ module _ (kinds : List Bool) (s : Course) (a : ℕ) (known : ℕ → List Fact) 
     sound (equation e x) fits i j l u = judged_as (λ h. (h.0, h.1, h.2, refl)) (λ q. (q.1.0, q.1.1, q.1.2)) (equal_judged e x fits.0 fits.1 i i (omega (arith, l, u)) (omega (arith, l, u)))
     sound (next_equation k t e) fits i j l u = let z : (k + i) + a ≡ k + (i + a) = omega arith in
         if_judged (nat_le (k + i) j) _ no
-            (λ c. let n = leb-true (k + i) j c in judged_as
-                (λ h. (h.0, omega (arith, n), subst (λ x. HasValue t s x h.0) z h.1, h.2, refl))
-                (λ q. (q.1.0, subst (λ x. HasValue t s x q.1.0) (sym z) q.1.2, q.1.3))
-                (equal_judged t e fits.0 fits.1 (k + i) i (omega (arith, n, u)) (omega (arith, l, u))))
-            (λ c. as_no (λ q. let n = leb-false (k + i) j c in let m = q.1.1 in absurd (omega (arith, n, m))))
+        (λ c. let n = leb-true (k + i) j c in judged_as
+        (λ h. (h.0, omega (arith, n), subst (λ x. HasValue t s x h.0) z h.1, h.2, refl))
+        (λ q. (q.1.0, subst (λ x. HasValue t s x q.1.0) (sym z) q.1.2, q.1.3))
+        (equal_judged t e fits.0 fits.1 (k + i) i (omega (arith, n, u)) (omega (arith, l, u))))
+        (λ c. as_no (λ q. let n = leb-false (k + i) j c in let m = q.1.1 in absurd (omega (arith, n, m))))
     sound empty fits i j l u = truth_judged (eqb i j) (λ c. (ap (λ k. k + a) (eqb-true i j c), refl)) (λ c q. let n = q.1.0 in eqb-false i j c (omega (arith, n)))
     sound more fits i j l u = truth_judged (nat_lt i j) (λ c. let n = ltb-true i j c in (omega (arith, n), refl)) (λ c q. let n = q.1.0 in let m = ltb-false i j c in absurd (omega (arith, n, m)))
     sound (next w) fits i j l u = if_judged (nat_lt i j) _ no
         (λ c. let n = ltb-true i j c in let z : suc i + a ≡ suc (i + a) = omega arith in judged_as (λ h. (omega (arith, n), h)) (λ q. (q.0, q.1.1))
-            (subst (λ x. Judged (verdict known w (suc i) j) (WideHolds w s x (j + a) blank) (Somehow (WideHolds w s) x (j + a))) z (sound w fits (suc i) j n u)))
+        (subst (λ x. Judged (verdict known w (suc i) j) (WideHolds w s x (j + a) blank) (Somehow (WideHolds w s) x (j + a))) z (sound w fits (suc i) j n u)))
         (λ c. as_no (λ q. let n = q.1.0 in let m = ltb-false i j c in absurd (omega (arith, n, m))))
     sound (if_more w) fits i j l u = if_judged (nat_lt i j) _ yes
         (λ c. let n = ltb-true i j c in judged_as (λ h. inr (omega (arith, n), h)) (λ q. elim q.1 [ inl z ↦ (let m = z.0 in absurd (omega (arith, n, m))) | inr z ↦ (q.0, z.1) ]) (sound w fits i j l u))
@@ -123,12 +123,12 @@ module _ (kinds : List Bool) (s : Course) (a : ℕ) (known : ℕ → List Fact) 
         (λ h. (suc j - i, (λ _. blank), omega (arith, l), (λ p x y. let z : (p - a) + a ≡ p = omega (arith, x) in subst (λ k. WideHolds w s k (j + a) blank) z (h (p - a) (omega (arith, x)) (omega (arith, x, y)))), sym (total-of-blank (suc j - i) (i + a))))
         (λ q k x y. (q.1.1 (k + a), q.1.3 (k + a) (omega (arith, x)) (omega (arith, x, y, l))))
         (all_judged (λ k. verdict known w k j) (λ k. WideHolds w s (k + a) (j + a) blank) (λ k. Somehow (WideHolds w s) (k + a) (j + a)) (suc j - i) i
-            (λ k x y. sound w fits k j (omega (arith, x, y, l)) u))
+        (λ k x y. sound w fits k j (omega (arith, x, y, l)) u))
     sound (conjunction ws) fits i j l u = all_sound ws fits i j l u
     sound (branch e w v) fits i j l u = judged_as (λ h. h) (λ q. elim q.1 [ inl z ↦ inl (z.0, (q.0, z.1)) | inr z ↦ inr (z.0, (q.0, z.1)) ])
         (one_judged _ _
-            (both_judged _ _ (has_judged e fits.0 (truth true) i (omega (arith, l, u))) (sound w fits.1 i j l u))
-            (both_judged _ _ (has_judged e fits.0 (truth false) i (omega (arith, l, u))) (sound v fits.2 i j l u)))
+        (both_judged _ _ (has_judged e fits.0 (truth true) i (omega (arith, l, u))) (sound w fits.1 i j l u))
+        (both_judged _ _ (has_judged e fits.0 (truth false) i (omega (arith, l, u))) (sound v fits.2 i j l u)))
     sound (len e) fits i j l u = judged_as (λ h. (j - i, h, omega (arith, l), refl))
         (λ q. let n = q.1.2 in let z : q.1.0 ≡ j - i = omega (arith, l, n) in subst (λ k. HasValue e s (i + a) (num (pos k))) z q.1.1)
         (has_judged e fits (num (pos (j - i))) i (omega (arith, l, u)))
@@ -136,11 +136,11 @@ module _ (kinds : List Bool) (s : Course) (a : ℕ) (known : ℕ → List Fact) 
     sound (chop w v) fits i j l u = judged_as
         (λ (k, x, y, (h, g)). (k + a, blank, blank, omega (arith, x), omega (arith, x, y, l), h, g, refl))
         (λ (S, (p, T, U, lo, hi, h, g, z)). let y : p ≡ (p - a) + a = omega (arith, lo) in
-            (p - a, omega (arith, lo), omega (arith, lo, hi, l), ((T, subst (λ k. WideHolds w s (i + a) k T) y h), (U, subst (λ k. WideHolds v s k (j + a) U) y g))))
+        (p - a, omega (arith, lo), omega (arith, lo, hi, l), ((T, subst (λ k. WideHolds w s (i + a) k T) y h), (U, subst (λ k. WideHolds v s k (j + a) U) y g))))
         (some_judged (λ k. both_of (verdict known w i k) (verdict known v k j))
-            (λ k. WideHolds w s (i + a) (k + a) blank × WideHolds v s (k + a) (j + a) blank)
-            (λ k. Somehow (WideHolds w s) (i + a) (k + a) × Somehow (WideHolds v s) (k + a) (j + a)) (suc j - i) i
-            (λ k x y. both_judged _ _ (sound w fits.0 i k x (omega (arith, x, y, l, u))) (sound v fits.1 k j (omega (arith, x, y, l)) u)))
+        (λ k. WideHolds w s (i + a) (k + a) blank × WideHolds v s (k + a) (j + a) blank)
+        (λ k. Somehow (WideHolds w s) (i + a) (k + a) × Somehow (WideHolds v s) (k + a) (j + a)) (suc j - i) i
+        (λ k x y. both_judged _ _ (sound w fits.0 i k x (omega (arith, x, y, l, u))) (sound v fits.1 k j (omega (arith, x, y, l)) u)))
     sound (while e w) fits i j l u = loop_right e w fits.0 (sound w fits.1) (j - i) i j l u (omega (arith, l))
     sound (disjunction w v) fits i j l u = judged_as (λ h. (elim h [ inl x ↦ inl (blank, x) | inr x ↦ inr (blank, x) ], refl)) (λ q. q.1.0)
         (one_judged _ _ (sound w fits.0 i j l u) (sound v fits.1 i j l u))
@@ -148,9 +148,9 @@ module _ (kinds : List Bool) (s : Course) (a : ℕ) (known : ℕ → List Fact) 
     sound (sometimes w) fits i j l u = judged_as
         (λ (k, x, y, h). ((k + a, omega (arith, x), omega (arith, x, y, l), (blank, h)), refl))
         (λ (S, ((p, lo, hi, (T, h)), z)). let y : p ≡ (p - a) + a = omega (arith, lo) in
-            (p - a, omega (arith, lo), omega (arith, lo, hi, l), (T, subst (λ k. WideHolds w s k (j + a) T) y h)))
+        (p - a, omega (arith, lo), omega (arith, lo, hi, l), (T, subst (λ k. WideHolds w s k (j + a) T) y h)))
         (some_judged (λ k. verdict known w k j) (λ k. WideHolds w s (k + a) (j + a) blank) (λ k. Somehow (WideHolds w s) (k + a) (j + a)) (suc j - i) i
-            (λ k x y. sound w fits k j (omega (arith, x, y, l)) u))
+        (λ k x y. sound w fits k j (omega (arith, x, y, l)) u))
 
     pub all_sound : (ws : WideTrees) → AllFitWidely kinds ws → (i j : ℕ) → i ≤ j → j ≤ last → PartJudged (all_verdicts known ws i j) (AllHoldWidely ws s) i j
     all_sound no_formula fits i j l u = as_yes refl

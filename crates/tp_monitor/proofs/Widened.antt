@@ -1,12 +1,11 @@
 -- A formula that is among the wider ones holds alike as one.
-use Rattle.std.proofs.Common.{◌≡◌, ℕ, zero, suc, ◌+◌, ◌≤◌, ◌<◌, ◌⊎◌, pos, true, false, List, [], Option, Some, None, refl, ap, sym, subst, ◌∙◌}
-use Rattle.std.specs.Option.{option_and_then}
-use Rattle.tp_value.specs.Tree.{Tree, num, truth}
-use Rattle.tp_meaning.specs.Syntax.{ExprTree, FormulaTree, FormulaTrees, trivial, test, equation, next_equation, empty, more, next, weak_next, if_more, if_empty, always, conjunction, branch, len, assign, chop, while, for_from, forall_from, project, exists, call, input, display, no_formula, formula_then}
-use Rattle.tp_meaning.specs.Course.{Course, Shows, Part, blank}
-use Rattle.tp_meaning.specs.Value.{◌>>=◌, Calls, calls_at}
+use Rattle.std.proofs.Common.{◌≡◌, ℕ, zero, suc, ◌<◌, ◌⊎◌, pos, true, false, [], Option, Some, None, refl, ap, sym, subst, ◌∙◌}
+use Rattle.tp_value.specs.Tree.{truth}
+use Rattle.tp_meaning.specs.Syntax.{FormulaTree, FormulaTrees, trivial, test, equation, next_equation, empty, more, next, weak_next, if_more, if_empty, always, conjunction, branch, len, assign, chop, while, for_from, forall_from, project, exists, call, input, display, no_formula, formula_then}
+use Rattle.tp_meaning.specs.Course.{Course, Part, blank}
+use Rattle.tp_meaning.specs.Value.{◌>>=◌, calls_at}
 use Rattle.tp_meaning.specs.Inputs.{InputLines}
-use Rattle.tp_meaning.specs.Holds.{Context, CallMeanings, Joined, Chopped, OnEachSuffix, Pieces, Has, HoldsBy, AllHoldBy, CallHolds, Holds}
+use Rattle.tp_meaning.specs.Holds.{Context, CallMeanings, Joined, Chopped, OnEachSuffix, Pieces, HoldsBy, AllHoldBy, CallHolds}
 use Rattle.tp_monitor.specs.Wide as wide
 use Rattle.tp_monitor.specs.Wide.{WideTree, WideTrees, HasValue, WideHolds, AllHoldWidely}
 use Rattle.tp_monitor.specs.Widened.{widened, all_widened, WideHoldsAsHolds}

@@ -1,5 +1,5 @@
 -- The formulas that can be run among the wider ones.
-use Rattle.std.specs.Prelude.{◌≡◌, ◌↔◌, ℕ, List, [], Option, Some, None}
+use Rattle.std.specs.Prelude.{◌≡◌, ◌↔◌, ℕ, [], Option, Some, None}
 use Rattle.tp_meaning.specs.Syntax.{FormulaTree, FormulaTrees, trivial, test, equation, next_equation, empty, more, next, weak_next, if_more, if_empty, always, conjunction, branch, len, assign, chop, while, for_from, forall_from, project, exists, call, input, display, no_formula, formula_then}
 use Rattle.tp_meaning.specs.Course.{Course, Shows}
 use Rattle.tp_meaning.specs.Value.{◌>>=◌}

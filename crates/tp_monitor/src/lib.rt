@@ -4,9 +4,8 @@
 
 mod examples;
 mod laws;
-
 mod wide;
 
-pub use examples::counted_runs;
+pub use examples::{where_a_state_is_unknown, where_a_variable_lasts, where_one_variable_is_known};
 pub use laws::verdicts_are_right;
 pub use wide::wide_formulas_hold_alike;
