@@ -22,7 +22,7 @@ use Rattle.tp_eval.proofs.OutcomesAre.{outcomes_mean}
 use Rattle.tp_monitor.specs.Wide.{WideTree, Somehow, WideHolds}
 use Rattle.tp_monitor.specs.Verdict.{no}
 use Rattle.tp_monitor.specs.Table.{verdict}
-use Rattle.tp_monitor.specs.Trace.{FactsOfStates, given_of, known_with, each_path_once, known_in, clash_somewhere, is_torn, IsTold}
+use Rattle.tp_monitor.specs.Trace.{FactsOfStates, given_of, known_with, each_path_once, known_in, known_outcome, clash_somewhere, is_torn, IsTold}
 use Rattle.tp_monitor.specs.Sound.{WideFits, AreOfKinds, StatesAreOfKinds, VerdictsAreRight}
 use Rattle.tp_monitor.proofs.Widened.{no_calls}
 use Rattle.tp_monitor.proofs.Judged.{Judged, as_no, OutcomeSays}
@@ -146,7 +146,7 @@ module _ (kinds : List Bool) (trace : FactsOfStates) (of : StatesAreOfKinds kind
   some_state = let n = told.nonempty in let m = told.states in omega (arith, n, m)
 
   module _ (whole : is_torn trace ≡ false) where
-    right : (e : ExprTree) → ExprFits [] kinds e 0 → (i : ℕ) → i ≤ length trace - 1 → OutcomeSays s (outcome (known_in trace i) [] e []) e (i + a)
+    right : (e : ExprTree) → ExprFits [] kinds e 0 → (i : ℕ) → i ≤ length trace - 1 → OutcomeSays s (known_outcome trace i e) e (i + a)
     right e fits i l =
         let first = some_state in
         let own = there_is trace i (omega (arith, l, first)) in
@@ -158,15 +158,15 @@ module _ (kinds : List Bool) (trace : FactsOfStates) (of : StatesAreOfKinds kind
         (outcome_right kinds s e fits (each_path_once fs) (i + a) apart once)
 
   judged : (w : WideTree) → WideFits kinds w → (t : Bool) → is_torn trace ≡ t
-      → Judged (if t then no else verdict (known_in trace) w 0 (length trace - 1)) (WideHolds w s a b blank) (Somehow (WideHolds w s) a b)
+      → Judged (if t then no else verdict (known_outcome trace) w 0 (length trace - 1)) (WideHolds w s a b blank) (Somehow (WideHolds w s) a b)
   judged w fits true e = as_no (λ q. never_torn e)
   judged w fits false e =
       let first = some_state in
       let all = told.states in
       let lo : 0 + a ≡ a = omega arith in
       let hi : (length trace - 1) + a ≡ b = omega (arith, first, all) in
-      let P : ℕ → ℕ → Type 0 = λ x y. Judged (verdict (known_in trace) w 0 (length trace - 1)) (WideHolds w s x y blank) (Somehow (WideHolds w s) x y) in
-      subst (λ y. P a y) hi (subst (λ x. P x ((length trace - 1) + a)) lo (sound kinds s a (known_in trace) (length trace - 1) (right e) w fits 0 (length trace - 1) (omega arith) (omega arith)))
+      let P : ℕ → ℕ → Type 0 = λ x y. Judged (verdict (known_outcome trace) w 0 (length trace - 1)) (WideHolds w s x y blank) (Somehow (WideHolds w s) x y) in
+      subst (λ y. P a y) hi (subst (λ x. P x ((length trace - 1) + a)) lo (sound s a (known_outcome trace) (length trace - 1) w (λ x m. right e x (fits x m)) 0 (length trace - 1) (omega arith) (omega arith)))
 
 pub verdicts_are_right : VerdictsAreRight
 verdicts_are_right kinds w trace fits of = record {

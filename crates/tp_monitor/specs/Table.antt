@@ -1,10 +1,9 @@
--- What is known of a wider formula on each part of a run, from a state to a state, where facts of
--- the states are known.
-use Rattle.std.specs.Prelude.{pos, ℕ, zero, suc, ◌+◌, ◌-◌, eqb, nat_le, nat_lt, true, false, List, [], if◌then◌else◌}
+-- What is known of a wider formula on each part of a run, from a state to a state, by what is known
+-- of its expressions in the states.
+use Rattle.std.specs.Prelude.{pos, ℕ, zero, suc, ◌+◌, ◌-◌, eqb, nat_le, nat_lt, true, false, if◌then◌else◌}
 use Rattle.tp_value.specs.Tree.{Tree, num, truth}
-use Rattle.tp_value.specs.declared.path.Fact.{Fact}
 use Rattle.tp_meaning.specs.Syntax.{ExprTree}
-use Rattle.tp_eval.specs.Outcome.{Outcome, outcome}
+use Rattle.tp_eval.specs.Outcome.{Outcome}
 use Rattle.tp_monitor.specs.Wide.{WideTree, WideTrees, trivial, test, equation, next_equation, empty, more, next, if_more, if_empty, always, conjunction, branch, len, assign, chop, while, disjunction, negation, sometimes, no_formula, formula_then}
 use Rattle.tp_monitor.specs.Verdict.{Verdict, yes, no, of_truth, both_of, one_of, opposite_of, all_from, some_from, value_verdict, equality_verdict}
 
@@ -23,24 +22,20 @@ module _ (is_true is_false : ℕ → Verdict) (body : Table) where
       if eqb i j then is_false i
       else both_of (is_true i) (some_from (j - i) (suc i) (λ k. both_of (body i k) (looped m k j)))
 
--- where these facts of each state are known
-module _ (known : ℕ → List Fact) where
-  -- the outcome of an expression in a state
-  abbrev pub outcome_in : ℕ → ExprTree → Outcome
-  outcome_in i e = outcome (known i) [] e []
-
-  -- whether it has a value there
+-- where the outcome of each expression in each state is this
+module _ (found : ℕ → ExprTree → Outcome) where
+  -- whether an expression has a value in a state
   abbrev pub has_in : ℕ → ExprTree → Tree → Verdict
-  has_in i e v = value_verdict (outcome_in i e) v
+  has_in i e v = value_verdict (found i e) v
 
   abbrev mutual
     -- whether the formula holds from state i to state j
     pub verdict : WideTree → Table
     verdict trivial i j = yes
     verdict (test e) i j = has_in i e (truth true)
-    verdict (equation l r) i j = equality_verdict (outcome_in i l) (outcome_in i r)
+    verdict (equation l r) i j = equality_verdict (found i l) (found i r)
     verdict (next_equation k t e) i j =
-        if nat_le (k + i) j then equality_verdict (outcome_in (k + i) t) (outcome_in i e) else no
+        if nat_le (k + i) j then equality_verdict (found (k + i) t) (found i e) else no
     verdict empty i j = of_truth (eqb i j)
     verdict more i j = of_truth (nat_lt i j)
     verdict (next w) i j = if nat_lt i j then verdict w (suc i) j else no
@@ -52,7 +47,7 @@ module _ (known : ℕ → List Fact) where
         one_of (both_of (has_in i e (truth true)) (verdict w i j))
         (both_of (has_in i e (truth false)) (verdict v i j))
     verdict (len e) i j = has_in i e (num (pos (j - i)))
-    verdict (assign t e) i j = equality_verdict (outcome_in j t) (outcome_in i e)
+    verdict (assign t e) i j = equality_verdict (found j t) (found i e)
     verdict (chop w v) i j = some_from (suc j - i) i (λ k. both_of (verdict w i k) (verdict v k j))
     verdict (while e w) i j =
         looped (λ k. has_in k e (truth true)) (λ k. has_in k e (truth false)) (verdict w) (j - i) i

@@ -3,10 +3,12 @@
 use Rattle.std.specs.Prelude.{◌≡◌, ℕ, suc, ◌+◌, ◌-◌, ◌≤◌, Bool, false, not, ◌||◌, List, [], ◌∷◌, ◌++◌, filter, length, Option, Some, None, slice_get, if◌then◌else◌}
 use Rattle.std.specs.List.{flat_map, list_any}
 use Rattle.tp_value.specs.declared.path.Fact.{Fact}
+use Rattle.tp_meaning.specs.Syntax.{ExprTree}
 use Rattle.tp_meaning.specs.Course.{Course}
 use Rattle.tp_meaning.specs.Interval.{KeepsLasting}
 use Rattle.tp_store.specs.Facts.{same_path, AgreesWithAll}
 use Rattle.tp_store.specs.Known.{clashes_with_some, lasting_facts}
+use Rattle.tp_eval.specs.Outcome.{Outcome, outcome}
 use Rattle.tp_monitor.specs.Wide.{WideTree}
 use Rattle.tp_monitor.specs.Verdict.{Verdict, no}
 use Rattle.tp_monitor.specs.Table.{verdict}
@@ -33,6 +35,10 @@ each_path_once (f ∷ fs) = f ∷ filter (λ g. not (same_path g.path f.path)) (
 abbrev pub known_in : FactsOfStates → ℕ → List Fact
 known_in trace i = each_path_once (known_with trace (given_of (slice_get trace i)))
 
+-- the outcome of an expression in a state, by what is known of the state
+abbrev pub known_outcome : FactsOfStates → ℕ → ExprTree → Outcome
+known_outcome trace i e = outcome (known_in trace i) [] e []
+
 -- some two of the facts clash
 abbrev pub clash_somewhere : List Fact → Bool
 clash_somewhere [] = false
@@ -45,7 +51,7 @@ is_torn trace = list_any (λ own. clash_somewhere (known_with trace own)) trace
 -- whether the formula holds on the whole run, from its first state to its last
 abbrev pub whole_verdict : WideTree → FactsOfStates → Verdict
 whole_verdict w trace =
-    if is_torn trace then no else verdict (known_in trace) w 0 (length trace - 1)
+    if is_torn trace then no else verdict (known_outcome trace) w 0 (length trace - 1)
 
 -- An interval as it is told: it has as many states as are given, each state agrees with the facts
 -- that are given of it, and each static variable keeps one value.

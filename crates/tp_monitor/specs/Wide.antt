@@ -95,3 +95,30 @@ abbrev mutual
   AllHoldWidely no_formula s a b S = S ≡ blank
   AllHoldWidely (formula_then w ws) s a b S =
       Joined (WideHolds w s) (AllHoldWidely ws s) a b S
+
+abbrev mutual
+  -- the expression is one of those that the formula is made of
+  pub IsExprOf : WideTree → ExprTree → Type 0
+  IsExprOf trivial x = ⊥
+  IsExprOf (test e) x = e ≡ x
+  IsExprOf (equation l r) x = (l ≡ x) ⊎ (r ≡ x)
+  IsExprOf (next_equation k t e) x = (t ≡ x) ⊎ (e ≡ x)
+  IsExprOf empty x = ⊥
+  IsExprOf more x = ⊥
+  IsExprOf (next w) x = IsExprOf w x
+  IsExprOf (if_more w) x = IsExprOf w x
+  IsExprOf (if_empty w) x = IsExprOf w x
+  IsExprOf (always w) x = IsExprOf w x
+  IsExprOf (conjunction ws) x = IsExprOfSome ws x
+  IsExprOf (branch e w v) x = (e ≡ x) ⊎ (IsExprOf w x ⊎ IsExprOf v x)
+  IsExprOf (len e) x = e ≡ x
+  IsExprOf (assign t e) x = (t ≡ x) ⊎ (e ≡ x)
+  IsExprOf (chop w v) x = IsExprOf w x ⊎ IsExprOf v x
+  IsExprOf (while e w) x = (e ≡ x) ⊎ IsExprOf w x
+  IsExprOf (disjunction w v) x = IsExprOf w x ⊎ IsExprOf v x
+  IsExprOf (negation w) x = IsExprOf w x
+  IsExprOf (sometimes w) x = IsExprOf w x
+
+  pub IsExprOfSome : WideTrees → ExprTree → Type 0
+  IsExprOfSome no_formula x = ⊥
+  IsExprOfSome (formula_then w ws) x = IsExprOf w x ⊎ IsExprOfSome ws x
