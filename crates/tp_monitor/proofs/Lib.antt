@@ -1,4 +1,9 @@
 pub mod Widened
 pub mod Judged
 pub mod Sound
+pub mod Undecided
 pub mod Right
+pub mod Silent
+pub mod Decided
+pub mod ChopLaws
+pub mod AlwaysLaws

@@ -19,14 +19,15 @@ use Rattle.tp_eval.specs.Outcome as found
 use Rattle.tp_eval.specs.Outcome.{Outcome, outcome}
 use Rattle.tp_eval.specs.Right.{values_at, OutcomesAreRight}
 use Rattle.tp_eval.proofs.OutcomesAre.{outcomes_mean}
-use Rattle.tp_monitor.specs.Wide.{WideTree, Somehow, WideHolds}
-use Rattle.tp_monitor.specs.Verdict.{no}
+use Rattle.tp_monitor.specs.Wide.{WideTree, Somehow, WideHolds, IsExprOf}
+use Rattle.tp_monitor.specs.Verdict.{Verdict, yes, no, undecided}
 use Rattle.tp_monitor.specs.Table.{verdict}
 use Rattle.tp_monitor.specs.Trace.{FactsOfStates, given_of, known_with, each_path_once, known_in, known_outcome, clash_somewhere, is_torn, IsTold}
-use Rattle.tp_monitor.specs.Sound.{WideFits, AreOfKinds, StatesAreOfKinds, VerdictsAreRight}
+use Rattle.tp_monitor.specs.Sound.{WideFits, AreOfKinds, StatesAreOfKinds, VerdictIsRight, VerdictsAreRight, IsOpen, UndecidedWhereOpen}
 use Rattle.tp_monitor.proofs.Widened.{no_calls}
 use Rattle.tp_monitor.proofs.Judged.{Judged, as_no, OutcomeSays}
 use Rattle.tp_monitor.proofs.Sound.{sound}
+use Rattle.tp_monitor.proofs.Undecided.{open_by}
 
 once_in : (fs : List Fact) (f : Fact) → In f (each_path_once fs) → In f fs
 once_in [] f h = absurd h
@@ -173,3 +174,11 @@ verdicts_are_right kinds w trace fits of = record {
   holds = λ e s a b told. (judged kinds trace of s a b told w fits (is_torn trace) refl).holds e;
   fails = λ e s a b told S h. (judged kinds trace of s a b told w fits (is_torn trace) refl).fails e (S, h);
 }
+
+pub undecided_where_open : UndecidedWhereOpen
+undecided_where_open w trace some e = by (is_torn trace) refl e
+  where
+    by : (t : Bool) → is_torn trace ≡ t → (if t then no else verdict (known_outcome trace) w 0 (length trace - 1)) ≡ undecided
+        → (x : ExprTree) × IsExprOf w x × (i : ℕ) × (i < length trace) × IsOpen (known_outcome trace i x)
+    by true q h = absurd (cc)
+    by false q h = let r = open_by (known_outcome trace) w 0 (length trace - 1) (omega arith) h in let u = r.4 in (r.0, r.1, r.2, omega (arith, u, some), r.5)

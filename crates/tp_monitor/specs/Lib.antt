@@ -1,5 +1,6 @@
 pub mod Wide
 pub mod Widened
+pub mod Logic
 pub mod Verdict
 pub mod Table
 pub mod Trace

@@ -1,12 +1,13 @@
 -- What verdicts say of the intervals that are as a run tells.
-use Rattle.std.specs.Prelude.{◌≡◌, ℕ, ◌≤◌, Bool, List, [], ◌∷◌}
+use Rattle.std.specs.Prelude.{◌≡◌, ℕ, ◌<◌, Bool, List, [], ◌∷◌, length}
 use Rattle.tp_value.specs.declared.path.Fact.{Fact}
 use Rattle.tp_meaning.specs.Syntax.{ExprTree}
 use Rattle.tp_meaning.specs.Course.{Course, Shows, blank}
 use Rattle.tp_meaning.specs.Fits.{IsVariable, ExprFits}
 use Rattle.tp_monitor.specs.Wide.{WideTree, WideHolds, IsExprOf}
-use Rattle.tp_monitor.specs.Verdict.{yes, no}
-use Rattle.tp_monitor.specs.Trace.{FactsOfStates, IsTold, whole_verdict}
+use Rattle.tp_eval.specs.Outcome.{Outcome, value, wait, fault, over}
+use Rattle.tp_monitor.specs.Verdict.{yes, no, undecided}
+use Rattle.tp_monitor.specs.Trace.{FactsOfStates, IsTold, known_outcome, whole_verdict}
 
 -- each expression of the formula fits these variables, no definitions and no bindings
 abbrev pub WideFits : List Bool → WideTree → Type 0
@@ -36,3 +37,17 @@ abbrev pub VerdictsAreRight : Type 0
 VerdictsAreRight =
     (kinds : List Bool) (w : WideTree) (trace : FactsOfStates) → WideFits kinds w
     → StatesAreOfKinds kinds trace → VerdictIsRight kinds w trace
+
+-- neither a value nor a fault is found
+abbrev pub IsOpen : Outcome → Type 0
+IsOpen (value t) = ⊥
+IsOpen (wait p) = Unit {0}
+IsOpen (fault k) = ⊥
+IsOpen (over k) = Unit {0}
+
+-- Where a verdict is undecided, one of the formula's expressions is open in some state.
+abbrev pub UndecidedWhereOpen : Type 0
+UndecidedWhereOpen =
+    (w : WideTree) (trace : FactsOfStates) → 0 < length trace → whole_verdict w trace ≡ undecided
+    → (e : ExprTree) × IsExprOf w e × (i : ℕ) × (i < length trace)
+    × IsOpen (known_outcome trace i e)

@@ -1,7 +1,10 @@
 // What verdicts say.
-ghost use Rattle.tp_monitor.specs.Sound.{VerdictsAreRight};
+ghost use Rattle.tp_monitor.specs.Sound.{VerdictsAreRight, UndecidedWhereOpen};
 
-/// A verdict on a whole run is right on each interval that is as the run tells.
+/// What the verdict on a whole run says.
 pub fn verdicts_are_right()
-    ensures { VerdictsAreRight }
+    // It is right on each interval that is as the run tells.
+    ensures right { VerdictsAreRight }
+    // Where it is undecided, one of the formula's expressions has no value and no fault in some state.
+    ensures undecided { UndecidedWhereOpen }
 {}

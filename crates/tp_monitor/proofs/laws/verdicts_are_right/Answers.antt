@@ -1,5 +1,8 @@
-use Rattle.tp_monitor.proofs.Right.{verdicts_are_right as law}
+use Rattle.tp_monitor.proofs.Right.{verdicts_are_right as right_law, undecided_where_open}
 use Rattle.tp_monitor.proofs.laws.verdicts_are_right.Goals as goal
 
-pub returns : goal.returns
-returns c = law
+pub returns-clause-right : goal.returns-clause-right
+returns-clause-right c = right_law
+
+pub returns-clause-undecided : goal.returns-clause-undecided
+returns-clause-undecided c = undecided_where_open
