@@ -3,6 +3,8 @@ pub mod Judged
 pub mod Sound
 pub mod Undecided
 pub mod Right
+pub mod WholeKnown
+pub mod Waiting
 pub mod Silent
 pub mod Decided
 pub mod ChopLaws

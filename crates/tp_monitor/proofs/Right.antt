@@ -95,7 +95,7 @@ state_of_kind kinds (y ∷ ys) h zero x e = let q : y ≡ x = cc in subst (AreOf
 state_of_kind kinds (y ∷ ys) h (suc i) x e = state_of_kind kinds ys h.1 i x e
 
 -- the outcome of an expression over facts that a state agrees with
-no_item : (p : ℕ) (f : Definition) → slice_get [] p ≡ Some f → ⊥
+pub no_item : (p : ℕ) (f : Definition) → slice_get [] p ≡ Some f → ⊥
 no_item zero f e = absurd (cc)
 no_item (suc p) f e = absurd (cc)
 
