@@ -5,6 +5,7 @@ pub mod Undecided
 pub mod Right
 pub mod WholeKnown
 pub mod Waiting
+pub mod Limits
 pub mod Silent
 pub mod Decided
 pub mod ChopLaws

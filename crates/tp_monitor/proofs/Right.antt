@@ -76,6 +76,13 @@ there_is [] i l = absurd (omega (arith, l))
 there_is (y ∷ ys) zero l = (y, refl)
 there_is (y ∷ ys) (suc i) l = there_is ys i (omega (arith, l))
 
+-- where the run isn't torn
+pub known_apart : (trace : FactsOfStates) → is_torn trace ≡ false → (i : ℕ) → i < length trace → NoClash (known_in trace i)
+known_apart trace whole i l =
+    let own = there_is trace i l in
+    subst (λ o. NoClash (each_path_once (known_with trace (given_of o)))) (sym own.1)
+        (once_apart (known_with trace own.0) (none_of (λ x. clash_somewhere (known_with trace x)) trace whole i own.0 own.1))
+
 -- a lasting fact, and the state that it is given of
 lasting_of : (xs : FactsOfStates) (f : Fact) → In f (flat_map lasting_facts xs) → (i : ℕ) × (x : List Fact) × (slice_get xs i ≡ Some x) × In f x × (f.path.var.lasting ≡ true)
 lasting_of [] f h = absurd h

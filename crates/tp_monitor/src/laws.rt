@@ -1,5 +1,5 @@
 // What verdicts say.
-ghost use Rattle.tp_monitor.specs.Sound.{VerdictsAreRight, UndecidedWhereOpen};
+ghost use Rattle.tp_monitor.specs.Sound.{VerdictsAreRight, UndecidedWhereOpen, UndecidedByLimits};
 
 /// What the verdict on a whole run says.
 pub fn verdicts_are_right()
@@ -7,4 +7,6 @@ pub fn verdicts_are_right()
     ensures right { VerdictsAreRight }
     // Where it is undecided, one of the formula's expressions has no value and no fault in some state.
     ensures undecided { UndecidedWhereOpen }
+    // Where in each state all variables are known, the evaluation of one of them passes a limit in some state.
+    ensures limits { UndecidedByLimits }
 {}
