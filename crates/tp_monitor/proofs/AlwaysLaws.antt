@@ -1,9 +1,9 @@
 -- Laws of always, sometimes and not.
-use Rattle.std.proofs.Common.{◌≡◌, ℕ, zero, suc, ◌+◌, ◌-◌, ◌≤◌, ◌<◌, ◌⊎◌, inl, inr, [], ◌∷◌, refl, sym, subst, ◌∙◌, arith}
-use Rattle.tp_meaning.specs.Course.{Course, Shows, blank, ◌⊕◌}
-use Rattle.tp_meaning.proofs.Shows.{joined-blank, total-of-blank}
+use Rattle.std.proofs.Common.{◌≡◌, ℕ, zero, suc, ◌+◌, ◌-◌, ◌≤◌, ◌<◌, inl, inr, [], ◌∷◌, refl, sym, subst, ◌∙◌, arith}
+use Rattle.tp_meaning.specs.Course.{Course, Shows, blank}
+use Rattle.tp_meaning.proofs.Shows.{total-of-blank}
 use Rattle.tp_monitor.specs.Wide.{WideTree, Somehow, WideHolds, always, conjunction, negation, sometimes, wide_formulas_of}
-use Rattle.tp_monitor.specs.Logic.{HoldAlike, AlwaysByInduction, NotNot, SometimesAndAlways, implication, in_next}
+use Rattle.tp_monitor.specs.Logic.{AlwaysByInduction, NotNot, SometimesAndAlways, implication, in_next}
 use Rattle.tp_monitor.proofs.Silent.{silent}
 use Rattle.tp_monitor.proofs.Decided.{wide_formulas_are_decided}
 
@@ -44,7 +44,7 @@ always_by_induction w s a b S le h =
     let steps : (i : ℕ) → a ≤ i → i < b → Somehow (WideHolds (implication w (in_next w)) s) i b = λ i l u. (each.1 i, each.3 i l (omega (arith, u))) in
     let first = quiet w s a b (h.0, h.2) in
     on_each w s a b S le none (λ i l u. let z : (i - a) + a ≡ i = omega (arith, l) in
-        subst (λ (k : ℕ). WideHolds w s k b blank) z (by_steps w s a b first steps (i - a) (omega (arith, l, u))))
+    subst (λ (k : ℕ). WideHolds w s k b blank) z (by_steps w s a b first steps (i - a) (omega (arith, l, u))))
 
 pub not_not : NotNot
 not_not w s a b S le = (

@@ -1,9 +1,9 @@
 -- Laws of chop.
-use Rattle.std.proofs.Common.{◌≡◌, ℕ, zero, suc, ◌+◌, ◌≤◌, ◌<◌, ◌⊎◌, inl, inr, refl, sym, ap, subst, ◌∙◌, arith}
+use Rattle.std.proofs.Common.{ℕ, inl, inr, refl, sym, subst, ◌∙◌, arith}
 use Rattle.tp_meaning.specs.Course.{Course, Shows, blank, ◌⊕◌}
 use Rattle.tp_meaning.proofs.Shows.{join-blank, join-assoc, joined-blank}
-use Rattle.tp_monitor.specs.Wide.{WideTree, Somehow, WideHolds, empty, next, chop, disjunction}
-use Rattle.tp_monitor.specs.Logic.{WideFormulasShowNothing, HoldAlike, ChopIsAssociative, EmptyIsUnitOfChop, OrGoesThroughChop, NextGoesOutOfChop}
+use Rattle.tp_monitor.specs.Wide.{WideTree, Somehow, WideHolds}
+use Rattle.tp_monitor.specs.Logic.{WideFormulasShowNothing, ChopIsAssociative, EmptyIsUnitOfChop, OrGoesThroughChop, NextGoesOutOfChop}
 use Rattle.tp_monitor.proofs.Silent.{silent}
 
 pub wide_formulas_show_nothing : WideFormulasShowNothing

@@ -1,5 +1,5 @@
 -- On each interval a wider formula holds, or it doesn't.
-use Rattle.std.proofs.Common.{◌≡◌, ℕ, zero, suc, ◌+◌, ◌-◌, ◌≤◌, ◌⊎◌, inl, inr, Option, Some, None, [], refl, sym, subst, arith}
+use Rattle.std.proofs.Common.{◌≡◌, ℕ, ◌+◌, ◌-◌, ◌⊎◌, inl, inr, Option, Some, None, [], refl, subst, arith}
 use Rattle.tp_value.specs.Tree.{Tree}
 use Rattle.tp_kernel.specs.declared.fault.FaultKind.TheVariants.{NoElement}
 use Rattle.tp_meaning.specs.Syntax.{ExprTree}
@@ -7,14 +7,14 @@ use Rattle.tp_meaning.specs.Course.{Course, Shows, blank}
 use Rattle.tp_meaning.specs.Value.{value}
 use Rattle.tp_eval.specs.Outcome as found
 use Rattle.tp_eval.specs.Outcome.{Outcome}
-use Rattle.tp_monitor.specs.Wide.{WideTree, Somehow, WideHolds, IsExprOf}
+use Rattle.tp_monitor.specs.Wide.{WideTree, Somehow, WideHolds}
 use Rattle.tp_monitor.specs.Verdict.{Verdict, yes, no, undecided}
 use Rattle.tp_monitor.specs.Table.{verdict}
 use Rattle.tp_monitor.specs.Sound.{IsOpen}
 use Rattle.tp_monitor.specs.Logic.{WideFormulasAreDecided}
 use Rattle.tp_monitor.proofs.Judged.{Judged, OutcomeSays}
 use Rattle.tp_monitor.proofs.Sound.{sound}
-use Rattle.tp_monitor.proofs.Undecided.{Open, open_by}
+use Rattle.tp_monitor.proofs.Undecided.{open_by}
 
 -- the outcome of an expression of which all is known
 
@@ -47,8 +47,8 @@ module _ (s : Course) (a : ℕ) where
   decided_from w n =
       let z : 0 + a ≡ a = omega arith in
       by_verdict w n (verdict all_known w 0 n) refl
-          (subst (λ x. Judged (verdict all_known w 0 n) (WideHolds w s x (n + a) blank) (Somehow (WideHolds w s) x (n + a))) z
-              (sound s a all_known n w (λ e m i l. by_value_right e (i + a) (value [] 0 e [] s (i + a)) refl) 0 n (omega arith) (omega arith)))
+      (subst (λ x. Judged (verdict all_known w 0 n) (WideHolds w s x (n + a) blank) (Somehow (WideHolds w s) x (n + a))) z
+      (sound s a all_known n w (λ e m i l. by_value_right e (i + a) (value [] 0 e [] s (i + a)) refl) 0 n (omega arith) (omega arith)))
 
 pub wide_formulas_are_decided : WideFormulasAreDecided
 wide_formulas_are_decided w s a b l = let z : (b - a) + a ≡ b = omega (arith, l) in

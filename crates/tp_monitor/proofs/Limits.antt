@@ -1,5 +1,5 @@
 -- Where all variables are known, nothing waits.
-use Rattle.std.proofs.Common.{◌≡◌, refl, ℕ, ◌-◌, ◌<◌, Bool, true, false, List, [], length, if◌then◌else◌}
+use Rattle.std.proofs.Common.{◌≡◌, refl, ◌-◌, Bool, true, false, List, [], length, if◌then◌else◌}
 use Rattle.tp_value.specs.declared.path.Path.{Path}
 use Rattle.tp_value.specs.declared.path.Fact.{Fact}
 use Rattle.tp_kernel.specs.declared.fault.LimitKind.{LimitKind}
@@ -10,7 +10,7 @@ use Rattle.tp_eval.specs.Outcome.{Outcome, value, wait, fault, over, outcome}
 use Rattle.tp_eval.proofs.OutcomesAre.{waits_are_undecided}
 use Rattle.tp_monitor.specs.Verdict.{Verdict, undecided, no}
 use Rattle.tp_monitor.specs.Table.{verdict}
-use Rattle.tp_monitor.specs.Trace.{FactsOfStates, is_torn, known_in, known_outcome, whole_verdict}
+use Rattle.tp_monitor.specs.Trace.{is_torn, known_in, known_outcome}
 use Rattle.tp_monitor.specs.Sound.{IsOpen, AreAllKnown, UndecidedByLimits}
 use Rattle.tp_monitor.proofs.Right.{known_apart, undecided_where_open}
 use Rattle.tp_monitor.proofs.WholeKnown.{full_there}

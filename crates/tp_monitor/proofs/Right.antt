@@ -20,10 +20,10 @@ use Rattle.tp_eval.specs.Outcome.{Outcome, outcome}
 use Rattle.tp_eval.specs.Right.{values_at, OutcomesAreRight}
 use Rattle.tp_eval.proofs.OutcomesAre.{outcomes_mean}
 use Rattle.tp_monitor.specs.Wide.{WideTree, Somehow, WideHolds, IsExprOf}
-use Rattle.tp_monitor.specs.Verdict.{Verdict, yes, no, undecided}
+use Rattle.tp_monitor.specs.Verdict.{no, undecided}
 use Rattle.tp_monitor.specs.Table.{verdict}
 use Rattle.tp_monitor.specs.Trace.{FactsOfStates, given_of, known_with, each_path_once, known_in, known_outcome, clash_somewhere, is_torn, IsTold}
-use Rattle.tp_monitor.specs.Sound.{WideFits, AreOfKinds, StatesAreOfKinds, VerdictIsRight, VerdictsAreRight, IsOpen, UndecidedWhereOpen}
+use Rattle.tp_monitor.specs.Sound.{WideFits, AreOfKinds, StatesAreOfKinds, VerdictsAreRight, IsOpen, UndecidedWhereOpen}
 use Rattle.tp_monitor.proofs.Widened.{no_calls}
 use Rattle.tp_monitor.proofs.Judged.{Judged, as_no, OutcomeSays}
 use Rattle.tp_monitor.proofs.Sound.{sound}
@@ -81,7 +81,7 @@ pub known_apart : (trace : FactsOfStates) → is_torn trace ≡ false → (i : �
 known_apart trace whole i l =
     let own = there_is trace i l in
     subst (λ o. NoClash (each_path_once (known_with trace (given_of o)))) (sym own.1)
-        (once_apart (known_with trace own.0) (none_of (λ x. clash_somewhere (known_with trace x)) trace whole i own.0 own.1))
+    (once_apart (known_with trace own.0) (none_of (λ x. clash_somewhere (known_with trace x)) trace whole i own.0 own.1))
 
 -- a lasting fact, and the state that it is given of
 lasting_of : (xs : FactsOfStates) (f : Fact) → In f (flat_map lasting_facts xs) → (i : ℕ) × (x : List Fact) × (slice_get xs i ≡ Some x) × In f x × (f.path.var.lasting ≡ true)

@@ -1,7 +1,6 @@
 -- A wider formula shows nothing.
-use Rattle.std.proofs.Common.{◌≡◌, pos, ℤ, ◌+ℤ◌, ℕ, zero, suc, ◌+◌, ◌≤◌, ◌<◌, ◌∙◌, arith, true, inl, inr}
+use Rattle.std.proofs.Common.{◌≡◌, pos, ℤ, ◌+ℤ◌, ℕ, zero, suc, ◌<◌, ◌∙◌, arith, true, inl, inr}
 use Rattle.tp_value.specs.Tree.{truth}
-use Rattle.tp_meaning.specs.Syntax.{ExprTree}
 use Rattle.tp_meaning.specs.Course.{Course, Shows, Part, blank}
 use Rattle.tp_meaning.specs.Holds.{Pieces}
 use Rattle.tp_meaning.proofs.Shows.{joined-blank, total-blank}

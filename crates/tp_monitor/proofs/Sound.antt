@@ -1,12 +1,11 @@
 -- Verdicts on parts of a run are right, where outcomes are.
-use Rattle.std.proofs.Common.{◌≡◌, pos, ℤ, ◌+ℤ◌, ℕ, zero, suc, ◌+◌, ◌-◌, ◌≤◌, ◌<◌, inl, inr, Bool, true, false, eqb, nat_le, nat_lt, List, [], refl, sym, ap, subst, arith}
+use Rattle.std.proofs.Common.{◌≡◌, pos, ℤ, ◌+ℤ◌, ℕ, zero, suc, ◌+◌, ◌-◌, ◌≤◌, ◌<◌, inl, inr, Bool, true, false, eqb, nat_le, nat_lt, refl, sym, ap, subst, arith}
 use Rattle.std.proofs.lemmas.Bool.{eqb-true, eqb-false, ltb-true, ltb-false, leb-true, leb-false}
 use Rattle.tp_value.specs.Tree.{Tree, num, truth}
 use Rattle.tp_meaning.specs.Syntax.{ExprTree}
 use Rattle.tp_meaning.specs.Course.{Course, Shows, Part, blank}
 use Rattle.tp_meaning.specs.Holds.{Pieces}
 use Rattle.tp_meaning.proofs.Shows.{total-of-blank}
-use Rattle.tp_eval.specs.Outcome.{outcome}
 use Rattle.tp_eval.specs.Outcome.{Outcome}
 use Rattle.tp_monitor.specs.Wide.{IsExprOf, IsExprOfSome, WideTree, WideTrees, HasValue, Somehow, WideHolds, AllHoldWidely, trivial, test, equation, next_equation, empty, more, next, if_more, if_empty, always, conjunction, branch, len, assign, chop, while, disjunction, negation, sometimes, no_formula, formula_then}
 use Rattle.tp_monitor.specs.Verdict.{Verdict, no, yes, both_of, equality_verdict}

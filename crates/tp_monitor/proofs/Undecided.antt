@@ -5,7 +5,7 @@ use Rattle.tp_value.specs.Tree.{Tree, same_tree, truth}
 use Rattle.tp_meaning.specs.Syntax.{ExprTree}
 use Rattle.tp_eval.specs.Outcome.{Outcome, value, wait, fault, over}
 use Rattle.tp_monitor.specs.Wide.{WideTree, WideTrees, IsExprOf, IsExprOfSome, trivial, test, equation, next_equation, empty, more, next, if_more, if_empty, always, conjunction, branch, len, assign, chop, while, disjunction, negation, sometimes, no_formula, formula_then}
-use Rattle.tp_monitor.specs.Verdict.{Verdict, yes, no, undecided, of_truth, both_of, one_of, opposite_of, all_from, some_from, value_verdict, no_with_fault, equality_verdict}
+use Rattle.tp_monitor.specs.Verdict.{Verdict, yes, no, undecided, of_truth, both_of, one_of, opposite_of, all_from, some_from, value_verdict, equality_verdict}
 use Rattle.tp_monitor.specs.Table.{looped, has_in, verdict, all_verdicts}
 use Rattle.tp_monitor.specs.Sound.{IsOpen}
 

@@ -1,5 +1,5 @@
 -- An expression waits for paths of its variables alone.
-use Rattle.std.proofs.Common.{◌≡◌, ℤ, pos, negsuc, ◌+ℤ◌, ◌-ℤ◌, ◌*ℤ◌, neg_ℤ, ◌++◌, ℕ, zero, suc, nat_le, nat_lt, Bool, true, false, List, [], ◌∷◌, length, Option, Some, None, slice_get, refl, sym, subst, ◌∙◌, arith, if◌then◌else◌}
+use Rattle.std.proofs.Common.{◌≡◌, ℤ, pos, negsuc, ◌+ℤ◌, ◌-ℤ◌, ◌*ℤ◌, neg_ℤ, ◌++◌, ℕ, zero, suc, nat_le, nat_lt, Bool, true, false, List, [], length, Option, Some, None, slice_get, refl, sym, subst, arith, if◌then◌else◌}
 use Rattle.std.specs.Prelude.{int_lt, int_le}
 use Rattle.tp_value.specs.Tree.{Tree, num, truth, list, items_of, of_items}
 use Rattle.tp_value.specs.Limits.{index_limit, path_limit, is_within_list_limit}
@@ -16,7 +16,7 @@ use Rattle.tp_store.specs.Facts.{kept_shape, is_excluded}
 use Rattle.tp_store.specs.Known as store
 use Rattle.tp_store.specs.Known.{full, NoClash}
 use Rattle.tp_eval.specs.Reached.{Reached, reaches, stops, waits, faults, passes, Evaluation, with_reached, gives, within_numbers, within_lists}
-use Rattle.tp_eval.specs.Evaluate.{PlaceFound, at_path, inside, is_place, number_in, truth_in, list_items, element_in, item_in, item_between, on_divisor_outcome, compared, sum_in, operate_outcome, index_in, farther, of_full, length_in, length_of, value_at, size_at, each, all_true, size_of, indexed_value, evaluate, find_place, depth_limit}
+use Rattle.tp_eval.specs.Evaluate.{PlaceFound, at_path, inside, is_place, number_in, truth_in, list_items, element_in, item_in, item_between, on_divisor_outcome, sum_in, operate_outcome, index_in, farther, of_full, length_in, length_of, value_at, size_at, each, all_true, size_of, indexed_value, evaluate, find_place, depth_limit}
 use Rattle.tp_eval.specs.Outcome as found
 use Rattle.tp_eval.specs.Outcome.{outcome, outcome_reached}
 use Rattle.tp_monitor.proofs.Right.{no_item}

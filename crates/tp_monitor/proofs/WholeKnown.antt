@@ -1,5 +1,5 @@
 -- Below a value that is known as a whole, each path has a shape or is excluded; and a path that is open below another is of its variable.
-use Rattle.std.proofs.Common.{◌≡◌, ℕ, zero, suc, ◌+◌, ◌≤◌, ◌<◌, ◌⊎◌, inl, inr, Bool, true, false, not, eqb, nat_lt, List, [], ◌∷◌, ◌++◌, Option, Some, None, refl, sym, ap, subst, ◌∙◌, arith, append-nil, append_assoc, if◌then◌else◌}
+use Rattle.std.proofs.Common.{◌≡◌, ℕ, zero, suc, ◌+◌, ◌≤◌, ◌<◌, inl, inr, Bool, true, false, not, eqb, List, [], ◌∷◌, ◌++◌, Option, Some, None, refl, sym, ap, subst, ◌∙◌, arith, append-nil, append_assoc, if◌then◌else◌}
 use Rattle.std.proofs.lemmas.Bool.{cases_lt, and_from, both_ways, eq-eqb, le-ltb}
 use Rattle.tp_value.specs.Tree.{Tree}
 use Rattle.tp_value.specs.Limits.{is_within_list_limit}
@@ -66,7 +66,7 @@ module _ (facts : List Fact) where
   not_beyond : (p : Path) (sh : Shape) (k : ℕ) (ks : List ℕ) → kept_shape facts p ≡ Some sh → has_item sh k ≡ false → IsMissing (beyond p (k ∷ ks)) → ⊥
   not_beyond p sh k ks e out m = both_ways (is_excluded facts (beyond p (k ∷ ks))) m.1
       (excluded_from facts (beyond p (k ∷ ks)) (fact p sh) (kept_in facts p sh e)
-          (and_from (same_variable p.var p.var) (leaves_out p.at sh (p.at ++ k ∷ ks)) ((same_variable-decides p.var p.var).1 refl) (leaves p.at sh k ks out)))
+      (and_from (same_variable p.var p.var) (leaves_out p.at sh (p.at ++ k ∷ ks)) ((same_variable-decides p.var p.var).1 refl) (leaves p.at sh k ks out)))
 
   no_items : (p : Path) (sh : Shape) → kept_shape facts p ≡ Some sh → ((k : ℕ) → has_item sh k ≡ false) → (ks : List ℕ) → IsMissing (beyond p ks) → ⊥
   no_items p sh e out [] m = not_here p sh e m
