@@ -1,0 +1,12 @@
+pub mod Widened
+pub mod Judged
+pub mod Sound
+pub mod Undecided
+pub mod Right
+pub mod WholeKnown
+pub mod Waiting
+pub mod Limits
+pub mod Silent
+pub mod Decided
+pub mod ChopLaws
+pub mod AlwaysLaws

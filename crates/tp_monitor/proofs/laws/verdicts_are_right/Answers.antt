@@ -1,0 +1,12 @@
+use Rattle.tp_monitor.proofs.Right.{verdicts_are_right as right_law, undecided_where_open}
+use Rattle.tp_monitor.proofs.Limits.{undecided_by_limits}
+use Rattle.tp_monitor.proofs.laws.verdicts_are_right.Goals as goal
+
+pub returns-clause-right : goal.returns-clause-right
+returns-clause-right c = right_law
+
+pub returns-clause-undecided : goal.returns-clause-undecided
+returns-clause-undecided c = undecided_where_open
+
+pub returns-clause-limits : goal.returns-clause-limits
+returns-clause-limits c = undecided_by_limits
