@@ -5,7 +5,8 @@
      REFUSED_CALL   memory, bytes, open, read or write; or nothing
      REFUSED_AT     the number of the call that is refused, from 1; of bytes, how many may be held at once
      REFUSED_HOW    a number: the call fails with this error; one: it gives or takes one byte; none: it takes nothing;
-                    part: it takes the first half, and the next one finds no space
+                    part: it takes the first half, and the next one finds no space; first, or all: it takes the first
+                    byte, or all, and fails
 
    It is for programs of one thread, over the C library of GNU on Linux. */
 #define _GNU_SOURCE
@@ -26,7 +27,7 @@ extern void *__libc_memalign(size_t alignment, size_t size);
 extern void __libc_free(void *block);
 
 enum kind { MEMORY, OPEN, READ, WRITE, KINDS, BYTES = KINDS, NOTHING };
-enum how { FAILS, ONE, NONE, PART };
+enum how { FAILS, ONE, NONE, PART, FIRST, ALL, HOWS };
 
 /* what bench/refused reads, as numbers of 64 bits */
 struct told {
@@ -45,6 +46,7 @@ static int error_number = ENOMEM;
 /* What the loader of programs does before this isn't counted. */
 __attribute__((constructor)) static void begin(void) {
     static const char *const names[] = {"memory", "open", "read", "write", "bytes"};
+    static const char *const hows[HOWS] = {"", "one", "none", "part", "first", "all"};
     const char *file = getenv("REFUSED_TOLD"), *call = getenv("REFUSED_CALL");
     const char *number = getenv("REFUSED_AT"), *way = getenv("REFUSED_HOW");
     int fd = file ? (int)syscall(SYS_openat, AT_FDCWD, file, O_RDWR | O_CLOEXEC, 0) : -1;
@@ -59,8 +61,12 @@ __attribute__((constructor)) static void begin(void) {
     told = room;
     memset(told, 0, sizeof *told);
     at = number ? strtoul(number, NULL, 10) : 0;
+    for (int each = ONE; way && each < HOWS; each++) {
+        if (!strcmp(way, hows[each])) {
+            how = (enum how)each;
+        }
+    }
     if (way) {
-        how = !strcmp(way, "one") ? ONE : !strcmp(way, "none") ? NONE : !strcmp(way, "part") ? PART : FAILS;
         error_number = how == FAILS ? (int)strtol(way, NULL, 10) : ENOSPC;
     }
     for (int each = MEMORY; call && each <= BYTES; each++) {
@@ -190,7 +196,7 @@ int openat64(int folder, const char *name, int flags, ...) {
     return open_in(folder, name, flags, mode);
 }
 
-/* Whether a call of so many bytes goes on to the system, and with how many. */
+/* Whether the system's answer to a call of so many bytes is handed on; and how many of them the system gets. */
 static int goes_on(enum kind of, size_t *size) {
     if (!is_refused(of)) {
         return 1;
@@ -204,26 +210,38 @@ static int goes_on(enum kind of, size_t *size) {
         how = FAILS;
         at++;
         return 1;
-    case NONE:
+    case FIRST:
+        *size = *size ? 1 : 0;
+        return 0;
+    case ALL:
+        return 0;
+    default:
         *size = 0;
         return 0;
-    case FAILS:
-        break;
     }
+}
+
+/* the answer of a call that isn't handed on */
+static ssize_t refusal(void) {
     errno = error_number;
-    return 0;
+    return how == NONE ? 0 : -1;
 }
 
 ssize_t read(int fd, void *bytes, size_t size) {
-    if (!goes_on(READ, &size)) {
-        return size ? -1 : 0;
-    }
-    return syscall(SYS_read, fd, bytes, size);
+    return goes_on(READ, &size) ? syscall(SYS_read, fd, bytes, size) : refusal();
 }
 
 ssize_t write(int fd, const void *bytes, size_t size) {
-    if (!goes_on(WRITE, &size)) {
-        return size ? -1 : 0;
+    if (goes_on(WRITE, &size)) {
+        return syscall(SYS_write, fd, bytes, size);
     }
-    return syscall(SYS_write, fd, bytes, size);
+    while (size > 0) {
+        ssize_t count = syscall(SYS_write, fd, bytes, size);
+        if (count <= 0) {
+            break;
+        }
+        bytes = (const char *)bytes + count;
+        size -= (size_t)count;
+    }
+    return refusal();
 }
