@@ -52,21 +52,28 @@ set_bounds() {
 }
 
 # Runs the program on these words, within the bounds where there are some. A run that is past one ends with 21, and
-# standard error says which. A shell says of itself that a signal has ended a process: one of its own hears that.
+# standard error says which. A signal that would end this script ends the run first.
 run_program() {
     if [ -z "$seconds$megabytes" ]; then
         "$program" "$@"
         return
     fi
+    exec 8<&0 # what runs beside a shell would have no input
     (
-        exec 7>&2 2>/dev/null
-        (
-            set_bounds 2>&7 || exit 20
-            exec "$program" "$@" 2>&7 7>&-
-        )
-        exit
-    )
+        set_bounds || exit 20
+        exec "$program" "$@" <&8 8<&-
+    ) &
+    run=$!
+    exec 8<&-
+    for signal in HUP INT TERM; do
+        # shellcheck disable=SC2064 # this signal, and this run
+        trap "kill $run; trap - $signal; kill -s $signal $$" "$signal"
+    done
+    exec 7>&2 2>/dev/null # where a shell says what it thinks of the signal by which a run ends
+    wait "$run"
     status=$?
+    exec 2>&7 7>&-
+    trap - HUP INT TERM
     tell_bound
     return "$status"
 }
