@@ -2,7 +2,7 @@
 
 _tempura() {
     local word=${COMP_WORDS[COMP_CWORD]} before=${COMP_WORDS[COMP_CWORD - 1]} first at
-    local options="--inputs --states --reductions --order --trace --use"
+    local options="--inputs --states --reductions --order --trace --use --seconds --megabytes"
     COMPREPLY=()
     # bash takes `--order=last` for three words
     if [[ $word == = ]]; then
@@ -29,7 +29,7 @@ _tempura() {
         mapfile -t COMPREPLY < <(compgen -W "bits lists signals" -- "$word")
         return
         ;;
-    --states | --reductions | -e) return ;;
+    --states | --reductions | --seconds | --megabytes | -e) return ;;
     esac
     case $first in
     "") mapfile -t COMPREPLY < <(compgen -W "run print explain --cases --last --build --attest --version --help" -- "$word") ;;

@@ -31,6 +31,8 @@ complete -c tempura -n '__tempura_has run print --cases' -l reductions -x -d 'ma
 complete -c tempura -n '__tempura_has run print --cases' -l order -x -a 'first last' -d 'try the conjuncts in this order'
 complete -c tempura -n '__tempura_has run print --cases' -l trace -d 'show what is left to hold behind each state'
 complete -c tempura -n '__tempura_has run print --cases' -l use -x -a 'bits lists signals' -d 'put the definitions of a library in front'
+complete -c tempura -n '__tempura_has run print --cases' -l seconds -x -d 'end a run that takes more seconds of the processor'
+complete -c tempura -n '__tempura_has run print --cases' -l megabytes -x -d 'end a run that wants more memory'
 complete -c tempura -n '__tempura_has run print' -s e -x -d 'the program itself'
 complete -c tempura -n '__tempura_has explain' -a '(tempura explain 2>/dev/null | string split " ")'
 complete -c tempura -n '__tempura_has --attest' -a '(__fish_complete_directories)'
