@@ -51,8 +51,8 @@ class Refused(Exception):
         self.line = line
 
 
-class _NoValue(Exception):
-    pass
+class NoValue(Exception):
+    """A text with no value where one is due, or with one past the limits."""
 
 
 class Part:
@@ -136,21 +136,21 @@ def read_value(text, start=0):
         if byte == b">" and may_close:
             value, at = unclosed.pop(), at + 1
         elif not may_value:
-            raise _NoValue
+            raise NoValue
         else:
             if unclosed:
                 if begun >= ITEM_LIMIT:
-                    raise _NoValue
+                    raise NoValue
                 begun += 1
             if byte == b"<":
                 if len(unclosed) >= DEPTH_LIMIT:
-                    raise _NoValue
+                    raise NoValue
                 unclosed.append([])
                 may_value, may_close, may_comma, at = True, True, False, at + 1
                 continue
             word = re.compile(rb"true|false|-?[0-9]+").match(text, at)
             if not word:
-                raise _NoValue
+                raise NoValue
             value, at = _scalar(word[0]), word.end()
         if not unclosed:
             return value, at
@@ -163,33 +163,33 @@ def _scalar(word):
         return word == b"true"
     digits = word.lstrip(b"-").lstrip(b"0") or b"0"
     if len(digits) > len(str(NUMBER_LIMIT)) or int(digits) > NUMBER_LIMIT:
-        raise _NoValue
+        raise NoValue
     return -int(digits) if word.startswith(b"-") else int(digits)
 
 
 def _within(limit, digits):
     """The number that digits spell, where it is within the limit."""
     if not re.fullmatch(rb"[0-9]+", digits):
-        raise _NoValue
+        raise NoValue
     digits = digits.lstrip(b"0") or b"0"
     if len(digits) > len(str(limit)) or int(digits) > limit:
-        raise _NoValue
+        raise NoValue
     return int(digits)
 
 
 def _read_path(text):
     name = re.match(rb"[A-Za-z0-9_]*", text)[0]
     if not name[:1].isalpha() or len(name) > NAME_LIMIT or name in WORDS:
-        raise _NoValue
+        raise NoValue
     at, rest = [], text[len(name) :]
     while rest:
         index, closed, behind = rest[1:].partition(b"]")
         if rest[:1] != b"[" or not closed:
-            raise _NoValue
+            raise NoValue
         at.append(_within(INDEX_LIMIT, index))
         rest = behind
     if len(at) > PATH_LIMIT:
-        raise _NoValue
+        raise NoValue
     return name.decode("ascii"), tuple(at)
 
 
@@ -197,7 +197,7 @@ def _read_part(text, start):
     """The part that begins there, and the place behind it."""
     left, found, _ = text[start:].partition(b"=")
     if not found:
-        raise _NoValue
+        raise NoValue
     begin = start + len(left) + 1
     is_length = len(left) >= 2 and left[:1] == left[-1:] == b"|"
     name, at = _read_path(left[1:-1] if is_length else left)
@@ -208,7 +208,7 @@ def _read_part(text, start):
     else:
         value, end = read_value(text, begin)
         if text[end : end + 1] not in (b"", b" "):
-            raise _NoValue
+            raise NoValue
     return Part(name, at, value, is_length, left.decode("ascii"), text[begin:end].decode("ascii")), end
 
 
@@ -237,7 +237,7 @@ def _read_state(number, line):
                 return None
             part, at = _read_part(line, at + 1)
             parts.append(part)
-    except _NoValue:
+    except NoValue:
         return None
     state = State(number, parts)
     return None if _clash(state.facts()) else state
@@ -299,7 +299,7 @@ def show_values(text):
             if data[at : at + 1] not in (b"", b" "):
                 return None
             at += 1
-    except _NoValue:
+    except NoValue:
         return None
     return values
 

@@ -25,8 +25,11 @@ class Tool:
     def __init__(self, name, page):
         self.name, self.page = name, page
 
+    def tell(self, what):
+        print(f"{self.name}: {what}", file=sys.stderr)
+
     def refuse(self, why, status=1):
-        print(f"{self.name}: {why}", file=sys.stderr)
+        self.tell(why)
         raise SystemExit(status)
 
     def start(self, main, fails=1):

@@ -83,7 +83,16 @@ why_no_answer() {
     fi
 }
 
-# Tells what a try has answered, for FILE as `given`, and ends with its status.
+# Shows the refused line that an end line names, of FILE as `given` or of TABLE as `given_table`.
+show_place() {
+    if [ "$status" -eq 10 ] && [ -n "$given" ]; then
+        point_where "$1" "$given"
+    elif [ "$status" -eq 11 ] && [ -n "$given_table" ]; then
+        point_at "${1#inputs refused: line }" 0 <"$given_table" >&2
+    fi
+}
+
+# Tells what a try has answered, for FILE as `given` and TABLE as `given_table`, and ends with its status.
 tell_answer() {
     line=$(tail -n 1 "$work/said")
     case $line in
@@ -91,8 +100,8 @@ tell_answer() {
         place_behind <"$work/told"
         status=${line#run=ended status=}
         status=${status%% *}
-        if [ "$status" -eq 10 ] && [ -t 2 ] && [ -n "$given" ]; then
-            point_where "$(tail -n 1 "$work/told")" "$given"
+        if [ -t 2 ]; then
+            show_place "$(tail -n 1 "$work/told")"
         fi
         exit "$status"
         ;;
@@ -105,11 +114,14 @@ tell_answer() {
 # Runs the words by a try, with FILE as `source` and TABLE as `table`.
 run_unproved() {
     # fewer words than a mode and a FILE are refused in any case, and more than these too
-    if [ "$files" -ne 1 ] || { [ "$mode" != run ] && [ "$mode" != print ]; }; then
+    case $files:$mode in
+    1:run | 1:print | 1:convert) ;;
+    *)
         stop_on_bytes "$@"
         echo "words refused"
         exit 12
-    fi
+        ;;
+    esac
     say_unproved
     stop_on_bytes "$@"
     make_work
@@ -128,11 +140,18 @@ run_unproved() {
         set -- "$@" "$word"
     done
     set -- -- "$@"
+    given_table=
     if [ -n "$table" ]; then
         give "$table" "$TABLE_LIMIT" table
+        given_table=$given
         [ -z "$given" ] || set -- --data "table=$given" "$@"
     fi
-    give "$source" "$SOURCE_LIMIT" source
+    if [ "$mode" = convert ]; then
+        give "$source" "$TABLE_LIMIT" source
+        given_table=$given
+    else
+        give "$source" "$SOURCE_LIMIT" source
+    fi
     [ -z "$given" ] || set -- --data "source=$given" "$@"
     try "$@"
     tell_answer

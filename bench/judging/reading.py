@@ -227,20 +227,45 @@ def read_source(text):
     return found
 
 
+MOST_STATES = 1000  # that a run settles where the words don't say more
+
+
+def read_pairs(line, at):
+    """The pairs of a line from that place on."""
+    found = []
+    while line[at:].strip(' \t'):
+        pair = re.compile(r'[ \t]*([a-z]\w*)=').match(line, at)
+        if not pair:
+            raise Unreadable(line)
+        depth, end = 0, pair.end()
+        while end < len(line) and (depth or line[end] not in ' \t'):
+            depth += (line[end] == '<') - (line[end] == '>')
+            end += 1
+        found.append((pair.group(1), read_value(re.sub(r'\s', '', line[pair.end():end]))[0]))
+        at = end
+    return found
+
+
+def read_ranges(lines):
+    """The values that lines with ranges of states, and with defaults, give to the states that a run may have."""
+    ranged, defaults = {}, {}
+    for line in lines:
+        front = re.match(r'[ \t]*(\*|(\d+)(-?)(\d*))[ \t]*:', line)
+        if not front and line.strip(' \t'):
+            raise Unreadable(line)
+        for port, value in read_pairs(line, front.end()) if front else []:
+            if front.group(1) == '*':
+                defaults[port] = value
+                continue
+            first, is_range, last = front.group(2, 3, 4)
+            end = int(last) + 1 if last else MOST_STATES if is_range else int(first) + 1
+            ranged.update(((state, port), value) for state in range(int(first), min(end, MOST_STATES)))
+    return {**{(state, port): value for port, value in defaults.items() for state in range(MOST_STATES)}, **ranged}
+
+
 def read_table(text):
     """The table of inputs that a text is."""
-    found = {}
-    for state, line in enumerate(text.splitlines()):
-        at = 0
-        while line[at:].strip(' \t'):
-            pair = re.compile(r'[ \t]*([a-z]\w*)=').match(line, at)
-            if not pair:
-                raise Unreadable(line)
-            depth, end = 0, pair.end()
-            while end < len(line) and (depth or line[end] not in ' \t'):
-                depth += (line[end] == '<') - (line[end] == '>')
-                end += 1
-            value = re.sub(r'\s', '', line[pair.end():end])
-            found[state, pair.group(1)] = read_value(value)[0]
-            at = end
-    return found
+    lines = text.splitlines()
+    if lines[:1] == ['inputs 2']:
+        return read_ranges(lines[1:])
+    return {(state, port): value for state, line in enumerate(lines) for port, value in read_pairs(line, 0)}

@@ -1,4 +1,4 @@
-# Completion of tempura, and of the tools over its runs, for bash.
+# Completion of tempura, and of the tools beside it, for bash.
 
 _tempura() {
     local word=${COMP_WORDS[COMP_CWORD]} before=${COMP_WORDS[COMP_CWORD - 1]} first at
@@ -32,7 +32,7 @@ _tempura() {
     --states | --reductions | --seconds | --megabytes | -e) return ;;
     esac
     case $first in
-    "") mapfile -t COMPREPLY < <(compgen -W "run print explain --cases --last --build --attest --version --help" -- "$word") ;;
+    "") mapfile -t COMPREPLY < <(compgen -W "run print convert explain --cases --last --build --attest --version --help" -- "$word") ;;
     run | print | --cases)
         if [[ $word == -* ]]; then
             mapfile -t COMPREPLY < <(compgen -W "$options $([[ $first == --cases ]] || printf %s -e)" -- "$word")
@@ -41,6 +41,7 @@ _tempura() {
             ((${#COMPREPLY[@]})) || mapfile -t COMPREPLY < <(compgen -f -- "$word")
         fi
         ;;
+    convert) mapfile -t COMPREPLY < <(compgen -f -- "$word") ;;
     explain)
         mapfile -t COMPREPLY < <(compgen -W "$("${COMP_WORDS[0]}" explain 2>/dev/null | tr ' ' '\n')" -- "$word")
         compopt +o filenames
@@ -61,13 +62,14 @@ _tempura_tool() {
     case $before:$word in
     --use:*) mapfile -t COMPREPLY < <(compgen -W "bits lists signals" -- "$word") ;;
     --ports:* | --states:* | --random:* | --seed:*) ;;
+    --clock:* | --when:* | --signals:* | --scope:* | --signed:* | --rename:* | --format:*) ;;
     *:-*)
         mapfile -t COMPREPLY < <(compgen -W "$("${COMP_WORDS[0]}" --help 2>/dev/null |
-            sed -n 's/^  \(--[a-z]*\) .*/\1/p')" -- "$word")
+            sed -n 's/^  \(--[a-z-]*\) .*/\1/p')" -- "$word")
         ;;
     *) mapfile -t COMPREPLY < <(compgen -f -- "$word") ;;
     esac
 }
 
 complete -o filenames -F _tempura tempura
-complete -o filenames -F _tempura_tool tempura-core tempura-diff tempura-lint tempura-sweep
+complete -o filenames -F _tempura_tool tempura-core tempura-diff tempura-lint tempura-sweep vcd-inputs

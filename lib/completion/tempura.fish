@@ -1,4 +1,4 @@
-# Completion of tempura, and of the tools over its runs, for fish.
+# Completion of tempura, and of the tools beside it, for fish.
 
 function __tempura_first
     set -l words (commandline -opc)
@@ -17,6 +17,7 @@ end
 complete -c tempura -f
 complete -c tempura -n __tempura_first -a run -d 'run a program'
 complete -c tempura -n __tempura_first -a print -d 'print a source in its canonical spelling'
+complete -c tempura -n __tempura_first -a convert -d 'print a table of inputs in ranges of states'
 complete -c tempura -n __tempura_first -a explain -d 'what an end or a refusal means'
 complete -c tempura -n __tempura_first -l cases -d 'run several files'
 complete -c tempura -n __tempura_first -l last -d 'by the program proved last'
@@ -25,6 +26,7 @@ complete -c tempura -n __tempura_first -l attest -d 'compare program and sources
 complete -c tempura -n __tempura_first -l version -d 'which program this is'
 complete -c tempura -n __tempura_first -l help -d 'print a page'
 complete -c tempura -n '__tempura_has run print --cases' -k -a '(__fish_complete_suffix .tempura)'
+complete -c tempura -n '__tempura_has convert' -F
 complete -c tempura -n '__tempura_has run print --cases' -l inputs -r -F -d 'the file of the table of inputs'
 complete -c tempura -n '__tempura_has run print --cases' -l states -x -d 'settle at most so many states'
 complete -c tempura -n '__tempura_has run print --cases' -l reductions -x -d 'make at most so many steps in a state'
@@ -38,7 +40,7 @@ complete -c tempura -n '__tempura_has explain' -a '(tempura explain 2>/dev/null 
 complete -c tempura -n '__tempura_has --attest' -a '(__fish_complete_directories)'
 
 # the tools
-for tool in tempura-core tempura-diff tempura-lint tempura-sweep
+for tool in tempura-core tempura-diff tempura-lint tempura-sweep vcd-inputs
     complete -c $tool -F
     complete -c $tool -l help -d 'print a page'
 end
@@ -54,3 +56,12 @@ complete -c tempura-sweep -l random -x -d 'so many tables by chance'
 complete -c tempura-sweep -l seed -x -d 'the number to choose by'
 complete -c tempura-sweep -l same -r -F -d 'run another program too, and compare'
 complete -c tempura-sweep -l save -r -F -d 'write the first table that fails'
+complete -c vcd-inputs -l clock -x -d 'the clock'
+complete -c vcd-inputs -l after -d 'the values just after the edge'
+complete -c vcd-inputs -l when -x -d 'the edges at which a signal has a value'
+complete -c vcd-inputs -l from-known -d 'begins where all signals are known'
+complete -c vcd-inputs -l signals -x -d 'these signals'
+complete -c vcd-inputs -l scope -x -d 'the signals of this scope'
+complete -c vcd-inputs -l signed -x -d 'these numbers are in two\'s complement'
+complete -c vcd-inputs -l rename -x -d 'the port of a signal'
+complete -c vcd-inputs -l format -x -a '1 2' -d 'a line for each state, or ranges'
