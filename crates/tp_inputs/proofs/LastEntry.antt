@@ -1,16 +1,16 @@
 -- The last entry of a map that begins at a state or before it.
-use Rattle.std.proofs.Common.{refl, ap, sym, ◌∙◌, ◌≡◌, ℕ, ◌≤◌, ◌<◌, false, true, Bool, List, [], ◌∷◌, ◌++◌, map, Some, None, IsSome, nat_le, arith}
+use Rattle.std.proofs.Common.{refl, ◌∙◌, ◌≡◌, ℕ, ◌≤◌, ◌<◌, false, true, Bool, [], ◌∷◌, ◌++◌, map, Some, None, IsSome, nat_le, arith}
 use Rattle.std.specs.declared.ops.Bound.TheVariants.{Included, Unbounded}
 use Rattle.std.specs.Ordering.{nat_cmp, is_gt, is_lt}
 use Rattle.std.specs.BTreeMap.{get, BTreeMap}
 use Rattle.std.specs.BTreeMap.Range.{IsRangeOf}
 use Rattle.std.proofs.lemmas.Bool.Decides.{nat_tests}
-use Rattle.tp_meaning.specs.Inputs.{InputRow, row_value}
+use Rattle.tp_meaning.specs.Inputs.{row_value}
 use Rattle.tp_inputs.specs.declared.ranges.Row.{Row}
 use Rattle.tp_inputs.specs.Canonical.{are_rows}
 use Rattle.tp_inputs.specs.Spans.{rows_meet}
 use Rattle.tp_inputs.specs.Model.{row_of}
-use Rattle.tp_inputs.proofs.RowLemmas.{row_at, Order, less, equal, greater, order, none_begins, last_meets, unmet}
+use Rattle.tp_inputs.proofs.RowLemmas.{Order, less, equal, greater, order, none_begins, last_meets, unmet}
 use Rattle.tp_inputs.proofs.EntryLemmas.{Entries, entry_row, row_entry}
 
 not_after : (q b : ℕ) → q ≤ b → is_gt (nat_cmp q b) ≡ false

@@ -1,5 +1,5 @@
 -- One more part of a line.
-use Rattle.std.proofs.Common.{sym, subst, ◌≡◌, ◌≢◌, ℕ, ◌<◌, ◌≤◌, List, [], ◌∷◌, length, drop, true, false, arith}
+use Rattle.std.proofs.Common.{sym, subst, ◌≡◌, ◌≢◌, ℕ, ◌<◌, ◌≤◌, List, [], length, drop, true, false, arith}
 use Rattle.tp_value.specs.Tree.{Tree}
 use Rattle.tp_meaning.specs.Inputs.{InputTable}
 use Rattle.tp_inputs.specs.declared.refusal.LineRefusal.{LineRefusal}
@@ -7,7 +7,7 @@ use Rattle.tp_inputs.specs.declared.refusal.LineRefusal.TheVariants as l
 use Rattle.tp_inputs.specs.declared.span.Span.{Span}
 use Rattle.tp_inputs.specs.Canonical.{are_ports}
 use Rattle.tp_inputs.specs.Spans.{is_given}
-use Rattle.tp_inputs.specs.Parts.{BeginsPair, pair}
+use Rattle.tp_inputs.specs.Parts.{pair}
 use Rattle.tp_inputs.specs.FirstPart.{LinePart, Blank, Given, BeginsPart, first_part}
 use Rattle.tp_inputs.specs.Lines.{PassesPart, blank, given, ReadsPairs, here, passes}
 use Rattle.tp_inputs.specs.Read.{IsPartRefusal, IsPairsRefusal}

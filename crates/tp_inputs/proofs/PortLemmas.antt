@@ -1,7 +1,7 @@
 -- The ports of a map's entries.
-use Rattle.std.proofs.Common.{refl, ap, sym, subst, ◌∙◌, ◌≡◌, ◌≢◌, ℕ, Bool, true, false, cond, ◌&&◌, ◌||◌, List, [], ◌∷◌, map, Option, Some, None, IsSome, Vec}
+use Rattle.std.proofs.Common.{refl, ap, sym, subst, ◌∙◌, ◌≡◌, ◌≢◌, ℕ, Bool, true, false, cond, ◌&&◌, List, [], ◌∷◌, map, Option, Some, None, IsSome, Vec}
 use Rattle.std.specs.Option.{option_map, option_and_then, option_or}
-use Rattle.std.specs.Ordering.{nat_cmp, is_eq, match_ordering}
+use Rattle.std.specs.Ordering.{nat_cmp, is_eq}
 use Rattle.std.specs.declared.cmp.Ordering.{Ordering}
 use Rattle.std.specs.declared.cmp.Ordering.TheVariants.{Less, Equal, Greater}
 use Rattle.std.specs.Cmp.Lexicographic.{slice_cmp}
@@ -17,10 +17,9 @@ use Rattle.tp_value.specs.Tree.{Tree}
 use Rattle.tp_meaning.specs.Inputs.{InputRow, InputPort, InputTable, row_value, port_of, range_value, default_value, input_at}
 use Rattle.tp_inputs.specs.declared.span.Span.{Span}
 use Rattle.tp_inputs.specs.declared.ports.Port.{Port}
-use Rattle.tp_inputs.specs.Canonical.{are_rows, is_told, are_ports, IsCanonical}
+use Rattle.tp_inputs.specs.Canonical.{are_rows, is_told, are_ports}
 use Rattle.tp_inputs.specs.Spans.{span_has, is_others, port_meets, is_given, GivesValue}
 use Rattle.tp_inputs.specs.Model.{rows_of, default_of, named_port}
-use Rattle.tp_inputs.specs.Moves.{GivesPort}
 
 abbrev pub Key : Type 0
 Key = Vec ℕ Global

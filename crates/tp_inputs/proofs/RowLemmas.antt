@@ -1,16 +1,15 @@
 -- Rows in order and apart: which has a state, and what taking one away or putting one in changes.
-use Rattle.std.proofs.Common.{refl, ap, sym, subst, ◌∙◌, ◌≡◌, ◌≢◌, ℕ, suc, zero, ◌+◌, ◌<◌, ◌≤◌, ◌==◌, inl, inr, ◌⊎◌, Bool, true, false, cond, not, ◌&&◌, ◌||◌, nat_le, nat_lt, List, [], ◌∷◌, Option, Some, None, arith}
-use Rattle.std.specs.Ordering.{nat_cmp, is_eq, match_ordering, MatchOrdering}
+use Rattle.std.proofs.Common.{refl, ap, sym, subst, ◌∙◌, ◌≡◌, ◌≢◌, ℕ, ◌+◌, ◌<◌, ◌≤◌, ◌==◌, Bool, true, false, cond, not, ◌&&◌, ◌||◌, nat_le, nat_lt, List, [], ◌∷◌, Option, Some, None, arith}
+use Rattle.std.specs.Ordering.{nat_cmp, is_eq, MatchOrdering}
 use Rattle.std.specs.declared.cmp.Ordering.{Ordering}
 use Rattle.std.specs.declared.cmp.Ordering.TheVariants.{Less, Equal, Greater}
 use Rattle.std.specs.Cmp.{ranks}
 use Rattle.std.proofs.lemmas.Bool.Decides.{nat_tests}
-use Rattle.tp_value.specs.Tree.{Tree, same_tree}
+use Rattle.tp_value.specs.Tree.{same_tree}
 use Rattle.tp_value.proofs.Trees.{same_tree_is_equality}
-use Rattle.tp_meaning.specs.Inputs.{InputRow, has_state, row_value}
+use Rattle.tp_meaning.specs.Inputs.{InputRow, row_value}
 use Rattle.tp_inputs.specs.Canonical.{is_ahead, are_rows}
 use Rattle.tp_inputs.specs.Spans.{rows_meet}
-use Rattle.tp_inputs.specs.Moves.{IsTaken, GivesRows}
 
 -- ---- where a state is
 

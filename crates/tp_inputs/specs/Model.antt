@@ -4,7 +4,6 @@ use Rattle.std.specs.Borrow.{Bor}
 use Rattle.std.specs.Ordering.{nat_cmp}
 use Rattle.std.specs.BTreeMap.{get}
 use Rattle.std.specs.Option.{option_map}
-use Rattle.tp_value.specs.declared.value.Value.{Value}
 use Rattle.tp_value.specs.Tree.{Tree}
 use Rattle.tp_value.specs.Read.{tree}
 use Rattle.tp_meaning.specs.Inputs.{InputRow, InputPort, InputTable, row_value}

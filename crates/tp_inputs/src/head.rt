@@ -99,7 +99,11 @@ fn named_state(digits: &[u8]) -> Option<u64>
     ensures within { IfSome result (λ state. state ≤ spec.last_state) }
 {
     // Eight digits spell no number past the last state.
-    if is_state(digits) { Some(bounded(digits)) } else { None }
+    if is_state(digits) {
+        Some(bounded(digits))
+    } else {
+        None
+    }
 }
 
 // From one state to another that isn't before it.
@@ -110,7 +114,11 @@ fn between(first: Option<u64>, last: Option<u64>) -> Option<Span>
     ensures within { IfSome result IsSpan }
 {
     let (first, last) = (first?, last?);
-    if first <= last { Some(Span::States { first, last }) } else { None }
+    if first <= last {
+        Some(Span::States { first, last })
+    } else {
+        None
+    }
 }
 
 // What stands behind the `-` of a range.
@@ -118,7 +126,11 @@ fn end_of(text: &[u8]) -> Option<u64>
     ensures value { result ≡ spec.end_of text.now }
     ensures within { IfSome result (λ state. state ≤ spec.last_state) }
 {
-    if text.is_empty() { Some(LAST_STATE) } else { named_state(text) }
+    if text.is_empty() {
+        Some(LAST_STATE)
+    } else {
+        named_state(text)
+    }
 }
 
 // `k`, `k-m`, `k-`, or `*`.

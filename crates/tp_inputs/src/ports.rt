@@ -109,7 +109,13 @@ impl Ports {
     }
 
     /// GivesValue the port the value for the span, for which it has none yet.
-    pub fn give(&mut self, alloc: Global, span: Span, port: Text, value: Value) -> Result<(), NoMemory>
+    pub fn give(
+        &mut self,
+        alloc: Global,
+        span: Span,
+        port: Text,
+        value: Value,
+    ) -> Result<(), NoMemory>
         requires ports { are_ports (table_of self.old) ≡ true }
         requires span { IsSpan span }
         requires free { is_given (table_of self.old) span port ≡ false }

@@ -29,7 +29,10 @@ fn head_of(second: bool, number: u64, line: &[u8]) -> Head
     ensures within { HeadBounds line.now result }
 {
     if !second {
-        let states = Span::States { first: number, last: number };
+        let states = Span::States {
+            first: number,
+            last: number,
+        };
         Head::Speaks(states, 0)
     } else if number == 0 {
         Head::Silent

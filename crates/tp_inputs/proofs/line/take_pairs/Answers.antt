@@ -19,7 +19,7 @@ loop-rest-preserved c =
     let new = table_of c.take_part.new.ports in
     record {
       so_far = subst (λ (z : List ℕ). Continues c.args.span text (table_of c.args.ports.now) z new) (sym (take_rest c.loop-rest.rest.now c.in_ok-len.len))
-        (passes_on c.args.span text c.loop-rest.rest.now (table_of c.args.ports.now) old new c.in_ok-len.len c.loop-rest.invariant.so_far c.in_ok-len.ensures.passed);
+          (passes_on c.args.span text c.loop-rest.rest.now (table_of c.args.ports.now) old new c.in_ok-len.len c.loop-rest.invariant.so_far c.in_ok-len.ensures.passed);
       apart = ports_after c.args.span c.loop-rest.rest.now old new c.in_ok-len.len c.loop-rest.invariant.apart c.in_ok-len.ensures.passed;
     }
 

@@ -1,4 +1,4 @@
-use Rattle.std.proofs.Common.{refl, ap, sym, subst, ◌∙◌, ◌≡◌, ℕ, ◌≤◌, Bool, true, false, cond, ◌||◌, nat_lt, List, [], ◌∷◌, length, Option, Some, None, Result, Ok, Err, arith}
+use Rattle.std.proofs.Common.{refl, sym, subst, ◌∙◌, ◌≡◌, ℕ, ◌≤◌, Bool, true, ◌||◌, nat_lt, List, [], ◌∷◌, length, Some, Result, Ok, Err, arith}
 use Rattle.std.specs.Prelude.{OnOk}
 use Rattle.std.proofs.lemmas.Bool.Decides.{nat_tests}
 use Rattle.tp_value.specs.Read.{tree}
@@ -8,7 +8,6 @@ use Rattle.tp_meaning.specs.Inputs.{InputRow, InputPort, row_value}
 use Rattle.tp_inputs.specs.declared.span.Span.{Span}
 use Rattle.tp_inputs.specs.declared.span.Span.TheVariants.{States}
 use Rattle.tp_inputs.specs.Bounds.{IsSpan}
-use Rattle.tp_inputs.specs.Model.{rows_of, default_of, named_port}
 use Rattle.tp_inputs.specs.Moves.{GivesRows, GivesPort}
 use Rattle.tp_inputs.proofs.RowLemmas.{inside_range}
 use Rattle.tp_inputs.proofs.ports.Port.give.Goals as goal

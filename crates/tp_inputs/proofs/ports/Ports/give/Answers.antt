@@ -1,4 +1,4 @@
-use Rattle.std.proofs.Common.{refl, ap, sym, subst, ◌∙◌, ◌≡◌, Bool, true, false, cond, List, ℕ, [], Some, None, Result, Ok, Err}
+use Rattle.std.proofs.Common.{refl, ap, sym, subst, ◌∙◌, ◌≡◌, true, cond, List, ℕ, [], Some, None, Result, Ok, Err}
 use Rattle.std.specs.Prelude.{OnOk}
 use Rattle.std.specs.Ordering.{nat_cmp, is_eq}
 use Rattle.std.specs.declared.cmp.Ordering.{Ordering}
@@ -46,20 +46,20 @@ module _ (cmp : Key → Key → Ordering) (is : (a b : Key) → cmp a b ≡ slic
   set_gives slice port p fs same there entries sorted g =
       subst (λ (z : List ℕ). GivesValue span z v (table_in es) (table_in fs)) same
       (gives es fs span slice v w (subst (λ (z : Entries). Changes slice w es z) (sym entries) (set_changes es slice w (rw there refl)))
-        (names_ordered cmp is fs sorted)
-        (subst (λ (z : Entries). are_ports (table_in z) ≡ true) (sym entries) (set_ports es (λ k. is_eq (name_cmp slice k)) w ports g.apart (λ name. g.told)))
-        (λ n. g.has n ∙ ap (λ o. cond (span_has span n) (Some v) (row_value (rows_in o) n)) (sym there))
-        (g.default ∙ ap (λ o. cond (is_others span) (Some v) (default_in o)) (sym there)))
+      (names_ordered cmp is fs sorted)
+      (subst (λ (z : Entries). are_ports (table_in z) ≡ true) (sym entries) (set_ports es (λ k. is_eq (name_cmp slice k)) w ports g.apart (λ name. g.told)))
+      (λ n. g.has n ∙ ap (λ o. cond (span_has span n) (Some v) (row_value (rows_in o) n)) (sym there))
+      (g.default ∙ ap (λ o. cond (is_others span) (Some v) (default_in o)) (sym there)))
 
   insert_gives : (k : Key) (port : List ℕ) (fs : Entries) → k.items ≡ port → named k.items es ≡ None → fs ≡ insert_entry cmp es k w → IsStrictlySortedBy cmp (keys_of fs)
       → (p : Port) → rows_of p.ranges ≡ [] → default_of p ≡ None → GivesPort span v (named_port [] p) (named_port [] w) → GivesValue span port v (table_in es) (table_in fs)
   insert_gives k port fs same none entries sorted p no_rows no_default g =
       subst (λ (z : List ℕ). GivesValue span z v (table_in es) (table_in fs)) same
       (gives es fs span k.items v w (subst (λ (z : Entries). Changes k.items w es z) (sym entries) (insert_changes cmp is es k w none))
-        (names_ordered cmp is fs sorted)
-        (subst (λ (z : Entries). are_ports (table_in z) ≡ true) (sym entries) (insert_ports cmp es k w ports g.apart (λ name. g.told)))
-        (λ n. g.has n ∙ (ap (λ rs. cond (span_has span n) (Some v) (row_value rs n)) no_rows ∙ ap (λ o. cond (span_has span n) (Some v) (row_value (rows_in o) n)) (sym none)))
-        (g.default ∙ (ap (cond (is_others span) (Some v)) no_default ∙ ap (λ o. cond (is_others span) (Some v) (default_in o)) (sym none))))
+      (names_ordered cmp is fs sorted)
+      (subst (λ (z : Entries). are_ports (table_in z) ≡ true) (sym entries) (insert_ports cmp es k w ports g.apart (λ name. g.told)))
+      (λ n. g.has n ∙ (ap (λ rs. cond (span_has span n) (Some v) (row_value rs n)) no_rows ∙ ap (λ o. cond (span_has span n) (Some v) (row_value (rows_in o) n)) (sym none)))
+      (g.default ∙ (ap (cond (is_others span) (Some v)) no_default ∙ ap (λ o. cond (is_others span) (Some v) (default_in o)) (sym none))))
 
 pub returns-in-Some : goal.returns-in-Some
 returns-in-Some c =

@@ -1,4 +1,4 @@
-use Rattle.std.proofs.Common.{ap, sym, subst, ◌∙◌, ◌≡◌, List, map, inl, inr, arith}
+use Rattle.std.proofs.Common.{ap, sym, subst, ◌∙◌, ◌≡◌, List, map, inr, arith}
 use Rattle.tp_value.specs.Read.{tree}
 use Rattle.tp_meaning.specs.Inputs.{InputRow}
 use Rattle.tp_inputs.specs.Model.{row_of, rows_of}

@@ -1,4 +1,4 @@
-use Rattle.std.proofs.Common.{refl, ap, sym, subst, ◌∙◌, ◌≡◌, List, Some, None, true, map}
+use Rattle.std.proofs.Common.{refl, ap, sym, subst, ◌∙◌, ◌≡◌, List, Some, None, map}
 use Rattle.tp_value.specs.Read.{tree}
 use Rattle.tp_meaning.specs.Inputs.{InputRow, row_value}
 use Rattle.tp_inputs.specs.Model.{row_of, rows_of}
