@@ -7,8 +7,8 @@ use Rattle.std.proofs.lemmas.Option.{same_Some}
 use Rattle.tp_value.specs.Tree.{Tree}
 use Rattle.tp_meaning.specs.Inputs.{InputRow, InputTable, row_value, port_of, range_value, default_value}
 use Rattle.tp_inputs.specs.declared.span.Span.{Span}
-use Rattle.tp_inputs.specs.declared.head.Head.{Head}
-use Rattle.tp_inputs.specs.declared.head.Head.TheVariants.{Speaks, Silent, Unheard}
+use Rattle.tp_inputs.specs.declared.span.Head.{Head}
+use Rattle.tp_inputs.specs.declared.span.Head.TheVariants.{Speaks, Silent, Unheard}
 use Rattle.tp_inputs.specs.Canonical.{are_rows, IsCanonical}
 use Rattle.tp_inputs.specs.Spans.{span_has, is_others, GivesValue}
 use Rattle.tp_inputs.specs.Heads.{head_of}

@@ -18,7 +18,7 @@ use Rattle.tp_lex.specs.Bytes.{is_name_byte, name_limit}
 use Rattle.tp_lex.specs.Pieces.{IsNoWord}
 use Rattle.tp_meaning.specs.Inputs.{InputTable}
 use Rattle.tp_inputs.specs.declared.span.Span.{Span}
-use Rattle.tp_inputs.specs.declared.head.Head.{Head}
+use Rattle.tp_inputs.specs.declared.span.Head.{Head}
 use Rattle.tp_inputs.specs.Heads.{ranged_head}
 use Rattle.tp_inputs.specs.Spans.{is_given, GivesValue}
 use Rattle.tp_inputs.specs.Parts.{BeginsPort, is_set_apart, BeginsPair, pair}

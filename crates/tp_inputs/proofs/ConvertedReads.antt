@@ -9,8 +9,8 @@ use Rattle.tp_value.specs.Limits.{IsWithinLimits}
 use Rattle.tp_meaning.specs.Inputs.{InputRow, InputPort, InputTable}
 use Rattle.tp_inputs.specs.declared.span.Span.{Span}
 use Rattle.tp_inputs.specs.declared.span.Span.TheVariants.{States, Others}
-use Rattle.tp_inputs.specs.declared.head.Head.{Head}
-use Rattle.tp_inputs.specs.declared.head.Head.TheVariants.{Speaks, Silent, Unheard}
+use Rattle.tp_inputs.specs.declared.span.Head.{Head}
+use Rattle.tp_inputs.specs.declared.span.Head.TheVariants.{Speaks, Silent, Unheard}
 use Rattle.tp_inputs.specs.Canonical.{are_rows, are_ports, IsCanonical}
 use Rattle.tp_inputs.specs.Heads.{last_state, has_ranges, head_of, ranged_head}
 use Rattle.tp_inputs.specs.Parts.{BeginsPair, pair}

@@ -6,8 +6,8 @@ use Rattle.std.proofs.lemmas.Bool.{leb-true}
 use Rattle.tp_value.specs.Spelling.{is_value_blank}
 use Rattle.tp_inputs.specs.declared.span.Span.{Span}
 use Rattle.tp_inputs.specs.declared.span.Span.TheVariants.{States, Others}
-use Rattle.tp_inputs.specs.declared.head.Head.{Head}
-use Rattle.tp_inputs.specs.declared.head.Head.TheVariants.{Speaks, Silent, Unheard}
+use Rattle.tp_inputs.specs.declared.span.Head.{Head}
+use Rattle.tp_inputs.specs.declared.span.Head.TheVariants.{Speaks, Silent, Unheard}
 use Rattle.tp_inputs.specs.Heads.{named_state, between, end_of, cut_range, range_of, is_range_byte, range_head, colon_head, ranged_head, head_of}
 
 -- a first state that isn't past the last

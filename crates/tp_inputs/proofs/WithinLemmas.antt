@@ -10,8 +10,8 @@ use Rattle.tp_value.specs.Tree.{Tree}
 use Rattle.tp_value.specs.Limits.{item_limit, value_depth_limit, items_in, depth_of, IsWithinLimits, IsWithinListLimit}
 use Rattle.tp_meaning.specs.Inputs.{InputRow, InputPort, InputTable, has_state, row_value, port_of, range_value, default_value, input_at}
 use Rattle.tp_inputs.specs.declared.span.Span.{Span}
-use Rattle.tp_inputs.specs.declared.head.Head.{Head}
-use Rattle.tp_inputs.specs.declared.head.Head.TheVariants.{Speaks, Silent, Unheard}
+use Rattle.tp_inputs.specs.declared.span.Head.{Head}
+use Rattle.tp_inputs.specs.declared.span.Head.TheVariants.{Speaks, Silent, Unheard}
 use Rattle.tp_inputs.specs.Canonical.{are_rows, IsCanonical}
 use Rattle.tp_inputs.specs.Spans.{span_has, is_others, GivesValue}
 use Rattle.tp_inputs.specs.Heads.{has_ranges, head_of}

@@ -11,7 +11,7 @@ use Rattle.tp_inputs.specs.declared.refusal.InputsRefusal.TheVariants as r
 use Rattle.tp_inputs.specs.declared.refusal.LineRefusal.{LineRefusal}
 use Rattle.tp_inputs.specs.declared.refusal.LineRefusal.TheVariants as l
 use Rattle.tp_inputs.specs.declared.span.Span.{Span}
-use Rattle.tp_inputs.specs.declared.head.Head.{Head}
+use Rattle.tp_inputs.specs.declared.span.Head.{Head}
 use Rattle.tp_inputs.specs.FirstPart.{LinePart, Blank, Given, Faulty}
 use Rattle.tp_inputs.specs.Faults.{BeginsFault, StopsAt, HasFault}
 use Rattle.tp_inputs.specs.Model.{table_of}

@@ -6,19 +6,10 @@ ghost use Rattle.tp_value.specs.Spelling.{is_value_blank, decimal_value};
 ghost use Rattle.tp_inputs.specs.Heads as spec;
 ghost use Rattle.tp_inputs.specs.Bounds.{IsSpan, HeadBounds};
 
-use crate::span::Span;
+use crate::span::{Head, Span};
 
 /// The last state that a range may name.
 pub const LAST_STATE: u64 = 99_999_999;
-
-/// What a line begins with: the states for which it speaks, and how many bytes that takes; nothing, since it says nothing; or
-/// something else.
-#[derive(Clone, Copy)]
-pub enum Head {
-    Speaks(Span, usize),
-    Silent,
-    Unheard,
-}
 
 pub fn is_blank(byte: u8) -> bool
     ensures { result ≡ is_value_blank byte }

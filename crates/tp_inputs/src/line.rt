@@ -7,11 +7,10 @@ ghost use Rattle.tp_inputs.specs.Model.{table_of};
 ghost use Rattle.tp_inputs.specs.Read.{IsPartRefusal, IsPairsRefusal, IsLineRefusal};
 
 use crate::fault::Fault;
-use crate::head::Head;
 use crate::part::{FoundPart, first_part};
 use crate::ports::Ports;
 use crate::refusal::LineRefusal;
-use crate::span::Span;
+use crate::span::{Head, Span};
 use std::alloc::Global;
 
 // Takes what the rest of a line begins with, a blank or a pair, and tells how many bytes it has.

@@ -6,12 +6,12 @@ ghost use Rattle.tp_inputs.specs.Heads as spec;
 ghost use Rattle.tp_inputs.specs.Read.{inputs_of};
 ghost use Rattle.tp_inputs.specs.Table.{IsInputsText, IsInputsRefusal};
 
-use crate::head::{Head, ranged_head};
+use crate::head::ranged_head;
 use crate::inputs::Inputs;
 use crate::line::take_line;
 use crate::ports::Ports;
 use crate::refusal::InputsRefusal;
-use crate::span::Span;
+use crate::span::{Head, Span};
 use std::alloc::Global;
 use tp_lex::first_line;
 
