@@ -9,7 +9,7 @@ refuse_bound() {
     exit 12
 }
 
-# the least that an option sets: with less memory the program isn't started
+# the least that an option sets: with much less memory the program isn't started
 least_bound() {
     case $1 in
     --megabytes) echo 16 ;;
