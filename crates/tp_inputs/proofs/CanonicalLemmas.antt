@@ -1,13 +1,12 @@
 -- Tables in their one form: two that say the same are one.
-use Rattle.std.proofs.Common.{refl, ap, sym, subst, ◌∙◌, ◌≡◌, ◌≢◌, ℕ, suc, ◌+◌, ◌<◌, ◌≤◌, ◌==◌, inl, inr, ◌⊎◌, Bool, true, false, not, ◌&&◌, ◌||◌, nat_le, nat_lt, cond, List, [], ◌∷◌, length, map, Option, Some, None, is_some, Ordering, Less, Equal, Greater, arith}
-use Rattle.std.specs.Prelude.{if◌then◌else◌}
+use Rattle.std.proofs.Common.{refl, ap, sym, subst, ◌∙◌, ◌≡◌, ◌≢◌, ℕ, ◌+◌, ◌<◌, ◌≤◌, ◌==◌, inl, inr, ◌⊎◌, true, false, not, ◌&&◌, ◌||◌, nat_le, nat_lt, List, [], ◌∷◌, length, map, Option, Some, None, is_some, Ordering, Less, Equal, Greater, arith}
 use Rattle.std.specs.List.{AllByRecursion}
 use Rattle.std.specs.List.Sorted.{IsStrictlySortedBy}
 use Rattle.std.specs.Ordering.{nat_cmp, ordering_reverse}
 use Rattle.std.specs.Cmp.Lexicographic.{slice_cmp}
 use Rattle.std.specs.Str.{bytes_eq}
 use Rattle.std.specs.Option.{option_and_then}
-use Rattle.std.proofs.lemmas.Bool.{cases_Bool, cases_lt, cases_order, cases_eq, and_parts, and_from, and_left, and_right, not-true, both_ways, le-leb, lt-leb, lt-ltb, leb-true, ltb-true, eq-eqb, eqb-true}
+use Rattle.std.proofs.lemmas.Bool.{cases_Bool, cases_lt, cases_order, and_parts, and_from, and_left, and_right, not-true, both_ways, le-leb, lt-leb, lt-ltb, leb-true, ltb-true, eq-eqb, eqb-true}
 use Rattle.std.proofs.lemmas.Option.{same_Some}
 use Rattle.std.proofs.lemmas.Slice.Eq.{bytes_eq-Decides}
 use Rattle.std.proofs.lemmas.Cmp.{nat_list_cmp_total}
@@ -18,7 +17,7 @@ use Rattle.tp_value.proofs.Trees.{same_tree_is_equality}
 use Rattle.tp_meaning.specs.Inputs.{InputRow, InputPort, InputTable, has_state, row_value, port_of, range_value, default_value}
 use Rattle.tp_inputs.specs.declared.span.Span.{Span}
 use Rattle.tp_inputs.specs.Canonical.{is_ahead, are_rows, is_told, are_ports, IsCanonical}
-use Rattle.tp_inputs.specs.Spans.{Gives}
+use Rattle.tp_inputs.specs.Spans.{GivesValue}
 
 -- ---- a row
 
@@ -72,9 +71,6 @@ none_before r (s ∷ rs) n e h =
 pub record Behind (last : ℕ) (value : Tree) (rs : List InputRow) : Type 0 where
   pub free : (n : ℕ) → n ≤ last → row_value rs n ≡ None
   pub other : row_value rs (last + 1) ≢ Some value
-
-touches : InputRow → InputRow → Bool
-touches r s = r.last + 1 == s.first && same_tree r.value s.value
 
 pub ahead_behind : (r : InputRow) (rs : List InputRow) → is_ahead r rs ≡ true → are_rows rs ≡ true → Behind r.last r.value rs
 ahead_behind r [] a e = record { free = λ n h. refl; other = λ x. cc }
@@ -149,10 +145,10 @@ not_shorter r s rs ss e f same h =
     let value = same_value r s rs ss e f same in
     let order = (rows_parts r rs e).ordered in
     (rows_behind r rs e).other (
-      sym (row_past r rs (r.last + 1) (has_behind r (r.last + 1) (omega arith)))
-      ∙ same (r.last + 1)
-      ∙ row_at s ss (r.last + 1) (has_yes s (r.last + 1) (omega arith) (omega arith))
-      ∙ ap Some (sym value)
+    sym (row_past r rs (r.last + 1) (has_behind r (r.last + 1) (omega arith)))
+    ∙ same (r.last + 1)
+    ∙ row_at s ss (r.last + 1) (has_yes s (r.last + 1) (omega arith) (omega arith))
+    ∙ ap Some (sym value)
     )
 
 same_last : (r s : InputRow) (rs ss : List InputRow) → are_rows (r ∷ rs) ≡ true → are_rows (s ∷ ss) ≡ true → SameRows (r ∷ rs) (s ∷ ss) → r.last ≡ s.last
@@ -286,8 +282,8 @@ not_missing p ps u e same none =
     let is = ports_parts p ps e in
     let here = port_here p ps p.port refl in
     told_not_none p is.rows is.told
-      (λ n. sym (range_at (p ∷ ps) n p.port (Some p) here) ∙ same.ranges n p.port ∙ range_at u n p.port None none)
-      (sym (default_at (p ∷ ps) p.port (Some p) here) ∙ same.defaults p.port ∙ default_at u p.port None none)
+    (λ n. sym (range_at (p ∷ ps) n p.port (Some p) here) ∙ same.ranges n p.port ∙ range_at u n p.port None none)
+    (sym (default_at (p ∷ ps) p.port (Some p) here) ∙ same.defaults p.port ∙ default_at u p.port None none)
 
 pub later : (p : InputPort) (ps : InputTable) → IsCanonical (p ∷ ps) → AllByRecursion (λ m. cmp p.port m ≡ Less) (names ps)
 later p ps is = sorted_head cmp p.port (names ps) is.ordered
@@ -317,9 +313,9 @@ same_port p q ps qs is js e same =
     let here = port_here p ps k refl in
     let there = port_here q qs k e in
     one_port p q e
-      (one_rows p.rows q.rows (ports_parts p ps is.ports).rows (ports_parts q qs js.ports).rows
-        (λ n. sym (range_at (p ∷ ps) n k (Some p) here) ∙ same.ranges n k ∙ range_at (q ∷ qs) n k (Some q) there))
-      (sym (default_at (p ∷ ps) k (Some p) here) ∙ same.defaults k ∙ default_at (q ∷ qs) k (Some q) there)
+    (one_rows p.rows q.rows (ports_parts p ps is.ports).rows (ports_parts q qs js.ports).rows
+    (λ n. sym (range_at (p ∷ ps) n k (Some p) here) ∙ same.ranges n k ∙ range_at (q ∷ qs) n k (Some q) there))
+    (sym (default_at (p ∷ ps) k (Some p) here) ∙ same.defaults k ∙ default_at (q ∷ qs) k (Some q) there)
 
 same_rest : (p q : InputPort) (ps qs : InputTable) → IsCanonical (p ∷ ps) → IsCanonical (q ∷ qs) → p.port ≡ q.port → SaySame (p ∷ ps) (q ∷ qs) → SaySame ps qs
 same_rest p q ps qs is js e same = record { ranges = λ n k. range n k (cases_Bool (bytes_eq k p.port)); defaults = λ k. default k (cases_Bool (bytes_eq k p.port)) }
@@ -363,5 +359,5 @@ one_canonical (p ∷ ps) (q ∷ qs) is js same =
     cc
 
 -- what is added makes one table
-pub one_given : (span : Span) (port : List ℕ) (value : Tree) (t u v : InputTable) → Gives span port value t u → Gives span port value t v → u ≡ v
+pub one_given : (span : Span) (port : List ℕ) (value : Tree) (t u v : InputTable) → GivesValue span port value t u → GivesValue span port value t v → u ≡ v
 one_given span port value t u v a b = one_canonical u v a.canonical b.canonical (record { ranges = λ n q. a.ranges n q ∙ sym (b.ranges n q); defaults = λ q. a.defaults q ∙ sym (b.defaults q) })

@@ -14,7 +14,7 @@ use Rattle.tp_inputs.specs.declared.span.Span.{Span}
 use Rattle.tp_inputs.specs.declared.span.Span.TheVariants.{States, Others}
 use Rattle.tp_inputs.specs.declared.head.Head.{Head}
 use Rattle.tp_inputs.specs.declared.head.Head.TheVariants.{Speaks, Silent, Unheard}
-use Rattle.tp_inputs.specs.Heads.{last_state, state_of, between, end_of, cut_range, range_of, is_range_byte, head_at, colon_head, ranged_head, head_of}
+use Rattle.tp_inputs.specs.Heads.{last_state, named_state, between, end_of, cut_range, range_of, is_range_byte, range_head, colon_head, ranged_head, head_of}
 
 -- ---- eight digits
 
@@ -42,8 +42,8 @@ abbrev StateEnds : Option ℕ → Type 0
 StateEnds None = Unit {0}
 StateEnds (Some n) = n ≤ last_state
 
-state_ends : (z : List ℕ) → StateEnds (state_of z)
-unfolding state_of
+state_ends : (z : List ℕ) → StateEnds (named_state z)
+unfolding named_state
 state_ends z = at (nat_lt 0 (length z)) (nat_le (length z) 8) (list_all is_ascii_digit z) refl refl
   where
     at : (p q s : Bool) → nat_le (length z) 8 ≡ q → list_all is_ascii_digit z ≡ s → StateEnds (cond (p && (q && s)) (Some (decimal_value z)) None)
@@ -76,8 +76,8 @@ end_ends [] = omega arith
 end_ends (b ∷ z) = state_ends (b ∷ z)
 
 cut_ends : (z : List ℕ) (o : Option ℕ) → RangeEnds (cut_range z o)
-cut_ends z None = between_ends (state_of z) (state_of z) (state_ends z)
-cut_ends z (Some i) = between_ends (state_of (take i z)) (end_of (drop (i + 1) z)) (end_ends (drop (i + 1) z))
+cut_ends z None = between_ends (named_state z) (named_state z) (state_ends z)
+cut_ends z (Some i) = between_ends (named_state (take i z)) (end_of (drop (i + 1) z)) (end_ends (drop (i + 1) z))
 
 range_ends : (z : List ℕ) → RangeEnds (range_of z)
 unfolding range_of
@@ -94,7 +94,7 @@ HeadEnds (Speaks span n) = EndsInTime span
 HeadEnds Silent = Unit {0}
 HeadEnds Unheard = Unit {0}
 
-at_ends : (o : Option Span) (n : ℕ) → RangeEnds o → HeadEnds (head_at o n)
+at_ends : (o : Option Span) (n : ℕ) → RangeEnds o → HeadEnds (range_head o n)
 at_ends None n h = tt
 at_ends (Some span) n h = h
 
@@ -113,7 +113,7 @@ colon_ends line blanks = at (slice_index after more == 58)
     more : ℕ
     more = prefix_len is_value_blank after
 
-    at : (t : Bool) → HeadEnds (cond t (head_at (range_of (take n rest)) (blanks + n + more + 1)) Unheard)
+    at : (t : Bool) → HeadEnds (cond t (range_head (range_of (take n rest)) (blanks + n + more + 1)) Unheard)
     at true = at_ends (range_of (take n rest)) (blanks + n + more + 1) (range_ends (take n rest))
     at false = tt
 

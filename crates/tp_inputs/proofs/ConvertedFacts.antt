@@ -10,7 +10,7 @@ use Rattle.tp_inputs.specs.declared.span.Span.{Span}
 use Rattle.tp_inputs.specs.declared.head.Head.{Head}
 use Rattle.tp_inputs.specs.declared.head.Head.TheVariants.{Speaks, Silent, Unheard}
 use Rattle.tp_inputs.specs.Canonical.{are_rows, IsCanonical}
-use Rattle.tp_inputs.specs.Spans.{span_has, is_others, Gives}
+use Rattle.tp_inputs.specs.Spans.{span_has, is_others, GivesValue}
 use Rattle.tp_inputs.specs.Heads.{head_of}
 use Rattle.tp_inputs.specs.Parts.{BeginsPair}
 use Rattle.tp_inputs.specs.Lines.{PassesPart, blank, given, ReadsPairs, here, passes, IsLine}
@@ -29,7 +29,7 @@ module _ (InRange : List ℕ → ℕ → Tree → Type 0) (AsDefault : List ℕ 
     pub range : (n : ℕ) → span_has span n ≡ true → InRange port n value
     pub default : is_others span ≡ true → AsDefault port value
 
-  gives_has : (span : Span) (port : List ℕ) (value : Tree) (table more : InputTable) → Gives span port value table more → May span port value → Has table → Has more
+  gives_has : (span : Span) (port : List ℕ) (value : Tree) (table more : InputTable) → GivesValue span port value table more → May span port value → Has table → Has more
   gives_has span port value table more g may has = record {
     canonical = g.canonical;
     ranges = λ n q v e. range n q v (bytes_eq q port) (span_has span n) refl refl (sym (g.ranges n q) ∙ e);

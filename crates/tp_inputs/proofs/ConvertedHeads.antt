@@ -18,8 +18,8 @@ use Rattle.tp_lex.proofs.FeedLemmas.{feed, more_parts}
 use Rattle.tp_inputs.specs.declared.span.Span.{Span}
 use Rattle.tp_inputs.specs.declared.span.Span.TheVariants.{States, Others}
 use Rattle.tp_inputs.specs.declared.head.Head.TheVariants.{Speaks}
-use Rattle.tp_inputs.specs.Heads.{last_state, state_of, between, end_of, cut_range, range_of, is_range_byte, head_at, colon_head, ranged_head}
-use Rattle.tp_inputs.specs.Converted.{range_text, ended}
+use Rattle.tp_inputs.specs.Heads.{last_state, named_state, between, end_of, cut_range, range_of, is_range_byte, range_head, colon_head, ranged_head}
+use Rattle.tp_inputs.specs.Converted.{range_text, with_feed}
 
 -- each byte passes
 abbrev pub AllPass : (ℕ → Bool) → List ℕ → Type 0
@@ -47,12 +47,12 @@ plain_at (b ∷ z) (suc k) h = plain_at z k h.1
 plain_whole : (z : List ℕ) → AllPass is_plain z → strip_carriage_return z ≡ z
 plain_whole z h = ap (λ c. cond c (take (length z - 1) z) z) (plain_at z (length z - 1) h)
 
-pub lines_made : (texts : List (List ℕ)) → AllByRecursion (AllPass is_plain) texts → lines (flat_map ended texts) ≡ texts
+pub lines_made : (texts : List (List ℕ)) → AllByRecursion (AllPass is_plain) texts → lines (flat_map with_feed texts) ≡ texts
 lines_made [] h = refl
 lines_made (line ∷ texts) h =
-    ap lines (append_assoc line (codes "\n") (flat_map ended texts))
-    ∙ ap lines_of_parts (slice_split_at feed line 10 (flat_map ended texts) (plain_apart line h.0) refl)
-    ∙ more_parts line (flat_map ended texts)
+    ap lines (append_assoc line (codes "\n") (flat_map with_feed texts))
+    ∙ ap lines_of_parts (slice_split_at feed line 10 (flat_map with_feed texts) (plain_apart line h.0) refl)
+    ∙ more_parts line (flat_map with_feed texts)
     ∙ ap₂ (λ x xs. x ∷ xs) (plain_whole line h.0) (lines_made texts h.1)
 
 -- ---- states
@@ -69,14 +69,14 @@ some_digits : (ds : List ℕ) → AreDigits ds → nat_lt 0 (length ds) ≡ true
 some_digits [] h = absurd h
 some_digits (d ∷ ds) h = grind (arith, nat_tests)
 
-spelled_state : (ds : List ℕ) (n : ℕ) → AreDigits ds → nat_le (length ds) 8 ≡ true → decimal_value ds ≡ n → state_of ds ≡ Some n
-unfolding state_of
+spelled_state : (ds : List ℕ) (n : ℕ) → AreDigits ds → nat_le (length ds) 8 ≡ true → decimal_value ds ≡ n → named_state ds ≡ Some n
+unfolding named_state
 spelled_state ds n are short value = rw (some_digits ds are, short, digits_all ds (all_digits ds are)) (ap Some value)
 
 pub digits_of_state : (n : ℕ) → n ≤ last_state → AreDigits (decimal n)
 digits_of_state n h = (decimal_written n (omega arith)).0
 
-state_spelled : (n : ℕ) → n ≤ last_state → state_of (decimal n) ≡ Some n
+state_spelled : (n : ℕ) → n ≤ last_state → named_state (decimal n) ≡ Some n
 state_spelled n h =
     let few = length-decimal-le_wide 8 n (omega arith) (omega arith) (omega arith) in
     spelled_state (decimal n) n (digits_of_state n h) (grind (arith, nat_tests)) (decimal_written n (omega arith)).1
@@ -114,10 +114,10 @@ no_star : (ds z : List ℕ) → AreDigits ds → bytes_eq (ds ++ z) (codes "*") 
 no_star [] z h = absurd h
 no_star (d ∷ ds) z h = let is = h.0 in let no : nat_eq d 42 ≡ false = grind (arith, nat_tests, is) in rw no refl
 
-cut_is : (ds z : List ℕ) → cut_range (ds ++ 45 ∷ z) (Some (length ds)) ≡ between (state_of ds) (end_of z)
-cut_is ds z = ap₂ (λ x y. between (state_of x) (end_of y)) (take-append_seam ds (45 ∷ z)) (drop-append-add ds (45 ∷ z) 1)
+cut_is : (ds z : List ℕ) → cut_range (ds ++ 45 ∷ z) (Some (length ds)) ≡ between (named_state ds) (end_of z)
+cut_is ds z = ap₂ (λ x y. between (named_state x) (end_of y)) (take-append_seam ds (45 ∷ z)) (drop-append-add ds (45 ∷ z) 1)
 
-end_is : (ds : List ℕ) → AreDigits ds → end_of ds ≡ state_of ds
+end_is : (ds : List ℕ) → AreDigits ds → end_of ds ≡ named_state ds
 end_is [] h = absurd h
 end_is (d ∷ ds) h = refl
 
@@ -216,7 +216,7 @@ unblank_head : (line : List ℕ) → prefix_len is_value_blank line ≡ 0 → 0 
 unfolding ranged_head
 unblank_head line e h = let some : (0 == length line) ≡ false = grind (arith, nat_tests) in rw (e, some) refl
 
-colon_made : (line after : List ℕ) (n : ℕ) → prefix_len is_range_byte line ≡ n → drop n line ≡ 58 ∷ after → colon_head line 0 ≡ head_at (range_of (take n line)) (0 + n + 0 + 1)
+colon_made : (line after : List ℕ) (n : ℕ) → prefix_len is_range_byte line ≡ n → drop n line ≡ 58 ∷ after → colon_head line 0 ≡ range_head (range_of (take n line)) (0 + n + 0 + 1)
 colon_made line after n e f = rw (e, f) refl
 
 pub head_made : (range rest : List ℕ) (span : Span) → NamesSpan range span → ranged_head (range ++ 58 ∷ rest) ≡ Speaks span (length range + 1)
@@ -227,4 +227,4 @@ head_made range rest span is =
     let sum : 0 + length range + 0 + 1 ≡ length range + 1 = omega arith in
     unblank_head line (begins_unblank range (58 ∷ rest) is.some is.first) (omega arith)
     ∙ colon_made line rest (length range) (prefix_made is_range_byte range 58 rest is.bytes refl) (drop-append_seam range (58 ∷ rest))
-    ∙ ap₂ head_at (ap range_of (take-append_seam range (58 ∷ rest)) ∙ is.is) sum
+    ∙ ap₂ range_head (ap range_of (take-append_seam range (58 ∷ rest)) ∙ is.is) sum

@@ -20,7 +20,7 @@ use Rattle.tp_meaning.specs.Inputs.{InputTable}
 use Rattle.tp_inputs.specs.declared.span.Span.{Span}
 use Rattle.tp_inputs.specs.declared.head.Head.{Head}
 use Rattle.tp_inputs.specs.Heads.{ranged_head}
-use Rattle.tp_inputs.specs.Spans.{is_given, Gives}
+use Rattle.tp_inputs.specs.Spans.{is_given, GivesValue}
 use Rattle.tp_inputs.specs.Parts.{BeginsPort, is_set_apart, BeginsPair, pair}
 use Rattle.tp_inputs.specs.Lines.{blank, given, ReadsPairs, here, passes, IsLine}
 use Rattle.tp_inputs.specs.Converted.{valued_text}
@@ -108,11 +108,11 @@ module _ (port : List ℕ) (v : Tree) (named : IsPortName port) (within : IsWith
       (subst (λ (q : List ℕ). BeginsPair span table text q v (length port + 1 + length (text_of v))) back
       (pair (port_begins port (text_of v) named) (ap (is_given table span) back ∙ new) value_read apart))
 
-  pairs_read : (span : Span) (table more : InputTable) → is_given table span port ≡ false → Gives span port v table more → ReadsPairs span (32 ∷ text) table [] more
+  pairs_read : (span : Span) (table more : InputTable) → is_given table span port ≡ false → GivesValue span port v table more → ReadsPairs span (32 ∷ text) table [] more
   pairs_read span table more new g =
       passes (blank refl) (passes {n = length text} (given (pair_begins span table new) g) (subst (λ (z : List ℕ). ReadsPairs span z more [] more) (sym (drop-length text)) here))
 
-  pub line_made : (range : List ℕ) (span : Span) (table more : InputTable) → NamesSpan range span → is_given table span port ≡ false → Gives span port v table more
+  pub line_made : (range : List ℕ) (span : Span) (table more : InputTable) → NamesSpan range span → is_given table span port ≡ false → GivesValue span port v table more
       → IsLine (ranged_head (range ++ valued_text port v)) (range ++ valued_text port v) table more
   unfolding text
   line_made range span table more is new g =

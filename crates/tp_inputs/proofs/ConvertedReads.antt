@@ -12,7 +12,7 @@ use Rattle.tp_inputs.specs.declared.span.Span.TheVariants.{States, Others}
 use Rattle.tp_inputs.specs.declared.head.Head.{Head}
 use Rattle.tp_inputs.specs.declared.head.Head.TheVariants.{Speaks, Silent, Unheard}
 use Rattle.tp_inputs.specs.Canonical.{are_rows, are_ports, IsCanonical}
-use Rattle.tp_inputs.specs.Heads.{last_state, is_second, head_of, ranged_head}
+use Rattle.tp_inputs.specs.Heads.{last_state, has_ranges, head_of, ranged_head}
 use Rattle.tp_inputs.specs.Parts.{BeginsPair, pair}
 use Rattle.tp_inputs.specs.Lines.{IsLine}
 use Rattle.tp_inputs.specs.Table.{AreLines, IsInputsText}
@@ -202,11 +202,11 @@ lines_plain table is may ends =
 
 table_is : (table : InputTable) → IsCanonical table → TableMay table → EndsWithin table → IsInputsText (converted table) table
 table_is table is may ends =
-    subst (λ (texts : List (List ℕ)). AreLines (is_second texts) 0 texts [] table) (sym (lines_made (converted_lines table) (lines_plain table is may ends)))
+    subst (λ (texts : List (List ℕ)). AreLines (has_ranges texts) 0 texts [] table) (sym (lines_made (converted_lines table) (lines_plain table is may ends)))
     ([], refl, are_later 0 (flat_map row_lines table ++ flat_map default_lines table) [] table (table_read table is may ends))
 
 pub converted_is_table : ConvertedIsTheTable
 converted_is_table bytes table are ends =
     let none : Has InState MayBe [] = record { canonical = none_canonical; ranges = λ n q v e. absurd cc; defaults = λ q v e. absurd cc } in
-    let has = lines_have InState MayBe (λ (span : Span). Unit {0}) pair_may (is_second (lines bytes)) (length (lines bytes)) (λ k line low. any_head (head_of (is_second (lines bytes)) k line)) 0 (lines bytes) [] table (omega arith) are none in
+    let has = lines_have InState MayBe (λ (span : Span). Unit {0}) pair_may (has_ranges (lines bytes)) (length (lines bytes)) (λ k line low. any_head (head_of (has_ranges (lines bytes)) k line)) 0 (lines bytes) [] table (omega arith) are none in
     table_is table has.canonical (ports_have InState MayBe table has) ends

@@ -12,7 +12,7 @@ use Rattle.tp_meaning.specs.Inputs.{InputRow, InputPort, InputTable, has_state, 
 use Rattle.tp_inputs.specs.declared.span.Span.{Span}
 use Rattle.tp_inputs.specs.declared.span.Span.TheVariants.{States, Others}
 use Rattle.tp_inputs.specs.Canonical.{are_rows, is_told, are_ports, IsCanonical}
-use Rattle.tp_inputs.specs.Spans.{span_has, is_others, rows_meet, port_meets, is_given, Gives}
+use Rattle.tp_inputs.specs.Spans.{span_has, is_others, rows_meet, port_meets, is_given, GivesValue}
 use Rattle.tp_inputs.proofs.CanonicalLemmas.{has_yes, rows_parts, rows_from, rows_behind, ports_parts, ports_from, names, cmp, same_name, name_is, below_apart, port_here, port_past, no_port, range_at, default_at, input_port}
 
 -- ---- the ports of which something is said
@@ -204,7 +204,7 @@ module _ (pre post : InputTable) (k : List ℕ) (rows : HaveRows pre) (others : 
         (let is = name_is k in rw is (defaults_at ss e later ∙ defaults ∙ ap (cond (is_others span) (Some v)) (sym (defaults_at rs d ordered))))
     defaults_given q (inr f) = rw f (ap (option_and_then (λ p. p.default)) (found_elsewhere pre (input_port k ss e) (input_port k rs d) post q f f))
 
-    port_given : Gives span k v (with_port rs d) (with_port ss e)
+    port_given : GivesValue span k v (with_port rs d) (with_port ss e)
     port_given = record {
       canonical = told_canonical (pre ++ input_port k ss e ∷ post) later (rows_middle pre (input_port k ss e) post rows apart others);
       ranges = λ n q. ranges_given n q (cases_Bool (bytes_eq q k));
@@ -214,13 +214,13 @@ module _ (pre post : InputTable) (k : List ℕ) (rows : HaveRows pre) (others : 
   port_new : (rs : List InputRow) (d : Option Tree) (span : Span) → Ordered rs d → port_meets (Some (input_port k rs d)) span ≡ false → is_given (with_port rs d) span k ≡ false
   port_new rs d span h e = ap (λ o. port_meets o span) (found_there pre (input_port k rs d) post h) ∙ meets_there k rs d span e
 
-  pub row_given : (rs : List InputRow) (r : InputRow) → Ordered rs None → are_rows (rs ++ r ∷ []) ≡ true → Gives (States r.first r.last) k r.value (with_port rs None) (with_port (rs ++ r ∷ []) None)
+  pub row_given : (rs : List InputRow) (r : InputRow) → Ordered rs None → are_rows (rs ++ r ∷ []) ≡ true → GivesValue (States r.first r.last) k r.value (with_port rs None) (with_port (rs ++ r ∷ []) None)
   row_given rs r h e = port_given rs (rs ++ r ∷ []) None None h e (States r.first r.last) r.value (λ n. row_more rs r n e) refl
 
   pub row_is_new : (rs : List InputRow) (r : InputRow) → Ordered rs None → are_rows (rs ++ r ∷ []) ≡ true → r.first ≤ r.last → is_given (with_port rs None) (States r.first r.last) k ≡ false
   row_is_new rs r h e o = port_new rs None (States r.first r.last) h (row_new rs r e o)
 
-  pub default_given : (rs : List InputRow) (v : Tree) → Ordered rs None → are_rows rs ≡ true → Gives Others k v (with_port rs None) (with_port rs (Some v))
+  pub default_given : (rs : List InputRow) (v : Tree) → Ordered rs None → are_rows rs ≡ true → GivesValue Others k v (with_port rs None) (with_port rs (Some v))
   default_given rs v h e = port_given rs rs None (Some v) h e Others v (λ n. refl) refl
 
   pub default_is_new : (rs : List InputRow) → Ordered rs None → is_given (with_port rs None) Others k ≡ false

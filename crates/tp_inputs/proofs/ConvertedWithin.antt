@@ -9,7 +9,7 @@ use Rattle.tp_meaning.specs.Inputs.{InputRow, InputTable}
 use Rattle.tp_inputs.specs.declared.span.Span.{Span}
 use Rattle.tp_inputs.specs.declared.span.Span.TheVariants.{States, Others}
 use Rattle.tp_inputs.specs.Canonical.{IsCanonical}
-use Rattle.tp_inputs.specs.Heads.{last_state, is_second}
+use Rattle.tp_inputs.specs.Heads.{last_state, has_ranges}
 use Rattle.tp_inputs.specs.Parts.{BeginsPair}
 use Rattle.tp_inputs.specs.Converted.{EndsWithin}
 use Rattle.tp_inputs.specs.Laws.{TablesEndWithin}
@@ -42,5 +42,5 @@ pub tables_end_within : TablesEndWithin
 tables_end_within bytes table short is =
     let none : Has InTime AnyDefault [] = record { canonical = none_canonical; ranges = λ n q v e. absurd cc; defaults = λ q v e. absurd cc } in
     let few = few_lines bytes in
-    let has = lines_have InTime AnyDefault EndsInTime in_time (is_second (lines bytes)) (last_state + 1) (λ k line low. head_ends (is_second (lines bytes)) k line (omega (arith, low))) 0 (lines bytes) [] table (omega (arith, few, short)) is none in
+    let has = lines_have InTime AnyDefault EndsInTime in_time (has_ranges (lines bytes)) (last_state + 1) (λ k line low. head_ends (has_ranges (lines bytes)) k line (omega (arith, low))) 0 (lines bytes) [] table (omega (arith, few, short)) is none in
     ports_end table (ports_have InTime AnyDefault table has)

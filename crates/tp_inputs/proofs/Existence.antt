@@ -1,12 +1,12 @@
 -- What a line says can be added to each table: there is a table in its one form that says it besides.
-use Rattle.std.proofs.Common.{refl, ap, sym, subst, ◌∙◌, ◌≡◌, ◌≢◌, ℕ, suc, ◌+◌, ◌<◌, ◌≤◌, ◌==◌, inl, inr, ◌⊎◌, Bool, true, false, not, ◌&&◌, ◌||◌, nat_le, nat_lt, cond, List, [], ◌∷◌, length, map, Option, Some, None, is_some, Ordering, Less, Equal, Greater, arith}
+use Rattle.std.proofs.Common.{refl, ap, sym, subst, ◌∙◌, ◌≡◌, ℕ, ◌+◌, ◌<◌, ◌≤◌, ◌==◌, inl, inr, ◌⊎◌, Bool, true, false, ◌&&◌, ◌||◌, nat_le, nat_lt, List, [], ◌∷◌, length, Option, Some, None, Ordering, Less, Equal, Greater, arith}
 use Rattle.std.specs.Prelude.{if◌then◌else◌}
 use Rattle.std.specs.List.{AllByRecursion}
 use Rattle.std.specs.List.Sorted.{IsStrictlySortedBy}
 use Rattle.std.specs.Ordering.{ordering_reverse}
 use Rattle.std.specs.Str.{bytes_eq}
 use Rattle.std.specs.Option.{option_and_then}
-use Rattle.std.proofs.lemmas.Bool.{cases_Bool, cases_lt, and_parts, and_from, and_left, and_right, both_ways, le-leb, lt-leb, lt-ltb, eq-eqb, eqb-true}
+use Rattle.std.proofs.lemmas.Bool.{cases_Bool, cases_lt, and_from, and_left, and_right, both_ways, le-leb, lt-leb, lt-ltb, eq-eqb, eqb-true}
 use Rattle.std.proofs.lemmas.Option.{same_Some}
 use Rattle.std.proofs.lemmas.Cmp.{nat_list_cmp_total}
 use Rattle.std.proofs.lemmas.Map.Lookups.{exact_bytes}
@@ -15,11 +15,11 @@ use Rattle.tp_value.proofs.Trees.{same_tree_is_equality}
 use Rattle.tp_meaning.specs.Inputs.{InputRow, InputPort, InputTable, has_state, row_value, port_of, range_value, default_value}
 use Rattle.tp_inputs.specs.declared.span.Span.{Span}
 use Rattle.tp_inputs.specs.declared.span.Span.TheVariants.{States, Others}
-use Rattle.tp_inputs.specs.Canonical.{is_ahead, are_rows, is_told, are_ports, IsCanonical}
-use Rattle.tp_inputs.specs.Spans.{span_has, is_others, rows_meet, port_meets, is_given, Gives}
+use Rattle.tp_inputs.specs.Canonical.{are_rows, is_told, IsCanonical}
+use Rattle.tp_inputs.specs.Spans.{span_has, is_others, rows_meet, port_meets, is_given, GivesValue}
 use Rattle.tp_inputs.specs.Moves.{GivesRows, GivesPort}
 use Rattle.tp_inputs.proofs.HeadLemmas.{IsOrdered}
-use Rattle.tp_inputs.proofs.CanonicalLemmas.{has_yes, has_before, has_behind, row_at, row_past, rows_parts, rows_from, none_before, Behind, behind_ahead, rows_behind, first_has, row, ports_parts, ports_from, names, cmp, same_name, name_is, later, port_here, port_past, all_later, below_apart, range_at, default_at, rest_canonical, input_port}
+use Rattle.tp_inputs.proofs.CanonicalLemmas.{has_yes, has_before, has_behind, row_at, row_past, rows_parts, rows_from, none_before, Behind, behind_ahead, rows_behind, first_has, row, ports_parts, ports_from, names, cmp, same_name, later, port_here, port_past, all_later, below_apart, range_at, default_at, rest_canonical, input_port}
 
 -- ---- rows
 
@@ -55,16 +55,16 @@ is_below a b n h = and_left (nat_le a n) (nat_le n b) (lt-leb a n h)
 is_above : (a b n : ℕ) → b < n → inside a b n ≡ false
 is_above a b n h = and_right (nat_le a n) (nat_le n b) (lt-leb n b h)
 
-abbrev Added : ℕ → ℕ → Tree → List InputRow → ℕ → Option Tree
-Added a b v rs n = if inside a b n then Some v else row_value rs n
+abbrev added_value : ℕ → ℕ → Tree → List InputRow → ℕ → Option Tree
+added_value a b v rs n = if inside a b n then Some v else row_value rs n
 
-added_inside : (a b : ℕ) (v : Tree) (rs : List InputRow) (n : ℕ) → a ≤ n → n ≤ b → Added a b v rs n ≡ Some v
+added_inside : (a b : ℕ) (v : Tree) (rs : List InputRow) (n : ℕ) → a ≤ n → n ≤ b → added_value a b v rs n ≡ Some v
 added_inside a b v rs n low high = let h = is_inside a b n low high in rw h refl
 
-added_below : (a b : ℕ) (v : Tree) (rs : List InputRow) (n : ℕ) → n < a → Added a b v rs n ≡ row_value rs n
+added_below : (a b : ℕ) (v : Tree) (rs : List InputRow) (n : ℕ) → n < a → added_value a b v rs n ≡ row_value rs n
 added_below a b v rs n k = let h = is_below a b n k in rw h refl
 
-added_above : (a b : ℕ) (v : Tree) (rs : List InputRow) (n : ℕ) → b < n → Added a b v rs n ≡ row_value rs n
+added_above : (a b : ℕ) (v : Tree) (rs : List InputRow) (n : ℕ) → b < n → added_value a b v rs n ≡ row_value rs n
 added_above a b v rs n k = let h = is_above a b n k in rw h refl
 
 -- where a state is: before the range, in it, or behind it
@@ -95,7 +95,7 @@ join_front a b r rs order e next = record {
   has = λ n. at n (place a b n) (place r.first r.last n);
 }
   where
-    at : (n : ℕ) → Place a b n → Place r.first r.last n → row_value (row a r.last r.value ∷ rs) n ≡ Added a b r.value (r ∷ rs) n
+    at : (n : ℕ) → Place a b n → Place r.first r.last n → row_value (row a r.last r.value ∷ rs) n ≡ added_value a b r.value (r ∷ rs) n
     at n (before h) p = row_past (row a r.last r.value) rs n (has_before (row a r.last r.value) n h) ∙ sym (added_below a b r.value (r ∷ rs) n h ∙ row_past r rs n (has_before r n (omega arith)))
     at n (within h k) p = row_at (row a r.last r.value) rs n (has_yes (row a r.last r.value) n h (omega (arith, (rows_parts r rs e).ordered))) ∙ sym (added_inside a b r.value (r ∷ rs) n h k)
     at n (behind h k) (before p) = absurd (omega arith)
@@ -118,7 +118,7 @@ keep_first a b v r rs more order e low apart below = record {
     other x (within h k) = apart (omega arith) (same_Some _ _ (sym x ∙ below.has (r.last + 1) ∙ added_inside a b v rs (r.last + 1) h k))
     other x (behind h k) = absurd (omega arith)
 
-    at : (n : ℕ) → Place a b n → (has_state r n ≡ true) ⊎ (has_state r n ≡ false) → row_value (r ∷ more) n ≡ Added a b v (r ∷ rs) n
+    at : (n : ℕ) → Place a b n → (has_state r n ≡ true) ⊎ (has_state r n ≡ false) → row_value (r ∷ more) n ≡ added_value a b v (r ∷ rs) n
     at n (within h k) p =
         row_past r more n (has_behind r n (omega arith))
         ∙ below.has n
@@ -136,7 +136,7 @@ extend_first a b r rs more order e next below = record { apart = below.apart; ha
     ordered : r.first ≤ r.last
     ordered = (rows_parts r rs e).ordered
 
-    at : (n : ℕ) → Place a b n → Place r.first r.last n → Added r.first b r.value rs n ≡ Added a b r.value (r ∷ rs) n
+    at : (n : ℕ) → Place a b n → Place r.first r.last n → added_value r.first b r.value rs n ≡ added_value a b r.value (r ∷ rs) n
     at n (before h) (before p) = added_below r.first b r.value rs n p ∙ sym (added_below a b r.value (r ∷ rs) n h ∙ row_past r rs n (has_before r n p))
     at n (before h) (within p q) = added_inside r.first b r.value rs n p (omega arith) ∙ sym (added_below a b r.value (r ∷ rs) n h ∙ row_at r rs n (has_yes r n p q))
     at n (before h) (behind p q) = absurd (omega arith)
@@ -251,43 +251,53 @@ record HasPort (q : InputPort) (t u : InputTable) : Type 0 where
   others : (k : List ℕ) → bytes_eq k q.port ≡ false → port_of u k ≡ port_of t k
 
 put_port : (q : InputPort) (t : InputTable) → are_rows q.rows ≡ true → is_told q ≡ true → IsCanonical t → (u : InputTable) × HasPort q t u
-put_port q [] e told is = (q ∷ [], record {
-  canonical = record { ordered = sorted_cons q.port [] tt is.ordered; ports = ports_from q [] e told refl };
-  within = λ k less all. (less, tt);
-  here = port_here q [] q.port refl;
-  others = λ k h. rw h refl;
-})
+put_port q [] e told is = (
+  q ∷ [],
+  record {
+    canonical = record { ordered = sorted_cons q.port [] tt is.ordered; ports = ports_from q [] e told refl };
+    within = λ k less all. (less, tt);
+    here = port_here q [] q.port refl;
+    others = λ k h. rw h refl;
+  },
+)
 put_port q (p ∷ ps) e told is = by (cmp q.port p.port) refl (put_port q ps e told (rest_canonical p ps is))
   where
     by : (o : Ordering) → cmp q.port p.port ≡ o → ((u : InputTable) × HasPort q ps u) → (u : InputTable) × HasPort q (p ∷ ps) u
-    by Less o below = (q ∷ p ∷ ps, record {
-      canonical = record { ordered = sorted_cons q.port (names (p ∷ ps)) (o, all_later q.port p.port (names ps) o (later p ps is)) is.ordered; ports = ports_from q (p ∷ ps) e told is.ports };
-      within = λ k less all. (less, all);
-      here = port_here q (p ∷ ps) q.port refl;
-      others = λ k h. rw h refl;
-    })
+    by Less o below = (
+      q ∷ p ∷ ps,
+      record {
+        canonical = record { ordered = sorted_cons q.port (names (p ∷ ps)) (o, all_later q.port p.port (names ps) o (later p ps is)) is.ordered; ports = ports_from q (p ∷ ps) e told is.ports };
+        within = λ k less all. (less, all);
+        here = port_here q (p ∷ ps) q.port refl;
+        others = λ k h. rw h refl;
+      },
+    )
     by Equal o below =
-        let same : q.port ≡ p.port = exact_bytes q.port p.port o in
-        (q ∷ ps, record {
-          canonical = record {
-            ordered = sorted_cons q.port (names ps) (subst (λ z. AllByRecursion (λ m. cmp z m ≡ Less) (names ps)) (sym same) (later p ps is)) (rest_canonical p ps is).ordered;
-            ports = ports_from q ps e told (ports_parts p ps is.ports).others;
-          };
-          within = λ k less all. (less, all.1);
-          here = port_here q ps q.port refl;
-          others = λ k h. let g : bytes_eq k p.port ≡ false = subst (λ z. bytes_eq k z ≡ false) same h in rw (h, g) refl;
-        })
+        let same : q.port ≡ p.port = exact_bytes q.port p.port o in (
+          q ∷ ps,
+          record {
+            canonical = record {
+              ordered = sorted_cons q.port (names ps) (subst (λ z. AllByRecursion (λ m. cmp z m ≡ Less) (names ps)) (sym same) (later p ps is)) (rest_canonical p ps is).ordered;
+              ports = ports_from q ps e told (ports_parts p ps is.ports).others;
+            };
+            within = λ k less all. (less, all.1);
+            here = port_here q ps q.port refl;
+            others = λ k h. let g : bytes_eq k p.port ≡ false = subst (λ z. bytes_eq k z ≡ false) same h in rw (h, g) refl;
+          },
+        )
     by Greater o below =
-        let less : cmp p.port q.port ≡ Less = nat_list_cmp_total.antisymm p.port q.port ∙ ap ordering_reverse o in
-        (p ∷ below.0, record {
-          canonical = record {
-            ordered = sorted_cons p.port (names below.0) (below.1.within p.port less (later p ps is)) below.1.canonical.ordered;
-            ports = ports_from p below.0 (ports_parts p ps is.ports).rows (ports_parts p ps is.ports).told below.1.canonical.ports;
-          };
-          within = λ k first all. (all.0, below.1.within k first all.1);
-          here = port_past p below.0 q.port (λ x. below_apart p.port q.port less (sym x)) ∙ below.1.here;
-          others = λ k h. past k (below.1.others k h) (cases_Bool (bytes_eq k p.port));
-        })
+        let less : cmp p.port q.port ≡ Less = nat_list_cmp_total.antisymm p.port q.port ∙ ap ordering_reverse o in (
+          p ∷ below.0,
+          record {
+            canonical = record {
+              ordered = sorted_cons p.port (names below.0) (below.1.within p.port less (later p ps is)) below.1.canonical.ordered;
+              ports = ports_from p below.0 (ports_parts p ps is.ports).rows (ports_parts p ps is.ports).told below.1.canonical.ports;
+            };
+            within = λ k first all. (all.0, below.1.within k first all.1);
+            here = port_past p below.0 q.port (λ x. below_apart p.port q.port less (sym x)) ∙ below.1.here;
+            others = λ k h. past k (below.1.others k h) (cases_Bool (bytes_eq k p.port));
+          },
+        )
       where
         past : (k : List ℕ) → port_of below.0 k ≡ port_of ps k → (bytes_eq k p.port ≡ true) ⊎ (bytes_eq k p.port ≡ false) → port_of (p ∷ below.0) k ≡ port_of (p ∷ ps) k
         past k same (inl h) = rw h refl
@@ -323,7 +333,7 @@ old_default : (k : List ℕ) (o : Option InputPort) → (port_or k o).default �
 old_default k None = refl
 old_default k (Some p) = refl
 
-table_gives : (span : Span) (k : List ℕ) (v : Tree) (t u : InputTable) (q : InputPort) → q.port ≡ k → GivesPort span v (port_or k (port_of t k)) q → HasPort q t u → Gives span k v t u
+table_gives : (span : Span) (k : List ℕ) (v : Tree) (t u : InputTable) (q : InputPort) → q.port ≡ k → GivesPort span v (port_or k (port_of t k)) q → HasPort q t u → GivesValue span k v t u
 table_gives span k v t u q name is has = record { canonical = has.canonical; ranges = λ n m. range n m (cases_Bool (bytes_eq m k)); defaults = λ m. default m (cases_Bool (bytes_eq m k)) }
   where
     found : (m : List ℕ) → bytes_eq m k ≡ true → port_of u m ≡ Some q
@@ -345,7 +355,7 @@ table_gives span k v t u q name is has = record { canonical = has.canonical; ran
     default m (inr h) = default_at u m (port_of t m) (kept m h) ∙ rw h refl
 
 -- what isn't said so far can be added
-pub some_given : (span : Span) (port : List ℕ) (value : Tree) (table : InputTable) → IsOrdered span → IsCanonical table → is_given table span port ≡ false → (more : InputTable) × Gives span port value table more
+pub some_given : (span : Span) (port : List ℕ) (value : Tree) (table : InputTable) → IsOrdered span → IsCanonical table → is_given table span port ≡ false → (more : InputTable) × GivesValue span port value table more
 some_given span port value table order is new =
     let old = port_or port (port_of table port) in
     let added = add_port span value old order (found_rows table port is) (meets_none port (port_of table port) span new) in

@@ -8,7 +8,7 @@ use Rattle.tp_inputs.specs.declared.span.Span.{Span}
 use Rattle.tp_inputs.specs.declared.span.Span.TheVariants.{States, Others}
 use Rattle.tp_inputs.specs.declared.head.Head.{Head}
 use Rattle.tp_inputs.specs.declared.head.Head.TheVariants.{Speaks, Silent, Unheard}
-use Rattle.tp_inputs.specs.Heads.{state_of, between, end_of, cut_range, range_of, is_range_byte, head_at, colon_head, ranged_head, head_of}
+use Rattle.tp_inputs.specs.Heads.{named_state, between, end_of, cut_range, range_of, is_range_byte, range_head, colon_head, ranged_head, head_of}
 
 -- a first state that isn't past the last
 abbrev pub IsOrdered : Span → Type 0
@@ -34,8 +34,8 @@ between_ordered (Some a) (Some b) = at (nat_le a b) refl
     at false e = tt
 
 cut_ordered : (z : List ℕ) (o : Option ℕ) → SpanIsOrdered (cut_range z o)
-cut_ordered z None = between_ordered (state_of z) (state_of z)
-cut_ordered z (Some i) = between_ordered (state_of (take i z)) (end_of (drop (i + 1) z))
+cut_ordered z None = between_ordered (named_state z) (named_state z)
+cut_ordered z (Some i) = between_ordered (named_state (take i z)) (end_of (drop (i + 1) z))
 
 range_ordered : (z : List ℕ) → SpanIsOrdered (range_of z)
 unfolding range_of
@@ -45,7 +45,7 @@ range_ordered z = at (bytes_eq z (codes "*"))
     at true = tt
     at false = cut_ordered z (position (λ b. b == 45) z)
 
-at_ordered : (o : Option Span) (n : ℕ) → SpanIsOrdered o → HeadIsOrdered (head_at o n)
+at_ordered : (o : Option Span) (n : ℕ) → SpanIsOrdered o → HeadIsOrdered (range_head o n)
 at_ordered None n is = tt
 at_ordered (Some span) n is = is
 
@@ -63,7 +63,7 @@ colon_ordered line blanks =
     let n = prefix_len is_range_byte rest in
     let after = drop n rest in
     let more = prefix_len is_value_blank after in
-    test_ordered (slice_index after more == 58) (head_at (range_of (take n rest)) (blanks + n + more + 1)) (at_ordered (range_of (take n rest)) (blanks + n + more + 1) (range_ordered (take n rest)))
+    test_ordered (slice_index after more == 58) (range_head (range_of (take n rest)) (blanks + n + more + 1)) (at_ordered (range_of (take n rest)) (blanks + n + more + 1) (range_ordered (take n rest)))
 
 ranged_ordered : (line : List ℕ) → HeadIsOrdered (ranged_head line)
 unfolding ranged_head

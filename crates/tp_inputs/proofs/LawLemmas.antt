@@ -8,11 +8,11 @@ use Rattle.tp_inputs.specs.declared.span.Span.{Span}
 use Rattle.tp_inputs.specs.declared.head.Head.{Head}
 use Rattle.tp_inputs.specs.declared.head.Head.TheVariants.{Speaks, Silent, Unheard}
 use Rattle.tp_inputs.specs.Canonical.{IsCanonical}
-use Rattle.tp_inputs.specs.Spans.{Gives}
-use Rattle.tp_inputs.specs.Heads.{is_second, head_of}
+use Rattle.tp_inputs.specs.Spans.{GivesValue}
+use Rattle.tp_inputs.specs.Heads.{has_ranges, head_of}
 use Rattle.tp_inputs.specs.FirstPart.{LinePart, Blank, Given, Faulty, BeginsPart, first_part}
 use Rattle.tp_inputs.specs.Lines.{PassesPart, blank, given, ReadsPairs, here, passes, IsLine}
-use Rattle.tp_inputs.specs.Faults.{BeginsFault, StopsAt, HasFault}
+use Rattle.tp_inputs.specs.Faults.{BeginsFault, HasFault}
 use Rattle.tp_inputs.specs.Table.{AreLines, IsFirstFault}
 use Rattle.tp_inputs.specs.Laws.{EachTextIsJudged, OneTable, OneFirstFault, NoFaultyTable, RefusedValuesHaveTheirCause}
 use Rattle.tp_value.proofs.ReadLemmas.{never_memory, refused_right}
@@ -52,7 +52,7 @@ module _ (span : Span) where
       let same : Given p t n ≡ Given q u m = one_part table z (Given p t n) (Given q u m) is js in
       let ports : p ≡ q = cc in
       let values : t ≡ u = cc in
-      (one_given span p t table a b g (subst (λ (k : List ℕ). Gives span k t table b) (sym ports) (subst (λ (v : Tree). Gives span q v table b) (sym values) h)), cc)
+      (one_given span p t table a b g (subst (λ (k : List ℕ). GivesValue span k t table b) (sym ports) (subst (λ (v : Tree). GivesValue span q v table b) (sym values) h)), cc)
 
   no_faulty_pass : (z : List ℕ) (table more : InputTable) (n : ℕ) (f : Fault) → PassesPart span z table more n → BeginsFault span table z f → ⊥
   no_faulty_pass z table _ _ f (blank is) js = let same : Blank ≡ Faulty f = one_part table z Blank (Faulty f) is js in cc
@@ -200,7 +200,7 @@ module _ (second : Bool) where
   texts_judged k [] table c = inl (table, refl)
   texts_judged k (line ∷ texts) table c =
       judged_on k line texts table (judged (head_of second k line) line table (head_ordered second k line) c)
-        (λ more is. texts_judged (k + 1) texts more (line_canonical (head_of second k line) line table more is c))
+      (λ more is. texts_judged (k + 1) texts more (line_canonical (head_of second k line) line table more is c))
 
   one_table_of : (k : ℕ) (texts : List (List ℕ)) (table t u : InputTable) → AreLines second k texts table t → AreLines second k texts table u → t ≡ u
   one_table_of k [] table t u a b = a ∙ sym b
@@ -240,7 +240,7 @@ module _ (second : Bool) where
 
 -- ---- the laws
 
-first_fault : (texts : List (List ℕ)) (number : ℕ) (f : Fault) → FaultFrom (is_second texts) 0 texts [] number f → IsFirstFault texts (number + 1) f
+first_fault : (texts : List (List ℕ)) (number : ℕ) (f : Fault) → FaultFrom (has_ranges texts) 0 texts [] number f → IsFirstFault texts (number + 1) f
 first_fault texts number f at =
     let here : number ≡ length at.before = let e = at.place in omega arith in
     record {
@@ -251,22 +251,22 @@ first_fault texts number f at =
       numbered = omega arith;
       table = at.table;
       good = at.good;
-      faulty = moved (is_second texts) number (length at.before) at.line at.table at.table f here refl at.faulty;
+      faulty = moved (has_ranges texts) number (length at.before) at.line at.table at.table f here refl at.faulty;
     }
 
 pub each_text : EachTextIsJudged
-each_text bytes = at (texts_judged (is_second (lines bytes)) 0 (lines bytes) [] none_canonical)
+each_text bytes = at (texts_judged (has_ranges (lines bytes)) 0 (lines bytes) [] none_canonical)
   where
-    at : TextsJudged (is_second (lines bytes)) 0 (lines bytes) [] → ((table : InputTable) × AreLines (is_second (lines bytes)) 0 (lines bytes) [] table) ⊎ ((line : ℕ) × (fault : Fault) × IsFirstFault (lines bytes) line fault)
+    at : TextsJudged (has_ranges (lines bytes)) 0 (lines bytes) [] → ((table : InputTable) × AreLines (has_ranges (lines bytes)) 0 (lines bytes) [] table) ⊎ ((line : ℕ) × (fault : Fault) × IsFirstFault (lines bytes) line fault)
     at (inl is) = inl is
     at (inr (number, f, found)) = inr (number + 1, f, first_fault (lines bytes) number f found)
 
 pub one_table : OneTable
-one_table bytes t u a b = one_table_of (is_second (lines bytes)) 0 (lines bytes) [] t u a b
+one_table bytes t u a b = one_table_of (has_ranges (lines bytes)) 0 (lines bytes) [] t u a b
 
 pub one_first_fault : OneFirstFault
 one_first_fault bytes m n e f a b =
-    let below = one_place (is_second (lines bytes)) 0 (length a.before) (length b.before) a.before b.before a.line b.line a.after b.after [] a.table b.table e f (sym a.split ∙ b.split) (omega arith) (omega arith) a.good b.good a.faulty b.faulty in
+    let below = one_place (has_ranges (lines bytes)) 0 (length a.before) (length b.before) a.before b.before a.line b.line a.after b.after [] a.table b.table e f (sym a.split ∙ b.split) (omega arith) (omega arith) a.good b.good a.faulty b.faulty in
     let long = below.0 in
     let one = a.numbered in
     let two = b.numbered in
@@ -274,7 +274,7 @@ one_first_fault bytes m n e f a b =
 
 pub no_faulty_table : NoFaultyTable
 no_faulty_table bytes t n f are at =
-    no_fault_within (is_second (lines bytes)) 0 (length at.before) at.before at.line at.after [] t at.table f (omega arith) (subst (λ (z : List (List ℕ)). AreLines (is_second (lines bytes)) 0 z [] t) at.split are) at.good at.faulty
+    no_fault_within (has_ranges (lines bytes)) 0 (length at.before) at.before at.line at.after [] t at.table f (omega arith) (subst (λ (z : List (List ℕ)). AreLines (has_ranges (lines bytes)) 0 z [] t) at.split are) at.good at.faulty
 
 pub values_refused : RefusedValuesHaveTheirCause
 values_refused bytes from e h told = (never_memory bytes from e h told, refused_right bytes from e h told)

@@ -1,4 +1,5 @@
 pub mod CanonicalLemmas
+pub mod ConvertLemmas
 pub mod ConvertedEnds
 pub mod ConvertedFacts
 pub mod ConvertedHeads
@@ -6,11 +7,16 @@ pub mod ConvertedLine
 pub mod ConvertedReads
 pub mod ConvertedTables
 pub mod ConvertedWithin
-pub mod ConvertLemmas
+pub mod EntryLemmas
 pub mod Existence
 pub mod HeadLemmas
+pub mod LastEntry
 pub mod LawLemmas
 pub mod LineLemmas
 pub mod PartLemmas
+pub mod PortLemmas
+pub mod RowLemmas
+pub mod RowMoves
+pub mod StateLemmas
 pub mod TableLemmas
 pub mod WithinLemmas

@@ -1,12 +1,13 @@
 -- One more part of a line.
-use Rattle.std.proofs.Common.{sym, subst, ◌≡◌, ◌≢◌, ℕ, ◌<◌, ◌≤◌, List, [], ◌∷◌, length, drop, false, arith}
+use Rattle.std.proofs.Common.{sym, subst, ◌≡◌, ◌≢◌, ℕ, ◌<◌, ◌≤◌, List, [], length, drop, true, false, arith}
 use Rattle.tp_value.specs.Tree.{Tree}
 use Rattle.tp_meaning.specs.Inputs.{InputTable}
 use Rattle.tp_inputs.specs.declared.refusal.LineRefusal.{LineRefusal}
 use Rattle.tp_inputs.specs.declared.refusal.LineRefusal.TheVariants as l
 use Rattle.tp_inputs.specs.declared.span.Span.{Span}
+use Rattle.tp_inputs.specs.Canonical.{are_ports}
 use Rattle.tp_inputs.specs.Spans.{is_given}
-use Rattle.tp_inputs.specs.Parts.{BeginsPair, pair}
+use Rattle.tp_inputs.specs.Parts.{pair}
 use Rattle.tp_inputs.specs.FirstPart.{LinePart, Blank, Given, BeginsPart, first_part}
 use Rattle.tp_inputs.specs.Lines.{PassesPart, blank, given, ReadsPairs, here, passes}
 use Rattle.tp_inputs.specs.Read.{IsPartRefusal, IsPairsRefusal}
@@ -38,3 +39,8 @@ refused_on span text z first table l.NoMemory so_far is = tt
 
 pub at_end : (span : Span) (text z : List ℕ) (first table : InputTable) → Continues span text first z table → z ≡ [] → ReadsPairs span text first [] table
 at_end span text z first table so_far e = so_far [] table (subst (λ (rest : List ℕ). ReadsPairs span z table rest table) e here)
+
+-- the table stays in its one form
+pub ports_after : (span : Span) (z : List ℕ) (old new : InputTable) (n : ℕ) → are_ports old ≡ true → PassesPart span z old new n → are_ports new ≡ true
+ports_after span z old _ _ e (blank is) = e
+ports_after span z old new _ e (given is gives) = gives.canonical.ports

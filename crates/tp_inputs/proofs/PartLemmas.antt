@@ -7,7 +7,6 @@ use Rattle.std.proofs.lemmas.Bool.Decides.{nat_tests}
 use Rattle.tp_value.specs.declared.reading.ReadValue.{ReadValue}
 use Rattle.tp_value.specs.declared.reading.ReadValue.TheVariants.{NoMemory}
 use Rattle.tp_value.specs.declared.refusal.NoMemory.{NoMemory as Want}
-use Rattle.tp_value.specs.Tree.{Tree}
 use Rattle.tp_value.specs.Spelling.{is_value_blank, IsRead}
 use Rattle.tp_value.specs.Reading.{Answer, found, refused, value_answer}
 use Rattle.tp_value.proofs.ReadLemmas.{found_read, read_found}

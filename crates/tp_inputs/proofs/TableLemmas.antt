@@ -1,72 +1,68 @@
 -- One more line of a table.
-use Rattle.std.proofs.Common.{refl, ap, sym, subst, ◌∙◌, ◌≡◌, ℕ, zero, suc, ◌+◌, List, [], ◌∷◌, ◌++◌, length, take, drop, arith}
+use Rattle.std.proofs.Common.{refl, ap, sym, subst, ◌∙◌, ◌≡◌, ℕ, ◌+◌, Bool, List, [], ◌∷◌, ◌++◌, length, arith}
+use Rattle.std.proofs.lemmas.List.{append_assoc, length-append, append-nil}
 use Rattle.std.specs.Str.Lines.{lines}
-use Rattle.tp_meaning.specs.Inputs.{InputPair, InputTable}
+use Rattle.tp_meaning.specs.Inputs.{InputTable}
 use Rattle.tp_inputs.specs.declared.fault.Fault.{Fault}
 use Rattle.tp_inputs.specs.declared.fault.Fault.TheVariants.{Bad, Twice, TooLong}
 use Rattle.tp_inputs.specs.declared.refusal.LineRefusal.{LineRefusal}
 use Rattle.tp_inputs.specs.declared.refusal.LineRefusal.TheVariants as l
+use Rattle.tp_inputs.specs.Heads.{has_ranges, head_of}
 use Rattle.tp_inputs.specs.Lines.{IsLine}
 use Rattle.tp_inputs.specs.Faults.{HasFault}
 use Rattle.tp_inputs.specs.Table.{AreLines, IsFirstFault, IsInputsRefusal, IsInputsText}
 use Rattle.tp_inputs.specs.Read.{refusal_in, IsLineRefusal}
 
--- the texts so far are the table so far, and these are left
-pub record ReadsSoFar (texts : List (List ℕ)) (table : InputTable) (left : List (List ℕ)) : Type 0 where
-  pub rest : left ≡ drop (length table) texts
-  pub good : AreLines (take (length table) texts) table
+-- of the texts, so many are read to this table, and these are left
+pub record ReadsSoFar (second : Bool) (texts : List (List ℕ)) (number : ℕ) (table : InputTable) (left : List (List ℕ)) : Type 0 where
+  pub before : List (List ℕ)
+  pub split : texts ≡ before ++ left
+  pub numbered : number ≡ length before
+  pub good : AreLines second 0 before [] table
 
-same_length : (texts : List (List ℕ)) (table : InputTable) → AreLines texts table → length texts ≡ length table
-same_length [] [] are = refl
-same_length [] (ps ∷ table) are = absurd are
-same_length (line ∷ texts) [] are = absurd are
-same_length (line ∷ texts) (ps ∷ table) are = ap suc (same_length texts table are.1)
+pub none_so_far : (second : Bool) (texts : List (List ℕ)) → ReadsSoFar second texts 0 [] texts
+none_so_far second texts = record { before = []; split = refl; numbered = refl; good = refl }
+
+lines_more : (second : Bool) (k : ℕ) (before : List (List ℕ)) (line : List ℕ) (table mid all : InputTable) → AreLines second k before table mid → IsLine (head_of second (k + length before) line) line mid all
+    → AreLines second k (before ++ line ∷ []) table all
+lines_more second k [] line table mid all same is =
+    let at : k + 0 ≡ k = omega arith in
+    (all, subst (λ (t : InputTable). IsLine (head_of second k line) line t all) same (subst (λ (n : ℕ). IsLine (head_of second n line) line mid all) at is), refl)
+lines_more second k (text ∷ before) line table mid all are is =
+    let at : k + length (text ∷ before) ≡ (k + 1) + length before = omega arith in
+    (are.0, are.1, lines_more second (k + 1) before line are.0 mid all are.2 (subst (λ (n : ℕ). IsLine (head_of second n line) line mid all) at is))
 
 -- one line more
-pub line_more : (texts : List (List ℕ)) (table : InputTable) (line : List ℕ) (left : List (List ℕ)) (ps : List InputPair) → ReadsSoFar texts table (line ∷ left) → IsLine line ps
-    → ReadsSoFar texts (table ++ ps ∷ []) left
-line_more [] [] line left ps so_far is = let e = so_far.rest in absurd cc
-line_more [] (qs ∷ table) line left ps so_far is = absurd so_far.good
-line_more (text ∷ texts) [] line left ps so_far is =
-    let e = so_far.rest in
-    let first : line ≡ text = cc in
-    let others : left ≡ texts = cc in
-    record { rest = others; good = (subst (λ (z : List ℕ). IsLine z ps) first is, tt) }
-line_more (text ∷ texts) (qs ∷ table) line left ps so_far is =
-    let below = line_more texts table line left ps (record { rest = so_far.rest; good = so_far.good.1 }) is in
-    record { rest = below.rest; good = (so_far.good.0, below.good) }
+pub line_more : (second : Bool) (texts : List (List ℕ)) (number : ℕ) (table more : InputTable) (line : List ℕ) (left : List (List ℕ)) → ReadsSoFar second texts number table (line ∷ left)
+    → IsLine (head_of second number line) line table more → ReadsSoFar second texts (number + 1) more left
+line_more second texts number table more line left r is = record {
+  before = r.before ++ line ∷ [];
+  split = r.split ∙ sym (append_assoc r.before (line ∷ []) left);
+  numbered = let a = r.numbered in let b = length-append r.before (line ∷ []) in omega arith;
+  good = lines_more second 0 r.before line [] table more r.good (subst (λ (n : ℕ). IsLine (head_of second n line) line table more) (let a = r.numbered in omega arith) is);
+}
 
-pub fault_in : (texts : List (List ℕ)) (table : InputTable) (line : List ℕ) (left : List (List ℕ)) (number : ℕ) (fault : Fault) → ReadsSoFar texts table (line ∷ left) → number ≡ length table + 1
-    → HasFault line fault → IsFirstFault texts number fault
-fault_in texts table line left number fault so_far e has = record {
-  before = take (length table) texts;
+fault_in : (texts : List (List ℕ)) (number : ℕ) (table : InputTable) (line : List ℕ) (left : List (List ℕ)) (fault : Fault) → ReadsSoFar (has_ranges texts) texts number table (line ∷ left)
+    → HasFault (head_of (has_ranges texts) number line) line table fault → IsFirstFault texts (number + 1) fault
+fault_in texts number table line left fault r has = record {
+  before = r.before;
   line = line;
   after = left;
-  split = sym (take_drop texts (length table)) ∙ ap (λ z. take (length table) texts ++ z) (sym so_far.rest);
-  numbered = let long = same_length (take (length table) texts) table so_far.good in omega arith;
+  split = r.split;
+  numbered = ap (λ n. n + 1) r.numbered;
   table = table;
-  good = so_far.good;
-  faulty = has;
+  good = r.good;
+  faulty = subst (λ (n : ℕ). HasFault (head_of (has_ranges texts) n line) line table fault) r.numbered has;
 }
-  where
-    take_drop : (z : List (List ℕ)) (n : ℕ) → take n z ++ drop n z ≡ z
-    take_drop [] zero = refl
-    take_drop [] (suc n) = refl
-    take_drop (b ∷ z) zero = refl
-    take_drop (b ∷ z) (suc n) = ap (λ y. b ∷ y) (take_drop z n)
 
-pub refused_in : (bytes : List ℕ) (table : InputTable) (line : List ℕ) (left : List (List ℕ)) (number : ℕ) (e : LineRefusal) → ReadsSoFar (lines bytes) table (line ∷ left) → number ≡ length table + 1
-    → IsLineRefusal line e → IsInputsRefusal bytes (refusal_in e number)
-refused_in bytes table line left number (l.Fault Bad) so_far same has = fault_in (lines bytes) table line left number Bad so_far same has
-refused_in bytes table line left number (l.Fault Twice) so_far same has = fault_in (lines bytes) table line left number Twice so_far same has
-refused_in bytes table line left number (l.Fault TooLong) so_far same has = fault_in (lines bytes) table line left number TooLong so_far same has
-refused_in bytes table line left number l.NoMemory so_far same has = tt
+pub refused_in : (bytes : List ℕ) (number : ℕ) (table : InputTable) (line : List ℕ) (left : List (List ℕ)) (e : LineRefusal) → ReadsSoFar (has_ranges (lines bytes)) (lines bytes) number table (line ∷ left)
+    → IsLineRefusal (head_of (has_ranges (lines bytes)) number line) line table e → IsInputsRefusal bytes (refusal_in e (number + 1))
+refused_in bytes number table line left (l.Fault Bad) r has = fault_in (lines bytes) number table line left Bad r has
+refused_in bytes number table line left (l.Fault Twice) r has = fault_in (lines bytes) number table line left Twice r has
+refused_in bytes number table line left (l.Fault TooLong) r has = fault_in (lines bytes) number table line left TooLong r has
+refused_in bytes number table line left l.NoMemory r has = tt
 
-whole_good : (texts : List (List ℕ)) (table : InputTable) → [] ≡ drop (length table) texts → AreLines (take (length table) texts) table → AreLines texts table
-whole_good [] [] e are = tt
-whole_good [] (ps ∷ table) e are = absurd are
-whole_good (line ∷ texts) [] e are = absurd cc
-whole_good (line ∷ texts) (ps ∷ table) e are = (are.0, whole_good texts table e are.1)
-
-pub table_whole : (bytes rest : List ℕ) (table : InputTable) → ReadsSoFar (lines bytes) table (lines rest) → rest ≡ [] → IsInputsText bytes table
-table_whole bytes rest table so_far e = whole_good (lines bytes) table (sym (ap lines e) ∙ so_far.rest) so_far.good
+pub table_whole : (bytes rest : List ℕ) (number : ℕ) (table : InputTable) → ReadsSoFar (has_ranges (lines bytes)) (lines bytes) number table (lines rest) → rest ≡ [] → IsInputsText bytes table
+table_whole bytes rest number table r e =
+    let texts : lines bytes ≡ r.before = r.split ∙ (ap (λ z. r.before ++ lines z) e ∙ append-nil r.before) in
+    subst (λ (z : List (List ℕ)). AreLines (has_ranges (lines bytes)) 0 z [] table) (sym texts) r.good

@@ -42,12 +42,12 @@ abbrev pub converted_lines : InputTable → List (List ℕ)
 converted_lines table = format_line ∷ (flat_map row_lines table ++ flat_map default_lines table)
 
 -- with its line feed
-abbrev pub ended : List ℕ → List ℕ
-ended line = line ++ codes "\n"
+abbrev pub with_feed : List ℕ → List ℕ
+with_feed line = line ++ codes "\n"
 
 -- the table in the second format, each line with a line feed
 abbrev pub converted : InputTable → List ℕ
-converted table = flat_map ended (converted_lines table)
+converted table = flat_map with_feed (converted_lines table)
 
 -- the rows end at the last state that a range may name, or before it
 abbrev pub EndsWithin : InputTable → Type 0

@@ -17,15 +17,17 @@ last_state = 99999999
 abbrev pub format_line : List ℕ
 format_line = codes "inputs 2"
 
-abbrev pub is_second : List (List ℕ) → Bool
-is_second [] = false
-is_second (line ∷ texts) = bytes_eq line format_line
+abbrev pub has_ranges : List (List ℕ) → Bool
+has_ranges [] = false
+has_ranges (line ∷ texts) = bytes_eq line format_line
 
--- the state that one to eight digits name
-unfoldable pub state_of : List ℕ → Option ℕ
-state_of z =
-    if nat_lt 0 (length z) && (nat_le (length z) 8 && list_all is_ascii_digit z)
-    then Some (decimal_value z) else None
+-- one to eight digits
+abbrev pub is_state : List ℕ → Bool
+is_state z = nat_lt 0 (length z) && (nat_le (length z) 8 && list_all is_ascii_digit z)
+
+-- the state that they name
+unfoldable pub named_state : List ℕ → Option ℕ
+named_state z = if is_state z then Some (decimal_value z) else None
 
 -- from one state to another that isn't before it
 abbrev pub between : Option ℕ → Option ℕ → Option Span
@@ -36,12 +38,12 @@ between (Some a) (Some b) = if nat_le a b then Some (States a b) else None
 -- what stands behind the `-`: a state, or nothing, which is up to the last one
 abbrev pub end_of : List ℕ → Option ℕ
 end_of [] = Some last_state
-end_of (b ∷ z) = state_of (b ∷ z)
+end_of (b ∷ z) = named_state (b ∷ z)
 
 -- one state, or two with `-` between them
 abbrev pub cut_range : List ℕ → Option ℕ → Option Span
-cut_range z None = between (state_of z) (state_of z)
-cut_range z (Some i) = between (state_of (take i z)) (end_of (drop (i + 1) z))
+cut_range z None = between (named_state z) (named_state z)
+cut_range z (Some i) = between (named_state (take i z)) (end_of (drop (i + 1) z))
 
 -- `k`, `k-m`, `k-`, or `*`
 unfoldable pub range_of : List ℕ → Option Span
@@ -51,9 +53,9 @@ range_of z = if bytes_eq z (codes "*") then Some Others else cut_range z (positi
 abbrev pub is_range_byte : ℕ → Bool
 is_range_byte b = is_ascii_digit b || (b == 45 || b == 42)
 
-abbrev pub head_at : Option Span → ℕ → Head
-head_at None n = Unheard
-head_at (Some span) n = Speaks span n
+abbrev pub range_head : Option Span → ℕ → Head
+range_head None n = Unheard
+range_head (Some span) n = Speaks span n
 
 -- blanks, a range, blanks, and a colon
 abbrev pub colon_head : List ℕ → (blanks : ℕ) → Head
@@ -62,7 +64,7 @@ colon_head line blanks =
     let n = prefix_len is_range_byte rest in
     let after = drop n rest in
     let more = prefix_len is_value_blank after in
-    if slice_index after more == 58 then head_at (range_of (take n rest)) (blanks + n + more + 1)
+    if slice_index after more == 58 then range_head (range_of (take n rest)) (blanks + n + more + 1)
     else Unheard
 
 -- a line of the second format: blank, or a range with a colon, and behind it pairs

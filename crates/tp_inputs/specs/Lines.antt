@@ -6,16 +6,16 @@ use Rattle.tp_meaning.specs.Inputs.{InputTable}
 use Rattle.tp_inputs.specs.declared.span.Span.{Span}
 use Rattle.tp_inputs.specs.declared.head.Head.{Head}
 use Rattle.tp_inputs.specs.declared.head.Head.TheVariants.{Speaks, Silent, Unheard}
-use Rattle.tp_inputs.specs.Spans.{Gives}
+use Rattle.tp_inputs.specs.Spans.{GivesValue}
 use Rattle.tp_inputs.specs.Parts.{BeginsPair}
 
 -- a blank or a pair of n bytes comes first, and with it the table becomes this one
 pub data PassesPart (span : Span) (z : List ℕ) (table : InputTable) : InputTable → ℕ → Type 0
-    where
-  blank : is_value_blank (slice_index z 0) ≡ true → PassesPart span z table table 1
-  given : {port : List ℕ} {value : Tree} {n : ℕ} {more : InputTable}
-      → BeginsPair span table z port value n → Gives span port value table more
-      → PassesPart span z table more n
+  where
+    blank : is_value_blank (slice_index z 0) ≡ true → PassesPart span z table table 1
+    given : {port : List ℕ} {value : Tree} {n : ℕ} {more : InputTable}
+        → BeginsPair span table z port value n → GivesValue span port value table more
+        → PassesPart span z table more n
 
 -- From the first table on, the line is read up to a rest, where the table has become the second.
 pub data ReadsPairs (span : Span) : List ℕ → InputTable → List ℕ → InputTable → Type 0 where

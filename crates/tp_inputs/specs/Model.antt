@@ -1,10 +1,12 @@
 -- The plain table that ports stand for.
-use Rattle.std.specs.Prelude.{ℕ, List, map, Option}
+use Rattle.std.specs.Prelude.{◌≡◌, ℕ, ◌≤◌, List, map, Option, Some, None}
+use Rattle.std.specs.Borrow.{Bor}
+use Rattle.std.specs.Ordering.{nat_cmp}
+use Rattle.std.specs.BTreeMap.{get}
 use Rattle.std.specs.Option.{option_map}
-use Rattle.tp_value.specs.declared.value.Value.{Value}
 use Rattle.tp_value.specs.Tree.{Tree}
 use Rattle.tp_value.specs.Read.{tree}
-use Rattle.tp_meaning.specs.Inputs.{InputRow, InputPort, InputTable}
+use Rattle.tp_meaning.specs.Inputs.{InputRow, InputPort, InputTable, row_value}
 use Rattle.tp_inputs.specs.declared.ranges.Row.{Row}
 use Rattle.tp_inputs.specs.declared.ranges.Ranges.{Ranges}
 use Rattle.tp_inputs.specs.declared.ports.Port.{Port}
@@ -15,6 +17,12 @@ row_of e = record { first = e.0; last = e.1.last; value = tree e.1.value }
 
 abbrev pub rows_of : Ranges → List InputRow
 rows_of r = map row_of r.rows.entries
+
+-- the row that has the state, with its first state, if there is one
+abbrev pub FindsRow : Ranges → ℕ → Option (ℕ × Bor Row) → Type 0
+FindsRow r state None = row_value (rows_of r) state ≡ None
+FindsRow r state (Some e) =
+    (get nat_cmp r.rows e.0 ≡ Some e.1.now) × (e.0 ≤ state) × (state ≤ e.1.now.last)
 
 abbrev pub default_of : Port → Option Tree
 default_of p = option_map tree p.default

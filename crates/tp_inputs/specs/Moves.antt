@@ -1,5 +1,5 @@
 -- What the calls on ranges and on a port change.
-use Rattle.std.specs.Prelude.{◌≡◌, ◌≢◌, ℕ, suc, ◌+◌, ◌≤◌, ◌&&◌, nat_le, true, List, Option, Some, None, if◌then◌else◌}
+use Rattle.std.specs.Prelude.{◌≡◌, ◌≢◌, ℕ, suc, ◌+◌, ◌<◌, ◌≤◌, ◌⊎◌, ◌&&◌, nat_le, true, List, Option, Some, None, if◌then◌else◌}
 use Rattle.tp_value.specs.Tree.{Tree}
 use Rattle.tp_meaning.specs.Inputs.{InputRow, InputPort, row_value}
 use Rattle.tp_inputs.specs.declared.span.Span.{Span}
@@ -21,6 +21,27 @@ pub record IsTaken (rows : List InputRow) (state : ℕ) (value : Tree) (a b : �
 abbrev pub TakesRow : List InputRow → ℕ → Tree → Option (ℕ × ℕ) → List InputRow → Type 0
 TakesRow rows state value None left = (left ≡ rows) × (row_value rows state ≢ Some value)
 TakesRow rows state value (Some e) left = IsTaken rows state value e.0 e.1 left
+
+-- what had the value in the states from `from` on, up to first, is taken away, and before it another
+-- value stands, or none
+pub record IsOpened (rows : List InputRow) (value : Tree) (from first : ℕ) (left : List InputRow)
+    : Type 0 where
+  pub apart : are_rows left ≡ true
+  pub ordered : from ≤ first
+  pub had : (n : ℕ) → from ≤ n → n < first → row_value rows n ≡ Some value
+  pub gone : (n : ℕ) → from ≤ n → n < first → row_value left n ≡ None
+  pub stays : (n : ℕ) → (n < from) ⊎ (first ≤ n) → row_value left n ≡ row_value rows n
+  pub before : (j : ℕ) → suc j ≡ from → row_value rows j ≢ Some value
+
+-- and the same of the states behind last, up to `to`
+pub record IsClosed (rows : List InputRow) (value : Tree) (last to : ℕ) (left : List InputRow)
+    : Type 0 where
+  pub apart : are_rows left ≡ true
+  pub ordered : last ≤ to
+  pub had : (n : ℕ) → last < n → n ≤ to → row_value rows n ≡ Some value
+  pub gone : (n : ℕ) → last < n → n ≤ to → row_value left n ≡ None
+  pub stays : (n : ℕ) → (n ≤ last) ⊎ (to < n) → row_value left n ≡ row_value rows n
+  pub after : row_value rows (to + 1) ≢ Some value
 
 -- the states from a to b have the value besides
 pub record GivesRows (a b : ℕ) (value : Tree) (rows more : List InputRow) : Type 0 where

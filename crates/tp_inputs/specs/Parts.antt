@@ -29,6 +29,6 @@ is_set_apart z n = n == length z || is_value_blank (slice_index z n)
 
 -- a pair of m bytes comes first: a port that has no value in this table for the span, and a value
 pub data BeginsPair (span : Span) (table : InputTable) (z : List ℕ) : List ℕ → Tree → ℕ → Type 0
-    where
-  pair : {n m : ℕ} {t : Tree} → BeginsPort z n → IsNewPort span table (take n z)
-      → IsRead z (n + 1) t m → is_set_apart z m ≡ true → BeginsPair span table z (take n z) t m
+  where
+    pair : {n m : ℕ} {t : Tree} → BeginsPort z n → IsNewPort span table (take n z)
+        → IsRead z (n + 1) t m → is_set_apart z m ≡ true → BeginsPair span table z (take n z) t m

@@ -6,7 +6,7 @@ use Rattle.tp_inputs.specs.declared.fault.Fault.{Fault}
 use Rattle.tp_inputs.specs.declared.fault.Fault.TheVariants.{Bad, Twice, TooLong}
 use Rattle.tp_inputs.specs.declared.refusal.InputsRefusal.{InputsRefusal}
 use Rattle.tp_inputs.specs.declared.refusal.InputsRefusal.TheVariants as r
-use Rattle.tp_inputs.specs.Heads.{is_second, head_of}
+use Rattle.tp_inputs.specs.Heads.{has_ranges, head_of}
 use Rattle.tp_inputs.specs.Lines.{IsLine}
 use Rattle.tp_inputs.specs.Faults.{HasFault}
 
@@ -21,7 +21,7 @@ AreLines second k (line ∷ texts) table all =
 -- carriage return and a line feed, which the last may lack. Where the first line is `inputs 2`, the
 -- others say for which states they speak; else each speaks for the state of its number, from 0.
 abbrev pub IsInputsText : List ℕ → InputTable → Type 0
-IsInputsText bytes table = AreLines (is_second (lines bytes)) 0 (lines bytes) [] table
+IsInputsText bytes table = AreLines (has_ranges (lines bytes)) 0 (lines bytes) [] table
 
 -- of the lines, that with this number, from 1, has this as its first fault, and those before it
 -- have none
@@ -32,8 +32,8 @@ pub record IsFirstFault (texts : List (List ℕ)) (number : ℕ) (fault : Fault)
   pub split : texts ≡ before ++ line ∷ after
   pub numbered : number ≡ length before + 1
   pub table : InputTable
-  pub good : AreLines (is_second texts) 0 before [] table
-  pub faulty : HasFault (head_of (is_second texts) (length before) line) line table fault
+  pub good : AreLines (has_ranges texts) 0 before [] table
+  pub faulty : HasFault (head_of (has_ranges texts) (length before) line) line table fault
 
 -- when each refusal comes; want of memory may come at any time
 abbrev pub IsInputsRefusal : List ℕ → InputsRefusal → Type 0

@@ -2,7 +2,7 @@
 ghost use Rattle.std.specs.Prelude.{◌≡◌, ◌++◌, OnOk};
 ghost use Rattle.std.specs.Fmt.{decimal};
 ghost use Rattle.tp_value.specs.Read.{tree};
-ghost use Rattle.tp_inputs.specs.Converted.{range_text, valued_text, default_line, ended, converted};
+ghost use Rattle.tp_inputs.specs.Converted.{range_text, valued_text, default_line, with_feed, converted};
 ghost use Rattle.tp_inputs.specs.Read.{inputs_of};
 
 use crate::head::LAST_STATE;
@@ -34,7 +34,7 @@ fn append_range(out: &mut Text, first: u64, last: u64) -> Result<(), NoMemory>
 
 // Appends what follows the states in a line, with its line feed.
 fn append_valued(out: &mut Text, port: &[u8], value: &Value) -> Result<(), NoMemory>
-    ensures { OnOk result (out.new ≡ out.old ++ ended (valued_text port.now (tree value.now))) }
+    ensures { OnOk result (out.new ≡ out.old ++ with_feed (valued_text port.now (tree value.now))) }
 {
     out.append(b": ")?;
     out.append(port)?;
@@ -52,7 +52,7 @@ pub fn append_row(
     value: &Value,
 ) -> Result<(), NoMemory>
     ensures { OnOk result (out.new ≡ out.old
-        ++ ended (range_text first last ++ valued_text port.now (tree value.now))) }
+        ++ with_feed (range_text first last ++ valued_text port.now (tree value.now))) }
 {
     append_range(out, first, last)?;
     append_valued(out, port, value)
@@ -60,7 +60,7 @@ pub fn append_row(
 
 /// Appends the line of the port's default.
 pub fn append_default(out: &mut Text, port: &[u8], value: &Value) -> Result<(), NoMemory>
-    ensures { OnOk result (out.new ≡ out.old ++ ended (default_line port.now (tree value.now))) }
+    ensures { OnOk result (out.new ≡ out.old ++ with_feed (default_line port.now (tree value.now))) }
 {
     out.append(b"*")?;
     append_valued(out, port, value)

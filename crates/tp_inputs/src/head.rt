@@ -1,7 +1,8 @@
 // What a line of inputs begins with.
-ghost use Rattle.std.specs.Prelude.{◌≡◌, ◌≤◌, ◌<◌, length, IfSome};
-ghost use Rattle.std.specs.List.{prefix_len, position};
-ghost use Rattle.tp_value.specs.Spelling.{is_value_blank};
+ghost use Rattle.std.specs.Prelude.{◌≡◌, ◌≤◌, ◌==◌, length, min, IfSome};
+ghost use Rattle.std.specs.Char.{is_ascii_digit};
+ghost use Rattle.std.specs.List.{prefix_len, position, list_all};
+ghost use Rattle.tp_value.specs.Spelling.{is_value_blank, decimal_value};
 ghost use Rattle.tp_inputs.specs.Heads as spec;
 ghost use Rattle.tp_inputs.specs.Bounds.{IsSpan, HeadBounds};
 
@@ -55,20 +56,54 @@ fn range_len(text: &[u8]) -> usize
     end
 }
 
+// The number that digits spell, or the last state where it is greater.
+fn bounded(digits: &[u8]) -> u64
+    ensures { result ≡ min (decimal_value digits.now) spec.last_state }
+{
+    let mut state: u64 = 0;
+    for digit in digits {
+        state = (10 * state + u64::from(digit.saturating_sub(b'0'))).min(LAST_STATE);
+    }
+    state
+}
+
+fn all_digits(text: &[u8]) -> bool
+    ensures { result ≡ list_all is_ascii_digit text.now }
+{
+    for byte in text {
+        if !byte.is_ascii_digit() {
+            return false;
+        }
+    }
+    true
+}
+
+// Whether there are one to eight digits, and nothing else.
+fn is_state(text: &[u8]) -> bool
+    ensures { result ≡ spec.is_state text.now }
+{
+    !text.is_empty() && text.len() <= 8 && all_digits(text)
+}
+
+// Where the `-` of a range stands.
+fn dash_place(text: &[u8]) -> Option<usize>
+    ensures { result ≡ position (λ b. b == 45) text.now }
+{
+    text.iter().position(|byte| *byte == b'-')
+}
+
 // The state that one to eight digits name.
-#[tactic(auto, unfolding(crate::specs::Heads::state_of))]
-fn state_of(digits: &[u8]) -> Option<u64>
-    ensures value { result ≡ spec.state_of digits.now }
+#[tactic(auto, unfolding(crate::specs::Heads::named_state))]
+fn named_state(digits: &[u8]) -> Option<u64>
+    ensures value { result ≡ spec.named_state digits.now }
     ensures within { IfSome result (λ state. state ≤ spec.last_state) }
 {
-    if digits.is_empty() || digits.len() > 8 || !digits.iter().all(|b| b.is_ascii_digit()) {
-        return None;
+    // Eight digits spell no number past the last state.
+    if is_state(digits) {
+        Some(bounded(digits))
+    } else {
+        None
     }
-    let mut state = 0;
-    for digit in digits {
-        state = 10 * state + u64::from(*digit - b'0');
-    }
-    Some(state)
 }
 
 // From one state to another that isn't before it.
@@ -79,7 +114,11 @@ fn between(first: Option<u64>, last: Option<u64>) -> Option<Span>
     ensures within { IfSome result IsSpan }
 {
     let (first, last) = (first?, last?);
-    if first <= last { Some(Span::States { first, last }) } else { None }
+    if first <= last {
+        Some(Span::States { first, last })
+    } else {
+        None
+    }
 }
 
 // What stands behind the `-` of a range.
@@ -87,7 +126,11 @@ fn end_of(text: &[u8]) -> Option<u64>
     ensures value { result ≡ spec.end_of text.now }
     ensures within { IfSome result (λ state. state ≤ spec.last_state) }
 {
-    if text.is_empty() { Some(LAST_STATE) } else { state_of(text) }
+    if text.is_empty() {
+        Some(LAST_STATE)
+    } else {
+        named_state(text)
+    }
 }
 
 // `k`, `k-m`, `k-`, or `*`.
@@ -99,9 +142,9 @@ fn range_of(text: &[u8]) -> Option<Span>
     if text == b"*".as_slice() {
         return Some(Span::Others);
     }
-    match text.iter().position(|byte| *byte == b'-') {
-        Some(cut) => between(state_of(&text[..cut]), end_of(&text[cut + 1..])),
-        None => between(state_of(text), state_of(text)),
+    match dash_place(text) {
+        Some(cut) => between(named_state(&text[..cut]), end_of(&text[cut + 1..])),
+        None => between(named_state(text), named_state(text)),
     }
 }
 

@@ -15,7 +15,12 @@ use crate::span::Span;
 use std::alloc::Global;
 
 // Takes what the rest of a line begins with, a blank or a pair, and tells how many bytes it has.
-fn take_part(alloc: Global, text: &[u8], span: Span, ports: &mut Ports) -> Result<usize, LineRefusal>
+fn take_part(
+    alloc: Global,
+    text: &[u8],
+    span: Span,
+    ports: &mut Ports,
+) -> Result<usize, LineRefusal>
     requires some { text.now ≢ [] }
     requires span { IsSpan span }
     requires ports { are_ports (table_of ports.old) ≡ true }
@@ -53,7 +58,12 @@ fn take_pairs(alloc: Global, text: &[u8], span: Span, ports: &mut Ports) -> Resu
 }
 
 /// Takes what a line says.
-pub fn take_line(alloc: Global, line: &[u8], head: Head, ports: &mut Ports) -> Result<(), LineRefusal>
+pub fn take_line(
+    alloc: Global,
+    line: &[u8],
+    head: Head,
+    ports: &mut Ports,
+) -> Result<(), LineRefusal>
     requires head { HeadBounds line.now head }
     requires ports { are_ports (table_of ports.old) ≡ true }
     ensures line { IfOk result (λ _.

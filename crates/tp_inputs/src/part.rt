@@ -104,7 +104,12 @@ fn pair_part(alloc: Global, text: &[u8], span: Span, ports: &Ports) -> Result<Fo
 
 /// What the rest of a line begins with that speaks for this span, behind what the ports have so far.
 #[tactic(auto, unfolding(crate::specs::FirstPart::first_part))]
-pub fn first_part(alloc: Global, text: &[u8], span: Span, ports: &Ports) -> Result<FoundPart, NoMemory>
+pub fn first_part(
+    alloc: Global,
+    text: &[u8],
+    span: Span,
+    ports: &Ports,
+) -> Result<FoundPart, NoMemory>
     requires some { text.now ≢ [] }
     requires ports { are_ports (table_of ports.now) ≡ true }
     ensures { IfOk result (λ part.

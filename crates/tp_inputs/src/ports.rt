@@ -5,7 +5,7 @@ ghost use Rattle.tp_value.specs.Read.{tree};
 ghost use Rattle.tp_meaning.specs.Inputs.{row_value, input_at};
 ghost use Rattle.tp_inputs.specs.Bounds.{IsSpan};
 ghost use Rattle.tp_inputs.specs.Canonical.{are_rows, are_ports};
-ghost use Rattle.tp_inputs.specs.Spans.{is_given, port_meets, Gives};
+ghost use Rattle.tp_inputs.specs.Spans.{is_given, port_meets, GivesValue};
 ghost use Rattle.tp_inputs.specs.Model.{rows_of, default_of, named_port, table_of};
 ghost use Rattle.tp_inputs.specs.Moves.{GivesPort};
 
@@ -57,7 +57,7 @@ impl Port {
         }
     }
 
-    // Gives the value for the span, for which there is none yet.
+    // GivesValue the value for the span, for which there is none yet.
     fn give(&mut self, span: Span, value: Value) -> Result<(), NoMemory>
         requires rows { are_rows (rows_of self.old.ranges) ≡ true }
         requires span { IsSpan span }
@@ -108,12 +108,18 @@ impl Ports {
         }
     }
 
-    /// Gives the port the value for the span, for which it has none yet.
-    pub fn give(&mut self, alloc: Global, span: Span, port: Text, value: Value) -> Result<(), NoMemory>
+    /// GivesValue the port the value for the span, for which it has none yet.
+    pub fn give(
+        &mut self,
+        alloc: Global,
+        span: Span,
+        port: Text,
+        value: Value,
+    ) -> Result<(), NoMemory>
         requires ports { are_ports (table_of self.old) ≡ true }
         requires span { IsSpan span }
         requires free { is_given (table_of self.old) span port ≡ false }
-        ensures { OnOk result (Gives span port (tree value) (table_of self.old) (table_of self.new)) }
+        ensures { OnOk result (GivesValue span port (tree value) (table_of self.old) (table_of self.new)) }
     {
         match self.by_name.get_mut(port.as_slice()) {
             Some(known) => known.give(span, value),
@@ -130,12 +136,12 @@ impl Ports {
 impl Ports {
     ghost use Rattle.std.specs.Prelude.{◌++◌};
     ghost use Rattle.std.specs.List.{flat_map};
-    ghost use Rattle.tp_inputs.specs.Converted.{row_lines, default_lines, ended};
+    ghost use Rattle.tp_inputs.specs.Converted.{row_lines, default_lines, with_feed};
 
     /// Appends a line for each range of states in which a port has a value.
     pub fn append_rows(&self, out: &mut Text) -> Result<(), NoMemory>
         ensures { OnOk result (out.new ≡ out.old
-            ++ flat_map ended (flat_map row_lines (table_of self.now))) }
+            ++ flat_map with_feed (flat_map row_lines (table_of self.now))) }
     {
         for (name, port) in &self.by_name {
             port.ranges.append_lines(out, name)?;
@@ -146,7 +152,7 @@ impl Ports {
     /// Appends a line for each default.
     pub fn append_defaults(&self, out: &mut Text) -> Result<(), NoMemory>
         ensures { OnOk result (out.new ≡ out.old
-            ++ flat_map ended (flat_map default_lines (table_of self.now))) }
+            ++ flat_map with_feed (flat_map default_lines (table_of self.now))) }
     {
         for (name, port) in &self.by_name {
             if let Some(value) = &port.default {

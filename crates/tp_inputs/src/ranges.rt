@@ -1,12 +1,12 @@
 // The values of a port in ranges of states.
-ghost use Rattle.std.specs.Prelude.{◌≡◌, ◌<◌, ◌≤◌, ◌^◌, [], true, false, OnOk};
+ghost use Rattle.std.specs.Prelude.{◌≡◌, ◌<◌, ◌≤◌, ◌^◌, [], None, true, false, OnOk};
 ghost use Rattle.std.specs.Option.{option_map};
 ghost use Rattle.tp_value.specs.Read.{tree};
 ghost use Rattle.tp_meaning.specs.Inputs.{row_value};
 ghost use Rattle.tp_inputs.specs.Canonical.{are_rows};
 ghost use Rattle.tp_inputs.specs.Spans.{rows_meet};
-ghost use Rattle.tp_inputs.specs.Model.{rows_of};
-ghost use Rattle.tp_inputs.specs.Moves.{TakesRow, GivesRows};
+ghost use Rattle.tp_inputs.specs.Model.{rows_of, FindsRow};
+ghost use Rattle.tp_inputs.specs.Moves.{TakesRow, IsOpened, IsClosed, GivesRows};
 
 use crate::convert::append_row;
 use std::alloc::Global;
@@ -38,6 +38,7 @@ impl Ranges {
     // The row that has the state, with its first state.
     fn row(&self, state: u64) -> Option<(u64, &Row)>
         requires { are_rows (rows_of self.now) ≡ true }
+        ensures { FindsRow self.now state result }
     {
         match self.rows.range(..=state).next_back() {
             Some((first, row)) if state <= row.last => Some((*first, row)),
@@ -80,7 +81,35 @@ impl Ranges {
         Some((first, last))
     }
 
-    /// Gives the value for the states from the first to the last, for which there is none yet. Ranges that touch and have one value
+    // Takes away the range with that value that ends before the state, for which there is none, and tells its first state.
+    fn open(&mut self, first: u64, value: &Value) -> u64
+        requires rows { are_rows (rows_of self.old) ≡ true }
+        requires free { row_value (rows_of self.old) first ≡ None }
+        ensures { IsOpened (rows_of self.old) (tree value.now) result first (rows_of self.new) }
+    {
+        if first == 0 {
+            return 0;
+        }
+        match self.take_row(first - 1, value) {
+            Some((from, _)) => from,
+            None => first,
+        }
+    }
+
+    // Takes away the range with that value that begins behind the state, for which there is none, and tells its last state.
+    fn close(&mut self, last: u64, value: &Value) -> u64
+        requires rows { are_rows (rows_of self.old) ≡ true }
+        requires before { last < 2 ^ 63 }
+        requires free { row_value (rows_of self.old) last ≡ None }
+        ensures { IsClosed (rows_of self.old) (tree value.now) last result (rows_of self.new) }
+    {
+        match self.take_row(last + 1, value) {
+            Some((_, to)) => to,
+            None => last,
+        }
+    }
+
+    /// GivesValue the value for the states from the first to the last, for which there is none yet. Ranges that touch and have one value
     /// become one.
     pub fn give(&mut self, first: u64, last: u64, value: Value) -> Result<(), NoMemory>
         requires rows { are_rows (rows_of self.old) ≡ true }
@@ -89,13 +118,8 @@ impl Ranges {
         requires free { rows_meet (rows_of self.old) first last ≡ false }
         ensures { OnOk result (GivesRows first last (tree value) (rows_of self.old) (rows_of self.new)) }
     {
-        let (mut from, mut to) = (first, last);
-        if first > 0 && let Some((start, _)) = self.take_row(first - 1, &value) {
-            from = start;
-        }
-        if let Some((_, end)) = self.take_row(last + 1, &value) {
-            to = end;
-        }
+        let from = self.open(first, &value);
+        let to = self.close(last, &value);
         self.rows.insert(from, Row { last: to, value })?;
         Ok(())
     }
@@ -104,12 +128,12 @@ impl Ranges {
 impl Ranges {
     ghost use Rattle.std.specs.Prelude.{◌++◌};
     ghost use Rattle.std.specs.List.{flat_map};
-    ghost use Rattle.tp_inputs.specs.Converted.{row_line, ended};
+    ghost use Rattle.tp_inputs.specs.Converted.{row_line, with_feed};
 
     /// Appends a line for each range of states, as the port's.
     pub fn append_lines(&self, out: &mut Text, port: &[u8]) -> Result<(), NoMemory>
         ensures { OnOk result (out.new ≡ out.old
-            ++ flat_map (λ r. ended (row_line port.now r)) (rows_of self.now)) }
+            ++ flat_map (λ r. with_feed (row_line port.now r)) (rows_of self.now)) }
     {
         for (first, row) in &self.rows {
             append_row(out, port, *first, row.last, &row.value)?;

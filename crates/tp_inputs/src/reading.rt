@@ -16,8 +16,8 @@ use std::alloc::Global;
 use tp_lex::first_line;
 
 // Whether the first line says that the others name the states for which they speak.
-fn is_second(bytes: &[u8]) -> bool
-    ensures { result ≡ spec.is_second (lines bytes.now) }
+fn has_ranges(bytes: &[u8]) -> bool
+    ensures { result ≡ spec.has_ranges (lines bytes.now) }
 {
     !bytes.is_empty() && first_line(bytes).0 == b"inputs 2".as_slice()
 }
@@ -29,7 +29,10 @@ fn head_of(second: bool, number: u64, line: &[u8]) -> Head
     ensures within { HeadBounds line.now result }
 {
     if !second {
-        let states = Span::States { first: number, last: number };
+        let states = Span::States {
+            first: number,
+            last: number,
+        };
         Head::Speaks(states, 0)
     } else if number == 0 {
         Head::Silent
@@ -48,16 +51,16 @@ pub fn read_inputs(alloc: Global, bytes: &[u8]) -> Result<Inputs, InputsRefusal>
     ensures table { IfOk result (λ inputs. IsInputsText bytes.now (inputs_of inputs)) }
     ensures refused { IfErr result (λ refusal. IsInputsRefusal bytes.now refusal) }
 {
-    let second = is_second(bytes);
+    let second = has_ranges(bytes);
     let mut ports = Ports::new(alloc);
     let mut number: u64 = 0;
     let mut rest = bytes;
     while !rest.is_empty() {
         let (line, after) = first_line(rest);
-        number += 1;
-        if let Err(refusal) = take_line(alloc, line, head_of(second, number - 1, line), &mut ports) {
-            return Err(refusal.in_line(number));
+        if let Err(refusal) = take_line(alloc, line, head_of(second, number, line), &mut ports) {
+            return Err(refusal.in_line(number + 1));
         }
+        number += 1;
         rest = after;
     }
     Ok(Inputs { ports })

@@ -1,16 +1,15 @@
 -- What a step gives is printable where the scene, the definitions, the inputs and what is kept are.
 use Rattle.std.proofs.Common.{◌≡◌, ℤ, pos, negsuc, ◌+ℤ◌, int_le, inl, inr, ℕ, nat_le, zero, suc, nat_lt, ltb, ◌-◌, true, false, ◌&&◌, cond, eqb, List, [], ◌∷◌, ◌++◌, refl, ap, sym, ◌∙◌, subst, All, Option, Some, None, IfSome, arith, append-nil}
-use Rattle.std.proofs.lemmas.Bool.{cond_both, ltb-false, cases_Bool}
+use Rattle.std.proofs.lemmas.Bool.{cond_both, ltb-false}
 use Rattle.std.proofs.lemmas.Bool.Decides.{nat_tests}
 use Rattle.std.proofs.lemmas.List.Elements.{All-nil}
-use Rattle.std.specs.Str.{bytes_eq}
-use Rattle.tp_value.specs.Tree.{Tree}
 use Rattle.tp_value.specs.Number.{IsNumber, number_limit}
 use Rattle.tp_value.specs.Limits.{length_limit, IsWithinLimits}
 use Rattle.tp_value.specs.declared.path.Fact.{Fact}
 use Rattle.tp_meaning.specs.Syntax.{known, FormulaTree, equation, next_equation, always, len, assign, while, for_from, forall_from, Definition}
 use Rattle.tp_meaning.specs.Nexts.{nexts}
-use Rattle.tp_meaning.specs.Inputs.{InputPair, InputTable, port_value, input_at}
+use Rattle.tp_meaning.specs.Inputs.{InputTable}
+use Rattle.tp_inputs.proofs.WithinLemmas.{input_has}
 use Rattle.tp_store.specs.Known.{adds, addition, Variable}
 use Rattle.tp_scene.specs.Scene.{Bindings, Side, Ending, Going, Head, Leaf, Do, Later, Shown, Holder, Split, SplitProject, Opened, Entries, none, leaf, node, new_head, no_region, second_lives, has, append, Place, held_place}
 use Rattle.tp_scene.specs.Step.{PickOutcome, reduces, waits, rests, clashes, misses, passes, Numbers, by_status, leaf_step, holder_step}
@@ -19,7 +18,7 @@ use Rattle.tp_scene.proofs.Frame.{region}
 use Rattle.tp_scene.proofs.Parts.{picked_has}
 use Rattle.tp_show.specs.TraceOfRun.{IsWithinIndexLimit, HasNameOnOneLine}
 use Rattle.tp_show.specs.Line.{IsOneLine}
-use Rattle.tp_run_laws.specs.Printable.{FormulaIsPrintable, DefinitionIsPrintable, PhraseIsPrintable, LeafIsPrintable, HolderIsPrintable, EntriesArePrintable, LineIsPrintable, InputsArePrintable}
+use Rattle.tp_run_laws.specs.Printable.{FormulaIsPrintable, DefinitionIsPrintable, PhraseIsPrintable, LeafIsPrintable, HolderIsPrintable, EntriesArePrintable, InputsArePrintable}
 use Rattle.tp_run_laws.proofs.Kept.{FactsArePrintable, value_added, length_added}
 use Rattle.tp_run_laws.proofs.Found.{number_value, definition_at, good, lists_good, evaluates_good}
 use Rattle.tp_scene.proofs.Evaluated.{Evaluates, outcome_told, place_outcome_told}
@@ -45,18 +44,6 @@ next_number (negsuc (suc a)) m less h n =
     let next : negsuc (suc a) +ℤ pos 1 ≡ negsuc a = ap (λ b. cond b (negsuc (suc (suc a) - 2)) (pos (1 - suc (suc a)))) negative ∙ ap negsuc less_one in
     let small : nat_lt (suc a) number_limit ≡ true = h in
     subst IsNumber (sym next) (grind (arith, nat_tests, small))
-
-port_within : (ps : List InputPair) (name : List ℕ) → LineIsPrintable ps → (t : Tree) → port_value name ps ≡ Some t → IsWithinLimits t
-port_within [] name k t e = absurd (cc)
-port_within (q ∷ ps) name k t e = elim (cases_Bool (bytes_eq name q.port)) [
-  | inl c ↦ (let same : Some q.value ≡ Some t = rw c at e in let s : q.value ≡ t = cc in subst (λ (v : Tree). IsWithinLimits v) s k.0)
-  | inr c ↦ port_within ps name k.1 t (rw c at e)
-]
-
-input_within : (ls : InputTable) (i : ℕ) (name : List ℕ) → InputsArePrintable ls → (t : Tree) → input_at ls i name ≡ Some t → IsWithinLimits t
-input_within [] i name k t e = absurd (cc)
-input_within (l ∷ ls) zero name k t e = port_within l name k.0 t e
-input_within (l ∷ ls) (suc i) name k t e = input_within ls i name k.1 t e
 
 module _ (facts : List Fact) where
   -- a step's facts leave what is kept printable, and its entries, its local's name, and a port that it misses are so
@@ -101,7 +88,7 @@ module _ (facts : List Fact) where
         body = λ i d e. let k : IfSome (Some d) DefinitionIsPrintable = subst (λ (o : Option Definition). IfSome o DefinitionIsPrintable) e (definition_at defs i definitions) in k.formula;
         value = λ e xs h k. outcome_told printable facts defs evaluates e 0 xs h k;
         place = λ e xs h k. place_outcome_told printable facts defs evaluates e 0 xs h k;
-        read = λ port v e. input_within inputs state port table v e;
+        read = λ port v e. input_has IsWithinLimits inputs state port v table e;
         value_bound = λ v u. u;
         local_bound = λ x l. record { few = omega arith; indices = All-nil IsWithinIndexLimit };
         sets = λ q v path u news e. value_added facts news q v kept path u e;

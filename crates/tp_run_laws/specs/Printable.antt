@@ -5,7 +5,8 @@ use Rattle.tp_value.specs.Number.{IsNumber}
 use Rattle.tp_value.specs.Limits.{HasNumbers, IsWithinLimits}
 use Rattle.tp_meaning.specs.Syntax.{ExprTree, ExprTrees, numeral, boolean, known, bound, global, listing, size, index, minus, negation, both, either, binary, choice, invoke, no_expr, expr_then, FormulaTree, FormulaTrees, trivial, test, equation, next_equation, empty, more, next, weak_next, if_more, if_empty, always, conjunction, branch, len, assign, chop, while, for_from, forall_from, project, exists, call, input, display, no_formula, formula_then, Definition, BindingTree, place_binding, known_binding}
 use Rattle.tp_meaning.specs.Interval.{ProgramTree}
-use Rattle.tp_meaning.specs.Inputs.{InputPair, InputTable}
+use Rattle.tp_meaning.specs.Inputs.{InputTable}
+use Rattle.tp_inputs.specs.Within.{ValuesHave}
 use Rattle.tp_scene.specs.Scene.{Bindings, Leaf, Do, Later, Shown, Holder, Split, SplitProject, Closed, Opened, Running, Entries, none, leaf, node}
 use Rattle.tp_show.specs.TraceOfRun.{IsPathWithinLimits}
 use Rattle.tp_show.specs.Line.{IsOneLine}
@@ -114,10 +115,5 @@ EntriesArePrintable (node id k h held g second rest) =
     × EntriesArePrintable rest
 
 -- each value of a table of inputs is within the limits on numbers, items and depth
-abbrev pub LineIsPrintable : List InputPair → Type 0
-LineIsPrintable [] = Unit {0}
-LineIsPrintable (p ∷ ps) = IsWithinLimits p.value × LineIsPrintable ps
-
 abbrev pub InputsArePrintable : InputTable → Type 0
-InputsArePrintable [] = Unit {0}
-InputsArePrintable (l ∷ ls) = LineIsPrintable l × InputsArePrintable ls
+InputsArePrintable table = ValuesHave IsWithinLimits table

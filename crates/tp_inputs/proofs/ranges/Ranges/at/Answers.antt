@@ -1,17 +1,12 @@
-use Rattle.std.proofs.Common.{rules, ◌≡◌, ◌<◌, ◌≤◌, ◌^◌, [], true, false, OnOk, ℕ, ◌+◌, ◌-◌, ◌*◌, length, ◌/◌, ◌%◌, Bool, nat_eq, nat_lt, List, ◌∷◌, ◌++◌, slice_index_or, slice_set, bit_and, bit_or, Fits, w8, w32, w64, Bor, MutBor}
-use Rattle.std.specs.Option.{option_map}
-use Rattle.tp_value.specs.Read.{tree}
-use Rattle.tp_meaning.specs.Inputs.{row_value}
-use Rattle.tp_inputs.specs.Canonical.{are_rows}
-use Rattle.tp_inputs.specs.Spans.{rows_meet}
-use Rattle.tp_inputs.specs.Model.{rows_of}
-use Rattle.tp_inputs.specs.Moves.{TakesRow, GivesRows}
+use Rattle.std.proofs.Common.{sym}
+use Rattle.tp_inputs.specs.Model.{row_of, rows_of}
+use Rattle.tp_inputs.proofs.EntryLemmas.{entry_row}
+use Rattle.tp_inputs.proofs.RowMoves.{has_row}
 use Rattle.tp_inputs.proofs.ranges.Ranges.at.Goals as goal
 
--- src/ranges.rt:48:5
 pub returns-in-Some : goal.returns-in-Some
-returns-in-Some c = ?
-
--- src/ranges.rt:48:5
-pub returns-in-None : goal.returns-in-None
-returns-in-None c = ?
+returns-in-Some c =
+    let f = c.in-Some.ensures in
+    let first = c.in-Some.field-0-0 in
+    let row = c.in-Some.row.now in
+    sym (has_row (rows_of c.args.self.now) first c.args.state (row_of (first, row)) c.requires (entry_row c.args.self.now.rows.entries first row f.0) f.1 f.2)

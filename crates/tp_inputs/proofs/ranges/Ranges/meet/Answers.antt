@@ -1,17 +1,9 @@
-use Rattle.std.proofs.Common.{rules, ◌≡◌, ◌<◌, ◌≤◌, ◌^◌, [], true, false, OnOk, ℕ, ◌+◌, ◌-◌, ◌*◌, length, ◌/◌, ◌%◌, Bool, nat_eq, nat_lt, List, ◌∷◌, ◌++◌, slice_index_or, slice_set, bit_and, bit_or, Fits, w8, w32, w64, Bor, MutBor}
-use Rattle.std.specs.Option.{option_map}
-use Rattle.tp_value.specs.Read.{tree}
-use Rattle.tp_meaning.specs.Inputs.{row_value}
-use Rattle.tp_inputs.specs.Canonical.{are_rows}
-use Rattle.tp_inputs.specs.Spans.{rows_meet}
-use Rattle.tp_inputs.specs.Model.{rows_of}
-use Rattle.tp_inputs.specs.Moves.{TakesRow, GivesRows}
+use Rattle.std.proofs.Common.{sym}
+use Rattle.tp_inputs.proofs.LastEntry.{last_meeting, none_meeting}
 use Rattle.tp_inputs.proofs.ranges.Ranges.meet.Goals as goal
 
--- src/ranges.rt:59:5
 pub returns-in-Some : goal.returns-in-Some
-returns-in-Some c = ?
+returns-in-Some c = sym (last_meeting c.args.self.now.rows c.args.last c.range.result (c.range.ensures.in_range tt) c.requires _ _ c.next_back.new.self c.in-Some.ensures.steps c.args.first)
 
--- src/ranges.rt:59:5
 pub returns-in-None : goal.returns-in-None
-returns-in-None c = ?
+returns-in-None c = sym (none_meeting c.args.self.now.rows c.args.last c.range.result (c.range.ensures.in_range tt) c.requires c.in-None.ensures.steps.0 c.args.first)
