@@ -30,8 +30,11 @@ use Rattle.tp_call.specs.Run.{status_of, RunEnds, Settles}
 use Rattle.tp_call.specs.Progress.{Turned, is_settled, printed_lines, PartMade, HasWritten, ProgramMade, ClosesRun}
 use Rattle.tp_tree.specs.Tree.{SourceTree}
 use Rattle.tp_tree.specs.Spelling.{source_spelling}
+use Rattle.tp_meaning.specs.Inputs.{InputTable}
+use Rattle.tp_inputs.specs.Table.{IsInputsText}
+use Rattle.tp_inputs.specs.Converted.{converted}
 use Rattle.tp_call.specs.Spelling.{IsReadFromSpelling}
-use Rattle.tp_call.specs.Answer.{IsAskedFor, IsAskedToPrint, Spells, Refuses, RunsTo, run_text, CallEnds, Answers}
+use Rattle.tp_call.specs.Answer.{IsAskedFor, IsAskedToPrint, IsAskedToConvert, Spells, Converts, Refuses, RunsTo, run_text, CallEnds, Answers}
 use Rattle.tp_call.specs.Parts.{IsProgramRefusal, ClosesText}
 use Rattle.tp_call.proofs.TurnLemmas.{last_is_given, is_last, ends_run}
 use Rattle.tp_call.proofs.HeadlineLemmas.{end_says}
@@ -221,12 +224,12 @@ module _ (words : List (List ℕ)) (held : Option Held) (plan : Plan) (fits : Pr
 -- a refusal, and its end line or a part of it
 module _ (words : List (List ℕ)) (held : Option Held) (old new : Option (List ℕ)) (status : Status) where
   refused_whole : (result : Status) → Refuses words held status → result ≡ status → Wrote old new (refusal_line status) → (text : List ℕ) × CallEnds words held result text × Wrote old new text
-  refused_whole result r is wrote = (refusal_line status, inr (inr (subst (Refuses words held) (sym is) r, ap refusal_line (sym is))), wrote)
+  refused_whole result r is wrote = (refusal_line status, inr (inr (inr (subst (Refuses words held) (sym is) r, ap refusal_line (sym is)))), wrote)
 
   pub refused : (result : Status) → IsProgramRefusal words held status → (status ≡ NoMemory → result ≡ NoMemory) → ClosesText (refusal_line status) status old new result → Answers words held old new result
   refused NoMemory r memory c = ([], inl refl, rw c (Wrote-nothing old))
   refused WriteFault (inl none) memory c = let bad : WriteFault ≡ NoMemory = memory none in cc
-  refused WriteFault (inr r) memory c = (refusal_line status, inr (status, inr (inr (r, refl))), c)
+  refused WriteFault (inr r) memory c = (refusal_line status, inr (status, inr (inr (inr (r, refl)))), c)
   refused result (inl none) memory c = let bad : result ≡ NoMemory = memory none in cc
   refused result (inr r) memory c = refused_whole result r c.0 c.1
 
@@ -242,6 +245,19 @@ module _ (words : List (List ℕ)) (held : Option Held) (tree : SourceTree) (ask
   spelled WriteFault c = (source_spelling tree, inr (Done, inr (inl (spells Done refl))), c)
   spelled NoMemory c = ([], inl refl, rw c (Wrote-nothing old))
   spelled result c = spelled_whole result c.0 c.1
+
+-- inputs that are converted, and their text or a part of it
+module _ (words : List (List ℕ)) (held : Option Held) (table : InputTable) (asked : IsAskedToConvert words held table) (back : IsInputsText (converted table) table) (old new : Option (List ℕ)) where
+  converts : (status : Status) → status ≡ Done → Converts words held status (converted table)
+  converts status is = record { table = table; asked = asked; status_is = is; written = refl; read_back = back }
+
+  converted_whole : (result : Status) → result ≡ Done → Wrote old new (converted table) → (text : List ℕ) × CallEnds words held result text × Wrote old new text
+  converted_whole result is wrote = (converted table, inr (inr (inl (converts result is))), wrote)
+
+  pub table_written : (result : Status) → ClosesText (converted table) Done old new result → Answers words held old new result
+  table_written WriteFault c = (converted table, inr (Done, inr (inr (inl (converts Done refl)))), c)
+  table_written NoMemory c = ([], inl refl, rw c (Wrote-nothing old))
+  table_written result c = converted_whole result c.0 c.1
 
 -- an end line is written of no failed read, unless the status is that
 pub closes_no_fault : (text : List ℕ) (status : Status) (old new : Option (List ℕ)) (result : Status) → ClosesText text status old new result → (which : Which) → result ≡ ReadFault which → status ≡ ReadFault which

@@ -1,8 +1,8 @@
 -- Which file is found among those that a mode reads.
-use Rattle.std.proofs.Common.{◌≡◌, inl, inr, ℕ, List, ◌∷◌, Option, None, Some, refl, sym, ap, ◌∙◌, subst}
+use Rattle.std.proofs.Common.{◌≡◌, ◌⊎◌, inl, inr, ℕ, List, ◌∷◌, Option, None, Some, refl, sym, ap, ◌∙◌, subst}
 use Rattle.tp_io.specs.Held.{Held, bytes_of}
 use Rattle.tp_words.specs.declared.mode.Mode.{Mode}
-use Rattle.tp_words.specs.declared.mode.Mode.TheVariants.{Run, Print}
+use Rattle.tp_words.specs.declared.mode.Mode.TheVariants.{Run, Print, Convert}
 use Rattle.tp_words.specs.Words.{Wanted, wanted_of}
 use Rattle.tp_call.specs.declared.status.Which.{Which}
 use Rattle.tp_call.specs.declared.status.Which.TheVariants.{Source, Inputs}
@@ -45,16 +45,31 @@ source_found Run wanted Q P (inl (is, p)) = p
 source_found Run wanted Q P (inr (q, found)) = absurd (no_source_there wanted.inputs Q P found)
 source_found Print wanted Q P (inl (is, p)) = p
 source_found Print wanted Q P (inr (q, found)) = absurd found
+source_found Convert wanted Q P (inl (is, p)) = absurd (cc (is))
+source_found Convert wanted Q P (inr (q, found)) = absurd found
+
+-- to convert inputs, no source is read
+no_source_found : (mode : Mode) (wanted : Wanted) (Q : NamedFile → Type 0) (P : List ℕ → Type 0) → mode ≡ Convert → IsFoundIn Source Q P (files_read mode wanted) → ⊥
+no_source_found Run wanted Q P e found = let bad : Run ≡ Convert = e in cc
+no_source_found Print wanted Q P e found = let bad : Print ≡ Convert = e in cc
+no_source_found Convert wanted Q P e (inl (is, p)) = cc (is)
+no_source_found Convert wanted Q P e (inr (q, found)) = found
 
 the_inputs : (inputs : Option (List ℕ)) (Q : NamedFile → Type 0) (P : List ℕ → Type 0) → IsFoundIn Inputs Q P (files_named Inputs inputs) → (name : List ℕ) × (inputs ≡ Some name) × P name
 the_inputs None Q P found = absurd found
 the_inputs (Some name) Q P (inl (is, p)) = (name, refl, p)
 the_inputs (Some name) Q P (inr (q, found)) = absurd found
 
--- a mode that reads inputs runs the source, and reads that before
-inputs_found : (mode : Mode) (wanted : Wanted) (Q : NamedFile → Type 0) (P : List ℕ → Type 0) → IsFoundIn Inputs Q P (files_read mode wanted) → (mode ≡ Run) × Q (file_named Source wanted.file) × ((name : List ℕ) × (wanted.inputs ≡ Some name) × P name)
+-- a mode that reads inputs runs the source, and reads that before, or converts the inputs
+abbrev InputsFound : Mode → Wanted → (NamedFile → Type 0) → (List ℕ → Type 0) → Type 0
+InputsFound mode wanted Q P =
+    ((mode ≡ Run) × Q (file_named Source wanted.file) × ((name : List ℕ) × (wanted.inputs ≡ Some name) × P name)) ⊎ ((mode ≡ Convert) × P wanted.file)
+
+inputs_found : (mode : Mode) (wanted : Wanted) (Q : NamedFile → Type 0) (P : List ℕ → Type 0) → IsFoundIn Inputs Q P (files_read mode wanted) → InputsFound mode wanted Q P
 inputs_found Run wanted Q P (inl (is, p)) = absurd (cc (is))
-inputs_found Run wanted Q P (inr (q, found)) = (refl, q, the_inputs wanted.inputs Q P found)
+inputs_found Run wanted Q P (inr (q, found)) = inl (refl, q, the_inputs wanted.inputs Q P found)
+inputs_found Convert wanted Q P (inl (is, p)) = inr (refl, p)
+inputs_found Convert wanted Q P (inr (q, found)) = absurd found
 inputs_found Print wanted Q P (inl (is, p)) = absurd (cc (is))
 inputs_found Print wanted Q P (inr (q, found)) = absurd found
 
@@ -62,6 +77,10 @@ module _ (words : List (List ℕ)) (Tells : (Held → Type 0) → Type 0) (P : M
   -- what is told of a source that is read
   pub source_read : (r : ReadsFile words Tells Source P) → Tells (λ files. P r.wanted.mode (bytes_of files r.wanted.file))
   source_read r = source_found r.wanted.mode r.wanted _ _ r.found
+
+  -- and it is not read to convert inputs
+  pub source_reader : (r : ReadsFile words Tells Source P) → r.wanted.mode ≡ Convert → ⊥
+  source_reader r e = no_source_found r.wanted.mode r.wanted _ _ e r.found
 
   -- and of inputs, whose source is a program
   pub record ReadsInputs : Type 0 where
@@ -73,7 +92,16 @@ module _ (words : List (List ℕ)) (Tells : (Held → Type 0) → Type 0) (P : M
     pub source : Tells (λ files. Serves wanted.mode Source (bytes_of files wanted.file))
     pub inputs : Tells (λ files. P wanted.mode (bytes_of files name))
 
-  pub inputs_read : ReadsFile words Tells Inputs P → ReadsInputs
-  inputs_read r =
-      let there = inputs_found r.wanted.mode r.wanted _ _ r.found in
-      record { wanted = r.wanted; accepted = r.accepted; mode = there.0; name = there.2.0; named = there.2.1; source = there.1; inputs = there.2.2 }
+  -- or of inputs that are converted
+  pub record ReadsTable : Type 0 where
+    pub wanted : Wanted
+    pub accepted : wanted_of words ≡ Some wanted
+    pub mode : wanted.mode ≡ Convert
+    pub inputs : Tells (λ files. P wanted.mode (bytes_of files wanted.file))
+
+  pub inputs_read : ReadsFile words Tells Inputs P → ReadsInputs ⊎ ReadsTable
+  inputs_read r = by (inputs_found r.wanted.mode r.wanted _ _ r.found)
+    where
+      by : InputsFound r.wanted.mode r.wanted (λ file. Tells (λ files. Serves r.wanted.mode file.which (bytes_of files file.name))) (λ name. Tells (λ files. P r.wanted.mode (bytes_of files name))) → ReadsInputs ⊎ ReadsTable
+      by (inl there) = inl (record { wanted = r.wanted; accepted = r.accepted; mode = there.0; name = there.2.0; named = there.2.1; source = there.1; inputs = there.2.2 })
+      by (inr there) = inr (record { wanted = r.wanted; accepted = r.accepted; mode = there.0; inputs = there.1 })

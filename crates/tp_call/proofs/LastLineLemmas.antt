@@ -23,7 +23,7 @@ use Rattle.tp_run.specs.History.{RunEndsWith, Unsatisfiable, ContinuesEach}
 use Rattle.tp_run_laws.specs.Printable.{ProgramIsPrintable, InputsArePrintable}
 use Rattle.tp_run_laws.proofs.Phrases.{written_out, joined, decimal_one}
 use Rattle.tp_words.specs.declared.beside.Beside.{Beside}
-use Rattle.tp_words.specs.declared.mode.Mode.TheVariants.{Run, Print}
+use Rattle.tp_words.specs.declared.mode.Mode.TheVariants.{Run, Print, Convert}
 use Rattle.tp_call.specs.declared.status.Status.{Status}
 use Rattle.tp_call.specs.declared.status.Status.TheVariants.{SourceRefused, InputsRefused, WordsRefused, TooLong, ReadFault, WriteFault, NoMemory}
 use Rattle.tp_call.specs.declared.status.Which.{Which}
@@ -265,7 +265,10 @@ module _ (words : List (List ℕ)) (held : Option Held) (old new : Option (List 
     of_end status whole rest (inr (inl spelled)) begins =
         let bad : Run ≡ Print = sym (asks spelled.asked.wanted spelled.asked.accepted) ∙ spelled.asked.mode in
         absurd (cc bad)
-    of_end status whole rest (inr (inr refused)) begins = not_states whole rest (refusal_lines words held status refused.0 whole refused.1) begins
+    of_end status whole rest (inr (inr (inl made))) begins =
+        let bad : Run ≡ Convert = sym (asks made.asked.wanted made.asked.accepted) ∙ made.asked.mode in
+        absurd (cc bad)
+    of_end status whole rest (inr (inr (inr refused))) begins = not_states whole rest (refusal_lines words held status refused.0 whole refused.1) begins
 
     unfinished : {X : Type 0} (whole rest : List ℕ) → IsUnfinishedText words held whole → text ++ rest ≡ whole → X
     unfinished whole rest (inl none) begins = not_states whole rest (record { lines = []; one = All-nil IsOneLine; no_end = All-nil IsNoEnd; fed = none }) begins

@@ -17,7 +17,7 @@ use Rattle.tp_check.specs.Program.{ChecksTo}
 use Rattle.tp_check.proofs.Determined.{checks_once}
 use Rattle.tp_call.specs.declared.status.Refused.{Refused}
 use Rattle.tp_words.specs.declared.mode.Mode.{Mode}
-use Rattle.tp_words.specs.declared.mode.Mode.TheVariants.{Run, Print}
+use Rattle.tp_words.specs.declared.mode.Mode.TheVariants.{Run, Print, Convert}
 use Rattle.tp_call.specs.Spelling.{IsReadFromSpelling}
 use Rattle.tp_call.specs.Source.{IsSourceText, IsProgram, IsOutsideGrammar, IsNotRun, IsRefusedAt, lexer_refusal, parser_refusal, checker_refusal}
 
@@ -76,6 +76,7 @@ outside_once source r s (inr x) (inr y) =
 
 pub refused_once : (mode : Mode) (source : List ℕ) (r s : Refused) → IsRefusedAt mode source r → IsRefusedAt mode source s → r ≡ s
 refused_once Print source r s x y = outside_once source r s x y
+refused_once Convert source r s x y = absurd x
 refused_once Run source r s (inl x) (inl y) = outside_once source r s x y
 refused_once Run source r s (inl x) (inr y) = absurd (source_or_outside source y.tree r (source_not_run source s y) x)
 refused_once Run source r s (inr x) (inl y) = absurd (source_or_outside source x.tree s (source_not_run source r x) y)

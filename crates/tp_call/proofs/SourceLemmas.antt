@@ -1,5 +1,5 @@
 -- Files that are refused.
-use Rattle.std.proofs.Common.{◌≡◌, ◌≢◌, ◌≤◌, inl, inr, ℕ, List, [], ◌∷◌, length, Option, None, Some, Result, Err, IfErr, MatchOption, IsSomeAnd, refl, sym, ap, ◌∙◌, subst}
+use Rattle.std.proofs.Common.{◌≡◌, ◌≢◌, ◌≤◌, inl, inr, ℕ, List, [], ◌∷◌, length, Option, None, Some, Result, Err, IfErr, MatchOption, IsSomeAnd, refl, sym, ap, ◌∙◌, arith, subst}
 use Rattle.std.specs.Option.{option_map}
 use Rattle.tp_lex.specs.Place.{source_limit}
 use Rattle.tp_io.specs.Held.{Held, bytes_of}
@@ -14,6 +14,10 @@ use Rattle.tp_meaning.specs.Inputs.{InputTable}
 use Rattle.tp_meaning.specs.Interval.{ProgramTree}
 use Rattle.tp_words.specs.Words.{Wanted, wanted_of}
 use Rattle.tp_call.specs.Parts.{IsWordsRefusal, refusal_end, IsReadRefusal, IsSourceRefusal, IsTableRefusal, IsInputsEnd, IsProgramRefusal}
+use Rattle.tp_inputs.specs.Table.{IsInputsText}
+use Rattle.tp_inputs.specs.Converted.{converted}
+use Rattle.tp_inputs.proofs.ConvertedReads.{converted_is_table}
+use Rattle.tp_inputs.proofs.ConvertedWithin.{tables_end_within}
 use Rattle.tp_call.specs.Files.{NamedFile, file_named, files_named, files_read}
 use Rattle.tp_call.specs.Answer.{inputs_limit, WhereTold, HasInputs, HoldsProgram, HoldsRefused, HasBadLine, IsPastLimit, Serves, ReadsFile, Refuses}
 use Rattle.tp_call.proofs.FileLemmas.{reads_by, reads_first, reads_second}
@@ -30,7 +34,7 @@ use Rattle.tp_check.specs.Program.{ChecksTo}
 use Rattle.tp_check.specs.declared.refusal.CheckRefusal.{CheckRefusal}
 use Rattle.tp_check.specs.declared.refusal.CheckRefusal.TheVariants as check
 use Rattle.tp_words.specs.declared.mode.Mode.{Mode}
-use Rattle.tp_words.specs.declared.mode.Mode.TheVariants.{Run, Print}
+use Rattle.tp_words.specs.declared.mode.Mode.TheVariants.{Run, Print, Convert}
 use Rattle.tp_call.specs.Source.{IsOutsideGrammar, IsNotRun, IsRefusedAt, lexer_refusal, parser_refusal, checker_refusal}
 
 -- the source that was read is refused
@@ -49,6 +53,10 @@ source_unread mode held name read.NoMemory status is long = inl is
 pub table_refused : (held : Option Held) (name text : List ℕ) (status : Status) → length text ≤ inputs_limit → WhereTold held (λ files. text ≡ bytes_of files name) → IsTableRefusal text status → IsInputsEnd held (Some name) status
 table_refused held name text status short told (inl memory) = inl memory
 table_refused held name text status short told (inr (line, is, cause)) = inr (inr (inr (line, is, λ files at. subst (HasBadLine line) (told files at) (short, cause))))
+
+-- what is written of them is read as the same table
+pub table_read_back : (text : List ℕ) (table : InputTable) → length text ≤ inputs_limit → IsInputsText text table → IsInputsText (converted table) table
+table_read_back text table short is = converted_is_table text table is (tables_end_within text table (omega (arith, short)) is)
 
 -- they can't be read
 pub table_unread : (held : Option Held) (name : List ℕ) (refusal : ReadRefusal) (status : Status) → status ≡ read_end refusal Inputs → (refusal ≡ read.TooLong → WhereTold held (λ files. IsPastLimit Inputs (bytes_of files name))) → IsInputsEnd held (Some name) status
@@ -101,6 +109,13 @@ module _ (words : List (List ℕ)) (held : Option Held) (wanted : Wanted) (accep
   pub no_source : (mode : Mode) (rest : List NamedFile) (status : Status) → wanted.mode ≡ mode → files_read mode wanted ≡ file_named Source wanted.file ∷ rest → IsSourceRefusal mode held wanted.file status → IsProgramRefusal words held status
   no_source mode rest status is reads refusal =
       no_source_here rest (reads_by wanted mode _ is reads) status (subst (λ (m : Mode). IsSourceRefusal m held wanted.file status) (sym is) refusal)
+
+  -- the refusal of inputs that are to be converted
+  pub no_inputs : (status : Status) → wanted.mode ≡ Convert → IsInputsEnd held (Some wanted.file) status → IsProgramRefusal words held status
+  no_inputs status is (inl memory) = inl memory
+  no_inputs status is (inr (inl e)) = inr (subst (Refuses words held) (sym e) (reads_first words (WhereTold held) (λ mode bytes. Unit {0}) wanted accepted Inputs wanted.file [] (reads_by wanted Convert _ is refl) (λ files told. tt)))
+  no_inputs status is (inr (inr (inl (e, long)))) = inr (subst (Refuses words held) (sym e) (reads_first words (WhereTold held) (λ mode. IsPastLimit Inputs) wanted accepted Inputs wanted.file [] (reads_by wanted Convert _ is refl) long))
+  no_inputs status is (inr (inr (inr (line, e, cause)))) = inr (subst (Refuses words held) (sym e) (reads_first words (WhereTold held) (λ mode. HasBadLine line) wanted accepted Inputs wanted.file [] (reads_by wanted Convert _ is refl) cause))
 
   module _ (mode : wanted.mode ≡ Run) (program : ProgramTree) (source : WhereTold held (λ files. HoldsProgram program (bytes_of files wanted.file))) where
     supplied : (name : List ℕ) (P : List ℕ → Type 0) → wanted.inputs ≡ Some name → WhereTold held (λ files. P (bytes_of files name)) → ReadsFile words (WhereTold held) Inputs (λ mode. P)

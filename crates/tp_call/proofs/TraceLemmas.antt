@@ -113,7 +113,8 @@ module _ (words : List (List ℕ)) (held : Option Held) (old new : Option (List 
   run_alone : (status : Status) → (Refuses words held status → ⊥) → IsEndOfRun status → (text : List ℕ) × CallEnds words held status text × Wrote old new text → Ran status
   run_alone status never end (text, inl run, wrote) = (text, run, wrote)
   run_alone status never end (text, inr (inl spelled), wrote) = absurd (subst IsEndOfRun spelled.status_is end)
-  run_alone status never end (text, inr (inr refused), wrote) = absurd (never refused.0)
+  run_alone status never end (text, inr (inr (inl made)), wrote) = absurd (subst IsEndOfRun made.status_is end)
+  run_alone status never end (text, inr (inr (inr refused)), wrote) = absurd (never refused.0)
 
   pub ran : (status : Status) → IsEndOfRun status → Answers words held old new status → Ran status
   ran (Finished n) end a = run_alone (Finished n) (λ r. r) end a

@@ -14,12 +14,13 @@ use Rattle.tp_call.specs.declared.status.Which.TheVariants.{Source, Inputs}
 use Rattle.tp_tree.specs.Tree.{SourceTree}
 use Rattle.tp_tree.specs.Spelling.{source_spelling}
 use Rattle.tp_words.specs.declared.mode.Mode.{Mode}
-use Rattle.tp_words.specs.declared.mode.Mode.TheVariants.{Run, Print}
+use Rattle.tp_words.specs.declared.mode.Mode.TheVariants.{Run, Print, Convert}
 use Rattle.tp_words.specs.Words.{Wanted, wanted_of}
 use Rattle.std.specs.Str.Lines.{lines}
 use Rattle.tp_meaning.specs.Inputs.{InputTable}
 use Rattle.tp_inputs.specs.declared.fault.Fault.{Fault}
 use Rattle.tp_inputs.specs.Table.{IsInputsText, IsFirstFault}
+use Rattle.tp_inputs.specs.Converted.{converted}
 use Rattle.tp_show.specs.EndLine.{end_line}
 use Rattle.tp_show.specs.Told.{AreNames, IsPictureInRange}
 use Rattle.tp_call.specs.EndLine.{refusal_line}
@@ -92,6 +93,15 @@ pub record IsAskedToPrint (words : List (List ℕ)) (held : Option Held)
   pub mode : wanted.mode ≡ Print
   pub source : WhereTold held (λ files. HoldsSource tree (bytes_of files wanted.file))
 
+-- What is converted: the words are accepted, ask for that, and name a file of inputs, which is this
+-- table.
+pub record IsAskedToConvert (words : List (List ℕ)) (held : Option Held)
+    (table : InputTable) : Type 0 where
+  pub wanted : Wanted
+  pub accepted : wanted_of words ≡ Some wanted
+  pub mode : wanted.mode ≡ Convert
+  pub inputs : WhereTold held (λ files. HoldsTable table (bytes_of files wanted.file))
+
 -- a file has more bytes than it may have
 abbrev pub byte_limit : Which → ℕ
 byte_limit Source = source_limit
@@ -106,12 +116,14 @@ HasBadLine line bytes =
     (length bytes ≤ inputs_limit) × ((fault : Fault) × IsFirstFault (lines bytes) line fault)
 
 -- What a mode needs of a file that it reads, to go on: to run, the source is a program, and the
--- inputs are a table; to print, the source is one of the grammar.
+-- inputs are a table; to print, the source is one of the grammar; to convert, the inputs are a table.
 abbrev pub Serves : Mode → Which → List ℕ → Type 0
 Serves Run Source bytes = (program : ProgramTree) × HoldsProgram program bytes
 Serves Run Inputs bytes = (table : InputTable) × HoldsTable table bytes
 Serves Print Source bytes = (tree : SourceTree) × HoldsSource tree bytes
 Serves Print Inputs bytes = ⊥
+Serves Convert Source bytes = ⊥
+Serves Convert Inputs bytes = (table : InputTable) × HoldsTable table bytes
 
 -- The words are accepted, and this file is one that their mode reads: it has P for what is to be
 -- done with it, and each one that is read before it serves the mode. `Tells` says how this is said
@@ -150,6 +162,16 @@ pub record Spells (words : List (List ℕ)) (held : Option Held) (status : Statu
   pub written : text ≡ source_spelling tree
   pub read_back : IsReadFromSpelling tree
 
+-- The inputs that are asked for were converted, which has this status, and the text is that of their
+-- table, which is read back as this table.
+pub record Converts (words : List (List ℕ)) (held : Option Held) (status : Status)
+    (text : List ℕ) : Type 0 where
+  pub table : InputTable
+  pub asked : IsAskedToConvert words held table
+  pub status_is : status ≡ Done
+  pub written : text ≡ converted table
+  pub read_back : IsInputsText (converted table) table
+
 -- The cause of a refusal.
 abbrev pub Refuses : List (List ℕ) → Option Held → Status → Type 0
 Refuses words held (SourceRefused line column kind) =
@@ -177,10 +199,11 @@ Refuses words held WriteFault = ⊥
 Refuses words held NoMemory = ⊥
 
 -- A call ends with this status and has written this text: that of a run, the spelling of a source,
--- or the end line of a refusal alone.
+-- inputs in the second format, or the end line of a refusal alone.
 abbrev pub CallEnds : List (List ℕ) → Option Held → Status → List ℕ → Type 0
 CallEnds words held status text =
     RunsTo words held status text ⊎ Spells words held status text
+    ⊎ Converts words held status text
     ⊎ (Refuses words held status × (text ≡ refusal_line status))
 
 -- the states of a run of what is asked for, whose program's parts fit each other, and their text
@@ -238,12 +261,25 @@ pub record WritesSpelling (words : List (List ℕ)) (held : Option Held)
 abbrev pub IsToPrint : SourceTree → Mode → List ℕ → Type 0
 IsToPrint tree mode source = (mode ≡ Print) × HoldsSource tree source
 
+-- The inputs that are asked for were converted: the text of their table was appended, which is read
+-- back as this table.
+pub record WritesTable (words : List (List ℕ)) (held : Option Held)
+    (old new : Option (List ℕ)) : Type 0 where
+  pub table : InputTable
+  pub asked : IsAskedToConvert words held table
+  pub appended : Wrote old new (converted table)
+  pub read_back : IsInputsText (converted table) table
+
+-- the inputs are to be converted, and are this table
+abbrev pub IsToConvert : InputTable → Mode → List ℕ → Type 0
+IsToConvert table mode bytes = (mode ≡ Convert) × HoldsTable table bytes
+
 -- the answer is this one, unless a write failed or memory was wanted
 abbrev pub IsOrStopped : Status → Status → Type 0
 IsOrStopped status result = (result ≡ status) ⊎ (result ≡ WriteFault) ⊎ (result ≡ NoMemory)
 
--- a run ended: the answer is none of a source that is printed, of a refusal, of a fault or of want
--- of memory
+-- a run ended: the answer is none of a source that is printed or inputs that are converted, of a
+-- refusal, of a fault or of want of memory
 abbrev pub IsEndOfRun : Status → Type 0
 IsEndOfRun (Finished length) = Unit {0}
 IsEndOfRun (Contradictory state clash) = Unit {0}

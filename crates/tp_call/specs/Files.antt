@@ -3,7 +3,7 @@ use Rattle.std.specs.Prelude.{◌≡◌, ◌⊎◌, ℕ, List, [], ◌∷◌, �
 use Rattle.std.specs.Option.{option_map}
 use Rattle.std.specs.List.{last_or}
 use Rattle.tp_words.specs.declared.mode.Mode.{Mode}
-use Rattle.tp_words.specs.declared.mode.Mode.TheVariants.{Run, Print}
+use Rattle.tp_words.specs.declared.mode.Mode.TheVariants.{Run, Print, Convert}
 use Rattle.tp_words.specs.Words.{Wanted, wanted_of}
 use Rattle.tp_call.specs.declared.status.Which.{Which}
 use Rattle.tp_call.specs.declared.status.Which.TheVariants.{Source, Inputs}
@@ -22,10 +22,11 @@ files_named which None = []
 files_named which (Some name) = file_named which name ∷ []
 
 -- The files that a mode reads, in order: to run, the source, and then the inputs where they are
--- named; to print, the source.
+-- named; to print, the source; to convert, the inputs.
 abbrev pub files_read : Mode → Wanted → List NamedFile
 files_read Run wanted = file_named Source wanted.file ∷ files_named Inputs wanted.inputs
 files_read Print wanted = file_named Source wanted.file ∷ []
+files_read Convert wanted = file_named Inputs wanted.file ∷ []
 
 -- those of the mode that words ask for; of words that are refused, none
 abbrev pub files_wanted : Option Wanted → List NamedFile

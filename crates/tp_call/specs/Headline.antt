@@ -12,11 +12,12 @@ use Rattle.tp_call.specs.declared.status.SourceKind.{SourceKind}
 use Rattle.tp_call.specs.declared.status.Which.{Which}
 use Rattle.tp_call.specs.declared.status.Which.TheVariants.{Source, Inputs}
 use Rattle.tp_tree.specs.Tree.{SourceTree}
+use Rattle.tp_meaning.specs.Inputs.{InputTable}
 use Rattle.tp_words.specs.Words.{wanted_of}
 use Rattle.tp_run.specs.States.{Plan}
 use Rattle.tp_show.specs.Told.{FitsIn64Bits}
 use Rattle.tp_call.specs.Text.{AsksNothingBeside, TextTells, SatisfiedAsTold, ContinuesTold, finished_line}
-use Rattle.tp_call.specs.Answer.{WhereTold, AsTold, HoldsRefused, IsPastLimit, HasBadLine, IsAskedFor, IsToPrint, ReadsFile, Prints, WritesSpelling, IsOrStopped, IsOrFailed, IsEndOfRun, IsOpenEnd, HasFailed, refused_status}
+use Rattle.tp_call.specs.Answer.{WhereTold, AsTold, HoldsRefused, IsPastLimit, HasBadLine, IsAskedFor, IsToPrint, IsToConvert, ReadsFile, Prints, WritesSpelling, WritesTable, IsOrStopped, IsOrFailed, IsEndOfRun, IsOpenEnd, HasFailed, refused_status}
 
 module _ (words : List (List ℕ)) (held : Option Held) (old new : Option (List ℕ)) (result : Status) where
   -- A run that finishes with length n: an interval satisfies the program, and shows S, exactly
@@ -74,9 +75,11 @@ module _ (words : List (List ℕ)) (held : Option Held) (old new : Option (List 
       → TextTells words held old new (λ plan told last. ContinuesTold plan told)
 
   -- Done: the words ask to print a source of the grammar, and what was appended is its canonical
-  -- spelling, which is read back as this source.
-  abbrev pub PrintedSays : Type 0
-  PrintedSays = result ≡ Done → WritesSpelling words held old new
+  -- spelling, which is read back as this source; or they ask to convert inputs, and what was appended
+  -- is the text of their table in the second format, which is read back as this table.
+  abbrev pub DoneSays : Type 0
+  DoneSays =
+      result ≡ Done → WritesSpelling words held old new ⊎ WritesTable words held old new
 
 -- Of the words, of what the files hold, and of the status.
 module _ (words : List (List ℕ)) (held : Option Held) (result : Status) where
@@ -92,6 +95,13 @@ module _ (words : List (List ℕ)) (held : Option Held) (result : Status) where
   abbrev pub SourcePrints : Type 0
   SourcePrints =
       (tree : SourceTree) → ReadsFile words (AsTold held) Source (IsToPrint tree)
+      → IsOrFailed Done result
+
+  -- Where the words ask to convert a file that holds a table of inputs, this is done, unless a read
+  -- or a write fails or memory is wanted.
+  abbrev pub InputsConvert : Type 0
+  InputsConvert =
+      (table : InputTable) → ReadsFile words (AsTold held) Inputs (IsToConvert table)
       → IsOrFailed Done result
 
   -- The words are refused exactly where they ask for nothing that a call does.
@@ -117,8 +127,8 @@ module _ (words : List (List ℕ)) (held : Option Held) (result : Status) where
     pub there : (refused : Refused) → ReadsFile words (AsTold held) Source (HoldsRefused refused)
         → IsOrFailed (refused_status refused) result
 
-  -- The inputs of a source that is a program are refused exactly where they are no table, at the
-  -- first line that is at fault.
+  -- The inputs of a source that is a program, or those that are to be converted, are refused exactly
+  -- where they are no table, at the first line that is at fault.
   pub record InputsRefusedExactly : Type 0 where
     pub only : (line : ℕ) → result ≡ InputsRefused line
         → ReadsFile words (WhereTold held) Inputs (λ mode. HasBadLine line)

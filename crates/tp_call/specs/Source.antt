@@ -15,7 +15,7 @@ use Rattle.tp_check.specs.Program.{ChecksTo}
 use Rattle.tp_check.specs.declared.refusal.CheckRefusal.{CheckRefusal}
 use Rattle.tp_check.specs.declared.refusal.CheckRefusal.TheVariants as check
 use Rattle.tp_words.specs.declared.mode.Mode.{Mode}
-use Rattle.tp_words.specs.declared.mode.Mode.TheVariants.{Run, Print}
+use Rattle.tp_words.specs.declared.mode.Mode.TheVariants.{Run, Print, Convert}
 use Rattle.tp_call.specs.declared.status.SourceKind.{SourceKind}
 use Rattle.tp_call.specs.declared.status.SourceKind.TheVariants.{BadByte, OpenComment, NumberTooLarge, NameTooLong, Unexpected, Unfinished, TooDeep, DefinedTwice, UnknownName, WrongCount, NotExpression, NotPlace, NotPort, NotExecutable}
 use Rattle.tp_call.specs.declared.status.Refused.{Refused}
@@ -98,7 +98,9 @@ abbrev pub IsOutsideGrammar : List ℕ → Refused → Type 0
 IsOutsideGrammar source refused = HasNoTokens source refused ⊎ HasNoTree source refused
 
 -- This text is refused at this place, for this cause: to be printed it has to be a source of the
--- grammar, and to be run it has to be a program, for which it is checked last.
+-- grammar, and to be run it has to be a program, for which it is checked last. To convert inputs, no
+-- source is read.
 abbrev pub IsRefusedAt : Mode → List ℕ → Refused → Type 0
 IsRefusedAt Print source refused = IsOutsideGrammar source refused
+IsRefusedAt Convert source refused = ⊥
 IsRefusedAt Run source refused = IsOutsideGrammar source refused ⊎ IsNotRun source refused

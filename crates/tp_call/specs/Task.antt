@@ -5,6 +5,8 @@ use Rattle.tp_tree.specs.Read.{source_tree}
 use Rattle.tp_meaning.specs.Fits.{ProgramFits}
 use Rattle.tp_check.specs.Program.{program_tree}
 use Rattle.tp_inputs.specs.Read.{inputs_of}
+use Rattle.tp_inputs.specs.Table.{IsInputsText}
+use Rattle.tp_inputs.specs.Converted.{converted}
 use Rattle.tp_step.specs.declared.order.Order.{Order}
 use Rattle.tp_show.specs.Told.{AreNames}
 use Rattle.tp_run.specs.States.{Plan, plan_with}
@@ -15,7 +17,7 @@ use Rattle.tp_call.specs.declared.run.Task.{Task}
 use Rattle.tp_call.specs.declared.job.Job.{Job}
 use Rattle.tp_call.specs.declared.job.Job.TheVariants as job
 use Rattle.tp_call.specs.Spelling.{IsReadFromSpelling}
-use Rattle.tp_call.specs.Answer.{IsAskedFor, IsAskedToPrint}
+use Rattle.tp_call.specs.Answer.{IsAskedFor, IsAskedToPrint, IsAskedToConvert}
 use Rattle.tp_words.specs.declared.beside.Beside.{Beside}
 
 -- the plan of a task
@@ -46,8 +48,11 @@ pub record IsTaskFor (words : List (List ℕ)) (held : Option Held) (task : Task
   pub beside : WritesBesideAsAsked words task.beside
   pub order : OrdersAsAsked words task.order
 
--- the words ask for this task, or to print this source
+-- the words ask for this task, to print this source, or to convert these inputs
 abbrev pub IsJobFor : List (List ℕ) → Option Held → Job → Type 0
 IsJobFor words held (job.Run task) = IsTaskFor words held task
 IsJobFor words held (job.Print source) =
     IsAskedToPrint words held (source_tree source) × IsReadFromSpelling (source_tree source)
+IsJobFor words held (job.Convert inputs) =
+    IsAskedToConvert words held (inputs_of inputs)
+    × IsInputsText (converted (inputs_of inputs)) (inputs_of inputs)

@@ -7,9 +7,10 @@ ghost use Rattle.tp_check.specs.Program.{program_tree};
 ghost use Rattle.tp_call.specs.Source.{IsProgram};
 ghost use Rattle.tp_call.specs.declared.status.Which.{Which};
 ghost use Rattle.tp_inputs.specs.Read.{inputs_of};
+ghost use Rattle.tp_inputs.specs.Converted.{converted};
 ghost use Rattle.tp_inputs.specs.Table.{IsInputsText};
 ghost use Rattle.tp_call.specs.Files.{AsksOnly};
-ghost use Rattle.tp_call.specs.Answer.{WhereTold, HoldsProgram, HasInputs, IsAskedFor, Answers};
+ghost use Rattle.tp_call.specs.Answer.{inputs_limit, WhereTold, HoldsProgram, HasInputs, IsAskedFor, Answers};
 ghost use Rattle.tp_call.specs.Reading.{AsksFile, AsksTable};
 ghost use Rattle.tp_call.specs.Task.{plan_of, AsksFor, WritesBesideAsAsked, OrdersAsAsked, IsTaskFor, IsJobFor};
 ghost use Rattle.tp_words.specs.declared.mode.Mode.TheVariants.{Run};
@@ -20,6 +21,7 @@ ghost use Rattle.tp_show.specs.Told.{AreNames, IsLastTurn};
 
 use crate::close::{close, refuse};
 use crate::command::command_for;
+use crate::converting::write_inputs;
 use crate::job::Job;
 use crate::printing::{parse_source, print_source, read_tree};
 use crate::refused::{by_checker, refusal_status};
@@ -76,7 +78,10 @@ fn read_source<F: Files>(alloc: Global, name: &str, files: &mut F) -> Result<Pro
 
 // The table of inputs of the text.
 fn table_of(alloc: Global, text: &[u8]) -> Result<Inputs, Status>
+    requires { length text.now ≤ inputs_limit }
     ensures table { IfOk result (λ t. IsInputsText text.now (inputs_of t)) }
+    ensures read_back { IfOk result (λ t.
+        IsInputsText (converted (inputs_of t)) (inputs_of t)) }
     ensures refused { IfErr result (IsTableRefusal text.now) }
 {
     match read_inputs(alloc, text) {
@@ -103,6 +108,8 @@ fn no_inputs(alloc: Global) -> Result<Inputs, Status>
 fn read_table<F: Files>(alloc: Global, name: &str, files: &mut F) -> Result<Inputs, Status>
     ensures table { IfOk result (λ t.
         HasInputs (Some name.now) (F.held files.old) (inputs_of t)) }
+    ensures read_back { IfOk result (λ t.
+        IsInputsText (converted (inputs_of t)) (inputs_of t)) }
     ensures refused { IfErr result (IsInputsEnd (F.held files.old) (Some name.now)) }
     ensures asked { AsksFile (F.asked files.old) name.now result (F.asked files.new) }
     ensures held { F.held files.new ≡ F.held files.old }
@@ -194,6 +201,7 @@ fn job_for<F: Files>(alloc: Global, words: &[Text], files: &mut F) -> Result<Job
     match command.mode {
         Mode::Run => Ok(Job::Run(task_for(alloc, &command, files)?)),
         Mode::Print => Ok(Job::Print(read_tree(alloc, command.file.as_str(), files)?)),
+        Mode::Convert => Ok(Job::Convert(read_table(alloc, command.file.as_str(), files)?)),
     }
 }
 
@@ -286,6 +294,7 @@ pub fn call<F: Files, K: Sink, L: Ledger>(
     match job_for(alloc, words, files) {
         Ok(Job::Run(task)) => run_whole(alloc, task, out, steps),
         Ok(Job::Print(source)) => print_source(alloc, &source, out),
+        Ok(Job::Convert(inputs)) => write_inputs(alloc, &inputs, out),
         Err(status) => refuse(alloc, status, out),
     }
 }

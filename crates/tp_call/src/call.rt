@@ -4,7 +4,7 @@ ghost use Rattle.tp_io.specs.Held.{Rose};
 ghost use Rattle.tp_call.specs.declared.status.Which.{Which};
 ghost use Rattle.tp_call.specs.Files.{AsksOnly};
 ghost use Rattle.tp_call.specs.Answer.{Answers};
-ghost use Rattle.tp_call.specs.Headline.{FinishedSays, FinishedTextSays, OpenTextSays, ContradictorySays, UndeterminedSays, StateLimitSays, LimitSays, InputMissingSays, ProgramRuns, WordsRefusedExactly, TooLongExactly, SourceRefusedExactly, InputsRefusedExactly, PrintedSays, SourcePrints};
+ghost use Rattle.tp_call.specs.Headline.{FinishedSays, FinishedTextSays, OpenTextSays, ContradictorySays, UndeterminedSays, StateLimitSays, LimitSays, InputMissingSays, ProgramRuns, WordsRefusedExactly, TooLongExactly, SourceRefusedExactly, InputsRefusedExactly, DoneSays, SourcePrints, InputsConvert};
 ghost use Rattle.tp_call.specs.EveryOrder.{ComesToEachEnd};
 ghost use Rattle.tp_call.specs.Trace.{TraceSays};
 ghost use Rattle.tp_call.specs.TracedText.{FinishedTracedSays, OpenTracedSays};
@@ -79,10 +79,11 @@ pub fn tempura<F: Files, K: Sink, L: Ledger>(
     ensures last_line { LastLineSays words.now (F.held files.old) (K.written out.old)
         (K.written out.new) }
 
-    // A source that is printed.
-    ensures printed { PrintedSays words.now (F.held files.old) (K.written out.old)
+    // A source that is printed, and inputs that are converted.
+    ensures done { DoneSays words.now (F.held files.old) (K.written out.old)
         (K.written out.new) result }
     ensures prints { SourcePrints words.now (F.held files.old) result }
+    ensures converts { InputsConvert words.now (F.held files.old) result }
 
     // Refusals, each exactly, but for failed reads and writes and want of memory.
     ensures words_refused { WordsRefusedExactly words.now (F.held files.old) result }

@@ -5,6 +5,7 @@ mod answer;
 mod call;
 mod close;
 mod command;
+mod converting;
 mod end_line;
 mod job;
 mod printing;

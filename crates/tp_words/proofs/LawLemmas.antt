@@ -11,7 +11,7 @@ use Rattle.clap.specs.Walk.{Held, Walk, Step, idle, value, word_met, walked, aft
 use Rattle.clap.specs.Faults.{word_fault, turn_fault, step_fault, settle_fault, defaults_fault, check_fault, entered_fault}
 use Rattle.tp_words.specs.App.{the_app}
 use Rattle.tp_words.specs.declared.mode.Mode.{Mode}
-use Rattle.tp_words.specs.declared.mode.Mode.TheVariants.{Run, Print}
+use Rattle.tp_words.specs.declared.mode.Mode.TheVariants.{Run, Print, Convert}
 use Rattle.tp_words.specs.Mode.{mode_text}
 use Rattle.tp_words.specs.Words.{Wanted, wanted_without, wanted_in, wanted_of_texts, wanted_of, usual_wanted}
 
@@ -19,6 +19,7 @@ empty_name : (mode : Mode) → wanted_of_texts (mode_text mode ∷ [] ∷ []) �
 unfolding clap_on_literals wanted_of_texts wanted_in
 empty_name Run = refl
 empty_name Print = refl
+empty_name Convert = refl
 
 not_equal : (x y : ℕ) → (x ≡ y → ⊥) → nat_eq x y ≡ false
 not_equal x y apart = grind arith
@@ -67,12 +68,14 @@ as_ended : (mode : Mode) (file : List ℕ) → wanted_of_texts (mode_text mode �
 unfolding clap_on_literals wanted_of_texts
 as_ended Run file = refl
 as_ended Print file = refl
+as_ended Convert file = refl
 
 plain_end : (mode : Mode) (file : List ℕ) → ended mode (to_positional the_shape.rules (arg_by_index the_shape.rules 2) file (second_walk mode) (second_held mode))
     (step_fault the_shape 2 (second_held mode) value) ≡ Some (usual_wanted mode file)
 unfolding clap_on_literals wanted_in
 plain_end Run file = refl
 plain_end Print file = refl
+plain_end Convert file = refl
 
 enough : (mode : Mode) (file : List ℕ) → (slice_index file 0 ≡ 45 → ⊥) → wanted_of_texts (mode_text mode ∷ file ∷ []) ≡ Some (usual_wanted mode file)
 enough mode [] apart = empty_name mode
@@ -84,6 +87,7 @@ mode_is_text : (mode : Mode) → is_utf8 (mode_text mode) ≡ true
 unfolding is_utf8 clap_on_literals
 mode_is_text Run = refl
 mode_is_text Print = refl
+mode_is_text Convert = refl
 
 pub two_words : (mode : Mode) (file : List ℕ) → IsUtf8 file → slice_index file 0 ≢ 45 → wanted_of (mode_text mode ∷ file ∷ []) ≡ Some (usual_wanted mode file)
 two_words mode file u apart = ap (λ (b : Bool). if b then wanted_of_texts (mode_text mode ∷ file ∷ []) else None) (ap₂ (λ a b. a && (b && true)) (mode_is_text mode) (is_utf8-from_IsUtf8 file u)) ∙ enough mode file apart

@@ -2,13 +2,15 @@
 ghost use Rattle.std.specs.Prelude.{◌≡◌, option_map};
 ghost use Rattle.tp_words.specs.Mode.{mode_named, mode_given};
 
-/// What words ask to do with the source of the file.
+/// What words ask to do with the file.
 #[derive(Clone, Copy, Debug, PartialEq, Eq)]
 pub enum Mode {
-    /// It is run.
+    /// The source that it is is run.
     Run,
-    /// Its canonical spelling is written.
+    /// The canonical spelling of the source that it is is written.
     Print,
+    /// The inputs that it is are written in the second format.
+    Convert,
 }
 
 // The mode with this name.
@@ -20,6 +22,9 @@ fn mode_named(text: &str) -> Option<Mode>
     }
     if text == "print" {
         return Some(Mode::Print);
+    }
+    if text == "convert" {
+        return Some(Mode::Convert);
     }
     None
 }

@@ -1,5 +1,6 @@
 use Rattle.tp_tree.specs.Read.{source_tree}
-use Rattle.tp_call.proofs.AnswerLemmas.{refused, spelled}
+use Rattle.tp_inputs.specs.Read.{inputs_of}
+use Rattle.tp_call.proofs.AnswerLemmas.{refused, spelled, table_written}
 use Rattle.tp_call.proofs.InOrderLemmas.{task_in_order, refused_in_order, printed_in_order}
 use Rattle.tp_call.proofs.answer.call.Goals as goal
 
@@ -11,6 +12,11 @@ returns-in-Ok-Print-clause-answer g c =
     let job = rw c.in-Ok-Print.field-0-is at c.in-Ok-Print.ensures.job in
     spelled _ _ (source_tree c.in-Ok-Print.source) job.0 job.1 _ _ _ c.print_source.ensures.written
 
+pub returns-in-Ok-Convert-clause-answer : goal.returns-in-Ok-Convert-clause-answer
+returns-in-Ok-Convert-clause-answer g c =
+    let job = rw c.in-Ok-Convert.field-0-is at c.in-Ok-Convert.ensures.job in
+    table_written _ _ (inputs_of c.in-Ok-Convert.inputs) job.0 job.1 _ _ _ c.write_inputs.ensures.written
+
 pub returns-in-Ok-Run-clause-named_in_order : goal.returns-in-Ok-Run-clause-named_in_order
 returns-in-Ok-Run-clause-named_in_order g c =
     let job = rw c.in-Ok-Run.field-0-is at c.in-Ok-Run.ensures.job in
@@ -21,3 +27,6 @@ returns-in-Err-clause-named_in_order g c = refused_in_order _ _ c.in-Err.status 
 
 pub returns-in-Ok-Print-clause-named_in_order : goal.returns-in-Ok-Print-clause-named_in_order
 returns-in-Ok-Print-clause-named_in_order g c = printed_in_order _ _ c.print_source.result _ _ _ c.print_source.ensures.written
+
+pub returns-in-Ok-Convert-clause-named_in_order : goal.returns-in-Ok-Convert-clause-named_in_order
+returns-in-Ok-Convert-clause-named_in_order g c = printed_in_order _ _ c.write_inputs.result _ _ _ c.write_inputs.ensures.written

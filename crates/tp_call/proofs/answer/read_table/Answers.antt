@@ -11,6 +11,9 @@ returns-in-Ok-clause-table g c =
     let bytes = c.in-Ok.ensures.bytes in
     MatchResult-weaker c.table_of.result (rw c.as_slice.ensures at c.table_of.ensures.table) (λ t is. λ files told. subst (HoldsTable (inputs_of t)) (bytes.1 files told) (bytes.0, is)) (λ status any. any)
 
+pub returns-in-Ok-clause-read_back : goal.returns-in-Ok-clause-read_back
+returns-in-Ok-clause-read_back g c = c.table_of.ensures.read_back
+
 pub returns-in-Ok-clause-refused : goal.returns-in-Ok-clause-refused
 returns-in-Ok-clause-refused g c =
     let bytes = c.in-Ok.ensures.bytes in

@@ -1,4 +1,4 @@
-use Rattle.tp_call.proofs.ClauseLemmas.{finished, contradictory, undetermined, state_limit, reduction_limit, number_limit, list_limit, call_limit, nest_limit, input_missing, program_runs, finished_text, open_text, printed, source_prints, words_refused_only, words_refused, too_long_only, too_long, source_refused_only, source_refused, inputs_refused_only, inputs_refused}
+use Rattle.tp_call.proofs.ClauseLemmas.{finished, contradictory, undetermined, state_limit, reduction_limit, number_limit, list_limit, call_limit, nest_limit, input_missing, program_runs, finished_text, open_text, done, source_prints, inputs_convert, words_refused_only, words_refused, too_long_only, too_long, source_refused_only, source_refused, inputs_refused_only, inputs_refused}
 use Rattle.tp_call.proofs.EveryOrderLemmas.{comes_to_each_end}
 use Rattle.tp_call.proofs.TraceLemmas.{trace_says}
 use Rattle.tp_call.proofs.TracedTextLemmas.{finished_traced, open_traced}
@@ -81,8 +81,11 @@ returns-clause-source_refused g c = record { only = source_refused_only _ _ _ _ 
 pub returns-clause-inputs_refused : goal.returns-clause-inputs_refused
 returns-clause-inputs_refused g c = record { only = inputs_refused_only _ _ _ _ _ c.call.ensures.answer; there = inputs_refused _ _ _ _ _ c.call.ensures.answer }
 
-pub returns-clause-printed : goal.returns-clause-printed
-returns-clause-printed g c = printed _ _ _ _ _ c.call.ensures.answer
+pub returns-clause-done : goal.returns-clause-done
+returns-clause-done g c = done _ _ _ _ _ c.call.ensures.answer
 
 pub returns-clause-prints : goal.returns-clause-prints
 returns-clause-prints g c = source_prints _ _ _ _ _ c.call.ensures.answer
+
+pub returns-clause-converts : goal.returns-clause-converts
+returns-clause-converts g c = inputs_convert _ _ _ _ _ c.call.ensures.answer
