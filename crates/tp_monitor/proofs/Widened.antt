@@ -4,7 +4,7 @@ use Rattle.tp_value.specs.Tree.{truth}
 use Rattle.tp_meaning.specs.Syntax.{FormulaTree, FormulaTrees, trivial, test, equation, next_equation, empty, more, next, weak_next, if_more, if_empty, always, conjunction, branch, len, assign, chop, while, for_from, forall_from, project, exists, call, input, display, no_formula, formula_then}
 use Rattle.tp_meaning.specs.Course.{Course, Part, blank}
 use Rattle.tp_meaning.specs.Value.{◌>>=◌, calls_at}
-use Rattle.tp_meaning.specs.Inputs.{InputLines}
+use Rattle.tp_meaning.specs.Inputs.{InputTable}
 use Rattle.tp_meaning.specs.Holds.{Context, CallMeanings, Joined, Chopped, OnEachSuffix, Pieces, HoldsBy, AllHoldBy, CallHolds}
 use Rattle.tp_monitor.specs.Wide as wide
 use Rattle.tp_monitor.specs.Wide.{WideTree, WideTrees, HasValue, WideHolds, AllHoldWidely}
@@ -20,7 +20,7 @@ goes_from : {A B : Type 0} (o : Option A) (f : A → Option B) (y : B) → (o >>
 goes_from None f y e = absurd (cc)
 goes_from (Some x) f y e = (x, refl, e)
 
-module _ (inputs : InputLines) (meanings : CallMeanings) (s : Course) where
+module _ (inputs : InputTable) (meanings : CallMeanings) (s : Course) where
   abbrev given : Context
   given = record { defs = []; inputs = inputs }
 

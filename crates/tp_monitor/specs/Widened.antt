@@ -3,7 +3,7 @@ use Rattle.std.specs.Prelude.{◌≡◌, ◌↔◌, ℕ, [], Option, Some, None}
 use Rattle.tp_meaning.specs.Syntax.{FormulaTree, FormulaTrees, trivial, test, equation, next_equation, empty, more, next, weak_next, if_more, if_empty, always, conjunction, branch, len, assign, chop, while, for_from, forall_from, project, exists, call, input, display, no_formula, formula_then}
 use Rattle.tp_meaning.specs.Course.{Course, Shows}
 use Rattle.tp_meaning.specs.Value.{◌>>=◌}
-use Rattle.tp_meaning.specs.Inputs.{InputLines}
+use Rattle.tp_meaning.specs.Inputs.{InputTable}
 use Rattle.tp_meaning.specs.Holds.{Holds}
 use Rattle.tp_monitor.specs.Wide as wide
 use Rattle.tp_monitor.specs.Wide.{WideTree, WideTrees, WideHolds}
@@ -54,5 +54,5 @@ abbrev mutual
 abbrev pub WideHoldsAsHolds : Type 0
 WideHoldsAsHolds =
     (f : FormulaTree) (w : WideTree) → widened f ≡ Some w
-    → (inputs : InputLines) (d : ℕ) (s : Course) (a b : ℕ) (S : Shows) →
+    → (inputs : InputTable) (d : ℕ) (s : Course) (a b : ℕ) (S : Shows) →
     Holds (record { defs = []; inputs = inputs }) d f [] s a b S ↔ WideHolds w s a b S
