@@ -29,7 +29,7 @@ use Rattle.tp_lex.specs.Tokens.{AreTokens, IsRefusedUnlessMemory}
 use Rattle.tp_tree.specs.Tree.{SourceTree}
 use Rattle.tp_parse.specs.declared.refusal.ParseRefusal.{ParseRefusal}
 use Rattle.tp_parse.specs.Grammar.{Accepts}
-use Rattle.tp_parse.specs.Place.{BlamesFirst}
+use Rattle.tp_parse.specs.Place.{BlamesFirst, BlamesFirstInText}
 use Rattle.tp_check.specs.Program.{ChecksTo}
 use Rattle.tp_check.specs.declared.refusal.CheckRefusal.{CheckRefusal}
 use Rattle.tp_check.specs.declared.refusal.CheckRefusal.TheVariants as check
@@ -163,9 +163,9 @@ no_tokens source (lex.NumberTooLarge at) g r is = inl (record { refusal = lex.Nu
 no_tokens source (lex.NameTooLong at) g r is = inl (record { refusal = lex.NameTooLong at; is_refused = g; answer = is })
 no_tokens source lex.NoMemory g r is = absurd (cc (is))
 
-pub no_tree : (source : List ℕ) (tokens : List Token) (refusal : ParseRefusal) → AreTokens source tokens → BlamesFirst tokens refusal
+pub no_tree : (source : List ℕ) (tokens : List Token) (refusal : ParseRefusal) → AreTokens source tokens → BlamesFirst tokens refusal → BlamesFirstInText source tokens refusal
     → (r : Refused) → parser_refusal source tokens refusal ≡ Some r → IsOutsideGrammar source r
-no_tree source tokens refusal are g r is = inr (record { tokens = tokens; refusal = refusal; are_tokens = are; place = g; answer = is })
+no_tree source tokens refusal are place text r is = inr (record { tokens = tokens; refusal = refusal; are_tokens = are; place = place; text = text; answer = is })
 
 pub not_run : (source : List ℕ) (tokens : List Token) (tree : SourceTree) (refusal : CheckRefusal) → AreTokens source tokens → Accepts tokens tree → (refusal ≢ check.NoMemory → ChecksTo tree (Err refusal))
     → (r : Refused) → checker_refusal source refusal ≡ Some r → IsNotRun source r

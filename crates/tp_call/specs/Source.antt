@@ -9,7 +9,7 @@ use Rattle.tp_tree.specs.Tree.{SourceTree}
 use Rattle.tp_parse.specs.declared.refusal.ParseRefusal.{ParseRefusal}
 use Rattle.tp_parse.specs.declared.refusal.ParseRefusal.TheVariants as parse
 use Rattle.tp_parse.specs.Grammar.{Accepts}
-use Rattle.tp_parse.specs.Place.{BlamesFirst}
+use Rattle.tp_parse.specs.Place.{BlamesFirst, BlamesFirstInText}
 use Rattle.tp_meaning.specs.Interval.{ProgramTree}
 use Rattle.tp_check.specs.Program.{ChecksTo}
 use Rattle.tp_check.specs.declared.refusal.CheckRefusal.{CheckRefusal}
@@ -80,6 +80,7 @@ pub record HasNoTree (source : List ℕ) (refused : Refused) : Type 0 where
   pub refusal : ParseRefusal
   pub are_tokens : AreTokens source tokens
   pub place : BlamesFirst tokens refusal
+  pub text : BlamesFirstInText source tokens refusal
   pub answer : parser_refusal source tokens refusal ≡ Some refused
 
 -- the text is a source of the grammar that isn't run

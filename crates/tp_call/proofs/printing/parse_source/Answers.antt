@@ -11,7 +11,7 @@ returns-in-Err-clause-refused c =
 pub returns-clause-refused : goal.returns-clause-refused
 returns-clause-refused c =
     read_refused Print c.args.source.now _ c.by_parser.result c.refusal_status-in-Err-parse.ensures
-    (λ r is. no_tree c.args.source.now _ c.in-Err-parse.refusal c.in-Ok.ensures.tokens c.in-Err-parse.ensures.place r (sym c.by_parser.ensures ∙ is))
+    (λ r is. no_tree c.args.source.now _ c.in-Err-parse.refusal c.in-Ok.ensures.tokens c.in-Err-parse.ensures.place (c.in-Err-parse.ensures.text c.args.source.now c.in-Ok.ensures.tokens) r (sym c.by_parser.ensures ∙ is))
 
 pub returns-in-Ok-parse-clause-text : goal.returns-in-Ok-parse-clause-text
 returns-in-Ok-parse-clause-text c = record { tokens = _; are_tokens = c.in-Ok.ensures.tokens; accepted = c.in-Ok-parse.ensures.accepted }
