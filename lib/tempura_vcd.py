@@ -132,7 +132,7 @@ class Dump:
         time, stretch = None, 0
         for word in self._tokens:
             if not word.startswith("#"):
-                stretch += word == "$dumpon"
+                stretch += word == "$dumpon" and not self._is_on
                 self._read_change(word, time)
                 continue
             before, time = time, self._later(time, word)
@@ -190,10 +190,11 @@ class Dump:
         if word == "$dumpoff" and self._is_on:
             self._is_on = False
             self.off_from.append(time)
-        elif word == "$dumpon":
-            self._is_on = True
+        elif word == "$dumpon" and not self._is_on:
+            self._is_on, self._is_first = True, True
             self._changes.clear()
-        self._is_first = self._is_first or word in ("$dumpvars", "$dumpon", "$dumpoff")
+        elif word == "$dumpvars":
+            self._is_first = True
 
     def _change(self, code, bits):
         if code not in self._codes:
