@@ -10,7 +10,7 @@ use Rattle.tp_eval.specs.Outcome.{Outcome}
 use Rattle.tp_monitor.specs.Wide.{WideTree, Somehow, WideHolds}
 use Rattle.tp_monitor.specs.Verdict.{Verdict, yes, no, undecided}
 use Rattle.tp_monitor.specs.Table.{verdict}
-use Rattle.tp_monitor.specs.Sound.{IsLeftOpen}
+use Rattle.tp_monitor.specs.Sound.{StaysOpen}
 use Rattle.tp_monitor.specs.Logic.{WideFormulasAreDecided}
 use Rattle.tp_monitor.proofs.Judged.{Judged, OutcomeSays}
 use Rattle.tp_monitor.proofs.Sound.{sound}
@@ -22,7 +22,7 @@ abbrev by_value : Option Tree → Outcome
 by_value (Some t) = found.value t
 by_value None = found.fault NoElement
 
-never_open : (o : Option Tree) → IsLeftOpen (by_value o) → ⊥
+never_open : (o : Option Tree) → StaysOpen (by_value o) → ⊥
 never_open (Some t) h = h
 never_open None h = h
 

@@ -11,7 +11,7 @@ use Rattle.tp_eval.proofs.OutcomesAre.{waits_are_undecided}
 use Rattle.tp_monitor.specs.Verdict.{Verdict, undecided, no}
 use Rattle.tp_monitor.specs.Table.{verdict}
 use Rattle.tp_monitor.specs.Trace.{is_torn, known_in, known_outcome}
-use Rattle.tp_monitor.specs.Sound.{IsLeftOpen, AreAllKnown, UndecidedByLimits}
+use Rattle.tp_monitor.specs.Sound.{StaysOpen, AreAllKnown, UndecidedByLimits}
 use Rattle.tp_monitor.proofs.Right.{known_apart, undecided_where_open}
 use Rattle.tp_monitor.proofs.WholeKnown.{full_there}
 use Rattle.tp_monitor.proofs.Waiting.{waits_for_variables}
@@ -22,7 +22,7 @@ never_waits kinds facts apart all e fits p q =
     full_there facts (record { var = p.var; at = [] }) r.0 r.1 p.at (waits_are_undecided facts [] e [] p apart q)
 
 passes : (kinds : List Bool) (facts : List Fact) → NoClash facts → AreAllKnown kinds facts → (e : ExprTree) → ExprFits [] kinds e 0
-    → (o : Outcome) → outcome facts [] e [] ≡ o → IsLeftOpen o → (k : LimitKind) × (outcome facts [] e [] ≡ over k)
+    → (o : Outcome) → outcome facts [] e [] ≡ o → StaysOpen o → (k : LimitKind) × (outcome facts [] e [] ≡ over k)
 passes kinds facts apart all e fits (value t) q h = absurd h
 passes kinds facts apart all e fits (wait p) q h = absurd (never_waits kinds facts apart all e fits p q)
 passes kinds facts apart all e fits (fault k) q h = absurd h

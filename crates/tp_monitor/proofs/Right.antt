@@ -23,7 +23,7 @@ use Rattle.tp_monitor.specs.Wide.{WideTree, Somehow, WideHolds, IsExprOf}
 use Rattle.tp_monitor.specs.Verdict.{no, undecided}
 use Rattle.tp_monitor.specs.Table.{verdict}
 use Rattle.tp_monitor.specs.Trace.{FactsOfStates, given_of, known_with, each_path_once, known_in, known_outcome, clash_somewhere, is_torn, IsTold}
-use Rattle.tp_monitor.specs.Sound.{WideFits, AreOfKinds, StatesAreOfKinds, VerdictsAreRight, IsLeftOpen, UndecidedWhereOpen}
+use Rattle.tp_monitor.specs.Sound.{WideFits, AreOfKinds, StatesAreOfKinds, VerdictsAreRight, StaysOpen, UndecidedWhereOpen}
 use Rattle.tp_monitor.proofs.Widened.{no_calls}
 use Rattle.tp_monitor.proofs.Judged.{Judged, as_no, OutcomeSays}
 use Rattle.tp_monitor.proofs.Sound.{sound}
@@ -186,6 +186,6 @@ pub undecided_where_open : UndecidedWhereOpen
 undecided_where_open w trace some e = by (is_torn trace) refl e
   where
     by : (t : Bool) → is_torn trace ≡ t → (if t then no else verdict (known_outcome trace) w 0 (length trace - 1)) ≡ undecided
-        → (x : ExprTree) × IsExprOf w x × (i : ℕ) × (i < length trace) × IsLeftOpen (known_outcome trace i x)
+        → (x : ExprTree) × IsExprOf w x × (i : ℕ) × (i < length trace) × StaysOpen (known_outcome trace i x)
     by true q h = absurd (cc)
     by false q h = let r = open_by (known_outcome trace) w 0 (length trace - 1) (omega arith) h in let u = r.4 in (r.0, r.1, r.2, omega (arith, u, some), r.5)

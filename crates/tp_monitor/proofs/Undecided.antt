@@ -7,7 +7,7 @@ use Rattle.tp_eval.specs.Outcome.{Outcome, value, wait, fault, over}
 use Rattle.tp_monitor.specs.Wide.{WideTree, WideTrees, IsExprOf, IsExprOfSome, trivial, test, equation, next_equation, empty, more, next, if_more, if_empty, always, conjunction, branch, len, assign, chop, while, disjunction, negation, sometimes, no_formula, formula_then}
 use Rattle.tp_monitor.specs.Verdict.{Verdict, yes, no, undecided, of_truth, both_of, one_of, opposite_of, all_from, some_from, value_verdict, equality_verdict}
 use Rattle.tp_monitor.specs.Table.{looped, has_in, verdict, all_verdicts}
-use Rattle.tp_monitor.specs.Sound.{IsLeftOpen}
+use Rattle.tp_monitor.specs.Sound.{StaysOpen}
 
 both_open : (u v : Verdict) → both_of u v ≡ undecided → (u ≡ undecided) ⊎ (v ≡ undecided)
 both_open yes v e = inr e
@@ -49,13 +49,13 @@ some_open : (f : ℕ → Verdict) (m k : ℕ) → some_from m k f ≡ undecided 
 some_open f zero k e = absurd (no_decided e)
 some_open f (suc m) k e = elim (one_open (f k) (some_from m (suc k) f) e) [ inl x ↦ (k, omega arith, omega arith, x) | inr x ↦ (let r = some_open f m (suc k) x in let l = r.1 in let u = r.2 in (r.0, omega (arith, l), omega (arith, u), r.3)) ]
 
-value_open : (o : Outcome) (v : Tree) → value_verdict o v ≡ undecided → IsLeftOpen o
+value_open : (o : Outcome) (v : Tree) → value_verdict o v ≡ undecided → StaysOpen o
 value_open (value t) v e = absurd (truth_decided (same_tree t v) e)
 value_open (wait p) v e = tt
 value_open (fault k) v e = absurd (no_decided e)
 value_open (over k) v e = tt
 
-equality_open : (o p : Outcome) → equality_verdict o p ≡ undecided → IsLeftOpen o ⊎ IsLeftOpen p
+equality_open : (o p : Outcome) → equality_verdict o p ≡ undecided → StaysOpen o ⊎ StaysOpen p
 equality_open (value t) p e = inr (value_open p t e)
 equality_open (wait q) p e = inl tt
 equality_open (fault k) p e = absurd (no_decided e)
@@ -64,12 +64,12 @@ equality_open (over k) p e = inl tt
 module _ (found : ℕ → ExprTree → Outcome) where
   -- an expression with P is open in some state from i to j
   abbrev pub Open : (ExprTree → Type 0) → ℕ → ℕ → Type 0
-  Open P i j = (e : ExprTree) × P e × (k : ℕ) × (i ≤ k) × (k ≤ j) × IsLeftOpen (found k e)
+  Open P i j = (e : ExprTree) × P e × (k : ℕ) × (i ≤ k) × (k ≤ j) × StaysOpen (found k e)
 
   wider : {P Q : ExprTree → Type 0} (i j i' j' : ℕ) → i' ≤ i → j ≤ j' → ((e : ExprTree) → P e → Q e) → Open P i j → Open Q i' j'
   wider i j i' j' l u f (e, p, k, lo, hi, o) = (e, f e p, k, omega (arith, l, lo), omega (arith, u, hi), o)
 
-  here : {P : ExprTree → Type 0} (e : ExprTree) → P e → (k i j : ℕ) → i ≤ k → k ≤ j → IsLeftOpen (found k e) → Open P i j
+  here : {P : ExprTree → Type 0} (e : ExprTree) → P e → (k i j : ℕ) → i ≤ k → k ≤ j → StaysOpen (found k e) → Open P i j
   here e p k i j lo hi o = (e, p, k, lo, hi, o)
 
   module _ (e : ExprTree) (w : WideTree) (body : (i j : ℕ) → i ≤ j → verdict found w i j ≡ undecided → Open (IsExprOf w) i j) where

@@ -44,18 +44,18 @@ VerdictsAreRight =
     → StatesAreOfKinds kinds trace → VerdictIsRight kinds w trace
 
 -- neither a value nor a fault is found
-abbrev pub IsLeftOpen : Outcome → Type 0
-IsLeftOpen (value t) = ⊥
-IsLeftOpen (wait p) = Unit {0}
-IsLeftOpen (fault k) = ⊥
-IsLeftOpen (over k) = Unit {0}
+abbrev pub StaysOpen : Outcome → Type 0
+StaysOpen (value t) = ⊥
+StaysOpen (wait p) = Unit {0}
+StaysOpen (fault k) = ⊥
+StaysOpen (over k) = Unit {0}
 
 -- Where a verdict is undecided, one of the formula's expressions is open in some state.
 abbrev pub UndecidedWhereOpen : Type 0
 UndecidedWhereOpen =
     (w : WideTree) (trace : FactsOfStates) → 0 < length trace → whole_verdict w trace ≡ undecided
     → (e : ExprTree) × IsExprOf w e × (i : ℕ) × (i < length trace)
-    × IsLeftOpen (known_outcome trace i e)
+    × StaysOpen (known_outcome trace i e)
 
 -- Of each of these variables the whole value is known.
 abbrev pub AreAllKnown : List Bool → List Fact → Type 0
