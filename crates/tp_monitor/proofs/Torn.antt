@@ -1,10 +1,10 @@
 -- Where no state's own facts clash, a run is torn exactly where the facts of static variables clash.
-use Rattle.std.proofs.Common.{◌≡◌, ℕ, ◌⊎◌, inl, inr, Bool, true, false, not, ◌&&◌, ◌||◌, eqb, List, [], ◌∷◌, ◌++◌, refl, sym, ap, subst, ◌∙◌, arith}
+use Rattle.std.proofs.Common.{◌≡◌, inl, inr, Bool, true, false, not, ◌&&◌, ◌||◌, eqb, List, [], ◌∷◌, ◌++◌, refl, sym, ap, ◌∙◌, arith}
 use Rattle.std.specs.List.{flat_map, list_any}
 use Rattle.std.proofs.lemmas.Bool.{or_parts, or_from, or_left, or_right, and_left, and_right, cases_Bool}
 use Rattle.tp_value.specs.Tree.{same_truth}
 use Rattle.tp_value.specs.declared.path.Fact.{Fact}
-use Rattle.tp_store.specs.Facts.{same_variable, same_indices, same_shape, same_path, leaves_out, excludes, clash}
+use Rattle.tp_store.specs.Facts.{same_variable, same_shape, same_path, leaves_out, excludes, clash}
 use Rattle.tp_store.specs.Known.{clashes_with_some, lasting_facts}
 use Rattle.tp_store.proofs.Members.{In, in_append, in_left, in_right, filter_in, meets_none, none_meets, excludes-own}
 use Rattle.tp_store.proofs.Paths.{same_shape-decides, clash-sym}
