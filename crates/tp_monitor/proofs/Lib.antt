@@ -6,6 +6,7 @@ pub mod Right
 pub mod WholeKnown
 pub mod Waiting
 pub mod Limits
+pub mod Torn
 pub mod Silent
 pub mod Decided
 pub mod ChopLaws

@@ -84,7 +84,7 @@ known_apart trace whole i l =
     (once_apart (known_with trace own.0) (none_of (λ x. clash_somewhere (known_with trace x)) trace whole i own.0 own.1))
 
 -- a lasting fact, and the state that it is given of
-lasting_of : (xs : FactsOfStates) (f : Fact) → In f (flat_map lasting_facts xs) → (i : ℕ) × (x : List Fact) × (slice_get xs i ≡ Some x) × In f x × (f.path.var.lasting ≡ true)
+pub lasting_of : (xs : FactsOfStates) (f : Fact) → In f (flat_map lasting_facts xs) → (i : ℕ) × (x : List Fact) × (slice_get xs i ≡ Some x) × In f x × (f.path.var.lasting ≡ true)
 lasting_of [] f h = absurd h
 lasting_of (x ∷ xs) f h = elim (in_append f (lasting_facts x) (flat_map lasting_facts xs) h) [
   | inl i ↦ (let r = in_filter (λ g. g.path.var.lasting) f x i in (0, x, refl, r.0, r.1))

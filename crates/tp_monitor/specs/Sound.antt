@@ -1,5 +1,6 @@
 -- What verdicts say of the intervals that are as a run tells.
-use Rattle.std.specs.Prelude.{◌≡◌, ℕ, ◌<◌, Bool, List, [], ◌∷◌, length}
+use Rattle.std.specs.Prelude.{◌≡◌, ℕ, ◌<◌, Bool, false, List, [], ◌∷◌, length}
+use Rattle.std.specs.List.{flat_map}
 use Rattle.tp_value.specs.Tree.{Tree}
 use Rattle.tp_value.specs.declared.path.VarId.{VarId}
 use Rattle.tp_value.specs.declared.path.Fact.{Fact}
@@ -9,10 +10,10 @@ use Rattle.tp_meaning.specs.Course.{Course, Shows, blank}
 use Rattle.tp_meaning.specs.Fits.{IsVariable, ExprFits}
 use Rattle.tp_monitor.specs.Wide.{WideTree, WideHolds, IsExprOf}
 use Rattle.tp_store.specs.Known as known
-use Rattle.tp_store.specs.Known.{full}
+use Rattle.tp_store.specs.Known.{full, lasting_facts}
 use Rattle.tp_eval.specs.Outcome.{Outcome, value, wait, fault, over}
 use Rattle.tp_monitor.specs.Verdict.{yes, no, undecided}
-use Rattle.tp_monitor.specs.Trace.{FactsOfStates, IsTold, known_in, known_outcome, whole_verdict}
+use Rattle.tp_monitor.specs.Trace.{FactsOfStates, IsTold, known_in, known_outcome, clash_somewhere, is_torn, whole_verdict}
 
 -- each expression of the formula fits these variables, no definitions and no bindings
 abbrev pub WideFits : List Bool → WideTree → Type 0
@@ -73,3 +74,15 @@ UndecidedByLimits =
     → whole_verdict w trace ≡ undecided
     → (e : ExprTree) × IsExprOf w e × (i : ℕ) × (i < length trace)
     × (k : LimitKind) × (known_outcome trace i e ≡ over k)
+
+-- In no state two facts that are given of it clash.
+abbrev pub NoneClash : FactsOfStates → Type 0
+NoneClash [] = Unit {0}
+NoneClash (facts ∷ trace) = (clash_somewhere facts ≡ false) × NoneClash trace
+
+-- Then a run is torn exactly where the facts of static variables clash, whichever state they are
+-- given of.
+abbrev pub TornByLasting : Type 0
+TornByLasting =
+    (trace : FactsOfStates) → NoneClash trace
+    → is_torn trace ≡ clash_somewhere (flat_map lasting_facts trace)

@@ -1,5 +1,5 @@
 // What verdicts say.
-ghost use Rattle.tp_monitor.specs.Sound.{VerdictsAreRight, UndecidedWhereOpen, UndecidedByLimits};
+ghost use Rattle.tp_monitor.specs.Sound.{VerdictsAreRight, UndecidedWhereOpen, UndecidedByLimits, TornByLasting};
 
 /// What the verdict on a whole run says.
 pub fn verdicts_are_right()
@@ -9,4 +9,6 @@ pub fn verdicts_are_right()
     ensures undecided { UndecidedWhereOpen }
     // Where in each state all variables are known, the evaluation of one of them passes a limit in some state.
     ensures limits { UndecidedByLimits }
+    // Where no state's own facts clash, a run is torn exactly where the facts of static variables do.
+    ensures torn { TornByLasting }
 {}

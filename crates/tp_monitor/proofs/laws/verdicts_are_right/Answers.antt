@@ -1,5 +1,6 @@
 use Rattle.tp_monitor.proofs.Right.{verdicts_are_right as right_law, undecided_where_open}
 use Rattle.tp_monitor.proofs.Limits.{undecided_by_limits}
+use Rattle.tp_monitor.proofs.Torn.{torn_by_lasting}
 use Rattle.tp_monitor.proofs.laws.verdicts_are_right.Goals as goal
 
 pub returns-clause-right : goal.returns-clause-right
@@ -10,3 +11,6 @@ returns-clause-undecided c = undecided_where_open
 
 pub returns-clause-limits : goal.returns-clause-limits
 returns-clause-limits c = undecided_by_limits
+
+pub returns-clause-torn : goal.returns-clause-torn
+returns-clause-torn c = torn_by_lasting
