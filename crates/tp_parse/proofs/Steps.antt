@@ -1,11 +1,12 @@
 -- Reading at a level by the level below it, and turns of a reader beside a loop that counts up.
 use Rattle.std.proofs.Common.{◌≡◌, ℕ, zero, suc, ◌+◌, ◌-◌, ◌<◌, ◌≤◌, refl, ap, subst, ◌∙◌, arith}
-use Rattle.std.proofs.Common.{Ok, Err, Some, None}
-use Rattle.tp_parse.specs.Marks.{before, prefix_at}
+use Rattle.std.proofs.Common.{Ok, Err, Some, None, [], ◌∷◌}
+use Rattle.tp_parse.specs.Marks.{before, prefix_at, role_at}
+use Rattle.tp_parse.specs.declared.mark.Role.TheVariants.{Ends}
 use Rattle.tp_parse.specs.declared.refusal.Refusal.{Refusal}
 use Rattle.tp_parse.specs.Input.{Tokens, Reader, mark, from}
 use Rattle.tp_parse.specs.Found.{Found}
-use Rattle.tp_parse.specs.Reading.{read, levels, level, level_by, first, first_by, operations}
+use Rattle.tp_parse.specs.Reading.{read, levels, level, level_by, first, first_by, operations, go, turn}
 use Rattle.tp_parse.proofs.Marks.{no_prefix_at, no_prefix_at_zero, some_prefix_at}
 
 -- no operator before the phrase is of a level from one to another
@@ -33,6 +34,12 @@ module _ (inner : ℕ → Reader Found) (room : ℕ) where
   level_next low high ts rest x others lt e =
       let one : low + 1 ≡ suc low = omega arith in
       rw (one, no_prefix_at (suc low) (mark ts) (others low (omega arith) lt), e) refl
+
+  -- where no operator of the level is there, the operand is all
+  pub operations_end : (k at : ℕ) (x : Found) (ts : Tokens) → role_at k (mark ts) ≡ Ends → operations inner room k at x ts ≡ Ok (x, ts)
+  unfolding operations go turn
+  operations_end k at x [] ends = refl
+  operations_end k at x (t ∷ ts) ends = rw ends refl
 
   err_up : (n low high : ℕ) (ts : Tokens) (e : Refusal) → NoneBetween low high ts → n + low ≤ high → levels inner room low ts ≡ Err e → levels inner room (n + low) ts ≡ Err e
   unfolding levels level

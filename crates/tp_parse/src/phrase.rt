@@ -1,11 +1,12 @@
 // Phrases, read by recursive descent. `room` is the greatest height that a phrase, or each operand, may have.
-ghost use Rattle.std.specs.Prelude.{◌≡◌, ◌+◌, ◌≤◌, ◌<◌, ◌≢◌, ℕ, IfOk, OnOk};
+ghost use Rattle.std.specs.Prelude.{◌≡◌, ◌+◌, ◌≤◌, ◌<◌, ◌≢◌, ◌↔◌, ℕ, IfOk, OnOk, IsTrue};
 ghost use Rattle.tp_tree.specs.Levels.{chop_level};
 ghost use Rattle.tp_parse.specs.Marks as marks;
 ghost use Rattle.tp_parse.specs.Input.{ReturnsReading};
 ghost use Rattle.tp_parse.specs.Found.{seen, turn_seen, all_seen};
 ghost use Rattle.tp_parse.specs.Reading as spec;
 ghost use Rattle.tp_parse.specs.declared.head.Head.TheVariants.{Paired};
+ghost use Rattle.tp_parse.specs.declared.mark.Role.TheVariants.{Ends};
 
 use crate::head::{Head, Pair};
 use crate::mark::{Mark, Prefix, Role};
@@ -38,7 +39,10 @@ impl Parser<'_> {
         let start = start_level(level, self.mark());
         let mut left = self.first(alloc, start, room - 1)?;
         for lower in start..level {
-            left = self.operations(alloc, lower + 1, room - 1, at, left)?;
+            // An operand is dear to move, and seldom does an operator of the level follow.
+            if !ends(role_at(lower + 1, self.mark())) {
+                left = self.operations(alloc, lower + 1, room - 1, at, left)?;
+            }
         }
         Ok(left)
     }
@@ -395,6 +399,16 @@ fn start_level(level: u8, mark: Mark) -> u8
 {
     let own = before(mark);
     if own <= level { own } else { 0 }
+}
+
+/// Whether no operator of the level is there.
+fn ends(role: Role) -> bool
+    ensures { IsTrue result ↔ role ≡ Ends }
+{
+    match role {
+        Role::Ends => true,
+        Role::Infix(_) | Role::Opens | Role::Joins => false,
+    }
 }
 
 /// Whether more operators of the level may follow.

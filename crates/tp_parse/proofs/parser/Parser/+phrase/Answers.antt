@@ -3,12 +3,14 @@ use Rattle.std.proofs.lemmas.Grind.{common_steps}
 use Rattle.std.proofs.lemmas.List.{map_push}
 use Rattle.std.proofs.lemmas.Result.{err_from_is_err_and}
 use Rattle.tp_tree.specs.Read.{phrase_tree}
-use Rattle.tp_parse.specs.Marks.{before}
+use Rattle.tp_parse.specs.Marks.{before, role_at}
+use Rattle.tp_parse.specs.declared.mark.Role.TheVariants.{Ends}
 use Rattle.tp_parse.specs.Input.{Tokens, mark}
 use Rattle.tp_parse.specs.Found.{seen, operands_of}
 use Rattle.tp_parse.specs.Reading.{read, operations, go, others, others_from, levels}
-use Rattle.tp_parse.proofs.Steps.{one_more, no_more, NoneBetween, read_levels, levels_first, level_next, err_last}
+use Rattle.tp_parse.proofs.Steps.{one_more, no_more, NoneBetween, read_levels, levels_first, level_next, err_last, operations_end}
 use Rattle.tp_parse.proofs.parser.Parser.+phrase.Goals as goal
+use Rattle.tp_parse.proofs.parser.Parser.+phrase.Goals.{phrase-then-not-ends+in_ok-left-2, phrase-else-not-ends}
 
 pub operations-loop-turn-init : goal.operations-loop-turn-init
 unfolding operations
@@ -108,10 +110,20 @@ phrase-loop-lower-preserved t c =
     let room = c.args.room - 1 in
     let others : NoneBetween c.loop-lower.lower c.args.level ts = none_between c.loop-lower.lower c.args.level ts (λ j le lt e. c.start_level-start.ensures.others j (omega arith) lt (ap before c.mark.ensures ∙ e)) in
     let next = level_next (read room) room c.loop-lower.lower c.args.level ts c.loop-lower.self (seen c.loop-lower.left) others c.loop-lower-test.true c.loop-lower.invariant.reads in
-    record {
-      reads = next ∙ ap (λ a. operations (read room) room (c.loop-lower.lower + 1) a (seen c.loop-lower.left) c.loop-lower.self) (sym c.from-at.ensures) ∙ c.in_ok-left-2.ensures.reads;
-      low = omega (arith, c.in_ok-left-2.ensures.low);
-    }
+    let here = next ∙ ap (λ a. operations (read room) room (c.loop-lower.lower + 1) a (seen c.loop-lower.left) c.loop-lower.self) (sym c.from-at.ensures) in
+    elim c.if-not-ends.branch [
+      | phrase-then-not-ends+in_ok-left-2 w ↦ record {
+        reads = rw (w.left-is, w.self-is) (here ∙ w.in_ok-left-2.ensures.reads);
+        low = rw w.left-is (omega (arith, w.in_ok-left-2.ensures.low));
+      }
+      | phrase-else-not-ends w ↦
+          let role = c.ends.ensures.0 w.if-not-ends.false in
+          let none : role_at (c.loop-lower.lower + 1) (mark c.loop-lower.self) ≡ Ends = ap (role_at (c.loop-lower.lower + 1)) (sym c.mark-in-loop-lower.ensures) ∙ sym c.role_at.ensures ∙ role in
+          record {
+            reads = rw (w.left-is, w.self-is) (here ∙ operations_end (read room) room (c.loop-lower.lower + 1) c.from-at.result (seen c.loop-lower.left) c.loop-lower.self none);
+            low = rw w.left-is c.loop-lower.invariant.low;
+          }
+    ]
 
 pub phrase-returns-clause-reads : goal.phrase-returns-clause-reads
 phrase-returns-clause-reads t c =
