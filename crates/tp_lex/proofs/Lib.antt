@@ -5,3 +5,5 @@ pub mod ReadingLemmas
 pub mod SpellingLemmas
 pub mod NameLemmas
 pub mod FeedLemmas
+pub mod PlaceLemmas
+pub mod CommentLemmas

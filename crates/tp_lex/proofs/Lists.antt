@@ -1,6 +1,6 @@
 -- Searches in lists, and texts that begin with others.
-use Rattle.std.proofs.Common.{refl, sym, subst, ◌≡◌, ℕ, ◌+◌, ◌<◌, Bool, true, false, cond, ◌⊎◌, inl, inr, List, [], ◌∷◌, ◌++◌, length, get_or, drop, find, nat_eq, Some, None}
-use Rattle.std.specs.List.{starts_with}
+use Rattle.std.proofs.Common.{refl, ap, sym, subst, ◌∙◌, ◌≡◌, ℕ, ◌+◌, ◌<◌, Bool, true, false, cond, ◌⊎◌, inl, inr, List, [], ◌∷◌, ◌++◌, length, get_or, drop, find, nat_eq, Some, None}
+use Rattle.std.specs.List.{starts_with, filter}
 use Rattle.std.proofs.lemmas.List.{drop_more}
 use Rattle.std.proofs.lemmas.Bool.Decides.{Decides-eqb}
 use Rattle.std.proofs.lemmas.Slice.Eq.{starts_is}
@@ -9,6 +9,15 @@ use Rattle.tp_lex.specs.Pieces.{BeginsWith}
 -- an item that fails the test is passed by
 pub find_skips : {A : Type 0} (test : A → Bool) (xs : List A) (i : ℕ) (d : A) → i < length xs → test (get_or xs i d) ≡ false → find test (drop i xs) ≡ find test (drop (i + 1) xs)
 find_skips test xs i d h e = rw (drop_more xs i d h, e) refl
+
+-- what a sieve drops fails the test, so that nothing is lost
+pub find_sieved : {A : Type 0} (test sieve : A → Bool) → ((x : A) → sieve x ≡ false → test x ≡ false) → (xs : List A) → find test (filter sieve xs) ≡ find test xs
+find_sieved test sieve fails [] = refl
+find_sieved test sieve fails (x ∷ xs) = at (sieve x) refl (find_sieved test sieve fails xs)
+  where
+    at : (b : Bool) → sieve x ≡ b → find test (filter sieve xs) ≡ find test xs → find test (cond b (x ∷ filter sieve xs) (filter sieve xs)) ≡ find test (x ∷ xs)
+    at true e below = ap (λ r. cond (test x) (Some x) r) below
+    at false e below = below ∙ sym (ap (λ b. cond b (Some x) (find test xs)) (fails x e))
 
 -- each item fails the test
 abbrev pub AllFail : {A : Type 0} → (A → Bool) → List A → Type 0

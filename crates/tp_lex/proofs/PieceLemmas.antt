@@ -1,5 +1,5 @@
 -- The function that finds the first piece answers the one piece that the text begins with.
-use Rattle.std.proofs.Common.{refl, ap, sym, subst, ◌≡◌, ◌≢◌, ℕ, pos, zero, suc, ◌+◌, ◌<◌, ◌≤◌, Bool, true, false, cond, List, [], ◌∷◌, ◌++◌, length, slice_index, take, drop, nat_eq, nat_le, Option, Some, None, arith, codes, length-drop, length-append, length-take-le}
+use Rattle.std.proofs.Common.{refl, ap, sym, subst, ◌∙◌, ◌≡◌, ◌≢◌, ℕ, pos, zero, suc, ◌+◌, ◌<◌, ◌≤◌, Bool, true, false, cond, List, [], ◌∷◌, ◌++◌, length, slice_index, take, drop, nat_eq, nat_le, Option, Some, None, arith, codes, length-drop, length-append, length-take-le}
 use Rattle.std.specs.Option.{option_map}
 use Rattle.std.specs.List.{starts_with, prefix_len}
 use Rattle.std.specs.Char.{is_ascii_alphabetic, is_ascii_uppercase}
@@ -19,7 +19,7 @@ use Rattle.tp_lex.specs.First.{first_close, first_piece}
 use Rattle.tp_lex.specs.Bytes.{is_blank, is_name_byte, is_digit, spelled_value, name_limit}
 use Rattle.tp_lex.specs.Pieces.{Opens, ClosesAt, IsName, AreLeadingDigits, IsLongestSymbol, IsBad, BeginsPiece, blank, comment, word, upper, lower, number, symbol, bad_byte, open_comment, large_number, long_name}
 use Rattle.tp_lex.proofs.Lists.{begins_from, starts_from, no_start, starts_not}
-use Rattle.tp_lex.proofs.SpellingLemmas.{word_is, word_from, no_word, word_none, longest_is, longest_from, no_symbol, symbol_none, symbol_byte, some, word_short}
+use Rattle.tp_lex.proofs.SpellingLemmas.{word_is, word_from, no_word, word_none, upper_no_word, longest_is, longest_from, no_symbol, symbol_none, symbol_byte, some, word_short}
 
 -- ---- where a comment closes
 
@@ -213,6 +213,23 @@ piece_one z _ (bad_byte is) = sym (bad_piece z is)
 piece_one z _ (open_comment opens nowhere) = sym (rw (comment_piece z opens, close_none (drop 2 z) nowhere) refl)
 piece_one z _ (large_number {n = n} are high) = sym (rw (number_piece z n are, high_is (spelled_value (take n z)) number_limit high) refl)
 piece_one z _ (long_name {n = n} is long) = sym (rw (name_piece z n is, high_is n name_limit long) refl)
+
+upper_name : (b : ℕ) → is_ascii_uppercase b ≡ true → is_name_byte b ≡ true
+upper_name b e = grind (arith, nat_tests)
+
+upper_front : (z : List ℕ) (n : ℕ) → n ≡ prefix_len is_name_byte z → is_ascii_uppercase (slice_index z 0) ≡ true → is_ascii_uppercase (slice_index (take n z) 0) ≡ true
+upper_front [] n longest u = absurd cc
+upper_front (b ∷ z) zero longest u =
+    let more : prefix_len is_name_byte (b ∷ z) ≡ 1 + prefix_len is_name_byte z = rw (upper_name b u) refl in
+    absurd (omega arith)
+upper_front (b ∷ z) (suc n) longest u = u
+
+-- a name that begins with an upper-case letter is no word
+pub upper_piece : (z : List ℕ) (n : ℕ) → n ≡ prefix_len is_name_byte z → n ≤ name_limit → is_ascii_uppercase (slice_index z 0) ≡ true → Lexeme (k.Upper (take n z)) n ≡ f.name_piece z
+unfolding f.name_piece
+upper_piece z n longest low u =
+    let named : f.name_of_len n z ≡ Lexeme (k.Upper (take n z)) n = rw (low_is n name_limit low, upper_no_word (take n z) (upper_front z n longest u), u) refl in
+    sym named ∙ ap (λ m. f.name_of_len m z) longest
 
 -- ---- each piece has some bytes of the text
 

@@ -1,8 +1,9 @@
 -- Which word and which symbol stand in a text.
-use Rattle.std.proofs.Common.{refl, ap, sym, ◌∙◌, ◌≡◌, ℕ, ◌≤◌, Bool, true, false, inl, inr, List, [], ◌∷◌, ◌++◌, length, slice_index, take, drop, find, nat_eq, Option, Some, None, arith, lit≤, codes}
+use Rattle.std.proofs.Common.{refl, ap, sym, subst, ◌∙◌, ◌≡◌, ◌≢◌, ℕ, ◌<◌, ◌≤◌, Bool, true, false, inl, inr, List, [], ◌∷◌, ◌++◌, length, length-append, slice_index, take, drop, find, nat_eq, Option, Some, None, arith, lit≤, codes}
 use Rattle.std.specs.Str.{bytes_eq}
-use Rattle.std.specs.List.{starts_with}
-use Rattle.std.specs.Char.{is_ascii_alphabetic}
+use Rattle.std.specs.List.{starts_with, filter}
+use Rattle.std.specs.Char.{is_ascii_alphabetic, is_ascii_uppercase}
+use Rattle.std.proofs.lemmas.Bool.Decides.{nat_tests}
 use Rattle.std.proofs.lemmas.Slice.Eq.{bytes_eq-Decides}
 use Rattle.std.proofs.lemmas.List.{take_at}
 use Rattle.tp_lex.specs.declared.token.Word.{Word}
@@ -13,7 +14,7 @@ use Rattle.tp_lex.specs.declared.spelling.TheConstants.{WORDS, SYMBOLS}
 use Rattle.tp_lex.specs.Spelling.{word_spelling, symbol_spelling, spelled_word, longest_symbol}
 use Rattle.tp_lex.specs.Bytes.{is_blank, is_digit}
 use Rattle.tp_lex.specs.Pieces.{BeginsWith, IsNoWord, IsLongestSymbol}
-use Rattle.tp_lex.proofs.Lists.{AllFail, find_passes, find_none, find_early, begins_from, starts_from}
+use Rattle.tp_lex.proofs.Lists.{find_sieved, AllFail, find_passes, find_none, find_early, begins_from, starts_from}
 
 -- ---- words
 
@@ -42,6 +43,41 @@ word_none text never = at (spelled_word text) refl
     at : (o : Option Word) → spelled_word text ≡ o → o ≡ None
     at (Some word) e = absurd (never word (word_is text word e))
     at None e = refl
+
+-- the word has so many letters
+abbrev pub has_letters : ℕ → Word → Bool
+has_letters n word = nat_eq (length (word_spelling word)) n
+
+other_length : (text : List ℕ) (n : ℕ) → length text ≡ n → (word : Word) → has_letters n word ≡ false → bytes_eq (word_spelling word) text ≡ false
+other_length text n e word other = at (bytes_eq (word_spelling word) text) refl
+  where
+    at : (b : Bool) → bytes_eq (word_spelling word) text ≡ b → b ≡ false
+    at true found =
+        let same : word_spelling word ≡ text = (bytes_eq-Decides (word_spelling word) text).0 found in
+        let letters : length (word_spelling word) ≡ n = ap length same ∙ e in
+        grind (arith, nat_tests)
+    at false found = refl
+
+-- the words of the text's length are enough
+pub word_by_length : (text : List ℕ) (n : ℕ) → length text ≡ n → find (λ w. bytes_eq (word_spelling w) text) (filter (has_letters n) WORDS) ≡ spelled_word text
+unfolding spelled_word
+word_by_length text n e = find_sieved (λ w. bytes_eq (word_spelling w) text) (has_letters n) (other_length text n e) WORDS
+
+letters_at : (text : List ℕ) (word : Word) → length text ≢ 2 → length text ≢ 3 → length text ≢ 4 → length text ≢ 5 → length text ≢ 6 → length text ≢ 7 → length text ≢ 9 → length text ≡ length (word_spelling word) → ⊥
+letters_at text w.If n2 n3 n4 n5 n6 n7 n9 e = omega (arith, e, n2, n3, n4, n5, n6, n7, n9)
+letters_at text _ n2 n3 n4 n5 n6 n7 n9 e = omega (arith, e, n2, n3, n4, n5, n6, n7, n9)
+
+-- no word has another number of letters
+pub no_length : (text : List ℕ) → length text ≢ 2 → length text ≢ 3 → length text ≢ 4 → length text ≢ 5 → length text ≢ 6 → length text ≢ 7 → length text ≢ 9 → spelled_word text ≡ None
+no_length text n2 n3 n4 n5 n6 n7 n9 = word_none text (λ word same. letters_at text word n2 n3 n4 n5 n6 n7 n9 (ap length same))
+
+lowercase : (word : Word) → is_ascii_uppercase (slice_index (word_spelling word) 0) ≡ false
+lowercase w.If = refl
+lowercase _ = refl
+
+-- no word begins with an upper-case letter
+pub upper_no_word : (text : List ℕ) → is_ascii_uppercase (slice_index text 0) ≡ true → spelled_word text ≡ None
+upper_no_word text e = word_none text (λ word same. let low = ap (λ z. is_ascii_uppercase (slice_index z 0)) same ∙ lowercase word in cc)
 
 -- ---- symbols
 
@@ -133,3 +169,48 @@ pub symbol_byte : (symbol : Symbol) (rest : List ℕ) →
     (is_blank b ≡ false) × (is_ascii_alphabetic b ≡ false) × (is_digit b ≡ false) × (starts_with nat_eq (symbol_spelling symbol ++ rest) (codes "/*") ≡ false)
 symbol_byte s.OpenRound rest = (refl, refl, refl, refl)
 symbol_byte _ rest = (refl, refl, refl, refl)
+
+-- the symbol begins with this byte
+abbrev first_is : ℕ → Symbol → Bool
+first_is b symbol = nat_eq (slice_index (symbol_spelling symbol) 0) b
+
+first_byte : (symbol : Symbol) (rest : List ℕ) → slice_index (symbol_spelling symbol ++ rest) 0 ≡ slice_index (symbol_spelling symbol) 0
+first_byte s.OpenRound rest = refl
+first_byte _ rest = refl
+
+begins_so : (z : List ℕ) (symbol : Symbol) → begins z symbol ≡ true → slice_index z 0 ≡ slice_index (symbol_spelling symbol) 0
+begins_so z symbol e = let b = begins_from z (symbol_spelling symbol) e in ap (λ x. slice_index x 0) b.1 ∙ first_byte symbol b.0
+
+other_byte : (z : List ℕ) (b : ℕ) → slice_index z 0 ≡ b → (symbol : Symbol) → first_is b symbol ≡ false → begins z symbol ≡ false
+other_byte z b e symbol other = at (begins z symbol) refl
+  where
+    at : (t : Bool) → begins z symbol ≡ t → t ≡ false
+    at true found = let same : slice_index (symbol_spelling symbol) 0 ≡ b = sym (begins_so z symbol found) ∙ e in grind (arith, nat_tests)
+    at false found = refl
+
+-- the symbols that begin with the text's first byte are enough
+pub symbol_by_byte : (z : List ℕ) (b : ℕ) → slice_index z 0 ≡ b → find (begins z) (filter (first_is b) SYMBOLS) ≡ longest_symbol z
+unfolding longest_symbol
+symbol_by_byte z b e = find_sieved (begins z) (first_is b) (other_byte z b e) SYMBOLS
+
+begins_by : (z : List ℕ) (b : ℕ) → slice_index z 0 ≡ b → 0 < length z → BeginsWith z (b ∷ [])
+begins_by [] b e some = absurd (omega arith)
+begins_by (x ∷ z) b e some = (z, ap (λ y. y ∷ z) e)
+
+-- the only symbol that begins with the text's first byte, which is all of it
+pub single_symbol : (z : List ℕ) (b : ℕ) (symbol : Symbol) → filter (first_is b) SYMBOLS ≡ symbol ∷ [] → symbol_spelling symbol ≡ b ∷ [] → slice_index z 0 ≡ b → 0 < length z → Some symbol ≡ longest_symbol z
+single_symbol z b symbol only spelled e some =
+    let stands : begins z symbol ≡ true = starts_from z (symbol_spelling symbol) (subst (BeginsWith z) (sym spelled) (begins_by z b e some)) in
+    let found : find (begins z) (symbol ∷ []) ≡ Some symbol = rw stands refl in
+    sym found ∙ (ap (find (begins z)) (sym only) ∙ symbol_by_byte z b e)
+
+byte_at : (first : ℕ) (symbol : Symbol) → first ≢ 60 → first ≢ 62 → first ≢ 58 → first ≢ 40 → first ≢ 41 → first ≢ 123 → first ≢ 125 → first ≢ 91 → first ≢ 93 → first ≢ 61 → first ≢ 43 → first ≢ 45 → first ≢ 42 → first ≢ 59 → first ≢ 44 → first ≢ 46 → first ≢ 124 → first ≡ slice_index (symbol_spelling symbol) 0 → ⊥
+byte_at first s.OpenRound n60 n62 n58 n40 n41 n123 n125 n91 n93 n61 n43 n45 n42 n59 n44 n46 n124 e = omega (arith, e, n60, n62, n58, n40, n41, n123, n125, n91, n93, n61, n43, n45, n42, n59, n44, n46, n124)
+byte_at first _ n60 n62 n58 n40 n41 n123 n125 n91 n93 n61 n43 n45 n42 n59 n44 n46 n124 e = omega (arith, e, n60, n62, n58, n40, n41, n123, n125, n91, n93, n61, n43, n45, n42, n59, n44, n46, n124)
+
+-- no symbol begins with another byte
+pub no_symbol_byte : (z : List ℕ) → slice_index z 0 ≢ 60 → slice_index z 0 ≢ 62 → slice_index z 0 ≢ 58 → slice_index z 0 ≢ 40 → slice_index z 0 ≢ 41 → slice_index z 0 ≢ 123 → slice_index z 0 ≢ 125 → slice_index z 0 ≢ 91 → slice_index z 0 ≢ 93 → slice_index z 0 ≢ 61 → slice_index z 0 ≢ 43 → slice_index z 0 ≢ 45 → slice_index z 0 ≢ 42 → slice_index z 0 ≢ 59 → slice_index z 0 ≢ 44 → slice_index z 0 ≢ 46 → slice_index z 0 ≢ 124 → longest_symbol z ≡ None
+no_symbol_byte z n60 n62 n58 n40 n41 n123 n125 n91 n93 n61 n43 n45 n42 n59 n44 n46 n124 = symbol_none z (λ symbol b. byte_at (slice_index z 0) symbol n60 n62 n58 n40 n41 n123 n125 n91 n93 n61 n43 n45 n42 n59 n44 n46 n124 (ap (λ x. slice_index x 0) b.1 ∙ first_byte symbol b.0))
+
+pub no_symbol_in : (z : List ℕ) → length z ≡ 0 → longest_symbol z ≡ None
+no_symbol_in z none = symbol_none z (λ symbol b. let whole = ap length b.1 in let parts = length-append (symbol_spelling symbol) b.0 in let one = some symbol in omega arith)

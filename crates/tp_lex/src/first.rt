@@ -9,10 +9,31 @@ use crate::piece::{Fault, Piece};
 use crate::spelling::{first_symbol, word_of};
 use crate::token::Kind;
 use std::alloc::Global;
+use tp_lanes::{Class, run_len};
 use tp_value::{NUMBER_LIMIT, NoMemory, Number, Text};
 
 /// How many bytes a name has at most.
 pub const NAME_LIMIT: usize = 64;
+
+// Letters, digits and `_`.
+const NAME_BYTES: Class = Class {
+    count: 4,
+    from: [b'0', b'A', b'_', b'a'],
+    to: [b'9', b'Z', b'_', b'z'],
+};
+
+// All bytes but `*`.
+const NO_STARS: Class = Class {
+    count: 2,
+    from: [0, b'*' + 1, 0, 0],
+    to: [b'*' - 1, 255, 0, 0],
+};
+
+const DIGITS: Class = Class {
+    count: 1,
+    from: [b'0', 0, 0, 0],
+    to: [b'9', 0, 0, 0],
+};
 
 fn is_blank(byte: u8) -> bool
     ensures { result ≡ bytes.is_blank byte }
@@ -20,33 +41,19 @@ fn is_blank(byte: u8) -> bool
     byte == b' ' || byte == b'\t' || byte == b'\r' || byte == b'\n'
 }
 
-fn is_name_byte(byte: u8) -> bool
-    ensures { result ≡ bytes.is_name_byte byte }
-{
-    byte.is_ascii_alphanumeric() || byte == b'_'
-}
-
 /// How many letters, digits and `_` the text begins with.
 pub fn name_len(text: &[u8]) -> usize
     ensures value { result ≡ prefix_len bytes.is_name_byte text.now }
     ensures within { result ≤ length text.now }
 {
-    let mut end = 0;
-    while end < text.len() && is_name_byte(text[end]) {
-        end += 1;
-    }
-    end
+    run_len(text, &NAME_BYTES)
 }
 
 fn digits_len(text: &[u8]) -> usize
     ensures value { result ≡ prefix_len bytes.is_digit text.now }
     ensures within { result ≤ length text.now }
 {
-    let mut end = 0;
-    while end < text.len() && text[end].is_ascii_digit() {
-        end += 1;
-    }
-    end
+    run_len(text, &DIGITS)
 }
 
 /// The number that the digits spell, where it is within the limit.
@@ -75,10 +82,13 @@ fn comment_len(text: &[u8]) -> Option<usize>
     ensures value { result ≡ spec.first_close text.now }
     ensures within { IfSome result (λ n. n + 2 ≤ length text.now) }
 {
-    for at in 0..text.len() {
-        if text[at..].starts_with(b"*/".as_slice()) {
-            return Some(at);
+    let mut at = 0;
+    while at < text.len() {
+        let star = at + run_len(&text[at..], &NO_STARS);
+        if text[star..].starts_with(b"*/".as_slice()) {
+            return Some(star);
         }
+        at = star + 1;
     }
     None
 }
@@ -93,15 +103,16 @@ fn name(alloc: Global, text: &[u8]) -> Result<Piece, NoMemory>
         return Ok(Piece::Refused(Fault::NameTooLong));
     }
     let name = &text[..len];
+    // No word begins with an upper-case letter.
+    if text[0].is_ascii_uppercase() {
+        let copy = Text::from_slice(alloc, name)?;
+        return Ok(Piece::Lexeme(Kind::Upper(copy), len));
+    }
     if let Some(word) = word_of(name) {
         return Ok(Piece::Lexeme(Kind::Word(word), len));
     }
     let copy = Text::from_slice(alloc, name)?;
-    if text[0].is_ascii_uppercase() {
-        Ok(Piece::Lexeme(Kind::Upper(copy), len))
-    } else {
-        Ok(Piece::Lexeme(Kind::Lower(copy), len))
-    }
+    Ok(Piece::Lexeme(Kind::Lower(copy), len))
 }
 
 #[tactic(auto, unfolding(crate::specs::First::number_piece))]

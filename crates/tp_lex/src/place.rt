@@ -1,8 +1,23 @@
 // Where a byte of a text stands.
-ghost use Rattle.std.specs.Prelude.{◌≡◌, ◌+◌, ◌≤◌, ◌<◌, ◌^◌, length, take};
-ghost use Rattle.tp_lex.specs.Place.{source_limit, place_after, place_of, place_from, token_at};
+ghost use Rattle.std.specs.Prelude.{◌≡◌, ◌+◌, ◌-◌, ◌≤◌, ◌<◌, ◌^◌, length, drop, slice_index};
+ghost use Rattle.tp_lex.specs.Place.{source_limit, EndsNoLine, place_along, place_of, place_from, token_at};
 
 use crate::token::{Kind, Place, Token};
+use tp_lanes::count_byte;
+
+// How many bytes stand behind the last line feed, or at all.
+fn last_line_len(bytes: &[u8]) -> usize
+    ensures within { result ≤ length bytes.now }
+    ensures line { EndsNoLine (drop (length bytes.now - result) bytes.now) }
+    ensures feed { let before = length bytes.now - result - 1 in
+        result < length bytes.now → slice_index bytes.now before ≡ 10 }
+{
+    let mut from = bytes.len();
+    while from > 0 && bytes[from - 1] != b'\n' {
+        from -= 1;
+    }
+    bytes.len() - from
+}
 
 impl Place {
     /// Where a text begins.
@@ -12,25 +27,16 @@ impl Place {
         column: 1,
     };
 
-    // The place behind one more byte.
-    fn after_byte(self, byte: u8) -> Place
-        requires at { self.at + 1 < 2 ^ 32 }
-        requires line { self.line + 1 < 2 ^ 32 }
-        requires column { self.column + 1 < 2 ^ 32 }
-        ensures { result ≡ place_after self byte }
+    /// The place behind so many bytes of the same line.
+    pub fn along(self, len: usize) -> Place
+        requires at { self.at + len < 2 ^ 32 }
+        requires column { self.column + len < 2 ^ 32 }
+        ensures { result ≡ place_along self len }
     {
-        if byte == b'\n' {
-            Place {
-                at: self.at + 1,
-                line: self.line + 1,
-                column: 1,
-            }
-        } else {
-            Place {
-                at: self.at + 1,
-                line: self.line,
-                column: self.column + 1,
-            }
+        Place {
+            at: self.at + len as u32,
+            line: self.line,
+            column: self.column + len as u32,
         }
     }
 
@@ -44,11 +50,15 @@ impl Place {
         ensures line { result.line ≤ result.at + 1 }
         ensures column { result.column ≤ result.at + 1 }
     {
-        let mut place = self;
-        for byte in bytes {
-            place = place.after_byte(*byte);
+        let lines = count_byte(bytes, b'\n');
+        if lines == 0 {
+            return self.along(bytes.len());
         }
-        place
+        Place {
+            at: self.at + bytes.len() as u32,
+            line: self.line + lines as u32,
+            column: 1 + last_line_len(bytes) as u32,
+        }
     }
 
     /// The token of so many bytes that begins here.

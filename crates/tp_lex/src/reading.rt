@@ -27,18 +27,21 @@ pub fn tokens(alloc: Global, bytes: &[u8]) -> Result<Tokens, LexRefusal>
     ensures refused { IfErr result (λ refusal. IsRefusedUnlessMemory bytes.now refusal) }
 {
     let mut found = Vec::new(alloc);
+    // Room for the tokens of most texts at once. Where there is none, each push asks for its own.
+    let _ = found.reserve(bytes.len() / 4);
     let mut place = Place::START;
     let mut rest = bytes;
     while !rest.is_empty() {
-        let len = match first_piece(alloc, rest)? {
-            Piece::Gap(len) => len,
+        let (len, next) = match first_piece(alloc, rest)? {
+            Piece::Gap(len) => (len, place.after(&rest[..len])),
+            // No line ends within a token.
             Piece::Lexeme(kind, len) => {
                 found.push(place.token(kind, len))?;
-                len
+                (len, place.along(len))
             }
             Piece::Refused(fault) => return Err(refusal(fault, place.at as usize)),
         };
-        place = place.after(&rest[..len]);
+        place = next;
         rest = &rest[len..];
     }
     Ok(Tokens { items: found })

@@ -1,10 +1,11 @@
 // How words and symbols are written.
-ghost use Rattle.std.specs.Prelude.{◌≡◌};
+ghost use Rattle.std.specs.Prelude.{◌≡◌, bytes_eq, find, nat_eq};
+ghost use Rattle.std.specs.List.{starts_with};
 ghost use Rattle.tp_lex.specs.Spelling.{word_spelling, symbol_spelling, spelled_word, longest_symbol};
 
 use crate::token::{Symbol, Word};
 
-/// The words, in the order of their type.
+/// The words, in the order of their type: contracts go by this list.
 pub const WORDS: [Word; 35] = [
     Word::If,
     Word::Then,
@@ -43,7 +44,7 @@ pub const WORDS: [Word; 35] = [
     Word::Proj,
 ];
 
-/// The symbols, those of two bytes first.
+/// The symbols, those of two bytes first: contracts go by this list.
 pub const SYMBOLS: [Symbol; 22] = [
     Symbol::LessEqual,
     Symbol::GreaterEqual,
@@ -146,28 +147,125 @@ impl Symbol {
     }
 }
 
+// The first of the words that is spelled so.
+fn word_among(words: &[Word], text: &[u8]) -> Option<Word>
+    ensures { result ≡ find (λ w. bytes_eq (word_spelling w) text.now) words.now }
+{
+    for word in words {
+        if word.spelling() == text {
+            return Some(*word);
+        }
+    }
+    None
+}
+
 /// The word that the whole text spells.
-#[tactic(auto, unfolding(crate::specs::Spelling::spelled_word))]
 pub fn word_of(text: &[u8]) -> Option<Word>
     ensures { result ≡ spelled_word text.now }
 {
-    for word in WORDS {
-        if word.spelling() == text {
-            return Some(word);
+    match text.len() {
+        2 => word_among(&[Word::If, Word::Do, Word::Or], text),
+        3 => word_among(
+            &[
+                Word::For,
+                Word::Run,
+                Word::And,
+                Word::Not,
+                Word::Div,
+                Word::Mod,
+                Word::Fin,
+                Word::Len,
+            ],
+            text,
+        ),
+        4 => word_among(
+            &[
+                Word::Then,
+                Word::Else,
+                Word::True,
+                Word::More,
+                Word::Skip,
+                Word::Next,
+                Word::Keep,
+                Word::Halt,
+                Word::Gets,
+                Word::List,
+                Word::Proj,
+            ],
+            text,
+        ),
+        5 => word_among(
+            &[
+                Word::While,
+                Word::Until,
+                Word::False,
+                Word::Empty,
+                Word::Input,
+            ],
+            text,
+        ),
+        6 => word_among(
+            &[
+                Word::Repeat,
+                Word::Forall,
+                Word::Exists,
+                Word::Define,
+                Word::Always,
+                Word::Stable,
+            ],
+            text,
+        ),
+        7 => word_among(&[Word::Display], text),
+        9 => word_among(&[Word::Sometimes], text),
+        _ => None,
+    }
+}
+
+// The first of the symbols that the text begins with.
+fn symbol_among(symbols: &[Symbol], text: &[u8]) -> Option<Symbol>
+    ensures { result ≡ find (λ s. starts_with nat_eq text.now (symbol_spelling s)) symbols.now }
+{
+    for symbol in symbols {
+        if text.starts_with(symbol.spelling()) {
+            return Some(*symbol);
         }
     }
     None
 }
 
 /// The longest symbol that the text begins with.
-#[tactic(auto, unfolding(crate::specs::Spelling::longest_symbol))]
 pub fn first_symbol(text: &[u8]) -> Option<Symbol>
     ensures { result ≡ longest_symbol text.now }
 {
-    for symbol in SYMBOLS {
-        if text.starts_with(symbol.spelling()) {
-            return Some(symbol);
-        }
+    if text.is_empty() {
+        return None;
     }
-    None
+    match text[0] {
+        b'<' => symbol_among(
+            &[
+                Symbol::LessEqual,
+                Symbol::Differs,
+                Symbol::Arrow,
+                Symbol::Less,
+            ],
+            text,
+        ),
+        b'>' => symbol_among(&[Symbol::GreaterEqual, Symbol::Greater], text),
+        b':' => symbol_among(&[Symbol::Becomes, Symbol::Colon], text),
+        b'(' => Some(Symbol::OpenRound),
+        b')' => Some(Symbol::CloseRound),
+        b'{' => Some(Symbol::OpenCurly),
+        b'}' => Some(Symbol::CloseCurly),
+        b'[' => Some(Symbol::OpenSquare),
+        b']' => Some(Symbol::CloseSquare),
+        b'=' => Some(Symbol::Equal),
+        b'+' => Some(Symbol::Plus),
+        b'-' => Some(Symbol::Minus),
+        b'*' => Some(Symbol::Times),
+        b';' => Some(Symbol::Semicolon),
+        b',' => Some(Symbol::Comma),
+        b'.' => Some(Symbol::Stop),
+        b'|' => Some(Symbol::Bar),
+        _ => None,
+    }
 }

@@ -6,9 +6,10 @@ use Rattle.tp_lex.specs.declared.token.Token.{Token}
 use Rattle.tp_lex.specs.declared.token.Place.{Place}
 use Rattle.tp_lex.specs.First.{first_piece}
 use Rattle.tp_lex.specs.Pieces.{BeginsPiece}
-use Rattle.tp_lex.specs.Place.{place_of, place_from, token_at}
+use Rattle.tp_lex.specs.Place.{EndsNoLine, place_of, place_from, token_at}
 use Rattle.tp_lex.specs.Tokens.{IsRefusedUnlessMemory}
 use Rattle.tp_lex.proofs.PieceLemmas.{gap_takes, lexeme_takes, piece_found}
+use Rattle.tp_lex.proofs.PlaceLemmas.{lexeme_line, Follows, followed, follows_along}
 use Rattle.tp_lex.proofs.ReadingLemmas.{Continues, past_gap, past_lexeme, at_fault, at_end, place_later, rest_later, refused_so}
 use Rattle.tp_lex.proofs.reading.tokens.Goals as goal
 use Rattle.tp_lex.proofs.reading.tokens.Goals.{in-Gap, in-Lexeme+in_ok-push-in-Lexeme}
@@ -30,44 +31,48 @@ returns-in-Refused-clause-refused c =
 pub slice_bounds-after-end : goal.slice_bounds-after-end
 slice_bounds-after-end c =
     let rest : List ℕ = c.loop-rest.rest.now in
-    let len : ℕ = c.match-branch-2.len in
-    let found = piece_found rest c.in_ok-len.field-0 (grind (arith, common_steps)) c.in_ok-len.ensures in
-    let taken : (0 < len) × (len ≤ length rest) = elim c.match-branch-2.branch [
-      | in-Gap w ↦ gap_takes (length rest) w.in-Gap.len len c.in_ok-len.field-0 found.1 w.in-Gap.is w.len-is
-      | in-Lexeme+in_ok-push-in-Lexeme w ↦ lexeme_takes (length rest) w.in-Lexeme.len len w.in-Lexeme.kind c.in_ok-len.field-0 found.1 w.in-Lexeme.is w.len-is
-    ] in
-    omega (arith, length-take-le len rest taken.1)
+    let e : v.Gap c.in-Gap.len ≡ first_piece rest = sym c.in-Gap.is ∙ c.in_ok-len.ensures in
+    let found = piece_found rest _ (grind (arith, common_steps)) e in
+    omega (arith, length-take-le c.in-Gap.len rest found.1.1)
+
+pub along-requires-clause-column : goal.along-requires-clause-column
+along-requires-clause-column c =
+    let e : v.Lexeme c.in-Lexeme.kind c.in-Lexeme.len ≡ first_piece c.loop-rest.rest.now = sym c.in-Lexeme.is ∙ c.in_ok-len.ensures in
+    let found = piece_found c.loop-rest.rest.now _ (grind (arith, common_steps)) e in
+    let left = ap length c.loop-rest.invariant.rest in
+    let column = c.loop-rest.invariant.column in
+    omega (arith, length-drop c.loop-rest.place.at c.args.bytes.now)
 
 pub slice_bounds-rest-count : goal.slice_bounds-rest-count
 slice_bounds-rest-count c =
     let rest : List ℕ = c.loop-rest.rest.now in
-    let len : ℕ = c.match-branch-2.len in
+    let len : ℕ = c.match-branch-2.len.0 in
     let found = piece_found rest c.in_ok-len.field-0 (grind (arith, common_steps)) c.in_ok-len.ensures in
     let taken : (0 < len) × (len ≤ length rest) = elim c.match-branch-2.branch [
-      | in-Gap w ↦ gap_takes (length rest) w.in-Gap.len len c.in_ok-len.field-0 found.1 w.in-Gap.is w.len-is
-      | in-Lexeme+in_ok-push-in-Lexeme w ↦ lexeme_takes (length rest) w.in-Lexeme.len len w.in-Lexeme.kind c.in_ok-len.field-0 found.1 w.in-Lexeme.is w.len-is
+      | in-Gap w ↦ gap_takes (length rest) w.in-Gap.len len c.in_ok-len.field-0 found.1 w.in-Gap.is (ap (λ (x : ℕ × Place). x.0) w.len-is)
+      | in-Lexeme+in_ok-push-in-Lexeme w ↦ lexeme_takes (length rest) w.in-Lexeme.len len w.in-Lexeme.kind c.in_ok-len.field-0 found.1 w.in-Lexeme.is (ap (λ (x : ℕ × Place). x.0) w.len-is)
     ] in
     taken.1
 
 pub slice_bounds-rest-start : goal.slice_bounds-rest-start
 slice_bounds-rest-start c =
     let rest : List ℕ = c.loop-rest.rest.now in
-    let len : ℕ = c.match-branch-2.len in
+    let len : ℕ = c.match-branch-2.len.0 in
     let found = piece_found rest c.in_ok-len.field-0 (grind (arith, common_steps)) c.in_ok-len.ensures in
     let taken : (0 < len) × (len ≤ length rest) = elim c.match-branch-2.branch [
-      | in-Gap w ↦ gap_takes (length rest) w.in-Gap.len len c.in_ok-len.field-0 found.1 w.in-Gap.is w.len-is
-      | in-Lexeme+in_ok-push-in-Lexeme w ↦ lexeme_takes (length rest) w.in-Lexeme.len len w.in-Lexeme.kind c.in_ok-len.field-0 found.1 w.in-Lexeme.is w.len-is
+      | in-Gap w ↦ gap_takes (length rest) w.in-Gap.len len c.in_ok-len.field-0 found.1 w.in-Gap.is (ap (λ (x : ℕ × Place). x.0) w.len-is)
+      | in-Lexeme+in_ok-push-in-Lexeme w ↦ lexeme_takes (length rest) w.in-Lexeme.len len w.in-Lexeme.kind c.in_ok-len.field-0 found.1 w.in-Lexeme.is (ap (λ (x : ℕ × Place). x.0) w.len-is)
     ] in
     search rules
 
 pub loop-rest-smaller : goal.loop-rest-smaller
 loop-rest-smaller c =
     let rest : List ℕ = c.loop-rest.rest.now in
-    let len : ℕ = c.match-branch-2.len in
+    let len : ℕ = c.match-branch-2.len.0 in
     let found = piece_found rest c.in_ok-len.field-0 (grind (arith, common_steps)) c.in_ok-len.ensures in
     let taken : (0 < len) × (len ≤ length rest) = elim c.match-branch-2.branch [
-      | in-Gap w ↦ gap_takes (length rest) w.in-Gap.len len c.in_ok-len.field-0 found.1 w.in-Gap.is w.len-is
-      | in-Lexeme+in_ok-push-in-Lexeme w ↦ lexeme_takes (length rest) w.in-Lexeme.len len w.in-Lexeme.kind c.in_ok-len.field-0 found.1 w.in-Lexeme.is w.len-is
+      | in-Gap w ↦ gap_takes (length rest) w.in-Gap.len len c.in_ok-len.field-0 found.1 w.in-Gap.is (ap (λ (x : ℕ × Place). x.0) w.len-is)
+      | in-Lexeme+in_ok-push-in-Lexeme w ↦ lexeme_takes (length rest) w.in-Lexeme.len len w.in-Lexeme.kind c.in_ok-len.field-0 found.1 w.in-Lexeme.is (ap (λ (x : ℕ × Place). x.0) w.len-is)
     ] in
     let less = take_rest rest len in
     omega (arith, length-drop len rest, ap length less)
@@ -75,38 +80,50 @@ loop-rest-smaller c =
 pub loop-rest-preserved : goal.loop-rest-preserved
 loop-rest-preserved c =
     let rest : List ℕ = c.loop-rest.rest.now in
-    let len : ℕ = c.match-branch-2.len in
+    let len : ℕ = c.match-branch-2.len.0 in
     let found = piece_found rest c.in_ok-len.field-0 (grind (arith, common_steps)) c.in_ok-len.ensures in
     let taken : (0 < len) × (len ≤ length rest) = elim c.match-branch-2.branch [
-      | in-Gap w ↦ gap_takes (length rest) w.in-Gap.len len c.in_ok-len.field-0 found.1 w.in-Gap.is w.len-is
-      | in-Lexeme+in_ok-push-in-Lexeme w ↦ lexeme_takes (length rest) w.in-Lexeme.len len w.in-Lexeme.kind c.in_ok-len.field-0 found.1 w.in-Lexeme.is w.len-is
+      | in-Gap w ↦ gap_takes (length rest) w.in-Gap.len len c.in_ok-len.field-0 found.1 w.in-Gap.is (ap (λ (x : ℕ × Place). x.0) w.len-is)
+      | in-Lexeme+in_ok-push-in-Lexeme w ↦ lexeme_takes (length rest) w.in-Lexeme.len len w.in-Lexeme.kind c.in_ok-len.field-0 found.1 w.in-Lexeme.is (ap (λ (x : ℕ × Place). x.0) w.len-is)
     ] in
     let bytes : List ℕ = c.args.bytes.now in
     let at : ℕ = c.loop-rest.place.at in
     let left = ap length c.loop-rest.invariant.rest in
-    let advanced : c.after-place.result.at ≡ at + len = omega (arith, length-take-le len rest taken.1) in
-    let place : c.after-place.result ≡ place_of bytes (at + len) = c.after-place.ensures.place ∙ (ap (λ (q : Place). place_from q (take len rest)) c.loop-rest.invariant.place ∙ (ap (λ (z : List ℕ). place_from (place_of bytes at) (take len z)) c.loop-rest.invariant.rest ∙ place_later bytes at len)) in
     let here : BeginsPiece (drop at bytes) c.in_ok-len.field-0 = subst (λ (z : List ℕ). BeginsPiece z c.in_ok-len.field-0) c.loop-rest.invariant.rest found.0 in
+    let next : Place = c.match-branch-2.len.1 in
+    let stands : Follows c.loop-rest.place (take len rest) next = elim c.match-branch-2.branch [
+      | in-Gap w ↦
+          let after : Follows c.loop-rest.place (take w.in-Gap.len rest) w.after.result = record { place = w.after.ensures.place; at = w.after.ensures.at; line = w.after.ensures.line; column = w.after.ensures.column } in
+          followed c.loop-rest.place rest len _ next _ (ap (λ (x : ℕ × Place). x.0) w.len-is) (ap (λ (x : ℕ × Place). x.1) w.len-is) after
+      | in-Lexeme+in_ok-push-in-Lexeme w ↦
+          let some : len ≡ w.in-Lexeme.len = ap (λ (x : ℕ × Place). x.0) w.len-is in
+          let one : EndsNoLine (take w.in-Lexeme.len rest) = lexeme_line rest w.in-Lexeme.kind w.in-Lexeme.len (subst (BeginsPiece rest) w.in-Lexeme.is found.0) in
+          let along : Follows c.loop-rest.place (take w.in-Lexeme.len rest) w.along.result =
+          follows_along c.loop-rest.place rest w.in-Lexeme.len w.along.result (omega (arith, taken.1, some)) one c.loop-rest.invariant.line c.loop-rest.invariant.column w.along.ensures in
+          followed c.loop-rest.place rest len _ next _ some (ap (λ (x : ℕ × Place). x.1) w.len-is) along
+    ] in
+    let place : next ≡ place_of bytes (at + len) = stands.place ∙ (ap (λ (q : Place). place_from q (take len rest)) c.loop-rest.invariant.place ∙ (ap (λ (z : List ℕ). place_from (place_of bytes at) (take len z)) c.loop-rest.invariant.rest ∙ place_later bytes at len)) in
+    let advanced : next.at ≡ at + len = omega (arith, stands.at, length-take-le len rest taken.1) in
     let old : List Token = c.loop-rest.found.items in
     let new : List Token = c.match-branch-2.found.items in
     let so_far : Continues bytes at old = c.loop-rest.invariant.reads in
     let more : Continues bytes (at + len) new = elim c.match-branch-2.branch [
       | in-Gap w ↦
           let kept : new ≡ old = cc in
-          past_gap bytes at w.in-Gap.len len c.in_ok-len.field-0 old new so_far here w.in-Gap.is w.len-is kept
+          past_gap bytes at w.in-Gap.len len c.in_ok-len.field-0 old new so_far here w.in-Gap.is (ap (λ (x : ℕ × Place). x.0) w.len-is) kept
       | in-Lexeme+in_ok-push-in-Lexeme w ↦
           let pushed : new ≡ old ++ token_at w.in-Lexeme.kind w.in-Lexeme.len c.loop-rest.place ∷ [] =
           ap (λ v. v.items) w.found-is ∙ (w.in_ok-push-in-Lexeme.ensures.items ∙ ap (λ (q : Token). old ++ q ∷ []) w.token.ensures) in
           let longer : new ≡ old ++ token_at w.in-Lexeme.kind w.in-Lexeme.len (place_of bytes at) ∷ [] =
           pushed ∙ ap (λ (q : Place). old ++ token_at w.in-Lexeme.kind w.in-Lexeme.len q ∷ []) c.loop-rest.invariant.place in
-          past_lexeme bytes at w.in-Lexeme.len len w.in-Lexeme.kind c.in_ok-len.field-0 old new so_far here w.in-Lexeme.is w.len-is longer
+          past_lexeme bytes at w.in-Lexeme.len len w.in-Lexeme.kind c.in_ok-len.field-0 old new so_far here w.in-Lexeme.is (ap (λ (x : ℕ × Place). x.0) w.len-is) longer
     ] in
     record {
       within = omega (arith, length-drop at bytes);
       rest = rest_later bytes rest at len c.loop-rest.invariant.rest ∙ ap (λ (n : ℕ). drop n bytes) (sym advanced);
       place = place ∙ ap (place_of bytes) (sym advanced);
-      line = c.after-place.ensures.line;
-      column = c.after-place.ensures.column;
+      line = stands.line;
+      column = stands.column;
       reads = subst (λ (k : ℕ). Continues bytes k c.match-branch-2.found.items) (sym advanced) more;
     }
 

@@ -1,8 +1,0 @@
-use Rattle.std.proofs.Common.{◌≡◌, drop, find, nat_eq}
-use Rattle.std.specs.List.{starts_with}
-use Rattle.tp_lex.specs.Spelling.{symbol_spelling, longest_symbol}
-use Rattle.tp_lex.proofs.spelling.first_symbol.Given as goal
-
--- the symbol is one of those that are left
-abbrev pub invariant-loop-symbol : goal.invariant-loop-symbol
-invariant-loop-symbol l = longest_symbol l.text ≡ find (λ s. starts_with nat_eq l.text (symbol_spelling s)) (drop l.symbol-index l.symbol-items)
