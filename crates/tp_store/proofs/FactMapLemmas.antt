@@ -72,6 +72,12 @@ all_added eq es xs news e q n =
     ap (λ eq. facts_of_shapes (insert_all eq es xs)) e ∙ ap facts_of_shapes (all_last es xs (subst P (sym q) n))
     ∙ map-append (λ (e : Path × Shape). fact e.0 e.1) es xs ∙ ap (λ fs. facts_of_shapes es ++ fs) q
 
+-- a list of one
+pub only_one : {A : Type 0} (xs : List A) (x : A) → 1 ≤ length xs → length xs < 2 → x ≡ get_or xs 0 x → xs ≡ x ∷ []
+only_one [] x l h e = absurd (omega (arith, l))
+only_one (y ∷ []) x l h e = ap (λ z. z ∷ []) (sym e)
+only_one (y ∷ z ∷ ys) x l h e = absurd (omega (arith, h))
+
 -- one more fact of a list is in the map
 split_at : {A : Type 0} (xs : List A) (i : ℕ) (d : A) → i < length xs → xs ≡ take i xs ++ get_or xs i d ∷ drop (i + 1) xs
 split_at [] i d h = absurd (omega arith)

@@ -110,14 +110,43 @@ fn drop_facts_at(entries: &mut [Entry], number: u64)
     }
 }
 
-/// Drops the facts of state variables, of which only those that were touched have any.
-pub fn drop_state_facts(entries: &mut [Entry], touched: &[u64])
+// Gives back the memory of the variable with that number, where it has no facts.
+fn empty_at(alloc: Global, entries: &mut [Entry], number: u64)
+    ensures { parts_in entries.new ≡ parts_in entries.old }
+{
+    let place = number as usize;
+    if place < entries.len() && entries[place].facts.is_empty() {
+        entries[place].facts = FactMap::new(alloc);
+    }
+}
+
+// Gives back the memory of those variables, as numbers, that have no facts.
+fn give_back(alloc: Global, entries: &mut [Entry], numbers: &[u64])
+    ensures { parts_in entries.new ≡ parts_in entries.old }
+{
+    for number in numbers {
+        empty_at(alloc, entries, *number);
+    }
+}
+
+// Drops the facts of state variables, of which only those that were touched have any.
+fn drop_state_facts(entries: &mut [Entry], touched: &[u64])
     requires { AreTouched touched.now (parts_in entries.old) }
     ensures { parts_in entries.new ≡ map next_part (parts_in entries.old) }
 {
     for number in touched {
         drop_facts_at(entries, *number);
     }
+}
+
+/// Drops the facts of state variables, of which only those that were touched have any. Those touched before that have none now give their
+/// memory back.
+pub fn go_on(alloc: Global, entries: &mut [Entry], touched: &[u64], before: &[u64])
+    requires { AreTouched touched.now (parts_in entries.old) }
+    ensures { parts_in entries.new ≡ map next_part (parts_in entries.old) }
+{
+    give_back(alloc, entries, before);
+    drop_state_facts(entries, touched);
 }
 
 /// Notes the variable with that number before facts of it are added: a state variable that has none yet is touched from then on.

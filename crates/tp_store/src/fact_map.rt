@@ -75,6 +75,26 @@ fn shapes_of(alloc: Global, facts: &[Fact]) -> Result<IndexMap<Path, Shape>, NoM
     Ok(shapes)
 }
 
+// Adds equal facts to the map, or none where memory ends.
+fn append_shapes(
+    alloc: Global,
+    shapes: &mut IndexMap<Path, Shape>,
+    news: &[Fact],
+) -> Result<(), NoMemory>
+    requires { NoClash (facts_of_shapes shapes.old.entries ++ news.now) }
+    ensures ok { OnOk result (facts_of_shapes shapes.new.entries
+        ≡ facts_of_shapes shapes.old.entries ++ news.now) }
+    ensures err { OnErr result (shapes.new.entries ≡ shapes.old.entries) }
+{
+    if let [fact] = news {
+        shapes.insert(fact.path.copy()?, fact.shape)?;
+        return Ok(());
+    }
+    let mut more = shapes_of(alloc, news)?;
+    shapes.append(&mut more)?;
+    Ok(())
+}
+
 impl FactMap {
     /// No fact.
     pub fn new(alloc: Global) -> FactMap
@@ -212,8 +232,7 @@ impl FactMap {
         ensures err { OnErr result (self.new ≡ self.old) }
     {
         self.bounds.include_all(alloc, news)?;
-        let mut shapes = shapes_of(alloc, news)?;
-        self.shapes.append(&mut shapes)?;
+        append_shapes(alloc, &mut self.shapes, news)?;
         self.depth = self.depth.max(depth_of(news));
         Ok(())
     }

@@ -5,10 +5,11 @@ ghost use Rattle.tp_store.specs.Facts.{kept_shape};
 ghost use Rattle.tp_store.specs.Known.{new_store, name_of, lasting_facts, facts_below};
 ghost use Rattle.tp_store.specs.Changes.{IsSoundStore, HaveSameShapes, HasAppended};
 
-use crate::entry::{Entry, copy_below, drop_state_facts, global_entries, kept_shape, name_of};
+use crate::entry::{Entry, copy_below, global_entries, go_on, kept_shape, name_of};
 use crate::fact_map::FactMap;
 use std::alloc::Global;
 use std::marker::Model;
+use std::mem;
 use tp_value::{Facts, Globals, NoMemory, Path, Shape, Text, VarId};
 
 /// What is known of a state: facts without a clash, whose order is open, and the variables, of which the i-th, from 0, has number i. A
@@ -19,6 +20,8 @@ pub struct Store {
     pub(crate) entries: Vec<Entry>,
     // The numbers of the state variables that may have facts. Going on to the next state looks at these variables alone.
     pub(crate) touched: Vec<u64>,
+    // The numbers of those that had some in the state before. A variable that gets none in a whole state gives its memory back.
+    pub(crate) before: Vec<u64>,
 }
 
 impl Model for Store {
@@ -45,6 +48,7 @@ impl Store {
             alloc,
             entries,
             touched: Vec::new(alloc),
+            before: Vec::new(alloc),
         })
     }
 
@@ -110,7 +114,13 @@ impl Store {
         ensures variables { self.new.variables ≡ self.old.variables }
         ensures sound { IsSoundStore self.new }
     {
-        drop_state_facts(self.entries.as_mut_slice(), self.touched.as_slice());
+        go_on(
+            self.alloc,
+            self.entries.as_mut_slice(),
+            self.touched.as_slice(),
+            self.before.as_slice(),
+        );
+        mem::swap(&mut self.before, &mut self.touched);
         self.touched.clear();
     }
 }

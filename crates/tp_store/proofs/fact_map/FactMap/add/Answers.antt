@@ -2,9 +2,8 @@ use Rattle.std.proofs.Common.{◌≡◌, ◌<◌, ◌^◌, ◌++◌, max, List, 
 use Rattle.tp_value.specs.declared.path.Fact.{Fact}
 use Rattle.tp_store.specs.Known.{NoClash, deepest}
 use Rattle.tp_store.specs.FactMap.{facts_of_shapes, AreBounded}
-use Rattle.tp_store.proofs.Keys.{path_eq, eq_is_same}
 use Rattle.tp_store.proofs.BoundLemmas.{bounded_stay, bounded_append}
-use Rattle.tp_store.proofs.FactMapLemmas.{Shapes, all_added, deepest-append, later_apart}
+use Rattle.tp_store.proofs.FactMapLemmas.{Shapes, deepest-append}
 use Rattle.tp_store.proofs.fact_map.FactMap.add.Goals as goal
 
 pub invariant_of-self : goal.invariant_of-self
@@ -12,20 +11,17 @@ invariant_of-self c =
     let i = c.self.invariant in
     (i.0, bounded_stay c.self.inside.bounds c.include_all.new.self _ c.in_err-include_all.ensures.kept i.1, i.2, i.3)
 
-pub shapes_of-requires : goal.shapes_of-requires
-shapes_of-requires c = later_apart c.args.self.now c.args.news.now c.requires
+pub append_shapes-requires : goal.append_shapes-requires
+append_shapes-requires c =
+    let N : List Fact → Type 0 = λ fs. NoClash (fs ++ c.args.news.now) in
+    subst N (sym c.self.view_is) c.requires
 
-pub invariant_of-self-in_err-shapes : goal.invariant_of-self-in_err-shapes
-invariant_of-self-in_err-shapes c =
-    let i = c.self.invariant in
-    (i.0, bounded_stay c.self.inside.bounds c.include_all.new.self _ c.in_ok-include_all.ensures.kept i.1, i.2, i.3)
-
-pub invariant_of-self-in_err-append : goal.invariant_of-self-in_err-append
-invariant_of-self-in_err-append c =
+pub invariant_of-self-in_err-append_shapes : goal.invariant_of-self-in_err-append_shapes
+invariant_of-self-in_err-append_shapes c =
     let i = c.self.invariant in
     let P : Shapes → Type 0 = λ es.
     NoClash (facts_of_shapes es) × AreBounded c.include_all.new.self (facts_of_shapes es) × (c.self.inside.depth ≡ deepest (facts_of_shapes es)) × (c.self.inside.depth < 2 ^ 63) in
-    subst P (sym c.in_err-append.ensures.err)
+    subst P (sym c.in_err-append_shapes.ensures.err)
     (i.0, bounded_stay c.self.inside.bounds c.include_all.new.self _ c.in_ok-include_all.ensures.kept i.1, i.2, i.3)
 
 pub invariant_of-self-2 : goal.invariant_of-self-2
@@ -35,9 +31,7 @@ invariant_of-self-2 c =
     let news = c.args.news.now in
     let N : List Fact → Type 0 = λ fs. NoClash (fs ++ news) in
     let apart : NoClash (old ++ news) = subst N (sym c.self.view_is) c.requires in
-    let all : facts_of_shapes c.append.new.self.entries ≡ old ++ news =
-    ap facts_of_shapes c.in_ok-append.ensures.entries
-    ∙ all_added path_eq c.self.inside.shapes.entries c.in_ok-shapes.shapes.entries news eq_is_same c.in_ok-shapes.ensures apart in
+    let all : facts_of_shapes c.append_shapes.new.shapes.entries ≡ old ++ news = c.in_ok-append_shapes.ensures.ok in
     let d = c.max-self-inside.result in
     let P : List Fact → Type 0 = λ fs. NoClash fs × AreBounded c.include_all.new.self fs × (d ≡ deepest fs) × (d < 2 ^ 63) in
     let depth : d ≡ deepest (old ++ news) = c.max-self-inside.ensures ∙ ap₂ max i.2 c.depth_of.ensures.value ∙ sym (deepest-append old news) in
@@ -48,10 +42,4 @@ invariant_of-self-2 c =
 
 pub returns-clause-ok : goal.returns-clause-ok
 returns-clause-ok c =
-    let old = facts_of_shapes c.self.inside.shapes.entries in
-    let news = c.args.news.now in
-    let N : List Fact → Type 0 = λ fs. NoClash (fs ++ news) in
-    let apart : NoClash (old ++ news) = subst N (sym c.self.view_is) c.requires in
-    ap facts_of_shapes c.in_ok-append.ensures.entries
-    ∙ all_added path_eq c.self.inside.shapes.entries c.in_ok-shapes.shapes.entries news eq_is_same c.in_ok-shapes.ensures apart
-    ∙ ap (λ fs. fs ++ news) c.self.view_is
+    c.in_ok-append_shapes.ensures.ok ∙ ap (λ fs. fs ++ c.args.news.now) c.self.view_is
