@@ -1,13 +1,20 @@
 -- What the parameters of a definition are bound to, one at a time.
-use Rattle.std.proofs.Common.{◌≡◌, ℕ, List, [], ◌∷◌, ◌++◌, map, length, IsTrue, ◌⊎◌, inl, inr, refl, ap, sym, ◌∙◌, arith}
+use Rattle.std.proofs.Common.{◌≡◌, ℕ, Bool, true, false, Some, if◌then◌else◌, List, [], ◌∷◌, ◌++◌, map, length, IsTrue, ◌⊎◌, inl, inr, refl, ap, sym, ◌∙◌, arith}
 use Rattle.std.proofs.lemmas.List.{append_assoc, append-nil}
+use Rattle.tp_value.specs.Tree.{Tree}
 use Rattle.tp_value.specs.declared.path.Fact.{Fact}
 use Rattle.tp_kernel.specs.declared.formula.Expr.{Expr}
 use Rattle.tp_kernel.specs.declared.fault.FaultKind.TheVariants.{NoElement}
 use Rattle.tp_kernel.specs.Read.{expr_tree}
-use Rattle.tp_meaning.specs.Syntax.{Definition, BindingTree, ExprTree, ExprTrees, numeral, boolean, known, bound, global, listing, size, index, minus, negation, both, either, binary, choice, invoke, no_expr, expr_then, exprs_of}
+use Rattle.tp_meaning.specs.Syntax.{Definition, BindingTree, known_binding, ExprTree, ExprTrees, numeral, boolean, known, bound, global, listing, size, index, minus, negation, both, either, binary, choice, invoke, no_expr, expr_then, exprs_of}
 use Rattle.tp_meaning.specs.Fits.{IsPlace, AreArguments}
-use Rattle.tp_eval.specs.Evaluate.{is_place}
+use Rattle.tp_meaning.specs.Value.{is_upper}
+use Rattle.tp_eval.specs.Evaluate.{is_place, depth_limit}
+use Rattle.tp_eval.specs.Operand.{bound_value}
+use Rattle.tp_eval.specs.Outcome as found
+use Rattle.tp_eval.specs.Outcome.{outcome, outcome_reached, place_outcome, place_reached}
+use Rattle.tp_eval.proofs.Answered.{eval_is, place_is as place_outcome_is}
+use Rattle.tp_eval.proofs.OperandLemmas.{value_reached, place_reached_by_value}
 use Rattle.tp_scene.specs.declared.answer.Clash.TheVariants.{NoValue}
 use Rattle.tp_scene.specs.Scene.{Bindings}
 use Rattle.tp_scene.specs.Step as row
@@ -40,6 +47,20 @@ module _ (facts : List Fact) (defs : List Definition) (env : Bindings) where
   argument_next done b x xs e es h f = sym
       (h (λ v. arguments_then es xs (λ vs. f (done ++ v ∷ vs)))
       ∙ ap (λ (g : Bindings → Bindings). arguments_then es xs (λ vs. f (g vs))) (λ j vs. sym (append_assoc done (b ∷ []) vs) j))
+
+  -- a known value that an argument is bound to is what the parameter is bound to
+  shared_value : (e : ExprTree) (t : Tree) → bound_value e env ≡ Some t → outcome facts defs e env ≡ found.value t
+  shared_value e t h = sym (eval_is facts defs e env (found.value t) (ap outcome_reached (sym (value_reached facts t 0 defs env depth_limit e (omega arith) h))))
+
+  shared_place : (e : ExprTree) (t : Tree) → bound_value e env ≡ Some t → place_outcome facts defs e env ≡ found.other (found.value t)
+  shared_place e t h = sym (place_outcome_is facts defs e env (found.other (found.value t)) (ap (place_reached facts) (sym (place_reached_by_value facts t 0 defs env depth_limit e (omega arith) h))))
+
+  pub argument_shared : (x : List ℕ) (e : ExprTree) (t : Tree) → bound_value e env ≡ Some t → (f : BindingTree → PickOutcome) → row.with_argument defs facts x e env f ≡ f (known_binding t)
+  argument_shared x e t h f = by_letter (is_upper x)
+    where
+      by_letter : (b : Bool) → (if b then row.with_place (place_outcome facts defs e env) f else row.with_value (outcome facts defs e env) (λ v. f (known_binding v))) ≡ f (known_binding t)
+      by_letter true = ap (λ o. row.with_place o f) (shared_place e t h)
+      by_letter false = ap (λ o. row.with_value o (λ v. f (known_binding v))) (shared_value e t h)
 
   -- where one list has come to its end, and where the other hasn't
   pub all_bound : (done : Bindings) (es : List Expr) (xs : List (List ℕ)) → (es ≡ []) ⊎ (xs ≡ []) → length es ≡ length xs → (f : Bindings → PickOutcome) →

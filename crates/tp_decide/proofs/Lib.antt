@@ -5,3 +5,5 @@ pub mod RowLemmas
 pub mod DisplayLemmas
 pub mod FormulaLemmas
 pub mod CallLemmas
+pub mod KnownLemmas
+pub mod PlaceSides

@@ -3,3 +3,4 @@ pub mod Decided
 pub mod Found
 pub mod Fits
 pub mod Holders
+pub mod Equated

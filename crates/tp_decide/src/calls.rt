@@ -17,7 +17,7 @@ use crate::phrase::Phrase;
 use crate::setting::Setting;
 use std::alloc::Global;
 use std::rc::Rc;
-use tp_eval::{PlaceOutcome, place};
+use tp_eval::{PlaceOutcome, bound_value, place};
 use tp_kernel::{Binding, Def, Defs, Env, Expr, Exprs, FaultKind, is_upper};
 use tp_scene::Clash;
 use tp_store::Store;
@@ -76,7 +76,8 @@ fn find_place(
     }
 }
 
-// What the parameter is bound to: a place where its name begins with an upper-case letter, and else a value.
+// What the parameter is bound to: a place where its name begins with an upper-case letter, and else
+// a value. Where the argument is bound to a known value, that is handed on.
 fn find_binding(
     alloc: Global,
     parameter: &Text,
@@ -92,6 +93,10 @@ fn find_binding(
         (expr_tree expr.now) (bindings_of env.now) f)) }
     ensures plain { IfOk result (λ bound. IfErr bound IsPlain) }
 {
+    if let Some(value) = bound_value(expr, env) {
+        let value = value.clone()?;
+        return Ok(Ok(Binding::Known(value)));
+    }
     if is_upper(parameter) {
         let bound = find_place(alloc, expr, env, store, setting)?;
         Ok(bound)

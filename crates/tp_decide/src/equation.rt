@@ -1,5 +1,5 @@
 // What becomes of an equation.
-ghost use Rattle.std.specs.Prelude.{◌≡◌, IfOk, Bool, List, None, MatchOption};
+ghost use Rattle.std.specs.Prelude.{◌≡◌, IfOk, IsTrue, Bool, true, false, List, None, MatchOption};
 ghost use Rattle.tp_value.specs.Read.{tree};
 ghost use Rattle.tp_value.specs.Tree.{num};
 ghost use Rattle.tp_kernel.specs.Read.{expr_tree, definitions_of, bindings_of};
@@ -14,6 +14,7 @@ ghost use Rattle.tp_scene.specs.Step as row;
 ghost use Rattle.tp_store.specs.Known.{Variable, IsVariableOf};
 ghost use Rattle.tp_decide.specs.Decided.{decided_outcome, setting_of};
 ghost use Rattle.tp_decide.specs.Found.{option_target, side_found, PathIn, IsNoSize};
+ghost use Rattle.tp_decide.specs.Equated.{outcome_at, sets_length, AreOneValue, AreEqual};
 ghost use Rattle.tp_decide.specs.Fits.{IsPathOf, IsTargetOf, SetsVariables, ExprFitsStore};
 
 use crate::decision::{Decision, nothing};
@@ -22,7 +23,7 @@ use std::alloc::Global;
 use tp_eval::{Outcome, PlaceOutcome, eval, is_place, place};
 use tp_kernel::{Defs, Env, Expr, FaultKind, LimitKind};
 use tp_scene::{Cell, Clash};
-use tp_store::Store;
+use tp_store::{Known, Store};
 use tp_value::{LENGTH_LIMIT, NoMemory, Number, Path, Text, Value, same, same_tree_is_equality};
 
 /// What a side can set: the value at a path, or the length of the list there.
@@ -78,7 +79,8 @@ fn measured(expr: &Expr) -> Option<&Expr>
     }
 }
 
-fn find_target(
+// The length that a side can set which is no place.
+fn find_length(
     alloc: Global,
     expr: &Expr,
     env: &Env,
@@ -87,6 +89,7 @@ fn find_target(
 ) -> Result<Option<Target>, NoMemory>
     requires fits { ExprFitsStore (definitions_of defs.now) store.now.variables (expr_tree expr.now)
         (bindings_of env.now) }
+    requires no_place { is_place_tree (expr_tree expr.now) ≡ false }
     ensures outcome { IfOk result (λ o.
         option_target o
         ≡ row.target_of (definitions_of defs.now) store.now.facts (expr_tree expr.now)
@@ -101,13 +104,7 @@ fn find_target(
                 None => Ok(None),
             }
         }
-        None => {
-            let path = path_of(alloc, expr, env, store, defs)?;
-            match path {
-                Some(path) => Ok(Some(Target::Value(path))),
-                None => Ok(None),
-            }
-        }
+        None => Ok(None),
     }
 }
 
@@ -118,6 +115,53 @@ fn is_placed(expr: &Expr) -> bool
     match expr {
         Expr::Size(inner) => is_place(inner),
         _ => is_place(expr),
+    }
+}
+
+// What is found at a path.
+fn found_at(path: &Path, store: &Store) -> Result<Outcome, NoMemory>
+    ensures { IfOk result (λ o. outcome_tree o ≡ outcome_at store.now.facts path.now) }
+{
+    match store.full(path)? {
+        Known::Absent => Ok(Outcome::Fault(FaultKind::NoElement)),
+        Known::Open(path) => Ok(Outcome::Wait(path)),
+        Known::TooLong => Ok(Outcome::Over(LimitKind::List)),
+        Known::Value(value) => Ok(Outcome::Value(value)),
+    }
+}
+
+// A side that is a place, evaluated once for what it can set and for what is found there.
+fn evaluate_place(
+    alloc: Global,
+    expr: &Expr,
+    env: &Env,
+    store: &Store,
+    defs: &Defs,
+) -> Result<Side, NoMemory>
+    requires fits { ExprFitsStore (definitions_of defs.now) store.now.variables (expr_tree expr.now)
+        (bindings_of env.now) }
+    requires place { is_place_tree (expr_tree expr.now) ≡ true }
+    ensures outcome { IfOk result (λ s.
+        side_found s
+        ≡ row.side_of (definitions_of defs.now) store.now.facts (expr_tree expr.now)
+        (bindings_of env.now)) }
+    ensures variables { IfOk result (λ s. IsTargetOf store.now.variables s.target) }
+{
+    let outcome = place(alloc, expr, env, store, defs)?;
+    match outcome {
+        PlaceOutcome::Place(path) => {
+            let found = found_at(&path, store)?;
+            Ok(Side {
+                placed: true,
+                target: Some(Target::Value(path)),
+                found,
+            })
+        }
+        PlaceOutcome::Other(found) => Ok(Side {
+            placed: true,
+            target: None,
+            found,
+        }),
     }
 }
 
@@ -136,7 +180,11 @@ fn evaluate_side(
         (bindings_of env.now)) }
     ensures variables { IfOk result (λ s. IsTargetOf store.now.variables s.target) }
 {
-    let target = find_target(alloc, expr, env, store, defs)?;
+    if is_place(expr) {
+        let side = evaluate_place(alloc, expr, env, store, defs)?;
+        return Ok(side);
+    }
+    let target = find_length(alloc, expr, env, store, defs)?;
     let found = eval(alloc, expr, env, store, defs)?;
     Ok(Side {
         placed: is_placed(expr),
@@ -285,6 +333,43 @@ fn equate(alloc: Global, left: Side, right: Side) -> Decision
     }
 }
 
+// Whether the side can set a length.
+fn sets_length(target: &Option<Target>) -> bool
+    ensures { result ≡ sets_length (option_target target.now) }
+{
+    match target {
+        Some(Target::Length(_)) => true,
+        Some(Target::Value(_)) => false,
+        None => false,
+    }
+}
+
+fn are_one_value(first: &Outcome, second: &Outcome) -> bool
+    ensures { IsTrue result → AreOneValue (outcome_tree first.now) (outcome_tree second.now) }
+{
+    match first {
+        Outcome::Value(left) => match second {
+            Outcome::Value(right) => same(left, right),
+            Outcome::Wait(_) => false,
+            Outcome::Fault(_) => false,
+            Outcome::Over(_) => false,
+        },
+        Outcome::Wait(_) => false,
+        Outcome::Fault(_) => false,
+        Outcome::Over(_) => false,
+    }
+}
+
+// Whether both sides are known already by the same value, so that there is nothing to set.
+fn are_equal(left: &Side, right: &Side) -> bool
+    ensures { IsTrue result → AreEqual (side_found left.now) (side_found right.now) }
+{
+    if sets_length(&left.target) {
+        return false;
+    }
+    are_one_value(&left.found, &right.found)
+}
+
 /// What becomes of the equation of the two.
 pub fn decide_equation(
     alloc: Global,
@@ -311,6 +396,11 @@ pub fn decide_equation(
 {
     let left = evaluate_side(alloc, left, env, store, setting.defs)?;
     let right = evaluate_side(alloc, right, env, store, setting.defs)?;
+    if are_equal(&left, &right) {
+        same_tree_is_equality();
+        store.count(); // whose facts don't clash
+        return Ok(nothing(alloc));
+    }
     Ok(equate(alloc, left, right))
 }
 

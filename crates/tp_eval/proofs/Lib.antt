@@ -10,3 +10,4 @@ pub mod Arguments
 pub mod OutcomesAre
 pub mod Answered
 pub mod Bound
+pub mod OperandLemmas

@@ -5,3 +5,4 @@ pub mod Right
 pub mod Bound
 pub mod Answers
 pub mod Places
+pub mod Operand

@@ -7,17 +7,18 @@ ghost use Rattle.tp_eval.specs.Reached.{within_numbers, within_lists};
 ghost use Rattle.tp_eval.specs.Evaluate.{is_place, each, all_true, one_true, operation_outcome, chosen, element_of, size_of, negative_in, negated_in, read_at, argument, arguments};
 ghost use Rattle.tp_eval.specs.Answers.{AnswersEvaluation, AnswersReached, operand_in, place_at, call_in};
 ghost use Rattle.tp_eval.specs.Places.{place_in};
+ghost use Rattle.tp_eval.specs.Operand.{operand_tree};
 
 use crate::count::count_call;
 use crate::halt::Halt;
 use crate::kinds::{limited, number_of, truth_of, within};
 use crate::lookup::Lookup;
+use crate::operand::{Operand, bind_value, bound_value};
 use crate::operate::{item_of, operate};
 use crate::places::{
     Place, bind_place, farther, index_of, length_of, named, size_at, value_at, whole,
 };
 use std::alloc::Global;
-use std::rc::Rc;
 use tp_kernel::{Binding, Def, Env, Expr, Exprs, FaultKind, LimitKind, Op2, is_upper};
 use tp_value::{Items, Number, Texts, Value, is_number, negated};
 
@@ -77,6 +78,21 @@ fn contrary(value: Value) -> Result<Value, Halt>
 {
     let b = truth_of(value)?;
     Ok(Value::Truth(!b))
+}
+
+// The value of an expression that is looked at or handed on: that of a bound name isn't copied.
+#[cycle(evaluate)]
+fn operand(levels: u32, expr: &Expr, lookup: &Lookup, calls: &mut u32) -> Result<Operand, Halt>
+    ensures { AnswersReached operand_tree result calls.new
+        (operand_in lookup.now levels (expr_tree expr.now) calls.old) }
+{
+    if levels > 0 {
+        if let Some(value) = bound_value(expr, lookup.env) {
+            return Ok(Operand::Shared(value.clone()?));
+        }
+    }
+    let value = evaluate(levels, expr, lookup, calls)?;
+    Ok(Operand::Own(value))
 }
 
 // The values of expressions from left to right.
@@ -146,9 +162,9 @@ fn operated(
         (operation_outcome (operand_in lookup.now levels) (operator_of op) (expr_tree first.now)
         (expr_tree second.now) calls.old) }
 {
-    let a = evaluate(levels, first, lookup, calls)?;
-    let b = evaluate(levels, second, lookup, calls)?;
-    operate(op, a, b)
+    let a = operand(levels, first, lookup, calls)?;
+    let b = operand(levels, second, lookup, calls)?;
+    operate(lookup.alloc, op, a, b)
 }
 
 // The branch that the condition chooses.
@@ -226,8 +242,8 @@ fn argument(
         let place = find_place(levels, expr, lookup, calls)?;
         bind_place(lookup.alloc, place)
     } else {
-        let value = evaluate(levels, expr, lookup, calls)?;
-        Ok(Binding::Known(Rc::new(lookup.alloc, value)?))
+        let value = operand(levels, expr, lookup, calls)?;
+        Ok(bind_value(lookup.alloc, value)?)
     }
 }
 

@@ -1,15 +1,18 @@
 // The operators on values.
-ghost use Rattle.std.specs.Prelude.{◌++◌, map};
-ghost use Rattle.tp_value.specs.Tree.{num, list, of_items};
+ghost use Rattle.std.specs.Prelude.{◌≡◌, ◌++◌, map};
+ghost use Rattle.tp_value.specs.Tree.{num, list, of_items, same_tree};
 ghost use Rattle.tp_value.specs.Read.{tree};
 ghost use Rattle.tp_value.specs.Number.{floor_div, floor_mod};
 ghost use Rattle.tp_kernel.specs.Read.{operator_of};
 ghost use Rattle.tp_eval.specs.Reached.{within_lists};
 ghost use Rattle.tp_eval.specs.Evaluate.{operate_outcome, sum_in, on_divisor_outcome, item_between};
 ghost use Rattle.tp_eval.specs.Answers.{AnswersEvaluation};
+ghost use Rattle.tp_eval.specs.Operand.{operand_tree};
 
 use crate::halt::Halt;
 use crate::kinds::{items_of, limited, number_of, within};
+use crate::operand::{Operand, owned, seen};
+use std::alloc::Global;
 use tp_kernel::{FaultKind, Op2};
 use tp_value::{Items, Number, Value, difference, product, quotient, remainder, same, sum};
 
@@ -80,17 +83,30 @@ fn on_numbers(op: Op2, m: Number, n: Number) -> Result<Value, Halt>
     }
 }
 
+fn are_same(a: &Operand, b: &Operand) -> bool
+    ensures { result ≡ same_tree (operand_tree a.now) (operand_tree b.now) }
+{
+    same(seen(a), seen(b))
+}
+
 /// What an operator makes of two values.
-pub fn operate(op: Op2, a: Value, b: Value) -> Result<Value, Halt>
-    ensures { AnswersEvaluation tree result (operate_outcome (operator_of op) (tree a) (tree b)) }
+pub fn operate(alloc: Global, op: Op2, a: Operand, b: Operand) -> Result<Value, Halt>
+    ensures { AnswersEvaluation tree result
+        (operate_outcome (operator_of op) (operand_tree a) (operand_tree b)) }
 {
     match op {
-        Op2::Equal => Ok(Value::Truth(same(&a, &b))),
-        Op2::Differs => Ok(Value::Truth(!same(&a, &b))),
-        Op2::Plus => sum_of(a, b),
+        Op2::Equal => Ok(Value::Truth(are_same(&a, &b))),
+        Op2::Differs => Ok(Value::Truth(!are_same(&a, &b))),
+        Op2::Plus => {
+            let first = owned(alloc, a)?;
+            let second = owned(alloc, b)?;
+            sum_of(first, second)
+        }
         _ => {
-            let m = number_of(a)?;
-            let n = number_of(b)?;
+            let first = owned(alloc, a)?;
+            let second = owned(alloc, b)?;
+            let m = number_of(first)?;
+            let n = number_of(second)?;
             on_numbers(op, m, n)
         }
     }

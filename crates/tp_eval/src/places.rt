@@ -149,6 +149,9 @@ pub fn bind_place(alloc: Global, place: Place) -> Result<Binding, Halt>
     match place {
         Place::At(path) => Ok(Binding::Place(path)),
         Place::Inside(value, at) => {
+            if at.items.is_empty() {
+                return Ok(Binding::Known(value));
+            }
             let element = copy_element(alloc, &value, at.items.as_slice())?;
             Ok(Binding::Known(Rc::new(alloc, element)?))
         }

@@ -1,11 +1,23 @@
-use Rattle.std.proofs.Common.{◌≡◌, Bool, false, ◌∙◌, sym, subst, if◌then◌else◌}
+use Rattle.std.proofs.Common.{◌≡◌, Bool, false, Some, ◌∙◌, ap, sym, subst, if◌then◌else◌}
+use Rattle.std.specs.Option.{option_map}
+use Rattle.tp_value.specs.Read.{tree}
 use Rattle.tp_meaning.specs.Syntax.{known_binding}
 use Rattle.tp_meaning.specs.Value.{is_upper}
 use Rattle.tp_kernel.specs.Read.{expr_tree, bindings_of, definitions_of}
 use Rattle.tp_eval.specs.Outcome.{outcome, place_outcome}
 use Rattle.tp_scene.specs.Step as row
 use Rattle.tp_decide.specs.Found.{BoundIn}
+use Rattle.tp_eval.specs.Operand.{bound_value}
+use Rattle.tp_decide.proofs.CallLemmas.{argument_shared}
 use Rattle.tp_decide.proofs.calls.find_binding.Goals as goal
+
+pub returns-in-Some-clause-bound : goal.returns-in-Some-clause-bound
+returns-in-Some-clause-bound c = λ f.
+    let e = expr_tree c.args.expr.now in
+    let env = bindings_of c.args.env.now in
+    let t = tree c.in_ok-value.value.value in
+    let there : bound_value e env ≡ Some t = sym c.bound_value.ensures ∙ ap (option_map (λ v. tree v.now.value)) c.in-Some.is ∙ ap (λ v. Some (tree v)) (sym c.in_ok-value.ensures.cases) in
+    argument_shared c.args.store.now.facts (definitions_of c.args.setting.now.defs.now) env c.args.parameter.now e t there f
 
 pub returns-in_ok-bound-2-clause-bound : goal.returns-in_ok-bound-2-clause-bound
 returns-in_ok-bound-2-clause-bound c =

@@ -25,8 +25,11 @@ decreases-all_true l = 8 * l.levels + 3
 abbrev pub decreases-one_true : goal.decreases-one_true
 decreases-one_true l = 8 * l.levels + 3
 
+abbrev pub decreases-operand : goal.decreases-operand
+decreases-operand l = 8 * l.levels + 3
+
 abbrev pub decreases-operated : goal.decreases-operated
-decreases-operated l = 8 * l.levels + 3
+decreases-operated l = 8 * l.levels + 4
 
 abbrev pub decreases-chosen : goal.decreases-chosen
 decreases-chosen l = 8 * l.levels + 3
@@ -38,16 +41,16 @@ abbrev pub decreases-size_of : goal.decreases-size_of
 decreases-size_of l = 8 * l.levels + 3
 
 abbrev pub decreases-argument : goal.decreases-argument
-decreases-argument l = 8 * l.levels + 3
+decreases-argument l = 8 * l.levels + 4
 
 abbrev pub decreases-arguments : goal.decreases-arguments
-decreases-arguments l = 8 * l.levels + 4
+decreases-arguments l = 8 * l.levels + 5
 
 abbrev pub decreases-called : goal.decreases-called
-decreases-called l = 8 * l.levels + 5
+decreases-called l = 8 * l.levels + 6
 
 abbrev pub decreases-call : goal.decreases-call
-decreases-call l = 8 * l.levels + 6
+decreases-call l = 8 * l.levels + 7
 
 abbrev pub invariant-all_true-loop-expr : goal.invariant-all_true-loop-expr
 invariant-all_true-loop-expr l =

@@ -1,0 +1,115 @@
+-- Sides of equations that are places, and sides that are known already.
+use Rattle.std.proofs.Common.{◌≡◌, ℕ, zero, suc, ◌<◌, Bool, true, false, List, [], Option, Some, None, refl, ap, sym, ◌∙◌, arith}
+use Rattle.tp_value.specs.Tree.{Tree, SameTreeIsEquality}
+use Rattle.tp_value.specs.declared.path.Path.{Path}
+use Rattle.tp_value.specs.declared.path.Fact.{Fact}
+use Rattle.tp_meaning.specs.Syntax.{ExprTree, numeral, boolean, known, bound, global, listing, size, index, minus, negation, both, either, binary, choice, invoke, Definition, BindingTree}
+use Rattle.tp_store.specs.Facts.{facts_at}
+use Rattle.tp_store.specs.Known as store
+use Rattle.tp_store.specs.Known.{NoClash, full, addition}
+use Rattle.tp_eval.specs.Reached.{Reached, reaches, stops, waits, faults, passes, with_reached}
+use Rattle.tp_eval.specs.Evaluate.{PlaceFound, at_path, inside, is_place, of_full, value_at, indexed_value, evaluate, find_place, depth_limit}
+use Rattle.tp_eval.specs.Outcome as found
+use Rattle.tp_eval.specs.Outcome.{outcome, outcome_reached, place_outcome, place_reached}
+use Rattle.tp_eval.proofs.Answered.{eval_is, place_is}
+use Rattle.tp_scene.specs.Step as row
+use Rattle.tp_decide.specs.Found.{IsNoSize}
+use Rattle.tp_decide.specs.Equated.{outcome_of_place, sets_length, AreEqual}
+use Rattle.tp_decide.proofs.EquationLemmas.{plain_target, side, side_same, equal_vanishes, right_value}
+use Rattle.tp_decide.proofs.KnownLemmas.{known_adds_nothing}
+
+no_size : (e : ExprTree) → is_place e ≡ true → IsNoSize e
+no_size (size e) h = absurd (cc)
+no_size _ h = tt
+
+placed : (e : ExprTree) → is_place e ≡ true → row.is_placed e ≡ true
+placed (size e) h = absurd (cc)
+placed (bound i) h = h
+placed (global x) h = h
+placed (index e i) h = h
+placed _ h = absurd (cc)
+
+module _ (facts : List Fact) where
+  any_count : (o : store.Full) (c : ℕ) → outcome_reached (of_full o c) ≡ outcome_reached (of_full o 0)
+  any_count store.absent c = refl
+  any_count (store.undecided p) c = refl
+  any_count store.too_long c = refl
+  any_count (store.value t) c = refl
+
+  read_outcome : (r : Reached PlaceFound) → outcome_reached (with_reached r (value_at facts)) ≡ outcome_of_place facts (place_reached facts r)
+  read_outcome (reaches (at_path p) c) = any_count (full facts p) c
+  read_outcome (reaches (inside t at) c) = refl
+  read_outcome (stops (waits p)) = refl
+  read_outcome (stops (faults k)) = refl
+  read_outcome (stops (passes k)) = refl
+
+  found_there : (o : store.Full) (t : Tree) → outcome_reached (of_full o 0) ≡ found.value t → o ≡ store.value t
+  found_there store.absent t h = absurd (cc)
+  found_there (store.undecided p) t h = absurd (cc)
+  found_there store.too_long t h = absurd (cc)
+  found_there (store.value u) t h = let same : u ≡ t = cc h in ap store.value same
+
+  module _ (defs : List Definition) (env : List BindingTree) where
+    place_read : (n : ℕ) (e : ExprTree) → 0 < n → is_place e ≡ true → evaluate facts defs n e env 0 ≡ with_reached (find_place facts defs n e env 0) (value_at facts)
+    place_read zero e l h = absurd (omega arith)
+    place_read (suc d) (bound i) l h = refl
+    place_read (suc d) (global x) l h = refl
+    place_read (suc d) (index e i) l h = ap (λ (w : Bool). indexed_value (λ x. evaluate facts defs d x env) (λ x. find_place facts defs d x env) facts env w e i 0) h
+    place_read (suc d) _ l h = absurd (cc)
+
+    -- a place is evaluated to what is found there
+    pub place_is_read : (e : ExprTree) → is_place e ≡ true → outcome facts defs e env ≡ outcome_of_place facts (place_outcome facts defs e env)
+    place_is_read e h =
+        sym (eval_is facts defs e env (outcome_reached (evaluate facts defs depth_limit e env 0)) refl) ∙ ap outcome_reached (place_read depth_limit e (omega arith) h)
+        ∙ read_outcome (find_place facts defs depth_limit e env 0) ∙ ap (outcome_of_place facts) (place_is facts defs e env (place_reached facts (find_place facts defs depth_limit e env 0)) refl)
+
+    place_target : (e : ExprTree) → is_place e ≡ true → row.target_of defs facts e env ≡ row.target_at row.value_at (place_outcome facts defs e env)
+    place_target e h = plain_target defs facts env e (no_size e h) ∙ ap (λ (b : Bool). row.target_if defs facts b row.value_at e env) h
+
+    -- the side that a place is
+    pub place_side : (e : ExprTree) → is_place e ≡ true → (o : found.PlaceOutcome) → o ≡ place_outcome facts defs e env
+        → side true (row.target_at row.value_at o) (outcome_of_place facts o) ≡ row.side_of defs facts e env
+    place_side e h o q =
+        side_same true (row.is_placed e) (row.target_at row.value_at o) (row.target_of defs facts e env) (outcome_of_place facts o) (outcome facts defs e env)
+        (sym (placed e h)) (ap (row.target_at row.value_at) q ∙ sym (place_target e h)) (ap (outcome_of_place facts) q ∙ sym (place_is_read e h))
+
+    no_value_target : (e : ExprTree) → is_place e ≡ false → (p : Path) → row.target_of defs facts e env ≡ Some (row.value_at p) → ⊥
+    no_value_target (size e) h p q = no_length (is_place e) q
+      where
+        no_path : (o : found.PlaceOutcome) → row.target_at row.length_at o ≡ Some (row.value_at p) → ⊥
+        no_path (found.path r) k = absurd (cc k)
+        no_path (found.other o) k = absurd (cc k)
+
+        no_length : (b : Bool) → row.target_if defs facts b row.length_at e env ≡ Some (row.value_at p) → ⊥
+        no_length false k = absurd (cc k)
+        no_length true k = no_path (place_outcome facts defs e env) k
+    no_value_target e h p q =
+        let none : None ≡ Some (row.value_at p) = sym (ap (λ (b : Bool). row.target_if defs facts b row.value_at e env) h) ∙ q in
+        absurd (cc none)
+
+    target_of_place : (o : found.PlaceOutcome) (p : Path) (t : Tree) → row.target_at row.value_at o ≡ Some (row.value_at p) → outcome_of_place facts o ≡ found.value t → full facts p ≡ store.value t
+    target_of_place (found.path r) p t q v = let same : p ≡ r = cc q in ap (full facts) same ∙ found_there (full facts r) t v
+    target_of_place (found.other o) p t q v = absurd (cc q)
+
+    -- what a side can set has the value that is found there
+    target_found : (e : ExprTree) (b : Bool) → is_place e ≡ b → (p : Path) (t : Tree) → row.target_of defs facts e env ≡ Some (row.value_at p) → outcome facts defs e env ≡ found.value t → full facts p ≡ store.value t
+    target_found e true h p t q v = target_of_place (place_outcome facts defs e env) p t (sym (place_target e h) ∙ q) (sym (place_is_read e h) ∙ v)
+    target_found e false h p t q v = absurd (no_value_target e h p q)
+
+    known_meets : (b : Bool) (o : Option row.Target) (t : Tree) → SameTreeIsEquality → sets_length o ≡ false → ((p : Path) → o ≡ Some (row.value_at p) → addition facts (facts_at p t) ≡ store.adds [])
+        → row.vanishes ≡ row.meets facts (side b o (found.value t)) t
+    known_meets b None t law n k = equal_vanishes t t law refl
+    known_meets b (Some (row.value_at p)) t law n k = ap row.added (sym (k p refl))
+    known_meets b (Some (row.length_at p)) t law n k = absurd (cc n)
+
+    -- an equation of sides that are known already vanishes
+    pub equal_sides : (l r : ExprTree) → SameTreeIsEquality → NoClash facts → AreEqual (row.side_of defs facts l env) (row.side_of defs facts r env)
+        → row.vanishes ≡ row.equate facts (row.side_of defs facts l env) (row.side_of defs facts r env)
+    equal_sides l r law n h =
+        let b = row.is_placed l in
+        let o = row.target_of defs facts l env in
+        let t = h.values.value in
+        let there : (p : Path) → o ≡ Some (row.value_at p) → addition facts (facts_at p t) ≡ store.adds [] =
+        λ p q. known_adds_nothing facts n p t (target_found l (is_place l) refl p t q h.values.first) in
+        known_meets b o t law h.no_length there ∙ right_value facts b o t t (row.side_of defs facts r env) h.values.second
+        ∙ ap (λ x. row.equate facts (side b o x) (row.side_of defs facts r env)) (sym h.values.first)

@@ -1,0 +1,37 @@
+-- A name that is bound to a known value has it, where a level is left.
+use Rattle.std.proofs.Common.{◌≡◌, ℕ, zero, suc, ◌<◌, List, [], Option, Some, None, ap, arith, slice_get}
+use Rattle.std.specs.Option.{option_and_then}
+use Rattle.tp_value.specs.Tree.{Tree}
+use Rattle.tp_value.specs.declared.path.Fact.{Fact}
+use Rattle.tp_meaning.specs.Syntax.{ExprTree, numeral, boolean, known, bound, global, listing, size, index, minus, negation, both, either, binary, choice, invoke, Definition, BindingTree, place_binding, known_binding}
+use Rattle.tp_eval.specs.Reached.{reaches, with_reached}
+use Rattle.tp_eval.specs.Evaluate.{inside, bound_place, value_at, evaluate, find_place}
+use Rattle.tp_eval.specs.Operand.{known_value, bound_value}
+
+module _ (facts : List Fact) (t : Tree) (c : ℕ) where
+  known_read : (o : Option BindingTree) → option_and_then known_value o ≡ Some t → with_reached (bound_place o c) (value_at facts) ≡ reaches t c
+  known_read None h = absurd (cc)
+  known_read (Some (place_binding p)) h = absurd (cc)
+  known_read (Some (known_binding u)) h = let same : u ≡ t = cc in ap (λ v. reaches v c) same
+
+  known_place : (o : Option BindingTree) → option_and_then known_value o ≡ Some t → bound_place o c ≡ reaches (inside t []) c
+  known_place None h = absurd (cc)
+  known_place (Some (place_binding p)) h = absurd (cc)
+  known_place (Some (known_binding u)) h = let same : u ≡ t = cc in ap (λ v. reaches (inside v []) c) same
+
+  module _ (defs : List Definition) (env : List BindingTree) where
+    value_left : (d : ℕ) (e : ExprTree) → bound_value e env ≡ Some t → evaluate facts defs (suc d) e env c ≡ reaches t c
+    value_left d (bound i) h = known_read (slice_get env i) h
+    value_left d e h = absurd (cc)
+
+    place_left : (d : ℕ) (e : ExprTree) → bound_value e env ≡ Some t → find_place facts defs (suc d) e env c ≡ reaches (inside t []) c
+    place_left d (bound i) h = known_place (slice_get env i) h
+    place_left d e h = absurd (cc)
+
+    pub value_reached : (n : ℕ) (e : ExprTree) → 0 < n → bound_value e env ≡ Some t → evaluate facts defs n e env c ≡ reaches t c
+    value_reached zero e l h = absurd (omega arith)
+    value_reached (suc d) e l h = value_left d e h
+
+    pub place_reached_by_value : (n : ℕ) (e : ExprTree) → 0 < n → bound_value e env ≡ Some t → find_place facts defs n e env c ≡ reaches (inside t []) c
+    place_reached_by_value zero e l h = absurd (omega arith)
+    place_reached_by_value (suc d) e l h = place_left d e h
