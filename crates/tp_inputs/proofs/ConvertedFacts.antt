@@ -15,6 +15,7 @@ use Rattle.tp_inputs.specs.Heads.{head_of}
 use Rattle.tp_inputs.specs.Parts.{BeginsPair}
 use Rattle.tp_inputs.specs.Lines.{PassesPart, blank, given, ReadsPairs, here, passes, IsLine}
 use Rattle.tp_inputs.specs.Table.{AreLines}
+use Rattle.tp_inputs.proofs.HeadLemmas.{HeadHas}
 use Rattle.tp_inputs.proofs.CanonicalLemmas.{has_yes, has_behind, row_at, row_past, rows_parts, rows_behind, first_has, ports_parts, names, cmp, same_name, port_here, no_port, range_at, default_at, rest_canonical, later}
 
 -- in this state the port may have the value, and the other is a default that it may have
@@ -48,11 +49,6 @@ module _ (InRange : List ℕ → ℕ → Tree → Type 0) (AsDefault : List ℕ 
 
   -- of the spans of heads this is known, and so what their pairs may give
   module _ (Known : Span → Type 0) (pairs_may : (span : Span) (table : InputTable) (z port : List ℕ) (value : Tree) (n : ℕ) → Known span → BeginsPair span table z port value n → May span port value) where
-    abbrev pub HeadKnown : Head → Type 0
-    HeadKnown (Speaks span n) = Known span
-    HeadKnown Silent = Unit {0}
-    HeadKnown Unheard = Unit {0}
-
     part_has : (span : Span) (z : List ℕ) (table more : InputTable) (n : ℕ) → Known span → PassesPart span z table more n → Has table → Has more
     part_has span z table _ _ known (blank is) has = has
     part_has span z table more n known (given {port = port} {value = value} is g) has = gives_has span port value table more g (pairs_may span table z port value n known is) has
@@ -61,12 +57,12 @@ module _ (InRange : List ℕ → ℕ → Tree → Type 0) (AsDefault : List ℕ 
     pairs_have span z table _ _ known here has = has
     pairs_have span z table rest all known (passes {n = n} {more = more} is r) has = pairs_have span (drop n z) more rest all known r (part_has span z table more n known is has)
 
-    line_has : (head : Head) (line : List ℕ) (table more : InputTable) → HeadKnown head → IsLine head line table more → Has table → Has more
+    line_has : (head : Head) (line : List ℕ) (table more : InputTable) → HeadHas Known head → IsLine head line table more → Has table → Has more
     line_has (Speaks span n) line table more known is has = pairs_have span (drop n line) table [] more known is has
     line_has Silent line table more known is has = subst Has (sym is) has
     line_has Unheard line table more known is has = absurd is
 
-    pub lines_have : (second : Bool) (most : ℕ) → ((k : ℕ) (line : List ℕ) → k < most → HeadKnown (head_of second k line)) → (k : ℕ) (texts : List (List ℕ)) (table all : InputTable) → k + length texts ≤ most
+    pub lines_have : (second : Bool) (most : ℕ) → ((k : ℕ) (line : List ℕ) → k < most → HeadHas Known (head_of second k line)) → (k : ℕ) (texts : List (List ℕ)) (table all : InputTable) → k + length texts ≤ most
         → AreLines second k texts table all → Has table → Has all
     lines_have second most heads k [] table all low are has = subst Has (sym are) has
     lines_have second most heads k (line ∷ texts) table all low (more, is, are) has =

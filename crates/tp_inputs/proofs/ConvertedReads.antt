@@ -18,12 +18,12 @@ use Rattle.tp_inputs.specs.Lines.{IsLine}
 use Rattle.tp_inputs.specs.Table.{AreLines, IsInputsText}
 use Rattle.tp_inputs.specs.Converted.{range_text, row_line, row_lines, default_lines, converted_lines, converted, EndsWithin}
 use Rattle.tp_inputs.specs.Laws.{ConvertedIsTheTable}
-use Rattle.tp_inputs.proofs.CanonicalLemmas.{rows_parts, ports_parts, names, cmp, input_port}
+use Rattle.tp_inputs.proofs.CanonicalLemmas.{none_canonical, rows_parts, ports_parts, names, cmp, input_port}
 use Rattle.tp_inputs.proofs.ConvertedHeads.{AllPass, is_plain, range_named, others_named, lines_made}
 use Rattle.tp_inputs.proofs.ConvertedLine.{IsPortName, port_named, line_made, line_plain}
 use Rattle.tp_inputs.proofs.ConvertedTables.{told, IsOrdered, HaveRows, all_told, rows_begin, still_ordered, rows_middle, row_given, row_is_new, default_given, default_is_new}
-use Rattle.tp_inputs.proofs.ConvertedFacts.{Has, May, HeadKnown, lines_have, ports_have, RowsHave, DefaultHas}
-use Rattle.tp_inputs.proofs.ConvertedWithin.{none_canonical}
+use Rattle.tp_inputs.proofs.HeadLemmas.{HeadHas}
+use Rattle.tp_inputs.proofs.ConvertedFacts.{Has, May, lines_have, ports_have, RowsHave, DefaultHas}
 
 -- ---- lines behind one another
 
@@ -67,7 +67,7 @@ pair_may : (span : Span) (table : InputTable) (z port : List ℕ) (value : Tree)
 pair_may span table z _ value n known (pair {n = m} is new read apart) =
     record { range = λ k e. (port_named z m is, read.limits); default = λ e. (port_named z m is, read.limits) }
 
-any_head : (head : Head) → HeadKnown InState MayBe (λ (span : Span). Unit {0}) pair_may head
+any_head : (head : Head) → HeadHas (λ (span : Span). Unit {0}) head
 any_head (Speaks span n) = tt
 any_head Silent = tt
 any_head Unheard = tt

@@ -1,24 +1,19 @@
 -- The rows of the table of a text end in time.
-use Rattle.std.proofs.Common.{refl, ℕ, ◌+◌, ◌≤◌, nat_le, List, [], ◌∷◌, arith}
+use Rattle.std.proofs.Common.{ℕ, ◌+◌, ◌≤◌, nat_le, List, [], ◌∷◌, arith}
 use Rattle.std.specs.List.{AllByRecursion}
-use Rattle.std.specs.List.Sorted.{IsStrictlySortedBy}
 use Rattle.std.specs.Str.Lines.{lines}
 use Rattle.std.proofs.lemmas.Bool.{leb-true, and_parts}
 use Rattle.tp_value.specs.Tree.{Tree}
 use Rattle.tp_meaning.specs.Inputs.{InputRow, InputTable}
 use Rattle.tp_inputs.specs.declared.span.Span.{Span}
 use Rattle.tp_inputs.specs.declared.span.Span.TheVariants.{States, Others}
-use Rattle.tp_inputs.specs.Canonical.{IsCanonical}
 use Rattle.tp_inputs.specs.Heads.{last_state, has_ranges}
 use Rattle.tp_inputs.specs.Parts.{BeginsPair}
 use Rattle.tp_inputs.specs.Converted.{EndsWithin}
 use Rattle.tp_inputs.specs.Laws.{TablesEndWithin}
+use Rattle.tp_inputs.proofs.CanonicalLemmas.{none_canonical}
 use Rattle.tp_inputs.proofs.ConvertedFacts.{Has, May, lines_have, ports_have, RowsHave, DefaultHas}
 use Rattle.tp_inputs.proofs.ConvertedEnds.{EndsInTime, head_ends, few_lines}
-
-pub none_canonical : IsCanonical []
-unfolding IsStrictlySortedBy
-none_canonical = record { ordered = tt; ports = refl }
 
 abbrev InTime : List ℕ → ℕ → Tree → Type 0
 InTime port n value = n ≤ last_state

@@ -18,7 +18,7 @@ use Rattle.tp_inputs.specs.Laws.{EachTextIsJudged, OneTable, OneFirstFault, NoFa
 use Rattle.tp_value.proofs.ReadLemmas.{never_memory, refused_right}
 use Rattle.tp_inputs.proofs.PartLemmas.{part_is, part_one, takes, Takes, no_more}
 use Rattle.tp_inputs.proofs.LineLemmas.{passed_bytes, new_port}
-use Rattle.tp_inputs.proofs.HeadLemmas.{IsOrdered, HeadIsOrdered, head_ordered}
+use Rattle.tp_inputs.proofs.HeadLemmas.{HeadHas, IsOrdered, head_ordered}
 use Rattle.tp_inputs.proofs.CanonicalLemmas.{one_given, none_canonical}
 use Rattle.tp_inputs.proofs.Existence.{some_given}
 
@@ -151,7 +151,7 @@ judged_pairs : (span : Span) (n : ℕ) (line : List ℕ) (table : InputTable) �
 judged_pairs span n line table (rest, all, Whole, reads, e) = inl (all, subst (λ (z : List ℕ). ReadsPairs span (drop n line) table z all) e reads)
 judged_pairs span n line table (rest, all, Fails f, reads, has) = inr (f, record { rest = rest; more = all; reads = reads; faulty = has })
 
-judged : (h : Head) (line : List ℕ) (table : InputTable) → HeadIsOrdered h → IsCanonical table → Judged h line table
+judged : (h : Head) (line : List ℕ) (table : InputTable) → HeadHas IsOrdered h → IsCanonical table → Judged h line table
 judged (Speaks span n) line table ordered c = judged_pairs span n line table (some_reading span ordered (length (drop n line)) (drop n line) table c (omega arith))
 judged Silent line table ordered c = inl (table, refl)
 judged Unheard line table ordered c = inr (_, refl)

@@ -14,6 +14,7 @@ pub mod LastEntry
 pub mod LawLemmas
 pub mod LineLemmas
 pub mod PartLemmas
+pub mod PlaceLemmas
 pub mod PortLemmas
 pub mod RowLemmas
 pub mod RowMoves

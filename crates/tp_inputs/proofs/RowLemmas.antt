@@ -1,5 +1,6 @@
 -- Rows in order and apart: which has a state, and what taking one away or putting one in changes.
-use Rattle.std.proofs.Common.{refl, ap, sym, subst, ◌∙◌, ◌≡◌, ◌≢◌, ℕ, ◌+◌, ◌<◌, ◌≤◌, ◌==◌, Bool, true, false, cond, not, ◌&&◌, ◌||◌, nat_le, nat_lt, List, [], ◌∷◌, Option, Some, None, arith}
+use Rattle.std.proofs.Common.{refl, ap, sym, subst, ◌∙◌, ◌≡◌, ◌≢◌, ℕ, ◌+◌, ◌<◌, ◌≤◌, ◌==◌, Bool, true, false, cond, not, ◌&&◌, ◌||◌, nat_le, nat_lt, ◌^◌, min, List, [], ◌∷◌, Option, Some, None, arith}
+use Rattle.std.specs.List.{AllByRecursion}
 use Rattle.std.specs.Ordering.{nat_cmp, is_eq, MatchOrdering}
 use Rattle.std.specs.declared.cmp.Ordering.{Ordering}
 use Rattle.std.specs.declared.cmp.Ordering.TheVariants.{Less, Equal, Greater}
@@ -159,6 +160,20 @@ none_meets (r ∷ rs) a b e low none = at (nat_le r.first b) (nat_le a r.last) r
     at true true x y later = absurd (met true true x y refl)
     at true false x y later = rw (x, y) later
     at false q x y later = rw x later
+
+-- rows that end at states of 32 bits begin there, so that no greater state counts
+pub meets_capped : (rs : List InputRow) (a b : ℕ) → are_rows rs ≡ true → AllByRecursion (λ r. r.last < 2 ^ 32) rs → rows_meet rs a (min b 4294967295) ≡ rows_meet rs a b
+meets_capped [] a b e h = refl
+meets_capped (r ∷ rs) a b e h = at (nat_le r.first b) (nat_le r.first (min b 4294967295)) refl refl (meets_capped rs a b l.rest h.1)
+  where
+    l : Leading r rs
+    l = leading r rs e
+
+    at : (p q : Bool) → nat_le r.first b ≡ p → nat_le r.first (min b 4294967295) ≡ q → rows_meet rs a (min b 4294967295) ≡ rows_meet rs a b → rows_meet (r ∷ rs) a (min b 4294967295) ≡ rows_meet (r ∷ rs) a b
+    at true true x y later = rw (x, y, later) refl
+    at true false x y later = let ordered = l.ordered in let low = h.0 in absurd (grind (arith, nat_tests))
+    at false true x y later = absurd (grind (arith, nat_tests))
+    at false false x y later = rw (x, y) later
 
 -- ---- the row that begins at a state
 

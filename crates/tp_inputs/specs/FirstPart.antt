@@ -22,7 +22,8 @@ pub data LinePart : Type 0 where
   Given : List ℕ → Tree → ℕ → LinePart
   Faulty : Fault → LinePart
 
--- the rest of a line, which is not empty and speaks for this span behind this table, begins with this
+-- the rest of a line, which is not empty and speaks for this span behind this table, begins with
+-- this
 abbrev pub BeginsPart : Span → InputTable → List ℕ → LinePart → Type 0
 BeginsPart span table z Blank = is_value_blank (slice_index z 0) ≡ true
 BeginsPart span table z (Given port t n) = BeginsPair span table z port t n

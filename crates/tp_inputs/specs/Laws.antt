@@ -43,6 +43,12 @@ abbrev pub TablesAreWithin : Type 0
 TablesAreWithin =
     (bytes : List ℕ) (table : InputTable) → IsInputsText bytes table → InputsWithin table
 
+-- the bytes are a text of this table, if the table is that of some text, and its rows end at the
+-- last state that a range may name, or before it
+abbrev pub IsReadAsTable : List ℕ → InputTable → Type 0
+IsReadAsTable appended table =
+    (bytes : List ℕ) → IsInputsText bytes table → EndsWithin table → IsInputsText appended table
+
 -- what is written of the table of a text is read as that table, where its rows end in time
 abbrev pub ConvertedIsTheTable : Type 0
 ConvertedIsTheTable =

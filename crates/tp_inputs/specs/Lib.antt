@@ -9,6 +9,7 @@ pub mod Lines
 pub mod Model
 pub mod Moves
 pub mod Parts
+pub mod Places
 pub mod Read
 pub mod Spans
 pub mod Table

@@ -14,7 +14,8 @@ pub record IsTaken (rows : List InputRow) (state : ℕ) (value : Tree) (a b : �
   pub begins : a ≤ state
   pub ends : state ≤ b
   pub had : (n : ℕ) → a ≤ n → n ≤ b → row_value rows n ≡ Some value
-  pub has : (n : ℕ) → row_value left n ≡ (if nat_le a n && nat_le n b then None else row_value rows n)
+  pub has : (n : ℕ) → row_value left n
+      ≡ (if nat_le a n && nat_le n b then None else row_value rows n)
   pub before : (k : ℕ) → suc k ≡ a → row_value rows k ≢ Some value
   pub after : row_value rows (b + 1) ≢ Some value
 
@@ -22,8 +23,8 @@ abbrev pub TakesRow : List InputRow → ℕ → Tree → Option (ℕ × ℕ) →
 TakesRow rows state value None left = (left ≡ rows) × (row_value rows state ≢ Some value)
 TakesRow rows state value (Some e) left = IsTaken rows state value e.0 e.1 left
 
--- what had the value in the states from `from` on, up to first, is taken away, and before it another
--- value stands, or none
+-- what had the value in the states from `from` on, up to first, is taken away, and before it
+-- another value stands, or none
 pub record IsOpened (rows : List InputRow) (value : Tree) (from first : ℕ) (left : List InputRow)
     : Type 0 where
   pub apart : are_rows left ≡ true

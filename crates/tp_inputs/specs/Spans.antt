@@ -32,10 +32,10 @@ abbrev pub is_given : InputTable → Span → List ℕ → Bool
 is_given table span port = port_meets (port_of table port) span
 
 -- The second table says what the first says, and besides that the port has this value for the span.
-pub record GivesValue (span : Span) (port : List ℕ) (value : Tree) (table more : InputTable) : Type 0
-  where
-    pub canonical : IsCanonical more
-    pub ranges : (n : ℕ) (q : List ℕ) → range_value more n q
-        ≡ (if bytes_eq q port && span_has span n then Some value else range_value table n q)
-    pub defaults : (q : List ℕ) → default_value more q
-        ≡ (if bytes_eq q port && is_others span then Some value else default_value table q)
+pub record GivesValue (span : Span) (port : List ℕ) (value : Tree)
+    (table more : InputTable) : Type 0 where
+  pub canonical : IsCanonical more
+  pub ranges : (n : ℕ) (q : List ℕ) → range_value more n q
+      ≡ (if bytes_eq q port && span_has span n then Some value else range_value table n q)
+  pub defaults : (q : List ℕ) → default_value more q
+      ≡ (if bytes_eq q port && is_others span then Some value else default_value table q)

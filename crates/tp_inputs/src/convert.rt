@@ -1,8 +1,9 @@
 // How tables of inputs are written.
-ghost use Rattle.std.specs.Prelude.{◌≡◌, ◌++◌, OnOk};
+ghost use Rattle.std.specs.Prelude.{◌≡◌, ◌++◌, OnOk, drop, length};
 ghost use Rattle.std.specs.Fmt.{decimal};
 ghost use Rattle.tp_value.specs.Read.{tree};
 ghost use Rattle.tp_inputs.specs.Converted.{range_text, valued_text, default_line, with_feed, converted};
+ghost use Rattle.tp_inputs.specs.Laws.{IsReadAsTable};
 ghost use Rattle.tp_inputs.specs.Read.{inputs_of};
 
 use crate::head::LAST_STATE;
@@ -60,17 +61,23 @@ pub fn append_row(
 
 /// Appends the line of the port's default.
 pub fn append_default(out: &mut Text, port: &[u8], value: &Value) -> Result<(), NoMemory>
-    ensures { OnOk result (out.new ≡ out.old ++ with_feed (default_line port.now (tree value.now))) }
+    ensures { OnOk result
+        (out.new ≡ out.old ++ with_feed (default_line port.now (tree value.now))) }
 {
     out.append(b"*")?;
     append_valued(out, port, value)
 }
 
 impl Inputs {
-    /// Appends the table in the second format: a line `inputs 2`, a line for each range of states in which a port has a value, ports
-    /// by name and then by first state, and a line for each default, ports by name. Where memory runs out, perhaps a part.
+    /// Appends the table in the second format: a line `inputs 2`, a line for each range of states
+    /// in which a port has a value, ports by name and then by first state, and a line for each
+    /// default, ports by name. It is read as this table again, where the table is that of some
+    /// text, and its rows end at the last state that a range may name, or before it. Where memory
+    /// runs out, perhaps a part.
     pub fn convert(&self, out: &mut Text) -> Result<(), NoMemory>
         ensures text { OnOk result (out.new ≡ out.old ++ converted (inputs_of self.now)) }
+        ensures read_back { OnOk result
+            (IsReadAsTable (drop (length out.old) out.new) (inputs_of self.now)) }
     {
         out.append(b"inputs 2\n")?;
         self.ports.append_rows(out)?;

@@ -57,12 +57,13 @@ impl Port {
         }
     }
 
-    // GivesValue the value for the span, for which there is none yet.
+    // Gives the value for the span, for which there is none yet.
     fn give(&mut self, span: Span, value: Value) -> Result<(), NoMemory>
         requires rows { are_rows (rows_of self.old.ranges) ≡ true }
         requires span { IsSpan span }
         requires free { port_meets (Some (named_port [] self.old)) span ≡ false }
-        ensures { OnOk result (GivesPort span (tree value) (named_port [] self.old) (named_port [] self.new)) }
+        ensures { OnOk result
+            (GivesPort span (tree value) (named_port [] self.old) (named_port [] self.new)) }
     {
         match span {
             Span::States { first, last } => self.ranges.give(first, last, value),
@@ -92,7 +93,8 @@ impl Ports {
     /// The value that the state of that number has for the port.
     pub fn at(&self, state: u64, port: &Text) -> Option<&Value>
         requires { are_ports (table_of self.now) ≡ true }
-        ensures { option_map (λ v. tree v.now) result ≡ input_at (table_of self.now) state port.now }
+        ensures { option_map (λ v. tree v.now) result
+            ≡ input_at (table_of self.now) state port.now }
     {
         self.by_name.get(port.as_slice())?.at(state)
     }
@@ -108,7 +110,7 @@ impl Ports {
         }
     }
 
-    /// GivesValue the port the value for the span, for which it has none yet.
+    /// Gives the port the value for the span, for which it has none yet.
     pub fn give(
         &mut self,
         alloc: Global,
@@ -119,7 +121,8 @@ impl Ports {
         requires ports { are_ports (table_of self.old) ≡ true }
         requires span { IsSpan span }
         requires free { is_given (table_of self.old) span port ≡ false }
-        ensures { OnOk result (GivesValue span port (tree value) (table_of self.old) (table_of self.new)) }
+        ensures { OnOk result
+            (GivesValue span port (tree value) (table_of self.old) (table_of self.new)) }
     {
         match self.by_name.get_mut(port.as_slice()) {
             Some(known) => known.give(span, value),

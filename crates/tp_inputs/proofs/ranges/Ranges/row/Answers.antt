@@ -1,9 +1,16 @@
-use Rattle.tp_inputs.proofs.LastEntry.{last_ended, none_there}
+use Rattle.std.proofs.Common.{subst, None, arith}
+use Rattle.tp_inputs.specs.Model.{rows_of, IsLastBegun}
+use Rattle.tp_inputs.proofs.RowLemmas.{unmet}
+use Rattle.tp_inputs.proofs.LastEntry.{unmet_above}
 use Rattle.tp_inputs.proofs.ranges.Ranges.row.Goals as goal
-use Rattle.tp_inputs.proofs.ranges.Ranges.row.Goals.{in_default-via-in-Some+else-state-row, in_default-via-in_default}
 
 pub returns-in_default : goal.returns-in_default
-returns-in_default c = elim c.in_default.branch [
-  | in_default-via-in-Some+else-state-row w ↦ last_ended c.args.self.now.rows c.args.state c.range.result (c.range.ensures.in_range tt) c.requires _ _ c.next_back.new.self w.in-Some.ensures.steps w.if-state-row.false
-  | in_default-via-in_default w ↦ none_there c.args.self.now.rows c.args.state c.range.result (c.range.ensures.in_range tt) c.requires w.in_default.ensures.steps.0
-]
+returns-in_default c =
+    let same = c.from.ensures in
+    let over = c.if-state-from.false in
+    unmet_above (rows_of c.args.self.now) c.args.state c.in-Some.row.last (c.in-Some.ensures.2 c.args.state) (omega arith)
+
+pub returns-in_default-2 : goal.returns-in_default-2
+returns-in_default-2 c =
+    let none : IsLastBegun c.args.self.now c.args.state None = subst (IsLastBegun c.args.self.now c.args.state) c.in_default.is c.last_begun.ensures in
+    unmet (rows_of c.args.self.now) c.args.state (none c.args.state)
