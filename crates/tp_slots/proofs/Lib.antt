@@ -39,3 +39,4 @@ pub mod OwnItems
 pub mod Looking
 pub mod Remembering
 pub mod MarksTell
+pub mod Bounding

@@ -4,7 +4,7 @@ use Rattle.std.specs.Prelude.{not}
 use Rattle.std.specs.List.{filter, range_with_len}
 use Rattle.std.proofs.lemmas.List.{append_assoc}
 use Rattle.std.proofs.lemmas.List.Elements.{filter-append}
-use Rattle.tp_meaning.specs.Syntax.{FormulaTree, more}
+use Rattle.tp_meaning.specs.Syntax.{FormulaTree}
 use Rattle.tp_store.specs.Known.{Contents}
 use Rattle.tp_scene.specs.Scene as S
 use Rattle.tp_scene.specs.Scene.{Bindings, Side, Split, SplitProject, Closed, Opened, Running, leaf, none, new_head, has, live_items, closed_then, opened_then, running_then, held_place}

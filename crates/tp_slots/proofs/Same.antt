@@ -1,6 +1,6 @@
 -- Enough is enough: how far slots are read makes no difference from then on.
 use Rattle.std.proofs.Common.{◌≡◌, ℕ, suc, ◌+◌, ◌≤◌, ◌<◌, cond, length, Some, None, refl, ap, sym, ◌∙◌, arith}
-use Rattle.tp_scene.specs.Scene.{Head, Holder, Split, SplitProject, Closed, Opened, Running, Entries, none, leaf, node}
+use Rattle.tp_scene.specs.Scene.{Head, Holder, Split, Entries, none, leaf, node}
 use Rattle.tp_slots.specs.Plain.{Slots, slot_at, item_entries, region_entries, has_second, IsOrdered}
 use Rattle.tp_slots.specs.Edit.{edited_entries, Follows}
 use Rattle.tp_slots.proofs.Read.{region_edited, item_edited}

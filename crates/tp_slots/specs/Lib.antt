@@ -20,3 +20,4 @@ pub mod News
 pub mod Own
 pub mod MarksTell
 pub mod Threads
+pub mod Bound

@@ -2,6 +2,7 @@
 #![tactic(auto)]
 
 mod begin;
+mod bound;
 mod change;
 mod flags;
 mod laws;
@@ -16,12 +17,13 @@ mod values;
 mod walk;
 
 pub use begin::start;
+pub use bound::become_bound;
 pub use change::{become_opened, become_split, move_on, share};
 pub use laws::{marks_tell_status, places_are_shallow};
 pub use live::{has_item, place, place_inside, place_of_item, remember};
 pub use looks::{Look, Looks, no_looks};
 pub use put::{become_leaves, leaf_what};
-pub use room::{become_one, make_room, vanish};
+pub use room::vanish;
 pub use scene::{Mark, Region, Scene, Slot, What};
 pub use settle::first_unsettled;
 pub use status::mark;

@@ -1,10 +1,9 @@
 -- What every list of picks comes to, by what a closure answers.
-use Rattle.std.proofs.Common.{◌≡◌, ◌⊎◌, inl, inr, ℕ, suc, ◌+◌, ◌≤◌, ◌<◌, true, Bool, List, [], ◌∷◌, length, refl, sym, subst, arith, length-append}
+use Rattle.std.proofs.Common.{◌≡◌, ◌⊎◌, inl, inr, ℕ, ◌+◌, ◌≤◌, ◌<◌, Bool, List, [], ◌∷◌, length, sym, subst, arith, length-append}
 use Rattle.tp_kernel.specs.declared.fault.LimitKind.{LimitKind}
 use Rattle.tp_kernel.specs.declared.fault.LimitKind.TheVariants as limit
-use Rattle.tp_scene.specs.Scene.{has}
 use Rattle.tp_scene.specs.Step.{Reduction, PickOutcome, reduces, clashes, misses, passes}
-use Rattle.tp_scene.specs.Pick.{Setting, Moment, Leads, outcome_of, IsIdle}
+use Rattle.tp_scene.specs.Pick.{Setting, Moment, Leads, IsIdle}
 use Rattle.tp_scene.specs.Rest.{AtRest}
 use Rattle.tp_step_laws.specs.Rows.{IsFailure}
 use Rattle.tp_step_laws.specs.Orders.{IsOrderly, GoesOnToRest}

@@ -21,7 +21,7 @@ use Rattle.tp_kernel.specs.declared.fault.LimitKind.{LimitKind}
 use Rattle.tp_scene.specs.declared.answer.Cell.{Cell}
 use Rattle.tp_scene.specs.declared.answer.Cell.TheVariants.{Part, End}
 use Rattle.tp_scene.specs.declared.answer.Clash.{Clash}
-use Rattle.tp_scene.specs.declared.answer.Clash.TheVariants.{Facts, Marks, False, NoValue}
+use Rattle.tp_scene.specs.declared.answer.Clash.TheVariants.{Facts}
 use Rattle.tp_scene.proofs.Parts.{status_has}
 use Rattle.tp_scene.proofs.Told.{CellTold, OtherTold, ClashTold, Told}
 use Rattle.tp_scene.proofs.FitsTold.{Sees, fitting, fits_told}

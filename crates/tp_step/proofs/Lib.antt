@@ -17,3 +17,4 @@ pub mod EveryRest
 pub mod KnownValues
 pub mod KnownItems
 pub mod Room
+pub mod BindsLast

@@ -1,8 +1,8 @@
 -- The limit on reductions is met exactly where none is left for an item that would be reduced.
-use Rattle.std.proofs.Common.{◌≡◌, ◌⊎◌, inl, inr, ℕ, ◌+◌, ◌<◌, Bool, List, ◌++◌, length, ap, sym, ◌∙◌, subst, arith, length-append}
+use Rattle.std.proofs.Common.{◌≡◌, inl, inr, ℕ, ◌+◌, Bool, List, ◌++◌, length, ap, sym, ◌∙◌, subst, arith, length-append}
 use Rattle.tp_kernel.specs.declared.fault.LimitKind.{LimitKind}
 use Rattle.tp_kernel.specs.declared.fault.LimitKind.TheVariants as limit
-use Rattle.tp_scene.specs.Step.{Reduction, PickOutcome, reduces, waits, rests, clashes, misses, passes}
+use Rattle.tp_scene.specs.Step.{Reduction, reduces, waits, rests, clashes, misses, passes}
 use Rattle.tp_scene.specs.Pick.{Setting, Moment, outcome_of}
 use Rattle.tp_scene.specs.Laws.{IsSound}
 use Rattle.tp_step.specs.Answers.{Tries}

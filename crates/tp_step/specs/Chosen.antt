@@ -9,6 +9,7 @@ use Rattle.tp_scene.specs.Scene.{Bindings, Do}
 use Rattle.tp_scene.specs.Step.{Reduction, PickOutcome, reduces, rests, Numbers, knows}
 use Rattle.tp_scene.specs.Pick.{Setting, Moment, outcome_of, HasAdded}
 use Rattle.tp_decide.specs.declared.decision.Decision.{Decision}
+use Rattle.tp_decide.specs.declared.decision.Decision.TheVariants as decision
 use Rattle.tp_decide.specs.declared.holder.HolderDecision.{HolderDecision}
 use Rattle.tp_decide.specs.declared.holder.HolderKind.{HolderKind}
 use Rattle.tp_decide.specs.declared.phrase.Phrase.{Phrase}
@@ -16,6 +17,7 @@ use Rattle.tp_decide.specs.Decided.{decided_outcome}
 use Rattle.tp_decide.specs.Read.{formula_of, env_of}
 use Rattle.tp_decide.specs.Fits.{SetsVariables}
 use Rattle.tp_decide.specs.Holders.{IsOfKind, kind_of, holder_decided}
+use Rattle.tp_slots.specs.Bound.{IsDueUnder}
 use Rattle.tp_slots.specs.Plain.{What, bare, holds, gone, Slots, head_at, other_head, second_of, entries_at}
 use Rattle.tp_slots.specs.Read.{slots_of, item_what}
 use Rattle.tp_slots.specs.Reductions.{IsBare}
@@ -55,11 +57,26 @@ FitsHolder (gone by) d = ⊥
 abbrev pub holder_outcome : Contents → Scene → (t : ℕ) → HolderDecision → PickOutcome
 holder_outcome k s t d = held_decided (slots_of s) (item_what s t) (numbers_in k s) d
 
+-- Where a name is bound, it is under the bindings of what is due in the slot.
+abbrev pub BindsThere : What → Decision → Type 0
+BindsThere x (decision.Becomes news mark) = Unit {0}
+BindsThere x (decision.Splits first after) = Unit {0}
+BindsThere x (decision.Opens outer piece) = Unit {0}
+BindsThere x (decision.Binds name lasting body) = IsDueUnder (env_of body) x
+BindsThere x (decision.Sets p v) = Unit {0}
+BindsThere x (decision.Measures p k) = Unit {0}
+BindsThere x (decision.Waits first other) = Unit {0}
+BindsThere x decision.Rests = Unit {0}
+BindsThere x (decision.Clashes c) = Unit {0}
+BindsThere x (decision.Misses port) = Unit {0}
+BindsThere x (decision.Passes k) = Unit {0}
+
 -- What was chosen for the item t stands for its outcome.
 abbrev pub IsChoice : Setting → Contents → Scene → (t : ℕ) → Choice → Type 0
 IsChoice w k s t (choice.Leaf d) =
     IsBare (item_what s t) × SetsVariables k.variables d
     × (outcome_in w k s t ≡ decided_outcome k.facts (numbers_in k s) d)
+    × BindsThere (item_what s t) d
 IsChoice w k s t (choice.Holder d) =
     FitsHolder (item_what s t) d × (outcome_in w k s t ≡ holder_outcome k s t d)
 

@@ -6,23 +6,23 @@ ghost use Rattle.tp_scene.specs.Pick.{Moment};
 ghost use Rattle.tp_scene.specs.Step.{added};
 ghost use Rattle.tp_decide.specs.Decided.{decided_outcome};
 ghost use Rattle.tp_decide.specs.Fits.{SetsVariables};
+ghost use Rattle.tp_decide.specs.Read.{env_of};
+ghost use Rattle.tp_slots.specs.Bound.{IsDueUnder};
 ghost use Rattle.tp_slots.specs.Edit.{stands_in};
 ghost use Rattle.tp_slots.specs.Reductions.{CanMove, IsBare, IsReduced};
 ghost use Rattle.tp_slots.specs.Read.{item_what, scene_of};
 ghost use Rattle.tp_slots.specs.Kept.{IsWellKept, IsUnchanged, Lives, numbers_in};
 ghost use Rattle.tp_step.specs.Answers.{moment_of, IsClash};
-ghost use Rattle.tp_step.specs.Chosen.{AllowsAddition, Carries, CarriesDecision, CarriesFacts, CarriesHolder, CarriesMove, FitsHolder, IsHolderOutcome};
+ghost use Rattle.tp_step.specs.Chosen.{AllowsAddition, BindsThere, Carries, CarriesDecision, CarriesFacts, CarriesHolder, CarriesMove, FitsHolder, IsHolderOutcome};
 
 use crate::answer::{ItemIds, News, Tried};
 use std::alloc::Global;
-use tp_decide::{Decision, HolderDecision, Leaf, Phrase, Side, bind_last};
-use tp_kernel::{Binding, LimitKind};
+use tp_decide::{Decision, HolderDecision, Leaf, Phrase, Side};
+use tp_kernel::LimitKind;
 use tp_scene::Clash;
-use tp_slots::{
-    Scene, become_leaves, become_one, become_opened, become_split, make_room, move_on, vanish,
-};
+use tp_slots::{Scene, become_bound, become_leaves, become_opened, become_split, move_on, vanish};
 use tp_store::{AddRefusal, Store};
-use tp_value::{Facts, Indices, NoMemory, Path, Text, Value, VarId};
+use tp_value::{Facts, NoMemory, Path, Text, Value};
 
 // These items became live, no fact is new, and perhaps a region was marked.
 fn reduced(alloc: Global, items: Vec<u64>, marked: Option<u64>) -> Tried
@@ -130,8 +130,7 @@ fn open(
     Ok(reduced(alloc, items, None))
 }
 
-// The body stands in the item's place, with a new local of that name bound last, where a reduction is left. Whatever can want memory comes
-// before anything changes.
+// The body stands in the item's place, with a new local of that name bound last, where a reduction is left.
 fn bind(
     alloc: Global,
     scene: &mut Scene,
@@ -142,7 +141,7 @@ fn bind(
 ) -> Result<Tried, NoMemory>
     requires kept { IsWellKept scene.old }
     requires lives { Lives scene.old item }
-    requires free { IsBare (item_what scene.old item) }
+    requires due { IsDueUnder (env_of local.2) (item_what scene.old item) }
     ensures ok { IfOk result
         (Carries
         (decided_outcome store.old.facts (numbers_in store.old scene.old)
@@ -155,19 +154,7 @@ fn bind(
     if room == 0 {
         return Ok(Tried::Over(LimitKind::Reductions));
     }
-    let (name, lasting, body) = local;
-    let number = store.count();
-    let path = Path {
-        var: VarId { number, lasting },
-        at: Indices::new(alloc),
-    };
-    let env = bind_last(alloc, &body.env, Binding::Place(path))?;
-    let mut items = Vec::new(alloc);
-    items.push(scene.slots.len() as u64)?;
-    make_room(scene)?;
-    store.fresh(&name, lasting)?;
-    let what = body.what;
-    become_one(scene, item, Phrase { what, env });
+    let items = become_bound(alloc, scene, item, local, store)?;
     Ok(reduced(alloc, items, None))
 }
 
@@ -285,6 +272,7 @@ pub fn carry_decision(
     requires lives { Lives scene.old item }
     requires free { IsBare (item_what scene.old item) }
     requires variables { SetsVariables store.old.variables decision }
+    requires binds { BindsThere (item_what scene.old item) decision }
     requires apart { NoClash store.old.facts }
     ensures ok { IfOk result
         (Carries (decided_outcome store.old.facts (numbers_in store.old scene.old) decision) room
