@@ -21,3 +21,4 @@ pub mod SameText
 pub mod EachRunLemmas
 pub mod OrderLemmas
 pub mod InOrderLemmas
+pub mod StatusLines

@@ -19,3 +19,4 @@ pub mod LastLine
 pub mod Headline
 pub mod EachRun
 pub mod InOrder
+pub mod StatusesTold

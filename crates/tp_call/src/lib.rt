@@ -8,6 +8,7 @@ mod command;
 mod converting;
 mod end_line;
 mod job;
+mod laws;
 mod printing;
 mod refused;
 mod run;
@@ -17,4 +18,5 @@ mod status_text;
 
 pub use call::tempura;
 pub use end_line::refusal_text;
+pub use laws::status_lines_tell;
 pub use status::{SourceKind, Status, Which};

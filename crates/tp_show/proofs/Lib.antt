@@ -22,6 +22,10 @@ pub mod NamedParts
 pub mod PrintedBytes
 pub mod PrintedLines
 pub mod EndLineBytes
+pub mod EndPlaces
+pub mod EndsToldLemmas
+pub mod Reordered
+pub mod PartOrder
 pub mod PrintedStates
 pub mod TraceExampleLemmas
 pub mod TraceRead

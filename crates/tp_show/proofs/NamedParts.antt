@@ -125,7 +125,7 @@ place_of_name (name ∷ names) i (suc j) low apart =
     let n : j + (i + 1) ≡ suc j + i = omega arith in
     ap (λ c. cond c (Some i) (position_from (bytes_eq (global_name names j)) (i + 1) names)) other ∙ (later ∙ ap Some n)
 
-lasting_is : (names : List (List ℕ)) (i : ℕ) (b : Bool) → slice_get (map (λ (v : Variable). v.lasting) (map global_variable names)) i ≡ Some b → is_lower (global_name names i) ≡ b
+pub lasting_is : (names : List (List ℕ)) (i : ℕ) (b : Bool) → slice_get (map (λ (v : Variable). v.lasting) (map global_variable names)) i ≡ Some b → is_lower (global_name names i) ≡ b
 lasting_is [] i b e = absurd (cc e)
 lasting_is (name ∷ names) zero b e = cc e
 lasting_is (name ∷ names) (suc i) b e = lasting_is names i b e

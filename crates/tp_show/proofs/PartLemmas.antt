@@ -44,7 +44,7 @@ indices_end [] c r h = h
 indices_end (i ∷ at) c r h = refl
 
 -- indices, up to a byte that is no `[`
-indices_read : (c : ℕ) → eqb c 91 ≡ false → (a b r s : List ℕ) → All FitsIn64Bits a → All FitsIn64Bits b → flat_map index_text a ++ (c ∷ r) ≡ flat_map index_text b ++ (c ∷ s) → (a ≡ b) × (r ≡ s)
+pub indices_read : (c : ℕ) → eqb c 91 ≡ false → (a b r s : List ℕ) → All FitsIn64Bits a → All FitsIn64Bits b → flat_map index_text a ++ (c ∷ r) ≡ flat_map index_text b ++ (c ∷ s) → (a ≡ b) × (r ≡ s)
 indices_read c apart [] [] r s p q e = (refl, rest_is _ _ _ _ e)
 indices_read c apart [] (j ∷ b) r s p q e = absurd (heads_apart c 91 _ _ apart (e ∙ index_is j (flat_map index_text b) (c ∷ s)))
 indices_read c apart (i ∷ a) [] r s p q e = absurd (heads_apart c 91 _ _ apart (sym e ∙ index_is i (flat_map index_text a) (c ∷ r)))

@@ -4,6 +4,8 @@ use Rattle.std.specs.List.{flat_map}
 use Rattle.std.specs.Fmt.{decimal}
 use Rattle.std.specs.Str.Lines.{lines}
 use Rattle.std.proofs.lemmas.Bool.{and_parts}
+use Rattle.std.specs.List.Sorted.{IsPermutation}
+use Rattle.std.proofs.lemmas.List.Sorted.{IsPermutation-refl, IsPermutation-map, All-permutation}
 use Rattle.std.proofs.lemmas.List.Elements.{All-nil, All-cons, All-head, All-tail}
 use Rattle.tp_value.specs.Number.{IsNumber}
 use Rattle.tp_value.specs.Written.{text_of}
@@ -27,7 +29,9 @@ use Rattle.tp_show.specs.Told.{IsPartOf}
 use Rattle.tp_show.specs.TraceLine.{IsStateLine, state_opening}
 use Rattle.tp_show.specs.Trace.{GoesOnWith, state, IsTraceText}
 use Rattle.tp_show.specs.TraceOfRun.{AreVariableNames, IsPathWithinLimits, IsPartWithinLimits, IsShapeWithinLimits, IsFactWithinLimits, FactsAreWrittenWithinLimits, IsReadable, PrintedState, printed_state_lines, printed_states_text, IsFurtherLine, IsPrinted, CountFrom, IsEnding, PrintedStatesAreTrace, PicturesAreTrace, TracesTellFacts}
-use Rattle.tp_show.specs.TraceFacts.{named_fact, named_facts}
+use Rattle.tp_show.specs.TraceFacts.{part_facts, parts_facts, named_fact, named_facts}
+use Rattle.tp_show.specs.TraceArranged.{ArrangedState, IsArranged, arranged_lines, arranged_text, HaveFactsOf}
+use Rattle.tp_show.proofs.Reordered.{IsPermutation-flat_map, clash_reordered}
 use Rattle.tp_show.proofs.PartLemmas.{named}
 use Rattle.tp_show.proofs.ToldLemmas.{beyond, IsKept, value_kept, all_in, parts_all, parts_of_variables}
 use Rattle.tp_show.proofs.FactsTold.{parts_give_facts}
@@ -37,10 +41,6 @@ use Rattle.tp_show.proofs.EndLineBytes.{end_lines}
 use Rattle.tp_show.proofs.PrintedLines.{line_at, plain_one, passed_lines, ending_ends}
 
 -- ---- the line of a state
-
--- without its line feed
-abbrev state_words : (names : List (List ℕ)) → Picture → List ℕ
-state_words names picture = state_opening picture.state ++ flat_map (spaced_text names) (line_parts picture.facts)
 
 module _ (names : List (List ℕ)) (are : AreVariableNames names) where
   path_plain : (p : Path) → IsVariableOf (map global_variable names) p.var → ArePlain (path_text names p)
@@ -60,60 +60,124 @@ module _ (names : List (List ℕ)) (are : AreVariableNames names) where
   opening_plain : (n : ℕ) → ArePlain (state_opening n)
   opening_plain n = (refl, (refl, (refl, (refl, (refl, (refl, plain_append (decimal n) (codes ":") (decimal_plain n) (refl, tt)))))))
 
-  words_plain : (picture : Picture) → IsReadable names picture → ArePlain (state_words names picture)
-  words_plain picture h = plain_append (state_opening picture.state) (flat_map (spaced_text names) (line_parts picture.facts)) (opening_plain picture.state) (parts_plain (line_parts picture.facts) (parts_of_variables names picture.facts h.facts.of_variables))
+  -- ---- states whose parts stand in some order
 
-  state_line_is : (picture : Picture) → IsReadable names picture → IsStateLine picture.state (state_words names picture) (named_facts names picture)
-  state_line_is picture h =
-      let parts = line_parts picture.facts in
+  -- the line of such a state, without its line feed
+  abbrev arranged_words : ArrangedState → List ℕ
+  arranged_words a = state_opening a.printed.picture.state ++ flat_map (spaced_text names) a.parts
+
+  -- what its parts give
+  abbrev pub arranged_facts : ArrangedState → List NamedFact
+  arranged_facts a = parts_facts (map (part_named names) a.parts)
+
+  parts_of : (a : ArrangedState) → IsArranged names a → All (IsPartOf names) a.parts
+  parts_of a h =
+      let facts = a.printed.picture.facts in
+      All-permutation (IsPartOf names) (line_parts facts) a.parts h.parts (parts_of_variables names facts h.printed.picture.facts.of_variables)
+
+  arranged_plain : (a : ArrangedState) → IsArranged names a → ArePlain (arranged_words a)
+  arranged_plain a h = plain_append (state_opening a.printed.picture.state) (flat_map (spaced_text names) a.parts) (opening_plain a.printed.picture.state) (parts_plain a.parts (parts_of a h))
+
+  -- the facts of the picture, in some order
+  same_facts : (a : ArrangedState) → IsArranged names a → IsPermutation (named_facts names a.printed.picture) (arranged_facts a)
+  same_facts a h =
+      let parts = line_parts a.printed.picture.facts in
+      let given : parts_facts (map (part_named names) parts) ≡ named_facts names a.printed.picture = parts_give names parts ∙ ap (map (named_fact names)) (parts_give_facts names a.printed.picture.facts h.printed.picture.facts) in
+      subst (λ fs. IsPermutation fs (arranged_facts a)) given
+      (IsPermutation-flat_map part_facts (map (part_named names) parts) (map (part_named names) a.parts) (IsPermutation-map (part_named names) parts a.parts h.parts))
+
+  arranged_line : (a : ArrangedState) → IsArranged names a → IsStateLine a.printed.picture.state (arranged_words a) (arranged_facts a)
+  arranged_line a h =
+      let facts = a.printed.picture.facts in
       record {
-        rest = flat_map (spaced_text names) parts;
+        rest = flat_map (spaced_text names) a.parts;
         opening = refl;
-        parts = map (part_named names) parts;
-        spelled = parts_spelled names are parts (parts_of_variables names picture.facts h.facts.of_variables) h.limits;
-        given = sym (parts_give names parts ∙ ap (map (named_fact names)) (parts_give_facts names picture.facts h.facts));
-        no_clash = named_apart names are picture.facts h.facts;
+        parts = map (part_named names) a.parts;
+        spelled = parts_spelled names are a.parts (parts_of a h) (All-permutation IsPartWithinLimits (line_parts facts) a.parts h.parts h.printed.picture.limits);
+        given = refl;
+        no_clash = clash_reordered (named_facts names a.printed.picture) (arranged_facts a) (same_facts a h) (named_apart names are facts h.printed.picture.facts);
       }
 
-  -- ---- states
-
   -- a state, and what follows it
-  one_state : (n : ℕ) (s : PrintedState) (rest : List ℕ) (states : List (List NamedFact)) → IsPrinted names s → s.picture.state ≡ n → GoesOnWith (suc n) (lines rest) states
-      → GoesOnWith n (lines (printed_state_lines names s ++ rest)) (named_facts names s.picture ∷ states)
-  one_state n s rest states h e g =
-      let words = state_words names s.picture in
-      let shows = shows_of s.picture.shows in
-      let later = flat_map show_line shows ++ (flat_map fed_line s.further ++ rest) in
-      let plain = words_plain s.picture h.picture in
-      let split : lines (printed_state_lines names s ++ rest) ≡ words ∷ lines later =
-      ap lines (pieces (decimal s.picture.state) (flat_map (spaced_text names) (line_parts s.picture.facts)) (flat_map show_line shows) (flat_map fed_line s.further)) ∙ (line_at words later (plain_one words plain) ∙ ap (λ z. z ∷ lines later) (plain_whole words plain)) in
-      let first : IsStateLine n words (named_facts names s.picture) = subst (λ (k : ℕ). IsStateLine k words (named_facts names s.picture)) e (state_line_is s.picture h.picture) in
-      subst (λ (ts : List (List ℕ)). GoesOnWith n ts (named_facts names s.picture ∷ states)) (sym split) (state first (passed_lines n shows s.further rest states h.further g))
+  one_state : (n : ℕ) (a : ArrangedState) (rest : List ℕ) (states : List (List NamedFact)) → IsArranged names a → a.printed.picture.state ≡ n → GoesOnWith (suc n) (lines rest) states
+      → GoesOnWith n (lines (arranged_lines names a ++ rest)) (arranged_facts a ∷ states)
+  one_state n a rest states h e g =
+      let words = arranged_words a in
+      let picture = a.printed.picture in
+      let further = a.printed.further in
+      let shows = shows_of picture.shows in
+      let later = flat_map show_line shows ++ (flat_map fed_line further ++ rest) in
+      let plain = arranged_plain a h in
+      let split : lines (arranged_lines names a ++ rest) ≡ words ∷ lines later =
+      ap lines (pieces (decimal picture.state) (flat_map (spaced_text names) a.parts) (flat_map show_line shows) (flat_map fed_line further)) ∙ (line_at words later (plain_one words plain) ∙ ap (λ z. z ∷ lines later) (plain_whole words plain)) in
+      let first : IsStateLine n words (arranged_facts a) = subst (λ (k : ℕ). IsStateLine k words (arranged_facts a)) e (arranged_line a h) in
+      subst (λ (ts : List (List ℕ)). GoesOnWith n ts (arranged_facts a ∷ states)) (sym split) (state first (passed_lines n shows further rest states h.printed.further g))
     where
       pieces : (number parts shows further : List ℕ) → (((codes "state " ++ number ++ codes ":" ++ parts ++ codes "\n") ++ shows) ++ further) ++ rest ≡ ((codes "state " ++ (number ++ codes ":")) ++ parts) ++ 10 ∷ (shows ++ (further ++ rest))
       pieces number parts shows further = simp append_assoc
 
-  later_states : (n : ℕ) (states : List PrintedState) (text : List ℕ) → All (IsPrinted names) states → CountFrom (suc n) (map (λ s. s.picture) states) → IsEnding names text
-      → GoesOnWith (suc n) (lines (printed_states_text names states ++ text)) (map (λ s. named_facts names s.picture) states)
+  later_states : (n : ℕ) (states : List ArrangedState) (text : List ℕ) → All (IsArranged names) states → CountFrom (suc n) (map (λ a. a.printed.picture) states) → IsEnding names text
+      → GoesOnWith (suc n) (lines (arranged_text names states ++ text)) (map arranged_facts states)
   later_states n [] text h count ending = ending_ends n names text ending
-  later_states n (s ∷ states) text h count ending =
-      let Of = IsPrinted names in
-      let more = later_states (suc n) states text (All-tail Of s states h) count.1 ending in
-      let one = one_state (suc n) s (printed_states_text names states ++ text) (map (λ s. named_facts names s.picture) states) (All-head Of s states h) count.0 more in
-      let whole = append_assoc (printed_state_lines names s) (printed_states_text names states) text in
-      subst (λ (z : List ℕ). GoesOnWith (suc n) (lines z) (map (λ s. named_facts names s.picture) (s ∷ states))) (sym whole) one
+  later_states n (a ∷ states) text h count ending =
+      let Of = IsArranged names in
+      let more = later_states (suc n) states text (All-tail Of a states h) count.1 ending in
+      let one = one_state (suc n) a (arranged_text names states ++ text) (map arranged_facts states) (All-head Of a states h) count.0 more in
+      let whole = append_assoc (arranged_lines names a) (arranged_text names states) text in
+      subst (λ (z : List ℕ). GoesOnWith (suc n) (lines z) (map arranged_facts (a ∷ states))) (sym whole) one
+
+  pub arranged_states : (states : List ArrangedState) → All (IsArranged names) states → CountFrom 0 (map (λ a. a.printed.picture) states) → 0 < length states
+      → (end : List ℕ) → IsEnding names end → IsTraceText (arranged_text names states ++ end) (map arranged_facts states)
+  arranged_states [] h count some text ending = absurd (omega (arith, some))
+  arranged_states (a ∷ states) h count some text ending =
+      let Of = IsArranged names in
+      let more = later_states 0 states text (All-tail Of a states h) count.1 ending in
+      let one = one_state 0 a (arranged_text names states ++ text) (map arranged_facts states) (All-head Of a states h) count.0 more in
+      let whole = append_assoc (arranged_lines names a) (arranged_text names states) text in
+      record {
+        lines_told = subst (λ (z : List ℕ). GoesOnWith 0 (lines z) (map arranged_facts (a ∷ states))) (sym whole) one;
+        some_state = omega arith;
+      }
+
+  -- each with the facts of its picture
+  pub have_facts : (states : List ArrangedState) → All (IsArranged names) states → HaveFactsOf names states (map arranged_facts states)
+  have_facts [] h = tt
+  have_facts (a ∷ states) h = (same_facts a (All-head (IsArranged names) a states h), have_facts states (All-tail (IsArranged names) a states h))
+
+-- ---- parts as they are printed
+
+abbrev unmoved : PrintedState → ArrangedState
+unmoved s = record { printed = s; parts = line_parts s.picture.facts }
+
+unmoved_text : (names : List (List ℕ)) (states : List PrintedState) → arranged_text names (map unmoved states) ≡ printed_states_text names states
+unmoved_text names [] = refl
+unmoved_text names (s ∷ states) = ap (λ l. printed_state_lines names s ++ l) (unmoved_text names states)
+
+unmoved_count : (n : ℕ) (states : List PrintedState) → CountFrom n (map (λ s. s.picture) states) → CountFrom n (map (λ a. a.printed.picture) (map unmoved states))
+unmoved_count n [] c = tt
+unmoved_count n (s ∷ states) c = (c.0, unmoved_count (suc n) states c.1)
+
+unmoved_arranged : (names : List (List ℕ)) (states : List PrintedState) → All (IsPrinted names) states → All (IsArranged names) (map unmoved states)
+unmoved_arranged names [] h = All-nil (IsArranged names)
+unmoved_arranged names (s ∷ states) h =
+    All-cons (IsArranged names) (unmoved s) (map unmoved states) (record { printed = All-head (IsPrinted names) s states h; parts = IsPermutation-refl (line_parts s.picture.facts) }) (unmoved_arranged names states (All-tail (IsPrinted names) s states h))
+
+unmoved_facts : (names : List (List ℕ)) (states : List PrintedState) → All (IsPrinted names) states → map (λ a. parts_facts (map (part_named names) a.parts)) (map unmoved states) ≡ map (λ s. named_facts names s.picture) states
+unmoved_facts names [] h = refl
+unmoved_facts names (s ∷ states) h =
+    let parts = line_parts s.picture.facts in
+    let first = parts_give names parts ∙ ap (map (named_fact names)) (parts_give_facts names s.picture.facts (All-head (IsPrinted names) s states h).picture.facts) in
+    ap₂ (λ f fs. f ∷ fs) first (unmoved_facts names states (All-tail (IsPrinted names) s states h))
+
+some_unmoved : (states : List PrintedState) → 0 < length states → 0 < length (map unmoved states)
+some_unmoved [] h = h
+some_unmoved (s ∷ states) h = omega arith
 
 printed_states : PrintedStatesAreTrace
-printed_states names are [] h count some text ending = absurd (omega (arith, some))
-printed_states names are (s ∷ states) h count some text ending =
-    let Of = IsPrinted names in
-    let more = later_states names are 0 states text (All-tail Of s states h) count.1 ending in
-    let one = one_state names are 0 s (printed_states_text names states ++ text) (map (λ s. named_facts names s.picture) states) (All-head Of s states h) count.0 more in
-    let whole = append_assoc (printed_state_lines names s) (printed_states_text names states) text in
-    record {
-      lines_told = subst (λ (z : List ℕ). GoesOnWith 0 (lines z) (map (λ s. named_facts names s.picture) (s ∷ states))) (sym whole) one;
-      some_state = omega arith;
-    }
+printed_states names are states h count some text ending =
+    let trace = arranged_states names are (map unmoved states) (unmoved_arranged names states h) (unmoved_count 0 states count) (some_unmoved states some) text ending in
+    let facts = subst (λ (fs : List (List NamedFact)). IsTraceText (arranged_text names (map unmoved states) ++ text) fs) (unmoved_facts names states h) trace in
+    subst (λ (z : List ℕ). IsTraceText (z ++ text) (map (λ s. named_facts names s.picture) states)) (unmoved_text names states) facts
 
 -- ---- pictures alone
 

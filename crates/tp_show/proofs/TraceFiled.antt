@@ -111,7 +111,7 @@ none_clash : (f : NamedFact) (fs : List NamedFact) → ((h : NamedFact) → Told
 none_clash f [] apart = refl
 none_clash f (h ∷ fs) apart = or_from (names_clash f h) (list_any (names_clash f) fs) (apart h (inl refl)) (none_clash f fs (λ g i. apart g (inr i)))
 
-all_apart : (fs : List NamedFact) → ((f h : NamedFact) → ToldIn f fs → ToldIn h fs → names_clash f h ≡ false) → have_clash fs ≡ false
+pub all_apart : (fs : List NamedFact) → ((f h : NamedFact) → ToldIn f fs → ToldIn h fs → names_clash f h ≡ false) → have_clash fs ≡ false
 all_apart [] apart = refl
 all_apart (f ∷ fs) apart = or_from (list_any (names_clash f) fs) (have_clash fs) (none_clash f fs (λ h i. apart f h (inl refl) (inr i))) (all_apart fs (λ g h i j. apart g h (inr i) (inr j)))
 

@@ -1,7 +1,7 @@
 -- What reading a text comes to that a run prints.
-use Rattle.std.proofs.Common.{◌≡◌, ◌≤◌, ◌<◌, ◌+◌, ◌^◌, ◌==◌, cond, ℕ, suc, List, [], ◌∷◌, ◌++◌, length, map, All, Bool, true, false, Ok, Err, inl, inr, refl, sym, ap, subst, arith}
+use Rattle.std.proofs.Common.{◌≡◌, ◌≤◌, ◌<◌, ◌^◌, ◌==◌, cond, ℕ, List, [], ◌∷◌, length, map, Bool, true, false, Ok, Err, inl, inr, refl, sym, ap, subst, arith}
 use Rattle.std.specs.Str.Lines.{lines, lines_of_parts}
-use Rattle.std.specs.List.{slice_split, count_by}
+use Rattle.std.specs.List.{slice_split}
 use Rattle.std.proofs.lemmas.List.Splits.{length-slice_split}
 use Rattle.std.proofs.lemmas.List.Sums.{count_by-le-length}
 use Rattle.tp_show.specs.declared.named_fact.NamedFact.{NamedFact}
@@ -11,7 +11,8 @@ use Rattle.tp_show.specs.Trace.{IsTraceText, IsTraceRefusal}
 use Rattle.tp_show.specs.TraceOfRun.{PrintedState, ReadsPrinted}
 use Rattle.tp_show.specs.TraceFacts.{named_facts}
 use Rattle.tp_show.proofs.TraceOnce.{one_trace, no_bad_trace}
-use Rattle.tp_show.proofs.PrintedStates.{traces_tell_facts}
+use Rattle.tp_show.specs.TraceArranged.{ReadsArranged, HaveFactsOf}
+use Rattle.tp_show.proofs.PrintedStates.{traces_tell_facts, arranged_facts, arranged_states, have_facts}
 
 lines_in : (parts : List (List ℕ)) → length (lines_of_parts parts) ≤ length parts
 lines_in [] = omega arith
@@ -42,3 +43,18 @@ refused_printed bytes NoMemory is names are states each count some end ending e 
 refused_printed bytes (BadLine line) is names are states each count some end ending e =
     let told : List (List NamedFact) = map (λ (s : PrintedState). named_facts names s.picture) states in
     absurd (no_bad_trace (lines bytes) told line (subst (λ (b : List ℕ). IsTraceText b told) (sym e) (traces_tell_facts.printed names are states each count some end ending)) is)
+
+-- ---- where the parts of lines stand in some order
+
+pub read_arranged : (bytes : List ℕ) (trace : List (List NamedFact)) → length bytes < 2 ^ 63 → IsTraceText bytes trace → ReadsArranged bytes (Ok trace)
+read_arranged bytes trace small is names are states each count some end ending e =
+    let told : List (List NamedFact) = map (arranged_facts names are) states in
+    let arranged = subst (λ (b : List ℕ). IsTraceText b told) (sym e) (arranged_states names are states each count some end ending) in
+    let same : trace ≡ told = one_trace (lines bytes) (few_lines bytes small) trace told is arranged in
+    inl (trace, refl, subst (HaveFactsOf names states) (sym same) (have_facts names are states each))
+
+pub refused_arranged : (bytes : List ℕ) (refusal : TraceRefusal) → IsTraceRefusal bytes refusal → ReadsArranged bytes (Err refusal)
+refused_arranged bytes NoMemory is names are states each count some end ending e = inr refl
+refused_arranged bytes (BadLine line) is names are states each count some end ending e =
+    let told : List (List NamedFact) = map (arranged_facts names are) states in
+    absurd (no_bad_trace (lines bytes) told line (subst (λ (b : List ℕ). IsTraceText b told) (sym e) (arranged_states names are states each count some end ending)) is)

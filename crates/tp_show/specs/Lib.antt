@@ -5,6 +5,7 @@ pub mod Line
 pub mod LineExamples
 pub mod EndLine
 pub mod Told
+pub mod EndsTold
 pub mod TraceFacts
 pub mod TraceLine
 pub mod Trace
@@ -12,5 +13,6 @@ pub mod TraceReading
 pub mod TraceFiling
 pub mod TraceLaws
 pub mod TraceOfRun
+pub mod TraceArranged
 pub mod TraceExamples
 pub mod ToldLaws

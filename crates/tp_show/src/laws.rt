@@ -1,4 +1,5 @@
 // Laws of the texts.
+ghost use Rattle.tp_show.specs.EndsTold.{EndLinesTell};
 ghost use Rattle.tp_show.specs.LineExamples.{EndLineExamples, LineExamples};
 ghost use Rattle.tp_show.specs.ToldLaws.{TextsTell, TextShowsStates};
 
@@ -12,6 +13,12 @@ pub fn text_shows_states()
 /// exactly where it agrees with the other.
 pub fn texts_tell()
     ensures { TextsTell }
+{}
+
+/// One text is the end line of one end only, up to the numbers of locals and regions, and up to which of two facts that clash was known
+/// first.
+pub fn end_lines_tell()
+    ensures { EndLinesTell }
 {}
 
 /// How the lines of some states read: a value known as a whole, a list known in part, and an item alone; what is shown; and how a

@@ -19,12 +19,14 @@ mod trace_path;
 mod turn;
 
 pub use end_line::end_text;
-pub use laws::{line_examples, text_shows_states, texts_tell};
+pub use laws::{end_lines_tell, line_examples, text_shows_states, texts_tell};
 pub use line::picture_text;
 pub use line_part::{LinePart, LineParts};
 pub use named_fact::NamedFact;
 pub use parts::known_parts;
 pub use tp_scene::{Cell, Clash};
 pub use trace::{Trace, TraceRefusal, TraceState, read_trace};
-pub use trace_laws::{trace_examples, traces_are_read_once, traces_tell_facts};
+pub use trace_laws::{
+    order_of_parts_tells_nothing, trace_examples, traces_are_read_once, traces_tell_facts,
+};
 pub use turn::{Picture, Turn};

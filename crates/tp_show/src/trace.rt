@@ -1,6 +1,7 @@
 // Traces from their texts.
 ghost use Rattle.std.specs.Prelude.{◌≡◌, IfOk, IfErr};
 ghost use Rattle.tp_show.specs.declared.trace.TraceRefusal.TheVariants.{NoMemory as refused_memory};
+ghost use Rattle.tp_show.specs.TraceArranged.{ReadsArranged};
 ghost use Rattle.tp_show.specs.TraceOfRun.{ReadsPrinted};
 ghost use Rattle.tp_show.specs.Trace.{IsTraceText, IsTraceRefusal};
 
@@ -81,6 +82,7 @@ pub fn read_trace(alloc: Global, bytes: &[u8]) -> Result<Trace, TraceRefusal>
     ensures trace { IfOk result (λ trace. IsTraceText bytes.now trace) }
     ensures refused { IfErr result (λ refusal. IsTraceRefusal bytes.now refusal) }
     ensures printed { ReadsPrinted bytes.now result }
+    ensures arranged { ReadsArranged bytes.now result }
 {
     let mut states = Vec::new(alloc);
     let mut rest = bytes;

@@ -6,7 +6,7 @@ use Rattle.tp_show.specs.declared.named_fact.NamedFact.{NamedFact}
 use Rattle.tp_show.specs.TraceReading.{IsKindOf}
 use Rattle.tp_show.proofs.TraceLines.{some_line}
 use Rattle.tp_show.proofs.TraceRuns.{TraceSoFar, so_far_state, so_far_passed, end_whole, bad_here, bad_behind_end, stop_whole, stop_bad}
-use Rattle.tp_show.proofs.TraceRead.{read_printed, refused_printed}
+use Rattle.tp_show.proofs.TraceRead.{read_arranged, read_printed, refused_arranged, refused_printed}
 use Rattle.tp_show.proofs.trace.read_trace.Goals as goal
 use Rattle.tp_show.proofs.trace.read_trace.Goals.{in-State+in_ok-push-in-State, in-PassedOver}
 
@@ -111,3 +111,18 @@ returns-then-is_empty-2-clause-printed c = refused_printed c.args.bytes.now _ (r
 
 pub returns-clause-printed : goal.returns-clause-printed
 returns-clause-printed c = read_printed c.args.bytes.now _ (omega arith) (returns-clause-trace c)
+
+pub returns-then-is_empty-clause-arranged : goal.returns-then-is_empty-clause-arranged
+returns-then-is_empty-clause-arranged c = read_arranged c.args.bytes.now _ (omega arith) (returns-then-is_empty-clause-trace c)
+
+pub returns-in-End-clause-arranged : goal.returns-in-End-clause-arranged
+returns-in-End-clause-arranged c = refused_arranged c.args.bytes.now _ (returns-in-End-clause-refused c)
+
+pub returns-in-Bad-clause-arranged : goal.returns-in-Bad-clause-arranged
+returns-in-Bad-clause-arranged c = refused_arranged c.args.bytes.now _ (returns-in-Bad-clause-refused c)
+
+pub returns-then-is_empty-2-clause-arranged : goal.returns-then-is_empty-2-clause-arranged
+returns-then-is_empty-2-clause-arranged c = refused_arranged c.args.bytes.now _ (returns-then-is_empty-2-clause-refused c)
+
+pub returns-clause-arranged : goal.returns-clause-arranged
+returns-clause-arranged c = read_arranged c.args.bytes.now _ (omega arith) (returns-clause-trace c)

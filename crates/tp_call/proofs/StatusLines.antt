@@ -1,0 +1,194 @@
+-- One line is the end line of one status only.
+use Rattle.std.proofs.Common.{◌≡◌, ◌⊎◌, inl, inr, ℕ, Bool, true, false, cond, ◌==◌, ◌&&◌, ◌||◌, List, [], ◌∷◌, ◌++◌, drop, Some, codes, refl, sym, ap, ap₂, ◌∙◌, subst, append_assoc}
+use Rattle.std.specs.Fmt.{decimal}
+use Rattle.tp_store.specs.Known.{Variable}
+use Rattle.tp_kernel.specs.declared.fault.LimitKind.TheVariants as limit
+use Rattle.tp_show.specs.declared.turn.Turn.{Turn}
+use Rattle.tp_show.specs.declared.turn.Turn.TheVariants as turn
+use Rattle.tp_show.specs.Told.{FitsIn64Bits}
+use Rattle.tp_show.specs.EndLine.{end_line}
+use Rattle.tp_show.proofs.ReadWordLemmas.{heads_apart}
+use Rattle.tp_show.proofs.EndPlaces.{number_read}
+use Rattle.tp_show.proofs.EndsToldLemmas.{end_lines_tell}
+use Rattle.tp_call.specs.declared.status.Status.{Status}
+use Rattle.tp_call.specs.declared.status.Status.TheVariants.{Finished, Done, Contradictory, Undetermined, StateLimit, ReductionLimit, NumberLimit, ListLimit, CallLimit, NestLimit, InputMissing, SourceRefused, InputsRefused, WordsRefused, TooLong, ReadFault, WriteFault, NoMemory}
+use Rattle.tp_call.specs.declared.status.Which.{Which}
+use Rattle.tp_call.specs.declared.status.Which.TheVariants.{Source, Inputs}
+use Rattle.tp_call.specs.declared.status.SourceKind.{SourceKind}
+use Rattle.tp_call.specs.declared.status.SourceKind.TheVariants.{BadByte, OpenComment, NumberTooLarge, NameTooLong, Unexpected, Unfinished, TooDeep, DefinedTwice, UnknownName, WrongCount, NotExpression, NotPlace, NotPort, NotExecutable}
+use Rattle.tp_call.specs.EndLine.{which_text, kind_text, refusal_line}
+use Rattle.tp_call.specs.Run.{status_of}
+use Rattle.tp_call.specs.StatusesTold.{IsToldRefusal, IsStatusLine, StatusesToldAlike, StatusLinesTell}
+
+-- ---- refusals
+
+data Refusal : Type 0 where
+  source : (line column : ℕ) → SourceKind → Refusal
+  inputs : (line : ℕ) → Refusal
+  words : Refusal
+  long : Which → Refusal
+  unread : Which → Refusal
+
+abbrev status_in : Refusal → Status
+status_in (source line column kind) = SourceRefused line column kind
+status_in (inputs line) = InputsRefused line
+status_in words = WordsRefused
+status_in (long which) = TooLong which
+status_in (unread which) = ReadFault which
+
+abbrev IsFound : Status → Type 0
+IsFound status = (r : Refusal) × IsToldRefusal (status_in r) × (status_in r ≡ status)
+
+found : (status : Status) → IsToldRefusal status → IsFound status
+found (SourceRefused line column kind) h = (source line column kind, h, refl)
+found (InputsRefused line) h = (inputs line, h, refl)
+found WordsRefused h = (words, h, refl)
+found (TooLong which) h = (long which, h, refl)
+found (ReadFault which) h = (unread which, h, refl)
+found (Finished length) h = absurd h
+found Done h = absurd h
+found (Contradictory state clash) h = absurd h
+found (Undetermined state cell) h = absurd h
+found (StateLimit states) h = absurd h
+found (ReductionLimit state) h = absurd h
+found (NumberLimit state) h = absurd h
+found (ListLimit state) h = absurd h
+found (CallLimit state) h = absurd h
+found (NestLimit state) h = absurd h
+found (InputMissing state port) h = absurd h
+found WriteFault h = absurd h
+found NoMemory h = absurd h
+
+-- 115 is the `s` of `source`
+abbrev which_at : List ℕ → Which
+which_at [] = Inputs
+which_at (b ∷ z) = cond (b == 115) Source Inputs
+
+which_is : (which : Which) → which_at (which_text which ++ codes "\n") ≡ which
+which_is Source = refl
+which_is Inputs = refl
+
+-- the kind whose text begins with a letter; at `n` the second byte tells, or the fifth and what follows it, and at `u` the third
+abbrev kind_by : (a b c e f h : ℕ) → SourceKind
+kind_by a b c e f h =
+    cond (a == 98) BadByte (cond (a == 111) OpenComment (cond (a == 116) TooDeep (cond (a == 100) DefinedTwice (cond (a == 119) WrongCount
+    (cond (a == 117) (cond (c == 101) Unexpected (cond (c == 102) Unfinished UnknownName))
+    (cond (b == 117) NumberTooLarge (cond (b == 97) NameTooLong
+    (cond (e == 101) NotExecutable (cond (f == 110) NotExpression (cond (h == 108) NotPlace NotPort))))))))))
+
+abbrev kind_at : List ℕ → SourceKind
+kind_at (a ∷ b ∷ c ∷ d ∷ e ∷ f ∷ g ∷ h ∷ z) = kind_by a b c e f h
+kind_at z = BadByte
+
+kind_is : (kind : SourceKind) → kind_at (kind_text kind ++ codes "\n") ≡ kind
+kind_is BadByte = refl
+kind_is OpenComment = refl
+kind_is NumberTooLarge = refl
+kind_is NameTooLong = refl
+kind_is Unexpected = refl
+kind_is Unfinished = refl
+kind_is TooDeep = refl
+kind_is DefinedTwice = refl
+kind_is UnknownName = refl
+kind_is WrongCount = refl
+kind_is NotExpression = refl
+kind_is NotPlace = refl
+kind_is NotPort = refl
+kind_is NotExecutable = refl
+
+-- a refused source in pieces
+source_is : (line column kind : List ℕ) → ((codes "source refused: line " ++ line ++ codes " column " ++ column) ++ codes ": " ++ kind) ++ codes "\n" ≡ codes "source refused: line " ++ (line ++ (codes " column " ++ (column ++ (codes ": " ++ (kind ++ codes "\n")))))
+source_is line column kind = simp append_assoc
+
+inputs_is : (line : List ℕ) → (codes "inputs refused: line " ++ line) ++ codes "\n" ≡ codes "inputs refused: line " ++ (line ++ codes "\n")
+inputs_is line = simp append_assoc
+
+source_read : (l m c d : ℕ) (j k : SourceKind) → IsToldRefusal (SourceRefused l c j) → IsToldRefusal (SourceRefused m d k) → refusal_line (SourceRefused l c j) ≡ refusal_line (SourceRefused m d k) → source l c j ≡ source m d k
+source_read l m c d j k h i e =
+    let J = kind_text j in
+    let K = kind_text k in
+    let pieces = sym (source_is (decimal l) (decimal c) J) ∙ (e ∙ source_is (decimal m) (decimal d) K) in
+    let line = number_read l m (codes " column " ++ (decimal c ++ (codes ": " ++ (J ++ codes "\n")))) (codes " column " ++ (decimal d ++ (codes ": " ++ (K ++ codes "\n")))) h.0 i.0 refl refl (ap (drop 21) pieces) in
+    let column = number_read c d (codes ": " ++ (J ++ codes "\n")) (codes ": " ++ (K ++ codes "\n")) h.1 i.1 refl refl (ap (drop 8) line.1) in
+    let kind : j ≡ k = sym (kind_is j) ∙ (ap kind_at (ap (drop 2) column.1) ∙ kind_is k) in
+    ap₂ (λ x y. source x y j) line.0 column.0 ∙ ap (source m d) kind
+
+refusal_read : (r s : Refusal) → IsToldRefusal (status_in r) → IsToldRefusal (status_in s) → refusal_line (status_in r) ≡ refusal_line (status_in s) → r ≡ s
+refusal_read (source l c j) (source m d k) h i e = source_read l m c d j k h i e
+refusal_read (source l c j) (inputs m) h i e = absurd (heads_apart 115 105 _ _ refl e)
+refusal_read (source l c j) words h i e = absurd (heads_apart 115 119 _ _ refl e)
+refusal_read (source l c j) (long w) h i e = absurd (heads_apart 115 116 _ _ refl e)
+refusal_read (source l c j) (unread w) h i e = absurd (heads_apart 115 114 _ _ refl e)
+refusal_read (inputs l) (source m d k) h i e = absurd (heads_apart 105 115 _ _ refl e)
+refusal_read (inputs l) (inputs m) h i e =
+    ap inputs (number_read l m (codes "\n") (codes "\n") h i refl refl (ap (drop 21) (sym (inputs_is (decimal l)) ∙ (e ∙ inputs_is (decimal m))))).0
+refusal_read (inputs l) words h i e = absurd (heads_apart 105 119 _ _ refl e)
+refusal_read (inputs l) (long w) h i e = absurd (heads_apart 105 116 _ _ refl e)
+refusal_read (inputs l) (unread w) h i e = absurd (heads_apart 105 114 _ _ refl e)
+refusal_read words (source m d k) h i e = absurd (heads_apart 119 115 _ _ refl e)
+refusal_read words (inputs m) h i e = absurd (heads_apart 119 105 _ _ refl e)
+refusal_read words words h i e = refl
+refusal_read words (long w) h i e = absurd (heads_apart 119 116 _ _ refl e)
+refusal_read words (unread w) h i e = absurd (heads_apart 119 114 _ _ refl e)
+refusal_read (long v) (source m d k) h i e = absurd (heads_apart 116 115 _ _ refl e)
+refusal_read (long v) (inputs m) h i e = absurd (heads_apart 116 105 _ _ refl e)
+refusal_read (long v) words h i e = absurd (heads_apart 116 119 _ _ refl e)
+refusal_read (long v) (long w) h i e = ap long (sym (which_is v) ∙ (ap which_at (ap (drop 10) e) ∙ which_is w))
+refusal_read (long v) (unread w) h i e = absurd (heads_apart 116 114 _ _ refl e)
+refusal_read (unread v) (source m d k) h i e = absurd (heads_apart 114 115 _ _ refl e)
+refusal_read (unread v) (inputs m) h i e = absurd (heads_apart 114 105 _ _ refl e)
+refusal_read (unread v) words h i e = absurd (heads_apart 114 119 _ _ refl e)
+refusal_read (unread v) (long w) h i e = absurd (heads_apart 114 116 _ _ refl e)
+refusal_read (unread v) (unread w) h i e = ap unread (sym (which_is v) ∙ (ap which_at (ap (drop 12) e) ∙ which_is w))
+
+-- ---- the end line of a run is none of a refusal
+
+-- `words` and `too long`; `so` of `source`; `inputs`, and not `input `; `rea` of `read`
+abbrev refused_by : (a b c f : ℕ) → Bool
+refused_by a b c f = (a == 119) || (a == 116) || ((a == 115) && (b == 111)) || ((a == 105) && (f == 115)) || ((a == 114) && (c == 97))
+
+abbrev is_refused : List ℕ → Bool
+is_refused (a ∷ b ∷ c ∷ d ∷ e ∷ f ∷ z) = refused_by a b c f
+is_refused z = false
+
+refusal_refused : (r : Refusal) → is_refused (refusal_line (status_in r)) ≡ true
+refusal_refused (source line column kind) = refl
+refusal_refused (inputs line) = refl
+refusal_refused words = refl
+refusal_refused (long which) = refl
+refusal_refused (unread which) = refl
+
+run_not_refused : (globals : List (List ℕ)) (known : List Variable) (reductions : ℕ) (answer : Turn) → is_refused (end_line globals known reductions answer) ≡ false
+run_not_refused globals known reductions turn.Went = refl
+run_not_refused globals known reductions (turn.Finished n) = refl
+run_not_refused globals known reductions (turn.Contradictory state clash) = refl
+run_not_refused globals known reductions (turn.Undetermined state cell) = refl
+run_not_refused globals known reductions (turn.StateLimit states) = refl
+run_not_refused globals known reductions (turn.InputMissing state port) = refl
+run_not_refused globals known reductions (turn.Over state limit.Reductions) = refl
+run_not_refused globals known reductions (turn.Over state limit.Number) = refl
+run_not_refused globals known reductions (turn.Over state limit.List) = refl
+run_not_refused globals known reductions (turn.Over state limit.Calls) = refl
+run_not_refused globals known reductions (turn.Over state limit.Nest) = refl
+
+apart : (globals : List (List ℕ)) (known : List Variable) (reductions : ℕ) (answer : Turn) (status : Status) → IsToldRefusal status → end_line globals known reductions answer ≡ refusal_line status → ⊥
+apart globals known reductions answer status h e =
+    let r = found status h in
+    let same : end_line globals known reductions answer ≡ refusal_line (status_in r.0) = e ∙ ap refusal_line (sym r.2) in
+    absurd (cc (sym (run_not_refused globals known reductions answer) ∙ (ap is_refused same ∙ refusal_refused r.0)))
+
+one_refusal : (status second : Status) → IsToldRefusal status → IsToldRefusal second → refusal_line status ≡ refusal_line second → status ≡ second
+one_refusal status second h k e =
+    let r = found status h in
+    let s = found second k in
+    sym r.2 ∙ (ap status_in (refusal_read r.0 s.0 r.1 s.1 (ap refusal_line r.2 ∙ (e ∙ ap refusal_line (sym s.2)))) ∙ s.2)
+
+pub status_lines_tell : StatusLinesTell
+status_lines_tell globals are known other of also reductions most low small line status second (inl h) (inl k) =
+    inr (h.0, k.0, h.1, k.1, (end_lines_tell globals are known other of also reductions most low small h.0 k.0 h.2 k.2 (sym h.3 ∙ k.3)).0)
+status_lines_tell globals are known other of also reductions most low small line status second (inl h) (inr k) =
+    absurd (apart globals known reductions h.0 second k.0 (sym h.3 ∙ k.1))
+status_lines_tell globals are known other of also reductions most low small line status second (inr h) (inl k) =
+    absurd (apart globals other most k.0 status h.0 (sym k.3 ∙ h.1))
+status_lines_tell globals are known other of also reductions most low small line status second (inr h) (inr k) =
+    inl (one_refusal status second h.0 k.0 (sym h.1 ∙ k.1))
