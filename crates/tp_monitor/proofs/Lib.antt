@@ -11,3 +11,10 @@ pub mod Silent
 pub mod Decided
 pub mod ChopLaws
 pub mod AlwaysLaws
+pub mod RowLemmas
+pub mod TableLemmas
+pub mod LoopLemmas
+pub mod WideTrees
+pub mod KindLemmas
+pub mod LeafLemmas
+pub mod WholeLemmas

@@ -6,3 +6,9 @@ pub mod Table
 pub mod Trace
 pub mod Sound
 pub mod Examples
+pub mod Rows
+pub mod Code
+pub mod Stored
+pub mod Ruled
+pub mod Read
+pub mod Found
