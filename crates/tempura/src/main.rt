@@ -1,7 +1,9 @@
 //! Runs a program of interval temporal logic.
 #![tactic(auto)]
 
-ghost use Rattle.std.specs.Prelude.{◌≡◌, ◌<◌, ◌⊎◌, IfErr};
+ghost use Rattle.std.specs.Prelude.{◌≡◌, ◌<◌, ◌⊎◌, drop, map, string_bytes, IfErr, IfOk};
+ghost use Rattle.std.specs.Process.{exit_status};
+ghost use Rattle.tp_call.specs.EndLine.{code_of};
 
 use std::alloc::Global;
 use std::env::Env;
@@ -19,24 +21,46 @@ const NO_WORDS: u8 = 20;
 
 const NO_MEMORY: u8 = 16;
 
-fn text_of(alloc: Global, word: &str) -> Result<Text, NoMemory> {
-    Text::from_slice(alloc, word.as_bytes())
+// Texts of the same bytes.
+fn texts_of(alloc: Global, given: &[String]) -> Result<Vec<Text>, NoMemory>
+    ensures texts { IfOk result (λ texts. texts.items ≡ map string_bytes given.now) }
+{
+    let mut texts = Vec::new(alloc);
+    for word in given {
+        texts.push(Text::from_slice(alloc, word.as_bytes())?)?;
+    }
+    Ok(texts)
 }
 
-// The words after the program's name; at `Err` the exit status.
+// The words but the first, which is the program's name, in order.
+fn without_name(alloc: Global, args: &[String]) -> Result<Vec<Text>, NoMemory>
+    ensures words { IfOk result (λ words. words.items ≡ drop 1 (map string_bytes args.now)) }
+{
+    match args {
+        [_, given @ ..] => texts_of(alloc, given),
+        [] => Ok(Vec::new(alloc)),
+    }
+}
+
+// The words after the program's name; at `Err` the exit status. What the system's words are, the library doesn't tell.
 fn given_words<R: Env + AllocGlobal>(rt: &R) -> Result<Vec<Text>, u8>
     ensures { IfErr result (λ code. (code ≡ 16) ⊎ (code ≡ 20)) }
 {
-    let mut words = Vec::new(rt.alloc());
-    let args = env::args(rt).map_err(|e| match e.kind() {
+    let given = env::args(rt).map_err(|e| match e.kind() {
         io::ErrorKind::OutOfMemory => NO_MEMORY,
         _ => NO_WORDS,
     })?;
-    for word in args.skip(1) {
-        let text = text_of(rt.alloc(), word.as_str()).map_err(|_| NO_MEMORY)?;
-        words.push(text).map_err(|_| NO_MEMORY)?;
+    let mut args = Vec::new(rt.alloc());
+    for arg in given {
+        args.push(arg).map_err(|_| NO_MEMORY)?;
     }
-    Ok(words)
+    without_name(rt.alloc(), args.as_slice()).map_err(|_| NO_MEMORY)
+}
+
+fn exit_of(status: &Status) -> ExitCode
+    ensures { exit_status result ≡ code_of status.now }
+{
+    ExitCode::from(status.code())
 }
 
 // The call, with a count of tries of its own. Its ledger has to be a parameter: the toolchain lets a caller choose what a ledger is named
@@ -70,5 +94,5 @@ fn main(rt: HostRuntime) -> ExitCode {
         &mut out,
         Blank::new(1),
     );
-    ExitCode::from(status.code())
+    exit_of(&status)
 }

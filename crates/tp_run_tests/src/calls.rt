@@ -10,6 +10,7 @@ use tp_io::{Files, Sink};
 use tp_step::Steps;
 use tp_value::Text;
 
+mod devices;
 mod ends;
 mod faults;
 mod printed;
