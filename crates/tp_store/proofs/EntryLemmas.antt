@@ -12,7 +12,7 @@ use Rattle.tp_value.specs.Globals.{is_lower}
 use Rattle.std.proofs.lemmas.Bool.{false_from_ne_true}
 use Rattle.tp_store.proofs.Paths.{same_truth-decides}
 use Rattle.tp_store.specs.declared.entry.Entry.{Entry}
-use Rattle.tp_store.specs.Entries.{VariableFacts, part_in, parts_in, contents_of, facts_in, without_facts, next_part, next_at, grown, AreParts}
+use Rattle.tp_store.specs.Entries.{VariableFacts, part_in, parts_in, contents_of, facts_in, without_facts, next_part, next_at, with_facts_at, AreParts}
 use Rattle.tp_store.proofs.Filing.{fresh_parts, part_of_variable}
 
 pub parts-push : (es fs : List Entry) (e : Entry) → fs ≡ es ++ e ∷ [] → parts_in fs ≡ parts_in es ++ part_in e ∷ []
@@ -52,14 +52,12 @@ parts-take (x ∷ es) (suc i) e h q =
     let n : suc i + 1 ≡ suc (i + 1) = omega arith in
     ap (λ m. facts_in (take m (parts_in (x ∷ es)))) n ∙ ap (λ fs. x.facts ++ fs) (parts-take es i e (omega arith) q) ∙ sym (append_assoc x.facts (facts_in (take i (parts_in es))) e.facts)
 
-pub set-parts : (es : List Entry) (i : ℕ) (e f : Entry) (news : List Fact) → i < length es → e ≡ get_or es i e → f.name ≡ e.name → f.lasting ≡ e.lasting → f.facts ≡ e.facts ++ news → parts_in (set es i f) ≡ grown (parts_in es) i news
-set-parts [] i e f news h q n l k = absurd (omega arith)
-set-parts (x ∷ es) zero e f news h q n l k =
-    let make : List ℕ → Bool → List Fact → VariableFacts = λ a b fs. record { variable = record { name = a; lasting = b }; facts = fs } in
-    let s : e ≡ x = q in
-    let a : part_in f ≡ make e.name e.lasting (e.facts ++ news) = ap (λ y. make y f.lasting f.facts) n ∙ ap (λ y. make e.name y f.facts) l ∙ ap (make e.name e.lasting) k in
-    ap (λ p. p ∷ parts_in es) (a ∙ ap (λ (y : Entry). make y.name y.lasting (y.facts ++ news)) s)
-set-parts (x ∷ es) (suc i) e f news h q n l k = ap (λ ps. part_in x ∷ ps) (set-parts es i e f news (omega arith) q n l k)
+pub set-parts : (es : List Entry) (i : ℕ) (e f : Entry) → i < length es → e ≡ get_or es i e → f.name ≡ e.name → f.lasting ≡ e.lasting → parts_in (set es i f) ≡ with_facts_at (parts_in es) i f.facts
+set-parts [] i e f h q n l = absurd (omega arith)
+set-parts (x ∷ es) zero e f h q n l =
+    let make : List ℕ → Bool → VariableFacts = λ a b. record { variable = record { name = a; lasting = b }; facts = f.facts } in
+    ap (λ p. p ∷ parts_in es) (ap (λ y. make y f.lasting) n ∙ ap (make e.name) l ∙ ap (λ (y : Entry). make y.name y.lasting) q)
+set-parts (x ∷ es) (suc i) e f h q n l = ap (λ ps. part_in x ∷ ps) (set-parts es i e f (omega arith) q n l)
 
 pub set-same : (es : List Entry) (i : ℕ) (e f : Entry) → i < length es → e ≡ get_or es i e → f.name ≡ e.name → f.lasting ≡ e.lasting → f.facts ≡ e.facts → parts_in (set es i f) ≡ parts_in es
 set-same [] i e f h q n l k = absurd (omega arith)

@@ -6,14 +6,15 @@ use Rattle.tp_value.specs.declared.value.Shape.{Shape}
 use Rattle.tp_value.specs.declared.path.VarId.{VarId}
 use Rattle.tp_value.specs.declared.path.Path.{Path}
 use Rattle.tp_value.specs.declared.path.Fact.{Fact}
-use Rattle.tp_store.specs.Facts.{same_path, clash, kept_shape}
-use Rattle.tp_store.specs.Known.{Contents, NoClash, Variable, IsVariableOf, AreOfVariables, lasting_facts, facts_below, full, addition, adds, new_store, global_variable}
-use Rattle.tp_store.specs.Entries.{VariableFacts, facts_in, facts_there, contents_of, without_facts, next_part, with_facts, grown, AreOf, IsPart, AreParts}
+use Rattle.tp_store.specs.Facts.{same_path, clash, kept_shape, fact}
+use Rattle.tp_store.specs.Known.{Contents, NoClash, Variable, IsVariableOf, AreOfVariables, lasting_facts, facts_below, full, addition, adds, new_facts, is_none, new_store, global_variable}
+use Rattle.tp_store.specs.Entries.{VariableFacts, facts_in, facts_there, contents_of, without_facts, next_part, with_facts, with_facts_at, HasGrown, IsPart, AreParts}
+use Rattle.tp_store.specs.FactMap.{AreOf, AreOfOne}
 use Rattle.tp_store.specs.Changes.{IsSoundStore, HaveSameShapes, AddsFacts, HasAppended}
 use Rattle.tp_store.proofs.Paths.{same_path-decides}
-use Rattle.tp_store.proofs.Members.{In, in_left, in_right, in_append, kept_none, NoClash-append, NoClash-filter, Apart}
+use Rattle.tp_store.proofs.Members.{In, in_left, in_right, in_append, in_filter, kept_in, in_kept, kept_none, NoClash-append, NoClash-filter, Apart}
 use Rattle.tp_store.proofs.Same.{AgreeAt, same_kept, same_full, same_addition, clash-variable}
-use Rattle.tp_store.proofs.Adding.{adds_all, news_given, NoClash-adds}
+use Rattle.tp_store.proofs.Adding.{adds_all, news_given}
 
 pub of_in : (x : VarId) (fs : List Fact) → AreOf x fs → (f : Fact) → In f fs → f.path.var ≡ x
 of_in x [] h f i = absurd i
@@ -262,28 +263,28 @@ or_else-some : (ys : List Fact) (p : Path) (y : Option Shape) → kept_shape ys 
 or_else-some ys p y h = or_else-none y ∙ ap (or_else y) (sym h)
 
 -- facts are added to those of one variable
-pub added_shapes : (ps : List VariableFacts) (k : ℕ) (o : VariableFacts) (x : VarId) (news : List Fact) → AreParts 0 ps → slice_get ps k ≡ Some o → x.number ≡ k → AreOf x news → IsPart k (with_facts o news)
-    → HaveSameShapes (facts_in (set ps k (with_facts o news))) (facts_in ps ++ news)
-added_shapes ps k o x news h e n a q = λ p.
-    let ps' = set ps k (with_facts o news) in
-    let q' : IsPart (0 + k) (with_facts o news) = (let m : k ≡ 0 + k = omega arith in let P : ℕ → Type 0 = λ j. IsPart j (with_facts o news) in subst P m q) in
-    let h' : AreParts 0 ps' = set_parts 0 ps k (with_facts o news) h q' in
-    let there : slice_get ps' p.var.number ≡ slice_get ps p.var.number → kept_shape news p ≡ None → kept_shape (facts_in ps') p ≡ kept_shape (facts_in ps ++ news) p = λ s none.
-    kept_in_part ps' p h' ∙ ap (λ y. kept_shape (facts_there y) p) s ∙ sym (kept_in_part ps p h) ∙ or_else-some news p (kept_shape (facts_in ps) p) none ∙ sym (kept_shape-append (facts_in ps) news p) in
+pub added_shapes : (ps : List VariableFacts) (k : ℕ) (o : VariableFacts) (x : VarId) (news gs : List Fact) → AreParts 0 ps → slice_get ps k ≡ Some o → x.number ≡ k → AreOf x news → HaveSameShapes gs (o.facts ++ news) → IsPart k (with_facts o gs)
+    → HaveSameShapes (facts_in (set ps k (with_facts o gs))) (facts_in ps ++ news)
+added_shapes ps k o x news gs h e n a s q = λ p.
+    let ps' = set ps k (with_facts o gs) in
+    let q' : IsPart (0 + k) (with_facts o gs) = (let m : k ≡ 0 + k = omega arith in let P : ℕ → Type 0 = λ j. IsPart j (with_facts o gs) in subst P m q) in
+    let h' : AreParts 0 ps' = set_parts 0 ps k (with_facts o gs) h q' in
+    let there : slice_get ps' p.var.number ≡ slice_get ps p.var.number → kept_shape news p ≡ None → kept_shape (facts_in ps') p ≡ kept_shape (facts_in ps ++ news) p = λ m none.
+    kept_in_part ps' p h' ∙ ap (λ y. kept_shape (facts_there y) p) m ∙ sym (kept_in_part ps p h) ∙ or_else-some news p (kept_shape (facts_in ps) p) none ∙ sym (kept_shape-append (facts_in ps) news p) in
     let here : p.var.number ≡ k → kept_shape (facts_in ps') p ≡ kept_shape (facts_in ps ++ news) p = λ m.
-    let at' : slice_get ps' p.var.number ≡ Some (with_facts o news) = ap (slice_get ps') m ∙ set_here ps k o (with_facts o news) e in
+    let at' : slice_get ps' p.var.number ≡ Some (with_facts o gs) = ap (slice_get ps') m ∙ set_here ps k o (with_facts o gs) e in
     let at : slice_get ps p.var.number ≡ Some o = ap (slice_get ps) m ∙ e in
-    kept_in_part ps' p h' ∙ ap (λ y. kept_shape (facts_there y) p) at' ∙ kept_shape-append o.facts news p
+    kept_in_part ps' p h' ∙ ap (λ y. kept_shape (facts_there y) p) at' ∙ s p ∙ kept_shape-append o.facts news p
     ∙ ap (λ y. or_else y (kept_shape news p)) (sym (kept_in_part ps p h ∙ ap (λ y. kept_shape (facts_there y) p) at)) ∙ sym (kept_shape-append (facts_in ps) news p) in
     let other : (p.var.number ≡ k → ⊥) → kept_shape (facts_in ps') p ≡ kept_shape (facts_in ps ++ news) p = λ m.
-    there (set_elsewhere ps k p.var.number (with_facts o news) m)
+    there (set_elsewhere ps k p.var.number (with_facts o gs) m)
     (kept_none news p (λ g j. false_from_ne_true (same_path g.path p) (λ t. m (sym (ap (λ (r : Path). r.var.number) ((same_path-decides g.path p).0 t)) ∙ ap (λ (y : VarId). y.number) (of_in x news a g j) ∙ n)))) in
     elim (cases_eq p.var.number k) [ inl m ↦ here m | inr m ↦ other m ]
 
-pub grown-set : (ps : List VariableFacts) (k : ℕ) (o : VariableFacts) (news : List Fact) → slice_get ps k ≡ Some o → grown ps k news ≡ set ps k (with_facts o news)
-grown-set [] k o news e = absurd (cc)
-grown-set (x ∷ ps) zero o news e = let s : x ≡ o = cc e in ap (λ y. with_facts y news ∷ ps) s
-grown-set (x ∷ ps) (suc k) o news e = ap (λ qs. x ∷ qs) (grown-set ps k o news e)
+pub with_facts_at-set : (ps : List VariableFacts) (k : ℕ) (o : VariableFacts) (news : List Fact) → slice_get ps k ≡ Some o → with_facts_at ps k news ≡ set ps k (with_facts o news)
+with_facts_at-set [] k o news e = absurd (cc)
+with_facts_at-set (x ∷ ps) zero o news e = let s : x ≡ o = cc e in ap (λ y. with_facts y news ∷ ps) s
+with_facts_at-set (x ∷ ps) (suc k) o news e = ap (λ qs. x ∷ qs) (with_facts_at-set ps k o news e)
 
 -- what is below a number, appended
 pub appended_is : (ps : List VariableFacts) (v : Contents) (b : ℕ) (fs old new : List Fact) → contents_of ps ≡ v → AreParts 0 ps → fs ≡ facts_in (take b ps) → new ≡ old ++ fs → HasAppended (facts_below b v.facts) old new
@@ -340,16 +341,21 @@ of_append : (x : VarId) (xs ys : List Fact) → AreOf x xs → AreOf x ys → Ar
 of_append x [] ys h k = k
 of_append x (f ∷ xs) ys h k = (h.0, of_append x xs ys h.1 k)
 
--- everything that adding facts to one variable gives
-pub record Grown (ps : List VariableFacts) (v : Contents) (x : VarId) (news : List Fact) : Type 0 where
-  pub parts : AreParts 0 (grown ps x.number news)
-  pub added : AddsFacts v news (contents_of (grown ps x.number news))
+-- facts that give the shapes of others are of their variable
+of_shapes : (x : VarId) (fs gs : List Fact) → NoClash gs → HaveSameShapes gs fs → AreOf x fs → AreOf x gs
+of_shapes x fs gs n s a = of_from x gs (λ g i. of_in x fs a (fact g.path g.shape) (kept_in fs g.path g.shape (sym (s g.path) ∙ in_kept gs g n i)))
 
-pub grows : (ps : List VariableFacts) (v : Contents) (x : VarId) (fs news : List Fact) → contents_of ps ≡ v → AreParts 0 ps → IsVariableOf v.variables x → AreOf x fs → NoClash fs
-    → addition (facts_there (slice_get ps x.number)) fs ≡ adds news → Grown ps v x news
-grows ps v x fs news e h k a m q =
+-- everything that adding facts to one variable gives
+pub record Grown (ps qs : List VariableFacts) (v : Contents) (news : List Fact) : Type 0 where
+  pub parts : AreParts 0 qs
+  pub added : AddsFacts v news (contents_of qs)
+
+pub grows : (ps qs : List VariableFacts) (v : Contents) (x : VarId) (fs news : List Fact) → contents_of ps ≡ v → AreParts 0 ps → IsVariableOf v.variables x → AreOf x fs
+    → addition (facts_there (slice_get ps x.number)) fs ≡ adds news → HasGrown ps x.number news qs → Grown ps qs v news
+grows ps qs v x fs news e h k a q g =
     let r = part_of_variable ps v x e k in
     let o = r.0 in
+    let gs = g.facts in
     let is_part : IsPart (0 + x.number) o = part_at 0 ps x.number o h r.1 in
     let q' : addition o.facts fs ≡ adds news = ap (λ y. addition (facts_there y) fs) (sym r.1) ∙ q in
     let all = adds_all o.facts fs news q' in
@@ -358,18 +364,45 @@ grows ps v x fs news e h k a m q =
     let make : ℕ → Bool → VarId = λ i b. record { number = i; lasting = b } in
     let var_is : make (0 + x.number) o.variable.lasting ≡ x = ap₂ make n r.2 in
     let V : VarId → Type 0 = λ y. AreOf y news in
-    let new_part : IsPart (0 + x.number) (with_facts o news) = record {
-      filed = of_append (make (0 + x.number) o.variable.lasting) o.facts news is_part.filed (subst V (sym var_is) news_of);
-      apart = NoClash-adds o.facts fs news q' is_part.apart m;
+    let as_shapes : HaveSameShapes gs (o.facts ++ news) = λ p. g.shapes p ∙ ap (λ y. kept_shape (facts_there y ++ news) p) r.1 in
+    let new_part : IsPart (0 + x.number) (with_facts o gs) = record {
+      filed = of_shapes (make (0 + x.number) o.variable.lasting) (o.facts ++ news) gs g.no_clash as_shapes
+          (of_append (make (0 + x.number) o.variable.lasting) o.facts news is_part.filed (subst V (sym var_is) news_of));
+      apart = g.no_clash;
     } in
-    let I : ℕ → Type 0 = λ i. IsPart i (with_facts o news) in
-    let qs = set ps x.number (with_facts o news) in
-    let same : grown ps x.number news ≡ qs = grown-set ps x.number o news r.1 in
-    let shapes : HaveSameShapes (facts_in qs) (facts_in ps ++ news) = added_shapes ps x.number o x news h r.1 refl news_of (subst I n new_part) in
+    let I : ℕ → Type 0 = λ i. IsPart i (with_facts o gs) in
+    let rs = set ps x.number (with_facts o gs) in
+    let same : qs ≡ rs = g.parts ∙ with_facts_at-set ps x.number o gs r.1 in
+    let shapes : HaveSameShapes (facts_in rs) (facts_in ps ++ news) = added_shapes ps x.number o x news gs h r.1 refl news_of as_shapes (subst I n new_part) in
     record {
-      parts = moved_parts qs (grown ps x.number news) same (set_parts 0 ps x.number (with_facts o news) h new_part);
+      parts = moved_parts rs qs same (set_parts 0 ps x.number (with_facts o gs) h new_part);
       added = record {
         shapes = λ p. ap (λ ys. kept_shape (facts_in ys) p) same ∙ shapes p ∙ ap (λ (s : Contents). kept_shape (s.facts ++ news) p) e;
-        variables = ap (map (λ (p : VariableFacts). p.variable)) same ∙ set_variables ps x.number o (with_facts o news) r.1 refl ∙ ap (λ (s : Contents). s.variables) e;
+        variables = ap (map (λ (p : VariableFacts). p.variable)) same ∙ set_variables ps x.number o (with_facts o gs) r.1 refl ∙ ap (λ (s : Contents). s.variables) e;
       };
     }
+
+-- facts that are added to a variable's are of one with them
+pub one_variable : (ps : List VariableFacts) (v : Contents) (x : VarId) (fs : List Fact) → contents_of ps ≡ v → AreParts 0 ps → IsVariableOf v.variables x → AreOf x fs
+    → AreOfOne (facts_there (slice_get ps x.number) ++ fs)
+one_variable ps v x fs e h k a =
+    let r = part_of_variable ps v x e k in
+    let o = r.0 in
+    let is_part : IsPart (0 + x.number) o = part_at 0 ps x.number o h r.1 in
+    let n : 0 + x.number ≡ x.number = omega arith in
+    let make : ℕ → Bool → VarId = λ i b. record { number = i; lasting = b } in
+    let var_is : make (0 + x.number) o.variable.lasting ≡ x = ap₂ make n r.2 in
+    let V : VarId → Type 0 = λ y. AreOf y o.facts in
+    let P : List Fact → Type 0 = λ gs. AreOfOne (gs ++ fs) in
+    subst P (ap facts_there (sym r.1)) (x, of_append x o.facts fs (subst V var_is is_part.filed) a)
+
+-- so are those of them that are new
+pub one_of_new : (kept facts : List Fact) → AreOfOne (kept ++ facts) → AreOfOne (kept ++ new_facts kept facts)
+one_of_new kept facts one = (
+  one.0,
+  of_from one.0 (kept ++ new_facts kept facts) (λ g i.
+      of_in one.0 (kept ++ facts) one.1 g (elim (in_append g kept (new_facts kept facts) i) [
+        | inl j ↦ in_left g kept facts j
+        | inr j ↦ in_right g kept facts (in_filter (λ f. is_none (kept_shape kept f.path)) g facts j).0
+      ])),
+)

@@ -5,10 +5,14 @@ pub mod Members
 pub mod First
 pub mod Same
 pub mod Adding
-pub mod Keys
-pub mod BoundLemmas
+pub mod Routes
+pub mod Trees
+pub mod Ways
 pub mod FactMapLemmas
 pub mod Filing
+pub mod Kept
+pub mod Clashes
+pub mod Growth
 pub mod EntryLemmas
 pub mod Touched
 pub mod Meaning

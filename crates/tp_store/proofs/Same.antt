@@ -102,7 +102,7 @@ max-right : (a b c : ℕ) → c ≤ b → c ≤ max a b
 max-right a b c h = omega arith
 
 -- no kept path has more indices than the deepest
-deepest_in : (fs : List Fact) (f : Fact) → In f fs → length f.path.at ≤ deepest fs
+pub deepest_in : (fs : List Fact) (f : Fact) → In f fs → length f.path.at ≤ deepest fs
 deepest_in [] f i = absurd i
 deepest_in (g ∷ fs) f (inl e) = let q : length g.path.at ≡ length f.path.at = ap (λ (x : Fact). length x.path.at) e in let r : length g.path.at ≤ max (length g.path.at) (deepest fs) = omega arith in omega arith
 deepest_in (g ∷ fs) f (inr i) = max-right (length g.path.at) (deepest fs) (length f.path.at) (deepest_in fs f i)

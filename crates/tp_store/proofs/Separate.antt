@@ -9,7 +9,7 @@ use Rattle.tp_value.specs.declared.path.Path.{Path}
 use Rattle.tp_value.specs.declared.path.Fact.{Fact}
 use Rattle.tp_store.specs.Facts.{same_variable, same_indices, same_path, same_shape, leaves_out, excludes, item_path, fact, facts_at, facts_of_items}
 use Rattle.tp_store.specs.Known.{NoClash}
-use Rattle.tp_store.specs.Entries.{AreOf}
+use Rattle.tp_store.specs.FactMap.{AreOf}
 use Rattle.tp_store.proofs.Indices.{same_indices-other_length}
 use Rattle.tp_store.proofs.Members.{In, in_append, excludes-own, NoClash-append, Apart}
 use Rattle.tp_store.proofs.Filing.{of_from}

@@ -5,7 +5,7 @@ use Rattle.std.proofs.lemmas.Bool.{cases_eq}
 use Rattle.std.proofs.lemmas.List.Elements.{Contains-append_left, Contains-push}
 use Rattle.tp_value.specs.declared.path.Fact.{Fact}
 use Rattle.tp_store.specs.Known.{global_variable}
-use Rattle.tp_store.specs.Entries.{VariableFacts, without_facts, with_facts, next_part, next_at, grown, AreTouched}
+use Rattle.tp_store.specs.Entries.{VariableFacts, without_facts, with_facts, next_part, next_at, with_facts_at, AreTouched}
 
 pub touched_moved : (ts us : List ℕ) (ps qs : List VariableFacts) → us ≡ ts → qs ≡ ps → AreTouched ts ps → AreTouched us qs
 touched_moved ts us ps qs e q h =
@@ -50,42 +50,42 @@ pub touched_next : (ts : List ℕ) (ps qs : List VariableFacts) → qs ≡ map n
 touched_next ts ps qs e k p q s = inl (next_bare ps k p (ap (λ xs. slice_get xs k) (sym e) ∙ q) s)
 
 -- facts are added to those of one variable
-grown_elsewhere : (ps : List VariableFacts) (k j : ℕ) (news : List Fact) → (j ≡ k → ⊥) → slice_get (grown ps k news) j ≡ slice_get ps j
-grown_elsewhere [] k j news h = refl
-grown_elsewhere (x ∷ ps) zero zero news h = absurd (h refl)
-grown_elsewhere (x ∷ ps) zero (suc j) news h = refl
-grown_elsewhere (x ∷ ps) (suc k) zero news h = refl
-grown_elsewhere (x ∷ ps) (suc k) (suc j) news h = grown_elsewhere ps k j news (λ e. h (ap suc e))
+facts_elsewhere : (ps : List VariableFacts) (k j : ℕ) (news : List Fact) → (j ≡ k → ⊥) → slice_get (with_facts_at ps k news) j ≡ slice_get ps j
+facts_elsewhere [] k j news h = refl
+facts_elsewhere (x ∷ ps) zero zero news h = absurd (h refl)
+facts_elsewhere (x ∷ ps) zero (suc j) news h = refl
+facts_elsewhere (x ∷ ps) (suc k) zero news h = refl
+facts_elsewhere (x ∷ ps) (suc k) (suc j) news h = facts_elsewhere ps k j news (λ e. h (ap suc e))
 
-grown_here : (ps : List VariableFacts) (k : ℕ) (o p : VariableFacts) (news : List Fact) → slice_get ps k ≡ Some o → slice_get (grown ps k news) k ≡ Some p → with_facts o news ≡ p
-grown_here [] k o p news e q = absurd (cc)
-grown_here (x ∷ ps) zero o p news e q = let s : x ≡ o = cc e in let r : with_facts x news ≡ p = cc q in ap (λ y. with_facts y news) (sym s) ∙ r
-grown_here (x ∷ ps) (suc k) o p news e q = grown_here ps k o p news e q
+facts_here : (ps : List VariableFacts) (k : ℕ) (o p : VariableFacts) (news : List Fact) → slice_get ps k ≡ Some o → slice_get (with_facts_at ps k news) k ≡ Some p → with_facts o news ≡ p
+facts_here [] k o p news e q = absurd (cc)
+facts_here (x ∷ ps) zero o p news e q = let s : x ≡ o = cc e in let r : with_facts x news ≡ p = cc q in ap (λ y. with_facts y news) (sym s) ∙ r
+facts_here (x ∷ ps) (suc k) o p news e q = facts_here ps k o p news e q
 
 pub touched_more : (ts us : List ℕ) (n : ℕ) (ps : List VariableFacts) → us ≡ ts ++ n ∷ [] → AreTouched ts ps → AreTouched us ps
 touched_more ts us n ps e h k p q s =
     let P : List ℕ → Type 0 = λ xs. Contains xs k in
     elim (h k p q s) [ inl a ↦ inl a | inr a ↦ inr (subst P (sym e) (Contains-append_left ts (n ∷ []) k a)) ]
 
-pub touched_first : (ts us : List ℕ) (n : ℕ) (ps : List VariableFacts) (news : List Fact) → us ≡ ts ++ n ∷ [] → AreTouched ts ps → AreTouched us (grown ps n news)
+pub touched_first : (ts us : List ℕ) (n : ℕ) (ps : List VariableFacts) (news : List Fact) → us ≡ ts ++ n ∷ [] → AreTouched ts ps → AreTouched us (with_facts_at ps n news)
 touched_first ts us n ps news e h k p q s =
     let P : ℕ → Type 0 = λ m. Contains us m in
     let Q : List ℕ → Type 0 = λ xs. Contains xs n in
     elim (cases_eq k n) [
       | inl m ↦ inr (subst P (sym m) (subst Q (sym e) (Contains-push ts n)))
-      | inr m ↦ touched_more ts us n ps e h k p (sym (grown_elsewhere ps n k news m) ∙ q) s
+      | inr m ↦ touched_more ts us n ps e h k p (sym (facts_elsewhere ps n k news m) ∙ q) s
     ]
 
-pub touched_grown : (ts : List ℕ) (n : ℕ) (ps : List VariableFacts) (o : VariableFacts) (news : List Fact) → slice_get ps n ≡ Some o → (o.variable.lasting ≡ false → o.facts ≡ [] → ⊥) → AreTouched ts ps → AreTouched ts (grown ps n news)
+pub touched_grown : (ts : List ℕ) (n : ℕ) (ps : List VariableFacts) (o : VariableFacts) (news : List Fact) → slice_get ps n ≡ Some o → (o.variable.lasting ≡ false → o.facts ≡ [] → ⊥) → AreTouched ts ps → AreTouched ts (with_facts_at ps n news)
 touched_grown ts n ps o news r has h k p q s =
     let P : ℕ → Type 0 = λ m. Contains ts m in
     let here : k ≡ n → (p.facts ≡ []) ⊎ Contains ts k = λ m.
-    let same : with_facts o news ≡ p = grown_here ps n o p news r (ap (λ j. slice_get (grown ps n news) j) (sym m) ∙ q) in
+    let same : with_facts o news ≡ p = facts_here ps n o p news r (ap (λ j. slice_get (with_facts_at ps n news) j) (sym m) ∙ q) in
     let state : o.variable.lasting ≡ false = ap (λ (y : VariableFacts). y.variable.lasting) same ∙ s in
     elim (h n o r state) [ inl a ↦ absurd (has state a) | inr a ↦ inr (subst P (sym m) a) ] in
     elim (cases_eq k n) [
       | inl m ↦ here m
-      | inr m ↦ h k p (sym (grown_elsewhere ps n k news m) ∙ q) s
+      | inr m ↦ h k p (sym (facts_elsewhere ps n k news m) ∙ q) s
     ]
 
 -- the touched variables go on to the next state, and with them all

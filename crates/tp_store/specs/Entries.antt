@@ -4,6 +4,8 @@ use Rattle.std.specs.List.{flat_map}
 use Rattle.tp_value.specs.declared.path.VarId.{VarId}
 use Rattle.tp_value.specs.declared.path.Fact.{Fact}
 use Rattle.tp_store.specs.Known.{Contents, Variable, NoClash}
+pub use Rattle.tp_store.specs.FactMap.{AreOf}
+use Rattle.tp_store.specs.Changes.{HaveSameShapes}
 use Rattle.tp_store.specs.declared.entry.Entry.{Entry}
 
 -- a variable with the facts that are kept of it
@@ -44,18 +46,13 @@ next_at zero (p ∷ ps) = next_part p ∷ ps
 next_at (suc k) (p ∷ ps) = p ∷ next_at k ps
 
 abbrev pub with_facts : VariableFacts → List Fact → VariableFacts
-with_facts p news = record { variable = p.variable; facts = p.facts ++ news }
+with_facts p fs = record { variable = p.variable; facts = fs }
 
--- more facts are kept of the variable with this number
-abbrev pub grown : List VariableFacts → ℕ → List Fact → List VariableFacts
-grown [] k news = []
-grown (p ∷ ps) zero news = with_facts p news ∷ ps
-grown (p ∷ ps) (suc k) news = p ∷ grown ps k news
-
--- each fact is of this variable
-abbrev pub AreOf : VarId → List Fact → Type 0
-AreOf x [] = Unit {0}
-AreOf x (f ∷ fs) = (f.path.var ≡ x) × AreOf x fs
+-- these facts are kept of the variable with this number
+abbrev pub with_facts_at : List VariableFacts → ℕ → List Fact → List VariableFacts
+with_facts_at [] k fs = []
+with_facts_at (p ∷ ps) zero fs = with_facts p fs ∷ ps
+with_facts_at (p ∷ ps) (suc k) fs = p ∷ with_facts_at ps k fs
 
 -- what is kept of the variable with this number: facts of it without a clash
 pub record IsPart (i : ℕ) (p : VariableFacts) : Type 0 where
@@ -72,3 +69,11 @@ abbrev pub AreTouched : List ℕ → List VariableFacts → Type 0
 AreTouched numbers ps =
     (k : ℕ) (p : VariableFacts) → slice_get ps k ≡ Some p → p.variable.lasting ≡ false
     → (p.facts ≡ []) ⊎ Contains numbers k
+
+-- More facts are kept of the variable with this number, and they don't clash.
+pub record HasGrown (old : List VariableFacts) (k : ℕ) (news : List Fact)
+    (new : List VariableFacts) : Type 0 where
+  pub facts : List Fact
+  pub parts : new ≡ with_facts_at old k facts
+  pub shapes : HaveSameShapes facts (facts_there (slice_get old k) ++ news)
+  pub no_clash : NoClash facts

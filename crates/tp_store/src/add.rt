@@ -4,9 +4,10 @@ ghost use Rattle.tp_value.specs.Read.{tree};
 ghost use Rattle.tp_value.specs.declared.value.Shape.TheVariants as shape;
 ghost use Rattle.tp_store.specs.Facts.{facts_at, fact};
 ghost use Rattle.tp_store.specs.Known.{addition, adds, new_facts, IsVariableOf, NoClash};
-ghost use Rattle.tp_store.specs.Entries.{AreOf, parts_in, facts_there, grown};
+ghost use Rattle.tp_store.specs.Entries.{parts_in, facts_there, HasGrown};
+ghost use Rattle.tp_store.specs.FactMap.{AreOf, AreOfOne};
 ghost use Rattle.tp_store.specs.Answers.{Adds, IsRefusal};
-ghost use Rattle.tp_store.specs.Changes.{IsSoundStore, AddsFacts};
+ghost use Rattle.tp_store.specs.Changes.{IsSoundStore, AddsFacts, HaveSameShapes};
 
 use crate::entry::{Entry, touch};
 use crate::fact_map::FactMap;
@@ -137,10 +138,12 @@ fn check_in(alloc: Global, kept: &FactMap, facts: &[Fact]) -> Result<(), AddRefu
 
 // Adds facts of one variable, which don't clash with each other, to those that are kept of it.
 fn add_in(alloc: Global, kept: &mut FactMap, facts: Vec<Fact>) -> Result<Facts, AddRefusal>
-    requires { NoClash facts.items }
+    requires apart { NoClash facts.items }
+    requires of_one { AreOfOne (kept.old ++ facts.items) }
     ensures added { IfOk result (λ news. addition kept.old facts.items ≡ adds news) }
     ensures refused { IfErr result (IsRefusal (addition kept.old facts.items)) }
-    ensures ok { IfOk result (λ news. kept.new ≡ kept.old ++ news) }
+    ensures apart { IfOk result (λ news. NoClash kept.new) }
+    ensures ok { IfOk result (λ news. HaveSameShapes kept.new (kept.old ++ news)) }
     ensures err { OnErr result (kept.new ≡ kept.old) }
 {
     check_in(alloc, kept, facts.as_slice())?;
@@ -158,12 +161,14 @@ fn add_at(
 ) -> Result<Facts, AddRefusal>
     requires number { number < length entries.old }
     requires apart { NoClash facts.items }
+    requires of_one { AreOfOne
+        (facts_there (slice_get (parts_in entries.old) number) ++ facts.items) }
     ensures added { IfOk result (λ news.
         addition (facts_there (slice_get (parts_in entries.old) number)) facts.items ≡ adds news) }
     ensures refused { IfErr result
         (IsRefusal (addition (facts_there (slice_get (parts_in entries.old) number)) facts.items)) }
     ensures ok { IfOk result (λ news.
-        parts_in entries.new ≡ grown (parts_in entries.old) number news) }
+        HasGrown (parts_in entries.old) number news (parts_in entries.new)) }
     ensures err { OnErr result (parts_in entries.new ≡ parts_in entries.old) }
 {
     let entry = &mut entries[number as usize];

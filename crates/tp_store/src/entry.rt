@@ -1,6 +1,6 @@
 // What is kept of each variable.
 ghost use Rattle.std.specs.Prelude.{◌≡◌, ◌<◌, ◌++◌, [], List, length, unwrap_or, map, take, slice_get, slice_set, IfOk, OnOk};
-ghost use Rattle.tp_store.specs.Entries.{VariableFacts, part_in, parts_in, facts_in, facts_there, without_facts, next_part, next_at, grown, AreTouched};
+ghost use Rattle.tp_store.specs.Entries.{VariableFacts, part_in, parts_in, facts_in, facts_there, without_facts, next_part, next_at, with_facts_at, AreTouched};
 ghost use Rattle.tp_store.specs.Facts.{kept_shape};
 ghost use Rattle.tp_store.specs.Known.{global_variable, name_of};
 ghost use Rattle.std.specs.Option.{option_copied};
@@ -154,8 +154,8 @@ pub fn touch(entries: &[Entry], number: u64, touched: &mut Vec<u64>) -> Result<(
     requires in_range { number < length entries.now }
     requires touched { AreTouched touched.old.items (parts_in entries.now) }
     ensures kept { AreTouched touched.new.items (parts_in entries.now) }
-    ensures ok { OnOk result ((news : List Fact) →
-        AreTouched touched.new.items (grown (parts_in entries.now) number news)) }
+    ensures ok { OnOk result ((facts : List Fact) →
+        AreTouched touched.new.items (with_facts_at (parts_in entries.now) number facts)) }
 {
     let entry = &entries[number as usize];
     if !entry.lasting && entry.facts.is_empty() {

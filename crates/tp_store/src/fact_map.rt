@@ -1,28 +1,29 @@
 // The facts of one variable, found by their paths.
-ghost use Rattle.std.specs.Prelude.{◌≡◌, ◌<◌, ◌^◌, ◌++◌, ◌↔◌, [], false, None, IfOk, OnOk, OnErr, IsTrue};
-ghost use Rattle.std.specs.Option.{option_map};
-ghost use Rattle.tp_store.specs.Facts.{kept_shape, is_excluded};
+ghost use Rattle.std.specs.Prelude.{◌≡◌, ◌<◌, ◌^◌, ◌++◌, ◌↔◌, [], Bool, true, false, None, Some, IfOk, OnOk, OnErr, IsTrue, ℕ};
+ghost use Rattle.std.specs.Option.{option_copied};
+ghost use Rattle.tp_store.specs.Facts.{kept_shape, is_excluded, has_item};
 ghost use Rattle.tp_store.specs.Known.{NoClash, deepest, first_clash, new_facts};
-ghost use Rattle.tp_store.specs.FactMap.{facts_of_shapes, fact_seen};
+ghost use Rattle.tp_store.specs.Changes.{HaveSameShapes};
+ghost use Rattle.tp_store.specs.FactMap.{AreOfOne};
+ghost use Rattle.tp_store.specs.Nodes.{edges_in, node_from, facts_in_tree, IsTree};
 
-use crate::clash::{clashes, has_item, is_earlier, lacks_item, same_shape};
-use crate::index_bounds::IndexBounds;
-use crate::outer::{go_into, outermost};
-use indexmap::IndexMap;
+use crate::clash::{clashes, is_earlier, same_shape};
+use crate::nodes::{Nodes, copy_facts, keep_facts};
 use std::alloc::Global;
 use std::marker::Model;
-use tp_value::{Fact, NoMemory, Path, Shape};
+use tp_value::{Fact, NoMemory, Path, Shape, VarId};
 
-/// Facts without a clash, each found by its path. What is known of a path and of what lies around it takes a look-up for each of its
-/// indices; all facts are looked at only where one may clash with a new one.
+/// Facts of one variable without a clash, each found by its path. What is known of a path and of what lies around it takes a look-up for
+/// each of its indices; all facts are looked at only where one may clash with a new one.
 #[derive(Drop)]
 pub struct FactMap {
-    // The shape of each kept path.
-    shapes: IndexMap<Path, Shape>,
-    // No index of a kept path passes its bound. Where memory ran out, bounds may be higher than kept paths ask for.
-    bounds: IndexBounds,
+    // The variable of the facts; where there is no fact, any.
+    var: VarId,
+    // The shape of each kept path. Where memory ran out, there may be nodes that lead to no fact.
+    nodes: Nodes,
     // The greatest number of indices of a kept path.
     depth: u64,
+    empty: bool,
 }
 
 impl Model for FactMap {
@@ -33,15 +34,17 @@ impl Model for FactMap {
 
     ghost use Rattle.std.specs.Prelude.{◌≡◌, ◌<◌, ◌^◌};
     ghost use Rattle.tp_store.specs.Known.{NoClash, deepest};
-    ghost use Rattle.tp_store.specs.FactMap.{facts_of_shapes, AreBounded};
+    ghost use Rattle.tp_store.specs.FactMap.{is_nil};
+    ghost use Rattle.tp_store.specs.Nodes.{facts_in_tree, IsTree};
 
-    ghost view = { λ m. facts_of_shapes m.shapes.entries };
+    ghost view = { λ m. facts_in_tree m.var m.nodes };
 
     ghost invariant = { λ m.
-        NoClash (facts_of_shapes m.shapes.entries)
-        × AreBounded m.bounds (facts_of_shapes m.shapes.entries)
-        × (m.depth ≡ deepest (facts_of_shapes m.shapes.entries))
-        × (m.depth < 2 ^ 63) };
+        NoClash (facts_in_tree m.var m.nodes)
+        × IsTree m.nodes
+        × (m.depth ≡ deepest (facts_in_tree m.var m.nodes))
+        × (m.depth < 2 ^ 63)
+        × (m.empty ≡ is_nil (facts_in_tree m.var m.nodes)) };
 }
 
 // The greatest number of indices of a path of these facts.
@@ -56,43 +59,66 @@ fn depth_of(facts: &[Fact]) -> u64
     most
 }
 
-// The shape that the map has for the path.
-fn shape_in(shapes: &IndexMap<Path, Shape>, path: &Path) -> Option<Shape>
-    ensures { result ≡ kept_shape (facts_of_shapes shapes.now.entries) path.now }
+// Whether the shape has an item at each index below this bound.
+fn has_all(shape: Shape, beyond: u64) -> bool
+    ensures { IsTrue result → (k : ℕ) → k < beyond → has_item shape k ≡ true }
 {
-    shapes.get(path).copied()
+    match shape {
+        Shape::Items(n) => beyond <= u64::from(n),
+        Shape::Num(_) | Shape::Truth(_) => beyond == 0,
+    }
 }
 
-// A map of equal facts.
-fn shapes_of(alloc: Global, facts: &[Fact]) -> Result<IndexMap<Path, Shape>, NoMemory>
-    requires { NoClash facts.now }
-    ensures { IfOk result (λ shapes. facts_of_shapes shapes.entries ≡ facts.now) }
+// Whether a fact that is kept may clash with one whose path leads to the node with that number.
+fn may_clash_at(nodes: &Nodes, number: u64, fact: &Fact) -> bool
+    requires tree { IsTree nodes.now }
+    requires no_clash { NoClash (facts_in_tree fact.now.path.var nodes.now) }
+    requires way { node_from (edges_in nodes.now) fact.now.path.at 0 ≡ Some number }
+    ensures { result ≡ false
+        → first_clash (facts_in_tree fact.now.path.var nodes.now) fact.now ≡ None }
 {
-    let mut shapes = IndexMap::new(alloc);
-    for fact in facts {
-        shapes.insert(fact.path.copy()?, fact.shape)?;
+    let _count = nodes.count();
+    let Some(node) = nodes.node(number) else {
+        return true;
+    };
+    if let Some(shape) = node.shape {
+        return !same_shape(shape, fact.shape);
     }
-    Ok(shapes)
+    if !has_all(fact.shape, node.beyond) {
+        return true;
+    }
+    nodes.lacks(fact.path.at.items.as_slice())
 }
 
-// Adds equal facts to the map, or none where memory ends.
-fn append_shapes(
-    alloc: Global,
-    shapes: &mut IndexMap<Path, Shape>,
-    news: &[Fact],
-) -> Result<(), NoMemory>
-    requires { NoClash (facts_of_shapes shapes.old.entries ++ news.now) }
-    ensures ok { OnOk result (facts_of_shapes shapes.new.entries
-        ≡ facts_of_shapes shapes.old.entries ++ news.now) }
-    ensures err { OnErr result (shapes.new.entries ≡ shapes.old.entries) }
+// Whether a fact that is kept may clash with this one, of the same variable.
+fn may_clash_in(nodes: &Nodes, fact: &Fact) -> bool
+    requires tree { IsTree nodes.now }
+    requires no_clash { NoClash (facts_in_tree fact.now.path.var nodes.now) }
+    ensures { result ≡ false
+        → first_clash (facts_in_tree fact.now.path.var nodes.now) fact.now ≡ None }
 {
-    if let [fact] = news {
-        shapes.insert(fact.path.copy()?, fact.shape)?;
-        return Ok(());
+    let _count = nodes.count();
+    match nodes.find(fact.path.at.items.as_slice()) {
+        Some(number) => may_clash_at(nodes, number, fact),
+        None => nodes.lacks(fact.path.at.items.as_slice()),
     }
-    let mut more = shapes_of(alloc, news)?;
-    shapes.append(&mut more)?;
-    Ok(())
+}
+
+// Of these facts that which clashes with the other and is first: with the fewest indices, and among these with the lesser ones.
+fn find_clash<'a>(facts: &'a [Fact], fact: &Fact) -> Option<&'a Fact>
+    ensures { option_copied result ≡ first_clash facts.now fact.now }
+{
+    let mut first: Option<&'a Fact> = None;
+    for i in (0..facts.len()).rev() {
+        let kept = &facts[i];
+        if clashes(&kept.path, kept.shape, fact) {
+            first = match first {
+                Some(best) if is_earlier(&best.path, &kept.path) => Some(best),
+                _ => Some(kept),
+            };
+        }
+    }
+    first
 }
 
 impl FactMap {
@@ -101,9 +127,13 @@ impl FactMap {
         ensures { result ≡ [] }
     {
         FactMap {
-            shapes: IndexMap::new(alloc),
-            bounds: IndexBounds::new(alloc),
+            var: VarId {
+                number: 0,
+                lasting: false,
+            },
+            nodes: Nodes::new(alloc),
             depth: 0,
+            empty: true,
         }
     }
 
@@ -111,14 +141,18 @@ impl FactMap {
     pub fn is_empty(&self) -> bool
         ensures { IsTrue result ↔ (self.now ≡ []) }
     {
-        self.shapes.is_empty()
+        self.empty
     }
 
     /// The shape that is kept for the path.
     pub fn shape(&self, path: &Path) -> Option<Shape>
         ensures { result ≡ kept_shape self.now path.now }
     {
-        shape_in(&self.shapes, path)
+        if path.var != self.var {
+            return None;
+        }
+        let _count = self.nodes.count();
+        self.nodes.kept(path.at.items.as_slice())
     }
 
     /// The greatest number of indices of a kept path.
@@ -130,51 +164,18 @@ impl FactMap {
     }
 
     /// Whether a fact gives a proper prefix of the path a shape that has no such element.
-    pub fn excludes(&self, alloc: Global, path: &Path) -> Result<bool, NoMemory>
-        ensures { IfOk result (λ excluded. excluded ≡ is_excluded self.now path.now) }
+    pub fn excludes(&self, path: &Path) -> bool
+        ensures { result ≡ is_excluded self.now path.now }
     {
-        let shapes = &self.shapes;
-        let mut outer = outermost(alloc, path);
-        for index in &path.at.items {
-            if lacks_item(shape_in(shapes, &outer), *index) {
-                return Ok(true);
-            }
-            go_into(&mut outer, *index)?;
-        }
-        Ok(false)
+        let _count = self.nodes.count();
+        path.var == self.var && self.nodes.lacks(path.at.items.as_slice())
     }
 
-    // Whether a fact may clash with this one. Where a bound is too high, none does.
-    fn may_clash(&self, alloc: Global, fact: &Fact) -> Result<bool, NoMemory>
-        ensures { IfOk result (λ may. may ≡ false → first_clash self.now fact.now ≡ None) }
+    // Whether a fact may clash with this one. Where memory ran out, none may do so after all.
+    fn may_clash(&self, fact: &Fact) -> bool
+        ensures { result ≡ false → first_clash self.now fact.now ≡ None }
     {
-        if let Some(shape) = shape_in(&self.shapes, &fact.path) {
-            return Ok(!same_shape(shape, fact.shape));
-        }
-        if let Some(bound) = self.bounds.at(&fact.path) {
-            if !has_item(fact.shape, bound) {
-                return Ok(true);
-            }
-        }
-        self.excludes(alloc, &fact.path)
-    }
-
-    // The same as `first_clash`, by a look at all facts.
-    fn find_clash(&self, fact: &Fact) -> Option<(&Path, &Shape)>
-        ensures { option_map fact_seen result ≡ first_clash self.now fact.now }
-    {
-        let mut first: Option<(&Path, &Shape)> = None;
-        for i in (0..self.shapes.len()).rev() {
-            if let Some((path, shape)) = self.shapes.get_index(i) {
-                if clashes(path, *shape, fact) {
-                    first = match first {
-                        Some(best) if is_earlier(best.0, path) => Some(best),
-                        _ => Some((path, shape)),
-                    };
-                }
-            }
-        }
-        first
+        fact.path.var == self.var && may_clash_in(&self.nodes, fact)
     }
 
     /// Of the facts that clash with this one, that with the fewest indices, and among these with the lesser ones. All are looked at only
@@ -182,17 +183,15 @@ impl FactMap {
     pub fn first_clash(&self, alloc: Global, fact: &Fact) -> Result<Option<Fact>, NoMemory>
         ensures { IfOk result (λ first. first ≡ first_clash self.now fact.now) }
     {
-        if !self.may_clash(alloc, fact)? {
+        if !self.may_clash(fact) {
             return Ok(None);
         }
-        let Some((path, shape)) = self.find_clash(fact) else {
+        let facts = self.copy(alloc)?;
+        let Some(first) = find_clash(facts.as_slice(), fact) else {
             return Ok(None);
         };
-        let path = path.copy()?;
-        Ok(Some(Fact {
-            path,
-            shape: *shape,
-        }))
+        let first = first.copy()?;
+        Ok(Some(first))
     }
 
     /// Those facts of the list whose paths have no shape yet.
@@ -200,10 +199,10 @@ impl FactMap {
         ensures news { IfOk result (λ news. news.items ≡ new_facts self.now facts.items) }
         ensures apart { NoClash self.now }
     {
-        let shapes = &self.shapes;
+        let _ = &self.var;
         let mut news = Vec::new(alloc);
         for fact in facts {
-            if shape_in(shapes, &fact.path).is_none() {
+            if self.shape(&fact.path).is_none() {
                 news.push(fact)?;
             }
         }
@@ -214,35 +213,34 @@ impl FactMap {
     pub fn copy(&self, alloc: Global) -> Result<Vec<Fact>, NoMemory>
         ensures { IfOk result (λ facts. facts.items ≡ self.now) }
     {
-        let mut facts = Vec::new(alloc);
-        for (path, shape) in self.shapes.iter() {
-            let path = path.copy()?;
-            facts.push(Fact {
-                path,
-                shape: *shape,
-            })?;
-        }
-        Ok(facts)
+        copy_facts(alloc, self.var, &self.nodes)
     }
 
-    /// Adds equal facts, or none where memory ends. What needs memory comes before the facts are changed.
+    /// Adds equal facts of one variable, or none where memory ends. What needs memory comes before the facts are changed.
     pub fn add(&mut self, alloc: Global, news: &[Fact]) -> Result<(), NoMemory>
-        requires { NoClash (self.old ++ news.now) }
-        ensures ok { OnOk result (self.new ≡ self.old ++ news.now) }
+        requires apart { NoClash (self.old ++ news.now) }
+        requires of_one { AreOfOne (self.old ++ news.now) }
+        ensures apart { NoClash self.new }
+        ensures ok { OnOk result (HaveSameShapes self.new (self.old ++ news.now)) }
         ensures err { OnErr result (self.new ≡ self.old) }
     {
-        self.bounds.include_all(alloc, news)?;
-        append_shapes(alloc, &mut self.shapes, news)?;
+        let Some(first) = news.first() else {
+            return Ok(());
+        };
+        let var = first.path.var;
+        keep_facts(&mut self.nodes, alloc, news)?;
+        self.var = var;
         self.depth = self.depth.max(depth_of(news));
+        self.empty = false;
         Ok(())
     }
 
-    /// Drops all facts.
+    /// Drops all facts, and gives their memory back.
     pub fn clear(&mut self)
         ensures { self.new ≡ [] }
     {
-        self.shapes.clear();
-        self.bounds.clear();
+        self.nodes.clear();
         self.depth = 0;
+        self.empty = true;
     }
 }

@@ -94,7 +94,7 @@ fn whole_at(alloc: Global, facts: &FactMap, path: &Path, deeper: u64) -> Result<
 fn full_in(alloc: Global, facts: &FactMap, path: &Path) -> Result<Known, NoMemory>
     ensures { IfOk result (λ known. full_of known ≡ full facts.now path.now) }
 {
-    if facts.excludes(alloc, path)? {
+    if facts.excludes(path) {
         return Ok(Known::Absent);
     }
     match whole_at(alloc, facts, path, facts.depth() + 1)? {

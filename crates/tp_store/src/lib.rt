@@ -6,9 +6,8 @@ mod clash;
 mod entry;
 mod fact_map;
 mod full;
-mod index_bounds;
 mod laws;
-mod outer;
+mod nodes;
 mod store;
 
 pub use add::{AddRefusal, value_facts};

@@ -1,4 +1,7 @@
-use Rattle.std.proofs.Common.{ap, sym, ◌∙◌, ◌++◌}
+use Rattle.std.proofs.Common.{ap, sym, ◌∙◌, ◌++◌, List, subst}
+use Rattle.tp_value.specs.declared.path.Fact.{Fact}
+use Rattle.tp_store.specs.Facts.{kept_shape}
+use Rattle.tp_store.specs.FactMap.{AreOfOne}
 use Rattle.tp_store.specs.Known.{addition}
 use Rattle.tp_store.specs.Entries.{facts_there}
 use Rattle.tp_store.specs.declared.entry.Entry.{Entry}
@@ -18,5 +21,22 @@ returns-clause-added c =
 
 pub returns-clause-ok : goal.returns-clause-ok
 returns-clause-ok c =
+    let es = c.args.entries.now in
+    let i = c.args.number in
+    let is = c.index-entries-number.is in
     let e = c.index-entries-number.result in
-    set-parts c.args.entries.now c.args.number e _ c.in_ok-news.news c.requires.number c.index-entries-number.is (ap (λ (y : Entry). y.name) (sym c.index-entries-number.is)) (ap (λ (y : Entry). y.lasting) (sym c.index-entries-number.is)) (c.in_ok-news.ensures.ok ∙ ap (λ (y : Entry). y.facts ++ c.in_ok-news.news) (sym c.index-entries-number.is))
+    let f : Entry = record { name = e.name; lasting = e.lasting; facts = c.add_in.new.kept } in
+    record {
+      facts = c.add_in.new.kept;
+      parts = set-parts es i e _ c.requires.number is (ap (λ (y : Entry). y.name) (sym is)) (ap (λ (y : Entry). y.lasting) (sym is));
+      shapes = λ p. c.in_ok-news.ensures.ok p
+          ∙ ap (λ (gs : List Fact). kept_shape (gs ++ c.in_ok-news.news) p) (ap (λ (y : Entry). y.facts) (sym is) ∙ ap facts_there (sym (part_read es i e c.requires.number is)));
+      no_clash = c.in_ok-news.ensures.apart;
+    }
+
+pub add_in-requires-clause-of_one : goal.add_in-requires-clause-of_one
+add_in-requires-clause-of_one c =
+    let es = c.args.entries.now in
+    let is = c.index-entries-number.is in
+    let P : List Fact → Type 0 = λ gs. AreOfOne (gs ++ c.args.facts.items) in
+    subst P (ap facts_there (part_read es c.args.number c.index-entries-number.result c.requires.number is) ∙ ap (λ (y : Entry). y.facts) is) c.requires.of_one

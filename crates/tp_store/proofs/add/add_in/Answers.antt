@@ -1,15 +1,25 @@
 use Rattle.std.proofs.Common.{◌≡◌, ◌++◌, List, ap, sym, ◌∙◌, subst}
 use Rattle.tp_value.specs.declared.path.Fact.{Fact}
 use Rattle.tp_store.specs.Known.{NoClash, new_facts, addition, adds}
+use Rattle.tp_store.specs.FactMap.{AreOfOne}
 use Rattle.tp_store.proofs.Adding.{NoClash-adds}
+use Rattle.tp_store.proofs.Filing.{one_of_new}
 use Rattle.tp_store.proofs.add.add_in.Goals as goal
 
-pub add-requires : goal.add-requires
-add-requires c =
+pub add-requires-clause-apart : goal.add-requires-clause-apart
+add-requires-clause-apart c =
     let kept = c.args.kept.now in
     let facts = c.args.facts.items in
     let Q : List Fact → Type 0 = λ fs. NoClash (kept ++ fs) in
     let same : c.as_slice-2.result.now ≡ new_facts kept facts = c.as_slice-2.ensures.value ∙ c.in_ok-news.ensures.news in
     let added : addition kept facts ≡ adds (new_facts kept facts) =
     ap (addition kept) (sym c.as_slice.ensures.value) ∙ c.in_ok-check_in.ensures.ok ∙ ap (λ fs. adds (new_facts kept fs)) c.as_slice.ensures.value in
-    subst Q (sym same) (NoClash-adds kept facts (new_facts kept facts) added c.in_ok-news.ensures.apart c.requires)
+    subst Q (sym same) (NoClash-adds kept facts (new_facts kept facts) added c.in_ok-news.ensures.apart c.requires.apart)
+
+pub add-requires-clause-of_one : goal.add-requires-clause-of_one
+add-requires-clause-of_one c =
+    let kept = c.args.kept.now in
+    let facts = c.args.facts.items in
+    let same : c.as_slice-2.result.now ≡ new_facts kept facts = c.as_slice-2.ensures.value ∙ c.in_ok-news.ensures.news in
+    let O : List Fact → Type 0 = λ fs. AreOfOne (kept ++ fs) in
+    subst O (sym same) (one_of_new kept facts c.requires.of_one)

@@ -1,28 +1,27 @@
-use Rattle.std.proofs.Common.{◌≡◌, ℕ, ◌<◌, ◌≤◌, List, length, get_or, ap, ap₂, sym, ◌∙◌, subst, arith}
+use Rattle.std.proofs.Common.{◌≡◌, ap, sym, ◌∙◌}
 use Rattle.tp_value.specs.declared.path.Path.{Path}
-use Rattle.tp_value.specs.declared.path.Fact.{Fact}
-use Rattle.tp_store.specs.Facts.{kept_shape}
-use Rattle.tp_store.specs.Known.{NoClash}
-use Rattle.tp_store.specs.FactMap.{lacks_item}
-use Rattle.tp_store.proofs.FactMapLemmas.{excluded_here, none_excludes}
+use Rattle.tp_store.specs.Facts.{is_excluded}
+use Rattle.tp_store.specs.Nodes.{edges_in, nodes_in, routes, lacks_way}
+use Rattle.tp_store.proofs.Growth.{length_nodes}
+use Rattle.tp_store.proofs.Ways.{lacks_is}
+use Rattle.tp_store.proofs.Clashes.{same_var, other_var, other_excluded}
 use Rattle.tp_store.proofs.fact_map.FactMap.excludes.Goals as goal
 
-pub returns-then-lacks_item : goal.returns-then-lacks_item
-returns-then-lacks_item c =
-    let p = c.args.path.now in
-    let i = c.loop-index.index-index in
-    let items : c.deref-index-items.result.now ≡ p.at = c.deref-index-items.ensures.value ∙ ap (λ (q : Path). q.at) c.path.view_is in
-    let P : List ℕ → Type 0 = λ xs. i < length xs in
-    let shape = c.shape_in.ensures ∙ ap₂ kept_shape c.self.view_is c.loop-index.invariant.outer in
-    sym (excluded_here c.args.self.now p i (subst P items c.loop-index-test.true)
-    (sym (c.lacks_item.ensures ∙ ap₂ lacks_item shape (ap (λ xs. get_or xs i 0) items)) ∙ c.if-lacks_item.true))
+pub returns-then-eq : goal.returns-then-eq
+returns-then-eq c =
+    let m = c.self.inside.nodes in
+    let q = c.args.path.now in
+    let x = c.self.inside.var in
+    let same = same_var c.path.inside.0.0 x (sym c.eq.ensures ∙ c.if-eq.true) in
+    let v : q.var ≡ x = sym (ap (λ (p : Path). p.var) c.path.view_is) ∙ same in
+    let at = c.as_slice.ensures.value ∙ ap (λ (p : Path). p.at) c.path.view_is in
+    c.lacks.ensures ∙ ap (λ ks. lacks_way (edges_in m) (nodes_in m) ks 0) at
+    ∙ lacks_is x (edges_in m) (nodes_in m) c.self.invariant.1.rooted c.count-count.ensures.unique (length_nodes m) q v c.self.invariant.0 ∙ ap (λ fs. is_excluded fs q) c.self.view_is
 
-pub returns : goal.returns
-returns c =
-    let p = c.args.path.now in
-    let i = c.loop-index.index-index in
-    let items : c.deref-index-items.result.now ≡ p.at = c.deref-index-items.ensures.value ∙ ap (λ (q : Path). q.at) c.path.view_is in
-    let P : List ℕ → Type 0 = λ xs. length xs ≤ i in
-    let all : length p.at ≤ i = subst P items c.loop-index-test.false in
-    let C : List Fact → Type 0 = λ fs. NoClash fs in
-    sym (none_excludes c.args.self.now p (subst C c.self.view_is c.self.invariant.0) (λ n l. c.loop-index.invariant.none n (omega arith)))
+pub returns-else-eq : goal.returns-else-eq
+returns-else-eq c =
+    let m = c.self.inside.nodes in
+    let q = c.args.path.now in
+    let other = other_var c.path.inside.0.0 c.self.inside.var (sym c.eq.ensures ∙ c.if-eq.false) in
+    c.if-eq.false ∙ sym (ap (λ fs. is_excluded fs q) (sym c.self.view_is)
+    ∙ other_excluded c.self.inside.var (routes (edges_in m)) (nodes_in m) q (λ e. other (ap (λ (p : Path). p.var) c.path.view_is ∙ e)))

@@ -2,7 +2,8 @@ use Rattle.std.proofs.Common.{sym, subst, List}
 use Rattle.tp_value.specs.declared.path.Fact.{Fact}
 use Rattle.tp_value.specs.Read.{tree}
 use Rattle.tp_store.specs.Known.{NoClash}
-use Rattle.tp_store.specs.Entries.{parts_in, AreOf}
+use Rattle.tp_store.specs.Entries.{parts_in}
+use Rattle.tp_store.specs.FactMap.{AreOf}
 use Rattle.tp_store.proofs.Filing.{sound_view}
 use Rattle.tp_store.proofs.Separate.{value_apart, value_of_variable}
 use Rattle.tp_store.proofs.store.Store.add.Goals as goal

@@ -1,7 +1,7 @@
 use Rattle.std.proofs.Common.{sym, ◌∙◌, subst, List}
 use Rattle.tp_value.specs.declared.path.Fact.{Fact}
 use Rattle.tp_value.specs.Read.{tree}
-use Rattle.tp_store.specs.Entries.{AreOf}
+use Rattle.tp_store.specs.FactMap.{AreOf}
 use Rattle.tp_store.proofs.Separate.{value_of_variable}
 use Rattle.tp_store.proofs.store.Store.check.Goals as goal
 

@@ -1,0 +1,124 @@
+-- Facts that are kept in turn, each at its node.
+use Rattle.std.proofs.Common.{◌≡◌, inl, inr, ℕ, zero, suc, ◌+◌, ◌<◌, ◌≤◌, Bool, true, false, List, [], ◌∷◌, ◌++◌, length, take, drop, get_or, slice_get, Option, Some, None, refl, ap, ap₂, sym, ◌∙◌, subst, arith, append-nil, append_assoc}
+use Rattle.std.specs.List.{IsDistinct}
+use Rattle.tp_value.specs.declared.path.VarId.{VarId}
+use Rattle.tp_value.specs.declared.path.Path.{Path}
+use Rattle.tp_value.specs.declared.path.Fact.{Fact}
+use Rattle.tp_store.specs.Facts.{same_path, clash, kept_shape}
+use Rattle.tp_store.specs.Known.{NoClash, clashes_with_some}
+use Rattle.tp_store.specs.FactMap.{is_nil}
+use Rattle.tp_store.specs.Changes.{HaveSameShapes}
+use Rattle.tp_store.specs.FactMap.{AreOf, AreOfOne}
+use Rattle.tp_store.specs.declared.nodes.Node.{Node}
+use Rattle.tp_store.specs.Nodes.{facts_along}
+use Rattle.tp_store.proofs.Paths.{same_path-sym, clash-sym}
+use Rattle.tp_store.proofs.Members.{In, in_left, in_right, in_append, kept_none, none_kept, meets_none, none_meets}
+use Rattle.tp_store.proofs.Same.{AgreeAt, same_kept}
+use Rattle.tp_store.proofs.Filing.{of_in}
+use Rattle.tp_store.proofs.Trees.{AddsFact, NoClash-insert, of_tree, none_of_any}
+
+-- The facts are those of the old ones and of the news, in some order, and don't clash.
+pub record AreKept (old news new : List Fact) : Type 0 where
+  pub no_clash : NoClash new
+  pub there : (g : Fact) → In g new → In g (old ++ news)
+  pub back : (g : Fact) → In g (old ++ news) → In g new
+
+pub kept_nothing : (old : List Fact) → NoClash old → AreKept old [] old
+kept_nothing old n =
+    let e : old ++ [] ≡ old = append-nil old in
+    record {
+      no_clash = n;
+      there = λ g i. in_left g old [] i;
+      back = λ g i. let P : List Fact → Type 0 = λ xs. In g xs in subst P e i;
+    }
+
+-- the first of some facts without a clash
+pub front_apart : (xs ys : List Fact) → NoClash (xs ++ ys) → NoClash xs
+front_apart [] ys n = tt
+front_apart (x ∷ xs) ys n = (
+  kept_none xs x.path (λ g i. none_kept (xs ++ ys) x.path n.0 g (in_left g xs ys i)),
+  meets_none xs x (λ g i. none_meets (xs ++ ys) x n.1 g (in_left g xs ys i)),
+  front_apart xs ys n.2,
+)
+
+-- the facts before one of a list without a clash stand apart from it
+apart_before : (xs ys : List Fact) (f : Fact) → NoClash (xs ++ f ∷ ys) → (g : Fact) → In g xs → (same_path g.path f.path ≡ false) × (clash g f ≡ false)
+apart_before [] ys f n g i = absurd i
+apart_before (x ∷ xs) ys f n g (inl e) =
+    let there : In f (xs ++ f ∷ ys) = in_right f xs (f ∷ ys) (inl refl) in (
+      ap (λ (h : Fact). same_path h.path f.path) (sym e) ∙ same_path-sym x.path f.path ∙ none_kept (xs ++ f ∷ ys) x.path n.0 f there,
+      ap (λ (h : Fact). clash h f) (sym e) ∙ clash-sym x f ∙ none_meets (xs ++ f ∷ ys) x n.1 f there,
+    )
+apart_before (x ∷ xs) ys f n g (inr i) = apart_before xs ys f n.2 g i
+
+module _ (old news : List Fact) (i : ℕ) (f : Fact) (new : List Fact) (apart : NoClash (old ++ news)) (split : news ≡ take i news ++ f ∷ drop (i + 1) news) (kept : AreKept old (take i news) new) where
+  whole : NoClash ((old ++ take i news) ++ f ∷ drop (i + 1) news)
+  whole =
+      let N : List Fact → Type 0 = λ fs. NoClash fs in
+      subst N (ap (λ fs. old ++ fs) split ∙ sym (append_assoc old (take i news) (f ∷ drop (i + 1) news))) apart
+
+  before : (g : Fact) → In g new → (same_path g.path f.path ≡ false) × (clash g f ≡ false)
+  before g j = apart_before (old ++ take i news) (drop (i + 1) news) f whole g (kept.there g j)
+
+  pub absent_next : kept_shape new f.path ≡ None
+  absent_next = kept_none new f.path (λ g j. (before g j).0)
+
+  apart_next : clashes_with_some new f ≡ false
+  apart_next = meets_none new f (λ g j. (before g j).1)
+
+  pub kept_next : (more : List Fact) → AddsFact new f more → AreKept old (take i news ++ f ∷ []) more
+  kept_next more a =
+      let N : List Fact → Type 0 = λ fs. NoClash fs in
+      let K : List Fact → Type 0 = λ fs. kept_shape fs f.path ≡ None in
+      let C : List Fact → Type 0 = λ fs. clashes_with_some fs f ≡ false in
+      let same : (old ++ take i news) ++ f ∷ [] ≡ old ++ (take i news ++ f ∷ []) = append_assoc old (take i news) (f ∷ []) in
+      record {
+        no_clash = subst N (sym a.is) (NoClash-insert a.front a.back f (subst N a.was kept.no_clash) (subst K a.was absent_next) (subst C a.was apart_next));
+        there = λ g j.
+            (let I : List Fact → Type 0 = λ fs. In g fs in
+            let was : In g (a.front ++ a.back) → In g (old ++ (take i news ++ f ∷ [])) = λ m.
+            subst I same (in_left g (old ++ take i news) (f ∷ []) (kept.there g (subst I (sym a.was) m))) in
+            elim (in_append g a.front (f ∷ a.back) (subst I a.is j)) [
+              | inl m ↦ was (in_left g a.front a.back m)
+              | inr (inl e) ↦ subst I same (in_right g (old ++ take i news) (f ∷ []) (inl e))
+              | inr (inr m) ↦ was (in_right g a.front a.back m)
+            ]);
+        back = λ g j.
+            (let I : List Fact → Type 0 = λ fs. In g fs in
+            let put : In g (a.front ++ a.back) → In g (a.front ++ f ∷ a.back) = λ m.
+            elim (in_append g a.front a.back m) [
+              | inl k ↦ in_left g a.front (f ∷ a.back) k
+              | inr k ↦ in_right g a.front (f ∷ a.back) (inr k)
+            ] in
+            elim (in_append g (old ++ take i news) (f ∷ []) (subst I (sym same) j)) [
+              | inl m ↦ subst I (sym a.is) (put (subst I a.was (kept.back g m)))
+              | inr (inl e) ↦ subst I (sym a.is) (in_right g a.front (f ∷ a.back) (inl e))
+              | inr (inr m) ↦ absurd m
+            ]);
+      }
+
+-- so they give each path the same shape
+pub kept_shapes : (old news new : List Fact) → NoClash (old ++ news) → AreKept old news new → HaveSameShapes new (old ++ news)
+kept_shapes old news new n k p = same_kept new (old ++ news) p n (record { there = λ f e i. k.there f i; back = λ f e i. k.back f i })
+
+-- the variable of the news is that of the facts, or there are none
+pub var_of_news : (x : VarId) (rs : List (List ℕ)) (ns : List Node) (f : Fact) (fs : List Fact) → AreOfOne (facts_along x rs ns ++ f ∷ fs)
+    → facts_along f.path.var rs ns ≡ facts_along x rs ns
+var_of_news x rs ns f fs one = by (facts_along x rs ns) refl one
+  where
+    by : (gs : List Fact) → facts_along x rs ns ≡ gs → AreOfOne (gs ++ f ∷ fs) → facts_along f.path.var rs ns ≡ facts_along x rs ns
+    by [] e one = none_of_any x f.path.var rs ns e ∙ sym e
+    by (g ∷ gs) e one =
+        let I : List Fact → Type 0 = λ hs. In g hs in
+        let mine : g.path.var ≡ x = of_tree x rs ns g (subst I (sym e) (inl refl)) in
+        let all = of_in one.0 (g ∷ gs ++ f ∷ fs) one.1 in
+        let same : f.path.var ≡ x = all f (in_right f (g ∷ gs) (f ∷ fs) (inl refl)) ∙ sym (all g (inl refl)) ∙ mine in
+        ap (λ y. facts_along y rs ns) same
+
+pub is_nil-of : (fs : List Fact) → is_nil fs ≡ true → fs ≡ []
+is_nil-of [] h = refl
+is_nil-of (f ∷ fs) h = absurd (cc h)
+
+pub not_nil : (fs : List Fact) (f : Fact) → In f fs → false ≡ is_nil fs
+not_nil [] f i = absurd i
+not_nil (g ∷ fs) f i = refl

@@ -1,0 +1,151 @@
+-- The facts of a variable as a tree: its nodes, and what is kept at them.
+use Rattle.std.specs.Prelude.{◌≡◌, ◌<◌, ℕ, zero, suc, Bool, ◌&&◌, ◌||◌, eqb, false, List, [], ◌∷◌, ◌++◌, Option, Some, None, slice_get, slice_index_or, length}
+use Rattle.std.specs.List.{position}
+use Rattle.std.specs.Option.{option_map}
+use Rattle.std.specs.Map.{keys_of, values_of}
+use Rattle.tp_value.specs.declared.value.Shape.{Shape}
+use Rattle.tp_value.specs.declared.path.VarId.{VarId}
+use Rattle.tp_value.specs.declared.path.Path.{Path}
+use Rattle.tp_value.specs.declared.path.Fact.{Fact}
+use Rattle.tp_store.specs.Facts.{fact}
+use Rattle.tp_store.specs.FactMap.{lacks_item, AreOf}
+use Rattle.tp_store.specs.Known.{NoClash}
+use Rattle.tp_store.specs.Changes.{HaveSameShapes}
+use Rattle.tp_store.specs.declared.nodes.Edge.{Edge}
+use Rattle.tp_store.specs.declared.nodes.Node.{Node}
+use Rattle.tp_store.specs.declared.nodes.Nodes.{Nodes}
+
+abbrev pub edge : ℕ → ℕ → Edge
+edge n k = record { node = n; index = k }
+
+abbrev pub same_edge : Edge → Edge → Bool
+same_edge e f = eqb e.node f.node && eqb e.index f.index
+
+-- the edges, of which the i-th leads to node i + 1; the root is node 0
+abbrev pub edges_in : Nodes → List Edge
+edges_in t = keys_of t.below.entries
+
+-- the nodes by their numbers
+abbrev pub nodes_in : Nodes → List Node
+nodes_in t = t.root ∷ values_of t.below.entries
+
+-- the child of a node with this index
+abbrev pub child : List Edge → ℕ → ℕ → Option ℕ
+child es n k = option_map suc (position (same_edge (edge n k)) es)
+
+abbrev pub node_or_none : Option ℕ → (ℕ → Option ℕ) → Option ℕ
+node_or_none None f = None
+node_or_none (Some n) f = f n
+
+-- the node that these indices lead to
+abbrev pub node_from : List Edge → List ℕ → ℕ → Option ℕ
+node_from es [] n = Some n
+node_from es (k ∷ ks) n = node_or_none (child es n k) (node_from es ks)
+
+-- the indices that lead to the nodes, where these are those of the nodes before them
+abbrev pub routes_from : List (List ℕ) → List Edge → List (List ℕ)
+routes_from known [] = known
+routes_from known (e ∷ es) =
+    routes_from (known ++ (slice_index_or known e.node [] ++ e.index ∷ []) ∷ []) es
+
+-- the indices that lead to each node, from the root on
+abbrev pub routes : List Edge → List (List ℕ)
+routes es = routes_from ([] ∷ []) es
+
+-- each edge starts at a node before the one that it leads to
+abbrev pub IsRooted : ℕ → List Edge → Type 0
+IsRooted n [] = Unit {0}
+IsRooted n (e ∷ es) = (e.node < n) × IsRooted (suc n) es
+
+abbrev pub path_along : VarId → List ℕ → Path
+path_along x ks = record { var = x; at = ks }
+
+-- the fact of a node, where it has a shape
+abbrev pub fact_where : VarId → List ℕ → Option Shape → List Fact
+fact_where x ks None = []
+fact_where x ks (Some sh) = fact (path_along x ks) sh ∷ []
+
+-- the facts that are kept at the nodes to which these indices lead
+abbrev pub facts_along : VarId → List (List ℕ) → List Node → List Fact
+facts_along x [] ns = []
+facts_along x (r ∷ rs) [] = []
+facts_along x (r ∷ rs) (n ∷ ns) = fact_where x r n.shape ++ facts_along x rs ns
+
+abbrev pub facts_in_tree : VarId → Nodes → List Fact
+facts_in_tree x t = facts_along x (routes (edges_in t)) (nodes_in t)
+
+-- what is kept at a node
+abbrev pub shape_among : List Node → ℕ → Option Shape
+shape_among [] j = None
+shape_among (n ∷ ns) zero = n.shape
+shape_among (n ∷ ns) (suc j) = shape_among ns j
+
+-- what is kept at a node, where there is one
+abbrev pub shape_found : List Node → Option ℕ → Option Shape
+shape_found ns None = None
+shape_found ns (Some n) = shape_among ns n
+
+-- a number that the indices of a node's children are less than
+abbrev pub beyond_among : List Node → ℕ → ℕ
+beyond_among [] j = 0
+beyond_among (n ∷ ns) zero = n.beyond
+beyond_among (n ∷ ns) (suc j) = beyond_among ns j
+
+-- the nodes after one of them was replaced
+abbrev pub with_node : List Node → ℕ → Node → List Node
+with_node [] j v = []
+with_node (n ∷ ns) zero v = v ∷ ns
+with_node (n ∷ ns) (suc j) v = n ∷ with_node ns j v
+
+-- the nodes after one of them got a shape
+abbrev pub with_shape_at : List Node → ℕ → Shape → List Node
+with_shape_at ns j sh =
+    with_node ns j (record { shape = Some sh; beyond = beyond_among ns j })
+
+-- each child's index is less than its parent's bound
+abbrev pub AreBeyond : List Edge → List Node → Type 0
+AreBeyond es ns =
+    (i : ℕ) (e : Edge) → slice_get es i ≡ Some e → e.index < beyond_among ns e.node
+
+-- The nodes are a tree, with bounds of their children.
+pub record IsTree (t : Nodes) : Type 0 where
+  pub rooted : IsRooted 1 (edges_in t)
+  pub beyond : AreBeyond (edges_in t) (nodes_in t)
+
+-- Nodes may have come to a tree, and no fact.
+pub record HasMoreNodes (old new : Nodes) : Type 0 where
+  pub more : List Edge
+  pub edges : edges_in new ≡ edges_in old ++ more
+  pub facts : (x : VarId) → facts_in_tree x new ≡ facts_in_tree x old
+
+-- The bound of a node is past this index, and the rest is as it was.
+pub record IsRaised (old : Nodes) (node index : ℕ) (new : Nodes) : Type 0 where
+  pub tree : IsTree new
+  pub edges : edges_in new ≡ edges_in old
+  pub long : length (nodes_in new) ≡ length (nodes_in old)
+  pub facts : (x : VarId) → facts_in_tree x new ≡ facts_in_tree x old
+  pub bound : index < beyond_among (nodes_in new) node
+
+abbrev pub lacks_below : Option ℕ → (ℕ → Bool) → Bool
+lacks_below None f = false
+lacks_below (Some n) f = f n
+
+-- a shape on the way that these indices lead has no item with the next of them
+abbrev pub lacks_way : List Edge → List Node → List ℕ → ℕ → Bool
+lacks_way es ns [] n = false
+lacks_way es ns (k ∷ ks) n =
+    lacks_item (shape_among ns n) k || lacks_below (child es n k) (lacks_way es ns ks)
+
+-- The facts are kept in a tree beside those that were, where they are all of one variable and
+-- don't clash.
+abbrev pub KeepsAll : Nodes → List Fact → Nodes → Type 0
+KeepsAll old fs new =
+    (x : VarId) → AreOf x fs → NoClash (facts_in_tree x old ++ fs)
+    → NoClash (facts_in_tree x new)
+    × HaveSameShapes (facts_in_tree x new) (facts_in_tree x old ++ fs)
+
+-- each fact's path leads to the node with the number beside it
+abbrev pub AreWays : List Edge → List Fact → List ℕ → Type 0
+AreWays es [] ns = Unit {0}
+AreWays es (f ∷ fs) [] = ⊥
+AreWays es (f ∷ fs) (n ∷ ns) = (node_from es f.path.at 0 ≡ Some n) × AreWays es fs ns
