@@ -1,1 +1,5 @@
+pub mod Edits
+pub mod Passing
+pub mod Planes
 pub mod RunLemmas
+pub mod Words
