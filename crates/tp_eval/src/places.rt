@@ -3,7 +3,7 @@ ghost use Rattle.std.specs.Prelude.{◌≡◌, [], slice_get};
 ghost use Rattle.std.specs.Option.{option_map};
 ghost use Rattle.tp_value.specs.Tree.{num};
 ghost use Rattle.tp_value.specs.Read.{tree};
-ghost use Rattle.tp_value.specs.Shape.{item_of, item_at};
+ghost use Rattle.tp_value.specs.Shape.{item_at};
 ghost use Rattle.tp_kernel.specs.Read.{binding_of, bindings_of};
 ghost use Rattle.tp_store.specs.Facts.{kept_shape};
 ghost use Rattle.tp_store.specs.Answers.{full_of};
@@ -16,7 +16,7 @@ use std::alloc::Global;
 use std::rc::Rc;
 use tp_kernel::{Binding, Env, FaultKind, LimitKind};
 use tp_store::{Known, Store};
-use tp_value::{INDEX_LIMIT, Indices, Number, PATH_LIMIT, Path, Shape, Value, VarId};
+use tp_value::{INDEX_LIMIT, Indices, Number, PATH_LIMIT, Path, Shape, Value, VarId, item};
 
 /// What a name followed by indices is: a path, or an element of a known value at these indices.
 #[derive(Drop)]
@@ -99,22 +99,6 @@ pub fn farther(place: Place, index: u32) -> Result<Place, Halt>
             at.items.push(index)?;
             Ok(Place::Inside(value, at))
         }
-    }
-}
-
-fn item(value: &Value, at: u32) -> Option<&Value>
-    ensures { option_map (λ v. tree v.now) result ≡ item_of (tree value.now) at }
-{
-    match value {
-        Value::List(all) => {
-            let place = at as usize;
-            if place < all.items.len() {
-                Some(&all.items[place])
-            } else {
-                None
-            }
-        }
-        Value::Num(_) | Value::Truth(_) => None,
     }
 }
 

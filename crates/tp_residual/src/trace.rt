@@ -12,7 +12,7 @@ use crate::scene::{Residue, append_scene};
 use crate::words::append_decimal;
 use std::alloc::Global;
 use tp_kernel::Defs;
-use tp_show::Picture;
+use tp_show::{Picture, piece_for};
 use tp_slots::Scene;
 use tp_store::Store;
 use tp_value::{NoMemory, Text};
@@ -90,8 +90,7 @@ pub fn trace_text(
         (option_map (λ s. scene_of s.now) scene.entry))) }
     ensures err { OnErr result (out.new ≡ out.old) }
 {
-    let mut text = out.copy()?;
-    append_trace(&mut text, alloc, picture.reductions, scene, store, defs)?;
-    *out = text;
-    Ok(())
+    let mut piece = piece_for(out);
+    append_trace(&mut piece, alloc, picture.reductions, scene, store, defs)?;
+    out.append(piece.as_slice())
 }

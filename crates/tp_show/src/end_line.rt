@@ -3,7 +3,7 @@ ghost use Rattle.std.specs.Prelude.{◌≡◌, ◌++◌, OnOk, OnErr};
 ghost use Rattle.tp_show.specs.EndLine.{end_line, last_words, limit_text, reductions_text, state_text};
 
 use crate::clash::{append_cell, append_clash};
-use crate::text::append_counted;
+use crate::text::{append_counted, piece_for};
 use crate::turn::Turn;
 use tp_kernel::LimitKind;
 use tp_store::Store;
@@ -111,8 +111,7 @@ pub fn end_text(
         (out.new ≡ out.old ++ end_line globals.now store.now.variables reductions turn.now) }
     ensures err { OnErr result (out.new ≡ out.old) }
 {
-    let mut text = out.copy()?;
-    append_end(&mut text, globals, store, reductions, turn)?;
-    *out = text;
-    Ok(())
+    let mut piece = piece_for(out);
+    append_end(&mut piece, globals, store, reductions, turn)?;
+    out.append(piece.as_slice())
 }

@@ -24,6 +24,7 @@ pub use line::picture_text;
 pub use line_part::{LinePart, LineParts};
 pub use named_fact::NamedFact;
 pub use parts::known_parts;
+pub use text::piece_for;
 pub use tp_scene::{Cell, Clash};
 pub use trace::{Trace, TraceRefusal, TraceState, read_trace};
 pub use trace_laws::{

@@ -10,7 +10,7 @@ ghost use Rattle.tp_show.specs.Line.{picture_lines, show_line, shown_value, stat
 ghost use Rattle.tp_show.specs.Told.{ArePartsInRange, AreShowsInRange, IsPartInRange, IsPictureInRange};
 
 use crate::line_part::{LinePart, LineParts};
-use crate::text::{append_counted, append_path};
+use crate::text::{append_counted, append_path, piece_for};
 use crate::turn::Picture;
 use tp_decide::{Shows, Values};
 use tp_value::{Globals, NoMemory, Text, Value, write_value};
@@ -98,8 +98,7 @@ pub fn picture_text(picture: &Picture, globals: &Globals, out: &mut Text) -> Res
     ensures range { OnOk result (IsPictureInRange picture.now) }
     ensures err { OnErr result (out.new ≡ out.old) }
 {
-    let mut text = out.copy()?;
-    append_picture(&mut text, picture, globals)?;
-    *out = text;
-    Ok(())
+    let mut piece = piece_for(out);
+    append_picture(&mut piece, picture, globals)?;
+    out.append(piece.as_slice())
 }

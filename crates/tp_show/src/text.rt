@@ -1,5 +1,5 @@
 // How numbers, paths and shapes are written.
-ghost use Rattle.std.specs.Prelude.{◌≡◌, ◌++◌, All, OnOk};
+ghost use Rattle.std.specs.Prelude.{◌≡◌, ◌++◌, [], All, OnOk};
 ghost use Rattle.std.specs.Fmt.{decimal, signed_decimal};
 ghost use Rattle.std.specs.List.{flat_map};
 ghost use Rattle.tp_show.specs.Told.{FitsIn64Bits};
@@ -7,6 +7,13 @@ ghost use Rattle.tp_show.specs.Texts.{global_name, index_text, path_text, openin
 
 use itoa::Buffer;
 use tp_value::{Globals, Indices, NoMemory, Number, Path, Shape, Text};
+
+/// An empty text for a piece that is to be appended whole to this one, or not at all.
+pub fn piece_for(out: &Text) -> Text
+    ensures { result ≡ [] }
+{
+    Text::new(*out.items.allocator())
+}
 
 fn append_number(out: &mut Text, n: u64) -> Result<(), NoMemory>
     ensures { OnOk result (out.new ≡ out.old ++ decimal n) }

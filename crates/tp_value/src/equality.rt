@@ -41,8 +41,8 @@ fn whole_shape(value: &Value) -> Shape
     }
 }
 
-// The item of a list at an index.
-fn item(value: &Value, at: u32) -> Option<&Value>
+/// The item of a list at an index; none behind its last one, and none of a number or a truth value.
+pub fn item(value: &Value, at: u32) -> Option<&Value>
     ensures { option_map (λ v. tree v.now) result ≡ item_of (tree value.now) at }
 {
     match value {

@@ -16,7 +16,7 @@ mod text;
 mod value;
 mod writing;
 
-pub use equality::{same, same_tree_is_equality, shape_at};
+pub use equality::{item, same, same_tree_is_equality, shape_at};
 pub use globals::Globals;
 pub use limits::{
     DEPTH_LIMIT, INDEX_LIMIT, ITEM_LIMIT, LENGTH_LIMIT, PATH_LIMIT, is_within_list_limit,
