@@ -39,21 +39,21 @@ pair_ok : {A : Type 0} (a : CheckOutcome A) (P Q : A → Type 0) → IfOk a P �
 pair_ok (Ok a) P Q p q = (p, q)
 pair_ok (Err e) P Q p q = tt
 
-mapped_ok : {A B : Type 0} (g : A → B) (a : CheckOutcome A) (P : A → Type 0) (Q : B → Type 0) → IfOk a P → ((x : A) → P x → Q (g x)) → IfOk (mapped g a) Q
+pub mapped_ok : {A B : Type 0} (g : A → B) (a : CheckOutcome A) (P : A → Type 0) (Q : B → Type 0) → IfOk a P → ((x : A) → P x → Q (g x)) → IfOk (mapped g a) Q
 mapped_ok g (Ok a) P Q p h = h a p
 mapped_ok g (Err e) P Q p h = tt
 
-both_ok : {A B C : Type 0} (g : A → B → C) (a : CheckOutcome A) (b : CheckOutcome B) (P : A → Type 0) (Q : B → Type 0) (R : C → Type 0)
+pub both_ok : {A B C : Type 0} (g : A → B → C) (a : CheckOutcome A) (b : CheckOutcome B) (P : A → Type 0) (Q : B → Type 0) (R : C → Type 0)
     → IfOk a P → IfOk b Q → ((x : A) (y : B) → P x → Q y → R (g x y)) → IfOk (both g a b) R
 both_ok g (Ok a) b P Q R p q h = mapped_ok (g a) b Q R q (λ y fits. h a y p fits)
 both_ok g (Err e) b P Q R p q h = tt
 
-three_ok : {A B C D : Type 0} (g : A → B → C → D) (a : CheckOutcome A) (b : CheckOutcome B) (c : CheckOutcome C) (P : A → Type 0) (Q : B → Type 0) (R : C → Type 0) (S : D → Type 0)
+pub three_ok : {A B C D : Type 0} (g : A → B → C → D) (a : CheckOutcome A) (b : CheckOutcome B) (c : CheckOutcome C) (P : A → Type 0) (Q : B → Type 0) (R : C → Type 0) (S : D → Type 0)
     → IfOk a P → IfOk b Q → IfOk c R → ((x : A) (y : B) (z : C) → P x → Q y → R z → S (g x y z)) → IfOk (three g a b c) S
 three_ok g (Ok a) b c P Q R S p q r h = both_ok (g a) b c Q R S q r (λ y z u v. h a y z p u v)
 three_ok g (Err e) b c P Q R S p q r h = tt
 
-if_ok : {A : Type 0} (b : Bool) (x y : CheckOutcome A) (P : A → Type 0) → (b ≡ true → IfOk x P) → IfOk y P → IfOk (if b then x else y) P
+pub if_ok : {A : Type 0} (b : Bool) (x y : CheckOutcome A) (P : A → Type 0) → (b ≡ true → IfOk x P) → IfOk y P → IfOk (if b then x else y) P
 if_ok true x y P p q = p refl
 if_ok false x y P p q = q
 
@@ -104,11 +104,11 @@ binder_below (y ∷ outer) x i e = binder_by outer x i (bytes_eq x y) e (binder_
 -- ---- what calls find
 
 -- a definition as its signature says it: with these parameters, and with an expression where it is a state definition
-abbrev IsAsSigned : Signature → Definition → Type 0
+abbrev pub IsAsSigned : Signature → Definition → Type 0
 IsAsSigned s d = (d.parameters ≡ s.parameters) × (s.is_state ≡ true → (e : ExprTree) × (d.expr ≡ Some e))
 
 -- what a call finds among the signatures stands with that number among the definitions
-abbrev AreDefined : List Definition → List Signature → Type 0
+abbrev pub AreDefined : List Definition → List Signature → Type 0
 AreDefined defs signatures = (x : List ℕ) (c : Called) → called_of signatures x ≡ Some c → (d : Definition) × (slice_get defs c.number ≡ Some d) × IsAsSigned c.signature d
 
 expr_there : (b : Bool) (names : VisibleNames) (body : PhraseTree) → IfOk (expr_where b names body) (λ e. b ≡ true → (x : ExprTree) × (e ≡ Some x))
@@ -167,7 +167,7 @@ mutual
 -- ---- expressions
 
 module _ (defs : List Definition) where
-  abbrev Fits : VisibleNames → ExprTree → Type 0
+  abbrev pub Fits : VisibleNames → ExprTree → Type 0
   Fits names e = ExprFits defs (kinds_of names.globals) e (length names.scope)
 
   abbrev AllFit : VisibleNames → List ExprTree → Type 0
@@ -184,7 +184,7 @@ module _ (defs : List Definition) where
   ArgumentsFit names xs es = AreArguments (exprs_of es) xs × AllFit names es
 
   -- what calls find where these names can be read
-  abbrev Known : VisibleNames → Type 0
+  abbrev pub Known : VisibleNames → Type 0
   Known names = AreDefined defs names.definitions
 
   name_fits : (names : VisibleNames) (at : ℕ) (x : List ℕ) (i : Option ℕ) (v : Option VarId) → binder_of names.scope x ≡ i → variable_of names.globals x ≡ v
@@ -230,7 +230,7 @@ module _ (defs : List Definition) where
   argument_fits names false p fits = IfOk-weaker (expr_of names p) (Fits names) (ArgumentFits names false) (λ e h. (λ upper. absurd cc, h)) fits
 
   mutual
-    expr_fits : (names : VisibleNames) → Known names → (p : PhraseTree) → IfOk (expr_of names p) (Fits names)
+    pub expr_fits : (names : VisibleNames) → Known names → (p : PhraseTree) → IfOk (expr_of names p) (Fits names)
     expr_fits names known (phrase at kind) = expr_kind_fits names known at kind
 
     expr_kind_fits : (names : VisibleNames) → Known names → (at : ℕ) (kind : k.KindTree) → IfOk (expr_of_kind names at kind) (Fits names)
@@ -266,7 +266,7 @@ module _ (defs : List Definition) where
 
   -- ---- formulas
 
-  abbrev FormulaFitsIn : VisibleNames → FormulaTree → Type 0
+  abbrev pub FormulaFitsIn : VisibleNames → FormulaTree → Type 0
   FormulaFitsIn names w = FormulaFits defs (kinds_of names.globals) w (length names.scope)
 
   abbrev FormulasFitIn : VisibleNames → List FormulaTree → Type 0
@@ -341,7 +341,7 @@ module _ (defs : List Definition) where
     formula_fits : (names : VisibleNames) → Known names → (p : PhraseTree) → IfOk (formula_of names p) (FormulaFitsIn names)
     formula_fits names known (phrase at kind) = formula_kind_fits names known at kind
 
-    formula_kind_fits : (names : VisibleNames) → Known names → (at : ℕ) (kind : k.KindTree) → IfOk (formula_of_kind names at kind) (FormulaFitsIn names)
+    pub formula_kind_fits : (names : VisibleNames) → Known names → (at : ℕ) (kind : k.KindTree) → IfOk (formula_of_kind names at kind) (FormulaFitsIn names)
     formula_kind_fits names known at (k.conjunction ps) = mapped_ok _ (formulas_in names ps) (FormulasFitIn names) (FormulaFitsIn names) (formulas_fit names known ps) (λ ws h. h)
     formula_kind_fits names known at (k.truth true) = tt
     formula_kind_fits names known at (k.negation p) = negation_fits names known at p

@@ -16,6 +16,9 @@ mod refusal;
 mod refusals;
 mod state;
 
+pub use expression::shared_expression;
+pub use formula::shared_formula;
 pub use laws::{checked_once, globals_are_names, programs_keep_rules, refusals_name_broken};
 pub use program::{Program, check};
 pub use refusal::CheckRefusal;
+pub use refusals::miscounted_or;

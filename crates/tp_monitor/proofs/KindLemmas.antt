@@ -1,92 +1,52 @@
--- The tables of the kinds.
-use Rattle.std.proofs.Common.{◌≡◌, ℕ, zero, suc, ◌+◌, ◌-◌, ◌<◌, ◌≤◌, Bool, true, false, List, length, ◌∙◌, ap, sym, refl, arith, eqb, nat_lt, if◌then◌else◌}
-use Rattle.std.proofs.lemmas.Bool.{ltb-true, eqb-true}
-use Rattle.tp_meaning.specs.Syntax.{ExprTree}
-use Rattle.tp_eval.specs.Outcome.{Outcome}
-use Rattle.tp_monitor.specs.Wide.{WideTree, empty, more, next, if_more, if_empty, negation}
-use Rattle.tp_monitor.specs.Verdict.{Verdict, yes, no, undecided, of_truth, both_of, one_of, opposite_of, all_from, some_from}
-use Rattle.tp_monitor.specs.Table.{verdict}
-use Rattle.tp_monitor.specs.Stored.{stored, HaveVerdicts}
-use Rattle.tp_monitor.specs.declared.verdict_row.VerdictRow.{VerdictRow}
+-- What is told is of the variables.
+use Rattle.std.proofs.Common.{◌≡◌, ℕ, inl, inr, Bool, List, [], ◌∷◌, ◌++◌, map, Option, Some, None, slice_get, refl, sym, ap, ◌∙◌}
+use Rattle.std.specs.List.{flat_map}
+use Rattle.tp_value.specs.Globals.{variable_of}
+use Rattle.tp_value.specs.declared.path.VarId.{VarId}
+use Rattle.tp_value.specs.declared.path.Fact.{Fact}
+use Rattle.tp_meaning.specs.Fits.{IsVariable}
+use Rattle.tp_meaning.specs.Interval.{kinds_of}
+use Rattle.tp_store.specs.Known.{Variable, AreOfVariables, global_variable, lasting_facts}
+use Rattle.tp_store.proofs.Members.{In}
+use Rattle.tp_scope.specs.Scope.{Names}
+use Rattle.tp_show.specs.declared.named_fact.NamedFact.{NamedFact}
+use Rattle.tp_show.proofs.TraceNumbers.{variable_is_of}
+use Rattle.tp_verdict.specs.Trace.{FactsOfStates}
+use Rattle.tp_verdict.specs.Sound.{AreOfKinds, StatesAreOfKinds}
+use Rattle.tp_verdict.proofs.Right.{lasting_of, of_kind, state_of_kind}
+use Rattle.tp_monitor.specs.Told.{fact_of, facts_among, told_by_trace}
+use Rattle.tp_monitor.specs.Standing.{StandFor}
+use Rattle.tp_monitor.proofs.StandLemmas.{stand_there}
 
-pub parts_as : (f g : ℕ → ℕ → Verdict) (rows : List VerdictRow) → HaveVerdicts f rows
-    → ((i j : ℕ) → i ≤ j → j < length rows → f i j ≡ g i j) → HaveVerdicts g rows
-parts_as f g rows h e = record { before = h.before; parts = λ i j l d. h.parts i j l d ∙ e i j l d }
+same_kinds : (names : Names) → map (λ (v : Variable). v.lasting) (map global_variable names) ≡ kinds_of names
+same_kinds [] = refl
+same_kinds (x ∷ xs) = ap (λ ks. (global_variable x).lasting ∷ ks) (same_kinds xs)
 
-pub if_same : (c : Bool) (x y z w : Verdict) → (c ≡ true → x ≡ y) → (c ≡ false → z ≡ w) → (if c then x else z) ≡ (if c then y else w)
-if_same true x y z w p q = p refl
-if_same false x y z w p q = q refl
+pub of_variables : (names : Names) (fs : List Fact) → AreOfKinds (kinds_of names) fs → AreOfVariables (map global_variable names) fs
+of_variables names [] h = tt
+of_variables names (f ∷ fs) h = (ap (λ (ks : List Bool). slice_get ks f.path.var.number) (same_kinds names) ∙ h.0, of_variables names fs h.1)
 
-truth_if : (c : Bool) → (if c then yes else no) ≡ of_truth c
-truth_if true = refl
-truth_if false = refl
+kind_of : (names : Names) (name : List ℕ) (x : VarId) → variable_of names name ≡ Some x → IsVariable (kinds_of names) x
+kind_of names name x e = ap (λ (ks : List Bool). slice_get ks x.number) (sym (same_kinds names)) ∙ variable_is_of names name x e
 
-longer : (c d : Bool) → (c ≡ true → d ≡ false) → (c ≡ false → d ≡ true) → (if c then no else yes) ≡ of_truth d
-longer true d p q = ap of_truth (sym (p refl))
-longer false d p q = ap of_truth (sym (q refl))
-
-less_or_same : (i j : ℕ) → i ≤ j → (if eqb i j then no else yes) ≡ of_truth (nat_lt i j)
-less_or_same i j l = longer (eqb i j) (nat_lt i j) (λ e. grind (arith, eqb-true i j e)) (λ e. grind arith)
-
-pub all_by_some : (m k : ℕ) (f g : ℕ → Verdict) → ((x : ℕ) → k ≤ x → x < m + k → opposite_of (f x) ≡ g x) → opposite_of (some_from m k f) ≡ all_from m k g
-all_by_some zero k f g h = refl
-all_by_some (suc m) k f g h =
-    opposite_of_one (f k) (some_from m (suc k) f)
-    ∙ ap (λ v. both_of v (opposite_of (some_from m (suc k) f))) (h k (omega arith) (omega arith))
-    ∙ ap (both_of (g k)) (all_by_some m (suc k) f g (λ x l u. h x (omega (arith, l)) (omega (arith, u))))
+facts_of_kinds : (names : Names) (facts : List NamedFact) → AreOfKinds (kinds_of names) (facts_among names facts)
+facts_of_kinds names [] = tt
+facts_of_kinds names (f ∷ fs) = by (facts_of_kinds names fs) (variable_of names f.name) refl
   where
-    opposite_of_one : (u v : Verdict) → opposite_of (one_of u v) ≡ both_of (opposite_of u) (opposite_of v)
-    opposite_of_one yes v = refl
-    opposite_of_one no yes = refl
-    opposite_of_one no no = refl
-    opposite_of_one no undecided = refl
-    opposite_of_one undecided yes = refl
-    opposite_of_one undecided no = refl
-    opposite_of_one undecided undecided = refl
+    by : AreOfKinds (kinds_of names) (facts_among names fs) → (o : Option VarId) → variable_of names f.name ≡ o → AreOfKinds (kinds_of names) (fact_of o f ++ facts_among names fs)
+    by rest None e = rest
+    by rest (Some x) e = (kind_of names f.name x e, rest)
 
-pub twice_opposite : (v : Verdict) → opposite_of (opposite_of v) ≡ v
-twice_opposite yes = refl
-twice_opposite no = refl
-twice_opposite undecided = refl
+pub told_of_kinds : (names : Names) (trace : List (List NamedFact)) → StatesAreOfKinds (kinds_of names) (told_by_trace names trace)
+told_of_kinds names [] = tt
+told_of_kinds names (facts ∷ trace) = (facts_of_kinds names facts, told_of_kinds names trace)
 
-module _ (found : ℕ → ExprTree → Outcome) (rows : List VerdictRow) where
-  pub empty_kind : HaveVerdicts (λ i j. if eqb i j then yes else no) rows → HaveVerdicts (verdict found empty) rows
-  empty_kind h = parts_as (λ i j. if eqb i j then yes else no) (verdict found empty) rows h (λ i j l d. truth_if (eqb i j))
+kinds_from : (kinds : List Bool) (fs : List Fact) → ((f : Fact) → In f fs → IsVariable kinds f.path.var) → AreOfKinds kinds fs
+kinds_from kinds [] h = tt
+kinds_from kinds (f ∷ fs) h = (h f (inl refl), kinds_from kinds fs (λ g i. h g (inr i)))
 
-  pub more_kind : HaveVerdicts (λ i j. if eqb i j then no else yes) rows → HaveVerdicts (verdict found more) rows
-  more_kind h = parts_as (λ i j. if eqb i j then no else yes) (verdict found more) rows h (λ i j l d. less_or_same i j l)
+pub lasting_of_kinds : (kinds : List Bool) (trace : FactsOfStates) → StatesAreOfKinds kinds trace → AreOfKinds kinds (flat_map lasting_facts trace)
+lasting_of_kinds kinds trace h = kinds_from kinds (flat_map lasting_facts trace) (λ f i. let r = lasting_of trace f i in of_kind kinds r.1 (state_of_kind kinds trace h r.0 r.1 r.2) f r.3)
 
-  module _ (w : WideTree) (body : List VerdictRow) (many : length rows ≡ length body) (b : HaveVerdicts (verdict found w) body) where
-    pub next_kind : HaveVerdicts (λ i j. if nat_lt i j then stored body (suc i) j else no) rows → HaveVerdicts (verdict found (next w)) rows
-    next_kind h = parts_as (λ i j. if nat_lt i j then stored body (suc i) j else no) (verdict found (next w)) rows h
-        (λ i j l d. if_same (nat_lt i j) (stored body (suc i) j) (verdict found w (suc i) j) no no (λ e. b.parts (suc i) j (ltb-true i j e) (omega (arith, d, many))) (λ e. refl))
-
-    pub if_more_kind : HaveVerdicts (λ i j. if nat_lt i j then stored body i j else yes) rows → HaveVerdicts (verdict found (if_more w)) rows
-    if_more_kind h = parts_as (λ i j. if nat_lt i j then stored body i j else yes) (verdict found (if_more w)) rows h
-        (λ i j l d. if_same (nat_lt i j) (stored body i j) (verdict found w i j) yes yes (λ e. b.parts i j l (omega (arith, d, many))) (λ e. refl))
-
-    pub if_empty_kind : HaveVerdicts (λ i j. if nat_lt i j then yes else stored body i j) rows → HaveVerdicts (verdict found (if_empty w)) rows
-    if_empty_kind h = parts_as (λ i j. if nat_lt i j then yes else stored body i j) (verdict found (if_empty w)) rows h
-        (λ i j l d. if_same (nat_lt i j) yes yes (stored body i j) (verdict found w i j) (λ e. refl) (λ e. b.parts i j l (omega (arith, d, many))))
-
-    pub not_kind : HaveVerdicts (λ i j. opposite_of (stored body i j)) rows → HaveVerdicts (verdict found (negation w)) rows
-    not_kind h = parts_as (λ i j. opposite_of (stored body i j)) (verdict found (negation w)) rows h (λ i j l d. ap opposite_of (b.parts i j l (omega (arith, d, many))))
-
-pub both_kind : (f g : ℕ → ℕ → Verdict) (first second rows : List VerdictRow) → length second ≡ length first → length rows ≡ length first
-    → HaveVerdicts f first → HaveVerdicts g second → HaveVerdicts (λ i j. both_of (stored first i j) (stored second i j)) rows
-    → HaveVerdicts (λ i j. both_of (f i j) (g i j)) rows
-both_kind f g first second rows m n a b h = parts_as (λ i j. both_of (stored first i j) (stored second i j)) (λ i j. both_of (f i j) (g i j)) rows h
-    (λ i j l d. ap (λ v. both_of v (stored second i j)) (a.parts i j l (omega (arith, d, n))) ∙ ap (both_of (f i j)) (b.parts i j l (omega (arith, d, m, n))))
-
-pub or_kind : (f g : ℕ → ℕ → Verdict) (first second rows : List VerdictRow) → length second ≡ length first → length rows ≡ length first
-    → HaveVerdicts f first → HaveVerdicts g second → HaveVerdicts (λ i j. one_of (stored first i j) (stored second i j)) rows
-    → HaveVerdicts (λ i j. one_of (f i j) (g i j)) rows
-or_kind f g first second rows m n a b h = parts_as (λ i j. one_of (stored first i j) (stored second i j)) (λ i j. one_of (f i j) (g i j)) rows h
-    (λ i j l d. ap (λ v. one_of v (stored second i j)) (a.parts i j l (omega (arith, d, n))) ∙ ap (one_of (f i j)) (b.parts i j l (omega (arith, d, m, n))))
-
--- not on some suffix not
-pub always_kind : (f : ℕ → ℕ → Verdict) (rows : List VerdictRow)
-    → HaveVerdicts (λ i j. opposite_of (some_from (suc j - i) i (λ k. opposite_of (f k j)))) rows
-    → HaveVerdicts (λ i j. all_from (suc j - i) i (λ k. f k j)) rows
-always_kind f rows h = parts_as (λ i j. opposite_of (some_from (suc j - i) i (λ k. opposite_of (f k j)))) (λ i j. all_from (suc j - i) i (λ k. f k j)) rows h
-    (λ i j l d. all_by_some (suc j - i) i (λ k. opposite_of (f k j)) (λ k. f k j) (λ x lo hi. twice_opposite (f x j)))
+pub stand_of_kinds : (kinds : List Bool) (fs all : List Fact) → StandFor fs all → AreOfKinds kinds all → AreOfKinds kinds fs
+stand_of_kinds kinds fs all s h = kinds_from kinds fs (λ f i. of_kind kinds all h f (stand_there fs all s f i))

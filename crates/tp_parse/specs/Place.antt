@@ -62,8 +62,8 @@ BlamesFirstInEachText ts e = (bytes : List ℕ) → AreTokens bytes ts → Blame
 -- tokens have one such place
 abbrev pub OnePlace : Type 0
 OnePlace =
-    (ts : Tokens) (e f : ParseRefusal) → e ≢ NoMemory → f ≢ NoMemory → BlamesFirst ts e → BlamesFirst ts f
-    → e ≡ f
+    (ts : Tokens) (e f : ParseRefusal) → e ≢ NoMemory → f ≢ NoMemory
+    → BlamesFirst ts e → BlamesFirst ts f → e ≡ f
 
 -- an accepted source that is cut after fewer tokens than it has is unfinished
 abbrev pub PrefixesAreUnfinished : Type 0

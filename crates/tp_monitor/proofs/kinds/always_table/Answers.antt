@@ -1,9 +1,0 @@
-use Rattle.tp_monitor.specs.Wide.{negation, sometimes}
-use Rattle.tp_monitor.specs.Table.{verdict}
-use Rattle.tp_monitor.proofs.KindLemmas.{always_kind}
-use Rattle.tp_monitor.proofs.kinds.always_table.Goals as goal
-
-pub returns-clause-verdicts : goal.returns-clause-verdicts
-returns-clause-verdicts c = λ found w b.
-    always_kind (verdict found w) c.in_ok-table.table.rows.items (c.in_ok-table.ensures.verdicts found (sometimes (negation w))
-    (c.in_ok-somewhere.ensures.verdicts (verdict found (negation w)) (c.in_ok-without.ensures.verdicts found w b)))

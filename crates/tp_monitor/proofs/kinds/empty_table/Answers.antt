@@ -1,5 +1,0 @@
-use Rattle.tp_monitor.proofs.KindLemmas.{empty_kind}
-use Rattle.tp_monitor.proofs.kinds.empty_table.Goals as goal
-
-pub returns-clause-verdicts : goal.returns-clause-verdicts
-returns-clause-verdicts c = λ found. empty_kind found c.in_ok-table.table.rows.items c.in_ok-table.ensures.verdicts

@@ -1,6 +1,0 @@
-use Rattle.std.proofs.Common.{arith}
-use Rattle.tp_monitor.proofs.KindLemmas.{next_kind}
-use Rattle.tp_monitor.proofs.kinds.next_table.Goals as goal
-
-pub returns-clause-verdicts : goal.returns-clause-verdicts
-returns-clause-verdicts c = λ found w b. next_kind found c.in_ok-table.table.rows.items w c.args.body.now.rows.items (let m = c.in_ok-table.ensures.many in omega (arith, m)) b c.in_ok-table.ensures.verdicts

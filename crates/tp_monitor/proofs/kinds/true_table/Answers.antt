@@ -1,4 +1,0 @@
-use Rattle.tp_monitor.proofs.kinds.true_table.Goals as goal
-
-pub returns-clause-verdicts : goal.returns-clause-verdicts
-returns-clause-verdicts c = λ found. c.in_ok-table.ensures.verdicts

@@ -1,0 +1,14 @@
+pub mod Wide
+pub mod Widened
+pub mod Logic
+pub mod Verdict
+pub mod Table
+pub mod Trace
+pub mod Sound
+pub mod Examples
+pub mod Rows
+pub mod Code
+pub mod Stored
+pub mod Ruled
+pub mod Read
+pub mod Found
