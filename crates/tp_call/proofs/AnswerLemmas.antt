@@ -20,7 +20,7 @@ use Rattle.tp_call.specs.declared.status.Status.TheVariants.{Done, ReadFault, Wr
 use Rattle.tp_call.specs.declared.status.Which.{Which}
 use Rattle.tp_show.specs.EndLine.{end_line}
 use Rattle.tp_show.specs.Told.{AreNames, IsPictureInRange, IsLastTurn}
-use Rattle.tp_call.specs.EndLine.{refusal_line}
+use Rattle.tp_call.specs.EndLine.{refusal_line, verdict_line}
 use Rattle.tp_call.specs.Printed.{written_state, lead_text, ended_text, settled_text, next_moment}
 use Rattle.tp_call.specs.Written.{Wrote}
 use Rattle.tp_meaning.specs.Interval.{ProgramTree}
@@ -33,8 +33,9 @@ use Rattle.tp_tree.specs.Spelling.{source_spelling}
 use Rattle.tp_meaning.specs.Inputs.{InputTable}
 use Rattle.tp_inputs.specs.Table.{IsInputsText}
 use Rattle.tp_inputs.specs.Converted.{converted}
+use Rattle.tp_verdict.specs.Verdict.{Verdict}
 use Rattle.tp_call.specs.Spelling.{IsReadFromSpelling}
-use Rattle.tp_call.specs.Answer.{IsAskedFor, IsAskedToPrint, IsAskedToConvert, Spells, Converts, Refuses, RunsTo, run_text, CallEnds, Answers}
+use Rattle.tp_call.specs.Answer.{IsAskedFor, IsAskedToPrint, IsAskedToConvert, IsJudged, Spells, Converts, Judges, Refuses, RunsTo, run_text, CallEnds, Answers}
 use Rattle.tp_call.specs.Parts.{IsProgramRefusal, ClosesText}
 use Rattle.tp_call.proofs.TurnLemmas.{last_is_given, is_last, ends_run}
 use Rattle.tp_call.proofs.HeadlineLemmas.{end_says}
@@ -224,12 +225,12 @@ module _ (words : List (List ℕ)) (held : Option Held) (plan : Plan) (fits : Pr
 -- a refusal, and its end line or a part of it
 module _ (words : List (List ℕ)) (held : Option Held) (old new : Option (List ℕ)) (status : Status) where
   refused_whole : (result : Status) → Refuses words held status → result ≡ status → Wrote old new (refusal_line status) → (text : List ℕ) × CallEnds words held result text × Wrote old new text
-  refused_whole result r is wrote = (refusal_line status, inr (inr (inr (subst (Refuses words held) (sym is) r, ap refusal_line (sym is)))), wrote)
+  refused_whole result r is wrote = (refusal_line status, inr (inr (inr (inr (subst (Refuses words held) (sym is) r, ap refusal_line (sym is))))), wrote)
 
   pub refused : (result : Status) → IsProgramRefusal words held status → (status ≡ NoMemory → result ≡ NoMemory) → ClosesText (refusal_line status) status old new result → Answers words held old new result
   refused NoMemory r memory c = ([], inl refl, rw c (Wrote-nothing old))
   refused WriteFault (inl none) memory c = let bad : WriteFault ≡ NoMemory = memory none in cc
-  refused WriteFault (inr r) memory c = (refusal_line status, inr (status, inr (inr (inr (r, refl)))), c)
+  refused WriteFault (inr r) memory c = (refusal_line status, inr (status, inr (inr (inr (inr (r, refl))))), c)
   refused result (inl none) memory c = let bad : result ≡ NoMemory = memory none in cc
   refused result (inr r) memory c = refused_whole result r c.0 c.1
 
@@ -258,6 +259,19 @@ module _ (words : List (List ℕ)) (held : Option Held) (table : InputTable) (as
   table_written WriteFault c = (converted table, inr (Done, inr (inr (inl (converts Done refl)))), c)
   table_written NoMemory c = ([], inl refl, rw c (Wrote-nothing old))
   table_written result c = converted_whole result c.0 c.1
+
+-- a verdict, and its line or a part of it
+module _ (words : List (List ℕ)) (held : Option Held) (verdict : Verdict) (is_judged : IsJudged words held verdict) (old new : Option (List ℕ)) where
+  judges : (status : Status) → status ≡ Done → Judges words held status (verdict_line verdict)
+  judges status is = record { verdict = verdict; judged = is_judged; status_is = is; written = refl }
+
+  judged_whole : (result : Status) → result ≡ Done → Wrote old new (verdict_line verdict) → (text : List ℕ) × CallEnds words held result text × Wrote old new text
+  judged_whole result is wrote = (verdict_line verdict, inr (inr (inr (inl (judges result is)))), wrote)
+
+  pub verdict_written : (result : Status) → ClosesText (verdict_line verdict) Done old new result → Answers words held old new result
+  verdict_written WriteFault c = (verdict_line verdict, inr (Done, inr (inr (inr (inl (judges Done refl))))), c)
+  verdict_written NoMemory c = ([], inl refl, rw c (Wrote-nothing old))
+  verdict_written result c = judged_whole result c.0 c.1
 
 -- an end line is written of no failed read, unless the status is that
 pub closes_no_fault : (text : List ℕ) (status : Status) (old new : Option (List ℕ)) (result : Status) → ClosesText text status old new result → (which : Which) → result ≡ ReadFault which → status ≡ ReadFault which

@@ -22,7 +22,7 @@ use Rattle.tp_call.specs.Written.{Wrote}
 use Rattle.tp_call.specs.Answer.{IsAskedFor, Answers, run_text, HasFailed}
 use Rattle.tp_call.specs.EveryOrder.{ComesTo}
 use Rattle.tp_call.specs.EachRun.{WroteTextOf, PrintsEachRun, BeginningsComeToEnd}
-use Rattle.tp_call.proofs.ClauseLemmas.{program_runs}
+use Rattle.tp_call.proofs.AnsweredLemmas.{program_runs}
 use Rattle.tp_call.proofs.EveryOrderLemmas.{comes_to, PrintsRun, ended, inputs_within, one_plan}
 use Rattle.tp_call.proofs.SameText.{one_text, one_end_line}
 

@@ -21,7 +21,8 @@ use Rattle.tp_call.specs.Run.{status_of}
 use Rattle.tp_call.specs.Answer.{IsAskedFor, HasInputs, HoldsProgram, Answers, Prints, IsEndOfRun}
 use Rattle.tp_call.specs.EveryOrder.{ComesTo, ComesToEachEnd}
 use Rattle.tp_call.proofs.ProgramLemmas.{one_program}
-use Rattle.tp_call.proofs.ClauseLemmas.{finished, contradictory, undetermined, state_limit, reduction_limit, number_limit, list_limit, call_limit, nest_limit, input_missing, program_runs}
+use Rattle.tp_call.proofs.ClauseLemmas.{finished, contradictory, undetermined, state_limit, reduction_limit, number_limit, list_limit, call_limit, nest_limit, input_missing}
+use Rattle.tp_call.proofs.AnsweredLemmas.{program_runs}
 
 -- an answer with the same end has such a status
 pub comes_to : (globals : ℕ) (answer other : Turn) (result : Status) → SameEnd globals answer other → status_of other ≡ Some result → ComesTo globals answer result

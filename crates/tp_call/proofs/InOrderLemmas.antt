@@ -1,5 +1,5 @@
 -- A call names the failure that the order of the words meets.
-use Rattle.std.proofs.Common.{◌≡◌, inl, inr, ℕ, List, Option, None, Some, sym, subst}
+use Rattle.std.proofs.Common.{◌≡◌, inl, inr, ℕ, List, Option, None, sym, subst}
 use Rattle.tp_io.specs.Held.{Held}
 use Rattle.tp_step.specs.declared.order.Order.{Order}
 use Rattle.tp_run.specs.States.{Plan}

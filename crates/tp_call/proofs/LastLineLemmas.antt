@@ -23,11 +23,11 @@ use Rattle.tp_run.specs.History.{RunEndsWith, Unsatisfiable, ContinuesEach}
 use Rattle.tp_run_laws.specs.Printable.{ProgramIsPrintable, InputsArePrintable}
 use Rattle.tp_run_laws.proofs.Phrases.{written_out, joined, decimal_one}
 use Rattle.tp_words.specs.declared.beside.Beside.{Beside}
-use Rattle.tp_words.specs.declared.mode.Mode.TheVariants.{Run, Print, Convert}
+use Rattle.tp_words.specs.declared.mode.Mode.TheVariants.{Run, Print, Convert, Check}
 use Rattle.tp_call.specs.declared.status.Status.{Status}
-use Rattle.tp_call.specs.declared.status.Status.TheVariants.{SourceRefused, InputsRefused, WordsRefused, TooLong, ReadFault, WriteFault, NoMemory}
+use Rattle.tp_call.specs.declared.status.Status.TheVariants.{SourceRefused, InputsRefused, OtherRefused, TraceTooLong, WordsRefused, TooLong, ReadFault, WriteFault, NoMemory}
 use Rattle.tp_call.specs.declared.status.Which.{Which}
-use Rattle.tp_call.specs.declared.status.Which.TheVariants.{Source, Inputs}
+use Rattle.tp_call.specs.declared.status.Which.TheVariants.{Source, Inputs, Other}
 use Rattle.tp_call.specs.declared.status.SourceKind.{SourceKind}
 use Rattle.tp_call.specs.declared.status.SourceKind.TheVariants as cause
 use Rattle.tp_call.specs.Source.{IsProgram}
@@ -148,6 +148,7 @@ traced_beside names (s ∷ states) h =
 words_one : (which : Which) → IsOneLine (which_text which)
 words_one Source = written_out (codes "source") refl
 words_one Inputs = written_out (codes "inputs") refl
+words_one Other = written_out (codes "other") refl
 
 kind_one : (k : SourceKind) → IsOneLine (kind_text k)
 kind_one cause.BadByte = written_out (codes "bad byte") refl
@@ -182,6 +183,10 @@ module _ (words : List (List ℕ)) (held : Option Held) where
   refusal_lines (SourceRefused line column k) r =
       one_refusal (SourceRefused line column k) (joined (place_text line column ++ codes ": ") (kind_text k) (joined (place_text line column) (codes ": ") (place_one line column) (written_out (codes ": ") refl)) (kind_one k)) refl
   refusal_lines (InputsRefused line) r = one_refusal (InputsRefused line) (joined (codes "inputs refused: line ") (decimal line) (written_out (codes "inputs refused: line ") refl) (decimal_one line)) refl
+  refusal_lines (OtherRefused line) r = one_refusal (OtherRefused line) (joined (codes "other refused: line ") (decimal line) (written_out (codes "other refused: line ") refl) (decimal_one line)) refl
+  refusal_lines (TraceTooLong states) r =
+      let opening = codes "trace too long: " in
+      one_refusal (TraceTooLong states) (joined (opening ++ decimal states) (codes " states") (joined opening (decimal states) (written_out (codes "trace too long: ") refl) (decimal_one states)) (written_out (codes " states") refl)) refl
   refusal_lines WordsRefused r = one_refusal WordsRefused (written_out (codes "words refused") refl) refl
   refusal_lines (TooLong which) r = one_refusal (TooLong which) (joined (codes "too long: ") (which_text which) (written_out (codes "too long: ") refl) (words_one which)) refl
   refusal_lines (ReadFault which) r = one_refusal (ReadFault which) (joined (codes "read fault: ") (which_text which) (written_out (codes "read fault: ") refl) (words_one which)) refl
@@ -268,7 +273,11 @@ module _ (words : List (List ℕ)) (held : Option Held) (old new : Option (List 
     of_end status whole rest (inr (inr (inl made))) begins =
         let bad : Run ≡ Convert = sym (asks made.asked.wanted made.asked.accepted) ∙ made.asked.mode in
         absurd (cc bad)
-    of_end status whole rest (inr (inr (inr refused))) begins = not_states whole rest (refusal_lines words held status refused.0 whole refused.1) begins
+    of_end status whole rest (inr (inr (inr (inl judges)))) begins =
+        let asked = judges.judged.asked in
+        let bad : Run ≡ Check = sym (asks asked.wanted asked.accepted) ∙ asked.mode in
+        absurd (cc bad)
+    of_end status whole rest (inr (inr (inr (inr refused)))) begins = not_states whole rest (refusal_lines words held status refused.0 whole refused.1) begins
 
     unfinished : {X : Type 0} (whole rest : List ℕ) → IsUnfinishedText words held whole → text ++ rest ≡ whole → X
     unfinished whole rest (inl none) begins = not_states whole rest (record { lines = []; one = All-nil IsOneLine; no_end = All-nil IsNoEnd; fed = none }) begins

@@ -8,7 +8,10 @@ pub mod RunLemmas
 pub mod TurnLemmas
 pub mod HeadlineLemmas
 pub mod AnswerLemmas
+pub mod CheckingLemmas
+pub mod JudgedLemmas
 pub mod ClauseLemmas
+pub mod AnsweredLemmas
 pub mod EveryOrderLemmas
 pub mod TextLemmas
 pub mod TraceLemmas

@@ -15,11 +15,12 @@ use Rattle.tp_meaning.specs.Interval.{ProgramTree}
 use Rattle.tp_check.specs.Outcome.{CheckOutcome}
 use Rattle.tp_check.specs.Program.{ChecksTo}
 use Rattle.tp_check.proofs.Determined.{checks_once}
+use Rattle.tp_monitor.specs.WideOf.{NamedWide, wide_of_source}
 use Rattle.tp_call.specs.declared.status.Refused.{Refused}
 use Rattle.tp_words.specs.declared.mode.Mode.{Mode}
-use Rattle.tp_words.specs.declared.mode.Mode.TheVariants.{Run, Print, Convert}
+use Rattle.tp_words.specs.declared.mode.Mode.TheVariants.{Run, Print, Convert, Check}
 use Rattle.tp_call.specs.Spelling.{IsReadFromSpelling}
-use Rattle.tp_call.specs.Source.{IsSourceText, IsProgram, IsOutsideGrammar, IsNotRun, IsRefusedAt, lexer_refusal, parser_refusal, checker_refusal}
+use Rattle.tp_call.specs.Source.{IsSourceText, IsProgram, IsWideText, IsOutsideGrammar, IsNotRun, IsNotWide, IsRefusedAt, lexer_refusal, parser_refusal, checker_refusal}
 
 -- a refusal that the parser answers is no want of memory
 some_place : (source : List ℕ) (ts : List Token) (e : ParseRefusal) (r : Refused) → parser_refusal source ts e ≡ Some r → e ≢ NoMemory
@@ -74,9 +75,40 @@ outside_once source r s (inr x) (inr y) =
     let equal : x.refusal ≡ y.refusal = one_place y.tokens x.refusal y.refusal (some_place source x.tokens x.refusal r x.answer) (some_place source y.tokens y.refusal s y.answer) first y.place in
     one_answer (parser_refusal source y.tokens) x.refusal y.refusal r s equal (ap (λ ts. parser_refusal source ts x.refusal) (sym same) ∙ x.answer) y.answer
 
+-- as a wider formula a text has one outcome
+wide_once : (source : List ℕ) (t u : SourceTree) (a b : CheckOutcome NamedWide) → IsSourceText source t → IsSourceText source u → wide_of_source t ≡ a → wide_of_source u ≡ b → a ≡ b
+wide_once source t u a b g h p q = sym p ∙ ap wide_of_source (one_source source t u g h) ∙ q
+
+pub one_wide : (source : List ℕ) (v w : NamedWide) → IsWideText source v → IsWideText source w → v ≡ w
+one_wide source v w g h =
+    let first : CheckOutcome NamedWide = Ok v in
+    let second : CheckOutcome NamedWide = Ok w in
+    let both : first ≡ second = wide_once source g.tree h.tree (Ok v) (Ok w) g.is_source h.is_source g.wide_is h.wide_is in
+    cc
+
+pub wide_or_refused : (source : List ℕ) (w : NamedWide) (r : Refused) → IsWideText source w → IsRefusedAt Check source r → ⊥
+wide_or_refused source w r g (inl x) = source_or_outside source g.tree r g.is_source x
+wide_or_refused source w r g (inr x) =
+    let good : CheckOutcome NamedWide = Ok w in
+    let bad : CheckOutcome NamedWide = Err x.refusal in
+    let both : good ≡ bad = wide_once source g.tree x.tree (Ok w) (Err x.refusal) g.is_source x.is_source g.wide_is x.outcome in
+    cc
+
+not_wide_once : (source : List ℕ) (r s : Refused) → IsNotWide source r → IsNotWide source s → r ≡ s
+not_wide_once source r s x y =
+    let first : CheckOutcome NamedWide = Err x.refusal in
+    let second : CheckOutcome NamedWide = Err y.refusal in
+    let both : first ≡ second = wide_once source x.tree y.tree (Err x.refusal) (Err y.refusal) x.is_source y.is_source x.outcome y.outcome in
+    let equal : x.refusal ≡ y.refusal = cc in
+    one_answer (checker_refusal source) x.refusal y.refusal r s equal x.answer y.answer
+
 pub refused_once : (mode : Mode) (source : List ℕ) (r s : Refused) → IsRefusedAt mode source r → IsRefusedAt mode source s → r ≡ s
 refused_once Print source r s x y = outside_once source r s x y
 refused_once Convert source r s x y = absurd x
+refused_once Check source r s (inl x) (inl y) = outside_once source r s x y
+refused_once Check source r s (inl x) (inr y) = absurd (source_or_outside source y.tree r y.is_source x)
+refused_once Check source r s (inr x) (inl y) = absurd (source_or_outside source x.tree s x.is_source y)
+refused_once Check source r s (inr x) (inr y) = not_wide_once source r s x y
 refused_once Run source r s (inl x) (inl y) = outside_once source r s x y
 refused_once Run source r s (inl x) (inr y) = absurd (source_or_outside source y.tree r (source_not_run source s y) x)
 refused_once Run source r s (inr x) (inl y) = absurd (source_or_outside source x.tree s (source_not_run source r x) y)

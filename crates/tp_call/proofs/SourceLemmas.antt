@@ -34,7 +34,7 @@ use Rattle.tp_check.specs.Program.{ChecksTo}
 use Rattle.tp_check.specs.declared.refusal.CheckRefusal.{CheckRefusal}
 use Rattle.tp_check.specs.declared.refusal.CheckRefusal.TheVariants as check
 use Rattle.tp_words.specs.declared.mode.Mode.{Mode}
-use Rattle.tp_words.specs.declared.mode.Mode.TheVariants.{Run, Print, Convert}
+use Rattle.tp_words.specs.declared.mode.Mode.TheVariants.{Run, Print, Convert, Check}
 use Rattle.tp_call.specs.Source.{IsOutsideGrammar, IsNotRun, IsRefusedAt, lexer_refusal, parser_refusal, checker_refusal}
 
 -- the source that was read is refused
@@ -155,6 +155,11 @@ read_refused mode source status (Some refused) is cause = inr (refused, is, caus
 pub not_parsed : (source : List ℕ) (status : Status) → IsReadRefusal Print source status → IsReadRefusal Run source status
 not_parsed source status (inl memory) = inl memory
 not_parsed source status (inr (refused, is, cause)) = inr (refused, is, inl cause)
+
+-- and no wider formula
+pub not_parsed_wide : (source : List ℕ) (status : Status) → IsReadRefusal Print source status → IsReadRefusal Check source status
+not_parsed_wide source status (inl memory) = inl memory
+not_parsed_wide source status (inr (refused, is, cause)) = inr (refused, is, inl cause)
 
 pub no_tokens : (source : List ℕ) (refusal : LexRefusal) → IsRefusedUnlessMemory source refusal → (r : Refused) → lexer_refusal source refusal ≡ Some r → IsOutsideGrammar source r
 no_tokens source (lex.BadByte at) g r is = inl (record { refusal = lex.BadByte at; is_refused = g; answer = is })

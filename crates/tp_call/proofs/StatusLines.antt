@@ -1,30 +1,30 @@
 -- One line is the end line of one status only.
-use Rattle.std.proofs.Common.{◌≡◌, ◌⊎◌, inl, inr, ℕ, Bool, true, false, cond, ◌==◌, ◌&&◌, ◌||◌, List, [], ◌∷◌, ◌++◌, drop, Some, codes, refl, sym, ap, ap₂, ◌∙◌, subst, append_assoc}
+use Rattle.std.proofs.Common.{◌≡◌, inl, inr, ℕ, Bool, true, false, cond, ◌==◌, ◌&&◌, ◌||◌, List, [], ◌∷◌, ◌++◌, drop, codes, refl, sym, ap, ap₂, ◌∙◌, append_assoc}
 use Rattle.std.specs.Fmt.{decimal}
 use Rattle.tp_store.specs.Known.{Variable}
 use Rattle.tp_kernel.specs.declared.fault.LimitKind.TheVariants as limit
 use Rattle.tp_show.specs.declared.turn.Turn.{Turn}
 use Rattle.tp_show.specs.declared.turn.Turn.TheVariants as turn
-use Rattle.tp_show.specs.Told.{FitsIn64Bits}
 use Rattle.tp_show.specs.EndLine.{end_line}
 use Rattle.tp_show.proofs.ReadWordLemmas.{heads_apart}
 use Rattle.tp_show.proofs.EndPlaces.{number_read}
 use Rattle.tp_show.proofs.EndsToldLemmas.{end_lines_tell}
 use Rattle.tp_call.specs.declared.status.Status.{Status}
-use Rattle.tp_call.specs.declared.status.Status.TheVariants.{Finished, Done, Contradictory, Undetermined, StateLimit, ReductionLimit, NumberLimit, ListLimit, CallLimit, NestLimit, InputMissing, SourceRefused, InputsRefused, WordsRefused, TooLong, ReadFault, WriteFault, NoMemory}
+use Rattle.tp_call.specs.declared.status.Status.TheVariants.{Finished, Done, Contradictory, Undetermined, StateLimit, ReductionLimit, NumberLimit, ListLimit, CallLimit, NestLimit, InputMissing, SourceRefused, InputsRefused, WordsRefused, TooLong, ReadFault, WriteFault, NoMemory, OtherRefused, TraceTooLong}
 use Rattle.tp_call.specs.declared.status.Which.{Which}
-use Rattle.tp_call.specs.declared.status.Which.TheVariants.{Source, Inputs}
+use Rattle.tp_call.specs.declared.status.Which.TheVariants.{Source, Inputs, Other}
 use Rattle.tp_call.specs.declared.status.SourceKind.{SourceKind}
 use Rattle.tp_call.specs.declared.status.SourceKind.TheVariants.{BadByte, OpenComment, NumberTooLarge, NameTooLong, Unexpected, Unfinished, TooDeep, DefinedTwice, UnknownName, WrongCount, NotExpression, NotPlace, NotPort, NotExecutable}
 use Rattle.tp_call.specs.EndLine.{which_text, kind_text, refusal_line}
-use Rattle.tp_call.specs.Run.{status_of}
-use Rattle.tp_call.specs.StatusesTold.{IsToldRefusal, IsStatusLine, StatusesToldAlike, StatusLinesTell}
+use Rattle.tp_call.specs.StatusesTold.{IsToldRefusal, StatusLinesTell}
 
 -- ---- refusals
 
 data Refusal : Type 0 where
   source : (line column : ℕ) → SourceKind → Refusal
   inputs : (line : ℕ) → Refusal
+  trace : (line : ℕ) → Refusal
+  many : (states : ℕ) → Refusal
   words : Refusal
   long : Which → Refusal
   unread : Which → Refusal
@@ -32,6 +32,8 @@ data Refusal : Type 0 where
 abbrev status_in : Refusal → Status
 status_in (source line column kind) = SourceRefused line column kind
 status_in (inputs line) = InputsRefused line
+status_in (trace line) = OtherRefused line
+status_in (many states) = TraceTooLong states
 status_in words = WordsRefused
 status_in (long which) = TooLong which
 status_in (unread which) = ReadFault which
@@ -42,6 +44,8 @@ IsFound status = (r : Refusal) × IsToldRefusal (status_in r) × (status_in r �
 found : (status : Status) → IsToldRefusal status → IsFound status
 found (SourceRefused line column kind) h = (source line column kind, h, refl)
 found (InputsRefused line) h = (inputs line, h, refl)
+found (OtherRefused line) h = (trace line, h, refl)
+found (TraceTooLong states) h = (many states, h, refl)
 found WordsRefused h = (words, h, refl)
 found (TooLong which) h = (long which, h, refl)
 found (ReadFault which) h = (unread which, h, refl)
@@ -59,14 +63,15 @@ found (InputMissing state port) h = absurd h
 found WriteFault h = absurd h
 found NoMemory h = absurd h
 
--- 115 is the `s` of `source`
+-- 115 is the `s` of `source`, and 111 the `o` of `other`
 abbrev which_at : List ℕ → Which
 which_at [] = Inputs
-which_at (b ∷ z) = cond (b == 115) Source Inputs
+which_at (b ∷ z) = cond (b == 115) Source (cond (b == 111) Other Inputs)
 
 which_is : (which : Which) → which_at (which_text which ++ codes "\n") ≡ which
 which_is Source = refl
 which_is Inputs = refl
+which_is Other = refl
 
 -- the kind whose text begins with a letter; at `n` the second byte tells, or the fifth and what follows it, and at `u` the third
 abbrev kind_by : (a b c e f h : ℕ) → SourceKind
@@ -103,6 +108,12 @@ source_is line column kind = simp append_assoc
 inputs_is : (line : List ℕ) → (codes "inputs refused: line " ++ line) ++ codes "\n" ≡ codes "inputs refused: line " ++ (line ++ codes "\n")
 inputs_is line = simp append_assoc
 
+trace_is : (line : List ℕ) → (codes "other refused: line " ++ line) ++ codes "\n" ≡ codes "other refused: line " ++ (line ++ codes "\n")
+trace_is line = simp append_assoc
+
+many_is : (states : List ℕ) → (codes "trace too long: " ++ states ++ codes " states") ++ codes "\n" ≡ codes "trace too long: " ++ (states ++ (codes " states" ++ codes "\n"))
+many_is states = simp append_assoc
+
 source_read : (l m c d : ℕ) (j k : SourceKind) → IsToldRefusal (SourceRefused l c j) → IsToldRefusal (SourceRefused m d k) → refusal_line (SourceRefused l c j) ≡ refusal_line (SourceRefused m d k) → source l c j ≡ source m d k
 source_read l m c d j k h i e =
     let J = kind_text j in
@@ -116,36 +127,62 @@ source_read l m c d j k h i e =
 refusal_read : (r s : Refusal) → IsToldRefusal (status_in r) → IsToldRefusal (status_in s) → refusal_line (status_in r) ≡ refusal_line (status_in s) → r ≡ s
 refusal_read (source l c j) (source m d k) h i e = source_read l m c d j k h i e
 refusal_read (source l c j) (inputs m) h i e = absurd (heads_apart 115 105 _ _ refl e)
+refusal_read (source l c j) (trace m) h i e = absurd (heads_apart 115 111 _ _ refl e)
+refusal_read (source l c j) (many m) h i e = absurd (heads_apart 115 116 _ _ refl e)
 refusal_read (source l c j) words h i e = absurd (heads_apart 115 119 _ _ refl e)
 refusal_read (source l c j) (long w) h i e = absurd (heads_apart 115 116 _ _ refl e)
 refusal_read (source l c j) (unread w) h i e = absurd (heads_apart 115 114 _ _ refl e)
 refusal_read (inputs l) (source m d k) h i e = absurd (heads_apart 105 115 _ _ refl e)
 refusal_read (inputs l) (inputs m) h i e =
     ap inputs (number_read l m (codes "\n") (codes "\n") h i refl refl (ap (drop 21) (sym (inputs_is (decimal l)) ∙ (e ∙ inputs_is (decimal m))))).0
+refusal_read (inputs l) (trace m) h i e = absurd (heads_apart 105 111 _ _ refl e)
+refusal_read (inputs l) (many m) h i e = absurd (heads_apart 105 116 _ _ refl e)
 refusal_read (inputs l) words h i e = absurd (heads_apart 105 119 _ _ refl e)
 refusal_read (inputs l) (long w) h i e = absurd (heads_apart 105 116 _ _ refl e)
 refusal_read (inputs l) (unread w) h i e = absurd (heads_apart 105 114 _ _ refl e)
+refusal_read (trace l) (source m d k) h i e = absurd (heads_apart 111 115 _ _ refl e)
+refusal_read (trace l) (inputs m) h i e = absurd (heads_apart 111 105 _ _ refl e)
+refusal_read (trace l) (trace m) h i e =
+    ap trace (number_read l m (codes "\n") (codes "\n") h i refl refl (ap (drop 20) (sym (trace_is (decimal l)) ∙ (e ∙ trace_is (decimal m))))).0
+refusal_read (trace l) (many m) h i e = absurd (heads_apart 111 116 _ _ refl e)
+refusal_read (trace l) words h i e = absurd (heads_apart 111 119 _ _ refl e)
+refusal_read (trace l) (long w) h i e = absurd (heads_apart 111 116 _ _ refl e)
+refusal_read (trace l) (unread w) h i e = absurd (heads_apart 111 114 _ _ refl e)
+refusal_read (many l) (source m d k) h i e = absurd (heads_apart 116 115 _ _ refl e)
+refusal_read (many l) (inputs m) h i e = absurd (heads_apart 116 105 _ _ refl e)
+refusal_read (many l) (trace m) h i e = absurd (heads_apart 116 111 _ _ refl e)
+refusal_read (many l) (many m) h i e =
+    ap many (number_read l m (codes " states" ++ codes "\n") (codes " states" ++ codes "\n") h i refl refl (ap (drop 16) (sym (many_is (decimal l)) ∙ (e ∙ many_is (decimal m))))).0
+refusal_read (many l) words h i e = absurd (heads_apart 116 119 _ _ refl e)
+refusal_read (many l) (long w) h i e = absurd (heads_apart 114 111 _ _ refl (ap (drop 1) e))
+refusal_read (many l) (unread w) h i e = absurd (heads_apart 116 114 _ _ refl e)
 refusal_read words (source m d k) h i e = absurd (heads_apart 119 115 _ _ refl e)
 refusal_read words (inputs m) h i e = absurd (heads_apart 119 105 _ _ refl e)
+refusal_read words (trace m) h i e = absurd (heads_apart 119 111 _ _ refl e)
+refusal_read words (many m) h i e = absurd (heads_apart 119 116 _ _ refl e)
 refusal_read words words h i e = refl
 refusal_read words (long w) h i e = absurd (heads_apart 119 116 _ _ refl e)
 refusal_read words (unread w) h i e = absurd (heads_apart 119 114 _ _ refl e)
 refusal_read (long v) (source m d k) h i e = absurd (heads_apart 116 115 _ _ refl e)
 refusal_read (long v) (inputs m) h i e = absurd (heads_apart 116 105 _ _ refl e)
+refusal_read (long v) (trace m) h i e = absurd (heads_apart 116 111 _ _ refl e)
+refusal_read (long v) (many m) h i e = absurd (heads_apart 111 114 _ _ refl (ap (drop 1) e))
 refusal_read (long v) words h i e = absurd (heads_apart 116 119 _ _ refl e)
 refusal_read (long v) (long w) h i e = ap long (sym (which_is v) ∙ (ap which_at (ap (drop 10) e) ∙ which_is w))
 refusal_read (long v) (unread w) h i e = absurd (heads_apart 116 114 _ _ refl e)
 refusal_read (unread v) (source m d k) h i e = absurd (heads_apart 114 115 _ _ refl e)
 refusal_read (unread v) (inputs m) h i e = absurd (heads_apart 114 105 _ _ refl e)
+refusal_read (unread v) (trace m) h i e = absurd (heads_apart 114 111 _ _ refl e)
+refusal_read (unread v) (many m) h i e = absurd (heads_apart 114 116 _ _ refl e)
 refusal_read (unread v) words h i e = absurd (heads_apart 114 119 _ _ refl e)
 refusal_read (unread v) (long w) h i e = absurd (heads_apart 114 116 _ _ refl e)
 refusal_read (unread v) (unread w) h i e = ap unread (sym (which_is v) ∙ (ap which_at (ap (drop 12) e) ∙ which_is w))
 
 -- ---- the end line of a run is none of a refusal
 
--- `words` and `too long`; `so` of `source`; `inputs`, and not `input `; `rea` of `read`
+-- `words`, `other`, `too long` and `trace`; `so` of `source`; `inputs`, and not `input `; `rea` of `read`
 abbrev refused_by : (a b c f : ℕ) → Bool
-refused_by a b c f = (a == 119) || (a == 116) || ((a == 115) && (b == 111)) || ((a == 105) && (f == 115)) || ((a == 114) && (c == 97))
+refused_by a b c f = (a == 119) || (a == 111) || (a == 116) || ((a == 115) && (b == 111)) || ((a == 105) && (f == 115)) || ((a == 114) && (c == 97))
 
 abbrev is_refused : List ℕ → Bool
 is_refused (a ∷ b ∷ c ∷ d ∷ e ∷ f ∷ z) = refused_by a b c f
@@ -154,6 +191,8 @@ is_refused z = false
 refusal_refused : (r : Refusal) → is_refused (refusal_line (status_in r)) ≡ true
 refusal_refused (source line column kind) = refl
 refusal_refused (inputs line) = refl
+refusal_refused (trace line) = refl
+refusal_refused (many states) = refl
 refusal_refused words = refl
 refusal_refused (long which) = refl
 refusal_refused (unread which) = refl

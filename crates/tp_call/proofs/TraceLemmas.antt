@@ -6,7 +6,6 @@ use Rattle.tp_lex.specs.Names.{token_names}
 use Rattle.tp_io.specs.Held.{Held, bytes_of}
 use Rattle.tp_tree.specs.Names.{source_names}
 use Rattle.tp_parse.proofs.NameLemmas.{names_are_tokens}
-use Rattle.tp_inputs.specs.Table.{IsInputsText}
 use Rattle.tp_meaning.specs.Inputs.{InputTable}
 use Rattle.tp_check.proofs.NameLaws.{globals_stand_in_source}
 use Rattle.tp_scene.specs.Pick.{Moment}
@@ -31,14 +30,13 @@ use Rattle.tp_run_laws.proofs.Tokens.{token_names_are_of_variables}
 use Rattle.tp_run_laws.proofs.Checked.{checked_programs_are_printable}
 use Rattle.tp_run_laws.proofs.Tables.{tables_are_printable}
 use Rattle.tp_run_laws.proofs.Runs.{runs_are_printable}
-use Rattle.tp_words.specs.Words.{Wanted}
 use Rattle.tp_call.specs.declared.status.Status.{Status}
-use Rattle.tp_call.specs.declared.status.Status.TheVariants.{Finished, Done, Contradictory, Undetermined, StateLimit, ReductionLimit, NumberLimit, ListLimit, CallLimit, NestLimit, InputMissing}
+use Rattle.tp_call.specs.declared.status.Status.TheVariants.{Finished, Contradictory, Undetermined, StateLimit, ReductionLimit, NumberLimit, ListLimit, CallLimit, NestLimit, InputMissing}
 use Rattle.tp_call.specs.Source.{IsProgram}
 use Rattle.tp_call.specs.Written.{Wrote}
 use Rattle.tp_call.specs.Run.{known_at_end}
-use Rattle.tp_call.specs.Answer.{HoldsProgram, HasInputs, run_text, RunsTo, Refuses, CallEnds, Answers, IsEndOfRun}
-use Rattle.tp_call.specs.Trace.{PrintsTrace, TraceSays}
+use Rattle.tp_call.specs.Answer.{HasInputs, RunsTo, Refuses, CallEnds, Answers, IsEndOfRun}
+use Rattle.tp_call.specs.Trace.{TraceSays}
 use Rattle.tp_call.proofs.FactLemmas.{run_facts}
 use Rattle.tp_call.proofs.TracedLemmas.{run_printed, picture_of, HasTraceLines, run_is, run_pictures, run_further, all_printed, facts_printed}
 
@@ -114,7 +112,8 @@ module _ (words : List (List ℕ)) (held : Option Held) (old new : Option (List 
   run_alone status never end (text, inl run, wrote) = (text, run, wrote)
   run_alone status never end (text, inr (inl spelled), wrote) = absurd (subst IsEndOfRun spelled.status_is end)
   run_alone status never end (text, inr (inr (inl made)), wrote) = absurd (subst IsEndOfRun made.status_is end)
-  run_alone status never end (text, inr (inr (inr refused)), wrote) = absurd (never refused.0)
+  run_alone status never end (text, inr (inr (inr (inl judges))), wrote) = absurd (subst IsEndOfRun judges.status_is end)
+  run_alone status never end (text, inr (inr (inr (inr refused))), wrote) = absurd (never refused.0)
 
   pub ran : (status : Status) → IsEndOfRun status → Answers words held old new status → Ran status
   ran (Finished n) end a = run_alone (Finished n) (λ r. r) end a

@@ -1,9 +1,8 @@
 -- A text with trace lines is read in one way only.
-use Rattle.std.proofs.Common.{◌≡◌, ◌≢◌, ℕ, Bool, true, false, not, cond, ◌==◌, ◌&&◌, nat_le, List, [], ◌∷◌, ◌++◌, map, filter, length, All, IsTrue, codes, refl, sym, ap, ap₂, ◌∙◌, subst, append_assoc, append-nil, arith}
+use Rattle.std.proofs.Common.{◌≡◌, ◌≢◌, ℕ, Bool, true, false, not, cond, List, [], ◌∷◌, ◌++◌, map, filter, All, IsTrue, codes, refl, sym, ap, ap₂, ◌∙◌, subst, append_assoc, append-nil}
 use Rattle.std.specs.List.{flat_map}
 use Rattle.std.specs.Fmt.{decimal}
 use Rattle.std.proofs.lemmas.Grind.{flat_map-append}
-use Rattle.std.proofs.lemmas.Bool.Decides.{nat_tests}
 use Rattle.std.proofs.lemmas.List.Elements.{All-nil, All-cons, All-append, All-head, All-tail}
 use Rattle.tp_value.specs.Tree.{Tree}
 use Rattle.tp_value.specs.Written.{text_of}
@@ -15,7 +14,7 @@ use Rattle.tp_show.specs.declared.turn.Turn.{Turn}
 use Rattle.tp_show.specs.declared.turn.Turn.TheVariants.{Went, Finished, Contradictory, Undetermined, StateLimit, InputMissing, Over}
 use Rattle.tp_show.specs.Texts.{global_name, index_text, path_text}
 use Rattle.tp_show.specs.Parts.{LinePartTree, valued, measured, part_text, spaced_text}
-use Rattle.tp_show.specs.Line.{ToldState, state_line, shown_value, show_line, told_lines, told_text, IsOneLine, fed_line}
+use Rattle.tp_show.specs.Line.{ToldState, shown_value, show_line, told_lines, told_text, IsOneLine, fed_line}
 use Rattle.tp_show.specs.EndLine.{last_words, end_line}
 use Rattle.tp_show.specs.Told.{is_word_byte, IsWord, AreNames, IsPartOf, IsToldOf, IsLastTurn, IsEndLine}
 use Rattle.tp_show.specs.TraceLine.{state_opening, opens_with_one}
@@ -24,7 +23,7 @@ use Rattle.tp_show.proofs.PrintedBytes.{text_plain, indices_plain}
 use Rattle.tp_show.proofs.PrintedLines.{plain_one}
 use Rattle.tp_show.proofs.ReadBackLemmas.{texts_tell}
 use Rattle.tp_run_laws.proofs.Phrases.{written_out, joined, decimal_one}
-use Rattle.tp_call.specs.TracedText.{trace_openings, IsTraceLine, TracedState, traced_lines, traced_text, IsTraced, IsOneEndLine, ReadsTracedAs}
+use Rattle.tp_call.specs.TracedText.{trace_openings, IsTraceLine, TracedState, traced_text, IsTraced, IsOneEndLine, ReadsTracedAs}
 
 -- ---- lines told apart
 

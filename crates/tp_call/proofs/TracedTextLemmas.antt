@@ -1,5 +1,5 @@
 -- What the text of a run says to whoever has it alone, where there may be trace lines in it.
-use Rattle.std.proofs.Common.{◌≡◌, ◌<◌, ◌^◌, ℕ, List, [], ◌∷◌, ◌++◌, map, All, Option, Some, codes, refl, sym, ap, ap₂, ◌∙◌, subst, append_assoc, arith}
+use Rattle.std.proofs.Common.{◌≡◌, ◌<◌, ◌^◌, ℕ, List, [], ◌∷◌, ◌++◌, map, All, Option, Some, codes, refl, sym, ap, ◌∙◌, subst, append_assoc, arith}
 use Rattle.std.specs.Fmt.{decimal}
 use Rattle.std.proofs.lemmas.List.Elements.{All-nil, All-cons, All-head, All-tail}
 use Rattle.tp_io.specs.Held.{Held}
@@ -14,12 +14,12 @@ use Rattle.tp_show.proofs.ReadBackLemmas.{are_told}
 use Rattle.tp_run.specs.States.{Plan}
 use Rattle.tp_run.specs.History.{RunEndsWith, ContinuesEach}
 use Rattle.tp_call.specs.declared.status.Status.{Status}
-use Rattle.tp_call.specs.declared.status.Status.TheVariants.{Finished, Done, Contradictory, Undetermined, StateLimit, ReductionLimit, NumberLimit, ListLimit, CallLimit, NestLimit, InputMissing}
+use Rattle.tp_call.specs.declared.status.Status.TheVariants.{Finished, Undetermined, StateLimit, ReductionLimit, NumberLimit, ListLimit, CallLimit, NestLimit}
 use Rattle.tp_call.specs.Run.{status_of, known_at_end, EndSays}
 use Rattle.tp_call.specs.Written.{Wrote}
 use Rattle.tp_call.specs.Text.{finished_line, SatisfiedAsTold, ContinuesTold}
 use Rattle.tp_call.specs.TracedText.{TracedState, traced_text, IsTraced, IsOneEndLine, ReadsTracedAs, TracedTextTells, FinishedTracedSays, OpenTracedSays}
-use Rattle.tp_call.specs.Answer.{RunsTo, Answers, IsOpenEnd}
+use Rattle.tp_call.specs.Answer.{RunsTo, Answers}
 use Rattle.tp_call.proofs.TurnLemmas.{answer_of, answer_is}
 use Rattle.tp_call.proofs.FactLemmas.{run_facts}
 use Rattle.tp_call.proofs.TextLemmas.{told_all, all_states_of, exactly_told, continues_told, finished_length}

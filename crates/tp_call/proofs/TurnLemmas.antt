@@ -19,7 +19,7 @@ use Rattle.tp_show.specs.Parts.{line_parts}
 use Rattle.tp_show.specs.Read.{plain_parts}
 use Rattle.tp_call.specs.Places.{StandsOpen}
 use Rattle.tp_call.specs.declared.status.Status.{Status}
-use Rattle.tp_call.specs.declared.status.Status.TheVariants.{Finished, Done, Contradictory, Undetermined, StateLimit, ReductionLimit, NumberLimit, ListLimit, CallLimit, NestLimit, InputMissing, SourceRefused, InputsRefused, WordsRefused, TooLong, ReadFault, WriteFault, NoMemory}
+use Rattle.tp_call.specs.declared.status.Status.TheVariants.{Finished, Done, Contradictory, Undetermined, StateLimit, ReductionLimit, NumberLimit, ListLimit, CallLimit, NestLimit, InputMissing, SourceRefused, InputsRefused, WordsRefused, TooLong, ReadFault, WriteFault, NoMemory, OtherRefused, TraceTooLong}
 use Rattle.tp_show.specs.Told.{IsPictureInRange, IsLastTurn}
 use Rattle.tp_call.specs.Run.{last_answer, limit_end, status_of}
 use Rattle.tp_call.specs.Answer.{IsEndOfRun}
@@ -110,6 +110,8 @@ answer_of (InputMissing state port) = turn.InputMissing state port
 answer_of Done = turn.Went
 answer_of (SourceRefused line column kind) = turn.Went
 answer_of (InputsRefused line) = turn.Went
+answer_of (OtherRefused line) = turn.Went
+answer_of (TraceTooLong states) = turn.Went
 answer_of WordsRefused = turn.Went
 answer_of (TooLong which) = turn.Went
 answer_of (ReadFault which) = turn.Went

@@ -5,16 +5,16 @@ use Rattle.tp_io.specs.Held.{Held, bytes_of}
 use Rattle.tp_show.specs.declared.turn.Picture.{Picture}
 use Rattle.tp_run.specs.States.{Plan}
 use Rattle.tp_call.specs.declared.status.Refused.{Refused}
-use Rattle.tp_call.specs.Source.{IsProgram, IsSourceText, IsRefusedAt}
+use Rattle.tp_call.specs.Source.{IsProgram, IsSourceText, IsWideText, IsRefusedAt}
 use Rattle.tp_call.specs.Spelling.{IsReadFromSpelling}
 use Rattle.tp_call.specs.declared.status.Status.{Status}
-use Rattle.tp_call.specs.declared.status.Status.TheVariants.{Finished, Done, Contradictory, Undetermined, StateLimit, ReductionLimit, NumberLimit, ListLimit, CallLimit, NestLimit, InputMissing, SourceRefused, InputsRefused, WordsRefused, TooLong, ReadFault, WriteFault, NoMemory}
+use Rattle.tp_call.specs.declared.status.Status.TheVariants.{Finished, Done, Contradictory, Undetermined, StateLimit, ReductionLimit, NumberLimit, ListLimit, CallLimit, NestLimit, InputMissing, SourceRefused, InputsRefused, WordsRefused, TooLong, ReadFault, WriteFault, NoMemory, OtherRefused, TraceTooLong}
 use Rattle.tp_call.specs.declared.status.Which.{Which}
-use Rattle.tp_call.specs.declared.status.Which.TheVariants.{Source, Inputs}
+use Rattle.tp_call.specs.declared.status.Which.TheVariants.{Source, Inputs, Other}
 use Rattle.tp_tree.specs.Tree.{SourceTree}
 use Rattle.tp_tree.specs.Spelling.{source_spelling}
 use Rattle.tp_words.specs.declared.mode.Mode.{Mode}
-use Rattle.tp_words.specs.declared.mode.Mode.TheVariants.{Run, Print, Convert}
+use Rattle.tp_words.specs.declared.mode.Mode.TheVariants.{Run, Print, Convert, Check}
 use Rattle.tp_words.specs.Words.{Wanted, wanted_of}
 use Rattle.std.specs.Str.Lines.{lines}
 use Rattle.tp_meaning.specs.Inputs.{InputTable}
@@ -23,8 +23,14 @@ use Rattle.tp_inputs.specs.Table.{IsInputsText, IsFirstFault}
 use Rattle.tp_inputs.specs.Converted.{converted}
 use Rattle.tp_show.specs.EndLine.{end_line}
 use Rattle.tp_show.specs.Told.{AreNames, IsPictureInRange}
-use Rattle.tp_call.specs.EndLine.{refusal_line}
-use Rattle.tp_meaning.specs.Interval.{ProgramTree}
+use Rattle.tp_show.specs.declared.named_fact.NamedFact.{NamedFact}
+use Rattle.tp_show.specs.Trace.{IsTraceText, IsFirstBadLine}
+use Rattle.tp_verdict.specs.Verdict.{Verdict}
+use Rattle.tp_verdict.specs.Sound.{WideFits}
+use Rattle.tp_monitor.specs.WideOf.{NamedWide}
+use Rattle.tp_monitor.specs.Told.{state_limit, verdict_by}
+use Rattle.tp_call.specs.EndLine.{refusal_line, verdict_line}
+use Rattle.tp_meaning.specs.Interval.{ProgramTree, kinds_of}
 use Rattle.tp_meaning.specs.Fits.{ProgramFits}
 use Rattle.tp_call.specs.Run.{EndSays, RunEnds, known_at_end, Settles}
 use Rattle.tp_call.specs.Printed.{ended_text, settled_text}
@@ -48,6 +54,10 @@ HoldsProgram program source = (length source ≤ source_limit) × IsProgram sour
 abbrev pub HoldsSource : SourceTree → List ℕ → Type 0
 HoldsSource tree source = (length source ≤ source_limit) × IsSourceText source tree
 
+-- the source has at most so many bytes, and is this wider formula
+abbrev pub HoldsWide : NamedWide → List ℕ → Type 0
+HoldsWide wide source = (length source ≤ source_limit) × IsWideText source wide
+
 -- the source has at most so many bytes, and is refused there for this cause
 abbrev pub HoldsRefused : Refused → Mode → List ℕ → Type 0
 HoldsRefused refused mode source = (length source ≤ source_limit) × IsRefusedAt mode source refused
@@ -67,6 +77,14 @@ inputs_limit = 16777216
 -- a file of at most so many bytes is this table of inputs
 abbrev pub HoldsTable : InputTable → List ℕ → Type 0
 HoldsTable table bytes = (length bytes ≤ inputs_limit) × IsInputsText bytes table
+
+-- The greatest length of a trace, in bytes.
+abbrev pub trace_limit : ℕ
+trace_limit = 16777216
+
+-- a file of at most so many bytes is a trace of these states
+abbrev pub HoldsTrace : (trace : List (List NamedFact)) → List ℕ → Type 0
+HoldsTrace trace bytes = (length bytes ≤ trace_limit) × IsTraceText bytes trace
 
 -- the inputs of a file, where one is named, are this table; without a name there are none
 abbrev pub HasInputs : (name : Option (List ℕ)) → Option Held → InputTable → Type 0
@@ -102,10 +120,35 @@ pub record IsAskedToConvert (words : List (List ℕ)) (held : Option Held)
   pub mode : wanted.mode ≡ Convert
   pub inputs : WhereTold held (λ files. HoldsTable table (bytes_of files wanted.file))
 
+-- What is checked: the words are accepted, ask for that, and name a source that is this wider
+-- formula, and another file, which is a trace of these states.
+pub record IsAskedToCheck (words : List (List ℕ)) (held : Option Held) (wide : NamedWide)
+    (trace : List (List NamedFact)) : Type 0 where
+  pub wanted : Wanted
+  pub accepted : wanted_of words ≡ Some wanted
+  pub mode : wanted.mode ≡ Check
+  pub source : WhereTold held (λ files. HoldsWide wide (bytes_of files wanted.file))
+  pub name : List ℕ
+  pub named : wanted.other ≡ Some name
+  pub other : WhereTold held (λ files. HoldsTrace trace (bytes_of files name))
+
+-- This is the verdict on the wider formula that is to be checked, by the trace that it is checked
+-- with, which has a state, and no more than are judged. The formula's expressions fit its
+-- variables.
+pub record IsJudged (words : List (List ℕ)) (held : Option Held) (verdict : Verdict) : Type 0 where
+  pub wide : NamedWide
+  pub trace : List (List NamedFact)
+  pub asked : IsAskedToCheck words held wide trace
+  pub fits : WideFits (kinds_of wide.globals) wide.formula
+  pub some_state : 0 < length trace
+  pub within : length trace ≤ state_limit
+  pub verdict_is : verdict ≡ verdict_by wide trace
+
 -- a file has more bytes than it may have
 abbrev pub byte_limit : Which → ℕ
 byte_limit Source = source_limit
 byte_limit Inputs = inputs_limit
+byte_limit Other = trace_limit
 
 abbrev pub IsPastLimit : Which → List ℕ → Type 0
 IsPastLimit which bytes = byte_limit which < length bytes
@@ -115,15 +158,33 @@ abbrev pub HasBadLine : ℕ → List ℕ → Type 0
 HasBadLine line bytes =
     (length bytes ≤ inputs_limit) × ((fault : Fault) × IsFirstFault (lines bytes) line fault)
 
+-- the other file is refused at this line
+abbrev pub HasBadTraceLine : ℕ → List ℕ → Type 0
+HasBadTraceLine line bytes =
+    (length bytes ≤ trace_limit) × IsFirstBadLine (lines bytes) line
+
+-- it is a trace of so many states, which are more than are judged
+abbrev pub HasManyStates : ℕ → List ℕ → Type 0
+HasManyStates states bytes =
+    (trace : List (List NamedFact)) × HoldsTrace trace bytes × (length trace ≡ states)
+    × (state_limit < states)
+
 -- What a mode needs of a file that it reads, to go on: to run, the source is a program, and the
--- inputs are a table; to print, the source is one of the grammar; to convert, the inputs are a table.
+-- inputs are a table; to print, the source is one of the grammar; to convert, the inputs are a
+-- table; to check, the source is a wider formula, and the other file is a trace.
 abbrev pub Serves : Mode → Which → List ℕ → Type 0
 Serves Run Source bytes = (program : ProgramTree) × HoldsProgram program bytes
 Serves Run Inputs bytes = (table : InputTable) × HoldsTable table bytes
+Serves Run Other bytes = ⊥
 Serves Print Source bytes = (tree : SourceTree) × HoldsSource tree bytes
 Serves Print Inputs bytes = ⊥
+Serves Print Other bytes = ⊥
 Serves Convert Source bytes = ⊥
 Serves Convert Inputs bytes = (table : InputTable) × HoldsTable table bytes
+Serves Convert Other bytes = ⊥
+Serves Check Source bytes = (wide : NamedWide) × HoldsWide wide bytes
+Serves Check Inputs bytes = ⊥
+Serves Check Other bytes = (trace : List (List NamedFact)) × HoldsTrace trace bytes
 
 -- The words are accepted, and this file is one that their mode reads: it has P for what is to be
 -- done with it, and each one that is read before it serves the mode. `Tells` says how this is said
@@ -162,8 +223,8 @@ pub record Spells (words : List (List ℕ)) (held : Option Held) (status : Statu
   pub written : text ≡ source_spelling tree
   pub read_back : IsReadFromSpelling tree
 
--- The inputs that are asked for were converted, which has this status, and the text is that of their
--- table, which is read back as this table.
+-- The inputs that are asked for were converted, which has this status, and the text is that of
+-- their table, which is read back as this table.
 pub record Converts (words : List (List ℕ)) (held : Option Held) (status : Status)
     (text : List ℕ) : Type 0 where
   pub table : InputTable
@@ -171,6 +232,15 @@ pub record Converts (words : List (List ℕ)) (held : Option Held) (status : Sta
   pub status_is : status ≡ Done
   pub written : text ≡ converted table
   pub read_back : IsInputsText (converted table) table
+
+-- The trace that is asked for was judged by the wider formula, which has this status, and the text
+-- is the line of the verdict.
+pub record Judges (words : List (List ℕ)) (held : Option Held) (status : Status)
+    (text : List ℕ) : Type 0 where
+  pub verdict : Verdict
+  pub judged : IsJudged words held verdict
+  pub status_is : status ≡ Done
+  pub written : text ≡ verdict_line verdict
 
 -- The cause of a refusal.
 abbrev pub Refuses : List (List ℕ) → Option Held → Status → Type 0
@@ -184,6 +254,10 @@ Refuses words held (ReadFault which) =
     ReadsFile words (WhereTold held) which (λ mode bytes. Unit {0})
 Refuses words held (InputsRefused line) =
     ReadsFile words (WhereTold held) Inputs (λ mode. HasBadLine line)
+Refuses words held (OtherRefused line) =
+    ReadsFile words (WhereTold held) Other (λ mode. HasBadTraceLine line)
+Refuses words held (TraceTooLong states) =
+    ReadsFile words (WhereTold held) Other (λ mode. HasManyStates states)
 Refuses words held (Finished length) = ⊥
 Refuses words held Done = ⊥
 Refuses words held (Contradictory state clash) = ⊥
@@ -199,11 +273,11 @@ Refuses words held WriteFault = ⊥
 Refuses words held NoMemory = ⊥
 
 -- A call ends with this status and has written this text: that of a run, the spelling of a source,
--- inputs in the second format, or the end line of a refusal alone.
+-- inputs in the second format, the line of a verdict, or the end line of a refusal alone.
 abbrev pub CallEnds : List (List ℕ) → Option Held → Status → List ℕ → Type 0
 CallEnds words held status text =
     RunsTo words held status text ⊎ Spells words held status text
-    ⊎ Converts words held status text
+    ⊎ Converts words held status text ⊎ Judges words held status text
     ⊎ (Refuses words held status × (text ≡ refusal_line status))
 
 -- the states of a run of what is asked for, whose program's parts fit each other, and their text
@@ -278,8 +352,8 @@ IsToConvert table mode bytes = (mode ≡ Convert) × HoldsTable table bytes
 abbrev pub IsOrStopped : Status → Status → Type 0
 IsOrStopped status result = (result ≡ status) ⊎ (result ≡ WriteFault) ⊎ (result ≡ NoMemory)
 
--- a run ended: the answer is none of a source that is printed or inputs that are converted, of a
--- refusal, of a fault or of want of memory
+-- a run ended: the answer is none of a source that is printed, inputs that are converted or a trace
+-- that is judged, of a refusal, of a fault or of want of memory
 abbrev pub IsEndOfRun : Status → Type 0
 IsEndOfRun (Finished length) = Unit {0}
 IsEndOfRun (Contradictory state clash) = Unit {0}
@@ -294,6 +368,8 @@ IsEndOfRun (InputMissing state port) = Unit {0}
 IsEndOfRun Done = ⊥
 IsEndOfRun (SourceRefused line column kind) = ⊥
 IsEndOfRun (InputsRefused line) = ⊥
+IsEndOfRun (OtherRefused line) = ⊥
+IsEndOfRun (TraceTooLong states) = ⊥
 IsEndOfRun WordsRefused = ⊥
 IsEndOfRun (TooLong which) = ⊥
 IsEndOfRun (ReadFault which) = ⊥
@@ -315,6 +391,8 @@ IsOpenEnd (InputMissing state port) = ⊥
 IsOpenEnd Done = ⊥
 IsOpenEnd (SourceRefused line column kind) = ⊥
 IsOpenEnd (InputsRefused line) = ⊥
+IsOpenEnd (OtherRefused line) = ⊥
+IsOpenEnd (TraceTooLong states) = ⊥
 IsOpenEnd WordsRefused = ⊥
 IsOpenEnd (TooLong which) = ⊥
 IsOpenEnd (ReadFault which) = ⊥

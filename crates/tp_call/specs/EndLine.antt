@@ -1,16 +1,18 @@
--- The end line of each refusal, and the code of each status.
+-- The end line of each refusal, the line of each verdict, and the code of each status.
 use Rattle.std.specs.Prelude.{ℕ, List, [], ◌++◌, codes}
 use Rattle.std.specs.Fmt.{decimal}
+use Rattle.tp_verdict.specs.Verdict.{Verdict, yes, no, undecided}
 use Rattle.tp_call.specs.declared.status.Status.{Status}
-use Rattle.tp_call.specs.declared.status.Status.TheVariants.{Finished, Done, Contradictory, Undetermined, StateLimit, ReductionLimit, NumberLimit, ListLimit, CallLimit, NestLimit, InputMissing, SourceRefused, InputsRefused, WordsRefused, TooLong, ReadFault, WriteFault, NoMemory}
+use Rattle.tp_call.specs.declared.status.Status.TheVariants.{Finished, Done, Contradictory, Undetermined, StateLimit, ReductionLimit, NumberLimit, ListLimit, CallLimit, NestLimit, InputMissing, SourceRefused, InputsRefused, WordsRefused, TooLong, ReadFault, WriteFault, NoMemory, OtherRefused, TraceTooLong}
 use Rattle.tp_call.specs.declared.status.Which.{Which}
-use Rattle.tp_call.specs.declared.status.Which.TheVariants.{Source, Inputs}
+use Rattle.tp_call.specs.declared.status.Which.TheVariants.{Source, Inputs, Other}
 use Rattle.tp_call.specs.declared.status.SourceKind.{SourceKind}
 use Rattle.tp_call.specs.declared.status.SourceKind.TheVariants.{BadByte, OpenComment, NumberTooLarge, NameTooLong, Unexpected, Unfinished, TooDeep, DefinedTwice, UnknownName, WrongCount, NotExpression, NotPlace, NotPort, NotExecutable}
 
 abbrev pub which_text : Which → List ℕ
 which_text Source = codes "source"
 which_text Inputs = codes "inputs"
+which_text Other = codes "other"
 
 abbrev pub kind_text : SourceKind → List ℕ
 kind_text BadByte = codes "bad byte"
@@ -38,6 +40,9 @@ abbrev pub refusal_words : Status → List ℕ
 refusal_words (SourceRefused line column kind) =
     place_text line column ++ codes ": " ++ kind_text kind
 refusal_words (InputsRefused line) = codes "inputs refused: line " ++ decimal line
+refusal_words (OtherRefused line) = codes "other refused: line " ++ decimal line
+refusal_words (TraceTooLong states) =
+    codes "trace too long: " ++ decimal states ++ codes " states"
 refusal_words WordsRefused = codes "words refused"
 refusal_words (TooLong which) = codes "too long: " ++ which_text which
 refusal_words (ReadFault which) = codes "read fault: " ++ which_text which
@@ -57,6 +62,12 @@ refusal_words NoMemory = []
 
 abbrev pub refusal_line : Status → List ℕ
 refusal_line status = refusal_words status ++ codes "\n"
+
+-- the line of a verdict
+abbrev pub verdict_line : Verdict → List ℕ
+verdict_line yes = codes "holds\n"
+verdict_line no = codes "does not hold\n"
+verdict_line undecided = codes "open\n"
 
 -- the exit status of the program
 abbrev pub code_of : Status → ℕ
@@ -78,3 +89,5 @@ code_of (TooLong which) = 13
 code_of (ReadFault which) = 14
 code_of WriteFault = 15
 code_of NoMemory = 16
+code_of (OtherRefused line) = 17
+code_of (TraceTooLong states) = 18

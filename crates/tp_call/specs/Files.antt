@@ -1,12 +1,10 @@
--- The files that a call reads, and those that it asked for.
-use Rattle.std.specs.Prelude.{◌≡◌, ◌⊎◌, ℕ, List, [], ◌∷◌, ◌++◌, take, map, Option, None, Some}
-use Rattle.std.specs.Option.{option_map}
-use Rattle.std.specs.List.{last_or}
+-- The files that a call reads.
+use Rattle.std.specs.Prelude.{◌≡◌, ◌⊎◌, ℕ, List, [], ◌∷◌, Option, None, Some}
 use Rattle.tp_words.specs.declared.mode.Mode.{Mode}
-use Rattle.tp_words.specs.declared.mode.Mode.TheVariants.{Run, Print, Convert}
+use Rattle.tp_words.specs.declared.mode.Mode.TheVariants.{Run, Print, Convert, Check}
 use Rattle.tp_words.specs.Words.{Wanted, wanted_of}
 use Rattle.tp_call.specs.declared.status.Which.{Which}
-use Rattle.tp_call.specs.declared.status.Which.TheVariants.{Source, Inputs}
+use Rattle.tp_call.specs.declared.status.Which.TheVariants.{Source, Inputs, Other}
 
 -- a file that is read, and the name that the words give it
 pub record NamedFile : Type 0 where
@@ -22,11 +20,13 @@ files_named which None = []
 files_named which (Some name) = file_named which name ∷ []
 
 -- The files that a mode reads, in order: to run, the source, and then the inputs where they are
--- named; to print, the source; to convert, the inputs.
+-- named; to print, the source; to convert, the inputs; to check, the source, and then the other
+-- file.
 abbrev pub files_read : Mode → Wanted → List NamedFile
 files_read Run wanted = file_named Source wanted.file ∷ files_named Inputs wanted.inputs
 files_read Print wanted = file_named Source wanted.file ∷ []
 files_read Convert wanted = file_named Inputs wanted.file ∷ []
+files_read Check wanted = file_named Source wanted.file ∷ files_named Other wanted.other
 
 -- those of the mode that words ask for; of words that are refused, none
 abbrev pub files_wanted : Option Wanted → List NamedFile
@@ -42,14 +42,3 @@ abbrev pub IsFoundIn : (which : Which) (Q : NamedFile → Type 0) (P : List ℕ 
 IsFoundIn which Q P [] = ⊥
 IsFoundIn which Q P (file ∷ files) =
     ((file.which ≡ which) × P file.name) ⊎ (Q file × IsFoundIn which Q P files)
-
--- The names that were asked for are those of the first of the files that the mode reads, in their
--- order; where a read failed, the last one of these is the file that the fault names.
-pub record AsksOnly (words : List (List ℕ)) (old new : Option (List (List ℕ)))
-    (failed : Which → Type 0) : Type 0 where
-  pub count : ℕ
-  pub asked : new ≡ option_map
-      (λ before. before ++ map (λ (file : NamedFile). file.name) (take count (files_of words))) old
-  pub last : (which : Which) → failed which
-      → last_or None (map (λ (file : NamedFile). file.which) (take count (files_of words)))
-      ≡ Some which

@@ -1,25 +1,30 @@
 -- What a call promises of its answer, one sentence each: of the words, of what the files hold, of
 -- what was written before and after, and of the status that is answered.
-use Rattle.std.specs.Prelude.{◌≡◌, ◌⊎◌, ℕ, List, length, Option, None, Some}
+use Rattle.std.specs.Prelude.{◌≡◌, ◌⊎◌, ◌≤◌, ℕ, List, length, Option, None, Some}
 use Rattle.tp_io.specs.Held.{Held}
 use Rattle.tp_scene.specs.declared.answer.Cell.{Cell}
 use Rattle.tp_scene.specs.declared.answer.Clash.{Clash}
 use Rattle.tp_run.specs.History.{SatisfiedExactly, Satisfiable, Unsatisfiable, ContinuesEach}
 use Rattle.tp_call.specs.declared.status.Refused.{Refused}
 use Rattle.tp_call.specs.declared.status.Status.{Status}
-use Rattle.tp_call.specs.declared.status.Status.TheVariants.{Finished, Done, Contradictory, Undetermined, StateLimit, InputMissing, SourceRefused, InputsRefused, WordsRefused, TooLong}
+use Rattle.tp_call.specs.declared.status.Status.TheVariants.{Finished, Done, Contradictory, Undetermined, StateLimit, InputMissing, SourceRefused, InputsRefused, WordsRefused, TooLong, OtherRefused, TraceTooLong}
 use Rattle.tp_call.specs.declared.status.SourceKind.{SourceKind}
 use Rattle.tp_call.specs.declared.status.Which.{Which}
-use Rattle.tp_call.specs.declared.status.Which.TheVariants.{Source, Inputs}
+use Rattle.tp_call.specs.declared.status.Which.TheVariants.{Source, Inputs, Other}
 use Rattle.tp_tree.specs.Tree.{SourceTree}
 use Rattle.tp_meaning.specs.Inputs.{InputTable}
+use Rattle.tp_show.specs.declared.named_fact.NamedFact.{NamedFact}
+use Rattle.tp_monitor.specs.WideOf.{NamedWide}
+use Rattle.tp_monitor.specs.Told.{state_limit}
 use Rattle.tp_words.specs.Words.{wanted_of}
 use Rattle.tp_run.specs.States.{Plan}
 use Rattle.tp_show.specs.Told.{FitsIn64Bits}
+use Rattle.tp_call.specs.Judged.{WritesVerdict}
 use Rattle.tp_call.specs.Text.{AsksNothingBeside, TextTells, SatisfiedAsTold, ContinuesTold, finished_line}
-use Rattle.tp_call.specs.Answer.{WhereTold, AsTold, HoldsRefused, IsPastLimit, HasBadLine, IsAskedFor, IsToPrint, IsToConvert, ReadsFile, Prints, WritesSpelling, WritesTable, IsOrStopped, IsOrFailed, IsEndOfRun, IsOpenEnd, HasFailed, refused_status}
+use Rattle.tp_call.specs.Answer.{WhereTold, AsTold, HoldsRefused, IsPastLimit, HasBadLine, HasBadTraceLine, HasManyStates, IsAskedFor, IsAskedToCheck, IsToPrint, IsToConvert, ReadsFile, Prints, WritesSpelling, WritesTable, IsOrStopped, IsOrFailed, IsEndOfRun, IsOpenEnd, HasFailed, refused_status}
 
-module _ (words : List (List ℕ)) (held : Option Held) (old new : Option (List ℕ)) (result : Status) where
+module _ (words : List (List ℕ)) (held : Option Held) (old new : Option (List ℕ))
+    (result : Status) where
   -- A run that finishes with length n: an interval satisfies the program, and shows S, exactly
   -- where it has this length, agrees with each printed state, and S is what these show; and there
   -- is such an interval.
@@ -75,11 +80,13 @@ module _ (words : List (List ℕ)) (held : Option Held) (old new : Option (List 
       → TextTells words held old new (λ plan told last. ContinuesTold plan told)
 
   -- Done: the words ask to print a source of the grammar, and what was appended is its canonical
-  -- spelling, which is read back as this source; or they ask to convert inputs, and what was appended
-  -- is the text of their table in the second format, which is read back as this table.
+  -- spelling, which is read back as this source; or they ask to convert inputs, and what was
+  -- appended is the text of their table in the second format, which is read back as this table; or
+  -- they ask to check a trace by a wider formula, and what was appended is the line of the verdict.
   abbrev pub DoneSays : Type 0
   DoneSays =
       result ≡ Done → WritesSpelling words held old new ⊎ WritesTable words held old new
+      ⊎ WritesVerdict words held old new
 
 -- Of the words, of what the files hold, and of the status.
 module _ (words : List (List ℕ)) (held : Option Held) (result : Status) where
@@ -104,6 +111,15 @@ module _ (words : List (List ℕ)) (held : Option Held) (result : Status) where
       (table : InputTable) → ReadsFile words (AsTold held) Inputs (IsToConvert table)
       → IsOrFailed Done result
 
+  -- Where the words ask to check a file that holds a wider formula with another file that holds a
+  -- trace, of no more states than are judged, this is done, unless a read or a write fails or
+  -- memory is wanted.
+  abbrev pub TraceIsChecked : Type 0
+  TraceIsChecked =
+      (files : Held) → held ≡ Some files → (wide : NamedWide) (trace : List (List NamedFact))
+      → IsAskedToCheck words held wide trace → length trace ≤ state_limit
+      → IsOrFailed Done result
+
   -- The words are refused exactly where they ask for nothing that a call does.
   pub record WordsRefusedExactly : Type 0 where
     pub only : result ≡ WordsRefused → wanted_of words ≡ None
@@ -117,9 +133,10 @@ module _ (words : List (List ℕ)) (held : Option Held) (result : Status) where
     pub there : (which : Which) → ReadsFile words (AsTold held) which (λ mode. IsPastLimit which)
         → IsOrFailed (TooLong which) result
 
-  -- The source is refused exactly where it is no program, and in the mode `print` where it is no
-  -- source of the grammar: there and for the cause that its grammar names first, or for a program
-  -- after it the rules of positions.
+  -- The source is refused exactly where it is no program, in the mode `print` where it is no source
+  -- of the grammar, and in the mode `check` where it is no wider formula: there and for the cause
+  -- that its grammar names first, or for a program or a wider formula after it the rules of
+  -- positions.
   pub record SourceRefusedExactly : Type 0 where
     pub only : (line column : ℕ) (kind : SourceKind) → result ≡ SourceRefused line column kind
         → ReadsFile words (WhereTold held) Source
@@ -127,10 +144,26 @@ module _ (words : List (List ℕ)) (held : Option Held) (result : Status) where
     pub there : (refused : Refused) → ReadsFile words (AsTold held) Source (HoldsRefused refused)
         → IsOrFailed (refused_status refused) result
 
-  -- The inputs of a source that is a program, or those that are to be converted, are refused exactly
-  -- where they are no table, at the first line that is at fault.
+  -- The inputs of a source that is a program, or those that are to be converted, are refused
+  -- exactly where they are no table, at the first line that is at fault.
   pub record InputsRefusedExactly : Type 0 where
     pub only : (line : ℕ) → result ≡ InputsRefused line
         → ReadsFile words (WhereTold held) Inputs (λ mode. HasBadLine line)
     pub there : (line : ℕ) → ReadsFile words (AsTold held) Inputs (λ mode. HasBadLine line)
         → IsOrFailed (InputsRefused line) result
+
+  -- The other file of a source that is a wider formula is refused exactly where it is no trace, at
+  -- the first line that isn't allowed.
+  pub record OtherRefusedExactly : Type 0 where
+    pub only : (line : ℕ) → result ≡ OtherRefused line
+        → ReadsFile words (WhereTold held) Other (λ mode. HasBadTraceLine line)
+    pub there : (line : ℕ) → ReadsFile words (AsTold held) Other (λ mode. HasBadTraceLine line)
+        → IsOrFailed (OtherRefused line) result
+
+  -- It is too long to be judged exactly where it is a trace of so many states, and they are more
+  -- than are judged.
+  pub record TraceTooLongExactly : Type 0 where
+    pub only : (states : ℕ) → result ≡ TraceTooLong states
+        → ReadsFile words (WhereTold held) Other (λ mode. HasManyStates states)
+    pub there : (states : ℕ) → ReadsFile words (AsTold held) Other (λ mode. HasManyStates states)
+        → IsOrFailed (TraceTooLong states) result

@@ -16,6 +16,8 @@ pub mod EveryOrder
 pub mod Trace
 pub mod TracedText
 pub mod LastLine
+pub mod Judged
+pub mod Asked
 pub mod Headline
 pub mod EachRun
 pub mod InOrder

@@ -1,4 +1,5 @@
--- Which source of the grammar and which program a text is, or where and why it is refused.
+-- Which source of the grammar, which program and which wider formula a text is, or where and why it
+-- is refused.
 use Rattle.std.specs.Prelude.{◌≡◌, ◌⊎◌, ℕ, List, length, Option, None, Some, slice_get, Ok, Err}
 use Rattle.tp_lex.specs.declared.token.Token.{Token}
 use Rattle.tp_lex.specs.declared.refusal.LexRefusal.{LexRefusal}
@@ -14,8 +15,9 @@ use Rattle.tp_meaning.specs.Interval.{ProgramTree}
 use Rattle.tp_check.specs.Program.{ChecksTo}
 use Rattle.tp_check.specs.declared.refusal.CheckRefusal.{CheckRefusal}
 use Rattle.tp_check.specs.declared.refusal.CheckRefusal.TheVariants as check
+use Rattle.tp_monitor.specs.WideOf.{NamedWide, wide_of_source}
 use Rattle.tp_words.specs.declared.mode.Mode.{Mode}
-use Rattle.tp_words.specs.declared.mode.Mode.TheVariants.{Run, Print, Convert}
+use Rattle.tp_words.specs.declared.mode.Mode.TheVariants.{Run, Print, Convert, Check}
 use Rattle.tp_call.specs.declared.status.SourceKind.{SourceKind}
 use Rattle.tp_call.specs.declared.status.SourceKind.TheVariants.{BadByte, OpenComment, NumberTooLarge, NameTooLong, Unexpected, Unfinished, TooDeep, DefinedTwice, UnknownName, WrongCount, NotExpression, NotPlace, NotPort, NotExecutable}
 use Rattle.tp_call.specs.declared.status.Refused.{Refused}
@@ -34,6 +36,12 @@ pub record IsProgram (source : List ℕ) (program : ProgramTree) : Type 0 where
   pub are_tokens : AreTokens source tokens
   pub accepted : Accepts tokens tree
   pub checked : ChecksTo tree (Ok program)
+
+-- this text is a source of the grammar that is this wider formula
+pub record IsWideText (source : List ℕ) (wide : NamedWide) : Type 0 where
+  pub tree : SourceTree
+  pub is_source : IsSourceText source tree
+  pub wide_is : wide_of_source tree ≡ Ok wide
 
 -- the line and column of the byte, with the kind of refusal there
 abbrev pub refused_at : List ℕ → ℕ → SourceKind → Refused
@@ -93,15 +101,24 @@ pub record IsNotRun (source : List ℕ) (refused : Refused) : Type 0 where
   pub outcome : ChecksTo tree (Err refusal)
   pub answer : checker_refusal source refusal ≡ Some refused
 
+-- the text is a source of the grammar that is no wider formula
+pub record IsNotWide (source : List ℕ) (refused : Refused) : Type 0 where
+  pub tree : SourceTree
+  pub is_source : IsSourceText source tree
+  pub refusal : CheckRefusal
+  pub outcome : wide_of_source tree ≡ Err refusal
+  pub answer : checker_refusal source refusal ≡ Some refused
+
 -- This text is no source of the grammar, and is refused at this place for this cause: the lexer's
 -- refusal comes before the parser's.
 abbrev pub IsOutsideGrammar : List ℕ → Refused → Type 0
 IsOutsideGrammar source refused = HasNoTokens source refused ⊎ HasNoTree source refused
 
 -- This text is refused at this place, for this cause: to be printed it has to be a source of the
--- grammar, and to be run it has to be a program, for which it is checked last. To convert inputs, no
--- source is read.
+-- grammar, and to be run it has to be a program, for which it is checked last; to check a trace by
+-- it, it has to be a wider formula, which is looked at last. To convert inputs, no source is read.
 abbrev pub IsRefusedAt : Mode → List ℕ → Refused → Type 0
 IsRefusedAt Print source refused = IsOutsideGrammar source refused
 IsRefusedAt Convert source refused = ⊥
 IsRefusedAt Run source refused = IsOutsideGrammar source refused ⊎ IsNotRun source refused
+IsRefusedAt Check source refused = IsOutsideGrammar source refused ⊎ IsNotWide source refused

@@ -7,14 +7,16 @@ use Rattle.tp_show.specs.Told.{AreNames, FitsIn64Bits}
 use Rattle.tp_show.specs.EndLine.{end_line}
 use Rattle.tp_show.specs.EndsTold.{AreStoreVariables, IsTurnOf, EndsToldAlike}
 use Rattle.tp_call.specs.declared.status.Status.{Status}
-use Rattle.tp_call.specs.declared.status.Status.TheVariants.{Finished, Done, Contradictory, Undetermined, StateLimit, ReductionLimit, NumberLimit, ListLimit, CallLimit, NestLimit, InputMissing, SourceRefused, InputsRefused, WordsRefused, TooLong, ReadFault, WriteFault, NoMemory}
+use Rattle.tp_call.specs.declared.status.Status.TheVariants.{Finished, Done, Contradictory, Undetermined, StateLimit, ReductionLimit, NumberLimit, ListLimit, CallLimit, NestLimit, InputMissing, SourceRefused, InputsRefused, WordsRefused, TooLong, ReadFault, WriteFault, NoMemory, OtherRefused, TraceTooLong}
 use Rattle.tp_call.specs.EndLine.{refusal_line}
 use Rattle.tp_call.specs.Run.{status_of}
 
--- a refusal that has an end line, at a line and a column of 64 bits
+-- a refusal that has an end line, with numbers of 64 bits
 abbrev pub IsToldRefusal : Status → Type 0
 IsToldRefusal (SourceRefused line column kind) = FitsIn64Bits line × FitsIn64Bits column
 IsToldRefusal (InputsRefused line) = FitsIn64Bits line
+IsToldRefusal (OtherRefused line) = FitsIn64Bits line
+IsToldRefusal (TraceTooLong states) = FitsIn64Bits states
 IsToldRefusal WordsRefused = Unit {0}
 IsToldRefusal (TooLong which) = Unit {0}
 IsToldRefusal (ReadFault which) = Unit {0}

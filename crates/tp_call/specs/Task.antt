@@ -10,6 +10,7 @@ use Rattle.tp_inputs.specs.Converted.{converted}
 use Rattle.tp_step.specs.declared.order.Order.{Order}
 use Rattle.tp_show.specs.Told.{AreNames}
 use Rattle.tp_run.specs.States.{Plan, plan_with}
+use Rattle.tp_verdict.specs.Code.{verdict_of}
 use Rattle.tp_words.specs.declared.command.Command.{Command}
 use Rattle.tp_words.specs.Command.{wanted_by}
 use Rattle.tp_words.specs.Words.{Wanted, wanted_of}
@@ -17,7 +18,7 @@ use Rattle.tp_call.specs.declared.run.Task.{Task}
 use Rattle.tp_call.specs.declared.job.Job.{Job}
 use Rattle.tp_call.specs.declared.job.Job.TheVariants as job
 use Rattle.tp_call.specs.Spelling.{IsReadFromSpelling}
-use Rattle.tp_call.specs.Answer.{IsAskedFor, IsAskedToPrint, IsAskedToConvert}
+use Rattle.tp_call.specs.Answer.{IsAskedFor, IsAskedToPrint, IsAskedToConvert, IsJudged}
 use Rattle.tp_words.specs.declared.beside.Beside.{Beside}
 
 -- the plan of a task
@@ -48,7 +49,7 @@ pub record IsTaskFor (words : List (List ℕ)) (held : Option Held) (task : Task
   pub beside : WritesBesideAsAsked words task.beside
   pub order : OrdersAsAsked words task.order
 
--- the words ask for this task, to print this source, or to convert these inputs
+-- the words ask for this task, to print this source, to convert these inputs, or for this verdict
 abbrev pub IsJobFor : List (List ℕ) → Option Held → Job → Type 0
 IsJobFor words held (job.Run task) = IsTaskFor words held task
 IsJobFor words held (job.Print source) =
@@ -56,3 +57,4 @@ IsJobFor words held (job.Print source) =
 IsJobFor words held (job.Convert inputs) =
     IsAskedToConvert words held (inputs_of inputs)
     × IsInputsText (converted (inputs_of inputs)) (inputs_of inputs)
+IsJobFor words held (job.Check verdict) = IsJudged words held (verdict_of verdict)

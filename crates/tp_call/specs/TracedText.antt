@@ -72,7 +72,8 @@ pub record TracedTextTells (words : List (List ℕ)) (held : Option Held) (old n
   pub means : (other : List ToldState) (last : List ℕ)
       → ReadsTracedAs plan.program.globals text other last → P plan other last
 
-module _ (words : List (List ℕ)) (held : Option Held) (old new : Option (List ℕ)) (result : Status) where
+module _ (words : List (List ℕ)) (held : Option Held) (old new : Option (List ℕ))
+    (result : Status) where
   -- Where a run finishes and the files tell what they hold, whether a trace is asked for or not:
   -- however the text is read, an interval satisfies the program and shows S exactly where it has
   -- the length n of the last line, agrees with what the states' lines say, and S is what the `show`

@@ -9,7 +9,7 @@ ghost use Rattle.tp_call.specs.declared.status.Which.{Which};
 ghost use Rattle.tp_inputs.specs.Read.{inputs_of};
 ghost use Rattle.tp_inputs.specs.Converted.{converted};
 ghost use Rattle.tp_inputs.specs.Table.{IsInputsText};
-ghost use Rattle.tp_call.specs.Files.{AsksOnly};
+ghost use Rattle.tp_call.specs.Asked.{AsksOnly};
 ghost use Rattle.tp_call.specs.Answer.{inputs_limit, WhereTold, HoldsProgram, HasInputs, IsAskedFor, Answers};
 ghost use Rattle.tp_call.specs.Reading.{AsksFile, AsksTable};
 ghost use Rattle.tp_call.specs.Task.{plan_of, AsksFor, WritesBesideAsAsked, OrdersAsAsked, IsTaskFor, IsJobFor};
@@ -19,6 +19,7 @@ ghost use Rattle.tp_call.specs.InOrder.{StatusInOrder, FailsInOrder};
 ghost use Rattle.tp_call.specs.Progress.{line_of_end, ClosesAnswer, ClosesRun};
 ghost use Rattle.tp_show.specs.Told.{AreNames, IsLastTurn};
 
+use crate::checking::{verdict_for, write_verdict};
 use crate::close::{close, refuse};
 use crate::command::command_for;
 use crate::converting::write_inputs;
@@ -168,8 +169,8 @@ fn task_for<F: Files>(alloc: Global, command: &Command, files: &mut F) -> Result
     ensures refused { IfErr result (λ status. (words : List (List ℕ)) → AsksFor words command.now
         → IsProgramRefusal words (F.held files.old) status) }
     ensures asked { (words : List (List ℕ)) → AsksFor words command.now
-        → AsksOnly words (F.asked files.old) (F.asked files.new) (λ which.
-        result ≡ Err (Status.ReadFault which)) }
+        → AsksOnly words (F.held files.old) (F.asked files.old) (F.asked files.new)
+        (λ which. result ≡ Err (Status.ReadFault which)) }
     ensures held { F.held files.new ≡ F.held files.old }
     ensures later { F.faults files.old ≤ F.faults files.new }
     ensures read_fault { (which : Which) → result ≡ Err (Status.ReadFault which)
@@ -190,8 +191,8 @@ fn task_for<F: Files>(alloc: Global, command: &Command, files: &mut F) -> Result
 fn job_for<F: Files>(alloc: Global, words: &[Text], files: &mut F) -> Result<Job, Status>
     ensures job { IfOk result (IsJobFor words.now (F.held files.old)) }
     ensures refused { IfErr result (IsProgramRefusal words.now (F.held files.old)) }
-    ensures asked { AsksOnly words.now (F.asked files.old) (F.asked files.new) (λ which.
-        result ≡ Err (Status.ReadFault which)) }
+    ensures asked { AsksOnly words.now (F.held files.old) (F.asked files.old) (F.asked files.new)
+        (λ which. result ≡ Err (Status.ReadFault which)) }
     ensures held { F.held files.new ≡ F.held files.old }
     ensures later { F.faults files.old ≤ F.faults files.new }
     ensures read_fault { (which : Which) → result ≡ Err (Status.ReadFault which)
@@ -201,6 +202,7 @@ fn job_for<F: Files>(alloc: Global, words: &[Text], files: &mut F) -> Result<Job
     match command.mode {
         Mode::Run => Ok(Job::Run(task_for(alloc, &command, files)?)),
         Mode::Print => Ok(Job::Print(read_tree(alloc, command.file.as_str(), files)?)),
+        Mode::Check => Ok(Job::Check(verdict_for(alloc, &command, files)?)),
         Mode::Convert => Ok(Job::Convert(read_table(alloc, command.file.as_str(), files)?)),
     }
 }
@@ -283,8 +285,8 @@ pub fn call<F: Files, K: Sink, L: Ledger>(
     ensures answer { Answers words.now (F.held files.old) (K.written out.old) (K.written out.new)
         result }
     ensures named_in_order { FailsInOrder words.now (F.held files.old) result }
-    ensures asked { AsksOnly words.now (F.asked files.old) (F.asked files.new) (λ which.
-        result ≡ Status.ReadFault which) }
+    ensures asked { AsksOnly words.now (F.held files.old) (F.asked files.old) (F.asked files.new)
+        (λ which. result ≡ Status.ReadFault which) }
     ensures held { F.held files.new ≡ F.held files.old }
     ensures read_fault { (which : Which) → result ≡ Status.ReadFault which
         → Rose F.greatest (F.faults files.old) (F.faults files.new) }
@@ -295,6 +297,7 @@ pub fn call<F: Files, K: Sink, L: Ledger>(
         Ok(Job::Run(task)) => run_whole(alloc, task, out, steps),
         Ok(Job::Print(source)) => print_source(alloc, &source, out),
         Ok(Job::Convert(inputs)) => write_inputs(alloc, &inputs, out),
+        Ok(Job::Check(verdict)) => write_verdict(alloc, verdict, out),
         Err(status) => refuse(alloc, status, out),
     }
 }

@@ -2,9 +2,9 @@
 ghost use Rattle.std.specs.Prelude.{◌≡◌, ◌<◌};
 ghost use Rattle.tp_io.specs.Held.{Rose};
 ghost use Rattle.tp_call.specs.declared.status.Which.{Which};
-ghost use Rattle.tp_call.specs.Files.{AsksOnly};
+ghost use Rattle.tp_call.specs.Asked.{AsksOnly};
 ghost use Rattle.tp_call.specs.Answer.{Answers};
-ghost use Rattle.tp_call.specs.Headline.{FinishedSays, FinishedTextSays, OpenTextSays, ContradictorySays, UndeterminedSays, StateLimitSays, LimitSays, InputMissingSays, ProgramRuns, WordsRefusedExactly, TooLongExactly, SourceRefusedExactly, InputsRefusedExactly, DoneSays, SourcePrints, InputsConvert};
+ghost use Rattle.tp_call.specs.Headline.{FinishedSays, FinishedTextSays, OpenTextSays, ContradictorySays, UndeterminedSays, StateLimitSays, LimitSays, InputMissingSays, ProgramRuns, WordsRefusedExactly, TooLongExactly, SourceRefusedExactly, InputsRefusedExactly, OtherRefusedExactly, TraceTooLongExactly, DoneSays, SourcePrints, InputsConvert, TraceIsChecked};
 ghost use Rattle.tp_call.specs.EveryOrder.{ComesToEachEnd};
 ghost use Rattle.tp_call.specs.Trace.{TraceSays};
 ghost use Rattle.tp_call.specs.TracedText.{FinishedTracedSays, OpenTracedSays};
@@ -21,7 +21,8 @@ use tp_step::Steps;
 use tp_value::Text;
 
 /// Does what the words ask for: a mode and a file, and the options of the command line. `print` writes the canonical
-/// spelling of the source that the file holds, by one write, and doesn't check it. `run` runs the program of the file,
+/// spelling of the source that the file holds, by one write, and doesn't check it. `check` writes whether the trace of the
+/// file that `--with` names satisfies the formula of the file, by one write. `run` runs the program of the file,
 /// with the inputs and the limits that the words name. Each settled state is written by one write, with a line for each list of
 /// values that it shows, and the end line by one more; nothing is written after a write that failed, nor where memory
 /// is wanted. Each item that is tried adds one to the steps.
@@ -79,21 +80,24 @@ pub fn tempura<F: Files, K: Sink, L: Ledger>(
     ensures last_line { LastLineSays words.now (F.held files.old) (K.written out.old)
         (K.written out.new) }
 
-    // A source that is printed, and inputs that are converted.
+    // A source that is printed, inputs that are converted, and a trace that is checked.
     ensures done { DoneSays words.now (F.held files.old) (K.written out.old)
         (K.written out.new) result }
     ensures prints { SourcePrints words.now (F.held files.old) result }
     ensures converts { InputsConvert words.now (F.held files.old) result }
+    ensures checks { TraceIsChecked words.now (F.held files.old) result }
 
     // Refusals, each exactly, but for failed reads and writes and want of memory.
     ensures words_refused { WordsRefusedExactly words.now (F.held files.old) result }
     ensures too_long { TooLongExactly words.now (F.held files.old) result }
     ensures source_refused { SourceRefusedExactly words.now (F.held files.old) result }
     ensures inputs_refused { InputsRefusedExactly words.now (F.held files.old) result }
+    ensures other_refused { OtherRefusedExactly words.now (F.held files.old) result }
+    ensures trace_too_long { TraceTooLongExactly words.now (F.held files.old) result }
 
     // Faults.
-    ensures asked { AsksOnly words.now (F.asked files.old) (F.asked files.new) (λ which.
-        result ≡ Status.ReadFault which) }
+    ensures asked { AsksOnly words.now (F.held files.old) (F.asked files.old) (F.asked files.new)
+        (λ which. result ≡ Status.ReadFault which) }
     ensures read_fault { (which : Which) → result ≡ Status.ReadFault which
         → Rose F.greatest (F.faults files.old) (F.faults files.new) }
     ensures write_fault { result ≡ Status.WriteFault

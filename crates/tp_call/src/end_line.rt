@@ -24,6 +24,14 @@ fn append_place(out: &mut Text, line: u64, column: u64) -> Result<(), NoMemory>
     append_counted(out, b" column ", column)
 }
 
+fn append_states(out: &mut Text, states: u64) -> Result<(), NoMemory>
+    ensures { OnOk result (out.new ≡ out.old
+        ++ (codes "trace too long: " ++ decimal states ++ codes " states")) }
+{
+    append_counted(out, b"trace too long: ", states)?;
+    out.append(b" states")
+}
+
 fn append_about(out: &mut Text, words: &[u8], which: Which) -> Result<(), NoMemory>
     ensures { OnOk result (out.new ≡ out.old ++ (words.now ++ which_text which)) }
 {
@@ -42,6 +50,8 @@ fn append_words(out: &mut Text, status: &Status) -> Result<(), NoMemory>
             out.append(kind.text().as_bytes())
         }
         Status::InputsRefused { line } => append_counted(out, b"inputs refused: line ", *line),
+        Status::OtherRefused { line } => append_counted(out, b"other refused: line ", *line),
+        Status::TraceTooLong { states } => append_states(out, *states),
         Status::WordsRefused => out.append(b"words refused"),
         Status::TooLong { which } => append_about(out, b"too long: ", *which),
         Status::ReadFault { which } => append_about(out, b"read fault: ", *which),

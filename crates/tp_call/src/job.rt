@@ -2,11 +2,13 @@
 use crate::run::Task;
 use tp_inputs::Inputs;
 use tp_tree::Source;
+use tp_verdict::Verdict;
 
-/// What the words ask for, read: a task that is run, a source that is printed, or inputs that are converted.
+/// What the words ask for, read: a task that is run, a source that is printed, inputs that are converted, or the verdict on a trace.
 #[derive(Drop)]
 pub enum Job {
     Run(Task),
     Print(Source),
     Convert(Inputs),
+    Check(Verdict),
 }

@@ -3,6 +3,7 @@
 
 mod answer;
 mod call;
+mod checking;
 mod close;
 mod command;
 mod converting;

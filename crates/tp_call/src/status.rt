@@ -7,6 +7,8 @@ use tp_value::Text;
 pub enum Which {
     Source,
     Inputs,
+    /// The second file of the mode `check`: a trace.
+    Other,
 }
 
 /// Why a source is refused.
@@ -28,7 +30,7 @@ pub enum SourceKind {
     NotExecutable,
 }
 
-/// The answer of a call: how the run ended, that the source was printed, why neither was done, or what stopped the call.
+/// The answer of a call: how the run ended, that what else was asked for was done, why it wasn't, or what stopped the call.
 #[derive(Debug, Drop)]
 pub enum Status {
     Finished {
@@ -82,6 +84,12 @@ pub enum Status {
     },
     WriteFault,
     NoMemory,
+    OtherRefused {
+        line: u64,
+    },
+    TraceTooLong {
+        states: u64,
+    },
 }
 
 /// The line and the column, counted from 1, and the kind of a refusal.

@@ -11,6 +11,7 @@ impl Which {
         match self {
             Which::Source => "source",
             Which::Inputs => "inputs",
+            Which::Other => "other",
         }
     }
 }
@@ -62,6 +63,8 @@ impl Status {
             Status::ReadFault { .. } => 14,
             Status::WriteFault => 15,
             Status::NoMemory => 16,
+            Status::OtherRefused { .. } => 17,
+            Status::TraceTooLong { .. } => 18,
         }
     }
 }

@@ -76,6 +76,27 @@ fn modes_orders_and_the_trace_are_read(rt: HostRuntime) -> Result<(), Fail> {
     )
 }
 
+fn expect_other(
+    rt: &(impl Abort + AllocGlobal),
+    line: &str,
+    mode: Mode,
+    other: Option<&str>,
+) -> Result<(), Fail> {
+    let command = command_of(rt, line)?.ok().ok_or("words that are refused")?;
+    holds(rt, command.mode == mode, line);
+    holds(rt, command.other.as_deref() == other, line);
+    Ok(())
+}
+
+#[test]
+fn a_check_names_a_second_file(rt: HostRuntime) -> Result<(), Fail> {
+    expect_other(&rt, "check a.t --with b.t", Mode::Check, Some("b.t"))?;
+    expect_other(&rt, "--with=b.t check a.t", Mode::Check, Some("b.t"))?;
+    expect_other(&rt, "check a.t --with=", Mode::Check, Some(""))?;
+    expect_other(&rt, "run a.t --with b.t", Mode::Run, Some("b.t"))?;
+    expect_other(&rt, "print a.t", Mode::Print, None)
+}
+
 #[test]
 fn words_of_another_form_are_refused(rt: HostRuntime) -> Result<(), Fail> {
     for line in [
@@ -86,6 +107,10 @@ fn words_of_another_form_are_refused(rt: HostRuntime) -> Result<(), Fail> {
         "run a.t --order=",
         "run a.t --trace=true",
         "show a.t",
+        "check a.t",
+        "check a.t --with",
+        "check --with b.t",
+        "check a.t b.t",
         "print",
     ] {
         let refusal = command_of(&rt, line)?.err();

@@ -1,4 +1,4 @@
--- A mode and the name of a file.
+-- A mode and the name of a file, and no more.
 use Rattle.std.proofs.Common.{◌≡◌, ◌≢◌, ℕ, List, [], ◌∷◌, Bool, true, false, Option, None, Some, refl, arith, ap, ap₂, ◌∙◌, ◌&&◌, if◌then◌else◌, slice_index}
 use Rattle.std.specs.Prelude.{nat_eq, is_some}
 use Rattle.std.specs.Str.{IsUtf8, is_utf8}
@@ -11,15 +11,20 @@ use Rattle.clap.specs.Walk.{Held, Walk, Step, idle, value, word_met, walked, aft
 use Rattle.clap.specs.Faults.{word_fault, turn_fault, step_fault, settle_fault, defaults_fault, check_fault, entered_fault}
 use Rattle.tp_words.specs.App.{the_app}
 use Rattle.tp_words.specs.declared.mode.Mode.{Mode}
-use Rattle.tp_words.specs.declared.mode.Mode.TheVariants.{Run, Print, Convert}
-use Rattle.tp_words.specs.Mode.{mode_text}
+use Rattle.tp_words.specs.declared.mode.Mode.TheVariants.{Run, Print, Convert, Check}
+use Rattle.tp_words.specs.Mode.{mode_text, needs_other}
 use Rattle.tp_words.specs.Words.{Wanted, wanted_without, wanted_in, wanted_of_texts, wanted_of, usual_wanted}
 
-empty_name : (mode : Mode) → wanted_of_texts (mode_text mode ∷ [] ∷ []) ≡ Some (usual_wanted mode [])
+-- what a mode and the name of a file ask for
+abbrev wanted_of_two : Mode → List ℕ → Option Wanted
+wanted_of_two mode file = if needs_other mode then None else Some (usual_wanted mode file)
+
+empty_name : (mode : Mode) → wanted_of_texts (mode_text mode ∷ [] ∷ []) ≡ wanted_of_two mode []
 unfolding clap_on_literals wanted_of_texts wanted_in
 empty_name Run = refl
 empty_name Print = refl
 empty_name Convert = refl
+empty_name Check = refl
 
 not_equal : (x y : ℕ) → (x ≡ y → ⊥) → nat_eq x y ≡ false
 not_equal x y apart = grind arith
@@ -69,15 +74,17 @@ unfolding clap_on_literals wanted_of_texts
 as_ended Run file = refl
 as_ended Print file = refl
 as_ended Convert file = refl
+as_ended Check file = refl
 
 plain_end : (mode : Mode) (file : List ℕ) → ended mode (to_positional the_shape.rules (arg_by_index the_shape.rules 2) file (second_walk mode) (second_held mode))
-    (step_fault the_shape 2 (second_held mode) value) ≡ Some (usual_wanted mode file)
+    (step_fault the_shape 2 (second_held mode) value) ≡ wanted_of_two mode file
 unfolding clap_on_literals wanted_in
 plain_end Run file = refl
 plain_end Print file = refl
 plain_end Convert file = refl
+plain_end Check file = refl
 
-enough : (mode : Mode) (file : List ℕ) → (slice_index file 0 ≡ 45 → ⊥) → wanted_of_texts (mode_text mode ∷ file ∷ []) ≡ Some (usual_wanted mode file)
+enough : (mode : Mode) (file : List ℕ) → (slice_index file 0 ≡ 45 → ⊥) → wanted_of_texts (mode_text mode ∷ file ∷ []) ≡ wanted_of_two mode file
 enough mode [] apart = empty_name mode
 enough mode (x ∷ xs) apart =
     let other : nat_eq x 45 ≡ false = not_equal x 45 apart in
@@ -88,6 +95,16 @@ unfolding is_utf8 clap_on_literals
 mode_is_text Run = refl
 mode_is_text Print = refl
 mode_is_text Convert = refl
+mode_is_text Check = refl
 
-pub two_words : (mode : Mode) (file : List ℕ) → IsUtf8 file → slice_index file 0 ≢ 45 → wanted_of (mode_text mode ∷ file ∷ []) ≡ Some (usual_wanted mode file)
+two_words : (mode : Mode) (file : List ℕ) → IsUtf8 file → slice_index file 0 ≢ 45 → wanted_of (mode_text mode ∷ file ∷ []) ≡ wanted_of_two mode file
 two_words mode file u apart = ap (λ (b : Bool). if b then wanted_of_texts (mode_text mode ∷ file ∷ []) else None) (ap₂ (λ a b. a && (b && true)) (mode_is_text mode) (is_utf8-from_IsUtf8 file u)) ∙ enough mode file apart
+
+abbrev without_other : Mode → List ℕ → Bool → Option Wanted
+without_other mode file b = if b then None else Some (usual_wanted mode file)
+
+pub two_are_enough : (mode : Mode) (file : List ℕ) → needs_other mode ≡ false → IsUtf8 file → slice_index file 0 ≢ 45 → wanted_of (mode_text mode ∷ file ∷ []) ≡ Some (usual_wanted mode file)
+two_are_enough mode file one u apart = two_words mode file u apart ∙ ap (without_other mode file) one
+
+pub two_are_too_few : (mode : Mode) (file : List ℕ) → needs_other mode ≡ true → IsUtf8 file → slice_index file 0 ≢ 45 → wanted_of (mode_text mode ∷ file ∷ []) ≡ None
+two_are_too_few mode file two u apart = two_words mode file u apart ∙ ap (without_other mode file) two

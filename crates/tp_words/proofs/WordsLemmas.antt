@@ -1,5 +1,5 @@
 -- Words that are no texts, and the range of the limits that words set.
-use Rattle.std.proofs.Common.{◌≡◌, ℕ, List, [], ◌∷◌, Bool, true, false, Some, subst, codes, rules}
+use Rattle.std.proofs.Common.{◌≡◌, ℕ, List, [], ◌∷◌, Bool, true, false, Some, None, if◌then◌else◌, refl, subst, codes, rules}
 use Rattle.std.specs.Int.{IsInRange}
 use Rattle.std.specs.Str.{IsUtf8, is_utf8}
 use Rattle.std.proofs.lemmas.Option.{option_and_then_some}
@@ -7,7 +7,7 @@ use Rattle.std.proofs.lemmas.Str.{IsUtf8-from_is_utf8}
 use Rattle.clap.specs.Words.{Row, Kinds, first_of, fault_of, matches_of}
 use Rattle.tp_words.specs.App.{the_app}
 use Rattle.tp_words.specs.Limit.{limit_set, greatest_limit, usual_states, usual_reductions}
-use Rattle.tp_words.specs.Mode.{mode_given}
+use Rattle.tp_words.specs.Mode.{mode_given, has_other}
 use Rattle.tp_words.specs.Order.{order_set}
 use Rattle.tp_words.specs.Words.{Wanted, wanted_in, wanted_without, wanted_of_texts}
 use Rattle.tp_words.proofs.LimitLemmas.{limit_range}
@@ -18,9 +18,15 @@ not_text bytes false u apart = u
 
 abbrev HasLimits : Wanted → Type 0
 HasLimits w = IsInRange 1 greatest_limit w.states × IsInRange 1 greatest_limit w.reductions
+    × (has_other w.mode w.other ≡ true)
 
 some_is : {A : Type 0} {a b : A} → Some a ≡ Some b → a ≡ b
 some_is e = cc
+
+-- what is there only where a test is passed
+where_true : {A : Type 0} {a c : A} (b : Bool) → (if b then Some a else None) ≡ Some c → (b ≡ true) × (a ≡ c)
+where_true true e = (refl, some_is e)
+where_true false e = search rules
 
 in_limits : (rows : List Row) (w : Wanted) → wanted_in rows ≡ Some w → HasLimits w
 unfolding wanted_in
@@ -29,9 +35,10 @@ in_limits rows w e = option_and_then_some _ (mode_given (first_of (codes "mode")
     (λ file f e2. option_and_then_some _ (limit_set usual_states (first_of (codes "states") rows)) w e2
     (λ states s e3. option_and_then_some _ (limit_set usual_reductions (first_of (codes "reductions") rows)) w e3
     (λ reductions r e4. option_and_then_some _ (order_set (first_of (codes "order") rows)) w e4
-    (λ order o e5. subst HasLimits (some_is e5) (
+    (λ order o e5. let found = where_true (has_other mode (first_of (codes "with") rows)) e5 in subst HasLimits found.1 (
       limit_range usual_states (first_of (codes "states") rows) states (search rules) s,
       limit_range usual_reductions (first_of (codes "reductions") rows) reductions (search rules) r,
+      found.0,
     ))))))
 
 without_limits : (kinds : Kinds) (rows : List Row) (w : Wanted) → wanted_without kinds rows ≡ Some w → HasLimits w

@@ -23,11 +23,13 @@ bare_app =
       disable_version_flag = true;
     }) (new_app (codes "tempura"))
 
--- the command line: MODE FILE [--inputs FILE] [--states N] [--reductions R] [--order O] [--trace]
+-- the command line: MODE FILE [--inputs FILE] [--with FILE] [--states N] [--reductions R]
+-- [--order O] [--trace]
 abbrev pub the_app : App
 the_app = fold with_rule bare_app (required_word (codes "mode")
     ∷ required_word (codes "file")
     ∷ valued_option (codes "inputs")
+    ∷ valued_option (codes "with")
     ∷ valued_option (codes "states")
     ∷ valued_option (codes "reductions")
     ∷ valued_option (codes "order")

@@ -10,6 +10,7 @@ wanted_by c =
       mode = c.mode;
       file = string_bytes c.file;
       inputs = option_map string_bytes c.inputs;
+      other = option_map string_bytes c.other;
       states = c.states;
       reductions = c.reductions;
       order = c.order;

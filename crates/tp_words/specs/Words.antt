@@ -12,16 +12,17 @@ use Rattle.tp_words.specs.declared.beside.Beside.{Beside}
 use Rattle.tp_words.specs.declared.beside.Beside.TheVariants.{Nothing}
 use Rattle.tp_words.specs.declared.mode.Mode.{Mode}
 use Rattle.tp_words.specs.Limit.{limit_set, usual_states, usual_reductions}
-use Rattle.tp_words.specs.Mode.{mode_given}
+use Rattle.tp_words.specs.Mode.{mode_given, has_other}
 use Rattle.tp_words.specs.Order.{order_set}
 
--- what is done, and with which file; and of a run the file of the inputs, the limits on states and
--- on the reductions in a state, the order in which it takes its items, and what it writes beside
--- each state
+-- what is done, and with which file; of a check the file of the trace; and of a run the file of the
+-- inputs, the limits on states and on the reductions in a state, the order in which it takes its
+-- items, and what it writes beside each state
 pub record Wanted : Type 0 where
   pub mode : Mode
   pub file : List ℕ
   pub inputs : Option (List ℕ)
+  pub other : Option (List ℕ)
   pub states : ℕ
   pub reductions : ℕ
   pub order : Order
@@ -37,7 +38,8 @@ infixl 10 ◌>>=◌
 abbrev ◌>>=◌ : {A B : Type 0} → Option A → (A → Option B) → Option B
 o >>= f = option_and_then f o
 
--- What the matches of the words ask for, where each of them has the form that it must have.
+-- What the matches of the words ask for, where each of them has the form that it must have, and a
+-- second file is named where the mode reads one.
 unfoldable pub wanted_in : List Row → Option Wanted
 wanted_in rows = do
   mode ← mode_given (first_of (codes "mode") rows)
@@ -45,15 +47,16 @@ wanted_in rows = do
   states ← limit_set usual_states (first_of (codes "states") rows)
   reductions ← limit_set usual_reductions (first_of (codes "reductions") rows)
   order ← order_set (first_of (codes "order") rows)
-  Some (record {
+  if has_other mode (first_of (codes "with") rows) then Some (record {
     mode = mode;
     file = file;
     inputs = first_of (codes "inputs") rows;
+    other = first_of (codes "with") rows;
     states = states;
     reductions = reductions;
     order = order;
     beside = beside_given (is_text (codes "true") (first_of (codes "trace") rows));
-  })
+  }) else None
 
 -- the same, where the command line has no fault
 abbrev pub wanted_without : Kinds → List Row → Option Wanted
@@ -75,6 +78,7 @@ usual_wanted mode file =
       mode = mode;
       file = file;
       inputs = None;
+      other = None;
       states = usual_states;
       reductions = usual_reductions;
       order = First;

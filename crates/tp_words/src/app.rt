@@ -42,6 +42,7 @@ pub fn the_app<'a>(alloc: Global) -> Result<Command<'a>, NoMemory>
         .arg(required_word(alloc, "mode"))?
         .arg(required_word(alloc, "file"))?
         .arg(valued_option(alloc, "inputs"))?
+        .arg(valued_option(alloc, "with"))?
         .arg(valued_option(alloc, "states"))?
         .arg(valued_option(alloc, "reductions"))?
         .arg(valued_option(alloc, "order"))?

@@ -8,7 +8,7 @@ use std::alloc::{AllocError, AllocFailed};
 use tp_step::Order;
 use tp_value::NoMemory;
 
-/// What the words ask for. All but the mode and the file is of a run.
+/// What the words ask for. All but the mode and the names of the files is of a run.
 #[derive(Debug, Drop)]
 pub struct Command {
     pub mode: Mode,
@@ -16,6 +16,8 @@ pub struct Command {
     pub file: String,
     /// The name of the inputs.
     pub inputs: Option<String>,
+    /// The name of the trace that is checked.
+    pub other: Option<String>,
     /// How many states it settles at most.
     pub states: u64,
     /// How many reductions it makes at most in a state.

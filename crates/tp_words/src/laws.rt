@@ -1,7 +1,12 @@
-// A law of the words.
-ghost use Rattle.tp_words.specs.Laws.{TwoWordsAreEnough};
+// Laws of the words.
+ghost use Rattle.tp_words.specs.Laws.{TwoWordsAreEnough, CheckNeedsOther};
 
-/// A mode and the name of a file are words enough: there are no inputs and no trace, and the limits and the order are the usual ones.
+/// A mode that reads one file and the file's name are words enough: there are no inputs and no trace, and the limits and the order are the usual ones.
 pub fn two_words_are_enough()
     ensures { TwoWordsAreEnough }
+{}
+
+/// A mode that reads a second file isn't accepted without the name of that file.
+pub fn check_needs_other()
+    ensures { CheckNeedsOther }
 {}

@@ -1,4 +1,4 @@
-//! The words of the command line: a mode and a file, with options for the inputs, the limits, the order and the trace.
+//! The words of the command line: a mode and a file, with options for the inputs, a second file, the limits, the order and the trace.
 #![tactic(auto)]
 
 mod app;
@@ -13,7 +13,7 @@ mod read;
 
 pub use beside::Beside;
 pub use command::{Command, WordsRefusal};
-pub use laws::two_words_are_enough;
+pub use laws::{check_needs_other, two_words_are_enough};
 pub use limit::{GREATEST_LIMIT, USUAL_REDUCTIONS, USUAL_STATES};
 pub use mode::Mode;
 pub use read::read_words;

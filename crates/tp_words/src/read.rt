@@ -7,6 +7,7 @@ ghost use Rattle.clap.specs.Words.{first_of, found_of, kind_of, rows_of};
 ghost use Rattle.clap.specs.declared.error.kind.ErrorKind.TheVariants.{OutOfMemory};
 ghost use Rattle.tp_words.specs.Command.{wanted_by};
 ghost use Rattle.tp_words.specs.Limit.{greatest_limit, limit_set};
+ghost use Rattle.tp_words.specs.Mode.{has_other};
 ghost use Rattle.tp_words.specs.Words.{is_text, wanted_in, wanted_of_texts, wanted_of};
 ghost use Rattle.tp_words.specs.declared.command.WordsRefusal.TheVariants as refusal;
 
@@ -14,7 +15,7 @@ use crate::app::the_app;
 use crate::beside::beside_given;
 use crate::command::{Command, WordsRefusal};
 use crate::limit::{USUAL_REDUCTIONS, USUAL_STATES, limit_set};
-use crate::mode::mode_given;
+use crate::mode::{has_other, mode_given};
 use crate::order::order_set;
 use clap::error::ErrorKind;
 use clap::{ArgMatches, Error};
@@ -81,12 +82,17 @@ fn command_in(alloc: Global, matches: &ArgMatches<'_>) -> Result<Command, WordsR
     let Some(order) = order_set(given(matches, "order")) else {
         return Err(WordsRefusal::Refused);
     };
+    if !has_other(mode, given(matches, "with")) {
+        return Err(WordsRefusal::Refused);
+    }
     let inputs = owned(alloc, given(matches, "inputs"))?;
+    let other = owned(alloc, given(matches, "with"))?;
     let file = String::from_str(alloc, file)?;
     Ok(Command {
         mode,
         file,
         inputs,
+        other,
         states,
         reductions,
         order,
@@ -142,6 +148,8 @@ pub fn read_words(alloc: Global, words: &[Text]) -> Result<Command, WordsRefusal
     ensures refused { IfErr result (λ e. e ≡ refusal.Refused → wanted_of words.now ≡ None) }
     ensures states { IfOk result (λ c. IsInRange 1 greatest_limit c.states) }
     ensures reductions { IfOk result (λ c. IsInRange 1 greatest_limit c.reductions) }
+    ensures other { IfOk result (λ c.
+        has_other c.mode (option_map string_bytes c.other) ≡ true) }
 {
     let texts = texts_of(alloc, words)?;
     let command = command_of(alloc, texts.as_slice())?;

@@ -77,6 +77,16 @@ fn other_refusals_are_told(rt: HostRuntime) -> Result<(), Fail> {
     expect_unread(&rt, Which::Inputs, long, fault)
 }
 
+#[test]
+fn refusals_of_traces_are_told(rt: HostRuntime) -> Result<(), Fail> {
+    let bad = Status::OtherRefused { line: 3 };
+    expect_refusal(&rt, &bad, 17, "other refused: line 3\n")?;
+    let many = Status::TraceTooLong { states: 401 };
+    expect_refusal(&rt, &many, 18, "trace too long: 401 states\n")?;
+    let (long, fault) = ("too long: other\n", "read fault: other\n");
+    expect_unread(&rt, Which::Other, long, fault)
+}
+
 // The answers with which a run ends, and those that no line tells, with their exit statuses.
 fn without_refusal(alloc: Global) -> Result<Vec<(Status, u8)>, NoMemory> {
     let port = Text::from_slice(alloc, b"p")?;

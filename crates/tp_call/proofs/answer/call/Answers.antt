@@ -1,6 +1,7 @@
 use Rattle.tp_tree.specs.Read.{source_tree}
 use Rattle.tp_inputs.specs.Read.{inputs_of}
-use Rattle.tp_call.proofs.AnswerLemmas.{refused, spelled, table_written}
+use Rattle.tp_verdict.specs.Code.{verdict_of}
+use Rattle.tp_call.proofs.AnswerLemmas.{refused, spelled, table_written, verdict_written}
 use Rattle.tp_call.proofs.InOrderLemmas.{task_in_order, refused_in_order, printed_in_order}
 use Rattle.tp_call.proofs.answer.call.Goals as goal
 
@@ -30,3 +31,11 @@ returns-in-Ok-Print-clause-named_in_order g c = printed_in_order _ _ c.print_sou
 
 pub returns-in-Ok-Convert-clause-named_in_order : goal.returns-in-Ok-Convert-clause-named_in_order
 returns-in-Ok-Convert-clause-named_in_order g c = printed_in_order _ _ c.write_inputs.result _ _ _ c.write_inputs.ensures.written
+
+pub returns-in-Ok-Check-clause-answer : goal.returns-in-Ok-Check-clause-answer
+returns-in-Ok-Check-clause-answer g c =
+    let job = rw c.in-Ok-Check.field-0-is at c.in-Ok-Check.ensures.job in
+    verdict_written _ _ (verdict_of c.in-Ok-Check.verdict) job _ _ _ c.write_verdict.ensures.written
+
+pub returns-in-Ok-Check-clause-named_in_order : goal.returns-in-Ok-Check-clause-named_in_order
+returns-in-Ok-Check-clause-named_in_order g c = printed_in_order _ _ c.write_verdict.result _ _ _ c.write_verdict.ensures.written

@@ -16,7 +16,7 @@ returns-in_err-command-clause-refused g c =
 pub returns-in_err-command-clause-asked : goal.returns-in_err-command-clause-asked
 returns-in_err-command-clause-asked g c =
     let p = err_from_is_err_and c.from_residual.result c.from_residual.ensures.1 in
-    rw (p.1, p.2) (words_asked _ _ _ _ refl c.in_err-command.ensures.refused)
+    rw (p.1, p.2) (words_asked _ _ _ _ _ refl c.in_err-command.ensures.refused)
 
 pub returns-in_err-read_tree-in-Print-clause-refused : goal.returns-in_err-read_tree-in-Print-clause-refused
 returns-in_err-read_tree-in-Print-clause-refused g c =
@@ -26,12 +26,12 @@ returns-in_err-read_tree-in-Print-clause-refused g c =
 pub returns-in_err-read_tree-in-Print-clause-asked : goal.returns-in_err-read_tree-in-Print-clause-asked
 returns-in_err-read_tree-in-Print-clause-asked g c =
     let p = err_from_is_err_and c.from_residual-in_err-read_tree-in-Print.result c.from_residual-in_err-read_tree-in-Print.ensures.1 in
-    rw (p.1, p.2) (first_asked _ (wanted_by c.in_ok-command.command) c.in_ok-command.ensures.accepted Print Source _ _ c.in-Print.is refl _ _ _ _ (rw c.as_str.ensures.value at c.in_err-read_tree-in-Print.ensures.asked)
+    rw (p.1, p.2) (first_asked _ _ (wanted_by c.in_ok-command.command) c.in_ok-command.ensures.accepted Print Source _ _ c.in-Print.is refl _ _ _ _ (rw c.as_str.ensures.value at c.in_err-read_tree-in-Print.ensures.asked)
     (λ which e. same_error _ _ _ (ReadFault which) refl refl e) (λ which e. (c.in_err-read_tree-in-Print.ensures.read_fault which e).0))
 
 pub returns-in-Print-clause-asked : goal.returns-in-Print-clause-asked
 returns-in-Print-clause-asked g c =
-    first_asked _ (wanted_by c.in_ok-command.command) c.in_ok-command.ensures.accepted Print Source _ _ c.in-Print.is refl _ _ _ _ (rw c.as_str.ensures.value at c.in_ok-read_tree-in-Print.ensures.asked)
+    first_asked _ _ (wanted_by c.in_ok-command.command) c.in_ok-command.ensures.accepted Print Source _ _ c.in-Print.is refl _ _ _ _ (rw c.as_str.ensures.value at c.in_ok-read_tree-in-Print.ensures.asked)
     (λ which e. cc) (λ which e. (c.in_ok-read_tree-in-Print.ensures.read_fault which e).0)
 
 pub returns-in_err-read_table-in-Convert-clause-refused : goal.returns-in_err-read_table-in-Convert-clause-refused
@@ -42,7 +42,7 @@ returns-in_err-read_table-in-Convert-clause-refused g c =
 pub returns-in_err-read_table-in-Convert-clause-asked : goal.returns-in_err-read_table-in-Convert-clause-asked
 returns-in_err-read_table-in-Convert-clause-asked g c =
     let p = err_from_is_err_and c.from_residual-in_err-read_table-in-Convert.result c.from_residual-in_err-read_table-in-Convert.ensures.1 in
-    rw (p.1, p.2) (first_asked _ (wanted_by c.in_ok-command.command) c.in_ok-command.ensures.accepted Convert Inputs _ _ c.in-Convert.is refl _ _ _ _ (rw c.as_str-in-Convert.ensures.value at c.in_err-read_table-in-Convert.ensures.asked)
+    rw (p.1, p.2) (first_asked _ _ (wanted_by c.in_ok-command.command) c.in_ok-command.ensures.accepted Convert Inputs _ _ c.in-Convert.is refl _ _ _ _ (rw c.as_str-in-Convert.ensures.value at c.in_err-read_table-in-Convert.ensures.asked)
     (λ which e. same_error _ _ _ (ReadFault which) refl refl e) (λ which e. (c.in_err-read_table-in-Convert.ensures.read_fault which e).0))
 
 pub returns-clause-job : goal.returns-clause-job
@@ -53,7 +53,7 @@ returns-clause-job g c = (
 
 pub returns-clause-asked : goal.returns-clause-asked
 returns-clause-asked g c =
-    first_asked _ (wanted_by c.in_ok-command.command) c.in_ok-command.ensures.accepted Convert Inputs _ _ c.in-Convert.is refl _ _ _ _ (rw c.as_str-in-Convert.ensures.value at c.in_ok-read_table-in-Convert.ensures.asked)
+    first_asked _ _ (wanted_by c.in_ok-command.command) c.in_ok-command.ensures.accepted Convert Inputs _ _ c.in-Convert.is refl _ _ _ _ (rw c.as_str-in-Convert.ensures.value at c.in_ok-read_table-in-Convert.ensures.asked)
     (λ which e. cc) (λ which e. (c.in_ok-read_table-in-Convert.ensures.read_fault which e).0)
 
 pub returns-in-Run-clause-job : goal.returns-in-Run-clause-job
@@ -61,3 +61,6 @@ returns-in-Run-clause-job g c =
     let asks = c.in_ok-command.ensures.accepted in
     let task = c.in_ok-task_for-in-Run.ensures in
     record { asked_for = task.asked_for _ asks; fits = task.fits; names = task.names; states = task.states; beside = task.beside _ asks; order = task.order _ asks }
+
+pub returns-in-Check-clause-job : goal.returns-in-Check-clause-job
+returns-in-Check-clause-job g c = c.in_ok-verdict_for-in-Check.ensures.judged _ c.in_ok-command.ensures.accepted

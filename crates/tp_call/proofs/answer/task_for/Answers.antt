@@ -6,7 +6,7 @@ use Rattle.tp_words.specs.Command.{wanted_by}
 use Rattle.tp_words.specs.declared.mode.Mode.TheVariants.{Run}
 use Rattle.tp_call.specs.declared.status.Which.TheVariants.{Source}
 use Rattle.tp_call.specs.declared.status.Status.TheVariants.{ReadFault}
-use Rattle.tp_call.proofs.AskedLemmas.{first_asked, table_asked, same_error, beside_asked, order_asked}
+use Rattle.tp_call.proofs.AskedLemmas.{program_serves, first_asked, table_asked, same_error, beside_asked, order_asked}
 use Rattle.tp_call.proofs.SourceLemmas.{no_source, no_table, inputs_held, lent_name}
 use Rattle.tp_call.proofs.answer.task_for.Goals as goal
 
@@ -18,7 +18,7 @@ returns-in_err-program-clause-refused g c =
 pub returns-in_err-program-clause-asked : goal.returns-in_err-program-clause-asked
 returns-in_err-program-clause-asked g c =
     let p = err_from_is_err_and c.from_residual.result c.from_residual.ensures.1 in
-    rw (p.1, p.2) (λ words is. first_asked _ (wanted_by c.args.command.now) is Run Source _ _ c.requires refl _ _ _ _ (rw c.as_str.ensures.value at c.in_err-program.ensures.asked)
+    rw (p.1, p.2) (λ words is. first_asked _ _ (wanted_by c.args.command.now) is Run Source _ _ c.requires refl _ _ _ _ (rw c.as_str.ensures.value at c.in_err-program.ensures.asked)
     (λ which e. same_error _ _ _ (ReadFault which) refl refl e) (λ which e. (c.in_err-program.ensures.read_fault which e).0))
 
 pub returns-in_err-inputs-clause-refused : goal.returns-in_err-inputs-clause-refused
@@ -31,7 +31,7 @@ pub returns-in_err-inputs-clause-asked : goal.returns-in_err-inputs-clause-asked
 returns-in_err-inputs-clause-asked g c =
     let p = err_from_is_err_and c.from_residual-in_err-inputs.result c.from_residual-in_err-inputs.ensures.1 in
     let name = lent_name (λ t. t.now) string_bytes c.as_deref.result c.args.command.now.inputs c.as_deref.ensures.cases in
-    rw (p.1, p.2) (λ words is. table_asked _ (wanted_by c.args.command.now) is c.requires _ _ _ _ _ (sym name) _ _ refl (rw c.as_str.ensures.value at c.in_ok-program.ensures.asked) _
+    rw (p.1, p.2) (λ words is. table_asked _ _ (wanted_by c.args.command.now) is c.requires _ (program_serves _ _ c.requires (program_tree c.in_ok-program.program) _ (rw c.as_str.ensures.value at c.in_ok-program.ensures.program)) _ _ _ _ (sym name) _ _ refl (rw c.as_str.ensures.value at c.in_ok-program.ensures.asked) _
     c.in_err-inputs.ensures.asked c.in_err-inputs.ensures.refused _ (λ which e. same_error _ _ _ (ReadFault which) refl refl e) (λ which e. (c.in_err-inputs.ensures.read_fault which e).0))
 
 pub returns-clause-asked_for : goal.returns-clause-asked_for
@@ -56,5 +56,5 @@ returns-clause-order g c = λ words is wanted asks. order_asked words (wanted_by
 pub returns-clause-asked : goal.returns-clause-asked
 returns-clause-asked g c = λ words is.
     let name = lent_name (λ t. t.now) string_bytes c.as_deref.result c.args.command.now.inputs c.as_deref.ensures.cases in
-    table_asked _ (wanted_by c.args.command.now) is c.requires (g.F.Files.held c.args.files.now) _ _ _ _ (sym name) _ _ refl (rw c.as_str.ensures.value at c.in_ok-program.ensures.asked) _ c.in_ok-inputs.ensures.asked c.in_ok-inputs.ensures.refused _
+    table_asked _ _ (wanted_by c.args.command.now) is c.requires (g.F.Files.held c.args.files.now) (program_serves _ _ c.requires (program_tree c.in_ok-program.program) _ (rw c.as_str.ensures.value at c.in_ok-program.ensures.program)) _ _ _ _ (sym name) _ _ refl (rw c.as_str.ensures.value at c.in_ok-program.ensures.asked) _ c.in_ok-inputs.ensures.asked c.in_ok-inputs.ensures.refused _
     (λ which e. cc) (λ which e. (c.in_ok-inputs.ensures.read_fault which e).0)

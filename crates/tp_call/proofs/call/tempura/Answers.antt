@@ -1,4 +1,5 @@
-use Rattle.tp_call.proofs.ClauseLemmas.{finished, contradictory, undetermined, state_limit, reduction_limit, number_limit, list_limit, call_limit, nest_limit, input_missing, program_runs, finished_text, open_text, done, source_prints, inputs_convert, words_refused_only, words_refused, too_long_only, too_long, source_refused_only, source_refused, inputs_refused_only, inputs_refused}
+use Rattle.tp_call.proofs.ClauseLemmas.{finished, contradictory, undetermined, state_limit, reduction_limit, number_limit, list_limit, call_limit, nest_limit, input_missing, finished_text, open_text, done, words_refused_only, too_long_only, source_refused_only, inputs_refused_only, other_refused_only, trace_too_long_only}
+use Rattle.tp_call.proofs.AnsweredLemmas.{program_runs, source_prints, inputs_convert, words_refused, too_long, source_refused, inputs_refused, trace_is_checked, other_refused, trace_too_long}
 use Rattle.tp_call.proofs.EveryOrderLemmas.{comes_to_each_end}
 use Rattle.tp_call.proofs.TraceLemmas.{trace_says}
 use Rattle.tp_call.proofs.TracedTextLemmas.{finished_traced, open_traced}
@@ -89,3 +90,12 @@ returns-clause-prints g c = source_prints _ _ _ _ _ c.call.ensures.answer
 
 pub returns-clause-converts : goal.returns-clause-converts
 returns-clause-converts g c = inputs_convert _ _ _ _ _ c.call.ensures.answer
+
+pub returns-clause-checks : goal.returns-clause-checks
+returns-clause-checks g c = trace_is_checked _ _ _ _ _ c.call.ensures.answer
+
+pub returns-clause-other_refused : goal.returns-clause-other_refused
+returns-clause-other_refused g c = record { only = other_refused_only _ _ _ _ _ c.call.ensures.answer; there = other_refused _ _ _ _ _ c.call.ensures.answer }
+
+pub returns-clause-trace_too_long : goal.returns-clause-trace_too_long
+returns-clause-trace_too_long g c = record { only = trace_too_long_only _ _ _ _ _ c.call.ensures.answer; there = trace_too_long _ _ _ _ _ c.call.ensures.answer }

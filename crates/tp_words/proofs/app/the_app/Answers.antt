@@ -10,6 +10,7 @@ returns c =
     ∙ ap (on_top (λ s. record s { disable_help_flag = true })) (ap app_of_fields c.no_binary_name.ensures
     ∙ ap (on_top (λ s. record s { no_binary_name = true })) c.new.ensures.app)) in
     c.in_ok-app.ensures.shape c.plain_flag.ensures.own
+    ∙ ap₂ with_rule (c.in_ok-arg-7.ensures.shape c.valued_option-5.ensures.own
     ∙ ap₂ with_rule (c.in_ok-arg-6.ensures.shape c.valued_option-4.ensures.own
     ∙ ap₂ with_rule (c.in_ok-arg-5.ensures.shape c.valued_option-3.ensures.own
     ∙ ap₂ with_rule (c.in_ok-arg-4.ensures.shape c.valued_option-2.ensures.own
@@ -18,4 +19,4 @@ returns c =
     ∙ ap₂ with_rule (c.in_ok-arg.ensures.shape c.required_word.ensures.own
     ∙ ap₂ with_rule bare c.required_word.ensures.rule) c.required_word-2.ensures.rule)
     c.valued_option.ensures.rule) c.valued_option-2.ensures.rule) c.valued_option-3.ensures.rule)
-    c.valued_option-4.ensures.rule) c.plain_flag.ensures.rule
+    c.valued_option-4.ensures.rule) c.valued_option-5.ensures.rule) c.plain_flag.ensures.rule

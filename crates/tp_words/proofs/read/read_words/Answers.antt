@@ -7,3 +7,6 @@ returns-clause-states c = (texts_limits _ (wanted_by c.in_ok-command.command) c.
 
 pub returns-clause-reductions : goal.returns-clause-reductions
 returns-clause-reductions c = (texts_limits _ (wanted_by c.in_ok-command.command) c.in_ok-command.ensures.accepted).1
+
+pub returns-clause-other : goal.returns-clause-other
+returns-clause-other c = (texts_limits _ (wanted_by c.in_ok-command.command) c.in_ok-command.ensures.accepted).2
