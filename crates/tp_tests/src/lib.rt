@@ -16,9 +16,13 @@ mod inputs;
 #[cfg(test)]
 mod making;
 #[cfg(test)]
+mod monitor;
+#[cfg(test)]
 mod outcomes;
 #[cfg(test)]
 mod phrases;
+#[cfg(test)]
+mod planes;
 #[cfg(test)]
 mod programs;
 #[cfg(test)]

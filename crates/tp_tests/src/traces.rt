@@ -1,6 +1,6 @@
 // Texts of runs, read back as traces.
-use crate::expected::{holds, same_text};
-use crate::making::repeated;
+use crate::expected::{holds, same_number, same_text};
+use crate::making::{repeated, series};
 use crate::tables::{cut, number};
 use std::alloc::Global;
 use std::process::Abort;
@@ -138,6 +138,26 @@ fn lines_stay_within_the_limits(rt: HostRuntime) -> Result<(), Fail> {
         let (text, pattern, line) = repeated(rt.alloc(), row)?;
         let read = read_trace(rt.alloc(), text.as_bytes());
         holds(&rt, read.is_ok() == (line == "0"), pattern);
+    }
+    Ok(())
+}
+
+// A trace of many states.
+const MANY: u32 = 100_000;
+
+#[test]
+fn long_traces_are_read(rt: HostRuntime) -> Result<(), Fail> {
+    let alloc = rt.alloc();
+    let text = series(alloc, "#state @: A=@ b=1;#", MANY)?;
+    let text = lines(alloc, text.as_str())?;
+    match read_trace(alloc, text.as_bytes()) {
+        Ok(trace) => same_number(
+            &rt,
+            trace.states.len() as u64,
+            u64::from(MANY),
+            "many states",
+        ),
+        Err(_) => holds(&rt, false, "many states"),
     }
     Ok(())
 }
