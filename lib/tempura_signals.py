@@ -4,7 +4,11 @@ Python 3.9 or later, with its standard library alone; as a program, it prints wh
 """
 
 import collections
+import gzip
+import lzma
+import os
 import re
+import sys
 
 import tempura_inputs
 import tempura_text
@@ -99,8 +103,9 @@ def port_of(name):
 class Choice:
     """What the words ask of a dump: its clock, its signals with their ports, and which edges are kept."""
 
-    def __init__(self, tool, options, dump):
+    def __init__(self, tool, options, dump, tells_ports=True):
         self.tool, self.options, self.names = tool, options, Names(tool, dump.variables)
+        self.tells_ports = tells_ports
         self.clock = self.names.find(options["--clock"])
         if self.clock.size != 1 or not self.clock.has_bits:
             tool.refuse(f"{self.clock.path} is no signal of one bit")
@@ -139,7 +144,7 @@ class Choice:
             path, signal.port = signal.variable.path, renamed.get(signal) or port_of(signal.variable.name)
             if not tempura_inputs.is_port(signal.port):
                 self.tool.refuse(f"{path} has a name too long for a port; say --rename {path}=PORT")
-            if signal not in renamed and signal.port != signal.variable.name:
+            if self.tells_ports and signal not in renamed and signal.port != signal.variable.name:
                 self.tool.tell(f"{path} is the port {signal.port}")
             alike = {("would be one port", signal.port)}
             if signal not in renamed:
@@ -163,6 +168,15 @@ class Choice:
     def read(self):
         """The variables whose values are read of the dump."""
         return [it.variable for it in [*self.signals, *(signal for signal, _ in self.conditions)]]
+
+
+def opened(tool, name):
+    """The file of that name, or the input, as text; also a compressed one."""
+    packed = {".gz": gzip.open, ".xz": lzma.open}.get(os.path.splitext(name)[1], open)
+    try:
+        return packed(sys.stdin.fileno() if name == "-" else name, "rt", encoding="utf-8", errors="replace")
+    except OSError:
+        return tool.refuse(f"{name} cannot be read")
 
 
 if __name__ == "__main__":

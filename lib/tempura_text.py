@@ -212,7 +212,7 @@ def _read_part(text, start):
     return Part(name, at, value, is_length, left.decode("ascii"), text[begin:end].decode("ascii")), end
 
 
-def _clash(facts):
+def facts_clash(facts):
     """Whether some two of the facts give one place two shapes, or one gives a shape that lacks another's place."""
     shapes = {}
     for name, at, shape in facts:
@@ -240,7 +240,7 @@ def _read_state(number, line):
     except NoValue:
         return None
     state = State(number, parts)
-    return None if _clash(state.facts()) else state
+    return None if facts_clash(state.facts()) else state
 
 
 def lines_of(data):

@@ -83,16 +83,19 @@ why_no_answer() {
     fi
 }
 
-# Shows the refused line that an end line names, of FILE as `given` or of TABLE as `given_table`.
+# Shows the refused line that an end line names, of FILE as `given`, of TABLE as `given_table` or of TRACE as `given_trace`.
 show_place() {
     if [ "$status" -eq 10 ] && [ -n "$given" ]; then
         point_where "$1" "$given"
     elif [ "$status" -eq 11 ] && [ -n "$given_table" ]; then
         point_at "${1#inputs refused: line }" 0 <"$given_table" >&2
+    elif [ "$status" -eq 17 ] && [ -n "$given_trace" ]; then
+        point_at "${1#other refused: line }" 0 <"$given_trace" >&2
     fi
 }
 
-# Tells what a try has answered, for FILE as `given` and TABLE as `given_table`, and ends with its status.
+# Tells what a try has answered, for FILE as `given`, TABLE as `given_table` and TRACE as `given_trace`, and ends with its
+# status.
 tell_answer() {
     line=$(tail -n 1 "$work/said")
     case $line in
@@ -111,11 +114,11 @@ tell_answer() {
     exit 20
 }
 
-# Runs the words by a try, with FILE as `source` and TABLE as `table`.
+# Runs the words by a try, with FILE as `source`, TABLE as `table` and TRACE as `trace`.
 run_unproved() {
     # fewer words than a mode and a FILE are refused in any case, and more than these too
     case $files:$mode in
-    1:run | 1:print | 1:convert) ;;
+    1:run | 1:print | 1:convert | 1:check) ;;
     *)
         stop_on_bytes "$@"
         echo "words refused"
@@ -130,9 +133,11 @@ run_unproved() {
         shift
         case $awaits:$options:$word in
         table:*) word=table ;;
+        trace:*) word=trace ;;
         other:*) ;;
-        :yes:-- | :yes:--inputs=) ;;
+        :yes:-- | :yes:--inputs= | :yes:--with=) ;;
         :yes:--inputs=*) word=--inputs=table ;;
+        :yes:--with=*) word=--with=trace ;;
         :yes:-?*) ;;
         *) if [ -z "$first" ]; then first=$word; else word=source; fi ;;
         esac
@@ -145,6 +150,12 @@ run_unproved() {
         give "$table" "$TABLE_LIMIT" table
         given_table=$given
         [ -z "$given" ] || set -- --data "table=$given" "$@"
+    fi
+    given_trace=
+    if [ -n "$trace" ]; then
+        give "$trace" "$TABLE_LIMIT" trace
+        given_trace=$given
+        [ -z "$given" ] || set -- --data "trace=$given" "$@"
     fi
     if [ "$mode" = convert ]; then
         give "$source" "$TABLE_LIMIT" source

@@ -17,7 +17,7 @@ _tempura() {
         fi
     done
     case $before in
-    --inputs)
+    --inputs | --with)
         mapfile -t COMPREPLY < <(compgen -f -- "$word")
         return
         ;;
@@ -32,7 +32,7 @@ _tempura() {
     --states | --reductions | --seconds | --megabytes | -e) return ;;
     esac
     case $first in
-    "") mapfile -t COMPREPLY < <(compgen -W "run print convert explain --cases --last --build --attest --version --help" -- "$word") ;;
+    "") mapfile -t COMPREPLY < <(compgen -W "run print convert check explain --cases --last --build --attest --version --help" -- "$word") ;;
     run | print | --cases)
         if [[ $word == -* ]]; then
             mapfile -t COMPREPLY < <(compgen -W "$options $([[ $first == --cases ]] || printf %s -e)" -- "$word")
@@ -42,6 +42,13 @@ _tempura() {
         fi
         ;;
     convert) mapfile -t COMPREPLY < <(compgen -f -- "$word") ;;
+    check)
+        if [[ $word == -* ]]; then
+            mapfile -t COMPREPLY < <(compgen -W "--with" -- "$word")
+        else
+            mapfile -t COMPREPLY < <(compgen -f -- "$word")
+        fi
+        ;;
     explain)
         mapfile -t COMPREPLY < <(compgen -W "$("${COMP_WORDS[0]}" explain 2>/dev/null | tr ' ' '\n')" -- "$word")
         compopt +o filenames
@@ -63,6 +70,7 @@ _tempura_tool() {
     --use:*) mapfile -t COMPREPLY < <(compgen -W "bits lists signals" -- "$word") ;;
     --ports:* | --states:* | --random:* | --seed:*) ;;
     --clock:* | --when:* | --signals:* | --scope:* | --signed:* | --rename:* | --format:*) ;;
+    --most:* | --from:* | --to:* | --every:*) ;;
     *:-*)
         mapfile -t COMPREPLY < <(compgen -W "$("${COMP_WORDS[0]}" --help 2>/dev/null |
             sed -n 's/^  \(--[a-z-]*\) .*/\1/p')" -- "$word")
@@ -72,4 +80,4 @@ _tempura_tool() {
 }
 
 complete -o filenames -F _tempura tempura
-complete -o filenames -F _tempura_tool tempura-core tempura-diff tempura-lint tempura-sweep vcd-inputs
+complete -o filenames -F _tempura_tool tempura-core tempura-diff tempura-judge tempura-lint tempura-sweep tempura-why vcd-inputs vcd-trace

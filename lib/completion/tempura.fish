@@ -18,6 +18,7 @@ complete -c tempura -f
 complete -c tempura -n __tempura_first -a run -d 'run a program'
 complete -c tempura -n __tempura_first -a print -d 'print a source in its canonical spelling'
 complete -c tempura -n __tempura_first -a convert -d 'print a table of inputs in ranges of states'
+complete -c tempura -n __tempura_first -a check -d 'print whether a trace satisfies a formula'
 complete -c tempura -n __tempura_first -a explain -d 'what an end or a refusal means'
 complete -c tempura -n __tempura_first -l cases -d 'run several files'
 complete -c tempura -n __tempura_first -l last -d 'by the program proved last'
@@ -26,7 +27,8 @@ complete -c tempura -n __tempura_first -l attest -d 'compare program and sources
 complete -c tempura -n __tempura_first -l version -d 'which program this is'
 complete -c tempura -n __tempura_first -l help -d 'print a page'
 complete -c tempura -n '__tempura_has run print --cases' -k -a '(__fish_complete_suffix .tempura)'
-complete -c tempura -n '__tempura_has convert' -F
+complete -c tempura -n '__tempura_has convert check' -F
+complete -c tempura -n '__tempura_has check' -l with -r -F -d 'the file of the trace that is checked'
 complete -c tempura -n '__tempura_has run print --cases' -l inputs -r -F -d 'the file of the table of inputs'
 complete -c tempura -n '__tempura_has run print --cases' -l states -x -d 'settle at most so many states'
 complete -c tempura -n '__tempura_has run print --cases' -l reductions -x -d 'make at most so many steps in a state'
@@ -40,7 +42,7 @@ complete -c tempura -n '__tempura_has explain' -a '(tempura explain 2>/dev/null 
 complete -c tempura -n '__tempura_has --attest' -a '(__fish_complete_directories)'
 
 # the tools
-for tool in tempura-core tempura-diff tempura-lint tempura-sweep vcd-inputs
+for tool in tempura-core tempura-diff tempura-judge tempura-lint tempura-sweep tempura-why vcd-inputs vcd-trace
     complete -c $tool -F
     complete -c $tool -l help -d 'print a page'
 end
@@ -56,6 +58,11 @@ complete -c tempura-sweep -l random -x -d 'so many tables by chance'
 complete -c tempura-sweep -l seed -x -d 'the number to choose by'
 complete -c tempura-sweep -l same -r -F -d 'run another program too, and compare'
 complete -c tempura-sweep -l save -r -F -d 'write the first table that fails'
+complete -c tempura-why -l with -r -F -d 'the file with the printed run'
+complete -c tempura-why -l states -x -d 'tables for traces of at most so many states'
+complete -c tempura-why -l most -x -d 'looks at most at so many parts'
+complete -c tempura-why -l program -r -F -d 'the program that is asked'
+complete -c tempura-judge -l program -r -F -d 'the program that is asked'
 complete -c vcd-inputs -l clock -x -d 'the clock'
 complete -c vcd-inputs -l after -d 'the values just after the edge'
 complete -c vcd-inputs -l when -x -d 'the edges at which a signal has a value'
@@ -65,3 +72,14 @@ complete -c vcd-inputs -l scope -x -d 'the signals of this scope'
 complete -c vcd-inputs -l signed -x -d 'these numbers are in two\'s complement'
 complete -c vcd-inputs -l rename -x -d 'the port of a signal'
 complete -c vcd-inputs -l format -x -a '1 2' -d 'a line for each state, or ranges'
+complete -c vcd-trace -l clock -x -d 'the clock'
+complete -c vcd-trace -l after -d 'the values just after the edge'
+complete -c vcd-trace -l when -x -d 'the edges at which a signal has a value'
+complete -c vcd-trace -l from-known -d 'begins where all signals are known'
+complete -c vcd-trace -l from -x -d 'begins at the edge with this number'
+complete -c vcd-trace -l to -x -d 'ends at the edge with this number'
+complete -c vcd-trace -l every -x -d 'takes every so many-th edge'
+complete -c vcd-trace -l signals -x -d 'these signals'
+complete -c vcd-trace -l scope -x -d 'the signals of this scope'
+complete -c vcd-trace -l signed -x -d 'these numbers are in two\'s complement'
+complete -c vcd-trace -l rename -x -d 'the name of a signal\'s variable'
