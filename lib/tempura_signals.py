@@ -83,7 +83,8 @@ class Names:
 
     def of_scope(self, clock):
         """The variables of the scope but for the clock, and but for those that have no bits, which are told."""
-        found = {(it.code, it.name): it for it in self.variables if it.scope == self.scope and it.code != clock.code}
+        code = clock.code if clock else None
+        found = {(it.code, it.name): it for it in self.variables if it.scope == self.scope and it.code != code}
         left = [f"{it.path} ({it.kind})" for it in found.values() if not it.has_bits]
         if left:
             self.tool.tell(f"left out, as they are no values of a program: {', '.join(left)}")
@@ -106,10 +107,11 @@ class Choice:
     def __init__(self, tool, options, dump, tells_ports=True):
         self.tool, self.options, self.names = tool, options, Names(tool, dump.variables)
         self.tells_ports = tells_ports
-        self.clock = self.names.find(options["--clock"])
-        if self.clock.size != 1 or not self.clock.has_bits:
+        self.clock = self.names.find(options["--clock"]) if "--clock" in options else None
+        if self.clock and (self.clock.size != 1 or not self.clock.has_bits):
             tool.refuse(f"{self.clock.path} is no signal of one bit")
-        self.names.scope = self.names.find_scope(options["--scope"]) if "--scope" in options else self.clock.scope
+        usual = self.clock.scope if self.clock else dump.variables[0].scope if dump.variables else ()
+        self.names.scope = self.names.find_scope(options["--scope"]) if "--scope" in options else usual
         self.signed = {self.names.find(it).code for it in self.listed("--signed")}
         variables = [self.names.find(it) for it in self.listed("--signals")] or self.names.of_scope(self.clock)
         self.signals = [self.signal(it) for it in {(it.code, it.name): it for it in variables}.values()]

@@ -74,6 +74,7 @@ class Dump:
         self._tokens, self._line = self._words(file), 0
         self.variables = []
         self.off_from = []  # the times at which the dump was switched off, as far as it is read
+        self.end = 0  # the last time that was read
         self._read_declarations()
 
     def _words(self, file):
@@ -136,6 +137,7 @@ class Dump:
                 self._read_change(word, time)
                 continue
             before, time = time, self._later(time, word)
+            self.end = time
             if self._is_empty or before == time:
                 continue
             if self._is_on:
@@ -161,6 +163,19 @@ class Dump:
             if rises and after:
                 yield Edge(slot, values, changed)
                 changed = set()
+
+    def times(self, variables):
+        """Each whole time up to the last one, which is the end alone, with the values that stand there."""
+        values, at, stretch = {}, None, 0
+        for slot in self.slots(variables):
+            for time in range(slot.time if at is None else at, slot.time):
+                yield Edge(Slot(time, stretch, {}, False), values, set())
+            if slot.is_first:
+                values.clear()
+            values.update(slot.changes)
+            at, stretch = slot.time, slot.stretch
+        for time in range(self.end if at is None else at, self.end):
+            yield Edge(Slot(time, stretch, {}, False), values, set())
 
     def _later(self, time, word):
         if not re.fullmatch(r"#[0-9]{1,30}", word):

@@ -75,6 +75,7 @@ complete -c vcd-inputs -l format -x -a '1 2' -d 'a line for each state, or range
 complete -c vcd-trace -l clock -x -d 'the clock'
 complete -c vcd-trace -l after -d 'the values just after the edge'
 complete -c vcd-trace -l when -x -d 'the edges at which a signal has a value'
+complete -c vcd-trace -l times -d 'a state for each time'
 complete -c vcd-trace -l from-known -d 'begins where all signals are known'
 complete -c vcd-trace -l from -x -d 'begins at the edge with this number'
 complete -c vcd-trace -l to -x -d 'ends at the edge with this number'
