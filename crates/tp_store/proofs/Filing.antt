@@ -6,14 +6,14 @@ use Rattle.tp_value.specs.declared.value.Shape.{Shape}
 use Rattle.tp_value.specs.declared.path.VarId.{VarId}
 use Rattle.tp_value.specs.declared.path.Path.{Path}
 use Rattle.tp_value.specs.declared.path.Fact.{Fact}
-use Rattle.tp_store.specs.Facts.{same_path, clash, kept_shape, fact}
+use Rattle.tp_store.specs.Facts.{same_path, clash, kept_shape, is_excluded, fact}
 use Rattle.tp_store.specs.Known.{Contents, NoClash, Variable, IsVariableOf, AreOfVariables, lasting_facts, facts_below, full, addition, adds, new_facts, is_none, new_store, global_variable}
 use Rattle.tp_store.specs.Entries.{VariableFacts, facts_in, facts_there, contents_of, without_facts, next_part, with_facts, with_facts_at, HasGrown, IsPart, AreParts}
 use Rattle.tp_store.specs.FactMap.{AreOf, AreOfOne}
 use Rattle.tp_store.specs.Changes.{IsSoundStore, HaveSameShapes, AddsFacts, HasAppended}
 use Rattle.tp_store.proofs.Paths.{same_path-decides}
 use Rattle.tp_store.proofs.Members.{In, in_left, in_right, in_append, in_filter, kept_in, in_kept, kept_none, NoClash-append, NoClash-filter, Apart}
-use Rattle.tp_store.proofs.Same.{AgreeAt, same_kept, same_full, same_addition, clash-variable}
+use Rattle.tp_store.proofs.Same.{AgreeAt, same_kept, same_excluded, same_full, same_addition, clash-variable}
 use Rattle.tp_store.proofs.Adding.{adds_all, news_given}
 
 pub of_in : (x : VarId) (fs : List Fact) → AreOf x fs → (f : Fact) → In f fs → f.path.var ≡ x
@@ -138,6 +138,9 @@ sound_view ps v e h = let P : Contents → Type 0 = λ s. IsSoundStore s in subs
 
 pub kept_view : (ps : List VariableFacts) (v : Contents) (p : Path) → contents_of ps ≡ v → AreParts 0 ps → kept_shape (facts_there (slice_get ps p.var.number)) p ≡ kept_shape v.facts p
 kept_view ps v p e h = sym (kept_in_part ps p h) ∙ ap (λ (s : Contents). kept_shape s.facts p) e
+
+pub excluded_view : (ps : List VariableFacts) (v : Contents) (p : Path) → contents_of ps ≡ v → AreParts 0 ps → is_excluded (facts_there (slice_get ps p.var.number)) p ≡ is_excluded v.facts p
+excluded_view ps v p e h = sym (same_excluded (facts_in ps) (facts_there (slice_get ps p.var.number)) p (part_agrees ps p.var.number h)) ∙ ap (λ (s : Contents). is_excluded s.facts p) e
 
 pub full_view : (ps : List VariableFacts) (v : Contents) (p : Path) → contents_of ps ≡ v → AreParts 0 ps → full (facts_there (slice_get ps p.var.number)) p ≡ full v.facts p
 full_view ps v p e h =

@@ -1,7 +1,7 @@
 // What is kept of each variable.
 ghost use Rattle.std.specs.Prelude.{◌≡◌, ◌<◌, ◌++◌, [], List, length, unwrap_or, map, take, slice_get, slice_set, IfOk, OnOk};
 ghost use Rattle.tp_store.specs.Entries.{VariableFacts, part_in, parts_in, facts_in, facts_there, without_facts, next_part, next_at, with_facts_at, AreTouched};
-ghost use Rattle.tp_store.specs.Facts.{kept_shape};
+ghost use Rattle.tp_store.specs.Facts.{kept_shape, is_excluded};
 ghost use Rattle.tp_store.specs.Known.{global_variable, name_of};
 ghost use Rattle.std.specs.Option.{option_copied};
 ghost use Rattle.tp_value.specs.declared.path.Fact.{Fact};
@@ -68,6 +68,17 @@ pub fn kept_shape(entries: &[Entry], path: &Path) -> Option<Shape>
     match facts_of(entries, path.var.number) {
         Some(facts) => facts.shape(path),
         None => None,
+    }
+}
+
+/// Whether a fact gives a proper prefix of the path a shape that has no such element.
+pub fn excludes(entries: &[Entry], path: &Path) -> bool
+    ensures { result
+        ≡ is_excluded (facts_there (slice_get (parts_in entries.now) path.now.var.number)) path.now }
+{
+    match facts_of(entries, path.var.number) {
+        Some(facts) => facts.excludes(path),
+        None => false,
     }
 }
 

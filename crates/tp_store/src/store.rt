@@ -1,11 +1,11 @@
 // What is known of a state, by variable.
 ghost use Rattle.std.specs.Prelude.{◌≡◌, ◌++◌, ◌∷◌, [], length, IfOk, OnOk, OnErr};
 ghost use Rattle.std.specs.Option.{option_copied};
-ghost use Rattle.tp_store.specs.Facts.{kept_shape};
+ghost use Rattle.tp_store.specs.Facts.{kept_shape, is_excluded};
 ghost use Rattle.tp_store.specs.Known.{new_store, name_of, lasting_facts, facts_below};
 ghost use Rattle.tp_store.specs.Changes.{IsSoundStore, HaveSameShapes, HasAppended};
 
-use crate::entry::{Entry, copy_below, global_entries, go_on, kept_shape, name_of};
+use crate::entry::{Entry, copy_below, excludes, global_entries, go_on, kept_shape, name_of};
 use crate::fact_map::FactMap;
 use std::alloc::Global;
 use std::marker::Model;
@@ -58,6 +58,14 @@ impl Store {
         ensures sound { IsSoundStore self.now }
     {
         kept_shape(self.entries.as_slice(), path)
+    }
+
+    /// Whether the path has no element: the shape that is kept for a proper prefix of it leaves none.
+    pub fn excludes(&self, path: &Path) -> bool
+        ensures value { result ≡ is_excluded self.now.facts path.now }
+        ensures sound { IsSoundStore self.now }
+    {
+        excludes(self.entries.as_slice(), path)
     }
 
     /// How many variables there are: the number of the next new one.
