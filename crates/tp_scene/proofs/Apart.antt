@@ -50,7 +50,7 @@ module _ (facts : List Fact) (kept : NoClash facts) where
       leaf_apart : (l : Leaf) (p : Place) (n : Numbers) → IsApart (leaf_step defs inputs state facts l p n)
       leaf_apart (Do f env) p n = apart p n _ (loose_told Whatever NoClash defs inputs state facts keep f env p n) where
         keep : LooseKeep Whatever NoClash defs facts
-        keep = record { value = λ e xs. tt; other = λ e xs o q. tt; values = λ v. tt; sets = values; lengthens = λ q k. (refl, refl, tt) }
+        keep = record { value = λ e xs. tt; other = λ e xs o q. tt; values = λ v. tt; sets = values; lengthens = λ q k. (refl, refl, tt); shapes = λ x q sh e. (refl, refl, tt); open_path = λ q u v. tt }
       leaf_apart l p n = tt
 
       holder_apart : (k : Holder) (held second : Region) (q : Place) (n : Numbers) → IsApart (holder_step defs inputs state facts k held second q n)

@@ -14,11 +14,11 @@ use Rattle.tp_eval.specs.Outcome as found
 use Rattle.tp_eval.specs.Outcome.{PlaceOutcome, place_outcome}
 use Rattle.tp_scene.specs.Scene.{Bindings, Place}
 use Rattle.tp_scene.specs.Says.{FormulaSays}
-use Rattle.tp_scene.specs.Step.{Numbers, Target, value_at, length_at, target_at, target_of, target_if, side_of, side_with, from_port, equate}
+use Rattle.tp_scene.specs.Step.{Numbers, Target, value_at, length_at, target_at, target_of, target_if, side_of, side_with, from_port, equate_values}
 use Rattle.tp_scene.proofs.Frame.{Keeps}
 use Rattle.tp_scene.proofs.RowForms.{Agrees, row_as}
 use Rattle.tp_scene.proofs.Values.{AreRight, HasValue, deep_enough, value_found, one_value, no_value}
-use Rattle.tp_scene.proofs.Sides.{AddingIsRight, Having, TargetIs, EquationSays, SideMeans, equate_row}
+use Rattle.tp_scene.proofs.Sides.{AddingIsRight, Having, TargetIs, EquationSays, SideMeans, equate_values_row, equate_row}
 use Rattle.tp_scene.proofs.SimpleRows.{FormulaKeeps}
 
 module _ (w : Context) (state : ℕ) (kinds : List Bool) (facts : List Fact) (nn : Numbers) (e : ℕ) (deep : depth_limit < e) (right : AreRight w kinds facts) (adding : AddingIsRight facts) where
@@ -75,7 +75,7 @@ module _ (w : Context) (state : ℕ) (kinds : List Bool) (facts : List Fact) (nn
   equation_row l r env fl fr p s a b =
       let left = side_of w.defs facts l env in
       let right = side_of w.defs facts r env in
-      equate_row w (length kinds) facts nn.local e adding s a b left.placed left.target left.found right.placed right.target right.found (Value l env) (Value r env) (side_means l env fl s a) (side_means r env fr s a)
+      equate_row w (length kinds) facts nn.local e adding s a b nn left.placed left.target left.found right.placed right.target right.found (Value l env) (Value r env) (side_means l env fl s a) (side_means r env fr s a)
 
   -- the other side of an input has the value that is given
   given_means : (v : Tree) (s : Course) (a : ℕ) → SideMeans (length kinds) facts e (side_with v) (λ d σ s a u. u ≡ v) s a
@@ -97,7 +97,7 @@ module _ (w : Context) (state : ℕ) (kinds : List Bool) (facts : List Fact) (nn
       by_port (Some v) q =
           let side = side_of w.defs facts x env in
           let given : input_at w.inputs (s a).own port ≡ Some v = ap (λ k. input_at w.inputs k port) own ∙ q in
-          row_as w (length kinds) facts nn.local e (equate facts side (side_with v)) (EquationSays (Value x env) (λ d σ s a u. u ≡ v)) (FormulaSays w (length kinds) (input x port) env) s a b
+          row_as w (length kinds) facts nn.local e (equate_values facts side (side_with v)) (EquationSays (Value x env) (λ d σ s a u. u ≡ v)) (FormulaSays w (length kinds) (input x port) env) s a b
           (λ d σ S ag h. let z = h.1 in (h.0, h.2, cc, h.3))
           (λ d σ S ag h. (v, given, subst (λ (u : Tree). Value x env d σ s a u) h.2 h.1, h.3))
-          (equate_row w (length kinds) facts nn.local e adding s a b side.placed side.target side.found false None (found.value v) (Value x env) (λ d σ s a u. u ≡ v) (side_means x env fit s a) (given_means v s a))
+          (equate_values_row w (length kinds) facts nn.local e adding s a b side.placed side.target side.found false None (found.value v) (Value x env) (λ d σ s a u. u ≡ v) (side_means x env fit s a) (given_means v s a))

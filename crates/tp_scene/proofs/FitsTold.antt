@@ -124,6 +124,9 @@ module _ (defs : List Definition) (kinds : List Bool) (variables : List Variable
       local_bound = λ x l. (l, omega arith);
       sets = λ q v h u. facts_of_value variables q v h.0;
       lengthens = λ q k h l. (h.0, tt);
+      shared = λ q k i h e l. ((omega arith, tt), (omega arith, tt));
+      shapes = λ x q sh h k e. (h.0, tt);
+      open_path = λ q h u v. sees.waiting q h.0;
     }
 
     pub fits_told : (f : FormulaTree) (env : Bindings) (p : Place) → PhraseFits defs kinds variables f env → Told (fitting defs kinds variables n Q) facts p n (formula_step defs inputs state facts f env p n)

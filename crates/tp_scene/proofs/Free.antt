@@ -1,12 +1,13 @@
 -- Properties that ask nothing of formulas: what is bound and found is enough.
-use Rattle.std.proofs.Common.{◌≡◌, refl, ℤ, ℕ, List, [], ◌∷◌}
+use Rattle.std.proofs.Common.{◌≡◌, refl, ℤ, ℕ, false, List, [], ◌∷◌, Some, None}
 use Rattle.tp_value.specs.Tree.{Tree, num}
 use Rattle.tp_value.specs.declared.path.Path.{Path}
 use Rattle.tp_value.specs.declared.path.Fact.{Fact}
+use Rattle.tp_value.specs.declared.value.Shape.{Shape}
 use Rattle.tp_value.specs.declared.value.Shape.TheVariants.{Items}
 use Rattle.tp_meaning.specs.Syntax.{ExprTree, FormulaTree, equation, next_equation, always, branch, len, assign, chop, for_from, forall_from, project, exists, input, Definition, BindingTree, known_binding}
 use Rattle.tp_meaning.specs.Inputs.{InputTable}
-use Rattle.tp_store.specs.Facts.{fact, facts_at}
+use Rattle.tp_store.specs.Facts.{fact, facts_at, kept_shape, is_excluded}
 use Rattle.tp_eval.specs.Outcome as found
 use Rattle.tp_eval.specs.Outcome.{PlaceOutcome, outcome, place_outcome}
 use Rattle.tp_scene.specs.Scene.{Bindings, Place}
@@ -50,14 +51,17 @@ module _ (B : BindingTree → Type 0) (Q : found.Outcome → Type 0) (N : List F
 abbrev pub loose : (found.Outcome → Type 0) → (List Fact → Type 0) → Bundle
 loose Q N = free (λ x. Unit {0}) Q N
 
--- What is owed then: Q of an expression's outcome, of a place's that is no path, and of any value;
--- and N of the facts that give a path its value, or a list its length.
+-- What is owed then: Q of an expression's outcome, of a place's that is no path, of any value, and of
+-- a wait for what has no shape; and N of the facts that give a path its value, a list its length, or
+-- a path the shape of another.
 pub record LooseKeep (Q : found.Outcome → Type 0) (N : List Fact → Type 0) (defs : List Definition) (facts : List Fact) : Type 0 where
   pub value : (e : ExprTree) (env : Bindings) → Q (outcome facts defs e env)
   pub other : (e : ExprTree) (env : Bindings) (o : found.Outcome) → place_outcome facts defs e env ≡ found.other o → Q o
   pub values : (v : Tree) → Q (found.value v)
   pub sets : (q : Path) (v : Tree) → N (facts_at q v)
   pub lengthens : (q : Path) (k : ℕ) → N (fact q (Items k) ∷ [])
+  pub shapes : (p q : Path) (sh : Shape) → kept_shape facts q ≡ Some sh → N (fact p sh ∷ [])
+  pub open_path : (q : Path) → kept_shape facts q ≡ None → is_excluded facts q ≡ false → Q (found.wait q)
 
 module _ (Q : found.Outcome → Type 0) (N : List Fact → Type 0) (defs : List Definition) (inputs : InputTable) (state : ℕ) (facts : List Fact) (keep : LooseKeep Q N defs facts) where
   place_by : (e : ExprTree) (env : Bindings) (o : PlaceOutcome) → place_outcome facts defs e env ≡ o → PlaceHas (loose Q N) o
@@ -83,4 +87,7 @@ module _ (Q : found.Outcome → Type 0) (N : List Fact → Type 0) (defs : List 
         local_bound = λ x l. tt;
         sets = λ q v h u. keep.sets q v;
         lengthens = λ q k h l. keep.lengthens q k;
+        shared = λ q k i h e l. tt;
+        shapes = λ x q sh h k e. keep.shapes x q sh e;
+        open_path = λ q h u v. keep.open_path q u v;
       }

@@ -9,6 +9,9 @@ pub mod Keep
 pub mod RowForms
 pub mod Values
 pub mod SimpleRows
+pub mod ItemByItem
+pub mod EqualPlaces
+mod Equations
 pub mod Sides
 pub mod EquationRows
 pub mod RegionRows

@@ -71,5 +71,5 @@ module _ (facts : List Fact) (p : Place) (n : Numbers) where
     pub leaf_plain : (l : Leaf) → IsPlain (leaf_step defs inputs state facts l p n)
     leaf_plain (Do f env) = plain _ (loose_told Whatever (λ fs. Unit {0}) defs inputs state facts keep f env p n) where
       keep : LooseKeep Whatever (λ fs. Unit {0}) defs facts
-      keep = record { value = λ e xs. tt; other = λ e xs o q. tt; values = λ v. tt; sets = λ q v. tt; lengthens = λ q k. tt }
+      keep = record { value = λ e xs. tt; other = λ e xs o q. tt; values = λ v. tt; sets = λ q v. tt; lengthens = λ q k. tt; shapes = λ x q sh e. tt; open_path = λ q u v. tt }
     leaf_plain l = tt

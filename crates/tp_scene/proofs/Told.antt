@@ -3,21 +3,22 @@
 -- and what the table says is read off that (`of_told` in NewFacts.antt). `holder_step` isn't told:
 -- each table has rows for it. A new kind has a line in `PartsOf` and one in `row`; where it gives
 -- what no row gave so far, as two regions, `Told` changes, and the tables that take it apart.
-use Rattle.std.proofs.Common.{◌≡◌, ℤ, pos, negsuc, ◌+ℤ◌, int_le, ◌⊎◌, inl, inr, ℕ, zero, suc, ◌-◌, ◌+◌, nat_lt, Bool, true, false, ◌&&◌, not, List, [], ◌∷◌, ◌++◌, length, slice_get, Option, Some, None, refl, ap, sym, subst, arith, if◌then◌else◌}
-use Rattle.std.proofs.lemmas.Bool.{cond_both}
+use Rattle.std.proofs.Common.{◌≡◌, ℤ, pos, negsuc, ◌+ℤ◌, int_le, ◌⊎◌, inl, inr, ℕ, zero, suc, ◌-◌, ◌+◌, ◌<◌, ◌≤◌, nat_lt, Bool, true, false, ◌&&◌, ◌||◌, not, List, [], ◌∷◌, ◌++◌, length, slice_get, Option, Some, None, refl, ap, sym, subst, arith, if◌then◌else◌}
+use Rattle.std.proofs.lemmas.Bool.{cond_both, or_parts}
 use Rattle.std.proofs.lemmas.List.{length-append}
 use Rattle.tp_value.specs.Tree.{Tree, num, truth, same_tree}
 use Rattle.tp_value.specs.Limits.{length_limit}
 use Rattle.tp_value.specs.declared.path.Path.{Path}
 use Rattle.tp_value.specs.declared.path.Fact.{Fact}
-use Rattle.tp_value.specs.declared.value.Shape.TheVariants.{Items}
+use Rattle.tp_value.specs.declared.value.Shape.{Shape}
+use Rattle.tp_value.specs.declared.value.Shape.TheVariants.{Num, Truth, Items}
 use Rattle.tp_kernel.specs.declared.fault.LimitKind.{LimitKind}
 use Rattle.tp_kernel.specs.declared.fault.LimitKind.TheVariants as limit
-use Rattle.tp_meaning.specs.Syntax.{ExprTree, ExprTrees, no_expr, expr_then, numeral, known, size, FormulaTree, FormulaTrees, no_formula, formula_then, formulas_of, trivial, test, equation, next_equation, empty, more, next, weak_next, if_more, if_empty, always, conjunction, branch, len, assign, chop, while, for_from, forall_from, project, exists, call, input, display, Definition, BindingTree, place_binding, known_binding}
+use Rattle.tp_meaning.specs.Syntax.{ExprTree, ExprTrees, no_expr, expr_then, numeral, known, bound, size, index, FormulaTree, FormulaTrees, no_formula, formula_then, formulas_of, trivial, test, equation, next_equation, empty, more, next, weak_next, if_more, if_empty, always, conjunction, branch, len, assign, chop, while, for_from, forall_from, project, exists, call, input, display, Definition, BindingTree, place_binding, known_binding}
 use Rattle.tp_meaning.specs.Nexts.{nexts}
 use Rattle.tp_meaning.specs.Value.{is_upper}
 use Rattle.tp_meaning.specs.Inputs.{InputTable, input_at}
-use Rattle.tp_store.specs.Facts.{fact, facts_at}
+use Rattle.tp_store.specs.Facts.{fact, facts_at, kept_shape, is_excluded}
 use Rattle.tp_store.specs.Known.{Variable, Addition, adds, refuses, addition}
 use Rattle.tp_eval.specs.Evaluate.{is_place}
 use Rattle.tp_eval.specs.Outcome as found
@@ -27,7 +28,7 @@ use Rattle.tp_scene.specs.declared.answer.Cell.TheVariants.{Part, End}
 use Rattle.tp_scene.specs.declared.answer.Clash.{Clash}
 use Rattle.tp_scene.specs.declared.answer.Clash.TheVariants.{Facts, Marks, False, NoValue}
 use Rattle.tp_scene.specs.Scene.{Bindings, Side, Ending, Going, other_side, Leaf, Do, Later, Shown, Holder, Split, SplitProject, Closed, Opened, Running, Entries, none, leaf, node, new_head, no_region, Place}
-use Rattle.tp_scene.specs.Step.{region_limit, Reduction, PickOutcome, reduces, waits, rests, clashes, misses, passes, Numbers, becomes, knows, marking, with_region, by_status, with_value, with_truth, with_number, Target, value_at, length_at, target_at, target_if, target_of, set, added, SideOf, meets, equate, all_do, count_of, side_of, side_with, with_values, with_place, with_argument, with_arguments, called, length_left, from_port, formula_step}
+use Rattle.tp_scene.specs.Step.{region_limit, Reduction, PickOutcome, reduces, waits, rests, clashes, misses, passes, Numbers, becomes, knows, marking, with_region, by_status, with_value, with_truth, with_number, Target, value_at, length_at, target_at, target_if, target_of, set, added, SideOf, meets, item_equations, shape_equations, both_places, shares, by_shapes, passes_or_waits, equate_places, equate_values, equate, all_do, count_of, side_of, side_with, with_values, with_place, with_argument, with_arguments, called, length_left, from_port, formula_step}
 
 -- Properties of what rows are made of: of a formula, and an expression, under so many bindings; of a binding; of what an expression is found to be; of
 -- new facts before they are added; of a name of a local or a port; and of a new local, which is assumed where the new items are told.
@@ -182,7 +183,8 @@ module _ (b : Bundle) (facts : List Fact) (p : Place) (n : Numbers) where
 
 -- What is owed for a bundle: each property passes on to what rows make of it. `value` and `place`
 -- are had from `Evaluates` (Evaluated.antt). `body` and `value_bound` are for `call`, `read` for
--- `input`, `local_bound` for `exists`, the last two for equations that set a value or a length.
+-- `input`, `local_bound` for `exists`, the others for equations: the next two for those that set a
+-- value or a length, the last three for those of two places.
 pub record RowsKeep (b : Bundle) (defs : List Definition) (inputs : InputTable) (state : ℕ) (facts : List Fact) (n : Numbers) : Type 0 where
   pub lists : Lists b
   pub parts : (f : FormulaTree) (m : ℕ) → b.formula f m → PartsOf b f m
@@ -194,6 +196,9 @@ pub record RowsKeep (b : Bundle) (defs : List Definition) (inputs : InputTable) 
   pub local_bound : (x : Variable) → b.local (Some x) → b.binding (place_binding (record { var = record { number = n.local; lasting = x.lasting }; at = [] }))
   pub sets : (q : Path) (v : Tree) → b.binding (place_binding q) → b.evaluated (found.value v) → b.new_facts (facts_at q v)
   pub lengthens : (q : Path) (k : ℕ) → b.binding (place_binding q) → nat_lt length_limit k ≡ false → b.new_facts (fact q (Items k) ∷ [])
+  pub shared : (q : Path) (k i : ℕ) → b.binding (place_binding q) → kept_shape facts q ≡ Some (Items k) → i < k → b.formula (equation (index (bound 0) (numeral (pos i))) (index (bound 1) (numeral (pos i)))) 2
+  pub shapes : (p q : Path) (sh : Shape) → b.binding (place_binding p) → b.binding (place_binding q) → kept_shape facts q ≡ Some sh → b.new_facts (fact p sh ∷ [])
+  pub open_path : (q : Path) → b.binding (place_binding q) → kept_shape facts q ≡ None → is_excluded facts q ≡ false → b.evaluated (found.wait q)
 
 module _ (b : Bundle) (defs : List Definition) (inputs : InputTable) (state : ℕ) (facts : List Fact) (n : Numbers) (closed : RowsKeep b defs inputs state facts n) (p : Place) where
   abbrev P : PickOutcome → Type 0
@@ -293,16 +298,63 @@ module _ (b : Bundle) (defs : List Definition) (inputs : InputTable) (state : �
   meets_told c None (found.fault k) v h u w = tt
   meets_told c None (found.over k) v h u w = inl u
 
-  equate_told : (l r : SideOf) → Sets l.target → Sets r.target → b.evaluated l.found → b.evaluated r.found → P (equate facts l r)
-  equate_told l r tl tr = go l.found r.found where
-    go : (x y : found.Outcome) → b.evaluated x → b.evaluated y → P (equate facts (record { placed = l.placed; target = l.target; found = x }) (record { placed = r.placed; target = r.target; found = y }))
+  over_told : (t : Option Target) (q : Path) (k : LimitKind) → b.evaluated (found.wait q) → b.evaluated (found.over k) → P (passes_or_waits facts t q k)
+  over_told (Some (value_at p)) q k u v = (u, tt)
+  over_told (Some (length_at p)) q k u v = inl v
+  over_told None q k u v = inl v
+
+  equate_values_told : (l r : SideOf) → Sets l.target → Sets r.target → b.evaluated l.found → b.evaluated r.found → P (equate_values facts l r)
+  equate_values_told l r tl tr = go l.found r.found where
+    go : (x y : found.Outcome) → b.evaluated x → b.evaluated y → P (equate_values facts (record { placed = l.placed; target = l.target; found = x }) (record { placed = r.placed; target = r.target; found = y }))
     go x (found.fault k) u v = tt
     go (found.fault j) y u v = tt
+    go (found.wait q) (found.over k) u v = over_told r.target q k u v
+    go (found.over j) (found.wait q) u v = over_told l.target q j v u
     go x (found.over k) u v = inl v
     go (found.over j) y u v = inl u
     go x (found.value s) u v = meets_told l.placed l.target x s tl u v
     go (found.value t) (found.wait q) u v = meets_told r.placed r.target (found.wait q) t tr v u
     go (found.wait q) (found.wait s) u v = if_told (r.placed && not l.placed) _ _ (u, v) (v, u)
+
+  -- two places
+  items_told : (x y : Path) → AllBound b (both_places x y) → (m i from : ℕ)
+      → ((j : ℕ) → i ≤ j → j < i + m → b.formula (equation (index (bound 0) (numeral (pos j))) (index (bound 1) (numeral (pos j)))) 2)
+      → Leaves None from (all_do (item_equations m i) (both_places x y) n.item from) (from + count_of (item_equations m i))
+  items_told x y bs zero i from h = omega arith
+  items_told x y bs (suc m) i from h = (
+    refl,
+    (h i (omega arith) (omega arith), bs),
+    subst (λ (c : ℕ). Leaves None (suc from) (all_do (item_equations m (suc i)) (both_places x y) n.item (suc from)) c) (let e : suc from + count_of (item_equations m (suc i)) ≡ from + suc (count_of (item_equations m (suc i))) = omega arith in e)
+        (items_told x y bs m (suc i) (suc from) (λ j u v. h j (omega (arith, u)) (omega (arith, v)))),
+  )
+
+  shape_told : (x y q : Path) → AllBound b (both_places x y) → b.binding (place_binding q) → (sh : Shape) → kept_shape facts q ≡ Some sh → Leaves None 0 (all_do (shape_equations sh) (both_places x y) n.item 0) (count_of (shape_equations sh))
+  shape_told x y q bs h (Items k) e =
+      subst (λ (c : ℕ). Leaves None 0 (all_do (item_equations k 0) (both_places x y) n.item 0) c) (let z : 0 + count_of (item_equations k 0) ≡ count_of (item_equations k 0) = omega arith in z)
+      (items_told x y bs k 0 0 (λ j u v. closed.shared q k j h e (omega (arith, v))))
+  shape_told x y q bs h (Num z) e = refl
+  shape_told x y q bs h (Truth c) e = refl
+
+  shares_told : (x y : Path) (sh : Shape) → Leaves None 0 (all_do (shape_equations sh) (both_places x y) n.item 0) (count_of (shape_equations sh)) → (xs : List Fact) → b.new_facts xs → (o : Addition) → addition facts xs ≡ o → P (shares x y sh n o)
+  shares_told x y sh h xs u (adds news) e = record { facts_of = inr (xs, u, e); mark = no_mark; name = no_name; news = λ l. inl (h, refl) }
+  shares_told x y sh h xs u (refuses old new) e = (xs, u, e)
+
+  places_told : (x y : Path) → b.binding (place_binding x) → b.binding (place_binding y) → P (equate_places facts x y n)
+  places_told x y hx hy = cond_both (is_excluded facts y || is_excluded facts x) _ _ P (λ e. tt) (λ e. by (kept_shape facts y) (kept_shape facts x) refl refl (or_parts (is_excluded facts y) (is_excluded facts x) e))
+    where
+      by : (s t : Option Shape) → kept_shape facts y ≡ s → kept_shape facts x ≡ t → (is_excluded facts y ≡ false) × (is_excluded facts x ≡ false) → P (by_shapes facts x y n s t)
+      by (Some sh) t u v e = shares_told x y sh (shape_told x y y (hx, (hy, tt)) hy sh u) _ (closed.shapes x y sh hx hy u) (addition facts (fact x sh ∷ [])) refl
+      by None (Some sh) u v e = shares_told x y sh (shape_told x y x (hx, (hy, tt)) hx sh v) _ (closed.shapes y x sh hy hx v) (addition facts (fact y sh ∷ [])) refl
+      by None None u v e = (closed.open_path y hy u e.0, closed.open_path x hx v e.1)
+
+  equate_told : (l r : SideOf) → Sets l.target → Sets r.target → b.evaluated l.found → b.evaluated r.found → P (equate facts l r n)
+  equate_told l r tl tr u v = by l.target r.target tl tr where
+    by : (s t : Option Target) → Sets s → Sets t → P (equate facts (record { placed = l.placed; target = s; found = l.found }) (record { placed = r.placed; target = t; found = r.found }) n)
+    by (Some (value_at x)) (Some (value_at y)) hs ht = places_told x y hs ht
+    by (Some (value_at x)) (Some (length_at y)) hs ht = equate_values_told (record { placed = l.placed; target = Some (value_at x); found = l.found }) (record { placed = r.placed; target = Some (length_at y); found = r.found }) hs ht u v
+    by (Some (value_at x)) None hs ht = equate_values_told (record { placed = l.placed; target = Some (value_at x); found = l.found }) (record { placed = r.placed; target = None; found = r.found }) hs ht u v
+    by (Some (length_at x)) t hs ht = equate_values_told (record { placed = l.placed; target = Some (length_at x); found = l.found }) (record { placed = r.placed; target = t; found = r.found }) hs ht u v
+    by None t hs ht = equate_values_told (record { placed = l.placed; target = None; found = l.found }) (record { placed = r.placed; target = t; found = r.found }) hs ht u v
 
   module _ (env : Bindings) (bs : AllBound b env) where
     abbrev Fit : ExprTree → Type 0
@@ -350,7 +402,7 @@ module _ (b : Bundle) (defs : List Definition) (inputs : InputTable) (state : �
 
     port_told : (v : Option Tree) (port : List ℕ) (x : ExprTree) → input_at inputs state port ≡ v → Fit x → b.name port → P (from_port facts v port (side_of defs facts x env))
     port_told None port x e h m = m
-    port_told (Some v) port x e h m = equate_told (side_of defs facts x env) (side_with v) (target_told x h) tt (value_of_told x h) (closed.read port v e)
+    port_told (Some v) port x e h m = equate_values_told (side_of defs facts x env) (side_with v) (target_told x h) tt (value_of_told x h) (closed.read port v e)
 
     all_told : (fs : FormulaTrees) (from : ℕ) → b.formulas fs (length env) → Leaves None from (all_do fs env n.item from) (from + count_of fs)
     all_told no_formula from h = omega arith

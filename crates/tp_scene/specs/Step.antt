@@ -1,18 +1,19 @@
 -- What each item becomes.
-use Rattle.std.specs.Prelude.{ℤ, pos, negsuc, ◌+ℤ◌, int_le, ℕ, zero, suc, ◌-◌, nat_lt, Bool, true, false, ◌&&◌, not, List, [], ◌∷◌, ◌++◌, Option, Some, None, slice_get, if◌then◌else◌}
+use Rattle.std.specs.Prelude.{ℤ, pos, negsuc, ◌+ℤ◌, int_le, ℕ, zero, suc, ◌-◌, nat_lt, Bool, true, false, ◌&&◌, ◌||◌, not, List, [], ◌∷◌, ◌++◌, Option, Some, None, slice_get, if◌then◌else◌}
 use Rattle.tp_value.specs.Tree.{Tree, num, truth, list, same_tree}
 use Rattle.tp_value.specs.Limits.{length_limit}
 use Rattle.tp_value.specs.declared.path.Path.{Path}
 use Rattle.tp_value.specs.declared.path.Fact.{Fact}
-use Rattle.tp_value.specs.declared.value.Shape.TheVariants.{Items}
+use Rattle.tp_value.specs.declared.value.Shape.{Shape}
+use Rattle.tp_value.specs.declared.value.Shape.TheVariants.{Num, Truth, Items}
 use Rattle.tp_kernel.specs.declared.fault.FaultKind.TheVariants.{WrongKind, NoElement}
 use Rattle.tp_kernel.specs.declared.fault.LimitKind.{LimitKind}
 use Rattle.tp_kernel.specs.declared.fault.LimitKind.TheVariants as limit
-use Rattle.tp_meaning.specs.Syntax.{ExprTree, ExprTrees, no_expr, expr_then, numeral, known, size, FormulaTree, FormulaTrees, trivial, test, equation, next_equation, empty, more, next, weak_next, if_more, if_empty, always, conjunction, branch, len, assign, chop, while, for_from, forall_from, project, exists, call, input, display, no_formula, formula_then, formulas_of, Definition, BindingTree, place_binding, known_binding}
+use Rattle.tp_meaning.specs.Syntax.{ExprTree, ExprTrees, no_expr, expr_then, numeral, known, bound, size, index, FormulaTree, FormulaTrees, trivial, test, equation, next_equation, empty, more, next, weak_next, if_more, if_empty, always, conjunction, branch, len, assign, chop, while, for_from, forall_from, project, exists, call, input, display, no_formula, formula_then, formulas_of, Definition, BindingTree, place_binding, known_binding}
 use Rattle.tp_meaning.specs.Nexts.{nexts}
 use Rattle.tp_meaning.specs.Value.{is_upper}
 use Rattle.tp_meaning.specs.Inputs.{InputTable, input_at}
-use Rattle.tp_store.specs.Facts.{fact, facts_at}
+use Rattle.tp_store.specs.Facts.{fact, facts_at, kept_shape, is_excluded}
 use Rattle.tp_store.specs.Known.{Addition, adds, refuses, addition, Variable}
 use Rattle.tp_eval.specs.Evaluate.{is_place}
 use Rattle.tp_eval.specs.Outcome as found
@@ -152,6 +153,46 @@ abbrev pub added : Addition → PickOutcome
 added (adds facts) = knows facts
 added (refuses kept new) = clashes (Facts kept new)
 
+-- the items of a conjunction
+abbrev pub all_do : FormulaTrees → Bindings → (number : ℕ → ℕ) → (from : ℕ) → Entries
+all_do no_formula env number k = none
+all_do (formula_then f fs) env number k = leaf (number k) (Do f env) (all_do fs env number (suc k))
+
+abbrev pub count_of : FormulaTrees → ℕ
+count_of no_formula = 0
+count_of (formula_then f fs) = suc (count_of fs)
+
+-- The items of one place equal those of another, m of them from item i on, where the two places are
+-- what is bound first and second.
+abbrev pub item_equations : (m i : ℕ) → FormulaTrees
+item_equations zero i = no_formula
+item_equations (suc m) i =
+    formula_then (equation (index (bound 0) (numeral (pos i))) (index (bound 1) (numeral (pos i))))
+    (item_equations m (suc i))
+
+-- what is left to say of two places with this shape, so that they are equal
+abbrev pub shape_equations : Shape → FormulaTrees
+shape_equations (Items k) = item_equations k 0
+shape_equations (Num n) = no_formula
+shape_equations (Truth b) = no_formula
+
+abbrev pub both_places : (left right : Path) → Bindings
+both_places p q = place_binding p ∷ place_binding q ∷ []
+
+-- The shape that one of two places has is the other's too, and their items are equal; by what comes
+-- of adding the other's fact.
+abbrev pub shares : (left right : Path) → Shape → Numbers → Addition → PickOutcome
+shares p q sh n (adds facts) =
+    reduces (record {
+      news = all_do (shape_equations sh) (both_places p q) n.item 0;
+      items = count_of (shape_equations sh);
+      regions = 0;
+      local = None;
+      mark = None;
+      facts = facts;
+    })
+shares p q sh n (refuses kept new) = clashes (Facts kept new)
+
 -- a side of an equation: whether it is a place or the size of one, what it can set, and its outcome
 pub record SideOf : Type 0 where
   pub placed : Bool
@@ -189,34 +230,57 @@ module _ (facts : List Fact) where
   both_wait l r p q =
       if r && not l then waits (Part p) (Some (Part q)) else waits (Part q) (Some (Part p))
 
-  -- An equation. A fault of the right side comes before one of the left side, a fault before a
-  -- limit, and either before anything else. Then a value on the right decides before one on the
-  -- left.
-  abbrev pub equate : SideOf → SideOf → PickOutcome
-  equate l r = by_outcomes l.found r.found
+  -- Two places: the right one's shape is the left one's too; or the left one's is the right one's;
+  -- or neither has a shape yet.
+  abbrev pub by_shapes : (left right : Path) → Numbers → (of_right of_left : Option Shape)
+      → PickOutcome
+  by_shapes p q n (Some sh) other = shares p q sh n (addition facts (fact p sh ∷ []))
+  by_shapes p q n None (Some sh) = shares p q sh n (addition facts (fact q sh ∷ []))
+  by_shapes p q n None None = waits (Part q) (Some (Part p))
+
+  -- Two places are equal item by item, as soon as one of them has a shape, where both can be there.
+  abbrev pub equate_places : (left right : Path) → Numbers → PickOutcome
+  equate_places p q n =
+      if is_excluded facts q || is_excluded facts p then clashes (NoValue NoElement)
+      else by_shapes p q n (kept_shape facts q) (kept_shape facts p)
+
+  -- One side waits, and the other passes a limit. Where that other side is a place, its value may
+  -- not be needed: what waits may come to a place too.
+  abbrev pub passes_or_waits : (passing : Option Target) → (waiting : Path) → LimitKind
+      → PickOutcome
+  passes_or_waits (Some (value_at q)) p k = waits (Part p) None
+  passes_or_waits (Some (length_at q)) p k = passes k
+  passes_or_waits None p k = passes k
+
+  -- Two sides by what is found of them. A fault of the right side comes before one of the left
+  -- side, a fault before a limit, and either before anything else. Then a value on the right
+  -- decides before one on the left.
+  abbrev pub equate_values : SideOf → SideOf → PickOutcome
+  equate_values l r = by_outcomes l.found r.found
     where
       by_outcomes : (left right : found.Outcome) → PickOutcome
       by_outcomes o (found.fault k) = clashes (NoValue k)
       by_outcomes (found.fault k) o = clashes (NoValue k)
+      by_outcomes (found.wait p) (found.over k) = passes_or_waits r.target p k
+      by_outcomes (found.over k) (found.wait q) = passes_or_waits l.target q k
       by_outcomes o (found.over k) = passes k
       by_outcomes (found.over k) o = passes k
       by_outcomes o (found.value v) = meets l v
       by_outcomes (found.value v) (found.wait q) = meets r v
       by_outcomes (found.wait p) (found.wait q) = both_wait l.placed r.placed p q
 
+  -- An equation: two places are equal by shape, anything else by value.
+  abbrev pub equate : SideOf → SideOf → Numbers → PickOutcome
+  equate l r n = by_targets l.target r.target
+    where
+      by_targets : (left right : Option Target) → PickOutcome
+      by_targets (Some (value_at p)) (Some (value_at q)) = equate_places p q n
+      by_targets left right = equate_values l r
+
   -- the side has the value that the port has, if it has one
   abbrev pub from_port : Option Tree → (port : List ℕ) → SideOf → PickOutcome
   from_port None port side = misses port
-  from_port (Some v) port side = equate side (side_with v)
-
--- the items of a conjunction
-abbrev pub all_do : FormulaTrees → Bindings → (number : ℕ → ℕ) → (from : ℕ) → Entries
-all_do no_formula env number k = none
-all_do (formula_then f fs) env number k = leaf (number k) (Do f env) (all_do fs env number (suc k))
-
-abbrev pub count_of : FormulaTrees → ℕ
-count_of no_formula = 0
-count_of (formula_then f fs) = suc (count_of fs)
+  from_port (Some v) port side = equate_values side (side_with v)
 
 abbrev pub is_placed : ExprTree → Bool
 is_placed (size e) = is_place e
@@ -299,7 +363,7 @@ module _ (defs : List Definition) (inputs : InputTable) (state : ℕ) (facts : L
   formula_step (test e) env p n =
       with_truth (value_of defs facts e env) (λ b. if b then vanishes else clashes False)
   formula_step (equation l r) env p n =
-      equate facts (side_of defs facts l env) (side_of defs facts r env)
+      equate facts (side_of defs facts l env) (side_of defs facts r env) n
   formula_step (next_equation k t e) env p n =
       with_value (value_of defs facts e env)
       (λ v. going p (leaf (n.item 0) (Later (nexts (k - 1) (equation t (known v))) env) none) 1)
