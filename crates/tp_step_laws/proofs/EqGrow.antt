@@ -1,4 +1,4 @@
--- An equation where more is known: the same is known after it, or it is bad; also where the side that is known last decides.
+-- An equation by values where more is known: the same is known after it, or it is bad; also where the side that is known last decides.
 use Rattle.std.proofs.Common.{◌≡◌, inl, inr, pos, nat_lt, Bool, true, false, not, ◌&&◌, List, [], ◌∷◌, ◌++◌, Option, Some, None, refl, ap, sym, ◌∙◌, subst, if◌then◌else◌}
 use Rattle.std.proofs.lemmas.Bool.{cases_Bool, cond_both, both_ways, false_from_ne_true}
 use Rattle.std.proofs.lemmas.List.{append-nil}
@@ -8,7 +8,7 @@ use Rattle.tp_value.specs.Limits.{length_limit}
 use Rattle.tp_value.specs.declared.path.Path.{Path}
 use Rattle.tp_value.specs.declared.path.Fact.{Fact}
 use Rattle.tp_value.specs.declared.value.Shape.TheVariants.{Items}
-use Rattle.tp_store.specs.Facts.{kept_shape, fact, facts_at}
+use Rattle.tp_store.specs.Facts.{kept_shape, is_excluded, fact, facts_at}
 use Rattle.tp_value.specs.declared.value.Shape.{Shape}
 use Rattle.tp_store.specs.Known.{NoClash, is_none, Addition, adds, refuses, new_facts, addition}
 use Rattle.tp_store.proofs.Members.{In, in_filter, in_kept, kept_in, NoClash-filter}
@@ -19,7 +19,7 @@ use Rattle.tp_kernel.specs.declared.fault.FaultKind.{FaultKind}
 use Rattle.tp_kernel.specs.declared.fault.LimitKind.{LimitKind}
 use Rattle.tp_kernel.specs.declared.fault.LimitKind.TheVariants as limit
 use Rattle.tp_scene.specs.declared.answer.Clash.TheVariants.{False}
-use Rattle.tp_scene.specs.Step.{PickOutcome, reduces, waits, rests, clashes, misses, passes, vanishes, knows, added, Target, value_at, length_at, set, SideOf, meets, both_wait, equate}
+use Rattle.tp_scene.specs.Step.{PickOutcome, reduces, waits, rests, clashes, misses, passes, vanishes, knows, added, Target, value_at, length_at, set, SideOf, meets, both_wait, passes_or_waits, equate_values}
 use Rattle.tp_step_laws.specs.Outcomes.{KnowsMore, RefusesFacts, AddsAlike, StaysKnown, GrownOutcome}
 use Rattle.tp_step_laws.specs.Within.{LengthsAreWithin}
 use Rattle.tp_step_laws.specs.Rows.{IsFailure, SameFacts, GrownTo}
@@ -48,19 +48,42 @@ knows_grown gs news more h = record { news = refl; items = refl; regions = refl;
 pub nothing_new : (gs : List Fact) → NoClash gs → SameFacts gs [] []
 nothing_new gs gc = record { shapes = λ p. refl; each = λ p sh h. absurd (cc h); apart = subst (λ (l : List Fact). NoClash l) (sym (append-nil gs)) gc }
 
+-- a side of this form
+abbrev pub side : Bool → Option Target → found.Outcome → SideOf
+side b t o = record { placed = b; target = t; found = o }
+
 -- the parts of a side before and after: what can be set stays so, and where it is known its value is what is found
 pub record SideGrows (gs : List Fact) (t : Option Target) (o : found.Outcome) (t' : Option Target) (o' : found.Outcome) : Type 0 where
   pub target : (x : Target) → t ≡ Some x → t' ≡ Some x
   pub none : t ≡ None → (u : Tree) → o ≡ found.value u → t' ≡ None
+  -- only what waited comes to a place, and a place with a fault is excluded
+  pub arises : (q : Path) → t ≡ None → t' ≡ Some (value_at q) → (p : Path) × (o ≡ found.wait p)
+  pub absent : (q : Path) (k : FaultKind) → t' ≡ Some (value_at q) → o' ≡ found.fault k → is_excluded gs q ≡ true
   pub grown : GrownOutcome o o'
   pub known : (x : Target) (v : Tree) → t' ≡ Some x → o' ≡ found.value v → TargetKnown gs x v
+
+pub no_path : (gs : List Fact) (t t' : Option Target) (k : LimitKind) (o' : found.Outcome) → SideGrows gs t (found.over k) t' o' → (q : Path) → t ≡ None → t' ≡ Some (value_at q) → ⊥
+no_path gs t t' k o' s q n h = let r = s.arises q n h in let e : found.over k ≡ found.wait r.0 = r.1 in cc
+
+-- what was added is added again, or refused
+abbrev pub AdditionGrows : List Fact → Addition → Addition → Type 0
+AdditionGrows gs (adds news) (adds more) = SameFacts gs news more
+AdditionGrows gs (adds news) (refuses old new) = Unit {0}
+AdditionGrows gs (refuses o n) (adds more) = ⊥
+AdditionGrows gs (refuses o n) (refuses old new) = Unit {0}
+
+added_from : (gs : List Fact) (a b : Addition) → AdditionGrows gs a b → GrownTo gs (added a) (added b)
+added_from gs (adds news) (adds more) h = knows_grown gs news more h
+added_from gs (adds news) (refuses old new) h = tt
+added_from gs (refuses o n) (adds more) h = absurd h
+added_from gs (refuses o n) (refuses old new) h = tt
 
 module _ (fs gs : List Fact) (fc : NoClash fs) (gc : NoClash gs) (more : KnowsMore fs gs) (within : LengthsAreWithin gs) where
   abbrev stays : StaysKnown fs gs
   stays = facts_grow fs gs fc gc more
 
-  added_grows : (facts : List Fact) → NoClash facts → GrownTo gs (added (addition fs facts)) (added (addition gs facts))
-  added_grows facts single = go (addition fs facts) (addition gs facts) refl refl
+  pub additions_grow : (facts : List Fact) → NoClash facts → AdditionGrows gs (addition fs facts) (addition gs facts)
+  additions_grow facts single = go (addition fs facts) (addition gs facts) refl refl
     where
       each : (news more' : List Fact) → AddsAll fs facts news → AddsAll gs facts more' → (p : Path) (sh : Shape) → kept_shape news p ≡ Some sh → kept_shape (gs ++ more') p ≡ Some sh
       each news more' x y p sh h = elim (given_in gs facts more' y (fact p sh) (news_given fs facts news x (fact p sh) (kept_in news p sh h))) [
@@ -74,14 +97,17 @@ module _ (fs gs : List Fact) (fc : NoClash fs) (gc : NoClash gs) (more : KnowsMo
           none_is None e = refl
           none_is (Some x) e = absurd (cc)
 
-      go : (a b : Addition) → addition fs facts ≡ a → addition gs facts ≡ b → GrownTo gs (added a) (added b)
-      go (adds news) (adds more') x y = knows_grown gs news more' (record {
+      go : (a b : Addition) → addition fs facts ≡ a → addition gs facts ≡ b → AdditionGrows gs a b
+      go (adds news) (adds more') x y = record {
         shapes = subst (λ (b : Addition). AddsAlike gs news b) y (stays.added facts news x);
         each = each news more' (adds_all fs facts news x) (adds_all gs facts more' y);
         apart = no_clash_arises.adding gs facts more' y gc single;
-      })
+      }
       go (refuses old new) (adds news) x y = elim (subst (λ (b : Addition). RefusesFacts b) y (stays.refused facts (subst (λ (a : Addition). RefusesFacts a) (sym x) tt))) [ ]
       go u v x y = tt
+
+  added_grows : (facts : List Fact) → NoClash facts → GrownTo gs (added (addition fs facts)) (added (addition gs facts))
+  added_grows facts single = added_from gs (addition fs facts) (addition gs facts) (additions_grow facts single)
 
   set_grows : (t : Target) (v : Tree) → GrownTo gs (set fs t v) (set gs t v)
   set_grows (value_at p) v = added_grows (facts_at p v) (no_clash_arises.value_facts p v)
@@ -102,10 +128,6 @@ module _ (fs gs : List Fact) (fc : NoClash fs) (gc : NoClash gs) (more : KnowsMo
     }))
     | inr b ↦ absurd (subst (λ (o : PickOutcome). IsFailure o) (set_known gs gc within t v k) (bad_stays_bad gs (set fs t v) (set gs t v) (set_grows t v) b))
   ]
-
-  -- a side of this form
-  abbrev pub side : Bool → Option Target → found.Outcome → SideOf
-  side b t o = record { placed = b; target = t; found = o }
 
   compared_grows : (u v : Tree) → GrownTo gs (if same_tree u v then vanishes else clashes False) (if same_tree u v then vanishes else clashes False)
   compared_grows u v = go (same_tree u v)
@@ -146,28 +168,20 @@ module _ (fs gs : List Fact) (fc : NoClash fs) (gc : NoClash gs) (more : KnowsMo
     | inr y ↦ bad_grown gs (set fs t u) (switch_to b l u v) (other_switch b l u v (λ e. both_ways (same_tree v u) y ((same_tree_is_equality v u).1 e)) k)
   ]
 
-  waiting_grows : (b c : Bool) (p q : Path) (o : PickOutcome) → GrownTo gs (both_wait fs b c p q) o
+  pub waiting_grows : (b c : Bool) (p q : Path) (o : PickOutcome) → GrownTo gs (both_wait fs b c p q) o
   waiting_grows b c p q o = cond_both (c && not b) _ _ (λ x. GrownTo gs x o) (λ _. tt) (λ _. tt)
 
   abbrev Goal : Bool → Bool → Option Target → found.Outcome → Option Target → found.Outcome → Option Target → found.Outcome → Option Target → found.Outcome → Type 0
-  Goal b c l x r y l' x' r' y' = GrownTo gs (equate fs (side b l x) (side c r y)) (equate gs (side b l' x') (side c r' y'))
+  Goal b c l x r y l' x' r' y' = GrownTo gs (equate_values fs (side b l x) (side c r y)) (equate_values gs (side b l' x') (side c r' y'))
 
-  -- a side with a fault or a passed limit
-  right_fault : (b c : Bool) (l r : Option Target) (x : found.Outcome) (k : FaultKind) → IsFailure (equate gs (side b l x) (side c r (found.fault k)))
+  -- a side with a fault
+  right_fault : (b c : Bool) (l r : Option Target) (x : found.Outcome) (k : FaultKind) → IsFailure (equate_values gs (side b l x) (side c r (found.fault k)))
   right_fault b c l r (found.value t) k = tt
   right_fault b c l r o k = tt
 
-  right_over : (b c : Bool) (l r : Option Target) (x : found.Outcome) (k : LimitKind) → IsFailure (equate gs (side b l x) (side c r (found.over k)))
-  right_over b c l r (found.value t) k = tt
-  right_over b c l r o k = tt
-
-  left_fault : (b c : Bool) (l r : Option Target) (y : found.Outcome) (k : FaultKind) → IsFailure (equate gs (side b l (found.fault k)) (side c r y))
+  left_fault : (b c : Bool) (l r : Option Target) (y : found.Outcome) (k : FaultKind) → IsFailure (equate_values gs (side b l (found.fault k)) (side c r y))
   left_fault b c l r (found.value t) k = tt
   left_fault b c l r o k = tt
-
-  left_over : (b c : Bool) (l r : Option Target) (y : found.Outcome) (k : LimitKind) → IsFailure (equate gs (side b l (found.over k)) (side c r y))
-  left_over b c l r (found.value t) k = tt
-  left_over b c l r o k = tt
 
   -- by what the sides have come to, and then by what they were
   both_values : (b c : Bool) (l l' r r' : Option Target) (x y : found.Outcome) (u v : Tree) → SideGrows gs l x l' (found.value u) → SideGrows gs r y r' (found.value v) → Goal b c l x r y l' (found.value u) r' (found.value v)
@@ -220,17 +234,50 @@ module _ (fs gs : List Fact) (fc : NoClash fs) (gc : NoClash gs) (more : KnowsMo
   both_waiting b c l l' r r' x (found.fault k) p q s d = absurd (let z = d.grown in cc)
   both_waiting b c l l' r r' x (found.over k) p q s d = absurd (let z = d.grown in cc)
 
-  parts_grow : (b c : Bool) (l l' r r' : Option Target) (x y x' y' : found.Outcome) → SideGrows gs l x l' x' → SideGrows gs r y r' y' → Goal b c l x r y l' x' r' y'
+  -- one side waits, and the other passes a limit: it goes on to pass one, or it is a place
+  over_grows : (r r' : Option Target) (o p : Path) (j k : LimitKind) → ((x : Target) → r ≡ Some x → r' ≡ Some x) → ((z : Path) → r ≡ None → r' ≡ Some (value_at z) → ⊥)
+      → GrownTo gs (passes_or_waits fs r o j) (passes_or_waits gs r' p k)
+  over_grows (Some (value_at z)) r' o p j k h a = tt
+  over_grows (Some (length_at z)) r' o p j k h a = subst (λ (t : Option Target). IsFailure (passes_or_waits gs t p k)) (sym (h (length_at z) refl)) tt
+  over_grows None None o p j k h a = tt
+  over_grows None (Some (length_at z)) o p j k h a = tt
+  over_grows None (Some (value_at z)) o p j k h a = absurd (a z refl refl)
+
+  wait_over : (b c : Bool) (l l' r r' : Option Target) (x y : found.Outcome) (p : Path) (k : LimitKind) → SideGrows gs l x l' (found.wait p) → SideGrows gs r y r' (found.over k) → Goal b c l x r y l' (found.wait p) r' (found.over k)
+  wait_over b c l l' r r' (found.wait o) (found.over j) p k s d = over_grows r r' o p j k d.target (no_path gs r r' j (found.over k) d)
+  wait_over b c l l' r r' (found.wait o) (found.wait q) p k s d = waiting_grows b c o q _
+  wait_over b c l l' r r' (found.wait o) (found.value w) p k s d = absurd (let z = d.grown in cc)
+  wait_over b c l l' r r' (found.wait o) (found.fault j) p k s d = absurd (let z = d.grown in cc)
+  wait_over b c l l' r r' (found.value t) y p k s d = absurd (let z = s.grown in cc)
+  wait_over b c l l' r r' (found.fault j) y p k s d = absurd (let z = s.grown in cc)
+  wait_over b c l l' r r' (found.over j) y p k s d = absurd (let z = s.grown in cc)
+
+  over_wait : (b c : Bool) (l l' r r' : Option Target) (x y : found.Outcome) (k : LimitKind) (q : Path) → SideGrows gs l x l' (found.over k) → SideGrows gs r y r' (found.wait q) → Goal b c l x r y l' (found.over k) r' (found.wait q)
+  over_wait b c l l' r r' (found.over j) (found.wait o) k q s d = over_grows l l' o q j k s.target (no_path gs l l' j (found.over k) s)
+  over_wait b c l l' r r' (found.wait p) (found.wait o) k q s d = waiting_grows b c p o _
+  over_wait b c l l' r r' (found.value w) (found.wait o) k q s d = absurd (let z = s.grown in cc)
+  over_wait b c l l' r r' (found.fault j) (found.wait o) k q s d = absurd (let z = s.grown in cc)
+  over_wait b c l l' r r' x (found.value t) k q s d = absurd (let z = d.grown in cc)
+  over_wait b c l l' r r' x (found.fault j) k q s d = absurd (let z = d.grown in cc)
+  over_wait b c l l' r r' x (found.over j) k q s d = absurd (let z = d.grown in cc)
+
+  fails : (b c : Bool) (l l' r r' : Option Target) (x y x' y' : found.Outcome) → IsFailure (equate_values gs (side b l' x') (side c r' y')) → Goal b c l x r y l' x' r' y'
+  fails b c l l' r r' x y x' y' h = bad_grown gs (equate_values fs (side b l x) (side c r y)) (equate_values gs (side b l' x') (side c r' y')) h
+
+  pub parts_grow : (b c : Bool) (l l' r r' : Option Target) (x y x' y' : found.Outcome) → SideGrows gs l x l' x' → SideGrows gs r y r' y' → Goal b c l x r y l' x' r' y'
   parts_grow b c l l' r r' x y (found.value u) (found.value v) s d = both_values b c l l' r r' x y u v s d
   parts_grow b c l l' r r' x y (found.value u) (found.wait q) s d = left_value b c l l' r r' x y u q s d
   parts_grow b c l l' r r' x y (found.wait p) (found.value v) s d = right_value b c l l' r r' x y p v s d
   parts_grow b c l l' r r' x y (found.wait p) (found.wait q) s d = both_waiting b c l l' r r' x y p q s d
-  parts_grow b c l l' r r' x y (found.fault k) y' s d = bad_grown gs _ _ (left_fault b c l' r' y' k)
-  parts_grow b c l l' r r' x y (found.over k) y' s d = bad_grown gs _ _ (left_over b c l' r' y' k)
-  parts_grow b c l l' r r' x y x' (found.fault k) s d = bad_grown gs _ _ (right_fault b c l' r' x' k)
-  parts_grow b c l l' r r' x y x' (found.over k) s d = bad_grown gs _ _ (right_over b c l' r' x' k)
+  parts_grow b c l l' r r' x y (found.wait p) (found.over k) s d = wait_over b c l l' r r' x y p k s d
+  parts_grow b c l l' r r' x y (found.over k) (found.wait q) s d = over_wait b c l l' r r' x y k q s d
+  parts_grow b c l l' r r' x y (found.value u) (found.over k) s d = fails b c l l' r r' x y (found.value u) (found.over k) tt
+  parts_grow b c l l' r r' x y (found.over j) (found.over k) s d = fails b c l l' r r' x y (found.over j) (found.over k) tt
+  parts_grow b c l l' r r' x y (found.over k) (found.value v) s d = fails b c l l' r r' x y (found.over k) (found.value v) tt
+  parts_grow b c l l' r r' x y (found.fault k) y' s d = fails b c l l' r r' x y (found.fault k) y' (left_fault b c l' r' y' k)
+  parts_grow b c l l' r r' x y x' (found.fault k) s d = fails b c l l' r r' x y x' (found.fault k) (right_fault b c l' r' x' k)
 
-  pub equate_grows : (l r l' r' : SideOf) → l'.placed ≡ l.placed → r'.placed ≡ r.placed → SideGrows gs l.target l.found l'.target l'.found → SideGrows gs r.target r.found r'.target r'.found → GrownTo gs (equate fs l r) (equate gs l' r')
-  equate_grows l r l' r' a b s d = subst (λ (x : Bool). GrownTo gs (equate fs l r) (equate gs (side x l'.target l'.found) r')) (sym a)
-      (subst (λ (y : Bool). GrownTo gs (equate fs l r) (equate gs (side l.placed l'.target l'.found) (side y r'.target r'.found))) (sym b)
+  pub equate_values_grows : (l r l' r' : SideOf) → l'.placed ≡ l.placed → r'.placed ≡ r.placed → SideGrows gs l.target l.found l'.target l'.found → SideGrows gs r.target r.found r'.target r'.found → GrownTo gs (equate_values fs l r) (equate_values gs l' r')
+  equate_values_grows l r l' r' a b s d = subst (λ (x : Bool). GrownTo gs (equate_values fs l r) (equate_values gs (side x l'.target l'.found) r')) (sym a)
+      (subst (λ (y : Bool). GrownTo gs (equate_values fs l r) (equate_values gs (side l.placed l'.target l'.found) (side y r'.target r'.found))) (sym b)
       (parts_grow l.placed r.placed l.target l'.target r.target r'.target l.found r.found l'.found r'.found s d))

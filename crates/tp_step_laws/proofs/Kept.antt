@@ -18,7 +18,7 @@ use Rattle.tp_store.proofs.Adding.{AddsAll, adds_all, given_in, news_given}
 use Rattle.tp_store.proofs.First.{FirstOf, first_is}
 use Rattle.tp_store.proofs.States.{no_clash_arises}
 use Rattle.tp_kernel.specs.declared.fault.LimitKind.TheVariants as limit
-use Rattle.tp_scene.specs.Step.{PickOutcome, reduces, passes, knows, added, Target, value_at, length_at, set}
+use Rattle.tp_scene.specs.Step.{Reduction, PickOutcome, reduces, passes, knows, added, Target, value_at, length_at, set}
 use Rattle.tp_step_laws.specs.Outcomes.{KnowsMore}
 use Rattle.tp_step_laws.specs.Within.{LengthsAreWithin}
 use Rattle.tp_step_laws.specs.Rows.{IsFailure}
@@ -151,14 +151,14 @@ facts_in : PickOutcome → List Fact
 facts_in (reduces r) = r.facts
 facts_in o = []
 
-knows_same : (xs ys : List Fact) → knows xs ≡ knows ys → xs ≡ ys
+pub reduced_facts : (r s : Reduction) → reduces r ≡ reduces s → r.facts ≡ s.facts
 unfolding facts_in
-knows_same xs ys e = ap facts_in e
+reduced_facts r s e = ap facts_in e
 
 -- what a set gives is the addition of what it says
 pub set_adds : (fs : List Fact) (t : Target) (v : Tree) (news : List Fact) → set fs t v ≡ knows news → addition fs (target_facts t v) ≡ adds news
 set_adds fs t v news e = elim (set_form fs t v) [
-  | inl z ↦ subst (λ (xs : List Fact). addition fs (target_facts t v) ≡ adds xs) (knows_same z.0 news (sym z.1 ∙ e)) z.2
+  | inl z ↦ subst (λ (xs : List Fact). addition fs (target_facts t v) ≡ adds xs) (reduced_facts _ _ (sym z.1 ∙ e)) z.2
   | inr bad ↦ absurd (subst (λ (o : PickOutcome). IsFailure o) e bad)
 ]
 
@@ -173,7 +173,7 @@ no_news gs (f ∷ fs) apart h =
     free None x rest = refl
     free (Some g) x rest = absurd (both_ways (clash g f) (apart_in gs g f apart x.kept (h f (inl refl))) x.clashes)
 
-adds_none : (gs facts : List Fact) → NoClash gs → ((f : Fact) → In f facts → In f gs) → addition gs facts ≡ adds []
+pub adds_none : (gs facts : List Fact) → NoClash gs → ((f : Fact) → In f facts → In f gs) → addition gs facts ≡ adds []
 adds_none gs facts apart h = let r = no_news gs facts apart h in r.1 (new_facts gs facts) ∙ ap adds r.0
 
 pub known_in : (gs : List Fact) (t : Target) (v : Tree) → TargetKnown gs t v → (f : Fact) → In f (target_facts t v) → In f gs

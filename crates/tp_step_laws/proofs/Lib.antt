@@ -3,6 +3,7 @@ pub mod OutcomesGrow
 pub mod OutcomesWait
 pub mod Kept
 pub mod EqGrow
+pub mod PlacesGrow
 pub mod SideGrow
 pub mod Table
 pub mod RowsGrow

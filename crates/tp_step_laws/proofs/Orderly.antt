@@ -27,7 +27,7 @@ both_within fs gs h k p n e = go (kept_shape fs p) refl
 
 pub steps_stay_orderly : StepsStayOrderly
 steps_stay_orderly w kinds m t r next orderly step =
-    let x = picks_stay_within w m.store.facts t m.scene.root.entries (root_place m.scene.root) (numbers_of m.scene m.store.variables) r orderly.inputs orderly.bound step.outcome in
+    let x = picks_stay_within w m.store.facts t m.scene.root.entries (root_place m.scene.root) (numbers_of m.scene m.store.variables) r orderly.inputs orderly.lengths orderly.bound step.outcome in
     record {
       sound = steps_fit w kinds m t r next orderly.sound step;
       lengths = λ p n e. both_within m.store.facts r.facts orderly.lengths x.0 p n (sym (step.store.kept p) ∙ e);

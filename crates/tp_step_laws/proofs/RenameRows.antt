@@ -1,27 +1,31 @@
 -- The rows of the table under a renaming.
-use Rattle.std.proofs.Common.{◌≡◌, ℤ, pos, negsuc, ◌+ℤ◌, int_le, ℕ, zero, suc, ◌+◌, ◌-◌, ◌<◌, nat_lt, Bool, true, false, not, ◌&&◌, List, [], ◌∷◌, ◌++◌, length, slice_get, refl, ap, ap₂, sym, ◌∙◌, subst, arith, if◌then◌else◌}
+use Rattle.std.proofs.Common.{◌≡◌, ℤ, pos, negsuc, ◌+ℤ◌, int_le, ℕ, zero, suc, ◌+◌, ◌-◌, ◌<◌, nat_lt, Bool, true, false, not, ◌&&◌, ◌||◌, List, [], ◌∷◌, ◌++◌, length, slice_get, refl, ap, ap₂, sym, ◌∙◌, subst, arith, if◌then◌else◌}
 use Rattle.std.specs.Prelude.{Option, Some, None}
 use Rattle.tp_value.specs.Tree.{Tree, num, truth, same_tree}
 use Rattle.tp_value.specs.Limits.{length_limit}
+use Rattle.tp_value.specs.declared.value.Shape.{Shape}
 use Rattle.tp_value.specs.declared.value.Shape.TheVariants.{Items}
 use Rattle.tp_value.specs.declared.path.Path.{Path}
 use Rattle.tp_value.specs.declared.path.Fact.{Fact}
+use Rattle.tp_kernel.specs.declared.fault.FaultKind.TheVariants.{NoElement}
+use Rattle.tp_kernel.specs.declared.fault.LimitKind.{LimitKind}
 use Rattle.tp_meaning.specs.Syntax.{ExprTree, ExprTrees, no_expr, expr_then, numeral, known, bound, global, size, index, FormulaTree, FormulaTrees, no_formula, formula_then, trivial, test, equation, next_equation, empty, more, next, weak_next, if_more, if_empty, always, conjunction, branch, len, assign, chop, while, for_from, forall_from, project, exists, call, input, display, formulas_of, Definition, BindingTree, place_binding, known_binding}
 use Rattle.tp_meaning.specs.Nexts.{nexts}
 use Rattle.tp_meaning.specs.Value.{is_upper}
 use Rattle.tp_meaning.specs.Inputs.{input_at}
 use Rattle.tp_meaning.specs.Fits.{ExprFits, ExprsFit, FormulaFits, DefinitionsFit}
-use Rattle.tp_store.specs.Facts.{fact, facts_at}
+use Rattle.tp_store.specs.Facts.{fact, facts_at, kept_shape, is_excluded}
 use Rattle.tp_store.specs.Known.{NoClash, Addition, adds, refuses, addition}
 use Rattle.tp_eval.specs.Evaluate.{is_place}
 use Rattle.tp_eval.specs.Outcome as found
 use Rattle.tp_eval.specs.Outcome.{outcome, place_outcome, PlaceOutcome}
+use Rattle.tp_scene.specs.declared.answer.Clash.TheVariants.{NoValue}
 use Rattle.tp_scene.specs.Scene.{Bindings, Side, Ending, Going, Head, Leaf, Do, Later, Shown, Holder, Split, SplitProject, Closed, Opened, Running, Entries, none, leaf, node, new_head, no_region, Place}
-use Rattle.tp_scene.specs.Step.{PickOutcome, reduces, becomes, added, Numbers, region_limit, marking, with_region, by_status, with_value, with_truth, with_number, Target, value_at, length_at, target_at, target_if, target_of, set, SideOf, meets, both_wait, equate, side_of, side_with, all_do, count_of, with_values, with_place, with_argument, with_arguments, called, length_left, from_port, formula_step, holder_step}
+use Rattle.tp_scene.specs.Step.{PickOutcome, reduces, clashes, becomes, added, Numbers, region_limit, marking, with_region, by_status, with_value, with_truth, with_number, Target, value_at, length_at, target_at, target_if, target_of, set, SideOf, meets, both_wait, shape_equations, both_places, shares, by_shapes, equate_places, passes_or_waits, equate_values, equate, side_of, side_with, all_do, count_of, with_values, with_place, with_argument, with_arguments, called, length_left, from_port, formula_step, holder_step}
 use Rattle.tp_scene.specs.Pick.{Setting}
 use Rattle.tp_step_laws.specs.Renaming.{renamed_facts, renamed_binding, renamed_bindings, renamed_leaf, renamed_holder, renamed_head, renamed_entries, renamed_place, renamed_found, renamed_place_found, FactsAlike, Renamed}
 use Rattle.tp_step_laws.specs.Maps.{Renaming, FixesBelow, renamed_path}
-use Rattle.tp_step_laws.proofs.RenameFacts.{addition_to, facts_at_to, additions_alike}
+use Rattle.tp_step_laws.proofs.RenameFacts.{addition_to, facts_at_to, excluded_alike, additions_alike}
 use Rattle.tp_step_laws.proofs.RenameEval.{outcomes_rename}
 
 one_more : (ρ : Renaming) (env : Bindings) (b : BindingTree) → renamed_bindings ρ env ++ renamed_binding ρ b ∷ [] ≡ renamed_bindings ρ (env ++ b ∷ [])
@@ -70,6 +74,11 @@ module _ (ρ : Renaming) (n n' : Numbers) where
   if_target None = None
   if_target (Some t) = Some (target_to t)
 
+  -- the items of several formulas
+  all_are : (env : Bindings) (fs : FormulaTrees) (k : ℕ) → ((j : ℕ) → j < k + count_of fs → n'.item j ≡ ρ.item.to (n.item j)) → all_do fs (renamed_bindings ρ env) n'.item k ≡ renamed_entries ρ (all_do fs env n.item k)
+  all_are env no_formula k a = refl
+  all_are env (formula_then f fs) k a = ap₂ (λ i es. leaf i (Do f (renamed_bindings ρ env)) es) (a k (omega arith)) (all_are env fs (suc k) (λ j l. a j (omega (arith, l))))
+
   module _ (fs gs : List Fact) (fc : NoClash fs) (gc : NoClash gs) (alike : FactsAlike ρ fs gs) where
     added_row : (facts : List Fact) → R (added (addition fs facts)) (added (addition gs (renamed_facts ρ facts)))
     added_row facts = subst (λ (a : Addition). R (added (addition fs facts)) (added a)) (sym (additions_alike ρ fs gs fc gc alike facts)) (go (addition fs facts))
@@ -94,7 +103,12 @@ module _ (ρ : Renaming) (n n' : Numbers) where
     wait_row : (b c : Bool) (p q : Path) → R (both_wait fs b c p q) (both_wait gs b c (renamed_path ρ p) (renamed_path ρ q))
     wait_row b c p q = if_row (c && not b) _ _ _ _ refl refl
 
-    parts_row : (b c : Bool) (l r : Option Target) (x y : found.Outcome) → R (equate fs (side b l x) (side c r y)) (equate gs (side b (if_target l) (renamed_found ρ x)) (side c (if_target r) (renamed_found ρ y)))
+    over_row : (t : Option Target) (p : Path) (k : LimitKind) → R (passes_or_waits fs t p k) (passes_or_waits gs (if_target t) (renamed_path ρ p) k)
+    over_row (Some (value_at q)) p k = refl
+    over_row (Some (length_at q)) p k = refl
+    over_row None p k = refl
+
+    parts_row : (b c : Bool) (l r : Option Target) (x y : found.Outcome) → R (equate_values fs (side b l x) (side c r y)) (equate_values gs (side b (if_target l) (renamed_found ρ x)) (side c (if_target r) (renamed_found ρ y)))
     parts_row b c l r (found.value t) (found.fault k) = refl
     parts_row b c l r (found.wait p) (found.fault k) = refl
     parts_row b c l r (found.fault j) (found.fault k) = refl
@@ -103,18 +117,54 @@ module _ (ρ : Renaming) (n n' : Numbers) where
     parts_row b c l r (found.fault j) (found.wait q) = refl
     parts_row b c l r (found.fault j) (found.over k) = refl
     parts_row b c l r (found.value t) (found.over k) = refl
-    parts_row b c l r (found.wait p) (found.over k) = refl
+    parts_row b c l r (found.wait p) (found.over k) = over_row r p k
     parts_row b c l r (found.over j) (found.over k) = refl
     parts_row b c l r (found.over j) (found.value u) = refl
-    parts_row b c l r (found.over j) (found.wait q) = refl
+    parts_row b c l r (found.over j) (found.wait q) = over_row l q j
     parts_row b c l r (found.value t) (found.value u) = meets_row b l (found.value t) u
     parts_row b c l r (found.wait p) (found.value u) = meets_row b l (found.wait p) u
     parts_row b c l r (found.value t) (found.wait q) = meets_row c r (found.wait q) t
     parts_row b c l r (found.wait p) (found.wait q) = wait_row b c p q
 
-    equate_row : (l r l' r' : SideOf) → l' ≡ side l.placed (if_target l.target) (renamed_found ρ l.found) → r' ≡ side r.placed (if_target r.target) (renamed_found ρ r.found) → R (equate fs l r) (equate gs l' r')
-    equate_row l r l' r' a b = subst (λ (x : SideOf). R (equate fs l r) (equate gs x r')) (sym a) (subst (λ (y : SideOf). R (equate fs l r) (equate gs (side l.placed (if_target l.target) (renamed_found ρ l.found)) y)) (sym b)
-        (parts_row l.placed r.placed l.target r.target l.found r.found))
+    abbrev side_to : SideOf → SideOf
+    side_to l = side l.placed (if_target l.target) (renamed_found ρ l.found)
+
+    equate_values_row : (l r l' r' : SideOf) → l' ≡ side_to l → r' ≡ side_to r → R (equate_values fs l r) (equate_values gs l' r')
+    equate_values_row l r l' r' a b = subst (λ (o : PickOutcome). R (equate_values fs l r) o) (sym (ap₂ (equate_values gs) a b)) (parts_row l.placed r.placed l.target r.target l.found r.found)
+
+    -- two places
+    module _ (p q : Path) where
+      shares_row : (x : Path) (sh : Shape) → R (shares p q sh n (addition fs (fact x sh ∷ []))) (shares (renamed_path ρ p) (renamed_path ρ q) sh n' (addition gs (fact (renamed_path ρ x) sh ∷ [])))
+      shares_row x sh = subst (λ (a : Addition). R (shares p q sh n (addition fs (fact x sh ∷ []))) (shares (renamed_path ρ p) (renamed_path ρ q) sh n' a)) (sym (additions_alike ρ fs gs fc gc alike (fact x sh ∷ []))) (go (addition fs (fact x sh ∷ [])))
+        where
+          go : (a : Addition) → R (shares p q sh n a) (shares (renamed_path ρ p) (renamed_path ρ q) sh n' (addition_to ρ a))
+          go (adds news) = λ a. ap (λ es. reduces (record { news = es; items = count_of (shape_equations sh); regions = 0; local = None; mark = None; facts = renamed_facts ρ news }))
+              (all_are (both_places p q) (shape_equations sh) 0 (λ j l. a.items j (omega (arith, l))))
+          go (refuses old new) = refl
+
+      shapes_row : (s t : Option Shape) → R (by_shapes fs p q n s t) (by_shapes gs (renamed_path ρ p) (renamed_path ρ q) n' s t)
+      shapes_row (Some sh) t = shares_row p sh
+      shapes_row None (Some sh) = shares_row q sh
+      shapes_row None None = refl
+
+      -- the same is decided there of both paths
+      decided_there : equate_places gs (renamed_path ρ p) (renamed_path ρ q) n' ≡ (if is_excluded fs q || is_excluded fs p then clashes (NoValue NoElement) else by_shapes gs (renamed_path ρ p) (renamed_path ρ q) n' (kept_shape fs q) (kept_shape fs p))
+      decided_there =
+          ap₂ (λ (c d : Bool). if c || d then clashes (NoValue NoElement) else by_shapes gs (renamed_path ρ p) (renamed_path ρ q) n' (kept_shape gs (renamed_path ρ q)) (kept_shape gs (renamed_path ρ p))) (excluded_alike ρ fs gs fc gc alike q) (excluded_alike ρ fs gs fc gc alike p)
+          ∙ ap₂ (λ (s t : Option Shape). if is_excluded fs q || is_excluded fs p then clashes (NoValue NoElement) else by_shapes gs (renamed_path ρ p) (renamed_path ρ q) n' s t) (alike q) (alike p)
+
+      places_row : R (equate_places fs p q n) (equate_places gs (renamed_path ρ p) (renamed_path ρ q) n')
+      places_row = subst (λ (o : PickOutcome). R (equate_places fs p q n) o) (sym decided_there) (if_row (is_excluded fs q || is_excluded fs p) _ _ _ _ refl (shapes_row (kept_shape fs q) (kept_shape fs p)))
+
+    targets_row : (b c : Bool) (l r : Option Target) (x y : found.Outcome) → R (equate fs (side b l x) (side c r y) n) (equate gs (side b (if_target l) (renamed_found ρ x)) (side c (if_target r) (renamed_found ρ y)) n')
+    targets_row b c (Some (value_at p)) (Some (value_at q)) x y = places_row p q
+    targets_row b c (Some (value_at p)) (Some (length_at q)) x y = parts_row b c (Some (value_at p)) (Some (length_at q)) x y
+    targets_row b c (Some (value_at p)) None x y = parts_row b c (Some (value_at p)) None x y
+    targets_row b c (Some (length_at p)) r x y = parts_row b c (Some (length_at p)) r x y
+    targets_row b c None r x y = parts_row b c None r x y
+
+    equate_row : (l r l' r' : SideOf) → l' ≡ side_to l → r' ≡ side_to r → R (equate fs l r n) (equate gs l' r' n')
+    equate_row l r l' r' a b = subst (λ (o : PickOutcome). R (equate fs l r n) o) (sym (ap₂ (λ x y. equate gs x y n') a b)) (targets_row l.placed r.placed l.target r.target l.found r.found)
 
     module _ (w : Setting) (kinds : List Bool) (fit : DefinitionsFit w.defs kinds) (fixed : FixesBelow (length kinds) ρ.local) (env : Bindings) where
       abbrev env' : Bindings
@@ -182,13 +232,9 @@ module _ (ρ : Renaming) (n n' : Numbers) where
       length_row (pos (suc k)) = one_leaf (Do (next (len (numeral (pos k)))) env) _ refl
       length_row (negsuc k) = refl
 
-      all_are : (fs : FormulaTrees) (k m : ℕ) → ((j : ℕ) → j < k + count_of fs → n'.item j ≡ ρ.item.to (n.item j)) → all_do fs env' n'.item k ≡ renamed_entries ρ (all_do fs env n.item k)
-      all_are no_formula k m a = refl
-      all_are (formula_then f fs) k m a = ap₂ (λ i es. leaf i (Do f env') es) (a k (omega arith)) (all_are fs (suc k) m (λ j l. a j (omega (arith, l))))
-
       port_row : (v : Option Tree) (port : List ℕ) (x : ExprTree) → Fit x → R (from_port fs v port (side_of w.defs fs x env)) (from_port gs v port (side_of w.defs gs x env'))
       port_row None port x h = refl
-      port_row (Some v) port x h = equate_row (side_of w.defs fs x env) (side_with v) (side_of w.defs gs x env') (side_with v) (sides_are x h) refl
+      port_row (Some v) port x h = equate_values_row (side_of w.defs fs x env) (side_with v) (side_of w.defs gs x env') (side_with v) (sides_are x h) refl
 
       -- a region with one item
       split_row : (g f : FormulaTree) (e e' : Bindings) (d : ℕ) → e' ≡ renamed_bindings ρ e
@@ -213,7 +259,7 @@ module _ (ρ : Renaming) (n n' : Numbers) where
       formula_row (if_more f) p h = status_row p _ _ _ _ (one_leaf (Do f env) (Do f env') refl) (λ a. refl)
       formula_row (if_empty f) p h = status_row p _ _ _ _ (λ a. refl) (one_leaf (Do f env) (Do f env') refl)
       formula_row (always f) p h = two_leaves (Do f env) (Do (weak_next (always f)) env) (Do f env') (Do (weak_next (always f)) env') refl refl
-      formula_row (conjunction fs) p h = becomes_row _ _ (count_of fs) (λ a. all_are fs 0 0 (λ j l. a j (omega (arith, l))))
+      formula_row (conjunction fs) p h = becomes_row _ _ (count_of fs) (λ a. all_are env fs 0 (λ j l. a j (omega (arith, l))))
       formula_row (branch e f g) p h = truth_row _ _ _ _ (found_is e h.0) (λ b. one_leaf (Do (if b then f else g) env) (Do (if b then f else g) env') refl)
       formula_row (len e) p h = number_row _ _ _ _ (found_is e h) (λ k. length_row k)
       formula_row (assign t e) p h = value_row _ _ _ _ (found_is e h.1) (λ v. one_leaf (Do (always (if_empty (equation t (known v)))) env) (Do (always (if_empty (equation t (known v)))) env') refl)

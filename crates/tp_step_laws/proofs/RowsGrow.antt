@@ -12,7 +12,8 @@ use Rattle.tp_step_laws.specs.Rows.{Grows, IsFailure, SameFacts, GrownTo, LeafRo
 use Rattle.tp_step_laws.specs.Outcomes.{KnowsMore}
 use Rattle.tp_step_laws.specs.Within.{LengthsAreWithin}
 use Rattle.tp_step_laws.proofs.Table.{status_case, Respects, formula_row}
-use Rattle.tp_step_laws.proofs.EqGrow.{nothing_new, bad_grown, equate_grows}
+use Rattle.tp_step_laws.proofs.EqGrow.{nothing_new, bad_grown, equate_values_grows}
+use Rattle.tp_step_laws.proofs.PlacesGrow.{equate_grows}
 use Rattle.tp_step_laws.proofs.SideGrow.{side_grows, value_side}
 
 module _ (gs : List Fact) (gc : NoClash gs) where
@@ -41,12 +42,12 @@ module _ (w : Setting) (fs gs : List Fact) (fc : NoClash fs) (gc : NoClash gs) (
 
   equation_row : (env : Bindings) (l r : ExprTree) → G (formula_step w.defs w.inputs w.state fs (equation l r) env p n) (formula_step w.defs w.inputs w.state gs (equation l r) env q n)
   equation_row env l r = equate_grows fs gs fc gc knows within
-      (side_of w.defs fs l env) (side_of w.defs fs r env) (side_of w.defs gs l env) (side_of w.defs gs r env) refl refl
+      (side_of w.defs fs l env) (side_of w.defs fs r env) (side_of w.defs gs l env) (side_of w.defs gs r env) n refl refl
       (side_grows w.defs fs gs fc gc knows env w.inputs w.state l) (side_grows w.defs fs gs fc gc knows env w.inputs w.state r)
 
   port_row : (env : Bindings) (v : Tree) (port : List ℕ) (x : ExprTree)
       → G (from_port fs (Some v) port (side_of w.defs fs x env)) (from_port gs (Some v) port (side_of w.defs gs x env))
-  port_row env v port x = equate_grows fs gs fc gc knows within
+  port_row env v port x = equate_values_grows fs gs fc gc knows within
       (side_of w.defs fs x env) (side_with v) (side_of w.defs gs x env) (side_with v) refl refl
       (side_grows w.defs fs gs fc gc knows env w.inputs w.state x) (value_side w.defs fs gs fc gc knows env v)
 

@@ -1,21 +1,24 @@
 -- The rows of the table that wait, where more is known, but not of what they wait for.
-use Rattle.std.proofs.Common.{◌≡◌, ℤ, pos, negsuc, int_le, ℕ, zero, suc, nat_lt, Bool, true, false, ◌&&◌, not, List, [], ◌∷◌, slice_get, Option, Some, None, refl, ap, ap₂, sym, ◌∙◌, subst, if◌then◌else◌}
+use Rattle.std.proofs.Common.{◌≡◌, ℤ, pos, negsuc, int_le, ℕ, zero, suc, nat_lt, Bool, true, false, ◌&&◌, ◌||◌, not, List, [], ◌∷◌, slice_get, Option, Some, None, refl, ap, ap₂, sym, ◌∙◌, subst, if◌then◌else◌}
 use Rattle.std.proofs.lemmas.Bool.{false_from_ne_true}
 use Rattle.tp_value.specs.Tree.{Tree, num, truth, list, same_tree}
 use Rattle.tp_value.specs.Limits.{length_limit}
 use Rattle.tp_value.specs.declared.path.Path.{Path}
 use Rattle.tp_value.specs.declared.path.Fact.{Fact}
+use Rattle.tp_value.specs.declared.value.Shape.{Shape}
 use Rattle.tp_value.specs.declared.value.Shape.TheVariants.{Items}
+use Rattle.tp_kernel.specs.declared.fault.FaultKind.TheVariants.{NoElement}
 use Rattle.tp_meaning.specs.Syntax.{ExprTree, ExprTrees, no_expr, expr_then, FormulaTree, test, equation, next_equation, empty, more, next, weak_next, if_more, if_empty, branch, len, assign, chop, for_from, forall_from, project, call, input, display, Definition, BindingTree, place_binding, known_binding}
 use Rattle.tp_meaning.specs.Value.{is_upper}
 use Rattle.tp_meaning.specs.Inputs.{input_at}
-use Rattle.tp_store.specs.Facts.{fact, facts_at}
+use Rattle.tp_store.specs.Facts.{fact, facts_at, kept_shape, is_excluded}
 use Rattle.tp_store.specs.Known.{NoClash, Addition, adds, refuses, addition}
 use Rattle.tp_eval.specs.Outcome as found
 use Rattle.tp_eval.specs.Outcome.{outcome, place_outcome, PlaceOutcome}
 use Rattle.tp_scene.specs.declared.answer.Cell.TheVariants.{Part, End}
+use Rattle.tp_scene.specs.declared.answer.Clash.TheVariants.{NoValue}
 use Rattle.tp_scene.specs.Scene.{Bindings, Side, Ending, Going, Do, Later, Shown, Split, SplitProject, Closed, Opened, Running, Entries, Place}
-use Rattle.tp_scene.specs.Step.{PickOutcome, reduces, waits, rests, clashes, misses, passes, Numbers, region_limit, marking, with_region, by_status, with_value, with_truth, with_number, Target, value_at, length_at, added, set, meets, equate, SideOf, side_of, side_with, with_values, with_place, with_arguments, called, length_left, from_port, formula_step}
+use Rattle.tp_scene.specs.Step.{PickOutcome, reduces, waits, rests, clashes, misses, passes, Numbers, region_limit, marking, with_region, by_status, with_value, with_truth, with_number, Target, value_at, length_at, added, set, meets, shares, by_shapes, equate_places, equate_values, equate, SideOf, side_of, side_with, with_values, with_place, with_arguments, called, length_left, from_port, formula_step}
 use Rattle.tp_scene.specs.Pick.{Setting}
 use Rattle.tp_scene.specs.Fits.{IsCalm}
 use Rattle.tp_step_laws.specs.Rows.{Grows}
@@ -23,7 +26,7 @@ use Rattle.tp_step_laws.specs.Outcomes.{KnowsMore, GrownPlace}
 use Rattle.tp_step_laws.specs.WaitingRows.{IsUndecided, StaysIdle, LeafRowsWait, HolderRowsWait}
 use Rattle.tp_step_laws.proofs.OutcomesGrow.{outcomes_grow}
 use Rattle.tp_step_laws.proofs.OutcomesWait.{outcomes_wait}
-use Rattle.tp_step_laws.proofs.SideWait.{StaysOutcome, SideWaits, stays, side_waits, value_side}
+use Rattle.tp_step_laws.proofs.SideWait.{StaysOutcome, IsSteady, SideWaits, target_same, outcome_same, stays, side_waits, value_side}
 
 -- a side of this form
 abbrev side : Bool → Option Target → found.Outcome → SideOf
@@ -99,51 +102,83 @@ module _ (w : Setting) (fs gs : List Fact) (fc : NoClash fs) (gc : NoClash gs) (
   number_row (found.wait x) b f g h k = λ u. ap (λ (o : found.Outcome). with_number o g) (h u.0)
   number_row a b f g h k = tt
 
-  -- an equation, by what its sides were
   pair_waits : (d : Bool) (x y : Path) (u : PickOutcome) → (IsUndecided gs x → IsUndecided gs y → u ≡ (if d then waits (Part x) (Some (Part y)) else waits (Part y) (Some (Part x))))
       → Idle (if d then waits (Part x) (Some (Part y)) else waits (Part y) (Some (Part x))) u
   pair_waits true x y u e = λ h. e h.0 (h.1 (Part y) refl)
   pair_waits false x y u e = λ h. e (h.1 (Part x) refl) h.0
 
-  abbrev Equated : Bool → Bool → Option Target → found.Outcome → Option Target → found.Outcome → Option Target → found.Outcome → Option Target → found.Outcome → Type 0
-  Equated b c l x r y l' x' r' y' = Idle (equate fs (side b l x) (side c r y)) (equate gs (side b l' x') (side c r' y'))
-
   busy_meets : (b : Bool) (t : Option Target) (u v : Tree) → IsBusy (meets fs (side b t (found.value u)) v)
   busy_meets b (Some t) u v = busy_set fs t v
   busy_meets b None u v = busy_if (same_tree u v) _ _ tt tt
 
-  left_meets : (b c : Bool) (l l' r' : Option Target) (x : Path) (x' y' : found.Outcome) (v : Tree) → SideWaits gs l (found.wait x) l' x' → y' ≡ found.value v
-      → Idle (meets fs (side b l (found.wait x)) v) (equate gs (side b l' x') (side c r' y'))
-  left_meets b c (Some t) l' r' x x' y' v s e = busy_row _ _ (busy_set fs t v)
-  left_meets b c None l' r' x x' y' v s e = λ u.
-      ap (λ (o : found.Outcome). equate gs (side b l' x') (side c r' o)) e
-      ∙ ap (λ (o : found.Outcome). equate gs (side b l' o) (side c r' (found.value v))) (s.goes_on u.0)
-      ∙ ap (λ (t : Option Target). meets gs (side b t (found.wait x)) v) (s.none x refl refl u.0)
+  -- an equation by values: what waits goes on so, if each steady side stays as it is
+  values_wait : (b c : Bool) (l r : Option Target) (x y : found.Outcome) (u : PickOutcome) → (IsSteady gs l x → IsSteady gs r y → u ≡ equate_values gs (side b l x) (side c r y))
+      → Idle (equate_values fs (side b l x) (side c r y)) u
+  values_wait b c l r (found.value t) (found.value v) u e = busy_row _ _ (busy_meets b l t v)
+  values_wait b c (Some t) r (found.wait o) (found.value v) u e = busy_row _ _ (busy_set fs t v)
+  values_wait b c None r (found.wait o) (found.value v) u e = λ h. e h.0 tt
+  values_wait b c l (Some t) (found.value v) (found.wait o) u e = busy_row _ _ (busy_set fs t v)
+  values_wait b c l None (found.value v) (found.wait o) u e = λ h. e tt h.0
+  values_wait b c l r (found.wait o) (found.wait a) u e = pair_waits (c && not b) o a u e
+  values_wait b c l (Some (value_at a)) (found.wait o) (found.over k) u e = λ h. e h.0 tt
+  values_wait b c l (Some (length_at a)) (found.wait o) (found.over k) u e = tt
+  values_wait b c l None (found.wait o) (found.over k) u e = tt
+  values_wait b c (Some (value_at a)) r (found.over k) (found.wait o) u e = λ h. e tt h.0
+  values_wait b c (Some (length_at a)) r (found.over k) (found.wait o) u e = tt
+  values_wait b c None r (found.over k) (found.wait o) u e = tt
+  values_wait b c l r x (found.value v) u e = tt
+  values_wait b c l r x (found.wait o) u e = tt
+  values_wait b c l r x (found.fault k) u e = tt
+  values_wait b c l r (found.fault j) (found.over k) u e = tt
+  values_wait b c l r x (found.over k) u e = tt
 
-  right_meets : (b c : Bool) (r l' r' : Option Target) (y : Path) (x' y' : found.Outcome) (v : Tree) → SideWaits gs r (found.wait y) r' y' → x' ≡ found.value v
-      → Idle (meets fs (side c r (found.wait y)) v) (equate gs (side b l' x') (side c r' y'))
-  right_meets b c (Some t) l' r' y x' y' v s e = busy_row _ _ (busy_set fs t v)
-  right_meets b c None l' r' y x' y' v s e = λ u.
-      ap (λ (o : found.Outcome). equate gs (side b l' o) (side c r' y')) e
-      ∙ ap (λ (o : found.Outcome). equate gs (side b l' (found.value v)) (side c r' o)) (s.goes_on u.0)
-      ∙ ap (λ (t : Option Target). meets gs (side c t (found.wait y)) v) (s.none y refl refl u.0)
+  -- what is steady stays as it is, and so does what is made of it
+  side_same : (b : Bool) (t : Option Target) (o : found.Outcome) (l : SideOf) → l.placed ≡ b → SideWaits gs t o l.target l.found → IsSteady gs t o → l ≡ side b t o
+  side_same b t o l e s h = λ i. record { placed = e i; target = target_same gs t o l.target l.found s h i; found = outcome_same gs t o l.found s.goes_on h i }
 
-  parts_wait : (b c : Bool) (l l' r r' : Option Target) (x y x' y' : found.Outcome) → SideWaits gs l x l' x' → SideWaits gs r y r' y' → Equated b c l x r y l' x' r' y'
-  parts_wait b c l l' r r' (found.value t) (found.value v) x' y' s d = busy_row _ _ (busy_meets b l t v)
-  parts_wait b c l l' r r' (found.wait o) (found.value v) x' y' s d = left_meets b c l l' r' o x' y' v s d.goes_on
-  parts_wait b c l l' r r' (found.value t) (found.wait o) x' y' s d = right_meets b c r l' r' o x' y' t d s.goes_on
-  parts_wait b c l l' r r' (found.wait o) (found.wait a) x' y' s d = pair_waits (c && not b) o a _ (λ h k.
-      ap₂ (λ (z e : found.Outcome). equate gs (side b l' z) (side c r' e)) (s.goes_on h) (d.goes_on k))
-  parts_wait b c l l' r r' x (found.value v) x' y' s d = tt
-  parts_wait b c l l' r r' x (found.wait o) x' y' s d = tt
-  parts_wait b c l l' r r' x (found.fault k) x' y' s d = tt
-  parts_wait b c l l' r r' (found.fault j) (found.over k) x' y' s d = tt
-  parts_wait b c l l' r r' x (found.over k) x' y' s d = tt
+  sides_same : (b c : Bool) (l r : Option Target) (x y : found.Outcome) (l' r' : SideOf) → l'.placed ≡ b → r'.placed ≡ c → SideWaits gs l x l'.target l'.found → SideWaits gs r y r'.target r'.found
+      → (f : SideOf → SideOf → PickOutcome) → IsSteady gs l x → IsSteady gs r y → f l' r' ≡ f (side b l x) (side c r y)
+  sides_same b c l r x y l' r' d e s t f h k = ap₂ f (side_same b l x l' d s h) (side_same c r y r' e t k)
 
-  sides_wait : (l r l' r' : SideOf) → l'.placed ≡ l.placed → r'.placed ≡ r.placed → SideWaits gs l.target l.found l'.target l'.found → SideWaits gs r.target r.found r'.target r'.found → Idle (equate fs l r) (equate gs l' r')
-  sides_wait l r l' r' a b s d = subst (λ (x : Bool). Idle (equate fs l r) (equate gs (side x l'.target l'.found) r')) (sym a)
-      (subst (λ (y : Bool). Idle (equate fs l r) (equate gs (side l.placed l'.target l'.found) (side y r'.target r'.found))) (sym b)
-      (parts_wait l.placed r.placed l.target l'.target r.target r'.target l.found r.found l'.found r'.found s d))
+  equate_values_wait : (l r l' r' : SideOf) → l'.placed ≡ l.placed → r'.placed ≡ r.placed → SideWaits gs l.target l.found l'.target l'.found → SideWaits gs r.target r.found r'.target r'.found
+      → Idle (equate_values fs l r) (equate_values gs l' r')
+  equate_values_wait l r l' r' d e s t = values_wait l.placed r.placed l.target r.target l.found r.found _ (sides_same l.placed r.placed l.target r.target l.found r.found l' r' d e s t (equate_values gs))
+
+  -- an equation, whatever numbers new items take
+  module _ (n m : Numbers) where
+    busy_shares : (x y : Path) (sh : Shape) (a : Addition) → IsBusy (shares x y sh n a)
+    busy_shares x y sh (adds facts) = tt
+    busy_shares x y sh (refuses kept new) = tt
+
+    places_wait : (x y : Path) → Idle (equate_places fs x y n) (equate_places gs x y m)
+    places_wait x y = go (is_excluded fs y || is_excluded fs x) (kept_shape fs y) (kept_shape fs x)
+      where
+        go : (b : Bool) (s t : Option Shape) → Idle (if b then clashes (NoValue NoElement) else by_shapes fs x y n s t) (equate_places gs x y m)
+        go true s t = tt
+        go false (Some sh) t = busy_row _ _ (busy_shares x y sh (addition fs (fact x sh ∷ [])))
+        go false None (Some sh) = busy_row _ _ (busy_shares x y sh (addition fs (fact y sh ∷ [])))
+        go false None None = λ u.
+            (let right = u.0 in
+            let left = u.1 (Part x) refl in
+            ap₂ (λ (b c : Bool). if b || c then clashes (NoValue NoElement) else by_shapes gs x y m (kept_shape gs y) (kept_shape gs x)) right.1 left.1
+            ∙ ap₂ (by_shapes gs x y m) right.0 left.0)
+
+    equate_wait : (l r l' r' : SideOf) → l'.placed ≡ l.placed → r'.placed ≡ r.placed → SideWaits gs l.target l.found l'.target l'.found → SideWaits gs r.target r.found r'.target r'.found
+        → Idle (equate fs l r n) (equate gs l' r' m)
+    equate_wait l r l' r' d e s t = go l.target r.target s t
+      where
+        still : (a b : Option Target) → SideWaits gs a l.found l'.target l'.found → SideWaits gs b r.found r'.target r'.found → IsSteady gs a l.found → IsSteady gs b r.found
+            → equate gs l' r' m ≡ equate gs (side l.placed a l.found) (side r.placed b r.found) m
+        still a b s t = sides_same l.placed r.placed a b l.found r.found l' r' d e s t (λ x y. equate gs x y m)
+
+        go : (a b : Option Target) → SideWaits gs a l.found l'.target l'.found → SideWaits gs b r.found r'.target r'.found → Idle (equate fs (side l.placed a l.found) (side r.placed b r.found) n) (equate gs l' r' m)
+        go (Some (value_at x)) (Some (value_at y)) s t =
+            let there : equate gs l' r' m ≡ equate_places gs x y m = ap₂ (λ (a b : Option Target). equate gs (side l'.placed a l'.found) (side r'.placed b r'.found) m) (s.some (value_at x) refl) (t.some (value_at y) refl) in
+            subst (λ (o : PickOutcome). Idle (equate_places fs x y n) o) (sym there) (places_wait x y)
+        go (Some (value_at x)) (Some (length_at y)) s t = values_wait l.placed r.placed (Some (value_at x)) (Some (length_at y)) l.found r.found _ (still (Some (value_at x)) (Some (length_at y)) s t)
+        go (Some (value_at x)) None s t = values_wait l.placed r.placed (Some (value_at x)) None l.found r.found _ (still (Some (value_at x)) None s t)
+        go (Some (length_at x)) b s t = values_wait l.placed r.placed (Some (length_at x)) b l.found r.found _ (still (Some (length_at x)) b s t)
+        go None b s t = values_wait l.placed r.placed None b l.found r.found _ (still None b s t)
 
   module _ (p : Place) (n m : Numbers) (up : Grows p q) (env : Bindings) where
     found_by : (e : ExprTree) → StaysOutcome gs (outcome fs w.defs e env) (outcome gs w.defs e env)
@@ -183,13 +218,13 @@ module _ (w : Setting) (fs gs : List Fact) (fc : NoClash fs) (gc : NoClash gs) (
 
     port_row : (v : Option Tree) (port : List ℕ) (x : ExprTree) → Idle (from_port fs v port (side_of w.defs fs x env)) (from_port gs v port (side_of w.defs gs x env))
     port_row None port x = tt
-    port_row (Some v) port x = sides_wait
+    port_row (Some v) port x = equate_values_wait
         (side_of w.defs fs x env) (side_with v) (side_of w.defs gs x env) (side_with v) refl refl
         (side_waits w.defs fs gs fc gc knows env x) (value_side w.defs fs gs fc gc knows env v)
 
     formula_row : (f : FormulaTree) → Idle (formula_step w.defs w.inputs w.state fs f env p n) (formula_step w.defs w.inputs w.state gs f env q m)
     formula_row (test e) = truth_row _ _ _ _ (found_by e) (λ b. busy_if b _ _ tt tt)
-    formula_row (equation l r) = sides_wait
+    formula_row (equation l r) = equate_wait n m
         (side_of w.defs fs l env) (side_of w.defs fs r env) (side_of w.defs gs l env) (side_of w.defs gs r env) refl refl
         (side_waits w.defs fs gs fc gc knows env l) (side_waits w.defs fs gs fc gc knows env r)
     formula_row (next_equation k t e) = value_row _ _ _ _ (found_by e) (λ v. busy_row _ _ (busy_marking Going _ _ _ _))

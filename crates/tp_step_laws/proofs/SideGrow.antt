@@ -6,11 +6,13 @@ use Rattle.tp_value.specs.declared.value.Shape.TheVariants.{Items}
 use Rattle.tp_value.specs.declared.path.Path.{Path}
 use Rattle.tp_value.specs.declared.path.Fact.{Fact}
 use Rattle.tp_value.specs.Shape.{item_at}
+use Rattle.tp_value.specs.Limits.{is_within_list_limit}
+use Rattle.tp_kernel.specs.declared.fault.FaultKind.{FaultKind}
 use Rattle.tp_kernel.specs.declared.fault.FaultKind.TheVariants.{NoElement}
 use Rattle.tp_meaning.specs.Syntax.{ExprTree, bound, global, size, index, Definition}
 use Rattle.tp_meaning.specs.Inputs.{InputTable}
 use Rattle.tp_store.specs.Facts.{kept_shape, is_excluded}
-use Rattle.tp_store.specs.Known.{NoClash, Full, value, full}
+use Rattle.tp_store.specs.Known.{NoClash, Whole, known, open_at, whole, deepest, absent, too_long, limited, Full, value, full}
 use Rattle.tp_eval.specs.Reached.{Reached, reaches, stops, waits, faults, passes, with_reached, fault}
 use Rattle.tp_eval.specs.Evaluate as ev
 use Rattle.tp_eval.specs.Evaluate.{PlaceFound, at_path, inside, is_place, element_in, of_full, length_in, evaluate, find_place, depth_limit}
@@ -45,12 +47,25 @@ goes_by facts f (stops (waits q)) u p h e = cc
 goes_by facts f (stops (faults k)) u p h e = cc
 goes_by facts f (stops (passes k)) u p h e = cc
 
+-- what waits as a place waits
+place_waits : (facts : List Fact) (f : PlaceFound → ℕ → Reached Tree) (r : Reached PlaceFound) (p : Path) → place_reached facts r ≡ found.other (found.wait p) → outcome_reached (with_reached r f) ≡ found.wait p
+place_waits facts f (reaches (at_path q) c) p e = absurd (cc e)
+place_waits facts f (reaches (inside t at) c) p e = absurd (element_waits (item_at at t) c p e)
+place_waits facts f (stops (waits q)) p e = let z : found.wait q ≡ found.wait p = cc e in z
+place_waits facts f (stops (faults k)) p e = absurd (cc e)
+place_waits facts f (stops (passes k)) p e = absurd (cc e)
+
+path_waited : (target : Path → Target) (a b : PlaceOutcome) (x : Target) → GrownPlace a b → target_at target a ≡ None → target_at target b ≡ Some x → (p : Path) × (a ≡ found.other (found.wait p))
+path_waited target (found.path p) b x g n h = absurd (cc n)
+path_waited target (found.other (found.wait p)) b x g n h = (p, refl)
+path_waited target o b x g n h = absurd (let z : None ≡ Some x = sym (ap (target_at target) g) ∙ h in cc)
+
 stays_none : (target : Path → Target) (a b : PlaceOutcome) → GrownPlace a b → ((p : Path) → a ≡ found.other (found.wait p) → ⊥) → target_at target a ≡ None → target_at target b ≡ None
 stays_none target (found.path p) b g w n = absurd (cc n)
 stays_none target (found.other (found.wait p)) b g w n = absurd (w p refl)
 stays_none target x b g w n = ap (target_at target) g
 
-stays_some : (target : Path → Target) (a b : PlaceOutcome) → GrownPlace a b → (x : Target) → target_at target a ≡ Some x → target_at target b ≡ Some x
+pub stays_some : (target : Path → Target) (a b : PlaceOutcome) → GrownPlace a b → (x : Target) → target_at target a ≡ Some x → target_at target b ≡ Some x
 stays_some target (found.path p) b g x n = ap (target_at target) g ∙ n
 stays_some target (found.other o) b g x n = absurd (cc n)
 
@@ -71,6 +86,22 @@ known_value facts (reaches x c) p v e h = full_found (full facts p) c v (ap (λ 
 known_value facts (stops (waits q)) p v e h = absurd (cc e)
 known_value facts (stops (faults k)) p v e h = absurd (cc e)
 known_value facts (stops (passes k)) p v e h = absurd (cc e)
+
+-- a path with a fault is excluded
+absent_path : (facts : List Fact) (r : Reached PlaceFound) (p : Path) (k : FaultKind) → place_reached facts r ≡ found.path p → outcome_reached (with_reached r (ev.value_at facts)) ≡ found.fault k → is_excluded facts p ≡ true
+absent_path facts (reaches x c) p k e h = go (is_excluded facts p) (whole (suc (deepest facts)) facts p) refl (ap (λ y. outcome_reached (ev.value_at facts y c)) (sym (path_same facts x c p e)) ∙ h)
+  where
+    limits : (b : Bool) (t : Tree) → outcome_reached (of_full (if b then value t else too_long) c) ≡ found.fault k → ⊥
+    limits true t z = cc
+    limits false t z = cc
+
+    go : (b : Bool) (w : Whole) → is_excluded facts p ≡ b → outcome_reached (of_full (if b then absent else limited w) c) ≡ found.fault k → is_excluded facts p ≡ true
+    go true w x z = x
+    go false (open_at q) x z = absurd (cc z)
+    go false (known t) x z = absurd (limits (is_within_list_limit t) t z)
+absent_path facts (stops (waits q)) p k e h = absurd (cc e)
+absent_path facts (stops (faults j)) p k e h = absurd (cc e)
+absent_path facts (stops (passes j)) p k e h = absurd (cc e)
 
 -- of a place's size
 size_goes : (facts : List Fact) (r r' : Reached PlaceFound) (u : Tree) → outcome_reached (with_reached r (ev.size_at facts)) ≡ found.value u → More is_limit r r' → (x : PlaceFound) × (c : ℕ) × (r' ≡ reaches x c) × (outcome_reached (ev.size_at facts x c) ≡ found.value u)
@@ -101,6 +132,13 @@ module _ (defs : List Definition) (fs gs : List Fact) (fc : NoClash fs) (gc : No
       record {
         target = λ x h. stays_some value_at _ _ g.1 x h;
         none = λ n u h. stays_none value_at _ _ g.1 (λ q w. goes_by fs (ev.value_at fs) (find_place fs defs depth_limit e env 0) u q (ap outcome_reached (sym (read_place fs defs 1999 e env 0 p)) ∙ h) w) n;
+        arises = λ q n h.
+            (let r = path_waited value_at _ _ (value_at q) g.1 n h in
+            (r.0, ap outcome_reached (read_place fs defs 1999 e env 0 p) ∙ place_waits fs (ev.value_at fs) (find_place fs defs depth_limit e env 0) r.0 r.1));
+        absent = λ q k h z.
+            (let s = some_path value_at _ (value_at q) h in
+            let same : s.0 ≡ q = let y = s.2 in cc in
+            subst (λ (x : Path). is_excluded gs x ≡ true) same (absent_path gs (find_place gs defs depth_limit e env 0) s.0 k s.1 (ap outcome_reached (sym (read_place gs defs 1999 e env 0 p)) ∙ z)));
         grown = g.0;
         known = λ x v h k. let s = some_path value_at _ x h in subst (λ (t : Target). TargetKnown gs t v) s.2 (known_value gs (find_place gs defs depth_limit e env 0) s.0 v s.1 (ap outcome_reached (sym (read_place gs defs 1999 e env 0 p)) ∙ k));
       }
@@ -115,6 +153,8 @@ module _ (defs : List Definition) (fs gs : List Fact) (fc : NoClash fs) (gc : No
         none = λ n u h.
             (let r = size_goes fs (find_place fs defs 1999 e env 0) (find_place fs defs 2000 e env 0) u (ap outcome_reached (sym (read_size fs defs 1999 e env 0 p)) ∙ h) ((evaluate_deeper fs defs 1999).1 e env 0) in
             stays_none length_at _ _ g.1 (λ q w. place_goes fs r.0 r.1 q (ap (place_reached fs) (sym r.2) ∙ w)) n);
+        arises = λ q n h. absurd (let s = some_path length_at _ (value_at q) h in let y = s.2 in cc);
+        absent = λ q k h z. absurd (let s = some_path length_at _ (value_at q) h in let y = s.2 in cc);
         grown = o.0;
         known = λ x v h k.
             (let r = size_goes gs (find_place gs defs 1999 e env 0) (find_place gs defs 2000 e env 0) v (ap outcome_reached (sym (read_size gs defs 1999 e env 0 p)) ∙ k) ((evaluate_deeper gs defs 1999).1 e env 0) in
@@ -125,10 +165,10 @@ module _ (defs : List Definition) (fs gs : List Fact) (fc : NoClash fs) (gc : No
 
   -- what isn't a place can't be set
   no_target : (e : ExprTree) → SideGrows gs None (outcome fs defs e env) None (outcome gs defs e env)
-  no_target e = record { target = λ x h. absurd (cc h); none = λ n u h. refl; grown = (outcomes_grow fs gs fc gc more defs e env).0; known = λ x v h k. absurd (cc h) }
+  no_target e = record { target = λ x h. absurd (cc h); none = λ n u h. refl; arises = λ q n h. absurd (cc h); absent = λ q k h z. absurd (cc h); grown = (outcomes_grow fs gs fc gc more defs e env).0; known = λ x v h k. absurd (cc h) }
 
   pub value_side : (v : Tree) → SideGrows gs None (found.value v) None (found.value v)
-  value_side v = record { target = λ x h. absurd (cc h); none = λ n u h. refl; grown = refl; known = λ x v h k. absurd (cc h) }
+  value_side v = record { target = λ x h. absurd (cc h); none = λ n u h. refl; arises = λ q n h. absurd (cc h); absent = λ q k h z. absurd (cc h); grown = refl; known = λ x v h k. absurd (cc h) }
 
   module _ (inputs : InputTable) (state : ℕ) where
     abbrev Side : ExprTree → Type 0

@@ -1,11 +1,11 @@
 -- A side of an equation that waits where more is known, but not of what it waits for.
-use Rattle.std.proofs.Common.{◌≡◌, ℕ, Bool, true, false, List, Option, None, refl, ap, sym, ◌∙◌, subst}
+use Rattle.std.proofs.Common.{◌≡◌, ◌⊎◌, inl, inr, Bool, true, false, List, Option, Some, None, refl, ap, sym, ◌∙◌, subst}
 use Rattle.tp_value.specs.Tree.{Tree}
 use Rattle.tp_value.specs.declared.path.Path.{Path}
 use Rattle.tp_value.specs.declared.path.Fact.{Fact}
 use Rattle.tp_value.specs.Shape.{item_at}
+use Rattle.tp_kernel.specs.declared.fault.LimitKind.{LimitKind}
 use Rattle.tp_meaning.specs.Syntax.{ExprTree, bound, global, size, index, Definition}
-use Rattle.tp_meaning.specs.Inputs.{InputTable}
 use Rattle.tp_store.specs.Known.{NoClash}
 use Rattle.tp_eval.specs.Reached.{Reached, reaches, stops, waits, faults, passes, with_reached}
 use Rattle.tp_eval.specs.Evaluate as ev
@@ -18,7 +18,7 @@ use Rattle.tp_step_laws.specs.Outcomes.{KnowsMore, GrownOutcome, GrownPlace}
 use Rattle.tp_step_laws.specs.WaitingRows.{IsUndecided}
 use Rattle.tp_step_laws.proofs.OutcomesGrow.{is_limit, More, evaluate_deeper, outcomes_grow}
 use Rattle.tp_step_laws.proofs.OutcomesWait.{outcomes_wait}
-use Rattle.tp_step_laws.proofs.SideGrow.{read_place, read_size, element_waits, place_goes}
+use Rattle.tp_step_laws.proofs.SideGrow.{read_place, read_size, element_waits, place_goes, stays_some}
 
 -- a value, a fault and a passed limit stay; and so does what waits, where it isn't decided
 abbrev pub StaysOutcome : List Fact → found.Outcome → found.Outcome → Type 0
@@ -33,27 +33,58 @@ both_stay gs (found.wait p) b g w = w p refl
 both_stay gs (found.fault k) b g w = g
 both_stay gs (found.over k) b g w = g
 
--- A side has nothing that it can set, where it had none and still waits.
+-- A side with this target and this outcome stays as it is: it has a value, or what it waits for
+-- isn't decided, or it passes a limit and has a target.
+abbrev pub IsSteady : List Fact → Option Target → found.Outcome → Type 0
+IsSteady gs t (found.value v) = Unit {0}
+IsSteady gs t (found.wait p) = IsUndecided gs p
+IsSteady gs t (found.fault k) = ⊥
+IsSteady gs None (found.over k) = ⊥
+IsSteady gs (Some x) (found.over k) = Unit {0}
+
+-- What a side can set it can set still; and where it can set nothing it still can't, if it is steady.
 pub record SideWaits (gs : List Fact) (t : Option Target) (o : found.Outcome) (t' : Option Target) (o' : found.Outcome) : Type 0 where
   pub goes_on : StaysOutcome gs o o'
-  pub none : (p : Path) → t ≡ None → o ≡ found.wait p → IsUndecided gs p → t' ≡ None
+  pub some : (x : Target) → t ≡ Some x → t' ≡ Some x
+  pub none : t ≡ None → IsSteady gs None o → t' ≡ None
 
--- a place that waits, waits for what its value waits for
-value_by : (facts : List Fact) (r : Reached PlaceFound) (o p : Path) → place_reached facts r ≡ found.other (found.wait o) → outcome_reached (with_reached r (ev.value_at facts)) ≡ found.wait p → o ≡ p
-value_by facts (reaches (at_path q) c) o p e h = cc
-value_by facts (reaches (inside t at) c) o p e h = absurd (element_waits (item_at at t) c o e)
-value_by facts (stops (waits q)) o p e h = cc
-value_by facts (stops (faults k)) o p e h = cc
-value_by facts (stops (passes k)) o p e h = cc
+pub target_same : (gs : List Fact) (t : Option Target) (o : found.Outcome) (t' : Option Target) (o' : found.Outcome) → SideWaits gs t o t' o' → IsSteady gs t o → t' ≡ t
+target_same gs None o t' o' s h = s.none refl h
+target_same gs (Some x) o t' o' s h = s.some x refl
 
--- and what its size waits for
-size_by : (facts : List Fact) (r r' : Reached PlaceFound) (o p : Path) → More is_limit r r' → place_reached facts r' ≡ found.other (found.wait o) → outcome_reached (with_reached r (ev.size_at facts)) ≡ found.wait p → o ≡ p
-size_by facts (reaches x c) r' o p m e h = absurd (place_goes facts x c o (ap (place_reached facts) (sym m) ∙ e))
-size_by facts (stops (waits q)) r' o p m e h =
+pub outcome_same : (gs : List Fact) (t : Option Target) (o o' : found.Outcome) → StaysOutcome gs o o' → IsSteady gs t o → o' ≡ o
+outcome_same gs t (found.wait p) o' s h = s h
+outcome_same gs t (found.fault k) o' s h = absurd h
+outcome_same gs t (found.value v) o' s h = s
+outcome_same gs t (found.over k) o' s h = s
+
+-- it waits for this path, or passes a limit
+abbrev Stalls : found.Outcome → Path → Type 0
+Stalls o p = (o ≡ found.wait p) ⊎ ((k : LimitKind) × (o ≡ found.over k))
+
+steady_open : (gs : List Fact) (o : found.Outcome) (p : Path) → Stalls o p → IsSteady gs None o → IsUndecided gs p
+steady_open gs o p (inl e) h = subst (IsSteady gs None) e h
+steady_open gs o p (inr (k, e)) h = absurd (subst (IsSteady gs None) e h)
+
+-- the value of a place waits for what the place waits for
+value_by : (facts : List Fact) (r : Reached PlaceFound) (o : Path) → place_reached facts r ≡ found.other (found.wait o) → Stalls (outcome_reached (with_reached r (ev.value_at facts))) o
+value_by facts (reaches (at_path q) c) o e = absurd (cc e)
+value_by facts (reaches (inside t at) c) o e = absurd (element_waits (item_at at t) c o e)
+value_by facts (stops (waits q)) o e = let s : q ≡ o = cc e in inl (ap found.wait s)
+value_by facts (stops (faults k)) o e = absurd (cc e)
+value_by facts (stops (passes k)) o e = absurd (cc e)
+
+-- and so does its size, which is one level deeper and may pass the limit on depth instead
+size_by : (facts : List Fact) (r r' : Reached PlaceFound) (o : Path) → More is_limit r r' → place_reached facts r' ≡ found.other (found.wait o) → Stalls (outcome_reached (with_reached r (ev.size_at facts))) o
+size_by facts (reaches x c) r' o m e = absurd (place_goes facts x c o (ap (place_reached facts) (sym m) ∙ e))
+size_by facts (stops (waits q)) r' o m e =
     let same : found.other (found.wait q) ≡ found.other (found.wait o) = ap (place_reached facts) (sym m) ∙ e in
-    cc
-size_by facts (stops (faults k)) r' o p m e h = absurd (cc h)
-size_by facts (stops (passes k)) r' o p m e h = absurd (cc h)
+    let s : q ≡ o = cc same in
+    inl (ap found.wait s)
+size_by facts (stops (faults k)) r' o m e =
+    let same : found.other (found.fault k) ≡ found.other (found.wait o) = ap (place_reached facts) (sym m) ∙ e in
+    absurd (cc same)
+size_by facts (stops (passes k)) r' o m e = inr (k, refl)
 
 none_stays : (target : Path → Target) (a b : PlaceOutcome) → GrownPlace a b → ((o : Path) → a ≡ found.other (found.wait o) → b ≡ found.other (found.wait o)) → target_at target a ≡ None → target_at target b ≡ None
 none_stays target (found.path p) b g w n = absurd (cc n)
@@ -69,27 +100,30 @@ module _ (defs : List Definition) (fs gs : List Fact) (fc : NoClash fs) (gc : No
   abbrev Waits : (Path → Target) → ExprTree → ExprTree → Type 0
   Waits target e x = SideWaits gs (target_at target (place_outcome fs defs e env)) (outcome fs defs x env) (target_at target (place_outcome gs defs e env)) (outcome gs defs x env)
 
-  -- of the place e, where x waits for no other path than e does
-  by_path : (target : Path → Target) (e x : ExprTree) → ((o p : Path) → place_outcome fs defs e env ≡ found.other (found.wait o) → outcome fs defs x env ≡ found.wait p → o ≡ p) → Waits target e x
-  by_path target e x h = record {
-    goes_on = stays x;
-    none = λ p n w u. none_stays target _ _ (outcomes_grow fs gs fc gc more defs e env).1 (λ o y. (outcomes_wait fs gs fc gc more defs e env o (subst (λ (q : Path). IsUndecided gs q) (sym (h o p y w)) u)).1 y) n;
-  }
+  -- of the place e, where x waits for what e waits for
+  by_path : (target : Path → Target) (e x : ExprTree) → ((o : Path) → place_outcome fs defs e env ≡ found.other (found.wait o) → Stalls (outcome fs defs x env) o) → Waits target e x
+  by_path target e x h =
+      let grown = (outcomes_grow fs gs fc gc more defs e env).1 in
+      record {
+        goes_on = stays x;
+        some = λ t n. stays_some target _ _ grown t n;
+        none = λ n u. none_stays target _ _ grown (λ o y. (outcomes_wait fs gs fc gc more defs e env o (steady_open gs _ o (h o y) u)).1 y) n;
+      }
 
   place_side : (e : ExprTree) → is_place e ≡ true → Waits value_at e e
   unfolding outcome place_outcome
-  place_side e p = by_path value_at e e (λ o q y w. value_by fs (find_place fs defs depth_limit e env 0) o q y (ap outcome_reached (sym (read_place fs defs 1999 e env 0 p)) ∙ w))
+  place_side e p = by_path value_at e e (λ o y. subst (λ (r : Reached Tree). Stalls (outcome_reached r) o) (sym (read_place fs defs 1999 e env 0 p)) (value_by fs (find_place fs defs depth_limit e env 0) o y))
 
   size_side : (e : ExprTree) → is_place e ≡ true → Waits length_at e (size e)
   unfolding outcome place_outcome
-  size_side e p = by_path length_at e (size e) (λ o q y w. size_by fs (find_place fs defs 1999 e env 0) (find_place fs defs 2000 e env 0) o q ((evaluate_deeper fs defs 1999).1 e env 0) y (ap outcome_reached (sym (read_size fs defs 1999 e env 0 p)) ∙ w))
+  size_side e p = by_path length_at e (size e) (λ o y. subst (λ (r : Reached Tree). Stalls (outcome_reached r) o) (sym (read_size fs defs 1999 e env 0 p)) (size_by fs (find_place fs defs 1999 e env 0) (find_place fs defs 2000 e env 0) o ((evaluate_deeper fs defs 1999).1 e env 0) y))
 
   -- what isn't a place can't be set
   no_target : (e : ExprTree) → SideWaits gs None (outcome fs defs e env) None (outcome gs defs e env)
-  no_target e = record { goes_on = stays e; none = λ p n w u. refl }
+  no_target e = record { goes_on = stays e; some = λ x n. n; none = λ n u. refl }
 
   pub value_side : (v : Tree) → SideWaits gs None (found.value v) None (found.value v)
-  value_side v = record { goes_on = refl; none = λ p n w u. refl }
+  value_side v = record { goes_on = refl; some = λ x n. n; none = λ n u. refl }
 
   abbrev Side : ExprTree → Type 0
   Side e = SideWaits gs (side_of defs fs e env).target (side_of defs fs e env).found (side_of defs gs e env).target (side_of defs gs e env).found

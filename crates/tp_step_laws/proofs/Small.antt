@@ -1,22 +1,21 @@
 -- Values that are found are within the limits on items and depth, where bound ones are.
-use Rattle.std.proofs.Common.{◌≡◌, ℕ, zero, suc, nat_le, ◌≤◌, Bool, true, false, List, [], ◌∷◌, ◌++◌, Some, refl, subst, slice_get, if◌then◌else◌, arith}
+use Rattle.std.proofs.Common.{◌≡◌, ℕ, zero, suc, nat_le, ◌≤◌, Bool, true, false, List, Some, refl, subst, slice_get, if◌then◌else◌, arith}
 use Rattle.std.proofs.lemmas.Bool.{and_parts, leb-true, le-leb}
 use Rattle.tp_value.specs.Tree.{Tree, Trees, list, nil, cons, items_of}
 use Rattle.tp_value.specs.Limits.{items_in, depth_of, is_within_list_limit, IsWithinListLimit}
 use Rattle.tp_value.specs.Limits as limits
 use Rattle.tp_value.specs.declared.path.Path.{Path}
 use Rattle.tp_value.specs.declared.path.Fact.{Fact}
-use Rattle.tp_meaning.specs.Syntax.{ExprTree, known, index, either, binary, choice, Definition, BindingTree}
+use Rattle.tp_meaning.specs.Syntax.{ExprTree, known, index, either, binary, choice, Definition}
 use Rattle.tp_store.specs.Facts.{is_excluded}
 use Rattle.tp_store.specs.Known as store
 use Rattle.tp_store.specs.Known.{Whole, full, whole, deepest}
 use Rattle.tp_eval.specs.Outcome as found
 use Rattle.tp_eval.specs.Outcome.{PlaceOutcome}
-use Rattle.tp_scene.specs.Scene.{Bindings}
 use Rattle.tp_scene.proofs.Told.{Bundle, PlaceHas}
 use Rattle.tp_scene.proofs.Free.{free, free_lists}
 use Rattle.tp_scene.proofs.Evaluated.{ExprPartsOf, Evaluates, outcome_told, place_outcome_told}
-use Rattle.tp_step_laws.specs.Within.{BindingWithin, BindingsWithin, ValuesWithin}
+use Rattle.tp_step_laws.specs.Within.{BindingWithin, ValuesWithin}
 
 -- an item of a value has no more items, and is no deeper
 record Inside (t u : Tree) : Type 0 where

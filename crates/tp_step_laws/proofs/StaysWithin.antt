@@ -1,5 +1,5 @@
 -- What a step gives is within the limits where bound values and inputs are.
-use Rattle.std.proofs.Common.{◌≡◌, inl, inr, ℕ, nat_le, suc, ◌≤◌, true, ◌&&◌, eqb, List, [], ◌∷◌, refl, sym, ◌∙◌, subst, length, Option, arith}
+use Rattle.std.proofs.Common.{◌≡◌, inl, inr, ℕ, nat_le, suc, ◌≤◌, true, ◌&&◌, eqb, List, [], ◌∷◌, refl, sym, ◌∙◌, subst, length, Option, Some, arith}
 use Rattle.std.proofs.lemmas.Bool.{cond_both, and_parts, leb-true, ltb-false, cases_Bool, false≢true}
 use Rattle.tp_value.specs.Tree.{Tree, Trees, num, truth, list, nil, cons, items_of}
 use Rattle.tp_value.specs.Limits.{depth_of, items_in, items_within, length_limit, IsWithinListLimit}
@@ -84,7 +84,13 @@ no_facts f i = absurd i
 status_news : (p : Place) (o o' : PickOutcome) → NewsWithin o → NewsWithin o' → NewsWithin (by_status p o o')
 status_news p o o' h h' = cond_both (p.is Going) _ _ NewsWithin (λ _. h) (λ _. cond_both (p.is Ending) _ _ NewsWithin (λ _. h') (λ _. tt))
 
-module _ (facts : List Fact) (defs : List Definition) (inputs : InputTable) (state : ℕ) (within : InputsWithin inputs) (p : Place) (n : Numbers) where
+-- the shape that is kept of a path is short, and so is its fact at another one
+kept_short : (facts : List Fact) → LengthsAreWithin facts → (p q : Path) (sh : Shape) → kept_shape facts q ≡ Some sh → AreShort (fact p sh ∷ [])
+kept_short facts kept p q (Num n) e = one_fact (fact p (Num n)) tt
+kept_short facts kept p q (Truth b) e = one_fact (fact p (Truth b)) tt
+kept_short facts kept p q (Items k) e = one_fact (fact p (Items k)) (kept q k e)
+
+module _ (facts : List Fact) (kept : LengthsAreWithin facts) (defs : List Definition) (inputs : InputTable) (state : ℕ) (within : InputsWithin inputs) (p : Place) (n : Numbers) where
   known : RowsKeep (small AreShort) defs inputs state facts n
   known = record {
     lists = (evaluates_small AreShort facts defs).lists;
@@ -97,6 +103,9 @@ module _ (facts : List Fact) (defs : List Definition) (inputs : InputTable) (sta
     local_bound = λ x l. tt;
     sets = λ q v h u. value_facts q v (within_items v u);
     lengthens = λ q k h l. one_fact (fact q (Items k)) (ltb-false length_limit k l);
+    shared = λ q k i h e l. tt;
+    shapes = λ p q sh h h' e. kept_short facts kept p q sh e;
+    open_path = λ q h e a. tt;
   }
 
   leaves_within : (mark : Option Side) (from : ℕ) (es : Entries) (to : ℕ) → LeavesTold (small AreShort) facts p n mark from es to → EntriesWithin es
@@ -124,9 +133,9 @@ module _ (facts : List Fact) (defs : List Definition) (inputs : InputTable) (sta
   )
   news_within o h = tt
 
-module _ (w : Setting) (facts : List Fact) (within : InputsWithin w.inputs) (n : Numbers) where
+module _ (w : Setting) (facts : List Fact) (kept : LengthsAreWithin facts) (within : InputsWithin w.inputs) (n : Numbers) where
   leaf_news : (l : Leaf) (p : Place) → LeafWithin l → NewsWithin (leaf_step w.defs w.inputs w.state facts l p n)
-  leaf_news (Do f env) p h = news_within facts w.defs w.inputs w.state within p n _ (formula_told (small AreShort) w.defs w.inputs w.state facts n (known facts w.defs w.inputs w.state within p n) p f env (tt, h))
+  leaf_news (Do f env) p h = news_within facts kept w.defs w.inputs w.state within p n _ (formula_told (small AreShort) w.defs w.inputs w.state facts n (known facts kept w.defs w.inputs w.state within p n) p f env (tt, h))
   leaf_news l p h = tt
 
   holder_news : (k : Holder) (h : Head) (held : Entries) (g : Head) (second : Entries) (q : Place) → HolderWithin k → EntriesWithin held → EntriesWithin second → NewsWithin (holder_step w.defs w.inputs w.state facts k (region h held) (region g second) q n)
@@ -165,4 +174,4 @@ module _ (w : Setting) (facts : List Fact) (within : InputsWithin w.inputs) (n :
     ]
 
 pub picks_stay_within : PicksStayWithin
-picks_stay_within w facts t es p n r within h e = let x = put_within w facts within n t r es p h e in (short_lengths r.facts x.0, x.1)
+picks_stay_within w facts t es p n r within kept h e = let x = put_within w facts kept within n t r es p h e in (short_lengths r.facts x.0, x.1)

@@ -67,10 +67,11 @@ abbrev pub ValuesWithin : Type 0
 ValuesWithin = (facts : List Fact) (defs : List Definition) (e : ExprTree) (env : Bindings)
     → BindingsWithin env → FoundWithin facts defs e env
 
--- Picking an item in such entries, with such inputs, leaves such entries, and gives facts of lists
--- that are within the limits.
+-- Picking an item in such entries, with such inputs and kept lengths, leaves such entries, and
+-- gives facts of lists that are within the limits.
 abbrev pub PicksStayWithin : Type 0
 PicksStayWithin = (w : Setting) (facts : List Fact) (t : ℕ) (es : Entries) (p : Place) (n : Numbers)
     (r : Reduction)
-    → InputsWithin w.inputs → EntriesWithin es → pick w facts t es p n ≡ reduces r
+    → InputsWithin w.inputs → LengthsAreWithin facts → EntriesWithin es
+    → pick w facts t es p n ≡ reduces r
     → LengthsAreWithin r.facts × EntriesWithin (put t r.mark r.news es)
