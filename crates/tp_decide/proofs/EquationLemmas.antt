@@ -4,7 +4,7 @@ use Rattle.std.proofs.lemmas.Bool.{cases_Bool}
 use Rattle.tp_value.specs.Tree.{Tree, same_tree, SameTreeIsEquality}
 use Rattle.tp_value.specs.declared.path.Fact.{Fact}
 use Rattle.tp_value.specs.declared.path.Path.{Path}
-use Rattle.tp_meaning.specs.Syntax.{ExprTree, numeral, boolean, known, bound, global, listing, size, index, minus, negation, both, either, binary, choice, invoke, Definition, BindingTree}
+use Rattle.tp_meaning.specs.Syntax.{ExprTree, size, Definition, BindingTree}
 use Rattle.tp_eval.specs.Evaluate.{is_place}
 use Rattle.tp_eval.specs.Outcome as found
 use Rattle.tp_scene.specs.declared.answer.Clash.TheVariants as clash
@@ -31,8 +31,8 @@ pub different_clashes : (s t : Tree) → SameTreeIsEquality → (s ≡ t → ⊥
 different_clashes s t law e = elim (cases_Bool (same_tree s t)) [ inl h ↦ absurd (e ((law s t).0 h)) | inr h ↦ rw h ]
 
 -- what an equation becomes by what is found
-pub right_value : (facts : List Fact) (b : Bool) (t : Option row.Target) (u v : Tree) (r : row.SideOf) → r.found ≡ found.value v → row.meets facts (side b t (found.value u)) v ≡ row.equate facts (side b t (found.value u)) r
+pub right_value : (facts : List Fact) (b : Bool) (t : Option row.Target) (u v : Tree) (r : row.SideOf) → r.found ≡ found.value v → row.meets facts (side b t (found.value u)) v ≡ row.equate_values facts (side b t (found.value u)) r
 right_value facts b t u v r h = rw h refl
 
-pub right_value_waits : (facts : List Fact) (b : Bool) (t : Option row.Target) (p : Path) (v : Tree) (r : row.SideOf) → r.found ≡ found.value v → row.meets facts (side b t (found.wait p)) v ≡ row.equate facts (side b t (found.wait p)) r
+pub right_value_waits : (facts : List Fact) (b : Bool) (t : Option row.Target) (p : Path) (v : Tree) (r : row.SideOf) → r.found ≡ found.value v → row.meets facts (side b t (found.wait p)) v ≡ row.equate_values facts (side b t (found.wait p)) r
 right_value_waits facts b t p v r h = rw h refl

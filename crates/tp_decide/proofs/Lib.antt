@@ -2,6 +2,7 @@ pub mod ListLemmas
 pub mod FoundLemmas
 pub mod EquationLemmas
 pub mod RowLemmas
+pub mod SharingLemmas
 pub mod DisplayLemmas
 pub mod FormulaLemmas
 pub mod CallLemmas

@@ -1,20 +1,29 @@
 -- Sides of equations that are places, and sides that are known already.
-use Rattle.std.proofs.Common.{◌≡◌, ℕ, zero, suc, ◌<◌, Bool, true, false, List, [], Option, Some, None, refl, ap, sym, ◌∙◌, arith}
+use Rattle.std.proofs.Common.{◌≡◌, ◌⊎◌, inl, inr, ℕ, zero, suc, ◌<◌, Bool, true, false, ◌&&◌, List, [], Option, Some, None, refl, ap, sym, ◌∙◌, arith, if◌then◌else◌}
+use Rattle.std.specs.Option.{option_map}
 use Rattle.tp_value.specs.Tree.{Tree, SameTreeIsEquality}
 use Rattle.tp_value.specs.declared.path.Path.{Path}
+use Rattle.tp_value.specs.declared.path.VarId.{VarId}
 use Rattle.tp_value.specs.declared.path.Fact.{Fact}
-use Rattle.tp_meaning.specs.Syntax.{ExprTree, numeral, boolean, known, bound, global, listing, size, index, minus, negation, both, either, binary, choice, invoke, Definition, BindingTree}
+use Rattle.tp_meaning.specs.Syntax.{ExprTree, bound, global, size, index, Definition, BindingTree}
+use Rattle.tp_meaning.specs.Fits.{IsVariable}
 use Rattle.tp_store.specs.Facts.{facts_at}
 use Rattle.tp_store.specs.Known as store
-use Rattle.tp_store.specs.Known.{NoClash, full, addition}
+use Rattle.tp_store.specs.Known.{Variable, NoClash, full, addition}
 use Rattle.tp_eval.specs.Reached.{Reached, reaches, stops, waits, faults, passes, with_reached}
 use Rattle.tp_eval.specs.Evaluate.{PlaceFound, at_path, inside, is_place, of_full, value_at, indexed_value, evaluate, find_place, depth_limit}
 use Rattle.tp_eval.specs.Outcome as found
 use Rattle.tp_eval.specs.Outcome.{outcome, outcome_reached, place_outcome, place_reached}
+use Rattle.tp_eval.specs.Answers.{outcome_tree, place_outcome_of}
+use Rattle.tp_eval.specs.declared.outcome.PlaceOutcome.{PlaceOutcome}
+use Rattle.tp_eval.specs.declared.outcome.PlaceOutcome.TheVariants as place
 use Rattle.tp_eval.proofs.Answered.{eval_is, place_is}
+use Rattle.tp_scene.specs.Fits.{kinds_in}
+use Rattle.tp_scene.proofs.PathFits.{PathFits}
 use Rattle.tp_scene.specs.Step as row
-use Rattle.tp_decide.specs.Found.{IsNoSize}
-use Rattle.tp_decide.specs.Equated.{outcome_of_place, sets_length, AreEqual}
+use Rattle.tp_decide.specs.Found.{is_at_path, IsNoSize}
+use Rattle.tp_decide.specs.Fits.{IsPlaceOf}
+use Rattle.tp_decide.specs.Equated.{outcome_at, outcome_of_place, located, placed_side, IsRead, sets_length, AreEqual}
 use Rattle.tp_decide.proofs.EquationLemmas.{plain_target, side, side_same, equal_vanishes, right_value}
 use Rattle.tp_decide.proofs.KnownLemmas.{known_adds_nothing}
 
@@ -28,6 +37,12 @@ placed (bound i) h = h
 placed (global x) h = h
 placed (index e i) h = h
 placed _ h = absurd (cc)
+
+-- what a place was found to be is of a variable of the store
+pub found_of : (facts : List Fact) (defs : List Definition) (kinds : List Bool) (xs : List Variable) (among : (x : VarId) → IsVariable kinds x → IsVariable (kinds_in xs) x) (o : PlaceOutcome)
+    → PathFits facts defs kinds (kinds_in xs) among (place_outcome_of o) → IsPlaceOf xs (Some o)
+found_of facts defs kinds xs among (place.Place p) h = h.0
+found_of facts defs kinds xs among (place.Other o) h = tt
 
 module _ (facts : List Fact) where
   any_count : (o : store.Full) (c : ℕ) → outcome_reached (of_full o c) ≡ outcome_reached (of_full o 0)
@@ -67,11 +82,28 @@ module _ (facts : List Fact) where
     place_target e h = plain_target defs facts env e (no_size e h) ∙ ap (λ (b : Bool). row.target_if defs facts b row.value_at e env) h
 
     -- the side that a place is
-    pub place_side : (e : ExprTree) → is_place e ≡ true → (o : found.PlaceOutcome) → o ≡ place_outcome facts defs e env
-        → side true (row.target_at row.value_at o) (outcome_of_place facts o) ≡ row.side_of defs facts e env
-    place_side e h o q =
+    pub placed_side_is : (e : ExprTree) → is_place e ≡ true → placed_side facts (place_outcome facts defs e env) ≡ row.side_of defs facts e env
+    placed_side_is e h =
+        let o = place_outcome facts defs e env in
         side_same true (row.is_placed e) (row.target_at row.value_at o) (row.target_of defs facts e env) (outcome_of_place facts o) (outcome facts defs e env)
-        (sym (placed e h)) (ap (row.target_at row.value_at) q ∙ sym (place_target e h)) (ap (outcome_of_place facts) q ∙ sym (place_is_read e h))
+        (sym (placed e h)) (sym (place_target e h)) (sym (place_is_read e h))
+
+    located_some : (b : Bool) (x o : found.PlaceOutcome) → Some o ≡ (if b then Some x else None) → (b ≡ true) × (o ≡ x)
+    located_some true x o h = (refl, cc h)
+    located_some false x o h = absurd (cc h)
+
+    located_none : (b : Bool) (x : found.PlaceOutcome) → None ≡ (if b then Some x else None) → b ≡ false
+    located_none true x h = absurd (cc h)
+    located_none false x h = refl
+
+    -- an expression that was located is a place, with this side
+    pub located_side : (e : ExprTree) (o : found.PlaceOutcome) → Some o ≡ located defs facts env e → placed_side facts o ≡ row.side_of defs facts e env
+    located_side e o h =
+        let both = located_some (is_place e) (place_outcome facts defs e env) o h in
+        ap (placed_side facts) both.1 ∙ placed_side_is e both.0
+
+    pub no_place : (e : ExprTree) → None ≡ located defs facts env e → is_place e ≡ false
+    no_place e h = located_none (is_place e) (place_outcome facts defs e env) h
 
     no_value_target : (e : ExprTree) → is_place e ≡ false → (p : Path) → row.target_of defs facts e env ≡ Some (row.value_at p) → ⊥
     no_value_target (size e) h p q = no_length (is_place e) q
@@ -87,29 +119,60 @@ module _ (facts : List Fact) where
         let none : None ≡ Some (row.value_at p) = sym (ap (λ (b : Bool). row.target_if defs facts b row.value_at e env) h) ∙ q in
         absurd (cc none)
 
-    target_of_place : (o : found.PlaceOutcome) (p : Path) (t : Tree) → row.target_at row.value_at o ≡ Some (row.value_at p) → outcome_of_place facts o ≡ found.value t → full facts p ≡ store.value t
-    target_of_place (found.path r) p t q v = let same : p ≡ r = cc q in ap (full facts) same ∙ found_there (full facts r) t v
-    target_of_place (found.other o) p t q v = absurd (cc q)
+    read_place : (o : found.PlaceOutcome) (p : Path) → row.target_at row.value_at o ≡ Some (row.value_at p) → outcome_of_place facts o ≡ outcome_at facts p
+    read_place (found.path r) p q = let same : r ≡ p = cc q in ap (outcome_at facts) same
+    read_place (found.other o) p q = absurd (cc q)
 
-    -- what a side can set has the value that is found there
-    target_found : (e : ExprTree) (b : Bool) → is_place e ≡ b → (p : Path) (t : Tree) → row.target_of defs facts e env ≡ Some (row.value_at p) → outcome facts defs e env ≡ found.value t → full facts p ≡ store.value t
-    target_found e true h p t q v = target_of_place (place_outcome facts defs e env) p t (sym (place_target e h) ∙ q) (sym (place_is_read e h) ∙ v)
-    target_found e false h p t q v = absurd (no_value_target e h p q)
+    read_if : (e : ExprTree) (b : Bool) → is_place e ≡ b → IsRead facts (row.side_of defs facts e env)
+    read_if e true h = λ p q. place_is_read e h ∙ read_place (place_outcome facts defs e env) p (sym (place_target e h) ∙ q)
+    read_if e false h = λ p q. absurd (no_value_target e h p q)
 
-    known_meets : (b : Bool) (o : Option row.Target) (t : Tree) → SameTreeIsEquality → sets_length o ≡ false → ((p : Path) → o ≡ Some (row.value_at p) → addition facts (facts_at p t) ≡ store.adds [])
-        → row.vanishes ≡ row.meets facts (side b o (found.value t)) t
-    known_meets b None t law n k = equal_vanishes t t law refl
-    known_meets b (Some (row.value_at p)) t law n k = ap row.added (sym (k p refl))
-    known_meets b (Some (row.length_at p)) t law n k = absurd (cc n)
+    pub side_is_read : (e : ExprTree) → IsRead facts (row.side_of defs facts e env)
+    side_is_read e = read_if e (is_place e) refl
 
-    -- an equation of sides that are known already vanishes
-    pub equal_sides : (l r : ExprTree) → SameTreeIsEquality → NoClash facts → AreEqual (row.side_of defs facts l env) (row.side_of defs facts r env)
-        → row.vanishes ≡ row.equate facts (row.side_of defs facts l env) (row.side_of defs facts r env)
-    equal_sides l r law n h =
-        let b = row.is_placed l in
-        let o = row.target_of defs facts l env in
-        let t = h.values.value in
-        let there : (p : Path) → o ≡ Some (row.value_at p) → addition facts (facts_at p t) ≡ store.adds [] =
-        λ p q. known_adds_nothing facts n p t (target_found l (is_place l) refl p t q h.values.first) in
-        known_meets b o t law h.no_length there ∙ right_value facts b o t t (row.side_of defs facts r env) h.values.second
-        ∙ ap (λ x. row.equate facts (side b o x) (row.side_of defs facts r env)) (sym h.values.first)
+    -- an expression that was not found to be at a path sets no value
+    no_value : (e : ExprTree) (o : Option PlaceOutcome) → option_map place_outcome_of o ≡ located defs facts env e → is_at_path o ≡ false → (p : Path) → row.target_of defs facts e env ≡ Some (row.value_at p) → ⊥
+    no_value e None h n p q = no_value_target e (no_place e h) p q
+    no_value e (Some (place.Place r)) h n p q = absurd (cc n)
+    no_value e (Some (place.Other o)) h n p q =
+        let both = located_some (is_place e) (place_outcome facts defs e env) (found.other (outcome_tree o)) h in
+        let none : None ≡ Some (row.value_at p) = ap (row.target_at row.value_at) both.1 ∙ sym (place_target e both.0) ∙ q in
+        absurd (cc none)
+
+    -- two sides of which one can set no value
+    abbrev NoValue : Option row.Target → Type 0
+    NoValue t = (p : Path) → t ≡ Some (row.value_at p) → ⊥
+
+    by_values : (b c : Bool) (s t : Option row.Target) (x y : found.Outcome) (n : row.Numbers) → NoValue s ⊎ NoValue t → row.equate_values facts (side b s x) (side c t y) ≡ row.equate facts (side b s x) (side c t y) n
+    by_values b c None t x y n h = refl
+    by_values b c (Some (row.length_at p)) t x y n h = refl
+    by_values b c (Some (row.value_at p)) None x y n h = refl
+    by_values b c (Some (row.value_at p)) (Some (row.length_at q)) x y n h = refl
+    by_values b c (Some (row.value_at p)) (Some (row.value_at q)) x y n (inl k) = absurd (k p refl)
+    by_values b c (Some (row.value_at p)) (Some (row.value_at q)) x y n (inr k) = absurd (k q refl)
+
+    one_lacks : (b c : Bool) → (b && c) ≡ false → (b ≡ false) ⊎ (c ≡ false)
+    one_lacks true c h = inr h
+    one_lacks false c h = inl refl
+
+    -- an equation goes by values where not both sides were found to be at paths
+    pub goes_by_values : (l r : ExprTree) (o u : Option PlaceOutcome) (n : row.Numbers) → option_map place_outcome_of o ≡ located defs facts env l → option_map place_outcome_of u ≡ located defs facts env r → (is_at_path o && is_at_path u) ≡ false
+        → row.equate_values facts (row.side_of defs facts l env) (row.side_of defs facts r env) ≡ row.equate facts (row.side_of defs facts l env) (row.side_of defs facts r env) n
+    goes_by_values l r o u n h k none =
+        by_values (row.is_placed l) (row.is_placed r) (row.target_of defs facts l env) (row.target_of defs facts r env) (outcome facts defs l env) (outcome facts defs r env) n
+        (elim (one_lacks (is_at_path o) (is_at_path u) none) [ inl e ↦ inl (no_value l o h e) | inr e ↦ inr (no_value r u k e) ])
+
+  known_meets : (b : Bool) (o : Option row.Target) (t : Tree) → SameTreeIsEquality → sets_length o ≡ false → ((p : Path) → o ≡ Some (row.value_at p) → addition facts (facts_at p t) ≡ store.adds [])
+      → row.vanishes ≡ row.meets facts (side b o (found.value t)) t
+  known_meets b None t law n k = equal_vanishes t t law refl
+  known_meets b (Some (row.value_at p)) t law n k = ap row.added (sym (k p refl))
+  known_meets b (Some (row.length_at p)) t law n k = absurd (cc n)
+
+  -- an equation of sides that are known already vanishes
+  pub equal_sides : (l r : row.SideOf) → SameTreeIsEquality → NoClash facts → IsRead facts l → AreEqual l r → row.vanishes ≡ row.equate_values facts l r
+  equal_sides l r law n read h =
+      let t = h.values.value in
+      let there : (p : Path) → l.target ≡ Some (row.value_at p) → addition facts (facts_at p t) ≡ store.adds [] =
+      λ p q. known_adds_nothing facts n p t (found_there (full facts p) t (sym (read p q) ∙ h.values.first)) in
+      known_meets l.placed l.target t law h.no_length there ∙ right_value facts l.placed l.target t t r h.values.second
+      ∙ ap (λ x. row.equate_values facts (side l.placed l.target x) r) (sym h.values.first)

@@ -7,8 +7,9 @@ use Rattle.tp_value.specs.declared.path.Fact.{Fact}
 use Rattle.tp_value.specs.declared.value.Shape.TheVariants.{Items}
 use Rattle.tp_kernel.specs.Read.{definitions_of}
 use Rattle.tp_store.specs.Facts.{fact, facts_at}
-use Rattle.tp_store.specs.Known.{addition}
+use Rattle.tp_store.specs.Known.{Addition, adds, refuses, addition}
 use Rattle.tp_inputs.specs.Read.{inputs_of}
+use Rattle.tp_scene.specs.declared.answer.Clash.TheVariants.{Facts}
 use Rattle.tp_scene.specs.Scene as S
 use Rattle.tp_scene.specs.Step as row
 use Rattle.tp_scene.specs.Step.{PickOutcome, Numbers}
@@ -61,6 +62,19 @@ with_new_region news =
       facts = [];
     })
 
+-- Facts are added, and these items stand in the item's place; or it is refused.
+abbrev pub adding_items : (news : S.Entries) → (items : ℕ) → Addition → PickOutcome
+adding_items news items (adds facts) =
+    row.reduces (record {
+      news = news;
+      items = items;
+      regions = 0;
+      local = None;
+      mark = None;
+      facts = facts;
+    })
+adding_items news items (refuses kept new) = row.clashes (Facts kept new)
+
 -- What a decision does where these facts are known, and new items, regions and locals take these
 -- numbers. A region is made only where it isn't too deep, so the place plays no part.
 abbrev pub decided_outcome : List Fact → Numbers → Decision → PickOutcome
@@ -95,6 +109,9 @@ decided_outcome facts n (decision.Binds name lasting body) =
     })
 decided_outcome facts n (decision.Sets p v) = row.added (addition facts (facts_at p (tree v)))
 decided_outcome facts n (decision.Measures p k) = row.added (addition facts (fact p (Items k) ∷ []))
+decided_outcome facts n (decision.Shares to k news) =
+    adding_items (news_entries news.items n.item 0) (length news.items)
+    (addition facts (fact to (Items k) ∷ []))
 decided_outcome facts n (decision.Waits first other) = row.waits first other
 decided_outcome facts n decision.Rests = row.rests
 decided_outcome facts n (decision.Clashes c) = row.clashes c

@@ -6,17 +6,20 @@ use Rattle.tp_meaning.specs.Value.{is_upper}
 use Rattle.tp_meaning.specs.Fits.{ExprFits, BindingsFit}
 use Rattle.tp_store.specs.Known.{Variable, IsVariableOf}
 use Rattle.tp_eval.specs.Evaluate.{is_place}
+use Rattle.tp_eval.specs.declared.outcome.PlaceOutcome.{PlaceOutcome}
+use Rattle.tp_eval.specs.declared.outcome.PlaceOutcome.TheVariants as place
 use Rattle.tp_scene.specs.Scene as S
 use Rattle.tp_scene.specs.Fits.{kinds_in, PhraseFits}
 use Rattle.tp_decide.specs.declared.decision.Decision.{Decision}
 use Rattle.tp_decide.specs.declared.decision.Decision.TheVariants as decision
-use Rattle.tp_decide.specs.declared.equation.Target.{Target}
-use Rattle.tp_decide.specs.declared.equation.Target.TheVariants as target
+use Rattle.tp_decide.specs.declared.sides.Target.{Target}
+use Rattle.tp_decide.specs.declared.sides.Target.TheVariants as target
 
 -- what is set is of a variable
 abbrev pub SetsVariables : List Variable → Decision → Type 0
 SetsVariables xs (decision.Sets p v) = IsVariableOf xs p.var
 SetsVariables xs (decision.Measures p k) = IsVariableOf xs p.var
+SetsVariables xs (decision.Shares to k news) = IsVariableOf xs to.var
 SetsVariables xs (decision.Becomes news m) = Unit {0}
 SetsVariables xs (decision.Splits first after) = Unit {0}
 SetsVariables xs (decision.Opens outer piece) = Unit {0}
@@ -39,6 +42,11 @@ IsTargetOf xs (Some (target.Length p)) = IsVariableOf xs p.var
 abbrev pub IsPathOf : List Variable → Option Path → Type 0
 IsPathOf xs None = Unit {0}
 IsPathOf xs (Some p) = IsVariableOf xs p.var
+
+abbrev pub IsPlaceOf : List Variable → Option PlaceOutcome → Type 0
+IsPlaceOf xs None = Unit {0}
+IsPlaceOf xs (Some (place.Place p)) = IsVariableOf xs p.var
+IsPlaceOf xs (Some (place.Other o)) = Unit {0}
 
 -- a place for each upper-case parameter that has an argument
 abbrev pub ArePlaces : ExprTrees → (parameters : List (List ℕ)) → Type 0

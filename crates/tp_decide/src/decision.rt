@@ -43,7 +43,8 @@ pub enum Leaf {
 /// `Becomes`: these items stand in its place, and its region may be marked. `Splits`: in its place stand a new left region with `first` alone,
 /// and what follows it. `Opens`: in its place stands a new outer region with `outer` alone, and the piece of its projection. `Binds`: the
 /// body stands in its place, with a new local of that name bound last; the local takes the store's next number. `Sets` and `Measures`: a
-/// value is set at a path, or a length, and nothing stands in its place. Nothing changes in the other cases: it waits for a cell, and
+/// value is set at a path, or a length, and nothing stands in its place. `Shares`: a length is set at a path, and these items stand in its
+/// place. Nothing changes in the other cases: it waits for a cell, and
 /// perhaps a second one; it rests; it meets a clash; the inputs have no value for the port; or it passes a limit.
 #[derive(Drop)]
 pub enum Decision {
@@ -66,6 +67,11 @@ pub enum Decision {
     },
     Sets(Path, Value),
     Measures(Path, u32),
+    Shares {
+        to: Path,
+        length: u32,
+        news: Vec<Leaf>,
+    },
     Waits(Cell, Option<Cell>),
     Rests,
     Clashes(Clash),

@@ -1,197 +1,29 @@
 // What becomes of an equation.
-ghost use Rattle.std.specs.Prelude.{◌≡◌, IfOk, IsTrue, Bool, true, false, List, None, MatchOption};
+ghost use Rattle.std.specs.Prelude.{◌≡◌, IfOk, IsTrue, Bool, List, None};
 ghost use Rattle.tp_value.specs.Read.{tree};
 ghost use Rattle.tp_value.specs.Tree.{num};
 ghost use Rattle.tp_kernel.specs.Read.{expr_tree, definitions_of, bindings_of};
 ghost use Rattle.tp_value.specs.declared.path.Fact.{Fact};
-ghost use Rattle.tp_value.specs.declared.path.Path.{Path};
-ghost use Rattle.tp_meaning.specs.Syntax.{size};
 ghost use Rattle.tp_meaning.specs.Inputs.{input_at};
 ghost use Rattle.tp_eval.specs.Outcome as found;
 ghost use Rattle.tp_eval.specs.Answers.{outcome_tree};
-ghost use Rattle.tp_eval.specs.Evaluate.{is_place as is_place_tree};
 ghost use Rattle.tp_scene.specs.Step as row;
 ghost use Rattle.tp_store.specs.Known.{Variable, IsVariableOf};
 ghost use Rattle.tp_decide.specs.Decided.{decided_outcome, setting_of};
-ghost use Rattle.tp_decide.specs.Found.{option_target, side_found, PathIn, IsNoSize};
-ghost use Rattle.tp_decide.specs.Equated.{outcome_at, sets_length, AreOneValue, AreEqual};
-ghost use Rattle.tp_decide.specs.Fits.{IsPathOf, IsTargetOf, SetsVariables, ExprFitsStore};
+ghost use Rattle.tp_decide.specs.Found.{option_target, side_found};
+ghost use Rattle.tp_decide.specs.Equated.{sets_length, AreOneValue, AreEqual, IsRead};
+ghost use Rattle.tp_decide.specs.Fits.{IsTargetOf, SetsVariables, ExprFitsStore};
 
 use crate::decision::{Decision, nothing};
 use crate::setting::Setting;
+use crate::sharing::equate_places;
+use crate::sides::{Side, Target, both_paths, locate, side_of, side_with};
 use std::alloc::Global;
-use tp_eval::{Outcome, PlaceOutcome, eval, is_place, place};
-use tp_kernel::{Defs, Env, Expr, FaultKind, LimitKind};
+use tp_eval::Outcome;
+use tp_kernel::{Env, Expr, FaultKind, LimitKind};
 use tp_scene::{Cell, Clash};
-use tp_store::{Known, Store};
+use tp_store::Store;
 use tp_value::{LENGTH_LIMIT, NoMemory, Number, Path, Text, Value, same, same_tree_is_equality};
-
-/// What a side can set: the value at a path, or the length of the list there.
-#[derive(Drop)]
-pub enum Target {
-    Value(Path),
-    Length(Path),
-}
-
-/// A side of an equation: whether it is a place or the size of one, what it can set, and what is found.
-#[derive(Drop)]
-pub struct Side {
-    pub placed: bool,
-    pub target: Option<Target>,
-    pub found: Outcome,
-}
-
-// The path of an expression, where it is a place with one.
-fn path_of(
-    alloc: Global,
-    expr: &Expr,
-    env: &Env,
-    store: &Store,
-    defs: &Defs,
-) -> Result<Option<Path>, NoMemory>
-    requires fits { ExprFitsStore (definitions_of defs.now) store.now.variables (expr_tree expr.now)
-        (bindings_of env.now) }
-    ensures outcome { IfOk result (λ o.
-        (f : Path → row.Target)
-        → PathIn o f
-        (row.target_if (definitions_of defs.now) store.now.facts
-        (is_place_tree (expr_tree expr.now)) f (expr_tree expr.now) (bindings_of env.now))) }
-    ensures variables { IfOk result (IsPathOf store.now.variables) }
-{
-    if !is_place(expr) {
-        return Ok(None);
-    }
-    let found = place(alloc, expr, env, store, defs)?;
-    match found {
-        PlaceOutcome::Place(path) => Ok(Some(path)),
-        PlaceOutcome::Other(_) => Ok(None),
-    }
-}
-
-// What a size is taken of.
-fn measured(expr: &Expr) -> Option<&Expr>
-    ensures { MatchOption result (IsNoSize (expr_tree expr.now)) (λ inner.
-        expr_tree expr.now ≡ size (expr_tree inner.now)) }
-{
-    match expr {
-        Expr::Size(inner) => Some(inner),
-        _ => None,
-    }
-}
-
-// The length that a side can set which is no place.
-fn find_length(
-    alloc: Global,
-    expr: &Expr,
-    env: &Env,
-    store: &Store,
-    defs: &Defs,
-) -> Result<Option<Target>, NoMemory>
-    requires fits { ExprFitsStore (definitions_of defs.now) store.now.variables (expr_tree expr.now)
-        (bindings_of env.now) }
-    requires no_place { is_place_tree (expr_tree expr.now) ≡ false }
-    ensures outcome { IfOk result (λ o.
-        option_target o
-        ≡ row.target_of (definitions_of defs.now) store.now.facts (expr_tree expr.now)
-        (bindings_of env.now)) }
-    ensures variables { IfOk result (IsTargetOf store.now.variables) }
-{
-    match measured(expr) {
-        Some(inner) => {
-            let path = path_of(alloc, inner, env, store, defs)?;
-            match path {
-                Some(path) => Ok(Some(Target::Length(path))),
-                None => Ok(None),
-            }
-        }
-        None => Ok(None),
-    }
-}
-
-// Whether the expression is a place or the size of one.
-fn is_placed(expr: &Expr) -> bool
-    ensures { result ≡ row.is_placed (expr_tree expr.now) }
-{
-    match expr {
-        Expr::Size(inner) => is_place(inner),
-        _ => is_place(expr),
-    }
-}
-
-// What is found at a path.
-fn found_at(path: &Path, store: &Store) -> Result<Outcome, NoMemory>
-    ensures { IfOk result (λ o. outcome_tree o ≡ outcome_at store.now.facts path.now) }
-{
-    match store.full(path)? {
-        Known::Absent => Ok(Outcome::Fault(FaultKind::NoElement)),
-        Known::Open(path) => Ok(Outcome::Wait(path)),
-        Known::TooLong => Ok(Outcome::Over(LimitKind::List)),
-        Known::Value(value) => Ok(Outcome::Value(value)),
-    }
-}
-
-// A side that is a place, evaluated once for what it can set and for what is found there.
-fn evaluate_place(
-    alloc: Global,
-    expr: &Expr,
-    env: &Env,
-    store: &Store,
-    defs: &Defs,
-) -> Result<Side, NoMemory>
-    requires fits { ExprFitsStore (definitions_of defs.now) store.now.variables (expr_tree expr.now)
-        (bindings_of env.now) }
-    requires place { is_place_tree (expr_tree expr.now) ≡ true }
-    ensures outcome { IfOk result (λ s.
-        side_found s
-        ≡ row.side_of (definitions_of defs.now) store.now.facts (expr_tree expr.now)
-        (bindings_of env.now)) }
-    ensures variables { IfOk result (λ s. IsTargetOf store.now.variables s.target) }
-{
-    let outcome = place(alloc, expr, env, store, defs)?;
-    match outcome {
-        PlaceOutcome::Place(path) => {
-            let found = found_at(&path, store)?;
-            Ok(Side {
-                placed: true,
-                target: Some(Target::Value(path)),
-                found,
-            })
-        }
-        PlaceOutcome::Other(found) => Ok(Side {
-            placed: true,
-            target: None,
-            found,
-        }),
-    }
-}
-
-fn evaluate_side(
-    alloc: Global,
-    expr: &Expr,
-    env: &Env,
-    store: &Store,
-    defs: &Defs,
-) -> Result<Side, NoMemory>
-    requires fits { ExprFitsStore (definitions_of defs.now) store.now.variables (expr_tree expr.now)
-        (bindings_of env.now) }
-    ensures outcome { IfOk result (λ s.
-        side_found s
-        ≡ row.side_of (definitions_of defs.now) store.now.facts (expr_tree expr.now)
-        (bindings_of env.now)) }
-    ensures variables { IfOk result (λ s. IsTargetOf store.now.variables s.target) }
-{
-    if is_place(expr) {
-        let side = evaluate_place(alloc, expr, env, store, defs)?;
-        return Ok(side);
-    }
-    let target = find_length(alloc, expr, env, store, defs)?;
-    let found = eval(alloc, expr, env, store, defs)?;
-    Ok(Side {
-        placed: is_placed(expr),
-        target,
-        found,
-    })
-}
 
 // The length of the list at the path is to be this value.
 fn measure(path: Path, value: Value) -> Decision
@@ -272,17 +104,33 @@ fn wait_for_both(is_left_placed: bool, is_right_placed: bool, left: Path, right:
     }
 }
 
+// One side waits, and the other, which can set this, passes a limit.
+fn pass_or_wait(passing: &Option<Target>, waiting: Path, limit: LimitKind) -> Decision
+    ensures outcome { (facts : List Fact) (n : row.Numbers)
+        → decided_outcome facts n result
+        ≡ row.passes_or_waits facts (option_target passing.now) waiting limit }
+    ensures variables { (xs : List Variable) → SetsVariables xs result }
+{
+    match passing {
+        Some(Target::Value(_)) => Decision::Waits(Cell::Part(waiting), None),
+        Some(Target::Length(_)) => Decision::Passes(limit),
+        None => Decision::Passes(limit),
+    }
+}
+
 // The right side passes a limit.
-fn pass_on_right(left: Outcome, limit: LimitKind) -> Decision
-    ensures outcome { (facts : List Fact) (n : row.Numbers) (l r : row.SideOf)
-        → l.found ≡ outcome_tree left → r.found ≡ found.over limit
-        → decided_outcome facts n result ≡ row.equate facts l r }
+fn pass_on_right(left: Outcome, target: &Option<Target>, limit: LimitKind) -> Decision
+    ensures outcome { (facts : List Fact) (n : row.Numbers) (l : row.SideOf) (placed : Bool)
+        → l.found ≡ outcome_tree left
+        → decided_outcome facts n result
+        ≡ row.equate_values facts l
+        (record { placed = placed; target = option_target target.now; found = found.over limit }) }
     ensures variables { (xs : List Variable) → SetsVariables xs result }
 {
     match left {
         Outcome::Fault(kind) => Decision::Clashes(Clash::NoValue(kind)),
+        Outcome::Wait(path) => pass_or_wait(target, path, limit),
         Outcome::Value(_) => Decision::Passes(limit),
-        Outcome::Wait(_) => Decision::Passes(limit),
         Outcome::Over(_) => Decision::Passes(limit),
     }
 }
@@ -292,7 +140,7 @@ fn value_on_right(alloc: Global, target: Option<Target>, left: Outcome, value: V
     ensures outcome { (facts : List Fact) (n : row.Numbers) (placed : Bool) (r : row.SideOf)
         → r.found ≡ found.value (tree value)
         → decided_outcome facts n result
-        ≡ row.equate facts
+        ≡ row.equate_values facts
         (record { placed = placed; target = option_target target; found = outcome_tree left }) r }
     ensures variables { (xs : List Variable) → IsTargetOf xs target → SetsVariables xs result }
 {
@@ -304,9 +152,11 @@ fn value_on_right(alloc: Global, target: Option<Target>, left: Outcome, value: V
     }
 }
 
-fn equate(alloc: Global, left: Side, right: Side) -> Decision
+// What becomes of the equation of two sides by what is found of them.
+fn equate_values(alloc: Global, left: Side, right: Side) -> Decision
     ensures outcome { (facts : List Fact) (n : row.Numbers)
-        → decided_outcome facts n result ≡ row.equate facts (side_found left) (side_found right) }
+        → decided_outcome facts n result
+        ≡ row.equate_values facts (side_found left) (side_found right) }
     ensures variables { (xs : List Variable) → IsTargetOf xs left.target
         → IsTargetOf xs right.target → SetsVariables xs result }
 {
@@ -322,11 +172,11 @@ fn equate(alloc: Global, left: Side, right: Side) -> Decision
     } = right;
     match right_found {
         Outcome::Fault(kind) => Decision::Clashes(Clash::NoValue(kind)),
-        Outcome::Over(kind) => pass_on_right(left_found, kind),
+        Outcome::Over(kind) => pass_on_right(left_found, &right_target, kind),
         Outcome::Value(value) => value_on_right(alloc, left_target, left_found, value),
         Outcome::Wait(path) => match left_found {
             Outcome::Fault(kind) => Decision::Clashes(Clash::NoValue(kind)),
-            Outcome::Over(kind) => Decision::Passes(kind),
+            Outcome::Over(kind) => pass_or_wait(&left_target, path, kind),
             Outcome::Value(value) => meet(alloc, right_target, Outcome::Wait(path), value),
             Outcome::Wait(other) => wait_for_both(is_left_placed, is_right_placed, other, path),
         },
@@ -370,7 +220,24 @@ fn are_equal(left: &Side, right: &Side) -> bool
     are_one_value(&left.found, &right.found)
 }
 
-/// What becomes of the equation of the two.
+// What becomes of the equation of two sides by what is found of them, where nothing is set that is known already.
+fn decide_values(alloc: Global, left: Side, right: Side, store: &Store) -> Decision
+    requires read { IsRead store.now.facts (side_found left) }
+    ensures outcome { (n : row.Numbers)
+        → decided_outcome store.now.facts n result
+        ≡ row.equate_values store.now.facts (side_found left) (side_found right) }
+    ensures variables { (xs : List Variable) → IsTargetOf xs left.target
+        → IsTargetOf xs right.target → SetsVariables xs result }
+{
+    if are_equal(&left, &right) {
+        same_tree_is_equality();
+        store.count(); // whose facts don't clash
+        return nothing(alloc);
+    }
+    equate_values(alloc, left, right)
+}
+
+/// What becomes of the equation of the two. That of two places goes by their shapes, and no value is looked for there.
 pub fn decide_equation(
     alloc: Global,
     left: &Expr,
@@ -391,30 +258,23 @@ pub fn decide_equation(
         (row.side_of w.defs store.now.facts (expr_tree left.now)
         (bindings_of env.now))
         (row.side_of w.defs store.now.facts (expr_tree right.now)
-        (bindings_of env.now))) }
+        (bindings_of env.now))
+        n) }
     ensures variables { IfOk result (SetsVariables store.now.variables) }
 {
-    let left = evaluate_side(alloc, left, env, store, setting.defs)?;
-    let right = evaluate_side(alloc, right, env, store, setting.defs)?;
-    if are_equal(&left, &right) {
-        same_tree_is_equality();
-        store.count(); // whose facts don't clash
-        return Ok(nothing(alloc));
+    let left_place = locate(alloc, left, env, store, setting.defs)?;
+    let right_place = locate(alloc, right, env, store, setting.defs)?;
+    match both_paths(left_place, right_place) {
+        Ok((left, right)) => {
+            let decision = equate_places(alloc, left, right, store)?;
+            Ok(decision)
+        }
+        Err((left_place, right_place)) => {
+            let left = side_of(alloc, left, left_place, env, store, setting.defs)?;
+            let right = side_of(alloc, right, right_place, env, store, setting.defs)?;
+            Ok(decide_values(alloc, left, right, store))
+        }
     }
-    Ok(equate(alloc, left, right))
-}
-
-// A side that has this value, which was found before.
-fn side_with(alloc: Global, value: &Value) -> Result<Side, NoMemory>
-    ensures outcome { IfOk result (λ s. side_found s ≡ row.side_with (tree value.now)) }
-    ensures variables { IfOk result (λ s. s.target ≡ None) }
-{
-    let value = value.copy(alloc)?;
-    Ok(Side {
-        placed: false,
-        target: None,
-        found: Outcome::Value(value),
-    })
 }
 
 /// What becomes of the equation with the value that the inputs have for the port.
@@ -440,9 +300,10 @@ pub fn decide_input(
 {
     match setting.inputs.at(setting.state, port) {
         Some(value) => {
-            let left = evaluate_side(alloc, expr, env, store, setting.defs)?;
+            let place = locate(alloc, expr, env, store, setting.defs)?;
+            let left = side_of(alloc, expr, place, env, store, setting.defs)?;
             let right = side_with(alloc, value)?;
-            Ok(equate(alloc, left, right))
+            Ok(equate_values(alloc, left, right))
         }
         None => {
             let port = port.copy()?;

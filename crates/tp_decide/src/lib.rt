@@ -15,6 +15,8 @@ mod holder;
 mod phrase;
 mod regions;
 mod setting;
+mod sharing;
+mod sides;
 
 pub use decision::{Decision, Leaf, Place, Side};
 pub use env::bind_last;

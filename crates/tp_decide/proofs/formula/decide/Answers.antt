@@ -42,7 +42,7 @@ returns-in_ok-found-in-NextEq-clause-outcome c =
     let whole = ap formula_tree (sym c.deref.ensures ∙ c.in-NextEq.is) ∙ formula_next_eq c.in-NextEq.k c.in-NextEq.t c.in-NextEq.e in
     let here = subst (λ o. ValueIn o found) (same_outcome facts defs _ c.in-NextEq.e.value _ c.args.phrase.now.env.value c.deref-in-NextEq.ensures c.deref-in-NextEq-2.ensures) c.in_ok-found-in-NextEq.ensures.found in
     found_row facts c.decide_next_equation.result (λ o. ValueIn o found) (λ o n. row.with_value o (λ v. row.going place (S.leaf (n.item 0) (S.Later (nexts (c.in-NextEq.k - 1) (equation (expr_tree c.in-NextEq.t.value) (known v))) env) S.none) 1))
-    (outcome facts defs (expr_tree c.in-NextEq.e.value) env) (λ n. step _ env place n) here (λ n. ap (λ f. step f env place n) (sym whole)) c.decide_next_equation.ensures.outcome
+    (outcome facts defs (expr_tree c.in-NextEq.e.value) env) (λ n. step (formula_of c.args.phrase.now) env place n) here (λ n. ap (λ f. step f env place n) (sym whole)) c.decide_next_equation.ensures.outcome
 
 pub returns-in_ok-found-in-If-clause-outcome : goal.returns-in_ok-found-in-If-clause-outcome
 returns-in_ok-found-in-If-clause-outcome c =
@@ -55,7 +55,7 @@ returns-in_ok-found-in-If-clause-outcome c =
     let whole = ap formula_tree (sym c.deref.ensures ∙ c.in-If.is) ∙ formula_if c.in-If.b c.in-If.yes c.in-If.no in
     let here = subst (λ o. TruthIn o found) (same_outcome facts defs _ c.in-If.b.value _ c.args.phrase.now.env.value c.deref-in-If.ensures c.deref-in-If-2.ensures) c.in_ok-found-in-If.ensures.found in
     found_row facts c.decide_branch.result (λ o. TruthIn o found) (λ o n. row.with_truth o (λ b. row.becomes (S.leaf (n.item 0) (S.Do (if b then formula_tree c.in-If.yes.value else formula_tree c.in-If.no.value) env) S.none) 1))
-    (outcome facts defs (expr_tree c.in-If.b.value) env) (λ n. step _ env place n) here (λ n. ap (λ f. step f env place n) (sym whole)) c.decide_branch.ensures.outcome
+    (outcome facts defs (expr_tree c.in-If.b.value) env) (λ n. step (formula_of c.args.phrase.now) env place n) here (λ n. ap (λ f. step f env place n) (sym whole)) c.decide_branch.ensures.outcome
 
 pub returns-in_ok-found-in-Assign-clause-outcome : goal.returns-in_ok-found-in-Assign-clause-outcome
 returns-in_ok-found-in-Assign-clause-outcome c =
@@ -68,7 +68,7 @@ returns-in_ok-found-in-Assign-clause-outcome c =
     let whole = ap formula_tree (sym c.deref.ensures ∙ c.in-Assign.is) ∙ formula_assign c.in-Assign.t c.in-Assign.e in
     let here = subst (λ o. ValueIn o found) (same_outcome facts defs _ c.in-Assign.e.value _ c.args.phrase.now.env.value c.deref-in-Assign.ensures c.deref-in-Assign-2.ensures) c.in_ok-found-in-Assign.ensures.found in
     found_row facts c.decide_assign.result (λ o. ValueIn o found) (λ o n. row.with_value o (λ v. row.becomes (S.leaf (n.item 0) (S.Do (always (if_empty (equation (expr_tree c.in-Assign.t.value) (known v)))) env) S.none) 1))
-    (outcome facts defs (expr_tree c.in-Assign.e.value) env) (λ n. step _ env place n) here (λ n. ap (λ f. step f env place n) (sym whole)) c.decide_assign.ensures.outcome
+    (outcome facts defs (expr_tree c.in-Assign.e.value) env) (λ n. step (formula_of c.args.phrase.now) env place n) here (λ n. ap (λ f. step f env place n) (sym whole)) c.decide_assign.ensures.outcome
 
 pub returns-in_ok-body-in-For-clause-outcome : goal.returns-in_ok-body-in-For-clause-outcome
 returns-in_ok-body-in-For-clause-outcome c =
@@ -88,7 +88,7 @@ returns-in_ok-body-in-For-clause-outcome c =
     let same_env : env_of body ≡ env = c.in_ok-body-in-For.ensures.bindings in
     let counted : row.Numbers → ℤ → FormulaTree → S.Bindings → row.PickOutcome = λ n i f bs. row.with_number o (λ m. row.turns c.in-For.name i m f bs place n) in
     found_row facts c.decide_turns.result (λ o. NumberIn o found) (λ o n. row.with_number o (λ m. row.turns c.in-For.name k m (formula_of body) (env_of body) place n))
-    o (λ n. step _ env place n) here
+    o (λ n. step (formula_of c.args.phrase.now) env place n) here
     (λ n. ap₂ (counted n k) same_body same_env ∙ ap (λ i. counted n i (formula_tree c.in-For.body.value) env) seen ∙ ap (λ f. step f env place n) (sym whole))
     c.decide_turns.ensures.outcome
 
@@ -110,7 +110,7 @@ returns-in_ok-body-in-Forall-clause-outcome c =
     let same_env : env_of body ≡ env = c.in_ok-body-in-Forall.ensures.bindings in
     let counted : row.Numbers → ℤ → FormulaTree → S.Bindings → row.PickOutcome = λ n i f bs. row.with_number o (λ m. row.instances c.in-Forall.name i m f bs n) in
     found_row facts c.decide_instances.result (λ o. NumberIn o found) (λ o n. row.with_number o (λ m. row.instances c.in-Forall.name k m (formula_of body) (env_of body) n))
-    o (λ n. step _ env place n) here
+    o (λ n. step (formula_of c.args.phrase.now) env place n) here
     (λ n. ap₂ (counted n k) same_body same_env ∙ ap (λ i. counted n i (formula_tree c.in-Forall.body.value) env) seen ∙ ap (λ f. step f env place n) (sym whole))
     c.decide_instances.ensures.outcome
 
@@ -133,5 +133,5 @@ returns-in-Call-clause-outcome c =
     let step = row.formula_step defs (inputs_of c.args.setting.now.inputs.now) c.args.setting.now.state facts in
     let called : Env → row.Numbers → row.PickOutcome = λ v n. row.called defs facts (slice_get defs c.in-Call.number) (expr_trees c.in-Call.exprs) (bindings_of v) n in
     let whole = ap formula_tree (sym c.deref.ensures ∙ c.in-Call.is) ∙ formula_call c.in-Call.number c.in-Call.exprs in
-    decided_row facts c.decide_call.result (called c.deref-in-Call.result.now) (λ n. step _ env place n)
+    decided_row facts c.decide_call.result (called c.deref-in-Call.result.now) (λ n. step (formula_of c.args.phrase.now) env place n)
     (λ n. ap (λ (v : Env). called v n) c.deref-in-Call.ensures ∙ ap (λ f. step f env place n) (sym whole)) c.decide_call.ensures.outcome

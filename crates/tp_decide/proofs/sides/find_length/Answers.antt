@@ -2,7 +2,7 @@ use Rattle.std.proofs.Common.{Bool, ◌∙◌, ap, sym}
 use Rattle.tp_kernel.specs.Read.{expr_tree, definitions_of, bindings_of}
 use Rattle.tp_scene.specs.Step.{value_at, target_if}
 use Rattle.tp_decide.proofs.EquationLemmas.{plain_target}
-use Rattle.tp_decide.proofs.equation.find_length.Goals as goal
+use Rattle.tp_decide.proofs.sides.find_length.Goals as goal
 
 pub returns-in-None-clause-outcome : goal.returns-in-None-clause-outcome
 returns-in-None-clause-outcome c =

@@ -1,0 +1,123 @@
+// Equations of two places, which go by the shape that one of them has.
+ghost use Rattle.std.specs.Prelude.{◌≡◌, ℕ, pos, length, List, ◌∷◌, [], IfOk};
+ghost use Rattle.tp_value.specs.declared.path.Fact.{Fact};
+ghost use Rattle.tp_meaning.specs.Syntax.{equation, index, numeral};
+ghost use Rattle.tp_kernel.specs.Read.{expr_tree, formula_tree, bindings_of};
+ghost use Rattle.tp_store.specs.Facts.{fact};
+ghost use Rattle.tp_store.specs.Known.{Variable, IsVariableOf, addition};
+ghost use Rattle.tp_scene.specs.Step as row;
+ghost use Rattle.tp_decide.specs.Decided.{decided_outcome, news_entries};
+ghost use Rattle.tp_decide.specs.Fits.{SetsVariables};
+
+use crate::decision::{Decision, Leaf, due};
+use std::alloc::Global;
+use std::rc::Rc;
+use tp_kernel::{Binding, Env, Expr, FaultKind, Formula};
+use tp_scene::{Cell, Clash};
+use tp_store::Store;
+use tp_value::{NoMemory, Number, Path, Shape, Value};
+
+// The item with that index of one place equals that of the other.
+fn item_equation(
+    alloc: Global,
+    left: &Rc<Expr>,
+    right: &Rc<Expr>,
+    i: u32,
+) -> Result<Rc<Formula>, NoMemory>
+    ensures { IfOk result (λ w.
+        formula_tree w.value
+        ≡ equation (index (expr_tree left.now.value) (numeral (pos i)))
+        (index (expr_tree right.now.value) (numeral (pos i)))) }
+{
+    let number = Rc::new(alloc, Expr::Number(Number::from(i)))?;
+    let left = Rc::new(alloc, Expr::Index(left.clone()?, number.clone()?))?;
+    let right = Rc::new(alloc, Expr::Index(right.clone()?, number))?;
+    let equation = Rc::new(alloc, Formula::Eq(left, right))?;
+    Ok(equation)
+}
+
+// So many items of the places that are bound first and second are equal, from the first item on.
+fn item_equations(alloc: Global, count: u32, env: &Rc<Env>) -> Result<Vec<Leaf>, NoMemory>
+    ensures entries { IfOk result (λ news.
+        (number : ℕ → ℕ)
+        → news_entries news.items number 0
+        ≡ row.all_do (row.item_equations count 0) (bindings_of env.now.value) number 0) }
+    ensures count { IfOk result (λ news.
+        length news.items ≡ row.count_of (row.item_equations count 0)) }
+{
+    let left = Rc::new(alloc, Expr::Bound(0))?;
+    let right = Rc::new(alloc, Expr::Bound(1))?;
+    let mut news = Vec::with_capacity(alloc, count as usize)?;
+    for i in 0..count {
+        let equation = item_equation(alloc, &left, &right, i)?;
+        let leaf = due(equation, env)?;
+        news.push(leaf)?;
+    }
+    Ok(news)
+}
+
+// What the two places are bound to, for all items.
+fn both_places(alloc: Global, left: Path, right: Path) -> Result<Rc<Env>, NoMemory>
+    ensures { IfOk result (λ e. bindings_of e.value ≡ row.both_places left right) }
+{
+    let mut items = Vec::new(alloc);
+    items.push(Binding::Place(left))?;
+    items.push(Binding::Place(right))?;
+    let env = Rc::new(alloc, Env { items })?;
+    Ok(env)
+}
+
+// One of the places has this shape: `to`, which is the other, gets it too, and their items are equal.
+fn share(
+    alloc: Global,
+    to: Path,
+    shape: Shape,
+    left: Path,
+    right: Path,
+) -> Result<Decision, NoMemory>
+    ensures outcome { IfOk result (λ d.
+        (facts : List Fact) (n : row.Numbers)
+        → decided_outcome facts n d
+        ≡ row.shares left right shape n (addition facts (fact to shape ∷ []))) }
+    ensures variables { IfOk result (λ d.
+        (xs : List Variable) → IsVariableOf xs to.var → SetsVariables xs d) }
+{
+    match shape {
+        Shape::Num(n) => Ok(Decision::Sets(to, Value::Num(n))),
+        Shape::Truth(b) => Ok(Decision::Sets(to, Value::Truth(b))),
+        Shape::Items(length) => {
+            let env = both_places(alloc, left, right)?;
+            let news = item_equations(alloc, length, &env)?;
+            Ok(Decision::Shares { to, length, news })
+        }
+    }
+}
+
+/// What becomes of the equation of the places with these paths.
+pub fn equate_places(
+    alloc: Global,
+    left: Path,
+    right: Path,
+    store: &Store,
+) -> Result<Decision, NoMemory>
+    ensures outcome { IfOk result (λ d.
+        (n : row.Numbers)
+        → decided_outcome store.now.facts n d
+        ≡ row.equate_places store.now.facts left right n) }
+    ensures variables { IfOk result (λ d.
+        (xs : List Variable) → IsVariableOf xs left.var → IsVariableOf xs right.var
+        → SetsVariables xs d) }
+{
+    if store.excludes(&right) || store.excludes(&left) {
+        return Ok(Decision::Clashes(Clash::NoValue(FaultKind::NoElement)));
+    }
+    if let Some(shape) = store.shape(&right) {
+        let to = left.copy()?;
+        return share(alloc, to, shape, left, right);
+    }
+    if let Some(shape) = store.shape(&left) {
+        let to = right.copy()?;
+        return share(alloc, to, shape, left, right);
+    }
+    Ok(Decision::Waits(Cell::Part(right), Some(Cell::Part(left))))
+}

@@ -1,0 +1,250 @@
+// The sides of equations: where they are, what they can set, and what is found there.
+ghost use Rattle.std.specs.Prelude.{◌≡◌, IfOk, None, Some, MatchOption, false};
+ghost use Rattle.std.specs.Option.{option_map};
+ghost use Rattle.tp_value.specs.Read.{tree};
+ghost use Rattle.tp_value.specs.declared.path.Path.{Path};
+ghost use Rattle.tp_meaning.specs.Syntax.{size};
+ghost use Rattle.tp_kernel.specs.Read.{expr_tree, definitions_of, bindings_of};
+ghost use Rattle.tp_eval.specs.Answers.{outcome_tree, place_outcome_of};
+ghost use Rattle.tp_eval.specs.Evaluate.{is_place as is_place_tree};
+ghost use Rattle.tp_scene.specs.Step as row;
+ghost use Rattle.tp_decide.specs.Found.{option_target, side_found, PathIn, ArePathsOf, IsNoSize};
+ghost use Rattle.tp_decide.specs.Equated.{outcome_at, located, placed_side};
+ghost use Rattle.tp_decide.specs.Fits.{IsPathOf, IsPlaceOf, IsTargetOf, ExprFitsStore};
+
+use std::alloc::Global;
+use tp_eval::{Outcome, PlaceOutcome, eval, is_place, place};
+use tp_kernel::{Defs, Env, Expr, FaultKind, LimitKind};
+use tp_store::{Known, Store};
+use tp_value::{NoMemory, Path, Value};
+
+/// What a side can set: the value at a path, or the length of the list there.
+#[derive(Drop)]
+pub enum Target {
+    Value(Path),
+    Length(Path),
+}
+
+/// A side of an equation: whether it is a place or the size of one, what it can set, and what is found.
+#[derive(Drop)]
+pub struct Side {
+    pub placed: bool,
+    pub target: Option<Target>,
+    pub found: Outcome,
+}
+
+/// Where an expression is found to be that is a place; nothing of another one. What is there isn't looked at.
+pub fn locate(
+    alloc: Global,
+    expr: &Expr,
+    env: &Env,
+    store: &Store,
+    defs: &Defs,
+) -> Result<Option<PlaceOutcome>, NoMemory>
+    requires fits { ExprFitsStore (definitions_of defs.now) store.now.variables (expr_tree expr.now)
+        (bindings_of env.now) }
+    ensures place { IfOk result (λ o.
+        option_map place_outcome_of o
+        ≡ located (definitions_of defs.now) store.now.facts (bindings_of env.now)
+        (expr_tree expr.now)) }
+    ensures variables { IfOk result (IsPlaceOf store.now.variables) }
+{
+    if !is_place(expr) {
+        return Ok(None);
+    }
+    let found = place(alloc, expr, env, store, defs)?;
+    Ok(Some(found))
+}
+
+/// The paths of two sides that are both at one, or else where the two are, as it was.
+pub fn both_paths(
+    left: Option<PlaceOutcome>,
+    right: Option<PlaceOutcome>,
+) -> Result<(Path, Path), (Option<PlaceOutcome>, Option<PlaceOutcome>)>
+    ensures { ArePathsOf left right result }
+{
+    match (left, right) {
+        (Some(PlaceOutcome::Place(p)), Some(PlaceOutcome::Place(q))) => Ok((p, q)),
+        (left, right) => Err((left, right)),
+    }
+}
+
+// The path of an expression, where it is a place with one.
+fn path_of(
+    alloc: Global,
+    expr: &Expr,
+    env: &Env,
+    store: &Store,
+    defs: &Defs,
+) -> Result<Option<Path>, NoMemory>
+    requires fits { ExprFitsStore (definitions_of defs.now) store.now.variables (expr_tree expr.now)
+        (bindings_of env.now) }
+    ensures outcome { IfOk result (λ o.
+        (f : Path → row.Target)
+        → PathIn o f
+        (row.target_if (definitions_of defs.now) store.now.facts
+        (is_place_tree (expr_tree expr.now)) f (expr_tree expr.now) (bindings_of env.now))) }
+    ensures variables { IfOk result (IsPathOf store.now.variables) }
+{
+    let found = locate(alloc, expr, env, store, defs)?;
+    match found {
+        Some(PlaceOutcome::Place(path)) => Ok(Some(path)),
+        Some(PlaceOutcome::Other(_)) => Ok(None),
+        None => Ok(None),
+    }
+}
+
+// What a size is taken of.
+fn measured(expr: &Expr) -> Option<&Expr>
+    ensures { MatchOption result (IsNoSize (expr_tree expr.now)) (λ inner.
+        expr_tree expr.now ≡ size (expr_tree inner.now)) }
+{
+    match expr {
+        Expr::Size(inner) => Some(inner),
+        _ => None,
+    }
+}
+
+// The length that a side can set which is no place.
+fn find_length(
+    alloc: Global,
+    expr: &Expr,
+    env: &Env,
+    store: &Store,
+    defs: &Defs,
+) -> Result<Option<Target>, NoMemory>
+    requires fits { ExprFitsStore (definitions_of defs.now) store.now.variables (expr_tree expr.now)
+        (bindings_of env.now) }
+    requires no_place { is_place_tree (expr_tree expr.now) ≡ false }
+    ensures outcome { IfOk result (λ o.
+        option_target o
+        ≡ row.target_of (definitions_of defs.now) store.now.facts (expr_tree expr.now)
+        (bindings_of env.now)) }
+    ensures variables { IfOk result (IsTargetOf store.now.variables) }
+{
+    match measured(expr) {
+        Some(inner) => {
+            let path = path_of(alloc, inner, env, store, defs)?;
+            match path {
+                Some(path) => Ok(Some(Target::Length(path))),
+                None => Ok(None),
+            }
+        }
+        None => Ok(None),
+    }
+}
+
+// Whether the expression is a place or the size of one.
+fn is_placed(expr: &Expr) -> bool
+    ensures { result ≡ row.is_placed (expr_tree expr.now) }
+{
+    match expr {
+        Expr::Size(inner) => is_place(inner),
+        _ => is_place(expr),
+    }
+}
+
+// What is found at a path.
+fn found_at(path: &Path, store: &Store) -> Result<Outcome, NoMemory>
+    ensures { IfOk result (λ o. outcome_tree o ≡ outcome_at store.now.facts path.now) }
+{
+    match store.full(path)? {
+        Known::Absent => Ok(Outcome::Fault(FaultKind::NoElement)),
+        Known::Open(path) => Ok(Outcome::Wait(path)),
+        Known::TooLong => Ok(Outcome::Over(LimitKind::List)),
+        Known::Value(value) => Ok(Outcome::Value(value)),
+    }
+}
+
+// A side that is a place, which was found to be this.
+fn placed_side(place: PlaceOutcome, store: &Store) -> Result<Side, NoMemory>
+    ensures outcome { IfOk result (λ s.
+        side_found s ≡ placed_side store.now.facts (place_outcome_of place)) }
+    ensures variables { IfOk result (λ s.
+        IsPlaceOf store.now.variables (Some place) → IsTargetOf store.now.variables s.target) }
+{
+    match place {
+        PlaceOutcome::Place(path) => {
+            let found = found_at(&path, store)?;
+            Ok(Side {
+                placed: true,
+                target: Some(Target::Value(path)),
+                found,
+            })
+        }
+        PlaceOutcome::Other(found) => Ok(Side {
+            placed: true,
+            target: None,
+            found,
+        }),
+    }
+}
+
+// A side that is no place.
+fn evaluated_side(
+    alloc: Global,
+    expr: &Expr,
+    env: &Env,
+    store: &Store,
+    defs: &Defs,
+) -> Result<Side, NoMemory>
+    requires fits { ExprFitsStore (definitions_of defs.now) store.now.variables (expr_tree expr.now)
+        (bindings_of env.now) }
+    requires no_place { is_place_tree (expr_tree expr.now) ≡ false }
+    ensures outcome { IfOk result (λ s.
+        side_found s
+        ≡ row.side_of (definitions_of defs.now) store.now.facts (expr_tree expr.now)
+        (bindings_of env.now)) }
+    ensures variables { IfOk result (λ s. IsTargetOf store.now.variables s.target) }
+{
+    let target = find_length(alloc, expr, env, store, defs)?;
+    let found = eval(alloc, expr, env, store, defs)?;
+    Ok(Side {
+        placed: is_placed(expr),
+        target,
+        found,
+    })
+}
+
+/// The side that the expression is, which was located before. A place isn't evaluated again for what is found there.
+pub fn side_of(
+    alloc: Global,
+    expr: &Expr,
+    place: Option<PlaceOutcome>,
+    env: &Env,
+    store: &Store,
+    defs: &Defs,
+) -> Result<Side, NoMemory>
+    requires fits { ExprFitsStore (definitions_of defs.now) store.now.variables (expr_tree expr.now)
+        (bindings_of env.now) }
+    requires place { option_map place_outcome_of place
+        ≡ located (definitions_of defs.now) store.now.facts (bindings_of env.now)
+        (expr_tree expr.now) }
+    requires variables { IsPlaceOf store.now.variables place }
+    ensures outcome { IfOk result (λ s.
+        side_found s
+        ≡ row.side_of (definitions_of defs.now) store.now.facts (expr_tree expr.now)
+        (bindings_of env.now)) }
+    ensures variables { IfOk result (λ s. IsTargetOf store.now.variables s.target) }
+{
+    match place {
+        Some(place) => {
+            let side = placed_side(place, store)?;
+            Ok(side)
+        }
+        None => evaluated_side(alloc, expr, env, store, defs),
+    }
+}
+
+/// A side that has this value, which was found before.
+pub fn side_with(alloc: Global, value: &Value) -> Result<Side, NoMemory>
+    ensures outcome { IfOk result (λ s. side_found s ≡ row.side_with (tree value.now)) }
+    ensures variables { IfOk result (λ s. s.target ≡ None) }
+{
+    let value = value.copy(alloc)?;
+    Ok(Side {
+        placed: false,
+        target: None,
+        found: Outcome::Value(value),
+    })
+}
