@@ -19,7 +19,7 @@ use Rattle.tp_slots.specs.declared.scene.Region.{Region}
 use Rattle.tp_slots.specs.declared.scene.Scene.{Scene}
 use Rattle.tp_slots.specs.declared.scene.Slot.{Slot}
 use Rattle.tp_slots.specs.declared.scene.What.TheVariants.{Do, Gone}
-use Rattle.tp_slots.proofs.Changing.{lives_within}
+use Rattle.tp_slots.proofs.Changing.{lives_within, same_slots}
 use Rattle.tp_slots.proofs.Lists.{after_is, gone_is, home_is}
 use Rattle.tp_slots.proofs.Unmarked.{one_stepped, unmarked_leaves_kept, unmarked_leaves_news, unmarked_leaves_scene}
 
@@ -29,9 +29,7 @@ read_in s t l = ap (λ (x : plain.Slot). x.what) (sym (get_or-map slot_of s.slot
 
 -- the same, where nothing was changed
 pub same_what : (s s' : Scene) (t : ℕ) → IsUnchanged s s' → item_what s' t ≡ item_what s t
-same_what s s' t same =
-    let es : slots_of s' ≡ slots_of s = λ i. record { slots = map slot_of (same.slots i); regions = map region_slot_of (same.regions i) } in
-    ap (λ (x : plain.Slots). (plain.slot_at x t).what) es
+same_what s s' t same = ap (λ (x : plain.Slots). (plain.slot_at x t).what) (same_slots s s' same)
 
 -- a formula that is due is an item without a region
 pub due_is_bare : (env : S.Bindings) (x : plain.What) → IsDueUnder env x → IsBare x

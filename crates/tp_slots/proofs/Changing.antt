@@ -44,9 +44,12 @@ pub threads_moved : (s s' : Scene) → slots_of s' ≡ slots_of s → afters_of 
 threads_moved s s' es ea x = subst (λ y. AreThreaded y (afters_of s')) (sym es) (subst (AreThreaded (slots_of s)) (sym ea) x)
 
 -- nothing was changed
+pub same_slots : (s s' : Scene) → IsUnchanged s s' → slots_of s' ≡ slots_of s
+same_slots s s' same = λ i. record { slots = map slot_of (same.slots i); regions = map region_slot_of (same.regions i) }
+
 pub unchanged_kept : (s s' : Scene) → IsWellKept s → IsUnchanged s s' → s'.looks ≡ s.looks → IsWellKept s'
 unchanged_kept s s' kept same el =
-    let es : slots_of s' ≡ slots_of s = λ i. record { slots = map slot_of (same.slots i); regions = map region_slot_of (same.regions i) } in
+    let es = same_slots s s' same in
     let eh : holders_of s' ≡ holders_of s = ap (map (λ (x : Region). x.holder)) same.regions in
     let ee : ends_of s' ≡ ends_of s = ap (map (λ (x : Region). x.ends_now)) same.regions in
     let eg : goes_of s' ≡ goes_of s = ap (map (λ (x : Region). x.goes_now)) same.regions in

@@ -19,6 +19,7 @@ pub mod Instances
 pub mod Lists
 pub mod Seeing
 pub mod Changing
+pub mod Preparing
 pub mod Moving
 pub mod Picking
 pub mod Walking

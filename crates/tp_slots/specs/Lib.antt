@@ -8,6 +8,7 @@ pub mod Looks
 pub mod Kept
 pub mod Picked
 pub mod Row
+pub mod Prepared
 pub mod Status
 pub mod Laws
 pub mod Settled

@@ -1,26 +1,19 @@
-// Putting new items in place of one: items without regions, and any.
-ghost use Rattle.std.specs.Prelude.{◌≡◌, ◌≤◌, ◌<◌, ◌+◌, ◌++◌, ◌^◌, false, slice_set, map, length, IfOk, OnOk, OnErr, vec_len, vec_capacity, true};
+// Putting new items in place of one.
+ghost use Rattle.std.specs.Prelude.{◌≡◌, ◌≤◌, ◌<◌, ◌+◌, ◌++◌, ◌^◌, false, slice_set, map, length, IfOk, OnOk, OnErr, vec_len, vec_capacity};
 ghost use Rattle.std.specs.Option.{option_map};
 ghost use Rattle.std.specs.List.{range_with_len};
-ghost use Rattle.tp_decide.specs.Decided.{mark_of, plain_leaf};
-ghost use Rattle.tp_slots.specs.Plain as plain;
+ghost use Rattle.tp_decide.specs.Decided.{mark_of};
+ghost use Rattle.tp_slots.specs.Kept.{IsUnchanged, unset};
+ghost use Rattle.tp_slots.specs.Prepared.{IsPrepared};
+ghost use Rattle.tp_slots.specs.Read.{afters_of, ends_of, goes_of, holders_of, slots_of, what_of, region_slots, region_holders, region_ends, region_goes, all_slots, slot_afters, whats_of, slot_whats};
+ghost use Rattle.tp_slots.specs.Reductions.{AreBare};
 ghost use Rattle.tp_slots.specs.Replace.{home_in, gone_at, marked_at, replaced};
 ghost use Rattle.tp_slots.specs.Row.{AreBelow, AllBelow, begun, hold, hold_all, slots_in, stepped, held_after};
-ghost use Rattle.tp_slots.specs.Reductions.{AreBare, IsBare, becomes_leaves};
-ghost use Rattle.tp_slots.specs.Read.{afters_of, ends_of, goes_of, holders_of, slots_of, what_of, region_slots, region_holders, region_ends, region_goes, all_slots, slot_afters, whats_of, slot_whats, scene_of, item_what};
-ghost use Rattle.tp_slots.specs.Threads.{afters_then, links, nothing_after, AreThreaded};
-ghost use Rattle.tp_slots.specs.Kept.{IsUnchanged, unset, IsShaped, IsQuiet, IsWellKept, Lives, region_lives, IsReducedTo, flags_on};
-ghost use Rattle.tp_scene.specs.Scene as S;
-ghost use Rattle.tp_scene.specs.Scene.{has};
-ghost use Rattle.tp_slots.specs.News.{bare_leaves, new_items};
-ghost use Rattle.tp_slots.specs.Flags.{FlagsFollow};
-ghost use Rattle.tp_slots.specs.Looks.{LooksFollow};
+ghost use Rattle.tp_slots.specs.Threads.{afters_then, links, nothing_after};
 
-use crate::flags::raise;
-use crate::looks::pass_mark;
 use crate::scene::{Region, Scene, Slot, What};
 use std::alloc::Global;
-use tp_decide::{Leaf, Side};
+use tp_decide::Side;
 use tp_value::NoMemory;
 
 /// So many numbers, from the first on.
@@ -250,6 +243,41 @@ pub fn commit(scene: &mut Scene, item: u64, side: Option<Side>, news: News)
     push_slots(&mut scene.slots, news.slots);
 }
 
+/// Makes what is to be put in an item's place: the items `outs` there, and the items `inner` in a new region, if there are any. Then there
+/// is room for it. The scene stays what it is.
+pub fn prepare(
+    alloc: Global,
+    scene: &mut Scene,
+    item: u64,
+    inner: Vec<What>,
+    outs: Vec<What>,
+) -> Result<News, NoMemory>
+    requires { item < length scene.old.slots.items }
+    ensures prepared { IfOk result
+        (IsPrepared item (whats_of inner.items) (whats_of outs.items) scene.new) }
+    ensures same { IsUnchanged scene.old scene.new }
+    ensures looks { scene.new.looks ≡ scene.old.looks }
+{
+    let first = scene.slots.len() as u64;
+    let begun = inner.len();
+    let from = first + begun as u64;
+    let count = outs.len() as u64;
+    let home = scene.slots[item as usize].home;
+    let end = scene.slots[item as usize].after;
+    let regions = begin(alloc, first, begun)?;
+    let mut slots = Vec::new(alloc);
+    push_in(&mut slots, scene.regions.len() as u64, inner)?;
+    push_linked(&mut slots, home, from, end, outs)?;
+    scene.slots.reserve(slots.len())?;
+    scene.regions.reserve(regions.len())?;
+    Ok(News {
+        from,
+        count,
+        slots,
+        regions,
+    })
+}
+
 /// The items `outs` stand in place of an item, whose region is marked, and the items `inner` in a new region, if there are any. Or nothing
 /// changes.
 pub fn put(
@@ -284,98 +312,7 @@ pub fn put(
     ensures looks { scene.new.looks ≡ scene.old.looks }
     ensures err { OnErr result (IsUnchanged scene.old scene.new) }
 {
-    let first = scene.slots.len() as u64;
-    let begun = inner.len();
-    let from = first + begun as u64;
-    let count = outs.len() as u64;
-    let home = scene.slots[item as usize].home;
-    let end = scene.slots[item as usize].after;
-    let regions = begin(alloc, first, begun)?;
-    let mut slots = Vec::new(alloc);
-    push_in(&mut slots, scene.regions.len() as u64, inner)?;
-    push_linked(&mut slots, home, from, end, outs)?;
-    scene.slots.reserve(slots.len())?;
-    scene.regions.reserve(regions.len())?;
-    let news = News {
-        from,
-        count,
-        slots,
-        regions,
-    };
+    let news = prepare(alloc, scene, item, inner, outs)?;
     commit(scene, item, side, news);
     Ok(())
-}
-
-// After a step that marked the region so, the flags are set that follow from the mark.
-fn raise_mark(scene: &mut Scene, region: u64, mark: Option<Side>)
-    requires shape { IsShaped (slots_of scene.old) (holders_of scene.old) }
-    requires region { region < length scene.old.regions.items }
-    requires lives { region_lives scene.old region ≡ true }
-    requires flags { (z : S.Side)
-        → FlagsFollow (slots_of scene.old) (option_map mark_of mark) region z
-        (flags_on z scene.old) }
-    requires quiet { (z : S.Side)
-        → IsQuiet (slots_of scene.old) (holders_of scene.old) (flags_on z scene.old) }
-    requires threads { AreThreaded (slots_of scene.old) (afters_of scene.old) }
-    requires looks { LooksFollow (slots_of scene.old) (option_map mark_of mark)
-        (holders_of scene.old) scene.old.looks }
-    ensures slots { slots_of scene.new ≡ slots_of scene.old }
-    ensures kept { IsWellKept scene.new }
-{
-    match mark {
-        Some(side) => {
-            raise(scene, region, side);
-            pass_mark(&mut scene.looks, side);
-        }
-        None => {}
-    }
-}
-
-/// A leaf, as it stands in a slot.
-pub fn leaf_what(leaf: Leaf) -> What
-    ensures { what_of result ≡ plain.bare (plain_leaf leaf) }
-{
-    match leaf {
-        Leaf::Do(phrase) => What::Do(phrase),
-        Leaf::Later(phrase) => What::Later(phrase),
-        Leaf::Shown(values) => What::Shown(values),
-    }
-}
-
-// Leaves, as they stand in slots.
-fn leaf_whats(alloc: Global, leaves: Vec<Leaf>) -> Result<Vec<What>, NoMemory>
-    ensures { IfOk result (λ v. whats_of v.items ≡ bare_leaves leaves.items) }
-{
-    let mut whats = Vec::new(alloc);
-    for leaf in leaves {
-        whats.push(leaf_what(leaf))?;
-    }
-    Ok(whats)
-}
-
-/// Items that hold no region stand in an item's place, and its region is marked. What became live is answered. Or nothing changes.
-pub fn become_leaves(
-    alloc: Global,
-    scene: &mut Scene,
-    item: u64,
-    news: Vec<Leaf>,
-    mark: Option<Side>,
-) -> Result<Vec<u64>, NoMemory>
-    requires kept { IsWellKept scene.old }
-    requires lives { Lives scene.old item }
-    requires free { IsBare (item_what scene.old item) }
-    ensures kept { IsWellKept scene.new }
-    ensures scene { let reduction =
-        becomes_leaves (scene_of scene.old) (bare_leaves news.items) (option_map mark_of mark)
-        in OnOk result (IsReducedTo item reduction scene.old scene.new) }
-    ensures news { IfOk result (λ v.
-        v.items ≡ new_items (scene_of scene.old) (scene_of scene.new)) }
-    ensures err { OnErr result (IsUnchanged scene.old scene.new) }
-{
-    let fresh = numbers(alloc, scene.slots.len() as u64, news.len())?;
-    let outs = leaf_whats(alloc, news)?;
-    let home = scene.slots[item as usize].home;
-    put(alloc, scene, item, mark, Vec::new(alloc), outs)?;
-    raise_mark(scene, home, mark);
-    Ok(fresh)
 }

@@ -5,7 +5,8 @@ ghost use Rattle.tp_slots.specs.News.{new_items};
 ghost use Rattle.tp_slots.specs.Read.{item_what, scene_of};
 ghost use Rattle.tp_slots.specs.Reductions.{IsBare, becomes_leaves};
 
-use crate::put::{News, commit};
+use crate::leaves::place_leaves;
+use crate::put::News;
 use crate::scene::Scene;
 use std::alloc::Global;
 use tp_value::NoMemory;
@@ -26,7 +27,7 @@ pub fn vanish(alloc: Global, scene: &mut Scene, item: u64)
         slots: Vec::new(alloc),
         regions: Vec::new(alloc),
     };
-    commit(scene, item, None, news);
+    place_leaves(scene, item, None, news);
 }
 
 /// Makes room for one item more, or fails; the scene stays what it is.

@@ -1,19 +1,24 @@
 -- Only `exists` gives a local, and it binds it last.
-use Rattle.std.proofs.Common.{◌≡◌, ℤ, pos, negsuc, int_le, ℕ, zero, suc, nat_lt, Bool, true, false, ◌&&◌, not, List, [], ◌∷◌, ◌++◌, slice_get, Option, Some, None, refl, ap, if◌then◌else◌}
+use Rattle.std.proofs.Common.{◌≡◌, ℤ, pos, negsuc, int_le, ℕ, zero, suc, nat_lt, Bool, true, false, ◌&&◌, ◌||◌, not, List, [], ◌∷◌, ◌++◌, slice_get, Option, Some, None, refl, ap, if◌then◌else◌}
 use Rattle.std.proofs.lemmas.List.{same_from_push}
 use Rattle.tp_value.specs.Tree.{Tree, num, truth, list, same_tree}
 use Rattle.tp_value.specs.Limits.{length_limit}
+use Rattle.tp_value.specs.declared.path.Path.{Path}
 use Rattle.tp_value.specs.declared.path.Fact.{Fact}
+use Rattle.tp_value.specs.declared.value.Shape.{Shape}
 use Rattle.tp_value.specs.declared.value.Shape.TheVariants.{Items}
+use Rattle.tp_kernel.specs.declared.fault.FaultKind.TheVariants.{NoElement}
+use Rattle.tp_kernel.specs.declared.fault.LimitKind.{LimitKind}
 use Rattle.tp_meaning.specs.Syntax.{ExprTree, ExprTrees, no_expr, expr_then, FormulaTree, trivial, test, equation, next_equation, empty, more, next, weak_next, if_more, if_empty, always, conjunction, branch, len, assign, chop, while, for_from, forall_from, project, exists, call, input, display, Definition, BindingTree, place_binding, known_binding}
 use Rattle.tp_meaning.specs.Value.{is_upper}
 use Rattle.tp_meaning.specs.Inputs.{InputTable, input_at}
-use Rattle.tp_store.specs.Facts.{fact, facts_at}
+use Rattle.tp_store.specs.Facts.{fact, facts_at, kept_shape, is_excluded}
 use Rattle.tp_store.specs.Known.{Addition, adds, refuses, addition, Variable}
 use Rattle.tp_eval.specs.Outcome as found
 use Rattle.tp_eval.specs.Outcome.{PlaceOutcome, outcome, place_outcome}
+use Rattle.tp_scene.specs.declared.answer.Clash.TheVariants.{NoValue}
 use Rattle.tp_scene.specs.Scene.{Bindings, Side, Ending, Going, Do, Later, Shown, Entries, none, leaf, node, Place}
-use Rattle.tp_scene.specs.Step.{region_limit, PickOutcome, reduces, waits, rests, clashes, misses, passes, Numbers, marking, with_region, by_status, with_value, with_truth, with_number, Target, value_at, length_at, set, added, SideOf, meets, equate, side_of, side_with, with_values, with_place, with_argument, with_arguments, called, length_left, from_port, formula_step}
+use Rattle.tp_scene.specs.Step.{region_limit, PickOutcome, reduces, waits, rests, clashes, misses, passes, Numbers, marking, with_region, by_status, with_value, with_truth, with_number, Target, value_at, length_at, set, added, shares, by_shapes, equate_places, passes_or_waits, SideOf, meets, equate_values, equate, side_of, with_values, with_place, with_argument, with_arguments, called, length_left, from_port, formula_step}
 use Rattle.tp_decide.specs.declared.decision.Decision.{Decision}
 use Rattle.tp_decide.specs.declared.decision.Decision.TheVariants as decision
 use Rattle.tp_decide.specs.Decided.{decided_outcome}
@@ -102,8 +107,13 @@ module _ (env : Bindings) where
     by_meeting placed None (found.fault k) v = tt
     by_meeting placed None (found.over k) v = tt
 
+    by_passing : (t : Option Target) (p : Path) (k : LimitKind) → BindsLast (passes_or_waits facts t p k)
+    by_passing (Some (value_at q)) p k = tt
+    by_passing (Some (length_at q)) p k = tt
+    by_passing None p k = tt
+
     by_equation : (lp : Bool) (lt : Option Target) (lo : found.Outcome) (rp : Bool) (rt : Option Target) (ro : found.Outcome)
-        → BindsLast (equate facts (record { placed = lp; target = lt; found = lo }) (record { placed = rp; target = rt; found = ro }))
+        → BindsLast (equate_values facts (record { placed = lp; target = lt; found = lo }) (record { placed = rp; target = rt; found = ro }))
     by_equation lp lt (found.value u) rp rt (found.value v) = by_meeting lp lt (found.value u) v
     by_equation lp lt (found.wait p) rp rt (found.value v) = by_meeting lp lt (found.wait p) v
     by_equation lp lt (found.value v) rp rt (found.wait q) = by_meeting rp rt (found.wait q) v
@@ -111,22 +121,42 @@ module _ (env : Bindings) where
     by_equation lp lt (found.value u) rp rt (found.fault k) = tt
     by_equation lp lt (found.value u) rp rt (found.over k) = tt
     by_equation lp lt (found.wait p) rp rt (found.fault k) = tt
-    by_equation lp lt (found.wait p) rp rt (found.over k) = tt
+    by_equation lp lt (found.wait p) rp rt (found.over k) = by_passing rt p k
     by_equation lp lt (found.fault j) rp rt (found.value v) = tt
     by_equation lp lt (found.fault j) rp rt (found.wait q) = tt
     by_equation lp lt (found.fault j) rp rt (found.fault k) = tt
     by_equation lp lt (found.fault j) rp rt (found.over k) = tt
     by_equation lp lt (found.over j) rp rt (found.value v) = tt
-    by_equation lp lt (found.over j) rp rt (found.wait q) = tt
+    by_equation lp lt (found.over j) rp rt (found.wait q) = by_passing lt q j
     by_equation lp lt (found.over j) rp rt (found.fault k) = tt
     by_equation lp lt (found.over j) rp rt (found.over k) = tt
 
-    by_sides : (l r : SideOf) → BindsLast (equate facts l r)
-    by_sides l r = by_equation l.placed l.target l.found r.placed r.target r.found
+    by_sharing : (p q : Path) (sh : Shape) (n : Numbers) (o : Addition) → BindsLast (shares p q sh n o)
+    by_sharing p q sh n (adds news) = tt
+    by_sharing p q sh n (refuses kept new) = tt
+
+    by_both_shapes : (p q : Path) (n : Numbers) (of_right of_left : Option Shape) → BindsLast (by_shapes facts p q n of_right of_left)
+    by_both_shapes p q n (Some sh) o = by_sharing p q sh n (addition facts (fact p sh ∷ []))
+    by_both_shapes p q n None (Some sh) = by_sharing p q sh n (addition facts (fact q sh ∷ []))
+    by_both_shapes p q n None None = tt
+
+    by_places : (p q : Path) (n : Numbers) → BindsLast (equate_places facts p q n)
+    by_places p q n = if_both (is_excluded facts q || is_excluded facts p) (clashes (NoValue NoElement)) _ tt (by_both_shapes p q n (kept_shape facts q) (kept_shape facts p))
+
+    by_targets : (lp : Bool) (lt : Option Target) (lo : found.Outcome) (rp : Bool) (rt : Option Target) (ro : found.Outcome) (n : Numbers)
+        → BindsLast (equate facts (record { placed = lp; target = lt; found = lo }) (record { placed = rp; target = rt; found = ro }) n)
+    by_targets lp (Some (value_at p)) lo rp (Some (value_at q)) ro n = by_places p q n
+    by_targets lp (Some (value_at p)) lo rp (Some (length_at q)) ro n = by_equation lp (Some (value_at p)) lo rp (Some (length_at q)) ro
+    by_targets lp (Some (value_at p)) lo rp None ro n = by_equation lp (Some (value_at p)) lo rp None ro
+    by_targets lp (Some (length_at p)) lo rp rt ro n = by_equation lp (Some (length_at p)) lo rp rt ro
+    by_targets lp None lo rp rt ro n = by_equation lp None lo rp rt ro
+
+    by_sides : (l r : SideOf) (n : Numbers) → BindsLast (equate facts l r n)
+    by_sides l r n = by_targets l.placed l.target l.found r.placed r.target r.found n
 
     by_port : (o : Option Tree) (port : List ℕ) (side : SideOf) → BindsLast (from_port facts o port side)
     by_port None port side = tt
-    by_port (Some v) port side = by_sides side (side_with v)
+    by_port (Some v) port side = by_equation side.placed side.target side.found false None (found.value v)
 
   by_length : (k : ℤ) (n : Numbers) → BindsLast (length_left k env n)
   by_length (pos zero) n = tt
@@ -155,7 +185,7 @@ module _ (env : Bindings) where
     pub binds_last : (inputs : InputTable) (state : ℕ) (f : FormulaTree) (p : Place) (n : Numbers) → BindsLast (formula_step defs inputs state facts f env p n)
     binds_last inputs state trivial p n = tt
     binds_last inputs state (test e) p n = by_truth (outcome facts defs e env) _ (λ b. if_both b _ _ tt tt)
-    binds_last inputs state (equation l r) p n = by_sides facts (side_of defs facts l env) (side_of defs facts r env)
+    binds_last inputs state (equation l r) p n = by_sides facts (side_of defs facts l env) (side_of defs facts r env) n
     binds_last inputs state (next_equation k t e) p n = by_value (outcome facts defs e env) _ (λ v. by_mark Going (p.is Ending) p.depth _ 1)
     binds_last inputs state empty p n = by_mark Ending (p.is Going) p.depth none 0
     binds_last inputs state more p n = by_mark Going (p.is Ending) p.depth none 0
@@ -187,6 +217,7 @@ module _ (env : Bindings) where
   binds_there f facts n (decision.Opens outer piece) h = tt
   binds_there f facts n (decision.Sets p v) h = tt
   binds_there f facts n (decision.Measures p k) h = tt
+  binds_there f facts n (decision.Shares to k news) h = tt
   binds_there f facts n (decision.Waits first other) h = tt
   binds_there f facts n decision.Rests h = tt
   binds_there f facts n (decision.Clashes c) h = tt

@@ -1,5 +1,5 @@
 -- What carrying a decision out answers.
-use Rattle.std.proofs.Common.{◌≡◌, ℕ, suc, ◌+◌, ◌<◌, List, [], ◌∷◌, map, arith, refl, ap, ap₂, sym, ◌∙◌, subst, inr, Option, Some, None}
+use Rattle.std.proofs.Common.{◌≡◌, ℕ, suc, ◌+◌, ◌<◌, List, [], ◌∷◌, arith, refl, ap, ap₂, sym, ◌∙◌, subst, inr, Option, Some, None}
 use Rattle.std.proofs.lemmas.List.{append-nil}
 use Rattle.std.specs.Prelude.{Result, Ok, Err, IfOk, IfErr, OnOk}
 use Rattle.std.specs.Option.{option_map}
@@ -12,19 +12,16 @@ use Rattle.tp_store.specs.Answers.{IsRefusal, Adds}
 use Rattle.tp_store.specs.declared.add.AddRefusal.{AddRefusal}
 use Rattle.tp_store.specs.declared.add.AddRefusal.TheVariants as refusal
 use Rattle.tp_scene.specs.Scene as S
-use Rattle.tp_scene.specs.Scene.{has}
 use Rattle.tp_scene.specs.Pick.{Moment, scene_after, HasAdded}
 use Rattle.tp_scene.specs.Step.{Reduction, PickOutcome, added, reduces}
 use Rattle.tp_decide.specs.declared.decision.Leaf.{Leaf}
-use Rattle.tp_decide.specs.Decided.{plain_leaf, news_entries}
+use Rattle.tp_decide.specs.Decided.{adding_items, plain_leaf, news_entries}
 use Rattle.tp_slots.specs.declared.scene.Scene.{Scene}
-use Rattle.tp_slots.specs.declared.scene.Slot.{Slot}
-use Rattle.tp_slots.specs.declared.scene.Region.{Region}
 use Rattle.tp_slots.specs.Edit.{stands_in}
-use Rattle.tp_slots.specs.Kept.{IsWellKept, Lives, IsUnchanged}
+use Rattle.tp_slots.specs.Kept.{IsWellKept, Lives}
 use Rattle.tp_slots.specs.News.{bare_leaves}
-use Rattle.tp_slots.specs.Plain.{Slots, entries_at, scene_in}
-use Rattle.tp_slots.specs.Read.{item_home, scene_of, slots_of, slot_of, region_slot_of}
+use Rattle.tp_slots.specs.Plain.{entries_at}
+use Rattle.tp_slots.specs.Read.{item_home, scene_of, slots_of}
 use Rattle.tp_slots.specs.Reductions.{leaves_from}
 use Rattle.tp_slots.proofs.Showing.{all_shown, has_shown}
 use Rattle.tp_step.specs.declared.answer.News.{News}
@@ -63,18 +60,23 @@ pub mark_there : {A B : Type 0} {a b : ℕ} (f : A → B) (m : Option A) → a �
 mark_there f None e = refl
 mark_there f (Some x) e = ap Some e
 
--- what the store says of facts
-adds_reduces : (o : Addition) → Adds o → (r : Reduction) × (added o ≡ reduces r)
-adds_reduces (adds news) h = (_, refl)
-adds_reduces (refuses kept new) h = absurd h
+-- what the store says of facts, with which items come
+adds_reduces : (news : S.Entries) (items : ℕ) (o : Addition) → Adds o → (r : Reduction) × (adding_items news items o ≡ reduces r)
+adds_reduces news items (adds facts) h = (_, refl)
+adds_reduces news items (refuses kept new) h = absurd h
 
-pub full_addition : (o : Addition) (room : ℕ) (m : Moment) (t : ℕ) → room ≡ 0 → Adds o → Carries (added o) room m t m (tried.Over Reductions)
-full_addition o room m t none h = let r = adds_reduces o h in full (added o) room m t r.0 none r.1
+pub full_addition : (news : S.Entries) (items : ℕ) (o : Addition) (room : ℕ) (m : Moment) (t : ℕ) → room ≡ 0 → Adds o → Carries (adding_items news items o) room m t m (tried.Over Reductions)
+full_addition news items o room m t none h = let r = adds_reduces news items o h in full (adding_items news items o) room m t r.0 none r.1
 
-pub refused_addition : (o : Addition) (f : AddRefusal) (room : ℕ) (m next : Moment) (t : ℕ) (r : Result Tried NoMemory) → next ≡ m → IsRefusal o f → IfOk r (IsClash f) → IfOk r (Carries (added o) room m t next)
-refused_addition o (refusal.Clash kept new) room m next t (Ok a) e h g = subst (Carries (added o) room m t next) (sym g) (λ w i. (e, i ∙ ap added h))
-refused_addition o refusal.NoMemory room m next t (Ok a) e h g = absurd g
-refused_addition o f room m next t (Err x) e h g = tt
+pub refused_addition : (news : S.Entries) (items : ℕ) (o : Addition) (f : AddRefusal) (room : ℕ) (m next : Moment) (t : ℕ) (r : Result Tried NoMemory) → next ≡ m → IsRefusal o f → IfOk r (IsClash f) → IfOk r (Carries (adding_items news items o) room m t next)
+refused_addition news items o (refusal.Clash kept new) room m next t (Ok a) e h g = subst (Carries (adding_items news items o) room m t next) (sym g) (λ w i. (e, i ∙ ap (adding_items news items) h))
+refused_addition news items o refusal.NoMemory room m next t (Ok a) e h g = absurd g
+refused_addition news items o f room m next t (Err x) e h g = tt
+
+-- facts with no item
+pub added_alone : (o : Addition) → adding_items S.none 0 o ≡ added o
+added_alone (adds facts) = refl
+added_alone (refuses kept new) = refl
 
 pub allowed : (o : Addition) (r : Result (Unit {0}) AddRefusal) → OnOk r (Adds o) → IfErr r (IsRefusal o) → AllowsAddition o r
 allowed o (Ok u) h g = h
@@ -83,10 +85,3 @@ allowed o (Err f) h g = g
 pub added_facts : (o : Addition) (facts : List Fact) (room : ℕ) (old new : Scene) (k j : Contents) (t : ℕ) (a : Tried) → 0 < room → o ≡ adds facts → HasAdded k facts None j → CarriesFacts facts old new t a
     → Carries (added o) room (moment_of old k) t (moment_of new j) a
 added_facts o facts room old new k j t a more is store carries = subst (λ x. Carries (added x) room (moment_of old k) t (moment_of new j) a) (sym is) (carries room k j more store)
-
--- where nothing changed
-pub same_slots : (old new : Scene) → IsUnchanged old new → slots_of new ≡ slots_of old
-same_slots old new u = ap₂ (λ (xs : List Slot) (ys : List Region). let s : Slots = record { slots = map slot_of xs; regions = map region_slot_of ys } in s) u.slots u.regions
-
-pub same_scene : (old new : Scene) → IsUnchanged old new → scene_of new ≡ scene_of old
-same_scene old new u = ap scene_in (same_slots old new u)

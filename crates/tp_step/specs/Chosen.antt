@@ -65,6 +65,7 @@ BindsThere x (decision.Opens outer piece) = Unit {0}
 BindsThere x (decision.Binds name lasting body) = IsDueUnder (env_of body) x
 BindsThere x (decision.Sets p v) = Unit {0}
 BindsThere x (decision.Measures p k) = Unit {0}
+BindsThere x (decision.Shares to k news) = Unit {0}
 BindsThere x (decision.Waits first other) = Unit {0}
 BindsThere x decision.Rests = Unit {0}
 BindsThere x (decision.Clashes c) = Unit {0}

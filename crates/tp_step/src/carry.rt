@@ -3,8 +3,8 @@ ghost use Rattle.std.specs.Prelude.{◌≡◌, ℕ, [], IfOk, OnErr};
 ghost use Rattle.std.specs.Option.{option_map};
 ghost use Rattle.tp_store.specs.Known.{Addition, NoClash, IsVariableOf};
 ghost use Rattle.tp_scene.specs.Pick.{Moment};
-ghost use Rattle.tp_scene.specs.Step.{added};
-ghost use Rattle.tp_decide.specs.Decided.{decided_outcome};
+ghost use Rattle.tp_scene.specs.Scene.{Entries};
+ghost use Rattle.tp_decide.specs.Decided.{adding_items, decided_outcome};
 ghost use Rattle.tp_decide.specs.Fits.{SetsVariables};
 ghost use Rattle.tp_decide.specs.Read.{env_of};
 ghost use Rattle.tp_slots.specs.Bound.{IsDueUnder};
@@ -20,7 +20,10 @@ use std::alloc::Global;
 use tp_decide::{Decision, HolderDecision, Leaf, Phrase, Side};
 use tp_kernel::LimitKind;
 use tp_scene::Clash;
-use tp_slots::{Scene, become_bound, become_leaves, become_opened, become_split, move_on, vanish};
+use tp_slots::{
+    Scene, become_bound, become_leaves, become_opened, become_sharing, become_split, move_on,
+    vanish,
+};
 use tp_store::{AddRefusal, Store};
 use tp_value::{Facts, NoMemory, Path, Text, Value};
 
@@ -168,10 +171,10 @@ fn refused(refusal: AddRefusal) -> Result<Tried, NoMemory>
     }
 }
 
-// No reduction is left for what the store would add or refuse.
+// No reduction is left for what the store would add or refuse, whatever items come with it.
 fn full_or_refused(checked: Result<(), AddRefusal>) -> Result<Tried, NoMemory>
-    ensures { (o : Addition) (m : Moment) (t : ℕ) → AllowsAddition o checked
-        → IfOk result (Carries (added o) 0 m t m) }
+    ensures { (news : Entries) (items : ℕ) (o : Addition) (m : Moment) (t : ℕ)
+        → AllowsAddition o checked → IfOk result (Carries (adding_items news items o) 0 m t m) }
 {
     match checked {
         Ok(()) => Ok(Tried::Over(LimitKind::Reductions)),
@@ -259,6 +262,42 @@ fn set_length(
     }
 }
 
+// The list at the path gets this length, and the items stand in the item's place, where a reduction is left.
+fn share_length(
+    alloc: Global,
+    scene: &mut Scene,
+    item: u64,
+    shared: (Path, u32, Vec<Leaf>),
+    store: &mut Store,
+    room: u64,
+) -> Result<Tried, NoMemory>
+    requires kept { IsWellKept scene.old }
+    requires lives { Lives scene.old item }
+    requires free { IsBare (item_what scene.old item) }
+    requires variable { IsVariableOf store.old.variables shared.0.var }
+    ensures ok { IfOk result
+        (Carries
+        (decided_outcome store.old.facts (numbers_in store.old scene.old)
+        (Decision.Shares shared.0 shared.1 shared.2))
+        room (moment_of scene.old store.old) item (moment_of scene.new store.new)) }
+    ensures kept { IsWellKept scene.new }
+    ensures scene_err { OnErr result (IsUnchanged scene.old scene.new) }
+    ensures store_err { OnErr result (store.new ≡ store.old) }
+{
+    let (path, length, news) = shared;
+    if room == 0 {
+        return full_or_refused(store.check_length(&path, length));
+    }
+    match become_sharing(alloc, scene, item, news, (path, length), store) {
+        Ok((items, new)) => Ok(Tried::Reduced(News {
+            items: ItemIds { items },
+            facts: new,
+            marked: None,
+        })),
+        Err(refusal) => refused(refusal),
+    }
+}
+
 /// Carries out what was decided on an item without a region.
 pub fn carry_decision(
     alloc: Global,
@@ -293,6 +332,9 @@ pub fn carry_decision(
         Decision::Sets(path, value) => set(alloc, scene, item, (path, value), store, room),
         Decision::Measures(path, length) => {
             set_length(alloc, scene, item, (path, length), store, room)
+        }
+        Decision::Shares { to, length, news } => {
+            share_length(alloc, scene, item, (to, length, news), store, room)
         }
         Decision::Waits(first, other) => Ok(Tried::Waits(first, other)),
         Decision::Rests => Ok(Tried::Rests),

@@ -1,7 +1,7 @@
 use Rattle.std.proofs.Common.{◌≡◌, map}
 use Rattle.tp_slots.specs.News.{bare_leaves}
 use Rattle.tp_slots.specs.Read.{what_of}
-use Rattle.tp_slots.proofs.put.leaf_whats.Given as goal
+use Rattle.tp_slots.proofs.leaves.leaf_whats.Given as goal
 
 abbrev pub invariant-loop-leaf : goal.invariant-loop-leaf
 invariant-loop-leaf l =

@@ -9,7 +9,7 @@ use Rattle.tp_slots.specs.Read.{flags_of, holders_of, slots_of}
 use Rattle.tp_slots.specs.declared.scene.Scene.{Scene}
 use Rattle.tp_slots.proofs.Looking.{marked_looks}
 use Rattle.tp_slots.proofs.Changing.{threads_moved, follow_pending, follow_other, raised_kept, unmarked_kept}
-use Rattle.tp_slots.proofs.put.raise_mark.Goals as goal
+use Rattle.tp_slots.proofs.leaves.raise_mark.Goals as goal
 
 pub raise-requires-clause-pending : goal.raise-requires-clause-pending
 raise-requires-clause-pending c =

@@ -5,7 +5,7 @@ use Rattle.tp_decide.specs.Decided.{plain_leaf}
 use Rattle.tp_decide.specs.declared.decision.Leaf.{Leaf}
 use Rattle.tp_slots.specs.Plain as plain
 use Rattle.tp_slots.specs.Read.{what_of}
-use Rattle.tp_slots.proofs.put.leaf_whats.Goals as goal
+use Rattle.tp_slots.proofs.leaves.leaf_whats.Goals as goal
 
 pub loop-leaf-preserved : goal.loop-leaf-preserved
 loop-leaf-preserved c =
