@@ -1,5 +1,5 @@
 -- Picks one after the other, in a pass.
-use Rattle.std.proofs.Common.{◌≡◌, ℕ, suc, ◌<◌, Bool, true, false, List, [], ◌∷◌, ◌++◌, refl, ap, sym, ◌∙◌, subst, arith, inl, inr, append_assoc, length-append, Option, Some, None, ◌⊎◌}
+use Rattle.std.proofs.Common.{◌≡◌, ℕ, suc, ◌<◌, Bool, true, false, List, [], ◌∷◌, ◌++◌, refl, ap, sym, ◌∙◌, subst, arith, inl, inr, append_assoc, length-append, Option, Some, None, Result, Ok, Err, OnErr, ◌⊎◌}
 use Rattle.std.proofs.lemmas.Bool.{both_ways}
 use Rattle.std.proofs.lemmas.List.{append-nil}
 use Rattle.tp_scene.specs.Scene.{has}
@@ -15,6 +15,11 @@ use Rattle.tp_pass.specs.Sweeps.{BeginsSweep, TakesTurn}
 use Rattle.tp_pass.proofs.Sweeping.{IsToCome, begins_with_each, one_turn, no_turn}
 use Rattle.tp_step.specs.Closes.{Made, LooksAt, Looks, Counts, ClosureEnds, ending_of, is_pick}
 use Rattle.tp_pass.specs.Passes.{Passes}
+
+-- what holds, holds where it is refused
+pub on_refusal : {T E : Type 0} (r : Result T E) {P : Type 0} → P → OnErr r P
+on_refusal (Ok x) h = tt
+on_refusal (Err e) h = h
 
 -- one more pick
 pub leads_more : (w : Setting) (m mid next : Moment) (ts : List ℕ) (t : ℕ) (r : Reduction) → Leads w m ts mid → Reduces w mid t r next → Leads w m (ts ++ t ∷ []) next

@@ -1,10 +1,10 @@
 // The closure by passes, until one reduces nothing.
-ghost use Rattle.std.specs.Prelude.{◌≡◌, ◌<◌, true, Bool, List, IfOk, OnOk};
+ghost use Rattle.std.specs.Prelude.{◌≡◌, ◌<◌, ◌++◌, ◌∷◌, [], true, ℕ, Bool, List, IfOk, OnErr};
 ghost use Rattle.tp_scene.specs.Laws.{IsSound};
 ghost use Rattle.tp_decide.specs.Decided.{setting_of};
 ghost use Rattle.tp_slots.specs.Kept.{IsWellKept};
 ghost use Rattle.tp_step.specs.Answers.{moment_of};
-ghost use Rattle.tp_step.specs.Closes.{ClosureAnswers, Counts, LooksAt, ending_of, is_pick};
+ghost use Rattle.tp_step.specs.Closes.{ClosureAnswers, Counts, LooksAt, Made, ending_of, is_pick};
 ghost use Rattle.tp_step.specs.EveryRest.{ClosureCommutes};
 ghost use Rattle.tp_step.specs.Room.{ClosureKeepsRoom};
 ghost use Rattle.tp_pass.specs.Follows.{FollowsOrder, PassTurns};
@@ -36,6 +36,7 @@ fn look_at<L: Ledger>(
     ensures looks { IfOk result
         (LooksAt (setting_of setting.now) room (moment_of scene.old store.old) item
         (moment_of scene.new store.new)) }
+    ensures err { OnErr result (moment_of scene.new store.new ≡ moment_of scene.old store.old) }
 {
     if has_item(scene, item) {
         let tried = try_item(scene, item, store, setting, room, steps)?;
@@ -45,34 +46,43 @@ fn look_at<L: Ledger>(
     }
 }
 
-// Records what came of an item: a pick, or the end of the closure.
-fn record(
-    looked: Option<Tried>,
-    item: u64,
-    left: &mut u64,
-    tally: &mut Tally,
-) -> Result<Option<Ending>, NoMemory>
-    requires left { is_pick looked ≡ true → 0 < left.old }
-    ensures ending { IfOk result (λ ended. ended ≡ ending_of looked) }
-    ensures counts { OnOk result
-        (Counts (is_pick looked) item left.old left.new tally.old.picks tally.new.picks) }
+// Whether the item was reduced.
+fn is_pick(looked: &Option<Tried>) -> bool
+    ensures { result ≡ is_pick looked.now }
+{
+    matches!(looked, Some(Tried::Reduced(_)))
+}
+
+// The end of the closure, where what came of the item ends it.
+fn ending_of(looked: Option<Tried>) -> Option<Ending>
+    ensures { result ≡ ending_of looked }
+{
+    let Some(tried) = looked else {
+        return None;
+    };
+    match tried {
+        Tried::Reduced(_) => None,
+        Tried::Waits(_, _) => None,
+        Tried::Rests => None,
+        Tried::Clash(clash) => Some(Ending::Clash(clash)),
+        Tried::Missing(port) => Some(Ending::Missing(port)),
+        Tried::Over(limit) => Some(Ending::Over(limit)),
+    }
+}
+
+// Records what came of an item, whose number was put last among the picks before it was tried: where it was reduced the number stays, else
+// it goes.
+fn record(looked: &Option<Tried>, left: &mut u64, tally: &mut Tally)
+    requires left { is_pick looked.now ≡ true → 0 < left.old }
+    ensures counts { (before : List ℕ) (item : ℕ) → tally.old.picks ≡ before ++ item ∷ []
+        → Counts (is_pick looked.now) item left.old left.new before tally.new.picks }
     ensures waits { tally.new.waits ≡ tally.old.waits }
     ensures rests { tally.new.rests ≡ tally.old.rests }
 {
-    let Some(tried) = looked else {
-        return Ok(None);
-    };
-    match tried {
-        Tried::Reduced(_) => {
-            tally.picks.items.push(item)?;
-            *left -= 1;
-            Ok(None)
-        }
-        Tried::Waits(_, _) => Ok(None),
-        Tried::Rests => Ok(None),
-        Tried::Clash(clash) => Ok(Some(Ending::Clash(clash))),
-        Tried::Missing(port) => Ok(Some(Ending::Missing(port))),
-        Tried::Over(limit) => Ok(Some(Ending::Over(limit))),
+    if is_pick(looked) {
+        *left -= 1;
+    } else {
+        tally.picks.items.pop();
     }
 }
 
@@ -97,6 +107,10 @@ fn pass<L: Ledger>(
         (Passes (setting_of setting.now) (moment_of scene.old store.old)
         (moment_of scene.new store.new) course.old.room course.new.room tally.old.picks
         tally.new.picks) }
+    ensures err { OnErr result
+        (Made (setting_of setting.now) (moment_of scene.old store.old)
+        (moment_of scene.new store.new) course.old.room course.new.room tally.old.picks
+        tally.new.picks) }
     ensures turns { IfOk result
         (PassTurns (setting_of setting.now) (moment_of scene.old store.old)
         (moment_of scene.new store.new) course.old.order course.new.order course.old.room
@@ -106,8 +120,14 @@ fn pass<L: Ledger>(
 {
     let mut sweep = Sweep::begin(setting.alloc, scene, &mut course.order)?;
     'items: while let Some(item) = sweep.next(scene) {
-        let looked = look_at(scene, item, store, setting, course.room, steps)?;
-        match record(looked, item, &mut course.room, tally)? {
+        // its place is taken before it is tried, so that nothing that was done goes unrecorded
+        tally.picks.items.push(item)?;
+        let Ok(looked) = look_at(scene, item, store, setting, course.room, steps) else {
+            tally.picks.items.pop();
+            return Err(NoMemory);
+        };
+        record(&looked, &mut course.room, tally);
+        match ending_of(looked) {
             Some(ending) => return Ok(Some(ending)),
             None => {}
         }
@@ -119,7 +139,7 @@ fn pass<L: Ledger>(
 /// number, new ones too; in order `Last` the items that were live as it began, by decreasing number; in that of a seed those same
 /// items by increasing number, from a place that the seed chooses, and round. An item that isn't live at its turn is passed over. At
 /// most `course.room` items are reduced. Their numbers are appended to the tally's picks, in order; scene and store stand where these
-/// picks lead. The tally's waits and rests stay as they are.
+/// picks lead, also where memory ends. The tally's waits and rests stay as they are.
 pub fn close_by_passes<L: Ledger>(
     scene: &mut Scene,
     store: &mut Store,
@@ -139,6 +159,10 @@ pub fn close_by_passes<L: Ledger>(
     ensures closes { IfOk result
         (ClosureAnswers (setting_of setting.now) course.room (moment_of scene.old store.old)
         (moment_of scene.new store.new) tally.old.picks tally.new.picks) }
+    ensures err { OnErr result
+        ((left : ℕ)
+        × Made (setting_of setting.now) (moment_of scene.old store.old)
+        (moment_of scene.new store.new) course.room left tally.old.picks tally.new.picks) }
     ensures order { IfOk result
         (FollowsOrder (setting_of setting.now) course.order course.room
         (moment_of scene.old store.old) (moment_of scene.new store.new) tally.old.picks

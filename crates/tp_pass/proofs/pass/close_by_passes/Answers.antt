@@ -7,7 +7,7 @@ use Rattle.tp_step.specs.Answers.{moment_of}
 use Rattle.tp_pass.specs.Passes.{Passes}
 use Rattle.tp_pass.specs.Follows.{PassTurns}
 use Rattle.tp_pass.proofs.Following.{passes_begin, passes_go_on, closure_ends}
-use Rattle.tp_pass.proofs.Picks.{made_none, made_on}
+use Rattle.tp_pass.proofs.Picks.{on_refusal, made_none, made_on}
 use Rattle.tp_step.proofs.EveryRest.{closures_commute}
 use Rattle.tp_step.proofs.Room.{closures_keep_room}
 use Rattle.tp_pass.proofs.pass.close_by_passes.Goals as goal
@@ -89,3 +89,11 @@ returns-then-course-before-clause-commutes g c =
       ends = one.1 c.if-course-before.true;
     } in
     closures_commute w c.args.course.room m next c.args.tally.now.picks c.pass.new.tally.picks Rest closes
+
+pub returns-in_err-ending-clause-err : goal.returns-in_err-ending-clause-err
+returns-in_err-ending-clause-err g c =
+    let w = setting_of c.args.setting.now in
+    let m = moment_of c.args.scene.now c.args.store.now in
+    let here = moment_of c.passes.scene c.passes.store in
+    let next = moment_of c.pass.new.scene c.pass.new.store in
+    on_refusal c.from_residual.result (c.pass.new.course.room, made_on w m here next _ _ _ _ _ _ c.passes.invariant.made c.in_err-ending.ensures.err)
