@@ -1,0 +1,117 @@
+-- A place is filed under one key.
+use Rattle.std.proofs.Common.{◌≡◌, ℕ, suc, ◌<◌, ◌≤◌, Bool, true, false, cond, List, [], ◌∷◌, ◌++◌, length, length-append, get_or, nat_eq, unwrap_or, Option, Some, refl, ap, sym, ◌∙◌, subst, inl, inr, arith}
+use Rattle.std.proofs.lemmas.Bool.{cases_Bool, cases_eq}
+use Rattle.std.proofs.lemmas.Bool.Decides.{Decides-eqb}
+use Rattle.std.proofs.lemmas.List.{get_or_push}
+use Rattle.indexmap.specs.IndexMap.{get}
+use Rattle.tp_value.specs.declared.path.Path.{Path}
+use Rattle.tp_agenda.specs.declared.index.Link.{Link}
+use Rattle.tp_agenda.specs.declared.index.Index.{Index}
+use Rattle.tp_agenda.specs.Index.{no_link, places_named, equal_paths, newest_at, newest_for, IsChained, HasFiled, IsPushed}
+use Rattle.tp_agenda.proofs.Links.{LeadBack, lead_back, named_new, named_old, still_there, equal_paths-decides}
+
+abbrev named_from : List Link → ℕ → List ℕ
+named_from ls n = places_named n ls n
+
+newest_now : (b : Bool) (v : ℕ) (o : Option ℕ) → unwrap_or (cond b (Some v) o) 0 ≡ cond b v (unwrap_or o 0)
+newest_now true v o = refl
+newest_now false v o = refl
+
+-- Keys with their newest links, before and after a link was put in front of the n-th, which is the
+-- newest of each key that passes the test.
+module _ {K : Type 0} (ls ls' : List Link) (place n : ℕ) (heads heads' : K → ℕ) (test : K → Bool)
+    (back : LeadBack ls) (fit : (q : K) → heads q ≤ length ls) (within : n ≤ length ls)
+    (same : (q : K) → test q ≡ true → heads q ≡ n)
+    (grown : ls' ≡ ls ++ record { place = place; next = n } ∷ [])
+    (now : (q : K) → heads' q ≡ cond (test q) (suc (length ls)) (heads q)) where
+  now_at : (b : Bool) (q : K) → test q ≡ b → heads' q ≡ cond b (suc (length ls)) (heads q)
+  now_at b q e = now q ∙ ap (λ z. cond z (suc (length ls)) (heads q)) e
+
+  pub heads_fit : (q : K) → heads' q ≤ length ls'
+  heads_fit q =
+      let a = length-append ls (record { place = place; next = n } ∷ []) in
+      let g = ap length grown in
+      let f = fit q in
+      elim (cases_Bool (test q)) [
+        | inl is_so ↦ (let e : heads' q ≡ suc (length ls) = now_at true q is_so in omega (arith, a, g, e))
+        | inr isnt ↦ (let e : heads' q ≡ heads q = now_at false q isnt in omega (arith, a, g, e, f))
+      ]
+
+  pub filed_one : (q : K) → named_from ls' (heads' q) ≡ cond (test q) (place ∷ named_from ls (heads q)) (named_from ls (heads q))
+  filed_one q = elim (cases_Bool (test q)) [
+    | inl is_so ↦ ap (named_from ls') (now_at true q is_so) ∙ ap (λ z. named_from z (suc (length ls))) grown ∙ named_new ls back place n within
+        ∙ ap (λ z. place ∷ named_from ls z) (sym (same q is_so)) ∙ ap (λ z. cond z (place ∷ named_from ls (heads q)) (named_from ls (heads q))) (sym is_so)
+    | inr isnt ↦ ap (named_from ls') (now_at false q isnt) ∙ ap (λ z. named_from z (heads q)) grown ∙ named_old ls back place n within (heads q) (fit q)
+        ∙ ap (λ z. cond z (place ∷ named_from ls (heads q)) (named_from ls (heads q))) (sym isnt)
+  ]
+
+-- keys whose newest links stay
+module _ {K : Type 0} (ls ls' : List Link) (place n : ℕ) (heads heads' : K → ℕ) (back : LeadBack ls) (fit : (q : K) → heads q ≤ length ls) (within : n ≤ length ls)
+    (grown : ls' ≡ ls ++ record { place = place; next = n } ∷ []) (now : (q : K) → heads' q ≡ heads q) where
+  pub others_fit : (q : K) → heads' q ≤ length ls'
+  others_fit q =
+      let a = length-append ls (record { place = place; next = n } ∷ []) in
+      let g = ap length grown in
+      let f = fit q in
+      let e = now q in
+      omega (arith, a, g, e, f)
+
+  pub others_stay : (q : K) → named_from ls' (heads' q) ≡ named_from ls (heads q)
+  others_stay q = ap (named_from ls') (now q) ∙ ap (λ z. named_from z (heads q)) grown ∙ named_old ls back place n within (heads q) (fit q)
+
+abbrev HasLink : (old new : Index) → (place n : ℕ) → Type 0
+HasLink old new place n = new.links.items ≡ old.links.items ++ record { place = place; next = n } ∷ []
+
+pub filed_under_path : (old new : Index) (path : Path) (place v : ℕ) → IsChained old → HasLink old new place (newest_at old path) → v ≡ suc (length old.links.items)
+    → ((q : Path) → get equal_paths new.paths q ≡ cond (equal_paths path q) (Some v) (get equal_paths old.paths q)) → ((r : ℕ) → newest_for new r ≡ newest_for old r)
+    → HasFiled old new place (equal_paths path) (λ r. false)
+filed_under_path old new path place v h grown e put stay =
+    let ls = old.links.items in
+    let ls' = new.links.items in
+    let n = newest_at old path in
+    let within = h.paths_fit path in
+    let same : (q : Path) → equal_paths path q ≡ true → newest_at old q ≡ n = λ q is_so. ap (newest_at old) (sym ((equal_paths-decides path q).0 is_so)) in
+    let now : (q : Path) → newest_at new q ≡ cond (equal_paths path q) (suc (length ls)) (newest_at old q) =
+    (λ q. ap (λ o. unwrap_or o 0) (put q) ∙ newest_now (equal_paths path q) v (get equal_paths old.paths q) ∙ ap (λ z. cond (equal_paths path q) z (newest_at old q)) e) in
+    record {
+      chained = record {
+        nexts = subst LeadBack (sym grown) (lead_back ls h.nexts place n within);
+        paths_fit = heads_fit ls ls' place n (newest_at old) (newest_at new) (equal_paths path) h.nexts h.paths_fit within same grown now;
+        ends_fit = others_fit ls ls' place n (newest_for old) (newest_for new) h.nexts h.ends_fit within grown stay;
+      };
+      paths = filed_one ls ls' place n (newest_at old) (newest_at new) (equal_paths path) h.nexts h.paths_fit within same grown now;
+      ends = others_stay ls ls' place n (newest_for old) (newest_for new) h.nexts h.ends_fit within grown stay;
+    }
+
+pub filed_under_end : (old new : Index) (region : ℕ) (place v : ℕ) → IsChained old → HasLink old new place (newest_for old region) → v ≡ suc (length old.links.items)
+    → ((r : ℕ) → get nat_eq new.ends r ≡ cond (nat_eq region r) (Some v) (get nat_eq old.ends r)) → ((q : Path) → newest_at new q ≡ newest_at old q)
+    → HasFiled old new place (λ q. false) (nat_eq region)
+filed_under_end old new region place v h grown e put stay =
+    let ls = old.links.items in
+    let ls' = new.links.items in
+    let n = newest_for old region in
+    let within = h.ends_fit region in
+    let same : (r : ℕ) → nat_eq region r ≡ true → newest_for old r ≡ n = λ r is_so. ap (newest_for old) (sym ((Decides-eqb region r).0 is_so)) in
+    let now : (r : ℕ) → newest_for new r ≡ cond (nat_eq region r) (suc (length ls)) (newest_for old r) =
+    (λ r. ap (λ o. unwrap_or o 0) (put r) ∙ newest_now (nat_eq region r) v (get nat_eq old.ends r) ∙ ap (λ z. cond (nat_eq region r) z (newest_for old r)) e) in
+    record {
+      chained = record {
+        nexts = subst LeadBack (sym grown) (lead_back ls h.nexts place n within);
+        paths_fit = others_fit ls ls' place n (newest_at old) (newest_at new) h.nexts h.paths_fit within grown stay;
+        ends_fit = heads_fit ls ls' place n (newest_for old) (newest_for new) (nat_eq region) h.nexts h.ends_fit within same grown now;
+      };
+      paths = others_stay ls ls' place n (newest_at old) (newest_at new) h.nexts h.paths_fit within grown stay;
+      ends = filed_one ls ls' place n (newest_for old) (newest_for new) (nat_eq region) h.nexts h.ends_fit within same grown now;
+    }
+
+-- the new link names the place
+pub pushed : (old new : Index) (place n : ℕ) → HasLink old new place n → IsPushed old new place
+pushed old new place n grown k less =
+    let ls = old.links.items in
+    let x : Link = record { place = place; next = n } in
+    let a = length-append ls (x ∷ []) in
+    let g = ap length grown in
+    elim (cases_eq k (length ls)) [
+      | inl same ↦ inr (ap (λ (zs : List Link). (get_or zs k no_link).place) grown ∙ ap (λ (z : Link). z.place) (get_or_push ls x no_link k (sym same)))
+      | inr other ↦ (let l : k < length ls = omega (arith, less, a, g, other) in inl (l, ap (λ zs. get_or zs k no_link) grown ∙ still_there ls x k no_link l))
+    ]

@@ -1,0 +1,5 @@
+use Rattle.tp_agenda.proofs.Outer.{IsFiledBelow}
+use Rattle.tp_agenda.proofs.index.file_path.Given as goal
+
+abbrev pub invariant-loop-count : goal.invariant-loop-count
+invariant-loop-count l = IsFiledBelow l.initial.index l.index l.place l.path l.count

@@ -1,0 +1,4 @@
+pub mod Decides
+pub mod Index
+pub mod Marks
+pub mod Wakes
