@@ -4,7 +4,7 @@ use Rattle.std.proofs.lemmas.Bool.{and_parts, or_parts, leb-true, le-leb}
 use Rattle.std.proofs.lemmas.List.Elements.{All-nil, All-cons, All-append}
 use Rattle.tp_value.specs.Tree.{Tree, Trees, num, truth, list, nil, cons, items_of}
 use Rattle.tp_value.specs.Number.{IsNumber}
-use Rattle.tp_value.specs.Limits.{index_limit, path_limit, length_limit, item_limit, value_depth_limit, items_in, items_within, depth_of, is_within_list_limit, HasNumbers, HaveNumbers, IsWithinLimits, IsWithinListLimit}
+use Rattle.tp_value.specs.Limits.{index_limit, path_limit, item_limit, value_depth_limit, items_in, items_within, depth_of, is_within_list_limit, HasNumbers, HaveNumbers, IsWithinLimits, IsWithinListLimit}
 use Rattle.tp_value.specs.Shape.{shape_at_path, at_item}
 use Rattle.tp_value.specs.declared.path.VarId.{VarId}
 use Rattle.tp_value.specs.declared.path.Path.{Path}
@@ -227,9 +227,9 @@ value_added old news p t h path small e =
       ];
     })
 
-pub length_added : (old news : List Fact) (p : Path) (n : ℕ) → FactsArePrintable old → IsPathWithinLimits p → n ≤ length_limit → addition old (fact p (Items n) ∷ []) ≡ adds news → FactsArePrintable (old ++ news)
-length_added old news p n h path small e =
-    printable_added old (fact p (Items n) ∷ []) news e h (λ f i. elim i [
+pub shape_added : (old news : List Fact) (p : Path) (sh : Shape) → FactsArePrintable old → IsPathWithinLimits p → IsShapeWithinLimits sh → addition old (fact p sh ∷ []) ≡ adds news → FactsArePrintable (old ++ news)
+shape_added old news p sh h path small e =
+    printable_added old (fact p sh ∷ []) news e h (λ f i. elim i [
       | inl s ↦ subst (λ (g : Fact). KeptIsPrintable (old ++ news) g.path g.shape) s (record { indices = path.indices; shape = small; reached = inl path.few })
       | inr i ↦ absurd i
     ])

@@ -1,11 +1,12 @@
 -- What a step gives is printable where the scene, the definitions, the inputs and what is kept are.
-use Rattle.std.proofs.Common.{◌≡◌, ℤ, pos, negsuc, ◌+ℤ◌, int_le, inl, inr, ℕ, nat_le, zero, suc, nat_lt, ltb, ◌-◌, true, false, ◌&&◌, cond, eqb, List, [], ◌∷◌, ◌++◌, refl, ap, sym, ◌∙◌, subst, All, Option, Some, None, IfSome, arith, append-nil}
+use Rattle.std.proofs.Common.{◌≡◌, ℤ, pos, negsuc, ◌+ℤ◌, int_le, inl, inr, ℕ, nat_le, zero, suc, nat_lt, ltb, ◌-◌, true, false, ◌&&◌, cond, eqb, List, [], ◌++◌, refl, ap, sym, ◌∙◌, subst, All, Option, Some, None, IfSome, arith, append-nil}
 use Rattle.std.proofs.lemmas.Bool.{cond_both, ltb-false}
 use Rattle.std.proofs.lemmas.Bool.Decides.{nat_tests}
 use Rattle.std.proofs.lemmas.List.Elements.{All-nil}
 use Rattle.tp_value.specs.Number.{IsNumber, number_limit}
 use Rattle.tp_value.specs.Limits.{length_limit, IsWithinLimits}
 use Rattle.tp_value.specs.declared.path.Fact.{Fact}
+use Rattle.tp_value.specs.declared.value.Shape.TheVariants.{Items}
 use Rattle.tp_meaning.specs.Syntax.{known, FormulaTree, equation, next_equation, always, len, assign, while, for_from, forall_from, Definition}
 use Rattle.tp_meaning.specs.Nexts.{nexts}
 use Rattle.tp_meaning.specs.Inputs.{InputTable}
@@ -19,7 +20,7 @@ use Rattle.tp_scene.proofs.Parts.{picked_has}
 use Rattle.tp_show.specs.TraceOfRun.{IsWithinIndexLimit, HasNameOnOneLine}
 use Rattle.tp_show.specs.Line.{IsOneLine}
 use Rattle.tp_run_laws.specs.Printable.{FormulaIsPrintable, DefinitionIsPrintable, PhraseIsPrintable, LeafIsPrintable, HolderIsPrintable, EntriesArePrintable, InputsArePrintable}
-use Rattle.tp_run_laws.proofs.Kept.{FactsArePrintable, value_added, length_added}
+use Rattle.tp_run_laws.proofs.Kept.{FactsArePrintable, value_added, shape_added}
 use Rattle.tp_run_laws.proofs.Found.{number_value, definition_at, good, lists_good, evaluates_good}
 use Rattle.tp_scene.proofs.Evaluated.{Evaluates, outcome_told, place_outcome_told}
 use Rattle.tp_scene.proofs.Told.{Bundle, PartsOf, LeavesTold, HolderTold, RowsKeep, Told, formula_told}
@@ -92,7 +93,10 @@ module _ (facts : List Fact) where
         value_bound = λ v u. u;
         local_bound = λ x l. record { few = omega arith; indices = All-nil IsWithinIndexLimit };
         sets = λ q v path u news e. value_added facts news q v kept path u e;
-        lengthens = λ q k path l news e. length_added facts news q k kept path (ltb-false length_limit k l) e;
+        lengthens = λ q k path l news e. shape_added facts news q (Items k) kept path (ltb-false length_limit k l) e;
+        shared = λ q k i path e l. ((tt, tt), (tt, tt));
+        shapes = λ p q sh path other e news a. shape_added facts news p sh kept path (kept q sh e).shape a;
+        open_path = λ q path e a. tt;
       }
 
       leaves_printable : (mark : Option Side) (from : ℕ) (es : Entries) (to : ℕ) → LeavesTold printable facts p n mark from es to → EntriesArePrintable es
