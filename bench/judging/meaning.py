@@ -217,6 +217,9 @@ class World:
     def same(self, left, left_state, right, right_state, env, calls, has_to):
         """Whether both sides have one value; None where one has none. `has_to`: nothing holds where they differ."""
         sides = ((left, left_state), (right, right_state))
+        places = [self.placed(*side, env, calls) for side in sides]
+        if all(places):
+            return self.alike(*places, has_to)
         values, needs = [None, None], [None, None]
         for side in (0, 1):
             try:
@@ -232,6 +235,49 @@ class World:
         open_side = 0 if needs[0] is not None else 1
         phrase, state = sides[open_side]
         return self.fits(phrase, state, values[1 - open_side], env, calls, has_to, needs[open_side])
+
+    def placed(self, phrase, state, env, calls):
+        """The variable, state and path of a place; None where it is none, isn't there, or what tells so isn't known yet."""
+        try:
+            place = self.place(phrase, state, env, calls)
+            return (place[0], state, place[1]) if place and self.reach(place[0], state, place[1]) else None
+        except Need:
+            return None
+
+    def alike(self, one, other, has_to):
+        """Whether two places have one value: one shape and, of lists, items that are alike."""
+        self.work += 1
+        if self.work > self.WORK:
+            raise OutOfWork
+        shapes, needs = [], []
+        for variable, state, path in (one, other):
+            try:
+                shapes.append(self.shape(variable, state, path))
+            except Need as need:
+                needs.append(need)
+        if len(needs) == 2:
+            raise merged(needs)
+        if needs and not self.has_shape(*min((one, other), key=lambda it: self.shaped(*it)), shapes[0], has_to):
+            return False
+        if shapes[0] != shapes[-1]:
+            return False
+        return not isinstance(shapes[0], tuple) or self.items_alike(one, other, shapes[0][1], has_to)
+
+    def shaped(self, variable, state, path):
+        return (variable, None if is_static(variable) else state, path) in self.cells
+
+    def items_alike(self, one, other, length, has_to):
+        """As above, of so many items: one that differs decides, and of those that are open one with a single shape."""
+        needs = []
+        for i in range(length):
+            try:
+                if not self.alike((*one[:2], one[2] + (i,)), (*other[:2], other[2] + (i,)), has_to):
+                    return False
+            except Need as need:
+                needs.append(need)
+        if needs:
+            raise merged(needs)
+        return True
 
     def fits(self, phrase, state, value, env, calls, has_to, need):
         """Whether an open side has this value: a place, the size of one, or something else, which is asked for."""

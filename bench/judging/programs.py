@@ -24,6 +24,8 @@ class Maker(Expressions, Changes):
             starts = v in known.now
             ways = ['gets', 'gets', 'stable', 'last'] if starts else ['gets', 'gets', 'stable', 'always', 'keep', 'last',
                                                                       'now', 'fin', 'next', 'item', 'input', 'rule', 'cases']
+            if kind == 'list' and not starts:
+                ways += ['wired'] * 4
             if ends_known:
                 ways = [w for w in ways if w in ('gets', 'stable', 'always', 'last', 'rule')] or ways
             way = self.pick(*ways)
@@ -82,6 +84,8 @@ class Maker(Expressions, Changes):
                                 equation(place, self.expression(kind, there, 1))))]
         if way == 'input' and self.with_inputs:
             return [self.from_inputs(place, kind)]
+        if way == 'wired':
+            return [self.wired(place, here, there)]
         return self.items(v, here, there)
 
     def from_inputs(self, place, kind):
@@ -149,6 +153,32 @@ class Maker(Expressions, Changes):
                  self.pick(equation(('size', place), number(2)), ('list', place, number(2))),
                  equation(('index', inner, number(0)), self.number(here, 1))]
         return [p for p in parts if self.odds(0.8)] or parts
+
+    def wired(self, place, here, there):
+        """A list that is equal to another one, perhaps through a third or by a call; each item is said of one of them."""
+        over = self.pick('now', 'now', 'always', 'keep')
+        known = here if over == 'now' else there
+        names = ['W', 'W1'][:self.pick(1, 1, 2)]
+        row = [place] + [name(n) for n in names]
+        size = self.pick(1, 2, 2, 3)
+        said = self.pick(('list', self.pick(*row), number(size)), equation(('size', self.pick(*row)), number(size)),
+                         equation(number(size), ('size', self.pick(*row))))
+        parts = [said] + [self.joined(a, b) for a, b in zip(row, row[1:])]
+        for i in range(size):
+            if self.odds(0.08):
+                self.is_whole = False
+                continue
+            kind = self.pick('number', 'number', 'truth', 'list')
+            parts.append(equation(('index', self.pick(*row), number(i)), self.expression(kind, known, 1)))
+        self.chance.shuffle(parts)
+        body = ('exists', names, conjunction(parts))
+        return body if over == 'now' else (over, body)
+
+    def joined(self, one, other):
+        if self.odds(0.3):
+            self.definitions['joined'] = (['X', 'Y'], equation(name('X'), name('Y')))
+            return ('call', 'joined', [one, other])
+        return equation(one, other) if self.odds(0.5) else equation(other, one)
 
     def shown(self, known):
         """A display, or a test, that stands beside."""

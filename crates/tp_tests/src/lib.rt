@@ -14,6 +14,8 @@ mod formulas;
 #[cfg(test)]
 mod inputs;
 #[cfg(test)]
+mod large;
+#[cfg(test)]
 mod making;
 #[cfg(test)]
 mod monitor;
