@@ -5,3 +5,5 @@ pub mod Outer
 pub mod Waits
 pub mod Waking
 pub mod Forgetting
+pub mod Keeping
+pub mod Held
