@@ -16,6 +16,7 @@ use Rattle.tp_step_laws.specs.Within.{LengthsAreWithin}
 use Rattle.tp_step_laws.specs.Renaming.{renamed_binding, renamed_bindings, renamed_leaf, renamed_holder, renamed_second, renamed_entries, Renamed}
 use Rattle.tp_step_laws.specs.Maps.{Renaming}
 use Rattle.tp_step_laws.specs.Orders.{FailuresStay}
+use Rattle.tp_step_laws.specs.Others.{OthersStandAsBefore}
 use Rattle.tp_step_laws.proofs.Orderly.{steps_stay_orderly}
 use Rattle.tp_step_laws.proofs.FactsGrow.{kept_before}
 use Rattle.tp_step_laws.proofs.Stay.{head_grows, status_up, remains}
@@ -227,3 +228,9 @@ failures_stay w kinds m next t u ne orderly step bad =
       at_live u next.scene.root.entries v.there.thing v.there.place (root_place next.scene.root) v.there.at,
       again_bad next.store.facts v.other v.there.thing n _ _ (again w kinds m sound t u step.0 next step.1 after.sound after.lengths v n) (bad_with w kinds m sound u (numbers_of m.scene m.store.variables) n bad.1),
     )
+
+-- What isn't picked stays what it is.
+pub others_stand_as_before : OthersStandAsBefore
+others_stand_as_before w kinds m next t u ne sound step live =
+    let v = moves w kinds m sound t u ne step.0 next step.1 live in
+    record { thing = v.other; place = v.other_place; before = v.other_at; after = v.there }

@@ -13,3 +13,4 @@ pub mod Examples
 pub mod Waiting
 pub mod LiveOnce
 pub mod Unmarked
+pub mod Others

@@ -6,6 +6,7 @@ ghost use Rattle.tp_step_laws.specs.States.{StatesCloseOneWay};
 ghost use Rattle.tp_step_laws.specs.Waiting.{RestsStay, WaitsStay, WaitsStayUntilWoken};
 ghost use Rattle.tp_step_laws.specs.LiveOnce.{ItemsLiveOnce};
 ghost use Rattle.tp_step_laws.specs.Unmarked.{UnmarkedStepsEndNothing};
+ghost use Rattle.tp_step_laws.specs.Others.{OthersStandAsBefore};
 ghost use Rattle.tp_step_laws.specs.Examples.{OrderDecides};
 ghost use Rattle.tp_step_laws.specs.Orders.{AdvancesStayOrderly, BeginsOrderly, StepsStayOrderly, FailuresAreMutual, FailuresStay, Commute, AlikeMomentsStep, AlikeIsEquivalence, OneRestOf};
 
@@ -58,6 +59,8 @@ pub fn waits_stay()
     ensures unmarked { UnmarkedStepsEndNothing }
     // What rests rests on.
     ensures rests { RestsStay }
+    // Any live item stays what it is.
+    ensures stands { OthersStandAsBefore }
 {}
 
 /// An item that is picked is gone, and no number that was a live item's becomes one again.

@@ -1,5 +1,6 @@
 use Rattle.tp_step_laws.proofs.Waiting.{waits_stay, rests_stay}
 use Rattle.tp_step_laws.proofs.Woken.{waits_stay_until_woken}
+use Rattle.tp_step_laws.proofs.Again.{others_stand_as_before}
 use Rattle.tp_step_laws.proofs.Unmarked.{unmarked_steps_end_nothing}
 use Rattle.tp_step_laws.proofs.order.waits_stay.Goals as goal
 
@@ -14,3 +15,6 @@ returns-clause-unmarked c = unmarked_steps_end_nothing
 
 pub returns-clause-rests : goal.returns-clause-rests
 returns-clause-rests c = rests_stay
+
+pub returns-clause-stands : goal.returns-clause-stands
+returns-clause-stands c = others_stand_as_before
