@@ -6,7 +6,7 @@ use Rattle.tp_value.specs.declared.path.Fact.{Fact}
 use Rattle.tp_kernel.specs.declared.formula.Expr.{Expr}
 use Rattle.tp_kernel.specs.declared.fault.FaultKind.TheVariants.{NoElement}
 use Rattle.tp_kernel.specs.Read.{expr_tree}
-use Rattle.tp_meaning.specs.Syntax.{Definition, BindingTree, known_binding, ExprTree, ExprTrees, numeral, boolean, known, bound, global, listing, size, index, minus, negation, both, either, binary, choice, invoke, no_expr, expr_then, exprs_of}
+use Rattle.tp_meaning.specs.Syntax.{Definition, BindingTree, known_binding, ExprTree, ExprTrees, bound, global, index, no_expr, expr_then, exprs_of}
 use Rattle.tp_meaning.specs.Fits.{IsPlace, AreArguments}
 use Rattle.tp_meaning.specs.Value.{is_upper}
 use Rattle.tp_eval.specs.Evaluate.{is_place, depth_limit}

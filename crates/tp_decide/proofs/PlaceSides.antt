@@ -1,12 +1,10 @@
 -- Sides of equations that are places, and sides that are known already.
-use Rattle.std.proofs.Common.{◌≡◌, ◌⊎◌, inl, inr, ℕ, zero, suc, ◌<◌, Bool, true, false, ◌&&◌, List, [], Option, Some, None, refl, ap, sym, ◌∙◌, arith, if◌then◌else◌}
+use Rattle.std.proofs.Common.{◌≡◌, ◌⊎◌, inl, inr, ℕ, zero, suc, ◌<◌, Bool, true, false, List, [], Option, Some, None, refl, ap, sym, ◌∙◌, arith}
 use Rattle.std.specs.Option.{option_map}
 use Rattle.tp_value.specs.Tree.{Tree, SameTreeIsEquality}
 use Rattle.tp_value.specs.declared.path.Path.{Path}
-use Rattle.tp_value.specs.declared.path.VarId.{VarId}
 use Rattle.tp_value.specs.declared.path.Fact.{Fact}
 use Rattle.tp_meaning.specs.Syntax.{ExprTree, bound, global, size, index, Definition, BindingTree}
-use Rattle.tp_meaning.specs.Fits.{IsVariable}
 use Rattle.tp_store.specs.Facts.{facts_at}
 use Rattle.tp_store.specs.Known as store
 use Rattle.tp_store.specs.Known.{Variable, NoClash, full, addition}
@@ -14,16 +12,10 @@ use Rattle.tp_eval.specs.Reached.{Reached, reaches, stops, waits, faults, passes
 use Rattle.tp_eval.specs.Evaluate.{PlaceFound, at_path, inside, is_place, of_full, value_at, indexed_value, evaluate, find_place, depth_limit}
 use Rattle.tp_eval.specs.Outcome as found
 use Rattle.tp_eval.specs.Outcome.{outcome, outcome_reached, place_outcome, place_reached}
-use Rattle.tp_eval.specs.Answers.{outcome_tree, place_outcome_of}
-use Rattle.tp_eval.specs.declared.outcome.PlaceOutcome.{PlaceOutcome}
-use Rattle.tp_eval.specs.declared.outcome.PlaceOutcome.TheVariants as place
 use Rattle.tp_eval.proofs.Answered.{eval_is, place_is}
-use Rattle.tp_scene.specs.Fits.{kinds_in}
-use Rattle.tp_scene.proofs.PathFits.{PathFits}
 use Rattle.tp_scene.specs.Step as row
-use Rattle.tp_decide.specs.Found.{is_at_path, IsNoSize}
-use Rattle.tp_decide.specs.Fits.{IsPlaceOf}
-use Rattle.tp_decide.specs.Equated.{outcome_at, outcome_of_place, located, placed_side, IsRead, sets_length, AreEqual}
+use Rattle.tp_decide.specs.Found.{PathIn, IsNoSize}
+use Rattle.tp_decide.specs.Equated.{outcome_at, outcome_of_place, AreValuePaths, SetsNoValue, sets_length, AreEqual}
 use Rattle.tp_decide.proofs.EquationLemmas.{plain_target, side, side_same, equal_vanishes, right_value}
 use Rattle.tp_decide.proofs.KnownLemmas.{known_adds_nothing}
 
@@ -38,11 +30,9 @@ placed (global x) h = h
 placed (index e i) h = h
 placed _ h = absurd (cc)
 
--- what a place was found to be is of a variable of the store
-pub found_of : (facts : List Fact) (defs : List Definition) (kinds : List Bool) (xs : List Variable) (among : (x : VarId) → IsVariable kinds x → IsVariable (kinds_in xs) x) (o : PlaceOutcome)
-    → PathFits facts defs kinds (kinds_in xs) among (place_outcome_of o) → IsPlaceOf xs (Some o)
-found_of facts defs kinds xs among (place.Place p) h = h.0
-found_of facts defs kinds xs among (place.Other o) h = tt
+-- Where the side can set the value at a path, it has what is found there.
+abbrev IsFoundThere : List Fact → row.SideOf → Type 0
+IsFoundThere facts s = (p : Path) → s.target ≡ Some (row.value_at p) → s.found ≡ outcome_at facts p
 
 module _ (facts : List Fact) where
   any_count : (o : store.Full) (c : ℕ) → outcome_reached (of_full o c) ≡ outcome_reached (of_full o 0)
@@ -82,28 +72,11 @@ module _ (facts : List Fact) where
     place_target e h = plain_target defs facts env e (no_size e h) ∙ ap (λ (b : Bool). row.target_if defs facts b row.value_at e env) h
 
     -- the side that a place is
-    pub placed_side_is : (e : ExprTree) → is_place e ≡ true → placed_side facts (place_outcome facts defs e env) ≡ row.side_of defs facts e env
-    placed_side_is e h =
-        let o = place_outcome facts defs e env in
+    pub place_side : (e : ExprTree) → is_place e ≡ true → (o : found.PlaceOutcome) → o ≡ place_outcome facts defs e env
+        → side true (row.target_at row.value_at o) (outcome_of_place facts o) ≡ row.side_of defs facts e env
+    place_side e h o is =
         side_same true (row.is_placed e) (row.target_at row.value_at o) (row.target_of defs facts e env) (outcome_of_place facts o) (outcome facts defs e env)
-        (sym (placed e h)) (sym (place_target e h)) (sym (place_is_read e h))
-
-    located_some : (b : Bool) (x o : found.PlaceOutcome) → Some o ≡ (if b then Some x else None) → (b ≡ true) × (o ≡ x)
-    located_some true x o h = (refl, cc h)
-    located_some false x o h = absurd (cc h)
-
-    located_none : (b : Bool) (x : found.PlaceOutcome) → None ≡ (if b then Some x else None) → b ≡ false
-    located_none true x h = absurd (cc h)
-    located_none false x h = refl
-
-    -- an expression that was located is a place, with this side
-    pub located_side : (e : ExprTree) (o : found.PlaceOutcome) → Some o ≡ located defs facts env e → placed_side facts o ≡ row.side_of defs facts e env
-    located_side e o h =
-        let both = located_some (is_place e) (place_outcome facts defs e env) o h in
-        ap (placed_side facts) both.1 ∙ placed_side_is e both.0
-
-    pub no_place : (e : ExprTree) → None ≡ located defs facts env e → is_place e ≡ false
-    no_place e h = located_none (is_place e) (place_outcome facts defs e env) h
+        (sym (placed e h)) (ap (row.target_at row.value_at) is ∙ sym (place_target e h)) (ap (outcome_of_place facts) is ∙ sym (place_is_read e h))
 
     no_value_target : (e : ExprTree) → is_place e ≡ false → (p : Path) → row.target_of defs facts e env ≡ Some (row.value_at p) → ⊥
     no_value_target (size e) h p q = no_length (is_place e) q
@@ -123,44 +96,33 @@ module _ (facts : List Fact) where
     read_place (found.path r) p q = let same : r ≡ p = cc q in ap (outcome_at facts) same
     read_place (found.other o) p q = absurd (cc q)
 
-    read_if : (e : ExprTree) (b : Bool) → is_place e ≡ b → IsRead facts (row.side_of defs facts e env)
+    read_if : (e : ExprTree) (b : Bool) → is_place e ≡ b → IsFoundThere facts (row.side_of defs facts e env)
     read_if e true h = λ p q. place_is_read e h ∙ read_place (place_outcome facts defs e env) p (sym (place_target e h) ∙ q)
     read_if e false h = λ p q. absurd (no_value_target e h p q)
 
-    pub side_is_read : (e : ExprTree) → IsRead facts (row.side_of defs facts e env)
+    pub side_is_read : (e : ExprTree) → IsFoundThere facts (row.side_of defs facts e env)
     side_is_read e = read_if e (is_place e) refl
 
-    -- an expression that was not found to be at a path sets no value
-    no_value : (e : ExprTree) (o : Option PlaceOutcome) → option_map place_outcome_of o ≡ located defs facts env e → is_at_path o ≡ false → (p : Path) → row.target_of defs facts e env ≡ Some (row.value_at p) → ⊥
-    no_value e None h n p q = no_value_target e (no_place e h) p q
-    no_value e (Some (place.Place r)) h n p q = absurd (cc n)
-    no_value e (Some (place.Other o)) h n p q =
-        let both = located_some (is_place e) (place_outcome facts defs e env) (found.other (outcome_tree o)) h in
-        let none : None ≡ Some (row.value_at p) = ap (row.target_at row.value_at) both.1 ∙ sym (place_target e both.0) ∙ q in
-        absurd (cc none)
+    at_path_if : (e : ExprTree) → is_place e ≡ true → (o : Option Path) → PathIn o row.value_at (row.target_if defs facts (is_place e) row.value_at e env) → option_map row.value_at o ≡ row.target_of defs facts e env
+    at_path_if e h o found = found ∙ sym (plain_target defs facts env e (no_size e h))
 
-    -- two sides of which one can set no value
-    abbrev NoValue : Option row.Target → Type 0
-    NoValue t = (p : Path) → t ≡ Some (row.value_at p) → ⊥
+    pub sets_at : (e : ExprTree) → is_place e ≡ true → (p : Path) → PathIn (Some p) row.value_at (row.target_if defs facts (is_place e) row.value_at e env) → row.target_of defs facts e env ≡ Some (row.value_at p)
+    sets_at e h p found = sym (at_path_if e h (Some p) found)
 
-    by_values : (b c : Bool) (s t : Option row.Target) (x y : found.Outcome) (n : row.Numbers) → NoValue s ⊎ NoValue t → row.equate_values facts (side b s x) (side c t y) ≡ row.equate facts (side b s x) (side c t y) n
-    by_values b c None t x y n h = refl
-    by_values b c (Some (row.length_at p)) t x y n h = refl
-    by_values b c (Some (row.value_at p)) None x y n h = refl
-    by_values b c (Some (row.value_at p)) (Some (row.length_at q)) x y n h = refl
-    by_values b c (Some (row.value_at p)) (Some (row.value_at q)) x y n (inl k) = absurd (k p refl)
-    by_values b c (Some (row.value_at p)) (Some (row.value_at q)) x y n (inr k) = absurd (k q refl)
+    pub sets_nowhere : (e : ExprTree) → is_place e ≡ true → PathIn None row.value_at (row.target_if defs facts (is_place e) row.value_at e env) → SetsNoValue (row.target_of defs facts e env)
+    sets_nowhere e h found p q = let none : None ≡ Some (row.value_at p) = at_path_if e h None found ∙ q in absurd (cc none)
 
-    one_lacks : (b c : Bool) → (b && c) ≡ false → (b ≡ false) ⊎ (c ≡ false)
-    one_lacks true c h = inr h
-    one_lacks false c h = inl refl
+  by_values : (b c : Bool) (s t : Option row.Target) (x y : found.Outcome) (n : row.Numbers) → SetsNoValue s ⊎ SetsNoValue t → row.equate_values facts (side b s x) (side c t y) ≡ row.equate facts (side b s x) (side c t y) n
+  by_values b c None t x y n h = refl
+  by_values b c (Some (row.length_at p)) t x y n h = refl
+  by_values b c (Some (row.value_at p)) None x y n h = refl
+  by_values b c (Some (row.value_at p)) (Some (row.length_at q)) x y n h = refl
+  by_values b c (Some (row.value_at p)) (Some (row.value_at q)) x y n (inl k) = absurd (k p refl)
+  by_values b c (Some (row.value_at p)) (Some (row.value_at q)) x y n (inr k) = absurd (k q refl)
 
-    -- an equation goes by values where not both sides were found to be at paths
-    pub goes_by_values : (l r : ExprTree) (o u : Option PlaceOutcome) (n : row.Numbers) → option_map place_outcome_of o ≡ located defs facts env l → option_map place_outcome_of u ≡ located defs facts env r → (is_at_path o && is_at_path u) ≡ false
-        → row.equate_values facts (row.side_of defs facts l env) (row.side_of defs facts r env) ≡ row.equate facts (row.side_of defs facts l env) (row.side_of defs facts r env) n
-    goes_by_values l r o u n h k none =
-        by_values (row.is_placed l) (row.is_placed r) (row.target_of defs facts l env) (row.target_of defs facts r env) (outcome facts defs l env) (outcome facts defs r env) n
-        (elim (one_lacks (is_at_path o) (is_at_path u) none) [ inl e ↦ inl (no_value l o h e) | inr e ↦ inr (no_value r u k e) ])
+  -- an equation goes by values where a side can set no value
+  pub goes_by_values : (l r : row.SideOf) (n : row.Numbers) → AreValuePaths l.target r.target None → row.equate_values facts l r ≡ row.equate facts l r n
+  goes_by_values l r n h = by_values l.placed r.placed l.target r.target l.found r.found n h
 
   known_meets : (b : Bool) (o : Option row.Target) (t : Tree) → SameTreeIsEquality → sets_length o ≡ false → ((p : Path) → o ≡ Some (row.value_at p) → addition facts (facts_at p t) ≡ store.adds [])
       → row.vanishes ≡ row.meets facts (side b o (found.value t)) t
@@ -169,7 +131,7 @@ module _ (facts : List Fact) where
   known_meets b (Some (row.length_at p)) t law n k = absurd (cc n)
 
   -- an equation of sides that are known already vanishes
-  pub equal_sides : (l r : row.SideOf) → SameTreeIsEquality → NoClash facts → IsRead facts l → AreEqual l r → row.vanishes ≡ row.equate_values facts l r
+  pub equal_sides : (l r : row.SideOf) → SameTreeIsEquality → NoClash facts → IsFoundThere facts l → AreEqual l r → row.vanishes ≡ row.equate_values facts l r
   equal_sides l r law n read h =
       let t = h.values.value in
       let there : (p : Path) → l.target ≡ Some (row.value_at p) → addition facts (facts_at p t) ≡ store.adds [] =

@@ -1,14 +1,12 @@
 -- Sides of equations that are places, and sides that are known already.
-use Rattle.std.specs.Prelude.{◌≡◌, Bool, true, false, List, Option, Some, None, if◌then◌else◌}
+use Rattle.std.specs.Prelude.{◌≡◌, ◌⊎◌, Bool, true, false, List, Option, Some, None}
 use Rattle.tp_value.specs.Tree.{Tree}
 use Rattle.tp_value.specs.declared.path.Fact.{Fact}
 use Rattle.tp_value.specs.declared.path.Path.{Path}
-use Rattle.tp_meaning.specs.Syntax.{Definition, ExprTree}
 use Rattle.tp_store.specs.Known.{full}
-use Rattle.tp_eval.specs.Evaluate.{of_full, is_place}
+use Rattle.tp_eval.specs.Evaluate.{of_full}
 use Rattle.tp_eval.specs.Outcome as found
-use Rattle.tp_eval.specs.Outcome.{outcome_reached, place_outcome}
-use Rattle.tp_scene.specs.Scene.{Bindings}
+use Rattle.tp_eval.specs.Outcome.{outcome_reached}
 use Rattle.tp_scene.specs.Step as row
 
 -- what is found at a path
@@ -20,22 +18,15 @@ abbrev pub outcome_of_place : List Fact → found.PlaceOutcome → found.Outcome
 outcome_of_place facts (found.path p) = outcome_at facts p
 outcome_of_place facts (found.other o) = o
 
--- where an expression is that is a place
-abbrev pub located : List Definition → List Fact → Bindings → ExprTree → Option found.PlaceOutcome
-located defs facts env e = if is_place e then Some (place_outcome facts defs e env) else None
+-- no value can be set there
+abbrev pub SetsNoValue : Option row.Target → Type 0
+SetsNoValue t = (p : Path) → t ≡ Some (row.value_at p) → ⊥
 
--- the side that a place is
-abbrev pub placed_side : List Fact → found.PlaceOutcome → row.SideOf
-placed_side facts o =
-    record {
-      placed = true;
-      target = row.target_at row.value_at o;
-      found = outcome_of_place facts o;
-    }
-
--- Where the side can set the value at a path, it has what is found there.
-abbrev pub IsRead : List Fact → row.SideOf → Type 0
-IsRead facts s = (p : Path) → s.target ≡ Some (row.value_at p) → s.found ≡ outcome_at facts p
+-- the paths of the values that two sides can set, or none where one of them can set none
+abbrev pub AreValuePaths : (left right : Option row.Target) → Option (Path × Path) → Type 0
+AreValuePaths l r (Some paths) =
+    (l ≡ Some (row.value_at paths.0)) × (r ≡ Some (row.value_at paths.1))
+AreValuePaths l r None = SetsNoValue l ⊎ SetsNoValue r
 
 -- the side can set a length
 abbrev pub sets_length : Option row.Target → Bool

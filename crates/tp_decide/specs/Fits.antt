@@ -6,8 +6,6 @@ use Rattle.tp_meaning.specs.Value.{is_upper}
 use Rattle.tp_meaning.specs.Fits.{ExprFits, BindingsFit}
 use Rattle.tp_store.specs.Known.{Variable, IsVariableOf}
 use Rattle.tp_eval.specs.Evaluate.{is_place}
-use Rattle.tp_eval.specs.declared.outcome.PlaceOutcome.{PlaceOutcome}
-use Rattle.tp_eval.specs.declared.outcome.PlaceOutcome.TheVariants as place
 use Rattle.tp_scene.specs.Scene as S
 use Rattle.tp_scene.specs.Fits.{kinds_in, PhraseFits}
 use Rattle.tp_decide.specs.declared.decision.Decision.{Decision}
@@ -43,10 +41,10 @@ abbrev pub IsPathOf : List Variable → Option Path → Type 0
 IsPathOf xs None = Unit {0}
 IsPathOf xs (Some p) = IsVariableOf xs p.var
 
-abbrev pub IsPlaceOf : List Variable → Option PlaceOutcome → Type 0
-IsPlaceOf xs None = Unit {0}
-IsPlaceOf xs (Some (place.Place p)) = IsVariableOf xs p.var
-IsPlaceOf xs (Some (place.Other o)) = Unit {0}
+-- both are of variables
+abbrev pub AreOfVariables : List Variable → Option (Path × Path) → Type 0
+AreOfVariables xs None = Unit {0}
+AreOfVariables xs (Some paths) = IsVariableOf xs paths.0.var × IsVariableOf xs paths.1.var
 
 -- a place for each upper-case parameter that has an argument
 abbrev pub ArePlaces : ExprTrees → (parameters : List (List ℕ)) → Type 0

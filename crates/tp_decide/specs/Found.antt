@@ -1,5 +1,5 @@
 -- What is found where expressions are evaluated, or decided instead.
-use Rattle.std.specs.Prelude.{◌≡◌, ℤ, pos, negsuc, zero, suc, Bool, true, false, ◌&&◌, List, Option, Some, None, Result, Ok, Err}
+use Rattle.std.specs.Prelude.{◌≡◌, ℤ, pos, negsuc, zero, suc, Bool, List, Option, Result, Ok, Err}
 use Rattle.std.specs.Option.{option_map}
 use Rattle.tp_value.specs.Tree.{Tree, num, truth}
 use Rattle.tp_value.specs.Read.{tree}
@@ -12,8 +12,6 @@ use Rattle.tp_kernel.specs.declared.formula.Env.{Env}
 use Rattle.tp_kernel.specs.Read.{binding_of, bindings_of}
 use Rattle.tp_eval.specs.Outcome as found
 use Rattle.tp_eval.specs.Answers.{outcome_tree}
-use Rattle.tp_eval.specs.declared.outcome.PlaceOutcome.{PlaceOutcome}
-use Rattle.tp_eval.specs.declared.outcome.PlaceOutcome.TheVariants as place
 use Rattle.tp_scene.specs.Scene.{Bindings}
 use Rattle.tp_scene.specs.Step as row
 use Rattle.tp_scene.specs.Step.{PickOutcome}
@@ -71,20 +69,6 @@ side_found s =
 
 abbrev pub PathIn : Option Path → (Path → row.Target) → Option row.Target → Type 0
 PathIn o f t = option_map f o ≡ t
-
--- an expression that was located is at a path
-abbrev pub is_at_path : Option PlaceOutcome → Bool
-is_at_path None = false
-is_at_path (Some (place.Place p)) = true
-is_at_path (Some (place.Other o)) = false
-
--- the paths of two that are both at one, or else the two as they were
-abbrev pub ArePathsOf : (left right : Option PlaceOutcome)
-    → Result (Path × Path) (Option PlaceOutcome × Option PlaceOutcome) → Type 0
-ArePathsOf l r (Ok paths) =
-    (l ≡ Some (place.Place paths.0)) × (r ≡ Some (place.Place paths.1))
-ArePathsOf l r (Err same) =
-    (same.0 ≡ l) × (same.1 ≡ r) × ((is_at_path l && is_at_path r) ≡ false)
 
 abbrev pub IsNoSize : ExprTree → Type 0
 IsNoSize (size e) = ⊥

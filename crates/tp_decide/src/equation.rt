@@ -11,15 +11,15 @@ ghost use Rattle.tp_scene.specs.Step as row;
 ghost use Rattle.tp_store.specs.Known.{Variable, IsVariableOf};
 ghost use Rattle.tp_decide.specs.Decided.{decided_outcome, setting_of};
 ghost use Rattle.tp_decide.specs.Found.{option_target, side_found};
-ghost use Rattle.tp_decide.specs.Equated.{sets_length, AreOneValue, AreEqual, IsRead};
-ghost use Rattle.tp_decide.specs.Fits.{IsTargetOf, SetsVariables, ExprFitsStore};
+ghost use Rattle.tp_decide.specs.Equated.{sets_length, AreOneValue, AreEqual, AreValuePaths};
+ghost use Rattle.tp_decide.specs.Fits.{AreOfVariables, IsTargetOf, SetsVariables, ExprFitsStore};
 
 use crate::decision::{Decision, nothing};
 use crate::setting::Setting;
 use crate::sharing::equate_places;
-use crate::sides::{Side, Target, both_paths, locate, side_of, side_with};
+use crate::sides::{Side, Target, path_of, side_of, side_with};
 use std::alloc::Global;
-use tp_eval::Outcome;
+use tp_eval::{Outcome, is_place};
 use tp_kernel::{Env, Expr, FaultKind, LimitKind};
 use tp_scene::{Cell, Clash};
 use tp_store::Store;
@@ -220,24 +220,41 @@ fn are_equal(left: &Side, right: &Side) -> bool
     are_one_value(&left.found, &right.found)
 }
 
-// What becomes of the equation of two sides by what is found of them, where nothing is set that is known already.
-fn decide_values(alloc: Global, left: Side, right: Side, store: &Store) -> Decision
-    requires read { IsRead store.now.facts (side_found left) }
-    ensures outcome { (n : row.Numbers)
-        → decided_outcome store.now.facts n result
-        ≡ row.equate_values store.now.facts (side_found left) (side_found right) }
-    ensures variables { (xs : List Variable) → IsTargetOf xs left.target
-        → IsTargetOf xs right.target → SetsVariables xs result }
+// The paths of two places that are both found; none where one isn't.
+fn both_paths(
+    alloc: Global,
+    left: &Expr,
+    right: &Expr,
+    env: &Env,
+    store: &Store,
+    setting: &Setting,
+) -> Result<Option<(Path, Path)>, NoMemory>
+    requires fits_left { ExprFitsStore (definitions_of setting.now.defs.now) store.now.variables
+        (expr_tree left.now) (bindings_of env.now) }
+    requires fits_right { ExprFitsStore (definitions_of setting.now.defs.now) store.now.variables
+        (expr_tree right.now) (bindings_of env.now) }
+    ensures paths { let defs = definitions_of setting.now.defs.now in
+        IfOk result
+        (AreValuePaths
+        (row.target_of defs store.now.facts (expr_tree left.now)
+        (bindings_of env.now))
+        (row.target_of defs store.now.facts (expr_tree right.now)
+        (bindings_of env.now))) }
+    ensures variables { IfOk result (AreOfVariables store.now.variables) }
 {
-    if are_equal(&left, &right) {
-        same_tree_is_equality();
-        store.count(); // whose facts don't clash
-        return nothing(alloc);
+    if !is_place(left) || !is_place(right) {
+        return Ok(None);
     }
-    equate_values(alloc, left, right)
+    let Some(left) = path_of(alloc, left, env, store, setting.defs)? else {
+        return Ok(None);
+    };
+    let Some(right) = path_of(alloc, right, env, store, setting.defs)? else {
+        return Ok(None);
+    };
+    Ok(Some((left, right)))
 }
 
-/// What becomes of the equation of the two. That of two places goes by their shapes, and no value is looked for there.
+/// What becomes of the equation of the two. That of two places goes by their shapes.
 pub fn decide_equation(
     alloc: Global,
     left: &Expr,
@@ -262,19 +279,18 @@ pub fn decide_equation(
         n) }
     ensures variables { IfOk result (SetsVariables store.now.variables) }
 {
-    let left_place = locate(alloc, left, env, store, setting.defs)?;
-    let right_place = locate(alloc, right, env, store, setting.defs)?;
-    match both_paths(left_place, right_place) {
-        Ok((left, right)) => {
-            let decision = equate_places(alloc, left, right, store)?;
-            Ok(decision)
-        }
-        Err((left_place, right_place)) => {
-            let left = side_of(alloc, left, left_place, env, store, setting.defs)?;
-            let right = side_of(alloc, right, right_place, env, store, setting.defs)?;
-            Ok(decide_values(alloc, left, right, store))
-        }
+    if let Some((left, right)) = both_paths(alloc, left, right, env, store, setting)? {
+        let decision = equate_places(alloc, left, right, store)?;
+        return Ok(decision);
     }
+    let left = side_of(alloc, left, env, store, setting.defs)?;
+    let right = side_of(alloc, right, env, store, setting.defs)?;
+    if are_equal(&left, &right) {
+        same_tree_is_equality();
+        store.count(); // whose facts don't clash
+        return Ok(nothing(alloc));
+    }
+    Ok(equate_values(alloc, left, right))
 }
 
 /// What becomes of the equation with the value that the inputs have for the port.
@@ -300,8 +316,7 @@ pub fn decide_input(
 {
     match setting.inputs.at(setting.state, port) {
         Some(value) => {
-            let place = locate(alloc, expr, env, store, setting.defs)?;
-            let left = side_of(alloc, expr, place, env, store, setting.defs)?;
+            let left = side_of(alloc, expr, env, store, setting.defs)?;
             let right = side_with(alloc, value)?;
             Ok(equate_values(alloc, left, right))
         }

@@ -1,16 +1,15 @@
-// The sides of equations: where they are, what they can set, and what is found there.
-ghost use Rattle.std.specs.Prelude.{◌≡◌, IfOk, None, Some, MatchOption, false};
-ghost use Rattle.std.specs.Option.{option_map};
+// The sides of equations: what they can set, and what is found there.
+ghost use Rattle.std.specs.Prelude.{◌≡◌, IfOk, None, MatchOption, false, true};
 ghost use Rattle.tp_value.specs.Read.{tree};
 ghost use Rattle.tp_value.specs.declared.path.Path.{Path};
 ghost use Rattle.tp_meaning.specs.Syntax.{size};
 ghost use Rattle.tp_kernel.specs.Read.{expr_tree, definitions_of, bindings_of};
-ghost use Rattle.tp_eval.specs.Answers.{outcome_tree, place_outcome_of};
+ghost use Rattle.tp_eval.specs.Answers.{outcome_tree};
 ghost use Rattle.tp_eval.specs.Evaluate.{is_place as is_place_tree};
 ghost use Rattle.tp_scene.specs.Step as row;
-ghost use Rattle.tp_decide.specs.Found.{option_target, side_found, PathIn, ArePathsOf, IsNoSize};
-ghost use Rattle.tp_decide.specs.Equated.{outcome_at, located, placed_side};
-ghost use Rattle.tp_decide.specs.Fits.{IsPathOf, IsPlaceOf, IsTargetOf, ExprFitsStore};
+ghost use Rattle.tp_decide.specs.Found.{option_target, side_found, PathIn, IsNoSize};
+ghost use Rattle.tp_decide.specs.Equated.{outcome_at};
+ghost use Rattle.tp_decide.specs.Fits.{IsPathOf, IsTargetOf, ExprFitsStore};
 
 use std::alloc::Global;
 use tp_eval::{Outcome, PlaceOutcome, eval, is_place, place};
@@ -33,44 +32,8 @@ pub struct Side {
     pub found: Outcome,
 }
 
-/// Where an expression is found to be that is a place; nothing of another one. What is there isn't looked at.
-pub fn locate(
-    alloc: Global,
-    expr: &Expr,
-    env: &Env,
-    store: &Store,
-    defs: &Defs,
-) -> Result<Option<PlaceOutcome>, NoMemory>
-    requires fits { ExprFitsStore (definitions_of defs.now) store.now.variables (expr_tree expr.now)
-        (bindings_of env.now) }
-    ensures place { IfOk result (λ o.
-        option_map place_outcome_of o
-        ≡ located (definitions_of defs.now) store.now.facts (bindings_of env.now)
-        (expr_tree expr.now)) }
-    ensures variables { IfOk result (IsPlaceOf store.now.variables) }
-{
-    if !is_place(expr) {
-        return Ok(None);
-    }
-    let found = place(alloc, expr, env, store, defs)?;
-    Ok(Some(found))
-}
-
-/// The paths of two sides that are both at one, or else where the two are, as it was.
-pub fn both_paths(
-    left: Option<PlaceOutcome>,
-    right: Option<PlaceOutcome>,
-) -> Result<(Path, Path), (Option<PlaceOutcome>, Option<PlaceOutcome>)>
-    ensures { ArePathsOf left right result }
-{
-    match (left, right) {
-        (Some(PlaceOutcome::Place(p)), Some(PlaceOutcome::Place(q))) => Ok((p, q)),
-        (left, right) => Err((left, right)),
-    }
-}
-
-// The path of an expression, where it is a place with one.
-fn path_of(
+/// The path of an expression, where it is a place with one.
+pub fn path_of(
     alloc: Global,
     expr: &Expr,
     env: &Env,
@@ -86,11 +49,13 @@ fn path_of(
         (is_place_tree (expr_tree expr.now)) f (expr_tree expr.now) (bindings_of env.now))) }
     ensures variables { IfOk result (IsPathOf store.now.variables) }
 {
-    let found = locate(alloc, expr, env, store, defs)?;
+    if !is_place(expr) {
+        return Ok(None);
+    }
+    let found = place(alloc, expr, env, store, defs)?;
     match found {
-        Some(PlaceOutcome::Place(path)) => Ok(Some(path)),
-        Some(PlaceOutcome::Other(_)) => Ok(None),
-        None => Ok(None),
+        PlaceOutcome::Place(path) => Ok(Some(path)),
+        PlaceOutcome::Other(_) => Ok(None),
     }
 }
 
@@ -156,14 +121,25 @@ fn found_at(path: &Path, store: &Store) -> Result<Outcome, NoMemory>
     }
 }
 
-// A side that is a place, which was found to be this.
-fn placed_side(place: PlaceOutcome, store: &Store) -> Result<Side, NoMemory>
+// A side that is a place, evaluated once for what it can set and for what is found there.
+fn evaluate_place(
+    alloc: Global,
+    expr: &Expr,
+    env: &Env,
+    store: &Store,
+    defs: &Defs,
+) -> Result<Side, NoMemory>
+    requires fits { ExprFitsStore (definitions_of defs.now) store.now.variables (expr_tree expr.now)
+        (bindings_of env.now) }
+    requires place { is_place_tree (expr_tree expr.now) ≡ true }
     ensures outcome { IfOk result (λ s.
-        side_found s ≡ placed_side store.now.facts (place_outcome_of place)) }
-    ensures variables { IfOk result (λ s.
-        IsPlaceOf store.now.variables (Some place) → IsTargetOf store.now.variables s.target) }
+        side_found s
+        ≡ row.side_of (definitions_of defs.now) store.now.facts (expr_tree expr.now)
+        (bindings_of env.now)) }
+    ensures variables { IfOk result (λ s. IsTargetOf store.now.variables s.target) }
 {
-    match place {
+    let outcome = place(alloc, expr, env, store, defs)?;
+    match outcome {
         PlaceOutcome::Place(path) => {
             let found = found_at(&path, store)?;
             Ok(Side {
@@ -180,8 +156,8 @@ fn placed_side(place: PlaceOutcome, store: &Store) -> Result<Side, NoMemory>
     }
 }
 
-// A side that is no place.
-fn evaluated_side(
+/// The side that the expression is. A place is evaluated once, for what it can set and for what is found there.
+pub fn side_of(
     alloc: Global,
     expr: &Expr,
     env: &Env,
@@ -190,13 +166,16 @@ fn evaluated_side(
 ) -> Result<Side, NoMemory>
     requires fits { ExprFitsStore (definitions_of defs.now) store.now.variables (expr_tree expr.now)
         (bindings_of env.now) }
-    requires no_place { is_place_tree (expr_tree expr.now) ≡ false }
     ensures outcome { IfOk result (λ s.
         side_found s
         ≡ row.side_of (definitions_of defs.now) store.now.facts (expr_tree expr.now)
         (bindings_of env.now)) }
     ensures variables { IfOk result (λ s. IsTargetOf store.now.variables s.target) }
 {
+    if is_place(expr) {
+        let side = evaluate_place(alloc, expr, env, store, defs)?;
+        return Ok(side);
+    }
     let target = find_length(alloc, expr, env, store, defs)?;
     let found = eval(alloc, expr, env, store, defs)?;
     Ok(Side {
@@ -204,36 +183,6 @@ fn evaluated_side(
         target,
         found,
     })
-}
-
-/// The side that the expression is, which was located before. A place isn't evaluated again for what is found there.
-pub fn side_of(
-    alloc: Global,
-    expr: &Expr,
-    place: Option<PlaceOutcome>,
-    env: &Env,
-    store: &Store,
-    defs: &Defs,
-) -> Result<Side, NoMemory>
-    requires fits { ExprFitsStore (definitions_of defs.now) store.now.variables (expr_tree expr.now)
-        (bindings_of env.now) }
-    requires place { option_map place_outcome_of place
-        ≡ located (definitions_of defs.now) store.now.facts (bindings_of env.now)
-        (expr_tree expr.now) }
-    requires variables { IsPlaceOf store.now.variables place }
-    ensures outcome { IfOk result (λ s.
-        side_found s
-        ≡ row.side_of (definitions_of defs.now) store.now.facts (expr_tree expr.now)
-        (bindings_of env.now)) }
-    ensures variables { IfOk result (λ s. IsTargetOf store.now.variables s.target) }
-{
-    match place {
-        Some(place) => {
-            let side = placed_side(place, store)?;
-            Ok(side)
-        }
-        None => evaluated_side(alloc, expr, env, store, defs),
-    }
 }
 
 /// A side that has this value, which was found before.

@@ -1,6 +1,6 @@
 // How the source is written.
 ghost use Rattle.std.specs.Prelude.{◌≡◌, ◌≤◌, ◌<◌, ◌-◌, ◌++◌, OnOk, OnErr};
-ghost use Rattle.tp_gen.specs.Source.{numbered_name, opening_text, link_text, source_text};
+ghost use Rattle.tp_gen.specs.Source.{numbered_name, beginning_text, link_text, source_text};
 
 use itoa::Buffer;
 use tp_value::{NoMemory, Text};
@@ -17,7 +17,7 @@ fn append_name(out: &mut Text, words: &[u8], number: u64) -> Result<(), NoMemory
 
 // Appends what stands before the links.
 fn append_opening(out: &mut Text, last: u64) -> Result<(), NoMemory>
-    ensures { OnOk result (out.new ≡ out.old ++ opening_text last) }
+    ensures { OnOk result (out.new ≡ out.old ++ beginning_text last) }
 {
     append_name(out, b"run len(7) and ", last)?;
     append_name(out, b"=0 and ", last)?;

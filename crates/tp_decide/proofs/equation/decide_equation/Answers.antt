@@ -1,23 +1,29 @@
-use Rattle.std.proofs.Common.{◌∙◌, ap₂, sym, subst}
+use Rattle.std.proofs.Common.{◌∙◌, subst}
 use Rattle.tp_kernel.specs.Read.{expr_tree, definitions_of, bindings_of}
-use Rattle.tp_scene.specs.Step.{SideOf, equate_values}
-use Rattle.tp_decide.specs.Equated.{IsRead}
-use Rattle.tp_decide.proofs.PlaceSides.{side_is_read, goes_by_values}
+use Rattle.tp_scene.specs.Step.{SideOf, side_of, target_of}
+use Rattle.tp_decide.specs.Found.{side_found}
+use Rattle.tp_decide.specs.Equated.{AreEqual, AreValuePaths}
+use Rattle.tp_decide.proofs.PlaceSides.{equal_sides, goes_by_values, side_is_read}
 use Rattle.tp_decide.proofs.equation.decide_equation.Goals as goal
 
-pub decide_values-requires : goal.decide_values-requires
-decide_values-requires c =
-    let facts = c.args.store.now.facts in
-    let P : SideOf → Type 0 = λ s. IsRead facts s in
-    record { read = subst P (sym c.in_ok-left-in-Err.ensures.outcome) (side_is_read facts (definitions_of c.args.setting.now.defs.now) (bindings_of c.args.env.now) (expr_tree c.args.left.now)) }
-
-pub returns-in_ok-right-in-Err-clause-outcome : goal.returns-in_ok-right-in-Err-clause-outcome
-returns-in_ok-right-in-Err-clause-outcome c = λ n.
+pub returns-then-are_equal-clause-outcome : goal.returns-then-are_equal-clause-outcome
+returns-then-are_equal-clause-outcome c = λ n.
     let facts = c.args.store.now.facts in
     let defs = definitions_of c.args.setting.now.defs.now in
-    c.decide_values.ensures.outcome n ∙ ap₂ (equate_values facts) c.in_ok-left-in-Err.ensures.outcome c.in_ok-right-in-Err.ensures.outcome
-    ∙ goes_by_values facts defs (bindings_of c.args.env.now) (expr_tree c.args.left.now) (expr_tree c.args.right.now) c.in_ok-left_place.left_place c.in_ok-right_place.right_place n
-    c.in_ok-left_place.ensures.place c.in_ok-right_place.ensures.place c.in-Err.ensures.2
+    let env = bindings_of c.args.env.now in
+    let l = expr_tree c.args.left.now in
+    let r = expr_tree c.args.right.now in
+    let P : SideOf → Type 0 = λ x. AreEqual x (side_found c.in_ok-right.right) in
+    let first = subst P c.in_ok-left-2.ensures.outcome (c.are_equal.ensures c.if-are_equal.true) in
+    let Q : SideOf → Type 0 = λ y. AreEqual (side_of defs facts l env) y in
+    let both = subst Q c.in_ok-right.ensures.outcome first in
+    let none = subst (AreValuePaths (target_of defs facts l env) (target_of defs facts r env)) c.in_default.is c.in_ok-left.ensures.paths in
+    c.nothing.ensures.outcome facts n
+    ∙ equal_sides facts (side_of defs facts l env) (side_of defs facts r env) c.same_tree_is_equality.ensures c.count.ensures.sound.no_clash (side_is_read facts defs env l) both
+    ∙ goes_by_values facts (side_of defs facts l env) (side_of defs facts r env) n none
 
-pub returns-in_ok-right-in-Err-clause-variables : goal.returns-in_ok-right-in-Err-clause-variables
-returns-in_ok-right-in-Err-clause-variables c = c.decide_values.ensures.variables c.args.store.now.variables c.in_ok-left-in-Err.ensures.variables c.in_ok-right-in-Err.ensures.variables
+pub returns-then-are_equal-clause-variables : goal.returns-then-are_equal-clause-variables
+returns-then-are_equal-clause-variables c = c.nothing.ensures.plain c.args.store.now.variables
+
+pub returns-clause-variables : goal.returns-clause-variables
+returns-clause-variables c = c.equate_values.ensures.variables c.args.store.now.variables c.in_ok-left-2.ensures.variables c.in_ok-right.ensures.variables
