@@ -11,8 +11,8 @@ use Rattle.tp_step.specs.declared.answer.Tried.{Tried}
 use Rattle.tp_step.specs.declared.answer.Tried.TheVariants as tried
 use Rattle.tp_pass.specs.declared.sweep.Sweep.{Sweep}
 use Rattle.tp_pass.specs.Sweeps.{BeginsSweep, TakesTurn}
-use Rattle.tp_step.specs.Closes.{LooksAt, Looks, Counts, ending_of, is_pick}
-use Rattle.tp_pass.specs.Follows.{Turns, no_turn_yet, one_pick, no_pick, PassSoFar, WholePasses, no_pass_yet, whole_pass, EndsWithItem, EndsAtTurn, PassTurns, EndsLastPass, FollowsOrder}
+use Rattle.tp_step.specs.Closes.{EndsWithItem, LooksAt, Looks, Counts, ending_of, is_pick}
+use Rattle.tp_pass.specs.Follows.{Turns, no_turn_yet, one_pick, no_pick, PassSoFar, WholePasses, no_pass_yet, whole_pass, EndsAtTurn, PassTurns, EndsLastPass, FollowsOrder}
 
 -- The turns of a pass so far, from those that its sweep begins with, whose picks were appended to those before.
 pub record TurnsSoFar (w : Setting) (m here : Moment) (first left : Sweep) (l0 l1 : ℕ) (b0 b1 : List ℕ) : Type 0 where

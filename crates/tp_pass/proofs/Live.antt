@@ -6,19 +6,8 @@ use Rattle.std.proofs.lemmas.Bool.{both_ways}
 use Rattle.std.proofs.lemmas.List.{places}
 use Rattle.std.proofs.lemmas.List.Elements.{All-push, All-weaker, Contains-append_left, Contains-append_cases, Contains-push}
 use Rattle.tp_scene.specs.Scene.{Entries, has}
-use Rattle.tp_slots.specs.Kept.{IsWellKept}
-use Rattle.tp_slots.specs.Plain.{entries_at}
-use Rattle.tp_slots.specs.Read.{scene_of, slots_of}
-use Rattle.tp_slots.specs.declared.scene.Scene.{Scene}
-use Rattle.tp_slots.proofs.Showing.{all_shown, has_shown}
 use Rattle.tp_pass.specs.Sweeps.{IsLiveByNumber}
 use Rattle.tp_pass.proofs.Sweeping.{only_one, nothing_there}
-
--- each live item is below the next new one
-pub live_below : (s : Scene) → IsWellKept s → (t : ℕ) → has t (scene_of s).root.entries ≡ true → t < (scene_of s).next_item
-live_below s kept t lives =
-    let o = kept.shape.ordered in
-    (has_shown (slots_of s) o t 0 (entries_at (slots_of s) 0) (all_shown (slots_of s) o 0 o.root) lives).0
 
 -- These are the live items below n, by increasing number.
 pub record AreLiveBelow (es : Entries) (n : ℕ) (items : List ℕ) : Type 0 where

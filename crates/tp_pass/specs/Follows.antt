@@ -1,9 +1,9 @@
 -- The picks of a closure in an order: pass after pass, each by the turns of its sweep.
-use Rattle.std.specs.Prelude.{◌≡◌, ◌⊎◌, ℕ, ◌+◌, ◌<◌, true, List, [], ◌∷◌, ◌++◌, length, Option, None, Some}
-use Rattle.tp_kernel.specs.declared.fault.LimitKind.TheVariants.{Reductions}
+use Rattle.std.specs.Prelude.{◌≡◌, ℕ, ◌+◌, ◌<◌, true, List, [], ◌∷◌, ◌++◌, length, Option, None, Some}
 use Rattle.tp_scene.specs.Scene.{has}
-use Rattle.tp_scene.specs.Step.{Reduction, reduces, clashes, misses, passes}
+use Rattle.tp_scene.specs.Step.{Reduction}
 use Rattle.tp_scene.specs.Pick.{Setting, Moment, Reduces, outcome_of, IsIdle}
+use Rattle.tp_step.specs.Closes.{EndsWithItem}
 use Rattle.tp_step.specs.declared.order.Order.{Order}
 use Rattle.tp_step.specs.declared.ending.Ending.{Ending}
 use Rattle.tp_step.specs.declared.ending.Ending.TheVariants.{Rest, Clash, Missing, Over}
@@ -59,17 +59,7 @@ pub data WholePasses (w : Setting) (m : Moment) (order : Order) : (picks : List 
       → HasNoTurn next left → 0 < length us
       → WholePasses w m order (ts ++ us) next after
 
--- with so many reductions left, a closure ends with this item
-abbrev pub EndsWithItem : Setting → (left : ℕ) → Moment → (item : ℕ) → Ending → Type 0
-EndsWithItem w k m t Rest = ⊥
-EndsWithItem w k m t (Clash clash) = outcome_of w m.store m.scene t ≡ clashes clash
-EndsWithItem w k m t (Missing port) = outcome_of w m.store m.scene t ≡ misses port
-EndsWithItem w k m t (Over kind) =
-    (outcome_of w m.store m.scene t ≡ passes kind)
-    ⊎ ((kind ≡ Reductions) × (k ≡ 0)
-    × ((r : Reduction) × (outcome_of w m.store m.scene t ≡ reduces r)))
-
--- and with the live item whose turn it is
+-- with so many reductions left, a closure ends with the live item whose turn it is
 abbrev pub EndsAtTurn : Setting → (left : ℕ) → Moment → Sweep → Ending → Type 0
 EndsAtTurn w k m sweep ending =
     (t : ℕ) × HasTurn m sweep t × (has t m.scene.root.entries ≡ true) × EndsWithItem w k m t ending

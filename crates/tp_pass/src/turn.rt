@@ -1,14 +1,13 @@
 // Whose turn it is in a pass.
-ghost use Rattle.std.specs.Prelude.{◌≡◌, ◌<◌, ◌%◌, ◌^◌, ℕ, suc, IfOk, OnSome};
+ghost use Rattle.std.specs.Prelude.{◌≡◌, ◌<◌, ◌^◌, IfOk, OnSome};
 ghost use Rattle.tp_slots.specs.Kept.{IsWellKept};
 ghost use Rattle.tp_slots.specs.Read.{scene_of};
-ghost use Rattle.tp_step.specs.Seeds.{choice_at, choice_of, word_after, word_at};
 ghost use Rattle.tp_pass.specs.Sweeps.{BeginsSweep, IsLiveByNumber, TakesTurn, turns_left};
 
 use crate::sweep::Sweep;
 use std::alloc::Global;
 use std::collections::VecDeque;
-use tp_step::{Order, Scene, has_item};
+use tp_step::{Order, Scene, choose, has_item};
 use tp_value::NoMemory;
 
 /// The number that the next new item takes.
@@ -32,21 +31,6 @@ fn live_by_number(alloc: Global, scene: &Scene) -> Result<VecDeque<u64>, NoMemor
         }
     }
     Ok(live)
-}
-
-// Makes a choice among so many by a seed's word, which goes on to the next one.
-fn choose(word: &mut u64, count: u64) -> u64
-    requires some { 0 < count }
-    ensures choice { result ≡ choice_of word.old % count }
-    ensures word { word.new ≡ word_after word.old }
-    ensures seed { (seed k : ℕ) → word.old ≡ word_at seed k
-        → (result ≡ choice_at seed k % count) × (word.new ≡ word_at seed (suc k)) }
-{
-    let place = (*word >> 33) % count;
-    *word = word
-        .wrapping_mul(6364136223846793005)
-        .wrapping_add(1442695040888963407);
-    place
 }
 
 impl Sweep {

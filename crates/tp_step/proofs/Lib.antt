@@ -18,3 +18,5 @@ pub mod KnownValues
 pub mod KnownItems
 pub mod Room
 pub mod BindsLast
+pub mod LiveNumbers
+pub mod Picks

@@ -11,6 +11,7 @@ mod next_scene;
 mod next_state;
 mod order;
 mod own;
+mod seed;
 mod step;
 mod steps;
 
@@ -21,6 +22,7 @@ pub use laws::first_waiting_is_named;
 pub use live::{items, settled};
 pub use next_state::advance;
 pub use order::Order;
+pub use seed::choose;
 pub use step::try_item;
 pub use steps::Steps;
 pub use tp_decide::{Phrase, Setting, Shows, Values};

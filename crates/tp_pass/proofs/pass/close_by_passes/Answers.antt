@@ -7,7 +7,7 @@ use Rattle.tp_step.specs.Answers.{moment_of}
 use Rattle.tp_pass.specs.Passes.{Passes}
 use Rattle.tp_pass.specs.Follows.{PassTurns}
 use Rattle.tp_pass.proofs.Following.{passes_begin, passes_go_on, closure_ends}
-use Rattle.tp_pass.proofs.Picks.{on_refusal, made_none, made_on}
+use Rattle.tp_step.proofs.Picks.{on_refusal, made_none, made_on}
 use Rattle.tp_step.proofs.EveryRest.{closures_commute}
 use Rattle.tp_step.proofs.Room.{closures_keep_room}
 use Rattle.tp_pass.proofs.pass.close_by_passes.Goals as goal

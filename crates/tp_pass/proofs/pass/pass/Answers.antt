@@ -5,7 +5,7 @@ use Rattle.tp_step.specs.declared.ending.Ending.{Ending}
 use Rattle.tp_step.specs.Answers.{moment_of}
 use Rattle.tp_step.specs.Closes.{Looks}
 use Rattle.tp_pass.proofs.Following.{MayEndWith, may_end, pass_of, turns_begin, turns_go_on, turns_end}
-use Rattle.tp_pass.proofs.Live.{live_below}
+use Rattle.tp_step.proofs.LiveNumbers.{live_below}
 use Rattle.tp_pass.proofs.Picks.{looked, picks_have_room, passing_first, passing_more, passing_last, passing_ends}
 use Rattle.tp_pass.proofs.pass.pass.Goals as goal
 

@@ -1,6 +1,7 @@
 use Rattle.std.proofs.Common.{◌+◌, ◌<◌, subst, sym, ap, arith, ◌∙◌}
 use Rattle.tp_slots.specs.Read.{scene_of}
-use Rattle.tp_pass.proofs.Live.{AreLiveBelow, one_live, not_live, all_live, live_below}
+use Rattle.tp_pass.proofs.Live.{AreLiveBelow, one_live, not_live, all_live}
+use Rattle.tp_step.proofs.LiveNumbers.{live_below}
 use Rattle.tp_pass.proofs.turn.live_by_number.Goals.{then-has_item+in_ok-push_back, else-has_item}
 use Rattle.tp_pass.proofs.turn.live_by_number.Goals as goal
 
