@@ -21,10 +21,10 @@ got [] k x e = refl
 got (y ∷ ys) zero x e = cc
 got (y ∷ ys) (suc k) x e = got ys k x e
 
-among : {A : Type 0} (xs : List A) (x : A) → Contains xs x → IsAmong xs x
+pub among : {A : Type 0} (xs : List A) (x : A) → Contains xs x → IsAmong xs x
 among xs x c = (c.0, listed xs c.0 x c.1 c.2)
 
-contains : {A : Type 0} (xs : List A) (x : A) → IsAmong xs x → Contains xs x
+pub contains : {A : Type 0} (xs : List A) (x : A) → IsAmong xs x → Contains xs x
 contains xs x a = (a.0, at_less xs a.0 x a.1, got xs a.0 x a.1)
 
 module _ (w : Setting) (m : Moment) (ws : List Wait) (rs : List ℕ) (over ready : List Bool) (h : IsHeld w m ws rs over ready nothing_due) where

@@ -7,3 +7,14 @@ pub mod Waking
 pub mod Forgetting
 pub mod Keeping
 pub mod Held
+pub mod Movers
+pub mod Deciding
+pub mod Leaving
+pub mod Members
+pub mod SlotMoves
+pub mod Turns
+pub mod Adding
+pub mod Trying
+pub mod TakingNews
+pub mod Waked
+pub mod Closing

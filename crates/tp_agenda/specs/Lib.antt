@@ -1,7 +1,10 @@
+pub mod Agenda
+pub mod Board
 pub mod Decides
 pub mod Held
 pub mod Index
 pub mod Laws
+pub mod Leaves
 pub mod Marks
 pub mod Ready
 pub mod Wakes

@@ -6,6 +6,7 @@ use Rattle.tp_scene.specs.Scene.{Holder, Split, SplitProject, Closed, Opened, Ru
 use Rattle.tp_scene.specs.Rest.{is_unsettled}
 use Rattle.tp_scene.specs.Pick.{Moment}
 use Rattle.tp_scene.specs.Cells.{IsDecided}
+use Rattle.tp_slots.specs.Plain.{What, bare, holds, gone}
 use Rattle.tp_step.specs.declared.answer.Wait.{Wait}
 use Rattle.tp_agenda.specs.Decides.{WaitsFor}
 
@@ -24,6 +25,12 @@ may_move t (leaf id l rest) = (eqb id t && is_unsettled l) || may_move t rest
 may_move t (node id k h held g second rest) =
     (eqb id t && holder_moves k)
     || ((second_lives k && may_move t second) || (may_move t held || may_move t rest))
+
+-- what stands under a number may move, where it is live
+abbrev pub what_moves : What → Bool
+what_moves (bare l) = is_unsettled l
+what_moves (holds k r q) = holder_moves k
+what_moves (gone by) = false
 
 -- A cell of the wait is decided.
 pub record IsOver (m : Moment) (w : Wait) : Type 0 where

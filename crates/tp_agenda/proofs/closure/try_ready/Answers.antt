@@ -1,0 +1,153 @@
+-- Each ready item is tried in its turn.
+use Rattle.std.proofs.Common.{◌<◌, ℕ, List, [], ◌∷◌, ◌++◌, length, refl, ap, sym, ◌∙◌, subst}
+use Rattle.std.specs.List.{All}
+use Rattle.tp_decide.specs.Decided.{setting_of}
+use Rattle.tp_step.specs.declared.answer.Tally.{Tally}
+use Rattle.tp_step.specs.declared.answer.Waits.{Waits}
+use Rattle.tp_step.specs.declared.answer.Wait.{Wait}
+use Rattle.tp_step.specs.Answers.{moment_of}
+use Rattle.tp_step.specs.Closes.{Made}
+use Rattle.tp_step.proofs.Picks.{on_refusal, made_none}
+use Rattle.tp_agenda.specs.Board.{FitsBoard}
+use Rattle.tp_agenda.specs.Held.{IsHeld, nothing_due}
+use Rattle.tp_agenda.proofs.Trying.{agenda_sound}
+use Rattle.tp_agenda.proofs.Closing.{agenda_starts, turn_lives, goes_on_so, ends_with_so, tried_made, picks_have_room, rests_with, waits_below, still_fits, same_size}
+use Rattle.tp_agenda.proofs.closure.try_ready.Goals as goal
+
+pub tries-init : goal.tries-init
+tries-init g c =
+    let w = setting_of c.args.setting.now in
+    let m = moment_of c.args.scene.now c.args.store.now in
+    let agenda = c.args.agenda.now in
+    let tally = c.args.tally.now in
+    let over = agenda.board.over.items in
+    let ready = agenda.board.ready in
+    let q = c.requires in
+    record {
+      so_far = agenda_starts w m agenda.course.order agenda.course.room tally.picks tally.waits.items.items tally.rests c.args.steps.now q.no_waits q.no_rests;
+      made = made_none w m agenda.course.room tally.picks;
+      held = subst (λ (xs : List Wait). IsHeld w m xs tally.rests over ready nothing_due) (sym q.no_waits) (subst (λ (ts : List ℕ). IsHeld w m [] ts over ready nothing_due) (sym q.no_rests) q.held);
+      fits = subst (λ (xs : List Wait). FitsBoard xs agenda.board) (sym q.no_waits) q.fits;
+      flags = q.flags;
+      kept = q.kept;
+    }
+
+pub try_item-requires-clause-lives : goal.try_item-requires-clause-lives
+try_item-requires-clause-lives g c =
+    let tally = c.tries.tally in
+    let inv = c.tries.invariant in
+    turn_lives (setting_of c.args.setting.now) (moment_of c.args.scene.now c.args.store.now) (moment_of c.tries.scene c.tries.store) _ _ c.next.new.order _ _ _ _ tally.waits.items.items tally.rests _ _
+    inv.so_far c.tries.agenda.board c.next.new.self inv.held c.in-Some.item (c.in-Some.ensures.some c.in-Some.item refl) (c.in-Some.ensures.taken c.in-Some.item refl)
+
+pub try_item-requires-clause-sound : goal.try_item-requires-clause-sound
+try_item-requires-clause-sound g c =
+    let sound = c.requires.sound in
+    let tally = c.tries.tally in
+    (sound.0, agenda_sound (setting_of c.args.setting.now) (moment_of c.args.scene.now c.args.store.now) (moment_of c.tries.scene c.tries.store) _ _ _ _ _ _ tally.waits.items.items tally.rests _ _ c.tries.invariant.so_far sound.0 sound.1)
+
+pub count_pick-requires : goal.count_pick-requires
+count_pick-requires g c = record {
+  left = picks_have_room (setting_of c.args.setting.now) c.in-Some.item c.tries.agenda.course.room (moment_of c.tries.scene c.tries.store) (moment_of c.try_item.new.scene c.try_item.new.store) c.in-Ok.tried c.in-Ok.ensures.answer;
+}
+
+pub take_in-requires-clause-fits : goal.take_in-requires-clause-fits
+take_in-requires-clause-fits g c =
+    let board = c.tries.agenda.board in
+    let taken = c.next.new.self in
+    let same = ap (λ (x : Waits). x.items.items) (c.count_pick.ensures.waits ∙ ap (λ (y : Tally). y.waits) c.tally.view_is) in
+    subst (λ (xs : List Wait). FitsBoard xs taken) (sym same) (still_fits c.tries.tally.waits.items.items board taken c.in-Some.item (c.in-Some.ensures.taken c.in-Some.item refl) c.tries.invariant.fits)
+
+pub take_in-requires-clause-below : goal.take_in-requires-clause-below
+take_in-requires-clause-below g c =
+    let board = c.tries.agenda.board in
+    let taken = c.next.new.self in
+    let same = ap (λ (x : Waits). x.items.items) (c.count_pick.ensures.waits ∙ ap (λ (y : Tally). y.waits) c.tally.view_is) in
+    subst (λ (xs : List Wait). All (λ (x : Wait). x.item < length taken.ready) xs) (sym same)
+    (waits_below (setting_of c.args.setting.now) (moment_of c.tries.scene c.tries.store) c.tries.tally.waits.items.items c.tries.tally.rests board.over.items board.ready c.tries.invariant.held (length taken.ready)
+    (same_size board taken c.in-Some.item (c.in-Some.ensures.taken c.in-Some.item refl)))
+
+pub tries-preserved : goal.tries-preserved
+tries-preserved g c =
+    let w = setting_of c.args.setting.now in
+    let first = moment_of c.args.scene.now c.args.store.now in
+    let here = moment_of c.tries.scene c.tries.store in
+    let next = moment_of c.try_item.new.scene c.try_item.new.store in
+    let item = c.in-Some.item in
+    let tally = c.tries.tally in
+    let inv = c.tries.invariant in
+    let now = tally.picks in
+    let counts = c.count_pick.ensures.counts now item (c.in_ok-push.ensures.items ∙ ap (λ (y : Tally). y.picks ++ item ∷ []) c.tally.view_is) in
+    let same_waits = ap (λ (x : Waits). x.items.items) (c.count_pick.ensures.waits ∙ ap (λ (y : Tally). y.waits) c.tally.view_is) in
+    let same_rests = c.count_pick.ensures.rests ∙ ap (λ (y : Tally). y.rests) c.tally.view_is in
+    let on = goes_on_so w first here _ _ c.next.new.order _ _ _ now tally.waits.items.items tally.rests _ _ inv.so_far c.tries.agenda.board c.next.new.self inv.held item
+    (c.in-Some.ensures.some item refl) (c.in-Some.ensures.taken item refl) inv.fits inv.flags c.requires.sound.0 c.requires.sound.1 next c.count_pick.new.left c.count_pick.new.tally.picks c.try_item.new.steps c.try_item.ensures.steps
+    c.take_in.new.self c.take_in.new.tally.waits.items.items c.take_in.new.tally.rests c.count_pick.new.tally.waits.items.items c.count_pick.new.tally.rests same_waits same_rests
+    c.take_in.new.tally.picks c.take_in.ensures.picks c.in-Ok.tried c.in-Ok.ensures.answer counts c.in_ok-ending.field-0 c.in_ok-ending.ensures.takes c.in-None.is in
+    record {
+      so_far = on.so_far;
+      made = subst (λ xs. Made w first next c.args.agenda.now.course.room c.count_pick.new.left c.args.tally.now.picks xs) (sym c.take_in.ensures.picks)
+          (tried_made w first here next item _ _ _ _ now _ c.in-Ok.tried inv.made c.in-Ok.ensures.answer counts);
+      held = on.held;
+      fits = on.fits;
+      flags = on.flags;
+      kept = c.try_item.ensures.kept;
+    }
+
+pub tries-smaller : goal.tries-smaller
+tries-smaller g c =
+    let w = setting_of c.args.setting.now in
+    let first = moment_of c.args.scene.now c.args.store.now in
+    let here = moment_of c.tries.scene c.tries.store in
+    let next = moment_of c.try_item.new.scene c.try_item.new.store in
+    let item = c.in-Some.item in
+    let tally = c.tries.tally in
+    let inv = c.tries.invariant in
+    let now = tally.picks in
+    let counts = c.count_pick.ensures.counts now item (c.in_ok-push.ensures.items ∙ ap (λ (y : Tally). y.picks ++ item ∷ []) c.tally.view_is) in
+    let same_waits = ap (λ (x : Waits). x.items.items) (c.count_pick.ensures.waits ∙ ap (λ (y : Tally). y.waits) c.tally.view_is) in
+    let same_rests = c.count_pick.ensures.rests ∙ ap (λ (y : Tally). y.rests) c.tally.view_is in
+    (goes_on_so w first here _ _ c.next.new.order _ _ _ now tally.waits.items.items tally.rests _ _ inv.so_far c.tries.agenda.board c.next.new.self inv.held item
+    (c.in-Some.ensures.some item refl) (c.in-Some.ensures.taken item refl) inv.fits inv.flags c.requires.sound.0 c.requires.sound.1 next c.count_pick.new.left c.count_pick.new.tally.picks c.try_item.new.steps c.try_item.ensures.steps
+    c.take_in.new.self c.take_in.new.tally.waits.items.items c.take_in.new.tally.rests c.count_pick.new.tally.waits.items.items c.count_pick.new.tally.rests same_waits same_rests
+    c.take_in.new.tally.picks c.take_in.ensures.picks c.in-Ok.tried c.in-Ok.ensures.answer counts c.in_ok-ending.field-0 c.in_ok-ending.ensures.takes c.in-None.is).smaller
+
+pub returns-in-Some-2-clause-closes : goal.returns-in-Some-2-clause-closes
+returns-in-Some-2-clause-closes g c =
+    let w = setting_of c.args.setting.now in
+    let first = moment_of c.args.scene.now c.args.store.now in
+    let here = moment_of c.tries.scene c.tries.store in
+    let next = moment_of c.try_item.new.scene c.try_item.new.store in
+    let item = c.in-Some.item in
+    let tally = c.tries.tally in
+    let inv = c.tries.invariant in
+    let now = tally.picks in
+    let counts = c.count_pick.ensures.counts now item (c.in_ok-push.ensures.items ∙ ap (λ (y : Tally). y.picks ++ item ∷ []) c.tally.view_is) in
+    let same_waits = ap (λ (x : Waits). x.items.items) (c.count_pick.ensures.waits ∙ ap (λ (y : Tally). y.waits) c.tally.view_is) in
+    let same_rests = c.count_pick.ensures.rests ∙ ap (λ (y : Tally). y.rests) c.tally.view_is in
+    ends_with_so w first here _ _ c.next.new.order _ _ _ now tally.waits.items.items tally.rests _ _ inv.so_far c.tries.agenda.board c.next.new.self inv.held item
+    (c.in-Some.ensures.some item refl) (c.in-Some.ensures.taken item refl) inv.fits inv.flags c.requires.sound.0 c.requires.sound.1 next c.count_pick.new.left c.count_pick.new.tally.picks c.try_item.new.steps c.try_item.ensures.steps
+    c.take_in.new.self c.take_in.new.tally.waits.items.items c.take_in.new.tally.rests c.count_pick.new.tally.waits.items.items c.count_pick.new.tally.rests same_waits same_rests
+    c.take_in.new.tally.picks c.take_in.ensures.picks c.in-Ok.tried c.in-Ok.ensures.answer counts c.in_ok-ending.field-0 c.in_ok-ending.ensures.takes c.in-Some-2.ending c.in-Some-2.is
+
+pub returns-in_err-ending-clause-err : goal.returns-in_err-ending-clause-err
+returns-in_err-ending-clause-err g c =
+    let w = setting_of c.args.setting.now in
+    let first = moment_of c.args.scene.now c.args.store.now in
+    let here = moment_of c.tries.scene c.tries.store in
+    let next = moment_of c.try_item.new.scene c.try_item.new.store in
+    let item = c.in-Some.item in
+    let now = c.tries.tally.picks in
+    let counts = c.count_pick.ensures.counts now item (c.in_ok-push.ensures.items ∙ ap (λ (y : Tally). y.picks ++ item ∷ []) c.tally.view_is) in
+    on_refusal c.from_residual-in_err-ending.result (
+      c.count_pick.new.left,
+      subst (λ xs. Made w first next c.args.agenda.now.course.room c.count_pick.new.left c.args.tally.now.picks xs) (sym c.take_in.ensures.picks)
+          (tried_made w first here next item _ _ _ _ now _ c.in-Ok.tried c.tries.invariant.made c.in-Ok.ensures.answer counts),
+    )
+
+pub returns-clause-closes : goal.returns-clause-closes
+returns-clause-closes g c =
+    let tally = c.tries.tally in
+    let inv = c.tries.invariant in
+    let board = c.tries.agenda.board in
+    rests_with (setting_of c.args.setting.now) (moment_of c.args.scene.now c.args.store.now) (moment_of c.tries.scene c.tries.store) _ _ _ _ _ _ tally.waits.items.items tally.rests _ _
+    inv.so_far board.over.items board.ready inv.held c.requires.sound.0 c.requires.sound.1 (c.in_default.ensures.none refl)
