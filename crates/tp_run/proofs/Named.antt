@@ -4,7 +4,8 @@ use Rattle.tp_scene.specs.Pick.{Setting, Moment}
 use Rattle.tp_store.specs.Known.{Contents}
 use Rattle.tp_step.specs.declared.order.Order.{Order}
 use Rattle.tp_step.specs.declared.ending.Ending.{Ending}
-use Rattle.tp_pass.specs.Follows.{FollowsOrder}
+use Rattle.tp_step.specs.declared.answer.Wait.{Wait}
+use Rattle.tp_agenda.specs.Agenda.{FollowsAgenda}
 use Rattle.tp_show.specs.declared.turn.Picture.{Picture}
 use Rattle.tp_show.specs.declared.turn.Turn.{Turn}
 use Rattle.tp_show.specs.declared.turn.Turn.TheVariants.{Went, Finished, Contradictory, Undetermined, StateLimit, InputMissing, Over}
@@ -16,13 +17,13 @@ use Rattle.tp_run.specs.Ordered.{EndsInOrder, IsNamedInOrder}
 use Rattle.tp_run.proofs.Becomes.{read_with, run_setting}
 
 -- what a closure in this order ended with, where nothing was picked before it
-pub ends_in_order : (w : Setting) (order o : Order) (room k : ℕ) (m last : Moment) (before after : List ℕ) (end e : Ending)
-    → FollowsOrder w o k m last before after e → o ≡ order → k ≡ room → before ≡ [] → e ≡ end → EndsInOrder w order room m end
-ends_in_order w order o room k m last before after end e h a b c d =
-    let f : FollowsOrder w order k m last before after e = subst (λ x. FollowsOrder w x k m last before after e) a h in
-    let g : FollowsOrder w order room m last before after e = subst (λ x. FollowsOrder w order x m last before after e) b f in
-    let i : FollowsOrder w order room m last [] after e = subst (λ x. FollowsOrder w order room m last x after e) c g in
-    (last, after, subst (λ x. FollowsOrder w order room m last [] after x) d i)
+pub ends_in_order : (w : Setting) (order o : Order) (room k : ℕ) (m last : Moment) (before after : List ℕ) (ws : List Wait) (rs : List ℕ) (end e : Ending)
+    → FollowsAgenda w o k m last before after ws rs e → o ≡ order → k ≡ room → before ≡ [] → e ≡ end → EndsInOrder w order room m end
+ends_in_order w order o room k m last before after ws rs end e h a b c d =
+    let f : FollowsAgenda w order k m last before after ws rs e = subst (λ x. FollowsAgenda w x k m last before after ws rs e) a h in
+    let g : FollowsAgenda w order room m last before after ws rs e = subst (λ x. FollowsAgenda w order x m last before after ws rs e) b f in
+    let i : FollowsAgenda w order room m last [] after ws rs e = subst (λ x. FollowsAgenda w order room m last x after ws rs e) c g in
+    (last, after, ws, rs, subst (λ x. FollowsAgenda w order room m last [] after ws rs x) d i)
 
 -- a state at rest fails in nothing
 pub rest_named : (w v : Setting) (order : Order) (room globals k : ℕ) (m n : Moment) (old new : Picture) (standing : Standing) (store : Contents) (turn : Turn)

@@ -30,9 +30,9 @@ use crate::picture::settled_picture;
 use std::alloc::Global;
 use std::mem;
 use std::sync::ledger::Ledger;
+use tp_agenda::close_by_agenda;
 use tp_check::Program;
 use tp_inputs::Inputs;
-use tp_pass::close_by_passes;
 use tp_show::{Cell, Picture, Turn};
 use tp_step::{
     Course, Ending, ItemIds, Order, Scene, Setting, Settled, Steps, Tally, Tried, Waits, advance,
@@ -92,7 +92,9 @@ fn stop(turn: Turn, scene: Scene) -> Result<Made, NoMemory>
 
 // Nothing is done yet.
 fn no_tally(alloc: Global) -> Tally
-    ensures { result.picks ≡ [] }
+    ensures picks { result.picks ≡ [] }
+    ensures waits { result.waits.items.items ≡ [] }
+    ensures rests { result.rests ≡ [] }
 {
     Tally {
         picks: ItemIds::new(alloc),
@@ -261,7 +263,7 @@ impl<'a> Settings<'a> {
             order: self.order,
             room: self.limits.reductions,
         };
-        let ending = close_by_passes(&mut scene, store, &self.setting, course, &mut tally, steps)?;
+        let ending = close_by_agenda(&mut scene, store, &self.setting, course, &mut tally, steps)?;
         match ending {
             Ending::Rest => {
                 let reductions = tally.picks.items.len() as u64;

@@ -7,7 +7,7 @@ use Rattle.tp_scene.specs.declared.answer.Cell.{Cell}
 use Rattle.tp_scene.specs.Pick.{Moment, Leads}
 use Rattle.tp_scene.specs.Advance.{advanced, StoreGoesOn}
 use Rattle.tp_scene.specs.Replay.{IsOpen}
-use Rattle.tp_pass.proofs.Picks.{leads_on}
+use Rattle.tp_step.proofs.Picks.{leads_on}
 use Rattle.tp_show.specs.declared.turn.Picture.{Picture}
 use Rattle.tp_show.specs.declared.turn.Turn.{Turn}
 use Rattle.tp_show.specs.declared.turn.Turn.TheVariants.{Went, Finished, Contradictory, Undetermined, StateLimit, InputMissing, Over}
