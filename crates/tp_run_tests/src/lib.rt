@@ -3,6 +3,8 @@
 #![tactic(auto)]
 
 #[cfg(test)]
+mod agenda;
+#[cfg(test)]
 mod calls;
 #[cfg(test)]
 mod expected;
@@ -20,5 +22,7 @@ mod steps;
 mod tables;
 #[cfg(test)]
 mod told;
+#[cfg(test)]
+mod waking;
 #[cfg(test)]
 mod words;

@@ -4,6 +4,7 @@ ghost use Rattle.tp_meaning.specs.Fits.{ProgramFits};
 ghost use Rattle.tp_check.specs.Program.{program_tree};
 
 use crate::expected::{same_bytes, same_text};
+use crate::making::nothing_told;
 use crate::sources::program_of;
 use crate::steps::begin;
 use crate::told::told_source;
@@ -14,19 +15,7 @@ use std::test::Fail;
 use tp_check::Program;
 use tp_inputs::Inputs;
 use tp_pass::close_by_passes;
-use tp_step::{Course, ItemIds, Order, Steps, Tally, Waits};
-
-fn nothing_told(alloc: Global) -> Tally {
-    let picks = ItemIds::new(alloc);
-    let rests = ItemIds::new(alloc);
-    let items = Vec::new(alloc);
-    let waits = Waits { items };
-    Tally {
-        picks,
-        waits,
-        rests,
-    }
-}
+use tp_step::{Course, ItemIds, Order, Steps};
 
 // The items that the first state of the program picks, in order.
 fn picks<L: Ledger>(

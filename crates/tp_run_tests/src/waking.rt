@@ -1,0 +1,295 @@
+// Waits by what they are for, and what ends them.
+ghost use Rattle.std.specs.Prelude.{◌≡◌, ◌<◌, length, IfOk, OnOk};
+ghost use Rattle.std.specs.List.{All};
+ghost use Rattle.tp_meaning.specs.Fits.{ProgramFits};
+ghost use Rattle.tp_check.specs.Program.{program_tree};
+ghost use Rattle.tp_slots.specs.Kept.{IsWellKept};
+ghost use Rattle.tp_agenda.specs.Index.{IsFiled};
+
+use crate::expected::same_text;
+use crate::making::{nothing_told, path};
+use crate::sources::program_of;
+use crate::steps::begin;
+use std::alloc::Global;
+use std::marker::Brand;
+use std::process::Abort;
+use std::sync::ledger::{Blank, Ledger};
+use std::test::Fail;
+use tp_agenda::{Cause, Index, file, no_waits, wake_by, wake_ends};
+use tp_check::Program;
+use tp_inputs::Inputs;
+use tp_lanes::Plane;
+use tp_pass::close_by_passes;
+use tp_step::{Cell, Course, Order, Scene, Steps, Wait};
+use tp_value::{Fact, NoMemory, Shape};
+
+// The number of a variable, and indices.
+type Place = (u64, &'static [u32]);
+
+// A wait for a part of a variable.
+fn part(alloc: Global, place: Place) -> Result<Cell, NoMemory> {
+    let path = path(alloc, place.0, place.1)?;
+    Ok(Cell::Part(path))
+}
+
+// A wait for the end of a region.
+fn end(region: u64) -> Cell {
+    Cell::End { region, depth: 0 }
+}
+
+fn wait(item: u64, first: Cell, other: Option<Cell>) -> Wait
+    ensures { result.item ≡ item }
+{
+    Wait { item, first, other }
+}
+
+// Waits for a variable; for a list's item; for two variables; for the ends of two regions; and for a variable or a region's end.
+fn some_waits(alloc: Global) -> Result<Vec<Wait>, NoMemory>
+    ensures { IfOk result (λ waits. All (λ w. w.item < 8) waits.items) }
+{
+    let waits = vec![in alloc;
+        wait(0, part(alloc, (0, &[]))?, None),
+        wait(1, part(alloc, (1, &[2]))?, None),
+        wait(2, part(alloc, (2, &[]))?, Some(part(alloc, (3, &[]))?)),
+        wait(3, end(0), None),
+        wait(4, end(1), None),
+        wait(7, part(alloc, (0, &[]))?, Some(end(0))),
+    ]?;
+    Ok(waits)
+}
+
+// Their index, and a flag for each of them: none is over.
+fn filed(alloc: Global, waits: &[Wait]) -> Result<(Index, Vec<bool>), NoMemory>
+    ensures filed { IfOk result (λ r. IsFiled r.0 waits.now r.1.items) }
+    ensures sizes { IfOk result (λ r. length r.1.items ≡ length waits.now) }
+{
+    let mut index = no_waits(alloc);
+    let mut over = Vec::new(alloc);
+    for wait in waits {
+        file(&mut index, wait, over.len() as u64)?;
+        over.push(false)?;
+    }
+    Ok((index, over))
+}
+
+// The members of a set of numbers below 8, as a text.
+fn members(alloc: Global, ready: &Plane) -> Result<String, NoMemory>
+    requires { length ready.now ≡ 8 }
+{
+    let mut all = Vec::new(alloc);
+    for item in 0u64..8 {
+        if ready.has(item) {
+            all.push(item)?;
+        }
+    }
+    let text = format!(in alloc; " {:?}", all.as_slice())?;
+    Ok(text)
+}
+
+// The items that become ready by this.
+fn woken(
+    alloc: Global,
+    waits: &[Wait],
+    index: &Index,
+    cause: &Cause,
+    over: &mut Vec<bool>,
+) -> Result<String, NoMemory>
+    requires below { All (λ w. w.item < 8) waits.now }
+    requires filed { IsFiled index.now waits.now over.old.items }
+    requires sizes { length over.old.items ≡ length waits.now }
+    ensures filed { OnOk result (IsFiled index.now waits.now over.new.items) }
+    ensures sizes { OnOk result (length over.new.items ≡ length waits.now) }
+{
+    let mut ready = Plane::new(alloc, 8)?;
+    wake_by(waits, index, cause, &mut ready, over);
+    members(alloc, &ready)
+}
+
+// The items that become ready by the ends that the scene knows.
+fn woken_at_ends(
+    alloc: Global,
+    waits: &[Wait],
+    index: &mut Index,
+    scene: &Scene,
+    over: &mut Vec<bool>,
+) -> Result<String, NoMemory>
+    requires kept { IsWellKept scene.now }
+    requires below { All (λ w. w.item < 8) waits.now }
+    requires filed { IsFiled index.old waits.now over.old.items }
+    requires sizes { length over.old.items ≡ length waits.now }
+    ensures filed { OnOk result (IsFiled index.new waits.now over.new.items) }
+    ensures sizes { OnOk result (length over.new.items ≡ length waits.now) }
+{
+    let mut ready = Plane::new(alloc, 8)?;
+    wake_ends(waits, index, scene, &mut ready, over);
+    members(alloc, &ready)
+}
+
+// What may be known: that a place has a shape, or that the end of a region is known.
+#[derive(Clone, Copy)]
+enum Known {
+    Part(Place, Shape),
+    End(u64),
+}
+
+fn cause(alloc: Global, known: Known) -> Result<Cause, NoMemory> {
+    match known {
+        Known::Part(place, shape) => {
+            let path = path(alloc, place.0, place.1)?;
+            Ok(Cause::Known(Fact { path, shape }))
+        }
+        Known::End(region) => Ok(Cause::Marked(region)),
+    }
+}
+
+// The items that become ready by the first, and then by the second.
+fn woken_twice(alloc: Global, first: Known, then: Known) -> Result<String, NoMemory> {
+    let waits = some_waits(alloc)?;
+    let (index, mut over) = filed(alloc, &waits)?;
+    let first = cause(alloc, first)?;
+    let then = cause(alloc, then)?;
+    let mut text = woken(alloc, &waits, &index, &first, &mut over)?;
+    let again = woken(alloc, &waits, &index, &then, &mut over)?;
+    text.push_str(again.as_str())?;
+    Ok(text)
+}
+
+const ONE: Shape = Shape::Num(1);
+
+// What is known first, what is known then, and the items that become ready by each.
+const ROWS: [(Known, Known, &str); 15] = [
+    // a variable's own fact wakes what waits for it, once; one of its items tells nothing of its shape
+    (
+        Known::Part((0, &[]), ONE),
+        Known::Part((0, &[]), ONE),
+        " [0, 7] []",
+    ),
+    (
+        Known::Part((0, &[5]), ONE),
+        Known::Part((0, &[]), Shape::Items(6)),
+        " [] [0, 7]",
+    ),
+    // so does one that gives the item a shape, and a shape of the list that leaves the item out
+    (
+        Known::Part((1, &[2]), ONE),
+        Known::Part((1, &[]), Shape::Items(3)),
+        " [1] []",
+    ),
+    (
+        Known::Part((1, &[]), Shape::Items(3)),
+        Known::Part((1, &[2]), ONE),
+        " [] [1]",
+    ),
+    (
+        Known::Part((1, &[]), Shape::Items(2)),
+        Known::Part((1, &[1]), ONE),
+        " [1] []",
+    ),
+    (
+        Known::Part((1, &[]), ONE),
+        Known::Part((1, &[]), ONE),
+        " [1] []",
+    ),
+    (
+        Known::Part((1, &[]), Shape::Truth(true)),
+        Known::End(0),
+        " [1] [3, 7]",
+    ),
+    // but not what is known of another item, of what lies within it, or of another variable
+    (
+        Known::Part((1, &[1]), ONE),
+        Known::Part((1, &[2, 0]), ONE),
+        " [] []",
+    ),
+    (
+        Known::Part((4, &[]), Shape::Items(0)),
+        Known::Part((5, &[2]), ONE),
+        " [] []",
+    ),
+    // either of two is enough, and then the other wakes nothing
+    (
+        Known::Part((2, &[]), ONE),
+        Known::Part((3, &[]), ONE),
+        " [2] []",
+    ),
+    (
+        Known::Part((3, &[]), ONE),
+        Known::Part((2, &[]), ONE),
+        " [2] []",
+    ),
+    // the same of ends of regions
+    (Known::End(0), Known::End(1), " [3, 7] [4]"),
+    (Known::End(1), Known::End(1), " [4] []"),
+    (Known::End(2), Known::Part((3, &[0]), ONE), " [] []"),
+    (
+        Known::Part((0, &[]), Shape::Items(0)),
+        Known::End(0),
+        " [0, 7] [3]",
+    ),
+];
+
+#[test]
+fn a_wait_is_over_once_it_is_decided(rt: HostRuntime) -> Result<(), Fail> {
+    for (first, then, expected) in ROWS {
+        let text = woken_twice(rt.alloc(), first, then)?;
+        same_text(&rt, text.as_str(), expected, "what becomes ready");
+    }
+    Ok(())
+}
+
+// The items that become ready by the known ends of a first state: as it begins, once it is closed, and again; and then by the end of
+// the root, and by that of the next region.
+fn woken_by_scene<L: Ledger>(alloc: Global, blank: Blank, program: Program) -> Result<String, Fail>
+    requires name { blank.name ≡ L.name }
+    requires parts { blank.parts ≡ L.parts }
+    requires some { 0 < L.parts }
+    requires fits { ProgramFits (program_tree program) }
+{
+    let mut steps = Steps::<L>::new(blank);
+    let inputs = Inputs::none(alloc)?;
+    let (mut scene, mut store, setting) = begin(alloc, &program, &inputs)?;
+    let waits = some_waits(alloc)?;
+    let (mut index, mut over) = filed(alloc, &waits)?;
+    let mut text = woken_at_ends(alloc, &waits, &mut index, &scene, &mut over)?;
+    let mut tally = nothing_told(alloc);
+    let course = Course {
+        order: Order::First,
+        room: 9,
+    };
+    close_by_passes(
+        &mut scene, &mut store, &setting, course, &mut tally, &mut steps,
+    )?;
+    let closed = woken_at_ends(alloc, &waits, &mut index, &scene, &mut over)?;
+    text.push_str(closed.as_str())?;
+    let again = woken_at_ends(alloc, &waits, &mut index, &scene, &mut over)?;
+    text.push_str(again.as_str())?;
+    let root = woken(alloc, &waits, &index, &Cause::Marked(0), &mut over)?;
+    text.push_str(root.as_str())?;
+    let inner = woken(alloc, &waits, &index, &Cause::Marked(1), &mut over)?;
+    text.push_str(inner.as_str())?;
+    Ok(text)
+}
+
+fn told_ends(alloc: Global, source: &str) -> Result<String, Fail> {
+    let program = program_of(alloc, source)?;
+    woken_by_scene::<Brand>(alloc, Blank::new(1), program)
+}
+
+// Programs whose first states leave the root open, end it or go on, and know the end of the next region or don't.
+const ENDS: [(&str, &str); 6] = [
+    ("run A = 1.", " [] [] [] [3, 7] [4]"),
+    ("run empty.", " [] [3, 7] [] [] [4]"),
+    ("run more.", " [] [3, 7] [] [] [4]"),
+    ("run more ; true.", " [] [3, 4, 7] [] [] []"),
+    ("run true ; more.", " [] [] [] [3, 7] [4]"),
+    ("run A = B ; empty.", " [] [] [] [3, 7] [4]"),
+];
+
+#[test]
+fn ends_of_regions_end_waits(rt: HostRuntime) -> Result<(), Fail> {
+    for (source, expected) in ENDS {
+        let text = told_ends(rt.alloc(), source)?;
+        same_text(&rt, text.as_str(), expected, source);
+    }
+    Ok(())
+}
