@@ -43,4 +43,8 @@ pub mod MutualFailures
 pub mod Waiting
 pub mod LiveOnce
 pub mod Unmarked
+pub mod OneAround
+pub mod MarkAlone
+pub mod Backward
+pub mod Near
 pub mod Woken

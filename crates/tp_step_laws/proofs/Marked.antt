@@ -33,7 +33,7 @@ calm_back ρ (node id k hd i g s rest) p h = (
   calm_back ρ rest p h.2,
 )
 
-calm_here : (es : Entries) (p : Place) → AllCalm es p → IsCalm p
+pub calm_here : (es : Entries) (p : Place) → AllCalm es p → IsCalm p
 calm_here none p h = h
 calm_here (leaf id l rest) p h = calm_here rest p h
 calm_here (node id k hd i g s rest) p h = calm_here rest p h.2

@@ -13,4 +13,5 @@ pub mod Examples
 pub mod Waiting
 pub mod LiveOnce
 pub mod Unmarked
+pub mod Near
 pub mod Others

@@ -6,6 +6,7 @@ ghost use Rattle.tp_step_laws.specs.States.{StatesCloseOneWay};
 ghost use Rattle.tp_step_laws.specs.Waiting.{RestsStay, WaitsStay, WaitsStayUntilWoken};
 ghost use Rattle.tp_step_laws.specs.LiveOnce.{ItemsLiveOnce};
 ghost use Rattle.tp_step_laws.specs.Unmarked.{UnmarkedStepsEndNothing};
+ghost use Rattle.tp_step_laws.specs.Near.{MarkedStepsEndNear, OneStandsAround};
 ghost use Rattle.tp_step_laws.specs.Others.{OthersStandAsBefore};
 ghost use Rattle.tp_step_laws.specs.Examples.{OrderDecides};
 ghost use Rattle.tp_step_laws.specs.Orders.{AdvancesStayOrderly, BeginsOrderly, StepsStayOrderly, FailuresAreMutual, FailuresStay, Commute, AlikeMomentsStep, AlikeIsEquivalence, OneRestOf};
@@ -57,6 +58,10 @@ pub fn waits_stay()
     ensures woken { WaitsStayUntilWoken }
     // A step without a mark makes known no end of a region that was live.
     ensures unmarked { UnmarkedStepsEndNothing }
+    // What a mark makes known leads outward to where the marked region leads.
+    ensures near { MarkedStepsEndNear }
+    // One region at most stands around a region.
+    ensures around { OneStandsAround }
     // What rests rests on.
     ensures rests { RestsStay }
     // Any live item stays what it is.
