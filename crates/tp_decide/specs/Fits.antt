@@ -42,9 +42,9 @@ IsPathOf xs None = Unit {0}
 IsPathOf xs (Some p) = IsVariableOf xs p.var
 
 -- both are of variables
-abbrev pub AreOfVariables : List Variable → Option (Path × Path) → Type 0
-AreOfVariables xs None = Unit {0}
-AreOfVariables xs (Some paths) = IsVariableOf xs paths.0.var × IsVariableOf xs paths.1.var
+abbrev pub ArePathsOfVariables : List Variable → Option (Path × Path) → Type 0
+ArePathsOfVariables xs None = Unit {0}
+ArePathsOfVariables xs (Some paths) = IsVariableOf xs paths.0.var × IsVariableOf xs paths.1.var
 
 -- a place for each upper-case parameter that has an argument
 abbrev pub ArePlaces : ExprTrees → (parameters : List (List ℕ)) → Type 0

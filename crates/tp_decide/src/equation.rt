@@ -12,7 +12,7 @@ ghost use Rattle.tp_store.specs.Known.{Variable, IsVariableOf};
 ghost use Rattle.tp_decide.specs.Decided.{decided_outcome, setting_of};
 ghost use Rattle.tp_decide.specs.Found.{option_target, side_found};
 ghost use Rattle.tp_decide.specs.Equated.{sets_length, AreOneValue, AreEqual, AreValuePaths};
-ghost use Rattle.tp_decide.specs.Fits.{AreOfVariables, IsTargetOf, SetsVariables, ExprFitsStore};
+ghost use Rattle.tp_decide.specs.Fits.{ArePathsOfVariables, IsTargetOf, SetsVariables, ExprFitsStore};
 
 use crate::decision::{Decision, nothing};
 use crate::setting::Setting;
@@ -240,7 +240,7 @@ fn both_paths(
         (bindings_of env.now))
         (row.target_of defs store.now.facts (expr_tree right.now)
         (bindings_of env.now))) }
-    ensures variables { IfOk result (AreOfVariables store.now.variables) }
+    ensures variables { IfOk result (ArePathsOfVariables store.now.variables) }
 {
     if !is_place(left) || !is_place(right) {
         return Ok(None);
@@ -254,7 +254,8 @@ fn both_paths(
     Ok(Some((left, right)))
 }
 
-/// What becomes of the equation of the two. That of two places goes by their shapes.
+/// What becomes of the equation of the two. That of two places goes by their shapes; where one of them isn't found, both sides are evaluated
+/// anew, as other expressions are.
 pub fn decide_equation(
     alloc: Global,
     left: &Expr,
