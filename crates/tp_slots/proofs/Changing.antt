@@ -22,7 +22,7 @@ use Rattle.tp_slots.proofs.Told.{told, rises_all}
 use Rattle.tp_slots.proofs.Stepping.{IsStep, stepped_regions}
 use Rattle.tp_slots.proofs.Instances.{told_leaves, leaves_rise, leaves_step, begins_step, begins_rise, begins_told}
 use Rattle.tp_slots.proofs.Keeping.{scene_then, shape_then, threads_then, flags_then, quiet_then, home_lives_then}
-use Rattle.tp_slots.proofs.Looking.{LeavesOpen, looks_then, bare_leave, begun_leaves}
+use Rattle.tp_slots.proofs.Looking.{LeavesOpen, looks_then, unmarked_looks, bare_leave, begun_leaves}
 use Rattle.tp_slots.specs.declared.scene.Scene.{Scene}
 use Rattle.tp_slots.specs.declared.scene.Region.{Region}
 use Rattle.tp_slots.specs.declared.scene.Slot.{Slot}
@@ -131,14 +131,19 @@ module _ (s : Scene) (t : ℕ) (m : Option Side) (ins outs : List What) (kept : 
   pub home_lives_put : lives_in (slots_of next) (holders_of next) (slot_at (slots_of s) t).home ≡ true
   home_lives_put = (λ i. lives_in (es i) (eh i) (slot_at (slots_of s) t).home) ∙ home_lives_then (slots_of s) (holders_of s) t m ins outs kept.shape lives step
 
-  pub looks_put : rises_all Ending (flags_in (ends_of s)) outs ≡ rises_what Ending (flags_in (ends_of s)) (slot_at (slots_of s) t).what → LeavesOpen (slots_of s) (holders_of s) t outs → next.looks ≡ s.looks → LooksFollow (slots_of next) m (holders_of next) next.looks
-  looks_put same leaves el =
-      subst (λ x. LooksFollow x m (holders_of next) next.looks) (sym es)
-      (subst (λ h. LooksFollow (stepped (slots_of s) t m ins outs) m h next.looks) (sym eh)
-      (subst (LooksFollow (stepped (slots_of s) t m ins outs) m (held_after (slots_of s) ins outs (holders_of s))) (sym el)
-      (looks_then (slots_of s) (holders_of s) t m ins outs kept.shape lives step (flags_in (ends_of s)) s.looks kept.ending
-      (flags_then (slots_of s) (holders_of s) t m ins outs kept.shape lives step Ending (flags_in (ends_of s)) kept.ending (low (ends_of s) ends_count) same)
-      leaves kept.looks)))
+  abbrev flags_next : Side → Flags
+  flags_next y = flags_in (flags_of y next)
+
+  flags_still : (y : Side) → FlagsAreRight (slots_of s) y (flags_next y)
+  flags_still Ending = subst (FlagsAreRight (slots_of s) Ending) (sym (ap flags_in ee ∙ more_flags (ends_of s) n (length ins))) kept.ending
+  flags_still Going = subst (FlagsAreRight (slots_of s) Going) (sym (ap flags_in eg ∙ more_flags (goes_of s) n (length ins))) kept.going
+
+  pub looks_put : LeavesOpen (slots_of s) (holders_of s) t outs → next.looks ≡ s.looks → LooksFollow (slots_of next) (holders_of next) flags_next next.looks
+  looks_put leaves el =
+      subst (λ x. LooksFollow x (holders_of next) flags_next next.looks) (sym es)
+      (subst (λ h. LooksFollow (stepped (slots_of s) t m ins outs) h flags_next next.looks) (sym eh)
+      (subst (LooksFollow (stepped (slots_of s) t m ins outs) (held_after (slots_of s) ins outs (holders_of s)) flags_next) (sym el)
+      (looks_then (slots_of s) (holders_of s) t m ins outs kept.shape lives step flags_next s.looks flags_still leaves kept.looks)))
 
   pub ends_low : (r : ℕ) → length (slots_of s).regions ≤ r → flags_in (ends_of s) r ≡ false
   ends_low r l = low (ends_of s) ends_count r l
@@ -146,21 +151,35 @@ module _ (s : Scene) (t : ℕ) (m : Option Side) (ins outs : List What) (kept : 
   pub goes_low : (r : ℕ) → length (slots_of s).regions ≤ r → flags_in (goes_of s) r ≡ false
   goes_low r l = low (goes_of s) goes_count r l
 
+-- Where no mark was set, the flags are right already.
+pub unmarked_kept : (s : Scene) (home : ℕ) → IsShaped (slots_of s) (holders_of s) → ((z : Side) → FlagsFollow (slots_of s) None home z (flags_in (flags_of z s))) → ((z : Side) → IsQuiet (slots_of s) (holders_of s) (flags_in (flags_of z s)))
+    → LooksFollow (slots_of s) (holders_of s) (λ y. flags_in (flags_of y s)) s.looks → AreThreaded (slots_of s) (afters_of s) → IsWellKept s
+unmarked_kept s home shape flags quiet looks threads = record {
+  shape = shape;
+  threads = threads;
+  ending = flags Ending;
+  going = flags Going;
+  quiet_ends = quiet Ending;
+  quiet_goes = quiet Going;
+  looks = unmarked_looks (slots_of s) (holders_of s) shape.ordered shape.held (λ y. flags_in (flags_of y s)) s.looks looks flags;
+}
+
 -- Without a mark the scene stays well kept.
 pub put_kept : (s : Scene) (t : ℕ) (ins outs : List What) (kept : IsWellKept s) (lives : has t (scene_of s).root.entries ≡ true) (step : IsStep (slots_of s) t None ins outs) (next : Scene) (n : ℕ)
     → slots_of next ≡ stepped (slots_of s) t None ins outs → holders_of next ≡ held_after (slots_of s) ins outs (holders_of s)
     → ends_of next ≡ ends_of s ++ map (λ x. false) (begun n (length ins)) → goes_of next ≡ goes_of s ++ map (λ x. false) (begun n (length ins))
     → rises_all Ending (flags_in (ends_of s)) outs ≡ rises_what Ending (flags_in (ends_of s)) (slot_at (slots_of s) t).what → rises_all Going (flags_in (goes_of s)) outs ≡ rises_what Going (flags_in (goes_of s)) (slot_at (slots_of s) t).what
     → LeavesOpen (slots_of s) (holders_of s) t outs → next.looks ≡ s.looks → afters_of next ≡ afters_then (afters_of s) (length ins) (length outs) t → IsWellKept next
-put_kept s t ins outs kept lives step next n es eh ee eg a b leaves el ea = record {
-  shape = shape_put s t None ins outs kept lives step next n es eh ee eg;
-  threads = threads_put s t None ins outs kept lives step next n es eh ee eg ea;
-  ending = ends_put s t None ins outs kept lives step next n es eh ee eg a;
-  going = goes_put s t None ins outs kept lives step next n es eh ee eg b;
-  quiet_ends = quiet_ends_put s t None ins outs kept lives step next n es eh ee eg;
-  quiet_goes = quiet_goes_put s t None ins outs kept lives step next n es eh ee eg;
-  looks = looks_put s t None ins outs kept lives step next n es eh ee eg a leaves el;
-}
+put_kept s t ins outs kept lives step next n es eh ee eg a b leaves el ea =
+    unmarked_kept next (slot_at (slots_of s) t).home (shape_put s t None ins outs kept lives step next n es eh ee eg) right quiet (looks_put s t None ins outs kept lives step next n es eh ee eg leaves el) (threads_put s t None ins outs kept lives step next n es eh ee eg ea)
+  where
+    right : (z : Side) → FlagsAreRight (slots_of next) z (flags_in (flags_of z next))
+    right Ending = ends_put s t None ins outs kept lives step next n es eh ee eg a
+    right Going = goes_put s t None ins outs kept lives step next n es eh ee eg b
+
+    quiet : (z : Side) → IsQuiet (slots_of next) (holders_of next) (flags_in (flags_of z next))
+    quiet Ending = quiet_ends_put s t None ins outs kept lives step next n es eh ee eg
+    quiet Going = quiet_goes_put s t None ins outs kept lives step next n es eh ee eg
 
 -- on either side
 pub follow_pending : (s : Slots) (z : Side) (home : ℕ) (f : Flags) → FlagsFollow s (Some z) home z f → Pending s z f home
@@ -212,10 +231,6 @@ raised_kept s s' z shape es eh eo right quiet right_other quiet_other looks thre
       looks = looks';
     }
 
-pub unmarked_kept : (s : Scene) (home : ℕ) → IsShaped (slots_of s) (holders_of s) → ((z : Side) → FlagsFollow (slots_of s) None home z (flags_in (flags_of z s))) → ((z : Side) → IsQuiet (slots_of s) (holders_of s) (flags_in (flags_of z s)))
-    → LooksAreRight (slots_of s) (holders_of s) s.looks → AreThreaded (slots_of s) (afters_of s) → IsWellKept s
-unmarked_kept s home shape flags quiet looks threads = record { shape = shape; threads = threads; ending = flags Ending; going = flags Going; quiet_ends = quiet Ending; quiet_goes = quiet Going; looks = looks }
-
 pub bare_below : (c : ℕ) (ws : List What) → AreBare ws → AllBelow c ws
 bare_below c [] b = tt
 bare_below c (plain.bare l ∷ ws) b = (tt, bare_below c ws b.1)
@@ -251,8 +266,8 @@ module _ (s : Scene) (t : ℕ) (m : Option Side) (outs : List What) (kept : IsWe
   leaves_quiet Ending = quiet_ends_put s t m [] outs kept lives step next n es eh ee eg
   leaves_quiet Going = quiet_goes_put s t m [] outs kept lives step next n es eh ee eg
 
-  pub leaves_looks : next.looks ≡ s.looks → LooksFollow (slots_of next) m (holders_of next) next.looks
-  leaves_looks = looks_put s t m [] outs kept lives step next n es eh ee eg (leaves_rise Ending (flags_in (ends_of s)) (slot_at (slots_of s) t).what outs free bare) (bare_leave (slots_of s) (holders_of s) t outs bare)
+  pub leaves_looks : next.looks ≡ s.looks → LooksFollow (slots_of next) (holders_of next) (λ y. flags_in (flags_of y next)) next.looks
+  leaves_looks = looks_put s t m [] outs kept lives step next n es eh ee eg (bare_leave (slots_of s) (holders_of s) t outs bare)
 
   pub leaves_live : lives_in (slots_of next) (holders_of next) (slot_at (slots_of s) t).home ≡ true
   leaves_live = home_lives_put s t m [] outs kept lives step next n es eh ee eg

@@ -32,6 +32,7 @@ pub mod Firsts
 pub mod Shallow
 pub mod Finding
 pub mod News
+pub mod NumberSets
 pub mod Waking
 pub mod Newly
 pub mod Unmarked

@@ -20,11 +20,12 @@ use Rattle.tp_slots.specs.Lives.{lives_in, leads_to}
 use Rattle.tp_slots.specs.Row.{begun, stepped, held_after, AllBelow}
 use Rattle.tp_slots.specs.Reductions.{AreBare, CanMove, moved_inner, moved_outs, IsReduced, IsAfter}
 use Rattle.tp_slots.specs.Threads.{afters_then}
-use Rattle.tp_slots.specs.Read.{afters_of, slot_of, region_slot_of, slots_of, scene_of, holders_of, ends_of, goes_of}
+use Rattle.tp_slots.specs.Read.{afters_of, slot_of, region_slot_of, slots_of, scene_of, holders_of, ends_of, goes_of, flags_of}
 use Rattle.tp_slots.proofs.Living.{lives_outward}
 use Rattle.tp_slots.proofs.PlaceLemmas.{held_is, pick_is}
 use Rattle.tp_slots.proofs.Instances.{close_step, close_rise, close_told, open_step, open_rise, open_told, run_step, run_rise, run_told}
 use Rattle.tp_slots.proofs.Changing.{lives_within, scene_put, put_kept, ends_low, goes_low}
+use Rattle.tp_slots.proofs.Seeing.{flags_kept}
 use Rattle.tp_slots.proofs.Looking.{closed_leaves, opened_leaves, running_leaves}
 use Rattle.tp_slots.specs.declared.scene.Scene.{Scene}
 
@@ -132,7 +133,7 @@ module _ (s : Scene) (t : ℕ) (kept : IsWellKept s) (lives : has t (scene_of s)
           put_kept s t [] (holds Closed p None ∷ bare (S.Do f env) ∷ []) kept lives step next n put.0 put.1 put.2 put.3
               (close_rise (slots_of s) t p f env kept.shape.ordered within is Ending (flags_in (ends_of s)) (λ e. absurd (cc)))
               (close_rise (slots_of s) t p f env kept.shape.ordered within is Going (flags_in (goes_of s)) (λ e. low))
-              (closed_leaves (slots_of s) (holders_of s) t kept.shape (flags_in (ends_of s)) kept.ending p f env (held_ends (Split f env) p None is was.1)) put.4 put.5,
+              (closed_leaves (slots_of s) (holders_of s) t kept.shape (λ y. flags_in (flags_of y s)) (flags_kept s kept) p f env (held_ends (Split f env) p None is was.1)) put.4 put.5,
           (λ w k r e. let q = closes (held_place (Split f env) (head_at (slots_of s) p) (entries_at (slots_of s) p) at_place) (reduces made) r (sym (stepped_as w k (holds (Split f env) p None) is) ∙ e) in
               scene_put s t None [] (holds Closed p None ∷ bare (S.Do f env) ∷ []) kept lives step next n put.0 put.1 put.2 put.3 made
               (sym (close_told (slots_of s) t p f env kept.shape.ordered within is)) refl refl refl
@@ -153,7 +154,7 @@ module _ (s : Scene) (t : ℕ) (kept : IsWellKept s) (lives : has t (scene_of s)
           put_kept s t [] (holds Closed p None ∷ holds (Opened f env) q None ∷ []) kept lives step next n put.0 put.1 put.2 put.3
               (open_rise (slots_of s) t p q f env kept.shape.ordered within is other Ending (flags_in (ends_of s)) (λ e. absurd (cc)) (kept.quiet_ends q fit.1.1.1 sleeps))
               (open_rise (slots_of s) t p q f env kept.shape.ordered within is other Going (flags_in (goes_of s)) (λ e. low) (kept.quiet_goes q fit.1.1.1 sleeps))
-              (opened_leaves (slots_of s) (holders_of s) t kept.shape (flags_in (ends_of s)) kept.ending p q f env (omega (arith, above)) by.1.0 is by.1.1 (held_ends (SplitProject f env) p (Some q) is was.1)) put.4 put.5,
+              (opened_leaves (slots_of s) (holders_of s) t kept.shape (λ y. flags_in (flags_of y s)) (flags_kept s kept) p q f env (omega (arith, above)) by.1.0 is by.1.1 (held_ends (SplitProject f env) p (Some q) is was.1)) put.4 put.5,
           (λ w k r e. let x = closes (held_place (SplitProject f env) (head_at (slots_of s) p) (entries_at (slots_of s) p) at_place) (reduces made) r (sym (stepped_as w k (holds (SplitProject f env) p (Some q)) is) ∙ e) in
               scene_put s t None [] (holds Closed p None ∷ holds (Opened f env) q None ∷ []) kept lives step next n put.0 put.1 put.2 put.3 made
               (sym (open_told (slots_of s) t p q f env kept.shape.ordered within is other)) refl refl refl
@@ -172,7 +173,7 @@ module _ (s : Scene) (t : ℕ) (kept : IsWellKept s) (lives : has t (scene_of s)
           put_kept s t ins outs kept lives step next n put.0 put.1 put.2 put.3
               (run_rise (slots_of s) t q f env kept.shape.ordered within is Ending (flags_in (ends_of s)) (ends_low s t None ins outs kept lives step next n put.0 put.1 put.2 put.3 (length (slots_of s).regions) (omega arith)))
               (run_rise (slots_of s) t q f env kept.shape.ordered within is Going (flags_in (goes_of s)) (goes_low s t None ins outs kept lives step next n put.0 put.1 put.2 put.3 (length (slots_of s).regions) (omega arith)))
-              (running_leaves (slots_of s) (holders_of s) t kept.shape (flags_in (ends_of s)) kept.ending q f env (omega (arith, above)) by.0 is) put.4 put.5,
+              (running_leaves (slots_of s) (holders_of s) t kept.shape (λ y. flags_in (flags_of y s)) (flags_kept s kept) q f env (omega (arith, above)) by.0 is) put.4 put.5,
           (λ w k r e. let x = begins (held_place (Opened f env) (head_at (slots_of s) q) (entries_at (slots_of s) q) at_place) (reduces made) r (sym (stepped_as w k (holds (Opened f env) q None) is) ∙ e) in
               scene_put s t None ins outs kept lives step next n put.0 put.1 put.2 put.3 made
               (sym (run_told (slots_of s) t q f env kept.shape.ordered within is)) refl refl refl

@@ -1,19 +1,17 @@
 -- What is kept of the region at which a try looks.
-use Rattle.std.proofs.Common.{◌≡◌, ℕ, ◌≤◌, ◌<◌, true, false, length, refl, subst, arith}
+use Rattle.std.proofs.Common.{◌≡◌, ℕ, ◌<◌, ◌∙◌, true, length, get_or, refl, sym, subst, arith}
 use Rattle.std.proofs.lemmas.List.{length-map}
-use Rattle.tp_scene.specs.Scene.{Ending, has}
+use Rattle.tp_scene.specs.Scene.{has}
 use Rattle.tp_slots.specs.Plain.{What, bare, holds, gone, slot_at, WhatFits}
-use Rattle.tp_slots.specs.Places.{place_outward}
 use Rattle.tp_slots.specs.Lives.{lives_in}
 use Rattle.tp_slots.specs.Kept.{IsWellKept}
-use Rattle.tp_slots.specs.Looks.{IsKept, looked_into}
+use Rattle.tp_slots.specs.Looks.{LooksAreRight, looked_into}
 use Rattle.tp_slots.specs.Read.{slot_of, region_slot_of, slots_of, scene_of, holders_of}
-use Rattle.tp_slots.specs.declared.looks.Look.{Look}
-use Rattle.tp_slots.specs.declared.looks.Looks.{Looks}
+use Rattle.tp_slots.specs.declared.scene.Region.{Region}
 use Rattle.tp_slots.specs.declared.scene.Scene.{Scene}
+use Rattle.tp_slots.specs.declared.scene.Slot.{Slot}
 use Rattle.tp_slots.proofs.Changing.{lives_within}
 use Rattle.tp_slots.proofs.Living.{home_lives, first_lives}
-use Rattle.tp_slots.proofs.Looking.{kept_looks}
 
 module _ (s : Scene) (t : ℕ) (kept : IsWellKept s) (lives : has t (scene_of s).root.entries ≡ true) where
   within : t < length (slots_of s).slots
@@ -43,16 +41,25 @@ module _ (s : Scene) (t : ℕ) (kept : IsWellKept s) (lives : has t (scene_of s)
   pub tried_lives : lives_in (slots_of s) (holders_of s) (looked_into (slot_at (slots_of s) t).home (slot_at (slots_of s) t).what) ≡ true
   tried_lives = (tried (slot_at (slots_of s) t).what refl).1
 
--- The scene with other looks.
-pub remembered : (s : Scene) (k : Looks) (r : ℕ) (x : Look) → IsWellKept s → r < length s.regions.items → IsKept r x s.looks k → lives_in (slots_of s) (holders_of s) r ≡ true
-    → (place_outward (slots_of s) (holders_of s) r).depth ≡ x.depth → x.open_in ≤ s.looks.round → (x.open_in ≡ s.looks.round → (place_outward (slots_of s) (holders_of s) r).is Ending ≡ false)
-    → IsWellKept (record { slots = s.slots; regions = s.regions; looks = k })
-remembered s k r x kept l is lives deep past not_ending = record {
-  shape = kept.shape;
-  threads = kept.threads;
-  ending = kept.ending;
-  going = kept.going;
-  quiet_ends = kept.quiet_ends;
-  quiet_goes = kept.quiet_goes;
-  looks = kept_looks (slots_of s) (holders_of s) s.looks k r x kept.looks (let e = length-map s.regions.items region_slot_of in omega (arith, l, e)) is lives deep past not_ending;
-}
+-- The scene with other looks, which are right.
+module _ (s now : Scene) (slots : now.slots ≡ s.slots) (regions : now.regions ≡ s.regions) where
+  same_scene : now ≡ record { slots = s.slots; regions = s.regions; looks = now.looks }
+  same_scene = λ i. record { slots = slots i; regions = regions i; looks = now.looks }
+
+  pub remembered : IsWellKept s → LooksAreRight (slots_of s) (holders_of s) now.looks → IsWellKept now
+  remembered kept right = subst IsWellKept (sym same_scene) (record {
+    shape = kept.shape;
+    threads = kept.threads;
+    ending = kept.ending;
+    going = kept.going;
+    quiet_ends = kept.quiet_ends;
+    quiet_goes = kept.quiet_goes;
+    looks = right;
+  })
+
+  -- what stands in the other one is in the scene
+  pub region_same : (r : ℕ) (x : Region) → x ≡ get_or now.regions.items r x → x ≡ get_or s.regions.items r x
+  region_same r x e = e ∙ (λ i. get_or ((regions i).items) r x)
+
+  pub slot_same : (t : ℕ) (y : Slot) → y ≡ get_or now.slots.items t y → y ≡ get_or s.slots.items t y
+  slot_same t y e = e ∙ (λ i. get_or ((slots i).items) t y)

@@ -76,20 +76,20 @@ module _ (s : Scene) (shape : IsShaped (slots_of s) (holders_of s)) (r : ℕ) (l
   pub around_less : (slot_at (slots_of s) (holder_at (holders_of s) r)).home < r
   around_less = outer_less (slots_of s) (holders_of s) shape.ordered shape.held r a (inside s r l)
 
-module _ (s : Scene) (kept : IsWellKept s) (z : Side) where
-  right_on : (z : Side) → FlagsAreRight (slots_of s) z (flags_in (flags_of z s))
-  right_on Ending = kept.ending
-  right_on Going = kept.going
+pub flags_kept : (s : Scene) → IsWellKept s → (z : Side) → FlagsAreRight (slots_of s) z (flags_in (flags_of z s))
+flags_kept s kept Ending = kept.ending
+flags_kept s kept Going = kept.going
 
+module _ (s : Scene) (kept : IsWellKept s) (z : Side) where
   abbrev pub sees_at : ℕ → Bool
   sees_at r = (place_outward (slots_of s) (holders_of s) r).is z
 
   pub sees_root : flags_in (flags_of z s) 0 ≡ sees_at 0
-  sees_root = sym (root_seen (slots_of s) (holders_of s) kept.shape.ordered kept.shape.held z (flags_in (flags_of z s)) (right_on z))
+  sees_root = sym (root_seen (slots_of s) (holders_of s) kept.shape.ordered kept.shape.held z (flags_in (flags_of z s)) (flags_kept s kept z))
 
   pub sees_next : (r : ℕ) → r < length s.regions.items → 0 < r → sees_at r
       ≡ (flags_in (flags_of z s) r || (forced_in (slot_at (slots_of s) (holder_at (holders_of s) r)).what r z || (sinks_in (slot_at (slots_of s) (holder_at (holders_of s) r)).what r z && sees_at (slot_at (slots_of s) (holder_at (holders_of s) r)).home)))
-  sees_next r l a = is_seen (slots_of s) (holders_of s) kept.shape.ordered kept.shape.held z (flags_in (flags_of z s)) (right_on z) r a (inside s r l)
+  sees_next r l a = is_seen (slots_of s) (holders_of s) kept.shape.ordered kept.shape.held z (flags_in (flags_of z s)) (flags_kept s kept z) r a (inside s r l)
 
   pub sees_set : (r : ℕ) → r < length s.regions.items → flags_in (flags_of z s) r ≡ true → sees_at r ≡ true
   sees_set r l e = elim (cases_lt 0 r) [
@@ -105,6 +105,9 @@ set_is xs r l = λ i q. at q i
       | inl e ↦ rw e (sym (ap (λ n. get_or (slice_set xs r true) n false) (eqb-true q r e) ∙ get_or-set_same xs r true false l))
       | inr e ↦ rw e (sym (get_or-set_other xs r q true false (eqb-false q r e)))
     ]
+
+pub set_below : (xs ys : List Bool) (r q : ℕ) → ys ≡ slice_set xs r true → q < r → flags_in ys q ≡ flags_in xs q
+set_below xs ys r q e l = ap (λ v. flags_in v q) e ∙ get_or-set_other xs r q true false (λ i. absurd (omega (arith, l, i)))
 
 -- What holds the region r, as the code finds it.
 module _ (s : Scene) (shape : IsShaped (slots_of s) (holders_of s)) (r : ℕ) (l : r < length s.regions.items) (a : 0 < r) (x : Region) (y : Slot) (ex : x ≡ get_or s.regions.items r x) (ey : y ≡ get_or s.slots.items x.holder y) where

@@ -1,6 +1,7 @@
 -- What is shown, and what isn't settled, in walk order.
-use Rattle.std.proofs.Common.{◌≡◌, ℕ, ◌<◌, Bool, true, false, List, [], ◌∷◌, ◌++◌, length, Option, Some, None, refl, ap, sym, ◌∙◌, subst}
+use Rattle.std.proofs.Common.{◌≡◌, ℕ, zero, suc, ◌<◌, Bool, true, false, List, [], ◌∷◌, ◌++◌, length, map, get_or, Option, Some, None, refl, ap, sym, ◌∙◌, subst, arith}
 use Rattle.std.specs.Prelude.{filter}
+use Rattle.std.specs.List.{All}
 use Rattle.std.proofs.lemmas.Bool.{both_ways}
 use Rattle.std.proofs.lemmas.List.{append_assoc}
 use Rattle.std.proofs.lemmas.List.Elements.{filter-append}
@@ -8,7 +9,10 @@ use Rattle.tp_scene.specs.Scene.{Leaf, Do, Later, Shown, Holder, Head, Entries, 
 use Rattle.tp_scene.specs.Rest.{is_unsettled, holds_back, unsettled_items}
 use Rattle.tp_scene.specs.Advance.{shown_in}
 use Rattle.tp_slots.specs.Plain.{What, bare, holds, gone, Slot, Slots, slot_at, other_head, second_of, entries_at, has_second, WhatFits, IsOrdered}
+use Rattle.tp_slots.specs.Read.{slot_of, slots_of, what_of}
 use Rattle.tp_slots.specs.Shown.{AreShown}
+use Rattle.tp_slots.specs.declared.scene.Scene.{Scene}
+use Rattle.tp_slots.specs.declared.scene.Slot as R
 use Rattle.tp_slots.specs.Places.{place_outward, AreHeld}
 use Rattle.tp_slots.specs.Settled.{what_shows, leaf_shows, shows_at, what_waits, item_waits}
 use Rattle.tp_slots.specs.Row.{AreBelow}
@@ -41,6 +45,16 @@ shown_is s r (node id k h held g second rest) a =
     (λ i. (only_if (second_lives k) (x i) ++ y i) ++ (w i ++ z i))
     ∙ sym (shows_append s (first ++ live_items held) (id ∷ live_items rest)
     ∙ ap (λ l. l ++ shows_at s (id ∷ live_items rest)) (shows_append s first (live_items held) ∙ ap (λ l. l ++ shows_at s (live_items held)) (shows_if s (second_lives k) (live_items second))))
+
+-- where nothing is to be shown
+nothing_at : (xs : List R.Slot) → All (λ (x : R.Slot). what_shows (what_of x.what) ≡ []) xs → (t : ℕ) → what_shows (get_or (map slot_of xs) t (record { home = 0; what = gone [] })).what ≡ []
+nothing_at [] a t = refl
+nothing_at (x ∷ xs) a zero = a 0 x (omega arith)
+nothing_at (x ∷ xs) a (suc t) = nothing_at xs (λ k d l. a (suc k) d (omega (arith, l))) t
+
+pub nothing_shown : (s : Scene) → All (λ (x : R.Slot). what_shows (what_of x.what) ≡ []) s.slots.items → (ids : List ℕ) → shows_at (slots_of s) ids ≡ []
+nothing_shown s a [] = refl
+nothing_shown s a (t ∷ ts) = let here = nothing_at s.slots.items a t in let rest = nothing_shown s a ts in λ i. here i ++ rest i
 
 filter_if : (p : ℕ → Bool) (b : Bool) (xs : List ℕ) → filter p (only_if b xs) ≡ only_if b (filter p xs)
 filter_if p true xs = refl

@@ -62,6 +62,10 @@ forced_in (gone by) r z = false
 abbrev pub flags_in : List Bool → Flags
 flags_in xs q = get_or xs q false
 
+-- below that number the flags are the same
+abbrev pub AgreeBelow : ℕ → (old new : Flags) → Type 0
+AgreeBelow top f g = (r : ℕ) → r < top → g r ≡ f r
+
 -- Flags hold but for the region r, which is so.
 abbrev pub Pending : Slots → Side → Flags → ℕ → Type 0
 Pending s z f r =

@@ -35,9 +35,10 @@ pub fn start(alloc: Global, phrase: Phrase) -> Result<Scene, NoMemory>
         goes_now: false,
         roots,
     })?;
+    let looks = no_looks(alloc)?;
     Ok(Scene {
         slots,
         regions,
-        looks: no_looks(alloc),
+        looks,
     })
 }

@@ -198,8 +198,8 @@ fn moved_items(alloc: Global, scene: &Scene, item: u64) -> Result<Vec<u64>, NoMe
     }
 }
 
-/// An item with a region is reduced: a split closes, and what follows it is due; the outer region of a projection begins its next piece. What
-/// became live is answered. Or nothing changes.
+/// An item with a region is reduced: a split closes, and what follows it is due; the outer region of a projection begins its next piece.
+/// What became live is answered. Or nothing changes.
 pub fn move_on(alloc: Global, scene: &mut Scene, item: u64) -> Result<Vec<u64>, NoMemory>
     requires kept { IsWellKept scene.old }
     requires lives { Lives scene.old item }

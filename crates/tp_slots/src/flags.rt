@@ -5,9 +5,9 @@ ghost use Rattle.tp_scene.specs.Scene.{other_side};
 ghost use Rattle.tp_slots.specs.Read.{afters_of, flag_of, flags_of, holders_of, slots_of, what_of, region_slots, region_holders};
 ghost use Rattle.tp_slots.specs.Kept.{IsShaped, IsQuiet, IsWellKept, region_place_of, region_lives, flags_on};
 ghost use Rattle.tp_slots.specs.Lives.{leads_to};
-ghost use Rattle.tp_slots.specs.Flags.{FlagsAreRight, Pending, forced_in, rises_from, sinks_in};
+ghost use Rattle.tp_slots.specs.Flags.{AgreeBelow, FlagsAreRight, Pending, forced_in, rises_from, sinks_in};
 
-use crate::looks::found_of;
+use crate::looks::{depth_found, is_found_not_so};
 use crate::scene::{Region, Scene, What};
 use tp_decide::Side;
 
@@ -52,7 +52,7 @@ fn forces(what: &What, region: u64, side: Side) -> bool
 }
 
 // What holds the region lets through what the region around it is on that side.
-fn sinks(what: &What, region: u64, side: Side) -> bool
+pub(crate) fn sinks(what: &What, region: u64, side: Side) -> bool
     ensures { result ≡ sinks_in (what_of what.now) region (mark_of side) }
 {
     let ending = matches!(side, Side::Ending);
@@ -88,7 +88,7 @@ fn was_live(scene: &Scene, region: u64) -> bool
     requires region { region < length scene.now.regions.items }
     ensures { result ≡ true → region_lives scene.now region ≡ true }
 {
-    found_of(&scene.looks, region).depth > 0
+    depth_found(&scene.looks, region) > 0
 }
 
 // Whether the region was found not to be so, and it still isn't.
@@ -97,10 +97,7 @@ fn was_open(scene: &Scene, region: u64, side: Side) -> bool
     requires region { region < length scene.now.regions.items }
     ensures { result ≡ true → (region_place_of scene.now region).is (mark_of side) ≡ false }
 {
-    match side {
-        Side::Ending => found_of(&scene.looks, region).open_in == scene.looks.round,
-        Side::Going => false,
-    }
+    is_found_not_so(&scene.looks, region, side)
 }
 
 /// Whether the region is live.
@@ -185,8 +182,9 @@ fn set_at(scene: &mut Scene, at: u64, side: Side)
     set_so(scene.regions.as_mut_slice(), at as usize, side);
 }
 
-/// Sets the flag of a region that has become so, and those outward, as far as it rises.
-pub fn raise(scene: &mut Scene, region: u64, side: Side)
+/// Sets the flag of a region that has become so, and those outward, as far as it rises. Answers the number of the outermost region whose
+/// flag it set, or a number above all regions' where it set none.
+pub fn raise(scene: &mut Scene, region: u64, side: Side) -> u64
     requires shape { IsShaped (slots_of scene.old) (holders_of scene.old) }
     requires region { region < length scene.old.regions.items }
     requires lives { region_lives scene.old region ≡ true }
@@ -204,19 +202,23 @@ pub fn raise(scene: &mut Scene, region: u64, side: Side)
         (flags_on (mark_of side) scene.new) }
     ensures quiet { IsQuiet (slots_of scene.old) (holders_of scene.old)
         (flags_on (mark_of side) scene.new) }
+    ensures below { AgreeBelow result
+        (flags_on (mark_of side) scene.old) (flags_on (mark_of side) scene.new) }
 {
     let mut at = region;
+    let mut top = scene.regions.len() as u64;
     'outward: loop {
         if is_so(&scene.regions[at as usize], side) {
-            return;
+            return top;
         }
         set_at(scene, at, side);
+        top = at;
         if at == 0 {
-            return;
+            return top;
         }
         let slot = &scene.slots[scene.regions[at as usize].holder as usize];
         if !rises(&slot.what, at, side) {
-            return;
+            return top;
         }
         at = slot.home;
     }

@@ -1,5 +1,5 @@
 // Items without regions in an item's place.
-ghost use Rattle.std.specs.Prelude.{◌≡◌, ◌<◌, [], length, IfOk, OnOk, OnErr, true};
+ghost use Rattle.std.specs.Prelude.{◌≡◌, ◌<◌, ◌+◌, ◌++◌, ◌^◌, [], length, IfOk, OnOk, OnErr, true};
 ghost use Rattle.std.specs.Option.{option_map};
 ghost use Rattle.std.specs.List.{range_with_len};
 ghost use Rattle.tp_decide.specs.Decided.{mark_of, plain_leaf};
@@ -10,14 +10,15 @@ ghost use Rattle.tp_slots.specs.Looks.{LooksFollow};
 ghost use Rattle.tp_slots.specs.News.{bare_leaves, new_items};
 ghost use Rattle.tp_slots.specs.Plain as plain;
 ghost use Rattle.tp_slots.specs.Prepared.{IsPrepared};
-ghost use Rattle.tp_slots.specs.Read.{afters_of, holders_of, item_what, scene_of, slot_whats, slots_of, what_of, whats_of};
+ghost use Rattle.tp_slots.specs.Read.{afters_of, all_slots, holders_of, item_what, scene_of, slot_afters, slot_whats, slots_of, what_of};
 ghost use Rattle.tp_slots.specs.Reductions.{AreBare, IsBare, becomes_leaves};
-ghost use Rattle.tp_slots.specs.Threads.{AreThreaded};
+ghost use Rattle.tp_slots.specs.Row.{slots_in};
+ghost use Rattle.tp_slots.specs.Threads.{AreThreaded, links};
 
 use crate::flags::raise;
 use crate::looks::pass_mark;
-use crate::put::{News, commit, numbers, prepare};
-use crate::scene::{Scene, What};
+use crate::put::{News, commit, numbers, push_link};
+use crate::scene::{Scene, Slot, What};
 use std::alloc::Global;
 use tp_decide::{Leaf, Side};
 use tp_value::NoMemory;
@@ -33,15 +34,15 @@ fn raise_mark(scene: &mut Scene, region: u64, mark: Option<Side>)
     requires quiet { (z : S.Side)
         → IsQuiet (slots_of scene.old) (holders_of scene.old) (flags_on z scene.old) }
     requires threads { AreThreaded (slots_of scene.old) (afters_of scene.old) }
-    requires looks { LooksFollow (slots_of scene.old) (option_map mark_of mark)
-        (holders_of scene.old) scene.old.looks }
+    requires looks { LooksFollow (slots_of scene.old) (holders_of scene.old)
+        (λ z. flags_on z scene.old) scene.old.looks }
     ensures slots { slots_of scene.new ≡ slots_of scene.old }
     ensures kept { IsWellKept scene.new }
 {
     match mark {
         Some(side) => {
-            raise(scene, region, side);
-            pass_mark(&mut scene.looks, side);
+            let top = raise(scene, region, side);
+            pass_mark(&mut scene.looks, side, top);
         }
         None => {}
     }
@@ -58,15 +59,28 @@ pub fn leaf_what(leaf: Leaf) -> What
     }
 }
 
-// Leaves, as they stand in slots.
-fn leaf_whats(alloc: Global, leaves: Vec<Leaf>) -> Result<Vec<What>, NoMemory>
-    ensures { IfOk result (λ v. whats_of v.items ≡ bare_leaves leaves.items) }
+// Appends slots of one region for leaves, or fails. The first one has this number; each is visited after the one before it, and `end` after
+// the last.
+fn push_leaves(
+    list: &mut Vec<Slot>,
+    home: u64,
+    first: u64,
+    end: Option<u64>,
+    leaves: Vec<Leaf>,
+) -> Result<(), NoMemory>
+    requires { first + length leaves.items < 2 ^ 64 }
+    ensures slots { OnOk result (all_slots list.new.items
+        ≡ all_slots list.old.items ++ slots_in home (bare_leaves leaves.items)) }
+    ensures afters { OnOk result (slot_afters list.new.items
+        ≡ slot_afters list.old.items ++ links first (length leaves.items) end) }
 {
-    let mut whats = Vec::new(alloc);
+    let mut left = leaves.len() as u64;
+    let last = first + left;
     for leaf in leaves {
-        whats.push(leaf_what(leaf))?;
+        push_link(list, home, left, last, end, leaf_what(leaf))?;
+        left -= 1;
     }
-    Ok(whats)
+    Ok(())
 }
 
 /// Makes slots for leaves in an item's place, for which there is room then. The scene stays what it is.
@@ -82,9 +96,19 @@ pub fn prepare_leaves(
     ensures same { IsUnchanged scene.old scene.new }
     ensures looks { scene.new.looks ≡ scene.old.looks }
 {
-    let outs = leaf_whats(alloc, leaves)?;
-    let news = prepare(alloc, scene, item, Vec::new(alloc), outs)?;
-    Ok(news)
+    let from = scene.slots.len() as u64;
+    let count = leaves.len() as u64;
+    let home = scene.slots[item as usize].home;
+    let end = scene.slots[item as usize].after;
+    let mut slots = Vec::new(alloc);
+    push_leaves(&mut slots, home, from, end, leaves)?;
+    scene.slots.reserve(slots.len())?;
+    Ok(News {
+        from,
+        count,
+        slots,
+        regions: Vec::new(alloc),
+    })
 }
 
 /// Items that hold no region, for which there is room, stand in an item's place, and its region is marked.

@@ -1,10 +1,10 @@
 // Which items are live, where they stand, and what is kept of that.
-ghost use Rattle.std.specs.Prelude.{◌≡◌, ◌≤◌, ◌<◌, length, true};
+ghost use Rattle.std.specs.Prelude.{◌≡◌, ◌≤◌, ◌<◌, length, false, true};
 ghost use Rattle.tp_store.specs.Known.{Contents};
 ghost use Rattle.tp_scene.specs.Scene.{has};
 ghost use Rattle.tp_scene.specs.Step.{region_limit};
 ghost use Rattle.tp_scene.specs.Pick.{Setting, numbers_of, outcome_of};
-ghost use Rattle.tp_decide.specs.Decided.{plain_place};
+ghost use Rattle.tp_decide.specs.Decided.{mark_of, plain_place};
 ghost use Rattle.tp_slots.specs.Edit.{stands_in};
 ghost use Rattle.tp_slots.specs.Picked.{IsHolding, first_held, held_step, what_step};
 ghost use Rattle.tp_slots.specs.Read.{scene_of, slots_of, what_of, item_what, item_home, slot_of};
@@ -12,8 +12,8 @@ ghost use Rattle.tp_slots.specs.Kept.{IsWellKept, Lives, region_place_of, region
 ghost use Rattle.tp_slots.specs.Lives.{is_item};
 ghost use Rattle.tp_slots.specs.Looks.{looked_at};
 
-use crate::flags::{lives, sees};
-use crate::looks::{Look, found_of, keep};
+use crate::flags::{lives, sees, sinks};
+use crate::looks::{depth_found, is_found_not_so, keep_depth, keep_not_so};
 use crate::scene::{Scene, Slot, What};
 use tp_decide::{Place, Side};
 
@@ -56,7 +56,7 @@ pub fn depth(scene: &Scene, region: u64) -> u64
     let mut at = region;
     let mut depth = 0;
     'outward: while at != 0 {
-        let known = found_of(&scene.looks, at).depth;
+        let known = depth_found(&scene.looks, at);
         if known > 0 {
             return depth + known;
         }
@@ -144,25 +144,89 @@ fn region_tried(slot: &Slot) -> u64
     }
 }
 
+// Keeps how deep a live region is, and those outward, up to the first of which that is known.
+fn remember_depths(scene: &mut Scene, region: u64)
+    requires kept { IsWellKept scene.old }
+    requires region { region < length scene.old.regions.items }
+    requires lives { region_lives scene.old region ≡ true }
+    ensures slots { scene.new.slots ≡ scene.old.slots }
+    ensures regions { scene.new.regions ≡ scene.old.regions }
+    ensures kept { IsWellKept scene.new }
+{
+    if depth_found(&scene.looks, region) > 0 {
+        return;
+    }
+    let mut at = region;
+    let mut depth = depth(scene, region);
+    'outward: while at != 0 {
+        if depth_found(&scene.looks, at) > 0 {
+            return;
+        }
+        keep_depth(&mut scene.looks, at, depth);
+        let slot = &scene.slots[scene.regions[at as usize].holder as usize];
+        at = slot.home;
+        depth -= 1;
+    }
+}
+
+// Keeps that a region isn't so on that side, and the same of those outward, as long as each is so where the one around it is, up to the
+// first of which that was found.
+fn remember_not_so(scene: &mut Scene, region: u64, side: Side)
+    requires kept { IsWellKept scene.old }
+    requires region { region < length scene.old.regions.items }
+    requires not_so { (region_place_of scene.old region).is (mark_of side) ≡ false }
+    ensures slots { scene.new.slots ≡ scene.old.slots }
+    ensures regions { scene.new.regions ≡ scene.old.regions }
+    ensures kept { IsWellKept scene.new }
+{
+    let mut at = region;
+    'outward: while at != 0 {
+        if is_found_not_so(&scene.looks, at, side) {
+            return;
+        }
+        keep_not_so(&mut scene.looks, at, side);
+        let slot = &scene.slots[scene.regions[at as usize].holder as usize];
+        if !sinks(&slot.what, at, side) {
+            return;
+        }
+        at = slot.home;
+    }
+}
+
+// Keeps what a region is on that side.
+fn remember_side(scene: &mut Scene, region: u64, side: Side)
+    requires kept { IsWellKept scene.old }
+    requires region { region < length scene.old.regions.items }
+    ensures slots { scene.new.slots ≡ scene.old.slots }
+    ensures regions { scene.new.regions ≡ scene.old.regions }
+    ensures kept { IsWellKept scene.new }
+{
+    if !is_found_not_so(&scene.looks, region, side) && !sees(scene, region, side) {
+        remember_not_so(scene, region, side);
+    }
+}
+
+// A way outward through so many regions is sooner walked again than it is kept.
+const SHORT_WAY: u64 = 6;
+
 // Keeps what a live region is.
 fn remember_region(scene: &mut Scene, region: u64)
     requires kept { IsWellKept scene.old }
     requires region { region < length scene.old.regions.items }
     requires lives { region_lives scene.old region ≡ true }
-    ensures same { IsUnchanged scene.old scene.new }
+    ensures slots { scene.new.slots ≡ scene.old.slots }
+    ensures regions { scene.new.regions ≡ scene.old.regions }
     ensures kept { IsWellKept scene.new }
 {
-    let depth = depth(scene, region);
-    let open_in = if sees(scene, region, Side::Ending) {
-        0
-    } else {
-        scene.looks.round
-    };
-    keep(&mut scene.looks, region, Look { depth, open_in });
+    remember_depths(scene, region);
+    if depth_found(&scene.looks, region) > SHORT_WAY {
+        remember_side(scene, region, Side::Ending);
+        remember_side(scene, region, Side::Going);
+    }
 }
 
-/// Keeps what is found of the region at which a try of the live item looks, so that no later look has to walk outward from there. Only where
-/// memory is refused it isn't kept.
+/// Keeps what is found of the region at which a try of the live item looks, so that no later look has to walk outward from there. Only
+/// where memory is refused it isn't kept.
 pub fn remember(scene: &mut Scene, item: u64)
     requires kept { IsWellKept scene.old }
     requires lives { Lives scene.old item }

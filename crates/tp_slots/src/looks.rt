@@ -1,103 +1,104 @@
 // What was found of regions, so that who looks again need not walk outward.
-ghost use Rattle.std.specs.Prelude.{◌≡◌, ◌<◌, [], length, slice_set, OnOk};
+ghost use Rattle.std.specs.Prelude.{◌≡◌, ◌<◌, [], length, slice_set, IfOk, OnOk};
 ghost use Rattle.tp_decide.specs.Decided.{mark_of};
-ghost use Rattle.tp_slots.specs.Looks.{IsAfterMark, IsKept, IsLonger, IsNextRound, look_in};
+ghost use Rattle.tp_slots.specs.Looks.{IsAfterMark, IsDepthKept, IsLonger, IsNotSoKept, depth_known, found_not_so};
 
+use crate::number_set::NumberSet;
 use std::alloc::Global;
 use tp_decide::Side;
 use tp_value::NoMemory;
 
-/// What was found of regions, by number. A round lasts until a region is marked as ending: what was found not to end is looked at again in the
-/// next one. Rounds are counted from 1.
+/// What was found of live regions: how deep each is, by number, or 0 where that isn't known; and the numbers of those that were found not
+/// to end, and not to go on.
 #[derive(Drop)]
 pub struct Looks {
-    pub round: u64,
-    pub found: Vec<Look>,
+    pub depths: Vec<u64>,
+    pub not_ending: NumberSet,
+    pub not_going: NumberSet,
 }
 
-/// What was found of a live region: how deep it is, and the last round in which it didn't end. Each is 0 where it isn't known.
-#[derive(Clone, Copy)]
-pub struct Look {
-    pub depth: u64,
-    pub open_in: u64,
-}
-
-/// Nothing was found yet.
-pub fn no_looks(alloc: Global) -> Looks
-    ensures round { result.round ≡ 1 }
-    ensures found { result.found.items ≡ [] }
+/// Nothing was found yet. It refuses where memory is wanted.
+pub fn no_looks(alloc: Global) -> Result<Looks, NoMemory>
+    ensures depths { IfOk result (λ looks. looks.depths.items ≡ []) }
+    ensures not_ending { IfOk result (λ looks. looks.not_ending ≡ []) }
+    ensures not_going { IfOk result (λ looks. looks.not_going ≡ []) }
 {
-    Looks {
-        round: 1,
-        found: Vec::new(alloc),
-    }
+    let not_ending = NumberSet::new(alloc)?;
+    let not_going = NumberSet::new(alloc)?;
+    Ok(Looks {
+        depths: Vec::new(alloc),
+        not_ending,
+        not_going,
+    })
 }
 
-/// What was found of the region.
-pub(crate) fn found_of(looks: &Looks, region: u64) -> Look
-    ensures { result ≡ look_in looks.now region }
+/// How deep the region was found to be, or 0 where that isn't known.
+pub(crate) fn depth_found(looks: &Looks, region: u64) -> u64
+    ensures { result ≡ depth_known looks.now region }
 {
-    if region < looks.found.len() as u64 {
-        looks.found[region as usize]
+    if region < looks.depths.len() as u64 {
+        looks.depths[region as usize]
     } else {
-        Look {
-            depth: 0,
-            open_in: 0,
-        }
+        0
     }
 }
 
-// The next round begins. After the last number nothing is known, and they are counted anew.
-fn begin_round(looks: &mut Looks)
-    ensures { IsNextRound looks.old looks.new }
-{
-    match looks.round.checked_add(1) {
-        Some(next) => looks.round = next,
-        None => {
-            looks.found.clear();
-            looks.round = 1;
-        }
-    }
-}
-
-/// A region was marked on that side.
-pub(crate) fn pass_mark(looks: &mut Looks, side: Side)
-    ensures { IsAfterMark (mark_of side) looks.old looks.new }
+/// Whether it was found that the region isn't so on that side.
+pub(crate) fn is_found_not_so(looks: &Looks, region: u64, side: Side) -> bool
+    ensures { result ≡ found_not_so (mark_of side) looks.now region }
 {
     match side {
-        Side::Ending => begin_round(looks),
-        Side::Going => {}
+        Side::Ending => looks.not_ending.has(region),
+        Side::Going => looks.not_going.has(region),
     }
 }
 
-// There is a place for what is found of the region, or memory is refused. Nothing is known more.
-fn reach(found: &mut Vec<Look>, region: u64) -> Result<(), NoMemory>
-    ensures longer { IsLonger region found.old.items found.new.items }
-    ensures reached { OnOk result (region < length found.new.items) }
+/// A region was marked on that side, and the outermost that has become so has this number. A region around another has a smaller number, so
+/// what one with a smaller number than this sees hasn't changed.
+pub(crate) fn pass_mark(looks: &mut Looks, side: Side, top: u64)
+    ensures { IsAfterMark (mark_of side) top looks.old looks.new }
 {
-    'longer: while found.len() as u64 <= region {
-        found.push(Look {
-            depth: 0,
-            open_in: 0,
-        })?;
+    match side {
+        Side::Ending => looks.not_ending.leave_below(top),
+        Side::Going => looks.not_going.leave_below(top),
+    }
+}
+
+// There is a place for the depth of the region, or memory is refused. Nothing is known more.
+fn reach(depths: &mut Vec<u64>, region: u64) -> Result<(), NoMemory>
+    ensures longer { IsLonger region depths.old.items depths.new.items }
+    ensures reached { OnOk result (region < length depths.new.items) }
+{
+    'longer: while depths.len() as u64 <= region {
+        depths.push(0)?;
     }
     Ok(())
 }
 
-// Sets what was found of the region.
-fn set_found(list: &mut [Look], at: usize, found: Look)
+// Sets the depth that was found of the region.
+fn set_depth(list: &mut [u64], at: usize, depth: u64)
     requires { at < length list.old }
-    ensures { list.new ≡ slice_set list.old at found }
+    ensures { list.new ≡ slice_set list.old at depth }
 {
-    list[at] = found;
+    list[at] = depth;
 }
 
-/// Keeps what was found of the region. Where memory is refused, it isn't kept.
-pub(crate) fn keep(looks: &mut Looks, region: u64, found: Look)
-    ensures { IsKept region found looks.old looks.new }
+/// Keeps how deep the region was found to be. Where memory is refused, it isn't kept.
+pub(crate) fn keep_depth(looks: &mut Looks, region: u64, depth: u64)
+    ensures { IsDepthKept region depth looks.old looks.new }
 {
-    let Ok(()) = reach(&mut looks.found, region) else {
+    let Ok(()) = reach(&mut looks.depths, region) else {
         return;
     };
-    set_found(looks.found.as_mut_slice(), region as usize, found);
+    set_depth(looks.depths.as_mut_slice(), region as usize, depth);
+}
+
+/// Keeps that the region was found not to be so on that side. Where memory is refused, it isn't kept.
+pub(crate) fn keep_not_so(looks: &mut Looks, region: u64, side: Side)
+    ensures { IsNotSoKept (mark_of side) region looks.old looks.new }
+{
+    match side {
+        Side::Ending => looks.not_ending.add(region),
+        Side::Going => looks.not_going.add(region),
+    }
 }

@@ -1,5 +1,5 @@
 // Putting new items in place of one.
-ghost use Rattle.std.specs.Prelude.{◌≡◌, ◌≤◌, ◌<◌, ◌+◌, ◌++◌, ◌^◌, false, slice_set, map, length, IfOk, OnOk, OnErr, vec_len, vec_capacity};
+ghost use Rattle.std.specs.Prelude.{◌≡◌, ◌≤◌, ◌<◌, ◌+◌, ◌-◌, ◌++◌, ◌∷◌, [], ◌^◌, false, slice_set, map, length, IfOk, OnOk, OnErr, vec_len, vec_capacity};
 ghost use Rattle.std.specs.Option.{option_map};
 ghost use Rattle.std.specs.List.{range_with_len};
 ghost use Rattle.tp_decide.specs.Decided.{mark_of};
@@ -69,6 +69,34 @@ fn push_in(list: &mut Vec<Slot>, home: u64, whats: Vec<What>) -> Result<(), NoMe
     Ok(())
 }
 
+/// Appends a slot of a region, or fails: it is the first of so many that are left, of which the last one has the number before `last`.
+/// After it the next of them is visited, and `end` after the last.
+pub fn push_link(
+    list: &mut Vec<Slot>,
+    home: u64,
+    left: u64,
+    last: u64,
+    end: Option<u64>,
+    what: What,
+) -> Result<(), NoMemory>
+    requires some { 0 < left }
+    requires within { left ≤ last }
+    ensures slots { OnOk result (all_slots list.new.items
+        ≡ all_slots list.old.items ++ record { home = home; what = what_of what } ∷ []) }
+    ensures afters { OnOk result
+        (slot_afters list.new.items ++ links (last - (left - 1)) (left - 1) end
+        ≡ slot_afters list.old.items ++ links (last - left) left end) }
+{
+    let behind = left - 1;
+    let after = if behind == 0 {
+        end
+    } else {
+        Some(last - behind)
+    };
+    list.push(Slot { home, after, what })?;
+    Ok(())
+}
+
 // Appends slots of one region, or fails. The first one has this number; each is visited after the one before it, and `end` after the last.
 fn push_linked(
     list: &mut Vec<Slot>,
@@ -86,9 +114,8 @@ fn push_linked(
     let mut left = whats.len() as u64;
     let last = first + left;
     for what in whats {
+        push_link(list, home, left, last, end, what)?;
         left -= 1;
-        let after = if left == 0 { end } else { Some(last - left) };
-        list.push(Slot { home, after, what })?;
     }
     Ok(())
 }

@@ -2,7 +2,8 @@
 use crate::looks::Looks;
 use tp_decide::{Phrase, Values};
 
-/// What a run has between the steps of a state: the items by number, the regions by number, and what was found of these. The root is region 0.
+/// What a run has between the steps of a state: the items by number, the regions by number, and what was found of these. The root is region
+/// 0.
 #[derive(Drop)]
 pub struct Scene {
     pub slots: Vec<Slot>,

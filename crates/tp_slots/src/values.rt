@@ -1,12 +1,13 @@
 // The values that a scene shows.
-ghost use Rattle.std.specs.Prelude.{◌≡◌, ◌++◌, map, IfOk, OnOk, OnErr};
+ghost use Rattle.std.specs.Prelude.{◌≡◌, ◌++◌, [], false, map, IfOk, OnOk, OnErr};
+ghost use Rattle.std.specs.List.{All};
 ghost use Rattle.tp_scene.specs.Advance.{shown_in};
 ghost use Rattle.tp_decide.specs.Read.{shows_of, values_of};
 ghost use Rattle.tp_slots.specs.Settled.{what_shows};
 ghost use Rattle.tp_slots.specs.Read.{scene_of, what_of, item_what};
 ghost use Rattle.tp_slots.specs.Kept.{IsWellKept};
 
-use crate::scene::{Scene, What};
+use crate::scene::{Scene, Slot, What};
 use crate::walk::items;
 use std::alloc::Global;
 use tp_decide::{Shows, Values};
@@ -61,6 +62,33 @@ fn add_shown_at(
     Ok(())
 }
 
+// Whether values stand there that are to be shown.
+fn is_shown(what: &What) -> bool
+    ensures { result ≡ false → what_shows (what_of what.now) ≡ [] }
+{
+    match what {
+        What::Shown(_) => true,
+        What::Do(_) | What::Later(_) | What::Closed(_) => false,
+        What::Gone { .. } => false,
+        What::Split { .. } => false,
+        What::SplitProject { .. } => false,
+        What::Opened { .. } => false,
+        What::Running { .. } => false,
+    }
+}
+
+// Whether values are to be shown anywhere.
+fn shows_any(slots: &[Slot]) -> bool
+    ensures { result ≡ false → All (λ slot. what_shows (what_of slot.what) ≡ []) slots.now }
+{
+    for slot in slots {
+        if is_shown(&slot.what) {
+            return true;
+        }
+    }
+    false
+}
+
 /// Appends the lists of values that are shown in walk order, or changes nothing.
 pub fn shown(alloc: Global, scene: &Scene, out: &mut Shows) -> Result<(), NoMemory>
     requires { IsWellKept scene.now }
@@ -68,6 +96,9 @@ pub fn shown(alloc: Global, scene: &Scene, out: &mut Shows) -> Result<(), NoMemo
         ≡ shows_of out.old ++ shown_in (scene_of scene.now).root.entries) }
     ensures err { OnErr result (shows_of out.new ≡ shows_of out.old) }
 {
+    if !shows_any(scene.slots.as_slice()) {
+        return Ok(());
+    }
     let ids = items(alloc, scene)?;
     let mut all = Vec::new(alloc);
     for i in 0..ids.len() {

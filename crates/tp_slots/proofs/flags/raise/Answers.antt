@@ -9,7 +9,7 @@ use Rattle.tp_slots.specs.Kept.{IsShaped}
 use Rattle.tp_slots.specs.Read.{flag_of, flags_of, holders_of, region_slot_of, slot_of, slots_of}
 use Rattle.tp_slots.specs.declared.scene.Scene.{Scene}
 use Rattle.tp_slots.specs.declared.scene.Region.{Region}
-use Rattle.tp_slots.proofs.Seeing.{flag_read, found, home_less, holder_within, holder_read, right_already, quiet_new, right_root, right_last, pending_next, lives_next}
+use Rattle.tp_slots.proofs.Seeing.{set_below, flag_read, found, home_less, holder_within, holder_read, right_already, quiet_new, right_root, right_last, pending_next, lives_next}
 use Rattle.tp_slots.proofs.flags.raise.Goals as goal
 
 same_count : (s s0 : Scene) → slots_of s ≡ slots_of s0 → length s.regions.items ≡ length s0.regions.items
@@ -101,5 +101,13 @@ outward-preserved c =
       looks = c.set_at.ensures.looks ∙ c.outward.invariant.looks;
       lives = lives_next c.args.scene.now z c.requires.shape c.outward.at l0 (flags_of z c.outward.scene) c.outward.invariant.pending (flags_of z s) c.set_at.ensures.set k (slot_of c.index-slot.result.now) w0 a c.outward.invariant.lives;
       pending = pending_next c.args.scene.now z c.requires.shape c.outward.at l0 (flags_of z c.outward.scene) c.outward.invariant.pending (flags_of z s) c.set_at.ensures.set k (slot_of c.index-slot.result.now) w0 (sym c.rises.ensures ∙ c.if-not-rises.false);
+      most = omega (arith, u);
+      below = λ q b. let o = c.outward.invariant.most in set_below (flags_of z c.outward.scene) (flags_of z s) c.outward.at q c.set_at.ensures.set b ∙ c.outward.invariant.below q (omega (arith, b, o));
       quiet = quiet_new c.args.scene.now z c.requires.shape c.outward.at l0 (flags_of z c.outward.scene) c.outward.invariant.pending (flags_of z s) c.set_at.ensures.set k c.outward.invariant.lives c.outward.invariant.quiet;
     }
+
+pub returns-then-at-eq0-clause-below : goal.returns-then-at-eq0-clause-below
+returns-then-at-eq0-clause-below c = λ q b. let o = c.outward.invariant.most in set_below (flags_of (mark_of c.args.side) c.outward.scene) (flags_of (mark_of c.args.side) c.set_at.new.scene) c.outward.at q c.set_at.ensures.set b ∙ c.outward.invariant.below q (omega (arith, b, o))
+
+pub returns-then-not-rises-clause-below : goal.returns-then-not-rises-clause-below
+returns-then-not-rises-clause-below c = λ q b. let o = c.outward.invariant.most in set_below (flags_of (mark_of c.args.side) c.outward.scene) (flags_of (mark_of c.args.side) c.set_at.new.scene) c.outward.at q c.set_at.ensures.set b ∙ c.outward.invariant.below q (omega (arith, b, o))

@@ -3,7 +3,6 @@ use Rattle.std.proofs.Common.{◌≡◌, ℕ, suc, ◌+◌, ◌<◌, ◌^◌, le
 use Rattle.tp_slots.specs.Kept.{IsShaped}
 use Rattle.tp_slots.specs.Places.{place_outward}
 use Rattle.tp_slots.specs.Read.{holders_of, slots_of}
-use Rattle.tp_slots.specs.declared.looks.Look.{Look}
 use Rattle.tp_slots.specs.declared.scene.Region.{Region}
 use Rattle.tp_slots.specs.declared.scene.Scene.{Scene}
 use Rattle.tp_slots.proofs.Seeing.{depth_small, home_less, holder_within, inside, next_depth, holder_read}
@@ -44,8 +43,8 @@ overflow_add-depth c =
 pub overflow_add-result : goal.overflow_add-result
 overflow_add-result c =
     let s = c.args.scene.now in
-    let e = ap (λ (x : Look). x.depth) c.found_of-known.ensures in
-    let p : 0 < c.found_of-known.result.depth = search rules in
-    let k = (c.requires.kept.looks.known.known c.outward.at (inside s c.outward.at c.outward.invariant.0) (omega (arith, e, p))).1 in
+    let e = c.depth_found-known.ensures in
+    let p : 0 < c.depth_found-known.result = search rules in
+    let k = (c.requires.kept.looks.depths.known c.outward.at (inside s c.outward.at c.outward.invariant.0) (omega (arith, e, p))).1 in
     let b = small c.args.scene.now c.args.region c.outward.at c.outward.depth c.requires.kept.shape c.requires.region (search rules) c.outward.invariant.1 in
     omega (arith, e, k, b)

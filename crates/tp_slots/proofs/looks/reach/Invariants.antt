@@ -3,7 +3,7 @@ use Rattle.tp_slots.specs.Looks.{IsLonger}
 use Rattle.tp_slots.proofs.looks.reach.Given as goal
 
 abbrev pub invariant-longer : goal.invariant-longer
-invariant-longer l = IsLonger l.region l.fn.found.items l.found.items
+invariant-longer l = IsLonger l.region l.fn.depths.items l.depths.items
 
 abbrev pub decreases-longer : goal.decreases-longer
-decreases-longer l = l.region + 1 - length l.found.items
+decreases-longer l = l.region + 1 - length l.depths.items

@@ -11,7 +11,7 @@ use Rattle.tp_slots.specs.Threads.{after_at, AreLast}
 use Rattle.tp_slots.specs.Walk.{live_in, live_of}
 use Rattle.tp_slots.specs.declared.scene.Scene.{Scene}
 use Rattle.tp_slots.specs.declared.scene.Slot.{Slot}
-use Rattle.tp_slots.proofs.Firsts.{none_waits, one_waits, found, in_place, afterwards, nothing_left, measure_is, cost_after, in_at, last_at, none_up_to, some_at}
+use Rattle.tp_slots.proofs.Firsts.{begin_visit, none_waits, one_waits, found, in_place, afterwards, nothing_left, measure_is, cost_after, in_at, last_at, none_up_to, some_at}
 use Rattle.tp_slots.proofs.Seeing.{slot_read}
 use Rattle.tp_slots.proofs.Walking.{region_live}
 use Rattle.tp_slots.proofs.WalkLemmas.{roots_are}
@@ -27,6 +27,13 @@ module _ (s : Scene) (t : ℕ) (x : Slot) (i : t < length (slots_of s).slots) (i
 
   after_read : x.after ≡ after_at (afters_of s) t
   after_read = ap (λ (y : Slot). y.after) is ∙ sym (get_or-map (λ (y : Slot). y.after) s.slots.items t x None within)
+
+pub first_from-walk-init : goal.first_from-walk-init
+first_from-walk-init t c =
+    let s = c.args.scene.now in
+    let l = c.requires.item in
+    let n = length-map s.slots.items slot_of in
+    ([], begin_visit (slots_of s) (afters_of s) c.requires.kept.shape.ordered c.requires.kept.threads (first_waiting s) (none_waits s) (one_waits s) c.args.root (omega (arith, l, n)) c.requires.last)
 
 pub first_from-returns-in-Some : goal.first_from-returns-in-Some
 first_from-returns-in-Some t c =

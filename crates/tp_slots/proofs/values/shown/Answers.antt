@@ -1,13 +1,16 @@
 -- What the items before show.
-use Rattle.std.proofs.Common.{◌≡◌, ◌<◌, ◌++◌, ◌∷◌, [], map, take, length, ap, sym, ◌∙◌, rules}
+use Rattle.std.proofs.Common.{◌≡◌, ◌<◌, ◌++◌, ◌∷◌, [], map, take, length, ap, sym, ◌∙◌, subst, rules}
 use Rattle.std.proofs.lemmas.List.{append-nil, map-append, take_more}
 use Rattle.std.proofs.Math.Seq.{take-length}
-use Rattle.tp_decide.specs.Read.{values_of}
+use Rattle.std.specs.List.{All}
+use Rattle.tp_scene.specs.Scene.{live_items}
+use Rattle.tp_decide.specs.Read.{shows_of, values_of}
 use Rattle.tp_slots.specs.Plain.{entries_at, slot_at}
-use Rattle.tp_slots.specs.Read.{slots_of}
+use Rattle.tp_slots.specs.Read.{slots_of, what_of}
 use Rattle.tp_slots.specs.Settled.{shows_at, what_shows}
 use Rattle.tp_slots.proofs.Showing.{all_shown}
-use Rattle.tp_slots.proofs.Settling.{shows_append, shown_is}
+use Rattle.tp_slots.specs.declared.scene.Slot.{Slot}
+use Rattle.tp_slots.proofs.Settling.{nothing_shown, shows_append, shown_is}
 use Rattle.tp_slots.proofs.values.shown.Goals as goal
 
 pub loop-i-preserved : goal.loop-i-preserved
@@ -32,3 +35,11 @@ returns-clause-ok c =
     ∙ (map-append values_of c.args.out.now.items.items c.loop-i.all.items
     ∙ ap (λ xs. map values_of c.args.out.now.items.items ++ xs)
     (c.loop-i.invariant ∙ (all ∙ (ap (shows_at s) c.in_ok-ids.ensures ∙ sym (shown_is s 0 (entries_at s 0) (all_shown s c.requires.shape.ordered 0 c.requires.shape.ordered.root))))))
+
+pub returns-then-not-shows_any-clause-ok : goal.returns-then-not-shows_any-clause-ok
+returns-then-not-shows_any-clause-ok c =
+    let s = slots_of c.args.scene.now in
+    let none = subst (All (λ (x : Slot). what_shows (what_of x.what) ≡ [])) c.as_slice.ensures.value (c.shows_any.ensures c.if-not-shows_any.true) in
+    sym (ap (λ xs. shows_of c.args.out.now ++ xs)
+    (shown_is s 0 (entries_at s 0) (all_shown s c.requires.shape.ordered 0 c.requires.shape.ordered.root) ∙ nothing_shown c.args.scene.now none (live_items (entries_at s 0)))
+    ∙ append-nil (shows_of c.args.out.now))
