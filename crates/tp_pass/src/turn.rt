@@ -7,7 +7,7 @@ ghost use Rattle.tp_pass.specs.Sweeps.{BeginsSweep, IsLiveByNumber, TakesTurn, t
 use crate::sweep::Sweep;
 use std::alloc::Global;
 use std::collections::VecDeque;
-use tp_step::{Order, Scene, choose, has_item};
+use tp_step::{Order, Scene, choose_place, has_item};
 use tp_value::NoMemory;
 
 /// The number that the next new item takes.
@@ -49,7 +49,7 @@ impl Sweep {
             Order::Seed(word) => {
                 let mut live = live_by_number(alloc, scene)?;
                 if !live.is_empty() {
-                    let place = choose(word, live.len() as u64);
+                    let place = choose_place(word, live.len() as u64);
                     live.rotate_left(place as usize);
                 }
                 Ok(Sweep::Forward(live))

@@ -399,10 +399,11 @@ pub fn next_scene(alloc: Global, scene: Scene) -> Result<Scene, NoMemory>
     ensures scene { IfOk result (λ next. scene_of next ≡ advanced (scene_of scene)) }
     ensures kept { IfOk result IsWellKept }
 {
+    let looks = no_looks(alloc)?;
     let mut next = Scene {
         slots: Vec::new(alloc),
         regions: Vec::new(alloc),
-        looks: no_looks(alloc),
+        looks,
     };
     carry_second(alloc, &scene, 0, Extent::Due, 0, &mut next)?;
     Ok(next)

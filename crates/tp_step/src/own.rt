@@ -86,8 +86,8 @@ fn list_what(
     }
 }
 
-/// The items of a region in order, without those inside of them.
-pub(crate) fn own_items(alloc: Global, scene: &Scene, region: u64) -> Result<Vec<u64>, NoMemory>
+/// The items of a region in order, without those inside of them. It refuses where memory is wanted.
+pub fn own_items(alloc: Global, scene: &Scene, region: u64) -> Result<Vec<u64>, NoMemory>
     requires sound { IsOrdered (slots_of scene.now) }
     requires region { region < length scene.now.regions.items }
     ensures { IfOk result (λ v. v.items ≡ own_inside scene.now region) }

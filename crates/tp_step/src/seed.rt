@@ -3,7 +3,7 @@ ghost use Rattle.std.specs.Prelude.{◌≡◌, ◌<◌, ◌%◌, ℕ, suc};
 ghost use Rattle.tp_step.specs.Seeds.{choice_at, choice_of, word_after, word_at};
 
 /// Makes a choice among so many by a seed's word, which goes on to the next one.
-pub fn choose(word: &mut u64, count: u64) -> u64
+pub fn choose_place(word: &mut u64, count: u64) -> u64
     requires some { 0 < count }
     ensures choice { result ≡ choice_of word.old % count }
     ensures word { word.new ≡ word_after word.old }
