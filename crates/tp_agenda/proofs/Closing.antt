@@ -26,12 +26,13 @@ use Rattle.tp_step.proofs.Room.{closures_keep_room}
 use Rattle.tp_lanes.specs.Planes.{flag}
 use Rattle.tp_agenda.specs.declared.board.Board.{Board}
 use Rattle.tp_agenda.specs.Agenda.{ClosesWith, TriesNext, EndsAtTry, EndsTries, last_tries}
-use Rattle.tp_agenda.specs.Board.{FitsBoard, HasFlags, TakesIn, TakesNews, TakesWait}
+use Rattle.tp_agenda.specs.Board.{FitsBoard, HasFlags, TakenAreKnown, TakesIn, TakesNews, TakesWait}
 use Rattle.tp_agenda.specs.Held.{IsHeld, IsTakenUp, nothing_due}
 use Rattle.tp_agenda.specs.Ready.{IsReady}
 use Rattle.tp_agenda.proofs.Held.{held_tells_ready, waits_keep_held, rests_keep_held}
-use Rattle.tp_agenda.proofs.Members.{count_taken}
+use Rattle.tp_slots.proofs.NumberSets.{count_without}
 use Rattle.tp_agenda.proofs.Movers.{mover_lives, live_was}
+use Rattle.tp_agenda.proofs.Near.{known_stays}
 use Rattle.tp_agenda.proofs.Leaving.{held_comes_to_rest}
 use Rattle.tp_agenda.proofs.TakingNews.{news_held}
 use Rattle.tp_agenda.proofs.Trying.{AgendaSoFar, agenda_begins, agenda_picks, agenda_waits, agenda_rests, agenda_made, agenda_waited, agenda_sound, agenda_follows, agenda_counts}
@@ -39,7 +40,7 @@ use Rattle.tp_agenda.proofs.Turns.{IsFlagged, turn_alike, turn_is_ready}
 
 -- the item was taken out of the board
 abbrev pub without : Board → ℕ → Board
-without b t = record { alloc = b.alloc; bound = b.bound; ready = slice_set b.ready t false; over = b.over; index = b.index }
+without b t = record { alloc = b.alloc; bound = b.bound; ready = slice_set b.ready t false; over = b.over; index = b.index; taken = b.taken }
 
 -- The tries so far, with what is held where they lead, and the ready item whose turn it is, which was taken out.
 module _ (w : Setting) (first here : Moment) (order between after : Order) (room left : ℕ) (before now : List ℕ) (ws : List Wait) (rs : List ℕ) (old new : ℕ)
@@ -56,7 +57,7 @@ module _ (w : Setting) (first here : Moment) (order between after : Order) (room
 
   pub one_fewer : count_by (λ b. b) taken.ready < count_by (λ b. b) board.ready
   one_fewer =
-      let e = count_taken board.ready t flagged in
+      let e = count_without board.ready t flagged in
       let same : count_by (λ b. b) taken.ready ≡ count_by (λ b. b) (slice_set board.ready t false) = ap (λ (b : Board). count_by (λ x. x) b.ready) without_it in
       omega (arith, e, same)
 
@@ -229,18 +230,25 @@ pub record GoesOn (w : Setting) (first next : Moment) (order after : Order) (roo
   pub held : IsHeld w next ws rs board'.over.items board'.ready nothing_due
   pub fits : FitsBoard ws board'
   pub flags : HasFlags next.scene board'
+  pub taken : TakenAreKnown next.scene board'
   pub smaller : left' * 2 ^ 64 + count_by (λ b. b) board'.ready < left * 2 ^ 64 + count_by (λ b. b) board.ready
 
 module _ (w : Setting) (first here : Moment) (order between after : Order) (room left : ℕ) (before now : List ℕ) (ws : List Wait) (rs : List ℕ) (old new : ℕ)
     (so_far : AgendaSoFar w first here order between room left before now ws rs old new)
     (board taken : Board) (held : IsHeld w here ws rs board.over.items board.ready nothing_due) (t : ℕ) (turn : TriesNext (IsFlagged board.ready) between after t) (without_it : taken ≡ without board t)
-    (fits : FitsBoard ws board) (flags : HasFlags here.scene board) (kinds : List Bool) (sound : IsSound w kinds first)
+    (fits : FitsBoard ws board) (flags : HasFlags here.scene board) (known : TakenAreKnown here.scene board) (kinds : List Bool) (sound : IsSound w kinds first)
     (next : Moment) (left' : ℕ) (now' : List ℕ) (new' : ℕ) (counts : new' ≡ new + 1) (board' : Board) (ws' : List Wait) (rs' : List ℕ) where
   sound_here : IsSound w kinds here
   sound_here = agenda_sound w first here order between room left before now ws rs old new so_far kinds sound
 
   fewer : count_by (λ b. b) taken.ready < count_by (λ b. b) board.ready
   fewer = one_fewer w first here order between after room left before now ws rs old new so_far board taken held t turn without_it
+
+  known_still : TakenAreKnown here.scene taken
+  known_still q e = known q (sym (ap (λ (b : Board). flag b.taken.items q) without_it) ∙ e)
+
+  known_here : next ≡ here → TakenAreKnown next.scene taken
+  known_here same = subst (λ (m : Moment). TakenAreKnown m.scene taken) (sym same) known_still
 
   abbrev Goes : List Wait → List ℕ → Type 0
   Goes xs ts = GoesOn w first next order after room left left' before now' xs ts old new' board board'
@@ -251,6 +259,10 @@ module _ (w : Setting) (first here : Moment) (order between after : Order) (room
     held = reduced_held w first here order between after room left before now ws rs old new so_far board taken held t turn without_it kinds sound_here next r news step are board' takes;
     fits = takes.fits;
     flags = takes.flags;
+    taken = λ q e. elim (takes.taken q e) [
+      | inl before ↦ known_stays w kinds here next t r sound_here step q (known_still q before)
+      | inr now ↦ now
+    ];
     smaller = less_room left left' board.ready board'.ready one takes.fits.small;
   }
 
@@ -263,6 +275,7 @@ module _ (w : Setting) (first here : Moment) (order between after : Order) (room
     flags = (let size = ap (λ (bs : List Bool). length bs) takes.ready ∙ same_size board taken t without_it in
         let scene = ap (λ (m : Moment). m.scene.next_item) same in
         omega (arith, size, scene, flags));
+    taken = λ q e. known_here same q (sym (ap (λ v. flag v.items q) takes.taken) ∙ e);
     smaller = (let e : count_by (λ b. b) board'.ready ≡ count_by (λ b. b) taken.ready = ap (count_by (λ b. b)) takes.ready in
         less_ready left left' (count_by (λ b. b) board.ready) (count_by (λ b. b) board'.ready) l (omega (arith, e, fewer)));
   }
@@ -274,6 +287,7 @@ module _ (w : Setting) (first here : Moment) (order between after : Order) (room
         held = resting_held w first here order between after room left before now ws rs old new so_far board taken held t turn without_it kinds sound_here next same answer rs' recorded;
         fits = still_fits ws board taken t without_it fits;
         flags = (let size = same_size board taken t without_it in let scene = ap (λ (m : Moment). m.scene.next_item) same in omega (arith, size, scene, flags));
+        taken = known_here same;
         smaller = less_ready left left' (count_by (λ b. b) board.ready) (count_by (λ b. b) taken.ready) l fewer;
       })
 

@@ -42,7 +42,7 @@ passing_fact test (f ∷ fs) e = elim (or_cases (test f) (list_any test fs) e) [
 
 -- The ends that marks tell are those that are known.
 module _ (w : Setting) (kinds : List Bool) (m : Moment) (sound : IsSound w kinds m) (r : ℕ) where
-  told_end : has_known_end m.scene r ≡ true → IsKnownEnd m.scene r
+  pub told_end : has_known_end m.scene r ≡ true → IsKnownEnd m.scene r
   told_end e = ((marks_tell_status w kinds m sound).1 r).known.0 (by_mark (region_mark r m.scene) refl e)
     where
       by_mark : (o : Option Mark) → region_mark r m.scene ≡ o → is_known_mark o ≡ true → (region_mark r m.scene ≡ Some Ends) ⊎ (region_mark r m.scene ≡ Some Goes)
@@ -51,7 +51,7 @@ module _ (w : Setting) (kinds : List Bool) (m : Moment) (sound : IsSound w kinds
       by_mark (Some Ends) x e = inl x
       by_mark (Some Goes) x e = inr x
 
-  end_told : IsKnownEnd m.scene r → has_known_end m.scene r ≡ true
+  pub end_told : IsKnownEnd m.scene r → has_known_end m.scene r ≡ true
   end_told k = elim (((marks_tell_status w kinds m sound).1 r).known.1 k) [ inl x ↦ ap is_known_mark x | inr x ↦ ap is_known_mark x ]
 
 module _ (w : Setting) (kinds : List Bool) (m : Moment) (t : ℕ) (r : Reduction) (next : Moment) (sound : IsSound w kinds m) (step : Reduces w m t r next) where

@@ -12,7 +12,8 @@ use Rattle.tp_lanes.specs.Planes.{flag}
 use Rattle.tp_agenda.specs.Decides.{WaitsFor}
 use Rattle.tp_agenda.specs.Wakes.{WakesOnly, AreOver}
 use Rattle.tp_agenda.specs.Held.{NoneTwice, IsAmong, MayMove, nothing_due, IsHeld, StepLeaves}
-use Rattle.tp_agenda.proofs.Places.{at_one, at_left, at_last, at_cases, flag_push, flag_past, flag_within}
+use Rattle.tp_slots.proofs.NumberSets.{flag_past, flag_within}
+use Rattle.tp_agenda.proofs.Places.{at_one, at_left, at_last, at_cases, flag_push}
 use Rattle.tp_agenda.proofs.Waking.{passing_cell, cell_passes}
 
 twice_push : {A : Type 0} (xs : List A) (y : A) → NoneTwice xs → (IsAmong xs y → ⊥) → NoneTwice (xs ++ y ∷ [])

@@ -4,12 +4,15 @@ pub mod Places
 pub mod Outer
 pub mod Waits
 pub mod Waking
-pub mod Forgetting
+pub mod Around
+pub mod Outward
+pub mod Taking
 pub mod Keeping
 pub mod Held
 pub mod Movers
 pub mod Deciding
 pub mod Leaving
+pub mod Near
 pub mod Members
 pub mod SlotMoves
 pub mod Turns

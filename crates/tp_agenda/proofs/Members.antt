@@ -1,14 +1,15 @@
 -- The members of a set, by increasing number.
-use Rattle.std.proofs.Common.{◌≡◌, ℕ, zero, suc, ◌+◌, ◌<◌, ◌≤◌, Bool, true, false, cond, List, [], ◌∷◌, ◌++◌, length, take, slice_get, slice_set, count_by, Some, refl, ap, sym, ◌∙◌, subst, inl, inr, arith, below_more}
+use Rattle.std.proofs.Common.{◌≡◌, ℕ, zero, suc, ◌+◌, ◌<◌, ◌≤◌, Bool, true, false, List, [], ◌∷◌, ◌++◌, length, take, slice_get, count_by, Some, refl, ap, sym, ◌∙◌, subst, inl, inr, arith, below_more}
 use Rattle.std.specs.List.{Contains, All}
 use Rattle.std.specs.List.Sorted.{IsStrictlyIncreasing}
 use Rattle.std.proofs.lemmas.Bool.{both_ways, cases_Bool}
 use Rattle.std.proofs.lemmas.List.{places}
 use Rattle.std.proofs.lemmas.List.Elements.{All-push, All-weaker, Contains-append_left, Contains-append_cases, Contains-push}
-use Rattle.std.proofs.lemmas.List.Sums.{count_by_more_yes, count_by_more_no, sum_by-set}
+use Rattle.std.proofs.lemmas.List.Sums.{count_by_more_yes, count_by_more_no}
 use Rattle.std.proofs.Math.Seq.{take-length}
 use Rattle.tp_lanes.specs.Planes.{flag}
-use Rattle.tp_agenda.proofs.Places.{at_left, at_last, flag_within}
+use Rattle.tp_slots.proofs.NumberSets.{flag_within}
+use Rattle.tp_agenda.proofs.Places.{at_left, at_last}
 
 -- These are the members below n, each at the place that the number of those before it tells.
 pub record AreMembersBelow (xs : List Bool) (n : ℕ) (ms : List ℕ) : Type 0 where
@@ -97,13 +98,3 @@ members_of xs =
         placed = λ t e. h.1.placed t (flag_within xs t e) e;
       },
     )
-
-counted : (b : Bool) → b ≡ true → ◌≡◌ {A = ℕ} (cond b 1 0) 1
-counted b e = ap (λ a. cond a 1 0) e
-
--- one member less
-pub count_taken : (xs : List Bool) (t : ℕ) → flag xs t ≡ true → count_by (λ b. b) (slice_set xs t false) + 1 ≡ count_by (λ b. b) xs
-count_taken xs t e =
-    let h = sum_by-set (λ b. cond b 1 0) xs t false false (flag_within xs t e) in
-    let one = counted (flag xs t) e in
-    omega (arith, h, one)

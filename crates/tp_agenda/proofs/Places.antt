@@ -1,5 +1,5 @@
 -- Places in lists, and flags.
-use Rattle.std.proofs.Common.{◌≡◌, ◌⊎◌, ℕ, zero, suc, ◌<◌, ◌≤◌, Bool, true, false, List, [], ◌∷◌, ◌++◌, length, Some, slice_get, refl, ap, inl, inr, arith}
+use Rattle.std.proofs.Common.{◌≡◌, ◌⊎◌, ℕ, zero, suc, ◌<◌, Bool, false, List, [], ◌∷◌, ◌++◌, length, Some, slice_get, refl, ap, inl, inr, arith}
 use Rattle.tp_lanes.specs.Planes.{flag}
 
 pub at_less : {A : Type 0} (xs : List A) (i : ℕ) (x : A) → slice_get xs i ≡ Some x → i < length xs
@@ -30,14 +30,3 @@ flag_push [] zero = refl
 flag_push [] (suc i) = refl
 flag_push (x ∷ xs) zero = refl
 flag_push (x ∷ xs) (suc i) = flag_push xs i
-
-pub flag_past : (xs : List Bool) (i : ℕ) → length xs ≤ i → flag xs i ≡ false
-flag_past [] zero e = refl
-flag_past [] (suc i) e = refl
-flag_past (x ∷ xs) zero e = absurd (omega (arith, e))
-flag_past (x ∷ xs) (suc i) e = flag_past xs i (omega (arith, e))
-
-pub flag_within : (xs : List Bool) (i : ℕ) → flag xs i ≡ true → i < length xs
-flag_within [] i e = absurd (cc)
-flag_within (x ∷ xs) zero e = omega arith
-flag_within (x ∷ xs) (suc i) e = let l = flag_within xs i e in omega (arith, l)

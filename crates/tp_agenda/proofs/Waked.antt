@@ -11,8 +11,7 @@ use Rattle.tp_agenda.specs.Board.{facts_decide}
 use Rattle.tp_agenda.specs.Decides.{fact_decides}
 use Rattle.tp_agenda.specs.Index.{IsFiled}
 use Rattle.tp_agenda.specs.Wakes.{WakesOnly, AreOver}
-use Rattle.tp_agenda.proofs.Forgetting.{only_weaker}
-use Rattle.tp_agenda.proofs.Waking.{none_woken, both_woken, passing_cell, cell_passes}
+use Rattle.tp_agenda.proofs.Waking.{none_woken, both_woken, only_weaker, passing_cell, cell_passes}
 
 -- waits that are over for one test stay so, and those for another are over too
 module _ (waits : List Wait) (a b : Cell → Bool) (r o r1 o1 r2 o2 : List Bool) (h : WakesOnly waits a r o r1 o1) (all_a : AreOver waits a o1) (k : WakesOnly waits b r1 o1 r2 o2) (all_b : AreOver waits b o2) (test : Cell → Bool)

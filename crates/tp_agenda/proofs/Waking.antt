@@ -18,7 +18,7 @@ use Rattle.tp_agenda.specs.declared.index.Link.{Link}
 use Rattle.tp_agenda.specs.declared.index.Index.{Index}
 use Rattle.tp_agenda.specs.declared.wake.Cause.{Cause}
 use Rattle.tp_agenda.specs.declared.wake.Cause.TheVariants.{Known, Marked}
-use Rattle.tp_agenda.specs.Decides.{WaitsFor, holds_path, has_passing, other_passes, fact_decides, is_end_of}
+use Rattle.tp_agenda.specs.Decides.{WaitsFor, holds_path, has_passing, other_passes, fact_decides, is_end_of, ends_decide}
 use Rattle.tp_agenda.specs.Index.{no_link, places_named, IsPlaceIn, IsFiled, newest_at, newest_for}
 use Rattle.tp_agenda.specs.Wakes.{is_decided_by, newest_by, WakesOnly, AreOverAt, AreOver}
 use Rattle.tp_agenda.proofs.Outer.{outer_holds}
@@ -137,6 +137,26 @@ cell_passes test w c has t = elim has [
     or_right : (a : Bool) {b : Bool} → b ≡ true → (a || b) ≡ true
     or_right true e = refl
     or_right false e = e
+
+-- what a weaker test ends
+pub only_weaker : (waits : List Wait) (test test' : Cell → Bool) (r o r' o' : List Bool) → ((c : Cell) → test c ≡ true → test' c ≡ true)
+    → WakesOnly waits test r o r' o' → WakesOnly waits test' r o r' o'
+only_weaker waits test test' r o r' o' more h = record {
+  sizes = h.sizes;
+  room = h.room;
+  ready_kept = h.ready_kept;
+  only_ready = λ t e. elim (h.only_ready t e) [ inl x ↦ inl x | inr y ↦ inr (record { place = y.place; wait = y.wait; at = y.at; passes = weaker y.wait y.passes; lasts = y.lasts; of_item = y.of_item }) ];
+  over_kept = h.over_kept;
+  only_over = λ i e. elim (h.only_over i e) [ inl x ↦ inl x | inr y ↦ inr (record { wait = y.wait; at = y.at; passes = weaker y.wait y.passes; is_ready = y.is_ready }) ];
+}
+  where
+    weaker : (w : Wait) → has_passing test w ≡ true → has_passing test' w ≡ true
+    weaker w e = let f = passing_cell test w e in cell_passes test' w f.0 f.1 (more f.0 f.2)
+
+-- an end that is known passes
+pub end_is_known : (known : ℕ → Bool) (region : ℕ) → known region ≡ true → (c : Cell) → is_end_of region c ≡ true → ends_decide known c ≡ true
+end_is_known known region k (Part p) e = absurd (cc)
+end_is_known known region k (End r d) e = subst (λ n. known n ≡ true) (sym ((Decides-eqb r region).0 e)) k
 
 -- a fact that decides a path is of one that this lies within
 pub decides_holds : (f : Fact) (p : Path) → decides_path f p ≡ true → holds_path f.path p ≡ true

@@ -102,7 +102,8 @@ pub record CountsTries (old new : ℕ) (before after : List ℕ) (recorded : Lis
     (resting : List ℕ) (ending : Ending) : Type 0 where
   pub picks : List ℕ
   pub appended : after ≡ before ++ picks
-  pub counted : new ≡ old + (length picks + (length recorded + (length resting + last_tries ending)))
+  pub counted : new
+      ≡ old + (length picks + (length recorded + (length resting + last_tries ending)))
 
 -- Where some of the picks lead the item is live, and it waits there for these cells, which aren't
 -- decided.

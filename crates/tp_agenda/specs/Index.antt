@@ -1,8 +1,7 @@
 -- What the index of waits holds. No moment is in it.
-use Rattle.std.specs.Prelude.{◌≡◌, ◌⊎◌, ℕ, ◌+◌, zero, suc, ◌<◌, ◌≤◌, ◌&&◌, Bool, true, false, nat_eq, List, [], ◌∷◌, length, get_or, slice_get, unwrap_or, cond, Some}
+use Rattle.std.specs.Prelude.{◌≡◌, ◌⊎◌, ℕ, zero, suc, ◌<◌, ◌≤◌, ◌&&◌, Bool, true, false, nat_eq, List, [], ◌∷◌, length, get_or, slice_get, unwrap_or, cond, Some}
 use Rattle.std.specs.Cmp.Lexicographic.{pointwise}
 use Rattle.std.specs.Bool.{beq}
-use Rattle.std.specs.Map.{keys_of}
 use Rattle.indexmap.specs.IndexMap.{get}
 use Rattle.tp_value.specs.declared.path.Path.{Path}
 use Rattle.tp_scene.specs.declared.answer.Cell.{Cell}
@@ -86,15 +85,3 @@ pub record IsFiled (x : Index) (waits : List Wait) (over : List Bool) : Type 0 w
       → holds_path q p ≡ true → IsPlaceIn (filed_at x q) i
   pub ends : (i : ℕ) (w : Wait) (r d : ℕ) → slice_get waits i ≡ Some w → flag over i ≡ false
       → WaitsFor w (End r d) → IsPlaceIn (filed_for x r) i
-
--- the regions whose ends are waited for
-abbrev pub watched_in : Index → List ℕ
-watched_in x = keys_of x.ends.entries
-
--- This region isn't waited for any more; those before its place stay there.
-pub record HasForgotten (old new : Index) (place region : ℕ) : Type 0 where
-  pub links : new.links.items ≡ old.links.items
-  pub paths : (p : Path) → newest_at new p ≡ newest_at old p
-  pub ends : (r : ℕ) → newest_for new r ≡ cond (nat_eq region r) 0 (newest_for old r)
-  pub before : (k : ℕ) → k < place → slice_get (watched_in new) k ≡ slice_get (watched_in old) k
-  pub fewer : length (watched_in new) + 1 ≡ length (watched_in old)

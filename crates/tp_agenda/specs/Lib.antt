@@ -6,5 +6,7 @@ pub mod Index
 pub mod Laws
 pub mod Leaves
 pub mod Marks
+pub mod Outward
 pub mod Ready
+pub mod Taking
 pub mod Wakes

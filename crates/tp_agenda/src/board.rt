@@ -4,24 +4,24 @@ ghost use Rattle.std.specs.List.{All};
 ghost use Rattle.tp_lanes.specs.Planes.{flag};
 ghost use Rattle.tp_slots.specs.Kept.{IsWellKept};
 ghost use Rattle.tp_slots.specs.Read.{scene_of};
+ghost use Rattle.tp_step.specs.declared.answer.Tried.TheVariants.{Reduced};
 ghost use Rattle.tp_agenda.specs.Agenda.{TriesNext};
-ghost use Rattle.tp_agenda.specs.Board.{FitsBoard, HasFlags, TakesIn, TakesNews, facts_decide, moving_among};
+ghost use Rattle.tp_agenda.specs.Board.{FitsBoard, HasFlags, NewsAreNear, TakesIn, TakesNews, facts_decide, moving_among};
 ghost use Rattle.tp_agenda.specs.Held.{AddsReady};
 ghost use Rattle.tp_agenda.specs.Index.{IsFiled};
 ghost use Rattle.tp_agenda.specs.Ready.{may_move};
 ghost use Rattle.tp_agenda.specs.Wakes.{AreOver, WakesOnly};
 
-use crate::ends::wake_ends;
 use crate::index::{Index, file, no_waits};
 use crate::moving::may_move;
 use crate::wake::{Cause, wake_by};
 use std::alloc::Global;
 use tp_lanes::Plane;
-use tp_step::{Ending, News, Order, Scene, Tally, Tried, Wait, Waits, choose};
+use tp_step::{Ending, News, Order, Scene, Tally, Tried, Wait, Waits, choose_place};
 use tp_value::{Facts, NoMemory};
 
 /// What a closure keeps beside its tally: the numbers of the ready items, which are below a bound; of each wait of the tally whether it
-/// is over; and the index of these waits.
+/// is over; the index of these waits; and of each region whether it was taken, that is, what waits for its end was woken.
 #[derive(Drop)]
 pub(crate) struct Board {
     pub alloc: Global,
@@ -29,7 +29,11 @@ pub(crate) struct Board {
     pub ready: Plane,
     pub over: Vec<bool>,
     pub index: Index,
+    pub taken: Vec<bool>,
 }
+
+// So many numbers a plane has in one row. Fewer take as much memory, and would have to grow more often.
+const LEAST_BOUND: u64 = 512;
 
 // The ready item whose turn it is.
 fn whose_turn(ready: &Plane, order: &mut Order) -> Option<u64>
@@ -45,7 +49,7 @@ fn whose_turn(ready: &Plane, order: &mut Order) -> Option<u64>
             if count == 0 {
                 None
             } else {
-                ready.nth(choose(word, count))
+                ready.nth(choose_place(word, count))
             }
         }
     }
@@ -114,6 +118,7 @@ impl Board {
             → (flag board.ready t ≡ true)
             ↔ (may_move t (scene_of scene.now).root.entries ≡ true)) }
         ensures over { IfOk result (λ board. board.over.items ≡ []) }
+        ensures taken { IfOk result (λ board. board.taken.items ≡ []) }
     {
         let bound = scene.slots.len() as u64;
         let ready = moving_items(alloc, scene, bound)?;
@@ -123,6 +128,7 @@ impl Board {
             ready,
             over: Vec::new(alloc),
             index: no_waits(alloc),
+            taken: Vec::new(alloc),
         })
     }
 
@@ -150,11 +156,12 @@ impl Board {
         ensures kept { OnOk result ((t : ℕ) → flag self.new.ready t ≡ flag self.old.ready t) }
         ensures over { self.new.over ≡ self.old.over }
         ensures index { self.new.index ≡ self.old.index }
+        ensures taken { self.new.taken ≡ self.old.taken }
     {
         if least <= self.bound {
             return Ok(());
         }
-        let bound = least.saturating_mul(2);
+        let bound = least.saturating_mul(2).max(LEAST_BOUND);
         let mut ready = Plane::new(self.alloc, bound)?;
         ready.join(&self.ready);
         self.ready = ready;
@@ -167,6 +174,7 @@ impl Board {
         requires kept { IsWellKept scene.now }
         requires fits { FitsBoard waits.now self.old }
         requires below { All (λ w. w.item < length self.old.ready) waits.now }
+        requires near { NewsAreNear scene.now (Reduced news) self.old waits.now }
         ensures { OnOk result
             (TakesNews (scene_of scene.now) news waits.now self.old self.new) }
     {
@@ -179,18 +187,12 @@ impl Board {
         add_moving(&mut self.ready, scene, items.items.as_slice());
         wake_by_facts(waits, &self.index, facts, &mut self.ready, &mut self.over);
         match marked {
-            Some(_) => {
-                wake_ends(
-                    waits,
-                    &mut self.index,
-                    scene,
-                    &mut self.ready,
-                    &mut self.over,
-                );
+            Some(region) => {
+                self.wake_near(scene, waits, region)?;
+                Ok(())
             }
-            None => {}
+            None => Ok(()),
         }
-        Ok(())
     }
 
     // Records an item's wait, which isn't over.
@@ -200,6 +202,7 @@ impl Board {
         ensures over { OnOk result (self.new.over.items ≡ self.old.over.items ++ false ∷ []) }
         ensures fits { OnOk result (FitsBoard waits.new.items.items self.new) }
         ensures ready { self.new.ready ≡ self.old.ready }
+        ensures taken { self.new.taken ≡ self.old.taken }
     {
         file(&mut self.index, &wait, waits.items.len() as u64)?;
         self.over.push(false)?;
@@ -218,6 +221,7 @@ impl Board {
         requires kept { IsWellKept scene.now }
         requires fits { FitsBoard tally.old.waits.items.items self.old }
         requires below { All (λ w. w.item < length self.old.ready) tally.old.waits.items.items }
+        requires near { NewsAreNear scene.now tried self.old tally.old.waits.items.items }
         ensures takes { IfOk result
             (TakesIn (scene_of scene.now) item tried self.old self.new tally.old.waits.items.items
             tally.new.waits.items.items tally.old.rests tally.new.rests) }

@@ -9,7 +9,7 @@ ghost use Rattle.tp_step.specs.Closes.{ClosureAnswers, Counts, Made, is_pick};
 ghost use Rattle.tp_step.specs.EveryRest.{ClosureCommutes};
 ghost use Rattle.tp_step.specs.Room.{ClosureKeepsRoom};
 ghost use Rattle.tp_agenda.specs.Agenda.{ClosesWith, CountsTries, FollowsAgenda, IsThrifty, WaitedForUndecided};
-ghost use Rattle.tp_agenda.specs.Board.{FitsBoard, HasFlags};
+ghost use Rattle.tp_agenda.specs.Board.{FitsBoard, HasFlags, TakenAreKnown};
 ghost use Rattle.tp_agenda.specs.Held.{IsHeld, nothing_due};
 
 use crate::board::Board;
@@ -56,6 +56,7 @@ fn try_ready<L: Ledger>(
     requires no_rests { tally.old.rests ≡ [] }
     requires fits { FitsBoard [] agenda.old.board }
     requires flags { HasFlags (scene_of scene.old) agenda.old.board }
+    requires taken { TakenAreKnown (scene_of scene.old) agenda.old.board }
     requires held { IsHeld (setting_of setting.now) (moment_of scene.old store.old) [] []
         agenda.old.board.over.items agenda.old.board.ready nothing_due }
     ensures kept { IsWellKept scene.new }

@@ -1,10 +1,9 @@
 // Waits by what they are for.
-ghost use Rattle.std.specs.Prelude.{◌≡◌, ◌<◌, ◌^◌, List, Bool, [], ◌∷◌, ◌++◌, length, slice_get, Some, false, nat_eq, OnOk, IfOk};
-ghost use Rattle.std.specs.Option.{IfSome};
+ghost use Rattle.std.specs.Prelude.{◌≡◌, ◌<◌, ◌^◌, List, Bool, [], ◌∷◌, ◌++◌, length, false, nat_eq, OnOk, IfOk};
 ghost use Rattle.tp_store.specs.FactMap.{outer_path};
 ghost use Rattle.tp_step.specs.declared.answer.Wait.{Wait as WaitSeen};
 ghost use Rattle.tp_agenda.specs.Decides.{holds_path};
-ghost use Rattle.tp_agenda.specs.Index.{HasFiled, HasForgotten, IsChained, IsFiled, IsPushed, equal_paths, is_filed_for, is_filed_under, newest_at, newest_for, watched_in};
+ghost use Rattle.tp_agenda.specs.Index.{HasFiled, IsChained, IsFiled, IsPushed, equal_paths, is_filed_for, is_filed_under, newest_at, newest_for};
 
 use indexmap::IndexMap;
 use std::alloc::Global;
@@ -65,9 +64,9 @@ fn file_under(index: &mut Index, path: Path, place: u64) -> Result<(), NoMemory>
         (HasFiled index.old index.new place (equal_paths path) (λ region. false)) }
     ensures links { OnOk result (IsPushed index.old index.new place) }
 {
-    let next = newest_at(index, &path);
+    let number = index.links.len() as u64 + 1;
+    let next = index.paths.insert(path, number)?.unwrap_or(0);
     index.links.push(Link { place, next })?;
-    index.paths.insert(path, index.links.len() as u64)?;
     Ok(())
 }
 
@@ -78,9 +77,9 @@ fn file_for(index: &mut Index, region: u64, place: u64) -> Result<(), NoMemory>
         (HasFiled index.old index.new place (λ path. false) (nat_eq region)) }
     ensures links { OnOk result (IsPushed index.old index.new place) }
 {
-    let next = newest_for(index, region);
+    let number = index.links.len() as u64 + 1;
+    let next = index.ends.insert(region, number)?.unwrap_or(0);
     index.links.push(Link { place, next })?;
-    index.ends.insert(region, index.links.len() as u64)?;
     Ok(())
 }
 
@@ -145,26 +144,4 @@ pub fn file(index: &mut Index, wait: &Wait, place: u64) -> Result<(), NoMemory>
         }
         None => Ok(()),
     }
-}
-
-/// The region at this place, of those whose ends are waited for.
-pub(crate) fn watched(index: &Index, place: usize) -> Option<u64>
-    ensures region { result ≡ slice_get (watched_in index.now) place }
-    ensures bound { IfSome result (λ region. place < 2 ^ 63) }
-{
-    if place >= index.ends.len() {
-        return None;
-    }
-    match index.ends.get_index(place) {
-        Some((region, _)) => Some(*region),
-        None => None,
-    }
-}
-
-/// The region at this place isn't waited for any more.
-pub(crate) fn forget(index: &mut Index, place: usize, region: u64)
-    requires { slice_get (watched_in index.old) place ≡ Some region }
-    ensures { HasForgotten index.old index.new place region }
-{
-    let _ = index.ends.swap_remove_index(place);
 }

@@ -11,7 +11,6 @@ mod moving;
 mod wake;
 
 pub use closure::close_by_agenda;
-pub use ends::wake_ends;
 pub use index::{Index, file, no_waits};
 pub use laws::{agendas_hold, steps_leave_agendas};
 pub use wake::{Cause, wake_by};

@@ -12,7 +12,7 @@ use Rattle.tp_agenda.proofs.board.whose_turn.Goals as goal
 pub returns-else-count-eq0-clause-some : goal.returns-else-count-eq0-clause-some
 returns-else-count-eq0-clause-some c = λ item e.
     let ready = c.args.ready.now in
-    let after = c.choose.new.word in
-    let member : IsNthMember ready c.choose.result item = subst (λ (o : Option ℕ). IfSome o (IsNthMember ready c.choose.result)) e c.nth.ensures.member in
+    let after = c.choose_place.new.word in
+    let member : IsNthMember ready c.choose_place.result item = subst (λ (o : Option ℕ). IfSome o (IsNthMember ready c.choose_place.result)) e c.nth.ensures.member in
     subst (λ (o : Order). TriesNext (IsFlagged ready) o (Seed after) item) (sym c.in-Seed.is)
-    (chosen_turn ready c.in-Seed.word after c.count-count.result c.choose.result item c.count-count.ensures c.choose.ensures.choice c.choose.ensures.word member)
+    (chosen_turn ready c.in-Seed.word after c.count-count.result c.choose_place.result item c.count-count.ensures c.choose_place.ensures.choice c.choose_place.ensures.word member)

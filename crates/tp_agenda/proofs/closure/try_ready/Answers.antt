@@ -8,8 +8,10 @@ use Rattle.tp_step.specs.declared.answer.Wait.{Wait}
 use Rattle.tp_step.specs.Answers.{moment_of}
 use Rattle.tp_step.specs.Closes.{Made}
 use Rattle.tp_step.proofs.Picks.{on_refusal, made_none}
-use Rattle.tp_agenda.specs.Board.{FitsBoard}
+use Rattle.tp_agenda.specs.declared.board.Board.{Board}
+use Rattle.tp_agenda.specs.Board.{FitsBoard, NewsAreNear}
 use Rattle.tp_agenda.specs.Held.{IsHeld, nothing_due}
+use Rattle.tp_agenda.proofs.Near.{news_near}
 use Rattle.tp_agenda.proofs.Trying.{agenda_sound}
 use Rattle.tp_agenda.proofs.Closing.{agenda_starts, turn_lives, goes_on_so, ends_with_so, tried_made, picks_have_room, rests_with, waits_below, still_fits, same_size}
 use Rattle.tp_agenda.proofs.closure.try_ready.Goals as goal
@@ -29,6 +31,7 @@ tries-init g c =
       held = subst (λ (xs : List Wait). IsHeld w m xs tally.rests over ready nothing_due) (sym q.no_waits) (subst (λ (ts : List ℕ). IsHeld w m [] ts over ready nothing_due) (sym q.no_rests) q.held);
       fits = subst (λ (xs : List Wait). FitsBoard xs agenda.board) (sym q.no_waits) q.fits;
       flags = q.flags;
+      taken = q.taken;
       kept = q.kept;
     }
 
@@ -66,6 +69,25 @@ take_in-requires-clause-below g c =
     (waits_below (setting_of c.args.setting.now) (moment_of c.tries.scene c.tries.store) c.tries.tally.waits.items.items c.tries.tally.rests board.over.items board.ready c.tries.invariant.held (length taken.ready)
     (same_size board taken c.in-Some.item (c.in-Some.ensures.taken c.in-Some.item refl)))
 
+pub take_in-requires-clause-near : goal.take_in-requires-clause-near
+take_in-requires-clause-near g c =
+    let w = setting_of c.args.setting.now in
+    let inv = c.tries.invariant in
+    let tally = c.tries.tally in
+    let board = c.tries.agenda.board in
+    let taken = c.next.new.self in
+    let sound = c.requires.sound in
+    let item = c.in-Some.item in
+    let here = moment_of c.tries.scene c.tries.store in
+    let same = ap (λ (x : Waits). x.items.items) (c.count_pick.ensures.waits ∙ ap (λ (y : Tally). y.waits) c.tally.view_is) in
+    let without = c.in-Some.ensures.taken item refl in
+    let sound_here = agenda_sound w (moment_of c.args.scene.now c.args.store.now) here _ _ _ _ _ _ tally.waits.items.items tally.rests _ _ inv.so_far sound.0 sound.1 in
+    let lives = turn_lives w (moment_of c.args.scene.now c.args.store.now) here _ _ c.next.new.order _ _ _ _ tally.waits.items.items tally.rests _ _
+    inv.so_far board taken inv.held item (c.in-Some.ensures.some item refl) (c.in-Some.ensures.taken item refl) in
+    subst (λ (xs : List Wait). NewsAreNear c.try_item.new.scene c.in-Ok.tried taken xs) (sym same)
+    (news_near w sound.0 c.tries.scene c.try_item.new.scene c.tries.store c.try_item.new.store item sound_here inv.kept c.try_item.ensures.kept lives c.tries.agenda.course.room
+    tally.waits.items.items tally.rests board taken inv.held inv.taken (ap (λ (b : Board). b.over) without) (ap (λ (b : Board). b.taken) without) c.in-Ok.tried c.in-Ok.ensures.answer)
+
 pub tries-preserved : goal.tries-preserved
 tries-preserved g c =
     let w = setting_of c.args.setting.now in
@@ -80,7 +102,7 @@ tries-preserved g c =
     let same_waits = ap (λ (x : Waits). x.items.items) (c.count_pick.ensures.waits ∙ ap (λ (y : Tally). y.waits) c.tally.view_is) in
     let same_rests = c.count_pick.ensures.rests ∙ ap (λ (y : Tally). y.rests) c.tally.view_is in
     let on = goes_on_so w first here _ _ c.next.new.order _ _ _ now tally.waits.items.items tally.rests _ _ inv.so_far c.tries.agenda.board c.next.new.self inv.held item
-    (c.in-Some.ensures.some item refl) (c.in-Some.ensures.taken item refl) inv.fits inv.flags c.requires.sound.0 c.requires.sound.1 next c.count_pick.new.left c.count_pick.new.tally.picks c.try_item.new.steps c.try_item.ensures.steps
+    (c.in-Some.ensures.some item refl) (c.in-Some.ensures.taken item refl) inv.fits inv.flags inv.taken c.requires.sound.0 c.requires.sound.1 next c.count_pick.new.left c.count_pick.new.tally.picks c.try_item.new.steps c.try_item.ensures.steps
     c.take_in.new.self c.take_in.new.tally.waits.items.items c.take_in.new.tally.rests c.count_pick.new.tally.waits.items.items c.count_pick.new.tally.rests same_waits same_rests
     c.take_in.new.tally.picks c.take_in.ensures.picks c.in-Ok.tried c.in-Ok.ensures.answer counts c.in_ok-ending.field-0 c.in_ok-ending.ensures.takes c.in-None.is in
     record {
@@ -90,6 +112,7 @@ tries-preserved g c =
       held = on.held;
       fits = on.fits;
       flags = on.flags;
+      taken = on.taken;
       kept = c.try_item.ensures.kept;
     }
 
@@ -107,7 +130,7 @@ tries-smaller g c =
     let same_waits = ap (λ (x : Waits). x.items.items) (c.count_pick.ensures.waits ∙ ap (λ (y : Tally). y.waits) c.tally.view_is) in
     let same_rests = c.count_pick.ensures.rests ∙ ap (λ (y : Tally). y.rests) c.tally.view_is in
     (goes_on_so w first here _ _ c.next.new.order _ _ _ now tally.waits.items.items tally.rests _ _ inv.so_far c.tries.agenda.board c.next.new.self inv.held item
-    (c.in-Some.ensures.some item refl) (c.in-Some.ensures.taken item refl) inv.fits inv.flags c.requires.sound.0 c.requires.sound.1 next c.count_pick.new.left c.count_pick.new.tally.picks c.try_item.new.steps c.try_item.ensures.steps
+    (c.in-Some.ensures.some item refl) (c.in-Some.ensures.taken item refl) inv.fits inv.flags inv.taken c.requires.sound.0 c.requires.sound.1 next c.count_pick.new.left c.count_pick.new.tally.picks c.try_item.new.steps c.try_item.ensures.steps
     c.take_in.new.self c.take_in.new.tally.waits.items.items c.take_in.new.tally.rests c.count_pick.new.tally.waits.items.items c.count_pick.new.tally.rests same_waits same_rests
     c.take_in.new.tally.picks c.take_in.ensures.picks c.in-Ok.tried c.in-Ok.ensures.answer counts c.in_ok-ending.field-0 c.in_ok-ending.ensures.takes c.in-None.is).smaller
 
@@ -125,7 +148,7 @@ returns-in-Some-2-clause-closes g c =
     let same_waits = ap (λ (x : Waits). x.items.items) (c.count_pick.ensures.waits ∙ ap (λ (y : Tally). y.waits) c.tally.view_is) in
     let same_rests = c.count_pick.ensures.rests ∙ ap (λ (y : Tally). y.rests) c.tally.view_is in
     ends_with_so w first here _ _ c.next.new.order _ _ _ now tally.waits.items.items tally.rests _ _ inv.so_far c.tries.agenda.board c.next.new.self inv.held item
-    (c.in-Some.ensures.some item refl) (c.in-Some.ensures.taken item refl) inv.fits inv.flags c.requires.sound.0 c.requires.sound.1 next c.count_pick.new.left c.count_pick.new.tally.picks c.try_item.new.steps c.try_item.ensures.steps
+    (c.in-Some.ensures.some item refl) (c.in-Some.ensures.taken item refl) inv.fits inv.flags inv.taken c.requires.sound.0 c.requires.sound.1 next c.count_pick.new.left c.count_pick.new.tally.picks c.try_item.new.steps c.try_item.ensures.steps
     c.take_in.new.self c.take_in.new.tally.waits.items.items c.take_in.new.tally.rests c.count_pick.new.tally.waits.items.items c.count_pick.new.tally.rests same_waits same_rests
     c.take_in.new.tally.picks c.take_in.ensures.picks c.in-Ok.tried c.in-Ok.ensures.answer counts c.in_ok-ending.field-0 c.in_ok-ending.ensures.takes c.in-Some-2.ending c.in-Some-2.is
 

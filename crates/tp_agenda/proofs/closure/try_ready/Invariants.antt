@@ -3,7 +3,7 @@ use Rattle.tp_decide.specs.Decided.{setting_of}
 use Rattle.tp_slots.specs.Kept.{IsWellKept}
 use Rattle.tp_step.specs.Answers.{moment_of}
 use Rattle.tp_step.specs.Closes.{Made}
-use Rattle.tp_agenda.specs.Board.{FitsBoard, HasFlags}
+use Rattle.tp_agenda.specs.Board.{FitsBoard, HasFlags, TakenAreKnown}
 use Rattle.tp_agenda.specs.Held.{IsHeld, nothing_due}
 use Rattle.tp_agenda.proofs.Trying.{AgendaSoFar}
 use Rattle.tp_agenda.proofs.closure.try_ready.Given as goal
@@ -20,6 +20,7 @@ invariant-tries g l =
       held : IsHeld w here recorded l.tally.rests l.agenda.board.over.items l.agenda.board.ready nothing_due;
       fits : FitsBoard recorded l.agenda.board;
       flags : HasFlags here.scene l.agenda.board;
+      taken : TakenAreKnown here.scene l.agenda.board;
       kept : IsWellKept l.scene;
     }
 

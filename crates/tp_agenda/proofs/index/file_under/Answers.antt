@@ -1,10 +1,11 @@
-use Rattle.std.proofs.Common.{◌≡◌, ℕ, length, length-append, refl, ap, ◌∙◌, arith, ◌++◌, ◌∷◌, []}
+use Rattle.std.proofs.Common.{◌≡◌, ℕ, length, length-append, refl, ap, ◌∙◌, arith, ◌+◌, ◌++◌, ◌∷◌, []}
+use Rattle.std.specs.Prelude.{unwrap_or}
 use Rattle.tp_agenda.specs.Index.{newest_at}
 use Rattle.tp_agenda.proofs.Filing.{filed_under_path, pushed}
 use Rattle.tp_agenda.proofs.index.file_under.Goals as goal
 
-grown_by : (c : goal.In_ok-insert) → c.push.new.self.items ≡ c.args.index.now.links.items ++ record { place = c.args.place; next = newest_at c.args.index.now c.args.path } ∷ []
-grown_by c = c.in_ok-push.ensures.items ∙ ap (λ (z : ℕ). c.args.index.now.links.items ++ record { place = c.args.place; next = z } ∷ []) c.newest_at-next.ensures
+grown_by : (c : goal.In_ok-push) → c.push.new.self.items ≡ c.args.index.now.links.items ++ record { place = c.args.place; next = newest_at c.args.index.now c.args.path } ∷ []
+grown_by c = c.in_ok-push.ensures.items ∙ ap (λ (z : ℕ). c.args.index.now.links.items ++ record { place = c.args.place; next = z } ∷ []) (c.unwrap_or-next.ensures ∙ ap (λ o. unwrap_or o 0) c.in_ok-insert.ensures.old)
 
 pub returns-clause-ok : goal.returns-clause-ok
 returns-clause-ok c =
@@ -14,7 +15,7 @@ returns-clause-ok c =
     let e = c.len.ensures in
     let a = length-append old.links.items (record { place = c.args.place; next = newest_at old c.args.path } ∷ []) in
     let b = ap length grown in
-    filed_under_path old (record { paths = c.insert.new.self; ends = c.args.index.now.ends; links = c.push.new.self }) c.args.path c.args.place c.len.result c.requires.chained grown (omega (arith, o, e, a, b)) c.in_ok-insert.ensures.updates.0 (λ r. refl)
+    filed_under_path old (record { paths = c.insert.new.self; ends = c.args.index.now.ends; links = c.push.new.self }) c.args.path c.args.place (c.len.result + 1) c.requires.chained grown (omega (arith, o, e, a, b)) c.in_ok-insert.ensures.updates.0 (λ r. refl)
 
 pub returns-clause-links : goal.returns-clause-links
 returns-clause-links c = pushed c.args.index.now (record { paths = c.insert.new.self; ends = c.args.index.now.ends; links = c.push.new.self }) c.args.place (newest_at c.args.index.now c.args.path) (grown_by c)

@@ -1,5 +1,5 @@
 use Rattle.std.proofs.Common.{refl}
-use Rattle.tp_agenda.proofs.Places.{flag_within}
+use Rattle.tp_slots.proofs.NumberSets.{flag_within}
 use Rattle.tp_agenda.proofs.Turns.{IsFlagged, turn_is_ready}
 use Rattle.tp_agenda.proofs.board.Board.next.Goals as goal
 
