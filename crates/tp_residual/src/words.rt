@@ -106,8 +106,8 @@ fn append_own(out: &mut Text, names: &Texts, number: u64) -> Result<Option<u64>,
     }
 }
 
-/// Appends what the bound name of this number, counted from the outermost, is spelled by. Where fewer names are bound nothing is appended, and
-/// what is answered is how many names further in it would stand.
+/// Appends what the bound name of this number, counted from the outermost, is spelled by. Where fewer names are bound nothing is appended,
+/// and what is answered is how many names further in it would stand.
 pub fn append_bound(
     out: &mut Text,
     store: &Store,

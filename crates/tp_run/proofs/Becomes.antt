@@ -24,6 +24,7 @@ use Rattle.tp_scene.specs.Beginning.{first_moment}
 use Rattle.tp_scene.specs.Laws.{IsSound}
 use Rattle.tp_slots.specs.declared.scene.Scene.{Scene}
 use Rattle.tp_step.specs.Answers.{Tries}
+use Rattle.tp_step.specs.declared.answer.Tally.{Tally}
 use Rattle.tp_step.specs.declared.answer.Tried.{Tried}
 use Rattle.tp_step.specs.declared.answer.Tried.TheVariants as tried
 use Rattle.tp_step.specs.declared.ending.Ending.{Ending}
@@ -39,10 +40,12 @@ use Rattle.tp_show.specs.declared.turn.Picture.{Picture}
 use Rattle.tp_show.specs.declared.turn.Turn.{Turn}
 use Rattle.tp_show.specs.declared.turn.Turn.TheVariants.{Went, Finished, Contradictory, Undetermined, StateLimit, InputMissing, Over}
 use Rattle.tp_run.specs.States.{Plan, globals_of, setting, IsPictureOf, StateGoesOn, StateEnds, ReachesLimit, limit_moment}
-use Rattle.tp_run.specs.Standing.{Standing, open_at, answered, spent, state_after, StateBecomes}
+use Rattle.tp_run.specs.Standing.{Standing, open_at, answered, spent, state_after, StateBecomes, AnswersState}
+use Rattle.tp_run.specs.PicksOfRun.{limit_picks}
+use Rattle.tp_run.specs.Tried.{picks_of_state, end_of_state, IsEndingFor}
 use Rattle.tp_run.specs.Meaning.{StandingFor, StandsForItsProgram, AnswerMeans}
 use Rattle.tp_run.specs.History.{AgreesWithFacts}
-use Rattle.tp_run.specs.Runs.{stands_at, standing_of, StandIsKept, StandIsOf, TurnIsOf, MadeIsOf, StandsSound, StandsOrderly, IsSettingsOf, IsRunOf, HasPicture, NextOf, RestTurns}
+use Rattle.tp_run.specs.Runs.{stands_at, standing_of, standing_place, store_of, StandIsKept, StandIsOf, TurnIsOf, MadeIsOf, StandsSound, StandsOrderly, IsSettingsOf, IsRunOf, HasPicture, NextOf, RestTurns}
 use Rattle.tp_run.specs.EachOrder.{AnswerAgrees, AnswerHasNoDeadEnd}
 use Rattle.tp_run.proofs.OneState.{Orderly, next_orderly, state_agrees, no_dead_end}
 use Rattle.tp_run.proofs.StatesMean.{leads_sound, leads_keep, goes_on_says, ends_here_says}
@@ -108,10 +111,22 @@ pub end_named : (xs : List Variable) (made : Made) (turn : Turn) (scene : Scene)
     → MadeIsOf xs made
 end_named xs made turn scene stand is h = (subst (TurnIsOf xs) (sym is) h, subst (StandIsOf xs) (sym stand) h)
 
+-- What becomes of a state by these picks, which lead to this moment, where its closure ends so.
+pub record BecomesBy (plan : Plan) (n : ℕ) (m : Moment) (old new : Picture) (standing : Standing) (store : Contents) (turn : Turn)
+    (picks : List ℕ) (last : Moment) (end : Ending) : Type 0 where
+  pub becomes : StateBecomes plan n m old new standing store turn
+  pub picks_are : picks_of_state plan n m old new standing store turn becomes ≡ picks
+  pub leads_to : end_of_state plan n m old new standing store turn becomes ≡ last
+  pub ends : IsEndingFor turn end
+
 module _ (plan : Plan) (n : ℕ) (m last : Moment) (before after : List ℕ) where
   -- the closure of state n, which begins with m, comes to this end
   abbrev pub Comes : Ending → Type 0
   Comes ending = ClosureAnswers (setting plan n) plan.reductions m last before after ending
+
+  -- where none was picked before it, its picks are all that there are
+  own_picks : (end : Ending) → before ≡ [] → (comes : Comes end) → comes.made.picks ≡ after
+  own_picks end first comes = sym (comes.made.appended ∙ ap (λ (xs : List ℕ). xs ++ comes.made.picks) first)
 
   pub clash_met : (clash : Clash) → Comes (ending.Clash clash) → replay.MeetsClash (setting plan n) plan.reductions m clash
   clash_met clash h =
@@ -121,23 +136,26 @@ module _ (plan : Plan) (n : ℕ) (m last : Moment) (before after : List ℕ) whe
   input_missed port h =
       record { picks = h.made.picks; last = last; leads = h.made.leads; within = omega (arith, h.made.spent); item = h.ends.0; lives = h.ends.1; outcome = h.ends.2 }
 
-  limit_passed : (k : LimitKind) → (k ≡ limit.Reductions → ⊥) → Comes (ending.Over k) → (end : replay.PassesLimit (setting plan n) plan.reductions m k) × (end.last ≡ last)
+  limit_passed : (k : LimitKind) → (k ≡ limit.Reductions → ⊥) → (comes : Comes (ending.Over k))
+      → (end : replay.PassesLimit (setting plan n) plan.reductions m k) × (end.last ≡ last) × (end.picks ≡ comes.made.picks)
   limit_passed k another h =
       elim h.ends [
-        | inl x ↦ (record { picks = h.made.picks; last = last; leads = h.made.leads; within = omega (arith, h.made.spent); item = x.0; lives = x.1; outcome = x.2 }, refl)
+        | inl x ↦ (record { picks = h.made.picks; last = last; leads = h.made.leads; within = omega (arith, h.made.spent); item = x.0; lives = x.1; outcome = x.2 }, refl, refl)
         | inr y ↦ absurd (another y.0)
       ]
 
-  reductions_used : (kinds : List Bool) → IsSound (setting plan n) kinds last → Comes (ending.Over limit.Reductions) → (end : replay.UsesUp (setting plan n) plan.reductions m) × (end.last ≡ last)
+  reductions_used : (kinds : List Bool) → IsSound (setting plan n) kinds last → (comes : Comes (ending.Over limit.Reductions))
+      → (end : replay.UsesUp (setting plan n) plan.reductions m) × (end.last ≡ last) × (end.picks ≡ comes.made.picks)
   reductions_used kinds sound h =
       elim h.ends [
         | inl x ↦ absurd (passes_other (setting plan n) kinds last sound x.0 limit.Reductions x.2)
-        | inr y ↦ (record { picks = h.made.picks; last = last; leads = h.made.leads; all = omega (arith, h.made.spent, y.1); item = y.2.1.0; reduction = y.2.0; lives = y.2.1.1; outcome = y.2.1.2 }, refl)
+        | inr y ↦ (record { picks = h.made.picks; last = last; leads = h.made.leads; all = omega (arith, h.made.spent, y.1); item = y.2.1.0; reduction = y.2.0; lives = y.2.1.1; outcome = y.2.1.2 }, refl, refl)
       ]
 
   -- the limit is reached by the closure's own picks
-  pub limit_reached : (kinds : List Bool) → IsSound (setting plan n) kinds last → (k : LimitKind) → Comes (ending.Over k)
+  pub limit_reached : (kinds : List Bool) → IsSound (setting plan n) kinds last → (k : LimitKind) → (comes : Comes (ending.Over k))
       → (end : ReachesLimit (setting plan n) plan.reductions m k) × (limit_moment (setting plan n) plan.reductions m k end ≡ last)
+      × (limit_picks (setting plan n) plan.reductions m k end ≡ comes.made.picks)
   limit_reached kinds sound limit.Reductions h = reductions_used kinds sound h
   limit_reached kinds sound limit.Number h = limit_passed limit.Number (λ e. cc) h
   limit_reached kinds sound limit.List h = limit_passed limit.List (λ e. cc) h
@@ -149,7 +167,7 @@ module _ (plan : Plan) (n : ℕ) (m last : Moment) (before after : List ℕ) whe
     closed = record { leads = comes.made.leads; within = omega (arith, comes.made.spent); rest = comes.ends }
 
     counted : reductions ≡ length comes.made.picks
-    counted = count ∙ ap (λ (xs : List ℕ). length xs) (comes.made.appended ∙ ap (λ (xs : List ℕ). xs ++ comes.made.picks) first)
+    counted = count ∙ ap (λ (xs : List ℕ). length xs) (sym (own_picks ending.Rest first comes))
 
     pictured : (picture : Picture) → HasPicture (globals_of plan) n reductions last picture → IsPictureOf plan n comes.made.picks last picture
     pictured picture h = record { state = h.state; facts = h.facts; parts = h.parts; shows = h.shows; reductions = h.reductions_are ∙ counted }
@@ -175,11 +193,17 @@ module _ (plan : Plan) (n : ℕ) (m last : Moment) (before after : List ℕ) whe
       abbrev pub Rests : Turn → Type 0
       Rests turn = RestTurns (setting plan n) (globals_of plan) reductions last old new standing store turn
 
-      pub rest_becomes : (turn : Turn) → Rests turn → StateBecomes plan n m old new standing store turn
-      unfolding ended_here is_open
-      rest_becomes Went r = (r.2.0, went_on new r.2.0 r.0 r.1 r.2.1, r.2.2, r.2.3)
-      rest_becomes (Finished length) r = (ended_here new r.0 r.1, r.2, r.3, r.4)
-      rest_becomes (Undetermined state cell) r = (is_open cell r.0, r.1, within, r.2, r.3, r.4)
+      abbrev By : Turn → Type 0
+      By turn = BecomesBy plan n m old new standing store turn after last ending.Rest
+
+      own : comes.made.picks ≡ after
+      own = own_picks ending.Rest first comes
+
+      pub rest_becomes : (turn : Turn) → Rests turn → By turn
+      unfolding went_on ended_here is_open
+      rest_becomes Went r = record { becomes = (r.2.0, went_on new r.2.0 r.0 r.1 r.2.1, r.2.2, r.2.3); picks_are = own; leads_to = refl; ends = refl }
+      rest_becomes (Finished length) r = record { becomes = (ended_here new r.0 r.1, r.2, r.3, r.4); picks_are = own; leads_to = refl; ends = refl }
+      rest_becomes (Undetermined state cell) r = record { becomes = (is_open cell r.0, r.1, within, r.2, r.3, r.4); picks_are = own; leads_to = refl; ends = refl }
       rest_becomes (Contradictory state clash) r = absurd r
       rest_becomes (StateLimit states) r = absurd r
       rest_becomes (InputMissing state port) r = absurd r
@@ -211,27 +235,47 @@ module _ (plan : Plan) (settings : Settings) (is : IsSettingsOf plan settings) (
         subst (λ k. RestTurns (setting plan n) k reductions last old new standing store turn) is.globals
         (subst (λ (w : Setting). RestTurns w settings.globals reductions last old new standing store turn) (same_setting plan settings is) h)
 
-    pub run_rests : StateBecomes plan n m old new standing store turn
-    run_rests = rest_becomes plan n m last before after state_within reductions first count (comes_to ending.Rest e) old new standing store turn turns
+    pub run_rests : BecomesBy plan n m old new standing store turn after last found
+    run_rests = subst (λ (x : Ending). BecomesBy plan n m old new standing store turn after last x) (sym e)
+        (rest_becomes plan n m last before after state_within reductions first count (comes_to ending.Rest e) old new standing store turn turns)
 
   -- where the closure ends before the state is at rest
-  module _ (old : Picture) (standing : Standing) (turn : Turn) where
+  module _ (old : Picture) (standing : Standing) (turn : Turn) (first : before ≡ []) where
     abbrev Stops : Turn → Type 0
-    Stops t = StateBecomes plan n m old old standing last.store t
+    Stops t = BecomesBy plan n m old old standing last.store t after last found
 
     pub run_reaches : (kinds : List Bool) → IsSound (setting_of settings.setting) kinds last → (k : LimitKind) → found ≡ ending.Over k → standing ≡ answered (Over n k) last → turn ≡ Over n k → Stops turn
     run_reaches kinds sound k e stand turn_is =
-        let reached = limit_reached plan n m last before after kinds (read_so kinds sound) k (comes_to (ending.Over k) e) in
-        subst Stops (sym turn_is)
-        (reached.0, refl, state_within, refl, stand ∙ ap (answered (Over n k)) (sym reached.1), ap (λ (z : Moment). z.store) (sym reached.1))
+        let comes = comes_to (ending.Over k) e in
+        let reached = limit_reached plan n m last before after kinds (read_so kinds sound) k comes in
+        subst Stops (sym turn_is) (record {
+          becomes = (reached.0, refl, state_within, refl, stand ∙ ap (answered (Over n k)) (sym reached.1), ap (λ (z : Moment). z.store) (sym reached.1));
+          picks_are = reached.2 ∙ own_picks plan n m last before after (ending.Over k) first comes;
+          leads_to = reached.1;
+          ends = e;
+        })
 
     pub run_clashes : (clash : Clash) → found ≡ ending.Clash clash → standing ≡ answered (Contradictory n clash) last → turn ≡ Contradictory n clash → Stops turn
     unfolding clash_met
-    run_clashes clash e stand turn_is = subst Stops (sym turn_is) (clash_met plan n m last before after clash (comes_to (ending.Clash clash) e), refl, state_within, refl, stand, refl)
+    run_clashes clash e stand turn_is =
+        let comes = comes_to (ending.Clash clash) e in
+        subst Stops (sym turn_is) (record {
+          becomes = (clash_met plan n m last before after clash comes, refl, state_within, refl, stand, refl);
+          picks_are = own_picks plan n m last before after (ending.Clash clash) first comes;
+          leads_to = refl;
+          ends = e;
+        })
 
     pub run_misses : (port : List ℕ) → found ≡ ending.Missing port → standing ≡ answered (InputMissing n port) last → turn ≡ InputMissing n port → Stops turn
     unfolding input_missed
-    run_misses port e stand turn_is = subst Stops (sym turn_is) (input_missed plan n m last before after port (comes_to (ending.Missing port) e), refl, state_within, refl, stand, refl)
+    run_misses port e stand turn_is =
+        let comes = comes_to (ending.Missing port) e in
+        subst Stops (sym turn_is) (record {
+          becomes = (input_missed plan n m last before after port comes, refl, state_within, refl, stand, refl);
+          picks_are = own_picks plan n m last before after (ending.Missing port) first comes;
+          leads_to = refl;
+          ends = e;
+        })
 
   -- a clash is one of variables of the store
   pub run_clashes_named : (kinds : List Bool) → IsSound (setting_of settings.setting) kinds last → (clash : Clash) → found ≡ ending.Clash clash → TurnIsOf last.store.variables (Contradictory n clash)
@@ -300,13 +344,13 @@ stands_sound plan n (open_at m) h = h.sound
 stands_sound plan n (answered turn m) h = tt
 stands_sound plan n spent h = tt
 
--- the run with another store and stand, before a state with this number
-abbrev pub moved : Run → (next : ℕ) → Contents → Stand → Run
-moved run next store stand = record run { state = next; store = store; stand = stand }
+-- the run with another store, stand and tally, before a state with this number
+abbrev pub moved : Run → (next : ℕ) → Contents → Stand → Tally → Run
+moved run next store stand tally = record run { state = next; store = store; stand = stand; tally = tally }
 
-with_stand : (plan : Plan) (run : Run) (next : ℕ) (store : Contents) (stand : Stand) → IsRunOf plan run → next ≤ plan.states → StandsOrderly plan next (stands_at stand store) → StandIsKept stand → StandIsOf store.variables stand
-    → IsRunOf plan (moved run next store stand)
-with_stand plan run next store stand h within orderly kept named = record {
+with_stand : (plan : Plan) (run : Run) (next : ℕ) (store : Contents) (stand : Stand) (tally : Tally) → IsRunOf plan run → next ≤ plan.states → StandsOrderly plan next (stands_at stand store) → StandIsKept stand → StandIsOf store.variables stand
+    → IsRunOf plan (moved run next store stand tally)
+with_stand plan run next store stand tally h within orderly kept named = record {
   program = h.program;
   inputs = h.inputs;
   states = h.states;
@@ -336,13 +380,16 @@ module _ (plan : Plan) (run : Run) (is_run : IsRunOf plan run) (m : Moment) (ope
   orderly_here : Orderly plan run.state m
   orderly_here = orderly_at plan run m is_run opened
 
+  pub answers_state : (next : ℕ) → next ≡ state_after run.state turn → AnswersState plan (standing_place run) old new (record { standing = stands_at stand store; state = next; store = store }) turn
+  answers_state next e = subst (λ (z : Standing). AnswersState plan (record { standing = z; state = run.state; store = store_of run }) old new (record { standing = stands_at stand store; state = next; store = store }) turn) opened (becomes, e)
+
   pub answer_means : AnswerMeans plan run.state (standing_of run) (stands_at stand store) new turn
   answer_means = subst (λ (z : Standing). AnswerMeans plan run.state z (stands_at stand store) new turn) opened (becomes_means plan run.state m old new (stands_at stand store) store orderly_here turn becomes)
 
-  pub run_kept : (next : ℕ) → next ≡ state_after run.state turn → StandIsKept stand → StandIsOf store.variables stand → IsRunOf plan (moved run next store stand)
-  run_kept next e kept named =
+  pub run_kept : (next : ℕ) (tally : Tally) → next ≡ state_after run.state turn → StandIsKept stand → StandIsOf store.variables stand → IsRunOf plan (moved run next store stand tally)
+  run_kept next tally e kept named =
       let on = becomes_orderly plan run.state m old new (stands_at stand store) store orderly_here turn becomes in
-      with_stand plan run next store stand is_run (subst (λ k. k ≤ plan.states) (sym e) on.within) (subst (λ k. StandsOrderly plan k (stands_at stand store)) (sym e) on.stands) kept named
+      with_stand plan run next store stand tally is_run (subst (λ k. k ≤ plan.states) (sym e) on.within) (subst (λ k. StandsOrderly plan k (stands_at stand store)) (sym e) on.stands) kept named
 
   pub answer_agrees : AnswerAgrees plan run.state (standing_of run) new turn
   answer_agrees = subst (λ (z : Standing). AnswerAgrees plan run.state z new turn) opened

@@ -170,7 +170,7 @@ module _ (laws : SceneLaws) (begins : BeginLaws) (stores : StateLaws) where
   end_means plan fits ps (Over state limit) w = continues_each plan ps w.0 fits w.1
 
 -- a state that goes on, told of another name of its number and of what it begins with
-pub goes_there : (plan : Plan) (n k : ℕ) (r m : Moment) (p : Picture) (next : Moment) → k ≡ n → m ≡ r → StateGoesOn plan k m p next → StateGoesOn plan n r p next
+abbrev pub goes_there : (plan : Plan) (n k : ℕ) (r m : Moment) (p : Picture) (next : Moment) → k ≡ n → m ≡ r → StateGoesOn plan k m p next → StateGoesOn plan n r p next
 goes_there plan n k r m p next e h g = subst (λ i. StateGoesOn plan i r p next) e (subst (λ (z : Moment). StateGoesOn plan k z p next) h g)
 
 pub index_there : (k n : ℕ) → k ≡ 0 + n → k ≡ n

@@ -8,3 +8,4 @@ pub mod OneState
 pub mod Becomes
 pub mod Stores
 pub mod Named
+pub mod Tallies

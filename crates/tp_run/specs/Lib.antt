@@ -7,5 +7,6 @@ pub mod Ordered
 pub mod Same
 pub mod EachOrder
 pub mod Standing
+pub mod Tried
 pub mod Advances
 pub mod SettledStates

@@ -5,6 +5,7 @@ mod laws;
 mod limits;
 mod picture;
 mod run;
+mod tally;
 
 pub use laws::{runs_advance, runs_mean};
 pub use limits::Limits;

@@ -1,5 +1,5 @@
 // The run of a program, state by state.
-ghost use Rattle.std.specs.Prelude.{◌≡◌, ◌<◌, ◌≤◌, Bool, List, [], Option, IfOk, IfSome, IsSomeAnd, OnErr, OnOk};
+ghost use Rattle.std.specs.Prelude.{◌≡◌, ◌+◌, ◌<◌, ◌≤◌, ℕ, Bool, List, Option, IfOk, IfSome, IsSomeAnd, OnErr, OnOk};
 ghost use Rattle.std.specs.Option.{option_map};
 ghost use Rattle.tp_kernel.specs.Read.{formula_tree};
 ghost use Rattle.tp_meaning.specs.Fits.{ProgramFits};
@@ -23,10 +23,12 @@ ghost use Rattle.tp_run.specs.Standing.{open_at, answered, spent, state_after, A
 ghost use Rattle.tp_run.specs.Meaning.{StandsForItsProgram, AnswerMeans};
 ghost use Rattle.tp_run.specs.Ordered.{IsNamedInOrder};
 ghost use Rattle.tp_run.specs.EachOrder.{AnswerAgrees, AnswerHasNoDeadEnd};
+ghost use Rattle.tp_run.specs.Tried.{tally_of, HasRecordedNothing, IsTallyOf, CountsStateTries, TriesBeyond, BeginsNoState};
 ghost use Rattle.tp_run.specs.Runs.{stands_at, standing_of, program_of, next_state_of, order_of, standing_place, store_of, carried_scene, last_scene_in, IsSettingsOf, IsRunOf, HasPicture, NextOf, RestTurns, StandIsKept, HasFirst, TurnIsOf, MadeIsOf};
 
 use crate::limits::Limits;
 use crate::picture::settled_picture;
+use crate::tally::{clear_tally, no_tally};
 use std::alloc::Global;
 use std::mem;
 use std::sync::ledger::Ledger;
@@ -35,8 +37,8 @@ use tp_check::Program;
 use tp_inputs::Inputs;
 use tp_show::{Cell, Picture, Turn};
 use tp_step::{
-    Course, Ending, ItemIds, Order, Scene, Setting, Settled, Steps, Tally, Tried, Waits, advance,
-    settled, start, try_item,
+    Course, Ending, Order, Scene, Setting, Settled, Steps, Tally, Tried, advance, settled, start,
+    try_item,
 };
 use tp_store::Store;
 use tp_value::NoMemory;
@@ -58,7 +60,8 @@ enum Stand {
     Spent,
 }
 
-/// The run of a program, state by state: what is run, and how; the number of the state that it makes next; and where it stands.
+/// The run of a program, state by state: what is run, and how; the number of the state that it makes next; where it stands; and what was
+/// tried in the state that it began last.
 #[derive(Drop)]
 pub struct Run {
     alloc: Global,
@@ -69,6 +72,7 @@ pub struct Run {
     state: u64,
     store: Store,
     stand: Stand,
+    pub(crate) tally: Tally,
 }
 
 /// Where a run stands after a state, and the state's answer.
@@ -88,21 +92,6 @@ fn stop(turn: Turn, scene: Scene) -> Result<Made, NoMemory>
         stand: Stand::Answered(again, scene),
         turn,
     })
-}
-
-// Nothing is done yet.
-fn no_tally(alloc: Global) -> Tally
-    ensures picks { result.picks ≡ [] }
-    ensures waits { result.waits.items.items ≡ [] }
-    ensures rests { result.rests ≡ [] }
-{
-    Tally {
-        picks: ItemIds::new(alloc),
-        waits: Waits {
-            items: Vec::new(alloc),
-        },
-        rests: ItemIds::new(alloc),
-    }
 }
 
 impl<'a> Settings<'a> {
@@ -127,6 +116,7 @@ impl<'a> Settings<'a> {
         ensures store { OnOk result (store.new ≡ store.old) }
         ensures kept { IsWellKept scene.new }
         ensures named { IfOk result (CellIsOf store.new.variables) }
+        ensures steps { steps.new ≡ steps.old + 1 }
     {
         let tried = try_item(scene, item, store, &self.setting, 0, steps)?;
         let Tried::Waits(cell, _) = tried else {
@@ -208,6 +198,8 @@ impl<'a> Settings<'a> {
             store.new made.turn) }
         ensures kept { IfOk result (λ made. StandIsKept made.stand) }
         ensures named { IfOk result (MadeIsOf store.new.variables) }
+        ensures steps { IfOk result (λ made.
+            (more : ℕ) × TriesBeyond made.turn more × (steps.new ≡ steps.old + more)) }
         ensures err { OnErr result (picture.new ≡ picture.old) }
     {
         let state = self.setting.state;
@@ -235,6 +227,7 @@ impl<'a> Settings<'a> {
         mut scene: Scene,
         store: &mut Store,
         picture: &mut Picture,
+        tally: &mut Tally,
         steps: &mut Steps<L>,
     ) -> Result<Made, NoMemory>
         requires within { self.now.setting.state ≤ self.now.limits.states }
@@ -251,19 +244,30 @@ impl<'a> Settings<'a> {
             (moment_of scene store.old) made.turn) }
         ensures kept { IfOk result (λ made. StandIsKept made.stand) }
         ensures named { IfOk result (MadeIsOf store.new.variables) }
+        ensures tried { IfOk result (λ made.
+            (plan : Plan) → IsSettingsOf plan self.now
+            → self.now.setting.state < self.now.limits.states
+            → IsTallyOf plan self.now.order self.now.setting.state (moment_of scene store.old)
+            picture.old picture.new (stands_at made.stand store.new) store.new made.turn
+            tally.new) }
+        ensures steps { IfOk result (λ made.
+            self.now.setting.state < self.now.limits.states
+            → CountsStateTries steps.old steps.new tally.new made.turn) }
+        ensures stays { self.now.limits.states ≤ self.now.setting.state
+            → (tally.new ≡ tally.old) × (steps.new ≡ steps.old) }
         ensures err { OnErr result (picture.new ≡ picture.old) }
     {
         let state = self.setting.state;
         if state == self.limits.states {
             return stop(Turn::StateLimit { states: state }, scene);
         }
-        let mut tally = no_tally(self.setting.alloc);
+        clear_tally(tally);
         // Each state begins with the run's order, so a seed's choices begin again.
         let course = Course {
             order: self.order,
             room: self.limits.reductions,
         };
-        let ending = close_by_agenda(&mut scene, store, &self.setting, course, &mut tally, steps)?;
+        let ending = close_by_agenda(&mut scene, store, &self.setting, course, tally, steps)?;
         match ending {
             Ending::Rest => {
                 let reductions = tally.picks.items.len() as u64;
@@ -310,6 +314,7 @@ impl Run {
             StandsForItsProgram
             (plan_with (program_tree program) (inputs_of inputs) limits.states limits.reductions)
             (standing_of run)) }
+        ensures tally { IfOk result (λ run. HasRecordedNothing (tally_of run)) }
     {
         let scene = start(alloc, &program.main)?;
         let store = Store::new(alloc, &program.globals)?;
@@ -322,6 +327,7 @@ impl Run {
             state: 0,
             store,
             stand: Stand::Open(scene),
+            tally: no_tally(alloc),
         })
     }
 
@@ -387,9 +393,10 @@ impl Run {
         }
     }
 
-    /// Makes the next state, or gives the last answer again. On `Went` and `Finished` the picture is that of the state; else it
-    /// stays. The store keeps what the state's reductions brought, and on `Went` goes on to the next state; its variables stay, and more may
-    /// follow them; a cell or a clash is one of these. After want of memory the run answers nothing else. Each item that is tried adds one to the steps.
+    /// Makes the next state, or gives the last answer again. On `Went` and `Finished` the picture is that of the state; else it stays. The
+    /// store keeps what the state's reductions brought, and on `Went` goes on to the next state; its variables stay, and more may follow
+    /// them; a cell or a clash is one of these. After want of memory the run answers nothing else. Each item that is tried adds one to the
+    /// steps. Where a state is begun, the tally is emptied and records its tries.
     pub fn state<L: Ledger>(
         &mut self,
         picture: &mut Picture,
@@ -420,6 +427,23 @@ impl Run {
         ensures variables { OnOk result
             (HasFirst (store_of self.old).variables (store_of self.new).variables) }
         ensures named { IfOk result (TurnIsOf (store_of self.new).variables) }
+        ensures tried { IfOk result (λ turn.
+            (plan : Plan) (m : Moment) → IsRunOf plan self.old → standing_of self.old ≡ open_at m
+            → next_state_of self.old < plan.states
+            → IsTallyOf plan (order_of self.old) (next_state_of self.old) m picture.old picture.new
+            (standing_of self.new) (store_of self.new) turn (tally_of self.new)) }
+        ensures steps { IfOk result (λ turn.
+            (plan : Plan) (m : Moment) → IsRunOf plan self.old → standing_of self.old ≡ open_at m
+            → next_state_of self.old < plan.states
+            → CountsStateTries steps.old steps.new (tally_of self.new) turn) }
+        ensures stays { IfOk result (λ turn.
+            (plan : Plan) → IsRunOf plan self.old
+            → BeginsNoState plan (next_state_of self.old) (standing_of self.old)
+            → tally_of self.new ≡ tally_of self.old) }
+        ensures tries_none { IfOk result (λ turn.
+            (plan : Plan) → IsRunOf plan self.old
+            → BeginsNoState plan (next_state_of self.old) (standing_of self.old)
+            → steps.new ≡ steps.old) }
         ensures err { OnErr result ((standing_of self.new ≡ spent) × (picture.new ≡ picture.old)) }
     {
         match mem::replace(&mut self.stand, Stand::Spent) {
@@ -436,7 +460,7 @@ impl Run {
                         state: self.state,
                     },
                 };
-                let made = settings.make(scene, &mut self.store, picture, steps)?;
+                let made = settings.make(scene, &mut self.store, picture, &mut self.tally, steps)?;
                 self.state = self.next_number(&made.turn);
                 self.stand = made.stand;
                 Ok(made.turn)

@@ -1,5 +1,5 @@
-//! Laws of whole runs: runs in any order of picks, and what can be printed so that a trace is read from it. Definitions, and their laws. Each
-//! law is a clause of a function that does nothing; a proof elsewhere cites its lemma.
+//! Laws of whole runs: runs in any order of picks, and what can be printed so that a trace is read from it. Definitions, and their laws.
+//! Each law is a clause of a function that does nothing; a proof elsewhere cites its lemma.
 #![tactic(auto)]
 
 mod order;
