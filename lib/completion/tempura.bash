@@ -32,7 +32,7 @@ _tempura() {
     --states | --reductions | --seconds | --megabytes | -e) return ;;
     esac
     case $first in
-    "") mapfile -t COMPREPLY < <(compgen -W "run print convert check explain --cases --last --build --attest --version --help" -- "$word") ;;
+    "") mapfile -t COMPREPLY < <(compgen -W "run print convert check drill explain --cases --last --build --attest --version --help" -- "$word") ;;
     run | print | --cases)
         if [[ $word == -* ]]; then
             mapfile -t COMPREPLY < <(compgen -W "$options $([[ $first == --cases ]] || printf %s -e)" -- "$word")
@@ -49,6 +49,7 @@ _tempura() {
             mapfile -t COMPREPLY < <(compgen -f -- "$word")
         fi
         ;;
+    drill) [[ $word != -* ]] || mapfile -t COMPREPLY < <(compgen -W "--states --reductions --order" -- "$word") ;;
     explain)
         mapfile -t COMPREPLY < <(compgen -W "$("${COMP_WORDS[0]}" explain 2>/dev/null | tr ' ' '\n')" -- "$word")
         compopt +o filenames

@@ -1,5 +1,6 @@
 -- A mode and the name of a file, and no more.
-use Rattle.std.proofs.Common.{◌≡◌, ◌≢◌, ℕ, List, [], ◌∷◌, Bool, true, false, Option, None, Some, refl, arith, ap, ap₂, ◌∙◌, ◌&&◌, if◌then◌else◌, slice_index}
+use Rattle.std.proofs.Common.{◌≡◌, ◌≢◌, ℕ, List, [], ◌∷◌, Bool, true, false, Option, None, Some, refl, arith, ap, ap₂, ◌∙◌, ◌&&◌, if◌then◌else◌, slice_index, codes}
+use Rattle.std.specs.Option.{option_map, option_and_then}
 use Rattle.std.specs.Prelude.{nat_eq, is_some}
 use Rattle.std.specs.Str.{IsUtf8, is_utf8}
 use Rattle.std.proofs.lemmas.Str.{is_utf8-from_IsUtf8}
@@ -11,13 +12,26 @@ use Rattle.clap.specs.Walk.{Held, Walk, Step, idle, value, word_met, walked, aft
 use Rattle.clap.specs.Faults.{word_fault, turn_fault, step_fault, settle_fault, defaults_fault, check_fault, entered_fault}
 use Rattle.tp_words.specs.App.{the_app}
 use Rattle.tp_words.specs.declared.mode.Mode.{Mode}
-use Rattle.tp_words.specs.declared.mode.Mode.TheVariants.{Run, Print, Convert, Check}
-use Rattle.tp_words.specs.Mode.{mode_text, needs_other}
+use Rattle.tp_words.specs.declared.mode.Mode.TheVariants.{Run, Print, Convert, Check, Drill}
+use Rattle.tp_words.specs.Mode.{mode_text, needs_other, has_other, IsSubjectOf}
+use Rattle.tp_words.specs.Size.{size_spelled}
 use Rattle.tp_words.specs.Words.{Wanted, wanted_without, wanted_in, wanted_of_texts, wanted_of, usual_wanted}
+
+-- what a mode that is named asks for with the word after it
+abbrev wanted_with : List ℕ → Mode → Option Wanted
+wanted_with file mode = if has_other mode None then Some (usual_wanted mode file) else None
+
+-- what the word `drill` asks for with the word after it, which spells this size or none
+abbrev drill_wanted : List ℕ → Option ℕ → Option Wanted
+drill_wanted file size = option_and_then (wanted_with file) (option_map Drill size)
 
 -- what a mode and the name of a file ask for
 abbrev wanted_of_two : Mode → List ℕ → Option Wanted
-wanted_of_two mode file = if needs_other mode then None else Some (usual_wanted mode file)
+wanted_of_two Run file = wanted_with file Run
+wanted_of_two Print file = wanted_with file Print
+wanted_of_two Convert file = wanted_with file Convert
+wanted_of_two Check file = wanted_with file Check
+wanted_of_two (Drill size) file = drill_wanted file (size_spelled file)
 
 empty_name : (mode : Mode) → wanted_of_texts (mode_text mode ∷ [] ∷ []) ≡ wanted_of_two mode []
 unfolding clap_on_literals wanted_of_texts wanted_in
@@ -25,6 +39,7 @@ empty_name Run = refl
 empty_name Print = refl
 empty_name Convert = refl
 empty_name Check = refl
+empty_name (Drill size) = refl
 
 not_equal : (x y : ℕ) → (x ≡ y → ⊥) → nat_eq x y ≡ false
 not_equal x y apart = grind arith
@@ -75,6 +90,7 @@ as_ended Run file = refl
 as_ended Print file = refl
 as_ended Convert file = refl
 as_ended Check file = refl
+as_ended (Drill size) file = refl
 
 plain_end : (mode : Mode) (file : List ℕ) → ended mode (to_positional the_shape.rules (arg_by_index the_shape.rules 2) file (second_walk mode) (second_held mode))
     (step_fault the_shape 2 (second_held mode) value) ≡ wanted_of_two mode file
@@ -83,6 +99,7 @@ plain_end Run file = refl
 plain_end Print file = refl
 plain_end Convert file = refl
 plain_end Check file = refl
+plain_end (Drill size) file = refl
 
 enough : (mode : Mode) (file : List ℕ) → (slice_index file 0 ≡ 45 → ⊥) → wanted_of_texts (mode_text mode ∷ file ∷ []) ≡ wanted_of_two mode file
 enough mode [] apart = empty_name mode
@@ -96,15 +113,31 @@ mode_is_text Run = refl
 mode_is_text Print = refl
 mode_is_text Convert = refl
 mode_is_text Check = refl
+mode_is_text (Drill size) = refl
 
 two_words : (mode : Mode) (file : List ℕ) → IsUtf8 file → slice_index file 0 ≢ 45 → wanted_of (mode_text mode ∷ file ∷ []) ≡ wanted_of_two mode file
 two_words mode file u apart = ap (λ (b : Bool). if b then wanted_of_texts (mode_text mode ∷ file ∷ []) else None) (ap₂ (λ a b. a && (b && true)) (mode_is_text mode) (is_utf8-from_IsUtf8 file u)) ∙ enough mode file apart
 
-abbrev without_other : Mode → List ℕ → Bool → Option Wanted
-without_other mode file b = if b then None else Some (usual_wanted mode file)
+enough_for : (mode : Mode) (file : List ℕ) → needs_other mode ≡ false → IsSubjectOf mode file → wanted_of_two mode file ≡ Some (usual_wanted mode file)
+enough_for Run file one suits = refl
+enough_for Print file one suits = refl
+enough_for Convert file one suits = refl
+enough_for Check file one suits = let bad : true ≡ false = one in cc
+enough_for (Drill size) file one suits = ap (drill_wanted file) suits
 
-pub two_are_enough : (mode : Mode) (file : List ℕ) → needs_other mode ≡ false → IsUtf8 file → slice_index file 0 ≢ 45 → wanted_of (mode_text mode ∷ file ∷ []) ≡ Some (usual_wanted mode file)
-two_are_enough mode file one u apart = two_words mode file u apart ∙ ap (without_other mode file) one
+too_few_for : (mode : Mode) (file : List ℕ) → needs_other mode ≡ true → wanted_of_two mode file ≡ None
+too_few_for Check file two = refl
+too_few_for Run file two = let bad : false ≡ true = two in cc
+too_few_for Print file two = let bad : false ≡ true = two in cc
+too_few_for Convert file two = let bad : false ≡ true = two in cc
+too_few_for (Drill size) file two = let bad : false ≡ true = two in cc
+
+pub two_are_enough : (mode : Mode) (file : List ℕ) → needs_other mode ≡ false → IsSubjectOf mode file → IsUtf8 file → slice_index file 0 ≢ 45 → wanted_of (mode_text mode ∷ file ∷ []) ≡ Some (usual_wanted mode file)
+two_are_enough mode file one suits u apart = two_words mode file u apart ∙ enough_for mode file one suits
 
 pub two_are_too_few : (mode : Mode) (file : List ℕ) → needs_other mode ≡ true → IsUtf8 file → slice_index file 0 ≢ 45 → wanted_of (mode_text mode ∷ file ∷ []) ≡ None
-two_are_too_few mode file two u apart = two_words mode file u apart ∙ ap (without_other mode file) two
+two_are_too_few mode file two u apart = two_words mode file u apart ∙ too_few_for mode file two
+
+-- a drill with no size, whichever one is looked for
+pub no_drill : (text : List ℕ) → size_spelled text ≡ None → IsUtf8 text → slice_index text 0 ≢ 45 → wanted_of (codes "drill" ∷ text ∷ []) ≡ None
+no_drill text none u apart = two_words (Drill 1) text u apart ∙ ap (drill_wanted text) none

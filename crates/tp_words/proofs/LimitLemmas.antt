@@ -30,7 +30,7 @@ past_limit : (n : ℕ) → greatest_limit < n → limit_within n ≡ None
 past_limit n h = grind arith
 
 -- a text of decimal digits that is read as no machine number spells one that is past them
-past_machine : (most : ℕ) (text : List ℕ) → is_numeral most text ≡ true → ((IsNumeral 10 (without_leading_plus text) × (digits_value 10 (without_leading_plus text) < 2 ^ 64)) → ⊥) → 2 ^ 64 ≤ digits_value 10 text
+pub past_machine : (most : ℕ) (text : List ℕ) → is_numeral most text ≡ true → ((IsNumeral 10 (without_leading_plus text) × (digits_value 10 (without_leading_plus text) < 2 ^ 64)) → ⊥) → 2 ^ 64 ≤ digits_value 10 text
 past_machine most text h large =
     let outer = and_parts (nat_lt 0 (length text)) (nat_le (length text) most && list_all is_ascii_digit text) h in
     let digits = (and_parts (nat_le (length text) most) (list_all is_ascii_digit text) outer.1).1 in

@@ -1,6 +1,7 @@
 pub mod App
 pub mod Numeral
 pub mod Limit
+pub mod Size
 pub mod Mode
 pub mod Order
 pub mod Beside

@@ -1,14 +1,17 @@
--- What words ask to do with the file.
-use Rattle.std.specs.Prelude.{ℕ, List, Bool, true, false, Option, None, Some, if◌then◌else◌, codes}
+-- What words ask to do with the file, or with a source of a size.
+use Rattle.std.specs.Prelude.{◌≡◌, ℕ, List, Bool, true, false, Option, None, Some, option_map, if◌then◌else◌, codes}
+use Rattle.std.specs.Int.{IsInRange}
 use Rattle.std.specs.Str.{bytes_eq}
 use Rattle.tp_words.specs.declared.mode.Mode.{Mode}
-use Rattle.tp_words.specs.declared.mode.Mode.TheVariants.{Run, Print, Convert, Check}
+use Rattle.tp_words.specs.declared.mode.Mode.TheVariants.{Run, Print, Convert, Check, Drill}
+use Rattle.tp_words.specs.Size.{size_spelled, greatest_size}
 
 abbrev pub mode_text : Mode → List ℕ
 mode_text Run = codes "run"
 mode_text Print = codes "print"
 mode_text Convert = codes "convert"
 mode_text Check = codes "check"
+mode_text (Drill size) = codes "drill"
 
 -- the mode reads a second file, which the words must name
 abbrev pub needs_other : Mode → Bool
@@ -16,21 +19,31 @@ needs_other Run = false
 needs_other Print = false
 needs_other Convert = false
 needs_other Check = true
+needs_other (Drill size) = false
 
 -- the second file is named, where the mode reads one
 abbrev pub has_other : Mode → Option (List ℕ) → Bool
 has_other mode (Some name) = true
 has_other mode None = if needs_other mode then false else true
 
--- the mode with this name
-abbrev pub mode_named : List ℕ → Option Mode
-mode_named text =
-    if bytes_eq text (mode_text Run) then Some Run
-    else (if bytes_eq text (mode_text Print) then Some Print
-    else (if bytes_eq text (mode_text Convert) then Some Convert
-    else (if bytes_eq text (mode_text Check) then Some Check else None)))
+-- the mode with this name, where the word after it is the name of a file, or for a drill a size
+abbrev pub mode_named : (name subject : List ℕ) → Option Mode
+mode_named name subject =
+    if bytes_eq name (mode_text Run) then Some Run
+    else (if bytes_eq name (mode_text Print) then Some Print
+    else (if bytes_eq name (mode_text Convert) then Some Convert
+    else (if bytes_eq name (mode_text Check) then Some Check
+    else (if bytes_eq name (codes "drill") then option_map Drill (size_spelled subject)
+    else None))))
 
--- the mode that a word names
-abbrev pub mode_given : Option (List ℕ) → Option Mode
-mode_given None = None
-mode_given (Some text) = mode_named text
+-- the size of a drill is one that words can ask for
+abbrev pub HasSize : Mode → Type 0
+HasSize mode = (size : ℕ) → mode ≡ Drill size → IsInRange 1 greatest_size size
+
+-- the word after the mode's name is the name of a file, or of a drill it spells the size
+abbrev pub IsSubjectOf : Mode → List ℕ → Type 0
+IsSubjectOf Run text = Unit {0}
+IsSubjectOf Print text = Unit {0}
+IsSubjectOf Convert text = Unit {0}
+IsSubjectOf Check text = Unit {0}
+IsSubjectOf (Drill size) text = size_spelled text ≡ Some size

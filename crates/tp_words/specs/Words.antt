@@ -12,12 +12,13 @@ use Rattle.tp_words.specs.declared.beside.Beside.{Beside}
 use Rattle.tp_words.specs.declared.beside.Beside.TheVariants.{Nothing}
 use Rattle.tp_words.specs.declared.mode.Mode.{Mode}
 use Rattle.tp_words.specs.Limit.{limit_set, usual_states, usual_reductions}
-use Rattle.tp_words.specs.Mode.{mode_given, has_other}
+use Rattle.tp_words.specs.Mode.{mode_named, has_other}
 use Rattle.tp_words.specs.Order.{order_set}
 
--- what is done, and with which file; of a check the file of the trace; and of a run the file of the
--- inputs, the limits on states and on the reductions in a state, the order in which it takes its
--- items, and what it writes beside each state
+-- What is done, and with which file, which for a drill is the text of its size; of a check the file
+-- of the trace; of a run the file of the inputs, and what it writes beside each state; and of a run
+-- and a drill the limits on states and on the reductions in a state, and the order in which it
+-- takes its items.
 pub record Wanted : Type 0 where
   pub mode : Mode
   pub file : List ℕ
@@ -42,8 +43,9 @@ o >>= f = option_and_then f o
 -- second file is named where the mode reads one.
 unfoldable pub wanted_in : List Row → Option Wanted
 wanted_in rows = do
-  mode ← mode_given (first_of (codes "mode") rows)
+  name ← first_of (codes "mode") rows
   file ← first_of (codes "file") rows
+  mode ← mode_named name file
   states ← limit_set usual_states (first_of (codes "states") rows)
   reductions ← limit_set usual_reductions (first_of (codes "reductions") rows)
   order ← order_set (first_of (codes "order") rows)

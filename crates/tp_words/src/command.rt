@@ -8,11 +8,11 @@ use std::alloc::{AllocError, AllocFailed};
 use tp_step::Order;
 use tp_value::NoMemory;
 
-/// What the words ask for. All but the mode and the names of the files is of a run.
+/// What the words ask for. All but the mode and the names of the files is of a run, or of a drill.
 #[derive(Debug, Drop)]
 pub struct Command {
     pub mode: Mode,
-    /// The name of the source.
+    /// The name of the source; of a drill the word of its size.
     pub file: String,
     /// The name of the inputs.
     pub inputs: Option<String>,

@@ -1,6 +1,10 @@
-// What is done with the file.
+// What is done with the file, or with a source of a size.
 ghost use Rattle.std.specs.Prelude.{◌≡◌, option_map};
-ghost use Rattle.tp_words.specs.Mode.{mode_named, mode_given, needs_other, has_other};
+ghost use Rattle.tp_words.specs.declared.mode.Mode.TheVariants.{Drill};
+ghost use Rattle.tp_words.specs.Size.{size_spelled};
+ghost use Rattle.tp_words.specs.Mode.{mode_named, needs_other, has_other};
+
+use crate::size::size_spelled;
 
 /// What words ask to do with the file.
 #[derive(Clone, Copy, Debug, PartialEq, Eq)]
@@ -13,23 +17,38 @@ pub enum Mode {
     Convert,
     /// Whether a trace, which is a second file, satisfies the formula that it is.
     Check,
+    /// A large source of so many variables is run, and no file is read.
+    Drill { size: u64 },
 }
 
-// The mode with this name.
-fn mode_named(text: &str) -> Option<Mode>
-    ensures { result ≡ mode_named text.now }
+// The drill whose size the text spells.
+fn drill_of(subject: &str) -> Option<Mode>
+    ensures { result ≡ option_map Drill (size_spelled subject.now) }
 {
-    if text == "run" {
+    match size_spelled(subject) {
+        Some(size) => Some(Mode::Drill { size }),
+        None => None,
+    }
+}
+
+/// The mode with this name, where the word after it is the name of a file, or for a drill a size.
+pub fn mode_named(name: &str, subject: &str) -> Option<Mode>
+    ensures { result ≡ mode_named name.now subject.now }
+{
+    if name == "run" {
         return Some(Mode::Run);
     }
-    if text == "print" {
+    if name == "print" {
         return Some(Mode::Print);
     }
-    if text == "convert" {
+    if name == "convert" {
         return Some(Mode::Convert);
     }
-    if text == "check" {
+    if name == "check" {
         return Some(Mode::Check);
+    }
+    if name == "drill" {
+        return drill_of(subject);
     }
     None
 }
@@ -41,6 +60,7 @@ fn needs_other(mode: Mode) -> bool
     match mode {
         Mode::Run | Mode::Print | Mode::Convert => false,
         Mode::Check => true,
+        Mode::Drill { .. } => false,
     }
 }
 
@@ -51,15 +71,5 @@ pub fn has_other(mode: Mode, other: Option<&str>) -> bool
     match other {
         Some(_) => true,
         None => !needs_other(mode),
-    }
-}
-
-/// The mode that a word names; there is none without a word.
-pub fn mode_given(text: Option<&str>) -> Option<Mode>
-    ensures { result ≡ mode_given (option_map (λ t. t.now) text.entry) }
-{
-    match text {
-        Some(text) => mode_named(text),
-        None => None,
     }
 }

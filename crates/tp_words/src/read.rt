@@ -7,7 +7,7 @@ ghost use Rattle.clap.specs.Words.{first_of, found_of, kind_of, rows_of};
 ghost use Rattle.clap.specs.declared.error.kind.ErrorKind.TheVariants.{OutOfMemory};
 ghost use Rattle.tp_words.specs.Command.{wanted_by};
 ghost use Rattle.tp_words.specs.Limit.{greatest_limit, limit_set};
-ghost use Rattle.tp_words.specs.Mode.{has_other};
+ghost use Rattle.tp_words.specs.Mode.{has_other, HasSize};
 ghost use Rattle.tp_words.specs.Words.{is_text, wanted_in, wanted_of_texts, wanted_of};
 ghost use Rattle.tp_words.specs.declared.command.WordsRefusal.TheVariants as refusal;
 
@@ -15,7 +15,7 @@ use crate::app::the_app;
 use crate::beside::beside_given;
 use crate::command::{Command, WordsRefusal};
 use crate::limit::{USUAL_REDUCTIONS, USUAL_STATES, limit_set};
-use crate::mode::{has_other, mode_given};
+use crate::mode::{has_other, mode_named};
 use crate::order::order_set;
 use clap::error::ErrorKind;
 use clap::{ArgMatches, Error};
@@ -67,10 +67,13 @@ fn command_in(alloc: Global, matches: &ArgMatches<'_>) -> Result<Command, WordsR
     ensures refused { IfErr result (λ e. e ≡ refusal.Refused
         → wanted_in (rows_of (found_of matches.now)) ≡ None) }
 {
-    let Some(mode) = mode_given(given(matches, "mode")) else {
+    let Some(name) = given(matches, "mode") else {
         return Err(WordsRefusal::Refused);
     };
     let Some(file) = given(matches, "file") else {
+        return Err(WordsRefusal::Refused);
+    };
+    let Some(mode) = mode_named(name, file) else {
         return Err(WordsRefusal::Refused);
     };
     let Some(states) = limit_given(matches, "states", USUAL_STATES) else {
@@ -150,6 +153,7 @@ pub fn read_words(alloc: Global, words: &[Text]) -> Result<Command, WordsRefusal
     ensures reductions { IfOk result (λ c. IsInRange 1 greatest_limit c.reductions) }
     ensures other { IfOk result (λ c.
         has_other c.mode (option_map string_bytes c.other) ≡ true) }
+    ensures size { IfOk result (λ c. HasSize c.mode) }
 {
     let texts = texts_of(alloc, words)?;
     let command = command_of(alloc, texts.as_slice())?;

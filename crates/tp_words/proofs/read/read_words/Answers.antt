@@ -10,3 +10,6 @@ returns-clause-reductions c = (texts_limits _ (wanted_by c.in_ok-command.command
 
 pub returns-clause-other : goal.returns-clause-other
 returns-clause-other c = (texts_limits _ (wanted_by c.in_ok-command.command) c.in_ok-command.ensures.accepted).2
+
+pub returns-clause-size : goal.returns-clause-size
+returns-clause-size c = (texts_limits _ (wanted_by c.in_ok-command.command) c.in_ok-command.ensures.accepted).3
