@@ -2,7 +2,7 @@
 use Rattle.std.proofs.Common.{◌≡◌, ◌⊎◌, inl, inr, ℕ, List, ◌∷◌, Option, None, Some, refl, sym, ap, ◌∙◌, subst}
 use Rattle.tp_io.specs.Held.{Held, bytes_of}
 use Rattle.tp_words.specs.declared.mode.Mode.{Mode}
-use Rattle.tp_words.specs.declared.mode.Mode.TheVariants.{Run, Print, Convert, Check}
+use Rattle.tp_words.specs.declared.mode.Mode.TheVariants.{Run, Print, Convert, Check, Drill}
 use Rattle.tp_words.specs.Words.{Wanted, wanted_of}
 use Rattle.tp_call.specs.declared.status.Which.{Which}
 use Rattle.tp_call.specs.declared.status.Which.TheVariants.{Source, Inputs, Other}
@@ -47,6 +47,7 @@ source_found Print wanted Q P (inl (is, p)) = p
 source_found Print wanted Q P (inr (q, found)) = absurd found
 source_found Convert wanted Q P (inl (is, p)) = absurd (cc (is))
 source_found Convert wanted Q P (inr (q, found)) = absurd found
+source_found (Drill size) wanted Q P found = absurd found
 source_found Check wanted Q P (inl (is, p)) = p
 source_found Check wanted Q P (inr (q, found)) = absurd (none_there Source Other (λ e. cc (e)) wanted.other Q P found)
 
@@ -55,6 +56,7 @@ no_source_found : (mode : Mode) (wanted : Wanted) (Q : NamedFile → Type 0) (P 
 no_source_found Run wanted Q P e found = let bad : Run ≡ Convert = e in cc
 no_source_found Print wanted Q P e found = let bad : Print ≡ Convert = e in cc
 no_source_found Check wanted Q P e found = let bad : Check ≡ Convert = e in cc
+no_source_found (Drill size) wanted Q P e found = found
 no_source_found Convert wanted Q P e (inl (is, p)) = cc (is)
 no_source_found Convert wanted Q P e (inr (q, found)) = found
 
@@ -75,6 +77,7 @@ inputs_found Convert wanted Q P (inl (is, p)) = inr (refl, p)
 inputs_found Convert wanted Q P (inr (q, found)) = absurd found
 inputs_found Print wanted Q P (inl (is, p)) = absurd (cc (is))
 inputs_found Print wanted Q P (inr (q, found)) = absurd found
+inputs_found (Drill size) wanted Q P found = absurd found
 inputs_found Check wanted Q P (inl (is, p)) = absurd (cc (is))
 inputs_found Check wanted Q P (inr (q, found)) = absurd (none_there Inputs Other (λ e. cc (e)) wanted.other Q P found)
 
@@ -90,6 +93,7 @@ other_found Print wanted Q P (inl (is, p)) = absurd (cc (is))
 other_found Print wanted Q P (inr (q, found)) = absurd found
 other_found Convert wanted Q P (inl (is, p)) = absurd (cc (is))
 other_found Convert wanted Q P (inr (q, found)) = absurd found
+other_found (Drill size) wanted Q P found = absurd found
 other_found Check wanted Q P (inl (is, p)) = absurd (cc (is))
 other_found Check wanted Q P (inr (q, found)) = (refl, q, the_named Other wanted.other Q P found)
 

@@ -1,9 +1,9 @@
 -- What the last line of a text says, whatever the status is.
-use Rattle.std.proofs.Common.{◌≡◌, ◌<◌, ◌^◌, inl, inr, ℕ, true, false, List, [], ◌∷◌, ◌++◌, map, take, drop, All, Option, Some, codes, refl, sym, ap, ◌∙◌, subst, append_assoc, append-nil, arith}
+use Rattle.std.proofs.Common.{◌≡◌, ◌<◌, ◌^◌, inl, inr, ℕ, true, false, List, [], ◌∷◌, ◌++◌, length, map, take, drop, All, Option, Some, codes, refl, sym, ap, ◌∙◌, subst, append_assoc, append-nil, arith}
 use Rattle.std.specs.List.{flat_map}
 use Rattle.std.specs.Fmt.{decimal}
 use Rattle.std.specs.Option.{option_map}
-use Rattle.std.proofs.lemmas.List.{append_cancel_left, take-append-drop}
+use Rattle.std.proofs.lemmas.List.{append_cancel_left, take-append-drop, length-map}
 use Rattle.std.proofs.lemmas.List.Elements.{All-nil, All-cons, All-append, All-head, All-tail}
 use Rattle.tp_io.specs.Held.{Held, bytes_of}
 use Rattle.tp_kernel.specs.declared.fault.LimitKind.{LimitKind}
@@ -12,11 +12,12 @@ use Rattle.tp_store.specs.Known.{Variable}
 use Rattle.tp_show.specs.declared.turn.Picture.{Picture}
 use Rattle.tp_show.specs.declared.turn.Turn.{Turn}
 use Rattle.tp_show.specs.declared.turn.Turn.TheVariants as turn
-use Rattle.tp_show.specs.Line.{AreFactsOf, IsOneLine, fed_line}
+use Rattle.tp_show.specs.Line.{AreFactsOf, IsOneLine, fed_line, told_of}
 use Rattle.tp_show.specs.EndLine.{end_line}
-use Rattle.tp_show.specs.Told.{AreNames, IsPartOf}
+use Rattle.tp_show.specs.Told.{AreNames, IsPartOf, FitsIn64Bits}
 use Rattle.tp_show.specs.TraceLine.{opens_with_one}
 use Rattle.tp_show.specs.TraceOfRun.{PrintedState, printed_states_text}
+use Rattle.tp_show.proofs.EndPlaces.{number_read}
 use Rattle.tp_show.proofs.ToldLemmas.{parts_of_variables}
 use Rattle.tp_run.specs.States.{Plan}
 use Rattle.tp_run.specs.History.{RunEndsWith, Unsatisfiable, ContinuesEach}
@@ -37,7 +38,7 @@ use Rattle.tp_call.specs.Printed.{settled_text}
 use Rattle.tp_call.specs.Written.{Wrote}
 use Rattle.tp_call.specs.Text.{finished_line, SatisfiedAsTold}
 use Rattle.tp_call.specs.TracedText.{TracedState, IsTraceLine, IsTraced, TracedTextTells}
-use Rattle.tp_call.specs.LastLine.{finished_openings, refuting_openings, stopped_openings, last_openings, LineSays, EndsInLine, AsksForRun, LastLineSays}
+use Rattle.tp_call.specs.LastLine.{finished_openings, refuting_openings, stopped_openings, last_openings, state_limit_line, LineSays, EndsInLine, AsksForRun, LastLineSays}
 use Rattle.tp_call.specs.Answer.{RunsTo, Refuses, CallEnds, RunsOn, IsUnfinishedText, Answers}
 use Rattle.tp_call.proofs.FactLemmas.{run_facts, leads_facts}
 use Rattle.tp_call.proofs.NamesLemmas.{names_are}
@@ -64,18 +65,42 @@ module _ (plan : Plan) (ps : List Picture) (are : All (λ (p : Picture). AreFact
   no_finish : {X : Type 0} (line : List ℕ) (n : ℕ) → opens_with_one finished_openings line ≡ false → line ≡ finished_line n → X
   no_finish line n other is = never (sym other ∙ ap (opens_with_one finished_openings) is)
 
-  refutes : (line : List ℕ) → Unsatisfiable plan → opens_with_one finished_openings line ≡ false → opens_with_one stopped_openings line ≡ false → LineSays plan (told_all ps) line
-  refutes line none f s = record { finished = λ n fit is. no_finish line n f is; refuted = λ h. none; stopped = λ h. never (sym s ∙ h) }
+  -- and none of a run that stopped at the limit of states
+  abbrev limit_openings : List (List ℕ)
+  limit_openings = codes "state limit: " ∷ []
 
-  stops : (line : List ℕ) → ContinuesEach plan ps → opens_with_one finished_openings line ≡ false → opens_with_one refuting_openings line ≡ false → LineSays plan (told_all ps) line
-  stops line each f r = record { finished = λ n fit is. no_finish line n f is; refuted = λ h. never (sym r ∙ h); stopped = λ h. continues_told plan names ps are each }
+  no_state_limit : {X : Type 0} (line : List ℕ) (n : ℕ) → opens_with_one limit_openings line ≡ false → line ≡ state_limit_line n → X
+  no_state_limit line n other is = never (sym other ∙ ap (opens_with_one limit_openings) is)
+
+  refutes : (line : List ℕ) → Unsatisfiable plan → opens_with_one finished_openings line ≡ false → opens_with_one stopped_openings line ≡ false → opens_with_one limit_openings line ≡ false → LineSays plan (told_all ps) line
+  refutes line none f s l = record { finished = λ n fit is. no_finish line n f is; refuted = λ h. none; stopped = λ h. never (sym s ∙ h); state_limit_reached = λ n fit is. no_state_limit line n l is }
+
+  stops : (line : List ℕ) → ContinuesEach plan ps → opens_with_one finished_openings line ≡ false → opens_with_one refuting_openings line ≡ false → opens_with_one limit_openings line ≡ false → LineSays plan (told_all ps) line
+  stops line each f r l = record { finished = λ n fit is. no_finish line n f is; refuted = λ h. never (sym r ∙ h); stopped = λ h. continues_told plan names ps are each; state_limit_reached = λ n fit is. no_state_limit line n l is }
+
+  -- the last lines of two limits of states
+  limit_read : (m n : ℕ) → FitsIn64Bits m → FitsIn64Bits n → state_limit_line m ≡ state_limit_line n → m ≡ n
+  limit_read m n h k e = (number_read m n (codes "\n") (codes "\n") h k refl refl (ap (drop 13) e)).0
+
+  -- as many states were settled as there may be
+  fills : (count : ℕ) → plan.states < 2 ^ 64 → ContinuesEach plan ps → count ≡ length ps → count ≡ plan.states → Says (turn.StateLimit count)
+  fills count states each settled most =
+      let small : count < 2 ^ 64 = omega (arith, most, states) in
+      let line : line_of (turn.StateLimit count) ≡ state_limit_line count = append_assoc (codes "state limit: ") (decimal count) (codes "\n") in
+      let told : length (told_all ps) ≡ length ps = length-map ps told_of in
+      record {
+        finished = λ n fit is. no_finish (line_of (turn.StateLimit count)) n refl is;
+        refuted = λ h. never h;
+        stopped = λ h. continues_told plan names ps are each;
+        state_limit_reached = λ n fit is. let same : n ≡ count = limit_read n count fit small (sym is ∙ line) in (same ∙ (settled ∙ sym told), same ∙ most);
+      }
 
   limit_says : (state : ℕ) (kind : LimitKind) → ContinuesEach plan ps → Says (turn.Over state kind)
-  limit_says state limit.Reductions each = stops (line_of (turn.Over state limit.Reductions)) each refl refl
-  limit_says state limit.Number each = stops (line_of (turn.Over state limit.Number)) each refl refl
-  limit_says state limit.List each = stops (line_of (turn.Over state limit.List)) each refl refl
-  limit_says state limit.Calls each = stops (line_of (turn.Over state limit.Calls)) each refl refl
-  limit_says state limit.Nest each = stops (line_of (turn.Over state limit.Nest)) each refl refl
+  limit_says state limit.Reductions each = stops (line_of (turn.Over state limit.Reductions)) each refl refl refl
+  limit_says state limit.Number each = stops (line_of (turn.Over state limit.Number)) each refl refl refl
+  limit_says state limit.List each = stops (line_of (turn.Over state limit.List)) each refl refl refl
+  limit_says state limit.Calls each = stops (line_of (turn.Over state limit.Calls)) each refl refl refl
+  limit_says state limit.Nest each = stops (line_of (turn.Over state limit.Nest)) each refl refl refl
 
   pub line_says : (answer : Turn) → plan.states < 2 ^ 64 → RunEndsWith plan ps answer → EndSays plan ps answer → Says answer
   line_says turn.Went states end says = absurd says
@@ -88,11 +113,12 @@ module _ (plan : Plan) (ps : List Picture) (are : All (λ (p : Picture). AreFact
         finished = λ m fit is. subst (SatisfiedAsTold plan (told_all ps)) (finished_length n m small fit (sym line ∙ is)) (exactly_told plan names ps are n says.0);
         refuted = λ h. never h;
         stopped = λ h. never h;
+        state_limit_reached = λ m fit is. no_state_limit (line_of (turn.Finished n)) m refl is;
       }
-  line_says (turn.Contradictory state clash) states end says = refutes (line_of (turn.Contradictory state clash)) says refl refl
-  line_says (turn.Undetermined state cell) states end says = stops (line_of (turn.Undetermined state cell)) says refl refl
-  line_says (turn.StateLimit count) states end says = stops (line_of (turn.StateLimit count)) says refl refl
-  line_says (turn.InputMissing state port) states end says = refutes (line_of (turn.InputMissing state port)) says refl refl
+  line_says (turn.Contradictory state clash) states end says = refutes (line_of (turn.Contradictory state clash)) says refl refl refl
+  line_says (turn.Undetermined state cell) states end says = stops (line_of (turn.Undetermined state cell)) says refl refl refl
+  line_says (turn.StateLimit count) states end says = fills count states says end.2 end.3
+  line_says (turn.InputMissing state port) states end says = refutes (line_of (turn.InputMissing state port)) says refl refl refl
   line_says (turn.Over state kind) states end says = limit_says state kind says
 
 -- ---- the lines of states

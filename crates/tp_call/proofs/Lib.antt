@@ -25,3 +25,7 @@ pub mod EachRunLemmas
 pub mod OrderLemmas
 pub mod InOrderLemmas
 pub mod StatusLines
+pub mod SizedLemmas
+pub mod DrillLemmas
+pub mod DrillClauses
+pub mod WorkLemmas

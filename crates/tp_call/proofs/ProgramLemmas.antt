@@ -18,7 +18,7 @@ use Rattle.tp_check.proofs.Determined.{checks_once}
 use Rattle.tp_monitor.specs.WideOf.{NamedWide, wide_of_source}
 use Rattle.tp_call.specs.declared.status.Refused.{Refused}
 use Rattle.tp_words.specs.declared.mode.Mode.{Mode}
-use Rattle.tp_words.specs.declared.mode.Mode.TheVariants.{Run, Print, Convert, Check}
+use Rattle.tp_words.specs.declared.mode.Mode.TheVariants.{Run, Print, Convert, Check, Drill}
 use Rattle.tp_call.specs.Spelling.{IsReadFromSpelling}
 use Rattle.tp_call.specs.Source.{IsSourceText, IsProgram, IsWideText, IsOutsideGrammar, IsNotRun, IsNotWide, IsRefusedAt, lexer_refusal, parser_refusal, checker_refusal}
 
@@ -102,6 +102,18 @@ not_wide_once source r s x y =
     let equal : x.refusal ≡ y.refusal = cc in
     one_answer (checker_refusal source) x.refusal y.refusal r s equal x.answer y.answer
 
+-- a source that isn't run is refused for one cause
+not_run_once : (source : List ℕ) (r s : Refused) → IsRefusedAt Run source r → IsRefusedAt Run source s → r ≡ s
+not_run_once source r s (inl x) (inl y) = outside_once source r s x y
+not_run_once source r s (inl x) (inr y) = absurd (source_or_outside source y.tree r (source_not_run source s y) x)
+not_run_once source r s (inr x) (inl y) = absurd (source_or_outside source x.tree s (source_not_run source r x) y)
+not_run_once source r s (inr x) (inr y) =
+    let first : CheckOutcome ProgramTree = Err x.refusal in
+    let second : CheckOutcome ProgramTree = Err y.refusal in
+    let both : first ≡ second = checked_once source x.tree y.tree (Err x.refusal) (Err y.refusal) (source_not_run source r x) (source_not_run source s y) x.outcome y.outcome in
+    let equal : x.refusal ≡ y.refusal = cc in
+    one_answer (checker_refusal source) x.refusal y.refusal r s equal x.answer y.answer
+
 pub refused_once : (mode : Mode) (source : List ℕ) (r s : Refused) → IsRefusedAt mode source r → IsRefusedAt mode source s → r ≡ s
 refused_once Print source r s x y = outside_once source r s x y
 refused_once Convert source r s x y = absurd x
@@ -109,15 +121,8 @@ refused_once Check source r s (inl x) (inl y) = outside_once source r s x y
 refused_once Check source r s (inl x) (inr y) = absurd (source_or_outside source y.tree r y.is_source x)
 refused_once Check source r s (inr x) (inl y) = absurd (source_or_outside source x.tree s x.is_source y)
 refused_once Check source r s (inr x) (inr y) = not_wide_once source r s x y
-refused_once Run source r s (inl x) (inl y) = outside_once source r s x y
-refused_once Run source r s (inl x) (inr y) = absurd (source_or_outside source y.tree r (source_not_run source s y) x)
-refused_once Run source r s (inr x) (inl y) = absurd (source_or_outside source x.tree s (source_not_run source r x) y)
-refused_once Run source r s (inr x) (inr y) =
-    let first : CheckOutcome ProgramTree = Err x.refusal in
-    let second : CheckOutcome ProgramTree = Err y.refusal in
-    let both : first ≡ second = checked_once source x.tree y.tree (Err x.refusal) (Err y.refusal) (source_not_run source r x) (source_not_run source s y) x.outcome y.outcome in
-    let equal : x.refusal ≡ y.refusal = cc in
-    one_answer (checker_refusal source) x.refusal y.refusal r s equal x.answer y.answer
+refused_once Run source r s x y = not_run_once source r s x y
+refused_once (Drill size) source r s x y = not_run_once source r s x y
 
 pub one_program : (source : List ℕ) (p q : ProgramTree) → IsProgram source p → IsProgram source q → p ≡ q
 one_program source p q g h =

@@ -11,11 +11,11 @@ use Rattle.tp_show.specs.Told.{IsPictureInRange}
 use Rattle.tp_run.specs.States.{Plan, StateGoesOn, StatesLead}
 use Rattle.tp_run.specs.Standing.{Standing, open_at, answered, RunPlace, AnswersState, StateBecomes, state_after}
 use Rattle.tp_run.specs.Advances.{Advances}
-use Rattle.tp_run.proofs.HistoryLemmas.{lead_more, advance_by, index_next, index_first}
+use Rattle.tp_run.proofs.HistoryLemmas.{lead_more, advance_by, count_more, index_next, index_first}
 use Rattle.tp_call.specs.Printed.{written_state, states_text, lead_text, moment_with, next_moment}
 use Rattle.tp_call.specs.Written.{Wrote}
 use Rattle.tp_call.specs.Progress.{Turned, HasWritten}
-use Rattle.tp_call.proofs.TurnLemmas.{WentOn, carries_next, carries_nothing}
+use Rattle.tp_call.proofs.TurnLemmas.{carries_next, carries_nothing}
 use Rattle.tp_words.specs.declared.beside.Beside.{Beside}
 
 -- two writes, one after the other
@@ -66,34 +66,34 @@ advances plan beside from to before now answer picture h t =
     advance_by plan h.pictures h.next h.leads t.earlier picture to answer w.0 w.1
 
 -- no state was settled yet
-pub HasWritten-none : (plan : Plan) (beside : Beside) (from : RunPlace) (now : Option (List ℕ)) → from.standing ≡ open_at (first_moment plan.program.globals plan.program.main) → from.state ≡ 0 → HasWritten plan beside from now now
+abbrev pub HasWritten-none : (plan : Plan) (beside : Beside) (from : RunPlace) (now : Option (List ℕ)) → from.standing ≡ open_at (first_moment plan.program.globals plan.program.main) → from.state ≡ 0 → HasWritten plan beside from now now
 HasWritten-none plan beside from now stands count =
     record { pictures = []; next = first_moment plan.program.globals plan.program.main; stands = stands; count = count; leads = refl; wrote = Wrote-nothing now; range = All-nil IsPictureInRange }
 
--- one that goes on adds its text
-pub more_written : (plan : Plan) (beside : Beside) (from to : RunPlace) (before now after : Option (List ℕ)) (picture : Picture) → (h : HasWritten plan beside from before now) → (t : Turned plan from to turn.Went picture)
-    → Wrote now after (written_state beside plan.program picture (next_moment to))
-    → let a = advances plan beside from to before now turn.Went picture h t in Wrote before after (lead_text beside plan (h.pictures ++ picture ∷ []) a.0 a.2)
-more_written plan beside from to before now after picture h t wrote =
-    let w = answered_there plan beside from to before now turn.Went picture h t in
-    let next = w.0.0 in
-    let there : next_moment to ≡ Some next = next_there to (length h.pictures) next w.0.2 w.1 w.0.3 in
-    let text = text_more beside plan 0 (first_moment plan.program.globals plan.program.main) h.pictures h.next (length h.pictures) picture next (index_first h.pictures) h.leads w.0.1 in
-    let both = Wrote-both before now after _ _ h.wrote (subst (λ m. Wrote now after (written_state beside plan.program picture m)) there wrote) in
-    subst (Wrote before after) (sym text) both
+-- a state that goes on adds its text
+module _ (plan : Plan) (beside : Beside) (from to : RunPlace) (before now after : Option (List ℕ)) (earlier picture : Picture) (h : HasWritten plan beside from before now)
+    (w : StateBecomes plan (length h.pictures) h.next earlier picture to.standing to.store turn.Went) (number : to.state ≡ suc (length h.pictures))
+    (wrote : Wrote now after (written_state beside plan.program picture (next_moment to))) where
+  abbrev leads_more : StatesLead plan 0 (first_moment plan.program.globals plan.program.main) (h.pictures ++ picture ∷ []) w.0
+  leads_more = lead_more plan 0 (first_moment plan.program.globals plan.program.main) h.pictures h.next (length h.pictures) picture w.0 (index_first h.pictures) h.leads w.1
 
-pub HasWritten-more : (plan : Plan) (beside : Beside) (from to : RunPlace) (before now after : Option (List ℕ)) (picture : Picture) → HasWritten plan beside from before now → WentOn plan beside from to now after picture → HasWritten plan beside to before after
-HasWritten-more plan beside from to before now after picture h w =
-    let a = advances plan beside from to before now turn.Went picture h w.turned in
-    record {
-      pictures = h.pictures ++ picture ∷ [];
-      next = a.0;
-      stands = a.1;
-      count = a.3;
-      leads = a.2;
-      wrote = more_written plan beside from to before now after picture h w.turned w.wrote;
-      range = All-push IsPictureInRange h.pictures picture h.range w.range;
-    }
+  pub more_written : Wrote before after (lead_text beside plan (h.pictures ++ picture ∷ []) w.0 leads_more)
+  more_written =
+      let there : next_moment to ≡ Some w.0 = next_there to (length h.pictures) w.0 w.2 number w.3 in
+      let text = text_more beside plan 0 (first_moment plan.program.globals plan.program.main) h.pictures h.next (length h.pictures) picture w.0 (index_first h.pictures) h.leads w.1 in
+      let both = Wrote-both before now after _ _ h.wrote (subst (λ m. Wrote now after (written_state beside plan.program picture m)) there wrote) in
+      subst (Wrote before after) (sym text) both
+
+  abbrev pub written_more : IsPictureInRange picture → HasWritten plan beside to before after
+  written_more range = record {
+    pictures = h.pictures ++ picture ∷ [];
+    next = w.0;
+    stands = w.2;
+    count = count_more h.pictures picture to.state number;
+    leads = leads_more;
+    wrote = more_written;
+    range = All-push IsPictureInRange h.pictures picture h.range range;
+  }
 
 -- a run goes on to the next number, as long as there may be more states
 pub record NextState (plan : Plan) (from to : RunPlace) : Type 0 where

@@ -14,7 +14,7 @@ use Rattle.tp_call.specs.declared.status.Which.TheVariants.{Source, Inputs, Othe
 use Rattle.tp_tree.specs.Tree.{SourceTree}
 use Rattle.tp_tree.specs.Spelling.{source_spelling}
 use Rattle.tp_words.specs.declared.mode.Mode.{Mode}
-use Rattle.tp_words.specs.declared.mode.Mode.TheVariants.{Run, Print, Convert, Check}
+use Rattle.tp_words.specs.declared.mode.Mode.TheVariants.{Run, Print, Convert, Check, Drill}
 use Rattle.tp_words.specs.Words.{Wanted, wanted_of}
 use Rattle.std.specs.Str.Lines.{lines}
 use Rattle.tp_meaning.specs.Inputs.{InputTable}
@@ -171,7 +171,8 @@ HasManyStates states bytes =
 
 -- What a mode needs of a file that it reads, to go on: to run, the source is a program, and the
 -- inputs are a table; to print, the source is one of the grammar; to convert, the inputs are a
--- table; to check, the source is a wider formula, and the other file is a trace.
+-- table; to check, the source is a wider formula, and the other file is a trace. To drill, none is
+-- read.
 abbrev pub Serves : Mode → Which → List ℕ → Type 0
 Serves Run Source bytes = (program : ProgramTree) × HoldsProgram program bytes
 Serves Run Inputs bytes = (table : InputTable) × HoldsTable table bytes
@@ -185,6 +186,9 @@ Serves Convert Other bytes = ⊥
 Serves Check Source bytes = (wide : NamedWide) × HoldsWide wide bytes
 Serves Check Inputs bytes = ⊥
 Serves Check Other bytes = (trace : List (List NamedFact)) × HoldsTrace trace bytes
+Serves (Drill size) Source bytes = ⊥
+Serves (Drill size) Inputs bytes = ⊥
+Serves (Drill size) Other bytes = ⊥
 
 -- The words are accepted, and this file is one that their mode reads: it has P for what is to be
 -- done with it, and each one that is read before it serves the mode. `Tells` says how this is said

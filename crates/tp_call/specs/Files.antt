@@ -1,7 +1,7 @@
 -- The files that a call reads.
 use Rattle.std.specs.Prelude.{◌≡◌, ◌⊎◌, ℕ, List, [], ◌∷◌, Option, None, Some}
 use Rattle.tp_words.specs.declared.mode.Mode.{Mode}
-use Rattle.tp_words.specs.declared.mode.Mode.TheVariants.{Run, Print, Convert, Check}
+use Rattle.tp_words.specs.declared.mode.Mode.TheVariants.{Run, Print, Convert, Check, Drill}
 use Rattle.tp_words.specs.Words.{Wanted, wanted_of}
 use Rattle.tp_call.specs.declared.status.Which.{Which}
 use Rattle.tp_call.specs.declared.status.Which.TheVariants.{Source, Inputs, Other}
@@ -21,12 +21,13 @@ files_named which (Some name) = file_named which name ∷ []
 
 -- The files that a mode reads, in order: to run, the source, and then the inputs where they are
 -- named; to print, the source; to convert, the inputs; to check, the source, and then the other
--- file.
+-- file; to drill, none.
 abbrev pub files_read : Mode → Wanted → List NamedFile
 files_read Run wanted = file_named Source wanted.file ∷ files_named Inputs wanted.inputs
 files_read Print wanted = file_named Source wanted.file ∷ []
 files_read Convert wanted = file_named Inputs wanted.file ∷ []
 files_read Check wanted = file_named Source wanted.file ∷ files_named Other wanted.other
+files_read (Drill size) wanted = []
 
 -- those of the mode that words ask for; of words that are refused, none
 abbrev pub files_wanted : Option Wanted → List NamedFile

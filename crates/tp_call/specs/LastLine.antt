@@ -1,5 +1,6 @@
 -- What the last line of a text says to whoever has the text alone, whatever the status is.
-use Rattle.std.specs.Prelude.{◌≡◌, ℕ, true, List, [], ◌∷◌, ◌++◌, All, Option, Some, codes}
+use Rattle.std.specs.Prelude.{◌≡◌, ℕ, true, List, [], ◌∷◌, ◌++◌, length, All, Option, Some, codes}
+use Rattle.std.specs.Fmt.{decimal}
 use Rattle.std.specs.List.{flat_map}
 use Rattle.tp_io.specs.Held.{Held}
 use Rattle.tp_show.specs.Line.{ToldState, IsOneLine, fed_line}
@@ -31,15 +32,22 @@ stopped_openings =
 abbrev pub last_openings : List (List ℕ)
 last_openings = finished_openings ++ (refuting_openings ++ stopped_openings)
 
+-- the last line of a run that stopped at this limit of states
+abbrev pub state_limit_line : ℕ → List ℕ
+state_limit_line n = codes "state limit: " ++ decimal n ++ codes "\n"
+
 -- What the last line says by what it begins with, and the lines before it tell this of the states.
 -- Finished with a length: an interval satisfies the program and shows S exactly where it has this
 -- length, agrees with what is told, and S is what is told to be shown. Contradictory, or an input
 -- that is missing: no interval satisfies the program. Else: each one that does begins with what is
--- told, and has more states.
+-- told, and has more states; and at the limit of states, as many are told as there may be.
 pub record LineSays (plan : Plan) (told : List ToldState) (line : List ℕ) : Type 0 where
   pub finished : (n : ℕ) → FitsIn64Bits n → line ≡ finished_line n → SatisfiedAsTold plan told n
   pub refuted : opens_with_one refuting_openings line ≡ true → Unsatisfiable plan
   pub stopped : opens_with_one stopped_openings line ≡ true → ContinuesTold plan told
+  -- the number in the line is how many states are told, and the limit on them
+  pub state_limit_reached : (n : ℕ) → FitsIn64Bits n → line ≡ state_limit_line n
+      → (n ≡ length told) × (n ≡ plan.states)
 
 -- the text is lines, each with its line feed, and this is the last one
 pub record EndsInLine (text line : List ℕ) : Type 0 where

@@ -13,6 +13,8 @@ pub mod Progress
 pub mod Places
 pub mod Text
 pub mod EveryOrder
+pub mod Drill
+pub mod Drilled
 pub mod Trace
 pub mod TracedText
 pub mod LastLine
@@ -21,4 +23,5 @@ pub mod Asked
 pub mod Headline
 pub mod EachRun
 pub mod InOrder
+pub mod Work
 pub mod StatusesTold

@@ -17,7 +17,7 @@ use Rattle.tp_check.specs.declared.refusal.CheckRefusal.{CheckRefusal}
 use Rattle.tp_check.specs.declared.refusal.CheckRefusal.TheVariants as check
 use Rattle.tp_monitor.specs.WideOf.{NamedWide, wide_of_source}
 use Rattle.tp_words.specs.declared.mode.Mode.{Mode}
-use Rattle.tp_words.specs.declared.mode.Mode.TheVariants.{Run, Print, Convert, Check}
+use Rattle.tp_words.specs.declared.mode.Mode.TheVariants.{Run, Print, Convert, Check, Drill}
 use Rattle.tp_call.specs.declared.status.SourceKind.{SourceKind}
 use Rattle.tp_call.specs.declared.status.SourceKind.TheVariants.{BadByte, OpenComment, NumberTooLarge, NameTooLong, Unexpected, Unfinished, TooDeep, DefinedTwice, UnknownName, WrongCount, NotExpression, NotPlace, NotPort, NotExecutable}
 use Rattle.tp_call.specs.declared.status.Refused.{Refused}
@@ -117,8 +117,10 @@ IsOutsideGrammar source refused = HasNoTokens source refused ⊎ HasNoTree sourc
 -- This text is refused at this place, for this cause: to be printed it has to be a source of the
 -- grammar, and to be run it has to be a program, for which it is checked last; to check a trace by
 -- it, it has to be a wider formula, which is looked at last. To convert inputs, no source is read.
+-- A drill runs a source that no file holds.
 abbrev pub IsRefusedAt : Mode → List ℕ → Refused → Type 0
 IsRefusedAt Print source refused = IsOutsideGrammar source refused
 IsRefusedAt Convert source refused = ⊥
 IsRefusedAt Run source refused = IsOutsideGrammar source refused ⊎ IsNotRun source refused
 IsRefusedAt Check source refused = IsOutsideGrammar source refused ⊎ IsNotWide source refused
+IsRefusedAt (Drill size) source refused = IsOutsideGrammar source refused ⊎ IsNotRun source refused

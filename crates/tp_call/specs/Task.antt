@@ -1,5 +1,5 @@
 -- What a call has to do.
-use Rattle.std.specs.Prelude.{◌≡◌, ◌<◌, ◌^◌, ℕ, List, Option, Some}
+use Rattle.std.specs.Prelude.{◌≡◌, ◌≤◌, ◌<◌, ◌^◌, ℕ, List, Option, Some}
 use Rattle.tp_io.specs.Held.{Held}
 use Rattle.tp_tree.specs.Read.{source_tree}
 use Rattle.tp_meaning.specs.Fits.{ProgramFits}
@@ -17,6 +17,8 @@ use Rattle.tp_words.specs.Words.{Wanted, wanted_of}
 use Rattle.tp_call.specs.declared.run.Task.{Task}
 use Rattle.tp_call.specs.declared.job.Job.{Job}
 use Rattle.tp_call.specs.declared.job.Job.TheVariants as job
+use Rattle.tp_call.specs.declared.drill.Drill.{Drill}
+use Rattle.tp_call.specs.Drill.{AsksForDrill}
 use Rattle.tp_call.specs.Spelling.{IsReadFromSpelling}
 use Rattle.tp_call.specs.Answer.{IsAskedFor, IsAskedToPrint, IsAskedToConvert, IsJudged}
 use Rattle.tp_words.specs.declared.beside.Beside.{Beside}
@@ -49,7 +51,17 @@ pub record IsTaskFor (words : List (List ℕ)) (held : Option Held) (task : Task
   pub beside : WritesBesideAsAsked words task.beside
   pub order : OrdersAsAsked words task.order
 
--- the words ask for this task, to print this source, to convert these inputs, or for this verdict
+-- The words ask for this drill.
+pub record IsDrillFor (words : List (List ℕ)) (drill : Drill) : Type 0 where
+  pub asks : AsksForDrill words drill.size
+  pub states : drill.limits.states ≡ asks.wanted.states
+  pub reductions : drill.limits.reductions ≡ asks.wanted.reductions
+  pub order : drill.order ≡ asks.wanted.order
+  pub some : 1 ≤ drill.size
+  pub few : drill.size ≤ 5000
+
+-- the words ask for this task, to print this source, to convert these inputs, for this verdict, or
+-- for this drill
 abbrev pub IsJobFor : List (List ℕ) → Option Held → Job → Type 0
 IsJobFor words held (job.Run task) = IsTaskFor words held task
 IsJobFor words held (job.Print source) =
@@ -58,3 +70,4 @@ IsJobFor words held (job.Convert inputs) =
     IsAskedToConvert words held (inputs_of inputs)
     × IsInputsText (converted (inputs_of inputs)) (inputs_of inputs)
 IsJobFor words held (job.Check verdict) = IsJudged words held (verdict_of verdict)
+IsJobFor words held (job.Drill drill) = IsDrillFor words drill

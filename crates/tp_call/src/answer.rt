@@ -10,12 +10,14 @@ ghost use Rattle.tp_inputs.specs.Read.{inputs_of};
 ghost use Rattle.tp_inputs.specs.Converted.{converted};
 ghost use Rattle.tp_inputs.specs.Table.{IsInputsText};
 ghost use Rattle.tp_call.specs.Asked.{AsksOnly};
-ghost use Rattle.tp_call.specs.Answer.{inputs_limit, WhereTold, HoldsProgram, HasInputs, IsAskedFor, Answers};
+ghost use Rattle.tp_call.specs.Answer.{inputs_limit, WhereTold, HoldsProgram, HasInputs, IsAskedFor, IsEndOfRun, Answers};
 ghost use Rattle.tp_call.specs.Reading.{AsksFile, AsksTable};
 ghost use Rattle.tp_call.specs.Task.{plan_of, AsksFor, WritesBesideAsAsked, OrdersAsAsked, IsTaskFor, IsJobFor};
 ghost use Rattle.tp_words.specs.declared.mode.Mode.TheVariants.{Run};
 ghost use Rattle.tp_call.specs.Parts.{IsReadRefusal, IsSourceRefusal, IsTableRefusal, IsInputsEnd, IsProgramRefusal};
+ghost use Rattle.tp_call.specs.Drill.{AsksNoDrill, DrillSays};
 ghost use Rattle.tp_call.specs.InOrder.{StatusInOrder, FailsInOrder};
+ghost use Rattle.tp_call.specs.Work.{WorksThriftily};
 ghost use Rattle.tp_call.specs.Progress.{line_of_end, ClosesAnswer, ClosesRun};
 ghost use Rattle.tp_show.specs.Told.{AreNames, IsLastTurn};
 
@@ -23,6 +25,7 @@ use crate::checking::{verdict_for, write_verdict};
 use crate::close::{close, refuse};
 use crate::command::command_for;
 use crate::converting::write_inputs;
+use crate::drill::{Drill, run_drill};
 use crate::job::Job;
 use crate::printing::{parse_source, print_source, read_tree};
 use crate::refused::{by_checker, refusal_status};
@@ -43,8 +46,8 @@ use tp_words::{Command, Mode};
 // The greatest length of a file of inputs, in bytes.
 const INPUTS_LIMIT: usize = 16_777_216;
 
-// Reads a program from its source.
-fn read_program(alloc: Global, source: &[u8]) -> Result<Program, Status>
+/// Reads a program from its source.
+pub fn read_program(alloc: Global, source: &[u8]) -> Result<Program, Status>
     requires { length source.now ≤ source_limit }
     ensures program { IfOk result (λ p. IsProgram source.now (program_tree p)) }
     ensures fits { IfOk result (λ p. ProgramFits (program_tree p)) }
@@ -94,8 +97,8 @@ fn table_of(alloc: Global, text: &[u8]) -> Result<Inputs, Status>
     }
 }
 
-// The table of inputs where no file is named.
-fn no_inputs(alloc: Global) -> Result<Inputs, Status>
+/// The table of inputs where no file is named.
+pub fn no_inputs(alloc: Global) -> Result<Inputs, Status>
     ensures table { IfOk result (λ t. inputs_of t ≡ []) }
     ensures refused { IfErr result (λ status. status ≡ Status.NoMemory) }
 {
@@ -187,6 +190,21 @@ fn task_for<F: Files>(alloc: Global, command: &Command, files: &mut F) -> Result
     })
 }
 
+// What is run in a drill of this size.
+fn drill_for(command: &Command, size: u64) -> Drill
+    ensures size { result.size ≡ size }
+    ensures states { result.limits.states ≡ command.now.states }
+    ensures reductions { result.limits.reductions ≡ command.now.reductions }
+    ensures order { result.order ≡ command.now.order }
+{
+    let order = command.order;
+    Drill {
+        size,
+        limits: limits_of(command),
+        order,
+    }
+}
+
 // Reads the words, and what they ask for.
 fn job_for<F: Files>(alloc: Global, words: &[Text], files: &mut F) -> Result<Job, Status>
     ensures job { IfOk result (IsJobFor words.now (F.held files.old)) }
@@ -204,6 +222,7 @@ fn job_for<F: Files>(alloc: Global, words: &[Text], files: &mut F) -> Result<Job
         Mode::Print => Ok(Job::Print(read_tree(alloc, command.file.as_str(), files)?)),
         Mode::Check => Ok(Job::Check(verdict_for(alloc, &command, files)?)),
         Mode::Convert => Ok(Job::Convert(read_table(alloc, command.file.as_str(), files)?)),
+        Mode::Drill { size } => Ok(Job::Drill(drill_for(&command, size))),
     }
 }
 
@@ -237,8 +256,8 @@ fn close_run<K: Sink>(alloc: Global, line: &[u8], turn: Turn, out: &mut K) -> St
     }
 }
 
-// The end of a run, where a state has at most so many reductions.
-fn finish<K: Sink>(alloc: Global, ended: Ended, reductions: u64, out: &mut K) -> Status
+/// Writes the end line of a run, where a state has at most so many reductions.
+pub fn finish<K: Sink>(alloc: Global, ended: Ended, reductions: u64, out: &mut K) -> Status
     requires { IsLastTurn ended.turn }
     ensures written { ClosesRun reductions ended (K.written out.old) (K.written out.new) result }
     ensures later { K.faults out.old ≤ K.faults out.new }
@@ -262,6 +281,10 @@ fn run_whole<K: Sink, L: Ledger>(
     ensures answer { (words : List (List ℕ)) (held : Option Held) → IsTaskFor words held task
         → Answers words held (K.written out.old) (K.written out.new) result }
     ensures in_order { StatusInOrder (plan_of task) task.order result }
+    ensures work { (words : List (List ℕ)) (held : Option Held) → IsTaskFor words held task
+        → IsEndOfRun result
+        → WorksThriftily words held (K.written out.old) (K.written out.new) result steps.old
+        steps.new }
     ensures write_fault { result ≡ Status.WriteFault
         → Rose K.greatest (K.faults out.old) (K.faults out.new) }
     ensures read { (which : Which) → result ≢ Status.ReadFault which }
@@ -282,9 +305,14 @@ pub fn call<F: Files, K: Sink, L: Ledger>(
     out: &mut K,
     steps: &mut Steps<L>,
 ) -> Status
-    ensures answer { Answers words.now (F.held files.old) (K.written out.old) (K.written out.new)
-        result }
+    ensures answer { AsksNoDrill words.now
+        → Answers words.now (F.held files.old) (K.written out.old) (K.written out.new) result }
+    ensures drill { DrillSays words.now (K.written out.old) (K.written out.new)
+        steps.old steps.new result }
     ensures named_in_order { FailsInOrder words.now (F.held files.old) result }
+    ensures work { AsksNoDrill words.now → IsEndOfRun result
+        → WorksThriftily words.now (F.held files.old) (K.written out.old) (K.written out.new)
+        result steps.old steps.new }
     ensures asked { AsksOnly words.now (F.held files.old) (F.asked files.old) (F.asked files.new)
         (λ which. result ≡ Status.ReadFault which) }
     ensures held { F.held files.new ≡ F.held files.old }
@@ -298,6 +326,7 @@ pub fn call<F: Files, K: Sink, L: Ledger>(
         Ok(Job::Print(source)) => print_source(alloc, &source, out),
         Ok(Job::Convert(inputs)) => write_inputs(alloc, &inputs, out),
         Ok(Job::Check(verdict)) => write_verdict(alloc, verdict, out),
+        Ok(Job::Drill(drill)) => run_drill(alloc, drill, out, steps),
         Err(status) => refuse(alloc, status, out),
     }
 }

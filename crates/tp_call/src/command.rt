@@ -1,7 +1,7 @@
 // What the words ask for.
 ghost use Rattle.std.specs.Prelude.{◌≡◌, true, Some, IfOk, IfErr, option_map, string_bytes};
 ghost use Rattle.tp_words.specs.Command.{wanted_by};
-ghost use Rattle.tp_words.specs.Mode.{has_other};
+ghost use Rattle.tp_words.specs.Mode.{has_other, HasSize};
 ghost use Rattle.tp_words.specs.Words.{wanted_of};
 ghost use Rattle.tp_call.specs.Parts.{IsWordsRefusal};
 
@@ -16,6 +16,7 @@ pub fn command_for(alloc: Global, words: &[Text]) -> Result<Command, Status>
     ensures refused { IfErr result (IsWordsRefusal words.now) }
     ensures other { IfOk result (λ c.
         has_other c.mode (option_map string_bytes c.other) ≡ true) }
+    ensures size { IfOk result (λ c. HasSize c.mode) }
 {
     match read_words(alloc, words) {
         Ok(command) => Ok(command),

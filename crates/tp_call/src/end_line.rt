@@ -8,8 +8,8 @@ use itoa::Buffer;
 use std::alloc::Global;
 use tp_value::{NoMemory, Text};
 
-// Appends some words and then a number.
-fn append_counted(out: &mut Text, words: &[u8], n: u64) -> Result<(), NoMemory>
+/// Appends some words and then a number.
+pub fn append_counted(out: &mut Text, words: &[u8], n: u64) -> Result<(), NoMemory>
     ensures { OnOk result (out.new ≡ out.old ++ (words.now ++ decimal n)) }
 {
     let mut buffer = Buffer::new();

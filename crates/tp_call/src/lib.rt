@@ -7,6 +7,7 @@ mod checking;
 mod close;
 mod command;
 mod converting;
+mod drill;
 mod end_line;
 mod job;
 mod laws;

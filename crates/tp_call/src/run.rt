@@ -1,5 +1,6 @@
 // Running a program, and writing its states.
 ghost use Rattle.std.specs.Prelude.{◌≡◌, ◌≤◌, ◌++◌, true, IfOk, IsErr, IsErrOf, OnOk};
+ghost use Rattle.tp_scene.specs.Pick.{Moment};
 ghost use Rattle.tp_io.specs.Devices.{Writes};
 ghost use Rattle.tp_io.specs.Held.{Rose};
 ghost use Rattle.tp_kernel.specs.Read.{formula_tree};
@@ -17,6 +18,7 @@ ghost use Rattle.tp_call.specs.Run.{limit_end, last_answer as last_by, status_of
 ghost use Rattle.tp_call.specs.Progress.{TurnMade, ProgramMade, printed_lines, is_settled as is_settled_by};
 ghost use Rattle.tp_call.specs.Places.{StandsOpen, CarriesDue};
 ghost use Rattle.tp_call.specs.InOrder.{NamesInOrder, LastInOrder};
+ghost use Rattle.tp_call.specs.Work.{StateWorked, WorkEnded};
 ghost use Rattle.tp_call.specs.Printed.{written_state, next_moment};
 
 use crate::status::Status;
@@ -99,8 +101,8 @@ fn limit_status(state: u64, limit: LimitKind) -> Status
     }
 }
 
-// Whether a state was settled with this answer.
-fn is_settled(turn: &Turn) -> bool
+/// Whether a state was settled with this answer.
+pub fn is_settled(turn: &Turn) -> bool
     ensures { result ≡ is_settled_by turn.now }
 {
     match turn {
@@ -141,8 +143,8 @@ fn write_settled<K: Sink>(
     }
 }
 
-// The answer with which a run ends; it goes on with `Went`.
-fn last_answer(turn: Turn) -> Option<Turn>
+/// The answer with which a run ends; it goes on with `Went`.
+pub fn last_answer(turn: Turn) -> Option<Turn>
     ensures { result ≡ last_by turn }
 {
     match turn {
@@ -187,6 +189,11 @@ fn make_state<K: Sink, L: Ledger>(
     ensures order { order_of run.new ≡ order_of run.old }
     ensures in_order { IfOk result (λ last. (plan : Plan) → IsRunOf plan run.old
         → LastInOrder plan (order_of run.old) (standing_place run.old) last) }
+    ensures worked { IfOk result (λ last. (plan : Plan) (m : Moment) → IsRunOf plan run.old
+        → standing_of run.old ≡ open_at m
+        → StateWorked plan beside (order_of run.old) m (standing_place run.old)
+        (standing_place run.new) (K.written out.old) (K.written out.new) steps.old steps.new
+        last) }
     ensures later { K.faults out.old ≤ K.faults out.new }
     ensures cause { IsErrOf result WriteRefusal.Failed
         → Rose K.greatest (K.faults out.old) (K.faults out.new) }
@@ -206,8 +213,8 @@ pub struct Task {
     pub beside: Beside,
 }
 
-// A run of the task, before its first state.
-fn start(alloc: Global, task: Task) -> Result<Run, NoMemory>
+/// A run of the task, before its first state.
+pub fn start(alloc: Global, task: Task) -> Result<Run, NoMemory>
     requires { ProgramFits (program_tree task.program) }
     ensures stands { IfOk result (λ run.
         standing_of run
@@ -245,6 +252,9 @@ pub fn run_task<K: Sink, L: Ledger>(
     ensures made { ProgramMade (plan_of task) task.beside (K.written out.old) (K.written out.new)
         result }
     ensures in_order { IfOk result (λ ended. NamesInOrder (plan_of task) task.order ended.turn) }
+    ensures work { IfOk result
+        (WorkEnded (plan_of task) task.beside task.order (K.written out.old) (K.written out.new)
+        steps.old steps.new) }
     ensures later { K.faults out.old ≤ K.faults out.new }
     ensures cause { IsErrOf result WriteRefusal.Failed
         → Rose K.greatest (K.faults out.old) (K.faults out.new) }

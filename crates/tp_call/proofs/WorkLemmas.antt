@@ -1,0 +1,312 @@
+-- What a run tried, state by state.
+use Rattle.std.proofs.Common.{◌≡◌, ◌+◌, ◌≤◌, ◌<◌, inl, inr, ℕ, true, suc, List, [], ◌∷◌, ◌++◌, length, Option, Some, None, refl, ap, sym, ◌∙◌, subst, arith}
+use Rattle.std.proofs.Math.Path.{path_j, subst_refl}
+use Rattle.std.proofs.Math.Nat.{eq-or-lt_of_le}
+use Rattle.std.proofs.lemmas.List.{append-nil}
+use Rattle.std.proofs.lemmas.List.Sums.{sum_by_push}
+use Rattle.tp_io.specs.Held.{Held}
+use Rattle.tp_kernel.specs.declared.fault.LimitKind.{LimitKind}
+use Rattle.tp_store.specs.Known.{Contents}
+use Rattle.tp_scene.specs.declared.answer.Cell.{Cell}
+use Rattle.tp_scene.specs.declared.answer.Clash.{Clash}
+use Rattle.tp_scene.specs.Pick.{Moment}
+use Rattle.tp_scene.specs.Beginning.{first_moment}
+use Rattle.tp_scene.specs.Replay as replay
+use Rattle.tp_step.specs.declared.answer.Tally.{Tally}
+use Rattle.tp_step.specs.declared.order.Order.{Order}
+use Rattle.tp_step.specs.declared.ending.Ending.{Ending}
+use Rattle.tp_step.specs.declared.ending.Ending.TheVariants as ending
+use Rattle.tp_meaning.specs.Interval.{ProgramTree}
+use Rattle.tp_show.specs.declared.turn.Picture.{Picture}
+use Rattle.tp_show.specs.declared.turn.Turn.{Turn}
+use Rattle.tp_show.specs.declared.turn.Turn.TheVariants as turn
+use Rattle.tp_show.specs.EndLine.{end_line}
+use Rattle.tp_show.specs.Told.{IsPictureInRange, IsLastTurn}
+use Rattle.tp_run.specs.States.{Plan, setting, StateGoesOn, StatesLead, ReachesLimit, limit_moment}
+use Rattle.tp_run.specs.PicksOfRun.{limit_picks, beginning_of}
+use Rattle.tp_run.specs.History.{RunEndsWith, end_store}
+use Rattle.tp_run.specs.Runs.{program_of, store_of}
+use Rattle.tp_run.specs.Standing.{RunPlace, Standing, open_at, AnswersState, StateBecomes, state_after}
+use Rattle.tp_run.specs.Tried.{recorded_tries, ClosesThriftily, IsTallyOf, CountsStateTries, BeginsNoState}
+use Rattle.tp_run.proofs.HistoryLemmas.{goes_there, lead_more, index_there, index_next, index_first}
+use Rattle.tp_call.specs.declared.run.Ended.{Ended}
+use Rattle.tp_call.specs.declared.run.Task.{Task}
+use Rattle.tp_call.specs.declared.status.Status.{Status}
+use Rattle.tp_call.specs.declared.status.Status.TheVariants.{WriteFault, NoMemory}
+use Rattle.tp_call.specs.Run.{last_answer, RunEnds}
+use Rattle.tp_call.specs.Task.{plan_of, IsTaskFor}
+use Rattle.tp_call.specs.Answer.{IsEndOfRun, run_text}
+use Rattle.tp_call.specs.Parts.{ClosesText}
+use Rattle.tp_call.specs.Printed.{written_state, lead_text, ended_text, next_moment}
+use Rattle.tp_call.specs.Progress.{is_settled, printed_lines, ClosesRun}
+use Rattle.tp_call.specs.Work.{AreTalliesOf, AreTalliesTo, AreTalliesOfRun, all_tries, RunTried, WorksThriftily, StateTried, StateWorked, HasWorked, WorkEnded}
+use Rattle.tp_call.specs.Written.{Wrote}
+use Rattle.tp_call.proofs.TurnLemmas.{last_is_given, is_last}
+use Rattle.tp_call.proofs.RunLemmas.{Wrote-both, HasWritten-none, written_more, no_next}
+use Rattle.tp_call.proofs.OrderLemmas.{closes_with}
+use Rattle.tp_words.specs.declared.beside.Beside.{Beside}
+
+-- what holds of a value holds of it told of another name
+kept_along : {A : Type 0} (P : A → Type 0) (Q : (x : A) → P x → Type 0) {x y : A} (e : x ≡ y) (u : P x) → Q x u → Q y (subst P e u)
+kept_along P Q {x} e u q = path_j (λ y e. Q y (subst P e u)) (subst (Q x) (sym (subst_refl P u)) q) e
+
+module _ (plan : Plan) (order : Order) where
+  -- a state that goes on was closed so
+  abbrev pub Closed : (n : ℕ) (r : Moment) (p : Picture) (next : Moment) → Tally → StateGoesOn plan n r p next → Type 0
+  Closed n r p next t g = ClosesThriftily (setting plan n) order plan.reductions r g.last g.picks ending.Rest t
+
+  closed_there : (n k : ℕ) (r m : Moment) (p : Picture) (next : Moment) (e : k ≡ n) (h : m ≡ r) (g : StateGoesOn plan k m p next) (t : Tally) → Closed k m p next t g → Closed n r p next t (goes_there plan n k r m p next e h g)
+  closed_there n k r m p next e h g t c =
+      let here = kept_along (λ z. StateGoesOn plan k z p next) (λ z. Closed k z p next t) h g c in
+      kept_along (λ i. StateGoesOn plan i r p next) (λ i. Closed i r p next t) e (subst (λ (z : Moment). StateGoesOn plan k z p next) h g) here
+
+  -- one more state, with its tally
+  pub tallies_more : (n : ℕ) (r : Moment) (ps : List Picture) (m : Moment) (k : ℕ) (p : Picture) (next : Moment) (e : k ≡ length ps + n) (h : StatesLead plan n r ps m) (g : StateGoesOn plan k m p next) (ts : List Tally) (t : Tally)
+      → AreTalliesOf plan order n r ps m h ts → Closed k m p next t g → AreTalliesOf plan order n r (ps ++ p ∷ []) next (lead_more plan n r ps m k p next e h g) (ts ++ t ∷ [])
+  tallies_more n r [] m k p next e h g [] t led c = (closed_there n k r m p next (index_there k n e) h g t c, refl)
+  tallies_more n r [] m k p next e h g (x ∷ ts) t led c = absurd (cc)
+  tallies_more n r (q ∷ ps) m k p next e h g [] t led c = absurd led
+  tallies_more n r (q ∷ ps) m k p next e h g (x ∷ ts) t led c = (led.0, tallies_more (suc n) h.0 ps m k p next (index_next k (length ps) n e) h.2 g ts t led.1 c)
+
+-- what a call answers where the run stands before this moment
+pub answers_from : (plan : Plan) (from to : RunPlace) (m : Moment) (earlier picture : Picture) (answer : Turn) → from.standing ≡ open_at m → AnswersState plan from earlier picture to answer
+    → StateBecomes plan from.state m earlier picture to.standing to.store answer × (to.state ≡ state_after from.state answer)
+answers_from plan from to m earlier picture answer stands a =
+    let place : RunPlace = record { standing = open_at m; state = from.state; store = from.store } in
+    let there : RunPlace → Type 0 = λ p. AnswersState plan p earlier picture to answer in
+    let make : Standing → RunPlace = λ z. record { standing = z; state = from.state; store = from.store } in
+    let same : from ≡ place = ap make stands in
+    let answers : there place = subst there same a in
+    answers
+
+-- where the run stands before this moment, its state is begun and tried, or there is none left
+module _ (plan : Plan) (beside : Beside) (order : Order) (from to : RunPlace) (m : Moment) (stands : from.standing ≡ open_at m) (earlier picture : Picture) (answer : Turn) (answers : AnswersState plan from earlier picture to answer) (old new : ℕ) where
+  abbrev Tries : Type 0
+  Tries = StateTried plan order from.state m earlier picture to.standing to.store answer old new
+
+  pub state_tried : (tally : Tally) → from.state ≤ plan.states → (from.state < plan.states → IsTallyOf plan order from.state m earlier picture to.standing to.store answer tally) → (from.state < plan.states → CountsStateTries old new tally answer)
+      → (BeginsNoState plan from.state from.standing → new ≡ old) → Tries
+  state_tried tally within tried counts none =
+      elim (eq-or-lt_of_le within) [
+        | inl e ↦ (let most : plan.states ≤ from.state = omega (arith, e) in inr ((answers_from plan from to m earlier picture answer stands answers).0, most, none (subst (BeginsNoState plan from.state) (sym stands) most)))
+        | inr l ↦ inl (tally, tried l, counts l)
+      ]
+
+  pub state_worked : Tries → (before after : Option (List ℕ)) (program : ProgramTree) (last : Option Turn) → program ≡ plan.program → last ≡ last_answer answer
+      → Wrote before after (printed_lines beside program answer picture (next_moment to)) → (is_settled answer ≡ true → IsPictureInRange picture) → StateWorked plan beside order m from to before after old new last
+  state_worked tried before after program last own is wrote range = record {
+    answer = answer;
+    last_is = is;
+    earlier = earlier;
+    picture = picture;
+    tried = tried;
+    number = (answers_from plan from to m earlier picture answer stands answers).1;
+    wrote = subst (λ p. Wrote before after (printed_lines beside p answer picture (next_moment to))) own wrote;
+    range = range;
+  }
+
+-- told of another name of the order
+pub worked_in : (plan : Plan) (beside : Beside) (own order : Order) (m : Moment) (from to : RunPlace) (before after : Option (List ℕ)) (old new : ℕ) (last : Option Turn) → own ≡ order
+    → StateWorked plan beside own m from to before after old new last → StateWorked plan beside order m from to before after old new last
+worked_in plan beside own order m from to before after old new last same w = subst (λ o. StateWorked plan beside o m from to before after old new last) same w
+
+-- no state was tried yet
+pub HasWorked-none : (plan : Plan) (beside : Beside) (order : Order) (from : RunPlace) (now : Option (List ℕ)) (k : ℕ) → from.standing ≡ open_at (first_moment plan.program.globals plan.program.main) → from.state ≡ 0
+    → HasWorked plan beside order from now now k k
+HasWorked-none plan beside order from now k stands count = record { written = HasWritten-none plan beside from now stands count; tallies = []; tried = refl; counted = omega arith }
+
+-- the tries of one state more
+counts_more : (old mid new more : ℕ) (ts : List Tally) (t : Tally) → mid ≡ old + all_tries ts → new ≡ mid + (recorded_tries t + more) → new ≡ old + (all_tries (ts ++ t ∷ []) + more)
+counts_more old mid new more ts t h g =
+    let one : all_tries (ts ++ t ∷ []) ≡ all_tries ts + recorded_tries t = sum_by_push recorded_tries ts t in
+    omega (arith, h, g, one)
+
+module _ (plan : Plan) (beside : Beside) (order : Order) (from to : RunPlace) (before now after : Option (List ℕ)) (old mid new : ℕ) (h : HasWorked plan beside order from before now old mid) where
+  abbrev ps : List Picture
+  ps = h.written.pictures
+
+  abbrev m : Moment
+  m = h.written.next
+
+  abbrev Tried : (earlier picture : Picture) → Turn → Type 0
+  Tried earlier picture answer = StateTried plan order (length ps) m earlier picture to.standing to.store answer mid new
+
+  -- the state that was made is the one after those that were settled
+  tried_there : (earlier picture : Picture) (answer given : Turn) → StateTried plan order from.state m earlier picture to.standing to.store answer mid new → answer ≡ given → Tried earlier picture given
+  tried_there earlier picture answer given t e =
+      let here = subst (λ n. StateTried plan order n m earlier picture to.standing to.store answer mid new) h.written.count t in
+      subst (Tried earlier picture) e here
+
+  number_there : (answer given : Turn) → to.state ≡ state_after from.state answer → answer ≡ given → to.state ≡ state_after (length ps) given
+  number_there answer given number e = number ∙ ap (λ n. state_after n answer) h.written.count ∙ ap (state_after (length ps)) e
+
+  -- a state that goes on
+  goes_on : (earlier picture : Picture) → Tried earlier picture turn.Went → to.state ≡ suc (length ps) → Wrote now after (written_state beside plan.program picture (next_moment to)) → IsPictureInRange picture
+      → HasWorked plan beside order to before after old new
+  goes_on earlier picture (inl t) number wrote range =
+      let w = t.1.becomes in
+      let closed = subst (λ (x : Ending). ClosesThriftily (setting plan (length ps)) order plan.reductions m w.1.last w.1.picks x t.0) t.1.ends t.1.closes in
+      let rose : new ≡ old + (all_tries (h.tallies ++ t.0 ∷ []) + t.2.more) = counts_more old mid new t.2.more h.tallies t.0 h.counted t.2.counted in
+      record {
+        written = written_more plan beside from to before now after earlier picture h.written w number wrote range;
+        tallies = h.tallies ++ t.0 ∷ [];
+        tried = tallies_more plan order 0 (beginning_of plan) ps m (length ps) picture w.0 (index_first ps) h.written.leads w.1 h.tallies t.0 h.tried closed;
+        counted = omega (arith, rose, t.2.beyond);
+      }
+  goes_on earlier picture (inr t) number wrote range = let within = t.0.1.within in absurd (omega (arith, within, t.1))
+
+  pub HasWorked-more : StateWorked plan beside order m from to now after mid new None → HasWorked plan beside order to before after old new
+  HasWorked-more w = by w.answer refl where
+    by : (answer : Turn) → w.answer ≡ answer → HasWorked plan beside order to before after old new
+    by turn.Went e =
+        goes_on w.earlier w.picture (tried_there w.earlier w.picture w.answer turn.Went w.tried e) (number_there w.answer turn.Went w.number e)
+        (subst (λ t. Wrote now after (printed_lines beside plan.program t w.picture (next_moment to))) e w.wrote) (w.range (ap is_settled e))
+    by (turn.Finished length) e = let bad : None ≡ last_answer (turn.Finished length) = w.last_is ∙ ap last_answer e in absurd (cc)
+    by (turn.Contradictory state clash) e = let bad : None ≡ last_answer (turn.Contradictory state clash) = w.last_is ∙ ap last_answer e in absurd (cc)
+    by (turn.Undetermined state cell) e = let bad : None ≡ last_answer (turn.Undetermined state cell) = w.last_is ∙ ap last_answer e in absurd (cc)
+    by (turn.StateLimit states) e = let bad : None ≡ last_answer (turn.StateLimit states) = w.last_is ∙ ap last_answer e in absurd (cc)
+    by (turn.InputMissing state port) e = let bad : None ≡ last_answer (turn.InputMissing state port) = w.last_is ∙ ap last_answer e in absurd (cc)
+    by (turn.Over state limit) e = let bad : None ≡ last_answer (turn.Over state limit) = w.last_is ∙ ap last_answer e in absurd (cc)
+
+  -- The run ended with this answer, its states were written and tried, and its store holds what was known at that end.
+  pub record Worked (answer : Turn) : Type 0 where
+    pub pictures : List Picture
+    pub run : RunEndsWith plan pictures answer
+    pub holds : to.store ≡ end_store plan pictures answer run
+    pub wrote : Wrote before after (ended_text beside plan pictures answer run)
+    pub tried : RunTried plan order pictures answer run old new
+
+  -- a tally more, of the state with which the run ends
+  module _ (t : Tally) (n : ℕ) (last : Moment) (picks : List ℕ) (end : Ending) (closes : ClosesThriftily (setting plan n) order plan.reductions m last picks end t) where
+    tallies_to : AreTalliesTo plan order ps m h.written.leads n last picks end (h.tallies ++ t ∷ [])
+    tallies_to = record { earlier = h.tallies; own = t; tallies_are = refl; led = h.tried; closes = closes }
+
+  run_tried : (answer : Turn) (pictures : List Picture) (run : RunEndsWith plan pictures answer) (t : Tally) → AreTalliesOfRun plan order pictures answer run (h.tallies ++ t ∷ []) → CountsStateTries mid new t answer
+      → RunTried plan order pictures answer run old new
+  run_tried answer pictures run t tried counts =
+      record { tallies = h.tallies ++ t ∷ []; tried = tried; more = counts.more; beyond = counts.beyond; counted = counts_more old mid new counts.more h.tallies t h.counted counts.counted }
+
+  -- a state that isn't settled ends the run: nothing more is written
+  stops : (answer : Turn) (run : RunEndsWith plan ps answer) → ended_text beside plan ps answer run ≡ lead_text beside plan ps m h.written.leads → to.store ≡ end_store plan ps answer run → Wrote now after []
+      → RunTried plan order ps answer run old new → Worked answer
+  stops answer run same holds wrote tried =
+      let text = lead_text beside plan ps m h.written.leads in
+      let whole = subst (Wrote before after) (append-nil text) (Wrote-both before now after text [] h.written.wrote wrote) in
+      record { pictures = ps; run = run; holds = holds; wrote = subst (Wrote before after) (sym same) whole; tried = tried }
+
+  -- the last state, which nothing comes after
+  finishes : (earlier picture : Picture) (k : ℕ) → Tried earlier picture (turn.Finished k) → Wrote now after (written_state beside plan.program picture (next_moment to)) → Worked (turn.Finished k)
+  finishes earlier picture k (inl t) wrote =
+      let w = t.1.becomes in
+      let closed = subst (λ (x : Ending). ClosesThriftily (setting plan (length ps)) order plan.reductions m w.0.last w.0.picks x t.0) t.1.ends t.1.closes in
+      let run : RunEndsWith plan (ps ++ picture ∷ []) (turn.Finished k) = record { before = ps; final = picture; moment = m; pictures = refl; leads = h.written.leads; ends = w.0; count = w.1 } in
+      let none : next_moment to ≡ None = no_next to (turn.Finished k) w.0.last w.2 in
+      record {
+        pictures = ps ++ picture ∷ [];
+        run = run;
+        holds = w.3;
+        wrote = Wrote-both before now after _ _ h.written.wrote (subst (λ z. Wrote now after (written_state beside plan.program picture z)) none wrote);
+        tried = run_tried (turn.Finished k) (ps ++ picture ∷ []) run t.0 (tallies_to t.0 (length ps) w.0.last w.0.picks ending.Rest closed) t.2;
+      }
+  finishes earlier picture k (inr t) wrote = let within = t.0.0.within in absurd (omega (arith, within, t.1))
+
+  clashes : (earlier picture : Picture) (state : ℕ) (clash : Clash) → Tried earlier picture (turn.Contradictory state clash) → Wrote now after [] → Worked (turn.Contradictory state clash)
+  clashes earlier picture state clash (inl t) wrote =
+      let w = t.1.becomes in
+      let e = w.1 in
+      let closed = subst (λ (x : Ending). ClosesThriftily (setting plan (length ps)) order plan.reductions m w.0.last w.0.picks x t.0) t.1.ends t.1.closes in
+      let g = subst (λ i. (g : replay.MeetsClash (setting plan i) plan.reductions m clash) × (w.0.last ≡ g.last) × ClosesThriftily (setting plan i) order plan.reductions m g.last g.picks (ending.Clash clash) t.0) (sym e) (w.0, refl, closed) in
+      let run : RunEndsWith plan ps (turn.Contradictory state clash) = (m, h.written.leads, g.0, e, subst (λ i. i < plan.states) (sym e) w.2) in
+      stops (turn.Contradictory state clash) run refl (w.5 ∙ ap (λ (z : Moment). z.store) g.1) wrote (run_tried (turn.Contradictory state clash) ps run t.0 (tallies_to t.0 state g.0.last g.0.picks (ending.Clash clash) g.2) t.2)
+  clashes earlier picture state clash (inr t) wrote = absurd (omega (arith, t.0.2, t.1))
+
+  opens : (earlier picture : Picture) (state : ℕ) (cell : Cell) → Tried earlier picture (turn.Undetermined state cell) → Wrote now after [] → Worked (turn.Undetermined state cell)
+  opens earlier picture state cell (inl t) wrote =
+      let w = t.1.becomes in
+      let e = w.1 in
+      let closed = subst (λ (x : Ending). ClosesThriftily (setting plan (length ps)) order plan.reductions m w.0.last w.0.picks x t.0) t.1.ends t.1.closes in
+      let g = subst (λ i. (g : replay.IsOpen (setting plan i) plan.reductions m cell) × (w.0.last ≡ g.last) × ClosesThriftily (setting plan i) order plan.reductions m g.last g.picks ending.Rest t.0) (sym e) (w.0, refl, closed) in
+      let run : RunEndsWith plan ps (turn.Undetermined state cell) = (m, h.written.leads, g.0, e, subst (λ i. i < plan.states) (sym e) w.2) in
+      stops (turn.Undetermined state cell) run refl (w.5 ∙ ap (λ (z : Moment). z.store) g.1) wrote (run_tried (turn.Undetermined state cell) ps run t.0 (tallies_to t.0 state g.0.last g.0.picks ending.Rest g.2) t.2)
+  opens earlier picture state cell (inr t) wrote = absurd (omega (arith, t.0.2, t.1))
+
+  misses : (earlier picture : Picture) (state : ℕ) (port : List ℕ) → Tried earlier picture (turn.InputMissing state port) → Wrote now after [] → Worked (turn.InputMissing state port)
+  misses earlier picture state port (inl t) wrote =
+      let w = t.1.becomes in
+      let e = w.1 in
+      let closed = subst (λ (x : Ending). ClosesThriftily (setting plan (length ps)) order plan.reductions m w.0.last w.0.picks x t.0) t.1.ends t.1.closes in
+      let g = subst (λ i. (g : replay.MissesInput (setting plan i) plan.reductions m port) × (w.0.last ≡ g.last) × ClosesThriftily (setting plan i) order plan.reductions m g.last g.picks (ending.Missing port) t.0) (sym e) (w.0, refl, closed) in
+      let run : RunEndsWith plan ps (turn.InputMissing state port) = (m, h.written.leads, g.0, e, subst (λ i. i < plan.states) (sym e) w.2) in
+      stops (turn.InputMissing state port) run refl (w.5 ∙ ap (λ (z : Moment). z.store) g.1) wrote (run_tried (turn.InputMissing state port) ps run t.0 (tallies_to t.0 state g.0.last g.0.picks (ending.Missing port) g.2) t.2)
+  misses earlier picture state port (inr t) wrote = absurd (omega (arith, t.0.2, t.1))
+
+  reaches : (earlier picture : Picture) (state : ℕ) (kind : LimitKind) → Tried earlier picture (turn.Over state kind) → Wrote now after [] → Worked (turn.Over state kind)
+  reaches earlier picture state kind (inl t) wrote =
+      let w = t.1.becomes in
+      let e = w.1 in
+      let here : ℕ → Moment → List ℕ → Type 0 = λ i z xs. ClosesThriftily (setting plan i) order plan.reductions m z xs (ending.Over kind) t.0 in
+      let last = limit_moment (setting plan (length ps)) plan.reductions m kind w.0 in
+      let closed = subst (λ (x : Ending). ClosesThriftily (setting plan (length ps)) order plan.reductions m last (limit_picks (setting plan (length ps)) plan.reductions m kind w.0) x t.0) t.1.ends t.1.closes in
+      let g = subst (λ i. (g : ReachesLimit (setting plan i) plan.reductions m kind) × (last ≡ limit_moment (setting plan i) plan.reductions m kind g)
+      × here i (limit_moment (setting plan i) plan.reductions m kind g) (limit_picks (setting plan i) plan.reductions m kind g)) (sym e) (w.0, refl, closed) in
+      let run : RunEndsWith plan ps (turn.Over state kind) = (m, h.written.leads, g.0, e, subst (λ i. i < plan.states) (sym e) w.2) in
+      stops (turn.Over state kind) run refl (w.5 ∙ ap (λ (z : Moment). z.store) g.1) wrote
+      (run_tried (turn.Over state kind) ps run t.0
+      (tallies_to t.0 state (limit_moment (setting plan state) plan.reductions m kind g.0) (limit_picks (setting plan state) plan.reductions m kind g.0) (ending.Over kind) g.2) t.2)
+  reaches earlier picture state kind (inr t) wrote = absurd (omega (arith, t.0.2, t.1))
+
+  -- the state after the last one that there may be isn't begun
+  none_begun : (earlier picture : Picture) (states : ℕ) → Tried earlier picture (turn.StateLimit states) → Wrote now after [] → Worked (turn.StateLimit states)
+  none_begun earlier picture states (inl t) wrote = absurd t.1.ends
+  none_begun earlier picture states (inr t) wrote =
+      let w = t.0 in
+      let run : RunEndsWith plan ps (turn.StateLimit states) = (m, h.written.leads, w.1, w.1 ∙ w.0) in
+      stops (turn.StateLimit states) run refl w.4 wrote (record { tallies = h.tallies; tried = h.tried; more = 0; beyond = refl; counted = omega (arith, h.counted, t.2) })
+
+  ends_by : (earlier picture : Picture) (last : Turn) → IsLastTurn last → Tried earlier picture last → Wrote now after (printed_lines beside plan.program last picture (next_moment to)) → Worked last
+  ends_by earlier picture turn.Went ends t wrote = absurd ends
+  ends_by earlier picture (turn.Finished k) ends t wrote = finishes earlier picture k t wrote
+  ends_by earlier picture (turn.Contradictory state clash) ends t wrote = clashes earlier picture state clash t wrote
+  ends_by earlier picture (turn.Undetermined state cell) ends t wrote = opens earlier picture state cell t wrote
+  ends_by earlier picture (turn.StateLimit states) ends t wrote = none_begun earlier picture states t wrote
+  ends_by earlier picture (turn.InputMissing state port) ends t wrote = misses earlier picture state port t wrote
+  ends_by earlier picture (turn.Over state kind) ends t wrote = reaches earlier picture state kind t wrote
+
+  pub work_ended : (ended : Ended) → program_of ended.run ≡ plan.program → store_of ended.run ≡ to.store → StateWorked plan beside order m from to now after mid new (Some ended.turn)
+      → WorkEnded plan beside order before after old new ended
+  work_ended ended program store w =
+      let given : w.answer ≡ ended.turn = last_is_given w.answer ended.turn w.last_is in
+      let ends = is_last w.answer ended.turn w.last_is in
+      let wrote = subst (λ t. Wrote now after (printed_lines beside plan.program t w.picture (next_moment to))) given w.wrote in
+      let end = ends_by w.earlier w.picture ended.turn ends (tried_there w.earlier w.picture w.answer ended.turn w.tried given) wrote in
+      record { pictures = end.pictures; run = end.run; program_is = program; store_is = store ∙ end.holds; wrote = end.wrote; tried = end.tried }
+
+-- a call that ends as a run does has written its line
+closes_wrote : (line : List ℕ) (status : Status) (old new : Option (List ℕ)) (result : Status) → ClosesText line status old new result → IsEndOfRun result → Wrote old new line
+closes_wrote line status old new WriteFault c end = absurd end
+closes_wrote line status old new NoMemory c end = absurd end
+closes_wrote line status old new result c end = c.1
+
+-- the task of these words was run, and its end line written
+pub task_works : (words : List (List ℕ)) (held : Option Held) (task : Task) (old new : ℕ) (before mid after : Option (List ℕ)) (ended : Ended) (result : Status) → IsTaskFor words held task
+    → WorkEnded (plan_of task) task.beside task.order before mid old new ended → ClosesRun task.limits.reductions ended mid after result → IsEndOfRun result → WorksThriftily words held before after result old new
+task_works words held task old new before mid after ended result is w c end =
+    let plan : Plan = plan_of task in
+    let asked = is.asked_for in
+    let beside : asked.wanted.beside ≡ task.beside = is.beside asked.wanted asked.accepted in
+    let order : asked.wanted.order ≡ task.order = is.order asked.wanted asked.accepted in
+    let same : result ≡ c.0 = closes_with _ c.0 mid after result c.2 end in
+    let run : RunEnds plan w.pictures result = record { answer = ended.turn; status_is = c.1 ∙ ap Some (sym same); run = w.run } in
+    let line : ProgramTree → Contents → List ℕ = λ p k. end_line p.globals k.variables task.limits.reductions ended.turn in
+    let wrote = closes_wrote (line (program_of ended.run) (store_of ended.run)) c.0 mid after result c.2 end in
+    let named = subst (λ p. Wrote mid after (line p (store_of ended.run))) w.program_is wrote in
+    let known = subst (λ k. Wrote mid after (line plan.program k)) w.store_is named in
+    let text = Wrote-both before mid after _ _ w.wrote known in
+    record {
+      plan = plan;
+      pictures = w.pictures;
+      asked = asked;
+      run = run;
+      appended = subst (λ t. Wrote before after (run_text t run)) (sym beside) text;
+      tried = subst (λ (o : Order). RunTried plan o w.pictures ended.turn w.run old new) (sym order) w.tried;
+    }

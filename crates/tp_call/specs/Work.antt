@@ -1,0 +1,140 @@
+-- What a run tried in its states, and how many tries a call made.
+use Rattle.std.specs.Prelude.{◌≡◌, ◌⊎◌, ℕ, suc, ◌+◌, ◌≤◌, IsTrue, List, [], ◌∷◌, ◌++◌, length, sum_by, Option}
+use Rattle.tp_io.specs.Held.{Held}
+use Rattle.tp_store.specs.Known.{Contents}
+use Rattle.tp_scene.specs.Pick.{Moment}
+use Rattle.tp_step.specs.declared.answer.Tally.{Tally}
+use Rattle.tp_step.specs.declared.order.Order.{Order}
+use Rattle.tp_step.specs.declared.ending.Ending.{Ending}
+use Rattle.tp_step.specs.declared.ending.Ending.TheVariants as ending
+use Rattle.tp_show.specs.declared.turn.Picture.{Picture}
+use Rattle.tp_show.specs.declared.turn.Turn.{Turn}
+use Rattle.tp_show.specs.declared.turn.Turn.TheVariants as turn
+use Rattle.tp_show.specs.Told.{IsPictureInRange}
+use Rattle.tp_run.specs.States.{Plan, setting, StatesLead, LeadsTo, limit_moment}
+use Rattle.tp_run.specs.PicksOfRun.{limit_picks, beginning_of}
+use Rattle.tp_run.specs.History.{RunEndsWith, end_store}
+use Rattle.tp_run.specs.Runs.{program_of, store_of}
+use Rattle.tp_run.specs.Standing.{RunPlace, Standing, StateBecomes, state_after}
+use Rattle.tp_run.specs.Tried.{recorded_tries, ClosesThriftily, IsTallyOf, TriesBeyond, CountsStateTries}
+use Rattle.tp_call.specs.declared.run.Ended.{Ended}
+use Rattle.tp_call.specs.declared.status.Status.{Status}
+use Rattle.tp_call.specs.Run.{RunEnds, last_answer}
+use Rattle.tp_call.specs.Answer.{IsAskedFor, run_text}
+use Rattle.tp_call.specs.Printed.{ended_text, next_moment}
+use Rattle.tp_call.specs.Progress.{is_settled, printed_lines, HasWritten}
+use Rattle.tp_call.specs.Written.{Wrote}
+use Rattle.tp_words.specs.declared.beside.Beside.{Beside}
+
+-- These states, of which each goes on to the next, were closed thriftily in this order: there is a
+-- tally for each, with the picks that lead through it.
+abbrev pub AreTalliesOf : (plan : Plan) (order : Order) (n : ℕ) (m : Moment) (ps : List Picture)
+    (last : Moment) → StatesLead plan n m ps last → List Tally → Type 0
+AreTalliesOf plan order n m [] last leads tallies = tallies ≡ []
+AreTalliesOf plan order n m (p ∷ ps) last leads [] = ⊥
+AreTalliesOf plan order n m (p ∷ ps) last leads (tally ∷ tallies) =
+    ClosesThriftily (setting plan n) order plan.reductions m leads.1.last leads.1.picks ending.Rest
+    tally
+    × AreTalliesOf plan order (suc n) leads.0 ps last leads.2 tallies
+
+-- The same of the states with which a run begins and of state n after them, which begins with m,
+-- and which these picks close: they lead to this moment, and the closure ends so.
+pub record AreTalliesTo (plan : Plan) (order : Order) (ps : List Picture) (m : Moment)
+    (leads : LeadsTo plan ps m) (n : ℕ) (last : Moment) (picks : List ℕ) (end : Ending)
+    (tallies : List Tally) : Type 0 where
+  pub earlier : List Tally
+  pub own : Tally
+  pub tallies_are : tallies ≡ earlier ++ own ∷ []
+  pub led : AreTalliesOf plan order 0 (beginning_of plan) ps m leads earlier
+  pub closes : ClosesThriftily (setting plan n) order plan.reductions m last picks end own
+
+-- The tallies of a run that ended: one for each state that was begun, with the picks of this run.
+abbrev pub AreTalliesOfRun : (plan : Plan) (order : Order) (ps : List Picture) (answer : Turn)
+    → RunEndsWith plan ps answer → List Tally → Type 0
+AreTalliesOfRun plan order ps turn.Went end tallies = ⊥
+AreTalliesOfRun plan order ps (turn.Finished n) end tallies =
+    AreTalliesTo plan order end.before end.moment end.leads (length end.before) end.ends.last
+    end.ends.picks ending.Rest tallies
+AreTalliesOfRun plan order ps (turn.Contradictory state clash) end tallies =
+    AreTalliesTo plan order ps end.0 end.1 state end.2.last end.2.picks (ending.Clash clash) tallies
+AreTalliesOfRun plan order ps (turn.Undetermined state cell) end tallies =
+    AreTalliesTo plan order ps end.0 end.1 state end.2.last end.2.picks ending.Rest tallies
+AreTalliesOfRun plan order ps (turn.StateLimit states) end tallies =
+    AreTalliesOf plan order 0 (beginning_of plan) ps end.0 end.1 tallies
+AreTalliesOfRun plan order ps (turn.InputMissing state port) end tallies =
+    AreTalliesTo plan order ps end.0 end.1 state end.2.last end.2.picks (ending.Missing port)
+    tallies
+AreTalliesOfRun plan order ps (turn.Over state kind) end tallies =
+    AreTalliesTo plan order ps end.0 end.1 state
+    (limit_moment (setting plan state) plan.reductions end.0 kind end.2)
+    (limit_picks (setting plan state) plan.reductions end.0 kind end.2) (ending.Over kind) tallies
+
+-- how many tries these record
+abbrev pub all_tries : List Tally → ℕ
+all_tries tallies = sum_by recorded_tries tallies
+
+-- The states of a run that ended with this answer were closed thriftily in this order, with its
+-- picks; and a count of tries rose by those that were recorded, and by those beyond, of which there
+-- is none where it finished.
+pub record RunTried (plan : Plan) (order : Order) (ps : List Picture) (answer : Turn)
+    (run : RunEndsWith plan ps answer) (old new : ℕ) : Type 0 where
+  pub tallies : List Tally
+  pub tried : AreTalliesOfRun plan order ps answer run tallies
+  pub more : ℕ
+  pub beyond : TriesBeyond answer more
+  pub counted : new ≡ old + (all_tries tallies + more)
+
+-- A run of what is asked for ended with this status, and its text was appended; it was tried so, in
+-- the order that the words ask for.
+pub record WorksThriftily (words : List (List ℕ)) (held : Option Held)
+    (before after : Option (List ℕ)) (status : Status) (old new : ℕ) : Type 0 where
+  pub plan : Plan
+  pub pictures : List Picture
+  pub asked : IsAskedFor words held plan
+  pub run : RunEnds plan pictures status
+  pub appended : Wrote before after (run_text asked.wanted.beside run)
+  pub tried : RunTried plan asked.wanted.order pictures run.answer run.run old new
+
+-- State n, which begins with m, was closed thriftily, and the tries were counted; or it is one
+-- beyond the limit, and nothing was tried.
+abbrev pub StateTried : (plan : Plan) (order : Order) (n : ℕ) (m : Moment)
+    (earlier picture : Picture) → Standing → Contents → Turn → (old new : ℕ) → Type 0
+StateTried plan order n m earlier picture standing store answer old new =
+    ((tally : Tally) × IsTallyOf plan order n m earlier picture standing store answer tally
+    × CountsStateTries old new tally answer)
+    ⊎ (StateBecomes plan n m earlier picture standing store answer × (plan.states ≤ n)
+    × (new ≡ old))
+
+-- A run that stood before this moment was called and answered, what it answered was written, and
+-- its state was tried so.
+pub record StateWorked (plan : Plan) (beside : Beside) (order : Order) (m : Moment)
+    (from to : RunPlace) (before after : Option (List ℕ)) (old new : ℕ)
+    (last : Option Turn) : Type 0 where
+  pub answer : Turn
+  pub last_is : last ≡ last_answer answer
+  pub earlier : Picture
+  pub picture : Picture
+  pub tried : StateTried plan order from.state m earlier picture to.standing to.store answer old new
+  pub number : to.state ≡ state_after from.state answer
+  pub wrote : Wrote before after
+      (printed_lines beside plan.program answer picture (next_moment to))
+  pub range : IsTrue (is_settled answer) → IsPictureInRange picture
+
+-- a run of the plan, which stands here, has settled, written and tried some states and goes on
+pub record HasWorked (plan : Plan) (beside : Beside) (order : Order) (now : RunPlace)
+    (before after : Option (List ℕ)) (old new : ℕ) : Type 0 where
+  pub written : HasWritten plan beside now before after
+  pub tallies : List Tally
+  pub tried : AreTalliesOf plan order 0 (beginning_of plan) written.pictures written.next
+      written.leads tallies
+  pub counted : new ≡ old + all_tries tallies
+
+-- The run that ended is one of the plan's program, whose states were settled, written and tried.
+pub record WorkEnded (plan : Plan) (beside : Beside) (order : Order)
+    (before after : Option (List ℕ)) (old new : ℕ) (ended : Ended) : Type 0 where
+  pub pictures : List Picture
+  pub run : RunEndsWith plan pictures ended.turn
+  pub program_is : program_of ended.run ≡ plan.program
+  pub store_is : store_of ended.run ≡ end_store plan pictures ended.turn run
+  pub wrote : Wrote before after (ended_text beside plan pictures ended.turn run)
+  pub tried : RunTried plan order pictures ended.turn run old new
