@@ -1,12 +1,12 @@
 // What several tests make.
-ghost use Rattle.std.specs.Prelude.{◌≡◌, [], IfOk, false};
+ghost use Rattle.std.specs.Prelude.{◌≡◌, IfOk, false};
 ghost use Rattle.tp_show.specs.Parts.{line_parts};
 ghost use Rattle.tp_show.specs.Read.{plain_parts};
 
 use std::alloc::Global;
 use tp_io::Content;
 use tp_show::{LineParts, Picture};
-use tp_step::{ItemIds, Shows, Tally, Waits};
+use tp_step::Shows;
 use tp_value::{Facts, Indices, NoMemory, Path, Text, VarId};
 
 /// One file.
@@ -48,21 +48,5 @@ pub fn no_picture(alloc: Global) -> Picture
             items: Vec::new(alloc),
         },
         reductions: 0,
-    }
-}
-
-/// The tally of a closure that has done nothing.
-pub fn nothing_told(alloc: Global) -> Tally
-    ensures waits { result.waits.items.items ≡ [] }
-    ensures rests { result.rests ≡ [] }
-{
-    let picks = ItemIds::new(alloc);
-    let rests = ItemIds::new(alloc);
-    let items = Vec::new(alloc);
-    let waits = Waits { items };
-    Tally {
-        picks,
-        waits,
-        rests,
     }
 }

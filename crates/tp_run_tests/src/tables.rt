@@ -1,21 +1,10 @@
 // Tables as texts: how their rows are cut.
-use std::alloc::Global;
 use std::test::Fail;
-use tp_value::NoMemory;
 
 /// What stands before the first of these marks in a row, and what stands behind it, without blanks around them.
 pub fn cut<'a>(row: &'a str, mark: &str) -> Result<(&'a str, &'a str), Fail> {
     let (before, behind) = row.split_once(mark).ok_or("a row without its mark")?;
     Ok((before.trim(), behind.trim()))
-}
-
-/// The parts of a row between these marks, without blanks around them.
-pub fn parts<'a>(alloc: Global, row: &'a str, mark: char) -> Result<Vec<&'a str>, NoMemory> {
-    let mut all = Vec::new(alloc);
-    for part in row.split(mark) {
-        all.push(part.trim())?;
-    }
-    Ok(all)
 }
 
 /// The number that a text is.

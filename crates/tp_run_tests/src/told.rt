@@ -1,4 +1,4 @@
-// Runs with tables of inputs, and all that is told of them.
+// All that is told of runs: with tables of inputs, and in each order.
 ghost use Rattle.std.specs.Prelude.{◌≡◌, ◌<◌, OnOk};
 ghost use Rattle.tp_meaning.specs.Fits.{ProgramFits};
 ghost use Rattle.tp_check.specs.Program.{program_tree};
@@ -77,8 +77,8 @@ fn told<L: Ledger>(
     Ok(out)
 }
 
-/// The same of a source and the text of a table, by a run that counts its tries by itself.
-pub fn told_source(alloc: Global, source: &str, table: &str, order: Order) -> Result<Text, Fail> {
+// The same of a source and the text of a table, by a run that counts its tries by itself.
+fn told_source(alloc: Global, source: &str, table: &str, order: Order) -> Result<Text, Fail> {
     let program = program_of(alloc, source)?;
     let inputs = read_inputs(alloc, table.as_bytes())?;
     told::<Brand>(alloc, Blank::new(1), program, inputs, order)
@@ -270,4 +270,39 @@ fn inputs_meet_what_is_known(rt: HostRuntime) -> Result<(), Fail> {
 #[test]
 fn inputs_are_put_at_places(rt: HostRuntime) -> Result<(), Fail> {
     expect_each(&rt, &PLACES)
+}
+
+// Programs with loops, chops, projections, locals, calls and displays, of which each state can be reduced in several orders.
+const SOURCES: &str = "
+run A = B and B = C and C = 3 and empty.
+run len(3) and A = 0 and A gets A + 1 and always(display(A, B)) and always(B = A * A).
+run (len(1) and A = 1 and display(A)) ; (len(1) and A = 2 and display(A)) ; (empty and A = 3).
+run A = 2 and while A > 0 do (skip and A := A - 1 and display(A)).
+run for i < 3 do (skip and B = i and display(i)).
+run exists X, Y: (X = 1 and Y = X + 1 and len(2) and X gets Y and Y gets X and always(A = X + Y)).
+run (len(2) and always(A = 1)) proj (len(2) and I = 0 and I gets I + 1 and always(display(I))).
+define double(x, Y) = Y = x + x. run double(1, A) and double(A, B) and double(B, C) and empty.
+run A = 1 and A = 2 and empty.
+run A = B and empty.
+run always(more) and A = 1 and A gets A + A.
+run A = 170141183460469231731687303715884105727 and B = A + 1 and empty.
+";
+
+#[test]
+fn each_order_tells_the_same(rt: HostRuntime) -> Result<(), Fail> {
+    let alloc = rt.alloc();
+    for source in SOURCES.trim().lines() {
+        let first = told_source(alloc, source, "", Order::First)?;
+        let first = str::from_utf8(first.as_slice()).ok().ok_or("no text")?;
+        for order in [
+            Order::Last,
+            Order::Seed(0),
+            Order::Seed(7),
+            Order::Seed(u64::MAX),
+        ] {
+            let other = told_source(alloc, source, "", order)?;
+            same_bytes(&rt, other.as_slice(), first, source);
+        }
+    }
+    Ok(())
 }

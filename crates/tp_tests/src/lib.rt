@@ -1,6 +1,8 @@
-//! Tests of the calls of the crates below those that make steps, and of the texts of runs: tables of rows, one for each crate.
+//! Tests of the calls of the crates below those that make runs, and of the texts of runs: tables of rows.
 #![tactic(auto)]
 
+#[cfg(test)]
+mod agenda;
 #[cfg(test)]
 mod answers;
 #[cfg(test)]
@@ -24,6 +26,8 @@ mod outcomes;
 #[cfg(test)]
 mod phrases;
 #[cfg(test)]
+mod picks;
+#[cfg(test)]
 mod planes;
 #[cfg(test)]
 mod programs;
@@ -31,6 +35,8 @@ mod programs;
 mod sources;
 #[cfg(test)]
 mod spelling;
+#[cfg(test)]
+mod steps;
 #[cfg(test)]
 mod stores;
 #[cfg(test)]
@@ -43,3 +49,5 @@ mod traces;
 mod turns;
 #[cfg(test)]
 mod values;
+#[cfg(test)]
+mod waking;

@@ -6,6 +6,7 @@ use crate::tables::{cut, number};
 use std::alloc::Global;
 use std::test::Fail;
 use tp_io::Content;
+use tp_step::{ItemIds, Tally, Waits};
 use tp_store::Store;
 use tp_value::{Globals, Indices, Items, NoMemory, Path, Text, Value, VarId};
 
@@ -105,4 +106,20 @@ pub fn one_variable(alloc: Global) -> Result<Store, NoMemory>
 {
     let globals = one_name(alloc)?;
     Store::new(alloc, &globals)
+}
+
+/// The tally of a closure that has done nothing.
+pub fn nothing_told(alloc: Global) -> Tally
+    ensures waits { result.waits.items.items ≡ [] }
+    ensures rests { result.rests ≡ [] }
+{
+    let picks = ItemIds::new(alloc);
+    let rests = ItemIds::new(alloc);
+    let items = Vec::new(alloc);
+    let waits = Waits { items };
+    Tally {
+        picks,
+        waits,
+        rests,
+    }
 }

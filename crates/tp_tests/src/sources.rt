@@ -1,6 +1,11 @@
 // What is made of a text, step by step.
+ghost use Rattle.std.specs.Prelude.{IfOk};
+ghost use Rattle.tp_meaning.specs.Fits.{ProgramFits};
+ghost use Rattle.tp_check.specs.Program.{program_tree};
+
 use std::alloc::Global;
 use std::test::Fail;
+use tp_check::{Program, check};
 use tp_lex::{LexRefusal, Tokens, tokens};
 use tp_parse::parse;
 use tp_tree::Source;
@@ -16,4 +21,12 @@ pub fn source_of(alloc: Global, text: &str) -> Result<Source, Fail> {
     let tokens = tokens_of(alloc, text.as_bytes())?;
     let source = parse(alloc, &tokens)?;
     Ok(source)
+}
+
+pub fn program_of(alloc: Global, text: &str) -> Result<Program, Fail>
+    ensures fits { IfOk result (λ p. ProgramFits (program_tree p)) }
+{
+    let source = source_of(alloc, text)?;
+    let program = check(alloc, &source)?;
+    Ok(program)
 }

@@ -1,13 +1,12 @@
-// Runs in each order: what is picked in a state, and that all that is told is the same.
+// Closures by passes in each order: what is picked in a state.
 ghost use Rattle.std.specs.Prelude.{◌≡◌, ◌<◌};
 ghost use Rattle.tp_meaning.specs.Fits.{ProgramFits};
 ghost use Rattle.tp_check.specs.Program.{program_tree};
 
-use crate::expected::{same_bytes, same_text};
+use crate::expected::same_text;
 use crate::making::nothing_told;
 use crate::sources::program_of;
 use crate::steps::begin;
-use crate::told::told_source;
 use std::alloc::Global;
 use std::marker::Brand;
 use std::sync::ledger::{Blank, Ledger};
@@ -74,41 +73,6 @@ fn each_order_has_its_picks(rt: HostRuntime) -> Result<(), Fail> {
         let picked = picks_of(alloc, source, Course { order, room })?;
         let text = format!(in alloc; "{:?}", picked.items.as_slice())?;
         same_text(&rt, text.as_str(), expected, source);
-    }
-    Ok(())
-}
-
-// Programs with loops, chops, projections, locals, calls and displays, of which each state can be reduced in several orders.
-const SOURCES: &str = "
-run A = B and B = C and C = 3 and empty.
-run len(3) and A = 0 and A gets A + 1 and always(display(A, B)) and always(B = A * A).
-run (len(1) and A = 1 and display(A)) ; (len(1) and A = 2 and display(A)) ; (empty and A = 3).
-run A = 2 and while A > 0 do (skip and A := A - 1 and display(A)).
-run for i < 3 do (skip and B = i and display(i)).
-run exists X, Y: (X = 1 and Y = X + 1 and len(2) and X gets Y and Y gets X and always(A = X + Y)).
-run (len(2) and always(A = 1)) proj (len(2) and I = 0 and I gets I + 1 and always(display(I))).
-define double(x, Y) = Y = x + x. run double(1, A) and double(A, B) and double(B, C) and empty.
-run A = 1 and A = 2 and empty.
-run A = B and empty.
-run always(more) and A = 1 and A gets A + A.
-run A = 170141183460469231731687303715884105727 and B = A + 1 and empty.
-";
-
-#[test]
-fn each_order_tells_the_same(rt: HostRuntime) -> Result<(), Fail> {
-    let alloc = rt.alloc();
-    for source in SOURCES.trim().lines() {
-        let first = told_source(alloc, source, "", Order::First)?;
-        let first = str::from_utf8(first.as_slice()).ok().ok_or("no text")?;
-        for order in [
-            Order::Last,
-            Order::Seed(0),
-            Order::Seed(7),
-            Order::Seed(u64::MAX),
-        ] {
-            let other = told_source(alloc, source, "", order)?;
-            same_bytes(&rt, other.as_slice(), first, source);
-        }
     }
     Ok(())
 }

@@ -1,6 +1,6 @@
 use Rattle.tp_scene.specs.Advance.{StoreGoesOn}
 use Rattle.tp_decide.specs.Decided.{setting_of}
-use Rattle.tp_run_tests.proofs.steps.go_on.Goals as goal
+use Rattle.tp_tests.proofs.steps.go_on.Goals as goal
 
 pub returns-in_ok-next-in-Goes-clause-sound : goal.returns-in_ok-next-in-Goes-clause-sound
 returns-in_ok-next-in-Goes-clause-sound c =

@@ -1,4 +1,4 @@
-// Closures by an agenda: they come to the same rests as those by passes, and try nothing twice in vain.
+// Closures by an agenda: they come to the same rests as those by passes, and try the item whose turn it is.
 ghost use Rattle.std.specs.Prelude.{◌≡◌, ◌<◌, List, Bool};
 ghost use Rattle.tp_meaning.specs.Fits.{ProgramFits};
 ghost use Rattle.tp_check.specs.Program.{program_tree};
@@ -199,41 +199,6 @@ fn wait_text(alloc: Global, wait: &Wait) -> Result<String, NoMemory> {
     Ok(text)
 }
 
-// Whether the text is none of these.
-fn is_new(texts: &[String], text: &str) -> bool {
-    for other in texts {
-        if other.as_str() == text {
-            return false;
-        }
-    }
-    true
-}
-
-// Whether no wait was found twice.
-fn waits_once(alloc: Global, tally: &Tally) -> Result<bool, NoMemory> {
-    let mut texts = Vec::new(alloc);
-    for wait in &tally.waits.items {
-        let text = wait_text(alloc, wait)?;
-        if !is_new(texts.as_slice(), text.as_str()) {
-            return Ok(false);
-        }
-        texts.push(text)?;
-    }
-    Ok(true)
-}
-
-// Whether no item was found at rest twice.
-fn rests_once(alloc: Global, tally: &Tally) -> Result<bool, NoMemory> {
-    let mut before = Vec::new(alloc);
-    for item in &tally.rests.items {
-        if before.contains(item) {
-            return Ok(false);
-        }
-        before.push(*item)?;
-    }
-    Ok(true)
-}
-
 // What a closure did: the items that it reduced, those that waited, those that rested, and how it ended.
 fn tally_text(alloc: Global, tally: &Tally, ending: &Ending) -> Result<String, NoMemory> {
     let mut text = format!(in alloc; "{:?} waits", tally.picks.items.as_slice())?;
@@ -250,41 +215,36 @@ fn tally_text(alloc: Global, tally: &Tally, ending: &Ending) -> Result<String, N
 // Programs whose first states come to a rest, some with a table of inputs: chains in bad order, loops whose parts have length 0, chops,
 // projections, locals, calls, lists by items and by shape, displays, inputs, ends that are known late or never.
 const SOURCES: &str = "
-run A = B and B = C and C = 3 and empty.
-run A = B + C and C = D * 2 and B = D + 1 and D = E and E = 4 and empty.
-run (for i < 4 do (L[i] = i * i and empty)) and A = L[3] and |L| = 4.
-run (while A > 3 do empty) and A = B and B = 2.
-run (empty and A = B) ; ((empty and B = C) ; (empty and C = 2)).
-run ((A = B and skip) ; (A = 2 and skip)) and B = C and C = 1.
-run (len(2) and always(A = 1)) proj (len(2) and I = A and always(display(I))).
-run (empty and A = B) proj (B = 2 and empty).
-run exists X, Y: (A = X and X = Y + 1 and Y = B and B = 2 and empty).
-define double(x, Y) = Y = x + x. run double(B, C) and double(A, B) and double(1, A) and empty.
-run A = L[0] + L[1] and L[1] = B and B = 2 and L[0] = 1 and |L| = 2 and empty.
-run L = <A,<B>> and M = L and B = 2 and A = B + 1 and empty.
-run |L| = |M| and M = <1,<2,3>> and L[0] = M[1] and L[1] = M[0] and empty.
-run (forall i < 3: L[i] = A) and list(L,3) and A = 7.
-run display(A, L) and A = |L| and L = <1,2> and empty.
+run A = B and B = C and C = 3 and empty. #
+run A = B + C and C = D * 2 and B = D + 1 and D = E and E = 4 and empty. #
+run (for i < 4 do (L[i] = i * i and empty)) and A = L[3] and |L| = 4. #
+run (while A > 3 do empty) and A = B and B = 2. #
+run (empty and A = B) ; ((empty and B = C) ; (empty and C = 2)). #
+run ((A = B and skip) ; (A = 2 and skip)) and B = C and C = 1. #
+run (len(2) and always(A = 1)) proj (len(2) and I = A and always(display(I))). #
+run (empty and A = B) proj (B = 2 and empty). #
+run exists X, Y: (A = X and X = Y + 1 and Y = B and B = 2 and empty). #
+define double(x, Y) = Y = x + x. run double(B, C) and double(A, B) and double(1, A) and empty. #
+run A = L[0] + L[1] and L[1] = B and B = 2 and L[0] = 1 and |L| = 2 and empty. #
+run L = <A,<B>> and M = L and B = 2 and A = B + 1 and empty. #
+run |L| = |M| and M = <1,<2,3>> and L[0] = M[1] and L[1] = M[0] and empty. #
+run (forall i < 3: L[i] = A) and list(L,3) and A = 7. #
+run display(A, L) and A = |L| and L = <1,2> and empty. #
 run A = B + 1 and input(B,p) and display(A) and empty. # p=4
 run input(L[A],p) and A = B and B = 1 and |L| = 2 and empty. # p=<3>
-run (if A = 1 then B = 2 else B = 3) and A = C and C = 1 and empty.
-run fin(A = B) and keep(A = 1) and B = 2 and empty.
-run always(A = B) and B gets B + 1 and B = 0 and len(2).
-run next (A = B) and B <- A and B = 1 and more.
-run A = B and B = C and D = 1.
-run always(A = 1) and (B = 2 ; C = 3).
-run A = B and empty and (true ; C = A).
+run (if A = 1 then B = 2 else B = 3) and A = C and C = 1 and empty. #
+run fin(A = B) and keep(A = 1) and B = 2 and empty. #
+run always(A = B) and B gets B + 1 and B = 0 and len(2). #
+run next (A = B) and B <- A and B = 1 and more. #
+run A = B and B = C and D = 1. #
+run always(A = 1) and (B = 2 ; C = 3). #
+run A = B and empty and (true ; C = A). #
 ";
 
 const ORDERS: [Order; 4] = [Order::First, Order::Last, Order::Seed(0), Order::Seed(7)];
 
 // Few reductions are made in a state of any of them.
 const AMPLE: u64 = 99;
-
-// A row's program and its table of inputs.
-fn program_and_table<'a>(row: &'a str) -> (&'a str, &'a str) {
-    row.split_once("#").unwrap_or((row, ""))
-}
 
 // Closes the first state by both, in this order, and expects that they come to the same as passes in the first order.
 fn expect_same_rests(rt: &(impl Abort + AllocGlobal), row: &str, order: Order) -> Result<(), Fail> {
@@ -294,7 +254,10 @@ fn expect_same_rests(rt: &(impl Abort + AllocGlobal), row: &str, order: Order) -
         room: AMPLE,
     };
     let course = Course { order, room: AMPLE };
-    let (source, table) = program_and_table(row);
+    let row = parts(alloc, row, '#')?;
+    let [source, table] = row.as_slice() else {
+        return Err("no row".into());
+    };
     let expected = closed_source(alloc, source, table, Closing::ByPasses, first)?;
     let text = rest_text(alloc, &expected)?;
     holds(rt, matches!(&expected.ending, Ending::Rest), source);
@@ -312,27 +275,6 @@ fn both_closures_come_to_the_same_rests(rt: HostRuntime) -> Result<(), Fail> {
     for row in SOURCES.trim().lines() {
         for order in ORDERS {
             expect_same_rests(&rt, row, order)?;
-        }
-    }
-    Ok(())
-}
-
-// Closes the first state by an agenda, and expects that no wait is found twice and no item rests twice.
-fn expect_thrift(rt: &(impl Abort + AllocGlobal), row: &str, order: Order) -> Result<(), Fail> {
-    let alloc = rt.alloc();
-    let course = Course { order, room: AMPLE };
-    let (source, table) = program_and_table(row);
-    let state = closed_source(alloc, source, table, Closing::ByAgenda, course)?;
-    holds(rt, waits_once(alloc, &state.tally)?, source);
-    holds(rt, rests_once(alloc, &state.tally)?, source);
-    Ok(())
-}
-
-#[test]
-fn nothing_is_tried_twice_in_vain(rt: HostRuntime) -> Result<(), Fail> {
-    for row in SOURCES.trim().lines() {
-        for order in ORDERS {
-            expect_thrift(&rt, row, order)?;
         }
     }
     Ok(())
@@ -383,7 +325,7 @@ run input(L[B],q) and B = 0. # first # 9 # [0, 2, 1] waits 1: 1[], rests [] rest
 const TABLE: &str = "q=1";
 
 // The order that a word names.
-fn order_of(word: &str) -> Result<Order, Fail> {
+fn order_named(word: &str) -> Result<Order, Fail> {
     match word {
         "first" => Ok(Order::First),
         "last" => Ok(Order::Last),
@@ -401,7 +343,7 @@ fn expect_tally(rt: &(impl Abort + AllocGlobal), row: &str) -> Result<(), Fail> 
     let [source, order, room, expected] = row.as_slice() else {
         return Err("no row".into());
     };
-    let order = order_of(order)?;
+    let order = order_named(order)?;
     let room = u64::from(number(room)?);
     let course = Course { order, room };
     let state = closed_source(alloc, source, TABLE, Closing::ByAgenda, course)?;

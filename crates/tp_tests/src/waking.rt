@@ -1,26 +1,16 @@
 // Waits by what they are for, and what ends them.
 ghost use Rattle.std.specs.Prelude.{◌≡◌, ◌<◌, length, IfOk, OnOk};
 ghost use Rattle.std.specs.List.{All};
-ghost use Rattle.tp_meaning.specs.Fits.{ProgramFits};
-ghost use Rattle.tp_check.specs.Program.{program_tree};
-ghost use Rattle.tp_slots.specs.Kept.{IsWellKept};
 ghost use Rattle.tp_agenda.specs.Index.{IsFiled};
 
 use crate::expected::same_text;
-use crate::making::{nothing_told, path};
-use crate::sources::program_of;
-use crate::steps::begin;
+use crate::making::path;
 use std::alloc::Global;
-use std::marker::Brand;
 use std::process::Abort;
-use std::sync::ledger::{Blank, Ledger};
 use std::test::Fail;
-use tp_agenda::{Cause, Index, file, no_waits, wake_by, wake_ends};
-use tp_check::Program;
-use tp_inputs::Inputs;
+use tp_agenda::{Cause, Index, file, no_waits, wake_by};
 use tp_lanes::Plane;
-use tp_pass::close_by_passes;
-use tp_step::{Cell, Course, Order, Scene, Steps, Wait};
+use tp_step::{Cell, Wait};
 use tp_value::{Fact, NoMemory, Shape};
 
 // The number of a variable, and indices.
@@ -47,13 +37,18 @@ fn wait(item: u64, first: Cell, other: Option<Cell>) -> Wait
 fn some_waits(alloc: Global) -> Result<Vec<Wait>, NoMemory>
     ensures { IfOk result (λ waits. All (λ w. w.item < 8) waits.items) }
 {
+    let variable = part(alloc, (0, &[]))?;
+    let item = part(alloc, (1, &[2]))?;
+    let one = part(alloc, (2, &[]))?;
+    let other = part(alloc, (3, &[]))?;
+    let again = part(alloc, (0, &[]))?;
     let waits = vec![in alloc;
-        wait(0, part(alloc, (0, &[]))?, None),
-        wait(1, part(alloc, (1, &[2]))?, None),
-        wait(2, part(alloc, (2, &[]))?, Some(part(alloc, (3, &[]))?)),
+        wait(0, variable, None),
+        wait(1, item, None),
+        wait(2, one, Some(other)),
         wait(3, end(0), None),
         wait(4, end(1), None),
-        wait(7, part(alloc, (0, &[]))?, Some(end(0))),
+        wait(7, again, Some(end(0))),
     ]?;
     Ok(waits)
 }
@@ -102,26 +97,6 @@ fn woken(
 {
     let mut ready = Plane::new(alloc, 8)?;
     wake_by(waits, index, cause, &mut ready, over);
-    members(alloc, &ready)
-}
-
-// The items that become ready by the ends that the scene knows.
-fn woken_at_ends(
-    alloc: Global,
-    waits: &[Wait],
-    index: &mut Index,
-    scene: &Scene,
-    over: &mut Vec<bool>,
-) -> Result<String, NoMemory>
-    requires kept { IsWellKept scene.now }
-    requires below { All (λ w. w.item < 8) waits.now }
-    requires filed { IsFiled index.old waits.now over.old.items }
-    requires sizes { length over.old.items ≡ length waits.now }
-    ensures filed { OnOk result (IsFiled index.new waits.now over.new.items) }
-    ensures sizes { OnOk result (length over.new.items ≡ length waits.now) }
-{
-    let mut ready = Plane::new(alloc, 8)?;
-    wake_ends(waits, index, scene, &mut ready, over);
     members(alloc, &ready)
 }
 
@@ -233,63 +208,6 @@ fn a_wait_is_over_once_it_is_decided(rt: HostRuntime) -> Result<(), Fail> {
     for (first, then, expected) in ROWS {
         let text = woken_twice(rt.alloc(), first, then)?;
         same_text(&rt, text.as_str(), expected, "what becomes ready");
-    }
-    Ok(())
-}
-
-// The items that become ready by the known ends of a first state: as it begins, once it is closed, and again; and then by the end of
-// the root, and by that of the next region.
-fn woken_by_scene<L: Ledger>(alloc: Global, blank: Blank, program: Program) -> Result<String, Fail>
-    requires name { blank.name ≡ L.name }
-    requires parts { blank.parts ≡ L.parts }
-    requires some { 0 < L.parts }
-    requires fits { ProgramFits (program_tree program) }
-{
-    let mut steps = Steps::<L>::new(blank);
-    let inputs = Inputs::none(alloc)?;
-    let (mut scene, mut store, setting) = begin(alloc, &program, &inputs)?;
-    let waits = some_waits(alloc)?;
-    let (mut index, mut over) = filed(alloc, &waits)?;
-    let mut text = woken_at_ends(alloc, &waits, &mut index, &scene, &mut over)?;
-    let mut tally = nothing_told(alloc);
-    let course = Course {
-        order: Order::First,
-        room: 9,
-    };
-    close_by_passes(
-        &mut scene, &mut store, &setting, course, &mut tally, &mut steps,
-    )?;
-    let closed = woken_at_ends(alloc, &waits, &mut index, &scene, &mut over)?;
-    text.push_str(closed.as_str())?;
-    let again = woken_at_ends(alloc, &waits, &mut index, &scene, &mut over)?;
-    text.push_str(again.as_str())?;
-    let root = woken(alloc, &waits, &index, &Cause::Marked(0), &mut over)?;
-    text.push_str(root.as_str())?;
-    let inner = woken(alloc, &waits, &index, &Cause::Marked(1), &mut over)?;
-    text.push_str(inner.as_str())?;
-    Ok(text)
-}
-
-fn told_ends(alloc: Global, source: &str) -> Result<String, Fail> {
-    let program = program_of(alloc, source)?;
-    woken_by_scene::<Brand>(alloc, Blank::new(1), program)
-}
-
-// Programs whose first states leave the root open, end it or go on, and know the end of the next region or don't.
-const ENDS: [(&str, &str); 6] = [
-    ("run A = 1.", " [] [] [] [3, 7] [4]"),
-    ("run empty.", " [] [3, 7] [] [] [4]"),
-    ("run more.", " [] [3, 7] [] [] [4]"),
-    ("run more ; true.", " [] [3, 4, 7] [] [] []"),
-    ("run true ; more.", " [] [] [] [3, 7] [4]"),
-    ("run A = B ; empty.", " [] [] [] [3, 7] [4]"),
-];
-
-#[test]
-fn ends_of_regions_end_waits(rt: HostRuntime) -> Result<(), Fail> {
-    for (source, expected) in ENDS {
-        let text = told_ends(rt.alloc(), source)?;
-        same_text(&rt, text.as_str(), expected, source);
     }
     Ok(())
 }

@@ -3,7 +3,7 @@ use Rattle.std.proofs.Common.{◌≡◌, ◌+◌, ◌<◌, Bool, false, List, []
 use Rattle.std.proofs.lemmas.List.{length-take-le, take_more}
 use Rattle.tp_step.specs.declared.answer.Wait.{Wait}
 use Rattle.tp_agenda.specs.Index.{IsFiled}
-use Rattle.tp_run_tests.proofs.waking.filed.Goals as goal
+use Rattle.tp_tests.proofs.waking.filed.Goals as goal
 
 pub loop-wait-preserved : goal.loop-wait-preserved
 loop-wait-preserved c =
