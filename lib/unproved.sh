@@ -114,11 +114,11 @@ tell_answer() {
     exit 20
 }
 
-# Runs the words by a try, with FILE as `source`, TABLE as `table` and TRACE as `trace`.
+# Runs the words by a try, with FILE as `source`, TABLE as `table` and TRACE as `trace`; SIZE stays.
 run_unproved() {
     # fewer words than a mode and a FILE are refused in any case, and more than these too
     case $files:$mode in
-    1:run | 1:print | 1:convert | 1:check) ;;
+    1:run | 1:print | 1:convert | 1:check | 1:drill) ;;
     *)
         stop_on_bytes "$@"
         echo "words refused"
@@ -139,7 +139,7 @@ run_unproved() {
         :yes:--inputs=*) word=--inputs=table ;;
         :yes:--with=*) word=--with=trace ;;
         :yes:-?*) ;;
-        *) if [ -z "$first" ]; then first=$word; else word=source; fi ;;
+        *) if [ -z "$first" ]; then first=$word; elif [ "$mode" != drill ]; then word=source; fi ;;
         esac
         await_behind "$word"
         set -- "$@" "$word"
@@ -160,6 +160,8 @@ run_unproved() {
     if [ "$mode" = convert ]; then
         give "$source" "$TABLE_LIMIT" source
         given_table=$given
+    elif [ "$mode" = drill ]; then
+        given=
     else
         give "$source" "$SOURCE_LIMIT" source
     fi
