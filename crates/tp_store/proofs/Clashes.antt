@@ -1,5 +1,5 @@
 -- What may clash with the facts of a tree.
-use Rattle.std.proofs.Common.{◌≡◌, ℕ, suc, ◌<◌, Bool, true, false, not, ◌&&◌, eqb, List, length, slice_get, Option, Some, None, refl, ap, ap₂, sym, ◌∙◌}
+use Rattle.std.proofs.Common.{◌≡◌, ℕ, suc, ◌<◌, Bool, true, false, not, ◌&&◌, eqb, List, length, slice_get, Some, None, refl, ap, ap₂, sym, ◌∙◌}
 use mathlib.Core.Bool.{beq}
 use Rattle.std.specs.List.{IsDistinct}
 use Rattle.std.proofs.lemmas.Bool.{false_from_ne_true, both_ways, and_parts, eqb-true, eq-eqb}
@@ -7,12 +7,12 @@ use Rattle.tp_value.specs.declared.value.Shape.{Shape}
 use Rattle.tp_value.specs.declared.path.VarId.{VarId}
 use Rattle.tp_value.specs.declared.path.Path.{Path}
 use Rattle.tp_value.specs.declared.path.Fact.{Fact}
-use Rattle.tp_store.specs.Facts.{same_shape, has_item, excludes, clash, kept_shape, is_excluded}
+use Rattle.tp_store.specs.Facts.{same_shape, has_item, clash, is_excluded}
 use Rattle.tp_store.specs.Known.{NoClash, first_clash}
 use Rattle.tp_store.specs.declared.nodes.Edge.{Edge}
 use Rattle.tp_store.specs.declared.nodes.Node.{Node}
 use Rattle.tp_store.specs.Nodes.{same_edge, node_from, routes, IsRooted, facts_along, shape_found, beyond_among, AreBeyond, lacks_way}
-use Rattle.tp_store.proofs.Members.{In, excluded_by}
+use Rattle.tp_store.proofs.Members.{excluded_by}
 use Rattle.tp_store.proofs.EntryLemmas.{beq_same}
 use Rattle.tp_store.proofs.Same.{clash-variable, excludes-variable}
 use Rattle.tp_store.proofs.FactMapLemmas.{no_first, kept_already, apart_from_all}

@@ -1,22 +1,16 @@
 -- Facts as the entries of a map, and what look-ups along a path tell of them.
-use Rattle.std.proofs.Common.{◌≡◌, inl, inr, ℕ, zero, suc, ◌+◌, ◌-◌, ◌<◌, ◌≤◌, max, Bool, true, false, not, ◌&&◌, ◌||◌, cond, eqb, List, [], ◌∷◌, ◌++◌, length, map, take, drop, get_or, Option, Some, None, Result, Ok, Err, refl, ap, ap₂, sym, ◌∙◌, subst, arith, append_assoc}
-use Rattle.std.proofs.lemmas.Bool.{both_ways, false_from_ne_true, and_parts, or_from, lt-ltb, ltb-true, eq-eqb, eqb-true}
-use Rattle.std.proofs.lemmas.List.{append-nil, map-append}
-use Rattle.std.proofs.Math.Seq.{take-suc}
+use Rattle.std.proofs.Common.{◌≡◌, inl, inr, ℕ, zero, suc, ◌+◌, ◌-◌, ◌<◌, max, Bool, true, false, not, ◌&&◌, ◌||◌, cond, eqb, List, [], ◌∷◌, ◌++◌, length, take, drop, get_or, Option, Some, None, refl, ap, ap₂, sym, ◌∙◌, subst, arith}
+use Rattle.std.proofs.lemmas.Bool.{both_ways, false_from_ne_true, and_parts, or_from, eq-eqb, eqb-true}
 use Rattle.std.specs.List.{slice_get}
-use Rattle.std.specs.Option.{option_map}
-use Rattle.std.specs.Result.{IfOk}
-use Rattle.std.proofs.lemmas.Option.{slice_get-get_or}
 use Rattle.tp_value.specs.declared.value.Shape.{Shape}
-use Rattle.tp_value.specs.declared.value.Shape.TheVariants.{Num, Truth, Items}
 use Rattle.tp_value.specs.declared.path.VarId.{VarId}
 use Rattle.tp_value.specs.declared.path.Path.{Path}
 use Rattle.tp_value.specs.declared.path.Fact.{Fact}
 use Rattle.tp_store.specs.Facts.{same_variable, same_path, same_shape, has_item, leaves_out, excludes, clash, kept_shape, is_excluded, fact}
 use Rattle.tp_store.specs.Known.{NoClash, is_earlier, earlier_of, first_clash, deepest}
 use Rattle.tp_store.specs.FactMap.{lacks_item, outer_path}
-use Rattle.tp_store.proofs.Paths.{same_variable-decides, same_shape-decides, same_path-sym, fact_from}
-use Rattle.tp_store.proofs.Members.{In, in_right, kept_in, none_kept, in_kept, excluded_by, excluded_from, apart_in}
+use Rattle.tp_store.proofs.Paths.{same_variable-decides, same_shape-decides, fact_from}
+use Rattle.tp_store.proofs.Members.{In, kept_in, none_kept, in_kept, excluded_by, excluded_from, apart_in}
 
 -- a list at one of its items
 pub split_at : {A : Type 0} (xs : List A) (i : ℕ) (d : A) → i < length xs → xs ≡ take i xs ++ get_or xs i d ∷ drop (i + 1) xs

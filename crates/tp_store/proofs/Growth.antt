@@ -1,10 +1,9 @@
 -- What a tree is after it grows.
-use Rattle.std.proofs.Common.{◌≡◌, inl, inr, ℕ, zero, suc, ◌+◌, ◌<◌, ◌≤◌, max, false, List, [], ◌∷◌, ◌++◌, length, slice_get, Some, None, refl, ap, ap₂, sym, ◌∙◌, subst, arith, append-nil, append_assoc}
+use Rattle.std.proofs.Common.{◌≡◌, inl, inr, ℕ, suc, ◌<◌, ◌≤◌, false, List, [], ◌∷◌, ◌++◌, length, slice_get, Some, None, refl, ap, ap₂, sym, ◌∙◌, subst, arith, append-nil, append_assoc}
 use Rattle.std.specs.List.{IsDistinct}
 use Rattle.std.specs.Map.{keys_of, values_of}
 use Rattle.indexmap.specs.IndexMap.{insert_entry}
 use Rattle.tp_value.specs.declared.path.VarId.{VarId}
-use Rattle.tp_value.specs.declared.path.Path.{Path}
 use Rattle.tp_value.specs.declared.path.Fact.{Fact}
 use Rattle.tp_store.specs.declared.nodes.Edge.{Edge}
 use Rattle.tp_store.specs.declared.nodes.Node.{Node}
@@ -13,7 +12,7 @@ use Rattle.tp_store.specs.Facts.{kept_shape}
 use Rattle.tp_store.specs.Known.{NoClash, deepest}
 use Rattle.tp_store.specs.Changes.{HaveSameShapes}
 use Rattle.tp_store.specs.FactMap.{AreOf, AreOfOne, is_nil}
-use Rattle.tp_store.specs.Nodes.{edge, same_edge, edges_in, nodes_in, child, routes, IsRooted, facts_along, facts_in_tree, shape_among, beyond_among, with_node, with_shape_at, AreBeyond, IsTree, HasMoreNodes, KeepsAll, IsRaised}
+use Rattle.tp_store.specs.Nodes.{edge, same_edge, edges_in, nodes_in, child, routes, IsRooted, facts_along, facts_in_tree, shape_among, beyond_among, with_node, AreBeyond, IsTree, HasMoreNodes, KeepsAll, IsRaised}
 use Rattle.tp_store.proofs.Members.{In, in_right, kept_in, in_kept}
 use Rattle.tp_store.proofs.Same.{kept_depth}
 use Rattle.tp_store.proofs.Filing.{of_in, of_from}

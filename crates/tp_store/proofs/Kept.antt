@@ -1,19 +1,17 @@
 -- Facts that are kept in turn, each at its node.
-use Rattle.std.proofs.Common.{◌≡◌, inl, inr, ℕ, zero, suc, ◌+◌, ◌<◌, ◌≤◌, Bool, true, false, List, [], ◌∷◌, ◌++◌, length, take, drop, get_or, slice_get, Option, Some, None, refl, ap, ap₂, sym, ◌∙◌, subst, arith, append-nil, append_assoc}
-use Rattle.std.specs.List.{IsDistinct}
+use Rattle.std.proofs.Common.{◌≡◌, inl, inr, ℕ, ◌+◌, true, false, List, [], ◌∷◌, ◌++◌, take, drop, None, refl, ap, sym, ◌∙◌, subst, append-nil, append_assoc}
 use Rattle.tp_value.specs.declared.path.VarId.{VarId}
-use Rattle.tp_value.specs.declared.path.Path.{Path}
 use Rattle.tp_value.specs.declared.path.Fact.{Fact}
 use Rattle.tp_store.specs.Facts.{same_path, clash, kept_shape}
 use Rattle.tp_store.specs.Known.{NoClash, clashes_with_some}
 use Rattle.tp_store.specs.FactMap.{is_nil}
 use Rattle.tp_store.specs.Changes.{HaveSameShapes}
-use Rattle.tp_store.specs.FactMap.{AreOf, AreOfOne}
+use Rattle.tp_store.specs.FactMap.{AreOfOne}
 use Rattle.tp_store.specs.declared.nodes.Node.{Node}
 use Rattle.tp_store.specs.Nodes.{facts_along}
 use Rattle.tp_store.proofs.Paths.{same_path-sym, clash-sym}
 use Rattle.tp_store.proofs.Members.{In, in_left, in_right, in_append, kept_none, none_kept, meets_none, none_meets}
-use Rattle.tp_store.proofs.Same.{AgreeAt, same_kept}
+use Rattle.tp_store.proofs.Same.{same_kept}
 use Rattle.tp_store.proofs.Filing.{of_in}
 use Rattle.tp_store.proofs.Trees.{AddsFact, NoClash-insert, of_tree, none_of_any}
 

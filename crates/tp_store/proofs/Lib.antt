@@ -13,6 +13,7 @@ pub mod Filing
 pub mod Kept
 pub mod Clashes
 pub mod Growth
+pub mod Plain
 pub mod EntryLemmas
 pub mod Touched
 pub mod Meaning

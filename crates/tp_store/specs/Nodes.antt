@@ -8,7 +8,8 @@ use Rattle.tp_value.specs.declared.path.VarId.{VarId}
 use Rattle.tp_value.specs.declared.path.Path.{Path}
 use Rattle.tp_value.specs.declared.path.Fact.{Fact}
 use Rattle.tp_store.specs.Facts.{fact}
-use Rattle.tp_store.specs.FactMap.{lacks_item, AreOf}
+use Rattle.tp_value.specs.declared.value.Shape.TheVariants.{Items}
+use Rattle.tp_store.specs.FactMap.{lacks_item, AreOf, IsPlain}
 use Rattle.tp_store.specs.Known.{NoClash}
 use Rattle.tp_store.specs.Changes.{HaveSameShapes}
 use Rattle.tp_store.specs.declared.nodes.Edge.{Edge}
@@ -135,6 +136,21 @@ abbrev pub lacks_way : List Edge → List Node → List ℕ → ℕ → Bool
 lacks_way es ns [] n = false
 lacks_way es ns (k ∷ ks) n =
     lacks_item (shape_among ns n) k || lacks_below (child es n k) (lacks_way es ns ks)
+
+-- what is kept of an item of the root
+abbrev pub item_shape : Nodes → ℕ → Option Shape
+item_shape t k = shape_found (nodes_in t) (node_from (edges_in t) (k ∷ []) 0)
+
+-- the items of the root with lesser indices are numbers and truths
+abbrev pub ArePlainItems : (count : ℕ) → Nodes → Type 0
+ArePlainItems count t = (k : ℕ) → k < count → IsPlain (item_shape t k)
+
+-- The root is a list that has an item with this index, of which nothing is kept.
+pub record LacksShape (t : Nodes) (index : ℕ) : Type 0 where
+  pub count : ℕ
+  pub list : shape_among (nodes_in t) 0 ≡ Some (Items count)
+  pub within : index < count
+  pub none : item_shape t index ≡ None
 
 -- The facts are kept in a tree beside those that were, where they are all of one variable and
 -- don't clash.

@@ -1,11 +1,11 @@
 // The facts of one variable, found by their paths.
-ghost use Rattle.std.specs.Prelude.{◌≡◌, ◌<◌, ◌^◌, ◌++◌, ◌↔◌, [], Bool, true, false, None, Some, IfOk, OnOk, OnErr, IsTrue, ℕ};
+ghost use Rattle.std.specs.Prelude.{◌≡◌, ◌<◌, ◌^◌, ◌++◌, ◌↔◌, [], Bool, true, false, None, Some, IfOk, OnOk, OnErr, IsTrue, ℕ, suc};
 ghost use Rattle.std.specs.Option.{option_copied};
-ghost use Rattle.tp_store.specs.Facts.{kept_shape, is_excluded, has_item};
-ghost use Rattle.tp_store.specs.Known.{NoClash, deepest, first_clash, new_facts};
+ghost use Rattle.tp_store.specs.Facts.{kept_shape, is_excluded, has_item, item_path};
+ghost use Rattle.tp_store.specs.Known.{NoClash, deepest, first_clash, new_facts, open_at, whole};
 ghost use Rattle.tp_store.specs.Changes.{HaveSameShapes};
-ghost use Rattle.tp_store.specs.FactMap.{AreOfOne};
-ghost use Rattle.tp_store.specs.Nodes.{edges_in, node_from, facts_in_tree, IsTree};
+ghost use Rattle.tp_store.specs.FactMap.{AreOfOne, IsPlain};
+ghost use Rattle.tp_store.specs.Nodes.{edges_in, node_from, facts_in_tree, IsTree, ArePlainItems, LacksShape};
 
 use crate::clash::{clashes, is_earlier, same_shape};
 use crate::nodes::{Nodes, copy_facts, keep_facts};
@@ -23,6 +23,8 @@ pub struct FactMap {
     nodes: Nodes,
     // The greatest number of indices of a kept path.
     depth: u64,
+    // So many items of the variable's value, from the first on, are numbers and truths. More may be so.
+    plain: u32,
     empty: bool,
 }
 
@@ -34,7 +36,7 @@ impl Model for FactMap {
 
     ghost use Rattle.std.specs.Prelude.{◌≡◌, ◌<◌, ◌^◌};
     ghost use Rattle.tp_store.specs.Known.{NoClash, deepest};
-    ghost use Rattle.tp_store.specs.FactMap.{is_nil};
+    ghost use Rattle.tp_store.specs.FactMap.{is_nil, ArePlainBelow};
     ghost use Rattle.tp_store.specs.Nodes.{facts_in_tree, IsTree};
 
     ghost view = { λ m. facts_in_tree m.var m.nodes };
@@ -44,7 +46,8 @@ impl Model for FactMap {
         × IsTree m.nodes
         × (m.depth ≡ deepest (facts_in_tree m.var m.nodes))
         × (m.depth < 2 ^ 63)
-        × (m.empty ≡ is_nil (facts_in_tree m.var m.nodes)) };
+        × (m.empty ≡ is_nil (facts_in_tree m.var m.nodes))
+        × ArePlainBelow m.plain m.var (facts_in_tree m.var m.nodes) };
 }
 
 // The greatest number of indices of a path of these facts.
@@ -66,6 +69,53 @@ fn has_all(shape: Shape, beyond: u64) -> bool
     match shape {
         Shape::Items(n) => beyond <= u64::from(n),
         Shape::Num(_) | Shape::Truth(_) => beyond == 0,
+    }
+}
+
+// Whether this is the shape of a number or of a truth.
+fn is_plain(shape: Option<Shape>) -> bool
+    ensures { IsTrue result → IsPlain shape }
+{
+    match shape {
+        Some(Shape::Num(_) | Shape::Truth(_)) => true,
+        Some(Shape::Items(_)) | None => false,
+    }
+}
+
+// How many items of the root, from the first on, are numbers and truths, where so many are.
+fn count_plain(nodes: &Nodes, from: u32) -> u32
+    requires { ArePlainItems from nodes.now }
+    ensures { ArePlainItems result nodes.now }
+{
+    let mut count = from;
+    'items: while is_plain(nodes.kept(&[count])) {
+        let Some(next) = count.checked_add(1) else {
+            return count;
+        };
+        count = next;
+    }
+    count
+}
+
+// The same after this fact came, which may be of such an item.
+fn plain_after(nodes: &Nodes, from: u32, fact: &Fact) -> u32
+    requires { ArePlainItems from nodes.now }
+    ensures { ArePlainItems result nodes.now }
+{
+    if fact.path.at.items.len() == 1 {
+        count_plain(nodes, from)
+    } else {
+        from
+    }
+}
+
+// Whether the root is a list that has an item with this index, of which nothing is kept.
+fn lacks_shape(nodes: &Nodes, index: u32) -> bool
+    ensures { IsTrue result → LacksShape nodes.now index }
+{
+    match nodes.shape(0) {
+        Some(Shape::Items(count)) => index < count && nodes.kept(&[index]).is_none(),
+        Some(Shape::Num(_) | Shape::Truth(_)) | None => false,
     }
 }
 
@@ -133,6 +183,7 @@ impl FactMap {
             },
             nodes: Nodes::new(alloc),
             depth: 0,
+            plain: 0,
             empty: true,
         }
     }
@@ -169,6 +220,22 @@ impl FactMap {
     {
         let _count = self.nodes.count();
         path.var == self.var && self.nodes.lacks(path.at.items.as_slice())
+    }
+
+    /// The first open item of the value at the path, where it is found without a look at the items before it.
+    pub fn open_item(&self, path: &Path) -> Option<u32>
+        ensures { (k d : ℕ) → result ≡ Some k
+            → whole (suc (suc d)) self.now path.now ≡ open_at (item_path path.now k) }
+    {
+        if path.var != self.var || !path.at.items.as_slice().is_empty() {
+            return None;
+        }
+        let _count = self.nodes.count();
+        if lacks_shape(&self.nodes, self.plain) {
+            Some(self.plain)
+        } else {
+            None
+        }
     }
 
     // Whether a fact may clash with this one. Where memory ran out, none may do so after all.
@@ -232,6 +299,8 @@ impl FactMap {
         self.var = var;
         self.depth = self.depth.max(depth_of(news));
         self.empty = false;
+        let _count = self.nodes.count();
+        self.plain = plain_after(&self.nodes, self.plain, first);
         Ok(())
     }
 
@@ -241,6 +310,7 @@ impl FactMap {
     {
         self.nodes.clear();
         self.depth = 0;
+        self.plain = 0;
         self.empty = true;
     }
 }

@@ -81,6 +81,13 @@ fn whole_at(alloc: Global, facts: &FactMap, path: &Path, deeper: u64) -> Result<
         Some(Shape::Num(n)) => Ok(Found::Whole(Value::Num(n))),
         Some(Shape::Truth(b)) => Ok(Found::Whole(Value::Truth(b))),
         Some(Shape::Items(count)) => {
+            // a list whose items come one by one isn't read from the first on each time
+            if deeper > 1 {
+                if let Some(index) = facts.open_item(path) {
+                    let inner = item_path(path, index)?;
+                    return Ok(Found::Open(inner));
+                }
+            }
             let found = items_at(alloc, facts, path, count, deeper - 1)?;
             Ok(found)
         }

@@ -1,4 +1,4 @@
-use Rattle.std.proofs.Common.{◌≡◌, Bool, true, false, refl, ap, sym, ◌∙◌, ℕ, ◌<◌, Some, None, slice_get, arith}
+use Rattle.std.proofs.Common.{◌≡◌, true, false, refl, ap, sym, ◌∙◌, ℕ, ◌<◌, Some, None, slice_get, arith}
 use Rattle.tp_value.specs.declared.path.Fact.{Fact}
 use Rattle.tp_store.specs.Facts.{has_item}
 use Rattle.tp_store.specs.Nodes.{edges_in, nodes_in, node_from, beyond_among, shape_found, lacks_way}

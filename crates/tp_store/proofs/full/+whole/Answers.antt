@@ -1,4 +1,4 @@
-use Rattle.std.proofs.Common.{◌≡◌, ◌+◌, ◌-◌, ◌∷◌, [], ap, sym, ◌∙◌, arith, map}
+use Rattle.std.proofs.Common.{◌≡◌, ◌+◌, ◌-◌, ◌∷◌, [], suc, ap, sym, ◌∙◌, arith, map}
 use Rattle.std.proofs.lemmas.List.{map-append}
 use Rattle.tp_value.specs.Read.{tree}
 use Rattle.tp_value.specs.Equations.{tree_list}
@@ -25,3 +25,10 @@ pub items_at-returns : goal.items_at-returns
 items_at-returns t c =
     let item = whole c.args.deeper c.args.facts.now in
     ap known (tree_list _) ∙ ap list_of_items (sym (known_all item c.args.path.now c.args.count c.loop-k.k (map tree c.loop-k.items.items) (omega arith)) ∙ c.loop-k.invariant)
+
+pub whole_at-returns-in-Some : goal.whole_at-returns-in-Some
+whole_at-returns-in-Some t c =
+    let d = c.args.deeper - 2 in
+    let more = c.if-deeper-gt1.true in
+    let deep : suc (suc d) ≡ c.args.deeper = omega (arith, more) in
+    ap open_at c.in_ok-inner-in-Some-Items.ensures ∙ sym (c.open_item.ensures c.in-Some.index d c.in-Some.is) ∙ ap (λ n. whole n c.args.facts.now c.args.path.now) deep

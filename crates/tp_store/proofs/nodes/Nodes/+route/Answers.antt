@@ -1,4 +1,4 @@
-use Rattle.std.proofs.Common.{rules, ◌≡◌, ◌-◌, ◌<◌, ◌++◌, ◌∷◌, [], suc, List, length, get_or, slice_get, Some, ap, sym, ◌∙◌, arith, option_map}
+use Rattle.std.proofs.Common.{rules, ◌≡◌, ◌-◌, ◌<◌, ◌++◌, ◌∷◌, [], suc, List, length, get_or, ap, sym, ◌∙◌, arith, option_map}
 use Rattle.std.specs.Map.Iter.{deref_pair}
 use Rattle.tp_store.specs.Nodes.{edges_in, nodes_in, routes}
 use Rattle.tp_store.proofs.Routes.{root_route, route_at, rooted_at}

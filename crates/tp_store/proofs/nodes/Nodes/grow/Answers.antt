@@ -1,7 +1,7 @@
-use Rattle.std.proofs.Common.{◌≡◌, ◌<◌, length, None, Some, refl, ap, sym, ◌∙◌, subst, arith, ℕ}
+use Rattle.std.proofs.Common.{◌≡◌, None, Some, refl, ap, sym, ◌∙◌, arith}
 use Rattle.tp_store.specs.declared.nodes.Nodes.{Nodes}
-use Rattle.tp_store.specs.Nodes.{edges_in, nodes_in, child}
-use Rattle.tp_store.proofs.Growth.{raised_more, more_then, moved_tree, moved_more, new_tree, new_more, new_child, new_within}
+use Rattle.tp_store.specs.Nodes.{edges_in, child}
+use Rattle.tp_store.proofs.Growth.{raised_more, more_then, new_tree, new_more, new_child}
 use Rattle.tp_store.proofs.nodes.Nodes.grow.Goals as goal
 
 pub returns-clause-tree : goal.returns-clause-tree

@@ -1,5 +1,4 @@
-use Rattle.std.proofs.Common.{◌≡◌, Some, ap, sym, ◌∙◌, arith}
-use Rattle.tp_store.specs.declared.nodes.Node.{Node}
+use Rattle.std.proofs.Common.{Some, ap, sym, ◌∙◌, arith}
 use Rattle.tp_store.specs.Nodes.{nodes_in, with_node}
 use Rattle.tp_store.proofs.Ways.{beyond_of_node, none_past}
 use Rattle.tp_store.proofs.nodes.Nodes.keep.Goals as goal

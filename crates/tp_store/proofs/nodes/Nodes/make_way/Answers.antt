@@ -1,4 +1,4 @@
-use Rattle.std.proofs.Common.{◌≡◌, take, Some, refl, ap, ◌∙◌}
+use Rattle.std.proofs.Common.{take, refl, ap, ◌∙◌}
 use Rattle.tp_store.specs.Nodes.{edges_in, node_from}
 use Rattle.tp_store.proofs.Ways.{way_on, next_way}
 use Rattle.tp_store.proofs.Growth.{more_then}

@@ -1,7 +1,5 @@
-use Rattle.std.proofs.Common.{◌≡◌, ◌∷◌, ◌-◌, suc, List, slice_get, ap, sym, ◌∙◌, arith, option_map}
-use Rattle.std.specs.Map.{values_of}
+use Rattle.std.proofs.Common.{◌≡◌, ◌-◌, suc, slice_get, ap, sym, ◌∙◌, arith, option_map}
 use Rattle.std.specs.Map.Iter.{deref_pair}
-use Rattle.tp_store.specs.declared.nodes.Node.{Node}
 use Rattle.tp_store.specs.Nodes.{nodes_in}
 use Rattle.tp_store.proofs.Ways.{values_at, values_past}
 use Rattle.tp_store.proofs.nodes.Nodes.node.Goals as goal

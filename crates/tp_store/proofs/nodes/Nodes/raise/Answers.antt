@@ -1,4 +1,4 @@
-use Rattle.std.proofs.Common.{◌≡◌, ◌≤◌, ◌<◌, sym, ◌∙◌, arith}
+use Rattle.std.proofs.Common.{◌≡◌, sym, ◌∙◌, arith}
 use Rattle.tp_store.specs.Nodes.{nodes_in, beyond_among}
 use Rattle.tp_store.proofs.Ways.{shape_of_node, beyond_of_node}
 use Rattle.tp_store.proofs.Growth.{set_raised, high_enough}
