@@ -3,7 +3,7 @@ use tp_kernel::FaultKind;
 use tp_value::{Fact, Path};
 
 /// What an item waits for: the shape at a path, or the end of a region with its depth.
-#[derive(Debug, Drop)]
+#[derive(Debug, PartialEq, Eq, Hash, Drop)]
 pub enum Cell {
     Part(Path),
     End { region: u64, depth: u32 },
