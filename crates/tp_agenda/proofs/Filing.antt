@@ -1,13 +1,15 @@
 -- A place is filed under one key.
-use Rattle.std.proofs.Common.{◌≡◌, ℕ, suc, ◌<◌, ◌≤◌, Bool, true, false, cond, List, [], ◌∷◌, ◌++◌, length, length-append, get_or, nat_eq, unwrap_or, Option, Some, refl, ap, sym, ◌∙◌, subst, inl, inr, arith}
-use Rattle.std.proofs.lemmas.Bool.{cases_Bool, cases_eq}
+use Rattle.std.proofs.Common.{◌≡◌, ℕ, suc, ◌<◌, ◌≤◌, Bool, true, false, ◌&&◌, cond, List, [], ◌∷◌, ◌++◌, length, length-append, get_or, nat_eq, unwrap_or, Option, Some, refl, ap, ap₂, sym, ◌∙◌, subst, inl, inr, arith}
+use Rattle.std.proofs.lemmas.Bool.{and_right, cases_Bool, cases_eq}
 use Rattle.std.proofs.lemmas.Bool.Decides.{Decides-eqb}
 use Rattle.std.proofs.lemmas.List.{get_or_push}
+use Rattle.std.specs.Cmp.Lexicographic.{pointwise}
 use Rattle.indexmap.specs.IndexMap.{get}
+use Rattle.tp_value.specs.declared.path.VarId.{VarId}
 use Rattle.tp_value.specs.declared.path.Path.{Path}
 use Rattle.tp_agenda.specs.declared.index.Link.{Link}
 use Rattle.tp_agenda.specs.declared.index.Index.{Index}
-use Rattle.tp_agenda.specs.Index.{no_link, places_named, equal_paths, newest_at, newest_for, IsChained, HasFiled, IsPushed}
+use Rattle.tp_agenda.specs.Index.{no_link, places_named, equal_paths, equal_variables, kept_of, newest_at, newest_for, IsChained, HasFiled, IsPushed}
 use Rattle.tp_agenda.proofs.Links.{LeadBack, lead_back, named_new, named_old, still_there, equal_paths-decides}
 
 abbrev named_from : List Link → ℕ → List ℕ
@@ -63,7 +65,7 @@ abbrev HasLink : (old new : Index) → (place n : ℕ) → Type 0
 HasLink old new place n = new.links.items ≡ old.links.items ++ record { place = place; next = n } ∷ []
 
 pub filed_under_path : (old new : Index) (path : Path) (place v : ℕ) → IsChained old → HasLink old new place (newest_at old path) → v ≡ suc (length old.links.items)
-    → ((q : Path) → get equal_paths new.paths q ≡ cond (equal_paths path q) (Some v) (get equal_paths old.paths q)) → ((r : ℕ) → newest_for new r ≡ newest_for old r)
+    → ((q : Path) → kept_of new q q.at ≡ cond (equal_paths path q) (Some v) (kept_of old q q.at)) → ((r : ℕ) → newest_for new r ≡ newest_for old r)
     → HasFiled old new place (equal_paths path) (λ r. false)
 filed_under_path old new path place v h grown e put stay =
     let ls = old.links.items in
@@ -72,7 +74,7 @@ filed_under_path old new path place v h grown e put stay =
     let within = h.paths_fit path in
     let same : (q : Path) → equal_paths path q ≡ true → newest_at old q ≡ n = λ q is_so. ap (newest_at old) (sym ((equal_paths-decides path q).0 is_so)) in
     let now : (q : Path) → newest_at new q ≡ cond (equal_paths path q) (suc (length ls)) (newest_at old q) =
-    (λ q. ap (λ o. unwrap_or o 0) (put q) ∙ newest_now (equal_paths path q) v (get equal_paths old.paths q) ∙ ap (λ z. cond (equal_paths path q) z (newest_at old q)) e) in
+    (λ q. ap (λ o. unwrap_or o 0) (put q) ∙ newest_now (equal_paths path q) v (kept_of old q q.at) ∙ ap (λ z. cond (equal_paths path q) z (newest_at old q)) e) in
     record {
       chained = record {
         nexts = subst LeadBack (sym grown) (lead_back ls h.nexts place n within);
@@ -82,6 +84,31 @@ filed_under_path old new path place v h grown e put stay =
       paths = filed_one ls ls' place n (newest_at old) (newest_at new) (equal_paths path) h.nexts h.paths_fit within same grown now;
       ends = others_stay ls ls' place n (newest_for old) (newest_for new) h.nexts h.ends_fit within grown stay;
     }
+
+and_true : (b : Bool) → (b && true) ≡ b
+and_true true = refl
+and_true false = refl
+
+-- the links of paths with indices are kept by their paths
+pub part_found : (x : Index) (p : Path) (at : List ℕ) → 0 < length at → kept_of x p at ≡ get equal_paths x.parts p
+part_found x p [] some = absurd (omega (arith, some))
+part_found x p (k ∷ ks) some = refl
+
+-- a map of one kind of paths got a link, and the other is as it was
+pub whole_kept : (old new : Index) (x : VarId) (v : ℕ) → ((y : VarId) → get equal_variables new.wholes y ≡ cond (equal_variables x y) (Some v) (get equal_variables old.wholes y))
+    → new.parts ≡ old.parts → (q : Path) (at : List ℕ) → kept_of new q at ≡ cond (equal_variables x q.var && pointwise nat_eq [] at) (Some v) (kept_of old q at)
+whole_kept old new x v put same q [] = put q.var ∙ ap (λ b. cond b (Some v) (get equal_variables old.wholes q.var)) (sym (and_true (equal_variables x q.var)))
+whole_kept old new x v put same q (k ∷ ks) =
+    ap (λ m. get equal_paths m q) same ∙ ap (λ b. cond b (Some v) (get equal_paths old.parts q)) (sym (and_right (equal_variables x q.var) false refl))
+
+pub part_kept : (old new : Index) (p : Path) (v : ℕ) → ((q : Path) → get equal_paths new.parts q ≡ cond (equal_paths p q) (Some v) (get equal_paths old.parts q))
+    → new.wholes ≡ old.wholes → (q : Path) (of at : List ℕ) → 0 < length of → of ≡ p.at → at ≡ q.at
+    → kept_of new q at ≡ cond (equal_variables p.var q.var && pointwise nat_eq of at) (Some v) (kept_of old q at)
+part_kept old new p v put same q [] at some e e' = absurd (omega (arith, some))
+part_kept old new p v put same q (j ∷ js) [] some e e' =
+    ap (λ m. get equal_variables m q.var) same ∙ ap (λ b. cond b (Some v) (get equal_variables old.wholes q.var)) (sym (and_right (equal_variables p.var q.var) false refl))
+part_kept old new p v put same q (j ∷ js) (k ∷ ks) some e e' =
+    put q ∙ ap₂ (λ a b. cond (equal_variables p.var q.var && pointwise nat_eq a b) (Some v) (get equal_paths old.parts q)) (sym e) (sym e')
 
 pub filed_under_end : (old new : Index) (region : ℕ) (place v : ℕ) → IsChained old → HasLink old new place (newest_for old region) → v ≡ suc (length old.links.items)
     → ((r : ℕ) → get nat_eq new.ends r ≡ cond (nat_eq region r) (Some v) (get nat_eq old.ends r)) → ((q : Path) → newest_at new q ≡ newest_at old q)

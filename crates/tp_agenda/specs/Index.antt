@@ -1,8 +1,9 @@
 -- What the index of waits holds. No moment is in it.
-use Rattle.std.specs.Prelude.{◌≡◌, ◌⊎◌, ℕ, zero, suc, ◌<◌, ◌≤◌, ◌&&◌, Bool, true, false, nat_eq, List, [], ◌∷◌, length, get_or, slice_get, unwrap_or, cond, Some}
+use Rattle.std.specs.Prelude.{◌≡◌, ◌⊎◌, ℕ, zero, suc, ◌<◌, ◌≤◌, ◌&&◌, Bool, true, false, nat_eq, List, [], ◌∷◌, Option, length, get_or, slice_get, unwrap_or, cond, Some}
 use Rattle.std.specs.Cmp.Lexicographic.{pointwise}
 use Rattle.std.specs.Bool.{beq}
 use Rattle.indexmap.specs.IndexMap.{get}
+use Rattle.tp_value.specs.declared.path.VarId.{VarId}
 use Rattle.tp_value.specs.declared.path.Path.{Path}
 use Rattle.tp_scene.specs.declared.answer.Cell.{Cell}
 use Rattle.tp_scene.specs.declared.answer.Cell.TheVariants.{Part, End}
@@ -22,13 +23,25 @@ places_named (suc k) ls zero = []
 places_named (suc k) ls (suc n) =
     (get_or ls n no_link).place ∷ places_named k ls (get_or ls n no_link).next
 
--- the newest link of a path, from 1, and of a region's end; 0 for none
-abbrev pub equal_paths : Path → Path → Bool
-equal_paths p q = (nat_eq p.var.number q.var.number && beq p.var.lasting q.var.lasting)
-    && pointwise nat_eq p.at q.at
+-- the tests of keys by which links are found
+abbrev pub equal_variables : VarId → VarId → Bool
+equal_variables x y = nat_eq x.number y.number && beq x.lasting y.lasting
 
+abbrev pub equal_paths : Path → Path → Bool
+equal_paths p q = equal_variables p.var q.var && pointwise nat_eq p.at q.at
+
+-- the path of a variable whole
+abbrev pub whole_path : VarId → Path
+whole_path x = record { var = x; at = [] }
+
+-- what is kept of a path, which has these indices
+abbrev pub kept_of : Index → Path → (at : List ℕ) → Option ℕ
+kept_of x p [] = get equal_variables x.wholes p.var
+kept_of x p (k ∷ ks) = get equal_paths x.parts p
+
+-- the newest link of a path, from 1, and of a region's end; 0 for none
 abbrev pub newest_at : Index → Path → ℕ
-newest_at x p = unwrap_or (get equal_paths x.paths p) 0
+newest_at x p = unwrap_or (kept_of x p p.at) 0
 
 abbrev pub newest_for : Index → (region : ℕ) → ℕ
 newest_for x r = unwrap_or (get nat_eq x.ends r) 0

@@ -3,12 +3,12 @@ ghost use Rattle.std.specs.Prelude.{◌≡◌, ◌<◌, ◌^◌, List, Bool, [],
 ghost use Rattle.tp_store.specs.FactMap.{outer_path};
 ghost use Rattle.tp_step.specs.declared.answer.Wait.{Wait as WaitSeen};
 ghost use Rattle.tp_agenda.specs.Decides.{holds_path};
-ghost use Rattle.tp_agenda.specs.Index.{HasFiled, IsChained, IsFiled, IsPushed, equal_paths, is_filed_for, is_filed_under, newest_at, newest_for};
+ghost use Rattle.tp_agenda.specs.Index.{HasFiled, IsChained, IsFiled, IsPushed, equal_paths, is_filed_for, is_filed_under, newest_at, newest_for, whole_path};
 
 use indexmap::IndexMap;
 use std::alloc::Global;
 use tp_step::{Cell, Wait};
-use tp_value::{NoMemory, Path};
+use tp_value::{NoMemory, Path, VarId};
 
 /// The place of a wait, and the number of the link before this one, from 1; 0 for none.
 #[derive(Clone, Copy)]
@@ -17,11 +17,13 @@ pub(crate) struct Link {
     pub next: u64,
 }
 
-/// The waits of a list by what they are for: the newest link of each path and of each region's end, from 1, and the links. A wait for a
-/// path is filed under the path and each that it lies within, so that a fact's own path leads to all that it decides.
+/// The waits of a list by what they are for: the newest link of each path, with and without indices, and of each region's end, from 1,
+/// and the links. A wait for a path is filed under the path and each that it lies within, so that a fact's own path leads to all that it
+/// decides. Most waits are for a variable whole, which is found without its path being copied.
 #[derive(Drop)]
 pub struct Index {
-    pub(crate) paths: IndexMap<Path, u64>,
+    pub(crate) wholes: IndexMap<VarId, u64>,
+    pub(crate) parts: IndexMap<Path, u64>,
     pub(crate) ends: IndexMap<u64, u64>,
     pub(crate) links: Vec<Link>,
 }
@@ -31,7 +33,8 @@ pub fn no_waits(alloc: Global) -> Index
     ensures filed { IsFiled result [] [] }
 {
     Index {
-        paths: IndexMap::new(alloc),
+        wholes: IndexMap::new(alloc),
+        parts: IndexMap::new(alloc),
         ends: IndexMap::new(alloc),
         links: Vec::new(alloc),
     }
@@ -41,7 +44,12 @@ pub fn no_waits(alloc: Global) -> Index
 pub(crate) fn newest_at(index: &Index, path: &Path) -> u64
     ensures { result ≡ newest_at index.now path.now }
 {
-    match index.paths.get(path) {
+    let newest = if path.at.items.is_empty() {
+        index.wholes.get(&path.var)
+    } else {
+        index.parts.get(path)
+    };
+    match newest {
         Some(link) => *link,
         None => 0,
     }
@@ -57,15 +65,29 @@ pub(crate) fn newest_for(index: &Index, region: u64) -> u64
     }
 }
 
-// Files the place under the path.
-fn file_under(index: &mut Index, path: Path, place: u64) -> Result<(), NoMemory>
+// Files the place under the path of a whole variable.
+fn file_whole(index: &mut Index, var: VarId, place: u64) -> Result<(), NoMemory>
     requires chained { IsChained index.old }
+    ensures ok { OnOk result
+        (HasFiled index.old index.new place (equal_paths (whole_path var)) (λ region. false)) }
+    ensures links { OnOk result (IsPushed index.old index.new place) }
+{
+    let number = index.links.len() as u64 + 1;
+    let next = index.wholes.insert(var, number)?.unwrap_or(0);
+    index.links.push(Link { place, next })?;
+    Ok(())
+}
+
+// Files the place under the path, which has indices.
+fn file_part(index: &mut Index, path: Path, place: u64) -> Result<(), NoMemory>
+    requires chained { IsChained index.old }
+    requires part { 0 < length path.at }
     ensures ok { OnOk result
         (HasFiled index.old index.new place (equal_paths path) (λ region. false)) }
     ensures links { OnOk result (IsPushed index.old index.new place) }
 {
     let number = index.links.len() as u64 + 1;
-    let next = index.paths.insert(path, number)?.unwrap_or(0);
+    let next = index.parts.insert(path, number)?.unwrap_or(0);
     index.links.push(Link { place, next })?;
     Ok(())
 }
@@ -107,10 +129,11 @@ fn file_path(index: &mut Index, path: &Path, place: u64) -> Result<(), NoMemory>
         (HasFiled index.old index.new place (λ q. holds_path q path.now) (λ region. false)) }
     ensures links { OnOk result (IsPushed index.old index.new place) }
 {
+    file_whole(index, path.var, place)?;
     let most = depth(path);
-    for count in 0..most + 1 {
+    for count in 1..most + 1 {
         let outer = outer_path(path, count)?;
-        file_under(index, outer, place)?;
+        file_part(index, outer, place)?;
     }
     Ok(())
 }

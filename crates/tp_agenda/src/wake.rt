@@ -4,7 +4,7 @@ ghost use Rattle.std.specs.List.{All};
 ghost use Rattle.tp_store.specs.Facts.{excludes, has_item, leaves_out};
 ghost use Rattle.tp_scene.specs.Decided.{decides_path};
 ghost use Rattle.tp_agenda.specs.Decides.{has_passing};
-ghost use Rattle.tp_agenda.specs.Index.{IsFiled, no_link, places_named};
+ghost use Rattle.tp_agenda.specs.Index.{IsChained, IsFiled, no_link, places_named};
 ghost use Rattle.tp_agenda.specs.Wakes.{AreOver, AreOverAt, WakesOnly, is_decided_by, newest_by};
 
 use crate::index::{Index, Link, newest_at, newest_for};
@@ -112,10 +112,14 @@ fn wake_place(waits: &[Wait], place: u64, cause: &Cause, ready: &mut Plane, over
     }
 }
 
-// The newest link of the waits that it may end.
+// The newest link of the waits that it may end. Where there is none, no path is looked up.
 fn newest_by(index: &Index, cause: &Cause) -> u64
+    requires { IsChained index.now }
     ensures { result ≡ newest_by index.now cause.now }
 {
+    if index.links.as_slice().is_empty() {
+        return 0;
+    }
     match cause {
         Cause::Known(fact) => newest_at(index, &fact.path),
         Cause::Marked(region) => newest_for(index, *region),

@@ -50,7 +50,7 @@ pub record IsLeftBelow (least : ℕ) (old new : List Bool) : Type 0 where
   pub below : (n : ℕ) → n < least → flag new n ≡ flag old n
   pub gone : (n : ℕ) → least ≤ n → flag new n ≡ false
 
--- In the set are the numbers of before, and the new one, unless memory was refused.
+-- In the set are numbers of before and the new one, and no others.
 abbrev pub IsJoined : (number : ℕ) → (old new : List Bool) → Type 0
 IsJoined number old new = (n : ℕ) → flag new n ≡ true → (flag old n ≡ true) ⊎ (n ≡ number)
 

@@ -15,7 +15,7 @@ returns-clause-ok c =
     let e = c.len.ensures in
     let a = length-append old.links.items (record { place = c.args.place; next = newest_for old c.args.region } ∷ []) in
     let b = ap length grown in
-    filed_under_end old (record { paths = c.args.index.now.paths; ends = c.insert.new.self; links = c.push.new.self }) c.args.region c.args.place (c.len.result + 1) c.requires.chained grown (omega (arith, o, e, a, b)) c.in_ok-insert.ensures.updates.0 (λ q. refl)
+    filed_under_end old (record { wholes = c.args.index.now.wholes; parts = c.args.index.now.parts; ends = c.insert.new.self; links = c.push.new.self }) c.args.region c.args.place (c.len.result + 1) c.requires.chained grown (omega (arith, o, e, a, b)) c.in_ok-insert.ensures.updates.0 (λ q. refl)
 
 pub returns-clause-links : goal.returns-clause-links
-returns-clause-links c = pushed c.args.index.now (record { paths = c.args.index.now.paths; ends = c.insert.new.self; links = c.push.new.self }) c.args.place (newest_for c.args.index.now c.args.region) (grown_by c)
+returns-clause-links c = pushed c.args.index.now (record { wholes = c.args.index.now.wholes; parts = c.args.index.now.parts; ends = c.insert.new.self; links = c.push.new.self }) c.args.place (newest_for c.args.index.now c.args.region) (grown_by c)
