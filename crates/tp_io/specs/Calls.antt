@@ -1,6 +1,7 @@
 -- What each call of files and sinks in memory answers and leaves.
 use Rattle.std.specs.Prelude.{◌≡◌, ◌⊎◌, ◌+◌, ℕ, nat_eq, List, [], ◌∷◌, ◌++◌, length, take, Contains, find, Option, None, Some, Result, Ok, Err}
 use Rattle.std.specs.FinMap.{get}
+use Rattle.tp_io.specs.Held.{file_request}
 use Rattle.tp_io.specs.Memory.{held_of, ShelfView, PageView, SureShelfView}
 use Rattle.tp_io.specs.declared.memory.Failure.{Failure}
 use Rattle.tp_io.specs.declared.devices.FileRefusal.{FileRefusal}
@@ -14,16 +15,18 @@ abbrev pub FailsAt : ShelfView → List ℕ → Type 0
 FailsAt shelf name =
     Contains shelf.failing (length shelf.asked + 1) ⊎ (get (held_of shelf.contents) name ≡ None)
 
-abbrev pub shelf_after : {T : Type 0} → ShelfView → List ℕ → Result T FileRefusal → ShelfView
-shelf_after old name (Ok x) = record old { asked = old.asked ++ name ∷ [] }
-shelf_after old name (Err file.Failed) =
-    record old { asked = old.asked ++ name ∷ []; faults = old.faults + 1 }
-shelf_after old name (Err file.NoMemory) = old
+abbrev pub shelf_after : {T : Type 0} → ShelfView → List ℕ → (most : ℕ) → Result T FileRefusal
+    → ShelfView
+shelf_after old name most (Ok x) = record old { asked = old.asked ++ file_request name most ∷ [] }
+shelf_after old name most (Err file.Failed) =
+    record old { asked = old.asked ++ file_request name most ∷ []; faults = old.faults + 1 }
+shelf_after old name most (Err file.NoMemory) = old
 
-abbrev pub sure_shelf_after : {T : Type 0} → SureShelfView → List ℕ → Result T FileRefusal
-    → SureShelfView
-sure_shelf_after old name (Ok x) = record old { asked = old.asked ++ name ∷ [] }
-sure_shelf_after old name (Err refusal) = old
+abbrev pub sure_shelf_after : {T : Type 0} → SureShelfView → List ℕ → (most : ℕ)
+    → Result T FileRefusal → SureShelfView
+sure_shelf_after old name most (Ok x) =
+    record old { asked = old.asked ++ file_request name most ∷ [] }
+sure_shelf_after old name most (Err refusal) = old
 
 -- The next write fails where this tells how many bytes of its piece are kept; of two failures of
 -- one number the first counts. A write that wanted memory has no number.

@@ -6,7 +6,7 @@ use Rattle.tp_io.specs.declared.devices.FileRefusal.{FileRefusal}
 use Rattle.tp_io.specs.declared.devices.WriteRefusal.{WriteRefusal}
 use Rattle.tp_io.specs.declared.devices.FileRefusal.TheVariants as file
 use Rattle.tp_io.specs.declared.devices.WriteRefusal.TheVariants as sink
-use Rattle.tp_io.specs.Held.{next_count, Held, bytes_of}
+use Rattle.tp_io.specs.Held.{next_count, Held, bytes_of, FileRequest, file_request}
 
 -- the greatest number of the real files' count and of the real sink's, which have 64 bits
 abbrev pub last_count : Option ℕ
@@ -16,12 +16,12 @@ last_count = Some (2 ^ 64 - 1)
 abbrev pub and_one_more : {X : Type 0} → Option (List X) → X → Option (List X)
 and_one_more told x = option_map (λ xs. xs ++ x ∷ []) told
 
--- the names asked for after a read: one more, unless memory is wanted
-abbrev pub asked_after : {T : Type 0} → Option (List (List ℕ)) → List ℕ → Result T FileRefusal
-    → Option (List (List ℕ))
-asked_after told name (Ok x) = and_one_more told name
-asked_after told name (Err file.Failed) = and_one_more told name
-asked_after told name (Err file.NoMemory) = told
+-- the requests after a read: one more, unless memory is wanted
+abbrev pub asked_after : {T : Type 0} → Option (List FileRequest) → List ℕ → (most : ℕ)
+    → Result T FileRefusal → Option (List FileRequest)
+asked_after told name most (Ok x) = and_one_more told (file_request name most)
+asked_after told name most (Err file.Failed) = and_one_more told (file_request name most)
+asked_after told name most (Err file.NoMemory) = told
 
 -- a read gave no more than this many bytes, and the first bytes of what the name holds
 pub record Reads (held : Option Held) (name : List ℕ) (most : ℕ) (bytes : List ℕ) : Type 0 where

@@ -20,3 +20,11 @@ Held = FinMap (slice_cmp nat_cmp) (List ℕ)
 -- what a name holds; a name that is not in the map holds nothing
 abbrev pub bytes_of : Held → List ℕ → List ℕ
 bytes_of files name = unwrap_or (get files name) []
+
+-- what a read asks for: the first bytes of what the name holds, at most so many
+pub record FileRequest : Type 0 where
+  pub name : List ℕ
+  pub most : ℕ
+
+abbrev pub file_request : List ℕ → ℕ → FileRequest
+file_request name most = record { name = name; most = most }

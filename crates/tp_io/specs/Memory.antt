@@ -2,7 +2,7 @@
 use Rattle.std.specs.Prelude.{ℕ, List, map, count_by}
 use Rattle.std.specs.List.{flat_map}
 use Rattle.std.specs.FinMap.{from_entries}
-use Rattle.tp_io.specs.Held.{Held}
+use Rattle.tp_io.specs.Held.{Held, FileRequest, file_request}
 use Rattle.tp_io.specs.declared.memory.Content.{Content}
 use Rattle.tp_io.specs.declared.memory.Failure.{Failure}
 use Rattle.tp_io.specs.declared.memory.Request.{Request}
@@ -12,9 +12,9 @@ use Rattle.tp_io.specs.declared.memory.Piece.{Piece}
 abbrev pub held_of : List Content → Held
 held_of contents = from_entries (map (λ (c : Content). (c.name, c.bytes)) contents)
 
--- the names asked for, in order
-abbrev pub asked_names : List Request → List (List ℕ)
-asked_names requests = map (λ (r : Request). r.name) requests
+-- what was asked for, in order
+abbrev pub asked_of : List Request → List FileRequest
+asked_of requests = map (λ (r : Request). file_request r.name r.most) requests
 
 abbrev pub failed_reads : List Request → ℕ
 failed_reads requests = count_by (λ (r : Request). r.failed) requests
@@ -25,18 +25,18 @@ text_of pieces = flat_map (λ (p : Piece). p.bytes) pieces
 abbrev pub failed_writes : List Piece → ℕ
 failed_writes pieces = count_by (λ (p : Piece). p.failed) pieces
 
--- what contracts see of a shelf: its contents, the numbers of the calls that are to fail, the names
+-- what contracts see of a shelf: its contents, the numbers of the calls that are to fail, what was
 -- asked for, and how often a read failed
 pub record ShelfView : Type 0 where
   pub contents : List Content
   pub failing : List ℕ
-  pub asked : List (List ℕ)
+  pub asked : List FileRequest
   pub faults : ℕ
 
 -- what contracts see of a shelf that never fails
 pub record SureShelfView : Type 0 where
   pub contents : List Content
-  pub asked : List (List ℕ)
+  pub asked : List FileRequest
 
 -- what contracts see of a page: the writes that are to fail, how many writes there were, what was
 -- written, and how often a write failed

@@ -1,7 +1,7 @@
 // What a run asks of its files and of its sink.
 ghost use Rattle.std.specs.Prelude.{◌≡◌, ◌≤◌, ℕ, List, Option, IfOk, IsErrOf};
 ghost use Rattle.tp_io.specs.Devices.{Reads, Writes, asked_after};
-ghost use Rattle.tp_io.specs.Held.{Held, Rose};
+ghost use Rattle.tp_io.specs.Held.{Held, Rose, FileRequest};
 ghost use Rattle.tp_io.specs.declared.devices.FileRefusal.TheVariants as file;
 ghost use Rattle.tp_io.specs.declared.devices.WriteRefusal.TheVariants as sink;
 
@@ -67,8 +67,8 @@ pub trait Files {
     /// What each name holds, where it is told. A name outside of the map holds no bytes.
     ghost held: { Self → Option Held };
 
-    /// The names asked for so far, in order, where they are told.
-    ghost asked: { Self → Option (List (List ℕ)) };
+    /// What was asked for so far, in order, where it is told.
+    ghost asked: { Self → Option (List FileRequest) };
 
     /// How often a read has failed.
     ghost faults: { Self → ℕ };
@@ -76,11 +76,11 @@ pub trait Files {
     /// The greatest number that this count can have, if there is one.
     ghost greatest: { Option ℕ };
 
-    /// Reads the first bytes of what the name holds, at most so many. A read that wants memory asks for no name.
+    /// Reads the first bytes of what the name holds, at most so many. A read that wants memory asks for nothing.
     fn read(&mut self, alloc: Global, name: &str, most: usize) -> Result<Bytes, FileRefusal>
         ensures bytes { IfOk result (Reads (held self.old) name.now most) }
         ensures held { held self.new ≡ held self.old }
-        ensures asked { asked self.new ≡ asked_after (asked self.old) name.now result }
+        ensures asked { asked self.new ≡ asked_after (asked self.old) name.now most result }
         ensures later { faults self.old ≤ faults self.new }
         ensures cause { IsErrOf result FileRefusal.Failed
             → Rose greatest (faults self.old) (faults self.new) };

@@ -19,10 +19,11 @@ pub struct Content {
     pub bytes: Bytes,
 }
 
-/// A name that was asked for, and whether that read failed.
+/// A name that was asked for, how many bytes at most, and whether that read failed.
 #[derive(Drop)]
 pub struct Request {
     name: Text,
+    most: usize,
     failed: bool,
 }
 
@@ -50,11 +51,11 @@ pub struct Shelf {
 }
 
 impl Model for Shelf {
-    ghost use Rattle.tp_io.specs.Memory.{ShelfView, asked_names, failed_reads};
+    ghost use Rattle.tp_io.specs.Memory.{ShelfView, asked_of, failed_reads};
 
     ghost Value = { ShelfView };
 
-    ghost view = { λ s. record { contents = s.contents.items; failing = s.failing.items; asked = asked_names s.requests.items; faults = failed_reads s.requests.items } };
+    ghost view = { λ s. record { contents = s.contents.items; failing = s.failing.items; asked = asked_of s.requests.items; faults = failed_reads s.requests.items } };
 }
 
 /// Files in memory that never fail. A name that is not there is read as no bytes.
@@ -65,11 +66,11 @@ pub struct SureShelf {
 }
 
 impl Model for SureShelf {
-    ghost use Rattle.tp_io.specs.Memory.{SureShelfView, asked_names};
+    ghost use Rattle.tp_io.specs.Memory.{SureShelfView, asked_of};
 
     ghost Value = { SureShelfView };
 
-    ghost view = { λ s. record { contents = s.contents.items; asked = asked_names s.requests.items } };
+    ghost view = { λ s. record { contents = s.contents.items; asked = asked_of s.requests.items } };
 }
 
 /// A page in memory. The writes that `failing` names fail; of two failures of one number the first counts, and a write
@@ -197,12 +198,13 @@ impl Files for Shelf {
     fn read(&mut self, alloc: Global, name: &str, most: usize) -> Result<Bytes, FileRefusal>
         ensures bytes { IfOk result (Reads (Some (held_of self.old.contents)) name.now most) }
         ensures held { Some (held_of self.new.contents) ≡ Some (held_of self.old.contents) }
-        ensures asked { Some self.new.asked ≡ asked_after (Some self.old.asked) name.now result }
+        ensures asked { Some self.new.asked
+            ≡ asked_after (Some self.old.asked) name.now most result }
         ensures later { self.old.faults ≤ self.new.faults }
         ensures cause { IsErrOf result FileRefusal.Failed
             → Rose None self.old.faults self.new.faults }
 
-        ensures after { self.new ≡ shelf_after self.old name.now result }
+        ensures after { self.new ≡ shelf_after self.old name.now most result }
         ensures fails { FailsAt self.old name.now → IsErr result }
         ensures fails_only { IsErrOf result FileRefusal.Failed → FailsAt self.old name.now }
     {
@@ -217,6 +219,7 @@ impl Files for Shelf {
             None => {
                 self.requests.push(Request {
                     name: asked,
+                    most,
                     failed: true,
                 })?;
                 Err(FileRefusal::Failed)
@@ -225,6 +228,7 @@ impl Files for Shelf {
                 let first = first_bytes(alloc, bytes.as_slice(), most)?;
                 self.requests.push(Request {
                     name: asked,
+                    most,
                     failed: false,
                 })?;
                 Ok(first)
@@ -245,11 +249,12 @@ impl Files for SureShelf {
     fn read(&mut self, alloc: Global, name: &str, most: usize) -> Result<Bytes, FileRefusal>
         ensures bytes { IfOk result (Reads (Some (held_of self.old.contents)) name.now most) }
         ensures held { Some (held_of self.new.contents) ≡ Some (held_of self.old.contents) }
-        ensures asked { Some self.new.asked ≡ asked_after (Some self.old.asked) name.now result }
+        ensures asked { Some self.new.asked
+            ≡ asked_after (Some self.old.asked) name.now most result }
         ensures later { 0 ≤ 0 }
         ensures cause { IsErrOf result FileRefusal.Failed → Rose None 0 0 }
 
-        ensures after { self.new ≡ sure_shelf_after self.old name.now result }
+        ensures after { self.new ≡ sure_shelf_after self.old name.now most result }
     {
         let asked = Text::from_slice(alloc, name.as_bytes())?;
         let first = match held_bytes(&self.contents, name.as_bytes()) {
@@ -258,6 +263,7 @@ impl Files for SureShelf {
         };
         self.requests.push(Request {
             name: asked,
+            most,
             failed: false,
         })?;
         Ok(first)
