@@ -1,5 +1,5 @@
 -- What is said of words that ask for a drill, and of those that ask for none.
-use Rattle.std.proofs.Common.{◌≡◌, ◌⊎◌, ◌≤◌, inl, inr, ℕ, List, [], Option, Some, None, length, refl, sym, ap, ◌∙◌, subst}
+use Rattle.std.proofs.Common.{◌≡◌, ◌⊎◌, inl, inr, ℕ, List, [], Option, Some, None, refl, sym, ap, ◌∙◌, subst}
 use Rattle.tp_io.specs.Held.{Held}
 use Rattle.tp_inputs.specs.Within.{InputsWithin}
 use Rattle.tp_meaning.specs.Inputs.{InputTable}
@@ -20,13 +20,10 @@ use Rattle.tp_words.specs.Words.{Wanted, wanted_of}
 use Rattle.tp_call.specs.declared.status.Status.{Status}
 use Rattle.tp_call.specs.declared.status.Status.TheVariants.{Finished, Done, Contradictory, Undetermined, StateLimit, ReductionLimit, NumberLimit, ListLimit, CallLimit, NestLimit, InputMissing, SourceRefused, InputsRefused, WordsRefused, TooLong, ReadFault, WriteFault, NoMemory, OtherRefused, TraceTooLong}
 use Rattle.tp_call.specs.declared.status.Which.{Which}
-use Rattle.tp_call.specs.declared.status.Which.TheVariants.{Source, Inputs, Other}
 use Rattle.tp_call.specs.EndLine.{refusal_line}
 use Rattle.tp_call.specs.Run.{RunEnds, status_of}
-use Rattle.tp_call.specs.Written.{Wrote}
 use Rattle.tp_call.specs.Files.{NamedFile, files_read, IsFoundIn}
-use Rattle.tp_call.specs.Source.{IsRefusedAt}
-use Rattle.tp_call.specs.Answer.{ReadsFile, Refuses, refused_status}
+use Rattle.tp_call.specs.Answer.{ReadsFile, Refuses}
 use Rattle.tp_call.specs.Parts.{IsProgramRefusal, ClosesText}
 use Rattle.tp_call.specs.EveryOrder.{ComesTo, IsFailureIn}
 use Rattle.tp_call.specs.Drill.{AsksForDrill, AsksNoDrill, IsAskedToDrill, DrillFinished, DrillStopped, DrillRefused, DrillAnswers, DrillSays, DrillComesTo, DrillComesToEachEnd}
@@ -124,7 +121,7 @@ module _ (words : List (List ℕ)) (old new : Option (List ℕ)) (before after :
   -- what a drill answered, by its kind
   data DrillView (size : ℕ) (result : Status) : Type 0 where
     was_done : (text : List ℕ) → result ≡ Done → DrillFinished words size before after text → DrillView size result
-    was_stopped : (text : List ℕ) → DrillStopped words size result text → DrillView size result
+    was_stopped : (text : List ℕ) → DrillStopped words size before after result text → DrillView size result
     was_refused : (text : List ℕ) → DrillRefused words size result text → DrillView size result
     had_failed : (result ≡ WriteFault) ⊎ (result ≡ NoMemory) → DrillView size result
 

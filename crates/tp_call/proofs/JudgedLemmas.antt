@@ -1,5 +1,5 @@
 -- What the line of a verdict says.
-use Rattle.std.proofs.Common.{◌≡◌, ℕ, List, Option, subst}
+use Rattle.std.proofs.Common.{ℕ, List, Option, subst}
 use Rattle.tp_io.specs.Held.{Held}
 use Rattle.tp_meaning.specs.Interval.{kinds_of}
 use Rattle.tp_verdict.specs.Verdict.{Verdict}

@@ -2,14 +2,17 @@
 use Rattle.std.proofs.Common.{◌≡◌, ℕ, List, length, Option, Some, IfSome, sym, ap, ◌∙◌, subst}
 use Rattle.tp_scene.specs.Pick.{Moment}
 use Rattle.tp_store.specs.Known.{Contents}
+use Rattle.tp_step.specs.declared.answer.Tally.{Tally}
 use Rattle.tp_step.specs.declared.order.Order.{Order}
 use Rattle.tp_show.specs.declared.turn.Picture.{Picture}
 use Rattle.tp_show.specs.declared.turn.Turn.{Turn}
 use Rattle.tp_show.specs.declared.turn.Turn.TheVariants as turn
-use Rattle.tp_run.specs.States.{Plan, setting}
+use Rattle.tp_run.specs.States.{Plan, setting, limit_moment}
 use Rattle.tp_run.specs.Standing.{RunPlace, Standing, open_at, StateBecomes}
 use Rattle.tp_run.specs.Ordered.{IsNamedInOrder}
+use Rattle.tp_run.specs.History.{RunEndsWith}
 use Rattle.tp_run.specs.Same.{FailsIn}
+use Rattle.tp_run.specs.Tried.{waits_in}
 use Rattle.tp_call.specs.declared.run.Ended.{Ended}
 use Rattle.tp_call.specs.declared.status.Status.{Status}
 use Rattle.tp_call.specs.declared.status.Status.TheVariants.{WriteFault, NoMemory}
@@ -17,7 +20,8 @@ use Rattle.tp_call.specs.Run.{last_answer}
 use Rattle.tp_call.specs.Answer.{IsEndOfRun}
 use Rattle.tp_call.specs.Parts.{ClosesText}
 use Rattle.tp_call.specs.Progress.{AnswerMade, HasWritten, ClosesRun}
-use Rattle.tp_call.specs.InOrder.{NamesInOrder, StatusInOrder, LastInOrder}
+use Rattle.tp_call.specs.InOrder.{MeetsInOrder, NamesInOrder, StatusInOrder, LastInOrder}
+use Rattle.tp_call.specs.Work.{AreTalliesOfRun}
 use Rattle.tp_call.proofs.TurnLemmas.{last_is_given, answer_of, answer_is, ends_run}
 use Rattle.tp_call.proofs.RunLemmas.{answered_there}
 use Rattle.tp_words.specs.declared.beside.Beside.{Beside}
@@ -63,6 +67,23 @@ run_names plan own order trace from to before now after last same h made named =
       count = there;
       named = subst (λ n. IsNamedInOrder (setting plan n) order plan.reductions h.next last) (h.count ∙ sym there) here;
     }
+
+-- a run whose states were closed in this order names what the last of them met
+pub tried_names : (plan : Plan) (order : Order) (ps : List Picture) (answer : Turn) (run : RunEndsWith plan ps answer) (tallies : List Tally) → AreTalliesOfRun plan order ps answer run tallies → NamesInOrder plan order answer
+tried_names plan order ps turn.Went run tallies t = λ state fails. absurd fails
+tried_names plan order ps (turn.Finished n) run tallies t = λ state fails. absurd fails
+tried_names plan order ps (turn.Contradictory at clash) run tallies t = λ state fails.
+    subst (λ n. MeetsInOrder plan order n (turn.Contradictory at clash)) fails
+    (record { pictures = ps; next = run.0; leads = run.1; count = run.3; named = (run.2.last, t.own.picks, waits_in t.own, t.own.rests, t.closes.agenda) })
+tried_names plan order ps (turn.Undetermined at cell) run tallies t = λ state fails. absurd fails
+tried_names plan order ps (turn.StateLimit states) run tallies t = λ state fails. absurd fails
+tried_names plan order ps (turn.InputMissing at port) run tallies t = λ state fails.
+    subst (λ n. MeetsInOrder plan order n (turn.InputMissing at port)) fails
+    (record { pictures = ps; next = run.0; leads = run.1; count = run.3; named = (run.2.last, t.own.picks, waits_in t.own, t.own.rests, t.closes.agenda) })
+tried_names plan order ps (turn.Over at kind) run tallies t = λ state fails.
+    let last = limit_moment (setting plan at) plan.reductions run.0 kind run.2 in
+    subst (λ n. MeetsInOrder plan order n (turn.Over at kind)) fails
+    (record { pictures = ps; next = run.0; leads = run.1; count = run.3; named = (last, t.own.picks, waits_in t.own, t.own.rests, t.closes.agenda) })
 
 -- a status that no run ends with is no answer's
 pub no_end_in_order : (plan : Plan) (order : Order) (result : Status) → (IsEndOfRun result → ⊥) → StatusInOrder plan order result

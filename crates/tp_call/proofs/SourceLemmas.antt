@@ -2,7 +2,7 @@
 use Rattle.std.proofs.Common.{◌≡◌, ◌≢◌, ◌≤◌, inl, inr, ℕ, List, [], ◌∷◌, length, Option, None, Some, Result, Err, IfErr, MatchOption, IsSomeAnd, refl, sym, ap, ◌∙◌, arith, subst}
 use Rattle.std.specs.Option.{option_map}
 use Rattle.tp_lex.specs.Place.{source_limit}
-use Rattle.tp_io.specs.Held.{Held, bytes_of}
+use Rattle.tp_io.specs.Held.{Held, bytes_of, FileRequest}
 use Rattle.tp_call.specs.declared.status.Status.{Status}
 use Rattle.tp_call.specs.declared.status.Status.TheVariants.{TooLong, ReadFault, NoMemory}
 use Rattle.tp_call.specs.declared.status.Which.{Which}
@@ -19,7 +19,7 @@ use Rattle.tp_inputs.specs.Converted.{converted}
 use Rattle.tp_inputs.proofs.ConvertedReads.{converted_is_table}
 use Rattle.tp_inputs.proofs.ConvertedWithin.{tables_end_within}
 use Rattle.tp_call.specs.Files.{NamedFile, file_named, files_named, files_read}
-use Rattle.tp_call.specs.Answer.{inputs_limit, WhereTold, HasInputs, HoldsProgram, HoldsRefused, HasBadLine, IsPastLimit, Serves, ReadsFile, Refuses}
+use Rattle.tp_call.specs.Answer.{inputs_limit, byte_limit, WhereTold, HasInputs, HoldsProgram, HoldsRefused, HasBadLine, IsPastLimit, Serves, ReadsFile, Refuses}
 use Rattle.tp_call.proofs.FileLemmas.{reads_by, reads_first, reads_second}
 use Rattle.tp_call.specs.declared.status.Refused.{Refused}
 use Rattle.tp_lex.specs.declared.token.Token.{Token}
@@ -71,9 +71,9 @@ fault_of_read result read.TooLong mine status R at is rose which e = let bad : E
 fault_of_read result read.Failed mine status R at is rose which e = let same : Err (ReadFault mine) ≡ Err (ReadFault which) = ap Err (sym is) ∙ sym at ∙ e in (cc, rose refl)
 fault_of_read result read.NoMemory mine status R at is rose which e = let bad : Err NoMemory ≡ Err (ReadFault which) = ap Err (sym is) ∙ sym at ∙ e in absurd (cc)
 
--- the name was asked for by a read that was refused, or memory was wanted
-pub asked_unread : {U : Type 0} (told new : Option (List (List ℕ))) (name : List ℕ) (refusal : ReadRefusal) (which : Which) (status : Status) → status ≡ read_end refusal which → new ≡ asked_by {T = List ℕ} told name (Err refusal)
-    → AsksFile {T = U} told name (Err status) new
+-- the file was asked for by a read that was refused, or memory was wanted
+pub asked_unread : {U : Type 0} (told new : Option (List FileRequest)) (name : List ℕ) (refusal : ReadRefusal) (which : Which) (status : Status) → status ≡ read_end refusal which → new ≡ asked_by {T = List ℕ} told name (byte_limit which) (Err refusal)
+    → AsksFile {T = U} told which name (Err status) new
 asked_unread told new name read.TooLong which status is asked = inl asked
 asked_unread told new name read.Failed which status is asked = inl asked
 asked_unread told new name read.NoMemory which status is asked = inr (ap Err is, asked)

@@ -70,6 +70,16 @@ went_on plan beside from to before after made = by made.answer refl where
   by (turn.InputMissing state port) e = let bad : None ≡ last_answer (turn.InputMissing state port) = made.last_is ∙ ap last_answer e in absurd (cc)
   by (turn.Over state limit) e = let bad : None ≡ last_answer (turn.Over state limit) = made.last_is ∙ ap last_answer e in absurd (cc)
 
+-- only with `Went` a run goes on
+pub goes_with : (answer : Turn) → None ≡ last_answer answer → answer ≡ turn.Went
+goes_with turn.Went e = refl
+goes_with (turn.Finished n) e = absurd (cc (e))
+goes_with (turn.Contradictory state clash) e = absurd (cc (e))
+goes_with (turn.Undetermined state cell) e = absurd (cc (e))
+goes_with (turn.StateLimit states) e = absurd (cc (e))
+goes_with (turn.InputMissing state port) e = absurd (cc (e))
+goes_with (turn.Over state limit) e = absurd (cc (e))
+
 -- the last answer is the one that was given
 pub last_is_given : (answer last : Turn) → Some last ≡ last_answer answer → answer ≡ last
 last_is_given turn.Went last e = cc

@@ -1,5 +1,5 @@
 -- What a run tried, state by state.
-use Rattle.std.proofs.Common.{◌≡◌, ◌+◌, ◌≤◌, ◌<◌, inl, inr, ℕ, true, suc, List, [], ◌∷◌, ◌++◌, length, Option, Some, None, refl, ap, sym, ◌∙◌, subst, arith}
+use Rattle.std.proofs.Common.{◌≡◌, ◌+◌, ◌≤◌, ◌<◌, inl, inr, ℕ, true, suc, List, [], ◌∷◌, ◌++◌, length, Option, Some, None, refl, ap, sym, ◌∙◌, subst, arith, if◌then◌else◌}
 use Rattle.std.proofs.Math.Path.{path_j, subst_refl}
 use Rattle.std.proofs.Math.Nat.{eq-or-lt_of_le}
 use Rattle.std.proofs.lemmas.List.{append-nil}
@@ -22,7 +22,7 @@ use Rattle.tp_show.specs.declared.turn.Turn.{Turn}
 use Rattle.tp_show.specs.declared.turn.Turn.TheVariants as turn
 use Rattle.tp_show.specs.EndLine.{end_line}
 use Rattle.tp_show.specs.Told.{IsPictureInRange, IsLastTurn}
-use Rattle.tp_run.specs.States.{Plan, setting, StateGoesOn, StatesLead, ReachesLimit, limit_moment}
+use Rattle.tp_run.specs.States.{Plan, setting, StateGoesOn, StatesLead, LeadsTo, ReachesLimit, limit_moment}
 use Rattle.tp_run.specs.PicksOfRun.{limit_picks, beginning_of}
 use Rattle.tp_run.specs.History.{RunEndsWith, end_store}
 use Rattle.tp_run.specs.Runs.{program_of, store_of}
@@ -39,9 +39,9 @@ use Rattle.tp_call.specs.Answer.{IsEndOfRun, run_text}
 use Rattle.tp_call.specs.Parts.{ClosesText}
 use Rattle.tp_call.specs.Printed.{written_state, lead_text, ended_text, next_moment}
 use Rattle.tp_call.specs.Progress.{is_settled, printed_lines, ClosesRun}
-use Rattle.tp_call.specs.Work.{AreTalliesOf, AreTalliesTo, AreTalliesOfRun, all_tries, RunTried, WorksThriftily, StateTried, StateWorked, HasWorked, WorkEnded}
+use Rattle.tp_call.specs.Work.{AreTalliesOf, AreTalliesTo, AreTalliesOfRun, all_tries, HasTried, RunTried, WorksThriftily, StateTried, StateWorked, HasWorked, WorkEnded}
 use Rattle.tp_call.specs.Written.{Wrote}
-use Rattle.tp_call.proofs.TurnLemmas.{last_is_given, is_last}
+use Rattle.tp_call.proofs.TurnLemmas.{last_is_given, is_last, goes_with}
 use Rattle.tp_call.proofs.RunLemmas.{Wrote-both, HasWritten-none, written_more, no_next}
 use Rattle.tp_call.proofs.OrderLemmas.{closes_with}
 use Rattle.tp_words.specs.declared.beside.Beside.{Beside}
@@ -80,7 +80,7 @@ answers_from plan from to m earlier picture answer stands a =
     answers
 
 -- where the run stands before this moment, its state is begun and tried, or there is none left
-module _ (plan : Plan) (beside : Beside) (order : Order) (from to : RunPlace) (m : Moment) (stands : from.standing ≡ open_at m) (earlier picture : Picture) (answer : Turn) (answers : AnswersState plan from earlier picture to answer) (old new : ℕ) where
+module _ (plan : Plan) (order : Order) (from to : RunPlace) (m : Moment) (stands : from.standing ≡ open_at m) (earlier picture : Picture) (answer : Turn) (answers : AnswersState plan from earlier picture to answer) (old new : ℕ) where
   abbrev Tries : Type 0
   Tries = StateTried plan order from.state m earlier picture to.standing to.store answer old new
 
@@ -92,9 +92,9 @@ module _ (plan : Plan) (beside : Beside) (order : Order) (from to : RunPlace) (m
         | inr l ↦ inl (tally, tried l, counts l)
       ]
 
-  pub state_worked : Tries → (before after : Option (List ℕ)) (program : ProgramTree) (last : Option Turn) → program ≡ plan.program → last ≡ last_answer answer
+  pub state_worked : Tries → (beside : Beside) (before after : Option (List ℕ)) (program : ProgramTree) (last : Option Turn) → program ≡ plan.program → last ≡ last_answer answer
       → Wrote before after (printed_lines beside program answer picture (next_moment to)) → (is_settled answer ≡ true → IsPictureInRange picture) → StateWorked plan beside order m from to before after old new last
-  state_worked tried before after program last own is wrote range = record {
+  state_worked tried beside before after program last own is wrote range = record {
     answer = answer;
     last_is = is;
     earlier = earlier;
@@ -111,9 +111,12 @@ pub worked_in : (plan : Plan) (beside : Beside) (own order : Order) (m : Moment)
 worked_in plan beside own order m from to before after old new last same w = subst (λ o. StateWorked plan beside o m from to before after old new last) same w
 
 -- no state was tried yet
+pub HasTried-none : (plan : Plan) (order : Order) (k : ℕ) → HasTried plan order [] (beginning_of plan) refl k k
+HasTried-none plan order k = record { tallies = []; tried = refl; counted = omega arith }
+
 pub HasWorked-none : (plan : Plan) (beside : Beside) (order : Order) (from : RunPlace) (now : Option (List ℕ)) (k : ℕ) → from.standing ≡ open_at (first_moment plan.program.globals plan.program.main) → from.state ≡ 0
     → HasWorked plan beside order from now now k k
-HasWorked-none plan beside order from now k stands count = record { written = HasWritten-none plan beside from now stands count; tallies = []; tried = refl; counted = omega arith }
+HasWorked-none plan beside order from now k stands count = record { written = HasWritten-none plan beside from now stands count; tried = HasTried-none plan order k }
 
 -- the tries of one state more
 counts_more : (old mid new more : ℕ) (ts : List Tally) (t : Tally) → mid ≡ old + all_tries ts → new ≡ mid + (recorded_tries t + more) → new ≡ old + (all_tries (ts ++ t ∷ []) + more)
@@ -121,64 +124,58 @@ counts_more old mid new more ts t h g =
     let one : all_tries (ts ++ t ∷ []) ≡ all_tries ts + recorded_tries t = sum_by_push recorded_tries ts t in
     omega (arith, h, g, one)
 
-module _ (plan : Plan) (beside : Beside) (order : Order) (from to : RunPlace) (before now after : Option (List ℕ)) (old mid new : ℕ) (h : HasWorked plan beside order from before now old mid) where
-  abbrev ps : List Picture
-  ps = h.written.pictures
+-- the settled states with the one that was made, where it was settled
+abbrev pub pictures_after : List Picture → Picture → Turn → List Picture
+pictures_after ps picture answer = if is_settled answer then ps ++ picture ∷ [] else ps
 
-  abbrev m : Moment
-  m = h.written.next
-
+-- the state after some that were settled and tried
+module _ (plan : Plan) (order : Order) (to : RunPlace) (old mid new : ℕ) (ps : List Picture) (m : Moment) (leads : LeadsTo plan ps m) (h : HasTried plan order ps m leads old mid) where
   abbrev Tried : (earlier picture : Picture) → Turn → Type 0
   Tried earlier picture answer = StateTried plan order (length ps) m earlier picture to.standing to.store answer mid new
 
-  -- the state that was made is the one after those that were settled
-  tried_there : (earlier picture : Picture) (answer given : Turn) → StateTried plan order from.state m earlier picture to.standing to.store answer mid new → answer ≡ given → Tried earlier picture given
-  tried_there earlier picture answer given t e =
-      let here = subst (λ n. StateTried plan order n m earlier picture to.standing to.store answer mid new) h.written.count t in
+  -- the state that was made is that one
+  pub tried_there : (n : ℕ) → n ≡ length ps → (earlier picture : Picture) (answer given : Turn) → StateTried plan order n m earlier picture to.standing to.store answer mid new → answer ≡ given → Tried earlier picture given
+  tried_there n count earlier picture answer given t e =
+      let here = subst (λ i. StateTried plan order i m earlier picture to.standing to.store answer mid new) count t in
       subst (Tried earlier picture) e here
 
-  number_there : (answer given : Turn) → to.state ≡ state_after from.state answer → answer ≡ given → to.state ≡ state_after (length ps) given
-  number_there answer given number e = number ∙ ap (λ n. state_after n answer) h.written.count ∙ ap (state_after (length ps)) e
+  pub number_there : (n : ℕ) → n ≡ length ps → (answer given : Turn) → to.state ≡ state_after n answer → answer ≡ given → to.state ≡ state_after (length ps) given
+  number_there n count answer given number e = number ∙ ap (λ i. state_after i answer) count ∙ ap (state_after (length ps)) e
 
-  -- a state that goes on
-  goes_on : (earlier picture : Picture) → Tried earlier picture turn.Went → to.state ≡ suc (length ps) → Wrote now after (written_state beside plan.program picture (next_moment to)) → IsPictureInRange picture
-      → HasWorked plan beside order to before after old new
-  goes_on earlier picture (inl t) number wrote range =
+  -- It goes on, and was tried, too.
+  pub record TriedOn (earlier picture : Picture) : Type 0 where
+    pub becomes : StateBecomes plan (length ps) m earlier picture to.standing to.store turn.Went
+    pub tried : HasTried plan order (ps ++ picture ∷ []) becomes.0 (lead_more plan 0 (beginning_of plan) ps m (length ps) picture becomes.0 (index_first ps) leads becomes.1) old new
+
+  pub tried_on : (earlier picture : Picture) → Tried earlier picture turn.Went → TriedOn earlier picture
+  tried_on earlier picture (inl t) =
       let w = t.1.becomes in
       let closed = subst (λ (x : Ending). ClosesThriftily (setting plan (length ps)) order plan.reductions m w.1.last w.1.picks x t.0) t.1.ends t.1.closes in
       let rose : new ≡ old + (all_tries (h.tallies ++ t.0 ∷ []) + t.2.more) = counts_more old mid new t.2.more h.tallies t.0 h.counted t.2.counted in
       record {
-        written = written_more plan beside from to before now after earlier picture h.written w number wrote range;
-        tallies = h.tallies ++ t.0 ∷ [];
-        tried = tallies_more plan order 0 (beginning_of plan) ps m (length ps) picture w.0 (index_first ps) h.written.leads w.1 h.tallies t.0 h.tried closed;
-        counted = omega (arith, rose, t.2.beyond);
+        becomes = w;
+        tried = record {
+          tallies = h.tallies ++ t.0 ∷ [];
+          tried = tallies_more plan order 0 (beginning_of plan) ps m (length ps) picture w.0 (index_first ps) leads w.1 h.tallies t.0 h.tried closed;
+          counted = omega (arith, rose, t.2.beyond);
+        };
       }
-  goes_on earlier picture (inr t) number wrote range = let within = t.0.1.within in absurd (omega (arith, within, t.1))
+  tried_on earlier picture (inr t) = let within = t.0.1.within in absurd (omega (arith, within, t.1))
 
-  pub HasWorked-more : StateWorked plan beside order m from to now after mid new None → HasWorked plan beside order to before after old new
-  HasWorked-more w = by w.answer refl where
-    by : (answer : Turn) → w.answer ≡ answer → HasWorked plan beside order to before after old new
-    by turn.Went e =
-        goes_on w.earlier w.picture (tried_there w.earlier w.picture w.answer turn.Went w.tried e) (number_there w.answer turn.Went w.number e)
-        (subst (λ t. Wrote now after (printed_lines beside plan.program t w.picture (next_moment to))) e w.wrote) (w.range (ap is_settled e))
-    by (turn.Finished length) e = let bad : None ≡ last_answer (turn.Finished length) = w.last_is ∙ ap last_answer e in absurd (cc)
-    by (turn.Contradictory state clash) e = let bad : None ≡ last_answer (turn.Contradictory state clash) = w.last_is ∙ ap last_answer e in absurd (cc)
-    by (turn.Undetermined state cell) e = let bad : None ≡ last_answer (turn.Undetermined state cell) = w.last_is ∙ ap last_answer e in absurd (cc)
-    by (turn.StateLimit states) e = let bad : None ≡ last_answer (turn.StateLimit states) = w.last_is ∙ ap last_answer e in absurd (cc)
-    by (turn.InputMissing state port) e = let bad : None ≡ last_answer (turn.InputMissing state port) = w.last_is ∙ ap last_answer e in absurd (cc)
-    by (turn.Over state limit) e = let bad : None ≡ last_answer (turn.Over state limit) = w.last_is ∙ ap last_answer e in absurd (cc)
+  -- The run ended with this answer, its states were tried, and its store holds what was known at that end; its text is that of the states before, and what is written of this one.
+  pub record TriedLast (picture : Picture) (answer : Turn) : Type 0 where
+    pub run : RunEndsWith plan (pictures_after ps picture answer) answer
+    pub holds : to.store ≡ end_store plan (pictures_after ps picture answer) answer run
+    pub tried : RunTried plan order (pictures_after ps picture answer) answer run old new
+    pub text_is : (beside : Beside) → ended_text beside plan (pictures_after ps picture answer) answer run ≡ lead_text beside plan ps m leads ++ printed_lines beside plan.program answer picture (next_moment to)
 
-  -- The run ended with this answer, its states were written and tried, and its store holds what was known at that end.
-  pub record Worked (answer : Turn) : Type 0 where
-    pub pictures : List Picture
-    pub run : RunEndsWith plan pictures answer
-    pub holds : to.store ≡ end_store plan pictures answer run
-    pub wrote : Wrote before after (ended_text beside plan pictures answer run)
-    pub tried : RunTried plan order pictures answer run old new
+  -- nothing is written of one that isn't settled
+  text_before : (beside : Beside) → lead_text beside plan ps m leads ≡ lead_text beside plan ps m leads ++ []
+  text_before beside = sym (append-nil (lead_text beside plan ps m leads))
 
   -- a tally more, of the state with which the run ends
   module _ (t : Tally) (n : ℕ) (last : Moment) (picks : List ℕ) (end : Ending) (closes : ClosesThriftily (setting plan n) order plan.reductions m last picks end t) where
-    tallies_to : AreTalliesTo plan order ps m h.written.leads n last picks end (h.tallies ++ t ∷ [])
+    tallies_to : AreTalliesTo plan order ps m leads n last picks end (h.tallies ++ t ∷ [])
     tallies_to = record { earlier = h.tallies; own = t; tallies_are = refl; led = h.tried; closes = closes }
 
   run_tried : (answer : Turn) (pictures : List Picture) (run : RunEndsWith plan pictures answer) (t : Tally) → AreTalliesOfRun plan order pictures answer run (h.tallies ++ t ∷ []) → CountsStateTries mid new t answer
@@ -186,62 +183,68 @@ module _ (plan : Plan) (beside : Beside) (order : Order) (from to : RunPlace) (b
   run_tried answer pictures run t tried counts =
       record { tallies = h.tallies ++ t ∷ []; tried = tried; more = counts.more; beyond = counts.beyond; counted = counts_more old mid new counts.more h.tallies t h.counted counts.counted }
 
-  -- a state that isn't settled ends the run: nothing more is written
-  stops : (answer : Turn) (run : RunEndsWith plan ps answer) → ended_text beside plan ps answer run ≡ lead_text beside plan ps m h.written.leads → to.store ≡ end_store plan ps answer run → Wrote now after []
-      → RunTried plan order ps answer run old new → Worked answer
-  stops answer run same holds wrote tried =
-      let text = lead_text beside plan ps m h.written.leads in
-      let whole = subst (Wrote before after) (append-nil text) (Wrote-both before now after text [] h.written.wrote wrote) in
-      record { pictures = ps; run = run; holds = holds; wrote = subst (Wrote before after) (sym same) whole; tried = tried }
-
   -- the last state, which nothing comes after
-  finishes : (earlier picture : Picture) (k : ℕ) → Tried earlier picture (turn.Finished k) → Wrote now after (written_state beside plan.program picture (next_moment to)) → Worked (turn.Finished k)
-  finishes earlier picture k (inl t) wrote =
+  finishes : (earlier picture : Picture) (k : ℕ) → Tried earlier picture (turn.Finished k) → TriedLast picture (turn.Finished k)
+  finishes earlier picture k (inl t) =
       let w = t.1.becomes in
       let closed = subst (λ (x : Ending). ClosesThriftily (setting plan (length ps)) order plan.reductions m w.0.last w.0.picks x t.0) t.1.ends t.1.closes in
-      let run : RunEndsWith plan (ps ++ picture ∷ []) (turn.Finished k) = record { before = ps; final = picture; moment = m; pictures = refl; leads = h.written.leads; ends = w.0; count = w.1 } in
+      let run : RunEndsWith plan (ps ++ picture ∷ []) (turn.Finished k) = record { before = ps; final = picture; moment = m; pictures = refl; leads = leads; ends = w.0; count = w.1 } in
       let none : next_moment to ≡ None = no_next to (turn.Finished k) w.0.last w.2 in
       record {
-        pictures = ps ++ picture ∷ [];
         run = run;
         holds = w.3;
-        wrote = Wrote-both before now after _ _ h.written.wrote (subst (λ z. Wrote now after (written_state beside plan.program picture z)) none wrote);
         tried = run_tried (turn.Finished k) (ps ++ picture ∷ []) run t.0 (tallies_to t.0 (length ps) w.0.last w.0.picks ending.Rest closed) t.2;
+        text_is = λ beside. ap (λ z. lead_text beside plan ps m leads ++ written_state beside plan.program picture z) (sym none);
       }
-  finishes earlier picture k (inr t) wrote = let within = t.0.0.within in absurd (omega (arith, within, t.1))
+  finishes earlier picture k (inr t) = let within = t.0.0.within in absurd (omega (arith, within, t.1))
 
-  clashes : (earlier picture : Picture) (state : ℕ) (clash : Clash) → Tried earlier picture (turn.Contradictory state clash) → Wrote now after [] → Worked (turn.Contradictory state clash)
-  clashes earlier picture state clash (inl t) wrote =
+  clashes : (earlier picture : Picture) (state : ℕ) (clash : Clash) → Tried earlier picture (turn.Contradictory state clash) → TriedLast picture (turn.Contradictory state clash)
+  clashes earlier picture state clash (inl t) =
       let w = t.1.becomes in
       let e = w.1 in
       let closed = subst (λ (x : Ending). ClosesThriftily (setting plan (length ps)) order plan.reductions m w.0.last w.0.picks x t.0) t.1.ends t.1.closes in
       let g = subst (λ i. (g : replay.MeetsClash (setting plan i) plan.reductions m clash) × (w.0.last ≡ g.last) × ClosesThriftily (setting plan i) order plan.reductions m g.last g.picks (ending.Clash clash) t.0) (sym e) (w.0, refl, closed) in
-      let run : RunEndsWith plan ps (turn.Contradictory state clash) = (m, h.written.leads, g.0, e, subst (λ i. i < plan.states) (sym e) w.2) in
-      stops (turn.Contradictory state clash) run refl (w.5 ∙ ap (λ (z : Moment). z.store) g.1) wrote (run_tried (turn.Contradictory state clash) ps run t.0 (tallies_to t.0 state g.0.last g.0.picks (ending.Clash clash) g.2) t.2)
-  clashes earlier picture state clash (inr t) wrote = absurd (omega (arith, t.0.2, t.1))
+      let run : RunEndsWith plan ps (turn.Contradictory state clash) = (m, leads, g.0, e, subst (λ i. i < plan.states) (sym e) w.2) in
+      record {
+        run = run;
+        holds = w.5 ∙ ap (λ (z : Moment). z.store) g.1;
+        tried = run_tried (turn.Contradictory state clash) ps run t.0 (tallies_to t.0 state g.0.last g.0.picks (ending.Clash clash) g.2) t.2;
+        text_is = text_before;
+      }
+  clashes earlier picture state clash (inr t) = absurd (omega (arith, t.0.2, t.1))
 
-  opens : (earlier picture : Picture) (state : ℕ) (cell : Cell) → Tried earlier picture (turn.Undetermined state cell) → Wrote now after [] → Worked (turn.Undetermined state cell)
-  opens earlier picture state cell (inl t) wrote =
+  opens : (earlier picture : Picture) (state : ℕ) (cell : Cell) → Tried earlier picture (turn.Undetermined state cell) → TriedLast picture (turn.Undetermined state cell)
+  opens earlier picture state cell (inl t) =
       let w = t.1.becomes in
       let e = w.1 in
       let closed = subst (λ (x : Ending). ClosesThriftily (setting plan (length ps)) order plan.reductions m w.0.last w.0.picks x t.0) t.1.ends t.1.closes in
       let g = subst (λ i. (g : replay.IsOpen (setting plan i) plan.reductions m cell) × (w.0.last ≡ g.last) × ClosesThriftily (setting plan i) order plan.reductions m g.last g.picks ending.Rest t.0) (sym e) (w.0, refl, closed) in
-      let run : RunEndsWith plan ps (turn.Undetermined state cell) = (m, h.written.leads, g.0, e, subst (λ i. i < plan.states) (sym e) w.2) in
-      stops (turn.Undetermined state cell) run refl (w.5 ∙ ap (λ (z : Moment). z.store) g.1) wrote (run_tried (turn.Undetermined state cell) ps run t.0 (tallies_to t.0 state g.0.last g.0.picks ending.Rest g.2) t.2)
-  opens earlier picture state cell (inr t) wrote = absurd (omega (arith, t.0.2, t.1))
+      let run : RunEndsWith plan ps (turn.Undetermined state cell) = (m, leads, g.0, e, subst (λ i. i < plan.states) (sym e) w.2) in
+      record {
+        run = run;
+        holds = w.5 ∙ ap (λ (z : Moment). z.store) g.1;
+        tried = run_tried (turn.Undetermined state cell) ps run t.0 (tallies_to t.0 state g.0.last g.0.picks ending.Rest g.2) t.2;
+        text_is = text_before;
+      }
+  opens earlier picture state cell (inr t) = absurd (omega (arith, t.0.2, t.1))
 
-  misses : (earlier picture : Picture) (state : ℕ) (port : List ℕ) → Tried earlier picture (turn.InputMissing state port) → Wrote now after [] → Worked (turn.InputMissing state port)
-  misses earlier picture state port (inl t) wrote =
+  misses : (earlier picture : Picture) (state : ℕ) (port : List ℕ) → Tried earlier picture (turn.InputMissing state port) → TriedLast picture (turn.InputMissing state port)
+  misses earlier picture state port (inl t) =
       let w = t.1.becomes in
       let e = w.1 in
       let closed = subst (λ (x : Ending). ClosesThriftily (setting plan (length ps)) order plan.reductions m w.0.last w.0.picks x t.0) t.1.ends t.1.closes in
       let g = subst (λ i. (g : replay.MissesInput (setting plan i) plan.reductions m port) × (w.0.last ≡ g.last) × ClosesThriftily (setting plan i) order plan.reductions m g.last g.picks (ending.Missing port) t.0) (sym e) (w.0, refl, closed) in
-      let run : RunEndsWith plan ps (turn.InputMissing state port) = (m, h.written.leads, g.0, e, subst (λ i. i < plan.states) (sym e) w.2) in
-      stops (turn.InputMissing state port) run refl (w.5 ∙ ap (λ (z : Moment). z.store) g.1) wrote (run_tried (turn.InputMissing state port) ps run t.0 (tallies_to t.0 state g.0.last g.0.picks (ending.Missing port) g.2) t.2)
-  misses earlier picture state port (inr t) wrote = absurd (omega (arith, t.0.2, t.1))
+      let run : RunEndsWith plan ps (turn.InputMissing state port) = (m, leads, g.0, e, subst (λ i. i < plan.states) (sym e) w.2) in
+      record {
+        run = run;
+        holds = w.5 ∙ ap (λ (z : Moment). z.store) g.1;
+        tried = run_tried (turn.InputMissing state port) ps run t.0 (tallies_to t.0 state g.0.last g.0.picks (ending.Missing port) g.2) t.2;
+        text_is = text_before;
+      }
+  misses earlier picture state port (inr t) = absurd (omega (arith, t.0.2, t.1))
 
-  reaches : (earlier picture : Picture) (state : ℕ) (kind : LimitKind) → Tried earlier picture (turn.Over state kind) → Wrote now after [] → Worked (turn.Over state kind)
-  reaches earlier picture state kind (inl t) wrote =
+  reaches : (earlier picture : Picture) (state : ℕ) (kind : LimitKind) → Tried earlier picture (turn.Over state kind) → TriedLast picture (turn.Over state kind)
+  reaches earlier picture state kind (inl t) =
       let w = t.1.becomes in
       let e = w.1 in
       let here : ℕ → Moment → List ℕ → Type 0 = λ i z xs. ClosesThriftily (setting plan i) order plan.reductions m z xs (ending.Over kind) t.0 in
@@ -249,37 +252,74 @@ module _ (plan : Plan) (beside : Beside) (order : Order) (from to : RunPlace) (b
       let closed = subst (λ (x : Ending). ClosesThriftily (setting plan (length ps)) order plan.reductions m last (limit_picks (setting plan (length ps)) plan.reductions m kind w.0) x t.0) t.1.ends t.1.closes in
       let g = subst (λ i. (g : ReachesLimit (setting plan i) plan.reductions m kind) × (last ≡ limit_moment (setting plan i) plan.reductions m kind g)
       × here i (limit_moment (setting plan i) plan.reductions m kind g) (limit_picks (setting plan i) plan.reductions m kind g)) (sym e) (w.0, refl, closed) in
-      let run : RunEndsWith plan ps (turn.Over state kind) = (m, h.written.leads, g.0, e, subst (λ i. i < plan.states) (sym e) w.2) in
-      stops (turn.Over state kind) run refl (w.5 ∙ ap (λ (z : Moment). z.store) g.1) wrote
-      (run_tried (turn.Over state kind) ps run t.0
-      (tallies_to t.0 state (limit_moment (setting plan state) plan.reductions m kind g.0) (limit_picks (setting plan state) plan.reductions m kind g.0) (ending.Over kind) g.2) t.2)
-  reaches earlier picture state kind (inr t) wrote = absurd (omega (arith, t.0.2, t.1))
+      let run : RunEndsWith plan ps (turn.Over state kind) = (m, leads, g.0, e, subst (λ i. i < plan.states) (sym e) w.2) in
+      record {
+        run = run;
+        holds = w.5 ∙ ap (λ (z : Moment). z.store) g.1;
+        tried = run_tried (turn.Over state kind) ps run t.0
+            (tallies_to t.0 state (limit_moment (setting plan state) plan.reductions m kind g.0) (limit_picks (setting plan state) plan.reductions m kind g.0) (ending.Over kind) g.2) t.2;
+        text_is = text_before;
+      }
+  reaches earlier picture state kind (inr t) = absurd (omega (arith, t.0.2, t.1))
 
   -- the state after the last one that there may be isn't begun
-  none_begun : (earlier picture : Picture) (states : ℕ) → Tried earlier picture (turn.StateLimit states) → Wrote now after [] → Worked (turn.StateLimit states)
-  none_begun earlier picture states (inl t) wrote = absurd t.1.ends
-  none_begun earlier picture states (inr t) wrote =
+  none_begun : (earlier picture : Picture) (states : ℕ) → Tried earlier picture (turn.StateLimit states) → TriedLast picture (turn.StateLimit states)
+  none_begun earlier picture states (inl t) = absurd t.1.ends
+  none_begun earlier picture states (inr t) =
       let w = t.0 in
-      let run : RunEndsWith plan ps (turn.StateLimit states) = (m, h.written.leads, w.1, w.1 ∙ w.0) in
-      stops (turn.StateLimit states) run refl w.4 wrote (record { tallies = h.tallies; tried = h.tried; more = 0; beyond = refl; counted = omega (arith, h.counted, t.2) })
+      let run : RunEndsWith plan ps (turn.StateLimit states) = (m, leads, w.1, w.1 ∙ w.0) in
+      record {
+        run = run;
+        holds = w.4;
+        tried = record { tallies = h.tallies; tried = h.tried; more = 0; beyond = refl; counted = omega (arith, h.counted, t.2) };
+        text_is = text_before;
+      }
 
-  ends_by : (earlier picture : Picture) (last : Turn) → IsLastTurn last → Tried earlier picture last → Wrote now after (printed_lines beside plan.program last picture (next_moment to)) → Worked last
-  ends_by earlier picture turn.Went ends t wrote = absurd ends
-  ends_by earlier picture (turn.Finished k) ends t wrote = finishes earlier picture k t wrote
-  ends_by earlier picture (turn.Contradictory state clash) ends t wrote = clashes earlier picture state clash t wrote
-  ends_by earlier picture (turn.Undetermined state cell) ends t wrote = opens earlier picture state cell t wrote
-  ends_by earlier picture (turn.StateLimit states) ends t wrote = none_begun earlier picture states t wrote
-  ends_by earlier picture (turn.InputMissing state port) ends t wrote = misses earlier picture state port t wrote
-  ends_by earlier picture (turn.Over state kind) ends t wrote = reaches earlier picture state kind t wrote
+  pub tried_last : (earlier picture : Picture) (last : Turn) → IsLastTurn last → Tried earlier picture last → TriedLast picture last
+  tried_last earlier picture turn.Went ends t = absurd ends
+  tried_last earlier picture (turn.Finished k) ends t = finishes earlier picture k t
+  tried_last earlier picture (turn.Contradictory state clash) ends t = clashes earlier picture state clash t
+  tried_last earlier picture (turn.Undetermined state cell) ends t = opens earlier picture state cell t
+  tried_last earlier picture (turn.StateLimit states) ends t = none_begun earlier picture states t
+  tried_last earlier picture (turn.InputMissing state port) ends t = misses earlier picture state port t
+  tried_last earlier picture (turn.Over state kind) ends t = reaches earlier picture state kind t
+
+-- the run's states were written, too
+module _ (plan : Plan) (beside : Beside) (order : Order) (from to : RunPlace) (before now after : Option (List ℕ)) (old mid new : ℕ) (h : HasWorked plan beside order from before now old mid) where
+  abbrev ps : List Picture
+  ps = h.written.pictures
+
+  abbrev m : Moment
+  m = h.written.next
+
+  pub HasWorked-more : StateWorked plan beside order m from to now after mid new None → HasWorked plan beside order to before after old new
+  HasWorked-more w =
+      let leads = h.written.leads in
+      let went : w.answer ≡ turn.Went = goes_with w.answer w.last_is in
+      let here = tried_there plan order to old mid new ps m leads h.tried from.state h.written.count w.earlier w.picture w.answer turn.Went w.tried went in
+      let on = tried_on plan order to old mid new ps m leads h.tried w.earlier w.picture here in
+      let number = number_there plan order to old mid new ps m leads h.tried from.state h.written.count w.answer turn.Went w.number went in
+      let wrote : Wrote now after (written_state beside plan.program w.picture (next_moment to)) = subst (λ t. Wrote now after (printed_lines beside plan.program t w.picture (next_moment to))) went w.wrote in
+      record { written = written_more plan beside from to before now after w.earlier w.picture h.written on.becomes number wrote (w.range (ap is_settled went)); tried = on.tried }
 
   pub work_ended : (ended : Ended) → program_of ended.run ≡ plan.program → store_of ended.run ≡ to.store → StateWorked plan beside order m from to now after mid new (Some ended.turn)
       → WorkEnded plan beside order before after old new ended
   work_ended ended program store w =
+      let leads = h.written.leads in
       let given : w.answer ≡ ended.turn = last_is_given w.answer ended.turn w.last_is in
       let ends = is_last w.answer ended.turn w.last_is in
+      let here = tried_there plan order to old mid new ps m leads h.tried from.state h.written.count w.earlier w.picture w.answer ended.turn w.tried given in
+      let end = tried_last plan order to old mid new ps m leads h.tried w.earlier w.picture ended.turn ends here in
       let wrote = subst (λ t. Wrote now after (printed_lines beside plan.program t w.picture (next_moment to))) given w.wrote in
-      let end = ends_by w.earlier w.picture ended.turn ends (tried_there w.earlier w.picture w.answer ended.turn w.tried given) wrote in
-      record { pictures = end.pictures; run = end.run; program_is = program; store_is = store ∙ end.holds; wrote = end.wrote; tried = end.tried }
+      let whole = Wrote-both before now after _ _ h.written.wrote wrote in
+      record {
+        pictures = pictures_after ps w.picture ended.turn;
+        run = end.run;
+        program_is = program;
+        store_is = store ∙ end.holds;
+        wrote = subst (Wrote before after) (sym (end.text_is beside)) whole;
+        tried = end.tried;
+      }
 
 -- a call that ends as a run does has written its line
 closes_wrote : (line : List ℕ) (status : Status) (old new : Option (List ℕ)) (result : Status) → ClosesText line status old new result → IsEndOfRun result → Wrote old new line

@@ -1,5 +1,5 @@
 -- What a call promises of a drill, which runs a large source and tells what its run took.
-use Rattle.std.specs.Prelude.{◌≡◌, ◌≢◌, ◌⊎◌, ◌+◌, ◌≤◌, ℕ, List, [], ◌++◌, take, Option, Some, codes}
+use Rattle.std.specs.Prelude.{◌≡◌, ◌≢◌, ◌⊎◌, ◌+◌, ℕ, List, [], ◌++◌, take, Option, Some, codes}
 use Rattle.std.specs.List.{sum_by}
 use Rattle.std.specs.Fmt.{decimal}
 use Rattle.tp_gen.specs.Source.{source_text}
@@ -18,6 +18,8 @@ use Rattle.tp_call.specs.declared.status.Refused.{Refused}
 use Rattle.tp_call.specs.EndLine.{refusal_line}
 use Rattle.tp_call.specs.Written.{Wrote}
 use Rattle.tp_call.specs.Run.{RunEnds, EndSays, known_at_end}
+use Rattle.tp_call.specs.InOrder.{NamesInOrder}
+use Rattle.tp_call.specs.Work.{RunTried}
 use Rattle.tp_call.specs.Source.{IsProgram, IsRefusedAt}
 use Rattle.tp_call.specs.Answer.{refused_status}
 use Rattle.tp_call.specs.EveryOrder.{ComesTo}
@@ -53,8 +55,9 @@ drill_line size length reductions tries =
     ++ codes "\n"
 
 -- A run of what is to be drilled finished, which says of every interval what it says of a run that
--- is asked for, and whose program's parts fit each other; and the text is the drill's line, with
--- the length of this run, the reductions of its states, and the tries by which their count rose.
+-- is asked for, and whose program's parts fit each other; its states were closed thriftily, in the
+-- order that the words ask for; and the text is the drill's line, with the length of this run, the
+-- reductions of its states, and the tries by which their count rose, which are those recorded.
 pub record DrillFinished (words : List (List ℕ)) (size : ℕ) (before after : ℕ)
     (text : List ℕ) : Type 0 where
   pub plan : Plan
@@ -64,14 +67,16 @@ pub record DrillFinished (words : List (List ℕ)) (size : ℕ) (before after : 
   pub run : RunEnds plan pictures (Finished length)
   pub says : SatisfiedExactly plan pictures length × Satisfiable plan
   pub fits : ProgramFits plan.program
+  pub tried : RunTried plan asked.asks.wanted.order pictures run.answer run.run before after
   pub tries : ℕ
   pub rose : after ≡ before + tries
   pub written : text ≡ drill_line size length (reductions_in pictures) tries
 
 -- A run of what is to be drilled ended with this status, and didn't finish, which says of every
--- interval what it says of a run that is asked for, and whose program's parts fit each other; and
--- the text is its end line alone.
-pub record DrillStopped (words : List (List ℕ)) (size : ℕ) (status : Status)
+-- interval what it says of a run that is asked for, and whose program's parts fit each other; its
+-- states were closed thriftily, in the order that the words ask for, and where one of them fails,
+-- the failure is named that it meets in this order; and the text is its end line alone.
+pub record DrillStopped (words : List (List ℕ)) (size : ℕ) (before after : ℕ) (status : Status)
     (text : List ℕ) : Type 0 where
   pub plan : Plan
   pub pictures : List Picture
@@ -80,6 +85,8 @@ pub record DrillStopped (words : List (List ℕ)) (size : ℕ) (status : Status)
   pub unfinished : (length : ℕ) → status ≢ Finished length
   pub says : EndSays plan pictures run.answer
   pub fits : ProgramFits plan.program
+  pub tried : RunTried plan asked.asks.wanted.order pictures run.answer run.run before after
+  pub named : NamesInOrder plan asked.asks.wanted.order run.answer
   pub written : text ≡ end_line plan.program.globals (known_at_end run) plan.reductions run.answer
 
 -- The large source is no program, and is refused there for this cause, as one that is to be run;
@@ -96,7 +103,7 @@ pub record DrillRefused (words : List (List ℕ)) (size : ℕ) (status : Status)
 abbrev pub DrillEnds : List (List ℕ) → (size before after : ℕ) → Status → List ℕ → Type 0
 DrillEnds words size before after status text =
     ((status ≡ Done) × DrillFinished words size before after text)
-    ⊎ DrillStopped words size status text ⊎ DrillRefused words size status text
+    ⊎ DrillStopped words size before after status text ⊎ DrillRefused words size status text
 
 module _ (words : List (List ℕ)) (size : ℕ) (old new : Option (List ℕ)) (before after : ℕ) where
   -- the whole text of such an end was appended
@@ -109,17 +116,23 @@ module _ (words : List (List ℕ)) (size : ℕ) (old new : Option (List ℕ)) (b
   abbrev pub DrillAnswers : Status → Type 0
   DrillAnswers Done = WroteWhole (DrillFinished words size before after)
   DrillAnswers (Contradictory state clash) =
-      WroteWhole (DrillStopped words size (Contradictory state clash))
+      WroteWhole (DrillStopped words size before after (Contradictory state clash))
   DrillAnswers (Undetermined state cell) =
-      WroteWhole (DrillStopped words size (Undetermined state cell))
-  DrillAnswers (StateLimit states) = WroteWhole (DrillStopped words size (StateLimit states))
-  DrillAnswers (ReductionLimit state) = WroteWhole (DrillStopped words size (ReductionLimit state))
-  DrillAnswers (NumberLimit state) = WroteWhole (DrillStopped words size (NumberLimit state))
-  DrillAnswers (ListLimit state) = WroteWhole (DrillStopped words size (ListLimit state))
-  DrillAnswers (CallLimit state) = WroteWhole (DrillStopped words size (CallLimit state))
-  DrillAnswers (NestLimit state) = WroteWhole (DrillStopped words size (NestLimit state))
+      WroteWhole (DrillStopped words size before after (Undetermined state cell))
+  DrillAnswers (StateLimit states) =
+      WroteWhole (DrillStopped words size before after (StateLimit states))
+  DrillAnswers (ReductionLimit state) =
+      WroteWhole (DrillStopped words size before after (ReductionLimit state))
+  DrillAnswers (NumberLimit state) =
+      WroteWhole (DrillStopped words size before after (NumberLimit state))
+  DrillAnswers (ListLimit state) =
+      WroteWhole (DrillStopped words size before after (ListLimit state))
+  DrillAnswers (CallLimit state) =
+      WroteWhole (DrillStopped words size before after (CallLimit state))
+  DrillAnswers (NestLimit state) =
+      WroteWhole (DrillStopped words size before after (NestLimit state))
   DrillAnswers (InputMissing state port) =
-      WroteWhole (DrillStopped words size (InputMissing state port))
+      WroteWhole (DrillStopped words size before after (InputMissing state port))
   DrillAnswers (SourceRefused line column kind) =
       WroteWhole (DrillRefused words size (SourceRefused line column kind))
   DrillAnswers WriteFault =

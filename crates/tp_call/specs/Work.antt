@@ -84,6 +84,14 @@ pub record RunTried (plan : Plan) (order : Order) (ps : List Picture) (answer : 
   pub beyond : TriesBeyond answer more
   pub counted : new ≡ old + (all_tries tallies + more)
 
+-- The states with which a run begins were closed thriftily in this order, with these picks; and a
+-- count of tries rose by those that were recorded.
+pub record HasTried (plan : Plan) (order : Order) (ps : List Picture) (m : Moment)
+    (leads : LeadsTo plan ps m) (old new : ℕ) : Type 0 where
+  pub tallies : List Tally
+  pub tried : AreTalliesOf plan order 0 (beginning_of plan) ps m leads tallies
+  pub counted : new ≡ old + all_tries tallies
+
 -- A run of what is asked for ended with this status, and its text was appended; it was tried so, in
 -- the order that the words ask for.
 pub record WorksThriftily (words : List (List ℕ)) (held : Option Held)
@@ -124,10 +132,7 @@ pub record StateWorked (plan : Plan) (beside : Beside) (order : Order) (m : Mome
 pub record HasWorked (plan : Plan) (beside : Beside) (order : Order) (now : RunPlace)
     (before after : Option (List ℕ)) (old new : ℕ) : Type 0 where
   pub written : HasWritten plan beside now before after
-  pub tallies : List Tally
-  pub tried : AreTalliesOf plan order 0 (beginning_of plan) written.pictures written.next
-      written.leads tallies
-  pub counted : new ≡ old + all_tries tallies
+  pub tried : HasTried plan order written.pictures written.next written.leads old new
 
 -- The run that ended is one of the plan's program, whose states were settled, written and tried.
 pub record WorkEnded (plan : Plan) (beside : Beside) (order : Order)

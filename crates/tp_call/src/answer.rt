@@ -68,7 +68,7 @@ fn read_source<F: Files>(alloc: Global, name: &str, files: &mut F) -> Result<Pro
     ensures fits { IfOk result (λ p. ProgramFits (program_tree p)) }
     ensures names { IfOk result (λ p. AreNames p.globals) }
     ensures refused { IfErr result (IsSourceRefusal Run (F.held files.old) name.now) }
-    ensures asked { AsksFile (F.asked files.old) name.now result (F.asked files.new) }
+    ensures asked { AsksFile (F.asked files.old) Which.Source name.now result (F.asked files.new) }
     ensures held { F.held files.new ≡ F.held files.old }
     ensures later { F.faults files.old ≤ F.faults files.new }
     ensures read_fault { (which : Which) → result ≡ Err (Status.ReadFault which)
@@ -115,7 +115,7 @@ fn read_table<F: Files>(alloc: Global, name: &str, files: &mut F) -> Result<Inpu
     ensures read_back { IfOk result (λ t.
         IsInputsText (converted (inputs_of t)) (inputs_of t)) }
     ensures refused { IfErr result (IsInputsEnd (F.held files.old) (Some name.now)) }
-    ensures asked { AsksFile (F.asked files.old) name.now result (F.asked files.new) }
+    ensures asked { AsksFile (F.asked files.old) Which.Inputs name.now result (F.asked files.new) }
     ensures held { F.held files.new ≡ F.held files.old }
     ensures later { F.faults files.old ≤ F.faults files.new }
     ensures read_fault { (which : Which) → result ≡ Err (Status.ReadFault which)

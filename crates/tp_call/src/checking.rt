@@ -54,7 +54,7 @@ fn read_formula<F: Files>(alloc: Global, name: &str, files: &mut F) -> Result<Wi
         HoldsWide (wide_seen w) (bytes_of held name.now))) }
     ensures fits { IfOk result (λ w. WideFits (kinds_of w.globals) (wide_tree w.formula)) }
     ensures refused { IfErr result (IsSourceRefusal Check (F.held files.old) name.now) }
-    ensures asked { AsksFile (F.asked files.old) name.now result (F.asked files.new) }
+    ensures asked { AsksFile (F.asked files.old) Which.Source name.now result (F.asked files.new) }
     ensures held { F.held files.new ≡ F.held files.old }
     ensures later { F.faults files.old ≤ F.faults files.new }
     ensures read_fault { (which : Which) → result ≡ Err (Status.ReadFault which)
@@ -84,7 +84,7 @@ fn read_states<F: Files>(alloc: Global, name: &str, files: &mut F) -> Result<Tra
         HoldsTrace trace (bytes_of held name.now))) }
     ensures some_state { IfOk result (λ trace. 0 < length trace) }
     ensures refused { IfErr result (IsUnreadTrace (F.held files.old) name.now) }
-    ensures asked { AsksFile (F.asked files.old) name.now result (F.asked files.new) }
+    ensures asked { AsksFile (F.asked files.old) Which.Other name.now result (F.asked files.new) }
     ensures held { F.held files.new ≡ F.held files.old }
     ensures later { F.faults files.old ≤ F.faults files.new }
     ensures read_fault { (which : Which) → result ≡ Err (Status.ReadFault which)
@@ -101,7 +101,7 @@ fn judge<F: Files>(alloc: Global, wide: &Wide, name: &str, files: &mut F) -> Res
     ensures verdict { IfOk result (λ v.
         IsVerdictBy (wide_seen wide.now) (F.held files.old) name.now (verdict_of v)) }
     ensures refused { IfErr result (IsUnjudged (F.held files.old) name.now) }
-    ensures asked { AsksFile (F.asked files.old) name.now result (F.asked files.new) }
+    ensures asked { AsksFile (F.asked files.old) Which.Other name.now result (F.asked files.new) }
     ensures held { F.held files.new ≡ F.held files.old }
     ensures later { F.faults files.old ≤ F.faults files.new }
     ensures read_fault { (which : Which) → result ≡ Err (Status.ReadFault which)

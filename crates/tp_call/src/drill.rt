@@ -4,18 +4,19 @@ ghost use Rattle.tp_lex.specs.Place.{source_limit};
 ghost use Rattle.tp_io.specs.Held.{Rose};
 ghost use Rattle.tp_meaning.specs.Fits.{ProgramFits};
 ghost use Rattle.tp_gen.specs.Source.{source_text};
+ghost use Rattle.tp_scene.specs.Pick.{Moment};
 ghost use Rattle.tp_inputs.specs.Read.{inputs_of};
 ghost use Rattle.tp_check.specs.Program.{program_tree};
 ghost use Rattle.tp_show.specs.Told.{IsLastTurn};
 ghost use Rattle.tp_run.specs.States.{Plan};
-ghost use Rattle.tp_run.specs.Runs.{standing_of, standing_place, IsRunOf};
+ghost use Rattle.tp_run.specs.Standing.{open_at};
+ghost use Rattle.tp_run.specs.Runs.{standing_of, standing_place, order_of, IsRunOf};
 ghost use Rattle.tp_run.specs.Tried.{recorded_tries};
 ghost use Rattle.tp_words.specs.declared.mode.Mode.TheVariants as modes;
 ghost use Rattle.tp_call.specs.Drill.{drill_line, IsAskedToDrill, DrillAnswers};
 ghost use Rattle.tp_call.specs.Drilled.{StateDrilled, RunDrilled, finished_length, ClosesDrill};
 ghost use Rattle.tp_call.specs.Parts.{IsReadRefusal, ClosesText};
 ghost use Rattle.tp_call.specs.Progress.{is_settled as is_settled_by};
-ghost use Rattle.tp_call.specs.Places.{StandsOpen};
 ghost use Rattle.tp_call.specs.Source.{IsProgram};
 ghost use Rattle.tp_call.specs.Task.{plan_of, IsDrillFor};
 
@@ -167,12 +168,12 @@ fn make_counted<L: Ledger>(
     totals: &mut Totals,
     steps: &mut Steps<L>,
 ) -> Result<Option<Turn>, NoMemory>
-    requires run { (plan : Plan) × IsRunOf plan run.old }
-    requires open { StandsOpen (standing_of run.old) }
+    requires { (plan : Plan) × IsRunOf plan run.old }
     ensures run { (plan : Plan) → IsRunOf plan run.old → IsRunOf plan run.new }
+    ensures order { order_of run.new ≡ order_of run.old }
     ensures made { IfOk result (λ last.
-        (plan : Plan) → IsRunOf plan run.old
-        → StateDrilled plan (standing_place run.old) (standing_place run.new)
+        (plan : Plan) (m : Moment) → IsRunOf plan run.old → standing_of run.old ≡ open_at m
+        → StateDrilled plan (order_of run.old) m (standing_place run.old) (standing_place run.new)
         totals.old totals.new steps.old steps.new last) }
 {
     let turn = run.state(picture, steps)?;
@@ -205,7 +206,7 @@ fn run_counted<L: Ledger>(
 ) -> Result<Drilled, NoMemory>
     requires { ProgramFits (program_tree task.program) }
     ensures { IfOk result (λ drilled.
-        RunDrilled (plan_of task) steps.old steps.new drilled) }
+        RunDrilled (plan_of task) task.order steps.old steps.new drilled) }
 {
     let mut run = start(alloc, task)?;
     let mut picture = no_picture(alloc);
@@ -289,7 +290,8 @@ fn run_sized<K: Sink, L: Ledger>(
     steps: &mut Steps<L>,
 ) -> Status
     requires fits { ProgramFits (program_tree task.program) }
-    ensures answer { (words : List (List ℕ)) → IsAskedToDrill words size (plan_of task)
+    ensures answer { (words : List (List ℕ)) (asked : IsAskedToDrill words size (plan_of task))
+        → asked.asks.wanted.order ≡ task.order
         → DrillAnswers words size (K.written out.old) (K.written out.new) steps.old steps.new
         result }
     ensures write_fault { result ≡ Status.WriteFault

@@ -45,7 +45,7 @@ pub fn read_tree<F: Files>(alloc: Global, name: &str, files: &mut F) -> Result<S
         HoldsSource (source_tree s) (bytes_of held name.now))) }
     ensures read_back { IfOk result (λ s. IsReadFromSpelling (source_tree s)) }
     ensures refused { IfErr result (IsSourceRefusal Print (F.held files.old) name.now) }
-    ensures asked { AsksFile (F.asked files.old) name.now result (F.asked files.new) }
+    ensures asked { AsksFile (F.asked files.old) Which.Source name.now result (F.asked files.new) }
     ensures held { F.held files.new ≡ F.held files.old }
     ensures later { F.faults files.old ≤ F.faults files.new }
     ensures read_fault { (which : Which) → result ≡ Err (Status.ReadFault which)

@@ -51,7 +51,7 @@ pub fn read_limited<F: Files>(
         → Rose F.greatest (F.faults files.old) (F.faults files.new) }
     ensures later { F.faults files.old ≤ F.faults files.new }
     ensures held { F.held files.new ≡ F.held files.old }
-    ensures asked { F.asked files.new ≡ asked_by (F.asked files.old) name.now result }
+    ensures asked { F.asked files.new ≡ asked_by (F.asked files.old) name.now limit result }
 {
     let bytes = files.read(alloc, name, limit + 1)?;
     if bytes.len() > limit {

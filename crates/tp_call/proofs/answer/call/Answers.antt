@@ -3,9 +3,7 @@ use Rattle.tp_inputs.specs.Read.{inputs_of}
 use Rattle.tp_verdict.specs.Code.{verdict_of}
 use Rattle.tp_call.proofs.AnswerLemmas.{refused, spelled, table_written, verdict_written}
 use Rattle.tp_call.proofs.InOrderLemmas.{task_in_order, refused_in_order, printed_in_order}
-use Rattle.std.proofs.Common.{subst}
 use Rattle.tp_words.specs.declared.mode.Mode.TheVariants.{Run, Print, Convert, Check}
-use Rattle.tp_call.specs.Drill.{DrillAnswers}
 use Rattle.tp_call.proofs.DrillClauses.{other_mode, run_apart, print_apart, convert_apart, check_apart, drill_stops, one_size, not_run}
 use Rattle.tp_call.proofs.answer.call.Goals as goal
 

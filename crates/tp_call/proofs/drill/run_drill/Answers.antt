@@ -1,4 +1,4 @@
-use Rattle.std.proofs.Common.{ap, ◌∙◌}
+use Rattle.std.proofs.Common.{ap, sym, ◌∙◌}
 use Rattle.tp_run.specs.declared.limits.Limits.{Limits}
 use Rattle.tp_call.proofs.DrillLemmas.{drill_refused}
 use Rattle.tp_call.proofs.drill.run_drill.Goals as goal
@@ -12,7 +12,7 @@ returns-in-Ok-clause-answer g c = λ words job.
       inputs = task.inputs;
       states = ap (λ (l : Limits). l.states) task.limits ∙ job.states;
       reductions = ap (λ (l : Limits). l.reductions) task.limits ∙ job.reductions;
-    })
+    }) (sym (task.order ∙ job.order))
 
 pub returns-in-Err-clause-answer : goal.returns-in-Err-clause-answer
 returns-in-Err-clause-answer g c = λ words job.

@@ -37,6 +37,6 @@ returns-clause-worked g c = λ plan m runs stands.
     let from = standing_place run in
     let to = standing_place c.state.new.self in
     let answers = c.in_ok-turn.ensures.made plan runs in
-    let tries = state_tried plan c.args.beside (order_of run) from to m stands _ _ c.in_ok-turn.turn answers _ _ (tally_of c.state.new.self) runs.within
+    let tries = state_tried plan (order_of run) from to m stands _ _ c.in_ok-turn.turn answers _ _ (tally_of c.state.new.self) runs.within
     (c.in_ok-turn.ensures.tried plan m runs stands) (c.in_ok-turn.ensures.steps plan m runs stands) (c.in_ok-turn.ensures.tries_none plan runs) in
-    state_worked plan c.args.beside (order_of run) from to m stands _ _ c.in_ok-turn.turn answers _ _ tries _ _ _ _ (c.state.ensures.run plan runs).program c.last_answer.ensures c.in_ok-write_settled.ensures.written c.in_ok-write_settled.ensures.range
+    state_worked plan (order_of run) from to m stands _ _ c.in_ok-turn.turn answers _ _ tries c.args.beside _ _ _ _ (c.state.ensures.run plan runs).program c.last_answer.ensures c.in_ok-write_settled.ensures.written c.in_ok-write_settled.ensures.range
