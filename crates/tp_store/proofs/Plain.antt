@@ -11,30 +11,30 @@ use Rattle.tp_value.specs.declared.path.Fact.{Fact}
 use Rattle.tp_store.specs.Facts.{same_path, kept_shape, item_path, fact}
 use Rattle.tp_store.specs.Known.{known, open_at, and_items, item_open_at, items_known, list_of_items, with_shape, whole}
 use Rattle.tp_store.specs.Changes.{HaveSameShapes}
-use Rattle.tp_store.specs.FactMap.{AreOfOne, ArePlainBelow, IsPlain, item_of}
+use Rattle.tp_store.specs.FactMap.{AreOfOne, IsNumberOrTruth}
 use Rattle.tp_store.specs.declared.nodes.Nodes.{Nodes}
-use Rattle.tp_store.specs.Nodes.{same_edge, edges_in, nodes_in, facts_in_tree, ArePlainItems, IsTree}
+use Rattle.tp_store.specs.Nodes.{same_edge, edges_in, nodes_in, facts_in_tree, path_along, ArePlainBelow, ArePlainItems, IsTree}
 use Rattle.tp_store.proofs.Members.{in_left, in_right, kept_in}
 use Rattle.tp_store.proofs.Filing.{of_in}
 use Rattle.tp_store.proofs.Trees.{kept_is}
 use Rattle.tp_store.proofs.Growth.{length_nodes}
 
-plain_some : (o : Option Shape) → IsPlain o → (sh : Shape) × (o ≡ Some sh)
+plain_some : (o : Option Shape) → IsNumberOrTruth o → (sh : Shape) × (o ≡ Some sh)
 plain_some None h = absurd h
 plain_some (Some sh) h = (sh, refl)
 
 -- such an item is known
-plain_known : (d : ℕ) (fs : List Fact) (p : Path) → IsPlain (kept_shape fs p) → (t : Tree) × (whole (suc d) fs p ≡ known t)
+plain_known : (d : ℕ) (fs : List Fact) (p : Path) → IsNumberOrTruth (kept_shape fs p) → (t : Tree) × (whole (suc d) fs p ≡ known t)
 plain_known d fs p h = by (kept_shape fs p) h
   where
-    by : (o : Option Shape) → IsPlain o → (t : Tree) × (with_shape (whole d fs) p o ≡ known t)
+    by : (o : Option Shape) → IsNumberOrTruth o → (t : Tree) × (with_shape (whole d fs) p o ≡ known t)
     by None i = absurd i
     by (Some (Num n)) i = (num n, refl)
     by (Some (Truth b)) i = (truth b, refl)
     by (Some (Items n)) i = absurd i
 
 -- The items of a list before index c are such, and of that one nothing is kept.
-module _ (fs : List Fact) (p : Path) (c : ℕ) (plain : (k : ℕ) → k < c → IsPlain (kept_shape fs (item_path p k))) (none : kept_shape fs (item_path p c) ≡ None) where
+module _ (fs : List Fact) (p : Path) (c : ℕ) (plain : (k : ℕ) → k < c → IsNumberOrTruth (kept_shape fs (item_path p k))) (none : kept_shape fs (item_path p c) ≡ None) where
   open_from : (d m k : ℕ) → k ≤ c → c < k + m → items_known (whole (suc d) fs) p m k ≡ item_open_at (item_path p c)
   open_from d zero k low high = absurd (omega (arith, low, high))
   open_from d (suc m) k low high =
@@ -65,17 +65,17 @@ plain_stays x old new (g ∷ rest) f c e one same plain = λ k less.
     let is_first : g ≡ f = cc e in
     let facts = facts_in_tree x old in
     let here = plain k less in
-    let s = plain_some (kept_shape facts (item_of x k)) here in
+    let s = plain_some (kept_shape facts (path_along x (k ∷ []))) here in
     let all = of_in one.0 (facts ++ g ∷ rest) one.1 in
-    let one_var : x ≡ f.path.var = all (fact (item_of x k) s.0) (in_left (fact (item_of x k) s.0) facts (g ∷ rest) (kept_in facts (item_of x k) s.0 s.1))
+    let one_var : x ≡ f.path.var = all (fact (path_along x (k ∷ [])) s.0) (in_left (fact (path_along x (k ∷ [])) s.0) facts (g ∷ rest) (kept_in facts (path_along x (k ∷ [])) s.0 s.1))
     ∙ sym (all g (in_right g facts (g ∷ rest) (inl refl))) ∙ ap (λ (h : Fact). h.path.var) is_first in
-    let there : kept_shape (facts_in_tree f.path.var new) (item_of f.path.var k) ≡ Some s.0 = same (item_of f.path.var k)
-    ∙ ap (λ y. kept_shape (facts ++ g ∷ rest) (item_of y k)) (sym one_var) ∙ kept_first facts (g ∷ rest) (item_of x k) s.0 s.1 in
-    subst (λ o. IsPlain o) (s.1 ∙ sym there) here
+    let there : kept_shape (facts_in_tree f.path.var new) (path_along f.path.var (k ∷ [])) ≡ Some s.0 = same (path_along f.path.var (k ∷ []))
+    ∙ ap (λ y. kept_shape (facts ++ g ∷ rest) (path_along y (k ∷ []))) (sym one_var) ∙ kept_first facts (g ∷ rest) (path_along x (k ∷ [])) s.0 s.1 in
+    subst (λ o. IsNumberOrTruth o) (s.1 ∙ sym there) here
 
 -- as the nodes tell it, and as the facts do
 pub plain_items : (t : Nodes) (x : VarId) (c : ℕ) → IsTree t → IsDistinct same_edge (edges_in t) → ArePlainBelow c x (facts_in_tree x t) → ArePlainItems c t
-plain_items t x c tree unique plain = λ k less. subst (λ o. IsPlain o) (kept_is x (edges_in t) (nodes_in t) tree.rooted unique (length_nodes t) (item_of x k) refl) (plain k less)
+plain_items t x c tree unique plain = λ k less. subst (λ o. IsNumberOrTruth o) (kept_is x (edges_in t) (nodes_in t) tree.rooted unique (length_nodes t) (path_along x (k ∷ [])) refl) (plain k less)
 
 pub plain_facts : (t : Nodes) (x : VarId) (c : ℕ) → IsTree t → IsDistinct same_edge (edges_in t) → ArePlainItems c t → ArePlainBelow c x (facts_in_tree x t)
-plain_facts t x c tree unique plain = λ k less. subst (λ o. IsPlain o) (sym (kept_is x (edges_in t) (nodes_in t) tree.rooted unique (length_nodes t) (item_of x k) refl)) (plain k less)
+plain_facts t x c tree unique plain = λ k less. subst (λ o. IsNumberOrTruth o) (sym (kept_is x (edges_in t) (nodes_in t) tree.rooted unique (length_nodes t) (path_along x (k ∷ [])) refl)) (plain k less)

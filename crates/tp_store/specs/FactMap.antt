@@ -1,11 +1,11 @@
 -- The facts of one variable, as they are kept together.
-use Rattle.std.specs.Prelude.{◌≡◌, ◌<◌, ℕ, Bool, true, false, not, List, [], ◌∷◌, take, Option, Some, None}
+use Rattle.std.specs.Prelude.{◌≡◌, ℕ, Bool, true, false, not, List, [], ◌∷◌, take, Option, Some, None}
 use Rattle.tp_value.specs.declared.value.Shape.{Shape}
 use Rattle.tp_value.specs.declared.path.VarId.{VarId}
 use Rattle.tp_value.specs.declared.path.Path.{Path}
 use Rattle.tp_value.specs.declared.path.Fact.{Fact}
 use Rattle.tp_value.specs.declared.value.Shape.TheVariants.{Num, Truth, Items}
-use Rattle.tp_store.specs.Facts.{has_item, kept_shape}
+use Rattle.tp_store.specs.Facts.{has_item}
 
 -- a shape is there, and has no item with this index
 abbrev pub lacks_item : Option Shape → ℕ → Bool
@@ -21,19 +21,11 @@ is_nil [] = true
 is_nil (f ∷ fs) = false
 
 -- the shape of a number or of a truth
-abbrev pub IsPlain : Option Shape → Type 0
-IsPlain None = ⊥
-IsPlain (Some (Num n)) = Unit {0}
-IsPlain (Some (Truth b)) = Unit {0}
-IsPlain (Some (Items n)) = ⊥
-
--- the path of an item of the variable's value
-abbrev pub item_of : VarId → ℕ → Path
-item_of x k = record { var = x; at = k ∷ [] }
-
--- the items of the variable's value with lesser indices are numbers and truths
-abbrev pub ArePlainBelow : (count : ℕ) → VarId → List Fact → Type 0
-ArePlainBelow count x fs = (k : ℕ) → k < count → IsPlain (kept_shape fs (item_of x k))
+abbrev pub IsNumberOrTruth : Option Shape → Type 0
+IsNumberOrTruth None = ⊥
+IsNumberOrTruth (Some (Num n)) = Unit {0}
+IsNumberOrTruth (Some (Truth b)) = Unit {0}
+IsNumberOrTruth (Some (Items n)) = ⊥
 
 -- each fact is of this variable
 abbrev pub AreOf : VarId → List Fact → Type 0

@@ -7,9 +7,9 @@ use Rattle.tp_value.specs.declared.value.Shape.{Shape}
 use Rattle.tp_value.specs.declared.path.VarId.{VarId}
 use Rattle.tp_value.specs.declared.path.Path.{Path}
 use Rattle.tp_value.specs.declared.path.Fact.{Fact}
-use Rattle.tp_store.specs.Facts.{fact}
+use Rattle.tp_store.specs.Facts.{fact, kept_shape}
 use Rattle.tp_value.specs.declared.value.Shape.TheVariants.{Items}
-use Rattle.tp_store.specs.FactMap.{lacks_item, AreOf, IsPlain}
+use Rattle.tp_store.specs.FactMap.{lacks_item, AreOf, IsNumberOrTruth}
 use Rattle.tp_store.specs.Known.{NoClash}
 use Rattle.tp_store.specs.Changes.{HaveSameShapes}
 use Rattle.tp_store.specs.declared.nodes.Edge.{Edge}
@@ -141,9 +141,14 @@ lacks_way es ns (k ∷ ks) n =
 abbrev pub item_shape : Nodes → ℕ → Option Shape
 item_shape t k = shape_found (nodes_in t) (node_from (edges_in t) (k ∷ []) 0)
 
+-- the items of the variable's value with lesser indices are numbers and truths
+abbrev pub ArePlainBelow : (count : ℕ) → VarId → List Fact → Type 0
+ArePlainBelow count x fs =
+    (k : ℕ) → k < count → IsNumberOrTruth (kept_shape fs (path_along x (k ∷ [])))
+
 -- the items of the root with lesser indices are numbers and truths
 abbrev pub ArePlainItems : (count : ℕ) → Nodes → Type 0
-ArePlainItems count t = (k : ℕ) → k < count → IsPlain (item_shape t k)
+ArePlainItems count t = (k : ℕ) → k < count → IsNumberOrTruth (item_shape t k)
 
 -- The root is a list that has an item with this index, of which nothing is kept.
 pub record LacksShape (t : Nodes) (index : ℕ) : Type 0 where

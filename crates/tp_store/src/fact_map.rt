@@ -4,7 +4,7 @@ ghost use Rattle.std.specs.Option.{option_copied};
 ghost use Rattle.tp_store.specs.Facts.{kept_shape, is_excluded, has_item, item_path};
 ghost use Rattle.tp_store.specs.Known.{NoClash, deepest, first_clash, new_facts, open_at, whole};
 ghost use Rattle.tp_store.specs.Changes.{HaveSameShapes};
-ghost use Rattle.tp_store.specs.FactMap.{AreOfOne, IsPlain};
+ghost use Rattle.tp_store.specs.FactMap.{AreOfOne, IsNumberOrTruth};
 ghost use Rattle.tp_store.specs.Nodes.{edges_in, node_from, facts_in_tree, IsTree, ArePlainItems, LacksShape};
 
 use crate::clash::{clashes, is_earlier, same_shape};
@@ -36,8 +36,8 @@ impl Model for FactMap {
 
     ghost use Rattle.std.specs.Prelude.{◌≡◌, ◌<◌, ◌^◌};
     ghost use Rattle.tp_store.specs.Known.{NoClash, deepest};
-    ghost use Rattle.tp_store.specs.FactMap.{is_nil, ArePlainBelow};
-    ghost use Rattle.tp_store.specs.Nodes.{facts_in_tree, IsTree};
+    ghost use Rattle.tp_store.specs.FactMap.{is_nil};
+    ghost use Rattle.tp_store.specs.Nodes.{facts_in_tree, ArePlainBelow, IsTree};
 
     ghost view = { λ m. facts_in_tree m.var m.nodes };
 
@@ -74,7 +74,7 @@ fn has_all(shape: Shape, beyond: u64) -> bool
 
 // Whether this is the shape of a number or of a truth.
 fn is_plain(shape: Option<Shape>) -> bool
-    ensures { IsTrue result → IsPlain shape }
+    ensures { IsTrue result → IsNumberOrTruth shape }
 {
     match shape {
         Some(Shape::Num(_) | Shape::Truth(_)) => true,

@@ -4,7 +4,6 @@ use Rattle.tp_value.specs.declared.path.Path.{Path}
 use Rattle.tp_value.specs.declared.path.Fact.{Fact}
 use Rattle.tp_store.specs.Facts.{kept_shape, item_path}
 use Rattle.tp_store.specs.Known.{open_at, whole}
-use Rattle.tp_store.specs.FactMap.{item_of}
 use Rattle.tp_store.specs.Nodes.{edges_in, nodes_in, facts_in_tree, path_along, shape_found, node_from}
 use Rattle.tp_store.proofs.Trees.{kept_is}
 use Rattle.tp_store.proofs.Growth.{length_nodes}
@@ -28,7 +27,7 @@ returns-then-lacks_shape c = λ k d e.
     let kept : (p : Path) → p.var ≡ x → kept_shape fs p ≡ shape_found (nodes_in m) (node_from (edges_in m) p.at 0)
     = kept_is x (edges_in m) (nodes_in m) c.self.invariant.1.rooted c.count-count.ensures.unique (length_nodes m) in
     let open_there : whole (suc (suc d)) fs root ≡ open_at (item_path root i)
-    = open_first fs root i c.self.invariant.5 (kept (item_of x i) refl ∙ lacks.none) d lacks.count (kept root refl ∙ lacks.list) lacks.within in
+    = open_first fs root i c.self.invariant.5 (kept (path_along x (i ∷ [])) refl ∙ lacks.none) d lacks.count (kept root refl ∙ lacks.list) lacks.within in
     let same_x = same_var c.path.inside.0.0 x (not_false _ (sym c.ne.ensures ∙ c.if-ne.false)) in
     let var_is : q.var ≡ x = sym (ap (λ (p : Path). p.var) c.path.view_is) ∙ same_x in
     let test = sym c.is_empty.ensures ∙ c.if-not-is_empty.false in
