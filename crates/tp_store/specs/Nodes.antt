@@ -1,5 +1,5 @@
 -- The facts of a variable as a tree: its nodes, and what is kept at them.
-use Rattle.std.specs.Prelude.{◌≡◌, ◌<◌, ℕ, zero, suc, Bool, ◌&&◌, ◌||◌, eqb, false, List, [], ◌∷◌, ◌++◌, Option, Some, None, slice_get, slice_index_or, length}
+use Rattle.std.specs.Prelude.{◌≡◌, ◌<◌, ◌+◌, ◌*◌, ◌^◌, ◌%◌, ℕ, zero, suc, Bool, ◌&&◌, ◌||◌, eqb, false, List, [], ◌∷◌, ◌++◌, Option, Some, None, slice_get, slice_index_or, length}
 use Rattle.std.specs.List.{position}
 use Rattle.std.specs.Option.{option_map}
 use Rattle.std.specs.Map.{keys_of, values_of}
@@ -18,6 +18,10 @@ use Rattle.tp_store.specs.declared.nodes.Nodes.{Nodes}
 
 abbrev pub edge : ℕ → ℕ → Edge
 edge n k = record { node = n; index = k }
+
+-- both numbers of an edge as one; where there are at most 2 ^ 32 nodes, each edge has its own
+abbrev pub edge_number : Edge → ℕ
+edge_number e = (e.node * 2 ^ 32 % 2 ^ 64 + e.index) % 2 ^ 64
 
 abbrev pub same_edge : Edge → Edge → Bool
 same_edge e f = eqb e.node f.node && eqb e.index f.index

@@ -1,18 +1,34 @@
 // The facts of a variable as a tree: a node for each place in its value that a fact speaks of, and for those on the way there.
 ghost use Rattle.std.specs.Prelude.{◌≡◌, ◌<◌, ◌^◌, [], ◌∷◌, length, slice_get, slice_index_or, Some, None, IfOk, OnOk, OnErr};
+ghost use Rattle.std.specs.Hash as fed;
+ghost use Rattle.std.specs.Cmp.Rules.{hashing};
 ghost use Rattle.std.specs.List.{IsDistinct};
-ghost use Rattle.tp_store.specs.Nodes.{edges_in, nodes_in, child, same_edge, node_from, routes, shape_among, shape_found, lacks_way, with_node, with_shape_at, facts_in_tree, IsRooted, IsTree, HasMoreNodes, IsRaised, AreWays, KeepsAll};
+ghost use Rattle.std.proofs.Common.{rules};
+ghost use Rattle.tp_store.specs.Nodes.{edge_number, edges_in, nodes_in, child, same_edge, node_from, routes, shape_among, shape_found, lacks_way, with_node, with_shape_at, facts_in_tree, IsRooted, IsTree, HasMoreNodes, IsRaised, AreWays, KeepsAll};
 
 use crate::clash::lacks_item;
 use indexmap::IndexMap;
 use std::alloc::Global;
+use std::hash::{Hash, Hasher};
 use tp_value::{Fact, Indices, NoMemory, Path, Shape, VarId};
 
 /// From a node to its child with this index.
-#[derive(Clone, Copy, Debug, PartialEq, Eq, Hash)]
+#[derive(Clone, Copy, Debug, PartialEq, Eq)]
 pub struct Edge {
     pub node: u64,
     pub index: u32,
+}
+
+// Both numbers as one, of which a hasher takes half the time.
+impl Hash for Edge {
+    ghost hash_input = { λ e. fed.u64 (edge_number e) };
+
+    ghost respects_eq = { Prim.search (hashing, rules) };
+
+    fn hash<H: Hasher>(&self, state: &mut H) {
+        let high = self.node.wrapping_mul(1 << 32);
+        state.write_u64(high.wrapping_add(u64::from(self.index)));
+    }
 }
 
 /// What is kept at a node, and a number that the indices of its children are less than.
@@ -115,11 +131,14 @@ impl Nodes {
         ensures { result ≡ lacks_way (edges_in self.now) (nodes_in self.now) at.now 0 }
     {
         let mut node = 0;
-        for index in at {
-            if lacks_item(self.shape(node), *index) {
+        for i in 0..at.len() {
+            if lacks_item(self.shape(node), at[i]) {
                 return true;
             }
-            let Some(next) = self.child(node, *index) else {
+            if i + 1 == at.len() {
+                return false;
+            }
+            let Some(next) = self.child(node, at[i]) else {
                 return false;
             };
             node = next;
