@@ -1,5 +1,5 @@
 -- A place is filed under one key.
-use Rattle.std.proofs.Common.{◌≡◌, ℕ, suc, ◌<◌, ◌≤◌, Bool, true, false, ◌&&◌, cond, List, [], ◌∷◌, ◌++◌, length, length-append, get_or, nat_eq, unwrap_or, Option, Some, refl, ap, ap₂, sym, ◌∙◌, subst, inl, inr, arith}
+use Rattle.std.proofs.Common.{◌≡◌, ℕ, suc, ◌<◌, ◌≤◌, Bool, true, false, ◌&&◌, cond, List, [], ◌∷◌, ◌++◌, length, length-append, get_or, nat_eq, take, unwrap_or, Option, Some, refl, ap, ap₂, sym, ◌∙◌, subst, inl, inr, arith}
 use Rattle.std.proofs.lemmas.Bool.{and_right, cases_Bool, cases_eq}
 use Rattle.std.proofs.lemmas.Bool.Decides.{Decides-eqb}
 use Rattle.std.proofs.lemmas.List.{get_or_push}
@@ -8,8 +8,9 @@ use Rattle.indexmap.specs.IndexMap.{get}
 use Rattle.tp_value.specs.declared.path.VarId.{VarId}
 use Rattle.tp_value.specs.declared.path.Path.{Path}
 use Rattle.tp_agenda.specs.declared.index.Link.{Link}
+use Rattle.tp_agenda.specs.declared.index.Item.{Item}
 use Rattle.tp_agenda.specs.declared.index.Index.{Index}
-use Rattle.tp_agenda.specs.Index.{no_link, places_named, equal_paths, equal_variables, kept_of, newest_at, newest_for, IsChained, HasFiled, IsPushed}
+use Rattle.tp_agenda.specs.Index.{no_link, places_named, equal_items, equal_paths, equal_variables, kept_of, newest_at, newest_for, IsChained, HasFiled, IsPushed}
 use Rattle.tp_agenda.proofs.Links.{LeadBack, lead_back, named_new, named_old, still_there, equal_paths-decides}
 
 abbrev named_from : List Link → ℕ → List ℕ
@@ -89,25 +90,62 @@ and_true : (b : Bool) → (b && true) ≡ b
 and_true true = refl
 and_true false = refl
 
--- the links of paths with indices are kept by their paths
-pub part_found : (x : Index) (p : Path) (at : List ℕ) → 0 < length at → kept_of x p at ≡ get equal_paths x.parts p
-part_found x p [] some = absurd (omega (arith, some))
-part_found x p (k ∷ ks) some = refl
+-- the links of an item are kept by its index, and those of paths with more indices by the paths
+pub item_found : (x : Index) (p : Path) (at : List ℕ) → length at ≡ 1 → kept_of x p at ≡ get equal_items x.items (record { var = p.var; index = get_or at 0 0 })
+item_found x p [] one = absurd (omega (arith, one))
+item_found x p (k ∷ []) one = refl
+item_found x p (j ∷ k ∷ ks) one = absurd (omega (arith, one))
 
--- a map of one kind of paths got a link, and the other is as it was
+pub part_found : (x : Index) (p : Path) (at : List ℕ) → 1 < length at → kept_of x p at ≡ get equal_paths x.parts p
+part_found x p [] some = absurd (omega (arith, some))
+part_found x p (k ∷ []) some = absurd (omega (arith, some))
+part_found x p (j ∷ k ∷ ks) some = refl
+
+pub first_taken : (at : List ℕ) → 0 < length at → take 1 at ≡ get_or at 0 0 ∷ []
+first_taken [] some = absurd (omega (arith, some))
+first_taken (k ∷ ks) some = refl
+
+-- a test that fails beside another
+off : (b c : Bool) → (b && (c && false)) ≡ false
+off b c = ap (λ z. b && z) (and_right c false refl) ∙ and_right b false refl
+
+unchanged : (v : ℕ) (b : Bool) (old new : Option ℕ) → b ≡ false → new ≡ old → new ≡ cond b (Some v) old
+unchanged v b old new isnt same = same ∙ ap (λ z. cond z (Some v) old) (sym isnt)
+
+-- a map of one kind of paths got a link, and the others are as they were
 pub whole_kept : (old new : Index) (x : VarId) (v : ℕ) → ((y : VarId) → get equal_variables new.wholes y ≡ cond (equal_variables x y) (Some v) (get equal_variables old.wholes y))
-    → new.parts ≡ old.parts → (q : Path) (at : List ℕ) → kept_of new q at ≡ cond (equal_variables x q.var && pointwise nat_eq [] at) (Some v) (kept_of old q at)
-whole_kept old new x v put same q [] = put q.var ∙ ap (λ b. cond b (Some v) (get equal_variables old.wholes q.var)) (sym (and_true (equal_variables x q.var)))
-whole_kept old new x v put same q (k ∷ ks) =
-    ap (λ m. get equal_paths m q) same ∙ ap (λ b. cond b (Some v) (get equal_paths old.parts q)) (sym (and_right (equal_variables x q.var) false refl))
+    → new.items ≡ old.items → new.parts ≡ old.parts → (q : Path) (at : List ℕ) → kept_of new q at ≡ cond (equal_variables x q.var && pointwise nat_eq [] at) (Some v) (kept_of old q at)
+whole_kept old new x v put items parts q [] = put q.var ∙ ap (λ b. cond b (Some v) (get equal_variables old.wholes q.var)) (sym (and_true (equal_variables x q.var)))
+whole_kept old new x v put items parts q (k ∷ []) =
+    unchanged v (equal_variables x q.var && false) (kept_of old q (k ∷ [])) (kept_of new q (k ∷ [])) (and_right (equal_variables x q.var) false refl)
+    (ap (λ m. get equal_items m (record { var = q.var; index = k })) items)
+whole_kept old new x v put items parts q (j ∷ k ∷ ks) =
+    unchanged v (equal_variables x q.var && false) (kept_of old q (j ∷ k ∷ ks)) (kept_of new q (j ∷ k ∷ ks)) (and_right (equal_variables x q.var) false refl)
+    (ap (λ m. get equal_paths m q) parts)
+
+pub item_kept : (old new : Index) (i : Item) (v : ℕ) → ((j : Item) → get equal_items new.items j ≡ cond (equal_items i j) (Some v) (get equal_items old.items j))
+    → new.wholes ≡ old.wholes → new.parts ≡ old.parts → (q : Path) (at : List ℕ) → kept_of new q at ≡ cond (equal_variables i.var q.var && pointwise nat_eq (i.index ∷ []) at) (Some v) (kept_of old q at)
+item_kept old new i v put wholes parts q [] =
+    unchanged v (equal_variables i.var q.var && false) (kept_of old q []) (kept_of new q []) (and_right (equal_variables i.var q.var) false refl)
+    (ap (λ m. get equal_variables m q.var) wholes)
+item_kept old new i v put wholes parts q (k ∷ []) = put (record { var = q.var; index = k })
+    ∙ ap (λ b. cond (equal_variables i.var q.var && b) (Some v) (kept_of old q (k ∷ []))) (sym (and_true (nat_eq i.index k)))
+item_kept old new i v put wholes parts q (j ∷ k ∷ ks) =
+    unchanged v (equal_variables i.var q.var && (nat_eq i.index j && false)) (kept_of old q (j ∷ k ∷ ks)) (kept_of new q (j ∷ k ∷ ks)) (off (equal_variables i.var q.var) (nat_eq i.index j))
+    (ap (λ m. get equal_paths m q) parts)
 
 pub part_kept : (old new : Index) (p : Path) (v : ℕ) → ((q : Path) → get equal_paths new.parts q ≡ cond (equal_paths p q) (Some v) (get equal_paths old.parts q))
-    → new.wholes ≡ old.wholes → (q : Path) (of at : List ℕ) → 0 < length of → of ≡ p.at → at ≡ q.at
+    → new.wholes ≡ old.wholes → new.items ≡ old.items → (q : Path) (of at : List ℕ) → 1 < length of → of ≡ p.at → at ≡ q.at
     → kept_of new q at ≡ cond (equal_variables p.var q.var && pointwise nat_eq of at) (Some v) (kept_of old q at)
-part_kept old new p v put same q [] at some e e' = absurd (omega (arith, some))
-part_kept old new p v put same q (j ∷ js) [] some e e' =
-    ap (λ m. get equal_variables m q.var) same ∙ ap (λ b. cond b (Some v) (get equal_variables old.wholes q.var)) (sym (and_right (equal_variables p.var q.var) false refl))
-part_kept old new p v put same q (j ∷ js) (k ∷ ks) some e e' =
+part_kept old new p v put wholes items q [] at some e e' = absurd (omega (arith, some))
+part_kept old new p v put wholes items q (i ∷ []) at some e e' = absurd (omega (arith, some))
+part_kept old new p v put wholes items q (i ∷ j ∷ js) [] some e e' =
+    unchanged v (equal_variables p.var q.var && false) (kept_of old q []) (kept_of new q []) (and_right (equal_variables p.var q.var) false refl)
+    (ap (λ m. get equal_variables m q.var) wholes)
+part_kept old new p v put wholes items q (i ∷ j ∷ js) (k ∷ []) some e e' =
+    unchanged v (equal_variables p.var q.var && (nat_eq i k && false)) (kept_of old q (k ∷ [])) (kept_of new q (k ∷ [])) (off (equal_variables p.var q.var) (nat_eq i k))
+    (ap (λ m. get equal_items m (record { var = q.var; index = k })) items)
+part_kept old new p v put wholes items q (i ∷ j ∷ js) (k ∷ l ∷ ls) some e e' =
     put q ∙ ap₂ (λ a b. cond (equal_variables p.var q.var && pointwise nat_eq a b) (Some v) (get equal_paths old.parts q)) (sym e) (sym e')
 
 pub filed_under_end : (old new : Index) (region : ℕ) (place v : ℕ) → IsChained old → HasLink old new place (newest_for old region) → v ≡ suc (length old.links.items)

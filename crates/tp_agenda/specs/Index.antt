@@ -1,5 +1,5 @@
 -- What the index of waits holds. No moment is in it.
-use Rattle.std.specs.Prelude.{◌≡◌, ◌⊎◌, ℕ, zero, suc, ◌<◌, ◌≤◌, ◌&&◌, Bool, true, false, nat_eq, List, [], ◌∷◌, Option, length, get_or, slice_get, unwrap_or, cond, Some}
+use Rattle.std.specs.Prelude.{◌≡◌, ◌⊎◌, ◌+◌, ◌*◌, ◌^◌, ◌%◌, ℕ, zero, suc, ◌<◌, ◌≤◌, ◌&&◌, Bool, true, false, nat_eq, List, [], ◌∷◌, Option, length, get_or, slice_get, unwrap_or, cond, Some}
 use Rattle.std.specs.Cmp.Lexicographic.{pointwise}
 use Rattle.std.specs.Bool.{beq}
 use Rattle.indexmap.specs.IndexMap.{get}
@@ -9,6 +9,7 @@ use Rattle.tp_scene.specs.declared.answer.Cell.{Cell}
 use Rattle.tp_scene.specs.declared.answer.Cell.TheVariants.{Part, End}
 use Rattle.tp_step.specs.declared.answer.Wait.{Wait}
 use Rattle.tp_agenda.specs.declared.index.Link.{Link}
+use Rattle.tp_agenda.specs.declared.index.Item.{Item}
 use Rattle.tp_agenda.specs.declared.index.Index.{Index}
 use Rattle.tp_agenda.specs.Decides.{WaitsFor, holds_path}
 use Rattle.tp_lanes.specs.Planes.{flag}
@@ -30,14 +31,19 @@ equal_variables x y = nat_eq x.number y.number && beq x.lasting y.lasting
 abbrev pub equal_paths : Path → Path → Bool
 equal_paths p q = equal_variables p.var q.var && pointwise nat_eq p.at q.at
 
--- the path of a variable whole
-abbrev pub whole_path : VarId → Path
-whole_path x = record { var = x; at = [] }
+abbrev pub equal_items : Item → Item → Bool
+equal_items i j = equal_variables i.var j.var && nat_eq i.index j.index
+
+-- the numbers of an item as one; where they are small, each item has its own
+abbrev pub item_number : Item → ℕ
+item_number i = ((i.var.number * 2 % 2 ^ 64 + cond i.var.lasting 1 0) % 2 ^ 64 * 2 ^ 32 % 2 ^ 64
+    + i.index) % 2 ^ 64
 
 -- what is kept of a path, which has these indices
 abbrev pub kept_of : Index → Path → (at : List ℕ) → Option ℕ
 kept_of x p [] = get equal_variables x.wholes p.var
-kept_of x p (k ∷ ks) = get equal_paths x.parts p
+kept_of x p (k ∷ []) = get equal_items x.items (record { var = p.var; index = k })
+kept_of x p (j ∷ k ∷ ks) = get equal_paths x.parts p
 
 -- the newest link of a path, from 1, and of a region's end; 0 for none
 abbrev pub newest_at : Index → Path → ℕ

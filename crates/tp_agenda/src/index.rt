@@ -1,12 +1,17 @@
 // Waits by what they are for.
-ghost use Rattle.std.specs.Prelude.{◌≡◌, ◌<◌, ◌^◌, List, Bool, [], ◌∷◌, ◌++◌, length, false, nat_eq, OnOk, IfOk};
+ghost use Rattle.std.specs.Prelude.{◌≡◌, ◌+◌, ◌<◌, ◌^◌, List, Bool, [], ◌∷◌, ◌++◌, length, get_or, unwrap_or, Some, false, nat_eq, OnOk, IfOk};
+ghost use Rattle.std.specs.Hash as fed;
+ghost use Rattle.std.specs.Cmp.Rules.{hashing};
+ghost use Rattle.std.proofs.Common.{rules};
+ghost use Rattle.indexmap.specs.IndexMap.{get, Updates};
 ghost use Rattle.tp_store.specs.FactMap.{outer_path};
 ghost use Rattle.tp_step.specs.declared.answer.Wait.{Wait as WaitSeen};
 ghost use Rattle.tp_agenda.specs.Decides.{holds_path};
-ghost use Rattle.tp_agenda.specs.Index.{HasFiled, IsChained, IsFiled, IsPushed, equal_paths, is_filed_for, is_filed_under, newest_at, newest_for, whole_path};
+ghost use Rattle.tp_agenda.specs.Index.{HasFiled, IsChained, IsFiled, IsPushed, equal_paths, is_filed_for, is_filed_under, item_number, newest_at, newest_for};
 
 use indexmap::IndexMap;
 use std::alloc::Global;
+use std::hash::{Hash, Hasher};
 use tp_step::{Cell, Wait};
 use tp_value::{NoMemory, Path, VarId};
 
@@ -17,12 +22,37 @@ pub(crate) struct Link {
     pub next: u64,
 }
 
-/// The waits of a list by what they are for: the newest link of each path, with and without indices, and of each region's end, from 1,
-/// and the links. A wait for a path is filed under the path and each that it lies within, so that a fact's own path leads to all that it
-/// decides. Most waits are for a variable whole, which is found without its path being copied.
+/// An item of a variable's value.
+#[derive(Clone, Copy, Debug, PartialEq, Eq)]
+pub struct Item {
+    pub var: VarId,
+    pub index: u32,
+}
+
+// All of it as one number, of which a hasher takes a third of the time.
+impl Hash for Item {
+    ghost hash_input = { λ i. fed.u64 (item_number i) };
+
+    ghost respects_eq = { Prim.search (hashing, rules) };
+
+    fn hash<H: Hasher>(&self, state: &mut H) {
+        let var = self
+            .var
+            .number
+            .wrapping_mul(2)
+            .wrapping_add(u64::from(self.var.lasting));
+        let high = var.wrapping_mul(1 << 32);
+        state.write_u64(high.wrapping_add(u64::from(self.index)));
+    }
+}
+
+/// The waits of a list by what they are for: the newest link, from 1, of each variable, of each item of its value, of each path with more
+/// indices, and of each region's end, and the links. A wait for a path is filed under the path and each that it lies within, so that a
+/// fact's own path leads to all that it decides. Most waits are for a variable or an item, which are found without a path being copied.
 #[derive(Drop)]
 pub struct Index {
     pub(crate) wholes: IndexMap<VarId, u64>,
+    pub(crate) items: IndexMap<Item, u64>,
     pub(crate) parts: IndexMap<Path, u64>,
     pub(crate) ends: IndexMap<u64, u64>,
     pub(crate) links: Vec<Link>,
@@ -34,9 +64,21 @@ pub fn no_waits(alloc: Global) -> Index
 {
     Index {
         wholes: IndexMap::new(alloc),
+        items: IndexMap::new(alloc),
         parts: IndexMap::new(alloc),
         ends: IndexMap::new(alloc),
         links: Vec::new(alloc),
+    }
+}
+
+// The item at the path's first index.
+fn first_item(path: &Path) -> Item
+    requires { 0 < length path.now.at }
+    ensures { result ≡ record { var = path.now.var; index = get_or path.now.at 0 0 } }
+{
+    Item {
+        var: path.var,
+        index: path.at.items[0],
     }
 }
 
@@ -44,10 +86,10 @@ pub fn no_waits(alloc: Global) -> Index
 pub(crate) fn newest_at(index: &Index, path: &Path) -> u64
     ensures { result ≡ newest_at index.now path.now }
 {
-    let newest = if path.at.items.is_empty() {
-        index.wholes.get(&path.var)
-    } else {
-        index.parts.get(path)
+    let newest = match path.at.items.len() {
+        0 => index.wholes.get(&path.var),
+        1 => index.items.get(&first_item(path)),
+        _ => index.parts.get(path),
     };
     match newest {
         Some(link) => *link,
@@ -65,30 +107,56 @@ pub(crate) fn newest_for(index: &Index, region: u64) -> u64
     }
 }
 
-// Files the place under the path of a whole variable.
-fn file_whole(index: &mut Index, var: VarId, place: u64) -> Result<(), NoMemory>
-    requires chained { IsChained index.old }
-    ensures ok { OnOk result
-        (HasFiled index.old index.new place (equal_paths (whole_path var)) (λ region. false)) }
-    ensures links { OnOk result (IsPushed index.old index.new place) }
+// Puts a link that names the place in front of those of the key.
+fn put_link<K: Hash + Drop>(
+    heads: &mut IndexMap<K, u64>,
+    links: &mut Vec<Link>,
+    key: K,
+    place: u64,
+) -> Result<(), NoMemory>
+    ensures head { OnOk result
+        (Updates K.eq heads.old heads.new key (Some (length links.old.items + 1))) }
+    ensures link { OnOk result (links.new.items ≡ links.old.items
+        ++ record { place = place; next = unwrap_or (get K.eq heads.old key) 0 } ∷ []) }
 {
-    let number = index.links.len() as u64 + 1;
-    let next = index.wholes.insert(var, number)?.unwrap_or(0);
-    index.links.push(Link { place, next })?;
+    let number = links.len() as u64 + 1;
+    let next = heads.insert(key, number)?.unwrap_or(0);
+    links.push(Link { place, next })?;
     Ok(())
 }
 
-// Files the place under the path, which has indices.
+// Files the place under the path's variable whole.
+fn file_whole(index: &mut Index, path: &Path, place: u64) -> Result<(), NoMemory>
+    requires chained { IsChained index.old }
+    ensures ok { OnOk result
+        (HasFiled index.old index.new place (equal_paths (outer_path path.now 0)) (λ region. false)) }
+    ensures links { OnOk result (IsPushed index.old index.new place) }
+{
+    put_link(&mut index.wholes, &mut index.links, path.var, place)?;
+    Ok(())
+}
+
+// Files the place under the path's first index, an item of the variable's value.
+fn file_item(index: &mut Index, path: &Path, place: u64) -> Result<(), NoMemory>
+    requires chained { IsChained index.old }
+    requires item { 0 < length path.now.at }
+    ensures ok { OnOk result
+        (HasFiled index.old index.new place (equal_paths (outer_path path.now 1)) (λ region. false)) }
+    ensures links { OnOk result (IsPushed index.old index.new place) }
+{
+    put_link(&mut index.items, &mut index.links, first_item(path), place)?;
+    Ok(())
+}
+
+// Files the place under the path, which has more than one index.
 fn file_part(index: &mut Index, path: Path, place: u64) -> Result<(), NoMemory>
     requires chained { IsChained index.old }
-    requires part { 0 < length path.at }
+    requires part { 1 < length path.at }
     ensures ok { OnOk result
         (HasFiled index.old index.new place (equal_paths path) (λ region. false)) }
     ensures links { OnOk result (IsPushed index.old index.new place) }
 {
-    let number = index.links.len() as u64 + 1;
-    let next = index.parts.insert(path, number)?.unwrap_or(0);
-    index.links.push(Link { place, next })?;
+    put_link(&mut index.parts, &mut index.links, path, place)?;
     Ok(())
 }
 
@@ -99,9 +167,7 @@ fn file_for(index: &mut Index, region: u64, place: u64) -> Result<(), NoMemory>
         (HasFiled index.old index.new place (λ path. false) (nat_eq region)) }
     ensures links { OnOk result (IsPushed index.old index.new place) }
 {
-    let number = index.links.len() as u64 + 1;
-    let next = index.ends.insert(region, number)?.unwrap_or(0);
-    index.links.push(Link { place, next })?;
+    put_link(&mut index.ends, &mut index.links, region, place)?;
     Ok(())
 }
 
@@ -129,9 +195,13 @@ fn file_path(index: &mut Index, path: &Path, place: u64) -> Result<(), NoMemory>
         (HasFiled index.old index.new place (λ q. holds_path q path.now) (λ region. false)) }
     ensures links { OnOk result (IsPushed index.old index.new place) }
 {
-    file_whole(index, path.var, place)?;
+    file_whole(index, path, place)?;
     let most = depth(path);
-    for count in 1..most + 1 {
+    if most == 0 {
+        return Ok(());
+    }
+    file_item(index, path, place)?;
+    for count in 2..most + 1 {
         let outer = outer_path(path, count)?;
         file_part(index, outer, place)?;
     }

@@ -1,21 +1,17 @@
-use Rattle.std.proofs.Common.{◌≡◌, ℕ, length, length-append, refl, ap, ◌∙◌, arith, ◌+◌, ◌++◌, ◌∷◌, []}
-use Rattle.std.specs.Prelude.{unwrap_or}
-use Rattle.tp_agenda.specs.Index.{newest_for}
+use Rattle.std.proofs.Common.{length, refl, ◌+◌, arith}
+use Rattle.tp_agenda.specs.declared.index.Index.{Index}
 use Rattle.tp_agenda.proofs.Filing.{filed_under_end, pushed}
 use Rattle.tp_agenda.proofs.index.file_for.Goals as goal
 
-grown_by : (c : goal.In_ok-push) → c.push.new.self.items ≡ c.args.index.now.links.items ++ record { place = c.args.place; next = newest_for c.args.index.now c.args.region } ∷ []
-grown_by c = c.in_ok-push.ensures.items ∙ ap (λ (z : ℕ). c.args.index.now.links.items ++ record { place = c.args.place; next = z } ∷ []) (c.unwrap_or-next.ensures ∙ ap (λ o. unwrap_or o 0) c.in_ok-insert.ensures.old)
+abbrev after : goal.In_ok-put_link → Index
+after c = let old = c.args.index.now in record { wholes = old.wholes; items = old.items; parts = old.parts; ends = c.put_link.new.heads; links = c.put_link.new.links }
 
 pub returns-clause-ok : goal.returns-clause-ok
 returns-clause-ok c =
     let old = c.args.index.now in
-    let grown = grown_by c in
-    let o = c.push.new.self.ok.0 in
-    let e = c.len.ensures in
-    let a = length-append old.links.items (record { place = c.args.place; next = newest_for old c.args.region } ∷ []) in
-    let b = ap length grown in
-    filed_under_end old (record { wholes = c.args.index.now.wholes; parts = c.args.index.now.parts; ends = c.insert.new.self; links = c.push.new.self }) c.args.region c.args.place (c.len.result + 1) c.requires.chained grown (omega (arith, o, e, a, b)) c.in_ok-insert.ensures.updates.0 (λ q. refl)
+    let v = length old.links.items + 1 in
+    filed_under_end old (after c) c.args.region c.args.place v c.requires.chained c.in_ok-put_link.ensures.link (omega arith)
+    c.in_ok-put_link.ensures.head.0 (λ q. refl)
 
 pub returns-clause-links : goal.returns-clause-links
-returns-clause-links c = pushed c.args.index.now (record { wholes = c.args.index.now.wholes; parts = c.args.index.now.parts; ends = c.insert.new.self; links = c.push.new.self }) c.args.place (newest_for c.args.index.now c.args.region) (grown_by c)
+returns-clause-links c = pushed c.args.index.now (after c) c.args.place _ c.in_ok-put_link.ensures.link
