@@ -18,7 +18,7 @@ requests_of files = map (λ (file : NamedFile). request_of file.which file.name)
 
 -- The files that were asked for are the first of those that the mode reads, in their order, each by
 -- one read, of one byte more than it may have. Each of them but the last one serves the mode; where
--- a read failed, the last one is the file that the fault names.
+-- the answer names a failed read, the last one is the file that it names.
 pub record AsksOnly (words : List (List ℕ)) (held : Option Held)
     (old new : Option (List FileRequest)) (failed : Which → Type 0) : Type 0 where
   pub count : ℕ

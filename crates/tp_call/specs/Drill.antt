@@ -110,9 +110,8 @@ module _ (words : List (List ℕ)) (size : ℕ) (old new : Option (List ℕ)) (b
   abbrev WroteWhole : (List ℕ → Type 0) → Type 0
   WroteWhole P = (text : List ℕ) × P text × Wrote old new text
 
-  -- What a drill answered and wrote, with the count of tries before and after it. It asks for no
-  -- file. After a failed write it is a part of its text, from the start; where memory was wanted
-  -- nothing was written.
+  -- What a drill answered and wrote, with the count of tries before and after it. After a failed
+  -- write it is a part of its text, from the start; where memory was wanted nothing was written.
   abbrev pub DrillAnswers : Status → Type 0
   DrillAnswers Done = WroteWhole (DrillFinished words size before after)
   DrillAnswers (Contradictory state clash) =

@@ -75,7 +75,7 @@ all_tries tallies = sum_by recorded_tries tallies
 
 -- The states of a run that ended with this answer were closed thriftily in this order, with its
 -- picks; and a count of tries rose by those that were recorded, and by those beyond, of which there
--- is none where it finished.
+-- is none where it finished or came to the limit of states.
 pub record RunTried (plan : Plan) (order : Order) (ps : List Picture) (answer : Turn)
     (run : RunEndsWith plan ps answer) (old new : ℕ) : Type 0 where
   pub tallies : List Tally
