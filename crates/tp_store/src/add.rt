@@ -11,7 +11,7 @@ ghost use Rattle.tp_store.specs.Changes.{IsSoundStore, AddsFacts, HaveSameShapes
 
 use crate::entry::{Entry, touch};
 use crate::fact_map::FactMap;
-use crate::full::item_path;
+use crate::full::{go_to, item_path};
 use crate::store::Store;
 use std::alloc::{AllocError, AllocFailed, Global};
 use tp_value::{Fact, Facts, NoMemory, Path, Shape, Value, VarId};
@@ -93,8 +93,9 @@ fn append_facts(path: &Path, value: &Value, out: &mut Vec<Fact>) -> Result<(), N
             let length = shape_length(all.items.len())?;
             let fact = fact_at(path, Shape::Items(length))?;
             out.push(fact)?;
+            let mut inner = item_path(path, 0)?;
             for k in 0..all.items.len() {
-                let inner = item_path(path, k as u32)?;
+                go_to(&mut inner, k as u32);
                 append_facts(&inner, &all.items[k], out)?;
             }
         }

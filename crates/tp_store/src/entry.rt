@@ -105,8 +105,7 @@ pub fn copy_below(alloc: Global, entries: &[Entry], below: u64) -> Result<Vec<Fa
         if number as u64 >= below {
             return Ok(facts);
         }
-        let mut own = entry.facts.copy(alloc)?;
-        facts.append(&mut own)?;
+        entry.facts.copy_to(alloc, &mut facts)?;
     }
     Ok(facts)
 }

@@ -253,12 +253,23 @@ impl FactMap {
         if !self.may_clash(fact) {
             return Ok(None);
         }
-        let facts = self.copy(alloc)?;
+        let mut facts = Vec::new(alloc);
+        self.copy_to(alloc, &mut facts)?;
         let Some(first) = find_clash(facts.as_slice(), fact) else {
             return Ok(None);
         };
         let first = first.copy()?;
         Ok(Some(first))
+    }
+
+    // Whether this is one fact, whose path has no shape yet.
+    fn is_new_alone(&self, facts: &[Fact]) -> bool
+        ensures { IsTrue result → new_facts self.now facts.now ≡ facts.now }
+    {
+        match facts {
+            [fact] => self.shape(&fact.path).is_none(),
+            _ => false,
+        }
     }
 
     /// Those facts of the list whose paths have no shape yet.
@@ -267,6 +278,9 @@ impl FactMap {
         ensures apart { NoClash self.now }
     {
         let _ = &self.var;
+        if self.is_new_alone(facts.as_slice()) {
+            return Ok(facts);
+        }
         let mut news = Vec::new(alloc);
         for fact in facts {
             if self.shape(&fact.path).is_none() {
@@ -276,11 +290,11 @@ impl FactMap {
         Ok(news)
     }
 
-    /// Equal facts to all of these.
-    pub fn copy(&self, alloc: Global) -> Result<Vec<Fact>, NoMemory>
-        ensures { IfOk result (λ facts. facts.items ≡ self.now) }
+    /// Appends equal facts to all of these.
+    pub fn copy_to(&self, alloc: Global, facts: &mut Vec<Fact>) -> Result<(), NoMemory>
+        ensures { OnOk result (facts.new.items ≡ facts.old.items ++ self.now) }
     {
-        copy_facts(alloc, self.var, &self.nodes)
+        copy_facts(alloc, self.var, &self.nodes, facts)
     }
 
     /// Adds equal facts of one variable, or none where memory ends. What needs memory comes before the facts are changed.

@@ -1,5 +1,6 @@
 // What is known of the value at a path.
-ghost use Rattle.std.specs.Prelude.{◌≡◌, IfOk, slice_get};
+ghost use Rattle.std.specs.Prelude.{◌≡◌, ◌<◌, ℕ, length, IfOk, slice_get};
+ghost use Rattle.tp_value.specs.declared.path.Path.{Path as PathSeen};
 ghost use Rattle.tp_store.specs.Known.{full, whole, list_of_items, items_known};
 ghost use Rattle.tp_store.specs.Changes.{IsSoundStore};
 ghost use Rattle.tp_store.specs.Facts.{item_path};
@@ -38,6 +39,16 @@ pub fn item_path(path: &Path, index: u32) -> Result<Path, NoMemory>
     Ok(inner)
 }
 
+/// The path of an item becomes that of another item of the same list.
+pub fn go_to(inner: &mut Path, index: u32)
+    requires { 0 < length inner.old.at }
+    ensures { (path : PathSeen) (k : ℕ) → inner.old ≡ item_path path k
+        → inner.new ≡ item_path path index }
+{
+    let last = inner.at.items.len() - 1;
+    inner.at.items[last] = index;
+}
+
 fn open(path: &Path) -> Result<Found, NoMemory>
     ensures { IfOk result (λ found. found ≡ Found.Open path.now) }
 {
@@ -58,8 +69,9 @@ fn items_at(
         whole_of found ≡ list_of_items (items_known (whole deeper facts.now) path.now count 0)) }
 {
     let mut items = Vec::new(alloc);
+    let mut inner = item_path(path, 0)?;
     for k in 0..count {
-        let inner = item_path(path, k)?;
+        go_to(&mut inner, k);
         match whole_at(alloc, facts, &inner, deeper)? {
             Found::Whole(v) => items.push(v)?,
             Found::Open(q) => return Ok(Found::Open(q)),

@@ -1,5 +1,5 @@
 // The facts of a variable as a tree: a node for each place in its value that a fact speaks of, and for those on the way there.
-ghost use Rattle.std.specs.Prelude.{◌≡◌, ◌<◌, ◌^◌, [], ◌∷◌, length, slice_get, slice_index_or, Some, None, IfOk, OnOk, OnErr};
+ghost use Rattle.std.specs.Prelude.{◌≡◌, ◌<◌, ◌^◌, ◌++◌, [], ◌∷◌, length, slice_get, slice_index_or, Some, None, IfOk, OnOk, OnErr};
 ghost use Rattle.std.specs.Hash as fed;
 ghost use Rattle.std.specs.Cmp.Rules.{hashing};
 ghost use Rattle.std.specs.List.{IsDistinct};
@@ -327,12 +327,16 @@ pub fn keep_facts(nodes: &mut Nodes, alloc: Global, facts: &[Fact]) -> Result<()
     Ok(())
 }
 
-/// The facts that are kept at the nodes, as facts of this variable.
-pub fn copy_facts(alloc: Global, var: VarId, nodes: &Nodes) -> Result<Vec<Fact>, NoMemory>
+/// Appends the facts that are kept at the nodes, as facts of this variable.
+pub fn copy_facts(
+    alloc: Global,
+    var: VarId,
+    nodes: &Nodes,
+    facts: &mut Vec<Fact>,
+) -> Result<(), NoMemory>
     requires { IsTree nodes.now }
-    ensures { IfOk result (λ facts. facts.items ≡ facts_in_tree var nodes.now) }
+    ensures { OnOk result (facts.new.items ≡ facts.old.items ++ facts_in_tree var nodes.now) }
 {
-    let mut facts = Vec::new(alloc);
     for number in 0..nodes.count() + 1 {
         if let Some(shape) = nodes.shape(number as u64) {
             let at = nodes.route(alloc, number as u64)?;
@@ -340,5 +344,5 @@ pub fn copy_facts(alloc: Global, var: VarId, nodes: &Nodes) -> Result<Vec<Fact>,
             facts.push(Fact { path, shape })?;
         }
     }
-    Ok(facts)
+    Ok(())
 }

@@ -111,6 +111,10 @@ impl Store {
         ensures sound { IsSoundStore self.now }
     {
         let mut copies = copy_below(self.alloc, self.entries.as_slice(), below)?;
+        if out.items.is_empty() {
+            mem::swap(&mut out.items, &mut copies);
+            return Ok(());
+        }
         out.items.append(&mut copies)?;
         Ok(())
     }

@@ -18,13 +18,16 @@ loop-k-preserved t c =
     let xs = c.in-List.all.items.items in
     let p = c.args.path.now in
     let k = c.loop-k.k in
-    ap (λ fs. fs ++ facts_of_items p (k + 1) (of_items (map tree (drop (k + 1) xs)))) (c.in_ok-append_facts-in-List.ensures ∙ ap (λ q. c.loop-k.out.items ++ facts_at q (tree c.index.result.now)) c.in_ok-inner-in-List.ensures)
-    ∙ next_item tree p xs k c.index.result.now c.loop-k.out.items (omega (arith, c.in-List.all.items.ok.0)) c.index.ensures ∙ c.loop-k.invariant
+    let inner = c.go_to.ensures p c.loop-k.invariant.0.0 c.loop-k.invariant.0.1 in (
+      (k, inner),
+      ap (λ fs. fs ++ facts_of_items p (k + 1) (of_items (map tree (drop (k + 1) xs)))) (c.in_ok-append_facts-in-List.ensures ∙ ap (λ q. c.loop-k.out.items ++ facts_at q (tree c.index.result.now)) inner)
+      ∙ next_item tree p xs k c.index.result.now c.loop-k.out.items (omega (arith, c.in-List.all.items.ok.0)) c.index.ensures ∙ c.loop-k.invariant.1,
+    )
 
 pub returns-after-loop-k : goal.returns-after-loop-k
 returns-after-loop-k t c =
     let xs = c.in-List.all.items.items in
     let seen = ap tree c.in-List.is ∙ tree_list c.in-List.all in
-    after_items tree c.args.path.now xs c.loop-k.k c.loop-k.out.items (omega (arith, c.in-List.all.items.ok.0)) ∙ c.loop-k.invariant
+    after_items tree c.args.path.now xs c.loop-k.k c.loop-k.out.items (omega (arith, c.in-List.all.items.ok.0)) ∙ c.loop-k.invariant.1
     ∙ list_facts tree c.args.path.now xs c.args.out.now.items c.push-in-List.new.self.items c.in_ok-fact-in-List.fact _ (c.in_ok-length-in-List.ensures ∙ c.len.ensures ∙ c.in-List.all.items.ok.0) c.in_ok-fact-in-List.ensures c.in_ok-push-in-List.ensures.items
     ∙ ap (λ s. c.args.out.now.items ++ facts_at c.args.path.now s) (sym seen)

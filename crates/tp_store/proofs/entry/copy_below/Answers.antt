@@ -1,4 +1,4 @@
-use Rattle.std.proofs.Common.{◌++◌, ap₂, sym, ◌∙◌, arith, List}
+use Rattle.std.proofs.Common.{◌++◌, ap, sym, ◌∙◌, arith, List}
 use Rattle.tp_value.specs.declared.path.Fact.{Fact}
 use Rattle.tp_store.proofs.EntryLemmas.{parts-take}
 use Rattle.tp_store.proofs.entry.copy_below.Goals as goal
@@ -6,6 +6,5 @@ use Rattle.tp_store.proofs.entry.copy_below.Goals as goal
 pub loop-number-preserved : goal.loop-number-preserved
 loop-number-preserved c = (
   omega arith,
-  c.in_ok-append.ensures.items ∙ ap₂ (λ (a b : List Fact). a ++ b) c.loop-number.invariant.1 c.in_ok-own.ensures
-      ∙ sym (parts-take c.args.entries.now c.loop-number.number c.index-entries-number.result c.loop-number-test.true c.index-entries-number.is),
+  c.in_ok-copy_to.ensures ∙ ap (λ (xs : List Fact). xs ++ c.index-entries-number.result.facts) c.loop-number.invariant.1 ∙ sym (parts-take c.args.entries.now c.loop-number.number c.index-entries-number.result c.loop-number-test.true c.index-entries-number.is),
 )

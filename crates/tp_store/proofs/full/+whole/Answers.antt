@@ -11,20 +11,24 @@ use Rattle.tp_store.proofs.full.+whole.Goals as goal
 pub items_at-returns-in-Open : goal.items_at-returns-in-Open
 items_at-returns-in-Open t c =
     let item = whole c.args.deeper c.args.facts.now in
-    let here : item (item_path c.args.path.now c.loop-k.k) ≡ open_at c.in-Open.q = ap item (sym c.in_ok-inner.ensures) ∙ sym c.in_ok-v.ensures ∙ ap whole_of c.in-Open.is in
-    ap list_of_items (sym (open_here item c.args.path.now c.in-Open.q c.args.count c.loop-k.k (map tree c.loop-k.items.items) c.loop-k-test.true here) ∙ c.loop-k.invariant)
+    let inner = c.go_to.ensures c.args.path.now c.loop-k.invariant.0.0 c.loop-k.invariant.0.1 in
+    let here : item (item_path c.args.path.now c.loop-k.k) ≡ open_at c.in-Open.q = ap item (sym inner) ∙ sym c.in_ok-v.ensures ∙ ap whole_of c.in-Open.is in
+    ap list_of_items (sym (open_here item c.args.path.now c.in-Open.q c.args.count c.loop-k.k (map tree c.loop-k.items.items) c.loop-k-test.true here) ∙ c.loop-k.invariant.1)
 
 pub items_at-loop-k-preserved : goal.items_at-loop-k-preserved
 items_at-loop-k-preserved t c =
     let item = whole c.args.deeper c.args.facts.now in
-    let here : item (item_path c.args.path.now c.loop-k.k) ≡ known (tree c.in-Whole.v) = ap item (sym c.in_ok-inner.ensures) ∙ sym c.in_ok-v.ensures ∙ ap whole_of c.in-Whole.is in
+    let inner = c.go_to.ensures c.args.path.now c.loop-k.invariant.0.0 c.loop-k.invariant.0.1 in
+    let here : item (item_path c.args.path.now c.loop-k.k) ≡ known (tree c.in-Whole.v) = ap item (sym inner) ∙ sym c.in_ok-v.ensures ∙ ap whole_of c.in-Whole.is in (
+    (c.loop-k.k, inner),
     ap (λ ts. before ts (items_known item c.args.path.now (c.args.count - (c.loop-k.k + 1)) (c.loop-k.k + 1))) (ap (map tree) c.in_ok-push-in-Whole.ensures.items ∙ map-append tree c.loop-k.items.items (c.in-Whole.v ∷ []))
-    ∙ known_more item c.args.path.now c.args.count c.loop-k.k (map tree c.loop-k.items.items) (tree c.in-Whole.v) c.loop-k-test.true here ∙ c.loop-k.invariant
+    ∙ known_more item c.args.path.now c.args.count c.loop-k.k (map tree c.loop-k.items.items) (tree c.in-Whole.v) c.loop-k-test.true here ∙ c.loop-k.invariant.1,
+    )
 
 pub items_at-returns : goal.items_at-returns
 items_at-returns t c =
     let item = whole c.args.deeper c.args.facts.now in
-    ap known (tree_list _) ∙ ap list_of_items (sym (known_all item c.args.path.now c.args.count c.loop-k.k (map tree c.loop-k.items.items) (omega arith)) ∙ c.loop-k.invariant)
+    ap known (tree_list _) ∙ ap list_of_items (sym (known_all item c.args.path.now c.args.count c.loop-k.k (map tree c.loop-k.items.items) (omega arith)) ∙ c.loop-k.invariant.1)
 
 pub whole_at-returns-in-Some : goal.whole_at-returns-in-Some
 whole_at-returns-in-Some t c =

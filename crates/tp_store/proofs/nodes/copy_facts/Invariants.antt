@@ -4,4 +4,4 @@ use Rattle.tp_store.proofs.nodes.copy_facts.Given as goal
 
 abbrev pub invariant-loop-number : goal.invariant-loop-number
 invariant-loop-number l =
-    l.facts.items ++ facts_along l.var (drop l.number (routes (edges_in l.nodes))) (drop l.number (nodes_in l.nodes)) ≡ facts_in_tree l.var l.nodes
+    l.facts.items ++ facts_along l.var (drop l.number (routes (edges_in l.nodes))) (drop l.number (nodes_in l.nodes)) ≡ l.initial.facts.items ++ facts_in_tree l.var l.nodes
