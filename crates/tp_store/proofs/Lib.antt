@@ -18,6 +18,7 @@ pub mod EntryLemmas
 pub mod Touched
 pub mod Meaning
 pub mod ValueFacts
+pub mod Values
 pub mod Separate
 pub mod States
 pub mod Chosen

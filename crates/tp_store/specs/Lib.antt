@@ -6,3 +6,4 @@ pub mod Nodes
 pub mod Changes
 pub mod Answers
 pub mod Laws
+pub mod KeptValue

@@ -6,6 +6,7 @@ ghost use Rattle.tp_store.specs.Facts.{facts_at, fact};
 ghost use Rattle.tp_store.specs.Known.{addition, adds, new_facts, IsVariableOf, NoClash};
 ghost use Rattle.tp_store.specs.Entries.{parts_in, facts_there, HasGrown};
 ghost use Rattle.tp_store.specs.FactMap.{AreOf, AreOfOne};
+ghost use Rattle.tp_store.specs.KeptValue.{AreOfValue};
 ghost use Rattle.tp_store.specs.Answers.{Adds, IsRefusal};
 ghost use Rattle.tp_store.specs.Changes.{IsSoundStore, AddsFacts, HaveSameShapes};
 
@@ -123,6 +124,27 @@ fn length_facts(alloc: Global, path: &Path, length: u32) -> Result<Vec<Fact>, No
     Ok(facts)
 }
 
+// An equal value, where it is a list that a whole variable has.
+fn list_of_variable(
+    alloc: Global,
+    path: &Path,
+    value: &Value,
+) -> Result<Option<Value>, NoMemory>
+    ensures { IfOk result (λ whole.
+        AreOfValue path.now.var (facts_at path.now (tree value.now)) whole) }
+{
+    if !path.at.items.as_slice().is_empty() {
+        return Ok(None);
+    }
+    match value {
+        Value::List(_) => {
+            let copy = value.copy(alloc)?;
+            Ok(Some(copy))
+        }
+        Value::Num(_) | Value::Truth(_) => Ok(None),
+    }
+}
+
 // Whether facts can be added to those that are kept of their variable.
 fn check_in(alloc: Global, kept: &FactMap, facts: &[Fact]) -> Result<(), AddRefusal>
     ensures ok { OnOk result (addition kept.now facts.now ≡ adds (new_facts kept.now facts.now)) }
@@ -137,9 +159,17 @@ fn check_in(alloc: Global, kept: &FactMap, facts: &[Fact]) -> Result<(), AddRefu
     Ok(())
 }
 
-// Adds facts of one variable, which don't clash with each other, to those that are kept of it.
-fn add_in(alloc: Global, kept: &mut FactMap, facts: Vec<Fact>) -> Result<Facts, AddRefusal>
+// Adds facts of one variable, which don't clash with each other, to those that are kept of it. Where they are those of a value of the
+// whole variable, it is kept beside them.
+fn add_in(
+    alloc: Global,
+    kept: &mut FactMap,
+    var: VarId,
+    facts: Vec<Fact>,
+    value: Option<Value>,
+) -> Result<Facts, AddRefusal>
     requires apart { NoClash facts.items }
+    requires value { AreOfValue var facts.items value }
     requires of_one { AreOfOne (kept.old ++ facts.items) }
     ensures added { IfOk result (λ news. addition kept.old facts.items ≡ adds news) }
     ensures refused { IfErr result (IsRefusal (addition kept.old facts.items)) }
@@ -150,30 +180,37 @@ fn add_in(alloc: Global, kept: &mut FactMap, facts: Vec<Fact>) -> Result<Facts, 
     check_in(alloc, kept, facts.as_slice())?;
     let news = kept.new_of(alloc, facts)?;
     kept.add(alloc, news.as_slice())?;
+    if let Some(value) = value {
+        kept.keep_value(var, value);
+    }
     Ok(Facts { items: news })
 }
 
-// Adds facts of the variable with that number.
+// Adds facts of the variable.
 fn add_at(
     alloc: Global,
     entries: &mut [Entry],
-    number: u64,
+    var: VarId,
     facts: Vec<Fact>,
+    value: Option<Value>,
 ) -> Result<Facts, AddRefusal>
-    requires number { number < length entries.old }
+    requires number { var.number < length entries.old }
     requires apart { NoClash facts.items }
+    requires value { AreOfValue var facts.items value }
     requires of_one { AreOfOne
-        (facts_there (slice_get (parts_in entries.old) number) ++ facts.items) }
+        (facts_there (slice_get (parts_in entries.old) var.number) ++ facts.items) }
     ensures added { IfOk result (λ news.
-        addition (facts_there (slice_get (parts_in entries.old) number)) facts.items ≡ adds news) }
+        addition (facts_there (slice_get (parts_in entries.old) var.number)) facts.items
+        ≡ adds news) }
     ensures refused { IfErr result
-        (IsRefusal (addition (facts_there (slice_get (parts_in entries.old) number)) facts.items)) }
+        (IsRefusal
+        (addition (facts_there (slice_get (parts_in entries.old) var.number)) facts.items)) }
     ensures ok { IfOk result (λ news.
-        HasGrown (parts_in entries.old) number news (parts_in entries.new)) }
+        HasGrown (parts_in entries.old) var.number news (parts_in entries.new)) }
     ensures err { OnErr result (parts_in entries.new ≡ parts_in entries.old) }
 {
-    let entry = &mut entries[number as usize];
-    let news = add_in(alloc, &mut entry.facts, facts)?;
+    let entry = &mut entries[var.number as usize];
+    let news = add_in(alloc, &mut entry.facts, var, facts, value)?;
     Ok(news)
 }
 
@@ -193,7 +230,8 @@ impl Store {
         ensures sound { IsSoundStore self.new }
     {
         let facts = value_facts(self.alloc, path, value)?;
-        let news = self.add_facts(path.var, facts)?;
+        let whole = list_of_variable(self.alloc, path, value)?;
+        let news = self.add_facts(path.var, facts, whole)?;
         Ok(news)
     }
 
@@ -209,7 +247,7 @@ impl Store {
         ensures sound { IsSoundStore self.new }
     {
         let facts = length_facts(self.alloc, path, length)?;
-        let news = self.add_facts(path.var, facts)?;
+        let news = self.add_facts(path.var, facts, None)?;
         Ok(news)
     }
 
@@ -247,9 +285,16 @@ impl Store {
         check_in(self.alloc, &self.entries[var.number as usize].facts, facts)
     }
 
-    // Adds facts of one variable, which don't clash with each other.
-    fn add_facts(&mut self, var: VarId, facts: Vec<Fact>) -> Result<Facts, AddRefusal>
+    // Adds facts of one variable, which don't clash with each other. Where they are those of a value of the whole variable, it is kept
+    // beside them.
+    fn add_facts(
+        &mut self,
+        var: VarId,
+        facts: Vec<Fact>,
+        value: Option<Value>,
+    ) -> Result<Facts, AddRefusal>
         requires variable { IsVariableOf self.old.variables var }
+        requires value { AreOfValue var facts.items value }
         requires filed { AreOf var facts.items }
         requires apart { NoClash facts.items }
         ensures news { IfOk result (λ news. addition self.old.facts facts.items ≡ adds news) }
@@ -260,7 +305,7 @@ impl Store {
     {
         let alloc = self.alloc;
         touch(self.entries.as_slice(), var.number, &mut self.touched)?;
-        let news = add_at(alloc, self.entries.as_mut_slice(), var.number, facts)?;
+        let news = add_at(alloc, self.entries.as_mut_slice(), var, facts, value)?;
         Ok(news)
     }
 }

@@ -5,13 +5,15 @@ ghost use Rattle.tp_store.specs.Facts.{kept_shape, is_excluded, has_item, item_p
 ghost use Rattle.tp_store.specs.Known.{NoClash, deepest, first_clash, new_facts, open_at, whole};
 ghost use Rattle.tp_store.specs.Changes.{HaveSameShapes};
 ghost use Rattle.tp_store.specs.FactMap.{AreOfOne, IsNumberOrTruth};
-ghost use Rattle.tp_store.specs.Nodes.{edges_in, node_from, facts_in_tree, IsTree, ArePlainItems, LacksShape};
+ghost use Rattle.tp_store.specs.Nodes.{edges_in, node_from, facts_in_tree, path_along, IsTree, ArePlainItems, LacksShape};
+ghost use Rattle.tp_store.specs.KeptValue.{IsWholeOf};
+ghost use Rattle.tp_value.specs.declared.value.Value.{Value as ValueSeen};
 
 use crate::clash::{clashes, is_earlier, same_shape};
 use crate::nodes::{Nodes, copy_facts, keep_facts};
 use std::alloc::Global;
 use std::marker::Model;
-use tp_value::{Fact, NoMemory, Path, Shape, VarId};
+use tp_value::{Fact, NoMemory, Path, Shape, Value, VarId};
 
 /// Facts of one variable without a clash, each found by its path. What is known of a path and of what lies around it takes a look-up for
 /// each of its indices; all facts are looked at only where one may clash with a new one.
@@ -26,6 +28,8 @@ pub struct FactMap {
     // So many items of the variable's value, from the first on, are numbers and truths. More may be so.
     plain: u32,
     empty: bool,
+    // The value that the variable was given as a whole, where it is a list: it is read without a look at the facts.
+    value: Option<Value>,
 }
 
 impl Model for FactMap {
@@ -38,6 +42,7 @@ impl Model for FactMap {
     ghost use Rattle.tp_store.specs.Known.{NoClash, deepest};
     ghost use Rattle.tp_store.specs.FactMap.{is_nil};
     ghost use Rattle.tp_store.specs.Nodes.{facts_in_tree, ArePlainBelow, IsTree};
+    ghost use Rattle.tp_store.specs.KeptValue.{IsSaid};
 
     ghost view = { λ m. facts_in_tree m.var m.nodes };
 
@@ -47,7 +52,8 @@ impl Model for FactMap {
         × (m.depth ≡ deepest (facts_in_tree m.var m.nodes))
         × (m.depth < 2 ^ 63)
         × (m.empty ≡ is_nil (facts_in_tree m.var m.nodes))
-        × ArePlainBelow m.plain m.var (facts_in_tree m.var m.nodes) };
+        × ArePlainBelow m.plain m.var (facts_in_tree m.var m.nodes)
+        × IsSaid m.value m.var (facts_in_tree m.var m.nodes) };
 }
 
 // The greatest number of indices of a path of these facts.
@@ -185,6 +191,7 @@ impl FactMap {
             depth: 0,
             plain: 0,
             empty: true,
+            value: None,
         }
     }
 
@@ -235,6 +242,26 @@ impl FactMap {
             Some(self.plain)
         } else {
             None
+        }
+    }
+
+    /// The value at the path, where it is kept beside the facts.
+    pub fn value(&self, path: &Path) -> Option<&Value>
+        ensures { (v : ValueSeen) → option_copied result ≡ Some v → IsWholeOf v self.now path.now }
+    {
+        if path.var != self.var || !path.at.items.as_slice().is_empty() {
+            return None;
+        }
+        self.value.as_ref()
+    }
+
+    /// Keeps the value of a whole variable beside its facts, which say it.
+    pub fn keep_value(&mut self, var: VarId, value: Value)
+        requires { IsWholeOf value self.old (path_along var []) }
+        ensures { self.new ≡ self.old }
+    {
+        if var == self.var {
+            self.value = Some(value);
         }
     }
 
@@ -315,6 +342,7 @@ impl FactMap {
         self.empty = false;
         let _count = self.nodes.count();
         self.plain = plain_after(&self.nodes, self.plain, first);
+        self.value = None;
         Ok(())
     }
 
@@ -326,5 +354,6 @@ impl FactMap {
         self.depth = 0;
         self.plain = 0;
         self.empty = true;
+        self.value = None;
     }
 }

@@ -1,7 +1,7 @@
 // What is known of the value at a path.
-ghost use Rattle.std.specs.Prelude.{◌≡◌, ◌<◌, ℕ, length, IfOk, slice_get};
+ghost use Rattle.std.specs.Prelude.{◌≡◌, ◌<◌, ℕ, suc, length, IfOk, slice_get};
 ghost use Rattle.tp_value.specs.declared.path.Path.{Path as PathSeen};
-ghost use Rattle.tp_store.specs.Known.{full, whole, list_of_items, items_known};
+ghost use Rattle.tp_store.specs.Known.{deepest, full, whole, list_of_items, items_known};
 ghost use Rattle.tp_store.specs.Changes.{IsSoundStore};
 ghost use Rattle.tp_store.specs.Facts.{item_path};
 ghost use Rattle.tp_store.specs.Entries.{parts_in, facts_there};
@@ -110,13 +110,25 @@ fn whole_at(alloc: Global, facts: &FactMap, path: &Path, deeper: u64) -> Result<
     }
 }
 
+// What is found at the path.
+fn found_in(alloc: Global, facts: &FactMap, path: &Path) -> Result<Found, NoMemory>
+    ensures { IfOk result (λ found.
+        whole_of found ≡ whole (suc (deepest facts.now)) facts.now path.now) }
+{
+    if let Some(value) = facts.value(path) {
+        let value = value.copy(alloc)?;
+        return Ok(Found::Whole(value));
+    }
+    whole_at(alloc, facts, path, facts.depth() + 1)
+}
+
 fn full_in(alloc: Global, facts: &FactMap, path: &Path) -> Result<Known, NoMemory>
     ensures { IfOk result (λ known. full_of known ≡ full facts.now path.now) }
 {
     if facts.excludes(path) {
         return Ok(Known::Absent);
     }
-    match whole_at(alloc, facts, path, facts.depth() + 1)? {
+    match found_in(alloc, facts, path)? {
         Found::Open(q) => Ok(Known::Open(q)),
         Found::Whole(v) => {
             if is_within_list_limit(&v) {

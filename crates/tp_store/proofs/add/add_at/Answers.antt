@@ -10,21 +10,21 @@ use Rattle.tp_store.proofs.add.add_at.Goals as goal
 
 pub returns-in_err-news-clause-err : goal.returns-in_err-news-clause-err
 returns-in_err-news-clause-err c =
-    let e = c.index-entries-number.result in
+    let e = c.index-entries-var.result in
     on_err_from c.from_residual.result _
-    (set-same c.args.entries.now c.args.number e _ c.requires.number c.index-entries-number.is (ap (λ (y : Entry). y.name) (sym c.index-entries-number.is)) (ap (λ (y : Entry). y.lasting) (sym c.index-entries-number.is)) (c.in_err-news.ensures.err ∙ ap (λ (y : Entry). y.facts) (sym c.index-entries-number.is)))
+    (set-same c.args.entries.now c.args.var.number e _ c.requires.number c.index-entries-var.is (ap (λ (y : Entry). y.name) (sym c.index-entries-var.is)) (ap (λ (y : Entry). y.lasting) (sym c.index-entries-var.is)) (c.in_err-news.ensures.err ∙ ap (λ (y : Entry). y.facts) (sym c.index-entries-var.is)))
 
 pub returns-clause-added : goal.returns-clause-added
 returns-clause-added c =
-    ap (λ o. addition (facts_there o) c.args.facts.items) (part_read c.args.entries.now c.args.number c.index-entries-number.result c.requires.number c.index-entries-number.is)
-    ∙ ap (λ (y : Entry). addition y.facts c.args.facts.items) c.index-entries-number.is ∙ c.in_ok-news.ensures.added
+    ap (λ o. addition (facts_there o) c.args.facts.items) (part_read c.args.entries.now c.args.var.number c.index-entries-var.result c.requires.number c.index-entries-var.is)
+    ∙ ap (λ (y : Entry). addition y.facts c.args.facts.items) c.index-entries-var.is ∙ c.in_ok-news.ensures.added
 
 pub returns-clause-ok : goal.returns-clause-ok
 returns-clause-ok c =
     let es = c.args.entries.now in
-    let i = c.args.number in
-    let is = c.index-entries-number.is in
-    let e = c.index-entries-number.result in
+    let i = c.args.var.number in
+    let is = c.index-entries-var.is in
+    let e = c.index-entries-var.result in
     let f : Entry = record { name = e.name; lasting = e.lasting; facts = c.add_in.new.kept } in
     record {
       facts = c.add_in.new.kept;
@@ -37,6 +37,6 @@ returns-clause-ok c =
 pub add_in-requires-clause-of_one : goal.add_in-requires-clause-of_one
 add_in-requires-clause-of_one c =
     let es = c.args.entries.now in
-    let is = c.index-entries-number.is in
+    let is = c.index-entries-var.is in
     let P : List Fact → Type 0 = λ gs. AreOfOne (gs ++ c.args.facts.items) in
-    subst P (ap facts_there (part_read es c.args.number c.index-entries-number.result c.requires.number is) ∙ ap (λ (y : Entry). y.facts) is) c.requires.of_one
+    subst P (ap facts_there (part_read es c.args.var.number c.index-entries-var.result c.requires.number is) ∙ ap (λ (y : Entry). y.facts) is) c.requires.of_one

@@ -47,6 +47,7 @@ invariant_of-self-2 c =
       low,
       some_kept old new news f c.in-Some.ensures.value apart all.1,
       plain_facts c.keep_facts.new.nodes f.path.var c.plain_after-self-inside.result c.in_ok-keep_facts.ensures.tree c.count-count.ensures.unique c.plain_after-self-inside.ensures,
+      tt,
     )
 
 pub returns-clause-apart : goal.returns-clause-apart

@@ -20,3 +20,6 @@ pub add_facts-requires-clause-apart : goal.add_facts-requires-clause-apart
 add_facts-requires-clause-apart c =
     let P : List Fact → Type 0 = λ fs. NoClash fs in
     subst P (sym c.in_ok-facts.ensures) (value_apart c.args.path.now (tree c.args.value.now))
+
+pub returns-in_err-whole-clause-sound : goal.returns-in_err-whole-clause-sound
+returns-in_err-whole-clause-sound c = sound_view (parts_in c.self.inside.entries.items) _ c.self.view_is c.self.invariant.0
