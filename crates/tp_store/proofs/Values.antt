@@ -1,21 +1,21 @@
 -- What facts say of the whole of a value whose facts they hold.
-use Rattle.std.proofs.Common.{◌≡◌, inl, inr, ℕ, zero, suc, ◌+◌, ◌≤◌, List, [], ◌∷◌, ◌++◌, length, Some, refl, ap, ap₂, ◌∙◌, subst, arith}
+use Rattle.std.proofs.Common.{◌≡◌, true, false, if◌then◌else◌, inl, inr, ℕ, zero, suc, ◌+◌, ◌≤◌, List, [], ◌∷◌, ◌++◌, length, Some, refl, ap, ap₂, ◌∙◌, subst, arith}
 use Rattle.std.proofs.lemmas.List.{length-append}
+use Rattle.std.proofs.lemmas.Bool.{or_from}
+use Rattle.tp_value.specs.Limits.{is_within_list_limit}
 use Rattle.tp_value.specs.Tree.{Tree, Trees, num, truth, list, nil, cons, items_of, of_items}
-use Rattle.tp_value.specs.Read.{tree}
 use Rattle.tp_value.specs.Shape.{shape_of}
-use Rattle.tp_value.specs.declared.value.Value.{Value}
 use Rattle.tp_value.specs.declared.value.Shape.{Shape}
 use Rattle.tp_value.specs.declared.value.Shape.TheVariants.{Num, Truth}
 use Rattle.tp_value.specs.declared.path.VarId.{VarId}
 use Rattle.tp_value.specs.declared.path.Path.{Path}
 use Rattle.tp_value.specs.declared.path.Fact.{Fact}
-use Rattle.tp_store.specs.Facts.{kept_shape, facts_at, facts_of_items, item_path, fact}
-use Rattle.tp_store.specs.Known.{NoClash, addition, adds, deepest, known, all_known, and_items, items_known, list_of_items, whole, with_shape}
+use Rattle.tp_store.specs.Facts.{kept_shape, is_excluded, excludes, facts_at, facts_of_items, item_path, fact}
+use Rattle.tp_store.specs.Known.{NoClash, addition, adds, absent, deepest, full, known, limited, too_long, value, all_known, and_items, items_known, list_of_items, whole, with_shape}
 use Rattle.tp_store.specs.Changes.{HaveSameShapes}
 use Rattle.tp_store.specs.Nodes.{path_along}
-use Rattle.tp_store.specs.KeptValue.{IsWholeOf}
-use Rattle.tp_store.proofs.Members.{In, in_left, in_right, in_kept}
+use Rattle.tp_store.specs.KeptValue.{SayWhole}
+use Rattle.tp_store.proofs.Members.{In, in_left, in_right, in_kept, excludes-own}
 use Rattle.tp_store.proofs.Adding.{adds_all, given_in, NoClash-adds}
 use Rattle.tp_store.proofs.Same.{kept_depth}
 
@@ -64,8 +64,18 @@ given_kept old facts news new h n m same g i =
     (elim (given_in old facts news (adds_all old facts news h) g i) [ inl j ↦ in_left g old news j | inr j ↦ in_right g old news j ])
 
 -- and where they are those of a value of the whole variable, this is what is known of it
-pub value_said : (v : Value) (x : VarId) (old facts news new : List Fact) → facts ≡ facts_at (path_along x []) (tree v) → addition old facts ≡ adds news → NoClash old → NoClash facts
-    → HaveSameShapes new (old ++ news) → IsWholeOf v new (path_along x [])
-value_said v x old facts news new e h n m same =
+pub value_said : (t : Tree) (x : VarId) (old facts news new : List Fact) → facts ≡ facts_at (path_along x []) t → addition old facts ≡ adds news → NoClash old → NoClash facts
+    → HaveSameShapes new (old ++ news) → SayWhole new (path_along x []) t
+value_said t x old facts news new e h n m same =
     let P : List Fact → Type 0 = λ gs. AllKept new gs in
-    whole_kept (tree v) new (path_along x []) (deepest new) (omega arith) (subst P e (given_kept old facts news new h n m same))
+    whole_kept t new (path_along x []) (deepest new) (omega arith) (subst P e (given_kept old facts news new h n m same))
+
+none_excludes_root : (fs : List Fact) (x : VarId) → is_excluded fs (path_along x []) ≡ false
+none_excludes_root [] x = refl
+none_excludes_root (f ∷ fs) x = or_from (excludes f (path_along x [])) (is_excluded fs (path_along x [])) (excludes-own f (path_along x []) (omega arith)) (none_excludes_root fs x)
+
+-- what is said of a whole variable, and may be read, is its value
+pub value_known : (fs : List Fact) (x : VarId) (t : Tree) → SayWhole fs (path_along x []) t → is_within_list_limit t ≡ true → full fs (path_along x []) ≡ value t
+value_known fs x t h w =
+    ap (λ b. if b then absent else limited (whole (suc (deepest fs)) fs (path_along x []))) (none_excludes_root fs x)
+    ∙ ap limited h ∙ ap (λ b. if b then value t else too_long) w

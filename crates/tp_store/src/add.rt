@@ -15,7 +15,8 @@ use crate::fact_map::FactMap;
 use crate::full::{go_to, item_path};
 use crate::store::Store;
 use std::alloc::{AllocError, AllocFailed, Global};
-use tp_value::{Fact, Facts, NoMemory, Path, Shape, Value, VarId};
+use std::rc::Rc;
+use tp_value::{Fact, Facts, NoMemory, Path, Shape, Value, VarId, is_within_list_limit};
 
 /// Why facts weren't added: the first new one that clashes, with the kept one that it clashes with, or want of memory.
 #[derive(Debug, Drop)]
@@ -124,25 +125,28 @@ fn length_facts(alloc: Global, path: &Path, length: u32) -> Result<Vec<Fact>, No
     Ok(facts)
 }
 
-// An equal value, where it is a list that a whole variable has.
+// Whether the value is a list.
+fn is_list(value: &Value) -> bool {
+    match value {
+        Value::List(_) => true,
+        Value::Num(_) | Value::Truth(_) => false,
+    }
+}
+
+// An equal value, where it is a list that a whole variable has, and within the limit.
 fn list_of_variable(
     alloc: Global,
     path: &Path,
     value: &Value,
-) -> Result<Option<Value>, NoMemory>
+) -> Result<Option<Rc<Value>>, NoMemory>
     ensures { IfOk result (λ whole.
         AreOfValue path.now.var (facts_at path.now (tree value.now)) whole) }
 {
-    if !path.at.items.as_slice().is_empty() {
+    if !path.at.items.as_slice().is_empty() || !is_list(value) || !is_within_list_limit(value) {
         return Ok(None);
     }
-    match value {
-        Value::List(_) => {
-            let copy = value.copy(alloc)?;
-            Ok(Some(copy))
-        }
-        Value::Num(_) | Value::Truth(_) => Ok(None),
-    }
+    let copy = value.copy(alloc)?;
+    Ok(Some(Rc::new(alloc, copy)?))
 }
 
 // Whether facts can be added to those that are kept of their variable.
@@ -166,7 +170,7 @@ fn add_in(
     kept: &mut FactMap,
     var: VarId,
     facts: Vec<Fact>,
-    value: Option<Value>,
+    value: Option<Rc<Value>>,
 ) -> Result<Facts, AddRefusal>
     requires apart { NoClash facts.items }
     requires value { AreOfValue var facts.items value }
@@ -192,7 +196,7 @@ fn add_at(
     entries: &mut [Entry],
     var: VarId,
     facts: Vec<Fact>,
-    value: Option<Value>,
+    value: Option<Rc<Value>>,
 ) -> Result<Facts, AddRefusal>
     requires number { var.number < length entries.old }
     requires apart { NoClash facts.items }
@@ -291,7 +295,7 @@ impl Store {
         &mut self,
         var: VarId,
         facts: Vec<Fact>,
-        value: Option<Value>,
+        value: Option<Rc<Value>>,
     ) -> Result<Facts, AddRefusal>
         requires variable { IsVariableOf self.old.variables var }
         requires value { AreOfValue var facts.items value }

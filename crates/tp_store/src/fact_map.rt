@@ -2,17 +2,22 @@
 ghost use Rattle.std.specs.Prelude.{◌≡◌, ◌<◌, ◌^◌, ◌++◌, ◌↔◌, [], Bool, true, false, None, Some, IfOk, OnOk, OnErr, IsTrue, ℕ, suc};
 ghost use Rattle.std.specs.Option.{option_copied};
 ghost use Rattle.tp_store.specs.Facts.{kept_shape, is_excluded, has_item, item_path};
-ghost use Rattle.tp_store.specs.Known.{NoClash, deepest, first_clash, new_facts, open_at, whole};
+ghost use Rattle.tp_store.specs.Known.{NoClash, deepest, first_clash, full, new_facts, open_at, value, whole};
 ghost use Rattle.tp_store.specs.Changes.{HaveSameShapes};
 ghost use Rattle.tp_store.specs.FactMap.{AreOfOne, IsNumberOrTruth};
 ghost use Rattle.tp_store.specs.Nodes.{edges_in, node_from, facts_in_tree, path_along, IsTree, ArePlainItems, LacksShape};
-ghost use Rattle.tp_store.specs.KeptValue.{IsWholeOf};
+ghost use Rattle.tp_store.specs.KeptValue.{SayWhole};
+ghost use Rattle.tp_value.specs.Read.{tree};
+ghost use Rattle.tp_value.specs.Limits.{is_within_list_limit};
+ghost use Rattle.std.specs.declared.rc.Rc.{Rc};
+ghost use Rattle.std.specs.declared.alloc.Global.{Global};
 ghost use Rattle.tp_value.specs.declared.value.Value.{Value as ValueSeen};
 
 use crate::clash::{clashes, is_earlier, same_shape};
 use crate::nodes::{Nodes, copy_facts, keep_facts};
 use std::alloc::Global;
 use std::marker::Model;
+use std::rc::Rc;
 use tp_value::{Fact, NoMemory, Path, Shape, Value, VarId};
 
 /// Facts of one variable without a clash, each found by its path. What is known of a path and of what lies around it takes a look-up for
@@ -29,7 +34,7 @@ pub struct FactMap {
     plain: u32,
     empty: bool,
     // The value that the variable was given as a whole, where it is a list: it is read without a look at the facts.
-    value: Option<Value>,
+    value: Option<Rc<Value>>,
 }
 
 impl Model for FactMap {
@@ -245,19 +250,21 @@ impl FactMap {
         }
     }
 
-    /// The value at the path, where it is kept beside the facts.
-    pub fn value(&self, path: &Path) -> Option<&Value>
-        ensures { (v : ValueSeen) → option_copied result ≡ Some v → IsWholeOf v self.now path.now }
+    /// The value of the whole variable, where it is kept beside the facts.
+    pub fn value(&self, var: VarId) -> Option<&Rc<Value>>
+        ensures { (v : Rc ValueSeen Global) → option_copied result ≡ Some v
+            → full self.now (path_along var []) ≡ value (tree v.value) }
     {
-        if path.var != self.var || !path.at.items.as_slice().is_empty() {
+        if var != self.var {
             return None;
         }
         self.value.as_ref()
     }
 
-    /// Keeps the value of a whole variable beside its facts, which say it.
-    pub fn keep_value(&mut self, var: VarId, value: Value)
-        requires { IsWholeOf value self.old (path_along var []) }
+    /// Keeps the value of the whole variable beside its facts, which say it.
+    pub fn keep_value(&mut self, var: VarId, value: Rc<Value>)
+        requires said { SayWhole self.old (path_along var []) (tree value.value) }
+        requires within { is_within_list_limit (tree value.value) ≡ true }
         ensures { self.new ≡ self.old }
     {
         if var == self.var {

@@ -1,7 +1,12 @@
 // What is known of the value at a path.
-ghost use Rattle.std.specs.Prelude.{◌≡◌, ◌<◌, ℕ, suc, length, IfOk, slice_get};
+ghost use Rattle.std.specs.Prelude.{◌≡◌, ◌<◌, ℕ, [], Some, length, IfOk, slice_get};
+ghost use Rattle.std.specs.Option.{option_copied};
+ghost use Rattle.std.specs.declared.rc.Rc.{Rc};
+ghost use Rattle.std.specs.declared.alloc.Global.{Global};
+ghost use Rattle.tp_value.specs.Read.{tree};
+ghost use Rattle.tp_value.specs.declared.value.Value.{Value as ValueSeen};
 ghost use Rattle.tp_value.specs.declared.path.Path.{Path as PathSeen};
-ghost use Rattle.tp_store.specs.Known.{deepest, full, whole, list_of_items, items_known};
+ghost use Rattle.tp_store.specs.Known.{full, value, whole, list_of_items, items_known};
 ghost use Rattle.tp_store.specs.Changes.{IsSoundStore};
 ghost use Rattle.tp_store.specs.Facts.{item_path};
 ghost use Rattle.tp_store.specs.Entries.{parts_in, facts_there};
@@ -11,6 +16,7 @@ use crate::entry::{Entry, facts_of};
 use crate::fact_map::FactMap;
 use crate::store::Store;
 use std::alloc::Global;
+use std::rc::Rc;
 use tp_value::{Items, NoMemory, Path, Shape, Value, is_within_list_limit};
 
 /// What is known of the value at a path: there is no such element, the shape of this path isn't kept yet, it is longer than a list may be,
@@ -110,25 +116,29 @@ fn whole_at(alloc: Global, facts: &FactMap, path: &Path, deeper: u64) -> Result<
     }
 }
 
-// What is found at the path.
-fn found_in(alloc: Global, facts: &FactMap, path: &Path) -> Result<Found, NoMemory>
-    ensures { IfOk result (λ found.
-        whole_of found ≡ whole (suc (deepest facts.now)) facts.now path.now) }
+// What is kept of a variable's value at the path.
+fn kept_at<'a>(facts: &'a FactMap, path: &Path) -> Option<&'a Rc<Value>>
+    ensures { (v : Rc ValueSeen Global) → option_copied result ≡ Some v
+        → full facts.now path.now ≡ value (tree v.value) }
 {
-    if let Some(value) = facts.value(path) {
-        let value = value.copy(alloc)?;
-        return Ok(Found::Whole(value));
+    if path.at.items.as_slice().is_empty() {
+        facts.value(path.var)
+    } else {
+        None
     }
-    whole_at(alloc, facts, path, facts.depth() + 1)
 }
 
 fn full_in(alloc: Global, facts: &FactMap, path: &Path) -> Result<Known, NoMemory>
     ensures { IfOk result (λ known. full_of known ≡ full facts.now path.now) }
 {
+    if let Some(value) = kept_at(facts, path) {
+        let value = value.copy(alloc)?;
+        return Ok(Known::Value(value));
+    }
     if facts.excludes(path) {
         return Ok(Known::Absent);
     }
-    match found_in(alloc, facts, path)? {
+    match whole_at(alloc, facts, path, facts.depth() + 1)? {
         Found::Open(q) => Ok(Known::Open(q)),
         Found::Whole(v) => {
             if is_within_list_limit(&v) {
@@ -157,7 +167,29 @@ fn known_at(alloc: Global, entries: &[Entry], path: &Path) -> Result<Known, NoMe
     }
 }
 
+// The value at the path, where it is that of a whole variable, which is kept.
+fn value_of<'a>(entries: &'a [Entry], path: &Path) -> Option<&'a Rc<Value>>
+    ensures { (v : Rc ValueSeen Global) → option_copied result ≡ Some v
+        → full (facts_there (slice_get (parts_in entries.now) path.now.var.number)) path.now
+        ≡ value (tree v.value) }
+{
+    match facts_of(entries, path.var.number) {
+        Some(facts) => kept_at(facts, path),
+        None => None,
+    }
+}
+
 impl Store {
+    /// What `full` finds at the path, to be shared, where it stands ready: where the path is a variable, to which this list was added as a
+    /// whole. None says nothing of the path.
+    pub fn kept_value(&self, path: &Path) -> Option<&Rc<Value>>
+        ensures value { (v : Rc ValueSeen Global) → option_copied result ≡ Some v
+            → full self.now.facts path.now ≡ value (tree v.value) }
+        ensures sound { IsSoundStore self.now }
+    {
+        value_of(self.entries.as_slice(), path)
+    }
+
     /// What is known of the value at the path: it has no such element where the shape of a proper prefix leaves none; else the first path,
     /// from this one downwards in the order of the items, whose shape isn't kept; else whether the whole value is within the limit of lists.
     pub fn full(&self, path: &Path) -> Result<Known, NoMemory>
