@@ -10,11 +10,11 @@ use Rattle.tp_meaning.specs.Syntax.{Definition, BindingTree, known_binding, Expr
 use Rattle.tp_meaning.specs.Fits.{IsPlace, AreArguments}
 use Rattle.tp_meaning.specs.Value.{is_upper}
 use Rattle.tp_eval.specs.Evaluate.{is_place, depth_limit}
-use Rattle.tp_eval.specs.Operand.{bound_value}
+use Rattle.tp_eval.specs.Operand.{bound_value, named_path, IsNamedValue}
 use Rattle.tp_eval.specs.Outcome as found
 use Rattle.tp_eval.specs.Outcome.{outcome, outcome_reached, place_outcome, place_reached}
 use Rattle.tp_eval.proofs.Answered.{eval_is, place_is as place_outcome_is}
-use Rattle.tp_eval.proofs.OperandLemmas.{value_reached, place_reached_by_value}
+use Rattle.tp_eval.proofs.OperandLemmas.{value_reached, place_reached_by_value, named_value_reached}
 use Rattle.tp_scene.specs.declared.answer.Clash.TheVariants.{NoValue}
 use Rattle.tp_scene.specs.Scene.{Bindings}
 use Rattle.tp_scene.specs.Step as row
@@ -61,6 +61,16 @@ module _ (facts : List Fact) (defs : List Definition) (env : Bindings) where
       by_letter : (b : Bool) → (if b then row.with_place (place_outcome facts defs e env) f else row.with_value (outcome facts defs e env) (λ v. f (known_binding v))) ≡ f (known_binding t)
       by_letter true = ap (λ o. row.with_place o f) (shared_place e t h)
       by_letter false = ap (λ o. row.with_value o (λ v. f (known_binding v))) (shared_value e t h)
+
+  kept_outcome : (e : ExprTree) (t : Tree) → IsNamedValue facts (named_path e env) t → outcome facts defs e env ≡ found.value t
+  kept_outcome e t h = sym (eval_is facts defs e env (found.value t) (ap outcome_reached (sym (named_value_reached facts t 0 defs env depth_limit e (omega arith) h))))
+
+  -- and so is the list that the store keeps, where the parameter stands for a value
+  pub argument_kept : (x : List ℕ) (e : ExprTree) (t : Tree) → is_upper x ≡ false → IsNamedValue facts (named_path e env) t → (f : BindingTree → PickOutcome) →
+      row.with_argument defs facts x e env f ≡ f (known_binding t)
+  argument_kept x e t l h f =
+      ap (λ (b : Bool). if b then row.with_place (place_outcome facts defs e env) f else row.with_value (outcome facts defs e env) (λ v. f (known_binding v))) l
+      ∙ ap (λ o. row.with_value o (λ v. f (known_binding v))) (kept_outcome e t h)
 
   -- where one list has come to its end, and where the other hasn't
   pub all_bound : (done : Bindings) (es : List Expr) (xs : List (List ℕ)) → (es ≡ []) ⊎ (xs ≡ []) → length es ≡ length xs → (f : Bindings → PickOutcome) →

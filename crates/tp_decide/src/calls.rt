@@ -17,7 +17,7 @@ use crate::phrase::Phrase;
 use crate::setting::Setting;
 use std::alloc::Global;
 use std::rc::Rc;
-use tp_eval::{PlaceOutcome, bound_value, place};
+use tp_eval::{PlaceOutcome, bound_value, kept_value, place};
 use tp_kernel::{Binding, Def, Defs, Env, Expr, Exprs, FaultKind, is_upper};
 use tp_scene::Clash;
 use tp_store::Store;
@@ -77,7 +77,7 @@ fn find_place(
 }
 
 // What the parameter is bound to: a place where its name begins with an upper-case letter, and else
-// a value. Where the argument is bound to a known value, that is handed on.
+// a value. Where the argument is bound to a known value, or the store keeps its list, that is handed on.
 fn find_binding(
     alloc: Global,
     parameter: &Text,
@@ -100,6 +100,9 @@ fn find_binding(
     if is_upper(parameter) {
         let bound = find_place(alloc, expr, env, store, setting)?;
         Ok(bound)
+    } else if let Some(value) = kept_value(alloc, expr, env, store) {
+        let value = value.clone()?;
+        Ok(Ok(Binding::Known(value)))
     } else {
         let found = find_value(alloc, expr, env, store, setting)?;
         let bound = known(alloc, found)?;

@@ -13,7 +13,7 @@ use crate::count::count_call;
 use crate::halt::Halt;
 use crate::kinds::{limited, number_of, truth_of, within};
 use crate::lookup::Lookup;
-use crate::operand::{Operand, bind_value, bound_value};
+use crate::operand::{Operand, bind_value, bound_value, kept_value};
 use crate::operate::{item_of, operate};
 use crate::places::{
     Place, bind_place, farther, index_of, length_of, named, size_at, value_at, whole,
@@ -80,7 +80,7 @@ fn contrary(value: Value) -> Result<Value, Halt>
     Ok(Value::Truth(!b))
 }
 
-// The value of an expression that is looked at or handed on: that of a bound name isn't copied.
+// The value of an expression that is looked at or handed on: that of a bound name isn't copied, nor is a list that the store keeps.
 #[cycle(evaluate)]
 fn operand(levels: u32, expr: &Expr, lookup: &Lookup, calls: &mut u32) -> Result<Operand, Halt>
     ensures { AnswersReached operand_tree result calls.new
@@ -88,6 +88,9 @@ fn operand(levels: u32, expr: &Expr, lookup: &Lookup, calls: &mut u32) -> Result
 {
     if levels > 0 {
         if let Some(value) = bound_value(expr, lookup.env) {
+            return Ok(Operand::Shared(value.clone()?));
+        }
+        if let Some(value) = kept_value(lookup.alloc, expr, lookup.env, lookup.store) {
             return Ok(Operand::Shared(value.clone()?));
         }
     }

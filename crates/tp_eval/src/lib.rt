@@ -16,5 +16,5 @@ mod places;
 pub use calls::{eval, place};
 pub use evaluate::is_place;
 pub use laws::{outcomes_mean, waits_are_undecided};
-pub use operand::bound_value;
+pub use operand::{bound_value, kept_value};
 pub use outcome::{Outcome, PlaceOutcome};

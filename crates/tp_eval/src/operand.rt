@@ -1,15 +1,19 @@
 // Values of operands, which are shared where a bound name has them.
-ghost use Rattle.std.specs.Prelude.{◌≡◌, IfOk, slice_get};
-ghost use Rattle.std.specs.Option.{option_map, option_and_then};
+ghost use Rattle.std.specs.Prelude.{◌≡◌, Some, IfOk, slice_get};
+ghost use Rattle.std.specs.Option.{option_copied, option_map, option_and_then};
 ghost use Rattle.tp_value.specs.Read.{tree};
 ghost use Rattle.tp_meaning.specs.Syntax.{known_binding};
 ghost use Rattle.tp_kernel.specs.Read.{expr_tree, binding_of, bindings_of};
-ghost use Rattle.tp_eval.specs.Operand.{operand_tree, known_value, bound_value};
+ghost use Rattle.std.specs.declared.rc.Rc.{Rc};
+ghost use Rattle.std.specs.declared.alloc.Global.{Global};
+ghost use Rattle.tp_value.specs.declared.value.Value.{Value as ValueSeen};
+ghost use Rattle.tp_eval.specs.Operand.{operand_tree, known_value, bound_value, bound_path, named_path, IsNamedValue};
 
 use std::alloc::Global;
 use std::rc::Rc;
 use tp_kernel::{Binding, Env, Expr};
-use tp_value::{NoMemory, Value};
+use tp_store::Store;
+use tp_value::{Indices, NoMemory, Path, Value};
 
 /// The value of an operand that is looked at or handed on: a bound name's, which keeps it, or its
 /// own.
@@ -50,6 +54,51 @@ pub fn bound_value<'a>(expr: &Expr, env: &'a Env) -> Option<&'a Rc<Value>>
         | Expr::Truth(_)
         | Expr::Known(_)
         | Expr::Global(_)
+        | Expr::List(_)
+        | Expr::Size(_)
+        | Expr::Index(..)
+        | Expr::Minus(_)
+        | Expr::Not(_)
+        | Expr::Both(_)
+        | Expr::Either(..)
+        | Expr::Op(..)
+        | Expr::If(..)
+        | Expr::Call(..) => None,
+    }
+}
+
+// The value that the store keeps of the place that the binding with this number is.
+fn kept_by_name<'a>(env: &Env, number: u32, store: &'a Store) -> Option<&'a Rc<Value>>
+    ensures { (v : Rc ValueSeen Global) → option_copied result ≡ Some v
+        → IsNamedValue store.now.facts
+        (option_and_then bound_path (slice_get (bindings_of env.now) number)) (tree v.value) }
+{
+    match env.items.get(number as usize) {
+        Some(Binding::Place(path)) => store.kept_value(path),
+        Some(Binding::Known(_)) | None => None,
+    }
+}
+
+/// The value of a name that stands for a whole variable, where the store keeps it.
+pub fn kept_value<'a>(
+    alloc: Global,
+    expr: &Expr,
+    env: &Env,
+    store: &'a Store,
+) -> Option<&'a Rc<Value>>
+    ensures { (v : Rc ValueSeen Global) → option_copied result ≡ Some v
+        → IsNamedValue store.now.facts (named_path (expr_tree expr.now) (bindings_of env.now))
+        (tree v.value) }
+{
+    match expr {
+        Expr::Bound(number) => kept_by_name(env, *number, store),
+        Expr::Global(var) => {
+            let at = Indices::new(alloc);
+            store.kept_value(&Path { var: *var, at })
+        }
+        Expr::Number(_)
+        | Expr::Truth(_)
+        | Expr::Known(_)
         | Expr::List(_)
         | Expr::Size(_)
         | Expr::Index(..)

@@ -168,7 +168,7 @@ fn known_at(alloc: Global, entries: &[Entry], path: &Path) -> Result<Known, NoMe
 }
 
 // The value at the path, where it is that of a whole variable, which is kept.
-fn value_of<'a>(entries: &'a [Entry], path: &Path) -> Option<&'a Rc<Value>>
+fn kept_value<'a>(entries: &'a [Entry], path: &Path) -> Option<&'a Rc<Value>>
     ensures { (v : Rc ValueSeen Global) → option_copied result ≡ Some v
         → full (facts_there (slice_get (parts_in entries.now) path.now.var.number)) path.now
         ≡ value (tree v.value) }
@@ -187,7 +187,7 @@ impl Store {
             → full self.now.facts path.now ≡ value (tree v.value) }
         ensures sound { IsSoundStore self.now }
     {
-        value_of(self.entries.as_slice(), path)
+        kept_value(self.entries.as_slice(), path)
     }
 
     /// What is known of the value at the path: it has no such element where the shape of a proper prefix leaves none; else the first path,

@@ -1,5 +1,5 @@
 use Rattle.std.proofs.Common.{◌≡◌, Bool, false, Some, ◌∙◌, ap, sym, subst, if◌then◌else◌}
-use Rattle.std.specs.Option.{option_map}
+use Rattle.std.specs.Option.{option_map, option_copied}
 use Rattle.tp_value.specs.Read.{tree}
 use Rattle.tp_meaning.specs.Syntax.{known_binding}
 use Rattle.tp_meaning.specs.Value.{is_upper}
@@ -8,7 +8,7 @@ use Rattle.tp_eval.specs.Outcome.{outcome, place_outcome}
 use Rattle.tp_scene.specs.Step as row
 use Rattle.tp_decide.specs.Found.{BoundIn}
 use Rattle.tp_eval.specs.Operand.{bound_value}
-use Rattle.tp_decide.proofs.CallLemmas.{argument_shared}
+use Rattle.tp_decide.proofs.CallLemmas.{argument_shared, argument_kept}
 use Rattle.tp_decide.proofs.calls.find_binding.Goals as goal
 
 pub returns-in-Some-clause-bound : goal.returns-in-Some-clause-bound
@@ -28,3 +28,13 @@ returns-in_ok-bound-2-clause-bound c =
     let lower : is_upper c.args.parameter.now ≡ false = sym c.is_upper.ensures ∙ c.if-is_upper.false in
     subst (λ (upper : Bool). BoundIn (λ f. if upper then row.with_place (place_outcome facts defs e env) f else row.with_value (outcome facts defs e env) (λ v. f (known_binding v))) c.in_ok-bound-2.bound)
     (sym lower) (c.in_ok-bound-2.ensures.bound (outcome facts defs e env) c.in_ok-found.ensures.found)
+
+pub returns-in_ok-value-2-clause-bound : goal.returns-in_ok-value-2-clause-bound
+returns-in_ok-value-2-clause-bound c = λ f.
+    let e = expr_tree c.args.expr.now in
+    let env = bindings_of c.args.env.now in
+    let kept = c.in-Some-kept_value.value.now in
+    let lower : is_upper c.args.parameter.now ≡ false = sym c.is_upper.ensures ∙ c.if-is_upper.false in
+    let named = c.kept_value.ensures kept (ap option_copied c.in-Some-kept_value.is) in
+    argument_kept c.args.store.now.facts (definitions_of c.args.setting.now.defs.now) env c.args.parameter.now e (tree kept.value) lower named f
+    ∙ ap (λ v. f (known_binding (tree v))) (sym c.in_ok-value-2.ensures.cases)

@@ -1,5 +1,6 @@
-use Rattle.std.proofs.Common.{rules, ◌≡◌, ◌≢◌, ◌-◌, Bool, true, false, ap, ap₂, sym, ◌∙◌, map, length, to_z, of_z}
+use Rattle.std.proofs.Common.{rules, ◌≡◌, ◌≢◌, ◌-◌, Bool, true, false, ap, ap₂, sym, ◌∙◌, arith, map, length, to_z, of_z}
 use Rattle.std.proofs.lemmas.Slice.Zip.{zip_end}
+use Rattle.std.specs.Option.{option_copied}
 use Rattle.std.specs.Iterator.Adapters.{zip_first, zip_second}
 use Rattle.std.specs.Slice.Iter.{iter_rest}
 use Rattle.tp_value.specs.Number.{number_width}
@@ -7,14 +8,15 @@ use Rattle.tp_value.specs.Tree.{list, of_items}
 use Rattle.tp_value.specs.Read.{tree}
 use Rattle.tp_value.specs.Equations.{tree_list}
 use Rattle.tp_meaning.specs.Syntax.{listing, size, index, minus, negation, both, either, binary, choice, invoke}
-use Rattle.tp_kernel.specs.Read.{expr_tree, operator_of, binding_of, bindings_of}
+use Rattle.tp_kernel.specs.Read.{expr_tree, operator_of, binding_of, bindings_of, definitions_of}
 use Rattle.tp_kernel.specs.Equations.{expr_trees_is, expr_number, expr_bound, expr_list, expr_size, expr_index, expr_minus, expr_not, expr_both, expr_either, expr_op, expr_if, expr_call}
-use Rattle.tp_eval.specs.Reached.{within_numbers, within_lists, ◌>>=◌}
+use Rattle.tp_eval.specs.Reached.{reaches, within_numbers, within_lists, ◌>>=◌}
 use Rattle.tp_eval.specs.Evaluate.{is_place, element_of, size_of, indexed_value, index_in, farther, item_between, length_of, negative_in, negated_in}
 use Rattle.tp_eval.specs.Answers.{Stops, operand_in, place_at}
 use Rattle.tp_eval.specs.Places.{place_in}
 use Rattle.tp_eval.proofs.Steps.{reached_same, reached_leaf, reaches_then, stops_same, stops_then, halts_at}
 use Rattle.tp_eval.proofs.Levels.{at_level, at_place_level, read_bound, read_index}
+use Rattle.tp_eval.proofs.OperandLemmas.{named_value_reached}
 use Rattle.tp_eval.proofs.Arguments.{arguments_uneven}
 use Rattle.tp_eval.proofs.evaluate.+evaluate.Goals as goal
 
@@ -160,3 +162,12 @@ find_place-returns-in_ok-k-in-Index t c =
     let second = reaches_then _ (tree c.in_ok-at-in-Index.at) c.evaluate.new.calls (λ v. index_in v >>= farther (place_in c.in_ok-place-in-Index.place)) c.in_ok-at-in-Index.ensures in
     let third = ap (λ o. (o >>= farther (place_in c.in_ok-place-in-Index.place)) c.evaluate.new.calls) c.in_ok-k-in-Index.ensures in
     reached_leaf place_in c.farther.result c.evaluate.new.calls _ _ (here ∙ first ∙ second ∙ third) c.farther.ensures
+
+pub operand-returns-in-Some-kept_value : goal.operand-returns-in-Some-kept_value
+operand-returns-in-Some-kept_value t c =
+    let l = c.args.lookup.now in
+    let calls = c.args.calls.now in
+    let kept = c.in-Some-kept_value.value.now in
+    let named = c.kept_value.ensures kept (ap option_copied c.in-Some-kept_value.is) in
+    named_value_reached l.store.now.facts (tree kept.value) calls (definitions_of l.defs.now) (bindings_of l.env.now) c.args.levels (expr_tree c.args.expr.now) (omega arith) named
+    ∙ ap (λ v. reaches (tree v) calls) (sym c.in_ok-clone-2.ensures.cases)

@@ -21,7 +21,7 @@ loop-k-preserved t c =
     let inner = c.go_to.ensures p c.loop-k.invariant.0.0 c.loop-k.invariant.0.1 in (
       (k, inner),
       ap (λ fs. fs ++ facts_of_items p (k + 1) (of_items (map tree (drop (k + 1) xs)))) (c.in_ok-append_facts-in-List.ensures ∙ ap (λ q. c.loop-k.out.items ++ facts_at q (tree c.index.result.now)) inner)
-      ∙ next_item tree p xs k c.index.result.now c.loop-k.out.items (omega (arith, c.in-List.all.items.ok.0)) c.index.ensures ∙ c.loop-k.invariant.1,
+          ∙ next_item tree p xs k c.index.result.now c.loop-k.out.items (omega (arith, c.in-List.all.items.ok.0)) c.index.ensures ∙ c.loop-k.invariant.1,
     )
 
 pub returns-after-loop-k : goal.returns-after-loop-k

@@ -20,9 +20,9 @@ items_at-loop-k-preserved t c =
     let item = whole c.args.deeper c.args.facts.now in
     let inner = c.go_to.ensures c.args.path.now c.loop-k.invariant.0.0 c.loop-k.invariant.0.1 in
     let here : item (item_path c.args.path.now c.loop-k.k) ≡ known (tree c.in-Whole.v) = ap item (sym inner) ∙ sym c.in_ok-v.ensures ∙ ap whole_of c.in-Whole.is in (
-    (c.loop-k.k, inner),
-    ap (λ ts. before ts (items_known item c.args.path.now (c.args.count - (c.loop-k.k + 1)) (c.loop-k.k + 1))) (ap (map tree) c.in_ok-push-in-Whole.ensures.items ∙ map-append tree c.loop-k.items.items (c.in-Whole.v ∷ []))
-    ∙ known_more item c.args.path.now c.args.count c.loop-k.k (map tree c.loop-k.items.items) (tree c.in-Whole.v) c.loop-k-test.true here ∙ c.loop-k.invariant.1,
+      (c.loop-k.k, inner),
+      ap (λ ts. before ts (items_known item c.args.path.now (c.args.count - (c.loop-k.k + 1)) (c.loop-k.k + 1))) (ap (map tree) c.in_ok-push-in-Whole.ensures.items ∙ map-append tree c.loop-k.items.items (c.in-Whole.v ∷ []))
+          ∙ known_more item c.args.path.now c.args.count c.loop-k.k (map tree c.loop-k.items.items) (tree c.in-Whole.v) c.loop-k-test.true here ∙ c.loop-k.invariant.1,
     )
 
 pub items_at-returns : goal.items_at-returns

@@ -15,4 +15,4 @@ returns c path k e =
     let same = ap (λ (xs : List ℕ). length xs) items in
     let place : c.len-last.result - 1 ≡ length path.at = omega (arith, c.len-last.ensures, same, long) in
     ap₂ (λ x (xs : List ℕ). record { var = x; at = xs }) (ap (λ (p : Path). p.var) seen)
-        (ap₂ (λ (xs : List ℕ) j. slice_set xs j c.args.index) items place ∙ set_last path.at k c.args.index)
+    (ap₂ (λ (xs : List ℕ) j. slice_set xs j c.args.index) items place ∙ set_last path.at k c.args.index)

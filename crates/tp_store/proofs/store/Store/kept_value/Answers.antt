@@ -9,7 +9,7 @@ returns-clause-value c = λ v e.
     let es = c.self.inside.entries.items in
     let p = c.args.path.now in
     sym (full_view (parts_in es) _ p c.self.view_is c.self.invariant.0)
-    ∙ ap (λ xs. full (facts_there (slice_get (parts_in xs) p.var.number)) p) (sym c.as_slice.ensures.value) ∙ c.value_of.ensures v e
+    ∙ ap (λ xs. full (facts_there (slice_get (parts_in xs) p.var.number)) p) (sym c.as_slice.ensures.value) ∙ c.kept_value.ensures v e
 
 pub returns-clause-sound : goal.returns-clause-sound
 returns-clause-sound c = sound_view (parts_in c.self.inside.entries.items) _ c.self.view_is c.self.invariant.0
