@@ -230,3 +230,20 @@ fn states_go_on(rt: HostRuntime) -> Result<(), Fail> {
     holds(&rt, store.shape(&here).is_none(), "the next state");
     Ok(())
 }
+
+#[test]
+fn whole_lists_are_kept(rt: HostRuntime) -> Result<(), Fail> {
+    let alloc = rt.alloc();
+    let mut store = one_variable(alloc)?;
+    let here = path(alloc, 0, &[])?;
+    let item = path(alloc, 0, &[0])?;
+    put(alloc, &mut store, &here, Sixes(1))?;
+    holds(&rt, store.kept_value(&here).is_some(), "a list");
+    holds(&rt, store.kept_value(&item).is_none(), "its item");
+    store.next_state();
+    holds(&rt, store.kept_value(&here).is_none(), "the next state");
+    put(alloc, &mut store, &here, Length(1))?;
+    put(alloc, &mut store, &item, Num(6))?;
+    holds(&rt, store.kept_value(&here).is_none(), "a list item by item");
+    Ok(())
+}
