@@ -3,7 +3,7 @@
 
 ghost use Rattle.std.specs.Prelude.{◌≡◌, ◌<◌, ◌⊎◌, drop, map, string_bytes, IfErr, IfOk};
 ghost use Rattle.std.specs.Process.{exit_status};
-ghost use Rattle.tp_call.specs.EndLine.{code_of};
+ghost use Rattle.tp_call.specs.Code.{code_of};
 
 use std::alloc::Global;
 use std::env::Env;

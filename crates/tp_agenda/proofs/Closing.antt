@@ -25,7 +25,8 @@ use Rattle.tp_step.proofs.EveryRest.{closures_commute}
 use Rattle.tp_step.proofs.Room.{closures_keep_room}
 use Rattle.tp_lanes.specs.Planes.{flag}
 use Rattle.tp_agenda.specs.declared.board.Board.{Board}
-use Rattle.tp_agenda.specs.Agenda.{ClosesWith, TriesNext, EndsAtTry, EndsTries, last_tries}
+use Rattle.tp_agenda.specs.Agenda.{TriesNext, EndsAtTry, EndsTries}
+use Rattle.tp_agenda.specs.Counted.{ClosesWith, last_tries}
 use Rattle.tp_agenda.specs.Board.{FitsBoard, HasFlags, TakenAreKnown, TakesIn, TakesNews, TakesWait}
 use Rattle.tp_agenda.specs.Held.{IsHeld, IsTakenUp, nothing_due}
 use Rattle.tp_agenda.specs.Ready.{IsReady}

@@ -1,5 +1,6 @@
 -- A place is filed under one key.
 use Rattle.std.proofs.Common.{◌≡◌, ℕ, suc, ◌<◌, ◌≤◌, Bool, true, false, ◌&&◌, cond, List, [], ◌∷◌, ◌++◌, length, length-append, get_or, nat_eq, take, unwrap_or, Option, Some, refl, ap, ap₂, sym, ◌∙◌, subst, inl, inr, arith}
+use Rattle.std.proofs.Math.Bool.{and-true}
 use Rattle.std.proofs.lemmas.Bool.{and_right, cases_Bool, cases_eq}
 use Rattle.std.proofs.lemmas.Bool.Decides.{Decides-eqb}
 use Rattle.std.proofs.lemmas.List.{get_or_push}
@@ -86,10 +87,6 @@ filed_under_path old new path place v h grown e put stay =
       ends = others_stay ls ls' place n (newest_for old) (newest_for new) h.nexts h.ends_fit within grown stay;
     }
 
-and_true : (b : Bool) → (b && true) ≡ b
-and_true true = refl
-and_true false = refl
-
 -- the links of an item are kept by its index, and those of paths with more indices by the paths
 pub item_found : (x : Index) (p : Path) (at : List ℕ) → length at ≡ 1 → kept_of x p at ≡ get equal_items x.items (record { var = p.var; index = get_or at 0 0 })
 item_found x p [] one = absurd (omega (arith, one))
@@ -115,7 +112,7 @@ unchanged v b old new isnt same = same ∙ ap (λ z. cond z (Some v) old) (sym i
 -- a map of one kind of paths got a link, and the others are as they were
 pub whole_kept : (old new : Index) (x : VarId) (v : ℕ) → ((y : VarId) → get equal_variables new.wholes y ≡ cond (equal_variables x y) (Some v) (get equal_variables old.wholes y))
     → new.items ≡ old.items → new.parts ≡ old.parts → (q : Path) (at : List ℕ) → kept_of new q at ≡ cond (equal_variables x q.var && pointwise nat_eq [] at) (Some v) (kept_of old q at)
-whole_kept old new x v put items parts q [] = put q.var ∙ ap (λ b. cond b (Some v) (get equal_variables old.wholes q.var)) (sym (and_true (equal_variables x q.var)))
+whole_kept old new x v put items parts q [] = put q.var ∙ ap (λ b. cond b (Some v) (get equal_variables old.wholes q.var)) (sym (and-true (equal_variables x q.var)))
 whole_kept old new x v put items parts q (k ∷ []) =
     unchanged v (equal_variables x q.var && false) (kept_of old q (k ∷ [])) (kept_of new q (k ∷ [])) (and_right (equal_variables x q.var) false refl)
     (ap (λ m. get equal_items m (record { var = q.var; index = k })) items)
@@ -129,7 +126,7 @@ item_kept old new i v put wholes parts q [] =
     unchanged v (equal_variables i.var q.var && false) (kept_of old q []) (kept_of new q []) (and_right (equal_variables i.var q.var) false refl)
     (ap (λ m. get equal_variables m q.var) wholes)
 item_kept old new i v put wholes parts q (k ∷ []) = put (record { var = q.var; index = k })
-    ∙ ap (λ b. cond (equal_variables i.var q.var && b) (Some v) (kept_of old q (k ∷ []))) (sym (and_true (nat_eq i.index k)))
+    ∙ ap (λ b. cond (equal_variables i.var q.var && b) (Some v) (kept_of old q (k ∷ []))) (sym (and-true (nat_eq i.index k)))
 item_kept old new i v put wholes parts q (j ∷ k ∷ ks) =
     unchanged v (equal_variables i.var q.var && (nat_eq i.index j && false)) (kept_of old q (j ∷ k ∷ ks)) (kept_of new q (j ∷ k ∷ ks)) (off (equal_variables i.var q.var) (nat_eq i.index j))
     (ap (λ m. get equal_paths m q) parts)

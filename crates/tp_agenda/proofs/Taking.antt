@@ -17,7 +17,8 @@ use Rattle.tp_slots.proofs.Seeing.{inside}
 use Rattle.tp_lanes.specs.Planes.{flag}
 use Rattle.tp_agenda.specs.declared.board.Board.{Board}
 use Rattle.tp_agenda.specs.Board.{FitsBoard}
-use Rattle.tp_agenda.specs.Decides.{WaitsFor, is_end_of, ends_decide}
+use Rattle.tp_agenda.specs.Decides.{is_end_of, ends_decide}
+use Rattle.tp_agenda.specs.Ready.{WaitsFor}
 use Rattle.tp_agenda.specs.Held.{IsAmong}
 use Rattle.tp_agenda.specs.Index.{IsFiled}
 use Rattle.tp_agenda.specs.Marks.{is_known_mark, has_known_end}

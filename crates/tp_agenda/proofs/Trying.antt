@@ -15,7 +15,8 @@ use Rattle.tp_step.specs.declared.ending.Ending.{Ending}
 use Rattle.tp_step.specs.Closes.{Made}
 use Rattle.tp_step.proofs.Picks.{leads_more}
 use Rattle.tp_agenda.specs.Ready.{IsReady}
-use Rattle.tp_agenda.specs.Agenda.{TriesNext, TriesSoFar, no_try_yet, one_pick, one_wait, one_rest, EndsTries, FollowsAgenda, CountsTries, last_tries, WaitedWithin, WaitedForUndecided}
+use Rattle.tp_agenda.specs.Agenda.{TriesNext, TriesSoFar, no_try_yet, one_pick, one_wait, one_rest, EndsTries, FollowsAgenda}
+use Rattle.tp_agenda.specs.Counted.{CountsTries, last_tries, WaitedWithin, WaitedForUndecided}
 use Rattle.tp_agenda.proofs.Movers.{mover_lives}
 use Rattle.tp_agenda.proofs.Turns.{turn_is_ready}
 

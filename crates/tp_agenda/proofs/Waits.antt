@@ -6,7 +6,8 @@ use Rattle.tp_scene.specs.declared.answer.Cell.{Cell}
 use Rattle.tp_scene.specs.declared.answer.Cell.TheVariants.{Part, End}
 use Rattle.tp_step.specs.declared.answer.Wait.{Wait}
 use Rattle.tp_agenda.specs.declared.index.Index.{Index}
-use Rattle.tp_agenda.specs.Decides.{WaitsFor, holds_path}
+use Rattle.tp_agenda.specs.Decides.{holds_path}
+use Rattle.tp_agenda.specs.Ready.{WaitsFor}
 use Rattle.tp_agenda.specs.Index.{filed_at, filed_for, IsChained, HasFiled, IsPushed, IsPlaceIn, IsFiled, is_filed_under, is_filed_for}
 use Rattle.tp_agenda.proofs.Outer.{more_pushed}
 use Rattle.tp_agenda.proofs.Places.{at_cases, flag_push}

@@ -18,7 +18,8 @@ use Rattle.tp_agenda.specs.declared.index.Link.{Link}
 use Rattle.tp_agenda.specs.declared.index.Index.{Index}
 use Rattle.tp_agenda.specs.declared.wake.Cause.{Cause}
 use Rattle.tp_agenda.specs.declared.wake.Cause.TheVariants.{Known, Marked}
-use Rattle.tp_agenda.specs.Decides.{WaitsFor, holds_path, has_passing, other_passes, fact_decides, is_end_of, ends_decide}
+use Rattle.tp_agenda.specs.Decides.{holds_path, has_passing, other_passes, fact_decides, is_end_of, ends_decide}
+use Rattle.tp_agenda.specs.Ready.{WaitsFor}
 use Rattle.tp_agenda.specs.Index.{no_link, places_named, IsPlaceIn, IsFiled, newest_at, newest_for}
 use Rattle.tp_agenda.specs.Wakes.{is_decided_by, newest_by, WakesOnly, AreOverAt, AreOver}
 use Rattle.tp_agenda.proofs.Outer.{outer_holds}

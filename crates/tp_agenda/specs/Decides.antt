@@ -8,10 +8,6 @@ use Rattle.tp_scene.specs.declared.answer.Cell.TheVariants.{Part, End}
 use Rattle.tp_scene.specs.Decided.{decides_path}
 use Rattle.tp_step.specs.declared.answer.Wait.{Wait}
 
--- the wait is for this cell
-abbrev pub WaitsFor : Wait → Cell → Type 0
-WaitsFor w c = (w.first ≡ c) ⊎ (w.other ≡ Some c)
-
 -- a cell of it passes the test
 abbrev pub other_passes : (Cell → Bool) → Option Cell → Bool
 other_passes test None = false

@@ -8,12 +8,8 @@ use Rattle.tp_scene.specs.Cells.{IsDecided, AreUndecided}
 use Rattle.tp_step_laws.specs.LiveOnce.{WasLive}
 use Rattle.tp_step.specs.declared.answer.Wait.{Wait}
 use Rattle.tp_lanes.specs.Planes.{flag}
-use Rattle.tp_agenda.specs.Decides.{WaitsFor}
+use Rattle.tp_agenda.specs.Ready.{WaitsFor}
 use Rattle.tp_agenda.specs.Ready.{may_move, IsOver}
-
--- no place has the same as another
-abbrev pub NoneTwice : {A : Type 0} → List A → Type 0
-NoneTwice {A} xs = (i j : ℕ) (x : A) → slice_get xs i ≡ Some x → slice_get xs j ≡ Some x → i ≡ j
 
 -- it has a place there
 abbrev pub IsAmong : {A : Type 0} → List A → A → Type 0

@@ -11,7 +11,8 @@ use Rattle.tp_step.specs.declared.answer.Wait.{Wait}
 use Rattle.tp_agenda.specs.declared.index.Link.{Link}
 use Rattle.tp_agenda.specs.declared.index.Item.{Item}
 use Rattle.tp_agenda.specs.declared.index.Index.{Index}
-use Rattle.tp_agenda.specs.Decides.{WaitsFor, holds_path}
+use Rattle.tp_agenda.specs.Decides.{holds_path}
+use Rattle.tp_agenda.specs.Ready.{WaitsFor}
 use Rattle.tp_lanes.specs.Planes.{flag}
 
 abbrev pub no_link : Link

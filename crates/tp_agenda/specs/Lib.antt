@@ -1,5 +1,6 @@
 pub mod Agenda
 pub mod Board
+pub mod Counted
 pub mod Decides
 pub mod Held
 pub mod Index

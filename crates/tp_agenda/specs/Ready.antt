@@ -1,5 +1,5 @@
 -- Which items are ready.
-use Rattle.std.specs.Prelude.{◌≡◌, ℕ, ◌||◌, ◌&&◌, Bool, true, false, eqb, List}
+use Rattle.std.specs.Prelude.{◌≡◌, ◌⊎◌, ℕ, ◌||◌, ◌&&◌, Bool, true, false, eqb, List, Some, slice_get}
 use Rattle.std.specs.List.{Contains}
 use Rattle.tp_scene.specs.declared.answer.Cell.{Cell}
 use Rattle.tp_scene.specs.Scene.{Holder, Split, SplitProject, Closed, Opened, Running, Entries, none, leaf, node, second_lives}
@@ -8,7 +8,14 @@ use Rattle.tp_scene.specs.Pick.{Moment}
 use Rattle.tp_scene.specs.Cells.{IsDecided}
 use Rattle.tp_slots.specs.Plain.{What, bare, holds, gone}
 use Rattle.tp_step.specs.declared.answer.Wait.{Wait}
-use Rattle.tp_agenda.specs.Decides.{WaitsFor}
+
+-- the wait is for this cell
+abbrev pub WaitsFor : Wait → Cell → Type 0
+WaitsFor w c = (w.first ≡ c) ⊎ (w.other ≡ Some c)
+
+-- no place has the same as another
+abbrev pub NoneTwice : {A : Type 0} → List A → Type 0
+NoneTwice {A} xs = (i j : ℕ) (x : A) → slice_get xs i ≡ Some x → slice_get xs j ≡ Some x → i ≡ j
 
 -- a holder that the region it holds may let go on
 abbrev pub holder_moves : Holder → Bool

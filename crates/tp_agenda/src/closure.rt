@@ -8,7 +8,8 @@ ghost use Rattle.tp_step.specs.Answers.{moment_of};
 ghost use Rattle.tp_step.specs.Closes.{ClosureAnswers, Counts, Made, is_pick};
 ghost use Rattle.tp_step.specs.EveryRest.{ClosureCommutes};
 ghost use Rattle.tp_step.specs.Room.{ClosureKeepsRoom};
-ghost use Rattle.tp_agenda.specs.Agenda.{ClosesWith, CountsTries, FollowsAgenda, IsThrifty, WaitedForUndecided};
+ghost use Rattle.tp_agenda.specs.Agenda.{FollowsAgenda, IsThrifty};
+ghost use Rattle.tp_agenda.specs.Counted.{ClosesWith, CountsTries, WaitedForUndecided};
 ghost use Rattle.tp_agenda.specs.Board.{FitsBoard, HasFlags, TakenAreKnown};
 ghost use Rattle.tp_agenda.specs.Held.{IsHeld, nothing_due};
 

@@ -129,7 +129,8 @@ fn put_link<K: Hash + Drop>(
 fn file_whole(index: &mut Index, path: &Path, place: u64) -> Result<(), NoMemory>
     requires chained { IsChained index.old }
     ensures ok { OnOk result
-        (HasFiled index.old index.new place (equal_paths (outer_path path.now 0)) (λ region. false)) }
+        (HasFiled index.old index.new place (equal_paths (outer_path path.now 0))
+        (λ region. false)) }
     ensures links { OnOk result (IsPushed index.old index.new place) }
 {
     put_link(&mut index.wholes, &mut index.links, path.var, place)?;
@@ -141,7 +142,8 @@ fn file_item(index: &mut Index, path: &Path, place: u64) -> Result<(), NoMemory>
     requires chained { IsChained index.old }
     requires item { 0 < length path.now.at }
     ensures ok { OnOk result
-        (HasFiled index.old index.new place (equal_paths (outer_path path.now 1)) (λ region. false)) }
+        (HasFiled index.old index.new place (equal_paths (outer_path path.now 1))
+        (λ region. false)) }
     ensures links { OnOk result (IsPushed index.old index.new place) }
 {
     put_link(&mut index.items, &mut index.links, first_item(path), place)?;

@@ -21,7 +21,8 @@ use Rattle.tp_run.specs.Standing.{Standing, RunPlace, open_at, AnswersState, Sta
 use Rattle.tp_run.specs.PicksOfRun.{beginning_of}
 use Rattle.tp_run.specs.History.{RunEndsWith, end_store}
 use Rattle.tp_run.specs.Runs.{store_of}
-use Rattle.tp_run.specs.Tried.{recorded_tries, TriesBeyond, CountsStateTries}
+use Rattle.tp_run.specs.Tried.{recorded_tries, TriesBeyond}
+use Rattle.tp_run.specs.StateTries.{CountsStateTries}
 use Rattle.tp_run.proofs.HistoryLemmas.{lead_more, count_more, index_first}
 use Rattle.tp_words.specs.declared.mode.Mode.TheVariants.{Run}
 use Rattle.tp_call.specs.declared.drill.Totals.{Totals}
@@ -36,7 +37,8 @@ use Rattle.tp_call.specs.Source.{IsRefusedAt}
 use Rattle.tp_call.specs.Answer.{refused_status, IsEndOfRun}
 use Rattle.tp_call.specs.Parts.{IsReadRefusal, ClosesText}
 use Rattle.tp_call.specs.Progress.{is_settled, line_of_end}
-use Rattle.tp_call.specs.Work.{all_tries, RunTried, StateTried}
+use Rattle.tp_call.specs.Work.{all_tries, RunTried}
+use Rattle.tp_call.specs.Worked.{StateTried}
 use Rattle.tp_call.specs.Drill.{AsksForDrill, IsAskedToDrill, reductions_in, drill_line, DrillFinished, DrillStopped, DrillRefused, DrillAnswers}
 use Rattle.tp_call.specs.Drilled.{CountsState, StateDrilled, AreTotalsOf, HasDrilled, RunDrilled, finished_length, ClosesAtLength, ClosesDrill}
 use Rattle.tp_call.proofs.TurnLemmas.{goes_with, last_is_given, is_last, ends_run}

@@ -3,7 +3,7 @@ use Rattle.std.proofs.Common.{ℕ, List, Option, subst}
 use Rattle.tp_io.specs.Held.{Held}
 use Rattle.tp_meaning.specs.Interval.{kinds_of}
 use Rattle.tp_verdict.specs.Verdict.{Verdict}
-use Rattle.tp_verdict.specs.Sound.{VerdictIsRight}
+use Rattle.tp_verdict.specs.VerdictLaws.{VerdictIsRight}
 use Rattle.tp_monitor.specs.Told.{told_by_trace}
 use Rattle.tp_monitor.proofs.TraceRight.{trace_verdicts_are_right, undecided_by_trace_limits}
 use Rattle.tp_call.specs.EndLine.{verdict_line}

@@ -1,8 +1,8 @@
 -- What one answer of a run makes, and what is written of it.
 use Rattle.std.proofs.Common.{◌≡◌, ℕ, zero, suc, true, List, Option, Some, None, IfSome, Err, refl, ap, sym, ◌∙◌, subst}
 use Rattle.tp_io.specs.Devices.{Writes}
-use Rattle.tp_io.specs.declared.devices.WriteRefusal.{WriteRefusal}
-use Rattle.tp_io.specs.declared.devices.WriteRefusal.TheVariants as sink
+use Rattle.tp_io.specs.declared.refusal.WriteRefusal.{WriteRefusal}
+use Rattle.tp_io.specs.declared.refusal.WriteRefusal.TheVariants as sink
 use Rattle.tp_kernel.specs.declared.fault.LimitKind.TheVariants as limit
 use Rattle.tp_show.specs.declared.turn.Picture.{Picture}
 use Rattle.tp_show.specs.declared.turn.Turn.{Turn}

@@ -27,7 +27,8 @@ use Rattle.tp_run.specs.PicksOfRun.{limit_picks, beginning_of}
 use Rattle.tp_run.specs.History.{RunEndsWith, end_store}
 use Rattle.tp_run.specs.Runs.{program_of, store_of}
 use Rattle.tp_run.specs.Standing.{RunPlace, Standing, open_at, AnswersState, StateBecomes, state_after}
-use Rattle.tp_run.specs.Tried.{recorded_tries, ClosesThriftily, IsTallyOf, CountsStateTries, BeginsNoState}
+use Rattle.tp_run.specs.Tried.{recorded_tries, ClosesThriftily}
+use Rattle.tp_run.specs.StateTries.{IsTallyOf, CountsStateTries, BeginsNoState}
 use Rattle.tp_run.proofs.HistoryLemmas.{goes_there, lead_more, index_there, index_next, index_first}
 use Rattle.tp_call.specs.declared.run.Ended.{Ended}
 use Rattle.tp_call.specs.declared.run.Task.{Task}
@@ -39,7 +40,8 @@ use Rattle.tp_call.specs.Answer.{IsEndOfRun, run_text}
 use Rattle.tp_call.specs.Parts.{ClosesText}
 use Rattle.tp_call.specs.Printed.{written_state, lead_text, ended_text, next_moment}
 use Rattle.tp_call.specs.Progress.{is_settled, printed_lines, ClosesRun}
-use Rattle.tp_call.specs.Work.{AreTalliesOf, AreTalliesTo, AreTalliesOfRun, all_tries, HasTried, RunTried, WorksThriftily, StateTried, StateWorked, HasWorked, WorkEnded}
+use Rattle.tp_call.specs.Work.{AreTalliesOf, AreTalliesTo, AreTalliesOfRun, all_tries, RunTried, WorksThriftily}
+use Rattle.tp_call.specs.Worked.{HasTried, StateTried, StateWorked, HasWorked, WorkEnded}
 use Rattle.tp_call.specs.Written.{Wrote}
 use Rattle.tp_call.proofs.TurnLemmas.{last_is_given, is_last, goes_with}
 use Rattle.tp_call.proofs.RunLemmas.{Wrote-both, HasWritten-none, written_more, no_next}

@@ -14,7 +14,8 @@ use Rattle.tp_call.specs.declared.drill.Totals.{Totals}
 use Rattle.tp_call.specs.declared.drill.Drilled.{Drilled}
 use Rattle.tp_call.specs.Run.{last_answer}
 use Rattle.tp_call.specs.Progress.{is_settled, ClosesRun}
-use Rattle.tp_call.specs.Work.{StateTried, HasTried, RunTried}
+use Rattle.tp_call.specs.Work.{RunTried}
+use Rattle.tp_call.specs.Worked.{StateTried, HasTried}
 use Rattle.tp_call.specs.Parts.{ClosesText}
 use Rattle.tp_call.specs.Drill.{reductions_in, drill_line}
 use Rattle.tp_call.specs.declared.status.Status.{Status}

@@ -25,3 +25,5 @@ pub mod EachRun
 pub mod InOrder
 pub mod Work
 pub mod StatusesTold
+pub mod Worked
+pub mod Code

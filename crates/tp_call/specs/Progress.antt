@@ -1,7 +1,7 @@
 -- What a run has written, state by state.
 use Rattle.std.specs.Prelude.{◌≡◌, ◌⊎◌, ℕ, Bool, true, false, IsTrue, if◌then◌else◌, List, [], length, take, All, Option, Some, Result, Ok, Err, IfOk}
-use Rattle.tp_io.specs.declared.devices.WriteRefusal.{WriteRefusal}
-use Rattle.tp_io.specs.declared.devices.WriteRefusal.TheVariants as sink
+use Rattle.tp_io.specs.declared.refusal.WriteRefusal.{WriteRefusal}
+use Rattle.tp_io.specs.declared.refusal.WriteRefusal.TheVariants as sink
 use Rattle.tp_meaning.specs.Interval.{ProgramTree}
 use Rattle.tp_scene.specs.Pick.{Moment}
 use Rattle.tp_show.specs.declared.turn.Picture.{Picture}

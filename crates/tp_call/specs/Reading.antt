@@ -2,8 +2,8 @@
 use Rattle.std.specs.Prelude.{◌≡◌, ◌⊎◌, ◌+◌, ℕ, List, Option, None, Some, Result, Ok, Err}
 use Rattle.tp_io.specs.Held.{FileRequest, file_request}
 use Rattle.tp_io.specs.Devices.{and_one_more}
-use Rattle.tp_io.specs.declared.devices.FileRefusal.{FileRefusal}
-use Rattle.tp_io.specs.declared.devices.FileRefusal.TheVariants as file
+use Rattle.tp_io.specs.declared.refusal.FileRefusal.{FileRefusal}
+use Rattle.tp_io.specs.declared.refusal.FileRefusal.TheVariants as file
 use Rattle.tp_call.specs.declared.source.ReadRefusal.{ReadRefusal}
 use Rattle.tp_call.specs.declared.source.ReadRefusal.TheVariants.{TooLong, Failed, NoMemory}
 use Rattle.tp_call.specs.declared.status.Status.{Status}

@@ -18,7 +18,7 @@ ghost use Rattle.tp_call.specs.Run.{limit_end, last_answer as last_by, status_of
 ghost use Rattle.tp_call.specs.Progress.{TurnMade, ProgramMade, printed_lines, is_settled as is_settled_by};
 ghost use Rattle.tp_call.specs.Places.{StandsOpen, CarriesDue};
 ghost use Rattle.tp_call.specs.InOrder.{NamesInOrder, LastInOrder};
-ghost use Rattle.tp_call.specs.Work.{StateWorked, WorkEnded};
+ghost use Rattle.tp_call.specs.Worked.{StateWorked, WorkEnded};
 ghost use Rattle.tp_call.specs.Printed.{written_state, next_moment};
 
 use crate::status::Status;

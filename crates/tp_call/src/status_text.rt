@@ -1,6 +1,7 @@
 // What is written of a status, and its code.
 ghost use Rattle.std.specs.Prelude.{◌≡◌};
-ghost use Rattle.tp_call.specs.EndLine.{code_of, which_text, kind_text};
+ghost use Rattle.tp_call.specs.EndLine.{which_text, kind_text};
+ghost use Rattle.tp_call.specs.Code.{code_of};
 
 use crate::status::{SourceKind, Status, Which};
 

@@ -4,10 +4,10 @@ use Rattle.std.proofs.lemmas.List.{append-nil, length-append, take_all}
 use Rattle.std.proofs.Math.Seq.{take-append_seam}
 use Rattle.std.specs.Io.KnownBytes.{Consumes, IsAtEnd}
 use Rattle.tp_io.specs.Devices.{and_one_more}
-use Rattle.tp_io.specs.declared.devices.FileRefusal.{FileRefusal}
-use Rattle.tp_io.specs.declared.devices.WriteRefusal.{WriteRefusal}
-use Rattle.tp_io.specs.declared.devices.FileRefusal.TheVariants as file
-use Rattle.tp_io.specs.declared.devices.WriteRefusal.TheVariants as sink
+use Rattle.tp_io.specs.declared.refusal.FileRefusal.{FileRefusal}
+use Rattle.tp_io.specs.declared.refusal.WriteRefusal.{WriteRefusal}
+use Rattle.tp_io.specs.declared.refusal.FileRefusal.TheVariants as file
+use Rattle.tp_io.specs.declared.refusal.WriteRefusal.TheVariants as sink
 use Rattle.tp_io.specs.declared.system.CallFault.{CallFault}
 use Rattle.tp_io.specs.declared.system.CallFault.TheVariants as fault
 use Rattle.tp_io.specs.SystemCalls.{FileCall, WriteCall, open_call, fault_in, read_call, write_call, and_these, most_calls, HaveRead, gave, OneMoreRead, ReadsOpen, HaveWritten, OneMoreWrite, WritesPiece, OneRead, OneWrite}

@@ -4,10 +4,10 @@ use Rattle.std.specs.FinMap.{get}
 use Rattle.tp_io.specs.Held.{file_request}
 use Rattle.tp_io.specs.Memory.{held_of, ShelfView, PageView, SureShelfView}
 use Rattle.tp_io.specs.declared.memory.Failure.{Failure}
-use Rattle.tp_io.specs.declared.devices.FileRefusal.{FileRefusal}
-use Rattle.tp_io.specs.declared.devices.WriteRefusal.{WriteRefusal}
-use Rattle.tp_io.specs.declared.devices.FileRefusal.TheVariants as file
-use Rattle.tp_io.specs.declared.devices.WriteRefusal.TheVariants as sink
+use Rattle.tp_io.specs.declared.refusal.FileRefusal.{FileRefusal}
+use Rattle.tp_io.specs.declared.refusal.WriteRefusal.{WriteRefusal}
+use Rattle.tp_io.specs.declared.refusal.FileRefusal.TheVariants as file
+use Rattle.tp_io.specs.declared.refusal.WriteRefusal.TheVariants as sink
 
 -- The next read of this name fails: its number, counted from 1, is one of those that are to fail,
 -- or the name isn't there. A read that wanted memory has no number.

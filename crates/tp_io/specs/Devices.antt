@@ -2,10 +2,10 @@
 use Rattle.std.specs.Prelude.{◌≡◌, ◌≤◌, ◌+◌, ◌-◌, ◌^◌, ℕ, List, [], ◌∷◌, ◌++◌, length, take, Option, Some, Result, Ok, Err, IfSome}
 use Rattle.std.specs.Option.{option_map}
 use Rattle.std.specs.Io.KnownBytes.{Appends}
-use Rattle.tp_io.specs.declared.devices.FileRefusal.{FileRefusal}
-use Rattle.tp_io.specs.declared.devices.WriteRefusal.{WriteRefusal}
-use Rattle.tp_io.specs.declared.devices.FileRefusal.TheVariants as file
-use Rattle.tp_io.specs.declared.devices.WriteRefusal.TheVariants as sink
+use Rattle.tp_io.specs.declared.refusal.FileRefusal.{FileRefusal}
+use Rattle.tp_io.specs.declared.refusal.WriteRefusal.{WriteRefusal}
+use Rattle.tp_io.specs.declared.refusal.FileRefusal.TheVariants as file
+use Rattle.tp_io.specs.declared.refusal.WriteRefusal.TheVariants as sink
 use Rattle.tp_io.specs.Held.{next_count, Held, bytes_of, FileRequest, file_request}
 
 -- the greatest number of the real files' count and of the real sink's, which have 64 bits

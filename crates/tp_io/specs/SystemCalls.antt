@@ -6,10 +6,10 @@ use Rattle.std.specs.declared.io.ErrorKind.{ErrorKind}
 use Rattle.std.specs.declared.io.ErrorKind.TheVariants as kind
 use Rattle.tp_io.specs.declared.system.CallFault.{CallFault}
 use Rattle.tp_io.specs.declared.system.CallFault.TheVariants as fault
-use Rattle.tp_io.specs.declared.devices.FileRefusal.{FileRefusal}
-use Rattle.tp_io.specs.declared.devices.WriteRefusal.{WriteRefusal}
-use Rattle.tp_io.specs.declared.devices.FileRefusal.TheVariants as file
-use Rattle.tp_io.specs.declared.devices.WriteRefusal.TheVariants as sink
+use Rattle.tp_io.specs.declared.refusal.FileRefusal.{FileRefusal}
+use Rattle.tp_io.specs.declared.refusal.WriteRefusal.{WriteRefusal}
+use Rattle.tp_io.specs.declared.refusal.FileRefusal.TheVariants as file
+use Rattle.tp_io.specs.declared.refusal.WriteRefusal.TheVariants as sink
 
 -- why a call did nothing, if it did
 abbrev pub fault_in : {T : Type 0} → Result T CallFault → Option CallFault

@@ -2,65 +2,10 @@
 ghost use Rattle.std.specs.Prelude.{◌≡◌, ◌≤◌, ℕ, List, Option, IfOk, IsErrOf};
 ghost use Rattle.tp_io.specs.Devices.{Reads, Writes, asked_after};
 ghost use Rattle.tp_io.specs.Held.{Held, Rose, FileRequest};
-ghost use Rattle.tp_io.specs.declared.devices.FileRefusal.TheVariants as file;
-ghost use Rattle.tp_io.specs.declared.devices.WriteRefusal.TheVariants as sink;
 
-use std::alloc::{AllocError, AllocFailed, Global};
-use tp_value::{Bytes, NoMemory};
-
-/// Why a read gave no bytes.
-#[derive(Clone, Copy, Debug, PartialEq, Eq)]
-pub enum FileRefusal {
-    Failed,
-    NoMemory,
-}
-
-impl From<NoMemory> for FileRefusal {
-    ghost from_gives = { λ _ e. e ≡ file.NoMemory };
-
-    fn from(_: NoMemory) -> Self {
-        FileRefusal::NoMemory
-    }
-}
-
-impl From<AllocError> for FileRefusal {
-    ghost from_gives = { λ _ e. e ≡ file.NoMemory };
-
-    fn from(_: AllocError) -> Self {
-        FileRefusal::NoMemory
-    }
-}
-
-impl<T: Drop> From<AllocFailed<T>> for FileRefusal {
-    ghost from_gives = { λ _ e. e ≡ file.NoMemory };
-
-    fn from(_: AllocFailed<T>) -> Self {
-        FileRefusal::NoMemory
-    }
-}
-
-/// Why a piece was not written.
-#[derive(Clone, Copy, Debug, PartialEq, Eq)]
-pub enum WriteRefusal {
-    Failed,
-    NoMemory,
-}
-
-impl From<NoMemory> for WriteRefusal {
-    ghost from_gives = { λ _ e. e ≡ sink.NoMemory };
-
-    fn from(_: NoMemory) -> Self {
-        WriteRefusal::NoMemory
-    }
-}
-
-impl<T: Drop> From<AllocFailed<T>> for WriteRefusal {
-    ghost from_gives = { λ _ e. e ≡ sink.NoMemory };
-
-    fn from(_: AllocFailed<T>) -> Self {
-        WriteRefusal::NoMemory
-    }
-}
+use crate::refusal::{FileRefusal, WriteRefusal};
+use std::alloc::Global;
+use tp_value::Bytes;
 
 /// Files that are read by name.
 pub trait Files {

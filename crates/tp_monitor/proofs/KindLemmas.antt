@@ -12,7 +12,7 @@ use Rattle.tp_scope.specs.Scope.{Names}
 use Rattle.tp_show.specs.declared.named_fact.NamedFact.{NamedFact}
 use Rattle.tp_show.proofs.TraceNumbers.{variable_is_of}
 use Rattle.tp_verdict.specs.Trace.{FactsOfStates}
-use Rattle.tp_verdict.specs.Sound.{AreOfKinds, StatesAreOfKinds}
+use Rattle.tp_verdict.specs.VerdictLaws.{AreOfKinds, StatesAreOfKinds}
 use Rattle.tp_verdict.proofs.Right.{lasting_of, of_kind, state_of_kind}
 use Rattle.tp_monitor.specs.Told.{fact_of, facts_among, told_by_trace}
 use Rattle.tp_monitor.specs.Standing.{StandFor}

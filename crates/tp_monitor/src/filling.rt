@@ -6,7 +6,7 @@ ghost use Rattle.tp_store.specs.Known.{addition, adds, AreOfVariables, IsVariabl
 ghost use Rattle.tp_store.specs.Answers.{IsRefusal};
 ghost use Rattle.tp_store.specs.Changes.{AddsFacts, IsSoundStore};
 ghost use Rattle.tp_verdict.specs.Trace.{clash_somewhere};
-ghost use Rattle.tp_verdict.specs.Sound.{AreOfKinds, StatesAreOfKinds};
+ghost use Rattle.tp_verdict.specs.VerdictLaws.{AreOfKinds, StatesAreOfKinds};
 ghost use Rattle.tp_monitor.specs.Standing.{StandFor, EachStandsFor};
 
 use std::alloc::Global;

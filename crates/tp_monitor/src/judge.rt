@@ -6,7 +6,7 @@ ghost use Rattle.tp_store.specs.Known.{lasting_facts};
 ghost use Rattle.tp_verdict.specs.Code.{verdict_of};
 ghost use Rattle.tp_verdict.specs.Read.{wide_tree};
 ghost use Rattle.tp_verdict.specs.Trace.{whole_verdict};
-ghost use Rattle.tp_verdict.specs.Sound.{StatesAreOfKinds};
+ghost use Rattle.tp_verdict.specs.VerdictLaws.{StatesAreOfKinds};
 ghost use Rattle.tp_monitor.specs.declared.judge.MonitorRefusal.TheVariants.{NoMemory as refused_memory};
 ghost use Rattle.tp_monitor.specs.Seen.{wide_seen};
 ghost use Rattle.tp_monitor.specs.Told.{state_limit, verdict_by};

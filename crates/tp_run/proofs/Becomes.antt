@@ -42,7 +42,7 @@ use Rattle.tp_show.specs.declared.turn.Turn.TheVariants.{Went, Finished, Contrad
 use Rattle.tp_run.specs.States.{Plan, globals_of, setting, IsPictureOf, StateGoesOn, StateEnds, ReachesLimit, limit_moment}
 use Rattle.tp_run.specs.Standing.{Standing, open_at, answered, spent, state_after, StateBecomes, AnswersState}
 use Rattle.tp_run.specs.PicksOfRun.{limit_picks}
-use Rattle.tp_run.specs.Tried.{picks_of_state, end_of_state, IsEndingFor}
+use Rattle.tp_run.specs.StateTries.{picks_of_state, end_of_state, IsEndingFor}
 use Rattle.tp_run.specs.Meaning.{StandingFor, StandsForItsProgram, AnswerMeans}
 use Rattle.tp_run.specs.History.{AgreesWithFacts}
 use Rattle.tp_run.specs.Runs.{stands_at, standing_of, standing_place, store_of, StandIsKept, StandIsOf, TurnIsOf, MadeIsOf, StandsSound, StandsOrderly, IsSettingsOf, IsRunOf, HasPicture, NextOf, RestTurns}

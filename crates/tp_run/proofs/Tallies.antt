@@ -6,7 +6,8 @@ use Rattle.tp_scene.specs.Pick.{Setting, Moment}
 use Rattle.tp_step.specs.declared.answer.Tally.{Tally}
 use Rattle.tp_step.specs.declared.ending.Ending.{Ending}
 use Rattle.tp_step.specs.declared.ending.Ending.TheVariants as ending
-use Rattle.tp_agenda.specs.Agenda.{FollowsAgenda, IsThrifty, CountsTries, last_tries}
+use Rattle.tp_agenda.specs.Agenda.{FollowsAgenda, IsThrifty}
+use Rattle.tp_agenda.specs.Counted.{CountsTries, last_tries}
 use Rattle.tp_run.specs.declared.run.Made.{Made}
 use Rattle.tp_run.specs.declared.run.Settings.{Settings}
 use Rattle.tp_show.specs.declared.turn.Picture.{Picture}
@@ -16,7 +17,8 @@ use Rattle.tp_run.specs.declared.run.Run.{Run}
 use Rattle.tp_run.specs.States.{Plan, setting}
 use Rattle.tp_run.specs.Standing.{Standing, open_at}
 use Rattle.tp_run.specs.Runs.{IsSettingsOf, IsRunOf, standing_of}
-use Rattle.tp_run.specs.Tried.{waits_in, IsEndingFor, IsTallyOf, TriesBeyond, CountsStateTries, BeginsNoState}
+use Rattle.tp_run.specs.Tried.{waits_in, TriesBeyond}
+use Rattle.tp_run.specs.StateTries.{IsEndingFor, IsTallyOf, CountsStateTries, BeginsNoState}
 use Rattle.tp_run.proofs.Becomes.{BecomesBy, same_setting}
 
 -- the tally of the closure by whose picks the state becomes so

@@ -10,3 +10,4 @@ pub mod Standing
 pub mod Tried
 pub mod Advances
 pub mod SettledStates
+pub mod StateTries

@@ -1,6 +1,6 @@
 // What a run records of the state that it began last.
 ghost use Rattle.std.specs.Prelude.{◌≡◌};
-ghost use Rattle.tp_run.specs.Tried.{tally_of, HasRecordedNothing};
+ghost use Rattle.tp_run.specs.StateTries.{tally_of, HasRecordedNothing};
 
 use crate::run::Run;
 use std::alloc::Global;

@@ -244,6 +244,10 @@ fn whole_lists_are_kept(rt: HostRuntime) -> Result<(), Fail> {
     holds(&rt, store.kept_value(&here).is_none(), "the next state");
     put(alloc, &mut store, &here, Length(1))?;
     put(alloc, &mut store, &item, Num(6))?;
-    holds(&rt, store.kept_value(&here).is_none(), "a list item by item");
+    holds(
+        &rt,
+        store.kept_value(&here).is_none(),
+        "a list item by item",
+    );
     Ok(())
 }

@@ -10,7 +10,7 @@ use Rattle.tp_eval.specs.Outcome.{Outcome}
 use Rattle.tp_verdict.specs.Wide.{WideTree, Somehow, WideHolds}
 use Rattle.tp_verdict.specs.Verdict.{Verdict, yes, no, undecided}
 use Rattle.tp_verdict.specs.Table.{verdict}
-use Rattle.tp_verdict.specs.Sound.{StaysOpen}
+use Rattle.tp_verdict.specs.VerdictLaws.{StaysOpen}
 use Rattle.tp_verdict.specs.Logic.{WideFormulasAreDecided}
 use Rattle.tp_verdict.proofs.Judged.{Judged, OutcomeSays}
 use Rattle.tp_verdict.proofs.Sound.{sound}

@@ -9,7 +9,7 @@ use Rattle.tp_store.specs.Known.{clashes_with_some, lasting_facts}
 use Rattle.tp_store.proofs.Members.{In, in_append, in_left, in_right, filter_in, meets_none, none_meets, excludes-own}
 use Rattle.tp_store.proofs.Paths.{same_shape-decides, clash-sym}
 use Rattle.tp_verdict.specs.Trace.{FactsOfStates, known_with, clash_somewhere, is_torn}
-use Rattle.tp_verdict.specs.Sound.{NoneClash, TornByLasting}
+use Rattle.tp_verdict.specs.VerdictLaws.{NoneClash, TornByLasting}
 use Rattle.tp_verdict.proofs.Right.{lasting_of}
 
 -- a fact doesn't clash with itself

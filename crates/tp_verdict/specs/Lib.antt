@@ -12,3 +12,4 @@ pub mod Stored
 pub mod Ruled
 pub mod Read
 pub mod Found
+pub mod VerdictLaws

@@ -1,5 +1,5 @@
 // What verdicts say.
-ghost use Rattle.tp_verdict.specs.Sound.{VerdictsAreRight, UndecidedWhereOpen, UndecidedByLimits, TornByLasting};
+ghost use Rattle.tp_verdict.specs.VerdictLaws.{VerdictsAreRight, UndecidedWhereOpen, UndecidedByLimits, TornByLasting};
 
 /// What the verdict on a whole run says.
 pub fn verdicts_are_right()

@@ -13,9 +13,11 @@ use Rattle.clap.specs.Faults.{word_fault, turn_fault, step_fault, settle_fault, 
 use Rattle.tp_words.specs.App.{the_app}
 use Rattle.tp_words.specs.declared.mode.Mode.{Mode}
 use Rattle.tp_words.specs.declared.mode.Mode.TheVariants.{Run, Print, Convert, Check, Drill}
-use Rattle.tp_words.specs.Mode.{mode_text, needs_other, has_other, IsSubjectOf}
+use Rattle.tp_words.specs.Mode.{mode_text, needs_other, has_other}
+use Rattle.tp_words.specs.Subject.{IsSubjectOf}
 use Rattle.tp_words.specs.Size.{size_spelled}
-use Rattle.tp_words.specs.Words.{Wanted, wanted_without, wanted_in, wanted_of_texts, wanted_of, usual_wanted}
+use Rattle.tp_words.specs.Words.{Wanted, wanted_without, wanted_in, wanted_of_texts, wanted_of}
+use Rattle.tp_words.specs.Usual.{usual_wanted}
 
 -- what a mode that is named asks for with the word after it
 abbrev wanted_with : List ℕ → Mode → Option Wanted

@@ -6,7 +6,8 @@ use Rattle.std.specs.Str.{bytes_eq}
 use Rattle.std.specs.Str.Parse.{IsNumeral, digits_value, without_leading_plus}
 use Rattle.tp_words.specs.declared.mode.Mode.{Mode}
 use Rattle.tp_words.specs.declared.mode.Mode.TheVariants.{Run, Print, Convert, Check, Drill}
-use Rattle.tp_words.specs.Mode.{mode_text, mode_named, HasSize}
+use Rattle.tp_words.specs.Mode.{mode_text, mode_named}
+use Rattle.tp_words.specs.Subject.{HasSize}
 use Rattle.tp_words.specs.Numeral.{is_numeral}
 use Rattle.tp_words.specs.Size.{size_within, size_spelled, greatest_size, size_digits}
 use Rattle.tp_words.proofs.LimitLemmas.{past_machine}

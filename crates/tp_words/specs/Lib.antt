@@ -8,3 +8,5 @@ pub mod Beside
 pub mod Words
 pub mod Command
 pub mod Laws
+pub mod Usual
+pub mod Subject

@@ -35,15 +35,3 @@ mode_named name subject =
     else (if bytes_eq name (mode_text Check) then Some Check
     else (if bytes_eq name (codes "drill") then option_map Drill (size_spelled subject)
     else None))))
-
--- the size of a drill is one that words can ask for
-abbrev pub HasSize : Mode → Type 0
-HasSize mode = (size : ℕ) → mode ≡ Drill size → IsInRange 1 greatest_size size
-
--- the word after the mode's name is the name of a file, or of a drill it spells the size
-abbrev pub IsSubjectOf : Mode → List ℕ → Type 0
-IsSubjectOf Run text = Unit {0}
-IsSubjectOf Print text = Unit {0}
-IsSubjectOf Convert text = Unit {0}
-IsSubjectOf Check text = Unit {0}
-IsSubjectOf (Drill size) text = size_spelled text ≡ Some size

@@ -72,17 +72,3 @@ wanted_of_texts texts = wanted_without (fault_of the_app texts) (matches_of the_
 -- accepted words, and what they mean: each word is UTF-8, and the command line takes them
 abbrev pub wanted_of : List (List ℕ) → Option Wanted
 wanted_of words = if list_all is_utf8 words then wanted_of_texts words else None
-
--- this mode with this file and nothing else said
-abbrev pub usual_wanted : Mode → List ℕ → Wanted
-usual_wanted mode file =
-    record {
-      mode = mode;
-      file = file;
-      inputs = None;
-      other = None;
-      states = usual_states;
-      reductions = usual_reductions;
-      order = First;
-      beside = Nothing;
-    }

@@ -8,6 +8,7 @@ mod command;
 mod laws;
 mod limit;
 mod mode;
+mod naming;
 mod numeral;
 mod order;
 mod read;

@@ -7,7 +7,8 @@ ghost use Rattle.clap.specs.Words.{first_of, found_of, kind_of, rows_of};
 ghost use Rattle.clap.specs.declared.error.kind.ErrorKind.TheVariants.{OutOfMemory};
 ghost use Rattle.tp_words.specs.Command.{wanted_by};
 ghost use Rattle.tp_words.specs.Limit.{greatest_limit, limit_set};
-ghost use Rattle.tp_words.specs.Mode.{has_other, HasSize};
+ghost use Rattle.tp_words.specs.Mode.{has_other};
+ghost use Rattle.tp_words.specs.Subject.{HasSize};
 ghost use Rattle.tp_words.specs.Words.{is_text, wanted_in, wanted_of_texts, wanted_of};
 ghost use Rattle.tp_words.specs.declared.command.WordsRefusal.TheVariants as refusal;
 
@@ -15,7 +16,7 @@ use crate::app::the_app;
 use crate::beside::beside_given;
 use crate::command::{Command, WordsRefusal};
 use crate::limit::{USUAL_REDUCTIONS, USUAL_STATES, limit_set};
-use crate::mode::{has_other, mode_named};
+use crate::naming::{has_other, mode_named};
 use crate::order::order_set;
 use clap::error::ErrorKind;
 use clap::{ArgMatches, Error};

@@ -1,5 +1,5 @@
 use Rattle.tp_run.specs.Runs.{order_of, standing_place}
-use Rattle.tp_run.specs.Tried.{tally_of}
+use Rattle.tp_run.specs.StateTries.{tally_of}
 use Rattle.tp_call.proofs.DrillLemmas.{state_drilled}
 use Rattle.tp_call.proofs.WorkLemmas.{state_tried}
 use Rattle.tp_call.proofs.drill.make_counted.Goals as goal

@@ -1,7 +1,7 @@
 use Rattle.std.proofs.Common.{refl}
 use Rattle.std.proofs.lemmas.Result.{err_from_is_err_and}
 use Rattle.tp_run.specs.Runs.{order_of, standing_place}
-use Rattle.tp_run.specs.Tried.{tally_of}
+use Rattle.tp_run.specs.StateTries.{tally_of}
 use Rattle.tp_run.proofs.Becomes.{stands_sound}
 use Rattle.tp_call.proofs.TurnLemmas.{answer_made, write_stopped_so, settled_parts, settled_carries}
 use Rattle.tp_call.proofs.OrderLemmas.{names_last}

@@ -1,7 +1,7 @@
 use Rattle.std.proofs.Common.{◌≡◌, ◌≤◌, ◌-◌}
 use Rattle.tp_run.specs.Runs.{next_state_of, order_of, standing_place, IsRunOf}
 use Rattle.tp_call.specs.Task.{plan_of}
-use Rattle.tp_call.specs.Work.{HasWorked}
+use Rattle.tp_call.specs.Worked.{HasWorked}
 use Rattle.tp_call.proofs.run.run_task.Given as goal
 
 abbrev pub invariant-loop-picture : goal.invariant-loop-picture

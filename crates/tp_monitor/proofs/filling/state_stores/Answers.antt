@@ -5,7 +5,7 @@ use Rattle.std.proofs.lemmas.Slice.Zip.{all_zipped_more}
 use Rattle.tp_value.specs.declared.path.Fact.{Fact}
 use Rattle.tp_meaning.specs.Interval.{kinds_of}
 use Rattle.tp_store.specs.Known.{Contents}
-use Rattle.tp_verdict.specs.Sound.{AreOfKinds}
+use Rattle.tp_verdict.specs.VerdictLaws.{AreOfKinds}
 use Rattle.tp_verdict.proofs.Right.{state_of_kind}
 use Rattle.tp_monitor.specs.Standing.{StandFor, EachStandsFor}
 use Rattle.tp_monitor.proofs.filling.state_stores.Goals as goal

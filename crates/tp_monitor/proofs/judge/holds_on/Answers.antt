@@ -1,7 +1,7 @@
 use Rattle.std.proofs.Common.{sym, subst, ◌∙◌}
 use Rattle.tp_meaning.specs.Interval.{kinds_of}
 use Rattle.tp_verdict.specs.Trace.{FactsOfStates}
-use Rattle.tp_verdict.specs.Sound.{StatesAreOfKinds}
+use Rattle.tp_verdict.specs.VerdictLaws.{StatesAreOfKinds}
 use Rattle.tp_monitor.proofs.KindLemmas.{told_of_kinds}
 use Rattle.tp_monitor.proofs.judge.holds_on.Goals as goal
 

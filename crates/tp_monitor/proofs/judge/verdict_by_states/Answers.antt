@@ -4,7 +4,7 @@ use Rattle.tp_value.specs.declared.path.Fact.{Fact}
 use Rattle.tp_meaning.specs.Interval.{kinds_of}
 use Rattle.tp_verdict.specs.Read.{wide_tree}
 use Rattle.tp_verdict.specs.Trace.{clash_somewhere}
-use Rattle.tp_verdict.specs.Sound.{AreOfKinds}
+use Rattle.tp_verdict.specs.VerdictLaws.{AreOfKinds}
 use Rattle.tp_monitor.proofs.KindLemmas.{lasting_of_kinds}
 use Rattle.tp_monitor.proofs.JudgeLemmas.{torn_by_all}
 use Rattle.tp_monitor.proofs.judge.verdict_by_states.Goals as goal
