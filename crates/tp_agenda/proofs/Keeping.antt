@@ -9,10 +9,9 @@ use Rattle.tp_scene.specs.Cells.{IsDecided, AreUndecided}
 use Rattle.tp_step_laws.specs.LiveOnce.{WasLive}
 use Rattle.tp_step.specs.declared.answer.Wait.{Wait}
 use Rattle.tp_lanes.specs.Planes.{flag}
-use Rattle.tp_agenda.specs.Ready.{WaitsFor}
+use Rattle.tp_agenda.specs.Ready.{WaitsFor, NoneTwice}
 use Rattle.tp_agenda.specs.Wakes.{WakesOnly, AreOver}
 use Rattle.tp_agenda.specs.Held.{IsAmong, MayMove, nothing_due, IsHeld, StepLeaves}
-use Rattle.tp_agenda.specs.Ready.{NoneTwice}
 use Rattle.tp_slots.proofs.NumberSets.{flag_past, flag_within}
 use Rattle.tp_agenda.proofs.Places.{at_one, at_left, at_last, at_cases, flag_push}
 use Rattle.tp_agenda.proofs.Waking.{passing_cell, cell_passes}

@@ -18,8 +18,7 @@ use Rattle.tp_step_laws.proofs.Waiting.{waits_stay, rests_stay}
 use Rattle.tp_slots.specs.News.{new_items}
 use Rattle.tp_step.specs.declared.answer.Wait.{Wait}
 use Rattle.tp_lanes.specs.Planes.{flag}
-use Rattle.tp_agenda.specs.Ready.{WaitsFor}
-use Rattle.tp_agenda.specs.Ready.{may_move}
+use Rattle.tp_agenda.specs.Ready.{WaitsFor, may_move}
 use Rattle.tp_agenda.specs.Held.{MayMove, HasOpenWait}
 use Rattle.tp_agenda.specs.Leaves.{StepsLeaveOthers, StepsDecide, HeldComesToRest}
 use Rattle.tp_agenda.proofs.Keeping.{open_undecided}

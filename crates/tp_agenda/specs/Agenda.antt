@@ -1,23 +1,17 @@
 -- The tries of a closure by an agenda: each is of the ready item whose turn it is.
-use Rattle.std.specs.Prelude.{◌≡◌, ◌↔◌, ℕ, ◌+◌, ◌%◌, ◌≤◌, Bool, true, List, [], ◌∷◌, ◌++◌, length, slice_get, Some}
+use Rattle.std.specs.Prelude.{◌≡◌, ◌↔◌, ℕ, ◌+◌, ◌%◌, ◌≤◌, List, [], ◌∷◌, ◌++◌, length, slice_get, Some}
 use Rattle.std.specs.List.{Contains}
 use Rattle.std.specs.List.Sorted.{IsStrictlyIncreasing}
-use Rattle.tp_scene.specs.Scene.{has}
 use Rattle.tp_scene.specs.Step.{Reduction, waits, rests}
-use Rattle.tp_scene.specs.Pick.{Setting, Moment, Reduces, Leads, outcome_of}
-use Rattle.tp_scene.specs.Cells.{AreUndecided}
-use Rattle.tp_scene.specs.Laws.{IsSound}
+use Rattle.tp_scene.specs.Pick.{Setting, Moment, Reduces, outcome_of}
 use Rattle.tp_step.specs.declared.answer.Wait.{Wait}
 use Rattle.tp_step.specs.declared.order.Order.{Order}
 use Rattle.tp_step.specs.declared.order.Order.TheVariants.{First, Last, Seed}
 use Rattle.tp_step.specs.declared.ending.Ending.{Ending}
 use Rattle.tp_step.specs.declared.ending.Ending.TheVariants.{Rest, Clash, Missing, Over}
-use Rattle.tp_step.specs.Closes.{ClosureAnswers, EndsWithItem}
-use Rattle.tp_step.specs.EveryRest.{ClosureCommutes}
-use Rattle.tp_step.specs.Room.{ClosureKeepsRoom}
+use Rattle.tp_step.specs.Closes.{EndsWithItem}
 use Rattle.tp_step.specs.Seeds.{word_after, choice_of}
-use Rattle.tp_agenda.specs.Ready.{IsReady}
-use Rattle.tp_agenda.specs.Ready.{NoneTwice}
+use Rattle.tp_agenda.specs.Ready.{IsReady, NoneTwice}
 
 -- These are the ready items, by increasing number.
 pub record AreByNumber (ready : ℕ → Type 0) (members : List ℕ) : Type 0 where

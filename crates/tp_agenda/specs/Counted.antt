@@ -1,23 +1,18 @@
 -- How many tries a closure made, and all that it promises.
-use Rattle.std.specs.Prelude.{◌≡◌, ◌↔◌, ℕ, ◌+◌, ◌%◌, ◌≤◌, Bool, true, List, [], ◌∷◌, ◌++◌, length, slice_get, Some}
+use Rattle.std.specs.Prelude.{◌≡◌, ℕ, ◌+◌, Bool, true, List, ◌++◌, length}
 use Rattle.std.specs.List.{Contains}
-use Rattle.std.specs.List.Sorted.{IsStrictlyIncreasing}
 use Rattle.tp_scene.specs.Scene.{has}
-use Rattle.tp_scene.specs.Step.{Reduction, waits, rests}
-use Rattle.tp_scene.specs.Pick.{Setting, Moment, Reduces, Leads, outcome_of}
+use Rattle.tp_scene.specs.Step.{waits}
+use Rattle.tp_scene.specs.Pick.{Setting, Moment, Leads, outcome_of}
 use Rattle.tp_scene.specs.Cells.{AreUndecided}
 use Rattle.tp_scene.specs.Laws.{IsSound}
 use Rattle.tp_step.specs.declared.answer.Wait.{Wait}
 use Rattle.tp_step.specs.declared.order.Order.{Order}
-use Rattle.tp_step.specs.declared.order.Order.TheVariants.{First, Last, Seed}
 use Rattle.tp_step.specs.declared.ending.Ending.{Ending}
 use Rattle.tp_step.specs.declared.ending.Ending.TheVariants.{Rest, Clash, Missing, Over}
-use Rattle.tp_step.specs.Closes.{ClosureAnswers, EndsWithItem}
+use Rattle.tp_step.specs.Closes.{ClosureAnswers}
 use Rattle.tp_step.specs.EveryRest.{ClosureCommutes}
 use Rattle.tp_step.specs.Room.{ClosureKeepsRoom}
-use Rattle.tp_step.specs.Seeds.{word_after, choice_of}
-use Rattle.tp_agenda.specs.Ready.{IsReady}
-use Rattle.tp_agenda.specs.Ready.{NoneTwice}
 use Rattle.tp_agenda.specs.Agenda.{FollowsAgenda, IsThrifty}
 
 -- the try of the item that a closure ends with

@@ -1,5 +1,5 @@
 -- What decides the cells that items wait for.
-use Rattle.std.specs.Prelude.{◌≡◌, ◌⊎◌, ◌||◌, ◌&&◌, ℕ, Bool, true, false, eqb, List, [], ◌∷◌, Option, Some, None}
+use Rattle.std.specs.Prelude.{◌||◌, ◌&&◌, ℕ, Bool, true, false, eqb, List, [], ◌∷◌, Option, Some, None}
 use Rattle.tp_value.specs.declared.path.Path.{Path}
 use Rattle.tp_value.specs.declared.path.Fact.{Fact}
 use Rattle.tp_store.specs.Facts.{same_variable}

@@ -8,8 +8,7 @@ use Rattle.tp_scene.specs.Cells.{IsDecided, AreUndecided}
 use Rattle.tp_step_laws.specs.LiveOnce.{WasLive}
 use Rattle.tp_step.specs.declared.answer.Wait.{Wait}
 use Rattle.tp_lanes.specs.Planes.{flag}
-use Rattle.tp_agenda.specs.Ready.{WaitsFor}
-use Rattle.tp_agenda.specs.Ready.{may_move, IsOver}
+use Rattle.tp_agenda.specs.Ready.{NoneTwice, WaitsFor, may_move, IsOver}
 
 -- it has a place there
 abbrev pub IsAmong : {A : Type 0} → List A → A → Type 0

@@ -6,9 +6,8 @@ use Rattle.tp_show.specs.declared.turn.Picture.{Picture}
 use Rattle.tp_show.specs.declared.turn.Turn.{Turn}
 use Rattle.tp_show.specs.declared.turn.Turn.TheVariants as turn
 use Rattle.tp_run.specs.States.{Plan, LeadsTo}
-use Rattle.tp_run.specs.History.{RunEndsWith}
+use Rattle.tp_run.specs.History.{RunEndsWith, end_store}
 use Rattle.tp_run.specs.Standing.{RunPlace, open_at, state_after}
-use Rattle.tp_run.specs.History.{end_store}
 use Rattle.tp_run.specs.Runs.{program_of, store_of}
 use Rattle.tp_call.specs.declared.drill.Totals.{Totals}
 use Rattle.tp_call.specs.declared.drill.Drilled.{Drilled}

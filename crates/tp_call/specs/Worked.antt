@@ -1,27 +1,20 @@
 -- What a run that goes on, or ended, has tried and written.
-use Rattle.std.specs.Prelude.{◌≡◌, ◌⊎◌, ℕ, suc, ◌+◌, ◌≤◌, IsTrue, List, [], ◌∷◌, ◌++◌, length, sum_by, Option}
-use Rattle.tp_io.specs.Held.{Held}
+use Rattle.std.specs.Prelude.{◌≡◌, ◌⊎◌, ℕ, ◌+◌, ◌≤◌, IsTrue, List, Option}
 use Rattle.tp_store.specs.Known.{Contents}
 use Rattle.tp_scene.specs.Pick.{Moment}
 use Rattle.tp_step.specs.declared.answer.Tally.{Tally}
 use Rattle.tp_step.specs.declared.order.Order.{Order}
-use Rattle.tp_step.specs.declared.ending.Ending.{Ending}
-use Rattle.tp_step.specs.declared.ending.Ending.TheVariants as ending
 use Rattle.tp_show.specs.declared.turn.Picture.{Picture}
 use Rattle.tp_show.specs.declared.turn.Turn.{Turn}
-use Rattle.tp_show.specs.declared.turn.Turn.TheVariants as turn
 use Rattle.tp_show.specs.Told.{IsPictureInRange}
-use Rattle.tp_run.specs.States.{Plan, setting, StatesLead, LeadsTo, limit_moment}
-use Rattle.tp_run.specs.PicksOfRun.{limit_picks, beginning_of}
+use Rattle.tp_run.specs.States.{Plan, LeadsTo}
+use Rattle.tp_run.specs.PicksOfRun.{beginning_of}
 use Rattle.tp_run.specs.History.{RunEndsWith, end_store}
 use Rattle.tp_run.specs.Runs.{program_of, store_of}
 use Rattle.tp_run.specs.Standing.{RunPlace, Standing, StateBecomes, state_after}
-use Rattle.tp_run.specs.Tried.{recorded_tries, ClosesThriftily, TriesBeyond}
 use Rattle.tp_run.specs.StateTries.{IsTallyOf, CountsStateTries}
 use Rattle.tp_call.specs.declared.run.Ended.{Ended}
-use Rattle.tp_call.specs.declared.status.Status.{Status}
-use Rattle.tp_call.specs.Run.{RunEnds, last_answer}
-use Rattle.tp_call.specs.Answer.{IsAskedFor, run_text}
+use Rattle.tp_call.specs.Run.{last_answer}
 use Rattle.tp_call.specs.Printed.{ended_text, next_moment}
 use Rattle.tp_call.specs.Progress.{is_settled, printed_lines, HasWritten}
 use Rattle.tp_call.specs.Written.{Wrote}

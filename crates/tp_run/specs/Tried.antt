@@ -1,20 +1,13 @@
 -- What a run tried in the state that it began last, and how many tries that took.
 use Rattle.std.specs.Prelude.{◌≡◌, ℕ, ◌+◌, ◌≤◌, List, [], length}
 use Rattle.tp_scene.specs.Pick.{Setting, Moment}
-use Rattle.tp_store.specs.Known.{Contents}
 use Rattle.tp_step.specs.declared.answer.Tally.{Tally}
 use Rattle.tp_step.specs.declared.answer.Wait.{Wait}
 use Rattle.tp_step.specs.declared.order.Order.{Order}
 use Rattle.tp_step.specs.declared.ending.Ending.{Ending}
-use Rattle.tp_step.specs.declared.ending.Ending.TheVariants as ending
 use Rattle.tp_agenda.specs.Agenda.{FollowsAgenda, IsThrifty}
-use Rattle.tp_show.specs.declared.turn.Picture.{Picture}
 use Rattle.tp_show.specs.declared.turn.Turn.{Turn}
 use Rattle.tp_show.specs.declared.turn.Turn.TheVariants.{Went, Finished, Contradictory, Undetermined, StateLimit, InputMissing, Over}
-use Rattle.tp_run.specs.declared.run.Run.{Run}
-use Rattle.tp_run.specs.States.{Plan, setting, limit_moment}
-use Rattle.tp_run.specs.PicksOfRun.{limit_picks}
-use Rattle.tp_run.specs.Standing.{Standing, open_at, answered, spent, StateBecomes}
 
 -- the waits that were recorded
 abbrev pub waits_in : Tally → List Wait

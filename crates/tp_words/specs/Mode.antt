@@ -1,10 +1,9 @@
 -- What words ask to do with the file, or with a source of a size.
-use Rattle.std.specs.Prelude.{◌≡◌, ℕ, List, Bool, true, false, Option, None, Some, option_map, if◌then◌else◌, codes}
-use Rattle.std.specs.Int.{IsInRange}
+use Rattle.std.specs.Prelude.{ℕ, List, Bool, true, false, Option, None, Some, option_map, if◌then◌else◌, codes}
 use Rattle.std.specs.Str.{bytes_eq}
 use Rattle.tp_words.specs.declared.mode.Mode.{Mode}
 use Rattle.tp_words.specs.declared.mode.Mode.TheVariants.{Run, Print, Convert, Check, Drill}
-use Rattle.tp_words.specs.Size.{size_spelled, greatest_size}
+use Rattle.tp_words.specs.Size.{size_spelled}
 
 abbrev pub mode_text : Mode → List ℕ
 mode_text Run = codes "run"

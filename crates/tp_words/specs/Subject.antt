@@ -1,7 +1,6 @@
 -- What stands behind the name of a mode.
-use Rattle.std.specs.Prelude.{◌≡◌, ℕ, List, Bool, true, false, Option, None, Some, option_map, if◌then◌else◌, codes}
+use Rattle.std.specs.Prelude.{◌≡◌, ℕ, List, Some}
 use Rattle.std.specs.Int.{IsInRange}
-use Rattle.std.specs.Str.{bytes_eq}
 use Rattle.tp_words.specs.declared.mode.Mode.{Mode}
 use Rattle.tp_words.specs.declared.mode.Mode.TheVariants.{Run, Print, Convert, Check, Drill}
 use Rattle.tp_words.specs.Size.{size_spelled, greatest_size}

@@ -5,11 +5,9 @@ use Rattle.std.specs.List.{list_all}
 use Rattle.std.specs.Str.{bytes_eq, is_utf8}
 use Rattle.clap.specs.Words.{Row, Kinds, first_of, fault_of, matches_of}
 use Rattle.tp_step.specs.declared.order.Order.{Order}
-use Rattle.tp_step.specs.declared.order.Order.TheVariants.{First}
 use Rattle.tp_words.specs.App.{the_app}
 use Rattle.tp_words.specs.Beside.{beside_given}
 use Rattle.tp_words.specs.declared.beside.Beside.{Beside}
-use Rattle.tp_words.specs.declared.beside.Beside.TheVariants.{Nothing}
 use Rattle.tp_words.specs.declared.mode.Mode.{Mode}
 use Rattle.tp_words.specs.Limit.{limit_set, usual_states, usual_reductions}
 use Rattle.tp_words.specs.Mode.{mode_named, has_other}
