@@ -1,4 +1,4 @@
--- The end line of each refusal, the line of each verdict, and the code of each status.
+-- The end line of each refusal, and the line of each verdict.
 use Rattle.std.specs.Prelude.{ℕ, List, [], ◌++◌, codes}
 use Rattle.std.specs.Fmt.{decimal}
 use Rattle.tp_verdict.specs.Verdict.{Verdict, yes, no, undecided}

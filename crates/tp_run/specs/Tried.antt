@@ -1,4 +1,4 @@
--- What a run tried in the state that it began last, and how many tries that took.
+-- The tries of a state: those of a closure that closes thriftily, and those beyond.
 use Rattle.std.specs.Prelude.{◌≡◌, ℕ, ◌+◌, ◌≤◌, List, [], length}
 use Rattle.tp_scene.specs.Pick.{Setting, Moment}
 use Rattle.tp_step.specs.declared.answer.Tally.{Tally}

@@ -1,4 +1,4 @@
--- What verdicts say of the intervals that are as a run tells.
+-- That a formula fits the variables of a run, and that all of these are known in a state.
 use Rattle.std.specs.Prelude.{◌≡◌, Bool, List, []}
 use Rattle.tp_value.specs.Tree.{Tree}
 use Rattle.tp_value.specs.declared.path.VarId.{VarId}
