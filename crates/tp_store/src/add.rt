@@ -115,38 +115,24 @@ pub fn value_facts(alloc: Global, path: &Path, value: &Value) -> Result<Vec<Fact
     Ok(facts)
 }
 
-// The one fact that the path is a list of that length.
-fn length_facts(alloc: Global, path: &Path, length: u32) -> Result<Vec<Fact>, NoMemory>
-    ensures { IfOk result (λ facts. facts.items ≡ fact path.now (shape.Items length) ∷ []) }
+// One fact alone.
+fn one_fact(alloc: Global, path: Path, shape: Shape) -> Result<Vec<Fact>, NoMemory>
+    ensures { IfOk result (λ facts. facts.items ≡ fact path shape ∷ []) }
 {
     let mut facts = Vec::new(alloc);
-    let fact = fact_at(path, Shape::Items(length))?;
-    facts.push(fact)?;
+    facts.push(Fact { path, shape })?;
     Ok(facts)
 }
 
-// Whether the value is a list.
-fn is_list(value: &Value) -> bool {
-    match value {
-        Value::List(_) => true,
-        Value::Num(_) | Value::Truth(_) => false,
-    }
-}
-
-// An equal value, where it is a list that a whole variable has, and within the limit.
-fn list_of_variable(
-    alloc: Global,
-    path: &Path,
-    value: &Value,
-) -> Result<Option<Rc<Value>>, NoMemory>
+// The value, where it is a list that a whole variable has, and within the limit.
+fn list_of_variable(alloc: Global, path: &Path, value: Value) -> Result<Option<Rc<Value>>, NoMemory>
     ensures { IfOk result (λ whole.
-        AreOfValue path.now.var (facts_at path.now (tree value.now)) whole) }
+        AreOfValue path.now.var (facts_at path.now (tree value)) whole) }
 {
-    if !path.at.items.as_slice().is_empty() || !is_list(value) || !is_within_list_limit(value) {
+    if !path.at.items.as_slice().is_empty() || !is_within_list_limit(&value) {
         return Ok(None);
     }
-    let copy = value.copy(alloc)?;
-    Ok(Some(Rc::new(alloc, copy)?))
+    Ok(Some(Rc::new(alloc, value)?))
 }
 
 // Whether facts can be added to those that are kept of their variable.
@@ -233,9 +219,61 @@ impl Store {
         ensures err { OnErr result (self.new ≡ self.old) }
         ensures sound { IsSoundStore self.new }
     {
-        let facts = value_facts(self.alloc, path, value)?;
+        let alloc = self.alloc;
+        let path = path.copy()?;
+        let value = value.copy(alloc)?;
+        self.set(path, value)
+    }
+
+    /// The same, of a path and a value that are handed in: they are kept, and not copied.
+    pub fn set(&mut self, path: Path, value: Value) -> Result<Facts, AddRefusal>
+        requires { IsVariableOf self.old.variables path.var }
+        ensures news { IfOk result (λ news.
+            addition self.old.facts (facts_at path (tree value)) ≡ adds news) }
+        ensures refused { IfErr result
+            (IsRefusal (addition self.old.facts (facts_at path (tree value)))) }
+        ensures added { IfOk result (λ news. AddsFacts self.old news self.new) }
+        ensures err { OnErr result (self.new ≡ self.old) }
+        ensures sound { IsSoundStore self.new }
+    {
+        match value {
+            Value::Num(n) => self.add_shape(path, Shape::Num(n)),
+            Value::Truth(b) => self.add_shape(path, Shape::Truth(b)),
+            Value::List(all) => self.add_list(&path, Value::List(all)),
+        }
+    }
+
+    // The same of a list.
+    fn add_list(&mut self, path: &Path, value: Value) -> Result<Facts, AddRefusal>
+        requires { IsVariableOf self.old.variables path.now.var }
+        ensures news { IfOk result (λ news.
+            addition self.old.facts (facts_at path.now (tree value)) ≡ adds news) }
+        ensures refused { IfErr result
+            (IsRefusal (addition self.old.facts (facts_at path.now (tree value)))) }
+        ensures added { IfOk result (λ news. AddsFacts self.old news self.new) }
+        ensures err { OnErr result (self.new ≡ self.old) }
+        ensures sound { IsSoundStore self.new }
+    {
+        let facts = value_facts(self.alloc, path, &value)?;
         let whole = list_of_variable(self.alloc, path, value)?;
         let news = self.add_facts(path.var, facts, whole)?;
+        Ok(news)
+    }
+
+    // Adds the one fact that the path has this shape.
+    fn add_shape(&mut self, path: Path, shape: Shape) -> Result<Facts, AddRefusal>
+        requires { IsVariableOf self.old.variables path.var }
+        ensures news { IfOk result (λ news.
+            addition self.old.facts (fact path shape ∷ []) ≡ adds news) }
+        ensures refused { IfErr result
+            (IsRefusal (addition self.old.facts (fact path shape ∷ []))) }
+        ensures added { IfOk result (λ news. AddsFacts self.old news self.new) }
+        ensures err { OnErr result (self.new ≡ self.old) }
+        ensures sound { IsSoundStore self.new }
+    {
+        let var = path.var;
+        let facts = one_fact(self.alloc, path, shape)?;
+        let news = self.add_facts(var, facts, None)?;
         Ok(news)
     }
 
@@ -250,9 +288,9 @@ impl Store {
         ensures err { OnErr result (self.new ≡ self.old) }
         ensures sound { IsSoundStore self.new }
     {
-        let facts = length_facts(self.alloc, path, length)?;
-        let news = self.add_facts(path.var, facts, None)?;
-        Ok(news)
+        let _ = &self.alloc;
+        let path = path.copy()?;
+        self.add_shape(path, Shape::Items(length))
     }
 
     /// Whether `add` of this value at this path would add its facts, or the refusal that it would give; the store stays as it is.
@@ -275,7 +313,7 @@ impl Store {
         ensures refused { IfErr result
             (IsRefusal (addition self.now.facts (fact path.now (shape.Items length) ∷ []))) }
     {
-        let facts = length_facts(self.alloc, path, length)?;
+        let facts = one_fact(self.alloc, path.copy()?, Shape::Items(length))?;
         self.check_facts(path.var, facts.as_slice())
     }
 

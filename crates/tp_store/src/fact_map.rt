@@ -5,7 +5,7 @@ ghost use Rattle.tp_store.specs.Facts.{kept_shape, is_excluded, has_item, item_p
 ghost use Rattle.tp_store.specs.Known.{NoClash, deepest, first_clash, full, new_facts, open_at, value, whole};
 ghost use Rattle.tp_store.specs.Changes.{HaveSameShapes};
 ghost use Rattle.tp_store.specs.FactMap.{AreOfOne, IsNumberOrTruth};
-ghost use Rattle.tp_store.specs.Nodes.{edges_in, node_from, facts_in_tree, path_along, IsTree, ArePlainItems, LacksShape};
+ghost use Rattle.tp_store.specs.Nodes.{edges_in, node_from, facts_in_tree, item_shape, path_along, IsTree, ArePlainItems, LacksShape};
 ghost use Rattle.tp_store.specs.KeptValue.{SayWhole};
 ghost use Rattle.tp_value.specs.Read.{tree};
 ghost use Rattle.tp_value.specs.Limits.{is_within_list_limit};
@@ -93,13 +93,20 @@ fn is_plain(shape: Option<Shape>) -> bool
     }
 }
 
+// Whether an item of the root is a number or a truth. One that is past all children isn't looked up.
+fn has_plain(nodes: &Nodes, index: u32) -> bool
+    ensures { IsTrue result → IsNumberOrTruth (item_shape nodes.now index) }
+{
+    u64::from(index) < nodes.beyond() && is_plain(nodes.kept(&[index]))
+}
+
 // How many items of the root, from the first on, are numbers and truths, where so many are.
 fn count_plain(nodes: &Nodes, from: u32) -> u32
     requires { ArePlainItems from nodes.now }
     ensures { ArePlainItems result nodes.now }
 {
     let mut count = from;
-    'items: while is_plain(nodes.kept(&[count])) {
+    'items: while has_plain(nodes, count) {
         let Some(next) = count.checked_add(1) else {
             return count;
         };
@@ -108,15 +115,14 @@ fn count_plain(nodes: &Nodes, from: u32) -> u32
     count
 }
 
-// The same after this fact came, which may be of such an item.
+// The same after this fact came, which may be of the next such item. That of another item leaves the count as it is.
 fn plain_after(nodes: &Nodes, from: u32, fact: &Fact) -> u32
     requires { ArePlainItems from nodes.now }
     ensures { ArePlainItems result nodes.now }
 {
-    if fact.path.at.items.len() == 1 {
-        count_plain(nodes, from)
-    } else {
-        from
+    match fact.path.at.items.as_slice() {
+        [index] if *index == from => count_plain(nodes, from),
+        _ => from,
     }
 }
 

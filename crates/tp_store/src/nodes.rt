@@ -4,7 +4,7 @@ ghost use Rattle.std.specs.Hash as fed;
 ghost use Rattle.std.specs.Cmp.Rules.{hashing};
 ghost use Rattle.std.specs.List.{IsDistinct};
 ghost use Rattle.std.proofs.Common.{rules};
-ghost use Rattle.tp_store.specs.Nodes.{edge_number, edges_in, nodes_in, child, same_edge, node_from, routes, shape_among, shape_found, lacks_way, with_node, with_shape_at, facts_in_tree, IsRooted, IsTree, HasMoreNodes, IsRaised, AreWays, KeepsAll};
+ghost use Rattle.tp_store.specs.Nodes.{edge_number, edges_in, nodes_in, child, same_edge, node_from, routes, shape_among, shape_found, beyond_among, lacks_way, with_node, with_shape_at, facts_in_tree, IsRooted, IsTree, HasMoreNodes, IsRaised, AreWays, KeepsAll};
 
 use crate::clash::lacks_item;
 use indexmap::IndexMap;
@@ -90,6 +90,13 @@ impl Nodes {
             Some(node) => node.shape,
             None => None,
         }
+    }
+
+    /// A number that the indices of the root's children are less than.
+    pub fn beyond(&self) -> u64
+        ensures { result ≡ beyond_among (nodes_in self.now) 0 }
+    {
+        self.root.beyond
     }
 
     // The child of a node with that index.
