@@ -4,7 +4,7 @@ use Rattle.std.proofs.lemmas.Bool.{both_ways, or_parts}
 use Rattle.tp_value.specs.declared.value.Shape.{Shape}
 use Rattle.tp_value.specs.declared.path.Fact.{Fact}
 use Rattle.tp_store.specs.Facts.{same_path, same_shape, excludes, clash, kept_shape, fact}
-use Rattle.tp_store.specs.Known.{NoClash, is_none, first_clash, adds, refuses, refused_or, checked, new_facts, addition}
+use Rattle.tp_store.specs.Known.{Addition, NoClash, is_none, first_clash, adds, refuses, refused_or, checked, new_facts, addition}
 use Rattle.tp_store.proofs.Paths.{same_path-decides, same_shape-decides, same_path-sym, clash-sym}
 use Rattle.tp_store.proofs.Members.{In, kept_in, none_kept, in_filter, filter_in, NoClash-append, NoClash-filter, Apart}
 use Rattle.tp_store.proofs.First.{FirstOf, first_is}
@@ -93,3 +93,15 @@ pub news_given : (kept facts news : List Fact) → AddsAll kept facts news → (
 news_given kept facts news a g j =
     let P : List Fact → Type 0 = λ xs. In g xs in
     (in_filter (λ (y : Fact). is_none (kept_shape kept y.path)) g facts (subst P (sym a.new) j)).0
+
+-- to nothing all of them can be added
+checked_by_none : (fs : List Fact) (o : Addition) → checked [] fs o ≡ o
+checked_by_none [] o = refl
+checked_by_none (f ∷ fs) o = checked_by_none fs o
+
+all_new : (fs : List Fact) → new_facts [] fs ≡ fs
+all_new [] = refl
+all_new (f ∷ fs) = ap (λ gs. f ∷ gs) (all_new fs)
+
+pub adds_to_none : (fs : List Fact) → addition [] fs ≡ adds fs
+adds_to_none fs = checked_by_none fs (adds (new_facts [] fs)) ∙ ap adds (all_new fs)

@@ -5,7 +5,8 @@ use Rattle.tp_value.specs.declared.path.VarId.{VarId}
 use Rattle.tp_value.specs.declared.path.Path.{Path}
 use Rattle.tp_value.specs.declared.path.Fact.{Fact}
 use Rattle.tp_value.specs.declared.value.Shape.TheVariants.{Num, Truth, Items}
-use Rattle.tp_store.specs.Facts.{has_item}
+use Rattle.tp_store.specs.Facts.{has_item, kept_shape}
+use Rattle.tp_store.specs.Known.{first_clash}
 
 -- a shape is there, and has no item with this index
 abbrev pub lacks_item : Option Shape → ℕ → Bool
@@ -35,3 +36,8 @@ AreOf x (f ∷ fs) = (f.path.var ≡ x) × AreOf x fs
 -- the facts are of one variable
 abbrev pub AreOfOne : List Fact → Type 0
 AreOfOne fs = (x : VarId) × AreOf x fs
+
+-- The fact's path has no shape yet, and no kept fact clashes with it.
+pub record IsNew (kept : List Fact) (f : Fact) : Type 0 where
+  pub none : kept_shape kept f.path ≡ None
+  pub apart : first_clash kept f ≡ None

@@ -149,6 +149,20 @@ fn check_in(alloc: Global, kept: &FactMap, facts: &[Fact]) -> Result<(), AddRefu
     Ok(())
 }
 
+// Those of the facts that are new to what is kept of their variable, or the refusal of one that clashes.
+fn news_in(alloc: Global, kept: &FactMap, facts: Vec<Fact>) -> Result<Vec<Fact>, AddRefusal>
+    ensures added { IfOk result (λ news. addition kept.now facts.items ≡ adds news.items) }
+    ensures refused { IfErr result (IsRefusal (addition kept.now facts.items)) }
+    ensures apart { NoClash kept.now }
+{
+    if kept.takes_all(facts.as_slice()) {
+        return Ok(facts);
+    }
+    check_in(alloc, kept, facts.as_slice())?;
+    let news = kept.new_of(alloc, facts)?;
+    Ok(news)
+}
+
 // Adds facts of one variable, which don't clash with each other, to those that are kept of it. Where they are those of a value of the
 // whole variable, it is kept beside them.
 fn add_in(
@@ -167,8 +181,7 @@ fn add_in(
     ensures ok { IfOk result (λ news. HaveSameShapes kept.new (kept.old ++ news)) }
     ensures err { OnErr result (kept.new ≡ kept.old) }
 {
-    check_in(alloc, kept, facts.as_slice())?;
-    let news = kept.new_of(alloc, facts)?;
+    let news = news_in(alloc, kept, facts)?;
     kept.add(alloc, news.as_slice())?;
     if let Some(value) = value {
         kept.keep_value(var, value);

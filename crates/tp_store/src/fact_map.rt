@@ -2,9 +2,9 @@
 ghost use Rattle.std.specs.Prelude.{◌≡◌, ◌<◌, ◌^◌, ◌++◌, ◌↔◌, [], Bool, true, false, None, Some, IfOk, OnOk, OnErr, IsTrue, ℕ, suc};
 ghost use Rattle.std.specs.Option.{option_copied};
 ghost use Rattle.tp_store.specs.Facts.{kept_shape, is_excluded, has_item, item_path};
-ghost use Rattle.tp_store.specs.Known.{NoClash, deepest, first_clash, full, new_facts, open_at, value, whole};
+ghost use Rattle.tp_store.specs.Known.{NoClash, addition, adds, deepest, first_clash, full, new_facts, open_at, value, whole};
 ghost use Rattle.tp_store.specs.Changes.{HaveSameShapes};
-ghost use Rattle.tp_store.specs.FactMap.{AreOfOne, IsNumberOrTruth};
+ghost use Rattle.tp_store.specs.FactMap.{AreOfOne, IsNew, IsNumberOrTruth};
 ghost use Rattle.tp_store.specs.Nodes.{edges_in, node_from, facts_in_tree, item_shape, path_along, IsTree, ArePlainItems, LacksShape};
 ghost use Rattle.tp_store.specs.KeptValue.{SayWhole};
 ghost use Rattle.tp_value.specs.Read.{tree};
@@ -171,6 +171,19 @@ fn may_clash_in(nodes: &Nodes, fact: &Fact) -> bool
     }
 }
 
+// Whether this fact, of the same variable, is new and clashes with none that is kept, where that is seen without a node of its own.
+fn is_new_in(nodes: &Nodes, fact: &Fact) -> bool
+    requires tree { IsTree nodes.now }
+    requires no_clash { NoClash (facts_in_tree fact.now.path.var nodes.now) }
+    ensures { IsTrue result → IsNew (facts_in_tree fact.now.path.var nodes.now) fact.now }
+{
+    let _count = nodes.count();
+    match nodes.find(fact.path.at.items.as_slice()) {
+        Some(_) => false,
+        None => !nodes.lacks(fact.path.at.items.as_slice()),
+    }
+}
+
 // Of these facts that which clashes with the other and is first: with the fewest indices, and among these with the lesser ones.
 fn find_clash<'a>(facts: &'a [Fact], fact: &Fact) -> Option<&'a Fact>
     ensures { option_copied result ≡ first_clash facts.now fact.now }
@@ -302,12 +315,23 @@ impl FactMap {
         Ok(Some(first))
     }
 
-    // Whether this is one fact, whose path has no shape yet.
-    fn is_new_alone(&self, facts: &[Fact]) -> bool
-        ensures { IsTrue result → new_facts self.now facts.now ≡ facts.now }
+    // Whether the fact is new and clashes with none of these, where that is seen by one look.
+    fn is_new(&self, fact: &Fact) -> bool
+        ensures { IsTrue result → IsNew self.now fact.now }
     {
+        fact.path.var == self.var && is_new_in(&self.nodes, fact)
+    }
+
+    /// Whether it is seen by one look at most that all of these facts are new and clash with none that is kept.
+    pub fn takes_all(&self, facts: &[Fact]) -> bool
+        ensures all { IsTrue result → addition self.now facts.now ≡ adds facts.now }
+        ensures apart { NoClash self.now }
+    {
+        if self.empty {
+            return true;
+        }
         match facts {
-            [fact] => self.shape(&fact.path).is_none(),
+            [fact] => self.is_new(fact),
             _ => false,
         }
     }
@@ -318,9 +342,6 @@ impl FactMap {
         ensures apart { NoClash self.now }
     {
         let _ = &self.var;
-        if self.is_new_alone(facts.as_slice()) {
-            return Ok(facts);
-        }
         let mut news = Vec::new(alloc);
         for fact in facts {
             if self.shape(&fact.path).is_none() {

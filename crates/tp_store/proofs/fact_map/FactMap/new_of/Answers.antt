@@ -5,6 +5,3 @@ use Rattle.tp_store.proofs.fact_map.FactMap.new_of.Goals as goal
 
 pub returns-clause-apart : goal.returns-clause-apart
 returns-clause-apart c = let P : List Fact → Type 0 = λ fs. NoClash fs in subst P c.self.view_is c.self.invariant.0
-
-pub returns-then-is_new_alone-clause-apart : goal.returns-then-is_new_alone-clause-apart
-returns-then-is_new_alone-clause-apart c = let P : List Fact → Type 0 = λ fs. NoClash fs in subst P c.self.view_is c.self.invariant.0
