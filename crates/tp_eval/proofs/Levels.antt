@@ -10,7 +10,7 @@ use Rattle.tp_meaning.specs.Syntax.{ExprTree, ExprTrees, bound, global, index, n
 use Rattle.tp_eval.specs.Reached.{Reached, reaches, stops, Evaluation, with_reached, ◌>>=◌, gives}
 use Rattle.tp_eval.specs.declared.lookup.Lookup.{Lookup}
 use Rattle.tp_eval.specs.declared.halt.Halt.{Halt}
-use Rattle.tp_eval.specs.Evaluate.{PlaceFound, is_place, each, all_true, truth_in, evaluate, evaluated_place, part_value, indexed_value, read_at}
+use Rattle.tp_eval.specs.Evaluate.{PlaceFound, is_place, each, all_true, truth_in, evaluate, evaluated_place, part_value, indexed_value, index_in, farther, read_at}
 use Rattle.tp_eval.specs.Answers.{Halts, Stops, operand_in, place_at}
 use Rattle.tp_eval.proofs.Steps.{reaches_then, stops_then, stops_same, halts_at}
 
@@ -49,6 +49,11 @@ read_index l (suc d) e a b c h q p =
 pub then_all : {A B C : Type 0} (r : Reached A) (f : A → Evaluation B) (g : B → Evaluation C) → with_reached (with_reached r f) g ≡ with_reached r (λ x. f x >>= g)
 then_all (reaches x c) f g = refl
 then_all (stops k) f g = refl
+
+-- where the place before an index was found
+pub at_index : (l : Lookup) (n : ℕ) (e a i : ExprTree) (p : PlaceFound) (c c' : ℕ) → (n ≡ 0 → ⊥) → e ≡ index a i → place_at l (n - 1) a c ≡ reaches p c'
+    → place_at l n e c ≡ with_reached (with_reached (operand_in l (n - 1) i c') index_in) (farther p)
+at_index l n e a i p c c' h q r = at_place_level l n e (index a i) c h q ∙ reaches_then _ p c' _ r ∙ sym (then_all (operand_in l (n - 1) i c') index_in (farther p))
 
 pub then_itself : {A : Type 0} (r : Reached A) → with_reached r (λ x. gives x) ≡ r
 then_itself (reaches x c) = refl

@@ -66,6 +66,9 @@ number_is n = by_limit (is_within_limit n)
     by_limit true = refl
     by_limit false = refl
 
+pub within_is : (n : ℤ) → is_within_limit n ≡ true → within_numbers n ≡ gives (num n)
+within_is n h = ap (λ (b : Bool). if b then gives (num n) else stop (passes limit.Number)) h
+
 -- a divisor that isn't 0
 pub by_divisor : (f : ℤ → ℤ → ℤ) (a b : ℤ) → b ≢ pos 0 → on_divisor_outcome f a b ≡ number_within (within_limit (f a b))
 by_divisor f a (pos zero) h = absurd (h refl)

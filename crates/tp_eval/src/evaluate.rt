@@ -3,9 +3,9 @@ ghost use Rattle.std.specs.Prelude.{◌≡◌, map, neg_ℤ, not, slice_get};
 ghost use Rattle.tp_value.specs.Tree.{truth};
 ghost use Rattle.tp_value.specs.Read.{tree};
 ghost use Rattle.tp_kernel.specs.Read.{expr_tree, expr_trees, operator_of, binding_of, bindings_of, definition_of, definitions_of};
-ghost use Rattle.tp_eval.specs.Reached.{within_numbers, within_lists};
-ghost use Rattle.tp_eval.specs.Evaluate.{is_place, each, all_true, one_true, operation_outcome, chosen, element_of, size_of, negative_in, negated_in, read_at, argument, arguments};
-ghost use Rattle.tp_eval.specs.Answers.{AnswersEvaluation, AnswersReached, operand_in, place_at, call_in};
+ghost use Rattle.tp_eval.specs.Reached.{with_reached, within_numbers, within_lists};
+ghost use Rattle.tp_eval.specs.Evaluate.{is_place, each, all_true, one_true, operation_outcome, chosen, element_of, size_of, index_in, negative_in, negated_in, read_at, argument, arguments};
+ghost use Rattle.tp_eval.specs.Answers.{AnswersEvaluation, AnswersReached, as_it_is, operand_in, place_at, call_in};
 ghost use Rattle.tp_eval.specs.Places.{place_in};
 ghost use Rattle.tp_eval.specs.Operand.{operand_tree};
 
@@ -16,7 +16,7 @@ use crate::lookup::Lookup;
 use crate::operand::{Operand, bind_value, bound_value, kept_value};
 use crate::operate::{item_of, operate};
 use crate::places::{
-    Place, bind_place, farther, index_of, length_of, named, size_at, value_at, whole,
+    Place, bind_place, farther, index_from, index_of, length_of, named, size_at, value_at, whole,
 };
 use std::alloc::Global;
 use tp_kernel::{Binding, Def, Env, Expr, Exprs, FaultKind, LimitKind, Op2, is_upper};
@@ -317,6 +317,21 @@ fn call(
     }
 }
 
+// The index that an expression gives. One that is written as a number, as most are, needs no whole evaluation.
+#[cycle(evaluate)]
+fn index_at(levels: u32, expr: &Expr, lookup: &Lookup, calls: &mut u32) -> Result<u32, Halt>
+    ensures { AnswersReached as_it_is result calls.new
+        (with_reached (operand_in lookup.now levels (expr_tree expr.now) calls.old) index_in) }
+{
+    match expr {
+        Expr::Number(n) if levels > 0 && is_number(*n) => index_from(*n),
+        _ => {
+            let at = evaluate(levels, expr, lookup, calls)?;
+            index_of(at)
+        }
+    }
+}
+
 // What a name followed by indices is, where so many levels are left. Each index is looked at before the next is evaluated.
 #[cycle(evaluate)]
 pub fn find_place(levels: u32, expr: &Expr, lookup: &Lookup, calls: &mut u32) -> Result<Place, Halt>
@@ -331,8 +346,7 @@ pub fn find_place(levels: u32, expr: &Expr, lookup: &Lookup, calls: &mut u32) ->
         Expr::Global(var) => Ok(whole(lookup.alloc, *var)),
         Expr::Index(inner, index) => {
             let place = find_place(levels - 1, inner, lookup, calls)?;
-            let at = evaluate(levels - 1, index, lookup, calls)?;
-            let k = index_of(at)?;
+            let k = index_at(levels - 1, index, lookup, calls)?;
             farther(place, k)
         }
         Expr::Number(_)

@@ -64,7 +64,8 @@ pub fn index_of(value: Value) -> Result<u32, Halt>
     }
 }
 
-fn index_from(n: Number) -> Result<u32, Halt>
+/// The index that a number is.
+pub fn index_from(n: Number) -> Result<u32, Halt>
     ensures { AnswersEvaluation as_it_is result (index_in (num n)) }
 {
     if n < 0 {
@@ -182,11 +183,10 @@ fn unkept_length(path: &Path, store: &Store) -> Result<Value, Halt>
     requires { kept_shape store.now.facts path.now ≡ None }
     ensures { AnswersEvaluation tree result (size_at store.now.facts (at_path path.now)) }
 {
-    match store.full(path)? {
-        Known::Absent => Err(Halt::Faults(FaultKind::NoElement)),
-        Known::Open(path) => Err(Halt::Waits(path)),
-        Known::TooLong | Known::Value(_) => unreachable!(),
+    if store.excludes(path) {
+        return Err(Halt::Faults(FaultKind::NoElement));
     }
+    Err(Halt::Waits(path.copy()?))
 }
 
 /// The length of a list, where the value is one.

@@ -4,18 +4,18 @@ use Rattle.std.specs.Option.{option_copied}
 use Rattle.std.specs.Iterator.Adapters.{zip_first, zip_second}
 use Rattle.std.specs.Slice.Iter.{iter_rest}
 use Rattle.tp_value.specs.Number.{number_width}
-use Rattle.tp_value.specs.Tree.{list, of_items}
+use Rattle.tp_value.specs.Tree.{num, list, of_items}
 use Rattle.tp_value.specs.Read.{tree}
 use Rattle.tp_value.specs.Equations.{tree_list}
-use Rattle.tp_meaning.specs.Syntax.{listing, size, index, minus, negation, both, either, binary, choice, invoke}
+use Rattle.tp_meaning.specs.Syntax.{numeral, listing, size, index, minus, negation, both, either, binary, choice, invoke}
 use Rattle.tp_kernel.specs.Read.{expr_tree, operator_of, binding_of, bindings_of, definitions_of}
 use Rattle.tp_kernel.specs.Equations.{expr_trees_is, expr_number, expr_bound, expr_list, expr_size, expr_index, expr_minus, expr_not, expr_both, expr_either, expr_op, expr_if, expr_call}
 use Rattle.tp_eval.specs.Reached.{reaches, within_numbers, within_lists, ◌>>=◌}
 use Rattle.tp_eval.specs.Evaluate.{is_place, element_of, size_of, indexed_value, index_in, farther, item_between, length_of, negative_in, negated_in}
-use Rattle.tp_eval.specs.Answers.{Stops, operand_in, place_at}
+use Rattle.tp_eval.specs.Answers.{Stops, as_it_is, operand_in, place_at}
 use Rattle.tp_eval.specs.Places.{place_in}
-use Rattle.tp_eval.proofs.Steps.{reached_same, reached_leaf, reaches_then, stops_same, stops_then, halts_at}
-use Rattle.tp_eval.proofs.Levels.{at_level, at_place_level, read_bound, read_index}
+use Rattle.tp_eval.proofs.Steps.{reached_same, reached_leaf, reaches_then, stops_same, stops_then, within_is}
+use Rattle.tp_eval.proofs.Levels.{at_level, at_index, read_bound, read_index}
 use Rattle.tp_eval.proofs.OperandLemmas.{named_value_reached}
 use Rattle.tp_eval.proofs.Arguments.{arguments_uneven}
 use Rattle.tp_eval.proofs.evaluate.+evaluate.Goals as goal
@@ -135,33 +135,31 @@ evaluate-returns-in-Call t c =
     let is = ap expr_tree c.in-Call.is ∙ expr_call c.in-Call.number c.in-Call.arguments ∙ ap (invoke c.in-Call.number) (sym (expr_trees_is c.in-Call.arguments)) in
     reached_same tree c.call.result c.call.new.calls _ _ (at_level c.args.lookup.now c.args.levels (expr_tree c.args.expr.now) _ c.args.calls.now c.if-levels-eq0.false is) c.call.ensures
 
-pub find_place-returns-in_err-at-in-Index : goal.find_place-returns-in_err-at-in-Index
-find_place-returns-in_err-at-in-Index t c =
-    let is = ap expr_tree c.in-Index.is ∙ expr_index c.in-Index.inner c.in-Index.index ∙ ap₂ index (ap expr_tree (sym c.deref.ensures)) (ap expr_tree (sym c.deref-in-Index.ensures)) in
-    let here = at_place_level c.args.lookup.now c.args.levels (expr_tree c.args.expr.now) _ c.args.calls.now c.if-levels-eq0.false is in
-    let first = reaches_then _ (place_in c.in_ok-place-in-Index.place) c.find_place.new.calls _ c.in_ok-place-in-Index.ensures in
-    let h : Stops (place_at c.args.lookup.now c.args.levels (expr_tree c.args.expr.now) c.args.calls.now) c.in_err-at-in-Index.field-0.0 =
-    stops_same _ _ c.in_err-at-in-Index.field-0.0 (here ∙ first) (stops_then _ c.in_err-at-in-Index.field-0.0 _ c.in_err-at-in-Index.ensures) in
-    search rules
+pub index_at-returns-in-Number : goal.index_at-returns-in-Number
+index_at-returns-in-Number t c =
+    let calls = c.args.calls.now in
+    let n = to_z number_width (of_z number_width c.in-Number.n) in
+    let same : n ≡ c.in-Number.n = search rules in
+    let is = ap expr_tree c.in-Number.is ∙ expr_number c.in-Number.n ∙ ap numeral (sym same) in
+    let here = at_level c.args.lookup.now c.args.levels (expr_tree c.args.expr.now) _ calls (omega arith) is in
+    let within = ap (λ o. o calls) (within_is n (sym c.is_number.ensures ∙ c.if-is_number.true)) in
+    reached_leaf as_it_is c.index_from.result calls _ _ (reaches_then _ (num n) calls index_in (here ∙ within)) c.index_from.ensures
 
 pub find_place-returns-in_err-k-in-Index : goal.find_place-returns-in_err-k-in-Index
 find_place-returns-in_err-k-in-Index t c =
+    let halt = c.in_err-k-in-Index.field-0.0 in
     let is = ap expr_tree c.in-Index.is ∙ expr_index c.in-Index.inner c.in-Index.index ∙ ap₂ index (ap expr_tree (sym c.deref.ensures)) (ap expr_tree (sym c.deref-in-Index.ensures)) in
-    let here = at_place_level c.args.lookup.now c.args.levels (expr_tree c.args.expr.now) _ c.args.calls.now c.if-levels-eq0.false is in
-    let first = reaches_then _ (place_in c.in_ok-place-in-Index.place) c.find_place.new.calls _ c.in_ok-place-in-Index.ensures in
-    let second = reaches_then _ (tree c.in_ok-at-in-Index.at) c.evaluate.new.calls (λ v. index_in v >>= farther (place_in c.in_ok-place-in-Index.place)) c.in_ok-at-in-Index.ensures in
-    let h : Stops (place_at c.args.lookup.now c.args.levels (expr_tree c.args.expr.now) c.args.calls.now) c.in_err-k-in-Index.field-0.0 =
-    stops_same _ _ c.in_err-k-in-Index.field-0.0 (here ∙ first ∙ second) (stops_then _ c.in_err-k-in-Index.field-0.0 _ (halts_at _ c.in_err-k-in-Index.field-0.0 c.evaluate.new.calls c.in_err-k-in-Index.ensures)) in
+    let here = at_index c.args.lookup.now c.args.levels (expr_tree c.args.expr.now) _ _ (place_in c.in_ok-place-in-Index.place) _ _ c.if-levels-eq0.false is c.in_ok-place-in-Index.ensures in
+    let h : Stops (place_at c.args.lookup.now c.args.levels (expr_tree c.args.expr.now) c.args.calls.now) halt = stops_same _ _ halt here (stops_then _ halt _ c.in_err-k-in-Index.ensures) in
     search rules
 
 pub find_place-returns-in_ok-k-in-Index : goal.find_place-returns-in_ok-k-in-Index
 find_place-returns-in_ok-k-in-Index t c =
+    let place = place_in c.in_ok-place-in-Index.place in
     let is = ap expr_tree c.in-Index.is ∙ expr_index c.in-Index.inner c.in-Index.index ∙ ap₂ index (ap expr_tree (sym c.deref.ensures)) (ap expr_tree (sym c.deref-in-Index.ensures)) in
-    let here = at_place_level c.args.lookup.now c.args.levels (expr_tree c.args.expr.now) _ c.args.calls.now c.if-levels-eq0.false is in
-    let first = reaches_then _ (place_in c.in_ok-place-in-Index.place) c.find_place.new.calls _ c.in_ok-place-in-Index.ensures in
-    let second = reaches_then _ (tree c.in_ok-at-in-Index.at) c.evaluate.new.calls (λ v. index_in v >>= farther (place_in c.in_ok-place-in-Index.place)) c.in_ok-at-in-Index.ensures in
-    let third = ap (λ o. (o >>= farther (place_in c.in_ok-place-in-Index.place)) c.evaluate.new.calls) c.in_ok-k-in-Index.ensures in
-    reached_leaf place_in c.farther.result c.evaluate.new.calls _ _ (here ∙ first ∙ second ∙ third) c.farther.ensures
+    let here = at_index c.args.lookup.now c.args.levels (expr_tree c.args.expr.now) _ _ place _ _ c.if-levels-eq0.false is c.in_ok-place-in-Index.ensures in
+    let next = reaches_then _ c.in_ok-k-in-Index.k c.index_at.new.calls (farther place) c.in_ok-k-in-Index.ensures in
+    reached_leaf place_in c.farther.result c.index_at.new.calls _ _ (here ∙ next) c.farther.ensures
 
 pub operand-returns-in-Some-kept_value : goal.operand-returns-in-Some-kept_value
 operand-returns-in-Some-kept_value t c =

@@ -16,6 +16,9 @@ decreases-read l = 8 * l.levels + 1
 abbrev pub decreases-find_place : goal.decreases-find_place
 decreases-find_place l = 8 * l.levels
 
+abbrev pub decreases-index_at : goal.decreases-index_at
+decreases-index_at l = 8 * l.levels + 3
+
 abbrev pub decreases-each : goal.decreases-each
 decreases-each l = 8 * l.levels + 3
 
