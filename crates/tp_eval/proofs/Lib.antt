@@ -4,6 +4,7 @@ pub mod PlaceLemmas
 pub mod Operands
 pub mod Meanings
 pub mod Steps
+pub mod WrittenItems
 pub mod Kept
 pub mod Levels
 pub mod Arguments

@@ -13,6 +13,7 @@ use crate::halt::Halt;
 use crate::lookup::Lookup;
 use crate::outcome::{Outcome, PlaceOutcome};
 use crate::places::{Place, copy_element};
+use crate::written::written_item;
 use std::alloc::Global;
 use tp_kernel::{Defs, Env, Expr};
 use tp_store::Store;
@@ -103,6 +104,9 @@ pub fn place(
         store,
         defs,
     };
+    if let Some(path) = written_item(&lookup, expr)? {
+        return Ok(PlaceOutcome::Place(path));
+    }
     let mut calls = 0;
     match find_place(LEVELS, expr, &lookup, &mut calls) {
         Ok(found) => {

@@ -12,6 +12,7 @@ mod operand;
 mod operate;
 mod outcome;
 mod places;
+mod written;
 
 pub use calls::{eval, place};
 pub use evaluate::is_place;

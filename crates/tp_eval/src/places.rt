@@ -77,7 +77,8 @@ pub fn index_from(n: Number) -> Result<u32, Halt>
     Ok(n as u32)
 }
 
-fn farther_path(mut path: Path, index: u32) -> Result<Path, Halt>
+/// The path with one index more.
+pub fn farther_path(mut path: Path, index: u32) -> Result<Path, Halt>
     ensures { AnswersEvaluation at_path result (farther (at_path path) index) }
 {
     if path.at.items.len() >= PATH_LIMIT {
