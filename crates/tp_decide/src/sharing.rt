@@ -1,5 +1,5 @@
 // Equations of two places, which go by the shape that one of them has.
-ghost use Rattle.std.specs.Prelude.{◌≡◌, ℕ, pos, length, List, ◌∷◌, [], IfOk};
+ghost use Rattle.std.specs.Prelude.{◌≡◌, ℕ, pos, length, List, ◌∷◌, [], IfOk, if◌then◌else◌};
 ghost use Rattle.tp_value.specs.declared.path.Fact.{Fact};
 ghost use Rattle.tp_meaning.specs.Syntax.{equation, index, numeral};
 ghost use Rattle.tp_kernel.specs.Read.{expr_tree, formula_tree, bindings_of};
@@ -67,25 +67,36 @@ fn both_places(alloc: Global, left: Path, right: Path) -> Result<Rc<Env>, NoMemo
     Ok(env)
 }
 
-// One of the places has this shape: `to`, which is the other, gets it too, and their items are equal.
+// The left place or the right one.
+fn either(left: Path, right: Path, is_left: bool) -> Path
+    ensures { result ≡ (if is_left then left else right) }
+{
+    if is_left { left } else { right }
+}
+
+// One of the places has this shape: the other one, which is the left one or the right, gets it too, and their items are equal. Only for
+// a list are the paths needed twice.
 fn share(
     alloc: Global,
-    to: Path,
     shape: Shape,
     left: Path,
     right: Path,
+    to_left: bool,
 ) -> Result<Decision, NoMemory>
-    ensures outcome { IfOk result (λ d.
+    ensures outcome { let to = if to_left then left else right in
+        IfOk result (λ d.
         (facts : List Fact) (n : row.Numbers)
         → decided_outcome facts n d
         ≡ row.shares left right shape n (addition facts (fact to shape ∷ []))) }
     ensures variables { IfOk result (λ d.
-        (xs : List Variable) → IsVariableOf xs to.var → SetsVariables xs d) }
+        (xs : List Variable) → IsVariableOf xs left.var → IsVariableOf xs right.var
+        → SetsVariables xs d) }
 {
     match shape {
-        Shape::Num(n) => Ok(Decision::Sets(to, Value::Num(n))),
-        Shape::Truth(b) => Ok(Decision::Sets(to, Value::Truth(b))),
+        Shape::Num(n) => Ok(Decision::Sets(either(left, right, to_left), Value::Num(n))),
+        Shape::Truth(b) => Ok(Decision::Sets(either(left, right, to_left), Value::Truth(b))),
         Shape::Items(length) => {
+            let to = if to_left { left.copy()? } else { right.copy()? };
             let env = both_places(alloc, left, right)?;
             let news = item_equations(alloc, length, &env)?;
             Ok(Decision::Shares { to, length, news })
@@ -112,12 +123,10 @@ pub fn equate_places(
         return Ok(Decision::Clashes(Clash::NoValue(FaultKind::NoElement)));
     }
     if let Some(shape) = store.shape(&right) {
-        let to = left.copy()?;
-        return share(alloc, to, shape, left, right);
+        return share(alloc, shape, left, right, true);
     }
     if let Some(shape) = store.shape(&left) {
-        let to = right.copy()?;
-        return share(alloc, to, shape, left, right);
+        return share(alloc, shape, left, right, false);
     }
     Ok(Decision::Waits(Cell::Part(right), Some(Cell::Part(left))))
 }
