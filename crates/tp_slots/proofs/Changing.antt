@@ -13,7 +13,7 @@ use Rattle.tp_slots.specs.Kept.{IsShaped, IsQuiet, IsWellKept, IsUnchanged}
 use Rattle.tp_slots.specs.Lives.{lives_in}
 use Rattle.tp_slots.specs.Looks.{LooksAreRight, LooksFollow}
 use Rattle.tp_slots.specs.Replace.{home_in}
-use Rattle.tp_slots.specs.Row.{begun, stepped, held_after, AllBelow}
+use Rattle.tp_slots.specs.Row.{begun, stepped, held_after}
 use Rattle.tp_slots.specs.Reductions.{IsBare, AreBare, becomes_leaves}
 use Rattle.tp_slots.specs.Threads.{AreThreaded, afters_then}
 use Rattle.tp_slots.specs.Read.{slot_of, region_slot_of, slots_of, scene_of, afters_of, holders_of, ends_of, goes_of, flags_of}
@@ -230,12 +230,6 @@ raised_kept s s' z shape es eh eo right quiet right_other quiet_other looks thre
       quiet_goes = moved (flags_in (goes_of s')) b;
       looks = looks';
     }
-
-pub bare_below : (c : ℕ) (ws : List What) → AreBare ws → AllBelow c ws
-bare_below c [] b = tt
-bare_below c (plain.bare l ∷ ws) b = (tt, bare_below c ws b.1)
-bare_below c (plain.holds k p o ∷ ws) b = absurd b.0
-bare_below c (plain.gone by ∷ ws) b = absurd b.0
 
 -- Leaves in an item's place.
 module _ (s : Scene) (t : ℕ) (m : Option Side) (outs : List What) (kept : IsWellKept s) (lives : has t (scene_of s).root.entries ≡ true) (free : IsBare (slot_at (slots_of s) t).what) (bare : AreBare outs) (next : Scene) (n : ℕ)

@@ -20,6 +20,7 @@ pub mod Lists
 pub mod Seeing
 pub mod Changing
 pub mod Preparing
+pub mod Placing
 pub mod Moving
 pub mod Picking
 pub mod Walking

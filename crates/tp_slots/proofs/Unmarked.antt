@@ -1,11 +1,10 @@
 -- Leaves in an item's place, without a mark.
-use Rattle.std.proofs.Common.{◌≡◌, ℕ, ◌+◌, ◌++◌, List, [], ◌∷◌, length, true, None, ap, sym, ◌∙◌, arith}
-use Rattle.std.proofs.lemmas.List.{append-nil}
+use Rattle.std.proofs.Common.{◌≡◌, ℕ, ◌++◌, List, [], ◌∷◌, length, true, None, refl, ap, ◌∙◌}
 use Rattle.tp_scene.specs.Scene.{has}
 use Rattle.tp_scene.specs.Pick.{scene_after}
 use Rattle.std.specs.List.{range_with_len}
 use Rattle.tp_slots.specs.Plain.{What, Slot, Slots, slot_at}
-use Rattle.tp_slots.specs.Replace.{gone_at, home_in, marked_at}
+use Rattle.tp_slots.specs.Replace.{gone_at, home_in}
 use Rattle.tp_slots.specs.Kept.{IsWellKept}
 use Rattle.tp_slots.specs.News.{new_items}
 use Rattle.tp_slots.specs.Row.{stepped, held_after}
@@ -13,17 +12,14 @@ use Rattle.tp_slots.specs.Reductions.{IsBare, AreBare, becomes_leaves}
 use Rattle.tp_slots.specs.Threads.{afters_then}
 use Rattle.tp_slots.specs.Read.{slots_of, scene_of, afters_of, holders_of, ends_of, goes_of}
 use Rattle.tp_slots.proofs.Changing.{leaves_threads, leaves_flags, leaves_looks, leaves_quiet, leaves_scene, leaves_shape, unmarked_kept}
+use Rattle.tp_slots.proofs.Placing.{leaves_stepped}
 use Rattle.tp_slots.proofs.Lists.{unmarked_is}
 use Rattle.tp_slots.proofs.Newly.{leaves_news}
 use Rattle.tp_slots.specs.declared.scene.Scene.{Scene}
 
 -- one item more, where no region changes
 pub one_stepped : (s : Slots) (t first : ℕ) (w : What) (l : List Slot) → l ≡ gone_at s.slots t (first ∷ []) ++ record { home = home_in s.slots t; what = w } ∷ [] → first ≡ length s.slots → record { slots = l; regions = s.regions } ≡ stepped s t None [] (w ∷ [])
-one_stepped s t first w l e f =
-    let number : first ≡ length s.slots + 0 = omega (arith, f) in
-    let items = e ∙ ap (λ k. gone_at s.slots t (k ∷ []) ++ record { home = home_in s.slots t; what = w } ∷ []) number in
-    let regions = unmarked_is s.regions (slot_at s t).home ∙ sym (append-nil (marked_at s.regions (slot_at s t).home None)) in
-    λ i. record { slots = items i; regions = regions i }
+one_stepped s t first w l e f = leaves_stepped s t first 1 None (w ∷ []) l s.regions e (unmarked_is s.regions (slot_at s t).home) f refl
 
 module _ (s : Scene) (t : ℕ) (outs : List What) (kept : IsWellKept s) (lives : has t (scene_of s).root.entries ≡ true) (free : IsBare (slot_at (slots_of s) t).what) (bare : AreBare outs) (next : Scene)
     (es : slots_of next ≡ stepped (slots_of s) t None [] outs) (eh : holders_of next ≡ held_after (slots_of s) [] outs (holders_of s))

@@ -48,9 +48,9 @@ pub record IsUnchanged (old new : Scene) : Type 0 where
   pub slots : new.slots.items ≡ old.slots.items
   pub regions : new.regions.items ≡ old.regions.items
 
--- There is room for one item more.
-abbrev pub HasRoom : Scene → Type 0
-HasRoom s = vec_len s.slots + 1 ≤ vec_capacity s.slots
+-- There is room for so many items more.
+abbrev pub HasRoomFor : (count : ℕ) → Scene → Type 0
+HasRoomFor c s = vec_len s.slots + c ≤ vec_capacity s.slots
 
 -- a live item
 abbrev pub Lives : Scene → (item : ℕ) → Type 0

@@ -5,7 +5,7 @@ ghost use Rattle.tp_scene.specs.Scene as S;
 ghost use Rattle.tp_scene.specs.Pick.{HasAdded};
 ghost use Rattle.tp_decide.specs.Read.{env_of, formula_of};
 ghost use Rattle.tp_slots.specs.Bound.{IsDueUnder, IsTakenOut, bound_last, slot_in, slot_with};
-ghost use Rattle.tp_slots.specs.Kept.{HasRoom, IsReducedTo, IsUnchanged, IsWellKept, Lives};
+ghost use Rattle.tp_slots.specs.Kept.{HasRoomFor, IsReducedTo, IsUnchanged, IsWellKept, Lives};
 ghost use Rattle.tp_slots.specs.News.{new_items};
 ghost use Rattle.tp_slots.specs.Plain.{bare};
 ghost use Rattle.tp_slots.specs.Read.{item_what, scene_of};
@@ -30,7 +30,7 @@ fn take_due(scene: &mut Scene, item: u64, next: u64) -> Phrase
     ensures taken { IsTakenOut item next scene.old.slots.items result scene.new.slots.items }
     ensures regions { scene.new.regions ≡ scene.old.regions }
     ensures looks { scene.new.looks ≡ scene.old.looks }
-    ensures room { HasRoom scene.old → HasRoom scene.new }
+    ensures room { HasRoomFor 1 scene.old → HasRoomFor 1 scene.new }
 {
     let gone = What::Gone {
         first: next,
@@ -56,7 +56,7 @@ fn put_back(scene: &mut Scene, item: u64, phrase: Phrase)
 // An item more, which stands and is visited where the other one was. There is room for it.
 fn push_due(scene: &mut Scene, item: u64, phrase: Phrase)
     requires item { item < length scene.old.slots.items }
-    requires room { HasRoom scene.old }
+    requires room { HasRoomFor 1 scene.old }
     ensures slots { scene.new.slots.items ≡ scene.old.slots.items
         ++ slot_with (slot_in scene.old.slots.items item) (what.Do phrase) ∷ [] }
     ensures regions { scene.new.regions ≡ scene.old.regions }
@@ -139,7 +139,7 @@ pub fn become_bound(
     drop(body.env);
     let next = scene.slots.len() as u64;
     let fresh = numbers(alloc, next, 1)?;
-    make_room(scene)?;
+    make_room(scene, 1)?;
     let mut taken = take_due(scene, item, next);
     match bind_local(alloc, &mut taken.env, &name, lasting, store) {
         Ok(()) => {

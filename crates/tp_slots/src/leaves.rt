@@ -1,23 +1,23 @@
 // Items without regions in an item's place.
-ghost use Rattle.std.specs.Prelude.{◌≡◌, ◌<◌, ◌+◌, ◌++◌, ◌^◌, [], length, IfOk, OnOk, OnErr, true};
+ghost use Rattle.std.specs.Prelude.{◌≡◌, ◌<◌, ◌≤◌, ◌+◌, ◌++◌, ◌^◌, [], length, IfOk, OnOk, OnErr, true, vec_len, vec_capacity};
 ghost use Rattle.std.specs.Option.{option_map};
 ghost use Rattle.std.specs.List.{range_with_len};
 ghost use Rattle.tp_decide.specs.Decided.{mark_of, plain_leaf};
 ghost use Rattle.tp_scene.specs.Scene as S;
 ghost use Rattle.tp_slots.specs.Flags.{FlagsFollow};
-ghost use Rattle.tp_slots.specs.Kept.{IsUnchanged, IsShaped, IsQuiet, IsWellKept, Lives, region_lives, IsReducedTo, flags_on};
+ghost use Rattle.tp_slots.specs.Kept.{HasRoomFor, IsUnchanged, IsShaped, IsQuiet, IsWellKept, Lives, region_lives, IsReducedTo, flags_on};
 ghost use Rattle.tp_slots.specs.Looks.{LooksFollow};
 ghost use Rattle.tp_slots.specs.News.{bare_leaves, new_items};
 ghost use Rattle.tp_slots.specs.Plain as plain;
-ghost use Rattle.tp_slots.specs.Prepared.{IsPrepared};
-ghost use Rattle.tp_slots.specs.Read.{afters_of, all_slots, holders_of, item_what, scene_of, slot_afters, slot_whats, slots_of, what_of};
-ghost use Rattle.tp_slots.specs.Reductions.{AreBare, IsBare, becomes_leaves};
-ghost use Rattle.tp_slots.specs.Row.{slots_in};
-ghost use Rattle.tp_slots.specs.Threads.{AreThreaded, links};
+ghost use Rattle.tp_slots.specs.Read.{afters_of, all_slots, ends_of, goes_of, holders_of, item_home, item_what, scene_of, slot_afters, slots_of, what_of};
+ghost use Rattle.tp_slots.specs.Reductions.{IsBare, becomes_leaves};
+ghost use Rattle.tp_slots.specs.Row.{slots_in, stepped};
+ghost use Rattle.tp_slots.specs.Threads.{AreThreaded, afters_then, links};
 
 use crate::flags::raise;
 use crate::looks::pass_mark;
-use crate::put::{News, commit, numbers, push_link};
+use crate::put::{go, numbers, push_link, set_mark};
+use crate::room::make_room;
 use crate::scene::{Scene, Slot, What};
 use std::alloc::Global;
 use tp_decide::{Leaf, Side};
@@ -59,79 +59,71 @@ pub fn leaf_what(leaf: Leaf) -> What
     }
 }
 
-// Appends slots of one region for leaves, or fails. The first one has this number; each is visited after the one before it, and `end` after
-// the last.
-fn push_leaves(
-    list: &mut Vec<Slot>,
-    home: u64,
-    first: u64,
-    end: Option<u64>,
-    leaves: Vec<Leaf>,
-) -> Result<(), NoMemory>
-    requires { first + length leaves.items < 2 ^ 64 }
-    ensures slots { OnOk result (all_slots list.new.items
-        ≡ all_slots list.old.items ++ slots_in home (bare_leaves leaves.items)) }
-    ensures afters { OnOk result (slot_afters list.new.items
-        ≡ slot_afters list.old.items ++ links first (length leaves.items) end) }
+// Appends slots of one region for leaves, for which there is room. The first one has this number; each is visited after the one before it,
+// and `end` after the last.
+fn push_leaves(list: &mut Vec<Slot>, home: u64, first: u64, end: Option<u64>, leaves: Vec<Leaf>)
+    requires few { first + length leaves.items < 2 ^ 64 }
+    requires room { vec_len list.old + length leaves.items ≤ vec_capacity list.old }
+    ensures slots { all_slots list.new.items
+        ≡ all_slots list.old.items ++ slots_in home (bare_leaves leaves.items) }
+    ensures afters { slot_afters list.new.items
+        ≡ slot_afters list.old.items ++ links first (length leaves.items) end }
 {
     let mut left = leaves.len() as u64;
     let last = first + left;
     for leaf in leaves {
-        push_link(list, home, left, last, end, leaf_what(leaf))?;
+        let Ok(()) = push_link(list, home, left, last, end, leaf_what(leaf)) else {
+            unreachable!();
+        };
         left -= 1;
     }
-    Ok(())
 }
 
-/// Makes slots for leaves in an item's place, for which there is room then. The scene stays what it is.
-pub fn prepare_leaves(
-    alloc: Global,
-    scene: &mut Scene,
-    item: u64,
-    leaves: Vec<Leaf>,
-) -> Result<News, NoMemory>
-    requires { item < length scene.old.slots.items }
-    ensures prepared { IfOk result
-        (IsPrepared item [] (bare_leaves leaves.items) scene.new) }
-    ensures same { IsUnchanged scene.old scene.new }
+// Leaves, for which there is room, stand in place of an item, whose region is marked. What is answered is that region. They go straight
+// into the scene's slots: a list of them first would be an allocation more in each step.
+fn commit_leaves(scene: &mut Scene, item: u64, side: Option<Side>, leaves: Vec<Leaf>) -> u64
+    requires item { item < length scene.old.slots.items }
+    requires home { item_home scene.old item < length scene.old.regions.items }
+    requires room { HasRoomFor (length leaves.items) scene.old }
+    ensures home { result ≡ item_home scene.old item }
+    ensures slots { slots_of scene.new
+        ≡ stepped (slots_of scene.old) item (option_map mark_of side) []
+        (bare_leaves leaves.items) }
+    ensures holders { holders_of scene.new ≡ holders_of scene.old }
+    ensures ends { ends_of scene.new ≡ ends_of scene.old }
+    ensures goes { goes_of scene.new ≡ goes_of scene.old }
+    ensures afters { afters_of scene.new
+        ≡ afters_then (afters_of scene.old) 0 (length leaves.items) item }
     ensures looks { scene.new.looks ≡ scene.old.looks }
 {
-    let from = scene.slots.len() as u64;
+    let first = scene.slots.len() as u64;
     let count = leaves.len() as u64;
-    let home = scene.slots[item as usize].home;
     let end = scene.slots[item as usize].after;
-    let mut slots = Vec::new(alloc);
-    push_leaves(&mut slots, home, from, end, leaves)?;
-    scene.slots.reserve(slots.len())?;
-    Ok(News {
-        from,
-        count,
-        slots,
-        regions: Vec::new(alloc),
-    })
+    let home = go(scene.slots.as_mut_slice(), item as usize, first, count);
+    set_mark(scene.regions.as_mut_slice(), home as usize, side);
+    push_leaves(&mut scene.slots, home, first, end, leaves);
+    home
 }
 
 /// Items that hold no region, for which there is room, stand in an item's place, and its region is marked.
-pub fn place_leaves(scene: &mut Scene, item: u64, mark: Option<Side>, news: News)
+pub fn place_leaves(scene: &mut Scene, item: u64, mark: Option<Side>, leaves: Vec<Leaf>)
     requires kept { IsWellKept scene.old }
     requires lives { Lives scene.old item }
     requires free { IsBare (item_what scene.old item) }
-    requires prepared { IsPrepared item [] (slot_whats news.slots.items) scene.old news }
-    requires bare { AreBare (slot_whats news.slots.items) }
+    requires room { HasRoomFor (length leaves.items) scene.old }
     ensures kept { IsWellKept scene.new }
     ensures scene { let reduction =
-        becomes_leaves (scene_of scene.old) (slot_whats news.slots.items) (option_map mark_of mark)
+        becomes_leaves (scene_of scene.old) (bare_leaves leaves.items) (option_map mark_of mark)
         in IsReducedTo item reduction scene.old scene.new }
     ensures news { new_items (scene_of scene.old) (scene_of scene.new)
-        ≡ range_with_len (length scene.old.slots.items) (length news.slots.items) }
+        ≡ range_with_len (length scene.old.slots.items) (length leaves.items) }
 {
-    let home = scene.slots[item as usize].home;
-    commit(scene, item, mark, news);
+    let home = commit_leaves(scene, item, mark, leaves);
     raise_mark(scene, home, mark);
 }
 
 /// Items that hold no region stand in an item's place, and its region is marked. What became live is answered. Or nothing changes.
-#[tactic(auto, using(crate::proofs::Changing::unchanged_kept, crate::proofs::Newly::leaves_bare))]
+#[tactic(auto, using(crate::proofs::Changing::unchanged_kept))]
 pub fn become_leaves(
     alloc: Global,
     scene: &mut Scene,
@@ -151,7 +143,7 @@ pub fn become_leaves(
     ensures err { OnErr result (IsUnchanged scene.old scene.new) }
 {
     let fresh = numbers(alloc, scene.slots.len() as u64, news.len())?;
-    let made = prepare_leaves(alloc, scene, item, news)?;
-    place_leaves(scene, item, mark, made);
+    make_room(scene, news.len())?;
+    place_leaves(scene, item, mark, news);
     Ok(fresh)
 }

@@ -69,8 +69,8 @@ fn push_in(list: &mut Vec<Slot>, home: u64, whats: Vec<What>) -> Result<(), NoMe
     Ok(())
 }
 
-/// Appends a slot of a region, or fails: it is the first of so many that are left, of which the last one has the number before `last`.
-/// After it the next of them is visited, and `end` after the last.
+/// Appends a slot of a region, or fails, which it doesn't where there is room. It is the first of so many that are left, of which the last
+/// one has the number before `last`. After it the next of them is visited, and `end` after the last.
 pub fn push_link(
     list: &mut Vec<Slot>,
     home: u64,
@@ -86,6 +86,9 @@ pub fn push_link(
     ensures afters { OnOk result
         (slot_afters list.new.items ++ links (last - (left - 1)) (left - 1) end
         ≡ slot_afters list.old.items ++ links (last - left) left end) }
+    ensures len { OnOk result (vec_len list.new ≡ vec_len list.old + 1) }
+    ensures capacity { vec_capacity list.old ≤ vec_capacity list.new }
+    ensures full { OnErr result (vec_capacity list.old ≤ vec_len list.old) }
 {
     let behind = left - 1;
     let after = if behind == 0 {
@@ -158,8 +161,8 @@ pub fn go(list: &mut [Slot], at: usize, first: u64, count: u64) -> u64
     home
 }
 
-// The region at `at` is marked.
-fn set_mark(list: &mut [Region], at: usize, side: Option<Side>)
+/// The region at `at` is marked.
+pub fn set_mark(list: &mut [Region], at: usize, side: Option<Side>)
     requires { at < length list.old }
     ensures slots { region_slots list.new
         ≡ marked_at (region_slots list.old) at (option_map mark_of side) }

@@ -1,12 +1,11 @@
 // Changes that can't fail, and room for them.
 ghost use Rattle.std.specs.Prelude.{◌≡◌, [], None, OnOk};
-ghost use Rattle.tp_slots.specs.Kept.{HasRoom, IsReducedTo, IsUnchanged, IsWellKept, Lives};
+ghost use Rattle.tp_slots.specs.Kept.{HasRoomFor, IsReducedTo, IsUnchanged, IsWellKept, Lives};
 ghost use Rattle.tp_slots.specs.News.{new_items};
 ghost use Rattle.tp_slots.specs.Read.{item_what, scene_of};
 ghost use Rattle.tp_slots.specs.Reductions.{IsBare, becomes_leaves};
 
 use crate::leaves::place_leaves;
-use crate::put::News;
 use crate::scene::Scene;
 use std::alloc::Global;
 use tp_value::NoMemory;
@@ -21,21 +20,15 @@ pub fn vanish(alloc: Global, scene: &mut Scene, item: u64)
         scene.old scene.new }
     ensures news { new_items (scene_of scene.old) (scene_of scene.new) ≡ [] }
 {
-    let news = News {
-        from: 0,
-        count: 0,
-        slots: Vec::new(alloc),
-        regions: Vec::new(alloc),
-    };
-    place_leaves(scene, item, None, news);
+    place_leaves(scene, item, None, Vec::new(alloc));
 }
 
-/// Makes room for one item more, or fails; the scene stays what it is.
-pub fn make_room(scene: &mut Scene) -> Result<(), NoMemory>
+/// Makes room for so many items more, or fails; the scene stays what it is.
+pub fn make_room(scene: &mut Scene, count: usize) -> Result<(), NoMemory>
     ensures same { IsUnchanged scene.old scene.new }
     ensures looks { scene.new.looks ≡ scene.old.looks }
-    ensures room { OnOk result (HasRoom scene.new) }
+    ensures room { OnOk result (HasRoomFor count scene.new) }
 {
-    scene.slots.reserve(1)?;
+    scene.slots.reserve(count)?;
     Ok(())
 }

@@ -10,8 +10,9 @@ ghost use Rattle.tp_slots.specs.News.{bare_leaves, new_items};
 ghost use Rattle.tp_slots.specs.Read.{item_what, scene_of};
 ghost use Rattle.tp_slots.specs.Reductions.{IsBare, becomes_leaves};
 
-use crate::leaves::{place_leaves, prepare_leaves};
+use crate::leaves::place_leaves;
 use crate::put::numbers;
+use crate::room::make_room;
 use crate::scene::Scene;
 use std::alloc::Global;
 use tp_decide::Leaf;
@@ -20,7 +21,7 @@ use tp_value::{Facts, Path};
 
 /// A list gets this length, and items that hold no region stand in an item's place. What became live is answered, and the facts that are
 /// new. Or nothing changes, in the scene or in the store.
-#[tactic(auto, using(crate::proofs::Changing::unchanged_kept, crate::proofs::Newly::leaves_bare))]
+#[tactic(auto, using(crate::proofs::Changing::unchanged_kept))]
 pub fn become_sharing(
     alloc: Global,
     scene: &mut Scene,
@@ -48,8 +49,8 @@ pub fn become_sharing(
 {
     let (path, length) = target;
     let fresh = numbers(alloc, scene.slots.len() as u64, news.len())?;
-    let made = prepare_leaves(alloc, scene, item, news)?;
+    make_room(scene, news.len())?;
     let facts = store.add_length(&path, length)?;
-    place_leaves(scene, item, None, made);
+    place_leaves(scene, item, None, news);
     Ok((fresh, facts))
 }

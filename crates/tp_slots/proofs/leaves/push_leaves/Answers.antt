@@ -31,11 +31,12 @@ loop-leaf-preserved c =
     let w = plain.bare (plain_leaf c.in-Some.leaf) in (
       tt,
       tt,
-      c.in_ok-push_link.ensures.slots
+      c.in-Ok.ensures.slots
           ∙ ((λ j. i.2 j ++ record { home = home; what = this j } ∷ [])
           ∙ (append_assoc (map slot_of c.args.list.now.items) (slots_in home before) (record { home = home; what = w } ∷ [])
           ∙ ap (λ l. map slot_of c.args.list.now.items ++ l) (sym (slots_more home before w) ∙ ap (slots_in home) (sym (map-append (λ (l : Leaf). plain.bare (plain_leaf l)) c.loop-leaf.yielded (c.in-Some.leaf ∷ [])))))),
       search rules,
       omega (arith, small),
-      c.in_ok-push_link.ensures.afters ∙ i.5,
+      c.in-Ok.ensures.afters ∙ i.5,
+      search rules,
     )

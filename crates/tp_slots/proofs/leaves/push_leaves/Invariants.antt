@@ -1,4 +1,4 @@
-use Rattle.std.proofs.Common.{◌≡◌, ◌-◌, ◌≤◌, ◌++◌, map, length}
+use Rattle.std.proofs.Common.{◌≡◌, ◌+◌, ◌-◌, ◌≤◌, ◌++◌, map, length, vec_len, vec_capacity}
 use Rattle.tp_slots.specs.Row.{slots_in}
 use Rattle.tp_slots.specs.News.{bare_leaves}
 use Rattle.tp_slots.specs.Read.{slot_of}
@@ -12,4 +12,5 @@ invariant-loop-leaf l =
     (map slot_of l.list.items ≡ map slot_of l.fn.list.items ++ slots_in l.home (bare_leaves l.yielded)) ×
     ((goal.iterator-loop-leaf).remaining l.leaf-iterator ≡ l.left) ×
     (l.left ≤ length l.fn.leaves.items) ×
-    (map (λ x. x.after) l.list.items ++ links (l.last - l.left) l.left l.end ≡ map (λ x. x.after) l.fn.list.items ++ links l.first (length l.fn.leaves.items) l.end)
+    (map (λ x. x.after) l.list.items ++ links (l.last - l.left) l.left l.end ≡ map (λ x. x.after) l.fn.list.items ++ links l.first (length l.fn.leaves.items) l.end) ×
+    (vec_len l.list + l.left ≤ vec_capacity l.list)
