@@ -91,6 +91,13 @@ leaves_step s t m ws sound within a b = record {
 one_between : (a x : ℕ) → between a (a + 1) x ≡ one_if x a
 one_between a x = let p = between_first a (a + 1) x (omega arith) in let e : suc a ≡ a + 1 = omega arith in let q = ap (λ b. between b (a + 1) x) e ∙ between_none (a + 1) x in omega (arith, p, q)
 
+pub one_lives : (k : Holder) → has_second k ≡ false → second_lives k ≡ false
+one_lives (Split f env) e = refl
+one_lives (SplitProject f env) e = absurd (false≢true (sym e))
+one_lives Closed e = refl
+one_lives (Opened f env) e = refl
+one_lives (Running f env) e = absurd (false≢true (sym e))
+
 no_second : (k : Holder) (x : ℕ) → has_second k ≡ false → count x (second_number k no_region) ≡ 0
 no_second (Split f env) x e = count_none x
 no_second (SplitProject f env) x e = absurd (false≢true (sym e))

@@ -1,5 +1,5 @@
 -- What becomes live by each kind of step.
-use Rattle.std.proofs.Common.{◌≡◌, ℕ, ◌+◌, ◌≤◌, Bool, List, [], ◌∷◌, ◌++◌, length, true, Option, Some, None, refl, ap, sym, ◌∙◌, subst, arith}
+use Rattle.std.proofs.Common.{◌≡◌, ℕ, ◌+◌, ◌≤◌, Bool, false, List, [], ◌∷◌, ◌++◌, length, true, Option, Some, None, refl, ap, sym, ◌∙◌, subst, arith}
 use Rattle.std.specs.Prelude.{not}
 use Rattle.std.specs.List.{filter, range_with_len}
 use Rattle.std.proofs.lemmas.List.{append_assoc}
@@ -7,7 +7,7 @@ use Rattle.std.proofs.lemmas.List.Elements.{filter-append}
 use Rattle.tp_meaning.specs.Syntax.{FormulaTree}
 use Rattle.tp_store.specs.Known.{Contents}
 use Rattle.tp_scene.specs.Scene as S
-use Rattle.tp_scene.specs.Scene.{Bindings, Side, Split, SplitProject, Closed, Opened, Running, leaf, none, new_head, has, live_items, closed_then, opened_then, running_then, held_place}
+use Rattle.tp_scene.specs.Scene.{Bindings, Side, Split, SplitProject, Closed, Opened, Running, leaf, none, new_head, has, live_items, only_if, second_lives, closed_then, opened_then, running_then, held_place}
 use Rattle.tp_scene.specs.Step.{Reduction, reduces}
 use Rattle.tp_scene.specs.Pick.{Setting, outcome_of, scene_after}
 use Rattle.tp_decide.specs.declared.decision.Leaf.{Leaf}
@@ -16,7 +16,7 @@ use Rattle.tp_slots.specs.Places.{HeldBy}
 use Rattle.tp_slots.specs.Lives.{lives_in}
 use Rattle.tp_slots.specs.Kept.{IsWellKept}
 use Rattle.tp_slots.specs.News.{new_items, bare_leaves, moved_news}
-use Rattle.tp_slots.specs.Reductions.{AreBare, CanMove, IsReduced, IsAfter, becomes_leaves, becomes_split, becomes_opened}
+use Rattle.tp_slots.specs.Reductions.{AreBare, CanMove, IsReduced, IsAfter, becomes_leaves, becomes_holder}
 use Rattle.tp_slots.specs.Read.{slots_of, scene_of, holders_of}
 use Rattle.tp_slots.proofs.Living.{home_lives, first_lives}
 use Rattle.tp_slots.proofs.Moving.{asleep_second, at_place, begins, closes, opened_reduced, project_reduced, same_reduction, split_reduced, stepped_as, within}
@@ -51,11 +51,10 @@ module _ (s : Scene) (t : ℕ) (kept : IsWellKept s) (lives : has t (scene_of s)
   pub leaves_news : (ws : List What) (m : Option Side) → new_items (scene_of s) (scene_after t (becomes_leaves (scene_of s) ws m) (scene_of s)) ≡ range_with_len n (length ws)
   leaves_news ws m = news_after (scene_of s) t (becomes_leaves (scene_of s) ws m) lives ∙ (ap (filter fresh) (leaves_live n ws) ∙ numbered (length ws))
 
-  pub split_news : (f : FormulaTree) (e : Bindings) (g : FormulaTree) (env : Bindings) → new_items (scene_of s) (scene_after t (becomes_split (scene_of s) f e g env) (scene_of s)) ≡ range_with_len n 2
-  split_news f e g env = news_after (scene_of s) t (becomes_split (scene_of s) f e g env) lives ∙ (ap (filter fresh) (two_numbers n) ∙ numbered 2)
-
-  pub opened_news : (f : FormulaTree) (e : Bindings) (g : FormulaTree) (env : Bindings) → new_items (scene_of s) (scene_after t (becomes_opened (scene_of s) f e g env) (scene_of s)) ≡ range_with_len n 2
-  opened_news f e g env = news_after (scene_of s) t (becomes_opened (scene_of s) f e g env) lives ∙ (ap (filter fresh) (two_numbers n) ∙ numbered 2)
+  pub holder_news : (f : FormulaTree) (e : Bindings) (k : S.Holder) (p : ℕ) → second_lives k ≡ false → new_items (scene_of s) (scene_after t (becomes_holder (scene_of s) f e (holds k p None)) (scene_of s)) ≡ range_with_len n 2
+  holder_news f e k p asleep =
+      news_after (scene_of s) t (becomes_holder (scene_of s) f e (holds k p None)) lives
+      ∙ (ap (λ b. filter fresh ((only_if b [] ++ (0 + n) ∷ []) ++ (1 + n) ∷ [])) asleep ∙ (ap (filter fresh) (two_numbers n) ∙ numbered 2))
 
   -- what a region that the item holds has
   fits : (v : What) → (slot_at (slots_of s) t).what ≡ v → WhatFits (slots_of s) (slot_at (slots_of s) t).home t v

@@ -1,12 +1,12 @@
 -- The reductions of items, by what they make.
-use Rattle.std.specs.Prelude.{◌≡◌, ℕ, ◌+◌, List, [], ◌∷◌, length, Option, Some, None}
+use Rattle.std.specs.Prelude.{◌≡◌, ℕ, ◌+◌, false, List, [], ◌∷◌, length, Option, Some, None}
 use Rattle.tp_meaning.specs.Syntax.{FormulaTree, more}
 use Rattle.tp_store.specs.Known.{Contents}
 use Rattle.tp_scene.specs.Scene as S
-use Rattle.tp_scene.specs.Scene.{Side, Bindings, Leaf, Entries, none, leaf, split_then, opened_then}
+use Rattle.tp_scene.specs.Scene.{Side, Bindings, Leaf, Entries, none, leaf, node, no_region, split_then, opened_then}
 use Rattle.tp_scene.specs.Step.{Reduction, reduces, region_of}
 use Rattle.tp_scene.specs.Pick.{Setting, outcome_of, scene_after}
-use Rattle.tp_slots.specs.Plain.{What, bare, holds, gone}
+use Rattle.tp_slots.specs.Plain.{What, bare, holds, gone, has_second}
 
 abbrev pub leaf_in : What → Leaf
 leaf_in (bare l) = l
@@ -63,6 +63,22 @@ becomes_opened s f e g env = record {
   mark = None;
   facts = [];
 }
+
+-- it holds the region with this number, and no other one
+abbrev pub HoldsOne : (region : ℕ) → What → Type 0
+HoldsOne r w = (k : S.Holder) × (w ≡ holds k r None) × (has_second k ≡ false)
+
+-- what holds this region
+abbrev pub holder_then : (id : ℕ) → What → S.Region → Entries
+holder_then id (bare l) r = none
+holder_then id (holds k p o) r = node id k r.head r.entries no_region none none
+holder_then id (gone by) r = none
+
+-- a region with one item, and what holds it
+abbrev pub becomes_holder : S.Scene → (first : FormulaTree) → Bindings → What → Reduction
+becomes_holder s f e w =
+    let news = holder_then (1 + s.next_item) w (region_of s.next_region (0 + s.next_item) f e) in
+    record { news = news; items = 2; regions = 1; local = None; mark = None; facts = [] }
 
 -- the item t is reduced, whatever is known
 abbrev pub IsReduced : S.Scene → (t : ℕ) → Type 0

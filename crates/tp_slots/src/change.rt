@@ -4,7 +4,7 @@ ghost use Rattle.tp_meaning.specs.Syntax.{more};
 ghost use Rattle.tp_scene.specs.Scene.{has};
 ghost use Rattle.tp_decide.specs.Read.{env_of, formula_of};
 ghost use Rattle.tp_slots.specs.News.{moved_news, new_items};
-ghost use Rattle.tp_slots.specs.Reductions.{CanMove, IsAfter, IsBare, IsReduced, becomes_opened, becomes_split, moved_inner, moved_outs};
+ghost use Rattle.tp_slots.specs.Reductions.{CanMove, HoldsOne, IsAfter, IsBare, IsReduced, becomes_holder, becomes_opened, becomes_split, moved_inner, moved_outs};
 ghost use Rattle.tp_slots.specs.Read.{scene_of, slots_of, what_of, whats_of, item_what};
 ghost use Rattle.tp_slots.specs.Kept.{IsWellKept, IsUnchanged, Lives, IsReducedTo};
 
@@ -24,6 +24,33 @@ fn one(alloc: Global, what: What) -> Result<Vec<What>, NoMemory>
     let mut list = Vec::new(alloc);
     list.push(what)?;
     Ok(list)
+}
+
+// A region begins with one item, and what holds it stands in an item's place. What became live is answered. Or nothing changes.
+fn become_holder(
+    alloc: Global,
+    scene: &mut Scene,
+    item: u64,
+    first: Phrase,
+    holder: What,
+) -> Result<Vec<u64>, NoMemory>
+    requires kept { IsWellKept scene.old }
+    requires lives { Lives scene.old item }
+    requires free { IsBare (item_what scene.old item) }
+    requires one { HoldsOne (length scene.old.regions.items) (what_of holder) }
+    ensures kept { IsWellKept scene.new }
+    ensures scene { let reduction =
+        becomes_holder (scene_of scene.old) (formula_of first) (env_of first) (what_of holder)
+        in OnOk result (IsReducedTo item reduction scene.old scene.new) }
+    ensures news { IfOk result (λ v.
+        v.items ≡ new_items (scene_of scene.old) (scene_of scene.new)) }
+    ensures err { OnErr result (IsUnchanged scene.old scene.new) }
+{
+    let fresh = numbers(alloc, scene.slots.len() as u64, 2)?;
+    let inner = one(alloc, What::Do(first))?;
+    let outs = one(alloc, holder)?;
+    put(alloc, scene, item, None, inner, outs)?;
+    Ok(fresh)
 }
 
 /// A split stands in an item's place: its left region has the first formula, and the other one follows it. What became live
@@ -47,11 +74,8 @@ pub fn become_split(
         v.items ≡ new_items (scene_of scene.old) (scene_of scene.new)) }
     ensures err { OnErr result (IsUnchanged scene.old scene.new) }
 {
-    let fresh = numbers(alloc, scene.slots.len() as u64, 2)?;
     let left = scene.regions.len() as u64;
-    let inner = one(alloc, What::Do(first))?;
-    let outs = one(alloc, What::Split { left, after })?;
-    put(alloc, scene, item, None, inner, outs)?;
+    let fresh = become_holder(alloc, scene, item, first, What::Split { left, after })?;
     Ok(fresh)
 }
 
@@ -76,11 +100,8 @@ pub fn become_opened(
         v.items ≡ new_items (scene_of scene.old) (scene_of scene.new)) }
     ensures err { OnErr result (IsUnchanged scene.old scene.new) }
 {
-    let fresh = numbers(alloc, scene.slots.len() as u64, 2)?;
     let outer = scene.regions.len() as u64;
-    let inner = one(alloc, What::Do(first))?;
-    let outs = one(alloc, What::Opened { outer, piece })?;
-    put(alloc, scene, item, None, inner, outs)?;
+    let fresh = become_holder(alloc, scene, item, first, What::Opened { outer, piece })?;
     Ok(fresh)
 }
 
