@@ -238,8 +238,8 @@ pub struct News {
     pub regions: Vec<Region>,
 }
 
-/// Puts the news in place of an item, whose region is marked. There is room.
-pub fn commit(scene: &mut Scene, item: u64, side: Option<Side>, news: News)
+// Puts the news in place of an item, whose region is marked. There is room.
+fn commit(scene: &mut Scene, item: u64, side: Option<Side>, news: News)
     requires item { item < length scene.old.slots.items }
     requires home { home_in (all_slots scene.old.slots.items) item
         < length scene.old.regions.items }
@@ -273,9 +273,9 @@ pub fn commit(scene: &mut Scene, item: u64, side: Option<Side>, news: News)
     push_slots(&mut scene.slots, news.slots);
 }
 
-/// Makes what is to be put in an item's place: the items `outs` there, and the items `inner` in a new region, if there are any. Then there
-/// is room for it. The scene stays what it is.
-pub fn prepare(
+// Makes what is to be put in an item's place: the items `outs` there, and the items `inner` in a new region, if there are any. Then there
+// is room for it. The scene stays what it is.
+fn prepare(
     alloc: Global,
     scene: &mut Scene,
     item: u64,
