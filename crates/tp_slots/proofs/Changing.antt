@@ -210,9 +210,8 @@ raised_kept s s' z shape es eh eo right quiet right_other quiet_other looks thre
     moved : (f : Flags) → IsQuiet (slots_of s) (holders_of s) f → IsQuiet (slots_of s') (holders_of s') f
     moved f q = subst (λ x. IsQuiet x (holders_of s') f) (sym es) (subst (λ h. IsQuiet (slots_of s) h f) (sym eh) q)
 
-    by_side : (z : Side) → FlagsAreRight (slots_of s) z (flags_in (flags_of z s')) → IsQuiet (slots_of s) (holders_of s) (flags_in (flags_of z s')) → FlagsAreRight (slots_of s) (other_side z) (flags_in (flags_of (other_side z) s'))
-        → IsQuiet (slots_of s) (holders_of s) (flags_in (flags_of (other_side z) s')) → IsWellKept s'
-    by_side Ending a b c d = record {
+    both : FlagsAreRight (slots_of s) Ending (flags_in (ends_of s')) → IsQuiet (slots_of s) (holders_of s) (flags_in (ends_of s')) → FlagsAreRight (slots_of s) Going (flags_in (goes_of s')) → IsQuiet (slots_of s) (holders_of s) (flags_in (goes_of s')) → IsWellKept s'
+    both a b c d = record {
       shape = shape';
       threads = threads;
       ending = subst (λ x. FlagsAreRight x Ending (flags_in (ends_of s'))) (sym es) a;
@@ -221,15 +220,11 @@ raised_kept s s' z shape es eh eo right quiet right_other quiet_other looks thre
       quiet_goes = moved (flags_in (goes_of s')) d;
       looks = looks';
     }
-    by_side Going a b c d = record {
-      shape = shape';
-      threads = threads;
-      ending = subst (λ x. FlagsAreRight x Ending (flags_in (ends_of s'))) (sym es) c;
-      going = subst (λ x. FlagsAreRight x Going (flags_in (goes_of s'))) (sym es) a;
-      quiet_ends = moved (flags_in (ends_of s')) d;
-      quiet_goes = moved (flags_in (goes_of s')) b;
-      looks = looks';
-    }
+
+    by_side : (z : Side) → FlagsAreRight (slots_of s) z (flags_in (flags_of z s')) → IsQuiet (slots_of s) (holders_of s) (flags_in (flags_of z s')) → FlagsAreRight (slots_of s) (other_side z) (flags_in (flags_of (other_side z) s'))
+        → IsQuiet (slots_of s) (holders_of s) (flags_in (flags_of (other_side z) s')) → IsWellKept s'
+    by_side Ending a b c d = both a b c d
+    by_side Going a b c d = both c d a b
 
 -- Leaves in an item's place.
 module _ (s : Scene) (t : ℕ) (m : Option Side) (outs : List What) (kept : IsWellKept s) (lives : has t (scene_of s).root.entries ≡ true) (free : IsBare (slot_at (slots_of s) t).what) (bare : AreBare outs) (next : Scene) (n : ℕ)

@@ -2,7 +2,7 @@
 use Rattle.std.proofs.Common.{◌≡◌, ℕ, zero, suc, ◌+◌, ◌<◌, false, List, [], ◌∷◌, ◌++◌, map, length, get_or, Option, None, refl, ap, sym, ◌∙◌, subst, arith}
 use Rattle.std.specs.Prelude.{slice_set}
 use Rattle.std.specs.List.{range_with_len}
-use Rattle.std.proofs.lemmas.List.{map-set, map-append, get_or-map, set-get_or}
+use Rattle.std.proofs.lemmas.List.{append_assoc, map-set, map-append, get_or-map, set-get_or}
 use Rattle.tp_scene.specs.Scene.{Side}
 use Rattle.tp_slots.specs.Plain as plain
 use Rattle.tp_slots.specs.Replace.{home_in, gone_at, marked_slot, marked_at}
@@ -48,9 +48,14 @@ set_marked xs at d y m l e = map-set region_slot_of xs at y ∙ ap (slice_set (m
 pub unmarked_is : (xs : List plain.RegionSlot) (at : ℕ) → xs ≡ marked_at xs at None
 unmarked_is xs at = sym (set-get_or xs at (record { ends = false; goes = false; roots = [] }))
 
-pub slots_more : (home : ℕ) (ws : List plain.What) (w : plain.What) → slots_in home (ws ++ w ∷ []) ≡ slots_in home ws ++ record { home = home; what = w } ∷ []
+slots_more : (home : ℕ) (ws : List plain.What) (w : plain.What) → slots_in home (ws ++ w ∷ []) ≡ slots_in home ws ++ record { home = home; what = w } ∷ []
 slots_more home [] w = refl
 slots_more home (v ∷ ws) w = ap (λ l. record { home = home; what = v } ∷ l) (slots_more home ws w)
+
+pub slots_then : (home : ℕ) (base old new : List plain.Slot) (ws : List plain.What) (w : plain.What) → new ≡ old ++ record { home = home; what = w } ∷ [] → old ≡ base ++ slots_in home ws → new ≡ base ++ slots_in home (ws ++ w ∷ [])
+slots_then home base old new ws w e was =
+    let x : plain.Slot = record { home = home; what = w } in
+    e ∙ (ap (λ l. l ++ x ∷ []) was ∙ (append_assoc base (slots_in home ws) (x ∷ []) ∙ ap (λ l. base ++ l) (sym (slots_more home ws w))))
 
 pub hold_more : (n : ℕ) (ws : List plain.What) (w : plain.What) (hs : List ℕ) → hold_all n (ws ++ w ∷ []) hs ≡ hold (n + length ws) w (hold_all n ws hs)
 hold_more n [] w hs = let e : n ≡ n + 0 = omega arith in ap (λ i. hold i w hs) e

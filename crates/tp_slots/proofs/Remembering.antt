@@ -1,10 +1,11 @@
 -- What is kept of the region at which a try looks.
-use Rattle.std.proofs.Common.{◌≡◌, ℕ, ◌<◌, ◌∙◌, true, length, get_or, refl, sym, subst, arith}
+use Rattle.std.proofs.Common.{◌≡◌, ℕ, ◌<◌, ◌∙◌, true, length, get_or, refl, ap, sym, subst, arith}
+use Rattle.std.specs.Prelude.{vec_len}
 use Rattle.std.proofs.lemmas.List.{length-map}
 use Rattle.tp_scene.specs.Scene.{has}
 use Rattle.tp_slots.specs.Plain.{What, bare, holds, gone, slot_at, WhatFits}
 use Rattle.tp_slots.specs.Lives.{lives_in}
-use Rattle.tp_slots.specs.Kept.{IsWellKept}
+use Rattle.tp_slots.specs.Kept.{IsShaped, IsWellKept}
 use Rattle.tp_slots.specs.Looks.{LooksAreRight, looked_into}
 use Rattle.tp_slots.specs.Read.{slot_of, region_slot_of, slots_of, scene_of, holders_of}
 use Rattle.tp_slots.specs.declared.scene.Region.{Region}
@@ -12,6 +13,7 @@ use Rattle.tp_slots.specs.declared.scene.Scene.{Scene}
 use Rattle.tp_slots.specs.declared.scene.Slot.{Slot}
 use Rattle.tp_slots.proofs.Changing.{lives_within}
 use Rattle.tp_slots.proofs.Living.{home_lives, first_lives}
+use Rattle.tp_slots.proofs.Seeing.{holder_read, holder_within, home_less}
 
 module _ (s : Scene) (t : ℕ) (kept : IsWellKept s) (lives : has t (scene_of s).root.entries ≡ true) where
   within : t < length (slots_of s).slots
@@ -63,3 +65,15 @@ module _ (s now : Scene) (slots : now.slots ≡ s.slots) (regions : now.regions 
 
   pub slot_same : (t : ℕ) (y : Slot) → y ≡ get_or now.slots.items t y → y ≡ get_or s.slots.items t y
   slot_same t y e = e ∙ (λ i. get_or ((slots i).items) t y)
+
+  -- what holds a region there, and where that stands
+  module _ (shape : IsShaped (slots_of s) (holders_of s)) (r : ℕ) (l : r < length s.regions.items) (a : 0 < r) (x : Region) (ex : x ≡ get_or now.regions.items r x) where
+    pub holder_inside : x.holder < vec_len now.slots
+    holder_inside =
+        let w = holder_within s shape r l a in
+        let h = ap (λ (x : Region). x.holder) (region_same r x ex) ∙ holder_read s r l x in
+        let n : length now.slots.items ≡ length s.slots.items = λ i. length ((slots i).items) in
+        omega (arith, w, h, n)
+
+    pub holder_outward : (y : Slot) → y ≡ get_or now.slots.items x.holder y → y.home < r
+    holder_outward y ey = home_less s shape r l a x y (region_same r x ex) (slot_same x.holder y ey)

@@ -27,6 +27,7 @@ fn one(alloc: Global, what: What) -> Result<Vec<What>, NoMemory>
 }
 
 // A region begins with one item, and what holds it stands in an item's place. What became live is answered. Or nothing changes.
+#[tactic(auto, using(crate::proofs::Changing::unchanged_kept))]
 fn become_holder(
     alloc: Global,
     scene: &mut Scene,
@@ -221,6 +222,7 @@ fn moved_items(alloc: Global, scene: &Scene, item: u64) -> Result<Vec<u64>, NoMe
 
 /// An item with a region is reduced: a split closes, and what follows it is due; the outer region of a projection begins its next piece.
 /// What became live is answered. Or nothing changes.
+#[tactic(auto, using(crate::proofs::Changing::unchanged_kept))]
 pub fn move_on(alloc: Global, scene: &mut Scene, item: u64) -> Result<Vec<u64>, NoMemory>
     requires kept { IsWellKept scene.old }
     requires lives { Lives scene.old item }

@@ -24,51 +24,33 @@ take_due-taken-requires-clause-due c = (
   subst (IsDueUnder (env_of c.args.local.2)) (sym (same_what c.args.scene.now c.make_room.new.scene c.args.item c.make_room.ensures.same)) c.requires.due,
 )
 
-pub returns-in-Ok-clause-kept : goal.returns-in-Ok-clause-kept
-returns-in-Ok-clause-kept c =
+pub returns-in-Ok : goal.returns-in-Ok
+returns-in-Ok c =
     let s = c.args.scene.now in
     let t = c.args.item in
-    let mid = c.take_due-taken.new.scene in
-    let next = c.push_due.new.scene in
-    let out = out_before s c.make_room.new.scene t c.len-next.result c.take_due-taken.result mid.slots.items c.make_room.ensures.same c.take_due-taken.ensures.taken in
-    let phrase : Phrase = record { what = c.args.local.2.what; env = c.bind_local.new.env } in
-    let number : c.len-next.result ≡ length s.slots.items = search rules in
-    let regions : next.regions.items ≡ s.regions.items = ap (λ v. v.items) (c.push_due.ensures.regions ∙ c.take_due-taken.ensures.regions) ∙ c.make_room.ensures.same.regions in
-    more_kept s t c.len-next.result c.take_due-taken.result mid.slots.items c.requires.kept c.requires.lives out
-    (due_is_bare (env_of c.args.local.2) (item_what s t) c.requires.due) number phrase next c.push_due.ensures.slots regions
-    (c.push_due.ensures.looks ∙ c.take_due-taken.ensures.looks ∙ c.make_room.ensures.looks)
-
-pub returns-in-Ok-clause-scene : goal.returns-in-Ok-clause-scene
-returns-in-Ok-clause-scene c =
-    let s = c.args.scene.now in
-    let t = c.args.item in
+    let k = c.requires in
     let body = c.args.local.2 in
-    let mid = c.take_due-taken.new.scene in
+    let taken = c.take_due-taken.result in
+    let mid = c.take_due-taken.new.scene.slots.items in
     let next = c.push_due.new.scene in
-    let out = out_before s c.make_room.new.scene t c.len-next.result c.take_due-taken.result mid.slots.items c.make_room.ensures.same c.take_due-taken.ensures.taken in
+    let out = out_before s c.make_room.new.scene t c.len-next.result taken mid c.make_room.ensures.same c.take_due-taken.ensures.taken in
+    let free = due_is_bare (env_of body) (item_what s t) k.due in
     let phrase : Phrase = record { what = body.what; env = c.bind_local.new.env } in
     let number : c.len-next.result ≡ length s.slots.items = search rules in
     let regions : next.regions.items ≡ s.regions.items = ap (λ v. v.items) (c.push_due.ensures.regions ∙ c.take_due-taken.ensures.regions) ∙ c.make_room.ensures.same.regions in
-    let there : env_of body ≡ env_of c.take_due-taken.result = env_there s t c.len-next.result c.take_due-taken.result mid.slots.items c.requires.kept c.requires.lives out (env_of body) c.requires.due in
+    let there : env_of body ≡ env_of taken = env_there s t c.len-next.result taken mid k.kept k.lives out (env_of body) k.due in
     let last : S.Bindings → S.Bindings = λ e. bound_last e (length c.args.store.now.variables) c.args.local.1 in
     let env : env_of phrase ≡ last (env_of body) = c.in-Ok.ensures.env ∙ ap last (sym there) in
-    more_scene s t c.len-next.result c.take_due-taken.result mid.slots.items c.requires.kept c.requires.lives out
-    (due_is_bare (env_of body) (item_what s t) c.requires.due) number phrase next c.push_due.ensures.slots regions
-    ∙ ap (λ (e : S.Bindings). scene_after t (becomes_leaves (scene_of s) (bare (S.Do (formula_of body) e) ∷ []) None) (scene_of s)) env
-
-pub returns-in-Ok-clause-news : goal.returns-in-Ok-clause-news
-returns-in-Ok-clause-news c =
-    let s = c.args.scene.now in
-    let t = c.args.item in
-    let mid = c.take_due-taken.new.scene in
-    let next = c.push_due.new.scene in
-    let out = out_before s c.make_room.new.scene t c.len-next.result c.take_due-taken.result mid.slots.items c.make_room.ensures.same c.take_due-taken.ensures.taken in
-    let phrase : Phrase = record { what = c.args.local.2.what; env = c.bind_local.new.env } in
-    let number : c.len-next.result ≡ length s.slots.items = search rules in
-    let regions : next.regions.items ≡ s.regions.items = ap (λ v. v.items) (c.push_due.ensures.regions ∙ c.take_due-taken.ensures.regions) ∙ c.make_room.ensures.same.regions in
-    c.in_ok-fresh.ensures ∙ ap (λ n. n ∷ []) (number ∙ sym (length-map s.slots.items slot_of))
-    ∙ sym (more_news s t c.len-next.result c.take_due-taken.result mid.slots.items c.requires.kept c.requires.lives out
-    (due_is_bare (env_of c.args.local.2) (item_what s t) c.requires.due) number phrase next c.push_due.ensures.slots regions)
+    record {
+      kept = more_kept s t c.len-next.result taken mid k.kept k.lives out free number phrase next c.push_due.ensures.slots regions (c.push_due.ensures.looks ∙ c.take_due-taken.ensures.looks ∙ c.make_room.ensures.looks);
+      scene = more_scene s t c.len-next.result taken mid k.kept k.lives out free number phrase next c.push_due.ensures.slots regions
+          ∙ ap (λ (e : S.Bindings). scene_after t (becomes_leaves (scene_of s) (bare (S.Do (formula_of body) e) ∷ []) None) (scene_of s)) env;
+      news = c.in_ok-fresh.ensures ∙ ap (λ n. n ∷ []) (number ∙ sym (length-map s.slots.items slot_of))
+          ∙ sym (more_news s t c.len-next.result taken mid k.kept k.lives out free number phrase next c.push_due.ensures.slots regions);
+      local = c.in-Ok.ensures.local;
+      scene_err = tt;
+      store_err = tt;
+    }
 
 pub returns-clause-scene_err : goal.returns-clause-scene_err
 returns-clause-scene_err c =

@@ -16,7 +16,7 @@ use Rattle.tp_slots.specs.Read.{afters_of, ends_of, goes_of, holders_of, region_
 use Rattle.tp_slots.specs.Reductions.{AreBare, becomes_holder, holder_then}
 use Rattle.tp_slots.specs.declared.scene.What as code
 use Rattle.tp_slots.proofs.Instances.{one_lives}
-use Rattle.tp_slots.proofs.Changing.{home_within, lives_within, unchanged_kept, begins_scene, begins_kept}
+use Rattle.tp_slots.proofs.Changing.{home_within, lives_within, begins_scene, begins_kept}
 use Rattle.tp_slots.proofs.change.become_holder.Goals as goal
 use Rattle.tp_slots.proofs.change.become_holder.Goals.{In_ok-put}
 
@@ -68,15 +68,3 @@ returns c =
           ∙ holder_news s a.item k.kept k.lives (formula_of a.first) (env_of a.first) holder (length (slots_of s).regions) asleep)));
       err = tt;
     }
-
-pub returns-in_err-fresh-clause-kept : goal.returns-in_err-fresh-clause-kept
-returns-in_err-fresh-clause-kept c = c.requires.kept
-
-pub returns-in_err-inner-clause-kept : goal.returns-in_err-inner-clause-kept
-returns-in_err-inner-clause-kept c = c.requires.kept
-
-pub returns-in_err-outs-clause-kept : goal.returns-in_err-outs-clause-kept
-returns-in_err-outs-clause-kept c = c.requires.kept
-
-pub returns-in_err-put-clause-kept : goal.returns-in_err-put-clause-kept
-returns-in_err-put-clause-kept c = unchanged_kept c.args.scene.now c.put.new.scene c.requires.kept c.in_err-put.ensures.err c.put.ensures.looks

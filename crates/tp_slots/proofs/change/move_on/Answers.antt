@@ -7,7 +7,7 @@ use Rattle.tp_slots.specs.Row.{AllBelow, begun, stepped, held_after}
 use Rattle.tp_slots.specs.Threads.{afters_then}
 use Rattle.tp_slots.specs.Read.{afters_of, ends_of, goes_of, holders_of, region_slot_of, slot_of, slots_of, what_of}
 use Rattle.tp_slots.specs.Reductions.{AreBare, moved_inner, moved_outs}
-use Rattle.tp_slots.proofs.Changing.{home_within, lives_within, unchanged_kept}
+use Rattle.tp_slots.proofs.Changing.{home_within, lives_within}
 use Rattle.tp_slots.proofs.Moving.{moved_done, moves_bare, moves_below}
 use Rattle.tp_slots.proofs.Seeing.{slot_read}
 use Rattle.tp_slots.proofs.Newly.{moved_news_are}
@@ -67,15 +67,3 @@ returns c =
 
 pub moved_items-requires-clause-item : goal.moved_items-requires-clause-item
 moved_items-requires-clause-item c = lives_within c.args.scene.now c.args.item c.requires.kept.shape.ordered c.requires.lives
-
-pub returns-in_err-fresh-clause-kept : goal.returns-in_err-fresh-clause-kept
-returns-in_err-fresh-clause-kept c = c.requires.kept
-
-pub returns-in_err-inner-clause-kept : goal.returns-in_err-inner-clause-kept
-returns-in_err-inner-clause-kept c = c.requires.kept
-
-pub returns-in_err-outs-clause-kept : goal.returns-in_err-outs-clause-kept
-returns-in_err-outs-clause-kept c = c.requires.kept
-
-pub returns-in_err-put-clause-kept : goal.returns-in_err-put-clause-kept
-returns-in_err-put-clause-kept c = unchanged_kept c.args.scene.now c.put.new.scene c.requires.kept c.in_err-put.ensures.err c.put.ensures.looks

@@ -1,13 +1,13 @@
 -- Each leaf stands as it is, linked to the one after it.
 use Rattle.std.proofs.Common.{◌≡◌, ◌<◌, ◌∷◌, ◌++◌, [], map, length, ap, sym, ◌∙◌, arith, rules}
-use Rattle.std.proofs.lemmas.List.{map-append, append_assoc}
+use Rattle.std.proofs.lemmas.List.{map-append}
 use Rattle.tp_decide.specs.Decided.{plain_leaf}
 use Rattle.tp_decide.specs.declared.decision.Leaf.{Leaf}
 use Rattle.tp_slots.specs.News.{bare_leaves}
 use Rattle.tp_slots.specs.Plain as plain
 use Rattle.tp_slots.specs.Row.{slots_in}
 use Rattle.tp_slots.specs.Read.{slot_of}
-use Rattle.tp_slots.proofs.Lists.{slots_more}
+use Rattle.tp_slots.proofs.Lists.{slots_then}
 use Rattle.tp_slots.proofs.leaves.push_leaves.Goals as goal
 
 pub push_link-requires : goal.push_link-requires
@@ -31,10 +31,9 @@ loop-leaf-preserved c =
     let w = plain.bare (plain_leaf c.in-Some.leaf) in (
       tt,
       tt,
-      c.in-Ok.ensures.slots
-          ∙ ((λ j. i.2 j ++ record { home = home; what = this j } ∷ [])
-          ∙ (append_assoc (map slot_of c.args.list.now.items) (slots_in home before) (record { home = home; what = w } ∷ [])
-          ∙ ap (λ l. map slot_of c.args.list.now.items ++ l) (sym (slots_more home before w) ∙ ap (slots_in home) (sym (map-append (λ (l : Leaf). plain.bare (plain_leaf l)) c.loop-leaf.yielded (c.in-Some.leaf ∷ [])))))),
+      slots_then home (map slot_of c.args.list.now.items) (map slot_of c.loop-leaf.list.items) (map slot_of c.push_link.new.list.items) before w
+          (c.in-Ok.ensures.slots ∙ (λ j. map slot_of c.loop-leaf.list.items ++ record { home = home; what = this j } ∷ [])) i.2
+          ∙ ap (λ l. map slot_of c.args.list.now.items ++ slots_in home l) (sym (map-append (λ (l : Leaf). plain.bare (plain_leaf l)) c.loop-leaf.yielded (c.in-Some.leaf ∷ []))),
       search rules,
       omega (arith, small),
       c.in-Ok.ensures.afters ∙ i.5,

@@ -1,12 +1,11 @@
 -- Each turn keeps the depth of one region outward.
-use Rattle.std.proofs.Common.{◌≡◌, ◌<◌, length, ap, sym, ◌∙◌, arith, rules}
+use Rattle.std.proofs.Common.{◌<◌, sym, ◌∙◌, arith, rules}
 use Rattle.std.proofs.lemmas.Bool.{and_parts}
 use Rattle.tp_slots.specs.Lives.{leads_to}
 use Rattle.tp_slots.specs.Read.{holders_of, slots_of, what_of}
-use Rattle.tp_slots.specs.declared.scene.Region.{Region}
 use Rattle.tp_slots.proofs.Looking.{kept_depth}
-use Rattle.tp_slots.proofs.Remembering.{region_same, remembered, slot_same}
-use Rattle.tp_slots.proofs.Seeing.{holder_read, holder_within, home_less, inside, next_depth, next_lives}
+use Rattle.tp_slots.proofs.Remembering.{holder_inside, holder_outward, region_same, remembered, slot_same}
+use Rattle.tp_slots.proofs.Seeing.{inside, next_depth, next_lives}
 use Rattle.tp_slots.proofs.live.remember_depths.Goals as goal
 use Rattle.tp_slots.proofs.live.remember_depths.Goals.{After-index-slot}
 
@@ -14,18 +13,10 @@ pub returns-then-depth_found-gt0-2-clause-kept : goal.returns-then-depth_found-g
 returns-then-depth_found-gt0-2-clause-kept c = remembered c.args.scene.now c.outward.scene c.outward.invariant.slots c.outward.invariant.regions c.requires.kept c.outward.invariant.looks
 
 pub index-slot-requires : goal.index-slot-requires
-index-slot-requires c =
-    let a : 0 < c.outward.at = search rules in
-    let s = c.args.scene.now in
-    let w = holder_within s c.requires.kept.shape c.outward.at c.outward.invariant.within a in
-    let h = ap (λ (x : Region). x.holder) (region_same c.args.scene.now c.outward.scene c.outward.invariant.slots c.outward.invariant.regions c.outward.at c.index.result.now c.index.ensures) ∙ holder_read s c.outward.at c.outward.invariant.within c.index.result.now in
-    let n : length c.outward.scene.slots.items ≡ length s.slots.items = λ i. length ((c.outward.invariant.slots i).items) in
-    omega (arith, w, h, n)
+index-slot-requires c = holder_inside c.args.scene.now c.outward.scene c.outward.invariant.slots c.outward.invariant.regions c.requires.kept.shape c.outward.at c.outward.invariant.within (search rules) c.index.result.now c.index.ensures
 
 less : (c : After-index-slot) → c.index-slot.result.now.home < c.outward.at
-less c =
-    let a : 0 < c.outward.at = search rules in
-    home_less c.args.scene.now c.requires.kept.shape c.outward.at c.outward.invariant.within a c.index.result.now c.index-slot.result.now (region_same c.args.scene.now c.outward.scene c.outward.invariant.slots c.outward.invariant.regions c.outward.at c.index.result.now c.index.ensures) (slot_same c.args.scene.now c.outward.scene c.outward.invariant.slots c.outward.invariant.regions c.index.result.now.holder c.index-slot.result.now c.index-slot.ensures)
+less c = holder_outward c.args.scene.now c.outward.scene c.outward.invariant.slots c.outward.invariant.regions c.requires.kept.shape c.outward.at c.outward.invariant.within (search rules) c.index.result.now c.index.ensures c.index-slot.result.now c.index-slot.ensures
 
 pub outward-smaller : goal.outward-smaller
 outward-smaller c = less c

@@ -1,35 +1,26 @@
 -- Each turn keeps one region outward that isn't so either.
-use Rattle.std.proofs.Common.{◌≡◌, ◌<◌, ◌&&◌, length, ap, sym, ◌∙◌, arith, rules}
+use Rattle.std.proofs.Common.{◌<◌, ◌&&◌, ap, sym, ◌∙◌, arith, rules}
 use Rattle.std.proofs.lemmas.Bool.{or_parts}
 use Rattle.tp_decide.specs.Decided.{mark_of}
 use Rattle.tp_slots.specs.Flags.{forced_in}
 use Rattle.tp_slots.specs.Read.{flag_of, holders_of, slots_of, what_of}
-use Rattle.tp_slots.specs.declared.scene.Region.{Region}
 use Rattle.tp_slots.proofs.Looking.{kept_not_so}
-use Rattle.tp_slots.proofs.Remembering.{region_same, remembered, slot_same}
-use Rattle.tp_slots.proofs.Seeing.{holder_read, holder_within, home_less, inside, next_seen, sees_at}
+use Rattle.tp_slots.proofs.Remembering.{holder_inside, holder_outward, region_same, remembered, slot_same}
+use Rattle.tp_slots.proofs.Seeing.{inside, next_seen, sees_at}
 use Rattle.tp_slots.proofs.live.remember_not_so.Goals as goal
 
 pub returns-then-is_found_not_so-clause-kept : goal.returns-then-is_found_not_so-clause-kept
 returns-then-is_found_not_so-clause-kept c = remembered c.args.scene.now c.outward.scene c.outward.invariant.slots c.outward.invariant.regions c.requires.kept c.outward.invariant.looks
 
 pub index-slot-requires : goal.index-slot-requires
-index-slot-requires c =
-    let a : 0 < c.outward.at = search rules in
-    let s = c.args.scene.now in
-    let w = holder_within s c.requires.kept.shape c.outward.at c.outward.invariant.within a in
-    let h = ap (λ (x : Region). x.holder) (region_same c.args.scene.now c.outward.scene c.outward.invariant.slots c.outward.invariant.regions c.outward.at c.index.result.now c.index.ensures) ∙ holder_read s c.outward.at c.outward.invariant.within c.index.result.now in
-    let n : length c.outward.scene.slots.items ≡ length s.slots.items = λ i. length ((c.outward.invariant.slots i).items) in
-    omega (arith, w, h, n)
+index-slot-requires c = holder_inside c.args.scene.now c.outward.scene c.outward.invariant.slots c.outward.invariant.regions c.requires.kept.shape c.outward.at c.outward.invariant.within (search rules) c.index.result.now c.index.ensures
 
 pub returns-then-not-sinks-clause-kept : goal.returns-then-not-sinks-clause-kept
 returns-then-not-sinks-clause-kept c =
     remembered c.args.scene.now (record { slots = c.outward.scene.slots; regions = c.outward.scene.regions; looks = c.keep_not_so.new.looks }) c.outward.invariant.slots c.outward.invariant.regions c.requires.kept (kept_not_so (slots_of c.args.scene.now) (holders_of c.args.scene.now) c.outward.scene.looks c.keep_not_so.new.looks (mark_of c.args.side) c.outward.at c.outward.invariant.looks (inside c.args.scene.now c.outward.at c.outward.invariant.within) c.keep_not_so.ensures c.outward.invariant.not_so)
 
 less : (c : goal.Else-not-sinks) → c.index-slot.result.now.home < c.outward.at
-less c =
-    let a : 0 < c.outward.at = search rules in
-    home_less c.args.scene.now c.requires.kept.shape c.outward.at c.outward.invariant.within a c.index.result.now c.index-slot.result.now (region_same c.args.scene.now c.outward.scene c.outward.invariant.slots c.outward.invariant.regions c.outward.at c.index.result.now c.index.ensures) (slot_same c.args.scene.now c.outward.scene c.outward.invariant.slots c.outward.invariant.regions c.index.result.now.holder c.index-slot.result.now c.index-slot.ensures)
+less c = holder_outward c.args.scene.now c.outward.scene c.outward.invariant.slots c.outward.invariant.regions c.requires.kept.shape c.outward.at c.outward.invariant.within (search rules) c.index.result.now c.index.ensures c.index-slot.result.now c.index-slot.ensures
 
 pub outward-smaller : goal.outward-smaller
 outward-smaller c = less c

@@ -5,7 +5,7 @@ use Rattle.tp_slots.specs.Row.{slots_in}
 use Rattle.tp_slots.specs.Read.{slot_of, what_of}
 use Rattle.tp_slots.specs.declared.scene.Slot.{Slot}
 use Rattle.tp_slots.specs.Threads.{nothing_after}
-use Rattle.tp_slots.proofs.Lists.{slots_more}
+use Rattle.tp_slots.proofs.Lists.{slots_then}
 use Rattle.tp_slots.proofs.Threading.{nothing_more}
 use Rattle.tp_slots.proofs.put.push_in.Goals as goal
 
@@ -18,11 +18,9 @@ loop-what-preserved c =
     let before = map what_of c.loop-what.yielded in (
       tt,
       tt,
-      ap (map slot_of) c.in_ok-push.ensures.items
-          ∙ (map-append slot_of c.loop-what.list.items (x ∷ [])
-          ∙ (ap (λ l. l ++ slot_of x ∷ []) c.loop-what.invariant.2
-          ∙ (append_assoc (map slot_of c.args.list.now.items) (slots_in c.args.home before) (slot_of x ∷ [])
-          ∙ ap (λ l. map slot_of c.args.list.now.items ++ l) (sym (slots_more c.args.home before (what_of c.in-Some.what)) ∙ ap (slots_in c.args.home) (sym (map-append what_of c.loop-what.yielded (c.in-Some.what ∷ []))))))),
+      slots_then c.args.home (map slot_of c.args.list.now.items) (map slot_of c.loop-what.list.items) (map slot_of c.push.new.self.items) before (what_of c.in-Some.what)
+          (ap (map slot_of) c.in_ok-push.ensures.items ∙ map-append slot_of c.loop-what.list.items (x ∷ [])) c.loop-what.invariant.2
+          ∙ ap (λ l. map slot_of c.args.list.now.items ++ slots_in c.args.home l) (sym (map-append what_of c.loop-what.yielded (c.in-Some.what ∷ []))),
       ap (map after) c.in_ok-push.ensures.items
           ∙ (map-append after c.loop-what.list.items (x ∷ [])
           ∙ (ap (λ l. l ++ None ∷ []) c.loop-what.invariant.3

@@ -1,9 +1,9 @@
 -- Each slot is of that region, and linked to the one after it.
 use Rattle.std.proofs.Common.{◌≡◌, ◌<◌, ◌∷◌, ◌++◌, [], map, length, ap, sym, ◌∙◌, arith, rules}
-use Rattle.std.proofs.lemmas.List.{map-append, append_assoc}
+use Rattle.std.proofs.lemmas.List.{map-append}
 use Rattle.tp_slots.specs.Row.{slots_in}
 use Rattle.tp_slots.specs.Read.{slot_of, what_of}
-use Rattle.tp_slots.proofs.Lists.{slots_more}
+use Rattle.tp_slots.proofs.Lists.{slots_then}
 use Rattle.tp_slots.proofs.put.push_linked.Goals as goal
 
 pub push_link-requires : goal.push_link-requires
@@ -24,10 +24,8 @@ loop-what-preserved c =
     let small = i.4 in (
       tt,
       tt,
-      c.in_ok-push_link.ensures.slots
-          ∙ (ap (λ l. l ++ record { home = c.args.home; what = what_of c.in-Some.what } ∷ []) i.2
-          ∙ (append_assoc (map slot_of c.args.list.now.items) (slots_in c.args.home before) (record { home = c.args.home; what = what_of c.in-Some.what } ∷ [])
-          ∙ ap (λ l. map slot_of c.args.list.now.items ++ l) (sym (slots_more c.args.home before (what_of c.in-Some.what)) ∙ ap (slots_in c.args.home) (sym (map-append what_of c.loop-what.yielded (c.in-Some.what ∷ [])))))),
+      slots_then c.args.home (map slot_of c.args.list.now.items) (map slot_of c.loop-what.list.items) (map slot_of c.push_link.new.list.items) before (what_of c.in-Some.what) c.in_ok-push_link.ensures.slots i.2
+          ∙ ap (λ l. map slot_of c.args.list.now.items ++ slots_in c.args.home l) (sym (map-append what_of c.loop-what.yielded (c.in-Some.what ∷ []))),
       search rules,
       omega (arith, small),
       c.in_ok-push_link.ensures.afters ∙ i.5,

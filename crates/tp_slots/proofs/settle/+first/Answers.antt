@@ -1,17 +1,18 @@
 -- From item to item, by what each knows to come after it.
-use Rattle.std.proofs.Common.{◌≡◌, ℕ, ◌+◌, ◌<◌, [], take, length, get_or, None, refl, ap, sym, ◌∙◌, subst, arith, rules}
+use Rattle.std.proofs.Common.{◌≡◌, ℕ, ◌+◌, ◌<◌, List, [], ◌∷◌, take, length, get_or, Some, None, refl, ap, sym, ◌∙◌, subst, arith, rules}
 use Rattle.std.proofs.lemmas.List.{get_or-map, length-map}
 use Rattle.std.proofs.Math.Seq.{take-length}
 use Rattle.tp_slots.specs.Plain as plain
 use Rattle.tp_slots.specs.Plain.{slot_at, region_slot}
-use Rattle.tp_slots.specs.Cost.{cost_of}
+use Rattle.tp_slots.specs.Cost.{cost_of, sum_over}
+use Rattle.tp_slots.specs.Kept.{IsWellKept}
 use Rattle.tp_slots.specs.Read.{afters_of, region_slot_of, slot_of, slots_of, what_of}
 use Rattle.tp_slots.specs.Settled.{first_waiting, standing, stands_by, first_in}
 use Rattle.tp_slots.specs.Threads.{after_at, AreLast}
 use Rattle.tp_slots.specs.Walk.{live_in, live_of}
 use Rattle.tp_slots.specs.declared.scene.Scene.{Scene}
 use Rattle.tp_slots.specs.declared.scene.Slot.{Slot}
-use Rattle.tp_slots.proofs.Firsts.{begin_visit, none_waits, one_waits, found, in_place, afterwards, nothing_left, measure_is, cost_after, in_at, last_at, none_up_to, some_at}
+use Rattle.tp_slots.proofs.Firsts.{AreToVisit, begin_visit, none_waits, one_waits, found, in_place, afterwards, nothing_left, measure_is, cost_after, in_at, last_at, none_up_to, some_at}
 use Rattle.tp_slots.proofs.Seeing.{slot_read}
 use Rattle.tp_slots.proofs.Walking.{region_live}
 use Rattle.tp_slots.proofs.WalkLemmas.{roots_are}
@@ -27,6 +28,34 @@ module _ (s : Scene) (t : ℕ) (x : Slot) (i : t < length (slots_of s).slots) (i
 
   after_read : x.after ≡ after_at (afters_of s) t
   after_read = ap (λ (y : Slot). y.after) is ∙ sym (get_or-map (λ (y : Slot). y.after) s.slots.items t x None within)
+
+-- what is visited after an item, and how much is left then
+module _ (s : Scene) (k : IsWellKept s) (root t : ℕ) (rest : List ℕ) (v : AreToVisit (slots_of s) (afters_of s) (first_waiting s) root (t ∷ rest)) (x : Slot) (is : x ≡ get_or s.slots.items t x) where
+  abbrev Next : ℕ → Type 0
+  Next u = (later : List ℕ) × AreToVisit (slots_of s) (afters_of s) (first_waiting s) root (u ∷ later) × (sum_over (cost_of (slots_of s)) (u ∷ later) < sum_over (cost_of (slots_of s)) (t ∷ rest))
+
+  abbrev left : ℕ → ℕ
+  left u = cost_of (slots_of s) u + cost_after (cost_of (slots_of s)) (afters_of s) (cost_of (slots_of s) root) u
+
+  waits : None ≡ first_waiting s (standing s t (what_of x.what)) → None ≡ first_waiting s (standing s t (slot_at (slots_of s) t).what)
+  waits e = e ∙ ap (λ w. first_waiting s (standing s t w)) (what_read s t x v.inside.1 is)
+
+  next_in : (u : ℕ) → None ≡ first_waiting s (standing s t (what_of x.what)) → Some u ≡ first_in (stands_by (what_of x.what)) → Next u
+  next_in u held by =
+      in_place (slots_of s) (afters_of s) k.shape.ordered k.threads (first_waiting s) (none_waits s) (one_waits s) root t rest v u
+      (sym (by ∙ ap (λ w. first_in (stands_by w)) (what_read s t x v.inside.1 is))) (sym (waits held))
+
+  next_after : (u : ℕ) → None ≡ first_waiting s (standing s t (what_of x.what)) → None ≡ first_in (stands_by (what_of x.what)) → x.after ≡ Some u → Next u
+  next_after u held by next =
+      afterwards (slots_of s) (afters_of s) k.shape.ordered k.threads (first_waiting s) (none_waits s) (one_waits s) root t rest v u
+      (sym (by ∙ ap (λ w. first_in (stands_by w)) (what_read s t x v.inside.1 is))) (sym (after_read s t x v.inside.1 is) ∙ next) (sym (waits held))
+
+  less : (u : ℕ) → Next u → left u < left t
+  less u x =
+      let old = measure_is (slots_of s) (afters_of s) k.shape.ordered k.threads (first_waiting s) (none_waits s) (one_waits s) root t rest v in
+      let new = measure_is (slots_of s) (afters_of s) k.shape.ordered k.threads (first_waiting s) (none_waits s) (one_waits s) root u x.0 x.1 in
+      let l = x.2 in
+      omega (arith, old, new, l)
 
 pub first_from-walk-init : goal.first_from-walk-init
 first_from-walk-init t c =
@@ -55,59 +84,23 @@ first_from-returns-in-None-after t c =
 
 pub first_from-walk-preserved-in-Some-first_by : goal.first_from-walk-preserved-in-Some-first_by
 first_from-walk-preserved-in-Some-first_by t c =
-    let s = c.args.scene.now in
-    let v = c.walk.invariant.1 in
-    let read = what_read s c.walk.at c.index-slot.result.now v.inside.1 c.index-slot.ensures in
-    let held = c.in_default.ensures ∙ ap (λ w. first_waiting s (standing s c.walk.at w)) read in
-    let by = c.in-Some-first_by.ensures ∙ ap (λ w. first_in (stands_by w)) read in
-    let x = in_place (slots_of s) (afters_of s) c.requires.kept.shape.ordered c.requires.kept.threads (first_waiting s) (none_waits s) (one_waits s) c.args.root c.walk.at c.walk.invariant.0 v c.in-Some-first_by.first (sym by) (sym held) in
+    let x = next_in c.args.scene.now c.requires.kept c.args.root c.walk.at c.walk.invariant.0 c.walk.invariant.1 c.index-slot.result.now c.index-slot.ensures c.in-Some-first_by.first c.in_default.ensures c.in-Some-first_by.ensures in
     (x.0, x.1)
 
 pub first_from-walk-smaller-in-Some-first_by : goal.first_from-walk-smaller-in-Some-first_by
 first_from-walk-smaller-in-Some-first_by t c =
-    let s = c.args.scene.now in
-    let z = slots_of s in
-    let ns = afters_of s in
-    let k = c.requires.kept in
-    let v = c.walk.invariant.1 in
-    let read = what_read s c.walk.at c.index-slot.result.now v.inside.1 c.index-slot.ensures in
-    let held = c.in_default.ensures ∙ ap (λ w. first_waiting s (standing s c.walk.at w)) read in
-    let by = c.in-Some-first_by.ensures ∙ ap (λ w. first_in (stands_by w)) read in
-    let u = c.in-Some-first_by.first in
-    let x = in_place z ns k.shape.ordered k.threads (first_waiting s) (none_waits s) (one_waits s) c.args.root c.walk.at c.walk.invariant.0 v u (sym by) (sym held) in
-    let old = measure_is z ns k.shape.ordered k.threads (first_waiting s) (none_waits s) (one_waits s) c.args.root c.walk.at c.walk.invariant.0 v in
-    let new = measure_is z ns k.shape.ordered k.threads (first_waiting s) (none_waits s) (one_waits s) c.args.root u x.0 x.1 in
-    let l = x.2 in
-    let d : cost_of z u + cost_after (cost_of z) ns (cost_of z c.args.root) u < cost_of z c.walk.at + cost_after (cost_of z) ns (cost_of z c.args.root) c.walk.at = omega (arith, old, new, l) in d
+    less c.args.scene.now c.requires.kept c.args.root c.walk.at c.walk.invariant.0 c.walk.invariant.1 c.index-slot.result.now c.index-slot.ensures c.in-Some-first_by.first
+    (next_in c.args.scene.now c.requires.kept c.args.root c.walk.at c.walk.invariant.0 c.walk.invariant.1 c.index-slot.result.now c.index-slot.ensures c.in-Some-first_by.first c.in_default.ensures c.in-Some-first_by.ensures)
 
 pub first_from-walk-preserved : goal.first_from-walk-preserved
 first_from-walk-preserved t c =
-    let s = c.args.scene.now in
-    let v = c.walk.invariant.1 in
-    let read = what_read s c.walk.at c.index-slot.result.now v.inside.1 c.index-slot.ensures in
-    let held = c.in_default.ensures ∙ ap (λ w. first_waiting s (standing s c.walk.at w)) read in
-    let by = c.in-None.ensures ∙ ap (λ w. first_in (stands_by w)) read in
-    let next = sym (after_read s c.walk.at c.index-slot.result.now v.inside.1 c.index-slot.ensures) ∙ c.in-Some-after.is in
-    let x = afterwards (slots_of s) (afters_of s) c.requires.kept.shape.ordered c.requires.kept.threads (first_waiting s) (none_waits s) (one_waits s) c.args.root c.walk.at c.walk.invariant.0 v c.in-Some-after.next (sym by) next (sym held) in
+    let x = next_after c.args.scene.now c.requires.kept c.args.root c.walk.at c.walk.invariant.0 c.walk.invariant.1 c.index-slot.result.now c.index-slot.ensures c.in-Some-after.next c.in_default.ensures c.in-None.ensures c.in-Some-after.is in
     (x.0, x.1)
 
 pub first_from-walk-smaller : goal.first_from-walk-smaller
 first_from-walk-smaller t c =
-    let s = c.args.scene.now in
-    let z = slots_of s in
-    let ns = afters_of s in
-    let k = c.requires.kept in
-    let v = c.walk.invariant.1 in
-    let read = what_read s c.walk.at c.index-slot.result.now v.inside.1 c.index-slot.ensures in
-    let held = c.in_default.ensures ∙ ap (λ w. first_waiting s (standing s c.walk.at w)) read in
-    let by = c.in-None.ensures ∙ ap (λ w. first_in (stands_by w)) read in
-    let next = sym (after_read s c.walk.at c.index-slot.result.now v.inside.1 c.index-slot.ensures) ∙ c.in-Some-after.is in
-    let u = c.in-Some-after.next in
-    let x = afterwards z ns k.shape.ordered k.threads (first_waiting s) (none_waits s) (one_waits s) c.args.root c.walk.at c.walk.invariant.0 v u (sym by) next (sym held) in
-    let old = measure_is z ns k.shape.ordered k.threads (first_waiting s) (none_waits s) (one_waits s) c.args.root c.walk.at c.walk.invariant.0 v in
-    let new = measure_is z ns k.shape.ordered k.threads (first_waiting s) (none_waits s) (one_waits s) c.args.root u x.0 x.1 in
-    let l = x.2 in
-    let d : cost_of z u + cost_after (cost_of z) ns (cost_of z c.args.root) u < cost_of z c.walk.at + cost_after (cost_of z) ns (cost_of z c.args.root) c.walk.at = omega (arith, old, new, l) in d
+    less c.args.scene.now c.requires.kept c.args.root c.walk.at c.walk.invariant.0 c.walk.invariant.1 c.index-slot.result.now c.index-slot.ensures c.in-Some-after.next
+    (next_after c.args.scene.now c.requires.kept c.args.root c.walk.at c.walk.invariant.0 c.walk.invariant.1 c.index-slot.result.now c.index-slot.ensures c.in-Some-after.next c.in_default.ensures c.in-None.ensures c.in-Some-after.is)
 
 pub first_inside-first_from-requires : goal.first_inside-first_from-requires
 first_inside-first_from-requires t c =
