@@ -7,7 +7,8 @@ ghost use Rattle.tp_slots.specs.Read.{scene_of};
 ghost use Rattle.tp_slots.specs.Kept.{IsWellKept};
 
 use crate::looks::no_looks;
-use crate::scene::{Region, Scene, Slot, What};
+use crate::put::new_region;
+use crate::scene::{Scene, Slot, What};
 use std::alloc::Global;
 use tp_decide::Phrase;
 use tp_value::NoMemory;
@@ -27,14 +28,7 @@ pub fn start(alloc: Global, phrase: Phrase) -> Result<Scene, NoMemory>
     let mut roots = Vec::new(alloc);
     roots.push(0)?;
     let mut regions = Vec::new(alloc);
-    regions.push(Region {
-        holder: 0,
-        ends: false,
-        goes: false,
-        ends_now: false,
-        goes_now: false,
-        roots,
-    })?;
+    regions.push(new_region(roots))?;
     let looks = no_looks(alloc)?;
     Ok(Scene {
         slots,

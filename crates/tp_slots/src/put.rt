@@ -29,6 +29,27 @@ pub fn numbers(alloc: Global, first: u64, count: usize) -> Result<Vec<u64>, NoMe
     Ok(numbers)
 }
 
+/// A region that begins with these items: nothing holds it yet, and it has no marks.
+pub fn new_region(roots: Vec<u64>) -> Region
+    ensures { result ≡ record {
+      holder = 0;
+      ends = false;
+      goes = false;
+      ends_now = false;
+      goes_now = false;
+      roots = roots;
+    } }
+{
+    Region {
+        holder: 0,
+        ends: false,
+        goes: false,
+        ends_now: false,
+        goes_now: false,
+        roots,
+    }
+}
+
 // A new region with so many items, where there are any.
 fn begin(alloc: Global, first: u64, count: usize) -> Result<Vec<Region>, NoMemory>
     requires { first + count < 2 ^ 64 }
@@ -40,14 +61,7 @@ fn begin(alloc: Global, first: u64, count: usize) -> Result<Vec<Region>, NoMemor
     let mut regions = Vec::new(alloc);
     if count > 0 {
         let roots = numbers(alloc, first, count)?;
-        regions.push(Region {
-            holder: 0,
-            ends: false,
-            goes: false,
-            ends_now: false,
-            goes_now: false,
-            roots,
-        })?;
+        regions.push(new_region(roots))?;
     }
     Ok(regions)
 }
