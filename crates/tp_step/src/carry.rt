@@ -224,7 +224,7 @@ fn set(
     if room == 0 {
         return full_or_refused(store.check(&path, &value));
     }
-    match store.add(&path, &value) {
+    match store.set(path, value) {
         Ok(facts) => Ok(learn(alloc, scene, item, facts)),
         Err(refusal) => refused(refusal),
     }

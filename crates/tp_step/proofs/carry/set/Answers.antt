@@ -15,8 +15,8 @@ returns-in-Ok-clause-ok c =
     let k = c.args.store.now in
     let news = c.in-Ok.ensures.added in
     let more : 0 < c.args.room = omega (arith, c.if-room-eq0.false) in
-    added_facts (addition k.facts (facts_at c.args.target.0 (tree c.args.target.1))) c.in-Ok.facts c.args.room c.args.scene.now c.learn.new.scene k c.add.new.self c.args.item c.learn.result more
-    c.in-Ok.ensures.news (record { kept = news.shapes; no_clash = c.add.ensures.sound.no_clash; variables = news.variables }) c.learn.ensures.answer
+    added_facts (addition k.facts (facts_at c.args.target.0 (tree c.args.target.1))) c.in-Ok.facts c.args.room c.args.scene.now c.learn.new.scene k c.set.new.self c.args.item c.learn.result more
+    c.in-Ok.ensures.news (record { kept = news.shapes; no_clash = c.set.ensures.sound.no_clash; variables = news.variables }) c.learn.ensures.answer
 
 pub returns-then-room-eq0-clause-ok : goal.returns-then-room-eq0-clause-ok
 returns-then-room-eq0-clause-ok c =
