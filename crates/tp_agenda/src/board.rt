@@ -2,7 +2,7 @@
 ghost use Rattle.std.specs.Prelude.{◌≡◌, ◌↔◌, ◌≤◌, ◌<◌, ◌^◌, ◌++◌, ◌∷◌, [], ℕ, true, false, None, Some, length, slice_set, IfOk, OnOk};
 ghost use Rattle.std.specs.List.{All};
 ghost use Rattle.tp_lanes.specs.Planes.{flag};
-ghost use Rattle.tp_slots.specs.Kept.{IsWellKept};
+ghost use Rattle.tp_slots.specs.Kept.{IsUnchanged, IsWellKept};
 ghost use Rattle.tp_slots.specs.Read.{scene_of};
 ghost use Rattle.tp_step.specs.declared.answer.Tried.TheVariants.{Reduced};
 ghost use Rattle.tp_agenda.specs.Agenda.{TriesNext};
@@ -17,6 +17,7 @@ use crate::moving::may_move;
 use crate::wake::{Cause, wake_by};
 use std::alloc::Global;
 use tp_lanes::Plane;
+use tp_slots::remember;
 use tp_step::{Ending, News, Order, Scene, Tally, Tried, Wait, Waits, choose_place};
 use tp_value::{Facts, NoMemory};
 
@@ -55,17 +56,21 @@ fn whose_turn(ready: &Plane, order: &mut Order) -> Option<u64>
     }
 }
 
-// The items that are live and may move, as a set of numbers below the bound.
-fn moving_items(alloc: Global, scene: &Scene, bound: u64) -> Result<Plane, NoMemory>
-    requires kept { IsWellKept scene.now }
-    requires bound { bound ≡ (scene_of scene.now).next_item }
+// The items that are live and may move, as a set of numbers below the bound. What is found of their regions is remembered: where they stand
+// in each other, each look would else walk from its item out to the root.
+fn moving_items(alloc: Global, scene: &mut Scene, bound: u64) -> Result<Plane, NoMemory>
+    requires kept { IsWellKept scene.old }
+    requires bound { bound ≡ (scene_of scene.old).next_item }
     ensures size { IfOk result (λ ready. length ready ≡ bound) }
     ensures moving { IfOk result (λ ready. (t : ℕ)
-        → (flag ready t ≡ true) ↔ (may_move t (scene_of scene.now).root.entries ≡ true)) }
+        → (flag ready t ≡ true) ↔ (may_move t (scene_of scene.old).root.entries ≡ true)) }
+    ensures same { IsUnchanged scene.old scene.new }
+    ensures kept { IsWellKept scene.new }
 {
     let mut ready = Plane::new(alloc, bound)?;
     for item in 0..bound {
         if may_move(scene, item) {
+            remember(scene, item);
             ready.set(item);
         }
     }
@@ -109,14 +114,17 @@ fn wake_by_facts(
 }
 
 impl Board {
-    /// The board of a closure that begins here: exactly the items that may move are ready, and nothing waits.
-    pub(crate) fn begin(alloc: Global, scene: &Scene) -> Result<Board, NoMemory>
-        requires kept { IsWellKept scene.now }
+    /// The board of a closure that begins here: exactly the items that may move are ready, and nothing waits. Of the scene only what it
+    /// remembers changes.
+    pub(crate) fn begin(alloc: Global, scene: &mut Scene) -> Result<Board, NoMemory>
+        requires kept { IsWellKept scene.old }
+        ensures same { scene_of scene.new ≡ scene_of scene.old }
+        ensures kept { IsWellKept scene.new }
         ensures fits { IfOk result (FitsBoard []) }
-        ensures flags { IfOk result (HasFlags (scene_of scene.now)) }
+        ensures flags { IfOk result (HasFlags (scene_of scene.new)) }
         ensures moving { IfOk result (λ board. (t : ℕ)
             → (flag board.ready t ≡ true)
-            ↔ (may_move t (scene_of scene.now).root.entries ≡ true)) }
+            ↔ (may_move t (scene_of scene.new).root.entries ≡ true)) }
         ensures over { IfOk result (λ board. board.over.items ≡ []) }
         ensures taken { IfOk result (λ board. board.taken.items ≡ []) }
     {

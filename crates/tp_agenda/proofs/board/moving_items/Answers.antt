@@ -1,5 +1,5 @@
 -- All that may move are below the bound.
-use Rattle.std.proofs.Common.{◌<◌, arith}
+use Rattle.std.proofs.Common.{◌<◌, sym, ◌∙◌, arith}
 use Rattle.tp_slots.specs.Read.{scene_of}
 use Rattle.tp_step.proofs.LiveNumbers.{live_below}
 use Rattle.tp_agenda.proofs.Movers.{mover_lives}
@@ -13,3 +13,6 @@ returns-clause-moving c = λ t.
       λ m. (let below : t < (scene_of s).next_item = live_below s c.requires.kept t (mover_lives t (scene_of s).root.entries m) in
           h.1 (omega (arith, below, c.requires.bound, c.loop-item-test.false), m)),
     )
+
+pub remember-requires-clause-lives : goal.remember-requires-clause-lives
+remember-requires-clause-lives c = mover_lives c.loop-item.item (scene_of c.loop-item.scene).root.entries (sym c.may_move.ensures ∙ c.if-may_move.true)
