@@ -1,5 +1,5 @@
 // Waits by what they are for.
-ghost use Rattle.std.specs.Prelude.{◌≡◌, ◌+◌, ◌<◌, ◌^◌, List, Bool, [], ◌∷◌, ◌++◌, length, get_or, unwrap_or, Some, false, nat_eq, OnOk, IfOk};
+ghost use Rattle.std.specs.Prelude.{◌≡◌, ◌+◌, ◌<◌, ◌≤◌, ◌^◌, List, Bool, [], ◌∷◌, ◌++◌, length, get_or, unwrap_or, Some, false, nat_eq, OnOk, OnErr, IfOk};
 ghost use Rattle.std.specs.Hash as fed;
 ghost use Rattle.std.specs.Cmp.Rules.{hashing};
 ghost use Rattle.std.proofs.Common.{rules};
@@ -15,11 +15,12 @@ use std::hash::{Hash, Hasher};
 use tp_step::{Cell, Wait};
 use tp_value::{NoMemory, Path, VarId};
 
-/// The place of a wait, and the number of the link before this one, from 1; 0 for none.
+/// The place of a wait, and the number of the link before this one, from 1; 0 for none. Each wait makes several links, so both numbers are
+/// of 32 bits; one that needs more is want of memory.
 #[derive(Clone, Copy)]
 pub(crate) struct Link {
-    pub place: u64,
-    pub next: u64,
+    pub place: u32,
+    pub next: u32,
 }
 
 /// An item of a variable's value.
@@ -51,10 +52,10 @@ impl Hash for Item {
 /// fact's own path leads to all that it decides. Most waits are for a variable or an item, which are found without a path being copied.
 #[derive(Drop)]
 pub struct Index {
-    pub(crate) wholes: IndexMap<VarId, u64>,
-    pub(crate) items: IndexMap<Item, u64>,
-    pub(crate) parts: IndexMap<Path, u64>,
-    pub(crate) ends: IndexMap<u64, u64>,
+    pub(crate) wholes: IndexMap<VarId, u32>,
+    pub(crate) items: IndexMap<Item, u32>,
+    pub(crate) parts: IndexMap<Path, u32>,
+    pub(crate) ends: IndexMap<u64, u32>,
     pub(crate) links: Vec<Link>,
 }
 
@@ -83,7 +84,7 @@ fn first_item(path: &Path) -> Item
 }
 
 /// The newest link of the path, from 1; 0 for none.
-pub(crate) fn newest_at(index: &Index, path: &Path) -> u64
+pub(crate) fn newest_at(index: &Index, path: &Path) -> u32
     ensures { result ≡ newest_at index.now path.now }
 {
     let newest = match path.at.items.len() {
@@ -98,7 +99,7 @@ pub(crate) fn newest_at(index: &Index, path: &Path) -> u64
 }
 
 /// The newest link of the region's end, from 1; 0 for none.
-pub(crate) fn newest_for(index: &Index, region: u64) -> u64
+pub(crate) fn newest_for(index: &Index, region: u64) -> u32
     ensures { result ≡ newest_for index.now region }
 {
     match index.ends.get(&region) {
@@ -107,9 +108,20 @@ pub(crate) fn newest_for(index: &Index, region: u64) -> u64
     }
 }
 
+// The number as a link holds it; it is refused where 32 bits don't hold it.
+fn narrow(number: u64) -> Result<u32, NoMemory>
+    ensures ok { IfOk result (λ n. n ≡ number) }
+    ensures err { OnErr result (2 ^ 32 ≤ number) }
+{
+    match u32::try_from(number) {
+        Ok(number) => Ok(number),
+        Err(_) => Err(NoMemory),
+    }
+}
+
 // Puts a link that names the place in front of those of the key.
 fn put_link<K: Hash + Drop>(
-    heads: &mut IndexMap<K, u64>,
+    heads: &mut IndexMap<K, u32>,
     links: &mut Vec<Link>,
     key: K,
     place: u64,
@@ -119,7 +131,8 @@ fn put_link<K: Hash + Drop>(
     ensures link { OnOk result (links.new.items ≡ links.old.items
         ++ record { place = place; next = unwrap_or (get K.eq heads.old key) 0 } ∷ []) }
 {
-    let number = links.len() as u64 + 1;
+    let place = narrow(place)?;
+    let number = narrow(links.len() as u64 + 1)?;
     let next = heads.insert(key, number)?.unwrap_or(0);
     links.push(Link { place, next })?;
     Ok(())
@@ -224,7 +237,8 @@ fn file_cell(index: &mut Index, cell: &Cell, place: u64) -> Result<(), NoMemory>
 }
 
 /// Files a wait behind so many others, whose index this is: it is then the index of all of them, of which the new one isn't over. It
-/// refuses where memory is wanted: then the wait may be filed for some of what it is for, and the index isn't to be used any more.
+/// refuses where memory is wanted, and where the wait's place or a link's number needs more than 32 bits: then the wait may be filed for
+/// some of what it is for, and the index isn't to be used any more.
 pub fn file(index: &mut Index, wait: &Wait, place: u64) -> Result<(), NoMemory>
     requires chained { IsChained index.old }
     ensures filed { OnOk result ((waits : List WaitSeen) (over : List Bool)

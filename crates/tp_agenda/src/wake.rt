@@ -93,7 +93,7 @@ fn ends(cause: &Cause, wait: &Wait) -> bool
 }
 
 // The wait at this place is over where a cell of it is decided, and its item is ready.
-fn wake_place(waits: &[Wait], place: u64, cause: &Cause, ready: &mut Plane, over: &mut Vec<bool>)
+fn wake_place(waits: &[Wait], place: u32, cause: &Cause, ready: &mut Plane, over: &mut Vec<bool>)
     requires place { place < length waits.now }
     requires sizes { length over.old.items ≡ length waits.now }
     requires below { All (λ w. w.item < length ready.old) waits.now }
@@ -113,7 +113,7 @@ fn wake_place(waits: &[Wait], place: u64, cause: &Cause, ready: &mut Plane, over
 }
 
 // The newest link of the waits that it may end. Where there is none, no path is looked up.
-fn newest_by(index: &Index, cause: &Cause) -> u64
+fn newest_by(index: &Index, cause: &Cause) -> u32
     requires { IsChained index.now }
     ensures { result ≡ newest_by index.now cause.now }
 {
@@ -127,7 +127,7 @@ fn newest_by(index: &Index, cause: &Cause) -> u64
 }
 
 // The link with this number, from 1.
-fn link_at(links: &[Link], number: u64) -> Link
+fn link_at(links: &[Link], number: u32) -> Link
     requires some { 0 < number }
     requires fits { number ≤ length links.now }
     ensures { result ≡ get_or links.now (number - 1) no_link }
@@ -139,7 +139,7 @@ fn link_at(links: &[Link], number: u64) -> Link
 fn wake_from(
     waits: &[Wait],
     links: &[Link],
-    newest: u64,
+    newest: u32,
     cause: &Cause,
     ready: &mut Plane,
     over: &mut Vec<bool>,
