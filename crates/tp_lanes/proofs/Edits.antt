@@ -76,7 +76,11 @@ or_bits x y x_small y_small = elim (cases_eq x 1) [
   | inr ne ↦ let x_zero : x ≡ 0 = omega (arith, ne, x_small) in let e : max x y ≡ y = omega (arith, x_zero) in ap (λ (b : ℕ). eqb b 1) e ∙ sym (ap (λ b. b || eqb y 1) (ne_eqb x 1 ne))
 ]
 
-module _ (xs ys zs : List ℕ) (each : (k : ℕ) → get_or zs k 0 ≡ bit_or (get_or xs k 0) (get_or ys k 0)) where
+-- the words zs have what xs and ys have
+abbrev pub AreJoined : (xs zs ys : List ℕ) → Type 0
+AreJoined xs zs ys = (k : ℕ) → get_or zs k 0 ≡ bit_or (get_or xs k 0) (get_or ys k 0)
+
+module _ (xs ys zs : List ℕ) (each : AreJoined xs zs ys) where
   pub joined_bit : (n : ℕ) → bit_in zs n ≡ (bit_in xs n || bit_in ys n)
   joined_bit n =
       let x = get_or xs (n / 64) 0 in

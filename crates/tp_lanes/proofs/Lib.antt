@@ -1,4 +1,5 @@
 pub mod Edits
+pub mod OneNumber
 pub mod Passing
 pub mod Planes
 pub mod RunLemmas

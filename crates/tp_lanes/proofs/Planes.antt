@@ -12,6 +12,10 @@ use Rattle.tp_lanes.proofs.Words.{filled_row}
 pub length_is : (bound : ℕ) (words : List ℕ) → length (flags_below bound words) ≡ bound
 length_is bound words = length-map-range_with_len (bit_in words) 0 bound
 
+-- as many flags as callers see
+pub seen_long : (bound : ℕ) (words : List ℕ) {xs : List Bool} → flags_below bound words ≡ xs → bound ≡ length xs
+seen_long bound words seen = sym (length_is bound words) ∙ ap length seen
+
 pub flag_below : (bound : ℕ) (words : List ℕ) (n : ℕ) → n < bound → flag (flags_below bound words) n ≡ bit_in words n
 flag_below bound words n less = get_or-map-range_with_len (bit_in words) 0 bound n n false less (omega arith)
 
@@ -44,6 +48,10 @@ module _ (bound : ℕ) (words rows : List ℕ) (size : ℕ) (p : IsPlane bound w
     | inl less ↦ flag_below bound words n less
     | inr more ↦ let long = length_is bound words in get_or_past (flags_below bound words) n false (omega (arith, long, more)) ∙ sym (p.beyond n more)
   ]
+
+  -- a member, found in the same words, is one that callers see
+  pub member_seen : {xs : List Bool} → flags_below bound words ≡ xs → {ws : List ℕ} → ws ≡ words → (n : ℕ) → bit_in ws n ≡ true → flag xs n ≡ true
+  member_seen seen e n member = sym (ap (λ (ys : List Bool). flag ys n) seen) ∙ (flag_is n ∙ (sym (ap (λ (ys : List ℕ). bit_in ys n) e) ∙ member))
 
   pub word_within : (n : ℕ) → n < bound → n / 64 < length words
   word_within n less = omega (arith, less, p.words_are, p.rows_are)

@@ -1,16 +1,14 @@
-use Rattle.std.proofs.Common.{◌≡◌, ℕ, ◌<◌, ◌≤◌, ◌+◌, ◌*◌, ◌^◌, ◌||◌, List, Bool, length, get_or, bit_or, ap, ap₂, subst, sym, ◌∙◌, arith}
-use Rattle.tp_lanes.specs.Planes.{flag, flags_below, bit_in, passing_below, HasBetween}
-use Rattle.tp_lanes.proofs.Planes.{length_is}
-use Rattle.tp_lanes.proofs.Edits.{joined_few, joined_plane, joined_flags}
+use Rattle.std.proofs.Common.{◌≡◌, ℕ, ◌<◌, ◌≤◌, ◌+◌, ◌*◌, ◌^◌, ◌||◌, List, Bool, length, get_or, ap, ap₂, subst, sym, ◌∙◌, arith}
+use Rattle.tp_lanes.specs.Planes.{flag, bit_in, passing_below, HasBetween}
+use Rattle.tp_lanes.proofs.Planes.{seen_long}
+use Rattle.tp_lanes.proofs.Edits.{AreJoined, joined_few, joined_plane, joined_flags}
 use Rattle.tp_lanes.proofs.plane.Plane.join.Goals as goal
 
 pub join_words-requires-clause-room : goal.join_words-requires-clause-room
 join_words-requires-clause-room c =
     let s = c.self.inside in
     let o = c.other.inside in
-    let seen : length (flags_below s.bound s.words.items) ≡ length c.args.self.now = ap length c.self.view_is in
-    let other_seen : length (flags_below o.bound o.words.items) ≡ length c.args.other.now = ap length c.other.view_is in
-    let le : o.bound ≤ s.bound = omega (arith, c.requires, seen, other_seen, length_is s.bound s.words.items, length_is o.bound o.words.items) in
+    let le : o.bound ≤ s.bound = omega (arith, c.requires, seen_long s.bound s.words.items c.self.view_is, seen_long o.bound o.words.items c.other.view_is) in
     let read : length c.deref.result.now ≡ length o.words.items = ap length c.deref.ensures.value in
     omega (arith, le, read, c.self.invariant.rows_are, c.self.invariant.words_are, c.other.invariant.rows_are, c.other.invariant.words_are)
 
@@ -18,12 +16,9 @@ pub count_rows-self-inside-requires-clause-few : goal.count_rows-self-inside-req
 count_rows-self-inside-requires-clause-few c =
     let s = c.self.inside in
     let o = c.other.inside in
-    let seen : length (flags_below s.bound s.words.items) ≡ length c.args.self.now = ap length c.self.view_is in
-    let other_seen : length (flags_below o.bound o.words.items) ≡ length c.args.other.now = ap length c.other.view_is in
-    let le : o.bound ≤ s.bound = omega (arith, c.requires, seen, other_seen, length_is s.bound s.words.items, length_is o.bound o.words.items) in
+    let le : o.bound ≤ s.bound = omega (arith, c.requires, seen_long s.bound s.words.items c.self.view_is, seen_long o.bound o.words.items c.other.view_is) in
     let zs = c.join_words.new.words.items in
-    let each : (k : ℕ) → get_or zs k 0 ≡ bit_or (get_or s.words.items k 0) (get_or o.words.items k 0) =
-    subst (λ (ys : List ℕ). (k : ℕ) → get_or zs k 0 ≡ bit_or (get_or s.words.items k 0) (get_or ys k 0)) c.deref.ensures.value c.join_words.ensures.each in
+    let each = subst (AreJoined s.words.items zs) c.deref.ensures.value c.join_words.ensures.each in
     subst (λ (ws : List ℕ). passing_below (bit_in ws) (512 * length s.rows.items) < 2 ^ 64) (sym c.deref-2.ensures.value)
     (joined_few s.words.items o.words.items zs each s.bound o.bound s.size o.size s.rows.items o.rows.items c.self.invariant c.other.invariant le)
 
@@ -31,12 +26,9 @@ pub invariant_of-self : goal.invariant_of-self
 invariant_of-self c =
     let s = c.self.inside in
     let o = c.other.inside in
-    let seen : length (flags_below s.bound s.words.items) ≡ length c.args.self.now = ap length c.self.view_is in
-    let other_seen : length (flags_below o.bound o.words.items) ≡ length c.args.other.now = ap length c.other.view_is in
-    let le : o.bound ≤ s.bound = omega (arith, c.requires, seen, other_seen, length_is s.bound s.words.items, length_is o.bound o.words.items) in
+    let le : o.bound ≤ s.bound = omega (arith, c.requires, seen_long s.bound s.words.items c.self.view_is, seen_long o.bound o.words.items c.other.view_is) in
     let zs = c.join_words.new.words.items in
-    let each : (k : ℕ) → get_or zs k 0 ≡ bit_or (get_or s.words.items k 0) (get_or o.words.items k 0) =
-    subst (λ (ys : List ℕ). (k : ℕ) → get_or zs k 0 ≡ bit_or (get_or s.words.items k 0) (get_or ys k 0)) c.deref.ensures.value c.join_words.ensures.each in
+    let each = subst (AreJoined s.words.items zs) c.deref.ensures.value c.join_words.ensures.each in
     let new_rows = c.count_rows-self-inside.new.rows.items in
     let total = c.count_rows-self-inside.result in
     let counts : (r : ℕ) → r < length new_rows → HasBetween (bit_in zs) (512 * r) (512 * r + 512) (get_or new_rows r 0) =
@@ -50,11 +42,8 @@ pub returns-clause-both : goal.returns-clause-both
 returns-clause-both c = λ n.
     let s = c.self.inside in
     let o = c.other.inside in
-    let seen : length (flags_below s.bound s.words.items) ≡ length c.args.self.now = ap length c.self.view_is in
-    let other_seen : length (flags_below o.bound o.words.items) ≡ length c.args.other.now = ap length c.other.view_is in
-    let le : o.bound ≤ s.bound = omega (arith, c.requires, seen, other_seen, length_is s.bound s.words.items, length_is o.bound o.words.items) in
+    let le : o.bound ≤ s.bound = omega (arith, c.requires, seen_long s.bound s.words.items c.self.view_is, seen_long o.bound o.words.items c.other.view_is) in
     let zs = c.join_words.new.words.items in
-    let each : (k : ℕ) → get_or zs k 0 ≡ bit_or (get_or s.words.items k 0) (get_or o.words.items k 0) =
-    subst (λ (ys : List ℕ). (k : ℕ) → get_or zs k 0 ≡ bit_or (get_or s.words.items k 0) (get_or ys k 0)) c.deref.ensures.value c.join_words.ensures.each in
+    let each = subst (AreJoined s.words.items zs) c.deref.ensures.value c.join_words.ensures.each in
     joined_flags s.words.items o.words.items zs each s.bound o.bound s.size o.size s.rows.items o.rows.items c.self.invariant c.other.invariant le n
     ∙ ap₂ (λ a b. a || b) (ap (λ (xs : List Bool). flag xs n) c.self.view_is) (ap (λ (xs : List Bool). flag xs n) c.other.view_is)

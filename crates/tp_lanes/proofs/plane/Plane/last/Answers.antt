@@ -1,7 +1,7 @@
 use Rattle.std.proofs.Common.{◌≡◌, ℕ, ◌<◌, ◌≤◌, ◌-◌, ◌*◌, ◌+◌, List, Bool, true, false, length, get_or, subst, sym, ◌∙◌, arith}
 use Rattle.std.proofs.lemmas.Bool.{both_ways}
 use Rattle.tp_lanes.specs.Planes.{flag, bit_in, AreEmpty, IsLastMember}
-use Rattle.tp_lanes.proofs.Planes.{flag_is, all_clear, row_filled, greatest_is}
+use Rattle.tp_lanes.proofs.Planes.{flag_is, member_seen, all_clear, row_filled, greatest_is}
 use Rattle.tp_lanes.proofs.plane.Plane.last.Goals as goal
 
 pub returns-then-end-eq0-clause-none : goal.returns-then-end-eq0-clause-none
@@ -45,7 +45,5 @@ pub returns-clause-none : goal.returns-clause-none
 returns-clause-none c =
     let s = c.self.inside in
     let n = c.last_member.result in
-    let member : bit_in s.words.items n ≡ true = subst (λ (ws : List ℕ). bit_in ws n ≡ true) c.deref-2.ensures.value c.last_member.ensures.member in
-    let there : flag c.args.self.now n ≡ true =
-    subst (λ (xs : List Bool). flag xs n ≡ true) c.self.view_is (flag_is s.bound s.words.items s.rows.items s.size c.self.invariant n ∙ member) in
+    let there = member_seen s.bound s.words.items s.rows.items s.size c.self.invariant c.self.view_is c.deref-2.ensures.value n c.last_member.ensures.member in
     (λ e k. cc, λ none. absurd (both_ways (flag c.args.self.now n) (none n) there))
