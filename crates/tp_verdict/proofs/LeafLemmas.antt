@@ -89,11 +89,11 @@ module _ (states : List Contents) (rows : List VerdictRow) (n : length rows ≡ 
       (λ i j l d. if_same (nat_le (k + i) j) (verdict_listed vs i) (equality_verdict (found_in states (k + i) t) (found_in states i e)) no no
       (λ c. p i (let a = leb-true (k + i) j c in omega (arith, a, d, n))) (λ c. refl))
 
-  pub equation_kind : (t e : ExprTree) (vs : List Verdict)
-      → ((i : ℕ) → i < length states → verdict_listed vs i ≡ equality_verdict (found_in states i t) (found_in states i e))
-      → HaveVerdicts (λ i j. if nat_le (0 + i) j then verdict_listed vs i else no) rows → At (equation t e)
-  equation_kind t e vs p h = parts_as (λ i j. if nat_le (0 + i) j then verdict_listed vs i else no) (verdict (found_in states) (equation t e)) rows h
-      (λ i j l d. within (0 + i) j (verdict_listed vs i) no (omega (arith, l)) ∙ p i (omega (arith, l, d, n)))
+  -- an equation is one of no state ahead
+  pub equation_kind : (t e : ExprTree) → At (next_equation zero t e) → At (equation t e)
+  equation_kind t e h = parts_as (verdict (found_in states) (next_equation zero t e)) (verdict (found_in states) (equation t e)) rows h
+      (λ i j l d. within (0 + i) j (equality_verdict (found_in states (0 + i) t) (found_in states i e)) no (omega (arith, l))
+      ∙ ap (λ (k : ℕ). equality_verdict (found_in states k t) (found_in states i e)) (let z : 0 + i ≡ i = omega arith in z))
 
   pub len_kind : (e : ExprTree) (os : List Outcome) → AreOutcomes e states os → HaveVerdicts (λ i j. length_verdict os i (j - i)) rows → At (len e)
   len_kind e os p h = parts_as (λ i j. length_verdict os i (j - i)) (verdict (found_in states) (len e)) rows h

@@ -81,10 +81,7 @@ pub fn equation_table(
         HaveVerdicts (verdict (found_in states.now)
         (equation (expr_tree first.now) (expr_tree second.now))) table.rows.items) }
 {
-    let firsts = outcomes(alloc, first, states)?;
-    let seconds = outcomes(alloc, second, states)?;
-    let verdicts = equality_verdicts(alloc, firsts.as_slice(), seconds.as_slice(), 0)?;
-    let table = ruled_table(alloc, &Rule::AtStart(0, verdicts.as_slice()), states.len())?;
+    let table = next_equation_table(alloc, 0, first, second, states)?;
     Ok(table)
 }
 

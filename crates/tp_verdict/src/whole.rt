@@ -1,7 +1,7 @@
 // The table of a wider formula over states.
 ghost use Rattle.std.specs.Prelude.{◌≡◌, ◌<◌, ◌-◌, IfOk, length};
 ghost use Rattle.tp_kernel.specs.Read.{expr_tree};
-ghost use Rattle.tp_verdict.specs.Wide.{trivial, empty, more, next, if_more, if_empty, always, branch, chop, while, disjunction, negation, sometimes};
+ghost use Rattle.tp_verdict.specs.Wide.{chop, while};
 ghost use Rattle.tp_verdict.specs.Table.{verdict, all_verdicts};
 ghost use Rattle.tp_verdict.specs.Code.{verdict_of};
 ghost use Rattle.tp_verdict.specs.Stored.{HaveVerdicts};
@@ -40,181 +40,6 @@ fn table_of_all(alloc: Global, formulas: &WideFormulas, states: &[Store]) -> Res
     Ok(all)
 }
 
-// In each of these, of a kind of formula, by the formula within.
-#[cycle(table_of)]
-fn table_of_next(alloc: Global, formula: &WideFormula, states: &[Store]) -> Result<Table, NoMemory>
-    ensures many { IfOk result (λ table. length table.rows.items ≡ length states.now) }
-    ensures verdicts { IfOk result (λ table.
-        HaveVerdicts (verdict (found_in states.now) (next (wide_tree formula.now)))
-        table.rows.items) }
-{
-    let body = table_of(alloc, formula, states)?;
-    let table = next_table(alloc, &body)?;
-    Ok(table)
-}
-
-#[cycle(table_of)]
-fn table_of_if_more(
-    alloc: Global,
-    formula: &WideFormula,
-    states: &[Store],
-) -> Result<Table, NoMemory>
-    ensures many { IfOk result (λ table. length table.rows.items ≡ length states.now) }
-    ensures verdicts { IfOk result (λ table.
-        HaveVerdicts (verdict (found_in states.now) (if_more (wide_tree formula.now)))
-        table.rows.items) }
-{
-    let body = table_of(alloc, formula, states)?;
-    let table = if_more_table(alloc, &body)?;
-    Ok(table)
-}
-
-#[cycle(table_of)]
-fn table_of_if_empty(
-    alloc: Global,
-    formula: &WideFormula,
-    states: &[Store],
-) -> Result<Table, NoMemory>
-    ensures many { IfOk result (λ table. length table.rows.items ≡ length states.now) }
-    ensures verdicts { IfOk result (λ table.
-        HaveVerdicts (verdict (found_in states.now) (if_empty (wide_tree formula.now)))
-        table.rows.items) }
-{
-    let body = table_of(alloc, formula, states)?;
-    let table = if_empty_table(alloc, &body)?;
-    Ok(table)
-}
-
-#[cycle(table_of)]
-fn table_of_always(
-    alloc: Global,
-    formula: &WideFormula,
-    states: &[Store],
-) -> Result<Table, NoMemory>
-    ensures many { IfOk result (λ table. length table.rows.items ≡ length states.now) }
-    ensures verdicts { IfOk result (λ table.
-        HaveVerdicts (verdict (found_in states.now) (always (wide_tree formula.now)))
-        table.rows.items) }
-{
-    let body = table_of(alloc, formula, states)?;
-    let table = always_table(alloc, &body)?;
-    Ok(table)
-}
-
-#[cycle(table_of)]
-fn table_of_not(alloc: Global, formula: &WideFormula, states: &[Store]) -> Result<Table, NoMemory>
-    ensures many { IfOk result (λ table. length table.rows.items ≡ length states.now) }
-    ensures verdicts { IfOk result (λ table.
-        HaveVerdicts (verdict (found_in states.now) (negation (wide_tree formula.now)))
-        table.rows.items) }
-{
-    let body = table_of(alloc, formula, states)?;
-    let table = not_table(alloc, &body)?;
-    Ok(table)
-}
-
-#[cycle(table_of)]
-fn table_of_sometimes(
-    alloc: Global,
-    formula: &WideFormula,
-    states: &[Store],
-) -> Result<Table, NoMemory>
-    ensures many { IfOk result (λ table. length table.rows.items ≡ length states.now) }
-    ensures verdicts { IfOk result (λ table.
-        HaveVerdicts (verdict (found_in states.now) (sometimes (wide_tree formula.now)))
-        table.rows.items) }
-{
-    let body = table_of(alloc, formula, states)?;
-    let table = suffix_table(alloc, &body)?;
-    Ok(table)
-}
-
-// Of a chop, by the table of the right one.
-#[cycle(table_of)]
-fn table_of_chop(
-    alloc: Global,
-    left: &WideFormula,
-    right: &WideFormula,
-    second: &Table,
-    states: &[Store],
-) -> Result<Table, NoMemory>
-    requires many { length second.now.rows.items ≡ length states.now }
-    requires verdicts { let right = wide_tree right.now in
-        HaveVerdicts (verdict (found_in states.now) right) second.now.rows.items }
-    ensures many { IfOk result (λ table. length table.rows.items ≡ length states.now) }
-    ensures verdicts { IfOk result (λ table.
-        HaveVerdicts (verdict (found_in states.now)
-        (chop (wide_tree left.now) (wide_tree right.now))) table.rows.items) }
-{
-    let first = table_of(alloc, left, states)?;
-    let table = chopped_table(alloc, &first, second)?;
-    Ok(table)
-}
-
-// Of one of two, by the table of the right one.
-#[cycle(table_of)]
-fn table_of_or(
-    alloc: Global,
-    left: &WideFormula,
-    right: &WideFormula,
-    second: &Table,
-    states: &[Store],
-) -> Result<Table, NoMemory>
-    requires many { length second.now.rows.items ≡ length states.now }
-    requires verdicts { let right = wide_tree right.now in
-        HaveVerdicts (verdict (found_in states.now) right) second.now.rows.items }
-    ensures many { IfOk result (λ table. length table.rows.items ≡ length states.now) }
-    ensures verdicts { IfOk result (λ table.
-        HaveVerdicts (verdict (found_in states.now)
-        (disjunction (wide_tree left.now) (wide_tree right.now))) table.rows.items) }
-{
-    let first = table_of(alloc, left, states)?;
-    let table = or_table(alloc, &first, second)?;
-    Ok(table)
-}
-
-// Of a choice by a condition, by the table of the right formula.
-#[cycle(table_of)]
-fn table_of_if(
-    alloc: Global,
-    left: &WideFormula,
-    right: &WideFormula,
-    second: &Table,
-    condition: &Expr,
-    states: &[Store],
-) -> Result<Table, NoMemory>
-    requires many { length second.now.rows.items ≡ length states.now }
-    requires verdicts { let right = wide_tree right.now in
-        HaveVerdicts (verdict (found_in states.now) right) second.now.rows.items }
-    ensures many { IfOk result (λ table. length table.rows.items ≡ length states.now) }
-    ensures verdicts { IfOk result (λ table.
-        HaveVerdicts (verdict (found_in states.now)
-        (branch (expr_tree condition.now) (wide_tree left.now) (wide_tree right.now)))
-        table.rows.items) }
-{
-    let first = table_of(alloc, left, states)?;
-    let table = branch_table(alloc, condition, states, &first, second)?;
-    Ok(table)
-}
-
-// Of a loop.
-#[cycle(table_of)]
-fn table_of_while(
-    alloc: Global,
-    formula: &WideFormula,
-    condition: &Expr,
-    states: &[Store],
-) -> Result<Table, NoMemory>
-    ensures many { IfOk result (λ table. length table.rows.items ≡ length states.now) }
-    ensures verdicts { IfOk result (λ table.
-        HaveVerdicts (verdict (found_in states.now)
-        (while (expr_tree condition.now) (wide_tree formula.now))) table.rows.items) }
-{
-    let body = table_of(alloc, formula, states)?;
-    let table = while_table(alloc, condition, states, &body)?;
-    Ok(table)
-}
-
 // Of a formula and a loop of it, by one table of the formula.
 #[cycle(table_of)]
 fn table_of_repeat(
@@ -234,33 +59,6 @@ fn table_of_repeat(
     Ok(table)
 }
 
-fn table_of_true(alloc: Global, states: &[Store]) -> Result<Table, NoMemory>
-    ensures many { IfOk result (λ table. length table.rows.items ≡ length states.now) }
-    ensures verdicts { IfOk result (λ table.
-        HaveVerdicts (verdict (found_in states.now) trivial) table.rows.items) }
-{
-    let table = true_table(alloc, states.len())?;
-    Ok(table)
-}
-
-fn table_of_empty(alloc: Global, states: &[Store]) -> Result<Table, NoMemory>
-    ensures many { IfOk result (λ table. length table.rows.items ≡ length states.now) }
-    ensures verdicts { IfOk result (λ table.
-        HaveVerdicts (verdict (found_in states.now) empty) table.rows.items) }
-{
-    let table = empty_table(alloc, states.len())?;
-    Ok(table)
-}
-
-fn table_of_more(alloc: Global, states: &[Store]) -> Result<Table, NoMemory>
-    ensures many { IfOk result (λ table. length table.rows.items ≡ length states.now) }
-    ensures verdicts { IfOk result (λ table.
-        HaveVerdicts (verdict (found_in states.now) more) table.rows.items) }
-{
-    let table = more_table(alloc, states.len())?;
-    Ok(table)
-}
-
 /// The verdicts of the formula on the parts of the states.
 #[cycle(table_of)]
 pub fn table_of(alloc: Global, formula: &WideFormula, states: &[Store]) -> Result<Table, NoMemory>
@@ -269,34 +67,34 @@ pub fn table_of(alloc: Global, formula: &WideFormula, states: &[Store]) -> Resul
         HaveVerdicts (verdict (found_in states.now) (wide_tree formula.now)) table.rows.items) }
 {
     match formula {
-        WideFormula::True => table_of_true(alloc, states),
+        WideFormula::True => true_table(alloc, states.len()),
         WideFormula::Test(e) => test_table(alloc, e, states),
         WideFormula::Eq(a, b) => equation_table(alloc, a, b, states),
         WideFormula::NextEq(k, a, b) => next_equation_table(alloc, *k, a, b, states),
-        WideFormula::Empty => table_of_empty(alloc, states),
-        WideFormula::More => table_of_more(alloc, states),
-        WideFormula::Next(w) => table_of_next(alloc, w, states),
-        WideFormula::IfMore(w) => table_of_if_more(alloc, w, states),
-        WideFormula::IfEmpty(w) => table_of_if_empty(alloc, w, states),
-        WideFormula::Always(w) => table_of_always(alloc, w, states),
+        WideFormula::Empty => empty_table(alloc, states.len()),
+        WideFormula::More => more_table(alloc, states.len()),
+        WideFormula::Next(w) => next_table(alloc, &table_of(alloc, w, states)?),
+        WideFormula::IfMore(w) => if_more_table(alloc, &table_of(alloc, w, states)?),
+        WideFormula::IfEmpty(w) => if_empty_table(alloc, &table_of(alloc, w, states)?),
+        WideFormula::Always(w) => always_table(alloc, &table_of(alloc, w, states)?),
         WideFormula::And(ws) => table_of_all(alloc, ws, states),
         WideFormula::If(b, w, v) => {
-            let second = table_of(alloc, v, states)?;
-            table_of_if(alloc, w, v, &second, b, states)
+            let first = table_of(alloc, w, states)?;
+            branch_table(alloc, b, states, &first, &table_of(alloc, v, states)?)
         }
         WideFormula::Len(e) => len_table(alloc, e, states),
         WideFormula::Assign(t, e) => assign_table(alloc, t, e, states),
         WideFormula::Chop(w, v) => {
-            let second = table_of(alloc, v, states)?;
-            table_of_chop(alloc, w, v, &second, states)
+            let first = table_of(alloc, w, states)?;
+            chopped_table(alloc, &first, &table_of(alloc, v, states)?)
         }
-        WideFormula::While(b, w) => table_of_while(alloc, w, b, states),
+        WideFormula::While(b, w) => while_table(alloc, b, states, &table_of(alloc, w, states)?),
         WideFormula::Or(w, v) => {
-            let second = table_of(alloc, v, states)?;
-            table_of_or(alloc, w, v, &second, states)
+            let first = table_of(alloc, w, states)?;
+            or_table(alloc, &first, &table_of(alloc, v, states)?)
         }
-        WideFormula::Not(w) => table_of_not(alloc, w, states),
-        WideFormula::Sometimes(w) => table_of_sometimes(alloc, w, states),
+        WideFormula::Not(w) => not_table(alloc, &table_of(alloc, w, states)?),
+        WideFormula::Sometimes(w) => suffix_table(alloc, &table_of(alloc, w, states)?),
         WideFormula::Repeat(w, b) => table_of_repeat(alloc, w, b, states),
     }
 }

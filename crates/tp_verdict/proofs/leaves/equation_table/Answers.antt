@@ -1,28 +1,9 @@
-use Rattle.std.proofs.Common.{◌≡◌, ◌∙◌, ◌+◌, List, map, ap, arith}
-use Rattle.tp_eval.specs.Answers.{outcome_tree}
+use Rattle.std.proofs.Common.{arith}
 use Rattle.tp_kernel.specs.Read.{expr_tree}
-use Rattle.tp_verdict.specs.Stored.{verdict_listed}
-use Rattle.tp_verdict.specs.Ruled.{paired}
-use Rattle.tp_verdict.specs.declared.verdict.Verdict.{Verdict}
-use Rattle.tp_verdict.proofs.LeafLemmas.{equation_kind, paired_is, outcomes_length}
+use Rattle.tp_verdict.proofs.LeafLemmas.{equation_kind}
 use Rattle.tp_verdict.proofs.leaves.equation_table.Goals as goal
 
 pub returns-clause-verdicts : goal.returns-clause-verdicts
 returns-clause-verdicts c =
     let m = c.in_ok-table.ensures.many in
-    let states = c.args.states.now in
-    let rows = c.in_ok-table.table.rows.items in
-    let t = expr_tree c.args.first.now in
-    let e = expr_tree c.args.second.now in
-    let ts = c.as_slice.result.now in
-    let es = c.as_slice-2.result.now in
-    let vs = c.as_slice-3.result.now in
-    let h = ap (map outcome_tree) c.as_slice.ensures.value ∙ c.in_ok-firsts.ensures in
-    let k = ap (map outcome_tree) c.as_slice-2.ensures.value ∙ c.in_ok-seconds.ensures in
-    let many = outcomes_length e states es k in
-    equation_kind states rows (omega (arith, m)) t e vs
-    (λ i l. ap (λ (xs : List Verdict). verdict_listed xs i) c.as_slice-3.ensures.value
-    ∙ c.in_ok-verdicts.ensures i (omega (arith, l, many))
-    ∙ ap (paired ts es i) (let z : i + 0 ≡ i = omega arith in z)
-    ∙ paired_is t e states ts es h k i i (omega (arith, l)) l)
-    c.in_ok-table.ensures.verdicts
+    equation_kind c.args.states.now c.in_ok-table.table.rows.items (omega (arith, m)) (expr_tree c.args.first.now) (expr_tree c.args.second.now) c.in_ok-table.ensures.verdicts

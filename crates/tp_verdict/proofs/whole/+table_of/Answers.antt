@@ -1,55 +1,15 @@
-use Rattle.std.proofs.Common.{◌∙◌, arith}
+use Rattle.std.proofs.Common.{◌≡◌, ◌∙◌, ap, ap₂, sym, subst, arith}
+use Rattle.std.proofs.lemmas.Result.{IfOk-weaker}
 use Rattle.tp_kernel.specs.Read.{expr_tree}
-use Rattle.tp_verdict.specs.Wide.{while}
+use Rattle.tp_verdict.specs.Wide.{WideTree, chop, while, sometimes}
 use Rattle.tp_verdict.specs.Table.{verdict}
 use Rattle.tp_verdict.specs.Found.{found_in}
+use Rattle.tp_verdict.specs.Stored.{HaveVerdicts}
 use Rattle.tp_verdict.specs.Read.{wide_tree}
+use Rattle.tp_verdict.specs.declared.wide_formula.WideFormula.{WideFormula}
 use Rattle.tp_verdict.proofs.WholeLemmas.{first_verdicts, none_first, first_more, all_first}
+use Rattle.tp_verdict.proofs.WideTrees.{wide_chop, wide_sometimes}
 use Rattle.tp_verdict.proofs.whole.+table_of.Goals as goal
-
-pub table_of_next-returns-clause-verdicts : goal.table_of_next-returns-clause-verdicts
-table_of_next-returns-clause-verdicts t c =
-    c.in_ok-table.ensures.verdicts (found_in c.args.states.now) (wide_tree c.args.formula.now) c.in_ok-body.ensures.verdicts
-
-pub table_of_if_more-returns-clause-verdicts : goal.table_of_if_more-returns-clause-verdicts
-table_of_if_more-returns-clause-verdicts t c =
-    c.in_ok-table.ensures.verdicts (found_in c.args.states.now) (wide_tree c.args.formula.now) c.in_ok-body.ensures.verdicts
-
-pub table_of_if_empty-returns-clause-verdicts : goal.table_of_if_empty-returns-clause-verdicts
-table_of_if_empty-returns-clause-verdicts t c =
-    c.in_ok-table.ensures.verdicts (found_in c.args.states.now) (wide_tree c.args.formula.now) c.in_ok-body.ensures.verdicts
-
-pub table_of_always-returns-clause-verdicts : goal.table_of_always-returns-clause-verdicts
-table_of_always-returns-clause-verdicts t c =
-    c.in_ok-table.ensures.verdicts (found_in c.args.states.now) (wide_tree c.args.formula.now) c.in_ok-body.ensures.verdicts
-
-pub table_of_not-returns-clause-verdicts : goal.table_of_not-returns-clause-verdicts
-table_of_not-returns-clause-verdicts t c =
-    c.in_ok-table.ensures.verdicts (found_in c.args.states.now) (wide_tree c.args.formula.now) c.in_ok-body.ensures.verdicts
-
-pub table_of_sometimes-returns-clause-verdicts : goal.table_of_sometimes-returns-clause-verdicts
-table_of_sometimes-returns-clause-verdicts t c =
-    c.in_ok-table.ensures.verdicts (verdict (found_in c.args.states.now) (wide_tree c.args.formula.now)) c.in_ok-body.ensures.verdicts
-
-pub table_of_chop-returns-clause-verdicts : goal.table_of_chop-returns-clause-verdicts
-table_of_chop-returns-clause-verdicts t c =
-    let found = found_in c.args.states.now in
-    c.in_ok-table.ensures.verdicts (verdict found (wide_tree c.args.left.now)) (verdict found (wide_tree c.args.right.now))
-    c.in_ok-first.ensures.verdicts c.requires.verdicts
-
-pub table_of_or-returns-clause-verdicts : goal.table_of_or-returns-clause-verdicts
-table_of_or-returns-clause-verdicts t c =
-    c.in_ok-table.ensures.verdicts (found_in c.args.states.now) (wide_tree c.args.left.now) (wide_tree c.args.right.now)
-    c.in_ok-first.ensures.verdicts c.requires.verdicts
-
-pub table_of_if-returns-clause-verdicts : goal.table_of_if-returns-clause-verdicts
-table_of_if-returns-clause-verdicts t c =
-    c.in_ok-table.ensures.verdicts (wide_tree c.args.left.now) (wide_tree c.args.right.now)
-    c.in_ok-first.ensures.verdicts c.requires.verdicts
-
-pub table_of_while-returns-clause-verdicts : goal.table_of_while-returns-clause-verdicts
-table_of_while-returns-clause-verdicts t c =
-    c.in_ok-table.ensures.verdicts (wide_tree c.args.formula.now) c.in_ok-body.ensures.verdicts
 
 pub table_of_repeat-returns-clause-verdicts : goal.table_of_repeat-returns-clause-verdicts
 table_of_repeat-returns-clause-verdicts t c =
@@ -57,6 +17,30 @@ table_of_repeat-returns-clause-verdicts t c =
     let w = wide_tree c.args.formula.now in
     c.in_ok-table.ensures.verdicts (verdict found w) (verdict found (while (expr_tree c.args.condition.now) w))
     c.in_ok-body.ensures.verdicts (c.in_ok-again.ensures.verdicts w c.in_ok-body.ensures.verdicts)
+
+pub table_of-returns-in_ok-table_of-in-Chop-clause-verdicts : goal.table_of-returns-in_ok-table_of-in-Chop-clause-verdicts
+table_of-returns-in_ok-table_of-in-Chop-clause-verdicts t c =
+    let found = found_in c.args.states.now in
+    let w = c.deref-in-Chop.result.now in
+    let v = c.deref-in-Chop-2.result.now in
+    let is : chop (wide_tree w) (wide_tree v) ≡ wide_tree c.args.formula.now =
+    sym (ap wide_tree c.in-Chop.is ∙ (wide_chop c.in-Chop.w c.in-Chop.v
+    ∙ ap₂ (λ (x y : WideFormula). chop (wide_tree x) (wide_tree y)) (sym c.deref-in-Chop.ensures) (sym c.deref-in-Chop-2.ensures))) in
+    IfOk-weaker c.chopped_table.result _ (λ table. HaveVerdicts (verdict found (wide_tree c.args.formula.now)) table.rows.items)
+    (λ table h. subst (λ (x : WideTree). HaveVerdicts (verdict found x) table.rows.items) is
+    (h (verdict found (wide_tree w)) (verdict found (wide_tree v)) c.in_ok-first-in-Chop.ensures.verdicts c.in_ok-table_of-in-Chop.ensures.verdicts))
+    c.chopped_table.ensures.verdicts
+
+pub table_of-returns-in_ok-table_of-in-Sometimes-clause-verdicts : goal.table_of-returns-in_ok-table_of-in-Sometimes-clause-verdicts
+table_of-returns-in_ok-table_of-in-Sometimes-clause-verdicts t c =
+    let found = found_in c.args.states.now in
+    let w = c.deref-in-Sometimes.result.now in
+    let is : sometimes (wide_tree w) ≡ wide_tree c.args.formula.now =
+    sym (ap wide_tree c.in-Sometimes.is ∙ (wide_sometimes c.in-Sometimes.w ∙ ap (λ (x : WideFormula). sometimes (wide_tree x)) (sym c.deref-in-Sometimes.ensures))) in
+    IfOk-weaker c.suffix_table.result _ (λ table. HaveVerdicts (verdict found (wide_tree c.args.formula.now)) table.rows.items)
+    (λ table h. subst (λ (x : WideTree). HaveVerdicts (verdict found x) table.rows.items) is
+    (h (verdict found (wide_tree w)) c.in_ok-table_of-in-Sometimes.ensures.verdicts))
+    c.suffix_table.ensures.verdicts
 
 pub table_of_all-loop-formula-init : goal.table_of_all-loop-formula-init
 table_of_all-loop-formula-init t c =
