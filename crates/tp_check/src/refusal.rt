@@ -2,7 +2,7 @@
 ghost use Rattle.std.specs.Prelude.{◌≡◌};
 ghost use Rattle.tp_check.specs.declared.refusal.CheckRefusal.TheVariants.{NoMemory};
 
-use std::alloc::{AllocError, AllocFailed};
+use std::alloc::AllocFailed;
 use tp_value::NoMemory;
 
 /// Why a source is no program. A phrase is named by the place of the first byte of its text.
@@ -23,14 +23,6 @@ pub enum CheckRefusal {
     /// The phrase at this place isn't run.
     NotExecutable { at: u32 },
     NoMemory,
-}
-
-impl From<AllocError> for CheckRefusal {
-    ghost from_gives = { λ _ e. e ≡ NoMemory };
-
-    fn from(_: AllocError) -> CheckRefusal {
-        CheckRefusal::NoMemory
-    }
 }
 
 impl<T: Drop> From<AllocFailed<T>> for CheckRefusal {

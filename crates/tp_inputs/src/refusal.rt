@@ -1,11 +1,9 @@
 // Why a text is no table of inputs.
 ghost use Rattle.std.specs.Prelude.{◌≡◌};
-ghost use Rattle.tp_inputs.specs.declared.refusal.InputsRefusal.TheVariants.{NoMemory as refused_memory};
 ghost use Rattle.tp_inputs.specs.declared.refusal.LineRefusal.TheVariants.{NoMemory as line_memory};
 ghost use Rattle.tp_inputs.specs.Read.{refusal_in};
 
 use crate::fault::Fault;
-use std::alloc::{AllocError, AllocFailed};
 use tp_value::NoMemory;
 
 /// The first line that is refused, counted from 1, with its first fault, or want of memory.
@@ -46,13 +44,5 @@ impl From<NoMemory> for LineRefusal {
 
     fn from(_: NoMemory) -> LineRefusal {
         LineRefusal::NoMemory
-    }
-}
-
-impl<T: Drop> From<AllocFailed<T>> for InputsRefusal {
-    ghost from_gives = { λ _ e. e ≡ refused_memory };
-
-    fn from(_: AllocFailed<T>) -> InputsRefusal {
-        InputsRefusal::NoMemory
     }
 }

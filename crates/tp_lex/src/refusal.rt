@@ -2,7 +2,7 @@
 ghost use Rattle.std.specs.Prelude.{◌≡◌};
 ghost use Rattle.tp_lex.specs.declared.refusal.LexRefusal.TheVariants.{NoMemory as refused_memory};
 
-use std::alloc::{AllocError, AllocFailed};
+use std::alloc::AllocFailed;
 use tp_value::NoMemory;
 
 /// The first fault of a text in the order of its bytes, or want of memory. `at` counts bytes from 0.
@@ -23,14 +23,6 @@ impl From<NoMemory> for LexRefusal {
     ghost from_gives = { λ _ e. e ≡ refused_memory };
 
     fn from(_: NoMemory) -> LexRefusal {
-        LexRefusal::NoMemory
-    }
-}
-
-impl From<AllocError> for LexRefusal {
-    ghost from_gives = { λ _ e. e ≡ refused_memory };
-
-    fn from(_: AllocError) -> LexRefusal {
         LexRefusal::NoMemory
     }
 }

@@ -2,7 +2,7 @@
 ghost use Rattle.std.specs.Prelude.{◌≡◌};
 ghost use Rattle.tp_parse.specs.declared.refusal.Refusal.TheVariants.{NoMemory};
 
-use std::alloc::{AllocError, AllocFailed};
+use std::alloc::AllocFailed;
 use tp_value::NoMemory;
 
 /// Why tokens are no source. A token is named by its number, counted from 0: it is the first one after which no accepted source goes
@@ -25,14 +25,6 @@ pub enum Refusal {
     Unfinished,
     TooDeep(usize),
     NoMemory,
-}
-
-impl From<AllocError> for Refusal {
-    ghost from_gives = { λ _ e. e ≡ NoMemory };
-
-    fn from(_: AllocError) -> Refusal {
-        Refusal::NoMemory
-    }
 }
 
 impl<T: Drop> From<AllocFailed<T>> for Refusal {
