@@ -1,5 +1,5 @@
 -- Where a comment closes, from star to star.
-use Rattle.std.proofs.Common.{refl, ap, sym, subst, ◌∙◌, ◌≡◌, ℕ, suc, ◌+◌, ◌≤◌, Bool, true, false, cond, List, [], ◌∷◌, length, drop, nat_eq, Option, Some, None, arith, codes, length-drop}
+use Rattle.std.proofs.Common.{refl, ap, sym, subst, ◌∙◌, ◌≡◌, ℕ, suc, ◌+◌, ◌-◌, ◌<◌, ◌≤◌, Bool, true, false, cond, List, [], ◌∷◌, length, take, drop, take_all, nat_eq, Option, Some, None, arith, codes, length-drop}
 use Rattle.std.specs.Option.{option_map}
 use Rattle.std.specs.List.{starts_with, prefix_len}
 use Rattle.std.proofs.lemmas.Bool.Decides.{nat_tests}
@@ -62,18 +62,32 @@ to_star z at m before is =
     let next : first_close (drop at z) ≡ option_map (λ n. m + n) (first_close (drop m (drop at z))) = subst (λ (k : ℕ). first_close (drop at z) ≡ option_map (λ n. k + n) (first_close (drop k (drop at z)))) (sym is) (before_star (drop at z)) in
     before ∙ (ap (option_map (λ n. at + n)) next ∙ (map_later at m (first_close (drop m (drop at z))) ∙ ap (λ x. option_map (λ n. (at + m) + n) (first_close x)) (drop-drop m at z)))
 
-pub star_closes : (z : List ℕ) (at m : ℕ) → first_close z ≡ option_map (λ n. at + n) (first_close (drop at z)) → m ≡ prefix_len plain (drop at z)
-    → starts_with nat_eq (drop (at + m) z) (codes "*/") ≡ true → Some (at + m) ≡ first_close z
-star_closes z at m before is here =
-    let e : (at + m) + 0 ≡ at + m = omega arith in
-    sym (to_star z at m before is ∙ (ap (option_map (λ n. (at + m) + n)) (closes (drop (at + m) z) here) ∙ ap Some e))
+-- a slice from a place on is all that stands behind the place
+behind : (z : List ℕ) (at : ℕ) → at ≤ length z → take (length z - at) (drop at z) ≡ drop at z
+behind z at within = take_all (length z - at) (drop at z) (omega (arith, length-drop at z))
 
-pub star_passes : (z : List ℕ) (at m : ℕ) → first_close z ≡ option_map (λ n. at + n) (first_close (drop at z)) → m ≡ prefix_len plain (drop at z)
-    → starts_with nat_eq (drop (at + m) z) (codes "*/") ≡ false → first_close z ≡ option_map (λ n. ((at + m) + 1) + n) (first_close (drop ((at + m) + 1) z))
-star_passes z at m before is here =
-    to_star z at m before is ∙ (ap (option_map (λ n. (at + m) + n)) (passes (drop (at + m) z) here)
-    ∙ (map_later (at + m) 1 (first_close (drop 1 (drop (at + m) z))) ∙ ap (λ x. option_map (λ n. ((at + m) + 1) + n) (first_close x)) (drop-drop 1 (at + m) z)))
+run_behind : (z : List ℕ) (at m : ℕ) → at < length z → m ≡ prefix_len plain (take (length z - at) (drop at z)) → m ≡ prefix_len plain (drop at z)
+run_behind z at m inside is = is ∙ ap (prefix_len plain) (behind z at (omega (arith, inside)))
 
 -- no further than the end
-pub star_within : (z : List ℕ) (at m : ℕ) → at ≤ length z → m ≡ prefix_len plain (drop at z) → at + m ≤ length z
-star_within z at m within is = omega (arith, is, prefix_len-le-length plain (drop at z), length-drop at z)
+pub star_within : (z : List ℕ) (at m : ℕ) → at < length z → m ≡ prefix_len plain (take (length z - at) (drop at z)) → at + m ≤ length z
+star_within z at m inside is =
+    let run : m ≡ prefix_len plain (drop at z) = run_behind z at m inside is in
+    omega (arith, inside, run, prefix_len-le-length plain (drop at z), length-drop at z)
+
+test_behind : (z : List ℕ) (k : ℕ) (t : Bool) → k ≤ length z → starts_with nat_eq (take (length z - k) (drop k z)) (codes "*/") ≡ t → starts_with nat_eq (drop k z) (codes "*/") ≡ t
+test_behind z k t within = subst (λ (x : List ℕ). starts_with nat_eq x (codes "*/") ≡ t) (behind z k within)
+
+pub star_closes : (z : List ℕ) (at m : ℕ) → at < length z → first_close z ≡ option_map (λ n. at + n) (first_close (drop at z)) → m ≡ prefix_len plain (take (length z - at) (drop at z))
+    → starts_with nat_eq (take (length z - (at + m)) (drop (at + m) z)) (codes "*/") ≡ true → Some (at + m) ≡ first_close z
+star_closes z at m inside before is test =
+    let here : starts_with nat_eq (drop (at + m) z) (codes "*/") ≡ true = test_behind z (at + m) true (star_within z at m inside is) test in
+    let e : (at + m) + 0 ≡ at + m = omega arith in
+    sym (to_star z at m before (run_behind z at m inside is) ∙ (ap (option_map (λ n. (at + m) + n)) (closes (drop (at + m) z) here) ∙ ap Some e))
+
+pub star_passes : (z : List ℕ) (at m : ℕ) → at < length z → first_close z ≡ option_map (λ n. at + n) (first_close (drop at z)) → m ≡ prefix_len plain (take (length z - at) (drop at z))
+    → starts_with nat_eq (take (length z - (at + m)) (drop (at + m) z)) (codes "*/") ≡ false → first_close z ≡ option_map (λ n. ((at + m) + 1) + n) (first_close (drop ((at + m) + 1) z))
+star_passes z at m inside before is test =
+    let here : starts_with nat_eq (drop (at + m) z) (codes "*/") ≡ false = test_behind z (at + m) false (star_within z at m inside is) test in
+    to_star z at m before (run_behind z at m inside is) ∙ (ap (option_map (λ n. (at + m) + n)) (passes (drop (at + m) z) here)
+    ∙ (map_later (at + m) 1 (first_close (drop 1 (drop (at + m) z))) ∙ ap (λ x. option_map (λ n. ((at + m) + 1) + n) (first_close x)) (drop-drop 1 (at + m) z)))

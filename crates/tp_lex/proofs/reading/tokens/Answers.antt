@@ -43,49 +43,43 @@ along-requires-clause-column c =
     let column = c.loop-rest.invariant.column in
     omega (arith, length-drop c.loop-rest.place.at c.args.bytes.now)
 
+-- what is passed has some bytes, and no more than are left
+passed : (c : goal.After-next-1) → (0 < c.match-branch-2.len.0) × (c.match-branch-2.len.0 ≤ length c.loop-rest.rest.now)
+passed c =
+    let found = piece_found c.loop-rest.rest.now c.in_ok-len.field-0 (grind (arith, common_steps)) c.in_ok-len.ensures in
+    elim c.match-branch-2.branch [
+      | in-Gap w ↦ gap_takes _ _ _ _ found.1 w.in-Gap.is (ap (λ (x : ℕ × Place). x.0) w.len-is)
+      | in-Lexeme+in_ok-push-in-Lexeme w ↦ lexeme_takes _ _ _ _ _ found.1 w.in-Lexeme.is (ap (λ (x : ℕ × Place). x.0) w.len-is)
+    ]
+
 pub slice_bounds-rest-count : goal.slice_bounds-rest-count
-slice_bounds-rest-count c =
-    let rest : List ℕ = c.loop-rest.rest.now in
-    let len : ℕ = c.match-branch-2.len.0 in
-    let found = piece_found rest c.in_ok-len.field-0 (grind (arith, common_steps)) c.in_ok-len.ensures in
-    let taken : (0 < len) × (len ≤ length rest) = elim c.match-branch-2.branch [
-      | in-Gap w ↦ gap_takes (length rest) w.in-Gap.len len c.in_ok-len.field-0 found.1 w.in-Gap.is (ap (λ (x : ℕ × Place). x.0) w.len-is)
-      | in-Lexeme+in_ok-push-in-Lexeme w ↦ lexeme_takes (length rest) w.in-Lexeme.len len w.in-Lexeme.kind c.in_ok-len.field-0 found.1 w.in-Lexeme.is (ap (λ (x : ℕ × Place). x.0) w.len-is)
-    ] in
-    taken.1
+slice_bounds-rest-count c = (passed c).1
 
 pub slice_bounds-rest-start : goal.slice_bounds-rest-start
-slice_bounds-rest-start c =
-    let rest : List ℕ = c.loop-rest.rest.now in
-    let len : ℕ = c.match-branch-2.len.0 in
-    let found = piece_found rest c.in_ok-len.field-0 (grind (arith, common_steps)) c.in_ok-len.ensures in
-    let taken : (0 < len) × (len ≤ length rest) = elim c.match-branch-2.branch [
-      | in-Gap w ↦ gap_takes (length rest) w.in-Gap.len len c.in_ok-len.field-0 found.1 w.in-Gap.is (ap (λ (x : ℕ × Place). x.0) w.len-is)
-      | in-Lexeme+in_ok-push-in-Lexeme w ↦ lexeme_takes (length rest) w.in-Lexeme.len len w.in-Lexeme.kind c.in_ok-len.field-0 found.1 w.in-Lexeme.is (ap (λ (x : ℕ × Place). x.0) w.len-is)
-    ] in
-    search rules
+slice_bounds-rest-start c = let within = (passed c).1 in search rules
+
+-- the same, where these bytes are cut off
+taken : (c : goal.After-rest-1) → (0 < c.match-branch-2.len.0) × (c.match-branch-2.len.0 ≤ length c.loop-rest.rest.now)
+taken c =
+    let found = piece_found c.loop-rest.rest.now c.in_ok-len.field-0 (grind (arith, common_steps)) c.in_ok-len.ensures in
+    elim c.match-branch-2.branch [
+      | in-Gap w ↦ gap_takes _ _ _ _ found.1 w.in-Gap.is (ap (λ (x : ℕ × Place). x.0) w.len-is)
+      | in-Lexeme+in_ok-push-in-Lexeme w ↦ lexeme_takes _ _ _ _ _ found.1 w.in-Lexeme.is (ap (λ (x : ℕ × Place). x.0) w.len-is)
+    ]
 
 pub loop-rest-smaller : goal.loop-rest-smaller
 loop-rest-smaller c =
     let rest : List ℕ = c.loop-rest.rest.now in
     let len : ℕ = c.match-branch-2.len.0 in
-    let found = piece_found rest c.in_ok-len.field-0 (grind (arith, common_steps)) c.in_ok-len.ensures in
-    let taken : (0 < len) × (len ≤ length rest) = elim c.match-branch-2.branch [
-      | in-Gap w ↦ gap_takes (length rest) w.in-Gap.len len c.in_ok-len.field-0 found.1 w.in-Gap.is (ap (λ (x : ℕ × Place). x.0) w.len-is)
-      | in-Lexeme+in_ok-push-in-Lexeme w ↦ lexeme_takes (length rest) w.in-Lexeme.len len w.in-Lexeme.kind c.in_ok-len.field-0 found.1 w.in-Lexeme.is (ap (λ (x : ℕ × Place). x.0) w.len-is)
-    ] in
-    let less = take_rest rest len in
-    omega (arith, length-drop len rest, ap length less)
+    let some = taken c in
+    omega (arith, some.0, some.1, length-drop len rest, ap length (take_rest rest len))
 
 pub loop-rest-preserved : goal.loop-rest-preserved
 loop-rest-preserved c =
     let rest : List ℕ = c.loop-rest.rest.now in
     let len : ℕ = c.match-branch-2.len.0 in
     let found = piece_found rest c.in_ok-len.field-0 (grind (arith, common_steps)) c.in_ok-len.ensures in
-    let taken : (0 < len) × (len ≤ length rest) = elim c.match-branch-2.branch [
-      | in-Gap w ↦ gap_takes (length rest) w.in-Gap.len len c.in_ok-len.field-0 found.1 w.in-Gap.is (ap (λ (x : ℕ × Place). x.0) w.len-is)
-      | in-Lexeme+in_ok-push-in-Lexeme w ↦ lexeme_takes (length rest) w.in-Lexeme.len len w.in-Lexeme.kind c.in_ok-len.field-0 found.1 w.in-Lexeme.is (ap (λ (x : ℕ × Place). x.0) w.len-is)
-    ] in
+    let within : len ≤ length rest = (taken c).1 in
     let bytes : List ℕ = c.args.bytes.now in
     let at : ℕ = c.loop-rest.place.at in
     let left = ap length c.loop-rest.invariant.rest in
@@ -99,11 +93,11 @@ loop-rest-preserved c =
           let some : len ≡ w.in-Lexeme.len = ap (λ (x : ℕ × Place). x.0) w.len-is in
           let one : EndsNoLine (take w.in-Lexeme.len rest) = lexeme_line rest w.in-Lexeme.kind w.in-Lexeme.len (subst (BeginsPiece rest) w.in-Lexeme.is found.0) in
           let along : Follows c.loop-rest.place (take w.in-Lexeme.len rest) w.along.result =
-          follows_along c.loop-rest.place rest w.in-Lexeme.len w.along.result (omega (arith, taken.1, some)) one c.loop-rest.invariant.line c.loop-rest.invariant.column w.along.ensures in
+          follows_along c.loop-rest.place rest w.in-Lexeme.len w.along.result (omega (arith, within, some)) one c.loop-rest.invariant.line c.loop-rest.invariant.column w.along.ensures in
           followed c.loop-rest.place rest len _ next _ some (ap (λ (x : ℕ × Place). x.1) w.len-is) along
     ] in
     let place : next ≡ place_of bytes (at + len) = stands.place ∙ (ap (λ (q : Place). place_from q (take len rest)) c.loop-rest.invariant.place ∙ (ap (λ (z : List ℕ). place_from (place_of bytes at) (take len z)) c.loop-rest.invariant.rest ∙ place_later bytes at len)) in
-    let advanced : next.at ≡ at + len = omega (arith, stands.at, length-take-le len rest taken.1) in
+    let advanced : next.at ≡ at + len = omega (arith, stands.at, length-take-le len rest within) in
     let old : List Token = c.loop-rest.found.items in
     let new : List Token = c.match-branch-2.found.items in
     let so_far : Continues bytes at old = c.loop-rest.invariant.reads in
