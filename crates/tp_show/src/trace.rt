@@ -7,7 +7,7 @@ ghost use Rattle.tp_show.specs.Trace.{IsTraceText, IsTraceRefusal};
 
 use crate::named_fact::NamedFact;
 use crate::trace_line::{LineKind, line_kind};
-use std::alloc::{AllocError, AllocFailed, Global};
+use std::alloc::{AllocFailed, Global};
 use std::marker::Model;
 use tp_lex::first_line;
 use tp_value::{Indices, NoMemory, Shape, Text};
@@ -53,14 +53,6 @@ impl From<NoMemory> for TraceRefusal {
     ghost from_gives = { λ _ r. r ≡ refused_memory };
 
     fn from(_: NoMemory) -> TraceRefusal {
-        TraceRefusal::NoMemory
-    }
-}
-
-impl From<AllocError> for TraceRefusal {
-    ghost from_gives = { λ _ r. r ≡ refused_memory };
-
-    fn from(_: AllocError) -> TraceRefusal {
         TraceRefusal::NoMemory
     }
 }
