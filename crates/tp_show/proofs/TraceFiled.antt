@@ -136,7 +136,7 @@ pub record IsFiled (names : List (List ℕ)) (seen : List NamedFact) (kept : Lis
 pub filed_start : (names : List (List ℕ)) → IsFiled names [] []
 filed_start names = record { there = λ f i. absurd i; back = λ g i. absurd i }
 
-pub filed_names : (names : List (List ℕ)) (added : List ℕ) (seen : List NamedFact) (kept : List Fact) → IsFiled names seen kept → IsFiled (with_name names added) seen kept
+filed_names : (names : List (List ℕ)) (added : List ℕ) (seen : List NamedFact) (kept : List Fact) → IsFiled names seen kept → IsFiled (with_name names added) seen kept
 filed_names names added seen kept z = record {
   there = λ f i. (let r = z.there f i in (r.0, variable_stays names added f.name r.0 r.1, r.2));
   back = λ g i. (let r = z.back g i in (r.0, r.1, r.2, variable_stays names added r.0.name r.2 r.3, r.4));
@@ -147,11 +147,16 @@ same_members fs gs n same g i =
     let shape = sym (same g.path) ∙ in_kept fs g n i in
     kept_in gs g.path g.shape shape
 
-pub filed_same : (names : List (List ℕ)) (seen : List NamedFact) (old new : List Fact) → NoClash old → NoClash new → HaveSameShapes new old → IsFiled names seen old → IsFiled names seen new
+filed_same : (names : List (List ℕ)) (seen : List NamedFact) (old new : List Fact) → NoClash old → NoClash new → HaveSameShapes new old → IsFiled names seen old → IsFiled names seen new
 filed_same names seen old new n m same z = record {
   there = λ f i. (let r = z.there f i in (r.0, r.1, same_members old new n (λ p. sym (same p)) (fact_in r.0 f) r.2));
   back = λ g i. z.back g (same_members new old m same g i);
 }
+
+-- so too where a name has been added, and the facts stand otherwise
+pub filed_after : (names after : List (List ℕ)) (added : List ℕ) (seen : List NamedFact) (old new : List Fact) → after ≡ with_name names added → NoClash old → NoClash new → HaveSameShapes new old → IsFiled names seen old → IsFiled after seen new
+filed_after names after added seen old new grown n m same z =
+    filed_same after seen old new n m same (subst (λ (ns : List (List ℕ)). IsFiled ns seen old) (sym grown) (filed_names names added seen old z))
 
 pub filed_free : (names : List (List ℕ)) (seen : List NamedFact) (kept : List Fact) → IsFiled names seen kept → NoClash kept → have_clash seen ≡ false
 filed_free names seen kept z n = all_apart seen (λ f h i j.

@@ -1,8 +1,12 @@
 -- The lines of a trace so far.
 use Rattle.std.proofs.Common.{◌≡◌, ℕ, zero, suc, ◌+◌, ◌<◌, ◌^◌, true, false, inl, inr, ◌⊎◌, List, [], ◌∷◌, ◌++◌, length, refl, sym, ap, ◌∙◌, subst, arith, append_assoc, append-nil, codes, length-append}
 use Rattle.std.specs.Fmt.{decimal}
+use Rattle.std.specs.Str.Lines.{lines}
 use Rattle.std.proofs.lemmas.Fmt.{decimal_by_steps}
+use Rattle.std.proofs.lemmas.List.{nil_from_length}
 use Rattle.tp_show.specs.declared.named_fact.NamedFact.{NamedFact}
+use Rattle.tp_show.specs.declared.trace_line.LineKind.{LineKind}
+use Rattle.tp_show.specs.TraceReading.{IsKindOf}
 use Rattle.tp_show.specs.TraceLine.{none, IsStateLine, is_passed_over, ends_trace}
 use Rattle.tp_show.specs.Trace.{GoesOnWith, stop, state, passed, end, IsTrace, BeginsTrace, IsFirstBadLine, no_line, not_allowed}
 use Rattle.tp_show.proofs.TraceLines.{state_no_other, passed_no_end, state_unique}
@@ -71,6 +75,24 @@ pub record TraceSoFar (all rest : Lines) (line : ℕ) (states : States) : Type 0
 
 pub so_far_start : (all : Lines) → TraceSoFar all all 1 []
 so_far_start all = record { done = []; split = refl; number = refl; first = λ e. refl; back = λ tail more g. g; ahead = λ tail every g. (every, g, refl) }
+
+-- a line that is read behind the lines so far
+pub record LineRead (all rest : Lines) (text : List ℕ) (line : ℕ) (states : States) (kind : LineKind) : Type 0 where
+  pub so_far : TraceSoFar all (text ∷ rest) line states
+  pub small : length states < 2 ^ 64
+  pub told : IsKindOf (length states) text kind
+
+pub line_read : (all rest left : Lines) (text : List ℕ) (line : ℕ) (states : States) (kind : LineKind) (count : ℕ) → TraceSoFar all left line states → left ≡ text ∷ rest → count ≡ length states → count < 2 ^ 64 → IsKindOf count text kind
+    → LineRead all rest text line states kind
+line_read all rest left text line states kind count z split number small told = record {
+  so_far = subst (λ (ls : Lines). TraceSoFar all ls line states) split z;
+  small = omega (arith, number, small);
+  told = subst (λ (k : ℕ). IsKindOf k text kind) number told;
+}
+
+-- where no byte is left all lines have been read
+pub all_read : (all : Lines) (bytes : List ℕ) (line : ℕ) (states : States) → length bytes ≡ 0 → TraceSoFar all (lines bytes) line states → TraceSoFar all [] line states
+all_read all bytes line states empty = subst (λ (ls : Lines). TraceSoFar all ls line states) (ap lines (nil_from_length bytes empty))
 
 module _ (all rest : Lines) (text : List ℕ) (line : ℕ) (states : States) (small : length states < 2 ^ 64) (z : TraceSoFar all (text ∷ rest) line states) where
   joined : (tail : Lines) → (z.done ++ text ∷ []) ++ tail ≡ z.done ++ text ∷ tail
