@@ -1,7 +1,7 @@
 -- A due item's phrase is taken out of its slot, and put back, or stands in the place of the item with one binding more.
 use Rattle.std.proofs.Common.{◌≡◌, ℕ, ◌<◌, List, [], ◌∷◌, ◌++◌, map, length, Option, None, refl, ap, sym, ◌∙◌, subst}
 use Rattle.std.specs.Prelude.{slice_set}
-use Rattle.std.proofs.lemmas.List.{append-nil, get_or-map, length-map, map-append, set-get_or, get_or-set_same, set-set}
+use Rattle.std.proofs.lemmas.List.{get_or-map, length-map, map-append, set-get_or, get_or-set_same, set-set}
 use Rattle.tp_scene.specs.Scene as S
 use Rattle.tp_scene.specs.Pick.{scene_after}
 use Rattle.tp_decide.specs.declared.phrase.Phrase.{Phrase}
@@ -96,14 +96,14 @@ module _ (s : Scene) (t k : ℕ) (taken : Phrase) (mid : List Slot) (kept : IsWe
         (λ i. record { slots = all; regions = map region_slot_of (regions i) })
         ∙ one_stepped (slots_of s) t k due all (more_slots t k s.slots.items mid taken within out phrase next.slots.items items) (number ∙ sym (length-map s.slots.items slot_of))
 
-    holders : holders_of next ≡ holders_of s ++ []
-    holders = ap (map (λ (x : Region). x.holder)) regions ∙ sym (append-nil (holders_of s))
+    holders : holders_of next ≡ holders_of s
+    holders = ap (map (λ (x : Region). x.holder)) regions
 
-    ends : ends_of next ≡ ends_of s ++ []
-    ends = ap (map (λ (x : Region). x.ends_now)) regions ∙ sym (append-nil (ends_of s))
+    ends : ends_of next ≡ ends_of s
+    ends = ap (map (λ (x : Region). x.ends_now)) regions
 
-    goes : goes_of next ≡ goes_of s ++ []
-    goes = ap (map (λ (x : Region). x.goes_now)) regions ∙ sym (append-nil (goes_of s))
+    goes : goes_of next ≡ goes_of s
+    goes = ap (map (λ (x : Region). x.goes_now)) regions
 
     pub more_kept : next.looks ≡ s.looks → IsWellKept next
     more_kept looks =

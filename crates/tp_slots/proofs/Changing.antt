@@ -17,6 +17,7 @@ use Rattle.tp_slots.specs.Row.{begun, stepped, held_after}
 use Rattle.tp_slots.specs.Reductions.{IsBare, AreBare, becomes_leaves}
 use Rattle.tp_slots.specs.Threads.{AreThreaded, afters_then}
 use Rattle.tp_slots.specs.Read.{slot_of, region_slot_of, slots_of, scene_of, afters_of, holders_of, ends_of, goes_of, flags_of}
+use Rattle.tp_slots.proofs.Placing.{leaves_held}
 use Rattle.tp_slots.proofs.Showing.{all_shown, has_shown}
 use Rattle.tp_slots.proofs.Told.{told, rises_all}
 use Rattle.tp_slots.proofs.Stepping.{IsStep, stepped_regions}
@@ -227,9 +228,17 @@ raised_kept s s' z shape es eh eo right quiet right_other quiet_other looks thre
     by_side Going a b c d = both c d a b
 
 -- Leaves in an item's place.
-module _ (s : Scene) (t : ℕ) (m : Option Side) (outs : List What) (kept : IsWellKept s) (lives : has t (scene_of s).root.entries ≡ true) (free : IsBare (slot_at (slots_of s) t).what) (bare : AreBare outs) (next : Scene) (n : ℕ)
-    (es : slots_of next ≡ stepped (slots_of s) t m [] outs) (eh : holders_of next ≡ held_after (slots_of s) [] outs (holders_of s))
-    (ee : ends_of next ≡ ends_of s ++ map (λ x. false) (begun n 0)) (eg : goes_of next ≡ goes_of s ++ map (λ x. false) (begun n 0)) where
+module _ (s : Scene) (t : ℕ) (m : Option Side) (outs : List What) (kept : IsWellKept s) (lives : has t (scene_of s).root.entries ≡ true) (free : IsBare (slot_at (slots_of s) t).what) (bare : AreBare outs) (next : Scene)
+    (es : slots_of next ≡ stepped (slots_of s) t m [] outs) (eh : holders_of next ≡ holders_of s) (ee : ends_of next ≡ ends_of s) (eg : goes_of next ≡ goes_of s) where
+  held : holders_of next ≡ held_after (slots_of s) [] outs (holders_of s)
+  held = eh ∙ leaves_held (slots_of s) outs (holders_of s) bare
+
+  ends : ends_of next ≡ ends_of s ++ []
+  ends = ee ∙ sym (append-nil (ends_of s))
+
+  goes : goes_of next ≡ goes_of s ++ []
+  goes = eg ∙ sym (append-nil (goes_of s))
+
   inside : t < length (slots_of s).slots
   inside = let a = lives_within s t kept.shape.ordered lives in let e = length-map s.slots.items slot_of in omega (arith, a, e)
 
@@ -237,29 +246,29 @@ module _ (s : Scene) (t : ℕ) (m : Option Side) (outs : List What) (kept : IsWe
   step = leaves_step (slots_of s) t m outs kept.shape.ordered inside free bare
 
   pub leaves_scene : scene_of next ≡ scene_after t (becomes_leaves (scene_of s) outs m) (scene_of s)
-  leaves_scene = scene_put s t m [] outs kept lives step next n es eh ee eg (becomes_leaves (scene_of s) outs m)
+  leaves_scene = scene_put s t m [] outs kept lives step next 0 es held ends goes (becomes_leaves (scene_of s) outs m)
       (sym (ap (λ i. told (stepped (slots_of s) t m [] outs) i outs) (let e : length (slots_of s).slots + 0 ≡ length (slots_of s).slots = omega arith in e) ∙ told_leaves (stepped (slots_of s) t m [] outs) (length (slots_of s).slots) outs bare))
       (let e : length outs ≡ 0 + length outs = omega arith in e) refl refl
 
   pub leaves_shape : IsShaped (slots_of next) (holders_of next)
-  leaves_shape = shape_put s t m [] outs kept lives step next n es eh ee eg
+  leaves_shape = shape_put s t m [] outs kept lives step next 0 es held ends goes
 
   pub leaves_threads : afters_of next ≡ afters_then (afters_of s) 0 (length outs) t → AreThreaded (slots_of next) (afters_of next)
-  leaves_threads = threads_put s t m [] outs kept lives step next n es eh ee eg
+  leaves_threads = threads_put s t m [] outs kept lives step next 0 es held ends goes
 
   pub leaves_flags : (z : Side) → FlagsFollow (slots_of next) m (slot_at (slots_of s) t).home z (flags_in (flags_of z next))
-  leaves_flags Ending = ends_put s t m [] outs kept lives step next n es eh ee eg (leaves_rise Ending (flags_in (ends_of s)) (slot_at (slots_of s) t).what outs free bare)
-  leaves_flags Going = goes_put s t m [] outs kept lives step next n es eh ee eg (leaves_rise Going (flags_in (goes_of s)) (slot_at (slots_of s) t).what outs free bare)
+  leaves_flags Ending = ends_put s t m [] outs kept lives step next 0 es held ends goes (leaves_rise Ending (flags_in (ends_of s)) (slot_at (slots_of s) t).what outs free bare)
+  leaves_flags Going = goes_put s t m [] outs kept lives step next 0 es held ends goes (leaves_rise Going (flags_in (goes_of s)) (slot_at (slots_of s) t).what outs free bare)
 
   pub leaves_quiet : (z : Side) → IsQuiet (slots_of next) (holders_of next) (flags_in (flags_of z next))
-  leaves_quiet Ending = quiet_ends_put s t m [] outs kept lives step next n es eh ee eg
-  leaves_quiet Going = quiet_goes_put s t m [] outs kept lives step next n es eh ee eg
+  leaves_quiet Ending = quiet_ends_put s t m [] outs kept lives step next 0 es held ends goes
+  leaves_quiet Going = quiet_goes_put s t m [] outs kept lives step next 0 es held ends goes
 
   pub leaves_looks : next.looks ≡ s.looks → LooksFollow (slots_of next) (holders_of next) (λ y. flags_in (flags_of y next)) next.looks
-  leaves_looks = looks_put s t m [] outs kept lives step next n es eh ee eg (bare_leave (slots_of s) (holders_of s) t outs bare)
+  leaves_looks = looks_put s t m [] outs kept lives step next 0 es held ends goes (bare_leave (slots_of s) (holders_of s) t outs bare)
 
   pub leaves_live : lives_in (slots_of next) (holders_of next) (slot_at (slots_of s) t).home ≡ true
-  leaves_live = home_lives_put s t m [] outs kept lives step next n es eh ee eg
+  leaves_live = home_lives_put s t m [] outs kept lives step next 0 es held ends goes
 
   pub leaves_home : (slot_at (slots_of s) t).home < length next.regions.items
   leaves_home =

@@ -2,7 +2,7 @@
 use Rattle.std.proofs.Common.{◌≡◌, ◌<◌, length, ap, sym, ◌∙◌, subst}
 use Rattle.std.specs.List.{range_with_len}
 use Rattle.std.specs.Option.{option_map}
-use Rattle.std.proofs.lemmas.List.{append-nil, length-map}
+use Rattle.std.proofs.lemmas.List.{length-map}
 use Rattle.tp_scene.specs.Pick.{scene_after}
 use Rattle.tp_decide.specs.Decided.{mark_of, plain_leaf}
 use Rattle.tp_decide.specs.declared.decision.Leaf.{Leaf}
@@ -11,11 +11,10 @@ use Rattle.tp_slots.specs.Lives.{lives_in}
 use Rattle.tp_slots.specs.News.{bare_leaves, new_items}
 use Rattle.tp_slots.specs.Plain as plain
 use Rattle.tp_slots.specs.Plain.{scene_in}
-use Rattle.tp_slots.specs.Read.{afters_of, ends_of, flags_of, goes_of, holders_of, scene_of, slot_of, slots_of}
+use Rattle.tp_slots.specs.Read.{afters_of, flags_of, holders_of, scene_of, slot_of, slots_of}
 use Rattle.tp_slots.specs.Reductions.{becomes_leaves}
 use Rattle.tp_slots.specs.Threads.{afters_then}
 use Rattle.tp_slots.proofs.Changing.{leaves_flags, leaves_home, leaves_live, leaves_looks, leaves_quiet, leaves_scene, leaves_shape, leaves_threads}
-use Rattle.tp_slots.proofs.Placing.{leaves_held}
 use Rattle.tp_slots.proofs.Newly.{leaves_bare, leaves_news}
 use Rattle.tp_slots.proofs.leaves.place_leaves.Goals as goal
 
@@ -29,18 +28,15 @@ raise_mark-requires c =
     let bare = leaves_bare c.args.leaves.items in
     let next = c.commit_leaves-home.new.scene in
     let put = c.commit_leaves-home.ensures in
-    let holders = put.holders ∙ leaves_held (slots_of s) leaves (holders_of s) bare in
-    let ends = put.ends ∙ sym (append-nil (ends_of s)) in
-    let goes = put.goes ∙ sym (append-nil (goes_of s)) in
     let afters = put.afters ∙ ap (λ n. afters_then (afters_of s) 0 n t) (sym (length-map c.args.leaves.items (λ (l : Leaf). plain.bare (plain_leaf l)))) in
     record {
-      shape = leaves_shape s t mark leaves k.kept k.lives k.free bare next 0 put.slots holders ends goes;
-      region = subst (λ h. h < length next.regions.items) (sym put.home) (leaves_home s t mark leaves k.kept k.lives k.free bare next 0 put.slots holders ends goes);
-      lives = ap (lives_in (slots_of next) (holders_of next)) put.home ∙ leaves_live s t mark leaves k.kept k.lives k.free bare next 0 put.slots holders ends goes;
-      flags = λ z. subst (λ h. FlagsFollow (slots_of next) mark h z (flags_in (flags_of z next))) (sym put.home) (leaves_flags s t mark leaves k.kept k.lives k.free bare next 0 put.slots holders ends goes z);
-      quiet = leaves_quiet s t mark leaves k.kept k.lives k.free bare next 0 put.slots holders ends goes;
-      threads = leaves_threads s t mark leaves k.kept k.lives k.free bare next 0 put.slots holders ends goes afters;
-      looks = leaves_looks s t mark leaves k.kept k.lives k.free bare next 0 put.slots holders ends goes put.looks;
+      shape = leaves_shape s t mark leaves k.kept k.lives k.free bare next put.slots put.holders put.ends put.goes;
+      region = subst (λ h. h < length next.regions.items) (sym put.home) (leaves_home s t mark leaves k.kept k.lives k.free bare next put.slots put.holders put.ends put.goes);
+      lives = ap (lives_in (slots_of next) (holders_of next)) put.home ∙ leaves_live s t mark leaves k.kept k.lives k.free bare next put.slots put.holders put.ends put.goes;
+      flags = λ z. subst (λ h. FlagsFollow (slots_of next) mark h z (flags_in (flags_of z next))) (sym put.home) (leaves_flags s t mark leaves k.kept k.lives k.free bare next put.slots put.holders put.ends put.goes z);
+      quiet = leaves_quiet s t mark leaves k.kept k.lives k.free bare next put.slots put.holders put.ends put.goes;
+      threads = leaves_threads s t mark leaves k.kept k.lives k.free bare next put.slots put.holders put.ends put.goes afters;
+      looks = leaves_looks s t mark leaves k.kept k.lives k.free bare next put.slots put.holders put.ends put.goes put.looks;
     }
 
 pub returns : goal.returns
@@ -53,11 +49,8 @@ returns c =
     let bare = leaves_bare c.args.leaves.items in
     let next = c.commit_leaves-home.new.scene in
     let put = c.commit_leaves-home.ensures in
-    let holders = put.holders ∙ leaves_held (slots_of s) leaves (holders_of s) bare in
-    let ends = put.ends ∙ sym (append-nil (ends_of s)) in
-    let goes = put.goes ∙ sym (append-nil (goes_of s)) in
     let scene : scene_of c.raise_mark.new.scene ≡ scene_after t (becomes_leaves (scene_of s) leaves mark) (scene_of s) =
-    ap scene_in c.raise_mark.ensures.slots ∙ leaves_scene s t mark leaves k.kept k.lives k.free bare next 0 put.slots holders ends goes in
+    ap scene_in c.raise_mark.ensures.slots ∙ leaves_scene s t mark leaves k.kept k.lives k.free bare next put.slots put.holders put.ends put.goes in
     let first = length-map s.slots.items slot_of in
     let count = length-map c.args.leaves.items (λ (l : Leaf). plain.bare (plain_leaf l)) in
     record {
