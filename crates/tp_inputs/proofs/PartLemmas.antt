@@ -12,7 +12,7 @@ use Rattle.tp_value.specs.Reading.{Answer, found, refused, value_answer}
 use Rattle.tp_value.proofs.ReadLemmas.{found_read, read_found}
 use Rattle.tp_lex.specs.declared.token.Word.{Word}
 use Rattle.tp_lex.specs.Bytes.{is_name_byte, name_limit}
-use Rattle.tp_lex.specs.Spelling.{spelled_word}
+use Rattle.tp_lex.specs.Spelled.{spelled_word}
 use Rattle.tp_lex.proofs.SpellingLemmas.{word_is, no_word}
 use Rattle.tp_meaning.specs.Inputs.{InputTable}
 use Rattle.tp_inputs.specs.declared.fault.Fault.TheVariants as f

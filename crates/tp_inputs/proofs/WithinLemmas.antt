@@ -7,7 +7,8 @@ use Rattle.std.specs.Option.{option_and_then, option_or}
 use Rattle.std.proofs.lemmas.Bool.{cases_Bool, cases_lt, le-leb}
 use Rattle.std.proofs.lemmas.Option.{same_Some}
 use Rattle.tp_value.specs.Tree.{Tree}
-use Rattle.tp_value.specs.Limits.{item_limit, value_depth_limit, items_in, depth_of, IsWithinLimits, IsWithinListLimit}
+use Rattle.tp_value.specs.Limits.{item_limit, value_depth_limit, items_in, depth_of, IsWithinLimits}
+use Rattle.tp_value.specs.Room.{IsWithinListLimit}
 use Rattle.tp_meaning.specs.Inputs.{InputRow, InputPort, InputTable, has_state, row_value, port_of, range_value, default_value, input_at}
 use Rattle.tp_inputs.specs.declared.span.Span.{Span}
 use Rattle.tp_inputs.specs.declared.span.Head.{Head}

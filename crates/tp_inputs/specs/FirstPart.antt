@@ -7,7 +7,7 @@ use Rattle.tp_value.specs.Tree.{Tree}
 use Rattle.tp_value.specs.Spelling.{is_value_blank}
 use Rattle.tp_value.specs.Reading.{Answer, found, refused, value_answer}
 use Rattle.tp_lex.specs.Bytes.{is_name_byte, name_limit}
-use Rattle.tp_lex.specs.Spelling.{spelled_word}
+use Rattle.tp_lex.specs.Spelled.{spelled_word}
 use Rattle.tp_meaning.specs.Inputs.{InputTable}
 use Rattle.tp_inputs.specs.declared.span.Span.{Span}
 use Rattle.tp_inputs.specs.Spans.{is_given}

@@ -2,7 +2,8 @@
 use Rattle.std.specs.Prelude.{true, List, [], ◌∷◌, Option, Some, None}
 use Rattle.std.specs.Coded.{Coded-set, coded_bool, ×_prop, Unit-prop}
 use Rattle.tp_value.specs.Tree.{Tree}
-use Rattle.tp_value.specs.Limits.{is_within_list_limit, IsWithinListLimit}
+use Rattle.tp_value.specs.Limits.{is_within_list_limit}
+use Rattle.tp_value.specs.Room.{IsWithinListLimit}
 use Rattle.tp_meaning.specs.Inputs.{InputRow, InputPort, InputTable}
 
 -- the property holds of each value of the rows

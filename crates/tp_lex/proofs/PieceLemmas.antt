@@ -13,7 +13,8 @@ use Rattle.tp_lex.specs.declared.token.Kind.TheVariants as k
 use Rattle.tp_lex.specs.declared.piece.Fault.TheVariants.{BadByte, NameTooLong}
 use Rattle.tp_lex.specs.declared.piece.Piece.{Piece}
 use Rattle.tp_lex.specs.declared.piece.Piece.TheVariants.{Gap, Lexeme, Refused}
-use Rattle.tp_lex.specs.Spelling.{word_spelling, symbol_spelling, spelled_word, longest_symbol}
+use Rattle.tp_lex.specs.Spelling.{word_spelling, symbol_spelling}
+use Rattle.tp_lex.specs.Spelled.{spelled_word, longest_symbol}
 use Rattle.tp_lex.specs.First as f
 use Rattle.tp_lex.specs.First.{first_close, first_piece}
 use Rattle.tp_lex.specs.Bytes.{is_blank, is_name_byte, is_digit, spelled_value, name_limit}

@@ -13,7 +13,8 @@ use Rattle.tp_lex.specs.declared.piece.Piece.TheVariants.{Lexeme}
 use Rattle.tp_lex.specs.Bytes.{is_name_byte, is_digit}
 use Rattle.tp_lex.specs.Spelling.{symbol_spelling}
 use Rattle.tp_lex.specs.Pieces.{BeginsPiece, word, upper, lower, number, symbol}
-use Rattle.tp_lex.specs.Place.{EndsNoLine, place_after, place_along, place_from}
+use Rattle.tp_lex.specs.Place.{place_after, place_from}
+use Rattle.tp_lex.specs.Line.{EndsNoLine, place_along}
 
 same_place : (p q : Place) → p.at ≡ q.at → p.line ≡ q.line → p.column ≡ q.column → p ≡ q
 same_place p q a l c =

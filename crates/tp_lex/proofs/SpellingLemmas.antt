@@ -11,7 +11,8 @@ use Rattle.tp_lex.specs.declared.token.Word.TheVariants as w
 use Rattle.tp_lex.specs.declared.token.Symbol.{Symbol}
 use Rattle.tp_lex.specs.declared.token.Symbol.TheVariants as s
 use Rattle.tp_lex.specs.declared.spelling.TheConstants.{WORDS, SYMBOLS}
-use Rattle.tp_lex.specs.Spelling.{word_spelling, symbol_spelling, spelled_word, longest_symbol}
+use Rattle.tp_lex.specs.Spelling.{word_spelling, symbol_spelling}
+use Rattle.tp_lex.specs.Spelled.{spelled_word, longest_symbol}
 use Rattle.tp_lex.specs.Bytes.{is_blank, is_digit}
 use Rattle.tp_lex.specs.Pieces.{BeginsWith, IsNoWord, IsLongestSymbol}
 use Rattle.tp_lex.proofs.Lists.{find_sieved, AllFail, find_passes, find_none, find_early, begins_from, starts_from}

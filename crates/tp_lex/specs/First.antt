@@ -11,7 +11,8 @@ use Rattle.tp_lex.specs.declared.token.Kind.TheVariants as k
 use Rattle.tp_lex.specs.declared.piece.Fault.TheVariants.{BadByte, OpenComment, NumberTooLarge, NameTooLong}
 use Rattle.tp_lex.specs.declared.piece.Piece.{Piece}
 use Rattle.tp_lex.specs.declared.piece.Piece.TheVariants.{Gap, Lexeme, Refused}
-use Rattle.tp_lex.specs.Spelling.{symbol_spelling, spelled_word, longest_symbol}
+use Rattle.tp_lex.specs.Spelling.{symbol_spelling}
+use Rattle.tp_lex.specs.Spelled.{spelled_word, longest_symbol}
 use Rattle.tp_lex.specs.Bytes.{is_blank, is_name_byte, is_digit, spelled_value, name_limit}
 
 -- the number, where it is within the limit

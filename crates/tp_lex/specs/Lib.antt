@@ -3,6 +3,8 @@ pub mod Laws
 pub mod Names
 pub mod Pieces
 pub mod Place
+pub mod Line
 pub mod Spelling
+pub mod Spelled
 pub mod Tokens
 pub mod Bytes

@@ -1,5 +1,5 @@
 -- Where a byte of a text stands.
-use Rattle.std.specs.Prelude.{◌≡◌, ℕ, ◌+◌, ◌==◌, if◌then◌else◌, false, List, [], ◌∷◌, take, fold}
+use Rattle.std.specs.Prelude.{ℕ, ◌+◌, ◌==◌, if◌then◌else◌, List, take, fold}
 use Rattle.tp_lex.specs.declared.token.Place.{Place}
 use Rattle.tp_lex.specs.declared.token.Kind.{Kind}
 use Rattle.tp_lex.specs.declared.token.Token.{Token}
@@ -17,15 +17,6 @@ abbrev pub place_after : Place → ℕ → Place
 place_after p byte =
     if byte == 10 then record { at = p.at + 1; line = p.line + 1; column = 1 }
     else record { at = p.at + 1; line = p.line; column = p.column + 1 }
-
--- no line ends within the bytes
-abbrev pub EndsNoLine : List ℕ → Type 0
-EndsNoLine [] = Unit {0}
-EndsNoLine (b ∷ z) = ((b == 10) ≡ false) × EndsNoLine z
-
--- the place behind so many bytes of the same line
-abbrev pub place_along : Place → ℕ → Place
-place_along p n = record { at = p.at + n; line = p.line; column = p.column + n }
 
 -- the place behind some more bytes
 abbrev pub place_from : Place → List ℕ → Place

@@ -1,11 +1,9 @@
 -- How words and symbols are written.
-use Rattle.std.specs.Prelude.{ℕ, List, codes, nat_eq, bytes_eq, Option, find}
-use Rattle.std.specs.List.{starts_with}
+use Rattle.std.specs.Prelude.{ℕ, List, codes}
 use Rattle.tp_lex.specs.declared.token.Word.{Word}
 use Rattle.tp_lex.specs.declared.token.Word.TheVariants as w
 use Rattle.tp_lex.specs.declared.token.Symbol.{Symbol}
 use Rattle.tp_lex.specs.declared.token.Symbol.TheVariants as s
-use Rattle.tp_lex.specs.declared.spelling.TheConstants.{WORDS, SYMBOLS}
 
 -- the bytes that spell a word
 abbrev pub word_spelling : Word → List ℕ
@@ -69,11 +67,3 @@ symbol_spelling s.Colon = codes ":"
 symbol_spelling s.Becomes = codes ":="
 symbol_spelling s.Arrow = codes "<-"
 symbol_spelling s.Bar = codes "|"
-
--- the word that the text spells
-unfoldable pub spelled_word : List ℕ → Option Word
-spelled_word text = find (λ w. bytes_eq (word_spelling w) text) WORDS
-
--- the first of the symbols, longer ones before shorter ones, that the text begins with
-unfoldable pub longest_symbol : List ℕ → Option Symbol
-longest_symbol text = find (λ s. starts_with nat_eq text (symbol_spelling s)) SYMBOLS

@@ -1,6 +1,7 @@
 // Where a byte of a text stands.
 ghost use Rattle.std.specs.Prelude.{◌≡◌, ◌+◌, ◌-◌, ◌≤◌, ◌<◌, ◌^◌, length, drop, slice_index};
-ghost use Rattle.tp_lex.specs.Place.{source_limit, EndsNoLine, place_along, place_of, place_from, token_at};
+ghost use Rattle.tp_lex.specs.Place.{source_limit, place_of, place_from, token_at};
+ghost use Rattle.tp_lex.specs.Line.{EndsNoLine, place_along};
 
 use crate::token::{Kind, Place, Token};
 use tp_lanes::count_byte;

@@ -1,7 +1,8 @@
 // How words and symbols are written.
 ghost use Rattle.std.specs.Prelude.{◌≡◌, bytes_eq, find, nat_eq};
 ghost use Rattle.std.specs.List.{starts_with};
-ghost use Rattle.tp_lex.specs.Spelling.{word_spelling, symbol_spelling, spelled_word, longest_symbol};
+ghost use Rattle.tp_lex.specs.Spelling.{word_spelling, symbol_spelling};
+ghost use Rattle.tp_lex.specs.Spelled.{spelled_word, longest_symbol};
 
 use crate::token::{Symbol, Word};
 

@@ -6,8 +6,9 @@ use Rattle.tp_parse.specs.declared.refusal.Refusal.TheVariants.{Unexpected, Unfi
 use Rattle.tp_parse.specs.declared.mark.Mark.{Mark}
 use Rattle.tp_parse.specs.declared.mark.Mark.TheVariants as m
 use Rattle.tp_parse.specs.Marks.{same, kind_mark}
-use Rattle.tp_parse.specs.Input as input
-use Rattle.tp_parse.specs.Input.{Tokens, ReadOutcome, Reader, and_then, mark, from, first_number, first_name, refuse, too_deep, half_mark, mark_due, past, left_of, halved, sees, lower, any_name, expect, deepen}
+use Rattle.tp_parse.specs.Readers as readers
+use Rattle.tp_parse.specs.Input.{Tokens, mark, from, first_number, first_name, half_mark, mark_due, past, left_of, halved}
+use Rattle.tp_parse.specs.Readers.{ReadOutcome, Reader, and_then, refuse, too_deep, sees, lower, any_name, expect, deepen}
 use Rattle.tp_parse.specs.Reading.{fits}
 use Rattle.tp_parse.proofs.Within.{Within, ok, err}
 
@@ -94,7 +95,7 @@ same_name some ended = refl
 same_name some (agreed a) = refl
 
 pub refused_alike : {A : Type 0} {n : ℕ} {ts us : Tokens} → 0 < n → Agrees n ts us → Alike {A = A} n ts us (refuse ts) (refuse us)
-unfolding input.refusal
+unfolding readers.refusal
 refused_alike some unseen = absurd (omega arith)
 refused_alike some ended = beyond tt
 refused_alike some (agreed a) = unexpected (omega arith)

@@ -18,8 +18,9 @@ use Rattle.tp_parse.specs.declared.mark.Role.TheVariants.{Ends, Infix, Opens, Jo
 use Rattle.tp_parse.specs.declared.head.Head.{Head}
 use Rattle.tp_parse.specs.declared.head.Listed.{Listed}
 use Rattle.tp_parse.specs.Marks.{kind_mark, role_of, role_at, level_of, start_of, listed_level, listed_close}
-use Rattle.tp_parse.specs.Input as input
-use Rattle.tp_parse.specs.Input.{Tokens, ReadOutcome, Reader, and_then, ◌>>=◌, pure, mark, from, mark_due, past, sees, expect, deepen}
+use Rattle.tp_parse.specs.Readers as readers
+use Rattle.tp_parse.specs.Input.{Tokens, mark, from, mark_due, past}
+use Rattle.tp_parse.specs.Readers.{ReadOutcome, Reader, and_then, ◌>>=◌, pure, sees, expect, deepen}
 use Rattle.tp_parse.specs.Head.{is_high, begins, unfit}
 use Rattle.tp_parse.specs.Found.{Found, Operands, operand_then, of_infix, of_index}
 use Rattle.tp_parse.specs.Reading as r
@@ -158,7 +159,7 @@ some_begun k (t ∷ ts) e = omega arith
 pub unfit_finish : (k : ℕ) (ts : Tokens) (e : Refusal) → failed {A = Found} (unfit k ts) ≡ Err e → Ended e → Ending 0 k ts e
 unfolding unfit
 unfit_finish k ts e is end =
-    elim (begins k (mark ts)) as (λ b. begins k (mark ts) ≡ b → failed {A = Found} (cond b (TooDeep (length ts)) (input.refusal ts)) ≡ Err e → Ending 0 k ts e) [
+    elim (begins k (mark ts)) as (λ b. begins k (mark ts) ≡ b → failed {A = Found} (cond b (TooDeep (length ts)) (readers.refusal ts)) ≡ Err e → Ending 0 k ts e) [
       | true ↦ λ yes w.
           let last = deep_last ts e w end (some_begun k ts yes) in
           let same : mark ts ≡ kind_mark last.0.kind = ap mark last.1 ∙ mark_is last.0 [] in

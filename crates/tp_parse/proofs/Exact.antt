@@ -9,7 +9,8 @@ use Rattle.tp_parse.specs.declared.refusal.Refusal.{Refusal}
 use Rattle.tp_parse.specs.declared.refusal.Refusal.TheVariants.{Unexpected, Unfinished, TooDeep, NoMemory}
 use Rattle.tp_parse.specs.declared.refusal.ParseRefusal.{ParseRefusal}
 use Rattle.tp_tree.specs.Levels.{chop_level}
-use Rattle.tp_parse.specs.Input.{Tokens, ReadOutcome, Reader, and_then, mark, from, past, sees, first_name, names}
+use Rattle.tp_parse.specs.Input.{Tokens, mark, from, past, first_name}
+use Rattle.tp_parse.specs.Readers.{ReadOutcome, Reader, and_then, sees, names}
 use Rattle.tp_parse.specs.Found.{Found, limit, defined, source_of}
 use Rattle.tp_parse.specs.Reading.{read}
 use Rattle.tp_parse.specs.Source as s

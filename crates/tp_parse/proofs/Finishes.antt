@@ -18,8 +18,9 @@ use Rattle.tp_parse.specs.declared.head.Pair.{Pair}
 use Rattle.tp_parse.specs.declared.head.Pair.TheVariants as p
 use Rattle.tp_tree.specs.declared.operator.Form.{Form}
 use Rattle.tp_parse.specs.Marks.{same, start_of, comma}
-use Rattle.tp_parse.specs.Input as input
-use Rattle.tp_parse.specs.Input.{Tokens, ReadOutcome, Reader, and_then, ◌>>=◌, pure, mark, from, first_name, mark_due, past, sees, lower, any_name, names, names_from, expect, deepen}
+use Rattle.tp_parse.specs.Readers as readers
+use Rattle.tp_parse.specs.Input.{Tokens, mark, from, first_name, mark_due, past}
+use Rattle.tp_parse.specs.Readers.{ReadOutcome, Reader, and_then, ◌>>=◌, pure, sees, lower, any_name, names, names_from, expect, deepen}
 use Rattle.tp_parse.specs.Head.{name_or_call, counter, head_by, is_high, admit, begins}
 use Rattle.tp_parse.specs.Reading.{fits}
 use Rattle.tp_parse.specs.Grammar as g
@@ -47,12 +48,12 @@ pub bind_err : {A B : Type 0} (o : ReadOutcome A) (f : A → Reader B) (e : Refu
 bind_err (Ok q) f e is = inr (q, refl, is)
 bind_err (Err d) f e is = let same : d ≡ e = cc in inl (ap failed same)
 
-refusal_ends : (ts : Tokens) → Ended (input.refusal ts) → ts ≡ []
-unfolding input.refusal
+refusal_ends : (ts : Tokens) → Ended (readers.refusal ts) → ts ≡ []
+unfolding readers.refusal
 refusal_ends [] end = refl
 refusal_ends (t ∷ ts) end = absurd end
 
-pub refused_end : {A : Type 0} (ts : Tokens) (e : Refusal) → failed {A = A} (input.refusal ts) ≡ Err e → Ended e → ts ≡ []
+pub refused_end : {A : Type 0} (ts : Tokens) (e : Refusal) → failed {A = A} (readers.refusal ts) ≡ Err e → Ended e → ts ≡ []
 refused_end ts e is end = refusal_ends ts (subst Ended (sym (failed_is _ e is)) end)
 
 pub expect_err : (x : Mark) (ts : Tokens) (e : Refusal) → expect x ts ≡ Err e → Ended e → ts ≡ []

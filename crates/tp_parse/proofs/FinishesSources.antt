@@ -10,7 +10,8 @@ use Rattle.tp_parse.specs.declared.refusal.Refusal.TheVariants.{Unfinished}
 use Rattle.tp_parse.specs.declared.mark.Mark.{Mark}
 use Rattle.tp_parse.specs.declared.mark.Mark.TheVariants as m
 use Rattle.tp_parse.specs.Marks.{same, comma}
-use Rattle.tp_parse.specs.Input.{Tokens, Reader, and_then, mark, from, first_name, mark_due, past, sees, lower, names, expect}
+use Rattle.tp_parse.specs.Input.{Tokens, mark, from, first_name, mark_due, past}
+use Rattle.tp_parse.specs.Readers.{Reader, and_then, sees, lower, names, expect}
 use Rattle.tp_parse.specs.Found.{Found, limit}
 use Rattle.tp_parse.specs.Reading.{read}
 use Rattle.tp_parse.specs.Source as s

@@ -8,11 +8,13 @@ use Rattle.tp_parse.specs.declared.refusal.Refusal.{Refusal}
 use Rattle.tp_parse.specs.declared.refusal.Refusal.TheVariants.{Unexpected, Unfinished, TooDeep, NoMemory}
 use Rattle.tp_parse.specs.declared.refusal.ParseRefusal.{ParseRefusal}
 use Rattle.tp_parse.specs.declared.refusal.ParseRefusal.TheVariants as named_at
-use Rattle.tp_parse.specs.Input.{Tokens, ReadOutcome, past}
+use Rattle.tp_parse.specs.Input.{Tokens, past}
+use Rattle.tp_parse.specs.Readers.{ReadOutcome}
 use Rattle.tp_parse.specs.Source as s
 use Rattle.tp_parse.specs.Grammar as g
 use Rattle.tp_parse.specs.Grammar.{Sentence, IsSource, Accepts}
-use Rattle.tp_parse.specs.Place.{GoesOn, GoesOnHigher, BlamesFirst, OnePlace, PrefixesAreUnfinished}
+use Rattle.tp_parse.specs.Place.{GoesOn, GoesOnHigher, BlamesFirst}
+use Rattle.tp_parse.specs.PlaceLaws.{OnePlace, PrefixesAreUnfinished}
 use Rattle.tp_parse.proofs.Within.{Within, refusal_within, source_within}
 use Rattle.tp_parse.proofs.OneTree.{definitions_one, sentence_one}
 use Rattle.tp_parse.proofs.Extended.{some_due, past_on, definitions_on, sentence_on}

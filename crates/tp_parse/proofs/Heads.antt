@@ -9,8 +9,9 @@ use Rattle.tp_parse.specs.declared.mark.Start.{Start}
 use Rattle.tp_parse.specs.declared.mark.Start.TheVariants as s
 use Rattle.tp_parse.specs.declared.head.Head.{Head}
 use Rattle.tp_parse.specs.Marks.{same, start_of, comma}
-use Rattle.tp_parse.specs.Input as input
-use Rattle.tp_parse.specs.Input.{Tokens, ReadOutcome, Reader, and_then, ◌>>=◌, pure, mark, mark_due, past, sees, first_name, taken_name, lower, any_name, names, names_from, expect, deepen}
+use Rattle.tp_parse.specs.Readers as readers
+use Rattle.tp_parse.specs.Input.{Tokens, mark, mark_due, past, first_name}
+use Rattle.tp_parse.specs.Readers.{ReadOutcome, Reader, and_then, ◌>>=◌, pure, sees, taken_name, lower, any_name, names, names_from, expect, deepen}
 use Rattle.tp_parse.specs.Head.{name_or_call, counter, head_by, is_high, admit}
 use Rattle.tp_parse.specs.Reading.{fits}
 use Rattle.tp_parse.specs.Grammar.{ReadsNames, last_name, name_then, BeginsPrimary, number, truth, upper_name, lower_name, call, bare, form, empty_list, list, enclosure, if, while, repeat, for, forall, exists}
@@ -98,7 +99,7 @@ any_name_then ts f y e =
 pub any_name_is : (ts : Tokens) → IsName ts → any_name ts ≡ Ok (first_name ts, drop 1 ts)
 unfolding any_name
 any_name_is ts (inl e) = rw (same_yes (mark ts) m.Upper e) refl
-any_name_is ts (inr e) = elim (sees m.Upper ts) as (λ b. cond (b || sees m.Lower ts) (taken_name ts) (Err (input.refusal ts)) ≡ Ok (first_name ts, drop 1 ts)) [
+any_name_is ts (inr e) = elim (sees m.Upper ts) as (λ b. cond (b || sees m.Lower ts) (taken_name ts) (Err (readers.refusal ts)) ≡ Ok (first_name ts, drop 1 ts)) [
   | true ↦ refl
   | false ↦ rw (same_yes (mark ts) m.Lower e) refl
 ]

@@ -17,10 +17,12 @@ use Rattle.tp_parse.specs.declared.head.Head.TheVariants as h
 use Rattle.tp_parse.specs.declared.head.Atom.TheVariants as atom
 use Rattle.tp_parse.specs.declared.head.Listed.TheVariants as listed
 use Rattle.tp_parse.specs.Marks.{same, kind_mark, prefix_at, role_at, start_of, comma, listed_level, listed_close, enclosed_level, enclosed_close, middle}
-use Rattle.tp_parse.specs.Input as input
-use Rattle.tp_parse.specs.Input.{Tokens, ReadOutcome, Reader, and_then, ◌>>=◌, pure, mark, from, first_number, first_name, mark_due, half_mark, past, sees, lower, any_name, names, names_from, expect, deepen}
+use Rattle.tp_parse.specs.Readers as readers
+use Rattle.tp_parse.specs.Input.{Tokens, mark, from, first_number, first_name, mark_due, half_mark, past}
+use Rattle.tp_parse.specs.Readers.{ReadOutcome, Reader, and_then, ◌>>=◌, pure, sees, lower, any_name, names, names_from, expect, deepen}
 use Rattle.tp_parse.specs.Head.{name_or_call, counter, head_by, is_high, admit, begins, unfit}
-use Rattle.tp_parse.specs.Found.{Found, Operands, then_operand, operands_of, of_choice, of_choice_else, of_infix, of_index, of_chain, of_pair, of_prefix, limit, defined, source_of}
+use Rattle.tp_parse.specs.Found.{Found, Operands, operands_of, of_choice, of_choice_else, of_infix, of_index, of_chain, of_pair, of_prefix, limit, defined, source_of}
+use Rattle.tp_parse.specs.Seen.{then_operand}
 use Rattle.tp_parse.specs.Reading as r
 use Rattle.tp_parse.specs.Reading.{goes_on, fits}
 use Rattle.tp_parse.proofs.Marks.{same_no}
@@ -114,14 +116,14 @@ admitted room x {n} {ts} {us} some a = elim (is_high x) as (λ b. Alike n ts us 
 -- ---- phrases
 
 unfit_alike : {A : Type 0} (k : ℕ) {n : ℕ} {ts us : Tokens} → 0 < n → Agrees n ts us → Alike {A = A} n ts us (Err (unfit k ts)) (Err (unfit k us))
-unfolding unfit mark input.refusal
+unfolding unfit mark readers.refusal
 unfit_alike k some unseen = absurd (omega arith)
-unfit_alike {A} k some (ended {n = n}) = elim (begins k m.End) as (λ b. Alike {A = A} (suc n) [] [] (Err (cond b (TooDeep 0) (input.refusal []))) (Err (cond b (TooDeep 0) (input.refusal [])))) [
+unfit_alike {A} k some (ended {n = n}) = elim (begins k m.End) as (λ b. Alike {A = A} (suc n) [] [] (Err (cond b (TooDeep 0) (readers.refusal []))) (Err (cond b (TooDeep 0) (readers.refusal [])))) [
   | true ↦ deep (omega arith)
   | false ↦ beyond tt
 ]
 unfit_alike {A} k some (agreed {n = n} {t = t} {ts = ts} {us = us} a) =
-    elim (begins k (kind_mark t.kind)) as (λ b. Alike {A = A} (suc n) (t ∷ ts) (t ∷ us) (Err (cond b (TooDeep (length (t ∷ ts))) (input.refusal (t ∷ ts)))) (Err (cond b (TooDeep (length (t ∷ us))) (input.refusal (t ∷ us))))) [
+    elim (begins k (kind_mark t.kind)) as (λ b. Alike {A = A} (suc n) (t ∷ ts) (t ∷ us) (Err (cond b (TooDeep (length (t ∷ ts))) (readers.refusal (t ∷ ts)))) (Err (cond b (TooDeep (length (t ∷ us))) (readers.refusal (t ∷ us))))) [
       | true ↦ deep (omega arith)
       | false ↦ unexpected (omega arith)
     ]
@@ -370,7 +372,7 @@ definitions_alike (suc i) (suc j) ds {ts = ts} {us = us} some (agreed a) few few
     (stays_alike some (agreed a))
 
 ended_alike : (x : SourceTree) {n : ℕ} {ts us : Tokens} → 0 < n → Agrees n ts us → Alike n ts us (source.ended x ts) (source.ended x us)
-unfolding source.ended input.refusal
+unfolding source.ended readers.refusal
 ended_alike x some unseen = absurd (omega arith)
 ended_alike x some ended = stays_alike some ended
 ended_alike x some (agreed a) = unexpected (omega arith)

@@ -18,10 +18,12 @@ use Rattle.tp_parse.specs.declared.head.Head.{Head}
 use Rattle.tp_parse.specs.declared.head.Head.TheVariants as h
 use Rattle.tp_parse.specs.Marks.{before, prefix_at, role_at, start_of, comma, listed_level, listed_close, enclosed_level, enclosed_close, middle}
 use Rattle.tp_parse.specs.Marks.{same as is_mark}
-use Rattle.tp_parse.specs.Input as input
-use Rattle.tp_parse.specs.Input.{Tokens, ReadOutcome, Reader, and_then, ◌>>=◌, pure, mark, from, refuse, mark_due, past, sees, expect, deepen}
+use Rattle.tp_parse.specs.Readers as readers
+use Rattle.tp_parse.specs.Input.{Tokens, mark, from, mark_due, past}
+use Rattle.tp_parse.specs.Readers.{ReadOutcome, Reader, and_then, ◌>>=◌, pure, refuse, sees, expect, deepen}
 use Rattle.tp_parse.specs.Head.{is_high, is_nothing, admit, begins, unfit}
-use Rattle.tp_parse.specs.Found.{Found, Operands, then_operand, operands_of, limit, source_of}
+use Rattle.tp_parse.specs.Found.{Found, Operands, operands_of, limit, source_of}
+use Rattle.tp_parse.specs.Seen.{then_operand}
 use Rattle.tp_parse.specs.Reading as r
 use Rattle.tp_parse.specs.Reading.{goes_on, fits}
 use Rattle.tp_parse.specs.Source as source
@@ -99,7 +101,7 @@ begins_not k x e =
     above e2 = omega (arith, leb-false (before x) k e2)
 
 module _ (inner : ℕ → Reader Found) (room : ℕ) where
-  none_begins : (k : ℕ) (ts : Tokens) → BeginsNot k (mark ts) → r.levels inner room k ts ≡ Err (input.refusal ts)
+  none_begins : (k : ℕ) (ts : Tokens) → BeginsNot k (mark ts) → r.levels inner room k ts ≡ Err (readers.refusal ts)
   unfolding r.levels r.level r.primary admit
   none_begins zero ts not = rw not.0 refl
   none_begins (suc k) ts not =
@@ -181,7 +183,7 @@ unfit_roomier : (high k : ℕ) (ts : Tokens) → Roomier (r.read 0 k ts) (r.read
 unfolding r.read unfit
 unfit_roomier zero k ts = same
 unfit_roomier (suc high) k ts =
-    elim (begins k (mark ts)) as (λ b. begins k (mark ts) ≡ b → Roomier (Err (cond b (TooDeep (length ts)) (input.refusal ts))) (r.levels (r.read high) high k ts)) [
+    elim (begins k (mark ts)) as (λ b. begins k (mark ts) ≡ b → Roomier (Err (cond b (TooDeep (length ts)) (readers.refusal ts))) (r.levels (r.read high) high k ts)) [
       | true ↦ λ yes. deep
       | false ↦ λ no. rw (none_begins (r.read high) high k ts (begins_not k (mark ts) no)) same
     ] refl

@@ -14,9 +14,11 @@ use Rattle.tp_parse.specs.declared.mark.Role.TheVariants.{Ends, Infix, Opens, Jo
 use Rattle.tp_parse.specs.declared.head.Head.{Head}
 use Rattle.tp_parse.specs.declared.head.Head.TheVariants as h
 use Rattle.tp_parse.specs.Marks.{role_at, prefix_at, same, start_of, comma, listed_level, listed_close, enclosed_level, enclosed_close, middle}
-use Rattle.tp_parse.specs.Input.{Tokens, Reader, and_then, ◌>>=◌, pure, mark, from, mark_due, past, sees}
+use Rattle.tp_parse.specs.Input.{Tokens, mark, from, mark_due, past}
+use Rattle.tp_parse.specs.Readers.{Reader, and_then, ◌>>=◌, pure, sees}
 use Rattle.tp_parse.specs.Head.{head_by}
-use Rattle.tp_parse.specs.Found.{Found, Operands, no_operand, operand_then, then_operand, operands_of, of_atom, of_operands, of_enclosed, of_choice, of_choice_else, of_pair, of_exists, of_prefix, of_infix, of_index, of_chain}
+use Rattle.tp_parse.specs.Found.{Found, Operands, no_operand, operand_then, operands_of, of_atom, of_operands, of_enclosed, of_choice, of_choice_else, of_pair, of_exists, of_prefix, of_infix, of_index, of_chain}
+use Rattle.tp_parse.specs.Seen.{then_operand}
 use Rattle.tp_parse.specs.Reading as r
 use Rattle.tp_parse.specs.Reading.{goes_on}
 use Rattle.tp_parse.specs.Grammar.{BeginsPrimary, Parses, atom, listed, enclosed, if_then, if_else, paired, quantified, prefixed, level, Goes, ends, left, single, right, indexed, joins, Others, no_more, one_more, Listing, no_operands, operands}

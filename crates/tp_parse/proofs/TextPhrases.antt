@@ -7,7 +7,8 @@ use Rattle.tp_lex.specs.declared.token.Word.{Word}
 use Rattle.tp_lex.specs.declared.token.Word.TheVariants as word
 use Rattle.tp_lex.specs.declared.token.Symbol.{Symbol}
 use Rattle.tp_lex.specs.declared.token.Symbol.TheVariants as symbol
-use Rattle.tp_lex.specs.Spelling.{word_spelling, symbol_spelling, longest_symbol}
+use Rattle.tp_lex.specs.Spelling.{word_spelling, symbol_spelling}
+use Rattle.tp_lex.specs.Spelled.{longest_symbol}
 use Rattle.tp_lex.specs.Bytes.{is_digit}
 use Rattle.tp_tree.specs.declared.operator.Op.{Op}
 use Rattle.tp_tree.specs.declared.operator.Op.TheVariants as op

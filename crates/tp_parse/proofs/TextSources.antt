@@ -6,7 +6,8 @@ use Rattle.tp_lex.specs.declared.token.Kind.TheVariants as kind
 use Rattle.tp_lex.specs.declared.token.Word.{Word}
 use Rattle.tp_lex.specs.declared.token.Word.TheVariants as word
 use Rattle.tp_lex.specs.declared.token.Symbol.TheVariants as symbol
-use Rattle.tp_lex.specs.Spelling.{word_spelling, longest_symbol}
+use Rattle.tp_lex.specs.Spelling.{word_spelling}
+use Rattle.tp_lex.specs.Spelled.{longest_symbol}
 use Rattle.tp_tree.specs.declared.operator.Op.{Op}
 use Rattle.tp_tree.specs.declared.operator.Bare.{Bare}
 use Rattle.tp_tree.specs.declared.operator.Bare.TheVariants as b

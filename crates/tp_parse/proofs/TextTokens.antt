@@ -18,7 +18,8 @@ use Rattle.tp_lex.specs.declared.token.Word.TheVariants as word
 use Rattle.tp_lex.specs.declared.token.Symbol.{Symbol}
 use Rattle.tp_lex.specs.declared.token.Symbol.TheVariants as symbol
 use Rattle.tp_lex.specs.declared.piece.Piece.TheVariants.{Gap, Lexeme}
-use Rattle.tp_lex.specs.Spelling.{word_spelling, symbol_spelling, longest_symbol}
+use Rattle.tp_lex.specs.Spelling.{word_spelling, symbol_spelling}
+use Rattle.tp_lex.specs.Spelled.{longest_symbol}
 use Rattle.tp_lex.specs.Bytes.{is_blank, is_name_byte, is_digit, spelled_value}
 use Rattle.tp_lex.specs.Pieces as piece
 use Rattle.tp_lex.specs.Pieces.{BeginsPiece, BeginsWith, IsName, IsNoWord, IsLongestSymbol, AreLeadingDigits}

@@ -18,10 +18,12 @@ use Rattle.tp_parse.specs.declared.head.Head.TheVariants as h
 use Rattle.tp_parse.specs.declared.head.Atom.TheVariants as atom
 use Rattle.tp_parse.specs.declared.head.Listed.TheVariants as listed
 use Rattle.tp_parse.specs.Marks.{same, prefix_at, role_at, start_of, comma, listed_level, listed_close, enclosed_level, enclosed_close, middle}
-use Rattle.tp_parse.specs.Input as input
-use Rattle.tp_parse.specs.Input.{Tokens, ReadOutcome, Reader, and_then, ◌>>=◌, pure, mark, from, first_name, refuse, too_deep, mark_due, past, sees, take, taken_name, lower, any_name, names, names_from, expect, deepen}
+use Rattle.tp_parse.specs.Readers as readers
+use Rattle.tp_parse.specs.Input.{Tokens, mark, from, first_name, mark_due, past}
+use Rattle.tp_parse.specs.Readers.{ReadOutcome, Reader, and_then, ◌>>=◌, pure, refuse, too_deep, sees, take, taken_name, lower, any_name, names, names_from, expect, deepen}
 use Rattle.tp_parse.specs.Head.{name_or_call, counter, head_by, is_high, admit, begins, unfit}
-use Rattle.tp_parse.specs.Found.{Found, Operands, then_operand, operands_of, of_choice, of_choice_else, of_infix, of_index, of_prefix, limit, defined, source_of}
+use Rattle.tp_parse.specs.Found.{Found, Operands, operands_of, of_choice, of_choice_else, of_infix, of_index, of_prefix, limit, defined, source_of}
+use Rattle.tp_parse.specs.Seen.{then_operand}
 use Rattle.tp_parse.specs.Reading as r
 use Rattle.tp_parse.specs.Reading.{fits, goes_on}
 use Rattle.tp_parse.specs.Source as source
@@ -60,7 +62,7 @@ bind f (ok {x = x} {rest = rest} is) then = more is (then x rest)
 bind f (err is) then = err is
 
 pub refused : {A : Type 0} (ts : Tokens) → Within {A = A} ts (refuse ts)
-unfolding input.refusal
+unfolding readers.refusal
 refused [] = err tt
 refused (t ∷ ts) = err (omega arith, omega arith)
 
@@ -160,9 +162,9 @@ admitted room ts = elim (is_high (start_of (mark ts))) as (λ b. (b ≡ true →
 ] (λ q. some_by_start ts (high_some (start_of (mark ts)) q))
 
 pub unfitted : {A : Type 0} (k : ℕ) (ts : Tokens) → Within {A = A} ts (Err (unfit k ts))
-unfolding unfit begins mark input.refusal
+unfolding unfit begins mark readers.refusal
 unfitted k [] = err tt
-unfitted {A} k (t ∷ ts) = elim (begins k (mark (t ∷ ts))) as (λ b. Within {A = A} (t ∷ ts) (Err (cond b (TooDeep (length (t ∷ ts))) (input.refusal (t ∷ ts))))) [
+unfitted {A} k (t ∷ ts) = elim (begins k (mark (t ∷ ts))) as (λ b. Within {A = A} (t ∷ ts) (Err (cond b (TooDeep (length (t ∷ ts))) (readers.refusal (t ∷ ts))))) [
   | true ↦ err (omega arith, omega arith)
   | false ↦ err (omega arith, omega arith)
 ]

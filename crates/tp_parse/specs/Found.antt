@@ -1,9 +1,8 @@
 -- A phrase with its height, and how phrases are made of their operands.
-use Rattle.std.specs.Prelude.{ℕ, ◌+◌, ◌<◌, max, Bool, List, [], ◌∷◌, ◌++◌, map}
+use Rattle.std.specs.Prelude.{ℕ, ◌+◌, max, List, [], ◌∷◌}
 use Rattle.tp_tree.specs.declared.operator.Op.{Op}
 use Rattle.tp_tree.specs.Tree as t
 use Rattle.tp_tree.specs.Tree.{PhraseTree, phrase, KindTree, PhraseTrees, no_phrase, phrases_of, DefinitionTree, SourceTree}
-use Rattle.tp_tree.specs.Read.{phrase_tree}
 use Rattle.tp_parse.specs.declared.mark.Prefix.{Prefix}
 use Rattle.tp_parse.specs.declared.mark.Prefix.TheVariants as prefix
 use Rattle.tp_parse.specs.declared.mark.Enclosure.{Enclosure}
@@ -14,8 +13,6 @@ use Rattle.tp_parse.specs.declared.head.Listed.{Listed}
 use Rattle.tp_parse.specs.declared.head.Listed.TheVariants as listed
 use Rattle.tp_parse.specs.declared.head.Pair.{Pair}
 use Rattle.tp_parse.specs.declared.head.Pair.TheVariants as pair
-use Rattle.tp_parse.specs.declared.phrases.Measured.{Measured}
-use Rattle.tp_parse.specs.declared.operands.Operands as all
 
 -- a phrase, and its height with its parentheses
 pub record Found : Type 0 where
@@ -25,17 +22,6 @@ pub record Found : Type 0 where
 abbrev pub found : PhraseTree → ℕ → Found
 found t h = record { tree = t; height = h }
 
--- one more than this height is a number of the machine's, with room to spare
-abbrev pub IsLow : ℕ → Type 0
-IsLow height = height < 1000
-
--- what was read, without where it lies in memory
-abbrev pub seen : Measured → Found
-seen r = found (phrase_tree r.phrase) r.height
-
-abbrev pub turn_seen : Measured × Bool → Found × Bool
-turn_seen x = (seen x.0, x.1)
-
 -- operands in order, and the greatest of their heights, or 0
 pub record Operands : Type 0 where
   pub trees : List PhraseTree
@@ -44,19 +30,12 @@ pub record Operands : Type 0 where
 abbrev pub operands_of : List PhraseTree → ℕ → Operands
 operands_of ts h = record { trees = ts; height = h }
 
-abbrev pub all_seen : all.Operands → Operands
-all_seen a = operands_of (map phrase_tree a.items.items) a.height
-
 abbrev pub no_operand : Operands
 no_operand = operands_of [] 0
 
 -- an operand and those after it
 abbrev pub operand_then : Found → Operands → Operands
 operand_then a all = operands_of (a.tree ∷ all.trees) (max a.height all.height)
-
--- operands and one after them
-abbrev pub then_operand : Operands → Found → Operands
-then_operand all a = operands_of (all.trees ++ a.tree ∷ []) (max all.height a.height)
 
 -- A phrase is 1 higher than its highest operand, and so are parentheses than what they stand round.
 

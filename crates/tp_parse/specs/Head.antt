@@ -13,7 +13,8 @@ use Rattle.tp_parse.specs.declared.head.Pair.TheVariants as pair
 use Rattle.tp_parse.specs.declared.refusal.Refusal.{Refusal}
 use Rattle.tp_parse.specs.declared.refusal.Refusal.TheVariants.{TooDeep}
 use Rattle.tp_parse.specs.Marks.{before, start_of}
-use Rattle.tp_parse.specs.Input.{Tokens, Reader, ◌>>=◌, pure, mark, first_number, first_name, refusal, refuse, sees, take, past, expect, taken_name, lower, names, deepen}
+use Rattle.tp_parse.specs.Input.{Tokens, mark, first_number, first_name, past}
+use Rattle.tp_parse.specs.Readers.{Reader, ◌>>=◌, pure, refusal, refuse, sees, take, expect, taken_name, lower, names, deepen}
 
 abbrev pub head_taken : Head → Reader Head
 head_taken h = λ ts. Ok (h, drop 1 ts)

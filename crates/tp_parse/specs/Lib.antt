@@ -1,6 +1,8 @@
 pub mod Marks
 pub mod Input
+pub mod Readers
 pub mod Found
+pub mod Seen
 pub mod Grammar
 pub mod Head
 pub mod Reading
@@ -8,4 +10,5 @@ pub mod Source
 pub mod Spelled
 pub mod SpelledText
 pub mod Place
+pub mod PlaceLaws
 pub mod Names

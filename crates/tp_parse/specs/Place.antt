@@ -1,5 +1,5 @@
 -- The place that a refusal names: the first token after which no accepted source goes on.
-use Rattle.std.specs.Prelude.{◌≡◌, ◌≢◌, ◌+◌, ◌<◌, ℕ, List, ◌++◌, length, take, slice_get, Some}
+use Rattle.std.specs.Prelude.{◌≡◌, ◌+◌, ◌<◌, ℕ, List, ◌++◌, length, take, slice_get, Some}
 use Rattle.tp_lex.specs.declared.token.Token.{Token}
 use Rattle.tp_lex.specs.Tokens.{AreTokens}
 use Rattle.tp_tree.specs.Tree.{SourceTree}
@@ -54,19 +54,3 @@ BlamesFirstInText bytes ts (TooDeep i) =
 BlamesFirstInText bytes ts Unfinished =
     GoesOnInText bytes (length bytes) ts × ((s : SourceTree) → ¬ Accepts ts s)
 BlamesFirstInText bytes ts NoMemory = Unit {0}
-
--- whichever text has the tokens
-abbrev pub BlamesFirstInEachText : Tokens → ParseRefusal → Type 0
-BlamesFirstInEachText ts e = (bytes : List ℕ) → AreTokens bytes ts → BlamesFirstInText bytes ts e
-
--- tokens have one such place
-abbrev pub OnePlace : Type 0
-OnePlace =
-    (ts : Tokens) (e f : ParseRefusal) → e ≢ NoMemory → f ≢ NoMemory
-    → BlamesFirst ts e → BlamesFirst ts f → e ≡ f
-
--- an accepted source that is cut after fewer tokens than it has is unfinished
-abbrev pub PrefixesAreUnfinished : Type 0
-PrefixesAreUnfinished =
-    (ts : Tokens) (s : SourceTree) (n : ℕ) → Accepts ts s → n < length ts
-    → BlamesFirst (take n ts) Unfinished

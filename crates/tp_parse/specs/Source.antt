@@ -11,7 +11,8 @@ use Rattle.tp_parse.specs.declared.refusal.Refusal.{Refusal}
 use Rattle.tp_parse.specs.declared.refusal.Refusal.TheVariants as r
 use Rattle.tp_parse.specs.declared.refusal.ParseRefusal.{ParseRefusal}
 use Rattle.tp_parse.specs.declared.refusal.ParseRefusal.TheVariants as named_at
-use Rattle.tp_parse.specs.Input.{Tokens, ReadOutcome, Reader, ◌>>=◌, pure, from, refusal, sees, take, expect, lower, names}
+use Rattle.tp_parse.specs.Input.{Tokens, from}
+use Rattle.tp_parse.specs.Readers.{ReadOutcome, Reader, ◌>>=◌, pure, refusal, sees, take, expect, lower, names}
 use Rattle.tp_tree.specs.Levels.{chop_level}
 use Rattle.tp_parse.specs.Found.{limit, defined, source_of}
 use Rattle.tp_parse.specs.Reading.{read}

@@ -1,6 +1,6 @@
 // Laws of sources: their names, and their canonical spelling.
 ghost use Rattle.tp_parse.specs.Names.{NamesAreTokens};
-ghost use Rattle.tp_parse.specs.Place.{OnePlace, PrefixesAreUnfinished};
+ghost use Rattle.tp_parse.specs.PlaceLaws.{OnePlace, PrefixesAreUnfinished};
 ghost use Rattle.tp_parse.specs.Spelled.{SourcesAreWhole, SpellingsAreReadBack};
 ghost use Rattle.tp_parse.specs.SpelledText.{OneSpelling, PrintedIsReadBack, SourcesAreSpellable, SpellingsHaveTheirTokens};
 

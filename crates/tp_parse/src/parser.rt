@@ -1,7 +1,8 @@
 // What is left of the tokens, and the steps that take them.
 ghost use Rattle.std.specs.Prelude.{◌≡◌, ◌<◌, drop, length, IfOk, OnOk};
 ghost use Rattle.tp_parse.specs.Input as spec;
-ghost use Rattle.tp_parse.specs.Input.{ReturnsReading};
+ghost use Rattle.tp_parse.specs.Readers as readers;
+ghost use Rattle.tp_parse.specs.Readers.{ReturnsReading};
 ghost use Rattle.tp_parse.specs.declared.refusal.Refusal.TheVariants.{TooDeep};
 
 use crate::mark::Mark;
@@ -112,7 +113,7 @@ impl<'a> Parser<'a> {
 
     /// Whether the next token has that mark.
     pub fn sees(&self, mark: Mark) -> bool
-        ensures { result ≡ spec.sees mark self.now }
+        ensures { result ≡ readers.sees mark self.now }
     {
         same(self.mark(), mark)
     }
@@ -138,9 +139,9 @@ impl<'a> Parser<'a> {
     }
 
     /// Why the next token is none that may stand here.
-    #[tactic(auto, unfolding(crate::specs::Input::refusal))]
+    #[tactic(auto, unfolding(crate::specs::Readers::refusal))]
     pub fn refusal(&self) -> Refusal
-        ensures { result ≡ spec.refusal self.now }
+        ensures { result ≡ readers.refusal self.now }
     {
         if self.tokens.is_empty() {
             Refusal::Unfinished
@@ -162,9 +163,9 @@ impl<'a> Parser<'a> {
     }
 
     /// Takes this mark, which is due.
-    #[tactic(auto, unfolding(crate::specs::Input::expect))]
+    #[tactic(auto, unfolding(crate::specs::Readers::expect))]
     pub fn expect(&mut self, mark: Mark) -> Result<(), Refusal>
-        ensures { ReturnsReading (λ u. u) (spec.expect mark self.old) result self.new }
+        ensures { ReturnsReading (λ u. u) (readers.expect mark self.old) result self.new }
     {
         if same(self.due(), mark) {
             self.pass();
@@ -175,9 +176,9 @@ impl<'a> Parser<'a> {
     }
 
     /// Where operands of this room are due: none are, if it is 0.
-    #[tactic(auto, unfolding(crate::specs::Input::deepen))]
+    #[tactic(auto, unfolding(crate::specs::Readers::deepen))]
     pub fn deepen(&self, room: u8) -> Result<(), Refusal>
-        ensures reads { ReturnsReading (λ u. u) (spec.deepen room self.now) result self.now }
+        ensures reads { ReturnsReading (λ u. u) (readers.deepen room self.now) result self.now }
         ensures some { OnOk result (0 < room) }
     {
         if room == 0 {
@@ -193,9 +194,9 @@ impl<'a> Parser<'a> {
     }
 
     /// Takes a name that begins with a lower-case letter.
-    #[tactic(auto, unfolding(crate::specs::Input::lower))]
+    #[tactic(auto, unfolding(crate::specs::Readers::lower))]
     pub fn lower(&mut self, alloc: Global) -> Result<Text, Refusal>
-        ensures { ReturnsReading (λ t. t) (spec.lower self.old) result self.new }
+        ensures { ReturnsReading (λ t. t) (readers.lower self.old) result self.new }
     {
         if self.sees(Mark::Lower) {
             self.taken_name(alloc)
@@ -205,9 +206,9 @@ impl<'a> Parser<'a> {
     }
 
     /// Takes a name.
-    #[tactic(auto, unfolding(crate::specs::Input::any_name))]
+    #[tactic(auto, unfolding(crate::specs::Readers::any_name))]
     fn any_name(&mut self, alloc: Global) -> Result<Text, Refusal>
-        ensures { ReturnsReading (λ t. t) (spec.any_name self.old) result self.new }
+        ensures { ReturnsReading (λ t. t) (readers.any_name self.old) result self.new }
     {
         if self.sees(Mark::Upper) || self.sees(Mark::Lower) {
             self.taken_name(alloc)
@@ -218,7 +219,7 @@ impl<'a> Parser<'a> {
 
     /// Takes the next token, and gives its name.
     pub fn taken_name(&mut self, alloc: Global) -> Result<Text, Refusal>
-        ensures { ReturnsReading (λ t. t) (spec.taken_name self.old) result self.new }
+        ensures { ReturnsReading (λ t. t) (readers.taken_name self.old) result self.new }
     {
         let name = self.name(alloc)?;
         self.take();
@@ -227,7 +228,7 @@ impl<'a> Parser<'a> {
 
     /// Takes names with commas between them, at least one.
     pub fn names(&mut self, alloc: Global) -> Result<Texts, Refusal>
-        ensures { ReturnsReading (λ t. t) (spec.names self.old) result self.new }
+        ensures { ReturnsReading (λ t. t) (readers.names self.old) result self.new }
     {
         let mut items = Vec::new(alloc);
         items.push(self.any_name(alloc)?)?;
@@ -243,7 +244,7 @@ impl<'a> Parser<'a> {
 }
 
 fn without_half(mark: Mark) -> Mark
-    ensures { result ≡ spec.mark_without_half mark }
+    ensures { result ≡ readers.mark_without_half mark }
 {
     match mark {
         Mark::Symbol(symbol) => Mark::Symbol(second_half(symbol)),

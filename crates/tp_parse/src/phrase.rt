@@ -2,8 +2,8 @@
 ghost use Rattle.std.specs.Prelude.{◌≡◌, ◌+◌, ◌≤◌, ◌<◌, ◌≢◌, ◌↔◌, ℕ, IfOk, OnOk, IsTrue};
 ghost use Rattle.tp_tree.specs.Levels.{chop_level};
 ghost use Rattle.tp_parse.specs.Marks as marks;
-ghost use Rattle.tp_parse.specs.Input.{ReturnsReading};
-ghost use Rattle.tp_parse.specs.Found.{seen, turn_seen, all_seen};
+ghost use Rattle.tp_parse.specs.Readers.{ReturnsReading};
+ghost use Rattle.tp_parse.specs.Seen.{seen, turn_seen, all_seen};
 ghost use Rattle.tp_parse.specs.Reading as spec;
 ghost use Rattle.tp_parse.specs.declared.head.Head.TheVariants.{Paired};
 ghost use Rattle.tp_parse.specs.declared.mark.Role.TheVariants.{Ends};

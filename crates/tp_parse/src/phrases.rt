@@ -1,7 +1,7 @@
 // Phrases with their heights, and how they are made of their operands.
 ghost use Rattle.std.specs.Prelude.{◌≡◌, ◌+◌, ◌<◌, max, IfOk, IfErr, map};
 ghost use Rattle.tp_parse.specs.Found as spec;
-ghost use Rattle.tp_parse.specs.Found.{seen, all_seen, IsLow};
+ghost use Rattle.tp_parse.specs.Seen.{seen, all_seen, IsLow};
 ghost use Rattle.tp_parse.specs.declared.refusal.Refusal.TheVariants.{NoMemory};
 ghost use Rattle.tp_tree.specs.Read.{phrase_tree, kind_tree};
 ghost use Rattle.tp_tree.specs.Tree.{phrases_of};

@@ -2,7 +2,7 @@
 ghost use Rattle.std.specs.Prelude.{◌≡◌, OnOk, ◌<◌, IsTrue, drop};
 ghost use Rattle.tp_parse.specs.Marks as marks;
 ghost use Rattle.tp_parse.specs.Head as spec;
-ghost use Rattle.tp_parse.specs.Input.{ReturnsReading};
+ghost use Rattle.tp_parse.specs.Readers.{ReturnsReading};
 
 use crate::head::{Atom, Head, Listed, Pair};
 use crate::mark::{Enclosure, Mark, Start};

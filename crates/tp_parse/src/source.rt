@@ -1,13 +1,14 @@
 // Definitions and whole sources.
 ghost use Rattle.std.specs.Prelude.{◌≡◌, ◌≢◌, ◌≤◌, [], length, IfOk, IfErr};
-ghost use Rattle.tp_parse.specs.Input.{ReturnsReading};
+ghost use Rattle.tp_parse.specs.Readers.{ReturnsReading};
 ghost use Rattle.tp_parse.specs.Source as spec;
 ghost use Rattle.tp_parse.specs.Source.{parse_outcome, IsOutcome, NamesToken, definition_trees};
 ghost use Rattle.tp_tree.specs.Read.{phrase_tree, definition_tree, source_tree};
 ghost use Rattle.tp_tree.specs.Tree.{SourceTree};
 ghost use Rattle.tp_tree.specs.Height.{source_height};
 ghost use Rattle.tp_parse.specs.Grammar.{Accepts};
-ghost use Rattle.tp_parse.specs.Place.{BlamesFirst, BlamesFirstInEachText};
+ghost use Rattle.tp_parse.specs.Place.{BlamesFirst};
+ghost use Rattle.tp_parse.specs.PlaceLaws.{BlamesFirstInEachText};
 ghost use Rattle.tp_parse.specs.SpelledText.{ParsesPrinted};
 ghost use Rattle.tp_parse.specs.declared.refusal.ParseRefusal.TheVariants.{NoMemory};
 

@@ -4,7 +4,8 @@ use Rattle.std.proofs.lemmas.Bool.{and_parts, or_parts, leb-true, le-leb}
 use Rattle.std.proofs.lemmas.List.Elements.{All-nil, All-cons, All-append}
 use Rattle.tp_value.specs.Tree.{Tree, Trees, num, truth, list, nil, cons, items_of}
 use Rattle.tp_value.specs.Number.{IsNumber}
-use Rattle.tp_value.specs.Limits.{index_limit, path_limit, item_limit, value_depth_limit, items_in, items_within, depth_of, is_within_list_limit, HasNumbers, HaveNumbers, IsWithinLimits, IsWithinListLimit}
+use Rattle.tp_value.specs.Limits.{index_limit, path_limit, item_limit, value_depth_limit, items_in, items_within, depth_of, is_within_list_limit, HasNumbers, HaveNumbers, IsWithinLimits}
+use Rattle.tp_value.specs.Room.{IsWithinListLimit}
 use Rattle.tp_value.specs.Shape.{shape_at_path, at_item}
 use Rattle.tp_value.specs.declared.path.VarId.{VarId}
 use Rattle.tp_value.specs.declared.path.Path.{Path}

@@ -6,7 +6,8 @@ use Rattle.std.proofs.lemmas.Bool.Decides.{Decides-eqb}
 use Rattle.std.proofs.lemmas.List.Elements.{All-nil, All-cons}
 use Rattle.std.proofs.lemmas.Slice.Eq.{starts_is}
 use Rattle.tp_value.specs.Tree.{Tree, Trees, num, truth, list, nil, cons, items_of, of_items}
-use Rattle.tp_value.specs.Limits.{path_limit, IsWithinListLimit}
+use Rattle.tp_value.specs.Limits.{path_limit}
+use Rattle.tp_value.specs.Room.{IsWithinListLimit}
 use Rattle.tp_value.specs.Shape.{shape_of}
 use Rattle.tp_value.specs.declared.path.VarId.{VarId}
 use Rattle.tp_value.specs.declared.path.Path.{Path}

@@ -7,7 +7,7 @@ use Rattle.tp_value.specs.Tree.{Tree, num, truth, list, nil, cons}
 use Rattle.tp_value.specs.Limits.{IsWithinLimits}
 use Rattle.tp_value.specs.Spelling.{decimal_value, digits}
 use Rattle.tp_value.proofs.TextSpelled.{text_spelled}
-use Rattle.tp_lex.specs.Spelling.{spelled_word}
+use Rattle.tp_lex.specs.Spelled.{spelled_word}
 use Rattle.tp_lex.proofs.SpellingLemmas.{no_word}
 use Rattle.tp_show.specs.TraceFacts.{has_value, has_length, parts_facts}
 use Rattle.tp_show.specs.TraceLine.{IsVariableName, none, index, SpellsPath, value, list_length, part, IsStateLine, state_opening}

@@ -6,7 +6,7 @@ use Rattle.std.proofs.lemmas.Bool.{and_parts}
 use Rattle.std.proofs.lemmas.List.{take_at, drop_at, take-append-drop}
 use Rattle.tp_value.specs.Limits.{path_limit}
 use Rattle.tp_lex.specs.Bytes.{is_name_byte, name_limit}
-use Rattle.tp_lex.specs.Spelling.{spelled_word}
+use Rattle.tp_lex.specs.Spelled.{spelled_word}
 use Rattle.tp_lex.proofs.SpellingLemmas.{word_none, no_word}
 use Rattle.tp_lex.specs.declared.token.Word.{Word}
 use Rattle.tp_show.specs.TraceLine.{AreNameBytes, IsVariableName, SpellsIndices, none, index, SpellsPath}

@@ -10,7 +10,7 @@ use Rattle.tp_value.specs.Spelling.{decimal_value, AreDigits, Spells}
 use Rattle.tp_value.specs.declared.value.Value.{Value}
 use Rattle.tp_value.specs.Read.{tree}
 use Rattle.tp_lex.specs.Bytes.{name_limit}
-use Rattle.tp_lex.specs.Spelling.{spelled_word}
+use Rattle.tp_lex.specs.Spelled.{spelled_word}
 use Rattle.tp_show.specs.declared.trace_part.NamedPath.{NamedPath}
 use Rattle.tp_show.specs.declared.trace_part.ReadPart.{ReadPart}
 use Rattle.tp_show.specs.declared.trace_part.ReadPart.TheVariants.{Given, Measured}

@@ -2,7 +2,8 @@
 use Rattle.std.proofs.Common.{◌≡◌, ◌||◌, inl, inr, pos, negsuc, nat_lt, Bool, true, false, not, ◌&&◌, List, [], ◌∷◌, Option, Some, None, refl, ap, sym, ◌∙◌, subst, if◌then◌else◌}
 use Rattle.std.proofs.lemmas.Bool.{both_ways, or_cases}
 use Rattle.tp_value.specs.Tree.{Tree, num, truth, list, same_tree}
-use Rattle.tp_value.specs.Limits.{length_limit, IsWithinListLimit}
+use Rattle.tp_value.specs.Limits.{length_limit}
+use Rattle.tp_value.specs.Room.{IsWithinListLimit}
 use Rattle.tp_value.specs.declared.path.Path.{Path}
 use Rattle.tp_value.specs.declared.path.Fact.{Fact}
 use Rattle.tp_value.specs.declared.value.Shape.{Shape}

@@ -1,7 +1,8 @@
 -- A formula that has a step isn't bad after another step, if nothing clashes where both are known and no region both ends and goes.
 use Rattle.std.proofs.Common.{◌≡◌, inl, inr, pos, ℕ, nat_lt, Bool, true, false, not, ◌&&◌, List, [], ◌∷◌, Option, Some, None, refl, ap, sym, ◌∙◌, subst, if◌then◌else◌}
 use Rattle.tp_value.specs.Tree.{Tree, num, same_tree}
-use Rattle.tp_value.specs.Limits.{length_limit, IsWithinListLimit}
+use Rattle.tp_value.specs.Limits.{length_limit}
+use Rattle.tp_value.specs.Room.{IsWithinListLimit}
 use Rattle.tp_value.specs.declared.value.Shape.TheVariants.{Items}
 use Rattle.tp_value.specs.declared.path.Path.{Path}
 use Rattle.tp_value.specs.declared.path.Fact.{Fact}

@@ -1,7 +1,7 @@
 -- A value that a state has for a port is within the limits, where the table is.
 use Rattle.std.proofs.Common.{◌≡◌, ℕ, List, Some}
 use Rattle.tp_value.specs.Tree.{Tree}
-use Rattle.tp_value.specs.Limits.{IsWithinListLimit}
+use Rattle.tp_value.specs.Room.{IsWithinListLimit}
 use Rattle.tp_meaning.specs.Inputs.{InputTable, input_at}
 use Rattle.tp_inputs.specs.Within.{InputsWithin}
 use Rattle.tp_inputs.proofs.WithinLemmas.{input_has}

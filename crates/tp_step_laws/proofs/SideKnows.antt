@@ -3,7 +3,8 @@ use Rattle.std.proofs.Common.{◌≡◌, ℕ, suc, pos, ◌+◌, Bool, true, fal
 use Rattle.std.proofs.lemmas.Bool.{cond-true}
 use Rattle.tp_value.specs.Tree.{Tree, num}
 use Rattle.tp_value.specs.Shape.{shape_of}
-use Rattle.tp_value.specs.Limits.{is_within_list_limit, IsWithinListLimit}
+use Rattle.tp_value.specs.Limits.{is_within_list_limit}
+use Rattle.tp_value.specs.Room.{IsWithinListLimit}
 use Rattle.tp_value.specs.declared.value.Shape.TheVariants.{Items}
 use Rattle.tp_value.specs.declared.path.Path.{Path}
 use Rattle.tp_value.specs.declared.path.Fact.{Fact}

@@ -2,7 +2,8 @@
 use Rattle.std.proofs.Common.{◌≡◌, ℕ, zero, suc, nat_le, ◌≤◌, Bool, true, false, List, Some, refl, subst, slice_get, if◌then◌else◌, arith}
 use Rattle.std.proofs.lemmas.Bool.{and_parts, leb-true, le-leb}
 use Rattle.tp_value.specs.Tree.{Tree, Trees, list, nil, cons, items_of}
-use Rattle.tp_value.specs.Limits.{items_in, depth_of, is_within_list_limit, IsWithinListLimit}
+use Rattle.tp_value.specs.Limits.{items_in, depth_of, is_within_list_limit}
+use Rattle.tp_value.specs.Room.{IsWithinListLimit}
 use Rattle.tp_value.specs.Limits as limits
 use Rattle.tp_value.specs.declared.path.Path.{Path}
 use Rattle.tp_value.specs.declared.path.Fact.{Fact}

@@ -2,7 +2,8 @@
 use Rattle.std.proofs.Common.{◌≡◌, inl, inr, ℕ, nat_le, suc, ◌≤◌, true, ◌&&◌, eqb, List, [], ◌∷◌, refl, sym, ◌∙◌, subst, length, Option, Some, arith}
 use Rattle.std.proofs.lemmas.Bool.{cond_both, and_parts, leb-true, ltb-false, cases_Bool, false≢true}
 use Rattle.tp_value.specs.Tree.{Tree, Trees, num, truth, list, nil, cons, items_of}
-use Rattle.tp_value.specs.Limits.{depth_of, items_in, items_within, length_limit, IsWithinListLimit}
+use Rattle.tp_value.specs.Limits.{depth_of, items_in, items_within, length_limit}
+use Rattle.tp_value.specs.Room.{IsWithinListLimit}
 use Rattle.tp_value.specs.Limits as limits
 use Rattle.tp_value.specs.declared.path.Path.{Path}
 use Rattle.tp_value.specs.declared.path.Fact.{Fact}

@@ -1,7 +1,8 @@
 -- What is within the limits on items: kept lengths, bound values, and the values that are found.
 use Rattle.std.specs.Prelude.{◌≡◌, ℕ, ◌∷◌, ◌≤◌, List, [], Some}
 use Rattle.tp_value.specs.Tree.{Tree}
-use Rattle.tp_value.specs.Limits.{length_limit, IsWithinListLimit}
+use Rattle.tp_value.specs.Limits.{length_limit}
+use Rattle.tp_value.specs.Room.{IsWithinListLimit}
 use Rattle.tp_value.specs.declared.value.Shape.TheVariants.{Items}
 use Rattle.tp_value.specs.declared.path.Path.{Path}
 use Rattle.tp_value.specs.declared.path.Fact.{Fact}

@@ -1,7 +1,7 @@
 // Each call that takes memory succeeds where there is enough, with the right value.
 ghost use Rattle.std.specs.Prelude.{IfOk};
 ghost use Rattle.tp_value.specs.Read.{tree};
-ghost use Rattle.tp_value.specs.Shape.{HasShortLists};
+ghost use Rattle.tp_value.specs.ShortLists.{HasShortLists};
 
 use crate::expected::{holds, refused, same_bytes, same_number, same_text};
 use crate::making::{nested, series, sixes};

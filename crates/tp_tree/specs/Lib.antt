@@ -6,4 +6,5 @@ pub mod Height
 pub mod Names
 pub mod Levels
 pub mod Spelling
+pub mod SpellingParts
 pub mod SpellingExamples

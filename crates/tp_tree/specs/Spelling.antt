@@ -111,15 +111,6 @@ abbrev mutual
   kind_spelling (call x ps) =
       x ++ codes "(" ++ operands_spelling [] (codes ", ") any_level ps ++ codes ")"
 
--- a form or a call: its word and its operands
-abbrev pub called_spelling : List ℕ → PhraseTrees → List ℕ
-called_spelling word ps =
-    word ++ codes "(" ++ operands_spelling [] (codes ", ") any_level ps ++ codes ")"
-
--- the word of a loop, its variable and its bound
-abbrev pub counter_spelling : List ℕ → List ℕ → PhraseTree → List ℕ
-counter_spelling word x e = word ++ x ++ codes " < " ++ operand_spelling any_level e
-
 -- a line for each definition
 abbrev pub definition_spelling : DefinitionTree → List ℕ
 definition_spelling d =

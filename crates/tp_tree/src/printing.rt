@@ -3,6 +3,7 @@ ghost use Rattle.std.specs.Prelude.{◌≡◌, ◌++◌, [], OnOk, OnErr, codes}
 ghost use Rattle.std.specs.Fmt.{signed_decimal};
 ghost use Rattle.tp_tree.specs.Read.{definition_tree, phrase_tree, phrase_trees, source_tree};
 ghost use Rattle.tp_tree.specs.Spelling as spec;
+ghost use Rattle.tp_tree.specs.SpellingParts as parts;
 
 use crate::level::{
     ANY, CHOP, INDEX, NOT, PREFIX, SUM, bare_spelling, form_spelling, left_level, level,
@@ -167,7 +168,7 @@ fn append_operands(
 #[cycle(spelling)]
 fn append_called(out: &mut Text, word: &[u8], operands: &Phrases) -> Result<(), NoMemory>
     ensures { OnOk result (out.new
-        ≡ out.old ++ spec.called_spelling word.now (phrase_trees operands.now)) }
+        ≡ out.old ++ parts.called_spelling word.now (phrase_trees operands.now)) }
 {
     out.append(word)?;
     out.append(b"(")?;
@@ -179,7 +180,7 @@ fn append_called(out: &mut Text, word: &[u8], operands: &Phrases) -> Result<(), 
 #[cycle(spelling)]
 fn append_counter(out: &mut Text, word: &[u8], name: &Text, bound: &Phrase) -> Result<(), NoMemory>
     ensures { OnOk result (out.new
-        ≡ out.old ++ spec.counter_spelling word.now name.now (phrase_tree bound.now)) }
+        ≡ out.old ++ parts.counter_spelling word.now name.now (phrase_tree bound.now)) }
 {
     out.append(word)?;
     out.append(name.as_slice())?;

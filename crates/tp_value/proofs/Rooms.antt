@@ -2,7 +2,7 @@
 use Rattle.std.proofs.Common.{◌≡◌, ℕ, ◌-◌, ◌<◌, Some, None, arith}
 use Rattle.std.proofs.lemmas.Bool.Decides.{nat_tests}
 use Rattle.tp_value.specs.Tree.{Tree, Trees, list, nil, cons}
-use Rattle.tp_value.specs.Limits.{room_left}
+use Rattle.tp_value.specs.Room.{room_left}
 
 pub no_depth : (ts : Trees) (room : ℕ) → None ≡ room_left 0 room (list ts)
 no_depth ts room = grind (arith, nat_tests)

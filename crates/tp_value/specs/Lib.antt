@@ -2,11 +2,14 @@ pub mod Tree
 pub mod Read
 pub mod Equations
 pub mod Shape
+pub mod ShortLists
 pub mod Number
 pub mod Limits
+pub mod Room
 pub mod Globals
 pub mod Written
 pub mod Spelling
 pub mod Reading
+pub mod ReaderState
 pub mod Answers
 pub mod Range

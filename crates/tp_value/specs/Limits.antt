@@ -1,5 +1,5 @@
 -- The limits on values, lengths and paths.
-use Rattle.std.specs.Prelude.{ℕ, ◌+◌, ◌-◌, ◌≤◌, ◌&&◌, max, Bool, nat_le, IsTrue, Option, Some, None, if◌then◌else◌}
+use Rattle.std.specs.Prelude.{ℕ, ◌+◌, ◌≤◌, ◌&&◌, max, Bool, nat_le}
 use Rattle.tp_value.specs.Number.{IsNumber}
 use Rattle.tp_value.specs.Tree.{Tree, Trees, num, truth, list, nil, cons}
 
@@ -47,15 +47,6 @@ abbrev mutual
 -- whether a value is within the limits on items and depth
 abbrev pub is_within_list_limit : Tree → Bool
 is_within_list_limit t = nat_le (depth_of t) value_depth_limit && nat_le (items_in t) item_limit
-
-abbrev pub IsWithinListLimit : Tree → Type 0
-IsWithinListLimit t = IsTrue (is_within_list_limit t)
-
--- how much of the room for items a value leaves; none where it is deeper than the depth or has more
--- items than the room
-abbrev pub room_left : ℕ → ℕ → Tree → Option ℕ
-room_left depth room t =
-    if nat_le (depth_of t) depth && nat_le (items_in t) room then Some (room - items_in t) else None
 
 -- each number in the value is within the limit
 abbrev mutual

@@ -1,23 +1,18 @@
 -- How a value's text is read, byte by byte.
-use Rattle.std.specs.Prelude.{ℕ, ◌+◌, ◌-◌, ◌==◌, nat_lt, ℤ, pos, ◌+ℤ◌, ◌-ℤ◌, ◌*ℤ◌, Bool, true, false, ◌&&◌, ◌||◌, if◌then◌else◌, List, [], ◌∷◌, ◌++◌, length, slice_index, map, drop, reverse, Option, Some, None, Result, Ok, Err}
+use Rattle.std.specs.Prelude.{ℕ, ◌+◌, ◌-◌, ◌==◌, nat_lt, ℤ, pos, ◌+ℤ◌, ◌-ℤ◌, ◌*ℤ◌, Bool, true, false, ◌&&◌, ◌||◌, if◌then◌else◌, List, [], ◌∷◌, ◌++◌, length, slice_index, drop, Option, Some, None, Result, Ok, Err}
 use Rattle.std.specs.Char.{is_ascii_digit}
 use Rattle.tp_value.specs.declared.reading.ReadValue.{ReadValue}
 use Rattle.tp_value.specs.declared.reading.ReadValue.TheVariants.{NoValue, TooLarge, TooLong, TooDeep}
-use Rattle.tp_value.specs.declared.reader.Reader.{Reader}
-use Rattle.tp_value.specs.declared.reader.Taken.{Taken}
-use Rattle.tp_value.specs.declared.reader.Taken.TheVariants.{More, Done}
 use Rattle.tp_value.specs.declared.phase.Last.{Last}
 use Rattle.tp_value.specs.declared.phase.Last.TheVariants.{Bracket, Item, Comma}
 use Rattle.tp_value.specs.declared.phase.Phase.{Phase}
 use Rattle.tp_value.specs.declared.phase.Phase.TheVariants.{Start, Between, Minus, Digits, Word as InWord}
 use Rattle.tp_value.specs.declared.phase.Move.{Move}
 use Rattle.tp_value.specs.declared.phase.Move.TheVariants.{Go, Open, Close, Word}
-use Rattle.tp_value.specs.declared.value.Items.{Items}
 use Rattle.tp_value.specs.Number.{within_limit}
 use Rattle.tp_value.specs.Limits.{item_limit, value_depth_limit}
 use Rattle.tp_value.specs.Spelling.{is_value_blank, spelling}
 use Rattle.tp_value.specs.Tree.{Tree, num, truth, list, of_items}
-use Rattle.tp_value.specs.Read.{tree}
 
 -- the digit that a byte is, if any
 abbrev pub digit_of : ℕ → Option ℕ
@@ -207,19 +202,3 @@ start_state = record { lists = []; begun = 0; phase = Start }
 -- what reading a value that begins at a place answers
 abbrev pub value_answer : List ℕ → ℕ → Answer
 value_answer bytes from = reading from start_state (drop from bytes)
-
--- the trees of the items of an open list
-abbrev pub items_seen : Items → List Tree
-items_seen all = map tree all.items.items
-
--- the items of the open lists, the innermost list first
-abbrev pub lists_of : List Items → List (List Tree)
-lists_of all = reverse (map items_seen all)
-
-abbrev pub state_of : Reader → ReadingState
-state_of r = record { lists = lists_of r.unclosed.items; begun = r.begun; phase = r.phase }
-
--- the step that the code took
-abbrev pub taken : Taken → Step
-taken (More r) = goes (state_of r)
-taken (Done v after) = ends (tree v) after

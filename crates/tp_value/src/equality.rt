@@ -2,7 +2,8 @@
 ghost use Rattle.std.specs.Prelude.{◌≡◌, ◌↔◌, IfOk, IsTrue};
 ghost use Rattle.tp_value.specs.Read.{tree};
 ghost use Rattle.tp_value.specs.Tree.{SameTreeIsEquality};
-ghost use Rattle.tp_value.specs.Shape.{shape_of, item_of, shape_at_path, HasShortLists};
+ghost use Rattle.tp_value.specs.Shape.{shape_of, item_of, shape_at_path};
+ghost use Rattle.tp_value.specs.ShortLists.{HasShortLists};
 ghost use Rattle.std.specs.Option.{option_map};
 
 use crate::NoMemory;

@@ -1,6 +1,6 @@
 // The limits on values, lengths and paths.
 ghost use Rattle.std.specs.Prelude.{◌≡◌};
-ghost use Rattle.tp_value.specs.Limits.{room_left};
+ghost use Rattle.tp_value.specs.Room.{room_left};
 ghost use Rattle.tp_value.specs.Limits.{is_within_list_limit as is_within};
 ghost use Rattle.tp_value.specs.Read.{tree};
 

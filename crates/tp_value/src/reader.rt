@@ -7,7 +7,8 @@ ghost use Rattle.tp_value.specs.Limits.{IsWithinLimits};
 ghost use Rattle.tp_value.specs.Written.{text_of};
 ghost use Rattle.tp_value.specs.Answers.{IsReadRefused, CannotContinue, IsReadBack};
 ghost use Rattle.tp_value.specs.Spelling.{IsRead};
-ghost use Rattle.tp_value.specs.Reading.{found, refused, start_state, lists_of, state_of, taken, refuses, finished, closed, opened, moved, step, number_before, number_read, at_end, reading, value_answer};
+ghost use Rattle.tp_value.specs.Reading.{found, refused, start_state, refuses, finished, closed, opened, moved, step, number_before, number_read, at_end, reading, value_answer};
+ghost use Rattle.tp_value.specs.ReaderState.{lists_of, state_of, taken};
 
 use crate::phase::{Last, Move, Phase};
 use crate::reading::ReadValue;

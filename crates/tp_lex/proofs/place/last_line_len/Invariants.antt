@@ -1,5 +1,5 @@
 use Rattle.std.proofs.Common.{◌≤◌, length, drop}
-use Rattle.tp_lex.specs.Place.{EndsNoLine}
+use Rattle.tp_lex.specs.Line.{EndsNoLine}
 use Rattle.tp_lex.proofs.place.last_line_len.Given as goal
 
 -- behind here no line ends

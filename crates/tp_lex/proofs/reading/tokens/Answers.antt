@@ -6,7 +6,8 @@ use Rattle.tp_lex.specs.declared.token.Token.{Token}
 use Rattle.tp_lex.specs.declared.token.Place.{Place}
 use Rattle.tp_lex.specs.First.{first_piece}
 use Rattle.tp_lex.specs.Pieces.{BeginsPiece}
-use Rattle.tp_lex.specs.Place.{EndsNoLine, place_of, place_from, token_at}
+use Rattle.tp_lex.specs.Place.{place_of, place_from, token_at}
+use Rattle.tp_lex.specs.Line.{EndsNoLine}
 use Rattle.tp_lex.specs.Tokens.{IsRefusedUnlessMemory}
 use Rattle.tp_lex.proofs.PieceLemmas.{gap_takes, lexeme_takes, piece_found}
 use Rattle.tp_lex.proofs.PlaceLemmas.{lexeme_line, Follows, followed, follows_along}

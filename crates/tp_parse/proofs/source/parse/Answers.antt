@@ -7,7 +7,8 @@ use Rattle.tp_parse.specs.declared.refusal.ParseRefusal.TheVariants.{Unexpected,
 use Rattle.tp_parse.specs.Input.{Tokens}
 use Rattle.tp_parse.specs.Source.{parse_outcome, IsOutcome, NamesToken}
 use Rattle.tp_parse.specs.Grammar.{Accepts}
-use Rattle.tp_parse.specs.Place.{BlamesFirst, BlamesFirstInEachText}
+use Rattle.tp_parse.specs.Place.{BlamesFirst}
+use Rattle.tp_parse.specs.PlaceLaws.{BlamesFirstInEachText}
 use Rattle.tp_parse.proofs.Exact.{read_accepted, accepted_read, refusal_named}
 use Rattle.tp_tree.specs.Height.{source_height}
 use Rattle.tp_parse.proofs.FirstToken.{refusal_is_place}

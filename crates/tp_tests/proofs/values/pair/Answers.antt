@@ -2,7 +2,7 @@ use Rattle.std.proofs.Common.{◌∙◌, List, map, ap, sym, subst, arith}
 use Rattle.tp_value.specs.declared.value.Value.{Value}
 use Rattle.tp_value.specs.Tree.{list, of_items}
 use Rattle.tp_value.specs.Read.{tree}
-use Rattle.tp_value.specs.Shape.{HasShortLists}
+use Rattle.tp_value.specs.ShortLists.{HasShortLists}
 use Rattle.tp_value.specs.Equations.{tree_num, tree_truth, tree_list}
 use Rattle.tp_tests.proofs.values.pair.Goals as goal
 

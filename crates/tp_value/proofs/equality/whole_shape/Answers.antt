@@ -1,7 +1,8 @@
 use Rattle.std.proofs.Common.{ap, sym, ◌∙◌, subst, arith}
 use Rattle.tp_value.specs.declared.value.Shape.{Shape}
 use Rattle.tp_value.specs.Read.{tree}
-use Rattle.tp_value.specs.Shape.{shape_of, HasShortLists}
+use Rattle.tp_value.specs.Shape.{shape_of}
+use Rattle.tp_value.specs.ShortLists.{HasShortLists}
 use Rattle.tp_value.specs.Equations.{tree_list}
 use Rattle.tp_value.proofs.Shapes.{length_of_list}
 use Rattle.tp_value.proofs.equality.whole_shape.Goals as goal

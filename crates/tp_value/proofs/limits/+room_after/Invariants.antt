@@ -1,7 +1,7 @@
 use Rattle.std.proofs.Common.{◌≡◌, map, drop}
 use Rattle.tp_value.specs.Tree.{list, of_items}
 use Rattle.tp_value.specs.Read.{tree}
-use Rattle.tp_value.specs.Limits.{room_left}
+use Rattle.tp_value.specs.Room.{room_left}
 use Rattle.tp_value.proofs.limits.+room_after.Given as goal
 
 abbrev pub invariant-loop-item : goal.invariant-loop-item

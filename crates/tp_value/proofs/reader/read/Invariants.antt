@@ -1,5 +1,6 @@
 use Rattle.std.proofs.Common.{◌≡◌, drop}
-use Rattle.tp_value.specs.Reading.{reading, start_state, state_of}
+use Rattle.tp_value.specs.Reading.{reading, start_state}
+use Rattle.tp_value.specs.ReaderState.{state_of}
 use Rattle.tp_value.proofs.reader.read.Given as goal
 
 abbrev pub invariant-loop-at : goal.invariant-loop-at

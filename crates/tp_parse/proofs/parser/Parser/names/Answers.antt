@@ -1,6 +1,6 @@
 use Rattle.std.proofs.Common.{rules, arith}
 use Rattle.std.proofs.lemmas.Grind.{common_steps}
-use Rattle.tp_parse.specs.Input.{names, names_from}
+use Rattle.tp_parse.specs.Readers.{names, names_from}
 use Rattle.tp_parse.proofs.Steps.{one_more, no_more}
 use Rattle.tp_parse.proofs.parser.Parser.names.Goals as goal
 

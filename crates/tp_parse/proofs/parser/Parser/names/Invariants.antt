@@ -1,5 +1,5 @@
 use Rattle.std.proofs.Common.{◌≡◌, ◌-◌}
-use Rattle.tp_parse.specs.Input.{names, names_from}
+use Rattle.tp_parse.specs.Readers.{names, names_from}
 use Rattle.tp_parse.proofs.parser.Parser.names.Given as goal
 
 abbrev pub invariant-loop-turn : goal.invariant-loop-turn
