@@ -205,29 +205,25 @@ module _ (bytes : List ℕ) (from n : ℕ) (p : List ℕ) (s : ReadingState) (b 
         items = subst (λ (y : List ℕ). (begun_in y).count ≤ item_limit) (sym all_is) most;
       }
 
+  -- what holds of the next byte's place
+  at_next : (P : ℕ → Type 0) (at : ℕ) → at ≡ from + length p → P n → P at
+  at_next P at place holds = subst P (at_n ∙ sym place) holds
+
+  past_from : from ≤ n
+  past_from = omega (arith, at_n)
+
+  on_behind : BeginsValue (p ++ b ∷ []) → BeginsValue (slice_range bytes from (n + 1))
+  on_behind begins = subst BeginsValue (sym behind) begins
+
   long_right : (at : ℕ) → IsLong from p s b at → IsTooLong bytes from at
-  long_right at x =
-      let here : n ≡ at = at_n ∙ sym x.place in
-      subst (IsTooLong bytes from) here (record {
-        ordered = omega (arith, at_n);
-        inside = inside;
-        so_far = until x.so_far;
-        goes_on = subst BeginsValue (sym behind) x.goes_on;
-        item = ap (λ (c : Begun). c.count) counted_behind ∙ x.count;
-      })
+  long_right at x = at_next (IsTooLong bytes from) at x.place (record { ordered = past_from; inside = inside; so_far = until x.so_far; goes_on = on_behind x.goes_on; item = ap (λ (c : Begun). c.count) counted_behind ∙ x.count })
 
   deep_right : (at : ℕ) → IsDeep from p s b at → IsTooDeep bytes from at
   deep_right at x =
-      let here : n ≡ at = at_n ∙ sym x.place in
-      subst (IsTooDeep bytes from) here (record {
-        ordered = omega (arith, at_n);
-        inside = inside;
-        so_far = until x.so_far;
-        goes_on = subst BeginsValue (sym behind) x.goes_on;
-        bracket = index_is bytes n b z (rest_is bytes from n p (b ∷ z) split at_n) ∙ x.bracket;
-        open_lists = ap (occurrences 60) before ∙ counts.brackets ∙ ap (λ k. occurrences 62 p + k) x.depth ∙ ap (λ y. occurrences 62 y + value_depth_limit) (sym before);
-        items = subst (λ (c : Begun). c.count ≤ item_limit) (sym counted_behind) x.count;
-      })
+      let bracket : slice_index bytes n ≡ 60 = index_is bytes n b z (rest_is bytes from n p (b ∷ z) split at_n) ∙ x.bracket in
+      let open_lists = ap (occurrences 60) before ∙ counts.brackets ∙ ap (λ k. occurrences 62 p + k) x.depth ∙ ap (λ y. occurrences 62 y + value_depth_limit) (sym before) in
+      let items = subst (λ (c : Begun). c.count ≤ item_limit) (sym counted_behind) x.count in
+      at_next (IsTooDeep bytes from) at x.place (record { ordered = past_from; inside = inside; so_far = until x.so_far; goes_on = on_behind x.goes_on; bracket = bracket; open_lists = open_lists; items = items })
 
   nothing_right : (at : ℕ) → (at ≡ from + length p) × Begins p → ((rest : List ℕ) → reading from start_state ((p ++ b ∷ []) ++ rest) ≡ refused (NoValue at)) → Stops bytes from at
   nothing_right at x always =
