@@ -1,7 +1,9 @@
-use Rattle.std.proofs.Common.{◌≡◌, ℕ, ◌+◌, ◌<◌, ◌≤◌, ◌∙◌, ◌++◌, ◌∷◌, List, [], length, take, drop, arith, rules, subst, sym, ap, length-drop, length-take-le}
+use Rattle.std.proofs.Common.{◌≡◌, ℕ, ◌+◌, ◌<◌, ◌≤◌, ◌∙◌, ◌++◌, ◌∷◌, List, [], length, take, drop, arith, rules, subst, sym, ap, length-drop, length-take-le, ◌⊎◌, inl, inr}
 use Rattle.std.proofs.lemmas.List.{take_rest}
 use Rattle.std.proofs.lemmas.Grind.{common_steps}
+use Rattle.tp_lex.specs.declared.piece.Piece.{Piece}
 use Rattle.tp_lex.specs.declared.piece.Piece.TheVariants as v
+use Rattle.tp_lex.specs.declared.token.Kind.{Kind}
 use Rattle.tp_lex.specs.declared.token.Token.{Token}
 use Rattle.tp_lex.specs.declared.token.Place.{Place}
 use Rattle.tp_lex.specs.First.{first_piece}
@@ -45,13 +47,15 @@ along-requires-clause-column c =
     omega (arith, length-drop c.loop-rest.place.at c.args.bytes.now)
 
 -- what is passed has some bytes, and no more than are left
+some_bytes : (rest : List ℕ) (p : Piece) (len : ℕ) → 0 < length rest → p ≡ first_piece rest → (n : ℕ) → (p ≡ v.Gap n) ⊎ ((k : Kind) × (p ≡ v.Lexeme k n)) → len ≡ n → (0 < len) × (len ≤ length rest)
+some_bytes rest p len full first n (inl gap) same = gap_takes _ _ _ _ (piece_found rest p full first).1 gap same
+some_bytes rest p len full first n (inr lexeme) same = lexeme_takes _ _ _ _ _ (piece_found rest p full first).1 lexeme.1 same
+
 passed : (c : goal.After-next-1) → (0 < c.match-branch-2.len.0) × (c.match-branch-2.len.0 ≤ length c.loop-rest.rest.now)
-passed c =
-    let found = piece_found c.loop-rest.rest.now c.in_ok-len.field-0 (grind (arith, common_steps)) c.in_ok-len.ensures in
-    elim c.match-branch-2.branch [
-      | in-Gap w ↦ gap_takes _ _ _ _ found.1 w.in-Gap.is (ap (λ (x : ℕ × Place). x.0) w.len-is)
-      | in-Lexeme+in_ok-push-in-Lexeme w ↦ lexeme_takes _ _ _ _ _ found.1 w.in-Lexeme.is (ap (λ (x : ℕ × Place). x.0) w.len-is)
-    ]
+passed c = elim c.match-branch-2.branch [
+  | in-Gap w ↦ some_bytes _ _ _ (grind (arith, common_steps)) c.in_ok-len.ensures _ (inl w.in-Gap.is) (ap (λ (x : ℕ × Place). x.0) w.len-is)
+  | in-Lexeme+in_ok-push-in-Lexeme w ↦ some_bytes _ _ _ (grind (arith, common_steps)) c.in_ok-len.ensures _ (inr (_, w.in-Lexeme.is)) (ap (λ (x : ℕ × Place). x.0) w.len-is)
+]
 
 pub slice_bounds-rest-count : goal.slice_bounds-rest-count
 slice_bounds-rest-count c = (passed c).1
@@ -61,12 +65,10 @@ slice_bounds-rest-start c = let within = (passed c).1 in search rules
 
 -- the same, where these bytes are cut off
 taken : (c : goal.After-rest-1) → (0 < c.match-branch-2.len.0) × (c.match-branch-2.len.0 ≤ length c.loop-rest.rest.now)
-taken c =
-    let found = piece_found c.loop-rest.rest.now c.in_ok-len.field-0 (grind (arith, common_steps)) c.in_ok-len.ensures in
-    elim c.match-branch-2.branch [
-      | in-Gap w ↦ gap_takes _ _ _ _ found.1 w.in-Gap.is (ap (λ (x : ℕ × Place). x.0) w.len-is)
-      | in-Lexeme+in_ok-push-in-Lexeme w ↦ lexeme_takes _ _ _ _ _ found.1 w.in-Lexeme.is (ap (λ (x : ℕ × Place). x.0) w.len-is)
-    ]
+taken c = elim c.match-branch-2.branch [
+  | in-Gap w ↦ some_bytes _ _ _ (grind (arith, common_steps)) c.in_ok-len.ensures _ (inl w.in-Gap.is) (ap (λ (x : ℕ × Place). x.0) w.len-is)
+  | in-Lexeme+in_ok-push-in-Lexeme w ↦ some_bytes _ _ _ (grind (arith, common_steps)) c.in_ok-len.ensures _ (inr (_, w.in-Lexeme.is)) (ap (λ (x : ℕ × Place). x.0) w.len-is)
+]
 
 pub loop-rest-smaller : goal.loop-rest-smaller
 loop-rest-smaller c =
