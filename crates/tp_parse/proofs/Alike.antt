@@ -70,29 +70,18 @@ both f g (deep e) within next = deep e
 
 -- ---- steps
 
-pub same_mark : {n : ℕ} {ts us : Tokens} → 0 < n → Agrees n ts us → mark ts ≡ mark us
-unfolding mark
-same_mark some unseen = absurd (omega arith)
-same_mark some ended = refl
-same_mark some (agreed a) = refl
+-- what is read of the first token
+pub record SameFirst (ts us : Tokens) : Type 0 where
+  pub mark : mark ts ≡ mark us
+  pub from : from ts ≡ from us
+  pub number : first_number ts ≡ first_number us
+  pub name : first_name ts ≡ first_name us
 
-pub same_from : {n : ℕ} {ts us : Tokens} → 0 < n → Agrees n ts us → from ts ≡ from us
-unfolding from
-same_from some unseen = absurd (omega arith)
-same_from some ended = refl
-same_from some (agreed a) = refl
-
-pub same_number : {n : ℕ} {ts us : Tokens} → 0 < n → Agrees n ts us → first_number ts ≡ first_number us
-unfolding first_number
-same_number some unseen = absurd (omega arith)
-same_number some ended = refl
-same_number some (agreed a) = refl
-
-pub same_name : {n : ℕ} {ts us : Tokens} → 0 < n → Agrees n ts us → first_name ts ≡ first_name us
-unfolding first_name
-same_name some unseen = absurd (omega arith)
-same_name some ended = refl
-same_name some (agreed a) = refl
+pub same_first : {n : ℕ} {ts us : Tokens} → 0 < n → Agrees n ts us → SameFirst ts us
+unfolding mark from first_number first_name
+same_first some unseen = absurd (omega arith)
+same_first some ended = record { mark = refl; from = refl; number = refl; name = refl }
+same_first some (agreed a) = record { mark = refl; from = refl; number = refl; name = refl }
 
 pub refused_alike : {A : Type 0} {n : ℕ} {ts us : Tokens} → 0 < n → Agrees n ts us → Alike {A = A} n ts us (refuse ts) (refuse us)
 unfolding readers.refusal
@@ -142,7 +131,7 @@ after_take some (agreed {n = suc n} {ts = ts} {us = us} a) within next = lifted 
 
 pub expected_alike : (x : Mark) {n : ℕ} {ts us : Tokens} → 0 < n → Agrees n ts us → Alike n ts us (expect x ts) (expect x us)
 unfolding expect
-expected_alike x {ts = ts} {us = us} some a = chosen_alike (same (mark_due ts) x) (same (mark_due us) x) (ap (λ q. same (half_mark q) x) (same_mark some a)) (passed_alike some a) (refused_alike some a)
+expected_alike x {ts = ts} {us = us} some a = chosen_alike (same (mark_due ts) x) (same (mark_due us) x) (ap (λ q. same (half_mark q) x) (same_first some a).mark) (passed_alike some a) (refused_alike some a)
 
 pub deepened_alike : (room : ℕ) {n : ℕ} {ts us : Tokens} → 0 < n → Agrees n ts us → Alike n ts us (deepen room ts) (deepen room us)
 unfolding deepen
@@ -155,10 +144,10 @@ fitted_alike zero left some a = deep_alike a
 fitted_alike (suc k) left some a = chosen_alike (leb left (suc k)) (leb left (suc k)) refl (stays_alike some a) (deep_alike a)
 
 pub saw_alike : (x : Mark) {n : ℕ} {ts us : Tokens} → 0 < n → Agrees n ts us → sees x ts ≡ sees x us
-saw_alike x some a = ap (λ q. same q x) (same_mark some a)
+saw_alike x some a = ap (λ q. same q x) (same_first some a).mark
 
 pub took_name_alike : {n : ℕ} {ts us : Tokens} → 0 < n → Agrees n ts us → Alike n ts us (Ok (first_name ts, drop 1 ts)) (Ok (first_name us, drop 1 us))
-took_name_alike {n} {ts} {us} some a = subst (λ (q : List ℕ). Alike n ts us (Ok (first_name ts, drop 1 ts)) (Ok (q, drop 1 us))) (same_name some a) (took_alike some a)
+took_name_alike {n} {ts} {us} some a = subst (λ (q : List ℕ). Alike n ts us (Ok (first_name ts, drop 1 ts)) (Ok (q, drop 1 us))) (same_first some a).name (took_alike some a)
 
 pub lowered_alike : {n : ℕ} {ts us : Tokens} → 0 < n → Agrees n ts us → Alike n ts us (lower ts) (lower us)
 unfolding lower
@@ -167,4 +156,4 @@ lowered_alike {ts = ts} {us = us} some a = chosen_alike (sees m.Lower ts) (sees 
 pub any_named_alike : {n : ℕ} {ts us : Tokens} → 0 < n → Agrees n ts us → Alike n ts us (any_name ts) (any_name us)
 unfolding any_name
 any_named_alike {ts = ts} {us = us} some a =
-    chosen_alike (sees m.Upper ts || sees m.Lower ts) (sees m.Upper us || sees m.Lower us) (ap (λ q. same q m.Upper || same q m.Lower) (same_mark some a)) (took_name_alike some a) (refused_alike some a)
+    chosen_alike (sees m.Upper ts || sees m.Lower ts) (sees m.Upper us || sees m.Lower us) (ap (λ q. same q m.Upper || same q m.Lower) (same_first some a).mark) (took_name_alike some a) (refused_alike some a)

@@ -1,12 +1,8 @@
 -- What holds of each name among the tokens of a source holds of each name that stands in the source.
-use Rattle.std.proofs.Common.{◌≡◌, ◌⊎◌, inl, inr, ℕ, true, false, cond, List, [], ◌∷◌, ◌++◌, drop, All, Contains, refl, sym, subst}
+use Rattle.std.proofs.Common.{◌≡◌, ◌⊎◌, inl, inr, ℕ, true, false, cond, List, [], ◌∷◌, ◌++◌, drop, All, Contains, refl, sym, subst, ap}
 use Rattle.std.proofs.lemmas.List.Elements.{All-nil, All-cons, All-append, All-head, All-tail, All-contains_itself}
 use Rattle.tp_lex.specs.declared.token.Kind.{Kind}
 use Rattle.tp_lex.specs.declared.token.Kind.TheVariants as kind
-use Rattle.tp_lex.specs.declared.token.Word.{Word}
-use Rattle.tp_lex.specs.declared.token.Word.TheVariants as word
-use Rattle.tp_lex.specs.declared.token.Symbol.{Symbol}
-use Rattle.tp_lex.specs.declared.token.Symbol.TheVariants as symbol
 use Rattle.tp_lex.specs.Names.{own_names, token_names}
 use Rattle.tp_tree.specs.Tree.{PhraseTree, PhraseTrees, phrases_of, DefinitionTree, SourceTree}
 use Rattle.tp_tree.specs.Names.{phrase_names, kind_names, operand_names, definition_names, names_in_definitions, source_names}
@@ -29,29 +25,12 @@ use Rattle.tp_parse.specs.Found.{Found, Operands, atom_kind, listed_kind, enclos
 use Rattle.tp_parse.specs.Grammar as g
 use Rattle.tp_parse.specs.Grammar.{ReadsNames, BeginsPrimary, Parses, Goes, Others, Listing, Parameters, Sentence, Defines, Definitions, IsSource, Accepts}
 use Rattle.tp_parse.specs.Names.{NamesAreTokens}
+use Rattle.tp_parse.proofs.HeadTokens.{mark_of_start, started, head_left}
 
 -- where an operand is due, a name begins with the mark of one
-word_is_none : (w : Word) → (start_of (m.Word w) ≡ s.Name) ⊎ (start_of (m.Word w) ≡ s.NameOrCall) → ⊥
-word_is_none word.If (inl e) = absurd cc
-word_is_none word.If (inr e) = absurd cc
-word_is_none _ (inl e) = absurd cc
-word_is_none _ (inr e) = absurd cc
-
-symbol_is_none : (x : Symbol) → (start_of (m.Symbol x) ≡ s.Name) ⊎ (start_of (m.Symbol x) ≡ s.NameOrCall) → ⊥
-symbol_is_none symbol.Bar (inl e) = absurd cc
-symbol_is_none symbol.Bar (inr e) = absurd cc
-symbol_is_none _ (inl e) = absurd cc
-symbol_is_none _ (inr e) = absurd cc
-
 starts_name : (x : Mark) → (start_of x ≡ s.Name) ⊎ (start_of x ≡ s.NameOrCall) → (x ≡ m.Upper) ⊎ (x ≡ m.Lower)
-starts_name m.Upper e = inl refl
-starts_name m.Lower e = inr refl
-starts_name m.End (inl e) = absurd cc
-starts_name m.End (inr e) = absurd cc
-starts_name m.Number (inl e) = absurd cc
-starts_name m.Number (inr e) = absurd cc
-starts_name (m.Word w) e = absurd (word_is_none w e)
-starts_name (m.Symbol x) e = absurd (symbol_is_none x e)
+starts_name x (inl e) = inl (started x m.Upper (ap mark_of_start e))
+starts_name x (inr e) = inr (started x m.Lower (ap mark_of_start e))
 
 -- a token without its first half is no name, as before
 halved_names : (ts : Tokens) → token_names (left_of true ts) ≡ token_names ts
@@ -168,28 +147,20 @@ module _ (P : List ℕ → Type 0) where
   starts_held : (ts : Tokens) → Named ts → (start_of (mark ts) ≡ s.Name) ⊎ (start_of (mark ts) ≡ s.NameOrCall) → All P (first_name ts ∷ [])
   starts_held ts are e = one (first_name ts) (name_held ts are (starts_name (mark ts) e))
 
-  counter_held : (ts : Tokens) → Named ts → mark (drop 1 ts) ≡ m.Lower → All P (first_name (drop 1 ts) ∷ []) × Named (past (drop 1 (drop 1 ts)))
-  counter_held ts are e =
-      let on = dropped ts are in
-      (one (first_name (drop 1 ts)) (name_held (drop 1 ts) on (inr e)), passed (drop 1 (drop 1 ts)) (dropped (drop 1 ts) on))
+  counter_held : (ts : Tokens) → Named ts → mark (drop 1 ts) ≡ m.Lower → All P (first_name (drop 1 ts) ∷ [])
+  counter_held ts are e = one (first_name (drop 1 ts)) (name_held (drop 1 ts) (dropped ts are) (inr e))
+
+  own_held : {ts rest : Tokens} {x : Head} → BeginsPrimary ts x rest → Named ts → All P (head_own x)
+  own_held {ts} (g.upper_name e) are = starts_held ts are (inl e)
+  own_held {ts} (g.lower_name e f) are = starts_held ts are (inr e)
+  own_held {ts} (g.call e f) are = starts_held ts are (inr e)
+  own_held {ts} (g.for e f l) are = counter_held ts are f
+  own_held {ts} (g.forall e f l) are = counter_held ts are f
+  own_held {ts} (g.exists e d f) are = (names_held d (dropped ts are)).0
+  own_held _ are = none
 
   begins_held : {ts rest : Tokens} {x : Head} → BeginsPrimary ts x rest → Named ts → All P (head_own x) × Named rest
-  begins_held {ts} (g.number e) are = (none, dropped ts are)
-  begins_held {ts} (g.truth e) are = (none, dropped ts are)
-  begins_held {ts} (g.upper_name e) are = (starts_held ts are (inl e), dropped ts are)
-  begins_held {ts} (g.lower_name e f) are = (starts_held ts are (inr e), dropped ts are)
-  begins_held {ts} (g.call e f) are = (starts_held ts are (inr e), dropped (drop 1 ts) (dropped ts are))
-  begins_held {ts} (g.bare e) are = (none, dropped ts are)
-  begins_held {ts} (g.form e f) are = (none, passed (drop 1 ts) (dropped ts are))
-  begins_held {ts} (g.empty_list e) are = (none, dropped ts are)
-  begins_held {ts} (g.list e) are = (none, passed ts are)
-  begins_held {ts} (g.enclosure e) are = (none, dropped ts are)
-  begins_held {ts} (g.if e) are = (none, dropped ts are)
-  begins_held {ts} (g.while e) are = (none, dropped ts are)
-  begins_held {ts} (g.repeat e) are = (none, dropped ts are)
-  begins_held {ts} (g.for e f l) are = counter_held ts are f
-  begins_held {ts} (g.forall e f l) are = counter_held ts are f
-  begins_held {ts} (g.exists {mid = mid} e d f) are = let read = names_held d (dropped ts are) in (read.0, passed mid read.1)
+  begins_held b are = (own_held b are, head_left Named dropped passed b are)
 
   -- ---- phrases
 

@@ -35,7 +35,7 @@ use Rattle.tp_parse.proofs.Exact.{source_complete}
 use Rattle.tp_parse.specs.Grammar.{Accepts}
 use Rattle.tp_parse.specs.declared.refusal.Refusal.TheVariants.{Unexpected, TooDeep}
 use Rattle.tp_lex.specs.declared.token.Token.{Token}
-use Rattle.tp_parse.proofs.Alike.{Agrees, unseen, ended, agreed, Alike, beyond, goes, unexpected, deep, both, same_mark, same_from, same_number, same_name, refused_alike, stays_alike, took_alike, passed_alike, chosen_alike, after_take, expected_alike, deepened_alike, fitted_alike, saw_alike, lowered_alike, any_named_alike}
+use Rattle.tp_parse.proofs.Alike.{Agrees, unseen, ended, agreed, Alike, beyond, goes, unexpected, deep, both, same_first, refused_alike, stays_alike, took_alike, passed_alike, chosen_alike, after_take, expected_alike, deepened_alike, fitted_alike, saw_alike, lowered_alike, any_named_alike}
 
 short : {A : Type 0} {ts r : Tokens} {x : A} (o : ReadOutcome A) → Within ts o → o ≡ Ok (x, r) → length r ≤ length ts
 short o is e = left_over (subst (Within _) e is)
@@ -74,14 +74,14 @@ counted {ts = ts} some a =
     both _ _ (expected_alike (m.Symbol symbol.Less) pos2 b2) (λ u ws. w.stays {x = x} ws) (λ u l2 r2 q2 eq2 lens2 pos3 b3. stays_alike {x = x} pos3 b3)))
 
 number_head : {n : ℕ} {ts us : Tokens} → 0 < n → Agrees n ts us → Alike n ts us (head_by s.Number ts) (head_by s.Number us)
-number_head {n} {ts} {us} some a = rw (sym (same_number some a)) (took_alike {x = h.Atom (atom.Number (first_number ts))} some a)
+number_head {n} {ts} {us} some a = rw (sym (same_first some a).number) (took_alike {x = h.Atom (atom.Number (first_number ts))} some a)
 
 name_head : {n : ℕ} {ts us : Tokens} → 0 < n → Agrees n ts us → Alike n ts us (head_by s.Name ts) (head_by s.Name us)
-name_head {n} {ts} {us} some a = rw (sym (same_name some a)) (took_alike {x = h.Atom (atom.Name (first_name ts))} some a)
+name_head {n} {ts} {us} some a = rw (sym (same_first some a).name) (took_alike {x = h.Atom (atom.Name (first_name ts))} some a)
 
 call_head : {n : ℕ} {ts us : Tokens} → 0 < n → Agrees n ts us → Alike n ts us (name_or_call ts) (name_or_call us)
 unfolding name_or_call
-call_head {n} {ts} {us} some a = rw (sym (same_name some a))
+call_head {n} {ts} {us} some a = rw (sym (same_first some a).name)
     (after_take some a (w.choose (sees (m.Symbol symbol.OpenRound) (drop 1 ts)) (w.took {x = h.Listed (listed.Call (first_name ts))} (drop 1 ts)) (w.stays {x = h.Atom (atom.Name (first_name ts))} (drop 1 ts))) (λ k pos b e.
     chosen_alike (sees (m.Symbol symbol.OpenRound) (drop 1 ts)) (sees (m.Symbol symbol.OpenRound) (drop 1 us)) (saw_alike (m.Symbol symbol.OpenRound) pos b)
     (took_alike {x = h.Listed (listed.Call (first_name ts))} pos b) (stays_alike {x = h.Atom (atom.Name (first_name ts))} pos b)))
@@ -157,7 +157,7 @@ module _ (inner : ℕ → Reader Found) (room : ℕ) (within : (k : ℕ) (ts : T
   operanded : (k : ℕ) (close : Mark) {n : ℕ} {ts us : Tokens} → 0 < n → Agrees n ts us → Alike n ts us (r.operands inner room k close ts) (r.operands inner room k close us)
   unfolding r.operands r.others
   operanded k close {ts = ts} {us = us} some a =
-      chosen_alike (same (mark_due ts) close) (same (mark_due us) close) (ap (λ q. same (half_mark q) close) (same_mark some a)) (passed_alike some a)
+      chosen_alike (same (mark_due ts) close) (same (mark_due us) close) (ap (λ q. same (half_mark q) close) (same_first some a).mark) (passed_alike some a)
       (both _ _ (alike k _ _ _ some a) (λ x vs. w.bind _ (w.othered inner room within k comma (length vs) (operands_of (x.tree ∷ []) x.height) vs) (λ all ws. w.bind _ (w.expected close ws) (λ u zs. w.stays {x = all} zs))) (λ x l r q eq lens pos b.
       both _ _ (othered k comma (length r) (length q) (operands_of (x.tree ∷ []) x.height) (λ z. cc) pos b (omega arith) (omega arith)) (λ all ws. w.bind _ (w.expected close ws) (λ u zs. w.stays {x = all} zs)) (λ all l2 r2 q2 eq2 lens2 pos2 b2.
       both _ _ (expected_alike close pos2 b2) (λ u zs. w.stays {x = all} zs) (λ u l3 r3 q3 eq3 lens3 pos3 b3. stays_alike {x = all} pos3 b3))))
@@ -197,8 +197,8 @@ module _ (inner : ℕ → Reader Found) (room : ℕ) (within : (k : ℕ) (ts : T
   primary_alike : {n : ℕ} {ts us : Tokens} → 0 < n → Agrees n ts us → Alike n ts us (r.primary inner room ts) (r.primary inner room us)
   unfolding r.primary
   primary_alike {n} {ts} {us} some a =
-      subst (λ (q : ℕ). Alike n ts us (begun (from ts) (start_of (mark ts)) ts) (begun q (start_of (mark us)) us)) (same_from some a)
-      (subst (λ (q : Mark). Alike n ts us (begun (from ts) (start_of (mark ts)) ts) (begun (from ts) (start_of q) us)) (same_mark some a) (begun_alike (from ts) (start_of (mark ts)) some a))
+      subst (λ (q : ℕ). Alike n ts us (begun (from ts) (start_of (mark ts)) ts) (begun q (start_of (mark us)) us)) (same_first some a).from
+      (subst (λ (q : Mark). Alike n ts us (begun (from ts) (start_of (mark ts)) ts) (begun (from ts) (start_of q) us)) (same_first some a).mark (begun_alike (from ts) (start_of (mark ts)) some a))
 
   operated_alike : (o : Op) (at : ℕ) (left : Found) {n : ℕ} {ts us : Tokens} → 0 < n → Agrees n ts us
       → Alike n ts us (r.operated inner room o at left ts) (r.operated inner room o at left us)
@@ -231,7 +231,7 @@ module _ (inner : ℕ → Reader Found) (room : ℕ) (within : (k : ℕ) (ts : T
   turn_alike : (k at : ℕ) (left : Found) {n : ℕ} {ts us : Tokens} → 0 < n → Agrees n ts us → Alike n ts us (r.turn inner room k at left ts) (r.turn inner room k at left us)
   unfolding r.turn
   turn_alike k at left {n} {ts} {us} some a =
-      subst (λ (q : Mark). Alike n ts us (r.turn_by inner room k at left (role_at k (mark ts)) ts) (r.turn_by inner room k at left (role_at k q) us)) (same_mark some a) (turn_by_alike k at left (role_at k (mark ts)) some a)
+      subst (λ (q : Mark). Alike n ts us (r.turn_by inner room k at left (role_at k (mark ts)) ts) (r.turn_by inner room k at left (role_at k q) us)) (same_first some a).mark (turn_by_alike k at left (role_at k (mark ts)) some a)
 
   go_end : (k at i : ℕ) (left : Found) → r.go inner room k at i left [] ≡ Ok (left, [])
   unfolding r.go r.turn mark
@@ -264,18 +264,18 @@ module _ (inner : ℕ → Reader Found) (room : ℕ) (within : (k : ℕ) (ts : T
   prefixed_alike : (i : ℕ) (o : Prefix) {n : ℕ} {ts us : Tokens} → 0 < n → Agrees n ts us → Alike n ts us (r.prefixed inner room i o ts) (r.prefixed inner room i o us)
   unfolding r.prefixed
   prefixed_alike i o {n} {ts} {us} some a =
-      subst (λ (q : ℕ). Alike n ts us (before_at (from ts) o i ts) (before_at q o i us)) (same_from some a) (before_alike (from ts) o i some a)
+      subst (λ (q : ℕ). Alike n ts us (before_at (from ts) o i ts) (before_at q o i us)) (same_first some a).from (before_alike (from ts) o i some a)
 
   levels_alike : (k : ℕ) {n : ℕ} {ts us : Tokens} → 0 < n → Agrees n ts us → Alike n ts us (r.levels inner room k ts) (r.levels inner room k us)
   unfolding r.levels r.level r.operations
   levels_alike zero some a = primary_alike some a
   levels_alike (suc k) {n} {ts} {us} some a =
       let lower = r.levels inner room k in
-      subst (λ (q : Mark). Alike n ts us (r.level_by inner room (suc k) lower (prefix_at (suc k) (mark ts)) ts) (r.level_by inner room (suc k) lower (prefix_at (suc k) q) us)) (same_mark some a)
+      subst (λ (q : Mark). Alike n ts us (r.level_by inner room (suc k) lower (prefix_at (suc k) (mark ts)) ts) (r.level_by inner room (suc k) lower (prefix_at (suc k) q) us)) (same_first some a).mark
       (elim (prefix_at (suc k) (mark ts)) as (λ p. Alike n ts us (r.level_by inner room (suc k) lower p ts) (r.level_by inner room (suc k) lower p us)) [
         | Some o ↦ prefixed_alike (suc k) o some a
         | None ↦ both _ _ (levels_alike k some a) (λ x vs. w.go_within inner room within (suc k) (from ts) (length vs) x vs) (λ x l v z eq lens pos b.
-            subst (λ (at : ℕ). Alike l v z (r.go inner room (suc k) (from ts) (length v) x v) (r.go inner room (suc k) at (length z) x z)) (same_from some a) (go_alike (suc k) (from ts) (length v) (length z) x pos b (omega arith) (omega arith)))
+            subst (λ (at : ℕ). Alike l v z (r.go inner room (suc k) (from ts) (length v) x v) (r.go inner room (suc k) at (length z) x z)) (same_first some a).from (go_alike (suc k) (from ts) (length v) (length z) x pos b (omega arith) (omega arith)))
       ])
 
 read_alike : (room k : ℕ) {n : ℕ} {ts us : Tokens} → 0 < n → Agrees n ts us → Alike n ts us (r.read room k ts) (r.read room k us)
@@ -346,7 +346,7 @@ name_alike at some a = both _ _ (lowered_alike some a) (λ x us. open_within at 
 definition_alike : {n : ℕ} {ts us : Tokens} → 0 < n → Agrees n ts us → Alike n ts us (source.definition ts) (source.definition us)
 unfolding source.definition
 definition_alike {n} {ts} {us} some a =
-    subst (λ (q : ℕ). Alike n ts us (name_at (from ts) (drop 1 ts)) (name_at q (drop 1 us))) (same_from some a)
+    subst (λ (q : ℕ). Alike n ts us (name_at (from ts) (drop 1 ts)) (name_at q (drop 1 us))) (same_first some a).from
     (after_take some a (name_within (from ts) (drop 1 ts)) (λ k pos b e. name_alike (from ts) pos b))
 
 definition_within : (ts : Tokens) → Within (drop 1 ts) (source.definition ts)

@@ -1,5 +1,5 @@
 -- Each kind of phrase in the tokens of its canonical spelling.
-use Rattle.std.proofs.Common.{◌≡◌, ◌≢◌, ℕ, suc, ◌-◌, ◌≤◌, inl, inr, ℤ, Bool, true, false, cond, List, [], ◌∷◌, drop, slice_index, refl, sym, ap, ap₂, subst, ◌∙◌, arith}
+use Rattle.std.proofs.Common.{◌≡◌, ◌≢◌, ℕ, suc, ◌-◌, ◌≤◌, inl, inr, ℤ, Bool, true, false, cond, List, [], ◌∷◌, drop, slice_index, Some, refl, sym, ap, ap₂, subst, ◌∙◌, arith}
 use Rattle.std.specs.Char.{is_ascii_uppercase}
 use Rattle.tp_lex.specs.declared.token.Kind.{Kind}
 use Rattle.tp_lex.specs.declared.token.Kind.TheVariants as kind
@@ -15,16 +15,21 @@ use Rattle.tp_tree.specs.Tree as t
 use Rattle.tp_tree.specs.Tree.{PhraseTree, phrase, KindTree, PhraseTrees, no_phrase, phrase_then, phrases_of}
 use Rattle.tp_tree.specs.declared.operator.Grouping.TheVariants.{Left, Single, Right}
 use Rattle.tp_tree.specs.Levels.{op_level, grouping}
-use Rattle.tp_tree.specs.Places.{unplaced}
+use Rattle.tp_tree.specs.Places.{unplaced, unplaced_kind}
 use Rattle.tp_parse.specs.declared.mark.Mark.TheVariants as m
+use Rattle.tp_parse.specs.declared.mark.Prefix.{Prefix}
 use Rattle.tp_parse.specs.declared.mark.Prefix.TheVariants as prefix
 use Rattle.tp_parse.specs.declared.mark.Enclosure.TheVariants as enclosure
 use Rattle.tp_parse.specs.declared.mark.Role.TheVariants.{Ends, Infix, Opens, Joins}
 use Rattle.tp_parse.specs.declared.mark.Start.TheVariants as s
-use Rattle.tp_parse.specs.Marks.{kind_mark, prefix_at, role_of, role_at, level_of, start_of}
-use Rattle.tp_parse.specs.Input.{Tokens, past}
+use Rattle.tp_parse.specs.declared.head.Pair.{Pair}
+use Rattle.tp_parse.specs.declared.head.Pair.TheVariants as pair
+use Rattle.tp_parse.specs.declared.head.Head.TheVariants as h
+use Rattle.tp_parse.specs.Marks.{kind_mark, middle, prefix_at, role_of, role_at, level_of, start_of}
+use Rattle.tp_parse.specs.Input.{Tokens, mark, mark_due, half_mark, first_name, past}
+use Rattle.tp_parse.specs.Found.{Found, prefixed_kind, pair_kind}
 use Rattle.tp_parse.specs.Grammar as g
-use Rattle.tp_parse.specs.Grammar.{Parses, open_round}
+use Rattle.tp_parse.specs.Grammar.{BeginsPrimary, Parses, open_round}
 use Rattle.tp_parse.specs.Spelled.{token_kinds, op_kind, bare_kind, form_kind, open_kind, close_kind, operand_kinds, more_operands, HasTwo, HasName}
 use Rattle.tp_parse.proofs.SpelledTokens.{next_is, next_mark, mark_next, passed_whole, opened_is, EndsBefore, lower_ends, role_ends, ReadAs, OpensAs, stays}
 use Rattle.tp_parse.proofs.SpelledParts.{grammar_level, is_left, IsOperand, AreOperands, IsKind, KindReads, others_are, listing_is, names_are}
@@ -91,7 +96,7 @@ form_is x ps is = record {
   reads = λ ts ks e st. (let h = next_is ts (form_kind x) _ e in
       let o = passed_whole (drop 1 ts) open_kind _ h.later refl in
       let r = listing_is 11 close_kind ps is (past (drop 1 ts)) ks o.1 (close_ends 11 ks) (λ q. cc) refl in
-      record { found = _; rest = r.rest; parses = g.listed (g.form {f = x} (ap start_of h.mark ∙ form_starts x) o.0) r.listing; left = r.left; same = ap (λ us. phrase 0 (t.form x us)) r.same });
+      record { found = _; rest = r.rest; parses = g.listed (g.form {f = x} (ap start_of h.mark ∙ form_starts x) o.0) r.read; left = r.left; same = ap (λ us. phrase 0 (t.form x us)) r.same });
   opens = tt;
 }
 
@@ -101,7 +106,7 @@ call_is x ps is = record {
   reads = λ ts ks e st. (let h = next_is ts (kind.Lower x) _ e in
       let o = next_is (drop 1 ts) open_kind _ h.later in
       let r = listing_is 11 close_kind ps is (drop 1 (drop 1 ts)) ks o.later (close_ends 11 ks) (λ q. cc) refl in
-      record { found = _; rest = r.rest; parses = g.listed (g.call (ap start_of h.mark) o.mark) r.listing; left = r.left; same = ap₂ (λ y us. phrase 0 (t.call y us)) h.name r.same });
+      record { found = _; rest = r.rest; parses = g.listed (g.call (ap start_of h.mark) o.mark) r.read; left = r.left; same = ap₂ (λ y us. phrase 0 (t.call y us)) h.name r.same });
   opens = tt;
 }
 
@@ -118,7 +123,7 @@ list_is ps is = record { low = omega arith; reads = reads ps is; opens = tt }
     reads (phrase_then p ps) is ts ks e st =
         let h = opened_is ts _ e in
         let r = listing_is 4 (kind.Symbol symbol.Greater) (phrase_then p ps) is (past ts) ks h.1 (greater_ends ks) (λ q. cc) refl in
-        record { found = _; rest = r.rest; parses = g.listed (g.list h.0) r.listing; left = r.left; same = ap (λ us. phrase 0 (t.list us)) r.same }
+        record { found = _; rest = r.rest; parses = g.listed (g.list h.0) r.read; left = r.left; same = ap (λ us. phrase 0 (t.list us)) r.same }
 
 bar_ends : (l : ℕ) (ks : List Kind) → EndsBefore l (kind.Symbol symbol.Bar ∷ ks)
 bar_ends l ks = record { role = inl refl; bare = λ e. cc; last = λ h e. cc }
@@ -135,35 +140,34 @@ size_is x is = record {
 
 -- ---- operators before an operand
 
+unplaced_prefixed : (o : Prefix) (a : PhraseTree) → unplaced_kind (prefixed_kind o a) ≡ prefixed_kind o (unplaced a)
+unplaced_prefixed prefix.Not a = refl
+unplaced_prefixed _ a = refl
+
+prefix_reads : (o : Prefix) (k : Kind) (l : ℕ) (x : PhraseTree) → prefix_at (suc l) (kind_mark k) ≡ Some o → grammar_level (suc l) ≡ suc l → IsOperand x
+    → (ts : Tokens) (ks : List Kind) → token_kinds ts ≡ k ∷ operand_kinds (suc l) x ks → EndsBefore (suc l) ks → ReadAs (suc l) ts (phrase 0 (prefixed_kind o (unplaced x))) ks
+prefix_reads o k l x at level is ts ks e st =
+    let h = next_is ts k _ e in
+    let r = is.reads (suc l) (drop 1 ts) ks h.later st in
+    record {
+      found = _;
+      rest = r.rest;
+      parses = g.prefixed (ap (prefix_at (suc l)) h.mark ∙ at) (subst (λ n. Parses n (drop 1 ts) r.found r.rest) level r.parses);
+      left = r.left;
+      same = ap (phrase 0) (unplaced_prefixed o r.found.tree ∙ ap (prefixed_kind o) r.same);
+    }
+
 pub minus_is : (x : PhraseTree) → IsOperand x → IsKind (t.minus x)
 unfolding prefix_at
-minus_is x is = record {
-  low = omega arith;
-  reads = λ ts ks e st. (let h = next_is ts (kind.Symbol symbol.Minus) _ e in
-      let r = is.reads 2 (drop 1 ts) ks h.later st in
-      record { found = _; rest = r.rest; parses = g.prefixed {o = prefix.Minus} (ap (prefix_at 2) h.mark) r.parses; left = r.left; same = ap (λ u. phrase 0 (t.minus u)) r.same });
-  opens = λ lf ts ks e st. absurd cc;
-}
+minus_is x is = record { low = omega arith; reads = prefix_reads prefix.Minus (kind.Symbol symbol.Minus) 1 x refl refl is; opens = λ lf ts ks e st. absurd cc }
 
 pub next_phrase_is : (x : PhraseTree) → IsOperand x → IsKind (t.next x)
 unfolding prefix_at
-next_phrase_is x is = record {
-  low = omega arith;
-  reads = λ ts ks e st. (let h = next_is ts (kind.Word word.Next) _ e in
-      let r = is.reads 2 (drop 1 ts) ks h.later st in
-      record { found = _; rest = r.rest; parses = g.prefixed {o = prefix.Next} (ap (prefix_at 2) h.mark) r.parses; left = r.left; same = ap (λ u. phrase 0 (t.next u)) r.same });
-  opens = λ lf ts ks e st. absurd cc;
-}
+next_phrase_is x is = record { low = omega arith; reads = prefix_reads prefix.Next (kind.Word word.Next) 1 x refl refl is; opens = λ lf ts ks e st. absurd cc }
 
 pub negation_is : (x : PhraseTree) → IsOperand x → IsKind (t.negation x)
 unfolding prefix_at
-negation_is x is = record {
-  low = omega arith;
-  reads = λ ts ks e st. (let h = next_is ts (kind.Word word.Not) _ e in
-      let r = is.reads 6 (drop 1 ts) ks h.later st in
-      record { found = _; rest = r.rest; parses = g.prefixed {o = prefix.Not} (ap (prefix_at 6) h.mark) r.parses; left = r.left; same = ap (λ u. phrase 0 (t.negation u)) r.same });
-  opens = λ lf ts ks e st. absurd cc;
-}
+negation_is x is = record { low = omega arith; reads = prefix_reads prefix.Not (kind.Word word.Not) 5 x refl refl is; opens = λ lf ts ks e st. absurd cc }
 
 -- ---- indices, and operators between operands
 
@@ -293,7 +297,7 @@ conjunction_is (phrase_then x (phrase_then y ps)) two is = record { low = omega 
         let w = is.0.reads 6 ts (more_operands (kind.Word word.And) 6 (phrase_then y ps) ks) e (and_ends _) in
         let h = next_is w.rest (kind.Word word.And) _ w.left in
         let o = others_are 6 (kind.Word word.And) (phrase_then y ps) is.1 w.rest ks w.left (lower_ends 6 (omega arith) st) (ends_no_and ks st) and_ends in
-        record { found = _; rest = o.rest; parses = g.level w.parses (g.joins (ap (role_at 7) h.mark ∙ and_role) o.others); left = o.left; same = ap₂ (λ u us. phrase 0 (t.conjunction (phrase_then u us))) w.same o.same }
+        record { found = _; rest = o.rest; parses = g.level w.parses (g.joins (ap (role_at 7) h.mark ∙ and_role) o.read); left = o.left; same = ap₂ (λ u us. phrase 0 (t.conjunction (phrase_then u us))) w.same o.same }
 
 -- ---- what reaches to the right
 
@@ -303,75 +307,103 @@ word_ends l k ks e f h = record { role = inl e; bare = f; last = λ i. h }
 else_ends : (ks : List Kind) → EndsBefore 10 (kind.Word word.Else ∷ ks)
 else_ends ks = record { role = inl refl; bare = λ e. cc; last = λ h. absurd (omega (arith, h)) }
 
+-- an `if`, its condition and the `then`
+record IfThen (ts : Tokens) (x : PhraseTree) (ks : List Kind) : Type 0 where
+  condition : Found
+  then : Tokens
+  begins : BeginsPrimary ts h.If (drop 1 ts)
+  parses : Parses 10 (drop 1 ts) condition then
+  due : mark_due then ≡ m.Word word.Then
+  left : token_kinds (past then) ≡ ks
+  same : unplaced condition.tree ≡ unplaced x
+
+if_then : (x : PhraseTree) → IsOperand x → (ts : Tokens) (ks : List Kind) → token_kinds ts ≡ kind.Word word.If ∷ operand_kinds 11 x (kind.Word word.Then ∷ ks) → IfThen ts x ks
+if_then x is ts ks e =
+    let h = next_is ts (kind.Word word.If) _ e in
+    let r = is.reads 11 (drop 1 ts) _ h.later (word_ends 11 (kind.Word word.Then) _ refl (λ q. cc) (λ q. cc)) in
+    let c = passed_whole r.rest (kind.Word word.Then) _ r.left refl in
+    record { condition = r.found; then = r.rest; begins = g.if (ap start_of h.mark); parses = r.parses; due = c.0; left = c.1; same = r.same }
+
 pub choice_is : (x y : PhraseTree) → IsOperand x → IsOperand y → IsKind (t.choice x y)
 choice_is x y first second = record {
   low = omega arith;
-  reads = λ ts ks e st. (let h = next_is ts (kind.Word word.If) _ e in
-      let r = first.reads 11 (drop 1 ts) _ h.later (word_ends 11 (kind.Word word.Then) _ refl (λ q. cc) (λ q. cc)) in
-      let c = passed_whole r.rest (kind.Word word.Then) _ r.left refl in
-      let w = second.reads 10 (past r.rest) ks c.1 (lower_ends 10 (omega arith) st) in
-      record { found = _; rest = w.rest; parses = g.if_then (g.if (ap start_of h.mark)) r.parses c.0 w.parses (λ q. st.last (omega arith) (sym (mark_next w.rest ks w.left) ∙ q)); left = w.left; same = ap₂ (λ u v. phrase 0 (t.choice u v)) r.same w.same });
+  reads = λ ts ks e st. (let c = if_then x first ts _ e in
+      let w = second.reads 10 (past c.then) ks c.left (lower_ends 10 (omega arith) st) in
+      record { found = _; rest = w.rest; parses = g.if_then c.begins c.parses c.due w.parses (λ q. st.last (omega arith) (sym (mark_next w.rest ks w.left) ∙ q)); left = w.left; same = ap₂ (λ u v. phrase 0 (t.choice u v)) c.same w.same });
   opens = λ lf ts ks e st. absurd cc;
 }
 
 pub choice_else_is : (x y z : PhraseTree) → IsOperand x → IsOperand y → IsOperand z → IsKind (t.choice_else x y z)
 choice_else_is x y z first second third = record {
   low = omega arith;
-  reads = λ ts ks e st. (let h = next_is ts (kind.Word word.If) _ e in
-      let r = first.reads 11 (drop 1 ts) _ h.later (word_ends 11 (kind.Word word.Then) _ refl (λ q. cc) (λ q. cc)) in
-      let c = passed_whole r.rest (kind.Word word.Then) _ r.left refl in
-      let w = second.reads 10 (past r.rest) _ c.1 (else_ends _) in
+  reads = λ ts ks e st. (let c = if_then x first ts _ e in
+      let w = second.reads 10 (past c.then) _ c.left (else_ends _) in
       let d = next_is w.rest (kind.Word word.Else) _ w.left in
       let v = third.reads 11 (drop 1 w.rest) ks d.later st in
-      record { found = _; rest = v.rest; parses = g.if_else (g.if (ap start_of h.mark)) r.parses c.0 w.parses d.mark v.parses; left = v.left; same = ap₂ (λ a b. phrase 0 (t.choice_else a b (unplaced v.found.tree))) r.same w.same ∙ ap (λ b. phrase 0 (t.choice_else (unplaced x) (unplaced y) b)) v.same });
+      record { found = _; rest = v.rest; parses = g.if_else c.begins c.parses c.due w.parses d.mark v.parses; left = v.left; same = ap₂ (λ a b. phrase 0 (t.choice_else a b (unplaced v.found.tree))) c.same w.same ∙ ap (λ b. phrase 0 (t.choice_else (unplaced x) (unplaced y) b)) v.same });
   opens = λ lf ts ks e st. absurd cc;
 }
+
+-- two operands, with a word or a symbol between them
+unplaced_pair : (q : Pair) (a b : PhraseTree) → unplaced_kind (pair_kind q a b) ≡ pair_kind q (unplaced a) (unplaced b)
+unplaced_pair pair.While a b = refl
+unplaced_pair _ a b = refl
+
+pair_reads : {ts mid : Tokens} (q : Pair) (v : Kind) (x y : PhraseTree) → BeginsPrimary ts (h.Paired q) mid → kind_mark v ≡ middle q → half_mark (kind_mark v) ≡ kind_mark v → ((xs : List Kind) → EndsBefore 11 (v ∷ xs)) → IsOperand x → IsOperand y
+    → (ks : List Kind) → token_kinds mid ≡ operand_kinds 11 x (v ∷ operand_kinds 11 y ks) → EndsBefore 11 ks → ReadAs 0 ts (phrase 0 (pair_kind q (unplaced x) (unplaced y))) ks
+pair_reads {mid = mid} q v x y b between whole ends first second ks e st =
+    let r = first.reads 11 mid _ e (ends _) in
+    let c = passed_whole r.rest v _ r.left whole in
+    let w = second.reads 11 (past r.rest) ks c.1 st in
+    record { found = _; rest = w.rest; parses = g.paired b r.parses (c.0 ∙ between) w.parses; left = w.left; same = ap (phrase 0) (unplaced_pair q r.found.tree w.found.tree ∙ ap₂ (pair_kind q) r.same w.same) }
+
+do_ends : (ks : List Kind) → EndsBefore 11 (kind.Word word.Do ∷ ks)
+do_ends ks = word_ends 11 (kind.Word word.Do) ks refl (λ q. cc) (λ q. cc)
 
 pub while_is : (x y : PhraseTree) → IsOperand x → IsOperand y → IsKind (t.while x y)
 while_is x y first second = record {
   low = omega arith;
-  reads = λ ts ks e st. (let h = next_is ts (kind.Word word.While) _ e in
-      let r = first.reads 11 (drop 1 ts) _ h.later (word_ends 11 (kind.Word word.Do) _ refl (λ q. cc) (λ q. cc)) in
-      let c = passed_whole r.rest (kind.Word word.Do) _ r.left refl in
-      let w = second.reads 11 (past r.rest) ks c.1 st in
-      record { found = _; rest = w.rest; parses = g.paired (g.while (ap start_of h.mark)) r.parses c.0 w.parses; left = w.left; same = ap₂ (λ u v. phrase 0 (t.while u v)) r.same w.same });
+  reads = λ ts ks e st. (let n = next_is ts (kind.Word word.While) _ e in
+      pair_reads pair.While (kind.Word word.Do) x y (g.while (ap start_of n.mark)) refl refl do_ends first second ks n.later st);
   opens = λ lf ts ks e st. absurd cc;
 }
 
 pub repeat_is : (x y : PhraseTree) → IsOperand x → IsOperand y → IsKind (t.repeat x y)
 repeat_is x y first second = record {
   low = omega arith;
-  reads = λ ts ks e st. (let h = next_is ts (kind.Word word.Repeat) _ e in
-      let r = first.reads 11 (drop 1 ts) _ h.later (word_ends 11 (kind.Word word.Until) _ refl (λ q. cc) (λ q. cc)) in
-      let c = passed_whole r.rest (kind.Word word.Until) _ r.left refl in
-      let w = second.reads 11 (past r.rest) ks c.1 st in
-      record { found = _; rest = w.rest; parses = g.paired (g.repeat (ap start_of h.mark)) r.parses c.0 w.parses; left = w.left; same = ap₂ (λ u v. phrase 0 (t.repeat u v)) r.same w.same });
+  reads = λ ts ks e st. (let n = next_is ts (kind.Word word.Repeat) _ e in
+      pair_reads pair.Repeat (kind.Word word.Until) x y (g.repeat (ap start_of n.mark)) refl refl (λ xs. word_ends 11 (kind.Word word.Until) xs refl (λ q. cc) (λ q. cc)) first second ks n.later st);
   opens = λ lf ts ks e st. absurd cc;
 }
+
+-- a word, a name and a `<`
+record Counts (ts : Tokens) (k : Kind) (z : List ℕ) (ks : List Kind) : Type 0 where
+  first : mark ts ≡ kind_mark k
+  lower : mark (drop 1 ts) ≡ m.Lower
+  less : mark_due (drop 1 (drop 1 ts)) ≡ m.Symbol symbol.Less
+  name : first_name (drop 1 ts) ≡ z
+  left : token_kinds (past (drop 1 (drop 1 ts))) ≡ ks
+
+counts : (ts : Tokens) (k : Kind) (z : List ℕ) (ks : List Kind) → token_kinds ts ≡ k ∷ kind.Lower z ∷ kind.Symbol symbol.Less ∷ ks → Counts ts k z ks
+counts ts k z ks e =
+    let a = next_is ts k _ e in
+    let n = next_is (drop 1 ts) (kind.Lower z) _ a.later in
+    let d = passed_whole (drop 1 (drop 1 ts)) (kind.Symbol symbol.Less) _ n.later refl in
+    record { first = a.mark; lower = n.mark; less = d.0; name = n.name; left = d.1 }
 
 pub for_is : (z : List ℕ) (x y : PhraseTree) → IsOperand x → IsOperand y → IsKind (t.for z x y)
 for_is z x y first second = record {
   low = omega arith;
-  reads = λ ts ks e st. (let h = next_is ts (kind.Word word.For) _ e in
-      let n = next_is (drop 1 ts) (kind.Lower z) _ h.later in
-      let d = passed_whole (drop 1 (drop 1 ts)) (kind.Symbol symbol.Less) _ n.later refl in
-      let r = first.reads 11 (past (drop 1 (drop 1 ts))) _ d.1 (word_ends 11 (kind.Word word.Do) _ refl (λ q. cc) (λ q. cc)) in
-      let c = passed_whole r.rest (kind.Word word.Do) _ r.left refl in
-      let w = second.reads 11 (past r.rest) ks c.1 st in
-      record { found = _; rest = w.rest; parses = g.paired (g.for (ap start_of h.mark) n.mark d.0) r.parses c.0 w.parses; left = w.left; same = ap (λ a. phrase 0 (t.for a (unplaced r.found.tree) (unplaced w.found.tree))) n.name ∙ ap₂ (λ u v. phrase 0 (t.for z u v)) r.same w.same });
+  reads = λ ts ks e st. (let c = counts ts (kind.Word word.For) z _ e in
+      subst (λ a. ReadAs 0 ts (phrase 0 (t.for a (unplaced x) (unplaced y))) ks) c.name (pair_reads (pair.For (first_name (drop 1 ts))) (kind.Word word.Do) x y (g.for (ap start_of c.first) c.lower c.less) refl refl do_ends first second ks c.left st));
   opens = λ lf ts ks e st. absurd cc;
 }
 
 pub forall_is : (z : List ℕ) (x y : PhraseTree) → IsOperand x → IsOperand y → IsKind (t.forall z x y)
 forall_is z x y first second = record {
   low = omega arith;
-  reads = λ ts ks e st. (let h = next_is ts (kind.Word word.Forall) _ e in
-      let n = next_is (drop 1 ts) (kind.Lower z) _ h.later in
-      let d = passed_whole (drop 1 (drop 1 ts)) (kind.Symbol symbol.Less) _ n.later refl in
-      let r = first.reads 11 (past (drop 1 (drop 1 ts))) _ d.1 (word_ends 11 (kind.Symbol symbol.Colon) _ refl (λ q. cc) (λ q. cc)) in
-      let c = passed_whole r.rest (kind.Symbol symbol.Colon) _ r.left refl in
-      let w = second.reads 11 (past r.rest) ks c.1 st in
-      record { found = _; rest = w.rest; parses = g.paired (g.forall (ap start_of h.mark) n.mark d.0) r.parses c.0 w.parses; left = w.left; same = ap (λ a. phrase 0 (t.forall a (unplaced r.found.tree) (unplaced w.found.tree))) n.name ∙ ap₂ (λ u v. phrase 0 (t.forall z u v)) r.same w.same });
+  reads = λ ts ks e st. (let c = counts ts (kind.Word word.Forall) z _ e in
+      subst (λ a. ReadAs 0 ts (phrase 0 (t.forall a (unplaced x) (unplaced y))) ks) c.name (pair_reads (pair.Forall (first_name (drop 1 ts))) (kind.Symbol symbol.Colon) x y (g.forall (ap start_of c.first) c.lower c.less) refl refl (λ xs. word_ends 11 (kind.Symbol symbol.Colon) xs refl (λ q. cc) (λ q. cc)) first second ks c.left st));
   opens = λ lf ts ks e st. absurd cc;
 }
 

@@ -122,13 +122,17 @@ abbrev pub AreOperands : PhraseTrees → Type 0
 AreOperands no_phrase = Unit {0}
 AreOperands (phrase_then p ps) = IsOperand p × AreOperands ps
 
--- operands of the level were read, the same up to places
-pub record OthersAs (l : ℕ) (separator : Kind) (ts : Tokens) (ps : PhraseTrees) (ks : List Kind) : Type 0 where
+-- operands were read, the same up to places
+pub record OperandsAs (Read : Operands → Tokens → Type 0) (ps : PhraseTrees) (ks : List Kind) : Type 0 where
   pub all : Operands
   pub rest : Tokens
-  pub others : Others (grammar_level l) (kind_mark separator) ts all rest
+  pub read : Read all rest
   pub left : token_kinds rest ≡ ks
   pub same : unplaced_all (phrases_of all.trees) ≡ unplaced_all ps
+
+-- each behind a separator
+abbrev pub OthersAs : (l : ℕ) (separator : Kind) (ts : Tokens) → PhraseTrees → List Kind → Type 0
+OthersAs l separator ts = OperandsAs (Others (grammar_level l) (kind_mark separator) ts)
 
 -- what follows an operand is a separator, or what follows them all
 more_ends : (l : ℕ) (separator : Kind) (ps : PhraseTrees) (ks : List Kind) → EndsBefore l ks → ((xs : List Kind) → EndsBefore l (separator ∷ xs)) → EndsBefore l (more_operands separator l ps ks)
@@ -137,20 +141,16 @@ more_ends l separator (phrase_then p ps) ks st sep = sep _
 
 pub others_are : (l : ℕ) (separator : Kind) (ps : PhraseTrees) → AreOperands ps → (ts : Tokens) (ks : List Kind) → token_kinds ts ≡ more_operands separator l ps ks → EndsBefore l ks → next_mark ks ≢ kind_mark separator
     → ((xs : List Kind) → EndsBefore l (separator ∷ xs)) → OthersAs l separator ts ps ks
-others_are l separator no_phrase is ts ks e st other sep = record { all = no_operand; rest = ts; others = g.no_more (λ q. other (sym (mark_next ts ks e) ∙ q)); left = e; same = refl }
+others_are l separator no_phrase is ts ks e st other sep = record { all = no_operand; rest = ts; read = g.no_more (λ q. other (sym (mark_next ts ks e) ∙ q)); left = e; same = refl }
 others_are l separator (phrase_then p ps) is ts ks e st other sep =
     let h = next_is ts separator _ e in
     let r = is.0.reads l (drop 1 ts) (more_operands separator l ps ks) h.later (more_ends l separator ps ks st sep) in
     let o = others_are l separator ps is.1 r.rest ks r.left st other sep in
-    record { all = operand_then r.found o.all; rest = o.rest; others = g.one_more h.mark r.parses o.others; left = o.left; same = ap₂ phrase_then r.same o.same }
+    record { all = operand_then r.found o.all; rest = o.rest; read = g.one_more h.mark r.parses o.read; left = o.left; same = ap₂ phrase_then r.same o.same }
 
--- operands with commas between them, and what closes them
-pub record ListingAs (l : ℕ) (close : Kind) (ts : Tokens) (ps : PhraseTrees) (ks : List Kind) : Type 0 where
-  pub all : Operands
-  pub rest : Tokens
-  pub listing : Listing (grammar_level l) (kind_mark close) ts all rest
-  pub left : token_kinds rest ≡ ks
-  pub same : unplaced_all (phrases_of all.trees) ≡ unplaced_all ps
+-- with commas between them, and what closes them
+abbrev pub ListingAs : (l : ℕ) (close : Kind) (ts : Tokens) → PhraseTrees → List Kind → Type 0
+ListingAs l close ts = OperandsAs (Listing (grammar_level l) (kind_mark close) ts)
 
 pub comma_ends : (l : ℕ) (ks : List Kind) → EndsBefore l (comma_kind ∷ ks)
 comma_ends l ks = record { role = inl refl; bare = λ e. cc; last = λ h e. cc }
@@ -159,12 +159,12 @@ pub listing_is : (l : ℕ) (close : Kind) (ps : PhraseTrees) → AreOperands ps 
     → half_mark (kind_mark close) ≡ kind_mark close → ListingAs l close ts ps ks
 listing_is l close no_phrase is ts ks e st other whole =
     let c = passed_whole ts close ks e whole in
-    record { all = no_operand; rest = past ts; listing = g.no_operands c.0; left = c.1; same = refl }
+    record { all = no_operand; rest = past ts; read = g.no_operands c.0; left = c.1; same = refl }
 listing_is l close (phrase_then p ps) is ts ks e st other whole =
     let r = is.0.reads l ts (more_operands comma_kind l ps (close ∷ ks)) e (more_ends l comma_kind ps (close ∷ ks) st (comma_ends l)) in
     let o = others_are l comma_kind ps is.1 r.rest (close ∷ ks) r.left st other (comma_ends l) in
     let c = passed_whole o.rest close ks o.left whole in
-    record { all = operand_then r.found o.all; rest = past o.rest; listing = g.operands r.parses o.others c.0; left = c.1; same = ap₂ phrase_then r.same o.same }
+    record { all = operand_then r.found o.all; rest = past o.rest; read = g.operands r.parses o.read c.0; left = c.1; same = ap₂ phrase_then r.same o.same }
 
 -- ---- names
 

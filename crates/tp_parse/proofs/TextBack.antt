@@ -31,26 +31,7 @@ printed_is_read_back bytes ts s are is =
 
 level_unplaced : (k : KindTree) → kind_level (unplaced_kind k) ≡ kind_level k
 level_unplaced (t.number n) = refl
-level_unplaced (t.truth x) = refl
-level_unplaced (t.name x) = refl
-level_unplaced (t.list ps) = refl
-level_unplaced (t.size p) = refl
-level_unplaced (t.index p q) = refl
-level_unplaced (t.minus p) = refl
-level_unplaced (t.next p) = refl
-level_unplaced (t.negation p) = refl
-level_unplaced (t.binary o p q) = refl
-level_unplaced (t.conjunction ps) = refl
-level_unplaced (t.choice p q) = refl
-level_unplaced (t.choice_else p q v) = refl
-level_unplaced (t.while p q) = refl
-level_unplaced (t.repeat p q) = refl
-level_unplaced (t.for x p q) = refl
-level_unplaced (t.forall x p q) = refl
-level_unplaced (t.exists xs p) = refl
-level_unplaced (t.bare w) = refl
-level_unplaced (t.form x ps) = refl
-level_unplaced (t.call x ps) = refl
+level_unplaced _ = refl
 
 mutual
   operand_unplaced : (level : ℕ) (p : PhraseTree) → operand_spelling level (unplaced p) ≡ operand_spelling level p

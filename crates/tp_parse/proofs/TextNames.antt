@@ -1,5 +1,5 @@
 -- The names and numbers of a source stand in its text, so they may stand in one.
-use Rattle.std.proofs.Common.{◌≡◌, ◌≢◌, ◌⊎◌, inl, inr, ℕ, ◌+◌, ◌≤◌, Bool, true, false, cond, eqb, List, [], ◌∷◌, ◌++◌, length, take, drop, refl, sym, ap, ◌∙◌, arith}
+use Rattle.std.proofs.Common.{◌≡◌, ◌⊎◌, inl, inr, ℕ, ℤ, Some, subst, ◌+◌, ◌≤◌, Bool, true, false, cond, eqb, List, [], ◌∷◌, ◌++◌, length, take, drop, refl, sym, ap, ◌∙◌, arith}
 use Rattle.std.specs.List.{prefix_len}
 use Rattle.std.specs.Char.{is_ascii_alphabetic, is_ascii_uppercase}
 use Rattle.std.proofs.lemmas.Bool.{eqb-true}
@@ -8,10 +8,6 @@ use Rattle.std.proofs.lemmas.List.Folds.{prefix_len-append, length-prefix_len}
 use Rattle.tp_lex.specs.declared.token.Token.{Token}
 use Rattle.tp_lex.specs.declared.token.Kind.{Kind}
 use Rattle.tp_lex.specs.declared.token.Kind.TheVariants as kind
-use Rattle.tp_lex.specs.declared.token.Word.{Word}
-use Rattle.tp_lex.specs.declared.token.Word.TheVariants as word
-use Rattle.tp_lex.specs.declared.token.Symbol.{Symbol}
-use Rattle.tp_lex.specs.declared.token.Symbol.TheVariants as symbol
 use Rattle.tp_lex.specs.declared.piece.Piece.{Piece}
 use Rattle.tp_lex.specs.declared.piece.Piece.TheVariants.{Gap, Lexeme, Refused}
 use Rattle.tp_lex.specs.Bytes.{is_name_byte, spelled_value}
@@ -24,7 +20,6 @@ use Rattle.tp_lex.proofs.LawLemmas.{first_stays}
 use Rattle.tp_tree.specs.Tree.{PhraseTree, PhraseTrees, phrases_of, DefinitionTree, SourceTree}
 use Rattle.tp_parse.specs.declared.mark.Mark.{Mark}
 use Rattle.tp_parse.specs.declared.mark.Mark.TheVariants as m
-use Rattle.tp_parse.specs.declared.mark.Start.TheVariants as s
 use Rattle.tp_parse.specs.declared.mark.Prefix.{Prefix}
 use Rattle.tp_parse.specs.declared.mark.Prefix.TheVariants as prefix
 use Rattle.tp_parse.specs.declared.mark.Enclosure.{Enclosure}
@@ -41,6 +36,7 @@ use Rattle.tp_parse.specs.Found.{Found, Operands, atom_kind, listed_kind, enclos
 use Rattle.tp_parse.specs.Grammar as g
 use Rattle.tp_parse.specs.Grammar.{ReadsNames, BeginsPrimary, Parses, Goes, Others, Listing, Parameters, Sentence, Defines, Definitions, IsSource, Accepts}
 use Rattle.tp_parse.specs.SpelledText.{IsVariableText, IsLowerText, IsNumeral, AreVariableTexts, IsSpellable, IsSpellableKind, AreSpellable, IsSpellableDefinition, AreSpellableDefinitions, SourcesAreSpellable}
+use Rattle.tp_parse.proofs.HeadTokens.{mark_of_start, started, head_left}
 
 -- ---- the tokens of a text
 
@@ -128,94 +124,37 @@ passed ts are = elim (same (mark_due ts) (mark ts)) as (λ b. AreTokenTexts (con
 
 -- ---- the next token
 
-lower_variable : (k : Kind) → (kind_mark k ≡ m.Upper) ⊎ (kind_mark k ≡ m.Lower) → IsTokenText k → IsVariableText (kind_name k)
-lower_variable (kind.Upper x) e is = is
-lower_variable (kind.Lower x) e is = is.variable
-lower_variable (kind.Number n) (inl e) is = absurd cc
-lower_variable (kind.Number n) (inr e) is = absurd cc
-lower_variable (kind.Word w) (inl e) is = absurd cc
-lower_variable (kind.Word w) (inr e) is = absurd cc
-lower_variable (kind.Symbol x) (inl e) is = absurd cc
-lower_variable (kind.Symbol x) (inr e) is = absurd cc
+-- what holds of the name and the number of a token with this mark
+abbrev IsMarkText : Mark → List ℕ → ℤ → Type 0
+IsMarkText m.Upper x n = IsVariableText x
+IsMarkText m.Lower x n = IsLowerText x
+IsMarkText m.Number x n = IsNumeral n
+IsMarkText m.End x n = Unit {0}
+IsMarkText (m.Word w) x n = Unit {0}
+IsMarkText (m.Symbol y) x n = Unit {0}
+
+kind_text : (k : Kind) → IsTokenText k → IsMarkText (kind_mark k) (kind_name k) (kind_number k)
+kind_text (kind.Upper x) is = is
+kind_text (kind.Lower x) is = is
+kind_text (kind.Number n) is = is
+kind_text (kind.Word w) is = tt
+kind_text (kind.Symbol x) is = tt
+
+first_text : (ts : Tokens) → AreTokenTexts ts → IsMarkText (mark ts) (first_name ts) (first_number ts)
+unfolding mark first_name first_number
+first_text [] are = tt
+first_text (t ∷ ts) are = kind_text t.kind are.0
+
+text_of : (ts : Tokens) → AreTokenTexts ts → (x : Mark) → mark ts ≡ x → IsMarkText x (first_name ts) (first_number ts)
+text_of ts are x e = subst (λ y. IsMarkText y (first_name ts) (first_number ts)) e (first_text ts are)
 
 name_of : (ts : Tokens) → AreTokenTexts ts → (mark ts ≡ m.Upper) ⊎ (mark ts ≡ m.Lower) → IsVariableText (first_name ts)
-unfolding mark first_name
-name_of [] are (inl e) = absurd cc
-name_of [] are (inr e) = absurd cc
-name_of (t ∷ ts) are e = lower_variable t.kind e are.0
+name_of ts are (inl e) = text_of ts are m.Upper e
+name_of ts are (inr e) = (text_of ts are m.Lower e).variable
 
-kind_lower : (k : Kind) → kind_mark k ≡ m.Lower → IsTokenText k → IsLowerText (kind_name k)
-kind_lower (kind.Lower x) e is = is
-kind_lower (kind.Upper x) e is = absurd cc
-kind_lower (kind.Number n) e is = absurd cc
-kind_lower (kind.Word w) e is = absurd cc
-kind_lower (kind.Symbol x) e is = absurd cc
-
-lower_of : (ts : Tokens) → AreTokenTexts ts → mark ts ≡ m.Lower → IsLowerText (first_name ts)
-unfolding mark first_name
-lower_of [] are e = absurd cc
-lower_of (t ∷ ts) are e = kind_lower t.kind e are.0
-
-kind_numeral : (k : Kind) → kind_mark k ≡ m.Number → IsTokenText k → IsNumeral (kind_number k)
-kind_numeral (kind.Number n) e is = is
-kind_numeral (kind.Lower x) e is = absurd cc
-kind_numeral (kind.Upper x) e is = absurd cc
-kind_numeral (kind.Word w) e is = absurd cc
-kind_numeral (kind.Symbol x) e is = absurd cc
-
-number_of : (ts : Tokens) → AreTokenTexts ts → mark ts ≡ m.Number → IsNumeral (first_number ts)
-unfolding mark first_number
-number_of [] are e = absurd cc
-number_of (t ∷ ts) are e = kind_numeral t.kind e are.0
-
--- what begins a name, a call or a number
-word_upper : (w : Word) → start_of (m.Word w) ≢ s.Name
-word_upper word.If e = cc
-word_upper _ e = cc
-
-word_lower : (w : Word) → start_of (m.Word w) ≢ s.NameOrCall
-word_lower word.If e = cc
-word_lower _ e = cc
-
-word_number : (w : Word) → start_of (m.Word w) ≢ s.Number
-word_number word.If e = cc
-word_number _ e = cc
-
-symbol_upper : (x : Symbol) → start_of (m.Symbol x) ≢ s.Name
-symbol_upper symbol.Bar e = cc
-symbol_upper _ e = cc
-
-symbol_lower : (x : Symbol) → start_of (m.Symbol x) ≢ s.NameOrCall
-symbol_lower symbol.Bar e = cc
-symbol_lower _ e = cc
-
-symbol_number : (x : Symbol) → start_of (m.Symbol x) ≢ s.Number
-symbol_number symbol.Bar e = cc
-symbol_number _ e = cc
-
-starts_upper : (x : Mark) → start_of x ≡ s.Name → x ≡ m.Upper
-starts_upper m.Upper e = refl
-starts_upper m.Lower e = absurd cc
-starts_upper m.End e = absurd cc
-starts_upper m.Number e = absurd cc
-starts_upper (m.Word w) e = absurd (word_upper w e)
-starts_upper (m.Symbol x) e = absurd (symbol_upper x e)
-
-starts_lower : (x : Mark) → start_of x ≡ s.NameOrCall → x ≡ m.Lower
-starts_lower m.Lower e = refl
-starts_lower m.Upper e = absurd cc
-starts_lower m.End e = absurd cc
-starts_lower m.Number e = absurd cc
-starts_lower (m.Word w) e = absurd (word_lower w e)
-starts_lower (m.Symbol x) e = absurd (symbol_lower x e)
-
-starts_number : (x : Mark) → start_of x ≡ s.Number → x ≡ m.Number
-starts_number m.Number e = refl
-starts_number m.Upper e = absurd cc
-starts_number m.Lower e = absurd cc
-starts_number m.End e = absurd cc
-starts_number (m.Word w) e = absurd (word_number w e)
-starts_number (m.Symbol x) e = absurd (symbol_number x e)
+-- of one that starts so
+start_text : (ts : Tokens) → AreTokenTexts ts → (x : Mark) → mark_of_start (start_of (mark ts)) ≡ Some x → IsMarkText x (first_name ts) (first_number ts)
+start_text ts are x e = text_of ts are x (started (mark ts) x e)
 
 names_of : {ts rest : Tokens} {xs : List (List ℕ)} → ReadsNames ts xs rest → AreTokenTexts ts → AreVariableTexts xs × AreTokenTexts rest
 names_of {ts} (g.last_name n e) are = ((name_of ts are n, tt), dropped ts are)
@@ -263,23 +202,18 @@ prefixed_text prefix.Not a w = w
 prefixed_text prefix.Minus a w = w
 prefixed_text prefix.Next a w = w
 
+own_text : {ts rest : Tokens} {x : Head} → BeginsPrimary ts x rest → AreTokenTexts ts → IsHeadText x
+own_text {ts} (g.number e) are = start_text ts are m.Number (ap mark_of_start e)
+own_text {ts} (g.upper_name e) are = start_text ts are m.Upper (ap mark_of_start e)
+own_text {ts} (g.lower_name e f) are = (start_text ts are m.Lower (ap mark_of_start e)).variable
+own_text {ts} (g.call e f) are = start_text ts are m.Lower (ap mark_of_start e)
+own_text {ts} (g.for e f l) are = text_of (drop 1 ts) (dropped ts are) m.Lower f
+own_text {ts} (g.forall e f l) are = text_of (drop 1 ts) (dropped ts are) m.Lower f
+own_text {ts} (g.exists e d f) are = (names_of d (dropped ts are)).0
+own_text _ are = tt
+
 head_text : {ts rest : Tokens} {x : Head} → BeginsPrimary ts x rest → AreTokenTexts ts → IsHeadText x × AreTokenTexts rest
-head_text {ts} (g.number e) are = (number_of ts are (starts_number (mark ts) e), dropped ts are)
-head_text {ts} (g.truth e) are = (tt, dropped ts are)
-head_text {ts} (g.upper_name e) are = (name_of ts are (inl (starts_upper (mark ts) e)), dropped ts are)
-head_text {ts} (g.lower_name e f) are = (name_of ts are (inr (starts_lower (mark ts) e)), dropped ts are)
-head_text {ts} (g.call e f) are = (lower_of ts are (starts_lower (mark ts) e), dropped (drop 1 ts) (dropped ts are))
-head_text {ts} (g.bare e) are = (tt, dropped ts are)
-head_text {ts} (g.form e f) are = (tt, passed (drop 1 ts) (dropped ts are))
-head_text {ts} (g.empty_list e) are = (tt, dropped ts are)
-head_text {ts} (g.list e) are = (tt, passed ts are)
-head_text {ts} (g.enclosure e) are = (tt, dropped ts are)
-head_text {ts} (g.if e) are = (tt, dropped ts are)
-head_text {ts} (g.while e) are = (tt, dropped ts are)
-head_text {ts} (g.repeat e) are = (tt, dropped ts are)
-head_text {ts} (g.for e f l) are = let on = dropped ts are in (lower_of (drop 1 ts) on f, passed (drop 1 (drop 1 ts)) (dropped (drop 1 ts) on))
-head_text {ts} (g.forall e f l) are = let on = dropped ts are in (lower_of (drop 1 ts) on f, passed (drop 1 (drop 1 ts)) (dropped (drop 1 ts) on))
-head_text {ts} (g.exists {mid = mid} e d f) are = let read = names_of d (dropped ts are) in (read.0, passed mid read.1)
+head_text b are = (own_text b are, head_left AreTokenTexts dropped passed b are)
 
 -- ---- phrases
 
@@ -352,7 +286,7 @@ defines_text {ts} (g.defines {mid = mid} e n o ps q b) are =
     let on = dropped ts are in
     let bound = parameters_text ps (passed (drop 1 (drop 1 ts)) (dropped (drop 1 ts) on)) in
     let body = sentence_text b (passed mid bound.1) in
-    ((lower_of (drop 1 ts) on n, bound.0, body.0), body.1)
+    ((text_of (drop 1 ts) on m.Lower n, bound.0, body.0), body.1)
 
 definitions_text : {ts rest : Tokens} {ds : List DefinitionTree} {i : ℕ} → Definitions ts ds i rest → AreTokenTexts ts → AreSpellableDefinitions ds × AreTokenTexts rest
 definitions_text (g.no_definition e) are = (tt, are)

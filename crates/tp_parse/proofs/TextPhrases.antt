@@ -32,83 +32,57 @@ pub data Follows : List ℕ → Type 0 where
 
 pub ends : {z : List ℕ} → Follows z → EndsName z
 ends space = record { name = refl; digits = refl }
-ends close = record { name = refl; digits = refl }
-ends comma = record { name = refl; digits = refl }
-ends stop = record { name = refl; digits = refl }
-ends greater = record { name = refl; digits = refl }
-ends open_square = record { name = refl; digits = refl }
-ends close_square = record { name = refl; digits = refl }
-ends bar = record { name = refl; digits = refl }
+ends _ = record { name = refl; digits = refl }
 
 pub round_ends : (z : List ℕ) → EndsName (40 ∷ z)
 round_ends z = record { name = refl; digits = refl }
 
 -- ---- symbols
 
-sym_read : (x : Symbol) (z : List ℕ) (ks : List Kind) → IsRead z ks → longest_symbol (symbol_spelling x ++ z) ≡ Some x → IsRead (symbol_spelling x ++ z) (kind.Symbol x ∷ ks)
-sym_read x z ks r e = symbol_read x z ks e r
+-- no longer symbol begins with it
+abbrev pub is_longest : Symbol → Bool
+is_longest symbol.Less = false
+is_longest symbol.Greater = false
+is_longest symbol.Colon = false
+is_longest _ = true
 
-pub open_read : (z : List ℕ) (ks : List Kind) → IsRead z ks → IsRead (40 ∷ z) (open_kind ∷ ks)
+longest_stands : (x : Symbol) → is_longest x ≡ true → (z : List ℕ) → longest_symbol (symbol_spelling x ++ z) ≡ Some x
 unfolding longest_symbol
-open_read z ks r = symbol_read symbol.OpenRound z ks refl r
+longest_stands symbol.Less e z = absurd cc
+longest_stands symbol.Greater e z = absurd cc
+longest_stands symbol.Colon e z = absurd cc
+longest_stands _ e z = refl
 
-pub close_read : (z : List ℕ) (ks : List Kind) → IsRead z ks → IsRead (41 ∷ z) (close_kind ∷ ks)
+pub longest_read : (x : Symbol) → is_longest x ≡ true → (z : List ℕ) (ks : List Kind) → IsRead z ks → IsRead (symbol_spelling x ++ z) (kind.Symbol x ∷ ks)
+longest_read x e z ks r = symbol_read x z ks (longest_stands x e z) r
+
+-- before a space each symbol is the longest
+spaced_stands : (x : Symbol) (z : List ℕ) → longest_symbol (symbol_spelling x ++ (32 ∷ z)) ≡ Some x
 unfolding longest_symbol
-close_read z ks r = symbol_read symbol.CloseRound z ks refl r
+spaced_stands symbol.Less z = refl
+spaced_stands _ z = refl
 
-pub bar_read : (z : List ℕ) (ks : List Kind) → IsRead z ks → IsRead (124 ∷ z) (kind.Symbol symbol.Bar ∷ ks)
-unfolding longest_symbol
-bar_read z ks r = symbol_read symbol.Bar z ks refl r
+symbol_then : (x : Symbol) (z : List ℕ) (ks : List Kind) → IsRead z ks → IsRead (symbol_spelling x ++ (32 ∷ z)) (kind.Symbol x ∷ ks)
+symbol_then x z ks r = symbol_read x (32 ∷ z) ks (spaced_stands x z) (space_read z ks r)
 
-pub open_square_read : (z : List ℕ) (ks : List Kind) → IsRead z ks → IsRead (91 ∷ z) (kind.Symbol symbol.OpenSquare ∷ ks)
-unfolding longest_symbol
-open_square_read z ks r = symbol_read symbol.OpenSquare z ks refl r
-
-pub close_square_read : (z : List ℕ) (ks : List Kind) → IsRead z ks → IsRead (93 ∷ z) (kind.Symbol symbol.CloseSquare ∷ ks)
-unfolding longest_symbol
-close_square_read z ks r = symbol_read symbol.CloseSquare z ks refl r
-
-pub minus_read : (z : List ℕ) (ks : List Kind) → IsRead z ks → IsRead (45 ∷ z) (kind.Symbol symbol.Minus ∷ ks)
-unfolding longest_symbol
-minus_read z ks r = symbol_read symbol.Minus z ks refl r
-
-pub stop_read : (z : List ℕ) (ks : List Kind) → IsRead z ks → IsRead (46 ∷ z) (kind.Symbol symbol.Stop ∷ ks)
-unfolding longest_symbol
-stop_read z ks r = symbol_read symbol.Stop z ks refl r
-
-pub empty_list_read : (z : List ℕ) (ks : List Kind) → IsRead z ks → IsRead (60 ∷ 62 ∷ z) (kind.Symbol symbol.Differs ∷ ks)
-unfolding longest_symbol
-empty_list_read z ks r = symbol_read symbol.Differs z ks refl r
-
--- a comma and a space
 pub comma_read : (z : List ℕ) (ks : List Kind) → IsRead z ks → IsRead (44 ∷ 32 ∷ z) (comma_kind ∷ ks)
-unfolding longest_symbol
-comma_read z ks r = symbol_read symbol.Comma (32 ∷ z) ks refl (space_read z ks r)
+comma_read = symbol_then symbol.Comma
 
 -- a colon with a space on each side, and a `<`
 pub colon_read : (z : List ℕ) (ks : List Kind) → IsRead z ks → IsRead (32 ∷ 58 ∷ 32 ∷ z) (kind.Symbol symbol.Colon ∷ ks)
-unfolding longest_symbol
-colon_read z ks r = space_read _ _ (symbol_read symbol.Colon (32 ∷ z) ks refl (space_read z ks r))
+colon_read z ks r = space_read _ _ (symbol_then symbol.Colon z ks r)
 
 pub less_read : (z : List ℕ) (ks : List Kind) → IsRead z ks → IsRead (32 ∷ 60 ∷ 32 ∷ z) (kind.Symbol symbol.Less ∷ ks)
-unfolding longest_symbol
-less_read z ks r = space_read _ _ (symbol_read symbol.Less (32 ∷ z) ks refl (space_read z ks r))
+less_read z ks r = space_read _ _ (symbol_then symbol.Less z ks r)
 
 pub equal_read : (z : List ℕ) (ks : List Kind) → IsRead z ks → IsRead (41 ∷ 32 ∷ 61 ∷ 32 ∷ z) (close_kind ∷ kind.Symbol symbol.Equal ∷ ks)
-unfolding longest_symbol
-equal_read z ks r = close_read _ _ (space_read _ _ (symbol_read symbol.Equal (32 ∷ z) ks refl (space_read z ks r)))
+equal_read z ks r = longest_read symbol.CloseRound refl _ _ (space_read _ _ (symbol_then symbol.Equal z ks r))
 
 -- the end of a list
 greater_stands : {z : List ℕ} → Follows z → longest_symbol (62 ∷ z) ≡ Some symbol.Greater
 unfolding longest_symbol
 greater_stands space = refl
-greater_stands close = refl
-greater_stands comma = refl
-greater_stands stop = refl
-greater_stands greater = refl
-greater_stands open_square = refl
-greater_stands close_square = refl
-greater_stands bar = refl
+greater_stands _ = refl
 
 pub greater_read : (z : List ℕ) (ks : List Kind) → Follows z → IsRead z ks → IsRead (62 ∷ z) (kind.Symbol symbol.Greater ∷ ks)
 greater_read z ks fo r = symbol_read symbol.Greater z ks (greater_stands fo) r
@@ -122,25 +96,27 @@ word_then w z ks r = word_read w (32 ∷ z) ks (ends space) (space_read z ks r)
 pub between : (w : Word) (z : List ℕ) (ks : List Kind) → IsRead z ks → IsRead (32 ∷ (word_spelling w ++ (32 ∷ z))) (kind.Word w ∷ ks)
 between w z ks r = space_read _ _ (word_then w z ks r)
 
+-- the text is that of a word or a symbol
+abbrev IsTextOf : Kind → List ℕ → Type 0
+IsTextOf (kind.Word w) text = text ≡ word_spelling w
+IsTextOf (kind.Symbol x) text = text ≡ symbol_spelling x
+IsTextOf (kind.Upper x) text = ⊥
+IsTextOf (kind.Lower x) text = ⊥
+IsTextOf (kind.Number n) text = ⊥
+
+spaced_read : (k : Kind) (text z : List ℕ) (ks : List Kind) → IsTextOf k text → IsRead z ks → IsRead (32 ∷ (text ++ (32 ∷ z))) (k ∷ ks)
+spaced_read (kind.Word w) text z ks is r = subst (λ y. IsRead (32 ∷ (y ++ (32 ∷ z))) (kind.Word w ∷ ks)) (sym is) (between w z ks r)
+spaced_read (kind.Symbol x) text z ks is r = subst (λ y. IsRead (32 ∷ (y ++ (32 ∷ z))) (kind.Symbol x ∷ ks)) (sym is) (space_read _ _ (symbol_then x z ks r))
+spaced_read (kind.Upper x) text z ks is r = absurd is
+spaced_read (kind.Lower x) text z ks is r = absurd is
+spaced_read (kind.Number n) text z ks is r = absurd is
+
+op_text : (o : Op) → IsTextOf (op_kind o) (op_spelling o)
+op_text op.Chop = refl
+op_text _ = refl
+
 pub op_read : (o : Op) (z : List ℕ) (ks : List Kind) → IsRead z ks → IsRead (32 ∷ (op_spelling o ++ (32 ∷ z))) (op_kind o ∷ ks)
-unfolding longest_symbol
-op_read op.Chop z ks r = space_read _ _ (symbol_read symbol.Semicolon (32 ∷ z) ks refl (space_read z ks r))
-op_read op.Proj z ks r = between word.Proj z ks r
-op_read op.Or z ks r = between word.Or z ks r
-op_read op.Equal z ks r = space_read _ _ (symbol_read symbol.Equal (32 ∷ z) ks refl (space_read z ks r))
-op_read op.Differs z ks r = space_read _ _ (symbol_read symbol.Differs (32 ∷ z) ks refl (space_read z ks r))
-op_read op.Less z ks r = space_read _ _ (symbol_read symbol.Less (32 ∷ z) ks refl (space_read z ks r))
-op_read op.LessEqual z ks r = space_read _ _ (symbol_read symbol.LessEqual (32 ∷ z) ks refl (space_read z ks r))
-op_read op.Greater z ks r = space_read _ _ (symbol_read symbol.Greater (32 ∷ z) ks refl (space_read z ks r))
-op_read op.GreaterEqual z ks r = space_read _ _ (symbol_read symbol.GreaterEqual (32 ∷ z) ks refl (space_read z ks r))
-op_read op.Gets z ks r = between word.Gets z ks r
-op_read op.Arrow z ks r = space_read _ _ (symbol_read symbol.Arrow (32 ∷ z) ks refl (space_read z ks r))
-op_read op.Becomes z ks r = space_read _ _ (symbol_read symbol.Becomes (32 ∷ z) ks refl (space_read z ks r))
-op_read op.Plus z ks r = space_read _ _ (symbol_read symbol.Plus (32 ∷ z) ks refl (space_read z ks r))
-op_read op.Minus z ks r = space_read _ _ (symbol_read symbol.Minus (32 ∷ z) ks refl (space_read z ks r))
-op_read op.Times z ks r = space_read _ _ (symbol_read symbol.Times (32 ∷ z) ks refl (space_read z ks r))
-op_read op.Div z ks r = between word.Div z ks r
-op_read op.Mod z ks r = between word.Mod z ks r
+op_read o z ks r = spaced_read (op_kind o) (op_spelling o) z ks (op_text o) r
 
 -- a text that begins with a word
 word_starts : (w : Word) (z : List ℕ) → longest_symbol (60 ∷ (word_spelling w ++ z)) ≡ Some symbol.Less
@@ -185,7 +161,7 @@ unfolding longest_symbol
 round_starts z = refl
 
 round_spells : (k : KindTree) → SpellsKind k → (z : List ℕ) (ks : List Kind) → IsRead z ks → Spells (40 ∷ (kind_spelling k ++ (41 ∷ z))) (open_kind ∷ kind_kinds k (close_kind ∷ ks))
-round_spells k s z ks r = record { reads = open_read _ _ (s (41 ∷ z) (close_kind ∷ ks) close (close_read z ks r)).reads; starts = other (round_starts _) refl }
+round_spells k s z ks r = record { reads = longest_read symbol.OpenRound refl _ _ (s (41 ∷ z) (close_kind ∷ ks) close (longest_read symbol.CloseRound refl z ks r)).reads; starts = other (round_starts _) refl }
 
 pub operand_spells : (at : ℕ) (k : KindTree) → SpellsKind k → SpellsOperand (phrase at k)
 operand_spells at k s level z ks fo r = by (nat_le (kind_level k) level)
@@ -217,8 +193,8 @@ ands_read level (phrase_then p ps) s z ks fo r =
 
 -- operands in `(` and `)`
 pub round_operands : (ps : PhraseTrees) → SpellOperands ps → (z : List ℕ) (ks : List Kind) → IsRead z ks → IsRead (40 ∷ (operands_spelling [] (codes ", ") 11 ps ++ (41 ∷ z))) (open_kind ∷ operands_kinds comma_kind 11 ps (close_kind ∷ ks))
-round_operands no_phrase s z ks r = open_read _ _ (close_read z ks r)
+round_operands no_phrase s z ks r = longest_read symbol.OpenRound refl _ _ (longest_read symbol.CloseRound refl z ks r)
 round_operands (phrase_then p ps) s z ks r =
-    let more = commas_read 11 ps s.1 (41 ∷ z) (close_kind ∷ ks) close (close_read z ks r) in
+    let more = commas_read 11 ps s.1 (41 ∷ z) (close_kind ∷ ks) close (longest_read symbol.CloseRound refl z ks r) in
     let shape : operands_spelling [] (codes ", ") 11 (phrase_then p ps) ++ (41 ∷ z) ≡ operand_spelling 11 p ++ (operands_spelling (codes ", ") (codes ", ") 11 ps ++ (41 ∷ z)) = append_assoc (operand_spelling 11 p) _ _ in
-    open_read _ _ (subst (λ y. IsRead y (operands_kinds comma_kind 11 (phrase_then p ps) (close_kind ∷ ks))) (sym shape) (s.0 11 _ _ more.0 more.1).reads)
+    longest_read symbol.OpenRound refl _ _ (subst (λ y. IsRead y (operands_kinds comma_kind 11 (phrase_then p ps) (close_kind ∷ ks))) (sym shape) (s.0 11 _ _ more.0 more.1).reads)

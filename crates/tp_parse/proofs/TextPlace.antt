@@ -42,10 +42,7 @@ plain_text (kind.Symbol x) = symbol_spelling x
 
 plain_mark : (k : Kind) → kind_mark (plain k) ≡ kind_mark k
 plain_mark (kind.Upper x) = refl
-plain_mark (kind.Lower x) = refl
-plain_mark (kind.Number n) = refl
-plain_mark (kind.Word w) = refl
-plain_mark (kind.Symbol x) = refl
+plain_mark _ = refl
 
 -- such tokens, with a blank behind each
 abbrev plain_kinds : Tokens → List Kind

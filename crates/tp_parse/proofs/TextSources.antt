@@ -17,10 +17,10 @@ use Rattle.tp_tree.specs.Tree as t
 use Rattle.tp_tree.specs.Tree.{PhraseTree, phrase, KindTree, PhraseTrees, no_phrase, phrase_then, DefinitionTree, SourceTree}
 use Rattle.tp_tree.specs.Levels.{left_level, right_level}
 use Rattle.tp_tree.specs.Spelling.{op_spelling, form_spelling, names_spelling, operand_spelling, operands_spelling, phrase_spelling, definition_spelling, definitions_spelling, source_spelling}
-use Rattle.tp_parse.specs.Spelled.{form_kind, more_names, name_kinds, list_opened, phrase_kinds, definition_kinds, definitions_kinds, source_kinds, HasTwo, IsWhole, IsWholeKind, AreWhole, AreWholeBodies}
+use Rattle.tp_parse.specs.Spelled.{form_kind, operand_kinds, more_names, name_kinds, list_opened, phrase_kinds, definition_kinds, definitions_kinds, source_kinds, HasTwo, IsWhole, IsWholeKind, AreWhole, AreWholeBodies}
 use Rattle.tp_parse.specs.SpelledText.{IsVariableText, IsLowerText, IsNumeral, AreVariableTexts, IsSpellable, IsSpellableKind, AreSpellable, IsSpellableDefinition, AreSpellableDefinitions, SpellingsHaveTheirTokens}
 use Rattle.tp_parse.proofs.TextTokens.{IsRead, nothing_read, whole_read, blank_read, space_read, EndsName, name_read, lower_read, number_begins, number_read, minus, other, Spells, opened_read}
-use Rattle.tp_parse.proofs.TextPhrases.{Follows, space, close, stop, greater, open_square, close_square, bar, ends, round_ends, open_read, bar_read, open_square_read, close_square_read, minus_read, stop_read, empty_list_read, comma_read, colon_read, less_read, equal_read, greater_read, between, op_read, word_spells, letter_starts, digit_starts, variable_opened, SpellsKind, SpellsOperand, moved, operand_spells, SpellOperands, commas_read, ands_read, round_operands}
+use Rattle.tp_parse.proofs.TextPhrases.{Follows, space, close, stop, greater, open_square, close_square, bar, ends, round_ends, longest_read, comma_read, colon_read, less_read, equal_read, greater_read, between, op_read, word_spells, letter_starts, digit_starts, variable_opened, SpellsKind, SpellsOperand, moved, operand_spells, SpellOperands, commas_read, ands_read, round_operands}
 
 number_spells : (n : ℤ) → IsNumeral n → SpellsKind (t.number n)
 number_spells n is = subst (λ m. SpellsKind (t.number m)) (sym is.1) (λ z ks fo r. record { reads = number_read is.0 z ks is.2 (ends fo) r; starts = other (digit_starts (decimal is.0) z (number_begins is.0 is.2)) refl })
@@ -55,7 +55,7 @@ opened_twice (kind.Upper x ∷ ks) = refl
 opened_twice (kind.Lower x ∷ ks) = refl
 
 list_spells : (ps : PhraseTrees) → SpellOperands ps → SpellsKind (t.list ps)
-list_spells no_phrase s z ks fo r = record { reads = empty_list_read z ks r; starts = other (less_starts (62 ∷ z)) refl }
+list_spells no_phrase s z ks fo r = record { reads = longest_read symbol.Differs refl z ks r; starts = other (less_starts (62 ∷ z)) refl }
 list_spells (phrase_then p ps) s z ks fo r =
     let A = operand_spelling 4 p in
     let B = operands_spelling (codes ", ") (codes ", ") 4 ps in
@@ -67,20 +67,20 @@ list_spells (phrase_then p ps) s z ks fo r =
 size_spells : (p : PhraseTree) → SpellsOperand p → SpellsKind (t.size p)
 size_spells p s z ks fo r =
     let A = operand_spelling 4 p in
-    let first = s 4 (124 ∷ z) (kind.Symbol symbol.Bar ∷ ks) bar (bar_read z ks r) in
+    let first = s 4 (124 ∷ z) (kind.Symbol symbol.Bar ∷ ks) bar (longest_read symbol.Bar refl z ks r) in
     let shape : (codes "|" ++ A ++ codes "|") ++ z ≡ codes "|" ++ (A ++ (codes "|" ++ z)) = simp append_assoc in
-    moved _ _ _ shape (record { reads = bar_read _ _ first.reads; starts = other (bar_starts _) refl })
+    moved _ _ _ shape (record { reads = longest_read symbol.Bar refl _ _ first.reads; starts = other (bar_starts _) refl })
 
 index_spells : (p q : PhraseTree) → SpellsOperand p → SpellsOperand q → SpellsKind (t.index p q)
 index_spells p q s u z ks fo r =
     let A = operand_spelling 1 p in
     let B = operand_spelling 11 q in
-    let second = u 11 (93 ∷ z) (kind.Symbol symbol.CloseSquare ∷ ks) close_square (close_square_read z ks r) in
+    let second = u 11 (93 ∷ z) (kind.Symbol symbol.CloseSquare ∷ ks) close_square (longest_read symbol.CloseSquare refl z ks r) in
     let shape : (A ++ codes "[" ++ B ++ codes "]") ++ z ≡ A ++ (codes "[" ++ (B ++ (codes "]" ++ z))) = simp append_assoc in
-    moved _ _ _ shape (s 1 _ _ open_square (open_square_read _ _ second.reads))
+    moved _ _ _ shape (s 1 _ _ open_square (longest_read symbol.OpenSquare refl _ _ second.reads))
 
 minus_spells : (p : PhraseTree) → SpellsOperand p → SpellsKind (t.minus p)
-minus_spells p s z ks fo r = let first = s 2 z ks fo r in record { reads = minus_read _ _ first.reads; starts = minus first.reads }
+minus_spells p s z ks fo r = let first = s 2 z ks fo r in record { reads = longest_read symbol.Minus refl _ _ first.reads; starts = minus first.reads }
 
 -- a word and a space, and then more
 opens_with : (w : Word) (z : List ℕ) (ks : List Kind) → IsRead z ks → Spells (word_spelling w ++ (32 ∷ z)) (kind.Word w ∷ ks)
@@ -106,12 +106,16 @@ conjunction_spells (phrase_then p ps) two s z ks fo r =
     let shape : operands_spelling [] (codes " and ") 6 (phrase_then p ps) ++ z ≡ operand_spelling 6 p ++ (operands_spelling (codes " and ") (codes " and ") 6 ps ++ z) = append_assoc (operand_spelling 6 p) _ _ in
     moved _ _ _ shape (s.0 6 _ _ more.0 more.1)
 
+-- a word, an operand, another word and an operand
+two_parts : (w A v B z : List ℕ) → (w ++ A ++ v ++ B) ++ z ≡ w ++ (A ++ (v ++ (B ++ z)))
+two_parts w A v B z = simp append_assoc
+
+two_words : (w v : Word) (level : ℕ) (p q : PhraseTree) → SpellsOperand p → SpellsOperand q → (z : List ℕ) (ks : List Kind) → Follows z → IsRead z ks
+    → Spells (word_spelling w ++ (32 ∷ (operand_spelling 11 p ++ (32 ∷ (word_spelling v ++ (32 ∷ (operand_spelling level q ++ z))))))) (kind.Word w ∷ operand_kinds 11 p (kind.Word v ∷ operand_kinds level q ks))
+two_words w v level p q s u z ks fo r = opens_with w _ _ (s 11 _ _ space (between v _ _ (u level z ks fo r).reads)).reads
+
 choice_spells : (p q : PhraseTree) → SpellsOperand p → SpellsOperand q → SpellsKind (t.choice p q)
-choice_spells p q s u z ks fo r =
-    let A = operand_spelling 11 p in
-    let B = operand_spelling 10 q in
-    let shape : (codes "if " ++ A ++ codes " then " ++ B) ++ z ≡ codes "if " ++ (A ++ (codes " then " ++ (B ++ z))) = simp append_assoc in
-    moved _ _ _ shape (opens_with word.If _ _ (s 11 _ _ space (between word.Then _ _ (u 10 z ks fo r).reads)).reads)
+choice_spells p q s u z ks fo r = moved _ _ _ (two_parts (codes "if ") (operand_spelling 11 p) (codes " then ") (operand_spelling 10 q) z) (two_words word.If word.Then 10 p q s u z ks fo r)
 
 choice_else_spells : (p q v : PhraseTree) → SpellsOperand p → SpellsOperand q → SpellsOperand v → SpellsKind (t.choice_else p q v)
 choice_else_spells p q v s u w z ks fo r =
@@ -122,32 +126,24 @@ choice_else_spells p q v s u w z ks fo r =
     moved _ _ _ shape (opens_with word.If _ _ (s 11 _ _ space (between word.Then _ _ (u 10 _ _ space (between word.Else _ _ (w 11 z ks fo r).reads)).reads)).reads)
 
 while_spells : (p q : PhraseTree) → SpellsOperand p → SpellsOperand q → SpellsKind (t.while p q)
-while_spells p q s u z ks fo r =
-    let A = operand_spelling 11 p in
-    let B = operand_spelling 11 q in
-    let shape : (codes "while " ++ A ++ codes " do " ++ B) ++ z ≡ codes "while " ++ (A ++ (codes " do " ++ (B ++ z))) = simp append_assoc in
-    moved _ _ _ shape (opens_with word.While _ _ (s 11 _ _ space (between word.Do _ _ (u 11 z ks fo r).reads)).reads)
+while_spells p q s u z ks fo r = moved _ _ _ (two_parts (codes "while ") (operand_spelling 11 p) (codes " do ") (operand_spelling 11 q) z) (two_words word.While word.Do 11 p q s u z ks fo r)
 
 repeat_spells : (p q : PhraseTree) → SpellsOperand p → SpellsOperand q → SpellsKind (t.repeat p q)
-repeat_spells p q s u z ks fo r =
-    let A = operand_spelling 11 p in
-    let B = operand_spelling 11 q in
-    let shape : (codes "repeat " ++ A ++ codes " until " ++ B) ++ z ≡ codes "repeat " ++ (A ++ (codes " until " ++ (B ++ z))) = simp append_assoc in
-    moved _ _ _ shape (opens_with word.Repeat _ _ (s 11 _ _ space (between word.Until _ _ (u 11 z ks fo r).reads)).reads)
+repeat_spells p q s u z ks fo r = moved _ _ _ (two_parts (codes "repeat ") (operand_spelling 11 p) (codes " until ") (operand_spelling 11 q) z) (two_words word.Repeat word.Until 11 p q s u z ks fo r)
+
+-- a word, a name, its bound, what stands behind that, and an operand
+counted_parts : (w x A v B z : List ℕ) → ((w ++ x ++ codes " < " ++ A) ++ v ++ B) ++ z ≡ w ++ (x ++ (codes " < " ++ (A ++ (v ++ (B ++ z)))))
+counted_parts w x A v B z = simp append_assoc
 
 for_spells : (x : List ℕ) (p q : PhraseTree) → IsLowerText x → SpellsOperand p → SpellsOperand q → SpellsKind (t.for x p q)
 for_spells x p q is s u z ks fo r =
-    let A = operand_spelling 11 p in
-    let B = operand_spelling 11 q in
-    let shape : ((codes "for " ++ x ++ codes " < " ++ A) ++ codes " do " ++ B) ++ z ≡ codes "for " ++ (x ++ (codes " < " ++ (A ++ (codes " do " ++ (B ++ z))))) = simp append_assoc in
-    moved _ _ _ shape (opens_with word.For _ _ (lower_read x _ _ is (ends space) (less_read _ _ (s 11 _ _ space (between word.Do _ _ (u 11 z ks fo r).reads)).reads)))
+    moved _ _ _ (counted_parts (codes "for ") x (operand_spelling 11 p) (codes " do ") (operand_spelling 11 q) z)
+    (opens_with word.For _ _ (lower_read x _ _ is (ends space) (less_read _ _ (s 11 _ _ space (between word.Do _ _ (u 11 z ks fo r).reads)).reads)))
 
 forall_spells : (x : List ℕ) (p q : PhraseTree) → IsLowerText x → SpellsOperand p → SpellsOperand q → SpellsKind (t.forall x p q)
 forall_spells x p q is s u z ks fo r =
-    let A = operand_spelling 11 p in
-    let B = operand_spelling 11 q in
-    let shape : ((codes "forall " ++ x ++ codes " < " ++ A) ++ codes " : " ++ B) ++ z ≡ codes "forall " ++ (x ++ (codes " < " ++ (A ++ (codes " : " ++ (B ++ z))))) = simp append_assoc in
-    moved _ _ _ shape (opens_with word.Forall _ _ (lower_read x _ _ is (ends space) (less_read _ _ (s 11 _ _ space (colon_read _ _ (u 11 z ks fo r).reads)).reads)))
+    moved _ _ _ (counted_parts (codes "forall ") x (operand_spelling 11 p) (codes " : ") (operand_spelling 11 q) z)
+    (opens_with word.Forall _ _ (lower_read x _ _ is (ends space) (less_read _ _ (s 11 _ _ space (colon_read _ _ (u 11 z ks fo r).reads)).reads)))
 
 -- names behind commas
 more_names_read : (xs : List (List ℕ)) → AreVariableTexts xs → (z : List ℕ) (ks : List Kind) → EndsName z → IsRead z ks → EndsName (names_spelling (codes ", ") xs ++ z) × IsRead (names_spelling (codes ", ") xs ++ z) (more_names xs ks)
@@ -231,7 +227,7 @@ phrase_read (phrase at k) w s z ks fo r = (kind_spells k w s z ks fo r).reads
 
 -- a `.` and the end of the line
 line_read : (z : List ℕ) (ks : List Kind) → IsRead z ks → IsRead (codes ".\n" ++ z) (kind.Symbol symbol.Stop ∷ ks)
-line_read z ks r = stop_read _ _ (blank_read 10 z ks refl r)
+line_read z ks r = longest_read symbol.Stop refl _ _ (blank_read 10 z ks refl r)
 
 definition_read : (d : DefinitionTree) → IsWhole d.body → IsSpellableDefinition d → (z : List ℕ) (ks : List Kind) → IsRead z ks → IsRead (definition_spelling d ++ z) (definition_kinds d ks)
 definition_read d w s z ks r =
@@ -240,7 +236,7 @@ definition_read d w s z ks r =
     let body = phrase_read d.body w s.2 _ _ stop (line_read z ks r) in
     let shape : (codes "define " ++ d.name ++ codes "(" ++ N ++ codes ") = " ++ P ++ codes ".\n") ++ z ≡ codes "define " ++ (d.name ++ (codes "(" ++ (N ++ (codes ") = " ++ (P ++ (codes ".\n" ++ z)))))) = simp append_assoc in
     subst (λ y. IsRead y (definition_kinds d ks)) (sym shape)
-    (opens_with word.Define _ _ (lower_read d.name _ _ s.0 (round_ends _) (open_read _ _ (names_read d.parameters s.1 _ _ (ends close) (equal_read _ _ body))))).reads
+    (opens_with word.Define _ _ (lower_read d.name _ _ s.0 (round_ends _) (longest_read symbol.OpenRound refl _ _ (names_read d.parameters s.1 _ _ (ends close) (equal_read _ _ body))))).reads
 
 definitions_read : (ds : List DefinitionTree) → AreWholeBodies ds → AreSpellableDefinitions ds → (z : List ℕ) (ks : List Kind) → IsRead z ks → IsRead (definitions_spelling ds ++ z) (definitions_kinds ds ks)
 definitions_read [] w s z ks r = r

@@ -51,26 +51,9 @@ low : (ts : Tokens) (r : Result Source ParseRefusal) → IsOutcome (parse_outcom
 low ts (Ok x) is = accepted_low ts (source_tree x) (read_accepted ts (source_tree x) is)
 low ts (Err e) is = tt
 
-pub returns-clause-accepted : goal.returns-clause-accepted
-returns-clause-accepted c = accepted c.args.tokens.now c.outcome.result c.outcome.ensures
-
-pub returns-clause-only : goal.returns-clause-only
-returns-clause-only c = only c.args.tokens.now c.outcome.result c.outcome.ensures
-
-pub returns-clause-refused : goal.returns-clause-refused
-returns-clause-refused c = refused c.args.tokens.now c.outcome.result c.outcome.ensures
-
-pub returns-clause-token : goal.returns-clause-token
-returns-clause-token c = token c.args.tokens.now c.outcome.result c.outcome.ensures
-
-pub returns-clause-place : goal.returns-clause-place
-returns-clause-place c = place c.args.tokens.now c.outcome.result c.outcome.ensures
-
-pub returns-clause-text : goal.returns-clause-text
-returns-clause-text c = text c.args.tokens.now c.outcome.result c.outcome.ensures
-
-pub returns-clause-low : goal.returns-clause-low
-returns-clause-low c = low c.args.tokens.now c.outcome.result c.outcome.ensures
-
-pub returns-clause-printed : goal.returns-clause-printed
-returns-clause-printed c = printed_parsed c.args.tokens.now c.outcome.result c.outcome.ensures
+pub returns : goal.returns
+returns c =
+    let ts = c.args.tokens.now in
+    let r = c.outcome.result in
+    let is = c.outcome.ensures in
+    record { accepted = accepted ts r is; only = only ts r is; refused = refused ts r is; outcome = is; token = token ts r is; place = place ts r is; text = text ts r is; low = low ts r is; printed = printed_parsed ts r is }
