@@ -146,17 +146,9 @@ PieceHasItsCase (Lexeme kind n) = HasItsCase kind
 PieceHasItsCase (Refused fault) = Unit {0}
 
 piece_case : (z : List ℕ) (p : Piece) → BeginsPiece z p → PieceHasItsCase p
-piece_case z _ (blank e) = tt
-piece_case z _ (comment opens here before) = tt
-piece_case z _ (word is e) = tt
 piece_case z _ (upper {n = n} is low never u) = let some = some_name z n is in ap is_ascii_uppercase (first_stays z n some.0) ∙ u
 piece_case z _ (lower {n = n} is low never u) = let some = some_name z n is in ap is_ascii_lowercase (first_stays z n some.0) ∙ not_upper (slice_index z 0) is.letter u
-piece_case z _ (number are low) = tt
-piece_case z _ (symbol is) = tt
-piece_case z _ (bad_byte is) = tt
-piece_case z _ (open_comment opens nowhere) = tt
-piece_case z _ (large_number are high) = tt
-piece_case z _ (long_name is long) = tt
+piece_case z _ _ = tt
 
 cases_from : (bytes : List ℕ) (at : ℕ) (ts : List Token) (end : Ending) → ReadsTokens bytes at ts end → HaveTheirCase ts
 cases_from bytes at _ _ (whole e) = tt

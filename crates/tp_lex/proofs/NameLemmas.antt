@@ -46,17 +46,12 @@ no_names : All IsNameText []
 no_names = All-nil IsNameText
 
 piece_spelled : (z : List ℕ) (p : Piece) → BeginsPiece z p → PieceIsSpelled p
-piece_spelled z _ (blank e) = tt
-piece_spelled z _ (comment opens here before) = tt
 piece_spelled z _ (word is e) = no_names
 piece_spelled z _ (upper {n = n} is low never u) = All-cons IsNameText (take n z) [] (name_text z n is) no_names
 piece_spelled z _ (lower {n = n} is low never u) = All-cons IsNameText (take n z) [] (name_text z n is) no_names
 piece_spelled z _ (number are low) = no_names
 piece_spelled z _ (symbol is) = no_names
-piece_spelled z _ (bad_byte is) = tt
-piece_spelled z _ (open_comment opens nowhere) = tt
-piece_spelled z _ (large_number are high) = tt
-piece_spelled z _ (long_name is long) = tt
+piece_spelled z _ _ = tt
 
 spelled_from : (bytes : List ℕ) (at : ℕ) (ts : List Token) (end : Ending) → ReadsTokens bytes at ts end → All IsNameText (token_names ts)
 spelled_from bytes at _ _ (whole e) = no_names

@@ -7,7 +7,7 @@ use Rattle.tp_parse.specs.declared.mark.Mark.{Mark}
 use Rattle.tp_parse.specs.declared.mark.Mark.TheVariants as m
 use Rattle.tp_parse.specs.Marks.{same, kind_mark}
 use Rattle.tp_parse.specs.Readers as readers
-use Rattle.tp_parse.specs.Input.{Tokens, mark, from, first_number, first_name, half_mark, mark_due, past, left_of, halved}
+use Rattle.tp_parse.specs.Input.{Tokens, mark, from, first_number, first_name, half_mark, mark_due, past, left_of}
 use Rattle.tp_parse.specs.Readers.{ReadOutcome, Reader, and_then, refuse, too_deep, sees, lower, any_name, expect, deepen}
 use Rattle.tp_parse.specs.Reading.{fits}
 use Rattle.tp_parse.proofs.Within.{Within, ok, err}

@@ -19,7 +19,7 @@ use Rattle.tp_parse.specs.declared.head.Head.{Head}
 use Rattle.tp_parse.specs.declared.head.Listed.{Listed}
 use Rattle.tp_parse.specs.Marks.{kind_mark, role_of, role_at, level_of, start_of, listed_level, listed_close}
 use Rattle.tp_parse.specs.Readers as readers
-use Rattle.tp_parse.specs.Input.{Tokens, mark, from, mark_due, past}
+use Rattle.tp_parse.specs.Input.{Tokens, mark, mark_due, past}
 use Rattle.tp_parse.specs.Readers.{ReadOutcome, Reader, and_then, ◌>>=◌, pure, sees, expect, deepen}
 use Rattle.tp_parse.specs.Head.{is_high, begins, unfit}
 use Rattle.tp_parse.specs.Found.{Found, Operands, operand_then, of_infix, of_index}

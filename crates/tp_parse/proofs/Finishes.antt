@@ -19,7 +19,7 @@ use Rattle.tp_parse.specs.declared.head.Pair.TheVariants as p
 use Rattle.tp_tree.specs.declared.operator.Form.{Form}
 use Rattle.tp_parse.specs.Marks.{same, start_of, comma}
 use Rattle.tp_parse.specs.Readers as readers
-use Rattle.tp_parse.specs.Input.{Tokens, mark, from, first_name, mark_due, past}
+use Rattle.tp_parse.specs.Input.{Tokens, mark, first_name, mark_due, past}
 use Rattle.tp_parse.specs.Readers.{ReadOutcome, Reader, and_then, ◌>>=◌, pure, sees, lower, any_name, names, names_from, expect, deepen}
 use Rattle.tp_parse.specs.Head.{name_or_call, counter, head_by, is_high, admit, begins}
 use Rattle.tp_parse.specs.Reading.{fits}

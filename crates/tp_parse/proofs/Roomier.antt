@@ -19,7 +19,7 @@ use Rattle.tp_parse.specs.declared.head.Head.TheVariants as h
 use Rattle.tp_parse.specs.Marks.{before, prefix_at, role_at, start_of, comma, listed_level, listed_close, enclosed_level, enclosed_close, middle}
 use Rattle.tp_parse.specs.Marks.{same as is_mark}
 use Rattle.tp_parse.specs.Readers as readers
-use Rattle.tp_parse.specs.Input.{Tokens, mark, from, mark_due, past}
+use Rattle.tp_parse.specs.Input.{Tokens, mark, from, mark_due}
 use Rattle.tp_parse.specs.Readers.{ReadOutcome, Reader, and_then, ◌>>=◌, pure, refuse, sees, expect, deepen}
 use Rattle.tp_parse.specs.Head.{is_high, is_nothing, admit, begins, unfit}
 use Rattle.tp_parse.specs.Found.{Found, Operands, operands_of, limit, source_of}

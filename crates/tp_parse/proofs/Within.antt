@@ -19,7 +19,7 @@ use Rattle.tp_parse.specs.declared.head.Atom.TheVariants as atom
 use Rattle.tp_parse.specs.declared.head.Listed.TheVariants as listed
 use Rattle.tp_parse.specs.Marks.{same, prefix_at, role_at, start_of, comma, listed_level, listed_close, enclosed_level, enclosed_close, middle}
 use Rattle.tp_parse.specs.Readers as readers
-use Rattle.tp_parse.specs.Input.{Tokens, mark, from, first_name, mark_due, past}
+use Rattle.tp_parse.specs.Input.{Tokens, mark, from, mark_due}
 use Rattle.tp_parse.specs.Readers.{ReadOutcome, Reader, and_then, ◌>>=◌, pure, refuse, too_deep, sees, take, taken_name, lower, any_name, names, names_from, expect, deepen}
 use Rattle.tp_parse.specs.Head.{name_or_call, counter, head_by, is_high, admit, begins, unfit}
 use Rattle.tp_parse.specs.Found.{Found, Operands, operands_of, of_choice, of_choice_else, of_infix, of_index, of_prefix, limit, defined, source_of}

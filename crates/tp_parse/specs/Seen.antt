@@ -1,5 +1,5 @@
 -- What the code has read, as phrases and operands with their heights.
-use Rattle.std.specs.Prelude.{ℕ, ◌+◌, ◌<◌, max, Bool, [], ◌∷◌, ◌++◌, map}
+use Rattle.std.specs.Prelude.{ℕ, ◌<◌, max, Bool, [], ◌∷◌, ◌++◌, map}
 use Rattle.tp_tree.specs.Read.{phrase_tree}
 use Rattle.tp_parse.specs.declared.phrases.Measured.{Measured}
 use Rattle.tp_parse.specs.declared.operands.Operands as all
