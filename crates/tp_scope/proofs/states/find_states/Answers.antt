@@ -24,6 +24,10 @@ loop-called-init c =
 next_progress : (ds : List DefinitionTree) (states : List Bool) (work : List ℕ) (at : ℕ) (xs : List ℕ) (i : ℕ) → i < length xs → Progress ds states work at (drop i xs) → Progress ds states work at (get_or xs i 0 ∷ drop (i + 1) xs)
 next_progress ds states work at xs i l p = subst (λ rest. Progress ds states work at rest) (next_is xs i l) p
 
+-- the next of them is the number of a definition
+caller_here : (ds : List DefinitionTree) (states : List Bool) (work : List ℕ) (at : ℕ) (xs : List ℕ) (i : ℕ) → i < length xs → Progress ds states work at (drop i xs) → get_or xs i 0 < length states
+caller_here ds states work at xs i l p = caller_is ds states work at (get_or xs i 0) (drop (i + 1) xs) (next_progress ds states work at xs i l p)
+
 none_at_all : (xs : List ℕ) → length xs ≡ 0 → xs ≡ []
 none_at_all [] e = refl
 none_at_all (x ∷ xs) e = absurd (omega (arith, e))
@@ -62,23 +66,11 @@ loop-called-preserved c =
 
 pub index-requires-in-loop-caller : goal.index-requires-in-loop-caller
 index-requires-in-loop-caller c =
-    let ds : List DefinitionTree = map definition_tree c.args.definitions.now.items.items in
-    let states : List Bool = c.loop-caller.states.items in
-    let work : List ℕ = c.loop-caller.work.items in
-    let xs : List ℕ = c.deref-caller-items.result.now in
-    let i = c.loop-caller.caller-index in
-    let p = next_progress ds states work c.in-Some.called xs i c.loop-caller-test.true c.loop-caller.invariant.progress in
-    omega (arith, caller_is ds states work c.in-Some.called (get_or xs i 0) (drop (i + 1) xs) p, c.loop-caller.states.ok.0)
+    omega (arith, caller_here (map definition_tree c.args.definitions.now.items.items) c.loop-caller.states.items c.loop-caller.work.items c.in-Some.called c.deref-caller-items.result.now c.loop-caller.caller-index c.loop-caller-test.true c.loop-caller.invariant.progress, c.loop-caller.states.ok.0)
 
 pub index_mut-requires : goal.index_mut-requires
 index_mut-requires c =
-    let ds : List DefinitionTree = map definition_tree c.args.definitions.now.items.items in
-    let states : List Bool = c.loop-caller.states.items in
-    let work : List ℕ = c.loop-caller.work.items in
-    let xs : List ℕ = c.deref-caller-items.result.now in
-    let i = c.loop-caller.caller-index in
-    let p = next_progress ds states work c.in-Some.called xs i c.loop-caller-test.true c.loop-caller.invariant.progress in
-    omega (arith, caller_is ds states work c.in-Some.called (get_or xs i 0) (drop (i + 1) xs) p, c.loop-caller.states.ok.0)
+    omega (arith, caller_here (map definition_tree c.args.definitions.now.items.items) c.loop-caller.states.items c.loop-caller.work.items c.in-Some.called c.deref-caller-items.result.now c.loop-caller.caller-index c.loop-caller-test.true c.loop-caller.invariant.progress, c.loop-caller.states.ok.0)
 
 pub loop-caller-preserved : goal.loop-caller-preserved
 loop-caller-preserved c =
