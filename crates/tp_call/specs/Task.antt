@@ -3,7 +3,7 @@ use Rattle.std.specs.Prelude.{◌≡◌, ◌≤◌, ◌<◌, ◌^◌, ℕ, List,
 use Rattle.tp_io.specs.Held.{Held}
 use Rattle.tp_tree.specs.Read.{source_tree}
 use Rattle.tp_meaning.specs.Fits.{ProgramFits}
-use Rattle.tp_check.specs.Program.{program_tree}
+use Rattle.tp_check.specs.Read.{program_tree}
 use Rattle.tp_inputs.specs.Read.{inputs_of}
 use Rattle.tp_inputs.specs.Table.{IsInputsText}
 use Rattle.tp_inputs.specs.Converted.{converted}

@@ -3,7 +3,7 @@ ghost use Rattle.std.specs.Prelude.{◌≡◌, ◌≢◌, ◌≤◌, ◌<◌, �
 ghost use Rattle.tp_lex.specs.Place.{source_limit};
 ghost use Rattle.tp_io.specs.Held.{Held, Rose, bytes_of};
 ghost use Rattle.tp_meaning.specs.Fits.{ProgramFits};
-ghost use Rattle.tp_check.specs.Program.{program_tree};
+ghost use Rattle.tp_check.specs.Read.{program_tree};
 ghost use Rattle.tp_call.specs.Source.{IsProgram};
 ghost use Rattle.tp_call.specs.declared.status.Which.{Which};
 ghost use Rattle.tp_inputs.specs.Read.{inputs_of};

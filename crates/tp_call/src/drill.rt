@@ -6,7 +6,7 @@ ghost use Rattle.tp_meaning.specs.Fits.{ProgramFits};
 ghost use Rattle.tp_gen.specs.Source.{source_text};
 ghost use Rattle.tp_scene.specs.Pick.{Moment};
 ghost use Rattle.tp_inputs.specs.Read.{inputs_of};
-ghost use Rattle.tp_check.specs.Program.{program_tree};
+ghost use Rattle.tp_check.specs.Read.{program_tree};
 ghost use Rattle.tp_show.specs.Told.{IsLastTurn};
 ghost use Rattle.tp_run.specs.States.{Plan};
 ghost use Rattle.tp_run.specs.Standing.{open_at};

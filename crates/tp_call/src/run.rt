@@ -5,7 +5,7 @@ ghost use Rattle.tp_io.specs.Devices.{Writes};
 ghost use Rattle.tp_io.specs.Held.{Rose};
 ghost use Rattle.tp_kernel.specs.Read.{formula_tree};
 ghost use Rattle.tp_meaning.specs.Fits.{ProgramFits};
-ghost use Rattle.tp_check.specs.Program.{program_tree};
+ghost use Rattle.tp_check.specs.Read.{program_tree};
 ghost use Rattle.tp_scene.specs.Beginning.{first_moment};
 ghost use Rattle.tp_run.specs.States.{Plan};
 ghost use Rattle.tp_run.specs.Standing.{open_at};

@@ -194,19 +194,12 @@ module _ (defs : List Definition) where
   name_fits names at x None None b e = tt
 
   operation_fits : (names : VisibleNames) (at : ℕ) (o : Op) (l r : CheckOutcome ExprTree) → IfOk l (Fits names) → IfOk r (Fits names) → IfOk (operation_at at (operation_of o) l r) (Fits names)
-  operation_fits names at op.Or l r p q = both_ok _ l r (Fits names) (Fits names) (Fits names) p q (λ x y a b. (a, b))
-  operation_fits names at op.Equal l r p q = both_ok _ l r (Fits names) (Fits names) (Fits names) p q (λ x y a b. (a, b))
-  operation_fits names at op.Differs l r p q = both_ok _ l r (Fits names) (Fits names) (Fits names) p q (λ x y a b. (a, b))
-  operation_fits names at op.Less l r p q = both_ok _ l r (Fits names) (Fits names) (Fits names) p q (λ x y a b. (a, b))
-  operation_fits names at op.LessEqual l r p q = both_ok _ l r (Fits names) (Fits names) (Fits names) p q (λ x y a b. (a, b))
-  operation_fits names at op.Greater l r p q = both_ok _ l r (Fits names) (Fits names) (Fits names) p q (λ x y a b. (a, b))
-  operation_fits names at op.GreaterEqual l r p q = both_ok _ l r (Fits names) (Fits names) (Fits names) p q (λ x y a b. (a, b))
-  operation_fits names at op.Plus l r p q = both_ok _ l r (Fits names) (Fits names) (Fits names) p q (λ x y a b. (a, b))
-  operation_fits names at op.Minus l r p q = both_ok _ l r (Fits names) (Fits names) (Fits names) p q (λ x y a b. (a, b))
-  operation_fits names at op.Times l r p q = both_ok _ l r (Fits names) (Fits names) (Fits names) p q (λ x y a b. (a, b))
-  operation_fits names at op.Div l r p q = both_ok _ l r (Fits names) (Fits names) (Fits names) p q (λ x y a b. (a, b))
-  operation_fits names at op.Mod l r p q = both_ok _ l r (Fits names) (Fits names) (Fits names) p q (λ x y a b. (a, b))
-  operation_fits names at o l r p q = tt
+  operation_fits names at op.Chop l r p q = tt
+  operation_fits names at op.Proj l r p q = tt
+  operation_fits names at op.Gets l r p q = tt
+  operation_fits names at op.Arrow l r p q = tt
+  operation_fits names at op.Becomes l r p q = tt
+  operation_fits names at _ l r p q = both_ok _ l r (Fits names) (Fits names) (Fits names) p q (λ x y a b. (a, b))
 
   called_expr_fits : (names : VisibleNames) → Known names → (at : ℕ) (x : List ℕ) (o : Option Called) → called_of names.definitions x ≡ o → (ps : PhraseTrees)
       → ((xs : Names) → phrase_count ps ≡ length xs → IfOk (arguments_in names ps xs) (ArgumentsFit names xs)) → IfOk (called_expr at o (phrase_count ps) (λ xs. arguments_in names ps xs)) (Fits names)

@@ -25,7 +25,8 @@ use Rattle.tp_check.specs.Outcome.{CheckOutcome, mapped, both, three, not_run, n
 use Rattle.tp_scope.specs.Phrases.{is_place_phrase, is_place_kind, phrase_count, nexts_of, behind_nexts, behind_nexts_of, at_of}
 use Rattle.tp_scope.specs.Definitions.{signatures_of}
 use Rattle.tp_check.specs.Positions.{named_expr, operation_of, operation_at, refusal_of, called_expr, expr_of, expr_of_kind, exprs_in, place_phrase, port_phrase, arguments_in, equation_of, place_is, is_state_in, state_in, negation_in, binary_in, composition_of, composed_or, called_formula, exists_of, formula_of, formula_of_kind, formulas_in}
-use Rattle.tp_check.specs.Program.{expr_where, definition_with, definition_in, definitions_in, outermost, NamesSuffice}
+use Rattle.tp_check.specs.Program.{expr_where, definition_with, definition_in, definitions_in, outermost}
+use Rattle.tp_check.specs.NameLaws.{NamesSuffice}
 
 -- ---- names that have their variable
 

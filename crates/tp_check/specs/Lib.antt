@@ -1,7 +1,9 @@
 pub mod Outcome
+pub mod Answers
 pub mod Positions
 pub mod Building
 pub mod Program
+pub mod Read
 pub mod Refusals
 pub mod Laws
 pub mod NameLaws

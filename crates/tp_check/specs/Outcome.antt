@@ -1,7 +1,7 @@
 -- What is made of a phrase, or why it is refused.
-use Rattle.std.specs.Prelude.{◌≡◌, ◌≢◌, ℕ, Result, Ok, Err}
+use Rattle.std.specs.Prelude.{ℕ, Result, Ok, Err}
 use Rattle.tp_check.specs.declared.refusal.CheckRefusal.{CheckRefusal}
-use Rattle.tp_check.specs.declared.refusal.CheckRefusal.TheVariants.{NotExecutable, NotExpression, NotPlace, NoMemory}
+use Rattle.tp_check.specs.declared.refusal.CheckRefusal.TheVariants.{NotExecutable, NotExpression}
 
 abbrev pub CheckOutcome : Type 0 → Type 0
 CheckOutcome A = Result A CheckRefusal
@@ -13,10 +13,6 @@ not_run at = Err (NotExecutable at)
 -- it is no expression
 abbrev pub not_expression : {A : Type 0} → (at : ℕ) → CheckOutcome A
 not_expression at = Err (NotExpression at)
-
--- it is no place
-abbrev pub not_place : {A : Type 0} → (at : ℕ) → CheckOutcome A
-not_place at = Err (NotPlace at)
 
 abbrev pub mapped : {A B : Type 0} → (A → B) → CheckOutcome A → CheckOutcome B
 mapped f (Ok a) = Ok (f a)
@@ -32,8 +28,3 @@ abbrev pub three : {A B C D : Type 0} → (A → B → C → D) → CheckOutcome
     → CheckOutcome C → CheckOutcome D
 three f (Ok a) b c = both (f a) b c
 three f (Err e) b c = Err e
-
--- What a function answered, seen by view, is the outcome, unless memory ran out.
-abbrev pub AnswersCheck : {X T : Type 0} → (X → T) → CheckOutcome T → Result X CheckRefusal → Type 0
-AnswersCheck view outcome (Ok x) = outcome ≡ Ok (view x)
-AnswersCheck view outcome (Err e) = e ≢ NoMemory → outcome ≡ Err e

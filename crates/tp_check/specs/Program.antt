@@ -1,10 +1,8 @@
 -- The program that a source is.
-use Rattle.std.specs.Prelude.{◌≡◌, ℕ, Bool, true, false, List, [], ◌∷◌, ◌++◌, Option, Some, None, Ok, Err}
+use Rattle.std.specs.Prelude.{◌≡◌, ℕ, Bool, true, false, List, [], ◌∷◌, Option, Some, None, Ok, Err}
 use Rattle.tp_tree.specs.Tree.{PhraseTree, DefinitionTree, SourceTree}
-use Rattle.tp_kernel.specs.Read.{formula_tree, definitions_of}
 use Rattle.tp_meaning.specs.Syntax.{ExprTree, FormulaTree, Definition}
 use Rattle.tp_meaning.specs.Interval.{ProgramTree}
-use Rattle.tp_check.specs.declared.program.Program.{Program}
 use Rattle.tp_check.specs.declared.refusal.CheckRefusal.TheVariants.{Twice}
 use Rattle.tp_scope.specs.Scope.{Names, Signature, VisibleNames, with_binders}
 use Rattle.tp_scope.specs.Names.{twice_defined, names_of}
@@ -58,16 +56,3 @@ ChecksTo source o = by_twice (twice_defined [] source.definitions)
     by_twice None =
         (states : List Bool) × AreStates source.definitions states
         × (program_over (names_of source) states source ≡ o)
-
--- No name is missing among the source's names: with others behind them it becomes the same, but for
--- these.
-abbrev pub NamesSuffice : SourceTree → Type 0
-NamesSuffice source =
-    (more : Names) (states : List Bool) → let names = names_of source ++ more in
-    program_over names states source
-    ≡ mapped (λ p. record { defs = p.defs; main = p.main; globals = names })
-    (program_over (names_of source) states source)
-
-abbrev pub program_tree : Program → ProgramTree
-program_tree p =
-    record { defs = definitions_of p.defs; main = formula_tree p.main.value; globals = p.globals }

@@ -3,7 +3,7 @@ ghost use Rattle.tp_tree.specs.Read.{phrase_trees};
 ghost use Rattle.tp_tree.specs.Tree.{call as call_kind};
 ghost use Rattle.tp_kernel.specs.Read.{formula_tree};
 ghost use Rattle.tp_scope.specs.Seen.{names_seen};
-ghost use Rattle.tp_check.specs.Outcome.{AnswersCheck};
+ghost use Rattle.tp_check.specs.Answers.{AnswersCheck};
 ghost use Rattle.tp_check.specs.Positions.{formula_of_kind};
 
 use crate::expression::arguments;

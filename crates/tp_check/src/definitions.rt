@@ -6,7 +6,7 @@ ghost use Rattle.tp_kernel.specs.Read.{definition_of, definitions_of};
 ghost use Rattle.tp_scope.specs.Seen.{names_seen};
 ghost use Rattle.tp_check.specs.Building.{AnswersHeadings, AnswersParameters, ParametersOf, expr_seen};
 ghost use Rattle.tp_scope.specs.Names.{names_with, names_in_bodies};
-ghost use Rattle.tp_check.specs.Outcome.{AnswersCheck};
+ghost use Rattle.tp_check.specs.Answers.{AnswersCheck};
 ghost use Rattle.tp_check.specs.Program.{expr_where, definition_in, definitions_in};
 
 use crate::expression::shared_expression;

@@ -3,7 +3,7 @@ ghost use Rattle.std.specs.Prelude.{◌≡◌, ◌+◌, ℕ, ◌⊎◌, IfOk, Ok
 ghost use Rattle.tp_tree.specs.Read.{phrase_tree};
 ghost use Rattle.tp_kernel.specs.Read.{expr_tree, formula_tree};
 ghost use Rattle.tp_scope.specs.Seen.{names_seen};
-ghost use Rattle.tp_check.specs.Outcome.{AnswersCheck};
+ghost use Rattle.tp_check.specs.Answers.{AnswersCheck};
 ghost use Rattle.tp_scope.specs.Phrases.{nexts_of, behind_nexts};
 ghost use Rattle.tp_check.specs.Positions.{equation_of, equation_in};
 

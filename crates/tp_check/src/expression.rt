@@ -7,7 +7,7 @@ ghost use Rattle.tp_meaning.specs.Value.{is_upper};
 ghost use Rattle.tp_scope.specs.Phrases.{phrase_count};
 ghost use Rattle.tp_scope.specs.Seen.{names_seen};
 ghost use Rattle.tp_check.specs.Building.{expr_seen, exprs_seen};
-ghost use Rattle.tp_check.specs.Outcome.{AnswersCheck};
+ghost use Rattle.tp_check.specs.Answers.{AnswersCheck};
 ghost use Rattle.tp_check.specs.Positions.{expr_of, expr_of_kind, exprs_in, place_phrase, port_phrase, argument_in, arguments_in};
 
 use crate::operation::operation_for;

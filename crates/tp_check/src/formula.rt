@@ -5,7 +5,8 @@ ghost use Rattle.tp_tree.specs.Tree.{form as form_kind, exists as exists_kind, n
 ghost use Rattle.tp_meaning.specs.Derived.{repeat_of};
 ghost use Rattle.tp_kernel.specs.Read.{formula_tree};
 ghost use Rattle.tp_scope.specs.Scope.{with_binder, with_binders};
-ghost use Rattle.tp_check.specs.Outcome.{AnswersCheck, both};
+ghost use Rattle.tp_check.specs.Outcome.{both};
+ghost use Rattle.tp_check.specs.Answers.{AnswersCheck};
 ghost use Rattle.tp_scope.specs.Seen.{names_seen};
 ghost use Rattle.tp_check.specs.Building.{formula_seen, formulas_seen, guarded_by, counted_by};
 ghost use Rattle.tp_check.specs.Positions.{bare_of, expr_of, formula_of, formula_of_kind, formulas_in};

@@ -5,9 +5,11 @@ ghost use Rattle.tp_meaning.specs.Fits.{ProgramFits};
 ghost use Rattle.tp_scope.specs.Seen.{names_of_definitions, signatures_seen};
 ghost use Rattle.tp_check.specs.Building.{ParametersOf};
 ghost use Rattle.tp_scope.specs.Names.{AreApart, names_of};
-ghost use Rattle.tp_check.specs.Outcome.{AnswersCheck};
+ghost use Rattle.tp_check.specs.Answers.{AnswersCheck};
 ghost use Rattle.tp_scope.specs.Definitions.{signatures_of};
-ghost use Rattle.tp_check.specs.Program.{ChecksTo, NamesSuffice, program_over, program_tree};
+ghost use Rattle.tp_check.specs.Program.{ChecksTo, program_over};
+ghost use Rattle.tp_check.specs.NameLaws.{NamesSuffice};
+ghost use Rattle.tp_check.specs.Read.{program_tree};
 
 use crate::definitions::{add_names_in_bodies, find_headings, make_definitions};
 use crate::formula::shared_formula;

@@ -4,7 +4,8 @@ ghost use Rattle.tp_tree.specs.Read.{phrase_tree, kind_tree};
 ghost use Rattle.tp_tree.specs.Tree.{negation as negation_kind, binary as binary_kind};
 ghost use Rattle.tp_kernel.specs.Read.{formula_tree};
 ghost use Rattle.tp_scope.specs.Seen.{names_seen};
-ghost use Rattle.tp_check.specs.Outcome.{AnswersCheck, mapped};
+ghost use Rattle.tp_check.specs.Outcome.{mapped};
+ghost use Rattle.tp_check.specs.Answers.{AnswersCheck};
 ghost use Rattle.tp_check.specs.Positions.{expr_of, place_is, is_state_in, state_in, negation_in, binary_in};
 
 use crate::equation::equation;

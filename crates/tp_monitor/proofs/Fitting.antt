@@ -12,7 +12,8 @@ use Rattle.tp_meaning.specs.Interval.{kinds_of}
 use Rattle.tp_meaning.specs.Fits.{ExprFits, FormulaFits, FormulasFit}
 use Rattle.tp_scope.specs.Scope.{Names, VisibleNames}
 use Rattle.tp_scope.specs.Phrases.{is_place_phrase}
-use Rattle.tp_check.specs.Outcome.{CheckOutcome, AnswersCheck}
+use Rattle.tp_check.specs.Outcome.{CheckOutcome}
+use Rattle.tp_check.specs.Answers.{AnswersCheck}
 use Rattle.tp_check.specs.declared.refusal.CheckRefusal.{CheckRefusal}
 use Rattle.tp_check.specs.Program.{outermost}
 use Rattle.tp_check.specs.Positions.{expr_of, formula_of_kind, is_state_in}

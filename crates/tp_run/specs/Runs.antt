@@ -9,7 +9,7 @@ use Rattle.tp_step.specs.Answers.{moment_of}
 use Rattle.tp_step.specs.OfVariables.{CellIsOf, ClashIsOf}
 use Rattle.tp_step.specs.declared.order.Order.{Order}
 use Rattle.tp_meaning.specs.Interval.{ProgramTree, kinds_of}
-use Rattle.tp_check.specs.Program.{program_tree}
+use Rattle.tp_check.specs.Read.{program_tree}
 use Rattle.tp_scene.specs.Scene as S
 use Rattle.tp_scene.specs.Pick.{Setting, Moment}
 use Rattle.tp_scene.specs.Rest.{settled, goes, ends, IsOpenCell}

@@ -3,7 +3,7 @@ ghost use Rattle.std.specs.Prelude.{◌≡◌, ◌+◌, ◌<◌, ◌≤◌, ℕ,
 ghost use Rattle.std.specs.Option.{option_map};
 ghost use Rattle.tp_kernel.specs.Read.{formula_tree};
 ghost use Rattle.tp_meaning.specs.Fits.{ProgramFits};
-ghost use Rattle.tp_check.specs.Program.{program_tree};
+ghost use Rattle.tp_check.specs.Read.{program_tree};
 ghost use Rattle.tp_inputs.specs.Read.{inputs_of};
 ghost use Rattle.tp_store.specs.Known.{new_store};
 ghost use Rattle.tp_meaning.specs.Interval.{kinds_of};

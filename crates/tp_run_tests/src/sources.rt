@@ -1,7 +1,7 @@
 // The program that a text is.
 ghost use Rattle.std.specs.Prelude.{IfOk};
 ghost use Rattle.tp_meaning.specs.Fits.{ProgramFits};
-ghost use Rattle.tp_check.specs.Program.{program_tree};
+ghost use Rattle.tp_check.specs.Read.{program_tree};
 
 use std::alloc::Global;
 use std::test::Fail;

@@ -1,7 +1,7 @@
 // All that is told of runs: with tables of inputs, and in each order.
 ghost use Rattle.std.specs.Prelude.{◌≡◌, ◌<◌, OnOk};
 ghost use Rattle.tp_meaning.specs.Fits.{ProgramFits};
-ghost use Rattle.tp_check.specs.Program.{program_tree};
+ghost use Rattle.tp_check.specs.Read.{program_tree};
 ghost use Rattle.tp_run.specs.Runs.{IsRunOf};
 ghost use Rattle.tp_run.specs.States.{Plan};
 ghost use Rattle.tp_show.specs.Parts.{line_parts};

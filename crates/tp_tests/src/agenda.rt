@@ -1,7 +1,7 @@
 // Closures by an agenda: they come to the same rests as those by passes, and try the item whose turn it is.
 ghost use Rattle.std.specs.Prelude.{◌≡◌, ◌<◌, List, Bool};
 ghost use Rattle.tp_meaning.specs.Fits.{ProgramFits};
-ghost use Rattle.tp_check.specs.Program.{program_tree};
+ghost use Rattle.tp_check.specs.Read.{program_tree};
 ghost use Rattle.tp_scene.specs.Laws.{IsSound};
 ghost use Rattle.tp_decide.specs.Decided.{setting_of};
 ghost use Rattle.tp_slots.specs.Kept.{IsWellKept};

@@ -1,7 +1,7 @@
 // Closures by passes in each order: what is picked in a state.
 ghost use Rattle.std.specs.Prelude.{◌≡◌, ◌<◌};
 ghost use Rattle.tp_meaning.specs.Fits.{ProgramFits};
-ghost use Rattle.tp_check.specs.Program.{program_tree};
+ghost use Rattle.tp_check.specs.Read.{program_tree};
 
 use crate::expected::same_text;
 use crate::making::nothing_told;

@@ -1,7 +1,7 @@
 // What is made of a text, step by step.
 ghost use Rattle.std.specs.Prelude.{IfOk};
 ghost use Rattle.tp_meaning.specs.Fits.{ProgramFits};
-ghost use Rattle.tp_check.specs.Program.{program_tree};
+ghost use Rattle.tp_check.specs.Read.{program_tree};
 
 use std::alloc::Global;
 use std::test::Fail;

@@ -1,7 +1,7 @@
 // Steps in small: what each kind of formula becomes, and what a state comes to.
 ghost use Rattle.std.specs.Prelude.{◌≡◌, ◌<◌, List, Bool, IfOk, OnOk};
 ghost use Rattle.tp_meaning.specs.Fits.{ProgramFits};
-ghost use Rattle.tp_check.specs.Program.{program_tree};
+ghost use Rattle.tp_check.specs.Read.{program_tree};
 ghost use Rattle.tp_scene.specs.Laws.{IsSound};
 ghost use Rattle.tp_decide.specs.Decided.{setting_of};
 ghost use Rattle.tp_slots.specs.Kept.{IsWellKept};

@@ -1,6 +1,6 @@
 use Rattle.std.proofs.Common.{inl, subst, refl, ap, Err}
 use Rattle.std.proofs.lemmas.Result.{MatchResult-weaker}
-use Rattle.tp_check.specs.Program.{program_tree}
+use Rattle.tp_check.specs.Read.{program_tree}
 use Rattle.tp_words.specs.declared.mode.Mode.TheVariants.{Run}
 use Rattle.tp_call.specs.Answer.{HoldsProgram}
 use Rattle.tp_call.specs.declared.status.Which.TheVariants.{Source}

@@ -1,7 +1,7 @@
 use Rattle.std.proofs.Common.{refl, sym}
 use Rattle.std.specs.Prelude.{string_bytes}
 use Rattle.std.proofs.lemmas.Result.{err_from_is_err_and}
-use Rattle.tp_check.specs.Program.{program_tree}
+use Rattle.tp_check.specs.Read.{program_tree}
 use Rattle.tp_words.specs.Command.{wanted_by}
 use Rattle.tp_words.specs.declared.mode.Mode.TheVariants.{Run}
 use Rattle.tp_call.specs.declared.status.Which.TheVariants.{Source}

@@ -1,22 +1,25 @@
-use Rattle.std.proofs.Common.{◌≡◌, ◌⊎◌, ◌∙◌, sym, ap, ap₂, rules, arith}
+use Rattle.std.proofs.Common.{◌≡◌, Err, ◌⊎◌, ◌∙◌, sym, ap, ap₂, rules, arith}
 use Rattle.std.proofs.lemmas.Grind.{common_steps}
 use Rattle.std.proofs.lemmas.Result.{err_from_is_err_and}
 use Rattle.tp_tree.specs.Read.{phrase_tree}
+use Rattle.tp_tree.specs.Tree.{PhraseTree}
+use Rattle.tp_check.specs.declared.refusal.CheckRefusal.{CheckRefusal}
+use Rattle.tp_scope.specs.Scope.{VisibleNames}
 use Rattle.tp_scope.specs.Seen.{names_seen}
 use Rattle.tp_check.specs.Outcome.{not_expression}
 use Rattle.tp_scope.specs.Phrases.{nexts_of, behind_nexts, at_of}
-use Rattle.tp_check.specs.Positions.{equation_of, expr_of}
+use Rattle.tp_check.specs.Positions.{equation_of, equation_in, expr_of}
 use Rattle.tp_check.proofs.Sides.{at_is, left_refused, right_refused, both_later}
 use Rattle.tp_check.proofs.equation.equation.Goals as goal
+
+left_err : (names : VisibleNames) (l r : PhraseTree) (e : CheckRefusal) → expr_of names (behind_nexts l) ≡ Err e → equation_in names l r ≡ Err e
+left_err names l r e is = ap (λ o. equation_of (nexts_of l) (nexts_of r) (at_of r) o (expr_of names (behind_nexts r))) is ∙ left_refused (nexts_of l) (nexts_of r) (at_of r) e _
 
 pub returns-in_err-left_expr : goal.returns-in_err-left_expr
 returns-in_err-left_expr c =
     let p = err_from_is_err_and c.from_residual-in_err-left_expr.result c.from_residual-in_err-left_expr.ensures.1 in
     let names = names_seen c.args.names.now in
-    let l = phrase_tree c.args.left.now in
-    let r = phrase_tree c.args.right.now in
-    rw (p.1, p.2) (λ q. ap (λ o. equation_of (nexts_of l) (nexts_of r) (at_of r) o (expr_of names (behind_nexts r)))
-    (ap (expr_of names) (sym c.in_ok-left_nexts.ensures.behind) ∙ c.in_err-left_expr.ensures q) ∙ left_refused (nexts_of l) (nexts_of r) (at_of r) _ _)
+    rw (p.1, p.2) (λ q. left_err names (phrase_tree c.args.left.now) (phrase_tree c.args.right.now) _ (ap (expr_of names) (sym c.in_ok-left_nexts.ensures.behind) ∙ c.in_err-left_expr.ensures q))
 
 pub returns-then-right_nexts-gt0 : goal.returns-then-right_nexts-gt0
 returns-then-right_nexts-gt0 c = λ q.

@@ -14,23 +14,14 @@ use Rattle.tp_scope.specs.Seen.{names_seen}
 use Rattle.tp_check.specs.Outcome.{mapped}
 use Rattle.tp_check.specs.Positions.{expr_of, exprs_in, argument_in, arguments_in}
 use Rattle.tp_scope.proofs.Several.{from_here}
-use Rattle.tp_check.proofs.Several.{none_made, one_made, all_made}
+use Rattle.tp_check.proofs.Several.{none_made, one_made, more_made, all_made}
 use Rattle.tp_check.proofs.expression.+expression.Goals as goal
 
 pub expressions-loop-phrase-preserved : goal.expressions-loop-phrase-preserved
 expressions-loop-phrase-preserved t c =
     let names = names_seen c.args.names.now in
-    let xs : List Phrase = c.deref-phrase-items.result.now in
-    let i : ℕ = c.loop-phrase.phrase-index in
-    let x : Phrase = c.phrase-item.result in
-    let made = map expr_tree c.loop-phrase.items.items in
-    let rest = exprs_in names (phrases_of (map phrase_tree (drop (i + 1) xs))) in
-    let pushed : map expr_tree c.push.new.self.items ≡ made ++ expr_tree c.in_ok-expression.field-0 ∷ [] =
-    ap (map expr_tree) c.in_ok-push.ensures.items ∙ map-append expr_tree c.loop-phrase.items.items (c.in_ok-expression.field-0 ∷ []) in
-    c.loop-phrase.invariant
-    ∙ (ap (λ ts. mapped (λ es. made ++ es) (exprs_in names (phrases_of ts))) (from_here phrase_tree xs i x c.loop-phrase-test.true c.phrase-item.is)
-    ∙ (one_made made (expr_tree c.in_ok-expression.field-0) (expr_of names (phrase_tree x)) rest c.in_ok-expression.ensures
-    ∙ ap (λ (ys : List ExprTree). mapped (λ es. ys ++ es) rest) (sym pushed)))
+    more_made expr_tree (λ ts. exprs_in names (phrases_of ts)) (expr_of names) _ _ _ c.deref-phrase-items.result.now c.loop-phrase.phrase-index c.phrase-item.result _ (λ p ps. refl)
+    c.in_ok-push.ensures.items c.in_ok-expression.ensures c.loop-phrase-test.true c.phrase-item.is c.loop-phrase.invariant
 
 pub arguments-loop-operand-init : goal.arguments-loop-operand-init
 arguments-loop-operand-init t c =

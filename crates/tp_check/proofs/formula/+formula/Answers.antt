@@ -1,4 +1,4 @@
-use Rattle.std.proofs.Common.{◌≡◌, ◌+◌, ◌++◌, ◌∷◌, [], ◌∙◌, ℕ, ◌<◌, ◌⊎◌, List, sym, ap, subst, map, drop, length, Ok, Global, arith, rules}
+use Rattle.std.proofs.Common.{◌≡◌, ◌+◌, ◌++◌, ◌∷◌, [], ◌∙◌, ℕ, ◌<◌, ◌⊎◌, List, refl, sym, ap, subst, map, drop, length, Ok, Global, arith, rules}
 use Rattle.std.proofs.lemmas.List.{map-append, length-map}
 use Rattle.std.proofs.lemmas.Grind.{common_steps}
 use Rattle.std.specs.declared.rc.Rc.{Rc}
@@ -12,30 +12,23 @@ use Rattle.tp_kernel.specs.Read.{formula_tree}
 use Rattle.tp_kernel.specs.Equations.{formula_and}
 use Rattle.tp_scope.specs.Seen.{names_seen}
 use Rattle.tp_check.specs.Building.{formula_seen}
-use Rattle.tp_check.specs.Outcome.{AnswersCheck, mapped}
+use Rattle.tp_check.specs.Outcome.{mapped}
+use Rattle.tp_check.specs.Answers.{AnswersCheck}
 use Rattle.tp_check.specs.Positions.{formula_of, formula_of_kind, formulas_in}
 use Rattle.tp_scope.proofs.Several.{from_here}
-use Rattle.tp_check.proofs.Several.{none_made, one_made, one_is, two_are}
+use Rattle.tp_check.proofs.Several.{none_made, more_made, one_tree, two_trees}
 use Rattle.tp_scope.proofs.Loops.{tree_of_for, tree_of_forall}
 use Rattle.tp_check.proofs.Sides.{form_miscounted, tree_of_and}
 use Rattle.tp_check.proofs.formula.+formula.Goals as goal
 
 pub form_formula-returns-in-len1 : goal.form_formula-returns-in-len1
 form_formula-returns-in-len1 t c =
-    let xs : List Phrase = c.as_slice.result.now in
-    let one : xs ≡ c.operand-item.result ∷ [] = one_is xs c.operand-item.result c.in-len1.len_at_least c.in-len1.len_below c.operand-item.is in
-    let seen : phrase_trees c.args.operands.now ≡ phrases_of (map phrase_tree (c.operand-item.result ∷ [])) =
-    trees_are c.args.operands.now ∙ ap (λ (ys : List Phrase). phrases_of (map phrase_tree ys)) (sym c.as_slice.ensures.value ∙ one) in
+    let seen = one_tree c.args.operands.now c.as_slice.result.now c.operand-item.result c.as_slice.ensures.value c.in-len1.len_at_least c.in-len1.len_below c.operand-item.is in
     subst (λ (ts : PhraseTrees). AnswersCheck formula_tree (formula_of_kind (names_seen c.args.names.now) c.args.at (form c.args.form ts)) c.form_of_one.result) (sym seen) c.form_of_one.ensures
 
 pub form_formula-returns-in-len2 : goal.form_formula-returns-in-len2
 form_formula-returns-in-len2 t c =
-    let xs : List Phrase = c.as_slice.result.now in
-    let x : Phrase = c.first-item.result in
-    let y : Phrase = c.second-item.result in
-    let two : xs ≡ x ∷ y ∷ [] = two_are xs x y c.in-len2.len_at_least c.in-len2.len_below c.first-item.is c.second-item.is in
-    let seen : phrase_trees c.args.operands.now ≡ phrases_of (map phrase_tree (x ∷ y ∷ [])) =
-    trees_are c.args.operands.now ∙ ap (λ (ys : List Phrase). phrases_of (map phrase_tree ys)) (sym c.as_slice.ensures.value ∙ two) in
+    let seen = two_trees c.args.operands.now c.as_slice.result.now c.first-item.result c.second-item.result c.as_slice.ensures.value c.in-len2.len_at_least c.in-len2.len_below c.first-item.is c.second-item.is in
     subst (λ (ts : PhraseTrees). AnswersCheck formula_tree (formula_of_kind (names_seen c.args.names.now) c.args.at (form c.args.form ts)) c.form_of_two.result) (sym seen) c.form_of_two.ensures
 
 pub form_formula-returns-in_default-as_slice : goal.form_formula-returns-in_default-as_slice
@@ -72,15 +65,5 @@ formulas-loop-phrase-init t c =
 pub formulas-loop-phrase-preserved : goal.formulas-loop-phrase-preserved
 formulas-loop-phrase-preserved t c =
     let names = names_seen c.args.names.now in
-    let xs : List Phrase = c.deref-phrase-items.result.now in
-    let i : ℕ = c.loop-phrase.phrase-index in
-    let x : Phrase = c.phrase-item.result in
-    let made = map formula_seen c.loop-phrase.items.items in
-    let rest = formulas_in names (phrases_of (map phrase_tree (drop (i + 1) xs))) in
-    let w : Rc Formula Global = c.in_ok-shared_formula.field-0 in
-    let pushed : map formula_seen c.push.new.self.items ≡ made ++ formula_seen w ∷ [] =
-    ap (map formula_seen) c.in_ok-push.ensures.items ∙ map-append formula_seen c.loop-phrase.items.items (w ∷ []) in
-    c.loop-phrase.invariant
-    ∙ (ap (λ ts. mapped (λ es. made ++ es) (formulas_in names (phrases_of ts))) (from_here phrase_tree xs i x c.loop-phrase-test.true c.phrase-item.is)
-    ∙ (one_made made (formula_seen w) (formula_of names (phrase_tree x)) rest c.in_ok-shared_formula.ensures
-    ∙ ap (λ (ys : List FormulaTree). mapped (λ es. ys ++ es) rest) (sym pushed)))
+    more_made formula_seen (λ ts. formulas_in names (phrases_of ts)) (formula_of names) _ _ _ c.deref-phrase-items.result.now c.loop-phrase.phrase-index c.phrase-item.result _ (λ p ps. refl)
+    c.in_ok-push.ensures.items c.in_ok-shared_formula.ensures c.loop-phrase-test.true c.phrase-item.is c.loop-phrase.invariant

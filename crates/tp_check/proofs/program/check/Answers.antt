@@ -5,8 +5,10 @@ use Rattle.tp_meaning.specs.Interval.{ProgramTree}
 use Rattle.tp_check.specs.declared.program.Program.{Program}
 use Rattle.tp_check.specs.declared.refusal.CheckRefusal.{CheckRefusal}
 use Rattle.tp_scope.specs.Names.{names_of}
-use Rattle.tp_check.specs.Outcome.{CheckOutcome, AnswersCheck}
-use Rattle.tp_check.specs.Program.{program_over, program_tree}
+use Rattle.tp_check.specs.Outcome.{CheckOutcome}
+use Rattle.tp_check.specs.Answers.{AnswersCheck}
+use Rattle.tp_check.specs.Program.{program_over}
+use Rattle.tp_check.specs.Read.{program_tree}
 use Rattle.tp_check.proofs.Fitting.{program_fits}
 use Rattle.tp_check.proofs.Known.{own_names_suffice}
 use Rattle.tp_check.proofs.program.check.Goals as goal
