@@ -95,23 +95,24 @@ taken ds callers states work at j rest are is p = record {
         let l = (are.right i k).1 calls in
         subst (λ cs. Contains cs i) (same_Some l.0 rest (sym l.1 ∙ (ap (slice_get callers) (sym e) ∙ is))) l.2
 
--- a caller is false already
-pub passed : (ds : List DefinitionTree) (states : List Bool) (work : List ℕ) (at i : ℕ) (rest : List ℕ) → slice_get states i ≡ Some false → Progress ds states work at (i ∷ rest) → Progress ds states work at rest
-passed ds states work at i rest is_false p = record {
+-- where of the callers some are done with, the others are left
+fewer : (ds : List DefinitionTree) (states : List Bool) (work : List ℕ) (at at' : ℕ) (rest rest' : List ℕ) → Progress ds states work at rest
+    → ((i j : ℕ) → (j ≡ at) × Contains rest i → (slice_get states i ≡ Some false) ⊎ (Contains work j ⊎ ((j ≡ at') × Contains rest' i))) → ((i : ℕ) → Contains rest' i → CallsDefinition ds i at' × (slice_get states at' ≡ Some false)) → Progress ds states work at' rest'
+fewer ds states work at at' rest rest' p left callers = record {
   each = p.each;
   own = p.own;
   sound = p.sound;
-  spread = λ k j calls f. elim (p.spread k j calls f) [
-    | inl h ↦ inl h
-    | inr (inl w) ↦ inr (inl w)
-    | inr (inr c) ↦ elim (first_or_later i k rest c.1) [
-      | inl e ↦ inl (ap (slice_get states) (sym e) ∙ is_false)
-      | inr l ↦ inr (inr (c.0, l))
-    ]
-  ];
+  spread = λ i j calls f. elim (p.spread i j calls f) [ inl h ↦ inl h | inr (inl w) ↦ inr (inl w) | inr (inr c) ↦ left i j c ];
   listed = p.listed;
-  callers = λ k c. p.callers k (later_in i k rest c);
+  callers = callers;
 }
+
+-- a caller is false already
+pub passed : (ds : List DefinitionTree) (states : List Bool) (work : List ℕ) (at i : ℕ) (rest : List ℕ) → slice_get states i ≡ Some false → Progress ds states work at (i ∷ rest) → Progress ds states work at rest
+passed ds states work at i rest is_false p = fewer ds states work at at (i ∷ rest) rest p (λ k j c. elim (first_or_later i k rest c.1) [
+  | inl e ↦ inl (ap (slice_get states) (sym e) ∙ is_false)
+  | inr l ↦ inr (inr (c.0, l))
+]) (λ k c. p.callers k (later_in i k rest c))
 
 -- a caller becomes false, and comes into the work
 pub added : (ds : List DefinitionTree) (states : List Bool) (work : List ℕ) (at i : ℕ) (rest : List ℕ) → Progress ds states work at (i ∷ rest) → Progress ds (set states i false) (work ++ i ∷ []) at rest
@@ -151,18 +152,7 @@ added ds states work at i rest p = record {
 
 -- no caller is left
 pub gone : (ds : List DefinitionTree) (states : List Bool) (work : List ℕ) (at : ℕ) → Progress ds states work at [] → Progress ds states work 0 []
-gone ds states work at p = record {
-  each = p.each;
-  own = p.own;
-  sound = p.sound;
-  spread = λ i j calls f. elim (p.spread i j calls f) [
-    | inl h ↦ inl h
-    | inr (inl w) ↦ inr (inl w)
-    | inr (inr c) ↦ absurd (in_none i c.1)
-  ];
-  listed = p.listed;
-  callers = λ i c. absurd (in_none i c);
-}
+gone ds states work at p = fewer ds states work at 0 [] [] p (λ i j c. absurd (in_none i c.1)) (λ i c. absurd (in_none i c))
 
 -- who is taken from the work, and a caller, are definitions
 pub called_is : (ds : List DefinitionTree) (states : List Bool) (work : List ℕ) (at j : ℕ) (rest : List ℕ) → Progress ds states (work ++ j ∷ []) at rest → j < length ds
