@@ -65,6 +65,20 @@ module _ (definitions : List Signature) where
   none_there (i ∷ path) p e stands breaks = let none : None ≡ Some stands.0 = stands.1 in absurd cc
   none_there [] p e stands breaks = stands
 
+  -- what is broken first among some phrases is so among all of them, at the place to which it moves
+  moved_first : (rs all : List Placed) (e : CheckRefusal) (told : IsFirstBroken definitions rs e) (move : ℕ → ℕ) → ((i : ℕ) (r : Placed) → slice_get rs i ≡ Some r → slice_get all (move i) ≡ Some r)
+      → ((i : ℕ) (path : List ℕ) → StandsAmong definitions rs (i ∷ path) told.broken_by → ((path' : List ℕ) (p : Placed) (e' : CheckRefusal) → StandsAmong definitions rs path' p → Breaks definitions p.position p.phrase e' → IsNoLater (i ∷ path) e path' e')
+      → (i' : ℕ) (path' : List ℕ) (p r : Placed) (e' : CheckRefusal) → slice_get all i' ≡ Some r → StandsIn definitions r path' p → Breaks definitions p.position p.phrase e' → IsNoLater (move i ∷ path) e (i' ∷ path') e') → IsFirstBroken definitions all e
+  moved_first rs all e told move there order = by_path told.path told.stands told.first
+    where
+      by_path : (path : List ℕ) → StandsAmong definitions rs path told.broken_by → ((path' : List ℕ) (p : Placed) (e' : CheckRefusal) → StandsAmong definitions rs path' p → Breaks definitions p.position p.phrase e' → IsNoLater path e path' e') → IsFirstBroken definitions all e
+      by_path [] stands first = absurd stands
+      by_path (i ∷ path) stands first = record { path = move i ∷ path; broken_by = told.broken_by; stands = (stands.0, there i stands.0 stands.1, stands.2); breaks = told.breaks; first = later }
+        where
+          later : (path' : List ℕ) (p : Placed) (e' : CheckRefusal) → StandsAmong definitions all path' p → Breaks definitions p.position p.phrase e' → IsNoLater (move i ∷ path) e path' e'
+          later [] p e' stands' breaks = absurd stands'
+          later (i' ∷ path') p e' stands' breaks = order i path stands first i' path' p stands'.0 e' stands'.1 stands'.2 breaks
+
   kept_before : {A : Type 0} (ps qs : List Placed) (o : CheckOutcome A) → AreKept definitions ps → Told qs o → Told (ps ++ qs) o
   kept_before ps qs (Ok x) kept told = kept_both
     where
@@ -76,55 +90,18 @@ module _ (definitions : List Signature) where
       kept_both : AreKept definitions (ps ++ qs)
       kept_both [] p e stands breaks = stands
       kept_both (i ∷ path) p e stands breaks = by_part i path p stands.0 e stands.2 breaks (in_either ps qs i stands.0 stands.1)
-  kept_before ps qs (Err e) kept told = first_behind told.path told.stands told.first
-    where
-      first_behind : (path : List ℕ) → StandsAmong definitions qs path told.broken_by
-          → ((path' : List ℕ) (p : Placed) (e' : CheckRefusal) → StandsAmong definitions qs path' p → Breaks definitions p.position p.phrase e' → IsNoLater path e path' e')
-          → IsFirstBroken definitions (ps ++ qs) e
-      first_behind [] stands first = absurd stands
-      first_behind (i ∷ path) stands first =
-          record {
-            path = (i + length ps) ∷ path;
-            broken_by = told.broken_by;
-            stands = (stands.0, behind ps qs i stands.0 stands.1, stands.2);
-            breaks = told.breaks;
-            first = later;
-          }
-        where
-          by_part : (i' : ℕ) (path' : List ℕ) (p r : Placed) (e' : CheckRefusal) → StandsIn definitions r path' p → Breaks definitions p.position p.phrase e'
-              → (slice_get ps i' ≡ Some r) ⊎ ((j : ℕ) × (i' ≡ j + length ps) × (slice_get qs j ≡ Some r)) → IsNoLater ((i + length ps) ∷ path) e (i' ∷ path') e'
-          by_part i' path' p r e' there breaks (inl h) = absurd (kept (i' ∷ path') p e' (r, h, there) breaks)
-          by_part i' path' p r e' there breaks (inr h) =
-              shifted (length ps) i h.0 path path' e e' (first (h.0 ∷ path') p e' (r, h.2, there) breaks) (i + length ps) i' refl h.1
-
-          later : (path' : List ℕ) (p : Placed) (e' : CheckRefusal) → StandsAmong definitions (ps ++ qs) path' p → Breaks definitions p.position p.phrase e' → IsNoLater ((i + length ps) ∷ path) e path' e'
-          later [] p e' there breaks = absurd there
-          later (i' ∷ path') p e' there breaks = by_part i' path' p there.0 e' there.2 breaks (in_either ps qs i' there.0 there.1)
+  kept_before ps qs (Err e) kept told = moved_first qs (ps ++ qs) e told (λ i. i + length ps) (behind ps qs) (λ i path stands first i' path' p r e' is there breaks.
+      elim (in_either ps qs i' r is) [
+        | inl h ↦ absurd (kept (i' ∷ path') p e' (r, h, there) breaks)
+        | inr h ↦ shifted (length ps) i h.0 path path' e e' (first (h.0 ∷ path') p e' (r, h.2, there) breaks) (i + length ps) i' refl h.1
+      ])
 
   broken_before : (ps qs : List Placed) (e : CheckRefusal) → IsFirstBroken definitions ps e → IsFirstBroken definitions (ps ++ qs) e
-  broken_before ps qs e told = first_in_front told.path told.stands told.first
-    where
-      first_in_front : (path : List ℕ) → StandsAmong definitions ps path told.broken_by
-          → ((path' : List ℕ) (p : Placed) (e' : CheckRefusal) → StandsAmong definitions ps path' p → Breaks definitions p.position p.phrase e' → IsNoLater path e path' e')
-          → IsFirstBroken definitions (ps ++ qs) e
-      first_in_front [] stands first = absurd stands
-      first_in_front (i ∷ path) stands first =
-          record {
-            path = i ∷ path;
-            broken_by = told.broken_by;
-            stands = (stands.0, in_front ps qs i stands.0 stands.1, stands.2);
-            breaks = told.breaks;
-            first = later;
-          }
-        where
-          by_part : (i' : ℕ) (path' : List ℕ) (p r : Placed) (e' : CheckRefusal) → StandsIn definitions r path' p → Breaks definitions p.position p.phrase e'
-              → (slice_get ps i' ≡ Some r) ⊎ ((j : ℕ) × (i' ≡ j + length ps) × (slice_get qs j ≡ Some r)) → IsNoLater (i ∷ path) e (i' ∷ path') e'
-          by_part i' path' p r e' there breaks (inl h) = first (i' ∷ path') p e' (r, h, there) breaks
-          by_part i' path' p r e' there breaks (inr h) = let before : i < length ps = slice_get_within ps i stands.0 stands.1 in sooner i i' path path' e e' (omega (arith, h.1))
-
-          later : (path' : List ℕ) (p : Placed) (e' : CheckRefusal) → StandsAmong definitions (ps ++ qs) path' p → Breaks definitions p.position p.phrase e' → IsNoLater (i ∷ path) e path' e'
-          later [] p e' there breaks = absurd there
-          later (i' ∷ path') p e' there breaks = by_part i' path' p there.0 e' there.2 breaks (in_either ps qs i' there.0 there.1)
+  broken_before ps qs e told = moved_first ps (ps ++ qs) e told (λ i. i) (in_front ps qs) (λ i path stands first i' path' p r e' is there breaks.
+      elim (in_either ps qs i' r is) [
+        | inl h ↦ first (i' ∷ path') p e' (r, h, there) breaks
+        | inr h ↦ let before : i < length ps = slice_get_within ps i stands.0 stands.1 in sooner i i' path path' e e' (omega (arith, h.1))
+      ])
 
   pub mapped_told : {A B : Type 0} (g : A → B) (ps : List Placed) (o : CheckOutcome A) → Told ps o → Told ps (mapped g o)
   mapped_told g ps (Ok x) told = told

@@ -8,7 +8,7 @@ use Rattle.tp_tree.specs.declared.operator.Form.{Form}
 use Rattle.tp_tree.specs.declared.operator.Form.TheVariants as f
 use Rattle.tp_tree.specs.Tree as k
 use Rattle.tp_tree.specs.Tree.{PhraseTree, phrase, KindTree, PhraseTrees, no_phrase, phrase_then}
-use Rattle.tp_meaning.specs.Syntax.{ExprTree, exprs_of, invoke, test}
+use Rattle.tp_meaning.specs.Syntax.{FormulaTree, ExprTree, exprs_of, invoke, test}
 use Rattle.tp_meaning.specs.Syntax as m
 use Rattle.tp_meaning.specs.Value.{is_upper}
 use Rattle.tp_meaning.specs.Derived.{next_equals_of, halt_of, keep_of, fin_of, gets_of, stable_of, becomes_of, list_of_length, repeat_of}
@@ -157,6 +157,12 @@ module _ (names : VisibleNames) where
   made : {A : Type 0} (position : Position) (at : ℕ) (kind : KindTree) → KeepsEverywhere names.definitions kind → is_due names.definitions position kind ≡ true → (o : CheckOutcome A)
       → Told names.definitions (operands_by names.definitions position kind) o → Told names.definitions (placed position at kind ∷ []) o
   made position at kind everywhere due o told = operands_told names.definitions (placed position at kind) (keeps names.definitions position at kind everywhere due) o told
+
+  -- a form of one operand
+  formed : {A : Type 0} (at : ℕ) (word : Form) (w : PhraseTree) (q : Placed) (g : A → FormulaTree) (o : CheckOutcome A) → KeepsEverywhere names.definitions (k.form word (phrase_then w no_phrase)) → is_due names.definitions formula (k.form word (phrase_then w no_phrase)) ≡ true
+      → operands_by names.definitions formula (k.form word (phrase_then w no_phrase)) ≡ q ∷ [] → Told names.definitions (q ∷ []) o → Told names.definitions (placed formula at (k.form word (phrase_then w no_phrase)) ∷ []) (mapped g o)
+  formed at word w q g o everywhere due is told =
+      made formula at (k.form word (phrase_then w no_phrase)) everywhere due (mapped g o) (mapped_told names.definitions g _ o (subst (λ (ps : List Placed). Told names.definitions ps o) (sym is) told))
 
   -- what is told of a phrase in one position is told of it in another one, where its operands are the same
   moved : {A : Type 0} (one other : Position) (at : ℕ) (kind : KindTree) → KeepsEverywhere names.definitions kind → is_due names.definitions one kind ≡ true → is_due names.definitions other kind ≡ true
@@ -411,24 +417,12 @@ mutual
       binary_told names at o l r first second (formula_told names l first) (formula_told names r second)
   formula_kind_told names at (k.bare word) known = made names formula at (k.bare word) tt refl (formula_of_kind names at (k.bare word)) (none_there names.definitions)
   formula_kind_told names at (k.next w) known = made names formula at (k.next w) tt refl (formula_of_kind names at (k.next w)) (mapped_told names.definitions m.next (as_formula w ∷ []) (formula_of names w) (formula_told names w known))
-  formula_kind_told names at (k.form f.Always (phrase_then w no_phrase)) known =
-      made names formula at (k.form f.Always (phrase_then w no_phrase)) refl refl (mapped m.always (formula_of names w))
-      (mapped_told names.definitions m.always (as_formula w ∷ []) (formula_of names w) (formula_told names w (front names.globals (names_in names.scope w) [] known)))
-  formula_kind_told names at (k.form f.Keep (phrase_then w no_phrase)) known =
-      made names formula at (k.form f.Keep (phrase_then w no_phrase)) refl refl (mapped keep_of (formula_of names w))
-      (mapped_told names.definitions keep_of (as_formula w ∷ []) (formula_of names w) (formula_told names w (front names.globals (names_in names.scope w) [] known)))
-  formula_kind_told names at (k.form f.Fin (phrase_then w no_phrase)) known =
-      made names formula at (k.form f.Fin (phrase_then w no_phrase)) refl refl (mapped fin_of (formula_of names w))
-      (mapped_told names.definitions fin_of (as_formula w ∷ []) (formula_of names w) (formula_told names w (front names.globals (names_in names.scope w) [] known)))
-  formula_kind_told names at (k.form f.Halt (phrase_then b no_phrase)) known =
-      made names formula at (k.form f.Halt (phrase_then b no_phrase)) refl refl (mapped halt_of (expr_of names b))
-      (mapped_told names.definitions halt_of (as_expression b ∷ []) (expr_of names b) (expr_told names b (front names.globals (names_in names.scope b) [] known)))
-  formula_kind_told names at (k.form f.Stable (phrase_then p no_phrase)) known =
-      made names formula at (k.form f.Stable (phrase_then p no_phrase)) refl refl (mapped stable_of (place_phrase names p))
-      (mapped_told names.definitions stable_of (as_place p ∷ []) (place_phrase names p) (place_told names p (front names.globals (names_in names.scope p) [] known)))
-  formula_kind_told names at (k.form f.Len (phrase_then e no_phrase)) known =
-      made names formula at (k.form f.Len (phrase_then e no_phrase)) refl refl (mapped m.len (expr_of names e))
-      (mapped_told names.definitions m.len (as_expression e ∷ []) (expr_of names e) (expr_told names e (front names.globals (names_in names.scope e) [] known)))
+  formula_kind_told names at (k.form f.Always (phrase_then w no_phrase)) known = formed names at f.Always w (as_formula w) m.always (formula_of names w) refl refl refl (formula_told names w (front names.globals (names_in names.scope w) [] known))
+  formula_kind_told names at (k.form f.Keep (phrase_then w no_phrase)) known = formed names at f.Keep w (as_formula w) keep_of (formula_of names w) refl refl refl (formula_told names w (front names.globals (names_in names.scope w) [] known))
+  formula_kind_told names at (k.form f.Fin (phrase_then w no_phrase)) known = formed names at f.Fin w (as_formula w) fin_of (formula_of names w) refl refl refl (formula_told names w (front names.globals (names_in names.scope w) [] known))
+  formula_kind_told names at (k.form f.Halt (phrase_then b no_phrase)) known = formed names at f.Halt b (as_expression b) halt_of (expr_of names b) refl refl refl (expr_told names b (front names.globals (names_in names.scope b) [] known))
+  formula_kind_told names at (k.form f.Stable (phrase_then p no_phrase)) known = formed names at f.Stable p (as_place p) stable_of (place_phrase names p) refl refl refl (place_told names p (front names.globals (names_in names.scope p) [] known))
+  formula_kind_told names at (k.form f.Len (phrase_then e no_phrase)) known = formed names at f.Len e (as_expression e) m.len (expr_of names e) refl refl refl (expr_told names e (front names.globals (names_in names.scope e) [] known))
   formula_kind_told names at (k.form f.List (phrase_then l (phrase_then e no_phrase))) known =
       made names formula at (k.form f.List (phrase_then l (phrase_then e no_phrase))) refl refl (both list_of_length (place_phrase names l) (expr_of names e))
       (both_told names.definitions list_of_length (as_place l ∷ []) (as_expression e ∷ []) (place_phrase names l) (expr_of names e)

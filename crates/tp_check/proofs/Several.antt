@@ -3,7 +3,7 @@ use Rattle.std.proofs.Common.{refl, ap, ap₂, sym, ◌∙◌, ◌≡◌, ℕ, �
 use Rattle.std.proofs.lemmas.List.{append-nil, map-append}
 use Rattle.tp_tree.specs.declared.phrase.Phrase.{Phrase}
 use Rattle.tp_tree.specs.declared.phrase.Phrases.{Phrases, out-Phrases}
-use Rattle.tp_tree.specs.Tree.{PhraseTree, phrases_of}
+use Rattle.tp_tree.specs.Tree.{PhraseTree, PhraseTrees, phrases_of}
 use Rattle.tp_tree.specs.Read.{phrase_tree, phrase_trees}
 use Rattle.tp_tree.specs.Equations.{trees_are}
 use Rattle.tp_scope.proofs.Several.{from_here}
@@ -13,6 +13,11 @@ use Rattle.tp_check.specs.Outcome.{CheckOutcome, both, mapped}
 pub none_made : {A : Type 0} (xs : List A) (o : CheckOutcome (List A)) → xs ≡ [] → o ≡ mapped (λ ys. xs ++ ys) o
 none_made xs (Ok ys) e = ap (λ zs. Ok (zs ++ ys)) (sym e)
 none_made xs (Err r) e = refl
+
+-- of several phrases none is made yet
+pub start_made : {X T : Type 0} (view : X → T) (made_in : PhraseTrees → CheckOutcome (List T)) (ps : Phrases) (xs : List Phrase) (items : List X) → xs ≡ (out-Phrases ps).items.items → items ≡ []
+    → made_in (phrase_trees ps) ≡ mapped (λ ys. map view items ++ ys) (made_in (phrases_of (map phrase_tree xs)))
+start_made view made_in ps xs items e none = ap made_in (trees_are ps ∙ ap (λ ys. phrases_of (map phrase_tree ys)) (sym e)) ∙ none_made (map view items) _ (ap (map view) none)
 
 -- one more is made
 pub one_made : {A : Type 0} (xs : List A) (x : A) (o : CheckOutcome A) (rest : CheckOutcome (List A)) → o ≡ Ok x

@@ -22,3 +22,4 @@ pub use laws::{checked_once, globals_are_names, programs_keep_rules, refusals_na
 pub use program::{Program, check};
 pub use refusal::CheckRefusal;
 pub use refusals::miscounted_or;
+pub use state::is_state_here;

@@ -33,8 +33,8 @@ fn has_value(
     Ok(Formula::Eq(expr, value))
 }
 
-// Whether a phrase says something of one state, and calls state definitions alone.
-fn is_state_here(phrase: &Phrase, names: &Visible) -> Result<bool, NoMemory>
+/// Whether a phrase says something of one state, and calls state definitions alone.
+pub fn is_state_here(phrase: &Phrase, names: &Visible) -> Result<bool, NoMemory>
     ensures { IfOk result (λ b.
         b ≡ is_state_in (names_seen names.now) (phrase_tree phrase.now)) }
 {

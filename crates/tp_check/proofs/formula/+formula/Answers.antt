@@ -16,7 +16,7 @@ use Rattle.tp_check.specs.Outcome.{mapped}
 use Rattle.tp_check.specs.Answers.{AnswersCheck}
 use Rattle.tp_check.specs.Positions.{formula_of, formula_of_kind, formulas_in}
 use Rattle.tp_scope.proofs.Several.{from_here}
-use Rattle.tp_check.proofs.Several.{none_made, more_made, one_tree, two_trees}
+use Rattle.tp_check.proofs.Several.{start_made, more_made, one_tree, two_trees}
 use Rattle.tp_scope.proofs.Loops.{tree_of_for, tree_of_forall}
 use Rattle.tp_check.proofs.Sides.{form_miscounted, tree_of_and}
 use Rattle.tp_check.proofs.formula.+formula.Goals as goal
@@ -57,13 +57,9 @@ formula-returns-in-Forall t c =
     subst (λ (p : PhraseTree). AnswersCheck formula_tree (formula_of names p) c.over_numbers-in-Forall.result) (sym seen) c.over_numbers-in-Forall.ensures
 
 pub formulas-loop-phrase-init : goal.formulas-loop-phrase-init
-formulas-loop-phrase-init t c =
-    let xs : List Phrase = c.deref-phrase-items.result.now in
-    let seen : phrase_trees c.args.phrases.now ≡ phrases_of (map phrase_tree xs) = trees_are c.args.phrases.now ∙ ap (λ (ys : List Phrase). phrases_of (map phrase_tree ys)) (sym c.deref-phrase-items.ensures.value) in
-    ap (formulas_in (names_seen c.args.names.now)) seen ∙ none_made (map formula_seen c.new-items.result.items) _ (ap (map formula_seen) c.new-items.ensures.items)
+formulas-loop-phrase-init t c = start_made formula_seen (formulas_in (names_seen c.args.names.now)) c.args.phrases.now c.deref-phrase-items.result.now c.new-items.result.items c.deref-phrase-items.ensures.value c.new-items.ensures.items
 
 pub formulas-loop-phrase-preserved : goal.formulas-loop-phrase-preserved
 formulas-loop-phrase-preserved t c =
-    let names = names_seen c.args.names.now in
-    more_made formula_seen (λ ts. formulas_in names (phrases_of ts)) (formula_of names) _ _ _ c.deref-phrase-items.result.now c.loop-phrase.phrase-index c.phrase-item.result _ (λ p ps. refl)
+    more_made formula_seen (λ ts. formulas_in (names_seen c.args.names.now) (phrases_of ts)) (formula_of (names_seen c.args.names.now)) _ _ _ c.deref-phrase-items.result.now c.loop-phrase.phrase-index c.phrase-item.result _ (λ p ps. refl)
     c.in_ok-push.ensures.items c.in_ok-shared_formula.ensures c.loop-phrase-test.true c.phrase-item.is c.loop-phrase.invariant
