@@ -12,7 +12,7 @@ use Rattle.tp_lex.specs.declared.token.Symbol.{Symbol}
 use Rattle.tp_lex.specs.declared.token.Symbol.TheVariants as s
 use Rattle.tp_lex.specs.declared.spelling.TheConstants.{WORDS, SYMBOLS}
 use Rattle.tp_lex.specs.Spelling.{word_spelling, symbol_spelling}
-use Rattle.tp_lex.specs.Spelled.{spelled_word, longest_symbol}
+use Rattle.tp_lex.specs.Spelled.{has_letters, spelled_word, longest_symbol}
 use Rattle.tp_lex.specs.Bytes.{is_blank, is_digit}
 use Rattle.tp_lex.specs.Pieces.{BeginsWith, IsNoWord, IsLongestSymbol}
 use Rattle.tp_lex.proofs.Lists.{find_sieved, AllFail, find_passes, find_none, find_early, begins_from, starts_from}
@@ -45,10 +45,6 @@ word_none text never = at (spelled_word text) refl
     at (Some word) e = absurd (never word (word_is text word e))
     at None e = refl
 
--- the word has so many letters
-abbrev pub has_letters : ℕ → Word → Bool
-has_letters n word = nat_eq (length (word_spelling word)) n
-
 other_length : (text : List ℕ) (n : ℕ) → length text ≡ n → (word : Word) → has_letters n word ≡ false → bytes_eq (word_spelling word) text ≡ false
 other_length text n e word other = at (bytes_eq (word_spelling word) text) refl
   where
@@ -63,14 +59,6 @@ other_length text n e word other = at (bytes_eq (word_spelling word) text) refl
 pub word_by_length : (text : List ℕ) (n : ℕ) → length text ≡ n → find (λ w. bytes_eq (word_spelling w) text) (filter (has_letters n) WORDS) ≡ spelled_word text
 unfolding spelled_word
 word_by_length text n e = find_sieved (λ w. bytes_eq (word_spelling w) text) (has_letters n) (other_length text n e) WORDS
-
-letters_at : (text : List ℕ) (word : Word) → length text ≢ 2 → length text ≢ 3 → length text ≢ 4 → length text ≢ 5 → length text ≢ 6 → length text ≢ 7 → length text ≢ 9 → length text ≡ length (word_spelling word) → ⊥
-letters_at text w.If n2 n3 n4 n5 n6 n7 n9 e = omega (arith, e, n2, n3, n4, n5, n6, n7, n9)
-letters_at text _ n2 n3 n4 n5 n6 n7 n9 e = omega (arith, e, n2, n3, n4, n5, n6, n7, n9)
-
--- no word has another number of letters
-pub no_length : (text : List ℕ) → length text ≢ 2 → length text ≢ 3 → length text ≢ 4 → length text ≢ 5 → length text ≢ 6 → length text ≢ 7 → length text ≢ 9 → spelled_word text ≡ None
-no_length text n2 n3 n4 n5 n6 n7 n9 = word_none text (λ word same. letters_at text word n2 n3 n4 n5 n6 n7 n9 (ap length same))
 
 lowercase : (word : Word) → is_ascii_uppercase (slice_index (word_spelling word) 0) ≡ false
 lowercase w.If = refl

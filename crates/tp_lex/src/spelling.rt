@@ -1,8 +1,9 @@
 // How words and symbols are written.
 ghost use Rattle.std.specs.Prelude.{◌≡◌, bytes_eq, find, nat_eq};
-ghost use Rattle.std.specs.List.{starts_with};
+ghost use Rattle.std.specs.List.{starts_with, filter};
 ghost use Rattle.tp_lex.specs.Spelling.{word_spelling, symbol_spelling};
-ghost use Rattle.tp_lex.specs.Spelled.{spelled_word, longest_symbol};
+ghost use Rattle.tp_lex.specs.Spelled.{has_letters, spelled_word, longest_symbol};
+ghost use Rattle.tp_lex.specs.declared.spelling.TheConstants.{WORDS};
 
 use crate::token::{Symbol, Word};
 
@@ -160,66 +161,61 @@ fn word_among(words: &[Word], text: &[u8]) -> Option<Word>
     None
 }
 
+// The words of so many letters.
+fn words_of(letters: usize) -> &'static [Word]
+    ensures { result.now ≡ filter (has_letters letters) WORDS }
+{
+    match letters {
+        2 => &[Word::If, Word::Do, Word::Or],
+        3 => &[
+            Word::For,
+            Word::Run,
+            Word::And,
+            Word::Not,
+            Word::Div,
+            Word::Mod,
+            Word::Fin,
+            Word::Len,
+        ],
+        4 => &[
+            Word::Then,
+            Word::Else,
+            Word::True,
+            Word::More,
+            Word::Skip,
+            Word::Next,
+            Word::Keep,
+            Word::Halt,
+            Word::Gets,
+            Word::List,
+            Word::Proj,
+        ],
+        5 => &[
+            Word::While,
+            Word::Until,
+            Word::False,
+            Word::Empty,
+            Word::Input,
+        ],
+        6 => &[
+            Word::Repeat,
+            Word::Forall,
+            Word::Exists,
+            Word::Define,
+            Word::Always,
+            Word::Stable,
+        ],
+        7 => &[Word::Display],
+        9 => &[Word::Sometimes],
+        _ => &[],
+    }
+}
+
 /// The word that the whole text spells.
 pub fn word_of(text: &[u8]) -> Option<Word>
     ensures { result ≡ spelled_word text.now }
 {
-    match text.len() {
-        2 => word_among(&[Word::If, Word::Do, Word::Or], text),
-        3 => word_among(
-            &[
-                Word::For,
-                Word::Run,
-                Word::And,
-                Word::Not,
-                Word::Div,
-                Word::Mod,
-                Word::Fin,
-                Word::Len,
-            ],
-            text,
-        ),
-        4 => word_among(
-            &[
-                Word::Then,
-                Word::Else,
-                Word::True,
-                Word::More,
-                Word::Skip,
-                Word::Next,
-                Word::Keep,
-                Word::Halt,
-                Word::Gets,
-                Word::List,
-                Word::Proj,
-            ],
-            text,
-        ),
-        5 => word_among(
-            &[
-                Word::While,
-                Word::Until,
-                Word::False,
-                Word::Empty,
-                Word::Input,
-            ],
-            text,
-        ),
-        6 => word_among(
-            &[
-                Word::Repeat,
-                Word::Forall,
-                Word::Exists,
-                Word::Define,
-                Word::Always,
-                Word::Stable,
-            ],
-            text,
-        ),
-        7 => word_among(&[Word::Display], text),
-        9 => word_among(&[Word::Sometimes], text),
-        _ => None,
-    }
+    word_among(words_of(text.len()), text)
 }
 
 // The first of the symbols that the text begins with.
