@@ -65,32 +65,19 @@ own_last definitions position at kind everywhere e (call_count q n x ps c found 
     absurd (differs (everywhere.2 ∙ ap (λ (d : Called). length d.signature.parameters) same))
 own_last definitions position at kind everywhere e (form_count q n word ps wrong) = absurd cc
 own_last definitions position at kind everywhere e (twice q n xs p repeats) = absurd cc
-own_last definitions position at kind everywhere e (no_expression n kind' wrong) = omega arith
-own_last definitions position at kind everywhere e (no_place n kind' wrong) = omega arith
-own_last definitions position at kind everywhere e (no_port n kind' wrong) = omega arith
-own_last definitions position at kind everywhere e (isnt_run n kind' wrong) = omega arith
+own_last definitions position at kind everywhere e _ = omega arith
 
 call_known : (definitions : List Signature) (position : Position) (at : ℕ) (x : List ℕ) (ps : PhraseTrees) (c : Called) → called_of definitions x ≡ Some c → (e : CheckRefusal) → Breaks definitions position (phrase at (k.call x ps)) e → 1 ≤ turn_of e
 call_known definitions position at x ps c found e (unknown q n y qs none) = absurd cc
-call_known definitions position at x ps c found e (call_count q n y qs d other differs) = omega arith
-call_known definitions position at x ps c found e (no_expression n kind wrong) = omega arith
-call_known definitions position at x ps c found e (no_place n kind wrong) = omega arith
-call_known definitions position at x ps c found e (no_port n kind wrong) = omega arith
-call_known definitions position at x ps c found e (isnt_run n kind wrong) = omega arith
+call_known definitions position at x ps c found e _ = omega arith
 
 form_counted : (definitions : List Signature) (position : Position) (at : ℕ) (word : Form) (ps : PhraseTrees) (e : CheckRefusal) → Breaks definitions position (phrase at (k.form word ps)) e → 1 ≤ turn_of e
 form_counted definitions position at word ps e (form_count q n other qs wrong) = omega arith
-form_counted definitions position at word ps e (no_expression n kind wrong) = omega arith
-form_counted definitions position at word ps e (no_place n kind wrong) = omega arith
-form_counted definitions position at word ps e (no_port n kind wrong) = omega arith
-form_counted definitions position at word ps e (isnt_run n kind wrong) = omega arith
+form_counted definitions position at word ps e _ = omega arith
 
 apart_last : (definitions : List Signature) (position : Position) (at : ℕ) (xs : Names) (p : PhraseTree) (e : CheckRefusal) → Breaks definitions position (phrase at (k.exists xs p)) e → 2 ≤ turn_of e
 apart_last definitions position at xs p e (twice q n ys r repeats) = omega arith
-apart_last definitions position at xs p e (no_expression n kind wrong) = omega arith
-apart_last definitions position at xs p e (no_place n kind wrong) = omega arith
-apart_last definitions position at xs p e (no_port n kind wrong) = omega arith
-apart_last definitions position at xs p e (isnt_run n kind wrong) = omega arith
+apart_last definitions position at xs p e _ = omega arith
 
 -- ---- refusals
 

@@ -96,6 +96,10 @@ all_below xs (f ∷ fs) h =
     ap (λ b. cond b (f ∷ facts_below (length xs) fs) (facts_below (length xs) fs)) (lt-ltb f.path.var.number (length xs) within) ∙ ap (λ gs. f ∷ gs) (all_below xs fs h.1)
 
 -- facts that were copied, each once
+-- where a store was empty, its facts stand for those that were added
+pub stand_alone : (before kept facts : List Fact) → before ≡ [] → StandFor kept (before ++ facts) → StandFor kept facts
+stand_alone before kept facts none s = subst (λ (fs : List Fact). StandFor kept (fs ++ facts)) none s
+
 pub stand_copied : (xs : List Variable) (facts all old new : List Fact) (n : ℕ) → AreOfVariables xs facts → n ≡ length xs → StandFor facts all → old ≡ [] → HasAppended (facts_below n facts) old new → StandFor new all
 stand_copied xs facts all old new n of long s none a =
     let is : new ≡ a.appended = a.list ∙ ap (λ (fs : List Fact). fs ++ a.appended) none in

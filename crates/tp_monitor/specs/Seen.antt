@@ -4,9 +4,11 @@ use Rattle.std.specs.Global.{Global}
 use Rattle.std.specs.declared.boxed.Box.{Box}
 use Rattle.tp_verdict.specs.declared.wide_formula.WideFormula.{WideFormula}
 use Rattle.tp_verdict.specs.declared.wide_formula.WideFormulas.{WideFormulas}
-use Rattle.tp_verdict.specs.Wide.{WideTree}
+use Rattle.tp_verdict.specs.Wide.{WideTree, next, if_more, if_empty, always}
 use Rattle.tp_verdict.specs.Read.{wide_tree}
 use Rattle.tp_monitor.specs.declared.wide.Wide.{Wide}
+use Rattle.tp_monitor.specs.declared.widening.Over.{Over}
+use Rattle.tp_monitor.specs.declared.widening.Over.TheVariants.{Next, IfMore, IfEmpty, Always}
 use Rattle.tp_monitor.specs.WideOf.{NamedWide}
 
 abbrev pub wide_seen : Wide → NamedWide
@@ -19,3 +21,10 @@ box_seen w = wide_tree w.value
 -- several
 abbrev pub wides_seen : WideFormulas → List WideTree
 wides_seen ws = map wide_tree ws.items.items
+
+-- what is made of a formula
+abbrev pub made_over : Over → WideTree → WideTree
+made_over Next w = next w
+made_over IfMore w = if_more w
+made_over IfEmpty w = if_empty w
+made_over Always w = always w

@@ -1,12 +1,12 @@
 // Phrases as wider formulas.
-ghost use Rattle.std.specs.Prelude.{◌≡◌, ◌≢◌, IfOk};
+ghost use Rattle.std.specs.Prelude.{◌≡◌, ◌≢◌};
 ghost use Rattle.tp_tree.specs.Read.{phrase_tree, phrase_trees, kind_tree};
 ghost use Rattle.tp_tree.specs.Tree.{negation as negation_kind, binary as binary_kind, form as form_kind, phrase_then, no_phrase};
 ghost use Rattle.tp_scope.specs.Phrases.{phrase_count};
 ghost use Rattle.tp_scope.specs.Seen.{names_seen};
 ghost use Rattle.tp_check.specs.Outcome.{both};
 ghost use Rattle.tp_check.specs.Answers.{AnswersCheck};
-ghost use Rattle.tp_check.specs.Positions.{expr_of, is_state_in};
+ghost use Rattle.tp_check.specs.Positions.{expr_of};
 ghost use Rattle.tp_verdict.specs.Wide.{trivial, branch, while};
 ghost use Rattle.tp_verdict.specs.Read.{wide_tree};
 ghost use Rattle.tp_monitor.specs.WideOf.{run_widely, repeated_until, wide_of, wide_of_kind, wide_in};
@@ -15,20 +15,11 @@ ghost use Rattle.tp_monitor.specs.Seen.{box_seen, wides_seen};
 use crate::widening::widen;
 use std::alloc::Global;
 use std::rc::Rc;
-use tp_check::{CheckRefusal, miscounted_or, shared_expression, shared_formula};
+use tp_check::{CheckRefusal, is_state_here, miscounted_or, shared_expression, shared_formula};
 use tp_kernel::Expr;
-use tp_scope::{Callable, Visible, is_place, is_state};
+use tp_scope::{Visible, is_place};
 use tp_tree::{Form, Op, Phrase, PhraseKind, Phrases};
-use tp_value::NoMemory;
 use tp_verdict::{WideFormula, WideFormulas};
-
-// Whether a phrase says something of one state, and calls state definitions alone.
-fn is_state_here(phrase: &Phrase, names: &Visible) -> Result<bool, NoMemory>
-    ensures { IfOk result (λ b.
-        b ≡ is_state_in (names_seen names.now) (phrase_tree phrase.now)) }
-{
-    is_state(phrase, Callable::StatesOf(names.directory))
-}
 
 // The formula that a phrase is where it is run, as a wider one.
 fn run_as_wide(alloc: Global, phrase: &Phrase, names: &Visible) -> Result<WideFormula, CheckRefusal>

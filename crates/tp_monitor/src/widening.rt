@@ -1,12 +1,12 @@
 // The formulas that can be run, as wider ones.
 ghost use Rattle.std.specs.Prelude.{◌≡◌, IfOk, Some};
 ghost use Rattle.std.specs.Option.{option_map, option_and_then};
-ghost use Rattle.tp_meaning.specs.Syntax.{next, if_more, if_empty, always, conjunction, while};
+ghost use Rattle.tp_meaning.specs.Syntax.{conjunction, while};
 ghost use Rattle.tp_kernel.specs.Read.{expr_tree, formula_tree, formula_trees};
 ghost use Rattle.tp_verdict.specs.Wide as wide;
 ghost use Rattle.tp_verdict.specs.Widened.{widened};
 ghost use Rattle.tp_verdict.specs.Read.{wide_tree};
-ghost use Rattle.tp_monitor.specs.Seen.{box_seen};
+ghost use Rattle.tp_monitor.specs.Seen.{box_seen, made_over};
 
 use std::alloc::Global;
 use std::rc::Rc;
@@ -25,49 +25,38 @@ fn widen_box(alloc: Global, formula: &Formula) -> Result<Option<Box<WideFormula>
     Ok(Some(Box::new(alloc, w)?))
 }
 
-// In each of these, of a kind of formula, by the formula within.
-#[cycle(widen)]
-fn widen_next(alloc: Global, formula: &Formula) -> Result<Option<WideFormula>, NoMemory>
-    ensures { IfOk result (λ w.
-        option_map wide_tree w ≡ widened (next (formula_tree formula.now))) }
-{
-    let Some(w) = widen_box(alloc, formula)? else {
-        return Ok(None);
-    };
-    Ok(Some(WideFormula::Next(w)))
+// What a formula is made of another one by.
+#[derive(Clone, Copy)]
+enum Over {
+    Next,
+    IfMore,
+    IfEmpty,
+    Always,
 }
 
-#[cycle(widen)]
-fn widen_if_more(alloc: Global, formula: &Formula) -> Result<Option<WideFormula>, NoMemory>
-    ensures { IfOk result (λ w.
-        option_map wide_tree w ≡ widened (if_more (formula_tree formula.now))) }
-{
-    let Some(w) = widen_box(alloc, formula)? else {
-        return Ok(None);
-    };
-    Ok(Some(WideFormula::IfMore(w)))
+impl Over {
+    fn make(self, part: Box<WideFormula>) -> WideFormula
+        ensures { wide_tree result ≡ made_over self (box_seen part) }
+    {
+        match self {
+            Over::Next => WideFormula::Next(part),
+            Over::IfMore => WideFormula::IfMore(part),
+            Over::IfEmpty => WideFormula::IfEmpty(part),
+            Over::Always => WideFormula::Always(part),
+        }
+    }
 }
 
+// What is made of this formula.
 #[cycle(widen)]
-fn widen_if_empty(alloc: Global, formula: &Formula) -> Result<Option<WideFormula>, NoMemory>
-    ensures { IfOk result (λ w.
-        option_map wide_tree w ≡ widened (if_empty (formula_tree formula.now))) }
+fn widen_over(alloc: Global, over: Over, formula: &Formula) -> Result<Option<WideFormula>, NoMemory>
+    ensures { IfOk result (λ w. option_map wide_tree w
+        ≡ option_and_then (λ v. Some (made_over over v)) (widened (formula_tree formula.now))) }
 {
     let Some(w) = widen_box(alloc, formula)? else {
         return Ok(None);
     };
-    Ok(Some(WideFormula::IfEmpty(w)))
-}
-
-#[cycle(widen)]
-fn widen_always(alloc: Global, formula: &Formula) -> Result<Option<WideFormula>, NoMemory>
-    ensures { IfOk result (λ w.
-        option_map wide_tree w ≡ widened (always (formula_tree formula.now))) }
-{
-    let Some(w) = widen_box(alloc, formula)? else {
-        return Ok(None);
-    };
-    Ok(Some(WideFormula::Always(w)))
+    Ok(Some(over.make(w)))
 }
 
 #[cycle(widen)]
@@ -150,10 +139,10 @@ pub fn widen(alloc: Global, formula: &Formula) -> Result<Option<WideFormula>, No
         Formula::More => Ok(Some(WideFormula::More)),
         Formula::Len(e) => Ok(Some(WideFormula::Len(e.clone()?))),
         Formula::Assign(l, r) => Ok(Some(WideFormula::Assign(l.clone()?, r.clone()?))),
-        Formula::Next(f) => widen_next(alloc, f),
-        Formula::IfMore(f) => widen_if_more(alloc, f),
-        Formula::IfEmpty(f) => widen_if_empty(alloc, f),
-        Formula::Always(f) => widen_always(alloc, f),
+        Formula::Next(f) => widen_over(alloc, Over::Next, f),
+        Formula::IfMore(f) => widen_over(alloc, Over::IfMore, f),
+        Formula::IfEmpty(f) => widen_over(alloc, Over::IfEmpty, f),
+        Formula::Always(f) => widen_over(alloc, Over::Always, f),
         Formula::And(fs) => widen_all(alloc, fs),
         Formula::While(b, f) => widen_while(alloc, f, b),
         Formula::If(b, f, g) => {

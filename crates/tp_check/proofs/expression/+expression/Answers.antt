@@ -1,4 +1,4 @@
-use Rattle.std.proofs.Common.{rules, refl, ap₂, ◌≡◌, ◌⊎◌, inl, inr, ◌+◌, ◌++◌, ◌∷◌, [], ◌∙◌, ℕ, List, sym, ap, map, drop, Ok}
+use Rattle.std.proofs.Common.{rules, refl, ap₂, ◌≡◌, ◌⊎◌, inl, inr, ◌+◌, ◌++◌, ◌∷◌, [], ◌∙◌, ℕ, List, sym, ap, map, Ok}
 use Rattle.std.proofs.lemmas.List.{map-append}
 use Rattle.std.proofs.lemmas.Slice.Zip.{Zip-more, either_empty_from_Zip}
 use Rattle.tp_tree.specs.declared.phrase.Phrases.{out-Phrases}
@@ -13,15 +13,13 @@ use Rattle.tp_scope.specs.Scope.{Names, VisibleNames}
 use Rattle.tp_scope.specs.Seen.{names_seen}
 use Rattle.tp_check.specs.Outcome.{mapped}
 use Rattle.tp_check.specs.Positions.{expr_of, exprs_in, argument_in, arguments_in}
-use Rattle.tp_scope.proofs.Several.{from_here}
 use Rattle.tp_check.proofs.Several.{none_made, one_made, more_made, all_made}
 use Rattle.tp_check.proofs.expression.+expression.Goals as goal
 
 pub expressions-loop-phrase-preserved : goal.expressions-loop-phrase-preserved
 expressions-loop-phrase-preserved t c =
     let names = names_seen c.args.names.now in
-    more_made expr_tree (λ ts. exprs_in names (phrases_of ts)) (expr_of names) _ _ _ c.deref-phrase-items.result.now c.loop-phrase.phrase-index c.phrase-item.result _ (λ p ps. refl)
-    c.in_ok-push.ensures.items c.in_ok-expression.ensures c.loop-phrase-test.true c.phrase-item.is c.loop-phrase.invariant
+    more_made expr_tree (λ ts. exprs_in names (phrases_of ts)) (expr_of names) _ _ _ c.deref-phrase-items.result.now c.loop-phrase.phrase-index c.phrase-item.result _ (λ p ps. refl) c.in_ok-push.ensures.items c.in_ok-expression.ensures c.loop-phrase-test.true c.phrase-item.is c.loop-phrase.invariant
 
 pub arguments-loop-operand-init : goal.arguments-loop-operand-init
 arguments-loop-operand-init t c =

@@ -1,13 +1,11 @@
-use Rattle.std.proofs.Common.{◌≡◌, ◌+◌, ◌++◌, ◌∷◌, [], ◌∙◌, ℕ, ◌<◌, ◌⊎◌, List, refl, sym, ap, subst, map, drop, length, Ok, Global, arith, rules}
-use Rattle.std.proofs.lemmas.List.{map-append, length-map}
+use Rattle.std.proofs.Common.{◌≡◌, ◌∙◌, ◌<◌, ◌⊎◌, List, refl, sym, ap, subst, map, length, Ok, arith, rules}
+use Rattle.std.proofs.lemmas.List.{length-map}
 use Rattle.std.proofs.lemmas.Grind.{common_steps}
-use Rattle.std.specs.declared.rc.Rc.{Rc}
 use Rattle.tp_tree.specs.declared.phrase.Phrase.{Phrase}
 use Rattle.tp_tree.specs.Tree.{PhraseTree, PhraseTrees, phrases_of, form}
 use Rattle.tp_tree.specs.Read.{phrase_tree, phrase_trees}
 use Rattle.tp_tree.specs.Equations.{trees_are}
-use Rattle.tp_meaning.specs.Syntax.{FormulaTree, conjunction, formulas_of}
-use Rattle.tp_kernel.specs.declared.formula.Formula.{Formula}
+use Rattle.tp_meaning.specs.Syntax.{conjunction, formulas_of}
 use Rattle.tp_kernel.specs.Read.{formula_tree}
 use Rattle.tp_kernel.specs.Equations.{formula_and}
 use Rattle.tp_scope.specs.Seen.{names_seen}
@@ -15,7 +13,6 @@ use Rattle.tp_check.specs.Building.{formula_seen}
 use Rattle.tp_check.specs.Outcome.{mapped}
 use Rattle.tp_check.specs.Answers.{AnswersCheck}
 use Rattle.tp_check.specs.Positions.{formula_of, formula_of_kind, formulas_in}
-use Rattle.tp_scope.proofs.Several.{from_here}
 use Rattle.tp_check.proofs.Several.{start_made, more_made, one_tree, two_trees}
 use Rattle.tp_scope.proofs.Loops.{tree_of_for, tree_of_forall}
 use Rattle.tp_check.proofs.Sides.{form_miscounted, tree_of_and}
@@ -61,5 +58,4 @@ formulas-loop-phrase-init t c = start_made formula_seen (formulas_in (names_seen
 
 pub formulas-loop-phrase-preserved : goal.formulas-loop-phrase-preserved
 formulas-loop-phrase-preserved t c =
-    more_made formula_seen (λ ts. formulas_in (names_seen c.args.names.now) (phrases_of ts)) (formula_of (names_seen c.args.names.now)) _ _ _ c.deref-phrase-items.result.now c.loop-phrase.phrase-index c.phrase-item.result _ (λ p ps. refl)
-    c.in_ok-push.ensures.items c.in_ok-shared_formula.ensures c.loop-phrase-test.true c.phrase-item.is c.loop-phrase.invariant
+    more_made formula_seen (λ ts. formulas_in (names_seen c.args.names.now) (phrases_of ts)) (formula_of (names_seen c.args.names.now)) _ _ _ c.deref-phrase-items.result.now c.loop-phrase.phrase-index c.phrase-item.result _ (λ p ps. refl) c.in_ok-push.ensures.items c.in_ok-shared_formula.ensures c.loop-phrase-test.true c.phrase-item.is c.loop-phrase.invariant

@@ -2,8 +2,7 @@ use Rattle.std.proofs.Common.{◌≡◌, ◌++◌, true, List, sym, ap, subst, �
 use Rattle.tp_value.specs.declared.path.Fact.{Fact}
 use Rattle.tp_store.specs.Known.{Contents, Variable, AreOfVariables}
 use Rattle.tp_verdict.specs.Trace.{clash_somewhere}
-use Rattle.tp_monitor.specs.Standing.{StandFor}
-use Rattle.tp_monitor.proofs.StandLemmas.{stand_before, clash_before}
+use Rattle.tp_monitor.proofs.StandLemmas.{stand_alone, stand_before, clash_before}
 use Rattle.tp_monitor.proofs.KindLemmas.{of_variables}
 use Rattle.tp_monitor.proofs.FillLemmas.{own_clash}
 use Rattle.tp_monitor.proofs.filling.state_store.Goals as goal
@@ -26,16 +25,12 @@ add_all-requires-2-clause-variables c =
 
 pub returns-then-not-branch-2 : goal.returns-then-not-branch-2
 returns-then-not-branch-2 c =
-    let own : List Fact = c.args.own.now in
     let first : List Fact = c.add_all.new.store.facts in
-    let none = ap (λ (s : Contents). s.facts) c.in_ok-store.ensures in
-    let stand : StandFor first own = subst (λ (fs : List Fact). StandFor first (fs ++ own)) none (c.in_ok-add_all.ensures.facts c.if-not-branch.false) in
-    sym (clash_before first own stand c.args.lasting.now) ∙ c.in_ok-add_all-2.ensures.clash c.if-not-branch-2.true
+    let stand = stand_alone _ first c.args.own.now (ap (λ (s : Contents). s.facts) c.in_ok-store.ensures) (c.in_ok-add_all.ensures.facts c.if-not-branch.false) in
+    sym (clash_before first c.args.own.now stand c.args.lasting.now) ∙ c.in_ok-add_all-2.ensures.clash c.if-not-branch-2.true
 
 pub returns : goal.returns
 returns c =
-    let own : List Fact = c.args.own.now in
     let first : List Fact = c.add_all.new.store.facts in
-    let none = ap (λ (s : Contents). s.facts) c.in_ok-store.ensures in
-    let stand : StandFor first own = subst (λ (fs : List Fact). StandFor first (fs ++ own)) none (c.in_ok-add_all.ensures.facts c.if-not-branch.false) in
-    stand_before first own stand c.args.lasting.now c.add_all-2.new.store.facts (c.in_ok-add_all-2.ensures.facts c.if-not-branch-2.false)
+    let stand = stand_alone _ first c.args.own.now (ap (λ (s : Contents). s.facts) c.in_ok-store.ensures) (c.in_ok-add_all.ensures.facts c.if-not-branch.false) in
+    stand_before first c.args.own.now stand c.args.lasting.now c.add_all-2.new.store.facts (c.in_ok-add_all-2.ensures.facts c.if-not-branch-2.false)
