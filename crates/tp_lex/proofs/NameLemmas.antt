@@ -8,7 +8,7 @@ use Rattle.tp_lex.specs.declared.token.Token.{Token}
 use Rattle.tp_lex.specs.declared.piece.Piece.{Piece}
 use Rattle.tp_lex.specs.declared.piece.Piece.TheVariants.{Gap, Lexeme, Refused}
 use Rattle.tp_lex.specs.Bytes.{is_name_byte}
-use Rattle.tp_lex.specs.Pieces.{IsName, BeginsPiece, blank, comment, word, upper, lower, number, symbol, bad_byte, open_comment, large_number, long_name}
+use Rattle.tp_lex.specs.Pieces.{IsName, BeginsPiece, word, upper, lower, number, symbol}
 use Rattle.tp_lex.specs.Tokens.{ReadsTokens, Ending, Whole, whole, gap, lexeme, fails}
 use Rattle.tp_lex.specs.Names.{own_names, token_names, IsNameText, NamesAreSpelled}
 use Rattle.tp_lex.proofs.PieceLemmas.{some_name}
