@@ -45,20 +45,6 @@ fn read_main(
     Ok(Wide { globals, formula })
 }
 
-// The same; what is read fits the variables.
-fn read_over(
-    alloc: Global,
-    main: &Phrase,
-    directory: &Directory,
-    globals: Globals,
-) -> Result<Wide, CheckRefusal>
-    requires { signatures_seen directory.now ≡ [] }
-    ensures formula { AnswersCheck wide_seen (wide_over globals (phrase_tree main.now)) result }
-    ensures fits { IfOk result (λ w. WideFits (kinds_of w.globals) (wide_tree w.formula)) }
-{
-    read_main(alloc, main, directory, globals)
-}
-
 // The names of the variables of a phrase that is all of a source.
 fn names(alloc: Global, main: &Phrase) -> Result<Globals, NoMemory>
     ensures { IfOk result (λ globals.
@@ -86,5 +72,5 @@ pub fn read_wide(alloc: Global, source: &Source) -> Result<Wide, CheckRefusal>
     let states: Vec<bool> = Vec::new(alloc);
     let directory = Directory::of(alloc, &source.definitions, states.as_slice())?;
     let globals = names(alloc, &source.main)?;
-    read_over(alloc, &source.main, &directory, globals)
+    read_main(alloc, &source.main, &directory, globals)
 }
