@@ -1,8 +1,8 @@
 -- One bit of a word set or cleared, planes with no members, planes joined.
-use Rattle.std.proofs.Common.{◌≡◌, ◌≢◌, ℕ, ◌+◌, ◌*◌, ◌/◌, ◌%◌, ◌^◌, ◌<◌, ◌≤◌, Bool, false, eqb, ◌||◌, List, length, set, get_or, replicate, bit_or, max, refl, ap, ap₂, subst, sym, ◌∙◌, inl, inr, arith}
+use Rattle.std.proofs.Common.{◌≡◌, ◌≢◌, ℕ, ◌+◌, ◌*◌, ◌/◌, ◌%◌, ◌^◌, ◌<◌, ◌≤◌, false, eqb, ◌||◌, List, length, set, get_or, replicate, bit_or, max, refl, ap, ap₂, sym, ◌∙◌, inl, inr, arith}
 use Rattle.std.specs.Int.{bit_at}
 use Rattle.std.proofs.lemmas.Bool.{cases_lt, cases_eq, or_from, eq-eqb, ne_eqb}
-use Rattle.std.proofs.lemmas.List.{get_or-set_same, get_or-set_other, get_or_past, get_or-replicate, length-replicate, set-get_or, ext_get_or}
+use Rattle.std.proofs.lemmas.List.{get_or-set_same, get_or-set_other, get_or_past, get_or-replicate, length-replicate, ext_get_or}
 use Rattle.std.proofs.lemmas.Nat.Bits.{bit_at-lt, bit_at_or}
 use Rattle.tp_lanes.specs.Planes.{flag, bit_of, bit_in, flags_below, passing_below, HasBetween, IsPlane}
 use Rattle.tp_lanes.proofs.Passing.{nothing_between, at_most}
@@ -24,12 +24,6 @@ module _ (words : List ℕ) (n v a : ℕ) (within : n / 64 < length words) (read
         ap (λ (x : ℕ). bit_of x (i % 64)) was ∙ (ap (λ (b : ℕ). eqb b 1) (sym (same (i % 64) (omega arith) apart)) ∙ ap (λ (x : ℕ). bit_of x (i % 64)) (sym now))
     | inr other ↦ ap (λ (x : ℕ). bit_of x (i % 64)) (sym (get_or-set_other words (n / 64) (i / 64) a 0 other))
   ]
-
--- a flag that is so already
-pub kept : (bound : ℕ) (words : List ℕ) (xs : List Bool) (n : ℕ) (b : Bool) → flags_below bound words ≡ xs → n < bound → bit_in words n ≡ b → xs ≡ set xs n b
-kept bound words xs n b e less is =
-    let here : flag xs n ≡ b = ap (λ (ys : List Bool). flag ys n) (sym e) ∙ (flag_below bound words n less ∙ is) in
-    sym (subst (λ (c : Bool). set xs n c ≡ xs) here (set-get_or xs n false))
 
 -- ---- no members
 

@@ -5,17 +5,17 @@ use Rattle.std.specs.Vec.{vec_len}
 use Rattle.std.proofs.lemmas.Bool.{eq-eqb}
 use Rattle.std.proofs.lemmas.List.{get_or_read, length-set}
 use Rattle.std.proofs.lemmas.Nat.Bits.{bit_at_set_same, bit_at_set_other, bit_at_clear_same, bit_at_clear_other}
-use Rattle.tp_lanes.specs.Planes.{bit_of, bit_in, flags_below, IsPlane}
+use Rattle.tp_lanes.specs.Planes.{flag, bit_of, bit_in, flags_below, IsPlane}
 use Rattle.tp_lanes.specs.declared.plane.Plane.TheInside.{Inside}
-use Rattle.tp_lanes.proofs.Planes.{seen_long, word_within, row_within, row_small, row_has, size_has, size_room, edited_flags, edited}
-use Rattle.tp_lanes.proofs.Edits.{bit_here, bits_elsewhere, kept}
+use Rattle.tp_lanes.proofs.Planes.{flag_below, seen_long, word_within, row_within, row_small, row_has, size_has, size_room, edited_flags, edited}
+use Rattle.tp_lanes.proofs.Edits.{bit_here, bits_elsewhere}
 
 -- a word in which the number's bit alone is set
 abbrev pub own_bit : ℕ → ℕ
 own_bit n = 1 * 2 ^ (n % 64) % 2 ^ 64
 
 module _ (s : Inside) (p : IsPlane s.bound s.words.items s.rows.items s.size) {xs : List Bool} (seen : flags_below s.bound s.words.items ≡ xs) (n : ℕ) (named : n < length xs) where
-  pub below : n < s.bound
+  below : n < s.bound
   below = let long = seen_long s.bound s.words.items seen in omega (arith, named, long)
 
   pub word_there : n / 64 < vec_len s.words
@@ -23,6 +23,9 @@ module _ (s : Inside) (p : IsPlane s.bound s.words.items s.rows.items s.size) {x
 
   pub row_there : n / 512 < vec_len s.rows
   row_there = let within = row_within s.bound s.words.items s.rows.items s.size p n below in omega (arith, within, s.rows.ok.0)
+
+  pub flag_read : flag xs n ≡ bit_in s.words.items n
+  flag_read = ap (λ (ys : List Bool). flag ys n) (sym seen) ∙ flag_below s.bound s.words.items n below
 
   -- the row's count, as it is read
   module _ (count : ℕ) (read : count ≡ get_or s.rows.items (n / 512) count) where
@@ -34,18 +37,14 @@ module _ (s : Inside) (p : IsPlane s.bound s.words.items s.rows.items s.size) {x
         let small = row_small s.bound s.words.items s.rows.items s.size p (n / 512) (row_within s.bound s.words.items s.rows.items s.size p n below) in
         omega (arith, small, count_is)
 
-    pub count_some : bit_in s.words.items n ≡ true → 0 < count
-    count_some yea = let some = row_has s.bound s.words.items s.rows.items s.size p n below yea in omega (arith, some, count_is)
+    pub count_some : flag xs n ≡ true → 0 < count
+    count_some yea = let some = row_has s.bound s.words.items s.rows.items s.size p n below (sym flag_read ∙ yea) in omega (arith, some, count_is)
 
-  -- its flag is so already
-  pub flag_kept : (b : Bool) → bit_in s.words.items n ≡ b → xs ≡ set xs n b
-  flag_kept b is = kept s.bound s.words.items xs n b seen below is
+  pub size_some : flag xs n ≡ true → 0 < s.size
+  size_some yea = size_has s.bound s.words.items s.rows.items s.size p n below (sym flag_read ∙ yea)
 
-  pub size_some : bit_in s.words.items n ≡ true → 0 < s.size
-  size_some yea = size_has s.bound s.words.items s.rows.items s.size p n below yea
-
-  pub size_small : bit_in s.words.items n ≡ false → s.size + 1 < 2 ^ 64
-  size_small none = size_room s.bound s.words.items s.rows.items s.size p n below none
+  pub size_small : flag xs n ≡ false → s.size + 1 < 2 ^ 64
+  size_small none = size_room s.bound s.words.items s.rows.items s.size p n below (sym flag_read ∙ none)
 
   -- its word, as it is read
   module _ (v : ℕ) (read : v ≡ get_or s.words.items (n / 64) v) where
@@ -55,8 +54,8 @@ module _ (s : Inside) (p : IsPlane s.bound s.words.items s.rows.items s.size) {x
     word_is : v ≡ get_or s.words.items (n / 64) 0
     word_is = get_or_read s.words.items (n / 64) v within read 0
 
-    pub bit_read : (b : ℕ) → b ≡ bit_at v (n % 64) → (value : ℕ) → b ≡ value → bit_in s.words.items n ≡ eqb value 1
-    bit_read b is value e = ap (λ (x : ℕ). bit_of x (n % 64)) (sym word_is) ∙ ap (λ (x : ℕ). eqb x 1) (sym is ∙ e)
+    pub bit_read : (b : ℕ) → b ≡ bit_at v (n % 64) → eqb b 1 ≡ flag xs n
+    bit_read b is = sym (flag_read ∙ (ap (λ (x : ℕ). bit_of x (n % 64)) (sym word_is) ∙ ap (λ (x : ℕ). eqb x 1) (sym is)))
 
     -- another word in its place, with the same other bits
     module _ (a : ℕ) (b : Bool) (here : bit_of a (n % 64) ≡ b) (same : (j : ℕ) → j < 64 → j ≢ n % 64 → bit_at a j ≡ bit_at v j) where
@@ -89,16 +88,16 @@ module _ (s : Inside) (p : IsPlane s.bound s.words.items s.rows.items s.size) {x
     clear_flags = flags_then (bit_and v (bit_not w64 (own_bit n))) false clear_here (λ j j_less ne. bit_at_clear_other w64 v (n % 64) (omega arith) j j_less ne)
 
     module _ (count : ℕ) (counted : count ≡ get_or s.rows.items (n / 512) count) where
-      pub set_plane : bit_in s.words.items n ≡ false → IsPlane s.bound (set s.words.items (n / 64) (bit_or v (own_bit n))) (set s.rows.items (n / 512) (count + 1)) (s.size + 1)
+      pub set_plane : flag xs n ≡ false → IsPlane s.bound (set s.words.items (n / 64) (bit_or v (own_bit n))) (set s.rows.items (n / 512) (count + 1)) (s.size + 1)
       set_plane none =
-          let was : ◌≡◌ {A = ℕ} (cond (bit_in s.words.items n) 1 0) 0 = ap (λ b. cond {A = ℕ} b 1 0) none in
+          let was : ◌≡◌ {A = ℕ} (cond (bit_in s.words.items n) 1 0) 0 = ap (λ b. cond {A = ℕ} b 1 0) (sym flag_read ∙ none) in
           let is = count_is count counted in
           plane_then (bit_or v (own_bit n)) true set_here (λ j j_less ne. bit_at_set_other w64 v (n % 64) (omega arith) j ne)
           (count + 1) (s.size + 1) (omega (arith, is, was)) (omega (arith, was))
 
-      pub clear_plane : bit_in s.words.items n ≡ true → IsPlane s.bound (set s.words.items (n / 64) (bit_and v (bit_not w64 (own_bit n)))) (set s.rows.items (n / 512) (count - 1)) (s.size - 1)
+      pub clear_plane : flag xs n ≡ true → IsPlane s.bound (set s.words.items (n / 64) (bit_and v (bit_not w64 (own_bit n)))) (set s.rows.items (n / 512) (count - 1)) (s.size - 1)
       clear_plane yea =
-          let was : ◌≡◌ {A = ℕ} (cond (bit_in s.words.items n) 1 0) 1 = ap (λ b. cond {A = ℕ} b 1 0) yea in
+          let was : ◌≡◌ {A = ℕ} (cond (bit_in s.words.items n) 1 0) 1 = ap (λ b. cond {A = ℕ} b 1 0) (sym flag_read ∙ yea) in
           let is = count_is count counted in
           let some = count_some count counted yea in
           plane_then (bit_and v (bit_not w64 (own_bit n))) false clear_here (λ j j_less ne. bit_at_clear_other w64 v (n % 64) (omega arith) j j_less ne)

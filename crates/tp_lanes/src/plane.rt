@@ -67,7 +67,7 @@ impl Plane {
         requires { n < length self.old }
         ensures { self.new ≡ slice_set self.old n true }
     {
-        if bit(self.words[(n / 64) as usize], n % 64) == 0 {
+        if !self.has(n) {
             self.words[(n / 64) as usize] |= 1 << (n % 64);
             self.rows[(n / 512) as usize] += 1;
             self.size += 1;
@@ -79,7 +79,7 @@ impl Plane {
         requires { n < length self.old }
         ensures { self.new ≡ slice_set self.old n false }
     {
-        if bit(self.words[(n / 64) as usize], n % 64) == 1 {
+        if self.has(n) {
             self.words[(n / 64) as usize] &= !(1 << (n % 64));
             self.rows[(n / 512) as usize] -= 1;
             self.size -= 1;
