@@ -126,13 +126,16 @@ no_rows r rs e same = let bad : None ≡ Some r.value = same r.first ∙ first_h
 not_before : (r s : InputRow) (rs ss : List InputRow) → are_rows (r ∷ rs) ≡ true → are_rows (s ∷ ss) ≡ true → SameRows (r ∷ rs) (s ∷ ss) → r.first < s.first → ⊥
 not_before r s rs ss e f same h = let bad : Some r.value ≡ None = sym (first_has r rs e) ∙ same r.first ∙ none_before s ss r.first f h in cc
 
-same_first : (r s : InputRow) (rs ss : List InputRow) → are_rows (r ∷ rs) ≡ true → are_rows (s ∷ ss) ≡ true → SameRows (r ∷ rs) (s ∷ ss) → r.first ≡ s.first
-same_first r s rs ss e f same = at (cases_order r.first s.first)
+neither_less : (m n : ℕ) → (m < n → ⊥) → (n < m → ⊥) → m ≡ n
+neither_less m n below above = at (cases_order m n)
   where
-    at : (r.first ≡ s.first) ⊎ ((r.first < s.first) ⊎ (s.first < r.first)) → r.first ≡ s.first
+    at : (m ≡ n) ⊎ ((m < n) ⊎ (n < m)) → m ≡ n
     at (inl h) = h
-    at (inr (inl h)) = absurd (not_before r s rs ss e f same h)
-    at (inr (inr h)) = absurd (not_before s r ss rs f e (λ n. sym (same n)) h)
+    at (inr (inl h)) = absurd (below h)
+    at (inr (inr h)) = absurd (above h)
+
+same_first : (r s : InputRow) (rs ss : List InputRow) → are_rows (r ∷ rs) ≡ true → are_rows (s ∷ ss) ≡ true → SameRows (r ∷ rs) (s ∷ ss) → r.first ≡ s.first
+same_first r s rs ss e f same = neither_less r.first s.first (not_before r s rs ss e f same) (not_before s r ss rs f e (λ n. sym (same n)))
 
 same_value : (r s : InputRow) (rs ss : List InputRow) → are_rows (r ∷ rs) ≡ true → are_rows (s ∷ ss) ≡ true → SameRows (r ∷ rs) (s ∷ ss) → r.value ≡ s.value
 same_value r s rs ss e f same =
@@ -152,12 +155,7 @@ not_shorter r s rs ss e f same h =
     )
 
 same_last : (r s : InputRow) (rs ss : List InputRow) → are_rows (r ∷ rs) ≡ true → are_rows (s ∷ ss) ≡ true → SameRows (r ∷ rs) (s ∷ ss) → r.last ≡ s.last
-same_last r s rs ss e f same = at (cases_order r.last s.last)
-  where
-    at : (r.last ≡ s.last) ⊎ ((r.last < s.last) ⊎ (s.last < r.last)) → r.last ≡ s.last
-    at (inl h) = h
-    at (inr (inl h)) = absurd (not_shorter r s rs ss e f same h)
-    at (inr (inr h)) = absurd (not_shorter s r ss rs f e (λ n. sym (same n)) h)
+same_last r s rs ss e f same = neither_less r.last s.last (not_shorter r s rs ss e f same) (not_shorter s r ss rs f e (λ n. sym (same n)))
 
 same_others : (r s : InputRow) (rs ss : List InputRow) → are_rows (r ∷ rs) ≡ true → are_rows (s ∷ ss) ≡ true → SameRows (r ∷ rs) (s ∷ ss) → SameRows rs ss
 same_others r s rs ss e f same n = at (cases_lt r.last n)

@@ -35,21 +35,19 @@ inside_range a b n low high = at (place a b n)
     at (below l e) = absurd (omega arith)
     at (above l e) = absurd (omega arith)
 
-pub below_range : (a b n : ℕ) → n < a → nat_le a n && nat_le n b ≡ false
-below_range a b n low = at (place a b n)
+outside_range : (a b n : ℕ) → (a ≤ n → n ≤ b → ⊥) → nat_le a n && nat_le n b ≡ false
+outside_range a b n out = at (place a b n)
   where
     at : IsWithin a b n → nat_le a n && nat_le n b ≡ false
-    at (inside l h e) = absurd (omega arith)
+    at (inside l h e) = absurd (out l h)
     at (below l e) = e
     at (above l e) = e
 
+pub below_range : (a b n : ℕ) → n < a → nat_le a n && nat_le n b ≡ false
+below_range a b n low = outside_range a b n (λ l h. omega arith)
+
 pub above_range : (a b n : ℕ) → b < n → nat_le a n && nat_le n b ≡ false
-above_range a b n high = at (place a b n)
-  where
-    at : IsWithin a b n → nat_le a n && nat_le n b ≡ false
-    at (inside l h e) = absurd (omega arith)
-    at (below l e) = e
-    at (above l e) = e
+above_range a b n high = outside_range a b n (λ l h. omega arith)
 
 -- ---- what are_rows says
 
