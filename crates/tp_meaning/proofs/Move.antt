@@ -6,7 +6,7 @@ use Rattle.tp_value.specs.Tree.{Tree, num}
 use Rattle.tp_meaning.specs.Syntax.{ExprTree, FormulaTree, trivial, test, equation, next_equation, empty, more, next, weak_next, if_more, if_empty, always, conjunction, branch, len, assign, chop, while, for_from, forall_from, project, exists, call, input, display, FormulaTrees, no_formula, formula_then}
 use Rattle.tp_meaning.specs.Course.{Part, State, Course, Shows, blank, ◌⊕◌, shown_at, total, woven, Rising}
 use Rattle.tp_meaning.specs.Value.{◌>>=◌, Meaning, fixed, varying, Env, Calls, calls_at}
-use Rattle.tp_meaning.specs.Holds.{Context, Pieces, Together, Lasts, running, meaning_at_cuts, env_at_cuts, CallMeanings, Has, HoldsBy, AllHoldBy, CallHolds, Holds}
+use Rattle.tp_meaning.specs.Holds.{Context, Pieces, Together, Projected, Lasts, running, meaning_at_cuts, env_at_cuts, CallMeanings, Has, HoldsBy, AllHoldBy, CallHolds, Holds}
 use Rattle.tp_meaning.proofs.Rising.{rises_less}
 use Rattle.tp_meaning.specs.Moving.{MeaningMoved, EnvMoved, CourseMoved}
 use Rattle.tp_meaning.proofs.MoveValue.{MaybeAll, value_moved, values_moved, arguments_moved, calls_moved}
@@ -138,6 +138,29 @@ pub cut_low : (M : Move) (c : ℕ → ℕ) → Rising c → (a : ℕ) → c 0 �
 cut_low M c r a e w0 zero = omega (arith, e, w0)
 cut_low M c r a e w0 (suc j) = let q = rises_less c r 0 (suc j) (omega arith) in omega (arith, q, e, w0)
 
+-- a projection, where its pieces and its outer part go along
+module _ (M : Move) (a b : ℕ) (lo : M.low ≤ a) (P Q : Part) (O N : (ℕ → ℕ) → Part) (piece : (i j : ℕ) (T : Shows) → a ≤ i → i ≤ j → j ≤ b → P i j T → Q (M.at i) (M.at j) (M.push T))
+    (outer : (c : ℕ → ℕ) (m : ℕ) (V : Shows) → ((j : ℕ) → 0 ≤ j → j ≤ m → (a ≤ c j) × (c j ≤ b)) → O c 0 m V → N (λ j. M.at (c j)) 0 m V) where
+  pub projected_moved : (S : Shows) → Projected P O a b S → Projected Q N (M.at a) (M.at b) (M.push S)
+  projected_moved S z =
+      let within = cut_within z.0 z.4 0 z.1 a b z.5 z.6 in (
+        (λ j. M.at (z.0 j)),
+        z.1,
+        z.2,
+        (λ j. M.push (z.3 j)),
+        (λ j. at_less M (z.0 j) (z.0 (suc j)) (cut_low M z.0 z.4 a z.5 lo j) (z.4 j)),
+        ap M.at z.5,
+        ap M.at z.6,
+        (λ j v. let r = z.4 j in piece (z.0 j) (z.0 (suc j)) (z.3 j) (within j (omega arith) (omega arith)).0 (omega (arith, r)) (within (suc j) (omega arith) v).1 (z.7 j v)),
+        outer z.0 z.1 z.2 within z.8,
+        ap M.push z.9 ∙ sym (woven_push M z.1 0 z.0 (λ j u. cut_low M z.0 z.4 a z.5 lo j) z.2 z.3),
+      )
+
+-- at the same cuts, with other pieces and another outer part
+pub projected_as : (P Q : Part) (O N : (ℕ → ℕ) → Part) → ((i j : ℕ) (T : Shows) → P i j T → Q i j T) → ((c : ℕ → ℕ) (m : ℕ) (V : Shows) → O c 0 m V → N c 0 m V)
+    → (a b : ℕ) (S : Shows) → Projected P O a b S → Projected Q N a b S
+projected_as P Q O N piece outer a b S z = (z.0, z.1, z.2, z.3, z.4, z.5, z.6, (λ j v. piece _ _ _ (z.7 j v)), outer z.0 z.1 z.2 z.8, z.9)
+
 module _ (w : Context) (calls : Calls) (meanings : CallMeanings)
     (more_calls : (f : ℕ → ℕ) (a b : ℕ) (s t : Course) → CourseMoved f a b s t → (p : ℕ) (x y : Env) → EnvMoved f a b x y → (j : ℕ) → a ≤ j → j ≤ b → calls p y t (f j) ≡ calls p x s j)
     (more_meanings : (M : Move) (p : ℕ) (x y : Env) (s t : Course) (a b : ℕ) (S : Shows) → M.low ≤ a → a ≤ b → EnvMoved M.at a b x y → CourseMoved M.at a b s t → meanings p x s a b S → meanings p y t (M.at a) (M.at b) (M.push S)) where
@@ -207,21 +230,12 @@ module _ (w : Context) (calls : Calls) (meanings : CallMeanings)
       together_moved M a b w0 _ _ (λ n i j T u l v q. formula_moved g M (x ++ fixed (num n) ∷ []) (y ++ fixed (num n) ∷ []) s t i j T (omega (arith, w0, u)) l
           (append_moved M.at i j x y (fixed (num n)) (fixed (num n)) (narrow M.at a b i j u v x y h) refl) (λ p r o. c p (omega (arith, r, u)) (omega (arith, o, v))) q) _ k a b S (omega arith) le (omega arith) z.2,
     )
-    formula_moved (project g k) M x y s t a b S w0 le h c z =
-        let within = cut_within z.0 z.4 0 z.1 a b z.5 z.6 in (
-          (λ j. M.at (z.0 j)),
-          z.1,
-          z.2,
-          (λ j. M.push (z.3 j)),
-          (λ j. at_less M (z.0 j) (z.0 (suc j)) (cut_low M z.0 z.4 a z.5 w0 j) (z.4 j)),
-          ap M.at z.5,
-          ap M.at z.6,
-          (λ j v. let p = (within j (omega arith) (omega arith)).0 in let q = (within (suc j) (omega arith) v).1 in let r = z.4 j in
-              formula_moved g M x y s t (z.0 j) (z.0 (suc j)) (z.3 j) (cut_low M z.0 z.4 a z.5 w0 j) (omega (arith, r)) (narrow M.at a b (z.0 j) (z.0 (suc j)) p q x y h) (λ i m n. c i (omega (arith, m, p)) (omega (arith, n, q))) (z.7 j v)),
-          formula_moved k stay (env_at_cuts z.0 x) (env_at_cuts (λ j. M.at (z.0 j)) y) (λ j. s (z.0 j)) (λ j. t (M.at (z.0 j))) 0 z.1 z.2 (omega arith) (omega arith)
-              (cuts_moved M.at a b 0 z.1 z.0 within x y h) (λ j u v. c (z.0 j) (within j u v).0 (within j u v).1) z.8,
-          ap M.push z.9 ∙ sym (woven_push M z.1 0 z.0 (λ j u. cut_low M z.0 z.4 a z.5 w0 j) z.2 z.3),
-        )
+    formula_moved (project g k) M x y s t a b S w0 le h c z = projected_moved M a b w0 (HoldsBy w calls meanings g x s) (HoldsBy w calls meanings g y t)
+        (λ cuts. HoldsBy w calls meanings k (env_at_cuts cuts x) (λ j. s (cuts j))) (λ cuts. HoldsBy w calls meanings k (env_at_cuts cuts y) (λ j. t (cuts j)))
+        (λ i j T u l v q. formula_moved g M x y s t i j T (omega (arith, w0, u)) l (narrow M.at a b i j u v x y h) (λ p r o. c p (omega (arith, r, u)) (omega (arith, o, v))) q)
+        (λ cuts m V within q. formula_moved k stay (env_at_cuts cuts x) (env_at_cuts (λ j. M.at (cuts j)) y) (λ j. s (cuts j)) (λ j. t (M.at (cuts j))) 0 m V (omega arith) (omega arith)
+        (cuts_moved M.at a b 0 m cuts within x y h) (λ j u v. c (cuts j) (within j u v).0 (within j u v).1) q)
+        S z
     formula_moved (exists name lasting g) M x y s t a b S w0 le h c z = (
       (λ j. z.0 (origin M a j)),
       lasts_from lasting z.0 (origin M a) z.1,

@@ -9,6 +9,7 @@ use Rattle.tp_meaning.specs.Value.{Meaning, varying}
 use Rattle.tp_meaning.specs.Bindings.{Locals, meaning_of, meanings_of}
 use Rattle.tp_meaning.specs.Holds.{Context, Holds}
 use Rattle.tp_meaning.proofs.DeeperHolds.{holds_deeper}
+use Rattle.tp_meaning.proofs.Move.{projected_as}
 use Rattle.tp_scene.specs.Scene.{Bindings, Head, Leaf, Do, Later, Shown, Holder, Split, SplitProject, Closed, Opened, Running, Entries, none, leaf, node}
 use Rattle.tp_scene.specs.Says.{at_cuts, locals_at_cuts, Claim, FormulaSays, LeafSays, OpenedSays, RunningSays, SplitSays, HolderSays, Says, RegionSays}
 use Rattle.tp_scene.proofs.Below.{BindingBelow, AllBelow, LeafBelow, HolderBelow, IfSecond, if_second, Below}
@@ -46,33 +47,20 @@ module _ (w : Context) (globals n : ℕ) where
   leaf_carried (Shown vs) below = λ d d' σ τ le l s a b S h. h
 
   pub opened_carried : (f : FormulaTree) (env : Bindings) (O : Claim) → AllBelow n env → Carried O → Carried (OpenedSays w globals f env O)
-  opened_carried f env O below up d d' σ τ le l s a b S h = (
-    h.0,
-    h.1,
-    h.2,
-    h.3,
-    h.4,
-    h.5,
-    h.6,
-    (λ j v. formula_carried f env below d d' σ τ le l s _ _ _ (h.7 j v)),
-    up d d' (locals_at_cuts h.0 σ) (locals_at_cuts h.0 τ) le (like_at_cuts n h.0 σ τ l) (at_cuts h.0 s) _ _ h.2 h.8,
-    h.9,
-  )
+  opened_carried f env O below up d d' σ τ le l s a b = projected_as (FormulaSays w globals f env d σ s) (FormulaSays w globals f env d' τ s)
+      (λ c. O d (locals_at_cuts c σ) (at_cuts c s)) (λ c. O d' (locals_at_cuts c τ) (at_cuts c s))
+      (λ i j T. formula_carried f env below d d' σ τ le l s i j T)
+      (λ c m V. up d d' (locals_at_cuts c σ) (locals_at_cuts c τ) le (like_at_cuts n c σ τ l) (at_cuts c s) 0 m V) a b
+
+  -- with another first piece, and another outer part
+  pub running_again : (f : FormulaTree) (env : Bindings) (I I' O O' : Claim) → AllBelow n env → (d d' : ℕ) (σ τ : Locals) → d ≤ d' → Like n σ τ → (s : Course) (a b : ℕ) (S : Shows) → (h : RunningSays w globals f env I O d σ s a b S)
+      → I' d' τ s (h.0 0) (h.0 1) (h.3 0) → O' d' (locals_at_cuts h.0 τ) (at_cuts h.0 s) 0 (suc h.1) h.2 → RunningSays w globals f env I' O' d' τ s a b S
+  running_again f env I I' O O' below d d' σ τ le l s a b S h first outer =
+      (h.0, h.1, h.2, h.3, h.4, h.5, h.6, first, (λ j u v. formula_carried f env below d d' σ τ le l s _ _ _ (h.8 j u v)), outer, h.10)
 
   pub running_carried : (f : FormulaTree) (env : Bindings) (I O : Claim) → AllBelow n env → Carried I → Carried O → Carried (RunningSays w globals f env I O)
-  running_carried f env I O below upi up d d' σ τ le l s a b S h = (
-    h.0,
-    h.1,
-    h.2,
-    h.3,
-    h.4,
-    h.5,
-    h.6,
-    upi d d' σ τ le l s _ _ _ h.7,
-    (λ j u v. formula_carried f env below d d' σ τ le l s _ _ _ (h.8 j u v)),
-    up d d' (locals_at_cuts h.0 σ) (locals_at_cuts h.0 τ) le (like_at_cuts n h.0 σ τ l) (at_cuts h.0 s) _ _ h.2 h.9,
-    h.10,
-  )
+  running_carried f env I O below upi up d d' σ τ le l s a b S h =
+      running_again f env I I O O below d d' σ τ le l s a b S h (upi d d' σ τ le l s _ _ _ h.7) (up d d' (locals_at_cuts h.0 σ) (locals_at_cuts h.0 τ) le (like_at_cuts n h.0 σ τ l) (at_cuts h.0 s) _ _ h.2 h.9)
 
   pub split_carried : (I A : Claim) → Carried I → Carried A → Carried (SplitSays w globals I A)
   split_carried I A upi up d d' σ τ le l s a b S h = (h.0, h.1, h.2, h.3, h.4, upi d d' σ τ le l s a h.0 h.1 h.5, up d d' σ τ le l s h.0 b h.2 h.6, h.7)

@@ -10,7 +10,7 @@ use Rattle.tp_meaning.proofs.Rising.{rises_less}
 use Rattle.tp_scene.specs.Scene.{Bindings, Side, Ending, Going, Holder, Split, SplitProject, Closed, Opened, Running, second_lives, rises, sinks, forced}
 use Rattle.tp_scene.specs.Says.{at_cuts, locals_at_cuts, IsSo, Claim, OpenedSays, RunningSays, SplitSays, HolderSays}
 use Rattle.tp_scene.proofs.Below.{HolderBelow, IfSecond}
-use Rattle.tp_scene.proofs.Carry.{Like, like_at_cuts, Carried, formula_carried, opened_carried}
+use Rattle.tp_scene.proofs.Carry.{Like, like_at_cuts, Carried, formula_carried, opened_carried, running_again}
 use Rattle.tp_scene.proofs.Cuts.{number_at, number_undoes}
 
 -- `Whole P` says that the held region, of which `P` speaks, says so on the course of the cuts from one number to another, with something
@@ -145,19 +145,8 @@ module _ (w : Context) (globals n : ℕ) where
     must = λ z t. absurd (false≢true t);
     risen = λ z t e. inner_risen h.0 h.4 (rises (Running f env)) (λ x. false≢true x) z h.1 a b h.5 h.6 t e;
     said = h.7;
-    again = λ safe d' τ le l Q q. (
-      h.0,
-      h.1,
-      h.2,
-      h.3,
-      h.4,
-      h.5,
-      h.6,
-      q,
-      (λ j u v. formula_carried w globals n f env safe.0 d d' σ τ le l s _ _ _ (h.8 j u v)),
-      safe.1 d d' (locals_at_cuts h.0 σ) (locals_at_cuts h.0 τ) le (like_at_cuts n h.0 σ τ l) (at_cuts h.0 s) _ _ h.2 h.9,
-      h.10,
-    );
+    again = λ safe d' τ le l Q q.
+        running_again w globals n f env P Q O O safe.0 d d' σ τ le l s a b S h q (safe.1 d d' (locals_at_cuts h.0 σ) (locals_at_cuts h.0 τ) le (like_at_cuts n h.0 σ τ l) (at_cuts h.0 s) _ _ h.2 h.9);
   }
 
   abbrev pub outer_lens : (f : FormulaTree) (env : Bindings) (I : Claim) → HasLens n (HolderBelow n (Running f env) × Carried w globals n I) each_side no_side each_side (λ P. RunningSays w globals f env I P)
@@ -174,8 +163,7 @@ module _ (w : Context) (globals n : ℕ) where
     must = λ z t. absurd (false≢true t);
     risen = λ z t e. outer_risen h.0 h.4 z (suc h.1) a b h.5 h.6 e;
     said = h.9;
-    again = λ safe d' τ le l Q q.
-        (h.0, h.1, h.2, h.3, h.4, h.5, h.6, safe.1 d d' σ τ le l s _ _ _ h.7, (λ j u v. formula_carried w globals n f env safe.0 d d' σ τ le l s _ _ _ (h.8 j u v)), q, h.10);
+    again = λ safe d' τ le l Q q. running_again w globals n f env I I P Q safe.0 d d' σ τ le l s a b S h (safe.1 d d' σ τ le l s _ _ _ h.7) q;
   }
 
   -- of the first region of each holder

@@ -5,12 +5,13 @@ use Rattle.std.proofs.lemmas.Int.{ints}
 use Rattle.tp_value.specs.Tree.{Tree, num}
 use Rattle.tp_value.specs.declared.path.Fact.{Fact}
 use Rattle.tp_meaning.specs.Syntax.{ExprTree, numeral, FormulaTree, empty, chop, for_from, forall_from, project, exists, BindingTree, place_binding, known_binding}
-use Rattle.tp_meaning.specs.Course.{Course, Shows}
+use Rattle.tp_meaning.specs.Course.{Part, Course, Shows}
 use Rattle.tp_meaning.specs.Bindings.{Locals, meaning_of, meanings_of}
 use Rattle.tp_meaning.specs.Value.{Env, Meaning, varying}
 use Rattle.tp_meaning.specs.Fits.{ExprFits}
 use Rattle.tp_meaning.specs.Holds.{Context, Holds, Chopped, running, meaning_at_cuts, env_at_cuts}
 use Rattle.tp_meaning.proofs.Unfold.{for_unfolds, forall_unfolds}
+use Rattle.tp_meaning.proofs.Move.{projected_as}
 use Rattle.tp_eval.specs.Evaluate.{depth_limit}
 use Rattle.tp_scene.specs.Scene.{Bindings, Do, Split, Opened, none, leaf, no_region, Place, split_then, opened_then}
 use Rattle.tp_scene.specs.Says.{at_cuts, locals_at_cuts, Claim, FormulaSays, HolderSays, RegionSays}
@@ -106,31 +107,17 @@ module _ (w : Context) (state : ℕ) (kinds : List Bool) (facts : List Fact) (nn
         let Holder = HolderSays w globals (Opened f env) (Only g env) Nothing in
         with_region_row w globals facts nn.local e (Said (project f g)) s a b p.depth (opened_then (nn.item 1) (region_of nn.region (nn.item 0) g env) f env none) 2
         (turns_into w globals facts nn.local e (Said (project f g)) s a b (opened_then (nn.item 1) (region_of nn.region (nn.item 0) g env) f env none) 2 1
-        (λ d σ S ag h. alone w globals facts nn.local e Holder d σ s a b S (
-          h.0,
-          h.1,
-          h.2,
-          h.3,
-          h.4,
-          h.5,
-          h.6,
-          h.7,
-          only g env d (locals_at_cuts h.0 σ) (at_cuts h.0 s) 0 h.1 h.2 (subst (λ (E : Env). Holds w d g E (at_cuts h.0 s) 0 h.1 h.2) (sym (meanings_cut globals h.0 s σ env)) h.8),
-          h.9,
-        ))
-        (λ d σ S ag y. let x = of_alone w globals facts nn.local e Holder d σ s a b S y in
-        raised w globals facts nn.local e (project f g) env d σ s a b S (
-          x.0,
-          x.1,
-          x.2,
-          x.3,
-          x.4,
-          x.5,
-          x.6,
-          x.7,
-          subst (λ (E : Env). Holds w d g E (at_cuts x.0 s) 0 x.1 x.2) (meanings_cut globals x.0 s σ env) (of_only g env d (locals_at_cuts x.0 σ) (at_cuts x.0 s) 0 x.1 x.2 x.8),
-          x.9,
-        )))
+        (λ d σ S ag h. alone w globals facts nn.local e Holder d σ s a b S (projected_as (Said f d σ s) (Said f d σ s) (outer_part d σ) (region_part d σ) (λ i j T x. x)
+        (λ c m V x. only g env d (locals_at_cuts c σ) (at_cuts c s) 0 m V (subst (λ (E : Env). Holds w d g E (at_cuts c s) 0 m V) (sym (meanings_cut globals c s σ env)) x)) a b S h))
+        (λ d σ S ag y. raised w globals facts nn.local e (project f g) env d σ s a b S (projected_as (Said f d σ s) (Said f d σ s) (region_part d σ) (outer_part d σ) (λ i j T x. x)
+        (λ c m V x. subst (λ (E : Env). Holds w d g E (at_cuts c s) 0 m V) (meanings_cut globals c s σ env) (of_only g env d (locals_at_cuts c σ) (at_cuts c s) 0 m V x)) a b S (of_alone w globals facts nn.local e Holder d σ s a b S y))))
+      where
+        -- the outer part as the formula says it, and as its region does
+        outer_part : (d : ℕ) → Locals → (ℕ → ℕ) → Part
+        outer_part d σ c = Holds w d g (env_at_cuts c (env_in σ)) (at_cuts c s)
+
+        region_part : (d : ℕ) → Locals → (ℕ → ℕ) → Part
+        region_part d σ c = Only g env d (locals_at_cuts c σ) (at_cuts c s)
 
     module _ (name : List ℕ) (k : ℤ) (x : ExprTree) (f : FormulaTree) (fit : ExprFits w.defs kinds x (length env)) where
       abbrev Found : ℤ → Type 0

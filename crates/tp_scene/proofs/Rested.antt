@@ -80,6 +80,19 @@ module _ (defs : List Definition) (kinds : List Bool) (variables : List Variable
   entries_calm (leaf id l rest) p fit = entries_calm rest p fit.1
   entries_calm (node id k h held g second rest) p fit = entries_calm rest p fit.2
 
+  -- The region that an item holds, in a place of which that is known, and the entries behind it, where the item isn't held back on its side.
+  module _ (q : Place) (h : Head) (held : Entries) (marks : (z : Side) → marked z h ≡ true → q.is z ≡ true) (fit : EntriesFit defs kinds variables held q) (id : ℕ) (rest : Entries) (p : Place) (z : Side)
+      (e : unsettled_items held q ++ (only_if (not (q.is z)) (id ∷ []) ++ unsettled_items rest p) ≡ []) where
+    on_its_side : q.is z ≡ true
+    on_its_side = not_held_back (q.is z) id (unsettled_items rest p) (nothing_right (unsettled_items held q) _ e)
+
+    held_rests : (unsettled_items held q ≡ [] → q.is z ≡ true → Rested z held) → (unsettled_items rest p ≡ [] → Rested z rest) → HeadIs z h × Rested z held × Rested z rest
+    held_rests inside behind = (
+      calm_mark q h (entries_calm held q fit) z on_its_side marks,
+      inside (nothing_left (unsettled_items held q) _ e) on_its_side,
+      behind (nothing_right (only_if (not (q.is z)) (id ∷ [])) _ (nothing_right (unsettled_items held q) _ e)),
+    )
+
   pub rested : (es : Entries) (p : Place) (z : Side) → EntriesFit defs kinds variables es p → InnersGo es p → Covers p es → unsettled_items es p ≡ [] → p.is z ≡ true → Rested z es
   rested none p z fit inners cov e is = tt
   rested (leaf id (Do f env) rest) p z fit inners cov e is = absurd (cc)
@@ -87,49 +100,30 @@ module _ (defs : List Definition) (kinds : List Bool) (variables : List Variable
   rested (leaf id (Later f env) rest) p Going fit inners cov e is = rested rest p Going fit.1 inners cov e is
   rested (leaf id (Shown vs) rest) p z fit inners cov e is = rested rest p z fit.1 inners cov e is
   rested (node id (Split f env) h held g second rest) p Ending fit inners cov e is =
-      let q = held_place (Split f env) h held p in
-      let up : (h.goes || risen Going held) ≡ true = not_held_back (q.is Going) id (unsettled_items rest p) (nothing_right (unsettled_items held q) _ e) in
-      entries_calm rest p fit.2 is (cov Going (or_left (h.goes || risen Going held) _ up))
+      entries_calm rest p fit.2 is (cov Going (or_left (h.goes || risen Going held) _ (on_its_side (held_place (Split f env) h held p) h held (held_marks (Split f env) h held p) fit.1 id rest p Going e)))
   rested (node id (Split f env) h held g second rest) p Going fit inners cov e is =
-      let q = held_place (Split f env) h held p in
-      let back = nothing_right (unsettled_items held q) _ e in
-      let up : (h.goes || risen Going held) ≡ true = not_held_back (q.is Going) id (unsettled_items rest p) back in (
-        up,
-        calm_mark q h (entries_calm held q fit.1) Going up (held_marks (Split f env) h held p),
-        rested held q Going fit.1 inners.0 (held_covers (Split f env) h held p) (nothing_left (unsettled_items held q) _ e) up,
-        rested rest p Going fit.2 inners.1 (λ z x. cov z (or_right (rises (Split f env) z && (marked z h || risen z held)) _ x)) (nothing_right (only_if (not (q.is Going)) (id ∷ [])) _ back) is,
-      )
+      let all = held_rests (held_place (Split f env) h held p) h held (held_marks (Split f env) h held p) fit.1 id rest p Going e
+      (λ none on. rested held _ Going fit.1 inners.0 (held_covers (Split f env) h held p) none on)
+      (λ none. rested rest p Going fit.2 inners.1 (λ z x. cov z (or_right (rises (Split f env) z && (marked z h || risen z held)) _ x)) none is) in
+      (on_its_side (held_place (Split f env) h held p) h held (held_marks (Split f env) h held p) fit.1 id rest p Going e, all.0, all.1, all.2)
   rested (node id (SplitProject f env) h held g second rest) p Ending fit inners cov e is =
-      let q = held_place (SplitProject f env) h held p in
-      let up : (h.goes || risen Going held) ≡ true = not_held_back (q.is Going) id (unsettled_items rest p) (nothing_right (unsettled_items held q) _ e) in
-      entries_calm rest p fit.2 is (cov Going (or_left (h.goes || risen Going held) _ up))
+      entries_calm rest p fit.2 is (cov Going (or_left (h.goes || risen Going held) _ (on_its_side (held_place (SplitProject f env) h held p) h held (held_marks (SplitProject f env) h held p) fit.1 id rest p Going e)))
   rested (node id (SplitProject f env) h held g second rest) p Going fit inners cov e is =
-      let q = held_place (SplitProject f env) h held p in
-      let back = nothing_right (unsettled_items held q) _ e in
-      let up : (h.goes || risen Going held) ≡ true = not_held_back (q.is Going) id (unsettled_items rest p) back in (
-        up,
-        calm_mark q h (entries_calm held q fit.1) Going up (held_marks (SplitProject f env) h held p),
-        rested held q Going fit.1 inners.0 (held_covers (SplitProject f env) h held p) (nothing_left (unsettled_items held q) _ e) up,
-        rested rest p Going fit.2 inners.1 (λ z x. cov z (or_right (rises (SplitProject f env) z && (marked z h || risen z held)) _ x)) (nothing_right (only_if (not (q.is Going)) (id ∷ [])) _ back) is,
-      )
+      let all = held_rests (held_place (SplitProject f env) h held p) h held (held_marks (SplitProject f env) h held p) fit.1 id rest p Going e
+      (λ none on. rested held _ Going fit.1 inners.0 (held_covers (SplitProject f env) h held p) none on)
+      (λ none. rested rest p Going fit.2 inners.1 (λ z x. cov z (or_right (rises (SplitProject f env) z && (marked z h || risen z held)) _ x)) none is) in
+      (on_its_side (held_place (SplitProject f env) h held p) h held (held_marks (SplitProject f env) h held p) fit.1 id rest p Going e, all.0, all.1, all.2)
   rested (node id Closed h held g second rest) p z fit inners cov e is =
       let q = held_place Closed h held p in (
         calm_mark q h (entries_calm held q fit.1) Ending refl (held_marks Closed h held p),
         rested held q Ending fit.1 inners.0 (held_covers Closed h held p) (nothing_left (unsettled_items held q) _ e) refl,
         rested rest p z fit.2 inners.1 (λ y x. cov y x) (nothing_right (unsettled_items held q) _ e) is,
       )
-  rested (node id (Opened f env) h held g second rest) p Ending fit inners cov e is =
-      let q = held_place (Opened f env) h held p in
-      let back = nothing_right (unsettled_items held q) _ e in
-      let at : q.is Ending ≡ true = not_held_back (q.is Ending) id (unsettled_items rest p) back in (
-        calm_mark q h (entries_calm held q fit.1) Ending at (held_marks (Opened f env) h held p),
-        rested held q Ending fit.1 inners.0 (held_covers (Opened f env) h held p) (nothing_left (unsettled_items held q) _ e) at,
-        rested rest p Ending fit.2 inners.1 (λ z x. cov z (or_right (rises (Opened f env) z && (marked z h || risen z held)) _ x)) (nothing_right (only_if (not (q.is Ending)) (id ∷ [])) _ back) is,
-      )
+  rested (node id (Opened f env) h held g second rest) p Ending fit inners cov e is = held_rests (held_place (Opened f env) h held p) h held (held_marks (Opened f env) h held p) fit.1 id rest p Ending e
+      (λ none on. rested held _ Ending fit.1 inners.0 (held_covers (Opened f env) h held p) none on)
+      (λ none. rested rest p Ending fit.2 inners.1 (λ z x. cov z (or_right (rises (Opened f env) z && (marked z h || risen z held)) _ x)) none is)
   rested (node id (Opened f env) h held g second rest) p Going fit inners cov e is =
-      let q = held_place (Opened f env) h held p in
-      let at : q.is Ending ≡ true = not_held_back (q.is Ending) id (unsettled_items rest p) (nothing_right (unsettled_items held q) _ e) in
-      entries_calm held q fit.1 at (or_left (p.is Going) _ is)
+      entries_calm held _ fit.1 (on_its_side (held_place (Opened f env) h held p) h held (held_marks (Opened f env) h held p) fit.1 id rest p Ending e) (or_left (p.is Going) _ is)
   rested (node id (Running f env) h held g second rest) p Ending fit inners cov e is =
       let q = held_place (Running f env) h held p in
       let both = nothing_left (unsettled_items second (second_place g second p) ++ unsettled_items held q) _ e in
