@@ -4,3 +4,4 @@ pub mod Passing
 pub mod Planes
 pub mod RunLemmas
 pub mod Words
+pub mod Ends

@@ -39,22 +39,16 @@ module _ (xs : List ℕ) (at r : ℕ) (room : at + 8 ≤ length xs) (some : AreE
 
 pub returns-clause-within : goal.returns-clause-within
 returns-clause-within c =
-    let words = c.args.words.now in
-    let at = c.args.at in
-    let mask = bitmask_splat w64 (λ a b. not (eqb a b)) (chunk at 8 words) 8 0 (length-chunk at 8 words c.requires.room) (omega arith) in
-    let low = within words at _ c.requires.room c.requires.some (ap (count_trailing_zeros 64) mask) in
+    let mask = bitmask_splat w64 (λ a b. not (eqb a b)) (chunk c.args.at 8 c.args.words.now) 8 0 (length-chunk c.args.at 8 c.args.words.now c.requires.room) (omega arith) in
+    let low = within c.args.words.now c.args.at _ c.requires.room c.requires.some (ap (count_trailing_zeros 64) mask) in
     omega (arith, low)
 
 pub returns-clause-before : goal.returns-clause-before
 returns-clause-before c =
-    let words = c.args.words.now in
-    let at = c.args.at in
-    let mask = bitmask_splat w64 (λ a b. not (eqb a b)) (chunk at 8 words) 8 0 (length-chunk at 8 words c.requires.room) (omega arith) in
-    before words at _ c.requires.room c.requires.some (ap (count_trailing_zeros 64) mask)
+    let mask = bitmask_splat w64 (λ a b. not (eqb a b)) (chunk c.args.at 8 c.args.words.now) 8 0 (length-chunk c.args.at 8 c.args.words.now c.requires.room) (omega arith) in
+    before c.args.words.now c.args.at _ c.requires.room c.requires.some (ap (count_trailing_zeros 64) mask)
 
 pub returns-clause-here : goal.returns-clause-here
 returns-clause-here c =
-    let words = c.args.words.now in
-    let at = c.args.at in
-    let mask = bitmask_splat w64 (λ a b. not (eqb a b)) (chunk at 8 words) 8 0 (length-chunk at 8 words c.requires.room) (omega arith) in
-    here words at _ c.requires.room c.requires.some (ap (count_trailing_zeros 64) mask)
+    let mask = bitmask_splat w64 (λ a b. not (eqb a b)) (chunk c.args.at 8 c.args.words.now) 8 0 (length-chunk c.args.at 8 c.args.words.now c.requires.room) (omega arith) in
+    here c.args.words.now c.args.at _ c.requires.room c.requires.some (ap (count_trailing_zeros 64) mask)
