@@ -1,5 +1,5 @@
 -- How `always` and loops unfold.
-use Rattle.std.proofs.Common.{◌≡◌, ℤ, pos, negsuc, ◌+ℤ◌, ◌-ℤ◌, ℕ, zero, suc, ◌+◌, ◌≤◌, ◌<◌, true, false, List, [], ◌∷◌, ◌++◌, Some, refl, ap, sym, ◌∙◌, subst, arith, ◌⊎◌, inl, inr}
+use Rattle.std.proofs.Common.{◌↔◌, ◌≡◌, ℤ, pos, negsuc, ◌+ℤ◌, ◌-ℤ◌, ℕ, zero, suc, ◌+◌, ◌≤◌, ◌<◌, true, false, List, [], ◌∷◌, ◌++◌, Some, refl, ap, sym, ◌∙◌, subst, arith, ◌⊎◌, inl, inr}
 use Rattle.std.specs.Prelude.{◌≤ℤ◌, ◌<ℤ◌}
 use Rattle.std.proofs.lemmas.Int.{ints}
 use Rattle.std.proofs.lemmas.Bool.{cases_lt}
@@ -133,12 +133,12 @@ module _ (w : Context) (d : ℕ) (env : Env) (s : Course) (a b : ℕ) (S : Shows
   together_known : (e : ExprTree) → ValueIs w d env s e a (num n) → (name : List ℕ) → Holds w d (forall_from name k e f) env s a b S → Together With (count_to (n -ℤ k)) k a b S
   together_known e v name h = subst (λ (m : ℤ). Together With (count_to (m -ℤ k)) k a b S) (same_number h.0 n (sym h.1 ∙ v)) h.2
 
+by_equal : {A B C : Type 0} → B ≡ C → (A → B) → (B → A) → A ↔ C
+by_equal e to from = ((λ h. subst (λ T. T) e (to h)), (λ g. from (subst (λ T. T) (sym e) g)))
+
 pub for_unfolds : (name : List ℕ) (k : ℤ) (e : ExprTree) (f : FormulaTree) (n : ℤ) → ForUnfolds name k e f n
 for_unfolds name k e f n = record {
-  ends = λ l w d env s a b S le v. (
-    (λ h. subst (λ T. T) (pieces_end (With w d env s a b S f k n) n k l a b S) (pieces_known w d env s a b S f k n e v name h)),
-    (λ g. (n, v, subst (λ T. T) (sym (pieces_end (With w d env s a b S f k n) n k l a b S)) g)),
-  );
+  ends = λ l w d env s a b S le v. by_equal (pieces_end (With w d env s a b S f k n) n k l a b S) (pieces_known w d env s a b S f k n e v name) (λ g. (n, v, g));
   turns = λ l w d env s a b S le v. (
     (λ h. let r = subst (λ T. T) (pieces_turn (With w d env s a b S f k n) n k l a b S) (pieces_known w d env s a b S f k n e v name h) in
         (r.0, r.1, r.2, r.3, r.4, r.5, (n, refl, r.6), r.7)),
@@ -149,10 +149,7 @@ for_unfolds name k e f n = record {
 
 pub forall_unfolds : (name : List ℕ) (k : ℤ) (e : ExprTree) (f : FormulaTree) (n : ℤ) → ForallUnfolds name k e f n
 forall_unfolds name k e f n = record {
-  ends = λ l w d env s a b S le v. (
-    (λ h. subst (λ T. T) (together_end (With w d env s a b S f k n) n k l a b S) (together_known w d env s a b S f k n e v name h)),
-    (λ g. (n, v, subst (λ T. T) (sym (together_end (With w d env s a b S f k n) n k l a b S)) g)),
-  );
+  ends = λ l w d env s a b S le v. by_equal (together_end (With w d env s a b S f k n) n k l a b S) (together_known w d env s a b S f k n e v name) (λ g. (n, v, g));
   goes = λ l w d env s a b S le v. (
     (λ h. let r = subst (λ T. T) (together_go (With w d env s a b S f k n) n k l a b S) (together_known w d env s a b S f k n e v name h) in
         (r.0, r.1, r.2, (n, refl, r.3), r.4)),
