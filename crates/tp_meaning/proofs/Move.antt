@@ -141,7 +141,7 @@ cut_low M c r a e w0 (suc j) = let q = rises_less c r 0 (suc j) (omega arith) in
 -- a projection, where its pieces and its outer part go along
 module _ (M : Move) (a b : ℕ) (lo : M.low ≤ a) (P Q : Part) (O N : (ℕ → ℕ) → Part) (piece : (i j : ℕ) (T : Shows) → a ≤ i → i ≤ j → j ≤ b → P i j T → Q (M.at i) (M.at j) (M.push T))
     (outer : (c : ℕ → ℕ) (m : ℕ) (V : Shows) → ((j : ℕ) → 0 ≤ j → j ≤ m → (a ≤ c j) × (c j ≤ b)) → O c 0 m V → N (λ j. M.at (c j)) 0 m V) where
-  pub projected_moved : (S : Shows) → Projected P O a b S → Projected Q N (M.at a) (M.at b) (M.push S)
+  abbrev pub projected_moved : (S : Shows) → Projected P O a b S → Projected Q N (M.at a) (M.at b) (M.push S)
   projected_moved S z =
       let within = cut_within z.0 z.4 0 z.1 a b z.5 z.6 in (
         (λ j. M.at (z.0 j)),

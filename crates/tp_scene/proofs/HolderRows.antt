@@ -74,6 +74,16 @@ module _ (w : Context) (state globals : ℕ) (facts : List Fact) (nn : Numbers) 
         known_at w globals facts n e state 0 h held p (held_place k h held p) _ (sinks k) (forced k) (rises k) (λ P. HolderSays w globals k P Second) (first_lens w globals n k Second) (holder_below, second_up) (λ z u. u)
         Held d σ s a b S known L L.said.0 (λ z y. status_means w globals held z d _ _ L.from L.to L.shows L.order L.said.1 y)
 
+    -- a left region that ends is closed, and what follows it begins; one that goes rests
+    left_keeps : (p : Place) (s : Course) (a b : ℕ) → IsOf state p s a b → (A : Claim) → Carried w globals n A → (after : Entries)
+        → ((d : ℕ) (σ : Locals) (S : Shows) → A d σ s a b S → Says w globals after d σ s a b S)
+        → ((d : ℕ) (σ : Locals) (S : Shows) → Says w globals after d σ s a b S → A d σ s a b S)
+        → ((d : ℕ) (σ : Locals) (S : Shows) (x : SplitSays w globals Held A d σ s a b S) → IsTrue ((held_place k h held p).is Ending) → a ≡ x.0)
+        → Keeps w globals facts n e (by_status (held_place k h held p) rests (becomes (closed_then (nn.item 0) (region h held) after) 2)) (SplitSays w globals Held A) s a b
+    left_keeps p s a b is A up after there back ended =
+        by_side (held_place k h held p) rests (becomes (closed_then (nn.item 0) (region h held) after) 2) (SplitSays w globals Held A) s a b (λ _. tt)
+        (λ y. close_keeps A up h held held_below after s a b is.order there back (λ d σ S x. ended d σ S x y))
+
   -- An outer region that goes has a first piece.
   abbrev first_region : FormulaTree → Bindings → Region
   first_region f env = region (new_head nn.region) (leaf (nn.item 0) (Do f env) (leaf (nn.item 1) (Do more env) none))
@@ -121,22 +131,16 @@ module _ (w : Context) (state globals : ℕ) (facts : List Fact) (nn : Numbers) 
       → Keeps w globals facts n e (holder_step w.defs w.inputs state facts k (region h held) (region g second) (held_place k h held p) nn)
       (HolderSays w globals k (RegionSays w globals (region h held)) (RegionSays w globals (region g second))) s a b
   holder_row (Split f env) h held g second bk bh bs p s a b is =
-      let q = held_place (Split f env) h held p in
       let After = FormulaSays w globals f env in
-      let after = leaf (nn.item 1) (Do f env) none in
-      by_side q rests (becomes (closed_then (nn.item 0) (region h held) after) 2) (SplitSays w globals (RegionSays w globals (region h held)) After) s a b (λ _. tt)
-      (λ y. close_keeps After (formula_carried w globals n f env bk) h held bh after s a b is.order
+      left_keeps (Split f env) h held g second bk bh bs p s a b is After (formula_carried w globals n f env bk) (leaf (nn.item 1) (Do f env) none)
       (λ d σ S x. alone w globals facts n e After d σ s a b S x) (λ d σ S x. of_alone w globals facts n e After d σ s a b S x)
-      (λ d σ S x. held_known (Split f env) h held g second bk bh bs p s a b is.known d σ S is.order x Ending y))
+      (λ d σ S x y. held_known (Split f env) h held g second bk bh bs p s a b is.known d σ S is.order x Ending y)
   holder_row (SplitProject f env) h held g second bk bh bs p s a b is =
-      let q = held_place (SplitProject f env) h held p in
       let O = RegionSays w globals (region g second) in
       let After = OpenedSays w globals f env O in
-      let after = opened_then (nn.item 1) (region g second) f env none in
-      by_side q rests (becomes (closed_then (nn.item 0) (region h held) after) 2) (SplitSays w globals (RegionSays w globals (region h held)) After) s a b (λ _. tt)
-      (λ y. close_keeps After (opened_carried w globals n f env O bk (region_carried w globals n g second bs)) h held bh after s a b is.order
+      left_keeps (SplitProject f env) h held g second bk bh bs p s a b is After (opened_carried w globals n f env O bk (region_carried w globals n g second bs)) (opened_then (nn.item 1) (region g second) f env none)
       (λ d σ S x. alone w globals facts n e After d σ s a b S x) (λ d σ S x. of_alone w globals facts n e After d σ s a b S x)
-      (λ d σ S x. held_known (SplitProject f env) h held g second bk bh bs p s a b is.known d σ S is.order x Ending y))
+      (λ d σ S x y. held_known (SplitProject f env) h held g second bk bh bs p s a b is.known d σ S is.order x Ending y)
   holder_row (Opened f env) h held g second bk bh bs p s a b is =
       let q = held_place (Opened f env) h held p in
       let O = RegionSays w globals (region h held) in

@@ -1,12 +1,12 @@
 -- A scene says the same of a part of a course where that part is moved to.
-use Rattle.std.proofs.Common.{◌≡◌, ℕ, suc, ◌≤◌, [], ◌∷◌, nat_lt, refl, ap, sym, ◌∙◌, subst, arith, if◌then◌else◌}
+use Rattle.std.proofs.Common.{◌≡◌, ℕ, suc, ◌≤◌, [], ◌∷◌, nat_lt, refl, ap, ◌∙◌, subst, arith, if◌then◌else◌}
 use Rattle.tp_value.specs.Shape.{item_at}
 use Rattle.tp_meaning.specs.Syntax.{FormulaTree, BindingTree, place_binding, known_binding}
 use Rattle.tp_meaning.specs.Course.{Course, Shows}
 use Rattle.tp_meaning.specs.Bindings.{Locals, meaning_of, meanings_of}
 use Rattle.tp_meaning.specs.Holds.{Context, Holds}
 use Rattle.tp_meaning.specs.Moving.{MeaningMoved, EnvMoved, CourseMoved}
-use Rattle.tp_meaning.proofs.Move.{Move, stay, at_le, at_less, woven_push, cut_low, cut_within, projected_moved, holds_moved}
+use Rattle.tp_meaning.proofs.Move.{Move, stay, at_le, at_less, cut_low, cut_within, projected_moved, holds_moved}
 use Rattle.tp_scene.specs.Scene.{Bindings, Side, Ending, Going, Head, Leaf, Do, Later, Shown, Holder, Split, SplitProject, Closed, Opened, Running, Entries, none, leaf, node}
 use Rattle.tp_scene.specs.Says.{at_cuts, locals_at_cuts, IsSo, Claim, LeafSays, OpenedSays, RunningSays, SplitSays, HolderSays, Says, RegionSays}
 use Rattle.tp_scene.proofs.Frame.{region}
@@ -51,21 +51,27 @@ module _ (w : Context) (globals : ℕ) where
 
   running_moved : (f : FormulaTree) (env : Bindings) (I O : Claim) → ClaimMoved I → ClaimMoved O → ClaimMoved (RunningSays w globals f env I O)
   running_moved f env I O mi mo M d σ τ s t a b S lo le l c z =
-      let within = cut_within z.0 z.4 0 (suc z.1) a b z.5 z.6 in (
-        (λ j. M.at (z.0 j)),
+      let within = cut_within z.0 z.4 0 (suc z.1) a b z.5 z.6 in
+      -- what is moved besides the pieces
+      let whole = projected_moved M a b lo (λ i j T. Unit {0}) (λ i j T. Unit {0})
+      (λ cuts. O d (locals_at_cuts cuts σ) (at_cuts cuts s)) (λ cuts. O d (locals_at_cuts cuts τ) (at_cuts cuts t))
+      (λ i j T u o v q. tt)
+      (λ cuts m V in_it q. mo stay d (locals_at_cuts cuts σ) (locals_at_cuts (λ j. M.at (cuts j)) τ) (at_cuts cuts s) (at_cuts (λ j. M.at (cuts j)) t) 0 m V (omega arith) (omega arith)
+      (λ y j u v. l y (cuts j) (in_it j u v).0 (in_it j u v).1) (λ j u v. c (cuts j) (in_it j u v).0 (in_it j u v).1) q)
+      S (z.0, suc z.1, z.2, z.3, z.4, z.5, z.6, (λ j v. tt), z.9, z.10) in (
+        whole.0,
         z.1,
-        z.2,
-        (λ j. M.push (z.3 j)),
-        (λ j. at_less M (z.0 j) (z.0 (suc j)) (cut_low M z.0 z.4 a z.5 lo j) (z.4 j)),
-        ap M.at z.5,
-        ap M.at z.6,
+        whole.2,
+        whole.3,
+        whole.4,
+        whole.5,
+        whole.6,
         (let p = (within 0 (omega arith) (omega arith)).0 in let q = (within 1 (omega arith) (omega arith)).1 in let r = z.4 0 in
             mi M d σ τ s t (z.0 0) (z.0 1) (z.3 0) (cut_low M z.0 z.4 a z.5 lo 0) (omega (arith, r)) (λ y i m n. l y i (omega (arith, m, p)) (omega (arith, n, q))) (λ i m n. c i (omega (arith, m, p)) (omega (arith, n, q))) z.7),
         (λ j u v. let p = (within j (omega arith) (omega arith)).0 in let q = (within (suc j) (omega arith) v).1 in let r = z.4 j in
             do_moved f env M d σ τ s t (z.0 j) (z.0 (suc j)) (z.3 j) (cut_low M z.0 z.4 a z.5 lo j) (omega (arith, r)) (λ y i m n. l y i (omega (arith, m, p)) (omega (arith, n, q))) (λ i m n. c i (omega (arith, m, p)) (omega (arith, n, q))) (z.8 j u v)),
-        mo stay d (locals_at_cuts z.0 σ) (locals_at_cuts (λ j. M.at (z.0 j)) τ) (at_cuts z.0 s) (at_cuts (λ j. M.at (z.0 j)) t) 0 (suc z.1) z.2 (omega arith) (omega arith)
-            (λ y j u v. l y (z.0 j) (within j u v).0 (within j u v).1) (λ j u v. c (z.0 j) (within j u v).0 (within j u v).1) z.9,
-        ap M.push z.10 ∙ sym (woven_push M (suc z.1) 0 z.0 (λ j u. cut_low M z.0 z.4 a z.5 lo j) z.2 z.3),
+        whole.8,
+        whole.9,
       )
 
   split_moved : (I A : Claim) → ClaimMoved I → ClaimMoved A → ClaimMoved (SplitSays w globals I A)

@@ -7,7 +7,7 @@ use Rattle.tp_value.specs.declared.path.Fact.{Fact}
 use Rattle.tp_value.specs.declared.path.VarId.{VarId}
 use Rattle.tp_store.specs.Known.{Variable}
 use Rattle.tp_scene.specs.Scene.{Side, other_side, Ending, Going, Head, marked, Do, Holder, Split, SplitProject, Closed, Opened, Running, Entries, none, leaf, node, new_head, second_lives, has, has_here, sinks, risen, Place, held_place, second_place}
-use Rattle.tp_scene.specs.Step.{Reduction, PickOutcome, reduces, Numbers, leaf_step, holder_step}
+use Rattle.tp_scene.specs.Step.{Reduction, PickOutcome, by_status, reduces, rests, Numbers, leaf_step, holder_step}
 use Rattle.tp_scene.specs.Pick.{Setting, pick, mark_at, put}
 use Rattle.tp_scene.specs.Fits.{kinds_in, IsCalm, Dormant, HolderFits, EntriesFit}
 use Rattle.tp_scene.proofs.Frame.{region}
@@ -70,23 +70,23 @@ module _ (w : Setting) (facts : List Fact) (kinds : List Bool) (definitions : De
 
   -- what a holder becomes
   module _ (z : Side) (h : Head) (held : Entries) (g : Head) (second : Entries) (p p' : Place) (grown : Grown z p p') where
+    -- a left region rests where it goes
+    left_fits : (q : Place) (o : PickOutcome) → (q.is Ending ≡ true → As o p') → As (by_status q rests o) p'
+    left_fits q o fits = cond_both (q.is Going) _ _ (λ o. As o p') (λ _. tt) (λ _. cond_both (q.is Ending) _ _ (λ o. As o p') fits (λ _. tt))
+
     held_fits : (k : Holder) (id : ℕ) (rest : Entries) → Covers p (node id k h held g second rest)
         → HolderFits defs kinds variables k held (held_place k h held p) (Dormant g second × EntriesFit defs kinds variables second (record { region = g.number; depth = p.depth + 1; is = λ z. false })) (EntriesFit defs kinds variables second (second_place g second p))
         → EntriesFit defs kinds variables held (held_place k h held p) → As (holder_step w.defs w.inputs w.state facts k (region h held) (region g second) (held_place k h held p) n) p'
     held_fits (Split f env) id rest cov hf fit =
-        let q = held_place (Split f env) h held p in
-        cond_both (q.is Going) _ _ (λ o. As o p') (λ _. tt) (λ _. cond_both (q.is Ending) _ _ (λ o. As o p')
-        (λ e m l rest r. (
+        left_fits (held_place (Split f env) h held p) _ (λ e m l rest r. (
           tt,
-          closed_fits defs kinds variables h held q p' (ap (λ i. i + 1) (sym grown.more.depth)) e (λ x i. held_covered (Split f env) h held p x (or_right (marked x h) _ i)) (λ x i. held_covered (Split f env) h held p x (or_left (marked x h) _ i)) fit,
+          closed_fits defs kinds variables h held (held_place (Split f env) h held p) p' (ap (λ i. i + 1) (sym grown.more.depth)) e (λ x i. held_covered (Split f env) h held p x (or_right (marked x h) _ i)) (λ x i. held_covered (Split f env) h held p x (or_left (marked x h) _ i)) fit,
           (hf, r),
-        )) (λ _. tt))
+        ))
     held_fits (SplitProject f env) id rest cov hf fit =
-        let q = held_place (SplitProject f env) h held p in
-        cond_both (q.is Going) _ _ (λ o. As o p') (λ _. tt) (λ _. cond_both (q.is Ending) _ _ (λ o. As o p')
-        (λ e m l rest r. (
+        left_fits (held_place (SplitProject f env) h held p) _ (λ e m l rest r. (
           tt,
-          closed_fits defs kinds variables h held q p' (ap (λ i. i + 1) (sym grown.more.depth)) e (λ x i. held_covered (SplitProject f env) h held p x (or_right (marked x h) _ i)) (λ x i. held_covered (SplitProject f env) h held p x (or_left (marked x h) _ i)) fit,
+          closed_fits defs kinds variables h held (held_place (SplitProject f env) h held p) p' (ap (λ i. i + 1) (sym grown.more.depth)) e (λ x i. held_covered (SplitProject f env) h held p x (or_right (marked x h) _ i)) (λ x i. held_covered (SplitProject f env) h held p x (or_left (marked x h) _ i)) fit,
           (
             hf.0,
             awaken defs kinds variables g second _ (held_place (Opened f env) g second p') hf.1.0 hf.1.1 (ap (λ i. i + 1) grown.more.depth)
@@ -95,7 +95,7 @@ module _ (w : Setting) (facts : List Fact) (kinds : List Bool) (definitions : De
                 (dormant_is (p'.is Going) (marked Going g) (risen Going second) (dormant_head g second hf.1.0 Going) (dormant_risen g second hf.1.0 Going) v)),
             r,
           ),
-        )) (λ _. tt))
+        ))
     held_fits (Opened f env) id rest0 cov hf fit =
         let q = held_place (Opened f env) h held p in
         let calm = entries_calm defs kinds variables held q fit in

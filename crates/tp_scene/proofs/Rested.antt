@@ -93,6 +93,9 @@ module _ (defs : List Definition) (kinds : List Bool) (variables : List Variable
       behind (nothing_right (only_if (not (q.is z)) (id ∷ [])) _ (nothing_right (unsettled_items held q) _ e)),
     )
 
+    left_rests : (unsettled_items held q ≡ [] → q.is z ≡ true → Rested z held) → (unsettled_items rest p ≡ [] → Rested z rest) → (q.is z ≡ true) × HeadIs z h × Rested z held × Rested z rest
+    left_rests inside behind = let all = held_rests inside behind in (on_its_side, all.0, all.1, all.2)
+
   pub rested : (es : Entries) (p : Place) (z : Side) → EntriesFit defs kinds variables es p → InnersGo es p → Covers p es → unsettled_items es p ≡ [] → p.is z ≡ true → Rested z es
   rested none p z fit inners cov e is = tt
   rested (leaf id (Do f env) rest) p z fit inners cov e is = absurd (cc)
@@ -101,18 +104,14 @@ module _ (defs : List Definition) (kinds : List Bool) (variables : List Variable
   rested (leaf id (Shown vs) rest) p z fit inners cov e is = rested rest p z fit.1 inners cov e is
   rested (node id (Split f env) h held g second rest) p Ending fit inners cov e is =
       entries_calm rest p fit.2 is (cov Going (or_left (h.goes || risen Going held) _ (on_its_side (held_place (Split f env) h held p) h held (held_marks (Split f env) h held p) fit.1 id rest p Going e)))
-  rested (node id (Split f env) h held g second rest) p Going fit inners cov e is =
-      let all = held_rests (held_place (Split f env) h held p) h held (held_marks (Split f env) h held p) fit.1 id rest p Going e
+  rested (node id (Split f env) h held g second rest) p Going fit inners cov e is = left_rests (held_place (Split f env) h held p) h held (held_marks (Split f env) h held p) fit.1 id rest p Going e
       (λ none on. rested held _ Going fit.1 inners.0 (held_covers (Split f env) h held p) none on)
-      (λ none. rested rest p Going fit.2 inners.1 (λ z x. cov z (or_right (rises (Split f env) z && (marked z h || risen z held)) _ x)) none is) in
-      (on_its_side (held_place (Split f env) h held p) h held (held_marks (Split f env) h held p) fit.1 id rest p Going e, all.0, all.1, all.2)
+      (λ none. rested rest p Going fit.2 inners.1 (λ z x. cov z (or_right (rises (Split f env) z && (marked z h || risen z held)) _ x)) none is)
   rested (node id (SplitProject f env) h held g second rest) p Ending fit inners cov e is =
       entries_calm rest p fit.2 is (cov Going (or_left (h.goes || risen Going held) _ (on_its_side (held_place (SplitProject f env) h held p) h held (held_marks (SplitProject f env) h held p) fit.1 id rest p Going e)))
-  rested (node id (SplitProject f env) h held g second rest) p Going fit inners cov e is =
-      let all = held_rests (held_place (SplitProject f env) h held p) h held (held_marks (SplitProject f env) h held p) fit.1 id rest p Going e
+  rested (node id (SplitProject f env) h held g second rest) p Going fit inners cov e is = left_rests (held_place (SplitProject f env) h held p) h held (held_marks (SplitProject f env) h held p) fit.1 id rest p Going e
       (λ none on. rested held _ Going fit.1 inners.0 (held_covers (SplitProject f env) h held p) none on)
-      (λ none. rested rest p Going fit.2 inners.1 (λ z x. cov z (or_right (rises (SplitProject f env) z && (marked z h || risen z held)) _ x)) none is) in
-      (on_its_side (held_place (SplitProject f env) h held p) h held (held_marks (SplitProject f env) h held p) fit.1 id rest p Going e, all.0, all.1, all.2)
+      (λ none. rested rest p Going fit.2 inners.1 (λ z x. cov z (or_right (rises (SplitProject f env) z && (marked z h || risen z held)) _ x)) none is)
   rested (node id Closed h held g second rest) p z fit inners cov e is =
       let q = held_place Closed h held p in (
         calm_mark q h (entries_calm held q fit.1) Ending refl (held_marks Closed h held p),

@@ -1,7 +1,7 @@
 -- The rule of an equation keeps what it says, from what its sides mean.
-use Rattle.std.proofs.Common.{◌≡◌, ◌↔◌, pos, negsuc, ℕ, suc, ◌+◌, nat_lt, Bool, true, ◌&&◌, ◌||◌, not, List, [], ◌∷◌, Option, Some, None, inl, inr, if◌then◌else◌, refl, ap, sym, ◌∙◌, subst}
+use Rattle.std.proofs.Common.{◌≡◌, ◌↔◌, pos, ℕ, suc, ◌+◌, nat_lt, Bool, true, ◌&&◌, ◌||◌, not, List, [], ◌∷◌, Option, Some, None, inl, inr, if◌then◌else◌, refl, ap, sym, ◌∙◌, subst}
 use Rattle.std.proofs.lemmas.Bool.{cond_both, both_ways, or_cases}
-use Rattle.tp_value.specs.Tree.{Tree, num, truth, list, same_tree}
+use Rattle.tp_value.specs.Tree.{Tree, num, same_tree}
 use Rattle.tp_value.specs.Limits.{length_limit}
 use Rattle.tp_value.specs.Shape.{shape_at_path, item_at}
 use Rattle.tp_value.specs.declared.path.Path.{Path}
