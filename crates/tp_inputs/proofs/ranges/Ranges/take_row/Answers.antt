@@ -40,13 +40,12 @@ pub returns-clause-taken : goal.returns-clause-taken
 returns-clause-taken c =
     let r = c.args.self.now in
     let vs = r.values.items in
-    let f = c.in-Some.ensures in
     let first = c.in-Some.first in
     let row = c.in-Some.row in
-    let low = (found_placed r.rows.entries _ first row r.placed f.0).1 in
+    let low = (found_placed r.rows.entries _ first row r.placed c.in-Some.ensures.0).1 in
     let left : map (row_of vs) c.remove.new.self.entries ≡ _ = ap (map (row_of vs)) c.remove.ensures.entries ∙ removed_row vs r.rows.entries first in
     subst (λ (z : List InputRow). IsTaken (rows_of r) c.args.state (tree c.args.value.now) first row.last z) (sym left)
-    (taken (rows_of r) first c.args.state (row_of vs (first, row)) (tree c.args.value.now) c.requires (entry_row vs r.rows.entries first row f.0) f.1 f.2 (tree_found vs row.value c.index.result.now low c.index.ensures ∙ c.if-same.ensures.0 refl))
+    (taken (rows_of r) first c.args.state (row_of vs (first, row)) (tree c.args.value.now) c.requires (entry_row vs r.rows.entries first row c.in-Some.ensures.0) c.in-Some.ensures.1 c.in-Some.ensures.2 (tree_found vs row.value c.index.result.now low c.index.ensures ∙ c.if-same.ensures.0 refl))
 
 pub returns-clause-place : goal.returns-clause-place
 returns-clause-place c =
