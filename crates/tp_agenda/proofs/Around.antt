@@ -3,7 +3,8 @@ use Rattle.std.proofs.Common.{◌≡◌, ℕ, zero, suc, ◌<◌, true, false, e
 use Rattle.std.proofs.lemmas.Bool.{eqb-true, or_cases, false≢true}
 use Rattle.std.proofs.lemmas.List.{append-nil, take_more}
 use Rattle.tp_scene.specs.Scene.{Head, Holder, Entries, none, leaf, node}
-use Rattle.tp_scene.specs.Regions.{Role, HoldsRegion, by_split, by_split_project, by_closed, by_opened, by_running, by_running_second, past_leaf, past_node, LiveRegion, the_root, the_held, IsTail, all_entries, after_leaf, after_node, StartsWith, StandsLive}
+use Rattle.tp_scene.specs.Regions.{Role, HoldsRegion, by_split, by_split_project, by_closed, by_opened, by_running, by_running_second, past_leaf, past_node, LiveRegion, the_root, the_held, IsTail, all_entries, after_leaf, after_node}
+use Rattle.tp_scene.specs.RegionLaws.{StartsWith, StandsLive}
 use Rattle.tp_step_laws.specs.Near.{StandsAround}
 use Rattle.tp_slots.specs.Plain.{What, bare, holds, gone, Slot, Slots, slot_at, other_head, entries_at, scene_in, has_second, WhatFits, IsLive, IsOrdered}
 use Rattle.tp_slots.specs.Shown.{AreShown}

@@ -5,7 +5,8 @@ use Rattle.std.specs.List.{Contains, filter}
 use Rattle.std.proofs.lemmas.Bool.{both_ways, cases_Bool, not_from_true, not_from_false, false_from_ne_true}
 use Rattle.std.proofs.lemmas.List.Elements.{All-contains, All-filter, All-contains_itself, filter_passes}
 use Rattle.tp_scene.specs.declared.answer.Cell.{Cell}
-use Rattle.tp_scene.specs.Scene.{has, live_items}
+use Rattle.tp_scene.specs.Scene.{has}
+use Rattle.tp_scene.specs.LiveItems.{live_items}
 use Rattle.tp_scene.specs.Step.{PickOutcome, rests}
 use Rattle.tp_scene.specs.Pick.{Moment, outcome_of, IsIdle}
 use Rattle.tp_scene.specs.Seen.{NamesCell, AreNamed}

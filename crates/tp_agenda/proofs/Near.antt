@@ -6,7 +6,7 @@ use Rattle.std.proofs.lemmas.Bool.{cases_Bool, and_from, not_from_false, falseâ‰
 use Rattle.tp_store.specs.Known.{Contents}
 use Rattle.tp_scene.specs.declared.answer.Cell.TheVariants.{End}
 use Rattle.tp_scene.specs.Scene.{Side, has}
-use Rattle.tp_scene.specs.Regions.{StandsLive}
+use Rattle.tp_scene.specs.RegionLaws.{StandsLive}
 use Rattle.tp_scene.specs.Step.{Reduction}
 use Rattle.tp_scene.specs.Pick.{Setting, Moment, Reduces}
 use Rattle.tp_scene.specs.Cells.{IsKnownEnd}

@@ -4,7 +4,7 @@ use Rattle.std.specs.List.{Contains}
 use Rattle.tp_scene.specs.Scene.{has}
 use Rattle.tp_scene.specs.Step.{waits}
 use Rattle.tp_scene.specs.Pick.{Setting, Moment, Leads, outcome_of}
-use Rattle.tp_scene.specs.Cells.{AreUndecided}
+use Rattle.tp_scene.specs.CellLaws.{AreUndecided}
 use Rattle.tp_scene.specs.Laws.{IsSound}
 use Rattle.tp_step.specs.declared.answer.Wait.{Wait}
 use Rattle.tp_step.specs.declared.order.Order.{Order}

@@ -4,7 +4,8 @@ use Rattle.std.specs.Prelude.{◌≡◌, ◌≢◌, ◌⊎◌, ℕ, ◌<◌, ◌
 use Rattle.tp_scene.specs.declared.answer.Cell.{Cell}
 use Rattle.tp_scene.specs.Step.{waits, rests}
 use Rattle.tp_scene.specs.Pick.{Setting, Moment, outcome_of}
-use Rattle.tp_scene.specs.Cells.{IsDecided, AreUndecided}
+use Rattle.tp_scene.specs.Cells.{IsDecided}
+use Rattle.tp_scene.specs.CellLaws.{AreUndecided}
 use Rattle.tp_step_laws.specs.LiveOnce.{WasLive}
 use Rattle.tp_step.specs.declared.answer.Wait.{Wait}
 use Rattle.tp_lanes.specs.Planes.{flag}

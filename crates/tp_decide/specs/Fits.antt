@@ -3,7 +3,8 @@ use Rattle.std.specs.Prelude.{◌≡◌, ℕ, Bool, List, ◌∷◌, length, sli
 use Rattle.tp_value.specs.declared.path.Path.{Path}
 use Rattle.tp_meaning.specs.Syntax.{Definition, ExprTree, ExprTrees, expr_then, FormulaTree}
 use Rattle.tp_meaning.specs.Value.{is_upper}
-use Rattle.tp_meaning.specs.Fits.{ExprFits, BindingsFit}
+use Rattle.tp_meaning.specs.Fits.{ExprFits}
+use Rattle.tp_meaning.specs.BindingsFit.{BindingsFit}
 use Rattle.tp_store.specs.Known.{Variable, IsVariableOf}
 use Rattle.tp_eval.specs.Evaluate.{is_place}
 use Rattle.tp_scene.specs.Scene as S

@@ -10,7 +10,8 @@ use Rattle.tp_inputs.specs.declared.refusal.LineRefusal.TheVariants as l
 use Rattle.tp_inputs.specs.Heads.{has_ranges, head_of}
 use Rattle.tp_inputs.specs.Lines.{IsLine}
 use Rattle.tp_inputs.specs.Faults.{HasFault}
-use Rattle.tp_inputs.specs.Table.{AreLines, IsFirstFault, IsInputsRefusal, IsInputsText}
+use Rattle.tp_inputs.specs.Table.{AreLines, IsFirstFault, IsInputsText}
+use Rattle.tp_inputs.specs.InputsRefusals.{IsInputsRefusal}
 use Rattle.tp_inputs.specs.Read.{refusal_in, IsLineRefusal}
 
 -- of the texts, so many are read to this table, and these are left

@@ -13,4 +13,5 @@ pub mod Places
 pub mod Read
 pub mod Spans
 pub mod Table
+pub mod InputsRefusals
 pub mod Within

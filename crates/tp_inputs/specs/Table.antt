@@ -3,9 +3,6 @@ use Rattle.std.specs.Prelude.{◌≡◌, ℕ, ◌+◌, Bool, List, [], ◌∷◌
 use Rattle.std.specs.Str.Lines.{lines}
 use Rattle.tp_meaning.specs.Inputs.{InputTable}
 use Rattle.tp_inputs.specs.declared.fault.Fault.{Fault}
-use Rattle.tp_inputs.specs.declared.fault.Fault.TheVariants.{Bad, Twice, TooLong}
-use Rattle.tp_inputs.specs.declared.refusal.InputsRefusal.{InputsRefusal}
-use Rattle.tp_inputs.specs.declared.refusal.InputsRefusal.TheVariants as r
 use Rattle.tp_inputs.specs.Heads.{has_ranges, head_of}
 use Rattle.tp_inputs.specs.Lines.{IsLine}
 use Rattle.tp_inputs.specs.Faults.{HasFault}
@@ -34,10 +31,3 @@ pub record IsFirstFault (texts : List (List ℕ)) (number : ℕ) (fault : Fault)
   pub table : InputTable
   pub good : AreLines (has_ranges texts) 0 before [] table
   pub faulty : HasFault (head_of (has_ranges texts) (length before) line) line table fault
-
--- when each refusal comes; want of memory may come at any time
-abbrev pub IsInputsRefusal : List ℕ → InputsRefusal → Type 0
-IsInputsRefusal bytes (r.BadLine line) = IsFirstFault (lines bytes) line Bad
-IsInputsRefusal bytes (r.TwicePort line) = IsFirstFault (lines bytes) line Twice
-IsInputsRefusal bytes (r.TooLong line) = IsFirstFault (lines bytes) line TooLong
-IsInputsRefusal bytes r.NoMemory = Unit {0}

@@ -4,7 +4,8 @@ ghost use Rattle.std.specs.Str.Lines.{lines};
 ghost use Rattle.tp_inputs.specs.Bounds.{HeadBounds};
 ghost use Rattle.tp_inputs.specs.Heads as spec;
 ghost use Rattle.tp_inputs.specs.Read.{inputs_of};
-ghost use Rattle.tp_inputs.specs.Table.{IsInputsText, IsInputsRefusal};
+ghost use Rattle.tp_inputs.specs.Table.{IsInputsText};
+ghost use Rattle.tp_inputs.specs.InputsRefusals.{IsInputsRefusal};
 
 use crate::head::ranged_head;
 use crate::inputs::Inputs;

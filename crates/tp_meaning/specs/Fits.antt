@@ -2,7 +2,7 @@
 -- variables.
 use Rattle.std.specs.Prelude.{◌≡◌, ℕ, suc, ◌<◌, ◌≤◌, Bool, List, [], ◌∷◌, Some, slice_get, IsTrue, length}
 use Rattle.tp_value.specs.declared.path.VarId.{VarId}
-use Rattle.tp_meaning.specs.Syntax.{ExprTree, ExprTrees, bound, global, listing, size, index, minus, negation, both, either, binary, choice, invoke, no_expr, expr_then, FormulaTree, FormulaTrees, test, equation, next_equation, next, weak_next, if_more, if_empty, always, conjunction, branch, len, assign, chop, while, for_from, forall_from, project, exists, call, input, display, no_formula, formula_then, Definition, BindingTree, place_binding, known_binding}
+use Rattle.tp_meaning.specs.Syntax.{ExprTree, ExprTrees, bound, global, listing, size, index, minus, negation, both, either, binary, choice, invoke, no_expr, expr_then, FormulaTree, FormulaTrees, test, equation, next_equation, next, weak_next, if_more, if_empty, always, conjunction, branch, len, assign, chop, while, for_from, forall_from, project, exists, call, input, display, no_formula, formula_then, Definition}
 use Rattle.tp_meaning.specs.Value.{is_upper}
 use Rattle.tp_meaning.specs.Interval.{ProgramTree, kinds_of}
 
@@ -88,12 +88,3 @@ module _ (defs : List Definition) (kinds : List Bool) where
 pub record ProgramFits (p : ProgramTree) : Type 0 where
   pub defs : DefinitionsFit p.defs (kinds_of p.globals)
   pub main : FormulaFits p.defs (kinds_of p.globals) p.main 0
-
--- the variable of each path is one of those of a store, and no path has more than 100 indices
-abbrev pub BindingFits : (kinds : List Bool) → BindingTree → Type 0
-BindingFits kinds (place_binding p) = IsVariable kinds p.var × (length p.at ≤ 100)
-BindingFits kinds (known_binding t) = Unit {0}
-
-abbrev pub BindingsFit : (kinds : List Bool) → List BindingTree → Type 0
-BindingsFit kinds [] = Unit {0}
-BindingsFit kinds (b ∷ bs) = BindingFits kinds b × BindingsFit kinds bs

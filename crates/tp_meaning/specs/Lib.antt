@@ -9,6 +9,7 @@ pub mod Direct
 pub mod Interval
 pub mod Bindings
 pub mod Fits
+pub mod BindingsFit
 pub mod Laws
 pub mod Cuts
 pub mod Moving

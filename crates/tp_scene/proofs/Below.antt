@@ -1,7 +1,7 @@
 -- Scenes whose paths are of variables with numbers below a number.
 use Rattle.std.proofs.Common.{◌≡◌, ℕ, zero, suc, ◌<◌, Bool, List, [], ◌∷◌, Some, length, slice_get, arith, refl, ap}
 use Rattle.tp_meaning.specs.Syntax.{Definition, BindingTree, place_binding, known_binding}
-use Rattle.tp_meaning.specs.Fits.{BindingsFit}
+use Rattle.tp_meaning.specs.BindingsFit.{BindingsFit}
 use Rattle.tp_store.specs.Known.{Variable}
 use Rattle.tp_scene.specs.Scene.{Bindings, Leaf, Do, Later, Shown, Holder, Split, SplitProject, Closed, Opened, Running, Entries, none, leaf, node, Place}
 use Rattle.tp_scene.specs.Fits.{kinds_in, LeafFits, HolderFits, EntriesFit}

@@ -12,7 +12,8 @@ use Rattle.tp_kernel.specs.declared.fault.LimitKind.TheVariants as limit
 use Rattle.tp_meaning.specs.Syntax.{ExprTree, known, bound, global, invoke, FormulaTree, equation, next_equation, always, len, assign, while, for_from, forall_from, exists, call, input, Definition}
 use Rattle.tp_meaning.specs.Nexts.{nexts}
 use Rattle.tp_meaning.specs.Inputs.{InputTable}
-use Rattle.tp_meaning.specs.Fits.{ExprFits, ExprsFit, FormulaFits, FormulasFit, DefinitionsFit, BindingFits, IsVariable}
+use Rattle.tp_meaning.specs.Fits.{ExprFits, ExprsFit, FormulaFits, FormulasFit, DefinitionsFit, IsVariable}
+use Rattle.tp_meaning.specs.BindingsFit.{BindingFits}
 use Rattle.tp_store.specs.Known as store
 use Rattle.tp_store.specs.Known.{Variable, IsVariableOf, AreOfVariables, full}
 use Rattle.tp_eval.specs.Outcome as found

@@ -6,13 +6,14 @@ use Rattle.tp_store.specs.Known.{NoClash}
 use Rattle.tp_scene.specs.declared.answer.Cell.{Cell}
 use Rattle.tp_scene.specs.declared.answer.Cell.TheVariants.{Part, End}
 use Rattle.tp_scene.specs.Scene.{Side, Ending, Going, Head, Leaf, Holder, Entries, none, leaf, node, Scene, second_lives, has, Place, root_place, held_place, second_place}
-use Rattle.tp_scene.specs.Regions.{Role, HoldsRegion, by_running_second, past_leaf, past_node, LiveRegion, the_root, the_held}
-use Rattle.tp_scene.specs.Status.{place_through, computed_place}
+use Rattle.tp_scene.specs.Regions.{Role, HoldsRegion, past_leaf, past_node, LiveRegion, the_root, the_held}
+use Rattle.tp_scene.specs.RegionLaws.{place_through, computed_place}
 use Rattle.tp_scene.specs.Step.{PickOutcome, reduces, waits, rests, clashes, misses, passes, Numbers, leaf_step, holder_step}
 use Rattle.tp_scene.specs.Pick.{Setting, Moment, pick, numbers_of}
 use Rattle.tp_scene.specs.Rest.{is_unsettled, holds_back}
 use Rattle.tp_scene.specs.Fits.{region_numbers}
-use Rattle.tp_scene.specs.Cells.{IsKnownEnd, IsDecided, WaitsAreForUndecided}
+use Rattle.tp_scene.specs.Cells.{IsKnownEnd, IsDecided}
+use Rattle.tp_scene.specs.CellLaws.{WaitsAreForUndecided}
 use Rattle.tp_scene.proofs.Frame.{region}
 use Rattle.tp_scene.proofs.Count.{one_if, count_first, one_there, numbers_once}
 use Rattle.tp_scene.proofs.PutNumbers.{regions, regions_node}

@@ -9,10 +9,11 @@ use Rattle.tp_store.proofs.Members.{in_kept, kept_in, excluded_by, excluded_from
 use Rattle.tp_scene.specs.declared.answer.Cell.TheVariants.{Part, End}
 use Rattle.tp_scene.specs.Scene.{Side, Ending, Going, Head, marked, Holder, Split, SplitProject, Closed, Opened, Running, Entries, none, leaf, node, Scene, second_lives, has, append, sinks, forced, risen, Place, root_place, held_place, second_place}
 use Rattle.tp_scene.specs.Regions.{Role, left_region, closed_region, inner_region, outer_region, HoldsRegion, by_split, by_split_project, by_closed, by_opened, by_running, by_running_second, past_leaf, past_node, LiveRegion, the_root, the_held, IsTail, all_entries, after_leaf, after_node}
-use Rattle.tp_scene.specs.Status.{place_through, computed_place}
-use Rattle.tp_scene.specs.Step.{Reduction, PickOutcome, reduces, waits, rests, clashes, misses, passes, Numbers, leaf_step, holder_step}
+use Rattle.tp_scene.specs.RegionLaws.{place_through, computed_place}
+use Rattle.tp_scene.specs.Step.{Reduction, PickOutcome, by_status, reduces, waits, rests, clashes, misses, passes, Numbers, leaf_step, holder_step}
 use Rattle.tp_scene.specs.Pick.{Setting, pick, mark_at, put, numbers_of, scene_after}
-use Rattle.tp_scene.specs.Cells.{IsKnownEnd, DecidedStays}
+use Rattle.tp_scene.specs.Cells.{IsKnownEnd}
+use Rattle.tp_scene.specs.CellLaws.{DecidedStays}
 use Rattle.tp_scene.proofs.Frame.{region}
 use Rattle.tp_scene.proofs.Risen.{StatusKept, status_put, status_marked, pick_here, pick_second, pick_first, pick_later}
 use Rattle.tp_scene.proofs.PutNumbers.{marked_number}
@@ -75,26 +76,25 @@ module _ (r : ℕ) (z : Side) where
     closed_more q h held p g Ending e = refl
     closed_more q h held p g Going e = absurd (both_ways (q.is Going) g e)
 
+    -- of a left region, which rests where it goes
+    left_keeps : (es rest : Entries) (p p' q : Place) (o : PickOutcome) → (q.is Going ≡ false → HolderKeeps es rest p p' o) → HolderKeeps es rest p p' (by_status q rests o)
+    left_keeps es rest p p' q o h =
+        cond_both (q.is Going) _ _ (HolderKeeps es rest p p') (λ _. tt) (λ e. cond_both (q.is Ending) _ _ (HolderKeeps es rest p p') (λ _. h e) (λ _. tt))
+
     holder_keeps : (k : Holder) (id : ℕ) (h : Head) (held : Entries) (g : Head) (second rest : Entries) (p p' : Place) → More p p'
         → HolderKeeps (node id k h held g second rest) rest p p' (holder_step w.defs w.inputs w.state facts k (region h held) (region g second) (held_place k h held p) n)
     holder_keeps (Split f env) id h held g second rest p p' more =
         let q = held_place (Split f env) h held p in
-        let kept = HolderKeeps (node id (Split f env) h held g second rest) rest p p' in
-        cond_both (q.is Going) _ _ kept (λ _. tt) (λ e. cond_both (q.is Ending) _ _ kept
-        (λ _ x. elim x [
+        left_keeps (node id (Split f env) h held g second rest) rest p p' q _ (λ e x. elim x [
           | inl y ↦ inl (region_more h h held q (held_place Closed h held p') refl (closed_more q h held p' e) y)
           | inr y ↦ elim y [ inl v ↦ absurd (false≢true v.0) | inr v ↦ inr (inr (known_more rest p p' more v)) ]
         ])
-        (λ _. tt))
     holder_keeps (SplitProject f env) id h held g second rest p p' more =
         let q = held_place (SplitProject f env) h held p in
-        let kept = HolderKeeps (node id (SplitProject f env) h held g second rest) rest p p' in
-        cond_both (q.is Going) _ _ kept (λ _. tt) (λ e. cond_both (q.is Ending) _ _ kept
-        (λ _ x. elim x [
+        left_keeps (node id (SplitProject f env) h held g second rest) rest p p' q _ (λ e x. elim x [
           | inl y ↦ inl (region_more h h held q (held_place Closed h held p') refl (closed_more q h held p' e) y)
           | inr y ↦ elim y [ inl v ↦ absurd (false≢true v.0) | inr v ↦ inr (inr (inr (inr (known_more rest p p' more v)))) ]
         ])
-        (λ _. tt))
     holder_keeps (Opened f env) id h held g second rest p p' more =
         let q = held_place (Opened f env) h held p in
         let kept = HolderKeeps (node id (Opened f env) h held g second rest) rest p p' in

@@ -3,7 +3,8 @@ use Rattle.std.proofs.Common.{◌≡◌, ◌⊎◌, inl, inr, ℕ, Bool, true, f
 use Rattle.std.specs.List.{Contains}
 use Rattle.std.proofs.lemmas.List.Elements.{Contains-append_left, Contains-append_right, Contains-append_cases, Contains-push, Contains-push_cases}
 use Rattle.std.proofs.lemmas.Bool.{or_cases, or_left, or_right, and_parts, and_from, eqb-true, eq-eqb, false≢true}
-use Rattle.tp_scene.specs.Scene.{Entries, none, leaf, node, second_lives, only_if, live_items, has}
+use Rattle.tp_scene.specs.Scene.{Entries, none, leaf, node, second_lives, only_if, has}
+use Rattle.tp_scene.specs.LiveItems.{live_items}
 use Rattle.tp_scene.specs.Listed.{LiveItemsAreListed}
 
 none_in : (t : ℕ) → Contains [] t → ⊥

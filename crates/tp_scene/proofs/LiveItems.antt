@@ -2,7 +2,8 @@
 use Rattle.std.proofs.Common.{◌≡◌, ℕ, true, ◌&&◌, eqb, inl, inr}
 use Rattle.std.proofs.lemmas.Bool.{or_cases, or_left, and_parts, eqb-true, eq-eqb, false≢true}
 use Rattle.tp_scene.specs.Scene.{Head, Entries, none, leaf, node, Scene, second_lives, has}
-use Rattle.tp_scene.specs.Regions.{LiveRegion, the_root, the_held, IsTail, all_entries, after_leaf, after_node, StartsWith, StandsLive, LiveItemsStandInLiveRegions}
+use Rattle.tp_scene.specs.Regions.{LiveRegion, the_root, the_held, IsTail, all_entries, after_leaf, after_node}
+use Rattle.tp_scene.specs.RegionLaws.{StartsWith, StandsLive, LiveItemsStandInLiveRegions}
 use Rattle.tp_scene.proofs.StatusRules.{held_by}
 use Rattle.tp_scene.proofs.KnownStays.{holding, holding_second}
 use Rattle.tp_scene.proofs.Seen.{lives_around, lives_whole}

@@ -9,7 +9,7 @@ use Rattle.tp_scene.specs.Scene.{Ending, Going, Entries, none, leaf, node, secon
 use Rattle.tp_scene.specs.Step.{PickOutcome, reduces, waits, rests, clashes, misses, passes, Numbers, leaf_step}
 use Rattle.tp_scene.specs.Pick.{Setting, pick, outcome_of, numbers_of, IsIdle}
 use Rattle.tp_scene.specs.Rest.{is_unsettled, holds_back, unsettled_items, Settled, waiting, end_open, ends, goes, settled_by}
-use Rattle.tp_scene.specs.Cells.{NamedItemWaits, RestEndsGoesOrIsOpen}
+use Rattle.tp_scene.specs.CellLaws.{NamedItemWaits, RestEndsGoesOrIsOpen}
 use Rattle.tp_scene.specs.Fits.{item_numbers}
 use Rattle.tp_scene.proofs.Frame.{region}
 use Rattle.tp_scene.proofs.Risen.{pick_here, pick_second, pick_first, pick_later}

@@ -8,7 +8,8 @@ use Rattle.tp_scene.specs.Pick.{Setting, Moment}
 use Rattle.tp_scene.specs.Rest.{Settled, end_open, ends, goes, settled_by, unsettled_items}
 use Rattle.tp_scene.specs.Fits.{region_numbers}
 use Rattle.tp_scene.specs.Laws.{IsSound}
-use Rattle.tp_scene.specs.Cells.{IsKnownEnd, IsDecided, OpenCellsAreUndecided}
+use Rattle.tp_scene.specs.Cells.{IsKnownEnd, IsDecided}
+use Rattle.tp_scene.specs.CellLaws.{OpenCellsAreUndecided}
 use Rattle.tp_scene.proofs.Count.{one_there, numbers_once, count_first}
 use Rattle.tp_scene.proofs.NamedItem.{by_settling}
 use Rattle.tp_scene.proofs.KnownEnds.{known_counted, end_known, waits_are_for_undecided}

@@ -6,7 +6,8 @@ use Rattle.tp_value.specs.Limits.{path_limit}
 use Rattle.tp_value.specs.declared.path.Fact.{Fact}
 use Rattle.tp_value.specs.declared.path.VarId.{VarId}
 use Rattle.tp_meaning.specs.Syntax.{ExprTree, bound, global, index, Definition, BindingTree, place_binding, known_binding}
-use Rattle.tp_meaning.specs.Fits.{ExprFits, BindingFits, BindingsFit, IsVariable}
+use Rattle.tp_meaning.specs.Fits.{ExprFits, IsVariable}
+use Rattle.tp_meaning.specs.BindingsFit.{BindingFits, BindingsFit}
 use Rattle.tp_eval.specs.Reached.{Reached, reaches, stops, waits, faults, passes, Evaluation, with_reached}
 use Rattle.tp_eval.specs.Evaluate.{PlaceFound, at_path, inside, bound_place, index_in, farther, evaluate, find_place, depth_limit}
 use Rattle.tp_eval.specs.Outcome as found

@@ -3,7 +3,7 @@ use Rattle.std.proofs.Common.{◌≡◌, ◌⊎◌, ℕ, ◌≤◌, true, [], re
 use Rattle.std.proofs.lemmas.Bool.{false≢true}
 use Rattle.tp_scene.specs.Scene.{Head, Holder, Split, SplitProject, Closed, Opened, Running, Entries, none, leaf, node, Scene, second_lives, Place, root_place, held_place, second_place}
 use Rattle.tp_scene.specs.Regions.{Role, HoldsRegion, by_split, by_split_project, by_closed, by_opened, by_running, by_running_second, past_leaf, past_node, LiveRegion, the_root, the_held}
-use Rattle.tp_scene.specs.Status.{place_through, computed_place}
+use Rattle.tp_scene.specs.RegionLaws.{place_through, computed_place}
 use Rattle.tp_scene.specs.Fits.{second_number}
 use Rattle.tp_scene.proofs.Count.{one_if, count, count_none, count_first, one_there}
 use Rattle.tp_scene.proofs.PutNumbers.{regions, regions_node}

@@ -5,7 +5,8 @@ use Rattle.tp_meaning.specs.Syntax.{FormulaTree}
 use Rattle.tp_scene.specs.Scene.{Bindings, Side, Ending, Going, Head, marked, Holder, Split, SplitProject, Closed, Opened, Running, Entries, none, leaf, node, Scene, second_lives, rises, sinks, forced, risen, Place, held_place}
 use Rattle.tp_scene.proofs.Grown.{held_covered, second_covered}
 use Rattle.tp_scene.specs.Regions.{Role, left_region, closed_region, inner_region, outer_region, HoldsRegion, by_split, by_split_project, by_closed, by_opened, by_running, by_running_second, past_leaf, past_node, LiveRegion, the_root, the_held, IsTail, all_entries, after_leaf, after_node}
-use Rattle.tp_scene.specs.Status.{HasStatus, marked_to_end, left_ends, inner_ends, closed_ends, marked_to_go, left_goes, inner_goes, outer_takes, outer_gives, place_through, computed_place, StatusIsLeast}
+use Rattle.tp_scene.specs.Status.{HasStatus, marked_to_end, left_ends, inner_ends, closed_ends, marked_to_go, left_goes, inner_goes, outer_takes, outer_gives}
+use Rattle.tp_scene.specs.RegionLaws.{place_through, computed_place, StatusIsLeast}
 
 -- what a region of a role makes of the region around, takes from it, and is by itself
 abbrev pub GivesUp : Role → Side → Type 0

@@ -3,7 +3,8 @@ use Rattle.std.proofs.Common.{◌≡◌, ℕ, zero, suc, ◌+◌, ◌≤◌, ◌
 use Rattle.std.proofs.lemmas.Bool.{cases_lt, or_cases, or_left, or_right}
 use Rattle.tp_value.specs.declared.path.VarId.{VarId}
 use Rattle.tp_meaning.specs.Syntax.{Definition, place_binding, known_binding}
-use Rattle.tp_meaning.specs.Fits.{BindingsFit, IsVariable}
+use Rattle.tp_meaning.specs.Fits.{IsVariable}
+use Rattle.tp_meaning.specs.BindingsFit.{BindingsFit}
 use Rattle.tp_store.specs.Known.{Variable, AreOfVariables}
 use Rattle.tp_store.proofs.Members.{in_kept, kept_in}
 use Rattle.tp_scene.specs.Scene.{Bindings, Side, other_side, marked, Leaf, Do, Later, Shown, Holder, Split, SplitProject, Closed, Opened, Running, Entries, none, leaf, node, risen, Place, root_place}

@@ -1,7 +1,8 @@
 -- Scenes that fit: what a run's scenes are, beyond their form.
 use Rattle.std.specs.Prelude.{◌≡◌, ◌≢◌, ℕ, ◌+◌, ◌≤◌, ◌<◌, Bool, false, List, [], ◌∷◌, ◌++◌, map, length, IsTrue, ◌⊎◌}
 use Rattle.tp_meaning.specs.Syntax.{Definition, FormulaTree, more}
-use Rattle.tp_meaning.specs.Fits.{FormulaFits, BindingsFit}
+use Rattle.tp_meaning.specs.Fits.{FormulaFits}
+use Rattle.tp_meaning.specs.BindingsFit.{BindingsFit}
 use Rattle.tp_store.specs.Known.{Variable}
 use Rattle.tp_scene.specs.Scene.{Ending, Going, Bindings, Head, Leaf, Do, Later, Shown, Holder, Split, SplitProject, Closed, Opened, Running, Entries, none, leaf, node, Place, root_place, held_place, second_place}
 use Rattle.tp_scene.specs.Step.{region_limit}

@@ -1,4 +1,5 @@
 pub mod Scene
+pub mod LiveItems
 pub mod Says
 pub mod Step
 pub mod Pick
@@ -9,8 +10,10 @@ pub mod Fits
 pub mod Laws
 pub mod Replay
 pub mod Regions
+pub mod RegionLaws
 pub mod Status
 pub mod Cells
+pub mod CellLaws
 pub mod Seen
 pub mod Listed
 pub mod Decided

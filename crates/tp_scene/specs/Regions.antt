@@ -1,7 +1,7 @@
 -- The live regions of a scene.
-use Rattle.std.specs.Prelude.{◌≡◌, ◌↔◌, ℕ, true}
+use Rattle.std.specs.Prelude.{ℕ}
 use Rattle.tp_meaning.specs.Syntax.{FormulaTree}
-use Rattle.tp_scene.specs.Scene.{Bindings, Head, Leaf, Holder, Split, SplitProject, Closed, Opened, Running, Entries, none, leaf, node, Scene, has}
+use Rattle.tp_scene.specs.Scene.{Bindings, Head, Leaf, Holder, Split, SplitProject, Closed, Opened, Running, Entries, leaf, node, Scene}
 
 -- What a live region is to the item that holds it: the left region of a `Split` or a
 -- `SplitProject`, the region of a `Closed`, the inner region of a `Running`, or an outer region,
@@ -48,22 +48,3 @@ pub data IsTail : (tail es : Entries) → Type 0 where
   after_leaf : {id : ℕ} {l : Leaf} {rest es : Entries} → IsTail (leaf id l rest) es → IsTail rest es
   after_node : {id : ℕ} {k : Holder} {h g : Head} {held second rest es : Entries}
       → IsTail (node id k h held g second rest) es → IsTail rest es
-
--- the first of these entries is the item t
-abbrev pub StartsWith : (t : ℕ) → Entries → Type 0
-StartsWith t none = ⊥
-StartsWith t (leaf id l rest) = id ≡ t
-StartsWith t (node id k h held g second rest) = id ≡ t
-
--- The item t stands in a live region.
-pub record StandsLive (s : Scene) (t : ℕ) : Type 0 where
-  pub head : Head
-  pub entries : Entries
-  pub region : LiveRegion s head entries
-  pub tail : Entries
-  pub is_tail : IsTail tail entries
-  pub first : StartsWith t tail
-
--- The live items of a scene are those that stand in its live regions.
-abbrev pub LiveItemsStandInLiveRegions : Type 0
-LiveItemsStandInLiveRegions = (s : Scene) (t : ℕ) → (has t s.root.entries ≡ true) ↔ StandsLive s t

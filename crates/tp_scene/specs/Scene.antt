@@ -1,5 +1,5 @@
 -- Scenes: the regions of a state, and the items in them.
-use Rattle.std.specs.Prelude.{ℕ, ◌+◌, Bool, true, false, ◌||◌, ◌&&◌, not, eqb, List, [], ◌∷◌, ◌++◌}
+use Rattle.std.specs.Prelude.{ℕ, ◌+◌, Bool, true, false, ◌||◌, ◌&&◌, not, eqb, List, []}
 use Rattle.tp_value.specs.Tree.{Tree}
 use Rattle.tp_meaning.specs.Syntax.{FormulaTree, BindingTree}
 
@@ -101,14 +101,6 @@ second_lives (Running piece env) = true
 abbrev pub only_if : {A : Type 0} → Bool → List A → List A
 only_if true xs = xs
 only_if false xs = []
-
--- The live items in walk order: the entries of a region in order; of a holder first the outer
--- region's items where it is live, then those of the region that it holds, then itself.
-abbrev pub live_items : Entries → List ℕ
-live_items none = []
-live_items (leaf id l rest) = id ∷ live_items rest
-live_items (node id k h held g second rest) =
-    (only_if (second_lives k) (live_items second) ++ live_items held) ++ id ∷ live_items rest
 
 -- an item with this number is live
 abbrev pub has : ℕ → Entries → Bool

@@ -4,7 +4,7 @@ use Rattle.tp_scene.specs.declared.answer.Cell.{Cell}
 use Rattle.tp_scene.specs.declared.answer.Cell.TheVariants.{Part, End}
 use Rattle.tp_scene.specs.Scene.{Head, Leaf, Holder, Entries, leaf, node, Scene, held_place}
 use Rattle.tp_scene.specs.Regions.{LiveRegion, the_root, the_held, IsTail}
-use Rattle.tp_scene.specs.Status.{computed_place}
+use Rattle.tp_scene.specs.RegionLaws.{computed_place}
 use Rattle.tp_scene.specs.Step.{waits, leaf_step, holder_step}
 use Rattle.tp_scene.specs.Pick.{Setting, Moment, outcome_of, numbers_of}
 use Rattle.tp_scene.specs.Laws.{IsSound}

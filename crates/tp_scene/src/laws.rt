@@ -1,8 +1,8 @@
 // Laws of steps, of the next state, and of how a state begins and ends.
 ghost use Rattle.tp_scene.specs.Laws.{StepsKeep, StepsFit, RefusalsStandForNone, AdvancesKeep, AdvancesFit, EndsStand, RunsBegin};
-ghost use Rattle.tp_scene.specs.Regions.{LiveItemsStandInLiveRegions};
-ghost use Rattle.tp_scene.specs.Status.{StatusIsLeast};
-ghost use Rattle.tp_scene.specs.Cells.{WaitsAreForUndecided, DecidedStays, NamedItemWaits, RestEndsGoesOrIsOpen, OpenCellsAreUndecided};
+ghost use Rattle.tp_scene.specs.RegionLaws.{LiveItemsStandInLiveRegions};
+ghost use Rattle.tp_scene.specs.RegionLaws.{StatusIsLeast};
+ghost use Rattle.tp_scene.specs.CellLaws.{WaitsAreForUndecided, DecidedStays, NamedItemWaits, RestEndsGoesOrIsOpen, OpenCellsAreUndecided};
 ghost use Rattle.tp_scene.specs.Seen.{PicksSeePlaces, WaitedEndsAreLive};
 ghost use Rattle.tp_scene.specs.Listed.{LiveItemsAreListed};
 ghost use Rattle.tp_scene.specs.Decided.{FactsDecidePaths};

@@ -3,7 +3,8 @@ use Rattle.std.proofs.Common.{◌≡◌, ℕ, zero, suc, ◌+◌, ◌≤◌, ◌
 use Rattle.std.specs.Prelude.{filter}
 use Rattle.std.proofs.lemmas.List.{append_assoc, append-nil, drop_more, take_more, take-append-drop}
 use Rattle.std.proofs.lemmas.List.Elements.{filter-append}
-use Rattle.tp_scene.specs.Scene.{only_if, second_lives, live_items}
+use Rattle.tp_scene.specs.Scene.{only_if, second_lives}
+use Rattle.tp_scene.specs.LiveItems.{live_items}
 use Rattle.tp_slots.specs.Plain.{What, bare, holds, gone, Slots, slot_at, second_of, entries_at, AreIn, WhatFits, IsOrdered}
 use Rattle.tp_slots.specs.Cost.{sum_over, second_cost, what_cost, cost_of, cost_at}
 use Rattle.tp_slots.specs.Threads.{after_at, first_or, AreLinked, AreLast, IsLinked, AreThreaded}

@@ -7,7 +7,8 @@ use Rattle.tp_store.specs.Known.{Variable}
 use Rattle.tp_scene.specs.Scene.{Side, Ending, Going, Head, Holder, Entries, none, leaf, node, second_lives, Place, root_place, held_place, second_place}
 use Rattle.tp_scene.specs.Scene as S
 use Rattle.tp_scene.specs.Regions.{Role, HoldsRegion, by_split, by_split_project, by_closed, by_opened, by_running, by_running_second, past_leaf, past_node, LiveRegion, the_root, the_held, IsTail, all_entries, after_leaf, after_node}
-use Rattle.tp_scene.specs.Status.{HasStatus, place_through, computed_place}
+use Rattle.tp_scene.specs.Status.{HasStatus}
+use Rattle.tp_scene.specs.RegionLaws.{place_through, computed_place}
 use Rattle.tp_scene.specs.Pick.{Setting, Moment}
 use Rattle.tp_scene.specs.Fits.{IsCalm, EntriesFit, second_number, region_numbers}
 use Rattle.tp_scene.specs.Laws.{IsSound}

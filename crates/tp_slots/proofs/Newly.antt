@@ -7,7 +7,8 @@ use Rattle.std.proofs.lemmas.List.Elements.{filter-append}
 use Rattle.tp_meaning.specs.Syntax.{FormulaTree}
 use Rattle.tp_store.specs.Known.{Contents}
 use Rattle.tp_scene.specs.Scene as S
-use Rattle.tp_scene.specs.Scene.{Bindings, Side, Split, SplitProject, Closed, Opened, Running, leaf, none, new_head, has, live_items, only_if, second_lives, closed_then, opened_then, running_then, held_place}
+use Rattle.tp_scene.specs.Scene.{Bindings, Side, Split, SplitProject, Closed, Opened, Running, leaf, none, new_head, has, only_if, second_lives, closed_then, opened_then, running_then, held_place}
+use Rattle.tp_scene.specs.LiveItems.{live_items}
 use Rattle.tp_scene.specs.Step.{Reduction, reduces}
 use Rattle.tp_scene.specs.Pick.{Setting, outcome_of, scene_after}
 use Rattle.tp_decide.specs.declared.decision.Leaf.{Leaf}

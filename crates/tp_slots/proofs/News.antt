@@ -6,7 +6,8 @@ use Rattle.std.proofs.lemmas.Bool.{cases_Bool, eq-eqb, or_left, or_right, and_fr
 use Rattle.std.proofs.lemmas.List.{append-nil}
 use Rattle.std.proofs.lemmas.List.Elements.{filter-append}
 use Rattle.tp_scene.specs.Scene as S
-use Rattle.tp_scene.specs.Scene.{Side, Entries, none, leaf, node, append, has, live_items, only_if, second_lives}
+use Rattle.tp_scene.specs.Scene.{Side, Entries, none, leaf, node, append, has, only_if, second_lives}
+use Rattle.tp_scene.specs.LiveItems.{live_items}
 use Rattle.tp_scene.specs.Step.{Reduction}
 use Rattle.tp_scene.specs.Pick.{put, scene_after}
 use Rattle.tp_slots.specs.Plain.{What}

@@ -5,7 +5,8 @@ use Rattle.std.specs.List.{All}
 use Rattle.std.proofs.lemmas.Bool.{both_ways}
 use Rattle.std.proofs.lemmas.List.{append_assoc}
 use Rattle.std.proofs.lemmas.List.Elements.{filter-append}
-use Rattle.tp_scene.specs.Scene.{Leaf, Do, Later, Shown, Holder, Head, Entries, none, leaf, node, second_lives, only_if, live_items, held_place, second_place}
+use Rattle.tp_scene.specs.Scene.{Leaf, Do, Later, Shown, Holder, Head, Entries, none, leaf, node, second_lives, only_if, held_place, second_place}
+use Rattle.tp_scene.specs.LiveItems.{live_items}
 use Rattle.tp_scene.specs.Rest.{is_unsettled, holds_back, unsettled_items}
 use Rattle.tp_scene.specs.Advance.{shown_in}
 use Rattle.tp_slots.specs.Plain.{What, bare, holds, gone, Slot, Slots, slot_at, other_head, second_of, entries_at, has_second, WhatFits, IsOrdered}

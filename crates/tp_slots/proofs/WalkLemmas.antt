@@ -3,7 +3,7 @@ use Rattle.std.proofs.Common.{◌≡◌, ℕ, zero, suc, ◌+◌, ◌≤◌, ◌
 use Rattle.std.specs.List.{range_with_len}
 use Rattle.std.proofs.lemmas.List.{append_assoc, get_or-map, length-map}
 use Rattle.tp_scene.specs.Scene as S
-use Rattle.tp_scene.specs.Scene.{live_items}
+use Rattle.tp_scene.specs.LiveItems.{live_items}
 use Rattle.tp_slots.specs.Plain as plain
 use Rattle.tp_slots.specs.Plain.{IsOrdered, WhatFits, slot_at, region_slot, entries_at}
 use Rattle.tp_slots.specs.Walk.{live_of, live_in, told_by, todo, visits, IsTask, AreTasks}

@@ -1,7 +1,8 @@
 -- What the walk tells.
 use Rattle.std.proofs.Common.{◌≡◌, ℕ, zero, suc, ◌≤◌, ◌<◌, List, [], ◌∷◌, ◌++◌, length, Option, refl, ap, sym, ◌∙◌, subst, arith}
 use Rattle.std.proofs.lemmas.List.{append_assoc, append-nil}
-use Rattle.tp_scene.specs.Scene.{Leaf, Holder, Entries, none, leaf, node, append, live_items, only_if, second_lives}
+use Rattle.tp_scene.specs.Scene.{Leaf, Holder, Entries, none, leaf, node, append, only_if, second_lives}
+use Rattle.tp_scene.specs.LiveItems.{live_items}
 use Rattle.tp_slots.specs.Plain.{What, bare, holds, gone, Slots, slot_at, region_slot, second_of, in_order, of_what, item_entries, region_entries, entries_at, AreIn, WhatFits, IsOrdered}
 use Rattle.tp_slots.specs.Walk.{item_front, live_of, live_in, told_by, todo, visits, AreTasks}
 use Rattle.tp_slots.specs.declared.walk.Task.{Task}

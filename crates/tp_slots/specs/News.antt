@@ -2,7 +2,8 @@
 use Rattle.std.specs.Prelude.{ℕ, ◌+◌, not, List, [], ◌∷◌, ◌++◌, length, map, Some, None}
 use Rattle.std.specs.List.{filter, range_with_len}
 use Rattle.tp_scene.specs.Scene as S
-use Rattle.tp_scene.specs.Scene.{has, live_items}
+use Rattle.tp_scene.specs.Scene.{has}
+use Rattle.tp_scene.specs.LiveItems.{live_items}
 use Rattle.tp_decide.specs.Decided.{plain_leaf}
 use Rattle.tp_decide.specs.declared.decision.Leaf.{Leaf}
 use Rattle.tp_slots.specs.Plain.{What, bare, holds, gone, Slots, entries_at}

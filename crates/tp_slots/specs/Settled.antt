@@ -1,7 +1,8 @@
 -- What is shown, and what isn't settled, by the slots of the live items.
 use Rattle.std.specs.Prelude.{ℕ, Bool, false, List, [], ◌∷◌, ◌++◌, filter, Option, Some, None}
 use Rattle.tp_value.specs.Tree.{Tree}
-use Rattle.tp_scene.specs.Scene.{Leaf, Do, Later, Shown, only_if, second_lives, live_items}
+use Rattle.tp_scene.specs.Scene.{Leaf, Do, Later, Shown, only_if, second_lives}
+use Rattle.tp_scene.specs.LiveItems.{live_items}
 use Rattle.tp_scene.specs.Rest.{is_unsettled, holds_back}
 use Rattle.tp_slots.specs.Plain.{What, bare, holds, gone, Slots, slot_at, second_of, entries_at}
 use Rattle.tp_slots.specs.Places.{place_outward}

@@ -1,6 +1,7 @@
 -- Walking the live items.
 use Rattle.std.specs.Prelude.{ℕ, ◌<◌, List, [], ◌∷◌, ◌++◌, length}
-use Rattle.tp_scene.specs.Scene.{Entries, none, live_items}
+use Rattle.tp_scene.specs.Scene.{Entries, none}
+use Rattle.tp_scene.specs.LiveItems.{live_items}
 use Rattle.tp_slots.specs.Plain.{Slots, item_entries, region_entries, entries_at}
 use Rattle.tp_slots.specs.Read.{slots_of}
 use Rattle.tp_slots.specs.declared.scene.Scene.{Scene}

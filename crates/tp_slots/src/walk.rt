@@ -1,7 +1,7 @@
 // Walking the live items.
 ghost use Rattle.std.specs.Prelude.{suc, ◌+◌, ◌≡◌, ◌<◌, ◌^◌, ◌++◌, ◌∷◌, length, IfOk, OnOk};
 ghost use Rattle.std.specs.List.{range_with_len};
-ghost use Rattle.tp_scene.specs.Scene.{live_items};
+ghost use Rattle.tp_scene.specs.LiveItems.{live_items};
 ghost use Rattle.tp_slots.specs.Read.{scene_of, slots_of, what_of, item_what};
 ghost use Rattle.tp_slots.specs.Kept.{IsWellKept};
 ghost use Rattle.tp_slots.specs.Cost.{cost_of, cost_at, task_cost, left_cost};

@@ -3,11 +3,12 @@ use Rattle.std.proofs.Common.{◌≡◌, ℕ, zero, suc, ◌<◌, ◌≤◌, Boo
 use Rattle.std.proofs.lemmas.Bool.{cond_both, cases_Bool, cond-true, cond-false, and_parts, eqb-true, false≢true}
 use Rattle.tp_value.specs.declared.path.Fact.{Fact}
 use Rattle.tp_scene.specs.declared.answer.Cell.{Cell}
-use Rattle.tp_scene.specs.Scene.{Ending, Going, Leaf, Do, Later, Shown, Holder, Split, SplitProject, Closed, Opened, Running, Entries, none, leaf, node, Region, second_lives, only_if, live_items, has, Place, root_place, held_place, second_place}
+use Rattle.tp_scene.specs.Scene.{Ending, Going, Leaf, Do, Later, Shown, Holder, Split, SplitProject, Closed, Opened, Running, Entries, none, leaf, node, Region, second_lives, only_if, has, Place, root_place, held_place, second_place}
+use Rattle.tp_scene.specs.LiveItems.{live_items}
 use Rattle.tp_scene.specs.Step.{Reduction, PickOutcome, reduces, waits, rests, by_status, Numbers, leaf_step, holder_step}
 use Rattle.tp_scene.specs.Pick.{Setting, Moment, pick, numbers_of}
 use Rattle.tp_scene.specs.Rest.{AtRest, is_unsettled, holds_back, unsettled_items, Settled, waiting, end_open, ends, goes, settled, settled_by}
-use Rattle.tp_scene.specs.Cells.{ItemWaits}
+use Rattle.tp_scene.specs.CellLaws.{ItemWaits}
 use Rattle.tp_scene.specs.Laws.{IsSound}
 use Rattle.tp_scene.specs.Fits.{item_numbers}
 use Rattle.tp_scene.proofs.Frame.{region}

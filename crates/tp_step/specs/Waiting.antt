@@ -1,10 +1,10 @@
 -- Which item of a state waits first.
 use Rattle.std.specs.Prelude.{◌≡◌, ◌↔◌, ℕ, Bool, List, ◌∷◌, ◌++◌}
 use Rattle.std.specs.List.{Contains}
-use Rattle.tp_scene.specs.Scene.{live_items}
+use Rattle.tp_scene.specs.LiveItems.{live_items}
 use Rattle.tp_scene.specs.Pick.{Setting, Moment}
 use Rattle.tp_scene.specs.Rest.{AtRest, waiting, settled}
-use Rattle.tp_scene.specs.Cells.{ItemWaits}
+use Rattle.tp_scene.specs.CellLaws.{ItemWaits}
 use Rattle.tp_scene.specs.Laws.{IsSound}
 
 -- Of the live items in walk order this is the first that waits.

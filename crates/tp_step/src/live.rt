@@ -1,6 +1,7 @@
 // The live items of a scene, and what it has come to.
 ghost use Rattle.std.specs.Prelude.{◌≡◌, ◌++◌, [], OnOk, OnErr};
-ghost use Rattle.tp_scene.specs.Scene.{live_items, root_place};
+ghost use Rattle.tp_scene.specs.Scene.{root_place};
+ghost use Rattle.tp_scene.specs.LiveItems.{live_items};
 ghost use Rattle.tp_scene.specs.Rest as rest;
 ghost use Rattle.tp_slots.specs.Kept.{IsWellKept};
 ghost use Rattle.tp_slots.specs.Read.{scene_of};

@@ -2,7 +2,8 @@
 use Rattle.std.specs.Prelude.{◌≡◌, ◌≢◌, ℕ, Bool, true, List}
 use Rattle.std.specs.Option.{is_some}
 use Rattle.tp_scene.specs.Scene.{Head, Entries, Scene}
-use Rattle.tp_scene.specs.Regions.{Role, HoldsRegion, LiveRegion, StandsLive}
+use Rattle.tp_scene.specs.Regions.{Role, HoldsRegion, LiveRegion}
+use Rattle.tp_scene.specs.RegionLaws.{StandsLive}
 use Rattle.tp_scene.specs.Step.{Reduction}
 use Rattle.tp_scene.specs.Pick.{Setting, Moment, Reduces}
 use Rattle.tp_scene.specs.Cells.{IsKnownEnd}

@@ -7,7 +7,8 @@ use Rattle.tp_scene.specs.declared.answer.Cell.TheVariants.{Part, End}
 use Rattle.tp_scene.specs.Scene.{Side, has}
 use Rattle.tp_scene.specs.Step.{Reduction, PickOutcome, waits, rests}
 use Rattle.tp_scene.specs.Pick.{Setting, Moment, Reduces, outcome_of}
-use Rattle.tp_scene.specs.Cells.{AreUndecided, IsDecided}
+use Rattle.tp_scene.specs.Cells.{IsDecided}
+use Rattle.tp_scene.specs.CellLaws.{AreUndecided}
 use Rattle.tp_scene.specs.Decided.{decides_path}
 use Rattle.tp_scene.specs.Laws.{IsSound}
 use Rattle.tp_step_laws.specs.Orders.{StepsTo}

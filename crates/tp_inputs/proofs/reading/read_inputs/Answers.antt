@@ -6,7 +6,7 @@ use Rattle.tp_inputs.specs.Heads.{has_ranges, head_of}
 use Rattle.tp_inputs.specs.Lines.{IsLine}
 use Rattle.tp_inputs.specs.Model.{table_of}
 use Rattle.tp_inputs.specs.Read.{IsLineRefusal}
-use Rattle.tp_inputs.specs.Table.{IsInputsRefusal}
+use Rattle.tp_inputs.specs.InputsRefusals.{IsInputsRefusal}
 use Rattle.tp_inputs.proofs.PartLemmas.{no_more}
 use Rattle.tp_inputs.proofs.TableLemmas.{ReadsSoFar, line_more, refused_in, table_whole}
 use Rattle.tp_inputs.proofs.WithinLemmas.{tables_within}

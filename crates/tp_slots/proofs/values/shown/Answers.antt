@@ -3,7 +3,7 @@ use Rattle.std.proofs.Common.{◌≡◌, ◌<◌, ◌++◌, ◌∷◌, [], map, 
 use Rattle.std.proofs.lemmas.List.{append-nil, map-append, take_more}
 use Rattle.std.proofs.Math.Seq.{take-length}
 use Rattle.std.specs.List.{All}
-use Rattle.tp_scene.specs.Scene.{live_items}
+use Rattle.tp_scene.specs.LiveItems.{live_items}
 use Rattle.tp_decide.specs.Read.{shows_of, values_of}
 use Rattle.tp_slots.specs.Plain.{entries_at, slot_at}
 use Rattle.tp_slots.specs.Read.{slots_of, what_of}

@@ -1,7 +1,7 @@
 -- The outer region is told first.
 use Rattle.std.proofs.Common.{arith, ◌++◌, ◌∷◌, ◌∙◌, ap, sym}
 use Rattle.std.proofs.lemmas.List.{append_assoc}
-use Rattle.tp_scene.specs.Scene.{live_items}
+use Rattle.tp_scene.specs.LiveItems.{live_items}
 use Rattle.tp_slots.specs.Plain.{entries_at}
 use Rattle.tp_slots.specs.Walk.{visits, todo}
 use Rattle.tp_slots.specs.Read.{slots_of}

@@ -1,5 +1,5 @@
 use Rattle.std.proofs.Common.{◌≡◌, ◌++◌}
-use Rattle.tp_scene.specs.Scene.{live_items}
+use Rattle.tp_scene.specs.LiveItems.{live_items}
 use Rattle.tp_slots.specs.Plain.{entries_at}
 use Rattle.tp_slots.specs.Cost.{tasks_cost}
 use Rattle.tp_slots.specs.Walk.{todo, AreTasks}
