@@ -4,7 +4,7 @@ use Rattle.std.proofs.lemmas.List.{append-nil}
 use Rattle.tp_value.specs.Tree.{Tree}
 use Rattle.tp_kernel.specs.declared.formula.Expr.{Expr}
 use Rattle.tp_kernel.specs.declared.fault.FaultKind.TheVariants.{NoElement}
-use Rattle.tp_meaning.specs.Syntax.{ExprTree, ExprTrees, no_expr, expr_then, BindingTree}
+use Rattle.tp_meaning.specs.Syntax.{ExprTree, ExprTrees, expr_then, BindingTree}
 use Rattle.tp_meaning.specs.Value.{is_upper}
 use Rattle.tp_eval.specs.Reached.{reaches, stops, faults, Evaluation, with_reached, ◌>>=◌, gives}
 use Rattle.tp_eval.specs.declared.halt.Halt.{Halt}

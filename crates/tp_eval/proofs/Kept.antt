@@ -1,12 +1,11 @@
 -- What the facts say of the values of the variables.
-use Rattle.std.proofs.Common.{◌≡◌, ℕ, suc, Bool, true, false, ◌||◌, List, [], ◌∷◌, Option, Some, None, refl, ap, sym, subst, ◌∙◌, if◌then◌else◌}
+use Rattle.std.proofs.Common.{◌≡◌, ℕ, suc, Bool, true, false, ◌||◌, List, Some, None, refl, ap, sym, subst, ◌∙◌, if◌then◌else◌}
 use Rattle.tp_value.specs.Tree.{Tree}
-use Rattle.tp_value.specs.Shape.{item_of, shape_at_path, item_at}
+use Rattle.tp_value.specs.Shape.{shape_at_path, item_at}
 use Rattle.tp_value.specs.declared.value.Shape.{Shape}
 use Rattle.tp_value.specs.declared.path.Path.{Path}
 use Rattle.tp_value.specs.declared.path.Fact.{Fact}
 use Rattle.tp_kernel.specs.declared.fault.FaultKind.TheVariants.{NoElement}
-use Rattle.tp_meaning.specs.Value.{◌>>=◌}
 use Rattle.tp_store.specs.Facts.{fact, kept_shape, is_excluded, AgreesWithAll}
 use Rattle.tp_store.specs.Known.{NoClash, deepest, whole, limited, full}
 use Rattle.tp_store.specs.Known as store

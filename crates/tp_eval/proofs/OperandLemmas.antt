@@ -5,7 +5,7 @@ use Rattle.tp_value.specs.Tree.{Tree}
 use Rattle.tp_value.specs.declared.path.Path.{Path}
 use Rattle.tp_value.specs.declared.path.Fact.{Fact}
 use Rattle.tp_store.specs.Known.{full, value}
-use Rattle.tp_meaning.specs.Syntax.{ExprTree, numeral, boolean, known, bound, global, listing, size, index, minus, negation, both, either, binary, choice, invoke, Definition, BindingTree, place_binding, known_binding}
+use Rattle.tp_meaning.specs.Syntax.{ExprTree, bound, global, Definition, BindingTree, place_binding, known_binding}
 use Rattle.tp_eval.specs.Reached.{reaches, with_reached}
 use Rattle.tp_eval.specs.Evaluate.{inside, bound_place, of_full, value_at, evaluate, find_place}
 use Rattle.tp_eval.specs.Operand.{known_value, bound_value, bound_path, named_path, IsNamedValue}

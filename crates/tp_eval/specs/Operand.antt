@@ -9,6 +9,8 @@ use Rattle.tp_value.specs.declared.path.Fact.{Fact}
 use Rattle.tp_store.specs.Known.{full, value}
 use Rattle.tp_eval.specs.declared.operand.Operand.{Operand}
 use Rattle.tp_eval.specs.declared.operand.Operand.TheVariants.{Shared, Own}
+use Rattle.tp_eval.specs.declared.operand.Name.{Name}
+use Rattle.tp_eval.specs.declared.operand.Name.TheVariants.{Bound, Whole}
 
 abbrev pub operand_tree : Operand → Tree
 operand_tree (Shared v) = tree v.value
@@ -34,6 +36,11 @@ abbrev pub named_path : ExprTree → List BindingTree → Option Path
 named_path (global x) env = Some (record { var = x; at = [] })
 named_path (bound i) env = option_and_then bound_path (slice_get env i)
 named_path e env = None
+
+-- the path of the place that a name stands for
+abbrev pub path_named : Name → Path
+path_named (Bound p) = p.now
+path_named (Whole x) = record { var = x; at = [] }
 
 -- there is such a place, and the facts say that this is its value
 abbrev pub IsNamedValue : List Fact → Option Path → Tree → Type 0

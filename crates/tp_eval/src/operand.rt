@@ -7,13 +7,13 @@ ghost use Rattle.tp_kernel.specs.Read.{expr_tree, binding_of, bindings_of};
 ghost use Rattle.std.specs.declared.rc.Rc.{Rc};
 ghost use Rattle.std.specs.declared.alloc.Global.{Global};
 ghost use Rattle.tp_value.specs.declared.value.Value.{Value as ValueSeen};
-ghost use Rattle.tp_eval.specs.Operand.{operand_tree, known_value, bound_value, bound_path, named_path, IsNamedValue};
+ghost use Rattle.tp_eval.specs.Operand.{operand_tree, known_value, bound_value, bound_path, path_named, named_path, IsNamedValue};
 
 use std::alloc::Global;
 use std::rc::Rc;
 use tp_kernel::{Binding, Env, Expr};
 use tp_store::Store;
-use tp_value::{Indices, NoMemory, Path, Value};
+use tp_value::{Indices, NoMemory, Path, Value, VarId};
 
 /// The value of an operand that is looked at or handed on: a bound name's, which keeps it, or its
 /// own.
@@ -48,35 +48,41 @@ pub fn bound_value<'a>(expr: &Expr, env: &'a Env) -> Option<&'a Rc<Value>>
     ensures { option_map (λ v. tree v.now.value) result
         ≡ bound_value (expr_tree expr.now) (bindings_of env.now) }
 {
-    match expr {
-        Expr::Bound(number) => known_at(env, *number),
-        Expr::Number(_)
-        | Expr::Truth(_)
-        | Expr::Known(_)
-        | Expr::Global(_)
-        | Expr::List(_)
-        | Expr::Size(_)
-        | Expr::Index(..)
-        | Expr::Minus(_)
-        | Expr::Not(_)
-        | Expr::Both(_)
-        | Expr::Either(..)
-        | Expr::Op(..)
-        | Expr::If(..)
-        | Expr::Call(..) => None,
+    let Expr::Bound(number) = expr else {
+        return None;
+    };
+    known_at(env, *number)
+}
+
+/// The place that a name stands for: that of a binding, or a variable as a whole.
+pub enum Name<'a> {
+    Bound(&'a Path),
+    Whole(VarId),
+}
+
+// The place that the binding with this number is.
+fn place_bound(env: &Env, number: u32) -> Option<&Path>
+    ensures { option_map (λ p. p.now) result
+        ≡ option_and_then bound_path (slice_get (bindings_of env.now) number) }
+{
+    match env.items.get(number as usize) {
+        Some(Binding::Place(path)) => Some(path),
+        Some(Binding::Known(_)) | None => None,
     }
 }
 
-// The value that the store keeps of the place that the binding with this number is.
-fn kept_by_name<'a>(env: &Env, number: u32, store: &'a Store) -> Option<&'a Rc<Value>>
-    ensures { (v : Rc ValueSeen Global) → option_copied result ≡ Some v
-        → IsNamedValue store.now.facts
-        (option_and_then bound_path (slice_get (bindings_of env.now) number)) (tree v.value) }
+/// The place that an expression is by its name alone.
+pub fn place_named<'a>(expr: &Expr, env: &'a Env) -> Option<Name<'a>>
+    ensures { option_map path_named result ≡ named_path (expr_tree expr.now) (bindings_of env.now) }
 {
-    match env.items.get(number as usize) {
-        Some(Binding::Place(path)) => store.kept_value(path),
-        Some(Binding::Known(_)) | None => None,
+    if let Expr::Global(var) = expr {
+        return Some(Name::Whole(*var));
     }
+    let Expr::Bound(number) = expr else {
+        return None;
+    };
+    let path = place_bound(env, *number)?;
+    Some(Name::Bound(path))
 }
 
 /// The value of a name that stands for a whole variable, where the store keeps it.
@@ -90,25 +96,13 @@ pub fn kept_value<'a>(
         → IsNamedValue store.now.facts (named_path (expr_tree expr.now) (bindings_of env.now))
         (tree v.value) }
 {
-    match expr {
-        Expr::Bound(number) => kept_by_name(env, *number, store),
-        Expr::Global(var) => {
+    match place_named(expr, env) {
+        Some(Name::Bound(path)) => store.kept_value(path),
+        Some(Name::Whole(var)) => {
             let at = Indices::new(alloc);
-            store.kept_value(&Path { var: *var, at })
+            store.kept_value(&Path { var, at })
         }
-        Expr::Number(_)
-        | Expr::Truth(_)
-        | Expr::Known(_)
-        | Expr::List(_)
-        | Expr::Size(_)
-        | Expr::Index(..)
-        | Expr::Minus(_)
-        | Expr::Not(_)
-        | Expr::Both(_)
-        | Expr::Either(..)
-        | Expr::Op(..)
-        | Expr::If(..)
-        | Expr::Call(..) => None,
+        None => None,
     }
 }
 

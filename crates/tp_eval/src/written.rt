@@ -1,58 +1,32 @@
 // Places that are written out.
-ghost use Rattle.std.specs.Prelude.{◌≡◌, ℕ, Some, suc, IfOk, slice_get};
-ghost use Rattle.std.specs.Option.{option_and_then, option_map};
+ghost use Rattle.std.specs.Prelude.{◌≡◌, ℕ, Some, suc, IfOk};
 ghost use Rattle.tp_value.specs.declared.path.Path.{Path as PathSeen};
 ghost use Rattle.tp_kernel.specs.Read.{expr_tree, bindings_of};
 ghost use Rattle.tp_eval.specs.Reached.{reaches};
 ghost use Rattle.tp_eval.specs.Evaluate.{at_path};
 ghost use Rattle.tp_eval.specs.Answers.{place_at};
-ghost use Rattle.tp_eval.specs.Operand.{bound_path, named_path};
+ghost use Rattle.tp_eval.specs.Operand.{named_path};
 
 use crate::halt::Halt;
 use crate::lookup::Lookup;
+use crate::operand::{Name, place_named};
 use crate::places::{farther_path, index_from};
 use std::alloc::Global;
-use tp_kernel::{Binding, Env, Expr};
+use tp_kernel::{Env, Expr};
 use tp_value::{Indices, NoMemory, Path, is_number};
-
-// The place that the binding with this number is.
-fn place_bound(env: &Env, number: u32) -> Option<&Path>
-    ensures { option_map (λ p. p.now) result
-        ≡ option_and_then bound_path (slice_get (bindings_of env.now) number) }
-{
-    match env.items.get(number as usize) {
-        Some(Binding::Place(path)) => Some(path),
-        Some(Binding::Known(_)) | None => None,
-    }
-}
 
 // The place that an expression is by its name alone.
 fn named_path(alloc: Global, expr: &Expr, env: &Env) -> Result<Option<Path>, NoMemory>
     ensures { IfOk result (λ named.
         named ≡ named_path (expr_tree expr.now) (bindings_of env.now)) }
 {
-    match expr {
-        Expr::Bound(number) => match place_bound(env, *number) {
-            Some(path) => Ok(Some(path.copy()?)),
-            None => Ok(None),
-        },
-        Expr::Global(var) => Ok(Some(Path {
-            var: *var,
-            at: Indices::new(alloc),
-        })),
-        Expr::Number(_)
-        | Expr::Truth(_)
-        | Expr::Known(_)
-        | Expr::List(_)
-        | Expr::Size(_)
-        | Expr::Index(..)
-        | Expr::Minus(_)
-        | Expr::Not(_)
-        | Expr::Both(_)
-        | Expr::Either(..)
-        | Expr::Op(..)
-        | Expr::If(..)
-        | Expr::Call(..) => Ok(None),
+    match place_named(expr, env) {
+        Some(Name::Bound(path)) => Ok(Some(path.copy()?)),
+        Some(Name::Whole(var)) => {
+            let at = Indices::new(alloc);
+            Ok(Some(Path { var, at }))
+        }
+        None => Ok(None),
     }
 }
 
