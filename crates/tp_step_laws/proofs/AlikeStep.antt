@@ -9,7 +9,7 @@ use Rattle.tp_value.specs.declared.path.Path.{Path}
 use Rattle.tp_value.specs.declared.path.Fact.{Fact}
 use Rattle.tp_store.specs.Facts.{kept_shape}
 use Rattle.tp_store.specs.Known.{NoClash, Variable}
-use Rattle.tp_scene.specs.Scene.{Side, Ending, Going, Head, Holder, SplitProject, Running, Entries, none, leaf, node, Region, Scene, second_lives, has, has_here, append, root_place}
+use Rattle.tp_scene.specs.Scene.{Side, Ending, Going, Head, Holder, SplitProject, Running, Entries, none, leaf, node, Region, Scene, second_lives, has, has_here, root_place}
 use Rattle.tp_scene.specs.Step.{Reduction, PickOutcome, reduces, waits, rests, Numbers}
 use Rattle.tp_scene.specs.Pick.{Setting, Moment, mark_head, mark_at, put, put_in, numbers_of, outcome_of, scene_after, with_local, IsIdle}
 use Rattle.tp_scene.specs.Rest.{AtRest}
@@ -24,14 +24,10 @@ use Rattle.tp_step_laws.proofs.GivenAlike.{given_alike, lives_alike}
 use Rattle.tp_step_laws.proofs.RenamePick.{lives_to, has_to}
 use Rattle.tp_step_laws.proofs.Where.{at_of, at_calm, picked}
 use Rattle.tp_step_laws.proofs.Again.{bad_anyhow, Again, thing_again}
+use Rattle.tp_step_laws.proofs.Swap.{renamed_append}
 use Rattle.tp_step_laws.proofs.Blocks.{get_left, get_next}
 
 module _ (ρ : Renaming) where
-  append_to : (xs ys : Entries) → renamed_entries ρ (append xs ys) ≡ append (renamed_entries ρ xs) (renamed_entries ρ ys)
-  append_to none ys = refl
-  append_to (leaf id l rest) ys = ap (leaf (ρ.item.to id) (renamed_leaf ρ l)) (append_to rest ys)
-  append_to (node id k h i g s rest) ys = ap (node (ρ.item.to id) (renamed_holder ρ k) (renamed_head ρ h) (renamed_entries ρ i) (renamed_second ρ k g) (renamed_entries ρ s)) (append_to rest ys)
-
   here_to : (t : ℕ) (es : Entries) → has_here (ρ.item.to t) (renamed_entries ρ es) ≡ has_here t es
   here_to t none = refl
   here_to t (leaf id l rest) = ap₂ (λ a b. a || b) (eqb_to ρ.item id t) (here_to t rest)
@@ -66,8 +62,8 @@ module _ (ρ : Renaming) where
 
   put_to : (t : ℕ) (m : Option Side) (news es : Entries) → renamed_entries ρ (put t m news es) ≡ put (ρ.item.to t) m (renamed_entries ρ news) (renamed_entries ρ es)
   put_to t m news none = refl
-  put_to t m news (leaf id l rest) = cond_to (eqb id t) _ _ _ _ _ (eqb_to ρ.item id t) (append_to news rest) (ap (leaf (ρ.item.to id) (renamed_leaf ρ l)) (put_to t m news rest))
-  put_to t m news (node id k h i g s rest) = cond_to (eqb id t) _ _ _ _ _ (eqb_to ρ.item id t) (append_to news rest)
+  put_to t m news (leaf id l rest) = cond_to (eqb id t) _ _ _ _ _ (eqb_to ρ.item id t) (renamed_append ρ news rest) (ap (leaf (ρ.item.to id) (renamed_leaf ρ l)) (put_to t m news rest))
+  put_to t m news (node id k h i g s rest) = cond_to (eqb id t) _ _ _ _ _ (eqb_to ρ.item id t) (renamed_append ρ news rest)
       (cond_to (second_lives k && has t s) _ _ _ _ _ (λ j. lives_to ρ k j && has_to ρ t s j)
       (λ j. node (ρ.item.to id) (renamed_holder ρ k) (renamed_head ρ h) (renamed_entries ρ i) (second_at k t m g s j) (put_to t m news s j) (renamed_entries ρ rest))
       (cond_to (has t i) _ _ _ _ _ (has_to ρ t i)

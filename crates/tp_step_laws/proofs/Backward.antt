@@ -2,8 +2,9 @@
 use Rattle.std.proofs.Common.{◌≡◌, ◌⊎◌, inl, inr, ℕ, suc, Bool, true, false, ◌&&◌, cond, eqb, Some, None, refl, ap, sym, ◌∙◌, subst}
 use Rattle.std.proofs.lemmas.Bool.{cases_Bool, or_cases, or_left, or_right, or_parts, both_ways, false≢true, eq-eqb}
 use Rattle.tp_scene.specs.Scene.{Side, Head, Leaf, Holder, Split, SplitProject, Closed, Opened, Running, Entries, none, leaf, node, new_head, second_lives, has, append, Scene, Place, root_place, held_place, second_place}
-use Rattle.tp_scene.specs.Regions.{Role, HoldsRegion, by_split, by_split_project, by_closed, by_opened, by_running, by_running_second, past_leaf, past_node, LiveRegion, the_root, the_held, IsTail, all_entries, after_leaf, after_node, StartsWith, StandsLive}
-use Rattle.tp_scene.specs.Status.{place_through, computed_place}
+use Rattle.tp_scene.specs.Regions.{Role, HoldsRegion, by_split, by_split_project, by_closed, by_opened, by_running, by_running_second, past_leaf, past_node, LiveRegion, the_root, the_held, IsTail, all_entries, after_leaf, after_node}
+use Rattle.tp_scene.specs.RegionLaws.{StartsWith, StandsLive}
+use Rattle.tp_scene.specs.RegionLaws.{place_through, computed_place}
 use Rattle.tp_scene.specs.Step.{Numbers}
 use Rattle.tp_scene.proofs.Plain.{FreshLeaves}
 use Rattle.tp_scene.proofs.KnownEnds.{number_in}

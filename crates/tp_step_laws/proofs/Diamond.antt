@@ -61,34 +61,21 @@ thing_below n t (node id k h i g s rest) x q p (in_first a at d f) b = thing_bel
 thing_below n t (node id k h i g s rest) x q p (in_second a l c at f) b = thing_below n t s x q _ at (if_lives n k (Below n s) l b.2)
 thing_below n t (node id k h i g s rest) x q p (past_node a c d at) b = thing_below n t rest x q p at b.3
 
+-- the bindings of a holder's formula
+abbrev envs : Holder → Bindings
+envs (Split f env) = env
+envs (SplitProject f env) = env
+envs Closed = []
+envs (Opened f env) = env
+envs (Running f env) = env
+
 -- what a holder becomes, with renamed numbers and regions
 make_to : (ρ : Renaming) (n n' : Numbers) (k : Holder) → renamed_holder ρ k ≡ k → ((i : ℕ) → i < made_items k → n'.item i ≡ ρ.item.to (n.item i)) → (0 < made_regions k → n'.region ≡ ρ.region.to n.region)
     → (h : Head) (i : Entries) (g : Head) (s : Entries) → renamed_entries ρ (holder_make k n h i g s) ≡ holder_make k n' (renamed_head ρ h) (renamed_entries ρ i) (renamed_second ρ k g) (renamed_entries ρ s)
 make_to ρ n n' (Split f env) e a r h i g s = (λ j. node (sym (a 0 (omega arith)) j) Closed (renamed_head ρ h) (renamed_entries ρ i) no_region none (leaf (sym (a 1 (omega arith)) j) (Do f (envs (e j))) none))
-  where
-    envs : Holder → Bindings
-    envs (Split f env) = env
-    envs (SplitProject f env) = env
-    envs Closed = []
-    envs (Opened f env) = env
-    envs (Running f env) = env
 make_to ρ n n' (SplitProject f env) e a r h i g s = (λ j. node (sym (a 0 (omega arith)) j) Closed (renamed_head ρ h) (renamed_entries ρ i) no_region none (node (sym (a 1 (omega arith)) j) (Opened f (envs (e j))) (renamed_head ρ g) (renamed_entries ρ s) no_region none none))
-  where
-    envs : Holder → Bindings
-    envs (Split f env) = env
-    envs (SplitProject f env) = env
-    envs Closed = []
-    envs (Opened f env) = env
-    envs (Running f env) = env
 make_to ρ n n' (Opened f env) e a r h i g s =
     (λ j. node (sym (a 2 (omega arith)) j) (Running f (envs (e j))) (new_head (sym (r (omega arith)) j)) (leaf (sym (a 0 (omega arith)) j) (Do f (envs (e j))) (leaf (sym (a 1 (omega arith)) j) (Do more (envs (e j))) none)) (renamed_head ρ h) (renamed_entries ρ i) none)
-  where
-    envs : Holder → Bindings
-    envs (Split f env) = env
-    envs (SplitProject f env) = env
-    envs Closed = []
-    envs (Opened f env) = env
-    envs (Running f env) = env
 make_to ρ n n' k e a r h i g s = refl
 
 -- the result of the other item after a step

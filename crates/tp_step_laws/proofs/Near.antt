@@ -4,8 +4,10 @@ use Rattle.std.specs.Option.{is_some}
 use Rattle.std.proofs.lemmas.Bool.{cases_Bool, or_cases, both_ways, false≢true}
 use Rattle.tp_value.specs.declared.path.Fact.{Fact}
 use Rattle.tp_scene.specs.Scene.{Side, Ending, Going, other_side, Head, marked, Entries, none, new_head, Scene, Place, root_place}
-use Rattle.tp_scene.specs.Regions.{Role, left_region, closed_region, inner_region, outer_region, HoldsRegion, by_split, by_split_project, by_closed, by_opened, by_running, by_running_second, past_leaf, past_node, LiveRegion, the_root, the_held, StandsLive}
-use Rattle.tp_scene.specs.Status.{HasStatus, marked_to_end, left_ends, inner_ends, closed_ends, marked_to_go, left_goes, inner_goes, outer_takes, outer_gives, place_through, computed_place}
+use Rattle.tp_scene.specs.Regions.{Role, left_region, closed_region, inner_region, outer_region, HoldsRegion, by_split, by_split_project, by_closed, by_opened, by_running, by_running_second, past_leaf, past_node, LiveRegion, the_root, the_held}
+use Rattle.tp_scene.specs.RegionLaws.{StandsLive}
+use Rattle.tp_scene.specs.Status.{HasStatus, marked_to_end, left_ends, inner_ends, closed_ends, marked_to_go, left_goes, inner_goes, outer_takes, outer_gives}
+use Rattle.tp_scene.specs.RegionLaws.{place_through, computed_place}
 use Rattle.tp_scene.specs.Step.{Reduction, PickOutcome, reduces, Numbers}
 use Rattle.tp_scene.specs.Pick.{Setting, Moment, Reduces, numbers_of}
 use Rattle.tp_scene.specs.Cells.{IsKnownEnd}

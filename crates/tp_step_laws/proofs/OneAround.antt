@@ -3,7 +3,7 @@ use Rattle.std.proofs.Common.{◌≡◌, ◌⊎◌, inl, inr, ℕ, ◌+◌, ◌�
 use Rattle.std.proofs.lemmas.Bool.{cases_Bool, both_ways, eqb-true, eq-eqb}
 use Rattle.tp_scene.specs.Scene.{Side, Head, Entries, none, leaf, node, Scene, second_lives, Place, root_place, held_place, second_place}
 use Rattle.tp_scene.specs.Regions.{Role, HoldsRegion, by_split, by_split_project, by_closed, by_opened, by_running, by_running_second, past_leaf, past_node, LiveRegion, the_root, the_held}
-use Rattle.tp_scene.specs.Status.{place_through, computed_place}
+use Rattle.tp_scene.specs.RegionLaws.{place_through, computed_place}
 use Rattle.tp_scene.specs.Pick.{Setting, Moment}
 use Rattle.tp_scene.specs.Fits.{region_numbers}
 use Rattle.tp_scene.specs.Laws.{IsSound}

@@ -121,6 +121,24 @@ pub place_goes : (facts : List Fact) (x : PlaceFound) (c : ℕ) (p : Path) → p
 place_goes facts (at_path q) c p e = cc
 place_goes facts (inside t at) c p e = element_waits (item_at at t) c p e
 
+-- What is so of a side's target and outcome, and of those where more is known, by whether it is a place.
+module _ (Holds : Option Target → found.Outcome → Option Target → found.Outcome → Type 0) (defs : List Definition) (fs gs : List Fact) (env : Bindings) (no_target : (e : ExprTree) → Holds None (outcome fs defs e env) None (outcome gs defs e env)) where
+  abbrev pub HoldsAt : (Path → Target) → ExprTree → ExprTree → Type 0
+  HoldsAt target e x = Holds (target_at target (place_outcome fs defs e env)) (outcome fs defs x env) (target_at target (place_outcome gs defs e env)) (outcome gs defs x env)
+
+  by_place : (target : Path → Target) (e x : ExprTree) → (is_place e ≡ true → HoldsAt target e x) → (b : Bool) → is_place e ≡ b
+      → Holds (target_if defs fs b target e env) (outcome fs defs x env) (target_if defs gs b target e env) (outcome gs defs x env)
+  by_place target e x h true p = h p
+  by_place target e x h false p = no_target x
+
+  pub of_side : ((e : ExprTree) → is_place e ≡ true → HoldsAt value_at e e) → ((e : ExprTree) → is_place e ≡ true → HoldsAt length_at e (size e))
+      → (e : ExprTree) → Holds (side_of defs fs e env).target (side_of defs fs e env).found (side_of defs gs e env).target (side_of defs gs e env).found
+  of_side at_place at_size (size e) = by_place length_at e (size e) (at_size e) (is_place e) refl
+  of_side at_place at_size (index e i) = by_place value_at (index e i) (index e i) (at_place (index e i)) (is_place e) refl
+  of_side at_place at_size (bound i) = at_place (bound i) refl
+  of_side at_place at_size (global x) = at_place (global x) refl
+  of_side at_place at_size e = no_target e
+
 module _ (defs : List Definition) (fs gs : List Fact) (fc : NoClash fs) (gc : NoClash gs) (more : KnowsMore fs gs) (env : Bindings) where
   abbrev Grows : (Path → Target) → ExprTree → ExprTree → Type 0
   Grows target e x = SideGrows gs (target_at target (place_outcome fs defs e env)) (outcome fs defs x env) (target_at target (place_outcome gs defs e env)) (outcome gs defs x env)
@@ -174,15 +192,5 @@ module _ (defs : List Definition) (fs gs : List Fact) (fc : NoClash fs) (gc : No
     abbrev Side : ExprTree → Type 0
     Side e = SideGrows gs (side_of defs fs e env).target (side_of defs fs e env).found (side_of defs gs e env).target (side_of defs gs e env).found
 
-    -- by whether it is a place
-    by_place : (target : Path → Target) (e x : ExprTree) → (is_place e ≡ true → Grows target e x) → (b : Bool) → is_place e ≡ b
-        → SideGrows gs (target_if defs fs b target e env) (outcome fs defs x env) (target_if defs gs b target e env) (outcome gs defs x env)
-    by_place target e x h true p = h p
-    by_place target e x h false p = no_target x
-
     pub side_grows : (e : ExprTree) → Side e
-    side_grows (size e) = by_place length_at e (size e) (size_side e) (is_place e) refl
-    side_grows (index e i) = by_place value_at (index e i) (index e i) (place_side (index e i)) (is_place e) refl
-    side_grows (bound i) = place_side (bound i) refl
-    side_grows (global x) = place_side (global x) refl
-    side_grows e = no_target e
+    side_grows = of_side (SideGrows gs) defs fs gs env no_target place_side size_side

@@ -1,11 +1,11 @@
 -- A side of an equation that waits where more is known, but not of what it waits for.
-use Rattle.std.proofs.Common.{◌≡◌, ◌⊎◌, inl, inr, Bool, true, false, List, Option, Some, None, refl, ap, sym, ◌∙◌, subst}
+use Rattle.std.proofs.Common.{◌≡◌, ◌⊎◌, inl, inr, true, List, Option, Some, None, refl, ap, sym, ◌∙◌, subst}
 use Rattle.tp_value.specs.Tree.{Tree}
 use Rattle.tp_value.specs.declared.path.Path.{Path}
 use Rattle.tp_value.specs.declared.path.Fact.{Fact}
 use Rattle.tp_value.specs.Shape.{item_at}
 use Rattle.tp_kernel.specs.declared.fault.LimitKind.{LimitKind}
-use Rattle.tp_meaning.specs.Syntax.{ExprTree, bound, global, size, index, Definition}
+use Rattle.tp_meaning.specs.Syntax.{ExprTree, size, Definition}
 use Rattle.tp_store.specs.Known.{NoClash}
 use Rattle.tp_eval.specs.Reached.{Reached, reaches, stops, waits, faults, passes, with_reached}
 use Rattle.tp_eval.specs.Evaluate as ev
@@ -13,12 +13,12 @@ use Rattle.tp_eval.specs.Evaluate.{PlaceFound, at_path, inside, is_place, find_p
 use Rattle.tp_eval.specs.Outcome as found
 use Rattle.tp_eval.specs.Outcome.{outcome, place_outcome, outcome_reached, place_reached, PlaceOutcome}
 use Rattle.tp_scene.specs.Scene.{Bindings}
-use Rattle.tp_scene.specs.Step.{Target, value_at, length_at, target_at, target_if, side_of}
+use Rattle.tp_scene.specs.Step.{Target, value_at, length_at, target_at, side_of}
 use Rattle.tp_step_laws.specs.Outcomes.{KnowsMore, GrownOutcome, GrownPlace}
 use Rattle.tp_step_laws.specs.WaitingRows.{IsUndecided}
 use Rattle.tp_step_laws.proofs.OutcomesGrow.{is_limit, More, evaluate_deeper, outcomes_grow}
 use Rattle.tp_step_laws.proofs.OutcomesWait.{outcomes_wait}
-use Rattle.tp_step_laws.proofs.SideGrow.{read_place, read_size, element_waits, place_goes, stays_some}
+use Rattle.tp_step_laws.proofs.SideGrow.{read_place, read_size, element_waits, place_goes, stays_some, of_side}
 
 -- a value, a fault and a passed limit stay; and so does what waits, where it isn't decided
 abbrev pub StaysOutcome : List Fact → found.Outcome → found.Outcome → Type 0
@@ -128,15 +128,5 @@ module _ (defs : List Definition) (fs gs : List Fact) (fc : NoClash fs) (gc : No
   abbrev Side : ExprTree → Type 0
   Side e = SideWaits gs (side_of defs fs e env).target (side_of defs fs e env).found (side_of defs gs e env).target (side_of defs gs e env).found
 
-  -- by whether it is a place
-  by_place : (target : Path → Target) (e x : ExprTree) → (is_place e ≡ true → Waits target e x) → (b : Bool) → is_place e ≡ b
-      → SideWaits gs (target_if defs fs b target e env) (outcome fs defs x env) (target_if defs gs b target e env) (outcome gs defs x env)
-  by_place target e x h true p = h p
-  by_place target e x h false p = no_target x
-
   pub side_waits : (e : ExprTree) → Side e
-  side_waits (size e) = by_place length_at e (size e) (size_side e) (is_place e) refl
-  side_waits (index e i) = by_place value_at (index e i) (index e i) (place_side (index e i)) (is_place e) refl
-  side_waits (bound i) = place_side (bound i) refl
-  side_waits (global x) = place_side (global x) refl
-  side_waits e = no_target e
+  side_waits = of_side (SideWaits gs) defs fs gs env no_target place_side size_side

@@ -235,6 +235,14 @@ module _ (t u : ℕ) (e : Edit) (tu : eqb t u ≡ false) (new : New u e) where
       let ins : Grows (held_place k h i p) (held_place k h i p') = held_grows k h h i i p p' gr refl (λ z e. e) (λ z e. e) in
       rw (a, hi, ei, hs, es) (rewrap (remains rest x q y r p p' at c v gr) (λ z b v. past_node m n o v))
 
+-- a region that is closed grows where it doesn't go
+closed_grows : (k : Holder) (h : Head) (i : Entries) (p q : Place) → ((held_place k h i p).is Going ≡ true → (held_place Closed h i q).is Going ≡ true) → Grows p q → Grows (held_place k h i p) (held_place Closed h i q)
+closed_grows k h i p q going gr = record { region = refl; depth = one_deeper gr.depth; sides = sides }
+  where
+    sides : (z : Side) → (held_place k h i p).is z ≡ true → (held_place Closed h i q).is z ≡ true
+    sides Ending e = refl
+    sides Going e = going e
+
 -- The three edits that carry a region.
 
 module _ (u : ℕ) (n : Numbers) (fresh : (i : ℕ) → eqb (n.item i) u ≡ false) where
@@ -245,17 +253,10 @@ module _ (u : ℕ) (n : Numbers) (fresh : (i : ℕ) → eqb (n.item i) u ≡ fal
       up h i g s rest Ending m st = st
       up h i g s rest Going m st = elim (or_cases (h.goes || risen Going i) (risen Going rest) st) [ inl a ↦ absurd (false≢true (sym no_go ∙ m a)) | inr b ↦ b ]
 
-      grow : (h : Head) (i : Entries) (p q : Place) → Grows p q → Grows (held_place (Split f env) h i p) (held_place Closed h i q)
-      grow h i p q gr = record { region = refl; depth = one_deeper gr.depth; sides = sides }
-        where
-          sides : (z : Side) → (held_place (Split f env) h i p).is z ≡ true → (held_place Closed h i q).is z ≡ true
-          sides Ending e = refl
-          sides Going e = e
-
       within : (y : Thing) (r : Place) (h : Head) (i : Entries) (g : Head) (s rest : Entries) (p q : Place) → At u y r i (held_place (Split f env) h i p) → Grows p q → occurs u s ≡ false → occurs u rest ≡ false →
           Stays u y r (append ((made (Split f env) n).make h i g s) rest) q
       within y r h i g s rest p q at gr a b =
-          rewrap (at_more u i y r (held_place (Split f env) h i p) (held_place Closed h i q) at (grow h i p q gr)) (λ z d v. in_first (fresh 0) v refl (rw (fresh 1) b))
+          rewrap (at_more u i y r (held_place (Split f env) h i p) (held_place Closed h i q) at (closed_grows (Split f env) h i p q (λ e. e) gr)) (λ z d v. in_first (fresh 0) v refl (rw (fresh 1) b))
 
   pub carries_closing_project : (f : FormulaTree) (env : Bindings) (held : Place) → held.is Going ≡ false → CarriesRegions u (made (SplitProject f env) n) (SplitProject f env) held
   carries_closing_project f env held no_go = record { dead = refl; up = up; within = within }
@@ -265,17 +266,10 @@ module _ (u : ℕ) (n : Numbers) (fresh : (i : ℕ) → eqb (n.item i) u ≡ fal
       up h i g s rest Ending m st = or_right (g.ends || risen Ending s) _ st
       up h i g s rest Going m st = elim (or_cases (h.goes || risen Going i) (risen Going rest) st) [ inl a ↦ absurd (false≢true (sym no_go ∙ m a)) | inr b ↦ or_right (g.goes || risen Going s) _ b ]
 
-      grow : (h : Head) (i : Entries) (p q : Place) → Grows p q → Grows (held_place (SplitProject f env) h i p) (held_place Closed h i q)
-      grow h i p q gr = record { region = refl; depth = one_deeper gr.depth; sides = sides }
-        where
-          sides : (z : Side) → (held_place (SplitProject f env) h i p).is z ≡ true → (held_place Closed h i q).is z ≡ true
-          sides Ending e = refl
-          sides Going e = e
-
       within : (y : Thing) (r : Place) (h : Head) (i : Entries) (g : Head) (s rest : Entries) (p q : Place) → At u y r i (held_place (SplitProject f env) h i p) → Grows p q → occurs u s ≡ false → occurs u rest ≡ false →
           Stays u y r (append ((made (SplitProject f env) n).make h i g s) rest) q
       within y r h i g s rest p q at gr a b =
-          rewrap (at_more u i y r (held_place (SplitProject f env) h i p) (held_place Closed h i q) at (grow h i p q gr)) (λ z d v. in_first (fresh 0) v refl (rw (fresh 1, a) b))
+          rewrap (at_more u i y r (held_place (SplitProject f env) h i p) (held_place Closed h i q) at (closed_grows (SplitProject f env) h i p q (λ e. e) gr)) (λ z d v. in_first (fresh 0) v refl (rw (fresh 1, a) b))
 
   pub carries_running : (f : FormulaTree) (env : Bindings) (held : Place) → CarriesRegions u (made (Opened f env) n) (Opened f env) held
   carries_running f env held = record { dead = refl; up = up; within = within }

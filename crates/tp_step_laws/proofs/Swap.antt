@@ -143,7 +143,7 @@ module _ (ρ : Renaming) where
         let ii = fixed_entries i A.left C.left c.1 d.1 in
         λ j. node (fi id a.0 j) (fixed_holder k c.0 j) (fixed_head h b.0 j) (ii j) (fixed_second k g D.left j) (si j) (ri j)
 
-  renamed_append : (xs ys : Entries) → renamed_entries ρ (append xs ys) ≡ append (renamed_entries ρ xs) (renamed_entries ρ ys)
+  pub renamed_append : (xs ys : Entries) → renamed_entries ρ (append xs ys) ≡ append (renamed_entries ρ xs) (renamed_entries ρ ys)
   renamed_append none ys = refl
   renamed_append (leaf id l rest) ys = ap (leaf (ρ.item.to id) (renamed_leaf ρ l)) (renamed_append rest ys)
   renamed_append (node id k h i g s rest) ys = ap (node (ρ.item.to id) (renamed_holder ρ k) (renamed_head ρ h) (renamed_entries ρ i) (renamed_second ρ k g) (renamed_entries ρ s)) (renamed_append rest ys)

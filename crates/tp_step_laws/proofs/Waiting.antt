@@ -10,7 +10,8 @@ use Rattle.tp_scene.specs.declared.answer.Cell.TheVariants.{Part, End}
 use Rattle.tp_scene.specs.Scene.{Side, Leaf, Holder, Entries, none, leaf, node, has, Place, root_place}
 use Rattle.tp_scene.specs.Step.{Reduction, PickOutcome, Numbers, leaf_step, holder_step}
 use Rattle.tp_scene.specs.Pick.{Setting, Moment, Reduces, numbers_of, outcome_of}
-use Rattle.tp_scene.specs.Cells.{IsDecided, AreUndecided}
+use Rattle.tp_scene.specs.Cells.{IsDecided}
+use Rattle.tp_scene.specs.CellLaws.{AreUndecided}
 use Rattle.tp_scene.specs.Laws.{IsSound}
 use Rattle.tp_scene.proofs.Frame.{region}
 use Rattle.tp_scene.proofs.KnownEnds.{KnownAt}
