@@ -22,7 +22,8 @@ use Rattle.tp_decide.specs.declared.decision.Leaf.TheVariants as leaf
 use Rattle.tp_decide.specs.declared.decision.Decision.{Decision}
 use Rattle.tp_decide.specs.declared.decision.Decision.TheVariants as decision
 use Rattle.tp_decide.specs.declared.setting.Setting.{Setting}
-use Rattle.tp_decide.specs.Read.{formula_of, env_of, values_of}
+use Rattle.tp_decide.specs.Read.{values_of}
+use Rattle.tp_decide.specs.ReadPhrase.{formula_of, env_of}
 
 abbrev pub mark_of : Side → S.Side
 mark_of mark.Ending = S.Ending

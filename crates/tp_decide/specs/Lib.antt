@@ -1,4 +1,5 @@
 pub mod Read
+pub mod ReadPhrase
 pub mod Decided
 pub mod Found
 pub mod Fits

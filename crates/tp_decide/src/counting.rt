@@ -9,7 +9,7 @@ ghost use Rattle.tp_scene.specs.Step as row;
 ghost use Rattle.tp_decide.specs.Decided.{Decides, plain_place};
 ghost use Rattle.tp_decide.specs.Fits.{IsPlain};
 ghost use Rattle.tp_decide.specs.Found.{NumberIn};
-ghost use Rattle.tp_decide.specs.Read.{formula_of, env_of};
+ghost use Rattle.tp_decide.specs.ReadPhrase.{formula_of, env_of};
 
 use crate::decision::{Decision, Leaf, Place, becomes_one, becomes_two, due, nothing};
 use crate::env::{bind_number, under};

@@ -3,7 +3,7 @@ ghost use Rattle.std.specs.Prelude.{◌≡◌, ◌++◌, ◌∷◌, [], map, IfO
 ghost use Rattle.tp_value.specs.Tree.{num};
 ghost use Rattle.tp_meaning.specs.Syntax.{known_binding};
 ghost use Rattle.tp_kernel.specs.Read.{formula_tree, binding_of, bindings_of};
-ghost use Rattle.tp_decide.specs.Read.{formula_of, env_of};
+ghost use Rattle.tp_decide.specs.ReadPhrase.{formula_of, env_of};
 
 use crate::phrase::Phrase;
 use std::alloc::Global;

@@ -2,7 +2,7 @@
 ghost use Rattle.std.specs.Prelude.{◌≡◌, IfOk, ◌∷◌, []};
 ghost use Rattle.tp_kernel.specs.Read.{definitions_of, expr_tree, formula_tree, formula_trees, bindings_of};
 ghost use Rattle.tp_scene.specs.Step as row;
-ghost use Rattle.tp_decide.specs.Read.{formula_of, env_of};
+ghost use Rattle.tp_decide.specs.ReadPhrase.{formula_of, env_of};
 ghost use Rattle.tp_decide.specs.Decided.{decided_outcome, plain_place, setting_of, Decides};
 ghost use Rattle.tp_decide.specs.Fits.{SetsVariables, FitsStore, IsPlain};
 ghost use Rattle.tp_scene.specs.Scene as S;

@@ -6,7 +6,7 @@ ghost use Rattle.tp_scene.specs.Scene as S;
 ghost use Rattle.tp_scene.specs.Step as row;
 ghost use Rattle.tp_decide.specs.Decided.{Decides};
 ghost use Rattle.tp_decide.specs.Fits.{IsPlain};
-ghost use Rattle.tp_decide.specs.Read.{formula_of, env_of};
+ghost use Rattle.tp_decide.specs.ReadPhrase.{formula_of, env_of};
 
 use crate::decision::{Decision, Place};
 use crate::env::shared_under;

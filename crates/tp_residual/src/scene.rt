@@ -1,7 +1,7 @@
 // How the scene with which a state begins is spelled.
 ghost use Rattle.std.specs.Prelude.{◌≡◌, ◌<◌, ◌++◌, length, IfOk, OnOk};
 ghost use Rattle.tp_tree.specs.Levels.{not_level};
-ghost use Rattle.tp_decide.specs.Read.{env_of, formula_of};
+ghost use Rattle.tp_decide.specs.ReadPhrase.{env_of, formula_of};
 ghost use Rattle.tp_slots.specs.Own.{own_for, own_inside};
 ghost use Rattle.tp_slots.specs.Plain.{IsOrdered};
 ghost use Rattle.tp_slots.specs.Read.{slots_of};

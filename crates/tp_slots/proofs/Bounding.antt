@@ -5,7 +5,7 @@ use Rattle.std.proofs.lemmas.List.{get_or-map, length-map, map-append, set-get_o
 use Rattle.tp_scene.specs.Scene as S
 use Rattle.tp_scene.specs.Pick.{scene_after}
 use Rattle.tp_decide.specs.declared.phrase.Phrase.{Phrase}
-use Rattle.tp_decide.specs.Read.{env_of, formula_of}
+use Rattle.tp_decide.specs.ReadPhrase.{env_of, formula_of}
 use Rattle.tp_slots.specs.Bound.{IsDueUnder, IsTakenOut, slot_in, slot_with}
 use Rattle.tp_slots.specs.Kept.{IsUnchanged, IsWellKept, Lives}
 use Rattle.tp_slots.specs.News.{new_items}

@@ -1,7 +1,7 @@
 // The scene with which a run begins.
 ghost use Rattle.std.specs.Prelude.{◌≡◌, IfOk};
 ghost use Rattle.tp_scene.specs.Scene as S;
-ghost use Rattle.tp_decide.specs.Read.{env_of, formula_of};
+ghost use Rattle.tp_decide.specs.ReadPhrase.{env_of, formula_of};
 ghost use Rattle.tp_slots.specs.Reductions.{begins_with};
 ghost use Rattle.tp_slots.specs.Read.{scene_of};
 ghost use Rattle.tp_slots.specs.Kept.{IsWellKept};

@@ -2,7 +2,7 @@
 ghost use Rattle.std.specs.Prelude.{◌≡◌, ◌<◌, length, [], ◌∷◌, IfOk, OnOk, OnErr};
 ghost use Rattle.tp_meaning.specs.Syntax.{more};
 ghost use Rattle.tp_scene.specs.Scene.{has};
-ghost use Rattle.tp_decide.specs.Read.{env_of, formula_of};
+ghost use Rattle.tp_decide.specs.ReadPhrase.{env_of, formula_of};
 ghost use Rattle.tp_slots.specs.News.{moved_news, new_items};
 ghost use Rattle.tp_slots.specs.Reductions.{CanMove, HoldsOne, IsAfter, IsBare, IsReduced, becomes_holder, becomes_opened, becomes_split, moved_inner, moved_outs};
 ghost use Rattle.tp_slots.specs.Read.{scene_of, slots_of, what_of, whats_of, item_what};

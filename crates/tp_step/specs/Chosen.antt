@@ -14,7 +14,7 @@ use Rattle.tp_decide.specs.declared.holder.HolderDecision.{HolderDecision}
 use Rattle.tp_decide.specs.declared.holder.HolderKind.{HolderKind}
 use Rattle.tp_decide.specs.declared.phrase.Phrase.{Phrase}
 use Rattle.tp_decide.specs.Decided.{decided_outcome}
-use Rattle.tp_decide.specs.Read.{formula_of, env_of}
+use Rattle.tp_decide.specs.ReadPhrase.{formula_of, env_of}
 use Rattle.tp_decide.specs.Fits.{SetsVariables}
 use Rattle.tp_decide.specs.Holders.{IsOfKind, kind_of, holder_decided}
 use Rattle.tp_slots.specs.Bound.{IsDueUnder}

@@ -6,7 +6,7 @@ ghost use Rattle.tp_scene.specs.Pick.{Moment};
 ghost use Rattle.tp_scene.specs.Scene.{Entries};
 ghost use Rattle.tp_decide.specs.Decided.{adding_items, decided_outcome};
 ghost use Rattle.tp_decide.specs.Fits.{SetsVariables};
-ghost use Rattle.tp_decide.specs.Read.{env_of};
+ghost use Rattle.tp_decide.specs.ReadPhrase.{env_of};
 ghost use Rattle.tp_slots.specs.Bound.{IsDueUnder};
 ghost use Rattle.tp_slots.specs.Edit.{stands_in};
 ghost use Rattle.tp_slots.specs.Reductions.{CanMove, IsBare, IsReduced};

@@ -1,5 +1,5 @@
 use Rattle.tp_scene.specs.Step.{instances}
-use Rattle.tp_decide.specs.Read.{formula_of, env_of}
+use Rattle.tp_decide.specs.ReadPhrase.{formula_of, env_of}
 use Rattle.tp_decide.proofs.FoundLemmas.{number_without}
 use Rattle.tp_decide.proofs.counting.decide_instances.Goals as goal
 

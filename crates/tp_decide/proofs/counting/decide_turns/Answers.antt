@@ -1,6 +1,6 @@
 use Rattle.tp_scene.specs.Step.{turns}
 use Rattle.tp_decide.specs.Decided.{plain_place}
-use Rattle.tp_decide.specs.Read.{formula_of, env_of}
+use Rattle.tp_decide.specs.ReadPhrase.{formula_of, env_of}
 use Rattle.tp_decide.proofs.FoundLemmas.{number_without}
 use Rattle.tp_decide.proofs.counting.decide_turns.Goals as goal
 

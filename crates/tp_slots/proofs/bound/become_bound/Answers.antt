@@ -5,7 +5,7 @@ use Rattle.std.proofs.lemmas.List.{length-map}
 use Rattle.tp_scene.specs.Scene as S
 use Rattle.tp_scene.specs.Pick.{scene_after}
 use Rattle.tp_decide.specs.declared.phrase.Phrase.{Phrase}
-use Rattle.tp_decide.specs.Read.{env_of, formula_of}
+use Rattle.tp_decide.specs.ReadPhrase.{env_of, formula_of}
 use Rattle.tp_slots.specs.Bound.{IsDueUnder, bound_last, slot_in, slot_with}
 use Rattle.tp_slots.specs.Plain.{bare}
 use Rattle.tp_slots.specs.Read.{item_what, scene_of, slot_of}

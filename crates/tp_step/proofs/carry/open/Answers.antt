@@ -1,6 +1,6 @@
 use Rattle.std.proofs.Common.{◌<◌, refl, arith, sym, subst}
 use Rattle.tp_decide.specs.Decided.{decided_outcome}
-use Rattle.tp_decide.specs.Read.{formula_of, env_of}
+use Rattle.tp_decide.specs.ReadPhrase.{formula_of, env_of}
 use Rattle.tp_slots.specs.Kept.{numbers_in}
 use Rattle.tp_slots.specs.Read.{scene_of}
 use Rattle.tp_slots.specs.Reductions.{becomes_opened}

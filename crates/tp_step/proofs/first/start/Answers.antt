@@ -1,7 +1,7 @@
 use Rattle.std.proofs.Common.{◌≡◌, ◌∙◌, [], map, ap}
 use Rattle.tp_kernel.specs.Read.{formula_tree, binding_of, bindings_of}
 use Rattle.tp_decide.specs.declared.phrase.Phrase.{Phrase}
-use Rattle.tp_decide.specs.Read.{formula_of, env_of}
+use Rattle.tp_decide.specs.ReadPhrase.{formula_of, env_of}
 use Rattle.tp_slots.specs.Reductions.{begins_with}
 use Rattle.tp_step.proofs.MeaningLemmas.{begins, begins_sound}
 use Rattle.tp_step.proofs.first.start.Goals as goal

@@ -2,7 +2,7 @@
 use Rattle.std.proofs.Common.{◌<◌, length, ap, sym, ◌∙◌, subst, rules}
 use Rattle.tp_scene.specs.Pick.{numbers_of}
 use Rattle.tp_decide.specs.Decided.{setting_of, plain_place}
-use Rattle.tp_decide.specs.Read.{formula_of, env_of}
+use Rattle.tp_decide.specs.ReadPhrase.{formula_of, env_of}
 use Rattle.tp_slots.specs.Picked.{what_step}
 use Rattle.tp_slots.specs.Plain.{What}
 use Rattle.tp_slots.specs.Read.{scene_of, slots_of, what_of}
