@@ -1,19 +1,24 @@
 -- Sides of equations that are places, and sides that are known already.
-use Rattle.std.proofs.Common.{◌≡◌, ◌⊎◌, inl, inr, ℕ, zero, suc, ◌<◌, Bool, true, false, List, [], Option, Some, None, refl, ap, sym, ◌∙◌, arith}
+use Rattle.std.proofs.Common.{◌≡◌, ◌⊎◌, inl, inr, ℕ, zero, suc, ◌<◌, Bool, true, false, List, [], Option, Some, None, refl, ap, sym, subst, ◌∙◌, arith}
 use Rattle.std.specs.Option.{option_map}
 use Rattle.tp_value.specs.Tree.{Tree, SameTreeIsEquality}
 use Rattle.tp_value.specs.declared.path.Path.{Path}
+use Rattle.tp_value.specs.declared.path.VarId.{VarId}
 use Rattle.tp_value.specs.declared.path.Fact.{Fact}
 use Rattle.tp_meaning.specs.Syntax.{ExprTree, bound, global, size, index, Definition, BindingTree}
+use Rattle.tp_meaning.specs.Fits.{IsVariable}
 use Rattle.tp_store.specs.Facts.{facts_at}
 use Rattle.tp_store.specs.Known as store
-use Rattle.tp_store.specs.Known.{Variable, NoClash, full, addition}
+use Rattle.tp_store.specs.Known.{Variable, IsVariableOf, NoClash, full, addition}
 use Rattle.tp_eval.specs.Reached.{Reached, reaches, stops, waits, faults, passes, with_reached}
 use Rattle.tp_eval.specs.Evaluate.{PlaceFound, at_path, inside, is_place, of_full, value_at, indexed_value, evaluate, find_place, depth_limit}
 use Rattle.tp_eval.specs.Outcome as found
 use Rattle.tp_eval.specs.Outcome.{outcome, outcome_reached, place_outcome, place_reached}
 use Rattle.tp_eval.proofs.Answered.{eval_is, place_is}
 use Rattle.tp_scene.specs.Step as row
+use Rattle.tp_scene.specs.Fits.{kinds_in}
+use Rattle.tp_scene.proofs.PathFits.{PathFits, path_fits}
+use Rattle.tp_decide.specs.Fits.{ExprFitsStore}
 use Rattle.tp_decide.specs.Found.{PathIn, IsNoSize}
 use Rattle.tp_decide.specs.Equated.{outcome_at, outcome_of_place, AreValuePaths, SetsNoValue, sets_length, AreEqual}
 use Rattle.tp_decide.proofs.EquationLemmas.{plain_target, side, side_same, equal_vanishes, right_value}
@@ -29,6 +34,14 @@ placed (bound i) h = h
 placed (global x) h = h
 placed (index e i) h = h
 placed _ h = absurd (cc)
+
+-- a place's path is of a variable of the store that the expression fits
+pub path_of_variable : (facts : List Fact) (defs : List Definition) (variables : List Variable) (e : ExprTree) (env : List BindingTree) → ExprFitsStore defs variables e env
+    → (p : Path) → found.path p ≡ place_outcome facts defs e env → IsVariableOf variables p.var
+path_of_variable facts defs variables e env h p is =
+    let all = kinds_in variables in
+    let among : (x : VarId) → IsVariable h.kinds x → IsVariable all x = λ x f. h.globals x.number x.lasting f in
+    (subst (PathFits facts defs h.kinds all among) (sym is) (path_fits facts defs h.kinds all among e env h.expr h.bindings)).0
 
 -- Where the side can set the value at a path, it has what is found there.
 abbrev IsFoundThere : List Fact → row.SideOf → Type 0

@@ -8,7 +8,6 @@ use Rattle.tp_decide.proofs.counting.later_instances.Goals as goal
 
 pub returns : goal.returns
 returns c =
-    let bound = ap expr_tree c.in_ok-to.ensures.ok ∙ expr_number _ ∙ ap numeral (to_z-of_z number_width c.args.to c.ranges.to) in
     ap formula_tree c.in_ok-rest.ensures.ok ∙ formula_forall _ _ c.in_ok-to.to c.in_ok-body.body
     ∙ ap₂ (λ name k. forall_from name k (expr_tree c.in_ok-to.to.value) (formula_tree c.in_ok-body.body.value)) c.in_ok-name.ensures (omega (arith, ints, c.requires, c.ranges.k, c.ranges.to))
-    ∙ ap₂ (forall_from c.args.name.now (c.args.k +ℤ pos 1)) bound (ap formula_tree c.in_ok-body.ensures.cases)
+    ∙ ap₂ (forall_from c.args.name.now (c.args.k +ℤ pos 1)) (ap expr_tree c.in_ok-to.ensures.ok ∙ expr_number _ ∙ ap numeral (to_z-of_z number_width c.args.to c.ranges.to)) (ap formula_tree c.in_ok-body.ensures.cases)
