@@ -27,6 +27,7 @@ pub mod Fuse
 pub mod Stay
 pub mod Bridge
 pub mod Where
+pub mod PickedItem
 pub mod Orderly
 pub mod Again
 pub mod Swap

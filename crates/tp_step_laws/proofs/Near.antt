@@ -19,10 +19,11 @@ use Rattle.tp_scene.proofs.StepsFit.{steps_fit}
 use Rattle.tp_scene.proofs.Grown.{not_both}
 use Rattle.tp_scene.proofs.KnownEnds.{KnownAt, end_known}
 use Rattle.tp_scene.proofs.KnownStays.{root_put}
-use Rattle.tp_step_laws.specs.Edits.{Edit, marks, head_after, edited, single, Thing, of_leaf, of_holder, At, edit_of}
+use Rattle.tp_step_laws.specs.Edits.{Edit, marks, head_after, single, Thing, of_leaf, of_holder, edit_of}
 use Rattle.tp_step_laws.specs.Near.{StandsAround, IsNewlyKnown, LeadsOutward, arrived, outward, MarkedStepsEndNear}
-use Rattle.tp_step_laws.proofs.Bridge.{put_is_edit, IsMade, holder_made}
-use Rattle.tp_step_laws.proofs.Where.{at_of, Picked, picked}
+use Rattle.tp_step_laws.proofs.Bridge.{IsMade, holder_made}
+use Rattle.tp_step_laws.proofs.Where.{Picked}
+use Rattle.tp_step_laws.proofs.PickedItem.{PickedItem, picked_item}
 use Rattle.tp_step_laws.proofs.Marked.{AllCalm, calm_fit, calm_here}
 use Rattle.tp_step_laws.proofs.MarkAlone.{MarkAlone, leaf_alone}
 use Rattle.tp_step_laws.proofs.OneAround.{RegionsStandOnce, regions_stand_once, status_of_number}
@@ -67,44 +68,27 @@ makes_leaves w facts n s (of_leaf l) q has o =
 makes_leaves w facts n s (of_holder k held) q has o = absurd (marks_leaf w facts n s (of_holder k held) q has o)
 
 module _ (w : Setting) (kinds : List Bool) (m : Moment) (t : ℕ) (s : Reduction) (next : Moment) (sound : IsSound w kinds m) (step : Reduces w m t s next) (has : is_some s.mark ≡ true) where
-  abbrev es : Entries
-  es = m.scene.root.entries
-
-  abbrev p : Place
-  p = root_place m.scene.root
-
-  abbrev n : Numbers
-  n = numbers_of m.scene m.store.variables
-
-  abbrev here : (x : Thing) × (q : Place) × At t x q es p
-  here = at_of m.scene.next_item t es p sound.moment.items step.lives
+  abbrev here : PickedItem w m t s next
+  here = picked_item w kinds m t s next sound step
 
   abbrev e : Edit
-  e = edit_of here.0 n s
+  e = edit_of here.thing (numbers_of m.scene m.store.variables) s
 
-  root_after : next.scene.root ≡ record { head = head_after (single t e) es m.scene.root.head; entries = edited (single t e) es }
-  root_after =
-      let put = put_is_edit w m.store.facts t n s es p here.0 here.1 here.2 step.outcome in
-      ap (λ (x : Scene). x.root) step.scene ∙ (λ j. record { head = put.1 m.scene.root.head j; entries = put.0 j })
+  fresh : FreshLeaves (numbers_of m.scene m.store.variables) 0 (e.make (new_head 0) none (new_head 0) none) s.items
+  fresh = makes_leaves w m.store.facts (numbers_of m.scene m.store.variables) s here.thing here.place has here.gives
 
-  picks : Picked w m.store.facts n here.0 here.1 (reduces s)
-  picks = subst (λ (o : PickOutcome). Picked w m.store.facts n here.0 here.1 o) step.outcome (picked w m.store.facts n t es here.0 here.1 p here.2)
-
-  fresh : FreshLeaves n 0 (e.make (new_head 0) none (new_head 0) none) s.items
-  fresh = makes_leaves w m.store.facts n s here.0 here.1 has picks
-
-  plain : NoHolder t es
-  plain = no_holder t es here.0 here.1 p (marks_leaf w m.store.facts n s here.0 here.1 has picks) here.2
+  plain : NoHolder t m.scene.root.entries
+  plain = no_holder t m.scene.root.entries here.thing here.place (root_place m.scene.root) (marks_leaf w m.store.facts (numbers_of m.scene m.store.variables) s here.thing here.place has here.gives) here.at
 
   sound_next : IsSound w kinds next
   sound_next = steps_fit w kinds m t s next sound step
 
   -- the live region that one of the next scene was
   abbrev WasThere : Head → Entries → Type 0
-  WasThere h xs = RegionBefore t e n s.items fresh m.scene next.scene plain root_after h xs
+  WasThere h xs = RegionBefore t e (numbers_of m.scene m.store.variables) s.items fresh m.scene next.scene plain here.root_after h xs
 
   abbrev before : (h : Head) (xs : Entries) → LiveRegion next.scene h xs → WasThere h xs
-  before = was_live t e n s.items fresh m.scene next.scene plain root_after
+  before = was_live t e (numbers_of m.scene m.store.variables) s.items fresh m.scene next.scene plain here.root_after
 
   once : RegionsStandOnce m.scene
   once = regions_stand_once w kinds m sound
@@ -134,7 +118,7 @@ module _ (w : Setting) (kinds : List Bool) (m : Moment) (t : ℕ) (s : Reduction
       let r = h.number in
       let u = other_side z in
       let stays : KnownAt r u next.scene.root.entries (root_place next.scene.root) = subst (λ (a : Scene). KnownAt r u a.root.entries (root_place a.root)) (sym step.scene)
-      (root_put r u w m.store.facts n t s m.scene step.outcome (end_known m.scene r (known_was h xs y (u, was)))) in
+      (root_put r u w m.store.facts (numbers_of m.scene m.store.variables) t s m.scene step.outcome (end_known m.scene r (known_was h xs y (u, was)))) in
       not_both z (computed_place y) (calm_next h xs y) ((status_is_least next.scene h xs y z).1 d) (status_of_number next.scene once_next r u stays h xs y refl)
 
   same_side : (h : Head) (xs : Entries) (y : LiveRegion next.scene h xs) (z : Side) → HasStatus next.scene z h xs y → KnownBefore h xs y → HasStatus m.scene z (before h xs y).head (before h xs y).entries (before h xs y).region
@@ -196,8 +180,8 @@ module _ (w : Setting) (kinds : List Bool) (m : Moment) (t : ℕ) (s : Reduction
           | inr u ↦ elim (decide h xs y) [
             | inl k ↦ inl k
             | inr unknown ↦ (let known = new h xs y z d unknown in
-                let there : b.head.number ≡ here.1.region = home_number t m.scene here.0 here.1 here.2 b.head b.entries b.region (marks_stand t e z b.entries u) in
-                let same : h.number ≡ home.head.number = sym (number_was h xs y) ∙ there ∙ sym (home_number t m.scene here.0 here.1 here.2 home.head home.entries home.region (live_here t m.scene home)) in
+                let there : b.head.number ≡ here.place.region = home_number t m.scene here.thing here.place here.at b.head b.entries b.region (marks_stand t e z b.entries u) in
+                let same : h.number ≡ home.head.number = sym (number_was h xs y) ∙ there ∙ sym (home_number t m.scene here.thing here.place here.at home.head home.entries home.region (live_here t m.scene home)) in
                 inr (h.number, subst (λ (k : ℕ). LeadsOutward m.scene next.scene k h.number) same (arrived known), (known, inl refl)))
           ]
         ]
@@ -215,7 +199,7 @@ module _ (w : Setting) (kinds : List Bool) (m : Moment) (t : ℕ) (s : Reduction
         → (h i : Head) (xs held : Entries) (y : LiveRegion next.scene h xs) (in_it : HoldsRegion xs role i held) → HasStatus next.scene z h xs y → KnownOrNear h xs y → KnownOrNear i held (the_held y in_it)
     sink role z rule h i xs held y in_it d (inl k) =
         let b = before h xs y in
-        let f = was_held t e n s.items fresh m.scene next.scene plain root_after h xs b role i held in_it in
+        let f = was_held t e (numbers_of m.scene m.store.variables) s.items fresh m.scene next.scene plain here.root_after h xs b role i held in_it in
         inl (z, rule m.scene b.head f.head b.entries f.entries b.region f.holds (same_side h xs y z d k))
     sink role z rule h i xs held y in_it d (inr (top, leads, from)) = elim (decide i held (the_held y in_it)) [
       | inl k ↦ inl k
@@ -227,7 +211,7 @@ module _ (w : Setting) (kinds : List Bool) (m : Moment) (t : ℕ) (s : Reduction
         → (h i : Head) (xs held : Entries) (y : LiveRegion next.scene h xs) (in_it : HoldsRegion xs role i held) → HasStatus next.scene z i held (the_held y in_it) → KnownOrNear i held (the_held y in_it) → KnownOrNear h xs y
     rise role z rule h i xs held y in_it d (inl k) =
         let b = before h xs y in
-        let f = was_held t e n s.items fresh m.scene next.scene plain root_after h xs b role i held in_it in
+        let f = was_held t e (numbers_of m.scene m.store.variables) s.items fresh m.scene next.scene plain here.root_after h xs b role i held in_it in
         inl (z, rule m.scene b.head f.head b.entries f.entries b.region f.holds (same_side i held (the_held y in_it) z d k))
     rise role z rule h i xs held y in_it d (inr (top, leads, (known, inl same))) = elim (decide h xs y) [
       | inl k ↦ inl k
@@ -249,7 +233,7 @@ module _ (w : Setting) (kinds : List Bool) (m : Moment) (t : ℕ) (s : Reduction
     claim _ _ _ _ (outer_takes {z = z} {h = h} {i = i} {es = xs} {held = held} y in_it d) = sink outer_region z (λ c h i xs held x f. outer_takes x f) h i xs held y in_it d (claim z h xs y d)
     claim _ _ _ _ (closed_ends {h = h} {i = i} {es = xs} {held = held} y in_it) =
         let b = before h xs y in
-        let f = was_held t e n s.items fresh m.scene next.scene plain root_after h xs b closed_region i held in_it in
+        let f = was_held t e (numbers_of m.scene m.store.variables) s.items fresh m.scene next.scene plain here.root_after h xs b closed_region i held in_it in
         inl (Ending, closed_ends b.region f.holds)
     claim _ _ _ _ (left_goes {h = h} {i = i} {es = xs} {held = held} y in_it d) = rise left_region Going (λ c h i xs held x f. left_goes x f) h i xs held y in_it d (claim Going i held (the_held y in_it) d)
     claim _ _ _ _ (inner_goes {h = h} {i = i} {es = xs} {held = held} y in_it d) = rise inner_region Going (λ c h i xs held x f. inner_goes x f) h i xs held y in_it d (claim Going i held (the_held y in_it) d)

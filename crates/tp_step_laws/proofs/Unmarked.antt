@@ -3,7 +3,7 @@ use Rattle.std.proofs.Common.{◌≡◌, ◌⊎◌, inl, inr, ℕ, suc, ◌+◌,
 use Rattle.std.proofs.lemmas.Bool.{cond_both, or_cases, or_left, or_right, and_parts, and_from, both_ways, false≢true}
 use Rattle.tp_value.specs.declared.path.Fact.{Fact}
 use Rattle.tp_store.specs.Known.{Variable}
-use Rattle.tp_scene.specs.Scene.{Side, Ending, Going, Head, marked, Leaf, Holder, Split, SplitProject, Closed, Opened, Running, Entries, none, leaf, node, new_head, no_region, Scene, second_lives, append, rises, risen, Region, Place, root_place, held_place, second_place}
+use Rattle.tp_scene.specs.Scene.{Side, Ending, Going, Head, marked, Leaf, Holder, Split, SplitProject, Closed, Opened, Running, Entries, none, leaf, node, new_head, no_region, second_lives, append, rises, risen, Region, Place, root_place, held_place, second_place}
 use Rattle.tp_scene.specs.Regions.{past_leaf, past_node}
 use Rattle.tp_scene.specs.Step.{Reduction, PickOutcome, reduces, waits, rests, clashes, misses, passes, Numbers, leaf_step, holder_step}
 use Rattle.tp_scene.specs.Pick.{Setting, Moment, Reduces, numbers_of}
@@ -22,8 +22,8 @@ use Rattle.tp_step_laws.specs.Rows.{holder_make}
 use Rattle.tp_step_laws.specs.Edits.{Edit, is_side, sets, marks, head_after, edited, single, Thing, of_leaf, of_holder, At, this_leaf, past_leaf, this_node, in_first, in_second, past_node, edit_of}
 use Rattle.tp_step_laws.specs.Unmarked.{UnmarkedStepsEndNothing}
 use Rattle.tp_step_laws.proofs.Stay.{absent_head, absent}
-use Rattle.tp_step_laws.proofs.Bridge.{put_is_edit}
-use Rattle.tp_step_laws.proofs.Where.{at_of, Picked, picked}
+use Rattle.tp_step_laws.proofs.Where.{Picked}
+use Rattle.tp_step_laws.proofs.PickedItem.{PickedItem, picked_item}
 
 -- Said of one number of a region.
 module _ (r : ℕ) where
@@ -313,71 +313,54 @@ module _ (w : Setting) (kinds : List Bool) (variables : List Variable) (n : Numb
           (λ a m y. known_more r z i a (held_place k h i p) m y) (λ a l m y. known_more r z s' a (second_place g s' p) m y) (known_back rest x q p p' at o fit.2 awake.3 more))
 
 module _ (w : Setting) (kinds : List Bool) (m : Moment) (t : ℕ) (s : Reduction) (next : Moment) (sound : IsSound w kinds m) (step : Reduces w m t s next) (unmarked : s.mark ≡ None) where
-  abbrev es : Entries
-  es = m.scene.root.entries
-
   abbrev root : Head
   root = m.scene.root.head
 
-  abbrev p : Place
-  p = root_place m.scene.root
-
-  abbrev n : Numbers
-  n = numbers_of m.scene m.store.variables
-
-  abbrev here : (x : Thing) × (q : Place) × At t x q es p
-  here = at_of m.scene.next_item t es p sound.moment.items step.lives
+  abbrev here : PickedItem w m t s next
+  here = picked_item w kinds m t s next sound step
 
   abbrev e : Edit
-  e = edit_of here.0 n s
-
-  root_after : next.scene.root ≡ record { head = head_after (single t e) es root; entries = edited (single t e) es }
-  root_after =
-      let put = put_is_edit w m.store.facts t n s es p here.0 here.1 here.2 step.outcome in
-      ap (λ (x : Scene). x.root) step.scene ∙ (λ j. record { head = put.1 root j; entries = put.0 j })
-
-  picks : Picked w m.store.facts n here.0 here.1 (reduces s)
-  picks = subst (λ (o : PickOutcome). Picked w m.store.facts n here.0 here.1 o) step.outcome (picked w m.store.facts n t es here.0 here.1 p here.2)
+  e = edit_of here.thing (numbers_of m.scene m.store.variables) s
 
   e_unmarked : e.mark ≡ None
-  e_unmarked = edit_unmarked w kinds m.store.variables n m.store.facts s unmarked t here.0
+  e_unmarked = edit_unmarked w kinds m.store.variables (numbers_of m.scene m.store.variables) m.store.facts s unmarked t here.thing
 
   abbrev after : Region
-  after = record { head = head_after (single t e) es root; entries = edited (single t e) es }
+  after = record { head = head_after (single t e) m.scene.root.entries root; entries = edited (single t e) m.scene.root.entries }
 
-  root_less : More (root_place after) p
-  root_less y = or_goes (marked y (head_after (single t e) es root)) (risen y (edited (single t e) es)) (marked y root) (risen y es) (subst (λ (h : Head). marked y h ≡ true → marked y root ≡ true) (sym (same_head t e e_unmarked es root)) (λ b. b))
-      (unrisen w kinds m.store.variables n m.store.facts s unmarked t es here.0 here.1 p here.2 picks sound.moment.entries y)
+  root_less : More (root_place after) (root_place m.scene.root)
+  root_less y = or_goes (marked y (head_after (single t e) m.scene.root.entries root)) (risen y (edited (single t e) m.scene.root.entries)) (marked y root) (risen y m.scene.root.entries) (subst (λ (h : Head). marked y h ≡ true → marked y root ≡ true) (sym (same_head t e e_unmarked m.scene.root.entries root)) (λ b. b))
+      (unrisen w kinds m.store.variables (numbers_of m.scene m.store.variables) m.store.facts s unmarked t m.scene.root.entries here.thing here.place (root_place m.scene.root) here.at here.gives sound.moment.entries y)
 
-  once : (r : ℕ) → one_if r root.number + regions r es ≤ 1
-  once r = let f = count_first r root.number (region_numbers es) in
-      let most = (numbers_once m.scene.next_region (root.number ∷ region_numbers es) sound.moment.regions).once r in
+  once : (r : ℕ) → one_if r root.number + regions r m.scene.root.entries ≤ 1
+  once r = let f = count_first r root.number (region_numbers m.scene.root.entries) in
+      let most = (numbers_once m.scene.next_region (root.number ∷ region_numbers m.scene.root.entries) sound.moment.regions).once r in
       omega (arith, f, most)
 
-  module _ (r : ℕ) (live : (root.number ≡ r) ⊎ LiveIn r es p) where
-    awake : Awake r es
+  module _ (r : ℕ) (live : (root.number ≡ r) ⊎ LiveIn r m.scene.root.entries (root_place m.scene.root)) where
+    awake : Awake r m.scene.root.entries
     awake = elim live [
-      | inl y ↦ (let o = one_there r root.number (sym y) in let most = once r in awake_none r es (omega (arith, o, most)))
-      | inr y ↦ (let most = once r in awake_live r es p (omega (arith, most)) y)
+      | inl y ↦ (let o = one_there r root.number (sym y) in let most = once r in awake_none r m.scene.root.entries (omega (arith, o, most)))
+      | inr y ↦ (let most = once r in awake_live r m.scene.root.entries (root_place m.scene.root) (omega (arith, most)) y)
     ]
 
-    counted : 1 ≤ one_if r root.number + regions r es
+    counted : 1 ≤ one_if r root.number + regions r m.scene.root.entries
     counted = elim live [
       | inl y ↦ (let o = one_there r root.number (sym y) in omega (arith, o))
-      | inr y ↦ (let c = live_counted r es p y in omega (arith, c))
+      | inr y ↦ (let c = live_counted r m.scene.root.entries (root_place m.scene.root) y in omega (arith, c))
     ]
 
-    old : n.region ≡ r → ⊥
+    old : (numbers_of m.scene m.store.variables).region ≡ r → ⊥
     old same =
-        let f = count_first r root.number (region_numbers es) in
+        let f = count_first r root.number (region_numbers m.scene.root.entries) in
         let c = counted in
-        let below = (numbers_once m.scene.next_region (root.number ∷ region_numbers es) sound.moment.regions).under r (omega (arith, f, c)) in
+        let below = (numbers_once m.scene.next_region (root.number ∷ region_numbers m.scene.root.entries) sound.moment.regions).under r (omega (arith, f, c)) in
         absurd (omega (arith, below, same))
 
-    at_back : (z : Side) → KnownAt r z next.scene.root.entries (root_place next.scene.root) → KnownAt r z es p
-    at_back z x = elim (subst (λ (a : Region). KnownAt r z a.entries (root_place a)) root_after x) [
+    at_back : (z : Side) → KnownAt r z next.scene.root.entries (root_place next.scene.root) → KnownAt r z m.scene.root.entries (root_place m.scene.root)
+    at_back z x = elim (subst (λ (a : Region). KnownAt r z a.entries (root_place a)) here.root_after x) [
       | inl y ↦ inl (y.0, root_less z y.1)
-      | inr y ↦ inr (known_back w kinds m.store.variables n m.store.facts s unmarked t r z old es here.0 here.1 p (root_place after) here.2 picks sound.moment.entries awake root_less y)
+      | inr y ↦ inr (known_back w kinds m.store.variables (numbers_of m.scene m.store.variables) m.store.facts s unmarked t r z old m.scene.root.entries here.thing here.place (root_place m.scene.root) (root_place after) here.at here.gives sound.moment.entries awake root_less y)
     ]
 
 pub unmarked_steps_end_nothing : UnmarkedStepsEndNothing
