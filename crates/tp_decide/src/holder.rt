@@ -41,34 +41,20 @@ fn wait_for_end(inside: Place) -> HolderDecision
     })
 }
 
-// By the status of a left region.
-fn decide_left(inside: Place) -> HolderDecision
+// By whether the region goes or ends, where one of these is known.
+fn by_status(inside: Place, if_goes: HolderDecision, if_ends: HolderDecision) -> HolderDecision
     ensures outcome { (k : S.Holder) (held second : S.Region) (n : row.Numbers)
         → holder_decided k held second n result
-        ≡ row.by_status (plain_place inside) row.rests (closes k held second n) }
-    ensures split { IsOfKind HolderKind.Split result }
-    ensures split_project { IsOfKind HolderKind.SplitProject result }
+        ≡ row.by_status (plain_place inside) (holder_decided k held second n if_goes)
+        (holder_decided k held second n if_ends) }
+    ensures kind { (kind : HolderKind) → IsOfKind kind if_goes → IsOfKind kind if_ends
+        → IsOfKind kind (HolderDecision.Waits (Cell.End inside.region inside.depth))
+        → IsOfKind kind result }
 {
     if inside.goes {
-        HolderDecision::Rests
+        if_goes
     } else if inside.ends {
-        HolderDecision::Closes
-    } else {
-        wait_for_end(inside)
-    }
-}
-
-// By the status of an outer region.
-fn decide_outer(inside: Place) -> HolderDecision
-    ensures outcome { (k : S.Holder) (held second : S.Region) (n : row.Numbers)
-        → holder_decided k held second n result
-        ≡ row.by_status (plain_place inside) (begins_piece k held n) row.rests }
-    ensures opened { IsOfKind HolderKind.Opened result }
-{
-    if inside.goes {
-        HolderDecision::Begins
-    } else if inside.ends {
-        HolderDecision::Rests
+        if_ends
     } else {
         wait_for_end(inside)
     }
@@ -84,10 +70,11 @@ pub fn decide_holder(kind: HolderKind, inside: Place) -> HolderDecision
         ≡ row.holder_step w.defs w.inputs w.state facts k held second (plain_place inside) n }
 {
     match kind {
-        HolderKind::Split => decide_left(inside),
-        HolderKind::SplitProject => decide_left(inside),
+        HolderKind::Split | HolderKind::SplitProject => {
+            by_status(inside, HolderDecision::Rests, HolderDecision::Closes)
+        }
         HolderKind::Closed => HolderDecision::Rests,
-        HolderKind::Opened => decide_outer(inside),
+        HolderKind::Opened => by_status(inside, HolderDecision::Begins, HolderDecision::Rests),
         HolderKind::Running => HolderDecision::Rests,
     }
 }
