@@ -1,19 +1,13 @@
 -- Facts that are kept in turn, each at its node.
 use Rattle.std.proofs.Common.{◌≡◌, inl, inr, ℕ, ◌+◌, true, false, List, [], ◌∷◌, ◌++◌, take, drop, None, refl, ap, sym, ◌∙◌, subst, append-nil, append_assoc}
-use Rattle.tp_value.specs.declared.path.VarId.{VarId}
 use Rattle.tp_value.specs.declared.path.Fact.{Fact}
 use Rattle.tp_store.specs.Facts.{same_path, clash, kept_shape}
 use Rattle.tp_store.specs.Known.{NoClash, clashes_with_some}
-use Rattle.tp_store.specs.FactMap.{is_nil}
 use Rattle.tp_store.specs.Changes.{HaveSameShapes}
-use Rattle.tp_store.specs.FactMap.{AreOfOne}
-use Rattle.tp_store.specs.declared.nodes.Node.{Node}
-use Rattle.tp_store.specs.Nodes.{facts_along}
 use Rattle.tp_store.proofs.Paths.{same_path-sym, clash-sym}
 use Rattle.tp_store.proofs.Members.{In, in_left, in_right, in_append, kept_none, none_kept, meets_none, none_meets}
 use Rattle.tp_store.proofs.Same.{same_kept}
-use Rattle.tp_store.proofs.Filing.{of_in}
-use Rattle.tp_store.proofs.Trees.{AddsFact, NoClash-insert, of_tree, none_of_any}
+use Rattle.tp_store.proofs.Trees.{AddsFact, NoClash-insert}
 
 -- The facts are those of the old ones and of the news, in some order, and don't clash.
 pub record AreKept (old news new : List Fact) : Type 0 where
@@ -98,25 +92,3 @@ module _ (old news : List Fact) (i : ℕ) (f : Fact) (new : List Fact) (apart : 
 -- so they give each path the same shape
 pub kept_shapes : (old news new : List Fact) → NoClash (old ++ news) → AreKept old news new → HaveSameShapes new (old ++ news)
 kept_shapes old news new n k p = same_kept new (old ++ news) p n (record { there = λ f e i. k.there f i; back = λ f e i. k.back f i })
-
--- the variable of the news is that of the facts, or there are none
-pub var_of_news : (x : VarId) (rs : List (List ℕ)) (ns : List Node) (f : Fact) (fs : List Fact) → AreOfOne (facts_along x rs ns ++ f ∷ fs)
-    → facts_along f.path.var rs ns ≡ facts_along x rs ns
-var_of_news x rs ns f fs one = by (facts_along x rs ns) refl one
-  where
-    by : (gs : List Fact) → facts_along x rs ns ≡ gs → AreOfOne (gs ++ f ∷ fs) → facts_along f.path.var rs ns ≡ facts_along x rs ns
-    by [] e one = none_of_any x f.path.var rs ns e ∙ sym e
-    by (g ∷ gs) e one =
-        let I : List Fact → Type 0 = λ hs. In g hs in
-        let mine : g.path.var ≡ x = of_tree x rs ns g (subst I (sym e) (inl refl)) in
-        let all = of_in one.0 (g ∷ gs ++ f ∷ fs) one.1 in
-        let same : f.path.var ≡ x = all f (in_right f (g ∷ gs) (f ∷ fs) (inl refl)) ∙ sym (all g (inl refl)) ∙ mine in
-        ap (λ y. facts_along y rs ns) same
-
-pub is_nil-of : (fs : List Fact) → is_nil fs ≡ true → fs ≡ []
-is_nil-of [] h = refl
-is_nil-of (f ∷ fs) h = absurd (cc h)
-
-pub not_nil : (fs : List Fact) (f : Fact) → In f fs → false ≡ is_nil fs
-not_nil [] f i = absurd i
-not_nil (g ∷ fs) f i = refl

@@ -11,11 +11,9 @@ use Rattle.tp_value.specs.declared.path.Fact.{Fact}
 use Rattle.tp_store.specs.Facts.{same_path, kept_shape, item_path, fact}
 use Rattle.tp_store.specs.Known.{known, open_at, and_items, item_open_at, items_known, list_of_items, with_shape, whole}
 use Rattle.tp_store.specs.Changes.{HaveSameShapes}
-use Rattle.tp_store.specs.FactMap.{AreOfOne, IsNumberOrTruth}
+use Rattle.tp_store.specs.FactMap.{IsNumberOrTruth}
 use Rattle.tp_store.specs.declared.nodes.Nodes.{Nodes}
 use Rattle.tp_store.specs.Nodes.{same_edge, edges_in, nodes_in, facts_in_tree, path_along, ArePlainBelow, ArePlainItems, IsTree}
-use Rattle.tp_store.proofs.Members.{in_left, in_right, kept_in}
-use Rattle.tp_store.proofs.Filing.{of_in}
 use Rattle.tp_store.proofs.Trees.{kept_is}
 use Rattle.tp_store.proofs.Growth.{length_nodes}
 
@@ -57,25 +55,18 @@ kept_first (x ∷ xs) ys p sh h =
     (elim (same_path x.path p) as P [ true ↦ λ e. e | false ↦ λ e. kept_first xs ys p sh e ]) h
 
 -- they stay so where facts come
-pub plain_stays : (x : VarId) (old new : Nodes) (fs : List Fact) (f : Fact) (c : ℕ) → Some f ≡ slice_get fs 0 → AreOfOne (facts_in_tree x old ++ fs)
-    → HaveSameShapes (facts_in_tree f.path.var new) (facts_in_tree x old ++ fs) → ArePlainBelow c x (facts_in_tree x old)
-    → ArePlainBelow c f.path.var (facts_in_tree f.path.var new)
-plain_stays x old new [] f c e one same plain = absurd (cc e)
-plain_stays x old new (g ∷ rest) f c e one same plain = λ k less.
-    let is_first : g ≡ f = cc e in
-    let facts = facts_in_tree x old in
+pub plain_stays : (x : VarId) (old news new : List Fact) (c : ℕ) → HaveSameShapes new (old ++ news) → ArePlainBelow c x old → ArePlainBelow c x new
+plain_stays x old news new c same plain = λ k less.
     let here = plain k less in
-    let s = plain_some (kept_shape facts (path_along x (k ∷ []))) here in
-    let all = of_in one.0 (facts ++ g ∷ rest) one.1 in
-    let one_var : x ≡ f.path.var = all (fact (path_along x (k ∷ [])) s.0) (in_left (fact (path_along x (k ∷ [])) s.0) facts (g ∷ rest) (kept_in facts (path_along x (k ∷ [])) s.0 s.1))
-    ∙ sym (all g (in_right g facts (g ∷ rest) (inl refl))) ∙ ap (λ (h : Fact). h.path.var) is_first in
-    let there : kept_shape (facts_in_tree f.path.var new) (path_along f.path.var (k ∷ [])) ≡ Some s.0 = same (path_along f.path.var (k ∷ []))
-    ∙ ap (λ y. kept_shape (facts ++ g ∷ rest) (path_along y (k ∷ []))) (sym one_var) ∙ kept_first facts (g ∷ rest) (path_along x (k ∷ [])) s.0 s.1 in
+    let s = plain_some (kept_shape old (path_along x (k ∷ []))) here in
+    let there : kept_shape new (path_along x (k ∷ [])) ≡ Some s.0 = same (path_along x (k ∷ [])) ∙ kept_first old news (path_along x (k ∷ [])) s.0 s.1 in
     subst (λ o. IsNumberOrTruth o) (s.1 ∙ sym there) here
 
 -- as the nodes tell it, and as the facts do
-pub plain_items : (t : Nodes) (x : VarId) (c : ℕ) → IsTree t → IsDistinct same_edge (edges_in t) → ArePlainBelow c x (facts_in_tree x t) → ArePlainItems c t
-plain_items t x c tree unique plain = λ k less. subst (λ o. IsNumberOrTruth o) (kept_is x (edges_in t) (nodes_in t) tree.rooted unique (length_nodes t) (path_along x (k ∷ [])) refl) (plain k less)
+pub plain_items : (t : Nodes) (x : VarId) (c : ℕ) → IsTree t → IsDistinct same_edge (edges_in t) → ArePlainBelow c x (facts_in_tree x.lasting t) → ArePlainItems c x.number t
+plain_items t x c tree unique plain = λ k less.
+    subst (λ o. IsNumberOrTruth o) (kept_is x.lasting (edges_in t) (nodes_in t) tree.rooted unique (length_nodes t) (path_along x (k ∷ [])) refl) (plain k less)
 
-pub plain_facts : (t : Nodes) (x : VarId) (c : ℕ) → IsTree t → IsDistinct same_edge (edges_in t) → ArePlainItems c t → ArePlainBelow c x (facts_in_tree x t)
-plain_facts t x c tree unique plain = λ k less. subst (λ o. IsNumberOrTruth o) (sym (kept_is x (edges_in t) (nodes_in t) tree.rooted unique (length_nodes t) (path_along x (k ∷ [])) refl)) (plain k less)
+pub plain_facts : (t : Nodes) (x : VarId) (c : ℕ) → IsTree t → IsDistinct same_edge (edges_in t) → ArePlainItems c x.number t → ArePlainBelow c x (facts_in_tree x.lasting t)
+plain_facts t x c tree unique plain = λ k less.
+    subst (λ o. IsNumberOrTruth o) (sym (kept_is x.lasting (edges_in t) (nodes_in t) tree.rooted unique (length_nodes t) (path_along x (k ∷ [])) refl)) (plain k less)

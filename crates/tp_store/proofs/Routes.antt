@@ -1,9 +1,9 @@
 -- Where the nodes stand.
-use Rattle.std.proofs.Common.{◌≡◌, ℕ, zero, suc, ◌+◌, ◌<◌, Bool, true, false, cond, List, [], ◌∷◌, ◌++◌, length, get_or, slice_get, Option, Some, None, refl, ap, ap₂, sym, ◌∙◌, subst, arith, append-nil, append_assoc, nat_lt}
+use Rattle.std.proofs.Common.{◌≡◌, inl, inr, ℕ, zero, suc, ◌+◌, ◌<◌, Bool, true, false, cond, List, [], ◌∷◌, ◌++◌, length, get_or, slice_get, Option, Some, None, refl, ap, ap₂, sym, ◌∙◌, subst, arith, append-nil, append_assoc, nat_lt}
 use Rattle.std.specs.List.{position, position_or_len, IsDistinct}
 use Rattle.std.specs.Option.{option_map}
 use Rattle.std.specs.Bool.{Decides}
-use Rattle.std.proofs.lemmas.Bool.{lt-ltb}
+use Rattle.std.proofs.lemmas.Bool.{lt-ltb, cases_eq}
 use Rattle.std.proofs.lemmas.Bool.Decides.{Decides-eqb, Decides-and, Decides-like}
 use Rattle.std.proofs.lemmas.List.Quantifiers.{position-Some}
 use Rattle.std.proofs.lemmas.List.Sums.{position_or_len_is}
@@ -84,6 +84,35 @@ route_at ks i s r h = ap (λ m. get_or (routes ks) m []) (one_more i) ∙ route_
 
 pub root_route : (ks : List Edge) → get_or (routes ks) 0 [] ≡ []
 root_route ks = routes_known ([] ∷ []) ks 0 (omega arith)
+
+-- the routes below the root have an index at least
+pub inner_routes : (ks : List Edge) (j : ℕ) → suc j < length (routes ks) → get_or (routes ks) (suc j) [] ≡ [] → ⊥
+inner_routes ks j l e = inner_from ([] ∷ []) ks (λ i m. absurd (omega (arith, m))) j l e
+  where
+    not_nil : (xs : List ℕ) (k : ℕ) → xs ++ k ∷ [] ≡ [] → ⊥
+    not_nil [] k h = cc h
+    not_nil (x ∷ xs) k h = cc h
+
+    inner_more : (known : List (List ℕ)) (p : List ℕ) → (p ≡ [] → ⊥) → ((i : ℕ) → suc i < length known → get_or known (suc i) [] ≡ [] → ⊥)
+        → 0 < length known → (i : ℕ) → suc i < length (known ++ p ∷ []) → get_or (known ++ p ∷ []) (suc i) [] ≡ [] → ⊥
+    inner_more known p n h some i m q =
+        let long = length_more known p in
+        elim (cases_eq (suc i) (length known)) [
+          | inl s ↦ n (sym (get_end known p [] (suc i) [] s) ∙ q)
+          | inr s ↦ h i (omega (arith, m, long, s)) (sym (get_left known (p ∷ []) (suc i) [] (omega (arith, m, long, s))) ∙ q)
+        ]
+
+    inner_some : (known : List (List ℕ)) (ss : List Edge) → ((i : ℕ) → suc i < length known → get_or known (suc i) [] ≡ [] → ⊥) → 0 < length known
+        → (i : ℕ) → suc i < length (routes_from known ss) → get_or (routes_from known ss) (suc i) [] ≡ [] → ⊥
+    inner_some known [] h some i m q = h i m q
+    inner_some known (s ∷ ss) h some i m q =
+        let p = route_after known s in
+        let long = length_more known p in
+        inner_some (known ++ p ∷ []) ss (inner_more known p (not_nil (get_or known s.node []) s.index) h some) (omega (arith, long, some)) i m q
+
+    inner_from : (known : List (List ℕ)) (ss : List Edge) → ((i : ℕ) → suc i < length {A = List ℕ} ([] ∷ []) → get_or {A = List ℕ} ([] ∷ []) (suc i) [] ≡ [] → ⊥)
+        → (i : ℕ) → suc i < length (routes_from ([] ∷ []) ss) → get_or (routes_from ([] ∷ []) ss) (suc i) [] ≡ [] → ⊥
+    inner_from known ss h i m q = inner_some ([] ∷ []) ss h (omega arith) i m q
 
 pub rooted_more : (n : ℕ) (ss : List Edge) (s : Edge) → IsRooted n ss → s.node < n + length ss → IsRooted n (ss ++ s ∷ [])
 rooted_more n [] s r h = (omega arith, tt)

@@ -15,16 +15,16 @@ use Rattle.tp_store.proofs.Paths.{same_variable-decides, same_path-decides, fact
 use Rattle.tp_store.proofs.Members.{In, kept_in, kept_none, none_kept, in_kept, excluded_by, excluded_from}
 use Rattle.tp_store.proofs.First.{FirstOf, first_is, not_earlier-same}
 
--- The two lists have the same facts of the variables with this number.
-pub record AgreeAt (n : ℕ) (fs gs : List Fact) : Type 0 where
-  pub there : (f : Fact) → f.path.var.number ≡ n → In f fs → In f gs
-  pub back : (f : Fact) → f.path.var.number ≡ n → In f gs → In f fs
+-- The two lists have the same facts of the variable.
+pub record AgreeAt (x : VarId) (fs gs : List Fact) : Type 0 where
+  pub there : (f : Fact) → f.path.var ≡ x → In f fs → In f gs
+  pub back : (f : Fact) → f.path.var ≡ x → In f gs → In f fs
 
-pub agree_back : {n : ℕ} {fs gs : List Fact} → AgreeAt n fs gs → AgreeAt n gs fs
+pub agree_back : {x : VarId} {fs gs : List Fact} → AgreeAt x fs gs → AgreeAt x gs fs
 agree_back a = record { there = a.back; back = a.there }
 
-number_of_path : (p q : Path) → same_path p q ≡ true → p.var.number ≡ q.var.number
-number_of_path p q h = ap (λ (r : Path). r.var.number) ((same_path-decides p q).0 h)
+variable_of_path : (p q : Path) → same_path p q ≡ true → p.var ≡ q.var
+variable_of_path p q h = ap (λ (r : Path). r.var) ((same_path-decides p q).0 h)
 
 pub excludes-variable : (f : Fact) (p : Path) → excludes f p ≡ true → f.path.var ≡ p.var
 excludes-variable f p h = (same_variable-decides f.path.var p.var).0 (and_parts (same_variable f.path.var p.var) (leaves_out f.path.at f.shape p.at) h).0
@@ -37,37 +37,37 @@ clash-variable f g h =
       | inr t ↦ elim (or_cases (excludes f g.path) (excludes g f.path) t) [ inl e ↦ excludes-variable f g.path e | inr e ↦ sym (excludes-variable g f.path e) ]
     ]
 
-kept_there : (fs gs : List Fact) (p : Path) → NoClash gs → AgreeAt p.var.number fs gs → (o : Option Shape) → kept_shape fs p ≡ o → kept_shape gs p ≡ o
+kept_there : (fs gs : List Fact) (p : Path) → NoClash gs → AgreeAt p.var fs gs → (o : Option Shape) → kept_shape fs p ≡ o → kept_shape gs p ≡ o
 kept_there fs gs p m a None h =
-    kept_none gs p (λ g i. false_from_ne_true (same_path g.path p) (λ t. both_ways (same_path g.path p) (none_kept fs p h g (a.back g (number_of_path g.path p t) i)) t))
+    kept_none gs p (λ g i. false_from_ne_true (same_path g.path p) (λ t. both_ways (same_path g.path p) (none_kept fs p h g (a.back g (variable_of_path g.path p t) i)) t))
 kept_there fs gs p m a (Some sh) h = in_kept gs (fact p sh) m (a.there (fact p sh) refl (kept_in fs p sh h))
 
-pub same_kept : (fs gs : List Fact) (p : Path) → NoClash gs → AgreeAt p.var.number fs gs → kept_shape fs p ≡ kept_shape gs p
+pub same_kept : (fs gs : List Fact) (p : Path) → NoClash gs → AgreeAt p.var fs gs → kept_shape fs p ≡ kept_shape gs p
 same_kept fs gs p m a = sym (kept_there fs gs p m a (kept_shape fs p) refl)
 
-excluded_there : (fs gs : List Fact) (p : Path) → AgreeAt p.var.number fs gs → is_excluded fs p ≡ true → is_excluded gs p ≡ true
+excluded_there : (fs gs : List Fact) (p : Path) → AgreeAt p.var fs gs → is_excluded fs p ≡ true → is_excluded gs p ≡ true
 excluded_there fs gs p a h =
     let r = excluded_by fs p h in
-    excluded_from gs p r.0 (a.there r.0 (ap (λ (x : VarId). x.number) (excludes-variable r.0 p r.2)) r.1) r.2
+    excluded_from gs p r.0 (a.there r.0 (excludes-variable r.0 p r.2) r.1) r.2
 
-pub same_excluded : (fs gs : List Fact) (p : Path) → AgreeAt p.var.number fs gs → is_excluded fs p ≡ is_excluded gs p
+pub same_excluded : (fs gs : List Fact) (p : Path) → AgreeAt p.var fs gs → is_excluded fs p ≡ is_excluded gs p
 same_excluded fs gs p a =
     let here : Decides (is_excluded fs p) (is_excluded gs p ≡ true) = (excluded_there fs gs p a, excluded_there gs fs p (agree_back a)) in
     let there : Decides (is_excluded gs p) (is_excluded gs p ≡ true) = (λ e. e, λ e. e) in
     same_from_decides (is_excluded fs p) (is_excluded gs p) here there
 
 -- the first fact that clashes is one
-first_same : (fs gs : List Fact) (f : Fact) → NoClash fs → AgreeAt f.path.var.number fs gs → (o u : Option Fact) → FirstOf fs f o → FirstOf gs f u → o ≡ u
+first_same : (fs gs : List Fact) (f : Fact) → NoClash fs → AgreeAt f.path.var fs gs → (o u : Option Fact) → FirstOf fs f o → FirstOf gs f u → o ≡ u
 first_same fs gs f n a None None h k = refl
 first_same fs gs f n a None (Some g) h k =
-    absurd (both_ways (clash g f) (h g (a.back g (ap (λ (x : VarId). x.number) (clash-variable g f k.clashes)) k.kept)) k.clashes)
+    absurd (both_ways (clash g f) (h g (a.back g (clash-variable g f k.clashes) k.kept)) k.clashes)
 first_same fs gs f n a (Some g) None h k =
-    absurd (both_ways (clash g f) (k g (a.there g (ap (λ (x : VarId). x.number) (clash-variable g f h.clashes)) h.kept)) h.clashes)
+    absurd (both_ways (clash g f) (k g (a.there g (clash-variable g f h.clashes) h.kept)) h.clashes)
 first_same fs gs f n a (Some g) (Some r) h k =
     let g_var : g.path.var ≡ f.path.var = clash-variable g f h.clashes in
     let r_var : r.path.var ≡ f.path.var = clash-variable r f k.clashes in
-    let r_in : In r fs = a.back r (ap (λ (x : VarId). x.number) r_var) k.kept in
-    let g_in : In g gs = a.there g (ap (λ (x : VarId). x.number) g_var) h.kept in
+    let r_in : In r fs = a.back r r_var k.kept in
+    let g_in : In g gs = a.there g g_var h.kept in
     let indices : g.path.at ≡ r.path.at = not_earlier-same g r (k.earliest g g_in h.clashes) (h.earliest r r_in k.clashes) in
     let make : VarId → List ℕ → Path = λ x at. record { var = x; at = at } in
     let paths : g.path ≡ r.path = ap₂ make (g_var ∙ sym r_var) indices in
@@ -77,26 +77,26 @@ first_same fs gs f n a (Some g) (Some r) h k =
     let shapes : g.shape ≡ r.shape = cc both in
     ap Some (fact_from g r paths shapes)
 
-pub same_first : (fs gs : List Fact) (f : Fact) → NoClash fs → AgreeAt f.path.var.number fs gs → first_clash fs f ≡ first_clash gs f
+pub same_first : (fs gs : List Fact) (f : Fact) → NoClash fs → AgreeAt f.path.var fs gs → first_clash fs f ≡ first_clash gs f
 same_first fs gs f n a = first_same fs gs f n a (first_clash fs f) (first_clash gs f) (first_is fs f) (first_is gs f)
 
 -- the same shapes at each path of a variable
-abbrev SameAt : ℕ → List Fact → List Fact → Type 0
-SameAt n fs gs = (p : Path) → p.var.number ≡ n → kept_shape fs p ≡ kept_shape gs p
+abbrev SameAt : VarId → List Fact → List Fact → Type 0
+SameAt x fs gs = (p : Path) → p.var ≡ x → kept_shape fs p ≡ kept_shape gs p
 
-items_same : (f g : Path → Whole) (p : Path) (n : ℕ) → p.var.number ≡ n → ((q : Path) → q.var.number ≡ n → f q ≡ g q) → (m k : ℕ) → items_known f p m k ≡ items_known g p m k
-items_same f g p n e h zero k = refl
-items_same f g p n e h (suc m) k = ap₂ and_items (h (item_path p k) e) (items_same f g p n e h m (suc k))
+items_same : (f g : Path → Whole) (p : Path) (x : VarId) → p.var ≡ x → ((q : Path) → q.var ≡ x → f q ≡ g q) → (m k : ℕ) → items_known f p m k ≡ items_known g p m k
+items_same f g p x e h zero k = refl
+items_same f g p x e h (suc m) k = ap₂ and_items (h (item_path p k) e) (items_same f g p x e h m (suc k))
 
-shape_same : (f g : Path → Whole) (p : Path) (n : ℕ) → p.var.number ≡ n → ((q : Path) → q.var.number ≡ n → f q ≡ g q) → (o : Option Shape) → with_shape f p o ≡ with_shape g p o
-shape_same f g p n e h None = refl
-shape_same f g p n e h (Some (Num m)) = refl
-shape_same f g p n e h (Some (Truth b)) = refl
-shape_same f g p n e h (Some (Items m)) = ap list_of_items (items_same f g p n e h m 0)
+shape_same : (f g : Path → Whole) (p : Path) (x : VarId) → p.var ≡ x → ((q : Path) → q.var ≡ x → f q ≡ g q) → (o : Option Shape) → with_shape f p o ≡ with_shape g p o
+shape_same f g p x e h None = refl
+shape_same f g p x e h (Some (Num m)) = refl
+shape_same f g p x e h (Some (Truth b)) = refl
+shape_same f g p x e h (Some (Items m)) = ap list_of_items (items_same f g p x e h m 0)
 
-whole_same : (d : ℕ) (fs gs : List Fact) (n : ℕ) → SameAt n fs gs → (p : Path) → p.var.number ≡ n → whole d fs p ≡ whole d gs p
-whole_same zero fs gs n s p e = refl
-whole_same (suc d) fs gs n s p e = shape_same (whole d fs) (whole d gs) p n e (whole_same d fs gs n s) (kept_shape fs p) ∙ ap (with_shape (whole d gs) p) (s p e)
+whole_same : (d : ℕ) (fs gs : List Fact) (x : VarId) → SameAt x fs gs → (p : Path) → p.var ≡ x → whole d fs p ≡ whole d gs p
+whole_same zero fs gs x s p e = refl
+whole_same (suc d) fs gs x s p e = shape_same (whole d fs) (whole d gs) p x e (whole_same d fs gs x s) (kept_shape fs p) ∙ ap (with_shape (whole d gs) p) (s p e)
 
 max-right : (a b c : ℕ) → c ≤ b → c ≤ max a b
 max-right a b c h = omega arith
@@ -137,26 +137,26 @@ deep_more (suc m) d fs p h =
     let e : suc m + d ≡ suc (m + d) = omega arith in
     deep_more m d fs p h ∙ deep_enough (m + d) fs p (omega arith) ∙ ap (λ n. whole n fs p) (sym e)
 
-pub same_whole : (fs gs : List Fact) (p : Path) → NoClash gs → AgreeAt p.var.number fs gs → whole (suc (deepest fs)) fs p ≡ whole (suc (deepest gs)) gs p
+pub same_whole : (fs gs : List Fact) (p : Path) → NoClash gs → AgreeAt p.var fs gs → whole (suc (deepest fs)) fs p ≡ whole (suc (deepest gs)) gs p
 same_whole fs gs p m a =
-    let s : SameAt p.var.number fs gs = λ q e. same_kept fs gs q m (let P : ℕ → Type 0 = λ n. AgreeAt n fs gs in subst P (sym e) a) in
+    let s : SameAt p.var fs gs = λ q e. same_kept fs gs q m (let P : VarId → Type 0 = λ x. AgreeAt x fs gs in subst P (sym e) a) in
     let x = deepest fs in
     let y = deepest gs in
     let swap : y + suc x ≡ x + suc y = omega arith in
-    deep_more y (suc x) fs p (omega arith) ∙ ap (λ n. whole n fs p) swap ∙ whole_same (x + suc y) fs gs p.var.number s p refl ∙ sym (deep_more x (suc y) gs p (omega arith))
+    deep_more y (suc x) fs p (omega arith) ∙ ap (λ n. whole n fs p) swap ∙ whole_same (x + suc y) fs gs p.var s p refl ∙ sym (deep_more x (suc y) gs p (omega arith))
 
-pub same_full : (fs gs : List Fact) (p : Path) → NoClash gs → AgreeAt p.var.number fs gs → full fs p ≡ full gs p
+pub same_full : (fs gs : List Fact) (p : Path) → NoClash gs → AgreeAt p.var fs gs → full fs p ≡ full gs p
 same_full fs gs p m a = ap₂ (λ b w. cond b absent (limited w)) (same_excluded fs gs p a) (same_whole fs gs p m a)
 
 -- and the same comes of adding facts
-same_checked : (ks ls fs : List Fact) (o : Addition) → NoClash ks → ((f : Fact) → In f fs → AgreeAt f.path.var.number ks ls) → checked ks fs o ≡ checked ls fs o
+same_checked : (ks ls fs : List Fact) (o : Addition) → NoClash ks → ((f : Fact) → In f fs → AgreeAt f.path.var ks ls) → checked ks fs o ≡ checked ls fs o
 same_checked ks ls [] o n a = refl
 same_checked ks ls (f ∷ fs) o n a = ap₂ (λ c rest. refused_or c f rest) (same_first ks ls f n (a f (inl refl))) (same_checked ks ls fs o n (λ g i. a g (inr i)))
 
-same_news : (ks ls fs : List Fact) → NoClash ls → ((f : Fact) → In f fs → AgreeAt f.path.var.number ks ls) → new_facts ks fs ≡ new_facts ls fs
+same_news : (ks ls fs : List Fact) → NoClash ls → ((f : Fact) → In f fs → AgreeAt f.path.var ks ls) → new_facts ks fs ≡ new_facts ls fs
 same_news ks ls [] m a = refl
 same_news ks ls (f ∷ fs) m a =
     ap₂ (λ o rest. cond (is_none o) (f ∷ rest) rest) (same_kept ks ls f.path m (a f (inl refl))) (same_news ks ls fs m (λ g i. a g (inr i)))
 
-pub same_addition : (ks ls fs : List Fact) → NoClash ks → NoClash ls → ((f : Fact) → In f fs → AgreeAt f.path.var.number ks ls) → addition ks fs ≡ addition ls fs
+pub same_addition : (ks ls fs : List Fact) → NoClash ks → NoClash ls → ((f : Fact) → In f fs → AgreeAt f.path.var ks ls) → addition ks fs ≡ addition ls fs
 same_addition ks ls fs n m a = same_checked ks ls fs (adds (new_facts ks fs)) n a ∙ ap (λ ns. checked ls fs (adds ns)) (same_news ks ls fs m a)

@@ -12,7 +12,7 @@ use Rattle.tp_store.specs.Known.{NoClash}
 use Rattle.tp_store.specs.FactMap.{AreOf}
 use Rattle.tp_store.proofs.Indices.{same_indices-other_length}
 use Rattle.tp_store.proofs.Members.{In, in_append, excludes-own, NoClash-append, Apart}
-use Rattle.tp_store.proofs.Filing.{of_from}
+use Rattle.tp_store.proofs.Parts.{of_from}
 
 -- the fact is of the path or of one below
 record Under (p : Path) (f : Fact) : Type 0 where

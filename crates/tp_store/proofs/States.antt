@@ -2,6 +2,7 @@
 use Rattle.std.proofs.Common.{◌≡◌, inl, inr, ℕ, Bool, true, false, ltb, List, ◌++◌, refl, sym, ◌∙◌}
 use Rattle.std.proofs.lemmas.Bool.{both_ways, cases_Bool}
 use Rattle.tp_value.specs.Tree.{Tree}
+use Rattle.tp_value.specs.declared.path.VarId.{VarId}
 use Rattle.tp_value.specs.declared.path.Fact.{Fact}
 use Rattle.tp_store.specs.Facts.{clash, AgreesWith, AgreesWithAll}
 use Rattle.tp_store.specs.Known.{NoClash, clashes_with_some, new_facts}
@@ -17,8 +18,8 @@ use Rattle.tp_store.proofs.Separate.{value_apart}
 same_member : (fs gs : List Fact) → NoClash fs → HaveSameShapes fs gs → (f : Fact) → In f fs → In f gs
 same_member fs gs n h f i = kept_in gs f.path f.shape (sym (h f.path) ∙ in_kept fs f n i)
 
-agree_all : (fs gs : List Fact) → NoClash fs → NoClash gs → HaveSameShapes fs gs → (n : ℕ) → AgreeAt n fs gs
-agree_all fs gs n m h k = record { there = λ f e i. same_member fs gs n h f i; back = λ f e i. same_member gs fs m (λ p. sym (h p)) f i }
+pub agree_all : (fs gs : List Fact) → NoClash fs → NoClash gs → HaveSameShapes fs gs → (x : VarId) → AgreeAt x fs gs
+agree_all fs gs n m h x = record { there = λ f e i. same_member fs gs n h f i; back = λ f e i. same_member gs fs m (λ p. sym (h p)) f i }
 
 meets_from : (fs : List Fact) (f g : Fact) → In g fs → clash g f ≡ true → clashes_with_some fs f ≡ true
 meets_from fs f g i t =
@@ -44,11 +45,11 @@ same_shapes_same_store fs gs n m h =
     let there = same_member fs gs n h in
     let back = same_member gs fs m (λ p. sym (h p)) in
     record {
-      excluded = λ p. same_excluded fs gs p (agree_all fs gs n m h p.var.number);
-      wholes = λ p. same_full fs gs p m (agree_all fs gs n m h p.var.number);
+      excluded = λ p. same_excluded fs gs p (agree_all fs gs n m h p.var);
+      wholes = λ p. same_full fs gs p m (agree_all fs gs n m h p.var);
       meetings = λ f. same_meets fs gs f there back;
-      first = λ f. same_first fs gs f n (agree_all fs gs n m h f.path.var.number);
-      additions = λ facts. same_addition fs gs facts n m (λ f i. agree_all fs gs n m h f.path.var.number);
+      first = λ f. same_first fs gs f n (agree_all fs gs n m h f.path.var);
+      additions = λ facts. same_addition fs gs facts n m (λ f i. agree_all fs gs n m h f.path.var);
       states = λ values. (agrees_there values fs gs back, agrees_there values gs fs there);
     }
 

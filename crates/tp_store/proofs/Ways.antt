@@ -1,5 +1,5 @@
 -- Ways through a tree, while it grows.
-use Rattle.std.proofs.Common.{◌≡◌, inl, inr, ℕ, zero, suc, ◌+◌, ◌<◌, ◌≤◌, Bool, true, false, ◌||◌, List, [], ◌∷◌, ◌++◌, length, take, take-suc, drop, get_or, slice_get, Option, Some, None, refl, ap, ap₂, sym, ◌∙◌, subst, arith}
+use Rattle.std.proofs.Common.{◌≡◌, inl, inr, ℕ, zero, suc, ◌+◌, ◌^◌, ◌<◌, ◌≤◌, Bool, true, false, ◌||◌, List, [], ◌∷◌, ◌++◌, length, take, take-suc, drop, get_or, slice_get, Option, Some, None, refl, ap, ap₂, sym, ◌∙◌, subst, arith}
 use Rattle.std.specs.List.{IsDistinct, position}
 use Rattle.std.specs.Option.{option_map}
 use Rattle.std.specs.Map.{keys_of, values_of}
@@ -15,11 +15,11 @@ use Rattle.tp_store.specs.declared.nodes.Node.{Node}
 use Rattle.tp_store.specs.FactMap.{lacks_item, outer_path}
 use Rattle.tp_store.specs.Facts.{has_item, excludes, kept_shape, is_excluded}
 use Rattle.tp_store.specs.Known.{NoClash}
-use Rattle.tp_store.specs.Nodes.{same_edge, edge, child, node_or_none, node_from, routes, facts_along, shape_among, shape_found, beyond_among, with_node, AreBeyond, AreWays, IsRooted, lacks_way, lacks_below}
+use Rattle.tp_store.specs.Nodes.{same_edge, edge, child, node_or_none, node_from, routes, facts_along, shape_among, shape_found, beyond_among, with_node, way_of, AreBeyond, AreNarrow, AreWays, IsRooted, lacks_way, lacks_below, lacks_path}
 use Rattle.tp_store.proofs.Members.{In}
 use Rattle.tp_store.proofs.FactMapLemmas.{excluded_at, excluded_here, none_excludes}
 use Rattle.tp_store.proofs.Routes.{child_found, child_there, node_back, node_more, length_of_routes}
-use Rattle.tp_store.proofs.Trees.{kept_is, at_node}
+use Rattle.tp_store.proofs.Trees.{kept_is, at_node, way_back}
 
 pub length_keys : {K V : Type 0} (es : List (K × V)) → length (keys_of es) ≡ length es
 length_keys [] = refl
@@ -121,21 +121,21 @@ node_kept old new more ks m g d at =
 pub ways_kept : (old new more : List Edge) (fs : List Fact) (ns : List ℕ) → new ≡ old ++ more → IsDistinct same_edge new → AreWays old fs ns → AreWays new fs ns
 ways_kept old new more [] ns g d h = tt
 ways_kept old new more (f ∷ fs) [] g d h = absurd h
-ways_kept old new more (f ∷ fs) (n ∷ ns) g d h = (node_kept old new more f.path.at n g d h.0, ways_kept old new more fs ns g d h.1)
+ways_kept old new more (f ∷ fs) (n ∷ ns) g d h = (node_kept old new more (way_of f.path) n g d h.0, ways_kept old new more fs ns g d h.1)
 
-pub ways_more : (es : List Edge) (fs : List Fact) (ns : List ℕ) (f : Fact) (n : ℕ) → AreWays es fs ns → length ns ≡ length fs → node_from es f.path.at 0 ≡ Some n → AreWays es (fs ++ f ∷ []) (ns ++ n ∷ [])
+pub ways_more : (es : List Edge) (fs : List Fact) (ns : List ℕ) (f : Fact) (n : ℕ) → AreWays es fs ns → length ns ≡ length fs → node_from es (way_of f.path) 0 ≡ Some n → AreWays es (fs ++ f ∷ []) (ns ++ n ∷ [])
 ways_more es [] [] f n h l e = (e, tt)
 ways_more es [] (m ∷ ns) f n h l e = absurd (omega arith)
 ways_more es (g ∷ fs) [] f n h l e = absurd h
 ways_more es (g ∷ fs) (m ∷ ns) f n h l e = (h.0, ways_more es fs ns f n h.1 (omega arith) e)
 
-pub way_at : (es : List Edge) (fs : List Fact) (ns : List ℕ) (i : ℕ) (f : Fact) (n : ℕ) → AreWays es fs ns → slice_get fs i ≡ Some f → slice_get ns i ≡ Some n → node_from es f.path.at 0 ≡ Some n
+pub way_at : (es : List Edge) (fs : List Fact) (ns : List ℕ) (i : ℕ) (f : Fact) (n : ℕ) → AreWays es fs ns → slice_get fs i ≡ Some f → slice_get ns i ≡ Some n → node_from es (way_of f.path) 0 ≡ Some n
 way_at es [] ns i f n h p q = absurd (cc)
 way_at es (g ∷ fs) [] i f n h p q = absurd h
 way_at es (g ∷ fs) (m ∷ ns) zero f n h p q =
     let a : g ≡ f = cc p in
     let b : m ≡ n = cc q in
-    ap (λ (x : Fact). node_from es x.path.at 0) (sym a) ∙ h.0 ∙ ap Some b
+    ap (λ (x : Fact). node_from es (way_of x.path) 0) (sym a) ∙ h.0 ∙ ap Some b
 way_at es (g ∷ fs) (m ∷ ns) (suc i) f n h p q = way_at es fs ns i f n h.1 p q
 
 pub ways_long : (es : List Edge) (fs : List Fact) (ns : List ℕ) → AreWays es fs ns → length fs ≤ length ns
@@ -175,7 +175,7 @@ length_with (n ∷ ns) zero v = refl
 length_with (n ∷ ns) (suc i) v = ap suc (length_with ns i v)
 
 pub raised : (es : List Edge) (ns : List Node) (i : ℕ) (v : Node) → beyond_among ns i ≤ v.beyond → AreBeyond es ns → AreBeyond es (with_node ns i v)
-raised es ns i v h b j e q = let more = beyond_rises ns i v e.node h in let low = b j e q in omega (arith, more, low)
+raised es ns i v h b j e q below = let more = beyond_rises ns i v e.node h in let low = b j e q below in omega (arith, more, low)
 
 get_of_more : {A : Type 0} (xs : List A) (x : A) (i : ℕ) (y : A) → slice_get (xs ++ x ∷ []) i ≡ Some y → (slice_get xs i ≡ Some y → ⊥) → x ≡ y
 get_of_more [] x zero y h n = cc h
@@ -183,22 +183,51 @@ get_of_more [] x (suc i) y h n = absurd (cc h)
 get_of_more (z ∷ xs) x zero y h n = absurd (n h)
 get_of_more (z ∷ xs) x (suc i) y h n = get_of_more xs x i y h n
 
-pub bound_more : (es : List Edge) (ns : List Node) (e : Edge) (v : Node) → AreBeyond es ns → e.index < beyond_among ns e.node → AreBeyond (es ++ e ∷ []) (ns ++ v ∷ [])
-bound_more es ns e v b l i f q = by (slice_get es i) refl
+pub bound_more : (es : List Edge) (ns : List Node) (e : Edge) (v : Node) → AreBeyond es ns → (0 < e.node → e.index < beyond_among ns e.node) → AreBeyond (es ++ e ∷ []) (ns ++ v ∷ [])
+bound_more es ns e v b l i f q below = by (slice_get es i) refl
   where
     by : (o : Option Edge) → slice_get es i ≡ o → f.index < beyond_among (ns ++ v ∷ []) f.node
     by None p =
         let same : e ≡ f = get_of_more es e i f q (λ h. let z : None ≡ Some f = sym p ∙ h in cc z) in
         let more = beyond_more ns v f.node in
-        let L : Edge → Type 0 = λ x. x.index < beyond_among ns x.node in
-        let low : f.index < beyond_among ns f.node = subst L same l in
+        let L : Edge → Type 0 = λ x. 0 < x.node → x.index < beyond_among ns x.node in
+        let low : f.index < beyond_among ns f.node = subst L same l below in
         omega (arith, more, low)
     by (Some g) p =
         let left = slice_left es (e ∷ []) i g p in
         let z : Some g ≡ Some f = sym left ∙ q in
-        let low = b i f (p ∙ z) in
+        let low = b i f (p ∙ z) below in
         let more = beyond_more ns v f.node in
         omega (arith, more, low)
+
+pub narrow_more : (es : List Edge) (e : Edge) → AreNarrow es → (0 < e.node → e.index < 2 ^ 32) → AreNarrow (es ++ e ∷ [])
+narrow_more es e n l i f q below = by (slice_get es i) refl
+  where
+    by : (o : Option Edge) → slice_get es i ≡ o → f.index < 2 ^ 32
+    by None p =
+        let same : e ≡ f = get_of_more es e i f q (λ h. let z : None ≡ Some f = sym p ∙ h in cc z) in
+        let L : Edge → Type 0 = λ x. 0 < x.node → x.index < 2 ^ 32 in
+        subst L same l below
+    by (Some g) p =
+        let left = slice_left es (e ∷ []) i g p in
+        let z : Some g ≡ Some f = sym left ∙ q in
+        n i f (p ∙ z) below
+
+-- a way of an index or more leads below the root
+way_on_below : (es : List Edge) (ks : List ℕ) (n m : ℕ) → 0 < n → node_from es ks n ≡ Some m → 0 < m
+way_on_below es [] n m low h = let s : n ≡ m = cc h in omega (arith, low, s)
+way_on_below es (k ∷ ks) n m low h = by (λ c i e. way_on_below es ks c m i e) (child es n k) refl h
+  where
+    by : ((c : ℕ) → 0 < c → node_from es ks c ≡ Some m → 0 < m) → (o : Option ℕ) → child es n k ≡ o → node_or_none o (node_from es ks) ≡ Some m → 0 < m
+    by rest None p e = absurd (cc e)
+    by rest (Some c) p e = let f = child_found es n k c p in rest c (omega (arith, f.number)) e
+
+pub way_below : (es : List Edge) (k : ℕ) (ks : List ℕ) (n m : ℕ) → node_from es (k ∷ ks) n ≡ Some m → 0 < m
+way_below es k ks n m h = by (child es n k) refl h
+  where
+    by : (o : Option ℕ) → child es n k ≡ o → node_or_none o (node_from es ks) ≡ Some m → 0 < m
+    by None p e = absurd (cc e)
+    by (Some c) p e = let f = child_found es n k c p in way_on_below es ks c m (omega (arith, f.number)) e
 
 -- a way goes through its beginnings
 pub record GoesThrough (es : List Edge) (ks : List ℕ) (node n : ℕ) : Type 0 where
@@ -262,36 +291,43 @@ lacks_some es ns (k ∷ ks) node h =
           lacks = ap (λ o. lacks_item (shape_found ns (node_or_none o (node_from es (take r.index ks)))) (get_or ks r.index 0)) p ∙ r.lacks;
         }
 
-module _ (x : VarId) (es : List Edge) (ns : List Node) (r : IsRooted 1 es) (d : IsDistinct same_edge es) (long : length ns ≡ suc (length es)) where
+module _ (b : Bool) (es : List Edge) (ns : List Node) (r : IsRooted 1 es) (d : IsDistinct same_edge es) (long : length ns ≡ suc (length es)) where
   -- a path is excluded where a shape on its way lacks an item
-  pub lacks_is : (p : Path) → p.var ≡ x → NoClash (facts_along x (routes es) ns) → lacks_way es ns p.at 0 ≡ is_excluded (facts_along x (routes es) ns) p
-  lacks_is p v n = by (lacks_way es ns p.at 0) refl
+  pub lacks_is : (p : Path) → p.var.lasting ≡ b → NoClash (facts_along b (routes es) ns) → lacks_path es ns p ≡ is_excluded (facts_along b (routes es) ns) p
+  lacks_is p v n = by (child es 0 p.var.number) refl
     where
-      at_outer : (i : ℕ) → kept_shape (facts_along x (routes es) ns) (outer_path p i) ≡ shape_found ns (node_from es (take i p.at) 0)
-      at_outer i = kept_is x es ns r d long (outer_path p i) v
+      at_outer : (o : Option ℕ) → child es 0 p.var.number ≡ o → (i : ℕ) → kept_shape (facts_along b (routes es) ns) (outer_path p i) ≡ shape_found ns (node_or_none o (node_from es (take i p.at)))
+      at_outer o e i = kept_is b es ns r d long (outer_path p i) v ∙ ap (λ c. shape_found ns (node_or_none c (node_from es (take i p.at)))) e
 
-      by : (b : Bool) → lacks_way es ns p.at 0 ≡ b → b ≡ is_excluded (facts_along x (routes es) ns) p
-      by true e =
-          let l = lacks_some es ns p.at 0 e in
-          sym (excluded_here (facts_along x (routes es) ns) p l.index l.within (ap (λ o. lacks_item o (get_or p.at l.index 0)) (at_outer l.index) ∙ l.lacks))
-      by false e = sym (none_excludes (facts_along x (routes es) ns) p n (λ i l. ap (λ o. lacks_item o (get_or p.at i 0)) (at_outer i) ∙ lacks_none es ns p.at 0 i e l))
+      on : (c : ℕ) → child es 0 p.var.number ≡ Some c → (t : Bool) → lacks_way es ns p.at c ≡ t → t ≡ is_excluded (facts_along b (routes es) ns) p
+      on c e true h =
+          let l = lacks_some es ns p.at c h in
+          sym (excluded_here (facts_along b (routes es) ns) p l.index l.within (ap (λ o. lacks_item o (get_or p.at l.index 0)) (at_outer (Some c) e l.index) ∙ l.lacks))
+      on c e false h =
+          sym (none_excludes (facts_along b (routes es) ns) p n (λ i l. ap (λ o. lacks_item o (get_or p.at i 0)) (at_outer (Some c) e i) ∙ lacks_none es ns p.at c i h l))
+
+      by : (o : Option ℕ) → child es 0 p.var.number ≡ o → lacks_below o (lacks_way es ns p.at) ≡ is_excluded (facts_along b (routes es) ns) p
+      by None e = sym (none_excludes (facts_along b (routes es) ns) p n (λ i l. ap (λ o. lacks_item o (get_or p.at i 0)) (at_outer None e i)))
+      by (Some c) e = on c e (lacks_way es ns p.at c) refl
 
   -- a fact that has an item at each index below the bound of its node excludes no kept path
-  pub none_beyond : (f : Fact) → AreBeyond es ns
-      → ((n : ℕ) → node_from es f.path.at 0 ≡ Some n → (k : ℕ) → k < beyond_among ns n → has_item f.shape k ≡ true)
-      → (g : Fact) → In g (facts_along x (routes es) ns) → excludes f g.path ≡ false
-  none_beyond f b has g i = false_from_ne_true (excludes f g.path) (λ t.
+  pub none_beyond : (f : Fact) → f.path.var.lasting ≡ b → AreBeyond es ns
+      → ((n : ℕ) → node_from es (way_of f.path) 0 ≡ Some n → (k : ℕ) → k < beyond_among ns n → has_item f.shape k ≡ true)
+      → (g : Fact) → In g (facts_along b (routes es) ns) → excludes f g.path ≡ false
+  none_beyond f v bounds has g i = false_from_ne_true (excludes f g.path) (λ t.
       let e = excluded_at f g.path t in
-      let at = at_node x (routes es) ns g i in
+      let at = at_node b (routes es) ns g i in
       let long_all = length_of_routes es in
-      let way : node_from es g.path.at 0 ≡ Some at.node =
-      ap (λ (p : Path). node_from es p.at 0) at.path ∙ node_back es (suc at.node) at.node r d (omega arith) (omega (arith, at.within, long_all)) in
+      let of : g.path.var.lasting ≡ b = sym (ap (λ (p : Path). p.var.lasting) e.path) ∙ v in
+      let route : get_or (routes es) at.node [] ≡ way_of g.path = way_back b (get_or (routes es) at.node []) g.path of (sym at.path) in
+      let way : node_from es (way_of g.path) 0 ≡ Some at.node =
+      ap (λ ks. node_from es ks 0) (sym route) ∙ node_back es (suc at.node) at.node r d (omega arith) (omega (arith, at.within, long_all)) in
       let n = length f.path.at in
       let k = get_or g.path.at n 0 in
-      let on = way_through es g.path.at 0 at.node n way e.below in
+      let on = way_through es (way_of g.path) 0 at.node (suc n) way (omega (arith, e.below)) in
+      let here : node_from es (way_of f.path) 0 ≡ Some on.through = ap (λ (p : Path). node_from es (way_of p) 0) e.path ∙ on.way in
       let step = child_found es on.through k on.to on.next in
-      let low : k < beyond_among ns on.through = b step.place (edge on.through k) step.there in
-      let here : node_from es f.path.at 0 ≡ Some on.through = ap (λ (p : Path). node_from es p.at 0) e.path ∙ on.way in
+      let low : k < beyond_among ns on.through = bounds step.place (edge on.through k) step.there (way_below es f.path.var.number f.path.at 0 on.through here) in
       both_ways (has_item f.shape k) e.lacks (has on.through here k low))
 
 -- the look along a way, one index after the other

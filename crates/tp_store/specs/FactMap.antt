@@ -1,5 +1,5 @@
--- The facts of one variable, as they are kept together.
-use Rattle.std.specs.Prelude.{◌≡◌, ℕ, Bool, true, false, not, List, [], ◌∷◌, take, Option, Some, None}
+-- Facts that are kept together.
+use Rattle.std.specs.Prelude.{◌≡◌, ℕ, Bool, false, not, eqb, nat_lt, List, [], ◌∷◌, filter, take, Option, Some, None}
 use Rattle.tp_value.specs.declared.value.Shape.{Shape}
 use Rattle.tp_value.specs.declared.path.VarId.{VarId}
 use Rattle.tp_value.specs.declared.path.Path.{Path}
@@ -7,6 +7,8 @@ use Rattle.tp_value.specs.declared.path.Fact.{Fact}
 use Rattle.tp_value.specs.declared.value.Shape.TheVariants.{Num, Truth, Items}
 use Rattle.tp_store.specs.Facts.{has_item, kept_shape}
 use Rattle.tp_store.specs.Known.{first_clash}
+use Rattle.tp_store.specs.declared.nodes.Which.{Which}
+use Rattle.tp_store.specs.declared.nodes.Which.TheVariants.{Below, Of}
 
 -- a shape is there, and has no item with this index
 abbrev pub lacks_item : Option Shape → ℕ → Bool
@@ -16,10 +18,6 @@ lacks_item (Some sh) k = not (has_item sh k)
 -- the path of its first indices, of so many
 abbrev pub outer_path : Path → ℕ → Path
 outer_path p n = record { var = p.var; at = take n p.at }
-
-abbrev pub is_nil : List Fact → Bool
-is_nil [] = true
-is_nil (f ∷ fs) = false
 
 -- the shape of a number or of a truth
 abbrev pub IsNumberOrTruth : Option Shape → Type 0
@@ -33,11 +31,25 @@ abbrev pub AreOf : VarId → List Fact → Type 0
 AreOf x [] = Unit {0}
 AreOf x (f ∷ fs) = (f.path.var ≡ x) × AreOf x fs
 
--- the facts are of one variable
-abbrev pub AreOfOne : List Fact → Type 0
-AreOfOne fs = (x : VarId) × AreOf x fs
+-- each fact is of a static variable, or of a state variable
+abbrev pub AreOfKind : (lasting : Bool) → List Fact → Type 0
+AreOfKind b [] = Unit {0}
+AreOfKind b (f ∷ fs) = (f.path.var.lasting ≡ b) × AreOfKind b fs
+
+-- Facts of variables of one kind.
+pub record FactsOfKind : Type 0 where
+  pub lasting : Bool
+  pub facts : List Fact
 
 -- The fact's path has no shape yet, and no kept fact clashes with it.
-pub record IsNew (kept : List Fact) (f : Fact) : Type 0 where
+pub record IsNewFact (kept : List Fact) (f : Fact) : Type 0 where
   pub none : kept_shape kept f.path ≡ None
   pub apart : first_clash kept f ≡ None
+
+-- the variables whose facts are asked for: those below a number, or that with one
+abbrev pub is_among : Which → ℕ → Bool
+is_among (Below n) k = nat_lt k n
+is_among (Of n) k = eqb k n
+
+abbrev pub facts_among : Which → List Fact → List Fact
+facts_among which = filter (λ f. is_among which f.path.var.number)

@@ -1,5 +1,5 @@
--- The facts of a variable as a tree: its nodes, and what is kept at them.
-use Rattle.std.specs.Prelude.{◌≡◌, ◌<◌, ◌+◌, ◌*◌, ◌^◌, ◌%◌, ℕ, zero, suc, Bool, ◌&&◌, ◌||◌, eqb, false, List, [], ◌∷◌, ◌++◌, Option, Some, None, slice_get, slice_index_or, length}
+-- Facts as a tree of paths: its nodes, and what is kept at them.
+use Rattle.std.specs.Prelude.{◌≡◌, ◌<◌, ◌+◌, ◌*◌, ◌^◌, ◌%◌, ℕ, zero, suc, Bool, not, ◌&&◌, ◌||◌, eqb, false, List, [], ◌∷◌, ◌++◌, Option, Some, None, slice_get, slice_index_or, length}
 use Rattle.std.specs.List.{position}
 use Rattle.std.specs.Option.{option_map}
 use Rattle.std.specs.Map.{keys_of, values_of}
@@ -9,7 +9,7 @@ use Rattle.tp_value.specs.declared.path.Path.{Path}
 use Rattle.tp_value.specs.declared.path.Fact.{Fact}
 use Rattle.tp_store.specs.Facts.{fact, kept_shape}
 use Rattle.tp_value.specs.declared.value.Shape.TheVariants.{Items}
-use Rattle.tp_store.specs.FactMap.{lacks_item, AreOf, IsNumberOrTruth}
+use Rattle.tp_store.specs.FactMap.{lacks_item, AreOfKind, IsNumberOrTruth}
 use Rattle.tp_store.specs.Known.{NoClash}
 use Rattle.tp_store.specs.Changes.{HaveSameShapes}
 use Rattle.tp_store.specs.declared.nodes.Edge.{Edge}
@@ -30,9 +30,13 @@ same_edge e f = eqb e.node f.node && eqb e.index f.index
 abbrev pub edges_in : Nodes → List Edge
 edges_in t = keys_of t.below.entries
 
--- the nodes by their numbers
+-- nothing is kept there, and it has no children
+abbrev pub bare_node : Node
+bare_node = record { shape = None; beyond = 0 }
+
+-- the nodes by their numbers, the root first
 abbrev pub nodes_in : Nodes → List Node
-nodes_in t = t.root ∷ values_of t.below.entries
+nodes_in t = bare_node ∷ values_of t.below.entries
 
 -- the child of a node with this index
 abbrev pub child : List Edge → ℕ → ℕ → Option ℕ
@@ -62,22 +66,36 @@ abbrev pub IsRooted : ℕ → List Edge → Type 0
 IsRooted n [] = Unit {0}
 IsRooted n (e ∷ es) = (e.node < n) × IsRooted (suc n) es
 
+-- each edge that doesn't start at the root has an index of a list
+abbrev pub AreNarrow : List Edge → Type 0
+AreNarrow es = (i : ℕ) (e : Edge) → slice_get es i ≡ Some e → 0 < e.node → e.index < 2 ^ 32
+
 abbrev pub path_along : VarId → List ℕ → Path
 path_along x ks = record { var = x; at = ks }
 
+-- The path of the node to which these indices lead, of variables of this kind: the first is the
+-- variable's number. The root's own is of the other kind, so it is none of theirs.
+abbrev pub path_of : (lasting : Bool) → List ℕ → Path
+path_of b [] = path_along (record { number = 0; lasting = not b }) []
+path_of b (v ∷ ks) = path_along (record { number = v; lasting = b }) ks
+
+-- the indices that lead to the node of a path
+abbrev pub way_of : Path → List ℕ
+way_of p = p.var.number ∷ p.at
+
 -- the fact of a node, where it has a shape
-abbrev pub fact_where : VarId → List ℕ → Option Shape → List Fact
-fact_where x ks None = []
-fact_where x ks (Some sh) = fact (path_along x ks) sh ∷ []
+abbrev pub fact_where : (lasting : Bool) → List ℕ → Option Shape → List Fact
+fact_where b ks None = []
+fact_where b ks (Some sh) = fact (path_of b ks) sh ∷ []
 
 -- the facts that are kept at the nodes to which these indices lead
-abbrev pub facts_along : VarId → List (List ℕ) → List Node → List Fact
-facts_along x [] ns = []
-facts_along x (r ∷ rs) [] = []
-facts_along x (r ∷ rs) (n ∷ ns) = fact_where x r n.shape ++ facts_along x rs ns
+abbrev pub facts_along : (lasting : Bool) → List (List ℕ) → List Node → List Fact
+facts_along b [] ns = []
+facts_along b (r ∷ rs) [] = []
+facts_along b (r ∷ rs) (n ∷ ns) = fact_where b r n.shape ++ facts_along b rs ns
 
-abbrev pub facts_in_tree : VarId → Nodes → List Fact
-facts_in_tree x t = facts_along x (routes (edges_in t)) (nodes_in t)
+abbrev pub facts_in_tree : (lasting : Bool) → Nodes → List Fact
+facts_in_tree b t = facts_along b (routes (edges_in t)) (nodes_in t)
 
 -- what is kept at a node
 abbrev pub shape_among : List Node → ℕ → Option Shape
@@ -107,29 +125,30 @@ abbrev pub with_shape_at : List Node → ℕ → Shape → List Node
 with_shape_at ns j sh =
     with_node ns j (record { shape = Some sh; beyond = beyond_among ns j })
 
--- each child's index is less than its parent's bound
+-- each item's index is less than the bound of the node that it is a child of
 abbrev pub AreBeyond : List Edge → List Node → Type 0
 AreBeyond es ns =
-    (i : ℕ) (e : Edge) → slice_get es i ≡ Some e → e.index < beyond_among ns e.node
+    (i : ℕ) (e : Edge) → slice_get es i ≡ Some e → 0 < e.node → e.index < beyond_among ns e.node
 
 -- The nodes are a tree, with bounds of their children.
 pub record IsTree (t : Nodes) : Type 0 where
   pub rooted : IsRooted 1 (edges_in t)
+  pub narrow : AreNarrow (edges_in t)
   pub beyond : AreBeyond (edges_in t) (nodes_in t)
 
 -- Nodes may have come to a tree, and no fact.
 pub record HasMoreNodes (old new : Nodes) : Type 0 where
   pub more : List Edge
   pub edges : edges_in new ≡ edges_in old ++ more
-  pub facts : (x : VarId) → facts_in_tree x new ≡ facts_in_tree x old
+  pub facts : (b : Bool) → facts_in_tree b new ≡ facts_in_tree b old
 
 -- The bound of a node is past this index, and the rest is as it was.
 pub record IsRaised (old : Nodes) (node index : ℕ) (new : Nodes) : Type 0 where
   pub tree : IsTree new
   pub edges : edges_in new ≡ edges_in old
   pub long : length (nodes_in new) ≡ length (nodes_in old)
-  pub facts : (x : VarId) → facts_in_tree x new ≡ facts_in_tree x old
-  pub bound : index < beyond_among (nodes_in new) node
+  pub facts : (b : Bool) → facts_in_tree b new ≡ facts_in_tree b old
+  pub bound : 0 < node → index < beyond_among (nodes_in new) node
 
 abbrev pub lacks_below : Option ℕ → (ℕ → Bool) → Bool
 lacks_below None f = false
@@ -141,36 +160,41 @@ lacks_way es ns [] n = false
 lacks_way es ns (k ∷ ks) n =
     lacks_item (shape_among ns n) k || lacks_below (child es n k) (lacks_way es ns ks)
 
--- what is kept of an item of the root
-abbrev pub item_shape : Nodes → ℕ → Option Shape
-item_shape t k = shape_found (nodes_in t) (node_from (edges_in t) (k ∷ []) 0)
+-- a shape on the way of a path has no item with the next of its indices
+abbrev pub lacks_path : List Edge → List Node → Path → Bool
+lacks_path es ns p = lacks_below (child es 0 p.var.number) (lacks_way es ns p.at)
+
+-- what is kept of an item of the variable with this number
+abbrev pub item_shape : Nodes → (number : ℕ) → ℕ → Option Shape
+item_shape t v k = shape_found (nodes_in t) (node_from (edges_in t) (v ∷ k ∷ []) 0)
 
 -- the items of the variable's value with lesser indices are numbers and truths
 abbrev pub ArePlainBelow : (count : ℕ) → VarId → List Fact → Type 0
 ArePlainBelow count x fs =
     (k : ℕ) → k < count → IsNumberOrTruth (kept_shape fs (path_along x (k ∷ [])))
 
--- the items of the root with lesser indices are numbers and truths
-abbrev pub ArePlainItems : (count : ℕ) → Nodes → Type 0
-ArePlainItems count t = (k : ℕ) → k < count → IsNumberOrTruth (item_shape t k)
+-- the same, as the nodes tell it of the variable with this number
+abbrev pub ArePlainItems : (count number : ℕ) → Nodes → Type 0
+ArePlainItems count v t = (k : ℕ) → k < count → IsNumberOrTruth (item_shape t v k)
 
--- The root is a list that has an item with this index, of which nothing is kept.
-pub record LacksShape (t : Nodes) (index : ℕ) : Type 0 where
+-- The variable with this number is a list that has an item with this index, of which nothing is
+-- kept.
+pub record LacksShape (t : Nodes) (number index : ℕ) : Type 0 where
   pub count : ℕ
-  pub list : shape_among (nodes_in t) 0 ≡ Some (Items count)
+  pub list : shape_found (nodes_in t) (node_from (edges_in t) (number ∷ []) 0) ≡ Some (Items count)
   pub within : index < count
-  pub none : item_shape t index ≡ None
+  pub none : item_shape t number index ≡ None
 
--- The facts are kept in a tree beside those that were, where they are all of one variable and
+-- The facts are kept in a tree beside those that were, where they are of variables of one kind and
 -- don't clash.
 abbrev pub KeepsAll : Nodes → List Fact → Nodes → Type 0
 KeepsAll old fs new =
-    (x : VarId) → AreOf x fs → NoClash (facts_in_tree x old ++ fs)
-    → NoClash (facts_in_tree x new)
-    × HaveSameShapes (facts_in_tree x new) (facts_in_tree x old ++ fs)
+    (b : Bool) → AreOfKind b fs → NoClash (facts_in_tree b old ++ fs)
+    → NoClash (facts_in_tree b new)
+    × HaveSameShapes (facts_in_tree b new) (facts_in_tree b old ++ fs)
 
 -- each fact's path leads to the node with the number beside it
 abbrev pub AreWays : List Edge → List Fact → List ℕ → Type 0
 AreWays es [] ns = Unit {0}
 AreWays es (f ∷ fs) [] = ⊥
-AreWays es (f ∷ fs) (n ∷ ns) = (node_from es f.path.at 0 ≡ Some n) × AreWays es fs ns
+AreWays es (f ∷ fs) (n ∷ ns) = (node_from es (way_of f.path) 0 ≡ Some n) × AreWays es fs ns

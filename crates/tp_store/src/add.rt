@@ -4,16 +4,14 @@ ghost use Rattle.tp_value.specs.Read.{tree};
 ghost use Rattle.tp_value.specs.declared.value.Shape.TheVariants as shape;
 ghost use Rattle.tp_store.specs.Facts.{facts_at, fact};
 ghost use Rattle.tp_store.specs.Known.{addition, adds, new_facts, IsVariableOf, NoClash};
-ghost use Rattle.tp_store.specs.Entries.{parts_in, facts_there, HasGrown};
-ghost use Rattle.tp_store.specs.FactMap.{AreOf, AreOfOne};
+ghost use Rattle.tp_store.specs.FactMap.{AreOf, AreOfKind};
 ghost use Rattle.tp_store.specs.KeptValue.{AreOfValue};
 ghost use Rattle.tp_store.specs.Answers.{Adds, IsRefusal};
 ghost use Rattle.tp_store.specs.Changes.{IsSoundStore, AddsFacts, HaveSameShapes};
 
-use crate::entry::{Entry, touch};
 use crate::fact_map::FactMap;
 use crate::full::{go_to, item_path};
-use crate::store::Store;
+use crate::store::{Store, part};
 use std::alloc::{AllocError, AllocFailed, Global};
 use std::rc::Rc;
 use tp_value::{Fact, Facts, NoMemory, Path, Shape, Value, VarId, is_within_list_limit};
@@ -135,10 +133,11 @@ fn list_of_variable(alloc: Global, path: &Path, value: Value) -> Result<Option<R
     Ok(Some(Rc::new(alloc, value)?))
 }
 
-// Whether facts can be added to those that are kept of their variable.
+// Whether facts can be added to those that are kept.
 fn check_in(alloc: Global, kept: &FactMap, facts: &[Fact]) -> Result<(), AddRefusal>
-    ensures ok { OnOk result (addition kept.now facts.now ≡ adds (new_facts kept.now facts.now)) }
-    ensures refused { IfErr result (IsRefusal (addition kept.now facts.now)) }
+    ensures ok { OnOk result
+        (addition kept.now.facts facts.now ≡ adds (new_facts kept.now.facts facts.now)) }
+    ensures refused { IfErr result (IsRefusal (addition kept.now.facts facts.now)) }
 {
     for fact in facts {
         if let Some(kept) = kept.first_clash(alloc, fact)? {
@@ -149,13 +148,19 @@ fn check_in(alloc: Global, kept: &FactMap, facts: &[Fact]) -> Result<(), AddRefu
     Ok(())
 }
 
-// Those of the facts that are new to what is kept of their variable, or the refusal of one that clashes.
-fn news_in(alloc: Global, kept: &FactMap, facts: Vec<Fact>) -> Result<Vec<Fact>, AddRefusal>
-    ensures added { IfOk result (λ news. addition kept.now facts.items ≡ adds news.items) }
-    ensures refused { IfErr result (IsRefusal (addition kept.now facts.items)) }
-    ensures apart { NoClash kept.now }
+// Those of a variable's facts that are new to what is kept, or the refusal of one that clashes.
+fn news_in(
+    alloc: Global,
+    kept: &FactMap,
+    var: VarId,
+    facts: Vec<Fact>,
+) -> Result<Vec<Fact>, AddRefusal>
+    requires { AreOf var facts.items }
+    ensures added { IfOk result (λ news. addition kept.now.facts facts.items ≡ adds news.items) }
+    ensures refused { IfErr result (IsRefusal (addition kept.now.facts facts.items)) }
+    ensures apart { NoClash kept.now.facts }
 {
-    if kept.takes_all(facts.as_slice()) {
+    if kept.takes_all(var, facts.as_slice()) {
         return Ok(facts);
     }
     check_in(alloc, kept, facts.as_slice())?;
@@ -163,8 +168,8 @@ fn news_in(alloc: Global, kept: &FactMap, facts: Vec<Fact>) -> Result<Vec<Fact>,
     Ok(news)
 }
 
-// Adds facts of one variable, which don't clash with each other, to those that are kept of it. Where they are those of a value of the
-// whole variable, it is kept beside them.
+// Adds facts of one variable, which don't clash with each other, to those that are kept. Where they are those of a value of the whole
+// variable, it is kept beside them.
 fn add_in(
     alloc: Global,
     kept: &mut FactMap,
@@ -172,49 +177,21 @@ fn add_in(
     facts: Vec<Fact>,
     value: Option<Rc<Value>>,
 ) -> Result<Facts, AddRefusal>
+    requires kind { var.lasting ≡ kept.old.lasting }
+    requires filed { AreOf var facts.items }
     requires apart { NoClash facts.items }
     requires value { AreOfValue var facts.items value }
-    requires of_one { AreOfOne (kept.old ++ facts.items) }
-    ensures added { IfOk result (λ news. addition kept.old facts.items ≡ adds news) }
-    ensures refused { IfErr result (IsRefusal (addition kept.old facts.items)) }
-    ensures apart { IfOk result (λ news. NoClash kept.new) }
-    ensures ok { IfOk result (λ news. HaveSameShapes kept.new (kept.old ++ news)) }
+    ensures added { IfOk result (λ news. addition kept.old.facts facts.items ≡ adds news) }
+    ensures refused { IfErr result (IsRefusal (addition kept.old.facts facts.items)) }
+    ensures kind { kept.new.lasting ≡ kept.old.lasting }
+    ensures of_kind { IfOk result (λ news. AreOfKind kept.new.lasting kept.new.facts) }
+    ensures apart { IfOk result (λ news. NoClash kept.new.facts) }
+    ensures ok { IfOk result (λ news. HaveSameShapes kept.new.facts (kept.old.facts ++ news)) }
     ensures err { OnErr result (kept.new ≡ kept.old) }
 {
-    let news = news_in(alloc, kept, facts)?;
-    kept.add(alloc, news.as_slice())?;
-    if let Some(value) = value {
-        kept.keep_value(var, value);
-    }
+    let news = news_in(alloc, kept, var, facts)?;
+    kept.add(alloc, var, news.as_slice(), value)?;
     Ok(Facts { items: news })
-}
-
-// Adds facts of the variable.
-fn add_at(
-    alloc: Global,
-    entries: &mut [Entry],
-    var: VarId,
-    facts: Vec<Fact>,
-    value: Option<Rc<Value>>,
-) -> Result<Facts, AddRefusal>
-    requires number { var.number < length entries.old }
-    requires apart { NoClash facts.items }
-    requires value { AreOfValue var facts.items value }
-    requires of_one { AreOfOne
-        (facts_there (slice_get (parts_in entries.old) var.number) ++ facts.items) }
-    ensures added { IfOk result (λ news.
-        addition (facts_there (slice_get (parts_in entries.old) var.number)) facts.items
-        ≡ adds news) }
-    ensures refused { IfErr result
-        (IsRefusal
-        (addition (facts_there (slice_get (parts_in entries.old) var.number)) facts.items)) }
-    ensures ok { IfOk result (λ news.
-        HasGrown (parts_in entries.old) var.number news (parts_in entries.new)) }
-    ensures err { OnErr result (parts_in entries.new ≡ parts_in entries.old) }
-{
-    let entry = &mut entries[var.number as usize];
-    let news = add_in(alloc, &mut entry.facts, var, facts, value)?;
-    Ok(news)
 }
 
 impl Store {
@@ -337,7 +314,7 @@ impl Store {
         ensures ok { OnOk result (Adds (addition self.now.facts facts.now)) }
         ensures refused { IfErr result (IsRefusal (addition self.now.facts facts.now)) }
     {
-        check_in(self.alloc, &self.entries[var.number as usize].facts, facts)
+        check_in(self.alloc, part(&self.state, &self.fixed, var.lasting), facts)
     }
 
     // Adds facts of one variable, which don't clash with each other. Where they are those of a value of the whole variable, it is kept
@@ -358,9 +335,11 @@ impl Store {
         ensures err { OnErr result (self.new ≡ self.old) }
         ensures sound { IsSoundStore self.new }
     {
-        let alloc = self.alloc;
-        touch(self.entries.as_slice(), var.number, &mut self.touched)?;
-        let news = add_at(alloc, self.entries.as_mut_slice(), var, facts, value)?;
+        if var.lasting {
+            let news = add_in(self.alloc, &mut self.fixed, var, facts, value)?;
+            return Ok(news);
+        }
+        let news = add_in(self.alloc, &mut self.state, var, facts, value)?;
         Ok(news)
     }
 }

@@ -1,64 +1,67 @@
-// The facts of one variable, found by their paths.
-ghost use Rattle.std.specs.Prelude.{◌≡◌, ◌<◌, ◌^◌, ◌++◌, ◌↔◌, [], Bool, true, false, None, Some, IfOk, OnOk, OnErr, IsTrue, ℕ, suc};
+// Facts, found by their paths.
+ghost use Rattle.std.specs.Prelude.{◌≡◌, ◌<◌, ◌^◌, ◌++◌, [], nat_eq, true, false, None, Some, IfOk, OnOk, OnErr, IsTrue, ℕ, suc};
+ghost use Rattle.indexmap.specs.IndexMap.{get};
 ghost use Rattle.std.specs.Option.{option_copied};
 ghost use Rattle.tp_store.specs.Facts.{kept_shape, is_excluded, has_item, item_path};
 ghost use Rattle.tp_store.specs.Known.{NoClash, addition, adds, deepest, first_clash, full, new_facts, open_at, value, whole};
 ghost use Rattle.tp_store.specs.Changes.{HaveSameShapes};
-ghost use Rattle.tp_store.specs.FactMap.{AreOfOne, IsNew, IsNumberOrTruth};
-ghost use Rattle.tp_store.specs.Nodes.{edges_in, node_from, facts_in_tree, item_shape, path_along, IsTree, ArePlainItems, LacksShape};
-ghost use Rattle.tp_store.specs.KeptValue.{SayWhole};
+ghost use Rattle.tp_store.specs.FactMap.{facts_among, AreOf, AreOfKind, IsNewFact, IsNumberOrTruth};
+ghost use Rattle.tp_store.specs.Nodes.{edges_in, node_from, facts_in_tree, item_shape, path_along, way_of, IsTree, ArePlainItems, LacksShape};
+ghost use Rattle.tp_store.specs.KeptValue.{CountsPlain, IsSaidWith, Replaces};
 ghost use Rattle.tp_value.specs.Read.{tree};
-ghost use Rattle.tp_value.specs.Limits.{is_within_list_limit};
 ghost use Rattle.std.specs.declared.rc.Rc.{Rc};
 ghost use Rattle.std.specs.declared.alloc.Global.{Global};
 ghost use Rattle.tp_value.specs.declared.value.Value.{Value as ValueSeen};
 
 use crate::clash::{clashes, is_earlier, same_shape};
-use crate::nodes::{Nodes, copy_facts, keep_facts};
+use crate::nodes::{Nodes, Which, copy_facts, keep_facts};
+use indexmap::IndexMap;
 use std::alloc::Global;
 use std::marker::Model;
 use std::rc::Rc;
 use tp_value::{Fact, NoMemory, Path, Shape, Value, VarId};
 
-/// Facts of one variable without a clash, each found by its path. What is known of a path and of what lies around it takes a look-up for
-/// each of its indices; all facts are looked at only where one may clash with a new one.
+/// What is remembered of a variable that is a list: that so many of its items, from the first on, are numbers and truths (more may be so);
+/// and its value, where it was given as a whole, which is read without a look at its facts.
+#[derive(Drop)]
+pub struct Remembered {
+    pub plain: u32,
+    pub value: Option<Rc<Value>>,
+}
+
+/// Facts of state variables, or of static ones, without a clash, each found by its path. What is known of a path and of what lies around it
+/// takes a look-up for each of its indices; all facts of a variable are looked at only where one may clash with a new one.
 #[derive(Drop)]
 pub struct FactMap {
-    // The variable of the facts; where there is no fact, any.
-    var: VarId,
+    // Whether the variables are static.
+    lasting: bool,
     // The shape of each kept path. Where memory ran out, there may be nodes that lead to no fact.
     nodes: Nodes,
     // The greatest number of indices of a kept path.
     depth: u64,
-    // So many items of the variable's value, from the first on, are numbers and truths. More may be so.
-    plain: u32,
-    empty: bool,
-    // The value that the variable was given as a whole, where it is a list: it is read without a look at the facts.
-    value: Option<Rc<Value>>,
+    // What is remembered of variables, by their numbers.
+    lists: IndexMap<u64, Remembered>,
 }
 
 impl Model for FactMap {
-    ghost use Rattle.std.specs.Prelude.{List};
-    ghost use Rattle.tp_value.specs.declared.path.Fact.{Fact};
+    ghost use Rattle.tp_store.specs.FactMap.{FactsOfKind};
 
-    ghost Value = { List Fact };
+    ghost Value = { FactsOfKind };
 
-    ghost use Rattle.std.specs.Prelude.{◌≡◌, ◌<◌, ◌^◌};
+    ghost use Rattle.std.specs.Prelude.{◌≡◌, ◌<◌, ◌^◌, nat_eq};
+    ghost use Rattle.indexmap.specs.IndexMap.{get};
     ghost use Rattle.tp_store.specs.Known.{NoClash, deepest};
-    ghost use Rattle.tp_store.specs.FactMap.{is_nil};
-    ghost use Rattle.tp_store.specs.Nodes.{facts_in_tree, ArePlainBelow, IsTree};
-    ghost use Rattle.tp_store.specs.KeptValue.{IsSaid};
+    ghost use Rattle.tp_store.specs.Nodes.{facts_in_tree, IsTree};
+    ghost use Rattle.tp_store.specs.KeptValue.{AreRemembered};
 
-    ghost view = { λ m. facts_in_tree m.var m.nodes };
+    ghost view = { λ m. record { lasting = m.lasting; facts = facts_in_tree m.lasting m.nodes } };
 
     ghost invariant = { λ m.
-        NoClash (facts_in_tree m.var m.nodes)
+        NoClash (facts_in_tree m.lasting m.nodes)
         × IsTree m.nodes
-        × (m.depth ≡ deepest (facts_in_tree m.var m.nodes))
+        × (m.depth ≡ deepest (facts_in_tree m.lasting m.nodes))
         × (m.depth < 2 ^ 63)
-        × (m.empty ≡ is_nil (facts_in_tree m.var m.nodes))
-        × ArePlainBelow m.plain m.var (facts_in_tree m.var m.nodes)
-        × IsSaid m.value m.var (facts_in_tree m.var m.nodes) };
+        × AreRemembered (get nat_eq m.lists) m.lasting (facts_in_tree m.lasting m.nodes) };
 }
 
 // The greatest number of indices of a path of these facts.
@@ -93,20 +96,20 @@ fn is_plain(shape: Option<Shape>) -> bool
     }
 }
 
-// Whether an item of the root is a number or a truth. One that is past all children isn't looked up.
-fn has_plain(nodes: &Nodes, index: u32) -> bool
-    ensures { IsTrue result → IsNumberOrTruth (item_shape nodes.now index) }
+// Whether an item of the variable with that number is a number or a truth.
+fn has_plain(nodes: &Nodes, number: u64, index: u32) -> bool
+    ensures { IsTrue result → IsNumberOrTruth (item_shape nodes.now number index) }
 {
-    u64::from(index) < nodes.beyond() && is_plain(nodes.kept(&[index]))
+    is_plain(nodes.item(number, index))
 }
 
-// How many items of the root, from the first on, are numbers and truths, where so many are.
-fn count_plain(nodes: &Nodes, from: u32) -> u32
-    requires { ArePlainItems from nodes.now }
-    ensures { ArePlainItems result nodes.now }
+// How many of its items, from the first on, are numbers and truths, where so many are.
+fn count_plain(nodes: &Nodes, number: u64, from: u32) -> u32
+    requires { ArePlainItems from number nodes.now }
+    ensures { ArePlainItems result number nodes.now }
 {
     let mut count = from;
-    'items: while has_plain(nodes, count) {
+    'items: while has_plain(nodes, number, count) {
         let Some(next) = count.checked_add(1) else {
             return count;
         };
@@ -115,34 +118,58 @@ fn count_plain(nodes: &Nodes, from: u32) -> u32
     count
 }
 
-// The same after this fact came, which may be of the next such item. That of another item leaves the count as it is.
-fn plain_after(nodes: &Nodes, from: u32, fact: &Fact) -> u32
-    requires { ArePlainItems from nodes.now }
-    ensures { ArePlainItems result nodes.now }
+// The same after these facts of the variable came, of which the first may be of the next such item. That of another item leaves the count
+// as it is.
+fn plain_after(nodes: &Nodes, number: u64, from: u32, news: &[Fact]) -> u32
+    requires { ArePlainItems from number nodes.now }
+    ensures { ArePlainItems result number nodes.now }
 {
-    match fact.path.at.items.as_slice() {
-        [index] if *index == from => count_plain(nodes, from),
+    let Some(first) = news.first() else {
+        return from;
+    };
+    match first.path.at.items.as_slice() {
+        [index] if *index == from => count_plain(nodes, number, from),
         _ => from,
     }
 }
 
-// Whether the root is a list that has an item with this index, of which nothing is kept.
-fn lacks_shape(nodes: &Nodes, index: u32) -> bool
-    ensures { IsTrue result → LacksShape nodes.now index }
+// Whether the variable with that number is a list that has an item with this index, of which nothing is kept.
+fn lacks_shape(nodes: &Nodes, number: u64, index: u32) -> bool
+    ensures { IsTrue result → LacksShape nodes.now number index }
 {
-    match nodes.shape(0) {
-        Some(Shape::Items(count)) => index < count && nodes.kept(&[index]).is_none(),
+    match nodes.variable(number) {
+        Some(Shape::Items(count)) => index < count && nodes.item(number, index).is_none(),
         Some(Shape::Num(_) | Shape::Truth(_)) | None => false,
     }
+}
+
+// How many of the variable's items are remembered to be numbers and truths.
+fn plain_of(lists: &IndexMap<u64, Remembered>, number: u64) -> u32
+    ensures { CountsPlain (get nat_eq lists.now) number result }
+{
+    match lists.get(&number) {
+        Some(kept) => kept.plain,
+        None => 0,
+    }
+}
+
+// Remembers this of the variable, where it says anything and memory is there, and nothing else of it.
+fn remember(lists: &mut IndexMap<u64, Remembered>, number: u64, now: Remembered)
+    ensures { Replaces (get nat_eq lists.old) number now (get nat_eq lists.new) }
+{
+    if now.plain == 0 && now.value.is_none() && !lists.contains_key(&number) {
+        return;
+    }
+    let _ = lists.insert(number, now);
 }
 
 // Whether a fact that is kept may clash with one whose path leads to the node with that number.
 fn may_clash_at(nodes: &Nodes, number: u64, fact: &Fact) -> bool
     requires tree { IsTree nodes.now }
-    requires no_clash { NoClash (facts_in_tree fact.now.path.var nodes.now) }
-    requires way { node_from (edges_in nodes.now) fact.now.path.at 0 ≡ Some number }
+    requires no_clash { NoClash (facts_in_tree fact.now.path.var.lasting nodes.now) }
+    requires way { node_from (edges_in nodes.now) (way_of fact.now.path) 0 ≡ Some number }
     ensures { result ≡ false
-        → first_clash (facts_in_tree fact.now.path.var nodes.now) fact.now ≡ None }
+        → first_clash (facts_in_tree fact.now.path.var.lasting nodes.now) fact.now ≡ None }
 {
     let _count = nodes.count();
     let Some(node) = nodes.node(number) else {
@@ -154,33 +181,33 @@ fn may_clash_at(nodes: &Nodes, number: u64, fact: &Fact) -> bool
     if !has_all(fact.shape, node.beyond) {
         return true;
     }
-    nodes.lacks(fact.path.at.items.as_slice())
+    nodes.lacks(&fact.path)
 }
 
-// Whether a fact that is kept may clash with this one, of the same variable.
+// Whether a fact that is kept may clash with this one, of a variable of the same kind.
 fn may_clash_in(nodes: &Nodes, fact: &Fact) -> bool
     requires tree { IsTree nodes.now }
-    requires no_clash { NoClash (facts_in_tree fact.now.path.var nodes.now) }
+    requires no_clash { NoClash (facts_in_tree fact.now.path.var.lasting nodes.now) }
     ensures { result ≡ false
-        → first_clash (facts_in_tree fact.now.path.var nodes.now) fact.now ≡ None }
+        → first_clash (facts_in_tree fact.now.path.var.lasting nodes.now) fact.now ≡ None }
 {
     let _count = nodes.count();
-    match nodes.find(fact.path.at.items.as_slice()) {
+    match nodes.find(&fact.path) {
         Some(number) => may_clash_at(nodes, number, fact),
-        None => nodes.lacks(fact.path.at.items.as_slice()),
+        None => nodes.lacks(&fact.path),
     }
 }
 
-// Whether this fact, of the same variable, is new and clashes with none that is kept, where that is seen without a node of its own.
+// Whether this fact, of a variable of the same kind, is new and clashes with none that is kept, where that is seen without a node of its own.
 fn is_new_in(nodes: &Nodes, fact: &Fact) -> bool
     requires tree { IsTree nodes.now }
-    requires no_clash { NoClash (facts_in_tree fact.now.path.var nodes.now) }
-    ensures { IsTrue result → IsNew (facts_in_tree fact.now.path.var nodes.now) fact.now }
+    requires no_clash { NoClash (facts_in_tree fact.now.path.var.lasting nodes.now) }
+    ensures { IsTrue result → IsNewFact (facts_in_tree fact.now.path.var.lasting nodes.now) fact.now }
 {
     let _count = nodes.count();
-    match nodes.find(fact.path.at.items.as_slice()) {
+    match nodes.find(&fact.path) {
         Some(_) => false,
-        None => !nodes.lacks(fact.path.at.items.as_slice()),
+        None => !nodes.lacks(&fact.path),
     }
 }
 
@@ -203,43 +230,31 @@ fn find_clash<'a>(facts: &'a [Fact], fact: &Fact) -> Option<&'a Fact>
 
 impl FactMap {
     /// No fact.
-    pub fn new(alloc: Global) -> FactMap
-        ensures { result ≡ [] }
+    pub fn new(alloc: Global, lasting: bool) -> FactMap
+        ensures { result ≡ record { lasting = lasting; facts = [] } }
     {
         FactMap {
-            var: VarId {
-                number: 0,
-                lasting: false,
-            },
+            lasting,
             nodes: Nodes::new(alloc),
             depth: 0,
-            plain: 0,
-            empty: true,
-            value: None,
+            lists: IndexMap::new(alloc),
         }
-    }
-
-    /// Whether there is no fact.
-    pub fn is_empty(&self) -> bool
-        ensures { IsTrue result ↔ (self.now ≡ []) }
-    {
-        self.empty
     }
 
     /// The shape that is kept for the path.
     pub fn shape(&self, path: &Path) -> Option<Shape>
-        ensures { result ≡ kept_shape self.now path.now }
+        ensures { result ≡ kept_shape self.now.facts path.now }
     {
-        if path.var != self.var {
+        if path.var.lasting != self.lasting {
             return None;
         }
         let _count = self.nodes.count();
-        self.nodes.kept(path.at.items.as_slice())
+        self.nodes.kept(path)
     }
 
     /// The greatest number of indices of a kept path.
     pub fn depth(&self) -> u64
-        ensures value { result ≡ deepest self.now }
+        ensures value { result ≡ deepest self.now.facts }
         ensures bound { result < 2 ^ 63 }
     {
         self.depth
@@ -247,23 +262,25 @@ impl FactMap {
 
     /// Whether a fact gives a proper prefix of the path a shape that has no such element.
     pub fn excludes(&self, path: &Path) -> bool
-        ensures { result ≡ is_excluded self.now path.now }
+        ensures { result ≡ is_excluded self.now.facts path.now }
     {
         let _count = self.nodes.count();
-        path.var == self.var && self.nodes.lacks(path.at.items.as_slice())
+        path.var.lasting == self.lasting && self.nodes.lacks(path)
     }
 
     /// The first open item of the value at the path, where it is found without a look at the items before it.
     pub fn open_item(&self, path: &Path) -> Option<u32>
         ensures { (k d : ℕ) → result ≡ Some k
-            → whole (suc (suc d)) self.now path.now ≡ open_at (item_path path.now k) }
+            → whole (suc (suc d)) self.now.facts path.now ≡ open_at (item_path path.now k) }
     {
-        if path.var != self.var || !path.at.items.as_slice().is_empty() {
+        if path.var.lasting != self.lasting || !path.at.items.as_slice().is_empty() {
             return None;
         }
         let _count = self.nodes.count();
-        if lacks_shape(&self.nodes, self.plain) {
-            Some(self.plain)
+        let number = path.var.number;
+        let plain = plain_of(&self.lists, number);
+        if lacks_shape(&self.nodes, number, plain) {
+            Some(plain)
         } else {
             None
         }
@@ -272,42 +289,35 @@ impl FactMap {
     /// The value of the whole variable, where it is kept beside the facts.
     pub fn value(&self, var: VarId) -> Option<&Rc<Value>>
         ensures { (v : Rc ValueSeen Global) → option_copied result ≡ Some v
-            → full self.now (path_along var []) ≡ value (tree v.value) }
+            → full self.now.facts (path_along var []) ≡ value (tree v.value) }
     {
-        if var != self.var {
+        if var.lasting != self.lasting {
             return None;
         }
-        self.value.as_ref()
-    }
-
-    /// Keeps the value of the whole variable beside its facts, which say it.
-    pub fn keep_value(&mut self, var: VarId, value: Rc<Value>)
-        requires said { SayWhole self.old (path_along var []) (tree value.value) }
-        requires within { is_within_list_limit (tree value.value) ≡ true }
-        ensures { self.new ≡ self.old }
-    {
-        if var == self.var {
-            self.value = Some(value);
+        match self.lists.get(&var.number) {
+            Some(kept) => kept.value.as_ref(),
+            None => None,
         }
     }
 
     // Whether a fact may clash with this one. Where memory ran out, none may do so after all.
     fn may_clash(&self, fact: &Fact) -> bool
-        ensures { result ≡ false → first_clash self.now fact.now ≡ None }
+        ensures { result ≡ false → first_clash self.now.facts fact.now ≡ None }
     {
-        fact.path.var == self.var && may_clash_in(&self.nodes, fact)
+        fact.path.var.lasting == self.lasting && may_clash_in(&self.nodes, fact)
     }
 
-    /// Of the facts that clash with this one, that with the fewest indices, and among these with the lesser ones. All are looked at only
-    /// where one may clash.
+    /// Of the facts that clash with this one, that with the fewest indices, and among these with the lesser ones. Those of its variable are
+    /// looked at only where one may clash.
     pub fn first_clash(&self, alloc: Global, fact: &Fact) -> Result<Option<Fact>, NoMemory>
-        ensures { IfOk result (λ first. first ≡ first_clash self.now fact.now) }
+        ensures { IfOk result (λ first. first ≡ first_clash self.now.facts fact.now) }
     {
+        let _ = &self.lasting;
         if !self.may_clash(fact) {
             return Ok(None);
         }
         let mut facts = Vec::new(alloc);
-        self.copy_to(alloc, &mut facts)?;
+        self.copy_to(alloc, Which::Of(fact.path.var.number), &mut facts)?;
         let Some(first) = find_clash(facts.as_slice(), fact) else {
             return Ok(None);
         };
@@ -317,17 +327,19 @@ impl FactMap {
 
     // Whether the fact is new and clashes with none of these, where that is seen by one look.
     fn is_new(&self, fact: &Fact) -> bool
-        ensures { IsTrue result → IsNew self.now fact.now }
+        ensures { IsTrue result → IsNewFact self.now.facts fact.now }
     {
-        fact.path.var == self.var && is_new_in(&self.nodes, fact)
+        fact.path.var.lasting == self.lasting && is_new_in(&self.nodes, fact)
     }
 
-    /// Whether it is seen by one look at most that all of these facts are new and clash with none that is kept.
-    pub fn takes_all(&self, facts: &[Fact]) -> bool
-        ensures all { IsTrue result → addition self.now facts.now ≡ adds facts.now }
-        ensures apart { NoClash self.now }
+    /// Whether it is seen by a look or two that all of these facts of a variable are new and clash with none that is kept.
+    pub fn takes_all(&self, var: VarId, facts: &[Fact]) -> bool
+        requires { AreOf var facts.now }
+        ensures all { IsTrue result → addition self.now.facts facts.now ≡ adds facts.now }
+        ensures apart { NoClash self.now.facts }
     {
-        if self.empty {
+        let _count = self.nodes.count();
+        if !self.nodes.leads_to(var.number) {
             return true;
         }
         match facts {
@@ -338,10 +350,10 @@ impl FactMap {
 
     /// Those facts of the list whose paths have no shape yet.
     pub fn new_of(&self, alloc: Global, facts: Vec<Fact>) -> Result<Vec<Fact>, NoMemory>
-        ensures news { IfOk result (λ news. news.items ≡ new_facts self.now facts.items) }
-        ensures apart { NoClash self.now }
+        ensures news { IfOk result (λ news. news.items ≡ new_facts self.now.facts facts.items) }
+        ensures apart { NoClash self.now.facts }
     {
-        let _ = &self.var;
+        let _ = &self.depth;
         let mut news = Vec::new(alloc);
         for fact in facts {
             if self.shape(&fact.path).is_none() {
@@ -351,43 +363,49 @@ impl FactMap {
         Ok(news)
     }
 
-    /// Appends equal facts to all of these.
-    pub fn copy_to(&self, alloc: Global, facts: &mut Vec<Fact>) -> Result<(), NoMemory>
-        ensures { OnOk result (facts.new.items ≡ facts.old.items ++ self.now) }
+    /// Appends equal facts to those of these that are asked for.
+    pub fn copy_to(&self, alloc: Global, which: Which, facts: &mut Vec<Fact>) -> Result<(), NoMemory>
+        ensures { OnOk result
+            (facts.new.items ≡ facts.old.items ++ facts_among which self.now.facts) }
     {
-        copy_facts(alloc, self.var, &self.nodes, facts)
+        copy_facts(alloc, self.lasting, &self.nodes, which, facts)
     }
 
-    /// Adds equal facts of one variable, or none where memory ends. What needs memory comes before the facts are changed.
-    pub fn add(&mut self, alloc: Global, news: &[Fact]) -> Result<(), NoMemory>
-        requires apart { NoClash (self.old ++ news.now) }
-        requires of_one { AreOfOne (self.old ++ news.now) }
-        ensures apart { NoClash self.new }
-        ensures ok { OnOk result (HaveSameShapes self.new (self.old ++ news.now)) }
+    /// Adds equal facts of one variable, or none where memory ends. What needs memory comes before the facts are changed. The value is
+    /// kept beside them, where it is that of the whole variable.
+    pub fn add(
+        &mut self,
+        alloc: Global,
+        var: VarId,
+        news: &[Fact],
+        value: Option<Rc<Value>>,
+    ) -> Result<(), NoMemory>
+        requires kind { var.lasting ≡ self.old.lasting }
+        requires of { AreOf var news.now }
+        requires apart { NoClash (self.old.facts ++ news.now) }
+        requires said { IsSaidWith value var self.old.facts news.now }
+        ensures kind { self.new.lasting ≡ self.old.lasting }
+        ensures of_kind { AreOfKind self.new.lasting self.new.facts }
+        ensures apart { NoClash self.new.facts }
+        ensures ok { OnOk result (HaveSameShapes self.new.facts (self.old.facts ++ news.now)) }
         ensures err { OnErr result (self.new ≡ self.old) }
     {
-        let Some(first) = news.first() else {
-            return Ok(());
-        };
-        let var = first.path.var;
         keep_facts(&mut self.nodes, alloc, news)?;
-        self.var = var;
         self.depth = self.depth.max(depth_of(news));
-        self.empty = false;
         let _count = self.nodes.count();
-        self.plain = plain_after(&self.nodes, self.plain, first);
-        self.value = None;
+        let from = plain_of(&self.lists, var.number);
+        let plain = plain_after(&self.nodes, var.number, from, news);
+        remember(&mut self.lists, var.number, Remembered { plain, value });
         Ok(())
     }
 
-    /// Drops all facts, and gives their memory back.
+    /// Drops all facts, and keeps their room.
     pub fn clear(&mut self)
-        ensures { self.new ≡ [] }
+        ensures kind { self.new.lasting ≡ self.old.lasting }
+        ensures facts { self.new.facts ≡ [] }
     {
         self.nodes.clear();
         self.depth = 0;
-        self.plain = 0;
-        self.empty = true;
-        self.value = None;
+        self.lists.clear();
     }
 }

@@ -1,5 +1,5 @@
 // What is known of the value at a path.
-ghost use Rattle.std.specs.Prelude.{◌≡◌, ◌<◌, ℕ, [], Some, length, IfOk, slice_get};
+ghost use Rattle.std.specs.Prelude.{◌≡◌, ◌<◌, ℕ, Some, length, IfOk};
 ghost use Rattle.std.specs.Option.{option_copied};
 ghost use Rattle.std.specs.declared.rc.Rc.{Rc};
 ghost use Rattle.std.specs.declared.alloc.Global.{Global};
@@ -9,12 +9,10 @@ ghost use Rattle.tp_value.specs.declared.path.Path.{Path as PathSeen};
 ghost use Rattle.tp_store.specs.Known.{full, value, whole, list_of_items, items_known};
 ghost use Rattle.tp_store.specs.Changes.{IsSoundStore};
 ghost use Rattle.tp_store.specs.Facts.{item_path};
-ghost use Rattle.tp_store.specs.Entries.{parts_in, facts_there};
 ghost use Rattle.tp_store.specs.Answers.{full_of, whole_of};
 
-use crate::entry::{Entry, facts_of};
 use crate::fact_map::FactMap;
-use crate::store::Store;
+use crate::store::{Store, part};
 use std::alloc::Global;
 use std::rc::Rc;
 use tp_value::{Items, NoMemory, Path, Shape, Value, is_within_list_limit};
@@ -72,7 +70,7 @@ fn items_at(
     deeper: u64,
 ) -> Result<Found, NoMemory>
     ensures { IfOk result (λ found.
-        whole_of found ≡ list_of_items (items_known (whole deeper facts.now) path.now count 0)) }
+        whole_of found ≡ list_of_items (items_known (whole deeper facts.now.facts) path.now count 0)) }
 {
     let mut items = Vec::new(alloc);
     let mut inner = item_path(path, 0)?;
@@ -89,7 +87,7 @@ fn items_at(
 // The whole value at the path, where no path of the list has as many indices more.
 #[cycle(whole)]
 fn whole_at(alloc: Global, facts: &FactMap, path: &Path, deeper: u64) -> Result<Found, NoMemory>
-    ensures { IfOk result (λ found. whole_of found ≡ whole deeper facts.now path.now) }
+    ensures { IfOk result (λ found. whole_of found ≡ whole deeper facts.now.facts path.now) }
 {
     if deeper == 0 {
         let found = open(path)?;
@@ -119,7 +117,7 @@ fn whole_at(alloc: Global, facts: &FactMap, path: &Path, deeper: u64) -> Result<
 // What is kept of a variable's value at the path.
 fn kept_at<'a>(facts: &'a FactMap, path: &Path) -> Option<&'a Rc<Value>>
     ensures { (v : Rc ValueSeen Global) → option_copied result ≡ Some v
-        → full facts.now path.now ≡ value (tree v.value) }
+        → full facts.now.facts path.now ≡ value (tree v.value) }
 {
     if path.at.items.as_slice().is_empty() {
         facts.value(path.var)
@@ -129,7 +127,7 @@ fn kept_at<'a>(facts: &'a FactMap, path: &Path) -> Option<&'a Rc<Value>>
 }
 
 fn full_in(alloc: Global, facts: &FactMap, path: &Path) -> Result<Known, NoMemory>
-    ensures { IfOk result (λ known. full_of known ≡ full facts.now path.now) }
+    ensures { IfOk result (λ known. full_of known ≡ full facts.now.facts path.now) }
 {
     if let Some(value) = kept_at(facts, path) {
         let value = value.copy(alloc)?;
@@ -150,35 +148,6 @@ fn full_in(alloc: Global, facts: &FactMap, path: &Path) -> Result<Known, NoMemor
     }
 }
 
-// What is known of the value at the path; nothing where its variable has no entry.
-fn known_at(alloc: Global, entries: &[Entry], path: &Path) -> Result<Known, NoMemory>
-    ensures { IfOk result (λ known. full_of known
-        ≡ full (facts_there (slice_get (parts_in entries.now) path.now.var.number)) path.now) }
-{
-    match facts_of(entries, path.var.number) {
-        Some(facts) => {
-            let known = full_in(alloc, facts, path)?;
-            Ok(known)
-        }
-        None => {
-            let path = path.copy()?;
-            Ok(Known::Open(path))
-        }
-    }
-}
-
-// The value at the path, where it is that of a whole variable, which is kept.
-fn kept_value<'a>(entries: &'a [Entry], path: &Path) -> Option<&'a Rc<Value>>
-    ensures { (v : Rc ValueSeen Global) → option_copied result ≡ Some v
-        → full (facts_there (slice_get (parts_in entries.now) path.now.var.number)) path.now
-        ≡ value (tree v.value) }
-{
-    match facts_of(entries, path.var.number) {
-        Some(facts) => kept_at(facts, path),
-        None => None,
-    }
-}
-
 impl Store {
     /// What `full` finds at the path, to be shared, where it stands ready: where the path is a variable, to which this list was added as a
     /// whole. None says nothing of the path.
@@ -187,7 +156,7 @@ impl Store {
             → full self.now.facts path.now ≡ value (tree v.value) }
         ensures sound { IsSoundStore self.now }
     {
-        kept_value(self.entries.as_slice(), path)
+        kept_at(part(&self.state, &self.fixed, path.var.lasting), path)
     }
 
     /// What is known of the value at the path: it has no such element where the shape of a proper prefix leaves none; else the first path,
@@ -196,7 +165,8 @@ impl Store {
         ensures value { IfOk result (λ known. full_of known ≡ full self.now.facts path.now) }
         ensures sound { IsSoundStore self.now }
     {
-        let known = known_at(self.alloc, self.entries.as_slice(), path)?;
+        let facts = part(&self.state, &self.fixed, path.var.lasting);
+        let known = full_in(self.alloc, facts, path)?;
         Ok(known)
     }
 }

@@ -1,10 +1,11 @@
-// The facts of a variable as a tree: a node for each place in its value that a fact speaks of, and for those on the way there.
-ghost use Rattle.std.specs.Prelude.{◌≡◌, ◌<◌, ◌^◌, ◌++◌, [], ◌∷◌, length, slice_get, slice_index_or, Some, None, IfOk, OnOk, OnErr};
+// Facts as a tree of paths: a node for each variable and each place in its value that a fact speaks of, and for those on the way there.
+ghost use Rattle.std.specs.Prelude.{◌≡◌, ◌<◌, ◌^◌, ◌++◌, [], ◌∷◌, length, slice_get, slice_index_or, false, Some, None, IfOk, OnOk, OnErr};
 ghost use Rattle.std.specs.Hash as fed;
 ghost use Rattle.std.specs.Cmp.Rules.{hashing};
 ghost use Rattle.std.specs.List.{IsDistinct};
 ghost use Rattle.std.proofs.Common.{rules};
-ghost use Rattle.tp_store.specs.Nodes.{edge_number, edges_in, nodes_in, child, same_edge, node_from, routes, shape_among, shape_found, beyond_among, lacks_way, with_node, with_shape_at, facts_in_tree, IsRooted, IsTree, HasMoreNodes, IsRaised, AreWays, KeepsAll};
+ghost use Rattle.tp_store.specs.FactMap.{is_among, facts_among};
+ghost use Rattle.tp_store.specs.Nodes.{edge_number, bare_node, edges_in, nodes_in, child, same_edge, node_from, routes, path_of, way_of, shape_among, shape_found, item_shape, lacks_way, lacks_path, with_node, with_shape_at, facts_in_tree, IsTree, HasMoreNodes, IsRaised, AreWays, KeepsAll};
 
 use crate::clash::lacks_item;
 use indexmap::IndexMap;
@@ -12,11 +13,11 @@ use std::alloc::Global;
 use std::hash::{Hash, Hasher};
 use tp_value::{Fact, Indices, NoMemory, Path, Shape, VarId};
 
-/// From a node to its child with this index.
+/// From a node to its child with this index: that of an item, or a variable's number.
 #[derive(Clone, Copy, Debug, PartialEq, Eq)]
 pub struct Edge {
     pub node: u64,
-    pub index: u32,
+    pub index: u64,
 }
 
 // Both numbers as one, of which a hasher takes half the time.
@@ -27,7 +28,7 @@ impl Hash for Edge {
 
     fn hash<H: Hasher>(&self, state: &mut H) {
         let high = self.node.wrapping_mul(1 << 32);
-        state.write_u64(high.wrapping_add(u64::from(self.index)));
+        state.write_u64(high.wrapping_add(self.index));
     }
 }
 
@@ -38,24 +39,45 @@ pub struct Node {
     pub beyond: u64,
 }
 
-/// The root, which is node 0, and the nodes below it, of which the i-th, from 0, is node i + 1 and is found by the edge that leads to it.
+/// Which variables' facts are asked for: of those below a number, or of that with one.
+#[derive(Clone, Copy, Debug, PartialEq, Eq)]
+pub enum Which {
+    Below(u64),
+    Of(u64),
+}
+
+impl Which {
+    // Whether the facts of the variable with that number are asked for.
+    fn has(self, number: u64) -> bool
+        ensures { result ≡ is_among self number }
+    {
+        match self {
+            Which::Below(end) => number < end,
+            Which::Of(one) => number == one,
+        }
+    }
+}
+
+/// The nodes below the root, which is node 0: the i-th of them, from 0, is node i + 1 and is found by the edge that leads to it. The
+/// children of the root are the variables, by their numbers, and those of other nodes are items.
 #[derive(Drop)]
 pub struct Nodes {
-    root: Node,
     below: IndexMap<Edge, Node>,
 }
 
+// A node at which nothing is kept, and which has no children.
+const BARE: Node = Node {
+    shape: None,
+    beyond: 0,
+};
+
 impl Nodes {
-    /// The root alone, without a shape.
+    /// The root alone.
     pub fn new(alloc: Global) -> Nodes
         ensures edges { edges_in result ≡ [] }
-        ensures nodes { nodes_in result ≡ record { shape = None; beyond = 0 } ∷ [] }
+        ensures nodes { nodes_in result ≡ bare_node ∷ [] }
     {
         Nodes {
-            root: Node {
-                shape: None,
-                beyond: 0,
-            },
             below: IndexMap::new(alloc),
         }
     }
@@ -74,7 +96,7 @@ impl Nodes {
         ensures { result ≡ slice_get (nodes_in self.now) number }
     {
         if number == 0 {
-            return Some(self.root);
+            return Some(BARE);
         }
         match self.below.get_index((number - 1) as usize) {
             Some((_, node)) => Some(*node),
@@ -92,15 +114,8 @@ impl Nodes {
         }
     }
 
-    /// A number that the indices of the root's children are less than.
-    pub fn beyond(&self) -> u64
-        ensures { result ≡ beyond_among (nodes_in self.now) 0 }
-    {
-        self.root.beyond
-    }
-
     // The child of a node with that index.
-    fn child(&self, node: u64, index: u32) -> Option<u64>
+    fn child(&self, node: u64, index: u64) -> Option<u64>
         ensures value { result ≡ child (edges_in self.now) node index }
         ensures unique { IsDistinct same_edge (edges_in self.now) }
     {
@@ -111,33 +126,60 @@ impl Nodes {
         }
     }
 
-    /// The node to which these indices lead.
-    pub fn find(&self, at: &[u32]) -> Option<u64>
-        ensures { result ≡ node_from (edges_in self.now) at.now 0 }
+    /// The node to which the path leads.
+    pub fn find(&self, path: &Path) -> Option<u64>
+        ensures { result ≡ node_from (edges_in self.now) (way_of path.now) 0 }
     {
-        let mut node = 0;
-        for index in at {
-            node = self.child(node, *index)?;
+        let mut node = self.child(0, path.var.number)?;
+        for index in path.at.items.as_slice() {
+            node = self.child(node, u64::from(*index))?;
         }
         Some(node)
     }
 
-    /// What is kept at the node to which these indices lead, where there is one.
-    pub fn kept(&self, at: &[u32]) -> Option<Shape>
+    /// What is kept at the node to which the path leads, where there is one.
+    pub fn kept(&self, path: &Path) -> Option<Shape>
         ensures { result
-            ≡ shape_found (nodes_in self.now) (node_from (edges_in self.now) at.now 0) }
+            ≡ shape_found (nodes_in self.now) (node_from (edges_in self.now) (way_of path.now) 0) }
     {
-        match self.find(at) {
+        match self.find(path) {
             Some(number) => self.shape(number),
             None => None,
         }
     }
 
-    /// Whether a shape on the way that these indices lead has no item with the next of them.
-    pub fn lacks(&self, at: &[u32]) -> bool
-        ensures { result ≡ lacks_way (edges_in self.now) (nodes_in self.now) at.now 0 }
+    /// Whether there is a node of the variable with that number.
+    pub fn leads_to(&self, number: u64) -> bool
+        ensures { result ≡ false → child (edges_in self.now) 0 number ≡ None }
     {
-        let mut node = 0;
+        self.child(0, number).is_some()
+    }
+
+    /// What is kept of the variable with that number.
+    pub fn variable(&self, number: u64) -> Option<Shape>
+        ensures { result
+            ≡ shape_found (nodes_in self.now) (node_from (edges_in self.now) (number ∷ []) 0) }
+    {
+        match self.child(0, number) {
+            Some(node) => self.shape(node),
+            None => None,
+        }
+    }
+
+    /// What is kept of an item of the variable with that number.
+    pub fn item(&self, number: u64, index: u32) -> Option<Shape>
+        ensures { result ≡ item_shape self.now number index }
+    {
+        let list = self.child(0, number)?;
+        let item = self.child(list, u64::from(index))?;
+        self.shape(item)
+    }
+
+    // Whether a shape on the way that these indices lead from a node has no item with the next of them.
+    fn lacks_from(&self, from: u64, at: &[u32]) -> bool
+        ensures { result ≡ lacks_way (edges_in self.now) (nodes_in self.now) at.now from }
+    {
+        let mut node = from;
         for i in 0..at.len() {
             if lacks_item(self.shape(node), at[i]) {
                 return true;
@@ -145,7 +187,7 @@ impl Nodes {
             if i + 1 == at.len() {
                 return false;
             }
-            let Some(next) = self.child(node, at[i]) else {
+            let Some(next) = self.child(node, u64::from(at[i])) else {
                 return false;
             };
             node = next;
@@ -153,28 +195,39 @@ impl Nodes {
         false
     }
 
-    // Writes the node over that with the number.
+    /// Whether a shape on the way of the path has no item with the next of its indices.
+    pub fn lacks(&self, path: &Path) -> bool
+        ensures { result ≡ lacks_path (edges_in self.now) (nodes_in self.now) path.now }
+    {
+        match self.child(0, path.var.number) {
+            Some(variable) => self.lacks_from(variable, path.at.items.as_slice()),
+            None => false,
+        }
+    }
+
+    // Writes the node over that with the number, which isn't the root.
     fn set(&mut self, number: u64, node: Node)
-        requires { number < length (nodes_in self.old) }
+        requires below { 0 < number }
+        requires within { number < length (nodes_in self.old) }
         ensures edges { edges_in self.new ≡ edges_in self.old }
         ensures nodes { nodes_in self.new ≡ with_node (nodes_in self.old) number node }
     {
-        if number == 0 {
-            self.root = node;
-            return;
-        }
         if let Some(kept) = self.below.get_index_mut((number - 1) as usize) {
             *kept = node;
         }
     }
 
-    // Raises the bound of a node past that index, where it isn't.
-    fn raise(&mut self, node: u64, index: u32)
+    // Raises the bound of a node past that index of an item, where it isn't. The root has none.
+    fn raise(&mut self, node: u64, index: u64)
         requires tree { IsTree self.old }
         requires from { node < length (nodes_in self.old) }
+        requires narrow { 0 < node → index < 2 ^ 32 }
         ensures { IsRaised self.old node index self.new }
     {
-        let beyond = u64::from(index) + 1;
+        if node == 0 {
+            return;
+        }
+        let beyond = index + 1;
         let Some(parent) = self.node(node) else {
             return;
         };
@@ -190,9 +243,10 @@ impl Nodes {
     }
 
     // Makes the child of a node with that index, which isn't there yet.
-    fn grow(&mut self, node: u64, index: u32) -> Result<u64, NoMemory>
+    fn grow(&mut self, node: u64, index: u64) -> Result<u64, NoMemory>
         requires tree { IsTree self.old }
         requires from { node < length (nodes_in self.old) }
+        requires narrow { 0 < node → index < 2 ^ 32 }
         requires absent { child (edges_in self.old) node index ≡ None }
         ensures tree { IsTree self.new }
         ensures more { HasMoreNodes self.old self.new }
@@ -201,18 +255,15 @@ impl Nodes {
         ensures child { IfOk result (λ n. child (edges_in self.new) node index ≡ Some n) }
     {
         self.raise(node, index);
-        let bare = Node {
-            shape: None,
-            beyond: 0,
-        };
-        self.below.insert(Edge { node, index }, bare)?;
+        self.below.insert(Edge { node, index }, BARE)?;
         Ok(self.below.len() as u64)
     }
 
     // Leads to the child of a node with that index, which is made where it isn't there yet.
-    fn lead(&mut self, node: u64, index: u32) -> Result<u64, NoMemory>
+    fn lead(&mut self, node: u64, index: u64) -> Result<u64, NoMemory>
         requires tree { IsTree self.old }
         requires from { node < length (nodes_in self.old) }
+        requires narrow { 0 < node → index < 2 ^ 32 }
         ensures tree { IsTree self.new }
         ensures more { HasMoreNodes self.old self.new }
         ensures unique { IfOk result (λ n. IsDistinct same_edge (edges_in self.new)) }
@@ -225,18 +276,18 @@ impl Nodes {
         }
     }
 
-    // Leads to the node of these indices; the nodes that aren't there yet are made.
-    fn make_way(&mut self, at: &[u32]) -> Result<u64, NoMemory>
+    // Leads to the node of the path; the nodes that aren't there yet are made.
+    fn make_way(&mut self, path: &Path) -> Result<u64, NoMemory>
         requires { IsTree self.old }
         ensures tree { IsTree self.new }
         ensures more { HasMoreNodes self.old self.new }
         ensures unique { IfOk result (λ n. IsDistinct same_edge (edges_in self.new)) }
-        ensures way { IfOk result (λ n. node_from (edges_in self.new) at.now 0 ≡ Some n) }
+        ensures way { IfOk result (λ n.
+            node_from (edges_in self.new) (way_of path.now) 0 ≡ Some n) }
     {
-        let _count = self.below.len();
-        let mut node = 0;
-        for index in at {
-            node = self.lead(node, *index)?;
+        let mut node = self.lead(0, path.var.number)?;
+        for index in path.at.items.as_slice() {
+            node = self.lead(node, u64::from(*index))?;
         }
         Ok(node)
     }
@@ -250,15 +301,16 @@ impl Nodes {
     {
         let mut ways = Vec::new(alloc);
         for fact in facts {
-            let way = self.make_way(fact.path.at.items.as_slice())?;
+            let way = self.make_way(&fact.path)?;
             ways.push(way)?;
         }
         Ok(ways)
     }
 
-    // Keeps the shape at the node with that number.
+    // Keeps the shape at the node with that number, which isn't the root.
     fn keep(&mut self, number: u64, shape: Shape)
-        requires { number < length (nodes_in self.old) }
+        requires below { 0 < number }
+        requires within { number < length (nodes_in self.old) }
         ensures edges { edges_in self.new ≡ edges_in self.old }
         ensures nodes { nodes_in self.new ≡ with_shape_at (nodes_in self.old) number shape }
     {
@@ -273,34 +325,39 @@ impl Nodes {
         }
     }
 
-    /// Drops all nodes but the root, and its shape.
+    /// Drops all nodes but the root, and keeps their room.
     pub fn clear(&mut self)
         ensures edges { edges_in self.new ≡ [] }
-        ensures nodes { nodes_in self.new ≡ record { shape = None; beyond = 0 } ∷ [] }
+        ensures nodes { nodes_in self.new ≡ bare_node ∷ [] }
     {
-        self.root = Node {
-            shape: None,
-            beyond: 0,
-        };
         self.below.clear();
     }
 
-    /// The indices that lead to the node with that number.
-    pub fn route(&self, alloc: Global, number: u64) -> Result<Indices, NoMemory>
-        requires rooted { IsRooted 1 (edges_in self.now) }
+    /// The path of the node with that number, which isn't the root, of variables of this kind.
+    pub fn path(&self, alloc: Global, lasting: bool, number: u64) -> Result<Path, NoMemory>
+        requires tree { IsTree self.now }
+        requires below { 0 < number }
         requires within { number < length (nodes_in self.now) }
-        ensures { IfOk result (λ at. at ≡ slice_index_or (routes (edges_in self.now)) number []) }
+        ensures { IfOk result (λ p.
+            p ≡ path_of lasting (slice_index_or (routes (edges_in self.now)) number [])) }
     {
-        if number == 0 {
-            return Ok(Indices::new(alloc));
-        }
         let Some((edge, _)) = self.below.get_index((number - 1) as usize) else {
-            return Ok(Indices::new(alloc));
+            unreachable!();
         };
-        let index = edge.index;
-        let mut at = self.route(alloc, edge.node)?;
-        at.items.push(index)?;
-        Ok(at)
+        let Edge { node, index } = *edge;
+        if node == 0 {
+            let at = Indices::new(alloc);
+            return Ok(Path {
+                var: VarId {
+                    number: index,
+                    lasting,
+                },
+                at,
+            });
+        }
+        let mut path = self.path(alloc, lasting, node)?;
+        path.at.items.push(index as u32)?;
+        Ok(path)
     }
 }
 
@@ -325,7 +382,7 @@ pub fn keep_facts(nodes: &mut Nodes, alloc: Global, facts: &[Fact]) -> Result<()
     ensures err { OnErr result (HasMoreNodes nodes.old nodes.new) }
 {
     if let [fact] = facts {
-        let way = nodes.make_way(fact.path.at.items.as_slice())?;
+        let way = nodes.make_way(&fact.path)?;
         keep_all(nodes, &[way], facts);
         return Ok(());
     }
@@ -334,21 +391,25 @@ pub fn keep_facts(nodes: &mut Nodes, alloc: Global, facts: &[Fact]) -> Result<()
     Ok(())
 }
 
-/// Appends the facts that are kept at the nodes, as facts of this variable.
+/// Appends those of the facts that are asked for, as facts of variables of this kind.
 pub fn copy_facts(
     alloc: Global,
-    var: VarId,
+    lasting: bool,
     nodes: &Nodes,
+    which: Which,
     facts: &mut Vec<Fact>,
 ) -> Result<(), NoMemory>
     requires { IsTree nodes.now }
-    ensures { OnOk result (facts.new.items ≡ facts.old.items ++ facts_in_tree var nodes.now) }
+    ensures { OnOk result (facts.new.items
+        ≡ facts.old.items ++ facts_among which (facts_in_tree lasting nodes.now)) }
 {
-    for number in 0..nodes.count() + 1 {
-        if let Some(shape) = nodes.shape(number as u64) {
-            let at = nodes.route(alloc, number as u64)?;
-            let path = Path { var, at };
-            facts.push(Fact { path, shape })?;
+    for number in 0..nodes.count() {
+        let number = number as u64 + 1;
+        if let Some(shape) = nodes.shape(number) {
+            let path = nodes.path(alloc, lasting, number)?;
+            if which.has(path.var.number) {
+                facts.push(Fact { path, shape })?;
+            }
         }
     }
     Ok(())

@@ -1,27 +1,29 @@
-// What is known of a state, by variable.
+// What is known of a state.
 ghost use Rattle.std.specs.Prelude.{◌≡◌, ◌++◌, ◌∷◌, [], length, IfOk, OnOk, OnErr};
 ghost use Rattle.std.specs.Option.{option_copied};
 ghost use Rattle.tp_store.specs.Facts.{kept_shape, is_excluded};
 ghost use Rattle.tp_store.specs.Known.{new_store, name_of, lasting_facts, facts_below};
 ghost use Rattle.tp_store.specs.Changes.{IsSoundStore, HaveSameShapes, HasAppended};
+ghost use Rattle.tp_store.specs.Entries.{part_of};
 
-use crate::entry::{Entry, copy_below, excludes, global_entries, go_on, kept_shape, name_of};
+use crate::entry::{Entry, global_entries, name_of};
 use crate::fact_map::FactMap;
+use crate::nodes::Which;
 use std::alloc::Global;
 use std::marker::Model;
 use std::mem;
 use tp_value::{Facts, Globals, NoMemory, Path, Shape, Text, VarId};
 
 /// What is known of a state: facts without a clash, whose order is open, and the variables, of which the i-th, from 0, has number i. A
-/// look-up goes to the facts of its variable alone, and there by its path.
+/// look-up goes by the path.
 #[derive(Drop)]
 pub struct Store {
     pub(crate) alloc: Global,
     pub(crate) entries: Vec<Entry>,
-    // The numbers of the state variables that may have facts. Going on to the next state looks at these variables alone.
-    pub(crate) touched: Vec<u64>,
-    // The numbers of those that had some in the state before. A variable that gets none in a whole state gives its memory back.
-    pub(crate) before: Vec<u64>,
+    // The facts of state variables, which go with the state.
+    pub(crate) state: FactMap,
+    // The facts of static variables.
+    pub(crate) fixed: FactMap,
 }
 
 impl Model for Store {
@@ -29,13 +31,18 @@ impl Model for Store {
 
     ghost Value = { Contents };
 
-    ghost use Rattle.tp_store.specs.Entries.{contents_of, parts_in, AreParts, AreTouched};
+    ghost use Rattle.tp_store.specs.Entries.{contents_of, AreParts};
 
-    ghost view = { λ s. contents_of (parts_in s.entries.items) };
+    ghost view = { λ s. contents_of s.entries.items s.state s.fixed };
 
-    ghost invariant = { λ s.
-        AreParts 0 (parts_in s.entries.items)
-        × AreTouched s.touched.items (parts_in s.entries.items) };
+    ghost invariant = { λ s. AreParts s.entries.items s.state s.fixed };
+}
+
+/// The facts of static variables, or of state variables.
+pub fn part<'a>(state: &'a FactMap, fixed: &'a FactMap, lasting: bool) -> &'a FactMap
+    ensures { result.now ≡ part_of lasting state.now fixed.now }
+{
+    if lasting { fixed } else { state }
 }
 
 impl Store {
@@ -47,8 +54,8 @@ impl Store {
         Ok(Store {
             alloc,
             entries,
-            touched: Vec::new(alloc),
-            before: Vec::new(alloc),
+            state: FactMap::new(alloc, false),
+            fixed: FactMap::new(alloc, true),
         })
     }
 
@@ -57,7 +64,7 @@ impl Store {
         ensures value { result ≡ kept_shape self.now.facts path.now }
         ensures sound { IsSoundStore self.now }
     {
-        kept_shape(self.entries.as_slice(), path)
+        part(&self.state, &self.fixed, path.var.lasting).shape(path)
     }
 
     /// Whether the path has no element: the shape that is kept for a proper prefix of it leaves none.
@@ -65,7 +72,7 @@ impl Store {
         ensures value { result ≡ is_excluded self.now.facts path.now }
         ensures sound { IsSoundStore self.now }
     {
-        excludes(self.entries.as_slice(), path)
+        part(&self.state, &self.fixed, path.var.lasting).excludes(path)
     }
 
     /// How many variables there are: the number of the next new one.
@@ -89,11 +96,7 @@ impl Store {
     {
         let number = self.entries.len() as u64;
         let name = name.copy()?;
-        self.entries.push(Entry {
-            name,
-            lasting,
-            facts: FactMap::new(self.alloc),
-        })?;
+        self.entries.push(Entry { name, lasting })?;
         Ok(VarId { number, lasting })
     }
 
@@ -110,7 +113,9 @@ impl Store {
         ensures err { OnErr result (out.new ≡ out.old) }
         ensures sound { IsSoundStore self.now }
     {
-        let mut copies = copy_below(self.alloc, self.entries.as_slice(), below)?;
+        let mut copies = Vec::new(self.alloc);
+        self.state.copy_to(self.alloc, Which::Below(below), &mut copies)?;
+        self.fixed.copy_to(self.alloc, Which::Below(below), &mut copies)?;
         if out.items.is_empty() {
             mem::swap(&mut out.items, &mut copies);
             return Ok(());
@@ -119,20 +124,12 @@ impl Store {
         Ok(())
     }
 
-    /// Goes on to the next state: of the facts those of static variables stay, and all variables. Only the variables that got facts in
-    /// this state are looked at.
+    /// Goes on to the next state: of the facts those of static variables stay, and all variables.
     pub fn next_state(&mut self)
         ensures facts { HaveSameShapes self.new.facts (lasting_facts self.old.facts) }
         ensures variables { self.new.variables ≡ self.old.variables }
         ensures sound { IsSoundStore self.new }
     {
-        go_on(
-            self.alloc,
-            self.entries.as_mut_slice(),
-            self.touched.as_slice(),
-            self.before.as_slice(),
-        );
-        mem::swap(&mut self.before, &mut self.touched);
-        self.touched.clear();
+        self.state.clear();
     }
 }

@@ -1,36 +1,27 @@
 use Rattle.std.proofs.Common.{◌≡◌, ◌++◌, List, ap, sym, ◌∙◌, subst}
 use Rattle.tp_value.specs.declared.path.Fact.{Fact}
-use Rattle.tp_value.specs.Read.{tree}
 use Rattle.tp_store.specs.Known.{NoClash, addition, adds}
-use Rattle.tp_store.specs.FactMap.{AreOfOne}
-use Rattle.tp_store.specs.KeptValue.{AreOfValue}
-use Rattle.tp_store.proofs.Adding.{NoClash-adds, adds_all}
-use Rattle.tp_store.proofs.Filing.{one_of_new}
-use Rattle.tp_store.proofs.Values.{value_said}
+use Rattle.tp_store.specs.FactMap.{AreOf}
+use Rattle.tp_store.proofs.Adding.{NoClash-adds}
+use Rattle.tp_store.proofs.Parts.{news_of}
+use Rattle.tp_store.proofs.Remembering.{said_with}
 use Rattle.tp_store.proofs.add.add_in.Goals as goal
+
+pub add-requires-clause-of : goal.add-requires-clause-of
+add-requires-clause-of c =
+    let kept = c.args.kept.now.facts in
+    let facts = c.args.facts.items in
+    let P : List Fact → Type 0 = λ fs. AreOf c.args.var fs in
+    subst P (sym c.as_slice.ensures.value) (news_of c.args.var kept facts c.in_ok-news.news.items c.in_ok-news.ensures.added c.requires.filed)
 
 pub add-requires-clause-apart : goal.add-requires-clause-apart
 add-requires-clause-apart c =
-    let kept = c.args.kept.now in
+    let kept = c.args.kept.now.facts in
     let facts = c.args.facts.items in
     let Q : List Fact → Type 0 = λ fs. NoClash (kept ++ fs) in
     subst Q (sym c.as_slice.ensures.value) (NoClash-adds kept facts c.in_ok-news.news.items c.in_ok-news.ensures.added c.news_in.ensures.apart c.requires.apart)
 
-pub add-requires-clause-of_one : goal.add-requires-clause-of_one
-add-requires-clause-of_one c =
-    let kept = c.args.kept.now in
-    let facts = c.args.facts.items in
-    let O : List Fact → Type 0 = λ fs. AreOfOne (kept ++ fs) in
-    subst O ((adds_all kept facts c.in_ok-news.news.items c.in_ok-news.ensures.added).new ∙ sym c.as_slice.ensures.value) (one_of_new kept facts c.requires.of_one)
-
-pub keep_value-requires-clause-said : goal.keep_value-requires-clause-said
-keep_value-requires-clause-said c =
-    let kept = c.args.kept.now in
-    let facts = c.args.facts.items in
-    let news = c.as_slice.result.now in
-    let added : addition kept facts ≡ adds news = c.in_ok-news.ensures.added ∙ ap adds (sym c.as_slice.ensures.value) in
-    let said = subst (λ o. AreOfValue c.args.var facts o) c.in-Some.is c.requires.value in
-    value_said (tree c.in-Some.value.value) c.args.var kept facts news _ said.0 added c.news_in.ensures.apart c.requires.apart c.in_ok-add.ensures.ok
-
-pub keep_value-requires-clause-within : goal.keep_value-requires-clause-within
-keep_value-requires-clause-within c = (subst (λ o. AreOfValue c.args.var c.args.facts.items o) c.in-Some.is c.requires.value).1
+pub add-requires-clause-said : goal.add-requires-clause-said
+add-requires-clause-said c =
+    let added = c.in_ok-news.ensures.added ∙ ap adds (sym c.as_slice.ensures.value) in
+    said_with c.args.value c.args.var c.args.kept.now.facts c.args.facts.items c.as_slice.result.now c.requires.value added c.news_in.ensures.apart c.requires.apart

@@ -1,6 +1,5 @@
 use Rattle.std.proofs.Common.{◌≡◌, false, refl, ap, sym, ◌∙◌, Some, None}
-use Rattle.tp_value.specs.declared.path.Fact.{Fact}
-use Rattle.tp_store.specs.Nodes.{edges_in, nodes_in, node_from, shape_found, lacks_way}
+use Rattle.tp_store.specs.Nodes.{edges_in, nodes_in, node_from, way_of, shape_found, lacks_path}
 use Rattle.tp_store.proofs.Growth.{length_nodes}
 use Rattle.tp_store.proofs.Trees.{kept_is}
 use Rattle.tp_store.proofs.Clashes.{free_clash, not_true}
@@ -14,13 +13,11 @@ returns-in-None c = λ t.
     let ns = nodes_in m in
     let tree = c.requires.tree in
     let unique = c.count-count.ensures.unique in
-    let at = c.as_slice.ensures.value ∙ ap (λ (g : Fact). g.path.at) c.fact.view_is in
-    let at' = c.as_slice-in-None.ensures.value ∙ ap (λ (g : Fact). g.path.at) c.fact.view_is in
-    let gone : node_from es f.path.at 0 ≡ None = ap (λ ks. node_from es ks 0) (sym at) ∙ sym c.find.ensures ∙ c.in-None.is in
-    let lacks : lacks_way es ns f.path.at 0 ≡ false = ap (λ ks. lacks_way es ns ks 0) (sym at') ∙ sym c.lacks.ensures ∙ not_true _ t in
+    let gone : node_from es (way_of f.path) 0 ≡ None = sym c.find.ensures ∙ c.in-None.is in
+    let lacks : lacks_path es ns f.path ≡ false = sym c.lacks.ensures ∙ not_true _ t in
     let none = ap (shape_found ns) gone in
     record {
-      none = kept_is f.path.var es ns tree.rooted unique (length_nodes m) f.path refl ∙ none;
-      apart = free_clash f.path.var es ns tree.rooted unique (length_nodes m) f refl c.requires.no_clash tree.beyond none lacks
+      none = kept_is f.path.var.lasting es ns tree.rooted unique (length_nodes m) f.path refl ∙ none;
+      apart = free_clash f.path.var.lasting es ns tree.rooted unique (length_nodes m) f refl c.requires.no_clash tree.beyond none lacks
           (λ i way k low. let z : None ≡ Some i = sym gone ∙ way in absurd (cc z));
     }

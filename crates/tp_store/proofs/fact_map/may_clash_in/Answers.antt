@@ -1,6 +1,5 @@
 use Rattle.std.proofs.Common.{◌≡◌, false, refl, ap, sym, ◌∙◌, Some, None}
-use Rattle.tp_value.specs.declared.path.Fact.{Fact}
-use Rattle.tp_store.specs.Nodes.{edges_in, nodes_in, node_from, shape_found, lacks_way}
+use Rattle.tp_store.specs.Nodes.{edges_in, nodes_in, node_from, way_of, shape_found}
 use Rattle.tp_store.proofs.Growth.{length_nodes}
 use Rattle.tp_store.proofs.Clashes.{free_clash}
 use Rattle.tp_store.proofs.fact_map.may_clash_in.Goals as goal
@@ -11,9 +10,6 @@ returns-in-None c = λ t.
     let f = c.args.fact.now in
     let es = edges_in m in
     let ns = nodes_in m in
-    let at = c.as_slice.ensures.value ∙ ap (λ (g : Fact). g.path.at) c.fact.view_is in
-    let at' = c.as_slice-in-None.ensures.value ∙ ap (λ (g : Fact). g.path.at) c.fact.view_is in
-    let gone : node_from es f.path.at 0 ≡ None = ap (λ ks. node_from es ks 0) (sym at) ∙ sym c.find.ensures ∙ c.in-None.is in
-    let lacks : lacks_way es ns f.path.at 0 ≡ false = ap (λ ks. lacks_way es ns ks 0) (sym at') ∙ sym c.lacks.ensures ∙ t in
-    free_clash f.path.var es ns c.requires.tree.rooted c.count-count.ensures.unique (length_nodes m) f refl c.requires.no_clash c.requires.tree.beyond (ap (shape_found ns) gone) lacks
+    let gone : node_from es (way_of f.path) 0 ≡ None = sym c.find.ensures ∙ c.in-None.is in
+    free_clash f.path.var.lasting es ns c.requires.tree.rooted c.count-count.ensures.unique (length_nodes m) f refl c.requires.no_clash c.requires.tree.beyond (ap (shape_found ns) gone) (sym c.lacks.ensures ∙ t)
     (λ i way k low. let z : None ≡ Some i = sym gone ∙ way in absurd (cc z))

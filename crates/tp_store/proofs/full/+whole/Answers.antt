@@ -10,14 +10,14 @@ use Rattle.tp_store.proofs.full.+whole.Goals as goal
 
 pub items_at-returns-in-Open : goal.items_at-returns-in-Open
 items_at-returns-in-Open t c =
-    let item = whole c.args.deeper c.args.facts.now in
+    let item = whole c.args.deeper c.args.facts.now.facts in
     let inner = c.go_to.ensures c.args.path.now c.loop-k.invariant.0.0 c.loop-k.invariant.0.1 in
     let here : item (item_path c.args.path.now c.loop-k.k) ≡ open_at c.in-Open.q = ap item (sym inner) ∙ sym c.in_ok-v.ensures ∙ ap whole_of c.in-Open.is in
     ap list_of_items (sym (open_here item c.args.path.now c.in-Open.q c.args.count c.loop-k.k (map tree c.loop-k.items.items) c.loop-k-test.true here) ∙ c.loop-k.invariant.1)
 
 pub items_at-loop-k-preserved : goal.items_at-loop-k-preserved
 items_at-loop-k-preserved t c =
-    let item = whole c.args.deeper c.args.facts.now in
+    let item = whole c.args.deeper c.args.facts.now.facts in
     let inner = c.go_to.ensures c.args.path.now c.loop-k.invariant.0.0 c.loop-k.invariant.0.1 in
     let here : item (item_path c.args.path.now c.loop-k.k) ≡ known (tree c.in-Whole.v) = ap item (sym inner) ∙ sym c.in_ok-v.ensures ∙ ap whole_of c.in-Whole.is in (
       (c.loop-k.k, inner),
@@ -27,7 +27,7 @@ items_at-loop-k-preserved t c =
 
 pub items_at-returns : goal.items_at-returns
 items_at-returns t c =
-    let item = whole c.args.deeper c.args.facts.now in
+    let item = whole c.args.deeper c.args.facts.now.facts in
     ap known (tree_list _) ∙ ap list_of_items (sym (known_all item c.args.path.now c.args.count c.loop-k.k (map tree c.loop-k.items.items) (omega arith)) ∙ c.loop-k.invariant.1)
 
 pub whole_at-returns-in-Some : goal.whole_at-returns-in-Some
@@ -35,4 +35,4 @@ whole_at-returns-in-Some t c =
     let d = c.args.deeper - 2 in
     let more = c.if-deeper-gt1.true in
     let deep : suc (suc d) ≡ c.args.deeper = omega (arith, more) in
-    ap open_at c.in_ok-inner-in-Some-Items.ensures ∙ sym (c.open_item.ensures c.in-Some.index d c.in-Some.is) ∙ ap (λ n. whole n c.args.facts.now c.args.path.now) deep
+    ap open_at c.in_ok-inner-in-Some-Items.ensures ∙ sym (c.open_item.ensures c.in-Some.index d c.in-Some.is) ∙ ap (λ n. whole n c.args.facts.now.facts c.args.path.now) deep

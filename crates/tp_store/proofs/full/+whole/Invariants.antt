@@ -14,4 +14,4 @@ decreases-items_at l = 2 * l.deeper + 1
 abbrev pub invariant-items_at-loop-k : goal.invariant-items_at-loop-k
 invariant-items_at-loop-k l =
     ((j : ℕ) × l.inner ≡ item_path l.path j)
-    × before (map tree l.items.items) (items_known (whole l.deeper l.facts) l.path (l.count - l.k) l.k) ≡ items_known (whole l.deeper l.facts) l.path l.count 0
+    × before (map tree l.items.items) (items_known (whole l.deeper l.facts.facts) l.path (l.count - l.k) l.k) ≡ items_known (whole l.deeper l.facts.facts) l.path l.count 0

@@ -3,12 +3,12 @@ use Rattle.std.specs.List.{IsDistinct}
 use Rattle.std.proofs.lemmas.Option.{slice_get-get_or}
 use Rattle.tp_value.specs.declared.path.Fact.{Fact}
 use Rattle.tp_store.specs.declared.nodes.Edge.{Edge}
-use Rattle.tp_store.specs.Nodes.{edges_in, nodes_in, node_from, same_edge, routes, facts_along, facts_in_tree, with_shape_at}
+use Rattle.tp_store.specs.Nodes.{edges_in, nodes_in, node_from, way_of, same_edge, routes, facts_along, facts_in_tree, with_shape_at}
 use Rattle.tp_store.proofs.Members.{In, in_right}
-use Rattle.tp_store.proofs.Filing.{of_in}
+use Rattle.tp_store.proofs.Parts.{kind_in}
 use Rattle.tp_store.proofs.FactMapLemmas.{split_at}
 use Rattle.tp_store.proofs.Trees.{fact_added, node_within}
-use Rattle.tp_store.proofs.Ways.{ways_long, way_at, next_item}
+use Rattle.tp_store.proofs.Ways.{ways_long, way_at, way_below, next_item}
 use Rattle.tp_store.proofs.Growth.{length_nodes, set_tree}
 use Rattle.tp_store.proofs.Kept.{AreKept, kept_nothing, kept_next, absent_next, kept_shapes, front_apart}
 use Rattle.tp_store.proofs.nodes.keep_all.Goals as goal
@@ -17,7 +17,7 @@ pub loop-i-init : goal.loop-i-init
 loop-i-init c = record {
   tree = c.requires.tree;
   edges = refl;
-  kept = λ x a n. kept_nothing (facts_in_tree x c.args.nodes.now) (front_apart (facts_in_tree x c.args.nodes.now) c.args.facts.now n);
+  kept = λ b a n. kept_nothing (facts_in_tree b c.args.nodes.now) (front_apart (facts_in_tree b c.args.nodes.now) c.args.facts.now n);
 }
 
 pub bounds-ways-i : goal.bounds-ways-i
@@ -25,8 +25,8 @@ bounds-ways-i c =
     let long = ways_long (edges_in c.args.nodes.now) c.args.facts.now c.args.ways.now c.requires.ways in
     omega (arith, long, c.loop-i-test.true)
 
-pub keep-requires : goal.keep-requires
-keep-requires c =
+pub keep-requires-clause-within : goal.keep-requires-clause-within
+keep-requires-clause-within c =
     let es = edges_in c.args.nodes.now in
     let fs = c.args.facts.now in
     let ns = c.args.ways.now in
@@ -38,10 +38,23 @@ keep-requires c =
     let here : slice_get fs i ≡ Some f = slice_get-get_or fs i f low ∙ ap Some (sym c.index-facts-i.is) in
     let there : slice_get ns i ≡ Some n = slice_get-get_or ns i 0 (omega (arith, long, low)) in
     let way = way_at es fs ns i f n c.requires.ways here there in
-    let within = node_within es f.path.at 0 n (omega arith) way in
+    let within = node_within es (way_of f.path) 0 n (omega arith) way in
     let same = ap length c.loop-i.invariant.edges in
     let nodes = length_nodes c.loop-i.nodes in
     omega (arith, within, same, nodes)
+
+pub keep-requires-clause-below : goal.keep-requires-clause-below
+keep-requires-clause-below c =
+    let es = edges_in c.args.nodes.now in
+    let fs = c.args.facts.now in
+    let ns = c.args.ways.now in
+    let i = c.loop-i.i in
+    let f = c.index-facts-i.result in
+    let low = c.loop-i-test.true in
+    let long = ways_long es fs ns c.requires.ways in
+    let here : slice_get fs i ≡ Some f = slice_get-get_or fs i f low ∙ ap Some (sym c.index-facts-i.is) in
+    let there : slice_get ns i ≡ Some (get_or ns i 0) = slice_get-get_or ns i 0 (omega (arith, long, low)) in
+    way_below es f.path.var.number f.path.at 0 _ (way_at es fs ns i f (get_or ns i 0) c.requires.ways here there)
 
 pub loop-i-preserved : goal.loop-i-preserved
 loop-i-preserved c =
@@ -59,7 +72,7 @@ loop-i-preserved c =
     let long = ways_long es fs ns c.requires.ways in
     let here : slice_get fs i ≡ Some f = slice_get-get_or fs i f low ∙ ap Some (sym c.index-facts-i.is) in
     let there : slice_get ns i ≡ Some n = slice_get-get_or ns i 0 (omega (arith, long, low)) in
-    let way : node_from (edges_in cur) f.path.at 0 ≡ Some n = ap (λ e. node_from e f.path.at 0) inv.edges ∙ way_at es fs ns i f n c.requires.ways here there in
+    let way : node_from (edges_in cur) (way_of f.path) 0 ≡ Some n = ap (λ e. node_from e (way_of f.path) 0) inv.edges ∙ way_at es fs ns i f n c.requires.ways here there in
     let D : List Edge → Type 0 = λ e. IsDistinct same_edge e in
     let d : IsDistinct same_edge (edges_in cur) = subst D (sym inv.edges) c.count-count.ensures.unique in
     let split : fs ≡ take i fs ++ f ∷ drop (i + 1) fs = split_at fs i f low ∙ ap (λ g. take i fs ++ g ∷ drop (i + 1) fs) (sym c.index-facts-i.is) in
@@ -68,24 +81,24 @@ loop-i-preserved c =
     record {
       tree = set_tree cur new n _ inv.tree c.keep.ensures.edges c.keep.ensures.nodes (omega arith);
       edges = c.keep.ensures.edges ∙ inv.edges;
-      kept = λ x a nc.
-          (let k = inv.kept x a nc in
-          let first = facts_in_tree x old in
-          let none = absent_next first fs i f (facts_in_tree x cur) nc split k in
-          let added = fact_added x (edges_in cur) (nodes_in cur) f n inv.tree.rooted d (length_nodes cur) (of_in x fs a f mine) way none in
-          let now : facts_in_tree x new ≡ facts_along x (routes (edges_in cur)) (with_shape_at (nodes_in cur) n f.shape) =
-          ap₂ (λ e m. facts_along x (routes e) m) c.keep.ensures.edges (c.keep.ensures.nodes ∙ ap (λ (g : Fact). with_shape_at (nodes_in cur) n g.shape) (sym c.index-facts-i.is)) in
-          let P : List Fact → Type 0 = λ gs. AreKept first gs (facts_in_tree x new) in
+      kept = λ b a nc.
+          (let k = inv.kept b a nc in
+          let first = facts_in_tree b old in
+          let none = absent_next first fs i f (facts_in_tree b cur) nc split k in
+          let added = fact_added b (edges_in cur) (nodes_in cur) f n inv.tree.rooted d (length_nodes cur) (kind_in b fs a f mine) way none in
+          let now : facts_in_tree b new ≡ facts_along b (routes (edges_in cur)) (with_shape_at (nodes_in cur) n f.shape) =
+          ap₂ (λ e m. facts_along b (routes e) m) c.keep.ensures.edges (c.keep.ensures.nodes ∙ ap (λ (g : Fact). with_shape_at (nodes_in cur) n g.shape) (sym c.index-facts-i.is)) in
+          let P : List Fact → Type 0 = λ gs. AreKept first gs (facts_in_tree b new) in
           let Q : List Fact → Type 0 = λ gs. AreKept first (take i fs ++ f ∷ []) gs in
-          subst P (sym (next_item fs i f low c.index-facts-i.is)) (subst Q (sym now) (kept_next first fs i f (facts_in_tree x cur) nc split k _ added)));
+          subst P (sym (next_item fs i f low c.index-facts-i.is)) (subst Q (sym now) (kept_next first fs i f (facts_in_tree b cur) nc split k _ added)));
     }
 
 pub returns-clause-kept : goal.returns-clause-kept
-returns-clause-kept c = λ x a n.
+returns-clause-kept c = λ b a n.
     let fs = c.args.facts.now in
     let i = c.loop-i.i in
-    let first = facts_in_tree x c.args.nodes.now in
-    let cur = facts_in_tree x c.loop-i.nodes in
+    let first = facts_in_tree b c.args.nodes.now in
+    let cur = facts_in_tree b c.loop-i.nodes in
     let P : List Fact → Type 0 = λ gs. AreKept first gs cur in
-    let k = subst P (take_all i fs (omega (arith, c.loop-i-test.false))) (c.loop-i.invariant.kept x a n) in
+    let k = subst P (take_all i fs (omega (arith, c.loop-i-test.false))) (c.loop-i.invariant.kept b a n) in
     (k.no_clash, kept_shapes first fs cur n k)

@@ -1,70 +1,80 @@
-use Rattle.std.proofs.Common.{◌≡◌, ◌<◌, ◌^◌, ◌++◌, max, List, ap, ap₂, sym, ◌∙◌, subst, arith}
+use Rattle.std.proofs.Common.{◌≡◌, ◌<◌, ◌^◌, ◌++◌, max, nat_eq, List, ap, ap₂, sym, ◌∙◌, subst, arith}
+use Rattle.indexmap.specs.IndexMap.{get}
+use Rattle.tp_value.specs.declared.path.VarId.{VarId}
 use Rattle.tp_value.specs.declared.path.Fact.{Fact}
+use Rattle.tp_store.specs.declared.fact_map.Remembered.{Remembered}
 use Rattle.tp_store.specs.Facts.{kept_shape}
 use Rattle.tp_store.specs.Known.{NoClash, deepest}
-use Rattle.tp_store.specs.FactMap.{AreOfOne}
+use Rattle.tp_store.specs.FactMap.{AreOf, FactsOfKind}
 use Rattle.tp_store.specs.Nodes.{facts_in_tree}
+use Rattle.tp_store.specs.KeptValue.{IsSaid, AreRemembered}
 use Rattle.tp_store.proofs.FactMapLemmas.{deepest-append}
-use Rattle.tp_store.proofs.Growth.{add_all, deepest_same, some_kept}
+use Rattle.tp_store.proofs.Growth.{deepest_same}
+use Rattle.tp_store.proofs.Clashes.{kinds_of_tree}
 use Rattle.tp_store.proofs.Plain.{plain_facts, plain_items, plain_stays}
+use Rattle.tp_store.proofs.Remembering.{grown, of_kind, counts_plain, all_remembered}
 use Rattle.tp_store.proofs.fact_map.FactMap.add.Goals as goal
 
-pub plain_after-self-inside-requires : goal.plain_after-self-inside-requires
-plain_after-self-inside-requires c =
-    let x = c.self.inside.var in
+pub invariant_of-self : goal.invariant_of-self
+invariant_of-self c =
+    let i = c.self.invariant in
+    let b = c.self.inside.lasting in
+    let more = c.in_err-keep_facts.ensures.err in
+    let same = sym (more.facts b) in
+    let N : List Fact → Type 0 = λ fs. NoClash fs in
+    let R : List Fact → Type 0 = λ fs. AreRemembered (get nat_eq c.self.inside.lists) b fs in
+    (subst N same i.0, c.in_err-keep_facts.ensures.tree, i.2 ∙ ap deepest same, i.3, subst R same i.4)
+
+pub returns-in_err-keep_facts-clause-of_kind : goal.returns-in_err-keep_facts-clause-of_kind
+returns-in_err-keep_facts-clause-of_kind c = kinds_of_tree c.self.inside.lasting c.keep_facts.new.nodes
+
+pub plain_after-plain-requires : goal.plain_after-plain-requires
+plain_after-plain-requires c =
+    let b = c.self.inside.lasting in
+    let n = c.args.var.number in
     let old = c.self.inside.nodes in
     let new = c.keep_facts.new.nodes in
-    let news = c.args.news.now in
-    let f = c.in-Some.first.now in
-    let i = c.self.inside.plain in
-    let N : List Fact → Type 0 = λ fs. NoClash (fs ++ news) in
-    let O : List Fact → Type 0 = λ fs. AreOfOne (fs ++ news) in
-    let apart = subst N (sym c.self.view_is) c.requires.apart in
-    let one = subst O (sym c.self.view_is) c.requires.of_one in
-    let all = add_all x old new news f c.in-Some.ensures.value apart one c.in_ok-keep_facts.ensures.ok in
-    let plain = plain_stays x old new news f i c.in-Some.ensures.value one all.1 c.self.invariant.5 in
-    plain_items new f.path.var i c.in_ok-keep_facts.ensures.tree c.count-count.ensures.unique plain
+    let x : VarId = record { number = n; lasting = b } in
+    let count = c.plain_of-from.result in
+    let all = grown c.args.self.now b old new c.args.var c.args.news.now c.self.view_is c.requires.kind c.requires.of c.requires.apart c.in_ok-keep_facts.ensures.ok in
+    plain_items new x count c.in_ok-keep_facts.ensures.tree c.count-count.ensures.unique
+    (plain_stays x (facts_in_tree b old) c.args.news.now (facts_in_tree b new) count all.same (counts_plain (get nat_eq c.self.inside.lists) n count b (facts_in_tree b old) c.plain_of-from.ensures c.self.invariant.4))
 
 pub invariant_of-self-2 : goal.invariant_of-self-2
 invariant_of-self-2 c =
     let i = c.self.invariant in
-    let old = facts_in_tree c.self.inside.var c.self.inside.nodes in
+    let b = c.self.inside.lasting in
+    let n = c.args.var.number in
+    let old = c.self.inside.nodes in
+    let new = c.keep_facts.new.nodes in
     let news = c.args.news.now in
-    let f = c.in-Some.first.now in
-    let new = facts_in_tree f.path.var c.keep_facts.new.nodes in
-    let N : List Fact → Type 0 = λ fs. NoClash (fs ++ news) in
-    let O : List Fact → Type 0 = λ fs. AreOfOne (fs ++ news) in
-    let apart : NoClash (old ++ news) = subst N (sym c.self.view_is) c.requires.apart in
-    let one : AreOfOne (old ++ news) = subst O (sym c.self.view_is) c.requires.of_one in
-    let all = add_all c.self.inside.var c.self.inside.nodes c.keep_facts.new.nodes news f c.in-Some.ensures.value apart one c.in_ok-keep_facts.ensures.ok in
+    let x : VarId = record { number = n; lasting = b } in
+    let all = grown c.args.self.now b old new c.args.var news c.self.view_is c.requires.kind c.requires.of c.requires.apart c.in_ok-keep_facts.ensures.ok in
     let d = c.max-self-inside.result in
-    let depth : d ≡ deepest new = c.max-self-inside.ensures ∙ ap₂ max i.2 c.depth_of.ensures.value ∙ sym (deepest-append old news)
-    ∙ sym (deepest_same new (old ++ news) all.0 apart all.1) in
-    let low : d < 2 ^ 63 = grind (arith, c.max-self-inside.ensures, i.3, c.depth_of.ensures.bound) in (
-      all.0,
+    let depth : d ≡ deepest (facts_in_tree b new) = c.max-self-inside.ensures ∙ ap₂ max i.2 c.depth_of.ensures.value ∙ sym (deepest-append (facts_in_tree b old) news)
+    ∙ sym (deepest_same (facts_in_tree b new) (facts_in_tree b old ++ news) all.is all.was all.same) in
+    let low : d < 2 ^ 63 = grind (arith, c.max-self-inside.ensures, i.3, c.depth_of.ensures.bound) in
+    let is_x = of_kind c.args.self.now b (facts_in_tree b old) c.args.var c.self.view_is c.requires.kind in
+    let A : VarId → Type 0 = λ y. AreOf y news in
+    let S : VarId → Type 0 = λ y. IsSaid c.args.value y (facts_in_tree b new) in
+    let now : Remembered = record { plain = c.plain_after-plain.result; value = c.args.value } in
+    let said = c.requires.said (facts_in_tree b new) (λ p. all.same p ∙ ap (λ (m : FactsOfKind). kept_shape (m.facts ++ news) p) c.self.view_is) in (
+      all.is,
       c.in_ok-keep_facts.ensures.tree,
       depth,
       low,
-      some_kept old new news f c.in-Some.ensures.value apart all.1,
-      plain_facts c.keep_facts.new.nodes f.path.var c.plain_after-self-inside.result c.in_ok-keep_facts.ensures.tree c.count-count.ensures.unique c.plain_after-self-inside.ensures,
-      tt,
+      all_remembered (get nat_eq c.self.inside.lists) (get nat_eq c.remember.new.lists) n now b (facts_in_tree b old) news (facts_in_tree b new) c.remember.ensures (subst A is_x c.requires.of) i.0 all.was all.is all.same
+          (record { plain = plain_facts new x now.plain c.in_ok-keep_facts.ensures.tree c.count-count.ensures.unique c.plain_after-plain.ensures; said = subst S is_x said }) i.4,
     )
+
+pub returns-clause-of_kind : goal.returns-clause-of_kind
+returns-clause-of_kind c = kinds_of_tree c.self.inside.lasting c.keep_facts.new.nodes
 
 pub returns-clause-apart : goal.returns-clause-apart
 returns-clause-apart c =
-    let old = facts_in_tree c.self.inside.var c.self.inside.nodes in
-    let news = c.args.news.now in
-    let N : List Fact → Type 0 = λ fs. NoClash (fs ++ news) in
-    let O : List Fact → Type 0 = λ fs. AreOfOne (fs ++ news) in
-    (add_all c.self.inside.var c.self.inside.nodes c.keep_facts.new.nodes news c.in-Some.first.now c.in-Some.ensures.value
-    (subst N (sym c.self.view_is) c.requires.apart) (subst O (sym c.self.view_is) c.requires.of_one) c.in_ok-keep_facts.ensures.ok).0
+    (grown c.args.self.now c.self.inside.lasting c.self.inside.nodes c.keep_facts.new.nodes c.args.var c.args.news.now c.self.view_is c.requires.kind c.requires.of c.requires.apart c.in_ok-keep_facts.ensures.ok).is
 
 pub returns-clause-ok : goal.returns-clause-ok
 returns-clause-ok c =
-    let old = facts_in_tree c.self.inside.var c.self.inside.nodes in
-    let news = c.args.news.now in
-    let N : List Fact → Type 0 = λ fs. NoClash (fs ++ news) in
-    let O : List Fact → Type 0 = λ fs. AreOfOne (fs ++ news) in
-    let all = add_all c.self.inside.var c.self.inside.nodes c.keep_facts.new.nodes news c.in-Some.first.now c.in-Some.ensures.value
-    (subst N (sym c.self.view_is) c.requires.apart) (subst O (sym c.self.view_is) c.requires.of_one) c.in_ok-keep_facts.ensures.ok in
-    λ p. all.1 p ∙ ap (λ (fs : List Fact). kept_shape (fs ++ news) p) c.self.view_is
+    let all = grown c.args.self.now c.self.inside.lasting c.self.inside.nodes c.keep_facts.new.nodes c.args.var c.args.news.now c.self.view_is c.requires.kind c.requires.of c.requires.apart c.in_ok-keep_facts.ensures.ok in
+    λ p. all.same p ∙ ap (λ (m : FactsOfKind). kept_shape (m.facts ++ c.args.news.now) p) c.self.view_is

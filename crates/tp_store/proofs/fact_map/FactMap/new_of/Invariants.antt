@@ -4,4 +4,4 @@ use Rattle.tp_store.specs.Known.{new_facts}
 use Rattle.tp_store.proofs.fact_map.FactMap.new_of.Given as goal
 
 abbrev pub invariant-loop-fact : goal.invariant-loop-fact
-invariant-loop-fact l = l.news.items ++ new_facts l.self (into_iter_items l.fact-iterator) ≡ new_facts l.self l.fn.facts.items
+invariant-loop-fact l = l.news.items ++ new_facts l.self.facts (into_iter_items l.fact-iterator) ≡ new_facts l.self.facts l.fn.facts.items

@@ -1,12 +1,10 @@
-use Rattle.std.proofs.Common.{◌≡◌, List, [], sym, ◌∙◌, subst}
-use Rattle.tp_value.specs.declared.path.Fact.{Fact}
+use Rattle.std.proofs.Common.{◌≡◌, sym, ◌∙◌, subst}
 use Rattle.tp_store.specs.Known.{addition, adds}
-use Rattle.tp_store.proofs.Adding.{adds_to_none}
-use Rattle.tp_store.proofs.Kept.{is_nil-of}
+use Rattle.tp_store.specs.FactMap.{FactsOfKind}
+use Rattle.tp_store.proofs.Clashes.{takes_all_of, not_true}
 use Rattle.tp_store.proofs.fact_map.FactMap.takes_all.Goals as goal
 
-pub returns-then-self-clause-all : goal.returns-then-self-clause-all
-returns-then-self-clause-all c = λ t.
-    let none = is_nil-of _ (sym c.self.invariant.4 ∙ c.if-self.true) in
-    let P : List Fact → Type 0 = λ kept. addition kept c.args.facts.now ≡ adds c.args.facts.now in
-    subst P (sym none ∙ c.self.view_is) (adds_to_none c.args.facts.now)
+pub returns-then-not-leads_to-clause-all : goal.returns-then-not-leads_to-clause-all
+returns-then-not-leads_to-clause-all c = λ t.
+    let P : FactsOfKind → Type 0 = λ m. addition m.facts c.args.facts.now ≡ adds c.args.facts.now in
+    subst P c.self.view_is (takes_all_of c.self.inside.lasting c.self.inside.nodes c.args.var c.args.facts.now c.self.invariant.1 c.count-count.ensures.unique c.self.invariant.0 (c.leads_to.ensures c.if-not-leads_to.true) c.requires)

@@ -8,24 +8,24 @@ pub returns-clause-tree : goal.returns-clause-tree
 returns-clause-tree c =
     let mid = c.raise.new.self in
     let r = c.raise.ensures in
-    let new : Nodes = record { root = mid.root; below = c.insert.new.self } in
+    let new : Nodes = record { below = c.insert.new.self } in
     let absent : child (edges_in mid) c.args.node c.args.index ≡ None = ap (λ es. child es c.args.node c.args.index) r.edges ∙ c.requires.absent in
-    new_tree mid new c.args.node c.args.index r.tree (omega (arith, r.long, c.requires.from)) absent r.bound refl c.in_ok-insert.ensures.entries
+    new_tree mid new c.args.node c.args.index r.tree (omega (arith, r.long, c.requires.from)) absent c.requires.narrow r.bound c.in_ok-insert.ensures.entries
 
 pub returns-clause-more : goal.returns-clause-more
 returns-clause-more c =
     let mid = c.raise.new.self in
     let r = c.raise.ensures in
-    let new : Nodes = record { root = mid.root; below = c.insert.new.self } in
+    let new : Nodes = record { below = c.insert.new.self } in
     let absent : child (edges_in mid) c.args.node c.args.index ≡ None = ap (λ es. child es c.args.node c.args.index) r.edges ∙ c.requires.absent in
     more_then c.args.self.now mid new (raised_more c.args.self.now mid c.args.node c.args.index r)
-    (new_more mid new c.args.node c.args.index r.tree (omega (arith, r.long, c.requires.from)) absent r.bound refl c.in_ok-insert.ensures.entries)
+    (new_more mid new c.args.node c.args.index r.tree (omega (arith, r.long, c.requires.from)) absent c.requires.narrow r.bound c.in_ok-insert.ensures.entries)
 
 pub returns-clause-child : goal.returns-clause-child
 returns-clause-child c =
     let mid = c.raise.new.self in
     let r = c.raise.ensures in
-    let new : Nodes = record { root = mid.root; below = c.insert.new.self } in
+    let new : Nodes = record { below = c.insert.new.self } in
     let absent : child (edges_in mid) c.args.node c.args.index ≡ None = ap (λ es. child es c.args.node c.args.index) r.edges ∙ c.requires.absent in
-    new_child mid new c.args.node c.args.index r.tree (omega (arith, r.long, c.requires.from)) absent r.bound refl c.in_ok-insert.ensures.entries c.len.ensures.unique
+    new_child mid new c.args.node c.args.index r.tree (omega (arith, r.long, c.requires.from)) absent c.requires.narrow r.bound c.in_ok-insert.ensures.entries c.len.ensures.unique
     ∙ ap Some (sym c.len.ensures.len)

@@ -12,4 +12,4 @@ returns-in-Some-clause-nodes c =
 pub returns-in_default-clause-nodes : goal.returns-in_default-clause-nodes
 returns-in_default-clause-nodes c =
     let past = none_past (nodes_in c.args.self.now) c.args.number (sym c.node.ensures ∙ c.in_default.is) in
-    absurd (omega (arith, past, c.requires))
+    absurd (omega (arith, past, c.requires.within))

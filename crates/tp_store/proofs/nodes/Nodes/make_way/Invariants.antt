@@ -1,4 +1,4 @@
-use Rattle.std.proofs.Common.{◌≡◌, ◌<◌, length, take, Some}
+use Rattle.std.proofs.Common.{◌≡◌, ◌<◌, ◌∷◌, length, take, Some}
 use Rattle.std.specs.List.{IsDistinct}
 use Rattle.tp_store.specs.Nodes.{edges_in, nodes_in, node_from, same_edge, IsTree, HasMoreNodes}
 use Rattle.tp_store.proofs.nodes.Nodes.make_way.Given as goal
@@ -9,5 +9,5 @@ invariant-loop-index l = record {
   more : HasMoreNodes l.initial.self l.self;
   unique : IsDistinct same_edge (edges_in l.self);
   within : l.node < length (nodes_in l.self);
-  way : node_from (edges_in l.self) (take l.index-index l.at) 0 ≡ Some l.node;
+  way : node_from (edges_in l.self) (l.path.var.number ∷ take l.index-index l.path.at) 0 ≡ Some l.node;
 }

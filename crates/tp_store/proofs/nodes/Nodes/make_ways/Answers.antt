@@ -1,6 +1,6 @@
 use Rattle.std.proofs.Common.{◌≡◌, ◌≤◌, ◌++◌, ◌∷◌, [], ℕ, Some, length, take, List, ap, sym, ◌∙◌, subst, arith}
 use Rattle.tp_value.specs.declared.path.Fact.{Fact}
-use Rattle.tp_store.specs.Nodes.{edges_in, node_from, AreWays}
+use Rattle.tp_store.specs.Nodes.{edges_in, node_from, way_of, AreWays}
 use Rattle.tp_store.proofs.Routes.{length_more}
 use Rattle.tp_store.proofs.Ways.{ways_kept, ways_more, take_long, next_item}
 use Rattle.tp_store.proofs.Growth.{more_then}
@@ -15,8 +15,7 @@ loop-fact-preserved c =
     let n = c.in_ok-way.way in
     let made = c.in_ok-way.ensures in
     let new = c.make_way.new.self in
-    let at = c.as_slice.ensures.value ∙ ap (λ (g : Fact). g.path.at) c.fact.view_is in
-    let way : node_from (edges_in new) f.path.at 0 ≡ Some n = ap (λ ks. node_from (edges_in new) ks 0) (sym at) ∙ made.way in
+    let way : node_from (edges_in new) (way_of f.path) 0 ≡ Some n = made.way in
     let kept = ways_kept (edges_in c.loop-fact.self) (edges_in new) made.more.more (take i fs) c.loop-fact.ways.items made.more.edges made.unique inv.ways in
     let low : i ≤ length fs = omega (arith, c.loop-fact-test.true) in
     let all = ways_more (edges_in new) (take i fs) c.loop-fact.ways.items f n kept (inv.long ∙ sym (take_long fs i low)) way in

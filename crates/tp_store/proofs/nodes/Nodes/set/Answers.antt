@@ -1,7 +1,7 @@
 use Rattle.std.proofs.Common.{◌≡◌, ◌∷◌, ◌-◌, suc, List, ap, sym, ◌∙◌, arith}
 use Rattle.std.specs.Map.{values_of}
 use Rattle.tp_store.specs.declared.nodes.Node.{Node}
-use Rattle.tp_store.specs.Nodes.{with_node}
+use Rattle.tp_store.specs.Nodes.{bare_node, with_node}
 use Rattle.tp_store.proofs.Ways.{keys_set, values_set}
 use Rattle.tp_store.proofs.nodes.Nodes.set.Goals as goal
 
@@ -11,6 +11,5 @@ returns-in-Some-clause-edges c = keys_set c.args.self.now.below.entries (c.args.
 pub returns-in-Some-clause-nodes : goal.returns-in-Some-clause-nodes
 returns-in-Some-clause-nodes c =
     let es = c.args.self.now.below.entries in
-    let root = c.args.self.now.root in
-    let more : c.args.number ≡ suc (c.args.number - 1) = omega (arith, c.if-number-eq0.false) in
-    ap (λ (vs : List Node). root ∷ vs) (values_set es (c.args.number - 1) c.args.node) ∙ ap (λ n. with_node (root ∷ values_of es) n c.args.node) (sym more)
+    let more : c.args.number ≡ suc (c.args.number - 1) = omega (arith, c.requires.below) in
+    ap (λ (vs : List Node). bare_node ∷ vs) (values_set es (c.args.number - 1) c.args.node) ∙ ap (λ n. with_node (bare_node ∷ values_of es) n c.args.node) (sym more)

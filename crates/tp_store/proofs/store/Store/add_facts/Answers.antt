@@ -1,88 +1,84 @@
-use Rattle.std.proofs.Common.{◌≡◌, ◌<◌, ◌++◌, List, refl, ap, sym, ◌∙◌, subst, length, slice_get}
+use Rattle.std.proofs.Common.{◌≡◌, Bool, true, false, refl, sym, ◌∙◌, subst}
 use Rattle.std.proofs.lemmas.Result.{err_from_is_err_and}
-use Rattle.tp_store.specs.Known.{addition, Addition, Contents}
+use Rattle.tp_store.specs.Known.{addition, Addition}
 use Rattle.tp_store.specs.Answers.{IsRefusal}
-use Rattle.tp_store.specs.Changes.{AddsFacts}
-use Rattle.tp_store.specs.Entries.{parts_in, facts_there, with_facts_at, HasGrown, contents_of, AreTouched}
-use Rattle.tp_store.specs.FactMap.{AreOfOne}
-use Rattle.tp_store.specs.declared.entry.Entry.{Entry}
-use Rattle.tp_store.proofs.Filing.{sound, moved_parts, addition_view, grows, one_variable}
-use Rattle.tp_store.proofs.EntryLemmas.{written, has_entry}
-use Rattle.tp_store.proofs.Touched.{touched_moved}
+use Rattle.tp_store.specs.FactMap.{AreOfKind, FactsOfKind}
+use Rattle.tp_store.specs.Entries.{AreParts}
+use Rattle.tp_store.proofs.Parts.{sound, news_of, addition_view, state_grown, state_adds, static_grown, static_adds}
 use Rattle.tp_store.proofs.store.Store.add_facts.Goals as goal
-
-pub returns-in_err-touch-clause-sound : goal.returns-in_err-touch-clause-sound
-returns-in_err-touch-clause-sound c = sound (parts_in c.self.inside.entries.items) c.self.invariant.0
-
-pub add_at-requires-clause-number : goal.add_at-requires-clause-number
-add_at-requires-clause-number c =
-    let es = c.self.inside.entries.items in
-    let P : List Entry → Type 0 = λ xs. c.args.var.number < length xs in
-    subst P (sym c.as_mut_slice.ensures.value) (has_entry es _ c.args.var c.self.view_is c.requires.variable)
 
 pub returns-in_err-news-clause-refused : goal.returns-in_err-news-clause-refused
 returns-in_err-news-clause-refused c =
-    let es = c.self.inside.entries.items in
-    let same : addition (facts_there (slice_get (parts_in c.as_mut_slice.result.now) c.args.var.number)) c.args.facts.items ≡ addition c.args.self.now.facts c.args.facts.items =
-    ap (λ xs. addition (facts_there (slice_get (parts_in xs) c.args.var.number)) c.args.facts.items) c.as_mut_slice.ensures.value
-    ∙ addition_view (parts_in es) _ c.args.var c.args.facts.items c.self.view_is c.self.invariant.0 c.requires.filed in
-    let refused = subst (λ (o : Addition). IsRefusal o c.in_err-news.field-0.0) same c.in_err-news.ensures.refused in
-    let p = err_from_is_err_and c.from_residual-in_err-news.result c.from_residual-in_err-news.ensures.1 in
+    let refused = subst (λ (o : Addition). IsRefusal o c.in_err-news.field-0.0) (addition_view c.self.inside.entries.items c.self.inside.state c.self.inside.fixed _ c.self.view_is c.self.invariant true c.args.var c.args.facts.items c.if-var.true c.requires.filed) c.in_err-news.ensures.refused in
+    let p = err_from_is_err_and c.from_residual.result c.from_residual.ensures.1 in
     rw (p.1, p.2) refused
 
 pub returns-in_err-news-clause-sound : goal.returns-in_err-news-clause-sound
 returns-in_err-news-clause-sound c =
-    let es = c.self.inside.entries.items in
-    let fs = c.add_at.new.entries in
-    let lengths : length fs ≡ length es = c.add_at.auto.entries ∙ ap length c.as_mut_slice.ensures.value in
-    let same = ap parts_in (written es fs c.self.inside.entries.len c.self.inside.entries.ok.0 lengths) ∙ c.in_err-news.ensures.err ∙ ap parts_in c.as_mut_slice.ensures.value in
-    sound _ (moved_parts _ _ same c.self.invariant.0)
+    let P : FactsOfKind → Type 0 = λ m. AreParts c.self.inside.entries.items c.self.inside.state m in
+    sound c.self.inside.entries.items c.self.inside.state c.add_in.new.kept (subst P (sym c.in_err-news.ensures.err) c.self.invariant)
+
+pub invariant_of-self-then-var : goal.invariant_of-self-then-var
+invariant_of-self-then-var c =
+    let news = c.in_ok-news.news in
+    let of = news_of c.args.var c.self.inside.fixed.facts c.args.facts.items news c.in_ok-news.ensures.added c.requires.filed in
+    let kind = c.in_ok-news.ensures.kind ∙ c.self.invariant.static_facts.kind in
+    let of_kind = subst (λ b. AreOfKind b c.add_in.new.kept.facts) kind c.in_ok-news.ensures.of_kind in
+    static_grown c.self.inside.entries.items c.self.inside.state c.self.inside.fixed _ c.self.view_is c.self.invariant c.args.var news c.requires.variable of c.add_in.new.kept kind of_kind c.in_ok-news.ensures.apart c.in_ok-news.ensures.ok
+
+pub returns-then-var-clause-news : goal.returns-then-var-clause-news
+returns-then-var-clause-news c = sym (addition_view c.self.inside.entries.items c.self.inside.state c.self.inside.fixed _ c.self.view_is c.self.invariant true c.args.var c.args.facts.items c.if-var.true c.requires.filed) ∙ c.in_ok-news.ensures.added
+
+pub returns-then-var-clause-added : goal.returns-then-var-clause-added
+returns-then-var-clause-added c =
+    let news = c.in_ok-news.news in
+    let of = news_of c.args.var c.self.inside.fixed.facts c.args.facts.items news c.in_ok-news.ensures.added c.requires.filed in
+    let kind = c.in_ok-news.ensures.kind ∙ c.self.invariant.static_facts.kind in
+    let of_kind = subst (λ b. AreOfKind b c.add_in.new.kept.facts) kind c.in_ok-news.ensures.of_kind in
+    static_adds c.self.inside.entries.items c.self.inside.state c.self.inside.fixed _ c.self.view_is c.self.invariant c.args.var news c.requires.variable of c.add_in.new.kept kind of_kind c.in_ok-news.ensures.apart c.in_ok-news.ensures.ok
+
+pub returns-then-var-clause-sound : goal.returns-then-var-clause-sound
+returns-then-var-clause-sound c =
+    let news = c.in_ok-news.news in
+    let of = news_of c.args.var c.self.inside.fixed.facts c.args.facts.items news c.in_ok-news.ensures.added c.requires.filed in
+    let kind = c.in_ok-news.ensures.kind ∙ c.self.invariant.static_facts.kind in
+    let of_kind = subst (λ b. AreOfKind b c.add_in.new.kept.facts) kind c.in_ok-news.ensures.of_kind in
+    sound c.self.inside.entries.items c.self.inside.state c.add_in.new.kept (static_grown c.self.inside.entries.items c.self.inside.state c.self.inside.fixed _ c.self.view_is c.self.invariant c.args.var news c.requires.variable of c.add_in.new.kept kind of_kind c.in_ok-news.ensures.apart c.in_ok-news.ensures.ok)
+
+pub returns-in_err-news-2-clause-refused : goal.returns-in_err-news-2-clause-refused
+returns-in_err-news-2-clause-refused c =
+    let refused = subst (λ (o : Addition). IsRefusal o c.in_err-news-2.field-0.0) (addition_view c.self.inside.entries.items c.self.inside.state c.self.inside.fixed _ c.self.view_is c.self.invariant false c.args.var c.args.facts.items c.if-var.false c.requires.filed) c.in_err-news-2.ensures.refused in
+    let p = err_from_is_err_and c.from_residual-in_err-news-2.result c.from_residual-in_err-news-2.ensures.1 in
+    rw (p.1, p.2) refused
+
+pub returns-in_err-news-2-clause-sound : goal.returns-in_err-news-2-clause-sound
+returns-in_err-news-2-clause-sound c =
+    let P : FactsOfKind → Type 0 = λ m. AreParts c.self.inside.entries.items m c.self.inside.fixed in
+    sound c.self.inside.entries.items c.add_in-2.new.kept c.self.inside.fixed (subst P (sym c.in_err-news-2.ensures.err) c.self.invariant)
 
 pub invariant_of-self-2 : goal.invariant_of-self-2
 invariant_of-self-2 c =
-    let es = c.self.inside.entries.items in
-    let fs = c.add_at.new.entries in
-    let lengths : length fs ≡ length es = c.add_at.auto.entries ∙ ap length c.as_mut_slice.ensures.value in
-    let same = ap parts_in (written es fs c.self.inside.entries.len c.self.inside.entries.ok.0 lengths) in
-    let has = subst (λ xs. HasGrown (parts_in xs) c.args.var.number c.in_ok-news.news (parts_in fs)) c.as_mut_slice.ensures.value c.in_ok-news.ensures.ok in
-    let added = ap (λ xs. addition (facts_there (slice_get (parts_in xs) c.args.var.number)) c.args.facts.items) (sym c.as_mut_slice.ensures.value) ∙ c.in_ok-news.ensures.added in
-    let all = grows (parts_in es) (parts_in fs) _ c.args.var c.args.facts.items c.in_ok-news.news c.self.view_is c.self.invariant.0 c.requires.variable c.requires.filed added has in
-    let later = subst (λ xs. AreTouched c.touch.new.touched.items (with_facts_at (parts_in xs) c.args.var.number has.facts)) c.as_slice.ensures.value (c.in_ok-touch.ensures.ok has.facts) in (
-      moved_parts _ _ same all.parts,
-      touched_moved _ _ (with_facts_at (parts_in es) c.args.var.number has.facts) _ refl (same ∙ has.parts) later,
-    )
-
-pub add_at-requires-clause-of_one : goal.add_at-requires-clause-of_one
-add_at-requires-clause-of_one c =
-    let es = c.self.inside.entries.items in
-    subst (λ xs. AreOfOne (facts_there (slice_get (parts_in xs) c.args.var.number) ++ c.args.facts.items)) (sym c.as_mut_slice.ensures.value)
-    (one_variable (parts_in es) _ c.args.var c.args.facts.items c.self.view_is c.self.invariant.0 c.requires.variable c.requires.filed)
+    let news = c.in_ok-news-2.news in
+    let of = news_of c.args.var c.self.inside.state.facts c.args.facts.items news c.in_ok-news-2.ensures.added c.requires.filed in
+    let kind = c.in_ok-news-2.ensures.kind ∙ c.self.invariant.state_facts.kind in
+    let of_kind = subst (λ b. AreOfKind b c.add_in-2.new.kept.facts) kind c.in_ok-news-2.ensures.of_kind in
+    state_grown c.self.inside.entries.items c.self.inside.state c.self.inside.fixed _ c.self.view_is c.self.invariant c.args.var news c.requires.variable of c.add_in-2.new.kept kind of_kind c.in_ok-news-2.ensures.apart c.in_ok-news-2.ensures.ok c.if-var.false
 
 pub returns-clause-news : goal.returns-clause-news
-returns-clause-news c =
-    let es = c.self.inside.entries.items in
-    sym (ap (λ xs. addition (facts_there (slice_get (parts_in xs) c.args.var.number)) c.args.facts.items) c.as_mut_slice.ensures.value
-    ∙ addition_view (parts_in es) _ c.args.var c.args.facts.items c.self.view_is c.self.invariant.0 c.requires.filed) ∙ c.in_ok-news.ensures.added
+returns-clause-news c = sym (addition_view c.self.inside.entries.items c.self.inside.state c.self.inside.fixed _ c.self.view_is c.self.invariant false c.args.var c.args.facts.items c.if-var.false c.requires.filed) ∙ c.in_ok-news-2.ensures.added
 
 pub returns-clause-added : goal.returns-clause-added
 returns-clause-added c =
-    let es = c.self.inside.entries.items in
-    let fs = c.add_at.new.entries in
-    let lengths : length fs ≡ length es = c.add_at.auto.entries ∙ ap length c.as_mut_slice.ensures.value in
-    let same = ap parts_in (written es fs c.self.inside.entries.len c.self.inside.entries.ok.0 lengths) in
-    let has = subst (λ xs. HasGrown (parts_in xs) c.args.var.number c.in_ok-news.news (parts_in fs)) c.as_mut_slice.ensures.value c.in_ok-news.ensures.ok in
-    let added = ap (λ xs. addition (facts_there (slice_get (parts_in xs) c.args.var.number)) c.args.facts.items) (sym c.as_mut_slice.ensures.value) ∙ c.in_ok-news.ensures.added in
-    let all = grows (parts_in es) (parts_in fs) _ c.args.var c.args.facts.items c.in_ok-news.news c.self.view_is c.self.invariant.0 c.requires.variable c.requires.filed added has in
-    let P : Contents → Type 0 = λ s. AddsFacts c.args.self.now c.in_ok-news.news s in
-    subst P (ap contents_of (sym same)) all.added
+    let news = c.in_ok-news-2.news in
+    let of = news_of c.args.var c.self.inside.state.facts c.args.facts.items news c.in_ok-news-2.ensures.added c.requires.filed in
+    let kind = c.in_ok-news-2.ensures.kind ∙ c.self.invariant.state_facts.kind in
+    let of_kind = subst (λ b. AreOfKind b c.add_in-2.new.kept.facts) kind c.in_ok-news-2.ensures.of_kind in
+    state_adds c.self.inside.entries.items c.self.inside.state c.self.inside.fixed _ c.self.view_is c.self.invariant c.args.var news c.requires.variable of c.add_in-2.new.kept kind of_kind c.in_ok-news-2.ensures.apart c.in_ok-news-2.ensures.ok c.if-var.false
 
 pub returns-clause-sound : goal.returns-clause-sound
 returns-clause-sound c =
-    let es = c.self.inside.entries.items in
-    let fs = c.add_at.new.entries in
-    let lengths : length fs ≡ length es = c.add_at.auto.entries ∙ ap length c.as_mut_slice.ensures.value in
-    let same = ap parts_in (written es fs c.self.inside.entries.len c.self.inside.entries.ok.0 lengths) in
-    let has = subst (λ xs. HasGrown (parts_in xs) c.args.var.number c.in_ok-news.news (parts_in fs)) c.as_mut_slice.ensures.value c.in_ok-news.ensures.ok in
-    let added = ap (λ xs. addition (facts_there (slice_get (parts_in xs) c.args.var.number)) c.args.facts.items) (sym c.as_mut_slice.ensures.value) ∙ c.in_ok-news.ensures.added in
-    let all = grows (parts_in es) (parts_in fs) _ c.args.var c.args.facts.items c.in_ok-news.news c.self.view_is c.self.invariant.0 c.requires.variable c.requires.filed added has in
-    sound _ (moved_parts _ _ same all.parts)
+    let news = c.in_ok-news-2.news in
+    let of = news_of c.args.var c.self.inside.state.facts c.args.facts.items news c.in_ok-news-2.ensures.added c.requires.filed in
+    let kind = c.in_ok-news-2.ensures.kind ∙ c.self.invariant.state_facts.kind in
+    let of_kind = subst (λ b. AreOfKind b c.add_in-2.new.kept.facts) kind c.in_ok-news-2.ensures.of_kind in
+    sound c.self.inside.entries.items c.add_in-2.new.kept c.self.inside.fixed (state_grown c.self.inside.entries.items c.self.inside.state c.self.inside.fixed _ c.self.view_is c.self.invariant c.args.var news c.requires.variable of c.add_in-2.new.kept kind of_kind c.in_ok-news-2.ensures.apart c.in_ok-news-2.ensures.ok c.if-var.false)

@@ -1,0 +1,311 @@
+-- The facts of a store: those of its state variables and those of its static ones.
+use Rattle.std.proofs.Common.{◌≡◌, ◌⊎◌, inl, inr, ℕ, zero, suc, ◌+◌, Bool, true, false, cond, nat_lt, List, [], ◌∷◌, ◌++◌, map, filter, length, Option, Some, None, slice_get, refl, ap, ap₂, sym, ◌∙◌, subst, arith}
+use Rattle.std.proofs.lemmas.Bool.{false_from_ne_true}
+use Rattle.std.proofs.lemmas.List.{map-append}
+use Rattle.std.proofs.lemmas.List.Elements.{filter-append}
+use Rattle.tp_value.specs.declared.value.Shape.{Shape}
+use Rattle.tp_value.specs.declared.path.VarId.{VarId}
+use Rattle.tp_value.specs.declared.path.Path.{Path}
+use Rattle.tp_value.specs.declared.path.Fact.{Fact}
+use Rattle.tp_store.specs.Facts.{same_path, clash, kept_shape, is_excluded, fact}
+use Rattle.tp_store.specs.Known.{Contents, NoClash, Variable, IsVariableOf, AreOfVariables, lasting_facts, facts_below, full, addition, adds, new_store, global_variable}
+use Rattle.tp_store.specs.Entries.{variable_in, variables_in, contents_of, part_of, IsPart, AreParts}
+use Rattle.tp_store.specs.FactMap.{AreOf, AreOfKind, FactsOfKind, facts_among}
+use Rattle.tp_store.specs.declared.nodes.Which.TheVariants.{Below}
+use Rattle.tp_store.specs.declared.entry.Entry.{Entry}
+use Rattle.tp_store.specs.Changes.{IsSoundStore, HaveSameShapes, AddsFacts, HasAppended}
+use Rattle.tp_store.proofs.Paths.{same_path-decides}
+use Rattle.tp_store.proofs.Members.{In, in_left, in_right, in_append, kept_in, in_kept, kept_none, NoClash-append, NoClash-filter, Apart}
+use Rattle.tp_store.proofs.Adding.{adds_all, news_given}
+use Rattle.tp_store.proofs.Same.{AgreeAt, same_kept, same_excluded, same_full, same_addition, clash-variable}
+
+pub of_in : (x : VarId) (fs : List Fact) → AreOf x fs → (f : Fact) → In f fs → f.path.var ≡ x
+of_in x [] h f i = absurd i
+of_in x (g ∷ fs) h f (inl e) = ap (λ (y : Fact). y.path.var) (sym e) ∙ h.0
+of_in x (g ∷ fs) h f (inr i) = of_in x fs h.1 f i
+
+pub of_from : (x : VarId) (fs : List Fact) → ((f : Fact) → In f fs → f.path.var ≡ x) → AreOf x fs
+of_from x [] h = tt
+of_from x (g ∷ fs) h = (h g (inl refl), of_from x fs (λ f i. h f (inr i)))
+
+pub kind_in : (b : Bool) (fs : List Fact) → AreOfKind b fs → (f : Fact) → In f fs → f.path.var.lasting ≡ b
+kind_in b [] h f i = absurd i
+kind_in b (g ∷ fs) h f (inl e) = ap (λ (y : Fact). y.path.var.lasting) (sym e) ∙ h.0
+kind_in b (g ∷ fs) h f (inr i) = kind_in b fs h.1 f i
+
+pub kind_from : (b : Bool) (fs : List Fact) → ((f : Fact) → In f fs → f.path.var.lasting ≡ b) → AreOfKind b fs
+kind_from b [] h = tt
+kind_from b (g ∷ fs) h = (h g (inl refl), kind_from b fs (λ f i. h f (inr i)))
+
+pub kind_of : (x : VarId) (b : Bool) (fs : List Fact) → x.lasting ≡ b → AreOf x fs → AreOfKind b fs
+kind_of x b [] e h = tt
+kind_of x b (f ∷ fs) e h = (ap (λ (y : VarId). y.lasting) h.0 ∙ e, kind_of x b fs e h.1)
+
+-- the facts of a variable that are new are of it
+pub news_of : (x : VarId) (kept facts news : List Fact) → addition kept facts ≡ adds news → AreOf x facts → AreOf x news
+news_of x kept facts news h a =
+    let all = adds_all kept facts news h in
+    of_from x news (λ f i. of_in x facts a f (news_given kept facts news all f i))
+
+both_kinds : (b : Bool) → b ≡ true → b ≡ false → ⊥
+both_kinds b t f = let z : true ≡ false = sym t ∙ f in cc z
+
+-- no fact of a kind is of a path of the other one
+pub kept_of_other : (b : Bool) (fs : List Fact) (p : Path) → AreOfKind b fs → (p.var.lasting ≡ b → ⊥) → kept_shape fs p ≡ None
+kept_of_other b fs p h n =
+    kept_none fs p (λ g i. false_from_ne_true (same_path g.path p) (λ t. n (sym (ap (λ (q : Path). q.var.lasting) ((same_path-decides g.path p).0 t)) ∙ kind_in b fs h g i)))
+
+other_kinds : (f g : Fact) → f.path.var.lasting ≡ false → g.path.var.lasting ≡ true → Apart f g
+other_kinds f g h k = (
+  false_from_ne_true (same_path g.path f.path) (λ t. both_kinds _ k (ap (λ (p : Path). p.var.lasting) ((same_path-decides g.path f.path).0 t) ∙ h)),
+  false_from_ne_true (clash g f) (λ t. both_kinds _ k (ap (λ (x : VarId). x.lasting) (clash-variable g f t) ∙ h)),
+)
+
+module _ (m n : FactsOfKind) (p : IsPart false m) (q : IsPart true n) where
+  pub parts_apart : NoClash (m.facts ++ n.facts)
+  parts_apart = NoClash-append m.facts n.facts p.apart q.apart (λ f g i j. other_kinds f g (kind_in false m.facts p.of_kind f i) (kind_in true n.facts q.of_kind g j))
+
+  pub part_apart : (b : Bool) → NoClash (part_of b m n).facts
+  part_apart true = q.apart
+  part_apart false = p.apart
+
+  -- the facts of a variable are all in the part of its kind
+  pub part_agrees : (b : Bool) (x : VarId) → x.lasting ≡ b → AgreeAt x (m.facts ++ n.facts) (part_of b m n).facts
+  part_agrees false x v = record {
+    there = λ f e i.
+        elim (in_append f m.facts n.facts i) [
+          | inl j ↦ j
+          | inr j ↦ absurd (both_kinds _ (kind_in true n.facts q.of_kind f j) (ap (λ (y : VarId). y.lasting) e ∙ v))
+        ];
+    back = λ f e i. in_left f m.facts n.facts i;
+  }
+  part_agrees true x v = record {
+    there = λ f e i.
+        elim (in_append f m.facts n.facts i) [
+          | inl j ↦ absurd (both_kinds _ (ap (λ (y : VarId). y.lasting) e ∙ v) (kind_in false m.facts p.of_kind f j))
+          | inr j ↦ j
+        ];
+    back = λ f e i. in_right f m.facts n.facts i;
+  }
+
+-- each fact's variable is one of the store's
+pub variables_from : (xs : List Variable) (fs : List Fact) → ((f : Fact) → In f fs → IsVariableOf xs f.path.var) → AreOfVariables xs fs
+variables_from xs [] h = tt
+variables_from xs (f ∷ fs) h = (h f (inl refl), variables_from xs fs (λ g i. h g (inr i)))
+
+pub variables_each : (xs : List Variable) (fs : List Fact) → AreOfVariables xs fs → (f : Fact) → In f fs → IsVariableOf xs f.path.var
+variables_each xs [] h f i = absurd i
+variables_each xs (g ∷ fs) h f (inl e) = let P : Fact → Type 0 = λ y. IsVariableOf xs y.path.var in subst P e h.0
+variables_each xs (g ∷ fs) h f (inr i) = variables_each xs fs h.1 f i
+
+pub sound : (es : List Entry) (m n : FactsOfKind) → AreParts es m n → IsSoundStore (contents_of es m n)
+sound es m n h = record { no_clash = parts_apart m n h.state_facts h.static_facts; of_variables = h.of_variables }
+
+-- what is seen from outside, by the part of the variable's kind
+module _ (es : List Entry) (m n : FactsOfKind) (v : Contents) (e : contents_of es m n ≡ v) (h : AreParts es m n) where
+  pub sound_view : IsSoundStore v
+  sound_view = let P : Contents → Type 0 = λ s. IsSoundStore s in subst P e (sound es m n h)
+
+  pub kept_view : (p : Path) → kept_shape (part_of p.var.lasting m n).facts p ≡ kept_shape v.facts p
+  kept_view p =
+      sym (same_kept (m.facts ++ n.facts) (part_of p.var.lasting m n).facts p (part_apart m n h.state_facts h.static_facts p.var.lasting) (part_agrees m n h.state_facts h.static_facts p.var.lasting p.var refl))
+      ∙ ap (λ (s : Contents). kept_shape s.facts p) e
+
+  pub excluded_view : (p : Path) → is_excluded (part_of p.var.lasting m n).facts p ≡ is_excluded v.facts p
+  excluded_view p =
+      sym (same_excluded (m.facts ++ n.facts) (part_of p.var.lasting m n).facts p (part_agrees m n h.state_facts h.static_facts p.var.lasting p.var refl)) ∙ ap (λ (s : Contents). is_excluded s.facts p) e
+
+  pub full_view : (p : Path) → full (part_of p.var.lasting m n).facts p ≡ full v.facts p
+  full_view p =
+      sym (same_full (m.facts ++ n.facts) (part_of p.var.lasting m n).facts p (part_apart m n h.state_facts h.static_facts p.var.lasting) (part_agrees m n h.state_facts h.static_facts p.var.lasting p.var refl))
+      ∙ ap (λ (s : Contents). full s.facts p) e
+
+  pub addition_view : (b : Bool) (x : VarId) (fs : List Fact) → x.lasting ≡ b → AreOf x fs → addition (part_of b m n).facts fs ≡ addition v.facts fs
+  addition_view b x fs k a =
+      let A : VarId → Type 0 = λ y. AgreeAt y (m.facts ++ n.facts) (part_of b m n).facts in
+      sym (same_addition (m.facts ++ n.facts) (part_of b m n).facts fs (parts_apart m n h.state_facts h.static_facts) (part_apart m n h.state_facts h.static_facts b)
+      (λ f i. subst A (sym (of_in x fs a f i)) (part_agrees m n h.state_facts h.static_facts b x k)))
+      ∙ ap (λ (s : Contents). addition s.facts fs) e
+
+  -- what is below a number, appended
+  pub appended_is : (b : ℕ) (fs old new : List Fact) → fs ≡ facts_among (Below b) m.facts ++ facts_among (Below b) n.facts → new ≡ old ++ fs → HasAppended (facts_below b v.facts) old new
+  appended_is b fs old new q l =
+      let same : fs ≡ facts_below b v.facts = q ∙ sym (filter-append (λ (f : Fact). nat_lt f.path.var.number b) m.facts n.facts) ∙ ap (λ (s : Contents). facts_below b s.facts) e in
+      let P : List Fact → Type 0 = λ xs. NoClash xs in
+      record {
+        appended = fs;
+        list = l;
+        no_clash = subst P (sym same) (NoClash-filter (λ (f : Fact). nat_lt f.path.var.number b) v.facts sound_view.no_clash);
+        shapes = λ p. ap (λ xs. kept_shape xs p) same;
+      }
+
+-- one more variable
+slice_more : (bs : List Bool) (c : Bool) (k : ℕ) (b : Bool) → slice_get bs k ≡ Some b → slice_get (bs ++ c ∷ []) k ≡ Some b
+slice_more [] c k b q = absurd (cc)
+slice_more (a ∷ bs) c zero b q = q
+slice_more (a ∷ bs) c (suc k) b q = slice_more bs c k b q
+
+variable_more : (xs : List Variable) (v : Variable) (x : VarId) → IsVariableOf xs x → IsVariableOf (xs ++ v ∷ []) x
+variable_more xs v x h =
+    ap (λ bs. slice_get bs x.number) (map-append (λ (y : Variable). y.lasting) xs (v ∷ [])) ∙ slice_more (map (λ (y : Variable). y.lasting) xs) v.lasting x.number x.lasting h
+
+pub parts_moved : (es fs : List Entry) (m n : FactsOfKind) → fs ≡ es → AreParts es m n → AreParts fs m n
+parts_moved es fs m n q h = let P : List Entry → Type 0 = λ xs. AreParts xs m n in subst P (sym q) h
+
+pub variables_more : (es fs : List Entry) (e : Entry) → fs ≡ es ++ e ∷ [] → variables_in fs ≡ variables_in es ++ variable_in e ∷ []
+variables_more es fs e q = ap variables_in q ∙ map-append variable_in es (e ∷ [])
+
+pub fresh_parts : (es fs : List Entry) (e : Entry) (m n : FactsOfKind) → fs ≡ es ++ e ∷ [] → AreParts es m n → AreParts fs m n
+fresh_parts es fs e m n q h =
+    let all = m.facts ++ n.facts in
+    let V : List Variable → Type 0 = λ xs. AreOfVariables xs all in
+    record {
+      state_facts = h.state_facts;
+      static_facts = h.static_facts;
+      of_variables = subst V (sym (variables_more es fs e q))
+          (variables_from (variables_in es ++ variable_in e ∷ []) all (λ f i. variable_more (variables_in es) (variable_in e) f.path.var (variables_each (variables_in es) all h.of_variables f i)));
+    }
+
+-- the next state
+filter_all : (fs : List Fact) → AreOfKind true fs → lasting_facts fs ≡ fs
+filter_all [] h = refl
+filter_all (f ∷ fs) h = ap (λ b. cond b (f ∷ lasting_facts fs) (lasting_facts fs)) h.0 ∙ ap (λ gs. f ∷ gs) (filter_all fs h.1)
+
+filter_none : (fs : List Fact) → AreOfKind false fs → lasting_facts fs ≡ []
+filter_none [] h = refl
+filter_none (f ∷ fs) h = ap (λ b. cond b (f ∷ lasting_facts fs) (lasting_facts fs)) h.0 ∙ filter_none fs h.1
+
+pub next_parts : (es : List Entry) (m o n : FactsOfKind) → o.lasting ≡ m.lasting → o.facts ≡ [] → AreParts es m n → AreParts es o n
+next_parts es m o n k none h =
+    let K : List Fact → Type 0 = λ fs. AreOfKind false fs in
+    let N : List Fact → Type 0 = λ fs. NoClash fs in
+    let V : List Fact → Type 0 = λ fs. AreOfVariables (variables_in es) (fs ++ n.facts) in
+    record {
+      state_facts = record { kind = k ∙ h.state_facts.kind; of_kind = subst K (sym none) tt; apart = subst N (sym none) tt };
+      static_facts = h.static_facts;
+      of_variables = subst V (sym none) (variables_from (variables_in es) n.facts (λ f i. variables_each (variables_in es) (m.facts ++ n.facts) h.of_variables f (in_right f m.facts n.facts i)));
+    }
+
+pub next_facts : (es : List Entry) (m o n : FactsOfKind) (v : Contents) → contents_of es m n ≡ v → o.facts ≡ [] → AreParts es m n → o.facts ++ n.facts ≡ lasting_facts v.facts
+next_facts es m o n v e none h =
+    ap (λ fs. fs ++ n.facts) none
+    ∙ sym (filter-append (λ (f : Fact). f.path.var.lasting) m.facts n.facts ∙ ap₂ (λ (xs ys : List Fact). xs ++ ys) (filter_none m.facts h.state_facts.of_kind) (filter_all n.facts h.static_facts.of_kind))
+    ∙ ap (λ (s : Contents). lasting_facts s.facts) e
+
+-- a new store
+pub new_parts : (es : List Entry) (m n : FactsOfKind) → m ≡ record { lasting = false; facts = [] } → n ≡ record { lasting = true; facts = [] } → AreParts es m n
+new_parts es m n p q =
+    let none : FactsOfKind → FactsOfKind → Type 0 = λ a b. AreParts es a b in
+    let bare : Bool → FactsOfKind = λ b. record { lasting = b; facts = [] } in
+    subst (λ a. none a n) (sym p) (subst (λ b. none (bare false) b) (sym q) (record {
+      state_facts = record { kind = refl; of_kind = tt; apart = tt };
+      static_facts = record { kind = refl; of_kind = tt; apart = tt };
+      of_variables = tt;
+    }))
+
+pub new_contents : (es : List Entry) (m n : FactsOfKind) (names : List (List ℕ)) → m ≡ record { lasting = false; facts = [] } → n ≡ record { lasting = true; facts = [] }
+    → variables_in es ≡ map global_variable names → contents_of es m n ≡ new_store names
+new_contents es m n names p q v =
+    let make : List Fact → List Variable → Contents = λ fs vs. record { facts = fs; variables = vs } in
+    ap₂ make (ap₂ (λ (a b : FactsOfKind). a.facts ++ b.facts) p q) v
+
+-- facts are added to a part
+or_else : Option Shape → Option Shape → Option Shape
+or_else None o = o
+or_else (Some sh) o = Some sh
+
+kept_shape-append : (xs ys : List Fact) (p : Path) → kept_shape (xs ++ ys) p ≡ or_else (kept_shape xs p) (kept_shape ys p)
+unfolding or_else
+kept_shape-append [] ys p = refl
+kept_shape-append (x ∷ xs) ys p =
+    let P : Bool → Type 0 = λ b. cond b (Some x.shape) (kept_shape (xs ++ ys) p) ≡ or_else (cond b (Some x.shape) (kept_shape xs p)) (kept_shape ys p) in
+    elim (same_path x.path p) as P [ true ↦ refl | false ↦ kept_shape-append xs ys p ]
+
+or_else-none : (y : Option Shape) → or_else y None ≡ y
+unfolding or_else
+or_else-none None = refl
+or_else-none (Some sh) = refl
+
+or_else-assoc : (a b c : Option Shape) → or_else a (or_else b c) ≡ or_else (or_else a b) c
+unfolding or_else
+or_else-assoc None b c = refl
+or_else-assoc (Some sh) b c = refl
+
+-- of these two one is none
+or_else-swap : (a b c : Option Shape) → (b ≡ None) ⊎ (c ≡ None) → or_else (or_else a b) c ≡ or_else (or_else a c) b
+or_else-swap a b c (inl n) =
+    ap (λ o. or_else (or_else a o) c) n ∙ ap (λ o. or_else o c) (or_else-none a) ∙ sym (or_else-none (or_else a c)) ∙ ap (or_else (or_else a c)) (sym n)
+or_else-swap a b c (inr n) =
+    ap (or_else (or_else a b)) n ∙ or_else-none (or_else a b) ∙ ap (λ o. or_else o b) (sym (or_else-none a)) ∙ ap (λ o. or_else (or_else a o) b) (sym n)
+
+kinds_differ : (fs gs : List Fact) (p : Path) → AreOfKind false fs → AreOfKind true gs → (kept_shape gs p ≡ None) ⊎ (kept_shape fs p ≡ None)
+kinds_differ fs gs p h k =
+    let P : Bool → Type 0 = λ b. p.var.lasting ≡ b → (kept_shape gs p ≡ None) ⊎ (kept_shape fs p ≡ None) in
+    let cases : P p.var.lasting = elim p.var.lasting as P [
+      | true ↦ λ e. inr (kept_of_other false fs p h (λ f. both_kinds _ e f))
+      | false ↦ λ e. inl (kept_of_other true gs p k (λ t. both_kinds _ t e))
+    ] in
+    cases refl
+
+swap_kinds : {A B : Type 0} → A ⊎ B → B ⊎ A
+swap_kinds (inl a) = inr a
+swap_kinds (inr b) = inl b
+
+-- the variables of what is kept then
+kept_variables : (xs : List Variable) (x : VarId) (old news new : List Fact) → IsVariableOf xs x → AreOf x news → NoClash new → HaveSameShapes new (old ++ news)
+    → ((f : Fact) → In f old → IsVariableOf xs f.path.var) → (f : Fact) → In f new → IsVariableOf xs f.path.var
+kept_variables xs x old news new k a n s h f i =
+    let there : In (fact f.path f.shape) (old ++ news) = kept_in (old ++ news) f.path f.shape (sym (s f.path) ∙ in_kept new f n i) in
+    let P : VarId → Type 0 = λ y. IsVariableOf xs y in
+    elim (in_append f old news there) [ inl j ↦ h f j | inr j ↦ subst P (sym (of_in x news a f j)) k ]
+
+module _ (es : List Entry) (m n : FactsOfKind) (v : Contents) (e : contents_of es m n ≡ v) (h : AreParts es m n) (x : VarId) (news : List Fact) (k : IsVariableOf v.variables x) (a : AreOf x news) where
+  is_variable : IsVariableOf (variables_in es) x
+  is_variable = let P : Contents → Type 0 = λ s. IsVariableOf s.variables x in subst P (sym e) k
+
+  old_variables : (f : Fact) → In f (m.facts ++ n.facts) → IsVariableOf (variables_in es) f.path.var
+  old_variables = variables_each (variables_in es) (m.facts ++ n.facts) h.of_variables
+
+  module _ (o : FactsOfKind) (kind : o.lasting ≡ false) (of_kind : AreOfKind false o.facts) (apart : NoClash o.facts) (s : HaveSameShapes o.facts (m.facts ++ news)) (lasting : x.lasting ≡ false) where
+    pub state_grown : AreParts es o n
+    state_grown = record {
+      state_facts = record { kind = kind; of_kind = of_kind; apart = apart };
+      static_facts = h.static_facts;
+      of_variables = variables_from (variables_in es) (o.facts ++ n.facts) (λ f i.
+          elim (in_append f o.facts n.facts i) [
+            | inl j ↦ kept_variables (variables_in es) x m.facts news o.facts is_variable a apart s (λ g l. old_variables g (in_left g m.facts n.facts l)) f j
+            | inr j ↦ old_variables f (in_right f m.facts n.facts j)
+          ]);
+    }
+
+    pub state_adds : AddsFacts v news (contents_of es o n)
+    state_adds = record {
+      shapes = λ p.
+          kept_shape-append o.facts n.facts p ∙ ap (λ y. or_else y (kept_shape n.facts p)) (s p ∙ kept_shape-append m.facts news p)
+          ∙ or_else-swap (kept_shape m.facts p) (kept_shape news p) (kept_shape n.facts p) (swap_kinds (kinds_differ news n.facts p (kind_of x false news lasting a) h.static_facts.of_kind))
+          ∙ ap (λ y. or_else y (kept_shape news p)) (sym (kept_shape-append m.facts n.facts p)) ∙ sym (kept_shape-append (m.facts ++ n.facts) news p)
+          ∙ ap (λ (c : Contents). kept_shape (c.facts ++ news) p) e;
+      variables = ap (λ (c : Contents). c.variables) e;
+    }
+
+  module _ (o : FactsOfKind) (kind : o.lasting ≡ true) (of_kind : AreOfKind true o.facts) (apart : NoClash o.facts) (s : HaveSameShapes o.facts (n.facts ++ news)) where
+    pub static_grown : AreParts es m o
+    static_grown = record {
+      state_facts = h.state_facts;
+      static_facts = record { kind = kind; of_kind = of_kind; apart = apart };
+      of_variables = variables_from (variables_in es) (m.facts ++ o.facts) (λ f i.
+          elim (in_append f m.facts o.facts i) [
+            | inl j ↦ old_variables f (in_left f m.facts n.facts j)
+            | inr j ↦ kept_variables (variables_in es) x n.facts news o.facts is_variable a apart s (λ g l. old_variables g (in_right g m.facts n.facts l)) f j
+          ]);
+    }
+
+    pub static_adds : AddsFacts v news (contents_of es m o)
+    static_adds = record {
+      shapes = λ p.
+          kept_shape-append m.facts o.facts p ∙ ap (or_else (kept_shape m.facts p)) (s p ∙ kept_shape-append n.facts news p)
+          ∙ or_else-assoc (kept_shape m.facts p) (kept_shape n.facts p) (kept_shape news p)
+          ∙ ap (λ y. or_else y (kept_shape news p)) (sym (kept_shape-append m.facts n.facts p)) ∙ sym (kept_shape-append (m.facts ++ n.facts) news p)
+          ∙ ap (λ (c : Contents). kept_shape (c.facts ++ news) p) e;
+      variables = ap (λ (c : Contents). c.variables) e;
+    }
